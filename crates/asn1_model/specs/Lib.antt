@@ -1,0 +1,16 @@
+pub mod Value
+pub mod Schema
+pub mod Numbers
+pub mod Normal
+pub mod Form
+pub mod Strings
+pub mod Tables
+pub mod Per
+pub mod Oer
+pub mod Rules
+pub mod Types
+pub mod Rows
+pub mod Lawful
+pub mod Versions
+pub mod ReadingRows
+pub mod VersionRows

@@ -1,0 +1,247 @@
+-- The octet encoding rules (X.696): the form of a value of a type, in octets.
+use Rattle.std.specs.Prelude.{ℕ, zero, suc, ◌+◌, ◌*◌, ◌/◌, ◌^◌, ◌==◌, ltb, leb, not, max, ℤ, pos, negsuc, Bool, true, false, cond, ◌&&◌, ◌||◌, List, [], ◌∷◌, ◌++◌, length, map, replicate, flat_map, Option, Some, None, option_map}
+use Rattle.asn1_model.specs.Value.{Value, truth, nothing, number, item, bit_list, octet_list, text, arcs, members, bag, fields, chosen, Parts, end, absent, present, each}
+use Rattle.asn1_model.specs.Schema.{Tag, Range, Bounds, Counts, Size, StringKind, bmp, Presence, Schema, boolean, null, integer, enumerated, bit_string, octet_string, character_string, object_identifier, sequence_of, set_of, sequence, set, group, choice, Components, no_component, component, Alternatives, no_alternative, alternative}
+pub use Rattle.asn1_model.specs.Numbers.{packed}
+use Rattle.asn1_model.specs.Numbers.{missing, digits, octet_width, least_octets, signed_octets, complement, is_within, is_count_within, fits_128}
+use Rattle.asn1_model.specs.Normal.{is_at_default, is_group_left_out}
+use Rattle.asn1_model.specs.Form.{Form, exactly, refused, both, varied, within, written, nothing_more, only_if, given, joined, stands_before, ascending, in_order, Bitmap, is_present, is_any_present, present_ones, covered_by, own_bitmap}
+use Rattle.asn1_model.specs.Strings.{may_hold, identifier_octets, is_identifier, is_octet, each_is, groups_of_seven}
+use Rattle.asn1_model.specs.Tables.{is_bounded, item_place, is_required, marks}
+
+-- what a reader may take besides the canonical form
+pub data Freedom : Type 0 where
+  -- a length in more octets than it needs
+  longer_length : Freedom
+  -- a number, or a count of members, in more octets than it needs
+  longer_number : Freedom
+  -- any octet but zero for true
+  any_truth : Freedom
+  -- an item in more octets than it needs
+  longer_item : Freedom
+  -- an empty bit string as a length of zero
+  empty_bit_string : Freedom
+  -- unused bits of any value
+  any_filling : Freedom
+  -- a tag whose number is below 63 in the form of the large ones
+  long_tag : Freedom
+  -- a component that is equal to its default, spelled out
+  default_spelled_out : Freedom
+  -- a group of additions that is marked as present, with none of them there
+  empty_group : Freedom
+  -- a presence bitmap with a bit set, of another width than the type's
+  other_bitmap : Freedom
+  -- a presence bitmap with no bit set, or of no width
+  empty_bitmap : Freedom
+  -- octets behind the value in an open type
+  octets_behind : Freedom
+  -- the members of a bag in any order
+  other_order : Freedom
+
+-- what tells apart the forms that such a reader takes, the canonical one among them
+abbrev pub Detail : Freedom → Type 0
+Detail longer_length = Option ℕ
+Detail longer_number = ℕ
+Detail any_truth = ℕ
+Detail longer_item = Option ℕ
+Detail empty_bit_string = Bool
+Detail any_filling = List Bool
+Detail long_tag = Bool
+Detail default_spelled_out = Bool
+Detail empty_group = Bool
+Detail other_bitmap = Option Bitmap
+Detail empty_bitmap = Bool
+Detail octets_behind = List ℕ
+Detail other_order = Option (List ℕ)
+
+abbrev pub OctetForm : Type 0
+OctetForm = Form Freedom Detail ℕ
+
+-- ---- lengths (X.696 8.6)
+
+abbrev pub long_length : ℕ → ℕ → OctetForm
+long_length n k = only_if (leb 1 k && leb k 127 && leb (octet_width n) k) (exactly ((128 + k) ∷ digits 256 k n))
+
+unfoldable pub length_form : ℕ → OctetForm
+length_form n = only_if (ltb n (2 ^ 64)) (varied longer_length (cond (ltb n 128) None (Some (octet_width n))) (λ o. elim o [ None ↦ only_if (ltb n 128) (exactly (n ∷ [])) | Some k ↦ long_length n k ]))
+
+-- octets behind their number
+unfoldable pub counted : List ℕ → OctetForm
+counted os = only_if (each_is is_octet os) (both (length_form (length os)) (exactly os))
+
+-- ---- numbers (X.696 10): whole numbers without bounds, and those that are not negative
+
+unfoldable pub signed : ℤ → OctetForm
+signed v = varied longer_number (signed_octets v) (λ k. only_if (leb (signed_octets v) k) (counted (complement k v)))
+
+unfoldable pub unsigned : ℕ → OctetForm
+unsigned n = varied longer_number (least_octets n) (λ k. only_if (leb (least_octets n) k) (counted (digits 256 k n)))
+
+-- the octets of a fixed form, of which there are 1, 2, 4 or 8
+abbrev pub fixed_octets : ℕ → Option ℕ
+fixed_octets k = cond (leb k 1) (Some 1) (cond (leb k 2) (Some 2) (cond (leb k 4) (Some 4) (cond (leb k 8) (Some 8) None)))
+
+abbrev pub in_octets : ℕ → ℤ → OctetForm
+in_octets k v = exactly (complement k v)
+
+abbrev pub natural_form : Option ℕ → ℤ → OctetForm
+natural_form (Some k) (pos n) = exactly (digits 256 k n)
+natural_form None (pos n) = unsigned n
+natural_form o (negsuc n) = refused
+
+abbrev pub signed_form : Option ℕ → ℤ → OctetForm
+signed_form (Some k) v = exactly (complement k v)
+signed_form None v = signed v
+
+-- by bounds without a mark
+unfoldable pub bounded : Option ℤ → Option ℤ → ℤ → OctetForm
+bounded (Some (pos low)) (Some (pos high)) v = natural_form (fixed_octets (octet_width high)) v
+bounded (Some (pos low)) high v = natural_form None v
+bounded (Some (negsuc low)) (Some high) v = signed_form (fixed_octets (max (signed_octets (negsuc low)) (signed_octets high))) v
+bounded low high v = signed v
+
+unfoldable pub integer_form : Bounds → Range → ℤ → OctetForm
+integer_form b held v = only_if (is_within held v && (not (is_bounded b) || fits_128 v)) (cond b.extensible (signed v) (only_if (is_within b.range v) (bounded b.range.low b.range.high v)))
+
+-- ---- ENUMERATED (X.696 11)
+
+abbrev pub long_item : ℕ → ℤ → OctetForm
+long_item k v = only_if (leb (signed_octets v) k && leb k 127) (exactly ((128 + k) ∷ complement k v))
+
+abbrev pub short_item : ℤ → OctetForm
+short_item (pos n) = only_if (ltb n 128) (exactly (n ∷ []))
+short_item (negsuc n) = refused
+
+-- whether one octet holds it, and if not, how many do
+abbrev pub item_octets : ℤ → Option ℕ
+item_octets (pos n) = cond (ltb n 128) None (Some (signed_octets (pos n)))
+item_octets (negsuc n) = Some (signed_octets (negsuc n))
+
+unfoldable pub item_form : ℤ → OctetForm
+item_form v = varied longer_item (item_octets v) (λ o. elim o [ None ↦ short_item v | Some k ↦ long_item k v ])
+
+-- ---- sizes: what has one size and no mark has no length
+
+abbrev pub is_fixed_at : Counts → Option ℕ → Bool
+is_fixed_at c None = false
+is_fixed_at c (Some high) = high == c.low
+
+abbrev pub is_fixed : Size → Bool
+is_fixed z = not z.extensible && is_fixed_at z.counts z.counts.high
+
+abbrev pub admits : Size → Counts → ℕ → Bool
+admits z held n = is_count_within held n && (z.extensible || is_count_within z.counts n)
+
+-- ---- BIT STRING (X.696 13)
+
+unfoldable pub bits_form : List Bool → OctetForm
+bits_form bs = varied any_filling (replicate (missing (length bs)) false) (λ fill. only_if (length fill == missing (length bs)) (exactly (packed (bs ++ fill))))
+
+-- behind a length and the number of unused bits
+unfoldable pub counted_bits : List Bool → OctetForm
+counted_bits bs = both (length_form ((length bs + 7) / 8 + 1)) (both (exactly (missing (length bs) ∷ [])) (bits_form bs))
+
+unfoldable pub bit_string_form : Bool → List Bool → OctetForm
+bit_string_form true bs = bits_form bs
+bit_string_form false bs = varied empty_bit_string false (λ e. cond e (only_if (length bs == 0) (length_form 0)) (counted_bits bs))
+
+-- ---- OCTET STRING, character strings (X.696 14 and 27)
+
+unfoldable pub octets_form : Bool → List ℕ → OctetForm
+octets_form true os = only_if (each_is is_octet os) (exactly os)
+octets_form false os = counted os
+
+abbrev pub string_octets : StringKind → List ℕ → List ℕ
+string_octets bmp cs = flat_map (digits 256 2) cs
+string_octets k cs = cs
+
+-- ---- tags (X.696 8.7)
+
+abbrev pub long_tag_octets : Tag → OctetForm
+long_tag_octets t = only_if (leb 1 t.number) (exactly ((t.class * 64 + 63) ∷ groups_of_seven t.number))
+
+unfoldable pub tag_form : Tag → OctetForm
+tag_form t = varied long_tag (leb 63 t.number) (λ long. cond long (long_tag_octets t) (only_if (ltb t.number 63) (exactly ((t.class * 64 + t.number) ∷ []))))
+
+-- ---- open types, SEQUENCE, SET and groups (X.696 16, 18 and 30)
+
+unfoldable pub open_type : OctetForm → OctetForm
+open_type x = within x (λ w. varied octets_behind [] (λ more. counted (w ++ more)))
+
+-- a component that is there, if it may be
+unfoldable pub spelled : Presence → Schema → Value → OctetForm → OctetForm
+spelled o s v x = cond (is_at_default o s v) (varied default_spelled_out false (λ b. only_if b x)) (cond (is_group_left_out s v) (varied empty_group false (λ b. only_if b x)) x)
+
+-- bits filled up with zeros, in which no reader takes others
+abbrev pub preamble : List Bool → OctetForm
+preamble bs = exactly (packed (bs ++ replicate (missing (length bs)) false))
+
+-- the presence bitmap, and each addition that is there
+unfoldable pub additions : List (Option OctetForm) → OctetForm
+additions xs = both (counted_bits (map (λ a. is_present a) xs)) (joined (present_ones xs))
+
+unfoldable pub with_additions : List Bool → OctetForm → List (Option OctetForm) → OctetForm
+with_additions ms root xs = both (preamble (true ∷ ms)) (both root (additions xs))
+
+-- with no bitmap, or with one; the additions that it tells of are then there
+unfoldable pub bitmapped : List Bool → OctetForm → List (Option OctetForm) → Option Bitmap → OctetForm
+bitmapped ms root xs None = only_if (not (is_any_present xs)) (both (preamble (false ∷ ms)) root)
+bitmapped ms root xs (Some b) = given (covered_by counted b xs) (λ all. cond (is_any_present all)
+    (with_additions ms root all)
+    (varied empty_bitmap false (λ e. only_if e (with_additions ms root all))))
+
+unfoldable pub sequence_form : Bool → List Bool → OctetForm → List (Option OctetForm) → OctetForm
+sequence_form false ms root [] = both (preamble ms) root
+sequence_form false ms root (a ∷ xs) = refused
+sequence_form true ms root xs = varied other_bitmap (own_bitmap xs) (λ b. bitmapped ms root xs b)
+
+-- ---- SEQUENCE OF and SET OF (X.696 17 and 19): a bag stands in the order of its members' encodings
+
+unfoldable pub members_form : Counts → List OctetForm → OctetForm
+members_form held xs = only_if (is_count_within held (length xs)) (both (unsigned (length xs)) (joined xs))
+
+unfoldable pub in_any_order : List OctetForm → (List OctetForm → OctetForm) → OctetForm
+in_any_order xs f = varied other_order None (λ o. given (in_order (ascending (λ x. written x 0) (stands_before ltb) xs) o xs) f)
+
+-- ---- the form of a value
+
+unfoldable mutual
+  pub form : Schema → Value → OctetForm
+  form boolean (truth false) = exactly (0 ∷ [])
+  form boolean (truth true) = varied any_truth 255 (λ o. only_if (leb 1 o && is_octet o) (exactly (o ∷ [])))
+  form null nothing = nothing_more
+  form (integer b held) (number v) = integer_form b held v
+  form (enumerated roots e adds) (item v) = only_if (is_present (item_place v roots) || (e && is_present (item_place v adds))) (item_form v)
+  form (bit_string z held) (bit_list bs) = only_if (admits z held (length bs)) (bit_string_form (is_fixed z) bs)
+  form (octet_string z held) (octet_list os) = only_if (admits z held (length os)) (octets_form (is_fixed z) os)
+  form (character_string k z a held) (text cs) = only_if (admits z held (length cs) && may_hold k cs) (octets_form (is_fixed z) (string_octets k cs))
+  form object_identifier (arcs ns) = only_if (is_identifier ns) (counted (identifier_octets ns))
+  form (sequence_of z held s) (members vs) = members_form held (each (λ v. form s v) vs)
+  form (set_of z held s) (bag vs) = in_any_order (each (λ v. form s v) vs) (members_form held)
+  form (sequence cs e adds) (fields ps qs) = given (addition_forms adds qs) (sequence_form e (marks cs ps) (component_forms cs ps))
+  form (set cs e adds) (fields ps qs) = given (addition_forms adds qs) (sequence_form e (marks cs ps) (component_forms cs ps))
+  form (group cs) (fields ps end) = both (preamble (marks cs ps)) (component_forms cs ps)
+  form (choice roots e adds) (chosen false i v) = alternative_form false roots i v
+  form (choice roots true adds) (chosen true i v) = alternative_form true adds i v
+  form s v = refused
+
+  -- one component after another
+  pub component_forms : Components → Parts → OctetForm
+  component_forms no_component end = nothing_more
+  component_forms (component t o s cs) (present v ps) = both (spelled o s v (form s v)) (component_forms cs ps)
+  component_forms (component t o s cs) (absent ps) = cond (is_required o) refused (component_forms cs ps)
+  component_forms cs ps = refused
+
+  -- the additions, of which those that are required are there
+  pub addition_forms : Components → Parts → Option (List (Option OctetForm))
+  addition_forms no_component end = Some []
+  addition_forms (component t o s cs) (present v ps) = option_map (λ xs. Some (spelled o s v (open_type (form s v))) ∷ xs) (addition_forms cs ps)
+  addition_forms (component t o s cs) (absent ps) = cond (is_required o) None (option_map (λ xs. None ∷ xs) (addition_forms cs ps))
+  addition_forms cs ps = None
+
+  -- CHOICE (X.696 20): the tag, and the value, which has a length before it in an added alternative
+  pub alternative_form : Bool → Alternatives → ℕ → Value → OctetForm
+  alternative_form false (alternative t s others) zero v = both (tag_form t) (form s v)
+  alternative_form true (alternative t s others) zero v = both (tag_form t) (open_type (form s v))
+  alternative_form added (alternative t s others) (suc i) v = alternative_form added others i v
+  alternative_form added no_alternative i v = refused

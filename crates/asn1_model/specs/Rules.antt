@@ -1,0 +1,71 @@
+-- Six sets of rules: what is written in each, and what each reads.
+use Rattle.std.specs.Prelude.{ℕ, ◌^◌, ◌<◌, ltb, Bool, true, false, cond, List, length, Option, Some, None, option_map, option_and_then}
+use Rattle.asn1_model.specs.Value.{Value}
+use Rattle.asn1_model.specs.Schema.{Schema}
+pub use Rattle.asn1_model.specs.Numbers.{octet_bits}
+use Rattle.asn1_model.specs.Numbers.{packed}
+use Rattle.asn1_model.specs.Normal.{normal}
+use Rattle.asn1_model.specs.Form.{written, Reads}
+use Rattle.asn1_model.specs.Per
+use Rattle.asn1_model.specs.Oer
+
+pub data Rules : Type 0 where
+  uper : Rules
+  aper : Rules
+  uper_strict : Rules
+  aper_strict : Rules
+  oer : Rules
+  coer : Rules
+
+-- ---- the freedoms of readers
+
+-- every form
+abbrev pub lenient : {F : Type 0} → F → Bool
+lenient c = true
+
+-- wider and narrower bitmaps, and bags in any order
+abbrev pub strict_per : Per.Freedom → Bool
+strict_per Per.other_bitmap = true
+strict_per Per.other_order = true
+strict_per c = false
+
+-- the same, and bitmaps with no bit set
+abbrev pub strict_oer : Oer.Freedom → Bool
+strict_oer Oer.other_bitmap = true
+strict_oer Oer.empty_bitmap = true
+strict_oer Oer.other_order = true
+strict_oer c = false
+
+-- ---- messages, as octets
+
+-- the canonical encoding of a value as it is, before any bound on its length
+unfoldable pub per : Bool → Schema → Value → Option (List ℕ)
+per aligned s v = option_map packed (written (Per.message aligned s v) 0)
+
+unfoldable pub octet_encoding : Schema → Value → Option (List ℕ)
+octet_encoding s v = written (Oer.form s v) 0
+
+unfoldable pub encoding : Rules → Schema → Value → Option (List ℕ)
+encoding uper s v = per false s v
+encoding uper_strict s v = per false s v
+encoding aper s v = per true s v
+encoding aper_strict s v = per true s v
+encoding r s v = octet_encoding s v
+
+-- an encoding has fewer than 2 ^ 60 octets
+abbrev pub of_moderate_length : List ℕ → Option (List ℕ)
+of_moderate_length w = cond (ltb (length w) (2 ^ 60)) (Some w) None
+
+-- what every writer writes
+unfoldable pub canonical : Rules → Schema → Value → Option (List ℕ)
+canonical r s v = option_and_then of_moderate_length (encoding r s (normal s v))
+
+-- all of the octets are one encoding of the value; its components are there just where they are spelled out, so that it nests
+-- as many levels as are read
+unfoldable pub IsEncoding : Rules → Schema → Value → List ℕ → Type 0
+IsEncoding uper s v w = (length w < 2 ^ 60) × Reads lenient (Per.message false s v) 0 (octet_bits w)
+IsEncoding aper s v w = (length w < 2 ^ 60) × Reads lenient (Per.message true s v) 0 (octet_bits w)
+IsEncoding uper_strict s v w = (length w < 2 ^ 60) × Reads strict_per (Per.message false s v) 0 (octet_bits w)
+IsEncoding aper_strict s v w = (length w < 2 ^ 60) × Reads strict_per (Per.message true s v) 0 (octet_bits w)
+IsEncoding oer s v w = (length w < 2 ^ 60) × Reads lenient (Oer.form s v) 0 w
+IsEncoding coer s v w = (length w < 2 ^ 60) × Reads strict_oer (Oer.form s v) 0 w

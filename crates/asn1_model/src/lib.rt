@@ -1,0 +1,41 @@
+//! The model of ASN.1 and of its encodings: types and values as mathematical data, and what octets are an encoding of which value.
+//!
+//! All of it stands in `specs/`; docs/DEFINITIONS.md says in which order to read it. The functions here carry the rows: worked
+//! encodings that the definitions are computed to give.
+#![tactic(auto)]
+
+ghost use Rattle.asn1_model.specs.ReadingRows.{ReadingRows};
+ghost use Rattle.asn1_model.specs.Rows.{NumberRows, StringRows, StructureRows, AdditionRows, LongRows};
+ghost use Rattle.asn1_model.specs.VersionRows.{LawfulRows, VersionRows};
+
+pub fn number_rows()
+    ensures { NumberRows }
+{}
+
+pub fn string_rows()
+    ensures { StringRows }
+{}
+
+pub fn structure_rows()
+    ensures { StructureRows }
+{}
+
+pub fn addition_rows()
+    ensures { AdditionRows }
+{}
+
+pub fn long_rows()
+    ensures { LongRows }
+{}
+
+pub fn reading_rows()
+    ensures { ReadingRows }
+{}
+
+pub fn lawful_rows()
+    ensures { LawfulRows }
+{}
+
+pub fn version_rows()
+    ensures { VersionRows }
+{}
