@@ -1,26 +1,13 @@
 -- Rows: lawful types, and two versions of a type.
 use Rattle.std.specs.Prelude.{◌≡◌, pos, true, false, [], ◌∷◌, Some, None}
-use Rattle.asn1_model.specs.Value.{item, fields, end, absent, present}
-use Rattle.asn1_model.specs.Schema.{Schema, boolean, null, enumerated, sequence, group, no_component, no_alternative}
+use Rattle.asn1_model.specs.Value.{item, absent, present, end}
+use Rattle.asn1_model.specs.Schema.{boolean, null, enumerated, sequence, group, no_component, no_alternative}
 use Rattle.asn1_model.specs.Lawful.{is_lawful}
 use Rattle.asn1_model.specs.Versions.{Extends, drop, grow, seen, IsClash}
-use Rattle.asn1_model.specs.Types.{between, needs, may_have, has_default, closed, open_behind, or_tagged, one_of, yes, num, roots, defaulted, marked_choice, new_type, old_type, grouped, nest, nested}
-
--- pairs of versions
-abbrev pub default_old : Schema
-default_old = closed (has_default 0 old_type (fields (present yes end) end) no_component)
-
-abbrev pub default_new : Schema
-default_new = closed (has_default 0 new_type (fields (present yes end) (absent end)) no_component)
-
-abbrev pub required_new : Schema
-required_new = open_behind (needs 0 boolean no_component) (needs 1 boolean no_component)
-
-abbrev pub colour_old : Schema
-colour_old = enumerated (pos 0 ∷ []) true []
-
-abbrev pub colour_new : Schema
-colour_new = enumerated (pos 0 ∷ []) true (pos 1 ∷ [])
+use Rattle.asn1_model.specs.Types.{
+    between, needs, closed, open_behind, or_tagged, one_of, num, roots, colour_old, colour_new, defaulted, marked_choice, new_type, old_type, required_new,
+    default_old, default_new, grouped, nest, nest_added, nested, yes_with, yes_without, yes_alone,
+}
 
 abbrev pub LawfulRows : Type 0
 LawfulRows =
@@ -40,15 +27,15 @@ abbrev pub VersionRows : Type 0
 VersionRows =
     Extends old_type new_type
     × Extends default_old default_new
-    × Extends (open_behind (needs 0 boolean no_component) no_component) required_new
+    × Extends old_type required_new
     × Extends colour_old colour_new
-    × (drop old_type new_type (fields (present yes end) (present (num 7) end)) ≡ Some (fields (present yes end) end))
-    × (grow old_type new_type (fields (present yes end) end) ≡ Some (fields (present yes end) (absent end)))
-    × IsClash default_old default_new (roots (present (fields (present yes end) (present (num 7) end)) end))
-    × (drop default_old default_new (roots (present (fields (present yes end) (absent end)) end)) ≡ Some (roots (absent end)))
-    × (grow old_type required_new (fields (present yes end) end) ≡ None)
+    × (drop old_type new_type (yes_with (num 7)) ≡ Some yes_alone)
+    × (grow old_type new_type yes_alone ≡ Some yes_without)
+    × IsClash default_old default_new (roots (present (yes_with (num 7)) end))
+    × (drop default_old default_new (roots (present yes_without end)) ≡ Some (roots (absent end)))
+    × (grow old_type required_new yes_alone ≡ None)
     × (drop colour_old colour_new (item (pos 1)) ≡ None)
     × (drop colour_old colour_new (item (pos 0)) ≡ Some (item (pos 0)))
-    × (seen old_type new_type (fields (present yes end) (present (num 7) end)) ≡ Some 1)
-    × (seen (open_behind (needs 0 boolean no_component) no_component) (open_behind (needs 0 boolean no_component) (may_have 1 (nest 128) no_component)) (fields (present yes end) (present (nested 127) end)) ≡ Some 1)
-    × (seen (open_behind (needs 0 boolean no_component) (may_have 1 (nest 128) no_component)) (open_behind (needs 0 boolean no_component) (may_have 1 (nest 128) no_component)) (fields (present yes end) (present (nested 127) end)) ≡ Some 129)
+    × (seen old_type new_type (yes_with (num 7)) ≡ Some 1)
+    × (seen old_type nest_added (yes_with (nested 127)) ≡ Some 1)
+    × (seen nest_added nest_added (yes_with (nested 127)) ≡ Some 129)

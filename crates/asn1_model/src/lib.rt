@@ -6,6 +6,7 @@
 
 ghost use Rattle.asn1_model.specs.ReadingRows.{ReadingRows};
 ghost use Rattle.asn1_model.specs.Rows.{NumberRows, StringRows, StructureRows, AdditionRows, LongRows};
+ghost use Rattle.asn1_model.specs.Rows.{RangeRows, TableRows, SizeRows, CharacterRows, OpenRows, LengthRows, FragmentRows, WholeSizeRows};
 ghost use Rattle.asn1_model.specs.VersionRows.{LawfulRows, VersionRows};
 
 pub fn number_rows()
@@ -22,6 +23,38 @@ pub fn structure_rows()
 
 pub fn addition_rows()
     ensures { AdditionRows }
+{}
+
+pub fn range_rows()
+    ensures { RangeRows }
+{}
+
+pub fn table_rows()
+    ensures { TableRows }
+{}
+
+pub fn size_rows()
+    ensures { SizeRows }
+{}
+
+pub fn character_rows()
+    ensures { CharacterRows }
+{}
+
+pub fn open_rows()
+    ensures { OpenRows }
+{}
+
+pub fn length_rows()
+    ensures { LengthRows }
+{}
+
+pub fn fragment_rows()
+    ensures { FragmentRows }
+{}
+
+pub fn whole_size_rows()
+    ensures { WholeSizeRows }
 {}
 
 pub fn long_rows()
