@@ -3,7 +3,7 @@ use Rattle.std.specs.Prelude.{ℕ, ◌==◌, ltb, leb, ℤ, Bool, true, false, c
 use Rattle.asn1_model.specs.Value.{same_number}
 use Rattle.asn1_model.specs.Schema.{Tag, Range, Counts, Size, StringKind, Presence, optional, Schema, integer, enumerated, bit_string, octet_string, character_string, sequence_of, set_of, sequence, set, group, choice, Components, no_component, component, Alternatives, no_alternative, alternative}
 use Rattle.asn1_model.specs.Numbers.{is_at_most}
-use Rattle.asn1_model.specs.Strings.{each_is, may_hold}
+use Rattle.asn1_model.specs.Strings.{each_is, is_of_octets}
 
 -- ---- tags (X.680 8.6): by class, and then by number
 
@@ -68,9 +68,10 @@ is_range r = are_ordered r.low r.high
 abbrev pub is_size : Size → Counts → Bool
 is_size z held = are_counts_ordered z.counts.low z.counts.high && are_counts_ordered held.low held.high
 
+-- an alphabet ascends, where it counts; it may go past the type's own
 abbrev pub is_alphabet : StringKind → Option (List ℕ) → Bool
 is_alphabet k None = true
-is_alphabet k (Some cs) = are_ascending ltb cs && may_hold k cs
+is_alphabet k (Some cs) = is_of_octets k || are_ascending ltb cs
 
 abbrev pub int_less : ℤ → ℤ → Bool
 int_less a b = is_at_most a b && not (same_number a b)

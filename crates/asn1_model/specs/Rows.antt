@@ -521,6 +521,12 @@ CharacterRows =
     -- an alphabet with a mark counts for nothing, and one in OER neither
     × Writes uper (character_string visible any_size (record { characters = Some (0x30 ∷ 0x31 ∷ []); extensible = true }) any_count) (text (0x32 ∷ []))
         (0x01 ∷ 0x64 ∷ [])
+    -- an alphabet that goes past the type's own: the characters that both have, here one
+    × Writes uper (character_string numeric any_size (letters (0x30 ∷ 0x61 ∷ [])) any_count) (text (0x30 ∷ [])) (0x01 ∷ [])
+    × Writes aper (character_string numeric any_size (letters (0x30 ∷ 0x61 ∷ [])) any_count) (text (0x30 ∷ [])) (0x01 ∷ [])
+    × WritesNothing uper (character_string numeric any_size (letters (0x30 ∷ 0x61 ∷ [])) any_count) (text (0x61 ∷ []))
+    × WritesNothing aper (character_string numeric any_size (letters (0x30 ∷ 0x61 ∷ [])) any_count) (text (0x61 ∷ []))
+    × WritesNothing coer (character_string numeric any_size (letters (0x30 ∷ 0x61 ∷ [])) any_count) (text (0x61 ∷ []))
     -- a size of UTF8String and its kin counts in OER alone, and in octets
     × Writes uper (string utf8 any_size) (text (0xC3 ∷ 0xA9 ∷ [])) (0x02 ∷ 0xC3 ∷ 0xA9 ∷ [])
     × Writes aper (string utf8 any_size) (text (0xC3 ∷ 0xA9 ∷ [])) (0x02 ∷ 0xC3 ∷ 0xA9 ∷ [])

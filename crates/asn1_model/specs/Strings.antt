@@ -1,5 +1,5 @@
 -- Character strings and object identifiers: what may stand in them, and the octets of an identifier.
-use Rattle.std.specs.Prelude.{ℕ, ◌+◌, ◌-◌, ◌*◌, ◌^◌, ◌==◌, ltb, leb, max, Bool, true, false, cond, ◌&&◌, ◌||◌, List, [], ◌∷◌, ◌++◌, map, flat_map, Option, Some, None, option_map}
+use Rattle.std.specs.Prelude.{ℕ, ◌+◌, ◌-◌, ◌*◌, ◌^◌, ◌==◌, ltb, leb, max, Bool, true, false, cond, ◌&&◌, ◌||◌, List, [], ◌∷◌, ◌++◌, filter, map, flat_map, Option, Some, None, option_map}
 use Rattle.asn1_model.specs.Schema.{Alphabet, StringKind, numeric, printable, visible, ia5, bmp, general, graphic, teletex, utf8}
 use Rattle.asn1_model.specs.Numbers.{digits, places}
 
@@ -46,9 +46,9 @@ abbrev pub is_among : List Run → ℕ → Bool
 is_among [] c = false
 is_among (r ∷ rs) c = is_in_run c r || is_among rs c
 
--- the characters that a constraint leaves; one with a mark of extensibility counts for nothing
+-- the characters that a constraint leaves of the type's own; one with a mark of extensibility counts for nothing
 abbrev pub permitted_in : StringKind → Bool → Option (List ℕ) → List Run
-permitted_in k false (Some cs) = map (λ c. run c c) cs
+permitted_in k false (Some cs) = map (λ c. run c c) (filter (is_among (characters_of k)) cs)
 permitted_in k e cs = characters_of k
 
 abbrev pub permitted : StringKind → Alphabet → List Run
