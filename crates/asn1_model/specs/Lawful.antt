@@ -109,7 +109,7 @@ unfoldable mutual
   is_lawful (set_of z held s) = is_size z held && not (is_group s) && is_lawful s
   is_lawful (sequence cs e adds) = is_sequence_table cs e adds && are_lawful cs && are_lawful adds
   is_lawful (set cs e adds) = is_sequence_table cs e adds && are_ascending tag_less (component_places cs) && are_lawful cs && are_lawful adds
-  is_lawful (group cs) = not (are_no_components cs) && has_no_group cs && are_lawful cs
+  is_lawful (group cs) = not (are_no_components cs) && are_distinct tag_same (component_tags cs) && has_no_group cs && are_lawful cs
   is_lawful (choice roots e adds) = not (are_no_alternatives roots) && (e || are_no_alternatives adds) && are_ascending tag_less (alternative_tags roots) && are_distinct tag_same (alternative_tags roots ++ alternative_tags adds) && are_lawful_alternatives roots && are_lawful_alternatives adds
   is_lawful s = true
 

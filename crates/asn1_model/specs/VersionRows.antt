@@ -39,6 +39,7 @@ LawfulRows =
     × (is_lawful (character_string utf8 any_size (letters (0xE9 ∷ [])) any_count) ≡ true)
     × (is_lawful (character_string numeric any_size (letters (0x31 ∷ 0x30 ∷ [])) any_count) ≡ false)
     -- groups: with parts, with tags that differ, and among additions alone
+    × (is_lawful (open_behind no_component (may_have 1 (group (needs 0 boolean (needs 0 boolean no_component))) no_component)) ≡ false)
     × (is_lawful (open_behind no_component (may_have 1 (group no_component) no_component)) ≡ false)
     × (is_lawful (closed (may_have 1 (group (needs 0 boolean no_component)) no_component)) ≡ false)
     × (is_lawful (list any_size (group (needs 0 boolean no_component))) ≡ false)

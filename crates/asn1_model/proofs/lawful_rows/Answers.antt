@@ -6,5 +6,5 @@ pub returns : goal.returns
 unfolding is_lawful are_lawful are_lawful_alternatives
 returns c = (
     refl, refl, refl, refl, refl, refl, refl, refl, refl, refl, refl, refl, refl, refl, refl, refl, refl, refl, refl, refl,
-    refl, refl, refl, refl, refl, refl, refl, refl, refl, refl, refl, refl, refl,
+    refl, refl, refl, refl, refl, refl, refl, refl, refl, refl, refl, refl, refl, refl,
 )
