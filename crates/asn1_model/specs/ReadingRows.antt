@@ -1,13 +1,17 @@
--- Rows: octets that are an encoding of a value, many of which are not the canonical one.
-use Rattle.std.specs.Prelude.{pos, true, false, [], ◌∷◌, ◌++◌, replicate, Some}
-use Rattle.asn1_model.specs.Value.{item, fields, chosen, end, absent, present}
-use Rattle.asn1_model.specs.Schema.{visible, boolean, enumerated, no_alternative}
-use Rattle.asn1_model.specs.Rules.{IsEncoding, uper, aper, uper_strict, aper_strict, oer, coer}
+-- Rows: octets that are an encoding of a value, many of which are not the canonical one, and octets that are none.
+use Rattle.std.specs.Prelude.{ℕ, ◌+◌, ◌^◌, pos, true, false, List, [], ◌∷◌, ◌++◌, replicate, Some}
+use Rattle.asn1_model.specs.Value.{Value, nothing, item, text, arcs, fields, chosen, end, absent, present}
+use Rattle.asn1_model.specs.Schema.{visible, ia5, numeric, utf8, Schema, boolean, null, integer, enumerated, object_identifier, sequence_of, no_alternative}
+use Rattle.asn1_model.specs.Rules.{Rules, IsEncoding, uper, aper, uper_strict, aper_strict, oer, coer}
 use Rattle.asn1_model.specs.Types.{
-    any_size, whole, small, string, list, bag_of, or_tagged, one_of, yes, no, num, below, roots, bits_of, octet_number, marked_number, wide_number, any_bits,
-    any_octets, marked_octets, flagged, defaulted, many_nulls, marked_choice, new_type, old_type, default_old, grouped, yes_and, yes_with, yes_without,
-    yes_alone, list_of, bag_with, null_list, octets, foo,
+    minus, from_to, any_size, sizes, whole, between, small, bit_text, string, list, bag_of, context, or_tagged, one_of, yes, no, num, below, roots, bits_of,
+    set_bits, octet_number, marked_number, wide_number, from_zero, colour_old, colour_new, any_bits, any_octets, marked_octets, flagged, defaulted,
+    one_or_two, many_nulls, only_tagged, marked_choice, new_type, old_type, required_new, default_added, null_added, two_added, default_old, grouped,
+    yes_and, yes_with, yes_without, yes_alone, list_of, bag_with, null_list, octets, foo,
 }
+
+abbrev pub IsNoEncoding : Rules → Schema → Value → List ℕ → Type 0
+IsNoEncoding r s v w = IsEncoding r s v w → ⊥
 
 abbrev pub ReadingRows : Type 0
 ReadingRows =
@@ -60,3 +64,75 @@ ReadingRows =
     × IsEncoding aper_strict (bag_of octet_number) (bag_with (num 3 ∷ num 1 ∷ num 2 ∷ [])) (0x03 ∷ 0x01 ∷ 0x03 ∷ 0x02 ∷ [])
     × IsEncoding coer (bag_of octet_number) (bag_with (num 3 ∷ num 1 ∷ num 2 ∷ [])) (0x01 ∷ 0x03 ∷ 0x01 ∷ 0x03 ∷ 0x02 ∷ [])
     × IsEncoding uper default_old (roots (present yes_alone end)) (0xE0 ∷ 0x20 ∷ 0x20 ∷ 0xE0 ∷ [])
+    × IsEncoding uper new_type (yes_with (num 7)) (0xF0 ∷ 0x00 ∷ 0x30 ∷ 0x10 ∷ 0x70 ∷ [])
+    × IsEncoding uper required_new (yes_with yes) (0xC0 ∷ 0x40 ∷ 0x7F ∷ 0xC0 ∷ [])
+    × IsEncoding uper whole (num 7) (0x80 ∷ 0x01 ∷ 0x07 ∷ [])
+    × IsEncoding uper colour_new (item (pos 1)) (0xC0 ∷ 0x40 ∷ 0x00 ∷ [])
+    × IsEncoding aper wide_number (num 256) (0x80 ∷ 0x00 ∷ 0x00 ∷ 0x00 ∷ [])
+    × IsEncoding uper null_added (yes_with nothing) (0xC0 ∷ 0x40 ∷ 0x80 ∷ 0x2A ∷ 0x80 ∷ [])
+    × IsEncoding uper two_added (fields (present yes end) (present nothing (absent end))) (0xC0 ∷ 0x40 ∷ 0x40 ∷ 0x00 ∷ [])
+    × IsEncoding uper_strict two_added (fields (present yes end) (present nothing (absent end))) (0xC0 ∷ 0x40 ∷ 0x40 ∷ 0x00 ∷ [])
+    × IsEncoding coer two_added (fields (present yes end) (present nothing (absent end))) (0x80 ∷ 0xFF ∷ 0x02 ∷ 0x07 ∷ 0x80 ∷ 0x00 ∷ [])
+    × IsEncoding uper old_type yes_alone (0xC0 ∷ 0x40 ∷ 0x00 ∷ [])
+    × IsEncoding uper_strict old_type yes_alone (0xC0 ∷ 0x40 ∷ 0x00 ∷ [])
+    × IsEncoding coer old_type yes_alone (0x80 ∷ 0xFF ∷ 0x02 ∷ 0x07 ∷ 0x80 ∷ 0x00 ∷ [])
+    × IsEncoding uper default_added (yes_with (num 3)) (0xC0 ∷ 0x40 ∷ 0x80 ∷ 0x40 ∷ 0xC0 ∷ [])
+    × IsEncoding oer whole (num 7) (0x82 ∷ 0x00 ∷ 0x02 ∷ 0x00 ∷ 0x07 ∷ [])
+    × IsEncoding oer whole (below 1) (0x03 ∷ 0xFF ∷ 0xFF ∷ 0xFF ∷ [])
+    × IsEncoding oer (only_tagged (context 62)) (chosen false 0 nothing) (0xBF ∷ 0x3E ∷ [])
+    × IsEncoding oer colour_new (item (pos 0)) (0x81 ∷ 0x00 ∷ [])
+    × IsEncoding oer colour_new (item (pos 1)) (0x82 ∷ 0x00 ∷ 0x01 ∷ [])
+    × IsEncoding oer (bit_text (sizes 4 4)) (set_bits 4) (0xFF ∷ [])
+    × IsEncoding oer any_octets (octets []) (0x81 ∷ 0x00 ∷ [])
+
+-- no encoding of the value that a more lenient reader would find there, or that the octets seem to say
+abbrev pub RefusedRows : Type 0
+RefusedRows =
+    IsNoEncoding coer boolean yes (0x05 ∷ [])
+    × IsNoEncoding coer whole (num 0) (0x02 ∷ 0x00 ∷ 0x00 ∷ [])
+    × IsNoEncoding coer whole (num 7) (0xFF ∷ replicate 126 0x00 ++ 0x01 ∷ 0x07 ∷ [])
+    × IsNoEncoding coer whole (below 1) (0x02 ∷ 0xFF ∷ 0xFF ∷ [])
+    × IsNoEncoding coer (between (pos 0) (pos (2 ^ 64))) (num 255) (0x02 ∷ 0x00 ∷ 0xFF ∷ [])
+    × IsNoEncoding coer (between (minus (2 ^ 63 + 1)) (pos (2 ^ 63))) (num 127) (0x02 ∷ 0x00 ∷ 0x7F ∷ [])
+    × IsNoEncoding coer (between (minus (2 ^ 63 + 1)) (pos (2 ^ 63))) (below 1) (0x02 ∷ 0xFF ∷ 0xFF ∷ [])
+    × IsNoEncoding coer (string visible any_size) foo (0x81 ∷ 0x03 ∷ 0x66 ∷ 0x6F ∷ 0x6F ∷ [])
+    × IsNoEncoding coer any_bits (bits_of []) (0x00 ∷ [])
+    × IsNoEncoding coer any_bits (set_bits 4) (0x02 ∷ 0x04 ∷ 0xFF ∷ [])
+    × IsNoEncoding coer (list any_size whole) (list_of (num 1 ∷ num 2 ∷ [])) (0x02 ∷ 0x00 ∷ 0x02 ∷ 0x01 ∷ 0x01 ∷ 0x01 ∷ 0x02 ∷ [])
+    × IsNoEncoding coer defaulted (roots (present (num 0) (absent end))) (0x80 ∷ 0x01 ∷ 0x00 ∷ [])
+    × IsNoEncoding coer (enumerated (pos 5 ∷ []) false []) (item (pos 5)) (0x82 ∷ 0x00 ∷ 0x05 ∷ [])
+    × IsNoEncoding coer (one_of (or_tagged 5 boolean no_alternative)) (chosen false 0 yes) (0xBF ∷ 0x05 ∷ 0xFF ∷ [])
+    × IsNoEncoding coer object_identifier (arcs (1 ∷ 2 ∷ 1 ∷ [])) (0x03 ∷ 0x2A ∷ 0x80 ∷ 0x01 ∷ [])
+    × IsNoEncoding uper_strict object_identifier (arcs (1 ∷ 2 ∷ 1 ∷ [])) (0x03 ∷ 0x2A ∷ 0x80 ∷ 0x01 ∷ [])
+    × IsNoEncoding oer defaulted (roots (absent (absent end))) (0x20 ∷ [])
+    × IsNoEncoding coer defaulted (roots (absent (absent end))) (0x20 ∷ [])
+    × IsNoEncoding oer null nothing (0x00 ∷ [])
+    × IsNoEncoding uper null nothing (0x01 ∷ [])
+    × IsNoEncoding aper null nothing (0x01 ∷ [])
+    × IsNoEncoding uper small (num 6) (0xB0 ∷ [])
+    × IsNoEncoding aper small (num 6) (0xB0 ∷ [])
+    × IsNoEncoding oer small (num 6) (0x06 ∷ [])
+    × IsNoEncoding oer from_zero (num (2 ^ 128)) (0x11 ∷ 0x01 ∷ replicate 16 0x00)
+    × IsNoEncoding oer (string ia5 any_size) (text (4 ∷ 4 ∷ 0x81 ∷ 0xE9 ∷ [])) (0x04 ∷ 0x04 ∷ 0x04 ∷ 0x81 ∷ 0xE9 ∷ [])
+    × IsNoEncoding oer (string visible any_size) (text (0x80 ∷ [])) (0x01 ∷ 0x80 ∷ [])
+    × IsNoEncoding oer (string utf8 any_size) (text (0xFF ∷ [])) (0x01 ∷ 0xFF ∷ [])
+    × IsNoEncoding oer (string numeric (sizes 3 7)) (text (0x31 ∷ 0x32 ∷ [])) (0x02 ∷ 0x31 ∷ 0x32 ∷ [])
+    × IsNoEncoding oer (sequence_of any_size (record { low = 2; high = Some 2 }) boolean) (list_of (yes ∷ yes ∷ yes ∷ []))
+        (0x01 ∷ 0x03 ∷ 0xFF ∷ 0xFF ∷ 0xFF ∷ [])
+    × IsNoEncoding oer (integer (from_to (Some (pos 0)) (Some (pos 255)) true) (record { low = Some (pos 0); high = Some (pos 255) })) (num 300)
+        (0x02 ∷ 0x01 ∷ 0x2C ∷ [])
+    × IsNoEncoding uper required_new yes_without (0x40 ∷ [])
+    × IsNoEncoding oer required_new yes_without (0x00 ∷ 0xFF ∷ [])
+    × IsNoEncoding uper colour_old (item (pos 1)) (0x80 ∷ [])
+    × IsNoEncoding uper one_or_two (list_of []) (0x00 ∷ [])
+    × IsNoEncoding uper_strict small (below 4) (0x17 ∷ [])
+    × IsNoEncoding uper_strict (flagged small) (roots (present no (present (num 5) end))) (0x57 ∷ [])
+    × IsNoEncoding aper_strict (flagged octet_number) (yes_and (num 9)) (0xAA ∷ 0x09 ∷ [])
+    × IsNoEncoding uper_strict whole (num 7) (0x02 ∷ 0x00 ∷ 0x07 ∷ [])
+    × IsNoEncoding uper_strict whole (num 7) (0x80 ∷ 0x01 ∷ 0x07 ∷ [])
+    × IsNoEncoding uper_strict marked_number (num 7) (0x80 ∷ 0x83 ∷ 0x80 ∷ [])
+    × IsNoEncoding uper_strict marked_octets (octets (1 ∷ [])) (0x80 ∷ 0x80 ∷ 0x80 ∷ [])
+    × IsNoEncoding aper_strict wide_number (num 256) (0x40 ∷ 0x00 ∷ 0x00 ∷ [])
+    × IsNoEncoding uper_strict defaulted (roots (present (num 0) (absent end))) (0x80 ∷ 0x40 ∷ 0x00 ∷ [])
+    × IsNoEncoding uper_strict colour_new (item (pos 1)) (0xC0 ∷ 0x40 ∷ 0x00 ∷ [])
+    × IsNoEncoding uper_strict many_nulls (null_list 32768) (0xC1 ∷ 0xC1 ∷ 0x00 ∷ [])

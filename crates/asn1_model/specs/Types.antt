@@ -284,6 +284,10 @@ default_added = open_behind (needs 0 boolean no_component) (has_default 1 whole 
 abbrev pub null_added : Schema
 null_added = open_behind (needs 0 boolean no_component) (may_have 1 null no_component)
 
+-- SEQUENCE {a BOOLEAN, ..., b NULL OPTIONAL, c NULL OPTIONAL}
+abbrev pub two_added : Schema
+two_added = open_behind (needs 0 boolean no_component) (may_have 1 null (may_have 2 null no_component))
+
 -- SEQUENCE {s S DEFAULT {a TRUE}}, where S is the older or the newer type
 abbrev pub default_old : Schema
 default_old = closed (has_default 0 old_type (fields (present yes end) end) no_component)
