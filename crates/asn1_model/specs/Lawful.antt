@@ -118,13 +118,15 @@ has_optional_groups (component t o s cs) = (not (is_group s) || is_optional o) &
 
 -- Additions stand behind a mark, all tags differ (X.680 25 and 27), and groups stand where they may.
 abbrev pub is_sequence_table : Components → Bool → Components → Bool
-is_sequence_table cs e adds = (e || are_no_components adds) && are_distinct tag_same (component_tags cs ++ component_tags adds) && has_no_group cs && has_optional_groups adds
+is_sequence_table cs e adds =
+    (e || are_no_components adds) && are_distinct tag_same (component_tags cs ++ component_tags adds) && has_no_group cs && has_optional_groups adds
 
 unfoldable mutual
   -- Whether a type is lawful (X.680 20, 25 to 29).
   pub is_lawful : Schema → Bool
   is_lawful (integer b held) = is_range b.range && is_range held
-  is_lawful (enumerated roots e adds) = not (is_empty roots) && (e || is_empty adds) && are_ascending int_less roots && are_ascending int_less adds && are_distinct same_number (roots ++ adds)
+  is_lawful (enumerated roots e adds) =
+    not (is_empty roots) && (e || is_empty adds) && are_ascending int_less roots && are_ascending int_less adds && are_distinct same_number (roots ++ adds)
   is_lawful (bit_string z held) = is_size z held
   is_lawful (octet_string z held) = is_size z held
   is_lawful (character_string k z a held) = is_size z held && is_alphabet k a.characters
@@ -133,7 +135,9 @@ unfoldable mutual
   is_lawful (sequence cs e adds) = is_sequence_table cs e adds && are_lawful cs && are_lawful adds
   is_lawful (set cs e adds) = is_sequence_table cs e adds && are_ascending tag_less (component_places cs) && are_lawful cs && are_lawful adds
   is_lawful (group cs) = not (are_no_components cs) && are_distinct tag_same (component_tags cs) && has_no_group cs && are_lawful cs
-  is_lawful (choice roots e adds) = not (are_no_alternatives roots) && (e || are_no_alternatives adds) && are_ascending tag_less (alternative_tags roots) && are_distinct tag_same (alternative_tags roots ++ alternative_tags adds) && are_lawful_alternatives roots && are_lawful_alternatives adds
+  is_lawful (choice roots e adds) =
+    not (are_no_alternatives roots) && (e || are_no_alternatives adds) && are_ascending tag_less (alternative_tags roots)
+    && are_distinct tag_same (alternative_tags roots ++ alternative_tags adds) && are_lawful_alternatives roots && are_lawful_alternatives adds
   is_lawful s = true
 
   -- Whether the types of all components are.

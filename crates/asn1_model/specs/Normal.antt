@@ -35,7 +35,8 @@ unfoldable mutual
 
   -- Each part in its normal form, left out if it is then its default or an empty group.
   pub normal_parts : Components → Parts → Parts
-  normal_parts (component t o s cs) (present v ps) = kept (is_default_by (λ d. normal s d) o (normal s v) || is_empty_group s (normal s v)) (normal s v) (normal_parts cs ps)
+  normal_parts (component t o s cs) (present v ps) =
+    kept (is_default_by (λ d. normal s d) o (normal s v) || is_empty_group s (normal s v)) (normal s v) (normal_parts cs ps)
   normal_parts (component t o s cs) (absent ps) = absent (normal_parts cs ps)
   normal_parts cs ps = ps
 

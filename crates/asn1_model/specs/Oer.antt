@@ -78,7 +78,8 @@ long_length n k = only_if (leb 1 k && leb k 127 && leb (octet_width n) k) (exact
 
 -- A length: below 128 one octet, else the fewest behind their number (X.696 8.6). That it fits 64 bits is the project's choice.
 unfoldable pub length_form : ℕ → OctetForm
-length_form n = only_if (ltb n (2 ^ 64)) (varied longer_length (cond (ltb n 128) None (Some (octet_width n))) (λ o. elim o [ None ↦ only_if (ltb n 128) (exactly (n ∷ [])) | Some k ↦ long_length n k ]))
+length_form n = only_if (ltb n (2 ^ 64)) (varied longer_length (cond (ltb n 128) None (Some (octet_width n)))
+    (λ o. elim o [ None ↦ only_if (ltb n 128) (exactly (n ∷ [])) | Some k ↦ long_length n k ]))
 
 -- Octets behind their number (X.696 8.6).
 unfoldable pub counted : List ℕ → OctetForm
@@ -123,7 +124,8 @@ bounded low high v = signed v
 -- INTEGER (X.696 10): bounds with a mark count for nothing; the program's type holds the number, and under a value constraint 128 bits do, by
 -- the project's choice.
 unfoldable pub integer_form : Bounds → Range → ℤ → OctetForm
-integer_form b held v = only_if (is_within held v && (not (is_bounded b) || fits_128 v)) (cond b.extensible (signed v) (only_if (is_within b.range v) (bounded b.range.low b.range.high v)))
+integer_form b held v = only_if (is_within held v && (not (is_bounded b) || fits_128 v))
+    (cond b.extensible (signed v) (only_if (is_within b.range v) (bounded b.range.low b.range.high v)))
 
 -- ---- ENUMERATED (X.696 11)
 
@@ -205,7 +207,9 @@ open_type x = within x (λ w. varied octets_behind [] (λ more. counted (w ++ mo
 
 -- A component that is there, if it may be: what the normal form leaves out is spelled out only to a reader with the freedom (X.696 16).
 unfoldable pub spelled : Presence → Schema → Value → OctetForm → OctetForm
-spelled o s v x = cond (is_at_default o s v) (varied default_spelled_out false (λ b. only_if b x)) (cond (is_group_left_out s v) (varied empty_group false (λ b. only_if b x)) x)
+spelled o s v x = cond (is_at_default o s v)
+    (varied default_spelled_out false (λ b. only_if b x))
+    (cond (is_group_left_out s v) (varied empty_group false (λ b. only_if b x)) x)
 
 -- Presence bits filled up with zeros, in which no reader takes others (X.696 16.2).
 abbrev pub preamble : List Bool → OctetForm

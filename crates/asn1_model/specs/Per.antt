@@ -86,7 +86,8 @@ at_octet true x = both (placed (λ p. filling (missing p))) x
 
 -- A number of 0 to span in k octets behind their number, which is one of 1 to the octets of span (X.691 11.5.7.4).
 unfoldable pub in_octets_of : Bool → ℕ → ℕ → ℕ → BitForm
-in_octets_of al span d k = only_if (leb (least_octets d) k && leb k (octet_width span)) (both (exactly (binary (width (octet_width span - 1)) (k - 1))) (at_octet al (exactly (flat_map (binary 8) (digits 256 k d)))))
+in_octets_of al span d k = only_if (leb (least_octets d) k && leb k (octet_width span))
+    (both (exactly (binary (width (octet_width span - 1)) (k - 1))) (at_octet al (exactly (flat_map (binary 8) (digits 256 k d)))))
 
 -- A constrained whole number, one of 0 to span (X.691 11.5): not aligned, the bits that span has; aligned, the same up to 255 numbers, one
 -- octet for 256, two for up to 65536, and more behind their number.
@@ -107,7 +108,8 @@ short_length al n = at_octet al (varied longer_length (leb 128 n) (λ long. cond
 -- an octet in the aligned variant.
 unfoldable pub fragments : Bool → List ℕ → List BitForm → BitForm
 fragments al [] us = both (short_length al (length us)) (joined us)
-fragments al (m ∷ ms) us = only_if (leb 1 m && leb m 4 && leb (m * 16384) (length us)) (both (at_octet al (exactly (true ∷ true ∷ binary 6 m))) (both (joined (take (m * 16384) us)) (fragments al ms (drop (m * 16384) us))))
+fragments al (m ∷ ms) us = only_if (leb 1 m && leb m 4 && leb (m * 16384) (length us)) (both (at_octet al (exactly (true ∷ true ∷ binary 6 m)))
+    (both (joined (take (m * 16384) us)) (fragments al ms (drop (m * 16384) us))))
 
 -- A number, if it is not 0.
 abbrev pub unless_zero : ℕ → List ℕ
@@ -177,7 +179,8 @@ marked true in_root root outside = varied root_marked_outside (not in_root) (λ 
 
 -- INTEGER (X.691 13): the program's type holds the number, and under a value constraint 128 bits do, by the project's choice.
 unfoldable pub integer_form : Bool → Bounds → Range → ℤ → BitForm
-integer_form al b held v = only_if (is_within held v && (not (is_bounded b) || fits_128 v)) (marked b.extensible (is_within b.range v) (whole_number al b.range.low b.range.high v) (unconstrained al v))
+integer_form al b held v = only_if (is_within held v && (not (is_bounded b) || fits_128 v))
+    (marked b.extensible (is_within b.range v) (whole_number al b.range.low b.range.high v) (unconstrained al v))
 
 -- ---- units of a size (16, 17, 20 and 30): pads tells whether they stand at an octet where their number is constrained
 
@@ -185,11 +188,14 @@ integer_form al b held v = only_if (is_within held v && (not (is_bounded b) || f
 -- and 30).
 unfoldable pub sized_root : Bool → Counts → Option ℕ → (Counts → Bool) → List BitForm → BitForm
 sized_root al c None pads us = counted al us
-sized_root al c (Some high) pads us = cond (ltb high 65536) (both (constrained al (high - c.low) (length us - c.low)) (at_octet (al && pads c) (joined us))) (counted al us)
+sized_root al c (Some high) pads us = cond (ltb high 65536)
+    (both (constrained al (high - c.low) (length us - c.low)) (at_octet (al && pads c) (joined us)))
+    (counted al us)
 
 -- Units of a size that may have a mark (X.691 16.6, 17.3, 20.4 and 30.4).
 unfoldable pub sized : Bool → Size → Counts → (Counts → Bool) → List BitForm → BitForm
-sized al z held pads us = only_if (is_count_within held (length us)) (marked z.extensible (is_count_within z.counts (length us)) (sized_root al z.counts z.counts.high pads us) (counted al us))
+sized al z held pads us = only_if (is_count_within held (length us))
+    (marked z.extensible (is_count_within z.counts (length us)) (sized_root al z.counts z.counts.high pads us) (counted al us))
 
 -- Units that stand where they are.
 abbrev pub never : Counts → Bool
@@ -229,7 +235,9 @@ characters al z held rs cs = sized al z held (pads_characters (character_bits al
 -- A restricted character string (X.691 30). Sizes and alphabets of UTF8String, General-, Graphic- and TeletexString count for nothing, by the
 -- project's choice.
 unfoldable pub string_form : Bool → StringKind → Size → Alphabet → Counts → List ℕ → BitForm
-string_form al k z a held cs = only_if (may_hold k cs) (cond (is_of_octets k) (only_if (is_count_within held (length cs)) (counted_octets al cs)) (characters al z held (permitted k a) cs))
+string_form al k z a held cs = only_if (may_hold k cs) (cond (is_of_octets k)
+    (only_if (is_count_within held (length cs)) (counted_octets al cs))
+    (characters al z held (permitted k a) cs))
 
 -- ---- ENUMERATED (14)
 
@@ -265,13 +273,16 @@ counted_eights al w = counted al (map (λ o. exactly o) (by_eights w))
 
 -- An open type: a complete encoding behind its number of octets (X.691 11.2).
 unfoldable pub open_type : Bool → BitForm → BitForm
-open_type al x = within (complete x) (λ w. varied octets_behind [] (λ more. only_if (each_is is_octet more) (counted_eights al (w ++ flat_map (binary 8) more))))
+open_type al x = within (complete x) (λ w.
+    varied octets_behind [] (λ more. only_if (each_is is_octet more) (counted_eights al (w ++ flat_map (binary 8) more))))
 
 -- ---- SEQUENCE, SET and groups (19, 21)
 
 -- A component that is there, if it may be: what the normal form leaves out is spelled out only to a reader with the freedom (X.691 19.5).
 unfoldable pub spelled : Presence → Schema → Value → BitForm → BitForm
-spelled o s v x = cond (is_at_default o s v) (varied default_spelled_out false (λ b. only_if b x)) (cond (is_group_left_out s v) (varied empty_group false (λ b. only_if b x)) x)
+spelled o s v x = cond (is_at_default o s v)
+    (varied default_spelled_out false (λ b. only_if b x))
+    (cond (is_group_left_out s v) (varied empty_group false (λ b. only_if b x)) x)
 
 -- Whether an addition is there.
 abbrev pub flag : Option BitForm → BitForm
@@ -328,7 +339,8 @@ unfoldable mutual
   form al (sequence cs e adds) (fields ps qs) = given (addition_forms al adds qs) (sequence_form al e (marks cs ps) (component_forms al cs ps))
   form al (set cs e adds) (fields ps qs) = given (addition_forms al adds qs) (sequence_form al e (marks cs ps) (component_forms al cs ps))
   form al (group cs) (fields ps end) = both (exactly (marks cs ps)) (component_forms al cs ps)
-  form al (choice roots e adds) (chosen false i v) = both (mark_of e false) (both (constrained al (alternative_count roots - 1) i) (alternative_form al roots i v))
+  form al (choice roots e adds) (chosen false i v) =
+    both (mark_of e false) (both (constrained al (alternative_count roots - 1) i) (alternative_form al roots i v))
   form al (choice roots true adds) (chosen true i v) = both (exactly (true ∷ [])) (both (normally_small al i) (open_type al (alternative_form al adds i v)))
   form al s v = refused
 

@@ -9,12 +9,13 @@ use Rattle.asn1_model.specs.Rules.{uper, aper, uper_strict, oer, coer}
 use Rattle.asn1_model.specs.Per.{largest_first}
 use Rattle.asn1_model.specs.Types.{
     Writes, WritesNothing, minus, from_to, any_number, any_count, any_size, sizes, sizes_or_more, letters, whole, between, at_least, small, bit_text,
-    octet_text, string, list, bag_of, context, needs, may_have, has_default, closed, open_behind, or_tagged, one_of, yes, no, num, below, roots, set_bits,
-    bits_of, signed_items, octet_number, marked_number, word_number, wide_number, from_zero, at_most_5, min_to_max, marked_min_to_max, yes_or_no, colour_old, colour_new,
-    numbers_from, any_bits, any_octets, marked_octets, visible_of, flagged, defaulted, chained, optional_numbers, absent_parts, person, two_lists, one_or_two,
-    many_nulls, two_booleans, three_numbers, only_tagged, marked_choice, choice_of_choice, null_alternatives, set_of_three, set_with_choice, new_type,
-    old_type, required_new, default_added, null_added, default_new, grouped, default_grouped, dated, octets_and_null, listed, null_additions, nest,
-    nest_added, nested, yes_and, yes_with, yes_without, yes_alone, list_of, bag_with, copies, null_list, nulls, bits_14, octets, foo, john,
+    octet_text, string, list, bag_of, context, needs, may_have, has_default, closed, open_behind, or_tagged, one_of, yes, no, num, below, roots,
+    set_bits, bits_of, signed_items, octet_number, marked_number, word_number, wide_number, from_zero, at_most_5, min_to_max, marked_min_to_max,
+    yes_or_no, colour_old, colour_new, numbers_from, any_bits, any_octets, marked_octets, visible_of, flagged, defaulted, chained, optional_numbers,
+    absent_parts, person, two_lists, one_or_two, many_nulls, two_booleans, three_numbers, only_tagged, marked_choice, choice_of_choice,
+    null_alternatives, set_of_three, set_with_choice, new_type, old_type, required_new, default_added, null_added, default_new, grouped,
+    default_grouped, dated, octets_and_null, listed, null_additions, nest, nest_added, nested, yes_and, yes_with, yes_without, yes_alone, list_of,
+    bag_with, copies, null_list, nulls, bits_14, octets, foo, john,
 }
 
 abbrev pub NumberRows : Type 0

@@ -7,9 +7,9 @@ use Rattle.asn1_model.specs.Schema.{
 use Rattle.asn1_model.specs.Lawful.{is_lawful}
 use Rattle.asn1_model.specs.Versions.{Extends, drop, grow, seen, IsClash}
 use Rattle.asn1_model.specs.Types.{
-    minus, any_count, any_size, sizes, letters, between, octet_text, list, context, needs, may_have, closed, open_behind, or_tagged, one_of, num, roots, colour_old, colour_new, defaulted, marked_choice, new_type, old_type, required_new,
-    default_old, default_new, grouped, nest, nest_added, nested, yes_with, yes_without, yes_alone,
-    null_alternatives, set_of_three, set_with_choice, whole,
+    minus, any_count, any_size, sizes, letters, between, octet_text, list, context, needs, may_have, closed, open_behind, or_tagged, one_of, num,
+    roots, colour_old, colour_new, defaulted, marked_choice, new_type, old_type, required_new, default_old, default_new, grouped, nest, nest_added,
+    nested, yes_with, yes_without, yes_alone, null_alternatives, set_of_three, set_with_choice, whole,
 }
 
 -- CHOICE {a [0] INTEGER, b [1] INTEGER, ...}

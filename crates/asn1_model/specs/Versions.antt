@@ -43,7 +43,8 @@ unfoldable mutual
 
   -- The same of parts.
   pub grow_parts : Components → Components → Parts → Option Parts
-  grow_parts (component t o s cs) (component t' o' s' cs') (present v ps) = option_and_then (λ w. option_map (λ qs. present w qs) (grow_parts cs cs' ps)) (grow s s' v)
+  grow_parts (component t o s cs) (component t' o' s' cs') (present v ps) =
+    option_and_then (λ w. option_map (λ qs. present w qs) (grow_parts cs cs' ps)) (grow s s' v)
   grow_parts (component t o s cs) (component t' o' s' cs') (absent ps) = option_map absent (grow_parts cs cs' ps)
   grow_parts no_component cs' end = all_absent cs'
   grow_parts cs cs' ps = None
@@ -61,7 +62,8 @@ unfoldable mutual
   -- A value of the newer version without the parts that the older one lacks. None where it lacks an alternative or an item that stands
   -- elsewhere.
   pub lessen : Schema → Schema → Value → Option Value
-  lessen (enumerated roots e adds) (enumerated roots' e' adds') (item v) = cond (is_present (item_place v roots) || is_present (item_place v adds)) (Some (item v)) None
+  lessen (enumerated roots e adds) (enumerated roots' e' adds') (item v) =
+    cond (is_present (item_place v roots) || is_present (item_place v adds)) (Some (item v)) None
   lessen (sequence_of z h s) (sequence_of z' h' s') (members vs) = option_map members (map_each (λ v. lessen s s' v) vs)
   lessen (set_of z h s) (set_of z' h' s') (bag vs) = option_map bag (map_each (λ v. lessen s s' v) vs)
   lessen (sequence cs e adds) (sequence cs' e' adds') (fields ps qs) = both_parts (lessen_parts cs cs' ps) (lessen_parts adds adds' qs)
@@ -73,7 +75,8 @@ unfoldable mutual
 
   -- The same of parts.
   pub lessen_parts : Components → Components → Parts → Option Parts
-  lessen_parts (component t o s cs) (component t' o' s' cs') (present v ps) = option_and_then (λ w. option_map (λ qs. present w qs) (lessen_parts cs cs' ps)) (lessen s s' v)
+  lessen_parts (component t o s cs) (component t' o' s' cs') (present v ps) =
+    option_and_then (λ w. option_map (λ qs. present w qs) (lessen_parts cs cs' ps)) (lessen s s' v)
   lessen_parts (component t o s cs) (component t' o' s' cs') (absent ps) = option_map absent (lessen_parts cs cs' ps)
   lessen_parts no_component cs' ps = Some end
   lessen_parts cs cs' ps = None
