@@ -1,5 +1,6 @@
 -- Forms on whose canonical way a reader meets no freedom that it has: it takes the canonical text alone.
-use Rattle.std.proofs.Common.{◌≡◌, ℕ, ◌+◌, ◌==◌, [], ◌∷◌, Bool, true, false, not, ◌&&◌, IsTrue, List, length, Option, Some, None, refl, ap, inl, inr, subst, ◌⊎◌}
+use Rattle.std.proofs.Common.{◌≡◌, ℕ, ◌+◌, ◌==◌, [], ◌∷◌, Bool, true, false, not, ◌&&◌, IsTrue, List, length, Option, Some, None, refl, ap, inl, inr}
+use Rattle.std.proofs.Common.{subst, ◌⊎◌}
 use Rattle.std.proofs.lemmas.Bool.{eq-eqb}
 use Rattle.asn1_model.specs.Value.{same_list, same_truth}
 use Rattle.asn1_model.specs.Form.{Form, exactly, refused, both, placed, varied, within, written, Reads}

@@ -1,10 +1,9 @@
 -- Which types are lawful: tables ascend, tags and items are distinct, bounds are ordered, additions stand behind a mark.
 use Rattle.std.specs.Prelude.{ℕ, ◌==◌, ltb, leb, ℤ, Bool, true, false, cond, not, ◌&&◌, ◌||◌, IsTrue, List, [], ◌∷◌, ◌++◌, Option, Some, None}
 use Rattle.asn1_model.specs.Value.{same_number}
-use Rattle.asn1_model.specs.Schema.{
-    Tag, Range, Counts, Size, StringKind, Presence, optional, Schema, integer, enumerated, bit_string, octet_string, character_string, sequence_of,
-    set_of, sequence, set, group, choice, Components, no_component, component, Alternatives, no_alternative, alternative,
-}
+use Rattle.asn1_model.specs.Schema.{Tag, Range, Counts, Size, StringKind, Presence, optional, Schema, integer, enumerated, bit_string, octet_string}
+use Rattle.asn1_model.specs.Schema.{character_string, sequence_of, set_of, sequence, set, group, choice, Components, no_component, component}
+use Rattle.asn1_model.specs.Schema.{Alternatives, no_alternative, alternative}
 use Rattle.asn1_model.specs.Numbers.{is_at_most}
 use Rattle.asn1_model.specs.Strings.{each_is, is_of_octets}
 
@@ -126,7 +125,7 @@ unfoldable mutual
   pub is_lawful : Schema → Bool
   is_lawful (integer b held) = is_range b.range && is_range held
   is_lawful (enumerated roots e adds) =
-    not (is_empty roots) && (e || is_empty adds) && are_ascending int_less roots && are_ascending int_less adds && are_distinct same_number (roots ++ adds)
+      not (is_empty roots) && (e || is_empty adds) && are_ascending int_less roots && are_ascending int_less adds && are_distinct same_number (roots ++ adds)
   is_lawful (bit_string z held) = is_size z held
   is_lawful (octet_string z held) = is_size z held
   is_lawful (character_string k z a held) = is_size z held && is_alphabet k a.characters
@@ -136,8 +135,8 @@ unfoldable mutual
   is_lawful (set cs e adds) = is_sequence_table cs e adds && are_ascending tag_less (component_places cs) && are_lawful cs && are_lawful adds
   is_lawful (group cs) = not (are_no_components cs) && are_distinct tag_same (component_tags cs) && has_no_group cs && are_lawful cs
   is_lawful (choice roots e adds) =
-    not (are_no_alternatives roots) && (e || are_no_alternatives adds) && are_ascending tag_less (alternative_tags roots)
-    && are_distinct tag_same (alternative_tags roots ++ alternative_tags adds) && are_lawful_alternatives roots && are_lawful_alternatives adds
+      not (are_no_alternatives roots) && (e || are_no_alternatives adds) && are_ascending tag_less (alternative_tags roots)
+      && are_distinct tag_same (alternative_tags roots ++ alternative_tags adds) && are_lawful_alternatives roots && are_lawful_alternatives adds
   is_lawful s = true
 
   -- Whether the types of all components are.

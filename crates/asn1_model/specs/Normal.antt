@@ -1,10 +1,10 @@
 -- The normal form of a value: what is equal to its default is absent (X.691 19.5 and X.696 16 in their canonical forms), and so is, by the
 -- project's choice, a group of additions that are all absent.
 use Rattle.std.specs.Prelude.{ℕ, zero, suc, Bool, true, false, ◌||◌, ◌&&◌, not}
-use Rattle.asn1_model.specs.Value.{Value, Values, no_more, member, members, bag, fields, chosen, Parts, absent, present, same, are_absent, map_members}
-use Rattle.asn1_model.specs.Schema.{
-    Presence, by_default, Schema, sequence_of, set_of, sequence, set, group, choice, Components, component, Alternatives, no_alternative, alternative,
-}
+use Rattle.asn1_model.specs.Value.{Value, Values, no_more, member, members, bag, fields, chosen, Parts, absent, present, same, are_absent}
+use Rattle.asn1_model.specs.Value.{map_members}
+use Rattle.asn1_model.specs.Schema.{Presence, by_default, Schema, sequence_of, set_of, sequence, set, group, choice, Components, component}
+use Rattle.asn1_model.specs.Schema.{Alternatives, no_alternative, alternative}
 
 -- A group none of whose components is there.
 abbrev pub is_empty_group : Schema → Value → Bool
@@ -36,7 +36,7 @@ unfoldable mutual
   -- Each part in its normal form, left out if it is then its default or an empty group.
   pub normal_parts : Components → Parts → Parts
   normal_parts (component t o s cs) (present v ps) =
-    kept (is_default_by (λ d. normal s d) o (normal s v) || is_empty_group s (normal s v)) (normal s v) (normal_parts cs ps)
+      kept (is_default_by (λ d. normal s d) o (normal s v) || is_empty_group s (normal s v)) (normal s v) (normal_parts cs ps)
   normal_parts (component t o s cs) (absent ps) = absent (normal_parts cs ps)
   normal_parts cs ps = ps
 

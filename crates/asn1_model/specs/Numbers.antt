@@ -1,8 +1,6 @@
 -- Numbers as digits, as octets of two's complement and as bits; and the order of whole numbers.
-use Rattle.std.specs.Prelude.{
-    ℕ, zero, suc, ◌+◌, ◌-◌, ◌*◌, ◌/◌, ◌%◌, ◌^◌, ◌==◌, leb, max, ℤ, pos, negsuc, ◌-ℤ◌, Bool, true, false, cond, ◌&&◌, List, [], ◌∷◌, map, flat_map,
-    Option, Some, None,
-}
+use Rattle.std.specs.Prelude.{ℕ, zero, suc, ◌+◌, ◌-◌, ◌*◌, ◌/◌, ◌%◌, ◌^◌, ◌==◌, leb, max, ℤ, pos, negsuc, ◌-ℤ◌, Bool, true, false, cond, ◌&&◌, List}
+use Rattle.std.specs.Prelude.{[], ◌∷◌, map, flat_map, Option, Some, None}
 use Rattle.asn1_model.specs.Schema.{Range, Counts}
 
 -- So many digits of a number to a base, the highest first.

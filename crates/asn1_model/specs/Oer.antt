@@ -1,23 +1,16 @@
 -- The octet encoding rules (X.696): the form of a value of a type, in octets.
-use Rattle.std.specs.Prelude.{
-    ℕ, zero, suc, ◌+◌, ◌*◌, ◌/◌, ◌^◌, ◌==◌, ltb, leb, not, max, ℤ, pos, negsuc, Bool, true, false, cond, ◌&&◌, ◌||◌, List, [], ◌∷◌, ◌++◌, length, map,
-    replicate, flat_map, Option, Some, None, option_map,
-}
-use Rattle.asn1_model.specs.Value.{
-    Value, truth, nothing, number, item, bit_list, octet_list, text, arcs, members, bag, fields, chosen, Parts, end, absent, present, each,
-}
-use Rattle.asn1_model.specs.Schema.{
-    Tag, Range, Bounds, Counts, Size, StringKind, bmp, Presence, Schema, boolean, null, integer, enumerated, bit_string, octet_string,
-    character_string, object_identifier, sequence_of, set_of, sequence, set, group, choice, Components, no_component, component, Alternatives,
-    no_alternative, alternative,
-}
+use Rattle.std.specs.Prelude.{ℕ, zero, suc, ◌+◌, ◌*◌, ◌/◌, ◌^◌, ◌==◌, ltb, leb, not, max, ℤ, pos, negsuc, Bool, true, false, cond, ◌&&◌, ◌||◌, List}
+use Rattle.std.specs.Prelude.{[], ◌∷◌, ◌++◌, length, map, replicate, flat_map, Option, Some, None, option_map}
+use Rattle.asn1_model.specs.Value.{Value, truth, nothing, number, item, bit_list, octet_list, text, arcs, members, bag, fields, chosen, Parts, end}
+use Rattle.asn1_model.specs.Value.{absent, present, each}
+use Rattle.asn1_model.specs.Schema.{Tag, Range, Bounds, Counts, Size, StringKind, bmp, Presence, Schema, boolean, null, integer, enumerated}
+use Rattle.asn1_model.specs.Schema.{bit_string, octet_string, character_string, object_identifier, sequence_of, set_of, sequence, set, group, choice}
+use Rattle.asn1_model.specs.Schema.{Components, no_component, component, Alternatives, no_alternative, alternative}
 pub use Rattle.asn1_model.specs.Numbers.{packed}
 use Rattle.asn1_model.specs.Numbers.{missing, digits, octet_width, least_octets, signed_octets, complement, is_within, is_count_within, fits_128}
 use Rattle.asn1_model.specs.Normal.{is_at_default, is_group_left_out}
-use Rattle.asn1_model.specs.Form.{
-    Form, exactly, refused, both, varied, within, written, nothing_more, only_if, given, joined, stands_before, ascending, in_order, Bitmap,
-    is_present, is_any_present, present_ones, covered_by, own_bitmap,
-}
+use Rattle.asn1_model.specs.Form.{Form, exactly, refused, both, varied, within, written, nothing_more, only_if, given, joined, stands_before}
+use Rattle.asn1_model.specs.Form.{ascending, in_order, Bitmap, is_present, is_any_present, present_ones, covered_by, own_bitmap}
 use Rattle.asn1_model.specs.Strings.{may_hold, identifier_octets, is_identifier, is_octet, each_is, groups_of_seven}
 use Rattle.asn1_model.specs.Tables.{is_bounded, item_place, is_required, marks}
 

@@ -1,28 +1,21 @@
 -- The packed encoding rules (X.691), aligned and not: the form of a value of a type, in bits. Where the aligned variant fills up to an octet
 -- is the project's own statement: before the fields that say so here, up to the next octet of the message or open type that holds them, and
 -- never before a field of no bits.
-use Rattle.std.specs.Prelude.{
-    ℕ, zero, suc, ◌-◌, ◌*◌, ◌/◌, ◌%◌, ◌^◌, ◌==◌, ltb, leb, not, ℤ, Bool, true, false, cond, ◌&&◌, ◌||◌, List, [], ◌∷◌, ◌++◌, length, take, drop, map,
-    replicate, flat_map, Option, Some, None, option_map, option_and_then,
-}
-use Rattle.asn1_model.specs.Value.{
-    Value, truth, nothing, number, item, bit_list, octet_list, text, arcs, members, bag, fields, chosen, Parts, end, absent, present, each,
-}
-use Rattle.asn1_model.specs.Schema.{
-    Range, Bounds, Counts, Size, Alphabet, StringKind, Presence, Schema, boolean, null, integer, enumerated, bit_string, octet_string,
-    character_string, object_identifier, sequence_of, set_of, sequence, set, group, choice, Components, no_component, component, Alternatives,
-    no_alternative, alternative,
-}
+use Rattle.std.specs.Prelude.{ℕ, zero, suc, ◌-◌, ◌*◌, ◌/◌, ◌%◌, ◌^◌, ◌==◌, ltb, leb, not, ℤ, Bool, true, false, cond, ◌&&◌, ◌||◌, List, [], ◌∷◌, ◌++◌}
+use Rattle.std.specs.Prelude.{length, take, drop, map, replicate, flat_map, Option, Some, None, option_map, option_and_then}
+use Rattle.asn1_model.specs.Value.{Value, truth, nothing, number, item, bit_list, octet_list, text, arcs, members, bag, fields, chosen, Parts, end}
+use Rattle.asn1_model.specs.Value.{absent, present, each}
+use Rattle.asn1_model.specs.Schema.{Range, Bounds, Counts, Size, Alphabet, StringKind, Presence, Schema, boolean, null, integer, enumerated}
+use Rattle.asn1_model.specs.Schema.{bit_string, octet_string, character_string, object_identifier, sequence_of, set_of, sequence, set, group, choice}
+use Rattle.asn1_model.specs.Schema.{Components, no_component, component, Alternatives, no_alternative, alternative}
 pub use Rattle.asn1_model.specs.Numbers.{missing, by_eights}
-use Rattle.asn1_model.specs.Numbers.{
-    digits, binary, width, octet_width, least_octets, signed_octets, complement, above, is_at_most, is_within, is_count_within, fits_128,
-}
+use Rattle.asn1_model.specs.Numbers.{digits, binary, width, octet_width, least_octets, signed_octets, complement, above, is_at_most, is_within}
+use Rattle.asn1_model.specs.Numbers.{is_count_within, fits_128}
 use Rattle.asn1_model.specs.Normal.{is_at_default, is_group_left_out}
-use Rattle.asn1_model.specs.Form.{
-    Form, exactly, refused, both, placed, varied, within, written, nothing_more, only_if, given, joined, stands_before, ascending, in_order, Bitmap,
-    is_present, is_any_present, present_ones, covered_by, own_bitmap,
-}
-use Rattle.asn1_model.specs.Strings.{Run, permitted, how_many, largest, place_of, may_hold, is_of_octets, identifier_octets, is_identifier, is_octet, each_is}
+use Rattle.asn1_model.specs.Form.{Form, exactly, refused, both, placed, varied, within, written, nothing_more, only_if, given, joined, stands_before}
+use Rattle.asn1_model.specs.Form.{ascending, in_order, Bitmap, is_present, is_any_present, present_ones, covered_by, own_bitmap}
+use Rattle.asn1_model.specs.Strings.{Run, permitted, how_many, largest, place_of, may_hold, is_of_octets, identifier_octets, is_identifier, is_octet}
+use Rattle.asn1_model.specs.Strings.{each_is}
 use Rattle.asn1_model.specs.Tables.{is_bounded, item_place, is_required, marks, alternative_count}
 
 -- What a reader may take besides the canonical form (the project's choice).
@@ -340,7 +333,7 @@ unfoldable mutual
   form al (set cs e adds) (fields ps qs) = given (addition_forms al adds qs) (sequence_form al e (marks cs ps) (component_forms al cs ps))
   form al (group cs) (fields ps end) = both (exactly (marks cs ps)) (component_forms al cs ps)
   form al (choice roots e adds) (chosen false i v) =
-    both (mark_of e false) (both (constrained al (alternative_count roots - 1) i) (alternative_form al roots i v))
+      both (mark_of e false) (both (constrained al (alternative_count roots - 1) i) (alternative_form al roots i v))
   form al (choice roots true adds) (chosen true i v) = both (exactly (true ∷ [])) (both (normally_small al i) (open_type al (alternative_form al adds i v)))
   form al s v = refused
 

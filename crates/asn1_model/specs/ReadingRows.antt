@@ -1,14 +1,14 @@
 -- Rows: octets that are an encoding of a value, many of which are not the canonical one, and octets that are none.
 use Rattle.std.specs.Prelude.{ℕ, ◌+◌, ◌^◌, pos, true, false, List, [], ◌∷◌, ◌++◌, replicate, Some}
 use Rattle.asn1_model.specs.Value.{Value, nothing, item, text, arcs, fields, chosen, end, absent, present}
-use Rattle.asn1_model.specs.Schema.{visible, ia5, numeric, utf8, Schema, boolean, null, integer, enumerated, object_identifier, sequence_of, no_alternative}
+use Rattle.asn1_model.specs.Schema.{visible, ia5, numeric, utf8, Schema, boolean, null, integer, enumerated, object_identifier, sequence_of}
+use Rattle.asn1_model.specs.Schema.{no_alternative}
 use Rattle.asn1_model.specs.Rules.{Rules, IsEncoding, uper, aper, uper_strict, aper_strict, oer, coer}
-use Rattle.asn1_model.specs.Types.{
-    minus, from_to, any_size, sizes, whole, between, small, bit_text, string, list, bag_of, context, or_tagged, one_of, yes, no, num, below, roots, bits_of,
-    set_bits, octet_number, marked_number, wide_number, from_zero, colour_old, colour_new, any_bits, any_octets, marked_octets, flagged, defaulted,
-    one_or_two, many_nulls, only_tagged, marked_choice, new_type, old_type, required_new, default_added, null_added, two_added, default_old, grouped,
-    yes_and, yes_with, yes_without, yes_alone, list_of, bag_with, null_list, octets, foo,
-}
+use Rattle.asn1_model.specs.Types.{minus, from_to, any_size, sizes, whole, between, small, bit_text, string, list, bag_of, context, or_tagged, one_of}
+use Rattle.asn1_model.specs.Types.{yes, no, num, below, roots, bits_of, set_bits, octet_number, marked_number, wide_number, from_zero, colour_old}
+use Rattle.asn1_model.specs.Types.{colour_new, any_bits, any_octets, marked_octets, flagged, defaulted, one_or_two, many_nulls, only_tagged}
+use Rattle.asn1_model.specs.Types.{marked_choice, new_type, old_type, required_new, default_added, null_added, two_added, default_old, grouped}
+use Rattle.asn1_model.specs.Types.{yes_and, yes_with, yes_without, yes_alone, list_of, bag_with, null_list, octets, foo}
 
 abbrev pub IsNoEncoding : Rules → Schema → Value → List ℕ → Type 0
 IsNoEncoding r s v w = IsEncoding r s v w → ⊥
@@ -118,9 +118,9 @@ RefusedRows =
     × IsNoEncoding oer (string utf8 any_size) (text (0xFF ∷ [])) (0x01 ∷ 0xFF ∷ [])
     × IsNoEncoding oer (string numeric (sizes 3 7)) (text (0x31 ∷ 0x32 ∷ [])) (0x02 ∷ 0x31 ∷ 0x32 ∷ [])
     × IsNoEncoding oer (sequence_of any_size (record { low = 2; high = Some 2 }) boolean) (list_of (yes ∷ yes ∷ yes ∷ []))
-        (0x01 ∷ 0x03 ∷ 0xFF ∷ 0xFF ∷ 0xFF ∷ [])
+    (0x01 ∷ 0x03 ∷ 0xFF ∷ 0xFF ∷ 0xFF ∷ [])
     × IsNoEncoding oer (integer (from_to (Some (pos 0)) (Some (pos 255)) true) (record { low = Some (pos 0); high = Some (pos 255) })) (num 300)
-        (0x02 ∷ 0x01 ∷ 0x2C ∷ [])
+    (0x02 ∷ 0x01 ∷ 0x2C ∷ [])
     × IsNoEncoding uper required_new yes_without (0x40 ∷ [])
     × IsNoEncoding oer required_new yes_without (0x00 ∷ 0xFF ∷ [])
     × IsNoEncoding uper colour_old (item (pos 1)) (0x80 ∷ [])

@@ -1,22 +1,20 @@
 -- Rows: the canonical octets of types and values, worked out by hand from the rules and computed here from the definitions.
-use Rattle.std.specs.Prelude.{◌≡◌, ℕ, zero, suc, ◌+◌, ◌-◌, ◌^◌, pos, true, false, List, [], ◌∷◌, ◌++◌, replicate, Some}
-use Rattle.asn1_model.specs.Value.{nothing, item, octet_list, text, arcs, members, bag, fields, chosen, end, absent, present, member, depth}
-use Rattle.asn1_model.specs.Schema.{
-    numeric, printable, visible, ia5, bmp, utf8, general, graphic, teletex, Schema, boolean, null, integer, enumerated, character_string, object_identifier,
-    sequence_of, choice, no_component, no_alternative,
-}
+use Rattle.std.specs.Prelude.{◌≡◌, ◌+◌, ◌-◌, ◌^◌, pos, true, false, [], ◌∷◌, ◌++◌, replicate, Some}
+use Rattle.asn1_model.specs.Value.{nothing, item, octet_list, text, arcs, members, fields, chosen, end, absent, present, member, depth}
+use Rattle.asn1_model.specs.Schema.{numeric, printable, visible, ia5, bmp, utf8, general, graphic, teletex, boolean, null, integer, enumerated}
+use Rattle.asn1_model.specs.Schema.{character_string, object_identifier, sequence_of, choice, no_component, no_alternative}
 use Rattle.asn1_model.specs.Rules.{uper, aper, uper_strict, oer, coer}
 use Rattle.asn1_model.specs.Per.{largest_first}
-use Rattle.asn1_model.specs.Types.{
-    Writes, WritesNothing, minus, from_to, any_number, any_count, any_size, sizes, sizes_or_more, letters, whole, between, at_least, small, bit_text,
-    octet_text, string, list, bag_of, context, needs, may_have, has_default, closed, open_behind, or_tagged, one_of, yes, no, num, below, roots,
-    set_bits, bits_of, signed_items, octet_number, marked_number, word_number, wide_number, from_zero, at_most_5, min_to_max, marked_min_to_max,
-    yes_or_no, colour_old, colour_new, numbers_from, any_bits, any_octets, marked_octets, visible_of, flagged, defaulted, chained, optional_numbers,
-    absent_parts, person, two_lists, one_or_two, many_nulls, two_booleans, three_numbers, only_tagged, marked_choice, choice_of_choice,
-    null_alternatives, set_of_three, set_with_choice, new_type, old_type, required_new, default_added, null_added, default_new, grouped,
-    default_grouped, dated, octets_and_null, listed, null_additions, nest, nest_added, nested, yes_and, yes_with, yes_without, yes_alone, list_of,
-    bag_with, copies, null_list, nulls, bits_14, octets, foo, john,
-}
+use Rattle.asn1_model.specs.Types.{Writes, WritesNothing, minus, from_to, any_count, any_size, sizes, sizes_or_more, letters, whole, between}
+use Rattle.asn1_model.specs.Types.{at_least, small, bit_text, octet_text, string, list, bag_of, context, needs, has_default, closed, open_behind}
+use Rattle.asn1_model.specs.Types.{or_tagged, one_of, yes, no, num, below, roots, set_bits, bits_of, signed_items, octet_number, marked_number}
+use Rattle.asn1_model.specs.Types.{word_number, wide_number, from_zero, at_most_5, min_to_max, marked_min_to_max, yes_or_no, colour_old, colour_new}
+use Rattle.asn1_model.specs.Types.{numbers_from, any_bits, any_octets, marked_octets, visible_of, flagged, defaulted, chained, optional_numbers}
+use Rattle.asn1_model.specs.Types.{absent_parts, person, two_lists, one_or_two, many_nulls, two_booleans, three_numbers, only_tagged, marked_choice}
+use Rattle.asn1_model.specs.Types.{choice_of_choice, null_alternatives, set_of_three, set_with_choice, new_type, old_type, required_new}
+use Rattle.asn1_model.specs.Types.{default_added, null_added, default_new, grouped, default_grouped, dated, octets_and_null, listed, null_additions}
+use Rattle.asn1_model.specs.Types.{nest, nest_added, nested, yes_and, yes_with, yes_without, yes_alone, list_of, bag_with, copies, null_list, bits_14}
+use Rattle.asn1_model.specs.Types.{octets, foo, john}
 
 abbrev pub NumberRows : Type 0
 NumberRows =
@@ -57,9 +55,9 @@ NumberRows =
     × Writes coer whole (num 32768) (0x03 ∷ 0x00 ∷ 0x80 ∷ 0x00 ∷ [])
     × Writes coer whole (below 32769) (0x03 ∷ 0xFF ∷ 0x7F ∷ 0xFF ∷ [])
     × Writes coer whole (num (2 ^ 127))
-        (0x11 ∷ 0x00 ∷ 0x80 ∷ 0x00 ∷ 0x00 ∷ 0x00 ∷ 0x00 ∷ 0x00 ∷ 0x00 ∷ 0x00 ∷ 0x00 ∷ 0x00 ∷ 0x00 ∷ 0x00 ∷ 0x00 ∷ 0x00 ∷ 0x00 ∷ 0x00 ∷ [])
+    (0x11 ∷ 0x00 ∷ 0x80 ∷ 0x00 ∷ 0x00 ∷ 0x00 ∷ 0x00 ∷ 0x00 ∷ 0x00 ∷ 0x00 ∷ 0x00 ∷ 0x00 ∷ 0x00 ∷ 0x00 ∷ 0x00 ∷ 0x00 ∷ 0x00 ∷ 0x00 ∷ [])
     × Writes coer whole (below (2 ^ 127 + 1))
-        (0x11 ∷ 0xFF ∷ 0x7F ∷ 0xFF ∷ 0xFF ∷ 0xFF ∷ 0xFF ∷ 0xFF ∷ 0xFF ∷ 0xFF ∷ 0xFF ∷ 0xFF ∷ 0xFF ∷ 0xFF ∷ 0xFF ∷ 0xFF ∷ 0xFF ∷ 0xFF ∷ [])
+    (0x11 ∷ 0xFF ∷ 0x7F ∷ 0xFF ∷ 0xFF ∷ 0xFF ∷ 0xFF ∷ 0xFF ∷ 0xFF ∷ 0xFF ∷ 0xFF ∷ 0xFF ∷ 0xFF ∷ 0xFF ∷ 0xFF ∷ 0xFF ∷ 0xFF ∷ 0xFF ∷ [])
     × Writes coer whole (num (256 ^ 127 - 1)) (0x81 ∷ 0x80 ∷ 0x00 ∷ replicate 127 0xFF)
     × Writes coer (between (pos 0) (pos 4294967295)) (num 65535) (0x00 ∷ 0x00 ∷ 0xFF ∷ 0xFF ∷ [])
     × Writes coer (between (pos 0) (pos (2 ^ 64 - 1))) (num 4294967295) (0x00 ∷ 0x00 ∷ 0x00 ∷ 0x00 ∷ 0xFF ∷ 0xFF ∷ 0xFF ∷ 0xFF ∷ [])
@@ -134,7 +132,7 @@ StringRows =
     × WritesNothing coer (octet_text (sizes 3 6)) (octets (replicate 7 1))
     × WritesNothing coer (octet_text (sizes 5 5)) (octets (1 ∷ 2 ∷ 3 ∷ 4 ∷ []))
     × Writes coer (string printable any_size) (text (0x20 ∷ 0x27 ∷ 0x28 ∷ 0x29 ∷ 0x2B ∷ 0x2C ∷ 0x2D ∷ 0x2E ∷ 0x2F ∷ 0x3A ∷ 0x3D ∷ 0x3F ∷ []))
-        (0x0C ∷ 0x20 ∷ 0x27 ∷ 0x28 ∷ 0x29 ∷ 0x2B ∷ 0x2C ∷ 0x2D ∷ 0x2E ∷ 0x2F ∷ 0x3A ∷ 0x3D ∷ 0x3F ∷ [])
+    (0x0C ∷ 0x20 ∷ 0x27 ∷ 0x28 ∷ 0x29 ∷ 0x2B ∷ 0x2C ∷ 0x2D ∷ 0x2E ∷ 0x2F ∷ 0x3A ∷ 0x3D ∷ 0x3F ∷ [])
     × Writes coer (string utf8 any_size) (text (replicate 128 0x32)) (0x81 ∷ 0x80 ∷ replicate 128 0x32)
     × Writes coer (string bmp (sizes 2 2)) (text (0x61 ∷ 0x62 ∷ [])) (0x00 ∷ 0x61 ∷ 0x00 ∷ 0x62 ∷ [])
     × WritesNothing coer (string ia5 any_size) (text (0x81 ∷ []))
@@ -181,21 +179,21 @@ StructureRows =
     × WritesNothing uper one_or_two (list_of [])
     × WritesNothing aper one_or_two (list_of [])
     × Writes coer chained (roots (present (num 1) (present (roots (present (num 2) (present (roots (present (num 3) (present (num 4) end))) end))) end)))
-        (0x01 ∷ 0x01 ∷ 0x80 ∷ 0x01 ∷ 0x02 ∷ 0x80 ∷ 0x01 ∷ 0x03 ∷ 0x01 ∷ 0x04 ∷ [])
+    (0x01 ∷ 0x01 ∷ 0x80 ∷ 0x01 ∷ 0x02 ∷ 0x80 ∷ 0x01 ∷ 0x03 ∷ 0x01 ∷ 0x04 ∷ [])
     × Writes coer (closed (needs 0 whole (optional_numbers 1 12)))
-        (roots (present (num 1) (present (num 1) (absent_parts 3 (present (num 1) (absent_parts 3 (present (num 1) (absent_parts 3 end))))))))
-        (0x88 ∷ 0x80 ∷ 0x01 ∷ 0x01 ∷ 0x01 ∷ 0x01 ∷ 0x01 ∷ 0x01 ∷ 0x01 ∷ 0x01 ∷ [])
+    (roots (present (num 1) (present (num 1) (absent_parts 3 (present (num 1) (absent_parts 3 (present (num 1) (absent_parts 3 end))))))))
+    (0x88 ∷ 0x80 ∷ 0x01 ∷ 0x01 ∷ 0x01 ∷ 0x01 ∷ 0x01 ∷ 0x01 ∷ 0x01 ∷ 0x01 ∷ [])
     × Writes coer person (roots (present (num 7) (present (text (0x4A ∷ 0x6F ∷ [])) end))) (0x01 ∷ 0x07 ∷ 0x02 ∷ 0x4A ∷ 0x6F ∷ [])
     × Writes uper person (roots (present (num 7) (present (text (0x4A ∷ 0x6F ∷ [])) end))) (0x01 ∷ 0x07 ∷ 0x02 ∷ 0x4A ∷ 0x6F ∷ [])
     × Writes aper person (roots (present (num 7) (present (text (0x4A ∷ 0x6F ∷ [])) end))) (0x01 ∷ 0x07 ∷ 0x02 ∷ 0x4A ∷ 0x6F ∷ [])
     × Writes uper two_lists
-        (roots (present yes (present (list_of (octets (1 ∷ 2 ∷ 3 ∷ []) ∷ octet_list (4 ∷ 5 ∷ 6 ∷ []) ∷ [])) (present (list_of (octets (7 ∷ 8 ∷ 9 ∷ []) ∷
-        [])) (present (num 0xAB) end)))))
-        (0x80 ∷ 0x81 ∷ 0x01 ∷ 0x82 ∷ 0x02 ∷ 0x83 ∷ 0x01 ∷ 0xC2 ∷ 0x02 ∷ 0x6A ∷ 0xC0 ∷ [])
+    (roots (present yes (present (list_of (octets (1 ∷ 2 ∷ 3 ∷ []) ∷ octet_list (4 ∷ 5 ∷ 6 ∷ []) ∷ [])) (present (list_of (octets (7 ∷ 8 ∷ 9 ∷ []) ∷
+    [])) (present (num 0xAB) end)))))
+    (0x80 ∷ 0x81 ∷ 0x01 ∷ 0x82 ∷ 0x02 ∷ 0x83 ∷ 0x01 ∷ 0xC2 ∷ 0x02 ∷ 0x6A ∷ 0xC0 ∷ [])
     × Writes aper two_lists
-        (roots (present yes (present (list_of (octets (1 ∷ 2 ∷ 3 ∷ []) ∷ octet_list (4 ∷ 5 ∷ 6 ∷ []) ∷ [])) (present (list_of (octets (7 ∷ 8 ∷ 9 ∷ []) ∷
-        [])) (present (num 0xAB) end)))))
-        (0x80 ∷ 0x01 ∷ 0x02 ∷ 0x03 ∷ 0x04 ∷ 0x05 ∷ 0x06 ∷ 0x00 ∷ 0x07 ∷ 0x08 ∷ 0x09 ∷ 0xAB ∷ [])
+    (roots (present yes (present (list_of (octets (1 ∷ 2 ∷ 3 ∷ []) ∷ octet_list (4 ∷ 5 ∷ 6 ∷ []) ∷ [])) (present (list_of (octets (7 ∷ 8 ∷ 9 ∷ []) ∷
+    [])) (present (num 0xAB) end)))))
+    (0x80 ∷ 0x01 ∷ 0x02 ∷ 0x03 ∷ 0x04 ∷ 0x05 ∷ 0x06 ∷ 0x00 ∷ 0x07 ∷ 0x08 ∷ 0x09 ∷ 0xAB ∷ [])
     × Writes coer (nest 128) (nested 127) (replicate 127 0x81 ++ 0x80 ∷ [])
     × Writes uper (nest 128) (nested 127) (replicate 15 0xFF ++ 0xFE ∷ [])
 
@@ -204,7 +202,7 @@ AdditionRows =
     Writes coer marked_choice (chosen true 0 (num 333)) (0x82 ∷ 0x03 ∷ 0x02 ∷ 0x01 ∷ 0x4D ∷ [])
     × Writes uper marked_choice (chosen true 0 (num 333)) (0x80 ∷ 0x03 ∷ 0x02 ∷ 0x01 ∷ 0x4D ∷ [])
     × Writes coer octets_and_null (fields (present (octets (0 ∷ 1 ∷ 2 ∷ [])) end) (present nothing end))
-        (0xC0 ∷ 0x03 ∷ 0x00 ∷ 0x01 ∷ 0x02 ∷ 0x02 ∷ 0x07 ∷ 0x80 ∷ 0x00 ∷ [])
+    (0xC0 ∷ 0x03 ∷ 0x00 ∷ 0x01 ∷ 0x02 ∷ 0x02 ∷ 0x07 ∷ 0x80 ∷ 0x00 ∷ [])
     × Writes coer new_type (yes_with (num 7)) (0x80 ∷ 0xFF ∷ 0x02 ∷ 0x07 ∷ 0x80 ∷ 0x01 ∷ 0x07 ∷ [])
     × Writes uper new_type (yes_with (num 7)) (0xC0 ∷ 0x40 ∷ 0x41 ∷ 0xC0 ∷ [])
     × Writes uper_strict new_type (yes_with (num 7)) (0xC0 ∷ 0x40 ∷ 0x41 ∷ 0xC0 ∷ [])
@@ -228,7 +226,7 @@ AdditionRows =
     × Writes coer choice_of_choice (chosen true 0 yes) (0x81 ∷ 0x01 ∷ 0xFF ∷ [])
     × Writes coer choice_of_choice (chosen false 1 (chosen false 0 (num 333))) (0x82 ∷ 0x80 ∷ 0x02 ∷ 0x01 ∷ 0x4D ∷ [])
     × Writes coer dated (fields (present (num 1) (present (octets (2 ∷ 3 ∷ 4 ∷ [])) (absent end))) (present (octets (5 ∷ 6 ∷ 7 ∷ [])) end))
-        (0xC0 ∷ 0x01 ∷ 0x01 ∷ 0x03 ∷ 0x02 ∷ 0x03 ∷ 0x04 ∷ 0x02 ∷ 0x07 ∷ 0x80 ∷ 0x04 ∷ 0x03 ∷ 0x05 ∷ 0x06 ∷ 0x07 ∷ [])
+    (0xC0 ∷ 0x01 ∷ 0x01 ∷ 0x03 ∷ 0x02 ∷ 0x03 ∷ 0x04 ∷ 0x02 ∷ 0x07 ∷ 0x80 ∷ 0x04 ∷ 0x03 ∷ 0x05 ∷ 0x06 ∷ 0x07 ∷ [])
     × Writes coer listed (fields (present (list_of (yes ∷ yes ∷ yes ∷ [])) end) end) (0x00 ∷ 0x01 ∷ 0x03 ∷ 0xFF ∷ 0xFF ∷ 0xFF ∷ [])
     × WritesNothing uper listed (fields (present (list_of (yes ∷ yes ∷ yes ∷ [])) end) end)
     × Writes coer nest_added (yes_with (nested 127)) (0x80 ∷ 0xFF ∷ 0x02 ∷ 0x07 ∷ 0x80 ∷ 0x81 ∷ 0x80 ∷ replicate 127 0x81 ++ 0x80 ∷ [])
@@ -457,7 +455,7 @@ SizeRows =
     × Writes uper (flagged (octet_text (sizes 0 65536))) (yes_and (octets (1 ∷ []))) (0x80 ∷ 0x80 ∷ 0x80 ∷ [])
     × Writes aper (flagged (octet_text (sizes 0 65536))) (yes_and (octets (1 ∷ []))) (0x80 ∷ 0x01 ∷ 0x01 ∷ [])
     × Writes uper (flagged (octet_text (sizes 5 65535))) (yes_and (octets (1 ∷ 2 ∷ 3 ∷ 4 ∷ 5 ∷ [])))
-        (0x80 ∷ 0x00 ∷ 0x00 ∷ 0x81 ∷ 0x01 ∷ 0x82 ∷ 0x02 ∷ 0x80 ∷ [])
+    (0x80 ∷ 0x00 ∷ 0x00 ∷ 0x81 ∷ 0x01 ∷ 0x82 ∷ 0x02 ∷ 0x80 ∷ [])
     × Writes uper (flagged (octet_text (sizes 5 65536))) (yes_and (octets (1 ∷ 2 ∷ 3 ∷ 4 ∷ 5 ∷ []))) (0x82 ∷ 0x80 ∷ 0x81 ∷ 0x01 ∷ 0x82 ∷ 0x02 ∷ 0x80 ∷ [])
     × Writes aper (flagged (list (sizes 0 254) null)) (yes_and (null_list 3)) (0x81 ∷ 0x80 ∷ [])
     × Writes aper (flagged (list (sizes 0 255) null)) (yes_and (null_list 3)) (0x80 ∷ 0x03 ∷ [])
@@ -521,7 +519,7 @@ CharacterRows =
     × Writes uper (flagged (string numeric (sizes_or_more 1 1))) (yes_and (text (0x31 ∷ 0x32 ∷ []))) (0xC0 ∷ 0x88 ∷ 0xC0 ∷ [])
     -- an alphabet with a mark counts for nothing, and one in OER neither
     × Writes uper (character_string visible any_size (record { characters = Some (0x30 ∷ 0x31 ∷ []); extensible = true }) any_count) (text (0x32 ∷ []))
-        (0x01 ∷ 0x64 ∷ [])
+    (0x01 ∷ 0x64 ∷ [])
     -- an alphabet that goes past the type's own: the characters that both have, here one
     × Writes uper (character_string numeric any_size (letters (0x30 ∷ 0x61 ∷ [])) any_count) (text (0x30 ∷ [])) (0x01 ∷ [])
     × Writes aper (character_string numeric any_size (letters (0x30 ∷ 0x61 ∷ [])) any_count) (text (0x30 ∷ [])) (0x01 ∷ [])
@@ -601,30 +599,30 @@ OpenRows =
     × Writes coer null_added (yes_with nothing) (0x80 ∷ 0xFF ∷ 0x02 ∷ 0x07 ∷ 0x80 ∷ 0x00 ∷ [])
     -- a bitmap of 64 bits and of 65, the last one set
     × Writes uper (open_behind no_component (null_additions 0 64)) (fields end (absent_parts 63 (present nothing end)))
-        (0xBF ∷ replicate 7 0x00 ++ 0x01 ∷ 0x01 ∷ 0x00 ∷ [])
+    (0xBF ∷ replicate 7 0x00 ++ 0x01 ∷ 0x01 ∷ 0x00 ∷ [])
     × Writes aper (open_behind no_component (null_additions 0 64)) (fields end (absent_parts 63 (present nothing end)))
-        (0xBF ∷ replicate 7 0x00 ++ 0x01 ∷ 0x01 ∷ 0x00 ∷ [])
+    (0xBF ∷ replicate 7 0x00 ++ 0x01 ∷ 0x01 ∷ 0x00 ∷ [])
     × Writes coer (open_behind no_component (null_additions 0 64)) (fields end (absent_parts 63 (present nothing end)))
-        (0x80 ∷ 0x09 ∷ 0x00 ∷ replicate 7 0x00 ++ 0x01 ∷ 0x00 ∷ [])
+    (0x80 ∷ 0x09 ∷ 0x00 ∷ replicate 7 0x00 ++ 0x01 ∷ 0x00 ∷ [])
     × Writes uper (open_behind no_component (null_additions 0 65)) (fields end (absent_parts 64 (present nothing end)))
-        (0xD0 ∷ 0x40 ∷ replicate 7 0x00 ++ 0x20 ∷ 0x20 ∷ 0x00 ∷ [])
+    (0xD0 ∷ 0x40 ∷ replicate 7 0x00 ++ 0x20 ∷ 0x20 ∷ 0x00 ∷ [])
     × Writes aper (open_behind no_component (null_additions 0 65)) (fields end (absent_parts 64 (present nothing end)))
-        (0xC0 ∷ 0x41 ∷ replicate 8 0x00 ++ 0x80 ∷ 0x01 ∷ 0x00 ∷ [])
+    (0xC0 ∷ 0x41 ∷ replicate 8 0x00 ++ 0x80 ∷ 0x01 ∷ 0x00 ∷ [])
     × Writes coer (open_behind no_component (null_additions 0 65)) (fields end (absent_parts 64 (present nothing end)))
-        (0x80 ∷ 0x0A ∷ 0x07 ∷ replicate 8 0x00 ++ 0x80 ∷ 0x00 ∷ [])
+    (0x80 ∷ 0x0A ∷ 0x07 ∷ replicate 8 0x00 ++ 0x80 ∷ 0x00 ∷ [])
     × Writes coer (open_behind no_component (null_additions 0 1008)) (fields end (absent_parts 1007 (present nothing end)))
-        (0x80 ∷ 0x7F ∷ 0x00 ∷ replicate 125 0x00 ++ 0x01 ∷ 0x00 ∷ [])
+    (0x80 ∷ 0x7F ∷ 0x00 ∷ replicate 125 0x00 ++ 0x01 ∷ 0x00 ∷ [])
     × Writes coer (open_behind no_component (null_additions 0 1009)) (fields end (absent_parts 1008 (present nothing end)))
-        (0x80 ∷ 0x81 ∷ 0x80 ∷ 0x07 ∷ replicate 126 0x00 ++ 0x80 ∷ 0x00 ∷ [])
+    (0x80 ∷ 0x81 ∷ 0x80 ∷ 0x07 ∷ replicate 126 0x00 ++ 0x80 ∷ 0x00 ∷ [])
     -- a preamble of eight bits and of nine
     × Writes coer (open_behind (optional_numbers 0 7) no_component) (fields (absent_parts 6 (present (num 1) end)) end) (0x01 ∷ 0x01 ∷ 0x01 ∷ [])
     × Writes coer (open_behind (optional_numbers 0 8) no_component) (fields (absent_parts 7 (present (num 1) end)) end) (0x00 ∷ 0x80 ∷ 0x01 ∷ 0x01 ∷ [])
     × Writes uper (open_behind (optional_numbers 0 7) no_component) (fields (absent_parts 6 (present (num 1) end)) end) (0x01 ∷ 0x01 ∷ 0x01 ∷ [])
     -- positions begin anew in an open type
     × Writes aper (open_behind (needs 0 boolean no_component) (needs 1 (flagged octet_number) no_component)) (yes_with (yes_and (num 9)))
-        (0xC0 ∷ 0x40 ∷ 0x02 ∷ 0x80 ∷ 0x09 ∷ [])
+    (0xC0 ∷ 0x40 ∷ 0x02 ∷ 0x80 ∷ 0x09 ∷ [])
     × Writes uper (open_behind (needs 0 boolean no_component) (needs 1 (flagged octet_number) no_component)) (yes_with (yes_and (num 9)))
-        (0xC0 ∷ 0x40 ∷ 0xA1 ∷ 0x20 ∷ 0x00 ∷ [])
+    (0xC0 ∷ 0x40 ∷ 0xA1 ∷ 0x20 ∷ 0x00 ∷ [])
     -- required parts that are not there
     × WritesNothing uper (flagged boolean) (roots (present yes (absent end)))
     × WritesNothing coer (flagged boolean) (roots (present yes (absent end)))
@@ -634,18 +632,18 @@ OpenRows =
     × Writes uper (bag_of boolean) (bag_with (yes ∷ no ∷ [])) (0x02 ∷ 0x40 ∷ [])
     × Writes aper (bag_of (octet_text (sizes 0 2))) (bag_with (octets (1 ∷ 2 ∷ []) ∷ octets (3 ∷ []) ∷ [])) (0x02 ∷ 0x40 ∷ 0x03 ∷ 0x80 ∷ 0x01 ∷ 0x02 ∷ [])
     × Writes coer (bag_of (octet_text (sizes 0 2))) (bag_with (octets (1 ∷ 2 ∷ []) ∷ octets (3 ∷ []) ∷ []))
-        (0x01 ∷ 0x02 ∷ 0x01 ∷ 0x03 ∷ 0x02 ∷ 0x01 ∷ 0x02 ∷ [])
+    (0x01 ∷ 0x02 ∷ 0x01 ∷ 0x03 ∷ 0x02 ∷ 0x01 ∷ 0x02 ∷ [])
     × Writes uper (bag_of null) (bag_with []) (0x00 ∷ [])
     × Writes coer (bag_of null) (bag_with []) (0x01 ∷ 0x00 ∷ [])
     × Writes coer (bag_of (bag_of octet_number)) (bag_with (bag_with (num 2 ∷ num 1 ∷ []) ∷ bag_with (num 9 ∷ []) ∷ []))
-        (0x01 ∷ 0x02 ∷ 0x01 ∷ 0x01 ∷ 0x09 ∷ 0x01 ∷ 0x02 ∷ 0x01 ∷ 0x02 ∷ [])
+    (0x01 ∷ 0x02 ∷ 0x01 ∷ 0x01 ∷ 0x09 ∷ 0x01 ∷ 0x02 ∷ 0x01 ∷ 0x02 ∷ [])
     -- a default that is a bag is equal in any order
     × Writes uper (closed (has_default 0 (bag_of octet_number) (bag_with (num 1 ∷ num 2 ∷ [])) no_component))
-        (roots (present (bag_with (num 2 ∷ num 1 ∷ [])) end))
-        (0x00 ∷ [])
+    (roots (present (bag_with (num 2 ∷ num 1 ∷ [])) end))
+    (0x00 ∷ [])
     × Writes uper (closed (has_default 0 (list any_size octet_number) (list_of (num 1 ∷ num 2 ∷ [])) no_component))
-        (roots (present (list_of (num 2 ∷ num 1 ∷ [])) end))
-        (0x81 ∷ 0x01 ∷ 0x00 ∷ 0x80 ∷ [])
+    (roots (present (list_of (num 2 ∷ num 1 ∷ [])) end))
+    (0x81 ∷ 0x01 ∷ 0x00 ∷ 0x80 ∷ [])
     -- 129 levels are written, and are too many to be read
     × Writes coer (nest 129) (nested 128) (replicate 128 0x81 ++ 0x80 ∷ [])
     × (depth (nested 127) ≡ 128)
@@ -694,11 +692,11 @@ WholeSizeRows =
     × Writes aper (list (sizes 65536 65536) null) (null_list 65536) (0xC4 ∷ 0x00 ∷ [])
     -- elements that end between octets: the length behind the first fragment stands at an octet in the aligned variant
     × Writes uper (list any_size (one_of (or_tagged 0 null (or_tagged 1 boolean no_alternative))))
-        (members (member (chosen false 1 yes) (copies 16384 (chosen false 0 nothing))))
-        (0xC1 ∷ 0xC0 ∷ replicate 2048 0x00 ++ 0x80 ∷ [])
+    (members (member (chosen false 1 yes) (copies 16384 (chosen false 0 nothing))))
+    (0xC1 ∷ 0xC0 ∷ replicate 2048 0x00 ++ 0x80 ∷ [])
     × Writes aper (list any_size (one_of (or_tagged 0 null (or_tagged 1 boolean no_alternative))))
-        (members (member (chosen false 1 yes) (copies 16384 (chosen false 0 nothing))))
-        (0xC1 ∷ 0xC0 ∷ replicate 2048 0x00 ++ 0x01 ∷ 0x00 ∷ [])
+    (members (member (chosen false 1 yes) (copies 16384 (chosen false 0 nothing))))
+    (0xC1 ∷ 0xC0 ∷ replicate 2048 0x00 ++ 0x01 ∷ 0x00 ∷ [])
 
 -- long texts
 abbrev pub LongRows : Type 0

@@ -1,8 +1,6 @@
 -- Character strings and object identifiers: what may stand in them, and the octets of an identifier.
-use Rattle.std.specs.Prelude.{
-    ℕ, ◌+◌, ◌-◌, ◌*◌, ◌^◌, ◌==◌, ltb, leb, max, Bool, true, false, cond, ◌&&◌, ◌||◌, List, [], ◌∷◌, ◌++◌, filter, map, flat_map, Option, Some, None,
-    option_map,
-}
+use Rattle.std.specs.Prelude.{ℕ, ◌+◌, ◌-◌, ◌*◌, ◌^◌, ◌==◌, ltb, leb, max, Bool, true, false, cond, ◌&&◌, ◌||◌, List, [], ◌∷◌, ◌++◌, filter, map}
+use Rattle.std.specs.Prelude.{flat_map, Option, Some, None, option_map}
 use Rattle.asn1_model.specs.Schema.{Alphabet, StringKind, numeric, printable, visible, ia5, bmp, general, graphic, teletex, utf8}
 use Rattle.asn1_model.specs.Numbers.{digits, places}
 

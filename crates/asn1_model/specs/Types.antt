@@ -1,13 +1,10 @@
 -- Types and values for rows, and short ways to write them.
 use Rattle.std.specs.Prelude.{◌≡◌, ℕ, zero, suc, ◌+◌, ◌-◌, ◌^◌, ℤ, pos, negsuc, Bool, true, false, List, [], ◌∷◌, map, replicate, Option, Some, None}
-use Rattle.asn1_model.specs.Value.{
-    Value, truth, nothing, number, bit_list, octet_list, text, members, bag, fields, chosen, Values, no_more, member, values_of, Parts, end, absent, present,
-}
-use Rattle.asn1_model.specs.Schema.{
-    Tag, Range, Bounds, Counts, Size, Alphabet, StringKind, visible, utf8, required, optional, by_default, Schema, cut, boolean, null, integer, enumerated,
-    bit_string, octet_string, character_string, sequence_of, set_of, sequence, set, group, choice, Components, no_component, component, Alternatives,
-    no_alternative, alternative,
-}
+use Rattle.asn1_model.specs.Value.{Value, truth, nothing, number, bit_list, octet_list, text, members, bag, fields, chosen, Values, no_more, member}
+use Rattle.asn1_model.specs.Value.{values_of, Parts, end, absent, present}
+use Rattle.asn1_model.specs.Schema.{Tag, Range, Bounds, Counts, Size, Alphabet, StringKind, visible, utf8, required, optional, by_default, Schema}
+use Rattle.asn1_model.specs.Schema.{cut, boolean, null, integer, enumerated, bit_string, octet_string, character_string, sequence_of, set_of}
+use Rattle.asn1_model.specs.Schema.{sequence, set, group, choice, Components, no_component, component, Alternatives, no_alternative, alternative}
 use Rattle.asn1_model.specs.Rules.{Rules, canonical}
 
 -- what a row says: the canonical octets, or that there are none

@@ -1,11 +1,9 @@
 -- Two versions of a type: the newer has further additions, alternatives and items behind its marks, and is as the older one else (X.680 52).
 use Rattle.std.specs.Prelude.{◌≡◌, ℕ, zero, suc, Bool, true, false, cond, ◌||◌, List, ◌++◌, Option, Some, None, option_map, option_and_then}
 use Rattle.asn1_model.specs.Value.{Value, item, members, bag, fields, chosen, Values, no_more, member, Parts, end, absent, present, depth}
-use Rattle.asn1_model.specs.Schema.{
-    Presence, required, optional, by_default, Schema, cut, boolean, null, integer, enumerated, bit_string, octet_string, character_string,
-    object_identifier, sequence_of, set_of, sequence, set, group, choice, Components, no_component, component, Alternatives, no_alternative,
-    alternative,
-}
+use Rattle.asn1_model.specs.Schema.{Presence, required, optional, by_default, Schema, cut, boolean, null, integer, enumerated, bit_string}
+use Rattle.asn1_model.specs.Schema.{octet_string, character_string, object_identifier, sequence_of, set_of, sequence, set, group, choice, Components}
+use Rattle.asn1_model.specs.Schema.{no_component, component, Alternatives, no_alternative, alternative}
 use Rattle.asn1_model.specs.Normal.{normal, is_normal}
 use Rattle.asn1_model.specs.Form.{is_present}
 use Rattle.asn1_model.specs.Tables.{item_place}
@@ -44,7 +42,7 @@ unfoldable mutual
   -- The same of parts.
   pub grow_parts : Components → Components → Parts → Option Parts
   grow_parts (component t o s cs) (component t' o' s' cs') (present v ps) =
-    option_and_then (λ w. option_map (λ qs. present w qs) (grow_parts cs cs' ps)) (grow s s' v)
+      option_and_then (λ w. option_map (λ qs. present w qs) (grow_parts cs cs' ps)) (grow s s' v)
   grow_parts (component t o s cs) (component t' o' s' cs') (absent ps) = option_map absent (grow_parts cs cs' ps)
   grow_parts no_component cs' end = all_absent cs'
   grow_parts cs cs' ps = None
@@ -63,7 +61,7 @@ unfoldable mutual
   -- elsewhere.
   pub lessen : Schema → Schema → Value → Option Value
   lessen (enumerated roots e adds) (enumerated roots' e' adds') (item v) =
-    cond (is_present (item_place v roots) || is_present (item_place v adds)) (Some (item v)) None
+      cond (is_present (item_place v roots) || is_present (item_place v adds)) (Some (item v)) None
   lessen (sequence_of z h s) (sequence_of z' h' s') (members vs) = option_map members (map_each (λ v. lessen s s' v) vs)
   lessen (set_of z h s) (set_of z' h' s') (bag vs) = option_map bag (map_each (λ v. lessen s s' v) vs)
   lessen (sequence cs e adds) (sequence cs' e' adds') (fields ps qs) = both_parts (lessen_parts cs cs' ps) (lessen_parts adds adds' qs)
@@ -76,7 +74,7 @@ unfoldable mutual
   -- The same of parts.
   pub lessen_parts : Components → Components → Parts → Option Parts
   lessen_parts (component t o s cs) (component t' o' s' cs') (present v ps) =
-    option_and_then (λ w. option_map (λ qs. present w qs) (lessen_parts cs cs' ps)) (lessen s s' v)
+      option_and_then (λ w. option_map (λ qs. present w qs) (lessen_parts cs cs' ps)) (lessen s s' v)
   lessen_parts (component t o s cs) (component t' o' s' cs') (absent ps) = option_map absent (lessen_parts cs cs' ps)
   lessen_parts no_component cs' ps = Some end
   lessen_parts cs cs' ps = None

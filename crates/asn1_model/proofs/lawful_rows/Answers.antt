@@ -4,7 +4,4 @@ use Rattle.asn1_model.proofs.lawful_rows.Goals as goal
 
 pub returns : goal.returns
 unfolding is_lawful are_lawful are_lawful_alternatives
-returns c = (
-    refl, refl, refl, refl, refl, refl, refl, refl, refl, refl, refl, refl, refl, refl, refl, refl, refl, refl, refl, refl,
-    refl, refl, refl, refl, refl, refl, refl, refl, refl, refl, refl, refl, refl, refl,
-)
+returns c = (refl, refl, refl, refl, refl, refl, refl, refl, refl, refl, refl, refl, refl, refl, refl, refl, refl, refl, refl, refl, refl, refl, refl, refl, refl, refl, refl, refl, refl, refl, refl, refl, refl, refl)

@@ -1,7 +1,8 @@
 use Rattle.std.specs.Prelude.{◌≡◌, true, false, pos, [], Some}
 use Rattle.std.proofs.Common.{refl, ap}
 use Rattle.asn1_model.specs.Schema.{Bounds}
-use Rattle.asn1_model.specs.Versions.{lessen, lessen_parts, lessen_alternative, grow, grow_parts, grow_alternative, Extends, ExtendsEach, ExtendsAlternatives}
+use Rattle.asn1_model.specs.Versions.{lessen, lessen_parts, lessen_alternative, grow, grow_parts, grow_alternative, Extends, ExtendsEach}
+use Rattle.asn1_model.specs.Versions.{ExtendsAlternatives}
 use Rattle.asn1_model.proofs.OnValues.{on_values}
 use Rattle.asn1_model.proofs.version_rows.Goals as goal
 
@@ -12,10 +13,21 @@ returns c = (
   ((([], refl), refl, ((([], refl), tt, tt, tt), refl, tt), tt), refl, tt),
   ((([], refl), tt, tt, tt), refl, tt),
   (refl, refl, (_, refl)),
-  refl, refl,
+  refl,
+  refl,
   (_, refl, refl),
-  refl, refl, refl, refl, refl, refl, refl,
-  refl, refl, refl, refl, refl,
+  refl,
+  refl,
+  refl,
+  refl,
+  refl,
+  refl,
+  refl,
+  refl,
+  refl,
+  refl,
+  refl,
+  refl,
   (_, refl, refl),
   refl,
   (λ e. absurd e.0),
