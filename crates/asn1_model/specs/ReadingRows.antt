@@ -1,9 +1,11 @@
 -- Rows: octets that are an encoding of a value, many of which are not the canonical one, and octets that are none.
-use Rattle.std.specs.Prelude.{ℕ, ◌+◌, ◌^◌, pos, true, false, List, [], ◌∷◌, ◌++◌, replicate, Some}
+use Rattle.std.specs.Prelude.{◌≡◌, ℕ, ◌+◌, ◌^◌, pos, true, false, List, [], ◌∷◌, ◌++◌, map, replicate, Some}
 use Rattle.asn1_model.specs.Value.{Value, nothing, item, text, arcs, fields, chosen, end, absent, present}
 use Rattle.asn1_model.specs.Schema.{visible, ia5, numeric, utf8, Schema, boolean, null, integer, enumerated, object_identifier, sequence_of}
 use Rattle.asn1_model.specs.Schema.{no_alternative}
-use Rattle.asn1_model.specs.Rules.{Rules, IsEncoding, uper, aper, uper_strict, aper_strict, oer, coer}
+use Rattle.asn1_model.specs.Per
+use Rattle.asn1_model.specs.Oer
+use Rattle.asn1_model.specs.Rules.{Rules, strict_per, strict_oer, IsEncoding, uper, aper, uper_strict, aper_strict, oer, coer}
 use Rattle.asn1_model.specs.Types.{minus, from_to, any_size, sizes, whole, between, small, bit_text, string, list, bag_of, context, or_tagged, one_of}
 use Rattle.asn1_model.specs.Types.{yes, no, num, below, roots, bits_of, set_bits, octet_number, marked_number, wide_number, from_zero, colour_old}
 use Rattle.asn1_model.specs.Types.{colour_new, any_bits, any_octets, marked_octets, flagged, defaulted, one_or_two, many_nulls, only_tagged}
@@ -136,3 +138,13 @@ RefusedRows =
     × IsNoEncoding uper_strict defaulted (roots (present (num 0) (absent end))) (0x80 ∷ 0x40 ∷ 0x00 ∷ [])
     × IsNoEncoding uper_strict colour_new (item (pos 1)) (0xC0 ∷ 0x40 ∷ 0x00 ∷ [])
     × IsNoEncoding uper_strict many_nulls (null_list 32768) (0xC1 ∷ 0xC1 ∷ 0x00 ∷ [])
+
+-- which freedoms the strict readers have: of thirteen in OER three, of twelve in PER two
+abbrev pub FreedomRows : Type 0
+FreedomRows =
+    (map strict_oer (Oer.longer_length ∷ Oer.longer_number ∷ Oer.any_truth ∷ Oer.longer_item ∷ Oer.empty_bit_string ∷ []) ≡ replicate 5 false)
+    × (map strict_oer (Oer.any_filling ∷ Oer.long_tag ∷ Oer.default_spelled_out ∷ Oer.empty_group ∷ Oer.octets_behind ∷ []) ≡ replicate 5 false)
+    × (map strict_oer (Oer.other_bitmap ∷ Oer.empty_bitmap ∷ Oer.other_order ∷ []) ≡ replicate 3 true)
+    × (map strict_per (Per.any_filling ∷ Per.longer_length ∷ Per.other_fragments ∷ Per.longer_number ∷ Per.root_marked_outside ∷ []) ≡ replicate 5 false)
+    × (map strict_per (Per.long_small_number ∷ Per.default_spelled_out ∷ Per.empty_group ∷ Per.empty_bitmap ∷ Per.octets_behind ∷ []) ≡ replicate 5 false)
+    × (map strict_per (Per.other_bitmap ∷ Per.other_order ∷ []) ≡ replicate 2 true)
