@@ -1,8 +1,9 @@
 -- Rows: octets that are an encoding of a value, many of which are not the canonical one, and octets that are none.
-use Rattle.std.specs.Prelude.{◌≡◌, ℕ, ◌+◌, ◌^◌, pos, true, false, List, [], ◌∷◌, ◌++◌, map, replicate, Some}
+use Rattle.std.specs.Prelude.{◌≡◌, ℕ, ◌+◌, ◌^◌, pos, true, false, List, [], ◌∷◌, ◌++◌, map, replicate, Some, None}
 use Rattle.asn1_model.specs.Value.{Value, nothing, item, text, arcs, fields, chosen, end, absent, present}
 use Rattle.asn1_model.specs.Schema.{visible, ia5, numeric, utf8, Schema, boolean, null, integer, enumerated, object_identifier, sequence_of}
 use Rattle.asn1_model.specs.Schema.{no_alternative}
+use Rattle.asn1_model.specs.Form.{written, nothing_more, covered_by, arranged}
 use Rattle.asn1_model.specs.Per
 use Rattle.asn1_model.specs.Oer
 use Rattle.asn1_model.specs.Rules.{Rules, strict_per, strict_oer, IsEncoding, uper, aper, uper_strict, aper_strict, oer, coer}
@@ -148,3 +149,36 @@ FreedomRows =
     × (map strict_per (Per.any_filling ∷ Per.longer_length ∷ Per.other_fragments ∷ Per.longer_number ∷ Per.root_marked_outside ∷ []) ≡ replicate 5 false)
     × (map strict_per (Per.long_small_number ∷ Per.default_spelled_out ∷ Per.empty_group ∷ Per.empty_bitmap ∷ Per.octets_behind ∷ []) ≡ replicate 5 false)
     × (map strict_per (Per.other_bitmap ∷ Per.other_order ∷ []) ≡ replicate 2 true)
+
+-- details that no freedom brings: there is no such text
+abbrev pub FormRows : Type 0
+FormRows =
+    -- a PER fragment of 0 units, of 5 times 16384, and of more than there are
+    (written (Per.fragments false (0 ∷ []) []) 0 ≡ None)
+    × (written (Per.fragments false (5 ∷ []) (replicate 81920 nothing_more)) 0 ≡ None)
+    × (written (Per.fragments false (1 ∷ []) (replicate 16383 nothing_more)) 0 ≡ None)
+    -- a number of the aligned variant in no octets, and in more than its range has
+    × (written (Per.in_octets_of true 1234311 0 0) 0 ≡ None)
+    × (written (Per.in_octets_of true 1234311 0 4) 0 ≡ None)
+    × (written (Per.in_octets_of true 1234311 256 1) 0 ≡ None)
+    -- a number or a size marked as inside the root that is not
+    × (written (Per.marked true false nothing_more nothing_more) 0 ≡ Some (true ∷ []))
+    × (written (Per.marked false false nothing_more nothing_more) 0 ≡ None)
+    -- an OER length in no octets, in 128, and in fewer than it needs; one past 64 bits
+    × (written (Oer.long_length 5 0) 0 ≡ None)
+    × (written (Oer.long_length 5 128) 0 ≡ None)
+    × (written (Oer.long_length 256 1) 0 ≡ None)
+    × (written (Oer.length_form (2 ^ 64)) 0 ≡ None)
+    -- an item of no octets, of fewer than it needs, and a negative one in one octet; a long tag of number 0
+    × (written (Oer.long_item 0 (pos 5)) 0 ≡ None)
+    × (written (Oer.long_item 1 (pos 128)) 0 ≡ None)
+    × (written (Oer.short_item (minus 1)) 0 ≡ None)
+    × (written (Oer.long_tag_octets (context 0)) 0 ≡ None)
+    -- a bitmap too narrow for what is there, and unknown additions before ones that the type has
+    × (covered_by (λ os. os) (record { covered = 0; further = [] }) (Some [] ∷ []) ≡ None)
+    × (covered_by (λ os. os) (record { covered = 0; further = None ∷ [] }) (None ∷ []) ≡ None)
+    × (covered_by (λ os. os) (record { covered = 1; further = None ∷ [] }) (None ∷ []) ≡ Some (None ∷ None ∷ []))
+    -- an order that names a place past those that are left, and one that leaves a member out
+    × (arranged {X = ℕ} (0 ∷ 1 ∷ []) (7 ∷ 8 ∷ []) ≡ None)
+    × (arranged {X = ℕ} (0 ∷ []) (7 ∷ 8 ∷ []) ≡ None)
+    × (arranged {X = ℕ} (1 ∷ 0 ∷ []) (7 ∷ 8 ∷ []) ≡ Some (8 ∷ 7 ∷ []))

@@ -4,7 +4,7 @@
 //! encodings that the definitions are computed to give.
 #![tactic(auto)]
 
-ghost use Rattle.asn1_model.specs.ReadingRows.{FreedomRows, ReadingRows, RefusedRows};
+ghost use Rattle.asn1_model.specs.ReadingRows.{FormRows, FreedomRows, ReadingRows, RefusedRows};
 ghost use Rattle.asn1_model.specs.Rows.{NumberRows, StringRows, StructureRows, AdditionRows, LongRows};
 ghost use Rattle.asn1_model.specs.Rows.{RangeRows, TableRows, SizeRows, CharacterRows, OpenRows, LengthRows, FragmentRows, WholeSizeRows};
 ghost use Rattle.asn1_model.specs.VersionRows.{LawfulRows, VersionRows};
@@ -67,6 +67,10 @@ pub fn reading_rows()
 
 pub fn refused_rows()
     ensures { RefusedRows }
+{}
+
+pub fn form_rows()
+    ensures { FormRows }
 {}
 
 pub fn freedom_rows()
