@@ -1,12 +1,12 @@
 -- Rows: octets that are an encoding of a value, many of which are not the canonical one, and octets that are none.
-use Rattle.std.specs.Prelude.{◌≡◌, ℕ, ◌+◌, ◌^◌, pos, true, false, List, [], ◌∷◌, ◌++◌, map, replicate, Some, None}
+use Rattle.std.specs.Prelude.{◌≡◌, ℕ, ◌+◌, ◌^◌, pos, Bool, true, false, List, [], ◌∷◌, ◌++◌, map, replicate, Some, None}
 use Rattle.asn1_model.specs.Value.{Value, nothing, item, text, arcs, fields, chosen, end, absent, present}
 use Rattle.asn1_model.specs.Schema.{visible, ia5, numeric, utf8, Schema, boolean, null, integer, enumerated, object_identifier, sequence_of}
 use Rattle.asn1_model.specs.Schema.{no_alternative}
-use Rattle.asn1_model.specs.Form.{written, nothing_more, covered_by, arranged}
+use Rattle.asn1_model.specs.Form.{written, Reads, nothing_more, covered_by, arranged}
 use Rattle.asn1_model.specs.Per
 use Rattle.asn1_model.specs.Oer
-use Rattle.asn1_model.specs.Rules.{Rules, strict_per, strict_oer, IsEncoding, uper, aper, uper_strict, aper_strict, oer, coer}
+use Rattle.asn1_model.specs.Rules.{Rules, lenient, strict_per, strict_oer, IsEncoding, uper, aper, uper_strict, aper_strict, oer, coer}
 use Rattle.asn1_model.specs.Types.{minus, from_to, any_size, sizes, whole, between, small, bit_text, string, list, bag_of, context, or_tagged, one_of}
 use Rattle.asn1_model.specs.Types.{yes, no, num, below, roots, bits_of, set_bits, octet_number, marked_number, wide_number, from_zero, colour_old}
 use Rattle.asn1_model.specs.Types.{colour_new, any_bits, any_octets, marked_octets, flagged, defaulted, one_or_two, many_nulls, only_tagged}
@@ -182,3 +182,7 @@ FormRows =
     × (arranged {X = ℕ} (0 ∷ 1 ∷ []) (7 ∷ 8 ∷ []) ≡ None)
     × (arranged {X = ℕ} (0 ∷ []) (7 ∷ 8 ∷ []) ≡ None)
     × (arranged {X = ℕ} (1 ∷ 0 ∷ []) (7 ∷ 8 ∷ []) ≡ Some (8 ∷ 7 ∷ []))
+
+-- no PER reader takes what is outside the root behind a mark that says inside, whatever follows
+abbrev pub OutsideIsMarked : Type 0
+OutsideIsMarked = (root outside : Per.BitForm) (p : ℕ) (w : List Bool) → Reads lenient (Per.marked true false root outside) p (false ∷ w) → ⊥
