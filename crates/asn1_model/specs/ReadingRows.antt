@@ -186,3 +186,12 @@ FormRows =
 -- no PER reader takes what is outside the root behind a mark that says inside, whatever follows
 abbrev pub OutsideIsMarked : Type 0
 OutsideIsMarked = (root outside : Per.BitForm) (p : ℕ) (w : List Bool) → Reads lenient (Per.marked true false root outside) p (false ∷ w) → ⊥
+
+-- octets that are an encoding of no value at all
+abbrev pub NoValueRows : Type 0
+NoValueRows =
+    ((v : Value) → IsNoEncoding coer boolean v (0x05 ∷ []))
+    × ((v : Value) → IsNoEncoding coer boolean v (0xFF ∷ 0xFF ∷ []))
+    × ((v : Value) → IsNoEncoding oer null v (0x00 ∷ []))
+    × ((v : Value) → IsNoEncoding uper null v (0x01 ∷ []))
+    × ((v : Value) → IsNoEncoding aper null v [])

@@ -4,7 +4,7 @@
 //! encodings that the definitions are computed to give.
 #![tactic(auto)]
 
-ghost use Rattle.asn1_model.specs.ReadingRows.{FormRows, FreedomRows, OutsideIsMarked, ReadingRows, RefusedRows};
+ghost use Rattle.asn1_model.specs.ReadingRows.{FormRows, FreedomRows, NoValueRows, OutsideIsMarked, ReadingRows, RefusedRows};
 ghost use Rattle.asn1_model.specs.Rows.{NumberRows, StringRows, StructureRows, AdditionRows, LongRows};
 ghost use Rattle.asn1_model.specs.Rows.{RangeRows, TableRows, SizeRows, CharacterRows, OpenRows, LengthRows, FragmentRows, WholeSizeRows};
 ghost use Rattle.asn1_model.specs.VersionRows.{LawfulRows, VersionRows};
@@ -71,6 +71,10 @@ pub fn refused_rows()
 
 pub fn form_rows()
     ensures { FormRows }
+{}
+
+pub fn no_value_rows()
+    ensures { NoValueRows }
 {}
 
 pub fn outside_is_marked()
