@@ -1,0 +1,5 @@
+pub mod Binary
+pub mod Kept
+pub mod Packed
+pub mod Reading
+pub mod Views

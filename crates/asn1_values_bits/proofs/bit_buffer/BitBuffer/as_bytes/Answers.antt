@@ -1,0 +1,11 @@
+use Rattle.std.proofs.Common.{ℕ, ◌<◌, ◌∙◌, get_or, length, rules}
+use Rattle.asn1_values_bits.proofs.Kept.{kept_bits, kept_length}
+use Rattle.asn1_values_bits.proofs.Packed.{kept_octets}
+use Rattle.asn1_values_bits.proofs.bit_buffer.BitBuffer.as_bytes.Goals as goal
+
+pub returns : goal.returns
+returns c =
+    let small : (k : ℕ) → k < length c.self.inside.octets.items → get_or c.self.inside.octets.items k 0 < 256 = λ k h. search rules in
+    c.as_slice-octets.ensures.value ∙ kept_octets c.self.inside.len c.self.inside.octets.items c.args.self.now small c.self.invariant
+    (kept_bits c.self.inside.len c.self.inside.octets.items c.args.self.now c.self.invariant c.self.view_is)
+    (kept_length c.self.inside.len c.self.inside.octets.items c.args.self.now c.self.invariant c.self.view_is)
