@@ -1,7 +1,8 @@
 -- The binary digits of a number, joined and cut, and the bits of octets.
-use Rattle.std.proofs.Common.{◌≡◌, ℕ, zero, suc, ◌+◌, ◌*◌, ◌/◌, ◌%◌, ◌^◌, ◌<◌, ◌≤◌, ◌==◌, Bool, false, List, [], ◌∷◌, ◌++◌, length, replicate, take, drop, refl, ap, sym, ◌∙◌, append_assoc, length-append, arith}
+use Rattle.std.proofs.Common.{◌≡◌, ℕ, zero, suc, ◌+◌, ◌-◌, ◌*◌, ◌/◌, ◌%◌, ◌^◌, ◌<◌, ◌≤◌, ◌==◌, Bool, true, false, List, [], ◌∷◌, ◌++◌, length, replicate, take, drop, refl, ap, sym, ◌∙◌, append_assoc, length-append, arith}
 use Rattle.std.proofs.lemmas.Nat.{shr-shr, mod-mul-add, field_of, pow_pos, div-mul-add, mod-pow-add}
-use Rattle.std.proofs.lemmas.List.{take_at, drop_at, append-nil, take-append-drop, length-take-le}
+use Rattle.std.proofs.lemmas.Nat.Bits.{bit_at_ones}
+use Rattle.std.proofs.lemmas.List.{replicate-append-replicate, take_at, drop_at, append-nil, take-append-drop, length-take-le}
 use Rattle.std.proofs.Math.Nat.{zero-add, suc-add, add_comm, zero-div}
 use Rattle.std.proofs.Math.Pow.{mod-mod-pow}
 use Rattle.asn1_model.specs.Numbers.{binary, octet_bits}
@@ -85,3 +86,20 @@ pub octet_bits-take : (k : ℕ) (os : List ℕ) → k ≤ length os → octet_bi
 octet_bits-take k os h =
     let n : length (octet_bits (take k os)) ≡ k * 8 = omega (arith, length-octet_bits (take k os), length-take-le k os h) in
     sym (ap (λ l. take (k * 8) (octet_bits l)) (sym (take-append-drop k os)) ∙ ap (take (k * 8)) (octet_bits-append (take k os) (drop k os)) ∙ take_at (octet_bits (take k os)) (octet_bits (drop k os)) (k * 8) n)
+
+-- the largest number of k binary digits has ones alone
+pub binary_ones : (k w : ℕ) → w ≤ k → binary w (2 ^ k - 1) ≡ replicate w true
+binary_ones k zero h = refl
+binary_ones k (suc w) h = ap (λ x. (x == 1) ∷ binary w (2 ^ k - 1)) (bit_at_ones k w (omega arith)) ∙ ap (λ l. true ∷ l) (binary_ones k w (omega arith))
+
+-- so many equal bits from a number of equal digits
+pub binary_same : (w n : ℕ) (b : Bool) → w ≤ 128 → (b ≡ true → n ≡ 2 ^ 128 - 1) → (b ≡ false → n ≡ 0) → binary w n ≡ replicate w b
+binary_same w n true h p q = ap (binary w) (p refl) ∙ binary_ones 128 w h
+binary_same w n false h p q = ap (binary w) (q refl) ∙ binary_zero w
+
+-- some of the equal bits, and then the rest of them
+pub same_next : (bs new : List Bool) (b : Bool) (few left n : ℕ) → few ≤ left → new ≡ bs ++ binary few n → binary few n ≡ replicate few b → new ++ replicate (left - few) b ≡ bs ++ replicate left b
+same_next bs new b few left n h e s =
+    let all : few + (left - few) ≡ left = omega arith in
+    ap (λ l. l ++ replicate (left - few) b) (e ∙ ap (λ l. bs ++ l) s) ∙ append_assoc bs (replicate few b) (replicate (left - few) b)
+    ∙ ap (λ l. bs ++ l) (replicate-append-replicate few (left - few) b ∙ ap (λ k. replicate k b) all)

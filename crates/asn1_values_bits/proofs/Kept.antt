@@ -4,7 +4,7 @@ use Rattle.std.proofs.lemmas.Nat.{shr_split, or_shifted, pow-add, shl-shr, shl_w
 use Rattle.std.proofs.Math.Nat.{mul_assoc}
 use Rattle.std.proofs.lemmas.List.{take_at, drop_at, append-nil, length-replicate, set_at, take_more, take_all, take-append-drop, take-take, take-append-le, length-take-le, length-take}
 use Rattle.asn1_model.specs.Numbers.{binary, octet_bits, missing}
-use Rattle.asn1_values_bits.specs.Octets.{IsKept}
+use Rattle.asn1_values_bits.specs.Octets.{IsKept, filled_up}
 use Rattle.asn1_values_bits.proofs.Binary.{length-binary, binary_split, binary_cut, binary_low, binary_shifted, binary_join, low_zeros, same_fronts, same_backs, length-octet_bits, octet_bits_push, octet_bits-take}
 
 -- what the octets of a kept list are
@@ -125,3 +125,6 @@ next_digits bs rest few v h =
     ∙ ap (λ l. bs ++ l ++ binary rest v) (binary_low few (v / 2 ^ rest))
     ∙ append_assoc bs (binary few (v / 2 ^ rest)) (binary rest v)
     ∙ ap (λ l. bs ++ l) (sym (binary_split few rest v))
+
+pub kept_filled : (len : ℕ) (os : List ℕ) (v : List Bool) → IsKept len os → take len (octet_bits os) ≡ v → octet_bits os ≡ filled_up v
+kept_filled len os v k e = kept_bits len os v k e ∙ ap (λ n. v ++ replicate (missing n) false) (sym (kept_length len os v k e))

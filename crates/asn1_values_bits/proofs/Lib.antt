@@ -3,3 +3,4 @@ pub mod Kept
 pub mod Packed
 pub mod Reading
 pub mod Views
+pub mod Change

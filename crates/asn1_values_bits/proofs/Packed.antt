@@ -1,8 +1,9 @@
 -- Octets of bits are the octets again.
-use Rattle.std.proofs.Common.{◌≡◌, ℕ, zero, suc, ◌+◌, ◌*◌, ◌/◌, ◌%◌, ◌^◌, ◌<◌, ◌==◌, Bool, false, cond, List, [], ◌∷◌, ◌++◌, length, map, replicate, get_or, refl, ap, sym, ◌∙◌, arith}
+use Rattle.std.proofs.Common.{◌≡◌, ℕ, zero, suc, ◌+◌, ◌*◌, ◌/◌, ◌%◌, ◌^◌, ◌<◌, ◌==◌, Bool, cond, List, [], ◌∷◌, length, take, map, get_or, refl, ap, sym, ◌∙◌, arith}
 use Rattle.std.proofs.lemmas.Nat.{mod-pow-add, pow-add}
-use Rattle.asn1_model.specs.Numbers.{binary, number_after, octet_bits, packed, missing}
+use Rattle.asn1_model.specs.Numbers.{binary, number_after, octet_bits, packed}
 use Rattle.asn1_values_bits.specs.Octets.{IsKept, filled_up}
+use Rattle.asn1_values_bits.proofs.Kept.{kept_filled}
 
 digit : (n : ℕ) → cond (n % 2 == 1) 1 0 ≡ n % 2
 digit n = grind arith
@@ -23,5 +24,5 @@ packed-octet_bits (o ∷ os) h =
     ap (λ x. x ∷ packed (octet_bits os)) value ∙ ap (λ l. o ∷ l) (packed-octet_bits os (λ k l. h (suc k) (omega arith)))
 
 -- the octets of a kept list are its bits filled up
-pub kept_octets : (len : ℕ) (os : List ℕ) (v : List Bool) → ((k : ℕ) → k < length os → get_or os k 0 < 256) → IsKept len os → (octet_bits os ≡ v ++ replicate (missing len) false) → length v ≡ len → os ≡ packed (filled_up v)
-kept_octets len os v h k e n = sym (packed-octet_bits os h) ∙ ap packed (e ∙ ap (λ m. v ++ replicate (missing m) false) (sym n))
+pub kept_octets : (len : ℕ) (os : List ℕ) (v : List Bool) → ((k : ℕ) → k < length os → get_or os k 0 < 256) → IsKept len os → take len (octet_bits os) ≡ v → os ≡ packed (filled_up v)
+kept_octets len os v h k e = sym (packed-octet_bits os h) ∙ ap packed (kept_filled len os v k e)

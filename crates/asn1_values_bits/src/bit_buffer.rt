@@ -1,8 +1,9 @@
 // Bits that grow at their end, in whole octets of which the last is filled with zero bits.
-ghost use Rattle.std.specs.Prelude.{◌≡◌, ℕ, ◌+◌, ◌-◌, ◌*◌, ◌/◌, ◌%◌, ◌^◌, ◌<◌, ◌≤◌, Bool, List, [], ◌∷◌, ◌++◌, length, set, take, replicate, false, IsTrue, ◌↔◌, OnOk, OnErr, vec_len};
+ghost use Rattle.std.specs.Prelude.{◌≡◌, ℕ, ◌+◌, ◌-◌, ◌*◌, ◌/◌, ◌%◌, ◌^◌, ◌<◌, ◌≤◌, Bool, List, [], ◌∷◌, ◌++◌, length, set, take, replicate, false, IsTrue, ◌↔◌, OnOk, OnErr, vec_len, slice_set};
 ghost use Rattle.asn1_model.specs.Numbers.{binary, missing, octet_bits, packed};
 ghost use Rattle.asn1_values_bits.specs.Octets.{filled_up};
 
+use crate::bit_str::BitStr;
 use std::alloc::{AllocError, Global};
 use std::marker::Model;
 
@@ -27,6 +28,8 @@ impl Model for BitBuffer {
 }
 
 impl BitBuffer {
+    ghost use Rattle.asn1_values_bits.specs.BitStr.{bits_of, offset_of};
+
     /// No bits. It takes no memory, and what it holds later comes from `alloc`.
     pub fn new(alloc: Global) -> Self
         ensures { result ≡ [] }
@@ -53,7 +56,8 @@ impl BitBuffer {
 
     /// The bits in octets, the first bit highest, and zero bits behind the last one.
     pub fn as_bytes(&self) -> &[u8]
-        ensures { result.now ≡ packed (filled_up self.now) }
+        ensures octets { result.now ≡ packed (filled_up self.now) }
+        ensures bits { octet_bits result.now ≡ filled_up self.now }
     {
         let octets = self.octets.as_slice();
         octets
@@ -61,7 +65,8 @@ impl BitBuffer {
 
     /// The octets themselves, as `as_bytes` shows them.
     pub fn into_vec(self) -> Vec<u8>
-        ensures { result.items ≡ packed (filled_up self) }
+        ensures octets { result.items ≡ packed (filled_up self) }
+        ensures bits { octet_bits result.items ≡ filled_up self }
     {
         let BitBuffer { octets, len: _ } = self;
         octets
@@ -204,6 +209,80 @@ impl BitBuffer {
         }
         Ok(())
     }
+
+    /// A view of the bits.
+    pub fn as_bitslice(&self) -> BitStr<'_>
+        ensures bits { bits_of result ≡ self.now }
+        ensures offset { offset_of result ≡ 0 }
+    {
+        BitStr::of_buffer(self.octets.as_slice(), self.len)
+    }
+
+    /// Adds the bits of a view.
+    pub fn extend_from_bitslice(&mut self, bits: BitStr<'_>) -> Result<(), AllocError>
+        ensures ok { OnOk result (self.new ≡ self.old ++ bits_of bits.entry) }
+        ensures err { OnErr result (self.new ≡ self.old) }
+    {
+        let before = self.len();
+        let (octets, mut rest) = bits.whole_octets();
+        self.extend_from_bytes(octets)?;
+        while rest.len() > 0 {
+            let few = rest.len().min(64);
+            match self.push_bits(rest.first_number(few as u32), few as u32) {
+                Ok(()) => {}
+                Err(error) => {
+                    self.truncate(before);
+                    return Err(error);
+                }
+            }
+            rest = rest.split_at(few).1;
+        }
+        Ok(())
+    }
+
+    /// Adds the bits of another buffer.
+    pub fn extend_from_buffer(&mut self, other: &BitBuffer) -> Result<(), AllocError>
+        ensures ok { OnOk result (self.new ≡ self.old ++ other.now) }
+        ensures err { OnErr result (self.new ≡ self.old) }
+    {
+        self.extend_from_bitslice(other.as_bitslice())?;
+        Ok(())
+    }
+
+    /// Changes the bit at a place.
+    pub fn set(&mut self, index: usize, bit: bool)
+        requires { index < length self.old }
+        ensures { self.new ≡ slice_set self.old index bit }
+    {
+        let octet = self.octets[index / 8];
+        self.octets[index / 8] = with_bit(octet, (index % 8) as u32, bit);
+    }
+
+    /// Keeps the first `len` bits, or adds copies of a bit up to `len` bits.
+    pub fn resize(&mut self, len: usize, bit: bool) -> Result<(), AllocError>
+        ensures ok { OnOk result (self.new ≡ take len self.old ++ replicate (len - length self.old) bit) }
+        ensures err { OnErr result (self.new ≡ self.old) }
+    {
+        let before = self.len();
+        if len <= before {
+            self.truncate(len);
+            return Ok(());
+        }
+        let value = if bit { u128::MAX } else { 0 };
+        let mut left = len - before;
+        while left > 0 {
+            let few = left.min(128);
+            match self.push_bits(value, few as u32) {
+                Ok(()) => {}
+                Err(error) => {
+                    self.truncate(before);
+                    return Err(error);
+                }
+            }
+            left -= few;
+        }
+        Ok(())
+    }
 }
 
 // How many bits the last octet has left.
@@ -211,4 +290,13 @@ fn free_bits(len: usize) -> u32
     ensures { result ≡ missing len }
 {
     ((8 - len % 8) % 8) as u32
+}
+
+// An octet with one of its bits changed, of which the highest is the first.
+fn with_bit(octet: u8, index: u32, bit: bool) -> u8
+    requires { index < 8 }
+    ensures { binary 8 result ≡ slice_set (binary 8 octet) index bit }
+{
+    let mask = 1 << (7 - index);
+    if bit { octet | mask } else { octet & !mask }
 }

@@ -1,8 +1,13 @@
 // Bits that are read from their front.
 ghost use Rattle.std.specs.Prelude.{◌≡◌, ◌+◌, ◌*◌, ◌%◌, ◌^◌, ◌<◌, ◌≤◌, [], ◌∷◌, length, take, drop, IsTrue, ◌↔◌, IsSome, IfSome, IfOk, IfErr, IsOk, OnErr, IsOkAnd};
+ghost use Rattle.std.specs.Cow.{cow_slice_items, IsBorrowedSlice};
 ghost use Rattle.asn1_model.specs.Numbers.{binary, octet_bits};
+ghost use Rattle.asn1_values_bits.specs.Octets.{filled_up};
 
+use crate::bit_buffer::BitBuffer;
 use crate::bit_str::BitStr;
+use std::alloc::{AllocError, Global};
+use std::borrow::CowSlice;
 use std::marker::Model;
 
 /// Bits that are still to be read, in octets that stand elsewhere.
@@ -108,5 +113,27 @@ impl<'a> BitReader<'a> {
         ensures fits { result < 2 ^ width }
     {
         self.rest.first_number(width)
+    }
+
+    /// The octets that hold the unread bits, where these begin at an octet and end at one.
+    pub fn aligned_octets(&self) -> Option<&'a [u8]>
+        ensures aligned { IsSome result ↔ ((self.now.offset ≡ 0) × (length self.now.bits % 8 ≡ 0)) }
+        ensures octets { IfSome result (λ octets. octet_bits octets.now ≡ self.now.bits) }
+    {
+        self.rest.aligned_octets()
+    }
+
+    /// The unread bits in octets, with zero bits behind the last one. Where the bits begin at an octet and end at one, the octets
+    /// are lent and no memory is taken.
+    pub fn octets(&self, alloc: Global) -> Result<CowSlice<'a, u8>, AllocError>
+        ensures octets { IfOk result (λ octets. octet_bits (cow_slice_items octets) ≡ filled_up self.now.bits) }
+        ensures lent { self.now.offset ≡ 0 → length self.now.bits % 8 ≡ 0 → IsOkAnd result IsBorrowedSlice }
+    {
+        if let Some(octets) = self.rest.aligned_octets() {
+            return Ok(CowSlice::Borrowed(octets));
+        }
+        let mut copy = BitBuffer::new(alloc);
+        copy.extend_from_bitslice(self.rest)?;
+        Ok(CowSlice::Owned(copy.into_vec()))
     }
 }

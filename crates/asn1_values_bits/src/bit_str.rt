@@ -1,5 +1,5 @@
 // A view of bits in octets.
-ghost use Rattle.std.specs.Prelude.{◌≡◌, ◌+◌, ◌*◌, ◌%◌, ◌^◌, ◌<◌, ◌≤◌, length, IsTrue, ◌↔◌};
+ghost use Rattle.std.specs.Prelude.{◌≡◌, ◌+◌, ◌*◌, ◌%◌, ◌^◌, ◌<◌, ◌≤◌, length, IsTrue, ◌↔◌, ◌++◌, IsSome, IfSome};
 
 use crate::bits::read_wide;
 
@@ -10,7 +10,7 @@ pub struct BitStr<'a> {
     first: usize,
     len: usize,
     ghost within: { first + len ≤ length octets.now * 8 },
-    ghost short: { length octets.now < 2 ^ 61 },
+    ghost short: { first + len < 2 ^ 64 },
 }
 
 impl<'a> BitStr<'a> {
@@ -26,6 +26,19 @@ impl<'a> BitStr<'a> {
             octets: &[],
             first: 0,
             len: 0,
+        }
+    }
+
+    // The first bits of the octets.
+    pub(crate) fn of_buffer(octets: &'a [u8], len: usize) -> Self
+        requires { len ≤ length octets.now * 8 }
+        ensures bits { bits_of result ≡ take len (octet_bits octets.now) }
+        ensures offset { offset_of result ≡ 0 }
+    {
+        BitStr {
+            octets,
+            first: 0,
+            len,
         }
     }
 
@@ -104,5 +117,36 @@ impl<'a> BitStr<'a> {
         ensures fits { result < 2 ^ count }
     {
         read_wide(self.octets, self.first, count)
+    }
+
+    /// The octets that hold the bits, where they begin at an octet and end at one.
+    pub fn aligned_octets(&self) -> Option<&'a [u8]>
+        ensures aligned { IsSome result ↔ ((offset_of self.now ≡ 0) × (length (bits_of self.now) % 8 ≡ 0)) }
+        ensures octets { IfSome result (λ octets. octet_bits octets.now ≡ bits_of self.now) }
+    {
+        if self.first % 8 > 0 || self.len % 8 > 0 {
+            return None;
+        }
+        let start = self.first / 8;
+        let end = start + self.len / 8;
+        Some(&self.octets[start..end])
+    }
+
+    // The octets that stand whole at the front, and the bits behind them. Where the bits do not begin at an octet there are none.
+    pub(crate) fn whole_octets(&self) -> (&'a [u8], BitStr<'a>)
+        ensures { octet_bits result.0.now ++ bits_of result.1 ≡ bits_of self.now }
+    {
+        if self.first % 8 > 0 {
+            return (&[], *self);
+        }
+        let start = self.first / 8;
+        let count = self.len / 8;
+        let octets = &self.octets[start..start + count];
+        let rest = BitStr {
+            octets: self.octets,
+            first: self.first + count * 8,
+            len: self.len % 8,
+        };
+        (octets, rest)
     }
 }

@@ -6,7 +6,7 @@ ghost use Rattle.asn1_model.specs.Numbers.{binary, octet_bits};
 pub fn read_bits(octets: &[u8], position: usize, count: u32) -> u64
     requires narrow { count ≤ 64 }
     requires within { position + count ≤ length octets.now * 8 }
-    requires short { length octets.now < 2 ^ 61 }
+    requires short { position + count < 2 ^ 64 }
     ensures digits { binary count result ≡ take count (drop position (octet_bits octets.now)) }
     ensures fits { result < 2 ^ count }
 {
@@ -29,7 +29,7 @@ pub fn read_bits(octets: &[u8], position: usize, count: u32) -> u64
 pub fn read_wide(octets: &[u8], position: usize, count: u32) -> u128
     requires wide { count ≤ 128 }
     requires within { position + count ≤ length octets.now * 8 }
-    requires short { length octets.now < 2 ^ 61 }
+    requires short { position + count < 2 ^ 64 }
     ensures digits { binary count result ≡ take count (drop position (octet_bits octets.now)) }
     ensures fits { result < 2 ^ count }
 {

@@ -8,6 +8,9 @@ use Rattle.asn1_values_bits.proofs.bit_str.BitStr.first_number.Goals as goal
 pub read_wide-requires-clause-within : goal.read_wide-requires-clause-within
 read_wide-requires-clause-within c = omega (arith, length-bits_of c.args.self.now)
 
+pub read_wide-requires-clause-short : goal.read_wide-requires-clause-short
+read_wide-requires-clause-short c = omega (arith, length-bits_of c.args.self.now)
+
 pub returns-clause-digits : goal.returns-clause-digits
 unfolding bits_of
 returns-clause-digits c =

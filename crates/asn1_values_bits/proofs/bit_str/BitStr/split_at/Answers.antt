@@ -12,7 +12,7 @@ pub overflow_sub-rest : goal.overflow_sub-rest
 overflow_sub-rest c = omega (arith, length-bits_of c.args.self.now)
 
 pub invariant_of-front : goal.invariant_of-front
-invariant_of-front c = record { within = omega (arith, length-bits_of c.args.self.now); short = omega arith }
+invariant_of-front c = record { within = omega (arith, length-bits_of c.args.self.now); short = omega (arith, length-bits_of c.args.self.now) }
 
 pub returns-clause-front : goal.returns-clause-front
 unfolding bits_of
