@@ -1,5 +1,5 @@
 // Numbers in the bits of octets.
-ghost use Rattle.std.specs.Prelude.{◌≡◌, ℕ, ◌+◌, ◌-◌, ◌*◌, ◌/◌, ◌%◌, ◌^◌, ◌<◌, ◌≤◌, Bool, List, [], ◌∷◌, ◌++◌, length, take, drop, IsTrue, ◌↔◌};
+ghost use Rattle.std.specs.Prelude.{◌≡◌, ◌+◌, ◌-◌, ◌*◌, ◌^◌, ◌<◌, ◌≤◌, ◌++◌, length, take, drop, IsTrue, ◌↔◌, pos, Any};
 ghost use Rattle.asn1_model.specs.Numbers.{binary, octet_bits};
 
 /// The number whose binary digits are `count` bits of the octets from bit `position` on.
@@ -39,4 +39,23 @@ pub fn read_wide(octets: &[u8], position: usize, count: u32) -> u128
     let high = read_bits(octets, position, count - 64);
     let low = read_bits(octets, position + (count - 64) as usize, 64);
     (high as u128) << 64 | low as u128
+}
+
+/// One less than two to a number of bits: the largest number that they hold.
+pub fn range_from_len(bit_length: u32) -> i128
+    requires { bit_length ≤ 126 }
+    ensures { result ≡ pos (2 ^ bit_length - 1) }
+{
+    ((1u128 << bit_length) - 1) as i128
+}
+
+/// Whether codes of `width` bits have to be places in the set: its largest character is at least two to the width. Of no character
+/// it is false (X.691, 30.5.4).
+pub fn should_be_indexed(width: u32, character_set: &[u32]) -> bool
+    requires { width ≤ 31 }
+    ensures { IsTrue result ↔ Any (λ character. 2 ^ width ≤ character) character_set.now }
+{
+    character_set
+        .iter()
+        .any(|character| *character >= 1 << width)
 }
