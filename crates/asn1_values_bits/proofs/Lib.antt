@@ -4,3 +4,4 @@ pub mod Packed
 pub mod Reading
 pub mod Views
 pub mod Change
+pub mod Comparing

@@ -1,3 +1,4 @@
 pub mod Octets
 pub mod BitStr
 pub mod Unread
+pub mod BitOrder

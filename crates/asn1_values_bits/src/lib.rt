@@ -7,6 +7,8 @@ mod bit_str;
 mod bit_string;
 pub mod bits;
 mod fixed_bit_string;
+mod order;
+mod traits;
 
 pub use bit_buffer::BitBuffer;
 pub use bit_reader::BitReader;
