@@ -5,3 +5,4 @@ pub mod Reading
 pub mod Views
 pub mod Change
 pub mod Comparing
+pub mod Oring

@@ -1,6 +1,7 @@
 // Numbers in the bits of octets.
 ghost use Rattle.std.specs.Prelude.{◌≡◌, ◌+◌, ◌-◌, ◌*◌, ◌^◌, ◌<◌, ◌≤◌, ◌++◌, length, take, drop, IsTrue, ◌↔◌, pos, Any};
 ghost use Rattle.asn1_model.specs.Numbers.{binary, octet_bits};
+ghost use Rattle.asn1_values_bits.specs.Octets.{ored, placed};
 
 /// The number whose binary digits are `count` bits of the octets from bit `position` on.
 pub fn read_bits(octets: &[u8], position: usize, count: u32) -> u64
@@ -39,6 +40,24 @@ pub fn read_wide(octets: &[u8], position: usize, count: u32) -> u128
     let high = read_bits(octets, position, count - 64);
     let low = read_bits(octets, position + (count - 64) as usize, 64);
     (high as u128) << 64 | low as u128
+}
+
+/// ORs the first `count` bits of the source into the target, from its bit `position` on. The target's other bits stay.
+pub fn or_bits(target: &mut [u8], position: usize, source: &[u8], count: usize)
+    requires target_room { position + count ≤ length target.old * 8 }
+    requires source_room { count ≤ length source.now * 8 }
+    requires short { position + count < 2 ^ 64 }
+    ensures { octet_bits target.new ≡ ored (octet_bits target.old) (placed position (take count (octet_bits source.now)) (length target.old * 8)) }
+{
+    let mut done = 0;
+    while done < count {
+        let place = position + done;
+        let offset = place % 8;
+        let few = (count - done).min(8 - offset);
+        let bits = read_bits(source, done, few as u32);
+        target[place / 8] |= (bits << (8 - offset - few)) as u8;
+        done += few;
+    }
 }
 
 /// One less than two to a number of bits: the largest number that they hold.
