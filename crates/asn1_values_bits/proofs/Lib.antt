@@ -6,3 +6,4 @@ pub mod Views
 pub mod Change
 pub mod Comparing
 pub mod Oring
+pub mod Putting

@@ -1,5 +1,5 @@
 // Bits that grow at their end, in whole octets of which the last is filled with zero bits.
-ghost use Rattle.std.specs.Prelude.{◌≡◌, ℕ, ◌+◌, ◌-◌, ◌*◌, ◌/◌, ◌%◌, ◌^◌, ◌<◌, ◌≤◌, Bool, List, [], ◌∷◌, ◌++◌, length, set, take, replicate, false, IsTrue, ◌↔◌, OnOk, OnErr, vec_len, slice_set};
+ghost use Rattle.std.specs.Prelude.{◌≡◌, ℕ, ◌+◌, ◌-◌, ◌*◌, ◌/◌, ◌%◌, ◌^◌, ◌<◌, ◌≤◌, Bool, List, [], ◌∷◌, ◌++◌, length, set, take, drop, replicate, false, IsTrue, ◌↔◌, OnOk, OnErr, vec_len, slice_set};
 ghost use Rattle.asn1_model.specs.Numbers.{binary, missing, octet_bits, packed};
 ghost use Rattle.asn1_values_bits.specs.Octets.{filled_up};
 
@@ -121,7 +121,7 @@ impl BitBuffer {
     }
 
     // Keeps the first bits alone.
-    fn truncate(&mut self, len: usize)
+    pub(crate) fn truncate(&mut self, len: usize)
         ensures { self.new ≡ take len self.old }
     {
         if len >= self.len {
@@ -256,6 +256,39 @@ impl BitBuffer {
     {
         let octet = self.octets[index / 8];
         self.octets[index / 8] = with_bit(octet, (index % 8) as u32, bit);
+    }
+
+    // Writes the low `width` bits of a number over bits that are there.
+    pub(crate) fn put_bits(&mut self, at: usize, value: u128, width: u32)
+        requires narrow { width ≤ 128 }
+        requires within { at + width ≤ length self.old }
+        ensures { self.new ≡ take at self.old ++ (binary width value ++ drop (at + width) self.old) }
+    {
+        let len = self.len();
+        prove!(at <= len);
+        let mut place = at;
+        let mut left = width;
+        while left > 0 {
+            let few = left.min(8 - (place % 8) as u32);
+            left -= few;
+            self.put_few(place, ((value >> left) & ((1 << few) - 1)) as u16, few);
+            place += few as usize;
+        }
+    }
+
+    // Writes up to eight bits over bits of one octet.
+    fn put_few(&mut self, place: usize, bits: u16, count: u32)
+        requires octet { place % 8 + count ≤ 8 }
+        requires within { place + count ≤ length self.old }
+        requires fits { bits < 2 ^ count }
+        requires some { 0 < count }
+        ensures { self.new ≡ take place self.old ++ (binary count bits ++ drop (place + count) self.old) }
+    {
+        let past = 8 - (place % 8) as u32 - count;
+        let octet = self.octets[place / 8] as u16;
+        let high = octet >> (count + past);
+        let low = octet & ((1 << past) - 1);
+        self.octets[place / 8] = ((high << count | bits) << past | low) as u8;
     }
 
     /// Keeps the first `len` bits, or adds copies of a bit up to `len` bits.

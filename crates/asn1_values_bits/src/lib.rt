@@ -1,6 +1,7 @@
 //! Bits: a growing buffer of them, views of them in octets, and bit strings.
 #![tactic(auto)]
 
+mod bit_appender;
 mod bit_buffer;
 mod bit_reader;
 mod bit_str;
@@ -10,6 +11,7 @@ mod fixed_bit_string;
 mod order;
 mod traits;
 
+pub use bit_appender::BitAppender;
 pub use bit_buffer::BitBuffer;
 pub use bit_reader::BitReader;
 pub use bit_str::BitStr;

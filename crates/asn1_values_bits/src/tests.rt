@@ -1,4 +1,7 @@
 // Rows of the encodings, every alignment with every width, and refused memory.
+ghost use Rattle.std.specs.Prelude.{◌≡◌, ◌++◌, OnOk, OnErr};
+ghost use Rattle.asn1_model.specs.Numbers.{binary};
+
 use crate::{BitBuffer, BitReader, BitStr, BitString, FixedBitString, bits};
 use std::alloc::AllocError;
 use std::borrow::CowSlice;
@@ -258,5 +261,34 @@ fn refused_making(rt: HostRuntime) {
         if let Ok(CowSlice::Owned(copied)) = reader.octets(rt.alloc()) {
             assert_eq!(rt; copied.as_slice(), [0x23, 0x45, 0x60].as_slice());
         }
+    }
+}
+
+// A number twice, in eight bits each, by an appender: what the contract of a caller can say.
+fn append_twice(buffer: &mut BitBuffer, number: u8) -> Result<(), AllocError>
+    ensures ok { OnOk result (buffer.new ≡ buffer.old ++ binary 8 number ++ binary 8 number) }
+    ensures err { OnErr result (buffer.new ≡ buffer.old) }
+{
+    let mut appender = buffer.appender(20)?;
+    appender.push(number as u128, 8);
+    appender.push(number as u128, 8);
+    Ok(())
+}
+
+#[test]
+fn appenders(rt: HostRuntime) {
+    let mut buffer = BitBuffer::new(rt.alloc());
+    for count in 1..=40 {
+        let before = buffer.len();
+        if append_twice(&mut buffer, 0x9c).is_err() {
+            assert_eq!(rt; buffer.len(), before);
+            assert!(rt; append_twice(&mut buffer, 0x9c).is_ok());
+        }
+        assert_eq!(rt; buffer.len(), count * 16);
+    }
+    let octets = buffer.into_vec();
+    assert_eq!(rt; octets.len(), 80);
+    for octet in &octets {
+        assert_eq!(rt; *octet, 0x9c);
     }
 }
