@@ -1,0 +1,9 @@
+pub mod Binary
+pub mod Kept
+pub mod Packed
+pub mod Reading
+pub mod Views
+pub mod Change
+pub mod Comparing
+pub mod Oring
+pub mod Putting

@@ -1,0 +1,314 @@
+// Rows of the encodings, every alignment with every width, and refused memory.
+ghost use Rattle.std.specs.Prelude.{◌≡◌, ◌++◌, ◌<◌, ◌≤◌, OnOk, OnErr};
+ghost use Rattle.asn1_model.specs.Numbers.{binary};
+
+use crate::{BitBuffer, BitReader, BitStr, BitString, FixedBitString, bits};
+use std::alloc::{AllocError, Global};
+use std::borrow::CowSlice;
+use std::test::Fail;
+
+// the low `width` bits of a value
+fn low_bits(value: u128, width: u32) -> u128 {
+    if width >= 128 {
+        value
+    } else {
+        value & ((1 << width) - 1)
+    }
+}
+
+// so many bits, then the low bits of a value, then three bits
+fn written(alloc: Global, alignment: u32, value: u128, width: u32) -> Result<BitBuffer, AllocError>
+    requires narrow { width ≤ 128 }
+    requires few { alignment < 8 }
+{
+    let mut buffer = BitBuffer::new(alloc);
+    buffer.push_bits(0b1010_1010, alignment)?;
+    buffer.push_bits(value, width)?;
+    buffer.push_bits(0b101, 3)?;
+    Ok(buffer)
+}
+
+// each bit of the value where it was written
+fn holds_bits(all: BitStr<'_>, alignment: u32, value: u128, width: u32) -> bool
+    requires narrow { width ≤ 128 }
+    requires few { alignment < 8 }
+{
+    for i in 0..width {
+        let bit = value >> (width - 1 - i) & 1 == 1;
+        if all.get((alignment + i) as usize) != Some(bit) {
+            return false;
+        }
+    }
+    true
+}
+
+// the value read from where it was written
+fn read_behind(mut reader: BitReader<'_>, alignment: u32, width: u32) -> Option<u128>
+    requires narrow { width ≤ 128 }
+{
+    let _front = reader.split(alignment as usize).ok()?;
+    let field = reader.split(width as usize).ok()?;
+    if reader.len() != 3 || reader.first_u128(3) != 0b101 || field.len() != width as usize {
+        return None;
+    }
+    Some(field.first_u128(width))
+}
+
+#[test]
+fn every_alignment_and_width(rt: HostRuntime) -> Result<(), Fail> {
+    let value = 0xb3a1_9c5d_7e2f_8046_1d3b_5f79_8ace_0247_u128;
+    for alignment in 0..8 {
+        for width in 0..129 {
+            let buffer = written(rt.alloc(), alignment, value, width)?;
+            let total = (alignment + width + 3) as usize;
+            assert_eq!(rt; buffer.as_bytes().len(), total.div_ceil(8));
+            assert!(rt; holds_bits(buffer.as_bitslice(), alignment, value, width), "{width} bits at {alignment}");
+            let read = read_behind(BitReader::new(buffer.as_bitslice()), alignment, width);
+            assert!(rt; read == Some(low_bits(value, width)), "{width} bits at {alignment}");
+        }
+    }
+    Ok(())
+}
+
+#[test]
+fn rows(rt: HostRuntime) -> Result<(), Fail> {
+    // 5 in three bits, an octet FF, 0 in one bit, an octet FF
+    let mut fields = BitBuffer::new(rt.alloc());
+    fields.push_bits(5, 3)?;
+    fields.extend_from_bytes(&[0xff])?;
+    fields.push_bits(0, 1)?;
+    fields.extend_from_bytes(&[0xff])?;
+    assert_eq!(rt; fields.len(), 20);
+    assert_eq!(rt; fields.as_bytes(), [0xbf, 0xef, 0xf0].as_slice());
+
+    // the VisibleString "John", unaligned
+    let mut name = BitBuffer::new(rt.alloc());
+    name.push_bits(4, 8)?;
+    for character in b"John" {
+        name.push_bits(*character as u128, 7)?;
+    }
+    assert_eq!(rt; name.as_bytes(), [0x04, 0x95, 0xbf, 0x46, 0xe0].as_slice());
+
+    // fourteen bits, eight ones and 010000, and behind their number in an octet
+    let octets = [0xff, 0x40];
+    let (fourteen, _) = BitStr::from_slice(&octets).split_at(14);
+    let string = BitString::from_bitslice(rt.alloc(), fourteen)?;
+    assert_eq!(rt; string.len(), 14);
+    assert_eq!(rt; string.as_bytes(), [0xff, 0x40].as_slice());
+    let mut counted = BitBuffer::new(rt.alloc());
+    counted.push_bits(14, 8)?;
+    counted.extend_from_bitslice(string.as_bitslice())?;
+    assert_eq!(rt; counted.as_bytes(), [0x0e, 0xff, 0x40].as_slice());
+    Ok(())
+}
+
+#[test]
+fn buffers(rt: HostRuntime) -> Result<(), Fail> {
+    let mut buffer = BitBuffer::from_vec([0xa5, 0x0f].to_vec(rt.alloc())?);
+    assert_eq!(rt; buffer.len(), 16);
+    buffer.reserve_bytes(4)?;
+    buffer.push(true)?;
+    buffer.resize(12, false)?;
+    assert_eq!(rt; buffer.as_bytes(), [0xa5, 0x00].as_slice());
+    buffer.resize(20, true)?;
+    assert_eq!(rt; buffer.as_bytes(), [0xa5, 0x0f, 0xf0].as_slice());
+    assert_eq!(rt; buffer.len(), 20);
+    Ok(())
+}
+
+#[test]
+fn changes(rt: HostRuntime) -> Result<(), Fail> {
+    let mut buffer = BitBuffer::from_vec([0xa5, 0x0f, 0xf0].to_vec(rt.alloc())?);
+    buffer.resize(20, false)?;
+    assert!(rt; buffer.len() > 19);
+    buffer.set(0, false);
+    assert!(rt; buffer.len() > 19);
+    buffer.set(19, false);
+    assert_eq!(rt; buffer.as_bytes(), [0x25, 0x0f, 0xe0].as_slice());
+    let mut other = BitBuffer::new(rt.alloc());
+    assert!(rt; other.is_empty());
+    other.push_bits(0b101, 3)?;
+    other.extend_from_buffer(&buffer)?;
+    assert_eq!(rt; other.into_vec().as_slice(), [0xa4, 0xa1, 0xfc].as_slice());
+    buffer.clear();
+    assert_eq!(rt; buffer.len(), 0);
+    Ok(())
+}
+
+#[test]
+fn readers(rt: HostRuntime) -> Result<(), Fail> {
+    let octets = [0xa4, 0xa1, 0xfc];
+    let reader = BitReader::from_octets(&octets);
+    assert!(rt; !reader.is_empty());
+    assert!(rt; reader.len() > 0);
+    assert!(rt; reader.first_bit());
+    assert!(rt; reader.aligned_octets().is_some());
+    let all = reader.octets(rt.alloc())?;
+    assert!(rt; matches!(all, CowSlice::Borrowed(_)));
+    Ok(())
+}
+
+#[test]
+fn splits(rt: HostRuntime) -> Result<(), Fail> {
+    let octets = [0xa4, 0xa1, 0xfc];
+    let mut reader = BitReader::from_octets(&octets);
+    let short = reader.split(25);
+    assert!(rt; matches!(short, Err(1)));
+    assert_eq!(rt; reader.len(), 24);
+    let Ok(front) = reader.split(3) else {
+        panic!(rt; "too short");
+    };
+    assert!(rt; front.len() > 2);
+    assert_eq!(rt; front.first_bits(3), 0b101);
+    assert!(rt; reader.aligned_octets().is_none());
+    let rest = reader.octets(rt.alloc())?;
+    let CowSlice::Owned(rest) = rest else {
+        panic!(rt; "lent");
+    };
+    assert_eq!(rt; rest.as_slice(), [0x25, 0x0f, 0xe0].as_slice());
+    assert_eq!(rt; reader.bits().len(), 21);
+    Ok(())
+}
+
+#[test]
+fn strings(rt: HostRuntime) -> Result<(), Fail> {
+    let mut string = BitString::from_slice(rt.alloc(), &[0x2f])?;
+    let same = string.clone(rt.alloc())?;
+    assert_eq!(rt; string, same);
+    string.push(true)?;
+    assert_ne!(rt; string, same);
+    assert!(rt; same < string);
+    assert_eq!(rt; string.get(8), Some(true));
+    assert_eq!(rt; string.get(9), None);
+    assert!(rt; !string.is_empty());
+    assert!(rt; BitString::new(rt.alloc()).is_empty());
+    Ok(())
+}
+
+#[test]
+fn shown(rt: HostRuntime) -> Result<(), Fail> {
+    let mut string = BitString::from_slice(rt.alloc(), &[0x2f])?;
+    string.push(true)?;
+    let text = format!(in rt.alloc(); "{string:?}")?;
+    assert_eq!(rt; text.as_str(), "001011111");
+    let buffer = string.into_buffer();
+    assert_eq!(rt; BitString::from_buffer(buffer).len(), 9);
+    Ok(())
+}
+
+#[test]
+fn fixed_strings(rt: HostRuntime) {
+    let three = FixedBitString::<3>::new([0xbf, 0xff, 0xff]);
+    assert_eq!(rt; three.len(), 3);
+    assert!(rt; !three.is_empty());
+    assert_eq!(rt; three.get(1), Some(false));
+    assert_eq!(rt; three.get(3), None);
+    assert!(rt; FixedBitString::<3>::from_slice(&[0xbf]).is_none());
+    let octets = [0xa0];
+    let (front, _) = BitStr::from_slice(&octets).split_at(3);
+    assert!(rt; FixedBitString::<3>::from_bitslice(front).is_some());
+    assert!(rt; three.as_bitslice() == front);
+    assert!(rt; FixedBitString::<4>::from_bitslice(front).is_none());
+    assert!(rt; BitStr::from_bitslice(front) == front);
+    assert!(rt; BitStr::new().is_empty());
+}
+
+#[test]
+fn numbers(rt: HostRuntime) {
+    assert_eq!(rt; bits::range_from_len(8), 255);
+    assert_eq!(rt; bits::range_from_len(0), 0);
+    assert!(rt; bits::should_be_indexed(7, &[0x30, 0x80]));
+    assert!(rt; !bits::should_be_indexed(8, &[0x30, 0x80]));
+    assert!(rt; !bits::should_be_indexed(0, &[]));
+    assert_eq!(rt; bits::read_bits(&[0x25, 0x0f], 4, 8), 0x50);
+    assert_eq!(rt; bits::read_wide(&[0x25, 0x0f], 4, 8), 0x50);
+    let mut octets = [0x80, 0x01];
+    bits::or_bits(&mut octets, 6, &[0xff], 4);
+    assert_eq!(rt; octets, [0x83, 0xc1]);
+}
+
+// one growing call, told by a number
+fn grow(buffer: &mut BitBuffer, step: u32) -> Result<(), AllocError> {
+    match step % 6 {
+        0 => buffer.push(true),
+        1 => buffer.push_bits(0x1_2345_6789, 33),
+        2 => buffer.extend_from_bytes(b"octets that are added whole"),
+        3 => buffer.extend_from_bitslice(BitStr::from_slice(b"bits of a view")),
+        4 => {
+            let len = buffer.len() % 4096;
+            buffer.resize(len + 70, true)
+        }
+        _ => buffer.reserve_bytes(3),
+    }
+}
+
+// A growing call that is refused leaves the bits as they were, and the same call goes on from there.
+#[test]
+fn refused_growth(rt: HostRuntime) {
+    let mut buffer = BitBuffer::new(rt.alloc());
+    let mut total = 0;
+    for step in 0..48 {
+        let before = buffer.len();
+        let last = buffer.as_bitslice().get(before.saturating_sub(1));
+        if grow(&mut buffer, step).is_err() {
+            assert_eq!(rt; buffer.len(), before);
+            assert_eq!(rt; buffer.as_bytes().len(), before.div_ceil(8));
+            assert_eq!(rt; buffer.as_bitslice().get(before.saturating_sub(1)), last);
+            assert!(rt; grow(&mut buffer, step).is_ok());
+        }
+        total += 1;
+    }
+    assert_eq!(rt; total, 48);
+    assert_eq!(rt; buffer.len(), 3456);
+}
+
+// Calls that make a value answer it, or want of memory.
+#[test]
+fn refused_making(rt: HostRuntime) {
+    let octets = [0x12, 0x34, 0x56];
+    let (_, bits) = BitStr::from_slice(&octets).split_at(4);
+    for _ in 0..2 {
+        if let Ok(string) = BitString::from_bitslice(rt.alloc(), bits) {
+            assert_eq!(rt; string.as_bytes(), [0x23, 0x45, 0x60].as_slice());
+            if let Ok(copy) = string.clone(rt.alloc()) {
+                assert!(rt; copy == string);
+            }
+        }
+        if let Ok(string) = BitString::from_slice(rt.alloc(), &octets) {
+            assert_eq!(rt; string.as_bytes(), octets.as_slice());
+        }
+        let reader = BitReader::new(bits);
+        if let Ok(CowSlice::Owned(copied)) = reader.octets(rt.alloc()) {
+            assert_eq!(rt; copied.as_slice(), [0x23, 0x45, 0x60].as_slice());
+        }
+    }
+}
+
+// A number twice, in eight bits each, by an appender: what the contract of a caller can say.
+fn append_twice(buffer: &mut BitBuffer, number: u8) -> Result<(), AllocError>
+    ensures ok { OnOk result (buffer.new ≡ buffer.old ++ binary 8 number ++ binary 8 number) }
+    ensures err { OnErr result (buffer.new ≡ buffer.old) }
+{
+    let mut appender = buffer.appender(20)?;
+    appender.push(number as u128, 8);
+    appender.push(number as u128, 8);
+    Ok(())
+}
+
+#[test]
+fn appenders(rt: HostRuntime) {
+    let mut buffer = BitBuffer::new(rt.alloc());
+    for count in 1..=40 {
+        let before = buffer.len();
+        if append_twice(&mut buffer, 0x9c).is_err() {
+            assert_eq!(rt; buffer.len(), before);
+            assert!(rt; append_twice(&mut buffer, 0x9c).is_ok());
+        }
+        assert_eq!(rt; buffer.len(), count * 16);
+    }
+    let octets = buffer.into_vec();
+    assert_eq!(rt; octets.len(), 80);
+    for octet in &octets {
+        assert_eq!(rt; *octet, 0x9c);
+    }
+}

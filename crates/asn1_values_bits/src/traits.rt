@@ -1,0 +1,169 @@
+// The traits of `std`, which go by the bits.
+ghost use Rattle.std.specs.Prelude.{refl, Some};
+ghost use mathlib.Core.Bool.{beq};
+ghost use Rattle.std.specs.Ordering.{bool_cmp, on};
+ghost use Rattle.std.specs.Cmp.{partial_equiv_from_equiv, on_equiv, on_po, on_total};
+ghost use Rattle.std.specs.Cmp.Lexicographic.{pointwise, slice_cmp};
+ghost use Rattle.asn1_values_bits.specs.BitStr.{bits_of};
+ghost use Rattle.asn1_values_bits.specs.BitOrder.{bits_equiv, bits_po, bits_total, bits_ties, bits_fed, bits_fed_alike};
+
+use crate::bit_str::BitStr;
+use crate::bit_string::BitString;
+use crate::fixed_bit_string::FixedBitString;
+use crate::order::{compare, same};
+use std::cmp::Ordering;
+use std::fmt;
+use std::hash::{Hash, Hasher};
+
+impl PartialEq for BitStr<'_> {
+    ghost eq = { on bits_of (pointwise beq) };
+
+    ghost laws = { partial_equiv_from_equiv (on_equiv bits_of bits_equiv) };
+
+    fn eq(&self, other: &Self) -> bool {
+        same(*self, *other)
+    }
+}
+
+impl Eq for BitStr<'_> {
+    ghost laws = { on_equiv bits_of bits_equiv };
+}
+
+impl PartialOrd for BitStr<'_> {
+    ghost partial_cmp = { λ x y. Some (slice_cmp bool_cmp (bits_of x) (bits_of y)) };
+
+    ghost laws = { on_po bits_of bits_po };
+
+    fn partial_cmp(&self, other: &Self) -> Option<Ordering> {
+        Some(compare(*self, *other))
+    }
+}
+
+impl Ord for BitStr<'_> {
+    ghost cmp = { on bits_of (slice_cmp bool_cmp) };
+
+    ghost total = { on_total bits_of bits_total };
+
+    ghost matches_partial_cmp = { λ x y. refl };
+
+    ghost matches_eq = { λ x y. bits_ties (bits_of x) (bits_of y) };
+
+    fn cmp(&self, other: &Self) -> Ordering {
+        compare(*self, *other)
+    }
+}
+
+impl fmt::Debug for BitStr<'_> {
+    fn fmt<W: fmt::Write>(&self, f: &mut fmt::Formatter<W>) -> fmt::Result {
+        for index in 0..self.len() {
+            let digit = if self.get(index) == Some(true) {
+                "1"
+            } else {
+                "0"
+            };
+            f.write_str(digit)?;
+        }
+        Ok(())
+    }
+}
+
+impl PartialEq for BitString {
+    ghost eq = { pointwise beq };
+
+    ghost laws = { partial_equiv_from_equiv bits_equiv };
+
+    fn eq(&self, other: &Self) -> bool {
+        same(self.as_bitslice(), other.as_bitslice())
+    }
+}
+
+impl Eq for BitString {
+    ghost laws = { bits_equiv };
+}
+
+impl PartialOrd for BitString {
+    ghost partial_cmp = { λ x y. Some (slice_cmp bool_cmp x y) };
+
+    ghost laws = { bits_po };
+
+    fn partial_cmp(&self, other: &Self) -> Option<Ordering> {
+        Some(self.cmp(other))
+    }
+}
+
+impl Ord for BitString {
+    ghost cmp = { slice_cmp bool_cmp };
+
+    ghost total = { bits_total };
+
+    ghost matches_partial_cmp = { λ x y. refl };
+
+    ghost matches_eq = { bits_ties };
+
+    fn cmp(&self, other: &Self) -> Ordering {
+        compare(self.as_bitslice(), other.as_bitslice())
+    }
+}
+
+impl Hash for BitString {
+    ghost hash_input = { bits_fed };
+
+    ghost respects_eq = { bits_fed_alike };
+
+    fn hash<H: Hasher>(&self, state: &mut H) {
+        self.len().hash(state);
+        self.as_bytes().hash(state);
+    }
+}
+
+impl fmt::Debug for BitString {
+    fn fmt<W: fmt::Write>(&self, f: &mut fmt::Formatter<W>) -> fmt::Result {
+        let bits = self.as_bitslice();
+        write!(f, "{bits:?}")
+    }
+}
+
+impl<const N: usize> PartialEq for FixedBitString<N> {
+    ghost eq = { pointwise beq };
+
+    ghost laws = { partial_equiv_from_equiv bits_equiv };
+
+    fn eq(&self, other: &Self) -> bool {
+        same(self.as_bitslice(), other.as_bitslice())
+    }
+}
+
+impl<const N: usize> Eq for FixedBitString<N> {
+    ghost laws = { bits_equiv };
+}
+
+impl<const N: usize> PartialOrd for FixedBitString<N> {
+    ghost partial_cmp = { λ x y. Some (slice_cmp bool_cmp x y) };
+
+    ghost laws = { bits_po };
+
+    fn partial_cmp(&self, other: &Self) -> Option<Ordering> {
+        Some(self.cmp(other))
+    }
+}
+
+impl<const N: usize> Ord for FixedBitString<N> {
+    ghost cmp = { slice_cmp bool_cmp };
+
+    ghost total = { bits_total };
+
+    ghost matches_partial_cmp = { λ x y. refl };
+
+    ghost matches_eq = { bits_ties };
+
+    fn cmp(&self, other: &Self) -> Ordering {
+        compare(self.as_bitslice(), other.as_bitslice())
+    }
+}
+
+impl<const N: usize> fmt::Debug for FixedBitString<N> {
+    fn fmt<W: fmt::Write>(&self, f: &mut fmt::Formatter<W>) -> fmt::Result {
+        let bits = self.as_bitslice();
+        write!(f, "{bits:?}")
+    }
+}
