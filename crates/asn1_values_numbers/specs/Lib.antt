@@ -1,0 +1,4 @@
+pub mod Octets
+pub mod Ranges
+pub mod Kinds
+pub mod Forms
