@@ -1,14 +1,39 @@
 -- What is known of the octets that an `Integer` keeps.
-use Rattle.std.proofs.Common.{◌≡◌, ℕ, ◌*◌, ◌^◌, ◌<◌, ◌≤◌, ◌==◌, false, List, [], ◌∷◌, length, max, ℤ, pos, ◌⊎◌, inl, inr, subst, ap, sym, ◌∙◌, arith}
+use Rattle.std.proofs.Common.{◌≡◌, ℕ, ◌+◌, ◌*◌, ◌/◌, ◌^◌, ◌<◌, ◌≤◌, ◌==◌, Bool, false, List, [], ◌∷◌, length, map, max, ℤ, pos, ◌⊎◌, inl, inr, subst, ap, sym, ◌∙◌, arith}
 use Rattle.std.proofs.lemmas.Bool.{cases_lt}
 use Rattle.std.proofs.lemmas.Bool.Decides.{nat_tests}
 use Rattle.std.proofs.Math.Nat.{pow-suc, mul-le-mul_right}
-use Rattle.asn1_model.specs.Numbers.{digits, octet_width, least_octets}
-use Rattle.asn1_values_numbers.specs.Octets.{unsigned_number, signed_number, is_padded, plain_octets, signed_octets_of, unsigned_octets_of}
+use Rattle.asn1_model.specs.Numbers.{digits, width, signed_octets, octet_width, least_octets}
+use Rattle.asn1_values_natives.specs.Octets.{unsigned_number, signed_number, signed_by, sign_free, plain, is_padded, plain_octets, signed_octets_of, unsigned_octets_of}
 use Rattle.asn1_values_numbers.specs.Kinds.{AreKept}
-use Rattle.asn1_values_numbers.proofs.OctetLaws.{AreOctets, unsigned-lt, signed-low, signed-high, digits-unsigned}
-use Rattle.asn1_values_numbers.proofs.Widths.{Octets, octets-same, octet_width-octets}
-use Rattle.asn1_values_numbers.proofs.TwosComplement.{kept-written, written-kept, plain-small}
+use Rattle.asn1_values_natives.proofs.OctetLaws.{AreOctets, unsigned-lt, signed-low, signed-high, digits-unsigned}
+use Rattle.asn1_values_natives.proofs.Widths.{Octets, octets-same, octet_width-octets, bits-same, width-bits}
+use Rattle.asn1_values_natives.proofs.TwosComplement.{written-kept, written-signed, written-fewest, signed-back, plain-signed_by, octets-complement, plain-small}
+
+-- ---- what is kept
+
+width-128 : (m : ℕ) → 2 ^ 127 ≤ m → m < 2 ^ 128 → 17 ≡ width m / 8 + 1
+width-128 m l h = let s : 128 ≡ width m = bits-same m 128 (width m) (record { below = h; above = λ _. omega arith }) (width-bits m) in omega arith
+
+pub short-written : (b : Bool) (m : ℕ) (os : List ℕ) → 2 ^ 127 ≤ m → m < 2 ^ 128 → os ≡ map (sign_free b) (digits 256 17 m) → os ≡ signed_octets_of (signed_by b m)
+short-written b m os l h e = e ∙ written-signed b m 17 (width-128 m l h)
+
+pub short-number : (b : Bool) (m : ℕ) (os : List ℕ) → 2 ^ 127 ≤ m → m < 2 ^ 128 → os ≡ map (sign_free b) (digits 256 17 m) → signed_number os ≡ signed_by b m
+short-number b m os l h e = ap signed_number (short-written b m os l h e) ∙ signed-back (signed_by b m)
+
+pub short-kept : (b : Bool) (m : ℕ) (os : List ℕ) → 2 ^ 127 ≤ m → m < 2 ^ 128 → os ≡ map (sign_free b) (digits 256 17 m) → AreKept (2 ^ 127) os
+short-kept b m os l h e = record {
+  fewest = ap is_padded (short-written b m os l h e) ∙ written-fewest (signed_by b m);
+  large = let p = ap plain (short-number b m os l h e) ∙ plain-signed_by b m in omega arith;
+  octets = let P : List ℕ → Type 0 = AreOctets in subst P (sym (short-written b m os l h e)) (octets-complement (signed_octets (signed_by b m)) (signed_by b m));
+}
+
+some-octet : (os : List ℕ) (least : ℕ) → 1 ≤ least → least ≤ plain (signed_number os) → 0 < length os
+some-octet [] least l h = omega arith
+some-octet (o ∷ os) least l h = omega arith
+
+pub kept-written : (os : List ℕ) (least : ℕ) → 1 ≤ least → AreKept least os → os ≡ signed_octets_of (signed_number os)
+kept-written os least l h = written-kept os h.octets h.fewest (some-octet os least l h.large)
 
 -- what is shown of kept octets
 pub kept-signed : (least : ℕ) (os shown : List ℕ) (z : ℤ) → 2 ^ 127 ≤ least → AreKept least os → signed_number os ≡ z → shown ≡ os → shown ≡ signed_octets_of z

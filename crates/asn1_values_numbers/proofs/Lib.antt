@@ -1,4 +1,1 @@
-pub mod OctetLaws
-pub mod Widths
-pub mod TwosComplement
 pub mod KindLaws

@@ -3,7 +3,7 @@ use Rattle.std.specs.Prelude.{◌≡◌, ℕ, ◌<◌, ◌≤◌, ◌^◌, ℤ, 
 use Rattle.std.specs.List.{AllByRecursion}
 use Rattle.asn1_values_numbers.specs.declared.integer.IntegerKind.{IntegerKind}
 use Rattle.asn1_values_numbers.specs.declared.integer.IntegerKind.TheVariants.{Primitive, Short, Long}
-use Rattle.asn1_values_numbers.specs.Octets.{signed_number, is_padded, plain}
+use Rattle.asn1_values_natives.specs.Octets.{signed_number, is_padded, plain}
 
 -- the whole number that is kept
 abbrev pub kept_number : IntegerKind → ℤ

@@ -1,4 +1,1 @@
-pub mod Octets
-pub mod Ranges
 pub mod Kinds
-pub mod Forms

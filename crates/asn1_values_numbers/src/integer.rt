@@ -1,13 +1,12 @@
 //! Whole numbers of any size.
 ghost use Rattle.std.specs.Prelude.{◌≡◌, ◌≤◌, ◌<◌, ◌^◌, ◌↔◌, ℤ, pos, length, nat_lt, is_some, IsErrOf, IfOk, IfSome, IsTrue, false, ◌-◌, ◌+ℤ◌, ◌-ℤ◌, ◌&&◌};
 ghost use Rattle.asn1_model.specs.Numbers.{is_within};
-ghost use Rattle.asn1_values_numbers.specs.Octets.{signed_number, signed_octets_of, unsigned_octets_of, is_padded, plain, signed_by};
-ghost use Rattle.asn1_values_numbers.specs.Ranges.{natural_range, whole_range};
+ghost use Rattle.asn1_values_natives.specs.Octets.{signed_number, signed_octets_of, unsigned_octets_of, is_padded, plain, signed_by};
+ghost use Rattle.asn1_values_natives.specs.Ranges.{natural_range, whole_range};
 
-use crate::bytes::IntegerBytes;
+use asn1_values_natives::octets::{last_octets, without_padding, without_zero};
+use asn1_values_natives::{IntegerBytes, Wide};
 use crate::error::IntegerError;
-use crate::octets::{last_octets, without_padding, without_zero};
-use crate::wide::Wide;
 use std::alloc::Global;
 use std::marker::Model;
 

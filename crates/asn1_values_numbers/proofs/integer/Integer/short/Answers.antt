@@ -1,4 +1,4 @@
-use Rattle.asn1_values_numbers.proofs.TwosComplement.{short-number, short-kept}
+use Rattle.asn1_values_numbers.proofs.KindLaws.{short-number, short-kept}
 use Rattle.asn1_values_numbers.proofs.integer.Integer.short.Goals as goal
 
 pub invariant_of-result : goal.invariant_of-result

@@ -1,7 +1,7 @@
 use Rattle.std.proofs.Common.{◌^◌, arith, ap, sym, subst, ◌∙◌}
 use Rattle.asn1_values_numbers.specs.declared.integer.IntegerKind.{IntegerKind}
 use Rattle.asn1_values_numbers.specs.Kinds.{IsKept, kept_number}
-use Rattle.asn1_values_numbers.specs.Octets.{plain_octets}
+use Rattle.asn1_values_natives.specs.Octets.{plain_octets}
 use Rattle.asn1_values_numbers.proofs.KindLaws.{kept-unsigned}
 use Rattle.asn1_values_numbers.proofs.integer.Integer.to_unsigned_bytes_be.Goals as goal
 
