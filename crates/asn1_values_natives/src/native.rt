@@ -1,5 +1,6 @@
 //! The native integer types.
-ghost use Rattle.std.specs.Prelude.{◌≡◌, ℕ, ◌+◌, ◌-◌, ◌^◌, ℤ, pos, ◌+ℤ◌, Bool, true, false, is_some, IfSome};
+ghost use Rattle.std.specs.Prelude.{◌≡◌, ℕ, ◌+◌, ◌-◌, ◌^◌, ℤ, pos, ◌+ℤ◌, Bool, true, false, is_some, IfSome, ◌<◌};
+ghost use Rattle.std.proofs.Common.{lit<};
 ghost use Rattle.asn1_model.specs.Numbers.{is_within};
 ghost use Rattle.asn1_values_natives.specs.Octets.{signed_by};
 ghost use Rattle.asn1_values_natives.specs.Ranges.{range_of, wrapped};
@@ -55,6 +56,9 @@ pub trait NativeInteger: Copy {
     fn wrapping_unsigned_add(self, other: Self::Unsigned) -> Self
         ensures { number result ≡ wrapped SIGNED greatest (number self +ℤ unsigned_number other) };
 
+    // Its numbers have at most 128 bits beside the sign.
+    ghost bounded: { greatest < 2 ^ 128 };
+
     // Values of one number are one value.
     ghost injective: { (x y : Self) → number x ≡ number y → x ≡ y };
 }
@@ -81,6 +85,8 @@ impl NativeInteger for u8 {
     ghost unsigned_number = { pos };
 
     ghost greatest = { 2 ^ 8 - 1 };
+
+    ghost bounded = { lit< tt };
 
     ghost injective = { λ x y e. Prim.cc };
 
@@ -123,6 +129,8 @@ impl NativeInteger for u16 {
 
     ghost greatest = { 2 ^ 16 - 1 };
 
+    ghost bounded = { lit< tt };
+
     ghost injective = { λ x y e. Prim.cc };
 
     fn to_wide(self) -> Wide {
@@ -163,6 +171,8 @@ impl NativeInteger for u32 {
     ghost unsigned_number = { pos };
 
     ghost greatest = { 2 ^ 32 - 1 };
+
+    ghost bounded = { lit< tt };
 
     ghost injective = { λ x y e. Prim.cc };
 
@@ -205,6 +215,8 @@ impl NativeInteger for u64 {
 
     ghost greatest = { 2 ^ 64 - 1 };
 
+    ghost bounded = { lit< tt };
+
     ghost injective = { λ x y e. Prim.cc };
 
     fn to_wide(self) -> Wide {
@@ -245,6 +257,8 @@ impl NativeInteger for u128 {
     ghost unsigned_number = { pos };
 
     ghost greatest = { 2 ^ 128 - 1 };
+
+    ghost bounded = { lit< tt };
 
     ghost injective = { λ x y e. Prim.cc };
 
@@ -287,6 +301,8 @@ impl NativeInteger for usize {
 
     ghost greatest = { 2 ^ 64 - 1 };
 
+    ghost bounded = { lit< tt };
+
     ghost injective = { λ x y e. Prim.cc };
 
     fn to_wide(self) -> Wide {
@@ -327,6 +343,8 @@ impl NativeInteger for i8 {
     ghost unsigned_number = { pos };
 
     ghost greatest = { 2 ^ 7 - 1 };
+
+    ghost bounded = { lit< tt };
 
     ghost injective = { λ x y e. e };
 
@@ -369,6 +387,8 @@ impl NativeInteger for i16 {
 
     ghost greatest = { 2 ^ 15 - 1 };
 
+    ghost bounded = { lit< tt };
+
     ghost injective = { λ x y e. e };
 
     fn to_wide(self) -> Wide {
@@ -409,6 +429,8 @@ impl NativeInteger for i32 {
     ghost unsigned_number = { pos };
 
     ghost greatest = { 2 ^ 31 - 1 };
+
+    ghost bounded = { lit< tt };
 
     ghost injective = { λ x y e. e };
 
@@ -451,6 +473,8 @@ impl NativeInteger for i64 {
 
     ghost greatest = { 2 ^ 63 - 1 };
 
+    ghost bounded = { lit< tt };
+
     ghost injective = { λ x y e. e };
 
     fn to_wide(self) -> Wide {
@@ -492,6 +516,8 @@ impl NativeInteger for i128 {
 
     ghost greatest = { 2 ^ 127 - 1 };
 
+    ghost bounded = { lit< tt };
+
     ghost injective = { λ x y e. e };
 
     fn to_wide(self) -> Wide {
@@ -532,6 +558,8 @@ impl NativeInteger for isize {
     ghost unsigned_number = { pos };
 
     ghost greatest = { 2 ^ 63 - 1 };
+
+    ghost bounded = { lit< tt };
 
     ghost injective = { λ x y e. e };
 

@@ -4,9 +4,9 @@ ghost use Rattle.asn1_model.specs.Numbers.{is_within};
 ghost use Rattle.asn1_values_natives.specs.Octets.{signed_number, signed_octets_of, unsigned_octets_of, is_padded, plain, signed_by};
 ghost use Rattle.asn1_values_natives.specs.Ranges.{natural_range, whole_range};
 
+use crate::error::IntegerError;
 use asn1_values_natives::octets::{last_octets, without_padding, without_zero};
 use asn1_values_natives::{IntegerBytes, Wide};
-use crate::error::IntegerError;
 use std::alloc::Global;
 use std::marker::Model;
 

@@ -1,8 +1,13 @@
 //! Whole numbers of any size.
 #![tactic(auto)]
 
+mod compare;
+mod constrained;
+mod conversions;
 mod error;
 mod integer;
 
+pub use constrained::ConstrainedInteger;
+pub use conversions::TryFromIntegerError;
 pub use error::IntegerError;
 pub use integer::Integer;
