@@ -55,3 +55,17 @@ is_negative [] = false
 abbrev pub plain_octets : List ℕ → List ℕ
 plain_octets (o ∷ os) = cond (o == 0) os (o ∷ os)
 plain_octets [] = []
+
+-- the number that octets stand for, with a sign or without
+abbrev pub own_number : Bool → List ℕ → ℤ
+own_number true os = signed_number os
+own_number false os = pos (unsigned_number os)
+
+-- whether a whole number is below zero
+abbrev pub is_below_zero : ℤ → Bool
+is_below_zero (pos m) = false
+is_below_zero (negsuc m) = true
+
+-- octets without a sign as octets of two's complement
+abbrev pub signed_from_plain : List ℕ → List ℕ
+signed_from_plain os = cond (is_negative os) (0 ∷ os) os

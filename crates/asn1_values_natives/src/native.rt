@@ -1,6 +1,6 @@
 //! The native integer types.
 ghost use Rattle.std.specs.Prelude.{◌≡◌, ℕ, ◌+◌, ◌-◌, ◌^◌, ℤ, pos, ◌+ℤ◌, Bool, true, false, is_some, IfSome, ◌<◌};
-ghost use Rattle.std.proofs.Common.{lit<};
+ghost use Rattle.std.proofs.Common.{lit<, refl};
 ghost use Rattle.asn1_model.specs.Numbers.{is_within};
 ghost use Rattle.asn1_values_natives.specs.Octets.{signed_by};
 ghost use Rattle.asn1_values_natives.specs.Ranges.{range_of, wrapped};
@@ -59,6 +59,9 @@ pub trait NativeInteger: Copy {
     // Its numbers have at most 128 bits beside the sign.
     ghost bounded: { greatest < 2 ^ 128 };
 
+    // Zero is zero.
+    ghost nothing: { number ZERO ≡ pos 0 };
+
     // Values of one number are one value.
     ghost injective: { (x y : Self) → number x ≡ number y → x ≡ y };
 }
@@ -87,6 +90,8 @@ impl NativeInteger for u8 {
     ghost greatest = { 2 ^ 8 - 1 };
 
     ghost bounded = { lit< tt };
+
+    ghost nothing = { refl };
 
     ghost injective = { λ x y e. Prim.cc };
 
@@ -131,6 +136,8 @@ impl NativeInteger for u16 {
 
     ghost bounded = { lit< tt };
 
+    ghost nothing = { refl };
+
     ghost injective = { λ x y e. Prim.cc };
 
     fn to_wide(self) -> Wide {
@@ -173,6 +180,8 @@ impl NativeInteger for u32 {
     ghost greatest = { 2 ^ 32 - 1 };
 
     ghost bounded = { lit< tt };
+
+    ghost nothing = { refl };
 
     ghost injective = { λ x y e. Prim.cc };
 
@@ -217,6 +226,8 @@ impl NativeInteger for u64 {
 
     ghost bounded = { lit< tt };
 
+    ghost nothing = { refl };
+
     ghost injective = { λ x y e. Prim.cc };
 
     fn to_wide(self) -> Wide {
@@ -259,6 +270,8 @@ impl NativeInteger for u128 {
     ghost greatest = { 2 ^ 128 - 1 };
 
     ghost bounded = { lit< tt };
+
+    ghost nothing = { refl };
 
     ghost injective = { λ x y e. Prim.cc };
 
@@ -303,6 +316,8 @@ impl NativeInteger for usize {
 
     ghost bounded = { lit< tt };
 
+    ghost nothing = { refl };
+
     ghost injective = { λ x y e. Prim.cc };
 
     fn to_wide(self) -> Wide {
@@ -345,6 +360,8 @@ impl NativeInteger for i8 {
     ghost greatest = { 2 ^ 7 - 1 };
 
     ghost bounded = { lit< tt };
+
+    ghost nothing = { refl };
 
     ghost injective = { λ x y e. e };
 
@@ -389,6 +406,8 @@ impl NativeInteger for i16 {
 
     ghost bounded = { lit< tt };
 
+    ghost nothing = { refl };
+
     ghost injective = { λ x y e. e };
 
     fn to_wide(self) -> Wide {
@@ -431,6 +450,8 @@ impl NativeInteger for i32 {
     ghost greatest = { 2 ^ 31 - 1 };
 
     ghost bounded = { lit< tt };
+
+    ghost nothing = { refl };
 
     ghost injective = { λ x y e. e };
 
@@ -475,6 +496,8 @@ impl NativeInteger for i64 {
 
     ghost bounded = { lit< tt };
 
+    ghost nothing = { refl };
+
     ghost injective = { λ x y e. e };
 
     fn to_wide(self) -> Wide {
@@ -518,6 +541,8 @@ impl NativeInteger for i128 {
 
     ghost bounded = { lit< tt };
 
+    ghost nothing = { refl };
+
     ghost injective = { λ x y e. e };
 
     fn to_wide(self) -> Wide {
@@ -560,6 +585,8 @@ impl NativeInteger for isize {
     ghost greatest = { 2 ^ 63 - 1 };
 
     ghost bounded = { lit< tt };
+
+    ghost nothing = { refl };
 
     ghost injective = { λ x y e. e };
 

@@ -1,14 +1,14 @@
 -- What is known of the octets that an `Integer` keeps.
-use Rattle.std.proofs.Common.{◌≡◌, ℕ, ◌+◌, ◌*◌, ◌/◌, ◌^◌, ◌<◌, ◌≤◌, ◌==◌, Bool, false, List, [], ◌∷◌, length, map, max, ℤ, pos, ◌⊎◌, inl, inr, subst, ap, sym, ◌∙◌, arith}
+use Rattle.std.proofs.Common.{◌≡◌, ℕ, ◌+◌, ◌*◌, ◌/◌, ◌^◌, ◌<◌, ◌≤◌, ◌==◌, Bool, true, false, cond, nat_lt, refl, List, [], ◌∷◌, length, map, max, ℤ, pos, ◌⊎◌, inl, inr, subst, ap, sym, ◌∙◌, arith}
 use Rattle.std.proofs.lemmas.Bool.{cases_lt}
 use Rattle.std.proofs.lemmas.Bool.Decides.{nat_tests}
 use Rattle.std.proofs.Math.Nat.{pow-suc, mul-le-mul_right}
 use Rattle.asn1_model.specs.Numbers.{digits, width, signed_octets, octet_width, least_octets}
-use Rattle.asn1_values_natives.specs.Octets.{unsigned_number, signed_number, signed_by, sign_free, plain, is_padded, plain_octets, signed_octets_of, unsigned_octets_of}
+use Rattle.asn1_values_natives.specs.Octets.{is_below_zero, is_negative, signed_from_plain, unsigned_number, signed_number, signed_by, sign_free, plain, is_padded, plain_octets, signed_octets_of, unsigned_octets_of}
 use Rattle.asn1_values_numbers.specs.Kinds.{AreKept}
-use Rattle.asn1_values_natives.proofs.OctetLaws.{AreOctets, unsigned-lt, signed-low, signed-high, digits-unsigned}
+use Rattle.asn1_values_natives.proofs.OctetLaws.{AreOctets, sign_free-false, unsigned-lt, signed-low, signed-high, digits-unsigned}
 use Rattle.asn1_values_natives.proofs.Widths.{Octets, octets-same, octet_width-octets, bits-same, width-bits}
-use Rattle.asn1_values_natives.proofs.TwosComplement.{written-kept, written-signed, written-fewest, signed-back, plain-signed_by, octets-complement, plain-small}
+use Rattle.asn1_values_natives.proofs.TwosComplement.{signed-parts, written-kept, written-signed, written-fewest, signed-back, plain-signed_by, octets-complement, plain-small}
 
 -- ---- what is kept
 
@@ -88,3 +88,32 @@ many (o ∷ p ∷ os) least l h = omega arith
 
 pub kept-unsigned : (least : ℕ) (os shown : List ℕ) (z : ℤ) → 2 ^ 127 ≤ least → AreKept least os → signed_number os ≡ z → shown ≡ plain_octets os → shown ≡ unsigned_octets_of z
 kept-unsigned least os shown z l h v s = s ∙ plain-written os h.octets h.fewest (many os least l h) ∙ ap unsigned_octets_of v
+
+-- ---- the sign
+
+sign-signed_by : (b : Bool) (m : ℕ) → b ≡ is_below_zero (signed_by b m)
+sign-signed_by true m = refl
+sign-signed_by false m = refl
+
+pub kept-sign : (least : ℕ) (os : List ℕ) (z : ℤ) (b : Bool) → AreKept least os → signed_number os ≡ z → b ≡ is_negative os → b ≡ is_below_zero z
+kept-sign least os z b h v e =
+    e ∙ sign-signed_by (is_negative os) (unsigned_number (map (sign_free (is_negative os)) os))
+    ∙ ap is_below_zero (sym (signed-parts os h.octets)) ∙ ap is_below_zero v
+
+-- ---- octets without a sign
+
+plain_cases : (os : List ℕ) (b : Bool) → b ≡ is_negative os → signed_number (cond b (0 ∷ os) os) ≡ pos (unsigned_number os)
+plain_cases os true e = signed-low 0 os (omega arith) ∙ ap pos (omega arith)
+plain_cases [] false e = refl
+plain_cases (o ∷ os) false e = signed-low o os (grind (arith, nat_tests))
+
+pub signed-from_plain : (os rest kept : List ℕ) → unsigned_number (map (sign_free false) rest) ≡ unsigned_number (map (sign_free false) os) → kept ≡ signed_from_plain rest → signed_number kept ≡ pos (unsigned_number os)
+signed-from_plain os rest kept e k =
+    ap signed_number k ∙ plain_cases rest (is_negative rest) refl
+    ∙ ap (λ l. pos (unsigned_number l)) (sym (sign_free-false rest)) ∙ ap pos e ∙ ap (λ l. pos (unsigned_number l)) (sign_free-false os)
+
+pub plain-from_plain : (os rest kept : List ℕ) → unsigned_number (map (sign_free false) rest) ≡ unsigned_number (map (sign_free false) os) → kept ≡ signed_from_plain rest → nat_lt (unsigned_number os) (2 ^ 128) ≡ false → 2 ^ 128 ≤ plain (signed_number kept)
+plain-from_plain os rest kept e k f =
+    let p : plain (signed_number kept) ≡ unsigned_number os = ap plain (signed-from_plain os rest kept e k) in
+    let q : 2 ^ 128 ≤ unsigned_number os = grind (arith, nat_tests) in
+    omega arith

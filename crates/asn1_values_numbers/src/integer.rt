@@ -1,13 +1,15 @@
 //! Whole numbers of any size.
-ghost use Rattle.std.specs.Prelude.{◌≡◌, ◌≤◌, ◌<◌, ◌^◌, ◌↔◌, ℤ, pos, length, nat_lt, is_some, IsErrOf, IfOk, IfSome, IsTrue, false, ◌-◌, ◌+ℤ◌, ◌-ℤ◌, ◌&&◌};
+ghost use Rattle.std.specs.Prelude.{◌≡◌, ◌≤◌, ◌<◌, ◌^◌, ◌↔◌, ℤ, pos, length, nat_lt, is_some, IsErrOf, IfOk, IfSome, IsTrue, false, true, ◌-◌, ◌+ℤ◌, ◌-ℤ◌, ◌&&◌};
 ghost use Rattle.asn1_model.specs.Numbers.{is_within};
-ghost use Rattle.asn1_values_natives.specs.Octets.{signed_number, signed_octets_of, unsigned_octets_of, is_padded, plain, signed_by};
-ghost use Rattle.asn1_values_natives.specs.Ranges.{natural_range, whole_range};
+ghost use Rattle.asn1_values_natives.specs.Octets.{signed_number, unsigned_number, is_below_zero, signed_from_plain, signed_octets_of, unsigned_octets_of, is_padded, plain, signed_by};
+ghost use Rattle.asn1_values_natives.specs.Ranges.{natural_range, remainder, whole_range, wrapped};
 
 use crate::error::IntegerError;
-use asn1_values_natives::octets::{last_octets, without_padding, without_zero};
+use asn1_values_natives::octets::{
+    has_sign, last_octets, magnitude, without_leading, without_padding, without_zero,
+};
 use asn1_values_natives::{IntegerBytes, Wide};
-use std::alloc::Global;
+use std::alloc::{AllocError, Global};
 use std::marker::Model;
 
 /// A whole number of any size (X.680 clause 19).
@@ -110,6 +112,26 @@ impl Integer {
         }
     }
 
+    /// The number that octets without a sign stand for. Leading zeros are taken and not kept.
+    /// Refuses no octets, and takes memory for numbers from 2^128 on alone.
+    pub fn from_unsigned_octets(alloc: Global, octets: &[u8]) -> Result<Integer, IntegerError>
+        ensures value { IfOk result (λ n. n ≡ pos (unsigned_number octets.now)) }
+        ensures empty { IsErrOf result IntegerError.Empty ↔ (length octets.now ≡ 0) }
+        ensures overflow { IsErrOf result IntegerError.Overflow → ⊥ }
+        ensures memory { IsErrOf result IntegerError.Memory → 2 ^ 128 ≤ unsigned_number octets.now }
+    {
+        if octets.is_empty() {
+            return Err(IntegerError::Empty);
+        }
+        if let Some(wide) = Wide::from_unsigned_octets(octets) {
+            return Ok(Integer::from_wide(wide));
+        }
+        match with_zero(alloc, without_leading(false, octets)) {
+            Ok(kept) => Ok(Integer::long(kept)),
+            Err(_) => Err(IntegerError::Memory),
+        }
+    }
+
     /// The number, if 128 bits of two's complement hold it.
     pub fn to_i128(&self) -> Option<i128>
         ensures value { IfSome result (λ z. z ≡ self.now) }
@@ -195,4 +217,54 @@ impl Integer {
             },
         }
     }
+
+    // The lowest 128 bits of two's complement.
+    fn low_bits(&self) -> u128
+        ensures { result ≡ remainder self.now (2 ^ 128) }
+    {
+        match &self.kind {
+            IntegerKind::Primitive(value) => value.cast_unsigned(),
+            IntegerKind::Short(octets) => last_sixteen(octets),
+            IntegerKind::Long(octets) => last_sixteen(octets),
+        }
+    }
+
+    /// The sum, or the number of 128 bits that differs from it by a multiple of 2^128.
+    pub fn wrapping_add(&self, other: &Integer) -> Integer
+        ensures { result ≡ wrapped true (2 ^ 127 - 1) (self.now +ℤ other.now) }
+    {
+        let sum = self.low_bits().wrapping_add(other.low_bits());
+        Integer::from_i128(sum.cast_signed())
+    }
+
+    /// Whether the number is below zero.
+    pub fn is_negative(&self) -> bool
+        ensures { result ≡ is_below_zero self.now }
+    {
+        match &self.kind {
+            IntegerKind::Primitive(value) => *value < 0,
+            IntegerKind::Short(octets) => has_sign(octets),
+            IntegerKind::Long(octets) => has_sign(octets),
+        }
+    }
+}
+
+// The number that the last sixteen octets stand for.
+fn last_sixteen(octets: &[u8]) -> u128
+    requires many { 16 < length octets.now }
+    ensures { result ≡ remainder (signed_number octets.now) (2 ^ 128) }
+{
+    magnitude(false, &octets[octets.len() - 16..])
+}
+
+// Octets without a sign as octets of two's complement: behind a zero if they begin with a sign.
+fn with_zero(alloc: Global, octets: &[u8]) -> Result<Vec<u8>, AllocError>
+    ensures { IfOk result (λ v. v.items ≡ signed_from_plain octets.now) }
+{
+    let mut kept = Vec::new(alloc);
+    if has_sign(octets) {
+        kept.push(0)?;
+    }
+    kept.extend_from_slice(octets)?;
+    Ok(kept)
 }

@@ -6,8 +6,10 @@ mod constrained;
 mod conversions;
 mod error;
 mod integer;
+mod integer_type;
 
 pub use constrained::ConstrainedInteger;
 pub use conversions::TryFromIntegerError;
 pub use error::IntegerError;
 pub use integer::Integer;
+pub use integer_type::IntegerType;
