@@ -7,7 +7,7 @@ use Rattle.std.proofs.lemmas.Int.{ints}
 use Rattle.std.proofs.lemmas.Bool.Decides.{nat_tests}
 use Rattle.std.proofs.lemmas.Nat.{mul-add-lt, mod-mul-add, div-mul-add}
 use Rattle.std.proofs.lemmas.List.{take_more, map-append, drop-set}
-use Rattle.asn1_model.specs.Numbers.{digits}
+use Rattle.asn1_model.specs.Numbers.{digits, number_after}
 use Rattle.asn1_values_natives.specs.Octets.{unsigned_number, signed_number, is_padded, sign_free}
 
 abbrev pub AreOctets : List ℕ → Type 0
@@ -181,3 +181,18 @@ pub rest-more : (n i r : ℕ) → r ≡ n / 256 ^ i → r / 256 ≡ n / 256 ^ (i
 rest-more n i r e =
     let p : 256 ^ (i + 1) ≡ 256 ^ i * 256 = ap (λ k. 256 ^ k) (omega arith) ∙ pow-suc 256 i in
     rw (e, p) (div-div-eq-div-mul n (256 ^ i) 256)
+
+-- ---- the number of digits
+
+behind : (n : ℕ) (os : List ℕ) → number_after 256 n os ≡ n * 256 ^ length os + unsigned_number os
+behind n [] = omega arith
+behind n (o ∷ os) =
+    let h = behind (n * 256 + o) os in
+    let p : 256 ^ suc (length os) ≡ 256 ^ length os * 256 = pow-suc 256 (length os) in
+    h ∙ regroup n o (256 ^ length os) (unsigned_number os) ∙ ap (λ x. n * x + (o * 256 ^ length os + unsigned_number os)) (sym p)
+  where
+    regroup : (n o p u : ℕ) → (n * 256 + o) * p + u ≡ n * (p * 256) + (o * p + u)
+    regroup n o p u = omega arith
+
+pub unsigned-after : (os : List ℕ) → unsigned_number os ≡ number_after 256 0 os
+unsigned-after os = let h = behind 0 os in omega arith

@@ -199,3 +199,11 @@ written-fewest z = at_test (is_padded (signed_octets_of z)) refl
     at_test : (b : Bool) → is_padded (signed_octets_of z) ≡ b → is_padded (signed_octets_of z) ≡ false
     at_test false e = e
     at_test true e = padded-longer (signed_octets_of z) (octets-complement (signed_octets z) z) (ap signed_octets (signed-back z) ∙ sym (length-complement (signed_octets z) z)) e
+
+pub complement-back : (os : List ℕ) → AreOctets os → 0 < length os → complement (length os) (signed_number os) ≡ os
+complement-back [] h n = refl
+complement-back (o ∷ os) h n = complement-signed o os h
+
+pub written-least : (os : List ℕ) → AreOctets os → 0 < length os → length (signed_octets_of (signed_number os)) ≤ length os
+written-least [] h n = absurd (omega arith)
+written-least (o ∷ os) h n = let l = length-complement (signed_octets (signed_number (o ∷ os))) (signed_number (o ∷ os)) in let m = signed_octets-least o os h in omega arith

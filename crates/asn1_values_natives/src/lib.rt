@@ -2,6 +2,7 @@
 #![tactic(auto)]
 
 mod bytes;
+pub mod laws;
 mod native;
 pub mod octets;
 mod wide;

@@ -7,6 +7,7 @@ mod conversions;
 mod error;
 mod integer;
 mod integer_type;
+mod text;
 
 pub use constrained::ConstrainedInteger;
 pub use conversions::TryFromIntegerError;
