@@ -6,6 +6,7 @@ ghost use Rattle.asn1_values_natives.specs.Ranges.{range_of, natural_range, whol
 
 use crate::integer::Integer;
 use asn1_values_natives::NativeInteger;
+use std::error::Error;
 use std::fmt;
 use std::marker::Model;
 
@@ -40,6 +41,15 @@ impl TryFromIntegerError {
         self.original
     }
 }
+
+impl fmt::Display for TryFromIntegerError {
+    fn fmt<W: fmt::Write>(&self, f: &mut fmt::Formatter<W>) -> fmt::Result {
+        let original = &self.original;
+        write!(f, "{original} is outside the range of its type")
+    }
+}
+
+impl Error for TryFromIntegerError {}
 
 impl<T: NativeInteger> From<T> for Integer {
     ghost from_gives = { λ x z. z ≡ T.number x };

@@ -14,3 +14,6 @@ pub use conversions::TryFromIntegerError;
 pub use error::IntegerError;
 pub use integer::Integer;
 pub use integer_type::IntegerType;
+
+#[cfg(test)]
+mod tests;
