@@ -1,0 +1,4 @@
+pub mod OctetLaws
+pub mod Widths
+pub mod TwosComplement
+pub mod RangeLaws

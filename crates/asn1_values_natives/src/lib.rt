@@ -1,0 +1,12 @@
+//! The native integer types, and whole numbers of up to 129 bits as octets of two's complement.
+#![tactic(auto)]
+
+mod bytes;
+pub mod laws;
+mod native;
+pub mod octets;
+mod wide;
+
+pub use bytes::IntegerBytes;
+pub use native::NativeInteger;
+pub use wide::Wide;

@@ -1,0 +1,3 @@
+pub mod KindLaws
+pub mod Orders
+pub mod LowBits

@@ -1,0 +1,19 @@
+//! Whole numbers of any size.
+#![tactic(auto)]
+
+mod compare;
+mod constrained;
+mod conversions;
+mod error;
+mod integer;
+mod integer_type;
+mod text;
+
+pub use constrained::ConstrainedInteger;
+pub use conversions::TryFromIntegerError;
+pub use error::IntegerError;
+pub use integer::Integer;
+pub use integer_type::IntegerType;
+
+#[cfg(test)]
+mod tests;
