@@ -1,0 +1,3 @@
+pub mod OctetLaws
+pub mod Widths
+pub mod TwosComplement

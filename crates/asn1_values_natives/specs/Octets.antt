@@ -1,0 +1,57 @@
+-- Whole numbers as octets.
+use Rattle.std.specs.Prelude.{ℕ, suc, ◌+◌, ◌-◌, ◌*◌, ◌^◌, ◌==◌, leb, ltb, ℤ, pos, negsuc, ◌-ℤ◌, Bool, true, false, cond, ◌&&◌, ◌||◌, List, [], ◌∷◌, length}
+use Rattle.asn1_model.specs.Numbers.{digits, complement, signed_octets, least_octets}
+
+-- the number that octets stand for: each counts 256 to the power of how many stand behind it (X.690 8.3.3, with no sign)
+abbrev pub unsigned_number : List ℕ → ℕ
+unsigned_number [] = 0
+unsigned_number (o ∷ os) = o * 256 ^ length os + unsigned_number os
+
+-- the whole number that octets of two's complement stand for: the highest bit of the first octet counts negative (X.690 8.3.3)
+abbrev pub signed_number : List ℕ → ℤ
+signed_number [] = pos 0
+signed_number (o ∷ os) = pos (unsigned_number (o ∷ os)) -ℤ pos (cond (leb 128 o) (256 ^ suc (length os)) 0)
+
+-- whether the first nine bits are alike, so that the first octet may be left out (X.690 8.3.2)
+abbrev pub is_padded : List ℕ → Bool
+is_padded (a ∷ b ∷ os) = ((a == 0) && ltb b 128) || ((a == 255) && leb 128 b)
+is_padded _ = false
+
+-- an octet, turned over if it stands in a negative number
+abbrev pub sign_free : Bool → ℕ → ℕ
+sign_free true o = 255 - o
+sign_free false o = o
+
+-- a whole number by its sign and what follows: m, or one below the negative of m
+abbrev pub signed_by : Bool → ℕ → ℤ
+signed_by true m = negsuc m
+signed_by false m = pos m
+
+-- what follows the sign
+abbrev pub plain : ℤ → ℕ
+plain (pos m) = m
+plain (negsuc m) = m
+
+-- the fewest octets of a number that isn't negative, at least one; of a negative number its fewest octets of two's complement
+abbrev pub unsigned_octets_of : ℤ → List ℕ
+unsigned_octets_of (pos m) = digits 256 (least_octets m) m
+unsigned_octets_of (negsuc m) = complement (signed_octets (negsuc m)) (negsuc m)
+
+-- the fewest octets of two's complement of a whole number (X.690 8.3.2 and 8.3.3)
+abbrev pub signed_octets_of : ℤ → List ℕ
+signed_octets_of z = complement (signed_octets z) z
+
+-- whether the first octet says nothing beside the sign
+abbrev pub is_leading : Bool → List ℕ → Bool
+is_leading b (o ∷ os) = sign_free b o == 0
+is_leading b [] = false
+
+-- whether octets of two's complement stand for a number below zero
+abbrev pub is_negative : List ℕ → Bool
+is_negative (o ∷ os) = leb 128 o
+is_negative [] = false
+
+-- octets without a leading zero
+abbrev pub plain_octets : List ℕ → List ℕ
+plain_octets (o ∷ os) = cond (o == 0) os (o ∷ os)
+plain_octets [] = []

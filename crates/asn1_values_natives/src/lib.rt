@@ -1,0 +1,11 @@
+//! The native integer types, and whole numbers of up to 129 bits as octets of two's complement.
+#![tactic(auto)]
+
+mod bytes;
+mod native;
+pub mod octets;
+mod wide;
+
+pub use bytes::IntegerBytes;
+pub use native::NativeInteger;
+pub use wide::Wide;

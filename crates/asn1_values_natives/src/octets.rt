@@ -1,0 +1,111 @@
+//! Octets of two's complement.
+ghost use Rattle.std.specs.Prelude.{◌≡◌, ℕ, ◌+◌, ◌-◌, ◌*◌, ◌/◌, ◌^◌, ◌<◌, ◌≤◌, List, length, map, drop, false};
+ghost use Rattle.asn1_model.specs.Numbers.{digits, width};
+ghost use Rattle.asn1_values_natives.specs.Octets.{signed_number, unsigned_number, is_padded, is_leading, is_negative, sign_free, plain_octets};
+
+// Whether the first octet only repeats the sign.
+pub fn has_padding(octets: &[u8]) -> bool
+    ensures { result ≡ is_padded octets.now }
+{
+    match octets {
+        [0, second, ..] => *second < 128,
+        [255, second, ..] => *second >= 128,
+        _ => false,
+    }
+}
+
+// The octets behind those that only repeat the sign.
+pub fn without_padding(octets: &[u8]) -> &[u8]
+    ensures same { signed_number result.now ≡ signed_number octets.now }
+    ensures fewest { is_padded result.now ≡ false }
+    ensures some { 0 < length octets.now → 0 < length result.now }
+{
+    let mut rest = octets;
+    while has_padding(rest) {
+        rest = &rest[1..];
+    }
+    rest
+}
+
+// An octet of a number's magnitude: turned over in a negative number.
+pub fn without_sign(negative: bool, octet: u8) -> u8
+    ensures { result ≡ sign_free negative octet }
+{
+    if negative { 255 - octet } else { octet }
+}
+
+// Whether octets of two's complement stand for a number below zero.
+pub fn has_sign(octets: &[u8]) -> bool
+    ensures { result ≡ is_negative octets.now }
+{
+    match octets {
+        [first, ..] => *first >= 128,
+        [] => false,
+    }
+}
+
+// Whether the first octet is one of the sign alone: zero, or 255 in a negative number.
+pub fn has_leading(negative: bool, octets: &[u8]) -> bool
+    ensures { result ≡ is_leading negative octets.now }
+{
+    match octets {
+        [first, ..] => without_sign(negative, *first) == 0,
+        [] => false,
+    }
+}
+
+// The octets behind leading ones of the sign alone.
+pub fn without_leading(negative: bool, octets: &[u8]) -> &[u8]
+    ensures same { unsigned_number (map (sign_free negative) result.now) ≡ unsigned_number (map (sign_free negative) octets.now) }
+    ensures fewest { is_leading negative result.now ≡ false }
+{
+    let mut rest = octets;
+    while has_leading(negative, rest) {
+        rest = &rest[1..];
+    }
+    rest
+}
+
+// Fewest octets of two's complement, without the octet that only shows that the number isn't negative.
+pub fn without_zero(octets: &[u8]) -> &[u8]
+    ensures { result.now ≡ plain_octets octets.now }
+{
+    match octets {
+        [0, behind @ ..] => behind,
+        _ => octets,
+    }
+}
+
+// The number that at most sixteen octets stand for, each turned over if it is negative.
+pub fn magnitude(negative: bool, octets: &[u8]) -> u128
+    requires { length octets.now ≤ 16 }
+    ensures value { result ≡ unsigned_number (map (sign_free negative) octets.now) }
+{
+    let mut total: u128 = 0;
+    for octet in octets {
+        total = total * 256 + u128::from(without_sign(negative, *octet));
+    }
+    total
+}
+
+// How many binary digits a number has.
+pub fn bit_count(number: u128) -> usize
+    ensures value { result ≡ width number }
+    ensures bound { result ≤ 128 }
+{
+    128 - number.leading_zeros() as usize
+}
+
+// The last octets of a number, each turned over if it is negative, at the end of seventeen.
+pub fn last_octets(negative: bool, number: u128, count: usize) -> [u8; 17]
+    requires { count ≤ 17 }
+    ensures { drop (17 - count) result ≡ map (sign_free negative) (digits 256 count number) }
+{
+    let mut octets = [0u8; 17];
+    let mut rest = number;
+    for done in 0..count {
+        octets[16 - done] = without_sign(negative, (rest % 256) as u8);
+        rest /= 256;
+    }
+    octets
+}
