@@ -1,5 +1,5 @@
 -- Octets that are read of bits, and the whole numbers whose fewest octets they are.
-use Rattle.std.proofs.Common.{◌≡◌, ℕ, ℤ, zero, suc, ◌+◌, ◌-◌, ◌*◌, ◌%◌, ◌<◌, ◌≤◌, pos, negsuc, Bool, false, List, [], ◌∷◌, ◌++◌, length, take, replicate, get_or, refl, ap, sym, ◌∙◌, arith, Fits, w8}
+use Rattle.std.proofs.Common.{◌≡◌, ℕ, ℤ, zero, suc, ◌+◌, ◌*◌, ◌<◌, ◌≤◌, pos, negsuc, Bool, false, List, [], ◌∷◌, length, take, replicate, get_or, refl, ap, sym, ◌∙◌, arith, Fits, w8}
 use Rattle.std.proofs.lemmas.List.{length-append, length-replicate, length-take-le}
 use Rattle.asn1_model.specs.Numbers.{octet_bits, packed, missing, complement, signed_octets}
 use Rattle.asn1_values_bits.specs.Octets.{filled_up}

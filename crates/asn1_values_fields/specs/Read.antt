@@ -1,5 +1,5 @@
 -- Bits as fields of given shapes.
-use Rattle.std.specs.Prelude.{◌≡◌, ℕ, ℤ, zero, suc, ◌+◌, ◌*◌, ◌^◌, ◌<◌, ◌≤◌, Bool, List, [], ◌∷◌, ◌++◌, Option, Some, None, length, take, drop}
+use Rattle.std.specs.Prelude.{◌≡◌, ℕ, ℤ, zero, suc, ◌*◌, ◌^◌, ◌<◌, ◌≤◌, Bool, List, [], ◌∷◌, Some, length, take, drop}
 use Rattle.asn1_model.specs.Numbers.{binary, octet_bits, complement, signed_octets}
 use Rattle.asn1_values_alphabets.specs.Codes.{CodedCharacters, code_of}
 use Rattle.asn1_values_fields.specs.Written.{codes_of}
@@ -31,19 +31,36 @@ IsValueOf s v w = ⊥
 abbrev pub AreNotFewest : ℕ → List Bool → Type 0
 AreNotFewest count w = (z : ℤ) → signed_octets z ≡ count → w ≡ octet_bits (complement count z) → ⊥
 
+-- bits are a character's code
+pub record HasCode (alphabet : CodedCharacters) (character : ℕ) (bits : List Bool) : Type 0 where
+  pub code : ℕ
+  pub is_code : code_of alphabet character ≡ Some code
+  pub digits : bits ≡ binary alphabet.code_bits code
+
+-- bits are the code of no character
+pub record IsUnknownCode (alphabet : CodedCharacters) (bits : List Bool) : Type 0 where
+  pub code : ℕ
+  pub digits : bits ≡ binary alphabet.code_bits code
+  pub unknown : (c : ℕ) → code_of alphabet c ≡ Some code → ⊥
+
 -- among so many codes one is that of no character
 pub record HasUnknownCode (alphabet : CodedCharacters) (count : ℕ) (bits : List Bool) : Type 0 where
   pub place : ℕ
-  pub code : ℕ
   pub within : place < count
-  pub there : binary alphabet.code_bits code ≡ take alphabet.code_bits (drop (place * alphabet.code_bits) bits)
-  pub unknown : (c : ℕ) → code_of alphabet c ≡ Some code → ⊥
+  pub there : IsUnknownCode alphabet (take alphabet.code_bits (drop (place * alphabet.code_bits) bits))
+
+-- why so many characters cannot be read
+abbrev pub AreUnreadable : CodedCharacters → ℕ → List Bool → FieldFaultKind → Type 0
+AreUnreadable alphabet count bits NoCharacter = (count * alphabet.code_bits ≤ length bits) × HasUnknownCode alphabet count bits
+AreUnreadable alphabet count bits Short = length bits < count * alphabet.code_bits
+AreUnreadable alphabet count bits Memory = Unit {0}
+AreUnreadable alphabet count bits k = ⊥
 
 -- what is wrong where a field of a shape is to be read
 abbrev pub IsUnreadable : FieldShape → List Bool → FieldFaultKind → Type 0
 IsUnreadable (shape.Number width) bits DoesNotFit = 128 < width
 IsUnreadable (shape.Whole count) bits NotShortest = (count * 8 ≤ length bits) × AreNotFewest count (take (count * 8) bits)
-IsUnreadable (shape.Characters alphabet count) bits NoCharacter = (count * alphabet.now.code_bits ≤ length bits) × HasUnknownCode alphabet.now count bits
+IsUnreadable (shape.Characters alphabet count) bits k = AreUnreadable alphabet.now count bits k
 IsUnreadable s bits Short = length bits < width_of s
 IsUnreadable s bits Memory = Unit {0}
 IsUnreadable s bits k = ⊥

@@ -6,8 +6,7 @@ use Rattle.asn1_values_alphabets.specs.Codes.{CodedCharacters, code_of}
 use Rattle.asn1_values_fields.specs.declared.field_bits.FieldBits.{FieldBits}
 use Rattle.asn1_values_fields.specs.declared.field_bits.FieldBits.TheVariants.{Bits, Number, Octets, Whole, Characters}
 use Rattle.asn1_values_fields.specs.declared.fault.FieldFaultKind.{FieldFaultKind}
-use Rattle.asn1_values_fields.specs.declared.fault.FieldFaultKind.TheVariants.{DoesNotFit, Short, NotShortest, NoCharacter, Memory}
-
+use Rattle.asn1_values_fields.specs.declared.fault.FieldFaultKind.TheVariants.{DoesNotFit, Memory}
 
 -- two lists one behind the other, if both are there
 abbrev pub both : Option (List Bool) → Option (List Bool) → Option (List Bool)

@@ -15,7 +15,10 @@ pub enum FieldBits<'a> {
     /// Bits as they are.
     Bits(BitStr<'a>),
     /// So many binary digits of a number, the highest first.
-    Number { value: u128, width: u32 },
+    Number {
+        value: u128,
+        width: u32,
+    },
     /// Octets, each of eight bits.
     Octets(&'a [u8]),
     /// The fewest octets of two's complement of a whole number (X.690 8.3).

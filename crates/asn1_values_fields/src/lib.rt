@@ -9,3 +9,7 @@ pub mod reading;
 pub use fault::{FieldFault, FieldFaultKind};
 pub use field_bits::{FieldBits, write_fields};
 pub use field_shape::{FieldShape, FieldValue};
+pub use reading::read_fields;
+
+#[cfg(test)]
+mod tests;

@@ -6,5 +6,5 @@ use Rattle.asn1_values_fields.proofs.field_bits.push_all.Given as goal
 abbrev pub invariant-loop-field : goal.invariant-loop-field
 invariant-loop-field l = record {
   done : appended l.buffer (bits_of_fields (drop l.field l.fields)) ≡ appended l.initial.buffer (bits_of_fields l.fields);
-  stuck : (n : ℕ) (k : FieldFaultKind) → IsFirstUnwritten (drop l.field l.fields) n k → IsFirstUnwritten l.fields (l.field + n) k
+  stuck : (n : ℕ) (k : FieldFaultKind) → IsFirstUnwritten (drop l.field l.fields) n k → IsFirstUnwritten l.fields (l.field + n) k;
 }

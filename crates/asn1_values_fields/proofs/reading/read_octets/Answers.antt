@@ -1,4 +1,4 @@
-use Rattle.std.proofs.Common.{sym, ◌∙◌}
+use Rattle.std.proofs.Common.{◌∙◌}
 use Rattle.asn1_values_fields.proofs.Shortest.{octets_taken}
 use Rattle.asn1_values_fields.proofs.reading.read_octets.Goals as goal
 

@@ -1,5 +1,4 @@
-use Rattle.std.proofs.Common.{◌≡◌, length, sym, ◌∙◌, inr, refl}
-use Rattle.asn1_model.specs.Numbers.{signed_octets}
+use Rattle.std.proofs.Common.{sym, ◌∙◌, inr, refl}
 use Rattle.asn1_values_fields.proofs.Shortest.{not_fewest, fewest_octets, octets_written}
 use Rattle.asn1_values_fields.proofs.reading.shortest_number.Goals as goal
 
