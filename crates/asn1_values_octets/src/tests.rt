@@ -16,60 +16,98 @@ fn is_before<T: Ord>(first: &T, second: &T) -> bool {
     first != second && first.cmp(second) == Ordering::Less
 }
 
+const OCTETS: [u8; 3] = [0xFF, 0x00, 0x61];
+
 #[test]
-fn octet_strings_keep_their_octets(rt: HostRuntime) -> Result<(), Fail> {
-    let octets = [0xFF, 0x00, 0x61];
-    let copied = OctetString::from_slice(rt.alloc(), &octets)?;
-    let listed = OctetString::from_array(rt.alloc(), octets)?;
-    let moved = OctetString::from_vec(octets.to_vec(rt.alloc())?)?;
-    let tried = OctetString::try_from(octets.to_vec(rt.alloc())?)?;
-    let fixed = OctetString::from_static(&[0xFF, 0x00, 0x61]);
-    for value in [&copied, &listed, &moved, &tried, &fixed] {
-        assert_eq!(rt; octets_of(value), octets.as_slice());
-        assert_eq!(rt; value.len(), 3);
-        assert!(rt; !value.is_empty());
-        assert!(rt; *value == copied);
-        assert_eq!(rt; value.to_vec(rt.alloc())?.as_slice(), octets.as_slice());
-        assert_eq!(rt;
-            value.clone()?.into_vec(rt.alloc())?.as_slice(),
-            octets.as_slice()
-        );
-    }
-    assert_eq!(rt; copied[2], 0x61);
-    assert_eq!(rt; moved.into_vec(rt.alloc())?.as_slice(), octets.as_slice());
-    assert!(rt; OctetString::new() == OctetString::default());
-    assert!(rt; OctetString::new().is_empty());
+fn slices_are_copied(rt: HostRuntime) -> Result<(), Fail> {
+    let value = OctetString::from_slice(rt.alloc(), &OCTETS)?;
+    assert_eq!(rt; octets_of(&value), OCTETS.as_slice());
+    assert_eq!(rt; value.to_vec(rt.alloc())?.as_slice(), OCTETS.as_slice());
     Ok(())
 }
 
 #[test]
-fn octets_are_shared_with_bytes(rt: HostRuntime) -> Result<(), Fail> {
-    let octets = Bytes::copy_from_slice(rt.alloc(), &[1, 2, 3])?;
+fn arrays_are_copied(rt: HostRuntime) -> Result<(), Fail> {
+    let value = OctetString::from_array(rt.alloc(), OCTETS)?;
+    assert_eq!(rt; value.len(), 3);
+    assert_eq!(rt; value.as_slice(), OCTETS.as_slice());
+    Ok(())
+}
+
+#[test]
+fn vectors_are_moved(rt: HostRuntime) -> Result<(), Fail> {
+    let value = OctetString::from_vec(OCTETS.to_vec(rt.alloc())?)?;
+    assert!(rt; !value.is_empty());
+    assert_eq!(rt; value.into_vec(rt.alloc())?.as_slice(), OCTETS.as_slice());
+    Ok(())
+}
+
+#[test]
+fn vectors_are_converted(rt: HostRuntime) -> Result<(), Fail> {
+    let value = OctetString::try_from(OCTETS.to_vec(rt.alloc())?)?;
+    assert_eq!(rt; value.as_slice(), OCTETS.as_slice());
+    Ok(())
+}
+
+#[test]
+fn clones_are_equal(rt: HostRuntime) -> Result<(), Fail> {
+    let value = OctetString::from_static(&[0xFF, 0x00, 0x61]);
+    let copy = value.clone()?;
+    assert!(rt; copy == value);
+    assert_eq!(rt; copy.into_vec(rt.alloc())?.as_slice(), OCTETS.as_slice());
+    Ok(())
+}
+
+#[test]
+fn a_new_string_is_empty(rt: HostRuntime) {
+    assert!(rt; OctetString::new() == OctetString::default());
+    assert!(rt; OctetString::new().is_empty());
+}
+
+#[test]
+fn octets_are_taken_of_bytes(rt: HostRuntime) -> Result<(), Fail> {
+    let octets = Bytes::copy_from_slice(rt.alloc(), &OCTETS)?;
     let value = OctetString::try_from(&octets)?;
-    assert_eq!(rt; Bytes::try_from(&value)?.as_slice(), octets.as_slice());
-    assert_eq!(rt;
-        Bytes::from(OctetString::from(octets)).as_slice(),
-        value.as_slice()
-    );
-    assert_eq!(rt;
-        value.into_vec(rt.alloc())?.as_slice(),
-        [1, 2, 3].as_slice()
-    );
+    assert_eq!(rt; value.as_slice(), OCTETS.as_slice());
+    assert_eq!(rt; OctetString::from(octets).as_slice(), OCTETS.as_slice());
+    Ok(())
+}
+
+#[test]
+fn octets_are_given_as_bytes(rt: HostRuntime) -> Result<(), Fail> {
+    let value = OctetString::from_static(&[0xFF, 0x00, 0x61]);
+    assert_eq!(rt; Bytes::try_from(&value)?.as_slice(), OCTETS.as_slice());
+    assert_eq!(rt; Bytes::from(value).as_slice(), OCTETS.as_slice());
     Ok(())
 }
 
 #[test]
 fn octet_strings_are_compared_as_lists(rt: HostRuntime) {
-    let ordered: [&'static [u8]; 6] = [&[], &[0], &[0, 255], &[1], &[1, 0], &[255]];
-    for i in 1..6 {
-        let lower = OctetString::from_static(ordered[i - 1]);
-        let upper = OctetString::from_static(ordered[i]);
-        assert!(rt; is_before(&lower, &upper), "at {i}");
-        assert!(rt; lower < upper, "at {i}");
-        assert_eq!(rt; lower.partial_cmp(&upper), Some(Ordering::Less), "at {i}");
+    let rows: [(&'static [u8], &'static [u8]); 4] = [
+        (&[], &[0]),
+        (&[0], &[0, 255]),
+        (&[0, 255], &[1]),
+        (&[1, 0], &[255]),
+    ];
+    for (first, second) in rows {
+        let lower = OctetString::from_static(first);
+        let upper = OctetString::from_static(second);
+        assert!(rt; is_before(&lower, &upper));
     }
+}
+
+#[test]
+fn orders_agree(rt: HostRuntime) {
+    let lower = OctetString::from_static(&[1]);
+    let upper = OctetString::from_static(&[1, 0]);
+    assert_eq!(rt; lower.partial_cmp(&upper), Some(Ordering::Less));
+}
+
+#[test]
+fn fixed_strings_are_compared_as_lists(rt: HostRuntime) {
     let first = FixedOctetString::new([1, 0]);
-    assert!(rt; is_before(&first, &FixedOctetString::new([1, 1])));
+    let second = FixedOctetString::new([1, 1]);
+    assert!(rt; is_before(&first, &second));
     assert_eq!(rt; first.partial_cmp(&first), Some(Ordering::Equal));
 }
 
@@ -86,34 +124,45 @@ fn equal_strings_are_hashed_alike(rt: HostRuntime) {
 }
 
 #[test]
-fn fixed_strings_hold_as_many_octets(rt: HostRuntime) -> Result<(), Fail> {
-    let octets = [4, 5, 6];
-    let value = FixedOctetString::new(octets);
-    let short = FixedOctetString::<4>::try_from(octets.as_slice());
+fn fixed_strings_hold_as_many_octets(rt: HostRuntime) {
     let wanted = WrongLength {
         actual: 3,
         expected: 4,
     };
-    assert_eq!(rt; short, Err(wanted));
-    assert_eq!(rt; FixedOctetString::try_from(octets.as_slice()), Ok(value));
-    assert_eq!(rt;
-        FixedOctetString::try_from(octets.to_vec(rt.alloc())?),
-        Ok(value)
-    );
-    let listed = OctetString::from_static(&[4, 5, 6]);
-    assert_eq!(rt; FixedOctetString::try_from(listed), Ok(value));
-    assert_eq!(rt; FixedOctetString::from(octets), value);
-    assert_eq!(rt; value.into_array().as_slice(), octets.as_slice());
-    assert_eq!(rt; <[u8; 3]>::from(value).as_slice(), octets.as_slice());
-    assert_eq!(rt; octets_of(&value), octets.as_slice());
-    assert_eq!(rt; value.to_vec(rt.alloc())?.as_slice(), octets.as_slice());
-    assert_eq!(rt; value.len(), 3);
-    assert_eq!(rt;
-        FixedOctetString::<2>::default().as_slice(),
-        [0, 0].as_slice()
-    );
-    assert_eq!(rt; FixedOctetString::<0>::default().len(), 0);
+    let short = FixedOctetString::<4>::try_from(OCTETS.as_slice());
+    assert_eq!(rt; short.err(), Some(wanted));
+    let exact = FixedOctetString::<3>::try_from(OCTETS.as_slice());
+    assert_eq!(rt; exact.ok(), Some(FixedOctetString::new(OCTETS)));
+}
+
+#[test]
+fn vectors_become_fixed_strings(rt: HostRuntime) -> Result<(), Fail> {
+    let exact = FixedOctetString::<3>::try_from(OCTETS.to_vec(rt.alloc())?);
+    assert_eq!(rt; exact.ok(), Some(FixedOctetString::new(OCTETS)));
     Ok(())
+}
+
+#[test]
+fn octet_strings_become_fixed_strings(rt: HostRuntime) {
+    let listed = OctetString::from_static(&[0xFF, 0x00, 0x61]);
+    let exact = FixedOctetString::<3>::try_from(listed);
+    assert_eq!(rt; exact.ok(), Some(FixedOctetString::from(OCTETS)));
+}
+
+#[test]
+fn fixed_strings_give_their_octets(rt: HostRuntime) -> Result<(), Fail> {
+    let value = FixedOctetString::new(OCTETS);
+    assert_eq!(rt; octets_of(&value), OCTETS.as_slice());
+    assert_eq!(rt; value.into_array().as_slice(), OCTETS.as_slice());
+    assert_eq!(rt; <[u8; 3]>::from(value).as_slice(), OCTETS.as_slice());
+    assert_eq!(rt; value.to_vec(rt.alloc())?.as_slice(), OCTETS.as_slice());
+    Ok(())
+}
+
+#[test]
+fn fixed_strings_are_zeros_at_first(rt: HostRuntime) {
+    assert_eq!(rt; FixedOctetString::<2>::default().as_slice(), [0, 0].as_slice());
+    assert_eq!(rt; FixedOctetString::<0>::default().len(), 0);
 }
 
 #[test]
@@ -130,56 +179,40 @@ fn fixed_strings_are_written_in_place(rt: HostRuntime) {
 #[test]
 fn strings_are_shown(rt: HostRuntime) -> Result<(), Fail> {
     let value = OctetString::from_static(&[0x61, 0x00]);
-    assert_eq!(rt;
-        format!(in rt.alloc(); "{value:?}")?.as_str(),
-        "OctetString { octets: b\"a\\0\" }"
-    );
+    let shown = format!(in rt.alloc(); "{value:?}")?;
+    assert_eq!(rt; shown.as_str(), "OctetString { octets: b\"a\\0\" }");
+    Ok(())
+}
+
+#[test]
+fn wrong_lengths_are_shown(rt: HostRuntime) -> Result<(), Fail> {
     let wrong = WrongLength {
         actual: 3,
         expected: 4,
     };
-    assert_eq!(rt;
-        format!(in rt.alloc(); "{wrong}")?.as_str(),
-        "3 octets in place of 4"
-    );
+    let shown = format!(in rt.alloc(); "{wrong}")?;
+    assert_eq!(rt; shown.as_str(), "3 octets in place of 4");
     Ok(())
 }
 
-/// Every request for memory is either granted, and then the octets are these, or refused, and then
-/// what was there is as before.
+/// A request for memory is granted, and then the octets are these, or refused.
 #[test]
-fn refused_memory_changes_nothing(rt: HostRuntime) {
-    let alloc = rt.alloc();
-    let octets = [1, 2, 3];
-    let value = OctetString::from_slice(alloc, &octets).unwrap_or(OctetString::from_static(&[
-        1, 2, 3,
-    ]));
-    assert_eq!(rt; value.as_slice(), octets.as_slice());
-    if let Ok(listed) = OctetString::from_array(alloc, octets) {
-        assert!(rt; listed == value);
+fn copies_are_whole_or_refused(rt: HostRuntime) {
+    if let Ok(value) = OctetString::from_slice(rt.alloc(), &OCTETS) {
+        assert_eq!(rt; value.as_slice(), OCTETS.as_slice());
     }
-    if let Ok(vector) = value.to_vec(alloc) {
-        assert_eq!(rt; vector.as_slice(), octets.as_slice());
+    if let Ok(vector) = FixedOctetString::new(OCTETS).to_vec(rt.alloc()) {
+        assert_eq!(rt; vector.as_slice(), OCTETS.as_slice());
+    }
+}
+
+/// A refused vector is handed back as it was.
+#[test]
+fn refused_vectors_are_handed_back(rt: HostRuntime) {
+    if let Ok(vector) = OCTETS.to_vec(rt.alloc()) {
         match OctetString::from_vec(vector) {
-            Ok(moved) => assert!(rt; moved == value),
-            Err(refused) => assert_eq!(rt; refused.value.as_slice(), octets.as_slice()),
+            Ok(moved) => assert_eq!(rt; moved.as_slice(), OCTETS.as_slice()),
+            Err(refused) => assert_eq!(rt; refused.value.as_slice(), OCTETS.as_slice()),
         }
-    }
-    if let Ok(copy) = value.clone() {
-        assert!(rt; copy == value);
-    }
-    if let Ok(shared) = Bytes::try_from(&value) {
-        if let Ok(again) = OctetString::try_from(&shared) {
-            assert!(rt; again == value);
-        }
-        if let Ok(vector) = value.into_vec(alloc) {
-            assert_eq!(rt; vector.as_slice(), octets.as_slice());
-        }
-        if let Ok(vector) = OctetString::from(shared).into_vec(alloc) {
-            assert_eq!(rt; vector.as_slice(), octets.as_slice());
-        }
-    }
-    if let Ok(vector) = FixedOctetString::new(octets).to_vec(alloc) {
-        assert_eq!(rt; vector.as_slice(), octets.as_slice());
     }
 }
