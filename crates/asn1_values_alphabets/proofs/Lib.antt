@@ -1,0 +1,3 @@
+pub mod Widths
+pub mod SingleRuns
+pub mod Coded

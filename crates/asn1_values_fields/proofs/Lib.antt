@@ -1,0 +1,3 @@
+pub mod Appending
+pub mod Shortest
+pub mod Chains

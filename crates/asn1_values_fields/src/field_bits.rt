@@ -1,0 +1,133 @@
+//! Fields that are written.
+ghost use Rattle.std.specs.Prelude.{◌≡◌, ◌↔◌, ◌++◌, ◌∷◌, ◌≤◌, ◌<◌, ◌^◌, ◌⊎◌, [], IsTrue, is_some, option_map, Some, None, Ok, Err, OnOk, OnErr, IfErr};
+ghost use Rattle.asn1_model.specs.Numbers.{octet_bits};
+ghost use Rattle.asn1_values_fields.specs.Written.{codes_of, digits_of, bits_of_fields, appended, IsUnwritable, IsFirstUnwritten};
+
+use crate::fault::{FieldFault, FieldFaultKind};
+use asn1_values_alphabets::CharacterAlphabet;
+use asn1_values_bits::{BitBuffer, BitStr};
+use asn1_values_numbers::Integer;
+use std::alloc::Global;
+
+/// A field that is to be written.
+#[derive(Drop)]
+pub enum FieldBits<'a> {
+    /// Bits as they are.
+    Bits(BitStr<'a>),
+    /// So many binary digits of a number, the highest first.
+    Number {
+        value: u128,
+        width: u32,
+    },
+    /// Octets, each of eight bits.
+    Octets(&'a [u8]),
+    /// The fewest octets of two's complement of a whole number (X.690 8.3).
+    Whole(&'a Integer),
+    /// The codes of characters in their alphabet (X.691 30.5).
+    Characters {
+        alphabet: &'a CharacterAlphabet,
+        characters: &'a [u32],
+    },
+}
+
+/// Appends the codes of characters. Refused, the buffer holds a part of them.
+fn push_characters(
+    buffer: &mut BitBuffer,
+    alphabet: &CharacterAlphabet,
+    characters: &[u32],
+) -> Result<(), FieldFaultKind>
+    ensures ok { OnOk result (appended buffer.old (codes_of alphabet.now characters.now) ≡ Some buffer.new) }
+    ensures wrong { IfErr result (IsUnwritable (codes_of alphabet.now characters.now)) }
+{
+    let width = alphabet.width();
+    for character in characters {
+        let Ok(code) = alphabet.encode(*character) else {
+            return Err(FieldFaultKind::DoesNotFit);
+        };
+        if buffer.push_bits(u128::from(code), width).is_err() {
+            return Err(FieldFaultKind::Memory);
+        }
+    }
+    Ok(())
+}
+
+/// Appends the digits of a number.
+fn push_number(buffer: &mut BitBuffer, value: u128, width: u32) -> Result<(), FieldFaultKind>
+    ensures ok { OnOk result (appended buffer.old (digits_of value width) ≡ Some buffer.new) }
+    ensures wrong { IfErr result (IsUnwritable (digits_of value width)) }
+{
+    if width > 128 || (width < 128 && value >> width > 0) {
+        return Err(FieldFaultKind::DoesNotFit);
+    }
+    match buffer.push_bits(value, width) {
+        Ok(()) => Ok(()),
+        Err(_) => Err(FieldFaultKind::Memory),
+    }
+}
+
+impl<'a> FieldBits<'a> {
+    ghost use Rattle.asn1_values_fields.specs.Written.{bits_of_field, IsUnwritable, appended};
+
+    /// Appends the field. Refused, the buffer holds a part of it.
+    fn push_to(&self, buffer: &mut BitBuffer) -> Result<(), FieldFaultKind>
+        ensures ok { OnOk result (appended buffer.old (bits_of_field self.now) ≡ Some buffer.new) }
+        ensures wrong { IfErr result (IsUnwritable (bits_of_field self.now)) }
+    {
+        let pushed = match self {
+            FieldBits::Bits(bits) => buffer.extend_from_bitslice(*bits),
+            FieldBits::Octets(octets) => buffer.extend_from_bytes(octets),
+            FieldBits::Whole(number) => {
+                buffer.extend_from_bytes(number.to_signed_bytes_be().as_slice())
+            }
+            FieldBits::Number { value, width } => return push_number(buffer, *value, *width),
+            FieldBits::Characters {
+                alphabet,
+                characters,
+            } => return push_characters(buffer, alphabet, characters),
+        };
+        match pushed {
+            Ok(()) => Ok(()),
+            Err(_) => Err(FieldFaultKind::Memory),
+        }
+    }
+}
+
+/// Appends the fields. Refused, the buffer holds a part of them.
+fn push_all(buffer: &mut BitBuffer, fields: &[FieldBits<'_>]) -> Result<(), FieldFault>
+    ensures ok { OnOk result (appended buffer.old (bits_of_fields fields.now) ≡ Some buffer.new) }
+    ensures wrong { IfErr result (λ e. IsFirstUnwritten fields.now e.field e.kind) }
+{
+    for (field, bits) in fields.iter().enumerate() {
+        match bits.push_to(buffer) {
+            Ok(()) => {}
+            Err(kind) => return Err(FieldFault { field, kind }),
+        }
+    }
+    Ok(())
+}
+
+/// Appends the joined bits of the fields: a field's bits stand directly behind those of the one before,
+/// whatever alignment they meet. Refused, it answers the first field that is not written, and the buffer
+/// is as it was: DoesNotFit, or Memory for a field behind fields that fit.
+pub fn write_fields(
+    alloc: Global,
+    buffer: &mut BitBuffer,
+    fields: &[FieldBits<'_>],
+) -> Result<(), FieldFault>
+    ensures ok { OnOk result (appended buffer.old (bits_of_fields fields.now) ≡ Some buffer.new) }
+    ensures err { OnErr result (buffer.new ≡ buffer.old) }
+    ensures wrong { IfErr result (λ e. IsFirstUnwritten fields.now e.field e.kind) }
+{
+    if fields.is_empty() {
+        return Ok(());
+    }
+    let mut joined = BitBuffer::new(alloc);
+    push_all(&mut joined, fields)?;
+    match buffer.extend_from_buffer(&joined) {
+        Ok(()) => Ok(()),
+        Err(_) => Err(FieldFault {
+            field: 0,
+            kind: FieldFaultKind::Memory,
+        }),
+    }
+}

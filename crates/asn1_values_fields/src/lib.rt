@@ -1,0 +1,15 @@
+//! Lists of fields as bits, and bits as lists of fields, at any alignment.
+#![tactic(auto)]
+
+pub mod fault;
+pub mod field_bits;
+pub mod field_shape;
+pub mod reading;
+
+pub use fault::{FieldFault, FieldFaultKind};
+pub use field_bits::{FieldBits, write_fields};
+pub use field_shape::{FieldShape, FieldValue};
+pub use reading::read_fields;
+
+#[cfg(test)]
+mod tests;

@@ -1,0 +1,258 @@
+//! Bits as fields.
+ghost use Rattle.std.specs.Prelude.{◌≡◌, ℕ, ◌*◌, ◌≤◌, ◌<◌, ◌^◌, ◌⊎◌, take, drop, length, Some, IfOk, IfErr, OnErr, IsTrue, ◌↔◌};
+ghost use Rattle.asn1_model.specs.Numbers.{binary, octet_bits, complement, signed_octets};
+ghost use Rattle.asn1_values_fields.specs.Written.{codes_of};
+ghost use Rattle.asn1_values_fields.specs.Read.{width_of, IsValueOf, IsUnreadable, AreValuesOf, IsFirstUnread, AreNotFewest, HasCode, IsUnknownCode, AreUnreadable};
+
+use crate::fault::{FieldFault, FieldFaultKind};
+use crate::field_shape::{FieldShape, FieldValue};
+use asn1_values_alphabets::CharacterAlphabet;
+use asn1_values_bits::{BitReader, BitString};
+use asn1_values_numbers::{Integer, IntegerError};
+use std::alloc::Global;
+
+/// Takes so many bits off. Where there are fewer the reader is as it was.
+fn take_bits<'a>(reader: &mut BitReader<'a>, count: usize) -> Result<BitReader<'a>, FieldFaultKind>
+    ensures front { IfOk result (λ front. front.bits ≡ take count reader.old.bits) }
+    ensures rest { IfOk result (λ _. reader.new.bits ≡ drop count reader.old.bits) }
+    ensures enough { IfOk result (λ _. count ≤ length reader.old.bits) }
+    ensures short { IfErr result (λ k. (k ≡ FieldFaultKind.Short) × (length reader.old.bits < count)) }
+{
+    match reader.split(count) {
+        Ok(front) => Ok(front),
+        Err(_) => Err(FieldFaultKind::Short),
+    }
+}
+
+/// The number that so many bits are.
+fn read_number(reader: &mut BitReader<'_>, width: u32) -> Result<u128, FieldFaultKind>
+    ensures number { IfOk result (λ n. (width ≤ 128) × (n < 2 ^ width) × (take width reader.old.bits ≡ binary width n)) }
+    ensures rest { IfOk result (λ _. (width ≤ length reader.old.bits) × (reader.new.bits ≡ drop width reader.old.bits)) }
+    ensures wrong { IfErr result (IsUnreadable (FieldShape.Number width) reader.old.bits) }
+{
+    if width > 128 {
+        return Err(FieldFaultKind::DoesNotFit);
+    }
+    let front = take_bits(reader, width as usize)?;
+    Ok(front.first_u128(width))
+}
+
+/// So many bits.
+fn read_bits(
+    alloc: Global,
+    reader: &mut BitReader<'_>,
+    count: usize,
+) -> Result<BitString, FieldFaultKind>
+    ensures bits { IfOk result (λ s. s ≡ take count reader.old.bits) }
+    ensures rest { IfOk result (λ _. (count ≤ length reader.old.bits) × (reader.new.bits ≡ drop count reader.old.bits)) }
+    ensures wrong { IfErr result (IsUnreadable (FieldShape.Bits count) reader.old.bits) }
+{
+    let front = take_bits(reader, count)?;
+    match BitString::from_bitslice(alloc, front.bits()) {
+        Ok(bits) => Ok(bits),
+        Err(_) => Err(FieldFaultKind::Memory),
+    }
+}
+
+/// So many octets.
+fn read_octets(
+    alloc: Global,
+    reader: &mut BitReader<'_>,
+    count: usize,
+) -> Result<Vec<u8>, FieldFaultKind>
+    ensures octets { IfOk result (λ v. take (count * 8) reader.old.bits ≡ octet_bits v.items) }
+    ensures count { IfOk result (λ v. length v.items ≡ count) }
+    ensures rest { IfOk result (λ _. (count * 8 ≤ length reader.old.bits) × (reader.new.bits ≡ drop (count * 8) reader.old.bits)) }
+    ensures wrong { IfErr result (λ k. (k ≡ FieldFaultKind.Memory) ⊎ ((k ≡ FieldFaultKind.Short) × (length reader.old.bits < count * 8))) }
+{
+    if reader.len() / 8 < count {
+        return Err(FieldFaultKind::Short);
+    }
+    let front = take_bits(reader, count * 8)?;
+    let Ok(octets) = front.octets(alloc) else {
+        return Err(FieldFaultKind::Memory);
+    };
+    match Vec::from_slice(alloc, octets.as_slice()) {
+        Ok(octets) => Ok(octets),
+        Err(_) => Err(FieldFaultKind::Memory),
+    }
+}
+
+/// The whole number whose fewest octets these are.
+fn shortest_number(alloc: Global, octets: &[u8]) -> Result<Integer, FieldFaultKind>
+    ensures number { IfOk result (λ z. (signed_octets z ≡ length octets.now) × (octets.now ≡ complement (length octets.now) z)) }
+    ensures wrong { IfErr result (λ k. (k ≡ FieldFaultKind.Memory) ⊎ ((k ≡ FieldFaultKind.NotShortest) × AreNotFewest (length octets.now) (octet_bits octets.now))) }
+{
+    match Integer::from_signed_octets(alloc, octets) {
+        Ok(number) => {
+            if number.to_signed_bytes_be().len() != octets.len() {
+                return Err(FieldFaultKind::NotShortest);
+            }
+            Ok(number)
+        }
+        Err(IntegerError::Memory) => Err(FieldFaultKind::Memory),
+        Err(IntegerError::Empty | IntegerError::Overflow) => Err(FieldFaultKind::NotShortest),
+    }
+}
+
+/// The whole number whose fewest octets come next.
+fn read_whole(
+    alloc: Global,
+    reader: &mut BitReader<'_>,
+    count: usize,
+) -> Result<Integer, FieldFaultKind>
+    ensures number { IfOk result (λ z. (signed_octets z ≡ count) × (take (count * 8) reader.old.bits ≡ octet_bits (complement count z))) }
+    ensures rest { IfOk result (λ _. (count * 8 ≤ length reader.old.bits) × (reader.new.bits ≡ drop (count * 8) reader.old.bits)) }
+    ensures wrong { IfErr result (IsUnreadable (FieldShape.Whole count) reader.old.bits) }
+{
+    let octets = read_octets(alloc, reader, count)?;
+    let number = shortest_number(alloc, octets.as_slice())?;
+    Ok(number)
+}
+
+/// Whether so many units of so many bits are at most these.
+fn is_enough(bits: usize, count: usize, width: usize) -> bool
+    ensures { IsTrue result ↔ (count * width ≤ bits) }
+{
+    width == 0 || count <= bits / width
+}
+
+/// The character whose code comes next.
+fn read_character(
+    reader: &mut BitReader<'_>,
+    alphabet: &CharacterAlphabet,
+) -> Result<u32, FieldFaultKind>
+    requires { alphabet.now.code_bits ≤ length reader.old.bits }
+    ensures character { IfOk result (λ c. HasCode alphabet.now c (take alphabet.now.code_bits reader.old.bits)) }
+    ensures rest { IfOk result (λ _. reader.new.bits ≡ drop alphabet.now.code_bits reader.old.bits) }
+    ensures unknown { IfErr result (λ k. (k ≡ FieldFaultKind.NoCharacter) × IsUnknownCode alphabet.now (take alphabet.now.code_bits reader.old.bits)) }
+{
+    let width = alphabet.width();
+    let code = reader.first_bits(width);
+    let code = small_code(code, width);
+    match alphabet.decode(code) {
+        Ok(character) => {
+            let _ = take_bits(reader, width as usize)?;
+            Ok(character)
+        }
+        Err(_) => Err(FieldFaultKind::NoCharacter),
+    }
+}
+
+/// A code of at most 32 bits.
+fn small_code(code: u64, width: u32) -> u32
+    requires narrow { width ≤ 32 }
+    requires fits { code < 2 ^ width }
+    ensures { result ≡ code }
+{
+    code as u32
+}
+
+/// So many characters.
+fn read_characters(
+    alloc: Global,
+    reader: &mut BitReader<'_>,
+    alphabet: &CharacterAlphabet,
+    count: usize,
+) -> Result<Vec<u32>, FieldFaultKind>
+    ensures characters { IfOk result (λ v. (length v.items ≡ count) × (codes_of alphabet.now v.items ≡ Some (take (count * alphabet.now.code_bits) reader.old.bits))) }
+    ensures rest { IfOk result (λ _. (count * alphabet.now.code_bits ≤ length reader.old.bits) × (reader.new.bits ≡ drop (count * alphabet.now.code_bits) reader.old.bits)) }
+    ensures wrong { IfErr result (AreUnreadable alphabet.now count reader.old.bits) }
+{
+    let width = alphabet.width() as usize;
+    if !is_enough(reader.len(), count, width) {
+        return Err(FieldFaultKind::Short);
+    }
+    let mut characters = Vec::new(alloc);
+    for i in 0..count {
+        let character = read_character(reader, alphabet)?;
+        match characters.push(character) {
+            Ok(()) => {}
+            Err(_) => return Err(FieldFaultKind::Memory),
+        }
+    }
+    Ok(characters)
+}
+
+/// The field of a shape that comes next.
+fn read_field(
+    alloc: Global,
+    reader: &mut BitReader<'_>,
+    shape: &FieldShape<'_>,
+) -> Result<FieldValue, FieldFaultKind>
+    ensures value { IfOk result (λ v. IsValueOf shape.now v (take (width_of shape.now) reader.old.bits)) }
+    ensures rest { IfOk result (λ _. (width_of shape.now ≤ length reader.old.bits) × (reader.new.bits ≡ drop (width_of shape.now) reader.old.bits)) }
+    ensures wrong { IfErr result (IsUnreadable shape.now reader.old.bits) }
+{
+    match shape {
+        FieldShape::Bits(count) => {
+            let bits = read_bits(alloc, reader, *count)?;
+            Ok(FieldValue::Bits(bits))
+        }
+        FieldShape::Number(width) => {
+            let value = read_number(reader, *width)?;
+            Ok(FieldValue::Number {
+                value,
+                width: *width,
+            })
+        }
+        FieldShape::Octets(count) => {
+            let octets = read_octets(alloc, reader, *count)?;
+            Ok(FieldValue::Octets(octets))
+        }
+        FieldShape::Whole(count) => {
+            let number = read_whole(alloc, reader, *count)?;
+            Ok(FieldValue::Whole(number))
+        }
+        FieldShape::Characters { alphabet, count } => {
+            let characters = read_characters(alloc, reader, alphabet, *count)?;
+            Ok(FieldValue::Characters(characters))
+        }
+    }
+}
+
+/// The fields of the shapes. Refused, the reader has taken a part of them off.
+fn read_all(
+    alloc: Global,
+    reader: &mut BitReader<'_>,
+    shapes: &[FieldShape<'_>],
+) -> Result<Vec<FieldValue>, FieldFault>
+    ensures ok { IfOk result (λ vs. AreValuesOf shapes.now vs.items reader.old.bits reader.new.bits) }
+    ensures wrong { IfErr result (λ e. IsFirstUnread shapes.now reader.old.bits e.field e.kind) }
+{
+    let mut values = Vec::new(alloc);
+    for (field, shape) in shapes.iter().enumerate() {
+        let value = match read_field(alloc, reader, shape) {
+            Ok(value) => value,
+            Err(kind) => return Err(FieldFault { field, kind }),
+        };
+        match values.push(value) {
+            Ok(()) => {}
+            Err(_) => {
+                return Err(FieldFault {
+                    field,
+                    kind: FieldFaultKind::Memory,
+                });
+            }
+        }
+    }
+    Ok(values)
+}
+
+/// Takes the fields of the shapes off the front of the unread bits, at any bit. It takes exactly what
+/// begins with their joined bits, a whole number in its fewest octets, and leaves the rest. Else it
+/// answers the first field that is wrong, and the reader is as it was.
+pub fn read_fields<'a>(
+    alloc: Global,
+    reader: &mut BitReader<'a>,
+    shapes: &[FieldShape<'_>],
+) -> Result<Vec<FieldValue>, FieldFault>
+    ensures ok { IfOk result (λ vs. AreValuesOf shapes.now vs.items reader.old.bits reader.new.bits) }
+    ensures err { OnErr result (reader.new ≡ reader.old) }
+    ensures wrong { IfErr result (λ e. IsFirstUnread shapes.now reader.old.bits e.field e.kind) }
+{
+    let mut rest = BitReader::new(reader.bits());
+    let values = read_all(alloc, &mut rest, shapes)?;
+    *reader = rest;
+    Ok(values)
+}

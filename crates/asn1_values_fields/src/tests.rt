@@ -1,0 +1,211 @@
+//! Rows of bits, every alignment with every width, and what is answered when memory is refused.
+ghost use Rattle.std.specs.Prelude.{◌<◌, ◌≤◌, ◌^◌, length};
+
+use crate::{FieldBits, FieldFault, FieldFaultKind, FieldShape, FieldValue, read_fields, write_fields};
+use asn1_values_alphabets::CharacterAlphabet;
+use asn1_values_bits::{BitBuffer, BitReader};
+use asn1_values_numbers::Integer;
+use std::alloc::Global;
+use std::test::Fail;
+
+const NUMERIC: [u32; 11] = [32, 48, 49, 50, 51, 52, 53, 54, 55, 56, 57];
+
+const ROW: [u8; 3] = [0xBF, 0xEF, 0xF0];
+
+/// Whether the values are 5 in three bits, the octet FF, 0 in one bit and the whole number -1.
+fn is_row(values: &[FieldValue]) -> bool {
+    match values {
+        [
+            FieldValue::Number { value: 5, width: 3 },
+            FieldValue::Octets(octets),
+            FieldValue::Number { value: 0, width: 1 },
+            FieldValue::Whole(number),
+        ] => octets.as_slice() == [0xFF].as_slice() && number.to_i128() == Some(-1),
+        _ => false,
+    }
+}
+
+/// Writes 5 in three bits, the octet FF, 0 in one bit and the whole number -1.
+fn write_row(alloc: Global, buffer: &mut BitBuffer) -> Result<(), FieldFault> {
+    let number = Integer::from_i128(-1);
+    let fields = [
+        FieldBits::Number { value: 5, width: 3 },
+        FieldBits::Octets(&[0xFF]),
+        FieldBits::Number { value: 0, width: 1 },
+        FieldBits::Whole(&number),
+    ];
+    write_fields(alloc, buffer, &fields)
+}
+
+/// Reads by the shapes of that row.
+fn read_row(alloc: Global, reader: &mut BitReader<'_>) -> Result<Vec<FieldValue>, FieldFault> {
+    let shapes = [
+        FieldShape::Number(3),
+        FieldShape::Octets(1),
+        FieldShape::Number(1),
+        FieldShape::Whole(1),
+    ];
+    read_fields(alloc, reader, &shapes)
+}
+
+/// The fault of reading one field of these octets, if there is one.
+fn fault_of(alloc: Global, octets: &[u8], shape: FieldShape<'_>) -> Option<FieldFault>
+    requires { length octets.now < 2 ^ 61 }
+{
+    let mut reader = BitReader::from_octets(octets);
+    read_fields(alloc, &mut reader, &[shape]).err()
+}
+
+/// The fault of writing one field, if there is one.
+fn unwritten(alloc: Global, field: FieldBits<'_>) -> Option<FieldFault> {
+    let mut buffer = BitBuffer::new(alloc);
+    write_fields(alloc, &mut buffer, &[field]).err()
+}
+
+/// Whether a number of `width` ones, written behind `offset` zero bits, reads back.
+fn is_read_back(alloc: Global, offset: u32, width: u32) -> Result<bool, FieldFault>
+    requires { width ≤ 128 }
+{
+    let ones = u128::MAX.checked_shr(128 - width).unwrap_or(0);
+    let mut buffer = BitBuffer::new(alloc);
+    let zeros = FieldBits::Number {
+        value: 0,
+        width: offset,
+    };
+    let number = FieldBits::Number { value: ones, width };
+    write_fields(alloc, &mut buffer, &[zeros, number])?;
+    let mut reader = BitReader::new(buffer.as_bitslice());
+    let shapes = [FieldShape::Number(offset), FieldShape::Number(width)];
+    let values = read_fields(alloc, &mut reader, &shapes)?;
+    match values.as_slice() {
+        [_, FieldValue::Number { value, width: _ }] => Ok(*value == ones),
+        _ => Ok(false),
+    }
+}
+
+#[test]
+fn a_row_is_written(rt: HostRuntime) -> Result<(), Fail> {
+    let mut buffer = BitBuffer::new(rt.alloc());
+    write_row(rt.alloc(), &mut buffer)?;
+    assert_eq!(rt; buffer.len(), 20);
+    assert_eq!(rt; buffer.as_bytes(), ROW.as_slice());
+    Ok(())
+}
+
+#[test]
+fn a_row_is_read(rt: HostRuntime) -> Result<(), Fail> {
+    let mut reader = BitReader::from_octets(&ROW);
+    let values = read_row(rt.alloc(), &mut reader)?;
+    assert!(rt; is_row(&values));
+    assert_eq!(rt; reader.len(), 4);
+    Ok(())
+}
+
+#[test]
+fn characters_are_written(rt: HostRuntime) -> Result<(), Fail> {
+    let alphabet = CharacterAlphabet::new(rt.alloc(), &NUMERIC, false)?;
+    let mut buffer = BitBuffer::new(rt.alloc());
+    let field = FieldBits::Characters {
+        alphabet: &alphabet,
+        characters: &[49, 50, 51],
+    };
+    write_fields(rt.alloc(), &mut buffer, &[field])?;
+    assert_eq!(rt; buffer.as_bytes(), [0x23, 0x40].as_slice());
+    Ok(())
+}
+
+#[test]
+fn unknown_codes_are_told(rt: HostRuntime) -> Result<(), Fail> {
+    let alphabet = CharacterAlphabet::new(rt.alloc(), &NUMERIC, false)?;
+    let shape = FieldShape::Characters {
+        alphabet: &alphabet,
+        count: 2,
+    };
+    let wanted = FieldFault {
+        field: 0,
+        kind: FieldFaultKind::NoCharacter,
+    };
+    assert_eq!(rt; fault_of(rt.alloc(), &[0x2B], shape), Some(wanted));
+    Ok(())
+}
+
+#[test]
+fn longer_octets_are_refused(rt: HostRuntime) {
+    let wanted = FieldFault {
+        field: 0,
+        kind: FieldFaultKind::NotShortest,
+    };
+    assert_eq!(rt; fault_of(rt.alloc(), &[0x00, 0x7F], FieldShape::Whole(2)), Some(wanted));
+    assert_eq!(rt; fault_of(rt.alloc(), &[0x00], FieldShape::Whole(0)), Some(wanted));
+}
+
+#[test]
+fn missing_bits_are_told(rt: HostRuntime) {
+    let wanted = FieldFault {
+        field: 0,
+        kind: FieldFaultKind::Short,
+    };
+    assert_eq!(rt; fault_of(rt.alloc(), &[0x7F], FieldShape::Number(9)), Some(wanted));
+    assert_eq!(rt; fault_of(rt.alloc(), &[0x7F], FieldShape::Octets(usize::MAX)), Some(wanted));
+    assert_eq!(rt; fault_of(rt.alloc(), &[0x7F], FieldShape::Bits(9)), Some(wanted));
+}
+
+#[test]
+fn what_does_not_fit_is_told(rt: HostRuntime) {
+    let wanted = FieldFault {
+        field: 0,
+        kind: FieldFaultKind::DoesNotFit,
+    };
+    let large = FieldBits::Number { value: 8, width: 3 };
+    assert_eq!(rt; unwritten(rt.alloc(), large), Some(wanted));
+    assert_eq!(rt; fault_of(rt.alloc(), &[0x7F], FieldShape::Number(129)), Some(wanted));
+}
+
+#[test]
+fn every_alignment_takes_every_width(rt: HostRuntime) -> Result<(), Fail> {
+    for offset in 0..8 {
+        for width in 0..129 {
+            assert!(rt; is_read_back(rt.alloc(), offset, width)?);
+        }
+    }
+    Ok(())
+}
+
+#[test]
+fn faults_are_shown(rt: HostRuntime) -> Result<(), Fail> {
+    let fault = FieldFault {
+        field: 2,
+        kind: FieldFaultKind::Short,
+    };
+    let shown = format!(in rt.alloc(); "{fault}")?;
+    assert_eq!(rt; shown.as_str(), "field 2: too few bits are left");
+    Ok(())
+}
+
+/// Every request for memory is granted, and then these are the bits, or refused as Memory, and then
+/// the buffer is as before.
+#[test]
+fn refused_memory_writes_nothing(rt: HostRuntime) {
+    let mut buffer = BitBuffer::new(rt.alloc());
+    match write_row(rt.alloc(), &mut buffer) {
+        Ok(()) => assert_eq!(rt; buffer.as_bytes(), ROW.as_slice()),
+        Err(fault) => {
+            assert_eq!(rt; fault.kind, FieldFaultKind::Memory);
+            assert_eq!(rt; buffer.len(), 0);
+        }
+    }
+}
+
+/// Every request for memory is granted, and then these are the values, or refused as Memory, and then
+/// the reader is as before.
+#[test]
+fn refused_memory_reads_nothing(rt: HostRuntime) {
+    let mut reader = BitReader::from_octets(&ROW);
+    match read_row(rt.alloc(), &mut reader) {
+        Ok(values) => assert!(rt; is_row(&values)),
+        Err(fault) => {
+            assert_eq!(rt; fault.kind, FieldFaultKind::Memory);
+            assert_eq!(rt; reader.len(), 24);
+        }
+    }
+}

@@ -1,0 +1,3 @@
+pub mod Sevens
+pub mod Readings
+pub mod Whole

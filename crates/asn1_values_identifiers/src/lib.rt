@@ -1,0 +1,18 @@
+//! Object identifiers (X.680 clause 32, X.660), and the octets that hold them (X.690 8.19).
+//!
+//! [`Oid`] borrows its arcs and [`ObjectIdentifier`] keeps them; both hold valid arcs alone, and a
+//! contract sees either as the list of its arcs.
+#![tactic(auto)]
+
+pub mod fault;
+pub mod object_identifier;
+pub mod octets;
+pub mod oid;
+
+pub use fault::IdentifierError;
+pub use object_identifier::ObjectIdentifier;
+pub use octets::{oid_from_octets, oid_octets};
+pub use oid::Oid;
+
+#[cfg(test)]
+mod tests;

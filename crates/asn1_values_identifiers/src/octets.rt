@@ -1,0 +1,162 @@
+//! The contents octets of an object identifier (X.690 8.19).
+ghost use Rattle.std.specs.Prelude.{◌≡◌, ℕ, ◌<◌, ◌≤◌, ◌+◌, ◌^◌, ◌++◌, [], ◌∷◌, map, length, OnOk, IfOk, IfErr, None, Some, IsTrue, IsErrOf, flat_map, ◌↔◌, ◌⊎◌};
+ghost use Rattle.asn1_model.specs.Strings.{groups_of_seven, identifier_octets, is_identifier};
+ghost use Rattle.asn1_values_identifiers.specs.Identifiers.{is_valid, subidentifiers, in_front, joined, arcs_of};
+ghost use Rattle.asn1_values_identifiers.specs.Groups.{leading};
+
+use crate::{IdentifierError, ObjectIdentifier, Oid};
+use std::alloc::{AllocError, Global};
+use std::borrow::CowSlice;
+
+/// Each subidentifier but the first is below this.
+const LIMIT: u64 = 1 << 32;
+
+/// The first subidentifier is below this: 40 times 2 and an arc.
+const FIRST_LIMIT: u64 = LIMIT + 80;
+
+/// Appends the octets of a number above 0 with the top bit set on all of them.
+fn push_leading(octets: &mut Vec<u8>, number: u64) -> Result<(), AllocError>
+    requires { 0 < number }
+    ensures { OnOk result (octets.new.items ≡ octets.old.items ++ leading number) }
+{
+    if number < 128 {
+        octets.push(128 + number as u8)?;
+        return Ok(());
+    }
+    push_leading(octets, number / 128)?;
+    octets.push(128 + (number % 128) as u8)?;
+    Ok(())
+}
+
+/// Appends a subidentifier (X.690 8.19.2).
+fn push_subidentifier(octets: &mut Vec<u8>, number: u64) -> Result<(), AllocError>
+    ensures { OnOk result (octets.new.items ≡ octets.old.items ++ groups_of_seven number) }
+{
+    if number < 128 {
+        octets.push(number as u8)?;
+        return Ok(());
+    }
+    push_leading(octets, number / 128)?;
+    octets.push((number % 128) as u8)?;
+    Ok(())
+}
+
+/// The subidentifier that octets begin with, and the octets behind it (X.690 8.19.2). Padding is not looked for.
+fn unpadded_subidentifier(octets: &[u8], limit: u64) -> Result<(u64, &[u8]), IdentifierError>
+    requires { (128 ≤ limit) × (limit ≤ 2 ^ 32 + 80) }
+    ensures number { IfOk result (λ p. p.0 < limit) }
+    ensures less { IfOk result (λ p. length p.1.now < length octets.now) }
+    ensures read { IfOk result (λ p. subidentifiers limit (Some 0) octets.now ≡ in_front p.0 (subidentifiers (2 ^ 32) None p.1.now)) }
+    ensures wrong { IfErr result (λ e. subidentifiers limit (Some 0) octets.now ≡ Err e) }
+{
+    let mut number = 0;
+    for (i, octet) in octets.iter().enumerate() {
+        if *octet < 128 {
+            let whole = number * 128 + u64::from(*octet);
+            if whole >= limit {
+                return Err(IdentifierError::ArcTooLarge);
+            }
+            return Ok((whole, &octets[i + 1..]));
+        }
+        number = (number * 128 + u64::from(*octet - 128)).min(limit);
+    }
+    Err(IdentifierError::Truncated)
+}
+
+/// The first subidentifier, and the octets behind it (X.690 8.19.2).
+fn first_subidentifier(octets: &[u8], limit: u64) -> Result<(u64, &[u8]), IdentifierError>
+    requires some { 0 < length octets.now }
+    requires limit { (128 ≤ limit) × (limit ≤ 2 ^ 32 + 80) }
+    ensures number { IfOk result (λ p. p.0 < limit) }
+    ensures less { IfOk result (λ p. length p.1.now < length octets.now) }
+    ensures read { IfOk result (λ p. subidentifiers limit None octets.now ≡ in_front p.0 (subidentifiers (2 ^ 32) None p.1.now)) }
+    ensures wrong { IfErr result (λ e. subidentifiers limit None octets.now ≡ Err e) }
+{
+    if octets[0] == 0x80 {
+        return Err(IdentifierError::Padded);
+    }
+    unpadded_subidentifier(octets, limit)
+}
+
+/// Appends a subidentifier for each arc.
+fn push_arcs(octets: &mut Vec<u8>, arcs: &[u32]) -> Result<(), AllocError>
+    ensures { OnOk result (octets.new.items ≡ octets.old.items ++ flat_map groups_of_seven arcs.now) }
+{
+    for arc in arcs {
+        push_subidentifier(octets, u64::from(*arc))?;
+    }
+    Ok(())
+}
+
+/// The contents octets of valid arcs.
+fn contents(alloc: Global, arcs: &[u32]) -> Result<Vec<u8>, IdentifierError>
+    requires { IsTrue (is_valid arcs.now) }
+    ensures octets { IfOk result (λ v. v.items ≡ identifier_octets arcs.now) }
+    ensures identifier { OnOk result (IsTrue (is_identifier arcs.now)) }
+    ensures truncated { IsErrOf result IdentifierError.Truncated ↔ (length arcs.now ≡ 1) }
+    ensures no_other { IfErr result (λ e. (e ≡ IdentifierError.Memory) ⊎ (e ≡ IdentifierError.Truncated)) }
+{
+    if arcs.len() < 2 {
+        return Err(IdentifierError::Truncated);
+    }
+    let mut octets = Vec::new(alloc);
+    push_subidentifier(&mut octets, u64::from(arcs[0]) * 40 + u64::from(arcs[1]))?;
+    push_arcs(&mut octets, &arcs[2..])?;
+    Ok(octets)
+}
+
+/// Appends the arcs that octets hold, of which none is left over.
+fn read_arcs(arcs: &mut Vec<u32>, octets: &[u8]) -> Result<(), IdentifierError>
+    ensures read { OnOk result (joined arcs.old.items (subidentifiers (2 ^ 32) None octets.now) ≡ Ok arcs.new.items) }
+    ensures wrong { IfErr result (λ e. (e ≡ IdentifierError.Memory) ⊎ (subidentifiers (2 ^ 32) None octets.now ≡ Err e)) }
+{
+    let mut rest = octets;
+    while !rest.is_empty() {
+        let (number, further) = first_subidentifier(rest, LIMIT)?;
+        arcs.push(number as u32)?;
+        rest = further;
+    }
+    Ok(())
+}
+
+/// The arcs whose contents octets these are.
+fn arcs_from_octets(alloc: Global, octets: &[u8]) -> Result<Vec<u32>, IdentifierError>
+    ensures read { IfOk result (λ v. arcs_of octets.now ≡ Ok v.items) }
+    ensures wrong { IfErr result (λ e. (e ≡ IdentifierError.Memory) ⊎ (arcs_of octets.now ≡ Err e)) }
+{
+    if octets.is_empty() {
+        return Err(IdentifierError::Truncated);
+    }
+    let (number, further) = first_subidentifier(octets, FIRST_LIMIT)?;
+    let first = if number < 80 { number / 40 } else { 2 };
+    let mut arcs = Vec::new(alloc);
+    arcs.push(first as u32)?;
+    arcs.push((number - 40 * first) as u32)?;
+    read_arcs(&mut arcs, further)?;
+    Ok(arcs)
+}
+
+/// The contents octets of an identifier (X.690 8.19). An identifier of one arc has none: Truncated.
+pub fn oid_octets(alloc: Global, identifier: &Oid<'_>) -> Result<Vec<u8>, IdentifierError>
+    ensures octets { IfOk result (λ v. v.items ≡ identifier_octets identifier.now) }
+    ensures reads_back { IfOk result (λ v. arcs_of v.items ≡ Ok identifier.now) }
+    ensures identifier { OnOk result (IsTrue (is_identifier identifier.now)) }
+    ensures truncated { IsErrOf result IdentifierError.Truncated ↔ (length identifier.now ≡ 1) }
+    ensures no_other { IfErr result (λ e. (e ≡ IdentifierError.Memory) ⊎ (e ≡ IdentifierError.Truncated)) }
+{
+    let octets = contents(alloc, identifier.as_slice())?;
+    Ok(octets)
+}
+
+/// The identifier whose contents octets these are (X.690 8.19), or the fault of the first subidentifier
+/// that is wrong: Padded if it begins with 0x80, else Truncated if it has no last octet, else ArcTooLarge
+/// if an arc does not fit 32 bits. No octets at all are Truncated.
+pub fn oid_from_octets(alloc: Global, octets: &[u8]) -> Result<ObjectIdentifier, IdentifierError>
+    ensures read { IfOk result (λ o. arcs_of octets.now ≡ Ok o) }
+    ensures wrong { IfErr result (λ e. (e ≡ IdentifierError.Memory) ⊎ (arcs_of octets.now ≡ Err e)) }
+    ensures written { IfOk result (λ o. identifier_octets o ≡ octets.now) }
+    ensures identifier { IfOk result (λ o. IsTrue (is_identifier o)) }
+{
+    let arcs = arcs_from_octets(alloc, octets)?;
+    Ok(ObjectIdentifier::new_unchecked(CowSlice::Owned(arcs)))
+}

@@ -1,0 +1,250 @@
+//! A string of any number of octets.
+ghost use Rattle.std.specs.Prelude.{◌≡◌, ◌==◌, ◌^◌, ◌<◌, [], nat_eq, length, refl, Some, IfOk, IfErr, MatchResult};
+ghost use Rattle.std.specs.Ordering.{nat_cmp};
+ghost use Rattle.std.specs.Hash as fed;
+ghost use Rattle.std.specs.Cmp.Lexicographic.{pointwise, slice_cmp, nat_list_eq_equiv, nat_list_cmp_total, texts_ties, texts_po};
+ghost use Rattle.std.specs.Cmp.{partial_equiv_from_equiv};
+ghost use Rattle.std.specs.Cmp.Rules.{hashing};
+ghost use Rattle.std.proofs.Common.{rules};
+
+use bytes::Bytes;
+use std::alloc::{AllocError, AllocFailed, Global};
+use std::cmp::Ordering;
+use std::convert::AsSlice;
+use std::hash::{Hash, Hasher};
+use std::marker::Model;
+use std::ops::DerefSlice;
+
+/// An OCTET STRING (X.680 clause 23). A clone shares the octets and copies none.
+#[derive(Debug, Drop)]
+pub struct OctetString {
+    octets: Bytes,
+}
+
+impl Model for OctetString {
+    ghost use Rattle.std.specs.Prelude.{List, ℕ};
+
+    ghost Value = { List ℕ };
+
+    ghost view = { λ s. s.octets };
+}
+
+impl OctetString {
+    /// The string of no octets. It takes no memory.
+    pub fn new() -> OctetString
+        ensures { result ≡ [] }
+    {
+        OctetString {
+            octets: Bytes::new(),
+        }
+    }
+
+    /// The string of octets that live as long as the program. It takes no memory.
+    pub fn from_static(value: &'static [u8]) -> OctetString
+        ensures { result ≡ value.now }
+    {
+        OctetString {
+            octets: Bytes::from_static(value),
+        }
+    }
+
+    /// The string of a copy of these octets.
+    pub fn from_slice(alloc: Global, value: &[u8]) -> Result<OctetString, AllocError>
+        ensures { IfOk result (λ s. s ≡ value.now) }
+    {
+        Ok(OctetString {
+            octets: Bytes::copy_from_slice(alloc, value)?,
+        })
+    }
+
+    /// The string of an array's octets.
+    pub fn from_array<const N: usize>(
+        alloc: Global,
+        value: [u8; N],
+    ) -> Result<OctetString, AllocError>
+        ensures { IfOk result (λ s. s ≡ value.entry) }
+    {
+        OctetString::from_slice(alloc, &value)
+    }
+
+    /// The string of the vector's octets, which are not copied. Refused, the error hands the vector back.
+    pub fn from_vec(value: Vec<u8>) -> Result<OctetString, AllocFailed<Vec<u8>>>
+        ensures ok { IfOk result (λ s. s ≡ value.items) }
+        ensures value_returned { IfErr result (λ e. e.value.items ≡ value.items) }
+    {
+        Ok(OctetString {
+            octets: Bytes::from_vec(value)?,
+        })
+    }
+
+    /// The number of octets.
+    pub fn len(&self) -> usize
+        ensures value { result ≡ length self.now }
+        ensures bound { result < 2 ^ 63 }
+    {
+        self.octets.len()
+    }
+
+    /// Whether it has no octets.
+    pub fn is_empty(&self) -> bool
+        ensures { result ≡ (length self.now == 0) }
+    {
+        self.octets.is_empty()
+    }
+
+    /// The octets, borrowed.
+    pub fn as_slice(&self) -> &[u8]
+        ensures { result.now ≡ self.now }
+    {
+        self.octets.as_slice()
+    }
+
+    /// A copy of the octets.
+    pub fn to_vec(&self, alloc: Global) -> Result<Vec<u8>, AllocError>
+        ensures { IfOk result (λ v. v.items ≡ self.now) }
+    {
+        Vec::from_slice(alloc, self.octets.as_slice())
+    }
+
+    /// The octets as a vector. Where no clone shares them, they are not copied.
+    pub fn into_vec(self, alloc: Global) -> Result<Vec<u8>, AllocError>
+        ensures { IfOk result (λ v. v.items ≡ self) }
+    {
+        match self.octets.try_into_mut() {
+            Ok(unique) => Ok(unique.into_vec()?),
+            Err(shared) => Vec::from_slice(alloc, shared.as_slice()),
+        }
+    }
+}
+
+impl Clone for OctetString {
+    ghost is_clone = { λ s copy. copy ≡ s };
+
+    fn clone(&self) -> Result<OctetString, AllocError> {
+        Ok(OctetString {
+            octets: self.octets.clone()?,
+        })
+    }
+}
+
+impl Default for OctetString {
+    ghost is_default = { λ s. s ≡ [] };
+
+    fn default() -> OctetString {
+        OctetString::new()
+    }
+}
+
+impl From<Bytes> for OctetString {
+    ghost from_gives = { λ octets s. s ≡ octets };
+
+    fn from(octets: Bytes) -> OctetString {
+        OctetString { octets }
+    }
+}
+
+impl From<OctetString> for Bytes {
+    ghost from_gives = { λ s octets. octets ≡ s };
+
+    fn from(value: OctetString) -> Bytes {
+        value.octets
+    }
+}
+
+impl TryFrom<&Bytes> for OctetString {
+    type Error = AllocError;
+
+    ghost try_from_gives = { λ octets r. IfOk r (λ s. s ≡ octets.now) };
+
+    fn try_from(octets: &Bytes) -> Result<OctetString, AllocError> {
+        Ok(OctetString {
+            octets: octets.clone()?,
+        })
+    }
+}
+
+impl TryFrom<&OctetString> for Bytes {
+    type Error = AllocError;
+
+    ghost try_from_gives = { λ s r. IfOk r (λ octets. octets ≡ s.now) };
+
+    fn try_from(value: &OctetString) -> Result<Bytes, AllocError> {
+        value.octets.clone()
+    }
+}
+
+impl TryFrom<Vec<u8>> for OctetString {
+    type Error = AllocFailed<Vec<u8>>;
+
+    ghost try_from_gives = { λ v r. MatchResult r (λ s. s ≡ v.items) (λ e. e.value.items ≡ v.items) };
+
+    fn try_from(value: Vec<u8>) -> Result<OctetString, AllocFailed<Vec<u8>>> {
+        OctetString::from_vec(value)
+    }
+}
+
+impl DerefSlice for OctetString {
+    type Elem = u8;
+
+    ghost deref_gives = { λ s octets. octets ≡ s };
+
+    fn deref(&self) -> &[u8] {
+        self.as_slice()
+    }
+}
+
+impl AsSlice<u8> for OctetString {
+    ghost items = { λ s. s };
+
+    fn as_slice(&self) -> &[u8] {
+        OctetString::as_slice(self)
+    }
+}
+
+impl PartialEq for OctetString {
+    ghost eq = { pointwise nat_eq };
+
+    ghost laws = { partial_equiv_from_equiv nat_list_eq_equiv };
+
+    fn eq(&self, other: &Self) -> bool {
+        self.as_slice() == other.as_slice()
+    }
+}
+
+impl Eq for OctetString {
+    ghost laws = { nat_list_eq_equiv };
+}
+
+impl PartialOrd for OctetString {
+    ghost partial_cmp = { λ x y. Some (slice_cmp nat_cmp x y) };
+
+    ghost laws = { texts_po };
+
+    fn partial_cmp(&self, other: &Self) -> Option<Ordering> {
+        Some(self.cmp(other))
+    }
+}
+
+impl Ord for OctetString {
+    ghost cmp = { slice_cmp nat_cmp };
+
+    ghost total = { nat_list_cmp_total };
+
+    ghost matches_partial_cmp = { λ x y. refl };
+
+    ghost matches_eq = { texts_ties };
+
+    fn cmp(&self, other: &Self) -> Ordering {
+        self.as_slice().cmp(other.as_slice())
+    }
+}
+
+impl Hash for OctetString {
+    ghost hash_input = { fed.slice fed.u8 };
+
+    ghost respects_eq = { Prim.search (hashing, rules) };
+
+    fn hash<H: Hasher>(&self, state: &mut H) {
+        self.as_slice().hash(state);
+    }
+}

@@ -1,0 +1,218 @@
+//! What no clause says: that each call can succeed, and what is shown.
+use crate::{FixedOctetString, OctetString, WrongLength};
+use bytes::Bytes;
+use std::cmp::Ordering;
+use std::convert::AsSlice;
+use std::hash::{BuildHasher, BuildHasherDefault, DefaultHasher};
+use std::test::Fail;
+
+/// The octets of a value, by the trait alone.
+fn octets_of<S: AsSlice<u8>>(value: &S) -> &[u8] {
+    value.as_slice()
+}
+
+/// Whether two values are equal and ordered alike, by the traits alone.
+fn is_before<T: Ord>(first: &T, second: &T) -> bool {
+    first != second && first.cmp(second) == Ordering::Less
+}
+
+const OCTETS: [u8; 3] = [0xFF, 0x00, 0x61];
+
+#[test]
+fn slices_are_copied(rt: HostRuntime) -> Result<(), Fail> {
+    let value = OctetString::from_slice(rt.alloc(), &OCTETS)?;
+    assert_eq!(rt; octets_of(&value), OCTETS.as_slice());
+    assert_eq!(rt; value.to_vec(rt.alloc())?.as_slice(), OCTETS.as_slice());
+    Ok(())
+}
+
+#[test]
+fn arrays_are_copied(rt: HostRuntime) -> Result<(), Fail> {
+    let value = OctetString::from_array(rt.alloc(), OCTETS)?;
+    assert_eq!(rt; value.len(), 3);
+    assert_eq!(rt; value.as_slice(), OCTETS.as_slice());
+    Ok(())
+}
+
+#[test]
+fn vectors_are_moved(rt: HostRuntime) -> Result<(), Fail> {
+    let value = OctetString::from_vec(OCTETS.to_vec(rt.alloc())?)?;
+    assert!(rt; !value.is_empty());
+    assert_eq!(rt; value.into_vec(rt.alloc())?.as_slice(), OCTETS.as_slice());
+    Ok(())
+}
+
+#[test]
+fn vectors_are_converted(rt: HostRuntime) -> Result<(), Fail> {
+    let value = OctetString::try_from(OCTETS.to_vec(rt.alloc())?)?;
+    assert_eq!(rt; value.as_slice(), OCTETS.as_slice());
+    Ok(())
+}
+
+#[test]
+fn clones_are_equal(rt: HostRuntime) -> Result<(), Fail> {
+    let value = OctetString::from_static(&[0xFF, 0x00, 0x61]);
+    let copy = value.clone()?;
+    assert!(rt; copy == value);
+    assert_eq!(rt; copy.into_vec(rt.alloc())?.as_slice(), OCTETS.as_slice());
+    Ok(())
+}
+
+#[test]
+fn a_new_string_is_empty(rt: HostRuntime) {
+    assert!(rt; OctetString::new() == OctetString::default());
+    assert!(rt; OctetString::new().is_empty());
+}
+
+#[test]
+fn octets_are_taken_of_bytes(rt: HostRuntime) -> Result<(), Fail> {
+    let octets = Bytes::copy_from_slice(rt.alloc(), &OCTETS)?;
+    let value = OctetString::try_from(&octets)?;
+    assert_eq!(rt; value.as_slice(), OCTETS.as_slice());
+    assert_eq!(rt; OctetString::from(octets).as_slice(), OCTETS.as_slice());
+    Ok(())
+}
+
+#[test]
+fn octets_are_given_as_bytes(rt: HostRuntime) -> Result<(), Fail> {
+    let value = OctetString::from_static(&[0xFF, 0x00, 0x61]);
+    assert_eq!(rt; Bytes::try_from(&value)?.as_slice(), OCTETS.as_slice());
+    assert_eq!(rt; Bytes::from(value).as_slice(), OCTETS.as_slice());
+    Ok(())
+}
+
+#[test]
+fn octet_strings_are_compared_as_lists(rt: HostRuntime) {
+    let rows: [(&'static [u8], &'static [u8]); 4] = [
+        (&[], &[0]),
+        (&[0], &[0, 255]),
+        (&[0, 255], &[1]),
+        (&[1, 0], &[255]),
+    ];
+    for (first, second) in rows {
+        let lower = OctetString::from_static(first);
+        let upper = OctetString::from_static(second);
+        assert!(rt; is_before(&lower, &upper));
+    }
+}
+
+#[test]
+fn orders_agree(rt: HostRuntime) {
+    let lower = OctetString::from_static(&[1]);
+    let upper = OctetString::from_static(&[1, 0]);
+    assert_eq!(rt; lower.partial_cmp(&upper), Some(Ordering::Less));
+}
+
+#[test]
+fn fixed_strings_are_compared_as_lists(rt: HostRuntime) {
+    let first = FixedOctetString::new([1, 0]);
+    let second = FixedOctetString::new([1, 1]);
+    assert!(rt; is_before(&first, &second));
+    assert_eq!(rt; first.partial_cmp(&first), Some(Ordering::Equal));
+}
+
+#[test]
+fn equal_strings_are_hashed_alike(rt: HostRuntime) {
+    let hashing = BuildHasherDefault::<DefaultHasher>::new();
+    let octets = [7, 8, 9];
+    let wanted = hashing.hash_one(octets.as_slice());
+    assert_eq!(rt;
+        hashing.hash_one(OctetString::from_static(&[7, 8, 9])),
+        wanted
+    );
+    assert_eq!(rt; hashing.hash_one(FixedOctetString::new(octets)), wanted);
+}
+
+#[test]
+fn fixed_strings_hold_as_many_octets(rt: HostRuntime) {
+    let wanted = WrongLength {
+        actual: 3,
+        expected: 4,
+    };
+    let short = FixedOctetString::<4>::try_from(OCTETS.as_slice());
+    assert_eq!(rt; short.err(), Some(wanted));
+    let exact = FixedOctetString::<3>::try_from(OCTETS.as_slice());
+    assert_eq!(rt; exact.ok(), Some(FixedOctetString::new(OCTETS)));
+}
+
+#[test]
+fn vectors_become_fixed_strings(rt: HostRuntime) -> Result<(), Fail> {
+    let exact = FixedOctetString::<3>::try_from(OCTETS.to_vec(rt.alloc())?);
+    assert_eq!(rt; exact.ok(), Some(FixedOctetString::new(OCTETS)));
+    Ok(())
+}
+
+#[test]
+fn octet_strings_become_fixed_strings(rt: HostRuntime) {
+    let listed = OctetString::from_static(&[0xFF, 0x00, 0x61]);
+    let exact = FixedOctetString::<3>::try_from(listed);
+    assert_eq!(rt; exact.ok(), Some(FixedOctetString::from(OCTETS)));
+}
+
+#[test]
+fn fixed_strings_give_their_octets(rt: HostRuntime) -> Result<(), Fail> {
+    let value = FixedOctetString::new(OCTETS);
+    assert_eq!(rt; octets_of(&value), OCTETS.as_slice());
+    assert_eq!(rt; value.into_array().as_slice(), OCTETS.as_slice());
+    assert_eq!(rt; <[u8; 3]>::from(value).as_slice(), OCTETS.as_slice());
+    assert_eq!(rt; value.to_vec(rt.alloc())?.as_slice(), OCTETS.as_slice());
+    Ok(())
+}
+
+#[test]
+fn fixed_strings_are_zeros_at_first(rt: HostRuntime) {
+    assert_eq!(rt; FixedOctetString::<2>::default().as_slice(), [0, 0].as_slice());
+    assert_eq!(rt; FixedOctetString::<0>::default().len(), 0);
+}
+
+#[test]
+fn fixed_strings_are_written_in_place(rt: HostRuntime) {
+    let mut value = FixedOctetString::new([1, 2, 3]);
+    value.set(1, 9);
+    assert_eq!(rt; value.as_slice(), [1, 9, 3].as_slice());
+    value.copy_from_slice(&[4, 5, 6]);
+    assert_eq!(rt; value.as_slice(), [4, 5, 6].as_slice());
+    value.reverse();
+    assert_eq!(rt; value.as_slice(), [6, 5, 4].as_slice());
+}
+
+#[test]
+fn strings_are_shown(rt: HostRuntime) -> Result<(), Fail> {
+    let value = OctetString::from_static(&[0x61, 0x00]);
+    let shown = format!(in rt.alloc(); "{value:?}")?;
+    assert_eq!(rt; shown.as_str(), "OctetString { octets: b\"a\\0\" }");
+    Ok(())
+}
+
+#[test]
+fn wrong_lengths_are_shown(rt: HostRuntime) -> Result<(), Fail> {
+    let wrong = WrongLength {
+        actual: 3,
+        expected: 4,
+    };
+    let shown = format!(in rt.alloc(); "{wrong}")?;
+    assert_eq!(rt; shown.as_str(), "3 octets in place of 4");
+    Ok(())
+}
+
+/// A request for memory is granted, and then the octets are these, or refused.
+#[test]
+fn copies_are_whole_or_refused(rt: HostRuntime) {
+    if let Ok(value) = OctetString::from_slice(rt.alloc(), &OCTETS) {
+        assert_eq!(rt; value.as_slice(), OCTETS.as_slice());
+    }
+    if let Ok(vector) = FixedOctetString::new(OCTETS).to_vec(rt.alloc()) {
+        assert_eq!(rt; vector.as_slice(), OCTETS.as_slice());
+    }
+}
+
+/// A refused vector is handed back as it was.
+#[test]
+fn refused_vectors_are_handed_back(rt: HostRuntime) {
+    if let Ok(vector) = OCTETS.to_vec(rt.alloc()) {
+        match OctetString::from_vec(vector) {
+            Ok(moved) => assert_eq!(rt; moved.as_slice(), OCTETS.as_slice()),
+            Err(refused) => assert_eq!(rt; refused.value.as_slice(), OCTETS.as_slice()),
+        }
+    }
+}

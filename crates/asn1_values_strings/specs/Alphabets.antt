@@ -1,0 +1,25 @@
+-- Which characters a string may hold, and why one is refused (X.680 41).
+use Rattle.std.specs.Prelude.{◌≡◌, ℕ, Bool, not, List, find, Option, Some, None, option_map}
+use Rattle.asn1_model.specs.Schema.{StringKind}
+use Rattle.asn1_model.specs.Strings.{Run, characters_of, each_is, is_among}
+use Rattle.asn1_values_alphabets.specs.declared.error.InvalidRestrictedString.{InvalidRestrictedString}
+use Rattle.asn1_values_alphabets.specs.declared.error.PermittedAlphabetError.{PermittedAlphabetError}
+use Rattle.asn1_values_alphabets.specs.declared.error.PermittedAlphabetError.TheVariants.{Other, InvalidData, IndexNotFound, CharacterNotFound, InvalidRestrictedString as OutsideAlphabet, Memory}
+
+-- whether a string of this kind may hold the character
+abbrev pub permits : StringKind → ℕ → Bool
+permits k c = is_among (characters_of k) c
+
+-- the first character that it may not hold
+abbrev pub first_refused : StringKind → List ℕ → Option ℕ
+first_refused k cs = find (λ c. not (permits k c)) cs
+
+-- characters are refused by the first one that is not permitted, or for want of memory
+abbrev pub IsRefusalOf : StringKind → (ℕ → InvalidRestrictedString) → List ℕ → PermittedAlphabetError → Type 0
+IsRefusalOf k refused cs (OutsideAlphabet e) = option_map refused (first_refused k cs) ≡ Some e
+IsRefusalOf k refused cs (Memory m) = Unit {0}
+IsRefusalOf k refused cs e = ⊥
+
+-- whether a string of this kind may hold these characters
+abbrev pub permits_all : StringKind → List ℕ → Bool
+permits_all k cs = each_is (permits k) cs

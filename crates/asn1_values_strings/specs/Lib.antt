@@ -1,0 +1,2 @@
+pub mod Alphabets
+pub mod Octets

@@ -1,0 +1,21 @@
+ghost use Rattle.std.specs.Iterator.{YieldsFirst, item_count};
+
+/// The characters of a string of octets, from the first to the last.
+#[derive(Debug, Drop)]
+pub struct Characters<'a> {
+    pub(crate) rest: &'a [u8],
+}
+
+impl<'a> Iterator for Characters<'a> {
+    type Item = u32;
+
+    ghost next_gives = { YieldsFirst (λ s. s.rest.now) };
+
+    ghost remaining = { item_count (λ s. s.rest.now) };
+
+    fn next(&mut self) -> Option<u32> {
+        let (first, rest) = self.rest.split_first()?;
+        self.rest = rest;
+        Some(u32::from(*first))
+    }
+}

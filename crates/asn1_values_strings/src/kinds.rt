@@ -1,0 +1,200 @@
+ghost use Rattle.std.specs.Prelude.{◌≡◌, ◌<◌, ℕ, true};
+ghost use Rattle.asn1_model.specs.Schema.{StringKind, numeric, printable, visible, ia5, general, graphic, teletex};
+ghost use Rattle.asn1_values_strings.specs.Alphabets.{permits};
+ghost use Rattle.asn1_values_strings.specs.Octets.{octet_among, ascii_among};
+ghost use Rattle.asn1_model.specs.Strings.{characters_of};
+ghost use Rattle.std.specs.Prelude.{refl};
+ghost use Rattle.asn1_values_alphabets.specs.declared.error.InvalidRestrictedString.{InvalidRestrictedString as Outside};
+ghost use Rattle.asn1_values_alphabets.specs.declared.error.InvalidRestrictedString.TheVariants as outside;
+
+use asn1_values_alphabets::{
+    InvalidGeneralString, InvalidGraphicString, InvalidIA5String, InvalidNumericString, InvalidPrintableString,
+    InvalidRestrictedString, InvalidTeletexString, InvalidVisibleString,
+};
+
+/// A kind of character string whose characters are octets: which ones it permits, and how another one is refused.
+pub trait CharacterKind: Drop {
+    ghost kind: { StringKind };
+
+    ghost refused: { ℕ → Outside };
+
+    /// The type's name in X.680.
+    const NAME: &'static str;
+
+    /// Whether a string of this kind may hold the character (X.680 41).
+    fn permits(character: u32) -> bool
+        ensures { result ≡ permits kind character };
+
+    /// The refusal of a character that it may not hold.
+    fn refuse(character: u32) -> InvalidRestrictedString
+        ensures { result ≡ refused character };
+
+    ghost octets: { (c : ℕ) → permits kind c ≡ true → c < 256 };
+}
+
+/// A kind whose characters are those of a text in ASCII.
+pub trait TextKind: CharacterKind {
+    ghost ascii: { (c : ℕ) → permits Self.kind c ≡ true → c < 128 };
+}
+
+/// Digits and the space.
+#[derive(Debug, Drop)]
+pub struct Numeric;
+
+impl CharacterKind for Numeric {
+    ghost kind = { numeric };
+
+    ghost refused = { λ c. outside.InvalidNumericString (record { character = c }) };
+
+    ghost octets = { octet_among (characters_of numeric) refl };
+
+    const NAME: &'static str = "NumericString";
+
+    fn permits(character: u32) -> bool {
+        matches!(character, 0x20 | 0x30..=0x39)
+    }
+
+    fn refuse(character: u32) -> InvalidRestrictedString {
+        InvalidRestrictedString::InvalidNumericString(InvalidNumericString { character })
+    }
+}
+
+/// Latin letters, digits, the space and `'()+,-./:=?`.
+#[derive(Debug, Drop)]
+pub struct Printable;
+
+impl CharacterKind for Printable {
+    ghost kind = { printable };
+
+    ghost refused = { λ c. outside.InvalidPrintableString (record { character = c }) };
+
+    ghost octets = { octet_among (characters_of printable) refl };
+
+    const NAME: &'static str = "PrintableString";
+
+    fn permits(character: u32) -> bool {
+        matches!(character, 0x20 | 0x27..=0x29 | 0x2B..=0x3A | 0x3D | 0x3F | 0x41..=0x5A | 0x61..=0x7A)
+    }
+
+    fn refuse(character: u32) -> InvalidRestrictedString {
+        InvalidRestrictedString::InvalidPrintableString(InvalidPrintableString { character })
+    }
+}
+
+/// The printing characters of ISO 646, and the space.
+#[derive(Debug, Drop)]
+pub struct Visible;
+
+impl CharacterKind for Visible {
+    ghost kind = { visible };
+
+    ghost refused = { λ c. outside.InvalidVisibleString (record { character = c }) };
+
+    ghost octets = { octet_among (characters_of visible) refl };
+
+    const NAME: &'static str = "VisibleString";
+
+    fn permits(character: u32) -> bool {
+        matches!(character, 0x20..=0x7E)
+    }
+
+    fn refuse(character: u32) -> InvalidRestrictedString {
+        InvalidRestrictedString::InvalidVisibleString(InvalidVisibleString { character })
+    }
+}
+
+/// The characters of ISO 646.
+#[derive(Debug, Drop)]
+pub struct Ia5;
+
+impl CharacterKind for Ia5 {
+    ghost kind = { ia5 };
+
+    ghost refused = { λ c. outside.InvalidIA5String (record { character = c }) };
+
+    ghost octets = { octet_among (characters_of ia5) refl };
+
+    const NAME: &'static str = "IA5String";
+
+    fn permits(character: u32) -> bool {
+        character <= 0x7F
+    }
+
+    fn refuse(character: u32) -> InvalidRestrictedString {
+        InvalidRestrictedString::InvalidIA5String(InvalidIA5String { character })
+    }
+}
+
+/// Any octets.
+#[derive(Debug, Drop)]
+pub struct General;
+
+impl CharacterKind for General {
+    ghost kind = { general };
+
+    ghost refused = { λ c. outside.InvalidGeneralString (record { character = c }) };
+
+    ghost octets = { octet_among (characters_of general) refl };
+
+    const NAME: &'static str = "GeneralString";
+
+    fn permits(character: u32) -> bool {
+        character <= 0xFF
+    }
+
+    fn refuse(character: u32) -> InvalidRestrictedString {
+        InvalidRestrictedString::InvalidGeneralString(InvalidGeneralString { character })
+    }
+}
+
+/// Any octets.
+#[derive(Debug, Drop)]
+pub struct Graphic;
+
+impl CharacterKind for Graphic {
+    ghost kind = { graphic };
+
+    ghost refused = { λ c. outside.InvalidGraphicString (record { character = c }) };
+
+    ghost octets = { octet_among (characters_of graphic) refl };
+
+    const NAME: &'static str = "GraphicString";
+
+    fn permits(character: u32) -> bool {
+        character <= 0xFF
+    }
+
+    fn refuse(character: u32) -> InvalidRestrictedString {
+        InvalidRestrictedString::InvalidGraphicString(InvalidGraphicString { character })
+    }
+}
+
+/// Any octets.
+#[derive(Debug, Drop)]
+pub struct Teletex;
+
+impl CharacterKind for Teletex {
+    ghost kind = { teletex };
+
+    ghost refused = { λ c. outside.InvalidTeletexString (record { character = c }) };
+
+    ghost octets = { octet_among (characters_of teletex) refl };
+
+    const NAME: &'static str = "TeletexString";
+
+    fn permits(character: u32) -> bool {
+        character <= 0xFF
+    }
+
+    fn refuse(character: u32) -> InvalidRestrictedString {
+        InvalidRestrictedString::InvalidTeletexString(InvalidTeletexString { character })
+    }
+}
+
+impl TextKind for Visible {
+    ghost ascii = { ascii_among (characters_of visible) refl };
+}
+
+impl TextKind for Ia5 {
+    ghost ascii = { ascii_among (characters_of ia5) refl };
+}
