@@ -1,5 +1,5 @@
 -- Which characters a string may hold, and why one is refused (X.680 41).
-use Rattle.std.specs.Prelude.{◌≡◌, ℕ, Bool, not, List, find, Option, Some, None, option_map}
+use Rattle.std.specs.Prelude.{◌≡◌, ℕ, ◌%◌, length, Bool, not, List, find, Option, Some, None, option_map}
 use Rattle.asn1_model.specs.Schema.{StringKind}
 use Rattle.asn1_model.specs.Strings.{Run, characters_of, each_is, is_among}
 use Rattle.asn1_values_alphabets.specs.declared.error.InvalidRestrictedString.{InvalidRestrictedString}
@@ -23,3 +23,9 @@ IsRefusalOf k refused cs e = ⊥
 -- whether a string of this kind may hold these characters
 abbrev pub permits_all : StringKind → List ℕ → Bool
 permits_all k cs = each_is (permits k) cs
+
+-- octets in pairs are refused where one is odd, or for want of memory
+abbrev pub IsRefusalOfPairs : List ℕ → PermittedAlphabetError → Type 0
+IsRefusalOfPairs os InvalidData = length os % 2 ≡ 1
+IsRefusalOfPairs os (Memory m) = Unit {0}
+IsRefusalOfPairs os e = ⊥

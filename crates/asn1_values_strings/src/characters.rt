@@ -19,3 +19,23 @@ impl<'a> Iterator for Characters<'a> {
         Some(u32::from(*first))
     }
 }
+
+/// The characters of a BMPString, from the first to the last.
+#[derive(Debug, Drop)]
+pub struct BmpCharacters<'a> {
+    pub(crate) rest: &'a [u16],
+}
+
+impl<'a> Iterator for BmpCharacters<'a> {
+    type Item = u32;
+
+    ghost next_gives = { YieldsFirst (λ s. s.rest.now) };
+
+    ghost remaining = { item_count (λ s. s.rest.now) };
+
+    fn next(&mut self) -> Option<u32> {
+        let (first, rest) = self.rest.split_first()?;
+        self.rest = rest;
+        Some(u32::from(*first))
+    }
+}

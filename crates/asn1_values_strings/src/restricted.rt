@@ -19,6 +19,7 @@ use std::hash::{Hash, Hasher};
 use std::marker::{Model, PhantomData};
 use std::ops::DerefSlice;
 
+use crate::alphabet::{StaticPermittedAlphabet, string_of_text};
 use crate::characters::Characters;
 use crate::kinds::CharacterKind;
 
@@ -73,11 +74,7 @@ impl<K: CharacterKind> RestrictedString<K> {
         ensures permitted { OnOk result (IsTrue (permits_all K.kind (chars text.now))) }
         ensures refused { IfErr result (IsRefusalOf K.kind K.refused (chars text.now)) }
     {
-        let mut string = RestrictedString::new(alloc);
-        for character in text.chars() {
-            string.push_char(u32::from(character))?;
-        }
-        Ok(string)
+        string_of_text(alloc, text)
     }
 
     /// The string of these octets as characters.
@@ -230,6 +227,34 @@ impl<K: CharacterKind> Hash for RestrictedString<K> {
 impl<K: CharacterKind> fmt::Debug for RestrictedString<K> {
     fn fmt<W: fmt::Write>(&self, f: &mut fmt::Formatter<W>) -> fmt::Result {
         f.debug_tuple(K::NAME).field(&self.as_bytes()).finish()
+    }
+}
+
+impl<K: CharacterKind> StaticPermittedAlphabet for RestrictedString<K> {
+    ghost kind = { K.kind };
+
+    ghost refused = { K.refused };
+
+    ghost characters = { λ s. s };
+
+    fn empty(alloc: Global) -> Self {
+        RestrictedString::new(alloc)
+    }
+
+    fn contains_char(character: u32) -> bool {
+        K::permits(character)
+    }
+
+    fn push_char(&mut self, character: u32) -> Result<(), PermittedAlphabetError> {
+        RestrictedString::push_char(self, character)
+    }
+
+    fn char_count(&self) -> usize {
+        self.as_bytes().len()
+    }
+
+    fn char_at(&self, place: usize) -> u32 {
+        u32::from(self.as_bytes()[place])
     }
 }
 
