@@ -1,0 +1,302 @@
+// Bits that grow at their end, in whole octets of which the last is filled with zero bits.
+ghost use Rattle.std.specs.Prelude.{◌≡◌, ℕ, ◌+◌, ◌-◌, ◌*◌, ◌/◌, ◌%◌, ◌^◌, ◌<◌, ◌≤◌, Bool, List, [], ◌∷◌, ◌++◌, length, set, take, replicate, false, IsTrue, ◌↔◌, OnOk, OnErr, vec_len, slice_set};
+ghost use Rattle.asn1_model.specs.Numbers.{binary, missing, octet_bits, packed};
+ghost use Rattle.asn1_values_bits.specs.Octets.{filled_up};
+
+use crate::bit_str::BitStr;
+use std::alloc::{AllocError, Global};
+use std::marker::Model;
+
+/// A list of bits that grows at its end. Between two calls all of them stand in octets, the first bit highest, and the bits past
+/// the last one are zero.
+#[derive(Drop)]
+pub struct BitBuffer {
+    octets: Vec<u8>,
+    len: usize,
+}
+
+impl Model for BitBuffer {
+    ghost use Rattle.std.specs.Prelude.{Bool, List, take};
+    ghost use Rattle.asn1_model.specs.Numbers.{octet_bits};
+    ghost use Rattle.asn1_values_bits.specs.Octets.{IsKept};
+
+    ghost Value = { List Bool };
+
+    ghost view = { λ b. take b.len (octet_bits b.octets.items) };
+
+    ghost invariant = { λ b. IsKept b.len b.octets.items };
+}
+
+impl BitBuffer {
+    ghost use Rattle.asn1_values_bits.specs.BitStr.{bits_of, offset_of};
+
+    /// No bits. It takes no memory, and what it holds later comes from `alloc`.
+    pub fn new(alloc: Global) -> Self
+        ensures { result ≡ [] }
+    {
+        BitBuffer {
+            octets: Vec::new(alloc),
+            len: 0,
+        }
+    }
+
+    /// How many bits there are.
+    pub fn len(&self) -> usize
+        ensures { result ≡ length self.now }
+    {
+        self.len
+    }
+
+    /// Whether there are no bits.
+    pub fn is_empty(&self) -> bool
+        ensures { IsTrue result ↔ (self.now ≡ []) }
+    {
+        self.len == 0
+    }
+
+    /// The bits in octets, the first bit highest, and zero bits behind the last one.
+    pub fn as_bytes(&self) -> &[u8]
+        ensures octets { result.now ≡ packed (filled_up self.now) }
+        ensures bits { octet_bits result.now ≡ filled_up self.now }
+    {
+        let octets = self.octets.as_slice();
+        octets
+    }
+
+    /// The octets themselves, as `as_bytes` shows them.
+    pub fn into_vec(self) -> Vec<u8>
+        ensures octets { result.items ≡ packed (filled_up self) }
+        ensures bits { octet_bits result.items ≡ filled_up self }
+    {
+        let BitBuffer { octets, len: _ } = self;
+        octets
+    }
+
+    /// All bits of the octets, whose allocator is kept.
+    pub fn from_vec(octets: Vec<u8>) -> Self
+        requires { vec_len octets < 2 ^ 61 }
+        ensures { result ≡ octet_bits octets.items }
+    {
+        let len = octets.len() * 8;
+        BitBuffer { octets, len }
+    }
+
+    /// Takes all bits away. The memory is kept.
+    pub fn clear(&mut self)
+        ensures { self.new ≡ [] }
+    {
+        self.octets.clear();
+        self.len = 0;
+    }
+
+    /// Makes room for so many octets behind those that are there.
+    pub fn reserve_bytes(&mut self, additional: usize) -> Result<(), AllocError>
+        ensures { self.new ≡ self.old }
+    {
+        self.octets.reserve(additional)?;
+        Ok(())
+    }
+
+    // Adds up to eight bits: the low ones of a number, the highest first.
+    fn push_few(&mut self, bits: u16, count: u32) -> Result<(), AllocError>
+        requires few { count ≤ 8 }
+        requires fits { bits < 2 ^ count }
+        ensures ok { OnOk result (self.new ≡ self.old ++ binary count bits) }
+        ensures err { OnErr result (self.new ≡ self.old) }
+    {
+        let Some(len) = self.len.checked_add(count as usize) else {
+            return Err(AllocError);
+        };
+        let free = free_bits(self.len);
+        let wide = bits << (8 + free - count);
+        let octets = self.octets.len();
+        if count > free {
+            self.octets.push((wide % 256) as u8)?;
+        }
+        if free > 0 {
+            self.octets[octets - 1] |= (wide / 256) as u8;
+        }
+        self.len = len;
+        Ok(())
+    }
+
+    // Keeps the first bits alone.
+    fn truncate(&mut self, len: usize)
+        ensures { self.new ≡ take len self.old }
+    {
+        if len >= self.len {
+            return;
+        }
+        let whole = len / 8;
+        if len % 8 == 0 {
+            self.octets.truncate(whole);
+            self.len = len;
+            return;
+        }
+        let free = free_bits(len);
+        self.octets.truncate(whole + 1);
+        self.octets[whole] = self.octets[whole] >> free << free;
+        self.len = len;
+    }
+
+    /// Adds one bit.
+    pub fn push(&mut self, bit: bool) -> Result<(), AllocError>
+        ensures ok { OnOk result (self.new ≡ self.old ++ bit ∷ []) }
+        ensures err { OnErr result (self.new ≡ self.old) }
+    {
+        self.push_few(if bit { 1 } else { 0 }, 1)?;
+        Ok(())
+    }
+
+    /// Adds the low `width` bits of a number, the highest first.
+    pub fn push_bits(&mut self, value: u128, width: u32) -> Result<(), AllocError>
+        requires { width ≤ 128 }
+        ensures ok { OnOk result (self.new ≡ self.old ++ binary width value) }
+        ensures err { OnErr result (self.new ≡ self.old) }
+    {
+        let before = self.len();
+        let mut left = width;
+        while left > 0 {
+            let few = left.min(8);
+            left -= few;
+            let bits = ((value >> left) & ((1 << few) - 1)) as u16;
+            match self.push_few(bits, few) {
+                Ok(()) => {}
+                Err(error) => {
+                    self.truncate(before);
+                    return Err(error);
+                }
+            }
+        }
+        Ok(())
+    }
+
+    /// Adds the bits of all the octets.
+    pub fn extend_from_bytes(&mut self, bytes: &[u8]) -> Result<(), AllocError>
+        ensures ok { OnOk result (self.new ≡ self.old ++ octet_bits bytes.now) }
+        ensures err { OnErr result (self.new ≡ self.old) }
+    {
+        if self.len % 8 > 0 {
+            self.extend_shifted(bytes)?;
+            return Ok(());
+        }
+        let Some(bits) = bytes.len().checked_mul(8) else {
+            return Err(AllocError);
+        };
+        let Some(len) = self.len.checked_add(bits) else {
+            return Err(AllocError);
+        };
+        self.octets.extend_from_slice(bytes)?;
+        self.len = len;
+        Ok(())
+    }
+
+    // Adds the bits of all the octets behind an octet that is not full.
+    fn extend_shifted(&mut self, bytes: &[u8]) -> Result<(), AllocError>
+        ensures ok { OnOk result (self.new ≡ self.old ++ octet_bits bytes.now) }
+        ensures err { OnErr result (self.new ≡ self.old) }
+    {
+        let before = self.len();
+        self.reserve_bytes(bytes.len())?;
+        for octet in bytes {
+            match self.push_few(*octet as u16, 8) {
+                Ok(()) => {}
+                Err(error) => {
+                    self.truncate(before);
+                    return Err(error);
+                }
+            }
+        }
+        Ok(())
+    }
+
+    /// A view of the bits.
+    pub fn as_bitslice(&self) -> BitStr<'_>
+        ensures bits { bits_of result ≡ self.now }
+        ensures offset { offset_of result ≡ 0 }
+    {
+        BitStr::of_buffer(self.octets.as_slice(), self.len)
+    }
+
+    /// Adds the bits of a view.
+    pub fn extend_from_bitslice(&mut self, bits: BitStr<'_>) -> Result<(), AllocError>
+        ensures ok { OnOk result (self.new ≡ self.old ++ bits_of bits.entry) }
+        ensures err { OnErr result (self.new ≡ self.old) }
+    {
+        let before = self.len();
+        let (octets, mut rest) = bits.whole_octets();
+        self.extend_from_bytes(octets)?;
+        while rest.len() > 0 {
+            let few = rest.len().min(64);
+            match self.push_bits(rest.first_number(few as u32), few as u32) {
+                Ok(()) => {}
+                Err(error) => {
+                    self.truncate(before);
+                    return Err(error);
+                }
+            }
+            rest = rest.split_at(few).1;
+        }
+        Ok(())
+    }
+
+    /// Adds the bits of another buffer.
+    pub fn extend_from_buffer(&mut self, other: &BitBuffer) -> Result<(), AllocError>
+        ensures ok { OnOk result (self.new ≡ self.old ++ other.now) }
+        ensures err { OnErr result (self.new ≡ self.old) }
+    {
+        self.extend_from_bitslice(other.as_bitslice())?;
+        Ok(())
+    }
+
+    /// Changes the bit at a place.
+    pub fn set(&mut self, index: usize, bit: bool)
+        requires { index < length self.old }
+        ensures { self.new ≡ slice_set self.old index bit }
+    {
+        let octet = self.octets[index / 8];
+        self.octets[index / 8] = with_bit(octet, (index % 8) as u32, bit);
+    }
+
+    /// Keeps the first `len` bits, or adds copies of a bit up to `len` bits.
+    pub fn resize(&mut self, len: usize, bit: bool) -> Result<(), AllocError>
+        ensures ok { OnOk result (self.new ≡ take len self.old ++ replicate (len - length self.old) bit) }
+        ensures err { OnErr result (self.new ≡ self.old) }
+    {
+        let before = self.len();
+        if len <= before {
+            self.truncate(len);
+            return Ok(());
+        }
+        let value = if bit { u128::MAX } else { 0 };
+        let mut left = len - before;
+        while left > 0 {
+            let few = left.min(128);
+            match self.push_bits(value, few as u32) {
+                Ok(()) => {}
+                Err(error) => {
+                    self.truncate(before);
+                    return Err(error);
+                }
+            }
+            left -= few;
+        }
+        Ok(())
+    }
+}
+
+// How many bits the last octet has left.
+fn free_bits(len: usize) -> u32
+    ensures { result ≡ missing len }
+{
+    ((8 - len % 8) % 8) as u32
+}
+
+// An octet with one of its bits changed, of which the highest is the first.
+fn with_bit(octet: u8, index: u32, bit: bool) -> u8
+    requires { index < 8 }
+    ensures { binary 8 result ≡ slice_set (binary 8 octet) index bit }
+{
+    let mask = 1 << (7 - index);
+    if bit { octet | mask } else { octet & !mask }
+}

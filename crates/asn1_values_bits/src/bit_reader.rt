@@ -1,0 +1,139 @@
+// Bits that are read from their front.
+ghost use Rattle.std.specs.Prelude.{◌≡◌, ◌+◌, ◌*◌, ◌%◌, ◌^◌, ◌<◌, ◌≤◌, [], ◌∷◌, length, take, drop, IsTrue, ◌↔◌, IsSome, IfSome, IfOk, IfErr, IsOk, OnErr, IsOkAnd};
+ghost use Rattle.std.specs.Cow.{cow_slice_items, IsBorrowedSlice};
+ghost use Rattle.asn1_model.specs.Numbers.{binary, octet_bits};
+ghost use Rattle.asn1_values_bits.specs.Octets.{filled_up};
+
+use crate::bit_buffer::BitBuffer;
+use crate::bit_str::BitStr;
+use std::alloc::{AllocError, Global};
+use std::borrow::CowSlice;
+use std::marker::Model;
+
+/// Bits that are still to be read, in octets that stand elsewhere.
+#[derive(Drop)]
+pub struct BitReader<'a> {
+    rest: BitStr<'a>,
+}
+
+impl<'a> Model for BitReader<'a> {
+    ghost use Rattle.asn1_values_bits.specs.Unread.{Unread};
+    ghost use Rattle.asn1_values_bits.specs.BitStr.{bits_of, offset_of};
+
+    ghost Value = { Unread };
+
+    ghost view = { λ r. record { bits = bits_of r.rest; offset = offset_of r.rest } };
+}
+
+impl<'a> BitReader<'a> {
+    ghost use Rattle.asn1_values_bits.specs.BitStr.{bits_of, offset_of};
+
+    /// Reads the bits of a view.
+    pub fn new(bits: BitStr<'a>) -> Self
+        ensures bits { result.bits ≡ bits_of bits.entry }
+        ensures offset { result.offset ≡ offset_of bits.entry }
+    {
+        BitReader { rest: bits }
+    }
+
+    /// Reads all bits of the octets.
+    pub fn from_octets(octets: &'a [u8]) -> Self
+        requires { length octets.now < 2 ^ 61 }
+        ensures bits { result.bits ≡ octet_bits octets.now }
+        ensures offset { result.offset ≡ 0 }
+    {
+        let rest = BitStr::from_slice(octets);
+        BitReader { rest }
+    }
+
+    /// The unread bits.
+    pub fn bits(&self) -> BitStr<'a>
+        ensures bits { bits_of result ≡ self.now.bits }
+        ensures offset { offset_of result ≡ self.now.offset }
+    {
+        self.rest
+    }
+
+    /// How many bits are unread.
+    pub fn len(&self) -> usize
+        ensures { result ≡ length self.now.bits }
+    {
+        self.rest.len()
+    }
+
+    /// Whether no bits are unread.
+    pub fn is_empty(&self) -> bool
+        ensures { IsTrue result ↔ (self.now.bits ≡ []) }
+    {
+        self.rest.is_empty()
+    }
+
+    /// Takes the first bits off. Where there are fewer, it answers how many are missing, and stays as it is.
+    pub fn split(&mut self, count: usize) -> Result<BitReader<'a>, usize>
+        ensures ok { IsOk result ↔ (count ≤ length self.old.bits) }
+        ensures front { IfOk result (λ front. front.bits ≡ take count self.old.bits) }
+        ensures front_offset { IfOk result (λ front. front.offset ≡ self.old.offset) }
+        ensures rest { IfOk result (λ _. self.new.bits ≡ drop count self.old.bits) }
+        ensures rest_offset { IfOk result (λ _. self.new.offset ≡ (self.old.offset + count) % 8) }
+        ensures missing { IfErr result (λ missing. length self.old.bits + missing ≡ count) }
+        ensures unchanged { OnErr result (self.new ≡ self.old) }
+    {
+        let len = self.rest.len();
+        if count > len {
+            return Err(count - len);
+        }
+        let (front, rest) = self.rest.split_at(count);
+        self.rest = rest;
+        Ok(BitReader { rest: front })
+    }
+
+    /// The first bit.
+    pub fn first_bit(&self) -> bool
+        requires { 0 < length self.now.bits }
+        ensures { take 1 self.now.bits ≡ result ∷ [] }
+    {
+        self.rest.first_number(1) == 1
+    }
+
+    /// The number whose binary digits are the first bits, at most 64.
+    pub fn first_bits(&self, width: u32) -> u64
+        requires narrow { width ≤ 64 }
+        requires within { width ≤ length self.now.bits }
+        ensures digits { binary width result ≡ take width self.now.bits }
+        ensures fits { result < 2 ^ width }
+    {
+        self.rest.first_number(width) as u64
+    }
+
+    /// The number whose binary digits are the first bits, at most 128.
+    pub fn first_u128(&self, width: u32) -> u128
+        requires narrow { width ≤ 128 }
+        requires within { width ≤ length self.now.bits }
+        ensures digits { binary width result ≡ take width self.now.bits }
+        ensures fits { result < 2 ^ width }
+    {
+        self.rest.first_number(width)
+    }
+
+    /// The octets that hold the unread bits, where these begin at an octet and end at one.
+    pub fn aligned_octets(&self) -> Option<&'a [u8]>
+        ensures aligned { IsSome result ↔ ((self.now.offset ≡ 0) × (length self.now.bits % 8 ≡ 0)) }
+        ensures octets { IfSome result (λ octets. octet_bits octets.now ≡ self.now.bits) }
+    {
+        self.rest.aligned_octets()
+    }
+
+    /// The unread bits in octets, with zero bits behind the last one. Where the bits begin at an octet and end at one, the octets
+    /// are lent and no memory is taken.
+    pub fn octets(&self, alloc: Global) -> Result<CowSlice<'a, u8>, AllocError>
+        ensures octets { IfOk result (λ octets. octet_bits (cow_slice_items octets) ≡ filled_up self.now.bits) }
+        ensures lent { self.now.offset ≡ 0 → length self.now.bits % 8 ≡ 0 → IsOkAnd result IsBorrowedSlice }
+    {
+        if let Some(octets) = self.rest.aligned_octets() {
+            return Ok(CowSlice::Borrowed(octets));
+        }
+        let mut copy = BitBuffer::new(alloc);
+        copy.extend_from_bitslice(self.rest)?;
+        Ok(CowSlice::Owned(copy.into_vec()))
+    }
+}
