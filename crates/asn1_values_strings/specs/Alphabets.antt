@@ -1,5 +1,6 @@
 -- Which characters a string may hold, and why one is refused (X.680 41).
-use Rattle.std.specs.Prelude.{◌≡◌, ℕ, ◌%◌, length, Bool, not, List, find, Option, Some, None, option_map}
+use Rattle.std.specs.Prelude.{◌≡◌, ℕ, ◌%◌, ◌<◌, length, Bool, not, List, find, Option, Some, None, option_map}
+use Rattle.asn1_model.specs.Numbers.{packed}
 use Rattle.asn1_model.specs.Schema.{StringKind}
 use Rattle.asn1_model.specs.Strings.{Run, characters_of, each_is, is_among}
 use Rattle.asn1_values_alphabets.specs.declared.error.InvalidRestrictedString.{InvalidRestrictedString}
@@ -29,3 +30,14 @@ abbrev pub IsRefusalOfPairs : List ℕ → PermittedAlphabetError → Type 0
 IsRefusalOfPairs os InvalidData = length os % 2 ≡ 1
 IsRefusalOfPairs os (Memory m) = Unit {0}
 IsRefusalOfPairs os e = ⊥
+
+-- bits are refused where they are no whole octets, or by the octets that they are
+abbrev pub IsRefusalOfBits : StringKind → (ℕ → InvalidRestrictedString) → List Bool → PermittedAlphabetError → Type 0
+IsRefusalOfBits k refused bs InvalidData = 0 < length bs % 8
+IsRefusalOfBits k refused bs e = IsRefusalOf k refused (packed bs) e
+
+-- and for characters of two octets where they are no whole pairs
+abbrev pub IsRefusalOfPairBits : List Bool → PermittedAlphabetError → Type 0
+IsRefusalOfPairBits bs InvalidData = 0 < length bs % 16
+IsRefusalOfPairBits bs (Memory m) = Unit {0}
+IsRefusalOfPairBits bs e = ⊥

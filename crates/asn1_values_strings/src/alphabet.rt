@@ -1,6 +1,7 @@
 ghost use Rattle.std.specs.Prelude.{◌≡◌, ◌<◌, ℕ, List, [], ◌∷◌, ◌++◌, length, slice_index, IsTrue, IfOk, IfErr, OnOk, OnErr};
 ghost use Rattle.std.specs.Str.{chars};
 ghost use Rattle.asn1_model.specs.Schema.{StringKind};
+ghost use Rattle.asn1_model.specs.Strings.{may_hold};
 ghost use Rattle.asn1_values_strings.specs.Alphabets.{permits, permits_all, IsRefusalOf};
 ghost use Rattle.asn1_values_alphabets.specs.declared.error.InvalidRestrictedString.{InvalidRestrictedString as Outside};
 
@@ -32,12 +33,16 @@ pub trait StaticPermittedAlphabet: Drop {
 
     /// How many characters there are.
     fn char_count(&self) -> usize
-        ensures { result ≡ length (characters self.now) };
+        ensures count { result ≡ length (characters self.now) }
+        ensures permitted { IsTrue (permits_all kind (characters self.now)) };
 
     /// The character at a place, counted from 0.
     fn char_at(&self, place: usize) -> u32
         requires { place < length (characters self.now) }
         ensures { result ≡ slice_index (characters self.now) place };
+
+    // what the type may hold is what its kind may hold
+    ghost holds: { (cs : List ℕ) → may_hold kind cs ≡ permits_all kind cs };
 }
 
 /// The string of a text's characters.

@@ -6,12 +6,13 @@ ghost use Rattle.std.specs.Cmp.{partial_equiv_from_equiv};
 ghost use Rattle.std.specs.Cmp.Rules.{hashing};
 ghost use Rattle.std.specs.Str.{chars};
 ghost use Rattle.std.proofs.Common.{rules};
-ghost use Rattle.asn1_model.specs.Numbers.{digits};
+ghost use Rattle.asn1_model.specs.Numbers.{digits, octet_bits};
 ghost use Rattle.asn1_model.specs.Schema.{bmp};
-ghost use Rattle.asn1_values_strings.specs.Alphabets.{permits, permits_all, IsRefusalOf, IsRefusalOfPairs};
+ghost use Rattle.asn1_values_strings.specs.Alphabets.{permits, permits_all, IsRefusalOf, IsRefusalOfPairs, IsRefusalOfPairBits};
 ghost use Rattle.asn1_values_alphabets.specs.declared.error.InvalidRestrictedString.TheVariants.{InvalidBmpString as outside_bmp};
 
 use asn1_values_alphabets::{InvalidBmpString, InvalidRestrictedString, PermittedAlphabetError};
+use asn1_values_bits::BitString;
 use asn1_values_octets::OctetString;
 use std::alloc::{AllocError, Global};
 use std::cmp::Ordering;
@@ -86,11 +87,24 @@ impl BmpString {
         BmpString::from_bytes(alloc, octets.as_slice())
     }
 
+    /// The string of these bits as characters of sixteen. Bits that are no whole characters are refused.
+    pub fn from_bit_string(alloc: Global, bits: &BitString) -> Result<Self, PermittedAlphabetError>
+        ensures characters { IfOk result (λ s. octet_bits (flat_map (digits 256 2) s) ≡ bits.now) }
+        ensures refused { IfErr result (IsRefusalOfPairBits bits.now) }
+    {
+        if bits.len() % 16 > 0 {
+            return Err(PermittedAlphabetError::InvalidData);
+        }
+        BmpString::from_bytes(alloc, bits.as_bytes())
+    }
+
     /// The characters.
     pub fn as_units(&self) -> &[u16]
-        ensures { result.now ≡ self.now }
+        ensures characters { result.now ≡ self.now }
+        ensures permitted { IsTrue (permits_all bmp self.now) }
     {
-        self.characters.as_slice()
+        let characters = self.characters.as_slice();
+        characters
     }
 
     /// The characters as octets, two for each, the most significant first.
@@ -153,6 +167,8 @@ impl StaticPermittedAlphabet for BmpString {
     ghost refused = { λ c. outside_bmp (record { character = c }) };
 
     ghost characters = { λ s. s };
+
+    ghost holds = { λ cs. refl };
 
     fn empty(alloc: Global) -> Self {
         BmpString::new(alloc)

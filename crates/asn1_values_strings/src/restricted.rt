@@ -6,10 +6,12 @@ ghost use Rattle.std.specs.Cmp.{partial_equiv_from_equiv};
 ghost use Rattle.std.specs.Cmp.Rules.{hashing};
 ghost use Rattle.std.specs.Str.{chars};
 ghost use Rattle.std.proofs.Common.{rules};
-ghost use Rattle.asn1_values_strings.specs.Alphabets.{first_refused, permits, permits_all, IsRefusalOf};
+ghost use Rattle.asn1_model.specs.Numbers.{octet_bits};
+ghost use Rattle.asn1_values_strings.specs.Alphabets.{first_refused, permits, permits_all, IsRefusalOf, IsRefusalOfBits};
 ghost use Rattle.asn1_values_alphabets.specs.declared.error.PermittedAlphabetError.TheVariants.{InvalidRestrictedString as outside};
 
 use asn1_values_alphabets::PermittedAlphabetError;
+use asn1_values_bits::BitString;
 use asn1_values_octets::OctetString;
 use std::alloc::{AllocError, Global};
 use std::cmp::Ordering;
@@ -84,6 +86,18 @@ impl<K: CharacterKind> RestrictedString<K> {
         ensures refused { IfErr result (IsRefusalOf K.kind K.refused octets.now) }
     {
         RestrictedString::from_bytes(alloc, octets.as_slice())
+    }
+
+    /// The string of these bits as characters of eight. Bits that are no whole octets are refused.
+    pub fn from_bit_string(alloc: Global, bits: &BitString) -> Result<Self, PermittedAlphabetError>
+        ensures characters { IfOk result (λ s. octet_bits s ≡ bits.now) }
+        ensures permitted { IfOk result (λ s. IsTrue (permits_all K.kind s)) }
+        ensures refused { IfErr result (IsRefusalOfBits K.kind K.refused bits.now) }
+    {
+        if bits.len() % 8 > 0 {
+            return Err(PermittedAlphabetError::InvalidData);
+        }
+        RestrictedString::from_bytes(alloc, bits.as_bytes())
     }
 
     /// The characters, each one octet.
@@ -236,6 +250,8 @@ impl<K: CharacterKind> StaticPermittedAlphabet for RestrictedString<K> {
     ghost refused = { K.refused };
 
     ghost characters = { λ s. s };
+
+    ghost holds = { K.holds };
 
     fn empty(alloc: Global) -> Self {
         RestrictedString::new(alloc)
