@@ -1,6 +1,6 @@
 -- Octets as bits.
-use Rattle.std.proofs.Common.{◌≡◌, ℕ, zero, suc, ◌+◌, ◌-◌, ◌*◌, ◌/◌, ◌%◌, ◌<◌, ◌≤◌, Bool, true, false, List, [], ◌∷◌, ◌++◌, length, replicate, refl, sym, ap, ◌∙◌, arith, length-append}
-use Rattle.std.specs.Prelude.{Result, Ok, Err, IfErr, flat_map}
+use Rattle.std.proofs.Common.{◌≡◌, ℕ, zero, suc, ◌*◌, ◌%◌, Bool, false, List, [], ◌∷◌, length, replicate, refl, ap, arith, length-append}
+use Rattle.std.specs.Prelude.{Result, Ok, Err, IfErr}
 use Rattle.asn1_model.specs.Numbers.{octet_bits, missing, binary}
 use Rattle.asn1_values_bits.specs.Octets.{filled_up}
 use Rattle.asn1_values_alphabets.specs.declared.error.PermittedAlphabetError.{PermittedAlphabetError}

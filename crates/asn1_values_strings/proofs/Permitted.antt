@@ -1,7 +1,7 @@
 -- Lists of permitted characters.
-use Rattle.std.proofs.Common.{◌≡◌, ℕ, zero, suc, ◌<◌, ◌≤◌, Bool, true, false, not, cond, ◌&&◌, List, [], ◌∷◌, ◌++◌, ◌+◌, ◌∙◌, length, get_or, drop, Option, Some, None, refl, sym, ap, arith, Fits, w16}
+use Rattle.std.proofs.Common.{◌≡◌, ℕ, suc, ◌<◌, Bool, true, false, not, cond, ◌&&◌, List, [], ◌∷◌, ◌++◌, ◌+◌, ◌∙◌, length, get_or, drop, Some, None, refl, sym, ap, arith, Fits, w16}
 use Rattle.std.specs.Prelude.{find}
-use Rattle.asn1_model.specs.Strings.{Run, each_is, is_among}
+use Rattle.asn1_model.specs.Strings.{each_is}
 use Rattle.std.specs.Prelude.{option_map, All, Result, Ok, Err, MatchResult, IsOk}
 use Rattle.std.specs.Str.{IsAscii}
 use Rattle.std.proofs.lemmas.Str.Ascii.{IsAscii-from_all}

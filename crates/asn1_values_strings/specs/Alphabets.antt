@@ -1,11 +1,11 @@
 -- Which characters a string may hold, and why one is refused (X.680 41).
-use Rattle.std.specs.Prelude.{◌≡◌, ℕ, ◌%◌, ◌<◌, length, Bool, not, List, find, Option, Some, None, option_map}
+use Rattle.std.specs.Prelude.{◌≡◌, ℕ, ◌%◌, ◌<◌, length, Bool, not, List, find, Option, Some, option_map}
 use Rattle.asn1_model.specs.Numbers.{packed}
 use Rattle.asn1_model.specs.Schema.{StringKind}
-use Rattle.asn1_model.specs.Strings.{Run, characters_of, each_is, is_among}
+use Rattle.asn1_model.specs.Strings.{characters_of, each_is, is_among}
 use Rattle.asn1_values_alphabets.specs.declared.error.InvalidRestrictedString.{InvalidRestrictedString}
 use Rattle.asn1_values_alphabets.specs.declared.error.PermittedAlphabetError.{PermittedAlphabetError}
-use Rattle.asn1_values_alphabets.specs.declared.error.PermittedAlphabetError.TheVariants.{Other, InvalidData, IndexNotFound, CharacterNotFound, InvalidRestrictedString as OutsideAlphabet, Memory}
+use Rattle.asn1_values_alphabets.specs.declared.error.PermittedAlphabetError.TheVariants.{InvalidData, InvalidRestrictedString as OutsideAlphabet, Memory}
 
 -- whether a string of this kind may hold the character
 abbrev pub permits : StringKind → ℕ → Bool

@@ -46,7 +46,10 @@ pub trait StaticPermittedAlphabet: Drop {
 }
 
 /// The string of a text's characters.
-pub(crate) fn string_of_text<S: StaticPermittedAlphabet>(alloc: Global, text: &str) -> Result<S, PermittedAlphabetError>
+pub(crate) fn string_of_text<S: StaticPermittedAlphabet>(
+    alloc: Global,
+    text: &str,
+) -> Result<S, PermittedAlphabetError>
     ensures characters { IfOk result (λ s. S.characters s ≡ chars text.now) }
     ensures permitted { OnOk result (IsTrue (permits_all S.kind (chars text.now))) }
     ensures refused { IfErr result (IsRefusalOf S.kind S.refused (chars text.now)) }

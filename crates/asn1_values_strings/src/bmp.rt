@@ -1,4 +1,4 @@
-ghost use Rattle.std.specs.Prelude.{◌≡◌, ◌+◌, ◌*◌, ◌%◌, ◌<◌, ◌≤◌, ◌^◌, ℕ, [], ◌∷◌, ◌++◌, flat_map, length, Some, refl, nat_eq, IsTrue, IfOk, IfErr, OnOk, OnErr, MatchResult};
+ghost use Rattle.std.specs.Prelude.{◌≡◌, ◌+◌, ◌*◌, ◌%◌, ◌<◌, ◌≤◌, ◌^◌, ℕ, [], ◌∷◌, ◌++◌, flat_map, length, Some, refl, nat_eq, ◌↔◌, IsTrue, IfOk, IfErr, OnOk, OnErr, MatchResult};
 ghost use Rattle.std.specs.Ordering.{nat_cmp};
 ghost use Rattle.std.specs.Hash as fed;
 ghost use Rattle.std.specs.Cmp.Lexicographic.{pointwise, slice_cmp, nat_list_eq_equiv, nat_list_cmp_total, texts_ties, texts_po};
@@ -11,6 +11,8 @@ ghost use Rattle.asn1_model.specs.Schema.{bmp};
 ghost use Rattle.asn1_values_strings.specs.Alphabets.{permits, permits_all, IsRefusalOf, IsRefusalOfPairs, IsRefusalOfPairBits};
 ghost use Rattle.asn1_values_alphabets.specs.declared.error.InvalidRestrictedString.TheVariants.{InvalidBmpString as outside_bmp};
 
+use crate::alphabet::{StaticPermittedAlphabet, string_of_text};
+use crate::characters::BmpCharacters;
 use asn1_values_alphabets::{InvalidBmpString, InvalidRestrictedString, PermittedAlphabetError};
 use asn1_values_bits::BitString;
 use asn1_values_octets::OctetString;
@@ -21,9 +23,6 @@ use std::fmt;
 use std::hash::{Hash, Hasher};
 use std::marker::Model;
 use std::ops::DerefSlice;
-
-use crate::alphabet::{StaticPermittedAlphabet, string_of_text};
-use crate::characters::BmpCharacters;
 
 /// A BMPString, of characters from 0 to 65535 (X.680 41).
 ///
@@ -61,10 +60,14 @@ impl BmpString {
             return Err(PermittedAlphabetError::InvalidData);
         }
         let count = bytes.len() / 2;
-        let mut characters = Vec::with_capacity(alloc, count).map_err(PermittedAlphabetError::Memory)?;
+        let mut characters = Vec::with_capacity(alloc, count).map_err(
+            PermittedAlphabetError::Memory,
+        )?;
         for i in 0..count {
             let character = u16::from(bytes[2 * i]) * 256 + u16::from(bytes[2 * i + 1]);
-            characters.push(character).map_err(|_| PermittedAlphabetError::Memory(AllocError))?;
+            characters
+                .push(character)
+                .map_err(|_| PermittedAlphabetError::Memory(AllocError))?;
         }
         Ok(BmpString { characters })
     }
@@ -79,7 +82,10 @@ impl BmpString {
     }
 
     /// The string of the characters that these octets are in pairs. An odd octet is refused.
-    pub fn from_octet_string(alloc: Global, octets: &OctetString) -> Result<Self, PermittedAlphabetError>
+    pub fn from_octet_string(
+        alloc: Global,
+        octets: &OctetString,
+    ) -> Result<Self, PermittedAlphabetError>
         ensures characters { IfOk result (λ s. flat_map (digits 256 2) s ≡ octets.now) }
         ensures even { OnOk result (length octets.now % 2 ≡ 0) }
         ensures refused { IfErr result (IsRefusalOfPairs octets.now) }
@@ -127,9 +133,23 @@ impl BmpString {
         self.characters
     }
 
+    /// How many characters there are.
+    pub fn len(&self) -> usize
+        ensures { result ≡ length self.now }
+    {
+        self.as_units().len()
+    }
+
+    /// Whether there is no character.
+    pub fn is_empty(&self) -> bool
+        ensures { IsTrue result ↔ (self.now ≡ []) }
+    {
+        self.as_units().is_empty()
+    }
+
     /// The characters, from the first to the last.
     pub fn chars(&self) -> BmpCharacters<'_>
-        ensures { result.rest.now ≡ self.now }
+        ensures { result ≡ self.now }
     {
         BmpCharacters {
             rest: self.as_units(),
@@ -148,7 +168,9 @@ impl BmpString {
                 InvalidRestrictedString::InvalidBmpString(InvalidBmpString { character }),
             ));
         }
-        self.characters.push(character as u16).map_err(|_| PermittedAlphabetError::Memory(AllocError))?;
+        self.characters
+            .push(character as u16)
+            .map_err(|_| PermittedAlphabetError::Memory(AllocError))?;
         Ok(())
     }
 }

@@ -1,17 +1,27 @@
 ghost use Rattle.std.specs.Iterator.{YieldsFirst, item_count};
 
+use std::marker::Model;
+
 /// The characters of a string of octets, from the first to the last.
 #[derive(Debug, Drop)]
 pub struct Characters<'a> {
     pub(crate) rest: &'a [u8],
 }
 
+impl<'a> Model for Characters<'a> {
+    ghost use Rattle.std.specs.Prelude.{List, ℕ};
+
+    ghost Value = { List ℕ };
+
+    ghost view = { λ c. c.rest.now };
+}
+
 impl<'a> Iterator for Characters<'a> {
     type Item = u32;
 
-    ghost next_gives = { YieldsFirst (λ s. s.rest.now) };
+    ghost next_gives = { YieldsFirst (λ rest. rest) };
 
-    ghost remaining = { item_count (λ s. s.rest.now) };
+    ghost remaining = { item_count (λ rest. rest) };
 
     fn next(&mut self) -> Option<u32> {
         let (first, rest) = self.rest.split_first()?;
@@ -26,12 +36,20 @@ pub struct BmpCharacters<'a> {
     pub(crate) rest: &'a [u16],
 }
 
+impl<'a> Model for BmpCharacters<'a> {
+    ghost use Rattle.std.specs.Prelude.{List, ℕ};
+
+    ghost Value = { List ℕ };
+
+    ghost view = { λ c. c.rest.now };
+}
+
 impl<'a> Iterator for BmpCharacters<'a> {
     type Item = u32;
 
-    ghost next_gives = { YieldsFirst (λ s. s.rest.now) };
+    ghost next_gives = { YieldsFirst (λ rest. rest) };
 
-    ghost remaining = { item_count (λ s. s.rest.now) };
+    ghost remaining = { item_count (λ rest. rest) };
 
     fn next(&mut self) -> Option<u32> {
         let (first, rest) = self.rest.split_first()?;

@@ -8,8 +8,8 @@ ghost use Rattle.asn1_values_alphabets.specs.declared.error.InvalidRestrictedStr
 ghost use Rattle.asn1_values_alphabets.specs.declared.error.InvalidRestrictedString.TheVariants as outside;
 
 use asn1_values_alphabets::{
-    InvalidGeneralString, InvalidGraphicString, InvalidIA5String, InvalidNumericString, InvalidPrintableString,
-    InvalidRestrictedString, InvalidTeletexString, InvalidVisibleString,
+    InvalidGeneralString, InvalidGraphicString, InvalidIA5String, InvalidNumericString,
+    InvalidPrintableString, InvalidRestrictedString, InvalidTeletexString, InvalidVisibleString,
 };
 
 /// A kind of character string whose characters are octets: which ones it permits, and how another one is refused.

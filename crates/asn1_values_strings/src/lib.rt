@@ -11,7 +11,9 @@ mod text;
 pub use alphabet::StaticPermittedAlphabet;
 pub use bmp::BmpString;
 pub use characters::{BmpCharacters, Characters};
-pub use kinds::{CharacterKind, General, Graphic, Ia5, Numeric, Printable, Teletex, TextKind, Visible};
+pub use kinds::{
+    CharacterKind, General, Graphic, Ia5, Numeric, Printable, Teletex, TextKind, Visible,
+};
 pub use restricted::RestrictedString;
 
 /// A NumericString: digits and the space (X.680 41.2).
@@ -34,3 +36,6 @@ pub type GraphicString = RestrictedString<Graphic>;
 
 /// A TeletexString, seen as its octets (X.680 41.1).
 pub type TeletexString = RestrictedString<Teletex>;
+
+#[cfg(test)]
+mod tests;

@@ -1,4 +1,4 @@
-ghost use Rattle.std.specs.Prelude.{◌≡◌, ◌<◌, ◌^◌, ℕ, [], ◌∷◌, ◌++◌, length, Some, refl, nat_eq, IsTrue, IfOk, IfErr, OnOk, OnErr, MatchResult};
+ghost use Rattle.std.specs.Prelude.{◌≡◌, ◌<◌, ◌^◌, ℕ, [], ◌∷◌, ◌++◌, length, Some, refl, nat_eq, ◌↔◌, IsTrue, IfOk, IfErr, OnOk, OnErr, MatchResult};
 ghost use Rattle.std.specs.Ordering.{nat_cmp};
 ghost use Rattle.std.specs.Hash as fed;
 ghost use Rattle.std.specs.Cmp.Lexicographic.{pointwise, slice_cmp, nat_list_eq_equiv, nat_list_cmp_total, texts_ties, texts_po};
@@ -10,6 +10,9 @@ ghost use Rattle.asn1_model.specs.Numbers.{octet_bits};
 ghost use Rattle.asn1_values_strings.specs.Alphabets.{first_refused, permits, permits_all, IsRefusalOf, IsRefusalOfBits};
 ghost use Rattle.asn1_values_alphabets.specs.declared.error.PermittedAlphabetError.TheVariants.{InvalidRestrictedString as outside};
 
+use crate::alphabet::{StaticPermittedAlphabet, string_of_text};
+use crate::characters::Characters;
+use crate::kinds::CharacterKind;
 use asn1_values_alphabets::PermittedAlphabetError;
 use asn1_values_bits::BitString;
 use asn1_values_octets::OctetString;
@@ -20,10 +23,6 @@ use std::fmt;
 use std::hash::{Hash, Hasher};
 use std::marker::{Model, PhantomData};
 use std::ops::DerefSlice;
-
-use crate::alphabet::{StaticPermittedAlphabet, string_of_text};
-use crate::characters::Characters;
-use crate::kinds::CharacterKind;
 
 /// A character string of one kind, whose characters are octets (X.680 41).
 ///
@@ -80,7 +79,10 @@ impl<K: CharacterKind> RestrictedString<K> {
     }
 
     /// The string of these octets as characters.
-    pub fn from_octet_string(alloc: Global, octets: &OctetString) -> Result<Self, PermittedAlphabetError>
+    pub fn from_octet_string(
+        alloc: Global,
+        octets: &OctetString,
+    ) -> Result<Self, PermittedAlphabetError>
         ensures characters { IfOk result (λ s. s ≡ octets.now) }
         ensures permitted { OnOk result (IsTrue (permits_all K.kind octets.now)) }
         ensures refused { IfErr result (IsRefusalOf K.kind K.refused octets.now) }
@@ -123,9 +125,23 @@ impl<K: CharacterKind> RestrictedString<K> {
         self.octets
     }
 
+    /// How many characters there are.
+    pub fn len(&self) -> usize
+        ensures { result ≡ length self.now }
+    {
+        self.as_bytes().len()
+    }
+
+    /// Whether there is no character.
+    pub fn is_empty(&self) -> bool
+        ensures { IsTrue result ↔ (self.now ≡ []) }
+    {
+        self.as_bytes().is_empty()
+    }
+
     /// The characters, from the first to the last.
     pub fn chars(&self) -> Characters<'_>
-        ensures { result.rest.now ≡ self.now }
+        ensures { result ≡ self.now }
     {
         Characters {
             rest: self.as_bytes(),
@@ -142,7 +158,9 @@ impl<K: CharacterKind> RestrictedString<K> {
         if !K::permits(character) {
             return Err(PermittedAlphabetError::InvalidRestrictedString(K::refuse(character)));
         }
-        self.octets.push(character as u8).map_err(|_| PermittedAlphabetError::Memory(AllocError))?;
+        self.octets
+            .push(character as u8)
+            .map_err(|_| PermittedAlphabetError::Memory(AllocError))?;
         Ok(())
     }
 }
@@ -280,7 +298,9 @@ fn ensure_permitted<K: CharacterKind>(octets: &[u8]) -> Result<(), PermittedAlph
     ensures refused { IfErr result (IsRefusalOf K.kind K.refused octets.now) }
 {
     match first_refused::<K>(octets) {
-        Some(character) => Err(PermittedAlphabetError::InvalidRestrictedString(K::refuse(character))),
+        Some(character) => Err(PermittedAlphabetError::InvalidRestrictedString(K::refuse(
+            character,
+        ))),
         None => Ok(()),
     }
 }

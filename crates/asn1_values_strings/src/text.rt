@@ -1,13 +1,12 @@
 ghost use Rattle.std.specs.Prelude.{◌≡◌, string_bytes, IsTrue, IfOk, IfErr, OnOk, MatchResult};
 ghost use Rattle.asn1_values_strings.specs.Alphabets.{permits_all, IsRefusalOf};
 
+use crate::kinds::TextKind;
+use crate::restricted::RestrictedString;
 use asn1_values_alphabets::PermittedAlphabetError;
 use asn1_values_octets::OctetString;
 use std::alloc::{AllocFailed, Global};
 use std::fmt;
-
-use crate::kinds::TextKind;
-use crate::restricted::RestrictedString;
 
 impl<K: TextKind> RestrictedString<K> {
     /// The string of these characters of ISO 646.

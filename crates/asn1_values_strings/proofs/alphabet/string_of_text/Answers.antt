@@ -1,8 +1,8 @@
-use Rattle.std.proofs.Common.{map-id, rules, ◌≡◌, ◌∷◌, [], ◌++◌, ◌+◌, length, drop, None, true, sym, ap, ◌∙◌, arith}
+use Rattle.std.proofs.Common.{map-id, ◌≡◌, ◌∷◌, [], ◌+◌, length, drop, true, sym, ◌∙◌, arith}
 use Rattle.std.specs.Str.{chars}
 use Rattle.std.proofs.lemmas.Iterator.{YieldsList-from_chars}
 use Rattle.std.proofs.lemmas.Iterator.Consumers.{YieldsList-turn, YieldsList-end}
-use Rattle.std.proofs.lemmas.List.{at_drop_more, at_drop_all, length_push}
+use Rattle.std.proofs.lemmas.List.{at_drop_all, length_push}
 use Rattle.std.proofs.lemmas.Result.{err_from_is_err_and}
 use Rattle.asn1_values_strings.specs.Alphabets.{first_refused, permits, IsRefusalOf}
 use Rattle.asn1_values_strings.proofs.Permitted.{each_is-find, first_refused-permitted, refused_by_first, turn_of_text}

@@ -1,6 +1,4 @@
-use Rattle.std.proofs.Common.{rules, arith, ◌≡◌, ◌%◌, length}
-use Rattle.std.specs.Prelude.{IfErr}
-use Rattle.asn1_values_strings.specs.Alphabets.{IsRefusalOfPairs, IsRefusalOfPairBits}
+use Rattle.std.proofs.Common.{arith, ◌≡◌, ◌%◌, length}
 use Rattle.asn1_values_strings.proofs.Bits.{pairs_of_bits}
 use Rattle.asn1_values_strings.proofs.bmp.BmpString.from_bit_string.Goals as goal
 
