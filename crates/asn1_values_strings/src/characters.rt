@@ -52,8 +52,8 @@ impl<'a> Iterator for BmpCharacters<'a> {
     ghost remaining = { item_count (λ rest. rest) };
 
     fn next(&mut self) -> Option<u32> {
-        let (first, rest) = self.rest.split_first()?;
-        self.rest = rest;
+        let (first, others) = self.rest.split_first()?;
+        self.rest = others;
         Some(u32::from(*first))
     }
 }

@@ -7,7 +7,6 @@ use asn1_values_alphabets::{InvalidRestrictedString, PermittedAlphabetError};
 use asn1_values_bits::BitString;
 use asn1_values_octets::OctetString;
 use std::alloc::{AllocError, Global};
-use std::collections::BTreeMap;
 use std::convert::AsSlice;
 use std::test::Fail;
 
@@ -59,20 +58,37 @@ fn refused_by(error: &PermittedAlphabetError) -> Option<u32> {
     }
 }
 
-/// Whether the octets make a string of them, or find no memory.
+/// What a call answers, and what it answers the next time where it found no memory at first.
+fn settled<T: Drop, F: Fn() -> Result<T, PermittedAlphabetError>>(
+    call: F,
+) -> Result<T, PermittedAlphabetError>
+    requires { F.IsAlwaysCallable call }
+{
+    match call() {
+        Err(PermittedAlphabetError::Memory(_)) => call(),
+        settled => settled,
+    }
+}
+
+/// The character by which a call was refused.
+fn refusal<T: Drop>(answer: Result<T, PermittedAlphabetError>) -> Option<u32> {
+    match answer {
+        Ok(_) => None,
+        Err(error) => refused_by(&error),
+    }
+}
+
+/// Whether the octets make a string of them.
 fn is_made<K: CharacterKind>(alloc: Global, octets: &[u8]) -> bool {
-    match RestrictedString::<K>::from_bytes(alloc, octets) {
+    match settled(|| RestrictedString::<K>::from_bytes(alloc, octets)) {
         Ok(string) => string.as_bytes() == octets,
-        Err(error) => matches!(error, PermittedAlphabetError::Memory(_)),
+        Err(_) => false,
     }
 }
 
 /// Whether the octets are refused by this character.
 fn is_refused<K: CharacterKind>(alloc: Global, octets: &[u8], character: u32) -> bool {
-    match RestrictedString::<K>::from_bytes(alloc, octets) {
-        Ok(_) => false,
-        Err(error) => refused_by(&error) == Some(character),
-    }
+    refusal(settled(|| RestrictedString::<K>::from_bytes(alloc, octets))) == Some(character)
 }
 
 #[test]
@@ -90,34 +106,20 @@ fn strings_of_octets(rt: HostRuntime) {
     assert!(rt; is_refused::<Ia5>(rt.alloc(), &[127, 128], 128));
 }
 
-/// Whether a refusal is for want of memory.
-fn wants_memory(error: &PermittedAlphabetError) -> bool {
-    matches!(error, PermittedAlphabetError::Memory(_))
-}
-
 #[test]
-fn strings_of_texts(rt: HostRuntime) {
-    match Ia5String::from_text(rt.alloc(), "Jo") {
-        Ok(string) => assert_eq!(rt; string.as_iso646_bytes(), b"Jo".as_slice()),
-        Err(error) => assert!(rt; wants_memory(&error)),
-    }
+fn strings_of_texts(rt: HostRuntime) -> Result<(), Fail> {
+    let string = settled(|| Ia5String::from_text(rt.alloc(), "Jo"))?;
+    assert_eq!(rt; string.as_iso646_bytes(), b"Jo".as_slice());
     // 233 is one octet of a TeletexString, and two of the text.
-    match TeletexString::from_text(rt.alloc(), "\u{E9}") {
-        Ok(string) => assert_eq!(rt; string.as_bytes(), [233].as_slice()),
-        Err(error) => assert!(rt; wants_memory(&error)),
-    }
-    match VisibleString::from_text(rt.alloc(), "a\u{E9}b\u{FF}") {
-        Ok(_) => assert!(rt; false),
-        Err(error) => assert!(rt; refused_by(&error) == Some(233) || wants_memory(&error)),
-    }
-    match BmpString::from_text(rt.alloc(), "A\u{20AC}") {
-        Ok(string) => assert_eq!(rt; string.as_units(), [0x41, 0x20AC].as_slice()),
-        Err(error) => assert!(rt; wants_memory(&error)),
-    }
-    match BmpString::from_text(rt.alloc(), "\u{1F600}") {
-        Ok(_) => assert!(rt; false),
-        Err(error) => assert!(rt; refused_by(&error) == Some(0x1F600) || wants_memory(&error)),
-    }
+    let string = settled(|| TeletexString::from_text(rt.alloc(), "\u{E9}"))?;
+    assert_eq!(rt; string.as_bytes(), [233].as_slice());
+    let refused = settled(|| VisibleString::from_text(rt.alloc(), "a\u{E9}b\u{FF}"));
+    assert_eq!(rt; refusal(refused), Some(233));
+    let string = settled(|| BmpString::from_text(rt.alloc(), "A\u{20AC}"))?;
+    assert_eq!(rt; string.as_units(), [0x41, 0x20AC].as_slice());
+    let refused = settled(|| BmpString::from_text(rt.alloc(), "A\u{1F600}"));
+    assert_eq!(rt; refusal(refused), Some(0x1F600));
+    Ok(())
 }
 
 /// The string of the octets of an octet string, of a bit string and of a vector.
@@ -133,111 +135,97 @@ fn others(alloc: Global, octets: &[u8]) -> Result<[NumericString; 3], PermittedA
 }
 
 #[test]
-fn strings_of_others(rt: HostRuntime) {
-    match others(rt.alloc(), b"42") {
-        Ok(strings) => {
-            for string in &strings {
-                assert_eq!(rt; string.as_bytes(), b"42".as_slice());
-            }
-        }
-        Err(error) => assert!(rt; wants_memory(&error)),
+fn strings_of_others(rt: HostRuntime) -> Result<(), Fail> {
+    let strings = settled(|| others(rt.alloc(), b"42"))?;
+    for string in &strings {
+        assert_eq!(rt; string.as_bytes(), b"42".as_slice());
     }
-    match others(rt.alloc(), b"4x") {
-        Ok(_) => assert!(rt; false),
-        Err(error) => assert!(rt; refused_by(&error) == Some(120) || wants_memory(&error)),
-    }
+    assert_eq!(rt; refusal(settled(|| others(rt.alloc(), b"4x"))), Some(120));
+    Ok(())
 }
 
-/// A bit string of so many bits.
-fn bits_of_length(alloc: Global, len: usize) -> Result<BitString, AllocError> {
+/// The strings of so many zero bits.
+fn of_zeros<T: Drop, F: Fn(&BitString) -> Result<T, PermittedAlphabetError>>(
+    alloc: Global,
+    len: usize,
+    make: F,
+) -> Result<T, PermittedAlphabetError>
+    requires { F.IsAlwaysCallable make }
+{
     let mut bits = BitString::new(alloc);
     for _ in 0..len {
-        bits.push(false)?;
+        bits.push(false).map_err(PermittedAlphabetError::Memory)?;
     }
-    Ok(bits)
+    make(&bits)
 }
 
 #[test]
-fn bits_that_are_no_whole_characters(rt: HostRuntime) {
-    if let Ok(bits) = bits_of_length(rt.alloc(), 9) {
-        match Ia5String::from_bit_string(rt.alloc(), &bits) {
-            Ok(_) => assert!(rt; false),
-            Err(error) => assert!(rt; matches!(error, PermittedAlphabetError::InvalidData)),
-        }
-    }
-    if let Ok(bits) = bits_of_length(rt.alloc(), 24) {
-        match BmpString::from_bit_string(rt.alloc(), &bits) {
-            Ok(_) => assert!(rt; false),
-            Err(error) => assert!(rt; matches!(error, PermittedAlphabetError::InvalidData)),
-        }
-    }
-    if let Ok(bits) = bits_of_length(rt.alloc(), 16) {
-        match BmpString::from_bit_string(rt.alloc(), &bits) {
-            Ok(string) => assert_eq!(rt; string.as_units(), [0].as_slice()),
-            Err(error) => assert!(rt; wants_memory(&error)),
-        }
-    }
+fn bits_as_characters(rt: HostRuntime) -> Result<(), Fail> {
+    let partly = settled(|| of_zeros(
+        rt.alloc(),
+        9,
+        |bits| Ia5String::from_bit_string(rt.alloc(), bits),
+    ));
+    assert!(rt; matches!(partly, Err(PermittedAlphabetError::InvalidData)));
+    let partly = settled(|| of_zeros(
+        rt.alloc(),
+        24,
+        |bits| BmpString::from_bit_string(rt.alloc(), bits),
+    ));
+    assert!(rt; matches!(partly, Err(PermittedAlphabetError::InvalidData)));
+    let whole = settled(|| of_zeros(
+        rt.alloc(),
+        16,
+        |bits| BmpString::from_bit_string(rt.alloc(), bits),
+    ))?;
+    assert_eq!(rt; whole.as_units(), [0].as_slice());
+    Ok(())
 }
 
 #[test]
 fn bmp_strings_of_octets(rt: HostRuntime) -> Result<(), Fail> {
-    match BmpString::from_bytes(rt.alloc(), &[0x00, 0x41, 0x20, 0xAC]) {
-        Ok(string) => {
-            assert_eq!(rt; string.as_units(), [0x41, 0x20AC].as_slice());
-            if let Ok(octets) = string.to_bytes(rt.alloc()) {
-                assert_eq!(rt; octets.as_slice(), [0x00, 0x41, 0x20, 0xAC].as_slice());
-            }
-            let mut characters = string.chars();
-            assert_eq!(rt; characters.next(), Some(0x41));
-            assert_eq!(rt; characters.next(), Some(0x20AC));
-            assert_eq!(rt; characters.next(), None);
-            assert_eq!(rt; characters.next(), None);
-        }
-        Err(error) => assert!(rt; wants_memory(&error)),
-    }
-    match BmpString::from_bytes(rt.alloc(), &[0x00, 0x41, 0x20]) {
-        Ok(_) => assert!(rt; false),
-        Err(error) => assert!(rt; matches!(error, PermittedAlphabetError::InvalidData)),
-    }
-    if let Ok(octets) = OctetString::from_slice(rt.alloc(), &[0x00, 0x41]) {
-        match BmpString::from_octet_string(rt.alloc(), &octets) {
-            Ok(string) => assert_eq!(rt; string.into_vec().as_slice(), [0x41].as_slice()),
-            Err(error) => assert!(rt; wants_memory(&error)),
-        }
-    }
+    let string = settled(|| BmpString::from_bytes(rt.alloc(), &[0x00, 0x41, 0x20, 0xAC]))?;
+    assert_eq!(rt; string.as_units(), [0x41, 0x20AC].as_slice());
+    let octets = settled(|| string
+        .to_bytes(rt.alloc())
+        .map_err(PermittedAlphabetError::Memory))?;
+    assert_eq!(rt; octets.as_slice(), [0x00, 0x41, 0x20, 0xAC].as_slice());
+    let mut characters = string.chars();
+    assert_eq!(rt; characters.next(), Some(0x41));
+    assert_eq!(rt; characters.next(), Some(0x20AC));
+    assert_eq!(rt; characters.next(), None);
+    assert_eq!(rt; characters.next(), None);
+    let odd = settled(|| BmpString::from_bytes(rt.alloc(), &[0x00, 0x41, 0x20]));
+    assert!(rt; matches!(odd, Err(PermittedAlphabetError::InvalidData)));
+    let octets = settled(|| OctetString::from_slice(rt.alloc(), &[0x00, 0x41]).map_err(
+        PermittedAlphabetError::Memory,
+    ))?;
+    let string = settled(|| BmpString::from_octet_string(rt.alloc(), &octets))?;
+    assert_eq!(rt; string.into_vec().as_slice(), [0x41].as_slice());
     Ok(())
+}
+
+/// Appends a character, a second time where there was no memory at first; whether it was appended.
+fn is_pushed<S: StaticPermittedAlphabet>(string: &mut S, character: u32) -> bool {
+    match string.push_char(character) {
+        Err(PermittedAlphabetError::Memory(_)) => string.push_char(character).is_ok(),
+        pushed => pushed.is_ok(),
+    }
 }
 
 #[test]
 fn pushed_characters(rt: HostRuntime) {
     let mut string = NumericString::new(rt.alloc());
-    for character in [0x31, 0x41, 0x32, 0x131] {
-        let before = string.len();
-        match string.push_char(character) {
-            Ok(()) => assert_ne!(rt; string.len(), before),
-            Err(error) => {
-                assert!(rt; refused_by(&error) == Some(character) || wants_memory(&error));
-                assert_eq!(rt; string.len(), before);
-            }
-        }
-    }
-    assert!(rt;
-        string
-            .as_bytes()
-            .iter()
-            .all(|octet| *octet == 0x31 || *octet == 0x32)
-    );
+    assert!(rt; is_pushed(&mut string, 0x31));
+    assert!(rt; !is_pushed(&mut string, 0x41));
+    assert!(rt; !is_pushed(&mut string, 0x131));
+    assert!(rt; is_pushed(&mut string, 0x32));
+    assert_eq!(rt; string.as_bytes(), b"12".as_slice());
     let mut wide = BmpString::new(rt.alloc());
-    match wide.push_char(0xFFFF) {
-        Ok(()) => assert_eq!(rt; wide.as_units(), [0xFFFF].as_slice()),
-        Err(error) => assert!(rt; wants_memory(&error)),
-    }
-    let before = wide.char_count();
-    match wide.push_char(0x10000) {
-        Ok(()) => assert!(rt; false),
-        Err(error) => assert_eq!(rt; refused_by(&error), Some(0x10000)),
-    }
-    assert_eq!(rt; wide.char_count(), before);
+    assert!(rt; is_pushed(&mut wide, 0xFFFF));
+    assert!(rt; !is_pushed(&mut wide, 0x10000));
+    assert_eq!(rt; wide.as_units(), [0xFFFF].as_slice());
+    assert_eq!(rt; refusal(wide.push_char(0x10000)), Some(0x10000));
 }
 
 /// The characters of a string that is asked for them one by one.
@@ -253,67 +241,66 @@ fn each_character<S: StaticPermittedAlphabet>(
 }
 
 #[test]
-fn characters_of_strings(rt: HostRuntime) {
-    if let Ok(string) = PrintableString::from_bytes(rt.alloc(), b"Ab") {
-        let mut characters = string.chars();
-        assert_eq!(rt; characters.next(), Some(65));
-        assert_eq!(rt; characters.next(), Some(98));
-        assert_eq!(rt; characters.next(), None);
-        assert_eq!(rt; characters.next(), None);
-        if let Ok(all) = each_character(rt.alloc(), &string) {
-            assert_eq!(rt; all.as_slice(), [65, 98].as_slice());
-        }
-        if let Ok(octets) = string.to_bytes(rt.alloc()) {
-            assert_eq!(rt; octets.as_slice(), b"Ab".as_slice());
-        }
-        assert_eq!(rt; string.into_vec().as_slice(), b"Ab".as_slice());
-    }
+fn characters_of_strings(rt: HostRuntime) -> Result<(), Fail> {
+    let string = settled(|| PrintableString::from_bytes(rt.alloc(), b"Ab"))?;
+    assert_eq!(rt; string.len(), 2);
+    assert!(rt; !string.is_empty());
+    let mut characters = string.chars();
+    assert_eq!(rt; characters.next(), Some(65));
+    assert_eq!(rt; characters.next(), Some(98));
+    assert_eq!(rt; characters.next(), None);
+    assert_eq!(rt; characters.next(), None);
+    let all = settled(|| each_character(rt.alloc(), &string).map_err(
+        PermittedAlphabetError::Memory,
+    ))?;
+    assert_eq!(rt; all.as_slice(), [65, 98].as_slice());
+    let octets = settled(|| string
+        .to_bytes(rt.alloc())
+        .map_err(PermittedAlphabetError::Memory))?;
+    assert_eq!(rt; octets.as_slice(), b"Ab".as_slice());
+    assert_eq!(rt; string.into_vec().as_slice(), b"Ab".as_slice());
     let empty: GeneralString = StaticPermittedAlphabet::empty(rt.alloc());
     assert_eq!(rt; empty.char_count(), 0);
-}
-
-#[test]
-fn copies_and_comparisons(rt: HostRuntime) -> Result<(), Fail> {
-    if let Ok(small) = GraphicString::from_bytes(rt.alloc(), &[1, 2]) {
-        if let Ok(large) = GraphicString::from_bytes(rt.alloc(), &[1, 3]) {
-            assert!(rt; small < large);
-            assert!(rt; small != large);
-            if let Ok(copy) = small.clone() {
-                assert!(rt; copy == small);
-                assert_eq!(rt; copy.len(), 2);
-            }
-            let mut seen = BTreeMap::new(rt.alloc());
-            let first = seen.insert(small, 1).is_ok();
-            let second = seen.insert(large, 2).is_ok();
-            assert_eq!(rt; seen.len(), usize::from(first) + usize::from(second));
-        }
-    }
-    let wide = BmpString::from(Vec::new(rt.alloc()));
-    if let Ok(copy) = wide.clone() {
-        assert!(rt; copy == wide);
-        assert!(rt; copy.is_empty());
-    }
     Ok(())
 }
 
 #[test]
-fn texts_of_strings(rt: HostRuntime) {
-    if let Ok(string) = VisibleString::from_iso646_bytes(rt.alloc(), b"Jo") {
-        assert_eq!(rt; string.as_str(), "Jo");
-        if let Ok(text) = format!(in rt.alloc(); "{string} {string:?}") {
-            assert_eq!(rt; text.as_str(), "Jo VisibleString([74, 111])");
-        }
-        assert_eq!(rt; String::from(string).as_str(), "Jo");
+fn copies_and_comparisons(rt: HostRuntime) -> Result<(), Fail> {
+    let small = settled(|| GraphicString::from_bytes(rt.alloc(), &[1, 2]))?;
+    let large = settled(|| GraphicString::from_bytes(rt.alloc(), &[1, 3]))?;
+    assert!(rt; small < large);
+    assert!(rt; small != large);
+    let copy = settled(|| small.clone().map_err(PermittedAlphabetError::Memory))?;
+    assert!(rt; copy == small);
+    let wide = settled(|| BmpString::from_text(rt.alloc(), "A"))?;
+    let copy = settled(|| wide.clone().map_err(PermittedAlphabetError::Memory))?;
+    assert!(rt; copy == wide);
+    assert_eq!(rt; copy.len(), 1);
+    let none = BmpString::from(Vec::new(rt.alloc()));
+    assert!(rt; none.is_empty());
+    assert!(rt; none < wide);
+    Ok(())
+}
+
+#[test]
+fn texts_of_strings(rt: HostRuntime) -> Result<(), Fail> {
+    let string = settled(|| VisibleString::from_iso646_bytes(rt.alloc(), b"Jo"))?;
+    assert_eq!(rt; string.as_str(), "Jo");
+    if let Ok(text) = format!(in rt.alloc(); "{string} {string:?}") {
+        assert_eq!(rt; text.as_str(), "Jo VisibleString([74, 111])");
     }
-    if let Ok(string) = Ia5String::from_iso646_bytes(rt.alloc(), b"Jo") {
-        match OctetString::try_from(string) {
-            Ok(octets) => assert_eq!(rt; octets.as_slice(), b"Jo".as_slice()),
-            Err(error) => assert_eq!(rt; error.value.as_slice(), b"Jo".as_slice()),
-        }
+    assert_eq!(rt; String::from(string).as_str(), "Jo");
+    let string = settled(|| Ia5String::from_iso646_bytes(rt.alloc(), b"Jo"))?;
+    let octets = match OctetString::try_from(string) {
+        Ok(octets) => octets,
+        Err(error) => settled(|| OctetString::from_slice(rt.alloc(), &error.value).map_err(
+            PermittedAlphabetError::Memory,
+        ))?,
+    };
+    assert_eq!(rt; octets.as_slice(), b"Jo".as_slice());
+    let string = settled(|| BmpString::from_text(rt.alloc(), "A"))?;
+    if let Ok(text) = format!(in rt.alloc(); "{string:?}") {
+        assert_eq!(rt; text.as_str(), "BMPString([65])");
     }
-    if let Ok(string) = BmpString::from_text(rt.alloc(), "A") {
-        if let Ok(text) = format!(in rt.alloc(); "{string:?}") {
-            assert_eq!(rt; text.as_str(), "BMPString([65])");
-        }
-    }
+    Ok(())
 }
