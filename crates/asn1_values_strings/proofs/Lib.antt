@@ -1,1 +1,2 @@
 pub mod Permitted
+pub mod Bits

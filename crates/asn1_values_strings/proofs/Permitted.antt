@@ -1,17 +1,17 @@
 -- Lists of permitted characters.
-use Rattle.std.proofs.Common.{◌≡◌, ℕ, zero, suc, ◌<◌, ◌≤◌, Bool, true, false, not, cond, ◌&&◌, List, [], ◌∷◌, ◌++◌, ◌+◌, ◌∙◌, length, get_or, drop, Option, Some, None, refl, sym, ap, arith}
+use Rattle.std.proofs.Common.{◌≡◌, ℕ, suc, ◌<◌, Bool, true, false, not, cond, ◌&&◌, List, [], ◌∷◌, ◌++◌, ◌+◌, ◌∙◌, length, get_or, drop, Some, None, refl, sym, ap, arith, Fits, w16}
 use Rattle.std.specs.Prelude.{find}
-use Rattle.asn1_model.specs.Strings.{Run, each_is, is_among}
+use Rattle.asn1_model.specs.Strings.{each_is}
 use Rattle.std.specs.Prelude.{option_map, All, Result, Ok, Err, MatchResult, IsOk}
 use Rattle.std.specs.Str.{IsAscii}
 use Rattle.std.proofs.lemmas.Str.Ascii.{IsAscii-from_all}
 use Rattle.std.proofs.lemmas.List.{at_drop_more}
 use Rattle.std.proofs.lemmas.List.Elements.{All-nil, All-cons}
-use Rattle.asn1_model.specs.Schema.{StringKind}
+use Rattle.asn1_model.specs.Schema.{StringKind, bmp}
 use Rattle.asn1_values_alphabets.specs.declared.error.InvalidRestrictedString.{InvalidRestrictedString}
 use Rattle.asn1_values_alphabets.specs.declared.error.PermittedAlphabetError.{PermittedAlphabetError}
 use Rattle.asn1_values_alphabets.specs.declared.error.PermittedAlphabetError.TheVariants.{Other, InvalidData, IndexNotFound, CharacterNotFound, InvalidRestrictedString as OutsideAlphabet, Memory}
-use Rattle.asn1_values_strings.specs.Alphabets.{permits, first_refused, IsRefusalOf}
+use Rattle.asn1_values_strings.specs.Alphabets.{permits, permits_all, first_refused, IsRefusalOf}
 use Rattle.std.proofs.lemmas.Bool.Decides.{nat_tests}
 
 -- a character at the end
@@ -86,3 +86,11 @@ IsAscii-permitted p cs a h = IsAscii-from_all cs (below p cs a h)
 pub ok_unless : {T E : Type 0} (r : Result T E) (P : T → Type 0) (Q : E → Type 0) → MatchResult r P Q → ((e : E) → Q e → ⊥) → IsOk r
 ok_unless (Ok x) P Q h never = refl
 ok_unless (Err e) P Q h never = absurd (never e h)
+
+-- numbers of sixteen bits are characters of a BMPString
+pub units_permitted : (cs : List ℕ) → ((k : ℕ) → Fits w16 (get_or cs k 0)) → permits_all bmp cs ≡ true
+units_permitted [] h = refl
+units_permitted (c ∷ cs) h = rw (among c (h 0)) (units_permitted cs (λ k. h (suc k)))
+  where
+    among : (c : ℕ) → Fits w16 c → permits bmp c ≡ true
+    among c f = let l : c < 65536 = f.fits in grind (arith, nat_tests)

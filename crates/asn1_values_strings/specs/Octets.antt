@@ -2,7 +2,7 @@
 use Rattle.std.specs.Prelude.{refl, ◌≡◌, ℕ, ◌<◌, ltb, leb, Bool, true, false, ◌&&◌, ◌||◌, List, [], ◌∷◌}
 use Rattle.std.proofs.Common.{arith}
 use Rattle.std.proofs.lemmas.Bool.{ltb-true, leb-true}
-use Rattle.asn1_model.specs.Strings.{Run, is_in_run, is_among}
+use Rattle.asn1_model.specs.Strings.{Run, is_among}
 
 -- whether each run ends below the bound
 abbrev pub end_below : ℕ → List Run → Bool

@@ -1,15 +1,15 @@
-ghost use Rattle.std.specs.Prelude.{◌≡◌, ◌<◌, ℕ, true};
+ghost use Rattle.std.specs.Prelude.{◌≡◌, ◌<◌, ℕ, List, true};
 ghost use Rattle.asn1_model.specs.Schema.{StringKind, numeric, printable, visible, ia5, general, graphic, teletex};
-ghost use Rattle.asn1_values_strings.specs.Alphabets.{permits};
+ghost use Rattle.asn1_values_strings.specs.Alphabets.{permits, permits_all};
 ghost use Rattle.asn1_values_strings.specs.Octets.{octet_among, ascii_among};
-ghost use Rattle.asn1_model.specs.Strings.{characters_of};
+ghost use Rattle.asn1_model.specs.Strings.{characters_of, may_hold};
 ghost use Rattle.std.specs.Prelude.{refl};
 ghost use Rattle.asn1_values_alphabets.specs.declared.error.InvalidRestrictedString.{InvalidRestrictedString as Outside};
 ghost use Rattle.asn1_values_alphabets.specs.declared.error.InvalidRestrictedString.TheVariants as outside;
 
 use asn1_values_alphabets::{
-    InvalidGeneralString, InvalidGraphicString, InvalidIA5String, InvalidNumericString, InvalidPrintableString,
-    InvalidRestrictedString, InvalidTeletexString, InvalidVisibleString,
+    InvalidGeneralString, InvalidGraphicString, InvalidIA5String, InvalidNumericString,
+    InvalidPrintableString, InvalidRestrictedString, InvalidTeletexString, InvalidVisibleString,
 };
 
 /// A kind of character string whose characters are octets: which ones it permits, and how another one is refused.
@@ -29,7 +29,11 @@ pub trait CharacterKind: Drop {
     fn refuse(character: u32) -> InvalidRestrictedString
         ensures { result ≡ refused character };
 
+    // its characters are octets
     ghost octets: { (c : ℕ) → permits kind c ≡ true → c < 256 };
+
+    // what such a string may hold are characters that the kind permits
+    ghost holds: { (cs : List ℕ) → may_hold kind cs ≡ permits_all kind cs };
 }
 
 /// A kind whose characters are those of a text in ASCII.
@@ -47,6 +51,8 @@ impl CharacterKind for Numeric {
     ghost refused = { λ c. outside.InvalidNumericString (record { character = c }) };
 
     ghost octets = { octet_among (characters_of numeric) refl };
+
+    ghost holds = { λ cs. refl };
 
     const NAME: &'static str = "NumericString";
 
@@ -70,6 +76,8 @@ impl CharacterKind for Printable {
 
     ghost octets = { octet_among (characters_of printable) refl };
 
+    ghost holds = { λ cs. refl };
+
     const NAME: &'static str = "PrintableString";
 
     fn permits(character: u32) -> bool {
@@ -91,6 +99,8 @@ impl CharacterKind for Visible {
     ghost refused = { λ c. outside.InvalidVisibleString (record { character = c }) };
 
     ghost octets = { octet_among (characters_of visible) refl };
+
+    ghost holds = { λ cs. refl };
 
     const NAME: &'static str = "VisibleString";
 
@@ -114,6 +124,8 @@ impl CharacterKind for Ia5 {
 
     ghost octets = { octet_among (characters_of ia5) refl };
 
+    ghost holds = { λ cs. refl };
+
     const NAME: &'static str = "IA5String";
 
     fn permits(character: u32) -> bool {
@@ -135,6 +147,8 @@ impl CharacterKind for General {
     ghost refused = { λ c. outside.InvalidGeneralString (record { character = c }) };
 
     ghost octets = { octet_among (characters_of general) refl };
+
+    ghost holds = { λ cs. refl };
 
     const NAME: &'static str = "GeneralString";
 
@@ -158,6 +172,8 @@ impl CharacterKind for Graphic {
 
     ghost octets = { octet_among (characters_of graphic) refl };
 
+    ghost holds = { λ cs. refl };
+
     const NAME: &'static str = "GraphicString";
 
     fn permits(character: u32) -> bool {
@@ -179,6 +195,8 @@ impl CharacterKind for Teletex {
     ghost refused = { λ c. outside.InvalidTeletexString (record { character = c }) };
 
     ghost octets = { octet_among (characters_of teletex) refl };
+
+    ghost holds = { λ cs. refl };
 
     const NAME: &'static str = "TeletexString";
 

@@ -1,13 +1,41 @@
 //! The restricted character strings (X.680 41).
 #![tactic(auto)]
 
+pub mod alphabet;
+pub mod bmp;
 pub mod characters;
 pub mod kinds;
 pub mod restricted;
 mod text;
 
-pub use characters::Characters;
-pub use kinds::{CharacterKind, General, Graphic, Ia5, Numeric, Printable, Teletex, TextKind, Visible};
+pub use alphabet::StaticPermittedAlphabet;
+pub use bmp::BmpString;
+pub use characters::{BmpCharacters, Characters};
+pub use kinds::{
+    CharacterKind, General, Graphic, Ia5, Numeric, Printable, Teletex, TextKind, Visible,
+};
 pub use restricted::RestrictedString;
 
+/// A NumericString: digits and the space (X.680 41.2).
 pub type NumericString = RestrictedString<Numeric>;
+
+/// A PrintableString: Latin letters, digits, the space and `'()+,-./:=?` (X.680 41.4).
+pub type PrintableString = RestrictedString<Printable>;
+
+/// A VisibleString: the printing characters of ISO 646, and the space (X.680 41.1).
+pub type VisibleString = RestrictedString<Visible>;
+
+/// An IA5String: the characters of ISO 646 (X.680 41.1).
+pub type Ia5String = RestrictedString<Ia5>;
+
+/// A GeneralString, seen as its octets (X.680 41.1).
+pub type GeneralString = RestrictedString<General>;
+
+/// A GraphicString, seen as its octets (X.680 41.1).
+pub type GraphicString = RestrictedString<Graphic>;
+
+/// A TeletexString, seen as its octets (X.680 41.1).
+pub type TeletexString = RestrictedString<Teletex>;
+
+#[cfg(test)]
+mod tests;

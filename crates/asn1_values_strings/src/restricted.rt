@@ -1,4 +1,4 @@
-ghost use Rattle.std.specs.Prelude.{◌≡◌, ◌<◌, ◌^◌, ℕ, [], ◌∷◌, ◌++◌, length, Some, refl, nat_eq, IsTrue, IfOk, IfErr, OnOk, OnErr, MatchResult};
+ghost use Rattle.std.specs.Prelude.{◌≡◌, ◌<◌, ◌^◌, ℕ, [], ◌∷◌, ◌++◌, length, Some, refl, nat_eq, ◌↔◌, IsTrue, IfOk, IfErr, OnOk, OnErr, MatchResult};
 ghost use Rattle.std.specs.Ordering.{nat_cmp};
 ghost use Rattle.std.specs.Hash as fed;
 ghost use Rattle.std.specs.Cmp.Lexicographic.{pointwise, slice_cmp, nat_list_eq_equiv, nat_list_cmp_total, texts_ties, texts_po};
@@ -6,10 +6,15 @@ ghost use Rattle.std.specs.Cmp.{partial_equiv_from_equiv};
 ghost use Rattle.std.specs.Cmp.Rules.{hashing};
 ghost use Rattle.std.specs.Str.{chars};
 ghost use Rattle.std.proofs.Common.{rules};
-ghost use Rattle.asn1_values_strings.specs.Alphabets.{first_refused, permits, permits_all, IsRefusalOf};
+ghost use Rattle.asn1_model.specs.Numbers.{octet_bits};
+ghost use Rattle.asn1_values_strings.specs.Alphabets.{first_refused, permits, permits_all, IsRefusalOf, IsRefusalOfBits};
 ghost use Rattle.asn1_values_alphabets.specs.declared.error.PermittedAlphabetError.TheVariants.{InvalidRestrictedString as outside};
 
+use crate::alphabet::{StaticPermittedAlphabet, string_of_text};
+use crate::characters::Characters;
+use crate::kinds::CharacterKind;
 use asn1_values_alphabets::PermittedAlphabetError;
+use asn1_values_bits::BitString;
 use asn1_values_octets::OctetString;
 use std::alloc::{AllocError, Global};
 use std::cmp::Ordering;
@@ -18,9 +23,6 @@ use std::fmt;
 use std::hash::{Hash, Hasher};
 use std::marker::{Model, PhantomData};
 use std::ops::DerefSlice;
-
-use crate::characters::Characters;
-use crate::kinds::CharacterKind;
 
 /// A character string of one kind, whose characters are octets (X.680 41).
 ///
@@ -73,20 +75,31 @@ impl<K: CharacterKind> RestrictedString<K> {
         ensures permitted { OnOk result (IsTrue (permits_all K.kind (chars text.now))) }
         ensures refused { IfErr result (IsRefusalOf K.kind K.refused (chars text.now)) }
     {
-        let mut string = RestrictedString::new(alloc);
-        for character in text.chars() {
-            string.push_char(u32::from(character))?;
-        }
-        Ok(string)
+        string_of_text(alloc, text)
     }
 
     /// The string of these octets as characters.
-    pub fn from_octet_string(alloc: Global, octets: &OctetString) -> Result<Self, PermittedAlphabetError>
+    pub fn from_octet_string(
+        alloc: Global,
+        octets: &OctetString,
+    ) -> Result<Self, PermittedAlphabetError>
         ensures characters { IfOk result (λ s. s ≡ octets.now) }
         ensures permitted { OnOk result (IsTrue (permits_all K.kind octets.now)) }
         ensures refused { IfErr result (IsRefusalOf K.kind K.refused octets.now) }
     {
         RestrictedString::from_bytes(alloc, octets.as_slice())
+    }
+
+    /// The string of these bits as characters of eight. Bits that are no whole octets are refused.
+    pub fn from_bit_string(alloc: Global, bits: &BitString) -> Result<Self, PermittedAlphabetError>
+        ensures characters { IfOk result (λ s. octet_bits s ≡ bits.now) }
+        ensures permitted { IfOk result (λ s. IsTrue (permits_all K.kind s)) }
+        ensures refused { IfErr result (IsRefusalOfBits K.kind K.refused bits.now) }
+    {
+        if bits.len() % 8 > 0 {
+            return Err(PermittedAlphabetError::InvalidData);
+        }
+        RestrictedString::from_bytes(alloc, bits.as_bytes())
     }
 
     /// The characters, each one octet.
@@ -112,9 +125,23 @@ impl<K: CharacterKind> RestrictedString<K> {
         self.octets
     }
 
+    /// How many characters there are.
+    pub fn len(&self) -> usize
+        ensures { result ≡ length self.now }
+    {
+        self.as_bytes().len()
+    }
+
+    /// Whether there is no character.
+    pub fn is_empty(&self) -> bool
+        ensures { IsTrue result ↔ (self.now ≡ []) }
+    {
+        self.as_bytes().is_empty()
+    }
+
     /// The characters, from the first to the last.
     pub fn chars(&self) -> Characters<'_>
-        ensures { result.rest.now ≡ self.now }
+        ensures { result ≡ self.now }
     {
         Characters {
             rest: self.as_bytes(),
@@ -131,7 +158,9 @@ impl<K: CharacterKind> RestrictedString<K> {
         if !K::permits(character) {
             return Err(PermittedAlphabetError::InvalidRestrictedString(K::refuse(character)));
         }
-        self.octets.push(character as u8).map_err(|_| PermittedAlphabetError::Memory(AllocError))?;
+        self.octets
+            .push(character as u8)
+            .map_err(|_| PermittedAlphabetError::Memory(AllocError))?;
         Ok(())
     }
 }
@@ -233,13 +262,45 @@ impl<K: CharacterKind> fmt::Debug for RestrictedString<K> {
     }
 }
 
+impl<K: CharacterKind> StaticPermittedAlphabet for RestrictedString<K> {
+    ghost kind = { K.kind };
+
+    ghost refused = { K.refused };
+
+    ghost characters = { λ s. s };
+
+    ghost holds = { K.holds };
+
+    fn empty(alloc: Global) -> Self {
+        RestrictedString::new(alloc)
+    }
+
+    fn contains_char(character: u32) -> bool {
+        K::permits(character)
+    }
+
+    fn push_char(&mut self, character: u32) -> Result<(), PermittedAlphabetError> {
+        RestrictedString::push_char(self, character)
+    }
+
+    fn char_count(&self) -> usize {
+        self.as_bytes().len()
+    }
+
+    fn char_at(&self, place: usize) -> u32 {
+        u32::from(self.as_bytes()[place])
+    }
+}
+
 /// Refuses octets that a string of the kind may not hold, by the first such one.
 fn ensure_permitted<K: CharacterKind>(octets: &[u8]) -> Result<(), PermittedAlphabetError>
     ensures permitted { OnOk result (IsTrue (permits_all K.kind octets.now)) }
     ensures refused { IfErr result (IsRefusalOf K.kind K.refused octets.now) }
 {
     match first_refused::<K>(octets) {
-        Some(character) => Err(PermittedAlphabetError::InvalidRestrictedString(K::refuse(character))),
+        Some(character) => Err(PermittedAlphabetError::InvalidRestrictedString(K::refuse(
+            character,
+        ))),
         None => Ok(()),
     }
 }

@@ -1,13 +1,31 @@
-ghost use Rattle.std.specs.Prelude.{◌≡◌, string_bytes, MatchResult};
-
-use asn1_values_octets::OctetString;
-use std::alloc::AllocFailed;
-use std::fmt;
+ghost use Rattle.std.specs.Prelude.{◌≡◌, string_bytes, IsTrue, IfOk, IfErr, OnOk, MatchResult};
+ghost use Rattle.asn1_values_strings.specs.Alphabets.{permits_all, IsRefusalOf};
 
 use crate::kinds::TextKind;
 use crate::restricted::RestrictedString;
+use asn1_values_alphabets::PermittedAlphabetError;
+use asn1_values_octets::OctetString;
+use std::alloc::{AllocFailed, Global};
+use std::fmt;
 
 impl<K: TextKind> RestrictedString<K> {
+    /// The string of these characters of ISO 646.
+    pub fn from_iso646_bytes(alloc: Global, bytes: &[u8]) -> Result<Self, PermittedAlphabetError>
+        ensures characters { IfOk result (λ s. s ≡ bytes.now) }
+        ensures permitted { OnOk result (IsTrue (permits_all K.kind bytes.now)) }
+        ensures refused { IfErr result (IsRefusalOf K.kind K.refused bytes.now) }
+    {
+        RestrictedString::from_bytes(alloc, bytes)
+    }
+
+    /// The characters in ISO 646.
+    pub fn as_iso646_bytes(&self) -> &[u8]
+        ensures characters { result.now ≡ self.now }
+        ensures permitted { IsTrue (permits_all K.kind self.now) }
+    {
+        self.as_bytes()
+    }
+
     /// The characters as a text.
     pub fn as_str(&self) -> &str
         ensures { result.now ≡ self.now }

@@ -1,4 +1,4 @@
-use Rattle.std.proofs.Common.{rules, ◌≡◌, true}
+use Rattle.std.proofs.Common.{◌≡◌, true}
 use Rattle.std.proofs.lemmas.Str.{IsUtf8-from_ascii}
 use Rattle.asn1_values_strings.specs.Alphabets.{permits, permits_all}
 use Rattle.asn1_values_strings.proofs.Permitted.{IsAscii-permitted}
