@@ -1,0 +1,28 @@
+//! The values of ASN.1: bits, whole numbers, octets, object identifiers, character strings, and lists of fields as bits.
+//!
+//! This crate is a face: its items stand in the packages whose names begin with its own.
+#![tactic(auto)]
+
+pub use asn1_values_alphabets::{
+    CharacterAlphabet, InvalidBmpString, InvalidGeneralString, InvalidGraphicString,
+    InvalidIA5String, InvalidNumericString, InvalidPrintableString, InvalidRestrictedString,
+    InvalidTeletexString, InvalidVisibleString, PermittedAlphabetError,
+};
+pub use asn1_values_bits::{
+    BitAppender, BitBuffer, BitReader, BitStr, BitString, FixedBitString, bits,
+};
+pub use asn1_values_fields::{
+    FieldBits, FieldFault, FieldFaultKind, FieldShape, FieldValue, read_fields, write_fields,
+};
+pub use asn1_values_identifiers::{
+    IdentifierError, ObjectIdentifier, Oid, oid_from_octets, oid_octets,
+};
+pub use asn1_values_natives::IntegerBytes;
+pub use asn1_values_numbers::{
+    ConstrainedInteger, Integer, IntegerError, IntegerType, TryFromIntegerError,
+};
+pub use asn1_values_octets::{FixedOctetString, OctetString, WrongLength};
+pub use asn1_values_strings::{
+    BmpString, GeneralString, GraphicString, Ia5String, NumericString, PrintableString,
+    StaticPermittedAlphabet, TeletexString, VisibleString,
+};
