@@ -1,22 +1,20 @@
 -- What the newer version of a type writes in the packed rules, the older one reads without the parts that it lacks.
 use Rattle.std.specs.Prelude.{ℤ}
-use Rattle.std.proofs.Common.{◌≡◌, ℕ, zero, suc, ◌+◌, ◌-◌, ◌*◌, ◌^◌, ◌<◌, ltb, leb, not, Bool, true, false, cond, ◌&&◌, ◌||◌, IsTrue, List, [], ◌∷◌, ◌++◌, length, take, drop, map, Option, Some, None, option_map, option_and_then, refl, ap, sym, ◌∙◌, inl, inr, subst, ◌⊎◌, arith}
+use Rattle.std.proofs.Common.{◌≡◌, ℕ, zero, suc, ◌+◌, ◌-◌, ◌*◌, ltb, leb, not, Bool, true, false, cond, ◌&&◌, ◌||◌, IsTrue, List, [], ◌∷◌, ◌++◌, length, take, drop, map, Option, Some, None, option_map, option_and_then, refl, ap, sym, ◌∙◌, inl, inr, subst, ◌⊎◌, arith}
 use Rattle.std.proofs.lemmas.List.{append-nil}
 use Rattle.std.proofs.lemmas.Bool.{lt-ltb, and_parts}
 use Rattle.asn1_model.specs.Value.{Value, item, members, bag, fields, chosen, Values, no_more, member, same_number, Parts, end, absent, present, each}
 use Rattle.asn1_model.specs.Schema.{Tag, Counts, Size, Presence, required, optional, by_default, Schema, cut, boolean, null, integer, enumerated, bit_string, octet_string, character_string, object_identifier, sequence_of, set_of, sequence, set, group, choice, Components, no_component, component, Alternatives, no_alternative, alternative}
-use Rattle.asn1_model.specs.Normal.{normal, is_at_default, is_group_left_out, is_normal, are_normal, is_normal_alternative, are_all}
+use Rattle.asn1_model.specs.Normal.{is_at_default, is_group_left_out, is_normal, are_normal, is_normal_alternative, are_all}
 use Rattle.asn1_model.specs.Numbers.{binary, is_count_within}
 use Rattle.asn1_model.specs.Tables.{marks, mark_unless, is_required, alternative_count, item_place}
 use Rattle.asn1_model.specs.Form.{exactly, refused, both, varied, written, Reads, only_if, given, joined, ascending, arranged, Bitmap, is_present, is_any_present, present_ones, covered_by, own_bitmap, stands_before}
-use Rattle.asn1_model.specs.Rules.{lenient, strict_per, uper, aper, uper_strict, aper_strict, canonical, encoding, per, octet_bits, of_moderate_length, IsEncoding}
-use Rattle.asn1_laws.specs.Laws.{OlderReads, OlderReadsNormal, NewerReads, NewerReadsNormal}
 use Rattle.asn1_model.specs.Oer.{packed}
 use Rattle.asn1_model.specs.Per
 use Rattle.asn1_model.specs.Versions.{grow, grow_parts, grow_alternative, all_absent, lessen, lessen_parts, lessen_alternative, map_each, both_parts, Begins, KeepsPresence, Extends, ExtendsEach, ExtendsAlternatives}
 use Rattle.asn1_model.proofs.Forms.{chain_parts, map_parts}
 use Rattle.asn1_laws.proofs.Covers.{Covers, CoversEach, covers_same, covers_eq, covers_refused, covers_both, covers_varied, covers_within, covers_if, covers_cond, covers_joined, each_length, each_take, each_drop}
-use Rattle.asn1_laws.proofs.Messages.{IsWhole, complete_whole, some_parts, per_text}
+use Rattle.asn1_laws.proofs.Messages.{IsWhole, complete_whole, some_parts}
 use Rattle.asn1_laws.proofs.Octets.{eights_units, packed_octets}
 use Rattle.asn1_laws.proofs.Arranged.{ascending_code, covers_arranged}
 
@@ -459,7 +457,7 @@ module _ (free : Per.Freedom → Bool) (wide : IsTrue (free Per.other_bitmap)) (
   mutual
     unfolding is_normal are_normal is_normal_alternative Extends ExtendsEach ExtendsAlternatives lessen lessen_parts lessen_alternative Per.form Per.component_forms Per.addition_forms Per.alternative_form
 
-    sim : (al : Bool) (s s' : Schema) (v u : Value) → Extends s s' → lessen s s' v ≡ Some u → Loose (is_normal s u) → Sim (Per.form al s' v) (Per.form al s u)
+    pub sim : (al : Bool) (s s' : Schema) (v u : Value) → Extends s s' → lessen s s' v ≡ Some u → Loose (is_normal s u) → Sim (Per.form al s' v) (Per.form al s u)
     sim al cut cut v u h e l = sim_refused _
     sim al boolean boolean v u h e l = sim_same (ap (λ v. Per.form al boolean v) (some_parts e))
     sim al null null v u h e l = sim_same (ap (λ v. Per.form al null v) (some_parts e))
@@ -692,7 +690,7 @@ module _ (free : Per.Freedom → Bool) (wide : IsTrue (free Per.other_bitmap)) (
   mutual
     unfolding is_normal are_normal is_normal_alternative Extends ExtendsEach ExtendsAlternatives grow grow_parts grow_alternative Per.form Per.component_forms Per.addition_forms Per.alternative_form
 
-    grown : (al : Bool) (s s' : Schema) (v u : Value) → Extends s s' → grow s s' v ≡ Some u → Loose (is_normal s' u) → Sim (Per.form al s v) (Per.form al s' u)
+    pub grown : (al : Bool) (s s' : Schema) (v u : Value) → Extends s s' → grow s s' v ≡ Some u → Loose (is_normal s' u) → Sim (Per.form al s v) (Per.form al s' u)
     grown al cut cut v u h e l = sim_refused _
     grown al boolean boolean v u h e l = sim_same (ap (λ v. Per.form al boolean v) (some_parts e))
     grown al null null v u h e l = sim_same (ap (λ v. Per.form al null v) (some_parts e))
@@ -787,50 +785,3 @@ module _ (free : Per.Freedom → Bool) (wide : IsTrue (free Per.other_bitmap)) (
     grown_alternative al more (alternative t s others) no_alternative i v u h e l = absurd h
     grown_alternative al more (alternative t s others) (alternative t' s' others') zero v u h e l = grown al s s' v u h.1 e l
     grown_alternative al more (alternative t s others) (alternative t' s' others') (suc i) v u h e l = grown_alternative al more others others' i v u h.2 e l
-
--- ---- messages
-older_reads : (free : Per.Freedom → Bool) → IsTrue (free Per.other_bitmap) → IsTrue (free Per.other_order) → (al : Bool) (old new : Schema) (v u : Value) (w : List ℕ) → Extends old new → lessen old new v ≡ Some u → ((IsTrue (free Per.default_spelled_out) × IsTrue (free Per.empty_group)) ⊎ (is_normal old u ≡ true)) → option_and_then of_moderate_length (per al new v) ≡ Some w → (length w < 2 ^ 60) × Reads free (Per.message al old u) 0 (octet_bits w)
-unfolding Per.message Per.complete
-older_reads free wide mixed al old new v u w h d l e =
-    let t = per_text al new v w e in
-    let s : Covers free (Per.message al new v) (Per.message al old u) = covers_within free (sim free wide mixed al old new v u h d l) (λ w. covers_same free _) in
-    (t.0, s.reads 0 (octet_bits w) t.1)
-
-pub older_reads_uper : OlderReads uper
-unfolding canonical encoding IsEncoding
-older_reads_uper old new v u w h d e = older_reads lenient refl refl false old new (normal new v) u w h d (inl (refl, refl)) e
-
-pub older_reads_aper : OlderReads aper
-unfolding canonical encoding IsEncoding
-older_reads_aper old new v u w h d e = older_reads lenient refl refl true old new (normal new v) u w h d (inl (refl, refl)) e
-
-pub older_reads_uper_strict : OlderReadsNormal uper_strict
-unfolding canonical encoding IsEncoding
-older_reads_uper_strict old new v u w h d n e = older_reads strict_per refl refl false old new (normal new v) u w h d (inr n) e
-
-pub older_reads_aper_strict : OlderReadsNormal aper_strict
-unfolding canonical encoding IsEncoding
-older_reads_aper_strict old new v u w h d n e = older_reads strict_per refl refl true old new (normal new v) u w h d (inr n) e
-
-newer_reads : (free : Per.Freedom → Bool) → IsTrue (free Per.other_bitmap) → IsTrue (free Per.other_order) → (al : Bool) (old new : Schema) (u v : Value) (w : List ℕ) → Extends old new → grow old new u ≡ Some v → ((IsTrue (free Per.default_spelled_out) × IsTrue (free Per.empty_group)) ⊎ (is_normal new v ≡ true)) → option_and_then of_moderate_length (per al old u) ≡ Some w → (length w < 2 ^ 60) × Reads free (Per.message al new v) 0 (octet_bits w)
-unfolding Per.message Per.complete
-newer_reads free wide mixed al old new u v w h d l e =
-    let t = per_text al old u w e in
-    let s : Covers free (Per.message al old u) (Per.message al new v) = covers_within free (grown free wide mixed al old new u v h d l) (λ w. covers_same free _) in
-    (t.0, s.reads 0 (octet_bits w) t.1)
-
-pub newer_reads_uper : NewerReads uper
-unfolding canonical encoding IsEncoding
-newer_reads_uper old new u v w h d e = newer_reads lenient refl refl false old new (normal old u) v w h d (inl (refl, refl)) e
-
-pub newer_reads_aper : NewerReads aper
-unfolding canonical encoding IsEncoding
-newer_reads_aper old new u v w h d e = newer_reads lenient refl refl true old new (normal old u) v w h d (inl (refl, refl)) e
-
-pub newer_reads_uper_strict : NewerReadsNormal uper_strict
-unfolding canonical encoding IsEncoding
-newer_reads_uper_strict old new u v w h d n e = newer_reads strict_per refl refl false old new (normal old u) v w h d (inr n) e
-
-pub newer_reads_aper_strict : NewerReadsNormal aper_strict
-unfolding canonical encoding IsEncoding
-newer_reads_aper_strict old new u v w h d n e = newer_reads strict_per refl refl true old new (normal old u) v w h d (inr n) e
