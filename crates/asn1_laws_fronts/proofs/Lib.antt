@@ -1,0 +1,9 @@
+pub mod Places
+pub mod Fronts
+pub mod Numbers
+pub mod PerNumbers
+pub mod OerNumbers
+pub mod Complete
+pub mod OerBits
+pub mod Spelled
+pub mod Plain

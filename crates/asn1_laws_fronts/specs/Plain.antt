@@ -1,0 +1,16 @@
+-- Plain types: BOOLEAN, INTEGER between two bounds, and SEQUENCE of required components of plain types, all with no mark.
+use Rattle.std.specs.Prelude.{Bool, true, false, not, ◌&&◌}
+use Rattle.asn1_model.specs.Schema.{required, Schema, boolean, integer, sequence, Components, no_component, component}
+use Rattle.asn1_model.specs.Form.{is_present}
+
+unfoldable mutual
+  pub is_plain : Schema → Bool
+  is_plain boolean = true
+  is_plain (integer b held) = is_present b.range.low && is_present b.range.high && not b.extensible
+  is_plain (sequence cs false no_component) = are_plain cs
+  is_plain s = false
+
+  pub are_plain : Components → Bool
+  are_plain no_component = true
+  are_plain (component t required s cs) = is_plain s && are_plain cs
+  are_plain cs = false
