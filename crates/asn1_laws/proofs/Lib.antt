@@ -6,3 +6,5 @@ pub mod Normals
 pub mod Readable
 pub mod PerStrict
 pub mod OerStrict
+pub mod Places
+pub mod Numbers

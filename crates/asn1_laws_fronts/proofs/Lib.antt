@@ -1,6 +1,4 @@
-pub mod Places
 pub mod Fronts
-pub mod Numbers
 pub mod PerNumbers
 pub mod OerNumbers
 pub mod Complete

@@ -3,7 +3,7 @@ use Rattle.std.specs.Prelude.{◌≡◌, ℕ, IsTrue, List, ◌++◌}
 use Rattle.asn1_model.specs.Value.{Value}
 use Rattle.asn1_model.specs.Schema.{Schema}
 use Rattle.asn1_model.specs.Rules.{Rules, IsEncoding}
-use Rattle.asn1_laws_fronts.specs.Plain.{is_plain}
+use Rattle.asn1_laws.specs.Plain.{is_plain}
 
 -- Of all beginnings of some octets one at most is an encoding of a plain type, and of one value.
 abbrev pub OnePlainFront : Type 0

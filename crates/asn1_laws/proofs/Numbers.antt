@@ -6,7 +6,7 @@ use Rattle.std.proofs.Math.Nat.{mod-eq_of_lt, pow-suc, pow-zero, pow-le-pow_righ
 use Rattle.std.proofs.Math.IntN.{◌+ℤ◌, -ℤ-+ℤ_cancel}
 use Rattle.std.proofs.Math.Arith.{mod-mul}
 use Rattle.asn1_model.specs.Numbers.{digits, number_after, width, octet_width, least_octets, signed_octets, complement, natural, above, is_at_most}
-use Rattle.asn1_laws_fronts.proofs.Places.{places_hold}
+use Rattle.asn1_laws.proofs.Places.{places_hold}
 
 -- ---- digits are a positional sum
 pub number_of_digits : (base w m n : ℕ) → 0 < base → number_after base m (digits base w n) ≡ m * base ^ w + n % base ^ w
