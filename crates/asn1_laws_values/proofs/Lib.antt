@@ -1,0 +1,4 @@
+pub mod Leaves
+pub mod Counts
+pub mod Same
+pub mod Bags
