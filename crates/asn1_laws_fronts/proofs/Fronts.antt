@@ -111,6 +111,15 @@ module _ {F : Type 0} {D : F → Type 0} {A : Type 0} (free : F → Bool) where
   pub agree_nothing : Agree {F = F} {D = D} {A = A} free (exactly []) (exactly []) (Unit {0})
   agree_nothing = agree_map (λ e. tt) (agree_exactly [] [] refl)
 
+  -- texts of a code in which none begins with another
+  pub agree_code : {l m : List A} {P : Type 0} → ((r s : List A) → l ++ r ≡ m ++ s → (l ≡ m) × P) → Agree {F = F} {D = D} free (exactly l) (exactly m) P
+  unfolding Reads
+  agree_code {l} {m} h = record {
+    fronts = λ p a b r s u v e.
+        let q = h r s (ap (λ c. c ++ r) u ∙ e ∙ ap (λ c. c ++ s) (sym v)) in
+        (sym u ∙ q.0 ∙ v, q.1);
+  }
+
 -- elements in pairs, of which a relation holds
 abbrev pub Pairwise : {X : Type 0} → (X → X → Type 0) → List X → List X → Type 0
 Pairwise R [] [] = Unit {0}

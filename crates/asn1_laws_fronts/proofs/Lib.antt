@@ -5,3 +5,6 @@ pub mod Complete
 pub mod OerBits
 pub mod Spelled
 pub mod Plain
+pub mod Sevens
+pub mod Members
+pub mod Additions
