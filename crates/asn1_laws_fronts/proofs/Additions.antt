@@ -4,12 +4,11 @@ use Rattle.std.proofs.Common.{◌≡◌, ℕ, zero, suc, ◌+◌, ◌≤◌, ◌
 use Rattle.std.proofs.lemmas.Bool.{and_parts, and_from, or_cases, ltb-true, eqb-true}
 use Rattle.asn1_model.specs.Value.{Value, Parts, end, absent, present, same, same_parts}
 use Rattle.asn1_model.specs.Schema.{Presence, Schema, Components, no_component, component}
-use Rattle.asn1_model.specs.Form.{Form, exactly, refused, both, nothing_more, only_if, given, joined, Bitmap, is_present, is_any_present, present_ones, covered_by}
+use Rattle.asn1_model.specs.Form.{Form, refused, both, nothing_more, only_if, given, joined, Bitmap, is_present, is_any_present, present_ones, covered_by}
 use Rattle.asn1_model.specs.Tables.{marks, is_required, mark_unless}
 use Rattle.asn1_model.proofs.Forms.{map_parts}
-use Rattle.asn1_laws_fronts.proofs.Fronts.{Agree, agree_exactly, agree_refused, agree_with_refused, agree_map, agree_both, agree_both_apart, agree_apart, agree_given, agree_if, agree_if_left, agree_if_right, agree_nothing}
+use Rattle.asn1_laws_fronts.proofs.Fronts.{Agree, agree_refused, agree_with_refused, agree_map, agree_both, agree_both_apart, agree_given, agree_if, agree_if_left, agree_if_right, agree_nothing}
 use Rattle.asn1_laws_fronts.proofs.Members.{EachComponent}
-use Rattle.asn1_laws_fronts.proofs.Spelled.{marks_long}
 
 unless_equal : (r m n : Bool) (ms ns : List Bool) → mark_unless r m ms ≡ mark_unless r n ns → (ms ≡ ns) × ((r ≡ true) ⊎ (m ≡ n))
 unless_equal true m n ms ns e = (e, inl refl)
@@ -133,7 +132,7 @@ module _ (F : Type 0) (D : F → Type 0) (A : Type 0) (free : F → Bool) where
       unless_required false o xs e = e
 
       -- parts of which none is there
-      none_same : (cs : Components) (ps qs : Parts) (xs ys : List (Option Forms)) → additions_of cs ps ≡ Some xs → additions_of cs qs ≡ Some ys → is_any_present xs ≡ false → is_any_present ys ≡ false → same_parts ps qs ≡ true
+      pub none_same : (cs : Components) (ps qs : Parts) (xs ys : List (Option Forms)) → additions_of cs ps ≡ Some xs → additions_of cs qs ≡ Some ys → is_any_present xs ≡ false → is_any_present ys ≡ false → same_parts ps qs ≡ true
       none_same no_component end end xs ys e f h i = end_parts
       none_same no_component end (absent qs) xs ys e f h i = cc
       none_same no_component end (present w qs) xs ys e f h i = cc

@@ -1,8 +1,8 @@
 -- Members of lists and bags, and what holds of each component and alternative of a type.
-use Rattle.std.proofs.Common.{◌≡◌, ℕ, zero, suc, Bool, true, false, ◌&&◌, List, [], ◌∷◌, map, Option, Some, None, option_map, refl, ap, sym, ◌∙◌, subst}
+use Rattle.std.proofs.Common.{◌≡◌, ℕ, zero, suc, Bool, true, List, [], ◌∷◌, map, Option, Some, None, option_map, refl, ap, ◌∙◌}
 use Rattle.std.proofs.lemmas.Bool.{and_from}
 use Rattle.asn1_model.specs.Value.{Value, Values, no_more, member, values_of, each, same, same_members}
-use Rattle.asn1_model.specs.Schema.{Tag, Presence, Schema, Components, no_component, component, Alternatives, no_alternative, alternative}
+use Rattle.asn1_model.specs.Schema.{Presence, Schema, Components, no_component, component, Alternatives, no_alternative, alternative}
 use Rattle.asn1_model.specs.Form.{pick, arranged, ascending, in_order}
 use Rattle.asn1_model.proofs.Forms.{map_parts}
 use Rattle.asn1_laws.proofs.Arranged.{arranged_parts, ascending_code}

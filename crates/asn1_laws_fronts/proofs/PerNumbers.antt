@@ -207,10 +207,10 @@ module _ (free : Per.Freedom → Bool) (X : Type 0) (R : X → X → Type 0) (f 
   counted_alike al xs ys = agree_varied free (λ ms ns. fragments_alike al ms ns xs ys)
 
 -- ---- octets behind their number
-abbrev same_bits : ℕ → ℕ → Type 0
+abbrev pub same_bits : ℕ → ℕ → Type 0
 same_bits o p = binary 8 o ≡ binary 8 p
 
-octets_again : (os ps : List ℕ) → each_is is_octet os ≡ true → each_is is_octet ps ≡ true → Pairwise same_bits os ps → os ≡ ps
+pub octets_again : (os ps : List ℕ) → each_is is_octet os ≡ true → each_is is_octet ps ≡ true → Pairwise same_bits os ps → os ≡ ps
 octets_again [] [] h k e = refl
 octets_again [] (p ∷ ps) h k e = absurd e
 octets_again (o ∷ os) [] h k e = absurd e

@@ -1,5 +1,5 @@
 -- Numbers in groups of seven bits, and object identifiers.
-use Rattle.std.proofs.Common.{◌≡◌, ℕ, zero, suc, ◌+◌, ◌*◌, ◌/◌, ◌%◌, ◌^◌, ◌<◌, ◌≤◌, ◌==◌, max, ltb, leb, lit<, Bool, true, false, ◌&&◌, ◌||◌, List, [], ◌∷◌, ◌++◌, length, flat_map, refl, ap, sym, ◌∙◌, subst, inl, inr, ◌⊎◌, arith}
+use Rattle.std.proofs.Common.{◌≡◌, ℕ, zero, suc, ◌+◌, ◌*◌, ◌/◌, ◌%◌, ◌^◌, ◌<◌, ◌≤◌, ◌==◌, max, ltb, lit<, true, ◌||◌, List, [], ◌∷◌, ◌++◌, length, flat_map, refl, ap, sym, ◌∙◌, subst, inl, inr, ◌⊎◌, arith}
 use Rattle.std.proofs.lemmas.List.{append_cancel_left}
 use Rattle.std.proofs.lemmas.Bool.{ltb-true, leb-true, eqb-true, and_parts, or_cases}
 use Rattle.std.proofs.Math.Nat.{pow-le-pow_right}
@@ -45,6 +45,7 @@ groups_fronts n m r s e =
         let c : n < 128 ^ places 128 n = places_hold n 128 n (lit< tt) (omega arith) in
         let d : 128 ^ places 128 n ≤ 128 ^ max 1 (places 128 n) = pow-le-pow_right (lit< tt) (omega arith) in
         omega arith
+
     holds : (k j : ℕ) → k ≡ j → n < 128 ^ k → m < 128 ^ j → digits 128 k n ≡ digits 128 j m → n ≡ m
     holds k j l c d q = digits_equal 128 k n m (lit< tt) c (subst (λ x. m < 128 ^ x) (sym l) d) (q ∙ ap (λ x. digits 128 x m) (sym l))
 
