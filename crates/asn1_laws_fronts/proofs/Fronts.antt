@@ -120,6 +120,9 @@ module _ {F : Type 0} {D : F → Type 0} {A : Type 0} (free : F → Bool) where
         (sym u ∙ q.0 ∙ v, q.1);
   }
 
+  pub agree_turned : {x y : Form F D A} {P : Type 0} → Agree free x y P → Agree free y x P
+  agree_turned h = record { fronts = λ p a b r s u v e. let q = h.fronts p b a s r v u (sym e) in (sym q.0, q.1) }
+
 -- elements in pairs, of which a relation holds
 abbrev pub Pairwise : {X : Type 0} → (X → X → Type 0) → List X → List X → Type 0
 Pairwise R [] [] = Unit {0}

@@ -69,7 +69,7 @@ module _ (free : Oer.Freedom → Bool) where
   two_truths : (o p : ℕ) → OctetsAlike free (some_truth o) (some_truth p) (truth true ≡ truth true)
   two_truths o p = agree_if free (leb 1 o && is_octet o) (leb 1 p && is_octet p) _ _ (λ h i. agree_map free (λ e. refl) (agree_exactly free (o ∷ []) (p ∷ []) refl))
 
-  truths_alike : (a b : Bool) → OctetsAlike free (Oer.form boolean (truth a)) (Oer.form boolean (truth b)) (truth a ≡ truth b)
+  pub truths_alike : (a b : Bool) → OctetsAlike free (Oer.form boolean (truth a)) (Oer.form boolean (truth b)) (truth a ≡ truth b)
   unfolding Oer.form
   truths_alike false false = agree_map free (λ e. refl) (agree_exactly free _ _ refl)
   truths_alike true true = agree_varied free {c = Oer.any_truth} {c' = Oer.any_truth} {d = 255} {d' = 255} (λ o p. two_truths o p)
