@@ -8,3 +8,4 @@ pub mod PerStrict
 pub mod OerStrict
 pub mod Places
 pub mod Numbers
+pub mod Listed

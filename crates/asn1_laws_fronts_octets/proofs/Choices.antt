@@ -8,7 +8,7 @@ use Rattle.asn1_model.specs.Form.{both}
 use Rattle.asn1_model.specs.Strings.{each_is}
 use Rattle.asn1_model.specs.Oer
 use Rattle.asn1_laws_fronts.proofs.Fronts.{agree_refused, agree_with_refused, agree_map, agree_both, agree_both_apart, agree_turned}
-use Rattle.asn1_laws_fronts.proofs.Members.{EachAlternative}
+use Rattle.asn1_laws.proofs.Listed.{EachAlternative}
 use Rattle.asn1_laws_fronts.proofs.OerNumbers.{OctetsAlike}
 use Rattle.asn1_laws_fronts_octets.proofs.Units.{open_alike}
 use Rattle.asn1_laws_fronts_octets.proofs.Tags.{tags_alike}

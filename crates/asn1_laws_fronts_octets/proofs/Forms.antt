@@ -18,7 +18,8 @@ use Rattle.asn1_laws_fronts.proofs.OerBits.{preamble_alike, counted_bits_alike}
 use Rattle.asn1_laws_fronts.proofs.Plain.{truths_alike}
 use Rattle.asn1_laws_fronts.proofs.Sevens.{identifiers_equal}
 use Rattle.asn1_laws_fronts.proofs.Spelled.{octets_spelled_alike, marks_long}
-use Rattle.asn1_laws_fronts.proofs.Members.{EachComponent, EachAlternative, component_map, listed, each_is_map, listed_again, members_same, order_map}
+use Rattle.asn1_laws.proofs.Listed.{EachComponent, EachAlternative, component_map, listed, each_is_map, listed_again, order_map}
+use Rattle.asn1_laws_fronts.proofs.Members.{members_same}
 use Rattle.asn1_laws_fronts.proofs.Additions as adding
 use Rattle.asn1_laws_fronts_octets.proofs.Units.{items_alike, bit_strings_alike, octets_alike, one_length, characters_equal, characters_long, members_alike, open_alike}
 use Rattle.asn1_laws_fronts_octets.proofs.Choices.{OneWay, one_table, two_tables, distinct_before, distinct_behind}

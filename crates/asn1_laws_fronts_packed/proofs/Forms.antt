@@ -18,7 +18,8 @@ use Rattle.asn1_laws_fronts.proofs.PerNumbers.{Alike, pairs_equal, counted_octet
 use Rattle.asn1_laws_fronts.proofs.Complete.{complete_alike, octet_fronts}
 use Rattle.asn1_laws_fronts.proofs.Sevens.{identifiers_equal}
 use Rattle.asn1_laws_fronts.proofs.Spelled.{packed_spelled_alike, marks_long}
-use Rattle.asn1_laws_fronts.proofs.Members.{EachComponent, EachAlternative, component_map, listed, each_is_map, listed_again, members_same, order_map}
+use Rattle.asn1_laws.proofs.Listed.{EachComponent, EachAlternative, component_map, listed, each_is_map, listed_again, order_map}
+use Rattle.asn1_laws_fronts.proofs.Members.{members_same}
 use Rattle.asn1_laws_fronts.proofs.Additions as adding
 use Rattle.asn1_laws_fronts_packed.proofs.Units.{sized_alike, small_alike, bitmap_alike, items_alike, behind_mark, root_or_added, added_or_root, open_alike}
 use Rattle.asn1_laws_fronts_packed.proofs.Strings.{string_alike}

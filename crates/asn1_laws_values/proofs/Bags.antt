@@ -1,10 +1,11 @@
 -- Bags whose members are equal in some order.
-use Rattle.std.proofs.Common.{◌≡◌, ℕ, zero, suc, ◌+◌, max, Bool, true, List, [], ◌∷◌, Some, refl, ap, sym, ◌∙◌, arith}
-use Rattle.asn1_model.specs.Value.{Value, bag, Values, values_of, same, same_bag, depth, depth_of_members}
+use Rattle.std.proofs.Common.{◌≡◌, ℕ, zero, suc, ◌+◌, max, Bool, true, false, cond, List, [], ◌∷◌, Option, Some, None, option_map, refl, ap, sym, ◌∙◌, arith}
+use Rattle.asn1_model.specs.Value.{Value, bag, Values, no_more, member, values_of, same, same_bag, taken_out, depth, depth_of_members}
 use Rattle.asn1_model.specs.Form.{pick, arranged}
 use Rattle.asn1_model.proofs.Forms.{map_parts}
 use Rattle.asn1_laws.proofs.Arranged.{arranged_parts}
-use Rattle.asn1_laws_values.proofs.Counts.{one_if, count, alike_counted, tests_alike}
+use Rattle.asn1_laws.proofs.Listed.{listed}
+use Rattle.asn1_laws_values.proofs.Counts.{one_if, count, alike_counted, tests_alike, rest_parts}
 use Rattle.asn1_laws_values.proofs.Same.{same_self, below}
 
 -- in pairs
@@ -64,3 +65,32 @@ bags_same is js vs ws us zs e f h = counted_same (values_of vs) (values_of ws) (
 pub arranged_same : (is : List ℕ) (vs ws : List Value) → arranged is vs ≡ Some ws → same (bag (values_of vs)) (bag (values_of ws)) ≡ true
 unfolding same
 arranged_same is vs ws e = counted_same (values_of vs) (values_of ws) (λ t. arranged_counts (λ x. same t x) is vs ws e)
+
+-- and bags that are the same are so in some order
+taken_pick : (f : Value → Bool) (ws rest : Values) → taken_out f ws ≡ Some rest → (i : ℕ) × (u : Value) × (f u ≡ true) × (pick i (listed ws) ≡ Some (u, listed rest))
+taken_pick f no_more rest e = cc
+taken_pick f (member w ws) rest e = go (f w) refl e (λ us h. taken_pick f ws us h)
+  where
+    go : (t : Bool) → f w ≡ t → cond t (Some ws) (option_map (λ us. member w us) (taken_out f ws)) ≡ Some rest → ((us : Values) → taken_out f ws ≡ Some us → (i : ℕ) × (u : Value) × (f u ≡ true) × (pick i (listed ws) ≡ Some (u, listed us))) → (i : ℕ) × (u : Value) × (f u ≡ true) × (pick i (w ∷ listed ws) ≡ Some (u, listed rest))
+    go true q h k = (zero, w, q, ap (λ us. Some (w, listed us)) (some_same h))
+    go false q h k =
+        let p = map_parts (taken_out f ws) (λ us. member w us) rest h in
+        let r = k p.0 p.1 in
+        (suc r.0, r.1, r.2, ap (λ o. option_map (λ (e : Value × List Value). (e.0, w ∷ e.1)) o) r.3 ∙ ap (λ us. Some (r.1, listed us)) p.2)
+
+arranged_next : (i : ℕ) (is : List ℕ) (ws rest us : List Value) (u : Value) → pick i ws ≡ Some (u, rest) → arranged is rest ≡ Some us → arranged (i ∷ is) ws ≡ Some (u ∷ us)
+arranged_next i is ws rest us u e f = rw (e, f) refl
+
+pub bag_matched : (vs ws : Values) → same_bag vs ws ≡ true → (is : List ℕ) × (us : List Value) × (arranged is (listed ws) ≡ Some us) × EachSame (listed vs) us
+unfolding same_bag
+bag_matched no_more no_more e = ([], [], refl, tt)
+bag_matched no_more (member w ws) e = cc
+bag_matched (member v vs) ws e =
+    let p = rest_parts (taken_out (λ w. same v w) ws) (λ rest. same_bag vs rest) e in
+    let q = taken_pick (λ w. same v w) ws p.0 p.1 in
+    let r = bag_matched vs p.0 p.2 in
+    (q.0 ∷ r.0, q.1 ∷ r.1, arranged_next q.0 r.0 (listed ws) (listed p.0) r.1 q.1 q.3 r.2, (q.2, r.3))
+
+pub matched_same : (is : List ℕ) (vs ws us : List Value) → arranged is ws ≡ Some us → EachSame vs us → same (bag (values_of vs)) (bag (values_of ws)) ≡ true
+unfolding same
+matched_same is vs ws us e h = counted_same (values_of vs) (values_of ws) (λ t. paired_counts t vs us h ∙ sym (arranged_counts (λ x. same t x) is ws us e))

@@ -66,7 +66,7 @@ pub record EquivalentBelow (n : ℕ) : Type 0 where
   pub turned : (v w : Value) → depth v < n → depth w < n → same v w ≡ true → same w v ≡ true
   pub chained : (u v w : Value) → depth u < n → depth v < n → depth w < n → same u v ≡ true → same v w ≡ true → same u w ≡ true
 
-both_true : (a b : Bool) → (a ≡ true → b ≡ true) → (b ≡ true → a ≡ true) → a ≡ b
+pub both_true : (a b : Bool) → (a ≡ true → b ≡ true) → (b ≡ true → a ≡ true) → a ≡ b
 both_true true b h k = sym (h refl)
 both_true false true h k = k refl
 both_true false false h k = refl
@@ -75,7 +75,7 @@ both_true false false h k = refl
 pub tests_alike : {n : ℕ} (q : EquivalentBelow n) (t v w : Value) → depth t < n → depth v < n → depth w < n → same v w ≡ true → same t v ≡ same t w
 tests_alike q t v w h i j e = both_true (same t v) (same t w) (λ f. q.chained t v w h i j f e) (λ f. q.chained t w v h j i f (q.turned v w i j e))
 
-rest_parts : (o : Option Values) (f : Values → Bool) → with_rest o f ≡ true → (vs : Values) × (o ≡ Some vs) × (f vs ≡ true)
+pub rest_parts : (o : Option Values) (f : Values → Bool) → with_rest o f ≡ true → (vs : Values) × (o ≡ Some vs) × (f vs ≡ true)
 rest_parts None f e = cc
 rest_parts (Some vs) f e = (vs, refl, e)
 

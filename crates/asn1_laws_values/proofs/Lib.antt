@@ -2,3 +2,4 @@ pub mod Leaves
 pub mod Counts
 pub mod Same
 pub mod Bags
+pub mod Normal
