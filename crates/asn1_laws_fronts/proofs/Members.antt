@@ -1,7 +1,7 @@
 -- Members that are the same in pairs.
-use Rattle.std.proofs.Common.{◌≡◌, true}
+use Rattle.std.proofs.Common.{◌≡◌, true, refl}
 use Rattle.std.proofs.lemmas.Bool.{and_from}
-use Rattle.asn1_model.specs.Value.{Value, Values, no_more, member, same, same_members}
+use Rattle.asn1_model.specs.Value.{Values, no_more, member, same, same_members}
 use Rattle.asn1_laws.proofs.Listed.{listed}
 use Rattle.asn1_laws_fronts.proofs.Fronts.{Pairwise}
 

@@ -1,5 +1,5 @@
 -- Bags whose members are equal in some order.
-use Rattle.std.proofs.Common.{◌≡◌, ℕ, zero, suc, ◌+◌, max, Bool, true, false, cond, List, [], ◌∷◌, Option, Some, None, option_map, refl, ap, sym, ◌∙◌, arith}
+use Rattle.std.proofs.Common.{◌≡◌, ℕ, zero, suc, ◌+◌, max, Bool, true, false, cond, List, [], ◌∷◌, Some, option_map, refl, ap, sym, ◌∙◌, arith}
 use Rattle.asn1_model.specs.Value.{Value, bag, Values, no_more, member, values_of, same, same_bag, taken_out, depth, depth_of_members}
 use Rattle.asn1_model.specs.Form.{pick, arranged}
 use Rattle.asn1_model.proofs.Forms.{map_parts}

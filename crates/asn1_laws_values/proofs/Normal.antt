@@ -1,13 +1,12 @@
 -- Normal forms of values that are the same, and how deep they nest.
-use Rattle.std.proofs.Common.{◌≡◌, ℕ, zero, suc, ◌+◌, ◌≤◌, ◌==◌, max, Bool, true, false, ◌&&◌, ◌||◌, not, List, [], ◌∷◌, map, Some, refl, ap, sym, ◌∙◌, subst, arith}
+use Rattle.std.proofs.Common.{◌≡◌, ℕ, zero, suc, ◌≤◌, ◌==◌, max, Bool, true, false, ◌&&◌, ◌||◌, not, List, [], ◌∷◌, map, refl, ap, sym, ◌∙◌, subst, arith}
 use Rattle.std.proofs.lemmas.Bool.{and_parts, and_from, eqb-true, eq-eqb}
-use Rattle.asn1_model.specs.Value.{Value, truth, members, bag, fields, chosen, Values, no_more, member, Parts, end, absent, present, map_members, values_of, are_absent, same, same_truth, same_members, same_bag, same_parts, depth, depth_of_members, depth_of_parts}
+use Rattle.asn1_model.specs.Value.{Value, members, bag, fields, chosen, Values, no_more, member, Parts, end, absent, present, map_members, values_of, are_absent, same, same_truth, same_members, same_bag, same_parts, depth, depth_of_members, depth_of_parts}
 use Rattle.asn1_model.specs.Schema.{Presence, required, optional, by_default, Schema, sequence_of, set_of, sequence, set, group, choice, Components, no_component, component, Alternatives, no_alternative, alternative}
 use Rattle.asn1_model.specs.Normal.{normal, normal_parts, normal_alternative, is_normal, are_normal, is_normal_alternative, are_all, kept, is_default_by, is_empty_group, is_at_default, is_group_left_out}
-use Rattle.asn1_model.specs.Form.{arranged}
 use Rattle.asn1_laws.proofs.Listed.{listed, listed_again, arranged_maps}
 use Rattle.asn1_laws_values.proofs.Counts.{both_true}
-use Rattle.asn1_laws_values.proofs.Same.{same_self, same_turned, same_chained}
+use Rattle.asn1_laws_values.proofs.Same.{same_turned, same_chained}
 use Rattle.asn1_laws_values.proofs.Bags.{EachSame, bag_matched, matched_same}
 
 -- ---- tests that do not tell apart what is the same
@@ -99,8 +98,8 @@ mutual
   normal_same (group cs) (fields ps qs) w f = cc
   normal_same (group cs) v (fields rs ss) f = cc
   normal_same (group cs) v w f = f
-  normal_same (choice roots e adds) (chosen false i v) (chosen false j w) f = let p = and_parts _ _ f in and_from _ _ p.0 (normal_alternative_same roots i j v w ((and_parts _ _ p.0).1) p.1)
-  normal_same (choice roots e adds) (chosen true i v) (chosen true j w) f = let p = and_parts _ _ f in and_from _ _ p.0 (normal_alternative_same adds i j v w ((and_parts _ _ p.0).1) p.1)
+  normal_same (choice roots e adds) (chosen false i v) (chosen false j w) f = let p = and_parts (same_truth false false && (i == j)) (same v w) f in and_from (same_truth false false && (i == j)) _ p.0 (normal_alternative_same roots i j v w ((and_parts (same_truth false false) (i == j) p.0).1) p.1)
+  normal_same (choice roots e adds) (chosen true i v) (chosen true j w) f = let p = and_parts (same_truth true true && (i == j)) (same v w) f in and_from (same_truth true true && (i == j)) _ p.0 (normal_alternative_same adds i j v w ((and_parts (same_truth true true) (i == j) p.0).1) p.1)
   normal_same (choice roots e adds) (chosen a i v) w f = cc
   normal_same (choice roots e adds) v (chosen b j w) f = cc
   normal_same (choice roots e adds) v w f = f
