@@ -3,3 +3,4 @@ pub mod Counts
 pub mod Same
 pub mod Bags
 pub mod Normal
+pub mod IsNormal

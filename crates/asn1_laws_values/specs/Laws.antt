@@ -24,3 +24,7 @@ NormalNestsNoDeeper = (s : Schema) (v : Value) → depth (normal s v) ≤ depth 
 -- What is normal is its own normal form.
 abbrev pub NormalStays : Type 0
 NormalStays = (s : Schema) (v : Value) → is_normal s v ≡ true → normal s v ≡ v
+
+-- What is the same as something normal is normal.
+abbrev pub SameIsAsNormal : Type 0
+SameIsAsNormal = (s : Schema) (v w : Value) → same v w ≡ true → is_normal s v ≡ true → is_normal s w ≡ true

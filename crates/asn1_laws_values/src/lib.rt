@@ -1,7 +1,7 @@
 //! Equality of values, in which a bag has no order.
 #![tactic(auto)]
 
-ghost use Rattle.asn1_laws_values.specs.Laws.{SameIsEquivalence, BagsHaveNoOrder, NormalRespectsSame, NormalNestsNoDeeper, NormalStays};
+ghost use Rattle.asn1_laws_values.specs.Laws.{SameIsEquivalence, BagsHaveNoOrder, NormalRespectsSame, NormalNestsNoDeeper, NormalStays, SameIsAsNormal};
 
 pub fn same_is_equivalence()
     ensures { SameIsEquivalence }
@@ -21,4 +21,8 @@ pub fn normal_nests_no_deeper()
 
 pub fn normal_stays()
     ensures { NormalStays }
+{}
+
+pub fn same_is_as_normal()
+    ensures { SameIsAsNormal }
 {}
