@@ -2,12 +2,10 @@ pub mod Octets
 pub mod Messages
 pub mod Covers
 pub mod Arranged
-pub mod PerVersions
-pub mod OerVersions
-pub mod Fronts
-pub mod PerFronts
 pub mod Normals
 pub mod Readable
 pub mod PerStrict
 pub mod OerStrict
 pub mod Places
+pub mod Numbers
+pub mod Listed

@@ -24,3 +24,21 @@ places_hold (suc most) base n h k = go (n == 0) refl (λ i. places_hold most bas
         let i = r (omega arith) in
         let j : n < base ^ places_up_to most base (n / base) * base = (div-lt_iff_lt-mul {k = base} {x = n} {y = base ^ places_up_to most base (n / base)} (omega arith)).0 i in
         rw (pow-suc base (places_up_to most base (n / base))) j
+
+-- and no fewer do
+pub places_fewest : (most base n k : ℕ) → 1 < base → n < base ^ k → places_up_to most base n ≤ k
+unfolding places_up_to
+places_fewest zero base n k h l = omega arith
+places_fewest (suc most) base n k h l = go (n == 0) refl k l (λ j m. places_fewest most base (n / base) j h m)
+  where
+    go : (t : Bool) → (n == 0) ≡ t → (k : ℕ) → n < base ^ k → ((j : ℕ) → n / base < base ^ j → places_up_to most base (n / base) ≤ j) → step most base t n ≤ k
+    go true e k l r = omega arith
+    go false e zero l r =
+        let pos : 0 < n = not_zero n e in
+        let one : n < 1 = rw pow-zero at l in
+        absurd (omega arith)
+    go false e (suc j) l r =
+        let m : n < base ^ j * base = rw pow-suc at l in
+        let d : n / base < base ^ j = (div-lt_iff_lt-mul {k = base} {x = n} {y = base ^ j} (omega arith)).1 m in
+        let i = r j d in
+        omega arith

@@ -1,13 +1,10 @@
 -- Laws of the definitions.
-use Rattle.std.specs.Prelude.{◌≡◌, ℕ, Bool, true, IsTrue, List, ◌++◌, Some}
-use Rattle.asn1_model.specs.Value.{Value, same}
-use Rattle.asn1_model.specs.Lawful.{IsLawful}
-use Rattle.asn1_model.specs.Strings.{each_is, is_octet}
+use Rattle.std.specs.Prelude.{◌≡◌, ℕ, Bool, true, IsTrue, List, Some}
+use Rattle.asn1_model.specs.Value.{Value}
 use Rattle.asn1_model.specs.Schema.{Schema}
 use Rattle.asn1_model.specs.Normal.{normal, is_normal}
 use Rattle.asn1_model.specs.Form.{written, Reads, canonically}
 use Rattle.asn1_model.specs.Rules.{Rules, uper, aper, uper_strict, aper_strict, oer, coer, canonical, IsEncoding}
-use Rattle.asn1_model.specs.Versions.{Extends, drop, grow}
 use Rattle.asn1_model.specs.Per
 use Rattle.asn1_model.specs.Oer
 
@@ -40,28 +37,3 @@ StrictReadsNormal = (s : Schema) (v : Value) (w : List ℕ) → (IsEncoding uper
 -- What is written is read, in the same rules, as the normal form of the value.
 abbrev pub CanonicalIsRead : Type 0
 CanonicalIsRead = (r : Rules) (s : Schema) (v : Value) (w : List ℕ) → canonical r s v ≡ Some w → IsEncoding r s (normal s v) w
-
--- What the newer version of a type writes, the older one reads as the value without what it lacks.
-abbrev pub OlderReads : Rules → Type 0
-OlderReads r = (old new : Schema) (v u : Value) (w : List ℕ) → Extends old new → drop old new v ≡ Some u → canonical r new v ≡ Some w → IsEncoding r old u w
-
--- In the strict rules it does so where the loss has left nothing at its default.
-abbrev pub OlderReadsNormal : Rules → Type 0
-OlderReadsNormal r = (old new : Schema) (v u : Value) (w : List ℕ) → Extends old new → drop old new v ≡ Some u → is_normal old u ≡ true → canonical r new v ≡ Some w → IsEncoding r old u w
-
-abbrev pub OlderVersionReads : Type 0
-OlderVersionReads = OlderReads uper × OlderReads aper × OlderReads oer × OlderReadsNormal uper_strict × OlderReadsNormal aper_strict × OlderReadsNormal coer
-
--- What the older version of a type writes, the newer one reads as the same value, with what only it has absent.
-abbrev pub NewerReads : Rules → Type 0
-NewerReads r = (old new : Schema) (u v : Value) (w : List ℕ) → Extends old new → grow old new (normal old u) ≡ Some v → canonical r old u ≡ Some w → IsEncoding r new v w
-
-abbrev pub NewerReadsNormal : Rules → Type 0
-NewerReadsNormal r = (old new : Schema) (u v : Value) (w : List ℕ) → Extends old new → grow old new (normal old u) ≡ Some v → is_normal new v ≡ true → canonical r old u ≡ Some w → IsEncoding r new v w
-
-abbrev pub NewerVersionReads : Type 0
-NewerVersionReads = NewerReads uper × NewerReads aper × NewerReads oer × NewerReadsNormal uper_strict × NewerReadsNormal aper_strict × NewerReadsNormal coer
-
--- Of the beginnings of some octets one at most is an encoding, of one value up to the order of bags. (Not yet proved.)
-abbrev pub OneFront : Rules → Type 0
-OneFront r = (s : Schema) (v u : Value) (a b x y : List ℕ) → IsLawful s → IsTrue (each_is is_octet (a ++ x)) → IsEncoding r s v a → IsEncoding r s u b → a ++ x ≡ b ++ y → (a ≡ b) × IsTrue (same v u)

@@ -1,7 +1,7 @@
 //! The laws of the model: what makes translation between encoding rules possible at all, proved over the definitions alone.
 #![tactic(auto)]
 
-ghost use Rattle.asn1_laws.specs.Laws.{PerWidens, OerWidens, PerCanonical, OerCanonical, StrictIsLenient, CanonicalIsRead, OlderVersionReads, NormalForms, StrictReadsNormal, NewerVersionReads};
+ghost use Rattle.asn1_laws.specs.Laws.{PerWidens, OerWidens, PerCanonical, OerCanonical, StrictIsLenient, CanonicalIsRead, NormalForms, StrictReadsNormal};
 
 pub fn per_widens()
     ensures { PerWidens }
@@ -27,18 +27,10 @@ pub fn canonical_is_read()
     ensures { CanonicalIsRead }
 {}
 
-pub fn older_version_reads()
-    ensures { OlderVersionReads }
-{}
-
 pub fn normal_forms()
     ensures { NormalForms }
 {}
 
 pub fn strict_reads_normal()
     ensures { StrictReadsNormal }
-{}
-
-pub fn newer_version_reads()
-    ensures { NewerVersionReads }
 {}

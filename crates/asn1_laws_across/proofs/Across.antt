@@ -1,0 +1,56 @@
+-- What is equal in one set of rules is equal in all.
+use Rattle.std.proofs.Common.{◌≡◌, ℕ, true, List, [], Some, refl, ap, sym, ◌∙◌, subst}
+use Rattle.asn1_model.specs.Value.{Value, same}
+use Rattle.asn1_model.specs.Schema.{Schema}
+use Rattle.asn1_model.specs.Lawful.{is_lawful}
+use Rattle.asn1_model.specs.Normal.{normal}
+use Rattle.asn1_model.specs.Rules.{Rules, uper, aper, uper_strict, aper_strict, oer, coer, canonical, IsEncoding}
+use Rattle.asn1_laws.proofs.Messages.{canonical_is_read}
+use Rattle.asn1_laws.proofs.Normals.{normal_again}
+use Rattle.asn1_laws_values.proofs.Normal.{normal_same}
+use Rattle.asn1_laws_fronts.specs.Laws.{OneFrontIn}
+use Rattle.asn1_laws_fronts_packed.proofs.Forms.{one_front_uper, one_front_aper, one_front_uper_strict, one_front_aper_strict}
+use Rattle.asn1_laws_fronts_octets.proofs.Forms.{one_front_oer, one_front_coer}
+use Rattle.asn1_laws_order.proofs.Canonical.{canonical_same, same_written}
+
+one_front : (r : Rules) → OneFrontIn r
+one_front uper = one_front_uper
+one_front aper = one_front_aper
+one_front uper_strict = one_front_uper_strict
+one_front aper_strict = one_front_aper_strict
+one_front oer = one_front_oer
+one_front coer = one_front_coer
+
+-- what is read of the same octets is the same
+read_same : (r : Rules) (s : Schema) (v u : Value) (w : List ℕ) → is_lawful s ≡ true → IsEncoding r s v w → IsEncoding r s u w → same v u ≡ true
+read_same r s v u w l f g = (one_front r s v u w w [] [] l f g refl).1
+
+pub one_meaning : (q r : Rules) (s : Schema) (v u : Value) (w : List ℕ) → is_lawful s ≡ true → IsEncoding q s v w → IsEncoding q s u w → (same v u ≡ true) × (same (normal s v) (normal s u) ≡ true) × (canonical r s v ≡ canonical r s u)
+one_meaning q r s v u w l f g = let e = read_same q s v u w l f g in (e, normal_same s v u e, same_written r s v u l e)
+
+some_same : {x y : List ℕ} → Some x ≡ Some y → x ≡ y
+some_same e = cc
+
+pub tell_normal : (r : Rules) (s : Schema) (v u : Value) (a b : List ℕ) → is_lawful s ≡ true → canonical r s v ≡ Some a → canonical r s u ≡ Some b → (a ≡ b → same (normal s v) (normal s u) ≡ true) × (same (normal s v) (normal s u) ≡ true → a ≡ b)
+tell_normal r s v u a b l e f = (
+  λ g. read_same r s (normal s v) (normal s u) a l (canonical_is_read r s v a e) (canonical_is_read r s u a (f ∙ ap Some (sym g))),
+  λ n. some_same (sym e ∙ canonical_same r s v u l n ∙ f),
+)
+
+pub equal_across : (q r : Rules) (s : Schema) (v u : Value) (a b c d : List ℕ) → is_lawful s ≡ true → canonical q s v ≡ Some a → canonical q s u ≡ Some b → canonical r s v ≡ Some c → canonical r s u ≡ Some d → (a ≡ b → c ≡ d) × (c ≡ d → a ≡ b)
+equal_across q r s v u a b c d l e f g h =
+    let x = tell_normal q s v u a b l e f in
+    let y = tell_normal r s v u c d l g h in
+    (λ p. y.1 (x.0 p), λ p. x.1 (y.0 p))
+
+-- what is read of the canonical octets is the normal form
+back : (r : Rules) (s : Schema) (v u : Value) (b : List ℕ) → is_lawful s ≡ true → canonical r s v ≡ Some b → IsEncoding r s u b → same (normal s u) (normal s v) ≡ true
+back r s v u b l e f =
+    let q = read_same r s u (normal s v) b l f (canonical_is_read r s v b e) in
+    subst (λ x. same (normal s u) x ≡ true) (normal_again s v) (normal_same s u (normal s v) q)
+
+pub detours : (p r : Rules) (s : Schema) (v u : Value) (b : List ℕ) → is_lawful s ≡ true → canonical r s v ≡ Some b → IsEncoding r s u b → canonical p s u ≡ canonical p s v
+detours p r s v u b l e f = canonical_same p s u v l (back r s v u b l e f)
+
+pub recoded : (r : Rules) (s : Schema) (v u : Value) (b : List ℕ) → is_lawful s ≡ true → canonical r s v ≡ Some b → IsEncoding r s u b → canonical r s u ≡ Some b
+recoded r s v u b l e f = detours r r s v u b l e f ∙ e

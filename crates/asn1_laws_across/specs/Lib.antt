@@ -1,0 +1,2 @@
+pub mod Strictly
+pub mod Laws

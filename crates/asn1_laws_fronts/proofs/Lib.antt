@@ -1,0 +1,10 @@
+pub mod Fronts
+pub mod PerNumbers
+pub mod OerNumbers
+pub mod Complete
+pub mod OerBits
+pub mod Spelled
+pub mod Plain
+pub mod Sevens
+pub mod Members
+pub mod Additions

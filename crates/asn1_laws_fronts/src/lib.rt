@@ -1,0 +1,8 @@
+//! Of all beginnings of some octets one at most is an encoding of a type, and it says what the value is.
+#![tactic(auto)]
+
+ghost use Rattle.asn1_laws_fronts.specs.Laws.{OnePlainFront};
+
+pub fn one_plain_front()
+    ensures { OnePlainFront }
+{}

@@ -1,0 +1,4 @@
+pub mod Units
+pub mod Tags
+pub mod Choices
+pub mod Forms

@@ -1,0 +1,8 @@
+//! Of all beginnings of some octets one at most is an encoding in the packed rules, and it says what the value is.
+#![tactic(auto)]
+
+ghost use Rattle.asn1_laws_fronts_packed.specs.Laws.{OneFront};
+
+pub fn one_front()
+    ensures { OneFront }
+{}

@@ -1,0 +1,2 @@
+pub mod PerVersions
+pub mod Messages
