@@ -246,7 +246,6 @@ fn grow(buffer: &mut BitBuffer, step: u32) -> Result<(), AllocError> {
 #[test]
 fn refused_growth(rt: HostRuntime) {
     let mut buffer = BitBuffer::new(rt.alloc());
-    let mut total = 0;
     for step in 0..48 {
         let before = buffer.len();
         let last = buffer.as_bitslice().get(before.saturating_sub(1));
@@ -256,9 +255,7 @@ fn refused_growth(rt: HostRuntime) {
             assert_eq!(rt; buffer.as_bitslice().get(before.saturating_sub(1)), last);
             assert!(rt; grow(&mut buffer, step).is_ok());
         }
-        total += 1;
     }
-    assert_eq!(rt; total, 48);
     assert_eq!(rt; buffer.len(), 3456);
 }
 
