@@ -62,9 +62,15 @@ fn every_alignment_and_width(rt: HostRuntime) -> Result<(), Fail> {
             let buffer = written(rt.alloc(), alignment, value, width)?;
             let total = (alignment + width + 3) as usize;
             assert_eq!(rt; buffer.as_bytes().len(), total.div_ceil(8));
-            assert!(rt; holds_bits(buffer.as_bitslice(), alignment, value, width), "{width} bits at {alignment}");
+            assert!(rt;
+                holds_bits(buffer.as_bitslice(), alignment, value, width),
+                "{width} bits at {alignment}"
+            );
             let read = read_behind(BitReader::new(buffer.as_bitslice()), alignment, width);
-            assert!(rt; read == Some(low_bits(value, width)), "{width} bits at {alignment}");
+            assert!(rt;
+                read == Some(low_bits(value, width)),
+                "{width} bits at {alignment}"
+            );
         }
     }
     Ok(())
