@@ -62,9 +62,15 @@ fn every_alignment_and_width(rt: HostRuntime) -> Result<(), Fail> {
             let buffer = written(rt.alloc(), alignment, value, width)?;
             let total = (alignment + width + 3) as usize;
             assert_eq!(rt; buffer.as_bytes().len(), total.div_ceil(8));
-            assert!(rt; holds_bits(buffer.as_bitslice(), alignment, value, width), "{width} bits at {alignment}");
+            assert!(rt;
+                holds_bits(buffer.as_bitslice(), alignment, value, width),
+                "{width} bits at {alignment}"
+            );
             let read = read_behind(BitReader::new(buffer.as_bitslice()), alignment, width);
-            assert!(rt; read == Some(low_bits(value, width)), "{width} bits at {alignment}");
+            assert!(rt;
+                read == Some(low_bits(value, width)),
+                "{width} bits at {alignment}"
+            );
         }
     }
     Ok(())
@@ -246,7 +252,6 @@ fn grow(buffer: &mut BitBuffer, step: u32) -> Result<(), AllocError> {
 #[test]
 fn refused_growth(rt: HostRuntime) {
     let mut buffer = BitBuffer::new(rt.alloc());
-    let mut total = 0;
     for step in 0..48 {
         let before = buffer.len();
         let last = buffer.as_bitslice().get(before.saturating_sub(1));
@@ -256,9 +261,7 @@ fn refused_growth(rt: HostRuntime) {
             assert_eq!(rt; buffer.as_bitslice().get(before.saturating_sub(1)), last);
             assert!(rt; grow(&mut buffer, step).is_ok());
         }
-        total += 1;
     }
-    assert_eq!(rt; total, 48);
     assert_eq!(rt; buffer.len(), 3456);
 }
 

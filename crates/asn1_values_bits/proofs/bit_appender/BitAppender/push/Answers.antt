@@ -1,4 +1,4 @@
-use Rattle.std.proofs.Common.{◌≡◌, ◌+◌, ◌≤◌, ◌<◌, length, arith, ℕ}
+use Rattle.std.proofs.Common.{◌≤◌, arith}
 use Rattle.asn1_model.specs.Numbers.{binary}
 use Rattle.asn1_values_bits.specs.Appending.{appended, room_of}
 use Rattle.asn1_values_bits.proofs.Binary.{length-binary}

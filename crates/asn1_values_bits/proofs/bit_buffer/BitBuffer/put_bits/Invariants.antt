@@ -7,7 +7,7 @@ invariant-loop-left l = record {
   place_is : l.place + l.left ≡ l.at + l.width;
   part : l.left ≤ l.width;
   size : length l.self ≡ length l.fn.self;
-  written : take l.place l.self ++ (binary l.left l.value ++ drop (l.at + l.width) l.self) ≡ take l.at l.fn.self ++ (binary l.width l.value ++ drop (l.at + l.width) l.fn.self)
+  written : take l.place l.self ++ (binary l.left l.value ++ drop (l.at + l.width) l.self) ≡ take l.at l.fn.self ++ (binary l.width l.value ++ drop (l.at + l.width) l.fn.self);
 }
 
 abbrev pub decreases-loop-left : goal.decreases-loop-left

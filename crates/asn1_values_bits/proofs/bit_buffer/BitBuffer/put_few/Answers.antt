@@ -1,4 +1,4 @@
-use Rattle.std.proofs.Common.{◌≡◌, ◌+◌, ◌-◌, ◌*◌, ◌/◌, ◌%◌, ◌^◌, ◌<◌, ◌≤◌, ◌++◌, ℕ, List, Bool, bit_or, bit_and, length, replicate, false, take, drop, set, ap, sym, ◌∙◌, arith, length-append}
+use Rattle.std.proofs.Common.{◌≡◌, ◌+◌, ◌-◌, ◌*◌, ◌/◌, ◌%◌, ◌^◌, ◌<◌, ◌++◌, ℕ, bit_or, bit_and, length, replicate, false, take, drop, set, ap, ◌∙◌, arith, length-append}
 use Rattle.std.proofs.lemmas.List.{length-take-le, length-drop}
 use Rattle.asn1_model.specs.Numbers.{binary, octet_bits, missing}
 use Rattle.asn1_values_bits.proofs.Binary.{length-binary}
@@ -21,15 +21,21 @@ shown c =
     let n : length c.args.self.now ≡ c.self.inside.len = kept_length c.self.inside.len c.self.inside.octets.items c.args.self.now c.self.invariant c.self.view_is in
     let size = c.self.invariant.size in
     kept_put c.self.inside.octets.items _ c.args.self.now (binary c.args.count c.args.bits) c.self.inside.len c.args.place c.args.count
-      (kept_bits c.self.inside.len c.self.inside.octets.items c.args.self.now c.self.invariant c.self.view_is) n (omega arith)
-      (octet_put c.self.inside.octets.items c.args.place (c.args.place / 8) (c.args.place % 8) c.args.count past c.index.result.now _ c.args.bits (omega arith) eight (omega arith) c.index.ensures
-        (ap (binary 8) (mixed_is c.index.result.now c.args.bits (c.args.place % 8) c.args.count past eight small c.requires.fits) ∙ mixed c.index.result.now c.args.bits (c.args.place % 8) c.args.count past eight c.requires.fits))
+    (kept_bits c.self.inside.len c.self.inside.octets.items c.args.self.now c.self.invariant c.self.view_is) n (omega arith)
+    (octet_put c.self.inside.octets.items c.args.place (c.args.place / 8) (c.args.place % 8) c.args.count past c.index.result.now _ c.args.bits (omega arith) eight (omega arith) c.index.ensures
+    (ap (binary 8) (mixed_is c.index.result.now c.args.bits (c.args.place % 8) c.args.count past eight small c.requires.fits) ∙ mixed c.index.result.now c.args.bits (c.args.place % 8) c.args.count past eight c.requires.fits))
 
 long : (c : goal.After-self-1) → length (take c.args.place c.args.self.now ++ (binary c.args.count c.args.bits ++ drop (c.args.place + c.args.count) c.args.self.now)) ≡ c.self.inside.len
 long c =
     length-append (take c.args.place c.args.self.now) (binary c.args.count c.args.bits ++ drop (c.args.place + c.args.count) c.args.self.now)
-      ∙ (omega (arith, length-append (binary c.args.count c.args.bits) (drop (c.args.place + c.args.count) c.args.self.now), length-binary c.args.count c.args.bits, length-drop (c.args.place + c.args.count) c.args.self.now,
-          length-take-le c.args.place c.args.self.now (omega arith), kept_length c.self.inside.len c.self.inside.octets.items c.args.self.now c.self.invariant c.self.view_is))
+    ∙ (omega (
+      arith,
+      length-append (binary c.args.count c.args.bits) (drop (c.args.place + c.args.count) c.args.self.now),
+      length-binary c.args.count c.args.bits,
+      length-drop (c.args.place + c.args.count) c.args.self.now,
+      length-take-le c.args.place c.args.self.now (omega arith),
+      kept_length c.self.inside.len c.self.inside.octets.items c.args.self.now c.self.invariant c.self.view_is,
+    ))
 
 pub invariant_of-self : goal.invariant_of-self
 invariant_of-self c = keeps c.self.inside.len _ _ (long c) (shown c)
