@@ -1,0 +1,103 @@
+//! The unaligned packed encoding rules (X.691).
+
+use crate::bits::{BitReader, BitWriter};
+use crate::errors::{DecodeError, EncodeError};
+use crate::schema::{Schema, Value};
+use std::alloc::{AllocError, Global};
+
+/// How many bits hold the numbers from 0 to `span` (X.691 11.5.7).
+fn width_of(span: u128) -> u32 {
+    u128::BITS - span.leading_zeros()
+}
+
+fn write_integer(
+    low: i128,
+    high: i128,
+    number: i128,
+    writer: &mut BitWriter,
+) -> Result<(), EncodeError> {
+    if number < low || high < number {
+        return Err(EncodeError::ValueConstraintNotSatisfied);
+    }
+    let offset = number.abs_diff(low);
+    match writer.push_number(offset, width_of(high.abs_diff(low))) {
+        Ok(()) => Ok(()),
+        Err(AllocError) => Err(EncodeError::OutOfMemory),
+    }
+}
+
+/// Adds the bits of a value (X.691 12, 13 and 19).
+pub fn write_value(
+    schema: &Schema,
+    value: &Value,
+    writer: &mut BitWriter,
+) -> Result<(), EncodeError> {
+    match (schema, value) {
+        (Schema::Boolean, Value::Boolean(truth)) => {
+            match writer.push_number(u128::from(*truth), 1) {
+                Ok(()) => Ok(()),
+                Err(AllocError) => Err(EncodeError::OutOfMemory),
+            }
+        }
+        (Schema::Integer { low, high }, Value::Integer(number)) => {
+            write_integer(*low, *high, *number, writer)
+        }
+        (Schema::Sequence(components), Value::Sequence(values)) => {
+            if components.len() != values.len() {
+                return Err(EncodeError::ValueConstraintNotSatisfied);
+            }
+            for (place, component) in components.iter().enumerate() {
+                write_value(component, &values[place], writer)?;
+            }
+            Ok(())
+        }
+        _ => Err(EncodeError::ValueConstraintNotSatisfied),
+    }
+}
+
+fn read_integer(low: i128, high: i128, reader: &mut BitReader<'_>) -> Result<i128, DecodeError> {
+    if high < low {
+        return Err(DecodeError::ValueConstraintNotSatisfied);
+    }
+    let span = high.abs_diff(low);
+    let Some(offset) = reader.take_number(width_of(span)) else {
+        return Err(DecodeError::Incomplete);
+    };
+    if span < offset {
+        return Err(DecodeError::ValueConstraintNotSatisfied);
+    }
+    match low.checked_add_unsigned(offset) {
+        Some(number) => Ok(number),
+        None => Err(DecodeError::ValueConstraintNotSatisfied),
+    }
+}
+
+/// Takes the bits of a value that nests at most so many levels.
+pub fn read_value(
+    alloc: Global,
+    schema: &Schema,
+    reader: &mut BitReader<'_>,
+    levels: u32,
+) -> Result<Value, DecodeError> {
+    match schema {
+        Schema::Boolean => match reader.take_bit() {
+            Some(truth) => Ok(Value::Boolean(truth)),
+            None => Err(DecodeError::Incomplete),
+        },
+        Schema::Integer { low, high } => Ok(Value::Integer(read_integer(*low, *high, reader)?)),
+        Schema::Sequence(components) => {
+            if levels == 0 {
+                return Err(DecodeError::ExceedsMaxParseDepth);
+            }
+            let mut values = Vec::new(alloc);
+            for component in components {
+                let value = read_value(alloc, component, reader, levels - 1)?;
+                match values.push(value) {
+                    Ok(()) => {}
+                    Err(_) => return Err(DecodeError::OutOfMemory),
+                }
+            }
+            Ok(Value::Sequence(values))
+        }
+    }
+}
