@@ -3,8 +3,11 @@ use Rattle.std.specs.Prelude.{ℕ, ◌+◌, false, List, [], ◌∷◌, Some, No
 use Rattle.asn1_model.specs.Schema as Asn1
 use Rattle.asn1_model.specs.Value as Asn1Value
 use Rattle.asn1_relay_core.specs.declared.schema.Schema.{Schema}
-use Rattle.asn1_relay_core.specs.declared.schema.Schema.TheOpen.{Schema-F, Boolean, Integer, Sequence}
+use Rattle.asn1_relay_core.specs.declared.schema.Schema.TheOpen as OpenSchema
 use Rattle.asn1_relay_core.specs.declared.schema.Schema.TheFolds.{fold-Schema}
+use Rattle.asn1_relay_core.specs.declared.schema.Value.{Value}
+use Rattle.asn1_relay_core.specs.declared.schema.Value.TheOpen as OpenValue
+use Rattle.asn1_relay_core.specs.declared.schema.Value.TheFolds.{fold-Value}
 
 -- the components of a SEQUENCE, all required, with automatic tags: context-specific, by their place (X.680 25.8)
 abbrev pub required_components : ℕ → List Asn1.Schema → Asn1.Components
@@ -12,11 +15,26 @@ required_components place [] = Asn1.no_component
 required_components place (s ∷ ss) = Asn1.component (record { class = 2; number = place } ∷ []) Asn1.required s (required_components (place + 1) ss)
 
 -- one level of a type, with the model's types in place of those of its components
-abbrev pub schema_step : Schema-F Asn1.Schema → Asn1.Schema
-schema_step Boolean = Asn1.boolean
-schema_step (Integer low high) = Asn1.integer (record { range = record { low = Some low; high = Some high }; extensible = false }) (record { low = None; high = None })
-schema_step (Sequence v) = Asn1.sequence (required_components 0 v.items) false Asn1.no_component
+abbrev pub schema_step : OpenSchema.Schema-F Asn1.Schema → Asn1.Schema
+schema_step OpenSchema.Boolean = Asn1.boolean
+schema_step (OpenSchema.Integer low high) = Asn1.integer (record { range = record { low = Some low; high = Some high }; extensible = false }) (record { low = None; high = None })
+schema_step (OpenSchema.Sequence v) = Asn1.sequence (required_components 0 v.items) false Asn1.no_component
 
 -- the type of the model that a type at run time is
 abbrev pub schema_of : Schema → Asn1.Schema
 schema_of = fold-Schema Asn1.Schema schema_step
+
+-- components that are all there
+abbrev pub present_parts : List Asn1Value.Value → Asn1Value.Parts
+present_parts [] = Asn1Value.end
+present_parts (v ∷ vs) = Asn1Value.present v (present_parts vs)
+
+-- one level of a value, with the model's values in place of its components
+abbrev pub value_step : OpenValue.Value-F Asn1Value.Value → Asn1Value.Value
+value_step (OpenValue.Boolean b) = Asn1Value.truth b
+value_step (OpenValue.Integer n) = Asn1Value.number n
+value_step (OpenValue.Sequence v) = Asn1Value.fields (present_parts v.items) Asn1Value.end
+
+-- the value of the model that a value at run time is
+abbrev pub value_of : Value → Asn1Value.Value
+value_of = fold-Value Asn1Value.Value value_step
