@@ -2,8 +2,9 @@
 use Rattle.std.proofs.Common.{◌≡◌, ◌∙◌, ◌&&◌, Bool, true, false, List, [], ◌∷◌, length, map, get_or, refl, ap, ap₂, arith, sym, Vec, Global}
 use Rattle.asn1_model.specs.Schema.{boolean}
 use Rattle.asn1_model.specs.Value.{Value, Parts, fields, present, end}
-use Rattle.asn1_relay_core.specs.Kinds.{is_value_of}
-use Rattle.asn1_relay_core.specs.Meaning.{present_parts, value_of, value_step}
+use Rattle.asn1_relay_texts.specs.Kinds.{is_value_of}
+use Rattle.asn1_relay_texts.specs.Texts.{present_parts}
+use Rattle.asn1_relay_core.specs.Meaning.{value_of, value_step}
 use Rattle.asn1_relay_core.specs.declared.schema.Value as held
 use Rattle.asn1_relay_core.specs.declared.schema.Value.TheOpen as open_value
 use Rattle.asn1_relay_core.specs.declared.schema.Value.TheVariants.{rolls-Sequence}

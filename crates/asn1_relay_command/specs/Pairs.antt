@@ -1,8 +1,10 @@
 -- A truth value beside a number from -5 to 5.
-use Rattle.std.specs.Prelude.{◌≡◌, ℤ, Bool, false, [], ◌∷◌}
+use Rattle.std.specs.Prelude.{◌≡◌, ℤ, Bool, false, [], ◌∷◌, IsTrue, refl}
 use Rattle.std.proofs.Common.{ap₂}
+use Rattle.asn1_model.specs.Numbers.{places_up_to}
 use Rattle.asn1_model.specs.Schema.{Schema, boolean, sequence, component, no_component, required}
 use Rattle.asn1_model.specs.Value.{Value, truth, number, fields, present, end}
+use Rattle.asn1_relay_texts.specs.Kinds.{is_carried}
 use Rattle.asn1_relay_command.specs.Numbers.{small_schema}
 use Rattle.asn1_relay_command.specs.declared.pair.Pair.{Pair}
 
@@ -13,6 +15,11 @@ pair_schema = sequence
     (component (record { class = 2; number = 1 } ∷ []) required small_schema
     no_component))
     false no_component
+
+-- it is one of the types that are carried
+pub pair_is_carried : IsTrue (is_carried pair_schema)
+unfolding places_up_to
+pair_is_carried = refl
 
 -- a value of it
 abbrev pub pair_value : Bool → ℤ → Value

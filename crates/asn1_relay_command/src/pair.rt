@@ -14,11 +14,13 @@ pub struct Pair {
 
 /// SEQUENCE {a BOOLEAN, b INTEGER (-5..5)}, with automatic tags (X.680 25).
 impl Wire for Pair {
-    ghost use Rattle.asn1_relay_command.specs.Pairs.{pair_schema, pair_value, one_pair};
+    ghost use Rattle.asn1_relay_command.specs.Pairs.{pair_is_carried, pair_schema, pair_value, one_pair};
 
     ghost asn1_type = { pair_schema };
 
     ghost meaning = { λ p. pair_value p.a p.b };
+
+    ghost carried = { pair_is_carried };
 
     ghost unique = { one_pair };
 

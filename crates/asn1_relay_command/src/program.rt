@@ -3,7 +3,7 @@ ghost use Rattle.std.specs.Prelude.{◌≡◌, ◌≢◌, ◌⊎◌, ◌≤◌, 
 ghost use Rattle.std.specs.Io.KnownBytes.{Appends, Keeps};
 ghost use Rattle.std.specs.IoError.{error_kind};
 ghost use Rattle.clap.specs.Words.{kind_of};
-ghost use Rattle.asn1_relay_core.specs.Answer.{answered};
+ghost use Rattle.asn1_relay_core.specs.Recoding.{answered};
 ghost use Rattle.asn1_relay_command.specs.Orders.{order_of};
 ghost use Rattle.asn1_relay_command.specs.Runs.{Becomes, HasDone, HasFailed, HasRefused, IsAllRead, IsDone, IsRefusedBy, StopsBy};
 

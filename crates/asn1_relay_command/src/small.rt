@@ -57,11 +57,13 @@ impl Small {
 /// INTEGER (-5..5) (X.680 19).
 impl Wire for Small {
     ghost use Rattle.asn1_model.specs.Value.{number};
-    ghost use Rattle.asn1_relay_command.specs.Numbers.{small_schema};
+    ghost use Rattle.asn1_relay_command.specs.Numbers.{small_is_carried, small_schema};
 
     ghost asn1_type = { small_schema };
 
     ghost meaning = { number };
+
+    ghost carried = { small_is_carried };
 
     ghost unique = { λ x y e. Prim.cc };
 

@@ -1,8 +1,9 @@
 use Rattle.std.proofs.Common.{◌≡◌, ◌∙◌, length, map, arith, ap, ap₂, sym}
 use Rattle.std.proofs.lemmas.List.{length-map}
 use Rattle.asn1_model.specs.Value.{Value, fields, present, end}
-use Rattle.asn1_relay_core.specs.Kinds.{is_value_of}
-use Rattle.asn1_relay_core.specs.Meaning.{present_parts, value_of}
+use Rattle.asn1_relay_texts.specs.Kinds.{is_value_of}
+use Rattle.asn1_relay_texts.specs.Texts.{present_parts}
+use Rattle.asn1_relay_core.specs.Meaning.{value_of}
 use Rattle.asn1_relay_command.specs.Pairs.{pair_schema}
 use Rattle.asn1_relay_command.proofs.PairParts.{two_values, two_present, value_of_sequence}
 use Rattle.asn1_relay_command.proofs.pair.PairWire.from_value.Goals as goal
