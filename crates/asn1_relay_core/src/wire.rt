@@ -2,7 +2,7 @@
 ghost use Rattle.std.specs.Prelude.{◌≡◌, IfOk, IfSome, IsSome, IsTrue};
 ghost use Rattle.asn1_model.specs.Schema as Asn1;
 ghost use Rattle.asn1_model.specs.Value as Asn1Value;
-ghost use Rattle.asn1_relay_core.specs.Kinds.{is_value_of};
+ghost use Rattle.asn1_relay_texts.specs.Kinds.{is_value_of};
 ghost use Rattle.asn1_relay_core.specs.Meaning.{schema_of, value_of};
 
 use crate::schema::{Schema, Value};

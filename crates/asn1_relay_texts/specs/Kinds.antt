@@ -1,8 +1,10 @@
 -- The values of the types that are carried: BOOLEAN, INTEGER between two bounds, SEQUENCE of required components without a mark.
-use Rattle.std.specs.Prelude.{Bool, true, false, ◌&&◌}
+use Rattle.std.specs.Prelude.{Bool, true, false, not, ◌&&◌}
 use Rattle.asn1_model.specs.Schema.{Schema, boolean, integer, sequence, Components, no_component, component}
 use Rattle.asn1_model.specs.Value.{Value, truth, number, fields, Parts, end, absent, present}
 use Rattle.asn1_model.specs.Numbers.{is_within}
+use Rattle.asn1_model.specs.Form.{is_present}
+use Rattle.asn1_model.specs.Tables.{is_required}
 
 -- whether a value is one of a type
 abbrev mutual
@@ -16,3 +18,15 @@ abbrev mutual
   are_values_of no_component end = true
   are_values_of (component tags presence s cs) (present v ps) = is_value_of s v && are_values_of cs ps
   are_values_of cs ps = false
+
+-- whether a type is one of these: BOOLEAN, INTEGER with two bounds and no mark, SEQUENCE of such required components without a mark
+abbrev mutual
+  pub is_carried : Schema → Bool
+  is_carried boolean = true
+  is_carried (integer bounds held) = not bounds.extensible && is_present bounds.range.low && is_present bounds.range.high && not (is_present held.low) && not (is_present held.high)
+  is_carried (sequence cs false no_component) = are_carried cs
+  is_carried s = false
+
+  pub are_carried : Components → Bool
+  are_carried no_component = true
+  are_carried (component tags presence s cs) = is_required presence && is_carried s && are_carried cs
