@@ -1,3 +1,4 @@
 pub mod Digits
 pub mod Packing
 pub mod Taking
+pub mod Widths

@@ -1,5 +1,5 @@
 -- The types and values at run time as those of the model.
-use Rattle.std.specs.Prelude.{false, Some, None}
+use Rattle.std.specs.Prelude.{ℤ, false, Some, None}
 use Rattle.asn1_model.specs.Schema as Asn1
 use Rattle.asn1_model.specs.Value as Asn1Value
 use Rattle.asn1_relay_texts.specs.Texts.{required_components, present_parts}
@@ -10,10 +10,14 @@ use Rattle.asn1_relay_core.specs.declared.schema.Value.{Value}
 use Rattle.asn1_relay_core.specs.declared.schema.Value.TheOpen as OpenValue
 use Rattle.asn1_relay_core.specs.declared.schema.Value.TheFolds.{fold-Value}
 
+-- INTEGER between two bounds
+abbrev pub integer_between : ℤ → ℤ → Asn1.Schema
+integer_between low high = Asn1.integer (record { range = record { low = Some low; high = Some high }; extensible = false }) (record { low = None; high = None })
+
 -- one level of a type, with the model's types in place of those of its components
 abbrev pub schema_step : OpenSchema.Schema-F Asn1.Schema → Asn1.Schema
 schema_step OpenSchema.Boolean = Asn1.boolean
-schema_step (OpenSchema.Integer low high) = Asn1.integer (record { range = record { low = Some low; high = Some high }; extensible = false }) (record { low = None; high = None })
+schema_step (OpenSchema.Integer low high) = integer_between low high
 schema_step (OpenSchema.Sequence v) = Asn1.sequence (required_components 0 v.items) false Asn1.no_component
 
 -- the type of the model that a type at run time is

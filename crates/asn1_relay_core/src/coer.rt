@@ -108,14 +108,23 @@ pub fn write_value(
     value: &Value,
     octets: &mut Vec<u8>,
 ) -> Result<(), EncodeError> {
-    match (schema, value) {
-        (Schema::Boolean, Value::Boolean(truth)) => {
+    match schema {
+        Schema::Boolean => {
+            let Value::Boolean(truth) = value else {
+                return Err(EncodeError::ValueConstraintNotSatisfied);
+            };
             push_octets(octets, if *truth { 0xFF } else { 0x00 }, 1)
         }
-        (Schema::Integer { low, high }, Value::Integer(number)) => write_integer(
-            *low, *high, *number, octets,
-        ),
-        (Schema::Sequence(components), Value::Sequence(values)) => {
+        Schema::Integer { low, high } => {
+            let Value::Integer(number) = value else {
+                return Err(EncodeError::ValueConstraintNotSatisfied);
+            };
+            write_integer(*low, *high, *number, octets)
+        }
+        Schema::Sequence(components) => {
+            let Value::Sequence(values) = value else {
+                return Err(EncodeError::ValueConstraintNotSatisfied);
+            };
             if components.len() != values.len() {
                 return Err(EncodeError::ValueConstraintNotSatisfied);
             }
@@ -124,7 +133,6 @@ pub fn write_value(
             }
             Ok(())
         }
-        _ => Err(EncodeError::ValueConstraintNotSatisfied),
     }
 }
 
