@@ -1,10 +1,3 @@
 //! The texts of the first types that are translated: what stands for their values in UPER and in COER, how a reader finds them,
 //! and the laws that make translation possible. All of it stands in `specs/`.
 #![tactic(auto)]
-
-ghost use Rattle.asn1_relay_texts.specs.Laws.{BitsReadAreThoseOfTheValue};
-
-pub fn bits_read_are_those_of_the_value()
-    ensures { BitsReadAreThoseOfTheValue }
-{
-}
