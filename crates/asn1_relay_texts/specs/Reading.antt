@@ -1,5 +1,5 @@
 -- How a reader finds the value whose text stands in front: for the carried types, with at most so many levels.
-use Rattle.std.specs.Prelude.{ℕ, zero, suc, ◌-◌, ◌^◌, ◌==◌, ltb, leb, max, ◌*◌, ℤ, pos, negsuc, ◌+ℤ◌, Bool, true, false, cond, ◌&&◌, List, [], ◌∷◌, length, Option, Some, None, option_map, option_and_then}
+use Rattle.std.specs.Prelude.{ℕ, zero, suc, ◌-◌, ◌^◌, ◌==◌, ltb, leb, max, ◌*◌, ℤ, pos, negsuc, ◌+ℤ◌, Bool, true, false, cond, ◌&&◌, List, [], ◌∷◌, Option, Some, None, option_map, option_and_then}
 use Rattle.asn1_model.specs.Schema.{Schema, boolean, integer, sequence, Components, no_component, component, Range}
 use Rattle.asn1_model.specs.Value.{Value, truth, number, fields, Parts, end, present}
 use Rattle.asn1_model.specs.Numbers.{width, octet_width, least_octets, signed_octets, above, is_within}

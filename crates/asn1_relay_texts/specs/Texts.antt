@@ -1,8 +1,8 @@
 -- The text of a value of the carried types: its bits by UPER and its octets by COER, and how a reader finds them.
-use Rattle.std.specs.Prelude.{ℕ, zero, suc, ◌+◌, ◌-◌, ◌*◌, ◌/◌, ◌^◌, ◌==◌, leb, max, ℤ, pos, negsuc, ◌+ℤ◌, Bool, true, false, cond, not, ◌&&◌, List, [], ◌∷◌, ◌++◌, length, take, drop, map, Option, Some, None, option_map, option_and_then}
-use Rattle.asn1_model.specs.Schema.{Schema, boolean, integer, sequence, required, Components, no_component, component}
-use Rattle.asn1_model.specs.Value.{Value, truth, number, fields, Parts, end, present}
-use Rattle.asn1_model.specs.Numbers.{number_after, width, octet_width, least_octets, signed_octets, above, is_within}
+use Rattle.std.specs.Prelude.{ℕ, ◌+◌, leb, Bool, false, cond, List, [], ◌∷◌, ◌++◌, length, take, drop, map, Option, Some, None, option_map, option_and_then}
+use Rattle.asn1_model.specs.Schema.{Schema, required, Components, no_component, component}
+use Rattle.asn1_model.specs.Value.{Value, Parts, end, present}
+use Rattle.asn1_model.specs.Numbers.{number_after}
 use Rattle.asn1_model.specs.Form.{written}
 use Rattle.asn1_model.specs.Per
 use Rattle.asn1_model.specs.Oer
