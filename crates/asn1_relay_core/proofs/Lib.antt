@@ -2,3 +2,5 @@ pub mod Digits
 pub mod Packing
 pub mod Taking
 pub mod Widths
+pub mod Shapes
+pub mod Writers

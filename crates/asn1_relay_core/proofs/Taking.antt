@@ -1,10 +1,17 @@
 -- Bits that are taken off the front.
-use Rattle.std.proofs.Common.{◌≡◌, ℕ, zero, suc, ◌+◌, ◌-◌, ◌*◌, ◌/◌, ◌%◌, ◌^◌, ◌<◌, ◌≤◌, ◌==◌, Bool, true, false, List, [], ◌∷◌, ◌++◌, length, take, drop, map, refl, ap, sym, ◌∙◌, arith}
+use Rattle.std.proofs.Common.{◌≡◌, ℕ, zero, suc, ◌+◌, ◌-◌, ◌*◌, ◌/◌, ◌%◌, ◌^◌, ◌<◌, ◌≤◌, ◌==◌, Bool, true, false, List, [], ◌∷◌, ◌++◌, length, take, drop, map, Some, option_map, refl, ap, sym, ◌∙◌, arith}
 use Rattle.std.proofs.Common.{length-drop, add-one, pow-suc}
 use Rattle.std.proofs.Math.Nat.{pow-le-pow_right}
 use mir.Val.{bool_byte}
 use Rattle.asn1_model.specs.Numbers.{binary, octet_bits, number_after}
 use Rattle.asn1_relay_texts.specs.Texts.{bit_digit}
+use Rattle.asn1_relay_core.specs.Meaning.{schema_of, value_of}
+use Rattle.asn1_relay_core.specs.Writing.{text_by, bit_leaves, Adds}
+use Rattle.asn1_relay_core.specs.declared.schema.Schema.{Schema}
+use Rattle.asn1_relay_core.specs.declared.schema.Schema as SB
+use Rattle.asn1_relay_core.specs.declared.schema.Value.{Value}
+use Rattle.asn1_relay_core.specs.declared.schema.Value as VB
+use Rattle.asn1_relay_core.proofs.Writers.{truth_at}
 use Rattle.asn1_relay_core.proofs.Packing.{length-octets}
 
 pub bit_at : (w n u : ℕ) (rest : List Bool) → u < w → drop u (binary w n ++ rest) ≡ (n / 2 ^ (w - 1 - u) % 2 == 1) ∷ drop (u + 1) (binary w n ++ rest)
@@ -49,3 +56,12 @@ octets_left_begun os bs u h k l e = let n : length bs ≡ length os * 8 - u = sy
 
 pub octets_left : (os : List ℕ) (bs : List Bool) (u : ℕ) → u ≡ 0 → drop u (octet_bits os) ≡ bs → length os ≡ length bs / 8
 octets_left os bs u h e = let n : length bs ≡ length os * 8 - u = sym (ap length e) ∙ length-drop u (octet_bits os) ∙ ap (λ x. x - u) (length-octets os) in omega (arith, n)
+
+-- ---- one bit is added
+
+bit_of_byte : (b : Bool) → binary 1 (bool_byte b) ≡ b ∷ []
+bit_of_byte true = refl
+bit_of_byte false = refl
+
+pub adds_bit : (s : Schema) (v : Value) (b : Bool) (n : ℕ) (old now : List Bool) → s ≡ SB.Boolean → v ≡ VB.Boolean b → n ≡ bool_byte b → now ≡ old ++ binary 1 n → Adds (text_by bit_leaves (schema_of s) (value_of v)) old now
+adds_bit s v b n old now e d i h = ap (option_map (λ w. old ++ w)) (truth_at bit_leaves s v b e d) ∙ ap Some (sym (h ∙ ap (λ k. old ++ binary 1 k) i ∙ ap (λ w. old ++ w) (bit_of_byte b)))

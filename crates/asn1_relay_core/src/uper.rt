@@ -4,7 +4,7 @@ ghost use Rattle.std.specs.Prelude.{◌≡◌, ◌≤◌, Some, None, MatchResul
 ghost use Rattle.asn1_model.specs.Numbers.{width};
 ghost use Rattle.asn1_model.specs.Value as Asn1Value;
 ghost use Rattle.asn1_relay_core.specs.Meaning.{schema_of, value_of, integer_between};
-ghost use Rattle.asn1_relay_core.specs.Writing.{Adds, Refuses};
+ghost use Rattle.asn1_relay_core.specs.Writing.{Adds, Refuses, text_by, bit_leaves};
 ghost use Rattle.asn1_relay_texts.specs.Texts.{bits_of};
 
 use crate::bits::{BitReader, BitWriter};
@@ -44,7 +44,7 @@ pub fn write_value(
     value: &Value,
     writer: &mut BitWriter,
 ) -> Result<(), EncodeError>
-    ensures { MatchResult result (λ _. Adds (bits_of (schema_of schema.now) (value_of value.now)) writer.old writer.new) (Refuses (bits_of (schema_of schema.now) (value_of value.now))) }
+    ensures { MatchResult result (λ _. Adds (text_by bit_leaves (schema_of schema.now) (value_of value.now)) writer.old writer.new) (Refuses (text_by bit_leaves (schema_of schema.now) (value_of value.now))) }
 {
     match schema {
         Schema::Boolean => {
