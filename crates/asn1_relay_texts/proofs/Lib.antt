@@ -1,3 +1,13 @@
 pub mod Carried
 pub mod Still
 pub mod Shapes
+pub mod Digits
+pub mod Widths
+pub mod Whole
+pub mod DigitReaders
+pub mod BitNumbers
+pub mod OctetNumbers
+pub mod OctetReaders
+pub mod BitTexts
+pub mod OctetTexts
+pub mod Machine

@@ -58,7 +58,7 @@ pub bits_more : (ts : List Tag) {s : Schema} {cs : Components} → Carried s →
 unfolding written Per.component_forms
 bits_more ts {s} {cs} h hs v ps =
     ap (λ x. option_and_then (λ a. option_map (λ b. a ++ b) (written (Per.component_forms false cs ps) (0 + length a))) (written x 0)) (spelled_bits h v (Per.form false s v))
-      ∙ chain_alike (bits_of s v) (λ a. option_map (λ b. a ++ b) (written (Per.component_forms false cs ps) (0 + length a))) (λ a. option_map (λ b. a ++ b) (bits_of_parts cs ps)) (λ a. ap (λ o. option_map (λ b. a ++ b) o) ((bit_parts_still hs ps).at (0 + length a)))
+    ∙ chain_alike (bits_of s v) (λ a. option_map (λ b. a ++ b) (written (Per.component_forms false cs ps) (0 + length a))) (λ a. option_map (λ b. a ++ b) (bits_of_parts cs ps)) (λ a. ap (λ o. option_map (λ b. a ++ b) o) ((bit_parts_still hs ps).at (0 + length a)))
 
 pub bits_each : (k : ℕ) (ss : List Schema) (vs : List Value) → each_is is_carried ss ≡ true → bits_of_parts (required_components k ss) (present_parts vs) ≡ each_text bits_of ss vs
 unfolding written Per.component_forms
@@ -68,7 +68,7 @@ bits_each k (s ∷ ss) [] h = refl
 bits_each k (s ∷ ss) (v ∷ vs) h =
     let p = and_parts (is_carried s) (each_is is_carried ss) h in
     bits_more (record { class = 2; number = k } ∷ []) (carried s p.0) (carried_each (required_components (k + 1) ss) (are_carried_required (k + 1) ss p.1)) v (present_parts vs)
-      ∙ ap (λ o. option_and_then (λ a. option_map (λ b. a ++ b) o) (bits_of s v)) (bits_each (k + 1) ss vs p.1)
+    ∙ ap (λ o. option_and_then (λ a. option_map (λ b. a ++ b) o) (bits_of s v)) (bits_each (k + 1) ss vs p.1)
 
 pub bits_sequence : (k : ℕ) (ss : List Schema) (vs : List Value) → each_is is_carried ss ≡ true → bits_of (sequence (required_components k ss) false no_component) (fields (present_parts vs) end) ≡ each_text bits_of ss vs
 bits_sequence k ss vs h = bits_fields (carried_each (required_components k ss) (are_carried_required k ss h)) (present_parts vs) ∙ bits_each k ss vs h
@@ -96,7 +96,7 @@ pub octets_more : (ts : List Tag) {s : Schema} {cs : Components} → Carried s �
 unfolding written Oer.component_forms
 octets_more ts {s} {cs} h hs v ps =
     ap (λ x. option_and_then (λ a. option_map (λ b. a ++ b) (written (Oer.component_forms cs ps) (0 + length a))) (written x 0)) (spelled_octets h v (Oer.form s v))
-      ∙ chain_alike (octets_of s v) (λ a. option_map (λ b. a ++ b) (written (Oer.component_forms cs ps) (0 + length a))) (λ a. option_map (λ b. a ++ b) (octets_of_parts cs ps)) (λ a. ap (λ o. option_map (λ b. a ++ b) o) ((octet_parts_still hs ps).at (0 + length a)))
+    ∙ chain_alike (octets_of s v) (λ a. option_map (λ b. a ++ b) (written (Oer.component_forms cs ps) (0 + length a))) (λ a. option_map (λ b. a ++ b) (octets_of_parts cs ps)) (λ a. ap (λ o. option_map (λ b. a ++ b) o) ((octet_parts_still hs ps).at (0 + length a)))
 
 pub octets_each : (k : ℕ) (ss : List Schema) (vs : List Value) → each_is is_carried ss ≡ true → octets_of_parts (required_components k ss) (present_parts vs) ≡ each_text octets_of ss vs
 unfolding written Oer.component_forms
@@ -106,7 +106,7 @@ octets_each k (s ∷ ss) [] h = refl
 octets_each k (s ∷ ss) (v ∷ vs) h =
     let p = and_parts (is_carried s) (each_is is_carried ss) h in
     octets_more (record { class = 2; number = k } ∷ []) (carried s p.0) (carried_each (required_components (k + 1) ss) (are_carried_required (k + 1) ss p.1)) v (present_parts vs)
-      ∙ ap (λ o. option_and_then (λ a. option_map (λ b. a ++ b) o) (octets_of s v)) (octets_each (k + 1) ss vs p.1)
+    ∙ ap (λ o. option_and_then (λ a. option_map (λ b. a ++ b) o) (octets_of s v)) (octets_each (k + 1) ss vs p.1)
 
 pub octets_sequence : (k : ℕ) (ss : List Schema) (vs : List Value) → each_is is_carried ss ≡ true → octets_of (sequence (required_components k ss) false no_component) (fields (present_parts vs) end) ≡ each_text octets_of ss vs
 octets_sequence k ss vs h = octets_fields (carried_each (required_components k ss) (are_carried_required k ss h)) (present_parts vs) ∙ octets_each k ss vs h
