@@ -4,3 +4,4 @@ pub mod Taking
 pub mod Widths
 pub mod Shapes
 pub mod Writers
+pub mod Integers

@@ -1,4 +1,7 @@
-use Rattle.std.proofs.Common.{◌≡◌, ℕ, length, MatchResult, subst, ap, sym, ◌∙◌}
+use mir.Val.{SFits}
+use mir.Syntax.{w128}
+use Rattle.std.proofs.lemmas.Int.{to_z-of_z}
+use Rattle.std.proofs.Common.{rules, ◌≡◌, ℕ, length, MatchResult, subst, ap, sym, ◌∙◌}
 use Rattle.std.proofs.lemmas.Result.{err_from_is_err_and}
 use Rattle.asn1_relay_core.specs.Writing.{bit_leaves, Adds, Refuses}
 use Rattle.asn1_relay_core.proofs.Writers.{number_at, no_truth, no_number, no_fields, uneven, refused_component, all_components}
@@ -32,4 +35,9 @@ returns-after-loop-place t c =
     all_components bit_leaves c.args.schema.now c.args.value.now c.in-Sequence.components c.in-Sequence-value.values c.deref-component-items.result.now c.loop-place.place c.args.writer.now c.loop-place.writer c.in-Sequence.is c.in-Sequence-value.is c.deref-component-items.ensures.value c.loop-place-test.false n c.loop-place.invariant
 
 pub returns-in-Integer-value : goal.returns-in-Integer-value
-returns-in-Integer-value t c = subst (λ o. MatchResult c.write_integer.result (λ x. Adds o c.args.writer.now c.write_integer.new.writer) (Refuses o)) (sym (number_at bit_leaves c.args.schema.now c.args.value.now c.in-Integer.low c.in-Integer.high c.in-Integer-value.number c.in-Integer.is c.in-Integer-value.is)) c.write_integer.ensures
+returns-in-Integer-value t c =
+    let low : SFits w128 c.in-Integer.low = search rules in
+    let high : SFits w128 c.in-Integer.high = search rules in
+    let fits : SFits w128 c.in-Integer-value.number = search rules in
+    let done = simp to_z-of_z at c.write_integer.ensures in
+    subst (λ o. MatchResult c.write_integer.result (λ x. Adds o c.args.writer.now c.write_integer.new.writer) (Refuses o)) (sym (number_at bit_leaves c.args.schema.now c.args.value.now c.in-Integer.low c.in-Integer.high c.in-Integer-value.number c.in-Integer.is c.in-Integer-value.is)) done
