@@ -5,3 +5,4 @@ pub mod Widths
 pub mod Shapes
 pub mod Writers
 pub mod Integers
+pub mod Readers

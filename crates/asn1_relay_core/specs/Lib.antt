@@ -1,3 +1,4 @@
 pub mod Bits
+pub mod Finding
 pub mod Meaning
 pub mod Writing

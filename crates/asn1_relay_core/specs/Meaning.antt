@@ -10,9 +10,13 @@ use Rattle.asn1_relay_core.specs.declared.schema.Value.{Value}
 use Rattle.asn1_relay_core.specs.declared.schema.Value.TheOpen as OpenValue
 use Rattle.asn1_relay_core.specs.declared.schema.Value.TheFolds.{fold-Value}
 
+-- two bounds
+abbrev pub range_between : ℤ → ℤ → Asn1.Range
+range_between low high = record { low = Some low; high = Some high }
+
 -- INTEGER between two bounds
 abbrev pub integer_between : ℤ → ℤ → Asn1.Schema
-integer_between low high = Asn1.integer (record { range = record { low = Some low; high = Some high }; extensible = false }) (record { low = None; high = None })
+integer_between low high = Asn1.integer (record { range = range_between low high; extensible = false }) (record { low = None; high = None })
 
 -- one level of a type, with the model's types in place of those of its components
 abbrev pub schema_step : OpenSchema.Schema-F Asn1.Schema → Asn1.Schema

@@ -3,8 +3,10 @@
 ghost use Rattle.std.specs.Prelude.{◌≡◌, ◌≤◌, Some, None, MatchResult};
 ghost use Rattle.asn1_model.specs.Numbers.{width};
 ghost use Rattle.asn1_model.specs.Value as Asn1Value;
-ghost use Rattle.asn1_relay_core.specs.Meaning.{schema_of, value_of, integer_between};
+ghost use Rattle.asn1_relay_core.specs.Finding.{Misses};
+ghost use Rattle.asn1_relay_core.specs.Meaning.{schema_of, value_of, integer_between, range_between};
 ghost use Rattle.asn1_relay_core.specs.Writing.{Adds, Refuses, text_by, bit_leaves};
+ghost use Rattle.asn1_relay_texts.specs.Reading.{read_bits, read_bit_number};
 ghost use Rattle.asn1_relay_texts.specs.Texts.{bits_of};
 
 use crate::bits::{BitReader, BitWriter};
@@ -77,7 +79,9 @@ pub fn write_value(
     }
 }
 
-fn read_integer(low: i128, high: i128, reader: &mut BitReader<'_>) -> Result<i128, DecodeError> {
+fn read_integer(low: i128, high: i128, reader: &mut BitReader<'_>) -> Result<i128, DecodeError>
+    ensures { MatchResult result (λ n. read_bit_number (range_between low high) reader.old ≡ Some (n, reader.new)) (Misses (read_bit_number (range_between low high) reader.old)) }
+{
     if high < low {
         return Err(DecodeError::ValueConstraintNotSatisfied);
     }
@@ -100,7 +104,9 @@ pub fn read_value(
     schema: &Schema,
     reader: &mut BitReader<'_>,
     levels: u32,
-) -> Result<Value, DecodeError> {
+) -> Result<Value, DecodeError>
+    ensures { MatchResult result (λ v. read_bits levels (schema_of schema.now) reader.old ≡ Some (value_of v, reader.new)) (Misses (read_bits levels (schema_of schema.now) reader.old)) }
+{
     match schema {
         Schema::Boolean => match reader.take_bit() {
             Some(truth) => Ok(Value::Boolean(truth)),
