@@ -11,3 +11,8 @@ pub mod OctetReaders
 pub mod BitTexts
 pub mod OctetTexts
 pub mod Machine
+pub mod Rigid
+pub mod Filling
+pub mod Messages
+pub mod Values
+pub mod Fronts

@@ -1,4 +1,5 @@
 pub mod Kinds
 pub mod Texts
 pub mod Reading
+pub mod Messages
 pub mod Laws

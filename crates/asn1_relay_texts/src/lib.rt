@@ -2,7 +2,7 @@
 //! All of it stands in `specs/`.
 #![tactic(auto)]
 
-ghost use Rattle.asn1_relay_texts.specs.Laws.{BitsReadAreThoseOfTheValue, BitsOfAValueAreRead, OctetsReadAreThoseOfTheValue, OctetsOfAValueAreRead};
+ghost use Rattle.asn1_relay_texts.specs.Laws.{BitsReadAreThoseOfTheValue, BitsOfAValueAreRead, OctetsReadAreThoseOfTheValue, OctetsOfAValueAreRead, UperMessages, CoerMessages, CanonicalMessages, OneFrontIsAnEncoding, CanonicalIsAnEncoding, ValuesOfTheTypeHaveTexts, BothEncodeTheSameValues};
 
 pub fn bits_read_are_those_of_the_value()
     ensures { BitsReadAreThoseOfTheValue }
@@ -18,4 +18,32 @@ pub fn octets_read_are_those_of_the_value()
 
 pub fn octets_of_a_value_are_read()
     ensures { OctetsOfAValueAreRead }
+{}
+
+pub fn uper_messages()
+    ensures { UperMessages }
+{}
+
+pub fn coer_messages()
+    ensures { CoerMessages }
+{}
+
+pub fn canonical_messages()
+    ensures { CanonicalMessages }
+{}
+
+pub fn one_front_is_an_encoding()
+    ensures { OneFrontIsAnEncoding }
+{}
+
+pub fn canonical_is_an_encoding()
+    ensures { CanonicalIsAnEncoding }
+{}
+
+pub fn values_of_the_type_have_texts()
+    ensures { ValuesOfTheTypeHaveTexts }
+{}
+
+pub fn both_encode_the_same_values()
+    ensures { BothEncodeTheSameValues }
 {}
