@@ -6,3 +6,4 @@ pub mod Shapes
 pub mod Writers
 pub mod Integers
 pub mod Readers
+pub mod Octets

@@ -6,7 +6,7 @@ use Rattle.std.proofs.lemmas.Bool.{eqb-true}
 use Rattle.std.proofs.lemmas.List.{append-nil, length-replicate, flat_map_more, replicate-append-replicate, take_more}
 use Rattle.std.proofs.Math.Nat.{pow-le-pow_right, zero-div}
 use Rattle.asn1_model.specs.Numbers.{binary}
-use Rattle.asn1_relay_core.specs.Bits.{filled}
+use Rattle.asn1_relay_texts.specs.Messages.{filled}
 use Rattle.asn1_relay_core.proofs.Digits.{binary_join, binary_cut, binary_low, binary_split, length-binary}
 
 pub joined_is : (r m k a : ℕ) → r < 2 ^ m → m < 8 → k ≤ 8 → a < 2 ^ k → bit_or (r * 2 ^ k % 65536) a ≡ r * 2 ^ k + a

@@ -4,8 +4,8 @@ use Rattle.std.proofs.lemmas.List.{append-nil}
 use Rattle.asn1_model.specs.Schema as Asn1
 use Rattle.asn1_model.specs.Value as Asn1Value
 use Rattle.asn1_relay_texts.specs.Texts.{read_each, required_components, present_parts}
-use Rattle.asn1_relay_texts.specs.Reading.{read_bits, read_bit_number}
-use Rattle.asn1_relay_texts.proofs.Shapes.{read_bits_sequence, read_bits_too_deep}
+use Rattle.asn1_relay_texts.specs.Reading.{read_bits, read_bit_number, read_octets, read_octet_number, read_octet_truth}
+use Rattle.asn1_relay_texts.proofs.Shapes.{read_bits_sequence, read_bits_too_deep, read_octets_sequence, read_octets_too_deep}
 use Rattle.asn1_relay_core.specs.Finding.{Misses}
 use Rattle.asn1_relay_core.specs.Meaning.{schema_of, value_of, integer_between, range_between}
 use Rattle.asn1_relay_core.proofs.Shapes.{schema_boolean, schema_integer, schema_sequence, value_boolean, value_integer, value_sequence}
@@ -127,3 +127,28 @@ bit_found n s b w rest d e = ap (λ x. read_bits n x w) (ap schema_of d ∙ sche
 
 pub bit_missed : (n : ℕ) (s : Schema) (w : List Bool) → s ≡ SB.Boolean → w ≡ [] → read_bits n (schema_of s) w ≡ None
 bit_missed n s w d e = ap (λ x. read_bits n x w) (ap schema_of d ∙ schema_boolean) ∙ ap (read_bits n Asn1.boolean) e ∙ read_bits_nothing n
+
+-- ---- the reader by COER
+
+pub read_octets_number : (n : ℕ) (low high : ℤ) (w : List ℕ) → read_octets n (integer_between low high) w ≡ option_map (λ f. (Asn1Value.number f.0, f.1)) (read_octet_number (range_between low high) w)
+unfolding read_octets
+read_octets_number n low high w = refl
+
+abbrev pub octet_reading : Reading ℕ
+octet_reading = record {
+  read = read_octets;
+  number = read_octet_number;
+  of_number = read_octets_number;
+  of_sequence = λ n ss w. read_octets_sequence n 0 ss w;
+  too_deep = λ ss w. read_octets_too_deep (required_components 0 ss) w;
+}
+
+read_octets_truth : (n : ℕ) (w : List ℕ) → read_octets n Asn1.boolean w ≡ read_octet_truth w
+unfolding read_octets
+read_octets_truth n w = refl
+
+pub truth_found : (n : ℕ) (s : Schema) (b : Bool) (w rest : List ℕ) → s ≡ SB.Boolean → read_octet_truth w ≡ Some (Asn1Value.truth b, rest) → read_octets n (schema_of s) w ≡ Some (value_of (VB.Boolean b), rest)
+truth_found n s b w rest d e = ap (λ x. read_octets n x w) (ap schema_of d ∙ schema_boolean) ∙ read_octets_truth n w ∙ e ∙ ap (λ v. Some (v, rest)) (sym (value_boolean b))
+
+pub truth_missed : (n : ℕ) (s : Schema) (w : List ℕ) (e : DecodeError) → s ≡ SB.Boolean → Misses (read_octet_truth w) e → Misses (read_octets n (schema_of s) w) e
+truth_missed n s w e d m = misses_also (read_octet_truth w) (read_octets n (schema_of s) w) e (λ z. ap (λ x. read_octets n x w) (ap schema_of d ∙ schema_boolean) ∙ read_octets_truth n w ∙ z) m

@@ -1,4 +1,3 @@
-pub mod Bits
 pub mod Finding
 pub mod Meaning
 pub mod Writing

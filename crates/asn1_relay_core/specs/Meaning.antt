@@ -1,5 +1,5 @@
 -- The types and values at run time as those of the model.
-use Rattle.std.specs.Prelude.{ℤ, false, Some, None}
+use Rattle.std.specs.Prelude.{ℕ, ℤ, pos, negsuc, false, Some, None}
 use Rattle.asn1_model.specs.Schema as Asn1
 use Rattle.asn1_model.specs.Value as Asn1Value
 use Rattle.asn1_relay_texts.specs.Texts.{required_components, present_parts}
@@ -37,3 +37,8 @@ value_step (OpenValue.Sequence v) = Asn1Value.fields (present_parts v.items) Asn
 -- the value of the model that a value at run time is
 abbrev pub value_of : Value → Asn1Value.Value
 value_of = fold-Value Asn1Value.Value value_step
+
+-- how many steps a whole number is from zero or, below that, from minus one
+abbrev pub magnitude : ℤ → ℕ
+magnitude (pos n) = n
+magnitude (negsuc n) = n

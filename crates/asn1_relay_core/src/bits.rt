@@ -2,7 +2,7 @@
 
 ghost use Rattle.std.specs.Prelude.{◌≡◌, ℕ, ◌+◌, ◌/◌, ◌^◌, ◌<◌, ◌≤◌, List, [], ◌∷◌, ◌++◌, length, OnOk, IfOk, IfSome, IfNone, MatchOption, Some, None};
 ghost use Rattle.asn1_model.specs.Numbers.{binary, octet_bits};
-ghost use Rattle.asn1_relay_core.specs.Bits.{filled};
+ghost use Rattle.asn1_relay_texts.specs.Messages.{filled};
 ghost use Rattle.asn1_relay_texts.specs.Texts.{read_bit_digits};
 
 use std::alloc::{AllocError, Global};
