@@ -2,7 +2,7 @@
 //! and the laws that make translation possible. All of it stands in `specs/`.
 #![tactic(auto)]
 
-ghost use Rattle.asn1_relay_texts.specs.Laws.{BitsReadAreThoseOfTheValue, BitsOfAValueAreRead, OctetsReadAreThoseOfTheValue, OctetsOfAValueAreRead, UperMessages, CoerMessages, CanonicalMessages, OneFrontIsAnEncoding, CanonicalIsAnEncoding, ValuesOfTheTypeHaveTexts, BothEncodeTheSameValues};
+ghost use Rattle.asn1_relay_texts.specs.Laws.{BitsReadAreThoseOfTheValue, BitsOfAValueAreRead, OctetsReadAreThoseOfTheValue, OctetsOfAValueAreRead, UperMessages, CoerMessages, CanonicalMessages, OneFrontIsAnEncoding, CanonicalIsAnEncoding, ValuesOfTheTypeHaveTexts, BothEncodeTheSameValues, ReadersFindTheFront};
 
 pub fn bits_read_are_those_of_the_value()
     ensures { BitsReadAreThoseOfTheValue }
@@ -46,4 +46,8 @@ pub fn values_of_the_type_have_texts()
 
 pub fn both_encode_the_same_values()
     ensures { BothEncodeTheSameValues }
+{}
+
+pub fn readers_find_the_front()
+    ensures { ReadersFindTheFront }
 {}
