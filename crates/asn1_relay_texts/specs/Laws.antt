@@ -71,3 +71,10 @@ FindsTheFront r front = (n : ℕ) (s : Schema) (w : List ℕ) → is_carried s �
 
 abbrev pub ReadersFindTheFront : Type 0
 ReadersFindTheFront = FindsTheFront uper uper_front × FindsTheFront coer coer_front
+
+-- What was translated from one set of rules to the other and is translated back is the canonical encoding that it came from.
+abbrev pub ThereAndBack : Rules → Rules → Type 0
+ThereAndBack r q = (s : Schema) (v u : Value) (w x : List ℕ) → is_carried s ≡ true → canonical r s v ≡ Some w → canonical q s v ≡ Some x → IsEncoding q s u x → canonical r s u ≡ Some w
+
+abbrev pub TranslatedThereAndBack : Type 0
+TranslatedThereAndBack = ThereAndBack uper coer × ThereAndBack coer uper
