@@ -1,21 +1,25 @@
 -- Numbers as octets, at run time.
 use mir.Syntax.{w128}
 use mir.Val.{SFits, of_z, to_z}
-use Rattle.std.proofs.Common.{◌≡◌, ℕ, zero, suc, ◌+◌, ◌-◌, ◌*◌, ◌/◌, ◌%◌, ◌^◌, ◌<◌, ◌≤◌, ℤ, pos, negsuc, Bool, true, false, cond, ltb, List, [], ◌∷◌, ◌++◌, length, take, drop, refl, ap, sym, subst, ◌∙◌, arith, inl, inr, append_assoc, bit_and, pow-suc, add-one}
+use Rattle.std.proofs.Common.{◌≡◌, ℕ, zero, suc, ◌+◌, ◌-◌, ◌*◌, ◌/◌, ◌%◌, ◌^◌, ◌<◌, ◌≤◌, ℤ, pos, negsuc, Bool, true, false, cond, ltb, leb, max, Option, Some, None, ◌-ℤ◌, ◌<ℤ◌, ◌≤ℤ◌, List, [], ◌∷◌, ◌++◌, length, take, drop, refl, ap, sym, subst, ◌∙◌, arith, inl, inr, append_assoc, bit_and, pow-suc, add-one}
 use Rattle.std.specs.Int.Count.{count_leading_zeros}
 use Rattle.std.proofs.Math.Nat.{pow-le-pow_right}
 use Rattle.std.proofs.lemmas.Nat.{and_mask, pow_pos, pow-add, div-mul-add}
 use Rattle.std.proofs.lemmas.Int.{ints}
-use Rattle.std.proofs.lemmas.Bool.{lt-ltb, le-ltb, cases_lt}
+use Rattle.std.proofs.lemmas.Bool.{lt-ltb, le-ltb, leb-true, cases_lt}
 use Rattle.std.proofs.Math.Nat.{div-lt_iff_lt-mul, div-eq_of_lt}
-use Rattle.asn1_relay_texts.specs.Reading.{signed_number}
-use Rattle.asn1_model.specs.Numbers.{digits, number_after, width, signed_octets, fits_128}
-use Rattle.asn1_relay_texts.proofs.Widths.{power_octets}
+use Rattle.asn1_relay_texts.specs.Reading.{signed_number, fixed_between}
+use lib.Signed.{mag}
+use Rattle.asn1_model.specs.Numbers.{digits, number_after, width, least_octets, signed_octets, is_within, fits_128}
+use Rattle.asn1_model.specs.Oer.{fixed_octets}
+use Rattle.asn1_model.specs.Value as Asn1Value
+use Rattle.asn1_relay_texts.specs.Texts.{octets_of}
+use Rattle.asn1_relay_texts.proofs.Widths.{power_octets, below_places}
 use Rattle.asn1_relay_texts.proofs.Digits.{power_pos}
-use Rattle.asn1_relay_texts.proofs.Whole.{fits_from_range}
-use Rattle.asn1_relay_texts.proofs.Machine.{width_of_128}
-use Rattle.asn1_relay_texts.proofs.OctetNumbers.{signed_of_fits}
-use Rattle.asn1_relay_core.specs.Meaning.{magnitude}
+use Rattle.asn1_relay_texts.proofs.Whole.{fits_from_range, signed_octets_by_mag, between_pos, between_signed}
+use Rattle.asn1_relay_texts.proofs.Machine.{width_of_128, complement_of_128}
+use Rattle.asn1_relay_texts.proofs.OctetNumbers.{signed_of_fits, octets_integer_inside, octets_integer_outside, natural_text, signed_text}
+use Rattle.asn1_relay_core.specs.Meaning.{magnitude, range_between, integer_between}
 
 -- ---- one more octet
 
@@ -97,3 +101,49 @@ high_number k n d l m f h e =
     let c = half_most k m in
     let w = twice_half k l in
     (omega (arith, w, c), ap negsuc e ∙ sym (ap (λ x. cond x (pos n) (negsuc (256 ^ k - 1 - n))) t))
+
+pub negative_at : (d : ℕ) → d < 2 ^ 127 → to_z w128 (of_z w128 (negsuc 0 -ℤ to_z w128 (of_z w128 (to_z w128 d)))) ≡ negsuc d
+negative_at d h = omega (arith, ints)
+
+-- ---- the octets of an INTEGER between two bounds
+
+pub octets_outside : (low high v : ℤ) → SFits w128 low → SFits w128 high → is_within (range_between low high) v ≡ false → octets_of (integer_between low high) (Asn1Value.number v) ≡ None
+octets_outside low high v f g h = octets_integer_outside low high v (fits_from_range low f) (fits_from_range high g) h
+
+rounded_most : (n k : ℕ) → fixed_octets n ≡ Some k → n ≤ k
+rounded_most n k e = go (leb n 1) (leb n 2) (leb n 4) (leb n 8) refl refl refl refl e
+  where
+    go : (a b c d : Bool) → leb n 1 ≡ a → leb n 2 ≡ b → leb n 4 ≡ c → leb n 8 ≡ d → cond a (Some 1) (cond b (Some 2) (cond c (Some 4) (cond d (Some 8) None))) ≡ Some k → n ≤ k
+    go true b c d h i j l e = let x : k ≡ 1 = cc in let y = leb-true n 1 h in omega arith
+    go false true c d h i j l e = let x : k ≡ 2 = cc in let y = leb-true n 2 i in omega arith
+    go false false true d h i j l e = let x : k ≡ 4 = cc in let y = leb-true n 4 j in omega arith
+    go false false false true h i j l e = let x : k ≡ 8 = cc in let y = leb-true n 8 l in omega arith
+    go false false false false h i j l e = cc
+
+signed_small : (v : ℤ) (k : ℕ) → signed_octets v ≤ k → mag v < 256 ^ k
+signed_small v k h =
+    let e = signed_octets_by_mag v in
+    let w : width (mag v) ≤ 8 * k = omega (arith, e) in
+    rw (power_octets k) (below_places 2 (mag v) (8 * k) (omega arith) w)
+
+pub octets_fixed : (low high v : ℤ) (k : ℕ) → SFits w128 low → SFits w128 high → is_within (range_between low high) v ≡ true → fixed_between low high ≡ Some k → k ≤ 8 → octets_of (integer_between low high) (Asn1Value.number v) ≡ Some (digits 256 k (of_z w128 v))
+octets_fixed (pos low) high v k f g h e m =
+    let n = between_pos low high v h in
+    octets_integer_inside (pos low) high v (fits_from_range (pos low) f) (fits_from_range high g) h ∙ ap (λ o. natural_text o v) e ∙ ap (natural_text (Some k)) n.1 ∙ sym (ap (λ z. Some (digits 256 k (of_z w128 z))) n.1)
+octets_fixed (negsuc low) high v k f g h e m =
+    let s = between_signed (negsuc low) high v h in
+    let r = rounded_most (max (signed_octets (negsuc low)) (signed_octets high)) k e in
+    let c = complement_of_128 k v (omega arith) (signed_small v k (omega (arith, s, r))) in
+    octets_integer_inside (negsuc low) high v (fits_from_range (negsuc low) f) (fits_from_range high g) h ∙ ap (λ o. Some (signed_text o v)) e ∙ ap Some (sym c)
+
+pub octets_signed : (low high v : ℤ) → SFits w128 low → SFits w128 high → SFits w128 v → low <ℤ pos 0 → is_within (range_between low high) v ≡ true → fixed_between low high ≡ None → octets_of (integer_between low high) (Asn1Value.number v) ≡ Some (signed_octets v ∷ digits 256 (signed_octets v) (of_z w128 v))
+octets_signed (pos low) high v f g i n h e = absurd (omega (arith, ints))
+octets_signed (negsuc low) high v f g i n h e =
+    let c = complement_of_128 (signed_octets v) v (signed_octets_most v i) (signed_small v (signed_octets v) (omega arith)) in
+    octets_integer_inside (negsuc low) high v (fits_from_range (negsuc low) f) (fits_from_range high g) h ∙ ap (λ o. Some (signed_text o v)) e ∙ ap (λ l. Some (signed_octets v ∷ l)) (sym c)
+
+pub octets_unsigned : (low high v : ℤ) → SFits w128 low → SFits w128 high → pos 0 ≤ℤ low → is_within (range_between low high) v ≡ true → fixed_between low high ≡ None → octets_of (integer_between low high) (Asn1Value.number v) ≡ Some (least_octets (of_z w128 v) ∷ digits 256 (least_octets (of_z w128 v)) (of_z w128 v))
+octets_unsigned (negsuc low) high v f g n h e = absurd (omega (arith, ints))
+octets_unsigned (pos low) high v f g n h e =
+    let n = between_pos low high v h in
+    octets_integer_inside (pos low) high v (fits_from_range (pos low) f) (fits_from_range high g) h ∙ ap (λ o. natural_text o v) e ∙ ap (natural_text None) n.1 ∙ sym (ap (λ z. Some (least_octets (of_z w128 z) ∷ digits 256 (least_octets (of_z w128 z)) (of_z w128 z))) n.1)

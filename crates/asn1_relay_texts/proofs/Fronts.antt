@@ -1,7 +1,8 @@
 -- Of the fronts of some octets one at most is an encoding, of one value; and both sets of rules encode the same values.
-use Rattle.std.proofs.Common.{◌≡◌, ℕ, ◌<◌, ◌^◌, ltb, Bool, true, false, cond, List, ◌++◌, length, Option, Some, None, option_map, option_and_then, refl, ap, sym, ◌∙◌, subst, append_assoc, arith}
+use Rattle.std.proofs.Common.{◌≡◌, ℕ, ◌<◌, ◌^◌, ltb, Bool, true, false, cond, List, [], ◌++◌, length, Option, Some, None, option_map, option_and_then, refl, ap, sym, ◌∙◌, subst, append_assoc, arith}
 use Rattle.std.specs.Prelude.{max}
 use Rattle.std.proofs.lemmas.Bool.{ltb-true}
+use Rattle.std.proofs.lemmas.List.{append-nil}
 use Rattle.asn1_model.specs.Schema.{Schema}
 use Rattle.asn1_model.specs.Value.{Value, depth}
 use Rattle.asn1_model.specs.Numbers.{octet_bits}
@@ -13,11 +14,11 @@ use Rattle.asn1_relay_texts.specs.Kinds.{is_carried, is_value_of}
 use Rattle.asn1_relay_texts.specs.Texts.{bits_of, octets_of}
 use Rattle.asn1_relay_texts.specs.Reading.{read_bits, read_octets}
 use Rattle.asn1_relay_texts.specs.Messages.{packed_message, IsBitMessage}
-use Rattle.asn1_relay_texts.specs.Laws.{Encodes}
+use Rattle.asn1_relay_texts.specs.Laws.{Encodes, ThereAndBack}
 use Rattle.asn1_relay_texts.proofs.DigitReaders.{each_parts}
 use Rattle.asn1_relay_texts.proofs.BitTexts.{bits_read_again}
 use Rattle.asn1_relay_texts.proofs.OctetTexts.{octets_read_again}
-use Rattle.asn1_relay_texts.proofs.Filling.{fronts_equal, octet_bits_append, message_is, message_length, length-message, message_front}
+use Rattle.asn1_relay_texts.proofs.Filling.{message_octets, fronts_equal, octet_bits_append, message_is, message_length, length-message, message_front}
 use Rattle.asn1_relay_texts.proofs.Messages.{uper_bits, bits_uper, coer_octets, octets_coer, uper_encoding, coer_encoding, canonical_is}
 use Rattle.asn1_relay_texts.proofs.Values.{values_have_bits, values_have_octets}
 
@@ -127,3 +128,23 @@ encodes_uper s v h = (of_value uper s v h (values_have_uper s v h), of_no_value 
 
 pub encodes_coer : Encodes coer
 encodes_coer s v h = (of_value coer s v h (values_have_coer s v h), of_no_value coer s v h (values_have_coer s v h), λ w o e. encoded_is_value_coer s v w h e)
+
+-- ---- there and back
+canonical_octets : (s : Schema) (v : Value) (w : List ℕ) → is_carried s ≡ true → canonical uper s v ≡ Some w → each_is is_octet w ≡ true
+canonical_octets s v w h e =
+    let p = canonical_parts uper s v w h e in
+    let q = map_parts (bits_of s v) packed_message w (sym (uper_encoding s v) ∙ p.0) in
+    subst (λ l. each_is is_octet l ≡ true) q.2 (message_octets q.0)
+
+pub back_from_coer : ThereAndBack uper coer
+back_from_coer s v u w x h e f g =
+    let c = coer_octets s v x h (canonical_is_coer s v x h f) in
+    let d = coer_octets s u x h g in
+    let z = one_octets_front s v u x x [] [] h c.1 d.1 refl in
+    ap (canonical uper s) (sym z.1) ∙ e
+
+pub back_from_uper : ThereAndBack coer uper
+back_from_uper s v u w x h e f g =
+    let o : each_is is_octet (x ++ []) ≡ true = ap (each_is is_octet) (append-nil x) ∙ canonical_octets s v x h f in
+    let z = one_uper_front s v u x x [] [] h o (canonical_is_uper s v x h f) g refl in
+    ap (canonical coer s) (sym z.1) ∙ e

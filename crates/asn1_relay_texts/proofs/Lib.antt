@@ -16,3 +16,4 @@ pub mod Filling
 pub mod Messages
 pub mod Values
 pub mod Fronts
+pub mod Found

@@ -9,9 +9,12 @@ use Rattle.std.specs.Prelude.{ℤ, pos, negsuc, ◌-ℤ◌, max}
 use Rattle.std.proofs.lemmas.Int.{ints}
 use Rattle.std.proofs.lemmas.Nat.{pow-add}
 use Rattle.std.proofs.Math.Nat.{add-mul-mod_self_right, mul-le-mul_right}
-use Rattle.asn1_model.specs.Numbers.{digits, width, octet_width, least_octets, signed_octets, complement, natural, above, fits_128}
+use Rattle.std.proofs.Common.{leb, ltb, Bool, true, false, cond, Some, None, ⊎_elim}
+use Rattle.std.proofs.lemmas.Bool.{le-leb, lt-leb, ltb-true, ltb-false, cases_lt}
+use Rattle.asn1_model.specs.Oer.{fixed_octets}
+use Rattle.asn1_model.specs.Numbers.{digits, width, octet_width, least_octets, signed_octets, complement, natural, above, fits_128, places}
 use Rattle.asn1_relay_texts.proofs.Digits.{digits_same, power_pos}
-use Rattle.asn1_relay_texts.proofs.Widths.{octet_width_by_bits, width_by_zeros, places_at_most}
+use Rattle.asn1_relay_texts.proofs.Widths.{octet_width_by_bits, width_by_zeros, places_at_most, below_places}
 use Rattle.asn1_relay_texts.proofs.Whole.{mag_of_fits, signed_octets_by_mag, above_parts}
 
 -- ---- how far one number is above another
@@ -73,3 +76,19 @@ complement_of_128 k (negsuc m) h l =
     let u : 1 * 256 ^ k ≤ suc j * 256 ^ k = mul-le-mul_right (256 ^ k) (omega arith) in
     let f : 2 ^ 128 - suc m + suc m ≡ suc j * 256 ^ k = omega arith in
     complement_by_sum k m (2 ^ 128 - suc m) j l f
+
+-- ---- the octets of a fixed form, by the greatest number
+places_test : (base n k : ℕ) → 1 < base → leb (places base n) k ≡ ltb n (base ^ k)
+places_test base n k h = go (ltb n (base ^ k)) refl
+  where
+    go : (t : Bool) → ltb n (base ^ k) ≡ t → leb (places base n) k ≡ t
+    go true e = le-leb _ _ (places_at_most base n k h (ltb-true _ _ e))
+    go false e = lt-leb _ _ (⊎_elim (λ l. l) (λ l. absurd (let a = below_places base n k h l in let b = ltb-false _ _ e in omega arith)) (cases_lt k (places base n)))
+
+pub fixed_by_greatest : (n : ℕ) → fixed_octets (octet_width n) ≡ cond (ltb n (2 ^ 8)) (Some 1) (cond (ltb n (2 ^ 16)) (Some 2) (cond (ltb n (2 ^ 32)) (Some 4) (cond (ltb n (2 ^ 64)) (Some 8) None)))
+fixed_by_greatest n =
+    let a : leb (octet_width n) 1 ≡ ltb n (2 ^ 8) = places_test 256 n 1 (omega arith) in
+    let b : leb (octet_width n) 2 ≡ ltb n (2 ^ 16) = places_test 256 n 2 (omega arith) in
+    let c : leb (octet_width n) 4 ≡ ltb n (2 ^ 32) = places_test 256 n 4 (omega arith) in
+    let d : leb (octet_width n) 8 ≡ ltb n (2 ^ 64) = places_test 256 n 8 (omega arith) in
+    rw (a, b, c, d) refl

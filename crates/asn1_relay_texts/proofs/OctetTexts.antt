@@ -1,7 +1,7 @@
 -- What is read stood in front as the text of its value, and what stands in front is read: by COER.
 use Rattle.std.proofs.Common.{◌≡◌, ℕ, zero, suc, ◌≤◌, ◌==◌, Bool, true, false, cond, List, [], ◌∷◌, ◌++◌, Option, Some, None, option_map, option_and_then, refl, ap, sym, ◌∙◌, subst, append_assoc, arith}
 use Rattle.std.proofs.lemmas.Bool.{eqb-true}
-use Rattle.asn1_model.specs.Schema.{required, Schema, boolean, Components, no_component, component}
+use Rattle.asn1_model.specs.Schema.{Tag, required, Schema, boolean, Components, no_component, component}
 use Rattle.asn1_model.specs.Value.{Value, truth, number, fields, Parts, end, absent, present, depth, depth_of_parts}
 use Rattle.asn1_model.specs.Form.{written}
 use Rattle.asn1_model.specs.Strings.{each_is, is_octet}
@@ -34,6 +34,9 @@ two_fronts w a b l r h k = h ∙ ap (λ x. a ++ x) k ∙ sym (append_assoc a b r
 
 two_texts : (o u : Option (List ℕ)) (a b : List ℕ) → o ≡ Some a → u ≡ Some b → option_and_then (λ a. option_map (λ b. a ++ b) u) o ≡ Some (a ++ b)
 two_texts o u a b h k = rw (h, k) refl
+
+more_text : (ts : List Tag) {s : Schema} {cs : Components} → Carried s → CarriedEach cs → (v : Value) (ps : Parts) (a b : List ℕ) → octets_of s v ≡ Some a → octets_of_parts cs ps ≡ Some b → octets_of_parts (component ts required s cs) (present v ps) ≡ Some (a ++ b)
+more_text ts {s} {cs} h hs v ps a b e f = octets_more ts h hs v ps ∙ two_texts (octets_of s v) (octets_of_parts cs ps) a b e f
 
 octets_behind : (w a r : List ℕ) → w ≡ a ++ r → each_is is_octet w ≡ true → each_is is_octet r ≡ true
 octets_behind w a r e h = (each_parts is_octet a r (ap (each_is is_octet) (sym e) ∙ h)).1
@@ -81,7 +84,7 @@ mutual
       let d = y.deep in
       subst (FoundParts n _ w) q.2 (record {
         a = x.a ++ y.a;
-        text = octets_more ts h hs p.0.0 q.0.0 ∙ two_texts (octets_of s p.0.0) (octets_of_parts cs q.0.0) x.a y.a x.text y.text;
+        text = more_text ts h hs p.0.0 q.0.0 x.a y.a x.text y.text;
         front = two_fronts w x.a y.a p.0.1 q.0.1 x.front y.front;
         deep = omega arith;
       })

@@ -1,5 +1,5 @@
 -- Laws of the texts of the carried types.
-use Rattle.std.specs.Prelude.{◌≡◌, ℕ, ◌≤◌, Bool, true, false, List, ◌++◌, Some, None, option_map, option_and_then}
+use Rattle.std.specs.Prelude.{◌≡◌, ℕ, ◌^◌, ◌<◌, ◌≤◌, Bool, true, false, List, ◌++◌, length, Option, Some, None, option_map, option_and_then}
 use Rattle.asn1_model.specs.Schema.{Schema}
 use Rattle.asn1_model.specs.Value.{Value, depth}
 use Rattle.asn1_model.specs.Strings.{each_is, is_octet}
@@ -8,6 +8,7 @@ use Rattle.asn1_model.specs.Rules.{Rules, uper, coer, encoding, canonical, of_mo
 use Rattle.asn1_relay_texts.specs.Kinds.{is_carried, is_value_of}
 use Rattle.asn1_relay_texts.specs.Texts.{bits_of, octets_of}
 use Rattle.asn1_relay_texts.specs.Reading.{read_bits, read_octets}
+use Rattle.asn1_relay_texts.specs.Fronts.{uper_front, coer_front, IsFront, HasNoFront}
 use Rattle.asn1_relay_texts.specs.Messages.{packed_message, IsUperMessage, IsCoerMessage}
 
 -- The bits that are read are those of the value, which nests no deeper than allowed.
@@ -63,3 +64,17 @@ Encodes r = (s : Schema) (v : Value) → is_carried s ≡ true → (is_value_of 
 -- So both sets of rules encode the same values.
 abbrev pub BothEncodeTheSameValues : Type 0
 BothEncodeTheSameValues = Encodes uper × Encodes coer
+
+-- A reader finds the front of some octets that is an encoding, and finds none only where there is none.
+abbrev pub FindsTheFront : Rules → (ℕ → Schema → List ℕ → Option (Value × ℕ)) → Type 0
+FindsTheFront r front = (n : ℕ) (s : Schema) (w : List ℕ) → is_carried s ≡ true → each_is is_octet w ≡ true → length w < 2 ^ 60 → ((f : Value × ℕ) → front n s w ≡ Some f → IsFront r n s w f) × (front n s w ≡ None → HasNoFront r n s w)
+
+abbrev pub ReadersFindTheFront : Type 0
+ReadersFindTheFront = FindsTheFront uper uper_front × FindsTheFront coer coer_front
+
+-- What was translated from one set of rules to the other and is translated back is the canonical encoding that it came from.
+abbrev pub ThereAndBack : Rules → Rules → Type 0
+ThereAndBack r q = (s : Schema) (v u : Value) (w x : List ℕ) → is_carried s ≡ true → canonical r s v ≡ Some w → canonical q s v ≡ Some x → IsEncoding q s u x → canonical r s u ≡ Some w
+
+abbrev pub TranslatedThereAndBack : Type 0
+TranslatedThereAndBack = ThereAndBack uper coer × ThereAndBack coer uper
