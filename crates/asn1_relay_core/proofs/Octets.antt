@@ -1,7 +1,7 @@
 -- Numbers as octets, at run time.
 use mir.Syntax.{w128}
 use mir.Val.{SFits, of_z, to_z}
-use Rattle.std.proofs.Common.{◌≡◌, ℕ, zero, suc, ◌+◌, ◌-◌, ◌*◌, ◌/◌, ◌%◌, ◌^◌, ◌<◌, ◌≤◌, ℤ, pos, negsuc, Bool, true, false, cond, ltb, leb, max, Option, Some, None, ◌-ℤ◌, ◌<ℤ◌, ◌≤ℤ◌, List, [], ◌∷◌, ◌++◌, length, take, drop, refl, ap, sym, subst, ◌∙◌, arith, inl, inr, append_assoc, bit_and, pow-suc, add-one}
+use Rattle.std.proofs.Common.{◌≡◌, ℕ, zero, suc, ◌+◌, ◌-◌, ◌*◌, ◌/◌, ◌%◌, ◌^◌, ◌<◌, ◌≤◌, ℤ, pos, negsuc, Bool, true, false, cond, ltb, leb, max, Option, Some, None, option_map, Result, Ok, Err, MatchResult, ◌-ℤ◌, ◌<ℤ◌, ◌≤ℤ◌, List, [], ◌∷◌, ◌++◌, length, take, drop, refl, ap, sym, subst, ◌∙◌, arith, inl, inr, append_assoc, bit_and, pow-suc, add-one}
 use Rattle.std.specs.Int.Count.{count_leading_zeros}
 use Rattle.std.proofs.Math.Nat.{pow-le-pow_right}
 use Rattle.std.proofs.lemmas.Nat.{and_mask, pow_pos, pow-add, div-mul-add}
@@ -19,7 +19,15 @@ use Rattle.asn1_relay_texts.proofs.Digits.{power_pos}
 use Rattle.asn1_relay_texts.proofs.Whole.{fits_from_range, signed_octets_by_mag, between_pos, between_signed}
 use Rattle.asn1_relay_texts.proofs.Machine.{width_of_128, complement_of_128}
 use Rattle.asn1_relay_texts.proofs.OctetNumbers.{signed_of_fits, octets_integer_inside, octets_integer_outside, natural_text, signed_text}
-use Rattle.asn1_relay_core.specs.Meaning.{magnitude, range_between, integer_between}
+use Rattle.asn1_relay_core.specs.Meaning.{magnitude, range_between, integer_between, schema_of, value_of}
+use Rattle.asn1_relay_core.specs.Writing.{text_by, octet_leaves, Adds, Refuses}
+use Rattle.asn1_relay_core.specs.declared.errors.EncodeError.{EncodeError}
+use Rattle.asn1_relay_core.specs.declared.errors.EncodeError.TheVariants.{OutOfMemory}
+use Rattle.asn1_relay_core.specs.declared.schema.Schema.{Schema}
+use Rattle.asn1_relay_core.specs.declared.schema.Schema as SB
+use Rattle.asn1_relay_core.specs.declared.schema.Value.{Value}
+use Rattle.asn1_relay_core.specs.declared.schema.Value as VB
+use Rattle.asn1_relay_core.proofs.Writers.{truth_at}
 
 -- ---- one more octet
 
@@ -147,3 +155,12 @@ octets_unsigned (negsuc low) high v f g n h e = absurd (omega (arith, ints))
 octets_unsigned (pos low) high v f g n h e =
     let n = between_pos low high v h in
     octets_integer_inside (pos low) high v (fits_from_range (pos low) f) (fits_from_range high g) h ∙ ap (λ o. natural_text o v) e ∙ ap (natural_text None) n.1 ∙ sym (ap (λ z. Some (least_octets (of_z w128 z) ∷ digits 256 (least_octets (of_z w128 z)) (of_z w128 z))) n.1)
+
+-- ---- what the writer did
+
+pub pushed : (r : Result (Unit {0}) EncodeError) (o : Option (List ℕ)) (w old new : List ℕ) → o ≡ Some w → MatchResult r (λ x. new ≡ old ++ w) (λ e. e ≡ OutOfMemory) → MatchResult r (λ x. Adds o old new) (Refuses o)
+pushed (Ok u) o w old new e h = ap (option_map (λ x. old ++ x)) e ∙ ap Some (sym h)
+pushed (Err x) o w old new e h = subst (λ y. Refuses o y) (sym h) tt
+
+pub adds_truth : (s : Schema) (v : Value) (b : Bool) (x : ℕ) (old now : List ℕ) → s ≡ SB.Boolean → v ≡ VB.Boolean b → x ≡ cond b 255 0 → now ≡ old ++ x ∷ [] → Adds (text_by octet_leaves (schema_of s) (value_of v)) old now
+adds_truth s v b x old now e d i h = ap (option_map (λ w. old ++ w)) (truth_at octet_leaves s v b e d) ∙ ap Some (sym (h ∙ ap (λ k. old ++ k ∷ []) i))

@@ -1,11 +1,13 @@
 use mir.Val.{SFits}
 use mir.Syntax.{w128}
 use Rattle.std.proofs.lemmas.Int.{to_z-of_z}
-use Rattle.std.proofs.Common.{rules, ◌≡◌, ℕ, length, MatchResult, subst, ap, sym, ◌∙◌}
+use Rattle.std.proofs.Common.{rules, cond, ◌≡◌, ℕ, length, MatchResult, subst, ap, sym, ◌∙◌}
 use Rattle.std.proofs.lemmas.Result.{err_from_is_err_and}
 use Rattle.asn1_relay_core.specs.Writing.{octet_leaves, Adds, Refuses}
 use Rattle.asn1_relay_core.proofs.Writers.{number_at, no_truth, no_number, no_fields, uneven, refused_component, all_components}
+use Rattle.asn1_relay_core.proofs.Octets.{adds_truth}
 use Rattle.asn1_relay_core.proofs.coer.+write_value.Goals as goal
+use Rattle.asn1_relay_core.proofs.coer.+write_value.Goals.{then-truth, else-truth}
 
 pub returns-in_default : goal.returns-in_default
 returns-in_default t c = no_truth octet_leaves c.args.schema.now c.args.value.now c.in-Boolean.is c.in_default.not-Boolean
@@ -37,3 +39,9 @@ returns-in-Integer-value t c =
     let fits : SFits w128 c.in-Integer-value.number = search rules in
     let done = simp to_z-of_z at c.write_integer.ensures in
     subst (λ o. MatchResult c.write_integer.result (λ x. Adds o c.args.octets.now.items c.write_integer.new.octets.items) (Refuses o)) (sym (number_at octet_leaves c.args.schema.now c.args.value.now c.in-Integer.low c.in-Integer.high c.in-Integer-value.number c.in-Integer.is c.in-Integer-value.is)) done
+
+pub returns-in-Ok : goal.returns-in-Ok
+returns-in-Ok t c =
+    adds_truth c.args.schema.now c.args.value.now c.in-Boolean-value.truth c.if-truth.push c.args.octets.now.items c.push.new.self.items c.in-Boolean.is c.in-Boolean-value.is
+      (elim c.if-truth.branch [ then-truth w ↦ w.push-is ∙ sym (ap (λ b. cond b 255 0) w.if-truth.true) | else-truth w ↦ w.push-is ∙ sym (ap (λ b. cond b 255 0) w.if-truth.false) ])
+      c.in-Ok.ensures.items
