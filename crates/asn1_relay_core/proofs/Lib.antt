@@ -7,3 +7,4 @@ pub mod Writers
 pub mod Integers
 pub mod Readers
 pub mod Octets
+pub mod Whole

@@ -1,8 +1,10 @@
 -- Bits behind octets and fewer than eight further bits.
-use Rattle.std.proofs.Common.{◌≡◌, ℕ, zero, suc, ◌+◌, ◌-◌, ◌*◌, ◌/◌, ◌%◌, ◌^◌, ◌<◌, ◌≤◌, ◌≢◌, ◌==◌, Bool, true, false, List, [], ◌∷◌, ◌++◌, length, refl, ap, sym, subst, ◌∙◌, append_assoc, length-append, arith, bit_or, bit_and, ◌==◌, true, false, replicate, get_or, take}
+use Rattle.std.proofs.Common.{◌≡◌, ℕ, zero, suc, ◌+◌, ◌-◌, ◌*◌, ◌/◌, ◌%◌, ◌^◌, ◌<◌, ◌≤◌, ◌≢◌, ◌==◌, Bool, true, false, ◌&&◌, List, [], ◌∷◌, ◌++◌, length, refl, ap, sym, subst, ◌∙◌, append_assoc, length-append, arith, bit_or, bit_and, ◌==◌, true, false, replicate, get_or, take}
 use Rattle.std.specs.Prelude.{flat_map}
 use Rattle.std.proofs.lemmas.Nat.{or_shifted, shl_whole, shl_below, or_lt, and_mask, one_shl, shr_split, pow_pos}
-use Rattle.std.proofs.lemmas.Bool.{eqb-true}
+use Rattle.std.proofs.lemmas.Bool.{eqb-true, lt-ltb}
+use Rattle.asn1_model.specs.Strings.{each_is, is_octet}
+use Rattle.asn1_relay_texts.proofs.DigitReaders.{each_join}
 use Rattle.std.proofs.lemmas.List.{append-nil, length-replicate, flat_map_more, replicate-append-replicate, take_more}
 use Rattle.std.proofs.Math.Nat.{pow-le-pow_right, zero-div}
 use Rattle.asn1_model.specs.Numbers.{binary}
@@ -105,3 +107,9 @@ filling_whole (o ∷ os) c r e h =
     let b : List Bool = flat_map (binary 8) (o ∷ os) ++ binary c r in
     let n : length b ≡ length (o ∷ os) * 8 + c = length-append (flat_map (binary 8) (o ∷ os)) (binary c r) ∙ (omega (arith, length-octets (o ∷ os), length-binary c r)) in
     append-nil b ∙ filled_whole b (length b) refl (omega (arith, n)) (omega (arith, n))
+
+pub masked_lt : (J k : ℕ) → k < 8 → bit_and J (1 * 2 ^ k % 65536 - 1) < 2 ^ k
+masked_lt J k h = let p = pow_pos k in let e = ap (λ x. bit_and J (x - 1)) (one_shl k 16 (omega arith)) ∙ and_mask J k in let m : J % 2 ^ k < 2 ^ k = omega arith in rw e m
+
+pub octets_and_one : (os now : List ℕ) (x : ℕ) → each_is is_octet os ≡ true → x < 256 → now ≡ os ++ x ∷ [] → each_is is_octet now ≡ true
+octets_and_one os now x h l e = ap (each_is is_octet) e ∙ each_join is_octet os (x ∷ []) h (ap (λ b. b && true) (lt-ltb x 256 l))

@@ -2,7 +2,7 @@
 
 ghost use Rattle.std.specs.Prelude.{◌≡◌, ℕ, ◌+◌, ◌/◌, ◌^◌, ◌<◌, ◌≤◌, List, [], ◌∷◌, ◌++◌, length, OnOk, IfOk, IfSome, IfNone, MatchOption, Some, None};
 ghost use Rattle.asn1_model.specs.Numbers.{binary, octet_bits};
-ghost use Rattle.asn1_relay_texts.specs.Messages.{filled};
+ghost use Rattle.asn1_relay_texts.specs.Messages.{filled, packed_message};
 ghost use Rattle.asn1_relay_texts.specs.Texts.{read_bit_digits};
 
 use std::alloc::{AllocError, Global};
@@ -18,14 +18,15 @@ pub struct BitWriter {
 }
 
 impl Model for BitWriter {
-    ghost use Rattle.std.specs.Prelude.{Bool, List, ◌++◌, ◌^◌, ◌<◌};
+    ghost use Rattle.std.specs.Prelude.{Bool, List, ◌++◌, ◌^◌, ◌<◌, IsTrue};
     ghost use Rattle.asn1_model.specs.Numbers.{binary, octet_bits};
+    ghost use Rattle.asn1_model.specs.Strings.{each_is, is_octet};
 
     ghost Value = { List Bool };
 
     ghost view = { λ b. octet_bits b.octets.items ++ binary b.count b.rest };
 
-    ghost invariant = { λ b. (b.count < 8) × (b.rest < 2 ^ b.count) };
+    ghost invariant = { λ b. (b.count < 8) × (b.rest < 2 ^ b.count) × IsTrue (each_is is_octet b.octets.items) };
 }
 
 impl BitWriter {
@@ -89,7 +90,7 @@ impl BitWriter {
 
     /// The bits filled up with zeros to whole octets, of which there is at least one.
     pub fn into_octets(mut self) -> Result<Vec<u8>, AllocError>
-        ensures { IfOk result (λ octets. octet_bits octets.items ≡ filled self) }
+        ensures { IfOk result (λ octets. octets.items ≡ packed_message self) }
     {
         let filling = self.filling();
         self.push_few(0, filling)?;

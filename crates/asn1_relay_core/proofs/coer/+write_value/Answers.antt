@@ -43,5 +43,5 @@ returns-in-Integer-value t c =
 pub returns-in-Ok : goal.returns-in-Ok
 returns-in-Ok t c =
     adds_truth c.args.schema.now c.args.value.now c.in-Boolean-value.truth c.if-truth.push c.args.octets.now.items c.push.new.self.items c.in-Boolean.is c.in-Boolean-value.is
-      (elim c.if-truth.branch [ then-truth w ↦ w.push-is ∙ sym (ap (λ b. cond b 255 0) w.if-truth.true) | else-truth w ↦ w.push-is ∙ sym (ap (λ b. cond b 255 0) w.if-truth.false) ])
-      c.in-Ok.ensures.items
+    (elim c.if-truth.branch [ then-truth w ↦ w.push-is ∙ sym (ap (λ b. cond b 255 0) w.if-truth.true) | else-truth w ↦ w.push-is ∙ sym (ap (λ b. cond b 255 0) w.if-truth.false) ])
+    c.in-Ok.ensures.items
