@@ -1,2 +1,4 @@
+pub mod Finding
 pub mod Meaning
-pub mod Kinds
+pub mod Recoding
+pub mod Writing

@@ -1,12 +1,24 @@
 //! The unaligned packed encoding rules (X.691).
 
+ghost use Rattle.std.specs.Prelude.{◌≡◌, ◌≤◌, Some, None, MatchResult};
+ghost use Rattle.asn1_model.specs.Numbers.{width};
+ghost use Rattle.asn1_model.specs.Value as Asn1Value;
+ghost use Rattle.asn1_relay_core.specs.Finding.{Misses};
+ghost use Rattle.asn1_relay_core.specs.Meaning.{schema_of, value_of, integer_between, range_between};
+ghost use Rattle.asn1_relay_core.specs.Writing.{Adds, Refuses, text_by, bit_leaves};
+ghost use Rattle.asn1_relay_texts.specs.Reading.{read_bits, read_bit_number};
+ghost use Rattle.asn1_relay_texts.specs.Texts.{bits_of};
+
 use crate::bits::{BitReader, BitWriter};
 use crate::errors::{DecodeError, EncodeError};
 use crate::schema::{Schema, Value};
 use std::alloc::{AllocError, Global};
 
 /// How many bits hold the numbers from 0 to `span` (X.691 11.5.7).
-fn width_of(span: u128) -> u32 {
+fn width_of(span: u128) -> u32
+    ensures width { result ≡ width span }
+    ensures most { result ≤ 128 }
+{
     u128::BITS - span.leading_zeros()
 }
 
@@ -15,7 +27,9 @@ fn write_integer(
     high: i128,
     number: i128,
     writer: &mut BitWriter,
-) -> Result<(), EncodeError> {
+) -> Result<(), EncodeError>
+    ensures { MatchResult result (λ _. Adds (bits_of (integer_between low high) (Asn1Value.number number)) writer.old writer.new) (Refuses (bits_of (integer_between low high) (Asn1Value.number number))) }
+{
     if number < low || high < number {
         return Err(EncodeError::ValueConstraintNotSatisfied);
     }
@@ -31,18 +45,29 @@ pub fn write_value(
     schema: &Schema,
     value: &Value,
     writer: &mut BitWriter,
-) -> Result<(), EncodeError> {
-    match (schema, value) {
-        (Schema::Boolean, Value::Boolean(truth)) => {
+) -> Result<(), EncodeError>
+    ensures { MatchResult result (λ _. Adds (text_by bit_leaves (schema_of schema.now) (value_of value.now)) writer.old writer.new) (Refuses (text_by bit_leaves (schema_of schema.now) (value_of value.now))) }
+{
+    match schema {
+        Schema::Boolean => {
+            let Value::Boolean(truth) = value else {
+                return Err(EncodeError::ValueConstraintNotSatisfied);
+            };
             match writer.push_number(u128::from(*truth), 1) {
                 Ok(()) => Ok(()),
                 Err(AllocError) => Err(EncodeError::OutOfMemory),
             }
         }
-        (Schema::Integer { low, high }, Value::Integer(number)) => {
+        Schema::Integer { low, high } => {
+            let Value::Integer(number) = value else {
+                return Err(EncodeError::ValueConstraintNotSatisfied);
+            };
             write_integer(*low, *high, *number, writer)
         }
-        (Schema::Sequence(components), Value::Sequence(values)) => {
+        Schema::Sequence(components) => {
+            let Value::Sequence(values) = value else {
+                return Err(EncodeError::ValueConstraintNotSatisfied);
+            };
             if components.len() != values.len() {
                 return Err(EncodeError::ValueConstraintNotSatisfied);
             }
@@ -51,11 +76,12 @@ pub fn write_value(
             }
             Ok(())
         }
-        _ => Err(EncodeError::ValueConstraintNotSatisfied),
     }
 }
 
-fn read_integer(low: i128, high: i128, reader: &mut BitReader<'_>) -> Result<i128, DecodeError> {
+fn read_integer(low: i128, high: i128, reader: &mut BitReader<'_>) -> Result<i128, DecodeError>
+    ensures { MatchResult result (λ n. read_bit_number (range_between low high) reader.old ≡ Some (n, reader.new)) (Misses (read_bit_number (range_between low high) reader.old)) }
+{
     if high < low {
         return Err(DecodeError::ValueConstraintNotSatisfied);
     }
@@ -78,7 +104,9 @@ pub fn read_value(
     schema: &Schema,
     reader: &mut BitReader<'_>,
     levels: u32,
-) -> Result<Value, DecodeError> {
+) -> Result<Value, DecodeError>
+    ensures { MatchResult result (λ v. read_bits levels (schema_of schema.now) reader.old ≡ Some (value_of v, reader.new)) (Misses (read_bits levels (schema_of schema.now) reader.old)) }
+{
     match schema {
         Schema::Boolean => match reader.take_bit() {
             Some(truth) => Ok(Value::Boolean(truth)),

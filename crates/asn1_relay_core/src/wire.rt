@@ -2,7 +2,7 @@
 ghost use Rattle.std.specs.Prelude.{◌≡◌, IfOk, IfSome, IsSome, IsTrue};
 ghost use Rattle.asn1_model.specs.Schema as Asn1;
 ghost use Rattle.asn1_model.specs.Value as Asn1Value;
-ghost use Rattle.asn1_relay_core.specs.Kinds.{is_value_of};
+ghost use Rattle.asn1_relay_texts.specs.Kinds.{is_carried, is_value_of};
 ghost use Rattle.asn1_relay_core.specs.Meaning.{schema_of, value_of};
 
 use crate::schema::{Schema, Value};
@@ -30,18 +30,24 @@ pub trait Wire: Drop {
         ensures meant { IfSome result (λ x. meaning x ≡ value_of value.now) }
         ensures each { IsTrue (is_value_of asn1_type (value_of value.now)) → IsSome result };
 
+    /// The type is BOOLEAN, INTEGER with two bounds of at most 128 bits and no mark, or SEQUENCE of such required components without a mark.
+    ghost carried: { IsTrue (is_carried asn1_type) };
+
     /// One value of `Self` at most means a value: rebuilding what `x` means gives `x`.
     ghost unique: { (x y : Self) → meaning x ≡ meaning y → x ≡ y };
 }
 
 /// BOOLEAN (X.680 18).
 impl Wire for bool {
+    ghost use Rattle.std.specs.Prelude.{refl};
     ghost use Rattle.asn1_model.specs.Schema.{boolean};
     ghost use Rattle.asn1_model.specs.Value.{truth};
 
     ghost asn1_type = { boolean };
 
     ghost meaning = { truth };
+
+    ghost carried = { refl };
 
     ghost unique = { λ x y e. Prim.cc };
 
