@@ -1,6 +1,7 @@
 -- The laws of forms, by recursion over a form.
 use Rattle.std.specs.Prelude.{unwrap_or}
-use Rattle.std.proofs.Common.{◌≡◌, ℕ, ◌+◌, Bool, true, false, IsTrue, List, ◌++◌, length, Option, Some, None, option_map, option_and_then, refl, ap, inl, inr, subst, ◌⊎◌}
+use Rattle.std.proofs.Common.{◌≡◌, ℕ, ◌+◌, Bool, true, false, IsTrue, List, ◌++◌, length, Option, Some, None, option_map, option_and_then, refl, ap}
+use Rattle.std.proofs.Common.{inl, inr, subst, ◌⊎◌}
 use Rattle.asn1_model.specs.Form.{Form, exactly, refused, both, placed, varied, within, written, written_by, Reads, canonically}
 
 wider : {P Q : Type 0} (E : Type 0) → E ⊎ P → (P → Q) → E ⊎ Q

@@ -1,106 +1,131 @@
 -- Which types are lawful: tables ascend, tags and items are distinct, bounds are ordered, additions stand behind a mark.
 use Rattle.std.specs.Prelude.{ℕ, ◌==◌, ltb, leb, ℤ, Bool, true, false, cond, not, ◌&&◌, ◌||◌, IsTrue, List, [], ◌∷◌, ◌++◌, Option, Some, None}
 use Rattle.asn1_model.specs.Value.{same_number}
-use Rattle.asn1_model.specs.Schema.{Tag, Range, Counts, Size, StringKind, Presence, optional, Schema, integer, enumerated, bit_string, octet_string, character_string, sequence_of, set_of, sequence, set, group, choice, Components, no_component, component, Alternatives, no_alternative, alternative}
+use Rattle.asn1_model.specs.Schema.{Tag, Range, Counts, Size, StringKind, Presence, optional, Schema, integer, enumerated, bit_string, octet_string}
+use Rattle.asn1_model.specs.Schema.{character_string, sequence_of, set_of, sequence, set, group, choice, Components, no_component, component}
+use Rattle.asn1_model.specs.Schema.{Alternatives, no_alternative, alternative}
 use Rattle.asn1_model.specs.Numbers.{is_at_most}
-use Rattle.asn1_model.specs.Strings.{each_is, may_hold}
+use Rattle.asn1_model.specs.Strings.{each_is, is_of_octets}
 
 -- ---- tags (X.680 8.6): by class, and then by number
 
+-- The order of tags: by class, and then by number (X.680 8.6).
 abbrev pub tag_less : Tag → Tag → Bool
 tag_less t u = ltb t.class u.class || ((t.class == u.class) && ltb t.number u.number)
 
+-- Equal tags.
 abbrev pub tag_same : Tag → Tag → Bool
 tag_same t u = (t.class == u.class) && (t.number == u.number)
 
+-- The smallest of some tags. An untagged choice stands by it, its added alternatives counted, by the project's choice.
 abbrev pub smallest : Tag → List Tag → Tag
 smallest t [] = t
 smallest t (u ∷ us) = cond (tag_less u t) (smallest u us) (smallest t us)
 
+-- No element occurs twice.
 abbrev pub are_distinct : {X : Type 0} → (X → X → Bool) → List X → Bool
 are_distinct e [] = true
 are_distinct e (x ∷ xs) = each_is (λ y. not (e x y)) xs && are_distinct e xs
 
+-- Each element stands before the next.
 abbrev pub are_ascending : {X : Type 0} → (X → X → Bool) → List X → Bool
 are_ascending less [] = true
 are_ascending less (x ∷ []) = true
 are_ascending less (x ∷ y ∷ xs) = less x y && are_ascending less (y ∷ xs)
 
+-- The tags of all components.
 abbrev pub component_tags : Components → List Tag
 component_tags no_component = []
 component_tags (component ts o s cs) = ts ++ component_tags cs
 
--- the smallest tag of each component
+-- The smallest tag of each component.
 abbrev pub component_places : Components → List Tag
 component_places no_component = []
 component_places (component [] o s cs) = component_places cs
 component_places (component (t ∷ ts) o s cs) = smallest t ts ∷ component_places cs
 
+-- The tags of all alternatives.
 abbrev pub alternative_tags : Alternatives → List Tag
 alternative_tags no_alternative = []
 alternative_tags (alternative t s others) = t ∷ alternative_tags others
 
+-- There is none.
 abbrev pub are_no_components : Components → Bool
 are_no_components no_component = true
 are_no_components cs = false
 
+-- There is none.
 abbrev pub are_no_alternatives : Alternatives → Bool
 are_no_alternatives no_alternative = true
 are_no_alternatives others = false
 
+-- There is none.
 abbrev pub is_empty : {X : Type 0} → List X → Bool
 is_empty [] = true
 is_empty (x ∷ xs) = false
 
 -- ---- constraints
 
+-- The low one of two bounds is not above the high one, where both are there.
 abbrev pub are_ordered : Option ℤ → Option ℤ → Bool
 are_ordered (Some a) (Some b) = is_at_most a b
 are_ordered a b = true
 
+-- The same of counts.
 abbrev pub are_counts_ordered : ℕ → Option ℕ → Bool
 are_counts_ordered a (Some b) = leb a b
 are_counts_ordered a None = true
 
+-- Ordered bounds.
 abbrev pub is_range : Range → Bool
 is_range r = are_ordered r.low r.high
 
+-- Ordered sizes, of the constraint and of the program's type.
 abbrev pub is_size : Size → Counts → Bool
 is_size z held = are_counts_ordered z.counts.low z.counts.high && are_counts_ordered held.low held.high
 
+-- An alphabet ascends, where it may count; it may go past the type's own.
 abbrev pub is_alphabet : StringKind → Option (List ℕ) → Bool
 is_alphabet k None = true
-is_alphabet k (Some cs) = are_ascending ltb cs && may_hold k cs
+is_alphabet k (Some cs) = is_of_octets k || are_ascending ltb cs
 
+-- The order of whole numbers.
 abbrev pub int_less : ℤ → ℤ → Bool
 int_less a b = is_at_most a b && not (same_number a b)
 
 -- ---- types
 
+-- Whether a component is OPTIONAL.
 abbrev pub is_optional : Presence → Bool
 is_optional optional = true
 is_optional o = false
 
+-- Whether a type is an extension addition group.
 abbrev pub is_group : Schema → Bool
 is_group (group cs) = true
 is_group s = false
 
--- groups stand among additions alone, and there as optional
+-- No component is a group: groups stand among additions alone.
 abbrev pub has_no_group : Components → Bool
 has_no_group no_component = true
 has_no_group (component t o s cs) = not (is_group s) && has_no_group cs
 
+-- The groups among additions stand there as optional.
 abbrev pub has_optional_groups : Components → Bool
 has_optional_groups no_component = true
 has_optional_groups (component t o s cs) = (not (is_group s) || is_optional o) && has_optional_groups cs
 
+-- Additions stand behind a mark, all tags differ (X.680 25 and 27), and groups stand where they may.
 abbrev pub is_sequence_table : Components → Bool → Components → Bool
-is_sequence_table cs e adds = (e || are_no_components adds) && are_distinct tag_same (component_tags cs ++ component_tags adds) && has_no_group cs && has_optional_groups adds
+is_sequence_table cs e adds =
+    (e || are_no_components adds) && are_distinct tag_same (component_tags cs ++ component_tags adds) && has_no_group cs && has_optional_groups adds
 
 unfoldable mutual
+  -- Whether a type is lawful (X.680 20, 25 to 29).
   pub is_lawful : Schema → Bool
   is_lawful (integer b held) = is_range b.range && is_range held
-  is_lawful (enumerated roots e adds) = not (is_empty roots) && (e || is_empty adds) && are_ascending int_less roots && are_ascending int_less adds && are_distinct same_number (roots ++ adds)
+  is_lawful (enumerated roots e adds) =
+      not (is_empty roots) && (e || is_empty adds) && are_ascending int_less roots && are_ascending int_less adds && are_distinct same_number (roots ++ adds)
   is_lawful (bit_string z held) = is_size z held
   is_lawful (octet_string z held) = is_size z held
   is_lawful (character_string k z a held) = is_size z held && is_alphabet k a.characters
@@ -108,17 +133,22 @@ unfoldable mutual
   is_lawful (set_of z held s) = is_size z held && not (is_group s) && is_lawful s
   is_lawful (sequence cs e adds) = is_sequence_table cs e adds && are_lawful cs && are_lawful adds
   is_lawful (set cs e adds) = is_sequence_table cs e adds && are_ascending tag_less (component_places cs) && are_lawful cs && are_lawful adds
-  is_lawful (group cs) = not (are_no_components cs) && has_no_group cs && are_lawful cs
-  is_lawful (choice roots e adds) = not (are_no_alternatives roots) && (e || are_no_alternatives adds) && are_ascending tag_less (alternative_tags roots) && are_distinct tag_same (alternative_tags roots ++ alternative_tags adds) && are_lawful_alternatives roots && are_lawful_alternatives adds
+  is_lawful (group cs) = not (are_no_components cs) && are_distinct tag_same (component_tags cs) && has_no_group cs && are_lawful cs
+  is_lawful (choice roots e adds) =
+      not (are_no_alternatives roots) && (e || are_no_alternatives adds) && are_ascending tag_less (alternative_tags roots)
+      && are_distinct tag_same (alternative_tags roots ++ alternative_tags adds) && are_lawful_alternatives roots && are_lawful_alternatives adds
   is_lawful s = true
 
+  -- Whether the types of all components are.
   pub are_lawful : Components → Bool
   are_lawful no_component = true
   are_lawful (component t o s cs) = not (is_empty t) && is_lawful s && are_lawful cs
 
+  -- Whether the types of all alternatives are.
   pub are_lawful_alternatives : Alternatives → Bool
   are_lawful_alternatives no_alternative = true
   are_lawful_alternatives (alternative t s others) = not (is_group s) && is_lawful s && are_lawful_alternatives others
 
+-- The same as a proposition.
 abbrev pub IsLawful : Schema → Type 0
 IsLawful s = IsTrue (is_lawful s)

@@ -1,23 +1,28 @@
--- The normal form of a value: what is equal to its default is absent, and so is a group of additions that are all absent.
+-- The normal form of a value: what is equal to its default is absent (X.691 19.5 and X.696 16 in their canonical forms), and so is, by the
+-- project's choice, a group of additions that are all absent.
 use Rattle.std.specs.Prelude.{ℕ, zero, suc, Bool, true, false, ◌||◌, ◌&&◌, not}
-use Rattle.asn1_model.specs.Value.{Value, Values, no_more, member, members, bag, fields, chosen, Parts, absent, present, same, are_absent, map_members}
-use Rattle.asn1_model.specs.Schema.{Presence, by_default, Schema, sequence_of, set_of, sequence, set, group, choice, Components, component, Alternatives, no_alternative, alternative}
+use Rattle.asn1_model.specs.Value.{Value, Values, no_more, member, members, bag, fields, chosen, Parts, absent, present, same, are_absent}
+use Rattle.asn1_model.specs.Value.{map_members}
+use Rattle.asn1_model.specs.Schema.{Presence, by_default, Schema, sequence_of, set_of, sequence, set, group, choice, Components, component}
+use Rattle.asn1_model.specs.Schema.{Alternatives, no_alternative, alternative}
 
--- a group none of whose components is there
+-- A group none of whose components is there.
 abbrev pub is_empty_group : Schema → Value → Bool
 is_empty_group (group cs) (fields ps qs) = are_absent ps
 is_empty_group s v = false
 
--- whether a value in its normal form is that of the default
+-- Whether a value in its normal form is that of the default.
 abbrev pub is_default_by : (Value → Value) → Presence → Value → Bool
 is_default_by form (by_default d) w = same w (form d)
 is_default_by form o w = false
 
+-- A part that is left out, or kept.
 abbrev pub kept : Bool → Value → Parts → Parts
 kept true v ps = absent ps
 kept false v ps = present v ps
 
 unfoldable mutual
+  -- The normal form, from the leaves up: every writer writes it.
   pub normal : Schema → Value → Value
   normal (sequence_of z h s) (members vs) = members (map_members (λ v. normal s v) vs)
   normal (set_of z h s) (bag vs) = bag (map_members (λ v. normal s v) vs)
@@ -28,29 +33,35 @@ unfoldable mutual
   normal (choice roots e adds) (chosen true i v) = chosen true i (normal_alternative adds i v)
   normal s v = v
 
+  -- Each part in its normal form, left out if it is then its default or an empty group.
   pub normal_parts : Components → Parts → Parts
-  normal_parts (component t o s cs) (present v ps) = kept (is_default_by (λ d. normal s d) o (normal s v) || is_empty_group s (normal s v)) (normal s v) (normal_parts cs ps)
+  normal_parts (component t o s cs) (present v ps) =
+      kept (is_default_by (λ d. normal s d) o (normal s v) || is_empty_group s (normal s v)) (normal s v) (normal_parts cs ps)
   normal_parts (component t o s cs) (absent ps) = absent (normal_parts cs ps)
   normal_parts cs ps = ps
 
+  -- The value of the chosen alternative in its normal form.
   pub normal_alternative : Alternatives → ℕ → Value → Value
   normal_alternative (alternative t s others) zero v = normal s v
   normal_alternative (alternative t s others) (suc i) v = normal_alternative others i v
   normal_alternative no_alternative i v = v
 
--- whether a part has no place in the normal form: it is its default, or an empty group
+-- Whether a part is its default.
 abbrev pub is_at_default : Presence → Schema → Value → Bool
 is_at_default o s v = is_default_by (λ d. normal s d) o (normal s v)
 
+-- Whether a part is a group in which nothing is left.
 abbrev pub is_group_left_out : Schema → Value → Bool
 is_group_left_out s v = is_empty_group s (normal s v)
 
+-- Whether each member passes a test.
 abbrev pub are_all : (Value → Bool) → Values → Bool
 are_all test no_more = true
 are_all test (member v vs) = test v && are_all test vs
 
 -- whether no such part stands in a value
 unfoldable mutual
+  -- Whether nothing that the normal form leaves out stands in a value.
   pub is_normal : Schema → Value → Bool
   is_normal (sequence_of z h s) (members vs) = are_all (λ v. is_normal s v) vs
   is_normal (set_of z h s) (bag vs) = are_all (λ v. is_normal s v) vs
@@ -61,11 +72,13 @@ unfoldable mutual
   is_normal (choice roots e adds) (chosen true i v) = is_normal_alternative adds i v
   is_normal s v = true
 
+  -- The same of parts.
   pub are_normal : Components → Parts → Bool
   are_normal (component t o s cs) (present v ps) = not (is_at_default o s v) && not (is_group_left_out s v) && is_normal s v && are_normal cs ps
   are_normal (component t o s cs) (absent ps) = are_normal cs ps
   are_normal cs ps = true
 
+  -- The same of the chosen alternative.
   pub is_normal_alternative : Alternatives → ℕ → Value → Bool
   is_normal_alternative (alternative t s others) zero v = is_normal s v
   is_normal_alternative (alternative t s others) (suc i) v = is_normal_alternative others i v

@@ -9,6 +9,8 @@ use Rattle.asn1_model.specs.Form.{written, Reads}
 use Rattle.asn1_model.specs.Per
 use Rattle.asn1_model.specs.Oer
 
+-- The packed rules unaligned and aligned, each with a lenient and a strict reader (X.691), the octet rules, and the canonical octet rules
+-- (X.696). OER is written as COER is.
 pub data Rules : Type 0 where
   uper : Rules
   aper : Rules
@@ -19,17 +21,17 @@ pub data Rules : Type 0 where
 
 -- ---- the freedoms of readers
 
--- every form
+-- The freedoms of the readers of UPER, APER and OER: all of them, by the project's choice.
 abbrev pub lenient : {F : Type 0} → F → Bool
 lenient c = true
 
--- wider and narrower bitmaps, and bags in any order
+-- The freedoms of the strict readers of PER: wider and narrower bitmaps, and bags in any order.
 abbrev pub strict_per : Per.Freedom → Bool
 strict_per Per.other_bitmap = true
 strict_per Per.other_order = true
 strict_per c = false
 
--- the same, and bitmaps with no bit set
+-- The freedoms of the reader of COER: the same, and bitmaps with no bit set.
 abbrev pub strict_oer : Oer.Freedom → Bool
 strict_oer Oer.other_bitmap = true
 strict_oer Oer.empty_bitmap = true
@@ -38,13 +40,15 @@ strict_oer c = false
 
 -- ---- messages, as octets
 
--- the canonical encoding of a value as it is, before any bound on its length
+-- The canonical PER message of a value as it is, in octets, before any bound on its length (X.691 11.1).
 unfoldable pub per : Bool → Schema → Value → Option (List ℕ)
 per aligned s v = option_map packed (written (Per.message aligned s v) 0)
 
+-- The canonical octets of a value as it is (X.696).
 unfoldable pub octet_encoding : Schema → Value → Option (List ℕ)
 octet_encoding s v = written (Oer.form s v) 0
 
+-- The same in each set of rules.
 unfoldable pub encoding : Rules → Schema → Value → Option (List ℕ)
 encoding uper s v = per false s v
 encoding uper_strict s v = per false s v
@@ -52,16 +56,16 @@ encoding aper s v = per true s v
 encoding aper_strict s v = per true s v
 encoding r s v = octet_encoding s v
 
--- an encoding has fewer than 2 ^ 60 octets
+-- An encoding has fewer than 2 ^ 60 octets, by the project's choice.
 abbrev pub of_moderate_length : List ℕ → Option (List ℕ)
 of_moderate_length w = cond (ltb (length w) (2 ^ 60)) (Some w) None
 
--- what every writer writes
+-- What every writer writes: the encoding of the normal form.
 unfoldable pub canonical : Rules → Schema → Value → Option (List ℕ)
 canonical r s v = option_and_then of_moderate_length (encoding r s (normal s v))
 
--- all of the octets are one encoding of the value; its components are there just where they are spelled out, so that it nests
--- as many levels as are read
+-- All of the octets are one encoding of the value for the reader of these rules. The value's components are there just where they are spelled
+-- out, so that it nests as many levels as are read.
 unfoldable pub IsEncoding : Rules → Schema → Value → List ℕ → Type 0
 IsEncoding uper s v w = (length w < 2 ^ 60) × Reads lenient (Per.message false s v) 0 (octet_bits w)
 IsEncoding aper s v w = (length w < 2 ^ 60) × Reads lenient (Per.message true s v) 0 (octet_bits w)

@@ -1,37 +1,39 @@
--- ASN.1 types, apart from any encoding: kinds, bounds, sizes, alphabets, marks of extensibility and tables.
+-- ASN.1 types, apart from any encoding: kinds, bounds, sizes, alphabets, marks of extensibility and tables (X.680).
 use Rattle.std.specs.Prelude.{ℕ, ℤ, Bool, List, Option}
 use Rattle.asn1_model.specs.Value.{Value}
 
--- the class, 0 universal, 1 application, 2 context, 3 private, and the number
+-- A tag: its class, which is 0 for universal, 1 for application, 2 for context-specific and 3 for private, and its number (X.680 8).
 pub record Tag : Type 0 where
   pub class : ℕ
   pub number : ℕ
 
--- whole numbers from low to high, where these are there
+-- The whole numbers from low to high, where these are there (X.680 51.4).
 pub record Range : Type 0 where
   pub low : Option ℤ
   pub high : Option ℤ
 
--- a value constraint, and whether a mark of extensibility follows; with neither bound nor mark there is no constraint
+-- A value constraint, and whether a mark of extensibility follows it (X.680 51.4 and 52). With neither bound nor mark there is no constraint;
+-- INTEGER (MIN..MAX) without a mark is written as no bounds and a held range of 128 bits, since it is a constraint by the project's choice.
 pub record Bounds : Type 0 where
   pub range : Range
   pub extensible : Bool
 
--- counts from low to high, or with no highest
+-- Counts from low to high, or with no highest.
 pub record Counts : Type 0 where
   pub low : ℕ
   pub high : Option ℕ
 
--- a size constraint, and whether a mark of extensibility follows
+-- A size constraint, and whether a mark of extensibility follows it (X.680 51.5 and 52).
 pub record Size : Type 0 where
   pub counts : Counts
   pub extensible : Bool
 
--- a permitted alphabet, where there is one: its characters in ascending order, and whether a mark follows
+-- A permitted alphabet, where there is one: its characters in ascending order, and whether a mark follows it (X.680 51.7 and 52).
 pub record Alphabet : Type 0 where
   pub characters : Option (List ℕ)
   pub extensible : Bool
 
+-- The restricted character string types (X.680 41).
 pub data StringKind : Type 0 where
   numeric : StringKind
   printable : StringKind
@@ -43,6 +45,7 @@ pub data StringKind : Type 0 where
   teletex : StringKind
   utf8 : StringKind
 
+-- Whether a component may be absent: OPTIONAL, or DEFAULT with its value (X.680 25).
 pub data Presence : Type 0 where
   required : Presence
   optional : Presence
@@ -53,31 +56,42 @@ mutual
   pub data Schema : Type 0 where
     -- below the levels to which a recursive type is unfolded
     cut : Schema
+    -- BOOLEAN (X.680 18)
     boolean : Schema
+    -- NULL (X.680 24)
     null : Schema
+    -- INTEGER (X.680 19): its constraint, and the numbers that the program's type holds
     integer : Bounds → Range → Schema
-    -- the numbers of the root items, whether there is a mark, and the numbers of the added items
+    -- ENUMERATED (X.680 20): the numbers of the root items in ascending order, whether there is a mark, and the numbers of the added items
     enumerated : List ℤ → Bool → List ℤ → Schema
+    -- BIT STRING (X.680 22): its size in bits, and the lengths that the program's type holds
     bit_string : Size → Counts → Schema
+    -- OCTET STRING (X.680 23): the same in octets
     octet_string : Size → Counts → Schema
+    -- a restricted character string (X.680 41): the same in characters, or in octets where the value is a list of these
     character_string : StringKind → Size → Alphabet → Counts → Schema
+    -- OBJECT IDENTIFIER (X.680 32)
     object_identifier : Schema
+    -- SEQUENCE OF (X.680 26)
     sequence_of : Size → Counts → Schema → Schema
+    -- SET OF (X.680 28)
     set_of : Size → Counts → Schema → Schema
-    -- the root components, whether there is a mark, and the additions behind it
+    -- SEQUENCE (X.680 25): the root components, whether there is a mark, and the additions behind it in their declared order
     sequence : Components → Bool → Components → Schema
-    -- the same, the root components in the order of their tags
+    -- SET (X.680 27): the same, the root components in the order of their tags
     set : Components → Bool → Components → Schema
-    -- an extension addition group
+    -- an extension addition group (X.680 25), which stands among additions as one of them
     group : Components → Schema
-    -- the root alternatives in the order of their tags, whether there is a mark, and the added ones
+    -- CHOICE (X.680 29): the root alternatives in the order of their tags, whether there is a mark, and the added ones in their declared order
     choice : Alternatives → Bool → Alternatives → Schema
 
   pub data Components : Type 0 where
     no_component : Components
-    -- the tags with which it may begin, whether it may be absent, its type, and the further components
+    -- the tags with which it may begin (of an untagged choice those of all its alternatives, of a group those of its components), whether it
+    -- may be absent, its type, and the further components
     component : List Tag → Presence → Schema → Components → Components
 
   pub data Alternatives : Type 0 where
     no_alternative : Alternatives
+    -- its tag, its type, and the further alternatives
     alternative : Tag → Schema → Alternatives → Alternatives

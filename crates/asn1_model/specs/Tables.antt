@@ -4,30 +4,33 @@ use Rattle.asn1_model.specs.Value.{Parts, end, absent, present, same_number}
 use Rattle.asn1_model.specs.Form.{is_present}
 use Rattle.asn1_model.specs.Schema.{Bounds, Presence, required, Components, no_component, component, Alternatives, no_alternative, alternative}
 
--- the place of an item among the numbers of a table
+-- The place of an item among the numbers of a table, from 0 on (X.691 14).
 abbrev pub item_place : ℤ → List ℤ → Option ℕ
 item_place v [] = None
 item_place v (d ∷ ds) = cond (same_number v d) (Some zero) (option_map suc (item_place v ds))
 
--- whether there is a value constraint
+-- Whether there is a value constraint.
 abbrev pub is_bounded : Bounds → Bool
 is_bounded b = is_present b.range.low || is_present b.range.high || b.extensible
 
+-- Whether a component must be there.
 abbrev pub is_required : Presence → Bool
 is_required required = true
 is_required o = false
 
--- for each component that may be absent, whether it is there
+-- A further mark, unless there is none for the component.
 abbrev pub mark_unless : Bool → Bool → List Bool → List Bool
 mark_unless true m ms = ms
 mark_unless false m ms = m ∷ ms
 
+-- For each component that may be absent, whether it is there, in the order of the table (X.691 19.2, X.696 16).
 abbrev pub marks : Components → Parts → List Bool
 marks no_component ps = []
 marks (component t o s cs) (present v ps) = mark_unless (is_required o) true (marks cs ps)
 marks (component t o s cs) (absent ps) = mark_unless (is_required o) false (marks cs ps)
 marks (component t o s cs) end = mark_unless (is_required o) false (marks cs end)
 
+-- How many alternatives there are.
 abbrev pub alternative_count : Alternatives → ℕ
 alternative_count no_alternative = 0
 alternative_count (alternative t s others) = alternative_count others + 1

@@ -1,26 +1,23 @@
 -- Rows: lawful types, and two versions of a type.
 use Rattle.std.specs.Prelude.{◌≡◌, pos, true, false, [], ◌∷◌, Some, None}
-use Rattle.asn1_model.specs.Value.{item, fields, end, absent, present}
-use Rattle.asn1_model.specs.Schema.{Schema, boolean, null, enumerated, sequence, group, no_component, no_alternative}
+use Rattle.asn1_model.specs.Value.{item, chosen, absent, present, end}
+use Rattle.asn1_model.specs.Schema.{Schema, numeric, utf8, boolean, null, enumerated, character_string, sequence, set, group, choice, no_component}
+use Rattle.asn1_model.specs.Schema.{component, required, no_alternative}
 use Rattle.asn1_model.specs.Lawful.{is_lawful}
 use Rattle.asn1_model.specs.Versions.{Extends, drop, grow, seen, IsClash}
-use Rattle.asn1_model.specs.Types.{between, needs, may_have, has_default, closed, open_behind, or_tagged, one_of, yes, num, roots, defaulted, marked_choice, new_type, old_type, grouped, nest, nested}
+use Rattle.asn1_model.specs.Types.{minus, any_count, any_size, sizes, letters, between, octet_text, list, context, needs, may_have, closed}
+use Rattle.asn1_model.specs.Types.{open_behind, or_tagged, one_of, num, roots, colour_old, colour_new, defaulted, marked_choice, new_type, old_type}
+use Rattle.asn1_model.specs.Types.{required_new, default_old, default_new, grouped, nest, nest_added, nested, yes_with, yes_without, yes_alone}
+use Rattle.asn1_model.specs.Types.{null_alternatives, set_of_three, set_with_choice, whole}
 
--- pairs of versions
-abbrev pub default_old : Schema
-default_old = closed (has_default 0 old_type (fields (present yes end) end) no_component)
+-- CHOICE {a [0] INTEGER, b [1] INTEGER, ...}
+abbrev pub choice_old : Schema
+choice_old = choice (or_tagged 0 whole (or_tagged 1 whole no_alternative)) true no_alternative
 
-abbrev pub default_new : Schema
-default_new = closed (has_default 0 new_type (fields (present yes end) (absent end)) no_component)
-
-abbrev pub required_new : Schema
-required_new = open_behind (needs 0 boolean no_component) (needs 1 boolean no_component)
-
-abbrev pub colour_old : Schema
-colour_old = enumerated (pos 0 ∷ []) true []
-
-abbrev pub colour_new : Schema
-colour_new = enumerated (pos 0 ∷ []) true (pos 1 ∷ [])
+-- SEQUENCE {a BOOLEAN, ..., [[the one component of this sequence]]}
+abbrev pub group_of : Schema → Schema
+group_of (sequence cs e adds) = open_behind (needs 0 boolean no_component) (may_have 1 (group cs) no_component)
+group_of s = s
 
 abbrev pub LawfulRows : Type 0
 LawfulRows =
@@ -35,20 +32,60 @@ LawfulRows =
     × (is_lawful (enumerated [] true (pos 0 ∷ [])) ≡ false)
     × (is_lawful (sequence (needs 0 boolean no_component) false (needs 1 boolean no_component)) ≡ false)
     × (is_lawful (open_behind no_component (needs 1 (group (needs 0 boolean no_component)) no_component)) ≡ false)
+    -- an alphabet may go past the type's own, and counts for nothing where octets stand; its characters ascend
+    × (is_lawful (character_string numeric any_size (letters (0x30 ∷ 0x61 ∷ [])) any_count) ≡ true)
+    × (is_lawful (character_string utf8 any_size (letters (0xE9 ∷ [])) any_count) ≡ true)
+    × (is_lawful (character_string numeric any_size (letters (0x31 ∷ 0x30 ∷ [])) any_count) ≡ false)
+    -- groups: with parts, with tags that differ, and among additions alone
+    × (is_lawful (open_behind no_component (may_have 1 (group (needs 0 boolean (needs 0 boolean no_component))) no_component)) ≡ false)
+    × (is_lawful (open_behind no_component (may_have 1 (group no_component) no_component)) ≡ false)
+    × (is_lawful (closed (may_have 1 (group (needs 0 boolean no_component)) no_component)) ≡ false)
+    × (is_lawful (list any_size (group (needs 0 boolean no_component))) ≡ false)
+    -- sets in the order of the tags, an untagged choice by its smallest one
+    × (is_lawful set_of_three ≡ true)
+    × (is_lawful set_with_choice ≡ true)
+    × (is_lawful (set (needs 5 boolean (needs 3 boolean no_component)) false no_component) ≡ false)
+    × (is_lawful (set (needs 3 boolean (component (context 1 ∷ context 7 ∷ []) required boolean no_component)) false no_component) ≡ false)
+    × (is_lawful (open_behind (needs 0 boolean no_component) (needs 0 boolean no_component)) ≡ false)
+    -- choices: an added alternative behind a mark alone, and no tag twice
+    × (is_lawful (choice (null_alternatives 0 2) false (null_alternatives 2 1)) ≡ false)
+    × (is_lawful (choice (null_alternatives 0 2) true (null_alternatives 1 1)) ≡ false)
+    × (is_lawful (choice (null_alternatives 5 2) true (or_tagged 3 null (or_tagged 2 null no_alternative))) ≡ true)
+    × (is_lawful (choice no_alternative true (null_alternatives 0 1)) ≡ false)
+    × (is_lawful (octet_text (sizes 5 4)) ≡ false)
+    × (is_lawful (enumerated (pos 0 ∷ []) false (pos 1 ∷ [])) ≡ false)
+    × (is_lawful (enumerated (pos 0 ∷ minus 1 ∷ []) false []) ≡ false)
 
 abbrev pub VersionRows : Type 0
 VersionRows =
     Extends old_type new_type
     × Extends default_old default_new
-    × Extends (open_behind (needs 0 boolean no_component) no_component) required_new
+    × Extends old_type required_new
     × Extends colour_old colour_new
-    × (drop old_type new_type (fields (present yes end) (present (num 7) end)) ≡ Some (fields (present yes end) end))
-    × (grow old_type new_type (fields (present yes end) end) ≡ Some (fields (present yes end) (absent end)))
-    × IsClash default_old default_new (roots (present (fields (present yes end) (present (num 7) end)) end))
-    × (drop default_old default_new (roots (present (fields (present yes end) (absent end)) end)) ≡ Some (roots (absent end)))
-    × (grow old_type required_new (fields (present yes end) end) ≡ None)
+    × (drop old_type new_type (yes_with (num 7)) ≡ Some yes_alone)
+    × (grow old_type new_type yes_alone ≡ Some yes_without)
+    × IsClash default_old default_new (roots (present (yes_with (num 7)) end))
+    × (drop default_old default_new (roots (present yes_without end)) ≡ Some (roots (absent end)))
+    × (grow old_type required_new yes_alone ≡ None)
     × (drop colour_old colour_new (item (pos 1)) ≡ None)
     × (drop colour_old colour_new (item (pos 0)) ≡ Some (item (pos 0)))
-    × (seen old_type new_type (fields (present yes end) (present (num 7) end)) ≡ Some 1)
-    × (seen (open_behind (needs 0 boolean no_component) no_component) (open_behind (needs 0 boolean no_component) (may_have 1 (nest 128) no_component)) (fields (present yes end) (present (nested 127) end)) ≡ Some 1)
-    × (seen (open_behind (needs 0 boolean no_component) (may_have 1 (nest 128) no_component)) (open_behind (needs 0 boolean no_component) (may_have 1 (nest 128) no_component)) (fields (present yes end) (present (nested 127) end)) ≡ Some 129)
+    × (seen old_type new_type (yes_with (num 7)) ≡ Some 1)
+    × (seen old_type nest_added (yes_with (nested 127)) ≡ Some 1)
+    × (seen nest_added nest_added (yes_with (nested 127)) ≡ Some 129)
+    -- a required addition counts only where its sequence is there
+    × (grow (closed (may_have 0 old_type no_component)) (closed (may_have 0 required_new no_component)) (roots (absent end)) ≡ Some (roots (absent end)))
+    × (grow (closed (may_have 0 old_type no_component)) (closed (may_have 0 required_new no_component)) (roots (present yes_alone end)) ≡ None)
+    -- an alternative that the older version lacks: none where it stands, and no matter inside what is lost
+    × (drop choice_old marked_choice (chosen true 0 (num 1)) ≡ None)
+    × (drop choice_old marked_choice (chosen false 0 (num 1)) ≡ Some (chosen false 0 (num 1)))
+    × (drop old_type (open_behind (needs 0 boolean no_component) (may_have 1 marked_choice no_component)) (yes_with (chosen true 0 (num 1))) ≡ Some yes_alone)
+    -- a group that turns empty by the loss
+    × IsClash (group_of default_old) (group_of default_new) (yes_with (roots (present (yes_with (num 7)) end)))
+    -- what the newer version has at its default is lost without a clash
+    × (drop default_old default_new (roots (absent end)) ≡ Some (roots (absent end)))
+    -- no versions of each other: further roots, further additions without a mark, fewer additions, another bound
+    × (Extends (closed no_component) (closed (needs 0 boolean no_component)) → ⊥)
+    × (Extends new_type old_type → ⊥)
+    × (Extends (between (pos 0) (pos 4)) (between (pos 0) (pos 5)) → ⊥)
+    × (Extends old_type (closed (needs 0 boolean no_component)) → ⊥)
+    × (Extends (choice (null_alternatives 0 2) true no_alternative) (choice (null_alternatives 0 3) true no_alternative) → ⊥)

@@ -1,28 +1,34 @@
--- Two versions of a type: the newer has further additions, alternatives and items behind its marks, and is as the older one else.
+-- Two versions of a type: the newer has further additions, alternatives and items behind its marks, and is as the older one else (X.680 52).
 use Rattle.std.specs.Prelude.{◌≡◌, ℕ, zero, suc, Bool, true, false, cond, ◌||◌, List, ◌++◌, Option, Some, None, option_map, option_and_then}
 use Rattle.asn1_model.specs.Value.{Value, item, members, bag, fields, chosen, Values, no_more, member, Parts, end, absent, present, depth}
-use Rattle.asn1_model.specs.Schema.{Presence, required, optional, by_default, Schema, cut, boolean, null, integer, enumerated, bit_string, octet_string, character_string, object_identifier, sequence_of, set_of, sequence, set, group, choice, Components, no_component, component, Alternatives, no_alternative, alternative}
+use Rattle.asn1_model.specs.Schema.{Presence, required, optional, by_default, Schema, cut, boolean, null, integer, enumerated, bit_string}
+use Rattle.asn1_model.specs.Schema.{octet_string, character_string, object_identifier, sequence_of, set_of, sequence, set, group, choice, Components}
+use Rattle.asn1_model.specs.Schema.{no_component, component, Alternatives, no_alternative, alternative}
 use Rattle.asn1_model.specs.Normal.{normal, is_normal}
 use Rattle.asn1_model.specs.Form.{is_present}
 use Rattle.asn1_model.specs.Tables.{item_place}
 
 -- ---- a value of the older version as one of the newer: the parts that only that has are absent
 
+-- Each member changed, if each can be.
 abbrev pub map_each : (Value → Option Value) → Values → Option Values
 map_each f no_more = Some no_more
 map_each f (member v vs) = option_and_then (λ w. option_map (λ ws. member w ws) (map_each f vs)) (f v)
 
--- none where one of them is required
+-- All parts absent; none where one of them is required.
 abbrev pub all_absent : Components → Option Parts
 all_absent no_component = Some end
 all_absent (component t required s cs) = None
 all_absent (component t o s cs) = option_map absent (all_absent cs)
 
+-- Root and additions, if both are there.
 abbrev pub both_parts : Option Parts → Option Parts → Option Value
 both_parts (Some ps) (Some qs) = Some (fields ps qs)
 both_parts ps qs = None
 
 unfoldable mutual
+  -- A value of the older version as one of the newer: the parts that only that has are absent. None where such a part is required in a
+  -- sequence or set that is there.
   pub grow : Schema → Schema → Value → Option Value
   grow (sequence_of z h s) (sequence_of z' h' s') (members vs) = option_map members (map_each (λ v. grow s s' v) vs)
   grow (set_of z h s) (set_of z' h' s') (bag vs) = option_map bag (map_each (λ v. grow s s' v) vs)
@@ -33,12 +39,15 @@ unfoldable mutual
   grow (choice roots e adds) (choice roots' e' adds') (chosen true i v) = option_map (λ w. chosen true i w) (grow_alternative adds adds' i v)
   grow s s' v = Some v
 
+  -- The same of parts.
   pub grow_parts : Components → Components → Parts → Option Parts
-  grow_parts (component t o s cs) (component t' o' s' cs') (present v ps) = option_and_then (λ w. option_map (λ qs. present w qs) (grow_parts cs cs' ps)) (grow s s' v)
+  grow_parts (component t o s cs) (component t' o' s' cs') (present v ps) =
+      option_and_then (λ w. option_map (λ qs. present w qs) (grow_parts cs cs' ps)) (grow s s' v)
   grow_parts (component t o s cs) (component t' o' s' cs') (absent ps) = option_map absent (grow_parts cs cs' ps)
   grow_parts no_component cs' end = all_absent cs'
   grow_parts cs cs' ps = None
 
+  -- The same of the chosen alternative.
   pub grow_alternative : Alternatives → Alternatives → ℕ → Value → Option Value
   grow_alternative (alternative t s others) (alternative t' s' others') zero v = grow s s' v
   grow_alternative (alternative t s others) (alternative t' s' others') (suc i) v = grow_alternative others others' i v
@@ -48,8 +57,11 @@ unfoldable mutual
 -- or an item that stands elsewhere
 
 unfoldable mutual
+  -- A value of the newer version without the parts that the older one lacks. None where it lacks an alternative or an item that stands
+  -- elsewhere.
   pub lessen : Schema → Schema → Value → Option Value
-  lessen (enumerated roots e adds) (enumerated roots' e' adds') (item v) = cond (is_present (item_place v roots) || is_present (item_place v adds)) (Some (item v)) None
+  lessen (enumerated roots e adds) (enumerated roots' e' adds') (item v) =
+      cond (is_present (item_place v roots) || is_present (item_place v adds)) (Some (item v)) None
   lessen (sequence_of z h s) (sequence_of z' h' s') (members vs) = option_map members (map_each (λ v. lessen s s' v) vs)
   lessen (set_of z h s) (set_of z' h' s') (bag vs) = option_map bag (map_each (λ v. lessen s s' v) vs)
   lessen (sequence cs e adds) (sequence cs' e' adds') (fields ps qs) = both_parts (lessen_parts cs cs' ps) (lessen_parts adds adds' qs)
@@ -59,35 +71,39 @@ unfoldable mutual
   lessen (choice roots e adds) (choice roots' e' adds') (chosen true i v) = option_map (λ w. chosen true i w) (lessen_alternative adds adds' i v)
   lessen s s' v = Some v
 
+  -- The same of parts.
   pub lessen_parts : Components → Components → Parts → Option Parts
-  lessen_parts (component t o s cs) (component t' o' s' cs') (present v ps) = option_and_then (λ w. option_map (λ qs. present w qs) (lessen_parts cs cs' ps)) (lessen s s' v)
+  lessen_parts (component t o s cs) (component t' o' s' cs') (present v ps) =
+      option_and_then (λ w. option_map (λ qs. present w qs) (lessen_parts cs cs' ps)) (lessen s s' v)
   lessen_parts (component t o s cs) (component t' o' s' cs') (absent ps) = option_map absent (lessen_parts cs cs' ps)
   lessen_parts no_component cs' ps = Some end
   lessen_parts cs cs' ps = None
 
+  -- The same of the chosen alternative.
   pub lessen_alternative : Alternatives → Alternatives → ℕ → Value → Option Value
   lessen_alternative (alternative t s others) (alternative t' s' others') zero v = lessen s s' v
   lessen_alternative (alternative t s others) (alternative t' s' others') (suc i) v = lessen_alternative others others' i v
   lessen_alternative others others' i v = None
 
+-- The normal form of a value of the newer version, without the parts that the older one lacks.
 abbrev pub drop : Schema → Schema → Value → Option Value
 drop old new v = lessen old new (normal new v)
 
--- the levels that the older version reads
+-- The levels that the older version reads.
 abbrev pub seen : Schema → Schema → Value → Option ℕ
 seen old new v = option_map depth (drop old new v)
 
--- by the loss a part that the older version knows has become its default, so that what is left is not normal
+-- By the loss a part that the older version knows has become its default, or a group has become empty, so that what is left is not normal.
 abbrev pub IsClash : Schema → Schema → Value → Type 0
 IsClash old new v = (w : Value) × (drop old new v ≡ Some w) × (is_normal old w ≡ false)
 
 -- ---- which types are two versions
 
--- the elements of the first are the first of the second
+-- The elements of the first are the first of the second.
 abbrev pub Begins : {X : Type 0} → List X → List X → Type 0
 Begins {X} xs ys = (zs : List X) × (xs ++ zs ≡ ys)
 
--- equal, a default apart, which the newer version has in its own terms
+-- Equal, a default apart, which the newer version has in its own terms.
 abbrev pub KeepsPresence : Schema → Schema → Presence → Presence → Type 0
 KeepsPresence s s' required required = Unit {0}
 KeepsPresence s s' optional optional = Unit {0}
@@ -95,6 +111,8 @@ KeepsPresence s s' (by_default d) (by_default d') = grow s s' d ≡ Some d'
 KeepsPresence s s' o o' = ⊥
 
 unfoldable mutual
+  -- The second type is a newer version of the first: the same kinds, bounds, sizes, alphabets, marks and root tables, with further additions,
+  -- items and alternatives behind marks alone.
   pub Extends : Schema → Schema → Type 0
   Extends cut cut = Unit {0}
   Extends boolean boolean = Unit {0}
@@ -113,13 +131,14 @@ unfoldable mutual
   Extends (choice roots e adds) (choice roots' e' adds') = ExtendsAlternatives false roots roots' × (e ≡ e') × ExtendsAlternatives e adds adds'
   Extends s s' = ⊥
 
-  -- one by one, and behind them further ones if these may come; an untagged choice may begin with further tags
+  -- One by one, and behind them further ones if these may come; an untagged choice may begin with further tags.
   pub ExtendsEach : Bool → Components → Components → Type 0
   ExtendsEach more no_component no_component = Unit {0}
   ExtendsEach true no_component (component t' o' s' cs') = Unit {0}
   ExtendsEach more (component t o s cs) (component t' o' s' cs') = Begins t t' × KeepsPresence s s' o o' × Extends s s' × ExtendsEach more cs cs'
   ExtendsEach more cs cs' = ⊥
 
+  -- The same of alternatives, whose tags are equal.
   pub ExtendsAlternatives : Bool → Alternatives → Alternatives → Type 0
   ExtendsAlternatives more no_alternative no_alternative = Unit {0}
   ExtendsAlternatives true no_alternative (alternative t' s' others') = Unit {0}

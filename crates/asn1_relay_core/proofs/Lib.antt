@@ -8,3 +8,4 @@ pub mod Integers
 pub mod Readers
 pub mod Octets
 pub mod Whole
+pub mod Answering

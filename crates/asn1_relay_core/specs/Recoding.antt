@@ -1,8 +1,10 @@
 -- What the translation of a message is.
-use Rattle.std.specs.Prelude.{◌≡◌, ◌≢◌, ℕ, ◌≤◌, List, [], ◌++◌, Option, Some, None, Result, Ok, Err, Vec}
+use Rattle.std.specs.Prelude.{◌≡◌, ◌≢◌, ℕ, ◌≤◌, true, List, [], ◌++◌, Option, Some, None, Result, Ok, Err, Vec}
 use Rattle.asn1_model.specs.Schema.{Schema}
 use Rattle.asn1_model.specs.Value.{Value, depth}
 use Rattle.asn1_model.specs.Rules.{Rules, uper, coer, canonical, IsEncoding}
+use Rattle.asn1_model.specs.Strings.{each_is, is_octet}
+use Rattle.asn1_relay_texts.specs.Kinds.{is_carried}
 use Rattle.asn1_relay_texts.specs.Fronts.{IsFront, HasNoFront}
 use Rattle.asn1_relay_core.specs.declared.errors.DecodeError.{DecodeError}
 use Rattle.asn1_relay_core.specs.declared.errors.DecodeError.TheVariants as Decoding
@@ -59,6 +61,17 @@ abbrev pub WritesNone : Rules → Schema → Value → EncodeError → Type 0
 WritesNone r s v Encoding.OutOfMemory = Unit {0}
 WritesNone r s v e = canonical r s v ≡ None
 
--- no two answers are right
-abbrev pub OneAnswer : Rules → Type 0
-OneAnswer source = (target : Rules) (s : Schema) (w : List ℕ) (x y : Answer) → IsAnswer source target s w x → IsAnswer source target s w y → x ≡ y
+-- the faults of a translation that these are
+abbrev pub source_fault_of : DecodeError → RecodeFault
+source_fault_of Decoding.OutOfMemory = Memory
+source_fault_of e = NotAnEncoding e
+
+abbrev pub target_fault_of : EncodeError → RecodeFault
+target_fault_of Encoding.OutOfMemory = Memory
+target_fault_of e = NoTarget e
+
+-- ---- laws
+
+-- No two answers to some octets are right.
+abbrev pub OneAnswerIsRight : Type 0
+OneAnswerIsRight = (from to : Codec) (s : Schema) (w : List ℕ) (x y : Answer) → is_carried s ≡ true → each_is is_octet w ≡ true → IsAnswer (rules_of from) (rules_of to) s w x → IsAnswer (rules_of from) (rules_of to) s w y → x ≡ y

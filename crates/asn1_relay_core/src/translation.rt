@@ -5,7 +5,7 @@ ghost use Rattle.asn1_relay_texts.specs.Fronts.{uper_front, coer_front, IsFront}
 ghost use Rattle.asn1_relay_texts.specs.Kinds.{is_carried};
 ghost use Rattle.asn1_relay_core.specs.Finding.{Misses};
 ghost use Rattle.asn1_relay_core.specs.Meaning.{schema_of, value_of};
-ghost use Rattle.asn1_relay_core.specs.Recoding.{rules_of, answer_of, Answer, IsAnswer, FindsNone, WritesNone};
+ghost use Rattle.asn1_relay_core.specs.Recoding.{rules_of, answer_of, Answer, IsAnswer, FindsNone, WritesNone, OneAnswerIsRight, source_fault_of, target_fault_of};
 ghost use Rattle.asn1_relay_core.specs.Writing.{Refuses};
 
 use crate::bits::{BitReader, BitWriter};
@@ -160,10 +160,33 @@ fn read(alloc: Global, codec: Codec, schema: &Schema, input: &[u8]) -> Result<Fr
     }
 }
 
+fn source_fault(error: DecodeError) -> RecodeFault
+    ensures { result ≡ source_fault_of error }
+{
+    match error {
+        DecodeError::OutOfMemory => RecodeFault::Memory,
+        error => RecodeFault::NotAnEncoding(error),
+    }
+}
+
+fn target_fault(error: EncodeError) -> RecodeFault
+    ensures { result ≡ target_fault_of error }
+{
+    match error {
+        EncodeError::OutOfMemory => RecodeFault::Memory,
+        error => RecodeFault::NoTarget(error),
+    }
+}
+
+/// No two answers to some octets are right, so that the right one is *the* answer.
+pub fn one_answer_is_right()
+    ensures { OneAnswerIsRight }
+{}
+
 /// Translates one message of the type `T`: octets all of which are one encoding by the rules `from`, of a value that nests at most 128
 /// levels, become the canonical encoding of that value by the rules `to`.
 ///
-/// The answer is the right one, and as there is one at most (`one_answer`), each fault comes exactly where it should; only want of
+/// The answer is the right one, and as there is one at most (`one_answer_is_right`), each fault comes exactly where it should; only want of
 /// memory may come in its place.
 pub fn recode<T: Wire>(
     alloc: Global,
@@ -179,8 +202,7 @@ pub fn recode<T: Wire>(
     };
     let front = match read(alloc, from, &schema, input) {
         Ok(front) => front,
-        Err(DecodeError::OutOfMemory) => return Err(RecodeFault::Memory),
-        Err(error) => return Err(RecodeFault::NotAnEncoding(error)),
+        Err(error) => return Err(source_fault(error)),
     };
     if front.len < input.len() {
         return Err(RecodeFault::Surplus);
@@ -193,7 +215,6 @@ pub fn recode<T: Wire>(
     };
     match write(alloc, to, &schema, &value) {
         Ok(octets) => Ok(octets),
-        Err(EncodeError::OutOfMemory) => Err(RecodeFault::Memory),
-        Err(error) => Err(RecodeFault::NoTarget(error)),
+        Err(error) => Err(target_fault(error)),
     }
 }

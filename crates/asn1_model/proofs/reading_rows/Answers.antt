@@ -1,14 +1,12 @@
 use Rattle.std.specs.Prelude.{◌≡◌, ℕ, true, false, cond, ◌==◌, IsTrue, [], ◌∷◌, replicate, Option, Some, None}
 use Rattle.std.proofs.Common.{refl}
 use borrow.Author.Tests.{ltb-true}
-use Rattle.asn1_model.specs.Value.{same, same_members, same_bag, same_parts}
-use Rattle.asn1_model.specs.Normal.{normal, normal_parts, normal_alternative}
-use Rattle.asn1_model.specs.Numbers.{places_up_to}
-use Rattle.asn1_model.specs.Form.{written, written_by}
 use Rattle.asn1_model.specs.Rules.{IsEncoding, lenient, strict_per, strict_oer}
 use Rattle.asn1_model.specs.Per
 use Rattle.asn1_model.specs.Oer
 use Rattle.asn1_model.proofs.Forms.{reads_written_by}
+use Rattle.asn1_model.proofs.OnValues.{on_values}
+use Rattle.asn1_model.specs.Types.{ones}
 use Rattle.asn1_model.proofs.reading_rows.Goals as goal
 
 abbrev PerChoice : Type 0
@@ -287,8 +285,107 @@ choice_48 Per.default_spelled_out p = Some true
 choice_48 Per.other_bitmap p = Some (Some (record { covered = 0; further = Some (0x07 ∷ []) ∷ [] }))
 choice_48 c p = None
 
+abbrev choice_49 : PerChoice
+choice_49 Per.long_small_number p = Some true
+choice_49 Per.longer_length p = cond (p == 3) (Some true) None
+choice_49 c p = None
+
+abbrev choice_50 : PerChoice
+choice_50 Per.any_filling p = cond (p == 1) (Some (ones 7)) None
+choice_50 c p = None
+
+abbrev choice_51 : PerChoice
+choice_51 Per.longer_length p = Some true
+choice_51 c p = None
+
+abbrev choice_52 : PerChoice
+choice_52 Per.long_small_number p = Some true
+choice_52 c p = None
+
+abbrev choice_53 : PerChoice
+choice_53 Per.longer_number p = Some 3
+choice_53 c p = None
+
+abbrev choice_54 : PerChoice
+choice_54 Per.octets_behind p = Some (0xAA ∷ [])
+choice_54 c p = None
+
+abbrev choice_55 : PerChoice
+choice_55 Per.other_bitmap p = Some (Some (record { covered = 1; further = [] }))
+choice_55 c p = None
+
+abbrev choice_56 : PerChoice
+choice_56 Per.other_bitmap p = Some (Some (record { covered = 1; further = [] }))
+choice_56 c p = None
+
+free_56 : (c : Per.Freedom) (p : ℕ) (d : Per.Detail c) → choice_56 c p ≡ Some d → IsTrue (strict_per c)
+free_56 Per.other_bitmap p d e = refl
+free_56 c p d e = cc
+
+abbrev choice_57 : OerChoice
+choice_57 Oer.other_bitmap p = Some (Some (record { covered = 1; further = [] }))
+choice_57 c p = None
+
+free_57 : (c : Oer.Freedom) (p : ℕ) (d : Oer.Detail c) → choice_57 c p ≡ Some d → IsTrue (strict_oer c)
+free_57 Oer.other_bitmap p d e = refl
+free_57 c p d e = cc
+
+abbrev choice_58 : PerChoice
+choice_58 Per.other_bitmap p = Some (Some (record { covered = 0; further = Some [] ∷ [] }))
+choice_58 c p = None
+
+abbrev choice_59 : PerChoice
+choice_59 Per.other_bitmap p = Some (Some (record { covered = 0; further = Some [] ∷ [] }))
+choice_59 c p = None
+
+free_59 : (c : Per.Freedom) (p : ℕ) (d : Per.Detail c) → choice_59 c p ≡ Some d → IsTrue (strict_per c)
+free_59 Per.other_bitmap p d e = refl
+free_59 c p d e = cc
+
+abbrev choice_60 : OerChoice
+choice_60 Oer.other_bitmap p = Some (Some (record { covered = 0; further = Some [] ∷ [] }))
+choice_60 c p = None
+
+free_60 : (c : Oer.Freedom) (p : ℕ) (d : Oer.Detail c) → choice_60 c p ≡ Some d → IsTrue (strict_oer c)
+free_60 Oer.other_bitmap p d e = refl
+free_60 c p d e = cc
+
+abbrev choice_61 : PerChoice
+choice_61 Per.default_spelled_out p = Some true
+choice_61 Per.other_bitmap p = Some (Some (record { covered = 1; further = [] }))
+choice_61 c p = None
+
+abbrev choice_62 : OerChoice
+choice_62 Oer.longer_length p = Some (Some 2)
+choice_62 Oer.longer_number p = Some 2
+choice_62 c p = None
+
+abbrev choice_63 : OerChoice
+choice_63 Oer.longer_number p = Some 3
+choice_63 c p = None
+
+abbrev choice_64 : OerChoice
+choice_64 Oer.long_tag p = Some true
+choice_64 c p = None
+
+abbrev choice_65 : OerChoice
+choice_65 Oer.longer_item p = Some (Some 1)
+choice_65 c p = None
+
+abbrev choice_66 : OerChoice
+choice_66 Oer.longer_item p = Some (Some 2)
+choice_66 c p = None
+
+abbrev choice_67 : OerChoice
+choice_67 Oer.any_filling p = Some (ones 4)
+choice_67 c p = None
+
+abbrev choice_68 : OerChoice
+choice_68 Oer.longer_length p = Some (Some 1)
+choice_68 c p = None
+
 pub returns : goal.returns
-unfolding IsEncoding written written_by normal normal_parts normal_alternative same same_members same_bag same_parts places_up_to Per.filling Per.at_octet Per.in_octets_of Per.constrained Per.short_length Per.fragments Per.counted Per.counted_octets Per.semi_constrained Per.unconstrained Per.normally_small Per.normally_few Per.whole_number Per.marked Per.integer_form Per.sized_root Per.sized Per.character Per.characters Per.string_form Per.added_item Per.item_form Per.filled_up Per.complete Per.open_type Per.spelled Per.additions Per.with_additions Per.bitmapped Per.sequence_form Per.in_any_order Per.form Per.component_forms Per.addition_forms Per.alternative_form Per.message Oer.length_form Oer.counted Oer.signed Oer.unsigned Oer.bounded Oer.integer_form Oer.item_form Oer.bits_form Oer.counted_bits Oer.bit_string_form Oer.octets_form Oer.tag_form Oer.open_type Oer.spelled Oer.additions Oer.with_additions Oer.bitmapped Oer.sequence_form Oer.members_form Oer.in_any_order Oer.form Oer.component_forms Oer.addition_forms Oer.alternative_form
+unfolding on_values IsEncoding
 returns c = (
   (ltb-true _ _ refl, reads_written_by lenient choice_0 _ 0 _ (λ c p d e. refl) refl),
   (ltb-true _ _ refl, reads_written_by lenient choice_1 _ 0 _ (λ c p d e. refl) refl),
@@ -339,4 +436,24 @@ returns c = (
   (ltb-true _ _ refl, reads_written_by strict_per choice_46 _ 0 _ free_46 refl),
   (ltb-true _ _ refl, reads_written_by strict_oer choice_47 _ 0 _ free_47 refl),
   (ltb-true _ _ refl, reads_written_by lenient choice_48 _ 0 _ (λ c p d e. refl) refl),
+  (ltb-true _ _ refl, reads_written_by lenient choice_49 _ 0 _ (λ c p d e. refl) refl),
+  (ltb-true _ _ refl, reads_written_by lenient choice_50 _ 0 _ (λ c p d e. refl) refl),
+  (ltb-true _ _ refl, reads_written_by lenient choice_51 _ 0 _ (λ c p d e. refl) refl),
+  (ltb-true _ _ refl, reads_written_by lenient choice_52 _ 0 _ (λ c p d e. refl) refl),
+  (ltb-true _ _ refl, reads_written_by lenient choice_53 _ 0 _ (λ c p d e. refl) refl),
+  (ltb-true _ _ refl, reads_written_by lenient choice_54 _ 0 _ (λ c p d e. refl) refl),
+  (ltb-true _ _ refl, reads_written_by lenient choice_55 _ 0 _ (λ c p d e. refl) refl),
+  (ltb-true _ _ refl, reads_written_by strict_per choice_56 _ 0 _ free_56 refl),
+  (ltb-true _ _ refl, reads_written_by strict_oer choice_57 _ 0 _ free_57 refl),
+  (ltb-true _ _ refl, reads_written_by lenient choice_58 _ 0 _ (λ c p d e. refl) refl),
+  (ltb-true _ _ refl, reads_written_by strict_per choice_59 _ 0 _ free_59 refl),
+  (ltb-true _ _ refl, reads_written_by strict_oer choice_60 _ 0 _ free_60 refl),
+  (ltb-true _ _ refl, reads_written_by lenient choice_61 _ 0 _ (λ c p d e. refl) refl),
+  (ltb-true _ _ refl, reads_written_by lenient choice_62 _ 0 _ (λ c p d e. refl) refl),
+  (ltb-true _ _ refl, reads_written_by lenient choice_63 _ 0 _ (λ c p d e. refl) refl),
+  (ltb-true _ _ refl, reads_written_by lenient choice_64 _ 0 _ (λ c p d e. refl) refl),
+  (ltb-true _ _ refl, reads_written_by lenient choice_65 _ 0 _ (λ c p d e. refl) refl),
+  (ltb-true _ _ refl, reads_written_by lenient choice_66 _ 0 _ (λ c p d e. refl) refl),
+  (ltb-true _ _ refl, reads_written_by lenient choice_67 _ 0 _ (λ c p d e. refl) refl),
+  (ltb-true _ _ refl, reads_written_by lenient choice_68 _ 0 _ (λ c p d e. refl) refl),
 )
