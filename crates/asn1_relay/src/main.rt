@@ -10,7 +10,13 @@ fn main(rt: HostRuntime) -> ExitCode {
     let status = match arguments(&rt) {
         Ok(words) => {
             let alloc = rt.alloc();
-            command(alloc, words.as_slice(), &mut rt.stdin(), &mut rt.stdout(), &mut errors)
+            command(
+                alloc,
+                words.as_slice(),
+                &mut rt.stdin(),
+                &mut rt.stdout(),
+                &mut errors,
+            )
         }
         Err(error) => refuse_arguments(&error, &mut errors),
     };
