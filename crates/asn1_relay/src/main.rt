@@ -1,0 +1,30 @@
+//! Translates messages between encoding rules of ASN.1, from standard input to standard output.
+#![tactic(auto)]
+
+use asn1_relay_command::{command, refuse_arguments};
+use std::process::ExitCode;
+use std::{env, io};
+
+fn main(rt: HostRuntime) -> ExitCode {
+    let mut errors = rt.stderr();
+    let status = match arguments(&rt) {
+        Ok(words) => {
+            let alloc = rt.alloc();
+            command(
+                alloc,
+                words.as_slice(),
+                &mut rt.stdin(),
+                &mut rt.stdout(),
+                &mut errors,
+            )
+        }
+        Err(error) => refuse_arguments(&error, &mut errors),
+    };
+    ExitCode::from(status)
+}
+
+/// The program's name and the words behind it.
+fn arguments(rt: &HostRuntime) -> io::Result<Vec<String>> {
+    let words = env::args(rt)?.collect(rt.alloc())?;
+    Ok(words)
+}

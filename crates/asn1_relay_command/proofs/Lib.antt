@@ -1,0 +1,2 @@
+pub mod PairParts
+pub mod OrderLemmas

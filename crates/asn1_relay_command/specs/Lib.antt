@@ -1,0 +1,4 @@
+pub mod Numbers
+pub mod Pairs
+pub mod Orders
+pub mod Runs

@@ -1,0 +1,103 @@
+-- What a run of the command does with its reader, whose octets are those that it still gives, and its writer, whose octets are those
+-- that it holds, where these are known.
+use Rattle.std.specs.Prelude.{◌≡◌, ◌⊎◌, ℕ, List, Option, Some, None}
+use Rattle.std.specs.Io.KnownBytes.{Appends, Consumes, IsAtEnd, Keeps}
+use Rattle.asn1_model.specs.Schema.{Schema, boolean}
+use Rattle.asn1_relay_core.specs.Recoding.{Answer, IsAnswer, answered, not_an_encoding, surplus, no_target, rules_of}
+use Rattle.asn1_relay_core.specs.declared.translation.RecodeFault.{RecodeFault}
+use Rattle.asn1_relay_core.specs.declared.translation.RecodeFault.TheVariants as recode_fault
+use Rattle.asn1_relay_command.specs.Numbers.{small_schema}
+use Rattle.asn1_relay_command.specs.Pairs.{pair_schema}
+use Rattle.asn1_relay_command.specs.declared.fault.Fault.{Fault}
+use Rattle.asn1_relay_command.specs.declared.fault.Fault.TheVariants as fault
+use Rattle.asn1_relay_command.specs.declared.order.Kind.{Kind}
+use Rattle.asn1_relay_command.specs.declared.order.Kind.TheVariants as kind
+use Rattle.asn1_relay_command.specs.declared.order.Order.{Order}
+
+-- ---- translating
+
+abbrev pub schema_named : Kind → Schema
+schema_named kind.Bool = boolean
+schema_named kind.Small = small_schema
+schema_named kind.Pair = pair_schema
+
+-- what a message becomes, by what was asked for
+abbrev pub Becomes : Order → List ℕ → Answer → Type 0
+Becomes order message answer = IsAnswer (rules_of order.from) (rules_of order.to) (schema_named order.kind) message answer
+
+abbrev pub fault_named : RecodeFault → Fault
+fault_named (recode_fault.NotAnEncoding e) = fault.NotAnEncoding
+fault_named recode_fault.Surplus = fault.SurplusOctets
+fault_named (recode_fault.NoTarget e) = fault.NoTargetEncoding
+fault_named recode_fault.Memory = fault.OutOfMemory
+
+-- a fault of translating is what becomes of the message, or want of memory
+abbrev pub IsRefusedBy : Order → List ℕ → Fault → Type 0
+IsRefusedBy order message fault.NotAnEncoding = Becomes order message not_an_encoding
+IsRefusedBy order message fault.SurplusOctets = Becomes order message surplus
+IsRefusedBy order message fault.NoTargetEncoding = Becomes order message no_target
+IsRefusedBy order message fault.OutOfMemory = Unit {0}
+IsRefusedBy order message fault.ReadFailed = ⊥
+IsRefusedBy order message fault.WriteFailed = ⊥
+
+-- ---- reading and writing
+
+-- a reader gave all its octets
+pub record IsAllRead (old new : Option (List ℕ)) (message : List ℕ) : Type 0 where
+  pub read : Consumes old new message
+  pub ended : IsAtEnd new
+
+-- all was read, and this became of it
+pub record IsAnswered (order : Order) (old new : Option (List ℕ)) (answer : Answer) : Type 0 where
+  pub message : List ℕ
+  pub read : IsAllRead old new message
+  pub answers : Becomes order message answer
+
+-- all was read and translated, and the answer was written
+pub record IsDone (order : Order) (unread unread' held held' : Option (List ℕ)) : Type 0 where
+  pub octets : List ℕ
+  pub right : IsAnswered order unread unread' (answered octets)
+  pub wrote : Appends held held' octets
+
+-- the octets that were to be written
+pub record IsCutOff (order : Order) (unread unread' : Option (List ℕ)) : Type 0 where
+  pub octets : List ℕ
+  pub right : IsAnswered order unread unread' (answered octets)
+
+-- a fault before there is an answer leaves the writer as it was
+abbrev pub StopsBy : Order → Option (List ℕ) → Option (List ℕ) → Option (List ℕ) → Option (List ℕ) → Fault → Type 0
+StopsBy order unread unread' held held' fault.NotAnEncoding = IsAnswered order unread unread' not_an_encoding × Keeps held held'
+StopsBy order unread unread' held held' fault.SurplusOctets = IsAnswered order unread unread' surplus × Keeps held held'
+StopsBy order unread unread' held held' fault.NoTargetEncoding = IsAnswered order unread unread' no_target × Keeps held held'
+StopsBy order unread unread' held held' fault.OutOfMemory = Keeps held held'
+StopsBy order unread unread' held held' fault.ReadFailed = Keeps held held'
+StopsBy order unread unread' held held' fault.WriteFailed = IsCutOff order unread unread'
+
+-- ---- statuses
+
+-- status 0: the command line asks for something, and that is done
+pub record HasDone (asked : Option Order) (unread unread' held held' : Option (List ℕ)) : Type 0 where
+  pub order : Order
+  pub asks : asked ≡ Some order
+  pub done : IsDone order unread unread' held held'
+
+-- the command line asks for something, and a fault stops it
+pub record IsStopped (asked : Option Order) (unread unread' held held' : Option (List ℕ)) : Type 0 where
+  pub order : Order
+  pub asks : asked ≡ Some order
+  pub reason : Fault
+  pub stops : StopsBy order unread unread' held held' reason
+
+-- nothing was read, and nothing written
+pub record IsUntouched (unread unread' held held' : Option (List ℕ)) : Type 0 where
+  pub unread_still : Keeps unread unread'
+  pub held_still : Keeps held held'
+
+-- status 1: no memory was left to read the command line, or a fault stopped the run
+abbrev pub HasFailed : Option Order → Option (List ℕ) → Option (List ℕ) → Option (List ℕ) → Option (List ℕ) → Type 0
+HasFailed asked unread unread' held held' = IsUntouched unread unread' held held' ⊎ IsStopped asked unread unread' held held'
+
+-- status 2: the command line asks for nothing
+pub record HasRefused (asked : Option Order) (unread unread' held held' : Option (List ℕ)) : Type 0 where
+  pub bad : asked ≡ None
+  pub untouched : IsUntouched unread unread' held held'

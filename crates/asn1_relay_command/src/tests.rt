@@ -1,0 +1,470 @@
+//! Runs of the command.
+use crate::{
+    Fault, Kind, Order, Pair, Small, command, read_order, refuse_arguments, translate_all,
+};
+use asn1_relay_core::{Codec, Wire};
+use std::io::{Error, ErrorKind};
+use std::process::Abort;
+use std::test::Fail;
+
+mod fakes;
+
+use fakes::{FakeReader, FakeWriter, Step};
+
+/// One run of `once`: its words, its input, and what comes of it.
+#[derive(Drop)]
+struct Row {
+    from: &'static str,
+    to: &'static str,
+    kind: &'static str,
+    input: &'static [u8],
+    status: u8,
+    output: &'static [u8],
+    line: &'static str,
+}
+
+const NOT_AN_ENCODING: &str = "asn1_relay: not an encoding\n";
+
+const SURPLUS_OCTETS: &str = "asn1_relay: surplus octets\n";
+
+const OUT_OF_MEMORY: &str = "asn1_relay: out of memory\n";
+
+const READ_FAILED: &str = "asn1_relay: read failed\n";
+
+const WRITE_FAILED: &str = "asn1_relay: write failed\n";
+
+fn done(
+    kind: &'static str,
+    from: &'static str,
+    to: &'static str,
+    input: &'static [u8],
+    output: &'static [u8],
+) -> Row {
+    Row {
+        from,
+        to,
+        kind,
+        input,
+        status: 0,
+        output,
+        line: "",
+    }
+}
+
+fn refused(
+    kind: &'static str,
+    from: &'static str,
+    to: &'static str,
+    input: &'static [u8],
+    line: &'static str,
+) -> Row {
+    Row {
+        from,
+        to,
+        kind,
+        input,
+        status: 1,
+        output: &[],
+        line,
+    }
+}
+
+/// Runs a row, and says whether memory was refused; all else has to be as the row says.
+fn is_refused_memory(rt: &(impl Abort + AllocGlobal), row: &Row) -> bool {
+    let words = [
+        "asn1_relay",
+        "once",
+        "--from",
+        row.from,
+        "--to",
+        row.to,
+        "--type",
+        row.kind,
+    ];
+    let steps = [Step::Octets(row.input)];
+    let mut input = FakeReader::new(&steps);
+    let mut output = FakeWriter::new();
+    let mut errors = FakeWriter::new();
+    let status = command(rt.alloc(), &words, &mut input, &mut output, &mut errors);
+    if errors.holds(OUT_OF_MEMORY.as_bytes()) {
+        assert_eq!(rt; status, 1);
+        assert!(rt; output.holds(&[]));
+        return true;
+    }
+    assert_eq!(rt; status, row.status, "{} {} {}", row.kind, row.from, row.to);
+    assert!(rt; output.holds(row.output) && output.is_flushed);
+    assert!(rt; errors.holds(row.line.as_bytes()));
+    false
+}
+
+/// Each row has its answer; of one run at most, where one request is refused, want of memory takes its place.
+fn check_rows(rt: &(impl Abort + AllocGlobal), rows: &[Row]) {
+    let mut refused = 0u32;
+    for row in rows {
+        refused = refused.saturating_add(u32::from(is_refused_memory(rt, row)));
+    }
+    assert!(rt; refused <= 1);
+}
+
+#[test]
+fn small_rows(rt: HostRuntime) {
+    let rows = [
+        done("small", "coer", "uper", &[0xFC], &[0x10]),
+        done("small", "coer", "uper", &[0xFF], &[0x40]),
+        refused("small", "coer", "uper", &[0x06], NOT_AN_ENCODING),
+        done("small", "uper", "coer", &[0x17], &[0xFC]),
+        refused("small", "uper", "coer", &[0xB0], NOT_AN_ENCODING),
+    ];
+    check_rows(&rt, &rows);
+}
+
+#[test]
+fn pair_rows(rt: HostRuntime) {
+    let rows = [
+        done("pair", "coer", "uper", &[0xFF, 0xFC], &[0x88]),
+        done("pair", "coer", "uper", &[0x00, 0x05], &[0x50]),
+        refused("pair", "coer", "uper", &[0xFF], NOT_AN_ENCODING),
+        done("pair", "uper", "coer", &[0x88], &[0xFF, 0xFC]),
+        done("pair", "uper", "coer", &[0x57], &[0x00, 0x05]),
+        refused("pair", "uper", "coer", &[0xD8], NOT_AN_ENCODING),
+        refused("pair", "uper", "coer", &[0x88, 0x00], SURPLUS_OCTETS),
+    ];
+    check_rows(&rt, &rows);
+}
+
+#[test]
+fn bool_rows(rt: HostRuntime) {
+    let rows = [
+        refused("bool", "coer", "uper", &[0x05], NOT_AN_ENCODING),
+        refused("bool", "coer", "uper", &[], NOT_AN_ENCODING),
+        refused("bool", "coer", "uper", &[0xFF, 0xFF], SURPLUS_OCTETS),
+        done("bool", "coer", "uper", &[0xFF], &[0x80]),
+    ];
+    check_rows(&rt, &rows);
+}
+
+/// Runs a bad command line, before which no input is read, and says whether memory was refused.
+fn bad_line_is_refused_memory(rt: &(impl Abort + AllocGlobal), words: &[&str]) -> bool {
+    let mut input = FakeReader::new(&[Step::Failure]);
+    let mut output = FakeWriter::new();
+    let mut errors = FakeWriter::new();
+    let status = command(rt.alloc(), words, &mut input, &mut output, &mut errors);
+    assert!(rt; input.is_unread() && output.holds(&[]) && !errors.holds(&[]));
+    let is_refused = errors.holds(OUT_OF_MEMORY.as_bytes());
+    assert_eq!(rt; status, if is_refused { 1 } else { 2 }, "{words:?}");
+    is_refused
+}
+
+#[test]
+fn bad_lines(rt: HostRuntime) {
+    let lines: [&[&str]; 17] = [
+        &[],
+        &["asn1_relay"],
+        &["asn1_relay", "--help"],
+        &["asn1_relay", "help"],
+        &["asn1_relay", "once", "--help"],
+        &[
+            "asn1_relay",
+            "ONCE",
+            "--from",
+            "coer",
+            "--to",
+            "uper",
+            "--type",
+            "bool",
+        ],
+        &[
+            "asn1_relay",
+            "stream",
+            "--from",
+            "coer",
+            "--to",
+            "uper",
+            "--type",
+            "bool",
+        ],
+        &[
+            "asn1_relay",
+            "route",
+            "--from",
+            "coer",
+            "--pair",
+            "plain",
+            "--hop",
+            "new:uper",
+        ],
+        &[
+            "asn1_relay",
+            "once",
+            "--from",
+            "aper",
+            "--to",
+            "uper",
+            "--type",
+            "bool",
+        ],
+        &[
+            "asn1_relay",
+            "once",
+            "--from",
+            "coer",
+            "--to",
+            "aper",
+            "--type",
+            "bool",
+        ],
+        &[
+            "asn1_relay",
+            "once",
+            "--from",
+            "coer",
+            "--to",
+            "uper",
+            "--type",
+            "integer",
+        ],
+        &[
+            "asn1_relay",
+            "once",
+            "--from",
+            "Coer",
+            "--to",
+            "uper",
+            "--type",
+            "bool",
+        ],
+        &[
+            "asn1_relay",
+            "once",
+            "--from",
+            "coer",
+            "--to",
+            "uper",
+            "--type",
+            "Bool",
+        ],
+        &["asn1_relay", "once", "--to", "uper", "--type", "bool"],
+        &["asn1_relay", "once", "--from", "coer", "--to", "uper"],
+        &[
+            "asn1_relay",
+            "once",
+            "--from",
+            "coer",
+            "--from",
+            "coer",
+            "--to",
+            "uper",
+            "--type",
+            "bool",
+        ],
+        &[
+            "asn1_relay",
+            "once",
+            "--from",
+            "coer",
+            "--to",
+            "uper",
+            "--type",
+            "bool",
+            "surplus",
+        ],
+    ];
+    let mut refused = 0u32;
+    for words in lines {
+        refused = refused.saturating_add(u32::from(bad_line_is_refused_memory(&rt, words)));
+    }
+    assert!(rt; refused <= 1);
+}
+
+/// What one run is given, and what comes of it.
+#[derive(Drop)]
+struct Run {
+    steps: &'static [Step],
+    /// How many octets one write takes at most.
+    step: usize,
+    /// How many writes succeed.
+    writes: u32,
+    can_flush: bool,
+    status: u8,
+    output: &'static [u8],
+    line: &'static str,
+}
+
+/// Runs `once` on a pair from UPER to COER, and says whether memory was refused; all else has to be as the run says.
+fn run_is_refused_memory(rt: &(impl Abort + AllocGlobal), run: &Run) -> bool {
+    let words = [
+        "asn1_relay",
+        "once",
+        "--from",
+        "uper",
+        "--to",
+        "coer",
+        "--type",
+        "pair",
+    ];
+    let mut input = FakeReader::new(run.steps);
+    let mut output = FakeWriter::new();
+    output.step = run.step;
+    output.writes_left = run.writes;
+    output.can_flush = run.can_flush;
+    let mut errors = FakeWriter::new();
+    let status = command(rt.alloc(), &words, &mut input, &mut output, &mut errors);
+    if errors.holds(OUT_OF_MEMORY.as_bytes()) {
+        assert!(rt; status == 1 && output.holds(&[]));
+        return true;
+    }
+    assert_eq!(rt; status, run.status, "{:?} {}", run.steps, run.writes);
+    assert!(rt; output.holds(run.output));
+    assert!(rt; status != 0 || output.is_flushed);
+    assert!(rt; errors.holds(run.line.as_bytes()));
+    false
+}
+
+/// The same of several runs, of which one may be refused memory.
+fn check_runs(rt: &(impl Abort + AllocGlobal), runs: &[Run]) {
+    let mut refused = 0u32;
+    for run in runs {
+        refused = refused.saturating_add(u32::from(run_is_refused_memory(rt, run)));
+    }
+    assert!(rt; refused <= 1);
+}
+
+fn reading(steps: &'static [Step], status: u8, output: &'static [u8], line: &'static str) -> Run {
+    Run {
+        steps,
+        step: 1,
+        writes: u32::MAX,
+        can_flush: true,
+        status,
+        output,
+        line,
+    }
+}
+
+fn writing(writes: u32, can_flush: bool, output: &'static [u8]) -> Run {
+    Run {
+        steps: &[Step::Octets(&[0x88])],
+        step: 1,
+        writes,
+        can_flush,
+        status: 1,
+        output,
+        line: WRITE_FAILED,
+    }
+}
+
+#[test]
+fn reads(rt: HostRuntime) {
+    let runs = [
+        reading(&[Step::Failure], 1, &[], READ_FAILED),
+        reading(&[Step::Octets(&[0x88]), Step::Failure], 1, &[], READ_FAILED),
+        // the input is read to its end before it is translated
+        reading(&[Step::Octets(&[0xD8]), Step::Failure], 1, &[], READ_FAILED),
+        reading(
+            &[Step::Octets(&[0x88]), Step::Octets(&[0x00])],
+            1,
+            &[],
+            SURPLUS_OCTETS,
+        ),
+        reading(
+            &[Step::Interrupted, Step::Octets(&[0x88])],
+            0,
+            &[0xFF, 0xFC],
+            "",
+        ),
+    ];
+    check_runs(&rt, &runs);
+}
+
+#[test]
+fn writes(rt: HostRuntime) {
+    let runs = [
+        writing(0, true, &[]),
+        writing(1, true, &[0xFF]),
+        writing(2, false, &[0xFF, 0xFC]),
+        reading(&[Step::Octets(&[0x57])], 0, &[0x00, 0x05], ""),
+    ];
+    check_runs(&rt, &runs);
+}
+
+#[test]
+fn silent_errors(rt: HostRuntime) {
+    let mut output = FakeWriter::new();
+    let mut errors = FakeWriter::new();
+    errors.writes_left = 0;
+    let mut input = FakeReader::new(&[Step::Octets(&[0x01, 0xFC])]);
+    let words = [
+        "asn1_relay",
+        "once",
+        "--from",
+        "coer",
+        "--to",
+        "uper",
+        "--type",
+        "pair",
+    ];
+    let status = command(rt.alloc(), &words, &mut input, &mut output, &mut errors);
+    assert!(rt; status == 1 && output.holds(&[]) && errors.holds(&[]));
+    let mut input = FakeReader::new(&[Step::Failure]);
+    let words = ["asn1_relay", "twice"];
+    let status = command(rt.alloc(), &words, &mut input, &mut output, &mut errors);
+    assert!(rt; (status == 1 || status == 2) && input.is_unread());
+}
+
+#[test]
+fn arguments_that_cannot_be_had(rt: HostRuntime) {
+    let mut errors = FakeWriter::new();
+    let no_memory = Error::from(ErrorKind::OutOfMemory);
+    assert_eq!(rt; refuse_arguments(&no_memory, &mut errors), 1);
+    assert!(rt; errors.holds(OUT_OF_MEMORY.as_bytes()));
+    let mut errors = FakeWriter::new();
+    let no_text = Error::from(ErrorKind::InvalidData);
+    assert_eq!(rt; refuse_arguments(&no_text, &mut errors), 2);
+    assert!(rt; !errors.holds(&[]));
+}
+
+#[test]
+fn types(rt: HostRuntime) -> Result<(), Fail> {
+    let least = Small::new(-5).ok_or("a small number")?;
+    assert_eq!(rt; least.get(), -5);
+    assert_eq!(rt; Small::new(5).map(|small| small.get()), Some(5));
+    assert_eq!(rt; Small::new(-6), None);
+    assert_eq!(rt; Small::new(6), None);
+    let pair = Pair { a: true, b: least };
+    let mut answers = 0u32;
+    for _ in 0..2 {
+        if let Ok(value) = pair.to_value(rt.alloc()) {
+            assert_eq!(rt; Pair::from_value(&value), Some(pair));
+            assert_eq!(rt; Small::from_value(&value), None);
+            answers = answers.saturating_add(1);
+        }
+    }
+    assert!(rt; 0 < answers);
+    Ok(())
+}
+
+#[test]
+fn orders(rt: HostRuntime) {
+    let words = ["relay", "once", "--type=bool", "--to=coer", "--from=uper"];
+    let order = Order {
+        from: Codec::Uper,
+        to: Codec::Coer,
+        kind: Kind::Bool,
+    };
+    let mut answers = 0u32;
+    for _ in 0..3 {
+        if let Ok(read) = read_order(rt.alloc(), &words) {
+            assert_eq!(rt; read, order);
+            answers = answers.saturating_add(1);
+        }
+        match translate_all(rt.alloc(), order, &[0x80]) {
+            Ok(octets) => {
+                assert!(rt; octets.as_slice() == [0xFF].as_slice());
+                answers = answers.saturating_add(1);
+            }
+            Err(fault) => assert_eq!(rt; fault, Fault::OutOfMemory),
+        }
+    }
+    // one request at most is refused
+    assert!(rt; 5 <= answers);
+}

@@ -1,0 +1,10 @@
+use Rattle.std.proofs.Common.{◌≡◌, List, ◌++◌, option_map, drop, map}
+use Rattle.asn1_relay_core.specs.Meaning.{schema_of, value_of}
+use Rattle.asn1_relay_texts.specs.Texts.{each_text}
+use Rattle.asn1_relay_core.specs.Writing.{text_by, octet_leaves}
+use Rattle.asn1_relay_core.proofs.coer.+write_value.Given as goal
+
+abbrev pub invariant-loop-place : goal.invariant-loop-place
+invariant-loop-place l =
+    option_map (λ w. l.octets.items ++ w) (each_text (text_by octet_leaves) (map schema_of (drop l.place l.component-items)) (map value_of (drop l.place l.values.items)))
+    ≡ option_map (λ w. l.fn.octets.items ++ w) (each_text (text_by octet_leaves) (map schema_of l.component-items) (map value_of l.values.items))

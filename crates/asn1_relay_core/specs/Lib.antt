@@ -1,0 +1,4 @@
+pub mod Finding
+pub mod Meaning
+pub mod Recoding
+pub mod Writing
