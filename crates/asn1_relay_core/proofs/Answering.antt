@@ -1,11 +1,11 @@
 -- No two answers to some octets are right, and what a translation finds is right.
 use mir.Syntax.{w8}
 use mir.Val.{Fits}
-use Rattle.std.proofs.Common.{◌≡◌, ◌≢◌, ℕ, zero, suc, ◌^◌, ◌<◌, ◌≤◌, Bool, true, false, List, [], ◌∷◌, ◌++◌, length, get_or, take, drop, refl, ap, subst, sym, ◌∙◌, Option, Some, None, Result, Ok, Err, Vec, Global, inl, inr, ◌⊎◌, arith, IfSome}
+use Rattle.std.proofs.Common.{◌≡◌, ◌≢◌, ℕ, zero, suc, ◌<◌, ◌≤◌, true, List, [], ◌∷◌, ◌++◌, length, get_or, take, drop, refl, ap, subst, sym, ◌∙◌, Some, None, Result, Ok, Err, Vec, Global, inl, inr, ◌⊎◌, arith, IfSome}
 use Rattle.std.proofs.lemmas.List.{append-nil, append_cancel_left}
 use Rattle.std.proofs.Math.ListN.{take-append-drop}
 use Rattle.asn1_model.specs.Schema.{Schema}
-use Rattle.asn1_model.specs.Value.{Value, depth}
+use Rattle.asn1_model.specs.Value.{Value}
 use Rattle.asn1_model.specs.Strings.{each_is, is_octet}
 use Rattle.asn1_model.specs.Rules.{Rules, canonical, IsEncoding}
 use Rattle.asn1_relay_texts.specs.Kinds.{is_carried, is_value_of}

@@ -1,6 +1,6 @@
 -- The binary binary of a number: joined, cut, and one of them changed.
-use Rattle.std.proofs.Common.{◌≡◌, ℕ, zero, suc, ◌+◌, ◌-◌, ◌*◌, ◌/◌, ◌%◌, ◌^◌, ◌<◌, ◌≤◌, ◌==◌, Bool, true, false, List, [], ◌∷◌, ◌++◌, length, set, get_or, replicate, refl, ap, sym, ◌∙◌, append_assoc, length-append, arith, add-zero, cond}
-use Rattle.std.proofs.lemmas.Nat.{shr-shr, mod-mul-add, field_of, shr_split, pow_pos, div-mul-add}
+use Rattle.std.proofs.Common.{◌≡◌, ℕ, zero, suc, ◌+◌, ◌*◌, ◌/◌, ◌%◌, ◌^◌, ◌<◌, ◌==◌, ◌∷◌, ◌++◌, length, refl, ap, sym, ◌∙◌, arith}
+use Rattle.std.proofs.lemmas.Nat.{shr-shr, mod-mul-add, field_of, div-mul-add}
 use Rattle.std.proofs.Math.Nat.{zero-add, suc-add, add_comm}
 use Rattle.std.proofs.Math.Pow.{mod-mod-pow}
 use Rattle.asn1_model.specs.Numbers.{binary}

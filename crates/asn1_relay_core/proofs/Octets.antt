@@ -1,7 +1,7 @@
 -- Numbers as octets, at run time.
 use mir.Syntax.{w128}
 use mir.Val.{SFits, of_z, to_z}
-use Rattle.std.proofs.Common.{◌≡◌, ℕ, zero, suc, ◌+◌, ◌-◌, ◌*◌, ◌/◌, ◌%◌, ◌^◌, ◌<◌, ◌≤◌, ℤ, pos, negsuc, Bool, true, false, cond, ltb, leb, max, Option, Some, None, option_map, Result, Ok, Err, MatchResult, ◌-ℤ◌, ◌<ℤ◌, ◌≤ℤ◌, List, [], ◌∷◌, ◌++◌, length, take, drop, refl, ap, sym, subst, ◌∙◌, arith, inl, inr, append_assoc, bit_and, pow-suc, add-one}
+use Rattle.std.proofs.Common.{◌≡◌, ℕ, suc, ◌+◌, ◌-◌, ◌*◌, ◌/◌, ◌%◌, ◌^◌, ◌<◌, ◌≤◌, ℤ, pos, negsuc, Bool, true, false, cond, ltb, leb, max, Option, Some, None, option_map, Result, Ok, Err, MatchResult, ◌-ℤ◌, ◌<ℤ◌, ◌≤ℤ◌, List, [], ◌∷◌, ◌++◌, take, drop, refl, ap, sym, subst, ◌∙◌, arith, inl, inr, append_assoc, bit_and, pow-suc, add-one}
 use Rattle.std.specs.Int.Count.{count_leading_zeros}
 use Rattle.std.proofs.Math.Nat.{pow-le-pow_right}
 use Rattle.std.proofs.lemmas.Nat.{and_mask, pow_pos, pow-add, div-mul-add}
@@ -10,7 +10,7 @@ use Rattle.std.proofs.lemmas.Bool.{lt-ltb, le-ltb, leb-true, cases_lt}
 use Rattle.std.proofs.Math.Nat.{div-lt_iff_lt-mul, div-eq_of_lt}
 use Rattle.asn1_relay_texts.specs.Reading.{signed_number, fixed_between}
 use lib.Signed.{mag}
-use Rattle.asn1_model.specs.Numbers.{digits, number_after, width, least_octets, signed_octets, is_within, fits_128}
+use Rattle.asn1_model.specs.Numbers.{digits, number_after, width, least_octets, signed_octets, is_within}
 use Rattle.asn1_model.specs.Oer.{fixed_octets}
 use Rattle.asn1_model.specs.Value as Asn1Value
 use Rattle.asn1_relay_texts.specs.Texts.{octets_of}

@@ -1,7 +1,7 @@
 -- Bits behind octets and fewer than eight further bits.
-use Rattle.std.proofs.Common.{◌≡◌, ℕ, zero, suc, ◌+◌, ◌-◌, ◌*◌, ◌/◌, ◌%◌, ◌^◌, ◌<◌, ◌≤◌, ◌≢◌, ◌==◌, Bool, true, false, ◌&&◌, List, [], ◌∷◌, ◌++◌, length, refl, ap, sym, subst, ◌∙◌, append_assoc, length-append, arith, bit_or, bit_and, ◌==◌, true, false, replicate, get_or, take}
+use Rattle.std.proofs.Common.{◌≡◌, ℕ, zero, suc, ◌+◌, ◌-◌, ◌*◌, ◌/◌, ◌%◌, ◌^◌, ◌<◌, ◌≤◌, ◌≢◌, ◌==◌, Bool, true, false, ◌&&◌, List, [], ◌∷◌, ◌++◌, length, refl, ap, sym, ◌∙◌, append_assoc, length-append, arith, bit_or, bit_and, ◌==◌, true, false, replicate, get_or, take}
 use Rattle.std.specs.Prelude.{flat_map}
-use Rattle.std.proofs.lemmas.Nat.{or_shifted, shl_whole, shl_below, or_lt, and_mask, one_shl, shr_split, pow_pos}
+use Rattle.std.proofs.lemmas.Nat.{or_shifted, shl_whole, shl_below, or_lt, and_mask, one_shl, pow_pos}
 use Rattle.std.proofs.lemmas.Bool.{eqb-true, lt-ltb}
 use Rattle.asn1_model.specs.Strings.{each_is, is_octet}
 use Rattle.asn1_relay_texts.proofs.DigitReaders.{each_join}

@@ -1,7 +1,12 @@
 -- The types and values at run time, level by level.
-use Rattle.std.proofs.Common.{◌≡◌, ℕ, ℤ, Bool, true, false, List, [], ◌∷◌, map, refl, ap, subst, sym, ◌∙◌, Vec, Global, Option, None}
+use mir.Syntax.{w128}
+use mir.Val.{SFits}
+use Rattle.std.proofs.Common.{◌≡◌, ℤ, Bool, true, false, ◌&&◌, [], ◌∷◌, map, refl, ap, subst, sym, ◌∙◌, Vec, Global}
 use Rattle.asn1_model.specs.Schema as Asn1
 use Rattle.asn1_model.specs.Value as Asn1Value
+use Rattle.asn1_model.specs.Numbers.{fits_128}
+use Rattle.asn1_relay_texts.specs.Kinds.{is_carried}
+use Rattle.asn1_relay_texts.proofs.Whole.{fits_from_range}
 use Rattle.asn1_relay_texts.specs.Texts.{required_components, present_parts}
 use Rattle.asn1_relay_core.specs.Meaning.{schema_of, schema_step, value_of, value_step, integer_between}
 use Rattle.asn1_relay_core.specs.declared.schema.Schema as SB
@@ -54,3 +59,16 @@ module _ (P : Asn1Value.Value → Type 0) where
       go (VO.Boolean b) e = let k = e ∙ VV.rolls-Boolean b in subst P (sym (ap value_of k ∙ value_boolean b)) (f b k)
       go (VO.Integer n) e = let k = e ∙ VV.rolls-Integer n in subst P (sym (ap value_of k ∙ value_integer n)) (g n k)
       go (VO.Sequence w) e = let k = e ∙ VV.rolls-Sequence w in subst P (sym (ap value_of k ∙ value_sequence w)) (h w k)
+
+-- ---- carried types
+
+pub carried_boolean : is_carried (schema_of SB.Boolean) ≡ true
+carried_boolean = ap is_carried schema_boolean
+
+-- a SEQUENCE of one component
+pub carried_single : (v : Vec SB.Schema Global) (s : SB.Schema) → v.items ≡ s ∷ [] → is_carried (schema_of s) ≡ true → is_carried (schema_of (SW.Sequence v)) ≡ true
+carried_single v s e h = ap is_carried (schema_sequence v) ∙ ap (λ l. is_carried (Asn1.sequence (required_components 0 (map schema_of l)) false Asn1.no_component)) e ∙ ap (λ b. b && true) h
+
+-- an INTEGER between two bounds of 128 bits
+pub carried_integer : (low high : ℤ) → SFits w128 low → SFits w128 high → is_carried (schema_of (SB.Integer low high)) ≡ true
+carried_integer low high a b = ap is_carried (schema_integer low high) ∙ ap (λ x. x && fits_128 high && true && true) (fits_from_range low a) ∙ ap (λ x. x && true && true) (fits_from_range high b)

@@ -1,11 +1,11 @@
 -- Whole messages: what was written and what was read, in the terms of the encodings.
 use mir.Syntax.{w8}
 use mir.Val.{Fits}
-use Rattle.std.proofs.Common.{◌≡◌, ℕ, zero, suc, ◌+◌, ◌-◌, cond, Result, Ok, Err, MatchResult, ◌/◌, ◌*◌, ◌^◌, ◌<◌, ◌≤◌, Bool, true, false, List, [], ◌∷◌, ◌++◌, length, get_or, take, refl, ap, subst, sym, ◌∙◌, Option, Some, None, option_map, option_and_then, arith, length-append}
+use Rattle.std.proofs.Common.{◌≡◌, ℕ, zero, suc, ◌+◌, ◌-◌, cond, Result, Ok, Err, MatchResult, ◌/◌, ◌^◌, ◌<◌, ◌≤◌, Bool, true, false, List, [], ◌∷◌, ◌++◌, length, get_or, take, refl, ap, subst, sym, ◌∙◌, Option, Some, None, option_map, option_and_then, arith, length-append}
 use Rattle.std.proofs.lemmas.Bool.{lt-ltb, le-ltb}
 use Rattle.std.proofs.lemmas.List.{length-take}
-use Rattle.asn1_model.specs.Schema.{required, Schema, Components, component}
-use Rattle.asn1_model.specs.Value.{Value, truth, number, fields, Parts, end, absent, present, depth}
+use Rattle.asn1_model.specs.Schema.{Schema, Components}
+use Rattle.asn1_model.specs.Value.{Value, truth, number, fields, Parts, end, present}
 use Rattle.asn1_model.specs.Numbers.{octet_bits}
 use Rattle.asn1_model.specs.Strings.{each_is, is_octet}
 use Rattle.asn1_model.specs.Form.{written}
@@ -14,12 +14,12 @@ use Rattle.asn1_model.specs.Per
 use Rattle.asn1_model.specs.Oer
 use Rattle.asn1_relay_texts.specs.Kinds.{is_carried}
 use Rattle.asn1_relay_texts.specs.Texts.{bits_of, octets_of}
-use Rattle.asn1_relay_texts.specs.Messages.{filled, packed_message}
+use Rattle.asn1_relay_texts.specs.Messages.{packed_message}
 use Rattle.asn1_relay_texts.specs.Reading.{read_bits, read_octets}
 use Rattle.asn1_relay_texts.proofs.Carried.{Carried, CarriedEach, truths, numbers, row, none, one_more, carried}
 use Rattle.asn1_relay_texts.proofs.Shapes.{bits_of_parts, bits_fields, bits_more, octets_of_parts, octets_fields, octets_more}
 use Rattle.asn1_relay_texts.proofs.Messages.{uper_encoding, coer_encoding, canonical_is}
-use Rattle.asn1_relay_texts.proofs.Filling.{message_by_bits, length-octet_bits}
+use Rattle.asn1_relay_texts.proofs.Filling.{length-octet_bits}
 use Rattle.asn1_relay_texts.specs.Fronts.{IsFront, HasNoFront}
 use Rattle.asn1_relay_texts.specs.Laws.{FindsTheFront}
 use Rattle.asn1_relay_texts.proofs.Found.{front_of_cut}

@@ -5,7 +5,7 @@ use Rattle.asn1_model.specs.Value.{Value, depth}
 use Rattle.asn1_model.specs.Rules.{Rules, uper, coer, canonical, IsEncoding}
 use Rattle.asn1_model.specs.Strings.{each_is, is_octet}
 use Rattle.asn1_relay_texts.specs.Kinds.{is_carried}
-use Rattle.asn1_relay_texts.specs.Fronts.{IsFront, HasNoFront}
+use Rattle.asn1_relay_texts.specs.Fronts.{HasNoFront}
 use Rattle.asn1_relay_core.specs.declared.errors.DecodeError.{DecodeError}
 use Rattle.asn1_relay_core.specs.declared.errors.DecodeError.TheVariants as Decoding
 use Rattle.asn1_relay_core.specs.declared.errors.EncodeError.{EncodeError}

@@ -11,8 +11,5 @@ mod wire;
 
 pub use errors::{DecodeError, EncodeError};
 pub use schema::{Schema, Value};
-pub use translation::{Codec, RecodeFault, recode};
+pub use translation::{Codec, RecodeFault, one_answer_is_right, recode};
 pub use wire::Wire;
-
-#[cfg(test)]
-mod tests;

@@ -218,3 +218,6 @@ pub fn recode<T: Wire>(
         Err(error) => Err(target_fault(error)),
     }
 }
+
+#[cfg(test)]
+mod tests;

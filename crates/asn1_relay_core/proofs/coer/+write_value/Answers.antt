@@ -1,7 +1,7 @@
 use mir.Val.{SFits}
 use mir.Syntax.{w128}
 use Rattle.std.proofs.lemmas.Int.{to_z-of_z}
-use Rattle.std.proofs.Common.{rules, cond, ◌≡◌, ℕ, length, MatchResult, subst, ap, sym, ◌∙◌}
+use Rattle.std.proofs.Common.{rules, cond, ◌≡◌, length, MatchResult, subst, ap, sym, ◌∙◌}
 use Rattle.std.proofs.lemmas.Result.{err_from_is_err_and}
 use Rattle.asn1_relay_core.specs.Writing.{octet_leaves, Adds, Refuses}
 use Rattle.asn1_relay_core.proofs.Writers.{number_at, no_truth, no_number, no_fields, uneven, refused_component, all_components}

@@ -1,7 +1,6 @@
-use Rattle.std.proofs.Common.{◌≡◌, ◌≤◌, ◌-◌, ◌^◌, ◌*◌, ◌/◌, negsuc, ◌-ℤ◌, arith, ap, sym, ◌∙◌}
+use Rattle.std.proofs.Common.{◌-◌, negsuc, ◌-ℤ◌, arith, ap, ◌∙◌}
 use mir.Syntax.{w128}
 use mir.Val.{to_z, of_z}
-use Rattle.std.proofs.lemmas.Int.{ints}
 use Rattle.asn1_relay_core.proofs.Octets.{highest_is, low_number, high_number, negative_at}
 use Rattle.asn1_relay_core.proofs.coer.signed_number.Goals as goal
 

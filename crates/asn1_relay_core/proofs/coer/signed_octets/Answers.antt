@@ -1,6 +1,4 @@
-use Rattle.std.proofs.Common.{arith, rules, sym, ◌∙◌, ap}
-use mir.Val.{SFits}
-use mir.Syntax.{w128}
+use Rattle.std.proofs.Common.{arith}
 use Rattle.std.proofs.lemmas.Int.{to_z-of_z}
 use Rattle.asn1_relay_core.proofs.Octets.{signed_octets_at, signed_octets_most}
 use Rattle.asn1_relay_core.proofs.coer.signed_octets.Goals as goal

@@ -1,4 +1,3 @@
-use mir.Val.{SFits}
 use mir.Syntax.{w128}
 use mir.Val.{of_z}
 use Rattle.std.proofs.Common.{◌≡◌, ◌∷◌, Some, pos, arith, ◌<ℤ◌, ◌≤ℤ◌, ap, sym, ◌∙◌}

@@ -1,4 +1,3 @@
-use Rattle.std.proofs.Common.{sym}
 use Rattle.asn1_model.specs.Rules.{uper, coer}
 use Rattle.asn1_relay_texts.specs.Fronts.{uper_front, coer_front}
 use Rattle.asn1_relay_texts.proofs.Found.{uper_found, coer_found, no_uper_front_of_cut, no_coer_front_of_cut}

@@ -1,4 +1,4 @@
-use Rattle.std.proofs.Common.{◌≤◌, length, arith}
+use Rattle.std.proofs.Common.{arith}
 use Rattle.asn1_relay_core.specs.Meaning.{schema_of, value_of}
 use Rattle.asn1_relay_core.proofs.Whole.{octets_left}
 use Rattle.asn1_relay_core.proofs.translation.read_coer.Goals as goal

@@ -1,5 +1,5 @@
-use Rattle.std.proofs.Common.{◌≤◌, length, arith, false, true, ◌≡◌, sym, ap, ◌∙◌}
-use Rattle.asn1_relay_texts.specs.Kinds.{is_carried, is_value_of}
+use Rattle.std.proofs.Common.{false, true, ◌≡◌, ap, ◌∙◌}
+use Rattle.asn1_relay_texts.specs.Kinds.{is_carried}
 use Rattle.asn1_relay_core.specs.Meaning.{schema_of, value_of}
 use Rattle.asn1_relay_core.proofs.Answering.{right_not_found, right_surplus, right_answered, right_not_written, value_of_type}
 use Rattle.asn1_relay_core.proofs.translation.recode.Goals as goal

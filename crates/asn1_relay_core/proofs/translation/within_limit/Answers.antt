@@ -1,4 +1,4 @@
-use Rattle.std.proofs.Common.{◌≡◌, ◌≤◌, ◌-◌, ◌^◌, length, take, arith, sym}
+use Rattle.std.proofs.Common.{◌-◌, ◌^◌, arith, sym}
 use Rattle.std.proofs.lemmas.List.{length-take}
 use Rattle.asn1_relay_core.proofs.Whole.{take_whole}
 use Rattle.asn1_relay_core.proofs.translation.within_limit.Goals as goal

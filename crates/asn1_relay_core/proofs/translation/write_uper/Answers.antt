@@ -1,4 +1,3 @@
-use Rattle.std.proofs.Common.{◌∙◌, ap, sym}
 use Rattle.std.proofs.lemmas.Result.{err_from_is_err_and}
 use Rattle.asn1_relay_core.specs.Meaning.{schema_of, value_of}
 use Rattle.asn1_relay_core.proofs.Whole.{uper_written, uper_refused}

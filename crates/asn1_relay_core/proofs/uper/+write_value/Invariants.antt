@@ -1,4 +1,4 @@
-use Rattle.std.proofs.Common.{◌≡◌, List, ◌++◌, option_map, drop, map}
+use Rattle.std.proofs.Common.{◌≡◌, ◌++◌, option_map, drop, map}
 use Rattle.asn1_relay_core.specs.Meaning.{schema_of, value_of}
 use Rattle.asn1_relay_texts.specs.Texts.{each_text}
 use Rattle.asn1_relay_core.specs.Writing.{text_by, bit_leaves}

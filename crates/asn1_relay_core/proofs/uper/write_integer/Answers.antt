@@ -1,6 +1,4 @@
-use mir.Val.{SFits}
-use mir.Syntax.{w128}
-use Rattle.std.proofs.Common.{rules, arith, ◌<ℤ◌, ◌≤ℤ◌}
+use Rattle.std.proofs.Common.{arith, ◌<ℤ◌, ◌≤ℤ◌}
 use Rattle.std.proofs.lemmas.Int.{ints, to_z-of_z}
 use Rattle.asn1_relay_core.proofs.Integers.{below_is_outside, above_is_outside, bits_outside, adds_offset}
 use Rattle.asn1_relay_core.proofs.uper.write_integer.Goals as goal

@@ -1,4 +1,4 @@
-use Rattle.std.proofs.Common.{◌≡◌, ℕ, ◌+◌, ◌-◌, ◌/◌, ◌%◌, ◌^◌, ◌==◌, ◌∷◌, drop, ap, arith, List, sym, ◌∙◌}
+use Rattle.std.proofs.Common.{ℕ, ◌+◌, ◌-◌, ◌/◌, ◌%◌, ◌^◌, ◌==◌, ◌∷◌, drop, ap, arith, sym, ◌∙◌}
 use Rattle.asn1_model.specs.Numbers.{octet_bits}
 use Rattle.asn1_relay_core.proofs.Taking.{bit_at}
 use Rattle.asn1_relay_core.proofs.bits.BitReader.take_bit.Goals as goal

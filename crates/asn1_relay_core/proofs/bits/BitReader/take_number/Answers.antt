@@ -1,4 +1,4 @@
-use Rattle.std.proofs.Common.{◌≡◌, ℕ, ◌+◌, ◌<◌, ◌*◌, ◌^◌, arith, ap, sym, ◌∙◌, ◌∷◌, length}
+use Rattle.std.proofs.Common.{◌≡◌, arith, ap, ◌∙◌, length}
 use Rattle.asn1_relay_texts.specs.Texts.{bit_digit}
 use Rattle.asn1_relay_core.proofs.Taking.{bit_digit_is, bit_digit-lt, twice, twice_fits, number_step, rest_step}
 use Rattle.asn1_relay_core.proofs.bits.BitReader.take_number.Goals as goal

@@ -1,4 +1,4 @@
-use Rattle.std.proofs.Common.{◌≡◌, ℕ, ◌+◌, ◌-◌, ◌^◌, ◌<◌, ◌≤◌, take, drop, length, map}
+use Rattle.std.proofs.Common.{◌≡◌, ◌+◌, ◌-◌, ◌^◌, ◌<◌, take, drop, length, map}
 use Rattle.asn1_model.specs.Numbers.{number_after}
 use Rattle.asn1_relay_texts.specs.Texts.{bit_digit}
 use Rattle.asn1_relay_core.proofs.bits.BitReader.take_number.Given as goal

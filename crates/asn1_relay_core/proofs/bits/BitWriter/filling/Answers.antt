@@ -1,5 +1,4 @@
-use Rattle.std.proofs.Common.{◌==◌, ◌≡◌, ◌++◌, ap, arith, List, [], ◌≢◌, rules, sym, ◌∙◌}
-use Rattle.asn1_model.specs.Numbers.{binary}
+use Rattle.std.proofs.Common.{◌==◌, ap, arith, sym, ◌∙◌}
 use Rattle.asn1_relay_core.proofs.Packing.{filling_over, filling_none, filling_whole}
 use Rattle.asn1_relay_core.proofs.bits.BitWriter.filling.Goals as goal
 

@@ -1,4 +1,4 @@
-use Rattle.std.proofs.Common.{◌≡◌, ◌++◌, ap, arith, List, sym, ◌∙◌}
+use Rattle.std.proofs.Common.{◌∙◌}
 use Rattle.asn1_relay_core.proofs.Packing.{only_octets}
 use Rattle.asn1_relay_texts.proofs.Filling.{message_by_bits}
 use Rattle.asn1_relay_core.proofs.bits.BitWriter.into_octets.Goals as goal

@@ -1,4 +1,4 @@
-use Rattle.std.proofs.Common.{◌≡◌, ap, List, [], ◌++◌, refl}
+use Rattle.std.proofs.Common.{ap, [], ◌++◌}
 use Rattle.std.specs.Prelude.{flat_map}
 use Rattle.asn1_model.specs.Numbers.{binary}
 use Rattle.asn1_relay_core.proofs.bits.BitWriter.new.Goals as goal

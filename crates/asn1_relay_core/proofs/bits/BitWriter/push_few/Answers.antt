@@ -1,8 +1,7 @@
-use Rattle.std.proofs.Common.{ℕ, ◌+◌, ◌-◌, ◌^◌, ◌<◌, ap, arith, sym, ◌∙◌, List, [], ◌∷◌, ◌++◌, bit_or, bit_and, ◌≡◌, ◌*◌, ◌%◌, ◌/◌}
+use Rattle.std.proofs.Common.{ℕ, ◌+◌, ◌-◌, ◌^◌, ap, arith, ◌∙◌, ◌++◌, bit_or, bit_and, ◌≡◌, ◌*◌, ◌%◌}
 use Rattle.std.specs.Prelude.{flat_map}
 use Rattle.std.proofs.lemmas.Nat.{shr_below}
 use Rattle.asn1_model.specs.Numbers.{binary}
-use Rattle.asn1_relay_core.proofs.Digits.{length-binary}
 use Rattle.asn1_relay_core.proofs.Packing.{joined_lt, behind_rest, octet_off, masked_lt, octets_and_one}
 use Rattle.asn1_relay_core.proofs.bits.BitWriter.push_few.Goals as goal
 

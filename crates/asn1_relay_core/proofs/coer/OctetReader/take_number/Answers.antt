@@ -1,4 +1,4 @@
-use Rattle.std.proofs.Common.{arith, ap, sym, ◌∙◌, length}
+use Rattle.std.proofs.Common.{arith, ap, length}
 use Rattle.asn1_relay_core.proofs.Octets.{one_more, one_more_fits, number_step, rest_step}
 use Rattle.asn1_relay_core.proofs.coer.OctetReader.take_number.Goals as goal
 

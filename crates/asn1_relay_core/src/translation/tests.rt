@@ -1,0 +1,267 @@
+//! The rows: octets of one set of rules, and what stands for them in another.
+ghost use Rattle.std.specs.Prelude.{IfOk, IsTrue};
+ghost use Rattle.asn1_relay_texts.specs.Kinds.{is_carried};
+ghost use Rattle.asn1_relay_core.specs.Meaning.{schema_of};
+
+use crate::translation::{read, write};
+use crate::{Codec, DecodeError, RecodeFault, Schema, Value, recode};
+use std::alloc::{AllocError, Global};
+use std::process::Abort;
+use std::test::Fail;
+
+#[test]
+fn booleans(rt: HostRuntime) -> Result<(), Fail> {
+    let alloc = rt.alloc();
+    let octets = recode::<bool>(alloc, Codec::Coer, Codec::Uper, &[0xFF])?;
+    assert_eq!(rt; octets.as_slice(), [0x80].as_slice());
+    let octets = recode::<bool>(alloc, Codec::Uper, Codec::Coer, &[0x7F])?;
+    assert_eq!(rt; octets.as_slice(), [0x00].as_slice());
+    let octets = recode::<bool>(alloc, Codec::Coer, Codec::Coer, &[0x00])?;
+    assert_eq!(rt; octets.as_slice(), [0x00].as_slice());
+    Ok(())
+}
+
+#[test]
+fn boolean_faults(rt: HostRuntime) {
+    let alloc = rt.alloc();
+    let invalid = RecodeFault::NotAnEncoding(DecodeError::InvalidBool);
+    let incomplete = RecodeFault::NotAnEncoding(DecodeError::Incomplete);
+    assert_eq!(rt;
+        recode::<bool>(alloc, Codec::Coer, Codec::Uper, &[0x05]).err(),
+        Some(invalid)
+    );
+    assert_eq!(rt;
+        recode::<bool>(alloc, Codec::Coer, Codec::Uper, &[0xFF, 0xFF]).err(),
+        Some(RecodeFault::Surplus)
+    );
+    assert_eq!(rt;
+        recode::<bool>(alloc, Codec::Coer, Codec::Uper, &[]).err(),
+        Some(incomplete)
+    );
+    assert_eq!(rt;
+        recode::<bool>(alloc, Codec::Uper, Codec::Coer, &[]).err(),
+        Some(incomplete)
+    );
+    assert_eq!(rt;
+        recode::<bool>(alloc, Codec::Uper, Codec::Coer, &[0x80, 0x00]).err(),
+        Some(RecodeFault::Surplus)
+    );
+}
+
+fn integer(low: i128, high: i128) -> Schema
+    ensures { IsTrue (is_carried (schema_of result)) }
+{
+    Schema::Integer { low, high }
+}
+
+/// The encodings of a number between two bounds, and the number that they are read as.
+fn written_and_read(
+    rt: &impl Abort,
+    alloc: Global,
+    low: i128,
+    high: i128,
+    number: i128,
+    coer: &[u8],
+    uper: &[u8],
+) -> Result<(), Fail> {
+    let schema = integer(low, high);
+    let value = Value::Integer(number);
+    let octets = write(alloc, Codec::Coer, &schema, &value)?;
+    assert_eq!(rt;
+        octets.as_slice(),
+        coer,
+        "{number} from {low} to {high} in COER"
+    );
+    let bits = write(alloc, Codec::Uper, &schema, &value)?;
+    assert_eq!(rt;
+        bits.as_slice(),
+        uper,
+        "{number} from {low} to {high} in UPER"
+    );
+    let front = read(alloc, Codec::Coer, &schema, coer)?;
+    assert_eq!(rt; front.len, coer.len());
+    assert!(rt;
+        matches!(&front.value, Value::Integer(n) if *n == number),
+        "{number} from {low} to {high} from COER"
+    );
+    let front = read(alloc, Codec::Uper, &schema, uper)?;
+    assert_eq!(rt; front.len, uper.len());
+    assert!(rt;
+        matches!(&front.value, Value::Integer(n) if *n == number),
+        "{number} from {low} to {high} from UPER"
+    );
+    Ok(())
+}
+
+#[test]
+fn numbers_that_are_not_negative(rt: HostRuntime) -> Result<(), Fail> {
+    let alloc = rt.alloc();
+    written_and_read(&rt, alloc, 5, 5, 5, &[0x05], &[0x00])?;
+    written_and_read(&rt, alloc, 0, 1, 1, &[0x01], &[0x80])?;
+    written_and_read(&rt, alloc, 0, 2, 2, &[0x02], &[0x80])?;
+    written_and_read(&rt, alloc, 0, 254, 254, &[0xFE], &[0xFE])?;
+    written_and_read(&rt, alloc, 0, 255, 255, &[0xFF], &[0xFF])?;
+    written_and_read(&rt, alloc, 0, 256, 256, &[0x01, 0x00], &[0x80, 0x00])?;
+    written_and_read(&rt, alloc, 0, 65534, 65534, &[0xFF, 0xFE], &[0xFF, 0xFE])?;
+    written_and_read(&rt, alloc, 0, 65535, 65535, &[0xFF, 0xFF], &[0xFF, 0xFF])?;
+    written_and_read(&rt, alloc, 0, 65536, 65536, &[0, 1, 0, 0], &[0x80, 0, 0])?;
+    Ok(())
+}
+
+#[test]
+fn large_numbers(rt: HostRuntime) -> Result<(), Fail> {
+    let alloc = rt.alloc();
+    let most = [0xFF, 0xFF, 0xFF, 0xFF];
+    written_and_read(&rt, alloc, 0, 4294967295, 4294967295, &most, &most)?;
+    written_and_read(
+        &rt,
+        alloc,
+        0,
+        4294967296,
+        4294967296,
+        &[0, 0, 0, 1, 0, 0, 0, 0],
+        &[0x80, 0, 0, 0, 0],
+    )?;
+    let most = [0xFF, 0xFF, 0xFF, 0xFF, 0xFF, 0xFF, 0xFF, 0xFF];
+    written_and_read(
+        &rt,
+        alloc,
+        0,
+        18446744073709551615,
+        18446744073709551615,
+        &most,
+        &most,
+    )?;
+    let coer = [9, 1, 0, 0, 0, 0, 0, 0, 0, 0];
+    let uper = [0x80, 0, 0, 0, 0, 0, 0, 0, 0];
+    written_and_read(
+        &rt,
+        alloc,
+        0,
+        18446744073709551616,
+        18446744073709551616,
+        &coer,
+        &uper,
+    )?;
+    written_and_read(
+        &rt,
+        alloc,
+        0,
+        18446744073709551616,
+        0,
+        &[1, 0],
+        &[0, 0, 0, 0, 0, 0, 0, 0, 0],
+    )?;
+    Ok(())
+}
+
+#[test]
+fn negative_numbers(rt: HostRuntime) -> Result<(), Fail> {
+    let alloc = rt.alloc();
+    written_and_read(&rt, alloc, -5, 5, -4, &[0xFC], &[0x10])?;
+    written_and_read(&rt, alloc, -128, 127, -128, &[0x80], &[0x00])?;
+    written_and_read(&rt, alloc, -129, 127, -129, &[0xFF, 0x7F], &[0x00, 0x00])?;
+    written_and_read(&rt, alloc, -1, 128, 128, &[0x00, 0x80], &[0x81])?;
+    written_and_read(
+        &rt,
+        alloc,
+        -32768,
+        32767,
+        -128,
+        &[0xFF, 0x80],
+        &[0x7F, 0x80],
+    )?;
+    written_and_read(
+        &rt,
+        alloc,
+        -32769,
+        0,
+        -32769,
+        &[0xFF, 0xFF, 0x7F, 0xFF],
+        &[0x00, 0x00],
+    )?;
+    written_and_read(
+        &rt,
+        alloc,
+        -2147483648,
+        2147483647,
+        -1,
+        &[0xFF, 0xFF, 0xFF, 0xFF],
+        &[0x7F, 0xFF, 0xFF, 0xFF],
+    )?;
+    let coer = [0xFF, 0xFF, 0xFF, 0xFF, 0x7F, 0xFF, 0xFF, 0xFF];
+    written_and_read(
+        &rt,
+        alloc,
+        -2147483649,
+        0,
+        -2147483649,
+        &coer,
+        &[0, 0, 0, 0],
+    )?;
+    let coer = [0x80, 0, 0, 0, 0, 0, 0, 0];
+    written_and_read(
+        &rt,
+        alloc,
+        -9223372036854775808,
+        9223372036854775807,
+        -9223372036854775808,
+        &coer,
+        &[0, 0, 0, 0, 0, 0, 0, 0],
+    )?;
+    let coer = [9, 0xFF, 0x7F, 0xFF, 0xFF, 0xFF, 0xFF, 0xFF, 0xFF, 0xFF];
+    written_and_read(
+        &rt,
+        alloc,
+        -9223372036854775809,
+        0,
+        -9223372036854775809,
+        &coer,
+        &[0, 0, 0, 0, 0, 0, 0, 0],
+    )?;
+    written_and_read(
+        &rt,
+        alloc,
+        -9223372036854775809,
+        0,
+        -1,
+        &[1, 0xFF],
+        &[0x80, 0, 0, 0, 0, 0, 0, 0],
+    )?;
+    let uper = [0; 16];
+    let coer = [16, 0x80, 0, 0, 0, 0, 0, 0, 0, 0, 0, 0, 0, 0, 0, 0, 0];
+    written_and_read(&rt, alloc, i128::MIN, i128::MAX, i128::MIN, &coer, &uper)?;
+    Ok(())
+}
+
+/// Sequences of one component each, so many, around a BOOLEAN.
+fn nested(alloc: Global, levels: u32) -> Result<Schema, AllocError>
+    ensures { IfOk result (λ s. IsTrue (is_carried (schema_of s))) }
+{
+    let mut schema = Schema::Boolean;
+    for _ in 0..levels {
+        schema = Schema::Sequence(vec![in alloc; schema]?);
+    }
+    Ok(schema)
+}
+
+#[test]
+fn nested_sequences(rt: HostRuntime) -> Result<(), Fail> {
+    let alloc = rt.alloc();
+    let schema = nested(alloc, 128)?;
+    let front = read(alloc, Codec::Coer, &schema, &[0xFF])?;
+    assert_eq!(rt; front.len, 1);
+    let octets = write(alloc, Codec::Uper, &schema, &front.value)?;
+    assert_eq!(rt; octets.as_slice(), [0x80].as_slice());
+    let schema = nested(alloc, 129)?;
+    let too_deep = DecodeError::ExceedsMaxParseDepth;
+    assert_eq!(rt;
+        read(alloc, Codec::Coer, &schema, &[0xFF]).err(),
+        Some(too_deep)
+    );
+    assert_eq!(rt;
+        read(alloc, Codec::Uper, &schema, &[0x80]).err(),
+        Some(too_deep)
+    );
+    Ok(())
+}
