@@ -1,7 +1,9 @@
 //! Rows of bits, every alignment with every width, and what is answered when memory is refused.
 ghost use Rattle.std.specs.Prelude.{◌<◌, ◌≤◌, ◌^◌, length};
 
-use crate::{FieldBits, FieldFault, FieldFaultKind, FieldShape, FieldValue, read_fields, write_fields};
+use crate::{
+    FieldBits, FieldFault, FieldFaultKind, FieldShape, FieldValue, read_fields, write_fields,
+};
 use asn1_values_alphabets::CharacterAlphabet;
 use asn1_values_bits::{BitBuffer, BitReader};
 use asn1_values_numbers::Integer;
@@ -135,8 +137,14 @@ fn longer_octets_are_refused(rt: HostRuntime) {
         field: 0,
         kind: FieldFaultKind::NotShortest,
     };
-    assert_eq!(rt; fault_of(rt.alloc(), &[0x00, 0x7F], FieldShape::Whole(2)), Some(wanted));
-    assert_eq!(rt; fault_of(rt.alloc(), &[0x00], FieldShape::Whole(0)), Some(wanted));
+    assert_eq!(rt;
+        fault_of(rt.alloc(), &[0x00, 0x7F], FieldShape::Whole(2)),
+        Some(wanted)
+    );
+    assert_eq!(rt;
+        fault_of(rt.alloc(), &[0x00], FieldShape::Whole(0)),
+        Some(wanted)
+    );
 }
 
 #[test]
@@ -145,9 +153,18 @@ fn missing_bits_are_told(rt: HostRuntime) {
         field: 0,
         kind: FieldFaultKind::Short,
     };
-    assert_eq!(rt; fault_of(rt.alloc(), &[0x7F], FieldShape::Number(9)), Some(wanted));
-    assert_eq!(rt; fault_of(rt.alloc(), &[0x7F], FieldShape::Octets(usize::MAX)), Some(wanted));
-    assert_eq!(rt; fault_of(rt.alloc(), &[0x7F], FieldShape::Bits(9)), Some(wanted));
+    assert_eq!(rt;
+        fault_of(rt.alloc(), &[0x7F], FieldShape::Number(9)),
+        Some(wanted)
+    );
+    assert_eq!(rt;
+        fault_of(rt.alloc(), &[0x7F], FieldShape::Octets(usize::MAX)),
+        Some(wanted)
+    );
+    assert_eq!(rt;
+        fault_of(rt.alloc(), &[0x7F], FieldShape::Bits(9)),
+        Some(wanted)
+    );
 }
 
 #[test]
@@ -158,7 +175,10 @@ fn what_does_not_fit_is_told(rt: HostRuntime) {
     };
     let large = FieldBits::Number { value: 8, width: 3 };
     assert_eq!(rt; unwritten(rt.alloc(), large), Some(wanted));
-    assert_eq!(rt; fault_of(rt.alloc(), &[0x7F], FieldShape::Number(129)), Some(wanted));
+    assert_eq!(rt;
+        fault_of(rt.alloc(), &[0x7F], FieldShape::Number(129)),
+        Some(wanted)
+    );
 }
 
 #[test]

@@ -161,7 +161,10 @@ fn fixed_strings_give_their_octets(rt: HostRuntime) -> Result<(), Fail> {
 
 #[test]
 fn fixed_strings_are_zeros_at_first(rt: HostRuntime) {
-    assert_eq!(rt; FixedOctetString::<2>::default().as_slice(), [0, 0].as_slice());
+    assert_eq!(rt;
+        FixedOctetString::<2>::default().as_slice(),
+        [0, 0].as_slice()
+    );
     assert_eq!(rt; FixedOctetString::<0>::default().len(), 0);
 }
 
