@@ -2,7 +2,7 @@
 use crate::{
     Fault, Kind, Order, Pair, Small, command, read_order, refuse_arguments, translate_all,
 };
-use asn1_relay_core::{Codec, Wire};
+use asn1_relay_core::{Codec, DecodeError, RecodeFault, Wire, recode};
 use std::io::{Error, ErrorKind};
 use std::process::Abort;
 use std::test::Fail;
@@ -467,4 +467,34 @@ fn orders(rt: HostRuntime) {
     }
     // one request at most is refused
     assert!(rt; 5 <= answers);
+}
+
+/// The fault of a translation; one request for memory at most is refused.
+fn fault_of<T: Wire>(
+    rt: &impl AllocGlobal,
+    from: Codec,
+    to: Codec,
+    input: &[u8],
+) -> Option<RecodeFault> {
+    match recode::<T>(rt.alloc(), from, to, input).err() {
+        Some(RecodeFault::Memory) => recode::<T>(rt.alloc(), from, to, input).err(),
+        fault => fault,
+    }
+}
+
+#[test]
+fn kinds_of_faults(rt: HostRuntime) {
+    let outside = Some(RecodeFault::NotAnEncoding(DecodeError::ValueConstraintNotSatisfied));
+    let incomplete = Some(RecodeFault::NotAnEncoding(DecodeError::Incomplete));
+    let invalid = Some(RecodeFault::NotAnEncoding(DecodeError::InvalidBool));
+    let surplus = Some(RecodeFault::Surplus);
+    let (coer, uper) = (Codec::Coer, Codec::Uper);
+    assert_eq!(rt; fault_of::<Small>(&rt, coer, uper, &[0x06]), outside);
+    assert_eq!(rt; fault_of::<Small>(&rt, uper, coer, &[0xB0]), outside);
+    assert_eq!(rt; fault_of::<Pair>(&rt, coer, uper, &[0xFF]), incomplete);
+    assert_eq!(rt; fault_of::<Pair>(&rt, uper, coer, &[0xD8]), outside);
+    assert_eq!(rt; fault_of::<Pair>(&rt, uper, coer, &[0x88, 0x00]), surplus);
+    assert_eq!(rt; fault_of::<bool>(&rt, coer, uper, &[0x05]), invalid);
+    assert_eq!(rt; fault_of::<bool>(&rt, coer, uper, &[0xFF, 0xFF]), surplus);
+    assert_eq!(rt; fault_of::<bool>(&rt, coer, uper, &[]), incomplete);
 }
