@@ -1,6 +1,6 @@
 -- Fronts of character strings of the packed rules: a character is told by its number, or by its place among those permitted.
-use Rattle.std.proofs.Common.{◌≡◌, ℕ, ◌+◌, ◌-◌, ◌^◌, ◌<◌, ◌≤◌, leb, ltb, lit<, Bool, true, false, cond, ◌&&◌, List, [], ◌∷◌, length, map, Option, Some, None, option_map, refl, ap, sym, ◌∙◌, inl, inr, ◌⊎◌, arith}
-use Rattle.std.proofs.lemmas.Bool.{ltb-true, leb-true, le-leb, and_parts, and_from, or_cases}
+use Rattle.std.proofs.Common.{◌≡◌, ℕ, ◌+◌, ◌-◌, ◌^◌, ◌<◌, ◌≤◌, leb, ltb, lit<, Bool, true, false, cond, ◌&&◌, List, [], ◌∷◌, length, map, Option, Some, None, option_map, filter, refl, ap, sym, ◌∙◌, inl, inr, ◌⊎◌, arith}
+use Rattle.std.proofs.lemmas.Bool.{ltb-true, leb-true, le-leb, lt-ltb, and_parts, and_from, or_cases}
 use Rattle.std.proofs.Math.Nat.{pow-le-pow_right}
 use Rattle.asn1_model.specs.Schema.{Alphabet, Counts, Size, StringKind, numeric, printable, visible, ia5, bmp, general, graphic, teletex, utf8}
 use Rattle.asn1_model.specs.Lawful.{are_ascending, is_alphabet}
@@ -146,19 +146,67 @@ own_orderly graphic h = cc
 own_orderly teletex h = cc
 own_orderly utf8 h = cc
 
-own_singles : (k : StringKind) (cs : List ℕ) → is_of_octets k ≡ false → (are_ascending ltb cs && may_hold k cs) ≡ true → Orderly (singles cs)
-own_singles numeric cs h e = let p = and_parts _ _ e in singles_few (characters_of numeric) cs refl (omega arith) p.0 p.1
-own_singles printable cs h e = let p = and_parts _ _ e in singles_few (characters_of printable) cs refl (omega arith) p.0 p.1
-own_singles visible cs h e = let p = and_parts _ _ e in singles_few (characters_of visible) cs refl (omega arith) p.0 p.1
-own_singles ia5 cs h e = let p = and_parts _ _ e in singles_few (characters_of ia5) cs refl (omega arith) p.0 p.1
-own_singles bmp cs h e = let p = and_parts _ _ e in singles_few (characters_of bmp) cs refl (omega arith) p.0 p.1
+-- ---- what a test leaves of ascending numbers
+without_second : (c d : ℕ) (cs : List ℕ) → are_ascending ltb (c ∷ d ∷ cs) ≡ true → are_ascending ltb (c ∷ cs) ≡ true
+without_second c d [] h = refl
+without_second c d (e ∷ cs) h =
+    let p = and_parts _ _ h in
+    let q = and_parts _ _ p.1 in
+    let a = ltb-true c d p.0 in
+    let b = ltb-true d e q.0 in
+    and_from _ _ (lt-ltb c e (omega arith)) q.1
+
+behind_ascends : (test : ℕ → Bool) (c : ℕ) (cs : List ℕ) → are_ascending ltb (c ∷ cs) ≡ true → are_ascending ltb (c ∷ filter test cs) ≡ true
+behind_ascends test c [] h = refl
+behind_ascends test c (d ∷ cs) h = step (test d) (behind_ascends test c cs (without_second c d cs h)) (behind_ascends test d cs ((and_parts _ _ h).1))
+  where
+    step : (b : Bool) → are_ascending ltb (c ∷ filter test cs) ≡ true → are_ascending ltb (d ∷ filter test cs) ≡ true → are_ascending ltb (c ∷ cond b (d ∷ filter test cs) (filter test cs)) ≡ true
+    step true k l = and_from _ _ ((and_parts _ _ h).0) l
+    step false k l = k
+
+rest_ascends : (c : ℕ) (cs : List ℕ) → are_ascending ltb (c ∷ cs) ≡ true → are_ascending ltb cs ≡ true
+rest_ascends c [] h = refl
+rest_ascends c (d ∷ cs) h = (and_parts _ _ h).1
+
+left_ascends : (test : ℕ → Bool) (cs : List ℕ) → are_ascending ltb cs ≡ true → are_ascending ltb (filter test cs) ≡ true
+left_ascends test [] h = refl
+left_ascends test (c ∷ cs) h = step (test c) (behind_ascends test c cs h) (left_ascends test cs (rest_ascends c cs h))
+  where
+    step : (b : Bool) → are_ascending ltb (c ∷ filter test cs) ≡ true → are_ascending ltb (filter test cs) ≡ true → are_ascending ltb (cond b (c ∷ filter test cs) (filter test cs)) ≡ true
+    step true k l = k
+    step false k l = l
+
+left_passes : (test : ℕ → Bool) (cs : List ℕ) → each_is test (filter test cs) ≡ true
+left_passes test [] = refl
+left_passes test (c ∷ cs) = step (test c) refl (left_passes test cs)
+  where
+    step : (b : Bool) → test c ≡ b → each_is test (filter test cs) ≡ true → each_is test (cond b (c ∷ filter test cs) (filter test cs)) ≡ true
+    step true e k = and_from _ _ e k
+    step false e k = k
+
+own_left : (k : StringKind) (cs : List ℕ) → tops (characters_of k) ≡ true → largest (characters_of k) ≤ 65535 → are_ascending ltb cs ≡ true → Orderly (singles (filter (is_among (characters_of k)) cs))
+own_left k cs h i e = singles_few (characters_of k) (filter (is_among (characters_of k)) cs) h i (left_ascends (is_among (characters_of k)) cs e) (left_passes (is_among (characters_of k)) cs)
+
+own_singles : (k : StringKind) (cs : List ℕ) → is_of_octets k ≡ false → are_ascending ltb cs ≡ true → Orderly (singles (filter (is_among (characters_of k)) cs))
+own_singles numeric cs h e = own_left numeric cs refl (omega arith) e
+own_singles printable cs h e = own_left printable cs refl (omega arith) e
+own_singles visible cs h e = own_left visible cs refl (omega arith) e
+own_singles ia5 cs h e = own_left ia5 cs refl (omega arith) e
+own_singles bmp cs h e = own_left bmp cs refl (omega arith) e
 own_singles general cs h e = cc
 own_singles graphic cs h e = cc
 own_singles teletex cs h e = cc
 own_singles utf8 cs h e = cc
 
+alphabet_ascends : (k : StringKind) (cs : List ℕ) → is_of_octets k ≡ false → is_alphabet k (Some cs) ≡ true → are_ascending ltb cs ≡ true
+alphabet_ascends k cs h e = go (or_cases _ _ e)
+  where
+    go : (is_of_octets k ≡ true) ⊎ (are_ascending ltb cs ≡ true) → are_ascending ltb cs ≡ true
+    go (inl p) = cc
+    go (inr p) = p
+
 permitted_orderly : (k : StringKind) (extensible : Bool) (cs : Option (List ℕ)) → is_of_octets k ≡ false → is_alphabet k cs ≡ true → Orderly (permitted_in k extensible cs)
-permitted_orderly k false (Some cs) h e = own_singles k cs h e
+permitted_orderly k false (Some cs) h e = own_singles k cs h (alphabet_ascends k cs h e)
 permitted_orderly k false None h e = own_orderly k h
 permitted_orderly k true cs h e = own_orderly k h
 
