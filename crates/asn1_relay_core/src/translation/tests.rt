@@ -253,6 +253,8 @@ fn nested_sequences(rt: HostRuntime) -> Result<(), Fail> {
     assert_eq!(rt; front.len, 1);
     let octets = write(alloc, Codec::Uper, &schema, &front.value)?;
     assert_eq!(rt; octets.as_slice(), [0x80].as_slice());
+    let front = read(alloc, Codec::Uper, &schema, &[0x80])?;
+    assert_eq!(rt; front.len, 1);
     let schema = nested(alloc, 129)?;
     let too_deep = DecodeError::ExceedsMaxParseDepth;
     assert_eq!(rt;
@@ -264,4 +266,39 @@ fn nested_sequences(rt: HostRuntime) -> Result<(), Fail> {
         Some(too_deep)
     );
     Ok(())
+}
+
+/// Why octets are no encoding of a number between two bounds.
+fn refused(
+    rt: &impl Abort,
+    alloc: Global,
+    codec: Codec,
+    schema: &Schema,
+    octets: &[u8],
+    reason: DecodeError,
+)
+    requires { IsTrue (is_carried (schema_of schema.now)) }
+{
+    assert_eq!(rt; read(alloc, codec, schema, octets).err(), Some(reason));
+}
+
+#[test]
+fn reasons(rt: HostRuntime) {
+    let alloc = rt.alloc();
+    let wide = integer(0, 18446744073709551616);
+    let empty = DecodeError::ZeroLengthOfLength;
+    refused(&rt, alloc, Codec::Coer, &wide, &[0x00], empty);
+    refused(&rt, alloc, Codec::Coer, &wide, &[0x80], empty);
+    let padded = DecodeError::NotValidCanonicalEncoding;
+    refused(&rt, alloc, Codec::Coer, &wide, &[0x02, 0x00, 0x05], padded);
+    refused(&rt, alloc, Codec::Coer, &wide, &[0x81, 0x01, 0x05], padded);
+    let incomplete = DecodeError::Incomplete;
+    refused(&rt, alloc, Codec::Coer, &wide, &[0x02, 0x01], incomplete);
+    let outside = DecodeError::ValueConstraintNotSatisfied;
+    let beyond = [0x09, 0x02, 0, 0, 0, 0, 0, 0, 0, 0];
+    refused(&rt, alloc, Codec::Coer, &wide, &beyond, outside);
+    let five = integer(5, 5);
+    let filled = DecodeError::InvalidPadding;
+    refused(&rt, alloc, Codec::Uper, &five, &[0x01], filled);
+    refused(&rt, alloc, Codec::Uper, &five, &[], incomplete);
 }
