@@ -498,3 +498,34 @@ fn kinds_of_faults(rt: HostRuntime) {
     assert_eq!(rt; fault_of::<bool>(&rt, coer, uper, &[0xFF, 0xFF]), surplus);
     assert_eq!(rt; fault_of::<bool>(&rt, coer, uper, &[]), incomplete);
 }
+
+/// Whether a translation gives these octets; one request for memory at most is refused.
+fn gives<T: Wire>(
+    rt: &impl AllocGlobal,
+    from: Codec,
+    to: Codec,
+    input: &[u8],
+    output: &[u8],
+) -> bool {
+    let answer = match recode::<T>(rt.alloc(), from, to, input) {
+        Err(RecodeFault::Memory) => recode::<T>(rt.alloc(), from, to, input),
+        answer => answer,
+    };
+    match answer {
+        Ok(octets) => octets.as_slice() == output,
+        Err(_) => false,
+    }
+}
+
+#[test]
+fn answers(rt: HostRuntime) {
+    let (coer, uper) = (Codec::Coer, Codec::Uper);
+    assert!(rt; gives::<Small>(&rt, coer, uper, &[0xFC], &[0x10]));
+    assert!(rt; gives::<Small>(&rt, coer, uper, &[0xFF], &[0x40]));
+    assert!(rt; gives::<Small>(&rt, uper, coer, &[0x17], &[0xFC]));
+    assert!(rt; gives::<Pair>(&rt, coer, uper, &[0xFF, 0xFC], &[0x88]));
+    assert!(rt; gives::<Pair>(&rt, coer, uper, &[0x00, 0x05], &[0x50]));
+    assert!(rt; gives::<Pair>(&rt, uper, coer, &[0x88], &[0xFF, 0xFC]));
+    assert!(rt; gives::<Pair>(&rt, uper, coer, &[0x57], &[0x00, 0x05]));
+    assert!(rt; gives::<bool>(&rt, coer, uper, &[0xFF], &[0x80]));
+}
