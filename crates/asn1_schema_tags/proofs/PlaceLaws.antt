@@ -1,9 +1,9 @@
 -- Where a tag stands among the leaves of trees.
-use Rattle.std.proofs.Common.{◌≡◌, ◌∙◌, refl, sym, ap, subst, ℕ, zero, suc, ◌+◌, ◌-◌, ◌≤◌, ◌<◌, List, [], ◌∷◌, ◌++◌, Bool, true, false, not, cond, ◌&&◌, Option, Some, None, option_map, length, length-append, drop, get_or, slice_get, arith, eq-eqb, eqb-true, ◌==◌, ◌^◌, ltb, lt-ltb, IfSome, IsTrue, rules}
+use Rattle.std.proofs.Common.{◌≡◌, ◌∙◌, refl, sym, ap, ℕ, zero, suc, ◌+◌, ◌-◌, ◌≤◌, ◌<◌, List, [], ◌∷◌, ◌++◌, Bool, true, false, not, cond, ◌&&◌, Option, Some, None, option_map, length, length-append, drop, get_or, slice_get, arith, eq-eqb, eqb-true, ◌==◌, ◌^◌, ltb, lt-ltb, IfSome, IsTrue, rules}
 use Rattle.std.specs.List.{position_from}
 use Rattle.std.proofs.lemmas.Option.{slice_get_within}
 use Rattle.asn1_model.specs.Schema.{Tag as ModelTag}
-use Rattle.asn1_model.specs.Lawful.{tag_same, are_distinct}
+use Rattle.asn1_model.specs.Lawful.{tag_same}
 use Rattle.asn1_model.specs.Strings.{each_is}
 use Rattle.asn1_schema_tags.specs.Trees.{leaves, leaves_of, are_unique, place_of, counted}
 use Rattle.asn1_schema_tags.specs.Tags.{tag_of}

@@ -1,11 +1,11 @@
 -- The equations of the leaves of a tree, and of what is asked of them.
-use Rattle.std.proofs.Common.{◌≡◌, ◌∙◌, refl, sym, ap, List, [], ◌∷◌, ◌++◌, map, flat_map, Bool, true, false, not, cond, ◌&&◌, ◌||◌, append_assoc, ℕ, ◌+◌, ◌<◌, length, drop, drop-cons, get_or, add-one, arith, take, ◌-◌, length-drop}
+use Rattle.std.proofs.Common.{◌≡◌, ◌∙◌, refl, sym, ap, List, [], ◌∷◌, ◌++◌, map, flat_map, Bool, true, false, not, cond, ◌&&◌, ◌||◌, ℕ, ◌+◌, ◌<◌, length, drop, drop-cons, get_or, add-one, arith, take, ◌-◌, length-drop}
 use Rattle.std.specs.List.{list_any}
 use Rattle.std.proofs.Math.Seq.{drop-length}
 use Rattle.std.proofs.lemmas.List.{take_all}
 use Rattle.std.proofs.lemmas.List.Folds.{list_any-append}
 use Rattle.asn1_model.specs.Schema.{Tag as ModelTag}
-use Rattle.asn1_model.specs.Lawful.{tag_less, tag_same, smallest, are_distinct}
+use Rattle.asn1_model.specs.Lawful.{tag_less, tag_same, smallest}
 use Rattle.asn1_model.specs.Strings.{each_is}
 use Rattle.asn1_schema_tags.specs.Tags.{tag_of}
 use Rattle.asn1_schema_tags.specs.Trees.{leaves_step, leaves, leaves_of, are_unique, is_among, share_a_tag}

@@ -1,5 +1,5 @@
 -- The leaves of a tree of tags.
-use Rattle.std.specs.Prelude.{ℕ, ◌^◌, ltb, Bool, cond, List, [], ◌∷◌, ◌++◌, flat_map, Option, Some, None}
+use Rattle.std.specs.Prelude.{ℕ, ◌^◌, ltb, Bool, cond, List, [], ◌∷◌, flat_map, Option, Some, None}
 use Rattle.std.specs.List.{list_any, position_from}
 use Rattle.asn1_model.specs.Schema.{Tag as ModelTag}
 use Rattle.asn1_model.specs.Lawful.{tag_same, are_distinct}

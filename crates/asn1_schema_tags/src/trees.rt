@@ -124,7 +124,8 @@ impl<'a> TagTree<'a> {
 
     /// How many leaves there are, or `None` if that number does not fit.
     pub fn leaf_count(&self) -> Option<usize>
-        ensures { result ≡ counted (length (leaves self.now)) }
+        ensures counted { result ≡ counted (length (leaves self.now)) }
+        ensures fits { IfSome result (λ n. n ≡ length (leaves self.now)) }
     {
         match self {
             TagTree::Leaf(_) => Some(1),

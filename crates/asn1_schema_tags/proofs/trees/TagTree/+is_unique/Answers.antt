@@ -1,4 +1,4 @@
-use Rattle.std.proofs.Common.{◌≡◌, ◌∙◌, sym}
+use Rattle.std.proofs.Common.{◌∙◌, sym}
 use Rattle.asn1_schema_tags.proofs.TreeLaws.{are_unique_next, are_unique_not, are_unique_shared}
 use Rattle.asn1_schema_tags.proofs.trees.TagTree.+is_unique.Goals as goal
 use Rattle.asn1_schema_tags.proofs.trees.TagTree.+is_unique.Goals.{then-not-is_unique-via-then-not-is_unique, then-not-is_unique-via-else-not-is_unique+then-shares_a_tag}

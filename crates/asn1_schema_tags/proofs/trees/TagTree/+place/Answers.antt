@@ -1,4 +1,4 @@
-use Rattle.std.proofs.Common.{◌≡◌, ◌∙◌, sym, ap, arith, Some, ◌+◌, length, drop}
+use Rattle.std.proofs.Common.{◌≡◌, ◌∙◌, sym, ap, arith, ◌+◌, length, drop}
 use Rattle.std.specs.List.{position_from}
 use Rattle.asn1_model.specs.Lawful.{tag_same}
 use Rattle.asn1_schema_tags.specs.Tags.{tag_of}
@@ -22,7 +22,7 @@ returns-in-Some t c =
 
 pub loop-node-preserved : goal.loop-node-preserved
 loop-node-preserved t c =
-    let count : length (leaves c.node-item.result) ≡ c.unwrap-before.result = counted_is (length (leaves c.node-item.result)) c.unwrap-before.result (sym c.leaf_count.ensures ∙ c.unwrap-before.ensures) in
+    let count : length (leaves c.node-item.result) ≡ c.unwrap-before.result = counted_is (length (leaves c.node-item.result)) c.unwrap-before.result (sym c.leaf_count.ensures.counted ∙ c.unwrap-before.ensures) in
     record {
       counted = omega (arith, count, c.loop-node.invariant.counted, length_step c.in-Choice.nodes.now c.loop-node.node-index c.node-item.result c.loop-node-test.true c.node-item.is);
       passed =

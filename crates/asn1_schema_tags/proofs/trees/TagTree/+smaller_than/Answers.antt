@@ -1,7 +1,7 @@
-use Rattle.std.proofs.Common.{◌≡◌, ◌∙◌, sym, ap, drop, ◌+◌}
+use Rattle.std.proofs.Common.{◌∙◌, sym, ap, drop, ◌+◌}
 use Rattle.asn1_model.specs.Lawful.{smallest}
 use Rattle.asn1_schema_tags.specs.Tags.{tag_of}
-use Rattle.asn1_schema_tags.specs.Trees.{leaves, leaves_of}
+use Rattle.asn1_schema_tags.specs.Trees.{leaves_of}
 use Rattle.asn1_schema_tags.proofs.TreeLaws.{smallest_step}
 use Rattle.asn1_schema_tags.proofs.trees.TagTree.+smaller_than.Goals as goal
 

@@ -1,5 +1,5 @@
 use Rattle.asn1_schema_tags.specs.Tags.{tag_of}
-use Rattle.asn1_schema_tags.specs.Trees.{leaves, place_of}
+use Rattle.asn1_schema_tags.specs.Trees.{leaves}
 use Rattle.asn1_schema_tags.proofs.PlaceLaws.{found_back}
 use Rattle.asn1_schema_tags.proofs.trees.TagTree.leaf_position.Goals as goal
 
