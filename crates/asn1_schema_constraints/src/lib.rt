@@ -1,13 +1,6 @@
-// A library with one function.
+//! Constraints on values, sizes and characters (X.680 clauses 50 to 52).
 #![tactic(auto)]
 
-ghost use Rattle.std.specs.Prelude.{◌≡◌};
-ghost use Rattle.asn1_schema_constraints.specs.Echo.{echo_of};
+pub mod bounds;
 
-// The `ensures` clause is the contract: what `echo` returns is `echo_of` of its argument, a definition
-// in `specs/Echo.antt`, which a caller's clause can cite too.
-pub fn echo(x: usize) -> usize
-    ensures { result ≡ echo_of x }
-{
-    x
-}
+pub use bounds::{Bounded, Effective};

@@ -1,0 +1,2 @@
+//! Tables of fields.
+#![tactic(auto)]
