@@ -1,11 +1,12 @@
 -- What bounds mean: their ends, what they admit, and what two of them admit together.
-use Rattle.std.specs.Prelude.{ℕ, ◌+◌, ◌-◌, ◌^◌, ltb, leb, max, ℤ, pos, negsuc, ◌+ℤ◌, ◌-ℤ◌, FitsSigned, ◌≡◌, Bool, true, false, not, cond, ◌&&◌, Option, Some, None, unwrap_or}
+use Rattle.std.specs.Prelude.{ℕ, ◌+◌, ◌-◌, ◌^◌, ltb, leb, ℤ, pos, negsuc, ◌+ℤ◌, ◌-ℤ◌, ◌≤ℤ◌, FitsSigned, ◌≡◌, Bool, true, false, not, cond, ◌&&◌, Option, Some, None, unwrap_or}
 use Rattle.std.specs.Option.{SomeIff}
 use Rattle.std.specs.Int.{w128}
 use Rattle.asn1_model.specs.Schema.{Range, Counts}
-use Rattle.asn1_model.specs.Numbers.{is_at_most, octet_width, signed_octets}
-use Rattle.asn1_model.specs.Oer.{fixed_octets}
+use Rattle.asn1_model.specs.Numbers.{is_at_most}
 use Rattle.asn1_schema_constraints.specs.declared.bounds.Bounded.{Bounded}
+use Rattle.asn1_schema_constraints.specs.declared.bounds.Effective.{Effective}
+use Rattle.asn1_schema_constraints.specs.declared.bounds.Effective.TheVariants.{Offset, Plain}
 use Rattle.asn1_schema_constraints.specs.declared.bounds.Bounded.TheVariants.{None as Unbounded, Single, Range as Between}
 
 -- The least value, where there is one (X.680 51.4).
@@ -71,13 +72,12 @@ abbrev pub common : {X : Type 0} → (X → X → Bool) → Bounded X → Bounde
 common le a b =
     cond (is_inverted le (later le (lower a) (lower b)) (earlier le (upper a) (upper b))) None (Some (meet le a b))
 
--- Whether the lower bound is negative or missing.
-abbrev pub is_signed : Option ℤ → Bool
-is_signed (Some (pos low)) = false
-is_signed low = true
+-- The number less the start of a range that has one fits, and is not negative.
+abbrev pub CanOffset : Bounded ℤ → ℤ → Type 0
+CanOffset (Between (Some start) end) v = (start ≤ℤ v) × FitsSigned w128 (v -ℤ start)
+CanOffset b v = Unit {0}
 
--- The number of octets of the fixed form of a number under bounds, where it has one (X.696 10).
-abbrev pub octets_of : Option ℤ → Option ℤ → Option ℕ
-octets_of (Some (pos low)) (Some (pos high)) = fixed_octets (octet_width high)
-octets_of (Some (negsuc low)) (Some high) = fixed_octets (max (signed_octets (negsuc low)) (signed_octets high))
-octets_of low high = None
+-- A number as it is written under bounds: less the start of a range that has one, else as it is.
+abbrev pub effective : Bounded ℤ → ℤ → Effective ℤ
+effective (Between (Some start) end) v = Offset (v -ℤ start)
+effective b v = Plain v

@@ -5,7 +5,7 @@ ghost use Rattle.std.specs.Prelude.{◌≡◌, ℕ, leb, ℤ, pos, ◌+ℤ◌, �
 ghost use Rattle.std.specs.Int.{w128};
 ghost use Rattle.std.specs.Option.{option_copied, ForSome};
 ghost use Rattle.asn1_model.specs.Numbers.{is_at_most, is_within, is_count_within};
-ghost use Rattle.asn1_schema_constraints.specs.Bounds.{lower, upper, range_of, counts_of, IsSpan, counted, later, earlier, between, common, is_signed, octets_of};
+ghost use Rattle.asn1_schema_constraints.specs.Bounds.{lower, upper, range_of, counts_of, IsSpan, counted, later, earlier, between, meet, common, CanOffset, effective};
 
 /// Bounds of a number (X.680 51.4): none, the one value, or a range, each end of which may be missing.
 #[derive(Clone, Copy, Debug, PartialEq, Eq)]
@@ -182,6 +182,15 @@ fn counts_between(low: Option<usize>, high: Option<usize>) -> Bounded<usize>
 }
 
 impl Bounded<i128> {
+    // From the later of the lower bounds to the earlier of the upper ones.
+    pub(crate) fn joined(&self, other: Self) -> Self
+        ensures { result ≡ meet is_at_most self.now other }
+    {
+        let low = later_number(self.as_start().copied(), other.as_start().copied());
+        let high = earlier_number(self.as_end().copied(), other.as_end().copied());
+        numbers_between(low, high)
+    }
+
     /// The upper bound less the lower one, plus one, exactly if both are there and that number fits.
     pub fn range(&self) -> Option<i128>
         ensures { IsSpan (lower self.now) (upper self.now) result }
@@ -207,6 +216,21 @@ impl Bounded<i128> {
         ensures { result ≡ is_within (range_of self.now) element.now }
     {
         self.in_bound(*element)
+    }
+
+    /// How a number is written under the bounds: less the start of a range that has one, else as it is. The
+    /// caller sees to it that the number is not below that start, and that the difference fits.
+    pub fn effective_value(&self, value: i128) -> Effective<i128>
+        requires { CanOffset self.now value }
+        ensures { result ≡ effective self.now value }
+    {
+        match self {
+            Bounded::Range {
+                start: Some(start),
+                ..
+            } => Effective::Offset(value - *start),
+            _ => Effective::Plain(value),
+        }
     }
 
     /// Whether a number is within the bounds (X.680 51.4).
@@ -235,6 +259,15 @@ impl Bounded<i128> {
 }
 
 impl Bounded<usize> {
+    // From the later of the lower bounds to the earlier of the upper ones.
+    pub(crate) fn joined(&self, other: Self) -> Self
+        ensures { result ≡ meet leb self.now other }
+    {
+        let low = later_count(self.as_start().copied(), other.as_start().copied());
+        let high = earlier_count(self.as_end().copied(), other.as_end().copied());
+        counts_between(low, high)
+    }
+
     /// The upper bound less the lower one, plus one, if both are there and that number fits.
     pub fn range(&self) -> Option<usize>
         ensures { result ≡ counted (lower self.now) (upper self.now) }
