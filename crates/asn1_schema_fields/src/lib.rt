@@ -3,7 +3,7 @@
 
 pub mod tables;
 
-pub use tables::{Field, FieldPresence, Fields, OptionalFields};
+pub use tables::{Field, FieldPresence, Fields};
 
 #[cfg(test)]
 mod tests;

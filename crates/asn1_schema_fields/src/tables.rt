@@ -54,7 +54,13 @@ impl<'a> Field<'a> {
         ensures presence { result.presence ≡ FieldPresence.Required }
         ensures name { result.name.now ≡ name.now }
     {
-        Field { index, tag, tag_tree, presence: FieldPresence::Required, name }
+        Field {
+            index,
+            tag,
+            tag_tree,
+            presence: FieldPresence::Required,
+            name,
+        }
     }
 
     /// A field that may be absent.
@@ -65,7 +71,13 @@ impl<'a> Field<'a> {
         ensures presence { result.presence ≡ FieldPresence.Optional }
         ensures name { result.name.now ≡ name.now }
     {
-        Field { index, tag, tag_tree, presence: FieldPresence::Optional, name }
+        Field {
+            index,
+            tag,
+            tag_tree,
+            presence: FieldPresence::Optional,
+            name,
+        }
     }
 
     /// A field that may be absent, and then has its default value.
@@ -76,7 +88,13 @@ impl<'a> Field<'a> {
         ensures presence { result.presence ≡ FieldPresence.Default }
         ensures name { result.name.now ≡ name.now }
     {
-        Field { index, tag, tag_tree, presence: FieldPresence::Default, name }
+        Field {
+            index,
+            tag,
+            tag_tree,
+            presence: FieldPresence::Default,
+            name,
+        }
     }
 
     /// Whether the field may be absent.
@@ -134,21 +152,19 @@ impl<'a> Fields<'a> {
     pub fn has_required_field(&self) -> bool
         ensures { result ≡ list_any (λ f. not (is_optional f)) self.now.fields.now }
     {
-        self.fields.iter().any(|field| field.is_not_optional_or_default())
-    }
-
-    /// The fields that may be absent, in their order.
-    pub fn optional_and_default_fields(&self) -> OptionalFields<'a>
-        ensures { filter is_optional result.rest.now ≡ filter is_optional self.now.fields.now }
-    {
-        OptionalFields { rest: self.fields }
+        self.fields
+            .iter()
+            .any(|field| field.is_not_optional_or_default())
     }
 
     /// How many fields may be absent.
     pub fn number_of_optional_and_default_fields(&self) -> usize
         ensures { result ≡ length (filter is_optional self.now.fields.now) }
     {
-        self.fields.iter().filter(|field| field.is_optional_or_default()).count()
+        self.fields
+            .iter()
+            .filter(|field| field.is_optional_or_default())
+            .count()
     }
 
     /// The fields in their order.
@@ -172,11 +188,4 @@ impl<'a> Fields<'a> {
         }
         true
     }
-}
-
-/// The fields of a table that may be absent, in their order.
-#[derive(Clone, Copy, Debug)]
-pub struct OptionalFields<'a> {
-    /// The fields to be looked through.
-    pub rest: &'a [Field<'a>],
 }
