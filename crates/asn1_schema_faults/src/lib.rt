@@ -1,12 +1,12 @@
 //! Why a value has no encoding, why octets are no encoding, and which rules a codec follows.
 #![tactic(auto)]
 
-use std::alloc::{AllocError, AllocFailed};
-use thiserror::Error;
-
 ghost use Rattle.std.specs.Prelude.{◌≡◌};
 ghost use Rattle.asn1_schema_faults.specs.declared.DecodeError.TheVariants.{OutOfMemory};
 ghost use Rattle.asn1_schema_faults.specs.declared.EncodeError.TheVariants.{OutOfMemory as NoRoom};
+
+use std::alloc::{AllocError, AllocFailed};
+use thiserror::Error;
 
 /// The rules that an encoder or a decoder follows.
 #[derive(Clone, Copy, Debug, PartialEq, Eq)]

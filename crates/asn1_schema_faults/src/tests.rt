@@ -10,7 +10,10 @@ fn errors_are_told_apart_and_shown(rt: HostRuntime) -> Result<(), Fail> {
     assert_ne!(rt; CodecKind::Uper, CodecKind::Aper);
     let early = DecodeError::Incomplete;
     let long = EncodeError::TooLongValue;
-    assert_eq!(rt; format!(in rt.alloc(); "{early}; {long}")?.as_str(), "the input ends early; the encoding is too long");
+    assert_eq!(rt;
+        format!(in rt.alloc(); "{early}; {long}")?.as_str(),
+        "the input ends early; the encoding is too long"
+    );
     Ok(())
 }
 
