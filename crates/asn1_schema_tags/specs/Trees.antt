@@ -1,0 +1,46 @@
+-- The leaves of a tree of tags.
+use Rattle.std.specs.Prelude.{ℕ, ◌^◌, ltb, Bool, cond, List, [], ◌∷◌, flat_map, Option, Some, None}
+use Rattle.std.specs.List.{list_any, position_from}
+use Rattle.asn1_model.specs.Schema.{Tag as ModelTag}
+use Rattle.asn1_model.specs.Lawful.{tag_same, are_distinct}
+use Rattle.asn1_schema_tags.specs.Tags.{tag_of}
+use Rattle.asn1_schema_tags.specs.declared.trees.TagTree.{TagTree}
+use Rattle.asn1_schema_tags.specs.declared.trees.TagTree.TheOpen.{TagTree-F, Leaf, Choice}
+use Rattle.asn1_schema_tags.specs.declared.trees.TagTree.TheFolds.{fold-TagTree}
+
+-- A tree's leaves, from those of the trees right below it.
+abbrev pub leaves_step : TagTree-F (List ModelTag) → List ModelTag
+leaves_step (Leaf t) = tag_of t ∷ []
+leaves_step (Choice below) = flat_map (λ tags. tags) below.now
+
+-- The tags of the leaves of a tree, in their order (an untagged choice begins with any tag of its alternatives, X.680 29).
+abbrev pub leaves : TagTree → List ModelTag
+leaves = fold-TagTree (List ModelTag) leaves_step
+
+-- The tags of the leaves of some trees, one tree after another.
+abbrev pub leaves_of : List TagTree → List ModelTag
+leaves_of trees = flat_map leaves trees
+
+-- No tag occurs twice (X.680 25, 27 and 29).
+abbrev pub are_unique : List ModelTag → Bool
+are_unique tags = are_distinct tag_same tags
+
+-- Whether a tag is among some.
+abbrev pub is_among : List ModelTag → ModelTag → Bool
+is_among tags t = list_any (tag_same t) tags
+
+-- Whether two lists share a tag.
+abbrev pub share_a_tag : List ModelTag → List ModelTag → Bool
+share_a_tag ts us = list_any (is_among us) ts
+
+-- The tag above which there is none: private, with the greatest number of 32 bits (X.680 8.6).
+abbrev pub greatest_tag : ModelTag
+greatest_tag = record { class = 3; number = 4294967295 }
+
+-- A count, where 64 bits hold it.
+abbrev pub counted : ℕ → Option ℕ
+counted n = cond (ltb n (2 ^ 64)) (Some n) None
+
+-- The place of the first of some tags that is this one, counted from 0.
+abbrev pub place_of : List ModelTag → ModelTag → Option ℕ
+place_of tags t = position_from (tag_same t) 0 tags

@@ -1,0 +1,129 @@
+//! Rows, what is shown, and each call once.
+use crate::{Class, Identifier, Tag, TagTree, Variants};
+use std::cmp::Ordering;
+use std::ops::DerefSlice;
+use std::test::Fail;
+
+#[test]
+fn tags_are_ordered_by_class_first(rt: HostRuntime) {
+    let rows: [(Tag, Tag, Ordering); 6] = [
+        (Tag::new_application(9), Tag::new_context(5), Ordering::Less),
+        (Tag::new_context(5), Tag::new_context(444), Ordering::Less),
+        (
+            Tag::new_private(0),
+            Tag::new_context(444),
+            Ordering::Greater,
+        ),
+        (Tag::BMP_STRING, Tag::new_application(0), Ordering::Less),
+        (Tag::SET, Tag::SEQUENCE, Ordering::Greater),
+        (
+            Tag::new(Class::Context, 7),
+            Tag::new_context(7),
+            Ordering::Equal,
+        ),
+    ];
+    for (one, other, wanted) in rows {
+        assert_eq!(rt; one.const_cmp(&other), wanted);
+        assert_eq!(rt; one.cmp(&other), wanted);
+        assert_eq!(rt; one.const_less_than(other), wanted == Ordering::Less);
+        assert_eq!(rt; one.const_eq(&other), wanted == Ordering::Equal);
+        assert_eq!(rt; one == other, wanted == Ordering::Equal);
+    }
+}
+
+#[test]
+fn tags_are_made_and_shown(rt: HostRuntime) -> Result<(), Fail> {
+    assert_eq!(rt; Tag::INTEGER.set_value(1), Tag::BOOL);
+    assert!(rt; Tag::CHOICE.is_choice());
+    assert!(rt; !Tag::NULL.is_choice());
+    assert_eq!(rt; Class::from_u8(1), Class::Application);
+    assert!(rt; Class::from_u8(0).is_universal());
+    assert!(rt; !Class::from_u8(3).is_universal());
+    let application = Tag::new_application(9);
+    let context = Tag::new_context(5);
+    assert_eq!(rt;
+        format!(in rt.alloc(); "{application} {context}")?.as_str(),
+        "[APPLICATION 9] [5]"
+    );
+    let universal = Tag::INTEGER;
+    let private = Tag::new_private(3);
+    assert_eq!(rt;
+        format!(in rt.alloc(); "{universal} {private}")?.as_str(),
+        "[UNIVERSAL 2] [PRIVATE 3]"
+    );
+    Ok(())
+}
+
+#[test]
+fn a_choice_that_repeats_tags_is_not_unique(rt: HostRuntime) {
+    let repeated = [
+        TagTree::Leaf(Tag::BIT_STRING),
+        TagTree::Leaf(Tag::new_application(0)),
+        TagTree::Leaf(Tag::new_application(0)),
+        TagTree::Leaf(Tag::new_context(0)),
+        TagTree::Leaf(Tag::new_context(0)),
+        TagTree::Leaf(Tag::new_private(0)),
+        TagTree::Leaf(Tag::new_private(0)),
+    ];
+    assert!(rt; !TagTree::Choice(&repeated).is_unique());
+}
+
+#[test]
+fn tags_that_repeat_apart_are_found(rt: HostRuntime) {
+    let apart = [
+        TagTree::Leaf(Tag::new_context(0)),
+        TagTree::Leaf(Tag::NULL),
+        TagTree::Leaf(Tag::new_context(0)),
+    ];
+    assert!(rt; !TagTree::Choice(&apart).is_unique());
+}
+
+#[test]
+fn leaves_are_found(rt: HostRuntime) -> Result<(), Fail> {
+    let inner = [TagTree::Leaf(Tag::new_context(3)), TagTree::Leaf(Tag::NULL)];
+    let outer = [
+        TagTree::Leaf(Tag::new_context(1)),
+        TagTree::Choice(&inner),
+        TagTree::empty(),
+    ];
+    let tree = TagTree::Choice(&outer);
+    assert!(rt; tree.is_unique());
+    assert_eq!(rt; tree.smallest_tag(), Tag::NULL);
+    assert_eq!(rt;
+        TagTree::empty().smallest_tag(),
+        Tag::new_private(4294967295)
+    );
+    assert!(rt; TagTree::tag_contains(&Tag::NULL, &outer));
+    assert!(rt; !TagTree::tag_contains(&Tag::BOOL, &outer));
+    assert_eq!(rt; tree.leaf_count().ok_or("too many")?, 3);
+    assert_eq!(rt; tree.leaf_position(&Tag::NULL), Some(2));
+    assert_eq!(rt; tree.leaf_position(&Tag::BOOL), None);
+    let tags = [Tag::new_context(1), Tag::new_context(3), Tag::NULL];
+    for (place, tag) in tags.iter().enumerate() {
+        assert_eq!(rt; tree.leaf_at(place), Some(*tag));
+    }
+    assert_eq!(rt; tree.leaf_at(3), None);
+    Ok(())
+}
+
+#[test]
+fn alternatives_are_lists_of_trees(rt: HostRuntime) -> Result<(), Fail> {
+    let trees = [TagTree::Leaf(Tag::BOOL), TagTree::Leaf(Tag::NULL)];
+    let lent = Variants::from_slice(&trees);
+    assert_eq!(rt; lent.deref().len(), 2);
+    let mut kept = Vec::new(rt.alloc());
+    kept.push(TagTree::Leaf(Tag::SET))?;
+    let owned = Variants::new(kept);
+    assert_eq!(rt; owned.deref().len(), 1);
+    assert_eq!(rt; Variants::empty().deref().len(), 0);
+    assert_eq!(rt; Variants::from_static(&[]).deref().len(), 0);
+    Ok(())
+}
+
+#[test]
+fn names_stand_in_for_missing_ones(rt: HostRuntime) -> Result<(), Fail> {
+    assert_eq!(rt; Identifier::EMPTY.or(Identifier::BOOL), Identifier::BOOL);
+    assert_eq!(rt; Identifier::SET.or(Identifier::BOOL), Identifier::SET);
+    assert_eq!(rt; Identifier(Some("IA5String")).unwrap(), "IA5String");
+    Ok(())
+}

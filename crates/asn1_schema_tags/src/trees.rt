@@ -1,0 +1,215 @@
+//! Trees of tags: a type's own tag, or those of the alternatives of an untagged choice.
+#![tactic(auto, using(crate::proofs::TreeLaws::leaves_leaf, crate::proofs::TreeLaws::leaves_choice))]
+
+ghost use Rattle.std.specs.Prelude.{◌≡◌, ◌+◌, ◌^◌, ◌<◌, IsTrue, IfSome, Some, [], length, option_map, slice_get};
+ghost use Rattle.asn1_model.specs.Lawful.{smallest};
+ghost use Rattle.asn1_schema_tags.specs.Tags.{tag_of};
+ghost use Rattle.asn1_schema_tags.specs.Trees.{leaves, leaves_of, are_unique, is_among, share_a_tag, greatest_tag, counted, place_of};
+
+use crate::{Class, Tag};
+use std::fmt;
+
+/// The tags with which a value of a type may begin: its own, or for an untagged choice (X.680 29) those of
+/// its alternatives.
+#[derive(Clone, Copy)]
+pub enum TagTree<'a> {
+    /// A type's own tag.
+    Leaf(Tag),
+    /// The alternatives of an untagged choice.
+    Choice(&'a [TagTree<'a>]),
+}
+
+impl<'a> TagTree<'a> {
+    /// The tree with no leaf.
+    pub fn empty() -> Self
+        ensures { leaves result ≡ [] }
+    {
+        TagTree::Choice(&[])
+    }
+
+    /// The smallest tag of the leaves, or the greatest private tag if there is no leaf (X.680 8.6).
+    pub fn smallest_tag(&self) -> Tag
+        ensures { tag_of result ≡ smallest greatest_tag (leaves self.now) }
+    {
+        self.smaller_than(Tag {
+            class: Class::Private,
+            value: u32::MAX,
+        })
+    }
+
+    // The smallest tag of the leaves and of one more.
+    fn smaller_than(&self, most: Tag) -> Tag
+        ensures { tag_of result ≡ smallest (tag_of most) (leaves self.now) }
+    {
+        match self {
+            TagTree::Leaf(tag) => {
+                if tag.const_less_than(most) {
+                    *tag
+                } else {
+                    most
+                }
+            }
+            TagTree::Choice(nodes) => {
+                let mut least = most;
+                for node in nodes.iter() {
+                    least = node.smaller_than(least);
+                }
+                least
+            }
+        }
+    }
+
+    /// Whether no tag occurs twice among the leaves.
+    pub fn is_unique(&self) -> bool
+        ensures { result ≡ are_unique (leaves self.now) }
+    {
+        match self {
+            TagTree::Leaf(_) => true,
+            TagTree::Choice(nodes) => {
+                for (i, node) in nodes.iter().enumerate() {
+                    if !node.is_unique() || node.shares_a_tag(&nodes[i + 1..]) {
+                        return false;
+                    }
+                }
+                true
+            }
+        }
+    }
+
+    /// Whether a tag is among the leaves of some trees.
+    pub fn tag_contains(needle: &Tag, nodes: &[TagTree<'a>]) -> bool
+        ensures { result ≡ is_among (leaves_of nodes.now) (tag_of needle.now) }
+    {
+        for node in nodes {
+            if node.has_tag(needle) {
+                return true;
+            }
+        }
+        false
+    }
+
+    // Whether a tag is among the leaves.
+    fn has_tag(&self, needle: &Tag) -> bool
+        ensures { result ≡ is_among (leaves self.now) (tag_of needle.now) }
+    {
+        match self {
+            TagTree::Leaf(tag) => needle.const_eq(tag),
+            TagTree::Choice(nodes) => {
+                for node in nodes.iter() {
+                    if node.has_tag(needle) {
+                        return true;
+                    }
+                }
+                false
+            }
+        }
+    }
+
+    // Whether some leaf has the tag of a leaf of other trees.
+    fn shares_a_tag(&self, others: &[TagTree<'a>]) -> bool
+        ensures { result ≡ share_a_tag (leaves self.now) (leaves_of others.now) }
+    {
+        match self {
+            TagTree::Leaf(tag) => TagTree::tag_contains(tag, others),
+            TagTree::Choice(nodes) => {
+                for node in nodes.iter() {
+                    if node.shares_a_tag(others) {
+                        return true;
+                    }
+                }
+                false
+            }
+        }
+    }
+
+    /// How many leaves there are, or `None` if that number does not fit.
+    pub fn leaf_count(&self) -> Option<usize>
+        ensures counted { result ≡ counted (length (leaves self.now)) }
+        ensures fits { IfSome result (λ n. n ≡ length (leaves self.now)) }
+    {
+        match self {
+            TagTree::Leaf(_) => Some(1),
+            TagTree::Choice(nodes) => {
+                let mut total: usize = 0;
+                for node in nodes.iter() {
+                    total = total.checked_add(node.leaf_count()?)?;
+                }
+                Some(total)
+            }
+        }
+    }
+
+    /// The place of the first leaf with this tag, counted from 0, or `None` if no leaf has it. The caller
+    /// sees to it that the number of leaves fits, as [`TagTree::leaf_count`] tells.
+    pub fn leaf_position(&self, tag: &Tag) -> Option<usize>
+        requires { length (leaves self.now) < 2 ^ 64 }
+        ensures place { result ≡ place_of (leaves self.now) (tag_of tag.now) }
+        ensures back { IfSome result (λ p. slice_get (leaves self.now) p ≡ Some (tag_of tag.now)) }
+    {
+        self.place(tag)
+    }
+
+    // The place of the first leaf with a tag.
+    fn place(&self, tag: &Tag) -> Option<usize>
+        requires { length (leaves self.now) < 2 ^ 64 }
+        ensures { result ≡ place_of (leaves self.now) (tag_of tag.now) }
+    {
+        match self {
+            TagTree::Leaf(own) => { if tag.const_eq(own) { Some(0) } else { None } }
+            TagTree::Choice(nodes) => {
+                let mut before: usize = 0;
+                for node in nodes.iter() {
+                    if let Some(place) = node.place(tag) {
+                        return Some(before + place);
+                    }
+                    before += node.leaf_count().unwrap();
+                }
+                None
+            }
+        }
+    }
+
+    /// The tag of the leaf at a place, counted from 0, or `None` if there are no so many leaves.
+    pub fn leaf_at(&self, position: usize) -> Option<Tag>
+        ensures tag { option_map tag_of result ≡ slice_get (leaves self.now) position }
+        // in a unique tree the place of that tag is the one that was asked for
+        ensures back { IsTrue (are_unique (leaves self.now))
+            → IfSome result (λ t. place_of (leaves self.now) (tag_of t) ≡ Some position) }
+    {
+        self.tag_at(position)
+    }
+
+    // The tag of the leaf at a place.
+    fn tag_at(&self, position: usize) -> Option<Tag>
+        ensures { option_map tag_of result ≡ slice_get (leaves self.now) position }
+    {
+        match self {
+            TagTree::Leaf(tag) => { if position == 0 { Some(*tag) } else { None } }
+            TagTree::Choice(nodes) => {
+                let mut left = position;
+                for node in nodes.iter() {
+                    if let Some(tag) = node.tag_at(left) {
+                        return Some(tag);
+                    }
+                    left -= node.leaf_count().unwrap();
+                }
+                None
+            }
+        }
+    }
+}
+
+impl fmt::Debug for TagTree<'_> {
+    fn fmt<W: fmt::Write>(&self, f: &mut fmt::Formatter<W>) -> fmt::Result {
+        match self {
+            TagTree::Leaf(tag) => write!(f, "Leaf({tag})"),
+            TagTree::Choice(nodes) => {
+                f.write_str("Choice(")?;
+                for node in nodes.iter() {
+                    node.fmt(f)?;
+                }
+                f.write_str(")")
+            }
+        }
+    }
+}
