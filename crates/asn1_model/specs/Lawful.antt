@@ -1,11 +1,14 @@
--- Which types are lawful: tables ascend, tags and items are distinct, bounds are ordered, additions stand behind a mark.
+-- Which types are lawful: tables ascend, tags and items are distinct, bounds are ordered, additions stand behind a mark, defaults are values of
+-- their types and in normal form.
 use Rattle.std.specs.Prelude.{ℕ, ◌==◌, ltb, leb, ℤ, Bool, true, false, cond, not, ◌&&◌, ◌||◌, IsTrue, List, [], ◌∷◌, ◌++◌, Option, Some, None}
 use Rattle.asn1_model.specs.Value.{same_number}
-use Rattle.asn1_model.specs.Schema.{Tag, Range, Counts, Size, StringKind, Presence, optional, Schema, integer, enumerated, bit_string, octet_string}
+use Rattle.asn1_model.specs.Schema.{Tag, Range, Counts, Size, StringKind, Presence, optional, by_default, Schema, integer, enumerated, bit_string, octet_string}
 use Rattle.asn1_model.specs.Schema.{character_string, sequence_of, set_of, sequence, set, group, choice, Components, no_component, component}
 use Rattle.asn1_model.specs.Schema.{Alternatives, no_alternative, alternative}
 use Rattle.asn1_model.specs.Numbers.{is_at_most}
 use Rattle.asn1_model.specs.Strings.{each_is, is_of_octets}
+use Rattle.asn1_model.specs.Normal.{is_normal}
+use Rattle.asn1_model.specs.Typed.{is_of}
 
 -- ---- tags (X.680 8.6): by class, and then by number
 
@@ -16,6 +19,10 @@ tag_less t u = ltb t.class u.class || ((t.class == u.class) && ltb t.number u.nu
 -- Equal tags.
 abbrev pub tag_same : Tag → Tag → Bool
 tag_same t u = (t.class == u.class) && (t.number == u.number)
+
+-- The class of a tag is one of four (X.680 8.1).
+abbrev pub is_tag : Tag → Bool
+is_tag t = leb t.class 3
 
 -- The smallest of some tags. An untagged choice stands by it, its added alternatives counted, by the project's choice.
 abbrev pub smallest : Tag → List Tag → Tag
@@ -120,6 +127,17 @@ abbrev pub is_sequence_table : Components → Bool → Components → Bool
 is_sequence_table cs e adds =
     (e || are_no_components adds) && are_distinct tag_same (component_tags cs ++ component_tags adds) && has_no_group cs && has_optional_groups adds
 
+-- Whether a default is a value of its component's type (X.680 25).
+abbrev pub has_typed_default : Schema → Presence → Bool
+has_typed_default s (by_default d) = is_of s d
+has_typed_default s o = true
+
+-- Whether a default is in normal form. It is one abstract value however it is written (X.680 25): one that spells out what is at its own
+-- default means the same as one without it, so no type is lost. Without this, two unfoldings of a recursive type could differ.
+abbrev pub has_normal_default : Schema → Presence → Bool
+has_normal_default s (by_default d) = is_normal s d
+has_normal_default s o = true
+
 unfoldable mutual
   -- Whether a type is lawful (X.680 20, 25 to 29).
   pub is_lawful : Schema → Bool
@@ -139,15 +157,15 @@ unfoldable mutual
       && are_distinct tag_same (alternative_tags roots ++ alternative_tags adds) && are_lawful_alternatives roots && are_lawful_alternatives adds
   is_lawful s = true
 
-  -- Whether the types of all components are.
+  -- Whether the types of all components are, and their defaults are values of them, in normal form.
   pub are_lawful : Components → Bool
   are_lawful no_component = true
-  are_lawful (component t o s cs) = not (is_empty t) && is_lawful s && are_lawful cs
+  are_lawful (component t o s cs) = not (is_empty t) && each_is is_tag t && has_typed_default s o && has_normal_default s o && is_lawful s && are_lawful cs
 
   -- Whether the types of all alternatives are.
   pub are_lawful_alternatives : Alternatives → Bool
   are_lawful_alternatives no_alternative = true
-  are_lawful_alternatives (alternative t s others) = not (is_group s) && is_lawful s && are_lawful_alternatives others
+  are_lawful_alternatives (alternative t s others) = is_tag t && not (is_group s) && is_lawful s && are_lawful_alternatives others
 
 -- The same as a proposition.
 abbrev pub IsLawful : Schema → Type 0

@@ -10,6 +10,7 @@ pub mod Oer
 pub mod Rules
 pub mod Types
 pub mod Rows
+pub mod Typed
 pub mod Lawful
 pub mod Versions
 pub mod ReadingRows

@@ -92,10 +92,6 @@ unsigned n = varied longer_number (least_octets n) (λ k. only_if (leb (least_oc
 abbrev pub fixed_octets : ℕ → Option ℕ
 fixed_octets k = cond (leb k 1) (Some 1) (cond (leb k 2) (Some 2) (cond (leb k 4) (Some 4) (cond (leb k 8) (Some 8) None)))
 
--- A whole number in so many octets of two's complement (X.696 10).
-abbrev pub in_octets : ℕ → ℤ → OctetForm
-in_octets k v = exactly (complement k v)
-
 -- A number under a lower bound that is not negative (X.696 10).
 abbrev pub natural_form : Option ℕ → ℤ → OctetForm
 natural_form (Some k) (pos n) = exactly (digits 256 k n)

@@ -1,14 +1,14 @@
 -- Rows: lawful types, and two versions of a type.
-use Rattle.std.specs.Prelude.{◌≡◌, pos, true, false, [], ◌∷◌, Some, None}
-use Rattle.asn1_model.specs.Value.{item, chosen, absent, present, end}
-use Rattle.asn1_model.specs.Schema.{Schema, numeric, utf8, boolean, null, enumerated, character_string, sequence, set, group, choice, no_component}
+use Rattle.std.specs.Prelude.{◌≡◌, ℕ, zero, suc, pos, true, false, [], ◌∷◌, Some, None}
+use Rattle.asn1_model.specs.Value.{Value, item, chosen, absent, present, end}
+use Rattle.asn1_model.specs.Schema.{Schema, cut, numeric, utf8, boolean, null, enumerated, character_string, sequence, set, group, choice, no_component}
 use Rattle.asn1_model.specs.Schema.{component, required, no_alternative}
 use Rattle.asn1_model.specs.Lawful.{is_lawful}
 use Rattle.asn1_model.specs.Versions.{Extends, drop, grow, seen, IsClash}
 use Rattle.asn1_model.specs.Types.{minus, any_count, any_size, sizes, letters, between, octet_text, list, context, needs, may_have, closed}
 use Rattle.asn1_model.specs.Types.{open_behind, or_tagged, one_of, num, roots, colour_old, colour_new, defaulted, marked_choice, new_type, old_type}
 use Rattle.asn1_model.specs.Types.{required_new, default_old, default_new, grouped, nest, nest_added, nested, yes_with, yes_without, yes_alone}
-use Rattle.asn1_model.specs.Types.{null_alternatives, set_of_three, set_with_choice, whole}
+use Rattle.asn1_model.specs.Types.{null_alternatives, set_of_three, set_with_choice, whole, has_default, only_tagged, yes}
 
 -- CHOICE {a [0] INTEGER, b [1] INTEGER, ...}
 abbrev pub choice_old : Schema
@@ -18,6 +18,18 @@ choice_old = choice (or_tagged 0 whole (or_tagged 1 whole no_alternative)) true 
 abbrev pub group_of : Schema → Schema
 group_of (sequence cs e adds) = open_behind (needs 0 boolean no_component) (may_have 1 (group cs) no_component)
 group_of s = s
+
+-- T ::= SEQUENCE {n T DEFAULT {}}, unfolded to so many levels, and its values {} and {n {}}
+abbrev pub unfolded : ℕ → Schema
+unfolded zero = cut
+unfolded (suc n) = closed (has_default 0 (unfolded n) (roots (absent end)) no_component)
+
+abbrev pub spelled : Value
+spelled = roots (present (roots (absent end)) end)
+
+-- SEQUENCE {t T DEFAULT the value}
+abbrev pub with_default : ℕ → Value → Schema
+with_default n d = closed (has_default 0 (unfolded n) d no_component)
 
 abbrev pub LawfulRows : Type 0
 LawfulRows =
@@ -55,6 +67,28 @@ LawfulRows =
     × (is_lawful (octet_text (sizes 5 4)) ≡ false)
     × (is_lawful (enumerated (pos 0 ∷ []) false (pos 1 ∷ [])) ≡ false)
     × (is_lawful (enumerated (pos 0 ∷ minus 1 ∷ []) false []) ≡ false)
+    -- a default spells out nothing that is at its own default, and no empty group; T as above, then DEFAULT {a 0} and {a TRUE, [[]]}
+    × (is_lawful (unfolded 3) ≡ true)
+    × (is_lawful (with_default 3 (roots (present spelled end))) ≡ false)
+    × (is_lawful (with_default 3 spelled) ≡ false)
+    × (is_lawful (with_default 3 (roots (absent end))) ≡ true)
+    × (is_lawful (closed (has_default 0 defaulted (roots (present (num 0) (absent end))) no_component)) ≡ false)
+    × (is_lawful (closed (has_default 0 defaulted (roots (absent (absent end))) no_component)) ≡ true)
+    × (is_lawful (closed (has_default 0 defaulted (roots (present (num 1) (absent end))) no_component)) ≡ true)
+    × (is_lawful (closed (has_default 0 grouped (yes_with (roots (absent end))) no_component)) ≡ false)
+    × (is_lawful (closed (has_default 0 grouped yes_without no_component)) ≡ true)
+    × (is_lawful default_old ≡ true)
+    × (is_lawful default_new ≡ true)
+    -- a default is a value of its type: SEQUENCE {a INTEGER (0..4) DEFAULT 5}, DEFAULT TRUE, and {a} of a sequence of no components
+    × (is_lawful (closed (has_default 0 (between (pos 0) (pos 4)) (num 5) no_component)) ≡ false)
+    × (is_lawful (closed (has_default 0 (between (pos 0) (pos 4)) (num 4) no_component)) ≡ true)
+    × (is_lawful (closed (has_default 0 whole yes no_component)) ≡ false)
+    × (is_lawful (closed (has_default 0 (closed no_component) yes_alone no_component)) ≡ false)
+    × (is_lawful (closed (has_default 0 colour_old (item (pos 1)) no_component)) ≡ false)
+    -- there are four classes of tags
+    × (is_lawful (only_tagged (record { class = 3; number = 0 })) ≡ true)
+    × (is_lawful (only_tagged (record { class = 4; number = 0 })) ≡ false)
+    × (is_lawful (closed (component (record { class = 4; number = 0 } ∷ []) required boolean no_component)) ≡ false)
 
 abbrev pub VersionRows : Type 0
 VersionRows =
