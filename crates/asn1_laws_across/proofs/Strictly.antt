@@ -1,56 +1,67 @@
--- What a strict reader takes is canonical but for three freedoms.
-use Rattle.std.proofs.Common.{◌≡◌, ℕ, ◌^◌, ◌<◌, not, Bool, true, false, ◌&&◌, IsTrue, List, [], ◌∷◌, ◌++◌, length, take, drop, Some, option_and_then, refl, ap, ◌∙◌}
+-- What a strict reader takes as it is written is canonical.
+use Rattle.std.proofs.Common.{◌≡◌, ℕ, ◌+◌, ◌^◌, ◌<◌, Bool, true, false, IsTrue, List, [], ◌∷◌, ◌++◌, length, take, drop, Some, option_and_then, refl, ap, sym, ◌∙◌, subst, inl, inr, ◌⊎◌}
 use Rattle.std.proofs.lemmas.Bool.{ltb-true, lt-ltb, and_parts}
 use Rattle.asn1_model.specs.Value.{Value}
 use Rattle.asn1_model.specs.Schema.{Schema}
+use Rattle.asn1_model.specs.Lawful.{is_lawful}
 use Rattle.asn1_model.specs.Normal.{normal}
-use Rattle.asn1_model.specs.Form.{Reads, canonically, written}
+use Rattle.asn1_model.specs.Form.{Form, exactly, refused, both, placed, varied, within, Reads, canonically, written}
 use Rattle.asn1_model.specs.Numbers.{packed, binary}
-use Rattle.asn1_model.specs.Rules.{Rules, uper, aper, uper_strict, aper_strict, oer, coer, octet_bits, strict_per, strict_oer, canonical, encoding, per, octet_encoding, of_moderate_length}
+use Rattle.asn1_model.specs.Rules.{Rules, uper, aper, uper_strict, aper_strict, oer, coer, octet_bits, strict_per, strict_oer, canonical, encoding, per, octet_encoding, of_moderate_length, lenient, IsEncoding}
 use Rattle.asn1_model.specs.Strings.{each_is, is_octet}
 use Rattle.asn1_model.specs.Per
 use Rattle.asn1_model.specs.Oer
-use Rattle.asn1_model.proofs.Forms.{widens, writes_read}
+use Rattle.asn1_model.proofs.Forms.{widens, reads_written}
+use Rattle.asn1_laws.proofs.Messages.{per_text, octet_text}
 use Rattle.asn1_laws.proofs.PerStrict.{message_normal}
 use Rattle.asn1_laws.proofs.OerStrict.{octets_normal}
 use Rattle.asn1_laws.proofs.Octets.{packed_back, packed_octets}
 use Rattle.asn1_laws_values.proofs.Normal.{normal_stays}
 use Rattle.asn1_laws_fronts.proofs.PerNumbers.{binary_equal}
 use Rattle.asn1_laws_fronts.proofs.Complete.{bits_length}
-use Rattle.asn1_laws_across.specs.Strictly.{is_bitmap_or_order, is_bitmap_or_order_of_octets, IsEncodingWithout}
+use Rattle.asn1_laws_across.specs.Strictly.{ReadsAsWritten, IsEncodingAsWritten}
+use Rattle.asn1_laws_across.proofs.Across.{one_meaning}
 
--- a strict reader without the three freedoms has none
-none_left : (c : Per.Freedom) → IsTrue (strict_per c && not (is_bitmap_or_order c)) → IsTrue (canonically {F = Per.Freedom} c)
-none_left Per.any_filling h = h
-none_left Per.longer_length h = h
-none_left Per.other_fragments h = h
-none_left Per.longer_number h = h
-none_left Per.root_marked_outside h = h
-none_left Per.long_small_number h = h
-none_left Per.default_spelled_out h = h
-none_left Per.empty_group h = h
-none_left Per.other_bitmap h = h
-none_left Per.empty_bitmap h = h
-none_left Per.octets_behind h = h
-none_left Per.other_order h = h
+-- what is read as it is written is read, and is what is written
+pub as_read : {F : Type 0} {D : F → Type 0} {A : Type 0} (free : F → Bool) (x : Form F D A) (p : ℕ) (w : List A) → ReadsAsWritten free x p w → Reads free x p w
+unfolding Reads ReadsAsWritten
+as_read free (exactly l) p w r = r
+as_read free refused p w r = r
+as_read free (both x y) p w r = (r.0, r.1, as_read free x p r.0 r.2, as_read free y (p + length r.0) r.1 r.3, r.4)
+as_read free (placed f) p w r = as_read free (f p) p w r
+as_read free (varied c d f) p w r = (r.0, met r.1, as_read free (f r.0) p w r.2)
+  where
+    met : {P Q R : Type 0} → P ⊎ (Q × R) → P ⊎ Q
+    met (inl e) = inl e
+    met (inr e) = inr e.0
+as_read free (within x f) p w r = (r.0, as_read free x 0 r.0 r.1, as_read free (f r.0) p w r.2)
 
-none_left_of_octets : (c : Oer.Freedom) → IsTrue (strict_oer c && not (is_bitmap_or_order_of_octets c)) → IsTrue (canonically {F = Oer.Freedom} c)
-none_left_of_octets Oer.longer_length h = h
-none_left_of_octets Oer.longer_number h = h
-none_left_of_octets Oer.any_truth h = h
-none_left_of_octets Oer.longer_item h = h
-none_left_of_octets Oer.empty_bit_string h = h
-none_left_of_octets Oer.any_filling h = h
-none_left_of_octets Oer.long_tag h = h
-none_left_of_octets Oer.default_spelled_out h = h
-none_left_of_octets Oer.empty_group h = h
-none_left_of_octets Oer.other_bitmap h = h
-none_left_of_octets Oer.empty_bitmap h = h
-none_left_of_octets Oer.octets_behind h = h
-none_left_of_octets Oer.other_order h = h
+pub as_written : {F : Type 0} {D : F → Type 0} {A : Type 0} (free : F → Bool) (x : Form F D A) (p : ℕ) (w : List A) → ReadsAsWritten free x p w → written x p ≡ Some w
+unfolding written ReadsAsWritten
+as_written free (exactly l) p w r = ap Some r
+as_written free refused p w r = absurd r
+as_written free (both x y) p w r = let e1 = as_written free x p r.0 r.2 in let e2 = as_written free y (p + length r.0) r.1 r.3 in rw (e1, e2, r.4) refl
+as_written free (placed f) p w r = as_written free (f p) p w r
+as_written {D = D} free (varied c d f) p w r = go r.0 r.1 (as_written free (f r.0) p w r.2)
+  where
+    go : (e : D c) → (e ≡ d) ⊎ (IsTrue (free c) × (written (f e) p ≡ written (f d) p)) → written (f e) p ≡ Some w → written (f d) p ≡ Some w
+    go e (inl h) i = subst (λ x. written (f x) p ≡ Some w) h i
+    go e (inr h) i = sym h.1 ∙ i
+as_written free (within x f) p w r = let e1 = as_written free x 0 r.0 r.1 in let e2 = as_written free (f r.0) p w r.2 in rw (e1, e2) refl
 
-from_none : (b : Bool) → IsTrue false → IsTrue b
-from_none b h = let e : false ≡ true = h in cc
+-- what is written is read as it is written
+pub written_as : {F : Type 0} {D : F → Type 0} {A : Type 0} (free : F → Bool) (x : Form F D A) (p : ℕ) (w : List A) → Reads canonically x p w → ReadsAsWritten free x p w
+unfolding Reads ReadsAsWritten
+written_as free (exactly l) p w r = r
+written_as free refused p w r = r
+written_as free (both x y) p w r = (r.0, r.1, written_as free x p r.0 r.2, written_as free y (p + length r.0) r.1 r.3, r.4)
+written_as free (placed f) p w r = written_as free (f p) p w r
+written_as free (varied c d f) p w r = (r.0, met r.1, written_as free (f r.0) p w r.2)
+  where
+    met : {P Q : Type 0} → P ⊎ IsTrue false → P ⊎ Q
+    met (inl e) = inl e
+    met (inr h) = let e : false ≡ true = h in cc
+written_as free (within x f) p w r = (r.0, written_as free x 0 r.0 r.1, written_as free (f r.0) p w r.2)
 
 -- octets, from their bits
 front_bits : (o p : ℕ) (r s : List Bool) → o < 256 → p < 256 → binary 8 o ++ r ≡ binary 8 p ++ s → (o ≡ p) × (r ≡ s)
@@ -76,30 +87,57 @@ packed_bits os h =
 moderate : (w : List ℕ) → length w < 2 ^ 60 → of_moderate_length w ≡ Some w
 moderate w h = let e = lt-ltb (length w) (2 ^ 60) h in rw e refl
 
-packed_strictly : (al : Bool) (s : Schema) (v : Value) (w : List ℕ) → each_is is_octet w ≡ true → length w < 2 ^ 60 → Reads (λ c. strict_per c && not (is_bitmap_or_order c)) (Per.message al s v) 0 (octet_bits w) → option_and_then of_moderate_length (per al s (normal s v)) ≡ Some w
+packed_strictly : (al : Bool) (s : Schema) (v : Value) (w : List ℕ) → each_is is_octet w ≡ true → length w < 2 ^ 60 → ReadsAsWritten strict_per (Per.message al s v) 0 (octet_bits w) → option_and_then of_moderate_length (per al s (normal s v)) ≡ Some w
 unfolding per
 packed_strictly al s v w o h r =
-    let c = widens (λ c. strict_per c && not (is_bitmap_or_order c)) canonically (Per.message al s v) 0 (octet_bits w) none_left r in
-    let n = normal_stays s v (message_normal al s v (octet_bits w) (widens canonically strict_per (Per.message al s v) 0 (octet_bits w) (λ c h. from_none (strict_per c) h) c)) in
-    let e : written (Per.message al s (normal s v)) 0 ≡ Some (octet_bits w) = ap (λ x. written (Per.message al s x) 0) n ∙ writes_read _ 0 (octet_bits w) c in
+    let n = normal_stays s v (message_normal al s v (octet_bits w) (as_read strict_per (Per.message al s v) 0 (octet_bits w) r)) in
+    let e : written (Per.message al s (normal s v)) 0 ≡ Some (octet_bits w) = ap (λ x. written (Per.message al s x) 0) n ∙ as_written strict_per _ 0 (octet_bits w) r in
     let f = packed_bits w o in
     let m = moderate w h in
     rw (e, f) m
 
-octets_strictly : (s : Schema) (v : Value) (w : List ℕ) → length w < 2 ^ 60 → Reads (λ c. strict_oer c && not (is_bitmap_or_order_of_octets c)) (Oer.form s v) 0 w → option_and_then of_moderate_length (octet_encoding s (normal s v)) ≡ Some w
+octets_strictly : (s : Schema) (v : Value) (w : List ℕ) → length w < 2 ^ 60 → ReadsAsWritten strict_oer (Oer.form s v) 0 w → option_and_then of_moderate_length (octet_encoding s (normal s v)) ≡ Some w
 unfolding octet_encoding
 octets_strictly s v w h r =
-    let c = widens (λ c. strict_oer c && not (is_bitmap_or_order_of_octets c)) canonically (Oer.form s v) 0 w none_left_of_octets r in
-    let n = normal_stays s v (octets_normal s v w (widens canonically strict_oer (Oer.form s v) 0 w (λ c h. from_none (strict_oer c) h) c)) in
-    let e : written (Oer.form s (normal s v)) 0 ≡ Some w = ap (λ x. written (Oer.form s x) 0) n ∙ writes_read _ 0 w c in
+    let n = normal_stays s v (octets_normal s v w (as_read strict_oer (Oer.form s v) 0 w r)) in
+    let e : written (Oer.form s (normal s v)) 0 ≡ Some w = ap (λ x. written (Oer.form s x) 0) n ∙ as_written strict_oer _ 0 w r in
     let m = moderate w h in
     rw e m
 
-pub strictly : (r : Rules) (s : Schema) (v : Value) (w : List ℕ) → each_is is_octet w ≡ true → IsEncodingWithout r s v w → canonical r s v ≡ Some w
-unfolding canonical encoding IsEncodingWithout
+pub strictly : (r : Rules) (s : Schema) (v : Value) (w : List ℕ) → each_is is_octet w ≡ true → IsEncodingAsWritten r s v w → canonical r s v ≡ Some w
+unfolding canonical encoding IsEncodingAsWritten
 strictly uper s v w o h = packed_strictly false s v w o h.0 h.1
 strictly uper_strict s v w o h = packed_strictly false s v w o h.0 h.1
 strictly aper s v w o h = packed_strictly true s v w o h.0 h.1
 strictly aper_strict s v w o h = packed_strictly true s v w o h.0 h.1
 strictly oer s v w o h = octets_strictly s v w h.0 h.1
 strictly coer s v w o h = octets_strictly s v w h.0 h.1
+
+-- what is read as it is written is an encoding
+pub is_encoding : (r : Rules) (s : Schema) (v : Value) (w : List ℕ) → IsEncodingAsWritten r s v w → IsEncoding r s v w
+unfolding IsEncodingAsWritten IsEncoding
+is_encoding uper s v w h = (h.0, widens strict_per lenient _ 0 _ (λ c k. refl) (as_read strict_per _ 0 _ h.1))
+is_encoding aper s v w h = (h.0, widens strict_per lenient _ 0 _ (λ c k. refl) (as_read strict_per _ 0 _ h.1))
+is_encoding uper_strict s v w h = (h.0, as_read strict_per _ 0 _ h.1)
+is_encoding aper_strict s v w h = (h.0, as_read strict_per _ 0 _ h.1)
+is_encoding oer s v w h = (h.0, widens strict_oer lenient _ 0 _ (λ c k. refl) (as_read strict_oer _ 0 _ h.1))
+is_encoding coer s v w h = (h.0, as_read strict_oer _ 0 _ h.1)
+
+pub of_all : (r : Rules) (s : Schema) (v u : Value) (w : List ℕ) → is_lawful s ≡ true → each_is is_octet w ≡ true → IsEncodingAsWritten r s v w → IsEncoding r s u w → canonical r s u ≡ Some w
+of_all r s v u w l o h k = (one_meaning r r s u v w l k (is_encoding r s v w h)).2 ∙ strictly r s v w o h
+
+-- what is canonical is read as it is written
+packed_as : (al : Bool) (s : Schema) (v : Value) (w : List ℕ) → option_and_then of_moderate_length (per al s v) ≡ Some w → (length w < 2 ^ 60) × ReadsAsWritten strict_per (Per.message al s v) 0 (octet_bits w)
+packed_as al s v w e = let t = per_text al s v w e in (t.0, written_as strict_per (Per.message al s v) 0 (octet_bits w) (reads_written (Per.message al s v) 0 (octet_bits w) t.1))
+
+octets_as : (s : Schema) (v : Value) (w : List ℕ) → option_and_then of_moderate_length (octet_encoding s v) ≡ Some w → (length w < 2 ^ 60) × ReadsAsWritten strict_oer (Oer.form s v) 0 w
+octets_as s v w e = let t = octet_text s v w e in (t.0, written_as strict_oer (Oer.form s v) 0 w (reads_written (Oer.form s v) 0 w t.1))
+
+pub canonical_as : (r : Rules) (s : Schema) (v : Value) (w : List ℕ) → canonical r s v ≡ Some w → IsEncodingAsWritten r s (normal s v) w
+unfolding canonical encoding IsEncodingAsWritten
+canonical_as uper s v w e = packed_as false s (normal s v) w e
+canonical_as uper_strict s v w e = packed_as false s (normal s v) w e
+canonical_as aper s v w e = packed_as true s (normal s v) w e
+canonical_as aper_strict s v w e = packed_as true s (normal s v) w e
+canonical_as oer s v w e = octets_as s (normal s v) w e
+canonical_as coer s v w e = octets_as s (normal s v) w e

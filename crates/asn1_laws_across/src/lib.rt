@@ -1,10 +1,12 @@
 //! Translation between rules: what is equal in one is equal in the others, and a detour changes no octet.
 #![tactic(auto)]
 
-ghost use Rattle.asn1_laws_across.specs.Laws.{OneMeaning, EncodingsTellNormalForms, EqualAcross, DetoursChangeNothing, RecodedStays, StrictIsCanonical};
+ghost use Rattle.asn1_laws_across.specs.Laws.{OneMeaning, EncodingsTellNormalForms, EqualAcross, DetoursChangeNothing, RecodedStays};
+ghost use Rattle.asn1_laws_across.specs.Laws.{StrictIsCanonical, CanonicalIsAsWritten, StrictIsCanonicalOfAll, OwnBitmaps, AscendingBags};
+ghost use Rattle.asn1_laws_across.specs.Strictly.{AsWrittenRows};
 
-/// All values of which some octets are an encoding are the same, and so have one normal form and one canonical encoding in all
-/// rules.
+/// All values of which some octets are an encoding are the same, and so have the same normal form, up to the order of bags, and one
+/// canonical encoding in all rules.
 pub fn one_meaning()
     ensures { OneMeaning }
 {}
@@ -29,8 +31,32 @@ pub fn recoded_stays()
     ensures { RecodedStays }
 {}
 
-/// What a strict reader takes is canonical, but for three freedoms: the widths of presence bitmaps, bitmaps with no bit set, and the
-/// order of bags.
+/// What a strict reader takes is canonical, where each detail that it meets writes what the canonical one writes.
 pub fn strict_is_canonical()
     ensures { StrictIsCanonical }
+{}
+
+/// What is canonical is read so, as the normal form.
+pub fn canonical_is_as_written()
+    ensures { CanonicalIsAsWritten }
+{}
+
+/// What a strict reader takes so is the canonical encoding of all values of which it is an encoding.
+pub fn strict_is_canonical_of_all()
+    ensures { StrictIsCanonicalOfAll }
+{}
+
+/// A bitmap of the type's own width with a bit set, whatever it covers, writes what the type's own does.
+pub fn own_bitmaps()
+    ensures { OwnBitmaps }
+{}
+
+/// The members of a bag in whatever order, where they ascend in it, write what the canonical order does.
+pub fn ascending_bags()
+    ensures { AscendingBags }
+{}
+
+/// The bag of 3, 1 and 2 stands in ascending order.
+pub fn as_written_rows()
+    ensures { AsWrittenRows }
 {}

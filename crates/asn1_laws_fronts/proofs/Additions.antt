@@ -10,15 +10,15 @@ use Rattle.asn1_model.proofs.Forms.{map_parts}
 use Rattle.asn1_laws_fronts.proofs.Fronts.{Agree, agree_refused, agree_with_refused, agree_map, agree_both, agree_both_apart, agree_given, agree_if, agree_if_left, agree_if_right, agree_nothing}
 use Rattle.asn1_laws.proofs.Listed.{EachComponent}
 
-unless_equal : (r m n : Bool) (ms ns : List Bool) → mark_unless r m ms ≡ mark_unless r n ns → (ms ≡ ns) × ((r ≡ true) ⊎ (m ≡ n))
+pub unless_equal : (r m n : Bool) (ms ns : List Bool) → mark_unless r m ms ≡ mark_unless r n ns → (ms ≡ ns) × ((r ≡ true) ⊎ (m ≡ n))
 unless_equal true m n ms ns e = (e, inl refl)
 unless_equal false m n ms ns e = (cc, inr cc)
 
-no_any : (t : Bool) → not t ≡ true → t ≡ false
+pub no_any : (t : Bool) → not t ≡ true → t ≡ false
 no_any true e = sym e
 no_any false e = refl
 
-cond_some : {X : Type 0} (b : Bool) (x y : X) → cond b (Some x) None ≡ Some y → (b ≡ true) × (x ≡ y)
+pub cond_some : {X : Type 0} (b : Bool) (x y : X) → cond b (Some x) None ≡ Some y → (b ≡ true) × (x ≡ y)
 cond_some true x y e = (refl, cc)
 cond_some false x y e = cc
 
@@ -81,7 +81,7 @@ module _ (F : Type 0) (D : F → Type 0) (A : Type 0) (free : F → Bool) where
   -- ---- additions
   module _ (unknown : List ℕ → Form F D A) (unknown_alike : (os ps : List ℕ) → AlikeHere (unknown os) (unknown ps) (os ≡ ps)) where
     -- the additions that a bitmap tells of: the type's own as far as it covers them, the others being absent, and unknown ones
-    abbrev Tells : List (Option Forms) → List (Option Forms) → Type 0
+    abbrev pub Tells : List (Option Forms) → List (Option Forms) → Type 0
     Tells [] all = (more : List (Option (List ℕ))) × (map (option_map unknown) more ≡ all)
     Tells (x ∷ xs) [] = is_any_present (x ∷ xs) ≡ false
     Tells (x ∷ xs) (y ∷ all) = (x ≡ y) × Tells xs all
@@ -98,7 +98,7 @@ module _ (F : Type 0) (D : F → Type 0) (A : Type 0) (free : F → Bool) where
     none_of [] e = refl
     none_of (x ∷ more) e = let h = eqb-true (length (x ∷ more)) 0 e in absurd (omega arith)
 
-    covered_tells : (b : Bitmap) (xs all : List (Option Forms)) → covered_by unknown b xs ≡ Some all → Tells xs all
+    pub covered_tells : (b : Bitmap) (xs all : List (Option Forms)) → covered_by unknown b xs ≡ Some all → Tells xs all
     covered_tells b xs all e =
         let q = cond_some (not (is_any_present (drop b.covered xs)) && (ltb (length xs) (b.covered + 1) || length b.further == 0)) (take b.covered xs ++ map (option_map unknown) b.further) all e in
         let p = and_parts _ _ q.0 in
@@ -108,7 +108,7 @@ module _ (F : Type 0) (D : F → Type 0) (A : Type 0) (free : F → Bool) where
         cases (inl h) = let k = ltb-true _ _ h in inl (omega arith)
         cases (inr h) = inr (none_of b.further h)
 
-    unknowns_alike : (more others : List (Option (List ℕ))) → map (λ a. is_present a) (map (option_map unknown) more) ≡ map (λ a. is_present a) (map (option_map unknown) others) → AlikeHere (joined (present_ones (map (option_map unknown) more))) (joined (present_ones (map (option_map unknown) others))) (Unit {0})
+    pub unknowns_alike : (more others : List (Option (List ℕ))) → map (λ a. is_present a) (map (option_map unknown) more) ≡ map (λ a. is_present a) (map (option_map unknown) others) → AlikeHere (joined (present_ones (map (option_map unknown) more))) (joined (present_ones (map (option_map unknown) others))) (Unit {0})
     unknowns_alike [] [] m = agree_nothing free
     unknowns_alike [] (b ∷ others) m = cc
     unknowns_alike (a ∷ more) [] m = cc

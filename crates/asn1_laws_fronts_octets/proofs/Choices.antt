@@ -17,7 +17,7 @@ each_behind : {X : Type 0} (test : X → Bool) (xs ys : List X) → each_is test
 each_behind test [] ys h = h
 each_behind test (x ∷ xs) ys h = each_behind test xs ys ((and_parts _ _ h).1)
 
-each_before : {X : Type 0} (test : X → Bool) (xs ys : List X) → each_is test (xs ++ ys) ≡ true → each_is test xs ≡ true
+pub each_before : {X : Type 0} (test : X → Bool) (xs ys : List X) → each_is test (xs ++ ys) ≡ true → each_is test xs ≡ true
 each_before test [] ys h = refl
 each_before test (x ∷ xs) ys h = let p = and_parts _ _ h in and_from _ _ p.0 (each_before test xs ys p.1)
 
@@ -41,7 +41,7 @@ module _ (free : Oer.Freedom → Bool) where
   tags_apart t u x y P h = agree_both_apart free (agree_map free (λ e. not_both (tag_same t u) h e) (tags_alike free t u))
 
   -- an alternative whose tag is none of the others'
-  apart_from : (t : Tag) (x : Oer.OctetForm) (b : Bool) (others : Alternatives) (j : ℕ) (w : Value) (P : Type 0) → each_is (λ u. not (tag_same t u)) (alternative_tags others) ≡ true → OctetsAlike free (both (Oer.tag_form t) x) (Oer.alternative_form b others j w) P
+  pub apart_from : (t : Tag) (x : Oer.OctetForm) (b : Bool) (others : Alternatives) (j : ℕ) (w : Value) (P : Type 0) → each_is (λ u. not (tag_same t u)) (alternative_tags others) ≡ true → OctetsAlike free (both (Oer.tag_form t) x) (Oer.alternative_form b others j w) P
   unfolding Oer.alternative_form
   apart_from t x true no_alternative j w P h = agree_with_refused free _ _
   apart_from t x false no_alternative j w P h = agree_with_refused free _ _

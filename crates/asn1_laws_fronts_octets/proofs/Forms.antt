@@ -53,10 +53,10 @@ module _ (free : Oer.Freedom → Bool) where
       subst (λ l. OctetsAlike free (Oer.members_form held l) (Oer.members_form held zs) (same (bag vs) (bag ws) ≡ true)) a.3 (subst (λ l. OctetsAlike free (Oer.members_form held (map f a.1)) (Oer.members_form held l) (same (bag vs) (bag ws) ≡ true)) b.3 (agree_map free done (members_alike free Value (λ v w. same v w ≡ true) f h held a.1 b.1))))))
 
   -- ---- components and additions
-  shown : Presence → Schema → Value → Oer.OctetForm
+  unfoldable pub shown : Presence → Schema → Value → Oer.OctetForm
   shown o s v = Oer.spelled o s v (Oer.form s v)
 
-  added : Presence → Schema → Value → Oer.OctetForm
+  unfoldable pub added : Presence → Schema → Value → Oer.OctetForm
   added o s v = Oer.spelled o s v (Oer.open_type (Oer.form s v))
 
   shown_alike : (o : Presence) (s : Schema) → Way s → (v w : Value) → OctetsAlike free (shown o s v) (shown o s w) (same v w ≡ true)
@@ -67,10 +67,10 @@ module _ (free : Oer.Freedom → Bool) where
   unfolding added
   added_alike o s h v w = octets_spelled_alike free o s v w _ _ _ (open_alike free _ _ _ (h v w))
 
-  abbrev Shown : Components → Parts → Oer.OctetForm
+  abbrev pub Shown : Components → Parts → Oer.OctetForm
   Shown cs ps = adding.components_of Oer.Freedom Oer.Detail ℕ free shown cs ps
 
-  shown_is : (cs : Components) (ps : Parts) → Shown cs ps ≡ Oer.component_forms cs ps
+  pub shown_is : (cs : Components) (ps : Parts) → Shown cs ps ≡ Oer.component_forms cs ps
   unfolding Oer.component_forms shown
   shown_is no_component end = refl
   shown_is no_component (absent ps) = refl
@@ -82,17 +82,17 @@ module _ (free : Oer.Freedom → Bool) where
   components_alike : (cs : Components) (ps qs : Parts) → EachComponent (λ o s. Way s) cs → marks cs ps ≡ marks cs qs → OctetsAlike free (Oer.component_forms cs ps) (Oer.component_forms cs qs) (same_parts ps qs ≡ true)
   components_alike cs ps qs h m = subst (λ x. OctetsAlike free x (Oer.component_forms cs qs) (same_parts ps qs ≡ true)) (shown_is cs ps) (subst (λ x. OctetsAlike free (Shown cs ps) x (same_parts ps qs ≡ true)) (shown_is cs qs) (adding.components_alike Oer.Freedom Oer.Detail ℕ free shown cs ps qs (component_map cs (λ o s k. shown_alike o s k) h) m))
 
-  unknown : List ℕ → Oer.OctetForm
+  unfoldable pub unknown : List ℕ → Oer.OctetForm
   unknown os = Oer.counted os
 
-  unknown_alike : (os ps : List ℕ) → OctetsAlike free (unknown os) (unknown ps) (os ≡ ps)
+  pub unknown_alike : (os ps : List ℕ) → OctetsAlike free (unknown os) (unknown ps) (os ≡ ps)
   unfolding unknown
   unknown_alike os ps = counted_alike free os ps
 
-  abbrev Added : Components → Parts → Option (List (Option Oer.OctetForm))
+  abbrev pub Added : Components → Parts → Option (List (Option Oer.OctetForm))
   Added cs ps = adding.additions_of Oer.Freedom Oer.Detail ℕ free unknown unknown_alike added cs ps
 
-  added_is : (cs : Components) (ps : Parts) → Added cs ps ≡ Oer.addition_forms cs ps
+  pub added_is : (cs : Components) (ps : Parts) → Added cs ps ≡ Oer.addition_forms cs ps
   unfolding Oer.addition_forms added
   added_is no_component end = refl
   added_is no_component (absent ps) = refl
@@ -101,35 +101,35 @@ module _ (free : Oer.Freedom → Bool) where
   added_is (component t o s cs) (absent ps) = ap (λ x. cond (is_required o) None (option_map (λ xs. None ∷ xs) x)) (added_is cs ps)
   added_is (component t o s cs) (present v ps) = ap (λ x. option_map (λ xs. Some (Oer.spelled o s v (Oer.open_type (Oer.form s v))) ∷ xs) x) (added_is cs ps)
 
-  marked : List Bool → Oer.OctetForm
+  unfoldable pub marked : List Bool → Oer.OctetForm
   marked ms = Oer.preamble ms
 
-  marked_alike : (ms ns : List Bool) → length ms ≡ length ns → OctetsAlike free (marked ms) (marked ns) (ms ≡ ns)
+  pub marked_alike : (ms ns : List Bool) → length ms ≡ length ns → OctetsAlike free (marked ms) (marked ns) (ms ≡ ns)
   unfolding marked
   marked_alike ms ns l = preamble_alike free ms ns l
 
-  bits : List (Option Oer.OctetForm) → Oer.OctetForm
+  unfoldable pub bits : List (Option Oer.OctetForm) → Oer.OctetForm
   bits xs = Oer.counted_bits (map (λ a. is_present a) xs)
 
-  flags_alike : (xs ys : List (Option Oer.OctetForm)) → OctetsAlike free (bits xs) (bits ys) (map (λ a. is_present a) xs ≡ map (λ a. is_present a) ys)
+  pub flags_alike : (xs ys : List (Option Oer.OctetForm)) → OctetsAlike free (bits xs) (bits ys) (map (λ a. is_present a) xs ≡ map (λ a. is_present a) ys)
   unfolding bits
   flags_alike xs ys = counted_bits_alike free _ _
 
-  hidden : Oer.OctetForm → Oer.OctetForm
+  unfoldable pub hidden : Oer.OctetForm → Oer.OctetForm
   hidden x = varied Oer.empty_bitmap false (λ e. only_if e x)
 
-  hidden_left : (x y : Oer.OctetForm) (P : Type 0) → OctetsAlike free x y P → OctetsAlike free (hidden x) y P
+  pub hidden_left : (x y : Oer.OctetForm) (P : Type 0) → OctetsAlike free x y P → OctetsAlike free (hidden x) y P
   unfolding hidden
   hidden_left x y P h = agree_varied_left free {c = Oer.empty_bitmap} (λ t. agree_if_left free t {x = x} {y = y} (λ e. h))
 
-  hidden_right : (x y : Oer.OctetForm) (P : Type 0) → OctetsAlike free x y P → OctetsAlike free x (hidden y) P
+  pub hidden_right : (x y : Oer.OctetForm) (P : Type 0) → OctetsAlike free x y P → OctetsAlike free x (hidden y) P
   unfolding hidden
   hidden_right x y P h = agree_varied_right free {c = Oer.empty_bitmap} (λ t. agree_if_right free t {x = x} {y = y} (λ e. h))
 
-  abbrev Bitmapped : List Bool → Oer.OctetForm → List (Option Oer.OctetForm) → Option Bitmap → Oer.OctetForm
+  abbrev pub Bitmapped : List Bool → Oer.OctetForm → List (Option Oer.OctetForm) → Option Bitmap → Oer.OctetForm
   Bitmapped ms root xs b = adding.bitmapped Oer.Freedom Oer.Detail ℕ free unknown unknown_alike added marked marked_alike bits flags_alike hidden hidden_left hidden_right ms root xs b
 
-  bitmapped_is : (ms : List Bool) (root : Oer.OctetForm) (xs : List (Option Oer.OctetForm)) (b : Option Bitmap) → Bitmapped ms root xs b ≡ Oer.bitmapped ms root xs b
+  pub bitmapped_is : (ms : List Bool) (root : Oer.OctetForm) (xs : List (Option Oer.OctetForm)) (b : Option Bitmap) → Bitmapped ms root xs b ≡ Oer.bitmapped ms root xs b
   unfolding Oer.bitmapped Oer.with_additions Oer.additions unknown marked bits hidden
   bitmapped_is ms root xs None = refl
   bitmapped_is ms root xs (Some b) = refl

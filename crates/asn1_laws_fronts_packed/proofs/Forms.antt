@@ -63,10 +63,10 @@ module _ (free : Per.Freedom → Bool) (al : Bool) where
       subst (λ l. Alike free (Sized z held l) (Sized z held zs) (same (bag vs) (bag ws) ≡ true)) a.3 (subst (λ l. Alike free (Sized z held (map f a.1)) (Sized z held l) (same (bag vs) (bag ws) ≡ true)) b.3 (agree_map free done (sized_alike free Value (λ v w. same v w ≡ true) f h al z held Per.never Per.never a.1 b.1 (λ l. refl)))))))
 
   -- ---- components and additions
-  shown : Presence → Schema → Value → Per.BitForm
+  unfoldable pub shown : Presence → Schema → Value → Per.BitForm
   shown o s v = Per.spelled o s v (Per.form al s v)
 
-  added : Presence → Schema → Value → Per.BitForm
+  unfoldable pub added : Presence → Schema → Value → Per.BitForm
   added o s v = Per.spelled o s v (Per.open_type al (Per.form al s v))
 
   shown_alike : (o : Presence) (s : Schema) → OneWay s → (v w : Value) → Alike free (shown o s v) (shown o s w) (same v w ≡ true)
@@ -77,10 +77,10 @@ module _ (free : Per.Freedom → Bool) (al : Bool) where
   unfolding added
   added_alike o s h v w = packed_spelled_alike free o s v w _ _ _ (open_alike free al _ _ _ (h v w))
 
-  abbrev Shown : Components → Parts → Per.BitForm
+  abbrev pub Shown : Components → Parts → Per.BitForm
   Shown cs ps = adding.components_of Per.Freedom Per.Detail Bool free shown cs ps
 
-  shown_is : (cs : Components) (ps : Parts) → Shown cs ps ≡ Per.component_forms al cs ps
+  pub shown_is : (cs : Components) (ps : Parts) → Shown cs ps ≡ Per.component_forms al cs ps
   unfolding Per.component_forms shown
   shown_is no_component end = refl
   shown_is no_component (absent ps) = refl
@@ -92,17 +92,17 @@ module _ (free : Per.Freedom → Bool) (al : Bool) where
   components_alike : (cs : Components) (ps qs : Parts) → EachComponent (λ o s. OneWay s) cs → marks cs ps ≡ marks cs qs → Alike free (Per.component_forms al cs ps) (Per.component_forms al cs qs) (same_parts ps qs ≡ true)
   components_alike cs ps qs h m = subst (λ x. Alike free x (Per.component_forms al cs qs) (same_parts ps qs ≡ true)) (shown_is cs ps) (subst (λ x. Alike free (Shown cs ps) x (same_parts ps qs ≡ true)) (shown_is cs qs) (adding.components_alike Per.Freedom Per.Detail Bool free shown cs ps qs (component_map cs (λ o s k. shown_alike o s k) h) m))
 
-  unknown : List ℕ → Per.BitForm
+  unfoldable pub unknown : List ℕ → Per.BitForm
   unknown os = Per.counted_octets al os
 
-  unknown_alike : (os ps : List ℕ) → Alike free (unknown os) (unknown ps) (os ≡ ps)
+  pub unknown_alike : (os ps : List ℕ) → Alike free (unknown os) (unknown ps) (os ≡ ps)
   unfolding unknown
   unknown_alike os ps = counted_octets_alike free al os ps
 
-  abbrev Added : Components → Parts → Option (List (Option Per.BitForm))
+  abbrev pub Added : Components → Parts → Option (List (Option Per.BitForm))
   Added cs ps = adding.additions_of Per.Freedom Per.Detail Bool free unknown unknown_alike added cs ps
 
-  added_is : (cs : Components) (ps : Parts) → Added cs ps ≡ Per.addition_forms al cs ps
+  pub added_is : (cs : Components) (ps : Parts) → Added cs ps ≡ Per.addition_forms al cs ps
   unfolding Per.addition_forms added
   added_is no_component end = refl
   added_is no_component (absent ps) = refl
@@ -111,35 +111,35 @@ module _ (free : Per.Freedom → Bool) (al : Bool) where
   added_is (component t o s cs) (absent ps) = ap (λ x. cond (is_required o) None (option_map (λ xs. None ∷ xs) x)) (added_is cs ps)
   added_is (component t o s cs) (present v ps) = ap (λ x. option_map (λ xs. Some (Per.spelled o s v (Per.open_type al (Per.form al s v))) ∷ xs) x) (added_is cs ps)
 
-  marked : List Bool → Per.BitForm
+  unfoldable pub marked : List Bool → Per.BitForm
   marked ms = exactly ms
 
-  marked_alike : (ms ns : List Bool) → length ms ≡ length ns → Alike free (marked ms) (marked ns) (ms ≡ ns)
+  pub marked_alike : (ms ns : List Bool) → length ms ≡ length ns → Alike free (marked ms) (marked ns) (ms ≡ ns)
   unfolding marked
   marked_alike ms ns l = agree_exactly free ms ns l
 
-  bits : List (Option Per.BitForm) → Per.BitForm
+  unfoldable pub bits : List (Option Per.BitForm) → Per.BitForm
   bits xs = Per.normally_few al (map Per.flag xs)
 
-  flags_alike : (xs ys : List (Option Per.BitForm)) → Alike free (bits xs) (bits ys) (map (λ a. is_present a) xs ≡ map (λ a. is_present a) ys)
+  pub flags_alike : (xs ys : List (Option Per.BitForm)) → Alike free (bits xs) (bits ys) (map (λ a. is_present a) xs ≡ map (λ a. is_present a) ys)
   unfolding bits
   flags_alike xs ys = bitmap_alike free al xs ys
 
-  hidden : Per.BitForm → Per.BitForm
+  unfoldable pub hidden : Per.BitForm → Per.BitForm
   hidden x = varied Per.empty_bitmap false (λ e. only_if e x)
 
-  hidden_left : (x y : Per.BitForm) (P : Type 0) → Alike free x y P → Alike free (hidden x) y P
+  pub hidden_left : (x y : Per.BitForm) (P : Type 0) → Alike free x y P → Alike free (hidden x) y P
   unfolding hidden
   hidden_left x y P h = agree_varied_left free {c = Per.empty_bitmap} (λ t. agree_if_left free t {x = x} {y = y} (λ e. h))
 
-  hidden_right : (x y : Per.BitForm) (P : Type 0) → Alike free x y P → Alike free x (hidden y) P
+  pub hidden_right : (x y : Per.BitForm) (P : Type 0) → Alike free x y P → Alike free x (hidden y) P
   unfolding hidden
   hidden_right x y P h = agree_varied_right free {c = Per.empty_bitmap} (λ t. agree_if_right free t {x = x} {y = y} (λ e. h))
 
-  abbrev Bitmapped : List Bool → Per.BitForm → List (Option Per.BitForm) → Option Bitmap → Per.BitForm
+  abbrev pub Bitmapped : List Bool → Per.BitForm → List (Option Per.BitForm) → Option Bitmap → Per.BitForm
   Bitmapped ms root xs b = adding.bitmapped Per.Freedom Per.Detail Bool free unknown unknown_alike added marked marked_alike bits flags_alike hidden hidden_left hidden_right ms root xs b
 
-  bitmapped_is : (ms : List Bool) (root : Per.BitForm) (xs : List (Option Per.BitForm)) (b : Option Bitmap) → Bitmapped ms root xs b ≡ Per.bitmapped al ms root xs b
+  pub bitmapped_is : (ms : List Bool) (root : Per.BitForm) (xs : List (Option Per.BitForm)) (b : Option Bitmap) → Bitmapped ms root xs b ≡ Per.bitmapped al ms root xs b
   unfolding Per.bitmapped Per.with_additions Per.additions unknown marked bits hidden
   bitmapped_is ms root xs None = refl
   bitmapped_is ms root xs (Some b) = refl

@@ -61,7 +61,7 @@ then_bits free x m P = record {
       cc;
 }
 
-items_equal : (ds : List ℤ) (v w : ℤ) (i : ℕ) → item_place v ds ≡ Some i → item_place w ds ≡ Some i → v ≡ w
+pub items_equal : (ds : List ℤ) (v w : ℤ) (i : ℕ) → item_place v ds ≡ Some i → item_place w ds ≡ Some i → v ≡ w
 items_equal [] v w i e f = cc
 items_equal (d ∷ ds) v w i e f = go (same_number v d) (same_number w d) refl refl e f i (λ j g h. items_equal ds v w j g h)
   where
@@ -191,7 +191,7 @@ module _ (free : Per.Freedom → Bool) where
       whole : (m n : ℕ) → m ≡ n + missing n → m ≡ 8 * ((n + 7) / 8)
       whole m n e = omega arith
 
-  complete_whole : (x : Per.BitForm) (a : List Bool) (p : ℕ) → Reads free (Per.complete x) p a → (k : ℕ) × (length a ≡ 8 * k)
+  pub complete_whole : (x : Per.BitForm) (a : List Bool) (p : ℕ) → Reads free (Per.complete x) p a → (k : ℕ) × (length a ≡ 8 * k)
   unfolding Per.complete Reads
   complete_whole x a p r = filled_whole r.0 a p r.2
 
@@ -208,10 +208,10 @@ module _ (free : Per.Freedom → Bool) where
   octets_long [] = refl
   octets_long (o ∷ os) = let i = octets_long os in length-append (binary 8 o) (flat_map (binary 8) os) ∙ omega arith
 
-  joined_long : (v : List Bool) (more : List ℕ) (k : ℕ) → length v ≡ 8 * k → length (v ++ flat_map (binary 8) more) ≡ 8 * (k + length more)
+  pub joined_long : (v : List Bool) (more : List ℕ) (k : ℕ) → length v ≡ 8 * k → length (v ++ flat_map (binary 8) more) ≡ 8 * (k + length more)
   joined_long v more k h = let a = octets_long more in length-append v (flat_map (binary 8) more) ∙ omega arith
 
-  when_read : (t : Bool) (x : Per.BitForm) (p : ℕ) (a : List Bool) → Reads free (only_if t x) p a → Reads free x p a
+  pub when_read : (t : Bool) (x : Per.BitForm) (p : ℕ) (a : List Bool) → Reads free (only_if t x) p a → Reads free x p a
   unfolding Reads
   when_read true x p a r = r
   when_read false x p a r = absurd r

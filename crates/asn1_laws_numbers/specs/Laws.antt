@@ -1,7 +1,11 @@
 -- Laws of numbers as digits, octets and bits.
 use Rattle.std.specs.Prelude.{◌≡◌, ℕ, ◌+◌, ◌-◌, ◌*◌, ◌^◌, ◌==◌, ◌<◌, ◌≤◌, ltb, pos, negsuc, Bool, IsTrue, List, length, map}
 use Rattle.asn1_model.specs.Numbers.{digits, number_after, places, least_octets, signed_octets, complement, binary, packed, octet_bits}
-use Rattle.asn1_model.specs.Strings.{each_is, is_octet, identifier_octets, is_identifier}
+use Rattle.std.specs.Str.{IsUtf8}
+use Rattle.asn1_model.specs.Schema.{utf8}
+use Rattle.asn1_model.specs.Strings.{may_hold, each_is, is_octet, identifier_octets, is_identifier}
+use Rattle.asn1_model.specs.Form.{stands_before}
+use Rattle.asn1_model.specs.Per.{bit_less}
 
 -- So many digits of a number that has no more are a positional sum: they stand for it, and each is below the base.
 abbrev pub DigitsAreASum : Type 0
@@ -30,3 +34,11 @@ OctetsAndBits = ((os : List ℕ) → IsTrue (each_is is_octet os) → packed (oc
 -- An object identifier is told by its octets.
 abbrev pub IdentifiersAreTold : Type 0
 IdentifiersAreTold = (ns ms : List ℕ) → IsTrue (is_identifier ns) → IsTrue (is_identifier ms) → identifier_octets ns ≡ identifier_octets ms → ns ≡ ms
+
+-- What a UTF8String may hold is what the text of std is: the octets of some characters.
+abbrev pub Utf8IsText : Type 0
+Utf8IsText = (os : List ℕ) → (IsTrue (may_hold utf8 os) → IsUtf8 os) × (IsUtf8 os → IsTrue (may_hold utf8 os))
+
+-- Octets stand in the order of their bits.
+abbrev pub OctetsStandAsBits : Type 0
+OctetsStandAsBits = (os ps : List ℕ) → IsTrue (each_is is_octet os) → IsTrue (each_is is_octet ps) → stands_before bit_less (octet_bits os) (octet_bits ps) ≡ stands_before ltb os ps

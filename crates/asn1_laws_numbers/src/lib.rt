@@ -2,6 +2,8 @@
 #![tactic(auto)]
 
 ghost use Rattle.asn1_laws_numbers.specs.Laws.{DigitsAreASum, FewestDigits, ComplementIsASum, FewestOctets, BitsAreDigits, OctetsAndBits, IdentifiersAreTold};
+ghost use Rattle.asn1_laws_numbers.specs.Laws.{OctetsStandAsBits, Utf8IsText};
+ghost use Rattle.asn1_laws_numbers.specs.Padded.{OerNumbersAreSums, PerNumbersAreSums};
 
 /// So many digits of a number that has no more are a positional sum: they stand for it, and each is below the base.
 pub fn digits_are_a_sum()
@@ -36,4 +38,25 @@ pub fn octets_and_bits()
 /// An object identifier is told by its octets.
 pub fn identifiers_are_told()
     ensures { IdentifiersAreTold }
+{}
+
+/// What a UTF8String may hold is what the text of std is: the octets of some characters.
+pub fn utf8_is_text()
+    ensures { Utf8IsText }
+{}
+
+/// A reader who takes numbers in more octets than they need takes, in OER, any octets whose positional sum is the number, in two's
+/// complement where there is a sign, and no others (X.696 10).
+pub fn oer_numbers_are_sums()
+    ensures { OerNumbersAreSums }
+{}
+
+/// And in PER, aligned and not (X.691 11.7 and 11.8).
+pub fn per_numbers_are_sums()
+    ensures { PerNumbersAreSums }
+{}
+
+/// Octets stand in the order of their bits, so that the members of a bag in PER stand in the order of their octets.
+pub fn octets_stand_as_bits()
+    ensures { OctetsStandAsBits }
 {}

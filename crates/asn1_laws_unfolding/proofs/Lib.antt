@@ -1,1 +1,3 @@
 pub mod Unfolding
+pub mod Recursive
+pub mod Tidied

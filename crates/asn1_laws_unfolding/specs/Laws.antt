@@ -1,16 +1,30 @@
 -- Laws of unfolding.
-use Rattle.std.specs.Prelude.{◌≡◌, ℕ, ◌≤◌, true, List}
+use Rattle.std.specs.Prelude.{◌≡◌, ℕ, ◌≤◌, true, IsTrue, List}
 use Rattle.asn1_model.specs.Value.{Value, depth}
-use Rattle.asn1_model.specs.Schema.{by_default, Schema}
+use Rattle.asn1_model.specs.Schema.{Schema}
 use Rattle.asn1_model.specs.Normal.{normal, is_normal}
+use Rattle.asn1_model.specs.Lawful.{IsLawful}
 use Rattle.asn1_model.specs.Rules.{Rules, canonical, IsEncoding}
-use Rattle.asn1_laws_unfolding.specs.Unfolding.{HasOneDefault, AgreesTo}
+use Rattle.asn1_laws_unfolding.specs.Tidied.{tidied, is_tidy}
+use Rattle.asn1_laws_unfolding.specs.Unfolding.{AgreesTo, AreRecursive, unfolded}
 
--- A value that nests at most so many levels has one normal form, the same encodings and one canonical encoding in types that
+-- A value that nests at most so many levels has one normal form, the same encodings and one canonical encoding in lawful types that
 -- agree for so many levels.
 abbrev pub MeansTheSame : Type 0
-MeansTheSame = (r : Rules) (n : ℕ) (s s' : Schema) (v : Value) (w : List ℕ) → AgreesTo n s s' → depth v ≤ n → (normal s v ≡ normal s' v) × (canonical r s v ≡ canonical r s' v) × (IsEncoding r s v w → IsEncoding r s' v w) × (IsEncoding r s' v w → IsEncoding r s v w)
+MeansTheSame = (r : Rules) (n : ℕ) (s s' : Schema) (v : Value) (w : List ℕ) → IsLawful s → IsLawful s' → AgreesTo n s s' → depth v ≤ n → (normal s v ≡ normal s' v) × (canonical r s v ≡ canonical r s' v) × (IsEncoding r s v w → IsEncoding r s' v w) × (IsEncoding r s' v w → IsEncoding r s v w)
 
 -- A default that is normal in both has one normal form in both.
 abbrev pub NormalDefaultsAgree : Type 0
-NormalDefaultsAgree = (s s' : Schema) (d : Value) → is_normal s d ≡ true → is_normal s' d ≡ true → HasOneDefault s s' (by_default d)
+NormalDefaultsAgree = (s s' : Schema) (d : Value) → is_normal s d ≡ true → is_normal s' d ≡ true → normal s d ≡ normal s' d
+
+-- Two unfoldings of one of the types that stand in one another, each to so many levels or more, agree for so many levels.
+abbrev pub UnfoldingsAgree : Type 0 → Type 0
+UnfoldingsAgree K = (step : K → (K → Schema) → Schema) (k : K) (n i j : ℕ) → AreRecursive step → n ≤ i → n ≤ j → AgreesTo n (unfolded step i k) (unfolded step j k)
+
+-- A value that nests at most so many levels means the same in every lawful unfolding of such a type to so many levels or more.
+abbrev pub UnfoldingsMeanTheSame : Type 0 → Type 0
+UnfoldingsMeanTheSame K = (r : Rules) (step : K → (K → Schema) → Schema) (k : K) (n i j : ℕ) (v : Value) (w : List ℕ) → AreRecursive step → IsLawful (unfolded step i k) → IsLawful (unfolded step j k) → n ≤ i → n ≤ j → depth v ≤ n → (normal (unfolded step i k) v ≡ normal (unfolded step j k) v) × (canonical r (unfolded step i k) v ≡ canonical r (unfolded step j k) v) × (IsEncoding r (unfolded step i k) v w → IsEncoding r (unfolded step j k) v w) × (IsEncoding r (unfolded step j k) v w → IsEncoding r (unfolded step i k) v w)
+
+-- Nothing is lost by defaults in normal form: any type is, in all rules, the same as one whose defaults are.
+abbrev pub NormalDefaultsLoseNothing : Type 0
+NormalDefaultsLoseNothing = (r : Rules) (s : Schema) (v : Value) (w : List ℕ) → IsTrue (is_tidy (tidied s)) × (normal s v ≡ normal (tidied s) v) × (canonical r s v ≡ canonical r (tidied s) v) × (IsEncoding r s v w → IsEncoding r (tidied s) v w) × (IsEncoding r (tidied s) v w → IsEncoding r s v w)

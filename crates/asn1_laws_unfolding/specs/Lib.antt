@@ -1,2 +1,3 @@
 pub mod Unfolding
+pub mod Tidied
 pub mod Laws

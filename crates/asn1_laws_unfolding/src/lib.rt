@@ -1,10 +1,11 @@
 //! A recursive type means the same however far it is unfolded.
 #![tactic(auto)]
 
-ghost use Rattle.asn1_laws_unfolding.specs.Laws.{MeansTheSame, NormalDefaultsAgree};
+ghost use Rattle.asn1_laws_unfolding.specs.Laws.{MeansTheSame, NormalDefaultsAgree, NormalDefaultsLoseNothing, UnfoldingsAgree, UnfoldingsMeanTheSame};
+ghost use Rattle.asn1_laws_unfolding.specs.Unfolding.{LevelRows, RecursiveRows};
 
-/// A value that nests at most so many levels has one normal form, the same encodings and one canonical encoding in types that agree
-/// for so many levels.
+/// A value that nests at most so many levels has one normal form, the same encodings and one canonical encoding in lawful types that
+/// agree for so many levels, as two unfoldings of one recursive type do (X.680 25 and 29).
 pub fn means_the_same()
     ensures { MeansTheSame }
 {}
@@ -12,4 +13,31 @@ pub fn means_the_same()
 /// A default that is normal in both has one normal form in both.
 pub fn normal_defaults_agree()
     ensures { NormalDefaultsAgree }
+{}
+
+/// Two unfoldings of one of the types that stand in one another under names, which are the values of any type, each to so many levels
+/// or more, agree for so many levels.
+pub fn unfoldings_agree<Name>()
+    ensures { UnfoldingsAgree Name }
+{}
+
+/// A value that nests at most so many levels means the same in every lawful unfolding of such a type to so many levels or more.
+pub fn unfoldings_mean_the_same<Name>()
+    ensures { UnfoldingsMeanTheSame Name }
+{}
+
+/// Recursive types: a choice, a sequence with itself as a default component and as the member of a list, a sequence and its list under
+/// names of their own, and two types that hold one another, with one that holds them.
+pub fn recursive_rows()
+    ensures { RecursiveRows }
+{}
+
+/// Unfolded level by level, each list, sequence and choice takes a level.
+pub fn level_rows()
+    ensures { LevelRows }
+{}
+
+/// Any type is, in all rules, the same as one whose defaults are in normal form, so that lawful types lose nothing by it.
+pub fn normal_defaults_lose_nothing()
+    ensures { NormalDefaultsLoseNothing }
 {}

@@ -70,7 +70,7 @@ module _ (free : Per.Freedom → Bool) (wide : IsTrue (free Per.other_bitmap)) (
       let part : ℕ → List Per.BitForm → Per.BitForm = λ n us. both (Per.constrained al (high - c.low) (n - c.low)) (Per.at_octet (al && pads c) (joined us)) in
       covers_cond free (ltb high 65536) {x = part (length xs) xs} {x' = part (length ys) ys} {y = Per.counted al xs} {y' = Per.counted al ys} (sim_both (sim_same (ap (λ n. Per.constrained al (high - c.low) (n - c.low)) (each_length free xs ys h))) (sim_at_octet (al && pads c) (covers_joined free xs ys h))) (sim_counted al xs ys h)
 
-  sim_sized : (al : Bool) (z : Size) (held : Counts) (pads : Counts → Bool) (xs ys : List Per.BitForm) → SimEach xs ys → Sim (Per.sized al z held pads xs) (Per.sized al z held pads ys)
+  pub sim_sized : (al : Bool) (z : Size) (held : Counts) (pads : Counts → Bool) (xs ys : List Per.BitForm) → SimEach xs ys → Sim (Per.sized al z held pads xs) (Per.sized al z held pads ys)
   unfolding Per.sized
   sim_sized al z held pads xs ys h =
       let part : ℕ → List Per.BitForm → Per.BitForm = λ n us. Per.marked z.extensible (is_count_within z.counts n) (Per.sized_root al z.counts z.counts.high pads us) (Per.counted al us) in
@@ -367,7 +367,7 @@ module _ (free : Per.Freedom → Bool) (wide : IsTrue (free Per.other_bitmap)) (
   place_next true o p j h e = e
   place_next false o p j h e = let q = map_parts o suc j e in ap (option_map suc) (h q.0 q.1) ∙ ap Some q.2
 
-  place_kept : (n : ℤ) (ds es : List ℤ) (j : ℕ) → item_place n ds ≡ Some j → item_place n (ds ++ es) ≡ Some j
+  pub place_kept : (n : ℤ) (ds es : List ℤ) (j : ℕ) → item_place n ds ≡ Some j → item_place n (ds ++ es) ≡ Some j
   place_kept n [] es j e = cc
   place_kept n (d ∷ ds) es j e = place_next (same_number n d) (item_place n ds) (item_place n (ds ++ es)) j (λ i h. place_kept n ds es i h) e
 

@@ -16,7 +16,7 @@ use Rattle.asn1_laws_versions.proofs.Messages.{older_reads_uper, older_reads_ape
 use Rattle.asn1_laws_versions_octets.proofs.OerVersions.{older_reads_oer, newer_reads_oer}
 
 -- ---- the lenient rules of a set, which write the same
-abbrev lenient_of : Rules → Rules
+abbrev pub lenient_of : Rules → Rules
 lenient_of uper = uper
 lenient_of aper = aper
 lenient_of uper_strict = uper
@@ -24,7 +24,7 @@ lenient_of aper_strict = aper
 lenient_of oer = oer
 lenient_of coer = oer
 
-writes_alike : (r : Rules) (s : Schema) (v : Value) → canonical r s v ≡ canonical (lenient_of r) s v
+pub writes_alike : (r : Rules) (s : Schema) (v : Value) → canonical r s v ≡ canonical (lenient_of r) s v
 unfolding canonical encoding
 writes_alike uper s v = refl
 writes_alike aper s v = refl
@@ -33,7 +33,7 @@ writes_alike aper_strict s v = refl
 writes_alike oer s v = refl
 writes_alike coer s v = refl
 
-reads_alike : (r : Rules) (s : Schema) (v : Value) (w : List ℕ) → IsEncoding r s v w → IsEncoding (lenient_of r) s v w
+pub reads_alike : (r : Rules) (s : Schema) (v : Value) (w : List ℕ) → IsEncoding r s v w → IsEncoding (lenient_of r) s v w
 unfolding IsEncoding
 reads_alike uper s v w h = h
 reads_alike aper s v w h = h
@@ -82,15 +82,15 @@ clash_refused r strict old new v x w l h c e f =
     apart : true ≡ false → ⊥
     apart q = cc
 
-strict_uper : (s : Schema) (v : Value) (w : List ℕ) → IsEncoding uper_strict s v w → is_normal s v ≡ true
+pub strict_uper : (s : Schema) (v : Value) (w : List ℕ) → IsEncoding uper_strict s v w → is_normal s v ≡ true
 unfolding IsEncoding
 strict_uper s v w h = message_normal false s v _ h.1
 
-strict_aper : (s : Schema) (v : Value) (w : List ℕ) → IsEncoding aper_strict s v w → is_normal s v ≡ true
+pub strict_aper : (s : Schema) (v : Value) (w : List ℕ) → IsEncoding aper_strict s v w → is_normal s v ≡ true
 unfolding IsEncoding
 strict_aper s v w h = message_normal true s v _ h.1
 
-strict_octets : (s : Schema) (v : Value) (w : List ℕ) → IsEncoding coer s v w → is_normal s v ≡ true
+pub strict_octets : (s : Schema) (v : Value) (w : List ℕ) → IsEncoding coer s v w → is_normal s v ≡ true
 unfolding IsEncoding
 strict_octets s v w h = octets_normal s v w h.1
 

@@ -38,7 +38,7 @@ module _ (free : Oer.Freedom → Bool) (wide : IsTrue (free Oer.other_bitmap)) (
   sim_both h k = covers_both free h k
 
   -- ---- members
-  sim_members : (held : Counts) (xs ys : List Oer.OctetForm) → SimEach xs ys → Sim (Oer.members_form held xs) (Oer.members_form held ys)
+  pub sim_members : (held : Counts) (xs ys : List Oer.OctetForm) → SimEach xs ys → Sim (Oer.members_form held xs) (Oer.members_form held ys)
   unfolding Oer.members_form
   sim_members held xs ys h =
       let part : ℕ → List Oer.OctetForm → Oer.OctetForm = λ n us. both (Oer.unsigned n) (joined us) in

@@ -1,0 +1,2 @@
+pub mod OerOctets
+pub mod Written

@@ -1,0 +1,6 @@
+pub mod Extending
+pub mod Grown
+pub mod Normals
+pub mod Lifted
+pub mod Levels
+pub mod Back

@@ -1,0 +1,6 @@
+pub mod Taken
+pub mod Parts
+pub mod Members
+pub mod Packed
+pub mod Octets
+pub mod Exactly

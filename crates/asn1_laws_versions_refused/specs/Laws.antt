@@ -1,0 +1,49 @@
+-- Laws of what one version of a type reads of what the other writes, and of what it refuses.
+use Rattle.std.specs.Prelude.{◌≡◌, ℕ, Bool, true, false, List, ◌++◌, Some, None}
+use Rattle.asn1_model.specs.Value.{Value, same}
+use Rattle.asn1_model.specs.Schema.{Schema}
+use Rattle.asn1_model.specs.Lawful.{IsLawful}
+use Rattle.asn1_model.specs.Normal.{normal, is_normal}
+use Rattle.asn1_model.specs.Rules.{Rules, uper, aper, uper_strict, aper_strict, oer, coer, canonical, IsEncoding}
+use Rattle.asn1_model.specs.Versions.{Extends, drop, grow}
+
+-- Whether the reader of these rules takes normal values alone.
+abbrev pub is_strict : Rules → Bool
+is_strict uper = false
+is_strict aper = false
+is_strict oer = false
+is_strict uper_strict = true
+is_strict aper_strict = true
+is_strict coer = true
+
+-- In the strict rules the value is normal.
+abbrev pub MayBeRead : Rules → Schema → Value → Type 0
+MayBeRead r s v = is_strict r ≡ true → is_normal s v ≡ true
+
+-- Where the older version lacks an alternative or an item that stands outside what is left out, it reads nothing of what the newer one writes:
+-- no beginning of it is an encoding, whatever stands behind.
+abbrev pub OlderRefusesTheUnknown : Type 0
+OlderRefusesTheUnknown = (r : Rules) (old new : Schema) (v x : Value) (w a y z : List ℕ) → IsLawful old → IsLawful new → Extends old new → drop old new v ≡ None → canonical r new v ≡ Some w → IsEncoding r old x a → a ++ y ≡ w ++ z → ⊥
+
+-- Where a part is required that only the newer version knows, it reads nothing of what the older one writes: no beginning of it is an encoding,
+-- whatever stands behind.
+abbrev pub NewerRefusesTheMissing : Type 0
+NewerRefusesTheMissing = (r : Rules) (old new : Schema) (u x : Value) (w a y z : List ℕ) → IsLawful old → IsLawful new → Extends old new → grow old new (normal old u) ≡ None → canonical r old u ≡ Some w → IsEncoding r new x a → a ++ y ≡ w ++ z → ⊥
+
+-- A value is what the older version can see of one of the newer, up to the order of bags, and in the strict rules it is normal.
+abbrev pub IsLeft : Rules → Schema → Schema → Value → Value → Type 0
+IsLeft r old new v x = (u : Value) × (drop old new v ≡ Some u) × (same x u ≡ true) × MayBeRead r old x
+
+-- A value is one of the older version as one of the newer, up to the order of bags.
+abbrev pub IsGrown : Schema → Schema → Value → Value → Type 0
+IsGrown old new u x = (v : Value) × (grow old new (normal old u) ≡ Some v) × (same x v ≡ true)
+
+-- What the newer version writes, the older one reads as a value exactly if this is the one without what the older version lacks, and in the
+-- strict rules normal: it reads all of it, and no other beginning, whatever stands behind.
+abbrev pub OlderReadsExactly : Type 0
+OlderReadsExactly = (r : Rules) (old new : Schema) (v x : Value) (w : List ℕ) → IsLawful old → IsLawful new → Extends old new → canonical r new v ≡ Some w → (IsLeft r old new v x → IsEncoding r old x w) × ((a y z : List ℕ) → IsEncoding r old x a → a ++ y ≡ w ++ z → (a ≡ w) × IsLeft r old new v x)
+
+-- What the older version writes, the newer one reads as a value exactly if this is the same one, with what only the newer version has absent:
+-- it reads all of it, and no other beginning, whatever stands behind.
+abbrev pub NewerReadsExactly : Type 0
+NewerReadsExactly = (r : Rules) (old new : Schema) (u x : Value) (w : List ℕ) → IsLawful old → IsLawful new → Extends old new → canonical r old u ≡ Some w → (IsGrown old new u x → IsEncoding r new x w) × ((a y z : List ℕ) → IsEncoding r new x a → a ++ y ≡ w ++ z → (a ≡ w) × IsGrown old new u x)
