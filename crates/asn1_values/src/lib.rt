@@ -6,11 +6,11 @@
 pub use asn1_values_alphabets::{
     CharacterAlphabet, InvalidBmpString, InvalidGeneralString, InvalidGraphicString,
     InvalidIA5String, InvalidNumericString, InvalidPrintableString, InvalidRestrictedString,
-    InvalidTeletexString, InvalidVisibleString, PermittedAlphabetError,
+    InvalidTeletexString, InvalidVisibleString, PermittedAlphabetError, StaticPermittedAlphabet,
 };
-pub use asn1_values_bits::{
-    BitAppender, BitBuffer, BitReader, BitStr, BitString, FixedBitString, bits,
-};
+pub use asn1_values_bit_strings::{BitString, FixedBitString};
+pub use asn1_values_bits::{BitAppender, BitBuffer, BitReader, BitStr, bits};
+pub use asn1_values_constrained::ConstrainedInteger;
 pub use asn1_values_fields::{
     FieldBits, FieldFault, FieldFaultKind, FieldShape, FieldValue, read_fields, write_fields,
 };
@@ -18,11 +18,11 @@ pub use asn1_values_identifiers::{
     IdentifierError, ObjectIdentifier, Oid, oid_from_octets, oid_octets,
 };
 pub use asn1_values_natives::IntegerBytes;
-pub use asn1_values_numbers::{
-    ConstrainedInteger, Integer, IntegerError, IntegerType, TryFromIntegerError,
-};
+pub use asn1_values_numbers::{Integer, IntegerError, IntegerType, TryFromIntegerError};
 pub use asn1_values_octets::{FixedOctetString, OctetString, WrongLength};
 pub use asn1_values_strings::{
-    BmpString, GeneralString, GraphicString, Ia5String, NumericString, PrintableString,
-    StaticPermittedAlphabet, TeletexString, VisibleString,
+    CharacterKind, Characters, General, GeneralString, Graphic, GraphicString, Ia5, Ia5String,
+    Numeric, NumericString, Printable, PrintableString, RestrictedString, Teletex, TeletexString,
+    TextKind, Visible, VisibleString,
 };
+pub use asn1_values_strings_wide::{BmpCharacters, BmpString};

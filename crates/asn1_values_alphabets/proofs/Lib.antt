@@ -1,3 +1,4 @@
 pub mod Widths
 pub mod SingleRuns
 pub mod Coded
+pub mod Permitted

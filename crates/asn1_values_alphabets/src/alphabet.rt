@@ -86,6 +86,7 @@ impl CharacterAlphabet {
     /// The permitted character that has this code.
     pub fn decode(&self, code: u32) -> Result<u32, PermittedAlphabetError>
         ensures character { IfOk result (λ character. code_of self.now character ≡ Some code) }
+        ensures alone { IfOk result (λ character. (other : ℕ) → code_of self.now other ≡ Some code → other ≡ character) }
         ensures error { IfErr result (λ e. e ≡ IndexNotFound code) }
         ensures missing { OnErr result ((character : ℕ) → code_of self.now character ≢ Some code) }
     {

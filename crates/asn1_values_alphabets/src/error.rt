@@ -5,6 +5,7 @@ use thiserror::Error;
 #[derive(Clone, Copy, Debug, PartialEq, Eq, Hash, Error)]
 #[error("character {character} is not permitted in a BMPString")]
 pub struct InvalidBmpString {
+    /// The first character that is not permitted, by its number.
     pub character: u32,
 }
 
@@ -12,6 +13,7 @@ pub struct InvalidBmpString {
 #[derive(Clone, Copy, Debug, PartialEq, Eq, Hash, Error)]
 #[error("character {character} is not permitted in a GeneralString")]
 pub struct InvalidGeneralString {
+    /// The first character that is not permitted, by its number.
     pub character: u32,
 }
 
@@ -19,6 +21,7 @@ pub struct InvalidGeneralString {
 #[derive(Clone, Copy, Debug, PartialEq, Eq, Hash, Error)]
 #[error("character {character} is not permitted in a GraphicString")]
 pub struct InvalidGraphicString {
+    /// The first character that is not permitted, by its number.
     pub character: u32,
 }
 
@@ -26,6 +29,7 @@ pub struct InvalidGraphicString {
 #[derive(Clone, Copy, Debug, PartialEq, Eq, Hash, Error)]
 #[error("character {character} is not permitted in an IA5String")]
 pub struct InvalidIA5String {
+    /// The first character that is not permitted, by its number.
     pub character: u32,
 }
 
@@ -33,6 +37,7 @@ pub struct InvalidIA5String {
 #[derive(Clone, Copy, Debug, PartialEq, Eq, Hash, Error)]
 #[error("character {character} is not permitted in a TeletexString")]
 pub struct InvalidTeletexString {
+    /// The first character that is not permitted, by its number.
     pub character: u32,
 }
 
@@ -40,6 +45,7 @@ pub struct InvalidTeletexString {
 #[derive(Clone, Copy, Debug, PartialEq, Eq, Hash, Error)]
 #[error("character {character} is not permitted in a VisibleString")]
 pub struct InvalidVisibleString {
+    /// The first character that is not permitted, by its number.
     pub character: u32,
 }
 
@@ -47,6 +53,7 @@ pub struct InvalidVisibleString {
 #[derive(Clone, Copy, Debug, PartialEq, Eq, Hash, Error)]
 #[error("character {character} is not permitted in a NumericString")]
 pub struct InvalidNumericString {
+    /// The first character that is not permitted, by its number.
     pub character: u32,
 }
 
@@ -54,26 +61,35 @@ pub struct InvalidNumericString {
 #[derive(Clone, Copy, Debug, PartialEq, Eq, Hash, Error)]
 #[error("character {character} is not permitted in a PrintableString")]
 pub struct InvalidPrintableString {
+    /// The first character that is not permitted, by its number.
     pub character: u32,
 }
 
 /// A character outside the alphabet of a string's type (X.680 41).
 #[derive(Clone, Copy, Debug, PartialEq, Eq, Hash, Error)]
 pub enum InvalidRestrictedString {
+    /// In a BMPString.
     #[error(transparent)]
     InvalidBmpString(#[from] InvalidBmpString),
+    /// In a GeneralString.
     #[error(transparent)]
     InvalidGeneralString(#[from] InvalidGeneralString),
+    /// In a GraphicString.
     #[error(transparent)]
     InvalidGraphicString(#[from] InvalidGraphicString),
+    /// In an IA5String.
     #[error(transparent)]
     InvalidIA5String(#[from] InvalidIA5String),
+    /// In a NumericString.
     #[error(transparent)]
     InvalidNumericString(#[from] InvalidNumericString),
+    /// In a PrintableString.
     #[error(transparent)]
     InvalidPrintableString(#[from] InvalidPrintableString),
+    /// In a TeletexString.
     #[error(transparent)]
     InvalidTeletexString(#[from] InvalidTeletexString),
+    /// In a VisibleString.
     #[error(transparent)]
     InvalidVisibleString(#[from] InvalidVisibleString),
 }
@@ -89,10 +105,16 @@ pub enum PermittedAlphabetError {
     InvalidData,
     /// A code that no permitted character has.
     #[error("no permitted character has the code {index}")]
-    IndexNotFound { index: u32 },
+    IndexNotFound {
+        /// The code.
+        index: u32,
+    },
     /// A character that is not permitted.
     #[error("character {character} is not permitted")]
-    CharacterNotFound { character: u32 },
+    CharacterNotFound {
+        /// The character's number.
+        character: u32,
+    },
     /// A character outside the alphabet of the string's type.
     #[error(transparent)]
     InvalidRestrictedString(#[from] InvalidRestrictedString),

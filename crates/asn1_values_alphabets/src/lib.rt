@@ -1,8 +1,10 @@
-//! Permitted alphabets of character strings, and the errors of strings outside their alphabets.
+//! Permitted alphabets of character strings, what a type of strings with an alphabet of its own is, and the
+//! errors of strings outside their alphabets.
 #![tactic(auto)]
 
 mod alphabet;
 mod error;
+mod static_alphabet;
 
 pub use alphabet::CharacterAlphabet;
 pub use error::{
@@ -10,6 +12,7 @@ pub use error::{
     InvalidNumericString, InvalidPrintableString, InvalidRestrictedString, InvalidTeletexString,
     InvalidVisibleString, PermittedAlphabetError,
 };
+pub use static_alphabet::{StaticPermittedAlphabet, string_of_text};
 
 #[cfg(test)]
 mod tests;

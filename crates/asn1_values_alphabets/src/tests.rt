@@ -1,8 +1,9 @@
 use crate::{
-    CharacterAlphabet, InvalidBmpString, InvalidNumericString, InvalidPrintableString,
-    InvalidRestrictedString, PermittedAlphabetError,
+    CharacterAlphabet, InvalidBmpString, InvalidGeneralString, InvalidGraphicString,
+    InvalidIA5String, InvalidNumericString, InvalidPrintableString, InvalidRestrictedString,
+    InvalidTeletexString, InvalidVisibleString, PermittedAlphabetError,
 };
-use std::test::Fail;
+use std::alloc::{AllocError, Global};
 
 const NUMERIC: [u32; 11] = [32, 48, 49, 50, 51, 52, 53, 54, 55, 56, 57];
 
@@ -86,17 +87,139 @@ fn lists_that_do_not_ascend(rt: HostRuntime) {
 }
 
 #[test]
-fn errors_are_told(rt: HostRuntime) -> Result<(), Fail> {
-    let numeric = PermittedAlphabetError::from(InvalidRestrictedString::from(InvalidNumericString {
-        character: 65,
-    }));
-    match format!(in rt.alloc(); "{numeric}") {
-        Ok(text) => assert_eq!(rt;
-            text.as_str(),
-            "character 65 is not permitted in a NumericString"
-        ),
-        Err(_) => {}
+fn codes_of_one_character(rt: HostRuntime) {
+    // 97 does not fit a code of no bits, and 0 does: both have the code 0.
+    for character in [97, 0] {
+        match CharacterAlphabet::new(rt.alloc(), &[character], true) {
+            Ok(alphabet) => {
+                assert_eq!(rt; alphabet.width(), 0);
+                assert!(rt; has_codes(&alphabet, &[(character, 0)]));
+            }
+            Err(error) => assert!(rt; matches!(error, PermittedAlphabetError::Memory(_))),
+        }
     }
+}
+
+#[test]
+fn codes_of_large_characters(rt: HostRuntime) {
+    match CharacterAlphabet::new(rt.alloc(), &[7, u32::MAX], false) {
+        Ok(alphabet) => {
+            assert_eq!(rt; alphabet.width(), 1);
+            assert!(rt; has_codes(&alphabet, &[(7, 0), (u32::MAX, 1)]));
+        }
+        Err(error) => assert!(rt; matches!(error, PermittedAlphabetError::Memory(_))),
+    }
+}
+
+/// The characters from one to another.
+fn from_to(alloc: Global, first: u32, last: u32) -> Result<Vec<u32>, AllocError> {
+    let mut characters = Vec::new(alloc);
+    for character in first..=last {
+        characters.push(character)?;
+    }
+    Ok(characters)
+}
+
+#[test]
+fn widths_of_whole_alphabets(rt: HostRuntime) {
+    // VisibleString, IA5String and BMPString: codes are the characters' own numbers.
+    for (first, last, width) in [(32, 126, 7), (0, 127, 7), (0, 65535, 16)] {
+        if let Ok(characters) = from_to(rt.alloc(), first, last) {
+            match CharacterAlphabet::new(rt.alloc(), &characters, false) {
+                Ok(alphabet) => {
+                    assert_eq!(rt; alphabet.width(), width);
+                    assert!(rt; has_codes(&alphabet, &[(first, first), (last, last)]));
+                }
+                Err(error) => assert!(rt; matches!(error, PermittedAlphabetError::Memory(_))),
+            }
+        }
+    }
+}
+
+/// What an error tells of itself, unless memory is wanting.
+fn told(alloc: Global, error: PermittedAlphabetError) -> Option<String> {
+    format!(in alloc; "{error}").ok()
+}
+
+/// Whether an error about a character tells this text, unless memory is wanting.
+fn tells(alloc: Global, error: InvalidRestrictedString, wanted: &str) -> bool {
+    match told(alloc, PermittedAlphabetError::from(error)) {
+        Some(text) => text.as_str() == wanted,
+        None => true,
+    }
+}
+
+#[test]
+fn refusals_are_told(rt: HostRuntime) {
+    let character = 65;
+    let rows: [(InvalidRestrictedString, &str); 8] = [
+        (
+            InvalidBmpString { character }.into(),
+            "character 65 is not permitted in a BMPString",
+        ),
+        (
+            InvalidGeneralString { character }.into(),
+            "character 65 is not permitted in a GeneralString",
+        ),
+        (
+            InvalidGraphicString { character }.into(),
+            "character 65 is not permitted in a GraphicString",
+        ),
+        (
+            InvalidIA5String { character }.into(),
+            "character 65 is not permitted in an IA5String",
+        ),
+        (
+            InvalidNumericString { character }.into(),
+            "character 65 is not permitted in a NumericString",
+        ),
+        (
+            InvalidPrintableString { character }.into(),
+            "character 65 is not permitted in a PrintableString",
+        ),
+        (
+            InvalidTeletexString { character }.into(),
+            "character 65 is not permitted in a TeletexString",
+        ),
+        (
+            InvalidVisibleString { character }.into(),
+            "character 65 is not permitted in a VisibleString",
+        ),
+    ];
+    for (error, wanted) in rows {
+        assert!(rt; tells(rt.alloc(), error, wanted));
+    }
+}
+
+#[test]
+fn errors_are_told(rt: HostRuntime) {
+    let rows = [
+        (
+            PermittedAlphabetError::Other,
+            "the characters are not permitted",
+        ),
+        (
+            PermittedAlphabetError::InvalidData,
+            "the characters are not well formed",
+        ),
+        (
+            PermittedAlphabetError::IndexNotFound { index: 11 },
+            "no permitted character has the code 11",
+        ),
+        (
+            PermittedAlphabetError::CharacterNotFound { character: 65 },
+            "character 65 is not permitted",
+        ),
+    ];
+    for (error, wanted) in rows {
+        if let Some(text) = told(rt.alloc(), error) {
+            assert_eq!(rt; text.as_str(), wanted);
+        }
+    }
+}
+
+#[test]
+fn errors_are_compared(rt: HostRuntime) {
     assert_eq!(rt;
         InvalidBmpString { character: 65536 },
         InvalidBmpString { character: 65536 }
@@ -105,5 +228,4 @@ fn errors_are_told(rt: HostRuntime) -> Result<(), Fail> {
         InvalidPrintableString { character: 42 },
         InvalidPrintableString { character: 43 }
     );
-    Ok(())
 }

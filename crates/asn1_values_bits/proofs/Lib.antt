@@ -7,3 +7,6 @@ pub mod Change
 pub mod Comparing
 pub mod Oring
 pub mod Putting
+pub mod Leading
+pub mod Whole
+pub mod Window

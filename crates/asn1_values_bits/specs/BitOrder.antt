@@ -1,5 +1,5 @@
 -- The laws of the order of lists of bits.
-use Rattle.std.specs.Prelude.{◌≡◌, Bool, true, false, List, ◌++◌, length, Some, IsTrue, refl}
+use Rattle.std.specs.Prelude.{◌≡◌, Bool, true, false, List, ◌++◌, length, flat_map, Some, IsTrue, refl}
 use mathlib.Core.Bool.{beq}
 use Rattle.std.specs.Bool.{Decides}
 use Rattle.std.specs.Ordering.{bool_cmp, eq_by_cmp}
@@ -32,7 +32,7 @@ bits_decides = pointwise_decides booleans_Decides
 
 -- what a hasher is fed: the number of bits, and their octets
 abbrev pub bits_fed : List Bool → fed.HashWrites
-bits_fed s = fed.usize (length s) ++ fed.slice fed.u8 (packed (filled_up s))
+bits_fed s = fed.usize (length s) ++ flat_map fed.u8 (packed (filled_up s))
 
 pub bits_fed_alike : (xs ys : List Bool) → IsTrue (pointwise beq xs ys) → bits_fed xs ≡ bits_fed ys
 bits_fed_alike = (fed.same_Alike bits_fed bits_decides).fed

@@ -1,5 +1,5 @@
 // Bits that grow at their end, in whole octets of which the last is filled with zero bits.
-ghost use Rattle.std.specs.Prelude.{◌≡◌, ℕ, ◌+◌, ◌-◌, ◌*◌, ◌/◌, ◌%◌, ◌^◌, ◌<◌, ◌≤◌, Bool, List, [], ◌∷◌, ◌++◌, length, set, take, drop, replicate, false, IsTrue, ◌↔◌, OnOk, OnErr, vec_len, slice_set};
+ghost use Rattle.std.specs.Prelude.{◌≡◌, ℕ, ◌+◌, ◌-◌, ◌*◌, ◌/◌, ◌%◌, ◌^◌, ◌<◌, ◌≤◌, Bool, List, [], ◌∷◌, ◌++◌, length, set, take, drop, replicate, false, IsTrue, ◌↔◌, IfOk, OnOk, OnErr, vec_len, slice_set};
 ghost use Rattle.asn1_model.specs.Numbers.{binary, missing, octet_bits, packed};
 ghost use Rattle.asn1_values_bits.specs.Octets.{filled_up};
 
@@ -120,8 +120,8 @@ impl BitBuffer {
         Ok(())
     }
 
-    // Keeps the first bits alone.
-    pub(crate) fn truncate(&mut self, len: usize)
+    /// Keeps the first `len` bits alone, or all where there are fewer. No memory is taken.
+    pub fn truncate(&mut self, len: usize)
         ensures { self.new ≡ take len self.old }
     {
         if len >= self.len {
@@ -155,19 +155,51 @@ impl BitBuffer {
         ensures err { OnErr result (self.new ≡ self.old) }
     {
         let before = self.len();
-        let mut left = width;
-        while left > 0 {
-            let few = left.min(8);
-            left -= few;
-            let bits = ((value >> left) & ((1 << few) - 1)) as u16;
-            match self.push_few(bits, few) {
-                Ok(()) => {}
-                Err(error) => {
-                    self.truncate(before);
-                    return Err(error);
-                }
+        let left = self.fill_octet(value, width)?;
+        if left == 0 {
+            return Ok(());
+        }
+        match self.push_whole(value, left) {
+            Ok(()) => Ok(()),
+            Err(error) => {
+                self.truncate(before);
+                Err(error)
             }
         }
+    }
+
+    // Fills the last octet with the first of the low `width` bits of a number, and answers how many are left.
+    fn fill_octet(&mut self, value: u128, width: u32) -> Result<u32, AllocError>
+        requires { width ≤ 128 }
+        ensures fewer { IfOk result (λ left. left ≤ width) }
+        ensures bits { IfOk result (λ left. self.new ++ binary left value ≡ self.old ++ binary width value) }
+        ensures whole { IfOk result (λ left. 0 < left → length self.new % 8 ≡ 0) }
+        ensures err { OnErr result (self.new ≡ self.old) }
+    {
+        let few = width.min(free_bits(self.len()));
+        if few == 0 {
+            return Ok(width);
+        }
+        let bits = ((value >> (width - few)) & ((1 << few) - 1)) as u16;
+        self.push_few(bits, few)?;
+        Ok(width - few)
+    }
+
+    // Adds the low `width` bits of a number behind whole octets.
+    fn push_whole(&mut self, value: u128, width: u32) -> Result<(), AllocError>
+        requires narrow { width ≤ 128 }
+        requires some { 0 < width }
+        requires whole { length self.old % 8 ≡ 0 }
+        ensures ok { OnOk result (self.new ≡ self.old ++ binary width value) }
+        ensures err { OnErr result (self.new ≡ self.old) }
+    {
+        let Some(len) = self.len.checked_add(width as usize) else {
+            return Err(AllocError);
+        };
+        let octets = (value << (128 - width)).to_be_bytes();
+        let count = (width as usize + 7) / 8;
+        self.octets.extend_from_slice(&octets[..count])?;
+        self.len = len;
         Ok(())
     }
 
@@ -176,13 +208,13 @@ impl BitBuffer {
         ensures ok { OnOk result (self.new ≡ self.old ++ octet_bits bytes.now) }
         ensures err { OnErr result (self.new ≡ self.old) }
     {
-        if self.len % 8 > 0 {
-            self.extend_shifted(bytes)?;
-            return Ok(());
-        }
         let Some(bits) = bytes.len().checked_mul(8) else {
             return Err(AllocError);
         };
+        if self.len % 8 > 0 {
+            self.extend_shifted(BitStr::front_of(bytes, bits))?;
+            return Ok(());
+        }
         let Some(len) = self.len.checked_add(bits) else {
             return Err(AllocError);
         };
@@ -191,22 +223,66 @@ impl BitBuffer {
         Ok(())
     }
 
-    // Adds the bits of all the octets behind an octet that is not full.
-    fn extend_shifted(&mut self, bytes: &[u8]) -> Result<(), AllocError>
-        ensures ok { OnOk result (self.new ≡ self.old ++ octet_bits bytes.now) }
+    // Adds the bits of a view: first those that fill the last octet.
+    fn extend_shifted(&mut self, bits: BitStr<'_>) -> Result<(), AllocError>
+        ensures ok { OnOk result (self.new ≡ self.old ++ bits_of bits.entry) }
         ensures err { OnErr result (self.new ≡ self.old) }
     {
         let before = self.len();
-        self.reserve_bytes(bytes.len())?;
-        for octet in bytes {
-            match self.push_few(*octet as u16, 8) {
+        self.reserve_bytes(bits.len() / 8)?;
+        let few = bits.len().min(free_bits(before) as usize);
+        self.push_bits(bits.first_number(few as u32), few as u32)?;
+        match self.extend_whole(bits.split_at(few).1) {
+            Ok(()) => Ok(()),
+            Err(error) => {
+                self.truncate(before);
+                Err(error)
+            }
+        }
+    }
+
+    // Adds the bits of a view behind whole octets, 64 at a time.
+    fn extend_whole(&mut self, bits: BitStr<'_>) -> Result<(), AllocError>
+        requires { 0 < length (bits_of bits) → length self.old % 8 ≡ 0 }
+        ensures ok { OnOk result (self.new ≡ self.old ++ bits_of bits.entry) }
+        ensures err { OnErr result (self.new ≡ self.old) }
+    {
+        let before = self.len();
+        let mut rest = bits;
+        while rest.len() >= 64 {
+            match self.push_eight(rest.first_number(64) as u64) {
                 Ok(()) => {}
                 Err(error) => {
                     self.truncate(before);
                     return Err(error);
                 }
             }
+            rest = rest.split_at(64).1;
         }
+        let left = rest.len() as u32;
+        if left == 0 {
+            return Ok(());
+        }
+        match self.push_whole(rest.first_number(left), left) {
+            Ok(()) => Ok(()),
+            Err(error) => {
+                self.truncate(before);
+                Err(error)
+            }
+        }
+    }
+
+    // Adds 64 bits behind whole octets.
+    fn push_eight(&mut self, value: u64) -> Result<(), AllocError>
+        requires { length self.old % 8 ≡ 0 }
+        ensures ok { OnOk result (self.new ≡ self.old ++ binary 64 value) }
+        ensures err { OnErr result (self.new ≡ self.old) }
+    {
+        let Some(len) = self.len.checked_add(64) else {
+            return Err(AllocError);
+        };
+        self.octets.extend_from_slice(&value.to_be_bytes())?;
+        self.len = len;
         Ok(())
     }
 
@@ -215,7 +291,7 @@ impl BitBuffer {
         ensures bits { bits_of result ≡ self.now }
         ensures offset { offset_of result ≡ 0 }
     {
-        BitStr::of_buffer(self.octets.as_slice(), self.len)
+        BitStr::front_of(self.octets.as_slice(), self.len)
     }
 
     /// Adds the bits of a view.
@@ -224,20 +300,15 @@ impl BitBuffer {
         ensures err { OnErr result (self.new ≡ self.old) }
     {
         let before = self.len();
-        let (octets, mut rest) = bits.whole_octets();
+        let (octets, rest) = bits.whole_octets();
         self.extend_from_bytes(octets)?;
-        while rest.len() > 0 {
-            let few = rest.len().min(64);
-            match self.push_bits(rest.first_number(few as u32), few as u32) {
-                Ok(()) => {}
-                Err(error) => {
-                    self.truncate(before);
-                    return Err(error);
-                }
+        match self.extend_shifted(rest) {
+            Ok(()) => Ok(()),
+            Err(error) => {
+                self.truncate(before);
+                Err(error)
             }
-            rest = rest.split_at(few).1;
         }
-        Ok(())
     }
 
     /// Adds the bits of another buffer.

@@ -14,9 +14,10 @@ pub struct BitStr<'a> {
 }
 
 impl<'a> BitStr<'a> {
-    ghost use Rattle.std.specs.Prelude.{take, drop, [], slice_get};
-    ghost use Rattle.asn1_model.specs.Numbers.{binary, octet_bits};
+    ghost use Rattle.std.specs.Prelude.{take, drop, [], ◌∷◌, slice_get};
+    ghost use Rattle.asn1_model.specs.Numbers.{binary, octet_bits, packed};
     ghost use Rattle.asn1_values_bits.specs.BitStr.{bits_of, offset_of};
+    ghost use Rattle.asn1_values_bits.specs.Octets.{filled_up};
 
     /// No bits.
     pub fn new() -> Self
@@ -29,8 +30,8 @@ impl<'a> BitStr<'a> {
         }
     }
 
-    // The first bits of the octets.
-    pub(crate) fn of_buffer(octets: &'a [u8], len: usize) -> Self
+    /// The first `len` bits of the octets.
+    pub fn front_of(octets: &'a [u8], len: usize) -> Self
         requires { len ≤ length octets.now * 8 }
         ensures bits { bits_of result ≡ take len (octet_bits octets.now) }
         ensures offset { offset_of result ≡ 0 }
@@ -117,6 +118,17 @@ impl<'a> BitStr<'a> {
         ensures fits { result < 2 ^ count }
     {
         read_wide(self.octets, self.first, count)
+    }
+
+    // The first eight bits as an octet, with zero bits behind them where there are fewer, and the bits behind them.
+    pub(crate) fn split_octet(&self) -> (u8, BitStr<'a>)
+        requires { 0 < length (bits_of self.now) }
+        ensures octets { packed (filled_up (bits_of self.now)) ≡ result.0 ∷ packed (filled_up (bits_of result.1)) }
+        ensures fewer { length (bits_of result.1) < length (bits_of self.now) }
+    {
+        let few = self.len().min(8);
+        let octet = (self.first_number(few as u32) << (8 - few)) as u8;
+        (octet, self.split_at(few).1)
     }
 
     /// The octets that hold the bits, where they begin at an octet and end at one.

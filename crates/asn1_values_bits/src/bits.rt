@@ -1,10 +1,57 @@
 // Numbers in the bits of octets.
-ghost use Rattle.std.specs.Prelude.{◌≡◌, ◌+◌, ◌-◌, ◌*◌, ◌^◌, ◌<◌, ◌≤◌, ◌++◌, length, take, drop, IsTrue, ◌↔◌, pos, Any};
+ghost use Rattle.std.specs.Prelude.{◌≡◌, ◌+◌, ◌-◌, ◌*◌, ◌/◌, ◌^◌, ◌<◌, ◌≤◌, ◌++◌, length, take, drop, IsTrue, ◌↔◌, pos, Any};
 ghost use Rattle.asn1_model.specs.Numbers.{binary, octet_bits};
 ghost use Rattle.asn1_values_bits.specs.Octets.{ored, placed};
 
 /// The number whose binary digits are `count` bits of the octets from bit `position` on.
 pub fn read_bits(octets: &[u8], position: usize, count: u32) -> u64
+    requires narrow { count ≤ 64 }
+    requires within { position + count ≤ length octets.now * 8 }
+    requires short { position + count < 2 ^ 64 }
+    ensures digits { binary count result ≡ take count (drop position (octet_bits octets.now)) }
+    ensures fits { result < 2 ^ count }
+{
+    let octet = position / 8;
+    if octet < octets.len() && octets.len() - octet > 8 {
+        return read_of_nine(octets, position, count);
+    }
+    read_by_octets(octets, position, count)
+}
+
+// The number of eight octets, the first one highest.
+fn eight_octets(octets: &[u8], start: usize) -> u64
+    requires { start + 8 ≤ length octets.now }
+    ensures { binary 64 result ≡ take 64 (drop (start * 8) (octet_bits octets.now)) }
+{
+    u64::from_be_bytes([
+        octets[start],
+        octets[start + 1],
+        octets[start + 2],
+        octets[start + 3],
+        octets[start + 4],
+        octets[start + 5],
+        octets[start + 6],
+        octets[start + 7],
+    ])
+}
+
+// The same as `read_bits`, where nine octets stand from the first bit's octet on.
+fn read_of_nine(octets: &[u8], position: usize, count: u32) -> u64
+    requires narrow { count ≤ 64 }
+    requires nine { position / 8 + 9 ≤ length octets.now }
+    ensures digits { binary count result ≡ take count (drop position (octet_bits octets.now)) }
+    ensures fits { result < 2 ^ count }
+{
+    let start = position / 8;
+    let offset = (position % 8) as u32;
+    let eight = eight_octets(octets, start);
+    let nine = (eight as u128) << 8 | octets[start + 8] as u128;
+    let bits = (nine >> (72 - offset - count)) & ((1u128 << count) - 1);
+    bits as u64
+}
+
+// The same as `read_bits`, an octet at a time.
+fn read_by_octets(octets: &[u8], position: usize, count: u32) -> u64
     requires narrow { count ≤ 64 }
     requires within { position + count ≤ length octets.now * 8 }
     requires short { position + count < 2 ^ 64 }

@@ -2,9 +2,10 @@
 ghost use Rattle.std.specs.Prelude.{◌≡◌, ◌++◌, ◌<◌, ◌≤◌, OnOk, OnErr};
 ghost use Rattle.asn1_model.specs.Numbers.{binary};
 
-use crate::{BitBuffer, BitReader, BitStr, BitString, FixedBitString, bits};
+use crate::{BitBuffer, BitReader, BitStr, bits};
 use std::alloc::{AllocError, Global};
 use std::borrow::CowSlice;
+use std::hash::{DefaultHasher, Hash, Hasher};
 use std::test::Fail;
 
 // the low `width` bits of a value
@@ -98,12 +99,9 @@ fn rows(rt: HostRuntime) -> Result<(), Fail> {
     // fourteen bits, eight ones and 010000, and behind their number in an octet
     let octets = [0xff, 0x40];
     let (fourteen, _) = BitStr::from_slice(&octets).split_at(14);
-    let string = BitString::from_bitslice(rt.alloc(), fourteen)?;
-    assert_eq!(rt; string.len(), 14);
-    assert_eq!(rt; string.as_bytes(), [0xff, 0x40].as_slice());
     let mut counted = BitBuffer::new(rt.alloc());
     counted.push_bits(14, 8)?;
-    counted.extend_from_bitslice(string.as_bitslice())?;
+    counted.extend_from_bitslice(fourteen)?;
     assert_eq!(rt; counted.as_bytes(), [0x0e, 0xff, 0x40].as_slice());
     Ok(())
 }
@@ -177,49 +175,6 @@ fn splits(rt: HostRuntime) -> Result<(), Fail> {
 }
 
 #[test]
-fn strings(rt: HostRuntime) -> Result<(), Fail> {
-    let mut string = BitString::from_slice(rt.alloc(), &[0x2f])?;
-    let same = string.clone(rt.alloc())?;
-    assert_eq!(rt; string, same);
-    string.push(true)?;
-    assert_ne!(rt; string, same);
-    assert!(rt; same < string);
-    assert_eq!(rt; string.get(8), Some(true));
-    assert_eq!(rt; string.get(9), None);
-    assert!(rt; !string.is_empty());
-    assert!(rt; BitString::new(rt.alloc()).is_empty());
-    Ok(())
-}
-
-#[test]
-fn shown(rt: HostRuntime) -> Result<(), Fail> {
-    let mut string = BitString::from_slice(rt.alloc(), &[0x2f])?;
-    string.push(true)?;
-    let text = format!(in rt.alloc(); "{string:?}")?;
-    assert_eq!(rt; text.as_str(), "001011111");
-    let buffer = string.into_buffer();
-    assert_eq!(rt; BitString::from_buffer(buffer).len(), 9);
-    Ok(())
-}
-
-#[test]
-fn fixed_strings(rt: HostRuntime) {
-    let three = FixedBitString::<3>::new([0xbf, 0xff, 0xff]);
-    assert_eq!(rt; three.len(), 3);
-    assert!(rt; !three.is_empty());
-    assert_eq!(rt; three.get(1), Some(false));
-    assert_eq!(rt; three.get(3), None);
-    assert!(rt; FixedBitString::<3>::from_slice(&[0xbf]).is_none());
-    let octets = [0xa0];
-    let (front, _) = BitStr::from_slice(&octets).split_at(3);
-    assert!(rt; FixedBitString::<3>::from_bitslice(front).is_some());
-    assert!(rt; three.as_bitslice() == front);
-    assert!(rt; FixedBitString::<4>::from_bitslice(front).is_none());
-    assert!(rt; BitStr::from_bitslice(front) == front);
-    assert!(rt; BitStr::new().is_empty());
-}
-
-#[test]
 fn numbers(rt: HostRuntime) {
     assert_eq!(rt; bits::range_from_len(8), 255);
     assert_eq!(rt; bits::range_from_len(0), 0);
@@ -266,27 +221,6 @@ fn refused_growth(rt: HostRuntime) {
 }
 
 // Calls that make a value answer it, or want of memory.
-#[test]
-fn refused_making(rt: HostRuntime) {
-    let octets = [0x12, 0x34, 0x56];
-    let (_, bits) = BitStr::from_slice(&octets).split_at(4);
-    for _ in 0..2 {
-        if let Ok(string) = BitString::from_bitslice(rt.alloc(), bits) {
-            assert_eq!(rt; string.as_bytes(), [0x23, 0x45, 0x60].as_slice());
-            if let Ok(copy) = string.clone(rt.alloc()) {
-                assert!(rt; copy == string);
-            }
-        }
-        if let Ok(string) = BitString::from_slice(rt.alloc(), &octets) {
-            assert_eq!(rt; string.as_bytes(), octets.as_slice());
-        }
-        let reader = BitReader::new(bits);
-        if let Ok(CowSlice::Owned(copied)) = reader.octets(rt.alloc()) {
-            assert_eq!(rt; copied.as_slice(), [0x23, 0x45, 0x60].as_slice());
-        }
-    }
-}
-
 // A number twice, in eight bits each, by an appender: what the contract of a caller can say.
 fn append_twice(buffer: &mut BitBuffer, number: u8) -> Result<(), AllocError>
     ensures ok { OnOk result (buffer.new ≡ buffer.old ++ binary 8 number ++ binary 8 number) }
@@ -313,5 +247,51 @@ fn appenders(rt: HostRuntime) {
     assert_eq!(rt; octets.len(), 80);
     for octet in &octets {
         assert_eq!(rt; *octet, 0x9c);
+    }
+}
+
+// what a hasher makes of a value
+fn hash_of<T: Hash>(value: &T) -> u64 {
+    let mut state = DefaultHasher::new();
+    value.hash(&mut state);
+    state.finish()
+}
+
+// Views and buffers go by their bits, wherever these stand.
+#[test]
+fn comparisons(rt: HostRuntime) -> Result<(), Fail> {
+    let octets = [0x0a, 0x5f, 0x55, 0xf0];
+    let (front, _) = BitStr::front_of(&octets, 31).split_at(16);
+    let (_, shifted) = front.split_at(4);
+    let mut buffer = BitBuffer::new(rt.alloc());
+    buffer.extend_from_bitslice(shifted)?;
+    assert_eq!(rt; buffer.as_bytes(), [0xa5, 0xf0].as_slice());
+    assert!(rt; buffer.as_bitslice() == shifted);
+    assert_eq!(rt; hash_of(&shifted), hash_of(&buffer.as_bitslice()));
+    assert_eq!(rt; hash_of(&shifted), hash_of(&buffer));
+    let mut longer = BitBuffer::new(rt.alloc());
+    longer.extend_from_buffer(&buffer)?;
+    assert!(rt; longer == buffer);
+    longer.push(false)?;
+    assert!(rt; buffer < longer);
+    assert!(rt; hash_of(&buffer) != hash_of(&longer));
+    longer.truncate(3);
+    let text = format!(in rt.alloc(); "{longer:?}")?;
+    assert_eq!(rt; text.as_str(), "101");
+    assert!(rt; BitStr::default().is_empty());
+    assert!(rt; BitStr::from_bitslice(front) == front);
+    Ok(())
+}
+
+// A copy of unaligned bits in octets is answered, or want of memory.
+#[test]
+fn refused_copy(rt: HostRuntime) {
+    let octets = [0x12, 0x34, 0x56];
+    let (_, bits) = BitStr::from_slice(&octets).split_at(4);
+    for _ in 0..2 {
+        let reader = BitReader::new(bits);
+        if let Ok(CowSlice::Owned(copied)) = reader.octets(rt.alloc()) {
+            assert_eq!(rt; copied.as_slice(), [0x23, 0x45, 0x60].as_slice());
+        }
     }
 }

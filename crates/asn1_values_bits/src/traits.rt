@@ -1,5 +1,5 @@
 // The traits of `std`, which go by the bits.
-ghost use Rattle.std.specs.Prelude.{refl, Some};
+ghost use Rattle.std.specs.Prelude.{◌≡◌, [], refl, Some, fold, flat_map};
 ghost use mathlib.Core.Bool.{beq};
 ghost use Rattle.std.specs.Ordering.{bool_cmp, on};
 ghost use Rattle.std.specs.Cmp.{partial_equiv_from_equiv, on_equiv, on_po, on_total};
@@ -7,13 +7,20 @@ ghost use Rattle.std.specs.Cmp.Lexicographic.{pointwise, slice_cmp};
 ghost use Rattle.asn1_values_bits.specs.BitStr.{bits_of};
 ghost use Rattle.asn1_values_bits.specs.BitOrder.{bits_equiv, bits_po, bits_total, bits_ties, bits_fed, bits_fed_alike};
 
+use crate::bit_buffer::BitBuffer;
 use crate::bit_str::BitStr;
-use crate::bit_string::BitString;
-use crate::fixed_bit_string::FixedBitString;
 use crate::order::{compare, same};
 use std::cmp::Ordering;
 use std::fmt;
 use std::hash::{Hash, Hasher};
+
+impl Default for BitStr<'_> {
+    ghost is_default = { λ s. bits_of s ≡ [] };
+
+    fn default() -> Self {
+        BitStr::new()
+    }
+}
 
 impl PartialEq for BitStr<'_> {
     ghost eq = { on bits_of (pointwise beq) };
@@ -53,6 +60,22 @@ impl Ord for BitStr<'_> {
     }
 }
 
+impl Hash for BitStr<'_> {
+    ghost hash_input = { λ s. bits_fed (bits_of s) };
+
+    ghost respects_eq = { λ x y. bits_fed_alike (bits_of x) (bits_of y) };
+
+    fn hash<H: Hasher>(&self, state: &mut H) {
+        state.write_usize(self.len());
+        let mut rest = *self;
+        while rest.len() > 0 {
+            let (octet, behind) = rest.split_octet();
+            state.write_u8(octet);
+            rest = behind;
+        }
+    }
+}
+
 impl fmt::Debug for BitStr<'_> {
     fn fmt<W: fmt::Write>(&self, f: &mut fmt::Formatter<W>) -> fmt::Result {
         for index in 0..self.len() {
@@ -67,21 +90,21 @@ impl fmt::Debug for BitStr<'_> {
     }
 }
 
-impl PartialEq for BitString {
+impl PartialEq for BitBuffer {
     ghost eq = { pointwise beq };
 
     ghost laws = { partial_equiv_from_equiv bits_equiv };
 
     fn eq(&self, other: &Self) -> bool {
-        same(self.as_bitslice(), other.as_bitslice())
+        self.as_bitslice() == other.as_bitslice()
     }
 }
 
-impl Eq for BitString {
+impl Eq for BitBuffer {
     ghost laws = { bits_equiv };
 }
 
-impl PartialOrd for BitString {
+impl PartialOrd for BitBuffer {
     ghost partial_cmp = { λ x y. Some (slice_cmp bool_cmp x y) };
 
     ghost laws = { bits_po };
@@ -91,7 +114,7 @@ impl PartialOrd for BitString {
     }
 }
 
-impl Ord for BitString {
+impl Ord for BitBuffer {
     ghost cmp = { slice_cmp bool_cmp };
 
     ghost total = { bits_total };
@@ -101,67 +124,21 @@ impl Ord for BitString {
     ghost matches_eq = { bits_ties };
 
     fn cmp(&self, other: &Self) -> Ordering {
-        compare(self.as_bitslice(), other.as_bitslice())
+        self.as_bitslice().cmp(&other.as_bitslice())
     }
 }
 
-impl Hash for BitString {
+impl Hash for BitBuffer {
     ghost hash_input = { bits_fed };
 
     ghost respects_eq = { bits_fed_alike };
 
     fn hash<H: Hasher>(&self, state: &mut H) {
-        self.len().hash(state);
-        self.as_bytes().hash(state);
+        self.as_bitslice().hash(state);
     }
 }
 
-impl fmt::Debug for BitString {
-    fn fmt<W: fmt::Write>(&self, f: &mut fmt::Formatter<W>) -> fmt::Result {
-        let bits = self.as_bitslice();
-        write!(f, "{bits:?}")
-    }
-}
-
-impl<const N: usize> PartialEq for FixedBitString<N> {
-    ghost eq = { pointwise beq };
-
-    ghost laws = { partial_equiv_from_equiv bits_equiv };
-
-    fn eq(&self, other: &Self) -> bool {
-        same(self.as_bitslice(), other.as_bitslice())
-    }
-}
-
-impl<const N: usize> Eq for FixedBitString<N> {
-    ghost laws = { bits_equiv };
-}
-
-impl<const N: usize> PartialOrd for FixedBitString<N> {
-    ghost partial_cmp = { λ x y. Some (slice_cmp bool_cmp x y) };
-
-    ghost laws = { bits_po };
-
-    fn partial_cmp(&self, other: &Self) -> Option<Ordering> {
-        Some(self.cmp(other))
-    }
-}
-
-impl<const N: usize> Ord for FixedBitString<N> {
-    ghost cmp = { slice_cmp bool_cmp };
-
-    ghost total = { bits_total };
-
-    ghost matches_partial_cmp = { λ x y. refl };
-
-    ghost matches_eq = { bits_ties };
-
-    fn cmp(&self, other: &Self) -> Ordering {
-        compare(self.as_bitslice(), other.as_bitslice())
-    }
-}
-
-impl<const N: usize> fmt::Debug for FixedBitString<N> {
+impl fmt::Debug for BitBuffer {
     fn fmt<W: fmt::Write>(&self, f: &mut fmt::Formatter<W>) -> fmt::Result {
         let bits = self.as_bitslice();
         write!(f, "{bits:?}")

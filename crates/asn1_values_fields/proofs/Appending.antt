@@ -1,11 +1,11 @@
 -- Fields that are written one behind the other.
-use Rattle.std.proofs.Common.{◌≡◌, ℕ, suc, ◌+◌, Bool, List, [], ◌∷◌, ◌++◌, Option, Some, None, IsSome, drop, take, ◌*◌, length, refl, ap, sym, ◌∙◌, append_assoc, append-nil, arith, subst, rules, true, false, option_map}
+use Rattle.std.proofs.Common.{◌≡◌, ℕ, suc, ◌+◌, Bool, List, [], ◌∷◌, ◌++◌, Option, Some, None, IsSome, drop, take, ◌*◌, ◌≤◌, length, refl, ap, sym, ◌∙◌, append_assoc, append-nil, arith, subst, rules, true, false, option_map}
 use Rattle.asn1_model.specs.Numbers.{binary}
 use Rattle.asn1_values_alphabets.specs.Codes.{CodedCharacters, code_of}
 use Rattle.asn1_values_fields.specs.declared.field_bits.FieldBits.{FieldBits}
 use Rattle.asn1_values_fields.specs.declared.fault.FieldFaultKind.{FieldFaultKind}
-use Rattle.asn1_values_fields.specs.declared.fault.FieldFaultKind.TheVariants.{Memory}
 use Rattle.std.proofs.lemmas.Grind.{common_steps}
+use Rattle.std.proofs.lemmas.List.{length-take, take-take}
 use Rattle.asn1_values_bits.proofs.Reading.{take_two}
 use Rattle.asn1_values_fields.specs.Read.{HasCode}
 use Rattle.asn1_values_fields.specs.Written.{both, codes_of, appended, bits_of_field, bits_of_fields, IsFirstUnwritten, IsUnwritable}
@@ -61,12 +61,11 @@ unwritten_later fs i f rest e s b n k w =
     let m : i + suc n ≡ i + 1 + n = omega arith in
     subst P m (s (suc n) k (subst Q (sym e) (b, w)))
 
-pub never : true ≡ false → ⊥
-never e = cc
-
-pub unwritten_first : (fs : List FieldBits) → ¬ (length fs ≡ 0) → IsFirstUnwritten fs 0 Memory
-unwritten_first [] h = absurd (h refl)
-unwritten_first (f ∷ fs) h = tt
+-- bits in front stay in front where what they stand in does
+pub kept_on : (a b c : List Bool) → take (length a) b ≡ a → take (length b) c ≡ b → take (length a) c ≡ a
+kept_on a b c e f =
+    let l : length a ≤ length b = omega (arith, length-take (length a) b, ap length e) in
+    sym (take-take (length a) (length b) c l) ∙ ap (take (length a)) f ∙ e
 
 -- ---- characters that are read
 

@@ -1,3 +1,4 @@
 pub mod Appending
 pub mod Shortest
 pub mod Chains
+pub mod ReadBack

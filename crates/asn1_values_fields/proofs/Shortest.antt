@@ -27,7 +27,7 @@ small_at [] h k l = absurd (omega arith)
 small_at (o ∷ os) h zero l = h.0
 small_at (o ∷ os) h (suc k) l = small_at os h.1 k (omega arith)
 
-same_octets : (xs ys : List ℕ) → AreOctets xs → AreOctets ys → octet_bits xs ≡ octet_bits ys → xs ≡ ys
+pub same_octets : (xs ys : List ℕ) → AreOctets xs → AreOctets ys → octet_bits xs ≡ octet_bits ys → xs ≡ ys
 same_octets xs ys h k e = sym (packed-octet_bits xs (small_at xs h)) ∙ ap packed e ∙ packed-octet_bits ys (small_at ys k)
 
 -- octets longer than the fewest of their number are the fewest of none

@@ -40,6 +40,7 @@ pub record HasCode (alphabet : CodedCharacters) (character : ℕ) (bits : List B
 -- bits are the code of no character
 pub record IsUnknownCode (alphabet : CodedCharacters) (bits : List Bool) : Type 0 where
   pub code : ℕ
+  pub fits : code < 2 ^ alphabet.code_bits
   pub digits : bits ≡ binary alphabet.code_bits code
   pub unknown : (c : ℕ) → code_of alphabet c ≡ Some code → ⊥
 

@@ -1,5 +1,5 @@
 //! Fields that are written.
-ghost use Rattle.std.specs.Prelude.{◌≡◌, ◌↔◌, ◌++◌, ◌∷◌, ◌≤◌, ◌<◌, ◌^◌, ◌⊎◌, [], IsTrue, is_some, option_map, Some, None, Ok, Err, OnOk, OnErr, IfErr};
+ghost use Rattle.std.specs.Prelude.{◌≡◌, ◌↔◌, ◌++◌, ◌∷◌, ◌≤◌, ◌<◌, ◌^◌, ◌⊎◌, [], IsTrue, is_some, option_map, Some, None, Ok, Err, OnOk, OnErr, IfErr, take, length};
 ghost use Rattle.asn1_model.specs.Numbers.{octet_bits};
 ghost use Rattle.asn1_values_fields.specs.Written.{codes_of, digits_of, bits_of_fields, appended, IsUnwritable, IsFirstUnwritten};
 
@@ -7,10 +7,9 @@ use crate::fault::{FieldFault, FieldFaultKind};
 use asn1_values_alphabets::CharacterAlphabet;
 use asn1_values_bits::{BitBuffer, BitStr};
 use asn1_values_numbers::Integer;
-use std::alloc::Global;
 
 /// A field that is to be written.
-#[derive(Drop)]
+#[derive(Clone, Copy)]
 pub enum FieldBits<'a> {
     /// Bits as they are.
     Bits(BitStr<'a>),
@@ -30,13 +29,14 @@ pub enum FieldBits<'a> {
     },
 }
 
-/// Appends the codes of characters. Refused, the buffer holds a part of them.
+/// Appends the codes of characters. Refused, the buffer holds a part of them behind its old bits.
 fn push_characters(
     buffer: &mut BitBuffer,
     alphabet: &CharacterAlphabet,
     characters: &[u32],
 ) -> Result<(), FieldFaultKind>
     ensures ok { OnOk result (appended buffer.old (codes_of alphabet.now characters.now) ≡ Some buffer.new) }
+    ensures kept { take (length buffer.old) buffer.new ≡ buffer.old }
     ensures wrong { IfErr result (IsUnwritable (codes_of alphabet.now characters.now)) }
 {
     let width = alphabet.width();
@@ -54,6 +54,7 @@ fn push_characters(
 /// Appends the digits of a number.
 fn push_number(buffer: &mut BitBuffer, value: u128, width: u32) -> Result<(), FieldFaultKind>
     ensures ok { OnOk result (appended buffer.old (digits_of value width) ≡ Some buffer.new) }
+    ensures kept { take (length buffer.old) buffer.new ≡ buffer.old }
     ensures wrong { IfErr result (IsUnwritable (digits_of value width)) }
 {
     if width > 128 || (width < 128 && value >> width > 0) {
@@ -68,9 +69,10 @@ fn push_number(buffer: &mut BitBuffer, value: u128, width: u32) -> Result<(), Fi
 impl<'a> FieldBits<'a> {
     ghost use Rattle.asn1_values_fields.specs.Written.{bits_of_field, IsUnwritable, appended};
 
-    /// Appends the field. Refused, the buffer holds a part of it.
+    /// Appends the field. Refused, the buffer holds a part of it behind its old bits.
     fn push_to(&self, buffer: &mut BitBuffer) -> Result<(), FieldFaultKind>
         ensures ok { OnOk result (appended buffer.old (bits_of_field self.now) ≡ Some buffer.new) }
+        ensures kept { take (length buffer.old) buffer.new ≡ buffer.old }
         ensures wrong { IfErr result (IsUnwritable (bits_of_field self.now)) }
     {
         let pushed = match self {
@@ -92,9 +94,10 @@ impl<'a> FieldBits<'a> {
     }
 }
 
-/// Appends the fields. Refused, the buffer holds a part of them.
+/// Appends the fields. Refused, the buffer holds a part of them behind its old bits.
 fn push_all(buffer: &mut BitBuffer, fields: &[FieldBits<'_>]) -> Result<(), FieldFault>
     ensures ok { OnOk result (appended buffer.old (bits_of_fields fields.now) ≡ Some buffer.new) }
+    ensures kept { take (length buffer.old) buffer.new ≡ buffer.old }
     ensures wrong { IfErr result (λ e. IsFirstUnwritten fields.now e.field e.kind) }
 {
     for (field, bits) in fields.iter().enumerate() {
@@ -109,25 +112,17 @@ fn push_all(buffer: &mut BitBuffer, fields: &[FieldBits<'_>]) -> Result<(), Fiel
 /// Appends the joined bits of the fields: a field's bits stand directly behind those of the one before,
 /// whatever alignment they meet. Refused, it answers the first field that is not written, and the buffer
 /// is as it was: DoesNotFit, or Memory for a field behind fields that fit.
-pub fn write_fields(
-    alloc: Global,
-    buffer: &mut BitBuffer,
-    fields: &[FieldBits<'_>],
-) -> Result<(), FieldFault>
+pub fn write_fields(buffer: &mut BitBuffer, fields: &[FieldBits<'_>]) -> Result<(), FieldFault>
     ensures ok { OnOk result (appended buffer.old (bits_of_fields fields.now) ≡ Some buffer.new) }
     ensures err { OnErr result (buffer.new ≡ buffer.old) }
     ensures wrong { IfErr result (λ e. IsFirstUnwritten fields.now e.field e.kind) }
 {
-    if fields.is_empty() {
-        return Ok(());
-    }
-    let mut joined = BitBuffer::new(alloc);
-    push_all(&mut joined, fields)?;
-    match buffer.extend_from_buffer(&joined) {
+    let before = buffer.len();
+    match push_all(buffer, fields) {
         Ok(()) => Ok(()),
-        Err(_) => Err(FieldFault {
-            field: 0,
-            kind: FieldFaultKind::Memory,
-        }),
+        Err(fault) => {
+            buffer.truncate(before);
+            Err(fault)
+        }
     }
 }

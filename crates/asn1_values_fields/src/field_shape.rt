@@ -1,10 +1,10 @@
 //! Fields that are read.
 use asn1_values_alphabets::CharacterAlphabet;
-use asn1_values_bits::BitString;
+use asn1_values_bit_strings::BitString;
 use asn1_values_numbers::Integer;
 
 /// What a field that is to be read looks like.
-#[derive(Drop)]
+#[derive(Clone, Copy)]
 pub enum FieldShape<'a> {
     /// So many bits.
     Bits(usize),
@@ -22,7 +22,7 @@ pub enum FieldShape<'a> {
 }
 
 /// A field that was read.
-#[derive(Drop)]
+#[derive(Debug, PartialEq, Eq, Hash, Drop)]
 pub enum FieldValue {
     /// Bits as they are.
     Bits(BitString),

@@ -7,7 +7,8 @@ ghost use Rattle.asn1_values_fields.specs.Read.{width_of, IsValueOf, IsUnreadabl
 use crate::fault::{FieldFault, FieldFaultKind};
 use crate::field_shape::{FieldShape, FieldValue};
 use asn1_values_alphabets::CharacterAlphabet;
-use asn1_values_bits::{BitReader, BitString};
+use asn1_values_bit_strings::BitString;
+use asn1_values_bits::BitReader;
 use asn1_values_numbers::{Integer, IntegerError};
 use std::alloc::Global;
 

@@ -28,7 +28,7 @@ fn is_row(values: &[FieldValue]) -> bool {
 }
 
 /// Writes 5 in three bits, the octet FF, 0 in one bit and the whole number -1.
-fn write_row(alloc: Global, buffer: &mut BitBuffer) -> Result<(), FieldFault> {
+fn write_row(buffer: &mut BitBuffer) -> Result<(), FieldFault> {
     let number = Integer::from_i128(-1);
     let fields = [
         FieldBits::Number { value: 5, width: 3 },
@@ -36,7 +36,7 @@ fn write_row(alloc: Global, buffer: &mut BitBuffer) -> Result<(), FieldFault> {
         FieldBits::Number { value: 0, width: 1 },
         FieldBits::Whole(&number),
     ];
-    write_fields(alloc, buffer, &fields)
+    write_fields(buffer, &fields)
 }
 
 /// Reads by the shapes of that row.
@@ -61,7 +61,7 @@ fn fault_of(alloc: Global, octets: &[u8], shape: FieldShape<'_>) -> Option<Field
 /// The fault of writing one field, if there is one.
 fn unwritten(alloc: Global, field: FieldBits<'_>) -> Option<FieldFault> {
     let mut buffer = BitBuffer::new(alloc);
-    write_fields(alloc, &mut buffer, &[field]).err()
+    write_fields(&mut buffer, &[field]).err()
 }
 
 /// Whether a number of `width` ones, written behind `offset` zero bits, reads back.
@@ -75,7 +75,7 @@ fn is_read_back(alloc: Global, offset: u32, width: u32) -> Result<bool, FieldFau
         width: offset,
     };
     let number = FieldBits::Number { value: ones, width };
-    write_fields(alloc, &mut buffer, &[zeros, number])?;
+    write_fields(&mut buffer, &[zeros, number])?;
     let mut reader = BitReader::new(buffer.as_bitslice());
     let shapes = [FieldShape::Number(offset), FieldShape::Number(width)];
     let values = read_fields(alloc, &mut reader, &shapes)?;
@@ -88,7 +88,7 @@ fn is_read_back(alloc: Global, offset: u32, width: u32) -> Result<bool, FieldFau
 #[test]
 fn a_row_is_written(rt: HostRuntime) -> Result<(), Fail> {
     let mut buffer = BitBuffer::new(rt.alloc());
-    write_row(rt.alloc(), &mut buffer)?;
+    write_row(&mut buffer)?;
     assert_eq!(rt; buffer.len(), 20);
     assert_eq!(rt; buffer.as_bytes(), ROW.as_slice());
     Ok(())
@@ -111,7 +111,7 @@ fn characters_are_written(rt: HostRuntime) -> Result<(), Fail> {
         alphabet: &alphabet,
         characters: &[49, 50, 51],
     };
-    write_fields(rt.alloc(), &mut buffer, &[field])?;
+    write_fields(&mut buffer, &[field])?;
     assert_eq!(rt; buffer.as_bytes(), [0x23, 0x40].as_slice());
     Ok(())
 }
@@ -203,17 +203,48 @@ fn faults_are_shown(rt: HostRuntime) -> Result<(), Fail> {
 }
 
 /// Every request for memory is granted, and then these are the bits, or refused as Memory, and then
-/// the buffer is as before.
+/// the buffer is as before, and the same call goes on from there.
 #[test]
 fn refused_memory_writes_nothing(rt: HostRuntime) {
     let mut buffer = BitBuffer::new(rt.alloc());
-    match write_row(rt.alloc(), &mut buffer) {
-        Ok(()) => assert_eq!(rt; buffer.as_bytes(), ROW.as_slice()),
-        Err(fault) => {
+    for count in 0..40 {
+        if let Err(fault) = write_row(&mut buffer) {
             assert_eq!(rt; fault.kind, FieldFaultKind::Memory);
-            assert_eq!(rt; buffer.len(), 0);
+            assert_eq!(rt; buffer.len(), count * 20);
+            assert!(rt; write_row(&mut buffer).is_ok());
         }
+        assert_eq!(rt; buffer.len(), count * 20 + 20);
     }
+    assert!(rt; buffer.as_bytes().ends_with(&[0xFB, 0xFE, 0xFF]));
+}
+
+/// A field that does not fit leaves nothing of those before it behind.
+#[test]
+fn a_wrong_field_leaves_the_old_bits(rt: HostRuntime) -> Result<(), Fail> {
+    let mut buffer = BitBuffer::new(rt.alloc());
+    buffer.push_bits(5, 3)?;
+    let fields = [
+        FieldBits::Octets(&[0xFF]),
+        FieldBits::Number { value: 8, width: 3 },
+    ];
+    let wanted = FieldFault {
+        field: 1,
+        kind: FieldFaultKind::DoesNotFit,
+    };
+    assert_eq!(rt; write_fields(&mut buffer, &fields), Err(wanted));
+    assert_eq!(rt; buffer.len(), 3);
+    assert_eq!(rt; buffer.as_bytes(), [0xA0].as_slice());
+    Ok(())
+}
+
+/// Values that were read are compared by what they hold.
+#[test]
+fn values_are_compared(rt: HostRuntime) -> Result<(), Fail> {
+    let first = read_row(rt.alloc(), &mut BitReader::from_octets(&ROW))?;
+    let again = read_row(rt.alloc(), &mut BitReader::from_octets(&ROW))?;
+    assert!(rt; first == again);
+    assert!(rt; first.first() != first.last());
+    Ok(())
 }
 
 /// Every request for memory is granted, and then these are the values, or refused as Memory, and then

@@ -8,6 +8,7 @@ ghost use Rattle.std.specs.Cmp.{partial_equiv_from_equiv};
 ghost use Rattle.std.specs.Cmp.Rules.{hashing};
 ghost use Rattle.std.proofs.Common.{rules};
 ghost use Rattle.asn1_values_identifiers.specs.Identifiers.{is_valid};
+ghost use Rattle.asn1_values_identifiers.specs.Texts.{dotted_text};
 
 use crate::Oid;
 use crate::oid::are_valid;
@@ -170,6 +171,8 @@ impl Hash for ObjectIdentifier {
 
 /// The arcs in decimal, with dots between them.
 impl fmt::Display for ObjectIdentifier {
+    ghost output = { λ arcs. Some (dotted_text arcs) };
+
     fn fmt<W: fmt::Write>(&self, f: &mut fmt::Formatter<W>) -> fmt::Result {
         self.as_oid().fmt(f)
     }

@@ -7,6 +7,7 @@ ghost use Rattle.std.specs.Cmp.{partial_equiv_from_equiv};
 ghost use Rattle.std.specs.Cmp.Rules.{hashing};
 ghost use Rattle.std.proofs.Common.{rules};
 ghost use Rattle.asn1_values_identifiers.specs.Identifiers.{is_valid};
+ghost use Rattle.asn1_values_identifiers.specs.Texts.{dotted_text};
 
 use std::alloc::AllocError;
 use std::cmp::Ordering;
@@ -159,12 +160,14 @@ impl Hash for Oid<'_> {
 
 /// The arcs in decimal, with dots between them.
 impl fmt::Display for Oid<'_> {
+    ghost output = { λ arcs. Some (dotted_text arcs) };
+
     fn fmt<W: fmt::Write>(&self, f: &mut fmt::Formatter<W>) -> fmt::Result {
-        for (i, arc) in self.arcs.iter().enumerate() {
-            if i > 0 {
-                f.write_str(".")?;
+        if let [first, further @ ..] = self.arcs {
+            write!(f, "{first}")?;
+            for arc in further {
+                write!(f, ".{arc}")?;
             }
-            write!(f, "{arc}")?;
         }
         Ok(())
     }

@@ -1,5 +1,5 @@
 -- The ranges of the number types.
-use Rattle.std.specs.Prelude.{ℕ, ◌+◌, ◌-◌, ◌*◌, ◌%◌, ℤ, pos, negsuc, ◌+ℤ◌, ◌-ℤ◌, Bool, true, false, Some}
+use Rattle.std.specs.Prelude.{ℕ, ◌+◌, ◌-◌, ◌*◌, ◌%◌, ◌^◌, ◌==◌, ℤ, pos, negsuc, ◌+ℤ◌, ◌-ℤ◌, Bool, true, false, None, Some}
 use Rattle.asn1_model.specs.Schema.{Range}
 
 -- from zero to a greatest number
@@ -14,6 +14,15 @@ whole_range greatest = record { low = Some (negsuc greatest); high = Some (pos g
 abbrev pub range_of : Bool → ℕ → Range
 range_of false greatest = natural_range greatest
 range_of true greatest = whole_range greatest
+
+-- the greatest number of so many bits, of which one is the sign where there is one
+abbrev pub greatest_of : Bool → ℕ → ℕ
+greatest_of false bits = 2 ^ bits - 1
+greatest_of true bits = 2 ^ (bits - 1) - 1
+
+-- the range of a type of numbers by its bits: 2 ^ 32 - 1 where nothing limits them
+abbrev pub range_of_width : Bool → ℕ → Range
+range_of_width signed width = elim (width == 2 ^ 32 - 1) [ true ↦ record { low = None; high = None } | false ↦ range_of signed (greatest_of signed width) ]
 
 -- the remainder of a whole number by a positive one, from zero up
 abbrev pub remainder : ℤ → ℕ → ℕ

@@ -5,7 +5,9 @@ ghost use Rattle.asn1_values_natives.specs.Octets.{signed_octets_of, unsigned_oc
 
 use crate::octets::{bit_count, last_octets};
 use crate::wide::Wide;
+use std::convert::AsSlice;
 use std::marker::Model;
+use std::ops::DerefSlice;
 
 /// The octets of a number, the highest first: up to seventeen in place, or lent by the number.
 #[derive(Drop)]
@@ -88,5 +90,23 @@ impl<'a> IntegerBytes<'a> {
         }
         let count = ((bit_count(wide.magnitude) + 7) / 8).max(1);
         IntegerBytes::last(false, wide.magnitude, count)
+    }
+}
+
+impl AsSlice<u8> for IntegerBytes<'_> {
+    ghost items = { λ octets. octets };
+
+    fn as_slice(&self) -> &[u8] {
+        IntegerBytes::as_slice(self)
+    }
+}
+
+impl DerefSlice for IntegerBytes<'_> {
+    type Elem = u8;
+
+    ghost deref_gives = { λ octets slice. slice ≡ octets };
+
+    fn deref(&self) -> &[u8] {
+        IntegerBytes::as_slice(self)
     }
 }

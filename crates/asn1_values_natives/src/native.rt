@@ -1,14 +1,18 @@
 //! The native integer types.
-ghost use Rattle.std.specs.Prelude.{◌≡◌, ℕ, ◌+◌, ◌-◌, ◌^◌, ℤ, pos, ◌+ℤ◌, Bool, true, false, is_some, IfSome, ◌<◌};
-ghost use Rattle.std.proofs.Common.{lit<, refl};
+ghost use Rattle.std.specs.Prelude.{◌≡◌, ℕ, ◌+◌, ◌-◌, ◌^◌, ℤ, pos, ◌+ℤ◌, Bool, true, false, Some, is_some, IfSome, ◌<◌, ◌≤◌};
+ghost use Rattle.std.specs.Fmt.{signed_decimal};
+ghost use Rattle.std.specs.Ordering.{int_cmp};
+ghost use Rattle.std.proofs.Common.{arith, lit<, lit≤, refl};
 ghost use Rattle.asn1_model.specs.Numbers.{is_within};
 ghost use Rattle.asn1_values_natives.specs.Octets.{signed_by};
-ghost use Rattle.asn1_values_natives.specs.Ranges.{range_of, wrapped};
+ghost use Rattle.asn1_values_natives.specs.Ranges.{greatest_of, range_of, wrapped};
+ghost use Rattle.std.proofs.lemmas.Bool.Decides.{nat_tests};
 
 use crate::wide::Wide;
+use std::fmt::{Debug, Display};
 
 /// A native integer type: `i8` to `i128`, `isize`, `u8` to `u128` and `usize`.
-pub trait NativeInteger: Copy {
+pub trait NativeInteger: Copy + Debug + Default + Display + PartialOrd {
     /// How many bits it has.
     const BITS: u32;
 
@@ -59,11 +63,26 @@ pub trait NativeInteger: Copy {
     // Its numbers have at most 128 bits beside the sign.
     ghost bounded: { greatest < 2 ^ 128 };
 
+    // It has at most 128 bits.
+    ghost short: { BITS ≤ 128 };
+
+    // Its greatest number is that of its bits, of which one is the sign where it has one.
+    ghost width: { greatest ≡ greatest_of SIGNED BITS };
+
     // Zero is zero.
     ghost nothing: { number ZERO ≡ pos 0 };
 
     // Values of one number are one value.
     ghost injective: { (x y : Self) → number x ≡ number y → x ≡ y };
+
+    // It is ordered as its numbers are.
+    ghost ordered: { (x y : Self) → Self.partial_cmp x y ≡ Some (int_cmp (number x) (number y)) };
+
+    // It is printed in decimal.
+    ghost printed: { (x : Self) → Self.output x ≡ Some (signed_decimal (number x)) };
+
+    // What it is where nothing is said is zero.
+    ghost default_zero: { (x : Self) → Self.is_default x → number x ≡ pos 0 };
 }
 
 impl NativeInteger for u8 {
@@ -91,9 +110,19 @@ impl NativeInteger for u8 {
 
     ghost bounded = { lit< tt };
 
+    ghost short = { lit≤ tt };
+
+    ghost width = { refl };
+
     ghost nothing = { refl };
 
     ghost injective = { λ x y e. Prim.cc };
+
+    ghost ordered = { λ x y. Prim.grind (arith, nat_tests) };
+
+    ghost printed = { λ x. refl };
+
+    ghost default_zero = { λ x e. Prim.cc };
 
     fn to_wide(self) -> Wide {
         Wide::from_natural(self as u128, u8::MAX as u128)
@@ -136,9 +165,19 @@ impl NativeInteger for u16 {
 
     ghost bounded = { lit< tt };
 
+    ghost short = { lit≤ tt };
+
+    ghost width = { refl };
+
     ghost nothing = { refl };
 
     ghost injective = { λ x y e. Prim.cc };
+
+    ghost ordered = { λ x y. Prim.grind (arith, nat_tests) };
+
+    ghost printed = { λ x. refl };
+
+    ghost default_zero = { λ x e. Prim.cc };
 
     fn to_wide(self) -> Wide {
         Wide::from_natural(self as u128, u16::MAX as u128)
@@ -181,9 +220,19 @@ impl NativeInteger for u32 {
 
     ghost bounded = { lit< tt };
 
+    ghost short = { lit≤ tt };
+
+    ghost width = { refl };
+
     ghost nothing = { refl };
 
     ghost injective = { λ x y e. Prim.cc };
+
+    ghost ordered = { λ x y. Prim.grind (arith, nat_tests) };
+
+    ghost printed = { λ x. refl };
+
+    ghost default_zero = { λ x e. Prim.cc };
 
     fn to_wide(self) -> Wide {
         Wide::from_natural(self as u128, u32::MAX as u128)
@@ -226,9 +275,19 @@ impl NativeInteger for u64 {
 
     ghost bounded = { lit< tt };
 
+    ghost short = { lit≤ tt };
+
+    ghost width = { refl };
+
     ghost nothing = { refl };
 
     ghost injective = { λ x y e. Prim.cc };
+
+    ghost ordered = { λ x y. Prim.grind (arith, nat_tests) };
+
+    ghost printed = { λ x. refl };
+
+    ghost default_zero = { λ x e. Prim.cc };
 
     fn to_wide(self) -> Wide {
         Wide::from_natural(self as u128, u64::MAX as u128)
@@ -271,9 +330,19 @@ impl NativeInteger for u128 {
 
     ghost bounded = { lit< tt };
 
+    ghost short = { lit≤ tt };
+
+    ghost width = { refl };
+
     ghost nothing = { refl };
 
     ghost injective = { λ x y e. Prim.cc };
+
+    ghost ordered = { λ x y. Prim.grind (arith, nat_tests) };
+
+    ghost printed = { λ x. refl };
+
+    ghost default_zero = { λ x e. Prim.cc };
 
     fn to_wide(self) -> Wide {
         Wide::from_natural(self, u128::MAX)
@@ -316,9 +385,19 @@ impl NativeInteger for usize {
 
     ghost bounded = { lit< tt };
 
+    ghost short = { lit≤ tt };
+
+    ghost width = { refl };
+
     ghost nothing = { refl };
 
     ghost injective = { λ x y e. Prim.cc };
+
+    ghost ordered = { λ x y. Prim.grind (arith, nat_tests) };
+
+    ghost printed = { λ x. refl };
+
+    ghost default_zero = { λ x e. Prim.cc };
 
     fn to_wide(self) -> Wide {
         Wide::from_natural(self as u128, usize::MAX as u128)
@@ -361,9 +440,19 @@ impl NativeInteger for i8 {
 
     ghost bounded = { lit< tt };
 
+    ghost short = { lit≤ tt };
+
+    ghost width = { refl };
+
     ghost nothing = { refl };
 
     ghost injective = { λ x y e. e };
+
+    ghost ordered = { λ x y. refl };
+
+    ghost printed = { λ x. refl };
+
+    ghost default_zero = { λ x e. e };
 
     fn to_wide(self) -> Wide {
         Wide::from_whole(self as i128, i8::MAX as i128)
@@ -406,9 +495,19 @@ impl NativeInteger for i16 {
 
     ghost bounded = { lit< tt };
 
+    ghost short = { lit≤ tt };
+
+    ghost width = { refl };
+
     ghost nothing = { refl };
 
     ghost injective = { λ x y e. e };
+
+    ghost ordered = { λ x y. refl };
+
+    ghost printed = { λ x. refl };
+
+    ghost default_zero = { λ x e. e };
 
     fn to_wide(self) -> Wide {
         Wide::from_whole(self as i128, i16::MAX as i128)
@@ -451,9 +550,19 @@ impl NativeInteger for i32 {
 
     ghost bounded = { lit< tt };
 
+    ghost short = { lit≤ tt };
+
+    ghost width = { refl };
+
     ghost nothing = { refl };
 
     ghost injective = { λ x y e. e };
+
+    ghost ordered = { λ x y. refl };
+
+    ghost printed = { λ x. refl };
+
+    ghost default_zero = { λ x e. e };
 
     fn to_wide(self) -> Wide {
         Wide::from_whole(self as i128, i32::MAX as i128)
@@ -496,9 +605,19 @@ impl NativeInteger for i64 {
 
     ghost bounded = { lit< tt };
 
+    ghost short = { lit≤ tt };
+
+    ghost width = { refl };
+
     ghost nothing = { refl };
 
     ghost injective = { λ x y e. e };
+
+    ghost ordered = { λ x y. refl };
+
+    ghost printed = { λ x. refl };
+
+    ghost default_zero = { λ x e. e };
 
     fn to_wide(self) -> Wide {
         Wide::from_whole(self as i128, i64::MAX as i128)
@@ -541,9 +660,19 @@ impl NativeInteger for i128 {
 
     ghost bounded = { lit< tt };
 
+    ghost short = { lit≤ tt };
+
+    ghost width = { refl };
+
     ghost nothing = { refl };
 
     ghost injective = { λ x y e. e };
+
+    ghost ordered = { λ x y. refl };
+
+    ghost printed = { λ x. refl };
+
+    ghost default_zero = { λ x e. e };
 
     fn to_wide(self) -> Wide {
         Wide::from_whole(self, i128::MAX)
@@ -586,9 +715,19 @@ impl NativeInteger for isize {
 
     ghost bounded = { lit< tt };
 
+    ghost short = { lit≤ tt };
+
+    ghost width = { refl };
+
     ghost nothing = { refl };
 
     ghost injective = { λ x y e. e };
+
+    ghost ordered = { λ x y. refl };
+
+    ghost printed = { λ x. refl };
+
+    ghost default_zero = { λ x e. e };
 
     fn to_wide(self) -> Wide {
         Wide::from_whole(self as i128, isize::MAX as i128)

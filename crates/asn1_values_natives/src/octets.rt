@@ -3,7 +3,7 @@ ghost use Rattle.std.specs.Prelude.{◌≡◌, ℕ, ◌+◌, ◌-◌, ◌*◌, �
 ghost use Rattle.asn1_model.specs.Numbers.{digits, width};
 ghost use Rattle.asn1_values_natives.specs.Octets.{signed_number, unsigned_number, is_padded, is_leading, is_negative, sign_free, plain_octets};
 
-// Whether the first octet only repeats the sign.
+/// Whether the first octet only repeats the sign: the first nine bits are alike (X.690 8.3.2).
 pub fn has_padding(octets: &[u8]) -> bool
     ensures { result ≡ is_padded octets.now }
 {
@@ -14,7 +14,7 @@ pub fn has_padding(octets: &[u8]) -> bool
     }
 }
 
-// The octets behind those that only repeat the sign.
+/// The octets behind those that only repeat the sign: the fewest octets of the same number (X.690 8.3.2).
 pub fn without_padding(octets: &[u8]) -> &[u8]
     ensures same { signed_number result.now ≡ signed_number octets.now }
     ensures fewest { is_padded result.now ≡ false }
@@ -27,14 +27,14 @@ pub fn without_padding(octets: &[u8]) -> &[u8]
     rest
 }
 
-// An octet of a number's magnitude: turned over in a negative number.
+/// An octet of a number's magnitude: turned over in a negative number.
 pub fn without_sign(negative: bool, octet: u8) -> u8
     ensures { result ≡ sign_free negative octet }
 {
     if negative { 255 - octet } else { octet }
 }
 
-// Whether octets of two's complement stand for a number below zero.
+/// Whether octets of two's complement stand for a number below zero (X.690 8.3.3); no octets do not.
 pub fn has_sign(octets: &[u8]) -> bool
     ensures { result ≡ is_negative octets.now }
 {
@@ -44,7 +44,7 @@ pub fn has_sign(octets: &[u8]) -> bool
     }
 }
 
-// Whether the first octet is one of the sign alone: zero, or 255 in a negative number.
+/// Whether the first octet is one of the sign alone: zero, or 255 in a negative number.
 pub fn has_leading(negative: bool, octets: &[u8]) -> bool
     ensures { result ≡ is_leading negative octets.now }
 {
@@ -54,7 +54,7 @@ pub fn has_leading(negative: bool, octets: &[u8]) -> bool
     }
 }
 
-// The octets behind leading ones of the sign alone.
+/// The octets behind leading ones of the sign alone.
 pub fn without_leading(negative: bool, octets: &[u8]) -> &[u8]
     ensures same { unsigned_number (map (sign_free negative) result.now) ≡ unsigned_number (map (sign_free negative) octets.now) }
     ensures fewest { is_leading negative result.now ≡ false }
@@ -66,7 +66,7 @@ pub fn without_leading(negative: bool, octets: &[u8]) -> &[u8]
     rest
 }
 
-// Fewest octets of two's complement, without the octet that only shows that the number isn't negative.
+/// Fewest octets of two's complement without the zero octet in front, which only shows that the number is not negative.
 pub fn without_zero(octets: &[u8]) -> &[u8]
     ensures { result.now ≡ plain_octets octets.now }
 {
@@ -76,7 +76,7 @@ pub fn without_zero(octets: &[u8]) -> &[u8]
     }
 }
 
-// The number that at most sixteen octets stand for, each turned over if it is negative.
+/// The number that at most sixteen octets stand for, the highest first, each turned over if it is negative.
 pub fn magnitude(negative: bool, octets: &[u8]) -> u128
     requires { length octets.now ≤ 16 }
     ensures value { result ≡ unsigned_number (map (sign_free negative) octets.now) }
@@ -88,7 +88,7 @@ pub fn magnitude(negative: bool, octets: &[u8]) -> u128
     total
 }
 
-// How many binary digits a number has.
+/// How many binary digits a number has; zero has none.
 pub fn bit_count(number: u128) -> usize
     ensures value { result ≡ width number }
     ensures bound { result ≤ 128 }
@@ -96,7 +96,7 @@ pub fn bit_count(number: u128) -> usize
     128 - number.leading_zeros() as usize
 }
 
-// The last octets of a number, each turned over if it is negative, at the end of seventeen.
+/// The last `count` octets of a number, each turned over if it is negative, at the end of seventeen octets; those before them are zero.
 pub fn last_octets(negative: bool, number: u128, count: usize) -> [u8; 17]
     requires { count ≤ 17 }
     ensures { drop (17 - count) result ≡ map (sign_free negative) (digits 256 count number) }

@@ -1,5 +1,4 @@
 pub mod Kinds
 pub mod Hashes
 pub mod Conversions
-pub mod Constrained
 pub mod Texts

@@ -1,7 +1,8 @@
 //! Conversions from and to the native integer types.
-ghost use Rattle.std.specs.Prelude.{◌≡◌, ◌-◌, ◌^◌, ℤ, pos, true, false, is_some, is_ok, IfOk, IfErr, IfSome};
+ghost use Rattle.std.specs.Prelude.{◌≡◌, ◌-◌, ◌^◌, ℤ, pos, true, false, Some, is_some, is_ok, IfOk, IfErr, IfSome};
 ghost use Rattle.asn1_model.specs.Numbers.{is_within};
 ghost use Rattle.asn1_values_numbers.specs.Conversions.{IsNatural, IsWhole};
+ghost use Rattle.asn1_values_numbers.specs.Texts.{refusal_text};
 ghost use Rattle.asn1_values_natives.specs.Ranges.{range_of, natural_range, whole_range};
 
 use crate::integer::Integer;
@@ -25,8 +26,8 @@ impl Model for TryFromIntegerError {
 }
 
 impl TryFromIntegerError {
-    // The refusal of a number.
-    pub(crate) fn new(value: i128) -> TryFromIntegerError
+    /// The refusal of a number.
+    pub fn new(value: i128) -> TryFromIntegerError
         ensures { result ≡ value }
     {
         TryFromIntegerError {
@@ -43,6 +44,8 @@ impl TryFromIntegerError {
 }
 
 impl fmt::Display for TryFromIntegerError {
+    ghost output = { λ z. Some (refusal_text z) };
+
     fn fmt<W: fmt::Write>(&self, f: &mut fmt::Formatter<W>) -> fmt::Result {
         let original = &self.original;
         write!(f, "{original} is outside the range of its type")

@@ -3,7 +3,7 @@
 use thiserror::Error;
 
 /// Why octets are no number of the wanted type.
-#[derive(Clone, Copy, Debug, PartialEq, Eq, Drop, Error)]
+#[derive(Clone, Copy, Debug, PartialEq, Eq, Hash, Drop, Error)]
 pub enum IntegerError {
     /// A number has at least one octet (X.690 8.3.1).
     #[error("no octets")]

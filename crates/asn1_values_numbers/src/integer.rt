@@ -50,6 +50,20 @@ impl Integer {
         kind: IntegerKind::Primitive(1),
     };
 
+    /// The number zero: the constant `ZERO`.
+    pub fn zero() -> Integer
+        ensures { result ≡ pos 0 }
+    {
+        Integer::ZERO
+    }
+
+    /// The number one: the constant `ONE`.
+    pub fn one() -> Integer
+        ensures { result ≡ pos 1 }
+    {
+        Integer::ONE
+    }
+
     /// The number that 128 bits of two's complement hold.
     pub fn from_i128(value: i128) -> Integer
         ensures { result ≡ value }

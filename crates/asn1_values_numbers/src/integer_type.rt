@@ -1,17 +1,22 @@
 //! What the native integer types and `Integer` have in common.
-ghost use Rattle.std.specs.Prelude.{◌≡◌, ℕ, ◌<◌, ◌≤◌, ◌^◌, ◌↔◌, ℤ, pos, ◌+ℤ◌, Bool, false, true, length, IfOk, IsErrOf, ◌/◌, ◌-◌, None, refl};
+ghost use Rattle.std.specs.Prelude.{◌≡◌, ℕ, ◌<◌, ◌≤◌, ◌^◌, ◌↔◌, ℤ, pos, ◌+ℤ◌, Bool, false, true, length, IfOk, IsErrOf, ◌/◌, ◌-◌, None, Some, refl};
+ghost use Rattle.std.specs.Fmt.{signed_decimal};
+ghost use Rattle.std.specs.Ordering.{int_cmp};
 ghost use Rattle.asn1_model.specs.Schema.{Range};
 ghost use Rattle.asn1_model.specs.Numbers.{is_within};
 ghost use Rattle.asn1_values_natives.specs.Octets.{signed_number, unsigned_number, signed_octets_of, unsigned_octets_of, own_number, is_below_zero, plain};
-ghost use Rattle.asn1_values_natives.specs.Ranges.{range_of, wrapped};
+ghost use Rattle.asn1_values_natives.specs.Ranges.{range_of, range_of_width, whole_range, wrapped};
+ghost use Rattle.asn1_values_natives.proofs.RangeLaws.{width_range};
+ghost use Rattle.asn1_values_numbers.specs.Texts.{printed_in_decimal};
 
 use crate::error::IntegerError;
 use crate::integer::Integer;
 use asn1_values_natives::{IntegerBytes, NativeInteger, Wide};
 use std::alloc::Global;
+use std::fmt::{Debug, Display};
 
 /// A type of whole numbers: the native integer types and `Integer`.
-pub trait IntegerType: Sized {
+pub trait IntegerType: Sized + Debug + Default + Display + PartialOrd {
     /// How many bits it has; `u32::MAX` where nothing limits them.
     const WIDTH: u32;
 
@@ -108,6 +113,21 @@ pub trait IntegerType: Sized {
 
     // Zero is zero.
     ghost nothing: { value ZERO ≡ pos 0 };
+
+    // It is ordered as its numbers are.
+    ghost ordered: { (x y : Self) → Self.partial_cmp x y ≡ Some (int_cmp (value x) (value y)) };
+
+    // It is printed in decimal, an `Integer` where 128 bits hold it.
+    ghost printed: { (x : Self) → is_within (whole_range (2 ^ 127 - 1)) (value x) ≡ true → Self.output x ≡ Some (signed_decimal (value x)) };
+
+    // What it is where nothing is said is zero.
+    ghost default_zero: { (x : Self) → Self.is_default x → value x ≡ pos 0 };
+
+    // Its octets are those of its bits.
+    ghost octets: { BYTE_WIDTH ≡ WIDTH / 8 };
+
+    // It holds the numbers of its bits, and all numbers where nothing limits them.
+    ghost width: { held ≡ range_of_width signed WIDTH };
 }
 
 impl<T: NativeInteger> IntegerType for T {
@@ -140,6 +160,16 @@ impl<T: NativeInteger> IntegerType for T {
     ghost injective = { T.injective };
 
     ghost nothing = { T.nothing };
+
+    ghost ordered = { T.ordered };
+
+    ghost printed = { λ x e. T.printed x };
+
+    ghost default_zero = { T.default_zero };
+
+    ghost octets = { refl };
+
+    ghost width = { width_range T.SIGNED T.BITS T.greatest T.short T.width };
 
     fn try_from_bytes(alloc: Global, input: &[u8]) -> Result<T, IntegerError> {
         if T::SIGNED {
@@ -230,6 +260,16 @@ impl IntegerType for Integer {
     ghost injective = { λ x y e. e };
 
     ghost nothing = { refl };
+
+    ghost ordered = { λ x y. refl };
+
+    ghost printed = { printed_in_decimal };
+
+    ghost default_zero = { λ x e. e };
+
+    ghost octets = { refl };
+
+    ghost width = { refl };
 
     fn try_from_bytes(alloc: Global, input: &[u8]) -> Result<Integer, IntegerError> {
         Integer::from_signed_octets(alloc, input)

@@ -2,14 +2,13 @@
 #![tactic(auto)]
 
 mod compare;
-mod constrained;
 mod conversions;
 mod error;
 mod integer;
 mod integer_type;
+mod lent;
 mod text;
 
-pub use constrained::ConstrainedInteger;
 pub use conversions::TryFromIntegerError;
 pub use error::IntegerError;
 pub use integer::Integer;

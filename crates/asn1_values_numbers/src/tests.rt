@@ -267,27 +267,47 @@ fn long_integers(rt: HostRuntime) -> Result<(), Fail> {
     Ok(())
 }
 
+// Either the number of the octets, which is then copied, or want of memory and nothing else.
+fn is_read_or_refused(rt: &impl Abort, read: Result<Integer, IntegerError>, octets: &[u8]) -> bool {
+    let Ok(number) = read else {
+        return matches!(read, Err(IntegerError::Memory));
+    };
+    match number.clone() {
+        Ok(same) => assert!(rt; same == number),
+        Err(error) => assert_eq!(rt; error, IntegerError::Memory),
+    }
+    number.to_unsigned_bytes_be().as_slice() == octets
+}
+
 // Each refused request for memory gives want of memory, and nothing else.
 #[test]
-fn want_of_memory(rt: HostRuntime) -> Result<(), Fail> {
+fn want_of_memory(rt: HostRuntime) {
     let alloc = rt.alloc();
     let octets = [1; 20];
-    match Integer::from_signed_octets(alloc, &octets) {
-        Ok(number) => {
-            assert_eq!(rt; number.to_signed_bytes_be().as_slice(), octets.as_slice());
-            match number.clone() {
-                Ok(same) => assert!(rt; same == number),
-                Err(error) => assert_eq!(rt; error, IntegerError::Memory),
-            }
-            assert_eq!(rt; number.to_signed_bytes_be().as_slice(), octets.as_slice());
-        }
-        Err(error) => assert_eq!(rt; error, IntegerError::Memory),
-    }
+    assert!(rt; is_read_or_refused(&rt, Integer::from_signed_octets(alloc, &octets), &octets));
+    assert!(rt; is_read_or_refused(&rt, Integer::try_from_bytes(alloc, &octets), &octets));
+    assert!(rt; is_read_or_refused(&rt, Integer::try_from_signed_bytes(alloc, &octets), &octets));
     let octets = [0x80; 20];
-    match Integer::from_unsigned_octets(alloc, &octets) {
-        Ok(number) => assert_eq!(rt; number.to_unsigned_bytes_be().as_slice(), octets.as_slice()),
-        Err(error) => assert_eq!(rt; error, IntegerError::Memory),
-    }
+    assert!(rt; is_read_or_refused(&rt, Integer::from_unsigned_octets(alloc, &octets), &octets));
+    assert!(rt;
+        is_read_or_refused(
+            &rt,
+            Integer::try_from_unsigned_bytes(alloc, &octets),
+            &octets
+        )
+    );
+}
+
+// What takes no memory succeeds also where each request for it is refused.
+#[test]
+fn small_numbers_take_no_memory(rt: HostRuntime) -> Result<(), Fail> {
+    let alloc = rt.alloc();
+    let number = Integer::from_signed_octets(alloc, &GREATEST_UNSIGNED)?;
+    assert!(rt; number.clone()? == Integer::from(u128::MAX));
+    assert!(rt; Integer::from_unsigned_octets(alloc, &GREATEST_UNSIGNED)? == number);
+    assert_eq!(rt; u64::try_from_bytes(alloc, &[0, 0, 7])?, 7);
+    assert_eq!(rt; i8::try_from_signed_bytes(alloc, &[0x80])?, -128);
+    assert_eq!(rt; u8::try_from_unsigned_bytes(alloc, &[0x80])?, 128);
     Ok(())
 }
 
@@ -368,14 +388,67 @@ fn sums_and_differences(rt: HostRuntime) {
     assert!(rt; difference.is_some_and(|difference| difference == Integer::from(-1i8)));
 }
 
-const LEAST: i64 = -5;
+#[test]
+fn lent_numbers_are_converted(rt: HostRuntime) {
+    let number = Integer::from(200u8);
+    let overflow = Some(IntegerError::Overflow);
+    assert_eq!(rt; u8::try_from(&number).ok(), Some(200));
+    assert_eq!(rt; u16::try_from(&number).ok(), Some(200));
+    assert_eq!(rt; u32::try_from(&number).ok(), Some(200));
+    assert_eq!(rt; u64::try_from(&number).ok(), Some(200));
+    assert_eq!(rt; u128::try_from(&number).ok(), Some(200));
+    assert_eq!(rt; usize::try_from(&number).ok(), Some(200));
+    assert_eq!(rt; i8::try_from(&number).err(), overflow);
+    assert_eq!(rt; i16::try_from(&number).ok(), Some(200));
+    assert_eq!(rt; i32::try_from(&number).ok(), Some(200));
+    assert_eq!(rt; i64::try_from(&number).ok(), Some(200));
+    assert_eq!(rt; i128::try_from(&number).ok(), Some(200));
+    assert_eq!(rt; isize::try_from(&number).ok(), Some(200));
+    assert_eq!(rt; u8::try_from(&Integer::from(-1i8)).err(), overflow);
+}
 
-type Small = ConstrainedInteger<LEAST, 5>;
+// What a generic caller knows of a type of numbers.
+fn described<T: IntegerType + Drop>(alloc: Global, number: T) -> Result<String, Fail> {
+    let text = format!(in alloc; "{number} {number:?} {} {}", T::default() < number, T::ZERO)?;
+    Ok(text)
+}
 
 #[test]
-fn constrained_integers(rt: HostRuntime) {
-    assert!(rt; Small::try_from(5i32).is_ok_and(|five| five.to_i64() == Some(5)));
-    assert!(rt; Small::try_from(-5i64).is_ok());
-    assert!(rt; Small::try_from(6isize).is_err());
-    assert!(rt; Small::try_from(-6i128).is_err());
+fn types_of_numbers_are_shown_and_compared(rt: HostRuntime) -> Result<(), Fail> {
+    let alloc = rt.alloc();
+    assert_eq!(rt; described(alloc, -3i8)?.as_str(), "-3 -3 false 0");
+    assert_eq!(rt;
+        described(alloc, u128::MAX)?.as_str(),
+        "340282366920938463463374607431768211455 340282366920938463463374607431768211455 true 0"
+    );
+    assert_eq!(rt;
+        described(alloc, Integer::one())?.as_str(),
+        "1 Integer { kind: Primitive(1) } true 0"
+    );
+    assert!(rt; Integer::zero() == Integer::ZERO && Integer::one() == Integer::ONE);
+    Ok(())
+}
+
+#[test]
+fn refusals_are_shown(rt: HostRuntime) -> Result<(), Fail> {
+    let alloc = rt.alloc();
+    let shown = format!(in alloc;
+        "{}; {}; {}; {:?}",
+        IntegerError::Empty,
+        IntegerError::Overflow,
+        IntegerError::Memory,
+        IntegerError::Overflow
+    )?;
+    assert_eq!(rt;
+        shown.as_str(),
+        "no octets; the number is outside the range of its type; out of memory; Overflow"
+    );
+    let Err(refusal) = u8::try_from(Integer::from(256u16)) else {
+        return Err("256 is no u8".into());
+    };
+    assert_eq!(rt;
+        format!(in alloc; "{refusal:?}")?.as_str(),
+        "TryFromIntegerError { original: Integer { kind: Primitive(256) } }"
+    );
+    Ok(())
 }

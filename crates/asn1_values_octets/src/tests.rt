@@ -198,13 +198,34 @@ fn wrong_lengths_are_shown(rt: HostRuntime) -> Result<(), Fail> {
     Ok(())
 }
 
-/// A request for memory is granted, and then the octets are these, or refused.
+/// Each request for memory is granted, and then the octets are these, or refused; what is lent stays as it was.
 #[test]
-fn copies_are_whole_or_refused(rt: HostRuntime) {
-    if let Ok(value) = OctetString::from_slice(rt.alloc(), &OCTETS) {
+fn want_of_memory(rt: HostRuntime) {
+    let alloc = rt.alloc();
+    if let Ok(value) = OctetString::from_array(alloc, OCTETS) {
         assert_eq!(rt; value.as_slice(), OCTETS.as_slice());
     }
-    if let Ok(vector) = FixedOctetString::new(OCTETS).to_vec(rt.alloc()) {
+    if let Ok(value) = OctetString::from_slice(alloc, &OCTETS) {
+        assert_eq!(rt; value.as_slice(), OCTETS.as_slice());
+        if let Ok(vector) = value.to_vec(alloc) {
+            assert_eq!(rt; vector.as_slice(), OCTETS.as_slice());
+        }
+        if let Ok(copy) = value.clone() {
+            assert!(rt; copy == value);
+            // The clone shares its octets, so that they are copied.
+            if let Ok(vector) = copy.into_vec(alloc) {
+                assert_eq!(rt; vector.as_slice(), OCTETS.as_slice());
+            }
+        }
+        if let Ok(octets) = Bytes::try_from(&value) {
+            assert_eq!(rt; octets.as_slice(), OCTETS.as_slice());
+            if let Ok(same) = OctetString::try_from(&octets) {
+                assert!(rt; same == value);
+            }
+        }
+        assert_eq!(rt; value.as_slice(), OCTETS.as_slice());
+    }
+    if let Ok(vector) = FixedOctetString::new(OCTETS).to_vec(alloc) {
         assert_eq!(rt; vector.as_slice(), OCTETS.as_slice());
     }
 }
@@ -216,6 +237,12 @@ fn refused_vectors_are_handed_back(rt: HostRuntime) {
         match OctetString::from_vec(vector) {
             Ok(moved) => assert_eq!(rt; moved.as_slice(), OCTETS.as_slice()),
             Err(refused) => assert_eq!(rt; refused.value.as_slice(), OCTETS.as_slice()),
+        }
+    }
+    if let Ok(vector) = OCTETS.to_vec(rt.alloc()) {
+        match FixedOctetString::<2>::try_from(vector) {
+            Ok(_) => assert!(rt; false),
+            Err(refused) => assert_eq!(rt; refused.as_slice(), OCTETS.as_slice()),
         }
     }
 }

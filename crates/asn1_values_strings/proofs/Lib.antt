@@ -1,2 +1,0 @@
-pub mod Permitted
-pub mod Bits

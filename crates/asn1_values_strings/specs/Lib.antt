@@ -1,2 +1,2 @@
-pub mod Alphabets
+pub mod Bits
 pub mod Octets

@@ -1,6 +1,6 @@
 ghost use Rattle.std.specs.Prelude.{◌≡◌, ◌<◌, ℕ, List, true};
 ghost use Rattle.asn1_model.specs.Schema.{StringKind, numeric, printable, visible, ia5, general, graphic, teletex};
-ghost use Rattle.asn1_values_strings.specs.Alphabets.{permits, permits_all};
+ghost use Rattle.asn1_values_alphabets.specs.Permitted.{permits, permits_all};
 ghost use Rattle.asn1_values_strings.specs.Octets.{octet_among, ascii_among};
 ghost use Rattle.asn1_model.specs.Strings.{characters_of, may_hold};
 ghost use Rattle.std.specs.Prelude.{refl};

@@ -1,16 +1,12 @@
-//! The restricted character strings (X.680 41).
+//! The restricted character strings whose characters are octets (X.680 41).
 #![tactic(auto)]
 
-pub mod alphabet;
-pub mod bmp;
 pub mod characters;
 pub mod kinds;
 pub mod restricted;
 mod text;
 
-pub use alphabet::StaticPermittedAlphabet;
-pub use bmp::BmpString;
-pub use characters::{BmpCharacters, Characters};
+pub use characters::Characters;
 pub use kinds::{
     CharacterKind, General, Graphic, Ia5, Numeric, Printable, Teletex, TextKind, Visible,
 };

@@ -1,4 +1,4 @@
-ghost use Rattle.std.specs.Prelude.{◌≡◌, ◌<◌, ◌^◌, ℕ, [], ◌∷◌, ◌++◌, length, Some, refl, nat_eq, ◌↔◌, IsTrue, IfOk, IfErr, OnOk, OnErr, MatchResult};
+ghost use Rattle.std.specs.Prelude.{◌≡◌, ◌<◌, ◌^◌, ℕ, [], ◌∷◌, ◌++◌, length, Some, refl, nat_eq, ◌↔◌, IsTrue, IfOk, IfErr, OnOk, OnErr, MatchResult, string_bytes};
 ghost use Rattle.std.specs.Ordering.{nat_cmp};
 ghost use Rattle.std.specs.Hash as fed;
 ghost use Rattle.std.specs.Cmp.Lexicographic.{pointwise, slice_cmp, nat_list_eq_equiv, nat_list_cmp_total, texts_ties, texts_po};
@@ -7,18 +7,21 @@ ghost use Rattle.std.specs.Cmp.Rules.{hashing};
 ghost use Rattle.std.specs.Str.{chars};
 ghost use Rattle.std.proofs.Common.{rules};
 ghost use Rattle.asn1_model.specs.Numbers.{octet_bits};
-ghost use Rattle.asn1_values_strings.specs.Alphabets.{first_refused, permits, permits_all, IsRefusalOf, IsRefusalOfBits};
+ghost use Rattle.asn1_values_alphabets.specs.Permitted.{first_refused, permits, permits_all, IsOutside, IsRefusalOf};
+ghost use Rattle.asn1_values_strings.specs.Bits.{IsRefusalOfBits};
 ghost use Rattle.asn1_values_alphabets.specs.declared.error.PermittedAlphabetError.TheVariants.{InvalidRestrictedString as outside};
 
-use crate::alphabet::{StaticPermittedAlphabet, string_of_text};
 use crate::characters::Characters;
 use crate::kinds::CharacterKind;
-use asn1_values_alphabets::PermittedAlphabetError;
-use asn1_values_bits::BitString;
+use asn1_values_alphabets::{
+    InvalidRestrictedString, PermittedAlphabetError, StaticPermittedAlphabet, string_of_text,
+};
+use asn1_values_bit_strings::BitString;
 use asn1_values_octets::OctetString;
 use std::alloc::{AllocError, Global};
 use std::cmp::Ordering;
 use std::convert::AsSlice;
+use std::default::MadeWith;
 use std::fmt;
 use std::hash::{Hash, Hasher};
 use std::marker::{Model, PhantomData};
@@ -35,7 +38,7 @@ pub struct RestrictedString<K: CharacterKind> {
 
 impl<K: CharacterKind> Model for RestrictedString<K> {
     ghost use Rattle.std.specs.Prelude.{List, ℕ, IsTrue};
-    ghost use Rattle.asn1_values_strings.specs.Alphabets.{permits_all};
+    ghost use Rattle.asn1_values_alphabets.specs.Permitted.{permits_all};
 
     ghost Value = { List ℕ };
 
@@ -78,28 +81,23 @@ impl<K: CharacterKind> RestrictedString<K> {
         string_of_text(alloc, text)
     }
 
-    /// The string of these octets as characters.
+    /// The string of these octets as characters. Where no clone shares the octets, they are not copied.
     pub fn from_octet_string(
         alloc: Global,
-        octets: &OctetString,
+        octets: OctetString,
     ) -> Result<Self, PermittedAlphabetError>
-        ensures characters { IfOk result (λ s. s ≡ octets.now) }
-        ensures permitted { OnOk result (IsTrue (permits_all K.kind octets.now)) }
-        ensures refused { IfErr result (IsRefusalOf K.kind K.refused octets.now) }
+        ensures characters { IfOk result (λ s. s ≡ octets) }
+        ensures permitted { OnOk result (IsTrue (permits_all K.kind octets)) }
+        ensures refused { IfErr result (IsRefusalOf K.kind K.refused octets) }
     {
-        RestrictedString::from_bytes(alloc, octets.as_slice())
-    }
-
-    /// The string of these bits as characters of eight. Bits that are no whole octets are refused.
-    pub fn from_bit_string(alloc: Global, bits: &BitString) -> Result<Self, PermittedAlphabetError>
-        ensures characters { IfOk result (λ s. octet_bits s ≡ bits.now) }
-        ensures permitted { IfOk result (λ s. IsTrue (permits_all K.kind s)) }
-        ensures refused { IfErr result (IsRefusalOfBits K.kind K.refused bits.now) }
-    {
-        if bits.len() % 8 > 0 {
-            return Err(PermittedAlphabetError::InvalidData);
-        }
-        RestrictedString::from_bytes(alloc, bits.as_bytes())
+        ensure_permitted::<K>(octets.as_slice())?;
+        let octets = octets
+            .into_vec(alloc)
+            .map_err(PermittedAlphabetError::Memory)?;
+        Ok(RestrictedString {
+            octets,
+            kind: PhantomData,
+        })
     }
 
     /// The characters, each one octet.
@@ -165,10 +163,11 @@ impl<K: CharacterKind> RestrictedString<K> {
     }
 }
 
+/// The octets are not copied.
 impl<K: CharacterKind> TryFrom<Vec<u8>> for RestrictedString<K> {
     type Error = PermittedAlphabetError;
 
-    ghost try_from_gives = { λ v r. MatchResult r (λ s. (s ≡ v.items) × IsTrue (permits_all K.kind v.items)) (IsRefusalOf K.kind K.refused v.items) };
+    ghost try_from_gives = { λ v r. MatchResult r (λ s. (s ≡ v.items) × IsTrue (permits_all K.kind v.items)) (IsOutside K.kind K.refused v.items) };
 
     fn try_from(octets: Vec<u8>) -> Result<Self, PermittedAlphabetError> {
         ensure_permitted::<K>(&octets)?;
@@ -176,6 +175,46 @@ impl<K: CharacterKind> TryFrom<Vec<u8>> for RestrictedString<K> {
             octets,
             kind: PhantomData,
         })
+    }
+}
+
+/// The bits as characters of eight; their octets are not copied. Bits that are no whole octets are refused.
+impl<K: CharacterKind> TryFrom<BitString> for RestrictedString<K> {
+    type Error = PermittedAlphabetError;
+
+    ghost try_from_gives = { λ bits r. MatchResult r (λ s. (octet_bits s ≡ bits) × IsTrue (permits_all K.kind s)) (IsRefusalOfBits K.kind K.refused bits) };
+
+    fn try_from(bits: BitString) -> Result<Self, PermittedAlphabetError> {
+        if bits.len() % 8 > 0 {
+            return Err(PermittedAlphabetError::InvalidData);
+        }
+        let string = RestrictedString::try_from(bits.into_buffer().into_vec())?;
+        Ok(string)
+    }
+}
+
+/// Where the characters are those of ASCII, they are not copied; others are, within the memory that the text's
+/// own comes from.
+impl<K: CharacterKind> TryFrom<String> for RestrictedString<K> {
+    type Error = PermittedAlphabetError;
+
+    ghost try_from_gives = { λ text r. MatchResult r (λ s. (s ≡ chars (string_bytes text)) × IsTrue (permits_all K.kind (chars (string_bytes text)))) (IsRefusalOf K.kind K.refused (chars (string_bytes text))) };
+
+    fn try_from(text: String) -> Result<Self, PermittedAlphabetError> {
+        if !text.as_str().is_ascii() {
+            return string_of_text(*text.allocator(), text.as_str());
+        }
+        let string = RestrictedString::try_from(text.into_bytes())?;
+        Ok(string)
+    }
+}
+
+/// The string of no characters, in the place of `Default`, which has no allocator.
+impl<K: CharacterKind> MadeWith<Global> for RestrictedString<K> {
+    ghost is_made_with = { λ s. s ≡ [] };
+
+    fn made_with(alloc: Global) -> Self {
+        RestrictedString::new(alloc)
     }
 }
 
@@ -275,8 +314,19 @@ impl<K: CharacterKind> StaticPermittedAlphabet for RestrictedString<K> {
         RestrictedString::new(alloc)
     }
 
+    fn with_capacity(alloc: Global, count: usize) -> Result<Self, AllocError> {
+        Ok(RestrictedString {
+            octets: Vec::with_capacity(alloc, count)?,
+            kind: PhantomData,
+        })
+    }
+
     fn contains_char(character: u32) -> bool {
         K::permits(character)
+    }
+
+    fn refuse(character: u32) -> InvalidRestrictedString {
+        K::refuse(character)
     }
 
     fn push_char(&mut self, character: u32) -> Result<(), PermittedAlphabetError> {
@@ -295,7 +345,7 @@ impl<K: CharacterKind> StaticPermittedAlphabet for RestrictedString<K> {
 /// Refuses octets that a string of the kind may not hold, by the first such one.
 fn ensure_permitted<K: CharacterKind>(octets: &[u8]) -> Result<(), PermittedAlphabetError>
     ensures permitted { OnOk result (IsTrue (permits_all K.kind octets.now)) }
-    ensures refused { IfErr result (IsRefusalOf K.kind K.refused octets.now) }
+    ensures refused { IfErr result (IsOutside K.kind K.refused octets.now) }
 {
     match first_refused::<K>(octets) {
         Some(character) => Err(PermittedAlphabetError::InvalidRestrictedString(K::refuse(

@@ -1,13 +1,18 @@
+//! What no clause says: that each call can succeed, what is shown, and what stands after a refused request for memory.
 use crate::{
-    BmpString, CharacterKind, General, GeneralString, Graphic, GraphicString, Ia5, Ia5String,
-    Numeric, NumericString, Printable, PrintableString, RestrictedString, StaticPermittedAlphabet,
-    Teletex, TeletexString, Visible, VisibleString,
+    CharacterKind, General, GeneralString, Graphic, GraphicString, Ia5, Ia5String, Numeric,
+    NumericString, Printable, PrintableString, RestrictedString, Teletex, TeletexString, Visible,
+    VisibleString,
 };
-use asn1_values_alphabets::{InvalidRestrictedString, PermittedAlphabetError};
-use asn1_values_bits::BitString;
+use asn1_values_alphabets::{
+    InvalidRestrictedString, PermittedAlphabetError, StaticPermittedAlphabet,
+};
+use asn1_values_bit_strings::BitString;
 use asn1_values_octets::OctetString;
 use std::alloc::{AllocError, Global};
 use std::convert::AsSlice;
+use std::default::MadeWith;
+use std::hash::{BuildHasher, BuildHasherDefault, DefaultHasher};
 use std::test::Fail;
 
 /// The octets that a kind of string permits, from its alphabet in X.680.
@@ -37,8 +42,6 @@ fn alphabets(rt: HostRuntime) {
     assert!(rt; permits_range::<General>(0, 255));
     assert!(rt; permits_range::<Graphic>(0, 255));
     assert!(rt; permits_range::<Teletex>(0, 255));
-    assert!(rt; BmpString::contains_char(65535));
-    assert!(rt; !BmpString::contains_char(65536));
 }
 
 /// The character by which a string was refused.
@@ -106,6 +109,26 @@ fn strings_of_octets(rt: HostRuntime) {
     assert!(rt; is_refused::<Ia5>(rt.alloc(), &[127, 128], 128));
 }
 
+/// Whether strings of a kind take these two characters, and refuse each of the others by itself.
+fn has_bounds<K: CharacterKind>(alloc: Global, permitted: [u8; 2], outside: &[u32]) -> bool {
+    is_made::<K>(alloc, permitted.as_slice())
+        && outside.iter().all(|character| refusal(RestrictedString::<K>::new(alloc).push_char(
+            *character,
+        )) == Some(*character))
+}
+
+#[test]
+fn bounds_of_alphabets(rt: HostRuntime) {
+    let alloc = rt.alloc();
+    assert!(rt; has_bounds::<Numeric>(alloc, [32, 57], &[31, 33, 47, 58]));
+    assert!(rt; has_bounds::<Printable>(alloc, [32, 122], &[31, 33, 42, 64, 91, 96, 123]));
+    assert!(rt; has_bounds::<Visible>(alloc, [32, 126], &[31, 127]));
+    assert!(rt; has_bounds::<Ia5>(alloc, [0, 127], &[128]));
+    assert!(rt; has_bounds::<General>(alloc, [0, 255], &[256]));
+    assert!(rt; has_bounds::<Graphic>(alloc, [0, 255], &[256]));
+    assert!(rt; has_bounds::<Teletex>(alloc, [0, 255], &[256]));
+}
+
 #[test]
 fn strings_of_texts(rt: HostRuntime) -> Result<(), Fail> {
     let string = settled(|| Ia5String::from_text(rt.alloc(), "Jo"))?;
@@ -115,10 +138,34 @@ fn strings_of_texts(rt: HostRuntime) -> Result<(), Fail> {
     assert_eq!(rt; string.as_bytes(), [233].as_slice());
     let refused = settled(|| VisibleString::from_text(rt.alloc(), "a\u{E9}b\u{FF}"));
     assert_eq!(rt; refusal(refused), Some(233));
-    let string = settled(|| BmpString::from_text(rt.alloc(), "A\u{20AC}"))?;
-    assert_eq!(rt; string.as_units(), [0x41, 0x20AC].as_slice());
-    let refused = settled(|| BmpString::from_text(rt.alloc(), "A\u{1F600}"));
-    assert_eq!(rt; refusal(refused), Some(0x1F600));
+    let refused = settled(|| GeneralString::from_text(rt.alloc(), "a\u{100}"));
+    assert_eq!(rt; refusal(refused), Some(256));
+    Ok(())
+}
+
+/// The string of a text that is given up.
+fn of_string<K: CharacterKind>(
+    alloc: Global,
+    text: &str,
+) -> Result<RestrictedString<K>, PermittedAlphabetError> {
+    let text = String::from_str(alloc, text).map_err(PermittedAlphabetError::Memory)?;
+    RestrictedString::try_from(text)
+}
+
+#[test]
+fn strings_of_owned_texts(rt: HostRuntime) -> Result<(), Fail> {
+    let string = settled(|| of_string::<Printable>(rt.alloc(), "Jo"))?;
+    assert_eq!(rt; string.as_bytes(), b"Jo".as_slice());
+    let string = settled(|| of_string::<Graphic>(rt.alloc(), "a\u{E9}"))?;
+    assert_eq!(rt; string.as_bytes(), [97, 233].as_slice());
+    assert_eq!(rt;
+        refusal(settled(|| of_string::<Numeric>(rt.alloc(), "1a"))),
+        Some(97)
+    );
+    assert_eq!(rt;
+        refusal(settled(|| of_string::<Ia5>(rt.alloc(), "1\u{E9}"))),
+        Some(233)
+    );
     Ok(())
 }
 
@@ -128,8 +175,8 @@ fn others(alloc: Global, octets: &[u8]) -> Result<[NumericString; 3], PermittedA
     let bits = BitString::from_slice(alloc, octets).map_err(PermittedAlphabetError::Memory)?;
     let vector = Vec::from_slice(alloc, octets).map_err(PermittedAlphabetError::Memory)?;
     Ok([
-        NumericString::from_octet_string(alloc, &shared)?,
-        NumericString::from_bit_string(alloc, &bits)?,
+        NumericString::from_octet_string(alloc, shared)?,
+        NumericString::try_from(bits)?,
         NumericString::try_from(vector)?,
     ])
 }
@@ -144,64 +191,21 @@ fn strings_of_others(rt: HostRuntime) -> Result<(), Fail> {
     Ok(())
 }
 
-/// The strings of so many zero bits.
-fn of_zeros<T: Drop, F: Fn(&BitString) -> Result<T, PermittedAlphabetError>>(
-    alloc: Global,
-    len: usize,
-    make: F,
-) -> Result<T, PermittedAlphabetError>
-    requires { F.IsAlwaysCallable make }
-{
+/// The string of so many zero bits.
+fn of_zeros(alloc: Global, len: usize) -> Result<Ia5String, PermittedAlphabetError> {
     let mut bits = BitString::new(alloc);
     for _ in 0..len {
         bits.push(false).map_err(PermittedAlphabetError::Memory)?;
     }
-    make(&bits)
+    Ia5String::try_from(bits)
 }
 
 #[test]
 fn bits_as_characters(rt: HostRuntime) -> Result<(), Fail> {
-    let partly = settled(|| of_zeros(
-        rt.alloc(),
-        9,
-        |bits| Ia5String::from_bit_string(rt.alloc(), bits),
-    ));
+    let partly = settled(|| of_zeros(rt.alloc(), 9));
     assert!(rt; matches!(partly, Err(PermittedAlphabetError::InvalidData)));
-    let partly = settled(|| of_zeros(
-        rt.alloc(),
-        24,
-        |bits| BmpString::from_bit_string(rt.alloc(), bits),
-    ));
-    assert!(rt; matches!(partly, Err(PermittedAlphabetError::InvalidData)));
-    let whole = settled(|| of_zeros(
-        rt.alloc(),
-        16,
-        |bits| BmpString::from_bit_string(rt.alloc(), bits),
-    ))?;
-    assert_eq!(rt; whole.as_units(), [0].as_slice());
-    Ok(())
-}
-
-#[test]
-fn bmp_strings_of_octets(rt: HostRuntime) -> Result<(), Fail> {
-    let string = settled(|| BmpString::from_bytes(rt.alloc(), &[0x00, 0x41, 0x20, 0xAC]))?;
-    assert_eq!(rt; string.as_units(), [0x41, 0x20AC].as_slice());
-    let octets = settled(|| string
-        .to_bytes(rt.alloc())
-        .map_err(PermittedAlphabetError::Memory))?;
-    assert_eq!(rt; octets.as_slice(), [0x00, 0x41, 0x20, 0xAC].as_slice());
-    let mut characters = string.chars();
-    assert_eq!(rt; characters.next(), Some(0x41));
-    assert_eq!(rt; characters.next(), Some(0x20AC));
-    assert_eq!(rt; characters.next(), None);
-    assert_eq!(rt; characters.next(), None);
-    let odd = settled(|| BmpString::from_bytes(rt.alloc(), &[0x00, 0x41, 0x20]));
-    assert!(rt; matches!(odd, Err(PermittedAlphabetError::InvalidData)));
-    let octets = settled(|| OctetString::from_slice(rt.alloc(), &[0x00, 0x41]).map_err(
-        PermittedAlphabetError::Memory,
-    ))?;
-    let string = settled(|| BmpString::from_octet_string(rt.alloc(), &octets))?;
-    assert_eq!(rt; string.into_vec().as_slice(), [0x41].as_slice());
+    let whole = settled(|| of_zeros(rt.alloc(), 16))?;
+    assert_eq!(rt; whole.as_bytes(), [0, 0].as_slice());
     Ok(())
 }
 
@@ -221,11 +225,6 @@ fn pushed_characters(rt: HostRuntime) {
     assert!(rt; !is_pushed(&mut string, 0x131));
     assert!(rt; is_pushed(&mut string, 0x32));
     assert_eq!(rt; string.as_bytes(), b"12".as_slice());
-    let mut wide = BmpString::new(rt.alloc());
-    assert!(rt; is_pushed(&mut wide, 0xFFFF));
-    assert!(rt; !is_pushed(&mut wide, 0x10000));
-    assert_eq!(rt; wide.as_units(), [0xFFFF].as_slice());
-    assert_eq!(rt; refusal(wide.push_char(0x10000)), Some(0x10000));
 }
 
 /// The characters of a string that is asked for them one by one.
@@ -259,26 +258,49 @@ fn characters_of_strings(rt: HostRuntime) -> Result<(), Fail> {
         .map_err(PermittedAlphabetError::Memory))?;
     assert_eq!(rt; octets.as_slice(), b"Ab".as_slice());
     assert_eq!(rt; string.into_vec().as_slice(), b"Ab".as_slice());
+    Ok(())
+}
+
+/// The value that a type makes with an allocator, by the trait alone.
+fn made<S: MadeWith<Global>>(alloc: Global) -> S {
+    S::made_with(alloc)
+}
+
+#[test]
+fn empty_strings(rt: HostRuntime) -> Result<(), Fail> {
     let empty: GeneralString = StaticPermittedAlphabet::empty(rt.alloc());
     assert_eq!(rt; empty.char_count(), 0);
+    assert_eq!(rt; empty.chars().next(), None);
+    assert!(rt; made::<GeneralString>(rt.alloc()) == empty);
+    let roomy = settled(
+        || <GeneralString as StaticPermittedAlphabet>::with_capacity(rt.alloc(), 4).map_err(
+            PermittedAlphabetError::Memory,
+        ),
+    )?;
+    assert!(rt; roomy.is_empty());
     Ok(())
+}
+
+/// Whether two values are ordered so, by the traits alone.
+fn is_before<T: Ord>(first: &T, second: &T) -> bool {
+    first < second && first != second
 }
 
 #[test]
 fn copies_and_comparisons(rt: HostRuntime) -> Result<(), Fail> {
     let small = settled(|| GraphicString::from_bytes(rt.alloc(), &[1, 2]))?;
     let large = settled(|| GraphicString::from_bytes(rt.alloc(), &[1, 3]))?;
-    assert!(rt; small < large);
-    assert!(rt; small != large);
+    let short = settled(|| GraphicString::from_bytes(rt.alloc(), &[2]))?;
+    assert!(rt; is_before(&small, &large));
+    assert!(rt; is_before(&large, &short));
     let copy = settled(|| small.clone().map_err(PermittedAlphabetError::Memory))?;
     assert!(rt; copy == small);
-    let wide = settled(|| BmpString::from_text(rt.alloc(), "A"))?;
-    let copy = settled(|| wide.clone().map_err(PermittedAlphabetError::Memory))?;
-    assert!(rt; copy == wide);
-    assert_eq!(rt; copy.len(), 1);
-    let none = BmpString::from(Vec::new(rt.alloc()));
-    assert!(rt; none.is_empty());
-    assert!(rt; none < wide);
+    let hashing = BuildHasherDefault::<DefaultHasher>::new();
+    assert_eq!(rt; hashing.hash_one(&copy), hashing.hash_one(&small));
+    assert_eq!(rt;
+        hashing.hash_one(&copy),
+        hashing.hash_one([1u8, 2].as_slice())
+    );
     Ok(())
 }
 
@@ -286,21 +308,54 @@ fn copies_and_comparisons(rt: HostRuntime) -> Result<(), Fail> {
 fn texts_of_strings(rt: HostRuntime) -> Result<(), Fail> {
     let string = settled(|| VisibleString::from_iso646_bytes(rt.alloc(), b"Jo"))?;
     assert_eq!(rt; string.as_str(), "Jo");
-    if let Ok(text) = format!(in rt.alloc(); "{string} {string:?}") {
-        assert_eq!(rt; text.as_str(), "Jo VisibleString([74, 111])");
+    if let Ok(text) = format!(in rt.alloc(); "{string} {string:>4} {string:?}") {
+        assert_eq!(rt; text.as_str(), "Jo   Jo VisibleString([74, 111])");
     }
     assert_eq!(rt; String::from(string).as_str(), "Jo");
+    Ok(())
+}
+
+#[test]
+fn octets_of_strings(rt: HostRuntime) -> Result<(), Fail> {
     let string = settled(|| Ia5String::from_iso646_bytes(rt.alloc(), b"Jo"))?;
-    let octets = match OctetString::try_from(string) {
-        Ok(octets) => octets,
-        Err(error) => settled(|| OctetString::from_slice(rt.alloc(), &error.value).map_err(
-            PermittedAlphabetError::Memory,
-        ))?,
-    };
-    assert_eq!(rt; octets.as_slice(), b"Jo".as_slice());
-    let string = settled(|| BmpString::from_text(rt.alloc(), "A"))?;
-    if let Ok(text) = format!(in rt.alloc(); "{string:?}") {
-        assert_eq!(rt; text.as_str(), "BMPString([65])");
+    match OctetString::try_from(string) {
+        Ok(octets) => assert_eq!(rt; octets.as_slice(), b"Jo".as_slice()),
+        Err(refused) => assert_eq!(rt; refused.value.as_slice(), b"Jo".as_slice()),
+    }
+    Ok(())
+}
+
+/// Whether a call made the string of these octets, or found no memory.
+fn is_whole_or_refused<K: CharacterKind>(
+    answer: Result<RestrictedString<K>, PermittedAlphabetError>,
+    octets: &[u8],
+) -> bool {
+    match answer {
+        Ok(string) => string.as_bytes() == octets,
+        Err(error) => matches!(error, PermittedAlphabetError::Memory(_)),
+    }
+}
+
+/// Each request for memory is granted, and then the answer is the whole one, or refused.
+#[test]
+fn want_of_memory(rt: HostRuntime) -> Result<(), Fail> {
+    let alloc = rt.alloc();
+    assert!(rt; is_whole_or_refused(NumericString::from_bytes(alloc, b"12"), b"12"));
+    assert!(rt; is_whole_or_refused(Ia5String::from_iso646_bytes(alloc, b"Jo"), b"Jo"));
+    assert!(rt; is_whole_or_refused(TeletexString::from_text(alloc, "\u{E9}"), &[233]));
+    assert!(rt; is_whole_or_refused(of_string::<Graphic>(alloc, "\u{E9}a"), &[233, 97]));
+    let octets = OctetString::from_static(b"12");
+    assert!(rt; is_whole_or_refused(NumericString::from_octet_string(alloc, octets), b"12"));
+    assert!(rt; is_whole_or_refused(of_zeros(alloc, 8), &[0]));
+    let mut string = NumericString::new(alloc);
+    match string.push_char(0x31) {
+        Ok(()) => assert_eq!(rt; string.as_bytes(), b"1".as_slice()),
+        Err(_) => assert!(rt; string.is_empty()),
+    }
+    let copied = string.clone().map_err(PermittedAlphabetError::Memory);
+    assert!(rt; is_whole_or_refused(copied, string.as_bytes()));
+    if let Ok(octets) = string.to_bytes(alloc) {
+        assert_eq!(rt; octets.as_slice(), string.as_bytes());
     }
     Ok(())
 }

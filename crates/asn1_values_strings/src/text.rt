@@ -1,5 +1,6 @@
-ghost use Rattle.std.specs.Prelude.{◌≡◌, string_bytes, IsTrue, IfOk, IfErr, OnOk, MatchResult};
-ghost use Rattle.asn1_values_strings.specs.Alphabets.{permits_all, IsRefusalOf};
+ghost use Rattle.std.specs.Prelude.{◌≡◌, Some, string_bytes, IsTrue, IfOk, IfErr, OnOk, MatchResult};
+ghost use Rattle.std.specs.Fmt.{styled_text};
+ghost use Rattle.asn1_values_alphabets.specs.Permitted.{permits_all, IsRefusalOf};
 
 use crate::kinds::TextKind;
 use crate::restricted::RestrictedString;
@@ -34,7 +35,12 @@ impl<K: TextKind> RestrictedString<K> {
     }
 }
 
+/// Shown as its characters, cut and filled as a text is.
 impl<K: TextKind> fmt::Display for RestrictedString<K> {
+    ghost output = { λ s. Some s };
+
+    ghost styled_output = { λ s spec. Some (styled_text spec s) };
+
     fn fmt<W: fmt::Write>(&self, f: &mut fmt::Formatter<W>) -> fmt::Result {
         f.pad(self.as_str())
     }

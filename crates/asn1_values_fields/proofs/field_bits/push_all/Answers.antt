@@ -1,6 +1,6 @@
 use Rattle.std.proofs.Common.{◌+◌, suc, ◌∷◌, drop, ap, sym, ◌∙◌, add-one, drop-cons}
 use Rattle.asn1_values_fields.specs.Written.{bits_of_fields, appended}
-use Rattle.asn1_values_fields.proofs.Appending.{field_next, is_there, unwritten_here, unwritten_later}
+use Rattle.asn1_values_fields.proofs.Appending.{field_next, is_there, kept_on, unwritten_here, unwritten_later}
 use Rattle.asn1_values_fields.proofs.field_bits.push_all.Goals as goal
 
 pub returns-in-Err-clause-wrong : goal.returns-in-Err-clause-wrong
@@ -20,5 +20,6 @@ loop-field-preserved c =
     let next = field_next f (drop (i + 1) fields) c.loop-field.buffer c.push_to.new.buffer c.in-Ok.ensures.ok in
     record {
       done = sym next ∙ ap (λ l. appended c.loop-field.buffer (bits_of_fields l)) (sym d) ∙ c.loop-field.invariant.done;
+      kept = kept_on c.args.buffer.now c.loop-field.buffer c.push_to.new.buffer c.loop-field.invariant.kept c.push_to.ensures.kept;
       stuck = unwritten_later fields i f (drop (i + 1) fields) d c.loop-field.invariant.stuck (is_there c.loop-field.buffer c.push_to.new.buffer _ c.in-Ok.ensures.ok);
     }

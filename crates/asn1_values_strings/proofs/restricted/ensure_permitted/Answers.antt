@@ -1,6 +1,6 @@
 use Rattle.std.proofs.Common.{rules, ◌≡◌, None}
-use Rattle.asn1_values_strings.specs.Alphabets.{permits, first_refused}
-use Rattle.asn1_values_strings.proofs.Permitted.{each_is-find}
+use Rattle.asn1_values_alphabets.specs.Permitted.{permits, first_refused}
+use Rattle.asn1_values_alphabets.proofs.Permitted.{each_is-find}
 use Rattle.asn1_values_strings.proofs.restricted.ensure_permitted.Goals as goal
 
 pub returns-in-None-clause-permitted : goal.returns-in-None-clause-permitted

@@ -2,7 +2,7 @@ use Rattle.std.proofs.Common.{◌≡◌, ◌^◌, ◌<◌, ◌≤◌, false, len
 use Rattle.asn1_model.specs.Strings.{largest}
 use Rattle.asn1_values_alphabets.specs.Codes.{singles}
 use Rattle.asn1_values_alphabets.proofs.SingleRuns.{ascends}
-use Rattle.asn1_values_alphabets.proofs.Coded.{code_of-place, code_of-past}
+use Rattle.asn1_values_alphabets.proofs.Coded.{code_of-place, code_of-past, same_code}
 use Rattle.asn1_values_alphabets.proofs.alphabet.CharacterAlphabet.decode.Goals as goal
 
 pub returns-in-Some-get-clause-character : goal.returns-in-Some-get-clause-character
@@ -18,3 +18,6 @@ returns-in-None-get-clause-missing c character h =
     let by_place : ltb (largest (singles c.self.inside.characters.items)) (2 ^ c.self.inside.width) ≡ false = sym c.self.invariant.by_number ∙ c.if-self.false in
     let past : length c.self.inside.characters.items ≤ c.args.code = rw c.deref-2.ensures.value at c.in-None-get.ensures.lookup.3 in
     code_of-past c.self.inside.characters.items c.self.inside.width character c.args.code by_place past (rw (← c.self.view_is) at h)
+
+pub returns-in-Some-get-clause-alone : goal.returns-in-Some-get-clause-alone
+returns-in-Some-get-clause-alone c other h = same_code c.args.self.now.characters c.args.self.now.code_bits other _ c.args.code h (returns-in-Some-get-clause-character c)

@@ -1,5 +1,5 @@
 use Rattle.std.proofs.Common.{◌≡◌, arith, sym, ap, ◌∙◌, length, ◌++◌, replicate, false, length-append}
-use Rattle.std.proofs.lemmas.List.{append-nil}
+use Rattle.std.proofs.lemmas.List.{append-nil, take_all}
 use Rattle.asn1_model.specs.Numbers.{octet_bits, missing}
 use Rattle.asn1_values_bits.proofs.Binary.{length-octet_bits, octet_bits-append}
 use Rattle.asn1_values_bits.proofs.Kept.{keeps, kept_view, kept_bits, kept_length}
@@ -22,3 +22,8 @@ invariant_of-self-2 c = keeps c.in-Some-checked_add.len c.extend_from_slice.new.
 
 pub returns-clause-ok : goal.returns-clause-ok
 returns-clause-ok c = kept_view c.in-Some-checked_add.len c.extend_from_slice.new.self.items (c.args.self.now ++ octet_bits c.args.bytes.now) (long c) (more c)
+
+pub returns-then-self-gt0-clause-ok : goal.returns-then-self-gt0-clause-ok
+returns-then-self-gt0-clause-ok c =
+    c.in_ok-extend_shifted.ensures.ok
+    ∙ ap (λ l. c.args.self.now ++ l) (c.front_of.ensures.bits ∙ take_all c.in-Some.bits (octet_bits c.args.bytes.now) (omega (arith, c.in-Some.ensures, length-octet_bits c.args.bytes.now)))

@@ -1,8 +1,8 @@
 use Rattle.std.proofs.Common.{◌≡◌, true}
 use Rattle.std.proofs.lemmas.Str.{IsUtf8-from_ascii}
 use Rattle.std.specs.Str.{IsUtf8}
-use Rattle.asn1_values_strings.specs.Alphabets.{permits, permits_all}
-use Rattle.asn1_values_strings.proofs.Permitted.{IsAscii-permitted, ok_unless}
+use Rattle.asn1_values_alphabets.specs.Permitted.{permits, permits_all}
+use Rattle.asn1_values_alphabets.proofs.Permitted.{IsAscii-permitted, ok_unless}
 use Rattle.asn1_values_strings.proofs.restricted.RestrictedString.as_str.Goals as goal
 
 pub unwrap-requires : goal.unwrap-requires

@@ -1,7 +1,7 @@
 use Rattle.std.proofs.Common.{◌≡◌, true}
 use Rattle.std.proofs.lemmas.Str.{IsUtf8-from_ascii}
-use Rattle.asn1_values_strings.specs.Alphabets.{permits, permits_all}
-use Rattle.asn1_values_strings.proofs.Permitted.{IsAscii-permitted}
+use Rattle.asn1_values_alphabets.specs.Permitted.{permits, permits_all}
+use Rattle.asn1_values_alphabets.proofs.Permitted.{IsAscii-permitted}
 use Rattle.asn1_values_strings.proofs.text.StringFromRestrictedString.from.Goals as goal
 
 pub unwrap-requires : goal.unwrap-requires

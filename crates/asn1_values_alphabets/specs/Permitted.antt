@@ -1,0 +1,30 @@
+-- Which characters a string may hold, and why one is refused (X.680 41).
+use Rattle.std.specs.Prelude.{◌≡◌, ℕ, Bool, true, not, List, find, Option, Some, option_map}
+use Rattle.asn1_model.specs.Schema.{StringKind}
+use Rattle.asn1_model.specs.Strings.{characters_of, each_is, is_among}
+use Rattle.asn1_values_alphabets.specs.declared.error.InvalidRestrictedString.{InvalidRestrictedString}
+use Rattle.asn1_values_alphabets.specs.declared.error.PermittedAlphabetError.{PermittedAlphabetError}
+use Rattle.asn1_values_alphabets.specs.declared.error.PermittedAlphabetError.TheVariants.{InvalidRestrictedString as OutsideAlphabet, Memory}
+
+-- whether a string of this kind may hold the character
+abbrev pub permits : StringKind → ℕ → Bool
+permits k c = is_among (characters_of k) c
+
+-- whether a string of this kind may hold these characters
+abbrev pub permits_all : StringKind → List ℕ → Bool
+permits_all k cs = each_is (permits k) cs
+
+-- the first character that it may not hold
+abbrev pub first_refused : StringKind → List ℕ → Option ℕ
+first_refused k cs = find (λ c. not (permits k c)) cs
+
+-- characters are refused by the first one that is not permitted
+abbrev pub IsOutside : StringKind → (ℕ → InvalidRestrictedString) → List ℕ → PermittedAlphabetError → Type 0
+IsOutside k refused cs (OutsideAlphabet e) = option_map refused (first_refused k cs) ≡ Some e
+IsOutside k refused cs e = ⊥
+
+-- or, where all are permitted, for want of memory
+abbrev pub IsRefusalOf : StringKind → (ℕ → InvalidRestrictedString) → List ℕ → PermittedAlphabetError → Type 0
+IsRefusalOf k refused cs (OutsideAlphabet e) = option_map refused (first_refused k cs) ≡ Some e
+IsRefusalOf k refused cs (Memory m) = permits_all k cs ≡ true
+IsRefusalOf k refused cs e = ⊥

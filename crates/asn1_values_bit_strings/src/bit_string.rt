@@ -1,0 +1,122 @@
+// Bit strings that own their bits.
+ghost use Rattle.std.specs.Prelude.{◌≡◌, ◌++◌, ◌∷◌, [], length, IsTrue, ◌↔◌, IfOk, OnOk, OnErr, slice_get};
+ghost use Rattle.asn1_model.specs.Numbers.{octet_bits, packed};
+ghost use Rattle.asn1_values_bits.specs.Octets.{filled_up};
+
+use asn1_values_bits::{BitBuffer, BitStr};
+use std::alloc::{AllocError, Global};
+use std::marker::Model;
+
+/// A value of the ASN.1 type BIT STRING: a list of bits (X.680, clause 22).
+#[derive(Drop)]
+pub struct BitString {
+    buffer: BitBuffer,
+}
+
+impl Model for BitString {
+    ghost use Rattle.std.specs.Prelude.{Bool, List};
+
+    ghost Value = { List Bool };
+
+    ghost view = { λ s. s.buffer };
+}
+
+impl BitString {
+    ghost use Rattle.asn1_values_bits.specs.BitStr.{bits_of, offset_of};
+
+    /// No bits. It takes no memory, and what it holds later comes from `alloc`.
+    pub fn new(alloc: Global) -> Self
+        ensures { result ≡ [] }
+    {
+        let buffer = BitBuffer::new(alloc);
+        BitString { buffer }
+    }
+
+    /// All bits of the octets.
+    pub fn from_slice(alloc: Global, octets: &[u8]) -> Result<Self, AllocError>
+        ensures { IfOk result (λ string. string ≡ octet_bits octets.now) }
+    {
+        let mut buffer = BitBuffer::new(alloc);
+        buffer.extend_from_bytes(octets)?;
+        Ok(BitString { buffer })
+    }
+
+    /// The bits of a view.
+    pub fn from_bitslice(alloc: Global, bits: BitStr<'_>) -> Result<Self, AllocError>
+        ensures { IfOk result (λ string. string ≡ bits_of bits.entry) }
+    {
+        let mut buffer = BitBuffer::new(alloc);
+        buffer.extend_from_bitslice(bits)?;
+        Ok(BitString { buffer })
+    }
+
+    /// The bits of a buffer, whose allocator is kept.
+    pub fn from_buffer(buffer: BitBuffer) -> Self
+        ensures { result ≡ buffer }
+    {
+        BitString { buffer }
+    }
+
+    /// The bits as a buffer.
+    pub fn into_buffer(self) -> BitBuffer
+        ensures { result ≡ self }
+    {
+        let BitString { buffer } = self;
+        buffer
+    }
+
+    /// A copy in memory of `alloc`.
+    pub fn clone(&self, alloc: Global) -> Result<Self, AllocError>
+        ensures { IfOk result (λ string. string ≡ self.now) }
+    {
+        let mut buffer = BitBuffer::new(alloc);
+        buffer.extend_from_buffer(&self.buffer)?;
+        Ok(BitString { buffer })
+    }
+
+    /// How many bits there are.
+    pub fn len(&self) -> usize
+        ensures { result ≡ length self.now }
+    {
+        self.buffer.len()
+    }
+
+    /// Whether there are no bits.
+    pub fn is_empty(&self) -> bool
+        ensures { IsTrue result ↔ (self.now ≡ []) }
+    {
+        self.buffer.is_empty()
+    }
+
+    /// The bit at a place, if there is one.
+    pub fn get(&self, index: usize) -> Option<bool>
+        ensures { result ≡ slice_get self.now index }
+    {
+        self.buffer.as_bitslice().get(index)
+    }
+
+    /// Adds one bit.
+    pub fn push(&mut self, bit: bool) -> Result<(), AllocError>
+        ensures ok { OnOk result (self.new ≡ self.old ++ bit ∷ []) }
+        ensures err { OnErr result (self.new ≡ self.old) }
+    {
+        self.buffer.push(bit)?;
+        Ok(())
+    }
+
+    /// A view of the bits.
+    pub fn as_bitslice(&self) -> BitStr<'_>
+        ensures bits { bits_of result ≡ self.now }
+        ensures offset { offset_of result ≡ 0 }
+    {
+        self.buffer.as_bitslice()
+    }
+
+    /// The bits in octets, the first bit highest, and zero bits behind the last one.
+    pub fn as_bytes(&self) -> &[u8]
+        ensures octets { result.now ≡ packed (filled_up self.now) }
+        ensures bits { octet_bits result.now ≡ filled_up self.now }
+    {
+        self.buffer.as_bytes()
+    }
+}

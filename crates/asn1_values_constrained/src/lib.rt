@@ -1,0 +1,9 @@
+//! Whole numbers within a range.
+#![tactic(auto)]
+
+mod constrained;
+
+pub use constrained::ConstrainedInteger;
+
+#[cfg(test)]
+mod tests;
