@@ -1,2 +1,3 @@
 pub mod PairParts
 pub mod OrderLemmas
+pub mod Written

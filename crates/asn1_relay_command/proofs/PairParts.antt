@@ -1,6 +1,6 @@
 -- What a value of the pairs' type looks like.
 use Rattle.std.proofs.Common.{◌≡◌, ◌∙◌, ◌&&◌, Bool, true, false, List, [], ◌∷◌, length, map, get_or, refl, ap, ap₂, arith, sym, Vec, Global}
-use Rattle.asn1_model.specs.Schema.{boolean}
+use Rattle.asn1_model.specs.Schema.{Schema, sequence, component, no_component, required}
 use Rattle.asn1_model.specs.Value.{Value, Parts, fields, present, end}
 use Rattle.asn1_relay_texts.specs.Kinds.{is_value_of}
 use Rattle.asn1_relay_texts.specs.Texts.{present_parts}
@@ -9,20 +9,22 @@ use Rattle.asn1_relay_core.specs.declared.schema.Value as held
 use Rattle.asn1_relay_core.specs.declared.schema.Value.TheOpen as open_value
 use Rattle.asn1_relay_core.specs.declared.schema.Value.TheVariants.{rolls-Sequence}
 use Rattle.asn1_relay_core.specs.declared.schema.Value.TheFolds.{fold-roll-Value}
-use Rattle.asn1_relay_command.specs.Numbers.{small_schema}
-use Rattle.asn1_relay_command.specs.Pairs.{pair_schema}
 
 second : (p q : Bool) → (p && q) ≡ true → q ≡ true
 second true q e = e
 second false q e = cc
 
+-- a value of two components
+abbrev pub is_value_of_two : Schema → Schema → List Value → Bool
+is_value_of_two s t vs = is_value_of (sequence (component [] required s (component [] required t no_component)) false no_component) (fields (present_parts vs) end)
+
 -- it has two components
-pub two_values : (vs : List Value) → is_value_of pair_schema (fields (present_parts vs) end) ≡ true → length vs ≡ 2
-two_values [] e = cc
-two_values (a ∷ []) e = let impossible : false ≡ true = second (is_value_of boolean a) false e in cc
-two_values (a ∷ (b ∷ [])) e = refl
-two_values (a ∷ (b ∷ (c ∷ vs))) e =
-    let impossible : false ≡ true = second (is_value_of small_schema b) false (second (is_value_of boolean a) _ e) in cc
+pub two_values : (s t : Schema) (vs : List Value) → is_value_of_two s t vs ≡ true → length vs ≡ 2
+two_values s t [] e = cc
+two_values s t (a ∷ []) e = let impossible : false ≡ true = second (is_value_of s a) false e in cc
+two_values s t (a ∷ (b ∷ [])) e = refl
+two_values s t (a ∷ (b ∷ (c ∷ vs))) e =
+    let impossible : false ≡ true = second (is_value_of t b) false (second (is_value_of s a) _ e) in cc
 
 -- what a sequence at run time means
 pub value_of_sequence : (v : Vec held.Value Global) → value_of (held.Sequence v) ≡ fields (present_parts (map value_of v.items)) end

@@ -1,11 +1,12 @@
 -- What a run of the command does with its reader, whose octets are those that it still gives, and its writer, whose octets are those
 -- that it holds, where these are known.
-use Rattle.std.specs.Prelude.{◌≡◌, ◌⊎◌, ℕ, List, Option, Some, None}
+use Rattle.std.specs.Prelude.{◌≡◌, ◌⊎◌, ℕ, List, take, Option, Some, None}
 use Rattle.std.specs.Io.KnownBytes.{Appends, Consumes, IsAtEnd, Keeps}
 use Rattle.asn1_model.specs.Schema.{Schema, boolean}
 use Rattle.asn1_relay_core.specs.Recoding.{Answer, IsAnswer, answered, not_an_encoding, surplus, no_target, rules_of}
 use Rattle.asn1_relay_core.specs.declared.translation.RecodeFault.{RecodeFault}
 use Rattle.asn1_relay_core.specs.declared.translation.RecodeFault.TheVariants as recode_fault
+use Rattle.asn1_relay_command.specs.Lines.{line_of}
 use Rattle.asn1_relay_command.specs.Numbers.{small_schema}
 use Rattle.asn1_relay_command.specs.Pairs.{pair_schema}
 use Rattle.asn1_relay_command.specs.declared.fault.Fault.{Fault}
@@ -42,6 +43,11 @@ IsRefusedBy order message fault.WriteFailed = ⊥
 
 -- ---- reading and writing
 
+-- a writer took a beginning of the octets: all of them, unless it failed
+pub record Begins (held held' : Option (List ℕ)) (octets : List ℕ) : Type 0 where
+  pub count : ℕ
+  pub took : Appends held held' (take count octets)
+
 -- a reader gave all its octets
 pub record IsAllRead (old new : Option (List ℕ)) (message : List ℕ) : Type 0 where
   pub read : Consumes old new message
@@ -59,10 +65,11 @@ pub record IsDone (order : Order) (unread unread' held held' : Option (List ℕ)
   pub right : IsAnswered order unread unread' (answered octets)
   pub wrote : Appends held held' octets
 
--- the octets that were to be written
-pub record IsCutOff (order : Order) (unread unread' : Option (List ℕ)) : Type 0 where
+-- all was read and translated, but the writer failed behind a beginning of the answer
+pub record IsCutOff (order : Order) (unread unread' held held' : Option (List ℕ)) : Type 0 where
   pub octets : List ℕ
   pub right : IsAnswered order unread unread' (answered octets)
+  pub began : Begins held held' octets
 
 -- a fault before there is an answer leaves the writer as it was
 abbrev pub StopsBy : Order → Option (List ℕ) → Option (List ℕ) → Option (List ℕ) → Option (List ℕ) → Fault → Type 0
@@ -71,7 +78,7 @@ StopsBy order unread unread' held held' fault.SurplusOctets = IsAnswered order u
 StopsBy order unread unread' held held' fault.NoTargetEncoding = IsAnswered order unread unread' no_target × Keeps held held'
 StopsBy order unread unread' held held' fault.OutOfMemory = Keeps held held'
 StopsBy order unread unread' held held' fault.ReadFailed = Keeps held held'
-StopsBy order unread unread' held held' fault.WriteFailed = IsCutOff order unread unread'
+StopsBy order unread unread' held held' fault.WriteFailed = IsCutOff order unread unread' held held'
 
 -- ---- statuses
 
@@ -81,21 +88,27 @@ pub record HasDone (asked : Option Order) (unread unread' held held' : Option (L
   pub asks : asked ≡ Some order
   pub done : IsDone order unread unread' held held'
 
--- the command line asks for something, and a fault stops it
-pub record IsStopped (asked : Option Order) (unread unread' held held' : Option (List ℕ)) : Type 0 where
+-- the command line asks for something, a fault stops it, and its line is written
+pub record IsStopped (asked : Option Order) (unread unread' held held' said said' : Option (List ℕ)) : Type 0 where
   pub order : Order
   pub asks : asked ≡ Some order
   pub reason : Fault
   pub stops : StopsBy order unread unread' held held' reason
+  pub says : Begins said said' (line_of reason)
 
 -- nothing was read, and nothing written
 pub record IsUntouched (unread unread' held held' : Option (List ℕ)) : Type 0 where
   pub unread_still : Keeps unread unread'
   pub held_still : Keeps held held'
 
--- status 1: no memory was left to read the command line, or a fault stopped the run
-abbrev pub HasFailed : Option Order → Option (List ℕ) → Option (List ℕ) → Option (List ℕ) → Option (List ℕ) → Type 0
-HasFailed asked unread unread' held held' = IsUntouched unread unread' held held' ⊎ IsStopped asked unread unread' held held'
+-- no memory was left to read the command line
+pub record IsUnasked (unread unread' held held' said said' : Option (List ℕ)) : Type 0 where
+  pub untouched : IsUntouched unread unread' held held'
+  pub says : Begins said said' (line_of fault.OutOfMemory)
+
+-- status 1: no memory was left to read the command line, or a fault stopped the run; the errors' writer took the line of it
+abbrev pub HasFailed : Option Order → Option (List ℕ) → Option (List ℕ) → Option (List ℕ) → Option (List ℕ) → Option (List ℕ) → Option (List ℕ) → Type 0
+HasFailed asked unread unread' held held' said said' = IsUnasked unread unread' held held' said said' ⊎ IsStopped asked unread unread' held held' said said'
 
 -- status 2: the command line asks for nothing
 pub record HasRefused (asked : Option Order) (unread unread' held held' : Option (List ℕ)) : Type 0 where

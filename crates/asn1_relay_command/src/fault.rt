@@ -1,5 +1,6 @@
 //! Why a message was not translated.
 ghost use Rattle.std.specs.Prelude.{◌≡◌};
+ghost use Rattle.asn1_relay_command.specs.Lines.{line_of};
 
 use asn1_relay_core::RecodeFault;
 use thiserror::Error;
@@ -25,6 +26,22 @@ pub enum Fault {
     /// The answer could not be written, or not be flushed.
     #[error("write failed")]
     WriteFailed,
+}
+
+impl Fault {
+    /// The line that the program writes of it to standard error.
+    pub fn line(self) -> &'static str
+        ensures { result.now ≡ line_of self }
+    {
+        match self {
+            Fault::NotAnEncoding => "asn1_relay: not an encoding\n",
+            Fault::SurplusOctets => "asn1_relay: surplus octets\n",
+            Fault::NoTargetEncoding => "asn1_relay: no target encoding\n",
+            Fault::OutOfMemory => "asn1_relay: out of memory\n",
+            Fault::ReadFailed => "asn1_relay: read failed\n",
+            Fault::WriteFailed => "asn1_relay: write failed\n",
+        }
+    }
 }
 
 impl From<RecodeFault> for Fault {

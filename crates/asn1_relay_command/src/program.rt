@@ -4,8 +4,9 @@ ghost use Rattle.std.specs.Io.KnownBytes.{Appends, Keeps};
 ghost use Rattle.std.specs.IoError.{error_kind};
 ghost use Rattle.clap.specs.Words.{kind_of};
 ghost use Rattle.asn1_relay_core.specs.Recoding.{answered};
+ghost use Rattle.asn1_relay_command.specs.Lines.{line_of};
 ghost use Rattle.asn1_relay_command.specs.Orders.{order_of};
-ghost use Rattle.asn1_relay_command.specs.Runs.{Becomes, HasDone, HasFailed, HasRefused, IsAllRead, IsDone, IsRefusedBy, StopsBy};
+ghost use Rattle.asn1_relay_command.specs.Runs.{Becomes, Begins, HasDone, HasFailed, HasRefused, IsAllRead, IsDone, IsRefusedBy, StopsBy};
 
 use crate::fault::Fault;
 use crate::order::{Kind, Order, read_order};
@@ -18,7 +19,8 @@ use std::convert::AsStr;
 use std::io::{self, ErrorKind, Read, Write};
 
 /// Runs the program on a command line, whose first word is the program's name, and answers its exit status: 0 when the answer was
-/// written and flushed, 1 when the input could not be read or translated, or the answer not written, and 2 for a bad command line.
+/// written and flushed, 1 when the input could not be read or translated, the answer not written, or no memory was left (not even to read
+/// the command line), and 2 for a bad command line. At status 1 the line of the fault is written to `errors`, one line; at 2 a text.
 pub fn command<S: AsStr, R: Read, W: Write, E: Write>(
     alloc: Global,
     words: &[S],
@@ -31,7 +33,7 @@ pub fn command<S: AsStr, R: Read, W: Write, E: Write>(
         (W.contents output.old) (W.contents output.new) }
     ensures quiet { result ≡ 0 → Keeps (E.contents errors.old) (E.contents errors.new) }
     ensures failed { result ≡ 1 → HasFailed (order_of (map S.text words.now)) (R.remaining input.old) (R.remaining input.new)
-        (W.contents output.old) (W.contents output.new) }
+        (W.contents output.old) (W.contents output.new) (E.contents errors.old) (E.contents errors.new) }
     ensures bad { result ≡ 2 → HasRefused (order_of (map S.text words.now)) (R.remaining input.old) (R.remaining input.new)
         (W.contents output.old) (W.contents output.new) }
 {
@@ -48,7 +50,7 @@ pub fn command<S: AsStr, R: Read, W: Write, E: Write>(
 /// Says that the program's arguments cannot be had, and answers the exit status: 1 when no memory was left for them, and 2 when one
 /// of them is no text.
 pub fn refuse_arguments<E: Write>(error: &io::Error, errors: &mut E) -> u8
-    ensures memory { error_kind error.now ≡ ErrorKind.OutOfMemory → result ≡ 1 }
+    ensures memory { error_kind error.now ≡ ErrorKind.OutOfMemory → (result ≡ 1) × Begins (E.contents errors.old) (E.contents errors.new) (line_of Fault.OutOfMemory) }
     ensures text { error_kind error.now ≢ ErrorKind.OutOfMemory → result ≡ 2 }
 {
     if error.kind() == ErrorKind::OutOfMemory {
@@ -60,7 +62,7 @@ pub fn refuse_arguments<E: Write>(error: &io::Error, errors: &mut E) -> u8
 
 /// Says what is wrong with a command line, and answers the exit status.
 fn refuse<E: Write>(error: &clap::Error, errors: &mut E) -> u8
-    ensures memory { kind_of error.now ≡ ParseErrorKind.OutOfMemory → result ≡ 1 }
+    ensures memory { kind_of error.now ≡ ParseErrorKind.OutOfMemory → (result ≡ 1) × Begins (E.contents errors.old) (E.contents errors.new) (line_of Fault.OutOfMemory) }
     ensures mistake { kind_of error.now ≢ ParseErrorKind.OutOfMemory → result ≡ 2 }
 {
     if error.kind() == ParseErrorKind::OutOfMemory {
@@ -70,11 +72,12 @@ fn refuse<E: Write>(error: &clap::Error, errors: &mut E) -> u8
     2
 }
 
-/// Says what went wrong, and answers the exit status.
+/// Says what went wrong, and answers the exit status. That the line cannot be written changes nothing.
 fn report<E: Write>(fault: Fault, errors: &mut E) -> u8
-    ensures { result ≡ 1 }
+    ensures status { result ≡ 1 }
+    ensures says { Begins (E.contents errors.old) (E.contents errors.new) (line_of fault) }
 {
-    let _ = writeln!(errors, "asn1_relay: {fault}");
+    let _ = write_octets(fault.line().as_bytes(), errors);
     1
 }
 
@@ -127,12 +130,33 @@ pub fn translate_all(alloc: Global, order: Order, message: &[u8]) -> Result<Vec<
     Ok(answer)
 }
 
+/// Writes all octets. Where it fails, the writer took a beginning of them.
+fn write_octets<W: Write>(octets: &[u8], writer: &mut W) -> io::Result<()>
+    ensures all { OnOk result (Appends (W.contents writer.old) (W.contents writer.new) octets.now) }
+    ensures begins { Begins (W.contents writer.old) (W.contents writer.new) octets.now }
+{
+    let mut count = 0;
+    for _ in 0..u64::MAX {
+        if count == octets.len() {
+            return Ok(());
+        }
+        match writer.write(&octets[count..]) {
+            Ok(0) => return Err(io::Error::from(ErrorKind::WriteZero)),
+            Ok(more) => count += more,
+            Err(error) if error.kind() == ErrorKind::Interrupted => {}
+            Err(error) => return Err(error),
+        }
+    }
+    Err(io::Error::from(ErrorKind::Interrupted))
+}
+
 /// Writes all octets, and flushes.
 fn write_all<W: Write>(octets: &[u8], output: &mut W) -> Result<(), Fault>
     ensures ok { OnOk result (Appends (W.contents output.old) (W.contents output.new) octets.now) }
     ensures err { IfErr result (λ f. f ≡ Fault.WriteFailed) }
+    ensures begins { Begins (W.contents output.old) (W.contents output.new) octets.now }
 {
-    match output.write_all(octets) {
+    match write_octets(octets, output) {
         Ok(()) => {}
         Err(_) => return Err(Fault::WriteFailed),
     }

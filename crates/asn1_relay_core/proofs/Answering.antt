@@ -12,7 +12,7 @@ use Rattle.asn1_relay_texts.specs.Kinds.{is_carried, is_value_of}
 use Rattle.asn1_relay_texts.specs.Fronts.{IsFront, HasNoFront}
 use Rattle.asn1_relay_texts.specs.Laws.{OneFront, Encodes}
 use Rattle.asn1_relay_texts.proofs.Fronts.{one_uper_front, one_coer_front, encodes_uper, encodes_coer}
-use Rattle.asn1_relay_core.specs.Recoding.{Answer, answered, not_an_encoding, surplus, no_target, IsAnswer, IsMessage, FindsNone, WritesNone, rules_of, answer_of, source_fault_of, target_fault_of}
+use Rattle.asn1_relay_core.specs.Recoding.{Answer, answered, not_an_encoding, surplus, no_target, IsAnswer, IsMessage, FindsNone, WritesNone, NamesMemoryAlone, rules_of, answer_of, source_fault_of, target_fault_of}
 use Rattle.asn1_relay_core.specs.declared.translation.Codec.{Codec}
 use Rattle.asn1_relay_core.specs.declared.translation.Codec.TheVariants.{Uper, Coer}
 use Rattle.asn1_relay_core.specs.declared.translation.RecodeFault.{RecodeFault}
@@ -94,6 +94,7 @@ module _ (c d : Codec) (s s' : Schema) (w : List ℕ) (carried : is_carried s �
   not_found Decoding.InvalidBool h = none_right Decoding.InvalidBool h
   not_found Decoding.NotValidCanonicalEncoding h = none_right Decoding.NotValidCanonicalEncoding h
   not_found Decoding.InvalidPadding h = none_right Decoding.InvalidPadding h
+  not_found Decoding.LengthExceedsPlatformWidth h = none_right Decoding.LengthExceedsPlatformWidth h
   not_found Decoding.ExceedsMaxParseDepth h = none_right Decoding.ExceedsMaxParseDepth h
   not_found Decoding.OutOfMemory h = no_memory
 
@@ -140,3 +141,27 @@ module _ (c d : Codec) (s s' : Schema) (w : List ℕ) (carried : is_carried s �
 
   pub right_not_written : (e : EncodeError) (f : RecodeFault) (v m u : Value) (k : ℕ) → IsFront (rules_of c) 128 s' w (v, k) → length w ≤ k → m ≡ v → u ≡ m → WritesNone (rules_of d) s' u e → f ≡ target_fault_of e → Rights (Err f)
   right_not_written e f v m u k g l a b h j = subst (λ x. Rights (Err x)) (sym j) (not_written e v m u k g l a b h)
+
+-- ---- want of memory
+
+pub source_names_memory : (e : DecodeError) (f : RecodeFault) → f ≡ source_fault_of e → NamesMemoryAlone f
+source_names_memory e f h = subst NamesMemoryAlone (sym h) (at e)
+  where
+    at : (e : DecodeError) → NamesMemoryAlone (source_fault_of e)
+    at Decoding.Incomplete = tt
+    at Decoding.ValueConstraintNotSatisfied = tt
+    at Decoding.ZeroLengthOfLength = tt
+    at Decoding.LengthExceedsPlatformWidth = tt
+    at Decoding.InvalidBool = tt
+    at Decoding.NotValidCanonicalEncoding = tt
+    at Decoding.InvalidPadding = tt
+    at Decoding.ExceedsMaxParseDepth = tt
+    at Decoding.OutOfMemory = tt
+
+pub target_names_memory : (e : EncodeError) (f : RecodeFault) → f ≡ target_fault_of e → NamesMemoryAlone f
+target_names_memory e f h = subst NamesMemoryAlone (sym h) (at e)
+  where
+    at : (e : EncodeError) → NamesMemoryAlone (target_fault_of e)
+    at Encoding.ValueConstraintNotSatisfied = tt
+    at Encoding.TooLongValue = tt
+    at Encoding.OutOfMemory = tt

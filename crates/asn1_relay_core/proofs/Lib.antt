@@ -6,6 +6,8 @@ pub mod Shapes
 pub mod Writers
 pub mod Integers
 pub mod Readers
+pub mod Fewest
 pub mod Octets
 pub mod Whole
+pub mod Judged
 pub mod Answering

@@ -1,13 +1,13 @@
 -- Numbers as octets, at run time.
 use mir.Syntax.{w128}
 use mir.Val.{SFits, of_z, to_z}
-use Rattle.std.proofs.Common.{◌≡◌, ℕ, suc, ◌+◌, ◌-◌, ◌*◌, ◌/◌, ◌%◌, ◌^◌, ◌<◌, ◌≤◌, ℤ, pos, negsuc, Bool, true, false, cond, ltb, leb, max, Option, Some, None, option_map, Result, Ok, Err, MatchResult, ◌-ℤ◌, ◌<ℤ◌, ◌≤ℤ◌, List, [], ◌∷◌, ◌++◌, take, drop, refl, ap, sym, subst, ◌∙◌, arith, inl, inr, append_assoc, bit_and, pow-suc, add-one}
+use Rattle.std.proofs.Common.{◌≡◌, ℕ, zero, suc, ◌+◌, ◌-◌, ◌*◌, ◌/◌, ◌%◌, ◌^◌, ◌<◌, ◌≤◌, ℤ, pos, negsuc, Bool, true, false, cond, ltb, leb, max, Option, Some, None, option_map, Result, Ok, Err, MatchResult, ◌-ℤ◌, ◌<ℤ◌, ◌≤ℤ◌, List, [], ◌∷◌, ◌++◌, length, drop, refl, ap, sym, subst, ◌∙◌, arith, inl, inr, append_assoc, bit_and, pow-suc, add-one}
 use Rattle.std.specs.Int.Count.{count_leading_zeros}
 use Rattle.std.proofs.Math.Nat.{pow-le-pow_right}
 use Rattle.std.proofs.lemmas.Nat.{and_mask, pow_pos, pow-add, div-mul-add}
 use Rattle.std.proofs.lemmas.Int.{ints}
 use Rattle.std.proofs.lemmas.Bool.{lt-ltb, le-ltb, leb-true, cases_lt}
-use Rattle.std.proofs.Math.Nat.{div-lt_iff_lt-mul, div-eq_of_lt}
+use Rattle.std.proofs.Math.Nat.{div-lt_iff_lt-mul, div-eq_of_lt, mul-le-mul_left}
 use Rattle.asn1_relay_texts.specs.Reading.{signed_number, fixed_between}
 use lib.Signed.{mag}
 use Rattle.asn1_model.specs.Numbers.{digits, number_after, width, least_octets, signed_octets, is_within}
@@ -15,7 +15,7 @@ use Rattle.asn1_model.specs.Oer.{fixed_octets}
 use Rattle.asn1_model.specs.Value as Asn1Value
 use Rattle.asn1_relay_texts.specs.Texts.{octets_of}
 use Rattle.asn1_relay_texts.proofs.Widths.{power_octets, below_places}
-use Rattle.asn1_relay_texts.proofs.Digits.{power_pos}
+use Rattle.asn1_relay_texts.proofs.Digits.{power_pos, number_front}
 use Rattle.asn1_relay_texts.proofs.Whole.{fits_from_range, signed_octets_by_mag, between_pos, between_signed}
 use Rattle.asn1_relay_texts.proofs.Machine.{width_of_128, complement_of_128}
 use Rattle.asn1_relay_texts.proofs.OctetNumbers.{signed_of_fits, octets_integer_inside, octets_integer_outside, natural_text, signed_text}
@@ -37,15 +37,18 @@ one_more n d c h k = let e : 256 ^ (c + 1) ≡ 256 ^ c * 256 = ap (λ j. 256 ^ j
 pub one_more_fits : (n d c w m : ℕ) → n < 256 ^ c → d < 256 → c < w → w ≤ m → n * 256 + d < 256 ^ m
 one_more_fits n d c w m h k l q = let t = one_more n d c h k in let p : 256 ^ (c + 1) ≤ 256 ^ m = pow-le-pow_right (omega arith) (omega arith) in omega (arith, t, p)
 
-pub number_step : (os rest : List ℕ) (d n w c t : ℕ) → c < w → os ≡ d ∷ rest → number_after 256 n (take (w - c) os) ≡ t → number_after 256 (n * 256 + d) (take (w - (c + 1)) rest) ≡ t
-number_step os rest d n w c t h e k =
-    let j : w - c ≡ suc (w - (c + 1)) = omega arith in
-    sym (ap (λ i. number_after 256 n (take i (d ∷ rest))) j) ∙ sym (ap (λ l. number_after 256 n (take (w - c) l)) e) ∙ k
+-- a number with another digit behind it is at least 256 times as great
+pub grown : (os : List ℕ) (i n t : ℕ) → i < length os → number_after 256 n (drop i os) ≡ t → n * 256 ≤ t
+grown [] i n t h e = absurd (omega arith)
+grown (o ∷ os) zero n t h e =
+    let f = number_front 256 (n * 256 + o) os in
+    let p : 1 ≤ 256 ^ length os = power_pos 256 (length os) (omega arith) in
+    let m : (n * 256 + o) * 1 ≤ (n * 256 + o) * 256 ^ length os = mul-le-mul_left (n * 256 + o) p in
+    omega (arith, f, m, e)
+grown (o ∷ os) (suc i) n t h e = grown os i n t (omega arith) e
 
-pub rest_step : (os rest : List ℕ) (d w c : ℕ) (t : List ℕ) → c < w → os ≡ d ∷ rest → drop (w - c) os ≡ t → drop (w - (c + 1)) rest ≡ t
-rest_step os rest d w c t h e k =
-    let j : w - c ≡ suc (w - (c + 1)) = omega arith in
-    sym (ap (λ i. drop i (d ∷ rest)) j) ∙ sym (ap (λ l. drop (w - c) l) e) ∙ k
+pub grown_past : (os : List ℕ) (i n t : ℕ) → i < length os → number_after 256 n (drop i os) ≡ t → (n * 256 < 2 ^ 64 → ⊥) → 2 ^ 64 ≤ t
+grown_past os i n t h e k = let g = grown os i n t h e in elim (cases_lt (n * 256) (2 ^ 64)) [ inl l ↦ absurd (k l) | inr l ↦ omega (arith, g) ]
 
 -- ---- digits pushed one by one
 

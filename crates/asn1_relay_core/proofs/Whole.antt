@@ -167,6 +167,7 @@ module _ (r : Rules) (front : ℕ → Schema → List ℕ → Option (Value × �
   none_found s w within Decoding.InvalidBool c o d h = none_within s w within c o d h
   none_found s w within Decoding.NotValidCanonicalEncoding c o d h = none_within s w within c o d h
   none_found s w within Decoding.InvalidPadding c o d h = none_within s w within c o d h
+  none_found s w within Decoding.LengthExceedsPlatformWidth c o d h = none_within s w within c o d h
   none_found s w within Decoding.ExceedsMaxParseDepth c o d h = none_within s w within c o d h
   none_found s w within Decoding.OutOfMemory c o d h = tt
 

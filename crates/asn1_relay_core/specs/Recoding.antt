@@ -49,6 +49,12 @@ answer_of (Err Surplus) = Some surplus
 answer_of (Err (NoTarget e)) = Some no_target
 answer_of (Err Memory) = None
 
+-- want of memory is a fault of its own, and stands within no other
+abbrev pub NamesMemoryAlone : RecodeFault → Type 0
+NamesMemoryAlone (NotAnEncoding Decoding.OutOfMemory) = ⊥
+NamesMemoryAlone (NoTarget Encoding.OutOfMemory) = ⊥
+NamesMemoryAlone f = Unit {0}
+
 -- ---- what the parts of a translation find
 
 -- why no front was found: there is none, or no memory was left

@@ -30,6 +30,7 @@ impl Model for BitWriter {
 }
 
 impl BitWriter {
+    /// No bits yet.
     pub fn new(alloc: Global) -> Self
         ensures { result ≡ [] }
     {
@@ -123,6 +124,7 @@ impl<'a> Model for BitReader<'a> {
 }
 
 impl<'a> BitReader<'a> {
+    /// All the bits of these octets.
     pub fn new(octets: &'a [u8]) -> Self
         ensures { result ≡ octet_bits octets.entry.now }
     {

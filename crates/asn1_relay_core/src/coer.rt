@@ -1,9 +1,10 @@
 //! The canonical octet encoding rules (X.696).
-ghost use Rattle.std.specs.Prelude.{◌≡◌, ◌+◌, ◌*◌, ◌^◌, ◌<◌, ◌≤◌, ◌++◌, ◌∷◌, [], length, List, Some, None, OnOk, IfOk, IfErr, IfSome, IfNone, MatchResult, pos};
+ghost use Rattle.std.specs.Prelude.{◌≡◌, ◌+◌, ◌*◌, ◌^◌, ◌<◌, ◌≤◌, ◌++◌, ◌∷◌, [], length, take, drop, List, Some, None, Ok, Err, OnOk, IfOk, IfErr, IfSome, IfNone, MatchResult, pos};
 ghost use Rattle.asn1_model.specs.Numbers as Numbers;
 ghost use Rattle.asn1_model.specs.Oer as Oer;
 ghost use Rattle.asn1_model.specs.Value as Asn1Value;
 ghost use Rattle.asn1_relay_core.specs.Finding.{Misses};
+ghost use Rattle.asn1_relay_core.specs.Judging.{between_in_front, contents_in_front, integer_in_front, length_in_front, long_length, signed_in_front, signed_is_fewest, unsigned_in_front, unsigned_is_fewest};
 ghost use Rattle.asn1_relay_core.specs.Meaning.{schema_of, value_of, integer_between, range_between, magnitude as magnitude_of};
 ghost use Rattle.asn1_relay_core.specs.Writing.{Adds, Refuses, text_by, octet_leaves};
 ghost use Rattle.asn1_relay_texts.specs.Reading as Reading;
@@ -13,6 +14,9 @@ use crate::errors::{DecodeError, EncodeError};
 use crate::schema::{Schema, Value};
 use std::alloc::Global;
 use std::marker::Model;
+
+/// Numbers of more octets are outside all bounds.
+const MOST_OCTETS: usize = 16;
 
 /// How many octets hold a number; zero needs none.
 fn octet_width(number: u128) -> u32
@@ -102,6 +106,7 @@ fn push_counted(octets: &mut Vec<u8>, number: u128, count: u32) -> Result<(), En
     push_octets(octets, number, count)
 }
 
+/// Adds the octets of a number between two bounds (X.696 10).
 fn write_integer(
     low: i128,
     high: i128,
@@ -171,6 +176,7 @@ impl<'a> Model for OctetReader<'a> {
 }
 
 impl<'a> OctetReader<'a> {
+    /// All these octets.
     pub fn new(octets: &'a [u8]) -> Self
         ensures { result ≡ octets.entry.now }
     {
@@ -184,6 +190,7 @@ impl<'a> OctetReader<'a> {
         self.octets.len()
     }
 
+    /// Takes one octet, if there is one.
     fn take_octet(&mut self) -> Option<u8>
         ensures octet { IfSome result (λ o. (self.old ≡ o ∷ self.new) × (o < 256)) }
         ensures none { IfNone result (self.old ≡ []) }
@@ -193,39 +200,120 @@ impl<'a> OctetReader<'a> {
         Some(*first)
     }
 
-    /// Takes a number of `count` octets, if there are so many; else some octets may be gone.
+    /// Takes so many octets, if there are so many; else it takes none.
+    fn take_octets(&mut self, count: usize) -> Option<&'a [u8]>
+        ensures octets { IfSome result (λ o. (o.now ≡ take count self.old) × (self.new ≡ drop count self.old) × (count ≤ length self.old)) }
+        ensures short { IfNone result ((self.new ≡ self.old) × (length self.old < count)) }
+    {
+        if count > self.octets.len() {
+            return None;
+        }
+        let (octets, others) = self.octets.split_at(count);
+        self.octets = others;
+        Some(octets)
+    }
+
+    /// Takes a number of `count` octets, if there are so many.
     fn take_number(&mut self, count: u32) -> Option<u128>
         requires { count ≤ 16 }
         ensures number { IfSome result (λ n. (read_digits 256 count self.old ≡ Some (n, self.new)) × (n < 256 ^ count)) }
         ensures short { IfNone result (read_digits 256 count self.old ≡ None) }
     {
-        let mut number = 0u128;
-        for _ in 0..count {
-            let octet = self.take_octet()?;
-            number = number * 256 + u128::from(octet);
-        }
-        Some(number)
+        let octets = self.take_octets(count as usize)?;
+        Some(number_of(octets))
     }
 
-    /// Takes a number of one to sixteen octets behind their number, and tells both.
-    fn take_counted(&mut self) -> Result<(u128, u32), DecodeError>
-        ensures { MatchResult result (λ f. (Reading.read_counted self.old ≡ Some (f, self.new)) × ((1 ≤ f.1) × (f.1 ≤ 16) × (f.0 < 256 ^ f.1))) (Misses (Reading.read_counted self.old)) }
+    /// Takes a length of so many octets (X.696 8.6.5).
+    fn take_long_length(&mut self, count: usize) -> Result<usize, DecodeError>
+        ensures { MatchResult result (λ k. long_length count self.old ≡ Ok (k, self.new)) (λ e. long_length count self.old ≡ Err e) }
     {
-        let Some(count) = self.take_octet() else {
+        let Some(octets) = self.take_octets(count) else {
             return Err(DecodeError::Incomplete);
         };
-        if count == 0 || count == 0x80 {
-            return Err(DecodeError::ZeroLengthOfLength);
-        }
-        if count > 0x80 {
+        let Some(length) = length_of(octets) else {
+            return Err(DecodeError::LengthExceedsPlatformWidth);
+        };
+        if length < 0x80 || count > octet_width(length as u128) as usize {
             return Err(DecodeError::NotValidCanonicalEncoding);
         }
-        if count > 16 {
-            return Err(DecodeError::ValueConstraintNotSatisfied);
-        }
-        match self.take_number(u32::from(count)) {
-            Some(number) => Ok((number, u32::from(count))),
+        Ok(length)
+    }
+
+    /// Takes the length that stands in front of a number (X.696 8.6).
+    fn take_length(&mut self) -> Result<usize, DecodeError>
+        ensures { MatchResult result (λ k. length_in_front self.old ≡ Ok (k, self.new)) (λ e. length_in_front self.old ≡ Err e) }
+    {
+        match self.take_octet() {
             None => Err(DecodeError::Incomplete),
+            Some(0x00 | 0x80) => Err(DecodeError::ZeroLengthOfLength),
+            Some(length) if length < 0x80 => Ok(length as usize),
+            Some(long) => self.take_long_length((long - 0x80) as usize),
+        }
+    }
+
+    /// Takes the octets of a number behind their length.
+    fn take_contents(&mut self) -> Result<&'a [u8], DecodeError>
+        ensures { MatchResult result (λ o. contents_in_front self.old ≡ Ok (o.now, self.new)) (λ e. contents_in_front self.old ≡ Err e) }
+    {
+        let length = self.take_length()?;
+        match self.take_octets(length) {
+            Some(contents) => Ok(contents),
+            None => Err(DecodeError::Incomplete),
+        }
+    }
+}
+
+/// The number that so many octets are, the highest first.
+fn number_of(octets: &[u8]) -> u128
+    requires { length octets.now ≤ 16 }
+    ensures number { result ≡ Numbers.number_after 256 0 octets.now }
+    ensures fits { result < 256 ^ length octets.now }
+{
+    let mut number = 0u128;
+    for octet in octets {
+        number = number * 256 + u128::from(*octet);
+    }
+    number
+}
+
+/// The length that so many octets are, the highest first, if 64 bits hold it.
+fn length_of(octets: &[u8]) -> Option<usize>
+    ensures length { IfSome result (λ n. n ≡ Numbers.number_after 256 0 octets.now) }
+    ensures none { IfNone result (2 ^ 64 ≤ Numbers.number_after 256 0 octets.now) }
+{
+    let mut length = 0usize;
+    for octet in octets {
+        length = length.checked_mul(256)?.checked_add(*octet as usize)?;
+    }
+    Some(length)
+}
+
+/// Whether octets are the fewest of a number that is not negative: there is one at least, and none is zero in front of others.
+fn is_fewest_unsigned(octets: &[u8]) -> bool
+    ensures { result ≡ unsigned_is_fewest octets.now }
+{
+    match octets {
+        [] => false,
+        [_] => true,
+        [first, _, ..] => *first != 0x00,
+    }
+}
+
+/// Whether octets are the fewest of a number of two's complement: the first nine bits are not alike (X.690 8.3.2).
+fn is_fewest_signed(octets: &[u8]) -> bool
+    ensures { result ≡ signed_is_fewest octets.now }
+{
+    match octets {
+        [] => false,
+        [_] => true,
+        [first, second, ..] => {
+            if *first == 0x00 {
+                *second >= 0x80
+            } else if *first == 0xFF {
+                *second < 0x80
+            } else {
+                true
+            }
         }
     }
 }
@@ -247,7 +335,7 @@ fn signed_number(digits: u128, count: u32) -> i128
 /// Takes a number that is not negative, in so many octets or in the fewest.
 fn read_unsigned(fixed: Option<u32>, reader: &mut OctetReader<'_>) -> Result<u128, DecodeError>
     requires { IfSome fixed (λ k. k ≤ 8) }
-    ensures { MatchResult result (λ n. Reading.read_unsigned fixed reader.old ≡ Some (pos n, reader.new)) (Misses (Reading.read_unsigned fixed reader.old)) }
+    ensures { MatchResult result (λ n. unsigned_in_front fixed reader.old ≡ Ok (pos n, reader.new)) (λ e. unsigned_in_front fixed reader.old ≡ Err e) }
 {
     match fixed {
         Some(count) => match reader.take_number(count) {
@@ -255,11 +343,14 @@ fn read_unsigned(fixed: Option<u32>, reader: &mut OctetReader<'_>) -> Result<u12
             None => Err(DecodeError::Incomplete),
         },
         None => {
-            let (number, count) = reader.take_counted()?;
-            if count != octet_width(number).max(1) {
+            let contents = reader.take_contents()?;
+            if !is_fewest_unsigned(contents) {
                 return Err(DecodeError::NotValidCanonicalEncoding);
             }
-            Ok(number)
+            if contents.len() > MOST_OCTETS {
+                return Err(DecodeError::ValueConstraintNotSatisfied);
+            }
+            Ok(number_of(contents))
         }
     }
 }
@@ -267,7 +358,7 @@ fn read_unsigned(fixed: Option<u32>, reader: &mut OctetReader<'_>) -> Result<u12
 /// Takes a number of two's complement, in so many octets or in the fewest.
 fn read_signed(fixed: Option<u32>, reader: &mut OctetReader<'_>) -> Result<i128, DecodeError>
     requires { IfSome fixed (λ k. (1 ≤ k) × (k ≤ 8)) }
-    ensures { MatchResult result (λ n. Reading.read_signed fixed reader.old ≡ Some (n, reader.new)) (Misses (Reading.read_signed fixed reader.old)) }
+    ensures { MatchResult result (λ n. signed_in_front fixed reader.old ≡ Ok (n, reader.new)) (λ e. signed_in_front fixed reader.old ≡ Err e) }
 {
     match fixed {
         Some(count) => match reader.take_number(count) {
@@ -275,20 +366,22 @@ fn read_signed(fixed: Option<u32>, reader: &mut OctetReader<'_>) -> Result<i128,
             None => Err(DecodeError::Incomplete),
         },
         None => {
-            let (digits, count) = reader.take_counted()?;
-            let number = signed_number(digits, count);
-            if count != signed_octets(number) {
+            let contents = reader.take_contents()?;
+            if !is_fewest_signed(contents) {
                 return Err(DecodeError::NotValidCanonicalEncoding);
             }
-            Ok(number)
+            if contents.len() > MOST_OCTETS {
+                return Err(DecodeError::ValueConstraintNotSatisfied);
+            }
+            Ok(signed_number(number_of(contents), contents.len() as u32))
         }
     }
 }
 
 /// Takes a number of the form that numbers between two bounds have.
 fn read_between(low: i128, high: i128, reader: &mut OctetReader<'_>) -> Result<i128, DecodeError>
-    ensures number { IfOk result (λ n. Reading.read_between low high reader.old ≡ Some (n, reader.new)) }
-    ensures refused { IfErr result (λ e. Misses (Reading.read_octet_number (range_between low high) reader.old) e) }
+    ensures number { IfOk result (λ n. between_in_front low high reader.old ≡ Ok (n, reader.new)) }
+    ensures refused { IfErr result (λ e. integer_in_front low high reader.old ≡ Err e) }
 {
     let fixed = fixed_between(low, high);
     if low < 0 {
@@ -301,8 +394,9 @@ fn read_between(low: i128, high: i128, reader: &mut OctetReader<'_>) -> Result<i
     Ok(number.cast_signed())
 }
 
+/// Takes a number between two bounds, or tells what is first wrong (X.696 10).
 fn read_integer(low: i128, high: i128, reader: &mut OctetReader<'_>) -> Result<i128, DecodeError>
-    ensures { MatchResult result (λ n. Reading.read_octet_number (range_between low high) reader.old ≡ Some (n, reader.new)) (Misses (Reading.read_octet_number (range_between low high) reader.old)) }
+    ensures { MatchResult result (λ n. integer_in_front low high reader.old ≡ Ok (n, reader.new)) (λ e. integer_in_front low high reader.old ≡ Err e) }
 {
     let number = read_between(low, high, reader)?;
     if number < low || high < number {
@@ -311,6 +405,7 @@ fn read_integer(low: i128, high: i128, reader: &mut OctetReader<'_>) -> Result<i
     Ok(number)
 }
 
+/// Takes a truth value (X.696 9).
 fn read_boolean(reader: &mut OctetReader<'_>) -> Result<bool, DecodeError>
     ensures { MatchResult result (λ b. Reading.read_octet_truth reader.old ≡ Some (Asn1Value.truth b, reader.new)) (Misses (Reading.read_octet_truth reader.old)) }
 {

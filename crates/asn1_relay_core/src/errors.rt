@@ -14,6 +14,9 @@ pub enum DecodeError {
     /// An integer has no octets (X.696 10.4).
     #[error("a length is zero")]
     ZeroLengthOfLength,
+    /// A length is past 64 bits (X.696 8.6.5).
+    #[error("a length is too large")]
+    LengthExceedsPlatformWidth,
     /// A truth value of the canonical octet encoding rules is neither 0x00 nor 0xFF (X.696 9).
     #[error("a truth value is neither 0x00 nor 0xFF")]
     InvalidBool,

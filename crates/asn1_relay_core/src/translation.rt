@@ -5,7 +5,7 @@ ghost use Rattle.asn1_relay_texts.specs.Fronts.{uper_front, coer_front, IsFront}
 ghost use Rattle.asn1_relay_texts.specs.Kinds.{is_carried};
 ghost use Rattle.asn1_relay_core.specs.Finding.{Misses};
 ghost use Rattle.asn1_relay_core.specs.Meaning.{schema_of, value_of};
-ghost use Rattle.asn1_relay_core.specs.Recoding.{rules_of, answer_of, Answer, IsAnswer, FindsNone, WritesNone, OneAnswerIsRight, source_fault_of, target_fault_of};
+ghost use Rattle.asn1_relay_core.specs.Recoding.{rules_of, answer_of, Answer, IsAnswer, NamesMemoryAlone, FindsNone, WritesNone, OneAnswerIsRight, source_fault_of, target_fault_of};
 ghost use Rattle.asn1_relay_core.specs.Writing.{Refuses};
 
 use crate::bits::{BitReader, BitWriter};
@@ -49,6 +49,7 @@ pub enum RecodeFault {
     Memory,
 }
 
+/// The octets of a value by UPER, however many there are.
 fn write_uper(alloc: Global, schema: &Schema, value: &Value) -> Result<Vec<u8>, EncodeError>
     requires { IsTrue (is_carried (schema_of schema.now)) }
     ensures { MatchResult result (λ octets. encoding uper (schema_of schema.now) (value_of value.now) ≡ Some octets.items) (Refuses (encoding uper (schema_of schema.now) (value_of value.now))) }
@@ -61,6 +62,7 @@ fn write_uper(alloc: Global, schema: &Schema, value: &Value) -> Result<Vec<u8>, 
     Ok(octets)
 }
 
+/// The octets of a value by COER, however many there are.
 fn write_coer(alloc: Global, schema: &Schema, value: &Value) -> Result<Vec<u8>, EncodeError>
     requires { IsTrue (is_carried (schema_of schema.now)) }
     ensures { MatchResult result (λ octets. encoding coer (schema_of schema.now) (value_of value.now) ≡ Some octets.items) (Refuses (encoding coer (schema_of schema.now) (value_of value.now))) }
@@ -77,6 +79,7 @@ struct Front {
     len: usize,
 }
 
+/// Reads a value from the front of the octets by UPER.
 fn read_uper(alloc: Global, schema: &Schema, input: &[u8]) -> Result<Front, DecodeError>
     requires { IsTrue (is_carried (schema_of schema.now)) }
     ensures { MatchResult result (λ front. uper_front 128 (schema_of schema.now) input.now ≡ Some (value_of front.value, front.len)) (Misses (uper_front 128 (schema_of schema.now) input.now)) }
@@ -94,6 +97,7 @@ fn read_uper(alloc: Global, schema: &Schema, input: &[u8]) -> Result<Front, Deco
     }
 }
 
+/// Reads a value from the front of the octets by COER.
 fn read_coer(alloc: Global, schema: &Schema, input: &[u8]) -> Result<Front, DecodeError>
     requires { IsTrue (is_carried (schema_of schema.now)) }
     ensures { MatchResult result (λ front. coer_front 128 (schema_of schema.now) input.now ≡ Some (value_of front.value, front.len)) (Misses (coer_front 128 (schema_of schema.now) input.now)) }
@@ -160,6 +164,7 @@ fn read(alloc: Global, codec: Codec, schema: &Schema, input: &[u8]) -> Result<Fr
     }
 }
 
+/// The fault of a translation whose input was not read.
 fn source_fault(error: DecodeError) -> RecodeFault
     ensures { result ≡ source_fault_of error }
 {
@@ -169,6 +174,7 @@ fn source_fault(error: DecodeError) -> RecodeFault
     }
 }
 
+/// The fault of a translation whose value was not written.
 fn target_fault(error: EncodeError) -> RecodeFault
     ensures { result ≡ target_fault_of error }
 {
@@ -187,7 +193,7 @@ pub fn one_answer_is_right()
 /// levels, become the canonical encoding of that value by the rules `to`.
 ///
 /// The answer is the right one, and as there is one at most (`one_answer_is_right`), each fault comes exactly where it should; only want of
-/// memory may come in its place.
+/// memory may come in its place, always as `RecodeFault::Memory`.
 pub fn recode<T: Wire>(
     alloc: Global,
     from: Codec,
@@ -196,6 +202,7 @@ pub fn recode<T: Wire>(
 ) -> Result<Vec<u8>, RecodeFault>
     ensures right { IfSome (answer_of result) (IsAnswer (rules_of from) (rules_of to) T.asn1_type input.now) }
     ensures exact { (a : Answer) → IsAnswer (rules_of from) (rules_of to) T.asn1_type input.now a → (answer_of result ≡ None) ⊎ (answer_of result ≡ Some a) }
+    ensures memory { IfErr result NamesMemoryAlone }
 {
     let Ok(schema) = T::schema(alloc) else {
         return Err(RecodeFault::Memory);

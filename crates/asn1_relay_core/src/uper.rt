@@ -22,6 +22,7 @@ fn width_of(span: u128) -> u32
     u128::BITS - span.leading_zeros()
 }
 
+/// Adds the bits of a number between two bounds (X.691 13.2).
 fn write_integer(
     low: i128,
     high: i128,
@@ -79,6 +80,7 @@ pub fn write_value(
     }
 }
 
+/// Takes a number between two bounds (X.691 13.2).
 fn read_integer(low: i128, high: i128, reader: &mut BitReader<'_>) -> Result<i128, DecodeError>
     ensures { MatchResult result (λ n. read_bit_number (range_between low high) reader.old ≡ Some (n, reader.new)) (Misses (read_bit_number (range_between low high) reader.old)) }
 {

@@ -31,6 +31,7 @@ pub trait Wire: Drop {
         ensures each { IsTrue (is_value_of asn1_type (value_of value.now)) → IsSome result };
 
     /// The type is BOOLEAN, INTEGER with two bounds of at most 128 bits and no mark, or SEQUENCE of such required components without a mark.
+    /// This asks nothing of the tags of components, which leave no octets here. But `schema` succeeds for automatic tags alone (X.680 25.8).
     ghost carried: { IsTrue (is_carried asn1_type) };
 
     /// One value of `Self` at most means a value: rebuilding what `x` means gives `x`.

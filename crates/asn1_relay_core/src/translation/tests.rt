@@ -111,126 +111,69 @@ fn numbers_that_are_not_negative(rt: HostRuntime) -> Result<(), Fail> {
 #[test]
 fn large_numbers(rt: HostRuntime) -> Result<(), Fail> {
     let alloc = rt.alloc();
-    let most = [0xFF, 0xFF, 0xFF, 0xFF];
-    written_and_read(&rt, alloc, 0, 4294967295, 4294967295, &most, &most)?;
-    written_and_read(
-        &rt,
-        alloc,
-        0,
-        4294967296,
-        4294967296,
-        &[0, 0, 0, 1, 0, 0, 0, 0],
-        &[0x80, 0, 0, 0, 0],
-    )?;
-    let most = [0xFF, 0xFF, 0xFF, 0xFF, 0xFF, 0xFF, 0xFF, 0xFF];
-    written_and_read(
-        &rt,
-        alloc,
-        0,
-        18446744073709551615,
-        18446744073709551615,
-        &most,
-        &most,
-    )?;
+    let most = u32::MAX as i128;
+    written_and_read(&rt, alloc, 0, most, most, &[0xFF; 4], &[0xFF; 4])?;
+    let coer = [0, 0, 0, 1, 0, 0, 0, 0];
+    let next = most + 1;
+    written_and_read(&rt, alloc, 0, next, next, &coer, &[0x80, 0, 0, 0, 0])?;
+    let most = u64::MAX as i128;
+    written_and_read(&rt, alloc, 0, most, most, &[0xFF; 8], &[0xFF; 8])?;
     let coer = [9, 1, 0, 0, 0, 0, 0, 0, 0, 0];
     let uper = [0x80, 0, 0, 0, 0, 0, 0, 0, 0];
-    written_and_read(
-        &rt,
-        alloc,
-        0,
-        18446744073709551616,
-        18446744073709551616,
-        &coer,
-        &uper,
-    )?;
-    written_and_read(
-        &rt,
-        alloc,
-        0,
-        18446744073709551616,
-        0,
-        &[1, 0],
-        &[0, 0, 0, 0, 0, 0, 0, 0, 0],
-    )?;
+    let next = most + 1;
+    written_and_read(&rt, alloc, 0, next, next, &coer, &uper)?;
+    written_and_read(&rt, alloc, 0, next, 0, &[1, 0], &[0; 9])?;
     Ok(())
 }
 
 #[test]
-fn negative_numbers(rt: HostRuntime) -> Result<(), Fail> {
+fn small_negative_numbers(rt: HostRuntime) -> Result<(), Fail> {
     let alloc = rt.alloc();
     written_and_read(&rt, alloc, -5, 5, -4, &[0xFC], &[0x10])?;
     written_and_read(&rt, alloc, -128, 127, -128, &[0x80], &[0x00])?;
-    written_and_read(&rt, alloc, -129, 127, -129, &[0xFF, 0x7F], &[0x00, 0x00])?;
+    written_and_read(&rt, alloc, -129, 127, -129, &[0xFF, 0x7F], &[0, 0])?;
     written_and_read(&rt, alloc, -1, 128, 128, &[0x00, 0x80], &[0x81])?;
-    written_and_read(
-        &rt,
-        alloc,
-        -32768,
-        32767,
-        -128,
-        &[0xFF, 0x80],
-        &[0x7F, 0x80],
-    )?;
-    written_and_read(
-        &rt,
-        alloc,
-        -32769,
-        0,
-        -32769,
-        &[0xFF, 0xFF, 0x7F, 0xFF],
-        &[0x00, 0x00],
-    )?;
-    written_and_read(
-        &rt,
-        alloc,
-        -2147483648,
-        2147483647,
-        -1,
-        &[0xFF, 0xFF, 0xFF, 0xFF],
-        &[0x7F, 0xFF, 0xFF, 0xFF],
-    )?;
+    let (least, most) = (i16::MIN as i128, i16::MAX as i128);
+    let uper = [0x7F, 0x80];
+    written_and_read(&rt, alloc, least, most, -128, &[0xFF, 0x80], &uper)?;
+    let coer = [0xFF, 0xFF, 0x7F, 0xFF];
+    written_and_read(&rt, alloc, least - 1, 0, least - 1, &coer, &[0, 0])?;
+    let coer = [0x00, 0x00, 0x80, 0x00];
+    let uper = [0x80, 0x01];
+    written_and_read(&rt, alloc, -1, most + 1, most + 1, &coer, &uper)?;
+    Ok(())
+}
+
+#[test]
+fn negative_numbers_of_four_octets(rt: HostRuntime) -> Result<(), Fail> {
+    let alloc = rt.alloc();
+    let (least, most) = (i32::MIN as i128, i32::MAX as i128);
+    let uper = [0x7F, 0xFF, 0xFF, 0xFF];
+    written_and_read(&rt, alloc, least, most, -1, &[0xFF; 4], &uper)?;
     let coer = [0xFF, 0xFF, 0xFF, 0xFF, 0x7F, 0xFF, 0xFF, 0xFF];
-    written_and_read(
-        &rt,
-        alloc,
-        -2147483649,
-        0,
-        -2147483649,
-        &coer,
-        &[0, 0, 0, 0],
-    )?;
+    written_and_read(&rt, alloc, least - 1, 0, least - 1, &coer, &[0; 4])?;
+    let coer = [0x00, 0x00, 0x00, 0x00, 0x80, 0x00, 0x00, 0x00];
+    let uper = [0x80, 0x00, 0x00, 0x01];
+    written_and_read(&rt, alloc, -1, most + 1, most + 1, &coer, &uper)?;
+    Ok(())
+}
+
+#[test]
+fn negative_numbers_of_eight_octets(rt: HostRuntime) -> Result<(), Fail> {
+    let alloc = rt.alloc();
+    let (least, most) = (i64::MIN as i128, i64::MAX as i128);
     let coer = [0x80, 0, 0, 0, 0, 0, 0, 0];
-    written_and_read(
-        &rt,
-        alloc,
-        -9223372036854775808,
-        9223372036854775807,
-        -9223372036854775808,
-        &coer,
-        &[0, 0, 0, 0, 0, 0, 0, 0],
-    )?;
+    written_and_read(&rt, alloc, least, most, least, &coer, &[0; 8])?;
     let coer = [9, 0xFF, 0x7F, 0xFF, 0xFF, 0xFF, 0xFF, 0xFF, 0xFF, 0xFF];
-    written_and_read(
-        &rt,
-        alloc,
-        -9223372036854775809,
-        0,
-        -9223372036854775809,
-        &coer,
-        &[0, 0, 0, 0, 0, 0, 0, 0],
-    )?;
-    written_and_read(
-        &rt,
-        alloc,
-        -9223372036854775809,
-        0,
-        -1,
-        &[1, 0xFF],
-        &[0x80, 0, 0, 0, 0, 0, 0, 0],
-    )?;
-    let uper = [0; 16];
+    written_and_read(&rt, alloc, least - 1, 0, least - 1, &coer, &[0; 8])?;
+    let uper = [0x80, 0, 0, 0, 0, 0, 0, 0];
+    written_and_read(&rt, alloc, least - 1, 0, -1, &[1, 0xFF], &uper)?;
+    let coer = [9, 0x00, 0x80, 0, 0, 0, 0, 0, 0, 0];
+    let uper = [0x80, 0, 0, 0, 0, 0, 0, 1];
+    written_and_read(&rt, alloc, -1, most + 1, most + 1, &coer, &uper)?;
     let coer = [16, 0x80, 0, 0, 0, 0, 0, 0, 0, 0, 0, 0, 0, 0, 0, 0, 0];
-    written_and_read(&rt, alloc, i128::MIN, i128::MAX, i128::MIN, &coer, &uper)?;
+    let (least, most) = (i128::MIN, i128::MAX);
+    written_and_read(&rt, alloc, least, most, least, &coer, &[0; 16])?;
     Ok(())
 }
 
@@ -286,12 +229,8 @@ fn refused(
 fn reasons(rt: HostRuntime) {
     let alloc = rt.alloc();
     let wide = integer(0, 18446744073709551616);
-    let empty = DecodeError::ZeroLengthOfLength;
-    refused(&rt, alloc, Codec::Coer, &wide, &[0x00], empty);
-    refused(&rt, alloc, Codec::Coer, &wide, &[0x80], empty);
     let padded = DecodeError::NotValidCanonicalEncoding;
     refused(&rt, alloc, Codec::Coer, &wide, &[0x02, 0x00, 0x05], padded);
-    refused(&rt, alloc, Codec::Coer, &wide, &[0x81, 0x01, 0x05], padded);
     let incomplete = DecodeError::Incomplete;
     refused(&rt, alloc, Codec::Coer, &wide, &[0x02, 0x01], incomplete);
     let outside = DecodeError::ValueConstraintNotSatisfied;
@@ -301,4 +240,70 @@ fn reasons(rt: HostRuntime) {
     let filled = DecodeError::InvalidPadding;
     refused(&rt, alloc, Codec::Uper, &five, &[0x01], filled);
     refused(&rt, alloc, Codec::Uper, &five, &[], incomplete);
+}
+
+#[test]
+fn lengths(rt: HostRuntime) {
+    let alloc = rt.alloc();
+    let coer = Codec::Coer;
+    let wide = integer(0, 18446744073709551616);
+    let empty = DecodeError::ZeroLengthOfLength;
+    refused(&rt, alloc, coer, &wide, &[0x00], empty);
+    refused(&rt, alloc, coer, &wide, &[0x80], empty);
+    let incomplete = DecodeError::Incomplete;
+    refused(&rt, alloc, coer, &wide, &[], incomplete);
+    refused(&rt, alloc, coer, &wide, &[0x11], incomplete);
+    refused(&rt, alloc, coer, &wide, &[0x11, 0x00], incomplete);
+    refused(&rt, alloc, coer, &wide, &[0x81], incomplete);
+    refused(&rt, alloc, coer, &wide, &[0x82, 0x00], incomplete);
+    refused(&rt, alloc, coer, &wide, &[0x81, 0x80, 0x00], incomplete);
+    let padded = DecodeError::NotValidCanonicalEncoding;
+    refused(&rt, alloc, coer, &wide, &[0x81, 0x00], padded);
+    refused(&rt, alloc, coer, &wide, &[0x81, 0x01, 0x05], padded);
+    refused(&rt, alloc, coer, &wide, &[0x81, 0x7F], padded);
+    refused(&rt, alloc, coer, &wide, &[0x82, 0x00, 0x80], padded);
+    let zeros = [0x89, 0, 0, 0, 0, 0, 0, 0, 0, 1];
+    refused(&rt, alloc, coer, &wide, &zeros, padded);
+    let past = DecodeError::LengthExceedsPlatformWidth;
+    let beyond = [0x89, 1, 0, 0, 0, 0, 0, 0, 0, 0];
+    refused(&rt, alloc, coer, &wide, &beyond, past);
+    refused(&rt, alloc, coer, &wide, &beyond[..9], incomplete);
+    let most = [0x88, 0xFF, 0xFF, 0xFF, 0xFF, 0xFF, 0xFF, 0xFF, 0xFF];
+    refused(&rt, alloc, coer, &wide, &most, incomplete);
+}
+
+#[test]
+fn long_numbers(rt: HostRuntime) {
+    let alloc = rt.alloc();
+    let coer = Codec::Coer;
+    let wide = integer(0, 18446744073709551616);
+    let all = integer(i128::MIN, i128::MAX);
+    let padded = DecodeError::NotValidCanonicalEncoding;
+    let outside = DecodeError::ValueConstraintNotSatisfied;
+    let incomplete = DecodeError::Incomplete;
+    let mut long = [0; 18];
+    long[0] = 17;
+    long[17] = 5;
+    refused(&rt, alloc, coer, &wide, &long, padded);
+    refused(&rt, alloc, coer, &all, &long, padded);
+    refused(&rt, alloc, coer, &wide, &long[..17], incomplete);
+    long[1] = 1;
+    refused(&rt, alloc, coer, &wide, &long, outside);
+    refused(&rt, alloc, coer, &all, &long, outside);
+    long[1] = 0xFF;
+    long[2] = 0x80;
+    refused(&rt, alloc, coer, &all, &long, padded);
+    long[2] = 0x7F;
+    refused(&rt, alloc, coer, &all, &long, outside);
+    long[1] = 0x00;
+    long[2] = 0x80;
+    refused(&rt, alloc, coer, &all, &long, outside);
+    let mut longest = [0; 130];
+    longest[0] = 0x81;
+    longest[1] = 0x80;
+    longest[2] = 1;
+    refused(&rt, alloc, coer, &wide, &longest, outside);
+    refused(&rt, alloc, coer, &wide, &longest[..129], incomplete);
+    longest[2] = 0;
+    refused(&rt, alloc, coer, &wide, &longest, padded);
 }

@@ -5,6 +5,7 @@ use Rattle.std.proofs.lemmas.Int.{to_z-of_z}
 use Rattle.std.proofs.lemmas.Result.{err_from_is_err_and}
 use Rattle.asn1_relay_texts.specs.Reading.{read_octets}
 use Rattle.asn1_relay_core.proofs.Readers.{octet_reading, truth_found, truth_missed, number_missed, number_found, nothing_too_deep, sequence_missed, sequence_found, values_missed, values_done}
+use Rattle.asn1_relay_core.proofs.Judged.{integer_found, integer_missed}
 use Rattle.asn1_relay_core.proofs.coer.+read_value.Goals as goal
 
 pub returns-in_err-read_boolean-in-Boolean : goal.returns-in_err-read_boolean-in-Boolean
@@ -21,7 +22,7 @@ returns-in_err-read_integer-in-Integer t c =
     let high : SFits w128 c.in-Integer.high = search rules in
     let p = err_from_is_err_and c.from_residual-in_err-read_integer-in-Integer.result c.from_residual-in_err-read_integer-in-Integer.ensures.1 in
     let missed = simp to_z-of_z at c.in_err-read_integer-in-Integer.ensures in
-    rw (p.1, p.2) (number_missed octet_reading c.args.levels c.args.schema.now c.in-Integer.low c.in-Integer.high c.args.reader.now _ c.in-Integer.is missed)
+    rw (p.1, p.2) (number_missed octet_reading c.args.levels c.args.schema.now c.in-Integer.low c.in-Integer.high c.args.reader.now _ c.in-Integer.is (integer_missed c.in-Integer.low c.in-Integer.high c.args.reader.now _ missed))
 
 pub returns-in_ok-read_integer-in-Integer : goal.returns-in_ok-read_integer-in-Integer
 returns-in_ok-read_integer-in-Integer t c =
@@ -29,7 +30,7 @@ returns-in_ok-read_integer-in-Integer t c =
     let high : SFits w128 c.in-Integer.high = search rules in
     let fits : SFits w128 c.in_ok-read_integer-in-Integer.field-0 = search rules in
     let found = simp to_z-of_z at c.in_ok-read_integer-in-Integer.ensures in
-    simp to_z-of_z (number_found octet_reading c.args.levels c.args.schema.now c.in-Integer.low c.in-Integer.high c.in_ok-read_integer-in-Integer.field-0 c.args.reader.now _ c.in-Integer.is found)
+    simp to_z-of_z (number_found octet_reading c.args.levels c.args.schema.now c.in-Integer.low c.in-Integer.high c.in_ok-read_integer-in-Integer.field-0 c.args.reader.now _ c.in-Integer.is (integer_found c.in-Integer.low c.in-Integer.high c.in_ok-read_integer-in-Integer.field-0 c.args.reader.now _ found))
 
 pub returns-then-levels-eq0 : goal.returns-then-levels-eq0
 returns-then-levels-eq0 t c = nothing_too_deep octet_reading c.args.levels c.args.schema.now c.in-Sequence.components c.args.reader.now c.in-Sequence.is c.if-levels-eq0.true

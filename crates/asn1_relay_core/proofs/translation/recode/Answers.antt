@@ -1,7 +1,7 @@
 use Rattle.std.proofs.Common.{false, true, ◌≡◌, ap, ◌∙◌}
 use Rattle.asn1_relay_texts.specs.Kinds.{is_carried}
 use Rattle.asn1_relay_core.specs.Meaning.{schema_of, value_of}
-use Rattle.asn1_relay_core.proofs.Answering.{right_not_found, right_surplus, right_answered, right_not_written, value_of_type}
+use Rattle.asn1_relay_core.proofs.Answering.{right_not_found, right_surplus, right_answered, right_not_written, value_of_type, source_names_memory, target_names_memory}
 use Rattle.asn1_relay_core.proofs.translation.recode.Goals as goal
 
 pub read-requires : goal.read-requires
@@ -11,7 +11,7 @@ pub write-requires : goal.write-requires
 write-requires g c = ap is_carried c.in-Ok.ensures ∙ g.met.T.Wire.carried
 
 pub returns-in-Err : goal.returns-in-Err
-returns-in-Err g c = let r = right_not_found c.args.from c.args.to g.T.Wire.asn1_type (schema_of c.in-Ok.schema) c.args.input.now g.met.T.Wire.carried c.type_inv.input c.in-Ok.ensures c.in-Err.error c.source_fault.result c.in-Err.ensures c.source_fault.ensures in record { right = r.right; exact = r.exact }
+returns-in-Err g c = let r = right_not_found c.args.from c.args.to g.T.Wire.asn1_type (schema_of c.in-Ok.schema) c.args.input.now g.met.T.Wire.carried c.type_inv.input c.in-Ok.ensures c.in-Err.error c.source_fault.result c.in-Err.ensures c.source_fault.ensures in record { right = r.right; exact = r.exact; memory = source_names_memory c.in-Err.error c.source_fault.result c.source_fault.ensures }
 
 pub returns-then-front-input-clause-right : goal.returns-then-front-input-clause-right
 returns-then-front-input-clause-right g c = (right_surplus c.args.from c.args.to g.T.Wire.asn1_type (schema_of c.in-Ok.schema) c.args.input.now g.met.T.Wire.carried c.type_inv.input c.in-Ok.ensures (value_of c.in-Ok-read.front.value) c.in-Ok-read.front.len c.in-Ok-read.ensures c.if-front-input.true).right
@@ -43,3 +43,6 @@ returns-clause-exact g c = (right_not_written c.args.from c.args.to g.T.Wire.asn
 
 pub returns-clause-right : goal.returns-clause-right
 returns-clause-right g c = (right_not_written c.args.from c.args.to g.T.Wire.asn1_type (schema_of c.in-Ok.schema) c.args.input.now g.met.T.Wire.carried c.type_inv.input c.in-Ok.ensures c.in-Err-write.error c.target_fault.result (value_of c.in-Ok-read.front.value) _ (value_of c.in-Ok-to_value.value) c.in-Ok-read.front.len c.in-Ok-read.ensures c.if-front-input.false c.in-Some.ensures.meant c.in-Ok-to_value.ensures.value c.in-Err-write.ensures c.target_fault.ensures).right
+
+pub returns-clause-memory : goal.returns-clause-memory
+returns-clause-memory g c = target_names_memory c.in-Err-write.error c.target_fault.result c.target_fault.ensures
