@@ -1,9 +1,11 @@
 //! Value and size constraints.
-ghost use Rattle.std.specs.Prelude.{◌≡◌, leb};
+ghost use Rattle.std.specs.Prelude.{◌≡◌, ℕ, leb, ℤ, ◌&&◌};
 ghost use Rattle.asn1_model.specs.Numbers.{is_at_most};
-ghost use Rattle.asn1_schema_constraints.specs.Bounds.{meet};
+ghost use Rattle.asn1_schema_bounds.specs.Bounds.{lower, upper, meet, admits_number, admits_count, is_one_size, is_size_range};
+ghost use Rattle.asn1_schema_bounds.specs.Widths.{has_sign, fixed_width};
 
 use crate::Bounded;
+use std::ops::{Deref, DerefMut};
 
 /// A value constraint (X.680 51.4).
 #[derive(Clone, Copy, Debug, PartialEq, Eq)]
@@ -20,14 +22,41 @@ impl Value {
         Value { value }
     }
 
+    /// Whether numbers under the constraint are written with a sign (X.696 10), as
+    /// [`Bounded::range_in_bytes`] tells.
+    pub fn get_sign(&self) -> bool
+        ensures { result ≡ has_sign (lower self.now.value) }
+    {
+        self.value.range_in_bytes().0
+    }
+
+    /// In how many octets numbers under the constraint are written, if their form is fixed (X.696 10), as
+    /// [`Bounded::range_in_bytes`] tells.
+    pub fn get_range(&self) -> Option<u8>
+        ensures { result ≡ fixed_width (lower self.now.value) (upper self.now.value) }
+    {
+        self.value.range_in_bytes().1
+    }
+
     /// The constraint to what both admit: from the greater lower bound to the lesser upper one. If they
     /// admit no number together, the answer's bounds are the wrong way round, and it admits none.
     pub fn intersect(&self, other: &Self) -> Self
-        ensures { result.value ≡ meet is_at_most self.now.value other.now.value }
+        ensures bounds { result.value ≡ meet is_at_most self.now.value other.now.value }
+        ensures admits { (v : ℤ) → admits_number result.value v ≡ (admits_number self.now.value v && admits_number other.now.value v) }
     {
         Value {
             value: self.value.joined(other.value),
         }
+    }
+}
+
+impl Deref for Value {
+    type Target = Bounded<i128>;
+
+    ghost deref_gives = { λ v bounds. bounds ≡ v.value };
+
+    fn deref(&self) -> &Bounded<i128> {
+        &self.value
     }
 }
 
@@ -55,13 +84,48 @@ impl Size {
         }
     }
 
+    /// Whether there is one size alone: the greatest is the least, which is 0 where none is given.
+    pub fn is_fixed(&self) -> bool
+        ensures { result ≡ is_one_size self.now.range }
+    {
+        match self.range.as_end() {
+            Some(end) => *end == self.range.minimum(),
+            None => false,
+        }
+    }
+
+    /// Whether a least or a greatest size is given, and there is not one size alone.
+    pub fn is_range(&self) -> bool
+        ensures { result ≡ is_size_range self.now.range }
+    {
+        let is_bounded = self.range.as_start().is_some() || self.range.as_end().is_some();
+        is_bounded && !self.is_fixed()
+    }
+
     /// The constraint to what both admit: from the greater lower bound to the lesser upper one. If they
     /// admit no size together, the answer's bounds are the wrong way round, and it admits none.
     pub fn intersect(&self, other: &Self) -> Self
-        ensures { result.range ≡ meet leb self.now.range other.now.range }
+        ensures bounds { result.range ≡ meet leb self.now.range other.now.range }
+        ensures admits { (n : ℕ) → admits_count result.range n ≡ (admits_count self.now.range n && admits_count other.now.range n) }
     {
         Size {
             range: self.range.joined(other.range),
         }
+    }
+}
+
+impl Deref for Size {
+    type Target = Bounded<usize>;
+
+    ghost deref_gives = { λ s bounds. bounds ≡ s.range };
+
+    fn deref(&self) -> &Bounded<usize> {
+        &self.range
+    }
+}
+
+impl DerefMut for Size {
+    fn deref_mut(&mut self) -> &mut Bounded<usize> {
+        &mut self.range
     }
 }

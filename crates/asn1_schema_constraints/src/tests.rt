@@ -1,13 +1,11 @@
 //! Rows, and each call once.
-use crate::{Bounded, Effective, Size, Value};
+use crate::{
+    Bounded, Constraint, ConstraintDiscriminant, Constraints, Extensible, PermittedAlphabet, Size,
+    Value,
+};
 
 #[test]
-fn rows_of_bounds(rt: HostRuntime) {
-    assert_eq!(rt;
-        Bounded::<i128>::const_new(i128::MIN, i128::MAX).range(),
-        None
-    );
-    assert_eq!(rt; Bounded::<i128>::const_new(-5, 5).range(), Some(11));
+fn rows_of_intersections(rt: HostRuntime) {
     let joined = Value::new(Bounded::const_new(0, 10)).intersect(&Value::new(Bounded::const_new(
         5, 20,
     )));
@@ -17,29 +15,97 @@ fn rows_of_bounds(rt: HostRuntime) {
 }
 
 #[test]
-fn numbers_within_bounds(rt: HostRuntime) {
-    let bounds = Bounded::<i128>::const_new(-5, 5);
-    assert!(rt; bounds.in_bound(5));
-    assert!(rt; !bounds.contains(&6));
-    assert_eq!(rt; bounds.minimum(), -5);
-    assert_eq!(rt; Bounded::<i128>::up_to(3).minimum(), 0);
-    assert_eq!(rt; bounds.intersect(Bounded::start_from(6)), None);
+fn lists_of_constraints(rt: HostRuntime) {
+    let digits = [48, 49];
+    let all = Constraints::new(&[
+        Constraint::from(Value::new(Bounded::const_new(0, 10))),
+        Constraint::from(Size::fixed(2)),
+        Constraint::from(PermittedAlphabet::new(&digits)),
+        Constraint::from(Extensible::from(Value::new(Bounded::const_new(5, 20))).set_extensible(
+            true,
+        )),
+    ]);
     assert_eq!(rt;
-        bounds.intersect(Bounded::start_from(1)),
-        Some(Bounded::const_new(1, 5))
+        all.value().unwrap().constraint,
+        Value::new(Bounded::const_new(5, 10))
     );
+    assert_eq!(rt; all.size().unwrap().constraint, Size::fixed(2));
     assert_eq!(rt;
-        Bounded::<i128>::single_value(3).effective_value(3),
-        Effective::Plain(3)
+        all.permitted_alphabet()
+            .unwrap()
+            .constraint
+            .as_inner()
+            .len(),
+        2
     );
+    assert!(rt; all.extensible());
+    assert!(rt; !Constraints::default().extensible());
+    assert!(rt; Constraints::new(&[Constraint::Extensible]).extensible());
 }
 
 #[test]
-fn counts_within_bounds(rt: HostRuntime) {
-    let bounds = Bounded::<usize>::const_new(3, 6);
-    assert!(rt; bounds.contains(&6));
-    assert!(rt; !bounds.contains(&2));
-    assert_eq!(rt; bounds.range(), Some(4));
-    assert_eq!(rt; bounds.minimum(), 3);
-    assert_eq!(rt; bounds.intersect(Bounded::up_to(2)), None);
+fn forms_of_numbers(rt: HostRuntime) {
+    let small = Value::new(Bounded::const_new(-5, 5));
+    assert_eq!(rt; (small.get_sign(), small.get_range()), (true, Some(1)));
+    let large = Value::new(Bounded::const_new(256, 1234567));
+    assert_eq!(rt; (large.get_sign(), large.get_range()), (false, Some(4)));
+    assert!(rt; large.contains(&256));
+}
+
+#[test]
+fn sizes_are_fixed_or_ranges(rt: HostRuntime) {
+    assert!(rt; Size::fixed(5).is_fixed());
+    assert!(rt; Size::new(Bounded::const_new(5, 5)).is_fixed());
+    assert!(rt; !Size::fixed(5).is_range());
+    assert!(rt; Size::new(Bounded::start_from(5)).is_range());
+    assert!(rt; !Size::new(Bounded::None).is_range());
+    let mut size = Size::fixed(5);
+    *size = Bounded::const_new(1, 3);
+    assert_eq!(rt; size, Size::new(Bounded::const_new(1, 3)));
+}
+
+#[test]
+fn constraints_of_each_kind(rt: HostRuntime) {
+    let value = Constraint::from(Value::new(Bounded::const_new(0, 10)));
+    let size = Constraint::from(Extensible::from(Size::fixed(2)));
+    let letters = [97, 98];
+    let alphabet = Constraint::from(Extensible::from(PermittedAlphabet::new(&letters)));
+    assert_eq!(rt; value.kind(), ConstraintDiscriminant::Value);
+    assert!(rt; !value.kind().eq(&size.kind()));
+    assert_eq!(rt; value.variant_as_isize(), 0);
+    assert_eq!(rt; size.variant_as_isize(), 1);
+    assert_eq!(rt; alphabet.variant_as_isize(), 2);
+    assert_eq!(rt; Constraint::Extensible.variant_as_isize(), 3);
+    assert_eq!(rt;
+        value.as_value().unwrap().constraint.value,
+        Bounded::const_new(0, 10)
+    );
+    assert!(rt; value.to_value().is_some());
+    assert!(rt; value.to_size().is_none());
+    assert!(rt; size.to_size().is_some());
+    assert_eq!(rt;
+        alphabet
+            .as_permitted_alphabet()
+            .unwrap()
+            .constraint
+            .as_inner()
+            .len(),
+        2
+    );
+    assert!(rt; Constraint::Extensible.is_extensible());
+    assert!(rt; !size.is_extensible());
+}
+
+#[test]
+fn a_mark_of_either_stands(rt: HostRuntime) {
+    let further = [Value::new(Bounded::single_value(20))];
+    let open = Extensible::new_extensible(Value::new(Bounded::const_new(0, 10)), &further);
+    let closed = open.extensible_with_constraints(None);
+    let opened = Constraints::from(Constraint::from(open));
+    let shut = Constraints::from(Constraint::from(closed));
+    assert!(rt; shut.intersect(opened).extensible());
+    assert!(rt; opened.intersect(shut).extensible());
+    assert!(rt; !shut.intersect(shut).extensible());
+    assert_eq!(rt; opened.intersect(Constraints::NONE), opened);
+    assert_eq!(rt; opened.value().unwrap().extensible.unwrap().len(), 1);
 }

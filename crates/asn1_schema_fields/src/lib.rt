@@ -3,7 +3,7 @@
 
 pub mod tables;
 
-pub use tables::{Field, FieldPresence, Fields};
+pub use tables::{Field, FieldPresence, Fields, OptionalAndDefaultFields};
 
 #[cfg(test)]
 mod tests;

@@ -1,7 +1,11 @@
 //! Fields, and tables of them.
 ghost use Rattle.std.specs.Prelude.{◌≡◌, ◌<◌, ◌↔◌, IsTrue, not, length, filter};
 ghost use Rattle.std.specs.List.{list_any};
-ghost use Rattle.asn1_schema_fields.specs.Fields.{may_be_absent, is_optional, is_in_order};
+ghost use Rattle.asn1_schema_fields.specs.Fields.{may_be_absent, is_optional, is_in_order, optional_rest};
+ghost use Rattle.asn1_schema_fields.specs.declared.tables.Field.{Field};
+ghost use Rattle.std.specs.Slice.Iter.{iter_rest};
+ghost use Rattle.std.specs.Iterator.{YieldsFirstRef, item_count};
+ghost use Rattle.std.specs.Iterator.Adapters.{IterYieldsInOrder};
 
 use asn1_schema_tags::{Tag, TagTree};
 use std::slice;
@@ -31,7 +35,7 @@ impl FieldPresence {
 
 /// A field of a sequence or set: its number in the declared order, its tag, the tags with which it may
 /// begin, whether it may be absent, and its name.
-#[derive(Clone, Copy, Debug)]
+#[derive(Clone, Copy, Debug, PartialEq, Eq)]
 pub struct Field<'a> {
     /// Its number in the declared order.
     pub index: usize,
@@ -113,7 +117,7 @@ impl<'a> Field<'a> {
 }
 
 /// A table of the fields of a sequence or set, as its author ordered it.
-#[derive(Clone, Copy, Debug)]
+#[derive(Clone, Copy, Debug, PartialEq, Eq)]
 pub struct Fields<'a> {
     /// The fields.
     pub fields: &'a [Field<'a>],
@@ -168,8 +172,18 @@ impl<'a> Fields<'a> {
     }
 
     /// The fields in their order.
-    pub fn iter(&self) -> slice::Iter<'a, Field<'a>> {
+    pub fn iter(&self) -> slice::Iter<'a, Field<'a>>
+        ensures rest { iter_rest result ≡ self.now.fields.now }
+        ensures runs { IterYieldsInOrder Field }
+    {
         self.fields.iter()
+    }
+
+    /// The fields that may be absent, in their order.
+    pub fn optional_and_default_fields(&self) -> OptionalAndDefaultFields<'a>
+        ensures { optional_rest result ≡ filter is_optional self.now.fields.now }
+    {
+        OptionalAndDefaultFields { rest: self.fields }
     }
 
     /// Whether the fields' smallest tags ascend strictly, by class first and then by number (X.680 8.6).
@@ -187,5 +201,32 @@ impl<'a> Fields<'a> {
             before = Some(tag);
         }
         true
+    }
+}
+
+/// The fields of a table that may be absent, from the first to the last.
+#[derive(Debug, Drop)]
+pub struct OptionalAndDefaultFields<'a> {
+    /// The fields that were not looked at yet.
+    pub rest: &'a [Field<'a>],
+}
+
+impl<'a> Iterator for OptionalAndDefaultFields<'a> {
+    type Item = &'a Field<'a>;
+
+    ghost next_gives = { YieldsFirstRef optional_rest };
+
+    ghost remaining = { item_count optional_rest };
+
+    fn next(&mut self) -> Option<&'a Field<'a>> {
+        let fields = self.rest;
+        for (i, field) in fields.iter().enumerate() {
+            if field.is_optional_or_default() {
+                self.rest = &fields[i + 1..];
+                return Some(field);
+            }
+        }
+        self.rest = &[];
+        None
     }
 }

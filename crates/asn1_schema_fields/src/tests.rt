@@ -37,3 +37,22 @@ fn fields_are_counted(rt: HostRuntime) {
     assert!(rt; fields[0].is_not_optional_or_default());
     assert!(rt; FieldPresence::Default.is_optional_or_default());
 }
+
+#[test]
+fn fields_that_may_be_absent(rt: HostRuntime) {
+    let tag = Tag::BOOL;
+    let fields = [
+        Field::new_required(0, tag, TagTree::Leaf(tag), "a"),
+        Field::new_optional(1, tag, TagTree::Leaf(tag), "b"),
+        Field::new_required(2, tag, TagTree::Leaf(tag), "c"),
+        Field::new_default(3, tag, TagTree::Leaf(tag), "d"),
+    ];
+    let table = Fields::from_static(&fields);
+    let mut optional = table.optional_and_default_fields();
+    assert_eq!(rt; optional.next().unwrap().name, "b");
+    assert_eq!(rt; *optional.next().unwrap(), fields[3]);
+    assert!(rt; optional.next().is_none());
+    assert!(rt; optional.next().is_none());
+    assert!(rt; fields[0] != fields[2]);
+    assert_eq!(rt; table, Fields::from_static(&fields));
+}

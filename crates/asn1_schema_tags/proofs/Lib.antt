@@ -1,2 +1,3 @@
 pub mod TreeLaws
 pub mod PlaceLaws
+pub mod SameLaws

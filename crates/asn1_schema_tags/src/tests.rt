@@ -127,3 +127,23 @@ fn names_stand_in_for_missing_ones(rt: HostRuntime) -> Result<(), Fail> {
     assert_eq!(rt; Identifier(Some("IA5String")).unwrap(), "IA5String");
     Ok(())
 }
+
+#[test]
+fn trees_of_leaves_are_compared(rt: HostRuntime) {
+    let inner = [TagTree::Leaf(Tag::new_context(3)), TagTree::Leaf(Tag::NULL)];
+    let same = [TagTree::Leaf(Tag::new_context(3)), TagTree::Leaf(Tag::NULL)];
+    let turned = [TagTree::Leaf(Tag::NULL), TagTree::Leaf(Tag::new_context(3))];
+    let tree = TagTree::Choice(&inner);
+    let equal = TagTree::Choice(&same);
+    let other = TagTree::Choice(&turned);
+    assert!(rt; tree == equal);
+    assert!(rt; tree != other);
+}
+
+#[test]
+fn a_leaf_is_no_choice(rt: HostRuntime) {
+    let leaves = [TagTree::Leaf(Tag::NULL)];
+    let choice = TagTree::Choice(&leaves);
+    let leaf = TagTree::Leaf(Tag::NULL);
+    assert!(rt; leaf != choice);
+}

@@ -5,6 +5,9 @@ ghost use Rattle.std.specs.Prelude.{◌≡◌, ◌+◌, ◌^◌, ◌<◌, IsTrue
 ghost use Rattle.asn1_model.specs.Lawful.{smallest};
 ghost use Rattle.asn1_schema_tags.specs.Tags.{tag_of};
 ghost use Rattle.asn1_schema_tags.specs.Trees.{leaves, leaves_of, are_unique, is_among, share_a_tag, greatest_tag, counted, place_of};
+ghost use Rattle.asn1_schema_tags.specs.Plain.{same_tree};
+ghost use Rattle.asn1_schema_tags.specs.Same.{same_tree_equiv};
+ghost use Rattle.std.specs.Cmp.{partial_equiv_from_equiv};
 
 use crate::{Class, Tag};
 use std::fmt;
@@ -179,6 +182,28 @@ impl<'a> TagTree<'a> {
         self.tag_at(position)
     }
 
+    // Whether another tree has the same tags in the same places.
+    fn is_same_as(&self, other: &TagTree<'_>) -> bool
+        ensures { result ≡ same_tree self.now other.now }
+    {
+        match (self, other) {
+            (TagTree::Leaf(tag), TagTree::Leaf(other)) => tag.const_eq(other),
+            (TagTree::Choice(nodes), TagTree::Choice(others)) => {
+                if nodes.len() != others.len() {
+                    return false;
+                }
+                for (i, node) in nodes.iter().enumerate() {
+                    if !node.is_same_as(&others[i]) {
+                        return false;
+                    }
+                }
+                true
+            }
+            (TagTree::Leaf(_), TagTree::Choice(_)) => false,
+            (TagTree::Choice(_), TagTree::Leaf(_)) => false,
+        }
+    }
+
     // The tag of the leaf at a place.
     fn tag_at(&self, position: usize) -> Option<Tag>
         ensures { option_map tag_of result ≡ slice_get (leaves self.now) position }
@@ -197,6 +222,20 @@ impl<'a> TagTree<'a> {
             }
         }
     }
+}
+
+impl PartialEq for TagTree<'_> {
+    ghost eq = { same_tree };
+
+    ghost laws = { partial_equiv_from_equiv same_tree_equiv };
+
+    fn eq(&self, other: &Self) -> bool {
+        self.is_same_as(other)
+    }
+}
+
+impl Eq for TagTree<'_> {
+    ghost laws = { same_tree_equiv };
 }
 
 impl fmt::Debug for TagTree<'_> {

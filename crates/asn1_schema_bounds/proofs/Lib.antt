@@ -1,0 +1,4 @@
+pub mod Orders
+pub mod Meets
+pub mod Common
+pub mod WidthLaws

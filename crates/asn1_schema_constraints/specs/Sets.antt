@@ -1,0 +1,126 @@
+-- What lists of constraints come to.
+use Rattle.std.specs.Prelude.{ℕ, ℤ, leb, Bool, true, false, ◌||◌, List, fold, map, Option, Some, None, is_some}
+use Rattle.asn1_model.specs.Numbers.{is_at_most}
+use Rattle.asn1_schema_bounds.specs.Bounds.{meet, admits_number, admits_count}
+use Rattle.asn1_schema_constraints.specs.declared.parts.Value.{Value}
+use Rattle.asn1_schema_constraints.specs.declared.parts.Size.{Size}
+use Rattle.asn1_schema_constraints.specs.declared.extensions.Extensible.{Extensible}
+use Rattle.asn1_schema_constraints.specs.declared.extensions.PermittedAlphabet.{PermittedAlphabet}
+use Rattle.asn1_schema_constraints.specs.declared.lists.Constraint.{Constraint}
+use Rattle.asn1_schema_constraints.specs.declared.lists.Constraint.TheVariants.{Value as OfValue, Size as OfSize, PermittedAlphabet as OfAlphabet, Extensible as Mark}
+use Rattle.asn1_schema_constraints.specs.declared.lists.ConstraintDiscriminant.{ConstraintDiscriminant}
+use Rattle.asn1_schema_constraints.specs.declared.lists.ConstraintDiscriminant.TheVariants.{Value as ValueKind, Size as SizeKind, PermittedAlphabet as AlphabetKind, Extensible as MarkKind}
+use Rattle.asn1_schema_constraints.specs.declared.lists.Constraints.{Constraints}
+
+-- The kind of a constraint.
+abbrev pub kind_of : Constraint → ConstraintDiscriminant
+kind_of (OfValue c) = ValueKind
+kind_of (OfSize c) = SizeKind
+kind_of (OfAlphabet c) = AlphabetKind
+kind_of Mark = MarkKind
+
+-- The number of a kind.
+abbrev pub kind_number : ConstraintDiscriminant → ℕ
+kind_number ValueKind = 0
+kind_number SizeKind = 1
+kind_number AlphabetKind = 2
+kind_number MarkKind = 3
+
+-- The constraint on a value, where it is one.
+abbrev pub value_part : Constraint → Option (Extensible Value)
+value_part (OfValue c) = Some c
+value_part c = None
+
+-- The constraint on a size, where it is one.
+abbrev pub size_part : Constraint → Option (Extensible Size)
+size_part (OfSize c) = Some c
+size_part c = None
+
+-- The constraint on characters, where it is one.
+abbrev pub alphabet_part : Constraint → Option (Extensible PermittedAlphabet)
+alphabet_part (OfAlphabet c) = Some c
+alphabet_part c = None
+
+-- Whether a constraint has a mark of extensibility (X.680 52).
+abbrev pub has_additions : {X : Type 0} → Extensible X → Bool
+has_additions c = is_some c.extensible
+
+-- Whether a constraint has a mark, or is the mark of its type.
+abbrev pub has_mark : Constraint → Bool
+has_mark (OfValue c) = has_additions c
+has_mark (OfSize c) = has_additions c
+has_mark (OfAlphabet c) = has_additions c
+has_mark Mark = true
+
+-- Whether there is a constraint and it has a mark.
+abbrev pub is_extended : {X : Type 0} → Option (Extensible X) → Bool
+is_extended None = false
+is_extended (Some c) = has_additions c
+
+-- Whether some constraint has a mark, or the type itself.
+abbrev pub is_marked : Constraints → Bool
+is_marked c = c.is_marked || (is_extended c.value || (is_extended c.size || is_extended c.permitted_alphabet))
+
+-- No constraint.
+abbrev pub no_constraint : Constraints
+no_constraint = record { value = None; size = None; permitted_alphabet = None; is_marked = false }
+
+-- One constraint.
+abbrev pub alone : Constraint → Constraints
+alone (OfValue c) = record no_constraint { value = Some c }
+alone (OfSize c) = record no_constraint { size = Some c }
+alone (OfAlphabet c) = record no_constraint { permitted_alphabet = Some c }
+alone Mark = record no_constraint { is_marked = true }
+
+-- What is behind the later mark, or else behind the earlier one.
+abbrev pub later_mark : {X : Type 0} → Option X → Option X → Option X
+later_mark a None = a
+later_mark a (Some b) = Some b
+
+-- Two constraints of a kind, applied in turn: the roots met, with a mark where either has one (X.680 50 and 52).
+abbrev pub in_turn : {X : Type 0} → (X → X → X) → Extensible X → Extensible X → Extensible X
+in_turn met a b = record { constraint = met a.constraint b.constraint; extensible = later_mark a.extensible b.extensible }
+
+-- The same, where there are any.
+abbrev pub both_parts : {X : Type 0} → (X → X → X) → Option (Extensible X) → Option (Extensible X) → Option (Extensible X)
+both_parts met (Some a) (Some b) = Some (in_turn met a b)
+both_parts met (Some a) None = Some a
+both_parts met None o = o
+
+-- What two value constraints admit together (X.680 51.4).
+abbrev pub met_values : Value → Value → Value
+met_values a b = record { value = meet is_at_most a.value b.value }
+
+-- What two size constraints admit together (X.680 51.5).
+abbrev pub met_sizes : Size → Size → Size
+met_sizes a b = record { range = meet leb a.range b.range }
+
+-- The characters of the later of two alphabets, which are among those of the earlier (X.680 50.8).
+abbrev pub later_alphabet : PermittedAlphabet → PermittedAlphabet → PermittedAlphabet
+later_alphabet a b = b
+
+-- Constraints and then further ones, kind by kind.
+abbrev pub both : Constraints → Constraints → Constraints
+both a b = record {
+  value = both_parts met_values a.value b.value;
+  size = both_parts met_sizes a.size b.size;
+  permitted_alphabet = both_parts later_alphabet a.permitted_alphabet b.permitted_alphabet;
+  is_marked = a.is_marked || b.is_marked;
+}
+
+-- What some constraints come to, applied in turn.
+abbrev pub all_of : List Constraint → Constraints
+all_of cs = fold both no_constraint (map alone cs)
+
+-- Whether the root of a constraint, where there is one, passes a test.
+abbrev pub root_passes : {X : Type 0} → (X → Bool) → Option (Extensible X) → Bool
+root_passes test None = true
+root_passes test (Some c) = test c.constraint
+
+-- Whether the roots of constraints admit a number (X.680 51.4).
+abbrev pub admit_number : Constraints → ℤ → Bool
+admit_number c v = root_passes (λ root. admits_number root.value v) c.value
+
+-- Whether the roots of constraints admit a size (X.680 51.5).
+abbrev pub admit_count : Constraints → ℕ → Bool
+admit_count c n = root_passes (λ root. admits_count root.range n) c.size

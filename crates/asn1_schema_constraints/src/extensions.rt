@@ -1,0 +1,123 @@
+//! Constraints with a mark of extensibility (X.680 clause 52), and permitted alphabets.
+ghost use Rattle.std.specs.Prelude.{◌≡◌, Some, None, is_some, IfSome, []};
+
+use crate::{Size, Value};
+use std::ops::DerefSlice;
+
+/// A permitted alphabet (X.680 51.7): the characters that a string may hold, in ascending order.
+#[derive(Clone, Copy, Debug, PartialEq, Eq)]
+pub struct PermittedAlphabet<'a> {
+    /// The characters, by their numbers.
+    pub characters: &'a [u32],
+}
+
+impl<'a> PermittedAlphabet<'a> {
+    /// The constraint to these characters.
+    pub fn new(range: &'a [u32]) -> Self
+        ensures { result.characters.now ≡ range.now }
+    {
+        PermittedAlphabet { characters: range }
+    }
+
+    /// The characters.
+    pub fn as_inner(&self) -> &'a [u32]
+        ensures { result.now ≡ self.now.characters.now }
+    {
+        self.characters
+    }
+
+    /// The alphabet under both constraints, of which the other one is the later: that of the later one, since
+    /// its characters are among those of the earlier one (X.680 50.8).
+    pub fn intersect(&self, other: &Self) -> Self
+        ensures { result ≡ other.now }
+    {
+        *other
+    }
+}
+
+impl<'a> DerefSlice for PermittedAlphabet<'a> {
+    type Elem = u32;
+
+    ghost deref_gives = { λ a characters. characters ≡ a.characters.now };
+
+    fn deref(&self) -> &[u32] {
+        self.characters
+    }
+}
+
+/// A constraint, and the constraints behind its mark of extensibility (X.680 52), if it has one.
+#[derive(Clone, Copy, Debug, PartialEq, Eq)]
+pub struct Extensible<'a, T> {
+    /// The constraint before the mark: the root.
+    pub constraint: T,
+    /// The constraints behind the mark, if there is one.
+    pub extensible: Option<&'a [T]>,
+}
+
+impl<'a, T> Extensible<'a, T> {
+    /// This constraint, without a mark.
+    pub fn new(constraint: T) -> Self
+        ensures root { result.constraint ≡ constraint }
+        ensures mark { result.extensible ≡ None }
+    {
+        Extensible {
+            constraint,
+            extensible: None,
+        }
+    }
+
+    /// This constraint, and behind its mark these ones.
+    pub fn new_extensible(constraint: T, constraints: &'a [T]) -> Self
+        ensures root { result.constraint ≡ constraint }
+        ensures mark { result.extensible ≡ Some constraints.entry }
+    {
+        Extensible {
+            constraint,
+            extensible: Some(constraints),
+        }
+    }
+
+    /// The same root with a mark and nothing behind it, or without a mark.
+    pub fn set_extensible(self, extensible: bool) -> Self
+        ensures root { result.constraint ≡ self.entry.constraint }
+        ensures mark { is_some result.extensible ≡ extensible }
+        ensures nothing { IfSome result.extensible (λ additions. additions.now ≡ []) }
+    {
+        self.extensible_with_constraints(if extensible { Some(&[]) } else { None })
+    }
+
+    /// The same root, and behind its mark these constraints, or without a mark.
+    pub fn extensible_with_constraints(self, constraints: Option<&'a [T]>) -> Self
+        ensures root { result.constraint ≡ self.entry.constraint }
+        ensures mark { result.extensible ≡ constraints.entry }
+    {
+        Extensible {
+            constraint: self.constraint,
+            extensible: constraints,
+        }
+    }
+}
+
+impl From<Value> for Extensible<'_, Value> {
+    ghost from_gives = { λ v e. e ≡ record { constraint = v; extensible = None } };
+
+    fn from(constraint: Value) -> Self {
+        Extensible::new(constraint)
+    }
+}
+
+impl From<Size> for Extensible<'_, Size> {
+    ghost from_gives = { λ v e. e ≡ record { constraint = v; extensible = None } };
+
+    fn from(constraint: Size) -> Self {
+        Extensible::new(constraint)
+    }
+}
+
+impl<'a> From<PermittedAlphabet<'a>> for Extensible<'a, PermittedAlphabet<'a>> {
+    ghost from_gives = { λ v e. e ≡ record { constraint = v; extensible = None } };
+
+    fn from(constraint: PermittedAlphabet<'a>) -> Self {
+        Extensible::new(constraint)
+    }
+}

@@ -1,0 +1,29 @@
+//! Laws of intersections and of lists of constraints. The functions do nothing: their contracts are the laws.
+ghost use Rattle.std.specs.Prelude.{◌≡◌, leb, List, ◌++◌};
+ghost use Rattle.asn1_model.specs.Numbers.{is_at_most};
+ghost use Rattle.asn1_schema_constraints.specs.declared.parts.Value.{Value};
+ghost use Rattle.asn1_schema_constraints.specs.declared.parts.Size.{Size};
+ghost use Rattle.asn1_schema_constraints.specs.declared.lists.Constraint.{Constraint};
+ghost use Rattle.asn1_schema_constraints.specs.declared.lists.Constraints.{Constraints};
+ghost use Rattle.asn1_schema_constraints.specs.Sets.{no_constraint, met_values, met_sizes, both, all_of};
+
+/// What `Value::intersect` answers commutes and associates.
+pub fn values_intersect()
+    ensures commute { (a b : Value) → met_values a b ≡ met_values b a }
+    ensures associate { (a b c : Value) → met_values (met_values a b) c ≡ met_values a (met_values b c) }
+{}
+
+/// What `Size::intersect` answers commutes and associates.
+pub fn sizes_intersect()
+    ensures commute { (a b : Size) → met_sizes a b ≡ met_sizes b a }
+    ensures associate { (a b c : Size) → met_sizes (met_sizes a b) c ≡ met_sizes a (met_sizes b c) }
+{}
+
+/// What `Constraints::intersect` answers associates, with `Constraints::NONE` as its identity; a list of
+/// constraints followed by another comes to what both come to, intersected.
+pub fn lists_join()
+    ensures associate { (a b c : Constraints) → both (both a b) c ≡ both a (both b c) }
+    ensures before { (a : Constraints) → both no_constraint a ≡ a }
+    ensures behind { (a : Constraints) → both a no_constraint ≡ a }
+    ensures joined { (cs ds : List Constraint) → all_of (cs ++ ds) ≡ both (all_of cs) (all_of ds) }
+{}

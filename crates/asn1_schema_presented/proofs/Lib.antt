@@ -1,0 +1,5 @@
+pub mod Chains
+pub mod OneValue
+pub mod Values
+pub mod Same
+pub mod TypesByKind

@@ -1,0 +1,66 @@
+-- Types and values of each kind.
+use Rattle.std.proofs.Common.{◌≡◌, ℕ, ◌≤◌, ◌+◌, zero, suc, ℤ, Bool, true, false, List, [], ◌∷◌, refl, ap, ◌∙◌, arith}
+use Rattle.std.specs.Prelude.{◌&&◌, max}
+use Rattle.std.proofs.Math.Nat.{le-max_left, le-max_right}
+use Rattle.asn1_model.specs.Value.{Value, truth, nothing, number, members, Values, no_more, member, depth, depth_of_members, map_members}
+use Rattle.asn1_model.specs.Schema.{Tag, Range, Bounds, Counts, Size, Schema, cut, boolean, null, integer, sequence_of}
+use Rattle.asn1_model.specs.Normal.{normal}
+use Rattle.asn1_model.specs.Lawful.{is_lawful, is_group, is_range, is_size}
+use Rattle.asn1_schema_presented.specs.Presents.{Fits, AllFit}
+use Rattle.asn1_schema_presented.specs.Parts.{values_of}
+use Rattle.asn1_schema_presented.specs.Tables.{scope, list_type, are_tags, IsType, IsValue}
+
+pub boolean_type : {ts : List Tag} → are_tags ts ≡ true → IsType ts (λ _. boolean)
+unfolding is_lawful
+boolean_type e = record { tagged = e; lawful = λ n. refl; no_group = λ n. refl }
+
+pub boolean_value : (b : Bool) → IsValue (λ _. boolean) (truth b)
+unfolding Fits normal
+boolean_value b = record { fits = λ n le. tt; normal = λ n. refl }
+
+pub null_type : {ts : List Tag} → are_tags ts ≡ true → IsType ts (λ _. null)
+unfolding is_lawful
+null_type e = record { tagged = e; lawful = λ n. refl; no_group = λ n. refl }
+
+pub null_value : IsValue (λ _. null) nothing
+unfolding Fits normal
+null_value = record { fits = λ n le. tt; normal = λ n. refl }
+
+pub integer_type : {ts : List Tag} (b : Bounds) (h : Range) → are_tags ts ≡ true → is_range b.range ≡ true → is_range h ≡ true → IsType ts (λ _. integer b h)
+unfolding is_lawful
+integer_type b h e p q = record { tagged = e; lawful = λ n. rw (p, q) refl; no_group = λ n. refl }
+
+pub integer_value : (b : Bounds) (h : Range) (z : ℤ) → IsValue (λ _. integer b h) (number z)
+unfolding Fits normal
+integer_value b h z = record { fits = λ n le. tt; normal = λ n. refl }
+
+pub type_list : {ts us : List Tag} (z : Size) (h : Counts) {s : ℕ → Schema} → are_tags ts ≡ true → is_size z h ≡ true → IsType us s → IsType ts (list_type z h s)
+unfolding list_type scope is_lawful
+type_list z h {s} e k t = record {
+  tagged = e;
+  lawful = λ n. elim n as (λ n. is_lawful (scope n (λ m. sequence_of z h (s m))) ≡ true) [ zero ↦ refl | suc m ↦ rw (k, t.no_group m) (t.lawful m) ];
+  no_group = λ n. elim n as (λ n. is_group (scope n (λ m. sequence_of z h (s m))) ≡ false) [ zero ↦ refl | suc m ↦ refl ];
+}
+
+all_fit : {A : Type 0} (s : ℕ → Schema) (f : A → Value) → ((x : A) → IsValue s (f x)) → (xs : List A) (n : ℕ) → depth_of_members (values_of f xs) ≤ n → AllFit (λ v. Fits (s n) v) (values_of f xs)
+unfolding depth_of_members
+all_fit s f h [] n le = tt
+all_fit s f h (x ∷ xs) n le =
+    let a : depth (f x) ≤ max (depth (f x)) (depth_of_members (values_of f xs)) = le-max_left _ _ in
+    let b : depth_of_members (values_of f xs) ≤ max (depth (f x)) (depth_of_members (values_of f xs)) = le-max_right _ _ in
+    let k : max (depth (f x)) (depth_of_members (values_of f xs)) ≤ n = le in
+    ((h x).fits n (let z : depth (f x) ≤ n = omega arith in z), all_fit s f h xs n (let z : depth_of_members (values_of f xs) ≤ n = omega arith in z))
+
+all_normal : {A : Type 0} (s : ℕ → Schema) (f : A → Value) → ((x : A) → IsValue s (f x)) → (xs : List A) (n : ℕ) → map_members (λ v. normal (s n) v) (values_of f xs) ≡ values_of f xs
+all_normal s f h [] n = refl
+all_normal s f h (x ∷ xs) n = ap (λ v. member v (map_members (λ v. normal (s n) v) (values_of f xs))) ((h x).normal n) ∙ ap (λ vs. member (f x) vs) (all_normal s f h xs n)
+
+pub value_list : {A : Type 0} (z : Size) (h : Counts) (s : ℕ → Schema) (f : A → Value) (xs : List A) → ((x : A) → IsValue s (f x)) → IsValue (list_type z h s) (members (values_of f xs))
+unfolding list_type scope normal depth Fits
+value_list z h s f xs k = record {
+  fits = λ n. elim n as (λ n. depth (members (values_of f xs)) ≤ n → Fits (scope n (λ m. sequence_of z h (s m))) (members (values_of f xs))) [
+    | zero ↦ λ le. absurd (let y : depth_of_members (values_of f xs) + 1 ≤ 0 = le in omega arith)
+    | suc m ↦ λ le. let y : depth_of_members (values_of f xs) + 1 ≤ suc m = le in all_fit s f k xs m (let w : depth_of_members (values_of f xs) ≤ m = omega arith in w)
+  ];
+  normal = λ n. elim n as (λ n. normal (scope n (λ m. sequence_of z h (s m))) (members (values_of f xs)) ≡ members (values_of f xs)) [ zero ↦ refl | suc m ↦ ap members (all_normal s f k xs m) ];
+}

@@ -1,0 +1,6 @@
+pub mod Records
+pub mod Presents
+pub mod Tables
+pub mod Chains
+pub mod Parts
+pub mod Typed

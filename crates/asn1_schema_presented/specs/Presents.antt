@@ -1,0 +1,153 @@
+-- The records of a value by its type: the calls by which it reaches an encoder, and by which a decoder finds it.
+use Rattle.std.specs.Prelude.{◌≡◌, ℕ, zero, suc, ◌+◌, ℤ, Bool, true, false, cond, not, ◌||◌, List, [], ◌∷◌, ◌++◌}
+use Rattle.asn1_model.specs.Value.{Value, truth, nothing, number, item, bit_list, octet_list, text, arcs, members, bag, fields, chosen, Values, no_more, member, Parts, end, absent, present}
+use Rattle.asn1_model.specs.Schema.{Tag, Presence, Schema, cut, boolean, null, integer, enumerated, bit_string, octet_string, character_string, object_identifier, sequence_of, set_of, sequence, set, group, choice, Components, no_component, component, Alternatives, no_alternative, alternative}
+use Rattle.asn1_model.specs.Normal.{is_at_default, is_group_left_out}
+use Rattle.asn1_model.specs.Lawful.{are_no_components, alternative_tags}
+use Rattle.asn1_model.specs.Tables.{is_required}
+use Rattle.asn1_schema_presented.specs.Records.{Record, flag, nil, whole, one_of, bits, octets, characters, identifier, list_begins, bag_begins, further, sequence_begins, set_begins, group_begins, mark, is_default, is_empty, additions_begin, addition, addition_ends, choice_begins, ends, mismatch}
+
+-- ---- counts
+
+-- How many components may be absent.
+abbrev pub optional_count : Components → ℕ
+optional_count no_component = 0
+optional_count (component t o s cs) = cond (is_required o) (optional_count cs) (suc (optional_count cs))
+
+-- How many components there are.
+abbrev pub component_count : Components → ℕ
+component_count no_component = 0
+component_count (component t o s cs) = suc (component_count cs)
+
+-- How many members there are.
+abbrev pub member_count : Values → ℕ
+member_count no_more = 0
+member_count (member v vs) = suc (member_count vs)
+
+-- ---- parts
+
+-- One component: there or left out.
+pub data Part : Type 0 where
+  left_out : Part
+  there : Value → Part
+
+-- A component and those behind it.
+abbrev pub with_part : Part → Parts → Parts
+with_part left_out ps = absent ps
+with_part (there v) ps = present v ps
+
+-- ---- records
+
+-- The mark before a component that is there, if there is one.
+abbrev pub marked : Bool → List Record → List Record
+marked true rs = rs
+marked false rs = mark true ∷ rs
+
+-- What follows a component that the normal form leaves out.
+abbrev pub noted : Presence → Schema → Value → List Record
+noted o s v = cond (is_at_default o s v) (is_default ∷ []) (cond (is_group_left_out s v) (is_empty ∷ []) [])
+
+-- The records of one root component, by those of its value (X.691 19.2 and 19.6, X.696 16).
+abbrev pub part_records : (Value → List Record) → Presence → Schema → Part → List Record
+part_records f o s left_out = cond (is_required o) (mismatch ∷ []) (mark false ∷ [])
+part_records f o s (there v) = marked (is_required o) (f v ++ noted o s v)
+
+-- The records of one addition (X.691 19.7 to 19.9, X.696 16).
+abbrev pub addition_records : (Value → List Record) → Presence → Schema → Part → List Record
+addition_records f o s left_out = cond (is_required o) (mismatch ∷ []) (addition false ∷ [])
+addition_records f o s (there v) = addition true ∷ (f v ++ (addition_ends ∷ noted o s v))
+
+-- The records of members, and the end.
+abbrev pub member_records : (Value → List Record) → Values → List Record
+member_records f no_more = further false ∷ ends ∷ []
+member_records f (member v vs) = further true ∷ (f v ++ member_records f vs)
+
+-- What follows the root components: the additions, where there is a mark, and the end. Additions without a mark, which no lawful type has, are
+-- handed over, and no codec takes them.
+abbrev pub behind_root : Bool → Components → List Record → List Record
+behind_root e adds rs = cond (e || not (are_no_components adds)) (additions_begin (component_count adds) ∷ rs) rs
+
+unfoldable mutual
+  -- The records of a value, each part once, in the order of the tables.
+  pub presents : Schema → Value → List Record
+  presents boolean (truth b) = flag b ∷ []
+  presents null nothing = nil ∷ []
+  presents (integer b h) (number v) = whole b h v ∷ []
+  presents (enumerated roots e adds) (item v) = one_of roots e adds v ∷ []
+  presents (bit_string z h) (bit_list bs) = bits z h bs ∷ []
+  presents (octet_string z h) (octet_list os) = octets z h os ∷ []
+  presents (character_string k z a h) (text cs) = characters k z a h cs ∷ []
+  presents object_identifier (arcs ns) = identifier ns ∷ []
+  presents (sequence_of z h s) (members vs) = list_begins z h (member_count vs) ∷ member_records (λ v. presents s v) vs
+  presents (set_of z h s) (bag vs) = bag_begins z h (member_count vs) ∷ member_records (λ v. presents s v) vs
+  presents (sequence cs e adds) (fields ps qs) = sequence_begins e (optional_count cs) ∷ root_records cs ps (behind_root e adds (added_records adds qs))
+  presents (set cs e adds) (fields ps qs) = set_begins e (optional_count cs) ∷ root_records cs ps (behind_root e adds (added_records adds qs))
+  presents (group cs) (fields ps end) = group_begins (optional_count cs) ∷ root_records cs ps (ends ∷ [])
+  presents (choice roots e adds) (chosen false i v) = choice_begins (alternative_tags roots) e (alternative_tags adds) false i ∷ chosen_records roots i v
+  presents (choice roots e adds) (chosen true i v) = choice_begins (alternative_tags roots) e (alternative_tags adds) true i ∷ chosen_records adds i v
+  presents s v = mismatch ∷ []
+
+  -- The root components, and what follows them.
+  pub root_records : Components → Parts → List Record → List Record
+  root_records no_component end rest = rest
+  root_records (component t o s cs) (present v ps) rest = part_records (λ w. presents s w) o s (there v) ++ root_records cs ps rest
+  root_records (component t o s cs) (absent ps) rest = part_records (λ w. presents s w) o s left_out ++ root_records cs ps rest
+  root_records cs ps rest = mismatch ∷ []
+
+  -- The additions, and the end.
+  pub added_records : Components → Parts → List Record
+  added_records no_component end = ends ∷ []
+  added_records (component t o s cs) (present v ps) = addition_records (λ w. presents s w) o s (there v) ++ added_records cs ps
+  added_records (component t o s cs) (absent ps) = addition_records (λ w. presents s w) o s left_out ++ added_records cs ps
+  added_records cs ps = mismatch ∷ []
+
+  -- The chosen alternative, and the end.
+  pub chosen_records : Alternatives → ℕ → Value → List Record
+  chosen_records (alternative t s others) zero v = presents s v ++ (ends ∷ [])
+  chosen_records (alternative t s others) (suc i) v = chosen_records others i v
+  chosen_records no_alternative i v = mismatch ∷ []
+
+-- ---- which values are of a type
+
+-- Whether a component has what its presence asks for.
+abbrev pub PartFits : (Value → Type 0) → Presence → Part → Type 0
+PartFits f o left_out = is_required o ≡ false
+PartFits f o (there v) = f v
+
+-- Each member is of the type.
+abbrev pub AllFit : (Value → Type 0) → Values → Type 0
+AllFit f no_more = Unit {0}
+AllFit f (member v vs) = f v × AllFit f vs
+
+unfoldable mutual
+  -- The value has the form of the type, and nests no deeper than this is unfolded: what a program's value means, and what may be read.
+  pub Fits : Schema → Value → Type 0
+  Fits boolean (truth b) = Unit {0}
+  Fits null nothing = Unit {0}
+  Fits (integer b h) (number v) = Unit {0}
+  Fits (enumerated roots e adds) (item v) = Unit {0}
+  Fits (bit_string z h) (bit_list bs) = Unit {0}
+  Fits (octet_string z h) (octet_list os) = Unit {0}
+  Fits (character_string k z a h) (text cs) = Unit {0}
+  Fits object_identifier (arcs ns) = Unit {0}
+  Fits (sequence_of z h s) (members vs) = AllFit (λ v. Fits s v) vs
+  Fits (set_of z h s) (bag vs) = AllFit (λ v. Fits s v) vs
+  Fits (sequence cs e adds) (fields ps qs) = PartsFit cs ps × PartsFit adds qs
+  Fits (set cs e adds) (fields ps qs) = PartsFit cs ps × PartsFit adds qs
+  Fits (group cs) (fields ps qs) = PartsFit cs ps × (qs ≡ end)
+  Fits (choice roots e adds) (chosen false i v) = ChosenFits roots i v
+  Fits (choice roots e adds) (chosen true i v) = ChosenFits adds i v
+  Fits s v = ⊥
+
+  -- So are all parts.
+  pub PartsFit : Components → Parts → Type 0
+  PartsFit no_component end = Unit {0}
+  PartsFit (component t o s cs) (present v ps) = Fits s v × PartsFit cs ps
+  PartsFit (component t o s cs) (absent ps) = (is_required o ≡ false) × PartsFit cs ps
+  PartsFit cs ps = ⊥
+
+  -- So is the chosen alternative.
+  pub ChosenFits : Alternatives → ℕ → Value → Type 0
+  ChosenFits (alternative t s others) zero v = Fits s v
+  ChosenFits (alternative t s others) (suc i) v = ChosenFits others i v
+  ChosenFits no_alternative i v = ⊥

@@ -1,0 +1,71 @@
+-- A type's schema, unfolded to any number of nested levels, is made of these.
+use Rattle.std.specs.Prelude.{◌≡◌, ◌≤◌, ℕ, zero, suc, Bool, true, false, cond, not, ◌&&◌, List, [], ◌∷◌, ◌++◌}
+use Rattle.asn1_model.specs.Value.{Value, Parts, depth}
+use Rattle.asn1_model.specs.Schema.{Tag, Size, Counts, Presence, Schema, cut, sequence_of, sequence, Components, no_component, component}
+use Rattle.asn1_model.specs.Normal.{normal}
+use Rattle.asn1_model.specs.Lawful.{is_lawful, is_group, is_empty, is_tag}
+use Rattle.asn1_model.specs.Strings.{each_is}
+use Rattle.asn1_model.specs.Tables.{is_required}
+use Rattle.asn1_schema_presented.specs.Presents.{Fits}
+
+-- A list, sequence or choice takes one of the n levels.
+unfoldable pub scope : ℕ → (ℕ → Schema) → Schema
+scope zero inside = cut
+scope (suc n) inside = inside n
+
+-- Components, each with its tags, its presence, and its type at each number of levels.
+pub data Fields : Type 0 where
+  no_field : Fields
+  field : List Tag → Presence → (ℕ → Schema) → Fields → Fields
+
+-- The components at a number of levels.
+unfoldable pub components_at : ℕ → Fields → Components
+components_at n no_field = no_component
+components_at n (field t o s fs) = component t o (s n) (components_at n fs)
+
+-- What a sequence has: root components, whether there is a mark, and the additions behind it (X.680 25).
+pub record Table : Type 0 where
+  pub root : Fields
+  pub extensible : Bool
+  pub additions : Fields
+
+-- A table with no mark and no component.
+abbrev pub no_table : Table
+no_table = record { root = no_field; extensible = false; additions = no_field }
+
+-- A table with one component more, in front.
+abbrev pub with_field : List Tag → Presence → (ℕ → Schema) → Table → Table
+with_field t o s table = record { root = field t o s table.root; extensible = table.extensible; additions = table.additions }
+
+-- How many components may be absent.
+abbrev pub marks : Fields → ℕ
+marks no_field = 0
+marks (field t o s fs) = cond (is_required o) (marks fs) (suc (marks fs))
+
+-- The tags of all components.
+abbrev pub field_tags : Fields → List Tag
+field_tags no_field = []
+field_tags (field t o s fs) = t ++ field_tags fs
+
+-- SEQUENCE (X.680 25).
+unfoldable pub sequence_type : Table → ℕ → Schema
+sequence_type t n = scope n (λ m. sequence (components_at m t.root) t.extensible (components_at m t.additions))
+
+-- SEQUENCE OF (X.680 26).
+unfoldable pub list_type : Size → Counts → (ℕ → Schema) → ℕ → Schema
+list_type z h s n = scope n (λ m. sequence_of z h (s m))
+
+-- There is a tag, and each has one of the four classes (X.680 8.1).
+abbrev pub are_tags : List Tag → Bool
+are_tags ts = not (is_empty ts) && each_is is_tag ts
+
+-- A type has a tag, and what it is for each number of levels is lawful, and no group of additions.
+pub record IsType (tags : List Tag) (schema : ℕ → Schema) : Type 0 where
+  pub tagged : are_tags tags ≡ true
+  pub lawful : (n : ℕ) → is_lawful (schema n) ≡ true
+  pub no_group : (n : ℕ) → is_group (schema n) ≡ false
+
+-- A value is one of the type: it has its form wherever that is unfolded as deep as the value nests, and it is in its normal form.
+pub record IsValue (schema : ℕ → Schema) (v : Value) : Type 0 where
+  pub fits : (n : ℕ) → depth v ≤ n → Fits (schema n) v
+  pub normal : (n : ℕ) → normal (schema n) v ≡ v

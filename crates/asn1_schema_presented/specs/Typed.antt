@@ -1,0 +1,38 @@
+-- Types and values of components.
+use Rattle.std.specs.Prelude.{◌≡◌, ◌≤◌, ℕ, max, Bool, true, false, ◌&&◌, ◌||◌}
+use Rattle.asn1_model.specs.Value.{Value, Parts, depth, depth_of_parts}
+use Rattle.asn1_model.specs.Schema.{Presence, Schema}
+use Rattle.asn1_model.specs.Normal.{normal_parts}
+use Rattle.asn1_model.specs.Lawful.{are_lawful, has_typed_default, has_normal_default, has_no_group, has_optional_groups, are_no_components}
+use Rattle.asn1_schema_presented.specs.Presents.{Part, left_out, there, Fits, PartFits, PartsFit}
+use Rattle.asn1_schema_presented.specs.Tables.{Table, components_at}
+use Rattle.asn1_schema_presented.specs.Parts.{normal_part}
+
+-- The types of the components are lawful, groups stand among the additions alone, and additions behind a mark.
+pub record AreTypes (t : Table) : Type 0 where
+  pub lawful : (n : ℕ) → are_lawful (components_at n t.root) ≡ true
+  pub no_group : (n : ℕ) → has_no_group (components_at n t.root) ≡ true
+  pub lawful_additions : (n : ℕ) → are_lawful (components_at n t.additions) ≡ true
+  pub optional_groups : (n : ℕ) → has_optional_groups (components_at n t.additions) ≡ true
+  pub marked : (n : ℕ) → (t.extensible || are_no_components (components_at n t.additions)) ≡ true
+
+-- A default is a value of its type, in its normal form, for each number of levels.
+abbrev pub HasDefault : Presence → (ℕ → Schema) → Type 0
+HasDefault o schema = (n : ℕ) → (has_typed_default (schema n) o && has_normal_default (schema n) o) ≡ true
+
+-- How many levels nest in a component.
+abbrev pub part_depth : Part → ℕ
+part_depth left_out = 0
+part_depth (there v) = depth v
+
+-- A component's value, there or left out, is one of its type and in its normal form.
+pub record IsPart (o : Presence) (schema : ℕ → Schema) (x : Part) : Type 0 where
+  pub fits : (n : ℕ) → part_depth x ≤ n → PartFits (λ v. Fits (schema n) v) o x
+  pub normal : (n : ℕ) → normal_part o (schema n) x ≡ x
+
+-- So are all components.
+pub record AreValues (t : Table) (ps qs : Parts) : Type 0 where
+  pub fits : (n : ℕ) → depth_of_parts ps ≤ n → PartsFit (components_at n t.root) ps
+  pub fits_added : (n : ℕ) → depth_of_parts qs ≤ n → PartsFit (components_at n t.additions) qs
+  pub normal : (n : ℕ) → normal_parts (components_at n t.root) ps ≡ ps
+  pub normal_added : (n : ℕ) → normal_parts (components_at n t.additions) qs ≡ qs

@@ -1,0 +1,2 @@
+//! What a codec is told of a value, one record a call: definitions over the model.
+#![tactic(auto)]

@@ -1,0 +1,170 @@
+//! The encoder that keeps records.
+ghost use Rattle.std.specs.Prelude.{◌≡◌, ◌++◌, [], ◌∷◌, true, false, map, OnOk, OnErr, IfErr, IfOk};
+ghost use Rattle.asn1_schema_presented.specs.Records.{Record};
+ghost use Rattle.asn1_schema_records.specs.Kept.{record_of, kept, Puts, Refusal};
+ghost use Rattle.asn1_schema_traits.specs.Writes.{Refused};
+
+use crate::items::{Item, Limits, Sizes};
+use asn1_schema_bounds::Bounded;
+use asn1_schema_constraints::Constraints;
+use asn1_schema_faults::{CodecKind, EncodeError};
+use asn1_schema_tags::{Identifier, Tag};
+use asn1_schema_traits::Encoder;
+use asn1_values_numbers::{Integer, IntegerError, IntegerType};
+use std::alloc::Global;
+use std::marker::Model;
+
+/// An encoder that keeps the records.
+#[derive(Drop)]
+pub struct RecordEncoder {
+    items: Vec<Item>,
+    failed: bool,
+    kind: CodecKind,
+    alloc: Global,
+}
+
+impl Model for RecordEncoder {
+    ghost use Rattle.std.specs.Prelude.{map};
+    ghost use Rattle.asn1_schema_records.specs.Kept.{Written, record_of};
+
+    ghost Value = { Written };
+
+    ghost view = { λ e. record { records = map record_of e.items.items; failed = e.failed; rules = e.kind } };
+}
+
+impl RecordEncoder {
+    /// An encoder that has no records, and answers that it follows these rules.
+    pub fn new(alloc: Global, kind: CodecKind) -> Self
+        ensures { result ≡ record { records = []; failed = false; rules = kind } }
+    {
+        RecordEncoder {
+            items: Vec::new(alloc),
+            failed: false,
+            kind,
+            alloc,
+        }
+    }
+
+    /// The records.
+    pub fn into_items(self) -> Vec<Item>
+        ensures { map record_of result.items ≡ self.records }
+    {
+        let RecordEncoder { items, .. } = self;
+        items
+    }
+
+    // Fails for want of memory, or because it has failed before.
+    fn fail(&mut self) -> Result<(), EncodeError>
+        ensures never { OnOk result ⊥ }
+        ensures only { IfErr result (Refusal self.old.failed) }
+        ensures failed { OnErr result (self.new.failed ≡ true) }
+        ensures already { self.old.failed ≡ true → result ≡ Err EncodeError.AlreadyFailed }
+    {
+        if self.failed {
+            return Err(EncodeError::AlreadyFailed);
+        }
+        self.failed = true;
+        Err(EncodeError::OutOfMemory)
+    }
+
+    // Keeps one more record.
+    fn put(&mut self, item: Item) -> Result<(), EncodeError>
+        ensures ok { OnOk result ((self.old.failed ≡ false) × (self.new ≡ record { records = self.old.records ++ record_of item ∷ []; failed = false; rules = self.old.rules })) }
+        ensures only { IfErr result (Refusal self.old.failed) }
+        ensures failed { OnErr result (self.new.failed ≡ true) }
+        ensures already { self.old.failed ≡ true → result ≡ Err EncodeError.AlreadyFailed }
+    {
+        if self.failed {
+            return Err(EncodeError::AlreadyFailed);
+        }
+        match self.items.push(item) {
+            Ok(()) => Ok(()),
+            Err(_) => self.fail(),
+        }
+    }
+}
+
+impl Encoder for RecordEncoder {
+    ghost use Rattle.asn1_schema_records.specs.Laws.{puts_one, puts_none, puts_same};
+
+    ghost step = { Puts };
+
+    ghost has_failed = { λ e. e.failed ≡ true };
+
+    ghost rules = { λ e. e.rules };
+
+    fn codec(&self) -> CodecKind {
+        self.kind
+    }
+
+    fn encode_bool(
+        &mut self,
+        _tag: Tag,
+        value: bool,
+        _identifier: Identifier,
+    ) -> Result<(), EncodeError> {
+        self.put(Item::Flag(value))
+    }
+
+    fn encode_null(&mut self, _tag: Tag, _identifier: Identifier) -> Result<(), EncodeError> {
+        self.put(Item::Null)
+    }
+
+    fn encode_integer<I: IntegerType>(
+        &mut self,
+        _tag: Tag,
+        constraints: Constraints,
+        value: &I,
+        _identifier: Identifier,
+    ) -> Result<(), EncodeError> {
+        match number_of(self.alloc, value) {
+            Ok(number) => self.put(Item::Integer(Limits::among(constraints), number)),
+            Err(_) => self.fail(),
+        }
+    }
+
+    fn begin_list(
+        &mut self,
+        _tag: Tag,
+        constraints: Constraints,
+        _held: Bounded<usize>,
+        _count: usize,
+    ) -> Result<(), EncodeError> {
+        self.put(Item::ListBegins(Sizes::among(constraints)))
+    }
+
+    fn put_further(&mut self, more: bool) -> Result<(), EncodeError> {
+        self.put(Item::Further(more))
+    }
+
+    fn begin_sequence(
+        &mut self,
+        _tag: Tag,
+        extensible: bool,
+        optional: usize,
+    ) -> Result<(), EncodeError> {
+        self.put(Item::SequenceBegins(extensible, optional))
+    }
+
+    fn put_mark(&mut self, present: bool) -> Result<(), EncodeError> {
+        self.put(Item::Mark(present))
+    }
+
+    fn end(&mut self) -> Result<(), EncodeError> {
+        self.put(Item::Ends)
+    }
+
+    ghost one_after = { puts_one };
+
+    ghost none_after = { puts_none };
+
+    ghost same_rules = { puts_same };
+}
+
+// The number that a value is.
+fn number_of<I: IntegerType>(alloc: Global, value: &I) -> Result<Integer, IntegerError>
+    ensures { IfOk result (λ n. n ≡ I.value value.now) }
+{
+    let octets = value.to_signed_bytes_be();
+    Integer::from_signed_octets(alloc, octets.as_slice())
+}

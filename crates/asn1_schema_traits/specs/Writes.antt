@@ -1,0 +1,44 @@
+-- How the states of an encoder go, by its relation between what it holds before a record and after it.
+use Rattle.std.specs.Prelude.{◌≡◌, ℕ, List}
+use Rattle.asn1_model.specs.Value.{Value, Values, Parts}
+use Rattle.asn1_model.specs.Schema.{Presence, Schema}
+use Rattle.asn1_schema_faults.specs.declared.EncodeError.{EncodeError}
+use Rattle.asn1_schema_faults.specs.declared.EncodeError.TheVariants.{OutOfMemory}
+use Rattle.asn1_schema_presented.specs.Records.{Record}
+use Rattle.asn1_schema_presented.specs.Presents.{Part, presents, part_records, member_records, Fits, PartFits, AllFit}
+use Rattle.asn1_schema_presented.specs.Tables.{Table}
+use Rattle.asn1_schema_presented.specs.Chains.{Chain}
+use Rattle.asn1_schema_presented.specs.Parts.{tail_records, TailFits}
+
+-- Why an encoder answers the error x: for want of memory, or because no state stands after the record.
+pub record Refused {S : Type 0} (step : S → Record → S → Type 0) (r : Record) (old : S) (x : EncodeError) : Type 0 where
+  pub none : ¬ (x ≡ OutOfMemory) → (new : S) → step old r new → ⊥
+
+-- The state goes from old to new by the records of v, in whatever depth the type is unfolded in which the value fits.
+pub record Writes {S : Type 0} (step : S → Record → S → Type 0) (schema : ℕ → Schema) (v : Value) (old new : S) : Type 0 where
+  pub chain : (n : ℕ) → Fits (schema n) v → Chain step (presents (schema n) v) old new
+
+-- Why a value is refused: for want of memory, or because no state stands after its records.
+pub record CannotWrite {S : Type 0} (step : S → Record → S → Type 0) (schema : ℕ → Schema) (v : Value) (old : S) (x : EncodeError) : Type 0 where
+  pub none : ¬ (x ≡ OutOfMemory) → (n : ℕ) (new : S) → Fits (schema n) v → Chain step (presents (schema n) v) old new → ⊥
+
+-- The same of one component.
+pub record WritesPart {S : Type 0} (step : S → Record → S → Type 0) (o : Presence) (schema : ℕ → Schema) (x : Part) (old new : S) : Type 0 where
+  pub chain : (n : ℕ) → PartFits (λ v. Fits (schema n) v) o x → Chain step (part_records (λ v. presents (schema n) v) o (schema n) x) old new
+
+pub record CannotWritePart {S : Type 0} (step : S → Record → S → Type 0) (o : Presence) (schema : ℕ → Schema) (x : Part) (old : S) (e : EncodeError) : Type 0 where
+  pub none : ¬ (e ≡ OutOfMemory) → (n : ℕ) (new : S) → PartFits (λ v. Fits (schema n) v) o x → Chain step (part_records (λ v. presents (schema n) v) o (schema n) x) old new → ⊥
+
+-- The same of what is left of a sequence.
+pub record WritesTail {S : Type 0} (step : S → Record → S → Type 0) (t : Table) (ps qs : Parts) (old new : S) : Type 0 where
+  pub chain : (n : ℕ) → TailFits n t ps qs → Chain step (tail_records n t ps qs) old new
+
+pub record CannotWriteTail {S : Type 0} (step : S → Record → S → Type 0) (t : Table) (ps qs : Parts) (old : S) (e : EncodeError) : Type 0 where
+  pub none : ¬ (e ≡ OutOfMemory) → (n : ℕ) (new : S) → TailFits n t ps qs → Chain step (tail_records n t ps qs) old new → ⊥
+
+-- The same of the members of a list, and its end.
+pub record WritesMembers {S : Type 0} (step : S → Record → S → Type 0) (schema : ℕ → Schema) (vs : Values) (old new : S) : Type 0 where
+  pub chain : (n : ℕ) → AllFit (λ v. Fits (schema n) v) vs → Chain step (member_records (λ v. presents (schema n) v) vs) old new
+
+pub record CannotWriteMembers {S : Type 0} (step : S → Record → S → Type 0) (schema : ℕ → Schema) (vs : Values) (old : S) (e : EncodeError) : Type 0 where
+  pub none : ¬ (e ≡ OutOfMemory) → (n : ℕ) (new : S) → AllFit (λ v. Fits (schema n) v) vs → Chain step (member_records (λ v. presents (schema n) v) vs) old new → ⊥
