@@ -1,0 +1,29 @@
+#!/bin/sh
+# Builds the benchmark and the same work in C in a folder of its own, runs both five times in turn, and prints the best time of each
+# in microseconds, and how many times the one in C it takes.
+set -e
+here=$(cd "$(dirname "$0")" && pwd)
+work=${1:-$(mktemp -d)}
+mkdir -p "$work/crates"
+for name in asn1_model asn1_values_bits; do
+    [ -d "$work/crates/$name" ] || cp -r "$here/../crates/$name" "$work/crates/"
+done
+mkdir -p "$work/crates/bits_bench/src"
+cp "$here/bits_bench.in" "$work/crates/bits_bench/src/main.rt"
+printf 'asn1_model:\nasn1_values_bits: asn1_model\nbits_bench: asn1_values_bits anyhow\n' > "$work/crates.txt"
+${CC:-clang} -O2 -o "$work/plain" "$here/plain.c"
+(cd "$work/crates/bits_bench" && rt run > "$work/first" 2> "$work/log") || { tail -20 "$work/log"; exit 1; }
+for round in 1 2 3 4 5; do
+    "$work/plain" | sed 's/^/plain /'
+    "$work/crates/bits_bench/out/bits_bench" | sed 's/^/proved /'
+done > "$work/times"
+awk '{
+    key = $1 " " $2
+    if (!(key in best) || $3 < best[key]) best[key] = $3
+    if (($2 in sum) && sum[$2] != $4) wrong = 1
+    sum[$2] = $4
+    if (!($2 in seen)) { seen[$2] = 1; order[++n] = $2 }
+} END {
+    for (i = 1; i <= n; i++) printf "%-16s plain %8d  proved %8d  ratio %.2f\n", order[i], best["plain " order[i]], best["proved " order[i]], best["proved " order[i]] / best["plain " order[i]]
+    if (wrong) { print "the sums differ"; exit 1 }
+}' "$work/times"
