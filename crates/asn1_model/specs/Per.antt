@@ -77,19 +77,26 @@ at_octet true x = both (placed (λ p. filling (missing p))) x
 
 -- ---- numbers and lengths
 
--- A number of 0 to span in k octets behind their number, which is one of 1 to the octets of span (X.691 11.5.7.4).
-unfoldable pub in_octets_of : Bool → ℕ → ℕ → ℕ → BitForm
-in_octets_of al span d k = only_if (leb (least_octets d) k && leb k (octet_width span))
-    (both (exactly (binary (width (octet_width span - 1)) (k - 1))) (at_octet al (exactly (flat_map (binary 8) (digits 256 k d)))))
+-- A number of 0 to span in k octets behind their number, which is a constrained whole number, one of 1 to the octets of span (X.691 11.5.7.4 and
+-- 13.2.6).
+unfoldable pub in_octets_of : (ℕ → ℕ → BitForm) → Bool → ℕ → ℕ → ℕ → BitForm
+in_octets_of whole al span d k = only_if (leb (least_octets d) k && leb k (octet_width span))
+    (both (whole (octet_width span - 1) (k - 1)) (at_octet al (exactly (flat_map (binary 8) (digits 256 k d)))))
 
 -- A constrained whole number, one of 0 to span (X.691 11.5): not aligned, the bits that span has; aligned, the same up to 255 numbers, one
--- octet for 256, two for up to 65536, and more behind their number.
-unfoldable pub constrained : Bool → ℕ → ℕ → BitForm
-constrained al span d = only_if (leb d span)
+-- octet for 256, two for up to 65536, and more behind their number, which is such a number again. At most so many stand behind one another.
+unfoldable pub constrained_in : ℕ → Bool → ℕ → ℕ → BitForm
+constrained_in zero al span d = refused
+constrained_in (suc most) al span d = only_if (leb d span)
     (cond (not al || ltb span 255) (exactly (binary (width span) d))
     (cond (span == 255) (at_octet al (exactly (binary 8 d)))
     (cond (ltb span 65536) (at_octet al (exactly (binary 16 d)))
-    (varied longer_number (least_octets d) (λ k. in_octets_of al span d k)))))
+    (varied longer_number (least_octets d) (λ k. in_octets_of (λ s c. constrained_in most al s c) al span d k)))))
+
+-- A constrained whole number (X.691 11.5): the octets of a number are fewer than the number, so that span bounds how many stand behind one
+-- another.
+unfoldable pub constrained : Bool → ℕ → ℕ → BitForm
+constrained al span d = constrained_in (suc span) al span d
 
 -- A length below 16384 (X.691 11.9.3.5 to 11.9.3.7).
 unfoldable pub short_length : Bool → ℕ → BitForm

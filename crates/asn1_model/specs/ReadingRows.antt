@@ -158,9 +158,9 @@ FormRows =
     × (written (Per.fragments false (5 ∷ []) (replicate 81920 nothing_more)) 0 ≡ None)
     × (written (Per.fragments false (1 ∷ []) (replicate 16383 nothing_more)) 0 ≡ None)
     -- a number of the aligned variant in no octets, and in more than its range has
-    × (written (Per.in_octets_of true 1234311 0 0) 0 ≡ None)
-    × (written (Per.in_octets_of true 1234311 0 4) 0 ≡ None)
-    × (written (Per.in_octets_of true 1234311 256 1) 0 ≡ None)
+    × (written (Per.in_octets_of (Per.constrained true) true 1234311 0 0) 0 ≡ None)
+    × (written (Per.in_octets_of (Per.constrained true) true 1234311 0 4) 0 ≡ None)
+    × (written (Per.in_octets_of (Per.constrained true) true 1234311 256 1) 0 ≡ None)
     -- a number or a size marked as inside the root that is not
     × (written (Per.marked true false nothing_more nothing_more) 0 ≡ Some (true ∷ []))
     × (written (Per.marked false false nothing_more nothing_more) 0 ≡ None)

@@ -262,6 +262,15 @@ RangeRows =
     × Writes aper (between (minus (2 ^ 63)) (pos (2 ^ 63 - 1))) (num 0) (0xE0 ∷ 0x80 ∷ replicate 7 0x00)
     × Writes uper (between (minus (2 ^ 127)) (pos (2 ^ 127 - 1))) (num 0) (0x80 ∷ replicate 15 0x00)
     × Writes aper (between (minus (2 ^ 127)) (pos (2 ^ 127 - 1))) (num 0) (0xF0 ∷ 0x80 ∷ replicate 15 0x00)
+    -- ranges whose numbers have up to 255, 256 and 257 octets: how many of them, in bits, in an octet and in two
+    × Writes aper (flagged (between (pos 0) (pos (256 ^ 254)))) (yes_and (num 256)) (0x80 ∷ 0x80 ∷ 0x01 ∷ 0x00 ∷ [])
+    × Writes aper (flagged (between (pos 0) (pos (256 ^ 255)))) (yes_and (num 256)) (0x80 ∷ 0x01 ∷ 0x01 ∷ 0x00 ∷ [])
+    × Writes aper (flagged (between (pos 0) (pos (256 ^ 255)))) (yes_and (num 0)) (0x80 ∷ 0x00 ∷ 0x00 ∷ [])
+    × Writes aper (flagged (between (minus (256 ^ 255)) (pos 0))) (yes_and (num 0)) (0x80 ∷ 0xFF ∷ 0x01 ∷ replicate 255 0x00)
+    × Writes aper (flagged (between (pos 0) (pos (256 ^ 256)))) (yes_and (num 256)) (0x80 ∷ 0x00 ∷ 0x01 ∷ 0x01 ∷ 0x00 ∷ [])
+    × Writes uper (between (pos 0) (pos (256 ^ 255))) (num 256) (replicate 254 0x00 ++ 0x80 ∷ 0x00 ∷ [])
+    × Writes coer (between (pos 0) (pos (256 ^ 255))) (num 256) (0x02 ∷ 0x01 ∷ 0x00 ∷ [])
+    × WritesNothing aper (between (pos 0) (pos (256 ^ 255))) (num (2 ^ 127))
     -- a lower bound alone: the number above it in PER, the number itself in OER
     × Writes uper from_zero (num 127) (0x01 ∷ 0x7F ∷ [])
     × Writes aper from_zero (num 127) (0x01 ∷ 0x7F ∷ [])

@@ -1,14 +1,14 @@
 -- Rows: lawful types, and two versions of a type.
-use Rattle.std.specs.Prelude.{◌≡◌, ℕ, zero, suc, pos, true, false, [], ◌∷◌, Some, None}
+use Rattle.std.specs.Prelude.{◌≡◌, ℕ, zero, suc, pos, true, false, List, [], ◌∷◌, ◌++◌, Some, None}
 use Rattle.asn1_model.specs.Value.{Value, item, chosen, absent, present, end}
-use Rattle.asn1_model.specs.Schema.{Schema, cut, numeric, utf8, boolean, null, enumerated, character_string, sequence, set, group, choice, no_component}
-use Rattle.asn1_model.specs.Schema.{component, required, no_alternative}
+use Rattle.asn1_model.specs.Schema.{Tag, Schema, cut, numeric, utf8, boolean, null, enumerated, character_string, sequence, set, group, choice, no_component}
+use Rattle.asn1_model.specs.Schema.{component, required, optional, Alternatives, no_alternative}
 use Rattle.asn1_model.specs.Lawful.{is_lawful}
 use Rattle.asn1_model.specs.Versions.{Extends, drop, grow, seen, IsClash}
 use Rattle.asn1_model.specs.Types.{minus, any_count, any_size, sizes, letters, between, octet_text, list, context, needs, may_have, closed}
 use Rattle.asn1_model.specs.Types.{open_behind, or_tagged, one_of, num, roots, colour_old, colour_new, defaulted, marked_choice, new_type, old_type}
 use Rattle.asn1_model.specs.Types.{required_new, default_old, default_new, grouped, nest, nest_added, nested, yes_with, yes_without, yes_alone}
-use Rattle.asn1_model.specs.Types.{null_alternatives, set_of_three, set_with_choice, whole, has_default, only_tagged, yes}
+use Rattle.asn1_model.specs.Types.{null_alternatives, bag_of, bag_with, set_of_three, set_with_choice, whole, has_default, only_tagged, yes}
 
 -- CHOICE {a [0] INTEGER, b [1] INTEGER, ...}
 abbrev pub choice_old : Schema
@@ -30,6 +30,29 @@ spelled = roots (present (roots (absent end)) end)
 -- SEQUENCE {t T DEFAULT the value}
 abbrev pub with_default : ℕ → Value → Schema
 with_default n d = closed (has_default 0 (unfolded n) d no_component)
+
+-- SEQUENCE {a SET OF INTEGER DEFAULT {.., ..}, ...}
+abbrev pub bag_default : ℕ → ℕ → Schema
+bag_default m n = open_behind (has_default 0 (bag_of whole) (bag_with (num m ∷ num n ∷ [])) no_component) no_component
+
+-- SEQUENCE {a SEQUENCE {b BOOLEAN, ...} DEFAULT {b TRUE}}, and with d INTEGER DEFAULT 3 behind the mark, DEFAULT {b TRUE, d ..}
+abbrev pub plain_default : Schema
+plain_default = closed (has_default 0 old_type yes_alone no_component)
+
+abbrev pub spelled_default : ℕ → Schema
+spelled_default n = closed (has_default 0 (open_behind (needs 0 boolean no_component) (has_default 1 whole (num 3) no_component)) (yes_with (num n)) no_component)
+
+-- SEQUENCE {..., [[c CHOICE {a [0] NULL, ..., the added alternatives}, z [9] NULL]]}, where these are the tags of c
+abbrev pub choice_in_group : List Tag → Alternatives → Schema
+choice_in_group ts adds =
+    open_behind no_component (component (ts ++ context 9 ∷ []) optional (group (component ts required (choice (or_tagged 0 null no_alternative) true adds) (needs 9 null no_component))) no_component)
+
+abbrev pub choice_in_group_old : Schema
+choice_in_group_old = choice_in_group (context 0 ∷ []) no_alternative
+
+-- the same with n [1] NULL in the choice
+abbrev pub choice_in_group_new : Schema
+choice_in_group_new = choice_in_group (context 0 ∷ context 1 ∷ []) (or_tagged 1 null no_alternative)
 
 abbrev pub LawfulRows : Type 0
 LawfulRows =
@@ -89,6 +112,11 @@ LawfulRows =
     × (is_lawful (only_tagged (record { class = 3; number = 0 })) ≡ true)
     × (is_lawful (only_tagged (record { class = 4; number = 0 })) ≡ false)
     × (is_lawful (closed (component (record { class = 4; number = 0 } ∷ []) required boolean no_component)) ≡ false)
+    -- the versions below
+    × (is_lawful (bag_default 1 2) ≡ true)
+    × (is_lawful (bag_default 2 1) ≡ true)
+    × (is_lawful choice_in_group_old ≡ true)
+    × (is_lawful choice_in_group_new ≡ true)
 
 abbrev pub VersionRows : Type 0
 VersionRows =
@@ -123,3 +151,12 @@ VersionRows =
     × (Extends (between (pos 0) (pos 4)) (between (pos 0) (pos 5)) → ⊥)
     × (Extends old_type (closed (needs 0 boolean no_component)) → ⊥)
     × (Extends (choice (null_alternatives 0 2) true no_alternative) (choice (null_alternatives 0 3) true no_alternative) → ⊥)
+    -- one default: in another order of a bag, and spelled out where it is at a default of its own; not another default
+    × Extends (bag_default 1 2) (bag_default 2 1)
+    × (Extends (bag_default 1 2) (bag_default 1 1) → ⊥)
+    × Extends plain_default (spelled_default 3)
+    × (Extends plain_default (spelled_default 4) → ⊥)
+    -- an untagged choice that gains a tag, in a group before another component; no tag is taken away
+    × Extends choice_in_group_old choice_in_group_new
+    × (Extends choice_in_group_new choice_in_group_old → ⊥)
+    × (Extends (closed (needs 0 boolean no_component)) (closed (needs 1 boolean no_component)) → ⊥)

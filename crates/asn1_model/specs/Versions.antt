@@ -1,7 +1,7 @@
 -- Two versions of a type: the newer has further additions, alternatives and items behind its marks, and is as the older one else (X.680 52).
-use Rattle.std.specs.Prelude.{◌≡◌, ℕ, zero, suc, Bool, true, false, cond, ◌||◌, List, ◌++◌, Option, Some, None, option_map, option_and_then}
-use Rattle.asn1_model.specs.Value.{Value, item, members, bag, fields, chosen, Values, no_more, member, Parts, end, absent, present, depth}
-use Rattle.asn1_model.specs.Schema.{Presence, required, optional, by_default, Schema, cut, boolean, null, integer, enumerated, bit_string}
+use Rattle.std.specs.Prelude.{◌≡◌, ℕ, zero, suc, Bool, true, false, cond, ◌||◌, List, ◌++◌, All, Contains, Option, Some, None, option_map, option_and_then}
+use Rattle.asn1_model.specs.Value.{Value, item, members, bag, fields, chosen, Values, no_more, member, Parts, end, absent, present, same, depth}
+use Rattle.asn1_model.specs.Schema.{Tag, Presence, required, optional, by_default, Schema, cut, boolean, null, integer, enumerated, bit_string}
 use Rattle.asn1_model.specs.Schema.{octet_string, character_string, object_identifier, sequence_of, set_of, sequence, set, group, choice, Components}
 use Rattle.asn1_model.specs.Schema.{no_component, component, Alternatives, no_alternative, alternative}
 use Rattle.asn1_model.specs.Normal.{normal, is_normal}
@@ -103,11 +103,17 @@ IsClash old new v = (w : Value) × (drop old new v ≡ Some w) × (is_normal old
 abbrev pub Begins : {X : Type 0} → List X → List X → Type 0
 Begins {X} xs ys = (zs : List X) × (xs ++ zs ≡ ys)
 
--- Equal, a default apart, which the newer version has in its own terms.
+-- Each tag of the older version is one of the newer. An untagged choice and a group gain the tags of what they gain, wherever it stands among
+-- them; no addition takes a tag away (X.680 52).
+abbrev pub KeepsTags : List Tag → List Tag → Type 0
+KeepsTags ts ts' = All (Contains ts') ts
+
+-- Both required, both optional, or both with one default: that of the older version, carried over, is the same value as that of the newer,
+-- whatever order a bag in it has and whether or not it spells out what is at a default of its own (X.680 25).
 abbrev pub KeepsPresence : Schema → Schema → Presence → Presence → Type 0
 KeepsPresence s s' required required = Unit {0}
 KeepsPresence s s' optional optional = Unit {0}
-KeepsPresence s s' (by_default d) (by_default d') = grow s s' d ≡ Some d'
+KeepsPresence s s' (by_default d) (by_default d') = (w : Value) × (grow s s' (normal s d) ≡ Some w) × (same w (normal s' d') ≡ true)
 KeepsPresence s s' o o' = ⊥
 
 unfoldable mutual
@@ -131,11 +137,11 @@ unfoldable mutual
   Extends (choice roots e adds) (choice roots' e' adds') = ExtendsAlternatives false roots roots' × (e ≡ e') × ExtendsAlternatives e adds adds'
   Extends s s' = ⊥
 
-  -- One by one, and behind them further ones if these may come; an untagged choice may begin with further tags.
+  -- One by one, and behind them further ones if these may come.
   pub ExtendsEach : Bool → Components → Components → Type 0
   ExtendsEach more no_component no_component = Unit {0}
   ExtendsEach true no_component (component t' o' s' cs') = Unit {0}
-  ExtendsEach more (component t o s cs) (component t' o' s' cs') = Begins t t' × KeepsPresence s s' o o' × Extends s s' × ExtendsEach more cs cs'
+  ExtendsEach more (component t o s cs) (component t' o' s' cs') = KeepsTags t t' × KeepsPresence s s' o o' × Extends s s' × ExtendsEach more cs cs'
   ExtendsEach more cs cs' = ⊥
 
   -- The same of alternatives, whose tags are equal.
