@@ -5,10 +5,12 @@ use Rattle.asn1_model.specs.Schema.{Counts, Size, Schema, set_of}
 use Rattle.asn1_model.specs.Form.{Bitmap, arranged, ascending, covered_by, is_any_present, stands_before, written}
 use Rattle.asn1_model.specs.Lawful.{IsLawful}
 use Rattle.asn1_model.specs.Normal.{normal}
-use Rattle.asn1_model.specs.Rules.{Rules, canonical, IsEncoding}
+use Rattle.asn1_model.specs.Rules.{Rules, uper_strict, aper_strict, coer, canonical, IsEncoding}
 use Rattle.asn1_model.specs.Strings.{each_is, is_octet}
 use Rattle.asn1_model.specs.Per
 use Rattle.asn1_model.specs.Oer
+use Rattle.asn1_laws_across.specs.InOrder.{IsEncodingInOrder}
+use Rattle.asn1_laws_across.specs.Rigid.{is_rigid}
 use Rattle.asn1_laws_across.specs.Strictly.{IsEncodingAsWritten, ReadsAsWritten}
 
 -- All values of which some octets are an encoding are the same, and so have the same normal form, up to the order of bags,
@@ -43,6 +45,18 @@ CanonicalIsAsWritten = (r : Rules) (s : Schema) (v : Value) (w : List ℕ) → c
 -- What a strict reader takes so is the canonical encoding of all values of which it is an encoding.
 abbrev pub StrictIsCanonicalOfAll : Type 0
 StrictIsCanonicalOfAll = (r : Rules) (s : Schema) (v u : Value) (w : List ℕ) → IsLawful s → IsTrue (each_is is_octet w) → IsEncodingAsWritten r s v w → IsEncoding r s u w → canonical r s u ≡ Some w
+
+-- What is canonical but for the bitmaps and the order of the bags, where each bitmap has its type's own width and a bit set, and the members of
+-- each bag ascend, is an encoding and the canonical one; and what is canonical is so.
+abbrev pub InOrderIsCanonical : Type 0
+InOrderIsCanonical = (r : Rules) (s : Schema) (v : Value) (w : List ℕ) → (IsEncodingInOrder r s v w → IsEncoding r s v w) × (IsTrue (each_is is_octet w) → IsEncodingInOrder r s v w → canonical r s v ≡ Some w) × (canonical r s v ≡ Some w → IsEncodingInOrder r s (normal s v) w)
+
+-- What a strict reader takes of a rigid type is the canonical encoding of the value.
+abbrev pub RigidIsCanonicalIn : Rules → Type 0
+RigidIsCanonicalIn r = (s : Schema) (v : Value) (w : List ℕ) → IsTrue (is_rigid s) → IsTrue (each_is is_octet w) → IsEncoding r s v w → canonical r s v ≡ Some w
+
+abbrev pub RigidIsCanonical : Type 0
+RigidIsCanonical = RigidIsCanonicalIn uper_strict × RigidIsCanonicalIn aper_strict × RigidIsCanonicalIn coer
 
 -- A bitmap of the type's own width with a bit set, whatever it covers, writes what the type's own does.
 abbrev pub OwnBitmaps : Type 0

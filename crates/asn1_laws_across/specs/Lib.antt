@@ -1,2 +1,4 @@
 pub mod Strictly
+pub mod Rigid
+pub mod InOrder
 pub mod Laws

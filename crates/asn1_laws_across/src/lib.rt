@@ -2,8 +2,10 @@
 #![tactic(auto)]
 
 ghost use Rattle.asn1_laws_across.specs.Laws.{OneMeaning, EncodingsTellNormalForms, EqualAcross, DetoursChangeNothing, RecodedStays};
-ghost use Rattle.asn1_laws_across.specs.Laws.{StrictIsCanonical, CanonicalIsAsWritten, StrictIsCanonicalOfAll, OwnBitmaps, AscendingBags};
+ghost use Rattle.asn1_laws_across.specs.Laws.{StrictIsCanonical, CanonicalIsAsWritten, StrictIsCanonicalOfAll, InOrderIsCanonical, RigidIsCanonical, OwnBitmaps};
+ghost use Rattle.asn1_laws_across.specs.Laws.{AscendingBags};
 ghost use Rattle.asn1_laws_across.specs.Strictly.{AsWrittenRows};
+ghost use Rattle.asn1_laws_across.specs.InOrder.{InOrderRows};
 
 /// All values of which some octets are an encoding are the same, and so have the same normal form, up to the order of bags, and one
 /// canonical encoding in all rules.
@@ -46,6 +48,18 @@ pub fn strict_is_canonical_of_all()
     ensures { StrictIsCanonicalOfAll }
 {}
 
+/// Octets that are canonical but for the bitmaps and the order of the bags, where each bitmap has its type's own width and a bit set and the
+/// members of each bag ascend, are the canonical encoding of the value; and the canonical encoding is such octets.
+pub fn in_order_is_canonical()
+    ensures { InOrderIsCanonical }
+{}
+
+/// What a strict reader takes of a type without bags, and without marks on its sequences and sets at any depth, is the canonical encoding of
+/// the value.
+pub fn rigid_is_canonical()
+    ensures { RigidIsCanonical }
+{}
+
 /// A bitmap of the type's own width with a bit set, whatever it covers, writes what the type's own does.
 pub fn own_bitmaps()
     ensures { OwnBitmaps }
@@ -59,4 +73,9 @@ pub fn ascending_bags()
 /// The bag of 3, 1 and 2 stands in ascending order.
 pub fn as_written_rows()
     ensures { AsWrittenRows }
+{}
+
+/// The bag of 3, 1 and 2, written 1, 2, 3, is in order.
+pub fn in_order_rows()
+    ensures { InOrderRows }
 {}

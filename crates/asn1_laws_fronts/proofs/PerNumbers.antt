@@ -13,7 +13,7 @@ use Rattle.asn1_model.specs.Strings.{each_is, is_octet}
 use Rattle.asn1_model.specs.Per
 use Rattle.asn1_laws.proofs.Places.{places_hold}
 use Rattle.asn1_laws.proofs.Numbers.{length-digits, length-complement, digits_equal, complement_equal, least_hold, signed_hold, above_equal}
-use Rattle.asn1_laws_fronts.proofs.Fronts.{Agree, Pairwise, fronts_equal, agree_exactly, agree_map, agree_both, agree_both_apart, agree_placed, agree_varied, agree_varied_left, agree_varied_right, agree_if, agree_if_left, agree_if_right, agree_given, agree_first, agree_nothing}
+use Rattle.asn1_laws_fronts.proofs.Fronts.{Agree, Pairwise, fronts_equal, agree_exactly, agree_refused, agree_map, agree_both, agree_both_apart, agree_placed, agree_varied, agree_varied_left, agree_varied_right, agree_if, agree_if_left, agree_if_right, agree_given, agree_first, agree_nothing}
 
 -- ---- numbers of so many bits
 bit_equal : (a b : ℕ) → a < 2 → b < 2 → (a == 1) ≡ (b == 1) → a ≡ b
@@ -264,31 +264,36 @@ module _ (free : Per.Freedom → Bool) where
       let b : length (flat_map (binary 8) (digits 256 k m)) ≡ 8 * k = length-octets (digits 256 k m) ∙ ap (λ x. 8 * x) (length-digits 256 k m) in
       at_octet_alike free al (agree_map free (λ e. digits_equal 256 k n m (lit< tt) h i (bits_of_digits k n m e)) (agree_exactly free _ _ (a ∙ sym b)))
 
-  in_octets_alike : (al : Bool) (span n m k j : ℕ) → Alike free (Per.in_octets_of al span n k) (Per.in_octets_of al span m j) (n ≡ m)
+  in_octets_alike : (whole : ℕ → ℕ → Per.BitForm) (al : Bool) (span n m k j : ℕ) → ((s x y : ℕ) → Alike free (whole s x) (whole s y) (x ≡ y)) → Alike free (Per.in_octets_of whole al span n k) (Per.in_octets_of whole al span m j) (n ≡ m)
   unfolding Per.in_octets_of
-  in_octets_alike al span n m k j = agree_if free (leb (least_octets n) k && leb k (octet_width span)) (leb (least_octets m) j && leb j (octet_width span)) _ _ (λ h i.
+  in_octets_alike whole al span n m k j f = agree_if free (leb (least_octets n) k && leb k (octet_width span)) (leb (least_octets m) j && leb j (octet_width span)) _ _ (λ h i.
       let h' = and_parts _ _ h in
       let i' = and_parts _ _ i in
       let a : least_octets n ≤ k = leb-true _ _ h'.0 in
       let b : k ≤ octet_width span = leb-true _ _ h'.1 in
       let c : least_octets m ≤ j = leb-true _ _ i'.0 in
       let d : j ≤ octet_width span = leb-true _ _ i'.1 in
-      agree_map free (λ q. q.1) (agree_both free (binary_alike free (width (octet_width span - 1)) (k - 1) (j - 1) (span_holds _ _ (omega arith)) (span_holds _ _ (omega arith))) (λ e.
+      agree_map free (λ q. q.1) (agree_both free (f (octet_width span - 1) (k - 1) (j - 1)) (λ e.
       let l : j ≡ k = omega arith in
       subst (λ x. Alike free (Per.at_octet al (exactly (flat_map (binary 8) (digits 256 k n)))) (Per.at_octet al (exactly (flat_map (binary 8) (digits 256 x m)))) (n ≡ m)) (sym l) (octets_at al k n m (least_hold k n a) (least_hold k m (omega arith))))))
 
-  abbrev by_span : Bool → Bool → Bool → Bool → ℕ → ℕ → Per.BitForm
-  by_span al a b c span n = cond a (exactly (binary (width span) n)) (cond b (Per.at_octet al (exactly (binary 8 n))) (cond c (Per.at_octet al (exactly (binary 16 n))) (varied Per.longer_number (least_octets n) (λ k. Per.in_octets_of al span n k))))
+  abbrev by_span : (ℕ → ℕ → Per.BitForm) → Bool → Bool → Bool → Bool → ℕ → ℕ → Per.BitForm
+  by_span whole al a b c span n = cond a (exactly (binary (width span) n)) (cond b (Per.at_octet al (exactly (binary 8 n))) (cond c (Per.at_octet al (exactly (binary 16 n))) (varied Per.longer_number (least_octets n) (λ k. Per.in_octets_of whole al span n k))))
 
-  span_cases : (al : Bool) (span n m : ℕ) (a b c : Bool) → (span == 255) ≡ b → ltb span 65536 ≡ c → n ≤ span → m ≤ span → Alike free (by_span al a b c span n) (by_span al a b c span m) (n ≡ m)
-  span_cases al span n m true b c e f h k = binary_alike free (width span) n m (span_holds span n h) (span_holds span m k)
-  span_cases al span n m false true c e f h k = let s = eqb-true span 255 e in at_octet_alike free al (binary_alike free 8 n m (omega arith) (omega arith))
-  span_cases al span n m false false true e f h k = let s = ltb-true span 65536 f in at_octet_alike free al (binary_alike free 16 n m (omega arith) (omega arith))
-  span_cases al span n m false false false e f h k = agree_varied free (λ i j. in_octets_alike al span n m i j)
+  span_cases : (whole : ℕ → ℕ → Per.BitForm) (al : Bool) (span n m : ℕ) (a b c : Bool) → ((s x y : ℕ) → Alike free (whole s x) (whole s y) (x ≡ y)) → (span == 255) ≡ b → ltb span 65536 ≡ c → n ≤ span → m ≤ span → Alike free (by_span whole al a b c span n) (by_span whole al a b c span m) (n ≡ m)
+  span_cases whole al span n m true b c w e f h k = binary_alike free (width span) n m (span_holds span n h) (span_holds span m k)
+  span_cases whole al span n m false true c w e f h k = let s = eqb-true span 255 e in at_octet_alike free al (binary_alike free 8 n m (omega arith) (omega arith))
+  span_cases whole al span n m false false true w e f h k = let s = ltb-true span 65536 f in at_octet_alike free al (binary_alike free 16 n m (omega arith) (omega arith))
+  span_cases whole al span n m false false false w e f h k = agree_varied free (λ i j. in_octets_alike whole al span n m i j w)
+
+  constrained_in_alike : (most : ℕ) (al : Bool) (span n m : ℕ) → Alike free (Per.constrained_in most al span n) (Per.constrained_in most al span m) (n ≡ m)
+  unfolding Per.constrained_in
+  constrained_in_alike zero al span n m = agree_refused free _ _
+  constrained_in_alike (suc most) al span n m = agree_if free (leb n span) (leb m span) _ _ (λ h k. span_cases (λ s c. Per.constrained_in most al s c) al span n m (not al || ltb span 255) (span == 255) (ltb span 65536) (λ s x y. constrained_in_alike most al s x y) refl refl (leb-true _ _ h) (leb-true _ _ k))
 
   pub constrained_alike : (al : Bool) (span n m : ℕ) → Alike free (Per.constrained al span n) (Per.constrained al span m) (n ≡ m)
   unfolding Per.constrained
-  constrained_alike al span n m = agree_if free (leb n span) (leb m span) _ _ (λ h k. span_cases al span n m (not al || ltb span 255) (span == 255) (ltb span 65536) refl refl (leb-true _ _ h) (leb-true _ _ k))
+  constrained_alike al span n m = constrained_in_alike (suc span) al span n m
 
   whole_alike : (al : Bool) (low high : Option ℤ) (v w : ℤ) → Alike free (Per.whole_number al low high v) (Per.whole_number al low high w) (v ≡ w)
   unfolding Per.whole_number

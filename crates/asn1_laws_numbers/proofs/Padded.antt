@@ -37,7 +37,7 @@ same_octets m n (o ∷ os) (p ∷ ps) h i l e =
     let c : o ≡ p = omega arith in
     (omega arith, ap (λ y. y ∷ os) c ∙ ap (λ y. p ∷ y) q.1)
 
-digits_back : (n : ℕ) (os : List ℕ) → each_is is_octet os ≡ true → number_after 256 0 os ≡ n → (n < 256 ^ length os) × (digits 256 (length os) n ≡ os)
+pub digits_back : (n : ℕ) (os : List ℕ) → each_is is_octet os ≡ true → number_after 256 0 os ≡ n → (n < 256 ^ length os) × (digits 256 (length os) n ≡ os)
 digits_back n os h e =
     let a = number_below 0 os h in
     let b : n < 256 ^ length os = omega arith in
@@ -64,12 +64,12 @@ complement_stands k (negsuc n) h =
 
 -- ---- the forms
 module _ {F : Type 0} {D : F → Type 0} {A : Type 0} (free : F → Bool) (p : ℕ) (w : List A) where
-  read_if : (b : Bool) (x : Form F D A) → Reads free (only_if b x) p w → (b ≡ true) × Reads free x p w
+  pub read_if : (b : Bool) (x : Form F D A) → Reads free (only_if b x) p w → (b ≡ true) × Reads free x p w
   unfolding Reads
   read_if true x r = (refl, r)
   read_if false x r = absurd r
 
-  if_read : (b : Bool) (x : Form F D A) → b ≡ true → Reads free x p w → Reads free (only_if b x) p w
+  pub if_read : (b : Bool) (x : Form F D A) → b ≡ true → Reads free x p w → Reads free (only_if b x) p w
   unfolding Reads
   if_read true x e r = r
   if_read false x e r = absurd (false≢true e)

@@ -1,7 +1,8 @@
 -- Numbers in more octets than they need.
-use Rattle.std.specs.Prelude.{◌≡◌, ℕ, ◌+◌, ◌-◌, ◌*◌, ◌^◌, ◌<◌, ℤ, pos, negsuc, Bool, IsTrue, List, length}
-use Rattle.asn1_model.specs.Numbers.{number_after}
-use Rattle.asn1_model.specs.Form.{Form, Reads}
+use Rattle.std.specs.Prelude.{◌≡◌, ℕ, ◌+◌, ◌-◌, ◌*◌, ◌^◌, ◌<◌, ◌≤◌, leb, ℤ, pos, negsuc, Bool, true, ◌&&◌, IsTrue, List, length, flat_map}
+use Rattle.asn1_model.specs.Numbers.{binary, number_after, octet_width}
+use Rattle.asn1_model.specs.Form.{Form, exactly, both, only_if, Reads}
+use Rattle.asn1_model.specs.Strings.{each_is, is_octet}
 use Rattle.asn1_model.specs.Per
 use Rattle.asn1_model.specs.Oer
 
@@ -22,3 +23,12 @@ OerNumbersAreSums = (free : Oer.Freedom → Bool) → IsTrue (free Oer.longer_nu
 -- And in PER, aligned and not.
 abbrev pub PerNumbersAreSums : Type 0
 PerNumbersAreSums = (free : Per.Freedom → Bool) (al : Bool) → IsTrue (free Per.longer_number) → ((n : ℕ) → IsReadAsAny free (Per.semi_constrained al n) (Per.counted_octets al) (λ os. number_after 256 0 os ≡ n)) × ((v : ℤ) → IsReadAsAny free (Per.unconstrained al v) (Per.counted_octets al) (λ os. StandsFor os v))
+
+-- Octets of a number of 0 to span, aligned, behind their number: a constrained whole number of 1 to the octets of span (X.691 11.5.7.4 and 13.2.6).
+abbrev pub behind_their_number : ℕ → List ℕ → Per.BitForm
+behind_their_number span os = only_if (each_is is_octet os && leb (length os) (octet_width span))
+    (both (Per.constrained true (octet_width span - 1) (length os - 1)) (Per.at_octet true (exactly (flat_map (binary 8) os))))
+
+-- And of a number of a range of more than 65536, aligned, any octets whose positional sum is the number, behind their number.
+abbrev pub PerRangesAreSums : Type 0
+PerRangesAreSums = (free : Per.Freedom → Bool) → IsTrue (free Per.longer_number) → (span d : ℕ) → 65536 ≤ span → d ≤ span → IsReadAsAny free (Per.constrained true span d) (behind_their_number span) (λ os. number_after 256 0 os ≡ d)

@@ -3,7 +3,7 @@
 
 ghost use Rattle.asn1_laws_numbers.specs.Laws.{DigitsAreASum, FewestDigits, ComplementIsASum, FewestOctets, BitsAreDigits, OctetsAndBits, IdentifiersAreTold};
 ghost use Rattle.asn1_laws_numbers.specs.Laws.{OctetsStandAsBits, Utf8IsText};
-ghost use Rattle.asn1_laws_numbers.specs.Padded.{OerNumbersAreSums, PerNumbersAreSums};
+ghost use Rattle.asn1_laws_numbers.specs.Padded.{OerNumbersAreSums, PerNumbersAreSums, PerRangesAreSums};
 
 /// So many digits of a number that has no more are a positional sum: they stand for it, and each is below the base.
 pub fn digits_are_a_sum()
@@ -54,6 +54,12 @@ pub fn oer_numbers_are_sums()
 /// And in PER, aligned and not (X.691 11.7 and 11.8).
 pub fn per_numbers_are_sums()
     ensures { PerNumbersAreSums }
+{}
+
+/// And of a range of more than 65536 numbers in the aligned variant, behind the number of the octets, which is a constrained whole number
+/// of its own (X.691 11.5.7.4 and 13.2.6).
+pub fn per_ranges_are_sums()
+    ensures { PerRangesAreSums }
 {}
 
 /// Octets stand in the order of their bits, so that the members of a bag in PER stand in the order of their octets.

@@ -1,6 +1,6 @@
 -- Which values of plain types have an encoding.
 use Rattle.std.specs.Prelude.{ℤ, pos, negsuc, ◌-ℤ◌, max}
-use Rattle.std.proofs.Common.{◌≡◌, ℕ, zero, suc, ◌+◌, ◌/◌, ◌%◌, ◌^◌, ◌<◌, ◌≤◌, ◌==◌, ltb, leb, not, lit<, Bool, true, false, cond, ◌&&◌, ◌||◌, List, [], ◌∷◌, length, replicate, Option, Some, None, option_map, option_and_then, refl, ap, sym, ◌∙◌, inl, inr, ◌⊎◌, arith}
+use Rattle.std.proofs.Common.{◌≡◌, ℕ, zero, suc, ◌+◌, ◌-◌, ◌*◌, ◌/◌, ◌%◌, ◌^◌, ◌<◌, ◌≤◌, ◌==◌, ltb, leb, not, lit<, Bool, true, false, cond, ◌&&◌, ◌||◌, List, [], ◌∷◌, length, replicate, Option, Some, None, option_map, option_and_then, refl, ap, sym, ◌∙◌, inl, inr, ◌⊎◌, arith}
 use Rattle.std.proofs.lemmas.List.{length-replicate}
 use Rattle.std.proofs.lemmas.Bool.{ltb-false, lt-ltb, le-leb, leb-true, eq-eqb, and_parts}
 use Rattle.std.proofs.lemmas.Int.{ints}
@@ -71,22 +71,40 @@ least_within span d h k =
     one_at_least zero a b = absurd (omega arith)
     one_at_least (suc k) a b = omega arith
 
-abbrev by_span : Bool → Bool → Bool → Bool → ℕ → ℕ → Per.BitForm
-by_span al a b c span n = cond a (exactly (binary (width span) n)) (cond b (Per.at_octet al (exactly (binary 8 n))) (cond c (Per.at_octet al (exactly (binary 16 n))) (varied Per.longer_number (least_octets n) (λ k. Per.in_octets_of al span n k))))
+abbrev by_span : (ℕ → ℕ → Per.BitForm) → Bool → Bool → Bool → Bool → ℕ → ℕ → Per.BitForm
+by_span whole al a b c span n = cond a (exactly (binary (width span) n)) (cond b (Per.at_octet al (exactly (binary 8 n))) (cond c (Per.at_octet al (exactly (binary 16 n))) (varied Per.longer_number (least_octets n) (λ k. Per.in_octets_of whole al span n k))))
 
-by_span_written : (al : Bool) (span n : ℕ) (a b c : Bool) → ltb span 65536 ≡ c → n ≤ span → Bits (by_span al a b c span n) true
+by_span_written : (whole : ℕ → ℕ → Per.BitForm) (al : Bool) (span n : ℕ) (a b c : Bool) → (255 < span → (d : ℕ) → d ≤ octet_width span - 1 → Bits (whole (octet_width span - 1) d) true) → ltb span 65536 ≡ c → n ≤ span → Bits (by_span whole al a b c span n) true
 unfolding Per.in_octets_of
-by_span_written al span n true b c e h = written_exactly _
-by_span_written al span n false true c e h = at_octet_written al _ true (written_exactly _)
-by_span_written al span n false false true e h = at_octet_written al _ true (written_exactly _)
-by_span_written al span n false false false e h = written_varied {c = Per.longer_number} (written_when (leb (least_octets n) (least_octets n) && leb (least_octets n) (octet_width span)) _ true (least_within span n h (not_less span e)) (written_both (written_exactly _) (at_octet_written al _ true (written_exactly _))))
+by_span_written whole al span n true b c w e h = written_exactly _
+by_span_written whole al span n false true c w e h = at_octet_written al _ true (written_exactly _)
+by_span_written whole al span n false false true w e h = at_octet_written al _ true (written_exactly _)
+by_span_written whole al span n false false false w e h =
+    let i = not_less span e in
+    let t = least_within span n h i in
+    let l : least_octets n ≤ octet_width span = leb-true _ _ (and_parts _ _ t).1 in
+    written_varied {c = Per.longer_number} (written_when (leb (least_octets n) (least_octets n) && leb (least_octets n) (octet_width span)) _ true t (written_both (w i (least_octets n - 1) (omega arith)) (at_octet_written al _ true (written_exactly _))))
   where
     not_less : (span : ℕ) → ltb span 65536 ≡ false → 255 < span
     not_less span e = let a = ltb-false span 65536 e in omega arith
 
+fewer_octets : (span : ℕ) → octet_width span ≤ span
+fewer_octets span = octet_width_least span span (below_power span)
+  where
+    below_power : (n : ℕ) → n < 256 ^ n
+    below_power zero = omega arith
+    below_power (suc n) = let i = below_power n in let e : 256 ^ suc n ≡ 256 * 256 ^ n = omega arith in omega arith
+
+constrained_in_written : (most : ℕ) (al : Bool) (span d : ℕ) → span < most → d ≤ span → Bits (Per.constrained_in most al span d) true
+unfolding Per.constrained_in
+constrained_in_written zero al span d k h = absurd (omega arith)
+constrained_in_written (suc most) al span d k h =
+    let f = fewer_octets span in
+    written_when (leb d span) _ true (le-leb _ _ h) (by_span_written (λ s c. Per.constrained_in most al s c) al span d (not al || ltb span 255) (span == 255) (ltb span 65536) (λ i c l. constrained_in_written most al (octet_width span - 1) c (omega arith) l) refl h)
+
 constrained_written : (al : Bool) (span d : ℕ) → d ≤ span → Bits (Per.constrained al span d) true
 unfolding Per.constrained
-constrained_written al span d h = written_when (leb d span) _ true (le-leb _ _ h) (by_span_written al span d (not al || ltb span 255) (span == 255) (ltb span 65536) refl h)
+constrained_written al span d h = constrained_in_written (suc span) al span d (omega arith) h
 
 whole_written : (al : Bool) (low high v : ℤ) → is_at_most low v ≡ true → is_at_most v high ≡ true → Bits (Per.whole_number al (Some low) (Some high) v) true
 unfolding Per.whole_number

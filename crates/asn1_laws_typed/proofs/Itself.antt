@@ -2,14 +2,17 @@
 use Rattle.std.proofs.Common.{◌≡◌, ℕ, zero, suc, Bool, true, false, not, List, [], Option, Some, option_map, refl, ap}
 use Rattle.std.proofs.lemmas.Bool.{and_parts}
 use Rattle.std.proofs.lemmas.List.{append-nil}
+use Rattle.std.proofs.lemmas.List.Elements.{All-contains_itself}
 use Rattle.asn1_model.specs.Value.{Value, members, bag, fields, chosen, Values, no_more, member, Parts, end, absent, present}
 use Rattle.asn1_model.specs.Schema.{Presence, required, optional, by_default, Schema, cut, boolean, null, integer, enumerated, bit_string, octet_string, character_string, object_identifier, sequence_of, set_of, sequence, set, group, choice, Components, no_component, component, Alternatives, no_alternative, alternative}
-use Rattle.asn1_model.specs.Normal.{are_all}
+use Rattle.asn1_model.specs.Normal.{normal, are_all}
 use Rattle.asn1_model.specs.Typed.{is_of, are_of, is_of_alternative, member_count}
 use Rattle.asn1_model.specs.Tables.{is_required}
 use Rattle.asn1_model.specs.Numbers.{is_count_within}
 use Rattle.asn1_model.specs.Lawful.{is_lawful, are_lawful, are_lawful_alternatives, has_typed_default}
 use Rattle.asn1_model.specs.Versions.{map_each, both_parts, grow, grow_parts, grow_alternative, Begins, KeepsPresence, Extends, ExtendsEach, ExtendsAlternatives}
+use Rattle.asn1_laws_values.proofs.Same.{same_self}
+use Rattle.asn1_laws_typed.proofs.Typed.{normal_is_of}
 
 each_stays : (f : Value → Option Value) (test : Value → Bool) → ((v : Value) → test v ≡ true → f v ≡ Some v) → (vs : Values) → are_all test vs ≡ true → map_each f vs ≡ Some vs
 each_stays f test h no_more e = refl
@@ -57,10 +60,10 @@ mutual
 begins_itself : {X : Type 0} (xs : List X) → Begins xs xs
 begins_itself xs = ([], append-nil xs)
 
-keeps_itself : (s : Schema) (o : Presence) → has_typed_default s o ≡ true → KeepsPresence s s o o
-keeps_itself s required h = tt
-keeps_itself s optional h = tt
-keeps_itself s (by_default d) h = grows s d h
+keeps_itself : (s : Schema) (o : Presence) → is_lawful s ≡ true → has_typed_default s o ≡ true → KeepsPresence s s o o
+keeps_itself s required l h = tt
+keeps_itself s optional l h = tt
+keeps_itself s (by_default d) l h = (normal s d, grows s (normal s d) (normal_is_of s d l h), same_self (normal s d))
 
 mutual
   unfolding Extends ExtendsEach ExtendsAlternatives is_lawful are_lawful are_lawful_alternatives
@@ -84,7 +87,7 @@ mutual
 
   each_itself : (more : Bool) (cs : Components) → are_lawful cs ≡ true → ExtendsEach more cs cs
   each_itself more no_component l = tt
-  each_itself more (component t o s cs) l = (begins_itself t, keeps_itself s o ((and_parts _ _ ((and_parts _ _ ((and_parts _ _ ((and_parts _ _ l).0)).0)).0)).1), extends_itself s ((and_parts _ _ ((and_parts _ _ l).0)).1), each_itself more cs ((and_parts _ _ l).1))
+  each_itself more (component t o s cs) l = (All-contains_itself t, keeps_itself s o ((and_parts _ _ ((and_parts _ _ l).0)).1) ((and_parts _ _ ((and_parts _ _ ((and_parts _ _ ((and_parts _ _ l).0)).0)).0)).1), extends_itself s ((and_parts _ _ ((and_parts _ _ l).0)).1), each_itself more cs ((and_parts _ _ l).1))
 
   alternatives_itself : (more : Bool) (others : Alternatives) → are_lawful_alternatives others ≡ true → ExtendsAlternatives more others others
   alternatives_itself more no_alternative l = tt

@@ -1,10 +1,13 @@
 -- Laws of unfolding.
-use Rattle.std.specs.Prelude.{◌≡◌, ℕ, ◌≤◌, true, IsTrue, List}
+use Rattle.std.specs.Prelude.{◌≡◌, ℕ, ◌≤◌, true, ◌&&◌, IsTrue, List}
 use Rattle.asn1_model.specs.Value.{Value, depth}
 use Rattle.asn1_model.specs.Schema.{Schema}
 use Rattle.asn1_model.specs.Normal.{normal, is_normal}
-use Rattle.asn1_model.specs.Lawful.{IsLawful}
+use Rattle.asn1_model.specs.Lawful.{is_lawful, IsLawful}
 use Rattle.asn1_model.specs.Rules.{Rules, canonical, IsEncoding}
+use Rattle.asn1_model.specs.Typed.{is_of}
+use Rattle.asn1_model.specs.Versions.{grow, drop, Extends}
+use Rattle.asn1_laws_unfolding.specs.Declared.{is_lawful_as_declared}
 use Rattle.asn1_laws_unfolding.specs.Tidied.{tidied, is_tidy}
 use Rattle.asn1_laws_unfolding.specs.Unfolding.{AgreesTo, AreRecursive, unfolded}
 
@@ -28,3 +31,23 @@ UnfoldingsMeanTheSame K = (r : Rules) (step : K → (K → Schema) → Schema) (
 -- Nothing is lost by defaults in normal form: any type is, in all rules, the same as one whose defaults are.
 abbrev pub NormalDefaultsLoseNothing : Type 0
 NormalDefaultsLoseNothing = (r : Rules) (s : Schema) (v : Value) (w : List ℕ) → IsTrue (is_tidy (tidied s)) × (normal s v ≡ normal (tidied s) v) × (canonical r s v ≡ canonical r (tidied s) v) × (IsEncoding r s v w → IsEncoding r (tidied s) v w) × (IsEncoding r (tidied s) v w → IsEncoding r s v w)
+
+-- A type is lawful exactly if it is as its author declared it and each default in it is in normal form.
+abbrev pub LawfulIfTidy : Type 0
+LawfulIfTidy = (s : Schema) → is_lawful s ≡ (is_lawful_as_declared s && is_tidy s)
+
+-- A type that is lawful as its author declared it is lawful with each default in its normal form.
+abbrev pub TidiedIsLawful : Type 0
+TidiedIsLawful = (s : Schema) → IsTrue (is_lawful_as_declared s) → IsLawful (tidied s)
+
+-- With each default in its normal form a type has the same values.
+abbrev pub TidiedKeepsValues : Type 0
+TidiedKeepsValues = (s : Schema) (v : Value) → is_of (tidied s) v ≡ is_of s v
+
+-- One type is a newer version of another exactly if it is with all defaults in normal form.
+abbrev pub TidiedKeepsVersions : Type 0
+TidiedKeepsVersions = (s t : Schema) → (Extends s t → Extends (tidied s) (tidied t)) × (Extends (tidied s) (tidied t) → Extends s t)
+
+-- A value of one version is the same in the other, and what is left out of it is, with all defaults in normal form.
+abbrev pub TidiedCarriesAlike : Type 0
+TidiedCarriesAlike = (s t : Schema) (v : Value) → (grow (tidied s) (tidied t) v ≡ grow s t v) × (drop (tidied s) (tidied t) v ≡ drop s t v)

@@ -1,3 +1,4 @@
 pub mod Unfolding
 pub mod Tidied
+pub mod Declared
 pub mod Laws

@@ -1,7 +1,9 @@
-//! A recursive type means the same however far it is unfolded.
+//! A recursive type means the same however far it is unfolded, and any type the same with each default in its normal form.
 #![tactic(auto)]
 
 ghost use Rattle.asn1_laws_unfolding.specs.Laws.{MeansTheSame, NormalDefaultsAgree, NormalDefaultsLoseNothing, UnfoldingsAgree, UnfoldingsMeanTheSame};
+ghost use Rattle.asn1_laws_unfolding.specs.Laws.{LawfulIfTidy, TidiedIsLawful, TidiedKeepsValues, TidiedKeepsVersions, TidiedCarriesAlike};
+ghost use Rattle.asn1_laws_unfolding.specs.Declared.{AsDeclaredRows};
 ghost use Rattle.asn1_laws_unfolding.specs.Unfolding.{LevelRows, RecursiveRows};
 
 /// A value that nests at most so many levels has one normal form, the same encodings and one canonical encoding in lawful types that
@@ -40,4 +42,34 @@ pub fn level_rows()
 /// Any type is, in all rules, the same as one whose defaults are in normal form, so that lawful types lose nothing by it.
 pub fn normal_defaults_lose_nothing()
     ensures { NormalDefaultsLoseNothing }
+{}
+
+/// A type is lawful exactly if it is as its author declared it and each default in it is in normal form.
+pub fn lawful_if_tidy()
+    ensures { LawfulIfTidy }
+{}
+
+/// A type that is lawful as its author declared it is lawful with each default in its normal form (X.680 25).
+pub fn tidied_is_lawful()
+    ensures { TidiedIsLawful }
+{}
+
+/// With each default in its normal form a type has the same values.
+pub fn tidied_keeps_values()
+    ensures { TidiedKeepsValues }
+{}
+
+/// One type is a newer version of another exactly if it is with all defaults in normal form (X.680 52).
+pub fn tidied_keeps_versions()
+    ensures { TidiedKeepsVersions }
+{}
+
+/// With all defaults in normal form a value is carried over between two versions as the same value.
+pub fn tidied_carries_alike()
+    ensures { TidiedCarriesAlike }
+{}
+
+/// Types that are lawful as declared, with a default that spells out what is at a default of its own.
+pub fn as_declared_rows()
+    ensures { AsDeclaredRows }
 {}

@@ -1,12 +1,14 @@
 -- The normal form of what is carried over to a newer version is what the normal form is carried over to.
 use Rattle.std.proofs.Common.{◌≡◌, ℕ, zero, suc, Bool, true, false, ◌||◌, List, Option, Some, option_map, option_and_then, refl, ap, sym, ◌∙◌, subst}
-use Rattle.asn1_model.specs.Value.{Value, members, bag, fields, chosen, Values, no_more, member, Parts, end, absent, present, map_members, are_absent}
+use Rattle.asn1_model.specs.Value.{Value, members, bag, fields, chosen, Values, no_more, member, Parts, end, absent, present, map_members, are_absent, same}
 use Rattle.asn1_model.specs.Schema.{Tag, Presence, required, optional, by_default, Schema, cut, boolean, null, integer, enumerated, bit_string, octet_string, character_string, object_identifier, sequence_of, set_of, sequence, set, group, choice, Components, no_component, component, Alternatives, no_alternative, alternative}
 use Rattle.asn1_model.specs.Normal.{normal, normal_parts, normal_alternative, is_normal, is_empty_group, is_default_by, kept}
 use Rattle.asn1_model.specs.Versions.{grow, grow_parts, grow_alternative, all_absent, map_each, KeepsPresence, Extends, ExtendsEach, ExtendsAlternatives}
 use Rattle.asn1_model.proofs.Forms.{chain_parts, map_parts}
 use Rattle.asn1_laws.proofs.Messages.{some_parts}
 use Rattle.asn1_laws.proofs.Normals.{normal_normal}
+use Rattle.asn1_laws_values.proofs.Counts.{both_true}
+use Rattle.asn1_laws_values.proofs.Same.{same_turned, same_chained}
 use Rattle.asn1_laws_values.proofs.Normal.{normal_stays}
 use Rattle.asn1_laws_versions_extending.proofs.Extending.{both_parts_parts, both_parts_from, absent_of}
 use Rattle.asn1_laws_versions_extending.proofs.Grown.{each_of, each_again, same_grown}
@@ -42,11 +44,14 @@ empty_kept s s' v u h e = refl
 abbrev Carries : Schema → Schema → Value → Value → Type 0
 Carries s s' v u = grow s s' (normal s v) ≡ Some (normal s' u)
 
-default_kept : (s s' : Schema) (o o' : Presence) (x y : Value) → Extends s s' → KeepsPresence s s' o o' → ((d d' : Value) → grow s s' d ≡ Some d' → Carries s s' d d') → grow s s' x ≡ Some y → is_default_by (λ d. normal s d) o x ≡ is_default_by (λ d. normal s' d) o' y
-default_kept s s' required required x y h k n e = refl
-default_kept s s' optional optional x y h k n e = refl
-default_kept s s' (by_default d) (by_default d') x y h k n e = sym (same_grown s s' x (normal s d) y (normal s' d') h e (n d d' k))
-default_kept s s' o o' x y h k n e = absurd k
+as_the_default : (y w d : Value) → same w d ≡ true → same y w ≡ same y d
+as_the_default y w d e = both_true (same y w) (same y d) (λ f. same_chained y w d f e) (λ f. same_chained y d w f (same_turned w d e))
+
+default_kept : (s s' : Schema) (o o' : Presence) (x y : Value) → Extends s s' → KeepsPresence s s' o o' → grow s s' x ≡ Some y → is_default_by (λ d. normal s d) o x ≡ is_default_by (λ d. normal s' d) o' y
+default_kept s s' required required x y h k e = refl
+default_kept s s' optional optional x y h k e = refl
+default_kept s s' (by_default d) (by_default d') x y h k e = sym (same_grown s s' x (normal s d) y k.0 h e k.1) ∙ as_the_default y k.0 (normal s' d') k.2
+default_kept s s' o o' x y h k e = absurd k
 
 -- ---- members and parts
 members_carried : (g n n' : Value → Option Value) (f f' : Value → Value) (vs us : Values) → ((v u : Value) → g v ≡ Some u → g (f v) ≡ Some (f' u)) → map_each g vs ≡ Some us → map_each g (map_members f vs) ≡ Some (map_members f' us)
@@ -132,7 +137,7 @@ mutual
       let d = chain_parts (grow s s' v) (λ w. option_map (λ rs. present w rs) (grow_parts cs cs' ps)) us e in
       let a = map_parts (grow_parts cs cs' ps) (λ rs. present d.0 rs) us d.2 in
       let n : Carries s s' v d.0 = normal_grown s s' v d.0 h.2 d.1 in
-      let tests = either_same _ _ _ _ (default_kept s s' o o' (normal s v) (normal s' d.0) h.2 h.1 (λ d d' i. normal_grown s s' d d' h.2 i) n) (empty_kept s s' (normal s v) (normal s' d.0) h.2 n) in
+      let tests = either_same _ _ _ _ (default_kept s s' o o' (normal s v) (normal s' d.0) h.2 h.1 n) (empty_kept s s' (normal s v) (normal s' d.0) h.2 n) in
       subst (λ us. grow_parts (component t o s cs) (component t' o' s' cs') (normal_parts (component t o s cs) (present v ps)) ≡ Some (normal_parts (component t' o' s' cs') us)) a.2 (part_kept t t' o o' s s' cs cs' _ _ (normal s v) (normal s' d.0) (normal_parts cs ps) (normal_parts cs' a.0) tests n (parts_normal more cs cs' ps a.0 h.3 a.1))
 
   alternative_normal : (more : Bool) (others others' : Alternatives) (i : ℕ) (v u : Value) → ExtendsAlternatives more others others' → grow_alternative others others' i v ≡ Some u → grow_alternative others others' i (normal_alternative others i v) ≡ Some (normal_alternative others' i u)

@@ -18,6 +18,10 @@ GrowingTwiceIsGrowing = (s t u : Schema) (v w x : Value) → Extends s t → Ext
 abbrev pub GrowingKeepsValuesApart : Type 0
 GrowingKeepsValuesApart = (s t : Schema) (v w x y : Value) → Extends s t → grow s t v ≡ Some x → grow s t w ≡ Some y → same x y ≡ same v w
 
+-- What is the same as a value that can be carried over can be too, and as the same.
+abbrev pub SameIsCarriedAlike : Type 0
+SameIsCarriedAlike = (s t : Schema) (v w x : Value) → Extends s t → same w v ≡ true → grow s t v ≡ Some x → (y : Value) × (grow s t w ≡ Some y) × (same y x ≡ true)
+
 -- The normal form of a value is carried over as the normal form of what the value is carried over as, and what is normal as something normal.
 abbrev pub GrowingKeepsNormalForms : Type 0
 GrowingKeepsNormalForms = (s t : Schema) (v w : Value) → Extends s t → grow s t v ≡ Some w → (grow s t (normal s v) ≡ Some (normal t w)) × (is_normal s v ≡ true → is_normal t w ≡ true)

@@ -2,7 +2,8 @@
 #![tactic(auto)]
 
 ghost use Rattle.asn1_laws_versions_extending.specs.Laws.{ExtendingIsTransitive, GrowingTwiceIsGrowing, GrowingKeepsValuesApart};
-ghost use Rattle.asn1_laws_versions_extending.specs.Laws.{GrowingKeepsNormalForms, SameNestsAlike, GrowingKeepsLevels, DroppingUndoesGrowing};
+ghost use Rattle.asn1_laws_versions_extending.specs.Laws.{GrowingKeepsNormalForms, SameIsCarriedAlike, SameNestsAlike, GrowingKeepsLevels};
+ghost use Rattle.asn1_laws_versions_extending.specs.Laws.{DroppingUndoesGrowing};
 
 /// A newer version of a newer version is one.
 pub fn extending_is_transitive()
@@ -17,6 +18,11 @@ pub fn growing_twice_is_growing()
 /// Values are the same exactly if they are when they are carried over to a newer version.
 pub fn growing_keeps_values_apart()
     ensures { GrowingKeepsValuesApart }
+{}
+
+/// What is the same as a value that can be carried over to a newer version can be too, and is carried over as the same.
+pub fn same_is_carried_alike()
+    ensures { SameIsCarriedAlike }
 {}
 
 /// The normal form of a value is carried over as the normal form of what the value is carried over as, and what is normal as something

@@ -1,4 +1,4 @@
-use Rattle.asn1_laws_versions_extending.proofs.Extending.{extends_twice}
+use Rattle.asn1_laws_versions_extending.proofs.Transitive.{extends_twice}
 use Rattle.asn1_laws_versions_extending.proofs.extending_is_transitive.Goals as goal
 
 pub returns : goal.returns

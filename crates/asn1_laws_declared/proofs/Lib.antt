@@ -1,0 +1,4 @@
+pub mod Declared
+pub mod Bags
+pub mod Streams
+pub mod Versions
