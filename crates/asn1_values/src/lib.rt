@@ -13,12 +13,14 @@ pub use asn1_values_bits::{BitAppender, BitBuffer, BitReader, BitStr, bits};
 pub use asn1_values_constrained::ConstrainedInteger;
 pub use asn1_values_fields::{
     FieldBits, FieldFault, FieldFaultKind, FieldShape, FieldValue, read_fields, write_fields,
+    written_fields_are_read,
 };
 pub use asn1_values_identifiers::{
     IdentifierError, ObjectIdentifier, Oid, oid_from_octets, oid_octets,
 };
-pub use asn1_values_natives::IntegerBytes;
-pub use asn1_values_numbers::{Integer, IntegerError, IntegerType, TryFromIntegerError};
+pub use asn1_values_integer_types::{IntegerType, NativeIntegerType};
+pub use asn1_values_natives::{IntegerBytes, NativeInteger, Wide};
+pub use asn1_values_numbers::{Integer, IntegerError, TryFromIntegerError};
 pub use asn1_values_octets::{FixedOctetString, OctetString, WrongLength};
 pub use asn1_values_strings::{
     CharacterKind, Characters, General, GeneralString, Graphic, GraphicString, Ia5, Ia5String,

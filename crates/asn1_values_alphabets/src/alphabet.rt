@@ -1,3 +1,4 @@
+//! Permitted alphabets, and the codes of their characters.
 ghost use Rattle.std.specs.Prelude.{◌≡◌, false, ℕ, ◌^◌, ◌<◌, ◌≤◌, ◌≢◌, ◌↔◌, nat_lt, length, IsTrue, IfOk, IfErr, OnOk, OnErr};
 ghost use Rattle.std.specs.List.Sorted.{IsStrictlyIncreasing};
 ghost use Rattle.asn1_model.specs.Numbers.{width as bit_width};

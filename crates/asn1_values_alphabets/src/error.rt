@@ -1,3 +1,4 @@
+//! Why characters, codes and lists of characters are refused.
 use std::alloc::AllocError;
 use thiserror::Error;
 

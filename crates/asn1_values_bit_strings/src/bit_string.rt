@@ -1,10 +1,11 @@
-// Bit strings that own their bits.
+//! Bit strings that own their bits.
 ghost use Rattle.std.specs.Prelude.{◌≡◌, ◌++◌, ◌∷◌, [], length, IsTrue, ◌↔◌, IfOk, OnOk, OnErr, slice_get};
 ghost use Rattle.asn1_model.specs.Numbers.{octet_bits, packed};
 ghost use Rattle.asn1_values_bits.specs.Octets.{filled_up};
 
 use asn1_values_bits::{BitBuffer, BitStr};
 use std::alloc::{AllocError, Global};
+use std::default::MadeWith;
 use std::marker::Model;
 
 /// A value of the ASN.1 type BIT STRING: a list of bits (X.680, clause 22).
@@ -65,15 +66,6 @@ impl BitString {
         buffer
     }
 
-    /// A copy in memory of `alloc`.
-    pub fn clone(&self, alloc: Global) -> Result<Self, AllocError>
-        ensures { IfOk result (λ string. string ≡ self.now) }
-    {
-        let mut buffer = BitBuffer::new(alloc);
-        buffer.extend_from_buffer(&self.buffer)?;
-        Ok(BitString { buffer })
-    }
-
     /// How many bits there are.
     pub fn len(&self) -> usize
         ensures { result ≡ length self.now }
@@ -118,5 +110,25 @@ impl BitString {
         ensures bits { octet_bits result.now ≡ filled_up self.now }
     {
         self.buffer.as_bytes()
+    }
+}
+
+/// A copy in the memory that the string's own comes from.
+impl Clone for BitString {
+    ghost is_clone = { λ string copy. copy ≡ string };
+
+    fn clone(&self) -> Result<Self, AllocError> {
+        Ok(BitString {
+            buffer: self.buffer.clone()?,
+        })
+    }
+}
+
+/// No bits, in the place of `Default`, which has no allocator.
+impl MadeWith<Global> for BitString {
+    ghost is_made_with = { λ string. string ≡ [] };
+
+    fn made_with(alloc: Global) -> Self {
+        BitString::new(alloc)
     }
 }

@@ -1,4 +1,4 @@
-// Bit strings of one length.
+//! Bit strings of one length.
 ghost use Rattle.std.specs.Prelude.{◌≡◌, ◌*◌, ◌+◌, ◌-◌, ◌≤◌, ◌++◌, [], length, take, replicate, false, IsTrue, ◌↔◌, IsSome, IfSome, slice_get};
 ghost use Rattle.asn1_model.specs.Numbers.{octet_bits};
 ghost use Rattle.asn1_values_bits.specs.BitStr.{bits_of};

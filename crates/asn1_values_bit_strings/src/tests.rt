@@ -1,7 +1,10 @@
-// Strings of bits: made, compared and shown, with every request for memory refused in turn.
+//! Strings of bits: made, compared and shown, with every request for memory refused in turn.
 use crate::{BitString, FixedBitString};
 use asn1_values_bits::BitStr;
+use std::alloc::{AllocError, Global};
+use std::default::MadeWith;
 use std::hash::{DefaultHasher, Hash, Hasher};
+use std::process::Abort;
 use std::test::Fail;
 
 // what a hasher makes of a value
@@ -25,7 +28,7 @@ fn rows(rt: HostRuntime) -> Result<(), Fail> {
 #[test]
 fn strings(rt: HostRuntime) -> Result<(), Fail> {
     let mut string = BitString::from_slice(rt.alloc(), &[0x2f])?;
-    let same = string.clone(rt.alloc())?;
+    let same = string.clone()?;
     assert_eq!(rt; string, same);
     string.push(true)?;
     assert_ne!(rt; string, same);
@@ -69,32 +72,71 @@ fn fixed_strings(rt: HostRuntime) {
     assert_eq!(rt; hash_of(&three), hash_of(&front));
 }
 
-#[test]
-fn refused_making(rt: HostRuntime) {
-    let octets = [0x12, 0x34, 0x56];
-    let (_, bits) = BitStr::from_slice(&octets).split_at(4);
-    for _ in 0..2 {
-        if let Ok(string) = BitString::from_bitslice(rt.alloc(), bits) {
-            assert_eq!(rt; string.as_bytes(), [0x23, 0x45, 0x60].as_slice());
-            if let Ok(copy) = string.clone(rt.alloc()) {
-                assert!(rt; copy == string);
-            }
-        }
-        if let Ok(string) = BitString::from_slice(rt.alloc(), &octets) {
-            assert_eq!(rt; string.as_bytes(), octets.as_slice());
-        }
-    }
+// The value that a type makes with an allocator, by the trait alone.
+fn made<T: MadeWith<Global>>(alloc: Global) -> T {
+    T::made_with(alloc)
 }
 
-// A refused bit leaves the string as it was, and the same call goes on from there.
 #[test]
-fn refused_growth(rt: HostRuntime) {
-    let mut string = BitString::new(rt.alloc());
+fn made_strings(rt: HostRuntime) {
+    let string: BitString = made(rt.alloc());
+    assert!(rt; string.is_empty());
+    assert_eq!(rt; string, BitString::new(rt.alloc()));
+}
+
+// Makes strings and copies them: the answer is whole, or refused. Whether none was refused.
+fn makes(rt: &impl Abort, alloc: Global) -> bool {
+    let mut granted = true;
+    let octets = [0x12, 0x34, 0x56];
+    let (_, bits) = BitStr::from_slice(&octets).split_at(4);
+    match BitString::from_bitslice(alloc, bits) {
+        Ok(string) => {
+            assert_eq!(rt; string.as_bytes(), [0x23, 0x45, 0x60].as_slice());
+            match string.clone() {
+                Ok(copy) => assert!(rt; copy == string),
+                Err(AllocError) => granted = false,
+            }
+        }
+        Err(AllocError) => granted = false,
+    }
+    match BitString::from_slice(alloc, &octets) {
+        Ok(string) => assert_eq!(rt; string.as_bytes(), octets.as_slice()),
+        Err(AllocError) => granted = false,
+    }
+    granted
+}
+
+#[test]
+fn refused_making(rt: HostRuntime) {
+    let _granted = makes(&rt, rt.alloc());
+}
+
+#[test]
+fn ample_making(rt: HostRuntime) {
+    assert!(rt; makes(&rt, rt.alloc()));
+}
+
+// Pushes bits. A refused bit leaves the string as it was, and the same call goes on from there. Whether none was refused.
+fn pushes(rt: &impl Abort, alloc: Global) -> bool {
+    let mut granted = true;
+    let mut string = BitString::new(alloc);
     for count in 0..200 {
         if string.push(count % 3 == 0).is_err() {
+            granted = false;
             assert_eq!(rt; string.len(), count);
             assert!(rt; string.push(count % 3 == 0).is_ok());
         }
         assert_eq!(rt; string.get(count), Some(count % 3 == 0));
     }
+    granted
+}
+
+#[test]
+fn refused_growth(rt: HostRuntime) {
+    let _granted = pushes(&rt, rt.alloc());
+}
+
+#[test]
+fn ample_growth(rt: HostRuntime) {
+    assert!(rt; pushes(&rt, rt.alloc()));
 }

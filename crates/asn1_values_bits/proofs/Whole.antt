@@ -44,6 +44,6 @@ whole_written os os' v w n x y b h m e f =
     ap octet_bits f ∙ octet_bits-append os (take n bs) ∙ ap (λ l. l ++ octet_bits (take n bs)) b ∙ ap (λ l. v ++ l) cut
     ∙ sym (append_assoc v (binary w x) (replicate (missing w) false))
 
--- a number in eight octets
-pub eight_written : (os os' : List ℕ) (v : List Bool) (x : ℕ) → octet_bits os ≡ v → os' ≡ os ++ bytes_high_first 8 x → octet_bits os' ≡ v ++ binary 64 x
-eight_written os os' v x b f = ap octet_bits f ∙ octet_bits-append os (bytes_high_first 8 x) ∙ ap (λ l. l ++ octet_bits (bytes_high_first 8 x)) b ∙ ap (λ l. v ++ l) (high_first 8 x)
+-- a number in sixteen octets
+pub sixteen_written : (os os' : List ℕ) (v : List Bool) (x : ℕ) → octet_bits os ≡ v → os' ≡ os ++ bytes_high_first 16 x → octet_bits os' ≡ v ++ binary 128 x
+sixteen_written os os' v x b f = ap octet_bits f ∙ octet_bits-append os (bytes_high_first 16 x) ∙ ap (λ l. l ++ octet_bits (bytes_high_first 16 x)) b ∙ ap (λ l. v ++ l) (high_first 16 x)

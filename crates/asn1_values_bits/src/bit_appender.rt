@@ -1,4 +1,4 @@
-// Bits added within room that was made before.
+//! Bits added within room that was made before.
 ghost use Rattle.std.specs.Prelude.{◌≡◌, ◌++◌, ◌+◌, ◌-◌, ◌≤◌, IfOk};
 ghost use Rattle.std.specs.Borrow.{sem, RestsIfErr};
 ghost use Rattle.asn1_model.specs.Numbers.{binary};

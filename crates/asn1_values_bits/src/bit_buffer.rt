@@ -1,10 +1,11 @@
-// Bits that grow at their end, in whole octets of which the last is filled with zero bits.
+//! Bits that grow at their end, in whole octets of which the last is filled with zero bits.
 ghost use Rattle.std.specs.Prelude.{◌≡◌, ℕ, ◌+◌, ◌-◌, ◌*◌, ◌/◌, ◌%◌, ◌^◌, ◌<◌, ◌≤◌, Bool, List, [], ◌∷◌, ◌++◌, length, set, take, drop, replicate, false, IsTrue, ◌↔◌, IfOk, OnOk, OnErr, vec_len, slice_set};
 ghost use Rattle.asn1_model.specs.Numbers.{binary, missing, octet_bits, packed};
 ghost use Rattle.asn1_values_bits.specs.Octets.{filled_up};
 
 use crate::bit_str::BitStr;
 use std::alloc::{AllocError, Global};
+use std::default::MadeWith;
 use std::marker::Model;
 
 /// A list of bits that grows at its end. Between two calls all of them stand in octets, the first bit highest, and the bits past
@@ -241,7 +242,7 @@ impl BitBuffer {
         }
     }
 
-    // Adds the bits of a view behind whole octets, 64 at a time.
+    // Adds the bits of a view behind whole octets, 128 at a time.
     fn extend_whole(&mut self, bits: BitStr<'_>) -> Result<(), AllocError>
         requires { 0 < length (bits_of bits) → length self.old % 8 ≡ 0 }
         ensures ok { OnOk result (self.new ≡ self.old ++ bits_of bits.entry) }
@@ -249,15 +250,15 @@ impl BitBuffer {
     {
         let before = self.len();
         let mut rest = bits;
-        while rest.len() >= 64 {
-            match self.push_eight(rest.first_number(64) as u64) {
+        while rest.len() >= 128 {
+            match self.push_sixteen(rest.first_number(128)) {
                 Ok(()) => {}
                 Err(error) => {
                     self.truncate(before);
                     return Err(error);
                 }
             }
-            rest = rest.split_at(64).1;
+            rest = rest.split_at(128).1;
         }
         let left = rest.len() as u32;
         if left == 0 {
@@ -272,13 +273,13 @@ impl BitBuffer {
         }
     }
 
-    // Adds 64 bits behind whole octets.
-    fn push_eight(&mut self, value: u64) -> Result<(), AllocError>
+    // Adds 128 bits behind whole octets.
+    fn push_sixteen(&mut self, value: u128) -> Result<(), AllocError>
         requires { length self.old % 8 ≡ 0 }
-        ensures ok { OnOk result (self.new ≡ self.old ++ binary 64 value) }
+        ensures ok { OnOk result (self.new ≡ self.old ++ binary 128 value) }
         ensures err { OnErr result (self.new ≡ self.old) }
     {
-        let Some(len) = self.len.checked_add(64) else {
+        let Some(len) = self.len.checked_add(128) else {
             return Err(AllocError);
         };
         self.octets.extend_from_slice(&value.to_be_bytes())?;
@@ -386,6 +387,26 @@ impl BitBuffer {
             left -= few;
         }
         Ok(())
+    }
+}
+
+/// A copy in the memory that the buffer's own comes from.
+impl Clone for BitBuffer {
+    ghost is_clone = { λ buffer copy. copy ≡ buffer };
+
+    fn clone(&self) -> Result<Self, AllocError> {
+        let mut copy = BitBuffer::new(*self.octets.allocator());
+        copy.extend_from_buffer(self)?;
+        Ok(copy)
+    }
+}
+
+/// No bits, in the place of `Default`, which has no allocator.
+impl MadeWith<Global> for BitBuffer {
+    ghost is_made_with = { λ buffer. buffer ≡ [] };
+
+    fn made_with(alloc: Global) -> Self {
+        BitBuffer::new(alloc)
     }
 }
 

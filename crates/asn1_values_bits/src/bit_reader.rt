@@ -1,4 +1,4 @@
-// Bits that are read from their front.
+//! Bits that are read from their front.
 ghost use Rattle.std.specs.Prelude.{◌≡◌, ◌+◌, ◌*◌, ◌%◌, ◌^◌, ◌<◌, ◌≤◌, [], ◌∷◌, length, take, drop, IsTrue, ◌↔◌, IsSome, IfSome, IfOk, IfErr, IsOk, OnErr, IsOkAnd};
 ghost use Rattle.std.specs.Cow.{cow_slice_items, IsBorrowedSlice};
 ghost use Rattle.asn1_model.specs.Numbers.{binary, octet_bits};

@@ -1,4 +1,4 @@
-// A view of bits in octets.
+//! A view of bits in octets.
 ghost use Rattle.std.specs.Prelude.{◌≡◌, ◌+◌, ◌*◌, ◌%◌, ◌^◌, ◌<◌, ◌≤◌, length, IsTrue, ◌↔◌, ◌++◌, IsSome, IfSome};
 
 use crate::bits::read_wide;
@@ -21,7 +21,8 @@ impl<'a> BitStr<'a> {
 
     /// No bits.
     pub fn new() -> Self
-        ensures { bits_of result ≡ [] }
+        ensures bits { bits_of result ≡ [] }
+        ensures offset { offset_of result ≡ 0 }
     {
         BitStr {
             octets: &[],

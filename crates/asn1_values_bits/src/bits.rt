@@ -1,4 +1,4 @@
-// Numbers in the bits of octets.
+//! Numbers in the bits of octets.
 ghost use Rattle.std.specs.Prelude.{◌≡◌, ◌+◌, ◌-◌, ◌*◌, ◌/◌, ◌^◌, ◌<◌, ◌≤◌, ◌++◌, length, take, drop, IsTrue, ◌↔◌, pos, Any};
 ghost use Rattle.asn1_model.specs.Numbers.{binary, octet_bits};
 ghost use Rattle.asn1_values_bits.specs.Octets.{ored, placed};

@@ -1,4 +1,4 @@
-// Lists of bits in their order: that of the first bit in which they differ, and a beginning before the whole.
+//! Lists of bits in their order: that of the first bit in which they differ, and a beginning before the whole.
 ghost use Rattle.std.specs.Prelude.{◌≡◌};
 ghost use mathlib.Core.Bool.{beq};
 ghost use Rattle.std.specs.Ordering.{bool_cmp};

@@ -1,11 +1,13 @@
-// Rows of the encodings, every alignment with every width, and refused memory.
+//! Rows of the encodings, every alignment with every width, and refused memory.
 ghost use Rattle.std.specs.Prelude.{◌≡◌, ◌++◌, ◌<◌, ◌≤◌, OnOk, OnErr};
 ghost use Rattle.asn1_model.specs.Numbers.{binary};
 
 use crate::{BitBuffer, BitReader, BitStr, bits};
 use std::alloc::{AllocError, Global};
 use std::borrow::CowSlice;
+use std::default::MadeWith;
 use std::hash::{DefaultHasher, Hash, Hasher};
+use std::process::Abort;
 use std::test::Fail;
 
 // the low `width` bits of a value
@@ -188,9 +190,16 @@ fn numbers(rt: HostRuntime) {
     assert_eq!(rt; octets, [0x83, 0xc1]);
 }
 
+// what a hasher makes of a value
+fn hash_of<T: Hash>(value: &T) -> u64 {
+    let mut state = DefaultHasher::new();
+    value.hash(&mut state);
+    state.finish()
+}
+
 // one growing call, told by a number
-fn grow(buffer: &mut BitBuffer, step: u32) -> Result<(), AllocError> {
-    match step % 6 {
+fn grow(buffer: &mut BitBuffer, other: &BitBuffer, step: u32) -> Result<(), AllocError> {
+    match step % 7 {
         0 => buffer.push(true),
         1 => buffer.push_bits(0x1_2345_6789, 33),
         2 => buffer.extend_from_bytes(b"octets that are added whole"),
@@ -199,28 +208,47 @@ fn grow(buffer: &mut BitBuffer, step: u32) -> Result<(), AllocError> {
             let len = buffer.len() % 4096;
             buffer.resize(len + 70, true)
         }
+        5 => buffer.extend_from_buffer(other),
         _ => buffer.reserve_bytes(3),
     }
 }
 
-// A growing call that is refused leaves the bits as they were, and the same call goes on from there.
-#[test]
-fn refused_growth(rt: HostRuntime) {
-    let mut buffer = BitBuffer::new(rt.alloc());
-    for step in 0..48 {
-        let before = buffer.len();
-        let last = buffer.as_bitslice().get(before.saturating_sub(1));
-        if grow(&mut buffer, step).is_err() {
-            assert_eq!(rt; buffer.len(), before);
-            assert_eq!(rt; buffer.as_bytes().len(), before.div_ceil(8));
-            assert_eq!(rt; buffer.as_bitslice().get(before.saturating_sub(1)), last);
-            assert!(rt; grow(&mut buffer, step).is_ok());
+// Grows a buffer by each call in turn. A call that is refused leaves the bits as they were, and the same call goes on from there.
+// Whether none was refused.
+fn grows(rt: &impl Abort, alloc: Global) -> bool {
+    let mut granted = true;
+    let mut other = BitBuffer::new(alloc);
+    if other.push_bits(0x5_A5A5, 19).is_err() {
+        granted = false;
+        assert!(rt; other.is_empty());
+        assert!(rt; other.push_bits(0x5_A5A5, 19).is_ok());
+    }
+    let mut buffer = BitBuffer::new(alloc);
+    for step in 0..42 {
+        let len = buffer.len();
+        let hash = hash_of(&buffer);
+        if grow(&mut buffer, &other, step).is_err() {
+            granted = false;
+            assert_eq!(rt; buffer.len(), len);
+            assert_eq!(rt; buffer.as_bytes().len(), len.div_ceil(8));
+            assert_eq!(rt; hash_of(&buffer), hash);
+            assert!(rt; grow(&mut buffer, &other, step).is_ok());
         }
     }
-    assert_eq!(rt; buffer.len(), 3456);
+    assert_eq!(rt; buffer.len(), 2706);
+    granted
 }
 
-// Calls that make a value answer it, or want of memory.
+#[test]
+fn refused_growth(rt: HostRuntime) {
+    let _granted = grows(&rt, rt.alloc());
+}
+
+#[test]
+fn ample_growth(rt: HostRuntime) {
+    assert!(rt; grows(&rt, rt.alloc()));
+}
+
 // A number twice, in eight bits each, by an appender: what the contract of a caller can say.
 fn append_twice(buffer: &mut BitBuffer, number: u8) -> Result<(), AllocError>
     ensures ok { OnOk result (buffer.new ≡ buffer.old ++ binary 8 number ++ binary 8 number) }
@@ -232,12 +260,14 @@ fn append_twice(buffer: &mut BitBuffer, number: u8) -> Result<(), AllocError>
     Ok(())
 }
 
-#[test]
-fn appenders(rt: HostRuntime) {
-    let mut buffer = BitBuffer::new(rt.alloc());
+// Appends a number many times, each time once more where it was refused. Whether none was refused.
+fn appends(rt: &impl Abort, alloc: Global) -> bool {
+    let mut granted = true;
+    let mut buffer = BitBuffer::new(alloc);
     for count in 1..=40 {
         let before = buffer.len();
         if append_twice(&mut buffer, 0x9c).is_err() {
+            granted = false;
             assert_eq!(rt; buffer.len(), before);
             assert!(rt; append_twice(&mut buffer, 0x9c).is_ok());
         }
@@ -248,13 +278,17 @@ fn appenders(rt: HostRuntime) {
     for octet in &octets {
         assert_eq!(rt; *octet, 0x9c);
     }
+    granted
 }
 
-// what a hasher makes of a value
-fn hash_of<T: Hash>(value: &T) -> u64 {
-    let mut state = DefaultHasher::new();
-    value.hash(&mut state);
-    state.finish()
+#[test]
+fn refused_appending(rt: HostRuntime) {
+    let _granted = appends(&rt, rt.alloc());
+}
+
+#[test]
+fn ample_appending(rt: HostRuntime) {
+    assert!(rt; appends(&rt, rt.alloc()));
 }
 
 // Views and buffers go by their bits, wherever these stand.
@@ -283,15 +317,46 @@ fn comparisons(rt: HostRuntime) -> Result<(), Fail> {
     Ok(())
 }
 
-// A copy of unaligned bits in octets is answered, or want of memory.
+// The value that a type makes with an allocator, by the trait alone.
+fn made<T: MadeWith<Global>>(alloc: Global) -> T {
+    T::made_with(alloc)
+}
+
 #[test]
-fn refused_copy(rt: HostRuntime) {
+fn made_buffers(rt: HostRuntime) {
+    let buffer: BitBuffer = made(rt.alloc());
+    assert!(rt; buffer.is_empty());
+}
+
+// Copies unaligned bits, in octets and as a buffer: the answer is whole, or refused. Whether none was refused.
+fn copies(rt: &impl Abort, alloc: Global) -> bool {
+    let mut granted = true;
     let octets = [0x12, 0x34, 0x56];
     let (_, bits) = BitStr::from_slice(&octets).split_at(4);
-    for _ in 0..2 {
-        let reader = BitReader::new(bits);
-        if let Ok(CowSlice::Owned(copied)) = reader.octets(rt.alloc()) {
-            assert_eq!(rt; copied.as_slice(), [0x23, 0x45, 0x60].as_slice());
-        }
+    match BitReader::new(bits).octets(alloc) {
+        Ok(copied) => assert_eq!(rt; copied.as_slice(), [0x23, 0x45, 0x60].as_slice()),
+        Err(AllocError) => granted = false,
     }
+    let mut buffer = BitBuffer::new(alloc);
+    if buffer.extend_from_bitslice(bits).is_err() {
+        granted = false;
+        assert!(rt; buffer.is_empty());
+        assert!(rt; buffer.extend_from_bitslice(bits).is_ok());
+    }
+    match buffer.clone() {
+        Ok(copy) => assert!(rt; copy == buffer),
+        Err(AllocError) => granted = false,
+    }
+    assert_eq!(rt; buffer.as_bytes(), [0x23, 0x45, 0x60].as_slice());
+    granted
+}
+
+#[test]
+fn refused_copies(rt: HostRuntime) {
+    let _granted = copies(&rt, rt.alloc());
+}
+
+#[test]
+fn ample_copies(rt: HostRuntime) {
+    assert!(rt; copies(&rt, rt.alloc()));
 }

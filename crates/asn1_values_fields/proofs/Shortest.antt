@@ -1,13 +1,13 @@
 -- Octets that are read of bits, and the whole numbers whose fewest octets they are.
-use Rattle.std.proofs.Common.{◌≡◌, ℕ, ℤ, zero, suc, ◌+◌, ◌*◌, ◌<◌, ◌≤◌, pos, negsuc, Bool, false, List, [], ◌∷◌, length, take, replicate, get_or, refl, ap, sym, ◌∙◌, arith, Fits, w8}
+use Rattle.std.proofs.Common.{◌≡◌, ℕ, ℤ, zero, suc, ◌+◌, ◌*◌, ◌<◌, ◌≤◌, pos, negsuc, Bool, true, false, not, IsTrue, List, [], ◌∷◌, length, take, replicate, get_or, refl, ap, sym, ◌∙◌, arith, Fits, w8}
 use Rattle.std.proofs.lemmas.List.{length-append, length-replicate, length-take-le}
 use Rattle.asn1_model.specs.Numbers.{octet_bits, packed, missing, complement, signed_octets}
 use Rattle.asn1_values_bits.specs.Octets.{filled_up}
 use Rattle.asn1_values_bits.proofs.Binary.{length-octet_bits}
 use Rattle.asn1_values_bits.proofs.Packed.{packed-octet_bits}
-use Rattle.asn1_values_natives.specs.Octets.{signed_number, signed_octets_of}
+use Rattle.asn1_values_natives.specs.Octets.{signed_number, signed_octets_of, is_padded}
 use Rattle.asn1_values_natives.proofs.OctetLaws.{AreOctets}
-use Rattle.asn1_values_natives.proofs.TwosComplement.{octets-all, signed-back, octets-complement, length-complement, complement-signed}
+use Rattle.asn1_values_natives.proofs.TwosComplement.{octets-all, octets-complement, length-complement, complement-signed, written-kept, written-fewest}
 use Rattle.asn1_values_fields.specs.Read.{AreNotFewest}
 
 none_missing : (n : ℕ) → missing (n * 8) ≡ 0
@@ -30,14 +30,29 @@ small_at (o ∷ os) h (suc k) l = small_at os h.1 k (omega arith)
 pub same_octets : (xs ys : List ℕ) → AreOctets xs → AreOctets ys → octet_bits xs ≡ octet_bits ys → xs ≡ ys
 same_octets xs ys h k e = sym (packed-octet_bits xs (small_at xs h)) ∙ ap packed e ∙ packed-octet_bits ys (small_at ys k)
 
--- octets longer than the fewest of their number are the fewest of none
-pub not_fewest : (os : List ℕ) (n : ℤ) → ((i : ℕ) → Fits w8 (get_or os i 0)) → n ≡ signed_number os → ¬ (signed_octets n ≡ length os) → AreNotFewest (length os) (octet_bits os)
-not_fewest os n h e d z k b =
+-- octets whose first nine bits are alike are the fewest of no number
+pub not_fewest : (os : List ℕ) → ((i : ℕ) → Fits w8 (get_or os i 0)) → is_padded os ≡ true → AreNotFewest (length os) (octet_bits os)
+not_fewest os h p z k b =
     let x : os ≡ complement (length os) z = same_octets os (complement (length os) z) (octets-all os h) (octets-complement (length os) z) b in
     let y : os ≡ signed_octets_of z = x ∙ ap (λ c. complement c z) (sym k) in
-    let m : n ≡ z = e ∙ ap signed_number y ∙ signed-back z in
-    d (ap signed_octets m ∙ k)
+    let w : is_padded os ≡ false = ap is_padded y ∙ written-fewest z in
+    cc (p, w)
 
+pub bare : (r p : Bool) → r ≡ p → IsTrue (not r) → p ≡ false
+bare true p e h = cc h
+bare false p e h = sym e
+
+pub padded : (r p : Bool) → r ≡ p → not r ≡ false → p ≡ true
+padded true p e h = sym e
+padded false p e h = cc h
+
+-- how many octets a number has
+pub fewest_count : (os : List ℕ) (n : ℤ) → ((i : ℕ) → Fits w8 (get_or os i 0)) → n ≡ signed_number os → is_padded os ≡ false → 0 < length os → signed_octets n ≡ length os
+fewest_count os n h e p l =
+    ap signed_octets e ∙ sym (length-complement (signed_octets (signed_number os)) (signed_number os))
+    ∙ sym (ap length (written-kept os (octets-all os h) p l))
+
+-- which octets they are
 pub fewest_octets : (os : List ℕ) (n : ℤ) → ((i : ℕ) → Fits w8 (get_or os i 0)) → n ≡ signed_number os → os ≡ complement (length os) n
 fewest_octets [] n h e = sym (nothing n)
   where
@@ -45,7 +60,3 @@ fewest_octets [] n h e = sym (nothing n)
     nothing (pos m) = refl
     nothing (negsuc m) = refl
 fewest_octets (o ∷ os) n h e = sym (complement-signed o os (octets-all (o ∷ os) h)) ∙ ap (complement (length (o ∷ os))) (sym e)
-
--- how many octets are written
-pub octets_written : (bytes : List ℕ) (n : ℤ) → bytes ≡ signed_octets_of n → length bytes ≡ signed_octets n
-octets_written bytes n e = ap length e ∙ length-complement (signed_octets n) n

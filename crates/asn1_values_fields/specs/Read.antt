@@ -60,6 +60,7 @@ AreUnreadable alphabet count bits k = ⊥
 -- what is wrong where a field of a shape is to be read
 abbrev pub IsUnreadable : FieldShape → List Bool → FieldFaultKind → Type 0
 IsUnreadable (shape.Number width) bits DoesNotFit = 128 < width
+IsUnreadable (shape.Number width) bits Short = (width ≤ 128) × (length bits < width)
 IsUnreadable (shape.Whole count) bits NotShortest = (count * 8 ≤ length bits) × AreNotFewest count (take (count * 8) bits)
 IsUnreadable (shape.Characters alphabet count) bits k = AreUnreadable alphabet.now count bits k
 IsUnreadable s bits Short = length bits < width_of s

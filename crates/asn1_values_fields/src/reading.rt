@@ -1,6 +1,8 @@
 //! Bits as fields.
-ghost use Rattle.std.specs.Prelude.{◌≡◌, ℕ, ◌*◌, ◌≤◌, ◌<◌, ◌^◌, ◌⊎◌, take, drop, length, Some, IfOk, IfErr, OnErr, IsTrue, ◌↔◌};
+ghost use Rattle.std.specs.Prelude.{◌≡◌, ℕ, ◌*◌, ◌≤◌, ◌<◌, ◌^◌, ◌⊎◌, take, drop, length, Some, IfOk, IfErr, OnErr, IsTrue, false, ◌↔◌};
+ghost use Rattle.std.specs.Cow.{cow_slice_items};
 ghost use Rattle.asn1_model.specs.Numbers.{binary, octet_bits, complement, signed_octets};
+ghost use Rattle.asn1_values_natives.specs.Octets.{is_padded, signed_number};
 ghost use Rattle.asn1_values_fields.specs.Written.{codes_of};
 ghost use Rattle.asn1_values_fields.specs.Read.{width_of, IsValueOf, IsUnreadable, AreValuesOf, IsFirstUnread, AreNotFewest, HasCode, IsUnknownCode, AreUnreadable};
 
@@ -9,8 +11,10 @@ use crate::field_shape::{FieldShape, FieldValue};
 use asn1_values_alphabets::CharacterAlphabet;
 use asn1_values_bit_strings::BitString;
 use asn1_values_bits::BitReader;
-use asn1_values_numbers::{Integer, IntegerError};
+use asn1_values_natives::octets::has_padding;
+use asn1_values_numbers::Integer;
 use std::alloc::Global;
+use std::borrow::CowSlice;
 
 /// Takes so many bits off. Where there are fewer the reader is as it was.
 fn take_bits<'a>(reader: &mut BitReader<'a>, count: usize) -> Result<BitReader<'a>, FieldFaultKind>
@@ -55,6 +59,27 @@ fn read_bits(
     }
 }
 
+/// So many octets: lent where they begin at an octet, else shifted into a vector of their own.
+fn take_octets<'a>(
+    alloc: Global,
+    reader: &mut BitReader<'a>,
+    count: usize,
+) -> Result<CowSlice<'a, u8>, FieldFaultKind>
+    ensures octets { IfOk result (λ octets. take (count * 8) reader.old.bits ≡ octet_bits (cow_slice_items octets)) }
+    ensures count { IfOk result (λ octets. length (cow_slice_items octets) ≡ count) }
+    ensures rest { IfOk result (λ _. (count * 8 ≤ length reader.old.bits) × (reader.new.bits ≡ drop (count * 8) reader.old.bits)) }
+    ensures wrong { IfErr result (λ k. (k ≡ FieldFaultKind.Memory) ⊎ ((k ≡ FieldFaultKind.Short) × (length reader.old.bits < count * 8))) }
+{
+    if reader.len() / 8 < count {
+        return Err(FieldFaultKind::Short);
+    }
+    let front = take_bits(reader, count * 8)?;
+    match front.octets(alloc) {
+        Ok(octets) => Ok(octets),
+        Err(_) => Err(FieldFaultKind::Memory),
+    }
+}
+
 /// So many octets.
 fn read_octets(
     alloc: Global,
@@ -66,33 +91,44 @@ fn read_octets(
     ensures rest { IfOk result (λ _. (count * 8 ≤ length reader.old.bits) × (reader.new.bits ≡ drop (count * 8) reader.old.bits)) }
     ensures wrong { IfErr result (λ k. (k ≡ FieldFaultKind.Memory) ⊎ ((k ≡ FieldFaultKind.Short) × (length reader.old.bits < count * 8))) }
 {
-    if reader.len() / 8 < count {
-        return Err(FieldFaultKind::Short);
-    }
-    let front = take_bits(reader, count * 8)?;
-    let Ok(octets) = front.octets(alloc) else {
-        return Err(FieldFaultKind::Memory);
+    let lent = match take_octets(alloc, reader, count)? {
+        CowSlice::Owned(octets) => return Ok(octets),
+        CowSlice::Borrowed(lent) => lent,
     };
-    match Vec::from_slice(alloc, octets.as_slice()) {
+    match Vec::from_slice(alloc, lent) {
         Ok(octets) => Ok(octets),
         Err(_) => Err(FieldFaultKind::Memory),
     }
 }
 
-/// The whole number whose fewest octets these are.
-fn shortest_number(alloc: Global, octets: &[u8]) -> Result<Integer, FieldFaultKind>
-    ensures number { IfOk result (λ z. (signed_octets z ≡ length octets.now) × (octets.now ≡ complement (length octets.now) z)) }
-    ensures wrong { IfErr result (λ k. (k ≡ FieldFaultKind.Memory) ⊎ ((k ≡ FieldFaultKind.NotShortest) × AreNotFewest (length octets.now) (octet_bits octets.now))) }
+/// Whether octets are the fewest of a whole number: there are some, and the first nine bits are not alike (X.690 8.3.2).
+fn are_fewest(octets: &[u8]) -> bool
+    ensures bare { IsTrue result → is_padded octets.now ≡ false }
+    ensures count { IsTrue result → signed_octets (signed_number octets.now) ≡ length octets.now }
+    ensures octets { IsTrue result → octets.now ≡ complement (length octets.now) (signed_number octets.now) }
+    ensures longer { result ≡ false → AreNotFewest (length octets.now) (octet_bits octets.now) }
 {
-    match Integer::from_signed_octets(alloc, octets) {
-        Ok(number) => {
-            if number.to_signed_bytes_be().len() != octets.len() {
-                return Err(FieldFaultKind::NotShortest);
-            }
-            Ok(number)
-        }
-        Err(IntegerError::Memory) => Err(FieldFaultKind::Memory),
-        Err(IntegerError::Empty | IntegerError::Overflow) => Err(FieldFaultKind::NotShortest),
+    if octets.is_empty() {
+        return false;
+    }
+    !has_padding(octets)
+}
+
+/// The whole number whose fewest octets these are.
+fn shortest_number(alloc: Global, octets: CowSlice<'_, u8>) -> Result<Integer, FieldFaultKind>
+    ensures number { IfOk result (λ z. (signed_octets z ≡ length (cow_slice_items octets.entry)) × (cow_slice_items octets.entry ≡ complement (length (cow_slice_items octets.entry)) z)) }
+    ensures wrong { IfErr result (λ k. (k ≡ FieldFaultKind.Memory) ⊎ ((k ≡ FieldFaultKind.NotShortest) × AreNotFewest (length (cow_slice_items octets.entry)) (octet_bits (cow_slice_items octets.entry)))) }
+{
+    if !are_fewest(octets.as_slice()) {
+        return Err(FieldFaultKind::NotShortest);
+    }
+    let lent = match octets {
+        CowSlice::Owned(octets) => return Ok(Integer::from_fewest_octets(octets)),
+        CowSlice::Borrowed(lent) => lent,
+    };
+    match Integer::from_signed_octets(alloc, lent) {
+        Ok(number) => Ok(number),
+        Err(_) => Err(FieldFaultKind::Memory),
     }
 }
 
@@ -106,8 +142,8 @@ fn read_whole(
     ensures rest { IfOk result (λ _. (count * 8 ≤ length reader.old.bits) × (reader.new.bits ≡ drop (count * 8) reader.old.bits)) }
     ensures wrong { IfErr result (IsUnreadable (FieldShape.Whole count) reader.old.bits) }
 {
-    let octets = read_octets(alloc, reader, count)?;
-    let number = shortest_number(alloc, octets.as_slice())?;
+    let octets = take_octets(alloc, reader, count)?;
+    let number = shortest_number(alloc, octets)?;
     Ok(number)
 }
 

@@ -5,7 +5,7 @@ use crate::{
     FieldBits, FieldFault, FieldFaultKind, FieldShape, FieldValue, read_fields, write_fields,
 };
 use asn1_values_alphabets::CharacterAlphabet;
-use asn1_values_bits::{BitBuffer, BitReader};
+use asn1_values_bits::{BitBuffer, BitReader, BitStr};
 use asn1_values_numbers::Integer;
 use std::alloc::Global;
 use std::test::Fail;
@@ -48,6 +48,83 @@ fn read_row(alloc: Global, reader: &mut BitReader<'_>) -> Result<Vec<FieldValue>
         FieldShape::Whole(1),
     ];
     read_fields(alloc, reader, &shapes)
+}
+
+const ROW_OF_EACH: [u8; 23] = [
+    0xB6, 0x47, 0xFE, 2, 2, 2, 2, 2, 2, 2, 2, 2, 2, 2, 2, 2, 2, 2, 2, 2, 2, 2, 2,
+];
+
+/// Writes 5 in three bits, the bits 1011, the digits "12", the octet FF and the whole number of twenty
+/// octets 01: 183 bits, of which none but the first field begins at an octet.
+fn write_each<'a>(
+    buffer: &mut BitBuffer,
+    digits: &'a CharacterAlphabet,
+    number: &'a Integer,
+) -> Result<(), FieldFault> {
+    let fields = [
+        FieldBits::Number { value: 5, width: 3 },
+        FieldBits::Bits(BitStr::front_of(&[0xB0], 4)),
+        FieldBits::Characters {
+            alphabet: digits,
+            characters: &[49, 50],
+        },
+        FieldBits::Octets(&[0xFF]),
+        FieldBits::Whole(number),
+    ];
+    write_fields(buffer, &fields)
+}
+
+/// Reads by the shapes of that row.
+fn read_each(
+    alloc: Global,
+    reader: &mut BitReader<'_>,
+    digits: &CharacterAlphabet,
+) -> Result<Vec<FieldValue>, FieldFault> {
+    let shapes = [
+        FieldShape::Number(3),
+        FieldShape::Bits(4),
+        FieldShape::Characters {
+            alphabet: digits,
+            count: 2,
+        },
+        FieldShape::Octets(1),
+        FieldShape::Whole(20),
+    ];
+    read_fields(alloc, reader, &shapes)
+}
+
+/// Whether the values are those of that row.
+fn is_each(values: &[FieldValue]) -> bool {
+    match values {
+        [
+            FieldValue::Number { value: 5, width: 3 },
+            FieldValue::Bits(bits),
+            FieldValue::Characters(characters),
+            FieldValue::Octets(octets),
+            FieldValue::Whole(number),
+        ] => {
+            bits.len() == 4
+                && bits.as_bytes() == [0xB0].as_slice()
+                && characters.as_slice() == [49, 50].as_slice()
+                && octets.as_slice() == [0xFF].as_slice()
+                && number.to_signed_bytes_be().as_slice() == [1; 20].as_slice()
+        }
+        _ => false,
+    }
+}
+
+/// The alphabet of digits and the whole number of that row; a request for memory that was refused is
+/// made once more.
+fn digits_and_number(alloc: Global) -> Result<(CharacterAlphabet, Integer), Fail> {
+    let digits = match CharacterAlphabet::new(alloc, &NUMERIC, false) {
+        Ok(digits) => digits,
+        Err(_) => CharacterAlphabet::new(alloc, &NUMERIC, false)?,
+    };
+    let number = match Integer::from_signed_octets(alloc, &[1; 20]) {
+        Ok(number) => number,
+        Err(_) => Integer::from_signed_octets(alloc, &[1; 20])?,
+    };
+    Ok((digits, number))
 }
 
 /// The fault of reading one field of these octets, if there is one.
@@ -165,6 +242,10 @@ fn missing_bits_are_told(rt: HostRuntime) {
         fault_of(rt.alloc(), &[0x7F], FieldShape::Bits(9)),
         Some(wanted)
     );
+    assert_eq!(rt;
+        fault_of(rt.alloc(), &[0x7F], FieldShape::Whole(2)),
+        Some(wanted)
+    );
 }
 
 #[test]
@@ -202,20 +283,53 @@ fn faults_are_shown(rt: HostRuntime) -> Result<(), Fail> {
     Ok(())
 }
 
-/// Every request for memory is granted, and then these are the bits, or refused as Memory, and then
-/// the buffer is as before, and the same call goes on from there.
+/// Fields of every kind, of which all but the first stand across octets.
 #[test]
-fn refused_memory_writes_nothing(rt: HostRuntime) {
+fn every_kind_is_written_and_read(rt: HostRuntime) -> Result<(), Fail> {
+    let alloc = rt.alloc();
+    let (digits, number) = digits_and_number(alloc)?;
+    let mut buffer = BitBuffer::new(alloc);
+    write_each(&mut buffer, &digits, &number)?;
+    assert_eq!(rt; buffer.len(), 183);
+    assert_eq!(rt; buffer.as_bytes(), ROW_OF_EACH.as_slice());
+    let mut reader = BitReader::from_octets(&ROW_OF_EACH);
+    let values = read_each(alloc, &mut reader, &digits)?;
+    assert!(rt; is_each(&values));
+    assert_eq!(rt; reader.len(), 1);
+    Ok(())
+}
+
+/// Octets that begin at an octet.
+#[test]
+fn aligned_octets_are_read(rt: HostRuntime) -> Result<(), Fail> {
+    let shapes = [FieldShape::Octets(3), FieldShape::Whole(20)];
+    let mut reader = BitReader::from_octets(&ROW_OF_EACH);
+    let values = read_fields(rt.alloc(), &mut reader, &shapes)?;
+    let [FieldValue::Octets(octets), FieldValue::Whole(number)] = values.as_slice() else {
+        return Err("octets and a whole number".into());
+    };
+    assert_eq!(rt; octets.as_slice(), [0xB6, 0x47, 0xFE].as_slice());
+    assert_eq!(rt; number.to_signed_bytes_be().as_slice(), [2; 20].as_slice());
+    assert_eq!(rt; reader.len(), 0);
+    Ok(())
+}
+
+/// A request for memory that is refused is Memory, and then the buffer is as before, and the same call
+/// goes on from there.
+#[test]
+fn refused_memory_writes_nothing(rt: HostRuntime) -> Result<(), Fail> {
+    let (digits, number) = digits_and_number(rt.alloc())?;
     let mut buffer = BitBuffer::new(rt.alloc());
-    for count in 0..40 {
-        if let Err(fault) = write_row(&mut buffer) {
+    for count in 0..8 {
+        if let Err(fault) = write_each(&mut buffer, &digits, &number) {
             assert_eq!(rt; fault.kind, FieldFaultKind::Memory);
-            assert_eq!(rt; buffer.len(), count * 20);
-            assert!(rt; write_row(&mut buffer).is_ok());
+            assert_eq!(rt; buffer.len(), count * 183);
+            assert!(rt; write_each(&mut buffer, &digits, &number).is_ok());
         }
-        assert_eq!(rt; buffer.len(), count * 20 + 20);
+        assert_eq!(rt; buffer.len(), count * 183 + 183);
     }
-    assert!(rt; buffer.as_bytes().ends_with(&[0xFB, 0xFE, 0xFF]));
+    assert!(rt; buffer.as_bytes().starts_with(&ROW_OF_EACH[..22]));
+    Ok(())
 }
 
 /// A field that does not fit leaves nothing of those before it behind.
@@ -247,16 +361,22 @@ fn values_are_compared(rt: HostRuntime) -> Result<(), Fail> {
     Ok(())
 }
 
-/// Every request for memory is granted, and then these are the values, or refused as Memory, and then
-/// the reader is as before.
+/// A request for memory that is refused is Memory, and then the reader is as before, and the same call
+/// goes on from there.
 #[test]
-fn refused_memory_reads_nothing(rt: HostRuntime) {
-    let mut reader = BitReader::from_octets(&ROW);
-    match read_row(rt.alloc(), &mut reader) {
-        Ok(values) => assert!(rt; is_row(&values)),
+fn refused_memory_reads_nothing(rt: HostRuntime) -> Result<(), Fail> {
+    let alloc = rt.alloc();
+    let (digits, _) = digits_and_number(alloc)?;
+    let mut reader = BitReader::from_octets(&ROW_OF_EACH);
+    let values = match read_each(alloc, &mut reader, &digits) {
+        Ok(values) => values,
         Err(fault) => {
             assert_eq!(rt; fault.kind, FieldFaultKind::Memory);
-            assert_eq!(rt; reader.len(), 24);
+            assert_eq!(rt; reader.len(), 184);
+            read_each(alloc, &mut reader, &digits)?
         }
-    }
+    };
+    assert!(rt; is_each(&values));
+    assert_eq!(rt; reader.len(), 1);
+    Ok(())
 }

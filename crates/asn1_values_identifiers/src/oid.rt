@@ -1,5 +1,5 @@
 //! The arcs of an object identifier, borrowed.
-ghost use Rattle.std.specs.Prelude.{◌≡◌, ◌↔◌, length, nat_eq, refl, Some, IsTrue, IsSome, IfSome, IfOk};
+ghost use Rattle.std.specs.Prelude.{⊤, ◌≡◌, ◌↔◌, length, nat_eq, refl, Some, IsTrue, IsSome, IfSome, IfOk};
 ghost use Rattle.std.specs.Ordering.{nat_cmp};
 ghost use Rattle.std.specs.Hash as fed;
 ghost use Rattle.std.specs.Cmp.Lexicographic.{pointwise, slice_cmp, nat_list_eq_equiv, nat_list_cmp_total, texts_ties, texts_po};
@@ -86,6 +86,8 @@ impl<'a> Oid<'a> {
 
 impl<'a> Clone for Oid<'a> {
     ghost is_clone = { λ o copy. copy ≡ o };
+
+    ghost is_infallible = { λ _. ⊤ };
 
     fn clone(&self) -> Result<Oid<'a>, AllocError> {
         Ok(Oid { arcs: self.arcs })

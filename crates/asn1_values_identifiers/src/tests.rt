@@ -1,9 +1,11 @@
 //! Rows of octets, what is shown, and that each call can succeed.
 use crate::{IdentifierError, ObjectIdentifier, Oid, oid_from_octets, oid_octets};
+use std::alloc::{AllocError, Global};
 use std::borrow::CowSlice;
 use std::cmp::Ordering;
 use std::convert::AsSlice;
 use std::hash::{BuildHasher, BuildHasherDefault, DefaultHasher};
+use std::process::Abort;
 use std::test::Fail;
 
 /// The arcs of a value, by the trait alone.
@@ -132,25 +134,41 @@ fn faults_are_shown(rt: HostRuntime) -> Result<(), Fail> {
     Ok(())
 }
 
-/// Every request for memory is either granted, and then the answer is this one, or refused as Memory.
-#[test]
-fn refused_memory_is_told(rt: HostRuntime) {
-    let alloc = rt.alloc();
-    let arcs = [2, 4294967295, 3321];
+/// Writes an identifier, reads it and copies it: each answer is this one, or Memory. Whether none was refused.
+fn writes_and_reads(rt: &impl Abort, alloc: Global) -> bool {
+    let mut granted = true;
     let octets = [0x90, 0x80, 0x80, 0x80, 0x4F, 0x99, 0x79];
-    let oid = Oid::new(&arcs).expect(&rt, "valid arcs");
+    let oid = Oid::new_unchecked(&[2, 4294967295, 3321]);
     match oid_octets(alloc, &oid) {
         Ok(written) => assert_eq!(rt; written.as_slice(), octets.as_slice()),
-        Err(fault) => assert_eq!(rt; fault, IdentifierError::Memory),
+        Err(fault) => {
+            granted = false;
+            assert_eq!(rt; fault, IdentifierError::Memory);
+        }
     }
     match oid_from_octets(alloc, &octets) {
         Ok(read) => assert!(rt; read.as_oid() == oid),
-        Err(fault) => assert_eq!(rt; fault, IdentifierError::Memory),
-    }
-    if let Ok(kept) = ObjectIdentifier::from_oid(alloc, &oid) {
-        assert!(rt; kept.as_oid() == oid);
-        if let Ok(copy) = kept.clone() {
-            assert!(rt; copy == kept);
+        Err(fault) => {
+            granted = false;
+            assert_eq!(rt; fault, IdentifierError::Memory);
         }
     }
+    match ObjectIdentifier::from_oid(alloc, &oid) {
+        Ok(kept) => match kept.clone() {
+            Ok(copy) => assert!(rt; copy.as_oid() == oid),
+            Err(AllocError) => granted = false,
+        },
+        Err(AllocError) => granted = false,
+    }
+    granted
+}
+
+#[test]
+fn refused_memory_is_told(rt: HostRuntime) {
+    let _granted = writes_and_reads(&rt, rt.alloc());
+}
+
+#[test]
+fn ample_memory(rt: HostRuntime) {
+    assert!(rt; writes_and_reads(&rt, rt.alloc()));
 }

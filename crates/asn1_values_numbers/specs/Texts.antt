@@ -1,8 +1,7 @@
 -- How a whole number is printed.
-use Rattle.std.specs.Prelude.{◌≡◌, ℕ, ◌-◌, ◌/◌, ◌%◌, ◌^◌, ℤ, List, [], ◌∷◌, ◌++◌, true, false, Some, if◌then◌else◌, codes}
+use Rattle.std.specs.Prelude.{ℕ, ◌-◌, ◌/◌, ◌%◌, ◌^◌, ℤ, List, [], ◌∷◌, ◌++◌, false, if◌then◌else◌, codes}
 use Rattle.std.specs.List.{flat_map}
 use Rattle.std.specs.Fmt.{signed_decimal, digit_glyph}
-use Rattle.std.proofs.Common.{ap}
 use Rattle.asn1_model.specs.Numbers.{is_within}
 use Rattle.asn1_values_natives.specs.Octets.{signed_octets_of}
 use Rattle.asn1_values_natives.specs.Ranges.{whole_range}
@@ -18,7 +17,3 @@ number_text z = if is_within (whole_range (2 ^ 127 - 1)) z then signed_decimal z
 -- what is said of a number that a type doesn't hold
 abbrev pub refusal_text : ℤ → List ℕ
 refusal_text z = number_text z ++ codes " is outside the range of its type"
-
--- where 128 bits hold the number, it is printed in decimal
-pub printed_in_decimal : (z : ℤ) → is_within (whole_range (2 ^ 127 - 1)) z ≡ true → Some (number_text z) ≡ Some (signed_decimal z)
-printed_in_decimal z e = ap (λ b. Some (if b then signed_decimal z else (codes "0x" ++ flat_map octet_text (signed_octets_of z)))) e

@@ -126,6 +126,18 @@ impl Integer {
         }
     }
 
+    /// The number whose fewest octets of two's complement are given up (X.690 8.3.2): it is kept
+    /// in them, or in place where 129 bits of two's complement hold it. Takes no memory.
+    pub fn from_fewest_octets(octets: Vec<u8>) -> Integer
+        requires { is_padded octets.items ≡ false }
+        ensures { result ≡ signed_number octets.items }
+    {
+        match Wide::from_signed_octets(octets.as_slice()) {
+            Some(wide) => Integer::from_wide(wide),
+            None => Integer::long(octets),
+        }
+    }
+
     /// The number that octets without a sign stand for. Leading zeros are taken and not kept.
     /// Refuses no octets, and takes memory for numbers from 2^128 on alone.
     pub fn from_unsigned_octets(alloc: Global, octets: &[u8]) -> Result<Integer, IntegerError>

@@ -5,14 +5,12 @@ mod compare;
 mod conversions;
 mod error;
 mod integer;
-mod integer_type;
 mod lent;
 mod text;
 
 pub use conversions::TryFromIntegerError;
 pub use error::IntegerError;
 pub use integer::Integer;
-pub use integer_type::IntegerType;
 
 #[cfg(test)]
 mod tests;

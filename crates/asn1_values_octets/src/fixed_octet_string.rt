@@ -1,11 +1,13 @@
 //! A string of a fixed number of octets.
-ghost use Rattle.std.specs.Prelude.{◌≡◌, ◌≢◌, ◌<◌, length, nat_eq, refl, replicate, Some, IfOk, MatchResult, slice_set};
+ghost use Rattle.std.specs.Prelude.{⊤, ◌≡◌, ◌≢◌, ◌<◌, length, nat_eq, refl, replicate, Some, IfOk, MatchResult, slice_set};
+ghost use Rattle.std.specs.Borrow.{Lends, Array, sem, u8 as octet};
 ghost use Rattle.std.specs.Ordering.{nat_cmp};
 ghost use Rattle.std.specs.Hash as fed;
 ghost use Rattle.std.specs.Cmp.Lexicographic.{pointwise, slice_cmp, nat_list_eq_equiv, nat_list_cmp_total, texts_ties, texts_po};
 ghost use Rattle.std.specs.Cmp.{partial_equiv_from_equiv};
 ghost use Rattle.std.specs.Cmp.Rules.{hashing};
 ghost use Rattle.std.proofs.Common.{rules};
+ghost use Rattle.asn1_values_octets.specs.contracts.fixed_octet_string.FixedOctetString.{the_row};
 
 use crate::OctetString;
 use std::alloc::{AllocError, Global};
@@ -17,7 +19,7 @@ use std::ops::{DerefSlice, DerefSliceMut};
 use thiserror::Error;
 
 /// An OCTET STRING of exactly `N` octets (X.680 clause 23, with a size of one number), held in place.
-#[derive(Debug, Clone, Copy)]
+#[derive(Debug, Drop)]
 pub struct FixedOctetString<const N: usize> {
     octets: [u8; N],
 }
@@ -93,6 +95,19 @@ impl<const N: usize> FixedOctetString<N> {
         ensures { IfOk result (λ v. v.items ≡ self.now) }
     {
         Vec::from_slice(alloc, self.octets.as_slice())
+    }
+}
+
+/// It takes no memory, and cannot fail.
+impl<const N: usize> Clone for FixedOctetString<N> {
+    ghost is_clone = { λ s copy. copy ≡ s };
+
+    ghost is_infallible = { λ _. ⊤ };
+
+    fn clone(&self) -> Result<FixedOctetString<N>, AllocError> {
+        Ok(FixedOctetString {
+            octets: self.octets,
+        })
     }
 }
 
@@ -229,12 +244,14 @@ impl<const N: usize> Hash for FixedOctetString<N> {
     }
 }
 
-/// No clause says what the string is once the slice is given back; [`FixedOctetString::set`] and
-/// [`FixedOctetString::copy_from_slice`] say it of a write.
+/// Once the slice is given back, the string is what was left in it.
 impl<const N: usize> DerefSliceMut for FixedOctetString<N> {
     fn deref_mut(&mut self) -> &mut [u8]
-        ensures { result.now ≡ self.old }
+        ensures* writes_back { sem 𝓛 (Lends (the_row N.row) (Array octet 0) self.entry result (λ octets. octets)) }
+        ensures value { result.now ≡ self.old }
+        ensures len { length result.now ≡ N }
     {
-        &mut self.octets
+        let octets = &mut self.octets;
+        octets.as_mut_slice()
     }
 }

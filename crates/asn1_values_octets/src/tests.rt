@@ -1,9 +1,13 @@
 //! What no clause says: that each call can succeed, and what is shown.
+ghost use Rattle.std.specs.Prelude.{◌≡◌, slice_set};
+
 use crate::{FixedOctetString, OctetString, WrongLength};
 use bytes::Bytes;
+use std::alloc::{AllocError, Global};
 use std::cmp::Ordering;
 use std::convert::AsSlice;
 use std::hash::{BuildHasher, BuildHasherDefault, DefaultHasher};
+use std::process::Abort;
 use std::test::Fail;
 
 /// The octets of a value, by the trait alone.
@@ -152,10 +156,11 @@ fn octet_strings_become_fixed_strings(rt: HostRuntime) {
 #[test]
 fn fixed_strings_give_their_octets(rt: HostRuntime) -> Result<(), Fail> {
     let value = FixedOctetString::new(OCTETS);
+    let copy = value.clone()?;
     assert_eq!(rt; octets_of(&value), OCTETS.as_slice());
-    assert_eq!(rt; value.into_array().as_slice(), OCTETS.as_slice());
-    assert_eq!(rt; <[u8; 3]>::from(value).as_slice(), OCTETS.as_slice());
     assert_eq!(rt; value.to_vec(rt.alloc())?.as_slice(), OCTETS.as_slice());
+    assert_eq!(rt; value.into_array().as_slice(), OCTETS.as_slice());
+    assert_eq!(rt; <[u8; 3]>::from(copy).as_slice(), OCTETS.as_slice());
     Ok(())
 }
 
@@ -198,51 +203,102 @@ fn wrong_lengths_are_shown(rt: HostRuntime) -> Result<(), Fail> {
     Ok(())
 }
 
-/// Each request for memory is granted, and then the octets are these, or refused; what is lent stays as it was.
-#[test]
-fn want_of_memory(rt: HostRuntime) {
-    let alloc = rt.alloc();
-    if let Ok(value) = OctetString::from_array(alloc, OCTETS) {
-        assert_eq!(rt; value.as_slice(), OCTETS.as_slice());
+/// Makes octet strings of what is lent, copies them and takes their octets: each answer is whole, or refused. Whether
+/// none was refused.
+fn copies(rt: &impl Abort, alloc: Global) -> bool {
+    let mut granted = true;
+    match OctetString::from_array(alloc, OCTETS) {
+        Ok(value) => assert_eq!(rt; value.as_slice(), OCTETS.as_slice()),
+        Err(AllocError) => granted = false,
     }
-    if let Ok(value) = OctetString::from_slice(alloc, &OCTETS) {
-        assert_eq!(rt; value.as_slice(), OCTETS.as_slice());
-        if let Ok(vector) = value.to_vec(alloc) {
-            assert_eq!(rt; vector.as_slice(), OCTETS.as_slice());
+    let value = match OctetString::from_slice(alloc, &OCTETS) {
+        Ok(value) => value,
+        Err(AllocError) => {
+            granted = false;
+            OctetString::from_static(&[0xFF, 0x00, 0x61])
         }
-        if let Ok(copy) = value.clone() {
-            assert!(rt; copy == value);
-            // The clone shares its octets, so that they are copied.
-            if let Ok(vector) = copy.into_vec(alloc) {
-                assert_eq!(rt; vector.as_slice(), OCTETS.as_slice());
-            }
-        }
-        if let Ok(octets) = Bytes::try_from(&value) {
-            assert_eq!(rt; octets.as_slice(), OCTETS.as_slice());
-            if let Ok(same) = OctetString::try_from(&octets) {
-                assert!(rt; same == value);
-            }
-        }
-        assert_eq!(rt; value.as_slice(), OCTETS.as_slice());
+    };
+    match value.to_vec(alloc) {
+        Ok(vector) => assert_eq!(rt; vector.as_slice(), OCTETS.as_slice()),
+        Err(AllocError) => granted = false,
     }
-    if let Ok(vector) = FixedOctetString::new(OCTETS).to_vec(alloc) {
-        assert_eq!(rt; vector.as_slice(), OCTETS.as_slice());
+    match value.clone() {
+        // The clone shares its octets, so that they are copied.
+        Ok(copy) => match copy.into_vec(alloc) {
+            Ok(vector) => assert_eq!(rt; vector.as_slice(), OCTETS.as_slice()),
+            Err(AllocError) => granted = false,
+        },
+        Err(AllocError) => granted = false,
     }
+    match Bytes::try_from(&value) {
+        Ok(octets) => match OctetString::try_from(&octets) {
+            Ok(same) => assert!(rt; same == value),
+            Err(AllocError) => granted = false,
+        },
+        Err(AllocError) => granted = false,
+    }
+    assert_eq!(rt; value.as_slice(), OCTETS.as_slice());
+    match FixedOctetString::new(OCTETS).to_vec(alloc) {
+        Ok(vector) => assert_eq!(rt; vector.as_slice(), OCTETS.as_slice()),
+        Err(AllocError) => granted = false,
+    }
+    granted
 }
 
-/// A refused vector is handed back as it was.
 #[test]
-fn refused_vectors_are_handed_back(rt: HostRuntime) {
-    if let Ok(vector) = OCTETS.to_vec(rt.alloc()) {
-        match OctetString::from_vec(vector) {
+fn want_of_memory(rt: HostRuntime) {
+    let _granted = copies(&rt, rt.alloc());
+}
+
+#[test]
+fn ample_memory(rt: HostRuntime) {
+    assert!(rt; copies(&rt, rt.alloc()));
+}
+
+/// Makes strings of vectors. A refused vector is handed back as it was. Whether none was refused for want of memory.
+fn moves(rt: &impl Abort, alloc: Global) -> bool {
+    let mut granted = true;
+    match OCTETS.to_vec(alloc) {
+        Ok(vector) => match OctetString::from_vec(vector) {
             Ok(moved) => assert_eq!(rt; moved.as_slice(), OCTETS.as_slice()),
-            Err(refused) => assert_eq!(rt; refused.value.as_slice(), OCTETS.as_slice()),
-        }
+            Err(refused) => {
+                granted = false;
+                assert_eq!(rt; refused.value.as_slice(), OCTETS.as_slice());
+            }
+        },
+        Err(AllocError) => granted = false,
     }
-    if let Ok(vector) = OCTETS.to_vec(rt.alloc()) {
-        match FixedOctetString::<2>::try_from(vector) {
+    match OCTETS.to_vec(alloc) {
+        Ok(vector) => match FixedOctetString::<2>::try_from(vector) {
             Ok(_) => assert!(rt; false),
             Err(refused) => assert_eq!(rt; refused.as_slice(), OCTETS.as_slice()),
-        }
+        },
+        Err(AllocError) => granted = false,
     }
+    granted
+}
+
+#[test]
+fn refused_vectors_are_handed_back(rt: HostRuntime) {
+    let _granted = moves(&rt, rt.alloc());
+}
+
+#[test]
+fn ample_vectors(rt: HostRuntime) {
+    assert!(rt; moves(&rt, rt.alloc()));
+}
+
+/// What a string is after a write through its slice, as the caller's contract.
+fn write_last(value: &mut FixedOctetString<3>, octet: u8)
+    ensures { value.new ≡ slice_set value.old 2 octet }
+{
+    let octets: &mut [u8] = value;
+    octets[2] = octet;
+}
+
+#[test]
+fn writes_through_a_slice_stay(rt: HostRuntime) {
+    let mut value = FixedOctetString::new([1, 2, 3]);
+    write_last(&mut value, 9);
+    assert_eq!(rt; value.as_slice(), [1, 2, 9].as_slice());
 }

@@ -1,3 +1,4 @@
+//! The characters of a string, one after the other.
 ghost use Rattle.std.specs.Iterator.{YieldsFirst, item_count};
 
 use std::marker::Model;

@@ -1,3 +1,4 @@
+//! The kinds of strings, each with the characters that it permits.
 ghost use Rattle.std.specs.Prelude.{◌≡◌, ◌<◌, ℕ, List, true};
 ghost use Rattle.asn1_model.specs.Schema.{StringKind, numeric, printable, visible, ia5, general, graphic, teletex};
 ghost use Rattle.asn1_values_alphabets.specs.Permitted.{permits, permits_all};

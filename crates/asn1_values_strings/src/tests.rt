@@ -13,6 +13,7 @@ use std::alloc::{AllocError, Global};
 use std::convert::AsSlice;
 use std::default::MadeWith;
 use std::hash::{BuildHasher, BuildHasherDefault, DefaultHasher};
+use std::process::Abort;
 use std::test::Fail;
 
 /// The octets that a kind of string permits, from its alphabet in X.680.
@@ -308,54 +309,109 @@ fn copies_and_comparisons(rt: HostRuntime) -> Result<(), Fail> {
 fn texts_of_strings(rt: HostRuntime) -> Result<(), Fail> {
     let string = settled(|| VisibleString::from_iso646_bytes(rt.alloc(), b"Jo"))?;
     assert_eq!(rt; string.as_str(), "Jo");
-    if let Ok(text) = format!(in rt.alloc(); "{string} {string:>4} {string:?}") {
-        assert_eq!(rt; text.as_str(), "Jo   Jo VisibleString([74, 111])");
-    }
+    let text = settled(|| format!(in rt.alloc(); "{string} {string:>4} {string:?}").map_err(
+        PermittedAlphabetError::Memory,
+    ))?;
+    assert_eq!(rt; text.as_str(), "Jo   Jo VisibleString([74, 111])");
     assert_eq!(rt; String::from(string).as_str(), "Jo");
     Ok(())
 }
 
+/// The octets of a string of two characters.
+fn octets_of(alloc: Global) -> Result<OctetString, PermittedAlphabetError> {
+    let string = Ia5String::from_iso646_bytes(alloc, b"Jo")?;
+    OctetString::try_from(string).map_err(|_| PermittedAlphabetError::Memory(AllocError))
+}
+
 #[test]
 fn octets_of_strings(rt: HostRuntime) -> Result<(), Fail> {
-    let string = settled(|| Ia5String::from_iso646_bytes(rt.alloc(), b"Jo"))?;
-    match OctetString::try_from(string) {
-        Ok(octets) => assert_eq!(rt; octets.as_slice(), b"Jo".as_slice()),
-        Err(refused) => assert_eq!(rt; refused.value.as_slice(), b"Jo".as_slice()),
-    }
+    let octets = settled(|| octets_of(rt.alloc()))?;
+    assert_eq!(rt; octets.as_slice(), b"Jo".as_slice());
     Ok(())
 }
 
-/// Whether a call made the string of these octets, or found no memory.
-fn is_whole_or_refused<K: CharacterKind>(
+/// Whether a call was granted its memory: then it has made the string of these octets, and else it wants memory.
+fn is_whole<K: CharacterKind>(
+    rt: &impl Abort,
     answer: Result<RestrictedString<K>, PermittedAlphabetError>,
     octets: &[u8],
 ) -> bool {
     match answer {
-        Ok(string) => string.as_bytes() == octets,
-        Err(error) => matches!(error, PermittedAlphabetError::Memory(_)),
+        Ok(string) => {
+            assert!(rt; string.as_bytes() == octets);
+            true
+        }
+        Err(error) => {
+            assert!(rt; matches!(error, PermittedAlphabetError::Memory(_)));
+            false
+        }
     }
 }
 
-/// Each request for memory is granted, and then the answer is the whole one, or refused.
-#[test]
-fn want_of_memory(rt: HostRuntime) -> Result<(), Fail> {
-    let alloc = rt.alloc();
-    assert!(rt; is_whole_or_refused(NumericString::from_bytes(alloc, b"12"), b"12"));
-    assert!(rt; is_whole_or_refused(Ia5String::from_iso646_bytes(alloc, b"Jo"), b"Jo"));
-    assert!(rt; is_whole_or_refused(TeletexString::from_text(alloc, "\u{E9}"), &[233]));
-    assert!(rt; is_whole_or_refused(of_string::<Graphic>(alloc, "\u{E9}a"), &[233, 97]));
+/// Makes strings of what is lent and of what is given up: each answer is whole, or refused. Whether none was refused.
+fn makes(rt: &impl Abort, alloc: Global) -> bool {
+    let mut granted = is_whole(rt, NumericString::from_bytes(alloc, b"12"), b"12");
+    granted &= is_whole(rt, Ia5String::from_iso646_bytes(alloc, b"Jo"), b"Jo");
+    granted &= is_whole(rt, TeletexString::from_text(alloc, "\u{E9}"), &[233]);
+    granted &= is_whole(rt, of_string::<Graphic>(alloc, "\u{E9}a"), &[233, 97]);
+    granted &= is_whole(rt, of_string::<Graphic>(alloc, "a"), &[97]);
     let octets = OctetString::from_static(b"12");
-    assert!(rt; is_whole_or_refused(NumericString::from_octet_string(alloc, octets), b"12"));
-    assert!(rt; is_whole_or_refused(of_zeros(alloc, 8), &[0]));
+    granted &= is_whole(rt, NumericString::from_octet_string(alloc, octets), b"12");
+    granted &= is_whole(rt, of_zeros(alloc, 8), &[0]);
+    granted
+}
+
+#[test]
+fn want_of_memory(rt: HostRuntime) {
+    let _granted = makes(&rt, rt.alloc());
+}
+
+#[test]
+fn ample_memory(rt: HostRuntime) {
+    assert!(rt; makes(&rt, rt.alloc()));
+}
+
+/// Appends characters and copies the string. A refused character leaves it as it was. Whether none was refused.
+fn grows(rt: &impl Abort, alloc: Global) -> bool {
+    let mut granted = true;
     let mut string = NumericString::new(alloc);
-    match string.push_char(0x31) {
-        Ok(()) => assert_eq!(rt; string.as_bytes(), b"1".as_slice()),
-        Err(_) => assert!(rt; string.is_empty()),
+    for count in 0..20 {
+        if string.push_char(0x31).is_err() {
+            granted = false;
+            assert_eq!(rt; string.len(), count);
+            assert!(rt; string.push_char(0x31).is_ok());
+        }
     }
+    assert_eq!(rt; string.as_bytes(), b"11111111111111111111".as_slice());
     let copied = string.clone().map_err(PermittedAlphabetError::Memory);
-    assert!(rt; is_whole_or_refused(copied, string.as_bytes()));
-    if let Ok(octets) = string.to_bytes(alloc) {
-        assert_eq!(rt; octets.as_slice(), string.as_bytes());
+    granted &= is_whole(rt, copied, string.as_bytes());
+    match string.to_bytes(alloc) {
+        Ok(octets) => assert_eq!(rt; octets.as_slice(), string.as_bytes()),
+        Err(AllocError) => granted = false,
     }
-    Ok(())
+    match OctetString::try_from(Ia5String::new(alloc)) {
+        Ok(octets) => assert!(rt; octets.is_empty()),
+        Err(refused) => {
+            granted = false;
+            assert!(rt; refused.value.is_empty());
+        }
+    }
+    match octets_of(alloc) {
+        Ok(octets) => assert_eq!(rt; octets.as_slice(), b"Jo".as_slice()),
+        Err(error) => {
+            granted = false;
+            assert!(rt; matches!(error, PermittedAlphabetError::Memory(_)));
+        }
+    }
+    granted
+}
+
+#[test]
+fn refused_growth(rt: HostRuntime) {
+    let _granted = grows(&rt, rt.alloc());
+}
+
+#[test]
+fn ample_growth(rt: HostRuntime) {
+    assert!(rt; grows(&rt, rt.alloc()));
 }

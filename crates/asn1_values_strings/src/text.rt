@@ -1,3 +1,4 @@
+//! Strings whose characters are those of ISO 646, seen as texts.
 ghost use Rattle.std.specs.Prelude.{◌≡◌, Some, string_bytes, IsTrue, IfOk, IfErr, OnOk, MatchResult};
 ghost use Rattle.std.specs.Fmt.{styled_text};
 ghost use Rattle.asn1_values_alphabets.specs.Permitted.{permits_all, IsRefusalOf};

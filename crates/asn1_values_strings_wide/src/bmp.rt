@@ -1,3 +1,4 @@
+//! The string whose characters are two octets wide.
 ghost use Rattle.std.specs.Prelude.{◌≡◌, ◌+◌, ◌*◌, ◌%◌, ◌<◌, ◌≤◌, ◌^◌, ℕ, [], ◌∷◌, ◌++◌, flat_map, length, Some, refl, nat_eq, ◌↔◌, IsTrue, IfOk, IfErr, OnOk, OnErr, MatchResult, string_bytes};
 ghost use Rattle.std.specs.Ordering.{nat_cmp};
 ghost use Rattle.std.specs.Hash as fed;

@@ -5,10 +5,11 @@ use asn1_values_alphabets::{
 };
 use asn1_values_bit_strings::BitString;
 use asn1_values_octets::OctetString;
-use std::alloc::Global;
+use std::alloc::{AllocError, Global};
 use std::convert::AsSlice;
 use std::default::MadeWith;
 use std::hash::{BuildHasher, BuildHasherDefault, DefaultHasher};
+use std::process::Abort;
 use std::test::Fail;
 
 /// What a call answers, and what it answers the next time where it found no memory at first.
@@ -204,41 +205,79 @@ fn copies_and_comparisons(rt: HostRuntime) -> Result<(), Fail> {
 #[test]
 fn strings_are_shown(rt: HostRuntime) -> Result<(), Fail> {
     let string = settled(|| BmpString::from_text(rt.alloc(), "A"))?;
-    if let Ok(text) = format!(in rt.alloc(); "{string:?}") {
-        assert_eq!(rt; text.as_str(), "BMPString([65])");
-    }
+    let text = settled(|| format!(in rt.alloc(); "{string:?}").map_err(
+        PermittedAlphabetError::Memory,
+    ))?;
+    assert_eq!(rt; text.as_str(), "BMPString([65])");
     Ok(())
 }
 
-/// Whether a call made the string of these characters, or found no memory.
-fn is_whole_or_refused(
+/// Whether a call was granted its memory: then it has made the string of these characters, and else it wants memory.
+fn is_whole(
+    rt: &impl Abort,
     answer: Result<BmpString, PermittedAlphabetError>,
     characters: &[u16],
 ) -> bool {
     match answer {
-        Ok(string) => string.as_units() == characters,
-        Err(error) => matches!(error, PermittedAlphabetError::Memory(_)),
+        Ok(string) => {
+            assert!(rt; string.as_units() == characters);
+            true
+        }
+        Err(error) => {
+            assert!(rt; matches!(error, PermittedAlphabetError::Memory(_)));
+            false
+        }
     }
 }
 
-/// Each request for memory is granted, and then the answer is the whole one, or refused.
+/// Makes strings of what is lent and of what is given up: each answer is whole, or refused. Whether none was refused.
+fn makes(rt: &impl Abort, alloc: Global) -> bool {
+    let mut granted = is_whole(rt, BmpString::from_bytes(alloc, &[0x20, 0xAC]), &[0x20AC]);
+    granted &= is_whole(rt, BmpString::from_text(alloc, "\u{20AC}"), &[0x20AC]);
+    granted &= is_whole(rt, of_string(alloc, "\u{20AC}"), &[0x20AC]);
+    let octets = OctetString::from_static(&[0x20, 0xAC]);
+    granted &= is_whole(rt, BmpString::from_octet_string(alloc, octets), &[0x20AC]);
+    granted &= is_whole(rt, of_zeros(alloc, 16), &[0]);
+    granted
+}
+
 #[test]
 fn want_of_memory(rt: HostRuntime) {
-    let alloc = rt.alloc();
-    assert!(rt; is_whole_or_refused(BmpString::from_bytes(alloc, &[0x20, 0xAC]), &[0x20AC]));
-    assert!(rt; is_whole_or_refused(BmpString::from_text(alloc, "\u{20AC}"), &[0x20AC]));
-    assert!(rt; is_whole_or_refused(of_string(alloc, "\u{20AC}"), &[0x20AC]));
-    let octets = OctetString::from_static(&[0x20, 0xAC]);
-    assert!(rt; is_whole_or_refused(BmpString::from_octet_string(alloc, octets), &[0x20AC]));
-    assert!(rt; is_whole_or_refused(of_zeros(alloc, 16), &[0]));
+    let _granted = makes(&rt, rt.alloc());
+}
+
+#[test]
+fn ample_memory(rt: HostRuntime) {
+    assert!(rt; makes(&rt, rt.alloc()));
+}
+
+/// Appends characters and copies the string. A refused character leaves it as it was. Whether none was refused.
+fn grows(rt: &impl Abort, alloc: Global) -> bool {
+    let mut granted = true;
     let mut string = BmpString::new(alloc);
-    match string.push_char(0x20AC) {
-        Ok(()) => assert_eq!(rt; string.as_units(), [0x20AC].as_slice()),
-        Err(_) => assert!(rt; string.is_empty()),
+    for count in 0..20 {
+        if string.push_char(0x20AC).is_err() {
+            granted = false;
+            assert_eq!(rt; string.len(), count);
+            assert!(rt; string.push_char(0x20AC).is_ok());
+        }
     }
+    assert_eq!(rt; string.as_units(), [0x20AC; 20].as_slice());
     let copied = string.clone().map_err(PermittedAlphabetError::Memory);
-    assert!(rt; is_whole_or_refused(copied, string.as_units()));
-    if let Ok(octets) = string.to_bytes(alloc) {
-        assert_eq!(rt; octets.len(), 2 * string.len());
+    granted &= is_whole(rt, copied, string.as_units());
+    match string.to_bytes(alloc) {
+        Ok(octets) => assert_eq!(rt; octets.len(), 40),
+        Err(AllocError) => granted = false,
     }
+    granted
+}
+
+#[test]
+fn refused_growth(rt: HostRuntime) {
+    let _granted = grows(&rt, rt.alloc());
+}
+
+#[test]
+fn ample_growth(rt: HostRuntime) {
+    assert!(rt; grows(&rt, rt.alloc()));
 }

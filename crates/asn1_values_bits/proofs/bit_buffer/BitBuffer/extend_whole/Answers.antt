@@ -15,14 +15,14 @@ returns-in-Err-push_whole-clause-err c =
     ∙ first_of c.args.self.now c.loop-self.self (bits_of c.loop-self.rest) (bits_of c.args.bits) c.len-before.result (length (bits_of c.loop-self.rest)) (length (bits_of c.args.bits)) c.len-before.ensures c.loop-self.invariant.joined refl refl c.loop-self.invariant.fewer
 
 pub loop-self-smaller : goal.loop-self-smaller
-loop-self-smaller c = omega (arith, ap length c.split_at.ensures.rest, length-drop 64 (bits_of c.loop-self.rest), c.len.ensures, c.loop-self-test.true)
+loop-self-smaller c = omega (arith, ap length c.split_at.ensures.rest, length-drop 128 (bits_of c.loop-self.rest), c.len.ensures, c.loop-self-test.true)
 
 pub loop-self-preserved : goal.loop-self-preserved
 loop-self-preserved c =
-    let long = grown c.push_eight.new.self c.loop-self.self 64 c.first_number.result c.in-Ok.ensures.ok in
+    let long = grown c.push_sixteen.new.self c.loop-self.self 128 c.first_number.result c.in-Ok.ensures.ok in
     let before = c.loop-self.invariant.whole (omega (arith, c.len.ensures, c.loop-self-test.true)) in
     record {
-      fewer = omega (arith, ap length c.split_at.ensures.rest, length-drop 64 (bits_of c.loop-self.rest), c.loop-self.invariant.fewer);
-      joined = moved c.loop-self.self c.push_eight.new.self (bits_of c.loop-self.rest) (bits_of c.split_at.result.1) _ 64 c.first_number.result c.in-Ok.ensures.ok c.first_number.ensures.digits c.split_at.ensures.rest c.loop-self.invariant.joined;
+      fewer = omega (arith, ap length c.split_at.ensures.rest, length-drop 128 (bits_of c.loop-self.rest), c.loop-self.invariant.fewer);
+      joined = moved c.loop-self.self c.push_sixteen.new.self (bits_of c.loop-self.rest) (bits_of c.split_at.result.1) _ 128 c.first_number.result c.in-Ok.ensures.ok c.first_number.ensures.digits c.split_at.ensures.rest c.loop-self.invariant.joined;
       whole = λ some. omega (arith, long, before);
     }

@@ -1,22 +1,17 @@
-//! What the native integer types and `Integer` have in common.
-ghost use Rattle.std.specs.Prelude.{◌≡◌, ℕ, ◌<◌, ◌≤◌, ◌^◌, ◌↔◌, ℤ, pos, ◌+ℤ◌, Bool, false, true, length, IfOk, IsErrOf, ◌/◌, ◌-◌, None, Some, refl};
-ghost use Rattle.std.specs.Fmt.{signed_decimal};
-ghost use Rattle.std.specs.Ordering.{int_cmp};
+//! A trait of the types of whole numbers.
+ghost use Rattle.std.specs.Prelude.{◌≡◌, ℕ, ◌<◌, ◌≤◌, ◌^◌, ◌↔◌, ℤ, pos, ◌+ℤ◌, Bool, false, true, length, IfOk, IsErrOf, ◌/◌, ◌-◌, None, refl};
 ghost use Rattle.asn1_model.specs.Schema.{Range};
 ghost use Rattle.asn1_model.specs.Numbers.{is_within};
 ghost use Rattle.asn1_values_natives.specs.Octets.{signed_number, unsigned_number, signed_octets_of, unsigned_octets_of, own_number, is_below_zero, plain};
-ghost use Rattle.asn1_values_natives.specs.Ranges.{range_of, range_of_width, whole_range, wrapped};
+ghost use Rattle.asn1_values_natives.specs.Ranges.{range_of, range_of_width, wrapped};
 ghost use Rattle.asn1_values_natives.proofs.RangeLaws.{width_range};
-ghost use Rattle.asn1_values_numbers.specs.Texts.{printed_in_decimal};
 
-use crate::error::IntegerError;
-use crate::integer::Integer;
 use asn1_values_natives::{IntegerBytes, NativeInteger, Wide};
+use asn1_values_numbers::{Integer, IntegerError};
 use std::alloc::Global;
-use std::fmt::{Debug, Display};
 
 /// A type of whole numbers: the native integer types and `Integer`.
-pub trait IntegerType: Sized + Debug + Default + Display + PartialOrd {
+pub trait IntegerType: Sized {
     /// How many bits it has; `u32::MAX` where nothing limits them.
     const WIDTH: u32;
 
@@ -114,15 +109,6 @@ pub trait IntegerType: Sized + Debug + Default + Display + PartialOrd {
     // Zero is zero.
     ghost nothing: { value ZERO ≡ pos 0 };
 
-    // It is ordered as its numbers are.
-    ghost ordered: { (x y : Self) → Self.partial_cmp x y ≡ Some (int_cmp (value x) (value y)) };
-
-    // It is printed in decimal, an `Integer` where 128 bits hold it.
-    ghost printed: { (x : Self) → is_within (whole_range (2 ^ 127 - 1)) (value x) ≡ true → Self.output x ≡ Some (signed_decimal (value x)) };
-
-    // What it is where nothing is said is zero.
-    ghost default_zero: { (x : Self) → Self.is_default x → value x ≡ pos 0 };
-
     // Its octets are those of its bits.
     ghost octets: { BYTE_WIDTH ≡ WIDTH / 8 };
 
@@ -130,7 +116,34 @@ pub trait IntegerType: Sized + Debug + Default + Display + PartialOrd {
     ghost width: { held ≡ range_of_width signed WIDTH };
 }
 
-impl<T: NativeInteger> IntegerType for T {
+/// The native integer types: `i8` to `i128`, `isize`, `u8` to `u128` and `usize`.
+pub trait NativeIntegerType: NativeInteger {}
+
+impl NativeIntegerType for u8 {}
+
+impl NativeIntegerType for u16 {}
+
+impl NativeIntegerType for u32 {}
+
+impl NativeIntegerType for u64 {}
+
+impl NativeIntegerType for u128 {}
+
+impl NativeIntegerType for usize {}
+
+impl NativeIntegerType for i8 {}
+
+impl NativeIntegerType for i16 {}
+
+impl NativeIntegerType for i32 {}
+
+impl NativeIntegerType for i64 {}
+
+impl NativeIntegerType for i128 {}
+
+impl NativeIntegerType for isize {}
+
+impl<T: NativeIntegerType> IntegerType for T {
     const WIDTH: u32 = T::BITS;
 
     const BYTE_WIDTH: usize = T::BITS as usize / 8;
@@ -160,12 +173,6 @@ impl<T: NativeInteger> IntegerType for T {
     ghost injective = { T.injective };
 
     ghost nothing = { T.nothing };
-
-    ghost ordered = { T.ordered };
-
-    ghost printed = { λ x e. T.printed x };
-
-    ghost default_zero = { T.default_zero };
 
     ghost octets = { refl };
 
@@ -260,12 +267,6 @@ impl IntegerType for Integer {
     ghost injective = { λ x y e. e };
 
     ghost nothing = { refl };
-
-    ghost ordered = { λ x y. refl };
-
-    ghost printed = { printed_in_decimal };
-
-    ghost default_zero = { λ x e. e };
 
     ghost octets = { refl };
 

@@ -1,6 +1,0 @@
-use Rattle.std.proofs.Common.{◌∙◌}
-use Rattle.asn1_values_fields.proofs.Shortest.{octets_taken}
-use Rattle.asn1_values_fields.proofs.reading.read_octets.Goals as goal
-
-pub returns-in-Ok-from_slice-clause-count : goal.returns-in-Ok-from_slice-clause-count
-returns-in-Ok-from_slice-clause-count c = octets_taken c.args.count c.args.reader.now.bits c.in_ok-front.front.bits _ _ c.in_ok-front.ensures.front c.in_ok-front.ensures.enough c.in-Ok.ensures.octets (c.in-Ok-from_slice.ensures.items ∙ c.as_slice.ensures.value)
