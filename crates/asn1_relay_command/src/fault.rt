@@ -3,6 +3,7 @@ ghost use Rattle.std.specs.Prelude.{◌≡◌};
 ghost use Rattle.asn1_relay_command.specs.Lines.{line_of};
 
 use asn1_relay_core::RecodeFault;
+use std::alloc::AllocError;
 use thiserror::Error;
 
 /// Why the input was not translated, or the answer not written. Its text is what the program says of it.
@@ -56,5 +57,15 @@ impl From<RecodeFault> for Fault {
             RecodeFault::NoTarget(_) => Fault::NoTargetEncoding,
             RecodeFault::Memory => Fault::OutOfMemory,
         }
+    }
+}
+
+impl From<AllocError> for Fault {
+    ghost use Rattle.asn1_relay_command.specs.declared.fault.Fault.TheVariants.{OutOfMemory};
+
+    ghost from_gives = { λ _ f. f ≡ OutOfMemory };
+
+    fn from(_refused: AllocError) -> Fault {
+        Fault::OutOfMemory
     }
 }

@@ -104,13 +104,11 @@ fn read_all<R: Read>(alloc: Global, input: &mut R) -> Result<Vec<u8>, Fault>
 {
     let mut octets = Vec::new(alloc);
     let mut block = [0u8; 4096];
+    // A turn adds an octet, of which memory holds fewer than 2^64, or is an interruption; so many of those count as a failure.
     for _ in 0..u64::MAX {
         match input.read(&mut block) {
             Ok(0) => return Ok(octets),
-            Ok(count) => match octets.extend_from_slice(&block[..count]) {
-                Ok(()) => {}
-                Err(_) => return Err(Fault::OutOfMemory),
-            },
+            Ok(count) => octets.extend_from_slice(&block[..count])?,
             Err(error) if error.kind() == ErrorKind::Interrupted => {}
             Err(_) => return Err(Fault::ReadFailed),
         }
@@ -136,6 +134,7 @@ fn write_octets<W: Write>(octets: &[u8], writer: &mut W) -> io::Result<()>
     ensures begins { Begins (W.contents writer.old) (W.contents writer.new) octets.now }
 {
     let mut count = 0;
+    // A turn takes an octet, of which there are fewer than 2^64, or is an interruption; so many of those count as a failure.
     for _ in 0..u64::MAX {
         if count == octets.len() {
             return Ok(());

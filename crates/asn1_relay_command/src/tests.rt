@@ -221,7 +221,7 @@ fn missing_and_surplus_words(rt: HostRuntime) {
 struct Run {
     steps: &'static [Step],
     /// How many octets one write takes at most.
-    step: usize,
+    write_size: usize,
     /// How many writes succeed.
     writes: u32,
     can_flush: bool,
@@ -254,7 +254,7 @@ fn run_pair(
 fn run_is_refused_memory(rt: &(impl Abort + AllocGlobal), run: &Run) -> bool {
     let mut input = FakeReader::new(run.steps);
     let mut output = FakeWriter::new();
-    output.step = run.step;
+    output.write_size = run.write_size;
     output.writes_left = run.writes;
     output.can_flush = run.can_flush;
     let mut errors = FakeWriter::new();
@@ -281,7 +281,7 @@ fn check_runs(rt: &(impl Abort + AllocGlobal), runs: &[Run]) {
 fn reading(steps: &'static [Step], status: u8, output: &'static [u8], line: &'static str) -> Run {
     Run {
         steps,
-        step: 1,
+        write_size: 1,
         writes: u32::MAX,
         can_flush: true,
         status,
@@ -293,7 +293,7 @@ fn reading(steps: &'static [Step], status: u8, output: &'static [u8], line: &'st
 fn writing(writes: u32, can_flush: bool, output: &'static [u8]) -> Run {
     Run {
         steps: &[Step::Octets(&[0x88])],
-        step: 1,
+        write_size: 1,
         writes,
         can_flush,
         status: 1,
@@ -370,7 +370,7 @@ fn short_errors(rt: HostRuntime) {
     let mut input = FakeReader::new(&[Step::Failure]);
     let mut output = FakeWriter::new();
     let mut errors = FakeWriter::new();
-    errors.step = 7;
+    errors.write_size = 7;
     errors.writes_left = 2;
     let status = run_pair(&rt, &mut input, &mut output, &mut errors);
     let is_begun = errors.holds(b"asn1_relay: re") || errors.holds(b"asn1_relay: ou");

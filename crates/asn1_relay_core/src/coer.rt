@@ -1,5 +1,5 @@
 //! The canonical octet encoding rules (X.696).
-ghost use Rattle.std.specs.Prelude.{◌≡◌, ◌+◌, ◌*◌, ◌^◌, ◌<◌, ◌≤◌, ◌++◌, ◌∷◌, [], length, take, drop, List, Some, None, Ok, Err, OnOk, IfOk, IfErr, IfSome, IfNone, MatchResult, pos};
+ghost use Rattle.std.specs.Prelude.{◌≡◌, ◌+◌, ◌*◌, ◌^◌, ◌<◌, ◌≤◌, ◌++◌, ◌∷◌, [], length, take, drop, cond, List, Some, None, Ok, Err, OnOk, IfOk, IfErr, IfSome, IfNone, MatchResult, pos};
 ghost use Rattle.asn1_model.specs.Numbers as Numbers;
 ghost use Rattle.asn1_model.specs.Oer as Oer;
 ghost use Rattle.asn1_model.specs.Value as Asn1Value;
@@ -86,10 +86,7 @@ fn push_octets(octets: &mut Vec<u8>, number: u128, count: u32) -> Result<(), Enc
     let mut left = count;
     while left > 0 {
         left -= 1;
-        match octets.push((number >> (8 * left) & 0xFF) as u8) {
-            Ok(()) => {}
-            Err(_) => return Err(EncodeError::OutOfMemory),
-        }
+        octets.push((number >> (8 * left) & 0xFF) as u8)?;
     }
     Ok(())
 }
@@ -99,10 +96,7 @@ fn push_counted(octets: &mut Vec<u8>, number: u128, count: u32) -> Result<(), En
     requires { count ≤ 16 }
     ensures { MatchResult result (λ _. octets.new.items ≡ octets.old.items ++ count ∷ Numbers.digits 256 count number) (λ e. e ≡ EncodeError.OutOfMemory) }
 {
-    match octets.push(count as u8) {
-        Ok(()) => {}
-        Err(_) => return Err(EncodeError::OutOfMemory),
-    }
+    octets.push(count as u8)?;
     push_octets(octets, number, count)
 }
 
@@ -126,6 +120,13 @@ fn write_integer(
     }
 }
 
+/// The octet of a truth value (X.696 9).
+fn octet_of(truth: bool) -> u8
+    ensures { result ≡ cond truth 255 0 }
+{
+    if truth { 0xFF } else { 0x00 }
+}
+
 /// Adds the octets of a value (X.696 9, 10 and 16).
 pub fn write_value(schema: &Schema, value: &Value, octets: &mut Vec<u8>) -> Result<(), EncodeError>
     ensures { MatchResult result (λ _. Adds (text_by octet_leaves (schema_of schema.now) (value_of value.now)) octets.old.items octets.new.items) (Refuses (text_by octet_leaves (schema_of schema.now) (value_of value.now))) }
@@ -135,10 +136,8 @@ pub fn write_value(schema: &Schema, value: &Value, octets: &mut Vec<u8>) -> Resu
             let Value::Boolean(truth) = value else {
                 return Err(EncodeError::ValueConstraintNotSatisfied);
             };
-            match octets.push(if *truth { 0xFF } else { 0x00 }) {
-                Ok(()) => Ok(()),
-                Err(_) => Err(EncodeError::OutOfMemory),
-            }
+            octets.push(octet_of(*truth))?;
+            Ok(())
         }
         Schema::Integer { low, high } => {
             let Value::Integer(number) = value else {
@@ -436,10 +435,7 @@ pub fn read_value(
             let mut values = Vec::new(alloc);
             for component in components {
                 let value = read_value(alloc, component, reader, levels - 1)?;
-                match values.push(value) {
-                    Ok(()) => {}
-                    Err(_) => return Err(DecodeError::OutOfMemory),
-                }
+                values.push(value)?;
             }
             Ok(Value::Sequence(values))
         }

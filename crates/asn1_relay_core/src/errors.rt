@@ -1,5 +1,8 @@
 //! Why octets are no encoding of a value, and why a value has no encoding.
 
+ghost use Rattle.std.specs.Prelude.{◌≡◌};
+
+use std::alloc::{AllocError, AllocFailed};
 use thiserror::Error;
 
 /// Why no beginning of the octets is an encoding of a value of the type.
@@ -34,6 +37,26 @@ pub enum DecodeError {
     OutOfMemory,
 }
 
+impl From<AllocError> for DecodeError {
+    ghost use Rattle.asn1_relay_core.specs.declared.errors.DecodeError.TheVariants.{OutOfMemory};
+
+    ghost from_gives = { λ _ e. e ≡ OutOfMemory };
+
+    fn from(_refused: AllocError) -> DecodeError {
+        DecodeError::OutOfMemory
+    }
+}
+
+impl<T: Drop> From<AllocFailed<T>> for DecodeError {
+    ghost use Rattle.asn1_relay_core.specs.declared.errors.DecodeError.TheVariants.{OutOfMemory};
+
+    ghost from_gives = { λ _ e. e ≡ OutOfMemory };
+
+    fn from(_refused: AllocFailed<T>) -> DecodeError {
+        DecodeError::OutOfMemory
+    }
+}
+
 /// Why a value has no encoding.
 #[derive(Clone, Copy, Debug, PartialEq, Eq, Error)]
 pub enum EncodeError {
@@ -46,4 +69,24 @@ pub enum EncodeError {
     /// No memory was left for the octets.
     #[error("out of memory")]
     OutOfMemory,
+}
+
+impl From<AllocError> for EncodeError {
+    ghost use Rattle.asn1_relay_core.specs.declared.errors.EncodeError.TheVariants.{OutOfMemory};
+
+    ghost from_gives = { λ _ e. e ≡ OutOfMemory };
+
+    fn from(_refused: AllocError) -> EncodeError {
+        EncodeError::OutOfMemory
+    }
+}
+
+impl<T: Drop> From<AllocFailed<T>> for EncodeError {
+    ghost use Rattle.asn1_relay_core.specs.declared.errors.EncodeError.TheVariants.{OutOfMemory};
+
+    ghost from_gives = { λ _ e. e ≡ OutOfMemory };
+
+    fn from(_refused: AllocFailed<T>) -> EncodeError {
+        EncodeError::OutOfMemory
+    }
 }

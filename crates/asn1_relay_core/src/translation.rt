@@ -5,7 +5,7 @@ ghost use Rattle.asn1_relay_texts.specs.Fronts.{uper_front, coer_front, IsFront}
 ghost use Rattle.asn1_relay_texts.specs.Kinds.{is_carried};
 ghost use Rattle.asn1_relay_core.specs.Finding.{Misses};
 ghost use Rattle.asn1_relay_core.specs.Meaning.{schema_of, value_of};
-ghost use Rattle.asn1_relay_core.specs.Recoding.{rules_of, answer_of, Answer, IsAnswer, NamesMemoryAlone, FindsNone, WritesNone, OneAnswerIsRight, source_fault_of, target_fault_of};
+ghost use Rattle.asn1_relay_core.specs.Recoding.{rules_of, answer_of, Answer, IsAnswer, NamesMemoryAlone, FindsNone, WritesNone, OneAnswerIsRight};
 ghost use Rattle.asn1_relay_core.specs.Writing.{Refuses};
 
 use crate::bits::{BitReader, BitWriter};
@@ -14,11 +14,11 @@ use crate::errors::{DecodeError, EncodeError};
 use crate::schema::{Schema, Value};
 use crate::wire::Wire;
 use crate::{coer, uper};
-use std::alloc::Global;
+use std::alloc::{AllocError, Global};
 use thiserror::Error;
 
 /// How many levels of sequences are read.
-pub const MAX_LEVELS: u32 = 128;
+const MAX_LEVELS: u32 = 128;
 
 /// Encodings have fewer octets than this.
 const LENGTH_LIMIT: usize = 1 << 60;
@@ -49,6 +49,44 @@ pub enum RecodeFault {
     Memory,
 }
 
+impl From<AllocError> for RecodeFault {
+    ghost use Rattle.asn1_relay_core.specs.declared.translation.RecodeFault.TheVariants.{Memory};
+
+    ghost from_gives = { λ _ f. f ≡ Memory };
+
+    fn from(_refused: AllocError) -> RecodeFault {
+        RecodeFault::Memory
+    }
+}
+
+/// The fault of a translation whose input was not read.
+impl From<DecodeError> for RecodeFault {
+    ghost use Rattle.asn1_relay_core.specs.Recoding.{source_fault_of};
+
+    ghost from_gives = { λ e f. f ≡ source_fault_of e };
+
+    fn from(error: DecodeError) -> RecodeFault {
+        match error {
+            DecodeError::OutOfMemory => RecodeFault::Memory,
+            error => RecodeFault::NotAnEncoding(error),
+        }
+    }
+}
+
+/// The fault of a translation whose value was not written.
+impl From<EncodeError> for RecodeFault {
+    ghost use Rattle.asn1_relay_core.specs.Recoding.{target_fault_of};
+
+    ghost from_gives = { λ e f. f ≡ target_fault_of e };
+
+    fn from(error: EncodeError) -> RecodeFault {
+        match error {
+            EncodeError::OutOfMemory => RecodeFault::Memory,
+            error => RecodeFault::NoTarget(error),
+        }
+    }
+}
+
 /// The octets of a value by UPER, however many there are.
 fn write_uper(alloc: Global, schema: &Schema, value: &Value) -> Result<Vec<u8>, EncodeError>
     requires { IsTrue (is_carried (schema_of schema.now)) }
@@ -56,10 +94,7 @@ fn write_uper(alloc: Global, schema: &Schema, value: &Value) -> Result<Vec<u8>, 
 {
     let mut writer = BitWriter::new(alloc);
     uper::write_value(schema, value, &mut writer)?;
-    let Ok(octets) = writer.into_octets() else {
-        return Err(EncodeError::OutOfMemory);
-    };
-    Ok(octets)
+    Ok(writer.into_octets()?)
 }
 
 /// The octets of a value by COER, however many there are.
@@ -164,26 +199,6 @@ fn read(alloc: Global, codec: Codec, schema: &Schema, input: &[u8]) -> Result<Fr
     }
 }
 
-/// The fault of a translation whose input was not read.
-fn source_fault(error: DecodeError) -> RecodeFault
-    ensures { result ≡ source_fault_of error }
-{
-    match error {
-        DecodeError::OutOfMemory => RecodeFault::Memory,
-        error => RecodeFault::NotAnEncoding(error),
-    }
-}
-
-/// The fault of a translation whose value was not written.
-fn target_fault(error: EncodeError) -> RecodeFault
-    ensures { result ≡ target_fault_of error }
-{
-    match error {
-        EncodeError::OutOfMemory => RecodeFault::Memory,
-        error => RecodeFault::NoTarget(error),
-    }
-}
-
 /// No two answers to some octets are right, so that the right one is *the* answer.
 pub fn one_answer_is_right()
     ensures { OneAnswerIsRight }
@@ -204,26 +219,16 @@ pub fn recode<T: Wire>(
     ensures exact { (a : Answer) → IsAnswer (rules_of from) (rules_of to) T.asn1_type input.now a → (answer_of result ≡ None) ⊎ (answer_of result ≡ Some a) }
     ensures memory { IfErr result NamesMemoryAlone }
 {
-    let Ok(schema) = T::schema(alloc) else {
-        return Err(RecodeFault::Memory);
-    };
-    let front = match read(alloc, from, &schema, input) {
-        Ok(front) => front,
-        Err(error) => return Err(source_fault(error)),
-    };
+    let schema = T::schema(alloc)?;
+    let front = read(alloc, from, &schema, input)?;
     if front.len < input.len() {
         return Err(RecodeFault::Surplus);
     }
     let Some(message) = T::from_value(&front.value) else {
         return Err(RecodeFault::NotAnEncoding(DecodeError::ValueConstraintNotSatisfied));
     };
-    let Ok(value) = message.to_value(alloc) else {
-        return Err(RecodeFault::Memory);
-    };
-    match write(alloc, to, &schema, &value) {
-        Ok(octets) => Ok(octets),
-        Err(error) => Err(target_fault(error)),
-    }
+    let value = message.to_value(alloc)?;
+    Ok(write(alloc, to, &schema, &value)?)
 }
 
 #[cfg(test)]

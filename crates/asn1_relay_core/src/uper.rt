@@ -12,7 +12,7 @@ ghost use Rattle.asn1_relay_texts.specs.Texts.{bits_of};
 use crate::bits::{BitReader, BitWriter};
 use crate::errors::{DecodeError, EncodeError};
 use crate::schema::{Schema, Value};
-use std::alloc::{AllocError, Global};
+use std::alloc::Global;
 
 /// How many bits hold the numbers from 0 to `span` (X.691 11.5.7).
 fn width_of(span: u128) -> u32
@@ -35,10 +35,8 @@ fn write_integer(
         return Err(EncodeError::ValueConstraintNotSatisfied);
     }
     let offset = number.abs_diff(low);
-    match writer.push_number(offset, width_of(high.abs_diff(low))) {
-        Ok(()) => Ok(()),
-        Err(AllocError) => Err(EncodeError::OutOfMemory),
-    }
+    writer.push_number(offset, width_of(high.abs_diff(low)))?;
+    Ok(())
 }
 
 /// Adds the bits of a value (X.691 12, 13 and 19).
@@ -54,10 +52,8 @@ pub fn write_value(
             let Value::Boolean(truth) = value else {
                 return Err(EncodeError::ValueConstraintNotSatisfied);
             };
-            match writer.push_number(u128::from(*truth), 1) {
-                Ok(()) => Ok(()),
-                Err(AllocError) => Err(EncodeError::OutOfMemory),
-            }
+            writer.push_number(u128::from(*truth), 1)?;
+            Ok(())
         }
         Schema::Integer { low, high } => {
             let Value::Integer(number) = value else {
@@ -122,10 +118,7 @@ pub fn read_value(
             let mut values = Vec::new(alloc);
             for component in components {
                 let value = read_value(alloc, component, reader, levels - 1)?;
-                match values.push(value) {
-                    Ok(()) => {}
-                    Err(_) => return Err(DecodeError::OutOfMemory),
-                }
+                values.push(value)?;
             }
             Ok(Value::Sequence(values))
         }

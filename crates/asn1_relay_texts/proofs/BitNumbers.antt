@@ -33,7 +33,7 @@ some_inside f w true b h = let q = h refl in rw (q.0, q.1) refl
 some_inside f w false b h = nowhere f w
 
 by_parts : (o u : Option ℕ) (f w : Bool) → ((span d : ℕ) → o ≡ Some span → u ≡ Some d → d ≤ span → (f ≡ true) × (w ≡ true)) → written (cond f (cond w (given o (λ span. given u (λ d. Per.constrained false span d))) refused) refused) 0 ≡ option_and_then (λ span. option_and_then (λ d. bits_from span d) u) o
-unfolding Per.constrained
+unfolding Per.constrained Per.constrained_in
 by_parts None u f w h = nowhere f w
 by_parts (Some span) None f w h = nowhere f w
 by_parts (Some span) (Some d) f w h = some_inside f w (leb d span) (binary (width span) d) (λ e. h span d refl refl (leb-true _ _ e))

@@ -69,7 +69,7 @@ module _ (free : Per.Freedom → Bool) where
   RigidBits x = Rigid {F = Per.Freedom} {D = Per.Detail} {A = Bool} free x
 
   constrained_rigid : (span d : ℕ) → RigidBits (Per.constrained false span d)
-  unfolding Per.constrained
+  unfolding Per.constrained Per.constrained_in
   constrained_rigid span d = rigid_if free (leb d span) {x = exactly (binary (width span) d)} (rigid_exactly free _)
 
   bit_number_rigid : (low high v : ℤ) → RigidBits (Per.whole_number false (Some low) (Some high) v)

@@ -60,7 +60,7 @@ abbrev BitsStill : Per.BitForm → Type 0
 BitsStill x = Still {F = Per.Freedom} {D = Per.Detail} {A = Bool} x
 
 constrained_still : (span d : ℕ) → BitsStill (Per.constrained false span d)
-unfolding Per.constrained
+unfolding Per.constrained Per.constrained_in
 constrained_still span d = still_if (leb d span) {x = exactly (binary (width span) d)} (still_exactly _)
 
 bit_number_still : (low high v : ℤ) → BitsStill (Per.whole_number false (Some low) (Some high) v)

@@ -61,7 +61,7 @@ pub struct FakeWriter {
     kept: [u8; ROOM],
     len: usize,
     /// How many octets one write takes at most.
-    pub step: usize,
+    pub write_size: usize,
     /// How many writes succeed.
     pub writes_left: u32,
     /// Whether a flush succeeds.
@@ -76,7 +76,7 @@ impl FakeWriter {
         FakeWriter {
             kept: [0; ROOM],
             len: 0,
-            step: ROOM,
+            write_size: ROOM,
             writes_left: u32::MAX,
             can_flush: true,
             is_flushed: true,
@@ -96,7 +96,7 @@ impl Write for FakeWriter {
         }
         self.writes_left -= 1;
         self.is_flushed = false;
-        let count = octets.len().min(self.step);
+        let count = octets.len().min(self.write_size);
         for octet in &octets[..count] {
             if self.len < ROOM {
                 self.kept[self.len] = *octet;

@@ -1,13 +1,12 @@
 use mir.Val.{SFits}
 use mir.Syntax.{w128}
 use Rattle.std.proofs.lemmas.Int.{to_z-of_z}
-use Rattle.std.proofs.Common.{rules, cond, ◌≡◌, length, MatchResult, subst, ap, sym, ◌∙◌}
+use Rattle.std.proofs.Common.{rules, ◌≡◌, length, MatchResult, subst, sym, ◌∙◌}
 use Rattle.std.proofs.lemmas.Result.{err_from_is_err_and}
 use Rattle.asn1_relay_core.specs.Writing.{octet_leaves, Adds, Refuses}
 use Rattle.asn1_relay_core.proofs.Writers.{number_at, no_truth, no_number, no_fields, uneven, refused_component, all_components}
 use Rattle.asn1_relay_core.proofs.Octets.{adds_truth}
 use Rattle.asn1_relay_core.proofs.coer.+write_value.Goals as goal
-use Rattle.asn1_relay_core.proofs.coer.+write_value.Goals.{then-truth, else-truth}
 
 pub returns-in_default : goal.returns-in_default
 returns-in_default t c = no_truth octet_leaves c.args.schema.now c.args.value.now c.in-Boolean.is c.in_default.not-Boolean
@@ -23,7 +22,7 @@ returns-then-len t c = uneven octet_leaves c.args.schema.now c.args.value.now c.
 
 pub returns-in_err-write_value-in-Sequence : goal.returns-in_err-write_value-in-Sequence
 returns-in_err-write_value-in-Sequence t c =
-    let p = err_from_is_err_and c.from_residual.result c.from_residual.ensures.1 in
+    let p = err_from_is_err_and c.from_residual-in_err-write_value-in-Sequence.result c.from_residual-in_err-write_value-in-Sequence.ensures.1 in
     let n : length c.deref-component-items.result.now ≡ length c.in-Sequence-value.values.items = c.deref-component-items.ensures.len ∙ sym c.len.ensures ∙ c.if-len.false ∙ c.len-in-Sequence.ensures ∙ c.in-Sequence-value.values.ok.0 in
     rw (p.1, p.2) (refused_component octet_leaves c.args.schema.now c.args.value.now c.in-Sequence.components c.in-Sequence-value.values c.deref-component-items.result.now c.loop-place.place c.component-item.result c.index.result.now c.args.octets.now.items c.loop-place.octets.items _ c.in-Sequence.is c.in-Sequence-value.is c.deref-component-items.ensures.value c.loop-place-test.true n c.component-item.is c.index.ensures c.loop-place.invariant c.in_err-write_value-in-Sequence.ensures)
 
@@ -40,8 +39,7 @@ returns-in-Integer-value t c =
     let done = simp to_z-of_z at c.write_integer.ensures in
     subst (λ o. MatchResult c.write_integer.result (λ x. Adds o c.args.octets.now.items c.write_integer.new.octets.items) (Refuses o)) (sym (number_at octet_leaves c.args.schema.now c.args.value.now c.in-Integer.low c.in-Integer.high c.in-Integer-value.number c.in-Integer.is c.in-Integer-value.is)) done
 
-pub returns-in-Ok : goal.returns-in-Ok
-returns-in-Ok t c =
-    adds_truth c.args.schema.now c.args.value.now c.in-Boolean-value.truth c.if-truth.push c.args.octets.now.items c.push.new.self.items c.in-Boolean.is c.in-Boolean-value.is
-    (elim c.if-truth.branch [ then-truth w ↦ w.push-is ∙ sym (ap (λ b. cond b 255 0) w.if-truth.true) | else-truth w ↦ w.push-is ∙ sym (ap (λ b. cond b 255 0) w.if-truth.false) ])
-    c.in-Ok.ensures.items
+pub returns-in_ok-push-in-Boolean : goal.returns-in_ok-push-in-Boolean
+returns-in_ok-push-in-Boolean t c =
+    adds_truth c.args.schema.now c.args.value.now c.in-Boolean-value.truth c.octet_of.result c.args.octets.now.items c.push.new.self.items c.in-Boolean.is c.in-Boolean-value.is
+    c.octet_of.ensures c.in_ok-push-in-Boolean.ensures.items

@@ -17,15 +17,15 @@ returns-in_default-value t c = no_number bit_leaves c.args.schema.now c.args.val
 pub returns-in_default-value-2 : goal.returns-in_default-value-2
 returns-in_default-value-2 t c = no_fields bit_leaves c.args.schema.now c.args.value.now c.in-Sequence.components c.in-Sequence.is c.in_default-value-2.not-Sequence
 
-pub returns-in-Ok : goal.returns-in-Ok
-returns-in-Ok t c = adds_bit c.args.schema.now c.args.value.now c.in-Boolean-value.truth c.from.result c.args.writer.now _ c.in-Boolean.is c.in-Boolean-value.is c.from.ensures c.in-Ok.ensures
+pub returns-in_ok-push_number-in-Boolean : goal.returns-in_ok-push_number-in-Boolean
+returns-in_ok-push_number-in-Boolean t c = adds_bit c.args.schema.now c.args.value.now c.in-Boolean-value.truth c.from.result c.args.writer.now _ c.in-Boolean.is c.in-Boolean-value.is c.from.ensures c.in_ok-push_number-in-Boolean.ensures
 
 pub returns-then-len : goal.returns-then-len
 returns-then-len t c = uneven bit_leaves c.args.schema.now c.args.value.now c.in-Sequence.components c.in-Sequence-value.values c.in-Sequence.is c.in-Sequence-value.is (λ e. c.if-len.true (c.len.ensures ∙ e ∙ sym c.len-in-Sequence.ensures))
 
 pub returns-in_err-write_value-in-Sequence : goal.returns-in_err-write_value-in-Sequence
 returns-in_err-write_value-in-Sequence t c =
-    let p = err_from_is_err_and c.from_residual.result c.from_residual.ensures.1 in
+    let p = err_from_is_err_and c.from_residual-in_err-write_value-in-Sequence.result c.from_residual-in_err-write_value-in-Sequence.ensures.1 in
     let n : length c.deref-component-items.result.now ≡ length c.in-Sequence-value.values.items = c.deref-component-items.ensures.len ∙ sym c.len.ensures ∙ c.if-len.false ∙ c.len-in-Sequence.ensures ∙ c.in-Sequence-value.values.ok.0 in
     rw (p.1, p.2) (refused_component bit_leaves c.args.schema.now c.args.value.now c.in-Sequence.components c.in-Sequence-value.values c.deref-component-items.result.now c.loop-place.place c.component-item.result c.index.result.now c.args.writer.now c.loop-place.writer _ c.in-Sequence.is c.in-Sequence-value.is c.deref-component-items.ensures.value c.loop-place-test.true n c.component-item.is c.index.ensures c.loop-place.invariant c.in_err-write_value-in-Sequence.ensures)
 

@@ -14,8 +14,8 @@ returns-then-number-low c =
       | then-number-low-via-else-number-low+then-high-number w ↦ let h : c.args.high <ℤ c.args.number = grind (arith, ints, w.if-high-number.true) in above_is_outside c.args.low c.args.high c.args.number h
     ])
 
-pub returns-in-Ok : goal.returns-in-Ok
-returns-in-Ok c =
+pub returns : goal.returns
+returns c =
     let low = c.ranges.low in
     let high = c.ranges.high in
     let number = c.ranges.number in
@@ -23,4 +23,4 @@ returns-in-Ok c =
     let k : c.args.number ≤ℤ c.args.high = grind (arith, ints, c.if-high-number.false) in
     let s = simp to_z-of_z at c.abs_diff.ensures in
     let o = simp to_z-of_z at c.abs_diff-offset.ensures in
-    adds_offset c.args.low c.args.high c.args.number c.abs_diff.result c.abs_diff-offset.result c.width_of.result c.args.writer.now _ low high h k s o c.width_of.ensures.width c.in-Ok.ensures
+    adds_offset c.args.low c.args.high c.args.number c.abs_diff.result c.abs_diff-offset.result c.width_of.result c.args.writer.now _ low high h k s o c.width_of.ensures.width c.in_ok-push_number.ensures
