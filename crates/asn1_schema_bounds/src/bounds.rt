@@ -8,9 +8,10 @@ ghost use Rattle.std.specs.Int.{w128};
 ghost use Rattle.std.specs.Option.{option_copied, ForSome};
 ghost use Rattle.asn1_model.specs.Numbers.{is_at_most, is_within, is_count_within};
 ghost use Rattle.asn1_schema_bounds.specs.Bounds.{lower, upper, range_of, counts_of, IsSpan, counted, later, earlier, between, meet, common, CanOffset, CanOffsetCount, effective, effective_count, admits_number, admits_count, are_admitting};
+ghost use Rattle.asn1_schema_bounds.specs.Texts.{bounds_text};
 
+use asn1_values_integer_types::IntegerType;
 use asn1_values_natives::Wide;
-use asn1_values_numbers::IntegerType;
 use std::fmt;
 
 /// Bounds of a number (X.680 51.4): none, the one value, or a range, each end of which may be missing.
@@ -63,7 +64,7 @@ impl<T> Bounded<T> {
     pub fn single_value(value: T) -> Self
         ensures { result ≡ Bounded.Single value }
     {
-        Bounded::Single(value)
+        Self::Single(value)
     }
 
     /// The values from one to another.
@@ -397,6 +398,8 @@ impl Bounded<usize> {
 }
 
 impl<T: fmt::Display> fmt::Display for Bounded<T> {
+    ghost output = { bounds_text T.output };
+
     fn fmt<W: fmt::Write>(&self, f: &mut fmt::Formatter<W>) -> fmt::Result {
         match self {
             Bounded::None => f.write_str(".."),

@@ -1,6 +1,7 @@
 //! Constraints on values and sizes (X.680 clauses 50 to 52).
 #![tactic(auto)]
 
+pub mod conversions;
 pub mod extensions;
 pub mod laws;
 pub mod lists;

@@ -109,3 +109,40 @@ fn a_mark_of_either_stands(rt: HostRuntime) {
     assert_eq!(rt; opened.intersect(Constraints::NONE), opened);
     assert_eq!(rt; opened.value().unwrap().extensible.unwrap().len(), 1);
 }
+
+#[test]
+fn bounds_of_native_numbers(rt: HostRuntime) {
+    let wanted = Value::new(Bounded::const_new(5, 10));
+    assert_eq!(rt; Value::from(Bounded::<u8>::const_new(5, 10)), wanted);
+    assert_eq!(rt; Value::from(Bounded::<u16>::const_new(5, 10)), wanted);
+    assert_eq!(rt; Value::from(Bounded::<u32>::const_new(5, 10)), wanted);
+    assert_eq!(rt; Value::from(Bounded::<i8>::const_new(5, 10)), wanted);
+    assert_eq!(rt; Value::from(Bounded::<i16>::const_new(5, 10)), wanted);
+    assert_eq!(rt; Value::from(Bounded::<i32>::const_new(5, 10)), wanted);
+    assert_eq!(rt; Value::from(Bounded::<isize>::const_new(5, 10)), wanted);
+    assert_eq!(rt; Value::from(Bounded::<i128>::const_new(5, 10)), wanted);
+    assert_eq!(rt;
+        Value::from(Bounded::single_value(u64::MAX)),
+        Value::new(Bounded::Single(18446744073709551615))
+    );
+    assert_eq!(rt;
+        Value::from(Bounded::start_from(i64::MIN)),
+        Value::new(Bounded::start_from(-9223372036854775808))
+    );
+    assert_eq!(rt; Value::from(Bounded::<u8>::None), Value::new(Bounded::None));
+}
+
+#[test]
+fn bounds_of_counts_and_wide_numbers(rt: HostRuntime) {
+    let count = Value::try_from(Bounded::<usize>::up_to(usize::MAX));
+    assert_eq!(rt;
+        count.ok(),
+        Some(Value::new(Bounded::up_to(18446744073709551615)))
+    );
+    let low = Value::try_from(Bounded::<u128>::start_from(3));
+    assert_eq!(rt; low.ok(), Some(Value::new(Bounded::start_from(3))));
+    let greatest = Value::try_from(Bounded::<u128>::single_value(i128::MAX as u128));
+    assert_eq!(rt; greatest.ok(), Some(Value::new(Bounded::Single(i128::MAX))));
+    assert!(rt; Value::try_from(Bounded::<u128>::const_new(0, u128::MAX)).is_err());
+    assert!(rt; Value::try_from(Bounded::single_value(1u128 << 127)).is_err());
+}

@@ -6,11 +6,12 @@ ghost use Rattle.asn1_schema_presented.specs.Tables.{sequence_type};
 ghost use Rattle.asn1_schema_presented.proofs.Values.{type_sequence, value_sequence};
 
 use asn1_schema_constraints::Constraints;
+use asn1_schema_decode::{Decode, DecodeSequence, Decoder};
+use asn1_schema_encode::{Encode, EncodeSequence, Encoder};
 use asn1_schema_faults::{DecodeError, EncodeError};
 use asn1_schema_tags::Tag;
-use asn1_schema_traits::{
-    AsnType, ComponentsOf, Decode, DecodeSequence, Decoder, Described, Encode, EncodeSequence,
-    Encoder, End, Optional, OptionalComponent, Required, RequiredComponent,
+use asn1_schema_types::{
+    AsnType, ComponentsOf, Described, End, Optional, OptionalComponent, Required, RequiredComponent,
 };
 use std::alloc::Global;
 

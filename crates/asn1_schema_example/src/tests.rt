@@ -1,8 +1,8 @@
 //! The example through the codec that keeps records.
 use crate::setting::Setting;
+use asn1_schema_encode::{Encode, Encoder};
 use asn1_schema_faults::CodecKind;
 use asn1_schema_records::RecordEncoder;
-use asn1_schema_traits::{Encode, Encoder};
 
 #[test]
 fn a_setting_is_written(rt: HostRuntime) {

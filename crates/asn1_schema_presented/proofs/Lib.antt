@@ -3,3 +3,4 @@ pub mod OneValue
 pub mod Values
 pub mod Same
 pub mod TypesByKind
+pub mod Joined

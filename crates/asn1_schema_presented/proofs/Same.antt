@@ -1,7 +1,7 @@
 -- A value is equal to itself.
-use Rattle.std.proofs.Common.{rules, arith, ◌≡◌, ℕ, ℤ, pos, negsuc, Bool, true, false, cond, List, [], ◌∷◌, refl}
-use Rattle.std.specs.Prelude.{◌&&◌, ◌==◌}
-use Rattle.asn1_model.specs.Value.{Value, truth, nothing, number, item, bit_list, octet_list, text, arcs, members, bag, fields, chosen, Values, no_more, member, Parts, end, absent, present, same, same_members, same_bag, same_parts, same_truth, same_number, same_list, taken_out, with_rest}
+use Rattle.std.proofs.Common.{rules, arith, ◌≡◌, ℕ, ℤ, pos, negsuc, Bool, true, false, List, [], ◌∷◌, refl}
+use Rattle.std.specs.Prelude.{◌==◌}
+use Rattle.asn1_model.specs.Value.{Value, truth, nothing, number, item, bit_list, octet_list, text, arcs, members, bag, fields, chosen, Values, no_more, member, Parts, end, absent, present, same, same_members, same_bag, same_parts, same_truth, same_number, same_list}
 
 same_truth_self : (b : Bool) → same_truth b b ≡ true
 same_truth_self true = refl

@@ -1,13 +1,12 @@
 -- Types and values put together of those of their parts.
-use Rattle.std.proofs.Common.{◌≡◌, ℕ, ◌≤◌, ◌+◌, zero, suc, Bool, true, false, cond, List, [], ◌∷◌, ◌++◌, Option, Some, None, refl, subst, sym, ◌∙◌, ap, arith}
-use Rattle.std.specs.Prelude.{◌||◌, ◌&&◌, not, max}
+use Rattle.std.proofs.Common.{◌≡◌, ℕ, ◌≤◌, ◌+◌, zero, suc, Bool, true, false, cond, List, ◌++◌, Option, Some, None, refl, sym, ◌∙◌, ap, arith}
+use Rattle.std.specs.Prelude.{◌||◌, max}
 use Rattle.std.proofs.lemmas.Bool.{and_parts}
 use Rattle.std.proofs.Math.Nat.{le-max_left, le-max_right}
-use Rattle.asn1_model.specs.Value.{Value, fields, Parts, end, absent, present, depth, depth_of_parts, same}
-use Rattle.asn1_model.specs.Schema.{Tag, Presence, required, optional, by_default, Schema, cut, boolean, null, integer, enumerated, bit_string, octet_string, character_string, object_identifier, sequence_of, set_of, sequence, set, group, choice, Components, no_component, component}
-use Rattle.asn1_model.specs.Normal.{normal, normal_parts, kept, is_default_by, is_empty_group, is_at_default, is_group_left_out}
-use Rattle.asn1_model.specs.Lawful.{is_lawful, are_lawful, has_typed_default, has_normal_default, is_group, has_no_group, has_optional_groups, are_no_components, are_distinct, tag_same, component_tags, is_sequence_table}
-use Rattle.asn1_model.specs.Tables.{is_required}
+use Rattle.asn1_model.specs.Value.{Value, fields, Parts, end, depth, depth_of_parts, same}
+use Rattle.asn1_model.specs.Schema.{Tag, Presence, required, optional, by_default, Schema, sequence, group, Components, component}
+use Rattle.asn1_model.specs.Normal.{normal, normal_parts, kept, is_empty_group, is_at_default, is_group_left_out}
+use Rattle.asn1_model.specs.Lawful.{is_lawful, are_lawful, has_typed_default, has_normal_default, is_group, are_distinct, tag_same, component_tags}
 use Rattle.asn1_schema_presented.specs.Presents.{Part, left_out, there, with_part, Fits, PartFits, PartsFit}
 use Rattle.asn1_schema_presented.specs.Tables.{Fields, no_field, field, Table, no_table, with_field, components_at, field_tags, scope, sequence_type, are_tags, IsType, IsValue}
 use Rattle.asn1_schema_presented.specs.Parts.{part_of, part_unless, normal_part}

@@ -1,5 +1,5 @@
 -- How the states of a codec go.
-use Rattle.std.specs.Prelude.{◌≡◌, ℕ, List, [], ◌∷◌}
+use Rattle.std.specs.Prelude.{◌≡◌, List, [], ◌∷◌}
 use Rattle.asn1_schema_presented.specs.Records.{Record, question, told}
 
 -- The state goes from old to new by these records, one after another.

@@ -4,3 +4,5 @@ pub mod Tables
 pub mod Chains
 pub mod Parts
 pub mod Typed
+pub mod Laws
+pub mod Rows

@@ -1,5 +1,5 @@
 -- What a codec is told in one call: what the type says there, and what the value is.
-use Rattle.std.specs.Prelude.{ℕ, ℤ, Bool, List, [], ◌∷◌}
+use Rattle.std.specs.Prelude.{ℕ, ℤ, Bool, List}
 use Rattle.asn1_model.specs.Schema.{Tag, Range, Bounds, Counts, Size, Alphabet, StringKind}
 
 -- One call. A scalar comes with what the type says there and with its value; a tag leaves no octet in any of the rules but where it tells

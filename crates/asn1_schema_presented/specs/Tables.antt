@@ -1,6 +1,6 @@
 -- A type's schema, unfolded to any number of nested levels, is made of these.
-use Rattle.std.specs.Prelude.{◌≡◌, ◌≤◌, ℕ, zero, suc, Bool, true, false, cond, not, ◌&&◌, List, [], ◌∷◌, ◌++◌}
-use Rattle.asn1_model.specs.Value.{Value, Parts, depth}
+use Rattle.std.specs.Prelude.{◌≡◌, ◌≤◌, ℕ, zero, suc, Bool, true, false, cond, not, ◌&&◌, List, [], ◌++◌}
+use Rattle.asn1_model.specs.Value.{Value, depth}
 use Rattle.asn1_model.specs.Schema.{Tag, Size, Counts, Presence, Schema, cut, sequence_of, sequence, Components, no_component, component}
 use Rattle.asn1_model.specs.Normal.{normal}
 use Rattle.asn1_model.specs.Lawful.{is_lawful, is_group, is_empty, is_tag}

@@ -1,6 +1,6 @@
 -- Types and values of components.
-use Rattle.std.specs.Prelude.{◌≡◌, ◌≤◌, ℕ, max, Bool, true, false, ◌&&◌, ◌||◌}
-use Rattle.asn1_model.specs.Value.{Value, Parts, depth, depth_of_parts}
+use Rattle.std.specs.Prelude.{◌≡◌, ◌≤◌, ℕ, true, ◌&&◌, ◌||◌}
+use Rattle.asn1_model.specs.Value.{Parts, depth, depth_of_parts}
 use Rattle.asn1_model.specs.Schema.{Presence, Schema}
 use Rattle.asn1_model.specs.Normal.{normal_parts}
 use Rattle.asn1_model.specs.Lawful.{are_lawful, has_typed_default, has_normal_default, has_no_group, has_optional_groups, are_no_components}

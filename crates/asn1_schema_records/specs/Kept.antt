@@ -1,15 +1,16 @@
--- What the plain codec keeps: the records themselves, without what the program's types hold and without counts of members.
-use Rattle.std.specs.Prelude.{◌≡◌, ◌+◌, ◌<◌, ◌^◌, ◌||◌, ℕ, Bool, true, false, List, [], ◌∷◌, ◌++◌, Option, Some, None}
-use Rattle.asn1_model.specs.Schema.{Range, Bounds, Counts, Size}
+-- What the plain codec keeps: the records themselves, without what the program's types hold, without counts of members, and of character
+-- strings without their kind and alphabet.
+use Rattle.std.specs.Prelude.{◌≡◌, ◌+◌, ◌<◌, ◌^◌, ◌||◌, ℕ, Bool, true, false, List, [], ◌∷◌, ◌++◌, Option, Some, None, length}
+use Rattle.asn1_model.specs.Schema.{Range, Bounds, Counts, Size, Alphabet, utf8}
 use Rattle.asn1_model.specs.Numbers.{is_within, is_count_within}
 use Rattle.asn1_schema_faults.specs.declared.CodecKind.{CodecKind}
 use Rattle.asn1_schema_faults.specs.declared.EncodeError.{EncodeError}
 use Rattle.asn1_schema_faults.specs.declared.EncodeError.TheVariants.{OutOfMemory}
-use Rattle.asn1_schema_presented.specs.Records.{Record, Question, question, flag, nil, whole, list_begins, bag_begins, further, sequence_begins, mark, is_default, ends, asks_list, asks_bag, asks_sequence, asks_set, asks_group, asks_choice, asks_end}
+use Rattle.asn1_schema_presented.specs.Records.{Record, Question, question, flag, nil, whole, bits, octets, characters, identifier, list_begins, bag_begins, further, sequence_begins, mark, is_default, ends, asks_list, asks_bag, asks_sequence, asks_set, asks_group, asks_choice, asks_end}
 use Rattle.asn1_schema_records.specs.declared.items.Limits.{Limits}
 use Rattle.asn1_schema_records.specs.declared.items.Sizes.{Sizes}
 use Rattle.asn1_schema_records.specs.declared.items.Item.{Item}
-use Rattle.asn1_schema_records.specs.declared.items.Item.TheVariants.{Flag, Null, Integer, ListBegins, Further, SequenceBegins, Mark, IsDefault, Ends}
+use Rattle.asn1_schema_records.specs.declared.items.Item.TheVariants.{Flag, Null, Integer, Bits, Octets, Characters, Identifier, ListBegins, Further, SequenceBegins, Mark, IsDefault, Ends}
 
 -- Bounds, as the model has them.
 abbrev pub bounds_in : Limits → Bounds
@@ -25,9 +26,15 @@ any_number = record { low = None; high = None }
 abbrev pub any_count : Counts
 any_count = record { low = 0; high = None }
 
+abbrev pub any_alphabet : Alphabet
+any_alphabet = record { characters = None; extensible = false }
+
 -- A record without what the program's type holds, and without the count of members.
 abbrev pub kept : Record → Record
 kept (whole b h v) = whole b any_number v
+kept (bits z h bs) = bits z any_count bs
+kept (octets z h os) = octets z any_count os
+kept (characters k z a h cs) = characters utf8 z any_alphabet any_count cs
 kept (list_begins z h n) = list_begins z any_count 0
 kept (bag_begins z h n) = bag_begins z any_count 0
 kept r = r
@@ -37,6 +44,10 @@ abbrev pub record_of : Item → Record
 record_of (Flag b) = flag b
 record_of Null = nil
 record_of (Integer l v) = whole (bounds_in l) any_number v
+record_of (Bits z b) = bits (sizes_in z) any_count b
+record_of (Octets z o) = octets (sizes_in z) any_count o.items
+record_of (Characters z c) = characters utf8 (sizes_in z) any_alphabet any_count c.items
+record_of (Identifier i) = identifier i
 record_of (ListBegins z) = list_begins (sizes_in z) any_count 0
 record_of (Further b) = further b
 record_of (SequenceBegins e n) = sequence_begins e n
@@ -75,6 +86,8 @@ Levels q old new = new ≡ old
 -- The program's type holds what is found, and bounds without a mark admit it.
 abbrev pub IsHeld : Record → Type 0
 IsHeld (whole b h v) = (is_within h v ≡ true) × ((b.extensible || is_within b.range v) ≡ true)
+IsHeld (bits z h bs) = is_count_within h (length bs) ≡ true
+IsHeld (octets z h os) = is_count_within h (length os) ≡ true
 IsHeld (list_begins z h n) = is_count_within h n ≡ true
 IsHeld (bag_begins z h n) = is_count_within h n ≡ true
 IsHeld r = Unit {0}

@@ -1,7 +1,7 @@
 -- The laws of the plain codec.
 use Rattle.std.proofs.Common.{◌≡◌, ℕ, ◌+◌, Bool, true, false, List, [], ◌∷◌, ◌++◌, refl, sym, ◌∙◌, subst, ap, arith}
 use Rattle.asn1_schema_faults.specs.declared.CodecKind.{CodecKind}
-use Rattle.asn1_schema_presented.specs.Records.{Record, Question, question, told, flag, nil, whole, one_of, bits, octets, characters, identifier, list_begins, bag_begins, further, sequence_begins, set_begins, group_begins, mark, is_default, is_empty, additions_begin, addition, addition_ends, choice_begins, ends, mismatch, asks_list, asks_bag, asks_sequence, asks_set, asks_group, asks_choice, asks_end, asks_whole}
+use Rattle.asn1_schema_presented.specs.Records.{Record, Question, question, told, flag, nil, whole, one_of, bits, octets, characters, identifier, list_begins, bag_begins, further, sequence_begins, set_begins, group_begins, mark, is_default, is_empty, additions_begin, addition, addition_ends, choice_begins, ends, mismatch, asks_list, asks_bag, asks_sequence, asks_set, asks_group, asks_choice, asks_end, asks_whole, asks_bits, asks_octets, asks_characters}
 use Rattle.asn1_schema_records.specs.Kept.{Written, Puts, Left, Takes, Levels, kept}
 
 pub puts_one : (a : Written) (r : Record) (b c : Written) → Puts a r b → Puts a r c → b ≡ c
@@ -16,6 +16,9 @@ puts_same a r b p = ap (λ (w : Written). w.rules) p.1
 -- what a decoder is told, by what it asks for and what is kept
 rebuilt : Question → Record → Record
 rebuilt (asks_whole b h) (whole b' h' v) = whole b h v
+rebuilt (asks_bits z h) (bits z' h' bs) = bits z h bs
+rebuilt (asks_octets z h) (octets z' h' os) = octets z h os
+rebuilt (asks_characters k z a h) (characters k' z' a' h' cs) = characters k z a h cs
 rebuilt (asks_list z h) k = list_begins z h 0
 rebuilt (asks_bag z h) k = bag_begins z h 0
 rebuilt q k = k
@@ -23,6 +26,9 @@ rebuilt q k = k
 told_is : (r : Record) → told r ≡ rebuilt (question r) (kept r)
 unfolding rebuilt
 told_is (whole b h v) = refl
+told_is (bits z h bs) = refl
+told_is (octets z h os) = refl
+told_is (characters k z a h cs) = refl
 told_is (list_begins z h n) = refl
 told_is (bag_begins z h n) = refl
 told_is r = refl

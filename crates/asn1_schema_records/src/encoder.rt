@@ -2,16 +2,21 @@
 ghost use Rattle.std.specs.Prelude.{◌≡◌, ◌++◌, [], ◌∷◌, true, false, map, OnOk, OnErr, IfErr, IfOk};
 ghost use Rattle.asn1_schema_presented.specs.Records.{Record};
 ghost use Rattle.asn1_schema_records.specs.Kept.{record_of, kept, Puts, Refusal};
-ghost use Rattle.asn1_schema_traits.specs.Writes.{Refused};
+ghost use Rattle.asn1_schema_encode.specs.Writes.{Refused};
 
 use crate::items::{Item, Limits, Sizes};
 use asn1_schema_bounds::Bounded;
 use asn1_schema_constraints::Constraints;
+use asn1_schema_encode::Encoder;
 use asn1_schema_faults::{CodecKind, EncodeError};
 use asn1_schema_tags::{Identifier, Tag};
-use asn1_schema_traits::Encoder;
-use asn1_values_numbers::{Integer, IntegerError, IntegerType};
-use std::alloc::Global;
+use asn1_values_alphabets::StaticPermittedAlphabet;
+use asn1_values_bit_strings::BitString;
+use asn1_values_bits::BitStr;
+use asn1_values_identifiers::{ObjectIdentifier, Oid};
+use asn1_values_integer_types::IntegerType;
+use asn1_values_numbers::{Integer, IntegerError};
+use std::alloc::{AllocError, Global};
 use std::marker::Model;
 
 /// An encoder that keeps the records.
@@ -123,6 +128,72 @@ impl Encoder for RecordEncoder {
         }
     }
 
+    fn encode_bit_string(
+        &mut self,
+        _tag: Tag,
+        constraints: Constraints,
+        _held: Bounded<usize>,
+        value: BitStr,
+        _identifier: Identifier,
+    ) -> Result<(), EncodeError> {
+        match BitString::from_bitslice(self.alloc, value) {
+            Ok(bits) => self.put(Item::Bits(Sizes::among(constraints), bits)),
+            Err(_) => self.fail(),
+        }
+    }
+
+    fn encode_octet_string(
+        &mut self,
+        _tag: Tag,
+        constraints: Constraints,
+        _held: Bounded<usize>,
+        value: &[u8],
+        _identifier: Identifier,
+    ) -> Result<(), EncodeError> {
+        match Vec::from_slice(self.alloc, value) {
+            Ok(octets) => self.put(Item::Octets(Sizes::among(constraints), octets)),
+            Err(_) => self.fail(),
+        }
+    }
+
+    fn encode_utf8_string(
+        &mut self,
+        _tag: Tag,
+        constraints: Constraints,
+        value: &str,
+        _identifier: Identifier,
+    ) -> Result<(), EncodeError> {
+        match widened(self.alloc, value.as_bytes()) {
+            Ok(octets) => self.put(Item::Characters(Sizes::among(constraints), octets)),
+            Err(_) => self.fail(),
+        }
+    }
+
+    fn encode_characters<S: StaticPermittedAlphabet>(
+        &mut self,
+        _tag: Tag,
+        constraints: Constraints,
+        value: &S,
+        _identifier: Identifier,
+    ) -> Result<(), EncodeError> {
+        match characters_of(self.alloc, value) {
+            Ok(characters) => self.put(Item::Characters(Sizes::among(constraints), characters)),
+            Err(_) => self.fail(),
+        }
+    }
+
+    fn encode_object_identifier(
+        &mut self,
+        _tag: Tag,
+        value: Oid,
+        _identifier: Identifier,
+    ) -> Result<(), EncodeError> {
+        match ObjectIdentifier::from_oid(self.alloc, &value) {
+            Ok(identifier) => self.put(Item::Identifier(identifier)),
+            Err(_) => self.fail(),
+        }
+    }
+
     fn begin_list(
         &mut self,
         _tag: Tag,
@@ -167,4 +238,30 @@ fn number_of<I: IntegerType>(alloc: Global, value: &I) -> Result<Integer, Intege
 {
     let octets = value.to_signed_bytes_be();
     Integer::from_signed_octets(alloc, octets.as_slice())
+}
+
+// The octets of a text, each as a number.
+fn widened(alloc: Global, octets: &[u8]) -> Result<Vec<u32>, AllocError>
+    ensures { IfOk result (λ v. v.items ≡ octets.now) }
+{
+    let mut numbers = Vec::with_capacity(alloc, octets.len())?;
+    for octet in octets {
+        numbers.push(u32::from(*octet))?;
+    }
+    Ok(numbers)
+}
+
+// The characters of a string.
+fn characters_of<S: StaticPermittedAlphabet>(
+    alloc: Global,
+    string: &S,
+) -> Result<Vec<u32>, AllocError>
+    ensures { IfOk result (λ v. v.items ≡ S.characters string.now) }
+{
+    let count = string.char_count();
+    let mut characters = Vec::with_capacity(alloc, count)?;
+    for place in 0..count {
+        characters.push(string.char_at(place))?;
+    }
+    Ok(characters)
 }

@@ -4,6 +4,8 @@ ghost use Rattle.asn1_schema_constraints.specs.Terms.{bounds_of, sizes_of};
 ghost use Rattle.asn1_schema_records.specs.Kept.{bounds_in, sizes_in};
 
 use asn1_schema_constraints::Constraints;
+use asn1_values_bit_strings::BitString;
+use asn1_values_identifiers::ObjectIdentifier;
 use asn1_values_numbers::Integer;
 
 /// A value constraint (X.680 51.4), and whether a mark of extensibility follows it.
@@ -68,7 +70,7 @@ impl Sizes {
     }
 }
 
-/// A record, without what the program's type holds.
+/// A record, without what the program's type holds, and of a character string without its kind and its alphabet.
 #[derive(Debug, Drop)]
 pub enum Item {
     /// BOOLEAN.
@@ -77,6 +79,14 @@ pub enum Item {
     Null,
     /// INTEGER: its bounds, and the number.
     Integer(Limits, Integer),
+    /// BIT STRING: its size, and the bits.
+    Bits(Sizes, BitString),
+    /// OCTET STRING: its size, and the octets.
+    Octets(Sizes, Vec<u8>),
+    /// A character string: its size, and the characters, or the octets of UTF-8.
+    Characters(Sizes, Vec<u32>),
+    /// OBJECT IDENTIFIER.
+    Identifier(ObjectIdentifier),
     /// SEQUENCE OF begins: its size.
     ListBegins(Sizes),
     /// Whether a further member comes.

@@ -6,3 +6,6 @@ pub mod items;
 
 pub use encoder::RecordEncoder;
 pub use items::{Item, Limits, Sizes};
+
+#[cfg(test)]
+mod tests;

@@ -2,3 +2,4 @@ pub mod Tags
 pub mod Trees
 pub mod Plain
 pub mod Same
+pub mod Texts

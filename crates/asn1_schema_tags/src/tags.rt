@@ -1,8 +1,9 @@
 //! Tags and their classes (X.680 clause 8).
-ghost use Rattle.std.specs.Prelude.{◌≡◌, ◌≤◌, ◌↔◌, IsTrue};
+ghost use Rattle.std.specs.Prelude.{◌≡◌, ◌≤◌, ◌↔◌, IsTrue, Some};
 ghost use Rattle.std.specs.declared.cmp.Ordering.TheVariants.{Less, Equal, Greater};
 ghost use Rattle.asn1_model.specs.Lawful.{tag_less, tag_same};
 ghost use Rattle.asn1_schema_tags.specs.Tags.{class_number, tag_of};
+ghost use Rattle.asn1_schema_tags.specs.Texts.{class_text, tag_text};
 
 use std::cmp::Ordering;
 use std::fmt;
@@ -43,6 +44,8 @@ impl Class {
 }
 
 impl fmt::Display for Class {
+    ghost output = { λ c. Some (class_text c) };
+
     fn fmt<W: fmt::Write>(&self, f: &mut fmt::Formatter<W>) -> fmt::Result {
         match self {
             Class::Universal => write!(f, "UNIVERSAL"),
@@ -312,6 +315,8 @@ impl Tag {
 }
 
 impl fmt::Display for Tag {
+    ghost output = { λ t. Some (tag_text t) };
+
     fn fmt<W: fmt::Write>(&self, f: &mut fmt::Formatter<W>) -> fmt::Result {
         match self.class {
             Class::Context => write!(f, "[{}]", self.value),

@@ -147,3 +147,95 @@ fn a_leaf_is_no_choice(rt: HostRuntime) {
     let leaf = TagTree::Leaf(Tag::NULL);
     assert!(rt; leaf != choice);
 }
+
+#[test]
+fn universal_tags_have_their_numbers(rt: HostRuntime) {
+    let rows: [(Tag, u32); 35] = [
+        (Tag::EOC, 0),
+        (Tag::BOOL, 1),
+        (Tag::INTEGER, 2),
+        (Tag::BIT_STRING, 3),
+        (Tag::OCTET_STRING, 4),
+        (Tag::NULL, 5),
+        (Tag::OBJECT_IDENTIFIER, 6),
+        (Tag::OBJECT_DESCRIPTOR, 7),
+        (Tag::EXTERNAL, 8),
+        (Tag::REAL, 9),
+        (Tag::ENUMERATED, 10),
+        (Tag::EMBEDDED_PDV, 11),
+        (Tag::UTF8_STRING, 12),
+        (Tag::RELATIVE_OID, 13),
+        (Tag::TIME, 14),
+        (Tag::SEQUENCE, 16),
+        (Tag::SET, 17),
+        (Tag::NUMERIC_STRING, 18),
+        (Tag::PRINTABLE_STRING, 19),
+        (Tag::TELETEX_STRING, 20),
+        (Tag::VIDEOTEX_STRING, 21),
+        (Tag::IA5_STRING, 22),
+        (Tag::UTC_TIME, 23),
+        (Tag::GENERALIZED_TIME, 24),
+        (Tag::GRAPHIC_STRING, 25),
+        (Tag::VISIBLE_STRING, 26),
+        (Tag::GENERAL_STRING, 27),
+        (Tag::UNIVERSAL_STRING, 28),
+        (Tag::CHARACTER_STRING, 29),
+        (Tag::BMP_STRING, 30),
+        (Tag::DATE, 31),
+        (Tag::TIME_OF_DAY, 32),
+        (Tag::DATE_TIME, 33),
+        (Tag::DURATION, 34),
+        (Tag::CHOICE, 0),
+    ];
+    for (tag, number) in rows {
+        assert_eq!(rt; tag, Tag::new(Class::Universal, number));
+    }
+}
+
+#[test]
+fn types_have_their_names(rt: HostRuntime) {
+    let rows: [(Identifier, &str); 35] = [
+        (Identifier::BOOL, "BOOLEAN"),
+        (Identifier::INTEGER, "INTEGER"),
+        (Identifier::BIT_STRING, "BIT_STRING"),
+        (Identifier::OCTET_STRING, "OCTET_STRING"),
+        (Identifier::NULL, "NULL"),
+        (Identifier::OBJECT_IDENTIFIER, "OBJECT_IDENTIFIER"),
+        (Identifier::EXTERNAL, "EXTERNAL"),
+        (Identifier::ENUMERATED, "ENUMERATED"),
+        (Identifier::EMBEDDED_PDV, "EMBEDDED_PDV"),
+        (Identifier::UTF8_STRING, "UTF8String"),
+        (Identifier::RELATIVE_OID, "RELATIVE_OID"),
+        (Identifier::TIME, "TIME"),
+        (Identifier::SEQUENCE, "SEQUENCE"),
+        (Identifier::SET, "SET"),
+        (Identifier::NUMERIC_STRING, "NumericString"),
+        (Identifier::PRINTABLE_STRING, "PrintableString"),
+        (Identifier::TELETEX_STRING, "TeletexString"),
+        (Identifier::IA5_STRING, "IA5String"),
+        (Identifier::UTC_TIME, "UTCTime"),
+        (Identifier::GENERALIZED_TIME, "GeneralizedTime"),
+        (Identifier::GRAPHIC_STRING, "GraphicString"),
+        (Identifier::VISIBLE_STRING, "VisibleString"),
+        (Identifier::GENERAL_STRING, "GeneralString"),
+        (Identifier::BMP_STRING, "BMPString"),
+        (Identifier::DATE, "DATE"),
+        (Identifier::TIME_OF_DAY, "TIME_OF_DAY"),
+        (Identifier::DATE_TIME, "DATE_TIME"),
+        (Identifier::DURATION, "DURATION"),
+        (Identifier::CHOICE, "CHOICE"),
+        (Identifier::INSTANCE_OF, "INSTANCE_OF"),
+        (Identifier::IRI, "IRI"),
+        (Identifier::RELATIVE_IRI, "RELATIVE_IRI"),
+        (Identifier::SEQUENCE_OF, "SEQUENCE_OF"),
+        (Identifier::SET_OF, "SET_OF"),
+        (
+            Identifier::UNRESTRICTED_CHARACTER_STRING,
+            "UNRESTRICTED_CHARACTER_STRING",
+        ),
+    ];
+    for (identifier, name) in rows {
+        assert_eq!(rt; identifier.0, Some(name));
+    }
+    assert_eq!(rt; Identifier::EMPTY.0, None);
+}

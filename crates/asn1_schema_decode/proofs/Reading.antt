@@ -1,0 +1,187 @@
+-- How what a decoder finds is put together.
+use Rattle.std.proofs.Common.{◌≡◌, ℕ, ◌+◌, ◌<◌, zero, suc, Bool, true, false, cond, List, [], ◌∷◌, ◌++◌, Option, Some, None, refl, subst, sym, ◌∙◌, ap, arith}
+use Rattle.std.specs.Prelude.{◌||◌, not}
+use Rattle.asn1_model.specs.Value.{Value, fields, Parts, end, absent, present, same}
+use Rattle.asn1_model.specs.Schema.{Tag, Presence, required, optional, by_default, Schema, sequence, Components, no_component, component}
+use Rattle.asn1_model.specs.Normal.{normal, normal_parts, is_at_default, is_group_left_out}
+use Rattle.asn1_model.specs.Tables.{is_required}
+use Rattle.asn1_schema_faults.specs.declared.DecodeError.{DecodeError}
+use Rattle.asn1_schema_presented.specs.Records.{Record, sequence_begins, mark, is_default, ends, question, told, asks_sequence, asks_mark, asks_default, asks_end}
+use Rattle.asn1_schema_presented.specs.Presents.{Part, left_out, there, with_part, presents, part_records, noted, root_records, behind_root, added_records, optional_count, Fits, PartFits, PartsFit}
+use Rattle.asn1_schema_presented.specs.Parts.{part_of, part_unless, normal_part, tail_records, TailFits}
+use Rattle.asn1_schema_presented.specs.Tables.{Fields, no_field, field, Table, no_table, with_field, components_at, marks, scope, sequence_type, IsType, IsValue}
+use Rattle.asn1_schema_presented.specs.Chains.{Chain, OneRecord}
+use Rattle.asn1_schema_presented.proofs.Chains.{chain_append, chain_split}
+use Rattle.asn1_schema_presented.proofs.OneValue.{One, one_value, one_part, one_root, one_added}
+use Rattle.asn1_schema_presented.proofs.Values.{not_empty, normal_field, fits_field}
+use Rattle.asn1_schema_presented.proofs.Same.{same_self}
+use Rattle.asn1_schema_decode.specs.Reads.{NoRecord, NoLevel, Reads, Unread, ReadsPart, UnreadPart, ReadsTail, UnreadTail}
+use Rattle.asn1_schema_presented.proofs.Joined.{is_there, marks_at, tail_field, nothing_noted, there_records, marked_records}
+
+not_at_end : {S : Type 0} (step : S → Record → S → Type 0) (n : ℕ) (ps qs : Parts) (a b : S) → TailFits n no_table ps qs → Chain step (tail_records n no_table ps qs) a b → (c : S) × step a ends c
+unfolding components_at PartsFit root_records added_records
+not_at_end step n end end a b f p = (p.0, p.1)
+not_at_end step n end (present v qs) a b f p = absurd f.1
+not_at_end step n end (absent qs) a b f p = absurd f.1
+not_at_end step n (present v ps) qs a b f p = absurd f.0
+not_at_end step n (absent ps) qs a b f p = absurd f.0
+
+module _ {S : Type 0} {step : S → Record → S → Type 0} where
+  -- ---- one component
+  pub reads_required : {ts : List Tag} {s : ℕ → Schema} {n : ℕ} {v : Value} {a b : S} → IsType ts s → Reads step s n v a b → ReadsPart step required s n (there v) a b
+  reads_required {ts} {s} {n} {v} {a} {b} t h =
+      let g : is_group_left_out (s n) h.raw ≡ false = not_empty (s n) (normal (s n) h.raw) (t.no_group n) in
+      record {
+        raw = there h.raw;
+        fits = h.fits;
+        means = rw g (ap there h.means);
+        chain = subst (λ rs. Chain step rs a b) (sym (there_records required (s n) h.raw (nothing_noted required (s n) h.raw g refl))) h.chain;
+      }
+
+  pub unread_required : {ts : List Tag} {s : ℕ → Schema} {n : ℕ} {a : S} {x : DecodeError} → IsType ts s → Unread step s n a x → UnreadPart step required s n a x
+  unread_required {ts} {s} {n} {a} t h = record { none = λ w p b. elim p as (λ p. PartFits (λ v. Fits (s n) v) required p → Chain step (part_records (λ v. presents (s n) v) required (s n) p) a b → ⊥) [ left_out ↦ λ f q. let e : true ≡ false = f in cc | there v ↦ λ f q. h.none w v b f (subst (λ rs. Chain step rs a b) (there_records required (s n) v (nothing_noted required (s n) v (not_empty (s n) (normal (s n) v) (t.no_group n)) refl)) q) ] }
+
+  pub reads_left_out : (o : Presence) (s : ℕ → Schema) (n : ℕ) {a b : S} → is_required o ≡ false → step a (mark false) b → ReadsPart step o s n left_out a b
+  reads_left_out o s n {a} {b} r h = record { raw = left_out; fits = r; means = refl; chain = rw r (b, h, refl) }
+
+  pub reads_there : {ts : List Tag} (o : Presence) {s : ℕ → Schema} {n : ℕ} {v : Value} {a b c : S} → is_required o ≡ false → IsType ts s → step a (mark true) b → (r : Reads step s n v b c) → is_at_default o (s n) r.raw ≡ false → ReadsPart step o s n (there v) a c
+  reads_there o {s} {n} {v} {a} {b} {c} q t m h d =
+      let g : is_group_left_out (s n) h.raw ≡ false = not_empty (s n) (normal (s n) h.raw) (t.no_group n) in
+      record {
+        raw = there h.raw;
+        fits = h.fits;
+        means = rw (d, g) (ap there h.means);
+        chain = subst (λ rs. Chain step rs a c) (sym (marked_records o (s n) h.raw q (nothing_noted o (s n) h.raw g d))) (b, m, h.chain);
+      }
+
+  -- a default that is spelled out
+  pub reads_spelled : (o : Presence) {s : ℕ → Schema} {n : ℕ} {v : Value} {a b c d : S} → is_required o ≡ false → step a (mark true) b → (r : Reads step s n v b c) → is_at_default o (s n) r.raw ≡ true → step c is_default d → ReadsPart step o s n left_out a d
+  reads_spelled o {s} {n} {v} {a} {b} {c} {d} q m h e z = record {
+    raw = there h.raw;
+    fits = h.fits;
+    means = rw e refl;
+    chain = rw (q, e) (b, m, chain_append step (presents (s n) h.raw) (is_default ∷ []) b c d h.chain (d, z, refl));
+  }
+
+  pub unread_mark : (o : Presence) (s : ℕ → Schema) (n : ℕ) {a : S} {x : DecodeError} → is_required o ≡ false → NoRecord step asks_mark a x → UnreadPart step o s n a x
+  unread_mark o s n {a} r h = record { none = λ w p b. elim p as (λ p. PartFits (λ v. Fits (s n) v) o p → Chain step (part_records (λ v. presents (s n) v) o (s n) p) a b → ⊥) [ left_out ↦ λ f q. let q' : Chain step (mark false ∷ []) a b = rw r at q in h.none w (mark false) q'.0 refl q'.1 | there v ↦ λ f q. let q' : Chain step (mark true ∷ (presents (s n) v ++ noted o (s n) v)) a b = rw r at q in h.none w (mark true) q'.0 refl q'.1 ] }
+
+  -- ---- what is left of a sequence
+  pub reads_end : (n : ℕ) {a b : S} → step a ends b → ReadsTail step no_table n end end a b
+  unfolding components_at root_records added_records PartsFit normal_parts
+  reads_end n {a} {b} h = record { root = end; additions = end; fits = (tt, tt); means = refl; means_added = refl; chain = (b, h, refl) }
+
+  pub reads_field : (ts : List Tag) {o : Presence} {s : ℕ → Schema} {t : Table} {n : ℕ} {x : Part} {ps qs : Parts} {a b c : S} → ReadsPart step o s n x a b → ReadsTail step t n ps qs b c → ReadsTail step (with_field ts o s t) n (with_part x ps) qs a c
+  unfolding components_at
+  reads_field ts {o} {s} {t} {n} {x} {ps} {qs} {a} {b} {c} h k = record {
+    root = with_part h.raw k.root;
+    additions = k.additions;
+    fits = (fits_field ts o (s n) (components_at n t.root) h.raw k.root h.fits k.fits.0, k.fits.1);
+    means = normal_field ts o (s n) (components_at n t.root) h.raw k.root ∙ ap (λ y. with_part y (normal_parts (components_at n t.root) k.root)) h.means ∙ ap (λ rs. with_part x rs) k.means;
+    means_added = k.means_added;
+    chain = subst (λ rs. Chain step rs a c) (sym (tail_field n ts o s t h.raw k.root k.additions)) (chain_append step _ _ a b c h.chain k.chain);
+  }
+
+  pub reads_sequence : (t : Table) {x : Bool} {k : ℕ} {ps qs : Parts} {m n : ℕ} {a b c : S} → k ≡ marks t.root → t.extensible ≡ x → m ≡ n + 1 → step a (sequence_begins x k) b → ReadsTail step t n ps qs b c → Reads step (sequence_type t) m (fields ps qs) a c
+  unfolding sequence_type scope presents Fits normal
+  reads_sequence t {x} {k} {ps} {qs} {m} {n} {a} {b} {c} e f l h r =
+      let h' = subst (λ (y : Bool). step a (sequence_begins y k) b) (sym f) h in
+      let y : Reads step (sequence_type t) (suc n) (fields ps qs) a c = record {
+        raw = fields r.root r.additions;
+        fits = r.fits;
+        means = ap (λ xs. fields xs (normal_parts (components_at n t.additions) r.additions)) r.means ∙ ap (λ xs. fields ps xs) r.means_added;
+        chain = (b, subst (λ (i : ℕ). step a (sequence_begins t.extensible i) b) (e ∙ sym (marks_at n t.root)) h', r.chain);
+      } in
+      subst (λ (i : ℕ). Reads step (sequence_type t) i (fields ps qs) a c) (let z : suc n ≡ m = omega arith in z) y
+
+  pub unread_end : (n : ℕ) {a : S} {x : DecodeError} → NoRecord step asks_end a x → UnreadTail step no_table n a x
+  unread_end n {a} h = record { none = λ w ps qs b f p. let t = not_at_end step n ps qs a b f p in h.none w ends t.0 refl t.1 }
+
+  -- parts, and what they are made of
+  parts_of : (n : ℕ) (ts : List Tag) (o : Presence) (s : ℕ → Schema) (t : Table) (ps qs : Parts) (a c : S) → TailFits n (with_field ts o s t) ps qs → Chain step (tail_records n (with_field ts o s t) ps qs) a c → (x : Part) × (rs : Parts) × (m : S) × PartFits (λ v. Fits (s n) v) o x × TailFits n t rs qs × Chain step (part_records (λ v. presents (s n) v) o (s n) x) a m × Chain step (tail_records n t rs qs) m c
+  unfolding components_at PartsFit root_records
+  parts_of n ts o s t end qs a c f p = absurd f.0
+  parts_of n ts o s t (absent ps) qs a c f p = let d = chain_split step (part_records (λ v. presents (s n) v) o (s n) left_out) (tail_records n t ps qs) a c p in (left_out, ps, d.0, f.0.0, (f.0.1, f.1), d.1, d.2)
+  parts_of n ts o s t (present v ps) qs a c f p = let d = chain_split step (part_records (λ v. presents (s n) v) o (s n) (there v)) (tail_records n t ps qs) a c p in (there v, ps, d.0, f.0.0, (f.0.1, f.1), d.1, d.2)
+
+  pub unread_field_here : (ts : List Tag) {o : Presence} {s : ℕ → Schema} (t : Table) {n : ℕ} {a : S} {x : DecodeError} → UnreadPart step o s n a x → UnreadTail step (with_field ts o s t) n a x
+  unread_field_here ts {o} {s} t {n} {a} h = record { none = λ w ps qs c f p. let d = parts_of n ts o s t ps qs a c f p in h.none w d.0 d.2 d.3 d.5 }
+
+  pub unread_sequence_here : (t : Table) {x : Bool} {k : ℕ} (m : ℕ) {a : S} {y : DecodeError} → k ≡ marks t.root → t.extensible ≡ x → NoLevel step (asks_sequence x k) m a y → Unread step (sequence_type t) m a y
+  unfolding sequence_type scope presents Fits
+  unread_sequence_here t zero e f h = record { none = λ w v c g p. g }
+  unread_sequence_here t {x} {k} (suc n) {a} e f h = record { none = λ w v c. elim v as (λ v. Fits (sequence (components_at n t.root) t.extensible (components_at n t.additions)) v → Chain step (presents (sequence (components_at n t.root) t.extensible (components_at n t.additions)) v) a c → ⊥) [ fields ps qs ↦ λ g p. h.none w (let z : 0 < suc n = omega arith in z) _ p.0 (ap (λ i. asks_sequence t.extensible i) (marks_at n t.root ∙ sym e) ∙ ap (λ i. asks_sequence i k) f) p.1 | _ ↦ λ g p. g ] }
+
+  module _ (one : OneRecord step) where
+    -- where a component ends
+    pub unread_marked : (o : Presence) {s : ℕ → Schema} {n : ℕ} {a b : S} {x : DecodeError} → is_required o ≡ false → step a (mark true) b → Unread step s n b x → UnreadPart step o s n a x
+    unread_marked o {s} {n} {a} {b} r m h = record {
+      none = λ w p c. elim p as (λ p. PartFits (λ v. Fits (s n) v) o p → Chain step (part_records (λ v. presents (s n) v) o (s n) p) a c → ⊥) [
+        | left_out ↦ λ f q. let q' : Chain step (mark false ∷ []) a c = rw r at q in let e : mark false ≡ mark true = (one a (mark false) (mark true) q'.0 b refl q'.1 m).0 in cc
+        | there v ↦ λ f q. let q' : Chain step (mark true ∷ (presents (s n) v ++ noted o (s n) v)) a c = rw r at q in
+            let e = (one a (mark true) (mark true) q'.0 b refl q'.1 m).1 in
+            let d = chain_split step (presents (s n) v) (noted o (s n) v) b c (subst (λ (z : S). Chain step (presents (s n) v ++ noted o (s n) v) z c) e q'.2) in
+            h.none w v d.0 f d.1
+      ];
+    }
+
+    -- a default that may not be spelled out
+    pub unread_spelled : (o : Presence) {s : ℕ → Schema} {n : ℕ} {v : Value} {a b c : S} {x : DecodeError} → is_required o ≡ false → step a (mark true) b → (r : Reads step s n v b c) → is_at_default o (s n) r.raw ≡ true → NoRecord step asks_default c x → UnreadPart step o s n a x
+    unread_spelled o {s} {n} {v} {a} {b} {c} r m h e u = record {
+      none = λ w p d. elim p as (λ p. PartFits (λ v. Fits (s n) v) o p → Chain step (part_records (λ v. presents (s n) v) o (s n) p) a d → ⊥) [
+        | left_out ↦ λ f q. let q' : Chain step (mark false ∷ []) a d = rw r at q in let z : mark false ≡ mark true = (one a (mark false) (mark true) q'.0 b refl q'.1 m).0 in cc
+        | there y ↦ λ f q. let q' : Chain step (mark true ∷ (presents (s n) y ++ noted o (s n) y)) a d = rw r at q in
+            let i = (one a (mark true) (mark true) q'.0 b refl q'.1 m).1 in
+            let j = chain_split step (presents (s n) y) (noted o (s n) y) b d (subst (λ (z : S). Chain step (presents (s n) y ++ noted o (s n) y) z d) i q'.2) in
+            let k = one_value one (s n) y h.raw b j.0 c f h.fits j.1 h.chain in
+            let l = subst (λ (z : S). Chain step (noted o (s n) y) z d) k.1 j.2 in
+            let l' : Chain step (noted o (s n) h.raw) c d = subst (λ (z : Value). Chain step (noted o (s n) z) c d) k.0 l in
+            let l'' : Chain step (is_default ∷ []) c d = rw e at l' in
+            u.none w is_default l''.0 refl l''.1
+      ];
+    }
+
+    pub unread_field : (ts : List Tag) {o : Presence} {s : ℕ → Schema} {t : Table} {n : ℕ} {x : Part} {a b : S} {y : DecodeError} → ReadsPart step o s n x a b → UnreadTail step t n b y → UnreadTail step (with_field ts o s t) n a y
+    unread_field ts {o} {s} {t} {n} {x} {a} {b} h k = record {
+      none = λ w ps qs c f p.
+          let d = parts_of n ts o s t ps qs a c f p in
+          let e = one_part one o (s n) (one_value one (s n)) d.0 h.raw a d.2 b d.3 h.fits d.5 h.chain in
+          k.none w d.1 qs c d.4 (subst (λ (z : S). Chain step (tail_records n t d.1 qs) z c) e.1 d.6);
+    }
+
+    pub unread_sequence : (t : Table) {x : Bool} {k : ℕ} {m n : ℕ} {a b : S} {y : DecodeError} → k ≡ marks t.root → t.extensible ≡ x → m ≡ n + 1 → step a (sequence_begins x k) b → UnreadTail step t n b y → Unread step (sequence_type t) m a y
+    unfolding sequence_type scope presents Fits
+    unread_sequence t {x} {k} {m} {n} {a} {b} {y} e f l h u =
+        let r : Unread step (sequence_type t) (suc n) a y = record { none = λ w v c. elim v as (λ v. Fits (sequence (components_at n t.root) t.extensible (components_at n t.additions)) v → Chain step (presents (sequence (components_at n t.root) t.extensible (components_at n t.additions)) v) a c → ⊥) [ fields ps qs ↦ λ g p. u.none w ps qs c g (subst (λ (z : S). Chain step (tail_records n t ps qs) z c) (one a (sequence_begins t.extensible (optional_count (components_at n t.root))) (sequence_begins x k) p.0 b (ap (λ i. asks_sequence t.extensible i) (marks_at n t.root ∙ sym e) ∙ ap (λ i. asks_sequence i k) f) p.1 h).1 p.2) | _ ↦ λ g p. g ] } in
+        subst (λ (i : ℕ). Unread step (sequence_type t) i a y) (let z : suc n ≡ m = omega arith in z) r
+
+-- a value that is read where there may be a default: whether it is equal to this
+pub at_default : {S : Type 0} {step : S → Record → S → Type 0} {s : ℕ → Schema} {n : ℕ} {v d : Value} {a b : S} {e : Bool} → IsValue s d → e ≡ same v d → (r : Reads step s n v a b) → is_at_default (by_default d) (s n) r.raw ≡ e
+at_default k h r = rw (r.means, k.normal _) (sym h)
+
+-- the default where it is left out, what is read and is not equal to it, and what is spelled out
+module _ {S : Type 0} {step : S → Record → S → Type 0} {s : ℕ → Schema} {n : ℕ} {d : Value} where
+  pub reads_default : {v : Value} {a b : S} → v ≡ d → step a (mark false) b → ReadsPart step (by_default d) s n (part_unless (same v d) v) a b
+  reads_default {v} {a} {b} e h = rw (e, same_self d) (reads_left_out (by_default d) s n refl h)
+
+  pub reads_other : {ts : List Tag} {v : Value} {a b c : S} {e : Bool} → IsType ts s → IsValue s d → e ≡ same v d → e ≡ false → step a (mark true) b → Reads step s n v b c → ReadsPart step (by_default d) s n (part_unless (same v d) v) a c
+  reads_other t k h f m r = rw (sym h ∙ f) (reads_there (by_default d) refl t m r (at_default k h r ∙ f))
+
+  pub reads_equal : {v : Value} {a b c x : S} {e : Bool} → IsValue s d → e ≡ same v d → e ≡ true → step a (mark true) b → Reads step s n v b c → step c is_default x → ReadsPart step (by_default d) s n (part_unless (same v d) v) a x
+  reads_equal k h f m r z = rw (sym h ∙ f) (reads_spelled (by_default d) refl m r (at_default k h r ∙ f) z)
+
+  pub unread_equal : OneRecord step → {v : Value} {a b c : S} {e : Bool} {x : DecodeError} → IsValue s d → e ≡ same v d → e ≡ true → step a (mark true) b → Reads step s n v b c → NoRecord step asks_default c x → UnreadPart step (by_default d) s n a x
+  unread_equal one k h f m r u = unread_spelled one (by_default d) refl m r (at_default k h r ∙ f) u
+
+-- another spelling of the same type
+pub reads_as : {S : Type 0} {step : S → Record → S → Type 0} (s t : ℕ → Schema) {n : ℕ} {v : Value} {a b : S} → ((n : ℕ) → t n ≡ s n) → Reads step s n v a b → Reads step t n v a b
+reads_as {step = step} s t {n} {v} {a} {b} e h =
+    let r : Reads step (λ _. s n) n v a b = record { raw = h.raw; fits = h.fits; means = h.means; chain = h.chain } in
+    let q = subst (λ (f : Schema). Reads step (λ _. f) n v a b) (sym (e n)) r in
+    record { raw = q.raw; fits = q.fits; means = q.means; chain = q.chain }
+
+pub unread_as : {S : Type 0} {step : S → Record → S → Type 0} (s t : ℕ → Schema) {n : ℕ} {a : S} {x : DecodeError} → ((n : ℕ) → t n ≡ s n) → Unread step s n a x → Unread step t n a x
+unread_as {step = step} s t {n} {a} {x} e h =
+    let r : Unread step (λ _. s n) n a x = record { none = h.none } in
+    let q = subst (λ (f : Schema). Unread step (λ _. f) n a x) (sym (e n)) r in
+    record { none = q.none }

@@ -1,0 +1,86 @@
+//! The components of a sequence, as they are read.
+ghost use Rattle.std.specs.Prelude.{◌≡◌, ◌+◌, false, OnOk, IfErr, IfOk};
+ghost use Rattle.asn1_model.specs.Value.{fields};
+ghost use Rattle.asn1_model.specs.Schema.{optional};
+ghost use Rattle.asn1_schema_presented.specs.Tables.{marks, sequence_type};
+ghost use Rattle.asn1_schema_presented.specs.Parts.{part_of};
+ghost use Rattle.asn1_schema_decode.specs.Reads.{Reads, Unread, ReadsPart, UnreadPart, ReadsTail, UnreadTail};
+
+use crate::decode::{Decode, Decoder};
+use asn1_schema_faults::DecodeError;
+use asn1_schema_tags::Tag;
+use asn1_schema_types::{ComponentsOf, End, OptionalComponent, RequiredComponent};
+use std::alloc::Global;
+
+/// Components that are read.
+pub trait DecodeComponents: ComponentsOf + Drop {
+    /// Reads the components, and the end of the sequence.
+    fn decode_components<D: Decoder>(alloc: Global, decoder: &mut D) -> Result<Self, DecodeError>
+        ensures ok { IfOk result (λ x. ReadsTail D.step Self.table (D.levels decoder.old) (Self.root x) (Self.added x) decoder.old decoder.new) }
+        ensures level { OnOk result (D.levels decoder.new ≡ D.levels decoder.old + 1) }
+        ensures only { IfErr result (UnreadTail D.step Self.table (D.levels decoder.old) decoder.old) };
+}
+
+impl DecodeComponents for End {
+    fn decode_components<D: Decoder>(_alloc: Global, decoder: &mut D) -> Result<Self, DecodeError> {
+        decoder.end()?;
+        Ok(End)
+    }
+}
+
+impl<T: Decode, R: DecodeComponents> DecodeComponents for RequiredComponent<T, R> {
+    fn decode_components<D: Decoder>(alloc: Global, decoder: &mut D) -> Result<Self, DecodeError> {
+        let value = T::decode(alloc, decoder)?;
+        let rest = R::decode_components(alloc, decoder)?;
+        Ok(RequiredComponent(value, rest))
+    }
+}
+
+impl<T: Decode, R: DecodeComponents> DecodeComponents for OptionalComponent<T, R> {
+    fn decode_components<D: Decoder>(alloc: Global, decoder: &mut D) -> Result<Self, DecodeError> {
+        let value = decoder.decode_optional(alloc)?;
+        let rest = R::decode_components(alloc, decoder)?;
+        Ok(OptionalComponent(value, rest))
+    }
+}
+
+/// How components and sequences are read.
+pub trait DecodeSequence: Decoder {
+    /// A component that may be absent.
+    final fn decode_optional<T: Decode>(&mut self, alloc: Global) -> Result<Option<T>, DecodeError>
+    where
+        Self: Sized,
+        ensures ok { IfOk result (λ x. ReadsPart Self.step optional T.schema (Self.levels self.old) (part_of T.meaning x) self.old self.new) }
+        ensures level { OnOk result (Self.levels self.new ≡ Self.levels self.old) }
+        ensures only { IfErr result (UnreadPart Self.step optional T.schema (Self.levels self.old) self.old) }
+    {
+        let present = self.get_mark()?;
+        if !present {
+            return Ok(None);
+        }
+        let value = T::decode(alloc, self)?;
+        Ok(Some(value))
+    }
+
+    /// SEQUENCE (X.680 25) of these components, of which so many may be absent.
+    final fn decode_sequence<C: DecodeComponents>(
+        &mut self,
+        alloc: Global,
+        tag: Tag,
+        optional: usize,
+    ) -> Result<C, DecodeError>
+    where
+        Self: Sized,
+        requires marks { optional ≡ marks C.table.root }
+        requires plain { C.table.extensible ≡ false }
+        ensures ok { IfOk result (λ x. Reads Self.step (sequence_type C.table) (Self.levels self.old) (fields (C.root x) (C.added x)) self.old self.new) }
+        ensures level { OnOk result (Self.levels self.new ≡ Self.levels self.old) }
+        ensures only { IfErr result (Unread Self.step (sequence_type C.table) (Self.levels self.old) self.old) }
+    {
+        self.begin_sequence(tag, false, optional)?;
+        let components = C::decode_components(alloc, self)?;
+        Ok(components)
+    }
+}
+
+impl<D: Decoder> DecodeSequence for D {}

@@ -1,0 +1,324 @@
+//! What reads the values of types.
+ghost use Rattle.std.specs.Prelude.{◌≡◌, ◌+◌, ◌||◌, true, ℕ, List, length, IfOk, OnOk, OnErr, IfErr, string_bytes};
+ghost use Rattle.std.specs.Cow.{cow_slice_items};
+ghost use Rattle.asn1_model.specs.Schema.{Size, Counts, utf8};
+ghost use Rattle.asn1_model.specs.Types.{any_count};
+ghost use Rattle.asn1_schema_faults.specs.declared.CodecKind.{CodecKind};
+ghost use Rattle.asn1_schema_presented.specs.Records.{Record, question, told, flag, nil, whole, bits, octets, characters, identifier, list_begins, further, sequence_begins, mark, is_default, ends};
+ghost use Rattle.asn1_schema_presented.specs.Records.{asks_flag, asks_nil, asks_whole, asks_bits, asks_octets, asks_characters, asks_identifier, asks_list, asks_further, asks_sequence, asks_mark, asks_default, asks_end};
+ghost use Rattle.asn1_model.specs.Numbers.{is_within, is_count_within};
+ghost use Rattle.asn1_schema_bounds.specs.Bounds.{counts_of};
+ghost use Rattle.asn1_schema_constraints.specs.Terms.{bounds_of, held_of, sizes_of, alphabet_of};
+ghost use Rattle.asn1_schema_decode.specs.Reads.{NoRecord, NoLevel, Reads, Unread};
+
+use asn1_schema_bounds::Bounded;
+use asn1_schema_constraints::Constraints;
+use asn1_schema_faults::{CodecKind, DecodeError};
+use asn1_schema_tags::Tag;
+use asn1_schema_types::AsnType;
+use asn1_values_alphabets::StaticPermittedAlphabet;
+use asn1_values_bit_strings::BitString;
+use asn1_values_identifiers::ObjectIdentifier;
+use asn1_values_integer_types::IntegerType;
+use std::alloc::{AllocError, Global};
+use std::borrow::CowSlice;
+
+/// Octets that were read: lent by the input, or held.
+pub trait ReadOctets: Drop {
+    ghost items: { Self → List ℕ };
+
+    /// The octets.
+    fn octets(&self) -> &[u8]
+        ensures { result.now ≡ items self.now };
+
+    /// The octets as a vector. Only lent octets are copied.
+    fn into_vec(self, alloc: Global) -> Result<Vec<u8>, AllocError>
+        ensures { IfOk result (λ v. v.items ≡ items self) };
+}
+
+impl ReadOctets for Vec<u8> {
+    ghost items = { λ v. v.items };
+
+    fn octets(&self) -> &[u8] {
+        self.as_slice()
+    }
+
+    fn into_vec(self, _alloc: Global) -> Result<Vec<u8>, AllocError> {
+        Ok(self)
+    }
+}
+
+impl<'a> ReadOctets for CowSlice<'a, u8> {
+    ghost items = { cow_slice_items };
+
+    fn octets(&self) -> &[u8] {
+        self.as_slice()
+    }
+
+    fn into_vec(self, alloc: Global) -> Result<Vec<u8>, AllocError> {
+        self.into_owned(alloc)
+    }
+}
+
+/// What finds the records of a value, one a call. A call answers `Ok` exactly where a record that it asks for
+/// is next, within the levels that are left, unless memory is wanting; after an error each call answers
+/// `AlreadyFailed`. Tags play no part.
+pub trait Decoder {
+    /// How it answers octets: lent, where they can be.
+    type Octets: ReadOctets;
+
+    /// How what is held before a record and what is held after it go together.
+    ghost step: { Self → Record → Self → Type 0 };
+
+    /// An earlier call was refused.
+    ghost has_failed: { Self → Type 0 };
+
+    /// How many more levels may be nested.
+    ghost levels: { Self → ℕ };
+
+    /// The rules that are followed.
+    ghost rules: { Self → CodecKind };
+
+    /// The rules that are followed.
+    fn codec(&self) -> CodecKind
+        ensures { result ≡ rules self.now };
+
+    /// How many more levels may be nested: one fewer inside each, and at none a further one is refused.
+    fn levels_left(&self) -> usize
+        ensures { result ≡ levels self.now };
+
+    /// BOOLEAN (X.680 18).
+    fn decode_bool(&mut self, tag: Tag) -> Result<bool, DecodeError>
+        ensures ok { IfOk result (λ x. step self.old (flag x) self.new) }
+        ensures level { OnOk result (levels self.new ≡ levels self.old) }
+        ensures only { IfErr result (NoRecord step asks_flag self.old) }
+        ensures failed { OnErr result (has_failed self.new) }
+        ensures already { has_failed self.old → result ≡ Err DecodeError.AlreadyFailed };
+
+    /// NULL (X.680 24).
+    fn decode_null(&mut self, tag: Tag) -> Result<(), DecodeError>
+        ensures ok { OnOk result (step self.old nil self.new) }
+        ensures level { OnOk result (levels self.new ≡ levels self.old) }
+        ensures only { IfErr result (NoRecord step asks_nil self.old) }
+        ensures failed { OnErr result (has_failed self.new) }
+        ensures already { has_failed self.old → result ≡ Err DecodeError.AlreadyFailed };
+
+    /// INTEGER (X.680 19) under a value constraint: a number within it, if that has no mark of extensibility.
+    fn decode_integer<I: IntegerType>(
+        &mut self,
+        alloc: Global,
+        tag: Tag,
+        constraints: Constraints,
+    ) -> Result<I, DecodeError>
+        ensures ok { IfOk result (λ x. step self.old (whole (bounds_of constraints.entry.value) (held_of constraints.entry.value I.held) (I.value x)) self.new) }
+        ensures within { IfOk result (λ x. ((bounds_of constraints.entry.value).extensible || is_within ((bounds_of constraints.entry.value).range) (I.value x)) ≡ true) }
+        ensures level { OnOk result (levels self.new ≡ levels self.old) }
+        ensures only { IfErr result (NoRecord step (asks_whole (bounds_of constraints.entry.value) (held_of constraints.entry.value I.held)) self.old) }
+        ensures failed { OnErr result (has_failed self.new) }
+        ensures already { has_failed self.old → result ≡ Err DecodeError.AlreadyFailed };
+
+    /// BIT STRING (X.680 22) under a size constraint, in a type of the program that holds so many bits.
+    fn decode_bit_string(
+        &mut self,
+        alloc: Global,
+        tag: Tag,
+        constraints: Constraints,
+        held: Bounded<usize>,
+    ) -> Result<BitString, DecodeError>
+        ensures ok { IfOk result (λ x. step self.old (bits (sizes_of constraints.entry.size) (counts_of held) x) self.new) }
+        ensures held { IfOk result (λ x. is_count_within (counts_of held) (length x) ≡ true) }
+        ensures level { OnOk result (levels self.new ≡ levels self.old) }
+        ensures only { IfErr result (NoRecord step (asks_bits (sizes_of constraints.entry.size) (counts_of held)) self.old) }
+        ensures failed { OnErr result (has_failed self.new) }
+        ensures already { has_failed self.old → result ≡ Err DecodeError.AlreadyFailed };
+
+    /// OCTET STRING (X.680 23) under a size constraint, in a type of the program that holds so many octets. The octets are
+    /// lent where they stand in the input as they are.
+    fn decode_octet_string(
+        &mut self,
+        alloc: Global,
+        tag: Tag,
+        constraints: Constraints,
+        held: Bounded<usize>,
+    ) -> Result<Self::Octets, DecodeError>
+        ensures ok { IfOk result (λ x. step self.old (octets (sizes_of constraints.entry.size) (counts_of held) (Self.Octets.items x)) self.new) }
+        ensures held { IfOk result (λ x. is_count_within (counts_of held) (length (Self.Octets.items x)) ≡ true) }
+        ensures level { OnOk result (levels self.new ≡ levels self.old) }
+        ensures only { IfErr result (NoRecord step (asks_octets (sizes_of constraints.entry.size) (counts_of held)) self.old) }
+        ensures failed { OnErr result (has_failed self.new) }
+        ensures already { has_failed self.old → result ≡ Err DecodeError.AlreadyFailed };
+
+    /// UTF8String (X.680 41) under a size constraint.
+    fn decode_utf8_string(
+        &mut self,
+        alloc: Global,
+        tag: Tag,
+        constraints: Constraints,
+    ) -> Result<String, DecodeError>
+        ensures ok { IfOk result (λ x. step self.old (characters utf8 (sizes_of constraints.entry.size) (alphabet_of constraints.entry.permitted_alphabet) any_count (string_bytes x)) self.new) }
+        ensures level { OnOk result (levels self.new ≡ levels self.old) }
+        ensures only { IfErr result (NoRecord step (asks_characters utf8 (sizes_of constraints.entry.size) (alphabet_of constraints.entry.permitted_alphabet) any_count) self.old) }
+        ensures failed { OnErr result (has_failed self.new) }
+        ensures already { has_failed self.old → result ≡ Err DecodeError.AlreadyFailed };
+
+    /// A restricted character string (X.680 41) of one of the kinds with an alphabet of their own, under a size and an alphabet
+    /// constraint.
+    fn decode_characters<S: StaticPermittedAlphabet>(
+        &mut self,
+        alloc: Global,
+        tag: Tag,
+        constraints: Constraints,
+    ) -> Result<S, DecodeError>
+        ensures ok { IfOk result (λ x. step self.old (characters S.kind (sizes_of constraints.entry.size) (alphabet_of constraints.entry.permitted_alphabet) any_count (S.characters x)) self.new) }
+        ensures level { OnOk result (levels self.new ≡ levels self.old) }
+        ensures only { IfErr result (NoRecord step (asks_characters S.kind (sizes_of constraints.entry.size) (alphabet_of constraints.entry.permitted_alphabet) any_count) self.old) }
+        ensures failed { OnErr result (has_failed self.new) }
+        ensures already { has_failed self.old → result ≡ Err DecodeError.AlreadyFailed };
+
+    /// OBJECT IDENTIFIER (X.680 32).
+    fn decode_object_identifier(
+        &mut self,
+        alloc: Global,
+        tag: Tag,
+    ) -> Result<ObjectIdentifier, DecodeError>
+        ensures ok { IfOk result (λ x. step self.old (identifier x) self.new) }
+        ensures level { OnOk result (levels self.new ≡ levels self.old) }
+        ensures only { IfErr result (NoRecord step (asks_identifier) self.old) }
+        ensures failed { OnErr result (has_failed self.new) }
+        ensures already { has_failed self.old → result ≡ Err DecodeError.AlreadyFailed };
+
+    /// A SEQUENCE OF begins (X.680 26) under a size constraint, in a type of the program that holds so many
+    /// members. How many members there are may be known at its end alone.
+    fn begin_list(
+        &mut self,
+        tag: Tag,
+        constraints: Constraints,
+        held: Bounded<usize>,
+    ) -> Result<(), DecodeError>
+        ensures ok { OnOk result ((n : ℕ) → is_count_within (counts_of held) n ≡ true → step self.old (list_begins (sizes_of constraints.entry.size) (counts_of held) n) self.new) }
+        ensures level { OnOk result (levels self.old ≡ levels self.new + 1) }
+        ensures only { IfErr result (NoLevel step (asks_list (sizes_of constraints.entry.size) (counts_of held)) (levels self.old) self.old) }
+        ensures failed { OnErr result (has_failed self.new) }
+        ensures already { has_failed self.old → result ≡ Err DecodeError.AlreadyFailed };
+
+    /// Whether a further member comes.
+    fn get_further(&mut self) -> Result<bool, DecodeError>
+        ensures ok { IfOk result (λ x. step self.old (further x) self.new) }
+        ensures level { OnOk result (levels self.new ≡ levels self.old) }
+        ensures only { IfErr result (NoRecord step asks_further self.old) }
+        ensures failed { OnErr result (has_failed self.new) }
+        ensures already { has_failed self.old → result ≡ Err DecodeError.AlreadyFailed };
+
+    /// A SEQUENCE begins (X.680 25), with or without a mark of extensibility, of whose root components so
+    /// many may be absent.
+    fn begin_sequence(
+        &mut self,
+        tag: Tag,
+        extensible: bool,
+        optional: usize,
+    ) -> Result<(), DecodeError>
+        ensures ok { OnOk result (step self.old (sequence_begins extensible optional) self.new) }
+        ensures level { OnOk result (levels self.old ≡ levels self.new + 1) }
+        ensures only { IfErr result (NoLevel step (asks_sequence extensible optional) (levels self.old) self.old) }
+        ensures failed { OnErr result (has_failed self.new) }
+        ensures already { has_failed self.old → result ≡ Err DecodeError.AlreadyFailed };
+
+    /// Whether the next component is there, of those that may be absent.
+    fn get_mark(&mut self) -> Result<bool, DecodeError>
+        ensures ok { IfOk result (λ x. step self.old (mark x) self.new) }
+        ensures level { OnOk result (levels self.new ≡ levels self.old) }
+        ensures only { IfErr result (NoRecord step asks_mark self.old) }
+        ensures failed { OnErr result (has_failed self.new) }
+        ensures already { has_failed self.old → result ≡ Err DecodeError.AlreadyFailed };
+
+    /// The component that was read last is equal to its default: refused by rules that have one encoding.
+    fn note_default(&mut self) -> Result<(), DecodeError>
+        ensures ok { OnOk result (step self.old is_default self.new) }
+        ensures level { OnOk result (levels self.new ≡ levels self.old) }
+        ensures only { IfErr result (NoRecord step asks_default self.old) }
+        ensures failed { OnErr result (has_failed self.new) }
+        ensures already { has_failed self.old → result ≡ Err DecodeError.AlreadyFailed };
+
+    /// The end of what began last and has not ended.
+    fn end(&mut self) -> Result<(), DecodeError>
+        ensures ok { OnOk result (step self.old ends self.new) }
+        ensures level { OnOk result (levels self.new ≡ levels self.old + 1) }
+        ensures only { IfErr result (NoRecord step asks_end self.old) }
+        ensures failed { OnErr result (has_failed self.new) }
+        ensures already { has_failed self.old → result ≡ Err DecodeError.AlreadyFailed };
+
+    /// Of the records that answer a question one at most is next, and at most one state stands after it.
+    ghost one_record: { (a : Self) (r s : Record) (b c : Self) → question r ≡ question s → step a r b → step a s c → (told r ≡ told s) × (b ≡ c) };
+
+    /// A list has as many members as the program's type holds.
+    ghost list_held: { (a : Self) (z : Size) (h : Counts) (n : ℕ) (b : Self) → step a (list_begins z h n) b → is_count_within h n ≡ true };
+
+    /// None stands after one that has failed.
+    ghost none_after: { (a : Self) (r : Record) (b : Self) → has_failed a → step a r b → ⊥ };
+
+    /// No record changes the rules.
+    ghost same_rules: { (a : Self) (r : Record) (b : Self) → step a r b → rules b ≡ rules a };
+}
+
+/// A type whose values are read.
+pub trait Decode: AsnType + Drop {
+    /// Reads a value of the type under these constraints whose records are next, and gives the value of the
+    /// program that means its normal form.
+    fn decode_with_tag_and_constraints<D: Decoder>(
+        alloc: Global,
+        decoder: &mut D,
+        tag: Tag,
+        constraints: Constraints,
+    ) -> Result<Self, DecodeError>
+        ensures ok { IfOk result (λ x. Reads D.step (Self.under constraints.entry) (D.levels decoder.old) (Self.meaning x) decoder.old decoder.new) }
+        ensures level { OnOk result (D.levels decoder.new ≡ D.levels decoder.old) }
+        ensures only { IfErr result (Unread D.step (Self.under constraints.entry) (D.levels decoder.old) decoder.old) };
+
+    /// Reads a value of the type whose records are next, and gives the value of the program that means its
+    /// normal form.
+    final fn decode<D: Decoder>(alloc: Global, decoder: &mut D) -> Result<Self, DecodeError>
+    where
+        Self: Sized,
+        ensures ok { IfOk result (λ x. Reads D.step Self.schema (D.levels decoder.old) (Self.meaning x) decoder.old decoder.new) }
+        ensures level { OnOk result (D.levels decoder.new ≡ D.levels decoder.old) }
+        ensures only { IfErr result (Unread D.step Self.schema (D.levels decoder.old) decoder.old) }
+    {
+        Self::decode_with_tag(alloc, decoder, Self::TAG)
+    }
+
+    /// The same with another tag.
+    final fn decode_with_tag<D: Decoder>(
+        alloc: Global,
+        decoder: &mut D,
+        tag: Tag,
+    ) -> Result<Self, DecodeError>
+    where
+        Self: Sized,
+        ensures ok { IfOk result (λ x. Reads D.step Self.schema (D.levels decoder.old) (Self.meaning x) decoder.old decoder.new) }
+        ensures level { OnOk result (D.levels decoder.new ≡ D.levels decoder.old) }
+        ensures only { IfErr result (Unread D.step Self.schema (D.levels decoder.old) decoder.old) }
+    {
+        let value = Self::decode_with_tag_and_constraints(
+            alloc,
+            decoder,
+            tag,
+            Self::constraints(),
+        )?;
+        Ok(value)
+    }
+
+    /// Reads a value of the type under these constraints.
+    final fn decode_with_constraints<D: Decoder>(
+        alloc: Global,
+        decoder: &mut D,
+        constraints: Constraints,
+    ) -> Result<Self, DecodeError>
+    where
+        Self: Sized,
+        ensures ok { IfOk result (λ x. Reads D.step (Self.under constraints.entry) (D.levels decoder.old) (Self.meaning x) decoder.old decoder.new) }
+        ensures level { OnOk result (D.levels decoder.new ≡ D.levels decoder.old) }
+        ensures only { IfErr result (Unread D.step (Self.under constraints.entry) (D.levels decoder.old) decoder.old) }
+    {
+        Self::decode_with_tag_and_constraints(alloc, decoder, Self::TAG, constraints)
+    }
+}

@@ -1,0 +1,32 @@
+//! INTEGER (X.680 19).
+
+use crate::decode::{Decode, Decoder};
+use asn1_schema_constraints::Constraints;
+use asn1_schema_faults::DecodeError;
+use asn1_schema_tags::Tag;
+use asn1_values_numbers::Integer;
+use std::alloc::Global;
+
+impl Decode for Integer {
+    fn decode_with_tag_and_constraints<D: Decoder>(
+        alloc: Global,
+        decoder: &mut D,
+        tag: Tag,
+        constraints: Constraints,
+    ) -> Result<Self, DecodeError> {
+        let value = decoder.decode_integer(alloc, tag, constraints)?;
+        Ok(value)
+    }
+}
+
+impl Decode for u8 {
+    fn decode_with_tag_and_constraints<D: Decoder>(
+        alloc: Global,
+        decoder: &mut D,
+        tag: Tag,
+        constraints: Constraints,
+    ) -> Result<Self, DecodeError> {
+        let value = decoder.decode_integer(alloc, tag, constraints)?;
+        Ok(value)
+    }
+}

@@ -1,0 +1,43 @@
+//! INTEGER (X.680 19) in the native types without a sign, as they are read.
+
+use crate::decode::{Decode, Decoder};
+use asn1_schema_constraints::Constraints;
+use asn1_schema_faults::DecodeError;
+use asn1_schema_tags::Tag;
+use std::alloc::Global;
+
+impl Decode for u16 {
+    fn decode_with_tag_and_constraints<D: Decoder>(
+        alloc: Global,
+        decoder: &mut D,
+        tag: Tag,
+        constraints: Constraints,
+    ) -> Result<Self, DecodeError> {
+        let value = decoder.decode_integer(alloc, tag, constraints)?;
+        Ok(value)
+    }
+}
+
+impl Decode for u32 {
+    fn decode_with_tag_and_constraints<D: Decoder>(
+        alloc: Global,
+        decoder: &mut D,
+        tag: Tag,
+        constraints: Constraints,
+    ) -> Result<Self, DecodeError> {
+        let value = decoder.decode_integer(alloc, tag, constraints)?;
+        Ok(value)
+    }
+}
+
+impl Decode for u64 {
+    fn decode_with_tag_and_constraints<D: Decoder>(
+        alloc: Global,
+        decoder: &mut D,
+        tag: Tag,
+        constraints: Constraints,
+    ) -> Result<Self, DecodeError> {
+        let value = decoder.decode_integer(alloc, tag, constraints)?;
+        Ok(value)
+    }
+}

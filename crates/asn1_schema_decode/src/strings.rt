@@ -1,0 +1,72 @@
+//! BIT STRING, OCTET STRING, UTF8String and OBJECT IDENTIFIER (X.680 22, 23, 41 and 32), as they are read.
+ghost use Rattle.std.specs.Prelude.{◌≡◌, IfOk, IfErr};
+
+use crate::decode::{Decode, Decoder, ReadOctets};
+use asn1_schema_bounds::Bounded;
+use asn1_schema_constraints::Constraints;
+use asn1_schema_faults::DecodeError;
+use asn1_schema_tags::Tag;
+use asn1_values_bit_strings::BitString;
+use asn1_values_identifiers::ObjectIdentifier;
+use asn1_values_octets::OctetString;
+use std::alloc::Global;
+
+impl Decode for BitString {
+    fn decode_with_tag_and_constraints<D: Decoder>(
+        alloc: Global,
+        decoder: &mut D,
+        tag: Tag,
+        constraints: Constraints,
+    ) -> Result<Self, DecodeError> {
+        let value = decoder.decode_bit_string(alloc, tag, constraints, Bounded::None)?;
+        Ok(value)
+    }
+}
+
+impl Decode for OctetString {
+    fn decode_with_tag_and_constraints<D: Decoder>(
+        alloc: Global,
+        decoder: &mut D,
+        tag: Tag,
+        constraints: Constraints,
+    ) -> Result<Self, DecodeError> {
+        let value = decoder.decode_octet_string(alloc, tag, constraints, Bounded::None)?;
+        let string = octet_string(alloc, value)?;
+        Ok(string)
+    }
+}
+
+impl Decode for String {
+    fn decode_with_tag_and_constraints<D: Decoder>(
+        alloc: Global,
+        decoder: &mut D,
+        tag: Tag,
+        constraints: Constraints,
+    ) -> Result<Self, DecodeError> {
+        let value = decoder.decode_utf8_string(alloc, tag, constraints)?;
+        Ok(value)
+    }
+}
+
+impl Decode for ObjectIdentifier {
+    fn decode_with_tag_and_constraints<D: Decoder>(
+        alloc: Global,
+        decoder: &mut D,
+        tag: Tag,
+        _constraints: Constraints,
+    ) -> Result<Self, DecodeError> {
+        let value = decoder.decode_object_identifier(alloc, tag)?;
+        Ok(value)
+    }
+}
+
+// The string of octets that were read, copied where they are lent.
+fn octet_string<O: ReadOctets>(alloc: Global, octets: O) -> Result<OctetString, DecodeError>
+    ensures value { IfOk result (λ s. s ≡ O.items octets) }
+    ensures refused { IfErr result (λ e. e ≡ DecodeError.OutOfMemory) }
+{
+    match OctetString::from_slice(alloc, octets.octets()) {
+        Ok(string) => Ok(string),
+        Err(_) => Err(DecodeError::OutOfMemory),
+    }
+}

@@ -1,0 +1,121 @@
+-- How what an encoder takes is put together.
+use Rattle.std.proofs.Common.{◌≡◌, ℕ, ◌+◌, zero, suc, Bool, true, false, cond, List, [], ◌∷◌, ◌++◌, Option, Some, None, refl, subst, sym, ◌∙◌, ap, Result, Ok, Err}
+use Rattle.std.specs.Prelude.{◌||◌, not}
+use Rattle.std.specs.Result.{IfErr, IsErrAnd}
+use Rattle.asn1_model.specs.Value.{Value, fields, Parts, end, absent, present, same}
+use Rattle.asn1_model.specs.Schema.{Tag, Presence, required, optional, by_default, Schema, sequence, Components, no_component, component}
+use Rattle.asn1_model.specs.Normal.{normal, is_at_default, is_group_left_out}
+use Rattle.asn1_model.specs.Lawful.{are_no_components}
+use Rattle.asn1_model.specs.Tables.{is_required}
+use Rattle.asn1_schema_faults.specs.declared.EncodeError.{EncodeError}
+use Rattle.asn1_schema_presented.specs.Records.{Record, sequence_begins, mark, ends}
+use Rattle.asn1_schema_presented.specs.Presents.{Part, left_out, there, with_part, presents, part_records, noted, root_records, behind_root, added_records, optional_count, Fits, PartFits, PartsFit}
+use Rattle.asn1_schema_presented.specs.Tables.{Fields, no_field, field, Table, no_table, with_field, components_at, marks, scope, sequence_type, IsType, IsValue}
+use Rattle.asn1_schema_presented.specs.Chains.{Chain, OneAfter}
+use Rattle.asn1_schema_presented.proofs.Chains.{chain_append, chain_split, chain_rest}
+use Rattle.asn1_schema_presented.specs.Parts.{part_of, part_unless, tail_records, TailFits}
+use Rattle.asn1_schema_encode.specs.Writes.{Refused, Writes, CannotWrite, WritesPart, CannotWritePart, WritesTail, CannotWriteTail}
+use Rattle.asn1_schema_presented.proofs.Values.{not_empty}
+use Rattle.asn1_schema_presented.proofs.Joined.{is_there, marks_at, nothing_noted, tail_field, tail_fits, there_records, marked_records, not_default}
+
+module _ {S : Type 0} {step : S → Record → S → Type 0} where
+  pub writes_required : {ts : List Tag} {s : ℕ → Schema} {v : Value} {a b : S} → IsType ts s → Writes step s v a b → WritesPart step required s (there v) a b
+  writes_required {ts} {s} {v} {a} {b} t h = record { chain = λ n f. subst (λ rs. Chain step rs a b) (sym (there_records required (s n) v (nothing_noted required (s n) v (not_empty (s n) (normal (s n) v) (t.no_group n)) refl))) (h.chain n f) }
+
+  pub cannot_required : {ts : List Tag} {s : ℕ → Schema} {v : Value} {a : S} {e : EncodeError} → IsType ts s → CannotWrite step s v a e → CannotWritePart step required s (there v) a e
+  cannot_required {ts} {s} {v} {a} {e} t h = record { none = λ w n b f p. h.none w n b f (subst (λ rs. Chain step rs a b) (there_records required (s n) v (nothing_noted required (s n) v (not_empty (s n) (normal (s n) v) (t.no_group n)) refl)) p) }
+
+  pub writes_end : {a b : S} → step a ends b → WritesTail step no_table end end a b
+  unfolding components_at root_records added_records
+  writes_end {b = b} h = record { chain = λ n f. (b, h, refl) }
+
+  pub cannot_end : {a : S} {e : EncodeError} → Refused step ends a e → CannotWriteTail step no_table end end a e
+  unfolding components_at root_records added_records
+  cannot_end h = record { none = λ w n b f p. h.none w p.0 p.1 }
+
+  pub writes_field : (ts : List Tag) {o : Presence} {s : ℕ → Schema} {t : Table} {x : Part} {ps qs : Parts} {a b c : S} → WritesPart step o s x a b → WritesTail step t ps qs b c → WritesTail step (with_field ts o s t) (with_part x ps) qs a c
+  writes_field ts {o} {s} {t} {x} {ps} {qs} {a} {b} {c} h k = record {
+    chain = λ n f.
+        let g = tail_fits n ts o s t x ps qs f in
+        subst (λ rs. Chain step rs a c) (sym (tail_field n ts o s t x ps qs)) (chain_append step _ _ a b c (h.chain n g.0) (k.chain n g.1));
+  }
+
+  pub cannot_field_here : (ts : List Tag) {o : Presence} {s : ℕ → Schema} (t : Table) {x : Part} (ps qs : Parts) {a : S} {e : EncodeError} → CannotWritePart step o s x a e → CannotWriteTail step (with_field ts o s t) (with_part x ps) qs a e
+  cannot_field_here ts {o} {s} t {x} ps qs {a} h = record {
+    none = λ w n c f p.
+        let g = tail_fits n ts o s t x ps qs f in
+        let r = chain_split step (part_records (λ v. presents (s n) v) o (s n) x) (tail_records n t ps qs) a c (subst (λ rs. Chain step rs a c) (tail_field n ts o s t x ps qs) p) in
+        h.none w n r.0 g.0 r.1;
+  }
+
+  pub writes_sequence : (t : Table) {ps qs : Parts} {a b c : S} → step a (sequence_begins t.extensible (marks t.root)) b → WritesTail step t ps qs b c → Writes step (sequence_type t) (fields ps qs) a c
+  unfolding sequence_type scope presents Fits
+  writes_sequence t {ps} {qs} {a} {b} {c} h w = record { chain = λ n. elim n as (λ n. Fits (scope n (λ m. sequence (components_at m t.root) t.extensible (components_at m t.additions))) (fields ps qs) → Chain step (presents (scope n (λ m. sequence (components_at m t.root) t.extensible (components_at m t.additions))) (fields ps qs)) a c) [ zero ↦ λ f. absurd f | suc j ↦ λ f. (b, subst (λ (i : ℕ). step a (sequence_begins t.extensible i) b) (sym (marks_at j t.root)) h, w.chain j f) ] }
+
+  pub cannot_sequence_here : (t : Table) (ps qs : Parts) {a : S} {e : EncodeError} → Refused step (sequence_begins t.extensible (marks t.root)) a e → CannotWrite step (sequence_type t) (fields ps qs) a e
+  unfolding sequence_type scope presents Fits
+  cannot_sequence_here t ps qs {a} h = record { none = λ w n c. elim n as (λ n. Fits (scope n (λ m. sequence (components_at m t.root) t.extensible (components_at m t.additions))) (fields ps qs) → Chain step (presents (scope n (λ m. sequence (components_at m t.root) t.extensible (components_at m t.additions))) (fields ps qs)) a c → ⊥) [ zero ↦ λ f p. f | suc j ↦ λ f p. h.none w p.0 (subst (λ (i : ℕ). step a (sequence_begins t.extensible i) p.0) (marks_at j t.root) p.1) ] }
+
+  module _ (one : OneAfter step) where
+    pub cannot_later : (xs ys : List Record) (a b c : S) → Chain step xs a b → (Chain step ys b c → ⊥) → Chain step (xs ++ ys) a c → ⊥
+    cannot_later xs ys a b c h k p = k (chain_rest step one _ _ _ _ _ h p)
+
+    pub cannot_field : (ts : List Tag) {o : Presence} {s : ℕ → Schema} {t : Table} {x : Part} {ps qs : Parts} {a b : S} {e : EncodeError} → WritesPart step o s x a b → CannotWriteTail step t ps qs b e → CannotWriteTail step (with_field ts o s t) (with_part x ps) qs a e
+    cannot_field ts {o} {s} {t} {x} {ps} {qs} {a} {b} h k = record {
+      none = λ w n c f p.
+          let g = tail_fits n ts o s t x ps qs f in
+          cannot_later _ _ a b c (h.chain n g.0) (k.none w n c g.1) (subst (λ rs. Chain step rs a c) (tail_field n ts o s t x ps qs) p);
+    }
+
+    pub cannot_sequence : (t : Table) {ps qs : Parts} {a b : S} {e : EncodeError} → step a (sequence_begins t.extensible (marks t.root)) b → CannotWriteTail step t ps qs b e → CannotWrite step (sequence_type t) (fields ps qs) a e
+    unfolding sequence_type scope presents Fits
+    cannot_sequence t {ps} {qs} {a} {b} h z = record { none = λ w n c. elim n as (λ n. Fits (scope n (λ m. sequence (components_at m t.root) t.extensible (components_at m t.additions))) (fields ps qs) → Chain step (presents (scope n (λ m. sequence (components_at m t.root) t.extensible (components_at m t.additions))) (fields ps qs)) a c → ⊥) [ zero ↦ λ f p. f | suc j ↦ λ f p. z.none w j c f (subst (λ (s : S). Chain step (tail_records j t ps qs) s c) (one _ _ _ _ (subst (λ (i : ℕ). step a (sequence_begins t.extensible i) p.0) (marks_at j t.root) p.1) h) p.2) ] }
+
+-- components that may be absent
+module _ {S : Type 0} {step : S → Record → S → Type 0} where
+  pub writes_left_out : (o : Presence) (s : ℕ → Schema) {a b : S} → step a (mark false) b → WritesPart step o s left_out a b
+  writes_left_out required s h = record { chain = λ n f. absurd (let z : true ≡ false = f in cc) }
+  writes_left_out optional s {b = b} h = record { chain = λ n f. (b, h, refl) }
+  writes_left_out (by_default d) s {b = b} h = record { chain = λ n f. (b, h, refl) }
+
+  pub cannot_mark : (o : Presence) (s : ℕ → Schema) (x : Part) (b : Bool) {a : S} {e : EncodeError} → is_required o ≡ false → b ≡ is_there x → Refused step (mark b) a e → CannotWritePart step o s x a e
+  cannot_mark required s x b r h k = let z : true ≡ false = r in cc
+  cannot_mark optional s left_out b r h k = record { none = λ w n c f p. k.none w p.0 (rw h p.1) }
+  cannot_mark optional s (there v) b r h k = record { none = λ w n c f p. k.none w p.0 (rw h p.1) }
+  cannot_mark (by_default d) s left_out b r h k = record { none = λ w n c f p. k.none w p.0 (rw h p.1) }
+  cannot_mark (by_default d) s (there v) b r h k = record { none = λ w n c f p. k.none w p.0 (rw h p.1) }
+
+  pub writes_there : {ts : List Tag} (o : Presence) {s : ℕ → Schema} {v : Value} {a b c : S} → is_required o ≡ false → IsType ts s → ((n : ℕ) → is_at_default o (s n) v ≡ false) → step a (mark true) b → Writes step s v b c → WritesPart step o s (there v) a c
+  writes_there o {s} {v} {a} {b} {c} r t d m h = record { chain = λ n f. subst (λ rs. Chain step rs a c) (sym (marked_records o (s n) v r (nothing_noted o (s n) v (not_empty (s n) (normal (s n) v) (t.no_group n)) (d n)))) (b, m, h.chain n f) }
+
+  module _ (one : OneAfter step) where
+    pub cannot_there : {ts : List Tag} (o : Presence) {s : ℕ → Schema} {v : Value} {a b : S} {e : EncodeError} → is_required o ≡ false → IsType ts s → ((n : ℕ) → is_at_default o (s n) v ≡ false) → step a (mark true) b → CannotWrite step s v b e → CannotWritePart step o s (there v) a e
+    cannot_there o {s} {v} {a} {b} {e} r t d m h = record {
+      none = λ w n c f p.
+          let q = subst (λ rs. Chain step rs a c) (marked_records o (s n) v r (nothing_noted o (s n) v (not_empty (s n) (normal (s n) v) (t.no_group n)) (d n))) p in
+          h.none w n c f (subst (λ (z : S). Chain step (presents (s n) v) z c) (one _ _ _ _ q.1 m) q.2);
+    }
+
+-- sequences, by what their tables have
+module _ {S : Type 0} (step : S → Record → S → Type 0) (t : Table) {x : Bool} {k : ℕ} (e : k ≡ marks t.root) (f : t.extensible ≡ x) where
+  by_table : {a b : S} → step a (sequence_begins x k) b → step a (sequence_begins t.extensible (marks t.root)) b
+  by_table {a} {b} h = subst (λ (i : ℕ). step a (sequence_begins t.extensible i) b) e (subst (λ (y : Bool). step a (sequence_begins y k) b) (sym f) h)
+
+  not_by_table : {a b : S} → step a (sequence_begins t.extensible (marks t.root)) b → step a (sequence_begins x k) b
+  not_by_table {a} {b} h = subst (λ (i : ℕ). step a (sequence_begins x i) b) (sym e) (subst (λ (y : Bool). step a (sequence_begins y (marks t.root)) b) f h)
+
+  pub writes_this : {ps qs : Parts} {a b c : S} → step a (sequence_begins x k) b → WritesTail step t ps qs b c → Writes step (sequence_type t) (fields ps qs) a c
+  writes_this h w = writes_sequence t (by_table h) w
+
+  pub cannot_this_here : (ps qs : Parts) {a : S} {y : EncodeError} → Refused step (sequence_begins x k) a y → CannotWrite step (sequence_type t) (fields ps qs) a y
+  cannot_this_here ps qs h = cannot_sequence_here t ps qs (record { none = λ w b p. h.none w b (not_by_table p) })
+
+  pub cannot_this : OneAfter step → {ps qs : Parts} {a b : S} {y : EncodeError} → step a (sequence_begins x k) b → CannotWriteTail step t ps qs b y → CannotWrite step (sequence_type t) (fields ps qs) a y
+  cannot_this one h w = cannot_sequence one t (by_table h) w
+
+-- another spelling of the same type
+pub writes_as : {S : Type 0} {step : S → Record → S → Type 0} (s t : ℕ → Schema) {v : Value} {a b : S} → ((n : ℕ) → t n ≡ s n) → Writes step s v a b → Writes step t v a b
+writes_as {step = step} s t {v} {a} {b} e h = record { chain = λ n. subst (λ (x : Schema). Fits x v → Chain step (presents x v) a b) (sym (e n)) (h.chain n) }
+
+pub cannot_as : {S : Type 0} {step : S → Record → S → Type 0} (s t : ℕ → Schema) {v : Value} {a : S} {x : EncodeError} → ((n : ℕ) → t n ≡ s n) → CannotWrite step s v a x → CannotWrite step t v a x
+cannot_as {step = step} s t {v} {a} e h = record { none = λ m n c. subst (λ (x : Schema). Fits x v → Chain step (presents x v) a c → ⊥) (sym (e n)) (h.none m n c) }

@@ -1,0 +1,114 @@
+//! The components of a sequence, as they are written.
+ghost use Rattle.std.specs.Prelude.{◌≡◌, false, OnOk, OnErr, IfErr};
+ghost use Rattle.asn1_model.specs.Value.{fields};
+ghost use Rattle.asn1_model.specs.Schema.{optional};
+ghost use Rattle.asn1_schema_presented.specs.Presents.{there, left_out};
+ghost use Rattle.asn1_schema_presented.specs.Tables.{marks, sequence_type};
+ghost use Rattle.asn1_schema_presented.specs.Parts.{part_of};
+ghost use Rattle.asn1_schema_encode.specs.Writes.{Writes, CannotWrite, WritesPart, CannotWritePart, WritesTail, CannotWriteTail};
+
+use crate::encode::{Encode, Encoder};
+use asn1_schema_faults::EncodeError;
+use asn1_schema_tags::Tag;
+use asn1_schema_types::{ComponentsOf, End, Optional, Required};
+
+/// Components that are written.
+pub trait EncodeComponents: ComponentsOf {
+    /// Hands over the records of the components, and the end of the sequence.
+    fn encode_components<E: Encoder>(&self, encoder: &mut E) -> Result<(), EncodeError>
+        ensures ok { OnOk result (WritesTail E.step Self.table (Self.root self.now) (Self.added self.now) encoder.old encoder.new) }
+        ensures only { IfErr result (CannotWriteTail E.step Self.table (Self.root self.now) (Self.added self.now) encoder.old) }
+        ensures failed { OnErr result (E.has_failed encoder.new) }
+        ensures already { E.has_failed encoder.old → result ≡ Err EncodeError.AlreadyFailed };
+}
+
+impl EncodeComponents for End {
+    fn encode_components<E: Encoder>(&self, encoder: &mut E) -> Result<(), EncodeError> {
+        encoder.end()?;
+        Ok(())
+    }
+}
+
+impl<'a, T: Encode, R: EncodeComponents> EncodeComponents for Required<'a, T, R> {
+    fn encode_components<E: Encoder>(&self, encoder: &mut E) -> Result<(), EncodeError> {
+        self.0.encode(encoder)?;
+        self.1.encode_components(encoder)?;
+        Ok(())
+    }
+}
+
+impl<'a, T: Encode, R: EncodeComponents> EncodeComponents for Optional<'a, T, R> {
+    fn encode_components<E: Encoder>(&self, encoder: &mut E) -> Result<(), EncodeError> {
+        encoder.encode_optional(self.0)?;
+        self.1.encode_components(encoder)?;
+        Ok(())
+    }
+}
+
+/// How components and sequences are written.
+pub trait EncodeSequence: Encoder {
+    /// A component that may be absent and is there.
+    final fn encode_some<T: Encode>(&mut self, value: &T) -> Result<(), EncodeError>
+    where
+        Self: Sized,
+        ensures ok { OnOk result (WritesPart Self.step optional T.schema (there (T.meaning value.now)) self.old self.new) }
+        ensures only { IfErr result (CannotWritePart Self.step optional T.schema (there (T.meaning value.now)) self.old) }
+        ensures failed { OnErr result (Self.has_failed self.new) }
+        ensures already { Self.has_failed self.old → result ≡ Err EncodeError.AlreadyFailed }
+    {
+        self.put_mark(true)?;
+        value.encode(self)?;
+        Ok(())
+    }
+
+    /// A component that may be absent and is absent.
+    final fn encode_none<T: Encode>(&mut self) -> Result<(), EncodeError>
+    where
+        Self: Sized,
+        ensures ok { OnOk result (WritesPart Self.step optional T.schema left_out self.old self.new) }
+        ensures only { IfErr result (CannotWritePart Self.step optional T.schema left_out self.old) }
+        ensures failed { OnErr result (Self.has_failed self.new) }
+        ensures already { Self.has_failed self.old → result ≡ Err EncodeError.AlreadyFailed }
+    {
+        self.put_mark(false)?;
+        Ok(())
+    }
+
+    /// A component that may be absent.
+    final fn encode_optional<T: Encode>(&mut self, value: &Option<T>) -> Result<(), EncodeError>
+    where
+        Self: Sized,
+        ensures ok { OnOk result (WritesPart Self.step optional T.schema (part_of T.meaning value.now) self.old self.new) }
+        ensures only { IfErr result (CannotWritePart Self.step optional T.schema (part_of T.meaning value.now) self.old) }
+        ensures failed { OnErr result (Self.has_failed self.new) }
+        ensures already { Self.has_failed self.old → result ≡ Err EncodeError.AlreadyFailed }
+    {
+        match value {
+            None => self.encode_none::<T>(),
+            Some(inner) => self.encode_some(inner),
+        }
+    }
+
+    /// SEQUENCE (X.680 25) of these components, of which so many may be absent.
+    final fn encode_sequence<C: EncodeComponents>(
+        &mut self,
+        tag: Tag,
+        optional: usize,
+        components: &C,
+    ) -> Result<(), EncodeError>
+    where
+        Self: Sized,
+        requires marks { optional ≡ marks C.table.root }
+        requires plain { C.table.extensible ≡ false }
+        ensures ok { OnOk result (Writes Self.step (sequence_type C.table) (fields (C.root components.now) (C.added components.now)) self.old self.new) }
+        ensures only { IfErr result (CannotWrite Self.step (sequence_type C.table) (fields (C.root components.now) (C.added components.now)) self.old) }
+        ensures failed { OnErr result (Self.has_failed self.new) }
+        ensures already { Self.has_failed self.old → result ≡ Err EncodeError.AlreadyFailed }
+    {
+        self.begin_sequence(tag, false, optional)?;
+        components.encode_components(self)?;
+        Ok(())
+    }
+}
+
+impl<E: Encoder> EncodeSequence for E {}

@@ -1,0 +1,253 @@
+//! What writes the values of types.
+ghost use Rattle.std.specs.Prelude.{◌≡◌, OnOk, OnErr, IfErr};
+ghost use Rattle.asn1_model.specs.Schema.{utf8};
+ghost use Rattle.asn1_model.specs.Types.{any_count};
+ghost use Rattle.asn1_schema_faults.specs.declared.CodecKind.{CodecKind};
+ghost use Rattle.asn1_schema_presented.specs.Records.{Record, flag, nil, whole, bits, octets, characters, identifier as object_identifier, list_begins, further, sequence_begins, mark, ends};
+ghost use Rattle.asn1_schema_bounds.specs.Bounds.{counts_of};
+ghost use Rattle.asn1_schema_constraints.specs.Terms.{bounds_of, held_of, sizes_of, alphabet_of};
+ghost use Rattle.asn1_schema_encode.specs.Writes.{Refused, Writes, CannotWrite};
+ghost use Rattle.asn1_values_bits.specs.BitStr.{bits_of};
+
+use asn1_schema_bounds::Bounded;
+use asn1_schema_constraints::Constraints;
+use asn1_schema_faults::{CodecKind, EncodeError};
+use asn1_schema_tags::{Identifier, Tag};
+use asn1_schema_types::AsnType;
+use asn1_values_alphabets::StaticPermittedAlphabet;
+use asn1_values_bits::BitStr;
+use asn1_values_identifiers::Oid;
+use asn1_values_integer_types::IntegerType;
+
+/// What takes the records of a value, one a call. An error other than want of memory comes only where nothing
+/// can stand after the record, and after an error each call answers `AlreadyFailed`. Tags and names of
+/// types leave no trace.
+pub trait Encoder {
+    /// How what is held before a record and what is held after it go together.
+    ghost step: { Self → Record → Self → Type 0 };
+
+    /// An earlier call was refused.
+    ghost has_failed: { Self → Type 0 };
+
+    /// The rules that are followed.
+    ghost rules: { Self → CodecKind };
+
+    /// The rules that are followed.
+    fn codec(&self) -> CodecKind
+        ensures { result ≡ rules self.now };
+
+    /// BOOLEAN (X.680 18).
+    fn encode_bool(
+        &mut self,
+        tag: Tag,
+        value: bool,
+        identifier: Identifier,
+    ) -> Result<(), EncodeError>
+        ensures ok { OnOk result (step self.old (flag value) self.new) }
+        ensures only { IfErr result (Refused step (flag value) self.old) }
+        ensures failed { OnErr result (has_failed self.new) }
+        ensures already { has_failed self.old → result ≡ Err EncodeError.AlreadyFailed };
+
+    /// NULL (X.680 24).
+    fn encode_null(&mut self, tag: Tag, identifier: Identifier) -> Result<(), EncodeError>
+        ensures ok { OnOk result (step self.old nil self.new) }
+        ensures only { IfErr result (Refused step nil self.old) }
+        ensures failed { OnErr result (has_failed self.new) }
+        ensures already { has_failed self.old → result ≡ Err EncodeError.AlreadyFailed };
+
+    /// INTEGER (X.680 19) under a value constraint.
+    fn encode_integer<I: IntegerType>(
+        &mut self,
+        tag: Tag,
+        constraints: Constraints,
+        value: &I,
+        identifier: Identifier,
+    ) -> Result<(), EncodeError>
+        ensures ok { OnOk result (step self.old (whole (bounds_of constraints.entry.value) (held_of constraints.entry.value I.held) (I.value value.now)) self.new) }
+        ensures only { IfErr result (Refused step (whole (bounds_of constraints.entry.value) (held_of constraints.entry.value I.held) (I.value value.now)) self.old) }
+        ensures failed { OnErr result (has_failed self.new) }
+        ensures already { has_failed self.old → result ≡ Err EncodeError.AlreadyFailed };
+
+    /// BIT STRING (X.680 22) under a size constraint, in a type of the program that holds so many bits.
+    fn encode_bit_string(
+        &mut self,
+        tag: Tag,
+        constraints: Constraints,
+        held: Bounded<usize>,
+        value: BitStr,
+        identifier: Identifier,
+    ) -> Result<(), EncodeError>
+        ensures ok { OnOk result (step self.old (bits (sizes_of constraints.entry.size) (counts_of held) (bits_of value.entry)) self.new) }
+        ensures only { IfErr result (Refused step (bits (sizes_of constraints.entry.size) (counts_of held) (bits_of value.entry)) self.old) }
+        ensures failed { OnErr result (has_failed self.new) }
+        ensures already { has_failed self.old → result ≡ Err EncodeError.AlreadyFailed };
+
+    /// OCTET STRING (X.680 23) under a size constraint, in a type of the program that holds so many octets.
+    fn encode_octet_string(
+        &mut self,
+        tag: Tag,
+        constraints: Constraints,
+        held: Bounded<usize>,
+        value: &[u8],
+        identifier: Identifier,
+    ) -> Result<(), EncodeError>
+        ensures ok { OnOk result (step self.old (octets (sizes_of constraints.entry.size) (counts_of held) value.now) self.new) }
+        ensures only { IfErr result (Refused step (octets (sizes_of constraints.entry.size) (counts_of held) value.now) self.old) }
+        ensures failed { OnErr result (has_failed self.new) }
+        ensures already { has_failed self.old → result ≡ Err EncodeError.AlreadyFailed };
+
+    /// UTF8String (X.680 41) under a size constraint.
+    fn encode_utf8_string(
+        &mut self,
+        tag: Tag,
+        constraints: Constraints,
+        value: &str,
+        identifier: Identifier,
+    ) -> Result<(), EncodeError>
+        ensures ok { OnOk result (step self.old (characters utf8 (sizes_of constraints.entry.size) (alphabet_of constraints.entry.permitted_alphabet) any_count value.now) self.new) }
+        ensures only { IfErr result (Refused step (characters utf8 (sizes_of constraints.entry.size) (alphabet_of constraints.entry.permitted_alphabet) any_count value.now) self.old) }
+        ensures failed { OnErr result (has_failed self.new) }
+        ensures already { has_failed self.old → result ≡ Err EncodeError.AlreadyFailed };
+
+    /// A restricted character string (X.680 41) of one of the kinds with an alphabet of their own, under a size and an alphabet constraint.
+    fn encode_characters<S: StaticPermittedAlphabet>(
+        &mut self,
+        tag: Tag,
+        constraints: Constraints,
+        value: &S,
+        identifier: Identifier,
+    ) -> Result<(), EncodeError>
+        ensures ok { OnOk result (step self.old (characters S.kind (sizes_of constraints.entry.size) (alphabet_of constraints.entry.permitted_alphabet) any_count (S.characters value.now)) self.new) }
+        ensures only { IfErr result (Refused step (characters S.kind (sizes_of constraints.entry.size) (alphabet_of constraints.entry.permitted_alphabet) any_count (S.characters value.now)) self.old) }
+        ensures failed { OnErr result (has_failed self.new) }
+        ensures already { has_failed self.old → result ≡ Err EncodeError.AlreadyFailed };
+
+    /// OBJECT IDENTIFIER (X.680 32).
+    fn encode_object_identifier(
+        &mut self,
+        tag: Tag,
+        value: Oid,
+        identifier: Identifier,
+    ) -> Result<(), EncodeError>
+        ensures ok { OnOk result (step self.old (object_identifier value.entry) self.new) }
+        ensures only { IfErr result (Refused step (object_identifier value.entry) self.old) }
+        ensures failed { OnErr result (has_failed self.new) }
+        ensures already { has_failed self.old → result ≡ Err EncodeError.AlreadyFailed };
+
+    /// A SEQUENCE OF begins (X.680 26) under a size constraint, in a type of the program that holds so many
+    /// members, with so many members.
+    fn begin_list(
+        &mut self,
+        tag: Tag,
+        constraints: Constraints,
+        held: Bounded<usize>,
+        count: usize,
+    ) -> Result<(), EncodeError>
+        ensures ok { OnOk result (step self.old (list_begins (sizes_of constraints.entry.size) (counts_of held) count) self.new) }
+        ensures only { IfErr result (Refused step (list_begins (sizes_of constraints.entry.size) (counts_of held) count) self.old) }
+        ensures failed { OnErr result (has_failed self.new) }
+        ensures already { has_failed self.old → result ≡ Err EncodeError.AlreadyFailed };
+
+    /// Whether a further member comes.
+    fn put_further(&mut self, more: bool) -> Result<(), EncodeError>
+        ensures ok { OnOk result (step self.old (further more) self.new) }
+        ensures only { IfErr result (Refused step (further more) self.old) }
+        ensures failed { OnErr result (has_failed self.new) }
+        ensures already { has_failed self.old → result ≡ Err EncodeError.AlreadyFailed };
+
+    /// A SEQUENCE begins (X.680 25), with or without a mark of extensibility, of whose root components so
+    /// many may be absent.
+    fn begin_sequence(
+        &mut self,
+        tag: Tag,
+        extensible: bool,
+        optional: usize,
+    ) -> Result<(), EncodeError>
+        ensures ok { OnOk result (step self.old (sequence_begins extensible optional) self.new) }
+        ensures only { IfErr result (Refused step (sequence_begins extensible optional) self.old) }
+        ensures failed { OnErr result (has_failed self.new) }
+        ensures already { has_failed self.old → result ≡ Err EncodeError.AlreadyFailed };
+
+    /// Whether the next component is there, of those that may be absent.
+    fn put_mark(&mut self, present: bool) -> Result<(), EncodeError>
+        ensures ok { OnOk result (step self.old (mark present) self.new) }
+        ensures only { IfErr result (Refused step (mark present) self.old) }
+        ensures failed { OnErr result (has_failed self.new) }
+        ensures already { has_failed self.old → result ≡ Err EncodeError.AlreadyFailed };
+
+    /// The end of what began last and has not ended.
+    fn end(&mut self) -> Result<(), EncodeError>
+        ensures ok { OnOk result (step self.old ends self.new) }
+        ensures only { IfErr result (Refused step ends self.old) }
+        ensures failed { OnErr result (has_failed self.new) }
+        ensures already { has_failed self.old → result ≡ Err EncodeError.AlreadyFailed };
+
+    /// At most one state stands after a record.
+    ghost one_after: { (a : Self) (r : Record) (b c : Self) → step a r b → step a r c → b ≡ c };
+
+    /// None stands after one that has failed.
+    ghost none_after: { (a : Self) (r : Record) (b : Self) → has_failed a → step a r b → ⊥ };
+
+    /// No record changes the rules.
+    ghost same_rules: { (a : Self) (r : Record) (b : Self) → step a r b → rules b ≡ rules a };
+}
+
+/// A type whose values are written.
+pub trait Encode: AsnType {
+    /// Hands over the records of the value by its type under these constraints, each once.
+    fn encode_with_tag_and_constraints<E: Encoder>(
+        &self,
+        encoder: &mut E,
+        tag: Tag,
+        constraints: Constraints,
+    ) -> Result<(), EncodeError>
+        ensures ok { OnOk result (Writes E.step (Self.under constraints.entry) (Self.meaning self.now) encoder.old encoder.new) }
+        ensures only { IfErr result (CannotWrite E.step (Self.under constraints.entry) (Self.meaning self.now) encoder.old) }
+        ensures failed { OnErr result (E.has_failed encoder.new) }
+        ensures already { E.has_failed encoder.old → result ≡ Err EncodeError.AlreadyFailed };
+
+    /// Hands over the records of the value by its type, each once.
+    final fn encode<E: Encoder>(&self, encoder: &mut E) -> Result<(), EncodeError>
+    where
+        Self: Sized,
+        ensures ok { OnOk result (Writes E.step Self.schema (Self.meaning self.now) encoder.old encoder.new) }
+        ensures only { IfErr result (CannotWrite E.step Self.schema (Self.meaning self.now) encoder.old) }
+        ensures failed { OnErr result (E.has_failed encoder.new) }
+        ensures already { E.has_failed encoder.old → result ≡ Err EncodeError.AlreadyFailed }
+    {
+        self.encode_with_tag(encoder, Self::TAG)
+    }
+
+    /// The same with another tag.
+    final fn encode_with_tag<E: Encoder>(
+        &self,
+        encoder: &mut E,
+        tag: Tag,
+    ) -> Result<(), EncodeError>
+    where
+        Self: Sized,
+        ensures ok { OnOk result (Writes E.step Self.schema (Self.meaning self.now) encoder.old encoder.new) }
+        ensures only { IfErr result (CannotWrite E.step Self.schema (Self.meaning self.now) encoder.old) }
+        ensures failed { OnErr result (E.has_failed encoder.new) }
+        ensures already { E.has_failed encoder.old → result ≡ Err EncodeError.AlreadyFailed }
+    {
+        self.encode_with_tag_and_constraints(encoder, tag, Self::constraints())?;
+        Ok(())
+    }
+
+    /// Hands over the records of the value by its type under these constraints, each once.
+    final fn encode_with_constraints<E: Encoder>(
+        &self,
+        encoder: &mut E,
+        constraints: Constraints,
+    ) -> Result<(), EncodeError>
+    where
+        Self: Sized,
+        ensures ok { OnOk result (Writes E.step (Self.under constraints.entry) (Self.meaning self.now) encoder.old encoder.new) }
+        ensures only { IfErr result (CannotWrite E.step (Self.under constraints.entry) (Self.meaning self.now) encoder.old) }
+        ensures failed { OnErr result (E.has_failed encoder.new) }
+        ensures already { E.has_failed encoder.old → result ≡ Err EncodeError.AlreadyFailed }
+    {
+        self.encode_with_tag_and_constraints(encoder, Self::TAG, constraints)
+    }
+}

@@ -1,0 +1,45 @@
+//! Lists, as they are written.
+
+ghost use Rattle.std.specs.Prelude.{◌≡◌, OnOk, OnErr, IfErr};
+ghost use Rattle.asn1_model.specs.Value.{members};
+ghost use Rattle.asn1_schema_bounds.specs.Bounds.{counts_of};
+ghost use Rattle.asn1_schema_constraints.specs.Terms.{sizes_of};
+ghost use Rattle.asn1_schema_presented.specs.Parts.{values_of};
+ghost use Rattle.asn1_schema_presented.specs.Tables.{list_type};
+ghost use Rattle.asn1_schema_encode.specs.Writes.{Writes, CannotWrite};
+
+use crate::encode::{Encode, Encoder};
+use asn1_schema_bounds::Bounded;
+use asn1_schema_constraints::Constraints;
+use asn1_schema_faults::EncodeError;
+use asn1_schema_tags::Tag;
+
+/// How a list is written.
+pub trait EncodeList: Encoder {
+    /// SEQUENCE OF (X.680 26) under a size constraint, in a type of the program that holds so many members.
+    final fn encode_sequence_of<T: Encode>(
+        &mut self,
+        tag: Tag,
+        items: &[T],
+        constraints: Constraints,
+        held: Bounded<usize>,
+    ) -> Result<(), EncodeError>
+    where
+        Self: Sized,
+        ensures ok { OnOk result (Writes Self.step (list_type (sizes_of constraints.entry.size) (counts_of held) T.schema) (members (values_of T.meaning items.now)) self.old self.new) }
+        ensures only { IfErr result (CannotWrite Self.step (list_type (sizes_of constraints.entry.size) (counts_of held) T.schema) (members (values_of T.meaning items.now)) self.old) }
+        ensures failed { OnErr result (Self.has_failed self.new) }
+        ensures already { Self.has_failed self.old → result ≡ Err EncodeError.AlreadyFailed }
+    {
+        self.begin_list(tag, constraints, held, items.len())?;
+        for item in items {
+            self.put_further(true)?;
+            item.encode(self)?;
+        }
+        self.put_further(false)?;
+        self.end()?;
+        Ok(())
+    }
+}
+
+impl<E: Encoder> EncodeList for E {}

@@ -1,0 +1,89 @@
+//! INTEGER (X.680 19) in the native types, as they are written.
+use crate::encode::{Encode, Encoder};
+use asn1_schema_constraints::Constraints;
+use asn1_schema_faults::EncodeError;
+use asn1_schema_tags::{Identifier, Tag};
+
+impl Encode for i8 {
+    fn encode_with_tag_and_constraints<E: Encoder>(
+        &self,
+        encoder: &mut E,
+        tag: Tag,
+        constraints: Constraints,
+    ) -> Result<(), EncodeError> {
+        encoder.encode_integer(tag, constraints, self, Identifier::INTEGER)?;
+        Ok(())
+    }
+}
+
+impl Encode for i16 {
+    fn encode_with_tag_and_constraints<E: Encoder>(
+        &self,
+        encoder: &mut E,
+        tag: Tag,
+        constraints: Constraints,
+    ) -> Result<(), EncodeError> {
+        encoder.encode_integer(tag, constraints, self, Identifier::INTEGER)?;
+        Ok(())
+    }
+}
+
+impl Encode for i32 {
+    fn encode_with_tag_and_constraints<E: Encoder>(
+        &self,
+        encoder: &mut E,
+        tag: Tag,
+        constraints: Constraints,
+    ) -> Result<(), EncodeError> {
+        encoder.encode_integer(tag, constraints, self, Identifier::INTEGER)?;
+        Ok(())
+    }
+}
+
+impl Encode for i64 {
+    fn encode_with_tag_and_constraints<E: Encoder>(
+        &self,
+        encoder: &mut E,
+        tag: Tag,
+        constraints: Constraints,
+    ) -> Result<(), EncodeError> {
+        encoder.encode_integer(tag, constraints, self, Identifier::INTEGER)?;
+        Ok(())
+    }
+}
+
+impl Encode for u16 {
+    fn encode_with_tag_and_constraints<E: Encoder>(
+        &self,
+        encoder: &mut E,
+        tag: Tag,
+        constraints: Constraints,
+    ) -> Result<(), EncodeError> {
+        encoder.encode_integer(tag, constraints, self, Identifier::INTEGER)?;
+        Ok(())
+    }
+}
+
+impl Encode for u32 {
+    fn encode_with_tag_and_constraints<E: Encoder>(
+        &self,
+        encoder: &mut E,
+        tag: Tag,
+        constraints: Constraints,
+    ) -> Result<(), EncodeError> {
+        encoder.encode_integer(tag, constraints, self, Identifier::INTEGER)?;
+        Ok(())
+    }
+}
+
+impl Encode for u64 {
+    fn encode_with_tag_and_constraints<E: Encoder>(
+        &self,
+        encoder: &mut E,
+        tag: Tag,
+        constraints: Constraints,
+    ) -> Result<(), EncodeError> {
+        encoder.encode_integer(tag, constraints, self, Identifier::INTEGER)?;
+        Ok(())
+    }
+}

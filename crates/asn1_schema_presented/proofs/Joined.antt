@@ -1,0 +1,64 @@
+-- How the records of components are put together, for what writes and what reads them.
+use Rattle.std.proofs.Common.{◌≡◌, ℕ, ◌+◌, zero, suc, Bool, true, false, cond, List, [], ◌∷◌, ◌++◌, Option, Some, None, refl, subst, sym, ◌∙◌, ap, Result, Ok, Err}
+use Rattle.std.specs.Prelude.{◌||◌, not}
+use Rattle.std.specs.Result.{IfErr, IsErrAnd}
+use Rattle.asn1_model.specs.Value.{Value, fields, Parts, end, absent, present, same}
+use Rattle.asn1_model.specs.Schema.{Tag, Presence, required, optional, by_default, Schema, sequence, Components, no_component, component}
+use Rattle.asn1_model.specs.Normal.{normal, is_at_default, is_group_left_out}
+use Rattle.asn1_model.specs.Lawful.{are_no_components}
+use Rattle.asn1_model.specs.Tables.{is_required}
+use Rattle.asn1_schema_presented.specs.Records.{Record, sequence_begins, mark, ends}
+use Rattle.asn1_schema_presented.specs.Presents.{Part, left_out, there, with_part, presents, part_records, noted, root_records, behind_root, added_records, optional_count, Fits, PartFits, PartsFit}
+use Rattle.asn1_schema_presented.specs.Tables.{Fields, no_field, field, Table, no_table, with_field, components_at, marks, scope, sequence_type, IsType, IsValue}
+use Rattle.asn1_schema_presented.specs.Chains.{Chain, OneAfter}
+use Rattle.asn1_schema_presented.proofs.Chains.{chain_append, chain_split, chain_rest}
+use Rattle.asn1_schema_presented.specs.Parts.{part_of, part_unless, tail_records, TailFits}
+use Rattle.asn1_schema_presented.proofs.Values.{not_empty}
+
+-- what a `?` passes on
+pub raised : {T E : Type 0} (P : E → Type 0) (x : E) (r : Result T E) → IsErrAnd r (λ y. y ≡ x) → P x → IfErr r P
+raised P x (Ok v) h p = tt
+raised P x (Err y) h p = subst P (sym h) p
+
+-- whether a component is there
+abbrev pub is_there : Part → Bool
+is_there left_out = false
+is_there (there v) = true
+
+append_nothing : {A : Type 0} (xs : List A) → xs ++ [] ≡ xs
+append_nothing [] = refl
+append_nothing (x ∷ xs) = ap (λ ys. x ∷ ys) (append_nothing xs)
+
+pub marks_at : (n : ℕ) (fs : Fields) → optional_count (components_at n fs) ≡ marks fs
+unfolding components_at
+marks_at n no_field = refl
+marks_at n (field ts o s fs) = rw (marks_at n fs) refl
+
+-- nothing is noted behind what the normal form keeps
+pub nothing_noted : (o : Presence) (s : Schema) (v : Value) → is_group_left_out s v ≡ false → is_at_default o s v ≡ false → noted o s v ≡ []
+nothing_noted o s v g d = rw (d, g) refl
+
+-- a component in front of the others
+pub tail_field : (n : ℕ) (ts : List Tag) (o : Presence) (s : ℕ → Schema) (t : Table) (x : Part) (ps qs : Parts) → tail_records n (with_field ts o s t) (with_part x ps) qs ≡ part_records (λ v. presents (s n) v) o (s n) x ++ tail_records n t ps qs
+unfolding components_at root_records
+tail_field n ts o s t left_out ps qs = refl
+tail_field n ts o s t (there v) ps qs = refl
+
+pub tail_fits : (n : ℕ) (ts : List Tag) (o : Presence) (s : ℕ → Schema) (t : Table) (x : Part) (ps qs : Parts) → TailFits n (with_field ts o s t) (with_part x ps) qs → PartFits (λ v. Fits (s n) v) o x × TailFits n t ps qs
+unfolding components_at PartsFit
+tail_fits n ts o s t left_out ps qs f = (f.0.0, (f.0.1, f.1))
+tail_fits n ts o s t (there v) ps qs f = (f.0.0, (f.0.1, f.1))
+
+-- a component that is there and has nothing noted behind it
+pub there_records : (o : Presence) (s : Schema) (v : Value) → noted o s v ≡ [] → part_records (λ w. presents s w) o s (there v) ≡ cond (is_required o) (presents s v) (mark true ∷ presents s v)
+there_records required s v e = rw e (append_nothing (presents s v))
+there_records optional s v e = rw e (ap (λ rs. mark true ∷ rs) (append_nothing (presents s v)))
+there_records (by_default d) s v e = rw e (ap (λ rs. mark true ∷ rs) (append_nothing (presents s v)))
+
+-- a value behind its mark
+pub marked_records : (o : Presence) (s : Schema) (v : Value) → is_required o ≡ false → noted o s v ≡ [] → part_records (λ w. presents s w) o s (there v) ≡ mark true ∷ presents s v
+marked_records o s v r e = there_records o s v e ∙ rw r refl
+
+-- a value that is not equal to its default
+pub not_default : {s : ℕ → Schema} {v d : Value} → IsValue s v → IsValue s d → same v d ≡ false → (n : ℕ) → is_at_default (by_default d) (s n) v ≡ false
+not_default h k e n = rw (h.normal n, k.normal n) e

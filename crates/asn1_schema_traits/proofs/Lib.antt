@@ -1,4 +1,0 @@
-pub mod Writing
-pub mod Reading
-pub mod Listing
-pub mod SingleRecords

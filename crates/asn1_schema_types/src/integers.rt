@@ -1,0 +1,81 @@
+//! INTEGER (X.680 19).
+ghost use Rattle.std.specs.Prelude.{◌≡◌, refl, [], ◌∷◌, Some, None, false, pos, negsuc, ◌^◌, ◌-◌};
+ghost use Rattle.asn1_model.specs.Value.{number};
+ghost use Rattle.asn1_model.specs.Schema.{integer};
+ghost use Rattle.asn1_schema_constraints.specs.Sets.{no_constraint};
+ghost use Rattle.asn1_schema_constraints.specs.Terms.{integer_under, bounds_of, held_of};
+ghost use Rattle.asn1_schema_bounds.specs.declared.bounds.Bounded.{Bounded};
+ghost use Rattle.asn1_schema_presented.proofs.TypesByKind.{integer_type, integer_value};
+ghost use Rattle.asn1_values_natives.specs.Ranges.{natural_range, whole_range};
+
+use crate::described::{AsnType, Described};
+use asn1_schema_bounds::Bounded;
+use asn1_schema_constraints::{Constraints, Extensible, Value};
+use asn1_schema_tags::Tag;
+use asn1_values_numbers::Integer;
+
+// The constraint to the numbers between two.
+pub(crate) fn between(low: i128, high: i128) -> Constraints<'static>
+    ensures { result ≡ record { value = Some (record { constraint = record { value = Bounded.Range (Some low) (Some high) }; extensible = None }); size = None; permitted_alphabet = None; is_marked = false } }
+{
+    Constraints {
+        value: Some(Extensible::new(Value::new(Bounded::const_new(low, high)))),
+        ..Constraints::NONE
+    }
+}
+
+impl Described for Integer {
+    ghost tags = { record { class = 0; number = 2 } ∷ [] };
+
+    ghost own = { no_constraint };
+
+    ghost under = { λ c _. integer_under c (record { low = None; high = None }) };
+
+    ghost schema = { λ _. integer_under (no_constraint) (record { low = None; high = None }) };
+
+    ghost is_own = { λ _. refl };
+
+    ghost meaning = { number };
+
+    ghost typed = { integer_type _ _ refl refl refl };
+
+    ghost valued = { λ x. integer_value _ _ _ };
+
+    ghost valued_under = { λ c x. integer_value _ _ _ };
+}
+
+impl AsnType for Integer {
+    const TAG: Tag = Tag::INTEGER;
+
+    fn constraints() -> Constraints<'static> {
+        Constraints::NONE
+    }
+}
+
+impl Described for u8 {
+    ghost tags = { record { class = 0; number = 2 } ∷ [] };
+
+    ghost own = { record { value = Some (record { constraint = record { value = Bounded.Range (Some (pos 0)) (Some (pos 255)) }; extensible = None }); size = None; permitted_alphabet = None; is_marked = false } };
+
+    ghost under = { λ c _. integer_under c (natural_range (2 ^ 8 - 1)) };
+
+    ghost schema = { λ _. integer_under (record { value = Some (record { constraint = record { value = Bounded.Range (Some (pos 0)) (Some (pos 255)) }; extensible = None }); size = None; permitted_alphabet = None; is_marked = false }) (natural_range (2 ^ 8 - 1)) };
+
+    ghost is_own = { λ _. refl };
+
+    ghost meaning = { λ x. number (pos x) };
+
+    ghost typed = { integer_type _ _ refl refl refl };
+
+    ghost valued = { λ x. integer_value _ _ _ };
+
+    ghost valued_under = { λ c x. integer_value _ _ _ };
+}
+
+impl AsnType for u8 {
+    const TAG: Tag = Tag::INTEGER;
+
+    fn constraints() -> Constraints<'static> {
+        between(0, 255)
+    }
+}

@@ -1,0 +1,32 @@
+//! Values behind pointers.
+use crate::described::{AsnType, Described};
+use asn1_schema_constraints::Constraints;
+use asn1_schema_tags::Tag;
+
+impl<T: Described> Described for Box<T> {
+    ghost tags = { T.tags };
+
+    ghost own = { T.own };
+
+    ghost under = { T.under };
+
+    ghost schema = { T.schema };
+
+    ghost is_own = { T.is_own };
+
+    ghost meaning = { λ b. T.meaning b.value };
+
+    ghost typed = { T.typed };
+
+    ghost valued = { λ b. T.valued b.value };
+
+    ghost valued_under = { λ c b. T.valued_under c b.value };
+}
+
+impl<T: AsnType> AsnType for Box<T> {
+    const TAG: Tag = T::TAG;
+
+    fn constraints() -> Constraints<'static> {
+        T::constraints()
+    }
+}

@@ -1,0 +1,23 @@
+//! Types around others: with another tag, of a type that is named beside the value, and any value as octets.
+#![tactic(auto)]
+
+pub mod any;
+pub mod inner;
+pub mod tag;
+pub mod tagged;
+
+pub use any::{Any, InstanceOf};
+pub use inner::{InnerSubtypeConstraint, InnerSubtypeConstraintError};
+pub use tagged::{Explicit, Implicit};
+
+/// A list of values of one type (X.680 26).
+pub type SequenceOf<T> = Vec<T>;
+
+/// A string of characters in UTF-8 (X.680 41).
+pub type Utf8String = String;
+
+/// A string of any characters (X.680 41).
+pub type UniversalString = Implicit<tag::UNIVERSAL_STRING, Utf8String>;
+
+#[cfg(test)]
+mod tests;
