@@ -18,7 +18,7 @@ pub use asn1_values_fields::{
 pub use asn1_values_identifiers::{
     IdentifierError, ObjectIdentifier, Oid, oid_from_octets, oid_octets,
 };
-pub use asn1_values_integer_types::{IntegerType, NativeIntegerType};
+pub use asn1_values_integer_types::IntegerType;
 pub use asn1_values_natives::{IntegerBytes, NativeInteger, Wide};
 pub use asn1_values_numbers::{Integer, IntegerError, TryFromIntegerError};
 pub use asn1_values_octets::{FixedOctetString, OctetString, WrongLength};
