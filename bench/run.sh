@@ -1,6 +1,6 @@
 #!/bin/sh
 # Builds the benchmark and the same work in C in a folder of its own, runs both five times in turn, and prints the best time of each
-# in microseconds, and how many times the one in C it takes.
+# in microseconds, and how many times the one in C it takes. RUN is a command that starts each of them, as taskset -c 3; none is needed.
 set -e
 here=$(cd "$(dirname "$0")" && pwd)
 work=${1:-$(mktemp -d)}
@@ -14,8 +14,8 @@ printf 'asn1_model:\nasn1_values_bits: asn1_model\nbits_bench: asn1_values_bits 
 ${CC:-clang} -O2 -o "$work/plain" "$here/plain.c"
 (cd "$work/crates/bits_bench" && rt run > "$work/first" 2> "$work/log") || { tail -20 "$work/log"; exit 1; }
 for round in 1 2 3 4 5; do
-    "$work/plain" | sed 's/^/plain /'
-    "$work/crates/bits_bench/out/bits_bench" | sed 's/^/proved /'
+    $RUN "$work/plain" | sed 's/^/plain /'
+    $RUN "$work/crates/bits_bench/out/bits_bench" | sed 's/^/proved /'
 done > "$work/times"
 awk '{
     key = $1 " " $2

@@ -1,4 +1,6 @@
 //! Why characters, codes and lists of characters are refused.
+ghost use Rattle.std.specs.Prelude.{◌≡◌};
+
 use std::alloc::AllocError;
 use thiserror::Error;
 
@@ -10,12 +12,28 @@ pub struct InvalidBmpString {
     pub character: u32,
 }
 
+impl From<u32> for InvalidBmpString {
+    ghost from_gives = { λ character e. e.character ≡ character };
+
+    fn from(character: u32) -> InvalidBmpString {
+        InvalidBmpString { character }
+    }
+}
+
 /// A character that no GeneralString may hold (X.680 41).
 #[derive(Clone, Copy, Debug, PartialEq, Eq, Hash, Error)]
 #[error("character {character} is not permitted in a GeneralString")]
 pub struct InvalidGeneralString {
     /// The first character that is not permitted, by its number.
     pub character: u32,
+}
+
+impl From<u32> for InvalidGeneralString {
+    ghost from_gives = { λ character e. e.character ≡ character };
+
+    fn from(character: u32) -> InvalidGeneralString {
+        InvalidGeneralString { character }
+    }
 }
 
 /// A character that no GraphicString may hold (X.680 41).
@@ -26,12 +44,28 @@ pub struct InvalidGraphicString {
     pub character: u32,
 }
 
+impl From<u32> for InvalidGraphicString {
+    ghost from_gives = { λ character e. e.character ≡ character };
+
+    fn from(character: u32) -> InvalidGraphicString {
+        InvalidGraphicString { character }
+    }
+}
+
 /// A character that no IA5String may hold (X.680 41).
 #[derive(Clone, Copy, Debug, PartialEq, Eq, Hash, Error)]
 #[error("character {character} is not permitted in an IA5String")]
 pub struct InvalidIA5String {
     /// The first character that is not permitted, by its number.
     pub character: u32,
+}
+
+impl From<u32> for InvalidIA5String {
+    ghost from_gives = { λ character e. e.character ≡ character };
+
+    fn from(character: u32) -> InvalidIA5String {
+        InvalidIA5String { character }
+    }
 }
 
 /// A character that no TeletexString may hold (X.680 41).
@@ -42,12 +76,28 @@ pub struct InvalidTeletexString {
     pub character: u32,
 }
 
+impl From<u32> for InvalidTeletexString {
+    ghost from_gives = { λ character e. e.character ≡ character };
+
+    fn from(character: u32) -> InvalidTeletexString {
+        InvalidTeletexString { character }
+    }
+}
+
 /// A character that no VisibleString may hold (X.680 41).
 #[derive(Clone, Copy, Debug, PartialEq, Eq, Hash, Error)]
 #[error("character {character} is not permitted in a VisibleString")]
 pub struct InvalidVisibleString {
     /// The first character that is not permitted, by its number.
     pub character: u32,
+}
+
+impl From<u32> for InvalidVisibleString {
+    ghost from_gives = { λ character e. e.character ≡ character };
+
+    fn from(character: u32) -> InvalidVisibleString {
+        InvalidVisibleString { character }
+    }
 }
 
 /// A character that no NumericString may hold (X.680 41).
@@ -58,12 +108,28 @@ pub struct InvalidNumericString {
     pub character: u32,
 }
 
+impl From<u32> for InvalidNumericString {
+    ghost from_gives = { λ character e. e.character ≡ character };
+
+    fn from(character: u32) -> InvalidNumericString {
+        InvalidNumericString { character }
+    }
+}
+
 /// A character that no PrintableString may hold (X.680 41).
 #[derive(Clone, Copy, Debug, PartialEq, Eq, Hash, Error)]
 #[error("character {character} is not permitted in a PrintableString")]
 pub struct InvalidPrintableString {
     /// The first character that is not permitted, by its number.
     pub character: u32,
+}
+
+impl From<u32> for InvalidPrintableString {
+    ghost from_gives = { λ character e. e.character ≡ character };
+
+    fn from(character: u32) -> InvalidPrintableString {
+        InvalidPrintableString { character }
+    }
 }
 
 /// A character outside the alphabet of a string's type (X.680 41).

@@ -188,35 +188,35 @@ fn refusals_are_told(rt: HostRuntime) -> Result<(), Fail> {
     let character = 65;
     let rows: [(InvalidRestrictedString, &str); 8] = [
         (
-            InvalidBmpString { character }.into(),
+            InvalidBmpString::from(character).into(),
             "character 65 is not permitted in a BMPString",
         ),
         (
-            InvalidGeneralString { character }.into(),
+            InvalidGeneralString::from(character).into(),
             "character 65 is not permitted in a GeneralString",
         ),
         (
-            InvalidGraphicString { character }.into(),
+            InvalidGraphicString::from(character).into(),
             "character 65 is not permitted in a GraphicString",
         ),
         (
-            InvalidIA5String { character }.into(),
+            InvalidIA5String::from(character).into(),
             "character 65 is not permitted in an IA5String",
         ),
         (
-            InvalidNumericString { character }.into(),
+            InvalidNumericString::from(character).into(),
             "character 65 is not permitted in a NumericString",
         ),
         (
-            InvalidPrintableString { character }.into(),
+            InvalidPrintableString::from(character).into(),
             "character 65 is not permitted in a PrintableString",
         ),
         (
-            InvalidTeletexString { character }.into(),
+            InvalidTeletexString::from(character).into(),
             "character 65 is not permitted in a TeletexString",
         ),
         (
-            InvalidVisibleString { character }.into(),
+            InvalidVisibleString::from(character).into(),
             "character 65 is not permitted in a VisibleString",
         ),
     ];

@@ -133,8 +133,8 @@ kept_filled len os v k e = kept_bits len os v k e ∙ ap (λ n. v ++ replicate (
 pub grown : (new old : List Bool) (w n : ℕ) → new ≡ old ++ binary w n → length new ≡ length old + w
 grown new old w n e = ap length e ∙ length-append old (binary w n) ∙ ap (λ k. length old + k) (length-binary w n)
 
--- digits of a number moved from the front of some bits to the end of others
-pub moved : (old new rest left all : List Bool) (w n : ℕ) → new ≡ old ++ binary w n → binary w n ≡ take w rest → left ≡ drop w rest → old ++ rest ≡ all → new ++ left ≡ all
-moved old new rest left all w n e b d j =
-    ap (λ l. l ++ left) (e ∙ ap (λ l. old ++ l) b) ∙ append_assoc old (take w rest) left ∙ ap (λ l. old ++ (take w rest ++ l)) d
-    ∙ ap (λ l. old ++ l) (take-append-drop w rest) ∙ j
+-- bits moved from the front of some to the end of others
+pub moved : (old new rest left all : List Bool) (n : ℕ) → new ≡ old ++ take n rest → left ≡ drop n rest → old ++ rest ≡ all → new ++ left ≡ all
+moved old new rest left all n e d j =
+    ap (λ l. l ++ left) e ∙ append_assoc old (take n rest) left ∙ ap (λ l. old ++ (take n rest ++ l)) d
+    ∙ ap (λ l. old ++ l) (take-append-drop n rest) ∙ j

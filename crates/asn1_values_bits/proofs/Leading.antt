@@ -1,5 +1,5 @@
 -- The first octet of bits that are filled up.
-use Rattle.std.proofs.Common.{◌≡◌, ℕ, suc, ◌+◌, ◌-◌, ◌*◌, ◌/◌, ◌^◌, ◌<◌, ◌≤◌, Bool, false, cond, List, ◌∷◌, ◌++◌, length, min, drop, take, map, replicate, ap, sym, ◌∙◌, arith}
+use Rattle.std.proofs.Common.{◌≡◌, ℕ, suc, ◌+◌, ◌-◌, ◌*◌, ◌/◌, ◌^◌, ◌<◌, Bool, false, cond, List, ◌∷◌, ◌++◌, length, min, drop, take, map, replicate, ap, sym, ◌∙◌, arith}
 use Rattle.std.proofs.lemmas.List.{length-drop}
 use Rattle.std.proofs.lemmas.Nat.{shl_below}
 use Rattle.asn1_model.specs.Numbers.{binary, number_after, packed, missing}

@@ -10,3 +10,4 @@ pub mod Putting
 pub mod Leading
 pub mod Whole
 pub mod Window
+pub mod Shifting

@@ -1,5 +1,5 @@
 -- Numbers in whole octets, the highest first.
-use Rattle.std.proofs.Common.{◌≡◌, ℕ, zero, suc, ◌+◌, ◌-◌, ◌*◌, ◌/◌, ◌%◌, ◌^◌, ◌≤◌, Bool, false, List, ◌∷◌, ◌++◌, length, take, replicate, refl, ap, sym, ◌∙◌, append_assoc, length-append, arith}
+use Rattle.std.proofs.Common.{◌≡◌, ℕ, zero, suc, ◌+◌, ◌-◌, ◌*◌, ◌/◌, ◌%◌, ◌^◌, ◌≤◌, Bool, false, List, ◌++◌, length, take, replicate, refl, ap, sym, ◌∙◌, append_assoc, length-append, arith}
 use Rattle.std.specs.Int.{byte_at, bytes_high_first}
 use Rattle.std.proofs.lemmas.Nat.{pow-add}
 use Rattle.std.proofs.Math.Nat.{pow-suc}
@@ -43,7 +43,3 @@ whole_written os os' v w n x y b h m e f =
     octet_bits-take n bs (omega arith) ∙ ap (take (n * 8)) shown ∙ take_at (binary w x ++ replicate (missing w) false) (replicate more false) (n * 8) long in
     ap octet_bits f ∙ octet_bits-append os (take n bs) ∙ ap (λ l. l ++ octet_bits (take n bs)) b ∙ ap (λ l. v ++ l) cut
     ∙ sym (append_assoc v (binary w x) (replicate (missing w) false))
-
--- a number in sixteen octets
-pub sixteen_written : (os os' : List ℕ) (v : List Bool) (x : ℕ) → octet_bits os ≡ v → os' ≡ os ++ bytes_high_first 16 x → octet_bits os' ≡ v ++ binary 128 x
-sixteen_written os os' v x b f = ap octet_bits f ∙ octet_bits-append os (bytes_high_first 16 x) ∙ ap (λ l. l ++ octet_bits (bytes_high_first 16 x)) b ∙ ap (λ l. v ++ l) (high_first 16 x)

@@ -1,8 +1,8 @@
 -- Numbers read of a few octets at once.
 use Rattle.std.proofs.Common.{◌≡◌, ℕ, suc, ◌+◌, ◌-◌, ◌*◌, ◌/◌, ◌%◌, ◌^◌, ◌<◌, ◌≤◌, Bool, List, [], ◌∷◌, ◌++◌, length, take, drop, get_or, refl, ap, sym, ◌∙◌, arith, bit_or, bit_and, Fits, w8, zero, lit<}
-use Rattle.std.specs.Int.{bytes_high_first, from_be_bytes, w64}
+use Rattle.std.specs.Int.{from_be_bytes, w64}
 use Rattle.std.proofs.lemmas.Nat.{be_bytes_8, pow_pos, or_shifted, one_shl, and_mask, mod_below, shl_whole}
-use Rattle.std.proofs.lemmas.List.{take_at, drop_at, drop-drop, drop_more, drop-take, take-take, get_or_default}
+use Rattle.std.proofs.lemmas.List.{take_at, drop_at, drop-drop, drop_more, drop-take, take-take}
 use Rattle.std.proofs.Math.Nat.{pow-le-pow_right}
 use Rattle.asn1_model.specs.Numbers.{binary, octet_bits}
 use Rattle.asn1_values_bits.proofs.Binary.{length-binary, binary_split, binary_join, binary_low}

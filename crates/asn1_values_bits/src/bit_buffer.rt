@@ -8,6 +8,9 @@ use std::alloc::{AllocError, Global};
 use std::default::MadeWith;
 use std::marker::Model;
 
+// How many octets are shifted at a time.
+const BLOCK: usize = 512;
+
 /// A list of bits that grows at its end. Between two calls all of them stand in octets, the first bit highest, and the bits past
 /// the last one are zero.
 #[derive(Drop)]
@@ -209,17 +212,30 @@ impl BitBuffer {
         ensures ok { OnOk result (self.new ≡ self.old ++ octet_bits bytes.now) }
         ensures err { OnErr result (self.new ≡ self.old) }
     {
+        if self.len % 8 == 0 {
+            self.push_octets(bytes)?;
+            return Ok(());
+        }
         let Some(bits) = bytes.len().checked_mul(8) else {
             return Err(AllocError);
         };
-        if self.len % 8 > 0 {
-            self.extend_shifted(BitStr::front_of(bytes, bits))?;
-            return Ok(());
-        }
+        self.extend_shifted(BitStr::front_of(bytes, bits))?;
+        Ok(())
+    }
+
+    // Adds octets behind whole octets.
+    fn push_octets(&mut self, octets: &[u8]) -> Result<(), AllocError>
+        requires { length self.old % 8 ≡ 0 }
+        ensures ok { OnOk result (self.new ≡ self.old ++ octet_bits octets.now) }
+        ensures err { OnErr result (self.new ≡ self.old) }
+    {
+        let Some(bits) = octets.len().checked_mul(8) else {
+            return Err(AllocError);
+        };
         let Some(len) = self.len.checked_add(bits) else {
             return Err(AllocError);
         };
-        self.octets.extend_from_slice(bytes)?;
+        self.octets.extend_from_slice(octets)?;
         self.len = len;
         Ok(())
     }
@@ -242,23 +258,25 @@ impl BitBuffer {
         }
     }
 
-    // Adds the bits of a view behind whole octets, 128 at a time.
+    // Adds the bits of a view behind whole octets, some octets at a time.
     fn extend_whole(&mut self, bits: BitStr<'_>) -> Result<(), AllocError>
         requires { 0 < length (bits_of bits) → length self.old % 8 ≡ 0 }
         ensures ok { OnOk result (self.new ≡ self.old ++ bits_of bits.entry) }
         ensures err { OnErr result (self.new ≡ self.old) }
     {
         let before = self.len();
+        let mut block = [0; BLOCK];
         let mut rest = bits;
-        while rest.len() >= 128 {
-            match self.push_sixteen(rest.first_number(128)) {
+        while rest.len() >= 8 {
+            let count = (rest.len() / 8).min(BLOCK);
+            match self.push_block(rest, &mut block[..count]) {
                 Ok(()) => {}
                 Err(error) => {
                     self.truncate(before);
                     return Err(error);
                 }
             }
-            rest = rest.split_at(128).1;
+            rest = rest.split_at(count * 8).1;
         }
         let left = rest.len() as u32;
         if left == 0 {
@@ -273,17 +291,15 @@ impl BitBuffer {
         }
     }
 
-    // Adds 128 bits behind whole octets.
-    fn push_sixteen(&mut self, value: u128) -> Result<(), AllocError>
-        requires { length self.old % 8 ≡ 0 }
-        ensures ok { OnOk result (self.new ≡ self.old ++ binary 128 value) }
+    // Adds the first bits of a view, as many as these octets have, behind whole octets.
+    fn push_block(&mut self, bits: BitStr<'_>, block: &mut [u8]) -> Result<(), AllocError>
+        requires whole { length self.old % 8 ≡ 0 }
+        requires within { length block.old * 8 ≤ length (bits_of bits) }
+        ensures ok { OnOk result (self.new ≡ self.old ++ take (length block.old * 8) (bits_of bits.entry)) }
         ensures err { OnErr result (self.new ≡ self.old) }
     {
-        let Some(len) = self.len.checked_add(128) else {
-            return Err(AllocError);
-        };
-        self.octets.extend_from_slice(&value.to_be_bytes())?;
-        self.len = len;
+        bits.copy_to(block);
+        self.push_octets(block)?;
         Ok(())
     }
 

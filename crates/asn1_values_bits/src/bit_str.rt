@@ -1,7 +1,7 @@
 //! A view of bits in octets.
 ghost use Rattle.std.specs.Prelude.{◌≡◌, ◌+◌, ◌*◌, ◌%◌, ◌^◌, ◌<◌, ◌≤◌, length, IsTrue, ◌↔◌, ◌++◌, IsSome, IfSome};
 
-use crate::bits::read_wide;
+use crate::bits::{read_wide, shift_octets};
 
 /// Some of the bits that stand in octets, from any bit on.
 #[derive(Clone, Copy)]
@@ -143,6 +143,21 @@ impl<'a> BitStr<'a> {
         let start = self.first / 8;
         let end = start + self.len / 8;
         Some(&self.octets[start..end])
+    }
+
+    // Copies the first bits into octets.
+    pub(crate) fn copy_to(&self, octets: &mut [u8])
+        requires { length octets.old * 8 ≤ length (bits_of self.now) }
+        ensures { octet_bits octets.new ≡ take (length octets.old * 8) (bits_of self.now) }
+    {
+        let start = self.first / 8;
+        let offset = (self.first % 8) as u32;
+        let count = octets.len();
+        if offset == 0 {
+            octets.copy_from_slice(&self.octets[start..start + count]);
+        } else if count > 0 {
+            shift_octets(octets, &self.octets[start..start + count + 1], offset);
+        }
     }
 
     // The octets that stand whole at the front, and the bits behind them. Where the bits do not begin at an octet there are none.

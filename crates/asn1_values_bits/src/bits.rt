@@ -89,6 +89,18 @@ pub fn read_wide(octets: &[u8], position: usize, count: u32) -> u128
     (high as u128) << 64 | low as u128
 }
 
+// Copies the octets that begin at a bit within the first octet of the source, of which one more stands there.
+pub(crate) fn shift_octets(target: &mut [u8], source: &[u8], offset: u32)
+    requires one_more { length source.now ≡ length target.old + 1 }
+    requires some { 0 < offset }
+    requires within { offset < 8 }
+    ensures { octet_bits target.new ≡ take (length target.old * 8) (drop offset (octet_bits source.now)) }
+{
+    for i in 0..target.len() {
+        target[i] = source[i] << offset | source[i + 1] >> (8 - offset);
+    }
+}
+
 /// ORs the first `count` bits of the source into the target, from its bit `position` on. The target's other bits stay.
 pub fn or_bits(target: &mut [u8], position: usize, source: &[u8], count: usize)
     requires target_room { position + count ≤ length target.old * 8 }

@@ -141,6 +141,29 @@ fn changes(rt: HostRuntime) -> Result<(), Fail> {
     Ok(())
 }
 
+// Long views, from each bit of an octet to each bit of an octet.
+#[test]
+fn every_shift(rt: HostRuntime) -> Result<(), Fail> {
+    let mut bits = BitBuffer::new(rt.alloc());
+    for i in 0..700_u32 {
+        bits.push_bits(u128::from(i * i), 13)?;
+    }
+    let all = bits.as_bitslice();
+    assert!(rt; all.len() > 9000);
+    for first in 0..8 {
+        let (_, view) = all.split_at(first);
+        for alignment in 0..8 {
+            let mut buffer = BitBuffer::new(rt.alloc());
+            buffer.push_bits(0, alignment)?;
+            buffer.extend_from_bitslice(view)?;
+            let copied = buffer.as_bitslice();
+            assert!(rt; copied.len() > 9000);
+            assert!(rt; copied.split_at(alignment as usize).1 == view);
+        }
+    }
+    Ok(())
+}
+
 #[test]
 fn readers(rt: HostRuntime) -> Result<(), Fail> {
     let octets = [0xa4, 0xa1, 0xfc];

@@ -1,9 +1,10 @@
 // Whole numbers within a range.
 ghost use Rattle.asn1_values_constrained.specs.Constrained.{IsConstrained, constrained_number};
-ghost use Rattle.std.specs.Prelude.{◌≡◌, ◌^◌, ◌≤◌, IfOk, IfErr};
+ghost use Rattle.std.specs.Prelude.{◌≡◌, ◌^◌, ◌<◌};
 ghost use Rattle.asn1_values_natives.specs.Octets.{plain};
 
-use asn1_values_numbers::{Integer, IntegerError, TryFromIntegerError};
+use asn1_values_numbers::{Integer, TryFromIntegerError};
+use std::alloc::AllocError;
 use std::ops::Deref;
 
 /// A whole number from `START` to `END` (X.680 51.4).
@@ -23,12 +24,15 @@ impl<const START: i64, const END: i64> ConstrainedInteger<START, END> {
             number: Integer::from_i128(value),
         })
     }
+}
 
-    /// The same number. Takes no memory where 128 bits hold the number, as they do here.
-    pub fn clone(&self) -> Result<Self, IntegerError>
-        ensures value { IfOk result (λ c. constrained_number c ≡ constrained_number self.now) }
-        ensures refused { IfErr result (λ e. (e ≡ IntegerError.Memory) × (2 ^ 128 ≤ plain (constrained_number self.now))) }
-    {
+/// The same number, made without memory where 129 bits of two's complement hold it, as they do in a range.
+impl<const START: i64, const END: i64> Clone for ConstrainedInteger<START, END> {
+    ghost is_clone = { λ c copy. constrained_number copy ≡ constrained_number c };
+
+    ghost is_infallible = { λ c. plain (constrained_number c) < 2 ^ 128 };
+
+    fn clone(&self) -> Result<Self, AllocError> {
         Ok(ConstrainedInteger {
             number: self.number.clone()?,
         })

@@ -10,3 +10,6 @@ mod wide;
 pub use bytes::IntegerBytes;
 pub use native::NativeInteger;
 pub use wide::Wide;
+
+#[cfg(test)]
+mod tests;

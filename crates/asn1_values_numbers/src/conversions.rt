@@ -1,12 +1,17 @@
 //! Conversions from and to the native integer types.
-ghost use Rattle.std.specs.Prelude.{◌≡◌, ◌-◌, ◌^◌, ℤ, pos, true, false, Some, is_some, is_ok, IfOk, IfErr, IfSome};
+ghost use Rattle.std.specs.Prelude.{◌≡◌, ◌-◌, ◌^◌, ◌<◌, ℤ, pos, true, false, Some, is_some, is_ok, IfOk, IfErr, IfSome};
 ghost use Rattle.asn1_model.specs.Numbers.{is_within};
 ghost use Rattle.asn1_values_numbers.specs.Conversions.{IsNatural, IsWhole};
 ghost use Rattle.asn1_values_numbers.specs.Texts.{refusal_text};
+ghost use Rattle.asn1_values_natives.specs.Octets.{plain};
 ghost use Rattle.asn1_values_natives.specs.Ranges.{range_of, natural_range, whole_range};
+ghost use Rattle.std.proofs.Common.{rules};
+ghost use Rattle.std.specs.Cmp.Rules.{comparing};
+ghost use Rattle.std.specs.Ordering.{int_eq};
 
 use crate::integer::Integer;
 use asn1_values_natives::NativeInteger;
+use std::alloc::AllocError;
 use std::error::Error;
 use std::fmt;
 use std::marker::Model;
@@ -53,6 +58,34 @@ impl fmt::Display for TryFromIntegerError {
 }
 
 impl Error for TryFromIntegerError {}
+
+/// Refusals of one number are equal.
+impl PartialEq for TryFromIntegerError {
+    ghost eq = { int_eq };
+
+    ghost laws = { Prim.search (comparing, rules) };
+
+    fn eq(&self, other: &TryFromIntegerError) -> bool {
+        self.original == other.original
+    }
+}
+
+impl Eq for TryFromIntegerError {
+    ghost laws = { Prim.search (comparing, rules) };
+}
+
+/// The refusal of the same number. Takes memory where a copy of the number does.
+impl Clone for TryFromIntegerError {
+    ghost is_clone = { λ z copy. copy ≡ z };
+
+    ghost is_infallible = { λ z. plain z < 2 ^ 128 };
+
+    fn clone(&self) -> Result<TryFromIntegerError, AllocError> {
+        Ok(TryFromIntegerError {
+            original: self.original.clone()?,
+        })
+    }
+}
 
 impl<T: NativeInteger> From<T> for Integer {
     ghost from_gives = { λ x z. z ≡ T.number x };

@@ -225,25 +225,6 @@ impl Integer {
         Some(Integer::from_i128(difference))
     }
 
-    /// The same number. Takes memory for numbers outside -2^128 to 2^128 - 1 alone.
-    pub fn clone(&self) -> Result<Integer, IntegerError>
-        ensures value { IfOk result (λ n. n ≡ self.now) }
-        ensures empty { IsErrOf result IntegerError.Empty → ⊥ }
-        ensures overflow { IsErrOf result IntegerError.Overflow → ⊥ }
-        ensures memory { IsErrOf result IntegerError.Memory → 2 ^ 128 ≤ plain self.now }
-    {
-        match &self.kind {
-            IntegerKind::Primitive(value) => Ok(Integer::from_i128(*value)),
-            IntegerKind::Short(octets) => Ok(Integer {
-                kind: IntegerKind::Short(*octets),
-            }),
-            IntegerKind::Long(octets) => match Vec::from_slice(*octets.allocator(), octets) {
-                Ok(kept) => Ok(Integer::long(kept)),
-                Err(_) => Err(IntegerError::Memory),
-            },
-        }
-    }
-
     // The lowest 128 bits of two's complement.
     fn low_bits(&self) -> u128
         ensures { result ≡ remainder self.now (2 ^ 128) }
@@ -275,6 +256,26 @@ impl Integer {
     }
 }
 
+/// The same number, in the memory that its own comes from. Takes memory for numbers outside -2^128 to 2^128 - 1 alone.
+impl Clone for Integer {
+    ghost is_clone = { λ z copy. copy ≡ z };
+
+    ghost is_infallible = { λ z. plain z < 2 ^ 128 };
+
+    fn clone(&self) -> Result<Integer, AllocError> {
+        match &self.kind {
+            IntegerKind::Primitive(value) => Ok(Integer::from_i128(*value)),
+            IntegerKind::Short(octets) => Ok(Integer {
+                kind: IntegerKind::Short(*octets),
+            }),
+            IntegerKind::Long(octets) => {
+                let kept = Vec::from_slice(*octets.allocator(), octets)?;
+                Ok(Integer::long(kept))
+            }
+        }
+    }
+}
+
 // The number that the last sixteen octets stand for.
 fn last_sixteen(octets: &[u8]) -> u128
     requires many { 16 < length octets.now }
@@ -287,7 +288,7 @@ fn last_sixteen(octets: &[u8]) -> u128
 fn with_zero(alloc: Global, octets: &[u8]) -> Result<Vec<u8>, AllocError>
     ensures { IfOk result (λ v. v.items ≡ signed_from_plain octets.now) }
 {
-    let mut kept = Vec::new(alloc);
+    let mut kept = Vec::with_capacity(alloc, octets.len() + 1)?;
     if has_sign(octets) {
         kept.push(0)?;
     }

@@ -1,5 +1,5 @@
 use super::*;
-use std::alloc::Global;
+use std::alloc::{AllocError, Global};
 use std::hash::{DefaultHasher, Hash, Hasher};
 use std::process::Abort;
 use std::test::Fail;
@@ -86,7 +86,7 @@ fn long_integers(rt: HostRuntime) -> Result<(), Fail> {
 
 // Every call that takes memory succeeds where there is some.
 #[test]
-fn numbers_of_twenty_octets_are_made(rt: HostRuntime) -> Result<(), Fail> {
+fn ample_numbers_of_twenty_octets(rt: HostRuntime) -> Result<(), Fail> {
     let alloc = rt.alloc();
     for octets in [[1; 20], [0x80; 20]] {
         let number = Integer::from_signed_octets(alloc, &octets)?;
@@ -109,7 +109,7 @@ fn is_read_or_refused(rt: &impl Abort, read: Result<Integer, IntegerError>, octe
     };
     match number.clone() {
         Ok(same) => assert!(rt; same == number),
-        Err(error) => assert_eq!(rt; error, IntegerError::Memory),
+        Err(AllocError) => {}
     }
     number.to_unsigned_bytes_be().as_slice() == octets
 }
@@ -194,6 +194,8 @@ fn conversions_are_exact(rt: HostRuntime) -> Result<(), Fail> {
                 error.to_string(rt.alloc())?.as_str(),
                 "256 is outside the range of its type"
             );
+            assert!(rt; error.clone()? == error);
+            assert!(rt; error != TryFromIntegerError::new(255));
             assert!(rt; error.into_original() == Integer::from(256u16));
         }
     }

@@ -1,4 +1,4 @@
-use Rattle.std.proofs.Common.{◌≡◌, ℕ, ◌+◌, ◌-◌, ◌*◌, ◌/◌, ◌%◌, ◌^◌, ap, ◌∙◌, arith, get_or, bit_or}
+use Rattle.std.proofs.Common.{ℕ, ◌+◌, ◌-◌, ◌*◌, ◌/◌, ◌%◌, ◌^◌, ap, ◌∙◌, arith, bit_or}
 use Rattle.std.proofs.lemmas.List.{get_or_default}
 use Rattle.asn1_model.specs.Numbers.{binary}
 use Rattle.asn1_values_bits.proofs.Window.{at, nine_is, nine_read, masked_small, masked_short, masked_digits}

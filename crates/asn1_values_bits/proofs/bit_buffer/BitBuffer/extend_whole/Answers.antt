@@ -1,28 +1,37 @@
-use Rattle.std.proofs.Common.{length, ap, ◌∙◌, take, refl, arith}
-use Rattle.std.proofs.lemmas.List.{length-drop}
+use Rattle.std.proofs.Common.{◌≡◌, ℕ, ◌*◌, ◌+◌, ◌%◌, ◌≤◌, ◌<◌, ◌++◌, length, ap, ◌∙◌, take, drop, refl, arith, length-append}
+use Rattle.std.proofs.lemmas.List.{length-drop, length-take-le}
 use Rattle.asn1_values_bits.specs.BitStr.{bits_of}
-use Rattle.asn1_values_bits.proofs.Kept.{first_of, grown, moved}
+use Rattle.asn1_values_bits.proofs.Kept.{first_of, moved}
 use Rattle.asn1_values_bits.proofs.bit_buffer.BitBuffer.extend_whole.Goals as goal
 
 pub returns-in-Err-clause-err : goal.returns-in-Err-clause-err
 returns-in-Err-clause-err c =
     c.truncate.ensures ∙ ap (take c.len-before.result) c.in-Err.ensures.err
-    ∙ first_of c.args.self.now c.loop-self.self (bits_of c.loop-self.rest) (bits_of c.args.bits) c.len-before.result (length (bits_of c.loop-self.rest)) (length (bits_of c.args.bits)) c.len-before.ensures c.loop-self.invariant.joined refl refl c.loop-self.invariant.fewer
+    ∙ first_of c.args.self.now c.loop-block.self (bits_of c.loop-block.rest) (bits_of c.args.bits) c.len-before.result (length (bits_of c.loop-block.rest)) (length (bits_of c.args.bits)) c.len-before.ensures c.loop-block.invariant.joined refl refl c.loop-block.invariant.fewer
 
 pub returns-in-Err-push_whole-clause-err : goal.returns-in-Err-push_whole-clause-err
 returns-in-Err-push_whole-clause-err c =
     c.truncate-in-Err-push_whole.ensures ∙ ap (take c.len-before.result) c.in-Err-push_whole.ensures.err
-    ∙ first_of c.args.self.now c.loop-self.self (bits_of c.loop-self.rest) (bits_of c.args.bits) c.len-before.result (length (bits_of c.loop-self.rest)) (length (bits_of c.args.bits)) c.len-before.ensures c.loop-self.invariant.joined refl refl c.loop-self.invariant.fewer
+    ∙ first_of c.args.self.now c.loop-block.self (bits_of c.loop-block.rest) (bits_of c.args.bits) c.len-before.result (length (bits_of c.loop-block.rest)) (length (bits_of c.args.bits)) c.len-before.ensures c.loop-block.invariant.joined refl refl c.loop-block.invariant.fewer
 
-pub loop-self-smaller : goal.loop-self-smaller
-loop-self-smaller c = omega (arith, ap length c.split_at.ensures.rest, length-drop 128 (bits_of c.loop-self.rest), c.len.ensures, c.loop-self-test.true)
+pub loop-block-smaller : goal.loop-block-smaller
+loop-block-smaller c =
+    let some : 0 < c.min-count.result = omega (arith, c.min-count.ensures, c.len-in-loop-block.ensures, c.len.ensures, c.loop-block-test.true) in
+    let enough : 8 ≤ length (bits_of c.loop-block.rest) = omega (arith, c.len.ensures, c.loop-block-test.true) in
+    omega (arith, ap length c.split_at.ensures.rest, length-drop (c.min-count.result * 8) (bits_of c.loop-block.rest), some, enough)
 
-pub loop-self-preserved : goal.loop-self-preserved
-loop-self-preserved c =
-    let long = grown c.push_sixteen.new.self c.loop-self.self 128 c.first_number.result c.in-Ok.ensures.ok in
-    let before = c.loop-self.invariant.whole (omega (arith, c.len.ensures, c.loop-self-test.true)) in
+pub loop-block-preserved : goal.loop-block-preserved
+loop-block-preserved c =
+    let n : ℕ = c.min-count.result in
+    let r = bits_of c.loop-block.rest in
+    let within : n * 8 ≤ length r = omega (arith, c.min-count.ensures, c.len-in-loop-block.ensures) in
+    let room : length (take n c.loop-block.block) ≡ n = length-take-le n c.loop-block.block (omega (arith, c.loop-block.invariant.room, c.min-count.ensures)) in
+    let more : c.push_block.new.self ≡ c.loop-block.self ++ take (n * 8) r = c.in-Ok.ensures.ok ∙ ap (λ k. c.loop-block.self ++ take (k * 8) r) room in
+    let long : length c.push_block.new.self ≡ length c.loop-block.self + n * 8 = ap length more ∙ length-append c.loop-block.self (take (n * 8) r) ∙ ap (λ k. length c.loop-block.self + k) (length-take-le (n * 8) r within) in
+    let before : length c.loop-block.self % 8 ≡ 0 = c.loop-block.invariant.whole (omega (arith, c.len.ensures, c.loop-block-test.true)) in
     record {
-      fewer = omega (arith, ap length c.split_at.ensures.rest, length-drop 128 (bits_of c.loop-self.rest), c.loop-self.invariant.fewer);
-      joined = moved c.loop-self.self c.push_sixteen.new.self (bits_of c.loop-self.rest) (bits_of c.split_at.result.1) _ 128 c.first_number.result c.in-Ok.ensures.ok c.first_number.ensures.digits c.split_at.ensures.rest c.loop-self.invariant.joined;
+      fewer = omega (arith, ap length c.split_at.ensures.rest, length-drop (n * 8) r, c.loop-block.invariant.fewer);
+      joined = moved c.loop-block.self c.push_block.new.self r (bits_of c.split_at.result.1) _ (n * 8) more c.split_at.ensures.rest c.loop-block.invariant.joined;
       whole = λ some. omega (arith, long, before);
+      room = length-append c.push_block.new.block (drop n c.loop-block.block) ∙ (omega (arith, c.push_block.auto.block, room, length-drop n c.loop-block.block, c.loop-block.invariant.room, c.min-count.ensures));
     }

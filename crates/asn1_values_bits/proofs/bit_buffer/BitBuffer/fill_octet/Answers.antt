@@ -1,5 +1,5 @@
-use Rattle.std.proofs.Common.{◌≡◌, ℕ, ◌+◌, ◌-◌, ◌%◌, ap, arith, ◌∙◌, ◌++◌}
-use Rattle.asn1_model.specs.Numbers.{binary, missing}
+use Rattle.std.proofs.Common.{◌≡◌, ℕ, ◌+◌, ◌-◌, ap, arith, ◌∙◌, ◌++◌}
+use Rattle.asn1_model.specs.Numbers.{binary}
 use Rattle.asn1_values_bits.proofs.Kept.{next_digits, grown}
 use Rattle.asn1_values_bits.proofs.bit_buffer.BitBuffer.fill_octet.Goals as goal
 

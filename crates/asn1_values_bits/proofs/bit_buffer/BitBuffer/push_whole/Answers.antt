@@ -1,4 +1,4 @@
-use Rattle.std.proofs.Common.{◌≡◌, ◌+◌, ◌/◌, refl, take, arith, sym, ap, ◌∙◌, length, ◌++◌, replicate, false, length-append}
+use Rattle.std.proofs.Common.{◌≡◌, ◌+◌, ◌/◌, refl, take, arith, ap, ◌∙◌, length, ◌++◌, replicate, false, length-append}
 use Rattle.std.proofs.lemmas.List.{append-nil}
 use Rattle.asn1_model.specs.Numbers.{binary, octet_bits, missing}
 use Rattle.asn1_values_bits.proofs.Binary.{length-binary}

@@ -1,4 +1,4 @@
-use Rattle.std.proofs.Common.{◌≡◌, ◌∷◌, [], ap, sym, ◌∙◌, length, flat_map, fold, arith}
+use Rattle.std.proofs.Common.{ap, sym, ◌∙◌, flat_map, fold}
 use Rattle.std.specs.Hash as fed
 use Rattle.asn1_model.specs.Numbers.{packed}
 use Rattle.asn1_values_bits.specs.BitStr.{bits_of}
