@@ -17,10 +17,10 @@ use Rattle.asn1_relay_core.specs.declared.translation.Codec.{Codec}
 use Rattle.asn1_relay_core.specs.declared.translation.Codec.TheVariants.{Uper, Coer}
 use Rattle.asn1_relay_core.specs.declared.translation.RecodeFault.{RecodeFault}
 use Rattle.asn1_relay_core.specs.declared.translation.RecodeFault.TheVariants.{NotAnEncoding, Surplus, NoTarget, Memory}
-use Rattle.asn1_relay_core.specs.declared.errors.DecodeError.{DecodeError}
-use Rattle.asn1_relay_core.specs.declared.errors.DecodeError.TheVariants as Decoding
-use Rattle.asn1_relay_core.specs.declared.errors.EncodeError.{EncodeError}
-use Rattle.asn1_relay_core.specs.declared.errors.EncodeError.TheVariants as Encoding
+use Rattle.asn1_schema_faults.specs.declared.DecodeError.{DecodeError}
+use Rattle.asn1_schema_faults.specs.declared.DecodeError.TheVariants as Decoding
+use Rattle.asn1_schema_faults.specs.declared.EncodeError.{EncodeError}
+use Rattle.asn1_schema_faults.specs.declared.EncodeError.TheVariants as Encoding
 use Rattle.asn1_relay_core.proofs.Whole.{each_octet, take_whole}
 
 one_front_by : (c : Codec) → OneFront (rules_of c)
@@ -88,15 +88,8 @@ module _ (c d : Codec) (s s' : Schema) (w : List ℕ) (carried : is_carried s �
       record { right = r; exact = λ a q. only_right not_an_encoding a r q }
 
   not_found : (e : DecodeError) → FindsNone (rules_of c) s' w e → Rights (Err (source_fault_of e))
-  not_found Decoding.Incomplete h = none_right Decoding.Incomplete h
-  not_found Decoding.ValueConstraintNotSatisfied h = none_right Decoding.ValueConstraintNotSatisfied h
-  not_found Decoding.ZeroLengthOfLength h = none_right Decoding.ZeroLengthOfLength h
-  not_found Decoding.InvalidBool h = none_right Decoding.InvalidBool h
-  not_found Decoding.NotValidCanonicalEncoding h = none_right Decoding.NotValidCanonicalEncoding h
-  not_found Decoding.InvalidPadding h = none_right Decoding.InvalidPadding h
-  not_found Decoding.LengthExceedsPlatformWidth h = none_right Decoding.LengthExceedsPlatformWidth h
-  not_found Decoding.ExceedsMaxParseDepth h = none_right Decoding.ExceedsMaxParseDepth h
   not_found Decoding.OutOfMemory h = no_memory
+  not_found e h = none_right e h
 
   pub right_not_found : (e : DecodeError) (f : RecodeFault) → FindsNone (rules_of c) s' w e → f ≡ source_fault_of e → Rights (Err f)
   right_not_found e f h j = subst (λ x. Rights (Err x)) (sym j) (not_found e h)
@@ -135,9 +128,8 @@ module _ (c d : Codec) (s s' : Schema) (w : List ℕ) (carried : is_carried s �
       record { right = r; exact = λ x q. only_right no_target x r q }
 
   not_written : (e : EncodeError) (v m u : Value) (k : ℕ) → IsFront (rules_of c) 128 s' w (v, k) → length w ≤ k → m ≡ v → u ≡ m → WritesNone (rules_of d) s' u e → Rights (Err (target_fault_of e))
-  not_written Encoding.ValueConstraintNotSatisfied v m u k f l a b h = none_target Encoding.ValueConstraintNotSatisfied v m u k f l a b h
-  not_written Encoding.TooLongValue v m u k f l a b h = none_target Encoding.TooLongValue v m u k f l a b h
   not_written Encoding.OutOfMemory v m u k f l a b h = no_memory
+  not_written e v m u k f l a b h = none_target e v m u k f l a b h
 
   pub right_not_written : (e : EncodeError) (f : RecodeFault) (v m u : Value) (k : ℕ) → IsFront (rules_of c) 128 s' w (v, k) → length w ≤ k → m ≡ v → u ≡ m → WritesNone (rules_of d) s' u e → f ≡ target_fault_of e → Rights (Err f)
   right_not_written e f v m u k g l a b h j = subst (λ x. Rights (Err x)) (sym j) (not_written e v m u k g l a b h)
@@ -148,20 +140,12 @@ pub source_names_memory : (e : DecodeError) (f : RecodeFault) → f ≡ source_f
 source_names_memory e f h = subst NamesMemoryAlone (sym h) (at e)
   where
     at : (e : DecodeError) → NamesMemoryAlone (source_fault_of e)
-    at Decoding.Incomplete = tt
-    at Decoding.ValueConstraintNotSatisfied = tt
-    at Decoding.ZeroLengthOfLength = tt
-    at Decoding.LengthExceedsPlatformWidth = tt
-    at Decoding.InvalidBool = tt
-    at Decoding.NotValidCanonicalEncoding = tt
-    at Decoding.InvalidPadding = tt
-    at Decoding.ExceedsMaxParseDepth = tt
     at Decoding.OutOfMemory = tt
+    at e = tt
 
 pub target_names_memory : (e : EncodeError) (f : RecodeFault) → f ≡ target_fault_of e → NamesMemoryAlone f
 target_names_memory e f h = subst NamesMemoryAlone (sym h) (at e)
   where
     at : (e : EncodeError) → NamesMemoryAlone (target_fault_of e)
-    at Encoding.ValueConstraintNotSatisfied = tt
-    at Encoding.TooLongValue = tt
     at Encoding.OutOfMemory = tt
+    at e = tt

@@ -8,8 +8,8 @@ use Rattle.asn1_relay_texts.specs.Reading.{signed_number, fixed_between, read_co
 use Rattle.asn1_relay_core.specs.Finding.{Misses}
 use Rattle.asn1_relay_core.specs.Judging.{Judged, judged_length, long_length, contents_behind, contents_in_front, judged_number, unsigned_in_front, signed_in_front, between_in_front, within_bounds, integer_in_front}
 use Rattle.asn1_relay_core.specs.Meaning.{range_between}
-use Rattle.asn1_relay_core.specs.declared.errors.DecodeError.{DecodeError}
-use Rattle.asn1_relay_core.specs.declared.errors.DecodeError.TheVariants as error
+use Rattle.asn1_schema_faults.specs.declared.DecodeError.{DecodeError}
+use Rattle.asn1_schema_faults.specs.declared.DecodeError.TheVariants as error
 
 -- ---- contents behind a length
 
@@ -154,15 +154,8 @@ within_agrees low high (Ok (n, r)) o h = go (is_within (range_between low high) 
 -- ---- an INTEGER between two bounds
 
 missed : {X : Type 0} (o : Option X) (e : DecodeError) → o ≡ None → Misses o e
-missed o error.Incomplete h = h
-missed o error.ValueConstraintNotSatisfied h = h
-missed o error.ZeroLengthOfLength h = h
-missed o error.LengthExceedsPlatformWidth h = h
-missed o error.InvalidBool h = h
-missed o error.NotValidCanonicalEncoding h = h
-missed o error.InvalidPadding h = h
-missed o error.ExceedsMaxParseDepth h = h
 missed o error.OutOfMemory h = tt
+missed o e h = h
 
 integer_agrees : (low high : ℤ) (w : List ℕ) → Agrees (integer_in_front low high w) (read_octet_number (range_between low high) w)
 integer_agrees low high w = within_agrees low high (between_in_front low high w) (read_between low high w) (between_agrees low high w)

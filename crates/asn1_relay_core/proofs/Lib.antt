@@ -1,9 +1,7 @@
-pub mod Digits
-pub mod Packing
-pub mod Taking
 pub mod Widths
 pub mod Shapes
 pub mod Writers
+pub mod Bits
 pub mod Integers
 pub mod Readers
 pub mod Fewest

@@ -21,8 +21,8 @@ use Rattle.asn1_relay_texts.proofs.Machine.{width_of_128, complement_of_128}
 use Rattle.asn1_relay_texts.proofs.OctetNumbers.{signed_of_fits, octets_integer_inside, octets_integer_outside, natural_text, signed_text}
 use Rattle.asn1_relay_core.specs.Meaning.{magnitude, range_between, integer_between, schema_of, value_of}
 use Rattle.asn1_relay_core.specs.Writing.{text_by, octet_leaves, Adds, Refuses}
-use Rattle.asn1_relay_core.specs.declared.errors.EncodeError.{EncodeError}
-use Rattle.asn1_relay_core.specs.declared.errors.EncodeError.TheVariants.{OutOfMemory}
+use Rattle.asn1_schema_faults.specs.declared.EncodeError.{EncodeError}
+use Rattle.asn1_schema_faults.specs.declared.EncodeError.TheVariants.{OutOfMemory}
 use Rattle.asn1_relay_core.specs.declared.schema.Schema.{Schema}
 use Rattle.asn1_relay_core.specs.declared.schema.Schema as SB
 use Rattle.asn1_relay_core.specs.declared.schema.Value.{Value}

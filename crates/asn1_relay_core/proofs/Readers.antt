@@ -15,20 +15,13 @@ use Rattle.asn1_relay_core.specs.declared.schema.Schema.TheViews as SW
 use Rattle.asn1_relay_core.specs.declared.schema.Value.{Value}
 use Rattle.asn1_relay_core.specs.declared.schema.Value as VB
 use Rattle.asn1_relay_core.specs.declared.schema.Value.TheViews as VW
-use Rattle.asn1_relay_core.specs.declared.errors.DecodeError.{DecodeError}
-use Rattle.asn1_relay_core.specs.declared.errors.DecodeError.TheVariants.{Incomplete, ValueConstraintNotSatisfied, ZeroLengthOfLength, InvalidBool, NotValidCanonicalEncoding, InvalidPadding, LengthExceedsPlatformWidth, ExceedsMaxParseDepth, OutOfMemory}
+use Rattle.asn1_schema_faults.specs.declared.DecodeError.{DecodeError}
+use Rattle.asn1_schema_faults.specs.declared.DecodeError.TheVariants.{OutOfMemory}
 
 -- nothing is missed of a thing for a reason for which nothing is found of another, where it is so
 pub misses_also : {X Y : Type 0} (o : Option X) (p : Option Y) (e : DecodeError) → (o ≡ None → p ≡ None) → Misses o e → Misses p e
-misses_also o p Incomplete h m = h m
-misses_also o p ValueConstraintNotSatisfied h m = h m
-misses_also o p ZeroLengthOfLength h m = h m
-misses_also o p InvalidBool h m = h m
-misses_also o p NotValidCanonicalEncoding h m = h m
-misses_also o p InvalidPadding h m = h m
-misses_also o p LengthExceedsPlatformWidth h m = h m
-misses_also o p ExceedsMaxParseDepth h m = h m
 misses_also o p OutOfMemory h m = tt
+misses_also o p e h m = h m
 
 module _ {A : Type 0} (read : Asn1.Schema → List A → Option (Asn1Value.Value × List A)) where
   abbrev pub values : List Schema → List A → Option (List Asn1Value.Value × List A)

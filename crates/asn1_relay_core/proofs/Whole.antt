@@ -1,8 +1,8 @@
 -- Whole messages: what was written and what was read, in the terms of the encodings.
 use mir.Syntax.{w8}
 use mir.Val.{Fits}
-use Rattle.std.proofs.Common.{◌≡◌, ℕ, zero, suc, ◌+◌, ◌-◌, cond, Result, Ok, Err, MatchResult, ◌/◌, ◌^◌, ◌<◌, ◌≤◌, Bool, true, false, List, [], ◌∷◌, ◌++◌, length, get_or, take, refl, ap, subst, sym, ◌∙◌, Option, Some, None, option_map, option_and_then, arith, length-append}
-use Rattle.std.proofs.lemmas.Bool.{lt-ltb, le-ltb}
+use Rattle.std.proofs.Common.{◌≡◌, ℕ, zero, suc, ◌+◌, ◌-◌, cond, Result, Ok, Err, MatchResult, ◌/◌, ◌^◌, ◌<◌, ◌≤◌, ◌==◌, Bool, true, false, List, [], ◌∷◌, ◌++◌, length, get_or, take, slice_get, refl, ap, subst, sym, ◌∙◌, Option, Some, None, option_map, option_and_then, arith, length-append}
+use Rattle.std.proofs.lemmas.Bool.{lt-ltb, le-ltb, eqb-true}
 use Rattle.std.proofs.lemmas.List.{length-take}
 use Rattle.asn1_model.specs.Schema.{Schema, Components}
 use Rattle.asn1_model.specs.Value.{Value, truth, number, fields, Parts, end, present}
@@ -20,7 +20,7 @@ use Rattle.asn1_relay_texts.proofs.Carried.{Carried, CarriedEach, truths, number
 use Rattle.asn1_relay_texts.proofs.Shapes.{bits_of_parts, bits_fields, bits_more, octets_of_parts, octets_fields, octets_more}
 use Rattle.asn1_relay_texts.proofs.Messages.{uper_encoding, coer_encoding, canonical_is}
 use Rattle.asn1_relay_texts.proofs.Filling.{length-octet_bits}
-use Rattle.asn1_relay_texts.specs.Fronts.{IsFront, HasNoFront}
+use Rattle.asn1_relay_texts.specs.Fronts.{octets_used, uper_front, IsFront, HasNoFront}
 use Rattle.asn1_relay_texts.specs.Laws.{FindsTheFront}
 use Rattle.asn1_relay_texts.proofs.Found.{front_of_cut}
 use Rattle.asn1_relay_texts.proofs.DigitReaders.{each_front}
@@ -28,13 +28,13 @@ use Rattle.asn1_relay_core.specs.Meaning.{value_of}
 use Rattle.asn1_relay_core.specs.Finding.{Misses}
 use Rattle.asn1_relay_core.specs.Recoding.{FindsNone, WritesNone}
 use Rattle.asn1_relay_core.specs.declared.translation.Front.{Front}
-use Rattle.asn1_relay_core.specs.declared.errors.DecodeError.{DecodeError}
-use Rattle.asn1_relay_core.specs.declared.errors.DecodeError.TheVariants as Decoding
+use Rattle.asn1_schema_faults.specs.declared.DecodeError.{DecodeError}
+use Rattle.asn1_schema_faults.specs.declared.DecodeError.TheVariants as Decoding
 use Rattle.asn1_relay_texts.proofs.BitTexts.{bits_are_those}
 use Rattle.asn1_relay_texts.proofs.OctetTexts.{octets_are_those}
 use Rattle.asn1_relay_core.specs.Writing.{text_by, parts_by, bit_leaves, octet_leaves, Adds, Refuses}
-use Rattle.asn1_relay_core.specs.declared.errors.EncodeError.{EncodeError}
-use Rattle.asn1_relay_core.specs.declared.errors.EncodeError.TheVariants.{ValueConstraintNotSatisfied, TooLongValue, OutOfMemory}
+use Rattle.asn1_schema_faults.specs.declared.EncodeError.{EncodeError}
+use Rattle.asn1_schema_faults.specs.declared.EncodeError.TheVariants.{ValueConstraintNotSatisfied, OutOfMemory}
 
 -- ---- the texts that are written are those of the definitions
 
@@ -89,8 +89,8 @@ each_octet (o ∷ os) h = let a = lt-ltb o 256 (h zero).fits in let b = each_oct
 
 refuses_also : {A B : Type 0} (o : Option (List A)) (p : Option (List B)) (e : EncodeError) → (o ≡ None → p ≡ None) → Refuses o e → Refuses p e
 refuses_also o p ValueConstraintNotSatisfied h r = h r
-refuses_also o p TooLongValue h r = r
 refuses_also o p OutOfMemory h r = tt
+refuses_also o p e h r = r
 
 pub coer_written : (s : Schema) (v : Value) (old now : List ℕ) → is_carried s ≡ true → old ≡ [] → Adds (text_by octet_leaves s v) old now → encoding coer s v ≡ Some now
 coer_written s v old now c e h = coer_encoding s v ∙ sym (text_octets (carried s c) v) ∙ from_nothing (text_by octet_leaves s v) old now e h
@@ -113,11 +113,41 @@ bits_left n s w v old r c e h =
     let l = ap length (sym e ∙ t.2) in
     omega (arith, l, length-append t.0 r, length-octet_bits w)
 
-pub octets_left : (n : ℕ) (s : Schema) (w : List ℕ) (v : Value) (old r : List ℕ) → is_carried s ≡ true → ((i : ℕ) → Fits w8 (get_or w i 0)) → old ≡ w → read_octets n s old ≡ Some (v, r) → length r ≤ length w
+pub octets_left : (n : ℕ) (s : Schema) (w : List ℕ) (v : Value) (old r : List ℕ) → is_carried s ≡ true → each_is is_octet w ≡ true → old ≡ w → read_octets n s old ≡ Some (v, r) → length r ≤ length w
 octets_left n s w v old r c o e h =
-    let t = octets_are_those n s old v r c (ap (each_is is_octet) e ∙ each_octet w o) h in
+    let t = octets_are_those n s old v r c (ap (each_is is_octet) e ∙ o) h in
     let l = ap length (sym e ∙ t.2) in
     omega (arith, l, length-append t.0 r)
+
+-- ---- the front that was read
+
+used_some : (w : List ℕ) (k : ℕ) → 0 < k → octets_used w k ≡ Some k
+used_some w zero h = absurd (omega arith)
+used_some w (suc k) h = refl
+
+module _ (n : ℕ) (s : Schema) (w within : List ℕ) (v : Value) (old r : List Bool) (cut : within ≡ w) (all : old ≡ octet_bits within) (found : read_bits n s old ≡ Some (v, r)) where
+  front_is : uper_front n s w ≡ option_map (λ k. (v, k)) (octets_used within (length within - length r / 8))
+  front_is =
+      ap (uper_front n s) (sym cut)
+      ∙ ap (option_and_then (λ f. option_map (λ k. (f.0, k)) (octets_used within (length within - length f.1 / 8)))) (ap (read_bits n s) (sym all) ∙ found)
+
+  pub front_of_some : (k : ℕ) → k ≡ length within - length r / 8 → 0 < k → uper_front n s w ≡ Some (v, k)
+  front_of_some k e h = front_is ∙ ap (λ j. option_map (λ k. (v, k)) (octets_used within j)) (sym e) ∙ ap (option_map (λ k. (v, k))) (used_some within k h)
+
+  pub front_of_none : (k : ℕ) (o : Option ℕ) → k ≡ length within - length r / 8 → k ≤ 0 → octets_used within 0 ≡ o → uper_front n s w ≡ option_map (λ k. (v, k)) o
+  front_of_none k o e h u = let z : length within - length r / 8 ≡ 0 = omega arith in front_is ∙ ap (λ j. option_map (λ k. (v, k)) (octets_used within j)) z ∙ ap (option_map (λ k. (v, k))) u
+
+pub zero_in_front : (w : List ℕ) (o : ℕ) → Some o ≡ slice_get w 0 → o ≡ 0 → octets_used w 0 ≡ Some 1
+zero_in_front [] o e z = cc
+zero_in_front (x ∷ w) o e z = let i : x ≡ 0 = cc in ap (λ y. octets_used (y ∷ w) 0) i
+
+pub other_in_front : (w : List ℕ) (o : ℕ) → Some o ≡ slice_get w 0 → (o ≡ 0 → ⊥) → octets_used w 0 ≡ None
+other_in_front [] o e z = refl
+other_in_front (x ∷ w) o e z = go (x == 0) refl
+  where
+    go : (t : Bool) → (x == 0) ≡ t → cond {A = Option ℕ} t (Some 1) None ≡ None
+    go true d = let i = eqb-true x 0 d in absurd (z (cc))
+    go false d = refl
 
 -- ---- the limit on the length
 
@@ -138,8 +168,8 @@ canonical_long r s v os c e h = canonical_is r s v c ∙ ap (option_and_then of_
 
 pub canonical_refused : (r : Rules) (s : Schema) (v : Value) (e : EncodeError) → is_carried s ≡ true → Refuses (encoding r s v) e → WritesNone r s v e
 canonical_refused r s v ValueConstraintNotSatisfied c h = canonical_is r s v c ∙ ap (option_and_then of_moderate_length) h
-canonical_refused r s v TooLongValue c h = absurd h
 canonical_refused r s v OutOfMemory c h = tt
+canonical_refused r s v e c h = absurd h
 
 -- ---- what was found
 
@@ -161,15 +191,8 @@ module _ (r : Rules) (front : ℕ → Schema → List ℕ → Option (Value × �
       cut 128 s (2 ^ 60 - 1) w (omega arith) (subst (λ x. HasNoFront r 128 s x) e ((finds 128 s within c (octets_within w within o e) l).1 h))
 
   pub none_found : (s : Schema) (w within : List ℕ) (e : DecodeError) → is_carried s ≡ true → ((i : ℕ) → Fits w8 (get_or w i 0)) → within ≡ take (2 ^ 60 - 1) w → Misses (front 128 s within) e → FindsNone r s w e
-  none_found s w within Decoding.Incomplete c o d h = none_within s w within c o d h
-  none_found s w within Decoding.ValueConstraintNotSatisfied c o d h = none_within s w within c o d h
-  none_found s w within Decoding.ZeroLengthOfLength c o d h = none_within s w within c o d h
-  none_found s w within Decoding.InvalidBool c o d h = none_within s w within c o d h
-  none_found s w within Decoding.NotValidCanonicalEncoding c o d h = none_within s w within c o d h
-  none_found s w within Decoding.InvalidPadding c o d h = none_within s w within c o d h
-  none_found s w within Decoding.LengthExceedsPlatformWidth c o d h = none_within s w within c o d h
-  none_found s w within Decoding.ExceedsMaxParseDepth c o d h = none_within s w within c o d h
   none_found s w within Decoding.OutOfMemory c o d h = tt
+  none_found s w within e c o d h = none_within s w within c o d h
 
   pub reader_found : (s : Schema) (w within : List ℕ) (x : Result Front DecodeError) → is_carried s ≡ true → ((i : ℕ) → Fits w8 (get_or w i 0)) → within ≡ take (2 ^ 60 - 1) w → MatchResult x (λ f. front 128 s within ≡ Some (value_of f.value, f.len)) (Misses (front 128 s within)) → MatchResult x (λ f. IsFront r 128 s w (value_of f.value, f.len)) (FindsNone r s w)
   reader_found s w within (Ok f) c o e h = front_found s w within (value_of f.value) f.len c o e h

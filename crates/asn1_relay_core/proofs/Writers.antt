@@ -12,8 +12,8 @@ use Rattle.asn1_relay_core.specs.declared.schema.Schema.TheViews as SW
 use Rattle.asn1_relay_core.specs.declared.schema.Value.{Value}
 use Rattle.asn1_relay_core.specs.declared.schema.Value as VB
 use Rattle.asn1_relay_core.specs.declared.schema.Value.TheViews as VW
-use Rattle.asn1_relay_core.specs.declared.errors.EncodeError.{EncodeError}
-use Rattle.asn1_relay_core.specs.declared.errors.EncodeError.TheVariants.{ValueConstraintNotSatisfied, TooLongValue, OutOfMemory}
+use Rattle.asn1_schema_faults.specs.declared.EncodeError.{EncodeError}
+use Rattle.asn1_schema_faults.specs.declared.EncodeError.TheVariants.{ValueConstraintNotSatisfied, OutOfMemory}
 use Rattle.asn1_relay_core.proofs.Shapes.{by_value, schema_boolean, schema_integer, schema_sequence, value_boolean, value_integer, value_sequence}
 
 -- ---- their texts
@@ -47,8 +47,8 @@ module _ {A : Type 0} (text : Asn1.Schema → Asn1Value.Value → Option (List A
   -- where one has none, they have none
   pub texts_refused : (ss : List Schema) (vs : List Value) (i : ℕ) (s : Schema) (v : Value) (old now : List A) (e : EncodeError) → i < length ss → i < length vs → s ≡ get_or ss i s → v ≡ get_or vs i v → option_map (λ w. now ++ w) (texts (drop i ss) (drop i vs)) ≡ option_map (λ w. old ++ w) (texts ss vs) → Refuses (text (schema_of s) (value_of v)) e → Refuses (texts ss vs) e
   texts_refused ss vs i s v old now ValueConstraintNotSatisfied k l d e h r = none_before old now _ _ h (texts_at ss vs i s v k l d e r)
-  texts_refused ss vs i s v old now TooLongValue k l d e h r = r
   texts_refused ss vs i s v old now OutOfMemory k l d e h r = tt
+  texts_refused ss vs i s v old now x k l d e h r = r
 
   drop_all : {X : Type 0} (i : ℕ) (xs : List X) → length xs ≤ i → drop i xs ≡ []
   drop_all zero [] h = refl

@@ -1,7 +1,7 @@
 -- What a reader found: the value in front and what is behind it, or nothing.
 use Rattle.std.specs.Prelude.{◌≡◌, Option, None}
-use Rattle.asn1_relay_core.specs.declared.errors.DecodeError.{DecodeError}
-use Rattle.asn1_relay_core.specs.declared.errors.DecodeError.TheVariants.{OutOfMemory}
+use Rattle.asn1_schema_faults.specs.declared.DecodeError.{DecodeError}
+use Rattle.asn1_schema_faults.specs.declared.DecodeError.TheVariants.{OutOfMemory}
 
 -- why nothing was found: there is nothing, or no memory was left
 abbrev pub Misses : {X : Type 0} → Option X → DecodeError → Type 0

@@ -4,8 +4,8 @@ use Rattle.std.specs.Prelude.{ℕ, ◌-◌, ◌^◌, ◌==◌, ltb, leb, ℤ, po
 use Rattle.asn1_model.specs.Numbers.{number_after, octet_width, least_octets, signed_octets, is_within}
 use Rattle.asn1_relay_texts.specs.Reading.{signed_number, fixed_between}
 use Rattle.asn1_relay_core.specs.Meaning.{range_between}
-use Rattle.asn1_relay_core.specs.declared.errors.DecodeError.{DecodeError}
-use Rattle.asn1_relay_core.specs.declared.errors.DecodeError.TheVariants.{Incomplete, ValueConstraintNotSatisfied, ZeroLengthOfLength, LengthExceedsPlatformWidth, NotValidCanonicalEncoding}
+use Rattle.asn1_schema_faults.specs.declared.DecodeError.{DecodeError}
+use Rattle.asn1_schema_faults.specs.declared.DecodeError.TheVariants.{Incomplete, ValueConstraintNotSatisfied, ZeroLengthOfLength, LengthExceedsPlatformWidth, NotValidCanonicalEncoding}
 
 -- something that stands in front and what is behind it, or what is first wrong
 abbrev pub Judged : Type 0 → Type 0

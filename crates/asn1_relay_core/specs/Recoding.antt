@@ -6,10 +6,10 @@ use Rattle.asn1_model.specs.Rules.{Rules, uper, coer, canonical, IsEncoding}
 use Rattle.asn1_model.specs.Strings.{each_is, is_octet}
 use Rattle.asn1_relay_texts.specs.Kinds.{is_carried}
 use Rattle.asn1_relay_texts.specs.Fronts.{HasNoFront}
-use Rattle.asn1_relay_core.specs.declared.errors.DecodeError.{DecodeError}
-use Rattle.asn1_relay_core.specs.declared.errors.DecodeError.TheVariants as Decoding
-use Rattle.asn1_relay_core.specs.declared.errors.EncodeError.{EncodeError}
-use Rattle.asn1_relay_core.specs.declared.errors.EncodeError.TheVariants as Encoding
+use Rattle.asn1_schema_faults.specs.declared.DecodeError.{DecodeError}
+use Rattle.asn1_schema_faults.specs.declared.DecodeError.TheVariants as Decoding
+use Rattle.asn1_schema_faults.specs.declared.EncodeError.{EncodeError}
+use Rattle.asn1_schema_faults.specs.declared.EncodeError.TheVariants as Encoding
 use Rattle.asn1_relay_core.specs.declared.translation.Codec.{Codec}
 use Rattle.asn1_relay_core.specs.declared.translation.Codec.TheVariants.{Uper, Coer}
 use Rattle.asn1_relay_core.specs.declared.translation.RecodeFault.{RecodeFault}

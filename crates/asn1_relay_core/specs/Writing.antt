@@ -3,8 +3,8 @@ use Rattle.std.specs.Prelude.{◌≡◌, ℕ, ℤ, Bool, false, cond, List, [], 
 use Rattle.asn1_model.specs.Schema.{Schema, boolean, integer, sequence, Components, no_component, component}
 use Rattle.asn1_model.specs.Value.{Value, truth, number, fields, Parts, end, present}
 use Rattle.asn1_relay_texts.specs.Texts.{bits_of, octets_of}
-use Rattle.asn1_relay_core.specs.declared.errors.EncodeError.{EncodeError}
-use Rattle.asn1_relay_core.specs.declared.errors.EncodeError.TheVariants.{ValueConstraintNotSatisfied, TooLongValue, OutOfMemory}
+use Rattle.asn1_schema_faults.specs.declared.EncodeError.{EncodeError}
+use Rattle.asn1_schema_faults.specs.declared.EncodeError.TheVariants.{ValueConstraintNotSatisfied, OutOfMemory}
 
 -- the texts of single values
 pub record Leaves (A : Type 0) : Type 0 where
@@ -34,11 +34,11 @@ octet_leaves = record { of_truth = λ b. cond b 255 0 ∷ []; of_number = λ s n
 
 -- ---- what the writer did
 
--- why no text was added: there is none, or no memory was left
+-- why no text was added: there is none, or no memory was left; no other reason is given
 abbrev pub Refuses : {A : Type 0} → Option (List A) → EncodeError → Type 0
 Refuses text ValueConstraintNotSatisfied = text ≡ None
-Refuses text TooLongValue = ⊥
 Refuses text OutOfMemory = Unit {0}
+Refuses text e = ⊥
 
 -- the text stands behind what stood there before
 abbrev pub Adds : {A : Type 0} → Option (List A) → List A → List A → Type 0

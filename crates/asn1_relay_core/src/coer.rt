@@ -10,8 +10,8 @@ ghost use Rattle.asn1_relay_core.specs.Writing.{Adds, Refuses, text_by, octet_le
 ghost use Rattle.asn1_relay_texts.specs.Reading as Reading;
 ghost use Rattle.asn1_relay_texts.specs.Texts.{octets_of, read_digits};
 
-use crate::errors::{DecodeError, EncodeError};
 use crate::schema::{Schema, Value};
+use asn1_schema_faults::{DecodeError, EncodeError};
 use std::alloc::Global;
 use std::marker::Model;
 

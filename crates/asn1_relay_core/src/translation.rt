@@ -8,12 +8,12 @@ ghost use Rattle.asn1_relay_core.specs.Meaning.{schema_of, value_of};
 ghost use Rattle.asn1_relay_core.specs.Recoding.{rules_of, answer_of, Answer, IsAnswer, NamesMemoryAlone, FindsNone, WritesNone, OneAnswerIsRight};
 ghost use Rattle.asn1_relay_core.specs.Writing.{Refuses};
 
-use crate::bits::{BitReader, BitWriter};
 use crate::coer::OctetReader;
-use crate::errors::{DecodeError, EncodeError};
 use crate::schema::{Schema, Value};
 use crate::wire::Wire;
 use crate::{coer, uper};
+use asn1_schema_faults::{DecodeError, EncodeError};
+use asn1_values_bits::{BitBuffer, BitReader};
 use std::alloc::{AllocError, Global};
 use thiserror::Error;
 
@@ -92,9 +92,9 @@ fn write_uper(alloc: Global, schema: &Schema, value: &Value) -> Result<Vec<u8>, 
     requires { IsTrue (is_carried (schema_of schema.now)) }
     ensures { MatchResult result (λ octets. encoding uper (schema_of schema.now) (value_of value.now) ≡ Some octets.items) (Refuses (encoding uper (schema_of schema.now) (value_of value.now))) }
 {
-    let mut writer = BitWriter::new(alloc);
-    uper::write_value(schema, value, &mut writer)?;
-    Ok(writer.into_octets()?)
+    let mut bits = BitBuffer::new(alloc);
+    uper::write_value(schema, value, &mut bits)?;
+    Ok(uper::into_message(bits)?)
 }
 
 /// The octets of a value by COER, however many there are.
@@ -117,15 +117,16 @@ struct Front {
 /// Reads a value from the front of the octets by UPER.
 fn read_uper(alloc: Global, schema: &Schema, input: &[u8]) -> Result<Front, DecodeError>
     requires { IsTrue (is_carried (schema_of schema.now)) }
-    ensures { MatchResult result (λ front. uper_front 128 (schema_of schema.now) input.now ≡ Some (value_of front.value, front.len)) (Misses (uper_front 128 (schema_of schema.now) input.now)) }
+    ensures { MatchResult result (λ front. uper_front 128 (schema_of schema.now) (take (2 ^ 60 - 1) input.now) ≡ Some (value_of front.value, front.len)) (Misses (uper_front 128 (schema_of schema.now) (take (2 ^ 60 - 1) input.now))) }
 {
-    let mut reader = BitReader::new(input);
+    let within = within_limit(input);
+    let mut reader = BitReader::from_octets(within);
     let value = uper::read_value(alloc, schema, &mut reader, MAX_LEVELS)?;
-    let len = input.len() - reader.skip_to_octet();
+    let len = within.len() - reader.len() / 8;
     if len > 0 {
         return Ok(Front { value, len });
     }
-    match input.first() {
+    match within.first() {
         Some(0) => Ok(Front { value, len: 1 }),
         Some(_) => Err(DecodeError::InvalidPadding),
         None => Err(DecodeError::Incomplete),
@@ -135,11 +136,12 @@ fn read_uper(alloc: Global, schema: &Schema, input: &[u8]) -> Result<Front, Deco
 /// Reads a value from the front of the octets by COER.
 fn read_coer(alloc: Global, schema: &Schema, input: &[u8]) -> Result<Front, DecodeError>
     requires { IsTrue (is_carried (schema_of schema.now)) }
-    ensures { MatchResult result (λ front. coer_front 128 (schema_of schema.now) input.now ≡ Some (value_of front.value, front.len)) (Misses (coer_front 128 (schema_of schema.now) input.now)) }
+    ensures { MatchResult result (λ front. coer_front 128 (schema_of schema.now) (take (2 ^ 60 - 1) input.now) ≡ Some (value_of front.value, front.len)) (Misses (coer_front 128 (schema_of schema.now) (take (2 ^ 60 - 1) input.now))) }
 {
-    let mut reader = OctetReader::new(input);
+    let within = within_limit(input);
+    let mut reader = OctetReader::new(within);
     let value = coer::read_value(alloc, schema, &mut reader, MAX_LEVELS)?;
-    let len = input.len() - reader.len();
+    let len = within.len() - reader.len();
     Ok(Front { value, len })
 }
 
@@ -192,10 +194,9 @@ fn read(alloc: Global, codec: Codec, schema: &Schema, input: &[u8]) -> Result<Fr
     requires { IsTrue (is_carried (schema_of schema.now)) }
     ensures { MatchResult result (λ front. IsFront (rules_of codec) 128 (schema_of schema.now) input.now (value_of front.value, front.len)) (FindsNone (rules_of codec) (schema_of schema.now) input.now) }
 {
-    let within = within_limit(input);
     match codec {
-        Codec::Uper => read_uper(alloc, schema, within),
-        Codec::Coer => read_coer(alloc, schema, within),
+        Codec::Uper => read_uper(alloc, schema, input),
+        Codec::Coer => read_coer(alloc, schema, input),
     }
 }
 

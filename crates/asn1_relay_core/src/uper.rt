@@ -1,18 +1,19 @@
 //! The unaligned packed encoding rules (X.691).
 
-ghost use Rattle.std.specs.Prelude.{◌≡◌, ◌≤◌, Some, None, MatchResult};
+ghost use Rattle.std.specs.Prelude.{◌≡◌, ◌≤◌, [], ◌∷◌, Some, None, IfOk, IfSome, IfNone, MatchResult};
 ghost use Rattle.asn1_model.specs.Numbers.{width};
 ghost use Rattle.asn1_model.specs.Value as Asn1Value;
 ghost use Rattle.asn1_relay_core.specs.Finding.{Misses};
 ghost use Rattle.asn1_relay_core.specs.Meaning.{schema_of, value_of, integer_between, range_between};
 ghost use Rattle.asn1_relay_core.specs.Writing.{Adds, Refuses, text_by, bit_leaves};
+ghost use Rattle.asn1_relay_texts.specs.Messages.{packed_message};
 ghost use Rattle.asn1_relay_texts.specs.Reading.{read_bits, read_bit_number};
-ghost use Rattle.asn1_relay_texts.specs.Texts.{bits_of};
+ghost use Rattle.asn1_relay_texts.specs.Texts.{bits_of, read_bit_digits};
 
-use crate::bits::{BitReader, BitWriter};
-use crate::errors::{DecodeError, EncodeError};
 use crate::schema::{Schema, Value};
-use std::alloc::Global;
+use asn1_schema_faults::{DecodeError, EncodeError};
+use asn1_values_bits::{BitBuffer, BitReader};
+use std::alloc::{AllocError, Global};
 
 /// How many bits hold the numbers from 0 to `span` (X.691 11.5.7).
 fn width_of(span: u128) -> u32
@@ -27,39 +28,35 @@ fn write_integer(
     low: i128,
     high: i128,
     number: i128,
-    writer: &mut BitWriter,
+    bits: &mut BitBuffer,
 ) -> Result<(), EncodeError>
-    ensures { MatchResult result (λ _. Adds (bits_of (integer_between low high) (Asn1Value.number number)) writer.old writer.new) (Refuses (bits_of (integer_between low high) (Asn1Value.number number))) }
+    ensures { MatchResult result (λ _. Adds (bits_of (integer_between low high) (Asn1Value.number number)) bits.old bits.new) (Refuses (bits_of (integer_between low high) (Asn1Value.number number))) }
 {
     if number < low || high < number {
         return Err(EncodeError::ValueConstraintNotSatisfied);
     }
     let offset = number.abs_diff(low);
-    writer.push_number(offset, width_of(high.abs_diff(low)))?;
+    bits.push_bits(offset, width_of(high.abs_diff(low)))?;
     Ok(())
 }
 
 /// Adds the bits of a value (X.691 12, 13 and 19).
-pub fn write_value(
-    schema: &Schema,
-    value: &Value,
-    writer: &mut BitWriter,
-) -> Result<(), EncodeError>
-    ensures { MatchResult result (λ _. Adds (text_by bit_leaves (schema_of schema.now) (value_of value.now)) writer.old writer.new) (Refuses (text_by bit_leaves (schema_of schema.now) (value_of value.now))) }
+pub fn write_value(schema: &Schema, value: &Value, bits: &mut BitBuffer) -> Result<(), EncodeError>
+    ensures { MatchResult result (λ _. Adds (text_by bit_leaves (schema_of schema.now) (value_of value.now)) bits.old bits.new) (Refuses (text_by bit_leaves (schema_of schema.now) (value_of value.now))) }
 {
     match schema {
         Schema::Boolean => {
             let Value::Boolean(truth) = value else {
                 return Err(EncodeError::ValueConstraintNotSatisfied);
             };
-            writer.push_number(u128::from(*truth), 1)?;
+            bits.push(*truth)?;
             Ok(())
         }
         Schema::Integer { low, high } => {
             let Value::Integer(number) = value else {
                 return Err(EncodeError::ValueConstraintNotSatisfied);
             };
-            write_integer(*low, *high, *number, writer)
+            write_integer(*low, *high, *number, bits)
         }
         Schema::Sequence(components) => {
             let Value::Sequence(values) = value else {
@@ -69,22 +66,51 @@ pub fn write_value(
                 return Err(EncodeError::ValueConstraintNotSatisfied);
             }
             for (place, component) in components.iter().enumerate() {
-                write_value(component, &values[place], writer)?;
+                write_value(component, &values[place], bits)?;
             }
             Ok(())
         }
     }
 }
 
+/// The bits in octets, with zero bits behind the last one; no bits are one octet of zero bits (X.691 11.1).
+pub fn into_message(mut bits: BitBuffer) -> Result<Vec<u8>, AllocError>
+    ensures { IfOk result (λ octets. octets.items ≡ packed_message bits) }
+{
+    if bits.is_empty() {
+        bits.push_bits(0, 8)?;
+    }
+    Ok(bits.into_vec())
+}
+
+/// Takes one bit, if there is one.
+fn take_bit(reader: &mut BitReader<'_>) -> Option<bool>
+    ensures bit { IfSome result (λ b. reader.old.bits ≡ b ∷ reader.new.bits) }
+    ensures none { IfNone result (reader.old.bits ≡ []) }
+{
+    let front = reader.split(1).ok()?;
+    Some(front.first_bit())
+}
+
+/// Takes a number of `width` bits, if there are so many.
+fn take_number(width: u32, reader: &mut BitReader<'_>) -> Option<u128>
+    requires { width ≤ 128 }
+    ensures number { IfSome result (λ n. read_bit_digits width reader.old.bits ≡ Some (n, reader.new.bits)) }
+    ensures short { IfNone result (read_bit_digits width reader.old.bits ≡ None) }
+{
+    let front = reader.split(width as usize).ok()?;
+    Some(front.first_u128(width))
+}
+
 /// Takes a number between two bounds (X.691 13.2).
 fn read_integer(low: i128, high: i128, reader: &mut BitReader<'_>) -> Result<i128, DecodeError>
-    ensures { MatchResult result (λ n. read_bit_number (range_between low high) reader.old ≡ Some (n, reader.new)) (Misses (read_bit_number (range_between low high) reader.old)) }
+    ensures { MatchResult result (λ n. read_bit_number (range_between low high) reader.old.bits ≡ Some (n, reader.new.bits)) (Misses (read_bit_number (range_between low high) reader.old.bits)) }
 {
     if high < low {
         return Err(DecodeError::ValueConstraintNotSatisfied);
     }
     let span = high.abs_diff(low);
-    let Some(offset) = reader.take_number(width_of(span)) else {
+    let Some(offset) = take_number(width_of(span), reader) else {
         return Err(DecodeError::Incomplete);
     };
     if span < offset {
@@ -103,10 +129,10 @@ pub fn read_value(
     reader: &mut BitReader<'_>,
     levels: u32,
 ) -> Result<Value, DecodeError>
-    ensures { MatchResult result (λ v. read_bits levels (schema_of schema.now) reader.old ≡ Some (value_of v, reader.new)) (Misses (read_bits levels (schema_of schema.now) reader.old)) }
+    ensures { MatchResult result (λ v. read_bits levels (schema_of schema.now) reader.old.bits ≡ Some (value_of v, reader.new.bits)) (Misses (read_bits levels (schema_of schema.now) reader.old.bits)) }
 {
     match schema {
-        Schema::Boolean => match reader.take_bit() {
+        Schema::Boolean => match take_bit(reader) {
             Some(truth) => Ok(Value::Boolean(truth)),
             None => Err(DecodeError::Incomplete),
         },

@@ -23,4 +23,4 @@ returns c =
     let k : c.args.number ≤ℤ c.args.high = grind (arith, ints, c.if-high-number.false) in
     let s = simp to_z-of_z at c.abs_diff.ensures in
     let o = simp to_z-of_z at c.abs_diff-offset.ensures in
-    adds_offset c.args.low c.args.high c.args.number c.abs_diff.result c.abs_diff-offset.result c.width_of.result c.args.writer.now _ low high h k s o c.width_of.ensures.width c.in_ok-push_number.ensures
+    adds_offset c.args.low c.args.high c.args.number c.abs_diff.result c.abs_diff-offset.result c.width_of.result c.args.bits.now _ low high h k s o c.width_of.ensures.width c.in_ok-push_bits.ensures.ok
