@@ -1,2 +1,4 @@
 pub mod Reading
 pub mod SingleRecords
+pub mod Listing
+pub mod Ranges

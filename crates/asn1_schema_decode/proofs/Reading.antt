@@ -1,22 +1,21 @@
 -- How what a decoder finds is put together.
-use Rattle.std.proofs.Common.{◌≡◌, ℕ, ◌+◌, ◌<◌, zero, suc, Bool, true, false, cond, List, [], ◌∷◌, ◌++◌, Option, Some, None, refl, subst, sym, ◌∙◌, ap, arith}
-use Rattle.std.specs.Prelude.{◌||◌, not}
+use Rattle.std.proofs.Common.{◌≡◌, ℕ, ◌+◌, ◌<◌, zero, suc, Bool, true, false, List, [], ◌∷◌, ◌++◌, refl, subst, sym, ◌∙◌, ap, arith}
 use Rattle.asn1_model.specs.Value.{Value, fields, Parts, end, absent, present, same}
-use Rattle.asn1_model.specs.Schema.{Tag, Presence, required, optional, by_default, Schema, sequence, Components, no_component, component}
+use Rattle.asn1_model.specs.Schema.{Tag, Presence, required, by_default, Schema, sequence}
 use Rattle.asn1_model.specs.Normal.{normal, normal_parts, is_at_default, is_group_left_out}
 use Rattle.asn1_model.specs.Tables.{is_required}
 use Rattle.asn1_schema_faults.specs.declared.DecodeError.{DecodeError}
-use Rattle.asn1_schema_presented.specs.Records.{Record, sequence_begins, mark, is_default, ends, question, told, asks_sequence, asks_mark, asks_default, asks_end}
-use Rattle.asn1_schema_presented.specs.Presents.{Part, left_out, there, with_part, presents, part_records, noted, root_records, behind_root, added_records, optional_count, Fits, PartFits, PartsFit}
-use Rattle.asn1_schema_presented.specs.Parts.{part_of, part_unless, normal_part, tail_records, TailFits}
-use Rattle.asn1_schema_presented.specs.Tables.{Fields, no_field, field, Table, no_table, with_field, components_at, marks, scope, sequence_type, IsType, IsValue}
+use Rattle.asn1_schema_presented.specs.Records.{Record, sequence_begins, mark, is_default, ends, asks_sequence, asks_mark, asks_default, asks_end}
+use Rattle.asn1_schema_presented.specs.Presents.{Part, left_out, there, with_part, presents, part_records, noted, root_records, added_records, optional_count, Fits, PartFits, PartsFit}
+use Rattle.asn1_schema_presented.specs.Parts.{part_unless, tail_records, TailFits}
+use Rattle.asn1_schema_presented.specs.Tables.{Table, no_table, with_field, components_at, marks, scope, sequence_type, IsType, IsValue}
 use Rattle.asn1_schema_presented.specs.Chains.{Chain, OneRecord}
 use Rattle.asn1_schema_presented.proofs.Chains.{chain_append, chain_split}
-use Rattle.asn1_schema_presented.proofs.OneValue.{One, one_value, one_part, one_root, one_added}
+use Rattle.asn1_schema_presented.proofs.OneValue.{one_value, one_part}
 use Rattle.asn1_schema_presented.proofs.Values.{not_empty, normal_field, fits_field}
 use Rattle.asn1_schema_presented.proofs.Same.{same_self}
 use Rattle.asn1_schema_decode.specs.Reads.{NoRecord, NoLevel, Reads, Unread, ReadsPart, UnreadPart, ReadsTail, UnreadTail}
-use Rattle.asn1_schema_presented.proofs.Joined.{is_there, marks_at, tail_field, nothing_noted, there_records, marked_records}
+use Rattle.asn1_schema_presented.proofs.Joined.{marks_at, tail_field, nothing_noted, there_records, marked_records}
 
 not_at_end : {S : Type 0} (step : S → Record → S → Type 0) (n : ℕ) (ps qs : Parts) (a b : S) → TailFits n no_table ps qs → Chain step (tail_records n no_table ps qs) a b → (c : S) × step a ends c
 unfolding components_at PartsFit root_records added_records

@@ -1,7 +1,7 @@
 -- Values of one record.
-use Rattle.std.proofs.Common.{◌≡◌, ℕ, ℤ, Bool, List, [], ◌∷◌, refl, subst, sym, ap}
-use Rattle.asn1_model.specs.Value.{Value, truth, nothing, number, bit_list, octet_list, text, arcs}
-use Rattle.asn1_model.specs.Schema.{Schema, Bounds, Range, Size, Counts, StringKind, Alphabet, boolean, null, integer, bit_string, octet_string, character_string, object_identifier}
+use Rattle.std.proofs.Common.{◌≡◌, ℕ, ℤ, Bool, List, refl, subst, sym}
+use Rattle.asn1_model.specs.Value.{truth, nothing, number, bit_list, octet_list, text, arcs}
+use Rattle.asn1_model.specs.Schema.{Bounds, Range, Size, Counts, StringKind, Alphabet, boolean, null, integer, bit_string, octet_string, character_string, object_identifier}
 use Rattle.asn1_model.specs.Normal.{normal}
 use Rattle.asn1_schema_faults.specs.declared.DecodeError.{DecodeError}
 use Rattle.asn1_schema_presented.specs.Records.{Record, flag, nil, whole, bits, octets, characters, identifier, asks_flag, asks_nil, asks_whole, asks_bits, asks_octets, asks_characters, asks_identifier}
@@ -68,3 +68,6 @@ module _ {S : Type 0} {step : S → Record → S → Type 0} where
 
   pub reads_octets_as : (z : Size) (h : Counts) (n : ℕ) {x y : List ℕ} {a b : S} → x ≡ y → step a (octets z h y) b → Reads step (λ _. octet_string z h) n (octet_list x) a b
   reads_octets_as z h n {x} {y} {a} {b} e k = reads_octet_string z h n (subst (λ (t : List ℕ). step a (octets z h t) b) (sym e) k)
+
+  pub reads_bits_as : (z : Size) (h : Counts) (n : ℕ) {x y : List Bool} {a b : S} → x ≡ y → step a (bits z h y) b → Reads step (λ _. bit_string z h) n (bit_list x) a b
+  reads_bits_as z h n {x} {y} {a} {b} e k = reads_bit_string z h n (subst (λ (t : List Bool). step a (bits z h t) b) (sym e) k)

@@ -1,12 +1,13 @@
 -- How the states of a decoder go.
-use Rattle.std.specs.Prelude.{◌≡◌, ◌<◌, ℕ, List}
+use Rattle.std.specs.Prelude.{◌≡◌, ◌<◌, ℕ, true, List}
 use Rattle.asn1_model.specs.Value.{Value, Values, Parts, map_members}
-use Rattle.asn1_model.specs.Schema.{Presence, Schema}
+use Rattle.asn1_model.specs.Schema.{Presence, Counts, Schema}
+use Rattle.asn1_model.specs.Numbers.{is_count_within}
 use Rattle.asn1_model.specs.Normal.{normal, normal_parts}
 use Rattle.asn1_schema_faults.specs.declared.DecodeError.{DecodeError}
 use Rattle.asn1_schema_faults.specs.declared.DecodeError.TheVariants.{OutOfMemory}
 use Rattle.asn1_schema_presented.specs.Records.{Record, Question, question}
-use Rattle.asn1_schema_presented.specs.Presents.{Part, presents, part_records, member_records, Fits, PartFits, AllFit}
+use Rattle.asn1_schema_presented.specs.Presents.{Part, presents, part_records, member_records, member_count, Fits, PartFits, AllFit}
 use Rattle.asn1_schema_presented.specs.Tables.{Table, components_at}
 use Rattle.asn1_schema_presented.specs.Chains.{Chain}
 use Rattle.asn1_schema_presented.specs.Parts.{normal_part, tail_records, TailFits}
@@ -18,6 +19,10 @@ pub record NoRecord {S : Type 0} (step : S → Record → S → Type 0) (q : Que
 -- Or because no level is left.
 pub record NoLevel {S : Type 0} (step : S → Record → S → Type 0) (q : Question) (levels : ℕ) (old : S) (x : DecodeError) : Type 0 where
   pub none : ¬ (x ≡ OutOfMemory) → 0 < levels → (r : Record) (new : S) → question r ≡ q → step old r new → ⊥
+
+-- After an error other than want of memory the decoder has failed.
+pub record Stopped {S : Type 0} (has_failed : S → Type 0) (new : S) (x : DecodeError) : Type 0 where
+  pub failed : ¬ (x ≡ OutOfMemory) → has_failed new
 
 -- The state goes from old to new by the records of a value that nests at most n levels, and v is its normal form.
 pub record Reads {S : Type 0} (step : S → Record → S → Type 0) (schema : ℕ → Schema) (n : ℕ) (v : Value) (old new : S) : Type 0 where
@@ -59,5 +64,6 @@ pub record ReadsMembers {S : Type 0} (step : S → Record → S → Type 0) (sch
   pub means : map_members (λ v. normal (schema n) v) raw ≡ us
   pub chain : Chain step (member_records (λ v. presents (schema n) v) raw) old new
 
-pub record UnreadMembers {S : Type 0} (step : S → Record → S → Type 0) (schema : ℕ → Schema) (n : ℕ) (old : S) (x : DecodeError) : Type 0 where
-  pub none : ¬ (x ≡ OutOfMemory) → (vs : Values) (new : S) → AllFit (λ v. Fits (schema n) v) vs → Chain step (member_records (λ v. presents (schema n) v) vs) old new → ⊥
+-- Why no members of a count within h are read: for want of memory, or because the records of none are next.
+pub record UnreadMembers {S : Type 0} (step : S → Record → S → Type 0) (schema : ℕ → Schema) (n : ℕ) (h : Counts) (old : S) (x : DecodeError) : Type 0 where
+  pub none : ¬ (x ≡ OutOfMemory) → (vs : Values) (new : S) → is_count_within h (member_count vs) ≡ true → AllFit (λ v. Fits (schema n) v) vs → Chain step (member_records (λ v. presents (schema n) v) vs) old new → ⊥

@@ -1,16 +1,19 @@
 //! The components of a sequence, as they are read.
 ghost use Rattle.std.specs.Prelude.{◌≡◌, ◌+◌, false, OnOk, IfErr, IfOk};
-ghost use Rattle.asn1_model.specs.Value.{fields};
-ghost use Rattle.asn1_model.specs.Schema.{optional};
+ghost use Rattle.asn1_model.specs.Value.{fields, same};
+ghost use Rattle.asn1_model.specs.Schema.{optional, by_default};
 ghost use Rattle.asn1_schema_presented.specs.Tables.{marks, sequence_type};
-ghost use Rattle.asn1_schema_presented.specs.Parts.{part_of};
-ghost use Rattle.asn1_schema_decode.specs.Reads.{Reads, Unread, ReadsPart, UnreadPart, ReadsTail, UnreadTail};
+ghost use Rattle.asn1_schema_presented.specs.Parts.{part_of, part_unless};
+ghost use Rattle.asn1_schema_decode.specs.Reads.{Stopped, Reads, Unread, ReadsPart, UnreadPart, ReadsTail, UnreadTail};
 
 use crate::decode::{Decode, Decoder};
 use asn1_schema_faults::DecodeError;
 use asn1_schema_tags::Tag;
-use asn1_schema_types::{ComponentsOf, End, OptionalComponent, RequiredComponent};
+use asn1_schema_types::{
+    ComponentsOf, DefaultOf, DefaultedComponent, End, OptionalComponent, RequiredComponent,
+};
 use std::alloc::Global;
+use std::marker::PhantomData;
 
 /// Components that are read.
 pub trait DecodeComponents: ComponentsOf + Drop {
@@ -18,7 +21,9 @@ pub trait DecodeComponents: ComponentsOf + Drop {
     fn decode_components<D: Decoder>(alloc: Global, decoder: &mut D) -> Result<Self, DecodeError>
         ensures ok { IfOk result (λ x. ReadsTail D.step Self.table (D.levels decoder.old) (Self.root x) (Self.added x) decoder.old decoder.new) }
         ensures level { OnOk result (D.levels decoder.new ≡ D.levels decoder.old + 1) }
-        ensures only { IfErr result (UnreadTail D.step Self.table (D.levels decoder.old) decoder.old) };
+        ensures only { IfErr result (UnreadTail D.step Self.table (D.levels decoder.old) decoder.old) }
+        ensures failed { IfErr result (Stopped D.has_failed decoder.new) }
+        ensures already { D.has_failed decoder.old → result ≡ Err DecodeError.AlreadyFailed };
 }
 
 impl DecodeComponents for End {
@@ -44,6 +49,15 @@ impl<T: Decode, R: DecodeComponents> DecodeComponents for OptionalComponent<T, R
     }
 }
 
+impl<V: DefaultOf<T> + Drop, T: Decode, R: DecodeComponents> DecodeComponents
+    for DefaultedComponent<V, T, R> {
+    fn decode_components<D: Decoder>(alloc: Global, decoder: &mut D) -> Result<Self, DecodeError> {
+        let value = decoder.decode_default::<V, T>(alloc)?;
+        let rest = R::decode_components(alloc, decoder)?;
+        Ok(DefaultedComponent(value, PhantomData, rest))
+    }
+}
+
 /// How components and sequences are read.
 pub trait DecodeSequence: Decoder {
     /// A component that may be absent.
@@ -53,6 +67,8 @@ pub trait DecodeSequence: Decoder {
         ensures ok { IfOk result (λ x. ReadsPart Self.step optional T.schema (Self.levels self.old) (part_of T.meaning x) self.old self.new) }
         ensures level { OnOk result (Self.levels self.new ≡ Self.levels self.old) }
         ensures only { IfErr result (UnreadPart Self.step optional T.schema (Self.levels self.old) self.old) }
+        ensures failed { IfErr result (Stopped Self.has_failed self.new) }
+        ensures already { Self.has_failed self.old → result ≡ Err DecodeError.AlreadyFailed }
     {
         let present = self.get_mark()?;
         if !present {
@@ -60,6 +76,34 @@ pub trait DecodeSequence: Decoder {
         }
         let value = T::decode(alloc, self)?;
         Ok(Some(value))
+    }
+
+    /// A component with a default, which stands for it where it is absent (X.680 25). One that is there and
+    /// means what the default is has a note behind it, which rules with one encoding refuse (X.691 19.5 and
+    /// X.696 16 in their canonical forms).
+    final fn decode_default<V: DefaultOf<T>, T: Decode>(
+        &mut self,
+        alloc: Global,
+    ) -> Result<T, DecodeError>
+    where
+        Self: Sized,
+        ensures ok { IfOk result (λ x. ReadsPart Self.step (by_default V.value) T.schema (Self.levels self.old) (part_unless (same (T.meaning x) V.value) (T.meaning x)) self.old self.new) }
+        ensures level { OnOk result (Self.levels self.new ≡ Self.levels self.old) }
+        ensures only { IfErr result (UnreadPart Self.step (by_default V.value) T.schema (Self.levels self.old) self.old) }
+        ensures failed { IfErr result (Stopped Self.has_failed self.new) }
+        ensures already { Self.has_failed self.old → result ≡ Err DecodeError.AlreadyFailed }
+    {
+        let is_there = self.get_mark()?;
+        if !is_there {
+            let default = V::default_value(alloc)?;
+            return Ok(default);
+        }
+        let value = T::decode(alloc, self)?;
+        let is_default = V::is_default(&value);
+        if is_default {
+            self.note_default()?;
+        }
+        Ok(value)
     }
 
     /// SEQUENCE (X.680 25) of these components, of which so many may be absent.
@@ -76,6 +120,8 @@ pub trait DecodeSequence: Decoder {
         ensures ok { IfOk result (λ x. Reads Self.step (sequence_type C.table) (Self.levels self.old) (fields (C.root x) (C.added x)) self.old self.new) }
         ensures level { OnOk result (Self.levels self.new ≡ Self.levels self.old) }
         ensures only { IfErr result (Unread Self.step (sequence_type C.table) (Self.levels self.old) self.old) }
+        ensures failed { IfErr result (Stopped Self.has_failed self.new) }
+        ensures already { Self.has_failed self.old → result ≡ Err DecodeError.AlreadyFailed }
     {
         self.begin_sequence(tag, false, optional)?;
         let components = C::decode_components(alloc, self)?;

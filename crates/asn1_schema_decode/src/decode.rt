@@ -9,7 +9,7 @@ ghost use Rattle.asn1_schema_presented.specs.Records.{asks_flag, asks_nil, asks_
 ghost use Rattle.asn1_model.specs.Numbers.{is_within, is_count_within};
 ghost use Rattle.asn1_schema_bounds.specs.Bounds.{counts_of};
 ghost use Rattle.asn1_schema_constraints.specs.Terms.{bounds_of, held_of, sizes_of, alphabet_of};
-ghost use Rattle.asn1_schema_decode.specs.Reads.{NoRecord, NoLevel, Reads, Unread};
+ghost use Rattle.asn1_schema_decode.specs.Reads.{NoRecord, NoLevel, Stopped, Reads, Unread};
 
 use asn1_schema_bounds::Bounded;
 use asn1_schema_constraints::Constraints;
@@ -263,7 +263,7 @@ pub trait Decoder {
 /// A type whose values are read.
 pub trait Decode: AsnType + Drop {
     /// Reads a value of the type under these constraints whose records are next, and gives the value of the
-    /// program that means its normal form.
+    /// program that means its normal form. After an error other than want of memory the decoder has failed.
     fn decode_with_tag_and_constraints<D: Decoder>(
         alloc: Global,
         decoder: &mut D,
@@ -272,7 +272,9 @@ pub trait Decode: AsnType + Drop {
     ) -> Result<Self, DecodeError>
         ensures ok { IfOk result (λ x. Reads D.step (Self.under constraints.entry) (D.levels decoder.old) (Self.meaning x) decoder.old decoder.new) }
         ensures level { OnOk result (D.levels decoder.new ≡ D.levels decoder.old) }
-        ensures only { IfErr result (Unread D.step (Self.under constraints.entry) (D.levels decoder.old) decoder.old) };
+        ensures only { IfErr result (Unread D.step (Self.under constraints.entry) (D.levels decoder.old) decoder.old) }
+        ensures failed { IfErr result (Stopped D.has_failed decoder.new) }
+        ensures already { D.has_failed decoder.old → result ≡ Err DecodeError.AlreadyFailed };
 
     /// Reads a value of the type whose records are next, and gives the value of the program that means its
     /// normal form.
@@ -282,6 +284,8 @@ pub trait Decode: AsnType + Drop {
         ensures ok { IfOk result (λ x. Reads D.step Self.schema (D.levels decoder.old) (Self.meaning x) decoder.old decoder.new) }
         ensures level { OnOk result (D.levels decoder.new ≡ D.levels decoder.old) }
         ensures only { IfErr result (Unread D.step Self.schema (D.levels decoder.old) decoder.old) }
+        ensures failed { IfErr result (Stopped D.has_failed decoder.new) }
+        ensures already { D.has_failed decoder.old → result ≡ Err DecodeError.AlreadyFailed }
     {
         Self::decode_with_tag(alloc, decoder, Self::TAG)
     }
@@ -297,6 +301,8 @@ pub trait Decode: AsnType + Drop {
         ensures ok { IfOk result (λ x. Reads D.step Self.schema (D.levels decoder.old) (Self.meaning x) decoder.old decoder.new) }
         ensures level { OnOk result (D.levels decoder.new ≡ D.levels decoder.old) }
         ensures only { IfErr result (Unread D.step Self.schema (D.levels decoder.old) decoder.old) }
+        ensures failed { IfErr result (Stopped D.has_failed decoder.new) }
+        ensures already { D.has_failed decoder.old → result ≡ Err DecodeError.AlreadyFailed }
     {
         let value = Self::decode_with_tag_and_constraints(
             alloc,
@@ -318,6 +324,8 @@ pub trait Decode: AsnType + Drop {
         ensures ok { IfOk result (λ x. Reads D.step (Self.under constraints.entry) (D.levels decoder.old) (Self.meaning x) decoder.old decoder.new) }
         ensures level { OnOk result (D.levels decoder.new ≡ D.levels decoder.old) }
         ensures only { IfErr result (Unread D.step (Self.under constraints.entry) (D.levels decoder.old) decoder.old) }
+        ensures failed { IfErr result (Stopped D.has_failed decoder.new) }
+        ensures already { D.has_failed decoder.old → result ≡ Err DecodeError.AlreadyFailed }
     {
         Self::decode_with_tag_and_constraints(alloc, decoder, Self::TAG, constraints)
     }

@@ -60,13 +60,12 @@ impl Decode for ObjectIdentifier {
     }
 }
 
-// The string of octets that were read, copied where they are lent.
+// The string of octets that were read. Only lent octets are copied.
 fn octet_string<O: ReadOctets>(alloc: Global, octets: O) -> Result<OctetString, DecodeError>
     ensures value { IfOk result (λ s. s ≡ O.items octets) }
     ensures refused { IfErr result (λ e. e ≡ DecodeError.OutOfMemory) }
 {
-    match OctetString::from_slice(alloc, octets.octets()) {
-        Ok(string) => Ok(string),
-        Err(_) => Err(DecodeError::OutOfMemory),
-    }
+    let owned = octets.into_vec(alloc)?;
+    let string = OctetString::from_vec(owned)?;
+    Ok(string)
 }

@@ -1,3 +1,4 @@
 pub mod Writing
 pub mod Listing
 pub mod SingleRecords
+pub mod Ranges

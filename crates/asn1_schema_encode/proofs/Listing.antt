@@ -1,18 +1,15 @@
 -- How lists are written and read.
-use Rattle.std.proofs.Common.{◌≡◌, ℕ, ◌+◌, ◌<◌, ◌≤◌, zero, suc, Bool, true, false, List, [], ◌∷◌, ◌++◌, refl, subst, sym, ◌∙◌, ap, arith, length, drop, get_or, add-one, drop-cons}
+use Rattle.std.proofs.Common.{◌≡◌, ℕ, ◌+◌, ◌<◌, ◌≤◌, zero, suc, true, false, List, [], ◌∷◌, ◌++◌, refl, subst, sym, ◌∙◌, ap, length, drop, get_or, add-one, drop-cons}
 use Rattle.std.proofs.lemmas.List.{drop_all}
-use Rattle.asn1_model.specs.Value.{Value, Values, no_more, member, members, map_members}
+use Rattle.asn1_model.specs.Value.{Value, Values, no_more, member, members}
 use Rattle.asn1_model.specs.Schema.{Schema, Size, Counts, sequence_of}
-use Rattle.asn1_model.specs.Normal.{normal}
-use Rattle.asn1_model.specs.Numbers.{is_count_within}
 use Rattle.asn1_schema_faults.specs.declared.EncodeError.{EncodeError}
-use Rattle.asn1_schema_presented.specs.Records.{Record, list_begins, further, ends, asks_list, asks_further, asks_end}
-use Rattle.asn1_schema_presented.specs.Presents.{presents, member_records, member_count, Fits, AllFit}
+use Rattle.asn1_schema_presented.specs.Records.{Record, list_begins, further, ends}
+use Rattle.asn1_schema_presented.specs.Presents.{presents, member_records, member_count, Fits}
 use Rattle.asn1_schema_presented.specs.Parts.{values_of}
 use Rattle.asn1_schema_presented.specs.Tables.{scope, list_type}
-use Rattle.asn1_schema_presented.specs.Chains.{Chain, OneAfter, OneRecord}
+use Rattle.asn1_schema_presented.specs.Chains.{Chain, OneAfter}
 use Rattle.asn1_schema_presented.proofs.Chains.{chain_append, chain_split}
-use Rattle.asn1_schema_presented.proofs.OneValue.{one_value}
 use Rattle.asn1_schema_encode.specs.Writes.{Refused, Writes, CannotWrite, WritesMembers, CannotWriteMembers}
 use Rattle.asn1_schema_encode.proofs.Writing.{cannot_later}
 

@@ -1,12 +1,10 @@
 -- Values of one record.
-use Rattle.std.proofs.Common.{◌≡◌, ℕ, ℤ, Bool, List, [], ◌∷◌, refl, subst, sym, ap}
-use Rattle.asn1_model.specs.Value.{Value, truth, nothing, number, bit_list, octet_list, text, arcs}
-use Rattle.asn1_model.specs.Schema.{Schema, Bounds, Range, Size, Counts, StringKind, Alphabet, boolean, null, integer, bit_string, octet_string, character_string, object_identifier}
-use Rattle.asn1_model.specs.Normal.{normal}
+use Rattle.std.proofs.Common.{ℕ, ℤ, Bool, List, refl}
+use Rattle.asn1_model.specs.Value.{truth, nothing, number, bit_list, octet_list, text, arcs}
+use Rattle.asn1_model.specs.Schema.{Bounds, Range, Size, Counts, StringKind, Alphabet, boolean, null, integer, bit_string, octet_string, character_string, object_identifier}
 use Rattle.asn1_schema_faults.specs.declared.EncodeError.{EncodeError}
 use Rattle.asn1_schema_presented.specs.Records.{Record, flag, nil, whole, bits, octets, characters, identifier}
-use Rattle.asn1_schema_presented.specs.Presents.{presents, Fits}
-use Rattle.asn1_schema_presented.specs.Chains.{Chain}
+use Rattle.asn1_schema_presented.specs.Presents.{presents}
 use Rattle.asn1_schema_encode.specs.Writes.{Refused, Writes, CannotWrite}
 
 module _ {S : Type 0} {step : S → Record → S → Type 0} where

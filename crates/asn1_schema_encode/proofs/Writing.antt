@@ -1,22 +1,19 @@
 -- How what an encoder takes is put together.
-use Rattle.std.proofs.Common.{◌≡◌, ℕ, ◌+◌, zero, suc, Bool, true, false, cond, List, [], ◌∷◌, ◌++◌, Option, Some, None, refl, subst, sym, ◌∙◌, ap, Result, Ok, Err}
-use Rattle.std.specs.Prelude.{◌||◌, not}
-use Rattle.std.specs.Result.{IfErr, IsErrAnd}
-use Rattle.asn1_model.specs.Value.{Value, fields, Parts, end, absent, present, same}
-use Rattle.asn1_model.specs.Schema.{Tag, Presence, required, optional, by_default, Schema, sequence, Components, no_component, component}
-use Rattle.asn1_model.specs.Normal.{normal, is_at_default, is_group_left_out}
-use Rattle.asn1_model.specs.Lawful.{are_no_components}
+use Rattle.std.proofs.Common.{◌≡◌, ℕ, zero, suc, Bool, true, false, List, ◌++◌, refl, subst, sym}
+use Rattle.asn1_model.specs.Value.{Value, fields, Parts, end}
+use Rattle.asn1_model.specs.Schema.{Tag, Presence, required, optional, by_default, Schema, sequence}
+use Rattle.asn1_model.specs.Normal.{normal, is_at_default}
 use Rattle.asn1_model.specs.Tables.{is_required}
 use Rattle.asn1_schema_faults.specs.declared.EncodeError.{EncodeError}
 use Rattle.asn1_schema_presented.specs.Records.{Record, sequence_begins, mark, ends}
-use Rattle.asn1_schema_presented.specs.Presents.{Part, left_out, there, with_part, presents, part_records, noted, root_records, behind_root, added_records, optional_count, Fits, PartFits, PartsFit}
-use Rattle.asn1_schema_presented.specs.Tables.{Fields, no_field, field, Table, no_table, with_field, components_at, marks, scope, sequence_type, IsType, IsValue}
+use Rattle.asn1_schema_presented.specs.Presents.{Part, left_out, there, with_part, presents, part_records, root_records, added_records, Fits}
+use Rattle.asn1_schema_presented.specs.Tables.{Table, no_table, with_field, components_at, marks, scope, sequence_type, IsType}
 use Rattle.asn1_schema_presented.specs.Chains.{Chain, OneAfter}
 use Rattle.asn1_schema_presented.proofs.Chains.{chain_append, chain_split, chain_rest}
-use Rattle.asn1_schema_presented.specs.Parts.{part_of, part_unless, tail_records, TailFits}
+use Rattle.asn1_schema_presented.specs.Parts.{tail_records}
 use Rattle.asn1_schema_encode.specs.Writes.{Refused, Writes, CannotWrite, WritesPart, CannotWritePart, WritesTail, CannotWriteTail}
 use Rattle.asn1_schema_presented.proofs.Values.{not_empty}
-use Rattle.asn1_schema_presented.proofs.Joined.{is_there, marks_at, nothing_noted, tail_field, tail_fits, there_records, marked_records, not_default}
+use Rattle.asn1_schema_presented.proofs.Joined.{is_there, marks_at, nothing_noted, tail_field, tail_fits, there_records, marked_records}
 
 module _ {S : Type 0} {step : S → Record → S → Type 0} where
   pub writes_required : {ts : List Tag} {s : ℕ → Schema} {v : Value} {a b : S} → IsType ts s → Writes step s v a b → WritesPart step required s (there v) a b

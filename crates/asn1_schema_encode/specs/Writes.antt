@@ -1,5 +1,5 @@
 -- How the states of an encoder go, by its relation between what it holds before a record and after it.
-use Rattle.std.specs.Prelude.{◌≡◌, ℕ, List}
+use Rattle.std.specs.Prelude.{◌≡◌, ℕ}
 use Rattle.asn1_model.specs.Value.{Value, Values, Parts}
 use Rattle.asn1_model.specs.Schema.{Presence, Schema}
 use Rattle.asn1_schema_faults.specs.declared.EncodeError.{EncodeError}

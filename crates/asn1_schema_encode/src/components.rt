@@ -1,16 +1,16 @@
 //! The components of a sequence, as they are written.
 ghost use Rattle.std.specs.Prelude.{◌≡◌, false, OnOk, OnErr, IfErr};
-ghost use Rattle.asn1_model.specs.Value.{fields};
-ghost use Rattle.asn1_model.specs.Schema.{optional};
+ghost use Rattle.asn1_model.specs.Value.{fields, same};
+ghost use Rattle.asn1_model.specs.Schema.{optional, by_default};
 ghost use Rattle.asn1_schema_presented.specs.Presents.{there, left_out};
 ghost use Rattle.asn1_schema_presented.specs.Tables.{marks, sequence_type};
-ghost use Rattle.asn1_schema_presented.specs.Parts.{part_of};
+ghost use Rattle.asn1_schema_presented.specs.Parts.{part_of, part_unless};
 ghost use Rattle.asn1_schema_encode.specs.Writes.{Writes, CannotWrite, WritesPart, CannotWritePart, WritesTail, CannotWriteTail};
 
 use crate::encode::{Encode, Encoder};
 use asn1_schema_faults::EncodeError;
 use asn1_schema_tags::Tag;
-use asn1_schema_types::{ComponentsOf, End, Optional, Required};
+use asn1_schema_types::{ComponentsOf, DefaultOf, Defaulted, End, Optional, Required};
 
 /// Components that are written.
 pub trait EncodeComponents: ComponentsOf {
@@ -41,6 +41,15 @@ impl<'a, T: Encode, R: EncodeComponents> EncodeComponents for Optional<'a, T, R>
     fn encode_components<E: Encoder>(&self, encoder: &mut E) -> Result<(), EncodeError> {
         encoder.encode_optional(self.0)?;
         self.1.encode_components(encoder)?;
+        Ok(())
+    }
+}
+
+impl<'a, V: DefaultOf<T>, T: Encode, R: EncodeComponents> EncodeComponents
+    for Defaulted<'a, V, T, R> {
+    fn encode_components<E: Encoder>(&self, encoder: &mut E) -> Result<(), EncodeError> {
+        encoder.encode_default::<V, T>(self.0)?;
+        self.2.encode_components(encoder)?;
         Ok(())
     }
 }
@@ -87,6 +96,28 @@ pub trait EncodeSequence: Encoder {
             None => self.encode_none::<T>(),
             Some(inner) => self.encode_some(inner),
         }
+    }
+
+    /// A component with a default: left out where it means what the default is, so a default is never spelled
+    /// out (X.691 19.5 and X.696 16 in their canonical forms). Takes no memory of its own.
+    final fn encode_default<V: DefaultOf<T>, T: Encode>(
+        &mut self,
+        value: &T,
+    ) -> Result<(), EncodeError>
+    where
+        Self: Sized,
+        ensures ok { OnOk result (WritesPart Self.step (by_default V.value) T.schema (part_unless (same (T.meaning value.now) V.value) (T.meaning value.now)) self.old self.new) }
+        ensures only { IfErr result (CannotWritePart Self.step (by_default V.value) T.schema (part_unless (same (T.meaning value.now) V.value) (T.meaning value.now)) self.old) }
+        ensures failed { OnErr result (Self.has_failed self.new) }
+        ensures already { Self.has_failed self.old → result ≡ Err EncodeError.AlreadyFailed }
+    {
+        if V::is_default(value) {
+            self.put_mark(false)?;
+            return Ok(());
+        }
+        self.put_mark(true)?;
+        value.encode(self)?;
+        Ok(())
     }
 
     /// SEQUENCE (X.680 25) of these components, of which so many may be absent.

@@ -1,14 +1,22 @@
 //! The traits of types that are written and of encoders, and what each keeps.
 #![tactic(auto)]
 
+pub mod bmp;
+pub mod characters;
 pub mod components;
+pub mod constrained;
 pub mod encode;
+pub mod fixed;
 pub mod integers;
+pub mod lent;
 pub mod lists;
+pub mod markers;
 pub mod natives;
 pub mod pointers;
 pub mod scalars;
+pub mod sequences;
 pub mod strings;
+pub mod wide;
 
 pub use components::{EncodeComponents, EncodeSequence};
 pub use encode::{Encode, Encoder};

@@ -1,6 +1,10 @@
-//! A type of a program's own, as its author writes it.
+//! Types of a program's own, as their author writes them: a sequence, one with a default, and one that leads back to itself.
 #![tactic(auto)]
 
+pub mod chain;
+pub mod measure;
 pub mod setting;
 #[cfg(test)]
 mod tests;
+#[cfg(test)]
+mod tests_reading;

@@ -41,11 +41,11 @@ impl Described for Setting {
 
     ghost meaning = { λ x. fields (⟦<Form as ComponentsOf>⟧.root (record { 0 = x.on; 1 = record { 0 = x.level; 1 = record { 0 = x.step; 1 = record {} } } })) (⟦<Form as ComponentsOf>⟧.added (record { 0 = x.on; 1 = record { 0 = x.level; 1 = record { 0 = x.step; 1 = record {} } } })) };
 
-    ghost typed = { type_sequence _ refl ⟦<Form as ComponentsOf>⟧.typed refl };
+    ghost typed = { type_sequence _ refl (⟦<Form as ComponentsOf>⟧.typed tt) refl };
 
-    ghost valued = { λ x. value_sequence _ (⟦<Form as ComponentsOf>⟧.valued (record { 0 = x.on; 1 = record { 0 = x.level; 1 = record { 0 = x.step; 1 = record {} } } })) };
+    ghost valued = { λ x. value_sequence _ (⟦<Form as ComponentsOf>⟧.valued tt (record { 0 = x.on; 1 = record { 0 = x.level; 1 = record { 0 = x.step; 1 = record {} } } })) };
 
-    ghost valued_under = { λ _ x. value_sequence _ (⟦<Form as ComponentsOf>⟧.valued (record { 0 = x.on; 1 = record { 0 = x.level; 1 = record { 0 = x.step; 1 = record {} } } })) };
+    ghost valued_under = { λ _ x. value_sequence _ (⟦<Form as ComponentsOf>⟧.valued tt (record { 0 = x.on; 1 = record { 0 = x.level; 1 = record { 0 = x.step; 1 = record {} } } })) };
 }
 
 impl AsnType for Setting {

@@ -1,8 +1,11 @@
 //! The example through the codec that keeps records.
+use crate::measure::Measure;
 use crate::setting::Setting;
 use asn1_schema_encode::{Encode, Encoder};
 use asn1_schema_faults::CodecKind;
-use asn1_schema_records::RecordEncoder;
+use asn1_schema_records::{Item, RecordEncoder};
+use asn1_values_numbers::Integer;
+use std::alloc::Global;
 
 #[test]
 fn a_setting_is_written(rt: HostRuntime) {
@@ -15,4 +18,54 @@ fn a_setting_is_written(rt: HostRuntime) {
     assert!(rt; setting.encode(&mut encoder).is_ok());
     assert_eq!(rt; encoder.codec(), CodecKind::Uper);
     assert_eq!(rt; encoder.into_items().len(), 6);
+}
+
+// The records of a measure.
+fn records_of(alloc: Global, measure: &Measure) -> Vec<Item> {
+    let mut encoder = RecordEncoder::new(alloc, CodecKind::Coer);
+    match measure.encode(&mut encoder) {
+        Ok(()) => encoder.into_items(),
+        Err(_) => Vec::new(alloc),
+    }
+}
+
+fn is_mark(item: Option<&Item>, present: bool) -> bool {
+    match item {
+        Some(Item::Mark(found)) => *found == present,
+        _ => false,
+    }
+}
+
+fn is_number(item: Option<&Item>, number: i64) -> bool {
+    match item {
+        Some(Item::Integer(_, found)) => *found == Integer::from(number),
+        _ => false,
+    }
+}
+
+#[test]
+fn a_default_is_left_out(rt: HostRuntime) {
+    let measure = Measure {
+        offset: Integer::from(0_i64),
+        exact: None,
+    };
+    let records = records_of(rt.alloc(), &measure);
+    assert_eq!(rt; records.len(), 4);
+    assert!(rt; matches!(records.get(0), Some(Item::SequenceBegins(false, 2))));
+    assert!(rt; is_mark(records.get(1), false));
+    assert!(rt; is_mark(records.get(2), false));
+    assert!(rt; matches!(records.get(3), Some(Item::Ends)));
+}
+
+#[test]
+fn another_value_is_written(rt: HostRuntime) {
+    let measure = Measure {
+        offset: Integer::from(3_i64),
+        exact: None,
+    };
+    let records = records_of(rt.alloc(), &measure);
+    assert_eq!(rt; records.len(), 5);
+    assert!(rt; is_mark(records.get(1), true));
+    assert!(rt; is_number(records.get(2), 3));
+    assert!(rt; is_mark(records.get(3), false));
 }

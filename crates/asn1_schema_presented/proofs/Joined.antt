@@ -1,19 +1,14 @@
 -- How the records of components are put together, for what writes and what reads them.
-use Rattle.std.proofs.Common.{◌≡◌, ℕ, ◌+◌, zero, suc, Bool, true, false, cond, List, [], ◌∷◌, ◌++◌, Option, Some, None, refl, subst, sym, ◌∙◌, ap, Result, Ok, Err}
-use Rattle.std.specs.Prelude.{◌||◌, not}
+use Rattle.std.proofs.Common.{◌≡◌, ℕ, Bool, true, false, cond, List, [], ◌∷◌, ◌++◌, refl, subst, sym, ◌∙◌, ap, Result, Ok, Err}
 use Rattle.std.specs.Result.{IfErr, IsErrAnd}
-use Rattle.asn1_model.specs.Value.{Value, fields, Parts, end, absent, present, same}
-use Rattle.asn1_model.specs.Schema.{Tag, Presence, required, optional, by_default, Schema, sequence, Components, no_component, component}
-use Rattle.asn1_model.specs.Normal.{normal, is_at_default, is_group_left_out}
-use Rattle.asn1_model.specs.Lawful.{are_no_components}
+use Rattle.asn1_model.specs.Value.{Value, Parts, same}
+use Rattle.asn1_model.specs.Schema.{Tag, Presence, required, optional, by_default, Schema}
+use Rattle.asn1_model.specs.Normal.{is_at_default, is_group_left_out}
 use Rattle.asn1_model.specs.Tables.{is_required}
-use Rattle.asn1_schema_presented.specs.Records.{Record, sequence_begins, mark, ends}
-use Rattle.asn1_schema_presented.specs.Presents.{Part, left_out, there, with_part, presents, part_records, noted, root_records, behind_root, added_records, optional_count, Fits, PartFits, PartsFit}
-use Rattle.asn1_schema_presented.specs.Tables.{Fields, no_field, field, Table, no_table, with_field, components_at, marks, scope, sequence_type, IsType, IsValue}
-use Rattle.asn1_schema_presented.specs.Chains.{Chain, OneAfter}
-use Rattle.asn1_schema_presented.proofs.Chains.{chain_append, chain_split, chain_rest}
-use Rattle.asn1_schema_presented.specs.Parts.{part_of, part_unless, tail_records, TailFits}
-use Rattle.asn1_schema_presented.proofs.Values.{not_empty}
+use Rattle.asn1_schema_presented.specs.Records.{mark}
+use Rattle.asn1_schema_presented.specs.Presents.{Part, left_out, there, with_part, presents, part_records, noted, root_records, optional_count, Fits, PartFits, PartsFit}
+use Rattle.asn1_schema_presented.specs.Tables.{Fields, no_field, field, Table, with_field, components_at, marks, IsValue}
+use Rattle.asn1_schema_presented.specs.Parts.{tail_records, TailFits}
 
 -- what a `?` passes on
 pub raised : {T E : Type 0} (P : E → Type 0) (x : E) (r : Result T E) → IsErrAnd r (λ y. y ≡ x) → P x → IfErr r P

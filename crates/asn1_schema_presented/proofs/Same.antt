@@ -1,6 +1,9 @@
 -- A value is equal to itself.
-use Rattle.std.proofs.Common.{rules, arith, ◌≡◌, ℕ, ℤ, pos, negsuc, Bool, true, false, List, [], ◌∷◌, refl}
-use Rattle.std.specs.Prelude.{◌==◌}
+use Rattle.std.proofs.Common.{rules, arith, ◌≡◌, ℕ, ℤ, pos, negsuc, Bool, true, false, int_eq, List, [], ◌∷◌, refl}
+use Rattle.std.specs.Prelude.{◌==◌, nat_eq}
+use Rattle.std.specs.Bool.{beq}
+use Rattle.std.proofs.lemmas.Bool.Decides.{nat_tests}
+use lib.Pointwise.{pointwise}
 use Rattle.asn1_model.specs.Value.{Value, truth, nothing, number, item, bit_list, octet_list, text, arcs, members, bag, fields, chosen, Values, no_more, member, Parts, end, absent, present, same, same_members, same_bag, same_parts, same_truth, same_number, same_list}
 
 same_truth_self : (b : Bool) → same_truth b b ≡ true
@@ -47,3 +50,48 @@ mutual
   same_parts_self end = refl
   same_parts_self (absent ps) = same_parts_self ps
   same_parts_self (present v ps) = rw (same_self v, same_parts_self ps) refl
+
+-- equality as the program's types have it
+
+same_truth_as : (a b : Bool) → beq a b ≡ same_truth a b
+same_truth_as true true = refl
+same_truth_as true false = refl
+same_truth_as false true = refl
+same_truth_as false false = refl
+
+same_list_as : {X : Type 0} (e f : X → X → Bool) → ((x y : X) → e x y ≡ f x y) → (xs ys : List X) → pointwise e xs ys ≡ same_list f xs ys
+same_list_as e f h [] [] = refl
+same_list_as e f h [] (y ∷ ys) = refl
+same_list_as e f h (x ∷ xs) [] = refl
+same_list_as e f h (x ∷ xs) (y ∷ ys) = rw (h x y, same_list_as e f h xs ys) refl
+
+pub truths_agree : (a b : Bool) → beq a b ≡ same (truth a) (truth b)
+unfolding same
+truths_agree a b = same_truth_as a b
+
+pub naturals_agree : (a b : ℕ) → nat_eq a b ≡ same (number (pos a)) (number (pos b))
+unfolding same
+naturals_agree a b = refl
+
+pub numbers_agree : (a b : ℤ) → int_eq a b ≡ same (number a) (number b)
+unfolding same
+numbers_agree (pos a) (pos b) = grind (arith, nat_tests)
+numbers_agree (pos a) (negsuc b) = refl
+numbers_agree (negsuc a) (pos b) = refl
+numbers_agree (negsuc a) (negsuc b) = grind (arith, nat_tests)
+
+pub bits_agree : (xs ys : List Bool) → pointwise beq xs ys ≡ same (bit_list xs) (bit_list ys)
+unfolding same
+bits_agree xs ys = same_list_as beq same_truth same_truth_as xs ys
+
+pub octets_agree : (xs ys : List ℕ) → pointwise nat_eq xs ys ≡ same (octet_list xs) (octet_list ys)
+unfolding same
+octets_agree xs ys = same_list_as nat_eq ◌==◌ (λ x y. refl) xs ys
+
+pub texts_agree : (xs ys : List ℕ) → pointwise nat_eq xs ys ≡ same (text xs) (text ys)
+unfolding same
+texts_agree xs ys = same_list_as nat_eq ◌==◌ (λ x y. refl) xs ys
+
+pub arcs_agree : (xs ys : List ℕ) → pointwise nat_eq xs ys ≡ same (arcs xs) (arcs ys)
+unfolding same
+arcs_agree xs ys = same_list_as nat_eq ◌==◌ (λ x y. refl) xs ys

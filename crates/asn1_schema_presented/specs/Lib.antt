@@ -4,5 +4,6 @@ pub mod Tables
 pub mod Chains
 pub mod Parts
 pub mod Typed
+pub mod Recursive
 pub mod Laws
 pub mod Rows

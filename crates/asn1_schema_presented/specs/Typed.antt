@@ -1,11 +1,12 @@
 -- Types and values of components.
 use Rattle.std.specs.Prelude.{◌≡◌, ◌≤◌, ℕ, true, ◌&&◌, ◌||◌}
-use Rattle.asn1_model.specs.Value.{Parts, depth, depth_of_parts}
-use Rattle.asn1_model.specs.Schema.{Presence, Schema}
-use Rattle.asn1_model.specs.Normal.{normal_parts}
+use Rattle.asn1_model.specs.Value.{Value, Parts, depth, depth_of_parts}
+use Rattle.asn1_model.specs.Schema.{Presence, by_default, Schema}
+use Rattle.asn1_model.specs.Normal.{normal_parts, is_normal}
 use Rattle.asn1_model.specs.Lawful.{are_lawful, has_typed_default, has_normal_default, has_no_group, has_optional_groups, are_no_components}
 use Rattle.asn1_schema_presented.specs.Presents.{Part, left_out, there, Fits, PartFits, PartsFit}
-use Rattle.asn1_schema_presented.specs.Tables.{Table, components_at}
+use Rattle.asn1_model.specs.Typed.{is_of}
+use Rattle.asn1_schema_presented.specs.Tables.{Fields, no_field, field, Table, components_at, IsValue}
 use Rattle.asn1_schema_presented.specs.Parts.{normal_part}
 
 -- The types of the components are lawful, groups stand among the additions alone, and additions behind a mark.
@@ -19,6 +20,23 @@ pub record AreTypes (t : Table) : Type 0 where
 -- A default is a value of its type, in its normal form, for each number of levels.
 abbrev pub HasDefault : Presence → (ℕ → Schema) → Type 0
 HasDefault o schema = (n : ℕ) → (has_typed_default (schema n) o && has_normal_default (schema n) o) ≡ true
+
+-- A value may stand as a default: it is one of the type, also by the constraints, and nothing at its own default is spelled out in it
+-- (X.680 25).
+pub record IsDefault (schema : ℕ → Schema) (d : Value) : Type 0 where
+  pub is_value : IsValue schema d
+  pub typed : (n : ℕ) → is_of (schema n) d ≡ true
+  pub spelled : (n : ℕ) → is_normal (schema n) d ≡ true
+
+-- Each default of these components may stand there, and what is said behind them holds.
+abbrev pub DefaultsThen : Fields → Type 0 → Type 0
+DefaultsThen no_field rest = rest
+DefaultsThen (field t (by_default d) s fs) rest = IsDefault s d × DefaultsThen fs rest
+DefaultsThen (field t o s fs) rest = DefaultsThen fs rest
+
+-- Each default of a table may stand there: one fact for each component with a default, in their order.
+abbrev pub AreDefaults : Table → Type 0
+AreDefaults t = DefaultsThen t.root (DefaultsThen t.additions (Unit {0}))
 
 -- How many levels nest in a component.
 abbrev pub part_depth : Part → ℕ

@@ -1,8 +1,10 @@
 -- The laws of the plain codec.
-use Rattle.std.proofs.Common.{◌≡◌, ℕ, ◌+◌, Bool, true, false, List, [], ◌∷◌, ◌++◌, refl, sym, ◌∙◌, subst, ap, arith}
+use Rattle.std.proofs.Common.{◌≡◌, ℕ, Bool, true, false, List, ◌∷◌, refl, sym, ◌∙◌, subst, ap, arith}
+use Rattle.asn1_model.specs.Schema.{Size, Counts}
+use Rattle.asn1_model.specs.Numbers.{is_count_within}
 use Rattle.asn1_schema_faults.specs.declared.CodecKind.{CodecKind}
-use Rattle.asn1_schema_presented.specs.Records.{Record, Question, question, told, flag, nil, whole, one_of, bits, octets, characters, identifier, list_begins, bag_begins, further, sequence_begins, set_begins, group_begins, mark, is_default, is_empty, additions_begin, addition, addition_ends, choice_begins, ends, mismatch, asks_list, asks_bag, asks_sequence, asks_set, asks_group, asks_choice, asks_end, asks_whole, asks_bits, asks_octets, asks_characters}
-use Rattle.asn1_schema_records.specs.Kept.{Written, Puts, Left, Takes, Levels, kept}
+use Rattle.asn1_schema_presented.specs.Records.{Record, Question, question, told, whole, bits, octets, characters, list_begins, bag_begins, asks_list, asks_bag, asks_sequence, asks_set, asks_group, asks_choice, asks_end, asks_whole, asks_bits, asks_octets, asks_characters}
+use Rattle.asn1_schema_records.specs.Kept.{Written, Puts, Left, Takes, Levels, IsKept}
 
 pub puts_one : (a : Written) (r : Record) (b c : Written) → Puts a r b → Puts a r c → b ≡ c
 puts_one a r b c p q = p.1 ∙ sym q.1
@@ -23,17 +25,17 @@ rebuilt (asks_list z h) k = list_begins z h 0
 rebuilt (asks_bag z h) k = bag_begins z h 0
 rebuilt q k = k
 
-told_is : (r : Record) → told r ≡ rebuilt (question r) (kept r)
+told_is : (k r : Record) → IsKept k r → told r ≡ rebuilt (question r) k
 unfolding rebuilt
-told_is (whole b h v) = refl
-told_is (bits z h bs) = refl
-told_is (octets z h os) = refl
-told_is (characters k z a h cs) = refl
-told_is (list_begins z h n) = refl
-told_is (bag_begins z h n) = refl
-told_is r = refl
+told_is k (whole b h v) e = ap (λ (t : Record). rebuilt (asks_whole b h) t) (sym e.0)
+told_is k (bits z h bs) e = ap (λ (t : Record). rebuilt (asks_bits z h) t) (sym e.0)
+told_is k (octets z h os) e = ap (λ (t : Record). rebuilt (asks_octets z h) t) (sym e.0)
+told_is k (characters t z a h cs) e = ap (λ (u : Record). rebuilt (asks_characters t z a h) u) (sym e.0)
+told_is k (list_begins z h n) e = refl
+told_is k (bag_begins z h n) e = refl
+told_is k r e = sym e
 
-levels_one : (q : Question) (m a b : ℕ) → Levels q m a → Levels q m b → a ≡ b
+levels_one : (q : Question) (m a b : Left) → Levels q m a → Levels q m b → a.levels ≡ b.levels
 levels_one (asks_list z h) m a b p q = omega arith
 levels_one (asks_bag z h) m a b p q = omega arith
 levels_one (asks_sequence e n) m a b p q = omega arith
@@ -43,25 +45,29 @@ levels_one (asks_choice r e x) m a b p q = omega arith
 levels_one asks_end m a b p q = p.0 ∙ sym q.0
 levels_one x m a b p q = p ∙ sym q
 
-left_is : {b c : Left} → b.records ≡ c.records → b.levels ≡ c.levels → b.failed ≡ c.failed → b.rules ≡ c.rules → b ≡ c
-left_is {b} {c} w x y z =
-    ap (λ (t : List Record). let l : Left = record { records = t; levels = b.levels; failed = b.failed; rules = b.rules } in l) w
-    ∙ ap (λ (t : ℕ). let l : Left = record { records = c.records; levels = t; failed = b.failed; rules = b.rules } in l) x
-    ∙ ap (λ (t : Bool). let l : Left = record { records = c.records; levels = c.levels; failed = t; rules = b.rules } in l) y
-    ∙ ap (λ (t : CodecKind). let l : Left = record { records = c.records; levels = c.levels; failed = c.failed; rules = t } in l) z
+left_is : {b c : Left} → b.records ≡ c.records → b.levels ≡ c.levels → b.most ≡ c.most → b.failed ≡ c.failed → b.rules ≡ c.rules → b ≡ c
+left_is {b} {c} v w x y z =
+    ap (λ (t : List Record). let l : Left = record { records = t; levels = b.levels; most = b.most; failed = b.failed; rules = b.rules } in l) v
+    ∙ (ap (λ (t : ℕ). let l : Left = record { records = c.records; levels = t; most = b.most; failed = b.failed; rules = b.rules } in l) w
+    ∙ (ap (λ (t : ℕ). let l : Left = record { records = c.records; levels = c.levels; most = t; failed = b.failed; rules = b.rules } in l) x
+    ∙ (ap (λ (t : Bool). let l : Left = record { records = c.records; levels = c.levels; most = c.most; failed = t; rules = b.rules } in l) y
+    ∙ ap (λ (t : CodecKind). let l : Left = record { records = c.records; levels = c.levels; most = c.most; failed = c.failed; rules = t } in l) z)))
 
 pub takes_one : (a : Left) (r s : Record) (b c : Left) → question r ≡ question s → Takes a r b → Takes a s c → (told r ≡ told s) × (b ≡ c)
 takes_one a r s b c k p q =
-    let e : kept r ∷ b.records ≡ kept s ∷ c.records = sym p.1 ∙ q.1 in
-    let x : kept r ≡ kept s = cc e in
+    let e : p.front ∷ b.records ≡ q.front ∷ c.records = sym p.taken ∙ q.taken in
+    let x : p.front ≡ q.front = cc e in
     let y : b.records ≡ c.records = cc e in
-    let z : b.levels ≡ c.levels = levels_one (question r) a.levels b.levels c.levels p.2 (subst (λ (t : Question). Levels t a.levels c.levels) (sym k) q.2) in
-    let f : b.failed ≡ c.failed = p.4 ∙ sym q.4 in
-    let g : b.rules ≡ c.rules = p.5 ∙ sym q.5 in
-    (told_is r ∙ ap (λ (t : Question). rebuilt t (kept r)) k ∙ ap (λ (t : Record). rebuilt (question s) t) x ∙ sym (told_is s), left_is y z f g)
+    let z : b.levels ≡ c.levels = levels_one (question r) a b c p.levels (subst (λ (t : Question). Levels t a c) (sym k) q.levels) in (
+      told_is p.front r p.is_kept ∙ (ap (λ (t : Question). rebuilt t p.front) k ∙ (ap (λ (t : Record). rebuilt (question s) t) x ∙ sym (told_is q.front s q.is_kept))),
+      left_is y z (p.most ∙ sym q.most) (p.ready_still ∙ sym q.ready_still) (p.rules ∙ sym q.rules),
+    )
+
+pub takes_held : (a : Left) (z : Size) (h : Counts) (n : ℕ) (b : Left) → Takes a (list_begins z h n) b → is_count_within h n ≡ true
+takes_held a z h n b p = let k = p.is_kept in k.3
 
 pub takes_same : (a : Left) (r : Record) (b : Left) → Takes a r b → b.rules ≡ a.rules
-takes_same a r b p = p.5
+takes_same a r b p = p.rules
 
 pub takes_none : (a : Left) (r : Record) (b : Left) → a.failed ≡ true → Takes a r b → ⊥
-takes_none a r b h p = let e : true ≡ false = sym h ∙ p.0 in cc
+takes_none a r b h p = let e : true ≡ false = sym h ∙ p.ready in cc

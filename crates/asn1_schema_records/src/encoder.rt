@@ -1,8 +1,8 @@
 //! The encoder that keeps records.
-ghost use Rattle.std.specs.Prelude.{◌≡◌, ◌++◌, [], ◌∷◌, true, false, map, OnOk, OnErr, IfErr, IfOk};
+ghost use Rattle.std.specs.Prelude.{◌≡◌, ◌≤◌, ◌^◌, ◌++◌, [], ◌∷◌, true, false, map, OnOk, OnErr, IfErr, IfOk};
 ghost use Rattle.asn1_schema_presented.specs.Records.{Record};
-ghost use Rattle.asn1_schema_records.specs.Kept.{record_of, kept, Puts, Refusal};
-ghost use Rattle.asn1_schema_encode.specs.Writes.{Refused};
+ghost use Rattle.asn1_schema_records.specs.Kept.{record_of, Puts, Refusal};
+ghost use Rattle.asn1_values_natives.specs.Octets.{plain};
 
 use crate::items::{Item, Limits, Sizes};
 use asn1_schema_bounds::Bounded;
@@ -63,6 +63,7 @@ impl RecordEncoder {
         ensures never { OnOk result ⊥ }
         ensures only { IfErr result (Refusal self.old.failed) }
         ensures failed { OnErr result (self.new.failed ≡ true) }
+        ensures unchanged { OnErr result ((self.new.records ≡ self.old.records) × (self.new.rules ≡ self.old.rules)) }
         ensures already { self.old.failed ≡ true → result ≡ Err EncodeError.AlreadyFailed }
     {
         if self.failed {
@@ -77,6 +78,7 @@ impl RecordEncoder {
         ensures ok { OnOk result ((self.old.failed ≡ false) × (self.new ≡ record { records = self.old.records ++ record_of item ∷ []; failed = false; rules = self.old.rules })) }
         ensures only { IfErr result (Refusal self.old.failed) }
         ensures failed { OnErr result (self.new.failed ≡ true) }
+        ensures unchanged { OnErr result ((self.new.records ≡ self.old.records) × (self.new.rules ≡ self.old.rules)) }
         ensures already { self.old.failed ≡ true → result ≡ Err EncodeError.AlreadyFailed }
     {
         if self.failed {
@@ -163,8 +165,8 @@ impl Encoder for RecordEncoder {
         value: &str,
         _identifier: Identifier,
     ) -> Result<(), EncodeError> {
-        match widened(self.alloc, value.as_bytes()) {
-            Ok(octets) => self.put(Item::Characters(Sizes::among(constraints), octets)),
+        match String::from_str(self.alloc, value) {
+            Ok(text) => self.put(Item::Text(Sizes::among(constraints), text)),
             Err(_) => self.fail(),
         }
     }
@@ -199,9 +201,9 @@ impl Encoder for RecordEncoder {
         _tag: Tag,
         constraints: Constraints,
         _held: Bounded<usize>,
-        _count: usize,
+        count: usize,
     ) -> Result<(), EncodeError> {
-        self.put(Item::ListBegins(Sizes::among(constraints)))
+        self.put(Item::ListBegins(Sizes::among(constraints), count))
     }
 
     fn put_further(&mut self, more: bool) -> Result<(), EncodeError> {
@@ -234,21 +236,11 @@ impl Encoder for RecordEncoder {
 
 // The number that a value is.
 fn number_of<I: IntegerType>(alloc: Global, value: &I) -> Result<Integer, IntegerError>
-    ensures { IfOk result (λ n. n ≡ I.value value.now) }
+    ensures value { IfOk result (λ n. n ≡ I.value value.now) }
+    ensures memory { IfErr result (λ e. (e ≡ IntegerError.Memory) × (2 ^ 128 ≤ plain (I.value value.now))) }
 {
     let octets = value.to_signed_bytes_be();
     Integer::from_signed_octets(alloc, octets.as_slice())
-}
-
-// The octets of a text, each as a number.
-fn widened(alloc: Global, octets: &[u8]) -> Result<Vec<u32>, AllocError>
-    ensures { IfOk result (λ v. v.items ≡ octets.now) }
-{
-    let mut numbers = Vec::with_capacity(alloc, octets.len())?;
-    for octet in octets {
-        numbers.push(u32::from(*octet))?;
-    }
-    Ok(numbers)
 }
 
 // The characters of a string.

@@ -1,7 +1,9 @@
 //! What is kept of each record.
-ghost use Rattle.std.specs.Prelude.{◌≡◌};
+ghost use Rattle.std.specs.Prelude.{◌≡◌, ◌↔◌, ℕ, ℤ, Bool, List, IsTrue, MatchOption, string_bytes};
+ghost use Rattle.asn1_model.specs.Schema.{Bounds, Size, utf8, visible};
 ghost use Rattle.asn1_schema_constraints.specs.Terms.{bounds_of, sizes_of};
-ghost use Rattle.asn1_schema_records.specs.Kept.{bounds_in, sizes_in};
+ghost use Rattle.asn1_schema_presented.specs.Records.{flag, nil, whole, bits, octets, characters, identifier, list_begins, further, sequence_begins, mark, is_default, ends};
+ghost use Rattle.asn1_schema_records.specs.Kept.{bounds_in, sizes_in, any_number, any_count, any_alphabet, record_of};
 
 use asn1_schema_constraints::Constraints;
 use asn1_values_bit_strings::BitString;
@@ -37,6 +39,13 @@ impl Limits {
             },
         }
     }
+
+    /// Whether these constraints have just this value constraint.
+    pub fn are_among(&self, constraints: Constraints) -> bool
+        ensures { IsTrue result ↔ (bounds_in self.now ≡ bounds_of constraints.entry.value) }
+    {
+        *self == Limits::among(constraints)
+    }
 }
 
 /// A size constraint (X.680 51.5), and whether a mark of extensibility follows it.
@@ -68,6 +77,13 @@ impl Sizes {
             },
         }
     }
+
+    /// Whether these constraints have just this size constraint.
+    pub fn are_among(&self, constraints: Constraints) -> bool
+        ensures { IsTrue result ↔ (sizes_in self.now ≡ sizes_of constraints.entry.size) }
+    {
+        *self == Sizes::among(constraints)
+    }
 }
 
 /// A record, without what the program's type holds, and of a character string without its kind and its alphabet.
@@ -83,12 +99,14 @@ pub enum Item {
     Bits(Sizes, BitString),
     /// OCTET STRING: its size, and the octets.
     Octets(Sizes, Vec<u8>),
-    /// A character string: its size, and the characters, or the octets of UTF-8.
+    /// UTF8String: its size, and the text.
+    Text(Sizes, String),
+    /// A character string of another kind: its size, and the characters.
     Characters(Sizes, Vec<u32>),
     /// OBJECT IDENTIFIER.
     Identifier(ObjectIdentifier),
-    /// SEQUENCE OF begins: its size.
-    ListBegins(Sizes),
+    /// SEQUENCE OF begins: its size, and how many members it has.
+    ListBegins(Sizes, usize),
     /// Whether a further member comes.
     Further(bool),
     /// SEQUENCE begins: whether it has a mark, and how many root components may be absent.
@@ -99,4 +117,137 @@ pub enum Item {
     IsDefault,
     /// The end of a list or sequence.
     Ends,
+}
+
+impl Item {
+    /// The truth value of a BOOLEAN; `None` of any other item.
+    pub fn into_flag(self) -> Option<bool>
+        ensures { MatchOption result ((b : Bool) → record_of self ≡ flag b → ⊥) (λ b. record_of self ≡ flag b) }
+    {
+        match self {
+            Item::Flag(value) => Some(value),
+            _ => None,
+        }
+    }
+
+    /// Whether it is NULL.
+    pub fn is_null(&self) -> bool
+        ensures { IsTrue result ↔ (record_of self.now ≡ nil) }
+    {
+        matches!(self, Item::Null)
+    }
+
+    /// The bounds and the number of an INTEGER; `None` of any other item.
+    pub fn into_integer(self) -> Option<(Limits, Integer)>
+        ensures { MatchOption result ((b : Bounds) (v : ℤ) → record_of self ≡ whole b any_number v → ⊥) (λ p. record_of self ≡ whole (bounds_in p.0) any_number p.1) }
+    {
+        match self {
+            Item::Integer(limits, number) => Some((limits, number)),
+            _ => None,
+        }
+    }
+
+    /// The size and the bits of a BIT STRING; `None` of any other item.
+    pub fn into_bits(self) -> Option<(Sizes, BitString)>
+        ensures { MatchOption result ((z : Size) (bs : List Bool) → record_of self ≡ bits z any_count bs → ⊥) (λ p. record_of self ≡ bits (sizes_in p.0) any_count p.1) }
+    {
+        match self {
+            Item::Bits(sizes, bits) => Some((sizes, bits)),
+            _ => None,
+        }
+    }
+
+    /// The size and the octets of an OCTET STRING; `None` of any other item.
+    pub fn into_octets(self) -> Option<(Sizes, Vec<u8>)>
+        ensures { MatchOption result ((z : Size) (os : List ℕ) → record_of self ≡ octets z any_count os → ⊥) (λ p. record_of self ≡ octets (sizes_in p.0) any_count p.1.items) }
+    {
+        match self {
+            Item::Octets(sizes, octets) => Some((sizes, octets)),
+            _ => None,
+        }
+    }
+
+    /// The size and the text of a UTF8String; `None` of any other item.
+    pub fn into_text(self) -> Option<(Sizes, String)>
+        ensures { MatchOption result ((z : Size) (os : List ℕ) → record_of self ≡ characters utf8 z any_alphabet any_count os → ⊥) (λ p. record_of self ≡ characters utf8 (sizes_in p.0) any_alphabet any_count (string_bytes p.1)) }
+    {
+        match self {
+            Item::Text(sizes, text) => Some((sizes, text)),
+            _ => None,
+        }
+    }
+
+    /// The size and the characters of a character string of another kind; `None` of any other item.
+    pub fn into_characters(self) -> Option<(Sizes, Vec<u32>)>
+        ensures { MatchOption result ((z : Size) (cs : List ℕ) → record_of self ≡ characters visible z any_alphabet any_count cs → ⊥) (λ p. record_of self ≡ characters visible (sizes_in p.0) any_alphabet any_count p.1.items) }
+    {
+        match self {
+            Item::Characters(sizes, characters) => Some((sizes, characters)),
+            _ => None,
+        }
+    }
+
+    /// An OBJECT IDENTIFIER; `None` of any other item.
+    pub fn into_identifier(self) -> Option<ObjectIdentifier>
+        ensures { MatchOption result ((ns : List ℕ) → record_of self ≡ identifier ns → ⊥) (λ i. record_of self ≡ identifier i) }
+    {
+        match self {
+            Item::Identifier(identifier) => Some(identifier),
+            _ => None,
+        }
+    }
+
+    /// The size of a SEQUENCE OF that begins, and how many members it has; `None` of any other item.
+    pub fn into_list(self) -> Option<(Sizes, usize)>
+        ensures { MatchOption result ((z : Size) (n : ℕ) → record_of self ≡ list_begins z any_count n → ⊥) (λ p. record_of self ≡ list_begins (sizes_in p.0) any_count p.1) }
+    {
+        match self {
+            Item::ListBegins(sizes, count) => Some((sizes, count)),
+            _ => None,
+        }
+    }
+
+    /// Whether a further member comes; `None` of any other item.
+    pub fn into_further(self) -> Option<bool>
+        ensures { MatchOption result ((b : Bool) → record_of self ≡ further b → ⊥) (λ b. record_of self ≡ further b) }
+    {
+        match self {
+            Item::Further(more) => Some(more),
+            _ => None,
+        }
+    }
+
+    /// Whether it is the beginning of a SEQUENCE with or without a mark, of whose root components so many may be absent.
+    pub fn is_sequence(&self, extensible: bool, optional: usize) -> bool
+        ensures { IsTrue result ↔ (record_of self.now ≡ sequence_begins extensible optional) }
+    {
+        match self {
+            Item::SequenceBegins(mark, count) => *mark == extensible && *count == optional,
+            _ => false,
+        }
+    }
+
+    /// Whether a component is there; `None` of any other item.
+    pub fn into_mark(self) -> Option<bool>
+        ensures { MatchOption result ((b : Bool) → record_of self ≡ mark b → ⊥) (λ b. record_of self ≡ mark b) }
+    {
+        match self {
+            Item::Mark(present) => Some(present),
+            _ => None,
+        }
+    }
+
+    /// Whether it tells that the component before is equal to its default.
+    pub fn is_default(&self) -> bool
+        ensures { IsTrue result ↔ (record_of self.now ≡ is_default) }
+    {
+        matches!(self, Item::IsDefault)
+    }
+
+    /// Whether it is the end of a list or sequence.
+    pub fn is_end(&self) -> bool
+        ensures { IsTrue result ↔ (record_of self.now ≡ ends) }
+    {
+        matches!(self, Item::Ends)
+    }
 }

@@ -56,10 +56,10 @@ fn is_bits(item: &Option<Item>, count: usize, octets: &[u8]) -> bool {
     }
 }
 
-// Whether it is these characters.
-fn is_characters(item: &Option<Item>, characters: &[u32]) -> bool {
+// Whether it is this text.
+fn is_text(item: &Option<Item>, text: &str) -> bool {
     match item {
-        Some(Item::Characters(_, found)) => found.as_slice() == characters,
+        Some(Item::Text(_, found)) => found.as_str() == text,
         _ => false,
     }
 }
@@ -95,7 +95,7 @@ fn octets_bits_and_texts(rt: HostRuntime) -> Result<(), EncodeError> {
     let bits = BitString::from_slice(alloc, [0xA5].as_slice())?;
     assert!(rt; is_bits(&record_of(alloc, &bits), 8, [0xA5].as_slice()));
     let text = String::from_str(alloc, "é")?;
-    assert!(rt; is_characters(&record_of(alloc, &text), [0xC3, 0xA9].as_slice()));
+    assert!(rt; is_text(&record_of(alloc, &text), "é"));
     Ok(())
 }
 

@@ -1,0 +1,2 @@
+pub mod Constrained
+pub mod Counts

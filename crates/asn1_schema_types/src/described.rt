@@ -1,6 +1,6 @@
 //! Types of the program, and what they are in ASN.1.
 ghost use Rattle.std.specs.Prelude.{◌≡◌, ℕ, List};
-ghost use Rattle.asn1_model.specs.Value.{Value, same};
+ghost use Rattle.asn1_model.specs.Value.{Value};
 ghost use Rattle.asn1_model.specs.Schema.{Schema, Tag as ModelTag};
 ghost use Rattle.asn1_schema_constraints.specs.declared.lists.Constraints.{Constraints};
 ghost use Rattle.asn1_schema_presented.specs.Tables.{IsType, IsValue};
@@ -47,11 +47,4 @@ pub trait AsnType: Described {
     /// The constraints that it has of its own.
     fn constraints() -> Constraints<'static>
         ensures { result ≡ Self.own };
-}
-
-/// Equality of a type of the program is that of what its values mean.
-pub trait EqualByMeaning: Described + PartialEq {
-    fn compared(&self) {}
-
-    ghost agrees: { (x y : Self) → Self.PartialEq.eq x y ≡ same (Self.Described.meaning x) (Self.Described.meaning y) };
 }

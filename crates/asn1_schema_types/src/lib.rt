@@ -1,13 +1,29 @@
 //! Types of the program: what each is in ASN.1, and what its values mean.
 #![tactic(auto)]
 
+pub mod bmp;
+pub mod characters;
 pub mod components;
+pub mod constrained;
+pub mod defaults;
 pub mod described;
+pub mod equality;
+pub mod fixed;
 pub mod integers;
+pub mod lent;
+pub mod lists;
+pub mod markers;
 pub mod natives;
 pub mod pointers;
 pub mod scalars;
 pub mod strings;
+pub mod wide;
 
-pub use components::{ComponentsOf, End, Optional, OptionalComponent, Required, RequiredComponent};
-pub use described::{AsnType, Described, EqualByMeaning};
+pub use characters::TaggedKind;
+pub use components::{
+    ComponentsOf, Defaulted, DefaultedComponent, End, Optional, OptionalComponent, Required,
+    RequiredComponent,
+};
+pub use defaults::DefaultOf;
+pub use described::{AsnType, Described};
+pub use equality::EqualByMeaning;

@@ -1,5 +1,5 @@
 use Rattle.asn1_schema_presented.proofs.Joined.{raised}
-use Rattle.asn1_schema_decode.proofs.Reading.{reads_left_out, reads_there, unread_marked, unread_mark}
+use Rattle.asn1_schema_decode.proofs.Reading.{reads_left_out, reads_there, unread_marked}
 use Rattle.std.proofs.Common.{refl}
 use Rattle.asn1_model.specs.Schema.{optional}
 use Rattle.asn1_schema_decode.proofs.components.DecodeSequence.decode_optional.Goals as goal

@@ -1,0 +1,189 @@
+-- How lists are read.
+use Rattle.std.specs.Prelude.{not}
+use Rattle.std.proofs.lemmas.Bool.{and_parts, le-leb, leb-true}
+use Rattle.std.proofs.Common.{◌≡◌, ℕ, ◌+◌, ◌<◌, ◌≤◌, leb, Option, Some, None, zero, suc, Bool, true, false, List, [], ◌∷◌, ◌++◌, refl, subst, sym, ◌∙◌, ap, arith, length}
+use Rattle.asn1_model.specs.Value.{Value, Values, no_more, member, members, map_members}
+use Rattle.asn1_model.specs.Schema.{Schema, Size, Counts, sequence_of}
+use Rattle.asn1_model.specs.Normal.{normal}
+use Rattle.asn1_model.specs.Numbers.{is_count_to, is_count_within}
+use Rattle.asn1_schema_faults.specs.declared.DecodeError.{DecodeError}
+use Rattle.asn1_schema_presented.specs.Records.{Record, list_begins, further, ends, asks_list, asks_further, asks_end}
+use Rattle.asn1_schema_presented.specs.Presents.{presents, member_records, member_count, Fits, AllFit}
+use Rattle.asn1_schema_presented.specs.Parts.{values_of}
+use Rattle.asn1_schema_presented.specs.Tables.{scope, list_type}
+use Rattle.asn1_schema_presented.specs.Chains.{Chain, OneRecord}
+use Rattle.asn1_schema_presented.proofs.Chains.{chain_append, chain_split}
+use Rattle.asn1_schema_presented.proofs.OneValue.{one_value}
+use Rattle.asn1_schema_decode.specs.Reads.{NoRecord, NoLevel, Reads, Unread, ReadsMembers, UnreadMembers}
+
+-- members, and those behind them
+abbrev pub joined : Values → Values → Values
+joined no_more us = us
+joined (member v vs) us = member v (joined vs us)
+
+joined_more : {A : Type 0} (f : A → Value) (xs : List A) (x : A) (us : Values) → joined (values_of f (xs ++ x ∷ [])) us ≡ joined (values_of f xs) (member (f x) us)
+joined_more f [] x us = refl
+joined_more f (y ∷ xs) x us = ap (member (f y)) (joined_more f xs x us)
+
+joined_all : (vs : Values) → joined vs no_more ≡ vs
+joined_all no_more = refl
+joined_all (member v vs) = ap (member v) (joined_all vs)
+
+count_values : {A : Type 0} (f : A → Value) (xs : List A) → member_count (values_of f xs) ≡ length xs
+count_values f [] = refl
+count_values f (x ∷ xs) = ap suc (count_values f xs)
+
+count_mapped : (g : Value → Value) (vs : Values) → member_count (map_members g vs) ≡ member_count vs
+count_mapped g no_more = refl
+count_mapped g (member v vs) = ap suc (count_mapped g vs)
+
+one_longer : {A : Type 0} (xs : List A) (x : A) → length (xs ++ x ∷ []) ≡ suc (length xs)
+one_longer [] x = refl
+one_longer (y ∷ xs) x = ap suc (one_longer xs x)
+
+-- what is not above bounds is so with all that is below it
+within_below : (h : Option ℕ) (k n : ℕ) → n ≤ k → is_count_to h k ≡ true → is_count_to h n ≡ true
+within_below None k n l e = refl
+within_below (Some high) k n l e = le-leb n high (let j = leb-true k high e in omega arith)
+
+-- a loop over the members: what is read of them so far, and what is behind
+pub record ReadsFrom {S A : Type 0} (step : S → Record → S → Type 0) (s : ℕ → Schema) (n : ℕ) (f : A → Value) (xs : List A) (start now : S) : Type 0 where
+  pub done : (us : Values) (c : S) → ReadsMembers step s n us now c → ReadsMembers step s n (joined (values_of f xs) us) start c
+  pub rest : (vs : Values) (c : S) → AllFit (λ v. Fits (s n) v) vs → Chain step (member_records (λ v. presents (s n) v) vs) start c → (ws : Values) × (member_count vs ≡ length xs + member_count ws) × AllFit (λ v. Fits (s n) v) ws × Chain step (member_records (λ v. presents (s n) v) ws) now c
+
+module _ {S : Type 0} (step : S → Record → S → Type 0) (s : ℕ → Schema) (n : ℕ) where
+  reads_no_more : {a : S} (b : S) {c : S} → step a (further false) b → step b ends c → ReadsMembers step s n no_more a c
+  reads_no_more b {c} h k = record { raw = no_more; fits = tt; means = refl; chain = (b, h, (c, k, refl)) }
+
+  reads_member : {v : Value} {us : Values} {a b c d : S} → step a (further true) b → Reads step s n v b c → ReadsMembers step s n us c d → ReadsMembers step s n (member v us) a d
+  reads_member {v} {us} {b = b} {c} {d} m h k = record {
+    raw = member h.raw k.raw;
+    fits = (h.fits, k.fits);
+    means = ap (λ z. member z (map_members (λ v. normal (s n) v) k.raw)) h.means ∙ ap (member v) k.means;
+    chain = (b, m, chain_append step (presents (s n) h.raw) (member_records (λ v. presents (s n) v) k.raw) b c d h.chain k.chain);
+  }
+
+  -- what is first asked of members
+  first_further : (ws : Values) (a c : S) → Chain step (member_records (λ v. presents (s n) v) ws) a c → (y : Bool) × (m : S) × step a (further y) m
+  first_further no_more a c p = (false, p.0, p.1)
+  first_further (member w ws) a c p = (true, p.0, p.1)
+
+  module _ (one : OneRecord step) where
+    -- no member comes where there is no further one
+    none_further : (ws : Values) {a b : S} (c : S) → step a (further false) b → Chain step (member_records (λ v. presents (s n) v) ws) a c → (ws ≡ no_more) × step b ends c
+    none_further no_more {a} {b} c m p = (refl, subst (λ (z : S). step z ends c) (one a (further false) (further false) p.0 b refl p.1 m).1 (subst (λ (z : S). step p.0 ends z) (sym p.2.2) p.2.1))
+    none_further (member w ws) {a} {b} c m p = let e : further true ≡ further false = (one a (further true) (further false) p.0 b refl p.1 m).0 in cc
+
+    -- a member comes where there is a further one
+    one_further : (ws : Values) {a b : S} (c : S) → step a (further true) b → AllFit (λ v. Fits (s n) v) ws → Chain step (member_records (λ v. presents (s n) v) ws) a c → (w : Value) × (us : Values) × (member_count ws ≡ suc (member_count us)) × Fits (s n) w × AllFit (λ v. Fits (s n) v) us × Chain step (presents (s n) w ++ member_records (λ v. presents (s n) v) us) b c
+    one_further no_more {a} {b} c m g p = let e : further false ≡ further true = (one a (further false) (further true) p.0 b refl p.1 m).0 in cc
+    one_further (member w ws) {a} {b} c m g p = (w, ws, refl, g.0, g.1, subst (λ (z : S). Chain step (presents (s n) w ++ member_records (λ v. presents (s n) v) ws) z c) (one a (further true) (further true) p.0 b refl p.1 m).1 p.2)
+
+    -- what is behind a member that is read
+    behind_member : (ws : Values) {v : Value} {a b d : S} (c : S) → step a (further true) b → Reads step s n v b d → AllFit (λ v. Fits (s n) v) ws → Chain step (member_records (λ v. presents (s n) v) ws) a c → (us : Values) × (member_count ws ≡ suc (member_count us)) × AllFit (λ v. Fits (s n) v) us × Chain step (member_records (λ v. presents (s n) v) us) d c
+    behind_member ws {v} {a} {b} {d} c m r g p =
+        let q = one_further ws c m g p in
+        let t = chain_split step (presents (s n) q.0) (member_records (λ v. presents (s n) v) q.1) b c q.5 in
+        let e = one_value one (s n) q.0 r.raw b t.0 d q.3 r.fits t.1 r.chain in
+        (q.1, q.2, q.4, subst (λ (z : S). Chain step (member_records (λ v. presents (s n) v) q.1) z c) e.1 t.2)
+
+module _ {S A : Type 0} {step : S → Record → S → Type 0} {s : ℕ → Schema} {n : ℕ} {f : A → Value} where
+  pub from_start : (a : S) → ReadsFrom step s n f [] a a
+  from_start a = record { done = λ us c h. h; rest = λ vs c g p. (vs, omega arith, g, p) }
+
+  pub from_end : {xs : List A} {a b c d : S} → ReadsFrom step s n f xs a b → step b (further false) c → step c ends d → ReadsMembers step s n (values_of f xs) a d
+  from_end {xs} {a} {b} {c} {d} w m h = subst (λ (us : Values). ReadsMembers step s n us a d) (joined_all (values_of f xs)) (w.done no_more d (reads_no_more step s n _ m h))
+
+  pub from_further : (h : Counts) {xs : List A} {a b : S} {x : DecodeError} → ReadsFrom step s n f xs a b → NoRecord step asks_further b x → UnreadMembers step s n h a x
+  from_further h w k = record { none = λ m vs c i g p. let q = w.rest vs c g p in let t = first_further step s n q.0 _ c q.3 in k.none m (further t.0) t.1 refl t.2 }
+
+  module _ (one : OneRecord step) where
+    pub from_next : {xs : List A} {x : A} {a b c d : S} → ReadsFrom step s n f xs a b → step b (further true) c → Reads step s n (f x) c d → ReadsFrom step s n f (xs ++ x ∷ []) a d
+    from_next {xs} {x} {a} {b} {c} {d} w m r = record {
+      done = λ us e k. subst (λ (vs : Values). ReadsMembers step s n vs a e) (sym (joined_more f xs x us)) (w.done (member (f x) us) e (reads_member step s n m r k));
+      rest = λ vs e g p.
+          let q = w.rest vs e g p in
+          let t = behind_member step s n one q.0 e m r q.2 q.3 in
+          let l = one_longer xs x in
+          (t.0, omega (arith, q.1, t.1, l), t.2, t.3);
+    }
+
+    pub from_stuck : (h : Counts) {xs : List A} {a b c : S} {x : DecodeError} → ReadsFrom step s n f xs a b → step b (further true) c → Unread step s n c x → UnreadMembers step s n h a x
+    from_stuck h w m u = record {
+      none = λ y vs e i g p.
+          let q = w.rest vs e g p in
+          let t = one_further step s n one q.0 e m q.2 q.3 in
+          let z = chain_split step (presents (s n) t.0) (member_records (λ v. presents (s n) v) t.1) _ e t.5 in
+          u.none y t.0 z.0 t.3 z.1;
+    }
+
+    pub from_close : (h : Counts) {xs : List A} {a b c : S} {x : DecodeError} → ReadsFrom step s n f xs a b → step b (further false) c → NoRecord step asks_end c x → UnreadMembers step s n h a x
+    from_close h w m u = record {
+      none = λ y vs e i g p.
+          let q = w.rest vs e g p in
+          let t = none_further step s n one q.0 e m q.3 in
+          u.none y ends e refl t.1;
+    }
+
+    -- one member more than h has room for
+    pub from_full : (h : Counts) (x : DecodeError) {xs : List A} {a b c : S} → ReadsFrom step s n f xs a b → step b (further true) c → not (is_count_to h.high (length xs + 1)) ≡ true → UnreadMembers step s n h a x
+    from_full h x {xs} w m u = record {
+      none = λ y vs e i g p.
+          let q = w.rest vs e g p in
+          let t = one_further step s n one q.0 e m q.2 q.3 in
+          let j = and_parts (leb h.low (member_count vs)) (is_count_to h.high (member_count vs)) i in
+          let z : is_count_to h.high (length xs + 1) ≡ true = within_below h.high (member_count vs) (length xs + 1) (omega (arith, q.1, t.2)) j.1 in
+          let z' : not (is_count_to h.high (length xs + 1)) ≡ false = rw z refl in
+          let e : true ≡ false = sym u ∙ z' in
+          cc;
+    }
+
+    -- another number of members than h admits
+    pub from_other : (h : Counts) (x : DecodeError) {xs : List A} {a b c : S} → ReadsFrom step s n f xs a b → step b (further false) c → is_count_within h (length xs) ≡ false → UnreadMembers step s n h a x
+    from_other h x {xs} w m u = record {
+      none = λ y vs e i g p.
+          let q = w.rest vs e g p in
+          let t = none_further step s n one q.0 e m q.3 in
+          let l : member_count q.0 ≡ 0 = ap member_count t.0 in
+          let k : member_count vs ≡ length xs = omega (arith, q.1, l) in
+          let z : is_count_within h (member_count vs) ≡ false = rw k u in
+          cc;
+    }
+
+module _ {S : Type 0} {step : S → Record → S → Type 0} (s : ℕ → Schema) (z : Size) (h : Counts) {a b : S} {m n : ℕ} where
+  -- a list begins with any number of members that h admits
+  pub reads_list : {A : Type 0} (f : A → Value) (xs : List A) {c : S} → m ≡ n + 1 → ((k : ℕ) → is_count_within h k ≡ true → step a (list_begins z h k) b) → is_count_within h (length xs) ≡ true → ReadsMembers step s n (values_of f xs) b c → Reads step (list_type z h s) m (members (values_of f xs)) a c
+  unfolding list_type scope presents Fits normal
+  reads_list f xs {c} l i k r =
+      let e : member_count r.raw ≡ length xs = sym (count_mapped (λ v. normal (s n) v) r.raw) ∙ ap member_count r.means ∙ count_values f xs in
+      let y : Reads step (list_type z h s) (suc n) (members (values_of f xs)) a c = record {
+        raw = members r.raw;
+        fits = r.fits;
+        means = ap members r.means;
+        chain = (b, i (member_count r.raw) (rw e k), r.chain);
+      } in
+      subst (λ (i : ℕ). Reads step (list_type z h s) i (members (values_of f xs)) a c) (let z : suc n ≡ m = omega arith in z) y
+
+  pub unread_list : OneRecord step → ((a : S) (z : Size) (h : Counts) (k : ℕ) (b : S) → step a (list_begins z h k) b → is_count_within h k ≡ true) → {x : DecodeError} → m ≡ n + 1 → ((k : ℕ) → is_count_within h k ≡ true → step a (list_begins z h k) b) → UnreadMembers step s n h b x → Unread step (list_type z h s) m a x
+  unfolding list_type scope presents Fits
+  unread_list one held {x} l i u =
+      let y : Unread step (list_type z h s) (suc n) a x = record {
+        none = λ w v c. elim v as (λ v. Fits (sequence_of z h (s n)) v → Chain step (presents (sequence_of z h (s n)) v) a c → ⊥) [
+          | members vs ↦ λ g p.
+              let k = held a z h (member_count vs) p.0 p.1 in
+              let e = (one a (list_begins z h (member_count vs)) (list_begins z h (member_count vs)) p.0 b refl p.1 (i (member_count vs) k)).1 in
+              u.none w vs c k g (subst (λ (y : S). Chain step (member_records (λ v. presents (s n) v) vs) y c) e p.2)
+          | _ ↦ λ g p. g
+        ];
+      } in
+      subst (λ (i : ℕ). Unread step (list_type z h s) i a x) (let z : suc n ≡ m = omega arith in z) y
+
+pub unread_list_here : {S : Type 0} {step : S → Record → S → Type 0} (s : ℕ → Schema) (z : Size) (h : Counts) (m : ℕ) {a : S} {x : DecodeError} → NoLevel step (asks_list z h) m a x → Unread step (list_type z h s) m a x
+unfolding list_type scope presents Fits
+unread_list_here s z h zero k = record { none = λ w v c g p. g }
+unread_list_here {step = step} s z h (suc n) {a} k = record {
+  none = λ w v c. elim v as (λ v. Fits (sequence_of z h (s n)) v → Chain step (presents (sequence_of z h (s n)) v) a c → ⊥) [
+    | members vs ↦ λ g p. k.none w (let y : 0 < suc n = omega arith in y) _ p.0 refl p.1
+    | _ ↦ λ g p. g
+  ];
+}

@@ -1,0 +1,9 @@
+use Rattle.asn1_schema_presented.proofs.Joined.{raised}
+use Rattle.asn1_schema_decode.proofs.SingleRecords.{reads_character_string, unread_character_string}
+use Rattle.asn1_schema_decode.proofs.lent.CowStrGlobalDecode.decode_with_tag_and_constraints.Goals as goal
+
+pub returns-in_err-value-clause-only : goal.returns-in_err-value-clause-only
+returns-in_err-value-clause-only g c = raised _ _ _ c.from_residual.ensures.1 (unread_character_string _ _ _ _ _ c.in_err-value.ensures.only)
+
+pub returns-clause-ok : goal.returns-clause-ok
+returns-clause-ok g c = reads_character_string _ _ _ _ _ c.in_ok-value.ensures.ok

@@ -1,0 +1,13 @@
+use Rattle.std.proofs.Common.{rules}
+use Rattle.std.proofs.lemmas.Int.{to_z-of_z}
+use mir.Syntax.{w64}
+use mir.Val.{SFits}
+use Rattle.asn1_schema_presented.proofs.Joined.{raised}
+use Rattle.asn1_schema_decode.proofs.SingleRecords.{reads_integer, unread_integer}
+use Rattle.asn1_schema_decode.proofs.signed.I64Decode.decode_with_tag_and_constraints.Goals as goal
+
+pub returns-in_err-value-clause-only : goal.returns-in_err-value-clause-only
+returns-in_err-value-clause-only g c = raised _ _ _ c.from_residual.ensures.1 (unread_integer _ _ _ c.in_err-value.ensures.only)
+
+pub returns-clause-ok : goal.returns-clause-ok
+returns-clause-ok g c = let fits : SFits w64 c.in_ok-value.value = search rules in simp to_z-of_z (reads_integer _ _ _ c.in_ok-value.ensures.ok)

@@ -1,0 +1,20 @@
+//! BMPString (X.680 41), as it is read.
+
+use crate::decode::{Decode, Decoder};
+use asn1_schema_constraints::Constraints;
+use asn1_schema_faults::DecodeError;
+use asn1_schema_tags::Tag;
+use asn1_values_strings_wide::BmpString;
+use std::alloc::Global;
+
+impl Decode for BmpString {
+    fn decode_with_tag_and_constraints<D: Decoder>(
+        alloc: Global,
+        decoder: &mut D,
+        tag: Tag,
+        constraints: Constraints,
+    ) -> Result<Self, DecodeError> {
+        let value = decoder.decode_characters(alloc, tag, constraints)?;
+        Ok(value)
+    }
+}

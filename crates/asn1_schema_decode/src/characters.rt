@@ -1,0 +1,21 @@
+//! The restricted character strings whose characters are octets (X.680 41), as they are read.
+
+use crate::decode::{Decode, Decoder};
+use asn1_schema_constraints::Constraints;
+use asn1_schema_faults::DecodeError;
+use asn1_schema_tags::Tag;
+use asn1_schema_types::TaggedKind;
+use asn1_values_strings::RestrictedString;
+use std::alloc::Global;
+
+impl<K: TaggedKind> Decode for RestrictedString<K> {
+    fn decode_with_tag_and_constraints<D: Decoder>(
+        alloc: Global,
+        decoder: &mut D,
+        tag: Tag,
+        constraints: Constraints,
+    ) -> Result<Self, DecodeError> {
+        let value = decoder.decode_characters(alloc, tag, constraints)?;
+        Ok(value)
+    }
+}

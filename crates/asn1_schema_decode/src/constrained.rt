@@ -1,0 +1,43 @@
+//! INTEGER within a range of the type's own (X.680 19 and 51.4), as it is read.
+ghost use Rattle.std.specs.Prelude.{◌≡◌, true};
+ghost use Rattle.asn1_model.specs.Numbers.{is_within};
+ghost use Rattle.asn1_values_constrained.specs.Constrained.{between, constrained_number};
+
+use crate::decode::{Decode, Decoder};
+use asn1_schema_constraints::Constraints;
+use asn1_schema_faults::DecodeError;
+use asn1_schema_tags::Tag;
+use asn1_schema_types::constrained::{no_number, within_range};
+use asn1_values_constrained::ConstrainedInteger;
+use std::alloc::Global;
+
+impl<const START: i64, const END: i64> Decode for ConstrainedInteger<START, END> {
+    fn decode_with_tag_and_constraints<D: Decoder>(
+        alloc: Global,
+        decoder: &mut D,
+        tag: Tag,
+        constraints: Constraints,
+    ) -> Result<Self, DecodeError> {
+        if START > END {
+            let _octet: u8 = decoder.decode_integer(alloc, tag, no_number())?;
+            unreachable!()
+        }
+        let range = within_range(constraints, START, END);
+        let number: i128 = decoder.decode_integer(alloc, tag, range)?;
+        let value = constrained_integer(number);
+        Ok(value)
+    }
+}
+
+// The number that was read, which is within the range.
+fn constrained_integer<const START: i64, const END: i64>(
+    number: i128,
+) -> ConstrainedInteger<START, END>
+    requires within { is_within (between START END) number ≡ true }
+    ensures { constrained_number result ≡ number }
+{
+    match ConstrainedInteger::try_from(number) {
+        Ok(value) => value,
+        Err(_) => unreachable!(),
+    }
+}

@@ -1,0 +1,55 @@
+//! INTEGER (X.680 19) in the native types with a sign, as they are read.
+
+use crate::decode::{Decode, Decoder};
+use asn1_schema_constraints::Constraints;
+use asn1_schema_faults::DecodeError;
+use asn1_schema_tags::Tag;
+use std::alloc::Global;
+
+impl Decode for i8 {
+    fn decode_with_tag_and_constraints<D: Decoder>(
+        alloc: Global,
+        decoder: &mut D,
+        tag: Tag,
+        constraints: Constraints,
+    ) -> Result<Self, DecodeError> {
+        let value: i8 = decoder.decode_integer(alloc, tag, constraints)?;
+        Ok(value)
+    }
+}
+
+impl Decode for i16 {
+    fn decode_with_tag_and_constraints<D: Decoder>(
+        alloc: Global,
+        decoder: &mut D,
+        tag: Tag,
+        constraints: Constraints,
+    ) -> Result<Self, DecodeError> {
+        let value: i16 = decoder.decode_integer(alloc, tag, constraints)?;
+        Ok(value)
+    }
+}
+
+impl Decode for i32 {
+    fn decode_with_tag_and_constraints<D: Decoder>(
+        alloc: Global,
+        decoder: &mut D,
+        tag: Tag,
+        constraints: Constraints,
+    ) -> Result<Self, DecodeError> {
+        let value: i32 = decoder.decode_integer(alloc, tag, constraints)?;
+        Ok(value)
+    }
+}
+
+impl Decode for i64 {
+    fn decode_with_tag_and_constraints<D: Decoder>(
+        alloc: Global,
+        decoder: &mut D,
+        tag: Tag,
+        constraints: Constraints,
+    ) -> Result<Self, DecodeError> {
+        let value: i64 = decoder.decode_integer(alloc, tag, constraints)?;
+        Ok(value)
+    }
+}

@@ -1,0 +1,18 @@
+//! BMPString (X.680 41), as it is written.
+use crate::encode::{Encode, Encoder};
+use asn1_schema_constraints::Constraints;
+use asn1_schema_faults::EncodeError;
+use asn1_schema_tags::{Identifier, Tag};
+use asn1_values_strings_wide::BmpString;
+
+impl Encode for BmpString {
+    fn encode_with_tag_and_constraints<E: Encoder>(
+        &self,
+        encoder: &mut E,
+        tag: Tag,
+        constraints: Constraints,
+    ) -> Result<(), EncodeError> {
+        encoder.encode_characters(tag, constraints, self, Identifier::BMP_STRING)?;
+        Ok(())
+    }
+}

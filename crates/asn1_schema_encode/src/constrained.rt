@@ -1,0 +1,27 @@
+//! INTEGER within a range of the type's own (X.680 19 and 51.4), as it is written.
+
+use crate::encode::{Encode, Encoder};
+use asn1_schema_constraints::Constraints;
+use asn1_schema_faults::EncodeError;
+use asn1_schema_tags::{Identifier, Tag};
+use asn1_schema_types::constrained::{no_number, within_range};
+use asn1_values_constrained::ConstrainedInteger;
+use asn1_values_numbers::Integer;
+
+impl<const START: i64, const END: i64> Encode for ConstrainedInteger<START, END> {
+    fn encode_with_tag_and_constraints<E: Encoder>(
+        &self,
+        encoder: &mut E,
+        tag: Tag,
+        constraints: Constraints,
+    ) -> Result<(), EncodeError> {
+        if START > END {
+            encoder.encode_integer(tag, no_number(), &0_u8, Identifier::INTEGER)?;
+            return Ok(());
+        }
+        let number: &Integer = self;
+        let range = within_range(constraints, START, END);
+        encoder.encode_integer(tag, range, number, Identifier::INTEGER)?;
+        Ok(())
+    }
+}

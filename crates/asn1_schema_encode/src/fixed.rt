@@ -1,0 +1,44 @@
+//! BIT STRING and OCTET STRING of a fixed size (X.680 22 and 23), as they are written.
+use crate::encode::{Encode, Encoder};
+use asn1_schema_bounds::Bounded;
+use asn1_schema_constraints::Constraints;
+use asn1_schema_faults::EncodeError;
+use asn1_schema_tags::{Identifier, Tag};
+use asn1_values_bit_strings::FixedBitString;
+use asn1_values_octets::FixedOctetString;
+
+impl<const N: usize> Encode for FixedBitString<N> {
+    fn encode_with_tag_and_constraints<E: Encoder>(
+        &self,
+        encoder: &mut E,
+        tag: Tag,
+        constraints: Constraints,
+    ) -> Result<(), EncodeError> {
+        encoder.encode_bit_string(
+            tag,
+            constraints,
+            Bounded::single_value(N),
+            self.as_bitslice(),
+            Identifier::BIT_STRING,
+        )?;
+        Ok(())
+    }
+}
+
+impl<const N: usize> Encode for FixedOctetString<N> {
+    fn encode_with_tag_and_constraints<E: Encoder>(
+        &self,
+        encoder: &mut E,
+        tag: Tag,
+        constraints: Constraints,
+    ) -> Result<(), EncodeError> {
+        encoder.encode_octet_string(
+            tag,
+            constraints,
+            Bounded::single_value(N),
+            self.as_slice(),
+            Identifier::OCTET_STRING,
+        )?;
+        Ok(())
+    }
+}

@@ -1,0 +1,40 @@
+//! SEQUENCE OF (X.680 26) as it is written: vectors, arrays and slices.
+use crate::encode::{Encode, Encoder};
+use crate::lists::EncodeList;
+use asn1_schema_bounds::Bounded;
+use asn1_schema_constraints::Constraints;
+use asn1_schema_faults::EncodeError;
+use asn1_schema_tags::Tag;
+
+impl<T: Encode> Encode for Vec<T> {
+    fn encode_with_tag_and_constraints<E: Encoder>(
+        &self,
+        encoder: &mut E,
+        tag: Tag,
+        constraints: Constraints,
+    ) -> Result<(), EncodeError> {
+        encoder.encode_sequence_of(tag, self.as_slice(), constraints, Bounded::None)
+    }
+}
+
+impl<T: Encode, const N: usize> Encode for [T; N] {
+    fn encode_with_tag_and_constraints<E: Encoder>(
+        &self,
+        encoder: &mut E,
+        tag: Tag,
+        constraints: Constraints,
+    ) -> Result<(), EncodeError> {
+        encoder.encode_sequence_of(tag, self.as_slice(), constraints, Bounded::Single(N))
+    }
+}
+
+impl<T: Encode> Encode for &[T] {
+    fn encode_with_tag_and_constraints<E: Encoder>(
+        &self,
+        encoder: &mut E,
+        tag: Tag,
+        constraints: Constraints,
+    ) -> Result<(), EncodeError> {
+        encoder.encode_sequence_of(tag, *self, constraints, Bounded::None)
+    }
+}

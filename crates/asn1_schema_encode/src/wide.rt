@@ -1,0 +1,53 @@
+//! INTEGER (X.680 19) in the native types of 128 bits and of the width of an address, as they are written.
+use crate::encode::{Encode, Encoder};
+use asn1_schema_constraints::Constraints;
+use asn1_schema_faults::EncodeError;
+use asn1_schema_tags::{Identifier, Tag};
+
+impl Encode for i128 {
+    fn encode_with_tag_and_constraints<E: Encoder>(
+        &self,
+        encoder: &mut E,
+        tag: Tag,
+        constraints: Constraints,
+    ) -> Result<(), EncodeError> {
+        encoder.encode_integer(tag, constraints, self, Identifier::INTEGER)?;
+        Ok(())
+    }
+}
+
+impl Encode for u128 {
+    fn encode_with_tag_and_constraints<E: Encoder>(
+        &self,
+        encoder: &mut E,
+        tag: Tag,
+        constraints: Constraints,
+    ) -> Result<(), EncodeError> {
+        encoder.encode_integer(tag, constraints, self, Identifier::INTEGER)?;
+        Ok(())
+    }
+}
+
+impl Encode for isize {
+    fn encode_with_tag_and_constraints<E: Encoder>(
+        &self,
+        encoder: &mut E,
+        tag: Tag,
+        constraints: Constraints,
+    ) -> Result<(), EncodeError> {
+        encoder.encode_integer(tag, constraints, self, Identifier::INTEGER)?;
+        Ok(())
+    }
+}
+
+impl Encode for usize {
+    fn encode_with_tag_and_constraints<E: Encoder>(
+        &self,
+        encoder: &mut E,
+        tag: Tag,
+        constraints: Constraints,
+    ) -> Result<(), EncodeError> {
+        encoder.encode_integer(tag, constraints, self, Identifier::INTEGER)?;
+        Ok(())
+    }
+}

@@ -1,0 +1,418 @@
+//! The decoder that reads kept records.
+ghost use Rattle.std.specs.Prelude.{◌≡◌, ◌+◌, ◌≤◌, ◌<◌, ◌||◌, ◌↔◌, [], ◌∷◌, true, false, map, IsTrue, MatchBool, OnOk, OnErr, IfErr, IfOk};
+ghost use Rattle.asn1_model.specs.Numbers.{is_within, is_count_within};
+ghost use Rattle.asn1_schema_bounds.specs.Bounds.{counts_of};
+ghost use Rattle.asn1_schema_constraints.specs.Terms.{sizes_of};
+ghost use Rattle.asn1_schema_records.specs.Kept.{record_of, sizes_in, Takes, Leaves, Begins, Fails, IsSpent, IsDeep, IsUntaken, IsUnspelled, is_admitted};
+ghost use Rattle.asn1_values_alphabets.specs.Permitted.{permits_all};
+
+use crate::items::{Item, Sizes};
+use asn1_schema_bounds::Bounded;
+use asn1_schema_constraints::Constraints;
+use asn1_schema_decode::Decoder;
+use asn1_schema_faults::{CodecKind, DecodeError};
+use asn1_schema_tags::Tag;
+use asn1_values_alphabets::StaticPermittedAlphabet;
+use asn1_values_bit_strings::BitString;
+use asn1_values_identifiers::ObjectIdentifier;
+use asn1_values_integer_types::IntegerType;
+use asn1_values_numbers::{Integer, IntegerError};
+use std::alloc::Global;
+use std::marker::Model;
+use std::vec::IntoIter;
+
+/// A decoder that reads kept records, from the first on.
+///
+/// Refused are, besides what the trait says: `Incomplete` where no record is left; `NotValidCanonicalEncoding` a record of another kind
+/// than the one that is asked for, and the end of what has not begun; `ValueConstraintNotSatisfied` a number under other bounds, or
+/// outside bounds without a mark; `IntegerOverflow` a number that the program's type does not hold; `SizeConstraintNotSatisfied` a
+/// length or count under another size, or one that the type does not hold; `PermittedAlphabet` a character that the type does not
+/// hold; `ExceedsMaxParseDepth` one level more than may be nested.
+#[derive(Drop)]
+pub struct RecordDecoder {
+    items: IntoIter<Item, Global>,
+    levels: usize,
+    most: usize,
+    failed: bool,
+    kind: CodecKind,
+}
+
+impl Model for RecordDecoder {
+    ghost use Rattle.std.specs.Prelude.{map};
+    ghost use Rattle.std.specs.Vec.Iter.{into_iter_items};
+    ghost use Rattle.asn1_schema_records.specs.Kept.{Left, record_of};
+
+    ghost Value = { Left };
+
+    ghost view = { λ d. record { records = map record_of (into_iter_items d.items); levels = d.levels; most = d.most; failed = d.failed; rules = d.kind } };
+}
+
+impl RecordDecoder {
+    /// A decoder of these records within 128 nested levels, which answers that it follows these rules.
+    pub fn new(items: Vec<Item>, kind: CodecKind) -> Self
+        ensures { result ≡ record { records = map record_of items.items; levels = 128; most = 128; failed = false; rules = kind } }
+    {
+        RecordDecoder::with_levels(items, kind, 128)
+    }
+
+    /// The same within so many nested levels.
+    pub fn with_levels(items: Vec<Item>, kind: CodecKind, levels: usize) -> Self
+        ensures { result ≡ record { records = map record_of items.items; levels = levels; most = levels; failed = false; rules = kind } }
+    {
+        RecordDecoder {
+            items: items.into_iter(),
+            levels,
+            most: levels,
+            failed: false,
+            kind,
+        }
+    }
+
+    // Fails for this reason, from now on.
+    fn refuse(&mut self, error: DecodeError) -> DecodeError
+        ensures refused { result ≡ error }
+        ensures fails { Fails self.old self.new }
+        ensures failed { self.new.failed ≡ true }
+    {
+        self.failed = true;
+        error
+    }
+
+    // Takes the item in front.
+    fn take_next(&mut self) -> Result<Item, DecodeError>
+        ensures ok { IfOk result (λ item. Leaves self.old (record_of item) self.new) }
+        ensures only { IfErr result (IsSpent self.old) }
+        ensures fails { OnErr result (Fails self.old self.new) }
+        ensures failed { OnErr result (self.new.failed ≡ true) }
+        ensures already { self.old.failed ≡ true → result ≡ Err DecodeError.AlreadyFailed }
+    {
+        if self.failed {
+            return Err(DecodeError::AlreadyFailed);
+        }
+        match self.items.next() {
+            Some(item) => Ok(item),
+            None => Err(self.refuse(DecodeError::Incomplete)),
+        }
+    }
+
+    // Takes the item in front, and a level.
+    fn take_first(&mut self) -> Result<Item, DecodeError>
+        ensures ok { IfOk result (λ item. Begins self.old (record_of item) self.new) }
+        ensures only { IfErr result (IsDeep self.old) }
+        ensures fails { OnErr result (Fails self.old self.new) }
+        ensures failed { OnErr result (self.new.failed ≡ true) }
+        ensures already { self.old.failed ≡ true → result ≡ Err DecodeError.AlreadyFailed }
+    {
+        if self.failed {
+            return Err(DecodeError::AlreadyFailed);
+        }
+        if self.levels == 0 {
+            return Err(self.refuse(DecodeError::ExceedsMaxParseDepth));
+        }
+        match self.items.next() {
+            Some(item) => {
+                self.levels -= 1;
+                Ok(item)
+            }
+            None => Err(self.refuse(DecodeError::Incomplete)),
+        }
+    }
+
+    // Gives a level back, if one is taken.
+    fn give_back(&mut self) -> bool
+        ensures { MatchBool result ((self.old.levels < self.old.most) × (self.new ≡ record { records = self.old.records; levels = self.old.levels + 1; most = self.old.most; failed = self.old.failed; rules = self.old.rules })) ((self.old.most ≤ self.old.levels) × (self.new ≡ self.old)) }
+    {
+        if self.levels < self.most {
+            self.levels += 1;
+            return true;
+        }
+        false
+    }
+}
+
+impl Decoder for RecordDecoder {
+    ghost use Rattle.asn1_schema_records.specs.Laws.{takes_one, takes_held, takes_none, takes_same};
+
+    type Octets = Vec<u8>;
+
+    ghost step = { Takes };
+
+    ghost has_failed = { λ d. d.failed ≡ true };
+
+    ghost levels = { λ d. d.levels };
+
+    ghost rules = { λ d. d.rules };
+
+    fn codec(&self) -> CodecKind {
+        self.kind
+    }
+
+    fn levels_left(&self) -> usize {
+        self.levels
+    }
+
+    fn decode_bool(&mut self, _tag: Tag) -> Result<bool, DecodeError> {
+        let item = self.take_next()?;
+        match item.into_flag() {
+            Some(value) => Ok(value),
+            None => Err(self.refuse(DecodeError::NotValidCanonicalEncoding)),
+        }
+    }
+
+    fn decode_null(&mut self, _tag: Tag) -> Result<(), DecodeError> {
+        let item = self.take_next()?;
+        if item.is_null() {
+            return Ok(());
+        }
+        Err(self.refuse(DecodeError::NotValidCanonicalEncoding))
+    }
+
+    fn decode_integer<I: IntegerType>(
+        &mut self,
+        alloc: Global,
+        _tag: Tag,
+        constraints: Constraints,
+    ) -> Result<I, DecodeError> {
+        let item = self.take_next()?;
+        let Some((limits, number)) = item.into_integer() else {
+            return Err(self.refuse(DecodeError::NotValidCanonicalEncoding));
+        };
+        if !limits.are_among(constraints) {
+            return Err(self.refuse(DecodeError::ValueConstraintNotSatisfied));
+        }
+        match number_within(alloc, &number, constraints) {
+            Ok(value) => Ok(value),
+            Err(error) => Err(self.refuse(error)),
+        }
+    }
+
+    fn decode_bit_string(
+        &mut self,
+        _alloc: Global,
+        _tag: Tag,
+        constraints: Constraints,
+        held: Bounded<usize>,
+    ) -> Result<BitString, DecodeError> {
+        let item = self.take_next()?;
+        let Some((sizes, bits)) = item.into_bits() else {
+            return Err(self.refuse(DecodeError::NotValidCanonicalEncoding));
+        };
+        if are_sizes(sizes, constraints, held, bits.len()) {
+            return Ok(bits);
+        }
+        Err(self.refuse(DecodeError::SizeConstraintNotSatisfied))
+    }
+
+    fn decode_octet_string(
+        &mut self,
+        _alloc: Global,
+        _tag: Tag,
+        constraints: Constraints,
+        held: Bounded<usize>,
+    ) -> Result<Vec<u8>, DecodeError> {
+        let item = self.take_next()?;
+        let Some((sizes, octets)) = item.into_octets() else {
+            return Err(self.refuse(DecodeError::NotValidCanonicalEncoding));
+        };
+        if are_sizes(sizes, constraints, held, octets.len()) {
+            return Ok(octets);
+        }
+        Err(self.refuse(DecodeError::SizeConstraintNotSatisfied))
+    }
+
+    fn decode_utf8_string(
+        &mut self,
+        _alloc: Global,
+        _tag: Tag,
+        constraints: Constraints,
+    ) -> Result<String, DecodeError> {
+        let item = self.take_next()?;
+        let Some((sizes, text)) = item.into_text() else {
+            return Err(self.refuse(DecodeError::NotValidCanonicalEncoding));
+        };
+        if sizes.are_among(constraints) {
+            return Ok(text);
+        }
+        Err(self.refuse(DecodeError::SizeConstraintNotSatisfied))
+    }
+
+    fn decode_characters<S: StaticPermittedAlphabet>(
+        &mut self,
+        alloc: Global,
+        _tag: Tag,
+        constraints: Constraints,
+    ) -> Result<S, DecodeError> {
+        let item = self.take_next()?;
+        let Some((sizes, characters)) = item.into_characters() else {
+            return Err(self.refuse(DecodeError::NotValidCanonicalEncoding));
+        };
+        if !sizes.are_among(constraints) {
+            return Err(self.refuse(DecodeError::SizeConstraintNotSatisfied));
+        }
+        match string_of(alloc, characters.as_slice()) {
+            Ok(string) => Ok(string),
+            Err(error) => Err(self.refuse(error)),
+        }
+    }
+
+    fn decode_object_identifier(
+        &mut self,
+        _alloc: Global,
+        _tag: Tag,
+    ) -> Result<ObjectIdentifier, DecodeError> {
+        let item = self.take_next()?;
+        match item.into_identifier() {
+            Some(identifier) => Ok(identifier),
+            None => Err(self.refuse(DecodeError::NotValidCanonicalEncoding)),
+        }
+    }
+
+    fn begin_list(
+        &mut self,
+        _tag: Tag,
+        constraints: Constraints,
+        held: Bounded<usize>,
+    ) -> Result<(), DecodeError> {
+        let item = self.take_first()?;
+        let Some((sizes, count)) = item.into_list() else {
+            return Err(self.refuse(DecodeError::NotValidCanonicalEncoding));
+        };
+        if are_sizes(sizes, constraints, held, count) {
+            return Ok(());
+        }
+        Err(self.refuse(DecodeError::SizeConstraintNotSatisfied))
+    }
+
+    fn get_further(&mut self) -> Result<bool, DecodeError> {
+        let item = self.take_next()?;
+        match item.into_further() {
+            Some(more) => Ok(more),
+            None => Err(self.refuse(DecodeError::NotValidCanonicalEncoding)),
+        }
+    }
+
+    fn begin_sequence(
+        &mut self,
+        _tag: Tag,
+        extensible: bool,
+        optional: usize,
+    ) -> Result<(), DecodeError> {
+        let item = self.take_first()?;
+        if item.is_sequence(extensible, optional) {
+            return Ok(());
+        }
+        Err(self.refuse(DecodeError::NotValidCanonicalEncoding))
+    }
+
+    fn get_mark(&mut self) -> Result<bool, DecodeError> {
+        let item = self.take_next()?;
+        match item.into_mark() {
+            Some(present) => Ok(present),
+            None => Err(self.refuse(DecodeError::NotValidCanonicalEncoding)),
+        }
+    }
+
+    fn note_default(&mut self) -> Result<(), DecodeError> {
+        let item = self.take_next()?;
+        if item.is_default() {
+            return Ok(());
+        }
+        Err(self.refuse(DecodeError::NotValidCanonicalEncoding))
+    }
+
+    fn end(&mut self) -> Result<(), DecodeError> {
+        let item = self.take_next()?;
+        if !item.is_end() {
+            return Err(self.refuse(DecodeError::NotValidCanonicalEncoding));
+        }
+        if self.give_back() {
+            return Ok(());
+        }
+        Err(self.refuse(DecodeError::NotValidCanonicalEncoding))
+    }
+
+    ghost one_record = { takes_one };
+
+    ghost list_held = { takes_held };
+
+    ghost none_after = { takes_none };
+
+    ghost same_rules = { takes_same };
+}
+
+// Whether the constraints have just these sizes, and the program's type holds so many.
+fn are_sizes(sizes: Sizes, constraints: Constraints, held: Bounded<usize>, count: usize) -> bool
+    ensures { IsTrue result ↔ ((sizes_in sizes ≡ sizes_of constraints.entry.size) × (is_count_within (counts_of held) count ≡ true)) }
+{
+    sizes.are_among(constraints) && held.contains(&count)
+}
+
+// Whether a number is one of 128 bits and within bounds that have no mark, where there is a value constraint.
+fn is_admitted(constraints: Constraints, number: &Integer) -> bool
+    ensures { result ≡ is_admitted constraints.entry.value number.now }
+{
+    match constraints.value {
+        None => true,
+        Some(constraint) => {
+            Bounded::const_new(i128::MIN, i128::MAX).in_bound(number)
+                && (constraint.extensible.is_some() || constraint.constraint.value.in_bound(number))
+        }
+    }
+}
+
+// The number in a type of the program, if that holds it and the constraints admit it.
+fn number_within<I: IntegerType>(
+    alloc: Global,
+    number: &Integer,
+    constraints: Constraints,
+) -> Result<I, DecodeError>
+    ensures value { IfOk result (λ x. I.value x ≡ number.now) }
+    ensures held { OnOk result (is_within I.held number.now ≡ true) }
+    ensures admitted { OnOk result (is_admitted constraints.entry.value number.now ≡ true) }
+    ensures refused { IfErr result (IsUntaken constraints.entry.value I.held number.now) }
+{
+    if !is_admitted(constraints, number) {
+        return Err(DecodeError::ValueConstraintNotSatisfied);
+    }
+    match I::try_from_signed_bytes(alloc, number.to_signed_bytes_be().as_slice()) {
+        Ok(value) => Ok(value),
+        Err(IntegerError::Memory) => Err(DecodeError::OutOfMemory),
+        Err(IntegerError::Overflow) => Err(DecodeError::IntegerOverflow),
+        Err(IntegerError::Empty) => Err(DecodeError::IntegerOverflow),
+    }
+}
+
+// Whether a string of the type may hold these characters.
+fn are_permitted<S: StaticPermittedAlphabet>(characters: &[u32]) -> bool
+    ensures { result ≡ permits_all S.kind characters.now }
+{
+    for character in characters {
+        if !S::contains_char(*character) {
+            return false;
+        }
+    }
+    true
+}
+
+// The string of these characters.
+fn string_of<S: StaticPermittedAlphabet>(
+    alloc: Global,
+    characters: &[u32],
+) -> Result<S, DecodeError>
+    ensures value { IfOk result (λ s. S.characters s ≡ characters.now) }
+    ensures permitted { OnOk result (permits_all S.kind characters.now ≡ true) }
+    ensures refused { IfErr result (IsUnspelled S.kind characters.now) }
+{
+    if !are_permitted::<S>(characters) {
+        return Err(DecodeError::PermittedAlphabet);
+    }
+    let Ok(mut string) = S::with_capacity(alloc, characters.len()) else {
+        return Err(DecodeError::OutOfMemory);
+    };
+    for character in characters {
+        let Ok(()) = string.push_char(*character) else {
+            return Err(DecodeError::OutOfMemory);
+        };
+    }
+    Ok(string)
+}

@@ -1,0 +1,40 @@
+//! BMPString (X.680 41).
+ghost use Rattle.std.specs.Prelude.{refl, [], ◌∷◌, None};
+ghost use Rattle.asn1_model.specs.Value.{text};
+ghost use Rattle.asn1_model.specs.Schema.{bmp};
+ghost use Rattle.asn1_schema_constraints.specs.Sets.{no_constraint};
+ghost use Rattle.asn1_schema_constraints.specs.Terms.{character_string_under};
+ghost use Rattle.asn1_schema_presented.proofs.TypesByKind.{character_string_type, character_string_value};
+
+use crate::described::{AsnType, Described};
+use asn1_schema_constraints::Constraints;
+use asn1_schema_tags::Tag;
+use asn1_values_strings_wide::BmpString;
+
+impl Described for BmpString {
+    ghost tags = { record { class = 0; number = 30 } ∷ [] };
+
+    ghost own = { no_constraint };
+
+    ghost under = { λ c _. character_string_under bmp c (record { low = 0; high = None }) };
+
+    ghost schema = { λ _. character_string_under bmp no_constraint (record { low = 0; high = None }) };
+
+    ghost is_own = { λ _. refl };
+
+    ghost meaning = { λ s. text s };
+
+    ghost typed = { character_string_type _ _ _ _ refl refl refl };
+
+    ghost valued = { λ s. character_string_value _ _ _ _ _ };
+
+    ghost valued_under = { λ c s. character_string_value _ _ _ _ _ };
+}
+
+impl AsnType for BmpString {
+    const TAG: Tag = Tag::BMP_STRING;
+
+    fn constraints() -> Constraints<'static> {
+        Constraints::NONE
+    }
+}

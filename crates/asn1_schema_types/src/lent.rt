@@ -1,0 +1,161 @@
+//! Values that are lent, or lent until they have to be owned.
+ghost use Rattle.std.specs.Prelude.{◌≡◌, refl, [], ◌∷◌, None};
+ghost use Rattle.std.specs.Cow.{cow_value, cow_slice_items, cow_str_bytes};
+ghost use Rattle.asn1_model.specs.Value.{members, text};
+ghost use Rattle.asn1_model.specs.Schema.{utf8};
+ghost use Rattle.asn1_schema_constraints.specs.Sets.{no_constraint};
+ghost use Rattle.asn1_schema_constraints.specs.Terms.{sizes_of, character_string_under};
+ghost use Rattle.asn1_schema_presented.specs.Parts.{values_of};
+ghost use Rattle.asn1_schema_presented.specs.Tables.{list_type};
+ghost use Rattle.asn1_schema_presented.proofs.TypesByKind.{type_list, value_list, character_string_type, character_string_value};
+ghost use Rattle.asn1_schema_types.specs.Counts.{any_number};
+
+use crate::described::{AsnType, Described};
+use asn1_schema_constraints::Constraints;
+use asn1_schema_tags::Tag;
+use std::alloc::Global;
+use std::borrow::{Cow, CowSlice, CowStr};
+
+impl<T: Described> Described for &T {
+    ghost tags = { T.tags };
+
+    ghost own = { T.own };
+
+    ghost under = { T.under };
+
+    ghost schema = { T.schema };
+
+    ghost is_own = { T.is_own };
+
+    ghost meaning = { λ r. T.meaning r.now };
+
+    ghost typed = { T.typed };
+
+    ghost valued = { λ r. T.valued r.now };
+
+    ghost valued_under = { λ c r. T.valued_under c r.now };
+}
+
+impl<T: AsnType> AsnType for &T {
+    const TAG: Tag = T::TAG;
+
+    fn constraints() -> Constraints<'static> {
+        T::constraints()
+    }
+}
+
+impl Described for &str {
+    ghost tags = { record { class = 0; number = 12 } ∷ [] };
+
+    ghost own = { no_constraint };
+
+    ghost under = { λ c _. character_string_under utf8 c (record { low = 0; high = None }) };
+
+    ghost schema = { λ _. character_string_under utf8 no_constraint (record { low = 0; high = None }) };
+
+    ghost is_own = { λ _. refl };
+
+    ghost meaning = { λ s. text s.now };
+
+    ghost typed = { character_string_type _ _ _ _ refl refl refl };
+
+    ghost valued = { λ s. character_string_value _ _ _ _ _ };
+
+    ghost valued_under = { λ c s. character_string_value _ _ _ _ _ };
+}
+
+impl AsnType for &str {
+    const TAG: Tag = Tag::UTF8_STRING;
+
+    fn constraints() -> Constraints<'static>
+        ensures { result ≡ no_constraint }
+    {
+        Constraints::NONE
+    }
+}
+
+impl<'a, T: Described> Described for Cow<'a, T> {
+    ghost tags = { T.tags };
+
+    ghost own = { T.own };
+
+    ghost under = { T.under };
+
+    ghost schema = { T.schema };
+
+    ghost is_own = { T.is_own };
+
+    ghost meaning = { λ c. T.meaning (cow_value c) };
+
+    ghost typed = { T.typed };
+
+    ghost valued = { λ c. T.valued (cow_value c) };
+
+    ghost valued_under = { λ k c. T.valued_under k (cow_value c) };
+}
+
+impl<'a, T: AsnType> AsnType for Cow<'a, T> {
+    const TAG: Tag = T::TAG;
+
+    fn constraints() -> Constraints<'static> {
+        T::constraints()
+    }
+}
+
+impl<'a, T: Described> Described for CowSlice<'a, T, Global> {
+    ghost tags = { record { class = 0; number = 16 } ∷ [] };
+
+    ghost own = { no_constraint };
+
+    ghost under = { λ c. list_type (sizes_of c.size) any_number T.schema };
+
+    ghost schema = { list_type (sizes_of (no_constraint.size)) any_number T.schema };
+
+    ghost is_own = { λ _. refl };
+
+    ghost meaning = { λ s. members (values_of T.meaning (cow_slice_items s)) };
+
+    ghost typed = { type_list _ _ refl refl T.typed };
+
+    ghost valued = { λ s. value_list _ _ T.schema T.meaning (cow_slice_items s) T.valued };
+
+    ghost valued_under = { λ c s. value_list _ _ T.schema T.meaning (cow_slice_items s) T.valued };
+}
+
+impl<'a, T: AsnType> AsnType for CowSlice<'a, T, Global> {
+    const TAG: Tag = Tag::SEQUENCE;
+
+    fn constraints() -> Constraints<'static> {
+        Constraints::NONE
+    }
+}
+
+impl<'a> Described for CowStr<'a, Global> {
+    ghost tags = { record { class = 0; number = 12 } ∷ [] };
+
+    ghost own = { no_constraint };
+
+    ghost under = { λ c _. character_string_under utf8 c (record { low = 0; high = None }) };
+
+    ghost schema = { λ _. character_string_under utf8 no_constraint (record { low = 0; high = None }) };
+
+    ghost is_own = { λ _. refl };
+
+    ghost meaning = { λ s. text (cow_str_bytes s) };
+
+    ghost typed = { character_string_type _ _ _ _ refl refl refl };
+
+    ghost valued = { λ s. character_string_value _ _ _ _ _ };
+
+    ghost valued_under = { λ c s. character_string_value _ _ _ _ _ };
+}
+
+impl<'a> AsnType for CowStr<'a, Global> {
+    const TAG: Tag = Tag::UTF8_STRING;
+
+    fn constraints() -> Constraints<'static>
+        ensures { result ≡ no_constraint }
+    {
+        Constraints::NONE
+    }
+}

@@ -1,0 +1,100 @@
+//! SEQUENCE OF (X.680 26).
+ghost use Rattle.std.specs.Prelude.{refl, [], ◌∷◌};
+ghost use Rattle.asn1_model.specs.Value.{members};
+ghost use Rattle.asn1_schema_constraints.specs.Sets.{no_constraint};
+ghost use Rattle.asn1_schema_constraints.specs.Terms.{sizes_of};
+ghost use Rattle.asn1_schema_presented.specs.Parts.{values_of};
+ghost use Rattle.asn1_schema_presented.specs.Tables.{list_type};
+ghost use Rattle.asn1_schema_presented.proofs.TypesByKind.{type_list, value_list};
+ghost use Rattle.asn1_schema_types.specs.Counts.{any_number, exactly, fixed_to, exactly_is_size};
+
+use crate::described::{AsnType, Described};
+use asn1_schema_constraints::{Constraints, Extensible, Size};
+use asn1_schema_tags::Tag;
+
+impl<T: Described> Described for Vec<T> {
+    ghost tags = { record { class = 0; number = 16 } ∷ [] };
+
+    ghost own = { no_constraint };
+
+    ghost under = { λ c. list_type (sizes_of c.size) any_number T.schema };
+
+    ghost schema = { list_type (sizes_of (no_constraint.size)) any_number T.schema };
+
+    ghost is_own = { λ _. refl };
+
+    ghost meaning = { λ v. members (values_of T.meaning v.items) };
+
+    ghost typed = { type_list _ _ refl refl T.typed };
+
+    ghost valued = { λ v. value_list _ _ T.schema T.meaning v.items T.valued };
+
+    ghost valued_under = { λ c v. value_list _ _ T.schema T.meaning v.items T.valued };
+}
+
+impl<T: AsnType> AsnType for Vec<T> {
+    const TAG: Tag = Tag::SEQUENCE;
+
+    fn constraints() -> Constraints<'static> {
+        Constraints::NONE
+    }
+}
+
+impl<T: Described, const N: usize> Described for [T; N] {
+    ghost tags = { record { class = 0; number = 16 } ∷ [] };
+
+    ghost own = { fixed_to N };
+
+    ghost under = { λ c. list_type (sizes_of c.size) (exactly N) T.schema };
+
+    ghost schema = { list_type (sizes_of ((fixed_to N).size)) (exactly N) T.schema };
+
+    ghost is_own = { λ _. refl };
+
+    ghost meaning = { λ xs. members (values_of T.meaning xs) };
+
+    ghost typed = { type_list _ _ refl (exactly_is_size N) T.typed };
+
+    ghost valued = { λ xs. value_list _ _ T.schema T.meaning xs T.valued };
+
+    ghost valued_under = { λ c xs. value_list _ _ T.schema T.meaning xs T.valued };
+}
+
+impl<T: AsnType, const N: usize> AsnType for [T; N] {
+    const TAG: Tag = Tag::SEQUENCE;
+
+    fn constraints() -> Constraints<'static> {
+        Constraints {
+            size: Some(Extensible::new(Size::fixed(N))),
+            ..Constraints::NONE
+        }
+    }
+}
+
+impl<T: Described> Described for &[T] {
+    ghost tags = { record { class = 0; number = 16 } ∷ [] };
+
+    ghost own = { no_constraint };
+
+    ghost under = { λ c. list_type (sizes_of c.size) any_number T.schema };
+
+    ghost schema = { list_type (sizes_of (no_constraint.size)) any_number T.schema };
+
+    ghost is_own = { λ _. refl };
+
+    ghost meaning = { λ s. members (values_of T.meaning s.now) };
+
+    ghost typed = { type_list _ _ refl refl T.typed };
+
+    ghost valued = { λ s. value_list _ _ T.schema T.meaning s.now T.valued };
+
+    ghost valued_under = { λ c s. value_list _ _ T.schema T.meaning s.now T.valued };
+}
+
+impl<T: AsnType> AsnType for &[T] {
+    const TAG: Tag = Tag::SEQUENCE;
+
+    fn constraints() -> Constraints<'static> {
+        Constraints::NONE
+    }
+}

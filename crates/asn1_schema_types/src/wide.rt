@@ -1,0 +1,129 @@
+//! INTEGER (X.680 19) in the native types of 128 bits and of the width of an address, each with its own range. A `u128` has a least
+//! number and no greatest one: bounds have 128 bits and a sign.
+ghost use Rattle.std.specs.Prelude.{refl, [], ◌∷◌, Some, None, false, pos, negsuc, ◌^◌, ◌-◌};
+ghost use Rattle.asn1_model.specs.Value.{number};
+ghost use Rattle.asn1_schema_constraints.specs.Terms.{integer_under};
+ghost use Rattle.asn1_schema_bounds.specs.declared.bounds.Bounded.{Bounded};
+ghost use Rattle.asn1_schema_presented.proofs.TypesByKind.{integer_type, integer_value};
+ghost use Rattle.asn1_values_natives.specs.Ranges.{natural_range, whole_range};
+
+use crate::described::{AsnType, Described};
+use crate::integers::between;
+use asn1_schema_bounds::Bounded;
+use asn1_schema_constraints::{Constraints, Extensible, Value};
+use asn1_schema_tags::Tag;
+
+impl Described for i128 {
+    ghost tags = { record { class = 0; number = 2 } ∷ [] };
+
+    ghost own = { record { value = Some (record { constraint = record { value = Bounded.Range (Some (negsuc 170141183460469231731687303715884105727)) (Some (pos 170141183460469231731687303715884105727)) }; extensible = None }); size = None; permitted_alphabet = None; is_marked = false } };
+
+    ghost under = { λ c _. integer_under c (whole_range (2 ^ 127 - 1)) };
+
+    ghost schema = { λ _. integer_under (record { value = Some (record { constraint = record { value = Bounded.Range (Some (negsuc 170141183460469231731687303715884105727)) (Some (pos 170141183460469231731687303715884105727)) }; extensible = None }); size = None; permitted_alphabet = None; is_marked = false }) (whole_range (2 ^ 127 - 1)) };
+
+    ghost is_own = { λ _. refl };
+
+    ghost meaning = { λ x. number x };
+
+    ghost typed = { integer_type _ _ refl refl refl };
+
+    ghost valued = { λ x. integer_value _ _ _ };
+
+    ghost valued_under = { λ c x. integer_value _ _ _ };
+}
+
+impl AsnType for i128 {
+    const TAG: Tag = Tag::INTEGER;
+
+    fn constraints() -> Constraints<'static> {
+        between(i128::MIN, i128::MAX)
+    }
+}
+
+impl Described for u128 {
+    ghost tags = { record { class = 0; number = 2 } ∷ [] };
+
+    ghost own = { record { value = Some (record { constraint = record { value = Bounded.Range (Some (pos 0)) None }; extensible = None }); size = None; permitted_alphabet = None; is_marked = false } };
+
+    ghost under = { λ c _. integer_under c (natural_range (2 ^ 128 - 1)) };
+
+    ghost schema = { λ _. integer_under (record { value = Some (record { constraint = record { value = Bounded.Range (Some (pos 0)) None }; extensible = None }); size = None; permitted_alphabet = None; is_marked = false }) (natural_range (2 ^ 128 - 1)) };
+
+    ghost is_own = { λ _. refl };
+
+    ghost meaning = { λ x. number (pos x) };
+
+    ghost typed = { integer_type _ _ refl refl refl };
+
+    ghost valued = { λ x. integer_value _ _ _ };
+
+    ghost valued_under = { λ c x. integer_value _ _ _ };
+}
+
+impl AsnType for u128 {
+    const TAG: Tag = Tag::INTEGER;
+
+    fn constraints() -> Constraints<'static> {
+        Constraints {
+            value: Some(Extensible::new(Value::new(Bounded::start_from(0)))),
+            ..Constraints::NONE
+        }
+    }
+}
+
+impl Described for isize {
+    ghost tags = { record { class = 0; number = 2 } ∷ [] };
+
+    ghost own = { record { value = Some (record { constraint = record { value = Bounded.Range (Some (negsuc 9223372036854775807)) (Some (pos 9223372036854775807)) }; extensible = None }); size = None; permitted_alphabet = None; is_marked = false } };
+
+    ghost under = { λ c _. integer_under c (whole_range (2 ^ 63 - 1)) };
+
+    ghost schema = { λ _. integer_under (record { value = Some (record { constraint = record { value = Bounded.Range (Some (negsuc 9223372036854775807)) (Some (pos 9223372036854775807)) }; extensible = None }); size = None; permitted_alphabet = None; is_marked = false }) (whole_range (2 ^ 63 - 1)) };
+
+    ghost is_own = { λ _. refl };
+
+    ghost meaning = { λ x. number x };
+
+    ghost typed = { integer_type _ _ refl refl refl };
+
+    ghost valued = { λ x. integer_value _ _ _ };
+
+    ghost valued_under = { λ c x. integer_value _ _ _ };
+}
+
+impl AsnType for isize {
+    const TAG: Tag = Tag::INTEGER;
+
+    fn constraints() -> Constraints<'static> {
+        between(-9223372036854775808, 9223372036854775807)
+    }
+}
+
+impl Described for usize {
+    ghost tags = { record { class = 0; number = 2 } ∷ [] };
+
+    ghost own = { record { value = Some (record { constraint = record { value = Bounded.Range (Some (pos 0)) (Some (pos 18446744073709551615)) }; extensible = None }); size = None; permitted_alphabet = None; is_marked = false } };
+
+    ghost under = { λ c _. integer_under c (natural_range (2 ^ 64 - 1)) };
+
+    ghost schema = { λ _. integer_under (record { value = Some (record { constraint = record { value = Bounded.Range (Some (pos 0)) (Some (pos 18446744073709551615)) }; extensible = None }); size = None; permitted_alphabet = None; is_marked = false }) (natural_range (2 ^ 64 - 1)) };
+
+    ghost is_own = { λ _. refl };
+
+    ghost meaning = { λ x. number (pos x) };
+
+    ghost typed = { integer_type _ _ refl refl refl };
+
+    ghost valued = { λ x. integer_value _ _ _ };
+
+    ghost valued_under = { λ c x. integer_value _ _ _ };
+}
+
+impl AsnType for usize {
+    const TAG: Tag = Tag::INTEGER;
+
+    fn constraints() -> Constraints<'static> {
+        between(0, 18446744073709551615)
+    }
+}
