@@ -1,12 +1,15 @@
-//! Types around others: with another tag, of a type that is named beside the value, and any value as octets.
+//! Types around others: with another tag, under constraints of a component's own, of a type that is named beside the value, and any
+//! value as octets.
 #![tactic(auto)]
 
 pub mod any;
+pub mod constrained;
 pub mod inner;
 pub mod tag;
 pub mod tagged;
 
 pub use any::{Any, InstanceOf};
+pub use constrained::{Constrained, ConstraintsOf};
 pub use inner::{InnerSubtypeConstraint, InnerSubtypeConstraintError};
 pub use tagged::{Explicit, Implicit};
 

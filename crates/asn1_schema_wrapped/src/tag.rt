@@ -1,53 +1,154 @@
 //! A type for each tag that X.680 itself defines (X.680 8.4), and for those of the other classes: the first
-//! parameter of [`crate::Implicit`] and [`crate::Explicit`].
+//! parameter of [`crate::Implicit`] and [`crate::Explicit`]. A marker is itself a type, NULL (X.680 24) under its tag; any other
+//! type is a marker too, of its own tag.
+ghost use Rattle.std.specs.Prelude.{refl, [], ◌∷◌};
+ghost use Rattle.asn1_model.specs.Value.{nothing};
+ghost use Rattle.asn1_model.specs.Schema.{null};
+ghost use Rattle.asn1_schema_constraints.specs.Sets.{no_constraint};
+ghost use Rattle.asn1_schema_presented.proofs.TypesByKind.{null_type, null_value};
+
+use asn1_schema_constraints::Constraints;
 use asn1_schema_tags::{Class, Tag};
+use asn1_schema_types::{AsnType, Described};
 
 /// The universal tag of this number.
 #[derive(Clone, Copy, Debug, PartialEq, Eq)]
 pub struct Universal<const NUMBER: u32>;
 
-impl<const NUMBER: u32> Universal<NUMBER> {
-    /// The tag.
-    pub const TAG: Tag = Tag {
+impl<const NUMBER: u32> Described for Universal<NUMBER> {
+    ghost tags = { record { class = 0; number = NUMBER } ∷ [] };
+
+    ghost own = { no_constraint };
+
+    ghost under = { λ _ _. null };
+
+    ghost schema = { λ _. null };
+
+    ghost is_own = { λ _. refl };
+
+    ghost meaning = { λ _. nothing };
+
+    ghost typed = { null_type refl };
+
+    ghost valued = { λ _. null_value };
+
+    ghost valued_under = { λ _ _. null_value };
+}
+
+impl<const NUMBER: u32> AsnType for Universal<NUMBER> {
+    const TAG: Tag = Tag {
         class: Class::Universal,
         value: NUMBER,
     };
+
+    fn constraints() -> Constraints<'static> {
+        Constraints::NONE
+    }
 }
 
 /// The application tag of this number.
 #[derive(Clone, Copy, Debug, PartialEq, Eq)]
 pub struct Application<const NUMBER: u32>;
 
-impl<const NUMBER: u32> Application<NUMBER> {
-    /// The tag.
-    pub const TAG: Tag = Tag {
+impl<const NUMBER: u32> Described for Application<NUMBER> {
+    ghost tags = { record { class = 1; number = NUMBER } ∷ [] };
+
+    ghost own = { no_constraint };
+
+    ghost under = { λ _ _. null };
+
+    ghost schema = { λ _. null };
+
+    ghost is_own = { λ _. refl };
+
+    ghost meaning = { λ _. nothing };
+
+    ghost typed = { null_type refl };
+
+    ghost valued = { λ _. null_value };
+
+    ghost valued_under = { λ _ _. null_value };
+}
+
+impl<const NUMBER: u32> AsnType for Application<NUMBER> {
+    const TAG: Tag = Tag {
         class: Class::Application,
         value: NUMBER,
     };
+
+    fn constraints() -> Constraints<'static> {
+        Constraints::NONE
+    }
 }
 
 /// The context-specific tag of this number.
 #[derive(Clone, Copy, Debug, PartialEq, Eq)]
 pub struct Context<const NUMBER: u32>;
 
-impl<const NUMBER: u32> Context<NUMBER> {
-    /// The tag.
-    pub const TAG: Tag = Tag {
+impl<const NUMBER: u32> Described for Context<NUMBER> {
+    ghost tags = { record { class = 2; number = NUMBER } ∷ [] };
+
+    ghost own = { no_constraint };
+
+    ghost under = { λ _ _. null };
+
+    ghost schema = { λ _. null };
+
+    ghost is_own = { λ _. refl };
+
+    ghost meaning = { λ _. nothing };
+
+    ghost typed = { null_type refl };
+
+    ghost valued = { λ _. null_value };
+
+    ghost valued_under = { λ _ _. null_value };
+}
+
+impl<const NUMBER: u32> AsnType for Context<NUMBER> {
+    const TAG: Tag = Tag {
         class: Class::Context,
         value: NUMBER,
     };
+
+    fn constraints() -> Constraints<'static> {
+        Constraints::NONE
+    }
 }
 
 /// The private tag of this number.
 #[derive(Clone, Copy, Debug, PartialEq, Eq)]
 pub struct Private<const NUMBER: u32>;
 
-impl<const NUMBER: u32> Private<NUMBER> {
-    /// The tag.
-    pub const TAG: Tag = Tag {
+impl<const NUMBER: u32> Described for Private<NUMBER> {
+    ghost tags = { record { class = 3; number = NUMBER } ∷ [] };
+
+    ghost own = { no_constraint };
+
+    ghost under = { λ _ _. null };
+
+    ghost schema = { λ _. null };
+
+    ghost is_own = { λ _. refl };
+
+    ghost meaning = { λ _. nothing };
+
+    ghost typed = { null_type refl };
+
+    ghost valued = { λ _. null_value };
+
+    ghost valued_under = { λ _ _. null_value };
+}
+
+impl<const NUMBER: u32> AsnType for Private<NUMBER> {
+    const TAG: Tag = Tag {
         class: Class::Private,
         value: NUMBER,
     };
+
+    fn constraints() -> Constraints<'static> {
+        Constraints::NONE
+    }
 }
 
 pub type EOC = Universal<0>;

@@ -1,11 +1,20 @@
 //! Values under another tag (X.680 31).
 ghost use Rattle.std.specs.Prelude.{◌≡◌};
+ghost use Rattle.std.specs.Borrow.{Lends, sem};
 
+use asn1_schema_constraints::Constraints;
+use asn1_schema_decode::{Decode, Decoder};
+use asn1_schema_encode::{Encode, Encoder};
+use asn1_schema_faults::{DecodeError, EncodeError};
+use asn1_schema_tags::Tag;
+use asn1_schema_types::{AsnType, Described};
+use std::alloc::Global;
 use std::marker::PhantomData;
 use std::ops::{Deref, DerefMut};
 
 /// A value whose own tag another one replaces (X.680 31.2.7), that of `T`.
-#[derive(Debug, Drop, PartialEq, Eq)]
+#[derive(Drop)]
+#[derive_where(Clone, Debug, PartialEq, Eq; V)]
 pub struct Implicit<T, V> {
     /// The value.
     pub value: V,
@@ -42,14 +51,74 @@ impl<T, V> Deref for Implicit<T, V> {
     }
 }
 
+/// Once the value is given back, it is what was left in it.
 impl<T, V> DerefMut for Implicit<T, V> {
-    fn deref_mut(&mut self) -> &mut V {
+    ghost use Rattle.asn1_schema_wrapped.specs.contracts.tagged.Implicit.{the_row};
+
+    ghost deref_mut_gives = { λ t v. v ≡ t.value };
+
+    fn deref_mut(&mut self) -> &mut V
+        ensures* writes_back { sem 𝓛 (Lends (the_row T.row V.row) V.row self.entry result (λ v. record self.old { value = v })) }
+        ensures shows { result.now ≡ self.old.value }
+    {
         &mut self.value
     }
 }
 
+impl<T: Described, V: Described> Described for Implicit<T, V> {
+    ghost tags = { T.tags };
+
+    ghost own = { V.own };
+
+    ghost under = { V.under };
+
+    ghost schema = { V.schema };
+
+    ghost is_own = { V.is_own };
+
+    ghost meaning = { λ t. V.meaning t.value };
+
+    ghost typed = { record { tagged = T.typed.tagged; lawful = V.typed.lawful; no_group = V.typed.no_group } };
+
+    ghost valued = { λ t. V.valued t.value };
+
+    ghost valued_under = { λ c t. V.valued_under c t.value };
+}
+
+impl<T: AsnType, V: AsnType> AsnType for Implicit<T, V> {
+    const TAG: Tag = T::TAG;
+
+    fn constraints() -> Constraints<'static> {
+        V::constraints()
+    }
+}
+
+impl<T: AsnType, V: Encode> Encode for Implicit<T, V> {
+    fn encode_with_tag_and_constraints<E: Encoder>(
+        &self,
+        encoder: &mut E,
+        tag: Tag,
+        constraints: Constraints,
+    ) -> Result<(), EncodeError> {
+        V::encode_with_tag_and_constraints(&self.value, encoder, tag, constraints)
+    }
+}
+
+impl<T: AsnType + Drop, V: Decode> Decode for Implicit<T, V> {
+    fn decode_with_tag_and_constraints<D: Decoder>(
+        alloc: Global,
+        decoder: &mut D,
+        tag: Tag,
+        constraints: Constraints,
+    ) -> Result<Self, DecodeError> {
+        let value = V::decode_with_tag_and_constraints(alloc, decoder, tag, constraints)?;
+        Ok(Implicit::new(value))
+    }
+}
+
 /// A value with another tag around its own (X.680 31.2.8), that of `T`.
-#[derive(Debug, Drop, PartialEq, Eq)]
+#[derive(Drop)]
+#[derive_where(Clone, Debug, PartialEq, Eq; V)]
 pub struct Explicit<T, V> {
     /// The value.
     pub value: V,
@@ -86,8 +155,68 @@ impl<T, V> Deref for Explicit<T, V> {
     }
 }
 
+/// Once the value is given back, it is what was left in it.
 impl<T, V> DerefMut for Explicit<T, V> {
-    fn deref_mut(&mut self) -> &mut V {
+    ghost use Rattle.asn1_schema_wrapped.specs.contracts.tagged.Explicit.{the_row};
+
+    ghost deref_mut_gives = { λ t v. v ≡ t.value };
+
+    fn deref_mut(&mut self) -> &mut V
+        ensures* writes_back { sem 𝓛 (Lends (the_row T.row V.row) V.row self.entry result (λ v. record self.old { value = v })) }
+        ensures shows { result.now ≡ self.old.value }
+    {
         &mut self.value
+    }
+}
+
+impl<T: Described, V: Described> Described for Explicit<T, V> {
+    ghost tags = { T.tags };
+
+    ghost own = { V.own };
+
+    ghost under = { V.under };
+
+    ghost schema = { V.schema };
+
+    ghost is_own = { V.is_own };
+
+    ghost meaning = { λ t. V.meaning t.value };
+
+    ghost typed = { record { tagged = T.typed.tagged; lawful = V.typed.lawful; no_group = V.typed.no_group } };
+
+    ghost valued = { λ t. V.valued t.value };
+
+    ghost valued_under = { λ c t. V.valued_under c t.value };
+}
+
+impl<T: AsnType, V: AsnType> AsnType for Explicit<T, V> {
+    const TAG: Tag = T::TAG;
+
+    fn constraints() -> Constraints<'static> {
+        V::constraints()
+    }
+}
+
+/// The outer tag leaves no octet in the packed and the octet encoding rules.
+impl<T: AsnType, V: Encode> Encode for Explicit<T, V> {
+    fn encode_with_tag_and_constraints<E: Encoder>(
+        &self,
+        encoder: &mut E,
+        _tag: Tag,
+        constraints: Constraints,
+    ) -> Result<(), EncodeError> {
+        V::encode_with_tag_and_constraints(&self.value, encoder, V::TAG, constraints)
+    }
+}
+
+impl<T: AsnType + Drop, V: Decode> Decode for Explicit<T, V> {
+    fn decode_with_tag_and_constraints<D: Decoder>(
+        alloc: Global,
+        decoder: &mut D,
+        _tag: Tag,
+        constraints: Constraints,
+    ) -> Result<Self, DecodeError> {
+        let value = V::decode_with_tag_and_constraints(alloc, decoder, V::TAG, constraints)?;
+        Ok(Explicit::new(value))
     }
 }

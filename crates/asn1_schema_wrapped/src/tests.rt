@@ -5,6 +5,7 @@ use crate::{
 };
 use asn1_schema_faults::CodecKind;
 use asn1_schema_tags::Tag;
+use asn1_schema_types::AsnType;
 use asn1_values_identifiers::ObjectIdentifier;
 use std::test::Fail;
 
@@ -55,7 +56,7 @@ fn each_marker_has_the_tag_of_its_name(rt: HostRuntime) {
 }
 
 #[test]
-fn values_stand_under_another_tag(rt: HostRuntime) {
+fn values_stand_under_another_tag(rt: HostRuntime) -> Result<(), Fail> {
     let mut one = Implicit::<tag::Context<1>, u8>::new(5);
     assert_eq!(rt; *one, 5);
     *one = 6;
@@ -66,6 +67,9 @@ fn values_stand_under_another_tag(rt: HostRuntime) {
     assert!(rt; *two);
     *two = false;
     assert!(rt; two == Explicit::new(false));
+    let three = two.clone()?;
+    assert!(rt; three == two);
+    Ok(())
 }
 
 #[test]
@@ -82,6 +86,8 @@ fn any_value_is_its_octets(rt: HostRuntime) -> Result<(), Fail> {
     octets.push(1)?;
     let any = Any::new(octets);
     assert_eq!(rt; any.as_bytes(), [2, 1].as_slice());
+    let copy = any.clone()?;
+    assert!(rt; copy == any);
     let again = Any::from(any.into_bytes());
     assert_eq!(rt; again.into_bytes().as_slice(), [2, 1].as_slice());
     Ok(())

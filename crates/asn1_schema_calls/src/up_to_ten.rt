@@ -1,0 +1,36 @@
+//! INTEGER (0..10), held in a `u8`.
+ghost use Rattle.std.specs.Prelude.{refl, Some, None, false, pos};
+ghost use Rattle.asn1_schema_bounds.specs.declared.bounds.Bounded.{Bounded};
+ghost use Rattle.asn1_schema_presented.proofs.TypesByKind.{integer_type};
+
+use asn1_schema_bounds::Bounded;
+use asn1_schema_constraints::{Constraints, Extensible, Value};
+use asn1_schema_types::Described;
+use asn1_schema_wrapped::ConstraintsOf;
+
+/// The constraint to the numbers from 0 to 10.
+#[derive(Clone, Copy, Debug, PartialEq, Eq)]
+pub struct UpToTen;
+
+impl ConstraintsOf<u8> for UpToTen {
+    ghost terms = { record { value = Some (record { constraint = record { value = Bounded.Range (Some (pos 0)) (Some (pos 10)) }; extensible = None }); size = None; permitted_alphabet = None; is_marked = false } };
+
+    ghost under = { ⟦<u8 as Described>⟧.under };
+
+    ghost meaning = { ⟦<u8 as Described>⟧.meaning };
+
+    ghost lawful = { λ ts e. integer_type _ _ e refl refl };
+
+    ghost valued = { ⟦<u8 as Described>⟧.valued_under };
+
+    fn constraints() -> Constraints<'static> {
+        Constraints {
+            value: Some(Extensible::new(Value::new(Bounded::const_new(0, 10)))),
+            ..Constraints::NONE
+        }
+    }
+
+    ghost same_under = { λ _. refl };
+
+    ghost same_meaning = { λ _. refl };
+}

@@ -1,0 +1,24 @@
+-- As many fields may be absent as components.
+use Rattle.std.proofs.Common.{◌≡◌, ℕ, suc, Bool, true, false, cond, not, List, [], ◌∷◌, filter, length, refl, sym, ap, ◌∙◌}
+use Rattle.asn1_model.specs.Schema.{Presence, required, optional, by_default}
+use Rattle.asn1_model.specs.Tables.{is_required}
+use Rattle.asn1_schema_fields.specs.declared.tables.Field.{Field}
+use Rattle.asn1_schema_fields.specs.Fields.{may_be_absent, is_optional}
+use Rattle.asn1_schema_presented.specs.Tables.{Fields, no_field, field, marks}
+use Rattle.asn1_schema_constructed.specs.Constructed.{presence_of, AreFields}
+
+may_be : (o : Presence) → may_be_absent (presence_of o) ≡ not (is_required o)
+may_be required = refl
+may_be optional = refl
+may_be (by_default v) = refl
+
+one_more : (f : Field) (fs : List Field) (o : Presence) (n : ℕ) → is_optional f ≡ not (is_required o) → length (filter is_optional fs) ≡ n → length (filter is_optional (f ∷ fs)) ≡ cond (is_required o) n (suc n)
+one_more f fs required n e h = rw e h
+one_more f fs optional n e h = rw e (ap suc h)
+one_more f fs (by_default v) n e h = rw e (ap suc h)
+
+pub count_marks : (fs : List Field) (cs : Fields) → AreFields fs cs → length (filter is_optional fs) ≡ marks cs
+count_marks [] no_field h = refl
+count_marks [] (field t o s rest) h = absurd h
+count_marks (f ∷ fs) no_field h = absurd h
+count_marks (f ∷ fs) (field t o s rest) h = one_more f fs o (marks rest) (ap may_be_absent h.1 ∙ may_be o) (count_marks fs rest h.2)

@@ -1,0 +1,38 @@
+-- What a table of fields tells of the components of a type.
+use Rattle.std.specs.Prelude.{◌≡◌, ℕ, true, false, List, [], ◌∷◌, Option, Some, None}
+use Rattle.asn1_model.specs.Schema.{Presence, required, optional, by_default, Schema, set}
+use Rattle.asn1_schema_tags.specs.Trees.{leaves}
+use Rattle.asn1_schema_fields.specs.declared.tables.FieldPresence.{FieldPresence}
+use Rattle.asn1_schema_fields.specs.declared.tables.FieldPresence.TheVariants.{Required, Optional, Default}
+use Rattle.asn1_schema_fields.specs.declared.tables.Field.{Field}
+use Rattle.asn1_schema_fields.specs.declared.tables.Fields.{Fields}
+use Rattle.asn1_schema_presented.specs.Tables.{Fields as Components, no_field, field, Table, scope, components_at, sequence_type}
+
+-- Whether a component is always there, optional, or has a default (X.680 25).
+abbrev pub presence_of : Presence → FieldPresence
+presence_of required = Required
+presence_of optional = Optional
+presence_of (by_default v) = Default
+
+-- The fields are these components, in this order, each with its tags and its presence (X.680 25).
+abbrev pub AreFields : List Field → Components → Type 0
+AreFields [] no_field = Unit {0}
+AreFields (f ∷ fs) (field t o s rest) = (leaves f.tag_tree ≡ t) × (f.presence ≡ presence_of o) × AreFields fs rest
+AreFields fs rest = ⊥
+
+-- The fields of the additions: none where there is no mark of extensibility, and else those behind it (X.680 25).
+abbrev pub AreAdditions : Option Fields → Table → Type 0
+AreAdditions None t = t.extensible ≡ false
+AreAdditions (Some fs) t = (t.extensible ≡ true) × AreFields fs.fields.now t.additions
+
+-- Which type the components make.
+pub data Form : Type 0 where
+  -- SEQUENCE (X.680 25)
+  sequence_form : Form
+  -- SET (X.680 27)
+  set_form : Form
+
+-- The type of these components, in their order.
+abbrev pub constructed_type : Form → Table → ℕ → Schema
+constructed_type sequence_form t n = sequence_type t n
+constructed_type set_form t n = scope n (λ m. set (components_at m t.root) t.extensible (components_at m t.additions))

@@ -1,0 +1,115 @@
+//! Types with components, by their tables of fields.
+ghost use Rattle.std.specs.Prelude.{◌≡◌, ◌+◌, ℕ, OnOk, OnErr, IfOk, IfErr};
+ghost use Rattle.asn1_model.specs.Value.{Parts, fields};
+ghost use Rattle.asn1_schema_constraints.specs.declared.lists.Constraints.{Constraints};
+ghost use Rattle.asn1_schema_presented.specs.Tables.{Table, sequence_type};
+ghost use Rattle.asn1_schema_encode.specs.Writes.{Writes, CannotWrite, WritesTail, CannotWriteTail};
+ghost use Rattle.asn1_schema_decode.specs.Reads.{Stopped, Reads, Unread, ReadsTail, UnreadTail};
+ghost use Rattle.asn1_schema_constructed.specs.Constructed.{Form, AreFields, AreAdditions, constructed_type};
+
+use asn1_schema_decode::Decoder;
+use asn1_schema_encode::Encoder;
+use asn1_schema_faults::{DecodeError, EncodeError};
+use asn1_schema_fields::Fields;
+use asn1_schema_tags::Tag;
+use asn1_schema_types::AsnType;
+use std::alloc::Global;
+
+/// A type with components (X.680 25 and 27): what they are, and how they are written and read one after another.
+pub trait Constructed: AsnType + Drop {
+    /// SEQUENCE or SET.
+    ghost form: { Form };
+
+    /// The components.
+    ghost table: { Table };
+
+    /// The root components of a value.
+    ghost root: { Self → Parts };
+
+    /// The additions of a value.
+    ghost added: { Self → Parts };
+
+    /// The fields of the root, in the order of the components.
+    fn fields() -> Fields<'static>
+        ensures { AreFields result.fields.now table.root };
+
+    /// The fields of the additions, or `None` where there is no mark of extensibility.
+    fn extended_fields() -> Option<Fields<'static>>
+        ensures { AreAdditions result table };
+
+    /// Whether there is a mark of extensibility.
+    fn is_extensible() -> bool
+        ensures { result ≡ table.extensible };
+
+    /// Hands over the records of the components, each once, and the end.
+    fn write_fields<E: Encoder>(&self, encoder: &mut E) -> Result<(), EncodeError>
+        ensures ok { OnOk result (WritesTail E.step table (root self.now) (added self.now) encoder.old encoder.new) }
+        ensures only { IfErr result (CannotWriteTail E.step table (root self.now) (added self.now) encoder.old) }
+        ensures failed { OnErr result (E.has_failed encoder.new) }
+        ensures already { E.has_failed encoder.old → result ≡ Err EncodeError.AlreadyFailed };
+
+    /// Reads the components, and the end.
+    fn read_fields<D: Decoder>(alloc: Global, decoder: &mut D) -> Result<Self, DecodeError>
+        ensures ok { IfOk result (λ x. ReadsTail D.step table (D.levels decoder.old) (root x) (added x) decoder.old decoder.new) }
+        ensures level { OnOk result (D.levels decoder.new ≡ D.levels decoder.old + 1) }
+        ensures only { IfErr result (UnreadTail D.step table (D.levels decoder.old) decoder.old) }
+        ensures failed { IfErr result (Stopped D.has_failed decoder.new) }
+        ensures already { D.has_failed decoder.old → result ≡ Err DecodeError.AlreadyFailed };
+
+    /// A value means its components.
+    ghost means: { (x : Self) → Self.meaning x ≡ fields (root x) (added x) };
+
+    /// The type is that of the components, whatever constraints it has.
+    ghost is_of: { (c : Constraints) (n : ℕ) → Self.under c n ≡ constructed_type form table n };
+}
+
+/// How types with components are written.
+pub trait EncodeConstructed: Encoder {
+    /// SEQUENCE (X.680 25).
+    final fn encode_fields_of<T: Constructed>(
+        &mut self,
+        tag: Tag,
+        value: &T,
+    ) -> Result<(), EncodeError>
+    where
+        Self: Sized,
+        ensures ok { OnOk result (Writes Self.step (sequence_type T.table) (fields (T.root value.now) (T.added value.now)) self.old self.new) }
+        ensures only { IfErr result (CannotWrite Self.step (sequence_type T.table) (fields (T.root value.now) (T.added value.now)) self.old) }
+        ensures failed { OnErr result (Self.has_failed self.new) }
+        ensures already { Self.has_failed self.old → result ≡ Err EncodeError.AlreadyFailed }
+    {
+        let optional = T::fields().number_of_optional_and_default_fields();
+        let extensible = T::is_extensible();
+        self.begin_sequence(tag, extensible, optional)?;
+        value.write_fields(self)?;
+        Ok(())
+    }
+}
+
+impl<E: Encoder> EncodeConstructed for E {}
+
+/// How types with components are read.
+pub trait DecodeConstructed: Decoder {
+    /// SEQUENCE (X.680 25).
+    final fn decode_fields_of<T: Constructed>(
+        &mut self,
+        alloc: Global,
+        tag: Tag,
+    ) -> Result<T, DecodeError>
+    where
+        Self: Sized,
+        ensures ok { IfOk result (λ x. Reads Self.step (sequence_type T.table) (Self.levels self.old) (fields (T.root x) (T.added x)) self.old self.new) }
+        ensures level { OnOk result (Self.levels self.new ≡ Self.levels self.old) }
+        ensures only { IfErr result (Unread Self.step (sequence_type T.table) (Self.levels self.old) self.old) }
+        ensures failed { IfErr result (Stopped Self.has_failed self.new) }
+        ensures already { Self.has_failed self.old → result ≡ Err DecodeError.AlreadyFailed }
+    {
+        let optional = T::fields().number_of_optional_and_default_fields();
+        let extensible = T::is_extensible();
+        self.begin_sequence(tag, extensible, optional)?;
+        let value = T::read_fields(alloc, self)?;
+        Ok(value)
+    }
+}
+
+impl<D: Decoder> DecodeConstructed for D {}

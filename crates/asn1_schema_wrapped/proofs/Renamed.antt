@@ -1,0 +1,22 @@
+-- What is written and read, by another name of the same type and value.
+use Rattle.std.proofs.Common.{◌≡◌, ℕ, subst}
+use Rattle.asn1_model.specs.Schema.{Schema}
+use Rattle.asn1_model.specs.Value.{Value}
+use Rattle.asn1_schema_faults.specs.declared.DecodeError.{DecodeError}
+use Rattle.asn1_schema_faults.specs.declared.EncodeError.{EncodeError}
+use Rattle.asn1_schema_presented.specs.Records.{Record}
+use Rattle.asn1_schema_encode.specs.Writes.{Writes, CannotWrite}
+use Rattle.asn1_schema_decode.specs.Reads.{Reads, Unread}
+
+module _ {S : Type 0} {step : S → Record → S → Type 0} where
+  pub writes_by : {s t : ℕ → Schema} {v w : Value} {a b : S} → s ≡ t → v ≡ w → Writes step s v a b → Writes step t w a b
+  writes_by {s} {t} {v} {w} {a} {b} e f h = subst (λ (x : Value). Writes step t x a b) f (subst (λ (x : ℕ → Schema). Writes step x v a b) e h)
+
+  pub cannot_by : {s t : ℕ → Schema} {v w : Value} {a : S} {x : EncodeError} → s ≡ t → v ≡ w → CannotWrite step s v a x → CannotWrite step t w a x
+  cannot_by {s} {t} {v} {w} {a} {x} e f h = subst (λ (y : Value). CannotWrite step t y a x) f (subst (λ (y : ℕ → Schema). CannotWrite step y v a x) e h)
+
+  pub reads_by : {s t : ℕ → Schema} {n : ℕ} {v w : Value} {a b : S} → s ≡ t → v ≡ w → Reads step s n v a b → Reads step t n w a b
+  reads_by {s} {t} {n} {v} {w} {a} {b} e f h = subst (λ (x : Value). Reads step t n x a b) f (subst (λ (x : ℕ → Schema). Reads step x n v a b) e h)
+
+  pub unread_by : {s t : ℕ → Schema} {n : ℕ} {a : S} {x : DecodeError} → s ≡ t → Unread step s n a x → Unread step t n a x
+  unread_by {s} {t} {n} {a} {x} e h = subst (λ (y : ℕ → Schema). Unread step y n a x) e h

@@ -1,0 +1,150 @@
+//! Values under constraints of a component's own (X.680 49.1).
+ghost use Rattle.std.specs.Prelude.{◌≡◌, ℕ, List, true, refl};
+ghost use Rattle.std.specs.Borrow.{Lends, sem};
+ghost use Rattle.asn1_schema_constraints.specs.declared.lists.Constraints.{Constraints as Terms};
+ghost use Rattle.asn1_model.specs.Schema.{Schema, Tag as ModelTag};
+ghost use Rattle.asn1_model.specs.Value.{Value};
+ghost use Rattle.asn1_schema_presented.specs.Tables.{are_tags, IsType, IsValue};
+
+use asn1_schema_constraints::Constraints;
+use asn1_schema_decode::{Decode, Decoder};
+use asn1_schema_encode::{Encode, Encoder};
+use asn1_schema_faults::{DecodeError, EncodeError};
+use asn1_schema_tags::Tag;
+use asn1_schema_types::{AsnType, Described};
+use std::alloc::Global;
+use std::marker::PhantomData;
+use std::ops::{Deref, DerefMut};
+
+/// Constraints that stand in place of those that the type `T` has of its own. What `T` is under constraints is said here once more, as
+/// it stands in its `Described`.
+pub trait ConstraintsOf<T: Described> {
+    /// The constraints.
+    ghost terms: { Terms };
+
+    /// The type under constraints, unfolded to this many nested levels.
+    ghost under: { Terms → ℕ → Schema };
+
+    /// The value that a value of the program means.
+    ghost meaning: { T → Value };
+
+    /// The type under the constraints is a lawful one, whatever its tags.
+    ghost lawful: { (ts : List ModelTag) → are_tags ts ≡ true → IsType ts (under terms) };
+
+    /// Each value is one of the type, whatever constraints it has.
+    ghost valued: { (c : Terms) (x : T) → IsValue (under c) (meaning x) };
+
+    /// The constraints.
+    fn constraints() -> Constraints<'static>
+        ensures { result ≡ terms };
+
+    /// This is what the type is.
+    ghost same_under: { (c : Terms) → T.under c ≡ under c };
+
+    ghost same_meaning: { (x : T) → T.meaning x ≡ meaning x };
+}
+
+/// A value under the constraints of `C`, in place of those that its type has of its own: INTEGER (0..10) held in a `u8`, say.
+#[derive(Drop)]
+#[derive_where(Clone, Debug, PartialEq, Eq; V)]
+pub struct Constrained<C, V> {
+    /// The value.
+    pub value: V,
+    constraints: PhantomData<C>,
+}
+
+impl<C, V> Constrained<C, V> {
+    /// This value under the constraints. That it satisfies them is seen when it is written.
+    pub fn new(value: V) -> Self
+        ensures { result.value ≡ value }
+    {
+        Constrained {
+            value,
+            constraints: PhantomData,
+        }
+    }
+}
+
+impl<C, V> From<V> for Constrained<C, V> {
+    ghost from_gives = { λ v t. t.value ≡ v };
+
+    fn from(value: V) -> Self {
+        Constrained::new(value)
+    }
+}
+
+impl<C, V> Deref for Constrained<C, V> {
+    type Target = V;
+
+    ghost deref_gives = { λ t v. v ≡ t.value };
+
+    fn deref(&self) -> &V {
+        &self.value
+    }
+}
+
+/// Once the value is given back, it is what was left in it.
+impl<C, V> DerefMut for Constrained<C, V> {
+    ghost use Rattle.asn1_schema_wrapped.specs.contracts.constrained.Constrained.{the_row};
+
+    ghost deref_mut_gives = { λ t v. v ≡ t.value };
+
+    fn deref_mut(&mut self) -> &mut V
+        ensures* writes_back { sem 𝓛 (Lends (the_row C.row V.row) V.row self.entry result (λ v. record self.old { value = v })) }
+        ensures shows { result.now ≡ self.old.value }
+    {
+        &mut self.value
+    }
+}
+
+impl<C: ConstraintsOf<V>, V: Described> Described for Constrained<C, V> {
+    ghost tags = { V.tags };
+
+    ghost own = { C.terms };
+
+    ghost under = { C.under };
+
+    ghost schema = { C.under C.terms };
+
+    ghost is_own = { λ _. refl };
+
+    ghost meaning = { λ t. C.meaning t.value };
+
+    ghost typed = { C.lawful V.tags V.typed.tagged };
+
+    ghost valued = { λ t. C.valued C.terms t.value };
+
+    ghost valued_under = { λ c t. C.valued c t.value };
+}
+
+impl<C: ConstraintsOf<V>, V: AsnType> AsnType for Constrained<C, V> {
+    const TAG: Tag = V::TAG;
+
+    fn constraints() -> Constraints<'static> {
+        C::constraints()
+    }
+}
+
+impl<C: ConstraintsOf<V>, V: Encode> Encode for Constrained<C, V> {
+    fn encode_with_tag_and_constraints<E: Encoder>(
+        &self,
+        encoder: &mut E,
+        tag: Tag,
+        constraints: Constraints,
+    ) -> Result<(), EncodeError> {
+        V::encode_with_tag_and_constraints(&self.value, encoder, tag, constraints)?;
+        Ok(())
+    }
+}
+
+impl<C: ConstraintsOf<V> + Drop, V: Decode> Decode for Constrained<C, V> {
+    fn decode_with_tag_and_constraints<D: Decoder>(
+        alloc: Global,
+        decoder: &mut D,
+        tag: Tag,
+        constraints: Constraints,
+    ) -> Result<Self, DecodeError> {
+        let value = V::decode_with_tag_and_constraints(alloc, decoder, tag, constraints)?;
+        Ok(Constrained::new(value))
+    }
+}
