@@ -1,0 +1,4 @@
+pub mod Still
+pub mod Bridge
+pub mod Additions
+pub mod Lists

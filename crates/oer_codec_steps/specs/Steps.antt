@@ -1,0 +1,128 @@
+-- What a writer of the octet encoding rules (X.696) holds: the octets of the innermost open scope, and the open scopes. Each record changes them.
+use Rattle.std.specs.Prelude.{ℕ, zero, suc, Bool, true, false, cond, List, [], ◌∷◌, ◌++◌, length, map, Option, Some, None, option_map, option_and_then}
+use Rattle.asn1_model.specs.Value.{truth, item, bit_list, octet_list, text, arcs}
+use Rattle.asn1_model.specs.Schema.{Tag, boolean, enumerated, bit_string, octet_string, character_string, object_identifier}
+use Rattle.asn1_model.specs.Numbers.{is_count_within}
+use Rattle.asn1_model.specs.Form.{exactly, written, only_if, given}
+use Rattle.asn1_model.specs.Oer
+use Rattle.asn1_schema_presented.specs.Records.{Record, flag, nil, whole, one_of, bits, octets, characters, identifier, list_begins, bag_begins, further, sequence_begins, set_begins, group_begins, mark, is_default, is_empty, additions_begin, addition, addition_ends, choice_begins, ends, mismatch}
+
+-- An open scope.
+pub data Scope : Type 0 where
+  -- a sequence, set or group: whether it has a mark of extensibility, how many presence bits are due, those that are there, and the octets in
+  -- front of it
+  components : Bool → ℕ → List Bool → List ℕ → Scope
+  -- behind the root of such a type with a mark: how many additions are due, the presence bits, the root's octets, each addition's octets,
+  -- and the octets in front of the sequence
+  added : ℕ → List Bool → List ℕ → List (Option (List ℕ)) → List ℕ → Scope
+  -- an addition, or an added alternative: its octets stand alone, and those in front are these
+  open_type : List ℕ → Scope
+  -- a list: how many members are due
+  members : ℕ → Scope
+  -- an alternative of the root
+  alternative : Scope
+
+abbrev pub State : Type 0
+State = List ℕ × List Scope
+
+-- A text is added to the innermost open scope, if there is one.
+abbrev pub adds_text : Option (List ℕ) → State → Option State
+adds_text o s = option_map (λ w. (s.0 ++ w, s.1)) o
+
+abbrev pub marked_on : Bool → ℕ → List Bool → List ℕ → List ℕ → List Scope → Bool → Option State
+marked_on e zero ms front os k b = None
+marked_on e (suc n) ms front os k b = Some (os, components e n (ms ++ b ∷ []) front ∷ k)
+
+abbrev pub marked : Bool → List ℕ → List Scope → Option State
+marked b os (components e n ms front ∷ k) = marked_on e n ms front os k b
+marked b os k = None
+
+abbrev pub counted_on : ℕ → List ℕ → List Scope → Bool → Option State
+counted_on zero os k true = None
+counted_on zero os k false = Some (os, members zero ∷ k)
+counted_on (suc n) os k true = Some (os, members n ∷ k)
+counted_on (suc n) os k false = None
+
+abbrev pub goes_on : Bool → List ℕ → List Scope → Option State
+goes_on b os (members n ∷ k) = counted_on n os k b
+goes_on b os k = None
+
+-- The end of a type without additions: its form is that of the definitions, around the octets of its root.
+abbrev pub closed : Bool → ℕ → List Bool → List ℕ → List ℕ → List Scope → Option State
+closed false zero ms front os k = adds_text (written (Oer.sequence_form false ms (exactly os) []) 0) (front, k)
+closed e n ms front os k = None
+
+-- So is the end of one with additions.
+abbrev pub closed_added : ℕ → List Bool → List ℕ → List (Option (List ℕ)) → List ℕ → List Scope → Option State
+closed_added zero ms root slots front k = adds_text (written (Oer.sequence_form true ms (exactly root) (map (λ o. option_map (λ w. exactly w) o) slots)) 0) (front, k)
+closed_added n ms root slots front k = None
+
+abbrev pub ended : List ℕ → List Scope → Option State
+ended os (components e n ms front ∷ k) = closed e n ms front os k
+ended os (added n ms root slots front ∷ k) = closed_added n ms root slots front k
+ended os (open_type front ∷ k) = adds_text (written (Oer.counted os) 0) (front, k)
+ended os (members zero ∷ k) = Some (os, k)
+ended os (alternative ∷ k) = Some (os, k)
+ended os k = None
+
+-- Behind the root components of a type with a mark come the additions.
+abbrev pub rooted : Bool → ℕ → List Bool → List ℕ → List ℕ → List Scope → ℕ → Option State
+rooted true zero ms front os k n = Some ([], added n ms os [] front ∷ k)
+rooted e due ms front os k n = None
+
+abbrev pub extended : ℕ → List ℕ → List Scope → Option State
+extended n os (components e due ms front ∷ k) = rooted e due ms front os k n
+extended n os k = None
+
+abbrev pub next_addition : ℕ → List Bool → List ℕ → List (Option (List ℕ)) → List ℕ → List ℕ → List Scope → Bool → Option State
+next_addition zero ms root slots front os k b = None
+next_addition (suc n) ms root slots front os k false = Some (os, added n ms root (slots ++ None ∷ []) front ∷ k)
+next_addition (suc n) ms root slots front os k true = Some ([], open_type os ∷ added n ms root slots front ∷ k)
+
+abbrev pub adds : Bool → List ℕ → List Scope → Option State
+adds b os (added n ms root slots front ∷ k) = next_addition n ms root slots front os k b
+adds b os k = None
+
+-- An addition's octets behind their number are kept for the end.
+abbrev pub added_one : List ℕ → List Scope → Option State
+added_one os (open_type front ∷ added n ms root slots before ∷ k) = option_map (λ w. (front, added n ms root (slots ++ Some w ∷ []) before ∷ k)) (written (Oer.counted os) 0)
+added_one os k = None
+
+-- The tag at a place.
+abbrev pub tag_at : ℕ → List Tag → Option Tag
+tag_at i [] = None
+tag_at zero (t ∷ ts) = Some t
+tag_at (suc i) (t ∷ ts) = tag_at i ts
+
+-- An alternative of the root stands behind its tag, an added one as an open type (X.696 20).
+abbrev pub chosen_on : Bool → List ℕ → State → Option State
+chosen_on false t s = Some (s.0 ++ t, alternative ∷ s.1)
+chosen_on true t s = Some ([], open_type (s.0 ++ t) ∷ s.1)
+
+-- One record.
+abbrev pub run : Record → State → Option State
+run (flag b) s = adds_text (written (Oer.form boolean (truth b)) 0) s
+run nil s = adds_text (Some []) s
+run (whole b h v) s = adds_text (written (Oer.integer_form b h v) 0) s
+run (one_of roots e adds v) s = adds_text (written (Oer.form (enumerated roots e adds) (item v)) 0) s
+run (bits z h bs) s = adds_text (written (Oer.form (bit_string z h) (bit_list bs)) 0) s
+run (octets z h os) s = adds_text (written (Oer.form (octet_string z h) (octet_list os)) 0) s
+run (characters k z a h cs) s = adds_text (written (Oer.form (character_string k z a h) (text cs)) 0) s
+run (identifier ns) s = adds_text (written (Oer.form object_identifier (arcs ns)) 0) s
+run (list_begins z h n) s = option_map (λ w. (s.0 ++ w, members n ∷ s.1)) (written (only_if (is_count_within h n) (Oer.unsigned n)) 0)
+run (further b) s = goes_on b s.0 s.1
+run (sequence_begins e n) s = Some ([], components e n [] s.0 ∷ s.1)
+run (set_begins e n) s = Some ([], components e n [] s.0 ∷ s.1)
+run (group_begins n) s = Some ([], components false n [] s.0 ∷ s.1)
+run (mark b) s = marked b s.0 s.1
+run (additions_begin n) s = extended n s.0 s.1
+run (addition b) s = adds b s.0 s.1
+run addition_ends s = added_one s.0 s.1
+run (choice_begins roots e others plus i) s = option_and_then (λ t. option_and_then (λ w. chosen_on plus w s) (written (Oer.tag_form t) 0)) (tag_at i (cond plus others roots))
+run ends s = ended s.0 s.1
+run r s = None
+
+-- Records one after another.
+abbrev pub runs : List Record → State → Option State
+runs [] s = Some s
+runs (r ∷ rs) s = option_and_then (λ m. runs rs m) (run r s)
