@@ -2,6 +2,7 @@ pub mod Binary
 pub mod Kept
 pub mod Packed
 pub mod Reading
+pub mod Refused
 pub mod Views
 pub mod Change
 pub mod Comparing

@@ -163,13 +163,24 @@ impl BitBuffer {
         if left == 0 {
             return Ok(());
         }
-        match self.push_whole(value, left) {
-            Ok(()) => Ok(()),
-            Err(error) => {
-                self.truncate(before);
-                Err(error)
-            }
+        let pushed = self.push_whole(value, left);
+        self.cut_if_refused(before, pushed)
+    }
+
+    // Answers `added`, and keeps the first `len` bits alone where that is a refusal.
+    fn cut_if_refused(
+        &mut self,
+        len: usize,
+        added: Result<(), AllocError>,
+    ) -> Result<(), AllocError>
+        ensures same { result ≡ added }
+        ensures ok { OnOk result (self.new ≡ self.old) }
+        ensures err { OnErr result (self.new ≡ take len self.old) }
+    {
+        if added.is_err() {
+            self.truncate(len);
         }
+        added
     }
 
     // Fills the last octet with the first of the low `width` bits of a number, and answers how many are left.
@@ -249,46 +260,26 @@ impl BitBuffer {
         self.reserve_bytes(bits.len() / 8)?;
         let few = bits.len().min(free_bits(before) as usize);
         self.push_bits(bits.first_number(few as u32), few as u32)?;
-        match self.extend_whole(bits.split_at(few).1) {
-            Ok(()) => Ok(()),
-            Err(error) => {
-                self.truncate(before);
-                Err(error)
-            }
-        }
+        let extended = self.extend_whole(bits.split_at(few).1);
+        self.cut_if_refused(before, extended)
     }
 
-    // Adds the bits of a view behind whole octets, some octets at a time.
+    // Adds the bits of a view behind whole octets, some octets at a time. Where memory is refused, some of them may be there.
     fn extend_whole(&mut self, bits: BitStr<'_>) -> Result<(), AllocError>
         requires { 0 < length (bits_of bits) → length self.old % 8 ≡ 0 }
         ensures ok { OnOk result (self.new ≡ self.old ++ bits_of bits.entry) }
-        ensures err { OnErr result (self.new ≡ self.old) }
+        ensures err { OnErr result (take (length self.old) self.new ≡ self.old) }
     {
-        let before = self.len();
         let mut block = [0; BLOCK];
         let mut rest = bits;
         while rest.len() >= 8 {
             let count = (rest.len() / 8).min(BLOCK);
-            match self.push_block(rest, &mut block[..count]) {
-                Ok(()) => {}
-                Err(error) => {
-                    self.truncate(before);
-                    return Err(error);
-                }
-            }
+            self.push_block(rest, &mut block[..count])?;
             rest = rest.split_at(count * 8).1;
         }
         let left = rest.len() as u32;
-        if left == 0 {
-            return Ok(());
-        }
-        match self.push_whole(rest.first_number(left), left) {
-            Ok(()) => Ok(()),
-            Err(error) => {
-                self.truncate(before);
-                Err(error)
-            }
-        }
+        self.push_bits(rest.first_number(left), left)?;
+        Ok(())
     }
 
     // Adds the first bits of a view, as many as these octets have, behind whole octets.
@@ -319,13 +310,8 @@ impl BitBuffer {
         let before = self.len();
         let (octets, rest) = bits.whole_octets();
         self.extend_from_bytes(octets)?;
-        match self.extend_shifted(rest) {
-            Ok(()) => Ok(()),
-            Err(error) => {
-                self.truncate(before);
-                Err(error)
-            }
-        }
+        let extended = self.extend_shifted(rest);
+        self.cut_if_refused(before, extended)
     }
 
     /// Adds the bits of another buffer.
@@ -393,13 +379,8 @@ impl BitBuffer {
         let mut left = len - before;
         while left > 0 {
             let few = left.min(128);
-            match self.push_bits(value, few as u32) {
-                Ok(()) => {}
-                Err(error) => {
-                    self.truncate(before);
-                    return Err(error);
-                }
-            }
+            let pushed = self.push_bits(value, few as u32);
+            self.cut_if_refused(before, pushed)?;
             left -= few;
         }
         Ok(())

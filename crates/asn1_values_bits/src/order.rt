@@ -1,8 +1,7 @@
 //! Lists of bits in their order: that of the first bit in which they differ, and a beginning before the whole.
 ghost use Rattle.std.specs.Prelude.{◌≡◌};
-ghost use mathlib.Core.Bool.{beq};
 ghost use Rattle.std.specs.Ordering.{bool_cmp};
-ghost use Rattle.std.specs.Cmp.Lexicographic.{slice_cmp, pointwise};
+ghost use Rattle.std.specs.Cmp.Lexicographic.{slice_cmp};
 ghost use Rattle.asn1_values_bits.specs.BitStr.{bits_of};
 
 use crate::bit_str::BitStr;
@@ -33,10 +32,4 @@ pub(crate) fn compare(a: BitStr<'_>, b: BitStr<'_>) -> Ordering
         return Ordering::Greater;
     }
     Ordering::Equal
-}
-
-pub(crate) fn same(a: BitStr<'_>, b: BitStr<'_>) -> bool
-    ensures { result ≡ pointwise beq (bits_of a.entry) (bits_of b.entry) }
-{
-    compare(a, b).is_eq()
 }

@@ -9,7 +9,7 @@ ghost use Rattle.asn1_values_bits.specs.BitOrder.{bits_equiv, bits_po, bits_tota
 
 use crate::bit_buffer::BitBuffer;
 use crate::bit_str::BitStr;
-use crate::order::{compare, same};
+use crate::order::compare;
 use std::cmp::Ordering;
 use std::fmt;
 use std::hash::{Hash, Hasher};
@@ -28,7 +28,7 @@ impl PartialEq for BitStr<'_> {
     ghost laws = { partial_equiv_from_equiv (on_equiv bits_of bits_equiv) };
 
     fn eq(&self, other: &Self) -> bool {
-        same(*self, *other)
+        compare(*self, *other).is_eq()
     }
 }
 
@@ -79,12 +79,8 @@ impl Hash for BitStr<'_> {
 impl fmt::Debug for BitStr<'_> {
     fn fmt<W: fmt::Write>(&self, f: &mut fmt::Formatter<W>) -> fmt::Result {
         for index in 0..self.len() {
-            let digit = if self.get(index) == Some(true) {
-                "1"
-            } else {
-                "0"
-            };
-            f.write_str(digit)?;
+            let bit = self.get(index) == Some(true);
+            f.write_str(if bit { "1" } else { "0" })?;
         }
         Ok(())
     }

@@ -9,7 +9,7 @@ use asn1_values_bits::{BitBuffer, BitStr};
 use asn1_values_numbers::Integer;
 
 /// A field that is to be written.
-#[derive(Clone, Copy)]
+#[derive(Clone, Copy, Debug)]
 pub enum FieldBits<'a> {
     /// Bits as they are.
     Bits(BitStr<'a>),

@@ -4,7 +4,7 @@ use asn1_values_bit_strings::BitString;
 use asn1_values_numbers::Integer;
 
 /// What a field that is to be read looks like.
-#[derive(Clone, Copy)]
+#[derive(Clone, Copy, Debug)]
 pub enum FieldShape<'a> {
     /// So many bits.
     Bits(usize),

@@ -8,6 +8,7 @@ use asn1_values_alphabets::CharacterAlphabet;
 use asn1_values_bits::{BitBuffer, BitReader, BitStr};
 use asn1_values_numbers::Integer;
 use std::alloc::Global;
+use std::process::Abort;
 use std::test::Fail;
 
 const NUMERIC: [u32; 11] = [32, 48, 49, 50, 51, 52, 53, 54, 55, 56, 57];
@@ -114,15 +115,24 @@ fn is_each(values: &[FieldValue]) -> bool {
 }
 
 /// The alphabet of digits and the whole number of that row; a request for memory that was refused is
-/// made once more.
-fn digits_and_number(alloc: Global) -> Result<(CharacterAlphabet, Integer), Fail> {
+/// made once more, and then `granted` is false.
+fn digits_and_number(
+    alloc: Global,
+    granted: &mut bool,
+) -> Result<(CharacterAlphabet, Integer), Fail> {
     let digits = match CharacterAlphabet::new(alloc, &NUMERIC, false) {
         Ok(digits) => digits,
-        Err(_) => CharacterAlphabet::new(alloc, &NUMERIC, false)?,
+        Err(_) => {
+            *granted = false;
+            CharacterAlphabet::new(alloc, &NUMERIC, false)?
+        }
     };
     let number = match Integer::from_signed_octets(alloc, &[1; 20]) {
         Ok(number) => number,
-        Err(_) => Integer::from_signed_octets(alloc, &[1; 20])?,
+        Err(_) => {
+            *granted = false;
+            Integer::from_signed_octets(alloc, &[1; 20])?
+        }
     };
     Ok((digits, number))
 }
@@ -287,7 +297,7 @@ fn faults_are_shown(rt: HostRuntime) -> Result<(), Fail> {
 #[test]
 fn every_kind_is_written_and_read(rt: HostRuntime) -> Result<(), Fail> {
     let alloc = rt.alloc();
-    let (digits, number) = digits_and_number(alloc)?;
+    let (digits, number) = digits_and_number(alloc, &mut true)?;
     let mut buffer = BitBuffer::new(alloc);
     write_each(&mut buffer, &digits, &number)?;
     assert_eq!(rt; buffer.len(), 183);
@@ -315,13 +325,14 @@ fn aligned_octets_are_read(rt: HostRuntime) -> Result<(), Fail> {
 }
 
 /// A request for memory that is refused is Memory, and then the buffer is as before, and the same call
-/// goes on from there.
-#[test]
-fn refused_memory_writes_nothing(rt: HostRuntime) -> Result<(), Fail> {
-    let (digits, number) = digits_and_number(rt.alloc())?;
-    let mut buffer = BitBuffer::new(rt.alloc());
+/// goes on from there. Whether none was refused.
+fn writes(rt: &impl Abort, alloc: Global) -> Result<bool, Fail> {
+    let mut granted = true;
+    let (digits, number) = digits_and_number(alloc, &mut granted)?;
+    let mut buffer = BitBuffer::new(alloc);
     for count in 0..8 {
         if let Err(fault) = write_each(&mut buffer, &digits, &number) {
+            granted = false;
             assert_eq!(rt; fault.kind, FieldFaultKind::Memory);
             assert_eq!(rt; buffer.len(), count * 183);
             assert!(rt; write_each(&mut buffer, &digits, &number).is_ok());
@@ -329,7 +340,7 @@ fn refused_memory_writes_nothing(rt: HostRuntime) -> Result<(), Fail> {
         assert_eq!(rt; buffer.len(), count * 183 + 183);
     }
     assert!(rt; buffer.as_bytes().starts_with(&ROW_OF_EACH[..22]));
-    Ok(())
+    Ok(granted)
 }
 
 /// A field that does not fit leaves nothing of those before it behind.
@@ -362,15 +373,15 @@ fn values_are_compared(rt: HostRuntime) -> Result<(), Fail> {
 }
 
 /// A request for memory that is refused is Memory, and then the reader is as before, and the same call
-/// goes on from there.
-#[test]
-fn refused_memory_reads_nothing(rt: HostRuntime) -> Result<(), Fail> {
-    let alloc = rt.alloc();
-    let (digits, _) = digits_and_number(alloc)?;
+/// goes on from there. Whether none was refused.
+fn reads(rt: &impl Abort, alloc: Global) -> Result<bool, Fail> {
+    let mut granted = true;
+    let (digits, _) = digits_and_number(alloc, &mut granted)?;
     let mut reader = BitReader::from_octets(&ROW_OF_EACH);
     let values = match read_each(alloc, &mut reader, &digits) {
         Ok(values) => values,
         Err(fault) => {
+            granted = false;
             assert_eq!(rt; fault.kind, FieldFaultKind::Memory);
             assert_eq!(rt; reader.len(), 184);
             read_each(alloc, &mut reader, &digits)?
@@ -378,5 +389,19 @@ fn refused_memory_reads_nothing(rt: HostRuntime) -> Result<(), Fail> {
     };
     assert!(rt; is_each(&values));
     assert_eq!(rt; reader.len(), 1);
+    Ok(granted)
+}
+
+#[test]
+fn refused_memory_changes_nothing(rt: HostRuntime) -> Result<(), Fail> {
+    let _written = writes(&rt, rt.alloc())?;
+    let _read = reads(&rt, rt.alloc())?;
+    Ok(())
+}
+
+#[test]
+fn ample_memory(rt: HostRuntime) -> Result<(), Fail> {
+    assert!(rt; writes(&rt, rt.alloc())?);
+    assert!(rt; reads(&rt, rt.alloc())?);
     Ok(())
 }

@@ -96,13 +96,15 @@ fn ample_numbers_of_twenty_octets(rt: HostRuntime) -> Result<(), Fail> {
         assert_eq!(rt; plain.to_unsigned_bytes_be().as_slice(), octets.as_slice());
         let kept = Integer::from_fewest_octets(vec![in alloc; octets[0]; 20]?);
         assert!(rt; kept == number);
+        let refusal = u8::try_from(kept).err().ok_or("no refusal")?;
+        assert!(rt; refusal.clone()?.into_original() == number);
     }
     let short = Integer::from_fewest_octets(vec![in alloc; 0x80; 1]?);
     assert!(rt; short == Integer::from(-128i16));
     Ok(())
 }
 
-// Either the number of the octets, which is then copied, or want of memory and nothing else.
+// Either the number of the octets, which is then copied alone and in a refusal, or want of memory and nothing else.
 fn is_read_or_refused(rt: &impl Abort, read: Result<Integer, IntegerError>, octets: &[u8]) -> bool {
     let Ok(number) = read else {
         return matches!(read, Err(IntegerError::Memory));
@@ -111,7 +113,15 @@ fn is_read_or_refused(rt: &impl Abort, read: Result<Integer, IntegerError>, octe
         Ok(same) => assert!(rt; same == number),
         Err(AllocError) => {}
     }
-    number.to_unsigned_bytes_be().as_slice() == octets
+    let is_read = number.to_unsigned_bytes_be().as_slice() == octets;
+    let Err(refusal) = u8::try_from(number) else {
+        return false;
+    };
+    match refusal.clone() {
+        Ok(same) => assert!(rt; same == refusal),
+        Err(AllocError) => {}
+    }
+    is_read
 }
 
 // Each refused request for memory gives want of memory, and nothing else.

@@ -255,12 +255,15 @@ fn ample_memory(rt: HostRuntime) {
     assert!(rt; copies(&rt, rt.alloc()));
 }
 
-/// Makes strings of vectors. A refused vector is handed back as it was. Whether none was refused for want of memory.
+/// Makes strings of vectors and gives the vectors back. A refused vector is handed back as it was. Whether none was refused for want of memory.
 fn moves(rt: &impl Abort, alloc: Global) -> bool {
     let mut granted = true;
     match OCTETS.to_vec(alloc) {
         Ok(vector) => match OctetString::from_vec(vector) {
-            Ok(moved) => assert_eq!(rt; moved.as_slice(), OCTETS.as_slice()),
+            Ok(moved) => match moved.into_vec(alloc) {
+                Ok(octets) => assert_eq!(rt; octets.as_slice(), OCTETS.as_slice()),
+                Err(AllocError) => granted = false,
+            },
             Err(refused) => {
                 granted = false;
                 assert_eq!(rt; refused.value.as_slice(), OCTETS.as_slice());

@@ -230,6 +230,12 @@ fn is_whole(
     }
 }
 
+/// The string of a vector of these octets.
+fn of_vector(alloc: Global, octets: &[u8]) -> Result<BmpString, PermittedAlphabetError> {
+    let octets = Vec::from_slice(alloc, octets).map_err(PermittedAlphabetError::Memory)?;
+    BmpString::try_from(octets)
+}
+
 /// Makes strings of what is lent and of what is given up: each answer is whole, or refused. Whether none was refused.
 fn makes(rt: &impl Abort, alloc: Global) -> bool {
     let mut granted = is_whole(rt, BmpString::from_bytes(alloc, &[0x20, 0xAC]), &[0x20AC]);
@@ -237,6 +243,7 @@ fn makes(rt: &impl Abort, alloc: Global) -> bool {
     granted &= is_whole(rt, of_string(alloc, "\u{20AC}"), &[0x20AC]);
     let octets = OctetString::from_static(&[0x20, 0xAC]);
     granted &= is_whole(rt, BmpString::from_octet_string(alloc, octets), &[0x20AC]);
+    granted &= is_whole(rt, of_vector(alloc, &[0x20, 0xAC]), &[0x20AC]);
     granted &= is_whole(rt, of_zeros(alloc, 16), &[0]);
     granted
 }
