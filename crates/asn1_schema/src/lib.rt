@@ -11,6 +11,6 @@ pub use asn1_schema_faults::{CodecKind, DecodeError, EncodeError};
 pub use asn1_schema_fields::{Field, FieldPresence, Fields, OptionalAndDefaultFields};
 pub use asn1_schema_tags::{Class, Identifier, Tag, TagTree, Variants};
 pub use asn1_schema_wrapped::{
-    Any, Explicit, Implicit, InnerSubtypeConstraint, InnerSubtypeConstraintError, InstanceOf,
+    Any, Explicit, Implicit, InnerSubtypeConstraint, InnerSubtypeConstraintError, InstanceOf, Open,
     SequenceOf, UniversalString, Utf8String, tag,
 };

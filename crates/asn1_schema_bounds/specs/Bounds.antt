@@ -30,6 +30,10 @@ range_of b = record { low = lower b; high = upper b }
 abbrev pub counts_of : Bounded ℕ → Counts
 counts_of b = record { low = unwrap_or (lower b) 0; high = upper b }
 
+-- How many members a type of the program holds: where no bound is given, as many as 64 bits count.
+abbrev pub members_of : Bounded ℕ → Counts
+members_of b = record { low = unwrap_or (lower b) 0; high = Some (unwrap_or (upper b) (2 ^ 64 - 1)) }
+
 -- There is one size alone: the greatest is the least, which is 0 where none is given (X.680 51.5).
 abbrev pub is_one_size : Bounded ℕ → Bool
 is_one_size b = is_fixed_at (counts_of b) (upper b)

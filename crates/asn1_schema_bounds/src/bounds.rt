@@ -7,7 +7,7 @@ ghost use Rattle.asn1_values_natives.specs.Ranges.{whole_range};
 ghost use Rattle.std.specs.Int.{w128};
 ghost use Rattle.std.specs.Option.{option_copied, ForSome};
 ghost use Rattle.asn1_model.specs.Numbers.{is_at_most, is_within, is_count_within};
-ghost use Rattle.asn1_schema_bounds.specs.Bounds.{lower, upper, range_of, counts_of, IsSpan, counted, later, earlier, between, meet, common, CanOffset, CanOffsetCount, effective, effective_count, admits_number, admits_count, are_admitting};
+ghost use Rattle.asn1_schema_bounds.specs.Bounds.{lower, upper, range_of, counts_of, members_of, IsSpan, counted, later, earlier, between, meet, common, CanOffset, CanOffsetCount, effective, effective_count, admits_number, admits_count, are_admitting};
 ghost use Rattle.asn1_schema_bounds.specs.Texts.{bounds_text};
 
 use asn1_values_integer_types::IntegerType;
@@ -358,6 +358,13 @@ impl Bounded<usize> {
             (None, Some(high)) => *element <= *high,
             (None, None) => true,
         }
+    }
+
+    /// Whether a type of the program with these bounds holds so many members (X.680 51.5).
+    pub fn holds(&self, count: usize) -> bool
+        ensures { result ≡ is_count_within (members_of self.now) count }
+    {
+        self.contains(&count)
     }
 
     /// How a count is written under the bounds: less the start of a range that has one, else as it is. The

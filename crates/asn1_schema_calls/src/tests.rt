@@ -1,10 +1,9 @@
 //! Values of each generic implementation, to the encoder that keeps records.
 use crate::pair::Pair;
 use crate::up_to_ten::UpToTen;
-use asn1_schema_decode::Decode;
 use asn1_schema_encode::Encode;
-use asn1_schema_faults::{CodecKind, DecodeError, EncodeError};
-use asn1_schema_records::{Item, RecordDecoder, RecordEncoder};
+use asn1_schema_faults::CodecKind;
+use asn1_schema_records::{Item, RecordEncoder};
 use asn1_schema_tags::Tag;
 use asn1_schema_types::AsnType;
 use asn1_schema_wrapped::{Constrained, Explicit, Implicit, tag};
@@ -192,40 +191,4 @@ fn values_are_written_under_constraints_of_their_own(rt: HostRuntime) {
     let mut value = Constrained::<UpToTen, u8>::new(7);
     *value = 8;
     assert!(rt; is_up_to_ten(&records_of(rt.alloc(), &value), 8));
-}
-
-// A value, read back from the records of another.
-fn read_back<A: Encode, B: Decode>(alloc: Global, value: &A) -> Result<B, DecodeError> {
-    let mut encoder = RecordEncoder::new(alloc, CodecKind::Coer);
-    match value.encode(&mut encoder) {
-        Ok(()) => B::decode(
-            alloc,
-            &mut RecordDecoder::new(encoder.into_items(), CodecKind::Coer),
-        ),
-        Err(EncodeError::OutOfMemory) => Err(DecodeError::OutOfMemory),
-        Err(_) => Err(DecodeError::AlreadyFailed),
-    }
-}
-
-#[test]
-fn arrays_are_read_back(rt: HostRuntime) -> Result<(), Fail> {
-    let alloc = rt.alloc();
-    let numbers: [u8; 2] = [3, 5];
-    let two: [u8; 2] = read_back(alloc, &numbers)?;
-    assert!(rt; two[0] == 3 && two[1] == 5);
-    let three: Result<[u8; 3], DecodeError> = read_back(alloc, &numbers);
-    assert_eq!(rt; three.err(), Some(DecodeError::SizeConstraintNotSatisfied));
-    Ok(())
-}
-
-#[test]
-fn tagged_and_boxed_values_are_read_back(rt: HostRuntime) -> Result<(), Fail> {
-    let alloc = rt.alloc();
-    let tagged: Implicit<tag::Context<1>, u8> = read_back(alloc, &7_u8)?;
-    assert_eq!(rt; tagged.value, 7);
-    let explicit: Explicit<tag::Private<2>, u8> = read_back(alloc, &7_u8)?;
-    assert_eq!(rt; explicit.value, 7);
-    let boxed: Box<u8> = read_back(alloc, &7_u8)?;
-    assert_eq!(rt; *boxed, 7);
-    Ok(())
 }

@@ -2,3 +2,4 @@ pub mod Reading
 pub mod SingleRecords
 pub mod Listing
 pub mod Ranges
+pub mod Marking

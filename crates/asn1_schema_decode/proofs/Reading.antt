@@ -5,7 +5,7 @@ use Rattle.asn1_model.specs.Schema.{Tag, Presence, required, by_default, Schema,
 use Rattle.asn1_model.specs.Normal.{normal, normal_parts, is_at_default, is_group_left_out}
 use Rattle.asn1_model.specs.Tables.{is_required}
 use Rattle.asn1_schema_faults.specs.declared.DecodeError.{DecodeError}
-use Rattle.asn1_schema_presented.specs.Records.{Record, sequence_begins, mark, is_default, ends, asks_sequence, asks_mark, asks_default, asks_end}
+use Rattle.asn1_schema_presented.specs.Records.{Record, sequence_begins, mark, is_default, ends, asks_sequence, asks_mark, asks_end}
 use Rattle.asn1_schema_presented.specs.Presents.{Part, left_out, there, with_part, presents, part_records, noted, root_records, added_records, optional_count, Fits, PartFits, PartsFit}
 use Rattle.asn1_schema_presented.specs.Parts.{part_unless, tail_records, TailFits}
 use Rattle.asn1_schema_presented.specs.Tables.{Table, no_table, with_field, components_at, marks, scope, sequence_type, IsType, IsValue}
@@ -124,22 +124,6 @@ module _ {S : Type 0} {step : S → Record → S → Type 0} where
       ];
     }
 
-    -- a default that may not be spelled out
-    pub unread_spelled : (o : Presence) {s : ℕ → Schema} {n : ℕ} {v : Value} {a b c : S} {x : DecodeError} → is_required o ≡ false → step a (mark true) b → (r : Reads step s n v b c) → is_at_default o (s n) r.raw ≡ true → NoRecord step asks_default c x → UnreadPart step o s n a x
-    unread_spelled o {s} {n} {v} {a} {b} {c} r m h e u = record {
-      none = λ w p d. elim p as (λ p. PartFits (λ v. Fits (s n) v) o p → Chain step (part_records (λ v. presents (s n) v) o (s n) p) a d → ⊥) [
-        | left_out ↦ λ f q. let q' : Chain step (mark false ∷ []) a d = rw r at q in let z : mark false ≡ mark true = (one a (mark false) (mark true) q'.0 b refl q'.1 m).0 in cc
-        | there y ↦ λ f q. let q' : Chain step (mark true ∷ (presents (s n) y ++ noted o (s n) y)) a d = rw r at q in
-            let i = (one a (mark true) (mark true) q'.0 b refl q'.1 m).1 in
-            let j = chain_split step (presents (s n) y) (noted o (s n) y) b d (subst (λ (z : S). Chain step (presents (s n) y ++ noted o (s n) y) z d) i q'.2) in
-            let k = one_value one (s n) y h.raw b j.0 c f h.fits j.1 h.chain in
-            let l = subst (λ (z : S). Chain step (noted o (s n) y) z d) k.1 j.2 in
-            let l' : Chain step (noted o (s n) h.raw) c d = subst (λ (z : Value). Chain step (noted o (s n) z) c d) k.0 l in
-            let l'' : Chain step (is_default ∷ []) c d = rw e at l' in
-            u.none w is_default l''.0 refl l''.1
-      ];
-    }
-
     pub unread_field : (ts : List Tag) {o : Presence} {s : ℕ → Schema} {t : Table} {n : ℕ} {x : Part} {a b : S} {y : DecodeError} → ReadsPart step o s n x a b → UnreadTail step t n b y → UnreadTail step (with_field ts o s t) n a y
     unread_field ts {o} {s} {t} {n} {x} {a} {b} h k = record {
       none = λ w ps qs c f p.
@@ -168,9 +152,6 @@ module _ {S : Type 0} {step : S → Record → S → Type 0} {s : ℕ → Schema
 
   pub reads_equal : {v : Value} {a b c x : S} {e : Bool} → IsValue s d → e ≡ same v d → e ≡ true → step a (mark true) b → Reads step s n v b c → step c is_default x → ReadsPart step (by_default d) s n (part_unless (same v d) v) a x
   reads_equal k h f m r z = rw (sym h ∙ f) (reads_spelled (by_default d) refl m r (at_default k h r ∙ f) z)
-
-  pub unread_equal : OneRecord step → {v : Value} {a b c : S} {e : Bool} {x : DecodeError} → IsValue s d → e ≡ same v d → e ≡ true → step a (mark true) b → Reads step s n v b c → NoRecord step asks_default c x → UnreadPart step (by_default d) s n a x
-  unread_equal one k h f m r u = unread_spelled one (by_default d) refl m r (at_default k h r ∙ f) u
 
 -- another spelling of the same type
 pub reads_as : {S : Type 0} {step : S → Record → S → Type 0} (s t : ℕ → Schema) {n : ℕ} {v : Value} {a b : S} → ((n : ℕ) → t n ≡ s n) → Reads step s n v a b → Reads step t n v a b

@@ -1,13 +1,13 @@
 -- How the states of a decoder go.
-use Rattle.std.specs.Prelude.{◌≡◌, ◌<◌, ℕ, true, List}
-use Rattle.asn1_model.specs.Value.{Value, Values, Parts, map_members}
+use Rattle.std.specs.Prelude.{◌≡◌, ◌<◌, ℕ, true, false}
+use Rattle.asn1_model.specs.Value.{Value, Values, Parts, map_members, same}
 use Rattle.asn1_model.specs.Schema.{Presence, Counts, Schema}
 use Rattle.asn1_model.specs.Numbers.{is_count_within}
 use Rattle.asn1_model.specs.Normal.{normal, normal_parts}
 use Rattle.asn1_schema_faults.specs.declared.DecodeError.{DecodeError}
 use Rattle.asn1_schema_faults.specs.declared.DecodeError.TheVariants.{OutOfMemory}
-use Rattle.asn1_schema_presented.specs.Records.{Record, Question, question}
-use Rattle.asn1_schema_presented.specs.Presents.{Part, presents, part_records, member_records, member_count, Fits, PartFits, AllFit}
+use Rattle.asn1_schema_presented.specs.Records.{Record, Question, question, mark, is_default}
+use Rattle.asn1_schema_presented.specs.Presents.{Part, left_out, there, presents, part_records, member_records, member_count, Fits, PartFits, AllFit}
 use Rattle.asn1_schema_presented.specs.Tables.{Table, components_at}
 use Rattle.asn1_schema_presented.specs.Chains.{Chain}
 use Rattle.asn1_schema_presented.specs.Parts.{normal_part, tail_records, TailFits}
@@ -44,6 +44,29 @@ pub record ReadsPart {S : Type 0} (step : S → Record → S → Type 0) (o : Pr
 
 pub record UnreadPart {S : Type 0} (step : S → Record → S → Type 0) (o : Presence) (schema : ℕ → Schema) (n : ℕ) (old : S) (x : DecodeError) : Type 0 where
   pub none : ¬ (x ≡ OutOfMemory) → (p : Part) (new : S) → PartFits (λ v. Fits (schema n) v) o p → Chain step (part_records (λ v. presents (schema n) v) o (schema n) p) old new → ⊥
+
+-- One that may be absent is marked as there, and the records of its value follow.
+pub record ReadsMarked {S : Type 0} (step : S → Record → S → Type 0) (schema : ℕ → Schema) (n : ℕ) (v : Value) (old new : S) : Type 0 where
+  pub marked : S
+  pub marks : step old (mark true) marked
+  pub reads : Reads step schema n v marked new
+
+-- One that may be absent, there or not.
+abbrev pub ReadsOptional : {S : Type 0} → (S → Record → S → Type 0) → (ℕ → Schema) → ℕ → Part → S → S → Type 0
+ReadsOptional step schema n left_out old new = step old (mark false) new
+ReadsOptional step schema n (there v) old new = ReadsMarked step schema n v old new
+
+pub record UnreadOptional {S : Type 0} (step : S → Record → S → Type 0) (schema : ℕ → Schema) (n : ℕ) (old : S) (x : DecodeError) : Type 0 where
+  pub none : ¬ (x ≡ OutOfMemory) → (p : Part) (new : S) → ReadsOptional step schema n p old new → ⊥
+
+-- One with the default d: it is left out, or spelled out, which is noted, or of another value.
+pub data ReadsDefault {S : Type 0} (step : S → Record → S → Type 0) (schema : ℕ → Schema) (n : ℕ) (d v : Value) (old new : S) : Type 0 where
+  omitted : v ≡ d → step old (mark false) new → ReadsDefault step schema n d v old new
+  spelled_out : same v d ≡ true → (behind : S) → ReadsMarked step schema n v old behind → step behind is_default new → ReadsDefault step schema n d v old new
+  other_value : same v d ≡ false → ReadsMarked step schema n v old new → ReadsDefault step schema n d v old new
+
+pub record UnreadDefault {S : Type 0} (step : S → Record → S → Type 0) (schema : ℕ → Schema) (n : ℕ) (d : Value) (old : S) (x : DecodeError) : Type 0 where
+  pub none : ¬ (x ≡ OutOfMemory) → (v : Value) (new : S) → ReadsDefault step schema n d v old new → ⊥
 
 -- The same of what is left of a sequence.
 pub record ReadsTail {S : Type 0} (step : S → Record → S → Type 0) (t : Table) (n : ℕ) (ps qs : Parts) (old new : S) : Type 0 where

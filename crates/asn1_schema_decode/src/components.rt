@@ -4,14 +4,15 @@ ghost use Rattle.asn1_model.specs.Value.{fields, same};
 ghost use Rattle.asn1_model.specs.Schema.{optional, by_default};
 ghost use Rattle.asn1_schema_presented.specs.Tables.{marks, sequence_type};
 ghost use Rattle.asn1_schema_presented.specs.Parts.{part_of, part_unless};
-ghost use Rattle.asn1_schema_decode.specs.Reads.{Stopped, Reads, Unread, ReadsPart, UnreadPart, ReadsTail, UnreadTail};
+ghost use Rattle.asn1_schema_decode.specs.Reads.{Stopped, Reads, Unread, ReadsPart, UnreadPart, ReadsOptional, UnreadOptional, ReadsDefault, UnreadDefault, ReadsTail, UnreadTail};
 
 use crate::decode::{Decode, Decoder};
-use asn1_schema_faults::DecodeError;
-use asn1_schema_tags::Tag;
-use asn1_schema_types::{
+use asn1_schema_components::{
     ComponentsOf, DefaultOf, DefaultedComponent, End, OptionalComponent, RequiredComponent,
 };
+use asn1_schema_constraints::Constraints;
+use asn1_schema_faults::DecodeError;
+use asn1_schema_tags::Tag;
 use std::alloc::Global;
 use std::marker::PhantomData;
 
@@ -70,12 +71,83 @@ pub trait DecodeSequence: Decoder {
         ensures failed { IfErr result (Stopped Self.has_failed self.new) }
         ensures already { Self.has_failed self.old → result ≡ Err DecodeError.AlreadyFailed }
     {
+        self.decode_optional_with_tag(alloc, T::TAG)
+    }
+
+    /// The same with another tag.
+    final fn decode_optional_with_tag<T: Decode>(
+        &mut self,
+        alloc: Global,
+        tag: Tag,
+    ) -> Result<Option<T>, DecodeError>
+    where
+        Self: Sized,
+        ensures ok { IfOk result (λ x. ReadsPart Self.step optional T.schema (Self.levels self.old) (part_of T.meaning x) self.old self.new) }
+        ensures level { OnOk result (Self.levels self.new ≡ Self.levels self.old) }
+        ensures only { IfErr result (UnreadPart Self.step optional T.schema (Self.levels self.old) self.old) }
+        ensures failed { IfErr result (Stopped Self.has_failed self.new) }
+        ensures already { Self.has_failed self.old → result ≡ Err DecodeError.AlreadyFailed }
+    {
+        let value = self.decode_optional_with_tag_and_constraints(alloc, tag, T::constraints())?;
+        Ok(value)
+    }
+
+    /// The same under these constraints.
+    final fn decode_optional_with_constraints<T: Decode>(
+        &mut self,
+        alloc: Global,
+        constraints: Constraints,
+    ) -> Result<Option<T>, DecodeError>
+    where
+        Self: Sized,
+        ensures ok { IfOk result (λ x. ReadsOptional Self.step (T.under constraints.entry) (Self.levels self.old) (part_of T.meaning x) self.old self.new) }
+        ensures level { OnOk result (Self.levels self.new ≡ Self.levels self.old) }
+        ensures only { IfErr result (UnreadOptional Self.step (T.under constraints.entry) (Self.levels self.old) self.old) }
+        ensures failed { IfErr result (Stopped Self.has_failed self.new) }
+        ensures already { Self.has_failed self.old → result ≡ Err DecodeError.AlreadyFailed }
+    {
+        self.decode_optional_with_tag_and_constraints(alloc, T::TAG, constraints)
+    }
+
+    /// The same with another tag, under these constraints.
+    final fn decode_optional_with_tag_and_constraints<T: Decode>(
+        &mut self,
+        alloc: Global,
+        tag: Tag,
+        constraints: Constraints,
+    ) -> Result<Option<T>, DecodeError>
+    where
+        Self: Sized,
+        ensures ok { IfOk result (λ x. ReadsOptional Self.step (T.under constraints.entry) (Self.levels self.old) (part_of T.meaning x) self.old self.new) }
+        ensures level { OnOk result (Self.levels self.new ≡ Self.levels self.old) }
+        ensures only { IfErr result (UnreadOptional Self.step (T.under constraints.entry) (Self.levels self.old) self.old) }
+        ensures failed { IfErr result (Stopped Self.has_failed self.new) }
+        ensures already { Self.has_failed self.old → result ≡ Err DecodeError.AlreadyFailed }
+    {
         let present = self.get_mark()?;
         if !present {
             return Ok(None);
         }
-        let value = T::decode(alloc, self)?;
+        let value = T::decode_with_tag_and_constraints(alloc, self, tag, constraints)?;
         Ok(Some(value))
+    }
+
+    /// A component that may be absent, with another tag around its own (X.680 31.2.8), which leaves no octet in the
+    /// packed and the octet encoding rules.
+    final fn decode_optional_with_explicit_prefix<T: Decode>(
+        &mut self,
+        alloc: Global,
+        _tag: Tag,
+    ) -> Result<Option<T>, DecodeError>
+    where
+        Self: Sized,
+        ensures ok { IfOk result (λ x. ReadsPart Self.step optional T.schema (Self.levels self.old) (part_of T.meaning x) self.old self.new) }
+        ensures level { OnOk result (Self.levels self.new ≡ Self.levels self.old) }
+        ensures only { IfErr result (UnreadPart Self.step optional T.schema (Self.levels self.old) self.old) }
+        ensures failed { IfErr result (Stopped Self.has_failed self.new) }
+        ensures already { Self.has_failed self.old → result ≡ Err DecodeError.AlreadyFailed }
+    {
+        self.decode_optional(alloc)
     }
 
     /// A component with a default, which stands for it where it is absent (X.680 25). One that is there and
@@ -93,12 +165,69 @@ pub trait DecodeSequence: Decoder {
         ensures failed { IfErr result (Stopped Self.has_failed self.new) }
         ensures already { Self.has_failed self.old → result ≡ Err DecodeError.AlreadyFailed }
     {
+        self.decode_default_with_tag::<V, T>(alloc, T::TAG)
+    }
+
+    /// The same with another tag.
+    final fn decode_default_with_tag<V: DefaultOf<T>, T: Decode>(
+        &mut self,
+        alloc: Global,
+        tag: Tag,
+    ) -> Result<T, DecodeError>
+    where
+        Self: Sized,
+        ensures ok { IfOk result (λ x. ReadsPart Self.step (by_default V.value) T.schema (Self.levels self.old) (part_unless (same (T.meaning x) V.value) (T.meaning x)) self.old self.new) }
+        ensures level { OnOk result (Self.levels self.new ≡ Self.levels self.old) }
+        ensures only { IfErr result (UnreadPart Self.step (by_default V.value) T.schema (Self.levels self.old) self.old) }
+        ensures failed { IfErr result (Stopped Self.has_failed self.new) }
+        ensures already { Self.has_failed self.old → result ≡ Err DecodeError.AlreadyFailed }
+    {
+        let value = self.decode_default_with_tag_and_constraints::<V, T>(
+            alloc,
+            tag,
+            T::constraints(),
+        )?;
+        Ok(value)
+    }
+
+    /// The same under these constraints.
+    final fn decode_default_with_constraints<V: DefaultOf<T>, T: Decode>(
+        &mut self,
+        alloc: Global,
+        constraints: Constraints,
+    ) -> Result<T, DecodeError>
+    where
+        Self: Sized,
+        ensures ok { IfOk result (λ x. ReadsDefault Self.step (T.under constraints.entry) (Self.levels self.old) V.value (T.meaning x) self.old self.new) }
+        ensures level { OnOk result (Self.levels self.new ≡ Self.levels self.old) }
+        ensures only { IfErr result (UnreadDefault Self.step (T.under constraints.entry) (Self.levels self.old) V.value self.old) }
+        ensures failed { IfErr result (Stopped Self.has_failed self.new) }
+        ensures already { Self.has_failed self.old → result ≡ Err DecodeError.AlreadyFailed }
+    {
+        self.decode_default_with_tag_and_constraints::<V, T>(alloc, T::TAG, constraints)
+    }
+
+    /// The same with another tag, under these constraints.
+    final fn decode_default_with_tag_and_constraints<V: DefaultOf<T>, T: Decode>(
+        &mut self,
+        alloc: Global,
+        tag: Tag,
+        constraints: Constraints,
+    ) -> Result<T, DecodeError>
+    where
+        Self: Sized,
+        ensures ok { IfOk result (λ x. ReadsDefault Self.step (T.under constraints.entry) (Self.levels self.old) V.value (T.meaning x) self.old self.new) }
+        ensures level { OnOk result (Self.levels self.new ≡ Self.levels self.old) }
+        ensures only { IfErr result (UnreadDefault Self.step (T.under constraints.entry) (Self.levels self.old) V.value self.old) }
+        ensures failed { IfErr result (Stopped Self.has_failed self.new) }
+        ensures already { Self.has_failed self.old → result ≡ Err DecodeError.AlreadyFailed }
+    {
         let is_there = self.get_mark()?;
         if !is_there {
             let default = V::default_value(alloc)?;
             return Ok(default);
         }
-        let value = T::decode(alloc, self)?;
+        let value = T::decode_with_tag_and_constraints(alloc, self, tag, constraints)?;
         let is_default = V::is_default(&value);
         if is_default {
             self.note_default()?;

@@ -7,7 +7,7 @@ ghost use Rattle.asn1_schema_faults.specs.declared.CodecKind.{CodecKind};
 ghost use Rattle.asn1_schema_presented.specs.Records.{Record, question, told, flag, nil, whole, bits, octets, characters, identifier, list_begins, further, sequence_begins, mark, is_default, ends};
 ghost use Rattle.asn1_schema_presented.specs.Records.{asks_flag, asks_nil, asks_whole, asks_bits, asks_octets, asks_characters, asks_identifier, asks_list, asks_further, asks_sequence, asks_mark, asks_default, asks_end};
 ghost use Rattle.asn1_model.specs.Numbers.{is_within, is_count_within};
-ghost use Rattle.asn1_schema_bounds.specs.Bounds.{counts_of};
+ghost use Rattle.asn1_schema_bounds.specs.Bounds.{counts_of, members_of};
 ghost use Rattle.asn1_schema_constraints.specs.Terms.{bounds_of, held_of, sizes_of, alphabet_of};
 ghost use Rattle.asn1_schema_decode.specs.Reads.{NoRecord, NoLevel, Stopped, Reads, Unread};
 
@@ -195,9 +195,9 @@ pub trait Decoder {
         constraints: Constraints,
         held: Bounded<usize>,
     ) -> Result<(), DecodeError>
-        ensures ok { OnOk result ((n : ℕ) → is_count_within (counts_of held) n ≡ true → step self.old (list_begins (sizes_of constraints.entry.size) (counts_of held) n) self.new) }
+        ensures ok { OnOk result ((n : ℕ) → is_count_within (members_of held) n ≡ true → step self.old (list_begins (sizes_of constraints.entry.size) (members_of held) n) self.new) }
         ensures level { OnOk result (levels self.old ≡ levels self.new + 1) }
-        ensures only { IfErr result (NoLevel step (asks_list (sizes_of constraints.entry.size) (counts_of held)) (levels self.old) self.old) }
+        ensures only { IfErr result (NoLevel step (asks_list (sizes_of constraints.entry.size) (members_of held)) (levels self.old) self.old) }
         ensures failed { OnErr result (has_failed self.new) }
         ensures already { has_failed self.old → result ≡ Err DecodeError.AlreadyFailed };
 
@@ -246,6 +246,11 @@ pub trait Decoder {
         ensures only { IfErr result (NoRecord step asks_end self.old) }
         ensures failed { OnErr result (has_failed self.new) }
         ensures already { has_failed self.old → result ≡ Err DecodeError.AlreadyFailed };
+
+    /// The decoder fails for this reason: what it has found does not stand in the program's type.
+    fn refuse(&mut self, error: DecodeError) -> DecodeError
+        ensures refused { result ≡ error }
+        ensures failed { has_failed self.new };
 
     /// Of the records that answer a question one at most is next, and at most one state stands after it.
     ghost one_record: { (a : Self) (r s : Record) (b c : Self) → question r ≡ question s → step a r b → step a s c → (told r ≡ told s) × (b ≡ c) };

@@ -3,7 +3,7 @@
 ghost use Rattle.std.specs.Prelude.{◌≡◌, ◌+◌, length, true, not, OnOk, IfOk, IfErr};
 ghost use Rattle.asn1_model.specs.Numbers.{is_count_to, is_count_within};
 ghost use Rattle.asn1_model.specs.Value.{members};
-ghost use Rattle.asn1_schema_bounds.specs.Bounds.{counts_of, upper};
+ghost use Rattle.asn1_schema_bounds.specs.Bounds.{members_of};
 ghost use Rattle.asn1_schema_constraints.specs.Terms.{sizes_of};
 ghost use Rattle.asn1_schema_presented.specs.Parts.{values_of};
 ghost use Rattle.asn1_schema_presented.specs.Tables.{list_type};
@@ -29,10 +29,10 @@ pub trait DecodeList: Decoder {
     ) -> Result<Vec<T>, DecodeError>
     where
         Self: Sized,
-        ensures ok { IfOk result (λ x. Reads Self.step (list_type (sizes_of constraints.entry.size) (counts_of held) T.schema) (Self.levels self.old) (members (values_of T.meaning x.items)) self.old self.new) }
-        ensures held { IfOk result (λ x. is_count_within (counts_of held) (length x.items) ≡ true) }
+        ensures ok { IfOk result (λ x. Reads Self.step (list_type (sizes_of constraints.entry.size) (members_of held) T.schema) (Self.levels self.old) (members (values_of T.meaning x.items)) self.old self.new) }
+        ensures held { IfOk result (λ x. is_count_within (members_of held) (length x.items) ≡ true) }
         ensures level { OnOk result (Self.levels self.new ≡ Self.levels self.old) }
-        ensures only { IfErr result (Unread Self.step (list_type (sizes_of constraints.entry.size) (counts_of held) T.schema) (Self.levels self.old) self.old) }
+        ensures only { IfErr result (Unread Self.step (list_type (sizes_of constraints.entry.size) (members_of held) T.schema) (Self.levels self.old) self.old) }
         ensures failed { IfErr result (Stopped Self.has_failed self.new) }
         ensures already { Self.has_failed self.old → result ≡ Err DecodeError.AlreadyFailed }
     {
@@ -51,23 +51,21 @@ fn members_within<T: Decode, D: Decoder>(
     held: Bounded<usize>,
 ) -> Result<Vec<T>, DecodeError>
     ensures ok { IfOk result (λ x. ReadsMembers D.step T.schema (D.levels decoder.old) (values_of T.meaning x.items) decoder.old decoder.new) }
-    ensures held { IfOk result (λ x. is_count_within (counts_of held) (length x.items) ≡ true) }
+    ensures held { IfOk result (λ x. is_count_within (members_of held) (length x.items) ≡ true) }
     ensures level { OnOk result (D.levels decoder.new ≡ D.levels decoder.old + 1) }
-    ensures only { IfErr result (UnreadMembers D.step T.schema (D.levels decoder.old) (counts_of held) decoder.old) }
+    ensures only { IfErr result (UnreadMembers D.step T.schema (D.levels decoder.old) (members_of held) decoder.old) }
     ensures failed { IfErr result (Stopped D.has_failed decoder.new) }
 {
     let mut items = Vec::new(alloc);
     while decoder.get_further()? {
         if is_full(held, items.len()) {
-            refuse(alloc, decoder);
-            return Err(DecodeError::SizeConstraintNotSatisfied);
+            return Err(decoder.refuse(DecodeError::SizeConstraintNotSatisfied));
         }
         let item = T::decode(alloc, decoder)?;
         items.push(item)?;
     }
-    if !held.contains(&items.len()) {
-        refuse(alloc, decoder);
-        return Err(DecodeError::SizeConstraintNotSatisfied);
+    if !held.holds(items.len()) {
+        return Err(decoder.refuse(DecodeError::SizeConstraintNotSatisfied));
     }
     decoder.end()?;
     Ok(items)
@@ -75,18 +73,10 @@ fn members_within<T: Decode, D: Decoder>(
 
 // Whether one more than this count is above bounds.
 fn is_full(held: Bounded<usize>, count: usize) -> bool
-    ensures { result ≡ not (is_count_to (upper held) (count + 1)) }
+    ensures { result ≡ not (is_count_to ((members_of held).high) (count + 1)) }
 {
     match held.as_end() {
         Some(end) => *end <= count,
-        None => false,
+        None => count == usize::MAX,
     }
-}
-
-// The decoder fails: it is asked for octets whose number no number is.
-fn refuse<D: Decoder>(alloc: Global, decoder: &mut D)
-    ensures { D.has_failed decoder.new }
-{
-    let none = Bounded::const_new(1, 0);
-    let _octets = decoder.decode_octet_string(alloc, Tag::OCTET_STRING, Constraints::NONE, none);
 }

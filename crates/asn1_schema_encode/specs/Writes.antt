@@ -1,10 +1,10 @@
 -- How the states of an encoder go, by its relation between what it holds before a record and after it.
-use Rattle.std.specs.Prelude.{◌≡◌, ℕ}
+use Rattle.std.specs.Prelude.{◌≡◌, ℕ, Bool, true, false}
 use Rattle.asn1_model.specs.Value.{Value, Values, Parts}
 use Rattle.asn1_model.specs.Schema.{Presence, Schema}
 use Rattle.asn1_schema_faults.specs.declared.EncodeError.{EncodeError}
 use Rattle.asn1_schema_faults.specs.declared.EncodeError.TheVariants.{OutOfMemory}
-use Rattle.asn1_schema_presented.specs.Records.{Record}
+use Rattle.asn1_schema_presented.specs.Records.{Record, mark}
 use Rattle.asn1_schema_presented.specs.Presents.{Part, presents, part_records, member_records, Fits, PartFits, AllFit}
 use Rattle.asn1_schema_presented.specs.Tables.{Table}
 use Rattle.asn1_schema_presented.specs.Chains.{Chain}
@@ -28,6 +28,24 @@ pub record WritesPart {S : Type 0} (step : S → Record → S → Type 0) (o : P
 
 pub record CannotWritePart {S : Type 0} (step : S → Record → S → Type 0) (o : Presence) (schema : ℕ → Schema) (x : Part) (old : S) (e : EncodeError) : Type 0 where
   pub none : ¬ (e ≡ OutOfMemory) → (n : ℕ) (new : S) → PartFits (λ v. Fits (schema n) v) o x → Chain step (part_records (λ v. presents (schema n) v) o (schema n) x) old new → ⊥
+
+-- One that may be absent is marked as there, and the records of its value follow.
+pub record WritesMarked {S : Type 0} (step : S → Record → S → Type 0) (schema : ℕ → Schema) (v : Value) (old new : S) : Type 0 where
+  pub marked : S
+  pub marks : step old (mark true) marked
+  pub writes : Writes step schema v marked new
+
+pub record CannotWriteMarked {S : Type 0} (step : S → Record → S → Type 0) (schema : ℕ → Schema) (v : Value) (old : S) (x : EncodeError) : Type 0 where
+  pub none : ¬ (x ≡ OutOfMemory) → (n : ℕ) (marked new : S) → step old (mark true) marked → Fits (schema n) v → Chain step (presents (schema n) v) marked new → ⊥
+
+-- One with a default is left out where it is equal to this.
+abbrev pub WritesUnless : Bool → {S : Type 0} → (S → Record → S → Type 0) → (ℕ → Schema) → Value → S → S → Type 0
+WritesUnless true step schema v old new = step old (mark false) new
+WritesUnless false step schema v old new = WritesMarked step schema v old new
+
+abbrev pub CannotWriteUnless : Bool → {S : Type 0} → (S → Record → S → Type 0) → (ℕ → Schema) → Value → S → EncodeError → Type 0
+CannotWriteUnless true step schema v old x = Refused step (mark false) old x
+CannotWriteUnless false step schema v old x = CannotWriteMarked step schema v old x
 
 -- The same of what is left of a sequence.
 pub record WritesTail {S : Type 0} (step : S → Record → S → Type 0) (t : Table) (ps qs : Parts) (old new : S) : Type 0 where

@@ -5,12 +5,13 @@ ghost use Rattle.asn1_model.specs.Schema.{optional, by_default};
 ghost use Rattle.asn1_schema_presented.specs.Presents.{there, left_out};
 ghost use Rattle.asn1_schema_presented.specs.Tables.{marks, sequence_type};
 ghost use Rattle.asn1_schema_presented.specs.Parts.{part_of, part_unless};
-ghost use Rattle.asn1_schema_encode.specs.Writes.{Writes, CannotWrite, WritesPart, CannotWritePart, WritesTail, CannotWriteTail};
+ghost use Rattle.asn1_schema_encode.specs.Writes.{Writes, CannotWrite, WritesPart, CannotWritePart, WritesMarked, CannotWriteMarked, WritesUnless, CannotWriteUnless, WritesTail, CannotWriteTail};
 
 use crate::encode::{Encode, Encoder};
+use asn1_schema_components::{ComponentsOf, DefaultOf, Defaulted, End, Optional, Required};
+use asn1_schema_constraints::Constraints;
 use asn1_schema_faults::EncodeError;
 use asn1_schema_tags::Tag;
-use asn1_schema_types::{ComponentsOf, DefaultOf, Defaulted, End, Optional, Required};
 
 /// Components that are written.
 pub trait EncodeComponents: ComponentsOf {
@@ -65,13 +66,59 @@ pub trait EncodeSequence: Encoder {
         ensures failed { OnErr result (Self.has_failed self.new) }
         ensures already { Self.has_failed self.old → result ≡ Err EncodeError.AlreadyFailed }
     {
+        self.encode_some_with_tag(T::TAG, value)
+    }
+
+    /// The same with another tag.
+    final fn encode_some_with_tag<T: Encode>(
+        &mut self,
+        tag: Tag,
+        value: &T,
+    ) -> Result<(), EncodeError>
+    where
+        Self: Sized,
+        ensures ok { OnOk result (WritesPart Self.step optional T.schema (there (T.meaning value.now)) self.old self.new) }
+        ensures only { IfErr result (CannotWritePart Self.step optional T.schema (there (T.meaning value.now)) self.old) }
+        ensures failed { OnErr result (Self.has_failed self.new) }
+        ensures already { Self.has_failed self.old → result ≡ Err EncodeError.AlreadyFailed }
+    {
+        self.encode_some_with_tag_and_constraints(tag, value, T::constraints())?;
+        Ok(())
+    }
+
+    /// The same with another tag, under these constraints.
+    final fn encode_some_with_tag_and_constraints<T: Encode>(
+        &mut self,
+        tag: Tag,
+        value: &T,
+        constraints: Constraints,
+    ) -> Result<(), EncodeError>
+    where
+        Self: Sized,
+        ensures ok { OnOk result (WritesMarked Self.step (T.under constraints.entry) (T.meaning value.now) self.old self.new) }
+        ensures only { IfErr result (CannotWriteMarked Self.step (T.under constraints.entry) (T.meaning value.now) self.old) }
+        ensures failed { OnErr result (Self.has_failed self.new) }
+        ensures already { Self.has_failed self.old → result ≡ Err EncodeError.AlreadyFailed }
+    {
         self.put_mark(true)?;
-        value.encode(self)?;
+        value.encode_with_tag_and_constraints(self, tag, constraints)?;
         Ok(())
     }
 
     /// A component that may be absent and is absent.
     final fn encode_none<T: Encode>(&mut self) -> Result<(), EncodeError>
+    where
+        Self: Sized,
+        ensures ok { OnOk result (WritesPart Self.step optional T.schema left_out self.old self.new) }
+        ensures only { IfErr result (CannotWritePart Self.step optional T.schema left_out self.old) }
+        ensures failed { OnErr result (Self.has_failed self.new) }
+        ensures already { Self.has_failed self.old → result ≡ Err EncodeError.AlreadyFailed }
+    {
+        self.encode_none_with_tag::<T>(T::TAG)
+    }
+
+    /// The same with another tag.
+    final fn encode_none_with_tag<T: Encode>(&mut self, _tag: Tag) -> Result<(), EncodeError>
     where
         Self: Sized,
         ensures ok { OnOk result (WritesPart Self.step optional T.schema left_out self.old self.new) }
@@ -111,12 +158,62 @@ pub trait EncodeSequence: Encoder {
         ensures failed { OnErr result (Self.has_failed self.new) }
         ensures already { Self.has_failed self.old → result ≡ Err EncodeError.AlreadyFailed }
     {
+        self.encode_default_with_tag::<V, T>(T::TAG, value)
+    }
+
+    /// The same with another tag.
+    final fn encode_default_with_tag<V: DefaultOf<T>, T: Encode>(
+        &mut self,
+        tag: Tag,
+        value: &T,
+    ) -> Result<(), EncodeError>
+    where
+        Self: Sized,
+        ensures ok { OnOk result (WritesPart Self.step (by_default V.value) T.schema (part_unless (same (T.meaning value.now) V.value) (T.meaning value.now)) self.old self.new) }
+        ensures only { IfErr result (CannotWritePart Self.step (by_default V.value) T.schema (part_unless (same (T.meaning value.now) V.value) (T.meaning value.now)) self.old) }
+        ensures failed { OnErr result (Self.has_failed self.new) }
+        ensures already { Self.has_failed self.old → result ≡ Err EncodeError.AlreadyFailed }
+    {
+        self.encode_default_with_tag_and_constraints::<V, T>(tag, value, T::constraints())?;
+        Ok(())
+    }
+
+    /// The same under these constraints.
+    final fn encode_default_with_constraints<V: DefaultOf<T>, T: Encode>(
+        &mut self,
+        value: &T,
+        constraints: Constraints,
+    ) -> Result<(), EncodeError>
+    where
+        Self: Sized,
+        ensures ok { OnOk result (WritesUnless (same (T.meaning value.now) V.value) Self.step (T.under constraints.entry) (T.meaning value.now) self.old self.new) }
+        ensures only { IfErr result (CannotWriteUnless (same (T.meaning value.now) V.value) Self.step (T.under constraints.entry) (T.meaning value.now) self.old) }
+        ensures failed { OnErr result (Self.has_failed self.new) }
+        ensures already { Self.has_failed self.old → result ≡ Err EncodeError.AlreadyFailed }
+    {
+        self.encode_default_with_tag_and_constraints::<V, T>(T::TAG, value, constraints)
+    }
+
+    /// The same with another tag, under these constraints.
+    final fn encode_default_with_tag_and_constraints<V: DefaultOf<T>, T: Encode>(
+        &mut self,
+        tag: Tag,
+        value: &T,
+        constraints: Constraints,
+    ) -> Result<(), EncodeError>
+    where
+        Self: Sized,
+        ensures ok { OnOk result (WritesUnless (same (T.meaning value.now) V.value) Self.step (T.under constraints.entry) (T.meaning value.now) self.old self.new) }
+        ensures only { IfErr result (CannotWriteUnless (same (T.meaning value.now) V.value) Self.step (T.under constraints.entry) (T.meaning value.now) self.old) }
+        ensures failed { OnErr result (Self.has_failed self.new) }
+        ensures already { Self.has_failed self.old → result ≡ Err EncodeError.AlreadyFailed }
+    {
         if V::is_default(value) {
             self.put_mark(false)?;
             return Ok(());
         }
         self.put_mark(true)?;
-        value.encode(self)?;
+        value.encode_with_tag_and_constraints(self, tag, constraints)?;
         Ok(())
     }
 

@@ -4,7 +4,7 @@ ghost use Rattle.asn1_model.specs.Schema.{utf8};
 ghost use Rattle.asn1_model.specs.Types.{any_count};
 ghost use Rattle.asn1_schema_faults.specs.declared.CodecKind.{CodecKind};
 ghost use Rattle.asn1_schema_presented.specs.Records.{Record, flag, nil, whole, bits, octets, characters, identifier as object_identifier, list_begins, further, sequence_begins, mark, ends};
-ghost use Rattle.asn1_schema_bounds.specs.Bounds.{counts_of};
+ghost use Rattle.asn1_schema_bounds.specs.Bounds.{counts_of, members_of};
 ghost use Rattle.asn1_schema_constraints.specs.Terms.{bounds_of, held_of, sizes_of, alphabet_of};
 ghost use Rattle.asn1_schema_encode.specs.Writes.{Refused, Writes, CannotWrite};
 ghost use Rattle.asn1_values_bits.specs.BitStr.{bits_of};
@@ -143,8 +143,8 @@ pub trait Encoder {
         held: Bounded<usize>,
         count: usize,
     ) -> Result<(), EncodeError>
-        ensures ok { OnOk result (step self.old (list_begins (sizes_of constraints.entry.size) (counts_of held) count) self.new) }
-        ensures only { IfErr result (Refused step (list_begins (sizes_of constraints.entry.size) (counts_of held) count) self.old) }
+        ensures ok { OnOk result (step self.old (list_begins (sizes_of constraints.entry.size) (members_of held) count) self.new) }
+        ensures only { IfErr result (Refused step (list_begins (sizes_of constraints.entry.size) (members_of held) count) self.old) }
         ensures failed { OnErr result (has_failed self.new) }
         ensures already { has_failed self.old → result ≡ Err EncodeError.AlreadyFailed };
 

@@ -1,7 +1,7 @@
 -- T ::= SEQUENCE {value INTEGER, next T OPTIONAL}: the type and its values.
 use Rattle.std.specs.Prelude.{◌≡◌, ℕ, ℤ, zero, suc, refl, false, List, [], ◌∷◌, Option, Some, None}
 use Rattle.std.proofs.Common.{Box, Global}
-use Rattle.asn1_model.specs.Value.{Value, number, fields, end}
+use Rattle.asn1_model.specs.Value.{Value, Parts, number, fields, end}
 use Rattle.asn1_model.specs.Schema.{Schema, Tag, required, optional, integer}
 use Rattle.asn1_schema_presented.specs.Presents.{Part, left_out, there, with_part}
 use Rattle.asn1_schema_presented.specs.Parts.{part_of}
@@ -48,14 +48,19 @@ abbrev mutual
   next_part None' = left_out
   next_part (Some' p x) = there (chain_meaning x)
 
--- The same, by its fields.
-pub chain_opens : (x : Chain) → chain_meaning x ≡ fields (with_part (there (number (out-Chain x).value)) (with_part (part_of (λ b. chain_meaning b.value) (out-Chain x).next) end)) end
+-- Its components, by its fields.
+abbrev pub chain_root : Chain → Parts
+chain_root x = with_part (there (number (out-Chain x).value)) (with_part (part_of (λ b. chain_meaning b.value) (out-Chain x).next) end)
+
+-- A chain means its components.
+pub chain_opens : (x : Chain) → chain_meaning x ≡ fields (chain_root x) end
 unfolding out-Chain out
 chain_opens (Chain' value None') = refl
 chain_opens (Chain' value (Some' p x)) = refl
 
-pub chain_made : (value : ℤ) (next : Option (Box Chain Global)) → chain_meaning (roll-Chain (record { value = value; next = next })) ≡ fields (with_part (there (number value)) (with_part (part_of (λ b. chain_meaning b.value) next) end)) end
-unfolding roll-Chain roll
+-- The components of a chain that is made of its fields.
+pub chain_made : (value : ℤ) (next : Option (Box Chain Global)) → chain_root (roll-Chain (record { value = value; next = next })) ≡ with_part (there (number value)) (with_part (part_of (λ b. chain_meaning b.value) next) end)
+unfolding out-Chain out roll-Chain roll
 chain_made value None = refl
 chain_made value (Some b) = refl
 

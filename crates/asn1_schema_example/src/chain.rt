@@ -1,12 +1,16 @@
 //! Chain ::= SEQUENCE {value INTEGER, next Chain OPTIONAL}, a type that leads back to itself.
 ghost use Rattle.std.specs.Prelude.{[], ◌∷◌, refl};
+ghost use Rattle.asn1_model.specs.Value.{end};
 ghost use Rattle.asn1_schema_constraints.specs.Sets.{no_constraint};
+ghost use Rattle.asn1_schema_constructed.specs.Constructed.{sequence_form};
 
 use asn1_schema_constraints::Constraints;
+use asn1_schema_constructed::Constructed;
 use asn1_schema_decode::{Decode, Decoder};
 use asn1_schema_encode::{Encode, EncodeSequence, Encoder};
 use asn1_schema_faults::{DecodeError, EncodeError};
-use asn1_schema_tags::Tag;
+use asn1_schema_fields::{Field, FieldPresence, Fields};
+use asn1_schema_tags::{Identifier, Tag, TagTree};
 use asn1_schema_types::{AsnType, Described};
 use asn1_values_numbers::Integer;
 use std::alloc::Global;
@@ -45,22 +49,100 @@ impl Described for Chain {
 impl AsnType for Chain {
     const TAG: Tag = Tag::SEQUENCE;
 
+    const IDENTIFIER: Identifier = Identifier(Some("Chain"));
+
+    fn tag_tree() -> TagTree<'static> {
+        TagTree::of(Self::TAG)
+    }
+
     fn constraints() -> Constraints<'static> {
         Constraints::NONE
     }
 }
 
+impl Constructed for Chain {
+    ghost use Rattle.asn1_schema_example.specs.Chain.{chain_table, chain_schema, chain_root, chain_opens, chain_is};
+
+    ghost form = { sequence_form };
+
+    ghost table = { chain_table chain_schema };
+
+    ghost root = { chain_root };
+
+    ghost added = { λ _. end };
+
+    fn fields() -> Fields<'static> {
+        const FIELDS: &'static [Field<'static>] = &[
+            Field {
+                index: 0,
+                tag: Tag::INTEGER,
+                tag_tree: TagTree::Leaf(Tag::INTEGER),
+                presence: FieldPresence::Required,
+                name: "value",
+            },
+            Field {
+                index: 1,
+                tag: Tag::SEQUENCE,
+                tag_tree: TagTree::Leaf(Tag::SEQUENCE),
+                presence: FieldPresence::Optional,
+                name: "next",
+            },
+        ];
+        Fields::from_static(FIELDS)
+    }
+
+    fn extended_fields() -> Option<Fields<'static>> {
+        None
+    }
+
+    fn is_extensible() -> bool {
+        false
+    }
+
+    #[cycle(writing)]
+    fn write_fields<E: Encoder>(&self, encoder: &mut E) -> Result<(), EncodeError> {
+        self.value.encode(encoder)?;
+        encoder.encode_optional(&self.next)?;
+        encoder.end()?;
+        Ok(())
+    }
+
+    fn read_fields<D: Decoder>(alloc: Global, decoder: &mut D) -> Result<Self, DecodeError> {
+        let value = Integer::decode(alloc, decoder)?;
+        let is_there = decoder.get_mark()?;
+        if !is_there {
+            decoder.end()?;
+            return Ok(Chain { value, next: None });
+        }
+        let optional = Chain::fields().number_of_optional_and_default_fields();
+        decoder.begin_sequence(Tag::SEQUENCE, false, optional)?;
+        let inner = Chain::read_fields(alloc, decoder)?;
+        let Ok(boxed) = Box::new(alloc, inner) else {
+            return Err(DecodeError::OutOfMemory);
+        };
+        decoder.end()?;
+        Ok(Chain {
+            value,
+            next: Some(boxed),
+        })
+    }
+
+    ghost means = { chain_opens };
+
+    ghost is_of = { λ _. chain_is };
+}
+
 impl Encode for Chain {
+    #[cycle(writing)]
     fn encode_with_tag_and_constraints<E: Encoder>(
         &self,
         encoder: &mut E,
         tag: Tag,
         _constraints: Constraints,
     ) -> Result<(), EncodeError> {
-        encoder.begin_sequence(tag, false, 1)?;
-        self.value.encode(encoder)?;
-        encoder.encode_optional(&self.next)?;
-        encoder.end()?;
+        let optional = Chain::fields().number_of_optional_and_default_fields();
+        encoder.begin_sequence(tag, false, optional)?;
+        self.write_fields(encoder)?;
         Ok(())
     }
 }
@@ -70,28 +152,11 @@ impl Decode for Chain {
         alloc: Global,
         decoder: &mut D,
         tag: Tag,
-        constraints: Constraints,
+        _constraints: Constraints,
     ) -> Result<Self, DecodeError> {
-        decoder.begin_sequence(tag, false, 1)?;
-        let value = Integer::decode(alloc, decoder)?;
-        let is_there = decoder.get_mark()?;
-        if !is_there {
-            decoder.end()?;
-            return Ok(Chain { value, next: None });
-        }
-        let inner = Chain::decode_with_tag_and_constraints(
-            alloc,
-            decoder,
-            Tag::SEQUENCE,
-            constraints,
-        )?;
-        let Ok(boxed) = Box::new(alloc, inner) else {
-            return Err(DecodeError::OutOfMemory);
-        };
-        decoder.end()?;
-        Ok(Chain {
-            value,
-            next: Some(boxed),
-        })
+        let optional = Chain::fields().number_of_optional_and_default_fields();
+        decoder.begin_sequence(tag, false, optional)?;
+        let chain = Chain::read_fields(alloc, decoder)?;
+        Ok(chain)
     }
 }

@@ -2,19 +2,23 @@
 ghost use Rattle.std.specs.Prelude.{refl, [], ◌∷◌, pos};
 ghost use Rattle.asn1_model.specs.Value.{fields, number};
 ghost use Rattle.asn1_schema_constraints.specs.Sets.{no_constraint};
+ghost use Rattle.asn1_schema_constructed.specs.Constructed.{sequence_form};
 ghost use Rattle.asn1_schema_presented.specs.Tables.{sequence_type};
 ghost use Rattle.asn1_schema_presented.proofs.Values.{type_sequence, value_sequence};
 ghost use Rattle.asn1_schema_presented.proofs.Defaults.{integer_default};
 
-use asn1_schema_constraints::Constraints;
-use asn1_schema_decode::{Decode, DecodeSequence, Decoder};
-use asn1_schema_encode::{Encode, EncodeSequence, Encoder};
-use asn1_schema_faults::{DecodeError, EncodeError};
-use asn1_schema_tags::Tag;
-use asn1_schema_types::{
-    AsnType, ComponentsOf, DefaultOf, Defaulted, DefaultedComponent, Described, End,
-    EqualByMeaning, Optional, OptionalComponent,
+use asn1_schema_components::{
+    ComponentsOf, DefaultOf, Defaulted, DefaultedComponent, End, EqualByMeaning, Optional,
+    OptionalComponent,
 };
+use asn1_schema_constraints::Constraints;
+use asn1_schema_constructed::{Constructed, DecodeConstructed, EncodeConstructed};
+use asn1_schema_decode::{Decode, DecodeComponents, Decoder};
+use asn1_schema_encode::{Encode, EncodeComponents, Encoder};
+use asn1_schema_faults::{DecodeError, EncodeError};
+use asn1_schema_fields::{Field, FieldPresence, Fields};
+use asn1_schema_tags::{Identifier, Tag, TagTree};
+use asn1_schema_types::{AsnType, Described};
 use asn1_values_numbers::Integer;
 use std::alloc::{AllocError, Global};
 use std::marker::PhantomData;
@@ -71,9 +75,72 @@ impl Described for Measure {
 impl AsnType for Measure {
     const TAG: Tag = Tag::SEQUENCE;
 
+    const IDENTIFIER: Identifier = Identifier(Some("Measure"));
+
+    fn tag_tree() -> TagTree<'static> {
+        TagTree::of(Self::TAG)
+    }
+
     fn constraints() -> Constraints<'static> {
         Constraints::NONE
     }
+}
+
+impl Constructed for Measure {
+    ghost form = { sequence_form };
+
+    ghost table = { ⟦<Form as ComponentsOf>⟧.table };
+
+    ghost root = { λ x. ⟦<Form as ComponentsOf>⟧.root (record { 0 = x.offset; 1 = record {}; 2 = record { 0 = x.exact; 1 = record {} } }) };
+
+    ghost added = { λ x. ⟦<Form as ComponentsOf>⟧.added (record { 0 = x.offset; 1 = record {}; 2 = record { 0 = x.exact; 1 = record {} } }) };
+
+    fn fields() -> Fields<'static> {
+        const FIELDS: &'static [Field<'static>] = &[
+            Field {
+                index: 0,
+                tag: Tag::INTEGER,
+                tag_tree: TagTree::Leaf(Tag::INTEGER),
+                presence: FieldPresence::Default,
+                name: "offset",
+            },
+            Field {
+                index: 1,
+                tag: Tag::BOOL,
+                tag_tree: TagTree::Leaf(Tag::BOOL),
+                presence: FieldPresence::Optional,
+                name: "exact",
+            },
+        ];
+        Fields::from_static(FIELDS)
+    }
+
+    fn extended_fields() -> Option<Fields<'static>> {
+        None
+    }
+
+    fn is_extensible() -> bool {
+        false
+    }
+
+    fn write_fields<E: Encoder>(&self, encoder: &mut E) -> Result<(), EncodeError> {
+        let components = Defaulted(
+            &self.offset,
+            PhantomData::<Zero>,
+            Optional(&self.exact, End),
+        );
+        components.encode_components(encoder)
+    }
+
+    fn read_fields<D: Decoder>(alloc: Global, decoder: &mut D) -> Result<Self, DecodeError> {
+        let form = Form::decode_components(alloc, decoder)?;
+        let DefaultedComponent(offset, _, OptionalComponent(exact, End)) = form;
+        Ok(Measure { offset, exact })
+    }
+
+    ghost means = { λ _. refl };
+
+    ghost is_of = { λ _ _. refl };
 }
 
 impl Encode for Measure {
@@ -83,15 +150,7 @@ impl Encode for Measure {
         tag: Tag,
         _constraints: Constraints,
     ) -> Result<(), EncodeError> {
-        encoder.encode_sequence(
-            tag,
-            2,
-            &Defaulted(
-                &self.offset,
-                PhantomData::<Zero>,
-                Optional(&self.exact, End),
-            ),
-        )
+        encoder.encode_fields_of(tag, self)
     }
 }
 
@@ -102,8 +161,6 @@ impl Decode for Measure {
         tag: Tag,
         _constraints: Constraints,
     ) -> Result<Self, DecodeError> {
-        let form = decoder.decode_sequence::<Form>(alloc, tag, 2)?;
-        let DefaultedComponent(offset, _, OptionalComponent(exact, End)) = form;
-        Ok(Measure { offset, exact })
+        decoder.decode_fields_of(alloc, tag)
     }
 }

@@ -2,17 +2,21 @@
 ghost use Rattle.std.specs.Prelude.{refl, [], ◌∷◌};
 ghost use Rattle.asn1_model.specs.Value.{fields};
 ghost use Rattle.asn1_schema_constraints.specs.Sets.{no_constraint};
+ghost use Rattle.asn1_schema_constructed.specs.Constructed.{sequence_form};
 ghost use Rattle.asn1_schema_presented.specs.Tables.{sequence_type};
 ghost use Rattle.asn1_schema_presented.proofs.Values.{type_sequence, value_sequence};
 
-use asn1_schema_constraints::Constraints;
-use asn1_schema_decode::{Decode, DecodeSequence, Decoder};
-use asn1_schema_encode::{Encode, EncodeSequence, Encoder};
-use asn1_schema_faults::{DecodeError, EncodeError};
-use asn1_schema_tags::Tag;
-use asn1_schema_types::{
-    AsnType, ComponentsOf, Described, End, Optional, OptionalComponent, Required, RequiredComponent,
+use asn1_schema_components::{
+    ComponentsOf, End, Optional, OptionalComponent, Required, RequiredComponent,
 };
+use asn1_schema_constraints::Constraints;
+use asn1_schema_constructed::{Constructed, DecodeConstructed, EncodeConstructed};
+use asn1_schema_decode::{Decode, DecodeComponents, Decoder};
+use asn1_schema_encode::{Encode, EncodeComponents, Encoder};
+use asn1_schema_faults::{DecodeError, EncodeError};
+use asn1_schema_fields::{Field, FieldPresence, Fields};
+use asn1_schema_tags::{Identifier, Tag, TagTree};
+use asn1_schema_types::{AsnType, Described};
 use std::alloc::Global;
 
 /// A setting.
@@ -51,9 +55,75 @@ impl Described for Setting {
 impl AsnType for Setting {
     const TAG: Tag = Tag::SEQUENCE;
 
+    const IDENTIFIER: Identifier = Identifier(Some("Setting"));
+
+    fn tag_tree() -> TagTree<'static> {
+        TagTree::of(Self::TAG)
+    }
+
     fn constraints() -> Constraints<'static> {
         Constraints::NONE
     }
+}
+
+impl Constructed for Setting {
+    ghost form = { sequence_form };
+
+    ghost table = { ⟦<Form as ComponentsOf>⟧.table };
+
+    ghost root = { λ x. ⟦<Form as ComponentsOf>⟧.root (record { 0 = x.on; 1 = record { 0 = x.level; 1 = record { 0 = x.step; 1 = record {} } } }) };
+
+    ghost added = { λ x. ⟦<Form as ComponentsOf>⟧.added (record { 0 = x.on; 1 = record { 0 = x.level; 1 = record { 0 = x.step; 1 = record {} } } }) };
+
+    fn fields() -> Fields<'static> {
+        const FIELDS: &'static [Field<'static>] = &[
+            Field {
+                index: 0,
+                tag: Tag::BOOL,
+                tag_tree: TagTree::Leaf(Tag::BOOL),
+                presence: FieldPresence::Required,
+                name: "on",
+            },
+            Field {
+                index: 1,
+                tag: Tag::INTEGER,
+                tag_tree: TagTree::Leaf(Tag::INTEGER),
+                presence: FieldPresence::Optional,
+                name: "level",
+            },
+            Field {
+                index: 2,
+                tag: Tag::NULL,
+                tag_tree: TagTree::Leaf(Tag::NULL),
+                presence: FieldPresence::Required,
+                name: "step",
+            },
+        ];
+        Fields::from_static(FIELDS)
+    }
+
+    fn extended_fields() -> Option<Fields<'static>> {
+        None
+    }
+
+    fn is_extensible() -> bool {
+        false
+    }
+
+    fn write_fields<E: Encoder>(&self, encoder: &mut E) -> Result<(), EncodeError> {
+        let components = Required(&self.on, Optional(&self.level, Required(&self.step, End)));
+        components.encode_components(encoder)
+    }
+
+    fn read_fields<D: Decoder>(alloc: Global, decoder: &mut D) -> Result<Self, DecodeError> {
+        let form = Form::decode_components(alloc, decoder)?;
+        let RequiredComponent(on, OptionalComponent(level, RequiredComponent(step, End))) = form;
+        Ok(Setting { on, level, step })
+    }
+
+    ghost means = { λ _. refl };
+
+    ghost is_of = { λ _ _. refl };
 }
 
 impl Encode for Setting {
@@ -63,11 +133,7 @@ impl Encode for Setting {
         tag: Tag,
         _constraints: Constraints,
     ) -> Result<(), EncodeError> {
-        encoder.encode_sequence(
-            tag,
-            1,
-            &Required(&self.on, Optional(&self.level, Required(&self.step, End))),
-        )
+        encoder.encode_fields_of(tag, self)
     }
 }
 
@@ -78,8 +144,6 @@ impl Decode for Setting {
         tag: Tag,
         _constraints: Constraints,
     ) -> Result<Self, DecodeError> {
-        let form = decoder.decode_sequence::<Form>(alloc, tag, 1)?;
-        let RequiredComponent(on, OptionalComponent(level, RequiredComponent(step, End))) = form;
-        Ok(Setting { on, level, step })
+        decoder.decode_fields_of(alloc, tag)
     }
 }

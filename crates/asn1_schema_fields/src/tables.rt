@@ -3,11 +3,13 @@ ghost use Rattle.std.specs.Prelude.{◌≡◌, ◌<◌, ◌↔◌, IsTrue, not, 
 ghost use Rattle.std.specs.List.{list_any};
 ghost use Rattle.asn1_schema_fields.specs.Fields.{may_be_absent, is_optional, is_in_order, optional_rest};
 ghost use Rattle.asn1_schema_fields.specs.declared.tables.Field.{Field};
+ghost use Rattle.asn1_schema_tags.specs.Trees.{leaves, own_tag};
 ghost use Rattle.std.specs.Slice.Iter.{iter_rest};
 ghost use Rattle.std.specs.Iterator.{YieldsFirstRef, item_count};
 ghost use Rattle.std.specs.Iterator.Adapters.{IterYieldsInOrder};
 
 use asn1_schema_tags::{Tag, TagTree};
+use asn1_schema_types::AsnType;
 use std::slice;
 
 /// Whether a field may be absent (X.680 25).
@@ -113,6 +115,44 @@ impl<'a> Field<'a> {
         ensures { result ≡ not (is_optional self.now) }
     {
         !self.is_optional_or_default()
+    }
+}
+
+impl Field<'static> {
+    /// A field of the type `T` that is always there. It has the tags of the type.
+    pub fn new_required_type<T: AsnType>(index: usize, name: &'static str) -> Self
+        ensures index { result.index ≡ index }
+        ensures tag { result.tag ≡ own_tag result.tag_tree }
+        ensures tree { leaves result.tag_tree ≡ T.tags }
+        ensures presence { result.presence ≡ FieldPresence.Required }
+        ensures name { result.name.now ≡ name.now }
+    {
+        let tag_tree = T::tag_tree();
+        Field::new_required(index, tag_tree.own_tag(), tag_tree, name)
+    }
+
+    /// A field of the type `T` that may be absent. It has the tags of the type.
+    pub fn new_optional_type<T: AsnType>(index: usize, name: &'static str) -> Self
+        ensures index { result.index ≡ index }
+        ensures tag { result.tag ≡ own_tag result.tag_tree }
+        ensures tree { leaves result.tag_tree ≡ T.tags }
+        ensures presence { result.presence ≡ FieldPresence.Optional }
+        ensures name { result.name.now ≡ name.now }
+    {
+        let tag_tree = T::tag_tree();
+        Field::new_optional(index, tag_tree.own_tag(), tag_tree, name)
+    }
+
+    /// A field of the type `T` that may be absent, and then has its default value. It has the tags of the type.
+    pub fn new_default_type<T: AsnType>(index: usize, name: &'static str) -> Self
+        ensures index { result.index ≡ index }
+        ensures tag { result.tag ≡ own_tag result.tag_tree }
+        ensures tree { leaves result.tag_tree ≡ T.tags }
+        ensures presence { result.presence ≡ FieldPresence.Default }
+        ensures name { result.name.now ≡ name.now }
+    {
+        let tag_tree = T::tag_tree();
+        Field::new_default(index, tag_tree.own_tag(), tag_tree, name)
     }
 }
 

@@ -56,3 +56,20 @@ fn fields_that_may_be_absent(rt: HostRuntime) {
     assert!(rt; fields[0] != fields[2]);
     assert_eq!(rt; table, Fields::from_static(&fields));
 }
+
+#[test]
+fn fields_of_types(rt: HostRuntime) {
+    let tree = TagTree::Leaf(Tag::BOOL);
+    assert_eq!(rt;
+        Field::new_required_type::<bool>(0, "a"),
+        Field::new_required(0, Tag::BOOL, tree, "a")
+    );
+    assert_eq!(rt;
+        Field::new_optional_type::<bool>(1, "b"),
+        Field::new_optional(1, Tag::BOOL, tree, "b")
+    );
+    assert_eq!(rt;
+        Field::new_default_type::<bool>(2, "c"),
+        Field::new_default(2, Tag::BOOL, tree, "c")
+    );
+}

@@ -68,16 +68,6 @@ impl RecordDecoder {
         }
     }
 
-    // Fails for this reason, from now on.
-    fn refuse(&mut self, error: DecodeError) -> DecodeError
-        ensures refused { result ≡ error }
-        ensures fails { Fails self.old self.new }
-        ensures failed { self.new.failed ≡ true }
-    {
-        self.failed = true;
-        error
-    }
-
     // Takes the item in front.
     fn take_next(&mut self) -> Result<Item, DecodeError>
         ensures ok { IfOk result (λ item. Leaves self.old (record_of item) self.new) }
@@ -277,7 +267,7 @@ impl Decoder for RecordDecoder {
         let Some((sizes, count)) = item.into_list() else {
             return Err(self.refuse(DecodeError::NotValidCanonicalEncoding));
         };
-        if are_sizes(sizes, constraints, held, count) {
+        if sizes.are_among(constraints) && held.holds(count) {
             return Ok(());
         }
         Err(self.refuse(DecodeError::SizeConstraintNotSatisfied))
@@ -329,6 +319,15 @@ impl Decoder for RecordDecoder {
             return Ok(());
         }
         Err(self.refuse(DecodeError::NotValidCanonicalEncoding))
+    }
+
+    fn refuse(&mut self, error: DecodeError) -> DecodeError
+        ensures refused { result ≡ error }
+        ensures failed { self.new.failed ≡ true }
+        ensures fails { Fails self.old self.new }
+    {
+        self.failed = true;
+        error
     }
 
     ghost one_record = { takes_one };

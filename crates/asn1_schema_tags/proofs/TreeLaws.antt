@@ -8,7 +8,7 @@ use Rattle.asn1_model.specs.Schema.{Tag as ModelTag}
 use Rattle.asn1_model.specs.Lawful.{tag_less, tag_same, smallest}
 use Rattle.asn1_model.specs.Strings.{each_is}
 use Rattle.asn1_schema_tags.specs.Tags.{tag_of}
-use Rattle.asn1_schema_tags.specs.Trees.{leaves_step, leaves, leaves_of, are_unique, is_among, share_a_tag}
+use Rattle.asn1_schema_tags.specs.Trees.{leaves_step, leaves, leaves_of, no_own_tag, own_tag_step, own_tag, are_unique, is_among, share_a_tag}
 use Rattle.asn1_schema_tags.specs.declared.tags.Tag.{Tag}
 use Rattle.asn1_schema_tags.specs.declared.trees.TagTree.{TagTree}
 use Rattle.asn1_schema_tags.specs.declared.trees.TagTree.TheVariants.{Leaf, Choice, rolls-Leaf, rolls-Choice}
@@ -26,6 +26,14 @@ leaves_leaf t = ap leaves (sym (rolls-Leaf t)) ∙ fold-roll-TagTree (List Model
 -- a choice has the leaves of all its trees
 pub leaves_choice : (nodes : _) → leaves (Choice nodes) ≡ leaves_of nodes.now
 leaves_choice nodes = ap leaves (sym (rolls-Choice nodes)) ∙ (fold-roll-TagTree (List ModelTag) leaves_step _ ∙ flat_map_map nodes.now)
+
+-- a leaf's own tag is that tag
+pub own_tag_leaf : (t : Tag) → own_tag (Leaf t) ≡ t
+own_tag_leaf t = ap own_tag (sym (rolls-Leaf t)) ∙ fold-roll-TagTree Tag own_tag_step _
+
+-- a choice has none
+pub own_tag_choice : (nodes : _) → own_tag (Choice nodes) ≡ no_own_tag
+own_tag_choice nodes = ap own_tag (sym (rolls-Choice nodes)) ∙ fold-roll-TagTree Tag own_tag_step _
 
 -- the smallest of two lists joined
 pub smallest-append : (t : ModelTag) (xs ys : List ModelTag) → smallest t (xs ++ ys) ≡ smallest (smallest t xs) ys

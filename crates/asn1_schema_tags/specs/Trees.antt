@@ -1,9 +1,11 @@
--- The leaves of a tree of tags.
+-- The leaves of a tree of tags, and the tag that it has of its own.
 use Rattle.std.specs.Prelude.{ℕ, ◌^◌, ltb, Bool, cond, List, [], ◌∷◌, flat_map, Option, Some, None}
 use Rattle.std.specs.List.{list_any, position_from}
 use Rattle.asn1_model.specs.Schema.{Tag as ModelTag}
 use Rattle.asn1_model.specs.Lawful.{tag_same, are_distinct}
 use Rattle.asn1_schema_tags.specs.Tags.{tag_of}
+use Rattle.asn1_schema_tags.specs.declared.tags.Class.TheVariants.{Universal}
+use Rattle.asn1_schema_tags.specs.declared.tags.Tag.{Tag}
 use Rattle.asn1_schema_tags.specs.declared.trees.TagTree.{TagTree}
 use Rattle.asn1_schema_tags.specs.declared.trees.TagTree.TheOpen.{TagTree-F, Leaf, Choice}
 use Rattle.asn1_schema_tags.specs.declared.trees.TagTree.TheFolds.{fold-TagTree}
@@ -20,6 +22,19 @@ leaves = fold-TagTree (List ModelTag) leaves_step
 -- The tags of the leaves of some trees, one tree after another.
 abbrev pub leaves_of : List TagTree → List ModelTag
 leaves_of trees = flat_map leaves trees
+
+-- What stands where a type has no tag of its own (X.680 29).
+abbrev pub no_own_tag : Tag
+no_own_tag = record { class = Universal; value = 0 }
+
+-- A tree's own tag, whatever those of the trees right below it.
+abbrev pub own_tag_step : TagTree-F Tag → Tag
+own_tag_step (Leaf t) = t
+own_tag_step (Choice below) = no_own_tag
+
+-- The tag of a tree that is a leaf, and what stands for a tag where the tree is an untagged choice.
+abbrev pub own_tag : TagTree → Tag
+own_tag = fold-TagTree Tag own_tag_step
 
 -- No tag occurs twice (X.680 25, 27 and 29).
 abbrev pub are_unique : List ModelTag → Bool

@@ -1,10 +1,10 @@
 //! Trees of tags: a type's own tag, or those of the alternatives of an untagged choice.
-#![tactic(auto, using(crate::proofs::TreeLaws::leaves_leaf, crate::proofs::TreeLaws::leaves_choice))]
+#![tactic(auto, using(crate::proofs::TreeLaws::leaves_leaf, crate::proofs::TreeLaws::leaves_choice, crate::proofs::TreeLaws::own_tag_leaf, crate::proofs::TreeLaws::own_tag_choice))]
 
-ghost use Rattle.std.specs.Prelude.{◌≡◌, ◌+◌, ◌^◌, ◌<◌, IsTrue, IfSome, Some, [], length, option_map, slice_get};
+ghost use Rattle.std.specs.Prelude.{◌≡◌, ◌+◌, ◌^◌, ◌<◌, IsTrue, IfSome, Some, [], ◌∷◌, length, option_map, slice_get};
 ghost use Rattle.asn1_model.specs.Lawful.{smallest};
 ghost use Rattle.asn1_schema_tags.specs.Tags.{tag_of};
-ghost use Rattle.asn1_schema_tags.specs.Trees.{leaves, leaves_of, are_unique, is_among, share_a_tag, greatest_tag, counted, place_of};
+ghost use Rattle.asn1_schema_tags.specs.Trees.{leaves, leaves_of, own_tag, are_unique, is_among, share_a_tag, greatest_tag, counted, place_of};
 ghost use Rattle.asn1_schema_tags.specs.Plain.{same_tree};
 ghost use Rattle.asn1_schema_tags.specs.Same.{same_tree_equiv};
 ghost use Rattle.std.specs.Cmp.{partial_equiv_from_equiv};
@@ -23,11 +23,29 @@ pub enum TagTree<'a> {
 }
 
 impl<'a> TagTree<'a> {
+    /// The tree of one tag.
+    pub fn of(tag: Tag) -> Self
+        ensures leaves { leaves result ≡ tag_of tag ∷ [] }
+        ensures own { own_tag result ≡ tag }
+    {
+        TagTree::Leaf(tag)
+    }
+
     /// The tree with no leaf.
     pub fn empty() -> Self
         ensures { leaves result ≡ [] }
     {
         TagTree::Choice(&[])
+    }
+
+    /// The tag of a type with this tree: that of the leaf, or `Tag::CHOICE` where the tree is that of an untagged choice.
+    pub fn own_tag(&self) -> Tag
+        ensures { result ≡ own_tag self.now }
+    {
+        match self {
+            TagTree::Leaf(tag) => *tag,
+            TagTree::Choice(_) => Tag::CHOICE,
+        }
     }
 
     /// The smallest tag of the leaves, or the greatest private tag if there is no leaf (X.680 8.6).

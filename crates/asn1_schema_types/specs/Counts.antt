@@ -1,14 +1,14 @@
 -- How many members a list of the program holds.
-use Rattle.std.proofs.Common.{◌≡◌, ℕ, ◌≤◌, true, false, Some, None, refl, arith}
+use Rattle.std.proofs.Common.{◌≡◌, ℕ, ◌≤◌, ◌-◌, ◌^◌, true, false, Some, None, refl, arith}
 use Rattle.std.proofs.lemmas.Bool.{le-leb}
 use Rattle.asn1_model.specs.Schema.{Counts}
 use Rattle.asn1_model.specs.Lawful.{is_size}
 use Rattle.asn1_schema_bounds.specs.declared.bounds.Bounded.{Bounded}
 use Rattle.asn1_schema_constraints.specs.declared.lists.Constraints.{Constraints}
 
--- any number of them
+-- any number of them that 64 bits count
 abbrev pub any_number : Counts
-any_number = record { low = 0; high = None }
+any_number = record { low = 0; high = Some (2 ^ 64 - 1) }
 
 -- so many, and no other number
 abbrev pub exactly : ℕ → Counts

@@ -8,7 +8,7 @@ ghost use Rattle.asn1_schema_presented.proofs.TypesByKind.{character_string_type
 
 use crate::described::{AsnType, Described};
 use asn1_schema_constraints::Constraints;
-use asn1_schema_tags::Tag;
+use asn1_schema_tags::{Identifier, Tag, TagTree};
 use asn1_values_strings_wide::BmpString;
 
 impl Described for BmpString {
@@ -33,6 +33,12 @@ impl Described for BmpString {
 
 impl AsnType for BmpString {
     const TAG: Tag = Tag::BMP_STRING;
+
+    const IDENTIFIER: Identifier = Identifier::BMP_STRING;
+
+    fn tag_tree() -> TagTree<'static> {
+        TagTree::of(Self::TAG)
+    }
 
     fn constraints() -> Constraints<'static> {
         Constraints::NONE

@@ -7,7 +7,7 @@ use crate::described::{AsnType, Described};
 use crate::integers::between;
 use asn1_schema_bounds::Bounded;
 use asn1_schema_constraints::{Constraints, Extensible, Value};
-use asn1_schema_tags::Tag;
+use asn1_schema_tags::{Identifier, Tag, TagTree};
 use asn1_values_constrained::ConstrainedInteger;
 
 /// Constraints, and then the range from `start` to `end`: what both admit. The mark of an earlier constraint is no mark of a
@@ -56,6 +56,14 @@ impl<const START: i64, const END: i64> Described for ConstrainedInteger<START, E
 
 impl<const START: i64, const END: i64> AsnType for ConstrainedInteger<START, END> {
     const TAG: Tag = Tag::INTEGER;
+
+    const IDENTIFIER: Identifier = Identifier::INTEGER;
+
+    const IS_CHOICE: bool = false;
+
+    fn tag_tree() -> TagTree<'static> {
+        TagTree::of(Tag::INTEGER)
+    }
 
     fn constraints() -> Constraints<'static> {
         between(START as i128, END as i128)

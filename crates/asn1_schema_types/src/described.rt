@@ -1,12 +1,13 @@
 //! Types of the program, and what they are in ASN.1.
-ghost use Rattle.std.specs.Prelude.{◌≡◌, ℕ, List};
+ghost use Rattle.std.specs.Prelude.{◌≡◌, ℕ, List, true};
 ghost use Rattle.asn1_model.specs.Value.{Value};
 ghost use Rattle.asn1_model.specs.Schema.{Schema, Tag as ModelTag};
 ghost use Rattle.asn1_schema_constraints.specs.declared.lists.Constraints.{Constraints};
+ghost use Rattle.asn1_schema_tags.specs.Trees.{leaves};
 ghost use Rattle.asn1_schema_presented.specs.Tables.{IsType, IsValue};
 
 use asn1_schema_constraints::Constraints;
-use asn1_schema_tags::Tag;
+use asn1_schema_tags::{Identifier, Tag, TagTree};
 
 /// What a type of the program is in ASN.1, and what its values mean.
 pub trait Described {
@@ -39,12 +40,31 @@ pub trait Described {
     fn described(&self) {}
 }
 
-/// A type of ASN.1: its tag, and its constraints.
+/// A type of ASN.1: its tags, its name, and its constraints.
 pub trait AsnType: Described {
     /// Its tag; `Tag::CHOICE` where it has none of its own.
     const TAG: Tag;
 
+    /// Its name, where it has one.
+    const IDENTIFIER: Identifier = Identifier::EMPTY;
+
+    /// Whether it is a CHOICE (X.680 29).
+    const IS_CHOICE: bool = false;
+
+    /// The tags with which an encoding may begin.
+    fn tag_tree() -> TagTree<'static>
+        ensures { leaves result ≡ Self.tags };
+
     /// The constraints that it has of its own.
     fn constraints() -> Constraints<'static>
         ensures { result ≡ Self.own };
+
+    /// Whether a value stands here. A value of a type always does: what may be absent is an `Option`, which is a component and no type.
+    final fn is_present(&self) -> bool
+    where
+        Self: Sized,
+        ensures { result ≡ true }
+    {
+        true
+    }
 }

@@ -9,7 +9,7 @@ ghost use Rattle.asn1_schema_presented.proofs.TypesByKind.{bit_string_type, bit_
 
 use crate::described::{AsnType, Described};
 use asn1_schema_constraints::Constraints;
-use asn1_schema_tags::Tag;
+use asn1_schema_tags::{Identifier, Tag, TagTree};
 use asn1_values_bit_strings::FixedBitString;
 use asn1_values_octets::FixedOctetString;
 
@@ -35,6 +35,14 @@ impl<const N: usize> Described for FixedBitString<N> {
 
 impl<const N: usize> AsnType for FixedBitString<N> {
     const TAG: Tag = Tag::BIT_STRING;
+
+    const IDENTIFIER: Identifier = Identifier::BIT_STRING;
+
+    const IS_CHOICE: bool = false;
+
+    fn tag_tree() -> TagTree<'static> {
+        TagTree::of(Tag::BIT_STRING)
+    }
 
     fn constraints() -> Constraints<'static> {
         Constraints::NONE
@@ -63,6 +71,14 @@ impl<const N: usize> Described for FixedOctetString<N> {
 
 impl<const N: usize> AsnType for FixedOctetString<N> {
     const TAG: Tag = Tag::OCTET_STRING;
+
+    const IDENTIFIER: Identifier = Identifier::OCTET_STRING;
+
+    const IS_CHOICE: bool = false;
+
+    fn tag_tree() -> TagTree<'static> {
+        TagTree::of(Tag::OCTET_STRING)
+    }
 
     fn constraints() -> Constraints<'static> {
         Constraints::NONE

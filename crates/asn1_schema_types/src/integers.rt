@@ -11,7 +11,7 @@ ghost use Rattle.asn1_values_natives.specs.Ranges.{natural_range, whole_range};
 use crate::described::{AsnType, Described};
 use asn1_schema_bounds::Bounded;
 use asn1_schema_constraints::{Constraints, Extensible, Value};
-use asn1_schema_tags::Tag;
+use asn1_schema_tags::{Identifier, Tag, TagTree};
 use asn1_values_numbers::Integer;
 
 // The constraint to the numbers between two.
@@ -47,6 +47,12 @@ impl Described for Integer {
 impl AsnType for Integer {
     const TAG: Tag = Tag::INTEGER;
 
+    const IDENTIFIER: Identifier = Identifier::INTEGER;
+
+    fn tag_tree() -> TagTree<'static> {
+        TagTree::of(Self::TAG)
+    }
+
     fn constraints() -> Constraints<'static> {
         Constraints::NONE
     }
@@ -74,6 +80,12 @@ impl Described for u8 {
 
 impl AsnType for u8 {
     const TAG: Tag = Tag::INTEGER;
+
+    const IDENTIFIER: Identifier = Identifier::INTEGER;
+
+    fn tag_tree() -> TagTree<'static> {
+        TagTree::of(Self::TAG)
+    }
 
     fn constraints() -> Constraints<'static> {
         between(0, 255)

@@ -8,11 +8,12 @@ ghost use Rattle.asn1_schema_constraints.specs.Terms.{sizes_of, character_string
 ghost use Rattle.asn1_schema_presented.specs.Parts.{values_of};
 ghost use Rattle.asn1_schema_presented.specs.Tables.{list_type};
 ghost use Rattle.asn1_schema_presented.proofs.TypesByKind.{type_list, value_list, character_string_type, character_string_value};
+ghost use Rattle.asn1_schema_tags.specs.Trees.{leaves};
 ghost use Rattle.asn1_schema_types.specs.Counts.{any_number};
 
 use crate::described::{AsnType, Described};
 use asn1_schema_constraints::Constraints;
-use asn1_schema_tags::Tag;
+use asn1_schema_tags::{Identifier, Tag, TagTree};
 use std::alloc::Global;
 use std::borrow::{Cow, CowSlice, CowStr};
 
@@ -38,6 +39,14 @@ impl<T: Described> Described for &T {
 
 impl<T: AsnType> AsnType for &T {
     const TAG: Tag = T::TAG;
+
+    const IDENTIFIER: Identifier = T::IDENTIFIER;
+
+    const IS_CHOICE: bool = T::IS_CHOICE;
+
+    fn tag_tree() -> TagTree<'static> {
+        T::tag_tree()
+    }
 
     fn constraints() -> Constraints<'static> {
         T::constraints()
@@ -66,6 +75,14 @@ impl Described for &str {
 
 impl AsnType for &str {
     const TAG: Tag = Tag::UTF8_STRING;
+
+    const IDENTIFIER: Identifier = Identifier::UTF8_STRING;
+
+    fn tag_tree() -> TagTree<'static>
+        ensures { leaves result ≡ record { class = 0; number = 12 } ∷ [] }
+    {
+        TagTree::of(Self::TAG)
+    }
 
     fn constraints() -> Constraints<'static>
         ensures { result ≡ no_constraint }
@@ -97,6 +114,14 @@ impl<'a, T: Described> Described for Cow<'a, T> {
 impl<'a, T: AsnType> AsnType for Cow<'a, T> {
     const TAG: Tag = T::TAG;
 
+    const IDENTIFIER: Identifier = T::IDENTIFIER;
+
+    const IS_CHOICE: bool = T::IS_CHOICE;
+
+    fn tag_tree() -> TagTree<'static> {
+        T::tag_tree()
+    }
+
     fn constraints() -> Constraints<'static> {
         T::constraints()
     }
@@ -125,6 +150,12 @@ impl<'a, T: Described> Described for CowSlice<'a, T, Global> {
 impl<'a, T: AsnType> AsnType for CowSlice<'a, T, Global> {
     const TAG: Tag = Tag::SEQUENCE;
 
+    const IDENTIFIER: Identifier = Identifier::SEQUENCE_OF;
+
+    fn tag_tree() -> TagTree<'static> {
+        TagTree::of(Tag::SEQUENCE)
+    }
+
     fn constraints() -> Constraints<'static> {
         Constraints::NONE
     }
@@ -152,6 +183,14 @@ impl<'a> Described for CowStr<'a, Global> {
 
 impl<'a> AsnType for CowStr<'a, Global> {
     const TAG: Tag = Tag::UTF8_STRING;
+
+    const IDENTIFIER: Identifier = Identifier::UTF8_STRING;
+
+    fn tag_tree() -> TagTree<'static>
+        ensures { leaves result ≡ record { class = 0; number = 12 } ∷ [] }
+    {
+        TagTree::of(Self::TAG)
+    }
 
     fn constraints() -> Constraints<'static>
         ensures { result ≡ no_constraint }

@@ -3,11 +3,8 @@
 
 pub mod bmp;
 pub mod characters;
-pub mod components;
 pub mod constrained;
-pub mod defaults;
 pub mod described;
-pub mod equality;
 pub mod fixed;
 pub mod integers;
 pub mod lent;
@@ -19,11 +16,4 @@ pub mod scalars;
 pub mod strings;
 pub mod wide;
 
-pub use characters::TaggedKind;
-pub use components::{
-    ComponentsOf, Defaulted, DefaultedComponent, End, Optional, OptionalComponent, Required,
-    RequiredComponent,
-};
-pub use defaults::DefaultOf;
 pub use described::{AsnType, Described};
-pub use equality::EqualByMeaning;

@@ -10,7 +10,7 @@ ghost use Rattle.asn1_schema_types.specs.Counts.{any_number, exactly, fixed_to, 
 
 use crate::described::{AsnType, Described};
 use asn1_schema_constraints::{Constraints, Extensible, Size};
-use asn1_schema_tags::Tag;
+use asn1_schema_tags::{Identifier, Tag, TagTree};
 
 impl<T: Described> Described for Vec<T> {
     ghost tags = { record { class = 0; number = 16 } ∷ [] };
@@ -34,6 +34,12 @@ impl<T: Described> Described for Vec<T> {
 
 impl<T: AsnType> AsnType for Vec<T> {
     const TAG: Tag = Tag::SEQUENCE;
+
+    const IDENTIFIER: Identifier = Identifier::SEQUENCE_OF;
+
+    fn tag_tree() -> TagTree<'static> {
+        TagTree::of(Tag::SEQUENCE)
+    }
 
     fn constraints() -> Constraints<'static> {
         Constraints::NONE
@@ -62,6 +68,14 @@ impl<T: Described, const N: usize> Described for [T; N] {
 
 impl<T: AsnType, const N: usize> AsnType for [T; N] {
     const TAG: Tag = Tag::SEQUENCE;
+
+    const IDENTIFIER: Identifier = Identifier::SEQUENCE_OF;
+
+    const IS_CHOICE: bool = false;
+
+    fn tag_tree() -> TagTree<'static> {
+        TagTree::of(Tag::SEQUENCE)
+    }
 
     fn constraints() -> Constraints<'static> {
         Constraints {
@@ -93,6 +107,12 @@ impl<T: Described> Described for &[T] {
 
 impl<T: AsnType> AsnType for &[T] {
     const TAG: Tag = Tag::SEQUENCE;
+
+    const IDENTIFIER: Identifier = Identifier::SEQUENCE_OF;
+
+    fn tag_tree() -> TagTree<'static> {
+        TagTree::of(Tag::SEQUENCE)
+    }
 
     fn constraints() -> Constraints<'static> {
         Constraints::NONE

@@ -7,7 +7,7 @@ ghost use Rattle.asn1_schema_presented.proofs.TypesByKind.{null_type, null_value
 
 use crate::described::{AsnType, Described};
 use asn1_schema_constraints::Constraints;
-use asn1_schema_tags::Tag;
+use asn1_schema_tags::{Identifier, Tag, TagTree};
 use std::marker::PhantomData;
 
 /// NULL (X.680 24): a marker has one value.
@@ -33,6 +33,12 @@ impl<T> Described for PhantomData<T> {
 
 impl<T> AsnType for PhantomData<T> {
     const TAG: Tag = Tag::NULL;
+
+    const IDENTIFIER: Identifier = Identifier::NULL;
+
+    fn tag_tree() -> TagTree<'static> {
+        TagTree::of(Tag::NULL)
+    }
 
     fn constraints() -> Constraints<'static> {
         Constraints::NONE

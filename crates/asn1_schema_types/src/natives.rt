@@ -9,7 +9,7 @@ ghost use Rattle.asn1_values_natives.specs.Ranges.{natural_range, whole_range};
 use crate::described::{AsnType, Described};
 use crate::integers::between;
 use asn1_schema_constraints::Constraints;
-use asn1_schema_tags::Tag;
+use asn1_schema_tags::{Identifier, Tag, TagTree};
 
 impl Described for i8 {
     ghost tags = { record { class = 0; number = 2 } ∷ [] };
@@ -33,6 +33,12 @@ impl Described for i8 {
 
 impl AsnType for i8 {
     const TAG: Tag = Tag::INTEGER;
+
+    const IDENTIFIER: Identifier = Identifier::INTEGER;
+
+    fn tag_tree() -> TagTree<'static> {
+        TagTree::of(Self::TAG)
+    }
 
     fn constraints() -> Constraints<'static> {
         between(-128, 127)
@@ -62,6 +68,12 @@ impl Described for i16 {
 impl AsnType for i16 {
     const TAG: Tag = Tag::INTEGER;
 
+    const IDENTIFIER: Identifier = Identifier::INTEGER;
+
+    fn tag_tree() -> TagTree<'static> {
+        TagTree::of(Self::TAG)
+    }
+
     fn constraints() -> Constraints<'static> {
         between(-32768, 32767)
     }
@@ -89,6 +101,12 @@ impl Described for i32 {
 
 impl AsnType for i32 {
     const TAG: Tag = Tag::INTEGER;
+
+    const IDENTIFIER: Identifier = Identifier::INTEGER;
+
+    fn tag_tree() -> TagTree<'static> {
+        TagTree::of(Self::TAG)
+    }
 
     fn constraints() -> Constraints<'static> {
         between(-2147483648, 2147483647)
@@ -118,6 +136,12 @@ impl Described for i64 {
 impl AsnType for i64 {
     const TAG: Tag = Tag::INTEGER;
 
+    const IDENTIFIER: Identifier = Identifier::INTEGER;
+
+    fn tag_tree() -> TagTree<'static> {
+        TagTree::of(Self::TAG)
+    }
+
     fn constraints() -> Constraints<'static> {
         between(-9223372036854775808, 9223372036854775807)
     }
@@ -145,6 +169,12 @@ impl Described for u16 {
 
 impl AsnType for u16 {
     const TAG: Tag = Tag::INTEGER;
+
+    const IDENTIFIER: Identifier = Identifier::INTEGER;
+
+    fn tag_tree() -> TagTree<'static> {
+        TagTree::of(Self::TAG)
+    }
 
     fn constraints() -> Constraints<'static> {
         between(0, 65535)
@@ -174,6 +204,12 @@ impl Described for u32 {
 impl AsnType for u32 {
     const TAG: Tag = Tag::INTEGER;
 
+    const IDENTIFIER: Identifier = Identifier::INTEGER;
+
+    fn tag_tree() -> TagTree<'static> {
+        TagTree::of(Self::TAG)
+    }
+
     fn constraints() -> Constraints<'static> {
         between(0, 4294967295)
     }
@@ -201,6 +237,12 @@ impl Described for u64 {
 
 impl AsnType for u64 {
     const TAG: Tag = Tag::INTEGER;
+
+    const IDENTIFIER: Identifier = Identifier::INTEGER;
+
+    fn tag_tree() -> TagTree<'static> {
+        TagTree::of(Self::TAG)
+    }
 
     fn constraints() -> Constraints<'static> {
         between(0, 18446744073709551615)

@@ -1,7 +1,7 @@
 //! Values behind pointers.
 use crate::described::{AsnType, Described};
 use asn1_schema_constraints::Constraints;
-use asn1_schema_tags::Tag;
+use asn1_schema_tags::{Identifier, Tag, TagTree};
 
 impl<T: Described> Described for Box<T> {
     ghost tags = { T.tags };
@@ -25,6 +25,14 @@ impl<T: Described> Described for Box<T> {
 
 impl<T: AsnType> AsnType for Box<T> {
     const TAG: Tag = T::TAG;
+
+    const IDENTIFIER: Identifier = T::IDENTIFIER;
+
+    const IS_CHOICE: bool = T::IS_CHOICE;
+
+    fn tag_tree() -> TagTree<'static> {
+        T::tag_tree()
+    }
 
     fn constraints() -> Constraints<'static> {
         T::constraints()

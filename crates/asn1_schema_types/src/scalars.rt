@@ -7,7 +7,7 @@ ghost use Rattle.asn1_schema_presented.proofs.TypesByKind.{boolean_type, boolean
 
 use crate::described::{AsnType, Described};
 use asn1_schema_constraints::Constraints;
-use asn1_schema_tags::Tag;
+use asn1_schema_tags::{Identifier, Tag, TagTree};
 
 impl Described for bool {
     ghost tags = { record { class = 0; number = 1 } ∷ [] };
@@ -31,6 +31,12 @@ impl Described for bool {
 
 impl AsnType for bool {
     const TAG: Tag = Tag::BOOL;
+
+    const IDENTIFIER: Identifier = Identifier::BOOL;
+
+    fn tag_tree() -> TagTree<'static> {
+        TagTree::of(Self::TAG)
+    }
 
     fn constraints() -> Constraints<'static> {
         Constraints::NONE
@@ -59,6 +65,12 @@ impl Described for () {
 
 impl AsnType for () {
     const TAG: Tag = Tag::NULL;
+
+    const IDENTIFIER: Identifier = Identifier::NULL;
+
+    fn tag_tree() -> TagTree<'static> {
+        TagTree::of(Self::TAG)
+    }
 
     fn constraints() -> Constraints<'static> {
         Constraints::NONE

@@ -8,7 +8,7 @@ ghost use Rattle.asn1_schema_presented.proofs.TypesByKind.{bit_string_type, bit_
 
 use crate::described::{AsnType, Described};
 use asn1_schema_constraints::Constraints;
-use asn1_schema_tags::Tag;
+use asn1_schema_tags::{Identifier, Tag, TagTree};
 use asn1_values_bit_strings::BitString;
 use asn1_values_identifiers::ObjectIdentifier;
 use asn1_values_octets::OctetString;
@@ -35,6 +35,12 @@ impl Described for BitString {
 
 impl AsnType for BitString {
     const TAG: Tag = Tag::BIT_STRING;
+
+    const IDENTIFIER: Identifier = Identifier::BIT_STRING;
+
+    fn tag_tree() -> TagTree<'static> {
+        TagTree::of(Self::TAG)
+    }
 
     fn constraints() -> Constraints<'static> {
         Constraints::NONE
@@ -64,6 +70,12 @@ impl Described for OctetString {
 impl AsnType for OctetString {
     const TAG: Tag = Tag::OCTET_STRING;
 
+    const IDENTIFIER: Identifier = Identifier::OCTET_STRING;
+
+    fn tag_tree() -> TagTree<'static> {
+        TagTree::of(Self::TAG)
+    }
+
     fn constraints() -> Constraints<'static> {
         Constraints::NONE
     }
@@ -92,6 +104,12 @@ impl Described for String {
 impl AsnType for String {
     const TAG: Tag = Tag::UTF8_STRING;
 
+    const IDENTIFIER: Identifier = Identifier::UTF8_STRING;
+
+    fn tag_tree() -> TagTree<'static> {
+        TagTree::of(Self::TAG)
+    }
+
     fn constraints() -> Constraints<'static> {
         Constraints::NONE
     }
@@ -119,6 +137,12 @@ impl Described for ObjectIdentifier {
 
 impl AsnType for ObjectIdentifier {
     const TAG: Tag = Tag::OBJECT_IDENTIFIER;
+
+    const IDENTIFIER: Identifier = Identifier::OBJECT_IDENTIFIER;
+
+    fn tag_tree() -> TagTree<'static> {
+        TagTree::of(Self::TAG)
+    }
 
     fn constraints() -> Constraints<'static> {
         Constraints::NONE

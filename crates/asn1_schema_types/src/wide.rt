@@ -11,7 +11,7 @@ use crate::described::{AsnType, Described};
 use crate::integers::between;
 use asn1_schema_bounds::Bounded;
 use asn1_schema_constraints::{Constraints, Extensible, Value};
-use asn1_schema_tags::Tag;
+use asn1_schema_tags::{Identifier, Tag, TagTree};
 
 impl Described for i128 {
     ghost tags = { record { class = 0; number = 2 } ∷ [] };
@@ -35,6 +35,12 @@ impl Described for i128 {
 
 impl AsnType for i128 {
     const TAG: Tag = Tag::INTEGER;
+
+    const IDENTIFIER: Identifier = Identifier::INTEGER;
+
+    fn tag_tree() -> TagTree<'static> {
+        TagTree::of(Self::TAG)
+    }
 
     fn constraints() -> Constraints<'static> {
         between(i128::MIN, i128::MAX)
@@ -63,6 +69,12 @@ impl Described for u128 {
 
 impl AsnType for u128 {
     const TAG: Tag = Tag::INTEGER;
+
+    const IDENTIFIER: Identifier = Identifier::INTEGER;
+
+    fn tag_tree() -> TagTree<'static> {
+        TagTree::of(Self::TAG)
+    }
 
     fn constraints() -> Constraints<'static> {
         Constraints {
@@ -95,6 +107,12 @@ impl Described for isize {
 impl AsnType for isize {
     const TAG: Tag = Tag::INTEGER;
 
+    const IDENTIFIER: Identifier = Identifier::INTEGER;
+
+    fn tag_tree() -> TagTree<'static> {
+        TagTree::of(Self::TAG)
+    }
+
     fn constraints() -> Constraints<'static> {
         between(-9223372036854775808, 9223372036854775807)
     }
@@ -122,6 +140,12 @@ impl Described for usize {
 
 impl AsnType for usize {
     const TAG: Tag = Tag::INTEGER;
+
+    const IDENTIFIER: Identifier = Identifier::INTEGER;
+
+    fn tag_tree() -> TagTree<'static> {
+        TagTree::of(Self::TAG)
+    }
 
     fn constraints() -> Constraints<'static> {
         between(0, 18446744073709551615)

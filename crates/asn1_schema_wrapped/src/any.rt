@@ -1,10 +1,20 @@
 //! Values whose type is known elsewhere.
-ghost use Rattle.std.specs.Prelude.{◌≡◌, nat_eq};
+ghost use Rattle.std.specs.Prelude.{◌≡◌, nat_eq, refl, [], ◌∷◌, None};
 ghost use Rattle.std.specs.Cmp.Lexicographic.{pointwise, nat_list_eq_equiv};
 ghost use Rattle.std.specs.Cmp.{partial_equiv_from_equiv};
+ghost use Rattle.asn1_model.specs.Value.{octet_list};
+ghost use Rattle.asn1_schema_constraints.specs.Sets.{no_constraint};
+ghost use Rattle.asn1_schema_constraints.specs.Terms.{octet_string_under};
+ghost use Rattle.asn1_schema_presented.proofs.TypesByKind.{octet_string_type, octet_string_value};
 
-use asn1_values_identifiers::ObjectIdentifier;
-use std::alloc::AllocError;
+use asn1_schema_bounds::Bounded;
+use asn1_schema_constraints::Constraints;
+use asn1_schema_decode::{Decode, Decoder, ReadOctets};
+use asn1_schema_encode::{Encode, Encoder};
+use asn1_schema_faults::{DecodeError, EncodeError};
+use asn1_schema_tags::{Identifier, Tag, TagTree};
+use asn1_schema_types::{AsnType, Described};
+use std::alloc::{AllocError, Global};
 use std::marker::Model;
 
 /// A value of any type, as the octets of its encoding in the rules of one codec.
@@ -75,12 +85,68 @@ impl Eq for Any {
     ghost laws = { nat_list_eq_equiv };
 }
 
-/// A value, and the identifier of its type beside it (X.681 annex C): a SEQUENCE under the tag of EXTERNAL,
-/// of the identifier and of the value under an explicit context tag of 0.
-#[derive(Clone, Debug, Drop, PartialEq, Eq)]
-pub struct InstanceOf<T> {
-    /// The identifier of the type.
-    pub type_id: ObjectIdentifier,
-    /// The value.
-    pub value: T,
+/// OCTET STRING without constraints; those that are handed over have no effect.
+impl Described for Any {
+    ghost tags = { record { class = 0; number = 4 } ∷ [] };
+
+    ghost own = { no_constraint };
+
+    ghost under = { λ _ _. octet_string_under no_constraint (record { low = 0; high = None }) };
+
+    ghost schema = { λ _. octet_string_under no_constraint (record { low = 0; high = None }) };
+
+    ghost is_own = { λ _. refl };
+
+    ghost meaning = { λ a. octet_list a };
+
+    ghost typed = { octet_string_type _ _ refl refl };
+
+    ghost valued = { λ a. octet_string_value _ _ _ };
+
+    ghost valued_under = { λ _ a. octet_string_value _ _ _ };
+}
+
+impl AsnType for Any {
+    const TAG: Tag = Tag::OCTET_STRING;
+
+    const IDENTIFIER: Identifier = Identifier::OCTET_STRING;
+
+    fn tag_tree() -> TagTree<'static> {
+        TagTree::of(Self::TAG)
+    }
+
+    fn constraints() -> Constraints<'static> {
+        Constraints::NONE
+    }
+}
+
+impl Encode for Any {
+    fn encode_with_tag_and_constraints<E: Encoder>(
+        &self,
+        encoder: &mut E,
+        tag: Tag,
+        _constraints: Constraints,
+    ) -> Result<(), EncodeError> {
+        encoder.encode_octet_string(
+            tag,
+            Constraints::NONE,
+            Bounded::None,
+            self.as_bytes(),
+            Identifier::OCTET_STRING,
+        )?;
+        Ok(())
+    }
+}
+
+impl Decode for Any {
+    fn decode_with_tag_and_constraints<D: Decoder>(
+        alloc: Global,
+        decoder: &mut D,
+        tag: Tag,
+        _constraints: Constraints,
+    ) -> Result<Self, DecodeError> {
+        let octets = decoder.decode_octet_string(alloc, tag, Constraints::NONE, Bounded::None)?;
+        let owned = octets.into_vec(alloc)?;
+        Ok(Any::new(owned))
+    }
 }

@@ -10,7 +10,7 @@ use asn1_schema_constraints::Constraints;
 use asn1_schema_decode::{Decode, Decoder};
 use asn1_schema_encode::{Encode, Encoder};
 use asn1_schema_faults::{DecodeError, EncodeError};
-use asn1_schema_tags::Tag;
+use asn1_schema_tags::{Identifier, Tag, TagTree};
 use asn1_schema_types::{AsnType, Described};
 use std::alloc::Global;
 use std::marker::PhantomData;
@@ -119,6 +119,14 @@ impl<C: ConstraintsOf<V>, V: Described> Described for Constrained<C, V> {
 
 impl<C: ConstraintsOf<V>, V: AsnType> AsnType for Constrained<C, V> {
     const TAG: Tag = V::TAG;
+
+    const IDENTIFIER: Identifier = V::IDENTIFIER;
+
+    const IS_CHOICE: bool = V::IS_CHOICE;
+
+    fn tag_tree() -> TagTree<'static> {
+        V::tag_tree()
+    }
 
     fn constraints() -> Constraints<'static> {
         C::constraints()

@@ -5,12 +5,16 @@
 pub mod any;
 pub mod constrained;
 pub mod inner;
+pub mod instances;
+pub mod open;
 pub mod tag;
 pub mod tagged;
 
-pub use any::{Any, InstanceOf};
+pub use any::Any;
 pub use constrained::{Constrained, ConstraintsOf};
 pub use inner::{InnerSubtypeConstraint, InnerSubtypeConstraintError};
+pub use instances::InstanceOf;
+pub use open::Open;
 pub use tagged::{Explicit, Implicit};
 
 /// A list of values of one type (X.680 26).

@@ -8,7 +8,7 @@ ghost use Rattle.asn1_schema_constraints.specs.Sets.{no_constraint};
 ghost use Rattle.asn1_schema_presented.proofs.TypesByKind.{null_type, null_value};
 
 use asn1_schema_constraints::Constraints;
-use asn1_schema_tags::{Class, Tag};
+use asn1_schema_tags::{Class, Identifier, Tag, TagTree};
 use asn1_schema_types::{AsnType, Described};
 
 /// The universal tag of this number.
@@ -40,6 +40,17 @@ impl<const NUMBER: u32> AsnType for Universal<NUMBER> {
         class: Class::Universal,
         value: NUMBER,
     };
+
+    const IDENTIFIER: Identifier = Identifier::NULL;
+
+    const IS_CHOICE: bool = false;
+
+    fn tag_tree() -> TagTree<'static> {
+        TagTree::of(Tag {
+            class: Class::Universal,
+            value: NUMBER,
+        })
+    }
 
     fn constraints() -> Constraints<'static> {
         Constraints::NONE
@@ -76,6 +87,17 @@ impl<const NUMBER: u32> AsnType for Application<NUMBER> {
         value: NUMBER,
     };
 
+    const IDENTIFIER: Identifier = Identifier::NULL;
+
+    const IS_CHOICE: bool = false;
+
+    fn tag_tree() -> TagTree<'static> {
+        TagTree::of(Tag {
+            class: Class::Application,
+            value: NUMBER,
+        })
+    }
+
     fn constraints() -> Constraints<'static> {
         Constraints::NONE
     }
@@ -111,6 +133,17 @@ impl<const NUMBER: u32> AsnType for Context<NUMBER> {
         value: NUMBER,
     };
 
+    const IDENTIFIER: Identifier = Identifier::NULL;
+
+    const IS_CHOICE: bool = false;
+
+    fn tag_tree() -> TagTree<'static> {
+        TagTree::of(Tag {
+            class: Class::Context,
+            value: NUMBER,
+        })
+    }
+
     fn constraints() -> Constraints<'static> {
         Constraints::NONE
     }
@@ -145,6 +178,17 @@ impl<const NUMBER: u32> AsnType for Private<NUMBER> {
         class: Class::Private,
         value: NUMBER,
     };
+
+    const IDENTIFIER: Identifier = Identifier::NULL;
+
+    const IS_CHOICE: bool = false;
+
+    fn tag_tree() -> TagTree<'static> {
+        TagTree::of(Tag {
+            class: Class::Private,
+            value: NUMBER,
+        })
+    }
 
     fn constraints() -> Constraints<'static> {
         Constraints::NONE

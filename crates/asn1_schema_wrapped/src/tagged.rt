@@ -6,7 +6,7 @@ use asn1_schema_constraints::Constraints;
 use asn1_schema_decode::{Decode, Decoder};
 use asn1_schema_encode::{Encode, Encoder};
 use asn1_schema_faults::{DecodeError, EncodeError};
-use asn1_schema_tags::Tag;
+use asn1_schema_tags::{Identifier, Tag, TagTree};
 use asn1_schema_types::{AsnType, Described};
 use std::alloc::Global;
 use std::marker::PhantomData;
@@ -87,6 +87,12 @@ impl<T: Described, V: Described> Described for Implicit<T, V> {
 
 impl<T: AsnType, V: AsnType> AsnType for Implicit<T, V> {
     const TAG: Tag = T::TAG;
+
+    const IDENTIFIER: Identifier = V::IDENTIFIER;
+
+    fn tag_tree() -> TagTree<'static> {
+        T::tag_tree()
+    }
 
     fn constraints() -> Constraints<'static> {
         V::constraints()
@@ -191,6 +197,12 @@ impl<T: Described, V: Described> Described for Explicit<T, V> {
 
 impl<T: AsnType, V: AsnType> AsnType for Explicit<T, V> {
     const TAG: Tag = T::TAG;
+
+    const IDENTIFIER: Identifier = V::IDENTIFIER;
+
+    fn tag_tree() -> TagTree<'static> {
+        T::tag_tree()
+    }
 
     fn constraints() -> Constraints<'static> {
         V::constraints()

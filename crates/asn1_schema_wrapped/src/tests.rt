@@ -1,12 +1,13 @@
 //! Each marker, and each call once.
 use crate::{
-    Any, Explicit, Implicit, InnerSubtypeConstraint, InnerSubtypeConstraintError, InstanceOf,
+    Any, Explicit, Implicit, InnerSubtypeConstraint, InnerSubtypeConstraintError, InstanceOf, Open,
     SequenceOf, UniversalString, tag,
 };
 use asn1_schema_faults::CodecKind;
 use asn1_schema_tags::Tag;
 use asn1_schema_types::AsnType;
 use asn1_values_identifiers::ObjectIdentifier;
+use std::borrow::CowSlice;
 use std::test::Fail;
 
 #[test]
@@ -90,6 +91,19 @@ fn any_value_is_its_octets(rt: HostRuntime) -> Result<(), Fail> {
     assert!(rt; copy == any);
     let again = Any::from(any.into_bytes());
     assert_eq!(rt; again.into_bytes().as_slice(), [2, 1].as_slice());
+    Ok(())
+}
+
+#[test]
+fn open_values_are_compared_by_their_types(rt: HostRuntime) -> Result<(), Fail> {
+    let alloc = rt.alloc();
+    let type_id = ObjectIdentifier::new_unchecked(CowSlice::Borrowed(&[1, 2, 3321]));
+    let value = Open::Bool(true);
+    let instance = Open::InstanceOf(Box::new(alloc, InstanceOf { type_id, value })?);
+    let copy = instance.clone()?;
+    assert!(rt; copy == instance);
+    assert!(rt; copy != Open::Null);
+    assert!(rt; Open::Bool(true) != Open::Bool(false));
     Ok(())
 }
 

@@ -1,4 +1,4 @@
-use Rattle.std.proofs.Common.{◌≡◌, ◌-◌, ◌^◌, length}
+use Rattle.std.proofs.Common.{◌≡◌, ◌-◌, ◌^◌}
 use Rattle.asn1_schema_decode.proofs.Listing.{ReadsFrom}
 use Rattle.asn1_schema_decode.proofs.lists.members_within.Given as goal
 

@@ -1,0 +1,29 @@
+use Rattle.asn1_schema_presented.proofs.Joined.{raised}
+use Rattle.asn1_schema_decode.specs.Reads.{omitted, spelled_out, other_value}
+use Rattle.asn1_schema_decode.proofs.Marking.{reads_marked, unread_default_here, unread_default, unread_noted}
+use Rattle.std.proofs.Common.{sym, ◌∙◌}
+use Rattle.asn1_schema_decode.proofs.components.DecodeSequence.decode_default_with_tag_and_constraints.Goals as goal
+use Rattle.asn1_schema_decode.proofs.components.DecodeSequence.decode_default_with_tag_and_constraints.Goals.{then-is_default+in_ok-note_default, else-is_default}
+
+pub returns-in_err-is_there-clause-only : goal.returns-in_err-is_there-clause-only
+returns-in_err-is_there-clause-only g c = raised _ _ _ c.from_residual.ensures.1 (unread_default_here c.in_err-is_there.ensures.only)
+
+pub returns-then-not-is_there-clause-ok : goal.returns-then-not-is_there-clause-ok
+returns-then-not-is_there-clause-ok g c = omitted c.in_ok-default.ensures (rw c.if-not-is_there.true at c.in_ok-is_there.ensures.ok)
+
+pub returns-in_err-value-clause-only : goal.returns-in_err-value-clause-only
+returns-in_err-value-clause-only g c = let one = g.met.Self.Decoder.one_record in raised _ _ _ c.from_residual-in_err-value.ensures.1 (unread_default one (rw c.if-not-is_there.false at c.in_ok-is_there.ensures.ok) (rw c.in_ok-is_there.ensures.level at c.in_err-value.ensures.only))
+
+pub returns-in_err-note_default-clause-only : goal.returns-in_err-note_default-clause-only
+returns-in_err-note_default-clause-only g c =
+    let one = g.met.Self.Decoder.one_record in
+    raised _ _ _ c.from_residual-in_err-note_default.ensures.1 (unread_noted one (sym c.is_default-is_default.ensures ∙ c.if-is_default.true) (rw c.if-not-is_there.false at c.in_ok-is_there.ensures.ok) (rw c.in_ok-is_there.ensures.level at c.in_ok-value.ensures.ok) c.in_err-note_default.ensures.only)
+
+pub returns-clause-ok : goal.returns-clause-ok
+returns-clause-ok g c =
+    let marked = rw c.if-not-is_there.false at c.in_ok-is_there.ensures.ok in
+    let read = rw c.in_ok-is_there.ensures.level at c.in_ok-value.ensures.ok in
+    elim c.if-is_default.branch [
+      | then-is_default+in_ok-note_default w ↦ rw w.self-is (spelled_out (sym c.is_default-is_default.ensures ∙ w.if-is_default.true) _ (reads_marked marked read) w.in_ok-note_default.ensures.ok)
+      | else-is_default w ↦ rw w.self-is (other_value (sym c.is_default-is_default.ensures ∙ w.if-is_default.false) (reads_marked marked read))
+    ]
