@@ -1,20 +1,19 @@
 -- Additions: each stands as an open type behind its length, and a bitmap in front of them.
-use Rattle.std.proofs.Common.{◌≡◌, ℕ, zero, suc, ◌+◌, ltb, not, ◌&&◌, ◌||◌, ◌==◌, take, drop, arith, Bool, true, false, cond, List, [], ◌∷◌, ◌++◌, length, map, Option, Some, None, option_map, option_and_then, refl, ap, sym, ◌∙◌, append_assoc}
+use Rattle.std.proofs.Common.{◌≡◌, ℕ, suc, ◌+◌, ltb, take, drop, arith, Bool, true, false, cond, List, [], ◌∷◌, ◌++◌, length, map, Option, Some, None, option_map, option_and_then, refl, ap, sym, ◌∙◌, append_assoc}
 use Rattle.std.proofs.lemmas.List.{append-nil}
 use Rattle.asn1_model.specs.Value.{Value, fields, Parts, end, absent, present}
-use Rattle.asn1_model.specs.Schema.{Presence, Schema, sequence, Components, no_component, component}
+use Rattle.asn1_model.specs.Schema.{Tag, Presence, Schema, sequence, set, Components, no_component, component}
 use Rattle.asn1_model.specs.Normal.{is_at_default, is_group_left_out}
 use Rattle.asn1_model.specs.Tables.{is_required, marks}
-use Rattle.asn1_model.specs.Numbers.{missing}
 use Rattle.std.proofs.lemmas.Bool.{lt-ltb}
-use Rattle.asn1_model.specs.Form.{exactly, refused, both, varied, within, only_if, given, joined, is_present, is_any_present, present_ones, covered_by, written}
+use Rattle.asn1_model.specs.Form.{exactly, refused, both, given, joined, is_present, is_any_present, present_ones, covered_by, written}
 use Rattle.asn1_model.specs.Oer
-use Rattle.asn1_schema_presented.specs.Records.{Record, additions_begin, addition, addition_ends, is_default, is_empty, ends, mismatch}
+use Rattle.asn1_schema_presented.specs.Records.{Record, additions_begin, addition, addition_ends, is_default, is_empty, mismatch}
 use Rattle.asn1_schema_presented.specs.Presents.{presents, added_records, component_count, root_records, optional_count, behind_root}
-use Rattle.oer_codec_steps.specs.Steps.{Scope, components, added, open_type, State, adds_text, run, runs, added_one}
-use Rattle.oer_codec_steps.proofs.Still.{Still, OctetsStill, still_both, counted_still, counted_bits_still}
-use Rattle.oer_codec_steps.specs.Ties.{BridgesAt, Bridges, EachBridges}
-use Rattle.oer_codec_steps.proofs.Bridge.{chain_same, none_behind, one_text, noted_by, spelled_by, root, preamble_octets}
+use Rattle.oer_codec_steps.specs.Steps.{Scope, components, added, open_type, State, runs}
+use Rattle.oer_codec_steps.proofs.Still.{OctetsStill, still_both, counted_still, counted_bits_still}
+use Rattle.oer_codec_steps.specs.Ties.{BridgesAt, Bridges}
+use Rattle.oer_codec_steps.proofs.Bridge.{EachBridges, chain_same, none_behind, two_steps, one_text, noted_by, spelled_by, root, closed_off, preamble_octets}
 
 -- the texts of additions, each alone
 abbrev pub texts_of : List (Option Oer.OctetForm) → Option (List (Option (List ℕ)))
@@ -55,10 +54,10 @@ present_slot ms r slots front k rest x (Some xs) = outer (written x 0)
     outer (Some w) = go w (texts_of xs)
 
 -- an addition that is there
-abbrev opened : Option (List ℕ) → Option (List ℕ)
+abbrev pub opened : Option (List ℕ) → Option (List ℕ)
 opened o = option_and_then (λ w. written (Oer.counted w) 0) o
 
-open_text : (x : Oer.OctetForm) → written (Oer.open_type x) 0 ≡ opened (written x 0)
+pub open_text : (x : Oer.OctetForm) → written (Oer.open_type x) 0 ≡ opened (written x 0)
 unfolding written Oer.open_type
 open_text x = chain_same (written x 0) (λ w. written (Oer.counted (w ++ [])) 0) (λ w. written (Oer.counted w) 0) (λ w. ap (λ l. written (Oer.counted l) 0) (append-nil w))
 
@@ -285,7 +284,7 @@ spelled_still true g x h = record { at = λ p. refl }
 spelled_still false true x h = record { at = λ p. refl }
 spelled_still false false x h = h
 
-open_still : (x : Oer.OctetForm) → OctetsStill (Oer.open_type x)
+pub open_still : (x : Oer.OctetForm) → OctetsStill (Oer.open_type x)
 unfolding written Oer.open_type
 open_still x = record { at = λ p. chain_same (written x 0) (λ w. written (Oer.counted (w ++ [])) p) (λ w. written (Oer.counted (w ++ [])) 0) (λ w. (counted_still (w ++ [])).at p) }
 
@@ -322,25 +321,64 @@ components_still (component t o s cs) h (present v ps) = still_both (spelled_sti
 components_still (component t o s cs) h (absent ps) = left_still (is_required o) (Oer.component_forms cs ps) (components_still cs h.1 ps)
 components_still (component t o s cs) h end = refused_still
 
--- ---- SEQUENCE with a mark of extensibility
-
-both_steps : (w : List ℕ → Option State) (f : List ℕ → Option (List ℕ)) (o : Option (List ℕ)) → option_and_then (λ r. option_and_then w (f r)) o ≡ option_and_then w (option_and_then f o)
-both_steps w f None = refl
-both_steps w f (Some r) = refl
+-- ---- the root and the additions
 
 by_texts : (ms : List Bool) (x : Oer.OctetForm) → OctetsStill x → (p : ℕ) (w : List ℕ → Option State) (xs : List (Option Oer.OctetForm)) → EachStill xs → (t : Option (List (Option (List ℕ)))) → texts_of xs ≡ t → option_and_then (λ r. option_and_then (λ us. option_and_then w (closing ms r us)) t) (written x 0) ≡ option_and_then w (written (Oer.sequence_form true ms x xs) p)
 by_texts ms x hx p w xs h None e = none_behind (written x 0) ∙ ap (option_and_then w) (sym (none_closes ms x xs h e p))
-by_texts ms x hx p w xs h (Some us) e = both_steps w (λ r. closing ms r us) (written x 0) ∙ ap (option_and_then w) (sym (closes ms x xs us hx h e p))
+by_texts ms x hx p w xs h (Some us) e = two_steps w (λ r. closing ms r us) (written x 0) ∙ ap (option_and_then w) (sym (closes ms x xs us hx h e p))
 
 by_additions : (ms : List Bool) (x : Oer.OctetForm) → OctetsStill x → (p : ℕ) (w : List ℕ → Option State) (o : Option (List (Option Oer.OctetForm))) → AllStill o → option_and_then (λ r. option_and_then (λ xs. option_and_then (λ us. option_and_then w (closing ms r us)) (texts_of xs)) o) (written x 0) ≡ option_and_then w (written (given o (Oer.sequence_form true ms x)) p)
 unfolding written
 by_additions ms x hx p w None h = none_behind (written x 0)
 by_additions ms x hx p w (Some xs) h = by_texts ms x hx p w xs h (texts_of xs) refl
 
-pub extended_sequences : (cs adds : Components) → EachBridges cs → EachBridges adds → Bridges (sequence cs true adds)
-unfolding presents Oer.form written
-extended_sequences cs adds h ha (fields ps qs) p os k rest =
+-- ---- SEQUENCE and SET
+
+-- the records of parts, and what they add
+abbrev PartsBridge : Components → Bool → Components → Type 0
+PartsBridge cs e adds = (ps qs : Parts) (p : ℕ) (os : List ℕ) (k : List Scope) (rest : List Record) → runs (root_records cs ps (behind_root e adds (added_records adds qs)) ++ rest) ([], components e (optional_count cs) [] os ∷ k) ≡ option_and_then (λ w. runs rest (os ++ w, k)) (written (given (Oer.addition_forms adds qs) (Oer.sequence_form e (marks cs ps) (Oer.component_forms cs ps))) p)
+
+marked_parts : (cs adds : Components) → EachBridges cs → EachBridges adds → PartsBridge cs true adds
+marked_parts cs adds h ha ps qs p os k rest =
     root true cs h ps 0 [] os [] k (additions_begin (component_count adds) ∷ added_records adds qs) rest
     ∙ chain_same (written (Oer.component_forms cs ps) 0) _ (λ r. option_and_then (λ xs. option_and_then (λ us. option_and_then (λ w. runs rest (os ++ w, k)) (closing (marks cs ps) r us)) (texts_of xs)) (Oer.addition_forms adds qs)) (λ r. rest_of adds ha qs (marks cs ps) r [] os k rest)
     ∙ by_additions (marks cs ps) (Oer.component_forms cs ps) (components_still cs h ps) p (λ w. runs rest (os ++ w, k)) (Oer.addition_forms adds qs) (additions_still adds qs)
-extended_sequences cs adds h ha v p os k rest = refl
+
+-- no text has additions without a mark
+unmarked_additions : (ms : List Bool) (x : Oer.OctetForm) (t : List Tag) (o : Presence) (s : Schema) (adds : Components) (qs : Parts) (p : ℕ) → written (given (Oer.addition_forms (component t o s adds) qs) (Oer.sequence_form false ms x)) p ≡ None
+unfolding written Oer.addition_forms Oer.sequence_form
+unmarked_additions ms x t o s adds (present v qs) p = go (Oer.addition_forms adds qs)
+  where
+    go : (xs : Option (List (Option Oer.OctetForm))) → written (given (option_map (λ xs. Some (Oer.spelled o s v (Oer.open_type (Oer.form s v))) ∷ xs) xs) (Oer.sequence_form false ms x)) p ≡ None
+    go None = refl
+    go (Some xs) = refl
+unmarked_additions ms x t o s adds (absent qs) p = go (is_required o) (Oer.addition_forms adds qs)
+  where
+    go : (q : Bool) (xs : Option (List (Option Oer.OctetForm))) → written (given (cond q None (option_map (λ xs. None ∷ xs) xs)) (Oer.sequence_form false ms x)) p ≡ None
+    go true xs = refl
+    go false None = refl
+    go false (Some xs) = refl
+unmarked_additions ms x t o s adds end p = refl
+
+unmarked_parts : (cs adds : Components) → EachBridges cs → PartsBridge cs false adds
+unfolding added_records written Oer.addition_forms Oer.sequence_form
+unmarked_parts cs no_component h ps end p os k rest = closed_off cs h ps p os k rest
+unmarked_parts cs no_component h ps qs p os k rest = root false cs h ps p [] os [] k (mismatch ∷ []) rest ∙ none_behind (written (Oer.component_forms cs ps) p)
+unmarked_parts cs (component t o s adds) h ps qs p os k rest =
+    root false cs h ps p [] os [] k (additions_begin (suc (component_count adds)) ∷ added_records (component t o s adds) qs) rest
+    ∙ none_behind (written (Oer.component_forms cs ps) p)
+    ∙ ap (option_and_then (λ w. runs rest (os ++ w, k))) (sym (unmarked_additions (marks cs ps) (Oer.component_forms cs ps) t o s adds qs p))
+
+parts : (cs : Components) (e : Bool) (adds : Components) → EachBridges cs → EachBridges adds → PartsBridge cs e adds
+parts cs true adds h ha = marked_parts cs adds h ha
+parts cs false adds h ha = unmarked_parts cs adds h
+
+pub sequences : (cs : Components) (e : Bool) (adds : Components) → EachBridges cs → EachBridges adds → Bridges (sequence cs e adds)
+unfolding presents Oer.form written
+sequences cs e adds h ha (fields ps qs) p os k rest = parts cs e adds h ha ps qs p os k rest
+sequences cs e adds h ha v p os k rest = refl
+
+pub sets : (cs : Components) (e : Bool) (adds : Components) → EachBridges cs → EachBridges adds → Bridges (set cs e adds)
+unfolding presents Oer.form written
+sets cs e adds h ha (fields ps qs) p os k rest = parts cs e adds h ha ps qs p os k rest
+sets cs e adds h ha v p os k rest = refl

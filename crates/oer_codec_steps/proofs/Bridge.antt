@@ -1,18 +1,18 @@
 -- The bridge, kind by kind.
-use Rattle.std.proofs.Common.{◌≡◌, ℕ, ℤ, zero, suc, ◌+◌, Bool, true, false, cond, List, [], ◌∷◌, ◌++◌, length, map, replicate, Option, Some, None, option_map, option_and_then, refl, ap, sym, ◌∙◌, append_assoc}
+use Rattle.std.proofs.Common.{◌≡◌, ℕ, ℤ, suc, ◌+◌, Bool, true, false, cond, List, [], ◌∷◌, ◌++◌, length, replicate, Option, Some, None, option_map, option_and_then, refl, ap, sym, ◌∙◌, append_assoc}
 use Rattle.std.proofs.lemmas.List.{append-nil}
 use Rattle.asn1_model.specs.Value.{Value, truth, nothing, number, item, bit_list, octet_list, text, arcs, fields, Parts, end, absent, present}
-use Rattle.asn1_model.specs.Schema.{Range, Bounds, Counts, Size, StringKind, Alphabet, Presence, Schema, boolean, null, integer, enumerated, bit_string, octet_string, character_string, object_identifier, sequence, Components, no_component, component}
+use Rattle.asn1_model.specs.Schema.{Range, Bounds, Counts, Size, StringKind, Alphabet, Schema, boolean, null, integer, enumerated, bit_string, octet_string, character_string, object_identifier, group, Components, no_component, component}
 use Rattle.asn1_model.specs.Normal.{is_at_default, is_group_left_out}
 use Rattle.asn1_model.specs.Tables.{is_required, mark_unless, marks}
 use Rattle.asn1_model.specs.Numbers.{missing}
-use Rattle.asn1_model.specs.Form.{exactly, refused, both, varied, only_if, written}
+use Rattle.asn1_model.specs.Form.{refused, both, varied, only_if, written}
 use Rattle.asn1_model.specs.Oer
 use Rattle.asn1_schema_presented.specs.Records.{Record, mark, is_default, is_empty, ends, mismatch}
 use Rattle.asn1_schema_presented.specs.Presents.{presents, root_records, optional_count, marked}
 use Rattle.oer_codec_steps.proofs.Still.{OctetsStill, still_if, counted_still, integer_still, item_still, bit_string_still, octets_still}
-use Rattle.oer_codec_steps.specs.Steps.{Scope, components, State, adds_text, run, runs}
-use Rattle.oer_codec_steps.specs.Ties.{BridgesAt, Bridges, EachBridges}
+use Rattle.oer_codec_steps.specs.Steps.{Scope, components, State, adds_text, runs}
+use Rattle.oer_codec_steps.specs.Ties.{BridgesAt, Bridges}
 
 -- one record that adds a text
 pub one_text : (o : Option (List ℕ)) (os : List ℕ) (k : List Scope) (rest : List Record) → option_and_then (λ m. runs rest m) (adds_text o (os, k)) ≡ option_and_then (λ w. runs rest (os ++ w, k)) o
@@ -74,6 +74,10 @@ pub none_behind : {X Y : Type 0} (o : Option X) → option_and_then {U = Y} (λ 
 none_behind None = refl
 none_behind (Some x) = refl
 
+pub two_steps : {X Y Z : Type 0} (g : Y → Option Z) (f : X → Option Y) (o : Option X) → option_and_then (λ x. option_and_then g (f x)) o ≡ option_and_then g (option_and_then f o)
+two_steps g f None = refl
+two_steps g f (Some x) = refl
+
 -- two texts, one behind the other
 pub two_texts : (o : Option (List ℕ)) (q : List ℕ → Option (List ℕ)) (os : List ℕ) (f : List ℕ → Option State) → option_and_then (λ a. option_and_then (λ b. f ((os ++ a) ++ b)) (q a)) o ≡ option_and_then (λ w. f (os ++ w)) (option_and_then (λ a. option_map (λ b. a ++ b) (q a)) o)
 two_texts None q os f = refl
@@ -84,6 +88,11 @@ two_texts (Some a) q os f = go (q a)
     go (Some b) = ap f (append_assoc os a b)
 
 -- ---- components
+
+-- each component's type has the bridge
+abbrev pub EachBridges : Components → Type 0
+EachBridges no_component = Unit {0}
+EachBridges (component t o s cs) = Bridges s × EachBridges cs
 
 abbrev pub preamble_octets : List Bool → List ℕ
 preamble_octets bs = Oer.packed (bs ++ replicate (missing (length bs)) false)
@@ -134,7 +143,7 @@ root e (component t o s cs) h (absent ps) p ms front os k rs more = one_absent e
 root e (component t o s cs) h end p ms front os k rs more = refl
 
 -- the end puts the presence bits in front of the root's octets
-closed_off : (cs : Components) → EachBridges cs → (ps : Parts) (p : ℕ) (os : List ℕ) (k : List Scope) (rest : List Record) → runs (root_records cs ps (ends ∷ []) ++ rest) ([], components false (optional_count cs) [] os ∷ k) ≡ option_and_then (λ w. runs rest (os ++ w, k)) (written (both (Oer.preamble (marks cs ps)) (Oer.component_forms cs ps)) p)
+pub closed_off : (cs : Components) → EachBridges cs → (ps : Parts) (p : ℕ) (os : List ℕ) (k : List Scope) (rest : List Record) → runs (root_records cs ps (ends ∷ []) ++ rest) ([], components false (optional_count cs) [] os ∷ k) ≡ option_and_then (λ w. runs rest (os ++ w, k)) (written (both (Oer.preamble (marks cs ps)) (Oer.component_forms cs ps)) p)
 unfolding written Oer.sequence_form
 closed_off cs h ps p os k rest =
     root false cs h ps (p + length (preamble_octets (marks cs ps))) [] os [] k (ends ∷ []) rest ∙ go (written (Oer.component_forms cs ps) (p + length (preamble_octets (marks cs ps))))
@@ -143,8 +152,8 @@ closed_off cs h ps p os k rest =
     go None = refl
     go (Some w) = refl
 
-pub plain_sequences : (cs : Components) → EachBridges cs → Bridges (sequence cs false no_component)
-unfolding presents Oer.form written Oer.sequence_form
-plain_sequences cs h (fields ps end) p os k rest = closed_off cs h ps p os k rest
-plain_sequences cs h (fields ps qs) p os k rest = root false cs h ps p [] os [] k (mismatch ∷ []) rest ∙ none_behind (written (Oer.component_forms cs ps) p)
-plain_sequences cs h v p os k rest = refl
+-- so it does that of a group, which has neither mark nor additions
+pub groups : (cs : Components) → EachBridges cs → Bridges (group cs)
+unfolding presents Oer.form written
+groups cs h (fields ps end) p os k rest = closed_off cs h ps p os k rest
+groups cs h v p os k rest = refl

@@ -1,5 +1,5 @@
--- Lists, and the bridge as a fact of chains.
-use Rattle.std.proofs.Common.{◌≡◌, ◌↔◌, ℕ, zero, suc, ◌+◌, Bool, true, false, cond, List, [], ◌∷◌, ◌++◌, length, map, Option, Some, None, option_map, option_and_then, refl, ap, sym, ◌∙◌, append_assoc}
+-- SEQUENCE OF: the count, and the members.
+use Rattle.std.proofs.Common.{◌≡◌, ℕ, suc, ◌+◌, Bool, true, false, List, ◌∷◌, ◌++◌, length, Option, Some, None, option_map, option_and_then, refl, ap, sym, ◌∙◌, append_assoc}
 use Rattle.std.proofs.lemmas.List.{append-nil}
 use Rattle.asn1_model.specs.Value.{Value, members as in_list, Values, no_more, member, each}
 use Rattle.asn1_model.specs.Schema.{Counts, Size, Schema, sequence_of}
@@ -8,15 +8,12 @@ use Rattle.asn1_model.specs.Form.{both, only_if, joined, written}
 use Rattle.asn1_model.specs.Oer
 use Rattle.asn1_schema_presented.specs.Records.{Record}
 use Rattle.asn1_schema_presented.specs.Presents.{presents, member_records, member_count}
-use Rattle.asn1_schema_presented.specs.Chains.{Chain}
-use Rattle.oer_codec_steps.specs.Steps.{Scope, members, State, run, runs}
-use Rattle.oer_codec_steps.specs.Ties.{BridgesAt, Bridges, Step, Added}
-use Rattle.oer_codec_steps.proofs.Still.{OctetsStill, unsigned_still}
-use Rattle.oer_codec_steps.proofs.Bridge.{chain_same, none_behind, two_texts}
+use Rattle.oer_codec_steps.specs.Steps.{Scope, members, State, runs}
+use Rattle.oer_codec_steps.specs.Ties.{Bridges}
+use Rattle.oer_codec_steps.proofs.Still.{unsigned_still}
+use Rattle.oer_codec_steps.proofs.Bridge.{chain_same, two_texts}
 
--- ---- lists
-
-length-each : {X : Type 0} (f : Value → X) (vs : Values) → length (each f vs) ≡ member_count vs
+pub length-each : {X : Type 0} (f : Value → X) (vs : Values) → length (each f vs) ≡ member_count vs
 length-each f no_more = refl
 length-each f (member v vs) = ap suc (length-each f vs)
 
@@ -46,28 +43,3 @@ lists z h s b (in_list vs) p os k rest =
     counted_members s b (is_count_within h (member_count vs)) vs p os k rest
     ∙ ap (λ n. option_and_then (λ w. runs rest (os ++ w, k)) (written (only_if (is_count_within h n) (both (Oer.unsigned n) (joined (each (λ v. Oer.form s v) vs)))) p)) (sym (length-each (λ v. Oer.form s v) vs))
 lists z h s b v p os k rest = refl
-
--- ---- chains
-
-chain_runs : (rs : List Record) (a b : State) → Chain Step rs a b → runs rs a ≡ Some b
-chain_runs [] a b h = ap Some (sym h)
-chain_runs (r ∷ rs) a b h = ap (option_and_then (λ m. runs rs m)) h.1 ∙ chain_runs rs h.0 b h.2
-
-runs_chain : (rs : List Record) (a b : State) → runs rs a ≡ Some b → Chain Step rs a b
-runs_chain [] a b h = cc
-runs_chain (r ∷ rs) a b h = go (λ m f. runs_chain rs m b f) (run r a) refl h
-  where
-    go : ((m : State) → runs rs m ≡ Some b → Chain Step rs m b) → (o : Option State) → run r a ≡ o → option_and_then (λ m. runs rs m) o ≡ Some b → Chain Step (r ∷ rs) a b
-    go again None e f = cc
-    go again (Some m) e f = (m, e, again m f)
-
--- the records of a value are a chain exactly from what is held to the same with the value's octets behind it
-pub added : (s : Schema) (v : Value) → BridgesAt s v → Added s v
-added s v h os k new = (λ c. go (written (Oer.form s v) 0) refl (sym at ∙ chain_runs (presents s v) (os, k) new c), λ t. runs_chain (presents s v) (os, k) new (at ∙ ap (option_and_then (λ w. Some (os ++ w, k))) t.1 ∙ ap Some (sym t.2)))
-  where
-    at : runs (presents s v) (os, k) ≡ option_and_then (λ w. Some (os ++ w, k)) (written (Oer.form s v) 0)
-    at = ap (λ l. runs l (os, k)) (sym (append-nil (presents s v))) ∙ h 0 os k []
-
-    go : (o : Option (List ℕ)) → written (Oer.form s v) 0 ≡ o → option_and_then (λ w. Some (os ++ w, k)) o ≡ Some new → (w : List ℕ) × (written (Oer.form s v) 0 ≡ Some w) × (new ≡ (os ++ w, k))
-    go None e f = cc
-    go (Some w) e f = (w, e, let q : new ≡ (os ++ w, k) = cc in q)

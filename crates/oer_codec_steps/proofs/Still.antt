@@ -1,11 +1,10 @@
 -- The canonical text of these forms is the same at every position.
-use Rattle.std.proofs.Common.{◌≡◌, ℕ, ◌+◌, ◌/◌, ◌*◌, ◌==◌, Bool, true, false, ◌&&◌, ◌||◌, List, [], ◌∷◌, ◌++◌, length, replicate, Option, Some, None, option_map, option_and_then, refl, ap, sym, ◌∙◌}
-use Rattle.std.specs.Prelude.{ℤ, pos, negsuc, ltb, leb, cond, ◌^◌, not, max, flat_map}
-use Rattle.asn1_model.specs.Schema.{Tag, Range, Bounds, StringKind}
-use Rattle.asn1_model.specs.Numbers.{digits, octet_width, least_octets, signed_octets, complement, missing, is_within, fits_128}
+use Rattle.std.proofs.Common.{◌≡◌, ℕ, ◌+◌, Bool, true, false, List, [], ◌∷◌, ◌++◌, length, Option, Some, None, option_map, option_and_then, refl, ap, sym, ◌∙◌}
+use Rattle.std.specs.Prelude.{ℤ, pos, negsuc, ltb, cond, ◌^◌}
+use Rattle.asn1_model.specs.Schema.{Tag, Range, Bounds}
+use Rattle.asn1_model.specs.Numbers.{digits, octet_width, least_octets, signed_octets, complement}
 use Rattle.asn1_model.specs.Form.{Form, exactly, refused, both, varied, written, only_if, given}
-use Rattle.asn1_model.specs.Tables.{is_bounded}
-use Rattle.asn1_model.specs.Strings.{is_octet, each_is, groups_of_seven}
+use Rattle.asn1_model.specs.Strings.{is_octet, each_is}
 use Rattle.asn1_model.specs.Oer
 
 -- a form whose canonical text does not depend on its position

@@ -1,11 +1,11 @@
 -- What a writer of the octet encoding rules (X.696) holds: the octets of the innermost open scope, and the open scopes. Each record changes them.
-use Rattle.std.specs.Prelude.{ℕ, zero, suc, Bool, true, false, cond, List, [], ◌∷◌, ◌++◌, length, map, Option, Some, None, option_map, option_and_then}
+use Rattle.std.specs.Prelude.{◌≡◌, ℕ, zero, suc, Bool, true, false, List, [], ◌∷◌, ◌++◌, map, Option, Some, None, option_map, option_and_then}
 use Rattle.asn1_model.specs.Value.{truth, item, bit_list, octet_list, text, arcs}
 use Rattle.asn1_model.specs.Schema.{Tag, boolean, enumerated, bit_string, octet_string, character_string, object_identifier}
 use Rattle.asn1_model.specs.Numbers.{is_count_within}
-use Rattle.asn1_model.specs.Form.{exactly, written, only_if, given}
+use Rattle.asn1_model.specs.Form.{exactly, written, joined, only_if}
 use Rattle.asn1_model.specs.Oer
-use Rattle.asn1_schema_presented.specs.Records.{Record, flag, nil, whole, one_of, bits, octets, characters, identifier, list_begins, bag_begins, further, sequence_begins, set_begins, group_begins, mark, is_default, is_empty, additions_begin, addition, addition_ends, choice_begins, ends, mismatch}
+use Rattle.asn1_schema_presented.specs.Records.{Record, flag, nil, whole, one_of, bits, octets, characters, identifier, list_begins, bag_begins, further, sequence_begins, set_begins, group_begins, mark, additions_begin, addition, addition_ends, choice_begins, ends}
 
 -- An open scope.
 pub data Scope : Type 0 where
@@ -19,6 +19,8 @@ pub data Scope : Type 0 where
   open_type : List ℕ → Scope
   -- a list: how many members are due
   members : ℕ → Scope
+  -- a bag: how many members are due, the octets of each that stands before the open one, if one is open, and the octets in front of the members
+  bag_members : ℕ → Option (List (List ℕ)) → List ℕ → Scope
   -- an alternative of the root
   alternative : Scope
 
@@ -43,8 +45,21 @@ counted_on zero os k false = Some (os, members zero ∷ k)
 counted_on (suc n) os k true = Some (os, members n ∷ k)
 counted_on (suc n) os k false = None
 
+-- The octets of each member of a bag, the open one behind the others.
+abbrev pub with_open : Option (List (List ℕ)) → List ℕ → List (List ℕ)
+with_open None os = []
+with_open (Some ws) os = ws ++ os ∷ []
+
+-- A member of a bag stands alone until the end, which puts them in their order.
+abbrev pub counted_in : ℕ → Option (List (List ℕ)) → List ℕ → List ℕ → List Scope → Bool → Option State
+counted_in zero ws front os k true = None
+counted_in zero ws front os k false = Some (os, bag_members zero ws front ∷ k)
+counted_in (suc n) ws front os k true = Some ([], bag_members n (Some (with_open ws os)) front ∷ k)
+counted_in (suc n) ws front os k false = None
+
 abbrev pub goes_on : Bool → List ℕ → List Scope → Option State
 goes_on b os (members n ∷ k) = counted_on n os k b
+goes_on b os (bag_members n ws front ∷ k) = counted_in n ws front os k b
 goes_on b os k = None
 
 -- The end of a type without additions: its form is that of the definitions, around the octets of its root.
@@ -57,11 +72,17 @@ abbrev pub closed_added : ℕ → List Bool → List ℕ → List (Option (List 
 closed_added zero ms root slots front k = adds_text (written (Oer.sequence_form true ms (exactly root) (map (λ o. option_map (λ w. exactly w) o) slots)) 0) (front, k)
 closed_added n ms root slots front k = None
 
+-- The end of a bag puts its members in the ascending order of their octets (X.696 19).
+abbrev pub closed_bag : ℕ → List (List ℕ) → List ℕ → List Scope → Option State
+closed_bag zero ws front k = adds_text (written (Oer.in_any_order (map (λ w. exactly w) ws) (λ xs. joined xs)) 0) (front, k)
+closed_bag n ws front k = None
+
 abbrev pub ended : List ℕ → List Scope → Option State
 ended os (components e n ms front ∷ k) = closed e n ms front os k
 ended os (added n ms root slots front ∷ k) = closed_added n ms root slots front k
 ended os (open_type front ∷ k) = adds_text (written (Oer.counted os) 0) (front, k)
 ended os (members zero ∷ k) = Some (os, k)
+ended os (bag_members n ws front ∷ k) = closed_bag n (with_open ws os) front k
 ended os (alternative ∷ k) = Some (os, k)
 ended os k = None
 
@@ -94,6 +115,12 @@ tag_at i [] = None
 tag_at zero (t ∷ ts) = Some t
 tag_at (suc i) (t ∷ ts) = tag_at i ts
 
+-- The tags among which the chosen alternative has its place: of a type without a mark none is added.
+abbrev pub tags_among : List Tag → Bool → List Tag → Bool → List Tag
+tags_among roots e others false = roots
+tags_among roots false others true = []
+tags_among roots true others true = others
+
 -- An alternative of the root stands behind its tag, an added one as an open type (X.696 20).
 abbrev pub chosen_on : Bool → List ℕ → State → Option State
 chosen_on false t s = Some (s.0 ++ t, alternative ∷ s.1)
@@ -110,6 +137,7 @@ run (octets z h os) s = adds_text (written (Oer.form (octet_string z h) (octet_l
 run (characters k z a h cs) s = adds_text (written (Oer.form (character_string k z a h) (text cs)) 0) s
 run (identifier ns) s = adds_text (written (Oer.form object_identifier (arcs ns)) 0) s
 run (list_begins z h n) s = option_map (λ w. (s.0 ++ w, members n ∷ s.1)) (written (only_if (is_count_within h n) (Oer.unsigned n)) 0)
+run (bag_begins z h n) s = option_map (λ w. ([], bag_members n None (s.0 ++ w) ∷ s.1)) (written (only_if (is_count_within h n) (Oer.unsigned n)) 0)
 run (further b) s = goes_on b s.0 s.1
 run (sequence_begins e n) s = Some ([], components e n [] s.0 ∷ s.1)
 run (set_begins e n) s = Some ([], components e n [] s.0 ∷ s.1)
@@ -118,9 +146,13 @@ run (mark b) s = marked b s.0 s.1
 run (additions_begin n) s = extended n s.0 s.1
 run (addition b) s = adds b s.0 s.1
 run addition_ends s = added_one s.0 s.1
-run (choice_begins roots e others plus i) s = option_and_then (λ t. option_and_then (λ w. chosen_on plus w s) (written (Oer.tag_form t) 0)) (tag_at i (cond plus others roots))
+run (choice_begins roots e others plus i) s = option_and_then (λ t. option_and_then (λ w. chosen_on plus w s) (written (Oer.tag_form t) 0)) (tag_at i (tags_among roots e others plus))
 run ends s = ended s.0 s.1
 run r s = None
+
+-- The relation of a writer: what is held before a record, and behind it.
+abbrev pub Step : State → Record → State → Type 0
+Step a r b = run r a ≡ Some b
 
 -- Records one after another.
 abbrev pub runs : List Record → State → Option State

@@ -2,29 +2,52 @@
 //! octets. Each function does nothing; its contract is a law.
 #![tactic(auto)]
 
-ghost use Rattle.oer_codec_steps.specs.Ties.{EachAdded, ExtendedSequences, Lists, PlainSequences, Scalars};
+ghost use Rattle.asn1_schema_presented.specs.Records.{Record};
+ghost use Rattle.oer_codec_steps.specs.Steps.{State};
+ghost use Rattle.oer_codec_steps.specs.Ties.{ChainsAddTheOctets, EveryTypeBridges};
+ghost use Rattle.oer_codec_steps.specs.Written.{IsWriter, RefusedByRecords, RefusesOnlyNone, WrittenByRecords, WritesTheOctets};
 
-/// The records of each scalar type add its octets.
-pub fn scalars_bridge()
-    ensures { Scalars }
+/// The records of each value of each type add its octets to those that are there, and are refused where it has none.
+pub fn every_type_bridges()
+    ensures { EveryTypeBridges }
 {}
 
-/// So do those of a SEQUENCE without a mark of extensibility, with components that may be absent (X.696 16), if those of its components do.
-pub fn sequences_bridge()
-    ensures { PlainSequences }
-{}
-
-/// So do those of a SEQUENCE with a mark of extensibility and additions (X.696 16).
-pub fn extended_sequences_bridge()
-    ensures { ExtendedSequences }
-{}
-
-/// So do those of a SEQUENCE OF (X.696 17).
-pub fn lists_bridge()
-    ensures { Lists }
-{}
-
-/// Where the records of a value add its octets, a chain of steps by them is just that.
+/// A chain of steps by the records of a value leads just from what is held to the same with the octets of the value behind it.
 pub fn chains_add_the_octets()
-    ensures { EachAdded }
+    ensures { ChainsAddTheOctets }
+{}
+
+/// From nothing the records of a value lead just to its octets, in whatever depth its type is unfolded.
+pub fn written_by_records()
+    ensures { WrittenByRecords }
+{}
+
+/// The records of a value are refused for another reason than memory just where it has no octets.
+pub fn refused_by_records()
+    ensures { RefusedByRecords }
+{}
+
+/// What takes records, and holds what a writer does.
+pub trait Writer {
+    /// How what there is before a record and behind it go together.
+    ghost step: { Self → Record → Self → Type 0 };
+
+    /// What is held.
+    ghost held: { Self → State };
+
+    /// No record was refused.
+    ghost ready: { Self → Type 0 };
+
+    /// The steps are those of a writer, and none of them is missing.
+    ghost is_writer: { IsWriter step held ready };
+}
+
+/// A writer that held nothing holds the canonical octets of a value behind its records.
+pub fn writes_the_octets<W: Writer>()
+    ensures { WritesTheOctets W.step W.held }
+{}
+
+/// A writer refuses a value for another reason than memory only where that has no canonical octets.
+pub fn refuses_only_none<W: Writer>()
+    ensures { RefusesOnlyNone W.step W.held W.ready }
 {}

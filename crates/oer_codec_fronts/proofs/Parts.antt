@@ -1,0 +1,320 @@
+-- The records of scalars, members and components, as a reader finds them.
+use Rattle.std.proofs.Common.{◌≡◌, ℕ, ℤ, zero, suc, ltb, Bool, true, false, cond, IsTrue, List, [], ◌∷◌, ◌++◌, length, map, replicate, Option, Some, refl, ap, sym, ◌∙◌, subst}
+use Rattle.std.proofs.lemmas.Bool.{and_parts, and_from}
+use Rattle.asn1_model.specs.Value.{Value, truth, nothing, number, item, bit_list, octet_list, text, arcs, members as in_list, bag, Values, no_more, member, Parts, end, absent, present, each, values_of, same, same_members, same_parts}
+use Rattle.asn1_model.specs.Schema.{Tag, Range, Bounds, Counts, Size, StringKind, Alphabet, Presence, Schema, boolean, null, integer, enumerated, bit_string, octet_string, character_string, object_identifier, sequence_of, set_of, Components, no_component, component}
+use Rattle.asn1_model.specs.Normal.{is_at_default, is_group_left_out}
+use Rattle.asn1_model.specs.Numbers.{is_count_within}
+use Rattle.asn1_model.specs.Tables.{is_required, mark_unless, marks}
+use Rattle.asn1_model.specs.Form.{refused, both, given, joined, exactly, in_order, arranged, ascending, stands_before, written}
+use Rattle.asn1_model.specs.Oer
+use Rattle.asn1_laws.proofs.Listed.{EachComponent, listed, listed_again, each_is_map, order_map}
+use Rattle.asn1_laws_values.proofs.Same.{same_self}
+use Rattle.asn1_laws_values.proofs.Bags.{EachSame, bags_same}
+use Rattle.asn1_schema_presented.specs.Records.{Record, flag, nil, whole, one_of, bits, octets, characters, identifier, mark, ends, mismatch}
+use Rattle.asn1_schema_presented.specs.Presents.{presents, member_records, member_count, root_records, marked}
+use Rattle.asn1_schema_presented.specs.Chains.{Chain}
+use Rattle.asn1_schema_presented.proofs.Chains.{chain_split, chain_append}
+use Rattle.oer_codec_fronts.specs.Takes.{State, Scope, components, members, Front, Found, Counted}
+use Rattle.oer_codec_fronts.specs.Ties.{Bridges, has_no_bag, have_no_bag}
+use Rattle.oer_codec_fronts.proofs.Next.{state_same}
+use Rattle.oer_codec_fronts.proofs.Anywhere.{Moves, form_moves, components_move, all_move}
+use Rattle.oer_codec_fronts.proofs.Fronts.{Like, Finds, Shows, Step, nothing_front, of_nothing, of_refused, split, join, varied_in, varied_out, given_in, given_out, if_out, single, none, from_state, from_scopes, noted_by, spelled_by, there_in, there_out}
+
+abbrev AllBridge : (Oer.Freedom → Bool) → Schema → Type 0
+AllBridge free s = (v : Value) → Bridges free s v
+
+abbrev pub EachFinds : (Oer.Freedom → Bool) → Components → Type 0
+EachFinds free cs = EachComponent (λ o s. Finds free s) cs
+
+abbrev pub EachShows : (Oer.Freedom → Bool) → Components → Type 0
+EachShows free cs = EachComponent (λ o s. Shows free s) cs
+
+-- parts, and members, that are like others
+abbrev pub LikeParts : Components → Parts → Parts → Type 0
+LikeParts cs ps qs = (same_parts ps qs ≡ true) × (have_no_bag cs ≡ true → qs ≡ ps)
+
+abbrev LikeMembers : Schema → Values → Values → Type 0
+LikeMembers s vs ws = (same_members vs ws ≡ true) × (has_no_bag s ≡ true → ws ≡ vs)
+
+pub parts_self : (ps : Parts) → same_parts ps ps ≡ true
+unfolding same_parts
+parts_self end = refl
+parts_self (absent ps) = parts_self ps
+parts_self (present v ps) = and_from _ _ (same_self v) (parts_self ps)
+
+both_parts : (v w : Value) (ps qs : Parts) → same v w ≡ true → same_parts ps qs ≡ true → same_parts (present v ps) (present w qs) ≡ true
+unfolding same_parts
+both_parts v w ps qs e f = and_from _ _ e f
+
+more_absent : (ps qs : Parts) → same_parts ps qs ≡ true → same_parts (absent ps) (absent qs) ≡ true
+unfolding same_parts
+more_absent ps qs e = e
+
+pub like_present : (t : List Tag) (o : Presence) (s : Schema) (cs : Components) (v w : Value) (ps qs : Parts) → Like s v w → LikeParts cs ps qs → LikeParts (component t o s cs) (present v ps) (present w qs)
+like_present t o s cs v w ps qs h k = (both_parts v w ps qs h.0 k.0, λ e. let p = and_parts _ _ e in ap (λ x. present x qs) (h.1 p.0) ∙ ap (λ x. present v x) (k.1 p.1))
+
+pub like_absent : (t : List Tag) (o : Presence) (s : Schema) (cs : Components) (ps qs : Parts) → LikeParts cs ps qs → LikeParts (component t o s cs) (absent ps) (absent qs)
+like_absent t o s cs ps qs k = (more_absent ps qs k.0, λ e. let p = and_parts _ _ e in ap (λ x. absent x) (k.1 p.1))
+
+like_members : (s : Schema) (v w : Value) (vs ws : Values) → Like s v w → LikeMembers s vs ws → LikeMembers s (member v vs) (member w ws)
+unfolding same_members
+like_members s v w vs ws h k = (and_from _ _ h.0 k.0, λ e. ap (λ x. member x ws) (h.1 e) ∙ ap (λ x. member v x) (k.1 e))
+
+no_members : same_members no_more no_more ≡ true
+unfolding same_members
+no_members = refl
+
+module _ (free : Oer.Freedom → Bool) where
+  -- ---- scalars
+  pub booleans : AllBridge free boolean
+  unfolding presents Oer.form
+  booleans (truth true) = single free _ (flag true) (λ a b t. t) (λ a b t. t)
+  booleans (truth false) = single free _ (flag false) (λ a b t. t) (λ a b t. t)
+  booleans v = none free
+
+  pub nulls : AllBridge free null
+  unfolding presents Oer.form
+  nulls nothing = single free _ nil (λ a b t. t) (λ a b t. t)
+  nulls v = none free
+
+  pub integers : (z : Bounds) (h : Range) → AllBridge free (integer z h)
+  unfolding presents Oer.form
+  integers z h (number v) = single free _ (whole z h v) (λ a b t. t) (λ a b t. t)
+  integers z h v = none free
+
+  pub items : (roots : List ℤ) (e : Bool) (adds : List ℤ) → AllBridge free (enumerated roots e adds)
+  unfolding presents Oer.form
+  items roots e adds (item v) = single free _ (one_of roots e adds v) (λ a b t. t) (λ a b t. t)
+  items roots e adds v = none free
+
+  pub bit_strings : (z : Size) (h : Counts) → AllBridge free (bit_string z h)
+  unfolding presents Oer.form
+  bit_strings z h (bit_list v) = single free _ (bits z h v) (λ a b t. t) (λ a b t. t)
+  bit_strings z h v = none free
+
+  pub octet_strings : (z : Size) (h : Counts) → AllBridge free (octet_string z h)
+  unfolding presents Oer.form
+  octet_strings z h (octet_list v) = single free _ (octets z h v) (λ a b t. t) (λ a b t. t)
+  octet_strings z h v = none free
+
+  pub strings : (k : StringKind) (z : Size) (l : Alphabet) (h : Counts) → AllBridge free (character_string k z l h)
+  unfolding presents Oer.form
+  strings k z l h (text v) = single free _ (characters k z l h v) (λ a b t. t) (λ a b t. t)
+  strings k z l h v = none free
+
+  pub identifiers : AllBridge free object_identifier
+  unfolding presents Oer.form
+  identifiers (arcs v) = single free _ (identifier v) (λ a b t. t) (λ a b t. t)
+  identifiers v = none free
+
+  -- ---- members
+  each_long : {X : Type 0} (f : Value → X) (vs : Values) → length (each f vs) ≡ member_count vs
+  each_long f no_more = refl
+  each_long f (member v vs) = ap suc (each_long f vs)
+
+  abbrev Joined : Schema → Values → Oer.OctetForm
+  Joined s vs = joined (each (λ v. Oer.form s v) vs)
+
+  joined_values : (s : Schema) (vs : Values) → Moves free (Joined s vs)
+  joined_values s vs = all_move free (λ v. Oer.form s v) (λ v. form_moves free s v) vs
+
+  members_in : (s : Schema) → Finds free s → (vs : Values) (j : ℕ) (os : List ℕ) (k : List Scope) (b : State) → Chain (Step free) (member_records (λ v. presents s v) vs) (os, members j ∷ k) b → (j ≡ member_count vs) × Front free (Joined s vs) os b.0 × (b.1 ≡ k)
+  members_in s h no_more zero os k b c =
+      let t = from_state free (ends ∷ []) c.0 b os (members zero ∷ k) c.1.1 c.2 in
+      let e : b ≡ (os, k) = t.2 ∙ t.1 in
+      (refl, subst (λ l. Front free (exactly []) os l) (sym (ap (λ (s : State). s.0) e)) (nothing_front free os), ap (λ (s : State). s.1) e)
+  members_in s h no_more (suc j) os k b c = let e = c.1.0 in cc
+  members_in s h (member v vs) zero os k b c = let e = c.1.0 in cc
+  members_in s h (member v vs) (suc j) os k b c =
+      let t = from_state free (presents s v ++ member_records (λ w. presents s w) vs) c.0 b os (members j ∷ k) c.1.1 c.2 in
+      let q = chain_split (Step free) (presents s v) (member_records (λ w. presents s w) vs) (os, members j ∷ k) b t in
+      let f = h v (os, members j ∷ k) q.0 q.1 in
+      let r = members_in s h vs j q.0.0 k b (from_scopes free (member_records (λ w. presents s w) vs) q.0 b (members j ∷ k) f.1 q.2) in
+      (ap suc r.0, join free (Oer.form s v) (Joined s vs) (joined_values s vs) os q.0.0 b.0 f.0 r.1, r.2)
+
+  members_out : (s : Schema) → Shows free s → (vs : Values) (os : List ℕ) (k : List Scope) (b : State) → Front free (Joined s vs) os b.0 → b.1 ≡ k → (ws : Values) × LikeMembers s vs ws × (member_count ws ≡ member_count vs) × Chain (Step free) (member_records (λ v. presents s v) ws) (os, members (member_count ws) ∷ k) b
+  members_out s h no_more os k b f e = (no_more, (no_members, λ q. refl), refl, ((os, members 0 ∷ k), (refl, refl), (b, state_same b (os, k) (of_nothing free os b.0 f) e, refl)))
+  members_out s h (member v vs) os k b f e =
+      let q = split free (Oer.form s v) (Joined s vs) (joined_values s vs) os b.0 f in
+      let r = members_out s h vs q.0 k b q.2 e in
+      let here : State = (os, members (member_count r.0) ∷ k) in
+      let there : State = (q.0, members (member_count r.0) ∷ k) in
+      let w = h v here there (q.1, refl) in
+      (member w.0 r.0, like_members s v w.0 vs r.0 w.1 r.1, ap suc r.2, (here, (refl, refl), chain_append (Step free) (presents s w.0) (member_records (λ x. presents s x) r.0) here there b w.2 r.3))
+
+  counted_in : (h : Counts) (s : Schema) → Finds free s → (vs : Values) (a m b : State) → Counted free h (member_count vs) a m → Chain (Step free) (member_records (λ v. presents s v) vs) m b → Found free (Oer.members_form h (each (λ v. Oer.form s v) vs)) a b
+  unfolding Oer.members_form
+  counted_in h s finds vs a m b t c =
+      let r = members_in s finds vs t.0 m.0 a.1 b (from_scopes free (member_records (λ v. presents s v) vs) m b (members t.0 ∷ a.1) t.4 c) in
+      let n : length (each (λ v. Oer.form s v) vs) ≡ member_count vs = each_long (λ v. Oer.form s v) vs in
+      let f : Front free (Oer.unsigned (member_count vs)) a.0 m.0 = subst (λ i. Front free (Oer.unsigned i) a.0 m.0) r.0 t.3 in
+      let g : Front free (both (Oer.unsigned (member_count vs)) (Joined s vs)) a.0 b.0 = join free (Oer.unsigned (member_count vs)) (Joined s vs) (joined_values s vs) a.0 m.0 b.0 f r.1 in
+      (rw (n, t.1) g, r.2)
+
+  abbrev CountedOut : Counts → Schema → Values → State → State → Type 0
+  CountedOut h s vs a b = (ws : Values) × (m : State) × LikeMembers s vs ws × Counted free h (member_count ws) a m × Chain (Step free) (member_records (λ v. presents s v) ws) m b
+
+  counted_out : (h : Counts) (s : Schema) → Shows free s → (vs : Values) (a b : State) → Found free (Oer.members_form h (each (λ v. Oer.form s v) vs)) a b → CountedOut h s vs a b
+  unfolding Oer.members_form
+  counted_out h s shows vs a b f =
+      let n : length (each (λ v. Oer.form s v) vs) ≡ member_count vs = each_long (λ v. Oer.form s v) vs in
+      let t = if_out free (is_count_within h (member_count vs)) (both (Oer.unsigned (member_count vs)) (Joined s vs)) a.0 b.0 (rw (sym n) f.0) in
+      let q = split free (Oer.unsigned (member_count vs)) (Joined s vs) (joined_values s vs) a.0 b.0 t.1 in
+      let r = members_out s shows vs q.0 a.1 b q.2 f.1 in
+      let e : is_count_within h (member_count r.0) ≡ true = ap (λ i. is_count_within h i) r.2 ∙ t.0 in
+      let g : Front free (Oer.unsigned (member_count r.0)) a.0 q.0 = subst (λ i. Front free (Oer.unsigned i) a.0 q.0) (sym r.2) q.1 in
+      (r.0, (q.0, members (member_count r.0) ∷ a.1), r.1, (member_count r.0, e, e, g, refl), r.3)
+
+  -- ---- SEQUENCE OF
+  pub list_finds : (z : Size) (h : Counts) (s : Schema) → Finds free s → Finds free (sequence_of z h s)
+  unfolding presents Oer.form
+  list_finds z h s finds (in_list vs) a b c = counted_in h s finds vs a c.0 b c.1 c.2
+  list_finds z h s finds v a b c = (none free a b).0 c
+
+  list_same : (vs ws : Values) → same_members vs ws ≡ true → same (in_list vs) (in_list ws) ≡ true
+  unfolding same
+  list_same vs ws e = e
+
+  pub list_shows : (z : Size) (h : Counts) (s : Schema) → Shows free s → Shows free (sequence_of z h s)
+  unfolding presents Oer.form
+  list_shows z h s shows (in_list vs) a b f = let r = counted_out h s shows vs a b f in (in_list r.0, (list_same vs r.0 r.2.0, λ e. ap in_list (r.2.1 e)), (r.1, r.3, r.4))
+  list_shows z h s shows v a b f = absurd (of_refused free a.0 b.0 f.0)
+
+  -- ---- SET OF
+  in_place : {X : Type 0} (xs : List X) → arranged (replicate (length xs) 0) xs ≡ Some xs
+  in_place [] = refl
+  in_place (x ∷ xs) = let e = in_place xs in rw e refl
+
+  pub bag_finds : IsTrue (free Oer.other_order) → (z : Size) (h : Counts) (s : Schema) → Finds free s → Finds free (set_of z h s)
+  unfolding presents Oer.form Oer.in_any_order
+  bag_finds order z h s finds (bag vs) a b c =
+      let xs : List Oer.OctetForm = each (λ v. Oer.form s v) vs in
+      let f = counted_in h s finds vs a c.0 b c.1 c.2 in
+      let up : Option (List Oer.OctetForm) = ascending (λ x. written x 0) (stands_before ltb) xs in
+      (varied_in free {c = Oer.other_order} (λ o. given (in_order up o xs) (Oer.members_form h)) (Some (replicate (length xs) 0)) order a.0 b.0 (given_in free (arranged (replicate (length xs) 0) xs) (Oer.members_form h) xs (in_place xs) a.0 b.0 f.0), f.1)
+  bag_finds order z h s finds v a b c = (none free a b).0 c
+
+  listed_values : (us : List Value) → listed (values_of us) ≡ us
+  listed_values [] = refl
+  listed_values (u ∷ us) = ap (λ l. u ∷ l) (listed_values us)
+
+  in_pairs : (us : List Value) (ws : Values) → same_members (values_of us) ws ≡ true → EachSame us (listed ws)
+  unfolding same_members
+  in_pairs [] no_more e = tt
+  in_pairs [] (member w ws) e = cc
+  in_pairs (u ∷ us) no_more e = cc
+  in_pairs (u ∷ us) (member w ws) e = let p = and_parts _ _ e in (p.0, in_pairs us ws p.1)
+
+  -- the members in another order, whose forms are these
+  abbrev Arranged : Schema → Values → List Oer.OctetForm → Type 0
+  Arranged s vs ys = (is : List ℕ) × (us : List Value) × (arranged is (listed vs) ≡ Some us) × (each (λ v. Oer.form s v) (values_of us) ≡ ys)
+
+  abbrev Ordered : List Oer.OctetForm → Option (List ℕ) → Option (List Oer.OctetForm)
+  Ordered xs o = in_order (ascending (λ x. written x 0) (stands_before ltb) xs) o xs
+
+  reordered : (s : Schema) (vs : Values) (o : Option (List ℕ)) (ys : List Oer.OctetForm) → Ordered (each (λ v. Oer.form s v) vs) o ≡ Some ys → Arranged s vs ys
+  reordered s vs o ys e =
+      let l : each (λ v. Oer.form s v) vs ≡ map (λ v. Oer.form s v) (listed vs) = each_is_map (λ v. Oer.form s v) vs in
+      let f : Ordered (map (λ v. Oer.form s v) (listed vs)) o ≡ Some ys = ap (λ xs. Ordered xs o) (sym l) ∙ e in
+      let r = order_map (λ v. Oer.form s v) (λ x. written x 0) (stands_before ltb) o (listed vs) ys f in
+      (r.0, r.1, r.2, each_is_map (λ v. Oer.form s v) (values_of r.1) ∙ ap (map (λ v. Oer.form s v)) (listed_values r.1) ∙ r.3)
+
+  bag_like : (vs ws : Values) (is : List ℕ) (us : List Value) → arranged is (listed vs) ≡ Some us → same_members (values_of us) ws ≡ true → same (bag vs) (bag ws) ≡ true
+  bag_like vs ws is us e f =
+      let h : same (bag (values_of (listed vs))) (bag (values_of (listed ws))) ≡ true = bags_same is (replicate (length (listed ws)) 0) (listed vs) (listed ws) us (listed ws) e (in_place (listed ws)) (in_pairs us ws f) in
+      let k : same (bag (values_of (listed vs))) (bag ws) ≡ true = subst (λ x. same (bag (values_of (listed vs))) (bag x) ≡ true) (listed_again ws) h in
+      subst (λ x. same (bag x) (bag ws) ≡ true) (listed_again vs) k
+
+  ordered_out : (h : Counts) (s : Schema) → Shows free s → (vs : Values) (ys : List Oer.OctetForm) (a b : State) → Arranged s vs ys → Found free (Oer.members_form h ys) a b → (ws : Values) × (m : State) × (same (bag vs) (bag ws) ≡ true) × Counted free h (member_count ws) a m × Chain (Step free) (member_records (λ v. presents s v) ws) m b
+  ordered_out h s shows vs ys a b r f =
+      let g : Found free (Oer.members_form h (each (λ v. Oer.form s v) (values_of r.1))) a b = subst (λ l. Found free (Oer.members_form h l) a b) (sym r.3) f in
+      let t = counted_out h s shows (values_of r.1) a b g in
+      (t.0, t.1, bag_like vs t.0 r.0 r.1 r.2 t.2.0, t.3, t.4)
+
+  pub bag_shows : (z : Size) (h : Counts) (s : Schema) → Shows free s → Shows free (set_of z h s)
+  unfolding presents Oer.form Oer.in_any_order
+  bag_shows z h s shows (bag vs) a b f =
+      let t = varied_out free {c = Oer.other_order} (λ o. given (Ordered (each (λ v. Oer.form s v) vs) o) (Oer.members_form h)) a.0 b.0 f.0 in
+      let q = given_out free (Ordered (each (λ v. Oer.form s v) vs) t.0) (Oer.members_form h) a.0 b.0 t.1 in
+      let r = ordered_out h s shows vs q.0 a b (reordered s vs t.0 q.0 q.1) (q.2, f.1) in
+      (bag r.0, (r.2, λ d. cc d), (r.1, r.3, r.4))
+  bag_shows z h s shows v a b f = absurd (of_refused free a.0 b.0 f.0)
+
+  -- ---- components
+  -- what is read of root components: these presence bits, octets of this form, and then the records behind them
+  abbrev pub RootRead : List Bool → Oer.OctetForm → List Record → Option Bool → List Bool → List ℕ → List Scope → State → Type 0
+  RootRead bs y rs x ms os k b = (mid : List ℕ) × (more : List Bool) × (ms ≡ bs ++ more) × Front free y os mid × Chain (Step free) rs (mid, components x more ∷ k) b
+
+  -- a chain that reads so, from any octets and presence bits on
+  abbrev Goes : List Bool → Oer.OctetForm → List Record → List Record → Option Bool → List Scope → State → Type 0
+  Goes bs y rs tail x k b = (ms : List Bool) (os : List ℕ) → Chain (Step free) tail (os, components x ms ∷ k) b → RootRead bs y rs x ms os k b
+
+  behind_it : (s : Schema) (v : Value) → Finds free s → (d g : Bool) (bs : List Bool) (y : Oer.OctetForm) → Moves free y → (rs tail : List Record) (x : Option Bool) (k : List Scope) (b : State) → Goes bs y rs tail x k b → Goes bs (both (spelled_by d g (Oer.form s v)) y) rs ((presents s v ++ noted_by d g) ++ tail) x k b
+  behind_it s v h d g bs y moves rs tail x k b others ms os c =
+      let q = chain_split (Step free) (presents s v ++ noted_by d g) tail (os, components x ms ∷ k) b c in
+      let f = there_in free s v h d g (os, components x ms ∷ k) q.0 q.1 in
+      let r = others ms q.0.0 (from_scopes free tail q.0 b (components x ms ∷ k) f.1 q.2) in
+      (r.0, r.1, r.2, join free (spelled_by d g (Oer.form s v)) y moves os q.0.0 r.0 f.0 r.3, r.4)
+
+  -- a presence bit
+  behind_mark : (t : Bool) (bs : List Bool) (y : Oer.OctetForm) (rs tail : List Record) (x : Option Bool) (k : List Scope) (b : State) → Goes bs y rs tail x k b → Goes (t ∷ bs) y rs (mark t ∷ tail) x k b
+  behind_mark t bs y rs tail x k b others [] os c = absurd c.1
+  behind_mark t bs y rs tail x k b others (m ∷ ms) os c =
+      let r = others ms os (from_state free tail c.0 b os (components x ms ∷ k) c.1.1 c.2) in
+      (r.0, r.1, ap (λ n. n ∷ ms) (sym c.1.0) ∙ ap (λ l. t ∷ l) r.2, r.3, r.4)
+
+  one_there : (q : Bool) (s : Schema) (v : Value) → Finds free s → (d g : Bool) (bs : List Bool) (y : Oer.OctetForm) → Moves free y → (rs tail : List Record) (x : Option Bool) (k : List Scope) (b : State) → Goes bs y rs tail x k b → Goes (mark_unless q true bs) (both (spelled_by d g (Oer.form s v)) y) rs (marked q (presents s v ++ noted_by d g) ++ tail) x k b
+  one_there true s v h d g bs y moves rs tail x k b others = behind_it s v h d g bs y moves rs tail x k b others
+  one_there false s v h d g bs y moves rs tail x k b others = behind_mark true bs _ rs _ x k b (behind_it s v h d g bs y moves rs tail x k b others)
+
+  nothing_there : (bs : List Bool) (y : Oer.OctetForm) (rs more : List Record) (x : Option Bool) (k : List Scope) (b : State) → Goes bs y rs (mismatch ∷ more) x k b
+  nothing_there bs y rs more x k b ms os c = absurd c.1
+
+  one_absent : (q : Bool) (bs : List Bool) (y : Oer.OctetForm) (rs tail : List Record) (x : Option Bool) (k : List Scope) (b : State) → Goes bs y rs tail x k b → Goes (mark_unless q false bs) (cond q refused y) rs (cond q (mismatch ∷ []) (mark false ∷ []) ++ tail) x k b
+  one_absent true bs y rs tail x k b others = nothing_there bs refused rs tail x k b
+  one_absent false bs y rs tail x k b others = behind_mark false bs y rs tail x k b others
+
+  pub root_in : (cs : Components) → EachFinds free cs → (ps : Parts) (rs : List Record) (x : Option Bool) (k : List Scope) (b : State) → Goes (marks cs ps) (Oer.component_forms cs ps) rs (root_records cs ps rs) x k b
+  unfolding root_records Oer.component_forms Oer.spelled
+  root_in no_component h end rs x k b = λ ms os c. (os, ms, refl, nothing_front free os, c)
+  root_in no_component h (absent ps) rs x k b = nothing_there [] refused rs [] x k b
+  root_in no_component h (present v ps) rs x k b = nothing_there [] refused rs [] x k b
+  root_in (component t o s cs) h (present v ps) rs x k b = one_there (is_required o) s v h.0 (is_at_default o s v) (is_group_left_out s v) (marks cs ps) (Oer.component_forms cs ps) (components_move free cs ps) rs (root_records cs ps rs) x k b (root_in cs h.1 ps rs x k b)
+  root_in (component t o s cs) h (absent ps) rs x k b = one_absent (is_required o) (marks cs ps) (Oer.component_forms cs ps) rs (root_records cs ps rs) x k b (root_in cs h.1 ps rs x k b)
+  root_in (component t o s cs) h end rs x k b = nothing_there _ refused rs [] x k b
+
+  -- and back
+  abbrev RootOut : Components → Parts → List Record → Option Bool → List Bool → List ℕ → List Scope → State → Type 0
+  RootOut cs ps rs x more os k b = (qs : Parts) × LikeParts cs ps qs × (marks cs qs ≡ marks cs ps) × Chain (Step free) (root_records cs qs rs) (os, components x (marks cs qs ++ more) ∷ k) b
+
+  marked_out : (q : Bool) (rs tail : List Record) (x : Option Bool) (bs more : List Bool) (os : List ℕ) (k : List Scope) (b : State) → Chain (Step free) (rs ++ tail) (os, components x (bs ++ more) ∷ k) b → Chain (Step free) (marked q rs ++ tail) (os, components x (mark_unless q true bs ++ more) ∷ k) b
+  marked_out true rs tail x bs more os k b c = c
+  marked_out false rs tail x bs more os k b c = ((os, components x (bs ++ more) ∷ k), (refl, refl), c)
+
+  pub root_out : (cs : Components) → EachShows free cs → (ps : Parts) (rs : List Record) (x : Option Bool) (more : List Bool) (os mid : List ℕ) (k : List Scope) (b : State) → Front free (Oer.component_forms cs ps) os mid → Chain (Step free) rs (mid, components x more ∷ k) b → RootOut cs ps rs x more os k b
+  unfolding root_records Oer.component_forms Oer.spelled
+  root_out no_component h end rs x more os mid k b f c = (end, (parts_self end, λ e. refl), refl, subst (λ l. Chain (Step free) rs (l, components x more ∷ k) b) (of_nothing free os mid f) c)
+  root_out no_component h (absent ps) rs x more os mid k b f c = absurd (of_refused free os mid f)
+  root_out no_component h (present v ps) rs x more os mid k b f c = absurd (of_refused free os mid f)
+  root_out (component t o s cs) h (present v ps) rs x more os mid k b f c =
+      let q = split free (spelled_by (is_at_default o s v) (is_group_left_out s v) (Oer.form s v)) (Oer.component_forms cs ps) (components_move free cs ps) os mid f in
+      let r = root_out cs h.1 ps rs x more q.0 mid k b q.2 c in
+      let here : State = (os, components x (marks cs r.0 ++ more) ∷ k) in
+      let there : State = (q.0, components x (marks cs r.0 ++ more) ∷ k) in
+      let w = there_out free s h.0 o v here there (q.1, refl) in
+      let its : List Record = presents s w.0 ++ noted_by (is_at_default o s w.0) (is_group_left_out s w.0) in
+      (present w.0 r.0, like_present t o s cs v w.0 ps r.0 w.1 r.1, ap (λ l. mark_unless (is_required o) true l) r.2, marked_out (is_required o) its (root_records cs r.0 rs) x (marks cs r.0) more os k b (chain_append (Step free) its (root_records cs r.0 rs) here there b w.2 r.3))
+  root_out (component t o s cs) h (absent ps) rs x more os mid k b f c =
+      let d = left_in (is_required o) (Oer.component_forms cs ps) os mid f in
+      let r = root_out cs h.1 ps rs x more os mid k b d.1 c in
+      (absent r.0, like_absent t o s cs ps r.0 r.1, ap (λ l. mark_unless (is_required o) false l) r.2, left_back (is_required o) d.0 (root_records cs r.0 rs) x (marks cs r.0) more os k b r.3)
+    where
+      left_in : (q : Bool) (y : Oer.OctetForm) (os mid : List ℕ) → Front free (cond q refused y) os mid → (q ≡ false) × Front free y os mid
+      left_in true y os mid f = absurd (of_refused free os mid f)
+      left_in false y os mid f = (refl, f)
+
+      left_back : (q : Bool) → q ≡ false → (tail : List Record) (x : Option Bool) (bs more : List Bool) (os : List ℕ) (k : List Scope) (b : State) → Chain (Step free) tail (os, components x (bs ++ more) ∷ k) b → Chain (Step free) (cond q (mismatch ∷ []) (mark false ∷ []) ++ tail) (os, components x (mark_unless q false bs ++ more) ∷ k) b
+      left_back true e tail x bs more os k b c = cc
+      left_back false e tail x bs more os k b c = ((os, components x (bs ++ more) ∷ k), (refl, refl), c)
+  root_out (component t o s cs) h end rs x more os mid k b f c = absurd (of_refused free os mid f)
