@@ -1,0 +1,8 @@
+pub mod LengthTexts
+pub mod Scopes
+pub mod Stepped
+pub mod ScalarTexts
+pub mod IntegerTexts
+pub mod BitTexts
+pub mod CharacterTexts
+pub mod TextTexts

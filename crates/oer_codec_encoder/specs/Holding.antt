@@ -1,0 +1,62 @@
+-- How the octets and the frames of an encoder stand for what a writer holds. The frames are given the innermost first.
+use Rattle.std.specs.Prelude.{◌≡◌, ℕ, ◌+◌, ◌^◌, ◌<◌, Bool, true, false, List, [], ◌∷◌, ◌++◌, length, take, drop, replicate, reverse, Some, None, slice_index}
+use Rattle.asn1_model.specs.Numbers.{octet_bits}
+use Rattle.asn1_values_bits.specs.Octets.{filled_up}
+use Rattle.asn1_schema_faults.specs.declared.EncodeError.{EncodeError}
+use Rattle.asn1_schema_faults.specs.declared.EncodeError.TheVariants.{OutOfMemory}
+use Rattle.asn1_schema_presented.specs.Records.{Record}
+use Rattle.oer_codec_steps.specs.Steps.{components, members, State, run}
+use Rattle.oer_codec_encoder.specs.declared.frames.Frame.{Frame}
+use Rattle.oer_codec_encoder.specs.declared.frames.Frame.TheVariants.{Components, Members}
+
+-- The bits of a preamble: the mark of extensibility, which is not set, where there is one, and the presence bits.
+abbrev pub presence : Bool → List Bool → List Bool
+presence true ms = false ∷ ms
+presence false ms = ms
+
+-- What the octets and the frames show.
+abbrev pub shown : List Frame → List ℕ → State
+shown [] o = (o, [])
+shown (Components e due given start content ∷ fs) o =
+    let below = shown fs (take start o) in
+    (drop content o, components e due (take given (drop (length (presence e [])) (octet_bits (drop start o)))) below.0 ∷ below.1)
+shown (Members due ∷ fs) o =
+    let below = shown fs o in
+    (below.0, members due ∷ below.1)
+
+-- The octets are those in front of an open sequence, its preamble, in which the bits that are due are not set, and those behind it.
+pub record IsOpen (below : List ℕ → State → Type 0) (e : Bool) (due given start content : ℕ) (o : List ℕ) (s : State) : Type 0 where
+  pub front : List ℕ
+  pub preamble : List ℕ
+  pub inner : List ℕ
+  pub marks : List Bool
+  pub outer : State
+  pub text : o ≡ front ++ (preamble ++ inner)
+  pub starts : length front ≡ start
+  pub begins : start + length preamble ≡ content
+  pub told : length marks ≡ given
+  pub counts : given + due < 2 ^ 64
+  pub bits : octet_bits preamble ≡ filled_up (presence e (marks ++ replicate due false))
+  pub small : (k : ℕ) → k < length preamble → slice_index preamble k < 256
+  pub under : below front outer
+  pub is : s ≡ (inner, components e due marks outer.0 ∷ outer.1)
+
+-- The octets and the frames stand for a state.
+abbrev pub Holds : List Frame → List ℕ → State → Type 0
+Holds [] o s = s ≡ (o, [])
+Holds (Components e due given start content ∷ fs) o s = IsOpen (λ p t. Holds fs p t) e due given start content o s
+Holds (Members due ∷ fs) o s = (outer : State) × (s ≡ (outer.0, members due ∷ outer.1)) × Holds fs o outer
+
+-- The octets and the frames, of which the innermost is the last, stand for some state.
+pub record AreSound (fs : List Frame) (o : List ℕ) : Type 0 where
+  pub state : State
+  pub holds : Holds (reverse fs) o state
+
+-- What a record does to the octets and the frames: it follows the step.
+pub record Does (r : Record) (fs : List Frame) (o : List ℕ) (gs : List Frame) (p : List ℕ) : Type 0 where
+  pub after : (s : State) → Holds (reverse fs) o s → (t : State) × (run r s ≡ Some t) × Holds (reverse gs) p t
+
+-- Why a record was refused: memory was, or there is no step.
+abbrev pub Cannot : Record → List Frame → List ℕ → EncodeError → Type 0
+Cannot r fs o OutOfMemory = Unit {0}
+Cannot r fs o e = (s : State) → Holds (reverse fs) o s → run r s ≡ None

@@ -1,0 +1,4 @@
+pub mod Writing
+pub mod Holding
+pub mod Stepping
+pub mod Laws

@@ -1,0 +1,13 @@
+-- What an encoder holds, and how records change it.
+use Rattle.std.specs.Prelude.{◌≡◌, Bool, false, Some}
+use Rattle.asn1_schema_presented.specs.Records.{Record}
+use Rattle.oer_codec_steps.specs.Steps.{State, run}
+
+-- What an encoder holds: what a writer does, and whether an earlier call was refused.
+pub record Written : Type 0 where
+  pub state : State
+  pub failed : Bool
+
+-- A record is written: no call was refused, and the writer takes the step.
+abbrev pub Puts : Written → Record → Written → Type 0
+Puts a r b = (a.failed ≡ false) × (b.failed ≡ false) × (run r a.state ≡ Some b.state)

@@ -1,0 +1,273 @@
+//! The encoder.
+ghost use Rattle.std.specs.Prelude.{◌≡◌, OnOk, OnErr, IfErr, [], true, false};
+ghost use Rattle.oer_codec_encoder.specs.Stepping.{Puts};
+
+use crate::bits::push_bit_string;
+use crate::frames::{Frame, begin_components, begin_members, end_scope, put_further, put_mark};
+use crate::identifiers::push_identifier;
+use crate::integers::push_integer;
+use crate::options::EncoderOptions;
+use crate::scalars::push_boolean;
+use crate::sizes::push_octet_string;
+use crate::strings::{push_characters, push_utf8};
+use asn1_schema_bounds::Bounded;
+use asn1_schema_constraints::Constraints;
+use asn1_schema_faults::{CodecKind, EncodeError};
+use asn1_schema_tags::{Identifier, Tag};
+use asn1_values_alphabets::StaticPermittedAlphabet;
+use asn1_values_bits::BitStr;
+use asn1_values_identifiers::Oid;
+use asn1_values_integer_types::IntegerType;
+use std::alloc::Global;
+use std::marker::Model;
+use std::mem;
+
+/// Writes values in the canonical octet encoding rules (X.696) into one buffer.
+#[derive(Drop)]
+pub struct Encoder<'buffer> {
+    output: &'buffer mut Vec<u8>,
+    frames: Vec<Frame>,
+    failed: bool,
+    alloc: Global,
+}
+
+impl<'buffer> Model for Encoder<'buffer> {
+    ghost use Rattle.std.specs.Prelude.{◌≡◌, false, reverse};
+    ghost use Rattle.oer_codec_encoder.specs.Stepping.{Written};
+
+    ghost Value = { Written };
+
+    ghost use Rattle.oer_codec_encoder.specs.Holding.{shown, Holds};
+
+    ghost view = { λ e. record { state = shown (reverse e.frames.items) e.output.now.items; failed = e.failed } };
+
+    ghost invariant = { λ e. e.failed ≡ false → Holds (reverse e.frames.items) e.output.now.items (shown (reverse e.frames.items) e.output.now.items) };
+}
+
+impl<'buffer> Encoder<'buffer> {
+    /// An encoder that writes behind what stands in the buffer. It takes no memory.
+    pub fn from_buffer(
+        alloc: Global,
+        _options: EncoderOptions,
+        output: &'buffer mut Vec<u8>,
+    ) -> Self
+        ensures { result ≡ record { state = (output.entry.now.items, []); failed = false } }
+    {
+        Encoder {
+            output,
+            frames: Vec::new(alloc),
+            failed: false,
+            alloc,
+        }
+    }
+
+    /// Takes the contents of the buffer, and leaves none.
+    pub fn output(&mut self) -> Vec<u8>
+        ensures octets { self.old.failed ≡ false → self.old.state.1 ≡ [] → result.items ≡ self.old.state.0 }
+        ensures none { self.new ≡ record { state = ([], []); failed = self.old.failed } }
+    {
+        self.frames.clear();
+        mem::replace(self.output, Vec::new(self.alloc))
+    }
+}
+
+impl<'buffer> asn1_schema_encode::Encoder for Encoder<'buffer> {
+    ghost use Rattle.oer_codec_encoder.specs.Laws.{puts_one, puts_none, puts_same};
+    ghost use Rattle.asn1_schema_faults.specs.declared.CodecKind.TheVariants.{Coer};
+
+    ghost step = { Puts };
+
+    ghost has_failed = { λ e. e.failed ≡ true };
+
+    ghost rules = { λ e. Coer };
+
+    fn codec(&self) -> CodecKind {
+        CodecKind::Coer
+    }
+
+    fn encode_bool(
+        &mut self,
+        _tag: Tag,
+        value: bool,
+        _identifier: Identifier,
+    ) -> Result<(), EncodeError> {
+        if self.failed {
+            return Err(EncodeError::AlreadyFailed);
+        }
+        self.failed = true;
+        push_boolean(self.output, value)?;
+        self.failed = false;
+        Ok(())
+    }
+
+    fn encode_null(&mut self, _tag: Tag, _identifier: Identifier) -> Result<(), EncodeError> {
+        if self.failed {
+            return Err(EncodeError::AlreadyFailed);
+        }
+        Ok(())
+    }
+
+    fn encode_integer<I: IntegerType>(
+        &mut self,
+        _tag: Tag,
+        constraints: Constraints,
+        value: &I,
+        _identifier: Identifier,
+    ) -> Result<(), EncodeError> {
+        if self.failed {
+            return Err(EncodeError::AlreadyFailed);
+        }
+        self.failed = true;
+        push_integer(self.output, constraints, value)?;
+        self.failed = false;
+        Ok(())
+    }
+
+    fn encode_bit_string(
+        &mut self,
+        _tag: Tag,
+        constraints: Constraints,
+        held: Bounded<usize>,
+        value: BitStr,
+        _identifier: Identifier,
+    ) -> Result<(), EncodeError> {
+        if self.failed {
+            return Err(EncodeError::AlreadyFailed);
+        }
+        self.failed = true;
+        push_bit_string(self.output, constraints, held, value)?;
+        self.failed = false;
+        Ok(())
+    }
+
+    fn encode_octet_string(
+        &mut self,
+        _tag: Tag,
+        constraints: Constraints,
+        held: Bounded<usize>,
+        value: &[u8],
+        _identifier: Identifier,
+    ) -> Result<(), EncodeError> {
+        if self.failed {
+            return Err(EncodeError::AlreadyFailed);
+        }
+        self.failed = true;
+        push_octet_string(self.output, constraints, held, value)?;
+        self.failed = false;
+        Ok(())
+    }
+
+    fn encode_utf8_string(
+        &mut self,
+        _tag: Tag,
+        constraints: Constraints,
+        value: &str,
+        _identifier: Identifier,
+    ) -> Result<(), EncodeError> {
+        if self.failed {
+            return Err(EncodeError::AlreadyFailed);
+        }
+        self.failed = true;
+        push_utf8(self.output, constraints, value)?;
+        self.failed = false;
+        Ok(())
+    }
+
+    fn encode_characters<S: StaticPermittedAlphabet>(
+        &mut self,
+        _tag: Tag,
+        constraints: Constraints,
+        value: &S,
+        _identifier: Identifier,
+    ) -> Result<(), EncodeError> {
+        if self.failed {
+            return Err(EncodeError::AlreadyFailed);
+        }
+        self.failed = true;
+        push_characters(self.output, constraints, value)?;
+        self.failed = false;
+        Ok(())
+    }
+
+    fn encode_object_identifier(
+        &mut self,
+        _tag: Tag,
+        value: Oid,
+        _identifier: Identifier,
+    ) -> Result<(), EncodeError> {
+        if self.failed {
+            return Err(EncodeError::AlreadyFailed);
+        }
+        self.failed = true;
+        push_identifier(self.output, self.alloc, &value)?;
+        self.failed = false;
+        Ok(())
+    }
+
+    fn begin_list(
+        &mut self,
+        _tag: Tag,
+        constraints: Constraints,
+        held: Bounded<usize>,
+        count: usize,
+    ) -> Result<(), EncodeError> {
+        if self.failed {
+            return Err(EncodeError::AlreadyFailed);
+        }
+        self.failed = true;
+        begin_members(self.output, &mut self.frames, constraints, held, count)?;
+        self.failed = false;
+        Ok(())
+    }
+
+    fn put_further(&mut self, more: bool) -> Result<(), EncodeError> {
+        if self.failed {
+            return Err(EncodeError::AlreadyFailed);
+        }
+        self.failed = true;
+        put_further(&mut self.frames, more)?;
+        self.failed = false;
+        Ok(())
+    }
+
+    fn begin_sequence(
+        &mut self,
+        _tag: Tag,
+        extensible: bool,
+        optional: usize,
+    ) -> Result<(), EncodeError> {
+        if self.failed {
+            return Err(EncodeError::AlreadyFailed);
+        }
+        self.failed = true;
+        begin_components(self.output, &mut self.frames, extensible, optional)?;
+        self.failed = false;
+        Ok(())
+    }
+
+    fn put_mark(&mut self, present: bool) -> Result<(), EncodeError> {
+        if self.failed {
+            return Err(EncodeError::AlreadyFailed);
+        }
+        self.failed = true;
+        put_mark(self.output, &mut self.frames, present)?;
+        self.failed = false;
+        Ok(())
+    }
+
+    fn end(&mut self) -> Result<(), EncodeError> {
+        if self.failed {
+            return Err(EncodeError::AlreadyFailed);
+        }
+        self.failed = true;
+        end_scope(&mut self.frames)?;
+        self.failed = false;
+        Ok(())
+    }
+
+    ghost one_after = { puts_one };
+
+    ghost none_after = { puts_none };
+
+    ghost same_rules = { puts_same };
+}

@@ -1,0 +1,75 @@
+//! A value is written.
+ghost use Rattle.std.specs.Prelude.{◌≡◌, ◌++◌, List, ℕ, length, OnOk, OnErr, IfOk, IfErr, MatchResult, ◌<◌, ◌≤◌, ◌^◌};
+ghost use Rattle.oer_codec_output.specs.Encoded.{IsEncoded, NotEncoded};
+
+use asn1_schema_constraints::Constraints;
+use asn1_schema_encode::Encode;
+use asn1_schema_faults::EncodeError;
+use oer_codec_encoder::{Encoder, EncoderOptions};
+use std::alloc::Global;
+
+/// An encoding has fewer octets than this.
+const LENGTH_LIMIT: usize = 1 << 60;
+
+/// The octets, if they are not too many for an encoding.
+fn within_limit(octets: Vec<u8>) -> Result<Vec<u8>, EncodeError>
+    ensures { MatchResult result (λ kept. (kept.items ≡ octets.items) × (length octets.items < 2 ^ 60)) (λ e. (e ≡ EncodeError.TooLongValue) × (2 ^ 60 ≤ length octets.items)) }
+{
+    if octets.len() >= LENGTH_LIMIT {
+        return Err(EncodeError::TooLongValue);
+    }
+    Ok(octets)
+}
+
+/// The canonical encoding of a value (X.696).
+///
+/// # Errors
+///
+/// Those of the value's type, `TooLongValue` for an encoding of 2 to 60 octets or more, and `OutOfMemory`.
+pub fn encode<T: Encode>(alloc: Global, value: &T) -> Result<Vec<u8>, EncodeError>
+    ensures ok { IfOk result (λ octets. IsEncoded T.schema (T.meaning value.now) octets.items) }
+    ensures only { IfErr result (NotEncoded T.schema (T.meaning value.now)) }
+{
+    let mut output = Vec::new(alloc);
+    let mut encoder = Encoder::from_buffer(alloc, EncoderOptions::coer(), &mut output);
+    value.encode(&mut encoder)?;
+    within_limit(encoder.output())
+}
+
+/// The canonical encoding of a value (X.696) by its type under these constraints, which stand in place of its own.
+///
+/// # Errors
+///
+/// Those of `encode`.
+pub fn encode_with_constraints<T: Encode>(
+    alloc: Global,
+    constraints: Constraints,
+    value: &T,
+) -> Result<Vec<u8>, EncodeError>
+    ensures ok { IfOk result (λ octets. IsEncoded (T.under constraints.entry) (T.meaning value.now) octets.items) }
+    ensures only { IfErr result (NotEncoded (T.under constraints.entry) (T.meaning value.now)) }
+{
+    let mut output = Vec::new(alloc);
+    let mut encoder = Encoder::from_buffer(alloc, EncoderOptions::coer(), &mut output);
+    value.encode_with_constraints(&mut encoder, constraints)?;
+    within_limit(encoder.output())
+}
+
+/// Adds the canonical encoding of a value (X.696) behind what stands in the buffer.
+///
+/// # Errors
+///
+/// Those of `encode`; the buffer is then as it was.
+pub fn encode_buf<T: Encode>(
+    alloc: Global,
+    value: &T,
+    buffer: &mut Vec<u8>,
+) -> Result<(), EncodeError>
+    ensures ok { OnOk result ((octets : List ℕ) × IsEncoded T.schema (T.meaning value.now) octets × (buffer.new.items ≡ buffer.old.items ++ octets)) }
+    ensures only { IfErr result (NotEncoded T.schema (T.meaning value.now)) }
+    ensures same { OnErr result (buffer.new.items ≡ buffer.old.items) }
+{
+    let octets = encode(alloc, value)?;
+    buffer.extend_from_slice(&octets)?;
+    Ok(())
+}
