@@ -1,0 +1,113 @@
+//! Canonical octet encoding rules (X.696): values are written and read.
+ghost use Rattle.std.specs.Prelude.{◌≡◌, ◌++◌, ℕ, List, OnOk, OnErr, IfOk, IfErr};
+ghost use Rattle.asn1_model.specs.Lawful.{IsLawful};
+ghost use Rattle.asn1_model.specs.Rules.{coer};
+ghost use Rattle.oer_codec_calls.specs.Messages.{NoMessage, Tells};
+ghost use Rattle.oer_codec_output.specs.Encoded.{IsEncoded, NotEncoded};
+
+pub use crate::oer::{Decoder, Encoder, EncoderOptions, EncodingRules};
+use asn1_schema_constraints::Constraints;
+use asn1_schema_decode::Decode;
+use asn1_schema_encode::Encode;
+use asn1_schema_faults::{DecodeError, EncodeError};
+use std::alloc::Global;
+
+/// The canonical encoding of a value, which OER and COER have in common.
+///
+/// # Errors
+///
+/// Want of memory aside, only where the value has no encoding: `ValueConstraintNotSatisfied`, `SizeConstraintNotSatisfied`, or
+/// `TooLongValue` for 2 to 60 octets and more.
+pub fn encode<T: Encode>(alloc: Global, value: &T) -> Result<Vec<u8>, EncodeError>
+    ensures ok { IfOk result (λ octets. IsEncoded T.schema (T.meaning value.now) octets.items) }
+    ensures only { IfErr result (NotEncoded T.schema (T.meaning value.now)) }
+{
+    let octets = oer_codec_output::encode(alloc, value)?;
+    Ok(octets)
+}
+
+/// Adds the canonical encoding of a value behind what stands in the buffer.
+///
+/// # Errors
+///
+/// Those of `encode`; the buffer is then as it was.
+pub fn encode_buf<T: Encode>(
+    alloc: Global,
+    value: &T,
+    buffer: &mut Vec<u8>,
+) -> Result<(), EncodeError>
+    ensures ok { OnOk result ((octets : List ℕ) × IsEncoded T.schema (T.meaning value.now) octets × (buffer.new.items ≡ buffer.old.items ++ octets)) }
+    ensures only { IfErr result (NotEncoded T.schema (T.meaning value.now)) }
+    ensures same { OnErr result (buffer.new.items ≡ buffer.old.items) }
+{
+    oer_codec_output::encode_buf(alloc, value, buffer)?;
+    Ok(())
+}
+
+/// The canonical encoding of a value under these constraints, which stand in place of those of its type.
+///
+/// # Errors
+///
+/// Those of `encode`.
+pub fn encode_with_constraints<T: Encode>(
+    alloc: Global,
+    constraints: Constraints,
+    value: &T,
+) -> Result<Vec<u8>, EncodeError>
+    ensures ok { IfOk result (λ octets. IsEncoded (T.under constraints.entry) (T.meaning value.now) octets.items) }
+    ensures only { IfErr result (NotEncoded (T.under constraints.entry) (T.meaning value.now)) }
+{
+    let octets = oer_codec_output::encode_with_constraints(alloc, constraints, value)?;
+    Ok(octets)
+}
+
+/// Reads the value whose encoding stands in front, and passes over the octets behind it.
+///
+/// # Errors
+///
+/// Want of memory aside, only where no octets in front, fewer than 2 to 60, are an encoding of a value that nests at most 128 levels.
+pub fn decode<T: Decode>(alloc: Global, input: &[u8]) -> Result<T, DecodeError>
+    ensures ok { IfOk result (λ x. (rest : List ℕ) × Tells coer T.schema (T.meaning x) input.now rest) }
+    ensures only { IfErr result (NoMessage coer T.schema input.now) }
+{
+    let value = oer_codec_calls::decode(alloc, input, EncodingRules::Coer)?;
+    Ok(value)
+}
+
+/// Reads the value whose encoding stands in front, and lends the octets behind it.
+///
+/// # Errors
+///
+/// Those of `decode`.
+pub fn decode_with_remainder<'input, T: Decode>(
+    alloc: Global,
+    input: &'input [u8],
+) -> Result<(T, &'input [u8]), DecodeError>
+    ensures ok { IfOk result (λ x. Tells coer T.schema (T.meaning x.0) input.now x.1.now) }
+    ensures only { IfErr result (NoMessage coer T.schema input.now) }
+{
+    let (value, rest) = oer_codec_calls::decode_with_remainder(alloc, input, EncodingRules::Coer)?;
+    Ok((value, rest))
+}
+
+/// Reads the value whose encoding under these constraints, in place of the type's own, stands in front.
+///
+/// # Errors
+///
+/// Those of `decode`, if the type under these constraints is a lawful one.
+pub fn decode_with_constraints<T: Decode>(
+    alloc: Global,
+    constraints: Constraints,
+    input: &[u8],
+) -> Result<T, DecodeError>
+    ensures ok { IfOk result (λ x. (rest : List ℕ) × Tells coer (T.under constraints.entry) (T.meaning x) input.now rest) }
+    ensures only { IfErr result (λ error. IsLawful (T.under constraints.entry 128) → NoMessage coer (T.under constraints.entry) input.now error) }
+{
+    let value = oer_codec_calls::decode_with_constraints(
+        alloc,
+        constraints,
+        input,
+        EncodingRules::Coer,
+    )?;
+    Ok(value)
+}

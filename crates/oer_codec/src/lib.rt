@@ -1,0 +1,11 @@
+//! The octet encoding rules (X.696), basic and canonical: OER and COER.
+#![tactic(auto)]
+
+pub mod coer;
+pub mod oer;
+
+/// The edition of X.696 that is followed.
+pub const ITU_T_X696_OER_EDITION: u32 = 3;
+
+#[cfg(test)]
+mod tests;

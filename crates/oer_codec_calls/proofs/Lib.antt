@@ -1,0 +1,4 @@
+mod Nesting
+mod Lifting
+mod Messages
+mod Once

@@ -1,0 +1,3 @@
+//! Encodings from outside, and what the calls answer.
+mod measure;
+mod rows;

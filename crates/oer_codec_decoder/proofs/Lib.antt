@@ -1,0 +1,2 @@
+pub mod Preambles
+pub mod Finding

@@ -1,0 +1,9 @@
+//! The decoder of the octet encoding rules (X.696), basic and canonical: what begins and ends, and the scalar types between.
+#![tactic(auto)]
+
+pub mod decoder;
+mod frames;
+mod members;
+mod preamble;
+
+pub use decoder::Decoder;

@@ -1,0 +1,74 @@
+//! The preamble of a sequence (X.696 16.2).
+ghost use Rattle.std.specs.Prelude.{◌≡◌, ◌+◌, ◌*◌, ◌^◌, ◌<◌, ◌≤◌, [], ◌∷◌, ◌++◌, cond, length, replicate, false, IsTrue, ◌↔◌, IfOk, IfErr};
+ghost use Rattle.asn1_model.specs.Numbers.{missing};
+ghost use Rattle.oer_codec_decoder.specs.Preamble.{HasBits, HasPreamble};
+ghost use Rattle.oer_codec_decoder.specs.Scopes.{scope_of};
+
+use crate::frames::Frame;
+use asn1_schema_faults::DecodeError;
+use asn1_values_bits::BitReader;
+use oer_codec_reading::Cursor;
+
+/// How many octets the preamble has, whose bits fill whole octets.
+fn preamble_len(extensible: bool, optional: usize) -> usize
+    ensures { result * 8 ≡ (cond extensible 1 0 + optional) + missing (cond extensible 1 0 + optional) }
+{
+    optional / 8 + (optional % 8 + usize::from(extensible) + 7) / 8
+}
+
+/// Takes off the bit of the mark, if there is one, and the presence bits.
+fn take_presence<'input>(
+    bits: &mut BitReader<'input>,
+    extensible: bool,
+    optional: usize,
+) -> Frame<'input>
+    requires { cond extensible 1 0 + optional ≤ length bits.old.bits }
+    ensures { HasBits extensible optional (scope_of result) bits.old.bits bits.new.bits }
+{
+    let mark = if extensible {
+        let first = bits.first_bit();
+        let _first = bits.split(1);
+        Some(first)
+    } else {
+        None
+    };
+    match bits.split(optional) {
+        Ok(presence) => Frame::Components(mark, presence),
+        Err(_) => unreachable!(),
+    }
+}
+
+/// Whether no bit is set.
+fn are_zero(bits: &BitReader<'_>) -> bool
+    requires { length bits.now.bits < 8 }
+    ensures { IsTrue result ↔ (bits.now.bits ≡ replicate (length bits.now.bits) false) }
+{
+    bits.first_bits(bits.len() as u32) == 0
+}
+
+/// Reads the preamble of a sequence, with or without a mark of extensibility, of which so many components may be absent: the bit of the
+/// mark, if there is one, the presence bits, and zeros to fill an octet.
+///
+/// # Errors
+///
+/// `Incomplete` if the octets end early, and `InvalidPreamble` if one of the bits that fill an octet is set.
+pub(crate) fn read_preamble<'input>(
+    cursor: &mut Cursor<'input>,
+    extensible: bool,
+    optional: usize,
+) -> Result<Frame<'input>, DecodeError>
+    ensures ok { IfOk result (λ frame. HasPreamble extensible optional (scope_of frame) cursor.old cursor.new) }
+    ensures only { IfErr result (λ _. (s : _) (rest : _) → HasPreamble extensible optional s cursor.old rest → ⊥) }
+{
+    let count = preamble_len(extensible, optional);
+    if count > cursor.len() {
+        return Err(DecodeError::Incomplete);
+    }
+    let octets = cursor.take(count)?;
+    let mut bits = BitReader::from_octets(octets);
+    let frame = take_presence(&mut bits, extensible, optional);
+    if !are_zero(&bits) {
+        return Err(DecodeError::InvalidPreamble);
+    }
+    Ok(frame)
+}

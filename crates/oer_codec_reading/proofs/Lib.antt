@@ -1,0 +1,10 @@
+pub mod Freedoms
+pub mod Fronts
+pub mod Truths
+pub mod LengthFronts
+pub mod SizedFronts
+pub mod WholeFronts
+pub mod IntegerFronts
+pub mod BitFronts
+pub mod BitStringFronts
+pub mod IdentifierFronts

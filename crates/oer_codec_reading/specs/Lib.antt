@@ -1,0 +1,4 @@
+pub mod Fronts
+pub mod Sized
+pub mod Whole
+pub mod Bits

@@ -1,0 +1,49 @@
+-- Whole numbers in a number of octets, or behind it.
+use Rattle.std.specs.Prelude.{ℕ, ◌-◌, ◌^◌, ◌==◌, leb, ltb, ℤ, pos, negsuc, Bool, true, false, cond, ◌&&◌, ◌||◌, List, ◌∷◌, Option, Some, None}
+use Rattle.asn1_model.specs.Schema.{Bounds, Range}
+use Rattle.asn1_model.specs.Numbers.{octet_width, signed_octets, is_within}
+use Rattle.asn1_model.specs.Form.{only_if}
+use Rattle.asn1_model.specs.Oer.{OctetForm, natural_form, signed_form, unsigned}
+use Rattle.asn1_values_natives.specs.Octets.{is_padded, plain}
+use Rattle.asn1_schema_bounds.specs.Bounds.{range_of}
+use Rattle.asn1_schema_constraints.specs.Sets.{has_additions}
+use Rattle.asn1_schema_constraints.specs.declared.extensions.Extensible.{Extensible}
+use Rattle.asn1_schema_constraints.specs.declared.parts.Value.{Value}
+use Rattle.asn1_schema_bounds.specs.Widths.{has_sign, fixed_width}
+
+-- Whether so many octets, with a sign or without, hold a number; any number stands behind how many they are.
+abbrev pub holds : Bool → Option ℕ → ℤ → Bool
+holds sign None v = true
+holds true (Some k) v = leb (signed_octets v) k
+holds false (Some k) v = leb (octet_width (plain v)) k
+
+-- A number that so many octets hold, or behind how many they are (X.696 10).
+unfoldable pub number_in : Bool → Option ℕ → ℤ → OctetForm
+number_in sign width v = only_if (holds sign width v) (cond sign (signed_form width v) (natural_form width v))
+
+-- Whether the first octet of a number could be left out (X.690 8.3.2).
+abbrev pub has_spare : Bool → List ℕ → Bool
+has_spare true os = is_padded os
+has_spare false (a ∷ b ∷ os) = a == 0
+has_spare false os = false
+
+-- Whether numbers under bounds are written with a sign (X.696 10).
+abbrev pub sign_under : Bounds → Bool
+sign_under b = b.extensible || has_sign b.range.low
+
+-- In how many octets they are written, if that is fixed (X.696 10).
+abbrev pub width_under : Bounds → Option ℕ
+width_under b = cond b.extensible None (fixed_width b.range.low b.range.high)
+
+-- A count that 64 bits hold (X.696 17).
+abbrev pub count_in : ℕ → OctetForm
+count_in n = only_if (ltb n (2 ^ 64)) (unsigned n)
+
+-- The numbers of 128 bits of two's complement.
+abbrev pub wide_range : Range
+wide_range = record { low = Some (negsuc (2 ^ 127 - 1)); high = Some (pos (2 ^ 127 - 1)) }
+
+-- Whether a value constraint, where there is one, admits a number: one of 128 bits, within bounds that have no mark (X.680 51.4 and 52).
+abbrev pub admits_whole : Option (Extensible Value) → ℤ → Bool
+admits_whole None v = true
+admits_whole (Some c) v = is_within wide_range v && (has_additions c || is_within (range_of c.constraint.value) v)

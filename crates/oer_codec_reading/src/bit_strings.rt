@@ -1,0 +1,175 @@
+//! Bits in octets: preambles (X.696 16.2) and BIT STRING (X.696 13).
+ghost use Rattle.std.specs.Prelude.{◌≡◌, ℕ, ◌+◌, ◌*◌, ◌/◌, ◌^◌, ◌<◌, ◌≤◌, ◌==◌, IsTrue, ◌↔◌, ◌⊎◌, false, true, drop, length, replicate, IfOk, IfErr, IfSome, IfNone};
+ghost use Rattle.asn1_model.specs.Numbers.{missing, octet_bits};
+ghost use Rattle.asn1_model.specs.Oer.{bit_string_form};
+ghost use Rattle.asn1_model.specs.Schema as Asn1;
+ghost use Rattle.asn1_model.specs.Value as Asn1Value;
+ghost use Rattle.asn1_schema_bounds.specs.Bounds.{counts_of};
+ghost use Rattle.asn1_schema_constraints.specs.Terms.{sizes_of};
+ghost use Rattle.asn1_values_bits.specs.BitStr.{bits_of};
+ghost use Rattle.oer_codec_reading.specs.Fronts.{freedoms, is_basic, Front, Misses, NoFront, Stands};
+ghost use Rattle.oer_codec_reading.specs.Bits.{bits_in, preamble_of, sized_bits};
+
+use crate::lengths::read_length;
+use crate::sizes::{fixed_size, is_admitted};
+use crate::{Cursor, EncodingRules};
+use asn1_schema_bounds::Bounded;
+use asn1_schema_constraints::Constraints;
+use asn1_schema_faults::DecodeError;
+use asn1_values_bit_strings::BitString;
+use asn1_values_bits::BitStr;
+use asn1_values_bits::bits::read_bits;
+use std::alloc::Global;
+
+/// Whether the bits behind so many are zero, up to the end of the octets that hold these.
+fn has_zero_filling(octets: &[u8], count: usize) -> bool
+    requires whole { length octets.now * 8 ≡ count + missing count }
+    requires few { length octets.now < 2 ^ 60 }
+    ensures { IsTrue result ↔ (drop count (octet_bits octets.now) ≡ replicate (missing count) false) }
+{
+    let missing = (8 - count % 8) % 8;
+    read_bits(octets, count, missing as u32) == 0
+}
+
+/// Reads so many presence bits, filled up with zeros, with the mark of extensibility in front of them where there is one (X.696 16.2).
+///
+/// # Errors
+///
+/// `Incomplete` if the octets end early, and `InvalidPreamble` if a filling bit is set.
+pub fn read_preamble<'input>(
+    cursor: &mut Cursor<'input>,
+    rules: EncodingRules,
+    count: usize,
+) -> Result<BitStr<'input>, DecodeError>
+    ensures ok { IfOk result (λ bits. Stands (freedoms rules) (preamble_of count (bits_of bits)) cursor.old cursor.new) }
+    ensures only { IfErr result (Misses (freedoms rules) (preamble_of count) cursor.old) }
+{
+    let octets = cursor.take(count.div_ceil(8))?;
+    if !has_zero_filling(octets, count) {
+        return Err(DecodeError::InvalidPreamble);
+    }
+    Ok(BitStr::front_of(octets, count))
+}
+
+/// Whether bits with such a filling are read: in the canonical rules only if it is zero (X.696 13).
+fn is_taken(rules: EncodingRules, octets: &[u8], count: usize) -> bool
+    requires whole { length octets.now * 8 ≡ count + missing count }
+    requires few { length octets.now < 2 ^ 60 }
+    ensures taken { result ≡ true → (is_basic rules ≡ true) ⊎ (drop count (octet_bits octets.now) ≡ replicate (missing count) false) }
+    ensures refused { result ≡ false → (is_basic rules ≡ false) × (drop count (octet_bits octets.now) ≡ replicate (missing count) false → ⊥) }
+{
+    if rules.is_oer() {
+        return true;
+    }
+    has_zero_filling(octets, count)
+}
+
+/// Reads so many bits, filled up to whole octets (X.696 13), and lends them.
+///
+/// # Errors
+///
+/// `Incomplete` if the octets end early, and `NotValidCanonicalEncoding` if a filling bit is set in the canonical rules.
+fn read_filled<'input>(
+    cursor: &mut Cursor<'input>,
+    rules: EncodingRules,
+    count: usize,
+) -> Result<BitStr<'input>, DecodeError>
+    ensures ok { IfOk result (λ bits. Stands (freedoms rules) (bits_in count (bits_of bits)) cursor.old cursor.new) }
+    ensures only { IfErr result (Misses (freedoms rules) (bits_in count) cursor.old) }
+{
+    let octets = cursor.take(count.div_ceil(8))?;
+    if !is_taken(rules, octets, count) {
+        return Err(DecodeError::NotValidCanonicalEncoding);
+    }
+    Ok(BitStr::front_of(octets, count))
+}
+
+/// How many bits a string has behind a length, by the number of its unused bits (X.696 13), if there is such a string.
+fn bit_count(length: usize, unused: u8) -> Option<usize>
+    requires some { 1 ≤ length }
+    requires most { length ≤ 2 ^ 60 }
+    ensures some { IfSome result (λ n. ((n + 7) / 8 + 1 ≡ length) × (missing n ≡ unused)) }
+    ensures none { IfNone result ((n : ℕ) → (n + 7) / 8 + 1 ≡ length → missing n ≡ unused → ⊥) }
+{
+    let held = (length - 1) * 8;
+    if unused > 7 || unused as usize > held {
+        return None;
+    }
+    Some(held - unused as usize)
+}
+
+/// Reads bits behind their length and the number of unused bits (X.696 13), and lends them.
+///
+/// # Errors
+///
+/// `Incomplete` if the octets end early, `InvalidBitString` if there are more than seven unused bits, or unused bits and no octet,
+/// `NotValidCanonicalEncoding` if a filling bit is set or the length is zero in the canonical rules, and the errors of a length.
+fn read_varying<'input>(
+    cursor: &mut Cursor<'input>,
+    rules: EncodingRules,
+) -> Result<BitStr<'input>, DecodeError>
+    ensures ok { IfOk result (λ bits. Stands (freedoms rules) (bit_string_form false (bits_of bits)) cursor.old cursor.new) }
+    ensures only { IfErr result (Misses (freedoms rules) (bit_string_form false) cursor.old) }
+{
+    let length = read_length(cursor, rules)?;
+    if length == 0 {
+        if rules.is_coer() {
+            return Err(DecodeError::NotValidCanonicalEncoding);
+        }
+        return Ok(BitStr::new());
+    }
+    if length > cursor.len() {
+        return Err(DecodeError::Incomplete);
+    }
+    let unused = cursor.take_octet()?;
+    let Some(count) = bit_count(length, unused) else {
+        return Err(DecodeError::InvalidBitString);
+    };
+    read_filled(cursor, rules, count)
+}
+
+/// Reads bits of one size, or behind their length if there is not one size alone, and lends them.
+fn read_sized_bits<'input>(
+    cursor: &mut Cursor<'input>,
+    rules: EncodingRules,
+    size: Option<usize>,
+) -> Result<BitStr<'input>, DecodeError>
+    ensures ok { IfOk result (λ bits. Stands (freedoms rules) (sized_bits size (bits_of bits)) cursor.old cursor.new) }
+    ensures only { IfErr result (Misses (freedoms rules) (sized_bits size) cursor.old) }
+{
+    match size {
+        Some(count) => {
+            let bits = read_filled(cursor, rules, count)?;
+            Ok(bits)
+        }
+        None => {
+            let bits = read_varying(cursor, rules)?;
+            Ok(bits)
+        }
+    }
+}
+
+/// Reads a string of bits (X.696 13) under a size constraint, in a type of the program that holds so many.
+///
+/// # Errors
+///
+/// `SizeConstraintNotSatisfied` if the size or the program's type does not admit as many, `Incomplete` if the octets end early,
+/// `InvalidBitString` if there are more than seven unused bits, or unused bits and no octet, `NotValidCanonicalEncoding` if a filling bit is
+/// set or the length is zero in the canonical rules, the errors of a length, and `OutOfMemory`.
+pub fn read_bit_string(
+    alloc: Global,
+    cursor: &mut Cursor<'_>,
+    rules: EncodingRules,
+    constraints: Constraints,
+    held: Bounded<usize>,
+) -> Result<BitString, DecodeError>
+    ensures ok { IfOk result (λ x. Front (freedoms rules) (Asn1.bit_string (sizes_of constraints.entry.size) (counts_of held)) (Asn1Value.bit_list x) cursor.old cursor.new) }
+    ensures only { IfErr result (NoFront (freedoms rules) (Asn1.bit_string (sizes_of constraints.entry.size) (counts_of held)) cursor.old) }
+{
+    let bits = read_sized_bits(cursor, rules, fixed_size(constraints))?;
+    if !is_admitted(constraints, held, bits.len()) {
+        return Err(DecodeError::SizeConstraintNotSatisfied);
+    }
+    let string = BitString::from_bitslice(alloc, bits)?;
+    Ok(string)
+}

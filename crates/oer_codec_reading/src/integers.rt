@@ -1,0 +1,116 @@
+//! INTEGER (X.696 10).
+ghost use Rattle.std.specs.Prelude.{◌≡◌, ◌-◌, ◌^◌, ◌≤◌, ◌<◌, ◌⊎◌, ℕ, true, false, is_some, length, IfOk, OnOk, IfErr, IfSome};
+ghost use Rattle.asn1_model.specs.Numbers.{is_within};
+ghost use Rattle.asn1_model.specs.Schema as Asn1;
+ghost use Rattle.asn1_model.specs.Value as Asn1Value;
+ghost use Rattle.asn1_schema_constraints.specs.Terms.{bounds_of, held_of};
+ghost use Rattle.asn1_values_natives.specs.Octets.{own_number};
+ghost use Rattle.oer_codec_reading.specs.Fronts.{freedoms, Front, NoFront};
+ghost use Rattle.oer_codec_reading.specs.Whole.{admits_whole, sign_under, wide_range, width_under};
+
+use crate::numbers::read_number;
+use crate::{Cursor, EncodingRules};
+use asn1_schema_constraints::Constraints;
+use asn1_schema_faults::DecodeError;
+use asn1_values_integer_types::IntegerType;
+use asn1_values_natives::Wide;
+use asn1_values_numbers::IntegerError;
+use std::alloc::Global;
+
+/// The form of numbers under a value constraint (X.696 10): whether they have a sign, and in how many octets they stand, if that is fixed.
+fn form_under(constraints: Constraints) -> (bool, Option<usize>)
+    ensures sign { result.0 ≡ sign_under (bounds_of constraints.entry.value) }
+    ensures width { result.1 ≡ width_under (bounds_of constraints.entry.value) }
+    ensures some { IfSome result.1 (λ k. 1 ≤ k) }
+{
+    let Some(constraint) = constraints.value else {
+        return (true, None);
+    };
+    if constraint.extensible.is_some() {
+        return (true, None);
+    }
+    let (signed, width) = constraint.constraint.value.range_in_bytes();
+    match width {
+        Some(count) => (signed, Some(count as usize)),
+        None => (signed, None),
+    }
+}
+
+/// The number that octets are, with a sign or without, if 128 bits of two's complement hold it.
+fn whole_number(signed: bool, octets: &[u8]) -> Option<i128>
+    ensures value { IfSome result (λ z. z ≡ own_number signed octets.now) }
+    ensures fits { is_some result ≡ is_within wide_range (own_number signed octets.now) }
+{
+    if signed {
+        return Wide::from_signed_octets(octets)?.to_whole(i128::MAX);
+    }
+    Wide::from_unsigned_octets(octets)?.to_whole(i128::MAX)
+}
+
+/// Whether a value constraint, where there is one, admits the number that octets are: one of 128 bits, within bounds that have no mark.
+fn is_admitted(constraints: Constraints, signed: bool, octets: &[u8]) -> bool
+    ensures { result ≡ admits_whole constraints.entry.value (own_number signed octets.now) }
+{
+    let Some(constraint) = constraints.value else {
+        return true;
+    };
+    match whole_number(signed, octets) {
+        Some(number) => {
+            constraint.extensible.is_some() || constraint.constraint.value.contains(&number)
+        }
+        None => false,
+    }
+}
+
+/// The number that octets are, in a type of the program, if that holds it.
+fn value_of<I: IntegerType>(alloc: Global, signed: bool, octets: &[u8]) -> Result<I, DecodeError>
+    requires { 0 < length octets.now }
+    ensures value { IfOk result (λ x. I.value x ≡ own_number signed octets.now) }
+    ensures held { OnOk result (is_within I.held (own_number signed octets.now) ≡ true) }
+    ensures refused { IfErr result (λ e. (e ≡ DecodeError.OutOfMemory) ⊎ (is_within I.held (own_number signed octets.now) ≡ false)) }
+{
+    if signed {
+        return match I::try_from_signed_bytes(alloc, octets) {
+            Ok(value) => Ok(value),
+            Err(error) => Err(fault_of(error)),
+        };
+    }
+    match I::try_from_unsigned_bytes(alloc, octets) {
+        Ok(value) => Ok(value),
+        Err(error) => Err(fault_of(error)),
+    }
+}
+
+/// Why a number is not read in a type of the program.
+fn fault_of(error: IntegerError) -> DecodeError
+    ensures { error ≡ IntegerError.Memory → result ≡ DecodeError.OutOfMemory }
+{
+    match error {
+        IntegerError::Memory => DecodeError::OutOfMemory,
+        IntegerError::Overflow | IntegerError::Empty => DecodeError::IntegerOverflow,
+    }
+}
+
+/// Reads a whole number (X.696 10) under a value constraint, in a type of the program.
+///
+/// # Errors
+///
+/// `Incomplete` if the octets end early, `ZeroLengthOfLength` if there are none, `NotValidCanonicalEncoding` if there is one more than needed
+/// in the canonical rules, `ValueConstraintNotSatisfied` if the constraint does not admit the number, `IntegerOverflow` if the program's
+/// type does not hold it, the errors of a length, and `OutOfMemory`.
+pub fn read_integer<I: IntegerType>(
+    alloc: Global,
+    cursor: &mut Cursor<'_>,
+    rules: EncodingRules,
+    constraints: Constraints,
+) -> Result<I, DecodeError>
+    ensures ok { IfOk result (λ x. Front (freedoms rules) (Asn1.integer (bounds_of constraints.entry.value) (held_of constraints.entry.value I.held)) (Asn1Value.number (I.value x)) cursor.old cursor.new) }
+    ensures only { IfErr result (NoFront (freedoms rules) (Asn1.integer (bounds_of constraints.entry.value) (held_of constraints.entry.value I.held)) cursor.old) }
+{
+    let (signed, width) = form_under(constraints);
+    let octets = read_number(cursor, rules, signed, width)?;
+    if !is_admitted(constraints, signed, octets) {
+        return Err(DecodeError::ValueConstraintNotSatisfied);
+    }
+    value_of(alloc, signed, octets)
+}

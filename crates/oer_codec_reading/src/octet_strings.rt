@@ -1,0 +1,62 @@
+//! OCTET STRING (X.696 14).
+ghost use Rattle.std.specs.Prelude.{IfOk, IfErr};
+ghost use Rattle.asn1_model.specs.Schema as Asn1;
+ghost use Rattle.asn1_model.specs.Value as Asn1Value;
+ghost use Rattle.asn1_schema_bounds.specs.Bounds.{counts_of};
+ghost use Rattle.asn1_schema_constraints.specs.Terms.{sizes_of};
+ghost use Rattle.oer_codec_reading.specs.Fronts.{freedoms, Front, Misses, NoFront, Stands};
+ghost use Rattle.oer_codec_reading.specs.Sized.{sized};
+
+use crate::lengths::read_counted;
+use crate::sizes::{fixed_size, is_admitted};
+use crate::{Cursor, EncodingRules};
+use asn1_schema_bounds::Bounded;
+use asn1_schema_constraints::Constraints;
+use asn1_schema_faults::DecodeError;
+
+/// Reads octets of one size, or behind their number if there is not one size alone, and lends them.
+///
+/// # Errors
+///
+/// `Incomplete` if the octets end early, and those of [`read_counted`].
+pub fn read_sized<'input>(
+    cursor: &mut Cursor<'input>,
+    rules: EncodingRules,
+    size: Option<usize>,
+) -> Result<&'input [u8], DecodeError>
+    ensures ok { IfOk result (λ octets. Stands (freedoms rules) (sized size octets.now) cursor.old cursor.new) }
+    ensures only { IfErr result (Misses (freedoms rules) (sized size) cursor.old) }
+{
+    match size {
+        Some(count) => {
+            let octets = cursor.take(count)?;
+            Ok(octets)
+        }
+        None => {
+            let octets = read_counted(cursor, rules)?;
+            Ok(octets)
+        }
+    }
+}
+
+/// Reads a string of octets (X.696 14) under a size constraint, in a type of the program that holds so many, and lends them.
+///
+/// # Errors
+///
+/// `SizeConstraintNotSatisfied` if the size or the program's type does not admit as many, `Incomplete` if they end early, and the errors of
+/// a length.
+pub fn read_octet_string<'input>(
+    cursor: &mut Cursor<'input>,
+    rules: EncodingRules,
+    constraints: Constraints,
+    held: Bounded<usize>,
+) -> Result<&'input [u8], DecodeError>
+    ensures ok { IfOk result (λ octets. Front (freedoms rules) (Asn1.octet_string (sizes_of constraints.entry.size) (counts_of held)) (Asn1Value.octet_list octets.now) cursor.old cursor.new) }
+    ensures only { IfErr result (NoFront (freedoms rules) (Asn1.octet_string (sizes_of constraints.entry.size) (counts_of held)) cursor.old) }
+{
+    let octets = read_sized(cursor, rules, fixed_size(constraints))?;
+    if !is_admitted(constraints, held, octets.len()) {
+        return Err(DecodeError::SizeConstraintNotSatisfied);
+    }
+    Ok(octets)
+}

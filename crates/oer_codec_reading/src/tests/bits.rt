@@ -1,0 +1,103 @@
+//! Presence bits, and strings of bits.
+use crate::bit_strings::{read_bit_string, read_preamble};
+use crate::{Cursor, EncodingRules};
+use asn1_schema_bounds::Bounded;
+use asn1_schema_constraints::{Constraint, Constraints, Extensible, Size};
+use asn1_schema_faults::DecodeError;
+use asn1_values_bit_strings::BitString;
+use std::alloc::Global;
+
+/// The bits in front, under a size constraint.
+fn bits(
+    alloc: Global,
+    input: &[u8],
+    rules: EncodingRules,
+    size: Bounded<usize>,
+) -> Result<BitString, DecodeError> {
+    let constraint = Constraint::Size(Extensible::new(Size::new(size)));
+    read_bit_string(
+        alloc,
+        &mut Cursor::new(input),
+        rules,
+        Constraints::new(&[constraint]),
+        Bounded::None,
+    )
+}
+
+/// Whether so many bits were read, with these octets.
+fn are_bits(found: &Result<BitString, DecodeError>, count: usize, octets: &[u8]) -> bool {
+    match found {
+        Ok(string) => string.len() == count && string.as_bytes() == octets,
+        Err(_) => false,
+    }
+}
+
+/// Whether it was refused for this.
+fn is_refused(found: &Result<BitString, DecodeError>, fault: DecodeError) -> bool {
+    match found {
+        Ok(_) => false,
+        Err(error) => *error == fault,
+    }
+}
+
+#[test]
+fn presence_bits_are_filled_up_with_zeros(rt: HostRuntime) {
+    let mut cursor = Cursor::new(&[0xC0, 0x01]);
+    let found = read_preamble(&mut cursor, EncodingRules::Coer, 2);
+    assert!(rt; matches!(&found, Ok(marks) if marks.len() == 2 && marks.get(1) == Some(true)));
+    assert_eq!(rt; cursor.len(), 1);
+    for rules in [EncodingRules::Oer, EncodingRules::Coer] {
+        let set = read_preamble(&mut Cursor::new(&[0xC1]), rules, 2);
+        assert!(rt; matches!(&set, Err(DecodeError::InvalidPreamble)));
+        let none = read_preamble(&mut Cursor::new(&[]), rules, 0);
+        assert!(rt; matches!(&none, Ok(marks) if marks.is_empty()));
+        let short = read_preamble(&mut Cursor::new(&[0x00]), rules, 9);
+        assert!(rt; matches!(&short, Err(DecodeError::Incomplete)));
+    }
+}
+
+#[test]
+fn one_size_has_no_length(rt: HostRuntime) {
+    let size = Bounded::single_value(14);
+    let found = bits(rt.alloc(), &[0xFF, 0x40], EncodingRules::Coer, size);
+    assert!(rt; are_bits(&found, 14, &[0xFF, 0x40]));
+    let filled = bits(rt.alloc(), &[0xFF, 0x43], EncodingRules::Oer, size);
+    assert!(rt; are_bits(&filled, 14, &[0xFF, 0x40]));
+    let refused = bits(rt.alloc(), &[0xFF, 0x43], EncodingRules::Coer, size);
+    assert!(rt; is_refused(&refused, DecodeError::NotValidCanonicalEncoding));
+}
+
+#[test]
+fn other_sizes_have_a_length_and_unused_bits(rt: HostRuntime) {
+    let any = Bounded::None;
+    let found = bits(
+        rt.alloc(),
+        &[0x03, 0x02, 0xFF, 0x40],
+        EncodingRules::Coer,
+        any,
+    );
+    assert!(rt; are_bits(&found, 14, &[0xFF, 0x40]));
+    let empty = bits(rt.alloc(), &[0x01, 0x00], EncodingRules::Coer, any);
+    assert!(rt; are_bits(&empty, 0, &[]));
+    let many = bits(rt.alloc(), &[0x02, 0x08, 0xFF], EncodingRules::Oer, any);
+    assert!(rt; is_refused(&many, DecodeError::InvalidBitString));
+    let none = bits(rt.alloc(), &[0x01, 0x01], EncodingRules::Oer, any);
+    assert!(rt; is_refused(&none, DecodeError::InvalidBitString));
+    let large = bits(
+        rt.alloc(),
+        &[0x02, 0x00, 0xFF],
+        EncodingRules::Oer,
+        Bounded::up_to(7),
+    );
+    assert!(rt; is_refused(&large, DecodeError::SizeConstraintNotSatisfied));
+    let short = bits(rt.alloc(), &[0x03, 0x00, 0xFF], EncodingRules::Oer, any);
+    assert!(rt; is_refused(&short, DecodeError::Incomplete));
+}
+
+#[test]
+fn a_length_of_zero_is_read_in_the_basic_rules_alone(rt: HostRuntime) {
+    let empty = bits(rt.alloc(), &[0x00], EncodingRules::Oer, Bounded::None);
+    assert!(rt; are_bits(&empty, 0, &[]));
+    let refused = bits(rt.alloc(), &[0x00], EncodingRules::Coer, Bounded::None);
+    assert!(rt; is_refused(&refused, DecodeError::NotValidCanonicalEncoding));
+}

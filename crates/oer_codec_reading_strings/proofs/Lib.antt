@@ -1,0 +1,3 @@
+pub mod TextFronts
+pub mod Spelled
+pub mod CharacterFronts

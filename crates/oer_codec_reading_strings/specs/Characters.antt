@@ -1,0 +1,28 @@
+-- Characters as octets: two for each of them, the highest first, or one (X.696 27).
+use Rattle.std.specs.Prelude.{ℕ, ◌+◌, ◌*◌, Bool, true, false, List, [], ◌∷◌, flat_map, Option, option_map}
+use Rattle.asn1_model.specs.Numbers.{digits}
+
+-- How many octets each character has.
+abbrev pub width : Bool → ℕ
+width true = 2
+width false = 1
+
+-- The octets of characters.
+abbrev pub spelled : Bool → List ℕ → List ℕ
+spelled true cs = flat_map (digits 256 2) cs
+spelled false cs = cs
+
+-- Two octets after two others, each two as one number.
+abbrev pub pairs : List ℕ → List ℕ
+pairs [] = []
+pairs (o ∷ []) = []
+pairs (o ∷ p ∷ os) = (o * 256 + p) ∷ pairs os
+
+-- The characters that octets are.
+abbrev pub characters_in : Bool → List ℕ → List ℕ
+characters_in true os = pairs os
+characters_in false os = os
+
+-- How many octets one size has, counted in characters.
+abbrev pub octet_size : Bool → Option ℕ → Option ℕ
+octet_size wide size = option_map (λ n. n * width wide) size
