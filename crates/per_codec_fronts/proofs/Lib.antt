@@ -1,0 +1,9 @@
+pub mod Next
+pub mod Fronts
+pub mod Lists
+pub mod Parts
+pub mod Opened
+pub mod Sequences
+pub mod Bitmaps
+pub mod Choices
+pub mod Whole

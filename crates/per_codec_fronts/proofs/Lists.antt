@@ -1,0 +1,395 @@
+-- Lists, as a reader finds them: members behind their number, or in fragments, each behind its header.
+use Rattle.std.proofs.Common.{◌≡◌, ◌⊎◌, inl, inr, ◌≤◌, ℕ, zero, suc, ◌+◌, ◌-◌, ◌*◌, not, ltb, leb, ◌&&◌, Bool, true, false, cond, IsTrue, List, [], ◌∷◌, ◌++◌, length, take, drop, Option, Some, None, refl, ap, sym, ◌∙◌, subst, append_assoc, arith}
+use Rattle.std.proofs.lemmas.List.{append-nil}
+use Rattle.std.proofs.lemmas.Bool.{and_parts, and_from, leb-true, le-leb}
+use Rattle.asn1_model.specs.Value.{Value, members as in_list, bag, Values, no_more, member, each}
+use Rattle.asn1_model.specs.Schema.{Counts, Size, Schema, sequence_of, set_of}
+use Rattle.asn1_model.specs.Numbers.{binary, is_count_within}
+use Rattle.asn1_model.specs.Form.{exactly, both, only_if, joined, given, written, arranged, ascending, in_order, stands_before}
+use Rattle.asn1_model.specs.Per
+use Rattle.asn1_schema_presented.specs.Records.{Record, list_begins, bag_begins, further, ends}
+use Rattle.asn1_schema_presented.specs.Presents.{presents, member_records, member_count}
+use Rattle.asn1_schema_presented.specs.Chains.{Chain}
+use Rattle.asn1_schema_presented.proofs.Chains.{chain_split, chain_append}
+use Rattle.per_codec_fronts.specs.Takes.{Place, Tally, State, Scope, members, Front, Found, InPlace, Admits, in_all, with_fragment, Header, Headed, ByHighest, Counted, SizeMark, ListBegins, MemberDue}
+use Rattle.per_codec_fronts.proofs.Next.{state_same}
+use Rattle.per_codec_fronts.proofs.Fronts.{Under, Bridged, Step, nothing_front, of_nothing, split, join, varied_in, varied_out, given_in, if_in, if_out, none, from_state, from_scopes}
+
+-- ---- counts
+in_all_grown : (ms : List ℕ) (m n : ℕ) → in_all (ms ++ m ∷ []) n ≡ in_all ms (m * 16384 + n)
+in_all_grown [] m n = refl
+in_all_grown (x ∷ ms) m n = ap (λ i. x * 16384 + i) (in_all_grown ms m n)
+
+drop_long : {X : Type 0} (n : ℕ) (us : List X) → n ≤ length us → n + length (drop n us) ≡ length us
+drop_long zero us h = omega arith
+drop_long (suc n) [] h = absurd (omega arith)
+drop_long (suc n) (x ∷ us) h = let e = drop_long n us (omega arith) in omega arith
+
+each_long : {X : Type 0} (f : Value → X) (vs : Values) → length (each f vs) ≡ member_count vs
+each_long f no_more = refl
+each_long f (member v vs) = ap suc (each_long f vs)
+
+-- a header is not asked for where none of its members is due
+abbrev Ready : ℕ → Option Tally → Type 0
+Ready zero (Some t) = ⊥
+Ready n hs = Unit {0}
+
+module _ (free : Per.Freedom → Bool) (al : Bool) (B : Type 0) where
+  -- ---- what is due of a list
+  abbrev Settled : Tally → List ℕ → ℕ → Type 0
+  Settled t ms n = Admits free t.size t.held t.outside (in_all t.sizes n) × ((t.sizes ++ ms ≡ Per.largest_first (in_all t.sizes n)) ⊎ IsTrue (free Per.other_fragments))
+
+  abbrev Rest : ℕ → Option Tally → List Per.BitForm → Place → Place → Type 0
+  Rest d None us a b = (length us ≡ d) × Front free (joined us) a b
+  Rest d (Some t) us a b = (ms : List ℕ) × (d ≤ length us) × Settled t ms (length (drop d us)) × Front free (both (joined (take d us)) (Per.fragments al ms (drop d us))) a b
+
+  -- ---- headers
+  behind_none : (x : Per.BitForm) (a b : Place) → Front free x a b → Front free (both (exactly []) x) a b
+  behind_none x a b f = join free (exactly []) x a a b (nothing_front free a) f
+
+  of_none : (x : Per.BitForm) (a b : Place) → Front free (both (exactly []) x) a b → Front free x a b
+  of_none x a b f = let q = split free (exactly []) x a b f in subst (λ p. Front free x p b) (of_nothing free a q.0 q.1) q.2
+
+  settled_more : (t : Tally) (m n all : ℕ) (ms : List ℕ) → m * 16384 + n ≡ all → Settled (with_fragment m t) ms n → Settled t (m ∷ ms) all
+  settled_more t m n all ms e s =
+      let c : in_all (t.sizes ++ m ∷ []) n ≡ in_all t.sizes all = in_all_grown t.sizes m n ∙ ap (λ i. in_all t.sizes i) e in
+      (subst (λ i. Admits free t.size t.held t.outside i) c s.0, alike s.1 c)
+    where
+      alike : {i j : ℕ} → ((t.sizes ++ m ∷ []) ++ ms ≡ Per.largest_first i) ⊎ IsTrue (free Per.other_fragments) → i ≡ j → (t.sizes ++ (m ∷ ms) ≡ Per.largest_first j) ⊎ IsTrue (free Per.other_fragments)
+      alike (inl f) c = inl (sym (append_assoc t.sizes (m ∷ []) ms) ∙ f ∙ ap (λ i. Per.largest_first i) c)
+      alike (inr f) c = inr f
+
+  settled_less : (t : Tally) (m n all : ℕ) (ms : List ℕ) → m * 16384 + n ≡ all → Settled t (m ∷ ms) all → Settled (with_fragment m t) ms n
+  settled_less t m n all ms e s =
+      let c : in_all t.sizes all ≡ in_all (t.sizes ++ m ∷ []) n = ap (λ i. in_all t.sizes i) (sym e) ∙ sym (in_all_grown t.sizes m n) in
+      (subst (λ i. Admits free t.size t.held t.outside i) c s.0, alike s.1 c)
+    where
+      alike : {i j : ℕ} → (t.sizes ++ (m ∷ ms) ≡ Per.largest_first i) ⊎ IsTrue (free Per.other_fragments) → i ≡ j → ((t.sizes ++ m ∷ []) ++ ms ≡ Per.largest_first j) ⊎ IsTrue (free Per.other_fragments)
+      alike (inl f) c = inl (append_assoc t.sizes (m ∷ []) ms ∙ f ∙ ap (λ i. Per.largest_first i) c)
+      alike (inr f) c = inr f
+
+  settled_last : (t : Tally) (n : ℕ) → Settled t [] n → (t.sizes ≡ Per.largest_first (in_all t.sizes n)) ⊎ IsTrue (free Per.other_fragments)
+  settled_last t n s = go s.1
+    where
+      go : (t.sizes ++ [] ≡ Per.largest_first (in_all t.sizes n)) ⊎ IsTrue (free Per.other_fragments) → (t.sizes ≡ Per.largest_first (in_all t.sizes n)) ⊎ IsTrue (free Per.other_fragments)
+      go (inl e) = inl (sym (append-nil t.sizes) ∙ e)
+      go (inr e) = inr e
+
+  last_settled : (t : Tally) (n : ℕ) → (t.sizes ≡ Per.largest_first (in_all t.sizes n)) ⊎ IsTrue (free Per.other_fragments) → (t.sizes ++ [] ≡ Per.largest_first (in_all t.sizes n)) ⊎ IsTrue (free Per.other_fragments)
+  last_settled t n (inl e) = inl (append-nil t.sizes ∙ e)
+  last_settled t n (inr e) = inr e
+
+  fragment_in : (t : Tally) (us : List Per.BitForm) (m : ℕ) (a mid b : Place) → (leb 1 m && leb m 4) ≡ true → Front free (Per.at_octet al (exactly (true ∷ true ∷ binary 6 m))) a mid → Rest (m * 16384) (Some (with_fragment m t)) us mid b → Rest zero (Some t) us a b
+  unfolding Per.fragments
+  fragment_in t us m a mid b e f r =
+      let c : (leb 1 m && leb m 4 && leb (m * 16384) (length us)) ≡ true = and_from _ _ e (le-leb _ _ r.1) in
+      (m ∷ r.0, omega arith, settled_more t m (length (drop (m * 16384) us)) (length us) r.0 (drop_long (m * 16384) us r.1) r.2, behind_none _ a b (if_in free (leb 1 m && leb m 4 && leb (m * 16384) (length us)) _ a b c (join free _ _ a mid b f r.3)))
+
+  last_in : (t : Tally) (us : List Per.BitForm) (a mid b : Place) → Admits free t.size t.held t.outside (in_all t.sizes (length us)) → (t.sizes ≡ Per.largest_first (in_all t.sizes (length us))) ⊎ IsTrue (free Per.other_fragments) → Front free (Per.short_length al (length us)) a mid → Front free (joined us) mid b → Rest zero (Some t) us a b
+  unfolding Per.fragments
+  last_in t us a mid b c d f g = ([], omega arith, (c, last_settled t (length us) d), behind_none _ a b (join free _ _ a mid b f g))
+
+  header_in : (t : Tally) (us : List Per.BitForm) (a mid b : Place) (due : ℕ) (hs : Option Tally) → Header al free t a mid due hs → Rest due hs us mid b → Rest zero (Some t) us a b
+  header_in t us a mid b due hs (inl x) r = fragment_in t us x.0 a mid b x.1 x.2 (subst (λ o. Rest (x.0 * 16384) o us mid b) x.4 (subst (λ n. Rest n hs us mid b) x.3 r))
+  header_in t us a mid b due hs (inr x) r =
+      let s : Rest due None us mid b = subst (λ o. Rest due o us mid b) x.3 r in
+      let e : due ≡ length us = sym s.0 in
+      last_in t us a mid b (subst (λ n. Admits free t.size t.held t.outside (in_all t.sizes n)) e x.0) (subst (λ n. (t.sizes ≡ Per.largest_first (in_all t.sizes n)) ⊎ IsTrue (free Per.other_fragments)) e x.1) (subst (λ n. Front free (Per.short_length al n) a mid) e x.2) s.1
+
+  abbrev Next : Tally → List Per.BitForm → Place → Place → Type 0
+  Next t us a b = (due : ℕ) × (hs : Option Tally) × (mid : Place) × Header al free t a mid due hs × Ready due hs × Rest due hs us mid b
+
+  many_ready : (n : ℕ) (t : Tally) → 1 ≤ n → Ready n (Some t)
+  many_ready zero t h = absurd (omega arith)
+  many_ready (suc n) t h = tt
+
+  none_ready : (n : ℕ) → Ready n None
+  none_ready zero = tt
+  none_ready (suc n) = tt
+
+  header_out : (t : Tally) (us : List Per.BitForm) (a b : Place) → Rest zero (Some t) us a b → Next t us a b
+  unfolding Per.fragments
+  header_out t us a b r = by_sizes r.0 r.2 (of_none _ a b r.3)
+    where
+      by_sizes : (ms : List ℕ) → Settled t ms (length us) → Front free (Per.fragments al ms us) a b → Next t us a b
+      by_sizes [] s f =
+          let q = split free (Per.short_length al (length us)) (joined us) a b f in
+          (length us, None, q.0, inr (s.0, settled_last t (length us) s, q.1, refl), none_ready (length us), (refl, q.2))
+      by_sizes (m ∷ ms) s f =
+          let i = if_out free (leb 1 m && leb m 4 && leb (m * 16384) (length us)) _ a b f in
+          let c = and_parts (leb 1 m && leb m 4) (leb (m * 16384) (length us)) i.0 in
+          let q = split free _ _ a b i.1 in
+          let l : m * 16384 ≤ length us = leb-true _ _ c.1 in
+          let o : 1 ≤ m = leb-true _ _ ((and_parts (leb 1 m) (leb m 4) c.0).0) in
+          (m * 16384, Some (with_fragment m t), q.0, inl (m, c.0, q.1, refl, refl), many_ready (m * 16384) (with_fragment m t) (omega arith), (ms, l, settled_less t m (length (drop (m * 16384) us)) (length us) ms (drop_long (m * 16384) us l) s, q.2))
+
+  -- ---- one more member
+  more_in : (x : Per.BitForm) (us : List Per.BitForm) (d : ℕ) (hs : Option Tally) (a mid b : Place) → Front free x a mid → Rest d hs us mid b → Rest (suc d) hs (x ∷ us) a b
+  more_in x us d None a mid b f r = (ap suc r.0, join free x (joined us) a mid b f r.1)
+  more_in x us d (Some t) a mid b f r =
+      let q = split free _ _ mid b r.3 in
+      (r.0, omega (arith, r.1), r.2, join free _ _ a q.0 b (join free x (joined (take d us)) a mid q.0 f q.1) q.2)
+
+  more_out : (x : Per.BitForm) (us : List Per.BitForm) (d : ℕ) (hs : Option Tally) (a b : Place) → Rest (suc d) hs (x ∷ us) a b → (mid : Place) × Front free x a mid × Rest d hs us mid b
+  more_out x us d None a b r = let q = split free x (joined us) a b r.1 in let e = r.0 in (q.0, q.1, (omega arith, q.2))
+  more_out x us d (Some t) a b r =
+      let q = split free (both x (joined (take d us))) _ a b r.3 in
+      let p = split free x (joined (take d us)) a q.0 q.1 in
+      let l = r.1 in
+      (p.0, p.1, (r.0, omega arith, r.2, join free _ _ p.0 q.0 b p.2 q.2))
+
+  -- ---- members
+  module _ (s : Schema) (each_is : (v : Value) → Bridged B al free s v) where
+    abbrev forms : Values → List Per.BitForm
+    forms vs = each (λ v. Per.form al s v) vs
+
+    abbrev calls : Values → List Record
+    calls vs = member_records (λ v. presents s v) vs
+
+    abbrev is_more : Values → Bool
+    is_more no_more = false
+    is_more (member v vs) = true
+
+    -- the records behind whether a further member comes
+    abbrev tail : Values → List Record
+    tail no_more = ends ∷ []
+    tail (member v vs) = presents s v ++ calls vs
+
+    abbrev Goes : List Record → Values → ℕ → Option Tally → Type 0
+    Goes rs vs d hs = (a : Place) (k : List Scope) (b : State) → Under B (Chain (Step free al) rs (a, members d hs ∷ k) b) (Rest d hs (forms vs) a b.0 × (b.1 ≡ k))
+
+    abbrev Later : Values → Type 0
+    Later no_more = Unit {0}
+    Later (member v vs) = (d : ℕ) (hs : Option Tally) → Goes (calls vs) vs d hs
+
+    due_in : (vs : Values) → Later vs → (d : ℕ) (hs : Option Tally) (a : Place) (k : List Scope) (m b : State) → MemberDue (is_more vs) d hs a k m → Chain (Step free al) (tail vs) m b → Rest d hs (forms vs) a b.0 × (b.1 ≡ k)
+    due_in no_more l zero None a k m b t c =
+        let r = from_state free al (ends ∷ []) m b a (members zero None ∷ k) t.1 c in
+        let e : b ≡ (a, k) = r.2 ∙ r.1 in
+        ((refl, subst (λ p. Front free (exactly []) a p) (sym (ap (λ (s : State). s.0) e)) (nothing_front free a)), ap (λ (s : State). s.1) e)
+    due_in no_more l zero (Some g) a k m b t c = absurd t
+    due_in no_more l (suc d) hs a k m b t c = let e = t.0 in cc
+    due_in (member v vs) l zero None a k m b t c = let e = t.0 in cc
+    due_in (member v vs) l zero (Some g) a k m b t c = absurd t
+    due_in (member v vs) l (suc d) hs a k m b t c =
+        let here : State = (a, members d hs ∷ k) in
+        let q = chain_split (Step free al) (presents s v) (calls vs) here b (from_state free al (tail (member v vs)) m b a (members d hs ∷ k) t.1 c) in
+        let f = (each_is v here q.0).0 q.1 in
+        let r = (l d hs q.0.0 k b).0 (from_scopes free al (calls vs) q.0 b (members d hs ∷ k) f.1 q.2) in
+        (more_in (Per.form al s v) (forms vs) d hs a q.0.0 b.0 f.0 r.0, r.1)
+
+    abbrev DueFound : Values → ℕ → Option Tally → Place → List Scope → State → Type 0
+    DueFound vs d hs a k b = (m : State) × MemberDue (is_more vs) d hs a k m × Chain (Step free al) (tail vs) m b
+
+    due_out : (vs : Values) → Later vs → B → (d : ℕ) (hs : Option Tally) → Ready d hs → (a : Place) (k : List Scope) (b : State) → Rest d hs (forms vs) a b.0 → b.1 ≡ k → DueFound vs d hs a k b
+    due_out no_more l u zero None y a k b r e = ((a, members zero None ∷ k), (refl, refl), (b, state_same b (a, k) (of_nothing free a b.0 r.1) e, refl))
+    due_out no_more l u zero (Some g) y a k b r e = absurd y
+    due_out no_more l u (suc d) None y a k b r e = let n = r.0 in absurd (omega arith)
+    due_out no_more l u (suc d) (Some g) y a k b r e = let n = r.1 in absurd (omega arith)
+    due_out (member v vs) l u zero None y a k b r e = let n = r.0 in absurd (omega arith)
+    due_out (member v vs) l u zero (Some g) y a k b r e = absurd y
+    due_out (member v vs) l u (suc d) hs y a k b r e =
+        let q = more_out (Per.form al s v) (forms vs) d hs a b.0 r in
+        let here : State = (a, members d hs ∷ k) in
+        let there : State = (q.0, members d hs ∷ k) in
+        (here, (refl, refl), chain_append (Step free al) (presents s v) (calls vs) here there b ((each_is v here there).1 u (q.1, refl)) ((l d hs q.0 k b).1 u (q.2, e)))
+
+    members_from : (vs : Values) → Later vs → (d : ℕ) (hs : Option Tally) → Goes (further (is_more vs) ∷ tail vs) vs d hs
+    members_from vs l zero None a k b = (λ c. due_in vs l zero None a k c.0 b c.1 c.2, λ u r. due_out vs l u zero None tt a k b r.0 r.1)
+    members_from vs l (suc d) hs a k b = (λ c. due_in vs l (suc d) hs a k c.0 b c.1 c.2, λ u r. due_out vs l u (suc d) hs (ready hs) a k b r.0 r.1)
+      where
+        ready : (hs : Option Tally) → Ready (suc d) hs
+        ready None = tt
+        ready (Some g) = tt
+    members_from vs l zero (Some t) a k b = (into, out)
+      where
+        into : Chain (Step free al) (further (is_more vs) ∷ tail vs) (a, members zero (Some t) ∷ k) b → Rest zero (Some t) (forms vs) a b.0 × (b.1 ≡ k)
+        into c =
+            let n = c.1 in
+            let r = due_in vs l n.0 n.1 n.2 k c.0 b n.4 c.2 in
+            (header_in t (forms vs) a n.2 b.0 n.0 n.1 n.3 r.0, r.1)
+
+        out : B → Rest zero (Some t) (forms vs) a b.0 × (b.1 ≡ k) → Chain (Step free al) (further (is_more vs) ∷ tail vs) (a, members zero (Some t) ∷ k) b
+        out u r =
+            let n = header_out t (forms vs) a b.0 r.0 in
+            let q = due_out vs l u n.0 n.1 n.4 n.2 k b n.5 r.1 in
+            (q.0, (n.0, n.1, n.2, n.3, q.1), q.2)
+
+    goes : (vs : Values) (d : ℕ) (hs : Option Tally) → Goes (calls vs) vs d hs
+    goes no_more d hs = members_from no_more tt d hs
+    goes (member v vs) d hs = members_from (member v vs) (λ d hs. goes vs d hs) d hs
+
+    members_in : (vs : Values) (d : ℕ) (hs : Option Tally) (m b : State) (k : List Scope) → m.1 ≡ members d hs ∷ k → Chain (Step free al) (calls vs) m b → Rest d hs (forms vs) m.0 b.0 × (b.1 ≡ k)
+    members_in vs d hs m b k e c = (goes vs d hs m.0 k b).0 (from_scopes free al (calls vs) m b (members d hs ∷ k) e c)
+
+  -- ---- what stands in front of members
+  abbrev Start : Size → Counts → Bool → Tally
+  Start z h out = record { size = z; held = h; outside = out; sizes = [] }
+
+  start_in : (z : Size) (h : Counts) (out : Bool) (us : List Per.BitForm) (a b : Place) → Rest zero (Some (Start z h out)) us a b → Admits free z h out (length us) × Front free (Per.counted al us) a b
+  unfolding Per.counted
+  start_in z h out us a b r = (r.2.0, varied_in free {c = Per.other_fragments} (λ ms. Per.fragments al ms us) r.0 r.2.1 a b (of_none _ a b r.3))
+
+  start_out : (z : Size) (h : Counts) (out : Bool) (us : List Per.BitForm) (a b : Place) → Admits free z h out (length us) → Front free (Per.counted al us) a b → Rest zero (Some (Start z h out)) us a b
+  unfolding Per.counted
+  start_out z h out us a b c f = let q = varied_out free {c = Per.other_fragments} (λ ms. Per.fragments al ms us) a b f in (q.0, omega arith, (c, q.1), behind_none _ a b q.2)
+
+  never_filled : (x : Per.BitForm) → Per.at_octet (al && false) x ≡ x
+  unfolding Per.at_octet
+  never_filled x = by_variant al
+    where
+      by_variant : (t : Bool) → Per.at_octet (t && false) x ≡ x
+      by_variant true = refl
+      by_variant false = refl
+
+  -- what is read of a list behind the mark of its size
+  abbrev counts_form : Size → Bool → Option ℕ → List Per.BitForm → Per.BitForm
+  counts_form z out high us = cond out (Per.counted al us) (Per.sized_root al z.counts high Per.never us)
+
+  abbrev Opened : Size → Counts → Bool → Option ℕ → List Per.BitForm → Place → List Scope → Place → Type 0
+  Opened z h out high us a k b = (m : State) × (d : ℕ) × (hs : Option Tally) × Counted al free z h out high a k m × (m.1 ≡ members d hs ∷ k) × Rest d hs us m.0 b
+
+  abbrev Onward : List Per.BitForm → State → List Scope → Place → Type 0
+  Onward us m k b = (d : ℕ) (hs : Option Tally) → m.1 ≡ members d hs ∷ k → Rest d hs us m.0 b
+
+  abbrev Read : Size → Counts → Bool → Option ℕ → List Per.BitForm → Place → Place → Type 0
+  Read z h out high us a b = Admits free z h out (length us) × Front free (counts_form z out high us) a b
+
+  headed_in : (z : Size) (h : Counts) (out : Bool) (us : List Per.BitForm) (a : Place) (k : List Scope) (m : State) (b : Place) → Headed al free z h out a k m → Onward us m k b → Admits free z h out (length us) × Front free (Per.counted al us) a b
+  headed_in z h out us a k m b f g = start_in z h out us a b (header_in (Start z h out) us a m.0 b f.0 f.1 f.2 (g f.0 f.1 f.3))
+
+  headed_out : (z : Size) (h : Counts) (out : Bool) (us : List Per.BitForm) (a : Place) (k : List Scope) (b : Place) → Admits free z h out (length us) → Front free (Per.counted al us) a b → (m : State) × (d : ℕ) × (hs : Option Tally) × Headed al free z h out a k m × (m.1 ≡ members d hs ∷ k) × Rest d hs us m.0 b
+  headed_out z h out us a k b c f =
+      let n = header_out (Start z h out) us a b (start_out z h out us a b c f) in
+      ((n.2, members n.0 n.1 ∷ k), n.0, n.1, (n.0, n.1, n.3, refl), refl, n.5)
+
+  abbrev by_number : Size → ℕ → List Per.BitForm → Per.BitForm
+  by_number z high us = both (Per.constrained al (high - z.counts.low) (length us - z.counts.low)) (Per.at_octet (al && Per.never z.counts) (joined us))
+
+  bounds_in : (z : Size) (h : Counts) (t : Bool) (high : ℕ) (us : List Per.BitForm) (a : Place) (k : List Scope) (m : State) (b : Place) → ByHighest al free z h t high a k m → Onward us m k b → Admits free z h false (length us) × Front free (cond t (by_number z high us) (Per.counted al us)) a b
+  bounds_in z h true high us a k m b f g =
+      let r = g f.0 None f.3 in
+      let e : f.0 ≡ length us = sym r.0 in
+      let x = never_filled (joined us) in
+      (subst (λ n. Admits free z h false n) e f.1, join free (Per.constrained al (high - z.counts.low) (length us - z.counts.low)) (Per.at_octet (al && false) (joined us)) a m.0 b (subst (λ n. Front free (Per.constrained al (high - z.counts.low) (n - z.counts.low)) a m.0) e f.2) (subst (λ y. Front free y m.0 b) (sym x) r.1))
+  bounds_in z h false high us a k m b f g = headed_in z h false us a k m b f g
+
+  bounds_out : (z : Size) (h : Counts) (t : Bool) (high : ℕ) (us : List Per.BitForm) (a : Place) (k : List Scope) (b : Place) → Admits free z h false (length us) → Front free (cond t (by_number z high us) (Per.counted al us)) a b → (m : State) × (d : ℕ) × (hs : Option Tally) × ByHighest al free z h t high a k m × (m.1 ≡ members d hs ∷ k) × Rest d hs us m.0 b
+  bounds_out z h true high us a k b c f =
+      let q = split free (Per.constrained al (high - z.counts.low) (length us - z.counts.low)) (Per.at_octet (al && false) (joined us)) a b f in
+      let x = never_filled (joined us) in
+      ((q.0, members (length us) None ∷ k), length us, None, (length us, c, q.1, refl), refl, (refl, subst (λ y. Front free y q.0 b) x q.2))
+  bounds_out z h false high us a k b c f = headed_out z h false us a k b c f
+
+  counted_in : (z : Size) (h : Counts) (out : Bool) (high : Option ℕ) (us : List Per.BitForm) (a : Place) (k : List Scope) (m : State) (b : Place) → Counted al free z h out high a k m → Onward us m k b → Read z h out high us a b
+  unfolding Per.sized_root
+  counted_in z h true high us a k m b f g = headed_in z h true us a k m b f g
+  counted_in z h false None us a k m b f g = headed_in z h false us a k m b f g
+  counted_in z h false (Some high) us a k m b f g = bounds_in z h (ltb high 65536) high us a k m b f g
+
+  counted_out : (z : Size) (h : Counts) (out : Bool) (high : Option ℕ) (us : List Per.BitForm) (a : Place) (k : List Scope) (b : Place) → Read z h out high us a b → Opened z h out high us a k b
+  unfolding Per.sized_root
+  counted_out z h true high us a k b r = headed_out z h true us a k b r.0 r.1
+  counted_out z h false None us a k b r = headed_out z h false us a k b r.0 r.1
+  counted_out z h false (Some high) us a k b r = bounds_out z h (ltb high 65536) high us a k b r.0 r.1
+
+  -- ---- the mark of a size
+  mark_in : (e t : Bool) (x y : Per.BitForm) (out : Bool) (a mid b : Place) → SizeMark free e out a mid → InPlace free out t → Front free (cond out y x) mid b → Front free (Per.marked e t x y) a b
+  unfolding Per.marked
+  mark_in false t x y true a mid b m i f = let o = m.0 in cc
+  mark_in false t x y false a mid b m i f = if_in free t x a b i (subst (λ p. Front free x p b) m.1 f)
+  mark_in true t x y true a mid b m i f = varied_in free {c = Per.root_marked_outside} (λ o. cond o (both (exactly (true ∷ [])) y) (only_if t (both (exactly (false ∷ [])) x))) true (outside i) a b (join free (exactly (true ∷ [])) y a mid b m f)
+    where
+      outside : (t ≡ false) ⊎ IsTrue (free Per.root_marked_outside) → (true ≡ not t) ⊎ IsTrue (free Per.root_marked_outside)
+      outside (inl e) = inl (sym (ap not e))
+      outside (inr e) = inr e
+  mark_in true t x y false a mid b m i f = varied_in free {c = Per.root_marked_outside} (λ o. cond o (both (exactly (true ∷ [])) y) (only_if t (both (exactly (false ∷ [])) x))) false (inl (sym (ap not i))) a b (if_in free t (both (exactly (false ∷ [])) x) a b i (join free (exactly (false ∷ [])) x a mid b m f))
+
+  abbrev Marked : Bool → Bool → Per.BitForm → Per.BitForm → Place → Place → Type 0
+  Marked e t x y a b = (out : Bool) × (mid : Place) × SizeMark free e out a mid × InPlace free out t × Front free (cond out y x) mid b
+
+  mark_out : (e t : Bool) (x y : Per.BitForm) (a b : Place) → Front free (Per.marked e t x y) a b → Marked e t x y a b
+  unfolding Per.marked
+  mark_out false t x y a b f = let q = if_out free t x a b f in (false, a, (refl, refl), q.0, q.1)
+  mark_out true t x y a b f = let q = varied_out free {c = Per.root_marked_outside} (λ o. cond o (both (exactly (true ∷ [])) y) (only_if t (both (exactly (false ∷ [])) x))) a b f in go q.0 q.1 q.2
+    where
+      inside : (b : Bool) → true ≡ not b → b ≡ false
+      inside true e = cc
+      inside false e = refl
+
+      outside : (true ≡ not t) ⊎ IsTrue (free Per.root_marked_outside) → (t ≡ false) ⊎ IsTrue (free Per.root_marked_outside)
+      outside (inl e) = inl (inside t e)
+      outside (inr e) = inr e
+
+      go : (o : Bool) → (o ≡ not t) ⊎ IsTrue (free Per.root_marked_outside) → Front free (cond o (both (exactly (true ∷ [])) y) (only_if t (both (exactly (false ∷ [])) x))) a b → Marked true t x y a b
+      go true i f = let q = split free (exactly (true ∷ [])) y a b f in (true, q.0, q.1, outside i, q.2)
+      go false i f =
+          let p = if_out free t (both (exactly (false ∷ [])) x) a b f in
+          let q = split free (exactly (false ∷ [])) x a b p.1 in
+          (false, q.0, q.1, p.0, q.2)
+
+  -- ---- SEQUENCE OF
+  sized_in : (z : Size) (h : Counts) (us : List Per.BitForm) (n : ℕ) (a m : State) (b : Place) → ListBegins al free z h n a m → Onward us m a.1 b → Front free (Per.sized al z h Per.never us) a.0 b
+  unfolding Per.sized
+  sized_in z h us n a m b t g =
+      let r = counted_in z h t.1 z.counts.high us t.2 a.1 m b t.4 g in
+      if_in free (is_count_within h (length us)) _ a.0 b r.0.0 (mark_in z.extensible (is_count_within z.counts (length us)) (Per.sized_root al z.counts z.counts.high Per.never us) (Per.counted al us) t.1 a.0 t.2 b t.3 r.0.1 r.1)
+
+  sized_out : (z : Size) (h : Counts) (us : List Per.BitForm) (n : ℕ) → length us ≡ n → (a : State) (b : Place) → Front free (Per.sized al z h Per.never us) a.0 b → (m : State) × (d : ℕ) × (hs : Option Tally) × ListBegins al free z h n a m × (m.1 ≡ members d hs ∷ a.1) × Rest d hs us m.0 b
+  unfolding Per.sized
+  sized_out z h us n l a b f =
+      let p = if_out free (is_count_within h (length us)) _ a.0 b f in
+      let q = mark_out z.extensible (is_count_within z.counts (length us)) (Per.sized_root al z.counts z.counts.high Per.never us) (Per.counted al us) a.0 b p.1 in
+      let r = counted_out z h q.0 z.counts.high us q.1 a.1 b ((p.0, q.3), q.4) in
+      (r.0, r.1, r.2, (subst (λ i. is_count_within h i ≡ true) l p.0, q.0, q.1, q.2, r.3), r.4, r.5)
+
+  scopes_held : (z : Size) (h : Counts) (n : ℕ) (a m : State) → ListBegins al free z h n a m → (d : ℕ) × (hs : Option Tally) × (m.1 ≡ members d hs ∷ a.1)
+  scopes_held z h n a m t = held t.1 z.counts.high t.2 t.4
+    where
+      by_bounds : (t : Bool) (high : ℕ) (p : Place) → ByHighest al free z h t high p a.1 m → (d : ℕ) × (hs : Option Tally) × (m.1 ≡ members d hs ∷ a.1)
+      by_bounds true high p f = (f.0, None, f.3)
+      by_bounds false high p f = (f.0, f.1, f.3)
+
+      held : (o : Bool) (high : Option ℕ) (p : Place) → Counted al free z h o high p a.1 m → (d : ℕ) × (hs : Option Tally) × (m.1 ≡ members d hs ∷ a.1)
+      held true high p f = (f.0, f.1, f.3)
+      held false None p f = (f.0, f.1, f.3)
+      held false (Some high) p f = by_bounds (ltb high 65536) high p f
+
+  list_in : (z : Size) (h : Counts) (s : Schema) → ((v : Value) → Bridged B al free s v) → (vs : Values) (a m b : State) → ListBegins al free z h (member_count vs) a m → Chain (Step free al) (member_records (λ v. presents s v) vs) m b → Found free (Per.sized al z h Per.never (each (λ v. Per.form al s v) vs)) a b
+  list_in z h s each_is vs a m b t c =
+      let g : Onward (each (λ v. Per.form al s v) vs) m a.1 b.0 = λ d hs e. (members_in s each_is vs d hs m b a.1 e c).0 in
+      let o = scopes_held z h (member_count vs) a m t in
+      (sized_in z h (each (λ v. Per.form al s v) vs) (member_count vs) a m b.0 t g, (members_in s each_is vs o.0 o.1 m b a.1 o.2 c).1)
+
+  pub lists : (z : Size) (h : Counts) (s : Schema) → ((v : Value) → Bridged B al free s v) → (v : Value) → Bridged B al free (sequence_of z h s) v
+  unfolding presents Per.form
+  lists z h s each_is (in_list vs) a b = (λ c. list_in z h s each_is vs a c.0 b c.1 c.2, out)
+    where
+      out : B → Found free (Per.sized al z h Per.never (each (λ v. Per.form al s v) vs)) a b → Chain (Step free al) (list_begins z h (member_count vs) ∷ member_records (λ v. presents s v) vs) a b
+      out u f =
+          let r = sized_out z h (each (λ v. Per.form al s v) vs) (member_count vs) (each_long (λ v. Per.form al s v) vs) a b.0 f.0 in
+          let m : State = r.0 in
+          let c = (goes s each_is vs r.1 r.2 m.0 a.1 b).1 u (r.5, f.1) in
+          (m, r.3, subst (λ x. Chain (Step free al) (member_records (λ v. presents s v) vs) x b) (state_same (m.0, members r.1 r.2 ∷ a.1) m refl (sym r.4)) c)
+  lists z h s each_is v a b = none free al B a b
+
+  -- ---- SET OF
+  abbrev in_places : (xs : List Per.BitForm) → List ℕ
+  in_places [] = []
+  in_places (x ∷ xs) = 0 ∷ in_places xs
+
+  as_they_are : (xs : List Per.BitForm) → arranged (in_places xs) xs ≡ Some xs
+  as_they_are [] = refl
+  as_they_are (x ∷ xs) = let e = as_they_are xs in rw e refl
+
+  any_order : IsTrue (free Per.other_order) → (xs : List Per.BitForm) (f : List Per.BitForm → Per.BitForm) (a b : Place) → Front free (f xs) a b → Front free (Per.in_any_order xs f) a b
+  unfolding Per.in_any_order
+  any_order order xs f a b t = varied_in free {c = Per.other_order} (λ o. given (in_order (ascending (λ x. written (Per.complete x) 0) (stands_before Per.bit_less) xs) o xs) f) (Some (in_places xs)) (inr order) a b (given_in free (arranged (in_places xs) xs) f xs (as_they_are xs) a b t)
+
+  pub bags : IsTrue (free Per.other_order) → (z : Size) (h : Counts) (s : Schema) → (B → ⊥) → ((v : Value) → Bridged B al free s v) → (v : Value) → Bridged B al free (set_of z h s) v
+  unfolding presents Per.form
+  bags order z h s never each_is (bag vs) a b = (into, λ u f. absurd (never u))
+    where
+      into : Chain (Step free al) (bag_begins z h (member_count vs) ∷ member_records (λ v. presents s v) vs) a b → Found free (Per.in_any_order (each (λ v. Per.form al s v) vs) (Per.sized al z h Per.never)) a b
+      into c = let t = list_in z h s each_is vs a c.0 b c.1 c.2 in (any_order order (each (λ v. Per.form al s v) vs) (Per.sized al z h Per.never) a.0 b.0 t.0, t.1)
+  bags order z h s never each_is v a b = none free al B a b

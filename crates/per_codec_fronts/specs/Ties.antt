@@ -1,0 +1,49 @@
+-- What ties the records that a reader finds to the forms of values.
+use Rattle.std.specs.Prelude.{◌≡◌, ◌↔◌, ℕ, ◌^◌, ◌<◌, Bool, true, false, IsTrue, List, [], length}
+use Rattle.asn1_model.specs.Schema.{Counts, Size, Schema}
+use Rattle.asn1_model.specs.Value.{Value}
+use Rattle.asn1_model.specs.Lawful.{IsLawful}
+use Rattle.asn1_model.specs.Numbers.{is_count_within, octet_bits}
+use Rattle.asn1_model.specs.Per
+use Rattle.asn1_model.specs.Rules.{Rules, uper, aper, uper_strict, aper_strict, lenient, strict_per, IsEncoding}
+use Rattle.asn1_schema_presented.specs.Records.{list_begins}
+use Rattle.asn1_schema_presented.specs.Presents.{presents, Fits}
+use Rattle.asn1_schema_presented.specs.Chains.{Chain, OneRecord}
+use Rattle.oer_codec_fronts.specs.Ties.{has_no_bag}
+use Rattle.per_codec_fronts.specs.Takes.{Place, State, Front, Found, completion, Takes}
+
+-- Of the records that answer a question one at most is next, as far as a reader is told, and one state stands after it, whatever the freedoms.
+abbrev pub OneTaken : Type 0
+OneTaken = (al : Bool) (free : Per.Freedom → Bool) → OneRecord {S = State} (Takes al free)
+
+-- A list begins with a number of members that the program's type holds.
+abbrev pub CountHeld : Type 0
+CountHeld = (al : Bool) (free : Per.Freedom → Bool) (a : State) (z : Size) (h : Counts) (n : ℕ) (b : State) → Takes al free a (list_begins z h n) b → is_count_within h n ≡ true
+
+-- The records of a value are next exactly where the bits in front have its form at their position.
+abbrev pub Bridges : Bool → (Per.Freedom → Bool) → Schema → Value → Type 0
+Bridges al free s v = (a b : State) → Chain (Takes al free) (presents s v) a b ↔ Found free (Per.form al s v) a b
+
+-- Where the records of a value of any type are next, the bits in front have its form, and those behind it are then left, if the reader takes
+-- bitmaps of other widths and bags in any order, as all readers of PER do.
+abbrev pub RecordsRead : Type 0
+RecordsRead = (al : Bool) (free : Per.Freedom → Bool) (s : Schema) (v : Value) (a b : State) → IsTrue (free Per.other_bitmap) → IsTrue (free Per.other_order) → Chain (Takes al free) (presents s v) a b → Found free (Per.form al s v) a b
+
+-- For a lawful type without SET OF the records are next exactly there.
+abbrev pub EachBridges : Type 0
+EachBridges = (al : Bool) (free : Per.Freedom → Bool) (s : Schema) (v : Value) → IsTrue (free Per.other_bitmap) → IsTrue (free Per.other_order) → IsLawful s → has_no_bag s ≡ true → Bridges al free s v
+
+-- The records that a reader finds are those of a value that has the form of its type.
+abbrev pub RecordsFit : Type 0
+RecordsFit = (al : Bool) (free : Per.Freedom → Bool) (s : Schema) (v : Value) (a b : State) → Chain (Takes al free) (presents s v) a b → Fits s v
+
+-- The records of a value are found in the bits of some octets from their beginning on, and what is left is what fills up a message.
+abbrev pub FoundWhole : Bool → (Per.Freedom → Bool) → Schema → Value → List ℕ → Type 0
+FoundWhole al free s v w = (left : Place) × (after : Place) × Chain (Takes al free) (presents s v) ((0, octet_bits w), []) (left, []) × Front free (completion left.0) left after × (after.1 ≡ [])
+
+-- So it is nowhere but where the octets are an encoding of the value, and for a lawful type without SET OF wherever they are.
+abbrev pub FindsIn : Rules → Bool → (Per.Freedom → Bool) → Type 0
+FindsIn r al free = (s : Schema) (v : Value) (w : List ℕ) → length w < 2 ^ 60 → (FoundWhole al free s v w → IsEncoding r s v w) × (IsLawful s → has_no_bag s ≡ true → IsEncoding r s v w → FoundWhole al free s v w)
+
+abbrev pub FindsEncodings : Type 0
+FindsEncodings = FindsIn uper false lenient × FindsIn aper true lenient × FindsIn uper_strict false strict_per × FindsIn aper_strict true strict_per

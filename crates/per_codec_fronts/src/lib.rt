@@ -1,0 +1,36 @@
+//! What a reader of the packed encoding rules (X.691) holds from record to record, and that it finds the records of a value exactly where the
+//! bits in front are of its form. Each function does nothing; its contract is a law.
+#![tactic(auto)]
+
+ghost use Rattle.per_codec_fronts.specs.Ties.{CountHeld, EachBridges, FindsEncodings, OneTaken, RecordsFit, RecordsRead};
+
+/// Of the records that answer a question one at most is next, and one state stands after it, whatever the reader's freedoms are.
+pub fn one_record_is_next()
+    ensures { OneTaken }
+{}
+
+/// A list begins with a number of members that the program's type holds.
+pub fn counts_are_held()
+    ensures { CountHeld }
+{}
+
+/// Where the records of a value of any type are next, the bits in front have its form (X.691 11 to 30) at their position.
+pub fn records_are_read()
+    ensures { RecordsRead }
+{}
+
+/// The records of a value are next exactly where the bits in front have its form at their position, for each lawful type without SET OF.
+pub fn records_are_the_form()
+    ensures { EachBridges }
+{}
+
+/// The records that a reader finds are those of a value that has the form of its type.
+pub fn records_fit()
+    ensures { RecordsFit }
+{}
+
+/// The records of a value are found in octets, and what fills up a message behind them, nowhere but where the octets are an encoding of it, by
+/// UPER and APER, for a lenient and for a strict reader; for each lawful type without SET OF wherever they are.
+pub fn encodings_are_found()
+    ensures { FindsEncodings }
+{}

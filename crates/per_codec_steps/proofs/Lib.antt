@@ -1,0 +1,11 @@
+pub mod Texts
+pub mod Bridge
+pub mod Lists
+pub mod Sequences
+pub mod Additions
+pub mod Choices
+pub mod Fills
+pub mod Bags
+pub mod Types
+pub mod Chains
+pub mod Written

@@ -1,0 +1,5 @@
+pub mod Texts
+pub mod Steps
+pub mod Ties
+pub mod Written
+pub mod Rows
