@@ -1,0 +1,112 @@
+//! The aligned packed encoding rules (X.691): values are written and read.
+ghost use Rattle.std.specs.Prelude.{◌≡◌, [], ℕ, List, OnOk, OnErr, IfOk, IfErr, true};
+ghost use Rattle.asn1_model.specs.Lawful.{IsLawful};
+ghost use Rattle.asn1_model.specs.Rules.{aper};
+ghost use Rattle.asn1_schema_messages.specs.Messages.{NoMessage, Tells};
+ghost use Rattle.per_codec_output.specs.Encoded.{IsEncoded, NotEncoded};
+
+use asn1_schema_constraints::Constraints;
+use asn1_schema_decode::Decode;
+use asn1_schema_encode::Encode;
+use asn1_schema_faults::{DecodeError, EncodeError};
+pub use per_codec_decoder::{Decoder, DecoderOptions};
+pub use per_codec_encoder::{Encoder, EncoderOptions};
+use per_codec_reading::Variant;
+use std::alloc::Global;
+
+/// The canonical encoding of a value: at least one octet.
+///
+/// # Errors
+///
+/// Want of memory aside, only where the value has no encoding: `ValueConstraintNotSatisfied`, `SizeConstraintNotSatisfied`,
+/// `AlphabetConstraintNotSatisfied`, or `TooLongValue` for 2 to 60 octets and more.
+pub fn encode<T: Encode>(alloc: Global, value: &T) -> Result<Vec<u8>, EncodeError>
+    ensures ok { IfOk result (λ octets. IsEncoded true T.schema (T.meaning value.now) octets.items) }
+    ensures only { IfErr result (NotEncoded true T.schema (T.meaning value.now)) }
+{
+    let octets = per_codec_output::encode(alloc, EncoderOptions::aligned(), value)?;
+    Ok(octets)
+}
+
+/// Puts the canonical encoding of a value in the place of what the buffer holds.
+///
+/// # Errors
+///
+/// Those of `encode`; the buffer is then empty.
+pub fn encode_buf<T: Encode>(
+    alloc: Global,
+    value: &T,
+    buffer: &mut Vec<u8>,
+) -> Result<(), EncodeError>
+    ensures ok { OnOk result (IsEncoded true T.schema (T.meaning value.now) buffer.new.items) }
+    ensures only { IfErr result (NotEncoded true T.schema (T.meaning value.now)) }
+    ensures empty { OnErr result (buffer.new.items ≡ []) }
+{
+    per_codec_output::encode_buf(alloc, EncoderOptions::aligned(), value, buffer)?;
+    Ok(())
+}
+
+/// The canonical encoding of a value under these constraints, which stand in place of those of its type.
+///
+/// # Errors
+///
+/// Those of `encode`.
+pub fn encode_with_constraints<T: Encode>(
+    alloc: Global,
+    constraints: Constraints,
+    value: &T,
+) -> Result<Vec<u8>, EncodeError>
+    ensures ok { IfOk result (λ octets. IsEncoded true (T.under constraints.entry) (T.meaning value.now) octets.items) }
+    ensures only { IfErr result (NotEncoded true (T.under constraints.entry) (T.meaning value.now)) }
+{
+    let options = EncoderOptions::aligned();
+    let octets = per_codec_output::encode_with_constraints(alloc, options, constraints, value)?;
+    Ok(octets)
+}
+
+/// Reads the value whose encoding stands in front, and passes over the octets behind it.
+///
+/// # Errors
+///
+/// Want of memory aside, only where no octets in front, fewer than 2 to 60, are an encoding of a value that nests at most 128 levels.
+pub fn decode<T: Decode>(alloc: Global, input: &[u8]) -> Result<T, DecodeError>
+    ensures ok { IfOk result (λ x. (rest : List ℕ) × Tells aper T.schema (T.meaning x) input.now rest) }
+    ensures only { IfErr result (NoMessage aper T.schema input.now) }
+{
+    let value = per_codec_calls::decode(alloc, input, Variant::Aligned)?;
+    Ok(value)
+}
+
+/// Reads the value whose encoding stands in front, and lends the octets behind it.
+///
+/// # Errors
+///
+/// Those of `decode`.
+pub fn decode_with_remainder<'input, T: Decode>(
+    alloc: Global,
+    input: &'input [u8],
+) -> Result<(T, &'input [u8]), DecodeError>
+    ensures ok { IfOk result (λ x. Tells aper T.schema (T.meaning x.0) input.now x.1.now) }
+    ensures only { IfErr result (NoMessage aper T.schema input.now) }
+{
+    let (value, rest) = per_codec_calls::decode_with_remainder(alloc, input, Variant::Aligned)?;
+    Ok((value, rest))
+}
+
+/// Reads the value whose encoding under these constraints, in place of the type's own, stands in front.
+///
+/// # Errors
+///
+/// Those of `decode`, if the type under these constraints is a lawful one.
+pub fn decode_with_constraints<T: Decode>(
+    alloc: Global,
+    constraints: Constraints,
+    input: &[u8],
+) -> Result<T, DecodeError>
+    ensures ok { IfOk result (λ x. (rest : List ℕ) × Tells aper (T.under constraints.entry) (T.meaning x) input.now rest) }
+    ensures only { IfErr result (λ error. IsLawful (T.under constraints.entry 128) → NoMessage aper (T.under constraints.entry) input.now error) }
+{
+    let value =
+        per_codec_calls::decode_with_constraints(alloc, constraints, input, Variant::Aligned)?;
+    Ok(value)
+}

@@ -1,0 +1,11 @@
+//! The packed encoding rules (X.691), unaligned (UPER) and aligned (APER): values are written and read.
+#![tactic(auto)]
+
+pub mod aper;
+pub mod uper;
+
+pub use per_codec_decoder::{Decoder, DecoderOptions};
+pub use per_codec_encoder::{Encoder, EncoderOptions};
+
+#[cfg(test)]
+mod tests;
