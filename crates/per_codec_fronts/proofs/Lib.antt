@@ -8,3 +8,4 @@ pub mod Sequences
 pub mod Bitmaps
 pub mod Choices
 pub mod Whole
+pub mod Messages

@@ -1,27 +1,23 @@
 -- The laws of all types: the records of a value are found where the bits have its form, and bits of its form show those of one like it.
-use Rattle.std.proofs.Common.{◌≡◌, ℕ, ◌+◌, suc, Bool, Option, Some, None, true, false, IsTrue, List, [], ◌∷◌, ◌++◌, length, refl, ap, sym, ◌∙◌, subst, arith}
-use Rattle.std.proofs.lemmas.List.{append-nil}
+use Rattle.std.proofs.Common.{◌≡◌, ℕ, suc, Bool, Option, Some, None, true, false, IsTrue, List, [], ◌∷◌, length, refl, ap, subst}
 use Rattle.std.proofs.lemmas.Bool.{and_parts}
 use Rattle.asn1_model.specs.Value.{Value, fields, Parts, end, absent, present, same}
 use Rattle.asn1_model.specs.Schema.{Schema, cut, boolean, null, integer, enumerated, bit_string, octet_string, character_string, object_identifier, sequence_of, set_of, sequence, set, group, choice, Components, no_component, component, Alternatives, no_alternative, alternative}
-use Rattle.asn1_model.specs.Form.{Reads, given, is_present}
+use Rattle.asn1_model.specs.Form.{given, is_present}
 use Rattle.asn1_model.specs.Lawful.{is_lawful, are_lawful, are_lawful_alternatives}
-use Rattle.asn1_model.specs.Numbers.{octet_bits}
 use Rattle.asn1_model.specs.Tables.{marks}
 use Rattle.asn1_model.specs.Per
-use Rattle.asn1_model.specs.Rules.{uper, aper, uper_strict, aper_strict, lenient, strict_per, IsEncoding}
 use Rattle.asn1_laws.proofs.Listed.{EachAlternative}
 use Rattle.asn1_schema_presented.specs.Records.{Record, additions_begin, mismatch}
 use Rattle.asn1_schema_presented.specs.Presents.{presents, root_records, added_records, behind_root, optional_count, component_count}
 use Rattle.asn1_schema_presented.specs.Chains.{Chain}
 use Rattle.oer_codec_fronts.specs.Ties.{has_no_bag}
-use Rattle.per_codec_fronts.specs.Takes.{Place, State, components, Front, Found, Begins, completion, Takes}
-use Rattle.per_codec_fronts.specs.Ties.{Bridges, FindsIn, FoundWhole}
+use Rattle.per_codec_fronts.specs.Takes.{Place, State, components, Front, Found, Begins, Takes}
+use Rattle.per_codec_fronts.specs.Ties.{Bridges}
 use Rattle.per_codec_fronts.proofs.Alike.{LikeParts, parts_self, both_same, like_fields}
 use Rattle.per_codec_fronts.proofs.Fronts.{Finds, Shows, by_itself, Step, of_refused, given_out, none}
 use Rattle.per_codec_fronts.proofs.Lists.{list_finds, list_shows, bag_finds, bag_shows}
 use Rattle.per_codec_fronts.proofs.Parts.{EachFinds, EachShows, booleans, nulls, integers, items, bit_strings, octet_strings, string_finds, string_shows, identifiers}
-use Rattle.per_codec_fronts.proofs.Opened.{filled_in, filled_out}
 use Rattle.per_codec_fronts.proofs.Sequences.{begun_in, plain_in, plain_out}
 use Rattle.per_codec_fronts.proofs.Bitmaps.{additions_long, extended_in, extended_out}
 use Rattle.per_codec_fronts.proofs.Choices.{choice_finds, choice_shows}
@@ -153,38 +149,3 @@ each_bridges al free s v other order l n a b = (λ c. finds al free other order 
   where
     back : Found free (Per.form al s v) a b → Chain (Takes al free) (presents s v) a b
     back f = let t = shows al free other s l v a b f in subst (λ w. Chain (Takes al free) (presents s w) a b) (t.1.1 n) t.2
-
--- ---- messages
-module _ (al : Bool) (free : Per.Freedom → Bool) (other : IsTrue (free Per.other_bitmap)) (order : IsTrue (free Per.other_order)) where
-  message_in : (s : Schema) (v : Value) (w : List ℕ) → FoundWhole al free s v w → Reads free (Per.message al s v) 0 (octet_bits w)
-  unfolding Per.message Per.complete Reads
-  message_in s v w r =
-      let left : Place = r.0 in
-      let f : Front free (Per.form al s v) (0, octet_bits w) left = (records_read al free s v ((0, octet_bits w), []) (left, []) other order r.2).0 in
-      let all : f.text ++ r.3.text ≡ octet_bits w = ap (λ l. f.text ++ l) (sym (append-nil r.3.text) ∙ ap (λ l. r.3.text ++ l) (sym r.4) ∙ r.3.in_front) ∙ f.in_front in
-      (f.text, f.has_form, subst (λ l. Reads free (Per.filled_up f.text) 0 l) all (filled_in free f.text r.3.text left.0 f.moved r.3.has_form))
-
-  message_out : (s : Schema) (v : Value) (w : List ℕ) → IsTrue (is_lawful s) → Reads free (Per.message al s v) 0 (octet_bits w) → (u : Value) × (same v u ≡ true) × FoundWhole al free s u w
-  unfolding Per.message Per.complete Reads
-  message_out s v w l r =
-      let z = filled_out free r.0 (octet_bits w) r.2 in
-      let f : Front free (Per.form al s v) (0, octet_bits w) (length r.0, z.0) = record { text = r.0; has_form = r.1; in_front = z.1; moved = omega arith } in
-      let g : Front free (completion (length r.0)) (length r.0, z.0) (length r.0 + length z.0, []) = record { text = z.0; has_form = z.2; in_front = append-nil z.0; moved = refl } in
-      let t = forms_show al free s v ((0, octet_bits w), []) ((length r.0, z.0), []) other l (f, refl) in
-      (t.0, t.1, ((length r.0, z.0), (length r.0 + length z.0, []), t.2, g, refl))
-
-pub finds_uper : FindsIn uper false lenient
-unfolding IsEncoding
-finds_uper s v w h = (λ c. (h, message_in false lenient refl refl s v w c), λ l r. message_out false lenient refl refl s v w l r.1)
-
-pub finds_aper : FindsIn aper true lenient
-unfolding IsEncoding
-finds_aper s v w h = (λ c. (h, message_in true lenient refl refl s v w c), λ l r. message_out true lenient refl refl s v w l r.1)
-
-pub finds_uper_strict : FindsIn uper_strict false strict_per
-unfolding IsEncoding
-finds_uper_strict s v w h = (λ c. (h, message_in false strict_per refl refl s v w c), λ l r. message_out false strict_per refl refl s v w l r.1)
-
-pub finds_aper_strict : FindsIn aper_strict true strict_per
-unfolding IsEncoding
-finds_aper_strict s v w h = (λ c. (h, message_in true strict_per refl refl s v w c), λ l r. message_out true strict_per refl refl s v w l r.1)

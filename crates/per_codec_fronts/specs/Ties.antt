@@ -1,5 +1,5 @@
 -- What ties the records that a reader finds to the forms of values.
-use Rattle.std.specs.Prelude.{◌≡◌, ◌↔◌, ℕ, ◌^◌, ◌<◌, Bool, true, false, IsTrue, List, [], length}
+use Rattle.std.specs.Prelude.{◌≡◌, ◌↔◌, ℕ, ◌*◌, ◌^◌, ◌<◌, Bool, true, false, IsTrue, List, [], ◌++◌, length}
 use Rattle.asn1_model.specs.Schema.{Counts, Size, Schema}
 use Rattle.asn1_model.specs.Value.{Value, same}
 use Rattle.asn1_model.specs.Lawful.{IsLawful}
@@ -42,14 +42,23 @@ EachBridges = (al : Bool) (free : Per.Freedom → Bool) (s : Schema) (v : Value)
 abbrev pub RecordsFit : Type 0
 RecordsFit = (al : Bool) (free : Per.Freedom → Bool) (s : Schema) (v : Value) (a b : State) → Chain (Takes al free) (presents s v) a b → Fits s v
 
--- The records of a value are found in the bits of some octets from their beginning on, and what is left is what fills up a message.
-abbrev pub FoundWhole : Bool → (Per.Freedom → Bool) → Schema → Value → List ℕ → Type 0
-FoundWhole al free s v w = (left : Place) × (after : Place) × Chain (Takes al free) (presents s v) ((0, octet_bits w), []) (left, []) × Front free (completion left.0) left after × (after.1 ≡ [])
+-- The records of a value are found in the bits of some octets from their beginning on; behind them stands what fills up a message, and behind
+-- that these octets.
+abbrev pub FoundFirst : Bool → (Per.Freedom → Bool) → Schema → Value → List ℕ → List ℕ → Type 0
+FoundFirst al free s v os rest = (left : Place) × (after : Place) × Chain (Takes al free) (presents s v) ((0, octet_bits os), []) (left, []) × Front free (completion left.0) left after × (after.1 ≡ octet_bits rest)
 
--- So it is nowhere but where the octets are an encoding of the value; and in an encoding of a value of a lawful type the records are found of one
--- that is the same up to the order of bags.
+-- So it is nowhere but behind octets that are an encoding of the value; and in front of any octets, in an encoding of a value of a lawful type,
+-- the records are found of one that is the same up to the order of bags.
 abbrev pub FindsIn : Rules → Bool → (Per.Freedom → Bool) → Type 0
-FindsIn r al free = (s : Schema) (v : Value) (w : List ℕ) → length w < 2 ^ 60 → (FoundWhole al free s v w → IsEncoding r s v w) × (IsLawful s → IsEncoding r s v w → (u : Value) × (same v u ≡ true) × FoundWhole al free s u w)
+FindsIn r al free = (s : Schema) (v : Value) (w rest : List ℕ) → length w < 2 ^ 60 → (FoundFirst al free s v (w ++ rest) rest → IsEncoding r s v w) × (IsLawful s → IsEncoding r s v w → (u : Value) × (same v u ≡ true) × FoundFirst al free s u (w ++ rest) rest)
 
 abbrev pub FindsEncodings : Type 0
 FindsEncodings = FindsIn uper false lenient × FindsIn aper true lenient × FindsIn uper_strict false strict_per × FindsIn aper_strict true strict_per
+
+-- Some of these octets stand in front of a place, and the others behind it.
+abbrev pub BehindOctets : List ℕ → Place → Type 0
+BehindOctets os after = (w : List ℕ) × (rest : List ℕ) × (w ++ rest ≡ os) × (after ≡ (8 * length w, octet_bits rest))
+
+-- What fills up a message behind the records of a value ends where an octet does (X.691 11.1).
+abbrev pub EndsAtOctet : Type 0
+EndsAtOctet = (al : Bool) (free : Per.Freedom → Bool) (s : Schema) (v : Value) (os : List ℕ) (left after : Place) → IsTrue (free Per.other_bitmap) → IsTrue (free Per.other_order) → Chain (Takes al free) (presents s v) ((0, octet_bits os), []) (left, []) → Front free (completion left.0) left after → BehindOctets os after
