@@ -4,6 +4,7 @@ use Rattle.asn1_model.specs.Schema.{Counts, Size, Schema}
 use Rattle.asn1_model.specs.Value.{Value, same}
 use Rattle.asn1_model.specs.Lawful.{IsLawful}
 use Rattle.asn1_model.specs.Numbers.{is_count_within, octet_bits}
+use Rattle.asn1_model.specs.Form.{Reads}
 use Rattle.asn1_model.specs.Per
 use Rattle.asn1_model.specs.Rules.{Rules, uper, aper, uper_strict, aper_strict, lenient, strict_per, IsEncoding}
 use Rattle.asn1_schema_presented.specs.Records.{list_begins}
@@ -42,23 +43,23 @@ EachBridges = (al : Bool) (free : Per.Freedom → Bool) (s : Schema) (v : Value)
 abbrev pub RecordsFit : Type 0
 RecordsFit = (al : Bool) (free : Per.Freedom → Bool) (s : Schema) (v : Value) (a b : State) → Chain (Takes al free) (presents s v) a b → Fits s v
 
--- The records of a value are found in the bits of some octets from their beginning on; behind them stands what fills up a message, and behind
--- that these octets.
+-- The records of a value are found in the bits of octets from their beginning on, and what fills up a message behind them ends in front of the
+-- rest.
 abbrev pub FoundFirst : Bool → (Per.Freedom → Bool) → Schema → Value → List ℕ → List ℕ → Type 0
-FoundFirst al free s v os rest = (left : Place) × (after : Place) × Chain (Takes al free) (presents s v) ((0, octet_bits os), []) (left, []) × Front free (completion left.0) left after × (after.1 ≡ octet_bits rest)
+FoundFirst al free s v w rest = (left : Place) × Chain (Takes al free) (presents s v) ((0, octet_bits (w ++ rest)), []) (left, []) × Front free (completion left.0) left (8 * length w, octet_bits rest)
 
--- So it is nowhere but behind octets that are an encoding of the value; and in front of any octets, in an encoding of a value of a lawful type,
--- the records are found of one that is the same up to the order of bags.
+-- So it is nowhere but where the octets in front are an encoding of the value; and in an encoding of a value of a lawful type the records are
+-- found of one that is the same up to the order of bags.
 abbrev pub FindsIn : Rules → Bool → (Per.Freedom → Bool) → Type 0
-FindsIn r al free = (s : Schema) (v : Value) (w rest : List ℕ) → length w < 2 ^ 60 → (FoundFirst al free s v (w ++ rest) rest → IsEncoding r s v w) × (IsLawful s → IsEncoding r s v w → (u : Value) × (same v u ≡ true) × FoundFirst al free s u (w ++ rest) rest)
+FindsIn r al free = (s : Schema) (v : Value) (w rest : List ℕ) → length w < 2 ^ 60 → (FoundFirst al free s v w rest → IsEncoding r s v w) × (IsLawful s → IsEncoding r s v w → (u : Value) × (same v u ≡ true) × FoundFirst al free s u w rest)
 
 abbrev pub FindsEncodings : Type 0
 FindsEncodings = FindsIn uper false lenient × FindsIn aper true lenient × FindsIn uper_strict false strict_per × FindsIn aper_strict true strict_per
 
--- Some of these octets stand in front of a place, and the others behind it.
-abbrev pub BehindOctets : List ℕ → Place → Type 0
-BehindOctets os after = (w : List ℕ) × (rest : List ℕ) × (w ++ rest ≡ os) × (after ≡ (8 * length w, octet_bits rest))
-
 -- What fills up a message behind the records of a value ends where an octet does (X.691 11.1).
 abbrev pub EndsAtOctet : Type 0
-EndsAtOctet = (al : Bool) (free : Per.Freedom → Bool) (s : Schema) (v : Value) (os : List ℕ) (left after : Place) → IsTrue (free Per.other_bitmap) → IsTrue (free Per.other_order) → Chain (Takes al free) (presents s v) ((0, octet_bits os), []) (left, []) → Front free (completion left.0) left after → BehindOctets os after
+EndsAtOctet = (al : Bool) (free : Per.Freedom → Bool) (s : Schema) (v : Value) (os : List ℕ) (left after : Place) → IsTrue (free Per.other_bitmap) → IsTrue (free Per.other_order) → Chain (Takes al free) (presents s v) ((0, octet_bits os), []) (left, []) → Front free (completion left.0) left after → (w : List ℕ) × (rest : List ℕ) × (w ++ rest ≡ os) × (after ≡ (8 * length w, octet_bits rest))
+
+-- Where a message of a lawful type stands in front, it is filled up behind the records of whichever value is found.
+abbrev pub FilledUp : Type 0
+FilledUp = (al : Bool) (free : Per.Freedom → Bool) (s : Schema) (u v : Value) (w rest : List ℕ) (left : Place) → IsTrue (free Per.other_bitmap) → IsLawful s → Reads free (Per.message al s v) 0 (octet_bits w) → Chain (Takes al free) (presents s u) ((0, octet_bits (w ++ rest)), []) (left, []) → Front free (completion left.0) left (8 * length w, octet_bits rest)

@@ -2,7 +2,7 @@
 //! bits in front are of its form. Each function does nothing; its contract is a law.
 #![tactic(auto)]
 
-ghost use Rattle.per_codec_fronts.specs.Ties.{CountHeld, EachBridges, EndsAtOctet, FindsEncodings, FormsShow, OneTaken, RecordsFit, RecordsRead};
+ghost use Rattle.per_codec_fronts.specs.Ties.{CountHeld, EachBridges, EndsAtOctet, FilledUp, FindsEncodings, FormsShow, OneTaken, RecordsFit, RecordsRead};
 
 /// Of the records that answer a question one at most is next, and one state stands after it, whatever the reader's freedoms are.
 pub fn one_record_is_next()
@@ -37,6 +37,11 @@ pub fn records_fit()
 /// What fills up a message behind the records of a value ends where an octet does.
 pub fn messages_end_at_octets()
     ensures { EndsAtOctet }
+{}
+
+/// Where a message of a lawful type stands in front, it is filled up behind the records of whichever value is found.
+pub fn messages_are_filled_up()
+    ensures { FilledUp }
 {}
 
 /// The records of a value, and behind them what fills up a message, are found in front of octets nowhere but in an encoding of it, by UPER and
