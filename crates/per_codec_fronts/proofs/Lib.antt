@@ -1,4 +1,5 @@
 pub mod Next
+pub mod Alike
 pub mod Fronts
 pub mod Lists
 pub mod Parts
@@ -7,3 +8,4 @@ pub mod Sequences
 pub mod Bitmaps
 pub mod Choices
 pub mod Whole
+pub mod Messages

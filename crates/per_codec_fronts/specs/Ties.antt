@@ -1,9 +1,10 @@
 -- What ties the records that a reader finds to the forms of values.
-use Rattle.std.specs.Prelude.{◌≡◌, ◌↔◌, ℕ, ◌^◌, ◌<◌, Bool, true, false, IsTrue, List, [], length}
+use Rattle.std.specs.Prelude.{◌≡◌, ◌↔◌, ℕ, ◌*◌, ◌^◌, ◌<◌, Bool, true, false, IsTrue, List, [], ◌++◌, length}
 use Rattle.asn1_model.specs.Schema.{Counts, Size, Schema}
-use Rattle.asn1_model.specs.Value.{Value}
+use Rattle.asn1_model.specs.Value.{Value, same}
 use Rattle.asn1_model.specs.Lawful.{IsLawful}
 use Rattle.asn1_model.specs.Numbers.{is_count_within, octet_bits}
+use Rattle.asn1_model.specs.Form.{Reads}
 use Rattle.asn1_model.specs.Per
 use Rattle.asn1_model.specs.Rules.{Rules, uper, aper, uper_strict, aper_strict, lenient, strict_per, IsEncoding}
 use Rattle.asn1_schema_presented.specs.Records.{list_begins}
@@ -29,6 +30,11 @@ Bridges al free s v = (a b : State) → Chain (Takes al free) (presents s v) a b
 abbrev pub RecordsRead : Type 0
 RecordsRead = (al : Bool) (free : Per.Freedom → Bool) (s : Schema) (v : Value) (a b : State) → IsTrue (free Per.other_bitmap) → IsTrue (free Per.other_order) → Chain (Takes al free) (presents s v) a b → Found free (Per.form al s v) a b
 
+-- Where the bits in front have the form of a value of a lawful type at their position, the records of one that is the same up to the order of
+-- bags are next.
+abbrev pub FormsShow : Type 0
+FormsShow = (al : Bool) (free : Per.Freedom → Bool) (s : Schema) (v : Value) (a b : State) → IsTrue (free Per.other_bitmap) → IsLawful s → Found free (Per.form al s v) a b → (w : Value) × (same v w ≡ true) × Chain (Takes al free) (presents s w) a b
+
 -- For a lawful type without SET OF the records are next exactly there.
 abbrev pub EachBridges : Type 0
 EachBridges = (al : Bool) (free : Per.Freedom → Bool) (s : Schema) (v : Value) → IsTrue (free Per.other_bitmap) → IsTrue (free Per.other_order) → IsLawful s → has_no_bag s ≡ true → Bridges al free s v
@@ -37,13 +43,23 @@ EachBridges = (al : Bool) (free : Per.Freedom → Bool) (s : Schema) (v : Value)
 abbrev pub RecordsFit : Type 0
 RecordsFit = (al : Bool) (free : Per.Freedom → Bool) (s : Schema) (v : Value) (a b : State) → Chain (Takes al free) (presents s v) a b → Fits s v
 
--- The records of a value are found in the bits of some octets from their beginning on, and what is left is what fills up a message.
-abbrev pub FoundWhole : Bool → (Per.Freedom → Bool) → Schema → Value → List ℕ → Type 0
-FoundWhole al free s v w = (left : Place) × (after : Place) × Chain (Takes al free) (presents s v) ((0, octet_bits w), []) (left, []) × Front free (completion left.0) left after × (after.1 ≡ [])
+-- The records of a value are found in the bits of octets from their beginning on, and what fills up a message behind them ends in front of the
+-- rest.
+abbrev pub FoundFirst : Bool → (Per.Freedom → Bool) → Schema → Value → List ℕ → List ℕ → Type 0
+FoundFirst al free s v w rest = (left : Place) × Chain (Takes al free) (presents s v) ((0, octet_bits (w ++ rest)), []) (left, []) × Front free (completion left.0) left (8 * length w, octet_bits rest)
 
--- So it is nowhere but where the octets are an encoding of the value, and for a lawful type without SET OF wherever they are.
+-- So it is nowhere but where the octets in front are an encoding of the value; and in an encoding of a value of a lawful type the records are
+-- found of one that is the same up to the order of bags.
 abbrev pub FindsIn : Rules → Bool → (Per.Freedom → Bool) → Type 0
-FindsIn r al free = (s : Schema) (v : Value) (w : List ℕ) → length w < 2 ^ 60 → (FoundWhole al free s v w → IsEncoding r s v w) × (IsLawful s → has_no_bag s ≡ true → IsEncoding r s v w → FoundWhole al free s v w)
+FindsIn r al free = (s : Schema) (v : Value) (w rest : List ℕ) → length w < 2 ^ 60 → (FoundFirst al free s v w rest → IsEncoding r s v w) × (IsLawful s → IsEncoding r s v w → (u : Value) × (same v u ≡ true) × FoundFirst al free s u w rest)
 
 abbrev pub FindsEncodings : Type 0
 FindsEncodings = FindsIn uper false lenient × FindsIn aper true lenient × FindsIn uper_strict false strict_per × FindsIn aper_strict true strict_per
+
+-- What fills up a message behind the records of a value ends where an octet does (X.691 11.1).
+abbrev pub EndsAtOctet : Type 0
+EndsAtOctet = (al : Bool) (free : Per.Freedom → Bool) (s : Schema) (v : Value) (os : List ℕ) (left after : Place) → IsTrue (free Per.other_bitmap) → IsTrue (free Per.other_order) → Chain (Takes al free) (presents s v) ((0, octet_bits os), []) (left, []) → Front free (completion left.0) left after → (w : List ℕ) × (rest : List ℕ) × (w ++ rest ≡ os) × (after ≡ (8 * length w, octet_bits rest))
+
+-- Where a message of a lawful type stands in front, it is filled up behind the records of whichever value is found.
+abbrev pub FilledUp : Type 0
+FilledUp = (al : Bool) (free : Per.Freedom → Bool) (s : Schema) (u v : Value) (w rest : List ℕ) (left : Place) → IsTrue (free Per.other_bitmap) → IsLawful s → Reads free (Per.message al s v) 0 (octet_bits w) → Chain (Takes al free) (presents s u) ((0, octet_bits (w ++ rest)), []) (left, []) → Front free (completion left.0) left (8 * length w, octet_bits rest)

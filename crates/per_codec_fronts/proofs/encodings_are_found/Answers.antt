@@ -1,5 +1,5 @@
-use Rattle.per_codec_fronts.proofs.Whole as Whole
+use Rattle.per_codec_fronts.proofs.Messages as Messages
 use Rattle.per_codec_fronts.proofs.encodings_are_found.Goals as goal
 
 pub returns : goal.returns
-returns c = (Whole.finds_uper, Whole.finds_aper, Whole.finds_uper_strict, Whole.finds_aper_strict)
+returns c = (Messages.finds_uper, Messages.finds_aper, Messages.finds_uper_strict, Messages.finds_aper_strict)
