@@ -1,0 +1,11 @@
+//! Truth values and whole numbers in the packed encoding rules (X.691 12 and 13), unaligned and aligned.
+#![tactic(auto)]
+
+mod booleans;
+mod integers;
+
+pub use booleans::push_boolean;
+pub use integers::push_integer;
+
+#[cfg(test)]
+mod tests;
