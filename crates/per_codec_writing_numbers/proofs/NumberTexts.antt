@@ -1,17 +1,18 @@
 -- The texts of truth values and whole numbers.
-use Rattle.std.proofs.Common.{◌≡◌, ℕ, ℤ, pos, negsuc, ◌-ℤ◌, ◌≤ℤ◌, Bool, true, false, leb, ◌&&◌, List, [], ◌∷◌, ◌++◌, length, Option, Some, None, refl, ap, subst, sym, ◌∙◌, arith, unsigned_abs}
+use Rattle.std.proofs.Common.{◌≡◌, ℕ, ◌+◌, ◌*◌, ◌^◌, ◌<◌, ◌≤◌, ℤ, pos, negsuc, ◌-ℤ◌, ◌≤ℤ◌, Bool, true, false, leb, ltb, ◌&&◌, List, [], ◌∷◌, ◌++◌, length, Option, Some, None, refl, ap, subst, sym, ◌∙◌, arith, unsigned_abs}
 use Rattle.std.specs.Prelude.{Result, Ok, Err, MatchResult}
 use Rattle.std.proofs.lemmas.Int.{ints}
-use Rattle.std.proofs.lemmas.Bool.{le-leb, and_parts}
-use Rattle.asn1_model.specs.Form.{written, both, given}
+use Rattle.std.proofs.lemmas.Bool.{le-leb, lt-leb, lt-ltb, and_parts}
+use Rattle.asn1_model.specs.Form.{written, exactly, both, given}
 use Rattle.asn1_model.specs.Schema.{boolean}
 use Rattle.asn1_model.specs.Value.{truth}
-use Rattle.asn1_model.specs.Numbers.{digits, least_octets, signed_octets, complement, above, natural, is_at_most, is_from, is_to, is_within}
+use Rattle.asn1_model.specs.Numbers.{binary, digits, least_octets, signed_octets, complement, above, natural, is_at_most, is_from, is_to, is_within}
 use Rattle.asn1_model.specs.Per
 use Rattle.asn1_schema_faults.specs.declared.EncodeError.{EncodeError}
 use Rattle.asn1_schema_faults.specs.declared.EncodeError.TheVariants as Fault
+use Rattle.asn1_values_bits.proofs.Binary.{binary_join}
 use Rattle.per_codec_writing.specs.Writing.{Adds, Refuses}
-use Rattle.per_codec_writing.proofs.Texts.{adds_text, adds_both, none_second, if_true}
+use Rattle.per_codec_writing.proofs.Texts.{adds_text, adds_same, adds_both, none_second, if_true, cond_true, cond_false}
 
 -- ---- what was done
 
@@ -51,6 +52,24 @@ unconstrained_text al v p = if_true (leb (signed_octets v) (signed_octets v)) (P
 pub semi_constrained_text : (al : Bool) (d p : ℕ) → written (Per.semi_constrained al d) p ≡ written (Per.counted_octets al (digits 256 (least_octets d) d)) p
 unfolding written Per.semi_constrained
 semi_constrained_text al d p = if_true (leb (least_octets d) (least_octets d)) (Per.counted_octets al (digits 256 (least_octets d) d)) p (le-leb _ _ (omega arith))
+
+-- ---- normally small numbers
+
+six_bits : (n : ℕ) → n < 64 → binary 7 n ≡ false ∷ binary 6 n
+six_bits n h = let e : 0 * 2 ^ 6 + n ≡ n = omega arith in sym (binary_join 1 6 0 n h ∙ ap (λ k. binary 7 k) e)
+
+pub adds_small : (al : Bool) (n : ℕ) (old new : List Bool) → n < 64 → new ≡ old ++ binary 7 n → Adds (written (Per.normally_small al n) (length old)) old new
+unfolding Per.normally_small written
+adds_small al n old new h e =
+    adds_text _ (false ∷ binary 6 n) old new
+    (cond_false (leb 64 n) _ _ (length old) (lt-leb _ _ h) ∙ if_true (ltb n 64) _ (length old) (lt-ltb _ _ h))
+    (e ∙ ap (λ l. old ++ l) (six_bits n h))
+
+pub adds_not_small : (al : Bool) (n : ℕ) (old mid new : List Bool) → 64 ≤ n → mid ≡ old ++ true ∷ [] → Adds (written (Per.semi_constrained al n) (length mid)) mid new → Adds (written (Per.normally_small al n) (length old)) old new
+unfolding Per.normally_small written
+adds_not_small al n old mid new h e a =
+    adds_same _ _ old new (cond_true (leb 64 n) _ _ (length old) (le-leb _ _ h))
+    (adds_both (exactly (true ∷ [])) (Per.semi_constrained al n) old mid new (adds_text _ (true ∷ []) old mid refl e) a)
 
 -- ---- within bounds
 

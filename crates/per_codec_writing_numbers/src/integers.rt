@@ -45,7 +45,7 @@ fn push_unconstrained<I: IntegerType>(
 
 /// Adds a number with a lower bound alone, by how far it is above that, in the fewest octets behind their number (X.691 11.7 and 13.2.3).
 /// The only error is want of memory.
-fn push_semi_constrained(
+pub(crate) fn push_semi_constrained(
     output: &mut BitBuffer,
     aligned: bool,
     offset: u128,

@@ -1,5 +1,5 @@
 //! Octets of X.691 12 and 13.
-use crate::{push_boolean, push_integer};
+use crate::{push_boolean, push_integer, push_normally_small};
 use asn1_schema_bounds::Bounded;
 use asn1_schema_constraints::{Constraints, Extensible, Value};
 use asn1_schema_faults::EncodeError;
@@ -155,4 +155,20 @@ fn numbers_outside(rt: HostRuntime) {
             assert!(rt; matches!(&refused, Err(EncodeError::ValueConstraintNotSatisfied)));
         }
     }
+}
+
+#[test]
+fn normally_small_numbers(rt: HostRuntime) -> Result<(), Fail> {
+    let mut output = BitBuffer::new(rt.alloc());
+    push_normally_small(&mut output, true, 5)?;
+    assert_eq!(rt; output.as_bytes(), [0x0Au8].as_slice());
+    push_normally_small(&mut output, false, 63)?;
+    assert_eq!(rt; output.as_bytes(), [0x0Au8, 0xFC].as_slice());
+    output.clear();
+    push_normally_small(&mut output, false, 64)?;
+    assert_eq!(rt; output.as_bytes(), [0x80u8, 0xA0, 0x00].as_slice());
+    output.clear();
+    push_normally_small(&mut output, true, 64)?;
+    assert_eq!(rt; output.as_bytes(), [0x80u8, 0x01, 0x40].as_slice());
+    Ok(())
 }
