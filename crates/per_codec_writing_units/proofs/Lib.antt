@@ -1,0 +1,4 @@
+pub mod Texts
+pub mod Adding
+pub mod Fragments
+pub mod Sizes
