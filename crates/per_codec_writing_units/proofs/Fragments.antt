@@ -116,7 +116,7 @@ rest_added al ts from count old mid new k h a u =
 
 -- ---- octets
 
-forms_of_octets : (os : List ℕ) → forms_of (map (binary 8) os) ≡ Per.octet_units os
+pub forms_of_octets : (os : List ℕ) → forms_of (map (binary 8) os) ≡ Per.octet_units os
 forms_of_octets [] = refl
 forms_of_octets (o ∷ os) = ap (λ us. exactly (binary 8 o) ∷ us) (forms_of_octets os)
 

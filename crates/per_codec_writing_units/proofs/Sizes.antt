@@ -105,7 +105,7 @@ between_added al b span low count ts old mid filled new k a f u =
 
 -- ---- under a size constraint, and under none
 
-any_number : (n : ℕ) → is_count_within (record { low = 0; high = None }) n ≡ true
+pub any_number : (n : ℕ) → is_count_within (record { low = 0; high = None }) n ≡ true
 any_number n = ap (λ b. b && true) (le-leb 0 n (omega arith))
 
 pub unsized_text : (al : Bool) (h : Counts) (pads : Counts → Bool) (ts : List (List Bool)) (p : ℕ) (o : Option (Extensible SizeRange)) → o ≡ None → is_count_within h (length ts) ≡ true → written (Per.sized al (sizes_of o) h pads (forms_of ts)) p ≡ written (Per.counted al (forms_of ts)) p
