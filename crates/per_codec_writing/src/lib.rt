@@ -1,0 +1,13 @@
+//! Filling, lengths and constrained whole numbers of the packed encoding rules (X.691 11), unaligned and aligned.
+#![tactic(auto)]
+
+mod constrained;
+mod filling;
+mod lengths;
+
+pub use constrained::push_constrained;
+pub use filling::{align, push_filling};
+pub use lengths::{push_fragment_length, push_short_length};
+
+#[cfg(test)]
+mod tests;
