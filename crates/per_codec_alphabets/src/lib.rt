@@ -5,6 +5,7 @@ mod alphabet;
 mod runs;
 
 pub use alphabet::EffectiveAlphabet;
+pub use runs::is_of_octets;
 
 #[cfg(test)]
 mod tests;

@@ -1,6 +1,6 @@
 //! Runs of characters in the order of their places.
 ghost use Rattle.std.specs.Prelude.{◌≡◌, ◌<◌, ◌^◌, ◌+◌, ◌-◌, ◌++◌, ◌∷◌, [], IfOk, OnOk, Some, None, cond, nat_lt, filter, map};
-ghost use Rattle.asn1_model.specs.Strings.{characters_of, how_many, largest, place_of, is_among, is_in_run, run};
+ghost use Rattle.asn1_model.specs.Strings.{characters_of, how_many, largest, place_of, is_among, is_in_run, is_of_octets as holds_octets, run};
 ghost use Rattle.per_codec_alphabets.specs.Codes.{run_of, runs_of, character_at as nth_character, SameCharacters};
 
 use asn1_values_alphabets::StaticPermittedAlphabet;
@@ -124,6 +124,13 @@ pub fn own_runs<S: StaticPermittedAlphabet>() -> &'static [CharacterRun]
         return &PRINTABLE;
     }
     &NUMERIC
+}
+
+/// Whether the characters of a type of strings have no fixed width, so that a value holds octets (X.691 30).
+pub fn is_of_octets<S: StaticPermittedAlphabet>() -> bool
+    ensures { result ≡ holds_octets S.kind }
+{
+    S::contains_char(0x80) && !S::contains_char(0x100)
 }
 
 /// How many characters there are.

@@ -1,0 +1,2 @@
+pub mod CharacterTexts
+pub mod Refused
