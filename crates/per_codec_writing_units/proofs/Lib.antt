@@ -1,1 +1,4 @@
 pub mod Texts
+pub mod Adding
+pub mod Fragments
+pub mod Sizes

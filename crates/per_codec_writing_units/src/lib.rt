@@ -2,8 +2,10 @@
 //! characters, in fragments from 16384 units on.
 #![tactic(auto)]
 
+mod counted;
 mod padding;
 mod units;
 
+pub use counted::{push_counted, push_counted_octets};
 pub use padding::{pads_characters, pads_string};
 pub use units::Units;

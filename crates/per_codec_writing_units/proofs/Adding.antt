@@ -1,0 +1,24 @@
+-- Units one behind the other, and texts that are missing.
+use Rattle.std.proofs.Common.{◌≡◌, ℕ, ◌+◌, Bool, List, [], ◌∷◌, ◌++◌, length, Option, Some, None, option_map, refl, ap, subst, sym}
+use Rattle.asn1_model.specs.Form.{written, joined}
+use Rattle.asn1_schema_faults.specs.declared.EncodeError.{EncodeError}
+use Rattle.asn1_schema_faults.specs.declared.EncodeError.TheVariants.{OutOfMemory}
+use Rattle.per_codec_writing.specs.Writing.{Adds, Refuses}
+use Rattle.per_codec_writing.proofs.Texts.{adds_text}
+use Rattle.per_codec_writing_units.specs.Units.{together, forms_of}
+
+joined_text : (ts : List (List Bool)) (p : ℕ) → written (joined (forms_of ts)) p ≡ Some (together ts)
+unfolding written
+joined_text [] p = refl
+joined_text (t ∷ ts) p = ap (option_map (λ v. t ++ v)) (joined_text ts (p + length t))
+
+pub adds_joined : (ts : List (List Bool)) (old new : List Bool) → new ≡ old ++ together ts → Adds (written (joined (forms_of ts)) (length old)) old new
+adds_joined ts old new e = adds_text _ (together ts) old new (joined_text ts (length old)) e
+
+-- where one text is missing, so is another
+pub refuses_also : (o o' : Option (List Bool)) (e : EncodeError) → (o ≡ None → o' ≡ None) → Refuses o e → Refuses o' e
+refuses_also o o' OutOfMemory h r = tt
+refuses_also o o' e h r = h r
+
+pub refuses_memory : (o : Option (List Bool)) (e : EncodeError) → e ≡ OutOfMemory → Refuses o e
+refuses_memory o e h = subst (Refuses o) (sym h) tt

@@ -1,0 +1,75 @@
+-- Units of a size (X.691 16, 17, 20 and 30).
+use Rattle.std.proofs.Common.{◌≡◌, ℕ, ◌+◌, ◌-◌, ◌<◌, ◌≤◌, ltb, Bool, true, false, cond, ◌&&◌, List, [], ◌∷◌, ◌++◌, length, Option, Some, None, refl, ap, subst, sym, ◌∙◌}
+use Rattle.std.proofs.lemmas.Bool.{lt-ltb, le-ltb}
+use Rattle.asn1_model.specs.Form.{written, exactly, only_if, both, joined}
+use Rattle.asn1_model.specs.Numbers.{is_count_within}
+use Rattle.asn1_model.specs.Schema.{Size, Counts}
+use Rattle.asn1_model.specs.Per
+use Rattle.per_codec_writing.specs.Writing.{Adds}
+use Rattle.per_codec_writing.proofs.Texts.{if_true, if_false, cond_true, cond_false}
+use Rattle.per_codec_writing_units.specs.Units.{forms_of}
+use Rattle.per_codec_writing_units.proofs.Fragments.{length-forms}
+
+-- ---- what a type holds, and its mark
+
+pub held_text : (al : Bool) (z : Size) (h : Counts) (pads : Counts → Bool) (ts : List (List Bool)) (p : ℕ) → is_count_within h (length ts) ≡ true → written (Per.sized al z h pads (forms_of ts)) p ≡ written (Per.marked z.extensible (is_count_within z.counts (length ts)) (Per.sized_root al z.counts z.counts.high pads (forms_of ts)) (Per.counted al (forms_of ts))) p
+unfolding Per.sized
+held_text al z h pads ts p e =
+    ap (λ n. written (only_if (is_count_within h n) (Per.marked z.extensible (is_count_within z.counts n) (Per.sized_root al z.counts z.counts.high pads (forms_of ts)) (Per.counted al (forms_of ts)))) p) (length-forms ts)
+    ∙ if_true (is_count_within h (length ts)) _ p e
+
+pub held_none : (al : Bool) (z : Size) (h : Counts) (pads : Counts → Bool) (ts : List (List Bool)) (p : ℕ) → is_count_within h (length ts) ≡ false → written (Per.sized al z h pads (forms_of ts)) p ≡ None
+unfolding Per.sized
+held_none al z h pads ts p e =
+    ap (λ n. written (only_if (is_count_within h n) (Per.marked z.extensible (is_count_within z.counts n) (Per.sized_root al z.counts z.counts.high pads (forms_of ts)) (Per.counted al (forms_of ts)))) p) (length-forms ts)
+    ∙ if_false (is_count_within h (length ts)) _ p e
+
+pub unmarked_text : (e b : Bool) (root outside : Per.BitForm) (p : ℕ) → e ≡ false → b ≡ true → written (Per.marked e b root outside) p ≡ written root p
+unfolding Per.marked
+unmarked_text false b root outside p e h = if_true b root p h
+unmarked_text true b root outside p e h = cc
+
+pub unmarked_none : (e b : Bool) (root outside : Per.BitForm) (p : ℕ) → e ≡ false → b ≡ false → written (Per.marked e b root outside) p ≡ None
+unfolding Per.marked
+unmarked_none false b root outside p e h = if_false b root p h
+unmarked_none true b root outside p e h = cc
+
+pub inside_text : (b : Bool) (root outside : Per.BitForm) (p : ℕ) → b ≡ true → written (Per.marked true b root outside) p ≡ written (both (exactly (false ∷ [])) root) p
+unfolding Per.marked written
+inside_text true root outside p e = refl
+inside_text false root outside p e = cc
+
+pub outside_text : (b : Bool) (root outside : Per.BitForm) (p : ℕ) → b ≡ false → written (Per.marked true b root outside) p ≡ written (both (exactly (true ∷ [])) outside) p
+unfolding Per.marked written
+outside_text false root outside p e = refl
+outside_text true root outside p e = cc
+
+-- ---- the root
+
+pub narrow_text : (al : Bool) (c : Counts) (o : Option ℕ) (high : ℕ) (pads : Counts → Bool) (ts : List (List Bool)) (p : ℕ) → o ≡ Some high → high < 65536 → written (Per.sized_root al c o pads (forms_of ts)) p ≡ written (both (Per.constrained al (high - c.low) (length ts - c.low)) (Per.at_octet (al && pads c) (joined (forms_of ts)))) p
+unfolding Per.sized_root
+narrow_text al c o high pads ts p e h =
+    ap (λ x. written (Per.sized_root al c x pads (forms_of ts)) p) e
+    ∙ cond_true (ltb high 65536) (both (Per.constrained al (high - c.low) (length (forms_of ts) - c.low)) (Per.at_octet (al && pads c) (joined (forms_of ts)))) (Per.counted al (forms_of ts)) p (lt-ltb _ _ h)
+    ∙ ap (λ n. written (both (Per.constrained al (high - c.low) (n - c.low)) (Per.at_octet (al && pads c) (joined (forms_of ts)))) p) (length-forms ts)
+
+pub wide_text : (al : Bool) (c : Counts) (o : Option ℕ) (high : ℕ) (pads : Counts → Bool) (ts : List (List Bool)) (p : ℕ) → o ≡ Some high → 65536 ≤ high → written (Per.sized_root al c o pads (forms_of ts)) p ≡ written (Per.counted al (forms_of ts)) p
+unfolding Per.sized_root
+wide_text al c o high pads ts p e h =
+    ap (λ x. written (Per.sized_root al c x pads (forms_of ts)) p) e
+    ∙ cond_false (ltb high 65536) (both (Per.constrained al (high - c.low) (length (forms_of ts) - c.low)) (Per.at_octet (al && pads c) (joined (forms_of ts)))) (Per.counted al (forms_of ts)) p (le-ltb _ _ h)
+
+pub open_text : (al : Bool) (c : Counts) (o : Option ℕ) (pads : Counts → Bool) (ts : List (List Bool)) (p : ℕ) → o ≡ None → written (Per.sized_root al c o pads (forms_of ts)) p ≡ written (Per.counted al (forms_of ts)) p
+unfolding Per.sized_root
+open_text al c o pads ts p e = ap (λ x. written (Per.sized_root al c x pads (forms_of ts)) p) e
+
+-- ---- filling is told for these counts alone
+
+root_padded : (al : Bool) (c : Counts) (o : Option ℕ) (pads pads' : Counts → Bool) (us : List Per.BitForm) → pads c ≡ pads' c → Per.sized_root al c o pads us ≡ Per.sized_root al c o pads' us
+unfolding Per.sized_root
+root_padded al c None pads pads' us e = refl
+root_padded al c (Some high) pads pads' us e = ap (λ b. cond (ltb high 65536) (both (Per.constrained al (high - c.low) (length us - c.low)) (Per.at_octet (al && b) (joined us))) (Per.counted al us)) e
+
+pub sized_padded : (al : Bool) (z : Size) (h : Counts) (pads pads' : Counts → Bool) (us : List Per.BitForm) → pads z.counts ≡ pads' z.counts → Per.sized al z h pads us ≡ Per.sized al z h pads' us
+unfolding Per.sized
+sized_padded al z h pads pads' us e = ap (λ r. only_if (is_count_within h (length us)) (Per.marked z.extensible (is_count_within z.counts (length us)) r (Per.counted al us))) (root_padded al z.counts z.counts.high pads pads' us e)
