@@ -10,6 +10,7 @@ use per_codec_alphabets::EffectiveAlphabet;
 use per_codec_writing_units::Units;
 
 /// The characters of a string, each by its code among those of an alphabet (X.691 30.5).
+#[derive(Drop)]
 pub struct CharacterUnits<'a, S> {
     /// The alphabet.
     pub alphabet: &'a EffectiveAlphabet,
