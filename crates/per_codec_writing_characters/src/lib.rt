@@ -4,4 +4,4 @@
 mod strings;
 mod units;
 
-pub use strings::push_octets;
+pub use strings::push_characters;
