@@ -1,5 +1,6 @@
 -- Units one behind the other, and texts that are missing.
-use Rattle.std.proofs.Common.{◌≡◌, ℕ, ◌+◌, Bool, List, [], ◌∷◌, ◌++◌, length, Option, Some, None, option_map, refl, ap, subst, sym}
+use Rattle.std.proofs.Common.{◌≡◌, ℕ, ◌+◌, Bool, List, [], ◌∷◌, ◌++◌, length, Option, Some, None, option_map, Result, Ok, Err, refl, ap, subst, sym}
+use Rattle.std.specs.Result.{IsErrAnd, MatchResult}
 use Rattle.asn1_model.specs.Form.{written, joined}
 use Rattle.asn1_schema_faults.specs.declared.EncodeError.{EncodeError}
 use Rattle.asn1_schema_faults.specs.declared.EncodeError.TheVariants.{OutOfMemory}
@@ -22,3 +23,8 @@ refuses_also o o' e h r = h r
 
 pub refuses_memory : (o : Option (List Bool)) (e : EncodeError) → e ≡ OutOfMemory → Refuses o e
 refuses_memory o e h = subst (Refuses o) (sym h) tt
+
+-- what a `?` passes on
+pub raised : (o o' : Option (List Bool)) (A : Unit {0} → Type 0) (x : EncodeError) (r : Result (Unit {0}) EncodeError) → IsErrAnd r (λ y. y ≡ x) → (o ≡ None → o' ≡ None) → Refuses o x → MatchResult r A (Refuses o')
+raised o o' A x (Ok v) h n p = absurd h
+raised o o' A x (Err y) h n p = refuses_also o o' y n (subst (Refuses o) (sym h) p)

@@ -1,9 +1,9 @@
 -- Units in fragments, the largest first (X.691 11.9.3.8).
-use Rattle.std.proofs.Common.{◌≡◌, ℕ, zero, suc, ◌+◌, ◌-◌, ◌*◌, ◌/◌, ◌%◌, ◌<◌, ◌≤◌, leb, min, Bool, true, false, ◌&&◌, List, [], ◌∷◌, ◌++◌, length, take, drop, slice_range, map, replicate, Option, Some, inl, inr, refl, ap, subst, sym, ◌∙◌, arith, get_or, Fits}
+use Rattle.std.proofs.Common.{◌≡◌, ℕ, suc, ◌+◌, ◌-◌, ◌*◌, ◌/◌, ◌%◌, ◌<◌, ◌≤◌, leb, min, Bool, true, false, ◌&&◌, List, [], ◌∷◌, ◌++◌, length, take, drop, slice_range, map, replicate, inl, inr, refl, ap, subst, sym, ◌∙◌, arith, get_or, Fits}
 use Rattle.std.specs.Int.{w8}
 use Rattle.std.proofs.lemmas.Bool.{cases_lt, lt-ltb, le-leb}
 use Rattle.std.proofs.lemmas.List.{length-drop, drop-drop, take_all, take-map, drop-map}
-use Rattle.asn1_model.specs.Form.{written, exactly, only_if, both, joined}
+use Rattle.asn1_model.specs.Form.{written, exactly, both, joined}
 use Rattle.asn1_model.specs.Numbers.{binary}
 use Rattle.asn1_model.specs.Strings.{each_is, is_octet}
 use Rattle.asn1_model.specs.Per

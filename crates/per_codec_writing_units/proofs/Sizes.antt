@@ -1,13 +1,20 @@
 -- Units of a size (X.691 16, 17, 20 and 30).
-use Rattle.std.proofs.Common.{◌≡◌, ℕ, ◌+◌, ◌-◌, ◌<◌, ◌≤◌, ltb, Bool, true, false, cond, ◌&&◌, List, [], ◌∷◌, ◌++◌, length, Option, Some, None, refl, ap, subst, sym, ◌∙◌}
-use Rattle.std.proofs.lemmas.Bool.{lt-ltb, le-ltb}
+use Rattle.std.proofs.Common.{◌≡◌, ℕ, ◌-◌, ◌<◌, ◌≤◌, ltb, Bool, true, false, cond, ◌&&◌, List, [], ◌∷◌, ◌++◌, length, Option, Some, None, slice_range, refl, ap, subst, ◌∙◌, arith}
+use Rattle.std.proofs.lemmas.Bool.{lt-ltb, le-ltb, le-leb}
+use Rattle.std.proofs.lemmas.List.{take_all}
 use Rattle.asn1_model.specs.Form.{written, exactly, only_if, both, joined}
 use Rattle.asn1_model.specs.Numbers.{is_count_within}
 use Rattle.asn1_model.specs.Schema.{Size, Counts}
 use Rattle.asn1_model.specs.Per
-use Rattle.per_codec_writing.specs.Writing.{Adds}
-use Rattle.per_codec_writing.proofs.Texts.{if_true, if_false, cond_true, cond_false}
-use Rattle.per_codec_writing_units.specs.Units.{forms_of}
+use Rattle.asn1_schema_bounds.specs.Bounds.{counts_of, upper}
+use Rattle.asn1_schema_constraints.specs.Sets.{has_additions}
+use Rattle.asn1_schema_constraints.specs.Terms.{sizes_of}
+use Rattle.asn1_schema_constraints.specs.declared.extensions.Extensible.{Extensible}
+use Rattle.asn1_schema_constraints.specs.declared.parts.Size.{Size as SizeRange}
+use Rattle.per_codec_writing.specs.Writing.{Adds, fill_at}
+use Rattle.per_codec_writing.proofs.Texts.{if_true, if_false, cond_true, cond_false, adds_text, adds_same, adds_both, adds_at_octet, none_second}
+use Rattle.per_codec_writing_units.specs.Units.{together, forms_of}
+use Rattle.per_codec_writing_units.proofs.Adding.{adds_joined}
 use Rattle.per_codec_writing_units.proofs.Fragments.{length-forms}
 
 -- ---- what a type holds, and its mark
@@ -73,3 +80,44 @@ root_padded al c (Some high) pads pads' us e = ap (λ b. cond (ltb high 65536) (
 pub sized_padded : (al : Bool) (z : Size) (h : Counts) (pads pads' : Counts → Bool) (us : List Per.BitForm) → pads z.counts ≡ pads' z.counts → Per.sized al z h pads us ≡ Per.sized al z h pads' us
 unfolding Per.sized
 sized_padded al z h pads pads' us e = ap (λ r. only_if (is_count_within h (length us)) (Per.marked z.extensible (is_count_within z.counts (length us)) r (Per.counted al us))) (root_padded al z.counts z.counts.high pads pads' us e)
+
+-- ---- what is added
+
+a_mark : (b : Bool) (old mid : List Bool) → mid ≡ old ++ b ∷ [] → Adds (written {F = Per.Freedom} {D = Per.Detail} (exactly (b ∷ [])) (length old)) old mid
+unfolding written
+a_mark b old mid e = adds_text _ (b ∷ []) old mid refl e
+
+pub outside_added : (b m : Bool) (root x : Per.BitForm) (old mid new : List Bool) → b ≡ false → m ≡ true → mid ≡ old ++ m ∷ [] → Adds (written x (length mid)) mid new → Adds (written (Per.marked true b root x) (length old)) old new
+outside_added b m root x old mid new e f g a = adds_same _ _ old new (outside_text b root x (length old) e) (adds_both (exactly (true ∷ [])) x old mid new (a_mark true old mid (g ∙ ap (λ k. old ++ k ∷ []) f)) a)
+
+pub inside_added : (b m : Bool) (root x : Per.BitForm) (old mid new : List Bool) → b ≡ true → m ≡ false → mid ≡ old ++ m ∷ [] → Adds (written root (length mid)) mid new → Adds (written (Per.marked true b root x) (length old)) old new
+inside_added b m root x old mid new e f g a = adds_same _ _ old new (inside_text b root x (length old) e) (adds_both (exactly (false ∷ [])) root old mid new (a_mark false old mid (g ∙ ap (λ k. old ++ k ∷ []) f)) a)
+
+pub inside_none : (b m : Bool) (root x : Per.BitForm) (old mid : List Bool) → b ≡ true → m ≡ false → mid ≡ old ++ m ∷ [] → written root (length mid) ≡ None → written (Per.marked true b root x) (length old) ≡ None
+inside_none b m root x old mid e f g n = inside_text b root x (length old) e ∙ none_second (exactly (false ∷ [])) root old mid (a_mark false old mid (g ∙ ap (λ k. old ++ k ∷ []) f)) n
+
+pub between_added : (al b : Bool) (span low count : ℕ) (ts : List (List Bool)) (old mid filled new : List Bool) → count ≡ length ts → Adds (written (Per.constrained al span (count - low)) (length old)) old mid → filled ≡ mid ++ fill_at b (length mid) → new ≡ filled ++ together (slice_range ts 0 count) → Adds (written (both (Per.constrained al span (length ts - low)) (Per.at_octet b (joined (forms_of ts)))) (length old)) old new
+between_added al b span low count ts old mid filled new k a f u =
+    let all : slice_range ts 0 count ≡ ts = take_all (count - 0) ts (omega (arith, k)) in
+    adds_both (Per.constrained al span (length ts - low)) (Per.at_octet b (joined (forms_of ts))) old mid new
+    (subst (λ n. Adds (written (Per.constrained al span (n - low)) (length old)) old mid) k a)
+    (adds_at_octet b (joined (forms_of ts)) mid filled new f (adds_joined ts filled new (u ∙ ap (λ l. filled ++ together l) all)))
+
+-- ---- under a size constraint, and under none
+
+any_number : (n : ℕ) → is_count_within (record { low = 0; high = None }) n ≡ true
+any_number n = ap (λ b. b && true) (le-leb 0 n (omega arith))
+
+pub unsized_text : (al : Bool) (h : Counts) (pads : Counts → Bool) (ts : List (List Bool)) (p : ℕ) (o : Option (Extensible SizeRange)) → o ≡ None → is_count_within h (length ts) ≡ true → written (Per.sized al (sizes_of o) h pads (forms_of ts)) p ≡ written (Per.counted al (forms_of ts)) p
+unsized_text al h pads ts p o i e =
+    let z : Size = sizes_of None in
+    ap (λ x. written (Per.sized al (sizes_of x) h pads (forms_of ts)) p) i
+    ∙ held_text al z h pads ts p e
+    ∙ unmarked_text false (is_count_within z.counts (length ts)) (Per.sized_root al z.counts None pads (forms_of ts)) (Per.counted al (forms_of ts)) p refl (any_number (length ts))
+    ∙ open_text al z.counts None pads ts p refl
+
+pub constrained_text : (al : Bool) (h : Counts) (pads : Counts → Bool) (ts : List (List Bool)) (p : ℕ) (o : Option (Extensible SizeRange)) (s : Extensible SizeRange) (m : Bool) → o ≡ Some s → has_additions s ≡ m → is_count_within h (length ts) ≡ true → written (Per.sized al (sizes_of o) h pads (forms_of ts)) p ≡ written (Per.marked m (is_count_within (counts_of s.constraint.range) (length ts)) (Per.sized_root al (counts_of s.constraint.range) (upper s.constraint.range) pads (forms_of ts)) (Per.counted al (forms_of ts))) p
+constrained_text al h pads ts p o s m i a e =
+    ap (λ x. written (Per.sized al (sizes_of x) h pads (forms_of ts)) p) i
+    ∙ held_text al (sizes_of (Some s)) h pads ts p e
+    ∙ ap (λ b. written (Per.marked b (is_count_within (counts_of s.constraint.range) (length ts)) (Per.sized_root al (counts_of s.constraint.range) (upper s.constraint.range) pads (forms_of ts)) (Per.counted al (forms_of ts))) p) a

@@ -4,8 +4,10 @@
 
 mod counted;
 mod padding;
+mod sized;
 mod units;
 
 pub use counted::{push_counted, push_counted_octets};
 pub use padding::{pads_characters, pads_string};
+pub use sized::push_sized;
 pub use units::Units;

@@ -1,4 +1,3 @@
-use Rattle.std.proofs.Common.{◌≡◌}
 use Rattle.per_codec_writing_units.proofs.Fragments.{adds_octets, all_octets}
 use Rattle.per_codec_writing_units.proofs.counted.push_counted_octets.Goals as goal
 
