@@ -1,0 +1,17 @@
+-- What an effective permitted alphabet of the program holds.
+use Rattle.std.specs.Prelude.{◌≡◌, ◌<◌, ◌≤◌, ◌^◌, ℕ, Bool, ltb, List}
+use Rattle.asn1_model.specs.Strings.{Run, how_many, largest}
+use Rattle.per_codec_alphabets.specs.Codes.{runs_of}
+use Rattle.per_codec_alphabets.specs.declared.alphabet.Runs.{Runs}
+use Rattle.per_codec_alphabets.specs.declared.alphabet.Runs.TheVariants.{Own, Kept}
+
+-- The runs, of a type or left of them.
+abbrev pub held_runs : Runs → List Run
+held_runs (Own rs) = runs_of rs.now
+held_runs (Kept rs) = runs_of rs.items
+
+-- Runs of fewer than 2 to the 64 characters, and codes of at most 64 bits.
+pub record IsCoded (runs : List Run) (code_bits : ℕ) (is_by_number : Bool) : Type 0 where
+  pub few : how_many runs < 2 ^ 64
+  pub narrow : code_bits ≤ 64
+  pub by_number : is_by_number ≡ ltb (largest runs) (2 ^ code_bits)

@@ -1,0 +1,185 @@
+//! The characters that a constraint leaves of a type of strings, and their codes.
+ghost use Rattle.std.specs.Prelude.{◌≡◌, ◌≢◌, ◌^◌, ◌<◌, ◌≤◌, ◌-◌, ℕ, ltb, Some, None, IfOk, IfSome, nat_lt};
+ghost use Rattle.asn1_model.specs.Numbers.{width as bit_width};
+ghost use Rattle.asn1_model.specs.Per.{character_bits, raised};
+ghost use Rattle.asn1_model.specs.Strings.{permitted, how_many, largest};
+ghost use Rattle.asn1_schema_constraints.specs.Terms.{alphabet_of};
+ghost use Rattle.per_codec_alphabets.specs.Codes.{runs_of, code_of, SameCharacters};
+ghost use Rattle.per_codec_alphabets.specs.Held.{held_runs};
+
+use crate::runs::{
+    CharacterRun, character_at, count, kept_runs, last_character, own_runs, place_among,
+};
+use asn1_schema_constraints::{Extensible, PermittedAlphabet};
+use asn1_values_alphabets::StaticPermittedAlphabet;
+use std::alloc::{AllocError, Global};
+use std::marker::Model;
+
+/// Runs of characters: those of a type, or those that a constraint leaves of them.
+#[derive(Debug, Drop)]
+enum Runs {
+    /// Those of a type.
+    Own(&'static [CharacterRun]),
+    /// Those that a constraint leaves.
+    Kept(Vec<CharacterRun>),
+}
+
+/// The characters that a permitted alphabet leaves of a type of strings (the effective permitted alphabet, X.691 30.5), and their codes.
+///
+/// A code is the character's own number if the largest of them fits in the bits, else its place among them.
+#[derive(Debug, Drop)]
+pub struct EffectiveAlphabet {
+    runs: Runs,
+    width: u32,
+    is_by_number: bool,
+}
+
+impl Model for EffectiveAlphabet {
+    ghost use Rattle.std.specs.Prelude.{◌≡◌, ◌<◌, ◌^◌, ltb};
+    ghost use Rattle.asn1_model.specs.Strings.{how_many, largest};
+    ghost use Rattle.per_codec_alphabets.specs.Codes.{Coded};
+    ghost use Rattle.per_codec_alphabets.specs.Held.{held_runs, IsCoded};
+
+    ghost Value = { Coded };
+
+    ghost view = { λ a. record { runs = held_runs a.runs; code_bits = a.width } };
+
+    ghost invariant = { λ a. IsCoded (held_runs a.runs) a.width a.is_by_number };
+}
+
+impl EffectiveAlphabet {
+    /// The characters of the type `S` under a permitted alphabet, if there is one and it has no mark of extensibility.
+    ///
+    /// Where `aligned` is true a code takes 1, 2, 4, 8 or 16 bits, or none (X.691 30.5.2). Memory is taken once, and only under a constraint
+    /// that counts.
+    pub fn new<S: StaticPermittedAlphabet>(
+        alloc: Global,
+        aligned: bool,
+        constraint: Option<Extensible<PermittedAlphabet>>,
+    ) -> Result<Self, AllocError>
+        ensures characters { IfOk result (λ a. SameCharacters a.runs (permitted S.kind (alphabet_of constraint.entry))) }
+        ensures width { IfOk result (λ a. a.code_bits ≡ character_bits aligned (permitted S.kind (alphabet_of constraint.entry))) }
+    {
+        let runs = permitted_runs::<S>(alloc, constraint)?;
+        let width = bits_of_codes(runs.as_slice(), aligned);
+        Ok(EffectiveAlphabet {
+            is_by_number: is_below(runs.as_slice(), width),
+            width,
+            runs,
+        })
+    }
+
+    /// The bits that a code takes, at most 64.
+    pub fn width(&self) -> u32
+        ensures bits { result ≡ self.now.code_bits }
+        ensures narrow { result ≤ 64 }
+    {
+        self.width
+    }
+
+    /// The code of a character, if it is one of them (X.691 30.5.4).
+    pub fn code(&self, character: u32) -> Option<u64>
+        ensures { result ≡ code_of self.now character }
+    {
+        let place = place_among(self.runs.as_slice(), character)?;
+        Some(if self.is_by_number {
+            u64::from(character)
+        } else {
+            place
+        })
+    }
+
+    /// The character that has this code, if there is one.
+    pub fn character(&self, code: u32) -> Option<u32>
+        ensures found { IfSome result (λ character. code_of self.now character ≡ Some code) }
+        ensures missing { result ≡ None → (character : ℕ) → code_of self.now character ≢ Some code }
+    {
+        let character = self.candidate(code)?;
+        if self.code(character) == Some(u64::from(code)) {
+            Some(character)
+        } else {
+            None
+        }
+    }
+
+    /// The only character that may have this code.
+    fn candidate(&self, code: u32) -> Option<u32>
+        ensures { (character : ℕ) → code_of self.now character ≡ Some code → result ≡ Some character }
+    {
+        if self.is_by_number {
+            Some(code)
+        } else {
+            character_at(self.runs.as_slice(), u64::from(code))
+        }
+    }
+}
+
+impl Runs {
+    /// The runs in order.
+    fn as_slice(&self) -> &[CharacterRun]
+        ensures { runs_of result.now ≡ held_runs self.now }
+    {
+        match self {
+            Runs::Own(runs) => runs,
+            Runs::Kept(runs) => runs,
+        }
+    }
+}
+
+/// The characters of the type `S` under a permitted alphabet.
+fn permitted_runs<S: StaticPermittedAlphabet>(
+    alloc: Global,
+    constraint: Option<Extensible<PermittedAlphabet>>,
+) -> Result<Runs, AllocError>
+    ensures characters { IfOk result (λ runs. SameCharacters (held_runs runs) (permitted S.kind (alphabet_of constraint.entry))) }
+    ensures few { IfOk result (λ runs. how_many (held_runs runs) < 2 ^ 64) }
+{
+    match constraint {
+        Some(
+            Extensible {
+                constraint: alphabet,
+                extensible: None,
+            },
+        ) => { Ok(Runs::Kept(kept_runs::<S>(alloc, alphabet.characters)?)) }
+        _ => Ok(Runs::Own(own_runs::<S>())),
+    }
+}
+
+/// The bits that hold a number, none for 0.
+fn bits_of(number: u64) -> u32
+    ensures width { result ≡ bit_width number }
+    ensures narrow { result ≤ 64 }
+{
+    64 - number.leading_zeros()
+}
+
+/// The next of 0, 1, 2, 4, 8 and 16.
+fn raised_bits(bits: u32) -> u32
+    ensures raised { result ≡ raised bits }
+    ensures narrow { bits ≤ 64 → result ≤ 64 }
+{
+    match bits {
+        0..=2 => bits,
+        3..=4 => 4,
+        5..=8 => 8,
+        _ => 16,
+    }
+}
+
+/// The bits of a code among so many characters (X.691 30.5.2).
+fn bits_of_codes(runs: &[CharacterRun], aligned: bool) -> u32
+    requires { how_many (runs_of runs.now) < 2 ^ 64 }
+    ensures width { result ≡ character_bits aligned (runs_of runs.now) }
+    ensures narrow { result ≤ 64 }
+{
+    let fewest = bits_of(count(runs).saturating_sub(1));
+    if aligned { raised_bits(fewest) } else { fewest }
+}
+
+/// Whether the largest of the characters is below 2 to the width.
+fn is_below(runs: &[CharacterRun], width: u32) -> bool
+    requires { width ≤ 64 }
+    ensures { result ≡ ltb (largest (runs_of runs.now)) (2 ^ width) }
+{
+    u128::from(last_character(runs)) < 1 << width
+}

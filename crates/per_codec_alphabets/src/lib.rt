@@ -1,0 +1,11 @@
+//! The characters that a constraint leaves of a type of strings, and their codes in the packed encoding rules (X.691 30.5).
+#![tactic(auto)]
+
+mod alphabet;
+mod runs;
+
+pub use alphabet::EffectiveAlphabet;
+pub use runs::is_of_octets;
+
+#[cfg(test)]
+mod tests;

@@ -1,0 +1,227 @@
+//! Runs of characters in the order of their places.
+ghost use Rattle.std.specs.Prelude.{◌≡◌, ◌<◌, ◌^◌, ◌+◌, ◌-◌, ◌++◌, ◌∷◌, [], IfOk, OnOk, Some, None, cond, nat_lt, filter, map};
+ghost use Rattle.asn1_model.specs.Strings.{characters_of, how_many, largest, place_of, is_among, is_in_run, is_of_octets as holds_octets, run};
+ghost use Rattle.per_codec_alphabets.specs.Codes.{run_of, runs_of, character_at as nth_character, SameCharacters};
+
+use asn1_values_alphabets::StaticPermittedAlphabet;
+use std::alloc::{AllocError, Global};
+
+/// The characters from one number to another.
+#[derive(Clone, Copy, Debug, PartialEq, Eq)]
+pub struct CharacterRun {
+    /// The first of them.
+    pub first: u32,
+    /// The last of them.
+    pub last: u32,
+}
+
+impl CharacterRun {
+    /// How many characters the run has.
+    fn count(self) -> u64
+        ensures { result ≡ self.last + 1 - self.first }
+    {
+        (u64::from(self.last) + 1).saturating_sub(u64::from(self.first))
+    }
+
+    /// The character at a place of the run, counted from 0.
+    fn character(self, place: u64) -> Option<u32>
+        ensures { result ≡ cond (nat_lt place (self.last + 1 - self.first)) (Some (self.first + place)) None }
+    {
+        if place < self.count() {
+            Some(self.first + place as u32)
+        } else {
+            None
+        }
+    }
+
+    /// Whether the character is one of the run.
+    fn contains(self, character: u32) -> bool
+        ensures { result ≡ is_in_run character (run_of self) }
+    {
+        self.first <= character && character <= self.last
+    }
+}
+
+const NUMERIC: [CharacterRun; 2] = [
+    CharacterRun {
+        first: 32,
+        last: 32,
+    },
+    CharacterRun {
+        first: 48,
+        last: 57,
+    },
+];
+
+const PRINTABLE: [CharacterRun; 7] = [
+    CharacterRun {
+        first: 32,
+        last: 32,
+    },
+    CharacterRun {
+        first: 39,
+        last: 41,
+    },
+    CharacterRun {
+        first: 43,
+        last: 58,
+    },
+    CharacterRun {
+        first: 61,
+        last: 61,
+    },
+    CharacterRun {
+        first: 63,
+        last: 63,
+    },
+    CharacterRun {
+        first: 65,
+        last: 90,
+    },
+    CharacterRun {
+        first: 97,
+        last: 122,
+    },
+];
+
+const VISIBLE: [CharacterRun; 1] = [CharacterRun {
+    first: 32,
+    last: 126,
+}];
+
+const IA5: [CharacterRun; 1] = [CharacterRun {
+    first: 0,
+    last: 127,
+}];
+
+const BMP: [CharacterRun; 1] = [CharacterRun {
+    first: 0,
+    last: 0xFFFF,
+}];
+
+const OCTETS: [CharacterRun; 1] = [CharacterRun {
+    first: 0,
+    last: 0xFF,
+}];
+
+/// The characters of a type of strings (X.680 41 and 43).
+pub fn own_runs<S: StaticPermittedAlphabet>() -> &'static [CharacterRun]
+    ensures { runs_of result.now ≡ characters_of S.kind }
+{
+    if S::contains_char(0x100) {
+        return &BMP;
+    }
+    if S::contains_char(0x80) {
+        return &OCTETS;
+    }
+    if S::contains_char(0) {
+        return &IA5;
+    }
+    if S::contains_char(126) {
+        return &VISIBLE;
+    }
+    if S::contains_char(65) {
+        return &PRINTABLE;
+    }
+    &NUMERIC
+}
+
+/// Whether the characters of a type of strings have no fixed width, so that a value holds octets (X.691 30).
+pub fn is_of_octets<S: StaticPermittedAlphabet>() -> bool
+    ensures { result ≡ holds_octets S.kind }
+{
+    S::contains_char(0x80) && !S::contains_char(0x100)
+}
+
+/// How many characters there are.
+pub fn count(runs: &[CharacterRun]) -> u64
+    requires { how_many (runs_of runs.now) < 2 ^ 64 }
+    ensures { result ≡ how_many (runs_of runs.now) }
+{
+    let mut count = 0;
+    for run in runs {
+        count += run.count();
+    }
+    count
+}
+
+/// The largest of the characters, in the order given the last one.
+pub fn last_character(runs: &[CharacterRun]) -> u32
+    ensures { result ≡ largest (runs_of runs.now) }
+{
+    match runs {
+        [] => 0,
+        [.., run] => run.last,
+    }
+}
+
+/// The place of a character, counted from 0.
+pub fn place_among(runs: &[CharacterRun], character: u32) -> Option<u64>
+    requires { how_many (runs_of runs.now) < 2 ^ 64 }
+    ensures { result ≡ place_of character (runs_of runs.now) }
+{
+    let mut before = 0;
+    for run in runs {
+        if run.contains(character) {
+            return Some(before + u64::from(character - run.first));
+        }
+        before += run.count();
+    }
+    None
+}
+
+/// The character at a place, counted from 0.
+pub fn character_at(runs: &[CharacterRun], place: u64) -> Option<u32>
+    ensures { result ≡ nth_character (runs_of runs.now) place }
+{
+    let mut left = place;
+    for run in runs {
+        if let Some(character) = run.character(left) {
+            return Some(character);
+        }
+        left -= run.count();
+    }
+    None
+}
+
+/// Adds a character behind the others, to the last run if it follows that.
+fn push_character(runs: &mut Vec<CharacterRun>, character: u32) -> Result<(), AllocError>
+    ensures { OnOk result (SameCharacters (runs_of runs.new.items) (runs_of runs.old.items ++ run character character ∷ [])) }
+{
+    let single = CharacterRun {
+        first: character,
+        last: character,
+    };
+    let Some(run) = runs.pop() else {
+        runs.push(single)?;
+        return Ok(());
+    };
+    if run.last.checked_add(1) == Some(character) && run.first <= character {
+        runs.push(CharacterRun {
+            first: run.first,
+            last: character,
+        })?;
+        return Ok(());
+    }
+    runs.push(run)?;
+    runs.push(single)?;
+    Ok(())
+}
+
+/// Those of the characters that a type of strings has, in the order given.
+pub fn kept_runs<S: StaticPermittedAlphabet>(
+    alloc: Global,
+    characters: &[u32],
+) -> Result<Vec<CharacterRun>, AllocError>
+    ensures few { IfOk result (λ runs. how_many (runs_of runs.items) < 2 ^ 64) }
+    ensures characters { IfOk result (λ runs. SameCharacters (runs_of runs.items) (map (λ c. run c c) (filter (is_among (characters_of S.kind)) characters.now))) }
+{
+    let count = characters.len();
+    let mut runs = Vec::with_capacity(alloc, count)?;
+    for character in characters {
+        if S::contains_char(*character) {
+            push_character(&mut runs, *character)?;
+        }
+    }
+    Ok(runs)
+}

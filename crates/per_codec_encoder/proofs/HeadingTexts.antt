@@ -1,0 +1,192 @@
+-- Numbers of members and headers of fragments, in the bits of an encoder.
+use Rattle.std.proofs.Common.{◌≡◌, ℕ, zero, suc, ◌+◌, ◌-◌, ◌*◌, ◌/◌, ◌%◌, ◌^◌, ◌<◌, ◌≤◌, ltb, leb, Bool, true, false, cond, ◌&&◌, List, [], ◌∷◌, ◌++◌, length, replicate, Option, Some, None, option_map, option_and_then, unwrap_or, Result, Ok, Err, IsErr, IsErrAnd, MatchResult, refl, ap, sym, subst, ◌∙◌, arith, append_assoc, length-append}
+use Rattle.std.proofs.lemmas.Bool.{leb-true, le-leb, ltb-true, ltb-false, lt-ltb, and_parts}
+use Rattle.std.proofs.lemmas.List.{append-nil}
+use Rattle.asn1_model.specs.Schema.{Counts}
+use Rattle.asn1_model.specs.Numbers.{binary, is_count_within}
+use Rattle.asn1_model.specs.Form.{exactly, only_if, written}
+use Rattle.asn1_model.specs.Per
+use Rattle.asn1_schema_faults.specs.declared.EncodeError.{EncodeError}
+use Rattle.asn1_schema_faults.specs.declared.EncodeError.TheVariants.{ValueConstraintNotSatisfied, SizeConstraintNotSatisfied, AlphabetConstraintNotSatisfied, TooLongValue, LengthExceedsPlatformSize, OutOfMemory, AlreadyFailed}
+use Rattle.per_codec_steps.specs.Texts.{Text, bit, as_text, moved, text_at}
+use Rattle.per_codec_steps.specs.Steps.{Scope, State, position, Heading, counted_on, before_all, next_header, general, sized_count, behind_bit, goes_on_in}
+use Rattle.per_codec_steps.proofs.Texts.{known}
+use Rattle.per_codec_writing.specs.Writing.{Adds, Refuses}
+use Rattle.per_codec_encoder.specs.declared.headings.Due.{Due}
+use Rattle.per_codec_encoder.specs.Headings.{headers_of, heading_of, Heads, NoHeading, GoesOn}
+
+-- ---- largest fragments first
+
+largest_of_few : (n : ℕ) → n < 16384 → Per.largest_first n ≡ []
+largest_of_few n h =
+    let a : n / 65536 ≡ 0 = omega arith in
+    let b : n / 16384 % 4 ≡ 0 = omega arith in
+    ap (λ k. replicate k 4 ++ Per.unless_zero (n / 16384 % 4)) a ∙ ap Per.unless_zero b
+
+largest_of_many : (n : ℕ) → 65536 ≤ n → Per.largest_first n ≡ 4 ∷ Per.largest_first (n - 4 * 16384)
+largest_of_many n h =
+    let a : n / 65536 ≡ suc ((n - 4 * 16384) / 65536) = omega arith in
+    let b : n / 16384 % 4 ≡ (n - 4 * 16384) / 16384 % 4 = omega arith in
+    ap (λ k. replicate k 4 ++ Per.unless_zero (n / 16384 % 4)) a ∙ ap (λ k. 4 ∷ (replicate ((n - 4 * 16384) / 65536) 4 ++ Per.unless_zero k)) b
+
+largest_of_some : (n m : ℕ) → n < 65536 → m ≡ n / 16384 → 1 ≤ m → Per.largest_first n ≡ m ∷ Per.largest_first (n - m * 16384)
+largest_of_some n m h e l =
+    let a : n / 65536 ≡ 0 = omega arith in
+    let b : n / 16384 % 4 ≡ suc (m - 1) = omega arith in
+    let c : suc (m - 1) ≡ m = omega arith in
+    let d : n - m * 16384 < 16384 = omega arith in
+    ap (λ k. replicate k 4 ++ Per.unless_zero (n / 16384 % 4)) a ∙ ap Per.unless_zero b ∙ ap (λ k. k ∷ []) c ∙ ap (λ l. m ∷ l) (sym (largest_of_few (n - m * 16384) d))
+
+-- the first of the fragments of so many members
+pub first_fragment : (n m : ℕ) → 16384 ≤ n → m ≤ 4 → m ≤ n / 16384 → (m < 4 → n / 16384 ≤ m) → (1 ≤ m) × (m ≤ 4) × (m * 16384 ≤ n) × (Per.largest_first n ≡ m ∷ Per.largest_first (n - m * 16384))
+first_fragment n m l a b c = go (ltb m 4) refl
+  where
+    go : (t : Bool) → ltb m 4 ≡ t → (1 ≤ m) × (m ≤ 4) × (m * 16384 ≤ n) × (Per.largest_first n ≡ m ∷ Per.largest_first (n - m * 16384))
+    go true t =
+        let k = c (ltb-true _ _ t) in
+        let few : n < 65536 = omega (arith, a, b, k, ltb-true _ _ t) in
+        let one : 1 ≤ m = omega (arith, l, k) in
+        (one, a, omega (arith, b), largest_of_some n m few (omega (arith, b, k)) one)
+    go false t =
+        let four : 4 ≡ m = omega (arith, a, ltb-false _ _ t) in
+        let many : 65536 ≤ n = omega (arith, b, four) in
+        (omega (arith, four), a, omega (arith, b), largest_of_many n many ∙ ap (λ j. j ∷ Per.largest_first (n - j * 16384)) four)
+
+-- ---- a text that is added
+
+text_added : (x : Per.BitForm) (old new : List Bool) → Adds (written x (length old)) old new → (w : List Bool) × (text_at x (Some (length old)) ≡ Some (as_text w)) × (new ≡ old ++ w)
+text_added x old new a = go (written x (length old)) refl a
+  where
+    go : (o : Option (List Bool)) → written x (length old) ≡ o → Adds o old new → (w : List Bool) × (text_at x (Some (length old)) ≡ Some (as_text w)) × (new ≡ old ++ w)
+    go None e a = cc
+    go (Some w) e a = let b : old ++ w ≡ new = cc a in (w, known x (length old) ∙ ap (option_map as_text) e, sym b)
+
+pub few_heads : (al : Bool) (n : ℕ) (d : Due) (old new : List Bool) → n < 16384 → d ≡ record { members = n; behind = None } → Adds (written (Per.short_length al n) (length old)) old new → Heads (general al n (Some (length old))) old d new
+few_heads al n d old new l e a =
+    let t = text_added (Per.short_length al n) old new a in
+    record {
+      bits = t.0;
+      is = ap (λ ms. next_header al ms n (Some (length old))) (largest_of_few n l) ∙ ap (option_map (λ w. before_all n w)) t.1 ∙ ap (λ x. Some (heading_of t.0 x)) (sym e);
+      added = t.2;
+    }
+
+pub fragment_heads : (al : Bool) (n m : ℕ) (d : Due) (old new : List Bool) → (1 ≤ m) × (m ≤ 4) × (m * 16384 ≤ n) × (Per.largest_first n ≡ m ∷ Per.largest_first (n - m * 16384)) → d ≡ record { members = m * 16384; behind = Some (n - m * 16384) } → Adds (written (Per.at_octet al (exactly (true ∷ true ∷ binary 6 m))) (length old)) old new → Heads (general al n (Some (length old))) old d new
+fragment_heads al n m d old new f e a =
+    let x : Per.BitForm = Per.at_octet al (exactly (true ∷ true ∷ binary 6 m)) in
+    let t = text_added x old new a in
+    let test : (leb 1 m && leb m 4 && leb (m * 16384) n) ≡ true = all_three (leb 1 m) (leb m 4) (leb (m * 16384) n) (le-leb 1 m f.0) (le-leb m 4 f.1) (le-leb (m * 16384) n f.2) in
+    let next : Text → Heading = λ w. record { text = w; due = m * 16384; headers = Some (Per.largest_first (n - m * 16384), n - m * 16384) } in
+    record {
+      bits = t.0;
+      is = ap (λ ms. next_header al ms n (Some (length old))) f.3 ∙ ap (λ b. option_map next (text_at (only_if b x) (Some (length old)))) test ∙ ap (option_map next) t.1 ∙ ap (λ y. Some (heading_of t.0 y)) (sym e);
+      added = t.2;
+    }
+  where
+    all_three : (a b c : Bool) → a ≡ true → b ≡ true → c ≡ true → (a && b && c) ≡ true
+    all_three true true true x y z = refl
+    all_three true true false x y z = cc
+    all_three true false c x y z = cc
+    all_three false b c x y z = cc
+
+-- ---- where members go on
+
+pub goes_behind : (al : Bool) (d next : Due) (n : ℕ) (old new : List Bool) → d.members ≡ 0 → d.behind ≡ Some n → Heads (general al n (Some (length old))) old next new → (next.members ≡ 0 → next.behind ≡ None) → GoesOn al d old next new
+goes_behind al d next n old new a b h r = record {
+  bits = h.bits;
+  added = h.added;
+  goes = λ os k more q. ap (λ m. goes_on_in al m (headers_of d.behind) os k more) a ∙ ap (λ x. goes_on_in al 0 (headers_of x) os k more) b ∙ go os k more (position (os, k)) q;
+  ready = r;
+}
+  where
+    go : (os : Text) (k : List Scope) (more : Bool) (q : Option ℕ) → q ≡ Some (length old) → option_and_then (λ (g : Heading). counted_on g.due g.headers (os ++ g.text) k more) (general al n q) ≡ counted_on next.members (headers_of next.behind) (os ++ as_text h.bits) k more
+    go os k more q e = ap (λ j. option_and_then (λ (g : Heading). counted_on g.due g.headers (os ++ g.text) k more) (general al n j)) e ∙ ap (option_and_then (λ (g : Heading). counted_on g.due g.headers (os ++ g.text) k more)) h.is
+
+pub stays_behind : (al : Bool) (d : Due) (old : List Bool) → (d.members ≡ 0 → d.behind ≡ None) → GoesOn al d old d old
+stays_behind al d old r = record {
+  bits = [];
+  added = sym (append-nil old);
+  goes = λ os k more q. go d.members d.behind r os k more ∙ ap (λ t. counted_on d.members (headers_of d.behind) t k more) (sym (append-nil os));
+  ready = r;
+}
+  where
+    go : (n : ℕ) (b : Option ℕ) → (n ≡ 0 → b ≡ None) → (os : Text) (k : List Scope) (more : Bool) → goes_on_in al n (headers_of b) os k more ≡ counted_on n (headers_of b) os k more
+    go (suc n) b h os k more = refl
+    go zero None h os k more = refl
+    go zero (Some x) h os k more = let e = h refl in cc
+
+-- ---- sizes
+
+pub within_parts : (low n : ℕ) (high : Option ℕ) (h : ℕ) → is_count_within (record { low = low; high = high }) n ≡ true → h ≡ unwrap_or high (2 ^ 64 - 1) → n < 2 ^ 64 → (low ≤ n) × (n ≤ h)
+within_parts low n None h e a b = let p = and_parts _ _ e in (leb-true low n p.0, omega (arith, a, b))
+within_parts low n (Some m) h e a b = let p = and_parts _ _ e in let q = leb-true n m p.1 in (leb-true low n p.0, omega (arith, a, q))
+
+narrow_count : (al : Bool) (c : Counts) (o : Option ℕ) (n h : ℕ) (q : Option ℕ) → h ≡ unwrap_or o (2 ^ 64 - 1) → h < 65536 → sized_count al c o n q ≡ option_map (λ w. before_all n w) (text_at (Per.constrained al (h - c.low) (n - c.low)) q)
+narrow_count al c None n h q a b = absurd (omega arith)
+narrow_count al c (Some m) n h q a b = ap (λ t. cond t (option_map (λ w. before_all n w) (text_at (Per.constrained al (m - c.low) (n - c.low)) q)) (general al n q)) (lt-ltb m 65536 (omega (arith, a, b))) ∙ ap (λ j. option_map (λ w. before_all n w) (text_at (Per.constrained al (j - c.low) (n - c.low)) q)) (sym a)
+
+pub wide_count : (al : Bool) (c : Counts) (o : Option ℕ) (n h : ℕ) (q : Option ℕ) → h ≡ unwrap_or o (2 ^ 64 - 1) → 65536 ≤ h → sized_count al c o n q ≡ general al n q
+wide_count al c None n h q a b = refl
+wide_count al c (Some m) n h q a b = go (ltb m 65536) refl
+  where
+    go : (t : Bool) → ltb m 65536 ≡ t → cond (ltb m 65536) (option_map (λ w. before_all n w) (text_at (Per.constrained al (m - c.low) (n - c.low)) q)) (general al n q) ≡ general al n q
+    go true e = let l = ltb-true m 65536 e in absurd (omega (arith, a, b, l))
+    go false e = ap (λ t. cond t (option_map (λ w. before_all n w) (text_at (Per.constrained al (m - c.low) (n - c.low)) q)) (general al n q)) e
+
+pub narrow_heads : (al : Bool) (c : Counts) (o : Option ℕ) (n h low : ℕ) (d : Due) (old new : List Bool) → h ≡ unwrap_or o (2 ^ 64 - 1) → h < 65536 → low ≡ c.low → d ≡ record { members = n; behind = None } → Adds (written (Per.constrained al (h - low) (n - low)) (length old)) old new → Heads (sized_count al c o n (Some (length old))) old d new
+narrow_heads al c o n h low d old new a b l e x =
+    let t = text_added (Per.constrained al (h - c.low) (n - c.low)) old new (subst (λ j. Adds (written (Per.constrained al (h - j) (n - j)) (length old)) old new) l x) in
+    record {
+      bits = t.0;
+      is = narrow_count al c o n h (Some (length old)) a b ∙ ap (option_map (λ w. before_all n w)) t.1 ∙ ap (λ y. Some (heading_of t.0 y)) (sym e);
+      added = t.2;
+    }
+
+-- ---- why there is none
+
+pub none_so : (o u : Option Heading) → (o ≡ None → u ≡ None) → (e : EncodeError) → NoHeading o e → NoHeading u e
+none_so o u f OutOfMemory h = tt
+none_so o u f ValueConstraintNotSatisfied h = f h
+none_so o u f SizeConstraintNotSatisfied h = f h
+none_so o u f AlphabetConstraintNotSatisfied h = f h
+none_so o u f TooLongValue h = f h
+none_so o u f LengthExceedsPlatformSize h = f h
+none_so o u f AlreadyFailed h = f h
+
+refused_so : (t : Option (List Bool)) (u : Option Heading) → (t ≡ None → u ≡ None) → (e : EncodeError) → Refuses t e → NoHeading u e
+refused_so t u f OutOfMemory h = tt
+refused_so t u f ValueConstraintNotSatisfied h = f h
+refused_so t u f SizeConstraintNotSatisfied h = f h
+refused_so t u f AlphabetConstraintNotSatisfied h = f h
+refused_so t u f TooLongValue h = f h
+refused_so t u f LengthExceedsPlatformSize h = f h
+refused_so t u f AlreadyFailed h = f h
+
+pub narrow_none : (al : Bool) (c : Counts) (o : Option ℕ) (n h low : ℕ) (old : List Bool) → h ≡ unwrap_or o (2 ^ 64 - 1) → h < 65536 → low ≡ c.low → (e : EncodeError) → Refuses (written (Per.constrained al (h - low) (n - low)) (length old)) e → NoHeading (sized_count al c o n (Some (length old))) e
+narrow_none al c o n h low old a b l e x = refused_so _ _ (λ q. narrow_count al c o n h (Some (length old)) a b ∙ ap (option_map (λ w. before_all n w)) (known (Per.constrained al (h - c.low) (n - c.low)) (length old) ∙ ap (option_map as_text) q)) e (subst (λ j. Refuses (written (Per.constrained al (h - j) (n - j)) (length old)) e) l x)
+
+-- an error that is handed on
+pub raised_on : {T E : Type 0} (P : T → Type 0) (Q : E → Type 0) (x : E) (r : Result T E) → IsErr r → IsErrAnd r (λ y. y ≡ x) → Q x → MatchResult r P Q
+raised_on P Q x (Ok v) a h q = cc
+raised_on P Q x (Err y) a h q = subst Q (sym h) q
+
+-- ---- behind the mark
+
+pub behind_mark : (b : Bool) (f : Option ℕ → Option Heading) (old mid new : List Bool) (d : Due) → mid ≡ old ++ b ∷ [] → Heads (f (Some (length mid))) mid d new → Heads (behind_bit b f (Some (length old))) old d new
+behind_mark b f old mid new d a h =
+    let n : length old + 1 ≡ length mid = omega (arith, ap length a, length-append old (b ∷ [])) in
+    let put : Heading → Heading = λ g. record { text = bit b ∷ g.text; due = g.due; headers = g.headers } in
+    record {
+      bits = b ∷ h.bits;
+      is = ap (λ k. option_map put (f (Some k))) n ∙ ap (option_map put) h.is;
+      added = h.added ∙ ap (λ l. l ++ h.bits) a ∙ append_assoc old (b ∷ []) h.bits;
+    }
+
+pub none_behind_mark : (b : Bool) (f : Option ℕ → Option Heading) (old mid : List Bool) → mid ≡ old ++ b ∷ [] → f (Some (length mid)) ≡ None → behind_bit b f (Some (length old)) ≡ None
+none_behind_mark b f old mid a h =
+    let n : length old + 1 ≡ length mid = omega (arith, ap length a, length-append old (b ∷ [])) in
+    let put : Heading → Heading = λ g. record { text = bit b ∷ g.text; due = g.due; headers = g.headers } in
+    ap (λ k. option_map put (f (Some k))) n ∙ ap (option_map put) h
+
+-- the same heading
+pub heads_same : (o u : Option Heading) (old new : List Bool) (d : Due) → u ≡ o → Heads o old d new → Heads u old d new
+heads_same o u old new d e h = record { bits = h.bits; is = e ∙ h.is; added = h.added }

@@ -1,0 +1,4 @@
+pub mod Scopes
+pub mod HeadingTexts
+pub mod Stepped
+pub mod Octets

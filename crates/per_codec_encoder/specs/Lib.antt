@@ -1,0 +1,4 @@
+pub mod Headings
+pub mod Holding
+pub mod Stepping
+pub mod Laws

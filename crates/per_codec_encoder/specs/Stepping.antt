@@ -1,0 +1,26 @@
+-- What an encoder holds, and how records change it.
+use Rattle.std.specs.Prelude.{◌≡◌, Bool, true, false, Some}
+use Rattle.asn1_schema_faults.specs.declared.CodecKind.{CodecKind}
+use Rattle.asn1_schema_faults.specs.declared.CodecKind.TheVariants.{Uper, Aper}
+use Rattle.asn1_schema_presented.specs.Records.{Record}
+use Rattle.per_codec_steps.specs.Steps.{State, run}
+use Rattle.per_codec_encoder.specs.declared.options.EncoderOptions.{EncoderOptions}
+
+-- Whether the aligned variant is written.
+abbrev pub is_aligned : EncoderOptions → Bool
+is_aligned o = o.aligned
+
+-- The rules of a variant.
+abbrev pub rules_of : Bool → CodecKind
+rules_of true = Aper
+rules_of false = Uper
+
+-- What an encoder holds: what a writer does, whether it writes the aligned variant, and whether an earlier call was refused.
+pub record Written : Type 0 where
+  pub state : State
+  pub aligned : Bool
+  pub failed : Bool
+
+-- A record is written: no call was refused, the variant stays, and the writer takes the step.
+abbrev pub Puts : Written → Record → Written → Type 0
+Puts a r b = (a.failed ≡ false) × (b.failed ≡ false) × (b.aligned ≡ a.aligned) × (run a.aligned r a.state ≡ Some b.state)

@@ -1,0 +1,333 @@
+//! The encoder.
+ghost use Rattle.std.specs.Prelude.{◌≡◌, OnOk, OnErr, IfOk, IfErr, MatchResult, [], Some, true, false};
+ghost use Rattle.per_codec_steps.specs.Texts.{as_text};
+ghost use Rattle.per_codec_steps.specs.Ties.{octets_of};
+ghost use Rattle.per_codec_encoder.specs.Stepping.{Puts, is_aligned};
+
+use crate::frames::{Frame, begin_components, begin_members, end_scope, put_further, put_mark};
+use crate::options::EncoderOptions;
+use asn1_schema_bounds::Bounded;
+use asn1_schema_constraints::Constraints;
+use asn1_schema_faults::{CodecKind, EncodeError};
+use asn1_schema_tags::{Identifier, Tag};
+use asn1_values_alphabets::StaticPermittedAlphabet;
+use asn1_values_bits::{BitBuffer, BitStr};
+use asn1_values_identifiers::Oid;
+use asn1_values_integer_types::IntegerType;
+use per_codec_writing_characters::push_characters;
+use per_codec_writing_numbers::{push_boolean, push_integer};
+use per_codec_writing_strings::{push_bit_string, push_identifier, push_octet_string, push_utf8};
+use std::alloc::Global;
+use std::marker::Model;
+use std::mem;
+
+/// Writes values in the canonical packed encoding rules (X.691), unaligned or aligned, into one buffer.
+#[derive(Drop)]
+pub struct Encoder {
+    output: BitBuffer,
+    frames: Vec<Frame>,
+    aligned: bool,
+    failed: bool,
+    alloc: Global,
+}
+
+impl Model for Encoder {
+    ghost use Rattle.std.specs.Prelude.{◌≡◌, false, reverse};
+    ghost use Rattle.per_codec_encoder.specs.Stepping.{Written};
+
+    ghost Value = { Written };
+
+    ghost use Rattle.per_codec_encoder.specs.Holding.{shown, Holds};
+
+    ghost view = { λ e. record { state = shown (reverse e.frames.items) e.output; aligned = e.aligned; failed = e.failed } };
+
+    ghost invariant = { λ e. e.failed ≡ false → Holds (reverse e.frames.items) e.output (shown (reverse e.frames.items) e.output) };
+}
+
+/// The octets of a message: its bits, filled up with zero bits to whole octets, and one zero octet in place of no bits (X.691 11.1).
+fn message(bits: BitBuffer) -> Result<Vec<u8>, EncodeError>
+    ensures { MatchResult result (λ octets. octets_of (as_text bits, []) ≡ Some octets.items) (λ e. e ≡ EncodeError.OutOfMemory) }
+{
+    if bits.is_empty() {
+        let mut octets = bits.into_vec();
+        octets.push(0)?;
+        return Ok(octets);
+    }
+    Ok(bits.into_vec())
+}
+
+impl Encoder {
+    /// An encoder that holds nothing. It takes no memory before it is handed something.
+    pub fn new(alloc: Global, options: EncoderOptions) -> Self
+        ensures { result ≡ record { state = ([], []); aligned = is_aligned options; failed = false } }
+    {
+        Encoder {
+            output: BitBuffer::new(alloc),
+            frames: Vec::new(alloc),
+            aligned: options.is_aligned(),
+            failed: false,
+            alloc,
+        }
+    }
+
+    /// An encoder that holds nothing, and writes into the room of these octets, which are cleared.
+    pub fn new_with_output(alloc: Global, options: EncoderOptions, output: Vec<u8>) -> Self
+        ensures { result ≡ record { state = ([], []); aligned = is_aligned options; failed = false } }
+    {
+        let mut octets = output;
+        octets.clear();
+        Encoder {
+            output: BitBuffer::from_vec(octets),
+            frames: Vec::new(alloc),
+            aligned: options.is_aligned(),
+            failed: false,
+            alloc,
+        }
+    }
+
+    /// Takes the octets of the message (X.691 11.1), at least one, and leaves nothing.
+    ///
+    /// # Errors
+    ///
+    /// `OutOfMemory`, where the one octet of a message of no bits has no room.
+    pub fn output(&mut self) -> Result<Vec<u8>, EncodeError>
+        ensures octets { IfOk result (λ octets. self.old.failed ≡ false → self.old.state.1 ≡ [] → octets_of self.old.state ≡ Some octets.items) }
+        ensures only { IfErr result (λ e. e ≡ EncodeError.OutOfMemory) }
+        ensures none { self.new ≡ record { state = ([], []); aligned = self.old.aligned; failed = self.old.failed } }
+    {
+        self.frames.clear();
+        let bits = mem::replace(&mut self.output, BitBuffer::new(self.alloc));
+        message(bits)
+    }
+
+    /// The octets of the message (X.691 11.1), at least one.
+    ///
+    /// # Errors
+    ///
+    /// Those of `output`.
+    pub fn output_into_vec(self) -> Result<Vec<u8>, EncodeError>
+        ensures octets { IfOk result (λ octets. self.failed ≡ false → self.state.1 ≡ [] → octets_of self.state ≡ Some octets.items) }
+        ensures only { IfErr result (λ e. e ≡ EncodeError.OutOfMemory) }
+    {
+        let mut encoder = self;
+        encoder.output()
+    }
+}
+
+impl asn1_schema_encode::Encoder for Encoder {
+    ghost use Rattle.per_codec_encoder.specs.Laws.{puts_one, puts_none, puts_same};
+    ghost use Rattle.per_codec_encoder.specs.Stepping.{rules_of};
+
+    ghost step = { Puts };
+
+    ghost has_failed = { λ e. e.failed ≡ true };
+
+    ghost rules = { λ e. rules_of e.aligned };
+
+    fn codec(&self) -> CodecKind {
+        if self.aligned {
+            CodecKind::Aper
+        } else {
+            CodecKind::Uper
+        }
+    }
+
+    fn encode_bool(
+        &mut self,
+        _tag: Tag,
+        value: bool,
+        _identifier: Identifier,
+    ) -> Result<(), EncodeError> {
+        if self.failed {
+            return Err(EncodeError::AlreadyFailed);
+        }
+        self.failed = true;
+        push_boolean(&mut self.output, self.aligned, value)?;
+        self.failed = false;
+        Ok(())
+    }
+
+    fn encode_null(&mut self, _tag: Tag, _identifier: Identifier) -> Result<(), EncodeError> {
+        if self.failed {
+            return Err(EncodeError::AlreadyFailed);
+        }
+        Ok(())
+    }
+
+    fn encode_integer<I: IntegerType>(
+        &mut self,
+        _tag: Tag,
+        constraints: Constraints,
+        value: &I,
+        _identifier: Identifier,
+    ) -> Result<(), EncodeError> {
+        if self.failed {
+            return Err(EncodeError::AlreadyFailed);
+        }
+        self.failed = true;
+        push_integer(&mut self.output, self.aligned, constraints, value)?;
+        self.failed = false;
+        Ok(())
+    }
+
+    fn encode_bit_string(
+        &mut self,
+        _tag: Tag,
+        constraints: Constraints,
+        held: Bounded<usize>,
+        value: BitStr,
+        _identifier: Identifier,
+    ) -> Result<(), EncodeError> {
+        if self.failed {
+            return Err(EncodeError::AlreadyFailed);
+        }
+        self.failed = true;
+        push_bit_string(&mut self.output, self.aligned, constraints, held, value)?;
+        self.failed = false;
+        Ok(())
+    }
+
+    fn encode_octet_string(
+        &mut self,
+        _tag: Tag,
+        constraints: Constraints,
+        held: Bounded<usize>,
+        value: &[u8],
+        _identifier: Identifier,
+    ) -> Result<(), EncodeError> {
+        if self.failed {
+            return Err(EncodeError::AlreadyFailed);
+        }
+        self.failed = true;
+        push_octet_string(&mut self.output, self.aligned, constraints, held, value)?;
+        self.failed = false;
+        Ok(())
+    }
+
+    fn encode_utf8_string(
+        &mut self,
+        _tag: Tag,
+        constraints: Constraints,
+        value: &str,
+        _identifier: Identifier,
+    ) -> Result<(), EncodeError> {
+        if self.failed {
+            return Err(EncodeError::AlreadyFailed);
+        }
+        self.failed = true;
+        push_utf8(&mut self.output, self.aligned, constraints, value)?;
+        self.failed = false;
+        Ok(())
+    }
+
+    fn encode_characters<S: StaticPermittedAlphabet>(
+        &mut self,
+        _tag: Tag,
+        constraints: Constraints,
+        value: &S,
+        _identifier: Identifier,
+    ) -> Result<(), EncodeError> {
+        if self.failed {
+            return Err(EncodeError::AlreadyFailed);
+        }
+        self.failed = true;
+        push_characters(
+            &mut self.output,
+            self.aligned,
+            self.alloc,
+            constraints,
+            value,
+        )?;
+        self.failed = false;
+        Ok(())
+    }
+
+    fn encode_object_identifier(
+        &mut self,
+        _tag: Tag,
+        value: Oid,
+        _identifier: Identifier,
+    ) -> Result<(), EncodeError> {
+        if self.failed {
+            return Err(EncodeError::AlreadyFailed);
+        }
+        self.failed = true;
+        push_identifier(&mut self.output, self.aligned, self.alloc, &value)?;
+        self.failed = false;
+        Ok(())
+    }
+
+    fn begin_list(
+        &mut self,
+        _tag: Tag,
+        constraints: Constraints,
+        held: Bounded<usize>,
+        count: usize,
+    ) -> Result<(), EncodeError> {
+        if self.failed {
+            return Err(EncodeError::AlreadyFailed);
+        }
+        self.failed = true;
+        begin_members(
+            &mut self.output,
+            &mut self.frames,
+            self.aligned,
+            constraints,
+            held,
+            count,
+        )?;
+        self.failed = false;
+        Ok(())
+    }
+
+    fn put_further(&mut self, more: bool) -> Result<(), EncodeError> {
+        if self.failed {
+            return Err(EncodeError::AlreadyFailed);
+        }
+        self.failed = true;
+        put_further(&mut self.output, &mut self.frames, self.aligned, more)?;
+        self.failed = false;
+        Ok(())
+    }
+
+    fn begin_sequence(
+        &mut self,
+        _tag: Tag,
+        extensible: bool,
+        optional: usize,
+    ) -> Result<(), EncodeError> {
+        if self.failed {
+            return Err(EncodeError::AlreadyFailed);
+        }
+        self.failed = true;
+        begin_components(&mut self.output, &mut self.frames, extensible, optional)?;
+        self.failed = false;
+        Ok(())
+    }
+
+    fn put_mark(&mut self, present: bool) -> Result<(), EncodeError> {
+        if self.failed {
+            return Err(EncodeError::AlreadyFailed);
+        }
+        self.failed = true;
+        put_mark(&mut self.output, &mut self.frames, present)?;
+        self.failed = false;
+        Ok(())
+    }
+
+    fn end(&mut self) -> Result<(), EncodeError> {
+        if self.failed {
+            return Err(EncodeError::AlreadyFailed);
+        }
+        self.failed = true;
+        end_scope(&mut self.frames)?;
+        self.failed = false;
+        Ok(())
+    }
+
+    ghost one_after = { puts_one };
+
+    ghost none_after = { puts_none };
+
+    ghost same_rules = { puts_same };
+}

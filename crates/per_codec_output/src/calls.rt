@@ -1,0 +1,96 @@
+//! A value is written.
+ghost use Rattle.std.specs.Prelude.{◌≡◌, [], length, OnOk, OnErr, IfOk, IfErr, MatchResult, ◌<◌, ◌≤◌, ◌^◌};
+ghost use Rattle.per_codec_encoder.specs.Stepping.{is_aligned};
+ghost use Rattle.per_codec_output.specs.Encoded.{IsEncoded, NotEncoded};
+
+use asn1_schema_constraints::Constraints;
+use asn1_schema_encode::Encode;
+use asn1_schema_faults::EncodeError;
+use per_codec_encoder::{Encoder, EncoderOptions};
+use std::alloc::Global;
+use std::mem;
+
+/// An encoding has fewer octets than this.
+const LENGTH_LIMIT: usize = 1 << 60;
+
+/// The octets, if they are not too many for an encoding.
+fn within_limit(octets: Vec<u8>) -> Result<Vec<u8>, EncodeError>
+    ensures { MatchResult result (λ kept. (kept.items ≡ octets.items) × (length octets.items < 2 ^ 60)) (λ e. (e ≡ EncodeError.TooLongValue) × (2 ^ 60 ≤ length octets.items)) }
+{
+    if octets.len() >= LENGTH_LIMIT {
+        return Err(EncodeError::TooLongValue);
+    }
+    Ok(octets)
+}
+
+/// The canonical encoding of a value (X.691), in the variant that the options name: at least one octet.
+///
+/// # Errors
+///
+/// Those of the value's type, `TooLongValue` for an encoding of 2 to 60 octets or more, and `OutOfMemory`.
+pub fn encode<T: Encode>(
+    alloc: Global,
+    options: EncoderOptions,
+    value: &T,
+) -> Result<Vec<u8>, EncodeError>
+    ensures ok { IfOk result (λ octets. IsEncoded (is_aligned options) T.schema (T.meaning value.now) octets.items) }
+    ensures only { IfErr result (NotEncoded (is_aligned options) T.schema (T.meaning value.now)) }
+{
+    encode_into(alloc, options, value, Vec::new(alloc))
+}
+
+/// The same in the room of these octets, which are cleared.
+fn encode_into<T: Encode>(
+    alloc: Global,
+    options: EncoderOptions,
+    value: &T,
+    room: Vec<u8>,
+) -> Result<Vec<u8>, EncodeError>
+    ensures ok { IfOk result (λ octets. IsEncoded (is_aligned options) T.schema (T.meaning value.now) octets.items) }
+    ensures only { IfErr result (NotEncoded (is_aligned options) T.schema (T.meaning value.now)) }
+{
+    let mut encoder = Encoder::new_with_output(alloc, options, room);
+    value.encode(&mut encoder)?;
+    let octets = encoder.output()?;
+    within_limit(octets)
+}
+
+/// The canonical encoding of a value (X.691) by its type under these constraints, which stand in place of its own.
+///
+/// # Errors
+///
+/// Those of `encode`.
+pub fn encode_with_constraints<T: Encode>(
+    alloc: Global,
+    options: EncoderOptions,
+    constraints: Constraints,
+    value: &T,
+) -> Result<Vec<u8>, EncodeError>
+    ensures ok { IfOk result (λ octets. IsEncoded (is_aligned options) (T.under constraints.entry) (T.meaning value.now) octets.items) }
+    ensures only { IfErr result (NotEncoded (is_aligned options) (T.under constraints.entry) (T.meaning value.now)) }
+{
+    let mut encoder = Encoder::new(alloc, options);
+    value.encode_with_constraints(&mut encoder, constraints)?;
+    let octets = encoder.output()?;
+    within_limit(octets)
+}
+
+/// Puts the canonical encoding of a value (X.691) in the place of what the buffer holds, whose room is used.
+///
+/// # Errors
+///
+/// Those of `encode`; the buffer is then empty.
+pub fn encode_buf<T: Encode>(
+    alloc: Global,
+    options: EncoderOptions,
+    value: &T,
+    buffer: &mut Vec<u8>,
+) -> Result<(), EncodeError>
+    ensures ok { OnOk result (IsEncoded (is_aligned options) T.schema (T.meaning value.now) buffer.new.items) }
+    ensures only { IfErr result (NotEncoded (is_aligned options) T.schema (T.meaning value.now)) }
+    ensures none { OnErr result (buffer.new.items ≡ []) }
+{
+    let room = mem::replace(buffer, Vec::new(alloc));
+    *buffer = encode_into(alloc, options, value, room)?;
+    Ok(())
+}

@@ -1,0 +1,4 @@
+pub mod CharacterTexts
+pub mod OctetTexts
+pub mod Refused
+pub mod StringTexts

@@ -1,0 +1,7 @@
+use Rattle.std.proofs.Common.{◌≡◌, ◌++◌, slice_range}
+use Rattle.per_codec_writing_units.specs.Units.{together}
+use Rattle.per_codec_writing_characters.specs.Characters.{texts_of}
+use Rattle.per_codec_writing_characters.proofs.units.CharacterUnitsUnits.push_range.Given as goal
+
+abbrev pub invariant-loop-place : goal.invariant-loop-place
+invariant-loop-place g l = l.output ≡ l.initial.output ++ together (slice_range (texts_of l.self.alphabet.now (g.S.StaticPermittedAlphabet.characters l.self.string.now)) l.from l.place)
