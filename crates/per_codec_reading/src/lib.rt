@@ -15,3 +15,6 @@ pub mod variant;
 pub use cursor::Cursor;
 pub use lengths::Length;
 pub use variant::Variant;
+
+#[cfg(test)]
+mod tests;
