@@ -1,0 +1,2 @@
+pub mod UnitFronts
+pub mod RunFronts
