@@ -1,6 +1,7 @@
 -- What stands in front of the bits that are still to be read, and why a reader refuses them.
-use Rattle.std.specs.Prelude.{◌≡◌, ℕ, ◌+◌, ◌++◌, Bool, true, false, List, length}
-use Rattle.asn1_model.specs.Per.{Freedom, BitForm}
+use Rattle.std.specs.Prelude.{◌≡◌, ◌+◌, ◌++◌, Bool, true, false, List, length}
+use Rattle.asn1_model.specs.Form.{placed}
+use Rattle.asn1_model.specs.Per.{Freedom, BitForm, filling, missing}
 use Rattle.asn1_model.specs.Rules.{lenient}
 use Rattle.asn1_schema_faults.specs.declared.DecodeError.{DecodeError}
 use Rattle.asn1_schema_faults.specs.declared.DecodeError.TheVariants.{OutOfMemory}
@@ -30,3 +31,7 @@ NoneStands {X} free f old = (x : X) (new : Place) → Front free (f x) old new �
 abbrev pub Misses : {X : Type 0} → (Freedom → Bool) → (X → BitForm) → Place → DecodeError → Type 0
 Misses free f old OutOfMemory = Unit {0}
 Misses free f old e = NoneStands free f old
+
+-- The bits that fill up to the next octet (X.691 11.1).
+abbrev pub to_octet : BitForm
+to_octet = placed (λ p. filling (missing p))

@@ -36,10 +36,7 @@ impl<'input> Cursor<'input> {
         ensures { result ≡ (0, octet_bits (take (2 ^ 60 - 1) input.entry.now)) }
     {
         let count = input.len().min(MOST_OCTETS);
-        Cursor {
-            position: 0,
-            unread: BitStr::from_slice(&input[..count]),
-        }
+        Cursor::from_bits(BitStr::from_slice(&input[..count]))
     }
 
     /// Before these bits, which are all of a message or of an open type.

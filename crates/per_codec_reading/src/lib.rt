@@ -6,6 +6,7 @@
 #![tactic(auto)]
 
 pub mod cursor;
+pub mod filling;
 pub mod variant;
 
 pub use cursor::Cursor;
