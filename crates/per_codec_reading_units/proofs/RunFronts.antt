@@ -10,8 +10,13 @@ use Rattle.asn1_laws_fronts.proofs.PerNumbers.{Alike, at_octet_alike, binary_ali
 use Rattle.per_codec_fronts.specs.Takes.{Place, Front}
 use Rattle.per_codec_fronts.proofs.Fronts.{split, join, if_in, if_out, varied_in, varied_out}
 use Rattle.per_codec_fronts.proofs.Next.{place_same}
-use Rattle.per_codec_reading_units.specs.Units.{Units, units_of, counted_units, Length, Short, Fragment, length_form, count_of, Piece, piece_form}
-use Rattle.per_codec_reading_units.proofs.UnitFronts.{Leads, exactly_in, exactly_out, Divided, Behind, last_in, last_out, more_in, more_out}
+use Rattle.per_codec_reading.specs.Fronts.{Leads}
+use Rattle.per_codec_reading.specs.Lengths.{length_form}
+use Rattle.per_codec_reading.specs.declared.lengths.Length.{Length}
+use Rattle.per_codec_reading.specs.declared.lengths.Length.TheVariants.{Short, Fragment}
+use Rattle.per_codec_reading.proofs.Fronts.{exactly_in, exactly_out}
+use Rattle.per_codec_reading_units.specs.Units.{Units, units_of, counted_units, count_of, Piece, piece_form}
+use Rattle.per_codec_reading_units.proofs.UnitFronts.{Divided, Behind, last_in, last_out, more_in, more_out}
 
 module _ (free : Per.Freedom → Bool) where
   -- ---- one front

@@ -9,10 +9,10 @@ use Rattle.asn1_model.specs.Per
 use Rattle.asn1_laws_fronts.proofs.PerNumbers.{length_of_map}
 use Rattle.per_codec_fronts.specs.Takes.{Place, Front}
 use Rattle.per_codec_fronts.proofs.Fronts.{split, join, if_in, if_out}
+use Rattle.per_codec_reading.specs.Fronts.{Leads}
+use Rattle.per_codec_reading.specs.Lengths.{length_form}
+use Rattle.per_codec_reading.specs.declared.lengths.Length.TheVariants.{Fragment}
 use Rattle.per_codec_reading_units.specs.Units.{pieces, units_of}
-
-abbrev pub Leads : List Bool → Place → Place → Type 0
-Leads w old new = (w ++ new.1 ≡ old.1) × (old.0 + length w ≡ new.0)
 
 -- ---- pieces
 
@@ -31,7 +31,7 @@ rest_long w n bs l = let m = suc-mul n w in let d = length-drop w bs in (omega a
 
 -- the pieces of two lists, one after the other
 units-append : (w k n : ℕ) (xs ys : List Bool) → length xs ≡ k * w → units_of w (k + n) (xs ++ ys) ≡ units_of w k xs ++ units_of w n ys
-units-append w zero n xs ys l = let e : xs ≡ [] = none_left w xs l in rw e refl
+units-append w zero n xs ys l = let e : xs ≡ [] = none_left w xs l in let z : zero + n ≡ n = omega arith in rw e (ap (λ k. units_of w k ys) z)
 units-append w (suc k) n xs ys l =
     let r = rest_long w k xs l in
     let a : take w (xs ++ ys) ≡ take w xs = take-append-le w xs ys r.0 in
@@ -48,14 +48,6 @@ further_units w k n xs ys l = ap (drop k) (units-append w k n xs ys l) ∙ drop_
 
 -- ---- fronts
 module _ (free : Per.Freedom → Bool) where
-  pub exactly_in : (bs : List Bool) (a b : Place) → Leads bs a b → Front free (exactly bs) a b
-  unfolding Reads
-  exactly_in bs a b l = record { text = bs; has_form = refl; in_front = l.0; moved = l.1 }
-
-  pub exactly_out : (bs : List Bool) (a b : Place) → Front free (exactly bs) a b → Leads bs a b
-  unfolding Reads
-  exactly_out bs a b f = (ap (λ t. t ++ b.1) f.has_form ∙ f.in_front, ap (λ t. a.0 + length t) f.has_form ∙ f.moved)
-
   joined_reads : (w n : ℕ) (bs : List Bool) (p : ℕ) → length bs ≡ n * w → Reads free (joined (units_of w n bs)) p bs
   unfolding Reads
   joined_reads w zero bs p l = sym (none_left w bs l)
@@ -78,9 +70,6 @@ module _ (free : Per.Freedom → Bool) where
       (ap (λ t. t ++ b.1) (sym e) ∙ f.in_front, ap (λ t. a.0 + length t) (sym e) ∙ f.moved)
 
   -- ---- fragments
-  abbrev pub header : Bool → ℕ → Per.BitForm
-  header al m = only_if (leb 1 m && leb m 4) (Per.at_octet al (exactly (true ∷ true ∷ binary 6 m)))
-
   -- units in fragments of so many times 16384 each, and the rest behind a short length
   pub record Divided (al : Bool) (w : ℕ) (ms : List ℕ) (n : ℕ) (bs : List Bool) (a b : Place) : Type 0 where
     pub size : length bs ≡ n * w
@@ -105,7 +94,7 @@ module _ (free : Per.Freedom → Bool) where
   abbrev more : Bool → ℕ → List ℕ → List Per.BitForm → Per.BitForm
   more al m ms us = both (Per.at_octet al (exactly (true ∷ true ∷ binary 6 m))) (both (joined (take (m * 16384) us)) (Per.fragments al ms (drop (m * 16384) us)))
 
-  pub more_in : (al : Bool) (w m n : ℕ) (ms : List ℕ) (xs ys : List Bool) (a mid next b : Place) → Front free (header al m) a mid → length xs ≡ m * 16384 * w → Leads xs mid next → Divided al w ms n ys next b → Divided al w (m ∷ ms) (m * 16384 + n) (xs ++ ys) a b
+  pub more_in : (al : Bool) (w m n : ℕ) (ms : List ℕ) (xs ys : List Bool) (a mid next b : Place) → Front free (length_form al (Fragment m)) a mid → length xs ≡ m * 16384 * w → Leads xs mid next → Divided al w ms n ys next b → Divided al w (m ∷ ms) (m * 16384 + n) (xs ++ ys) a b
   unfolding Per.fragments
   more_in al w m n ms xs ys a mid next b f l h d =
       let i = if_out free (leb 1 m && leb m 4) _ a mid f in
@@ -130,7 +119,7 @@ module _ (free : Per.Freedom → Bool) where
     pub count : n ≡ m * 16384 + rest
     pub bits : bs ≡ first ++ further
     pub size : length first ≡ m * 16384 * w
-    pub head : Front free (header al m) a mid
+    pub head : Front free (length_form al (Fragment m)) a mid
     pub leads : Leads first mid next
     pub behind : Divided al w ms rest further next b
 

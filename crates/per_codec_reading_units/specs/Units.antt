@@ -1,8 +1,10 @@
 -- Units of one width, as bits.
-use Rattle.std.specs.Prelude.{ℕ, zero, suc, ◌*◌, ◌==◌, leb, ◌&&◌, Bool, true, false, List, [], ◌∷◌, length, take, drop, map}
-use Rattle.asn1_model.specs.Numbers.{binary}
+use Rattle.std.specs.Prelude.{ℕ, zero, suc, ◌*◌, ◌==◌, Bool, List, [], ◌∷◌, length, take, drop, map}
 use Rattle.asn1_model.specs.Form.{exactly, both, only_if}
 use Rattle.asn1_model.specs.Per
+use Rattle.per_codec_reading.specs.Lengths.{length_form}
+use Rattle.per_codec_reading.specs.declared.lengths.Length.{Length}
+use Rattle.per_codec_reading.specs.declared.lengths.Length.TheVariants.{Short, Fragment}
 
 -- How many units there are, and the bits of all of them.
 abbrev pub Units : Type 0
@@ -20,14 +22,6 @@ units_of width n bs = map (λ u. exactly u) (pieces width n bs)
 -- Units of a width behind their number (X.691 11.9).
 abbrev pub counted_units : Bool → ℕ → Units → Per.BitForm
 counted_units al width us = only_if (length us.1 == us.0 * width) (Per.counted al (units_of width us.0 us.1))
-
-pub data Length : Type 0 where
-  Short : ℕ → Length
-  Fragment : ℕ → Length
-
-abbrev pub length_form : Bool → Length → Per.BitForm
-length_form al (Short n) = Per.short_length al n
-length_form al (Fragment m) = only_if (leb 1 m && leb m 4) (Per.at_octet al (exactly (true ∷ true ∷ binary 6 m)))
 
 -- How many units stand behind a length (X.691 11.9.3.8).
 abbrev pub count_of : Length → ℕ

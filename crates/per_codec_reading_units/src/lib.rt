@@ -1,2 +1,14 @@
-//! Units of one width behind their number, in one piece or in fragments, and strings of them, in the packed encoding rules (X.691).
+//! Readers of units of one width behind their number, and of strings of them, in the packed encoding rules (X.691).
+//!
+//! Each reader answers a value just where its form stands in front, and takes its bits; it refuses, but for want of memory, just where none
+//! does. Nothing is said of the cursor after a refusal. What stands in one piece is lent; fragments are joined.
 #![tactic(auto)]
+
+pub mod octets;
+pub mod runs;
+
+pub use octets::read_counted_octets;
+pub use runs::{Run, read_counted};
+
+#[cfg(test)]
+mod tests;

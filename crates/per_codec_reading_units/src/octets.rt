@@ -1,0 +1,75 @@
+//! Octets behind their number (X.691 11.9).
+ghost use Rattle.std.specs.Prelude.{◌≡◌, ◌<◌, ◌%◌, length, IfOk, IfErr, IsOkAnd};
+ghost use Rattle.std.specs.List.{AllByRecursion};
+ghost use Rattle.std.specs.Cow.{cow_slice_items, IsBorrowedSlice};
+ghost use Rattle.asn1_model.specs.Numbers.{octet_bits};
+ghost use Rattle.asn1_model.specs.Per as Per;
+ghost use Rattle.asn1_values_bits.specs.BitStr.{bits_of, offset_of};
+ghost use Rattle.per_codec_fronts.specs.Takes.{Front};
+ghost use Rattle.per_codec_reading.specs.Fronts.{freedoms, Misses};
+ghost use Rattle.per_codec_reading.specs.Fronts as fronts;
+ghost use Rattle.per_codec_reading_units.specs.Runs.{bits_in, IsLentAtOctet};
+
+use crate::runs::{RunBits, read_counted};
+use asn1_schema_faults::DecodeError;
+use asn1_values_bits::{BitBuffer, BitStr};
+use per_codec_reading::{Cursor, Variant};
+use std::alloc::{AllocError, Global};
+use std::borrow::CowSlice;
+
+/// The octets that bits of the input are. Where the bits begin at an octet of the input they are lent, and no memory is taken.
+fn lent_octets<'input>(
+    alloc: Global,
+    bits: BitStr<'input>,
+) -> Result<CowSlice<'input, u8>, AllocError>
+    requires { length (bits_of bits) % 8 ≡ 0 }
+    ensures octets { IfOk result (λ octets. octet_bits (cow_slice_items octets) ≡ bits_of bits.entry) }
+    ensures small { IfOk result (λ octets. AllByRecursion (λ octet. octet < 256) (cow_slice_items octets)) }
+    ensures lent { offset_of bits.entry ≡ 0 → IsOkAnd result IsBorrowedSlice }
+{
+    if let Some(octets) = bits.aligned_octets() {
+        return Ok(CowSlice::Borrowed(octets));
+    }
+    let mut copy = BitBuffer::new(alloc);
+    copy.extend_from_bitslice(bits)?;
+    Ok(CowSlice::Owned(copy.into_vec()))
+}
+
+/// The octets that the bits of units are. Where they stand in one piece of the input that begins at an octet they are lent, and no memory is
+/// taken.
+pub fn octets_of(
+    alloc: Global,
+    bits: RunBits<'_>,
+) -> Result<CowSlice<'_, u8>, AllocError>
+    requires { length (bits_in bits) % 8 ≡ 0 }
+    ensures octets { IfOk result (λ octets. octet_bits (cow_slice_items octets) ≡ bits_in bits.entry) }
+    ensures small { IfOk result (λ octets. AllByRecursion (λ octet. octet < 256) (cow_slice_items octets)) }
+    ensures lent { IsLentAtOctet bits.entry → IsOkAnd result IsBorrowedSlice }
+{
+    match bits {
+        RunBits::Lent(bits) => {
+            let octets = lent_octets(alloc, bits)?;
+            Ok(octets)
+        }
+        RunBits::Joined(bits) => Ok(CowSlice::Owned(bits.into_vec())),
+    }
+}
+
+/// Reads octets behind their number (X.691 11.9). Where up to 16383 of them stand in one piece that begins at an octet of the input they are
+/// lent, and no memory is taken.
+///
+/// # Errors
+///
+/// `Incomplete` if the bits end early, the errors of a length, and `OutOfMemory`.
+pub fn read_counted_octets<'input>(
+    alloc: Global,
+    cursor: &mut Cursor<'input>,
+    variant: Variant,
+) -> Result<CowSlice<'input, u8>, DecodeError>
+    ensures ok { IfOk result (λ octets. Front (freedoms variant) (Per.counted_octets (fronts.is_aligned variant) (cow_slice_items octets)) cursor.old cursor.new) }
+    ensures only { IfErr result (Misses (freedoms variant) (Per.counted_octets (fronts.is_aligned variant)) cursor.old) }
+{
+    let run = read_counted(alloc, cursor, variant, 8)?;
+    let octets = octets_of(alloc, run.bits)?;
+    Ok(octets)
+}

@@ -1,0 +1,1 @@
+//! Units that are read or refused, and why.
