@@ -1,5 +1,5 @@
 -- Parts of forms that stand in front.
-use Rattle.std.proofs.Common.{◌≡◌, inr, ℕ, ◌+◌, ◌<◌, ◌==◌, Bool, true, false, IsTrue, List, [], ◌∷◌, ◌++◌, length, refl, ap, sym, ◌∙◌, subst, append_assoc, length-append, arith}
+use Rattle.std.proofs.Common.{◌≡◌, inr, ℕ, ◌+◌, ◌<◌, ◌==◌, Bool, true, false, IsTrue, Result, Ok, Err, IfOk, IfErr, List, [], ◌∷◌, ◌++◌, length, refl, ap, sym, ◌∙◌, subst, append_assoc, length-append, arith}
 use Rattle.std.proofs.lemmas.Bool.{eq-eqb, eqb-true}
 use Rattle.asn1_model.specs.Form.{Reads, exactly, only_if, nothing_more}
 use Rattle.asn1_model.specs.Per
@@ -49,6 +49,15 @@ misses_also free f g a b e h m = h m
 pub none_misses : {X : Type 0} (free : Per.Freedom → Bool) (f : X → Per.BitForm) (a : Place) (e : DecodeError) → NoneStands free f a → Misses free f a e
 none_misses free f a OutOfMemory h = tt
 none_misses free f a e h = h
+
+-- ---- answers
+pub ok_also : {X : Type 0} {P Q : X → Type 0} (r : Result X DecodeError) → ((x : X) → P x → Q x) → IfOk r P → IfOk r Q
+ok_also (Ok x) h p = h x p
+ok_also (Err e) h p = tt
+
+pub err_also : {X : Type 0} {P Q : DecodeError → Type 0} (r : Result X DecodeError) → ((e : DecodeError) → P e → Q e) → IfErr r P → IfErr r Q
+err_also (Ok x) h p = tt
+err_also (Err e) h p = h e p
 
 -- Bits of one number are in front of one place alone.
 pub leads_same : (u w : List Bool) (a b c : Place) → length u ≡ length w → Leads u a b → Leads w a c → u ≡ w
@@ -113,6 +122,14 @@ module _ (free : Per.Freedom → Bool) where
       let q = split free to_octet x a b g in
       let e : mid ≡ q.0 = of_nothing free p.0 mid p.2 ∙ fillings_same a p.0 q.0 p.1 q.1 in
       subst (λ m. Front free x m b) (sym e) q.2
+
+  pub unfilled : (x : Per.BitForm) (a b : Place) → Front free (Per.at_octet false x) a b → Front free x a b
+  unfolding Per.at_octet
+  unfilled x a b f = f
+
+  pub unfilled_in : (x : Per.BitForm) (a b : Place) → Front free x a b → Front free (Per.at_octet false x) a b
+  unfolding Per.at_octet
+  unfilled_in x a b f = f
 
   pub aligned_filling : (a b : Place) → Front free to_octet a b → Front free (Per.at_octet true nothing_more) a b
   unfolding Per.at_octet

@@ -7,7 +7,9 @@
 
 pub mod cursor;
 pub mod filling;
+pub mod lengths;
 pub mod variant;
 
 pub use cursor::Cursor;
+pub use lengths::Length;
 pub use variant::Variant;
