@@ -1,2 +1,4 @@
 pub mod UnitFronts
 pub mod RunFronts
+pub mod Loops
+pub mod OctetFronts

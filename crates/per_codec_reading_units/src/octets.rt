@@ -1,9 +1,9 @@
 //! Octets behind their number (X.691 11.9).
-ghost use Rattle.std.specs.Prelude.{◌≡◌, ◌<◌, ◌%◌, length, IfOk, IfErr, IsOkAnd};
-ghost use Rattle.std.specs.List.{AllByRecursion};
+ghost use Rattle.std.specs.Prelude.{◌≡◌, ◌%◌, true, length, IfOk, IfErr, IsOkAnd};
 ghost use Rattle.std.specs.Cow.{cow_slice_items, IsBorrowedSlice};
 ghost use Rattle.asn1_model.specs.Numbers.{octet_bits};
 ghost use Rattle.asn1_model.specs.Per as Per;
+ghost use Rattle.asn1_model.specs.Strings.{each_is, is_octet};
 ghost use Rattle.asn1_values_bits.specs.BitStr.{bits_of, offset_of};
 ghost use Rattle.per_codec_fronts.specs.Takes.{Front};
 ghost use Rattle.per_codec_reading.specs.Fronts.{freedoms, Misses};
@@ -17,6 +17,15 @@ use per_codec_reading::{Cursor, Variant};
 use std::alloc::{AllocError, Global};
 use std::borrow::CowSlice;
 
+/// The octets, lent.
+fn borrowed(octets: &[u8]) -> CowSlice<'_, u8>
+    ensures octets { cow_slice_items result ≡ octets.now }
+    ensures small { each_is is_octet octets.now ≡ true }
+    ensures lent { IsBorrowedSlice result }
+{
+    CowSlice::Borrowed(octets)
+}
+
 /// The octets that bits of the input are. Where the bits begin at an octet of the input they are lent, and no memory is taken.
 fn lent_octets<'input>(
     alloc: Global,
@@ -24,11 +33,11 @@ fn lent_octets<'input>(
 ) -> Result<CowSlice<'input, u8>, AllocError>
     requires { length (bits_of bits) % 8 ≡ 0 }
     ensures octets { IfOk result (λ octets. octet_bits (cow_slice_items octets) ≡ bits_of bits.entry) }
-    ensures small { IfOk result (λ octets. AllByRecursion (λ octet. octet < 256) (cow_slice_items octets)) }
+    ensures small { IfOk result (λ octets. each_is is_octet (cow_slice_items octets) ≡ true) }
     ensures lent { offset_of bits.entry ≡ 0 → IsOkAnd result IsBorrowedSlice }
 {
     if let Some(octets) = bits.aligned_octets() {
-        return Ok(CowSlice::Borrowed(octets));
+        return Ok(borrowed(octets));
     }
     let mut copy = BitBuffer::new(alloc);
     copy.extend_from_bitslice(bits)?;
@@ -43,7 +52,7 @@ pub fn octets_of(
 ) -> Result<CowSlice<'_, u8>, AllocError>
     requires { length (bits_in bits) % 8 ≡ 0 }
     ensures octets { IfOk result (λ octets. octet_bits (cow_slice_items octets) ≡ bits_in bits.entry) }
-    ensures small { IfOk result (λ octets. AllByRecursion (λ octet. octet < 256) (cow_slice_items octets)) }
+    ensures small { IfOk result (λ octets. each_is is_octet (cow_slice_items octets) ≡ true) }
     ensures lent { IsLentAtOctet bits.entry → IsOkAnd result IsBorrowedSlice }
 {
     match bits {

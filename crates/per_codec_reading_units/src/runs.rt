@@ -45,7 +45,7 @@ struct Piece<'input> {
 /// How many units stand behind a length.
 fn unit_count(length: Length) -> usize
     requires { IsLength length }
-    ensures count { result ≡ count_of length.entry }
+    ensures count { result ≡ count_of length }
     ensures few { result ≤ 65536 }
 {
     match length {
