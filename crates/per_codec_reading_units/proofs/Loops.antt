@@ -1,5 +1,5 @@
 -- The units of fragments, as they are joined one fragment after another.
-use Rattle.std.proofs.Common.{◌≡◌, ◌⊎◌, inl, inr, ℕ, zero, suc, ◌+◌, ◌*◌, ◌<◌, ◌≤◌, Bool, true, false, IsTrue, List, [], ◌∷◌, ◌++◌, length, refl, ap, sym, ◌∙◌, subst, append_assoc, arith, length-append}
+use Rattle.std.proofs.Common.{◌≡◌, ◌⊎◌, inl, inr, ℕ, zero, suc, ◌+◌, ◌*◌, ◌<◌, ◌≤◌, leb, ◌&&◌, Bool, true, false, IsTrue, List, [], ◌∷◌, ◌++◌, length, refl, ap, sym, ◌∙◌, subst, append_assoc, arith, length-append}
 use Rattle.asn1_model.specs.Numbers.{binary}
 use Rattle.asn1_model.specs.Form.{Reads, exactly}
 use Rattle.asn1_model.specs.Per
@@ -37,7 +37,7 @@ module _ (free : Per.Freedom → Bool) where
   pub fragment_shortens : (al : Bool) (w m : ℕ) (xs : List Bool) (a b : Place) → Front free (piece_form al w (Fragment m, xs)) a b → length b.1 < length a.1
   fragment_shortens al w m xs a b f =
       let p = piece_out free al w (Fragment m) xs a b f in
-      let n : length p.1.1 < length a.1 = at_octet_shortens al true _ a p.1 (if_out free _ _ a p.1 p.2).1 in
+      let n : length p.1.1 < length a.1 = at_octet_shortens al true (true ∷ binary 6 m) a p.1 (if_out free (leb 1 m && leb m 4) (Per.at_octet al (exactly (true ∷ true ∷ binary 6 m))) a p.1 p.2).1 in
       let l = ap length p.3.0 in
       let k = length-append xs b.1 in
       omega arith

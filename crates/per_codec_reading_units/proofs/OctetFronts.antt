@@ -1,5 +1,5 @@
 -- Octets that stand in front behind their number, as units of eight bits.
-use Rattle.std.proofs.Common.{◌≡◌, ℕ, zero, suc, ◌+◌, ◌*◌, ◌/◌, ◌%◌, ◌==◌, Bool, true, false, List, [], ◌∷◌, ◌++◌, length, replicate, flat_map, refl, ap, sym, ◌∙◌, subst, arith, length-append, Fits, w8, get_or, append_nil}
+use Rattle.std.proofs.Common.{◌≡◌, ℕ, zero, suc, ◌+◌, ◌*◌, ◌/◌, ◌%◌, ◌==◌, Bool, true, false, List, [], ◌∷◌, ◌++◌, length, replicate, flat_map, refl, ap, sym, ◌∙◌, subst, arith, length-append, Fits, w8, get_or, append-nil}
 use Rattle.std.proofs.lemmas.Bool.{eqb-true, eq-eqb, and_from, lt-ltb}
 use Rattle.asn1_model.specs.Numbers.{binary, missing, octet_bits, packed}
 use Rattle.asn1_model.specs.Strings.{each_is, is_octet}
@@ -15,10 +15,10 @@ use Rattle.per_codec_reading_units.specs.Units.{Units, units_of, counted_units}
 -- ---- octets
 pub fits_octets : (os : List ℕ) → ((i : ℕ) → Fits w8 (get_or os i 0)) → each_is is_octet os ≡ true
 fits_octets [] h = refl
-fits_octets (o ∷ os) h = and_from _ _ (lt-ltb o 256 (h 0)) (fits_octets os (λ i. h (i + 1)))
+fits_octets (o ∷ os) h = and_from _ _ (lt-ltb o 256 (h zero).fits) (fits_octets os (λ i. h (suc i)))
 
 pub whole_filled : (bs : List Bool) → length bs % 8 ≡ 0 → filled_up bs ≡ bs
-whole_filled bs h = let m : missing (length bs) ≡ 0 = omega arith in ap (λ k. bs ++ replicate k false) m ∙ append_nil bs
+whole_filled bs h = let m : missing (length bs) ≡ 0 = omega arith in ap (λ k. bs ++ replicate k false) m ∙ append-nil bs
 
 pub packed_small : (bs : List Bool) → length bs % 8 ≡ 0 → each_is is_octet (packed (filled_up bs)) ≡ true
 packed_small bs h =

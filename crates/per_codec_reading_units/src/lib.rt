@@ -10,5 +10,3 @@ pub mod runs;
 pub use octets::read_counted_octets;
 pub use runs::{Run, read_counted};
 
-#[cfg(test)]
-mod tests;

@@ -10,7 +10,7 @@ ghost use Rattle.per_codec_reading.specs.Fronts.{freedoms, Misses};
 ghost use Rattle.per_codec_reading.specs.Fronts as fronts;
 ghost use Rattle.per_codec_reading_units.specs.Runs.{bits_in, IsLentAtOctet};
 
-use crate::runs::{RunBits, read_counted};
+use crate::runs::{Run, RunBits, read_counted};
 use asn1_schema_faults::DecodeError;
 use asn1_values_bits::{BitBuffer, BitStr};
 use per_codec_reading::{Cursor, Variant};
@@ -44,23 +44,31 @@ fn lent_octets<'input>(
     Ok(CowSlice::Owned(copy.into_vec()))
 }
 
-/// The octets that the bits of units are. Where they stand in one piece of the input that begins at an octet they are lent, and no memory is
-/// taken.
-pub fn octets_of(
-    alloc: Global,
-    bits: RunBits<'_>,
-) -> Result<CowSlice<'_, u8>, AllocError>
-    requires { length (bits_in bits) % 8 ≡ 0 }
-    ensures octets { IfOk result (λ octets. octet_bits (cow_slice_items octets) ≡ bits_in bits.entry) }
-    ensures small { IfOk result (λ octets. each_is is_octet (cow_slice_items octets) ≡ true) }
-    ensures lent { IsLentAtOctet bits.entry → IsOkAnd result IsBorrowedSlice }
+/// The octets that joined bits are.
+fn joined_octets(bits: BitBuffer) -> Vec<u8>
+    requires { length bits % 8 ≡ 0 }
+    ensures octets { octet_bits result.items ≡ bits }
+    ensures small { each_is is_octet result.items ≡ true }
 {
-    match bits {
-        RunBits::Lent(bits) => {
-            let octets = lent_octets(alloc, bits)?;
-            Ok(octets)
+    bits.into_vec()
+}
+
+impl<'input> Run<'input> {
+    /// The octets that the units are. Where their bits stand in one piece of the input that begins at an octet they are lent, and no memory
+    /// is taken.
+    pub fn into_octets(self, alloc: Global) -> Result<CowSlice<'input, u8>, AllocError>
+        requires { length (bits_in self.bits) % 8 ≡ 0 }
+        ensures octets { IfOk result (λ octets. octet_bits (cow_slice_items octets) ≡ bits_in self.entry.bits) }
+        ensures small { IfOk result (λ octets. each_is is_octet (cow_slice_items octets) ≡ true) }
+        ensures lent { IsLentAtOctet self.entry.bits → IsOkAnd result IsBorrowedSlice }
+    {
+        match self.bits {
+            RunBits::Lent(bits) => {
+                let octets = lent_octets(alloc, bits)?;
+                Ok(octets)
+            }
+            RunBits::Joined(bits) => Ok(CowSlice::Owned(joined_octets(bits))),
         }
-        RunBits::Joined(bits) => Ok(CowSlice::Owned(bits.into_vec())),
     }
 }
 
@@ -78,7 +86,7 @@ pub fn read_counted_octets<'input>(
     ensures ok { IfOk result (λ octets. Front (freedoms variant) (Per.counted_octets (fronts.is_aligned variant) (cow_slice_items octets)) cursor.old cursor.new) }
     ensures only { IfErr result (Misses (freedoms variant) (Per.counted_octets (fronts.is_aligned variant)) cursor.old) }
 {
-    let run = read_counted(alloc, cursor, variant, 8)?;
-    let octets = octets_of(alloc, run.bits)?;
+    let units = read_counted(alloc, cursor, variant, 8)?;
+    let octets = units.into_octets(alloc)?;
     Ok(octets)
 }

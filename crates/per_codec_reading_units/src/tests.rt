@@ -1,1 +1,0 @@
-//! Units that are read or refused, and why.
