@@ -6,7 +6,9 @@
 
 pub mod octets;
 pub mod runs;
+pub mod sizes;
 
 pub use octets::read_counted_octets;
-pub use runs::{Run, read_counted};
+pub use runs::{Run, RunBits, read_counted};
+pub use sizes::{Contents, read_sized};
 
