@@ -5,3 +5,4 @@ pub mod OctetFronts
 pub mod RunsOne
 pub mod SizedFronts
 pub mod ToldFronts
+pub mod StringFronts

@@ -26,11 +26,11 @@ packed_small bs h =
     let k : length (filled_up bs) ≡ 8 * (length bs / 8) = ap length e ∙ omega arith in
     packed_octets (length bs / 8) (filled_up bs) k
 
-length-octet_bits : (os : List ℕ) → length (octet_bits os) ≡ length os * 8
+pub length-octet_bits : (os : List ℕ) → length (octet_bits os) ≡ length os * 8
 length-octet_bits [] = refl
 length-octet_bits (o ∷ os) = let i = length-octet_bits os in length-append (binary 8 o) (octet_bits os) ∙ omega arith
 
-octet_pieces : (os : List ℕ) → units_of 8 (length os) (octet_bits os) ≡ Per.octet_units os
+pub octet_pieces : (os : List ℕ) → units_of 8 (length os) (octet_bits os) ≡ Per.octet_units os
 octet_pieces [] = refl
 octet_pieces (o ∷ os) = ap (λ us. exactly (binary 8 o) ∷ us) (octet_pieces os)
 

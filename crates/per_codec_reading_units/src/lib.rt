@@ -4,11 +4,17 @@
 //! does. Nothing is said of the cursor after a refusal. What stands in one piece is lent; fragments are joined.
 #![tactic(auto)]
 
+pub mod identifiers;
 pub mod octets;
 pub mod runs;
 pub mod sizes;
+pub mod strings;
+pub mod texts;
 
+pub use identifiers::read_object_identifier;
 pub use octets::read_counted_octets;
 pub use runs::{Run, RunBits, read_counted};
 pub use sizes::{Contents, read_sized};
+pub use strings::{read_bit_string, read_octet_string};
+pub use texts::read_utf8_string;
 
