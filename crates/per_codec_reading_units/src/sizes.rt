@@ -137,11 +137,7 @@ pub fn read_told_count(
 /// # Errors
 ///
 /// `Incomplete` if there are fewer bits.
-fn align_if(
-    cursor: &mut Cursor<'_>,
-    variant: Variant,
-    is_padded: bool,
-) -> Result<(), DecodeError>
+fn align_if(cursor: &mut Cursor<'_>, variant: Variant, is_padded: bool) -> Result<(), DecodeError>
     ensures ok { OnOk result (Front (freedoms variant) (Per.at_octet (fronts.is_aligned variant && is_padded) nothing_more) cursor.old cursor.new) }
     ensures only { IfErr result (Misses (freedoms variant) (Per.at_octet (fronts.is_aligned variant && is_padded)) cursor.old) }
 {
@@ -201,12 +197,7 @@ fn read_units<'input>(
 }
 
 /// Whether the program's type holds so many units, and they are in the root or marked as outside.
-fn is_admitted(
-    bounds: Bounded<usize>,
-    held: Bounded<usize>,
-    is_outside: bool,
-    count: usize,
-) -> bool
+fn is_admitted(bounds: Bounded<usize>, held: Bounded<usize>, is_outside: bool, count: usize) -> bool
     ensures { result ≡ sizes.admitted (counts_of held) (counts_of bounds) is_outside count }
 {
     held.contains(&count) && (is_outside || bounds.contains(&count))

@@ -38,7 +38,15 @@ pub fn read_octet_string<'input>(
     ensures ok { IfOk result (λ octets. Front (freedoms variant) (Per.form (fronts.is_aligned variant) (Asn1.octet_string (sizes_of constraints.entry.size) (counts_of held)) (Asn1Value.octet_list (cow_slice_items octets))) cursor.old cursor.new) }
     ensures only { IfErr result (Misses (freedoms variant) (Per.form (fronts.is_aligned variant) (Asn1.octet_string (sizes_of constraints.entry.size) (counts_of held))) cursor.old) }
 {
-    let units = read_sized(alloc, cursor, variant, constraints, held, 8, Contents::Strings)?;
+    let units = read_sized(
+        alloc,
+        cursor,
+        variant,
+        constraints,
+        held,
+        8,
+        Contents::Strings,
+    )?;
     let octets = units.into_octets(alloc)?;
     Ok(octets)
 }
@@ -71,7 +79,15 @@ pub fn read_bit_string(
     ensures ok { IfOk result (λ x. Front (freedoms variant) (Per.form (fronts.is_aligned variant) (Asn1.bit_string (sizes_of constraints.entry.size) (counts_of held)) (Asn1Value.bit_list x)) cursor.old cursor.new) }
     ensures only { IfErr result (Misses (freedoms variant) (Per.form (fronts.is_aligned variant) (Asn1.bit_string (sizes_of constraints.entry.size) (counts_of held))) cursor.old) }
 {
-    let units = read_sized(alloc, cursor, variant, constraints, held, 1, Contents::Strings)?;
+    let units = read_sized(
+        alloc,
+        cursor,
+        variant,
+        constraints,
+        held,
+        1,
+        Contents::Strings,
+    )?;
     let string = string_of(alloc, units.bits)?;
     Ok(string)
 }
