@@ -10,15 +10,16 @@ use Rattle.asn1_model.specs.Per
 use Rattle.asn1_model.proofs.Forms.{map_parts}
 use Rattle.asn1_laws_fronts.proofs.PerNumbers.{counted_octets_alike}
 use Rattle.asn1_laws_fronts.proofs.Additions as adding
-use Rattle.asn1_schema_presented.specs.Records.{Record, additions_begin}
+use Rattle.asn1_schema_presented.specs.Records.{additions_begin}
 use Rattle.asn1_schema_presented.specs.Presents.{root_records, added_records, optional_count, component_count}
 use Rattle.asn1_schema_presented.specs.Chains.{Chain}
 use Rattle.oer_codec_fronts.specs.Takes.{preamble_bits, first_bits, has_set}
-use Rattle.per_codec_fronts.specs.Takes.{Place, State, Scope, components, added, Front, Found, Begins, unknown_forms, Skips, Takes}
+use Rattle.per_codec_fronts.specs.Takes.{Place, State, Scope, components, added, Front, Found, Begins, unknown_forms, Skips}
+use Rattle.per_codec_fronts.proofs.Alike.{LikeParts}
 use Rattle.per_codec_fronts.proofs.Next.{flag_units}
-use Rattle.per_codec_fronts.proofs.Fronts.{Under, Step, nothing_front, of_nothing, split, join, varied_in, varied_out, given_in, given_out, if_in, if_out, let_through, from_state, from_scopes}
-use Rattle.per_codec_fronts.proofs.Parts.{EachBridges}
-use Rattle.per_codec_fronts.proofs.Sequences.{begun_in, begun_out, added_parts}
+use Rattle.per_codec_fronts.proofs.Fronts.{Step, nothing_front, of_nothing, split, join, varied_in, varied_out, given_in, given_out, if_in, if_out, let_through, from_state, from_scopes}
+use Rattle.per_codec_fronts.proofs.Parts.{EachFinds, EachShows}
+use Rattle.per_codec_fronts.proofs.Sequences.{Closed, begun_in, begun_out, added_in, added_out}
 
 abbrev Forms : Type 0
 Forms = List (Option Per.BitForm)
@@ -29,7 +30,7 @@ Octets = List (Option (List ℕ))
 abbrev flags : Forms → List Bool
 flags xs = map (λ a. is_present a) xs
 
-module _ (free : Per.Freedom → Bool) (al : Bool) (B : Type 0) where
+module _ (free : Per.Freedom → Bool) (al : Bool) where
   -- ---- bits of a bitmap
 
   any_set : (xs : Forms) → has_set (flags xs) ≡ is_any_present xs
@@ -243,20 +244,18 @@ module _ (free : Per.Freedom → Bool) (al : Bool) (B : Type 0) where
   counted_flags : (xs : Forms) (n : ℕ) (bs : List Bool) → flags xs ≡ first_bits n bs → length xs ≡ n
   counted_flags xs n bs e = sym (flags_long xs) ∙ ap length e ∙ first_long n bs
 
-  module _ (other : IsTrue (free Per.other_bitmap)) (adds : Components) (ha : EachBridges B al free adds) (qs : Parts) where
-    abbrev Slots : Option Forms
-    Slots = Per.addition_forms al adds qs
+  -- the form of a sequence with a mark, by its presence bits and its root
+  abbrev pub Marked : Components → Parts → List Bool → Per.BitForm → Per.BitForm
+  Marked adds qs ms y = given (Per.addition_forms al adds qs) (Per.sequence_form al true ms y)
 
-    abbrev Form : List Bool → Per.BitForm → Per.BitForm
-    Form ms y = given Slots (Per.sequence_form al true ms y)
-
-    marked_in : (ms : List Bool) (y : Per.BitForm) → (x : Option Bool) (more : List Bool) (start mid o2 : Place) (k : List Scope) (b : State) → is_present x ≡ true → Front free (exactly (preamble_bits x (ms ++ more))) start mid → Front free y mid o2 → Chain (Step free al) (additions_begin (component_count adds) ∷ added_records adds qs) (o2, components x more ∷ k) b → Front free (Form ms y) start b.0 × (b.1 ≡ k)
+  module _ (other : IsTrue (free Per.other_bitmap)) (adds : Components) (ha : EachFinds al free adds) (qs : Parts) where
+    marked_in : (ms : List Bool) (y : Per.BitForm) → (x : Option Bool) (more : List Bool) (start mid o2 : Place) (k : List Scope) (b : State) → is_present x ≡ true → Front free (exactly (preamble_bits x (ms ++ more))) start mid → Front free y mid o2 → Chain (Step free al) (additions_begin (component_count adds) ∷ added_records adds qs) (o2, components x more ∷ k) b → Front free (Marked adds qs ms y) start b.0 × (b.1 ≡ k)
     marked_in ms y None more start mid o2 k b e f g c = cc
     marked_in ms y (Some true) (z ∷ more) start mid o2 k b e f g c = absurd c.1
     marked_in ms y (Some false) (z ∷ more) start mid o2 k b e f g c = absurd c.1
     marked_in ms y (Some false) [] start mid o2 k b e f g c =
         let n : ℕ = component_count adds in
-        let r = (added_parts free al B adds ha qs [] k b (first_bits n []) o2).0 (from_state free al (added_records adds qs) c.0 b o2 (added (first_bits n []) [] ∷ k) c.1 c.2) in
+        let r = added_in free al adds ha qs [] k b (first_bits n []) o2 (from_state free al (added_records adds qs) c.0 b o2 (added (first_bits n []) [] ∷ k) c.1 c.2) in
         let none : is_any_present r.0 ≡ false = flags_none r.0 n r.3 in
         let p = none_flags r.0 none in
         let a1 : r.1 ≡ o2 = of_nothing free o2 r.1 (subst (λ l. Front free (joined l) o2 r.1) p.1 r.4) in
@@ -265,57 +264,56 @@ module _ (free : Per.Freedom → Bool) (al : Bool) (B : Type 0) where
         let a2 : b.0 ≡ r.1 = of_nothing free r.1 b.0 (subst (λ l. Front free (joined (present_ones (unknown_forms al l))) r.1 b.0) u skipped) in
         let f' : Front free (exactly (false ∷ ms)) start mid = subst (λ l. Front free (exactly (false ∷ l)) start mid) (append-nil ms) f in
         let g' : Front free y mid b.0 = subst (λ l. Front free y mid l) (sym (a2 ∙ a1)) g in
-        (given_in free Slots (Per.sequence_form al true ms y) r.0 r.2 start b.0 (without_in ms y other r.0 none start mid b.0 f' g'), r.6)
+        (given_in free (Per.addition_forms al adds qs) (Per.sequence_form al true ms y) r.0 r.2 start b.0 (without_in ms y other r.0 none start mid b.0 f' g'), r.6)
     marked_in ms y (Some true) [] start mid o2 k b e f g c =
         let n : ℕ = component_count adds in
         let bs : List Bool = c.1.0 in
         let m : State = c.0 in
-        let r = (added_parts free al B adds ha qs (drop n bs) k b (first_bits n bs) m.0).0 (from_scopes free al (added_records adds qs) m b (added (first_bits n bs) (drop n bs) ∷ k) c.1.3 c.2) in
+        let r = added_in free al adds ha qs (drop n bs) k b (first_bits n bs) m.0 (from_scopes free al (added_records adds qs) m b (added (first_bits n bs) (drop n bs) ∷ k) c.1.3 c.2) in
         let l : length r.0 ≡ n = counted_flags r.0 n bs r.3 in
         let e1 : flags r.0 ≡ first_bits (length r.0) bs = r.3 ∙ ap (λ i. first_bits i bs) (sym l) in
         let e2 : flags (unknown_forms al r.5.0) ≡ drop (length r.0) bs = r.5.1 ∙ ap (λ i. drop i bs) (sym l) in
         let f' : Front free (exactly (true ∷ ms)) start mid = subst (λ l. Front free (exactly (true ∷ l)) start mid) (append-nil ms) f in
-        (given_in free Slots (Per.sequence_form al true ms y) r.0 r.2 start b.0 (with_in ms y other r.0 r.5.0 bs e1 e2 c.1.1 start mid o2 m.0 r.1 b.0 f' g c.1.2 r.4 r.5.2), r.6)
+        (given_in free (Per.addition_forms al adds qs) (Per.sequence_form al true ms y) r.0 r.2 start b.0 (with_in ms y other r.0 r.5.0 bs e1 e2 c.1.1 start mid o2 m.0 r.1 b.0 f' g c.1.2 r.4 r.5.2), r.6)
 
-    -- what is held at the mark
+    pub extended_in : (cs : Components) → EachFinds al free cs → (ps : Parts) (a m b : State) → Begins free true (optional_count cs) a m → Chain (Step free al) (root_records cs ps (additions_begin (component_count adds) ∷ added_records adds qs)) m b → Found free (Marked adds qs (marks cs ps) (Per.component_forms al cs ps)) a b
+    extended_in cs h ps a m b t c =
+        let o = begun_in free al true cs h ps (additions_begin (component_count adds) ∷ added_records adds qs) a m b t c in
+        marked_in (marks cs ps) (Per.component_forms al cs ps) o.0 o.1 a.0 o.2 o.3 a.1 b o.4 o.5 o.6 o.7
+
+  module _ (other : IsTrue (free Per.other_bitmap)) (adds : Components) (ha : EachShows al free adds) (qs : Parts) where
+    -- what is held at the mark, with additions like these
     abbrev AtMark : List Bool → Per.BitForm → Place → List Scope → State → Type 0
-    AtMark ms y start k b = (x : Option Bool) × (mid : Place) × (o2 : Place) × (is_present x ≡ true) × Front free (exactly (preamble_bits x ms)) start mid × Front free y mid o2 × Chain (Step free al) (additions_begin (component_count adds) ∷ added_records adds qs) (o2, components x [] ∷ k) b
+    AtMark ms y start k b = (ss : Parts) × (x : Option Bool) × (mid : Place) × (o2 : Place) × LikeParts adds qs ss × (is_present x ≡ true) × Front free (exactly (preamble_bits x ms)) start mid × Front free y mid o2 × Chain (Step free al) (additions_begin (component_count adds) ∷ added_records adds ss) (o2, components x [] ∷ k) b
 
-    no_unknown : (us : List Bool) → us ≡ [] → (start : Place) → Skips al free us start start
-    no_unknown us e start = ([], sym e, nothing_front free start)
+    no_unknown : (start : Place) → Skips al free [] start start
+    no_unknown start = ([], refl, nothing_front free start)
 
-    at_mark : (ms : List Bool) (y : Per.BitForm) (xs : Forms) → Slots ≡ Some xs → (start : Place) (k : List Scope) (b : State) → B → b.1 ≡ k → Without ms y xs start b.0 ⊎ With ms y xs start b.0 → AtMark ms y start k b
-    at_mark ms y xs e start k b u scopes (inl w) =
+    at_mark : (ms : List Bool) (y : Per.BitForm) (xs : Forms) → Per.addition_forms al adds qs ≡ Some xs → (start : Place) (k : List Scope) (b : State) → b.1 ≡ k → Without ms y xs start b.0 ⊎ With ms y xs start b.0 → AtMark ms y start k b
+    at_mark ms y xs e start k b scopes (inl w) =
         let n : ℕ = component_count adds in
         let l : length xs ≡ n = additions_long adds qs xs e in
         let p = none_flags xs w.1 in
         let fl : flags xs ≡ first_bits n [] = p.0 ∙ ap (λ i. first_bits i []) l in
         let texts : Front free (joined (present_ones xs)) b.0 b.0 = subst (λ l. Front free (joined l) b.0 b.0) (sym p.1) (nothing_front free b.0) in
-        (Some false, w.0, b.0, refl, w.2, w.3, ((b.0, added (first_bits n []) [] ∷ k), refl, (added_parts free al B adds ha qs [] k b (first_bits n []) b.0).1 u (xs, b.0, e, fl, texts, no_unknown [] refl b.0, scopes)))
-    at_mark ms y xs e start k b u scopes (inr w) =
+        let r = added_out free al adds ha qs (first_bits n []) [] b.0 k b (xs, b.0, e, fl, texts, no_unknown b.0, scopes) in
+        (r.0, Some false, w.0, b.0, r.1, refl, w.2, w.3, ((b.0, added (first_bits n []) [] ∷ k), refl, r.2))
+    at_mark ms y xs e start k b scopes (inr w) =
         let n : ℕ = component_count adds in
         let bs : List Bool = w.1 in
         let l : length xs ≡ n = additions_long adds qs xs e in
         let e1 : flags xs ≡ first_bits n bs = w.6 ∙ ap (λ i. first_bits i bs) l in
         let e2 : flags (unknown_forms al w.0) ≡ drop n bs = w.7 ∙ ap (λ i. drop i bs) l in
-        (Some true, w.2, w.3, refl, w.9, w.10, ((w.4, added (first_bits n bs) (drop n bs) ∷ k), (bs, w.8, w.11, refl), (added_parts free al B adds ha qs (drop n bs) k b (first_bits n bs) w.4).1 u (xs, w.5, e, e1, w.12, (w.0, e2, w.13), scopes)))
+        let r = added_out free al adds ha qs (first_bits n bs) (drop n bs) w.4 k b (xs, w.5, e, e1, w.12, (w.0, e2, w.13), scopes) in
+        (r.0, Some true, w.2, w.3, r.1, refl, w.9, w.10, ((w.4, added (first_bits n bs) (drop n bs) ∷ k), (bs, w.8, w.11, refl), r.2))
 
-    marked_out : (ms : List Bool) (y : Per.BitForm) → (start : Place) (k : List Scope) (b : State) → B → Front free (Form ms y) start b.0 → b.1 ≡ k → AtMark ms y start k b
-    marked_out ms y start k b u f scopes =
-        let t = given_out free Slots (Per.sequence_form al true ms y) start b.0 f in
-        at_mark ms y t.0 t.1 start k b u scopes (read_out ms y other t.0 start b.0 t.2)
+    marked_out : (ms : List Bool) (y : Per.BitForm) → (start : Place) (k : List Scope) (b : State) → Front free (Marked adds qs ms y) start b.0 → b.1 ≡ k → AtMark ms y start k b
+    marked_out ms y start k b f scopes =
+        let t = given_out free (Per.addition_forms al adds qs) (Per.sequence_form al true ms y) start b.0 f in
+        at_mark ms y t.0 t.1 start k b scopes (read_out ms y other t.0 start b.0 t.2)
 
     -- ---- SEQUENCE and SET with a mark
-    pub extended : (r : Record) (cs : Components) → ((a m : State) → Takes al free a r m → Begins free true (optional_count cs) a m) → ((a m : State) → Begins free true (optional_count cs) a m → Takes al free a r m) → EachBridges B al free cs → (ps : Parts) (a b : State) → Under B (Chain (Step free al) (r ∷ root_records cs ps (additions_begin (component_count adds) ∷ added_records adds qs)) a b) (Found free (Form (marks cs ps) (Per.component_forms al cs ps)) a b)
-    extended r cs into out h ps a b = (forth, back)
-      where
-        forth : Chain (Step free al) (r ∷ root_records cs ps (additions_begin (component_count adds) ∷ added_records adds qs)) a b → Found free (Form (marks cs ps) (Per.component_forms al cs ps)) a b
-        forth c =
-            let o = begun_in free al B true cs h ps (additions_begin (component_count adds) ∷ added_records adds qs) a c.0 b (into a c.0 c.1) c.2 in
-            marked_in (marks cs ps) (Per.component_forms al cs ps) o.0 o.1 a.0 o.2 o.3 a.1 b o.4 o.5 o.6 o.7
-
-        back : B → Found free (Form (marks cs ps) (Per.component_forms al cs ps)) a b → Chain (Step free al) (r ∷ root_records cs ps (additions_begin (component_count adds) ∷ added_records adds qs)) a b
-        back u f =
-            let t = marked_out (marks cs ps) (Per.component_forms al cs ps) a.0 a.1 b u f.0 f.1 in
-            let q = begun_out free al B true cs h u ps (additions_begin (component_count adds) ∷ added_records adds qs) a b t.0 t.1 t.2 t.3 t.4 t.5 t.6 in
-            (q.0, out a q.0 q.1, q.2)
+    pub extended_out : (cs : Components) → EachShows al free cs → (ps : Parts) (a b : State) → Found free (Marked adds qs (marks cs ps) (Per.component_forms al cs ps)) a b → (ss : Parts) × LikeParts adds qs ss × Closed free al true cs ps (additions_begin (component_count adds) ∷ added_records adds ss) a b
+    extended_out cs h ps a b f =
+        let t = marked_out (marks cs ps) (Per.component_forms al cs ps) a.0 a.1 b f.0 f.1 in
+        (t.0, t.4, begun_out free al true cs h ps (additions_begin (component_count adds) ∷ added_records adds t.0) a b t.1 t.2 t.3 t.5 t.6 t.7 t.8)

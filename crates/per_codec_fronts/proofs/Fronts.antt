@@ -1,24 +1,30 @@
 -- Fronts of forms put together, and what is noted behind a component.
-use Rattle.std.proofs.Common.{◌≡◌, ◌⊎◌, inl, inr, ℕ, ◌+◌, Bool, true, false, cond, IsTrue, List, [], ◌∷◌, ◌++◌, length, Option, Some, None, refl, ap, sym, ◌∙◌, subst, append_assoc, length-append, arith}
+use Rattle.std.proofs.Common.{◌≡◌, ◌⊎◌, inl, inr, ◌↔◌, ℕ, ◌+◌, Bool, true, false, cond, IsTrue, List, [], ◌∷◌, ◌++◌, length, Option, Some, None, refl, ap, sym, ◌∙◌, subst, append_assoc, length-append, arith}
 use Rattle.asn1_model.specs.Value.{Value}
-use Rattle.asn1_model.specs.Schema.{Schema}
+use Rattle.asn1_model.specs.Schema.{Presence, Schema}
+use Rattle.asn1_model.specs.Normal.{is_at_default, is_group_left_out}
 use Rattle.asn1_model.specs.Form.{exactly, refused, both, varied, Reads, only_if, given}
 use Rattle.asn1_model.specs.Per
 use Rattle.asn1_schema_presented.specs.Records.{Record, mismatch}
 use Rattle.asn1_schema_presented.specs.Presents.{presents}
 use Rattle.asn1_schema_presented.specs.Chains.{Chain}
 use Rattle.asn1_schema_presented.proofs.Chains.{chain_split, chain_append}
-use Rattle.oer_codec_fronts.proofs.Fronts.{noted_by}
 use Rattle.per_codec_fronts.specs.Takes.{Place, State, Scope, Front, Found, Takes}
+use Rattle.per_codec_fronts.specs.Ties.{Bridges}
+use Rattle.per_codec_fronts.proofs.Alike.{Like, like_itself, noted_by, noted_same}
 use Rattle.per_codec_fronts.proofs.Next.{place_same, state_same}
 
--- the one if and, given B, only if the other
-abbrev pub Under : Type 0 → Type 0 → Type 0 → Type 0
-Under B X Y = (X → Y) × (B → Y → X)
+-- the records of a value are found where the bits have its form
+abbrev pub Finds : Bool → (Per.Freedom → Bool) → Schema → Type 0
+Finds al free s = (v : Value) (a b : State) → Chain (Takes al free) (presents s v) a b → Found free (Per.form al s v) a b
 
--- the records of a value are next where the bits in front have its form, and given B nowhere else
-abbrev pub Bridged : Type 0 → Bool → (Per.Freedom → Bool) → Schema → Value → Type 0
-Bridged B al free s v = (a b : State) → Under B (Chain (Takes al free) (presents s v) a b) (Found free (Per.form al s v) a b)
+-- and bits of its form show the records of one that is like it
+abbrev pub Shows : Bool → (Per.Freedom → Bool) → Schema → Type 0
+Shows al free s = (v : Value) (a b : State) → Found free (Per.form al s v) a b → (w : Value) × Like s v w × Chain (Takes al free) (presents s w) a b
+
+-- where both go by the very value
+pub by_itself : (al : Bool) (free : Per.Freedom → Bool) (s : Schema) → ((v : Value) → Bridges al free s v) → Finds al free s × Shows al free s
+by_itself al free s h = (λ v a b c. (h v a b).0 c, λ v a b f. (v, like_itself s v, (h v a b).1 f))
 
 -- the form that goes with what is noted behind a component
 abbrev pub spelled_by : Bool → Bool → Per.BitForm → Per.BitForm
@@ -101,11 +107,11 @@ module _ (free : Per.Freedom → Bool) where
     Step a r b = Takes al free a r b
 
     -- ---- records
-    pub single : (B : Type 0) (x : Per.BitForm) (r : Record) → ((a b : State) → Takes al free a r b → Found free x a b) → ((a b : State) → Found free x a b → Takes al free a r b) → (a b : State) → Under B (Chain Step (r ∷ []) a b) (Found free x a b)
-    single B x r f g a b = (λ c. f a b (subst (λ m. Takes al free a r m) (sym c.2) c.1), λ u t. (b, g a b t, refl))
+    pub single : (x : Per.BitForm) (r : Record) → ((a b : State) → Takes al free a r b → Found free x a b) → ((a b : State) → Found free x a b → Takes al free a r b) → (a b : State) → Chain Step (r ∷ []) a b ↔ Found free x a b
+    single x r f g a b = (λ c. f a b (subst (λ m. Takes al free a r m) (sym c.2) c.1), λ t. (b, g a b t, refl))
 
-    pub none : (B : Type 0) (a b : State) → Under B (Chain Step (mismatch ∷ []) a b) (Found free refused a b)
-    none B a b = (λ c. absurd c.1, λ u t. absurd (of_refused a.0 b.0 t.0))
+    pub none : (a b : State) → Chain Step (mismatch ∷ []) a b ↔ Found free refused a b
+    none a b = (λ c. absurd c.1, λ t. absurd (of_refused a.0 b.0 t.0))
 
     -- the same from a state that is known by its parts
     pub from_state : (rs : List Record) (a b : State) (p : Place) (k : List Scope) → a ≡ (p, k) → Chain Step rs a b → Chain Step rs (p, k) b
@@ -134,12 +140,14 @@ module _ (free : Per.Freedom → Bool) where
     noted_out false false x a b f = (f, refl)
 
     -- a component that is there, and what is noted behind it
-    pub there_in : (B : Type 0) (s : Schema) (v : Value) → Bridged B al free s v → (d g : Bool) (a b : State) → Chain Step (presents s v ++ noted_by d g) a b → Found free (spelled_by d g (Per.form al s v)) a b
-    there_in B s v h d g a b c =
+    pub there_in : (s : Schema) (v : Value) → Finds al free s → (d g : Bool) (a b : State) → Chain Step (presents s v ++ noted_by d g) a b → Found free (spelled_by d g (Per.form al s v)) a b
+    there_in s v h d g a b c =
         let q = chain_split Step (presents s v) (noted_by d g) a b c in
-        noted_in d g (Per.form al s v) a q.0 b ((h a q.0).0 q.1) q.2
+        noted_in d g (Per.form al s v) a q.0 b (h v a q.0 q.1) q.2
 
-    pub there_out : (B : Type 0) (s : Schema) (v : Value) → Bridged B al free s v → B → (d g : Bool) (a b : State) → Found free (spelled_by d g (Per.form al s v)) a b → Chain Step (presents s v ++ noted_by d g) a b
-    there_out B s v h u d g a b f =
-        let q = noted_out d g (Per.form al s v) a b f in
-        chain_append Step (presents s v) (noted_by d g) a b b ((h a b).1 u q.0) q.1
+    pub there_out : (s : Schema) → Shows al free s → (o : Presence) (v : Value) (a b : State) → Found free (spelled_by (is_at_default o s v) (is_group_left_out s v) (Per.form al s v)) a b → (w : Value) × Like s v w × Chain Step (presents s w ++ noted_by (is_at_default o s w) (is_group_left_out s w)) a b
+    there_out s h o v a b f =
+        let q = noted_out (is_at_default o s v) (is_group_left_out s v) (Per.form al s v) a b f in
+        let r = h v a b q.0 in
+        let c : Chain Step (noted_by (is_at_default o s r.0) (is_group_left_out s r.0)) b b = subst (λ l. Chain Step l b b) (noted_same o s v r.0 r.1.0) q.1 in
+        (r.0, r.1, chain_append Step (presents s r.0) (noted_by (is_at_default o s r.0) (is_group_left_out s r.0)) a b b r.2 c)

@@ -1,4 +1,5 @@
 pub mod Next
+pub mod Alike
 pub mod Fronts
 pub mod Lists
 pub mod Parts

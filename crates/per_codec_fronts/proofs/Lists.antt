@@ -1,19 +1,20 @@
--- Lists, as a reader finds them: members behind their number, or in fragments, each behind its header.
-use Rattle.std.proofs.Common.{◌≡◌, ◌⊎◌, inl, inr, ◌≤◌, ℕ, zero, suc, ◌+◌, ◌-◌, ◌*◌, not, ltb, leb, ◌&&◌, Bool, true, false, cond, IsTrue, List, [], ◌∷◌, ◌++◌, length, take, drop, Option, Some, None, refl, ap, sym, ◌∙◌, subst, append_assoc, arith}
+-- Lists and bags, as a reader finds them: members behind their number, or in fragments, each behind its header.
+use Rattle.std.proofs.Common.{◌≡◌, ◌⊎◌, inl, inr, ◌≤◌, ℕ, zero, suc, ◌+◌, ◌-◌, ◌*◌, not, ltb, leb, ◌&&◌, Bool, true, false, cond, IsTrue, List, [], ◌∷◌, ◌++◌, length, take, drop, replicate, Option, Some, None, refl, ap, sym, ◌∙◌, subst, append_assoc, arith}
 use Rattle.std.proofs.lemmas.List.{append-nil}
 use Rattle.std.proofs.lemmas.Bool.{and_parts, and_from, leb-true, le-leb}
-use Rattle.asn1_model.specs.Value.{Value, members as in_list, bag, Values, no_more, member, each}
+use Rattle.asn1_model.specs.Value.{Value, members as in_list, bag, Values, no_more, member, each, values_of, same}
 use Rattle.asn1_model.specs.Schema.{Counts, Size, Schema, sequence_of, set_of}
 use Rattle.asn1_model.specs.Numbers.{binary, is_count_within}
-use Rattle.asn1_model.specs.Form.{exactly, both, only_if, joined, given, written, arranged, ascending, in_order, stands_before}
+use Rattle.asn1_model.specs.Form.{exactly, both, only_if, joined, given, written, arranged, stands_before}
 use Rattle.asn1_model.specs.Per
-use Rattle.asn1_schema_presented.specs.Records.{Record, list_begins, bag_begins, further, ends}
+use Rattle.asn1_schema_presented.specs.Records.{Record, further, ends}
 use Rattle.asn1_schema_presented.specs.Presents.{presents, member_records, member_count}
 use Rattle.asn1_schema_presented.specs.Chains.{Chain}
 use Rattle.asn1_schema_presented.proofs.Chains.{chain_split, chain_append}
 use Rattle.per_codec_fronts.specs.Takes.{Place, Tally, State, Scope, members, Front, Found, InPlace, Admits, in_all, with_fragment, Header, Headed, ByHighest, Counted, SizeMark, ListBegins, MemberDue}
+use Rattle.per_codec_fronts.proofs.Alike.{LikeMembers, no_members, like_members, list_same, in_place, bag_like, Arranged, Ordered, reordered}
 use Rattle.per_codec_fronts.proofs.Next.{state_same}
-use Rattle.per_codec_fronts.proofs.Fronts.{Under, Bridged, Step, nothing_front, of_nothing, split, join, varied_in, varied_out, given_in, if_in, if_out, none, from_state, from_scopes}
+use Rattle.per_codec_fronts.proofs.Fronts.{Finds, Shows, Step, nothing_front, of_nothing, of_refused, split, join, varied_in, varied_out, given_in, given_out, if_in, if_out, none, from_state, from_scopes}
 
 -- ---- counts
 in_all_grown : (ms : List ℕ) (m n : ℕ) → in_all (ms ++ m ∷ []) n ≡ in_all ms (m * 16384 + n)
@@ -34,7 +35,7 @@ abbrev Ready : ℕ → Option Tally → Type 0
 Ready zero (Some t) = ⊥
 Ready n hs = Unit {0}
 
-module _ (free : Per.Freedom → Bool) (al : Bool) (B : Type 0) where
+module _ (free : Per.Freedom → Bool) (al : Bool) where
   -- ---- what is due of a list
   abbrev Settled : Tally → List ℕ → ℕ → Type 0
   Settled t ms n = Admits free t.size t.held t.outside (in_all t.sizes n) × ((t.sizes ++ ms ≡ Per.largest_first (in_all t.sizes n)) ⊎ IsTrue (free Per.other_fragments))
@@ -139,7 +140,7 @@ module _ (free : Per.Freedom → Bool) (al : Bool) (B : Type 0) where
       (p.0, p.1, (r.0, omega arith, r.2, join free _ _ p.0 q.0 b p.2 q.2))
 
   -- ---- members
-  module _ (s : Schema) (each_is : (v : Value) → Bridged B al free s v) where
+  module _ (s : Schema) where
     abbrev forms : Values → List Per.BitForm
     forms vs = each (λ v. Per.form al s v) vs
 
@@ -155,72 +156,98 @@ module _ (free : Per.Freedom → Bool) (al : Bool) (B : Type 0) where
     tail no_more = ends ∷ []
     tail (member v vs) = presents s v ++ calls vs
 
-    abbrev Goes : List Record → Values → ℕ → Option Tally → Type 0
-    Goes rs vs d hs = (a : Place) (k : List Scope) (b : State) → Under B (Chain (Step free al) rs (a, members d hs ∷ k) b) (Rest d hs (forms vs) a b.0 × (b.1 ≡ k))
+    -- records that take what is due of a list
+    abbrev In : List Record → Values → ℕ → Option Tally → Type 0
+    In rs vs d hs = (a : Place) (k : List Scope) (b : State) → Chain (Step free al) rs (a, members d hs ∷ k) b → Rest d hs (forms vs) a b.0 × (b.1 ≡ k)
 
-    abbrev Later : Values → Type 0
-    Later no_more = Unit {0}
-    Later (member v vs) = (d : ℕ) (hs : Option Tally) → Goes (calls vs) vs d hs
+    abbrev LaterIn : Values → Type 0
+    LaterIn no_more = Unit {0}
+    LaterIn (member v vs) = (d : ℕ) (hs : Option Tally) → In (calls vs) vs d hs
 
-    due_in : (vs : Values) → Later vs → (d : ℕ) (hs : Option Tally) (a : Place) (k : List Scope) (m b : State) → MemberDue (is_more vs) d hs a k m → Chain (Step free al) (tail vs) m b → Rest d hs (forms vs) a b.0 × (b.1 ≡ k)
-    due_in no_more l zero None a k m b t c =
+    due_in : Finds al free s → (vs : Values) → LaterIn vs → (d : ℕ) (hs : Option Tally) (a : Place) (k : List Scope) (m b : State) → MemberDue (is_more vs) d hs a k m → Chain (Step free al) (tail vs) m b → Rest d hs (forms vs) a b.0 × (b.1 ≡ k)
+    due_in h no_more l zero None a k m b t c =
         let r = from_state free al (ends ∷ []) m b a (members zero None ∷ k) t.1 c in
         let e : b ≡ (a, k) = r.2 ∙ r.1 in
         ((refl, subst (λ p. Front free (exactly []) a p) (sym (ap (λ (s : State). s.0) e)) (nothing_front free a)), ap (λ (s : State). s.1) e)
-    due_in no_more l zero (Some g) a k m b t c = absurd t
-    due_in no_more l (suc d) hs a k m b t c = let e = t.0 in cc
-    due_in (member v vs) l zero None a k m b t c = let e = t.0 in cc
-    due_in (member v vs) l zero (Some g) a k m b t c = absurd t
-    due_in (member v vs) l (suc d) hs a k m b t c =
+    due_in h no_more l zero (Some g) a k m b t c = absurd t
+    due_in h no_more l (suc d) hs a k m b t c = let e = t.0 in cc
+    due_in h (member v vs) l zero None a k m b t c = let e = t.0 in cc
+    due_in h (member v vs) l zero (Some g) a k m b t c = absurd t
+    due_in h (member v vs) l (suc d) hs a k m b t c =
         let here : State = (a, members d hs ∷ k) in
         let q = chain_split (Step free al) (presents s v) (calls vs) here b (from_state free al (tail (member v vs)) m b a (members d hs ∷ k) t.1 c) in
-        let f = (each_is v here q.0).0 q.1 in
-        let r = (l d hs q.0.0 k b).0 (from_scopes free al (calls vs) q.0 b (members d hs ∷ k) f.1 q.2) in
+        let f = h v here q.0 q.1 in
+        let r = l d hs q.0.0 k b (from_scopes free al (calls vs) q.0 b (members d hs ∷ k) f.1 q.2) in
         (more_in (Per.form al s v) (forms vs) d hs a q.0.0 b.0 f.0 r.0, r.1)
 
-    abbrev DueFound : Values → ℕ → Option Tally → Place → List Scope → State → Type 0
-    DueFound vs d hs a k b = (m : State) × MemberDue (is_more vs) d hs a k m × Chain (Step free al) (tail vs) m b
+    from_in : Finds al free s → (vs : Values) → LaterIn vs → (d : ℕ) (hs : Option Tally) → In (further (is_more vs) ∷ tail vs) vs d hs
+    from_in h vs l zero None a k b c = due_in h vs l zero None a k c.0 b c.1 c.2
+    from_in h vs l (suc d) hs a k b c = due_in h vs l (suc d) hs a k c.0 b c.1 c.2
+    from_in h vs l zero (Some t) a k b c =
+        let n = c.1 in
+        let r = due_in h vs l n.0 n.1 n.2 k c.0 b n.4 c.2 in
+        (header_in t (forms vs) a n.2 b.0 n.0 n.1 n.3 r.0, r.1)
 
-    due_out : (vs : Values) → Later vs → B → (d : ℕ) (hs : Option Tally) → Ready d hs → (a : Place) (k : List Scope) (b : State) → Rest d hs (forms vs) a b.0 → b.1 ≡ k → DueFound vs d hs a k b
-    due_out no_more l u zero None y a k b r e = ((a, members zero None ∷ k), (refl, refl), (b, state_same b (a, k) (of_nothing free a b.0 r.1) e, refl))
-    due_out no_more l u zero (Some g) y a k b r e = absurd y
-    due_out no_more l u (suc d) None y a k b r e = let n = r.0 in absurd (omega arith)
-    due_out no_more l u (suc d) (Some g) y a k b r e = let n = r.1 in absurd (omega arith)
-    due_out (member v vs) l u zero None y a k b r e = let n = r.0 in absurd (omega arith)
-    due_out (member v vs) l u zero (Some g) y a k b r e = absurd y
-    due_out (member v vs) l u (suc d) hs y a k b r e =
+    goes_in : Finds al free s → (vs : Values) (d : ℕ) (hs : Option Tally) → In (calls vs) vs d hs
+    goes_in h no_more d hs = from_in h no_more tt d hs
+    goes_in h (member v vs) d hs = from_in h (member v vs) (λ d hs. goes_in h vs d hs) d hs
+
+    members_in : Finds al free s → (vs : Values) (d : ℕ) (hs : Option Tally) (m b : State) (k : List Scope) → m.1 ≡ members d hs ∷ k → Chain (Step free al) (calls vs) m b → Rest d hs (forms vs) m.0 b.0 × (b.1 ≡ k)
+    members_in h vs d hs m b k e c = goes_in h vs d hs m.0 k b (from_scopes free al (calls vs) m b (members d hs ∷ k) e c)
+
+    -- as many members, that are like these
+    abbrev Likes : Values → Values → Type 0
+    Likes vs ws = LikeMembers s vs ws × (member_count ws ≡ member_count vs)
+
+    -- and back, for members that are like these
+    abbrev Out : Values → ℕ → Option Tally → Place → List Scope → State → Type 0
+    Out vs d hs a k b = (ws : Values) × Likes vs ws × Chain (Step free al) (calls ws) (a, members d hs ∷ k) b
+
+    abbrev LaterOut : Values → Type 0
+    LaterOut no_more = Unit {0}
+    LaterOut (member v vs) = (d : ℕ) (hs : Option Tally) (a : Place) (k : List Scope) (b : State) → Rest d hs (forms vs) a b.0 → b.1 ≡ k → Out vs d hs a k b
+
+    abbrev DueOut : Values → ℕ → Option Tally → Place → List Scope → State → Type 0
+    DueOut vs d hs a k b = (ws : Values) × Likes vs ws × (m : State) × MemberDue (is_more ws) d hs a k m × Chain (Step free al) (tail ws) m b
+
+    due_out : Shows al free s → (vs : Values) → LaterOut vs → (d : ℕ) (hs : Option Tally) → Ready d hs → (a : Place) (k : List Scope) (b : State) → Rest d hs (forms vs) a b.0 → b.1 ≡ k → DueOut vs d hs a k b
+    due_out h no_more l zero None y a k b r e = (no_more, ((no_members, λ q. refl), refl), (a, members zero None ∷ k), (refl, refl), (b, state_same b (a, k) (of_nothing free a b.0 r.1) e, refl))
+    due_out h no_more l zero (Some g) y a k b r e = absurd y
+    due_out h no_more l (suc d) None y a k b r e = let n = r.0 in absurd (omega arith)
+    due_out h no_more l (suc d) (Some g) y a k b r e = let n = r.1 in absurd (omega arith)
+    due_out h (member v vs) l zero None y a k b r e = let n = r.0 in absurd (omega arith)
+    due_out h (member v vs) l zero (Some g) y a k b r e = absurd y
+    due_out h (member v vs) l (suc d) hs y a k b r e =
         let q = more_out (Per.form al s v) (forms vs) d hs a b.0 r in
         let here : State = (a, members d hs ∷ k) in
         let there : State = (q.0, members d hs ∷ k) in
-        (here, (refl, refl), chain_append (Step free al) (presents s v) (calls vs) here there b ((each_is v here there).1 u (q.1, refl)) ((l d hs q.0 k b).1 u (q.2, e)))
+        let w = h v here there (q.1, refl) in
+        let o = l d hs q.0 k b q.2 e in
+        (member w.0 o.0, (like_members s v w.0 vs o.0 w.1 o.1.0, ap suc o.1.1), here, (refl, refl), chain_append (Step free al) (presents s w.0) (calls o.0) here there b w.2 o.2)
 
-    members_from : (vs : Values) → Later vs → (d : ℕ) (hs : Option Tally) → Goes (further (is_more vs) ∷ tail vs) vs d hs
-    members_from vs l zero None a k b = (λ c. due_in vs l zero None a k c.0 b c.1 c.2, λ u r. due_out vs l u zero None tt a k b r.0 r.1)
-    members_from vs l (suc d) hs a k b = (λ c. due_in vs l (suc d) hs a k c.0 b c.1 c.2, λ u r. due_out vs l u (suc d) hs (ready hs) a k b r.0 r.1)
+    called : (ws : Values) (m b : State) → Chain (Step free al) (further (is_more ws) ∷ tail ws) m b → Chain (Step free al) (calls ws) m b
+    called no_more m b c = c
+    called (member w ws) m b c = c
+
+    from_out : Shows al free s → (vs : Values) → LaterOut vs → (d : ℕ) (hs : Option Tally) (a : Place) (k : List Scope) (b : State) → Rest d hs (forms vs) a b.0 → b.1 ≡ k → Out vs d hs a k b
+    from_out h vs l zero None a k b r e =
+        let q = due_out h vs l zero None tt a k b r e in
+        (q.0, q.1, called q.0 (a, members zero None ∷ k) b (q.2, q.3, q.4))
+    from_out h vs l (suc d) hs a k b r e =
+        let q = due_out h vs l (suc d) hs (ready hs) a k b r e in
+        (q.0, q.1, called q.0 (a, members (suc d) hs ∷ k) b (q.2, q.3, q.4))
       where
         ready : (hs : Option Tally) → Ready (suc d) hs
         ready None = tt
         ready (Some g) = tt
-    members_from vs l zero (Some t) a k b = (into, out)
-      where
-        into : Chain (Step free al) (further (is_more vs) ∷ tail vs) (a, members zero (Some t) ∷ k) b → Rest zero (Some t) (forms vs) a b.0 × (b.1 ≡ k)
-        into c =
-            let n = c.1 in
-            let r = due_in vs l n.0 n.1 n.2 k c.0 b n.4 c.2 in
-            (header_in t (forms vs) a n.2 b.0 n.0 n.1 n.3 r.0, r.1)
+    from_out h vs l zero (Some t) a k b r e =
+        let n = header_out t (forms vs) a b.0 r in
+        let q = due_out h vs l n.0 n.1 n.4 n.2 k b n.5 e in
+        (q.0, q.1, called q.0 (a, members zero (Some t) ∷ k) b (q.2, (n.0, n.1, n.2, n.3, q.3), q.4))
 
-        out : B → Rest zero (Some t) (forms vs) a b.0 × (b.1 ≡ k) → Chain (Step free al) (further (is_more vs) ∷ tail vs) (a, members zero (Some t) ∷ k) b
-        out u r =
-            let n = header_out t (forms vs) a b.0 r.0 in
-            let q = due_out vs l u n.0 n.1 n.4 n.2 k b n.5 r.1 in
-            (q.0, (n.0, n.1, n.2, n.3, q.1), q.2)
-
-    goes : (vs : Values) (d : ℕ) (hs : Option Tally) → Goes (calls vs) vs d hs
-    goes no_more d hs = members_from no_more tt d hs
-    goes (member v vs) d hs = members_from (member v vs) (λ d hs. goes vs d hs) d hs
-
-    members_in : (vs : Values) (d : ℕ) (hs : Option Tally) (m b : State) (k : List Scope) → m.1 ≡ members d hs ∷ k → Chain (Step free al) (calls vs) m b → Rest d hs (forms vs) m.0 b.0 × (b.1 ≡ k)
-    members_in vs d hs m b k e c = (goes vs d hs m.0 k b).0 (from_scopes free al (calls vs) m b (members d hs ∷ k) e c)
+    goes_out : Shows al free s → (vs : Values) (d : ℕ) (hs : Option Tally) (a : Place) (k : List Scope) (b : State) → Rest d hs (forms vs) a b.0 → b.1 ≡ k → Out vs d hs a k b
+    goes_out h no_more d hs a k b r e = from_out h no_more tt d hs a k b r e
+    goes_out h (member v vs) d hs a k b r e = from_out h (member v vs) (λ d hs. goes_out h vs d hs) d hs a k b r e
 
   -- ---- what stands in front of members
   abbrev Start : Size → Counts → Bool → Tally
@@ -355,41 +382,54 @@ module _ (free : Per.Freedom → Bool) (al : Bool) (B : Type 0) where
       held false None p f = (f.0, f.1, f.3)
       held false (Some high) p f = by_bounds (ltb high 65536) high p f
 
-  list_in : (z : Size) (h : Counts) (s : Schema) → ((v : Value) → Bridged B al free s v) → (vs : Values) (a m b : State) → ListBegins al free z h (member_count vs) a m → Chain (Step free al) (member_records (λ v. presents s v) vs) m b → Found free (Per.sized al z h Per.never (each (λ v. Per.form al s v) vs)) a b
-  list_in z h s each_is vs a m b t c =
-      let g : Onward (each (λ v. Per.form al s v) vs) m a.1 b.0 = λ d hs e. (members_in s each_is vs d hs m b a.1 e c).0 in
+  list_in : (z : Size) (h : Counts) (s : Schema) → Finds al free s → (vs : Values) (a m b : State) → ListBegins al free z h (member_count vs) a m → Chain (Step free al) (member_records (λ v. presents s v) vs) m b → Found free (Per.sized al z h Per.never (each (λ v. Per.form al s v) vs)) a b
+  list_in z h s finds vs a m b t c =
+      let g : Onward (each (λ v. Per.form al s v) vs) m a.1 b.0 = λ d hs e. (members_in s finds vs d hs m b a.1 e c).0 in
       let o = scopes_held z h (member_count vs) a m t in
-      (sized_in z h (each (λ v. Per.form al s v) vs) (member_count vs) a m b.0 t g, (members_in s each_is vs o.0 o.1 m b a.1 o.2 c).1)
+      (sized_in z h (each (λ v. Per.form al s v) vs) (member_count vs) a m b.0 t g, (members_in s finds vs o.0 o.1 m b a.1 o.2 c).1)
 
-  pub lists : (z : Size) (h : Counts) (s : Schema) → ((v : Value) → Bridged B al free s v) → (v : Value) → Bridged B al free (sequence_of z h s) v
+  -- a list of members that are like these
+  abbrev ListOut : Size → Counts → Schema → Values → State → State → Type 0
+  ListOut z h s vs a b = (ws : Values) × (m : State) × LikeMembers s vs ws × ListBegins al free z h (member_count ws) a m × Chain (Step free al) (member_records (λ v. presents s v) ws) m b
+
+  list_out : (z : Size) (h : Counts) (s : Schema) → Shows al free s → (vs : Values) (a b : State) → Found free (Per.sized al z h Per.never (each (λ v. Per.form al s v) vs)) a b → ListOut z h s vs a b
+  list_out z h s shows vs a b f =
+      let r = sized_out z h (each (λ v. Per.form al s v) vs) (member_count vs) (each_long (λ v. Per.form al s v) vs) a b.0 f.0 in
+      let m : State = r.0 in
+      let o = goes_out s shows vs r.1 r.2 m.0 a.1 b r.5 f.1 in
+      let c = subst (λ x. Chain (Step free al) (member_records (λ v. presents s v) o.0) x b) (state_same (m.0, members r.1 r.2 ∷ a.1) m refl (sym r.4)) o.2 in
+      (o.0, m, o.1.0, subst (λ n. ListBegins al free z h n a m) (sym o.1.1) r.3, c)
+
+  pub list_finds : (z : Size) (h : Counts) (s : Schema) → Finds al free s → Finds al free (sequence_of z h s)
   unfolding presents Per.form
-  lists z h s each_is (in_list vs) a b = (λ c. list_in z h s each_is vs a c.0 b c.1 c.2, out)
-    where
-      out : B → Found free (Per.sized al z h Per.never (each (λ v. Per.form al s v) vs)) a b → Chain (Step free al) (list_begins z h (member_count vs) ∷ member_records (λ v. presents s v) vs) a b
-      out u f =
-          let r = sized_out z h (each (λ v. Per.form al s v) vs) (member_count vs) (each_long (λ v. Per.form al s v) vs) a b.0 f.0 in
-          let m : State = r.0 in
-          let c = (goes s each_is vs r.1 r.2 m.0 a.1 b).1 u (r.5, f.1) in
-          (m, r.3, subst (λ x. Chain (Step free al) (member_records (λ v. presents s v) vs) x b) (state_same (m.0, members r.1 r.2 ∷ a.1) m refl (sym r.4)) c)
-  lists z h s each_is v a b = none free al B a b
+  list_finds z h s finds (in_list vs) a b c = list_in z h s finds vs a c.0 b c.1 c.2
+  list_finds z h s finds v a b c = (none free al a b).0 c
+
+  pub list_shows : (z : Size) (h : Counts) (s : Schema) → Shows al free s → Shows al free (sequence_of z h s)
+  unfolding presents Per.form
+  list_shows z h s shows (in_list vs) a b f = let r = list_out z h s shows vs a b f in (in_list r.0, (list_same vs r.0 r.2.0, λ e. ap in_list (r.2.1 e)), (r.1, r.3, r.4))
+  list_shows z h s shows v a b f = absurd (of_refused free a.0 b.0 f.0)
 
   -- ---- SET OF
-  abbrev in_places : (xs : List Per.BitForm) → List ℕ
-  in_places [] = []
-  in_places (x ∷ xs) = 0 ∷ in_places xs
+  pub bag_finds : IsTrue (free Per.other_order) → (z : Size) (h : Counts) (s : Schema) → Finds al free s → Finds al free (set_of z h s)
+  unfolding presents Per.form Per.in_any_order
+  bag_finds order z h s finds (bag vs) a b c =
+      let xs : List Per.BitForm = each (λ v. Per.form al s v) vs in
+      let f = list_in z h s finds vs a c.0 b c.1 c.2 in
+      (varied_in free {c = Per.other_order} (λ o. given (Ordered (λ x. written (Per.complete x) 0) (stands_before Per.bit_less) xs o) (Per.sized al z h Per.never)) (Some (replicate (length xs) 0)) (inr order) a.0 b.0 (given_in free (arranged (replicate (length xs) 0) xs) (Per.sized al z h Per.never) xs (in_place xs) a.0 b.0 f.0), f.1)
+  bag_finds order z h s finds v a b c = (none free al a b).0 c
 
-  as_they_are : (xs : List Per.BitForm) → arranged (in_places xs) xs ≡ Some xs
-  as_they_are [] = refl
-  as_they_are (x ∷ xs) = let e = as_they_are xs in rw e refl
+  ordered_out : (z : Size) (h : Counts) (s : Schema) → Shows al free s → (vs : Values) (ys : List Per.BitForm) (a b : State) → Arranged (λ v. Per.form al s v) vs ys → Found free (Per.sized al z h Per.never ys) a b → (ws : Values) × (m : State) × (same (bag vs) (bag ws) ≡ true) × ListBegins al free z h (member_count ws) a m × Chain (Step free al) (member_records (λ v. presents s v) ws) m b
+  ordered_out z h s shows vs ys a b r f =
+      let t = list_out z h s shows (values_of r.1) a b (subst (λ l. Found free (Per.sized al z h Per.never l) a b) (sym r.3) f) in
+      (t.0, t.1, bag_like vs t.0 r.0 r.1 r.2 t.2.0, t.3, t.4)
 
-  any_order : IsTrue (free Per.other_order) → (xs : List Per.BitForm) (f : List Per.BitForm → Per.BitForm) (a b : Place) → Front free (f xs) a b → Front free (Per.in_any_order xs f) a b
-  unfolding Per.in_any_order
-  any_order order xs f a b t = varied_in free {c = Per.other_order} (λ o. given (in_order (ascending (λ x. written (Per.complete x) 0) (stands_before Per.bit_less) xs) o xs) f) (Some (in_places xs)) (inr order) a b (given_in free (arranged (in_places xs) xs) f xs (as_they_are xs) a b t)
-
-  pub bags : IsTrue (free Per.other_order) → (z : Size) (h : Counts) (s : Schema) → (B → ⊥) → ((v : Value) → Bridged B al free s v) → (v : Value) → Bridged B al free (set_of z h s) v
-  unfolding presents Per.form
-  bags order z h s never each_is (bag vs) a b = (into, λ u f. absurd (never u))
-    where
-      into : Chain (Step free al) (bag_begins z h (member_count vs) ∷ member_records (λ v. presents s v) vs) a b → Found free (Per.in_any_order (each (λ v. Per.form al s v) vs) (Per.sized al z h Per.never)) a b
-      into c = let t = list_in z h s each_is vs a c.0 b c.1 c.2 in (any_order order (each (λ v. Per.form al s v) vs) (Per.sized al z h Per.never) a.0 b.0 t.0, t.1)
-  bags order z h s never each_is v a b = none free al B a b
+  pub bag_shows : (z : Size) (h : Counts) (s : Schema) → Shows al free s → Shows al free (set_of z h s)
+  unfolding presents Per.form Per.in_any_order
+  bag_shows z h s shows (bag vs) a b f =
+      let xs : List Per.BitForm = each (λ v. Per.form al s v) vs in
+      let t = varied_out free {c = Per.other_order} (λ o. given (Ordered (λ x. written (Per.complete x) 0) (stands_before Per.bit_less) xs o) (Per.sized al z h Per.never)) a.0 b.0 f.0 in
+      let q = given_out free (Ordered (λ x. written (Per.complete x) 0) (stands_before Per.bit_less) xs t.0) (Per.sized al z h Per.never) a.0 b.0 t.2 in
+      let r = ordered_out z h s shows vs q.0 a b (reordered (λ v. Per.form al s v) (λ x. written (Per.complete x) 0) (stands_before Per.bit_less) vs t.0 q.0 q.1) (q.2, f.1) in
+      (bag r.0, (r.2, λ d. cc d), (r.1, r.3, r.4))
+  bag_shows z h s shows v a b f = absurd (of_refused free a.0 b.0 f.0)

@@ -1,7 +1,7 @@
 -- What ties the records that a reader finds to the forms of values.
 use Rattle.std.specs.Prelude.{◌≡◌, ◌↔◌, ℕ, ◌^◌, ◌<◌, Bool, true, false, IsTrue, List, [], length}
 use Rattle.asn1_model.specs.Schema.{Counts, Size, Schema}
-use Rattle.asn1_model.specs.Value.{Value}
+use Rattle.asn1_model.specs.Value.{Value, same}
 use Rattle.asn1_model.specs.Lawful.{IsLawful}
 use Rattle.asn1_model.specs.Numbers.{is_count_within, octet_bits}
 use Rattle.asn1_model.specs.Per
@@ -29,6 +29,11 @@ Bridges al free s v = (a b : State) → Chain (Takes al free) (presents s v) a b
 abbrev pub RecordsRead : Type 0
 RecordsRead = (al : Bool) (free : Per.Freedom → Bool) (s : Schema) (v : Value) (a b : State) → IsTrue (free Per.other_bitmap) → IsTrue (free Per.other_order) → Chain (Takes al free) (presents s v) a b → Found free (Per.form al s v) a b
 
+-- Where the bits in front have the form of a value of a lawful type at their position, the records of one that is the same up to the order of
+-- bags are next.
+abbrev pub FormsShow : Type 0
+FormsShow = (al : Bool) (free : Per.Freedom → Bool) (s : Schema) (v : Value) (a b : State) → IsTrue (free Per.other_bitmap) → IsLawful s → Found free (Per.form al s v) a b → (w : Value) × (same v w ≡ true) × Chain (Takes al free) (presents s w) a b
+
 -- For a lawful type without SET OF the records are next exactly there.
 abbrev pub EachBridges : Type 0
 EachBridges = (al : Bool) (free : Per.Freedom → Bool) (s : Schema) (v : Value) → IsTrue (free Per.other_bitmap) → IsTrue (free Per.other_order) → IsLawful s → has_no_bag s ≡ true → Bridges al free s v
@@ -41,9 +46,10 @@ RecordsFit = (al : Bool) (free : Per.Freedom → Bool) (s : Schema) (v : Value) 
 abbrev pub FoundWhole : Bool → (Per.Freedom → Bool) → Schema → Value → List ℕ → Type 0
 FoundWhole al free s v w = (left : Place) × (after : Place) × Chain (Takes al free) (presents s v) ((0, octet_bits w), []) (left, []) × Front free (completion left.0) left after × (after.1 ≡ [])
 
--- So it is nowhere but where the octets are an encoding of the value, and for a lawful type without SET OF wherever they are.
+-- So it is nowhere but where the octets are an encoding of the value; and in an encoding of a value of a lawful type the records are found of one
+-- that is the same up to the order of bags.
 abbrev pub FindsIn : Rules → Bool → (Per.Freedom → Bool) → Type 0
-FindsIn r al free = (s : Schema) (v : Value) (w : List ℕ) → length w < 2 ^ 60 → (FoundWhole al free s v w → IsEncoding r s v w) × (IsLawful s → has_no_bag s ≡ true → IsEncoding r s v w → FoundWhole al free s v w)
+FindsIn r al free = (s : Schema) (v : Value) (w : List ℕ) → length w < 2 ^ 60 → (FoundWhole al free s v w → IsEncoding r s v w) × (IsLawful s → IsEncoding r s v w → (u : Value) × (same v u ≡ true) × FoundWhole al free s u w)
 
 abbrev pub FindsEncodings : Type 0
 FindsEncodings = FindsIn uper false lenient × FindsIn aper true lenient × FindsIn uper_strict false strict_per × FindsIn aper_strict true strict_per

@@ -2,7 +2,7 @@
 //! bits in front are of its form. Each function does nothing; its contract is a law.
 #![tactic(auto)]
 
-ghost use Rattle.per_codec_fronts.specs.Ties.{CountHeld, EachBridges, FindsEncodings, OneTaken, RecordsFit, RecordsRead};
+ghost use Rattle.per_codec_fronts.specs.Ties.{CountHeld, EachBridges, FindsEncodings, FormsShow, OneTaken, RecordsFit, RecordsRead};
 
 /// Of the records that answer a question one at most is next, and one state stands after it, whatever the reader's freedoms are.
 pub fn one_record_is_next()
@@ -19,6 +19,11 @@ pub fn records_are_read()
     ensures { RecordsRead }
 {}
 
+/// Where the bits in front have the form of a value at their position, the records of one that is the same up to the order of bags are next.
+pub fn forms_are_found()
+    ensures { FormsShow }
+{}
+
 /// The records of a value are next exactly where the bits in front have its form at their position, for each lawful type without SET OF.
 pub fn records_are_the_form()
     ensures { EachBridges }
@@ -30,7 +35,7 @@ pub fn records_fit()
 {}
 
 /// The records of a value are found in octets, and what fills up a message behind them, nowhere but where the octets are an encoding of it, by
-/// UPER and APER, for a lenient and for a strict reader; for each lawful type without SET OF wherever they are.
+/// UPER and APER, for a lenient and for a strict reader; and in each encoding of a value of a lawful type, up to the order of bags.
 pub fn encodings_are_found()
     ensures { FindsEncodings }
 {}
