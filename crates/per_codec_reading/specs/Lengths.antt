@@ -1,5 +1,5 @@
 -- Lengths, and numbers within a bound.
-use Rattle.std.specs.Prelude.{ℕ, ◌≤◌, ◌<◌, ◌^◌, leb, ltb, ◌&&◌, Bool, true, ◌∷◌}
+use Rattle.std.specs.Prelude.{ℕ, ◌≤◌, ◌<◌, ◌^◌, leb, ltb, ◌&&◌, Bool, true, [], ◌∷◌}
 use Rattle.asn1_model.specs.Numbers.{binary}
 use Rattle.asn1_model.specs.Form.{exactly, only_if}
 use Rattle.asn1_model.specs.Per.{BitForm, at_octet, short_length}
@@ -19,3 +19,11 @@ IsLength (Fragment m) = (1 ≤ m) × (m ≤ 4)
 -- A number in so many bits that is not above a highest one.
 abbrev pub number_within : ℕ → ℕ → ℕ → BitForm
 number_within bits most n = only_if (leb n most && ltb n (2 ^ bits)) (exactly (binary bits n))
+
+-- The same at an octet in the aligned variant.
+abbrev pub aligned_within : Bool → ℕ → ℕ → ℕ → BitForm
+aligned_within al bits most n = at_octet al (number_within bits most n)
+
+-- A single bit.
+abbrev pub one_bit : Bool → BitForm
+one_bit b = exactly (b ∷ [])

@@ -8,6 +8,8 @@
 pub mod cursor;
 pub mod filling;
 pub mod lengths;
+pub mod numbers;
+pub mod units;
 pub mod variant;
 
 pub use cursor::Cursor;
