@@ -6,7 +6,7 @@ ghost use Rattle.per_codec_writing.specs.Writing.{fill_at};
 use asn1_schema_faults::EncodeError;
 use asn1_values_bits::BitBuffer;
 
-/// Adds zero bits up to the next octet, at most seven (X.691 11.1).
+/// Adds zero bits up to the next octet, at most seven (X.691 11.1). The only error is want of memory.
 pub fn push_filling(output: &mut BitBuffer) -> Result<(), EncodeError>
     ensures { MatchResult result (λ _. output.new ≡ output.old ++ replicate (missing (length output.old)) false) (λ e. e ≡ EncodeError.OutOfMemory) }
 {
@@ -15,7 +15,7 @@ pub fn push_filling(output: &mut BitBuffer) -> Result<(), EncodeError>
     Ok(())
 }
 
-/// Adds zero bits up to the next octet in the aligned variant, and none in the other (X.691 11.1).
+/// Adds zero bits up to the next octet in the aligned variant, and none in the other (X.691 11.1). The only error is want of memory.
 pub fn align(output: &mut BitBuffer, aligned: bool) -> Result<(), EncodeError>
     ensures { MatchResult result (λ _. output.new ≡ output.old ++ fill_at aligned (length output.old)) (λ e. e ≡ EncodeError.OutOfMemory) }
 {

@@ -9,7 +9,8 @@ use crate::filling::align;
 use asn1_schema_faults::EncodeError;
 use asn1_values_bits::BitBuffer;
 
-/// Adds a length, so many units below 16384: one octet below 128, else two (X.691 11.9.3.5 to 11.9.3.7).
+/// Adds a length, so many units below 16384: one octet below 128, else two (X.691 11.9.3.5 to 11.9.3.7). The only
+/// error is want of memory.
 pub fn push_short_length(
     output: &mut BitBuffer,
     aligned: bool,
@@ -27,7 +28,7 @@ pub fn push_short_length(
     Ok(())
 }
 
-/// Adds the length of a fragment, of 1 to 4 times 16384 units (X.691 11.9.3.8).
+/// Adds the length of a fragment, of 1 to 4 times 16384 units (X.691 11.9.3.8). The only error is want of memory.
 pub fn push_fragment_length(
     output: &mut BitBuffer,
     aligned: bool,
