@@ -11,3 +11,6 @@ pub use bits::push_bit_string;
 pub use identifiers::push_identifier;
 pub use octets::push_octet_string;
 pub use texts::push_utf8;
+
+#[cfg(test)]
+mod tests;
