@@ -1,6 +1,5 @@
 -- What stands in front where an INTEGER does.
-use Rattle.std.proofs.Common.{◌≡◌, ℕ, ◌-◌, ◌^◌, ◌≤◌, leb, not, ℤ, pos, negsuc, Bool, true, false, ◌&&◌, ◌||◌, ◌⊎◌, IsTrue, inl, inr, Option, Some, None, Result, Ok, Err, IfOk, OnOk, IfErr, List, refl, sym, ap, ◌∙◌, subst, arith}
-use Rattle.std.proofs.lemmas.Int.{ints}
+use Rattle.std.proofs.Common.{◌≡◌, ℕ, ◌-◌, ◌^◌, not, ℤ, pos, negsuc, Bool, true, false, ◌&&◌, ◌||◌, ◌⊎◌, IsTrue, inl, inr, Option, Some, None, Result, Ok, Err, IfOk, OnOk, IfErr, List, refl, sym, ap, ◌∙◌, subst, arith}
 use Rattle.std.proofs.lemmas.Bool.{false≢true, le-leb, and_parts, and_from}
 use Rattle.std.proofs.Math.Bool.{or-true}
 use Rattle.asn1_model.specs.Schema.{Range, integer}

@@ -1,37 +1,28 @@
 -- What stands in front where a number under bounds does, or an INTEGER.
 use Rattle.std.specs.Prelude.{FitsSigned, unsigned_abs, ◌+ℤ◌, ◌-ℤ◌, ◌<ℤ◌, ◌≤ℤ◌}
 use Rattle.std.specs.Int.{w128}
-use Rattle.std.proofs.Common.{◌≡◌, ℕ, ◌+◌, ◌-◌, ◌^◌, ◌≤◌, ◌<◌, leb, not, ℤ, pos, negsuc, Bool, true, false, cond, ◌&&◌, ◌||◌, ◌⊎◌, IsTrue, inl, inr, Option, Some, None, Result, Ok, Err, IfOk, OnOk, IfErr, OnErr, List, [], ◌∷◌, refl, sym, ap, ◌∙◌, subst, arith}
+use Rattle.std.proofs.Common.{◌≡◌, ℕ, ◌-◌, ◌^◌, ◌<◌, leb, not, ℤ, pos, negsuc, Bool, true, false, cond, ◌&&◌, IsTrue, inl, inr, Option, Some, None, Result, Ok, Err, IfOk, OnOk, IfErr, OnErr, [], ◌∷◌, refl, sym, ap, ◌∙◌, subst, arith}
 use Rattle.std.proofs.lemmas.Int.{ints}
-use Rattle.std.proofs.lemmas.Bool.{false≢true, leb-true, le-leb, lt-ltb, and_parts, and_from, cases_lt}
-use Rattle.std.proofs.Math.Bool.{or-true}
-use Rattle.asn1_model.specs.Schema.{Range, Bounds, integer}
-use Rattle.asn1_model.specs.Value.{Value, number}
-use Rattle.asn1_model.specs.Numbers.{signed_octets, natural, above, is_at_most, is_from, is_to, is_within, fits_128}
-use Rattle.asn1_model.specs.Form.{exactly, both, varied, only_if, given}
-use Rattle.asn1_model.specs.Tables.{is_bounded}
+use Rattle.std.proofs.lemmas.Bool.{false≢true, leb-true, lt-ltb, and_parts, and_from}
+use Rattle.asn1_model.specs.Numbers.{natural, above, is_at_most, is_from, is_to, is_within}
+use Rattle.asn1_model.specs.Form.{exactly, both, only_if, given}
 use Rattle.asn1_model.specs.Per
 use Rattle.asn1_values_natives.proofs.RangeLaws.{at_most, not_at_most}
-use Rattle.asn1_values_natives.proofs.Widths.{signed_octets-le}
-use Rattle.asn1_schema_bounds.specs.Bounds.{later, earlier, lower, upper, range_of}
+use Rattle.asn1_schema_bounds.specs.Bounds.{lower, upper, range_of}
 use Rattle.asn1_schema_bounds.specs.declared.bounds.Bounded.{Bounded}
-use Rattle.asn1_schema_bounds.proofs.Common.{number_order}
-use Rattle.asn1_schema_bounds.proofs.Meets.{is_above, is_below, later_admits, earlier_admits}
-use Rattle.asn1_schema_constraints.specs.Terms.{bounds_of, held_of}
 use Rattle.asn1_schema_constraints.specs.Sets.{has_additions}
 use Rattle.asn1_schema_constraints.specs.declared.extensions.Extensible.{Extensible}
 use Rattle.asn1_schema_constraints.specs.declared.parts.Value as Constraint
 use Rattle.asn1_schema_faults.specs.declared.DecodeError.{DecodeError}
-use Rattle.asn1_schema_faults.specs.declared.DecodeError.TheVariants.{OutOfMemory}
 use Rattle.asn1_laws_fronts.proofs.Fronts.{agree_first, agree_map, agree_nothing}
 use Rattle.asn1_laws_fronts.proofs.PerNumbers.{constrained_alike, semi_alike, unconstrained_alike}
 use Rattle.per_codec_fronts.specs.Takes.{Place, Front}
-use Rattle.per_codec_fronts.proofs.Fronts.{split, join, varied_in, varied_out, given_in, given_out, if_in, if_out, of_refused}
+use Rattle.per_codec_fronts.proofs.Fronts.{split, join, varied_in, varied_out, given_in, given_out, if_in, if_out}
 use Rattle.per_codec_fronts.proofs.Next.{same_fronts}
 use Rattle.per_codec_reading.specs.Fronts.{NoneStands, Misses}
 use Rattle.per_codec_reading.specs.Lengths.{one_bit}
 use Rattle.per_codec_reading.proofs.Fronts.{none_misses}
-use Rattle.per_codec_reading_numbers.specs.Whole.{number_octets, offset_form, is_offset, in_128_bits, behind_mark, under_constraint, wide_range}
+use Rattle.per_codec_reading_numbers.specs.Whole.{offset_form, is_offset, in_128_bits, behind_mark, under_constraint, wide_range}
 
 -- ---- 128 bits
 pub fits_wide : (v : ℤ) → FitsSigned w128 v → is_within wide_range v ≡ true

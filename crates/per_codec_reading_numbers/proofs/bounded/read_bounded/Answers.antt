@@ -1,4 +1,3 @@
-use Rattle.std.proofs.Common.{true, false, sym}
 use Rattle.std.proofs.lemmas.Result.{err_from_is_err_and}
 use Rattle.asn1_model.specs.Per
 use Rattle.asn1_schema_bounds.specs.Bounds.{lower, upper}

@@ -1,4 +1,3 @@
-use Rattle.std.proofs.Common.{true, false}
 use Rattle.per_codec_reading_numbers.proofs.bounded.read_marked.Goals as goal
 
 pub returns-then-is_outside-clause-only : goal.returns-then-is_outside-clause-only

@@ -1,9 +1,9 @@
-use Rattle.std.proofs.Common.{◌≡◌, ◌⊎◌, ◌<◌, false, true, length, IfOk, OnOk, IfErr, ap, sym, ◌∙◌, subst, arith}
+use Rattle.std.proofs.Common.{◌≡◌, ◌⊎◌, false, true, IfOk, OnOk, IfErr, ap, ◌∙◌, subst}
 use Rattle.std.specs.Int.{w128}
 use Rattle.std.proofs.lemmas.Int.{to_z-of_z}
 use Rattle.asn1_model.specs.Numbers.{is_within}
 use Rattle.asn1_schema_faults.specs.declared.DecodeError.TheVariants.{OutOfMemory}
-use Rattle.asn1_values_natives.specs.Octets.{signed_number, signed_octets_of}
+use Rattle.asn1_values_natives.specs.Octets.{signed_octets_of}
 use Rattle.per_codec_reading_numbers.proofs.OctetFronts.{own_octets, some_own_octets}
 use Rattle.per_codec_reading_numbers.proofs.integers.held_number.Goals as goal
 
