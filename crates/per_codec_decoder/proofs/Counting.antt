@@ -97,22 +97,26 @@ module _ (free : Per.Freedom → Bool) (al : Bool) where
   headed t v n hs a mid k b due ts z s h m = subst (λ i. NextMember al free v a (members i hs ∷ k) b) (sym z) (subst (λ o. NextMember al free v a (members zero o ∷ k) b) (sym s) (due, ts, mid, h, m))
 
   pub no_further : (t : Tally) (n : ℕ) (hs : Option Tally) (a : Place) (k : List Scope) (e : DecodeError) → n ≡ 0 → hs ≡ Some t → NoHeader al free t a e → NoFurther al free a (members n hs ∷ k) e
-  no_further t n hs a k e z s h = record { none = λ i v b g.
-      let f : NextMember al free v a (members zero (Some t) ∷ k) b = subst (λ o. NextMember al free v a (members zero o ∷ k) b) s (subst (λ j. NextMember al free v a (members j hs ∷ k) b) z g) in
-      h.none i f.2 f.0 f.1 f.3 }
+  no_further t n hs a k e z s h = record {
+    none = λ i v b g.
+        let f : NextMember al free v a (members zero (Some t) ∷ k) b = subst (λ o. NextMember al free v a (members zero o ∷ k) b) s (subst (λ j. NextMember al free v a (members j hs ∷ k) b) z g) in
+        h.none i f.2 f.0 f.1 f.3;
+  }
 
   -- ---- numbers of members
   pub no_number : (c h : Counts) (span high : ℕ) (a : Place) (e : DecodeError) → span ≡ high - c.low → Misses free (Per.constrained al span) a e → NoNumber al free c h high a e
   no_number c h span high a e q m = record { none = λ i n b g. missed free (Per.constrained al span) a e m i (n - c.low) b (subst (λ s. Front free (Per.constrained al s (n - c.low)) a b) (sym q) g.2) }
 
   pub other_number : (c h : Counts) (span high d : ℕ) (a b : Place) (e : DecodeError) → span ≡ high - c.low → Front free (Per.constrained al span d) a b → (m : ℕ) → m ≡ c.low → false ≡ is_count_within h (m + d) → NoNumber al free c h high a e
-  other_number c h span high d a b e q f low t w = record { none = λ i n m g.
-      let x : Front free (Per.constrained al span (n - c.low)) a m = subst (λ s. Front free (Per.constrained al s (n - c.low)) a m) (sym q) g.2 in
-      let p = same_fronts free (constrained_alike free al span d (n - c.low)) a b m f x in
-      let j : d ≡ n - c.low = p.0 in
-      let l = leb-true c.low n ((and_parts (leb c.low n) (is_count_to c.high n) g.1).0) in
-      let k : n ≡ low + d = omega (arith, j, l, t) in
-      untrue (w ∙ subst (λ y. is_count_within h y ≡ true) k g.0) }
+  other_number c h span high d a b e q f low t w = record {
+    none = λ i n m g.
+        let x : Front free (Per.constrained al span (n - c.low)) a m = subst (λ s. Front free (Per.constrained al s (n - c.low)) a m) (sym q) g.2 in
+        let p = same_fronts free (constrained_alike free al span d (n - c.low)) a b m f x in
+        let j : d ≡ n - c.low = p.0 in
+        let l = leb-true c.low n ((and_parts (leb c.low n) (is_count_to c.high n) g.1).0) in
+        let k : n ≡ low + d = omega (arith, j, l, t) in
+        untrue (w ∙ subst (λ y. is_count_within h y ≡ true) k g.0);
+  }
 
   -- ---- lists
   below : (high : ℕ) → high < 65536 → ltb high 65536 ≡ true
@@ -128,12 +132,14 @@ module _ (free : Per.Freedom → Bool) (al : Bool) where
   marks_same true o u a b c f g = same_fronts free (agree_first free (λ e. agree_map free (λ q. e) (agree_nothing free))) a b c f g
 
   no_numbered : (z : Size) (h : Counts) (high : ℕ) (a mid : Place) (e : DecodeError) → SizeMark free z.extensible false a mid → z.counts.high ≡ Some high → high < 65536 → NoNumber al free z.counts h high mid e → NoMembers al free z h a e
-  no_numbered z h high a mid e s t l m = record { none = λ i n k b g.
-      let q = marks_same z.extensible g.1 false a g.2 mid g.3 s in
-      let x : Counted al free z h false z.counts.high mid k b = subst (λ p. Counted al free z h false z.counts.high p k b) q.1 (subst (λ o. Counted al free z h o z.counts.high g.2 k b) q.0 g.4) in
-      let y : ByHighest al free z h (ltb high 65536) high mid k b = subst (λ o. Counted al free z h false o mid k b) t x in
-      let w : Numbered al free z h high mid k b = subst (λ t. ByHighest al free z h t high mid k b) (below high l) y in
-      m.none i w.0 b.0 (w.1.0, w.1.1, w.2) }
+  no_numbered z h high a mid e s t l m = record {
+    none = λ i n k b g.
+        let q = marks_same z.extensible g.1 false a g.2 mid g.3 s in
+        let x : Counted al free z h false z.counts.high mid k b = subst (λ p. Counted al free z h false z.counts.high p k b) q.1 (subst (λ o. Counted al free z h o z.counts.high g.2 k b) q.0 g.4) in
+        let y : ByHighest al free z h (ltb high 65536) high mid k b = subst (λ o. Counted al free z h false o mid k b) t x in
+        let w : Numbered al free z h high mid k b = subst (λ t. ByHighest al free z h t high mid k b) (below high l) y in
+        m.none i w.0 b.0 (w.1.0, w.1.1, w.2);
+  }
 
   abbrev begun : Size → Counts → Bool → Tally
   begun z h out = record { size = z; held = h; outside = out; sizes = [] }
@@ -159,11 +165,13 @@ module _ (free : Per.Freedom → Bool) (al : Bool) where
   marked z h out t a b k due hs w e g = headed_in z h out z.counts.high a k (b, members due hs ∷ k) w (due, hs, subst (λ (u : Tally). Header al free u a b due hs) e g, refl)
 
   no_marked : (z : Size) (h : Counts) (out : Bool) (t : Tally) (a mid : Place) (e : DecodeError) → IsHeaded out z.counts.high → t ≡ begun z h out → SizeMark free z.extensible out a mid → NoHeader al free t mid e → NoMembers al free z h a e
-  no_marked z h out t a mid e w j s m = record { none = λ i n k b g.
-      let q = marks_same z.extensible g.1 out a g.2 mid g.3 s in
-      let x : Counted al free z h out z.counts.high mid k b = subst (λ p. Counted al free z h out z.counts.high p k b) q.1 (subst (λ o. Counted al free z h o z.counts.high g.2 k b) q.0 g.4) in
-      let y = headed_out z h out z.counts.high mid k b w x in
-      m.none i b.0 y.0 y.1 (subst (λ (u : Tally). Header al free u mid b.0 y.0 y.1) (sym j) y.2) }
+  no_marked z h out t a mid e w j s m = record {
+    none = λ i n k b g.
+        let q = marks_same z.extensible g.1 out a g.2 mid g.3 s in
+        let x : Counted al free z h out z.counts.high mid k b = subst (λ p. Counted al free z h out z.counts.high p k b) q.1 (subst (λ o. Counted al free z h o z.counts.high g.2 k b) q.0 g.4) in
+        let y = headed_out z h out z.counts.high mid k b w x in
+        m.none i b.0 y.0 y.1 (subst (λ (u : Tally). Header al free u mid b.0 y.0 y.1) (sym j) y.2);
+  }
 
   pub no_list_mark : (z : Size) (h : Counts) (a : Place) (e : DecodeError) → ((o : Bool) (b : Place) → SizeMark free z.extensible o a b → ⊥) → NoMembers al free z h a e
   no_list_mark z h a e m = record { none = λ i n k b g. m g.1 g.2 g.3 }

@@ -116,9 +116,11 @@ asked_sequence al free e n a b (sequence_begins d m) k t =
 asked_sequence al free e n a b r k t = cc k
 
 pub no_sequence : (old now : Held) (e : Bool) (n : ℕ) (x : DecodeError) → now ≡ old → ((free : Per.Freedom → Bool) (s : Scope) (b : Place) → HasPreamble free e n s now.place b → ⊥) → NoLevel Finds (asks_sequence e n) old.levels old x
-no_sequence old now e n x same none = record { none = λ m l r new k p.
-    let t = asked_sequence (is_aligned old.variant) (freedoms old.variant) e n (state_of old) (state_of new) r k p.taken in
-    none (freedoms old.variant) (components t.0 t.1) new.place (t.2, t.3, subst (λ (g : Held). Front (freedoms old.variant) (exactly (preamble_bits t.0 t.1)) g.place new.place) (sym same) t.4) }
+no_sequence old now e n x same none = record {
+  none = λ m l r new k p.
+      let t = asked_sequence (is_aligned old.variant) (freedoms old.variant) e n (state_of old) (state_of new) r k p.taken in
+      none (freedoms old.variant) (components t.0 t.1) new.place (t.2, t.3, subst (λ (g : Held). Front (freedoms old.variant) (exactly (preamble_bits t.0 t.1)) g.place new.place) (sym same) t.4);
+}
 
 -- ---- lists
 pub listed : (al : Bool) (free : Per.Freedom → Bool) (z : Size) (h : Counts) (due n : ℕ) (hs : Option Tally) (a b : Place) (k : List Scope) → is_count_within h n ≡ true → HasMembers al free z h due hs a b → ListBegins al free z h n (a, k) (b, members due hs ∷ k)
@@ -150,7 +152,9 @@ no_member old now e x same faults m =
 
 -- characters of an alphabet alone
 pub none_of_alphabet : (old now : Held) (c : StringKind) (z : Size) (l : Alphabet) (h : Counts) (e x : DecodeError) → now ≡ old → x ≡ e → (is_alphabet c l.characters ≡ true → Misses (freedoms now.variant) (Per.form (is_aligned now.variant) (character_string c z l h)) now.place e) → NoRecord Finds (asks_characters c z l h) old x
-none_of_alphabet old now c z l h e x same faults m = record { none = λ i r new k p.
-    let t = asked_characters (is_aligned old.variant) (freedoms old.variant) (state_of old) (state_of new) c z l h r k p.taken in
-    let n : Misses (freedoms old.variant) (Per.form (is_aligned old.variant) (character_string c z l h)) old.place e = subst (λ (g : Held). Misses (freedoms g.variant) (Per.form (is_aligned g.variant) (character_string c z l h)) g.place e) same (m t.0) in
-    missed (freedoms old.variant) (Per.form (is_aligned old.variant) (character_string c z l h)) old.place e n (λ y. i (faults ∙ y)) t.1.0 new.place t.1.1.0 }
+none_of_alphabet old now c z l h e x same faults m = record {
+  none = λ i r new k p.
+      let t = asked_characters (is_aligned old.variant) (freedoms old.variant) (state_of old) (state_of new) c z l h r k p.taken in
+      let n : Misses (freedoms old.variant) (Per.form (is_aligned old.variant) (character_string c z l h)) old.place e = subst (λ (g : Held). Misses (freedoms g.variant) (Per.form (is_aligned g.variant) (character_string c z l h)) g.place e) same (m t.0) in
+      missed (freedoms old.variant) (Per.form (is_aligned old.variant) (character_string c z l h)) old.place e n (λ y. i (faults ∙ y)) t.1.0 new.place t.1.1.0;
+}

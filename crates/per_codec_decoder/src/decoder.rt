@@ -25,7 +25,8 @@ use asn1_values_integer_types::IntegerType;
 use per_codec_reading::units::{read_boolean, read_null};
 use per_codec_reading::{Cursor, Variant};
 use per_codec_stubs::{
-    read_bit_string, read_characters, read_integer, read_object_identifier, read_octet_string, read_utf8_string,
+    read_bit_string, read_characters, read_integer, read_object_identifier, read_octet_string,
+    read_utf8_string,
 };
 use std::alloc::Global;
 use std::borrow::CowSlice;
