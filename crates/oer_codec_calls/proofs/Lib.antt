@@ -1,4 +1,3 @@
-mod Nesting
 mod Lifting
 mod Messages
 mod Once

@@ -20,9 +20,10 @@ use Rattle.oer_codec_fronts.proofs.Fitting.{records_fit}
 use Rattle.oer_codec_reading.specs.Fronts.{freedoms}
 use Rattle.oer_codec_reading.specs.declared.rules.EncodingRules.{EncodingRules}
 use Rattle.oer_codec_reading.specs.declared.rules.EncodingRules.TheVariants.{Oer as OerRules, Coer as CoerRules}
-use Rattle.oer_codec_calls.specs.Messages.{rules_of, HasMessage, Tells, NoMessage}
+use Rattle.asn1_schema_messages.specs.Messages.{HasMessage, Tells, NoMessage}
+use Rattle.asn1_schema_messages.proofs.Nesting.{no_deeper}
+use Rattle.oer_codec_calls.specs.Messages.{rules_of}
 use Rattle.oer_codec_calls.proofs.Lifting.{held_at, octets_taken, levels_taken, both_found}
-use Rattle.oer_codec_calls.proofs.Nesting.{no_deeper}
 
 -- ---- the rules
 any_bitmap : (r : EncodingRules) → IsTrue (freedoms r Oer.other_bitmap)

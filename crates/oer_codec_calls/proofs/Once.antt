@@ -1,27 +1,10 @@
--- Two messages in front of one input are one.
-use Rattle.std.proofs.Common.{◌≡◌, true, sym, ◌∙◌, ap, subst, ◌++◌}
-use Rattle.std.proofs.lemmas.List.{append_cancel_left}
-use Rattle.asn1_model.specs.Value.{same}
-use Rattle.asn1_model.specs.Normal.{normal}
+-- Of all beginnings of some octets one at most is an encoding.
 use Rattle.asn1_laws_fronts.specs.Laws.{OneFrontIn}
 use Rattle.asn1_laws_fronts_octets.proofs.Forms.{one_front_oer, one_front_coer}
-use Rattle.asn1_laws_values.proofs.Normal.{normal_same}
 use Rattle.oer_codec_reading.specs.declared.rules.EncodingRules.{EncodingRules}
 use Rattle.oer_codec_reading.specs.declared.rules.EncodingRules.TheVariants.{Oer, Coer}
-use Rattle.oer_codec_calls.specs.Messages.{rules_of, OneMessage}
+use Rattle.oer_codec_calls.specs.Messages.{rules_of}
 
-one_front : (rules : EncodingRules) → OneFrontIn (rules_of rules)
+pub one_front : (rules : EncodingRules) → OneFrontIn (rules_of rules)
 one_front Oer = one_front_oer
 one_front Coer = one_front_coer
-
-pub one_message : OneMessage
-one_message rules schema v w input x y lawful t u =
-    let s = schema 128 in
-    let a = t.message.message in
-    let b = u.message.message in
-    let e : a ++ x ≡ b ++ y = t.message.in_front ∙ sym u.message.in_front in
-    let p = one_front rules s t.raw u.raw a b x y lawful t.message.encoding u.message.encoding e in
-    let n : same (normal s t.raw) (normal s u.raw) ≡ true = normal_same s t.raw u.raw p.1 in (
-      subst (λ k. same v k ≡ true) u.means (subst (λ k. same k (normal s u.raw) ≡ true) t.means n),
-      append_cancel_left a x y (e ∙ ap (λ l. l ++ y) (sym p.0)),
-    )

@@ -1,12 +1,6 @@
--- Which message stands in front of an input, and what it tells.
-use Rattle.std.specs.Prelude.{◌≡◌, ◌≤◌, ℕ, true, List, ◌++◌}
-use Rattle.asn1_model.specs.Value.{Value, same, depth}
-use Rattle.asn1_model.specs.Schema.{Schema}
-use Rattle.asn1_model.specs.Lawful.{IsLawful}
-use Rattle.asn1_model.specs.Normal.{normal}
-use Rattle.asn1_model.specs.Rules.{Rules, oer, coer, IsEncoding}
-use Rattle.asn1_schema_faults.specs.declared.DecodeError.{DecodeError}
-use Rattle.asn1_schema_faults.specs.declared.DecodeError.TheVariants.{OutOfMemory}
+-- The rules of the calls, and that what they tell is one value.
+use Rattle.asn1_model.specs.Rules.{Rules, oer, coer}
+use Rattle.asn1_schema_messages.specs.Messages.{OneMessageIn}
 use Rattle.oer_codec_reading.specs.declared.rules.EncodingRules.{EncodingRules}
 use Rattle.oer_codec_reading.specs.declared.rules.EncodingRules.TheVariants.{Oer, Coer}
 
@@ -15,23 +9,6 @@ abbrev pub rules_of : EncodingRules → Rules
 rules_of Oer = oer
 rules_of Coer = coer
 
--- One encoding of the value stands in front, and the rest behind it. The value nests at most 128 levels.
-pub record HasMessage (r : Rules) (s : Schema) (v : Value) (input rest : List ℕ) : Type 0 where
-  pub message : List ℕ
-  pub in_front : message ++ rest ≡ input
-  pub encoding : IsEncoding r s v message
-  pub levels : depth v ≤ 128
-
--- A message stands in front, and v is the normal form of its value.
-pub record Tells (r : Rules) (schema : ℕ → Schema) (v : Value) (input rest : List ℕ) : Type 0 where
-  pub raw : Value
-  pub message : HasMessage r (schema 128) raw input rest
-  pub means : normal (schema 128) raw ≡ v
-
--- Why nothing is told: for want of memory, or because no message stands in front.
-pub record NoMessage (r : Rules) (schema : ℕ → Schema) (input : List ℕ) (e : DecodeError) : Type 0 where
-  pub none : ¬ (e ≡ OutOfMemory) → (v : Value) (rest : List ℕ) → HasMessage r (schema 128) v input rest → ⊥
-
 -- An input tells one value at most of a lawful type, up to the order of bags, and one rest stands behind its message.
 abbrev pub OneMessage : Type 0
-OneMessage = (rules : EncodingRules) (schema : ℕ → Schema) (v w : Value) (input x y : List ℕ) → IsLawful (schema 128) → Tells (rules_of rules) schema v input x → Tells (rules_of rules) schema w input y → (same v w ≡ true) × (x ≡ y)
+OneMessage = (rules : EncodingRules) → OneMessageIn (rules_of rules)

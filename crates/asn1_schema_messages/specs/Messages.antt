@@ -1,0 +1,30 @@
+-- Which message stands in front of an input, and what it tells.
+use Rattle.std.specs.Prelude.{◌≡◌, ◌≤◌, ℕ, true, List, ◌++◌}
+use Rattle.asn1_model.specs.Value.{Value, same, depth}
+use Rattle.asn1_model.specs.Schema.{Schema}
+use Rattle.asn1_model.specs.Lawful.{IsLawful}
+use Rattle.asn1_model.specs.Normal.{normal}
+use Rattle.asn1_model.specs.Rules.{Rules, IsEncoding}
+use Rattle.asn1_schema_faults.specs.declared.DecodeError.{DecodeError}
+use Rattle.asn1_schema_faults.specs.declared.DecodeError.TheVariants.{OutOfMemory}
+
+-- One encoding of the value stands in front, and the rest behind it. The value nests at most 128 levels.
+pub record HasMessage (r : Rules) (s : Schema) (v : Value) (input rest : List ℕ) : Type 0 where
+  pub message : List ℕ
+  pub in_front : message ++ rest ≡ input
+  pub encoding : IsEncoding r s v message
+  pub levels : depth v ≤ 128
+
+-- A message stands in front, and v is the normal form of its value.
+pub record Tells (r : Rules) (schema : ℕ → Schema) (v : Value) (input rest : List ℕ) : Type 0 where
+  pub raw : Value
+  pub message : HasMessage r (schema 128) raw input rest
+  pub means : normal (schema 128) raw ≡ v
+
+-- Why nothing is told: for want of memory, or because no message stands in front.
+pub record NoMessage (r : Rules) (schema : ℕ → Schema) (input : List ℕ) (e : DecodeError) : Type 0 where
+  pub none : ¬ (e ≡ OutOfMemory) → (v : Value) (rest : List ℕ) → HasMessage r (schema 128) v input rest → ⊥
+
+-- An input tells one value at most of a lawful type, up to the order of bags, and one rest stands behind its message.
+abbrev pub OneMessageIn : Rules → Type 0
+OneMessageIn r = (schema : ℕ → Schema) (v w : Value) (input x y : List ℕ) → IsLawful (schema 128) → Tells r schema v input x → Tells r schema w input y → (same v w ≡ true) × (x ≡ y)

@@ -1,0 +1,3 @@
+mod Lifting
+mod Messages
+mod Once

@@ -1,0 +1,160 @@
+-- How a record that is asked for is found in front, and why none is.
+use Rattle.std.proofs.Common.{◌≡◌, ℕ, ℤ, zero, suc, ◌+◌, ◌<◌, Bool, cond, true, false, ◌||◌, ◌&&◌, List, [], ◌∷◌, length, map, Option, Some, None, Result, Ok, Err, refl, sym, ◌∙◌, ap, subst, arith}
+use Rattle.std.specs.Prelude.{OnOk, not}
+use Rattle.asn1_schema_levels.specs.Levels.{level}
+use Rattle.asn1_model.specs.Value.{Value, truth, nothing, number, bit_list, octet_list, text, arcs}
+use Rattle.asn1_model.specs.Schema.{Range, Bounds, Counts, Size, Alphabet, StringKind, Schema, boolean, null, integer, bit_string, octet_string, character_string, object_identifier}
+use Rattle.asn1_model.specs.Lawful.{is_alphabet}
+use Rattle.asn1_model.specs.Numbers.{is_within, is_count_within, fits_128}
+use Rattle.asn1_model.specs.Strings.{each_is, is_octet}
+use Rattle.asn1_model.specs.Form.{exactly, only_if}
+use Rattle.asn1_model.specs.Tables.{is_bounded}
+use Rattle.asn1_model.specs.Per
+use Rattle.asn1_laws_fronts.proofs.PerNumbers.{length_of_map}
+use Rattle.asn1_schema_decode.specs.Reads.{NoRecord, NoLevel}
+use Rattle.asn1_schema_faults.specs.declared.DecodeError.{DecodeError}
+use Rattle.asn1_schema_faults.specs.declared.DecodeError.TheVariants.{OutOfMemory}
+use Rattle.asn1_schema_presented.specs.Records.{Record, Question, question, flag, nil, whole, bits, octets, characters, identifier, list_begins, further, sequence_begins, asks_flag, asks_nil, asks_whole, asks_bits, asks_octets, asks_characters, asks_identifier, asks_list, asks_further, asks_sequence}
+use Rattle.oer_codec_fronts.specs.Takes.{preamble_bits}
+use Rattle.per_codec_fronts.specs.Takes.{Place, Scope, components, members, State, Tally, Front, Found, ListBegins, NextMember, Begins, Takes}
+use Rattle.per_codec_fronts.proofs.Fronts.{if_out}
+use Rattle.per_codec_reading.specs.Fronts.{freedoms, is_aligned, NoneStands, Misses}
+use Rattle.per_codec_decoder.specs.Held.{Held, state_of, Finds, IsReady}
+use Rattle.per_codec_decoder.specs.Members.{HasMembers, NoMembers, NoFurther}
+use Rattle.per_codec_decoder.specs.Preamble.{HasPreamble}
+use Rattle.per_codec_decoder.proofs.Counting.{missed}
+
+-- ---- scalars
+module _ (al : Bool) (free : Per.Freedom → Bool) (a b : State) where
+  abbrev pub OfType : Schema → Type 0
+  OfType s = (v : Value) × Found free (Per.form al s v) a b
+
+  pub asked_flag : (r : Record) → question r ≡ asks_flag → Takes al free a r b → OfType boolean
+  asked_flag (flag v) k t = (truth v, t)
+  asked_flag r k t = cc k
+
+  pub asked_nil : (r : Record) → question r ≡ asks_nil → Takes al free a r b → OfType null
+  asked_nil nil k t = (nothing, t)
+  asked_nil r k t = cc k
+
+  pub asked_whole : (z : Bounds) (h : Range) (r : Record) → question r ≡ asks_whole z h → Takes al free a r b → OfType (integer z h)
+  asked_whole z h (whole y i v) k t = let e : integer y i ≡ integer z h = cc k in (number v, subst (λ s. Found free (Per.form al s (number v)) a b) e t)
+  asked_whole z h r k t = cc k
+
+  pub asked_bits : (z : Size) (h : Counts) (r : Record) → question r ≡ asks_bits z h → Takes al free a r b → OfType (bit_string z h)
+  asked_bits z h (bits y i v) k t = let e : bit_string y i ≡ bit_string z h = cc k in (bit_list v, subst (λ s. Found free (Per.form al s (bit_list v)) a b) e t)
+  asked_bits z h r k t = cc k
+
+  pub asked_octets : (z : Size) (h : Counts) (r : Record) → question r ≡ asks_octets z h → Takes al free a r b → OfType (octet_string z h)
+  asked_octets z h (octets y i v) k t = let e : octet_string y i ≡ octet_string z h = cc k in (octet_list v, subst (λ s. Found free (Per.form al s (octet_list v)) a b) e t)
+  asked_octets z h r k t = cc k
+
+  pub asked_characters : (c : StringKind) (z : Size) (l : Alphabet) (h : Counts) (r : Record) → question r ≡ asks_characters c z l h → Takes al free a r b → (is_alphabet c l.characters ≡ true) × OfType (character_string c z l h)
+  asked_characters c z l h (characters d y m i v) k t =
+      let e : characters d y m i v ≡ characters c z l h v = cc k in
+      let u : Takes al free a (characters c z l h v) b = subst (λ s. Takes al free a s b) e t in
+      (u.0, (text v, u.1))
+  asked_characters c z l h r k t = cc k
+
+  pub asked_identifier : (r : Record) → question r ≡ asks_identifier → Takes al free a r b → OfType object_identifier
+  asked_identifier (identifier v) k t = (arcs v, t)
+  asked_identifier r k t = cc k
+
+-- none of a type is found where none stands in front
+pub none_found : (old now : Held) (q : Question) (s : Schema) (e x : DecodeError) → now ≡ old → x ≡ e → Misses (freedoms now.variant) (Per.form (is_aligned now.variant) s) now.place e → ((al : Bool) (free : Per.Freedom → Bool) (a b : State) (r : Record) → question r ≡ q → Takes al free a r b → OfType al free a b s) → NoRecord Finds q old x
+none_found old now q s e x same faults m asked =
+    let n : Misses (freedoms old.variant) (Per.form (is_aligned old.variant) s) old.place e = subst (λ (h : Held). Misses (freedoms h.variant) (Per.form (is_aligned h.variant) s) h.place e) same m in
+    record { none = λ i r new k p. let t = asked (is_aligned old.variant) (freedoms old.variant) (state_of old) (state_of new) r k p.taken in missed (freedoms old.variant) (Per.form (is_aligned old.variant) s) old.place e n (λ y. i (faults ∙ y)) t.0 new.place t.1.0 }
+
+-- ---- what a form says of a value
+module _ (free : Per.Freedom → Bool) (al : Bool) (a b : Place) where
+  pub octets_within : (z : Size) (h : Counts) (v : List ℕ) → Front free (Per.form al (octet_string z h) (octet_list v)) a b → is_count_within h (length v) ≡ true
+  unfolding Per.form Per.sized
+  octets_within z h v f = subst (λ n. is_count_within h n ≡ true) (length_of_map _ v) (if_out free (is_count_within h (length (Per.octet_units v))) _ a b (if_out free (each_is is_octet v) _ a b f).1).0
+
+  pub bits_within : (z : Size) (h : Counts) (v : List Bool) → Front free (Per.form al (bit_string z h) (bit_list v)) a b → is_count_within h (length v) ≡ true
+  unfolding Per.form Per.sized
+  bits_within z h v f = subst (λ n. is_count_within h n ≡ true) (length_of_map _ v) (if_out free (is_count_within h (length (Per.bit_units v))) _ a b f).0
+
+  in_bounds : (e c : Bool) (x y : Per.BitForm) → Front free (Per.marked e c x y) a b → (e || c) ≡ true
+  unfolding Per.marked
+  in_bounds true c x y f = refl
+  in_bounds false c x y f = (if_out free c x a b f).0
+
+  pub number_within : (z : Bounds) (h : Range) (v : ℤ) → Front free (Per.form al (integer z h) (number v)) a b → (z.extensible || is_within z.range v) ≡ true
+  unfolding Per.form Per.integer_form
+  number_within z h v f = in_bounds z.extensible (is_within z.range v) _ _ (if_out free (is_within h v && (not (is_bounded z) || fits_128 v)) _ a b f).1
+
+-- ---- what opens a scope
+pub both_ok : {A E : Type 0} {P Q R : Type 0} (r : Result A E) → OnOk r P → OnOk r Q → (P → Q → R) → OnOk r R
+both_ok (Ok x) p q f = f p q
+both_ok (Err e) p q f = tt
+
+pub opens : (old now new : Held) (s : Scope) (rest : Place) (r : Record) → now ≡ old → IsReady old → Takes (is_aligned now.variant) (freedoms now.variant) (state_of now) r (rest, s ∷ now.scopes) → ((most l : ℕ) → level most r (suc l) ≡ Some l) → now.levels ≡ new.levels + 1 → new ≡ record { place = rest; scopes = s ∷ now.scopes; levels = new.levels; most = now.most; failed = now.failed; variant = now.variant } → Finds old r new
+opens old now new s rest r same ready t lower e f =
+    let g : Takes (is_aligned old.variant) (freedoms old.variant) (state_of old) r (rest, s ∷ old.scopes) = subst (λ (h : Held). Takes (is_aligned h.variant) (freedoms h.variant) (state_of h) r (rest, s ∷ h.scopes)) same t in
+    let k : (rest, s ∷ old.scopes) ≡ state_of new = ap (λ (h : Held). (rest, s ∷ h.scopes)) (sym same) ∙ sym (ap state_of f) in
+    let l : old.levels ≡ suc new.levels = let i : old.levels ≡ now.levels = ap (λ (h : Held). h.levels) (sym same) in omega (arith, e, i) in
+    record {
+      ready = ready;
+      taken = subst (Takes (is_aligned old.variant) (freedoms old.variant) (state_of old) r) k g;
+      levels = ap (level old.most r) l ∙ lower old.most new.levels;
+      most = ap (λ (h : Held). h.most) f ∙ ap (λ (h : Held). h.most) same;
+      ready_still = ap (λ (h : Held). h.failed) f ∙ ap (λ (h : Held). h.failed) same ∙ ready;
+      variant = ap (λ (h : Held). h.variant) f ∙ ap (λ (h : Held). h.variant) same;
+    }
+
+-- ---- sequences
+pub begins : (free : Per.Freedom → Bool) (e : Bool) (n : ℕ) (s : Scope) (a b : Place) (k : List Scope) → HasPreamble free e n s a b → Begins free e n (a, k) (b, s ∷ k)
+begins free e n (components x ms) a b k h = (x, ms, h.0, h.1, h.2, refl)
+begins free e n s a b k h = absurd h
+
+asked_sequence : (al : Bool) (free : Per.Freedom → Bool) (e : Bool) (n : ℕ) (a b : State) (r : Record) → question r ≡ asks_sequence e n → Takes al free a r b → Begins free e n a b
+asked_sequence al free e n a b (sequence_begins d m) k t =
+    let p : sequence_begins d m ≡ sequence_begins e n = cc k in
+    subst (λ r. Takes al free a r b) p t
+asked_sequence al free e n a b r k t = cc k
+
+pub no_sequence : (old now : Held) (e : Bool) (n : ℕ) (x : DecodeError) → now ≡ old → ((free : Per.Freedom → Bool) (s : Scope) (b : Place) → HasPreamble free e n s now.place b → ⊥) → NoLevel Finds (asks_sequence e n) old.levels old x
+no_sequence old now e n x same none = record {
+  none = λ m l r new k p.
+      let t = asked_sequence (is_aligned old.variant) (freedoms old.variant) e n (state_of old) (state_of new) r k p.taken in
+      none (freedoms old.variant) (components t.0 t.1) new.place (t.2, t.3, subst (λ (g : Held). Front (freedoms old.variant) (exactly (preamble_bits t.0 t.1)) g.place new.place) (sym same) t.4);
+}
+
+-- ---- lists
+pub listed : (al : Bool) (free : Per.Freedom → Bool) (z : Size) (h : Counts) (due n : ℕ) (hs : Option Tally) (a b : Place) (k : List Scope) → is_count_within h n ≡ true → HasMembers al free z h due hs a b → ListBegins al free z h n (a, k) (b, members due hs ∷ k)
+listed al free z h due n hs a b k e g = (e, g.0, g.1, g.2, g.3 k)
+
+asked_list : (al : Bool) (free : Per.Freedom → Bool) (z : Size) (h : Counts) (a b : State) (r : Record) → question r ≡ asks_list z h → Takes al free a r b → (n : ℕ) × ListBegins al free z h n a b
+asked_list al free z h a b (list_begins y i n) k t =
+    let p : list_begins y i n ≡ list_begins z h n = cc k in
+    (n, subst (λ r. Takes al free a r b) p t)
+asked_list al free z h a b r k t = cc k
+
+pub no_list : (old now : Held) (z : Size) (h : Counts) (e x : DecodeError) → now ≡ old → x ≡ e → NoMembers (is_aligned now.variant) (freedoms now.variant) z h now.place e → NoLevel Finds (asks_list z h) old.levels old x
+no_list old now z h e x same faults m =
+    let n : NoMembers (is_aligned old.variant) (freedoms old.variant) z h old.place e = subst (λ (g : Held). NoMembers (is_aligned g.variant) (freedoms g.variant) z h g.place e) same m in
+    record {
+      none = λ i l r new k p.
+          let t = asked_list (is_aligned old.variant) (freedoms old.variant) z h (state_of old) (state_of new) r k p.taken in
+          n.none (λ y. i (faults ∙ y)) t.0 old.scopes (state_of new) t.1;
+    }
+
+asked_further : (al : Bool) (free : Per.Freedom → Bool) (a b : State) (r : Record) → question r ≡ asks_further → Takes al free a r b → (v : Bool) × NextMember al free v a.0 a.1 b
+asked_further al free a b (further v) k t = (v, t)
+asked_further al free a b r k t = cc k
+
+pub no_member : (old now : Held) (e x : DecodeError) → now ≡ old → x ≡ e → NoFurther (is_aligned now.variant) (freedoms now.variant) now.place now.scopes e → NoRecord Finds asks_further old x
+no_member old now e x same faults m =
+    let n : NoFurther (is_aligned old.variant) (freedoms old.variant) old.place old.scopes e = subst (λ (g : Held). NoFurther (is_aligned g.variant) (freedoms g.variant) g.place g.scopes e) same m in
+    record { none = λ i r new k p. let t = asked_further (is_aligned old.variant) (freedoms old.variant) (state_of old) (state_of new) r k p.taken in n.none (λ y. i (faults ∙ y)) t.0 (state_of new) t.1 }
+
+-- characters of an alphabet alone
+pub none_of_alphabet : (old now : Held) (c : StringKind) (z : Size) (l : Alphabet) (h : Counts) (e x : DecodeError) → now ≡ old → x ≡ e → (is_alphabet c l.characters ≡ true → Misses (freedoms now.variant) (Per.form (is_aligned now.variant) (character_string c z l h)) now.place e) → NoRecord Finds (asks_characters c z l h) old x
+none_of_alphabet old now c z l h e x same faults m = record {
+  none = λ i r new k p.
+      let t = asked_characters (is_aligned old.variant) (freedoms old.variant) (state_of old) (state_of new) c z l h r k p.taken in
+      let n : Misses (freedoms old.variant) (Per.form (is_aligned old.variant) (character_string c z l h)) old.place e = subst (λ (g : Held). Misses (freedoms g.variant) (Per.form (is_aligned g.variant) (character_string c z l h)) g.place e) same (m t.0) in
+      missed (freedoms old.variant) (Per.form (is_aligned old.variant) (character_string c z l h)) old.place e n (λ y. i (faults ∙ y)) t.1.0 new.place t.1.1.0;
+}

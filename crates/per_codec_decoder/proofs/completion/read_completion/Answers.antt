@@ -1,0 +1,22 @@
+use Rattle.std.proofs.Common.{rules, ◌≡◌, ◌∙◌, ◌∷◌, [], sym, ap, subst, refl, arith}
+use Rattle.std.specs.Prelude.{length, ◌<◌}
+use Rattle.asn1_model.specs.Numbers.{missing}
+use Rattle.asn1_schema_presented.proofs.Joined.{raised}
+use Rattle.asn1_values_bits.specs.BitStr.{bits_of}
+use Rattle.per_codec_decoder.proofs.Leading.{filled, unfilled, zero_octet, no_octet, other_octet}
+use Rattle.per_codec_decoder.proofs.completion.read_completion.Goals as goal
+
+pub returns-in_err-take_number-clause-only : goal.returns-in_err-take_number-clause-only
+returns-in_err-take_number-clause-only c = raised _ _ _ c.from_residual.ensures.1 (λ free b. no_octet free c.args.cursor.now.0 c.args.cursor.now b (sym c.position.ensures ∙ c.if-position-eq0.true) c.in_err-take_number.ensures.short.1)
+
+pub returns-then-branch-ne0-clause-only : goal.returns-then-branch-ne0-clause-only
+returns-then-branch-ne0-clause-only c = λ free b. other_octet free c.in_ok-take_number.field-0 c.args.cursor.now.0 c.args.cursor.now c.take_number.new.self b (sym c.position.ensures ∙ c.if-position-eq0.true) c.if-branch-ne0.true c.in_ok-take_number.ensures.fits c.in_ok-take_number.ensures.digits
+
+pub returns-then-position-eq0-clause-ok : goal.returns-then-position-eq0-clause-ok
+returns-then-position-eq0-clause-ok c = λ free t. zero_octet free c.in_ok-take_number.field-0 c.args.cursor.now.0 c.args.cursor.now c.take_number.new.self (sym c.position.ensures ∙ c.if-position-eq0.true) c.if-branch-ne0.false c.in_ok-take_number.ensures.digits
+
+pub returns-in_err-_filling-clause-only : goal.returns-in_err-_filling-clause-only
+returns-in_err-_filling-clause-only c = raised _ _ _ c.from_residual-in_err-_filling.ensures.1 (λ free b. unfilled free c.args.cursor.now.0 c.args.cursor.now b (λ z. c.if-position-eq0.false (c.position.ensures ∙ z)) (subst (λ n. length c.args.cursor.now.1 < missing n) c.position-2.ensures c.in_err-_filling.ensures.short.1))
+
+pub returns-clause-ok : goal.returns-clause-ok
+returns-clause-ok c = λ free t. filled free (bits_of c.in_ok-_filling._filling) c.args.cursor.now.0 c.args.cursor.now c.take.new.self t (λ z. c.if-position-eq0.false (c.position.ensures ∙ z)) (c.in_ok-_filling.ensures.count ∙ ap missing c.position-2.ensures) c.in_ok-_filling.ensures.bits

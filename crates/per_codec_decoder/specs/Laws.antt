@@ -1,0 +1,54 @@
+-- The laws of a decoder of the packed encoding rules.
+use Rattle.std.proofs.Common.{◌≡◌, ℕ, Bool, true, false, List, Option, Some, None, refl, sym, ◌∙◌, ap, subst}
+use Rattle.asn1_model.specs.Schema.{Size, Counts}
+use Rattle.asn1_model.specs.Numbers.{is_count_within}
+use Rattle.asn1_schema_presented.specs.Records.{Record, Question, question, told, flag, list_begins, asks_list, asks_bag, asks_sequence, asks_set, asks_group, asks_choice, asks_end}
+use Rattle.asn1_schema_levels.specs.Levels.{level, inside, outside}
+use Rattle.per_codec_fronts.specs.Takes.{Scope, State}
+use Rattle.per_codec_fronts.proofs.Next.{one_taken}
+use Rattle.per_codec_reading.specs.Fronts.{freedoms, is_aligned}
+use Rattle.per_codec_reading.specs.declared.variant.Variant.{Variant}
+use Rattle.per_codec_decoder.specs.Held.{Held, state_of, kind_of, Finds}
+
+-- the levels that are left behind a record, by what it answers
+asked : ℕ → Question → ℕ → Option ℕ
+asked most (asks_list z h) l = inside l
+asked most (asks_bag z h) l = inside l
+asked most (asks_sequence e n) l = inside l
+asked most (asks_set e n) l = inside l
+asked most (asks_group n) l = inside l
+asked most (asks_choice r e a) l = inside l
+asked most asks_end l = outside most l
+asked most q l = Some l
+
+level_asked : (most : ℕ) (r : Record) (l : ℕ) → level most r l ≡ asked most (question r) l
+unfolding asked
+level_asked most (flag v) l = refl
+level_asked most r l = refl
+
+same_level : (most : ℕ) (r s : Record) (l : ℕ) → question r ≡ question s → level most r l ≡ level most s l
+same_level most r s l e = level_asked most r l ∙ ap (λ q. asked most q l) e ∙ sym (level_asked most s l)
+
+held_is : {b c : Held} → state_of b ≡ state_of c → b.levels ≡ c.levels → b.most ≡ c.most → b.failed ≡ c.failed → b.variant ≡ c.variant → b ≡ c
+held_is {b} {c} v w x y z =
+    ap (λ (t : State). let h : Held = record { place = t.0; scopes = t.1; levels = b.levels; most = b.most; failed = b.failed; variant = b.variant } in h) v
+    ∙ (ap (λ (t : ℕ). let h : Held = record { place = c.place; scopes = c.scopes; levels = t; most = b.most; failed = b.failed; variant = b.variant } in h) w
+    ∙ (ap (λ (t : ℕ). let h : Held = record { place = c.place; scopes = c.scopes; levels = c.levels; most = t; failed = b.failed; variant = b.variant } in h) x
+    ∙ (ap (λ (t : Bool). let h : Held = record { place = c.place; scopes = c.scopes; levels = c.levels; most = c.most; failed = t; variant = b.variant } in h) y
+    ∙ ap (λ (t : Variant). let h : Held = record { place = c.place; scopes = c.scopes; levels = c.levels; most = c.most; failed = c.failed; variant = t } in h) z)))
+
+pub finds_one : (a : Held) (r s : Record) (b c : Held) → question r ≡ question s → Finds a r b → Finds a s c → (told r ≡ told s) × (b ≡ c)
+finds_one a r s b c k p q =
+    let t = one_taken (is_aligned a.variant) (freedoms a.variant) (state_of a) r s (state_of b) (state_of c) k p.taken q.taken in
+    let e : Some b.levels ≡ Some c.levels = sym p.levels ∙ same_level a.most r s a.levels k ∙ q.levels in
+    let l : b.levels ≡ c.levels = cc e in
+    (t.0, held_is t.1 l (p.most ∙ sym q.most) (p.ready_still ∙ sym q.ready_still) (p.variant ∙ sym q.variant))
+
+pub finds_held : (a : Held) (z : Size) (h : Counts) (n : ℕ) (b : Held) → Finds a (list_begins z h n) b → is_count_within h n ≡ true
+finds_held a z h n b p = let t = p.taken in t.0
+
+pub finds_none : (a : Held) (r : Record) (b : Held) → a.failed ≡ true → Finds a r b → ⊥
+finds_none a r b h p = let e : true ≡ false = sym h ∙ p.ready in cc
+
+pub finds_same : (a : Held) (r : Record) (b : Held) → Finds a r b → kind_of b.variant ≡ kind_of a.variant
+finds_same a r b p = ap kind_of p.variant

@@ -1,0 +1,5 @@
+pub mod Scopes
+pub mod Preamble
+pub mod Members
+pub mod Held
+pub mod Laws

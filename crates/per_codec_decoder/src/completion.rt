@@ -1,0 +1,26 @@
+//! What fills up a message (X.691 11.1).
+ghost use Rattle.std.specs.Prelude.{OnOk, IfErr, IsTrue};
+ghost use Rattle.asn1_model.specs.Per;
+ghost use Rattle.per_codec_fronts.specs.Takes.{Front, completion};
+
+use asn1_schema_faults::DecodeError;
+use per_codec_reading::Cursor;
+
+/// Passes over what fills up a message behind its value: any bits up to the next octet, or one zero octet where the value has no bits.
+///
+/// # Errors
+///
+/// `InvalidPadding` if that octet is not zero, and `Incomplete` if the bits end early.
+pub(crate) fn read_completion(cursor: &mut Cursor<'_>) -> Result<(), DecodeError>
+    ensures ok { OnOk result ((free : _) → IsTrue (free Per.any_filling) → Front free (completion cursor.old.0) cursor.old cursor.new) }
+    ensures only { IfErr result (λ _. (free : _) (b : _) → Front free (completion cursor.old.0) cursor.old b → ⊥) }
+{
+    if cursor.position() == 0 {
+        if cursor.take_number(8)? != 0 {
+            return Err(DecodeError::InvalidPadding);
+        }
+        return Ok(());
+    }
+    let _filling = cursor.take((8 - cursor.position() % 8) % 8)?;
+    Ok(())
+}
