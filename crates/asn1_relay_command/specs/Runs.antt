@@ -2,25 +2,17 @@
 -- that it holds, where these are known.
 use Rattle.std.specs.Prelude.{◌≡◌, ◌⊎◌, ℕ, List, take, Option, Some, None}
 use Rattle.std.specs.Io.KnownBytes.{Appends, Consumes, IsAtEnd, Keeps}
-use Rattle.asn1_model.specs.Schema.{Schema, boolean}
-use Rattle.asn1_relay_core.specs.Recoding.{Answer, IsAnswer, answered, not_an_encoding, surplus, no_target, rules_of}
+use Rattle.asn1_relay_core.specs.Coding.{rules_of}
+use Rattle.asn1_relay_core.specs.Recoding.{Answer, IsAnswer, answered, not_an_encoding, surplus, no_target}
 use Rattle.asn1_relay_core.specs.declared.translation.RecodeFault.{RecodeFault}
 use Rattle.asn1_relay_core.specs.declared.translation.RecodeFault.TheVariants as recode_fault
 use Rattle.asn1_relay_command.specs.Lines.{line_of}
-use Rattle.asn1_relay_command.specs.Numbers.{small_schema}
-use Rattle.asn1_relay_command.specs.Pairs.{pair_schema}
+use Rattle.asn1_relay_command.specs.Kinds.{schema_named}
 use Rattle.asn1_relay_command.specs.declared.fault.Fault.{Fault}
 use Rattle.asn1_relay_command.specs.declared.fault.Fault.TheVariants as fault
-use Rattle.asn1_relay_command.specs.declared.order.Kind.{Kind}
-use Rattle.asn1_relay_command.specs.declared.order.Kind.TheVariants as kind
 use Rattle.asn1_relay_command.specs.declared.order.Order.{Order}
 
 -- ---- translating
-
-abbrev pub schema_named : Kind → Schema
-schema_named kind.Bool = boolean
-schema_named kind.Small = small_schema
-schema_named kind.Pair = pair_schema
 
 -- what a message becomes, by what was asked for
 abbrev pub Becomes : Order → List ℕ → Answer → Type 0

@@ -9,10 +9,14 @@ ghost use Rattle.asn1_relay_command.specs.Orders.{order_of};
 ghost use Rattle.asn1_relay_command.specs.Runs.{Becomes, Begins, HasDone, HasFailed, HasRefused, IsAllRead, IsDone, IsRefusedBy, StopsBy};
 
 use crate::fault::Fault;
+use crate::octets::Octets;
 use crate::order::{Kind, Order, read_order};
 use crate::pair::Pair;
 use crate::small::Small;
 use asn1_relay_core::recode;
+use asn1_values_bit_strings::BitString;
+use asn1_values_numbers::Integer;
+use asn1_values_strings::VisibleString;
 use clap::error::ErrorKind as ParseErrorKind;
 use std::alloc::Global;
 use std::convert::AsStr;
@@ -124,6 +128,12 @@ pub fn translate_all(alloc: Global, order: Order, message: &[u8]) -> Result<Vec<
         Kind::Bool => recode::<bool>(alloc, order.from, order.to, message)?,
         Kind::Small => recode::<Small>(alloc, order.from, order.to, message)?,
         Kind::Pair => recode::<Pair>(alloc, order.from, order.to, message)?,
+        Kind::Integer => recode::<Integer>(alloc, order.from, order.to, message)?,
+        Kind::Bits => recode::<BitString>(alloc, order.from, order.to, message)?,
+        Kind::Octets => recode::<Octets>(alloc, order.from, order.to, message)?,
+        Kind::Visible => recode::<VisibleString>(alloc, order.from, order.to, message)?,
+        Kind::Null => recode::<()>(alloc, order.from, order.to, message)?,
+        Kind::Nulls => recode::<Vec<()>>(alloc, order.from, order.to, message)?,
     };
     Ok(answer)
 }
