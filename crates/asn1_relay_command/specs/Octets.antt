@@ -1,8 +1,10 @@
--- SIZE (1..3, ...).
-use Rattle.std.specs.Prelude.{Some, None, [], false}
-use Rattle.asn1_schema_bounds.specs.declared.bounds.Bounded.TheVariants.{Range}
-use Rattle.asn1_schema_constraints.specs.declared.lists.Constraints.{Constraints}
+-- OCTET STRING (SIZE (1..3, ...)).
+use Rattle.std.specs.Prelude.{ℕ, Some, None, true}
+use Rattle.asn1_model.specs.Schema.{Schema, Size, octet_string}
 
--- The constraint to one to three units, with a mark and nothing behind it.
-abbrev pub one_to_three : Constraints
-one_to_three = record { value = None; size = Some (record { constraint = record { range = Range (Some 1) (Some 3) }; extensible = Some (record { now = [] }) }); permitted_alphabet = None; is_marked = false }
+-- One to three units, or behind the mark any number.
+abbrev pub one_to_three : Size
+one_to_three = record { counts = record { low = 1; high = Some 3 }; extensible = true }
+
+abbrev pub octets_schema : ℕ → Schema
+octets_schema n = octet_string one_to_three (record { low = 0; high = None })

@@ -9,7 +9,7 @@ mod program;
 mod small;
 
 pub use fault::Fault;
-pub use octets::{Octets, OneToThree};
+pub use octets::Octets;
 pub use order::{Kind, Order, read_order};
 pub use pair::Pair;
 pub use program::{command, refuse_arguments, translate_all};
