@@ -1,3 +1,2 @@
-pub mod PairParts
 pub mod OrderLemmas
 pub mod Written

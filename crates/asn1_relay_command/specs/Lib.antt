@@ -1,6 +1,5 @@
-pub mod Numbers
-pub mod Pairs
-pub mod Nested
+pub mod Octets
+pub mod Kinds
 pub mod Orders
 pub mod Lines
 pub mod Runs

@@ -2,8 +2,8 @@
 use Rattle.std.specs.Prelude.{true, List, [], ◌∷◌, Option, Some, None, option_map, option_and_then, if◌then◌else◌, codes}
 use Rattle.std.specs.Str.{bytes_eq}
 use Rattle.clap.specs.Words.{App, Rule, Row, Text, Kinds, first_of, fault_of, new_app, new_rule, subcommand_of, with_rule, with_subcommand}
-use Rattle.asn1_relay_core.specs.declared.translation.Codec.{Codec}
-use Rattle.asn1_relay_core.specs.declared.translation.Codec.TheVariants.{Uper, Coer}
+use Rattle.asn1_relay_core.specs.declared.codec.Codec.{Codec}
+use Rattle.asn1_relay_core.specs.declared.codec.Codec.TheVariants.{Oer, Coer}
 use Rattle.asn1_relay_command.specs.declared.order.Kind.{Kind}
 use Rattle.asn1_relay_command.specs.declared.order.Kind.TheVariants as kind
 use Rattle.asn1_relay_command.specs.declared.order.Order.{Order}
@@ -26,7 +26,7 @@ program_app = with_subcommand (record { top = record (new_app (codes "asn1_relay
 
 abbrev pub codec_by_name : Text → Option Codec
 codec_by_name name =
-    if bytes_eq name (codes "uper") then Some Uper
+    if bytes_eq name (codes "oer") then Some Oer
     else (if bytes_eq name (codes "coer") then Some Coer
     else None)
 
@@ -35,7 +35,13 @@ kind_by_name name =
     if bytes_eq name (codes "bool") then Some kind.Bool
     else (if bytes_eq name (codes "small") then Some kind.Small
     else (if bytes_eq name (codes "pair") then Some kind.Pair
-    else None))
+    else (if bytes_eq name (codes "integer") then Some kind.Integer
+    else (if bytes_eq name (codes "bits") then Some kind.Bits
+    else (if bytes_eq name (codes "octets") then Some kind.Octets
+    else (if bytes_eq name (codes "visible") then Some kind.Visible
+    else (if bytes_eq name (codes "null") then Some kind.Null
+    else (if bytes_eq name (codes "nulls") then Some kind.Nulls
+    else None))))))))
 
 -- ---- the order
 

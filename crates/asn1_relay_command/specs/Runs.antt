@@ -2,29 +2,26 @@
 -- that it holds, where these are known.
 use Rattle.std.specs.Prelude.{◌≡◌, ◌⊎◌, ℕ, List, take, Option, Some, None}
 use Rattle.std.specs.Io.KnownBytes.{Appends, Consumes, IsAtEnd, Keeps}
-use Rattle.asn1_model.specs.Schema.{Schema, boolean}
-use Rattle.asn1_relay_core.specs.Recoding.{Answer, IsAnswer, answered, not_an_encoding, surplus, no_target, rules_of}
+use Rattle.asn1_model.specs.Schema.{Schema}
+use Rattle.asn1_relay_core.specs.Coding.{rules_of}
+use Rattle.asn1_relay_core.specs.Recoding.{Answer, IsAnswer, answered, not_an_encoding, surplus, no_target}
 use Rattle.asn1_relay_core.specs.declared.translation.RecodeFault.{RecodeFault}
 use Rattle.asn1_relay_core.specs.declared.translation.RecodeFault.TheVariants as recode_fault
 use Rattle.asn1_relay_command.specs.Lines.{line_of}
-use Rattle.asn1_relay_command.specs.Numbers.{small_schema}
-use Rattle.asn1_relay_command.specs.Pairs.{pair_schema}
+use Rattle.asn1_relay_command.specs.Kinds.{schema_named}
 use Rattle.asn1_relay_command.specs.declared.fault.Fault.{Fault}
 use Rattle.asn1_relay_command.specs.declared.fault.Fault.TheVariants as fault
-use Rattle.asn1_relay_command.specs.declared.order.Kind.{Kind}
-use Rattle.asn1_relay_command.specs.declared.order.Kind.TheVariants as kind
 use Rattle.asn1_relay_command.specs.declared.order.Order.{Order}
 
 -- ---- translating
 
-abbrev pub schema_named : Kind → Schema
-schema_named kind.Bool = boolean
-schema_named kind.Small = small_schema
-schema_named kind.Pair = pair_schema
+-- what a message of a type becomes, by the rules that were asked for
+abbrev pub BecomesAs : Schema → Order → List ℕ → Answer → Type 0
+BecomesAs s order message answer = IsAnswer (rules_of order.from) (rules_of order.to) s message answer
 
--- what a message becomes, by what was asked for
+-- what it becomes, by what was asked for
 abbrev pub Becomes : Order → List ℕ → Answer → Type 0
-Becomes order message answer = IsAnswer (rules_of order.from) (rules_of order.to) (schema_named order.kind) message answer
+Becomes order message answer = BecomesAs (schema_named order.kind) order message answer
 
 abbrev pub fault_named : RecodeFault → Fault
 fault_named (recode_fault.NotAnEncoding e) = fault.NotAnEncoding
@@ -32,14 +29,18 @@ fault_named recode_fault.Surplus = fault.SurplusOctets
 fault_named (recode_fault.NoTarget e) = fault.NoTargetEncoding
 fault_named recode_fault.Memory = fault.OutOfMemory
 
--- a fault of translating is what becomes of the message, or want of memory
+-- a fault of translating a message of a type is what becomes of it, or want of memory
+abbrev pub IsRefusedAs : Schema → Order → List ℕ → Fault → Type 0
+IsRefusedAs s order message fault.NotAnEncoding = BecomesAs s order message not_an_encoding
+IsRefusedAs s order message fault.SurplusOctets = BecomesAs s order message surplus
+IsRefusedAs s order message fault.NoTargetEncoding = BecomesAs s order message no_target
+IsRefusedAs s order message fault.OutOfMemory = Unit {0}
+IsRefusedAs s order message fault.ReadFailed = ⊥
+IsRefusedAs s order message fault.WriteFailed = ⊥
+
+-- the same of what was asked for
 abbrev pub IsRefusedBy : Order → List ℕ → Fault → Type 0
-IsRefusedBy order message fault.NotAnEncoding = Becomes order message not_an_encoding
-IsRefusedBy order message fault.SurplusOctets = Becomes order message surplus
-IsRefusedBy order message fault.NoTargetEncoding = Becomes order message no_target
-IsRefusedBy order message fault.OutOfMemory = Unit {0}
-IsRefusedBy order message fault.ReadFailed = ⊥
-IsRefusedBy order message fault.WriteFailed = ⊥
+IsRefusedBy order message f = IsRefusedAs (schema_named order.kind) order message f
 
 -- ---- reading and writing
 

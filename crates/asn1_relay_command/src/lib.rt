@@ -2,12 +2,14 @@
 #![tactic(auto)]
 
 mod fault;
+mod octets;
 mod order;
 mod pair;
 mod program;
 mod small;
 
 pub use fault::Fault;
+pub use octets::Octets;
 pub use order::{Kind, Order, read_order};
 pub use pair::Pair;
 pub use program::{command, refuse_arguments, translate_all};

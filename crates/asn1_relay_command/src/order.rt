@@ -18,6 +18,18 @@ pub enum Kind {
     Small,
     /// SEQUENCE {a BOOLEAN, b INTEGER (-5..5)}.
     Pair,
+    /// INTEGER.
+    Integer,
+    /// BIT STRING.
+    Bits,
+    /// OCTET STRING (SIZE (1..3, ...)).
+    Octets,
+    /// VisibleString.
+    Visible,
+    /// NULL.
+    Null,
+    /// SEQUENCE OF NULL.
+    Nulls,
 }
 
 /// What to do: one message of this type becomes, from the one set of rules, that in the other.
@@ -36,7 +48,7 @@ fn codec_named(name: &str) -> Option<Codec>
     ensures { result ≡ codec_by_name name.now }
 {
     match name {
-        "uper" => Some(Codec::Uper),
+        "oer" => Some(Codec::Oer),
         "coer" => Some(Codec::Coer),
         _ => None,
     }
@@ -50,6 +62,12 @@ fn kind_named(name: &str) -> Option<Kind>
         "bool" => Some(Kind::Bool),
         "small" => Some(Kind::Small),
         "pair" => Some(Kind::Pair),
+        "integer" => Some(Kind::Integer),
+        "bits" => Some(Kind::Bits),
+        "octets" => Some(Kind::Octets),
+        "visible" => Some(Kind::Visible),
+        "null" => Some(Kind::Null),
+        "nulls" => Some(Kind::Nulls),
         _ => None,
     }
 }
@@ -68,12 +86,12 @@ fn grammar<'a>(alloc: Global) -> Result<Command<'a>, AllocError>
 {
     let once = Command::new(alloc, "once")
         .about("Translates the message that is all of standard input")
-        .arg(option(alloc, "from", "the rules of the input: uper or coer"))?
-        .arg(option(alloc, "to", "the rules of the output: uper or coer"))?
+        .arg(option(alloc, "from", "the rules of the input: uper, aper, oer or coer"))?
+        .arg(option(alloc, "to", "the rules of the output: uper, aper, oer or coer"))?
         .arg(option(
             alloc,
             "type",
-            "the type of the message: bool, small or pair",
+            "the type of the message: bool, small, pair, integer, bits, octets, visible, null or nulls",
         ))?;
     Command::new(alloc, "asn1_relay")
         .about("Translates messages between encoding rules of ASN.1")
@@ -117,7 +135,7 @@ pub fn read_order<S: AsStr>(alloc: Global, words: &[S]) -> Result<Order, Error>
         Some(order) => Ok(order),
         None => Err(grammar.error(
             ErrorKind::InvalidValue,
-            "rules are uper or coer, and types bool, small or pair",
+            "rules are uper, aper, oer or coer, and types bool, small, pair, integer, bits, octets, visible, null or nulls",
         )?),
     }
 }

@@ -1,10 +1,25 @@
-//! A truth value beside a small number.
+//! A truth value beside a number from -5 to 5.
+ghost use Rattle.std.specs.Prelude.{refl, [], ◌∷◌};
+ghost use Rattle.asn1_model.specs.Value.{fields};
+ghost use Rattle.asn1_schema_constraints.specs.Sets.{no_constraint};
+ghost use Rattle.asn1_schema_constructed.specs.Constructed.{sequence_form};
+ghost use Rattle.asn1_schema_presented.specs.Tables.{sequence_type};
+ghost use Rattle.asn1_schema_presented.proofs.Values.{type_sequence, value_sequence};
+
 use crate::small::Small;
-use asn1_relay_core::{Schema, Value, Wire};
-use std::alloc::{AllocError, Global};
+use asn1_schema_components::{ComponentsOf, End, Required, RequiredComponent};
+use asn1_schema_constraints::Constraints;
+use asn1_schema_constructed::{Constructed, DecodeConstructed, EncodeConstructed};
+use asn1_schema_decode::{Decode, DecodeComponents, Decoder};
+use asn1_schema_encode::{Encode, EncodeComponents, Encoder};
+use asn1_schema_faults::{DecodeError, EncodeError};
+use asn1_schema_fields::{Field, FieldPresence, Fields};
+use asn1_schema_tags::{Identifier, Tag, TagTree};
+use asn1_schema_types::{AsnType, Described};
+use std::alloc::Global;
 
 /// A truth value and a whole number from -5 to 5: SEQUENCE {a BOOLEAN, b INTEGER (-5..5)} (X.680 25).
-#[derive(Clone, Copy, Debug, PartialEq, Eq)]
+#[derive(Debug, Drop)]
 pub struct Pair {
     /// The truth value.
     pub a: bool,
@@ -12,44 +27,113 @@ pub struct Pair {
     pub b: Small,
 }
 
-/// SEQUENCE {a BOOLEAN, b INTEGER (-5..5)}, with automatic tags (X.680 25).
-impl Wire for Pair {
-    ghost use Rattle.asn1_relay_command.specs.Pairs.{pair_is_carried, pair_schema, pair_value, one_pair};
+type Form = RequiredComponent<bool, RequiredComponent<Small, End>>;
 
-    ghost asn1_type = { pair_schema };
+impl Described for Pair {
+    ghost tags = { record { class = 0; number = 16 } ∷ [] };
 
-    ghost meaning = { λ p. pair_value p.a p.b };
+    ghost own = { no_constraint };
 
-    ghost carried = { pair_is_carried };
+    ghost under = { λ _. sequence_type ⟦<Form as ComponentsOf>⟧.table };
 
-    ghost unique = { one_pair };
+    ghost schema = { sequence_type ⟦<Form as ComponentsOf>⟧.table };
 
-    fn schema(alloc: Global) -> Result<Schema, AllocError> {
-        let mut components = Vec::with_capacity(alloc, 2)?;
-        components.push(bool::schema(alloc)?)?;
-        components.push(Small::schema(alloc)?)?;
-        Ok(Schema::Sequence(components))
+    ghost is_own = { λ _. refl };
+
+    ghost meaning = { λ x. fields (⟦<Form as ComponentsOf>⟧.root (record { 0 = x.a; 1 = record { 0 = x.b; 1 = record {} } })) (⟦<Form as ComponentsOf>⟧.added (record { 0 = x.a; 1 = record { 0 = x.b; 1 = record {} } })) };
+
+    ghost typed = { type_sequence _ refl (⟦<Form as ComponentsOf>⟧.typed tt) refl };
+
+    ghost valued = { λ x. value_sequence _ (⟦<Form as ComponentsOf>⟧.valued tt (record { 0 = x.a; 1 = record { 0 = x.b; 1 = record {} } })) };
+
+    ghost valued_under = { λ _ x. value_sequence _ (⟦<Form as ComponentsOf>⟧.valued tt (record { 0 = x.a; 1 = record { 0 = x.b; 1 = record {} } })) };
+}
+
+impl AsnType for Pair {
+    const TAG: Tag = Tag::SEQUENCE;
+
+    const IDENTIFIER: Identifier = Identifier(Some("Pair"));
+
+    fn tag_tree() -> TagTree<'static> {
+        TagTree::of(Self::TAG)
     }
 
-    fn to_value(&self, alloc: Global) -> Result<Value, AllocError> {
-        let b = self.b.to_value(alloc)?;
-        let mut values = Vec::with_capacity(alloc, 2)?;
-        values.push(self.a.to_value(alloc)?)?;
-        values.push(b)?;
-        Ok(Value::Sequence(values))
+    fn constraints() -> Constraints<'static> {
+        Constraints::NONE
+    }
+}
+
+impl Constructed for Pair {
+    ghost form = { sequence_form };
+
+    ghost table = { ⟦<Form as ComponentsOf>⟧.table };
+
+    ghost root = { λ x. ⟦<Form as ComponentsOf>⟧.root (record { 0 = x.a; 1 = record { 0 = x.b; 1 = record {} } }) };
+
+    ghost added = { λ x. ⟦<Form as ComponentsOf>⟧.added (record { 0 = x.a; 1 = record { 0 = x.b; 1 = record {} } }) };
+
+    fn fields() -> Fields<'static> {
+        const FIELDS: &'static [Field<'static>] = &[
+            Field {
+                index: 0,
+                tag: Tag::BOOL,
+                tag_tree: TagTree::Leaf(Tag::BOOL),
+                presence: FieldPresence::Required,
+                name: "a",
+            },
+            Field {
+                index: 1,
+                tag: Tag::INTEGER,
+                tag_tree: TagTree::Leaf(Tag::INTEGER),
+                presence: FieldPresence::Required,
+                name: "b",
+            },
+        ];
+        Fields::from_static(FIELDS)
     }
 
-    fn from_value(value: &Value) -> Option<Pair> {
-        let Value::Sequence(values) = value else {
-            return None;
-        };
-        match values.as_slice() {
-            [a, b] => Some(Pair {
-                a: bool::from_value(a)?,
-                b: Small::from_value(b)?,
-            }),
-            [] | [_] => None,
-            [_, _, _, ..] => None,
-        }
+    fn extended_fields() -> Option<Fields<'static>> {
+        None
+    }
+
+    fn is_extensible() -> bool {
+        false
+    }
+
+    fn write_fields<E: Encoder>(&self, encoder: &mut E) -> Result<(), EncodeError> {
+        let components = Required(&self.a, Required(&self.b, End));
+        components.encode_components(encoder)
+    }
+
+    fn read_fields<D: Decoder>(alloc: Global, decoder: &mut D) -> Result<Self, DecodeError> {
+        let form = Form::decode_components(alloc, decoder)?;
+        let RequiredComponent(a, RequiredComponent(b, End)) = form;
+        Ok(Pair { a, b })
+    }
+
+    ghost means = { λ _. refl };
+
+    ghost is_of = { λ _ _. refl };
+}
+
+impl Encode for Pair {
+    fn encode_with_tag_and_constraints<E: Encoder>(
+        &self,
+        encoder: &mut E,
+        tag: Tag,
+        _constraints: Constraints,
+    ) -> Result<(), EncodeError> {
+        encoder.encode_fields_of(tag, self)
+    }
+}
+
+impl Decode for Pair {
+    fn decode_with_tag_and_constraints<D: Decoder>(
+        alloc: Global,
+        decoder: &mut D,
+        tag: Tag,
+        _constraints: Constraints,
+    ) -> Result<Self, DecodeError> {
+        decoder.decode_fields_of(alloc, tag)
     }
 }

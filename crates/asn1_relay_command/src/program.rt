@@ -6,13 +6,19 @@ ghost use Rattle.clap.specs.Words.{kind_of};
 ghost use Rattle.asn1_relay_core.specs.Recoding.{answered};
 ghost use Rattle.asn1_relay_command.specs.Lines.{line_of};
 ghost use Rattle.asn1_relay_command.specs.Orders.{order_of};
-ghost use Rattle.asn1_relay_command.specs.Runs.{Becomes, Begins, HasDone, HasFailed, HasRefused, IsAllRead, IsDone, IsRefusedBy, StopsBy};
+ghost use Rattle.asn1_relay_command.specs.Runs.{Becomes, BecomesAs, Begins, HasDone, HasFailed, HasRefused, IsAllRead, IsDone, IsRefusedAs, IsRefusedBy, StopsBy};
 
 use crate::fault::Fault;
+use crate::octets::Octets;
 use crate::order::{Kind, Order, read_order};
 use crate::pair::Pair;
 use crate::small::Small;
 use asn1_relay_core::recode;
+use asn1_schema_decode::Decode;
+use asn1_schema_encode::Encode;
+use asn1_values_bit_strings::BitString;
+use asn1_values_numbers::Integer;
+use asn1_values_strings::VisibleString;
 use clap::error::ErrorKind as ParseErrorKind;
 use std::alloc::Global;
 use std::convert::AsStr;
@@ -116,16 +122,33 @@ fn read_all<R: Read>(alloc: Global, input: &mut R) -> Result<Vec<u8>, Fault>
     Err(Fault::ReadFailed)
 }
 
+/// Translates one message of the type `T`.
+fn translate<T: Encode + Decode>(
+    alloc: Global,
+    order: Order,
+    message: &[u8],
+) -> Result<Vec<u8>, Fault>
+    ensures { MatchResult result (λ v. BecomesAs (T.schema 128) order message.now (answered v.items)) (IsRefusedAs (T.schema 128) order message.now) }
+{
+    let octets = recode::<T>(alloc, order.from, order.to, message)?;
+    Ok(octets)
+}
+
 /// Translates one message.
 pub fn translate_all(alloc: Global, order: Order, message: &[u8]) -> Result<Vec<u8>, Fault>
     ensures { MatchResult result (λ v. Becomes order message.now (answered v.items)) (IsRefusedBy order message.now) }
 {
-    let answer = match order.kind {
-        Kind::Bool => recode::<bool>(alloc, order.from, order.to, message)?,
-        Kind::Small => recode::<Small>(alloc, order.from, order.to, message)?,
-        Kind::Pair => recode::<Pair>(alloc, order.from, order.to, message)?,
-    };
-    Ok(answer)
+    match order.kind {
+        Kind::Bool => translate::<bool>(alloc, order, message),
+        Kind::Small => translate::<Small>(alloc, order, message),
+        Kind::Pair => translate::<Pair>(alloc, order, message),
+        Kind::Integer => translate::<Integer>(alloc, order, message),
+        Kind::Bits => translate::<BitString>(alloc, order, message),
+        Kind::Octets => translate::<Octets>(alloc, order, message),
+        Kind::Visible => translate::<VisibleString>(alloc, order, message),
+        Kind::Null => translate::<()>(alloc, order, message),
+        Kind::Nulls => translate::<Vec<()>>(alloc, order, message),
+    }
 }
 
 /// Writes all octets. Where it fails, the writer took a beginning of them.

@@ -1,11 +1,2 @@
-pub mod Widths
-pub mod Shapes
-pub mod Writers
-pub mod Bits
-pub mod Integers
-pub mod Readers
-pub mod Fewest
-pub mod Octets
-pub mod Whole
-pub mod Judged
-pub mod Answering
+pub mod Answers
+pub mod Coded

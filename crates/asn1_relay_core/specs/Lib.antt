@@ -1,5 +1,2 @@
-pub mod Finding
-pub mod Judging
-pub mod Meaning
+pub mod Coding
 pub mod Recoding
-pub mod Writing

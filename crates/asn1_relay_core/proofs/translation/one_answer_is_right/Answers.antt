@@ -1,5 +1,5 @@
-use Rattle.asn1_relay_core.proofs.Answering.{one_answer_by}
+use Rattle.asn1_relay_core.proofs.Answers.{one_answer}
 use Rattle.asn1_relay_core.proofs.translation.one_answer_is_right.Goals as goal
 
 pub returns : goal.returns
-returns c = λ from to s w x y h o p q. one_answer_by from to s w h o x y p q
+returns c = λ from to s w x y lawful. one_answer from to s w lawful x y

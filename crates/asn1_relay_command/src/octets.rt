@@ -1,0 +1,95 @@
+//! Octets, of which there are one to three, or behind a mark any number.
+ghost use Rattle.std.specs.Prelude.{◌≡◌, refl, [], ◌∷◌};
+ghost use Rattle.asn1_model.specs.Value.{octet_list};
+ghost use Rattle.asn1_schema_constraints.specs.Sets.{no_constraint};
+ghost use Rattle.asn1_schema_constraints.specs.Terms.{sizes_of};
+ghost use Rattle.asn1_schema_presented.proofs.TypesByKind.{octet_string_type, octet_string_value};
+ghost use Rattle.asn1_relay_command.specs.Octets.{one_to_three, octets_schema};
+
+use asn1_schema_bounds::Bounded;
+use asn1_schema_constraints::{Constraints, Extensible, Size};
+use asn1_schema_decode::{Decode, Decoder};
+use asn1_schema_encode::{Encode, Encoder};
+use asn1_schema_faults::{DecodeError, EncodeError};
+use asn1_schema_tags::{Identifier, Tag, TagTree};
+use asn1_schema_types::{AsnType, Described};
+use asn1_values_octets::OctetString;
+use std::alloc::Global;
+
+/// OCTET STRING (SIZE (1..3, ...)) (X.680 23).
+#[derive(Debug, Drop)]
+pub struct Octets {
+    /// The octets. How many they are is seen when they are written.
+    pub octets: OctetString,
+}
+
+/// The constraint to one to three octets, with a mark of extensibility. It stands in place of all others.
+fn one_to_three() -> Constraints<'static>
+    ensures { sizes_of result.size ≡ one_to_three }
+{
+    let size = Extensible::new(Size::new(Bounded::const_new(1, 3)));
+    Constraints {
+        size: Some(size.set_extensible(true)),
+        ..Constraints::NONE
+    }
+}
+
+impl Described for Octets {
+    ghost tags = { record { class = 0; number = 4 } ∷ [] };
+
+    ghost own = { no_constraint };
+
+    ghost under = { λ _. octets_schema };
+
+    ghost schema = { octets_schema };
+
+    ghost is_own = { λ _. refl };
+
+    ghost meaning = { λ x. octet_list x.octets };
+
+    ghost typed = { octet_string_type _ _ refl refl };
+
+    ghost valued = { λ x. octet_string_value _ _ _ };
+
+    ghost valued_under = { λ _ x. octet_string_value _ _ _ };
+}
+
+impl AsnType for Octets {
+    const TAG: Tag = Tag::OCTET_STRING;
+
+    const IDENTIFIER: Identifier = Identifier(Some("Octets"));
+
+    fn tag_tree() -> TagTree<'static> {
+        TagTree::of(Self::TAG)
+    }
+
+    fn constraints() -> Constraints<'static> {
+        Constraints::NONE
+    }
+}
+
+impl Encode for Octets {
+    fn encode_with_tag_and_constraints<E: Encoder>(
+        &self,
+        encoder: &mut E,
+        tag: Tag,
+        _constraints: Constraints,
+    ) -> Result<(), EncodeError> {
+        self.octets
+            .encode_with_tag_and_constraints(encoder, tag, one_to_three())?;
+        Ok(())
+    }
+}
+
+impl Decode for Octets {
+    fn decode_with_tag_and_constraints<D: Decoder>(
+        alloc: Global,
+        decoder: &mut D,
+        tag: Tag,
+        _constraints: Constraints,
+    ) -> Result<Self, DecodeError> {
+        let octets =
+            OctetString::decode_with_tag_and_constraints(alloc, decoder, tag, one_to_three())?;
+        Ok(Octets { octets })
+    }
+}

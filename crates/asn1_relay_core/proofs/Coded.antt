@@ -1,0 +1,130 @@
+-- What was read and written, as the answer to a message.
+use Rattle.std.proofs.Common.{◌≡◌, ◌≢◌, ◌≤◌, ◌⊎◌, inl, inr, ℕ, ◌==◌, true, false, length, List, [], ◌∷◌, ◌++◌, Option, Some, None, option_and_then, Result, Ok, Err, Vec, Global, IfSome, refl, sym, ◌∙◌, ap, subst, arith}
+use Rattle.std.proofs.lemmas.Bool.{eqb-true}
+use Rattle.std.proofs.lemmas.List.{append-nil}
+use Rattle.asn1_model.specs.Schema.{Schema}
+use Rattle.asn1_model.specs.Value.{Value, depth}
+use Rattle.asn1_model.specs.Lawful.{IsLawful}
+use Rattle.asn1_model.specs.Normal.{normal}
+use Rattle.asn1_model.specs.Rules.{Rules, canonical, encoding, of_moderate_length, IsEncoding}
+use Rattle.asn1_laws_values.proofs.Normal.{normal_depth}
+use Rattle.asn1_schema_faults.specs.declared.DecodeError.{DecodeError}
+use Rattle.asn1_schema_faults.specs.declared.DecodeError.TheVariants as Decoding
+use Rattle.asn1_schema_faults.specs.declared.EncodeError.{EncodeError}
+use Rattle.asn1_schema_faults.specs.declared.EncodeError.TheVariants as Encoding
+use Rattle.asn1_schema_presented.specs.Tables.{IsValue}
+use Rattle.asn1_schema_presented.specs.Presents.{Fits}
+use Rattle.oer_codec_calls.specs.Messages.{HasMessage, Tells, NoMessage}
+use Rattle.asn1_relay_core.specs.declared.codec.Codec.{Codec}
+use Rattle.asn1_relay_core.specs.declared.translation.RecodeFault.{RecodeFault}
+use Rattle.asn1_relay_core.specs.declared.translation.RecodeFault.TheVariants.{NotAnEncoding, Surplus, NoTarget, Memory}
+use Rattle.asn1_relay_core.specs.Coding.{rules_of, IsWritten, NotWritten}
+use Rattle.asn1_relay_core.specs.Recoding.{IsMessage, Answer, answered, not_an_encoding, surplus, no_target, IsAnswer, NamesMemoryAlone, answer_of, source_fault_of, target_fault_of}
+use Rattle.asn1_relay_core.proofs.Answers.{one_answer}
+
+module _ (source target : Rules) (schema : ℕ → Schema) (v : Value) (input rest : List ℕ) (t : Tells source schema v input rest) where
+  -- the value nests no deeper than what was read
+  not_deeper : depth v ≤ 128
+  not_deeper = let n = normal_depth (schema 128) t.raw in let l = t.message.levels in let e = ap depth t.means in omega (arith, n, l, e)
+
+  written_as : IsValue schema v → canonical target (schema 128) t.raw ≡ canonical target (schema 128) v
+  unfolding canonical
+  written_as i = ap (λ u. option_and_then of_moderate_length (encoding target (schema 128) u)) (t.means ∙ sym (i.normal 128))
+
+  of_raw : (w : Option (List ℕ)) → IsValue schema v → IsWritten target schema v w → canonical target (schema 128) t.raw ≡ w
+  of_raw w i h = written_as i ∙ h 128 (i.fits 128 not_deeper)
+
+  all_of_it : rest ≡ [] → IsMessage source (schema 128) t.raw input
+  all_of_it e =
+      let m = t.message in
+      let f : m.message ≡ input = sym (append-nil m.message) ∙ ap (λ l. m.message ++ l) (sym e) ∙ m.in_front in
+      (subst (λ l. IsEncoding source (schema 128) t.raw l) f m.encoding, m.levels)
+
+  pub is_answered : (w : List ℕ) → rest ≡ [] → IsValue schema v → IsWritten target schema v (Some w) → IsAnswer source target (schema 128) input (answered w)
+  is_answered w e i h = (t.raw, all_of_it e, of_raw (Some w) i h)
+
+  pub is_not_written : rest ≡ [] → IsValue schema v → IsWritten target schema v None → IsAnswer source target (schema 128) input no_target
+  is_not_written e i h = (t.raw, all_of_it e, of_raw None i h)
+
+  pub is_surplus : rest ≢ [] → IsAnswer source target (schema 128) input surplus
+  is_surplus n = (t.message.message, rest, t.raw, t.message.in_front, n, (t.message.encoding, t.message.levels))
+
+pub is_no_encoding : (source target : Rules) (schema : ℕ → Schema) (input : List ℕ) → ((v : Value) (rest : List ℕ) → HasMessage source (schema 128) v input rest → ⊥) → IsAnswer source target (schema 128) input not_an_encoding
+is_no_encoding source target schema input h front behind v e m = h v behind (record { message = front; in_front = e; encoding = m.0; levels = m.1 })
+
+-- ---- what was answered is right, and nothing else is
+
+pub record IsRight (c d : Codec) (s : Schema) (w : List ℕ) (x : Result (Vec ℕ Global) RecodeFault) : Type 0 where
+  pub right : IfSome (answer_of x) (IsAnswer (rules_of c) (rules_of d) s w)
+  pub exact : (a : Answer) → IsAnswer (rules_of c) (rules_of d) s w a → (answer_of x ≡ None) ⊎ (answer_of x ≡ Some a)
+
+module _ (c d : Codec) (schema : ℕ → Schema) (w : List ℕ) (lawful : IsLawful (schema 128)) where
+  abbrev Rights : Result (Vec ℕ Global) RecodeFault → Type 0
+  Rights x = IsRight c d (schema 128) w x
+
+  only_right : (x y : Answer) → IsAnswer (rules_of c) (rules_of d) (schema 128) w x → IsAnswer (rules_of c) (rules_of d) (schema 128) w y → (Some x ≡ None) ⊎ (Some x ≡ Some y)
+  only_right x y p q = inr (ap Some (one_answer c d (schema 128) w lawful x y p q))
+
+  no_memory : Rights (Err Memory)
+  no_memory = record { right = tt; exact = λ a q. inl refl }
+
+  none_right : (e : DecodeError) → ((v : Value) (rest : List ℕ) → HasMessage (rules_of c) (schema 128) v w rest → ⊥) → Rights (Err (NotAnEncoding e))
+  none_right e h =
+      let r = is_no_encoding (rules_of c) (rules_of d) schema w h in
+      record { right = r; exact = λ a q. only_right not_an_encoding a r q }
+
+  not_read : (e : DecodeError) → NoMessage (rules_of c) schema w e → Rights (Err (source_fault_of e))
+  not_read Decoding.OutOfMemory h = no_memory
+  not_read e h = none_right e (h.none (λ q. cc))
+
+  pub right_not_read : (e : DecodeError) (f : RecodeFault) → NoMessage (rules_of c) schema w e → f ≡ source_fault_of e → Rights (Err f)
+  right_not_read e f h j = subst (λ x. Rights (Err x)) (sym j) (not_read e h)
+
+  module _ (v : Value) (rest : List ℕ) (t : Tells (rules_of c) schema v w rest) where
+    pub right_surplus : rest ≢ [] → Rights (Err Surplus)
+    right_surplus n =
+        let r = is_surplus (rules_of c) (rules_of d) schema v w rest t n in
+        record { right = r; exact = λ a q. only_right surplus a r q }
+
+    module _ (e : rest ≡ []) (i : IsValue schema v) where
+      pub right_answered : (o : Vec ℕ Global) → IsWritten (rules_of d) schema v (Some o.items) → Rights (Ok o)
+      right_answered o h =
+          let r = is_answered (rules_of c) (rules_of d) schema v w rest t o.items e i h in
+          record { right = r; exact = λ a q. only_right (answered o.items) a r q }
+
+      none_target : (x : EncodeError) → IsWritten (rules_of d) schema v None → Rights (Err (NoTarget x))
+      none_target x h =
+          let r = is_not_written (rules_of c) (rules_of d) schema v w rest t e i h in
+          record { right = r; exact = λ a q. only_right no_target a r q }
+
+      not_written : (x : EncodeError) → NotWritten (rules_of d) schema v x → Rights (Err (target_fault_of x))
+      not_written Encoding.OutOfMemory h = no_memory
+      not_written x h = none_target x (h.none (λ q. cc))
+
+      pub right_not_written : (x : EncodeError) (f : RecodeFault) → NotWritten (rules_of d) schema v x → f ≡ target_fault_of x → Rights (Err f)
+      right_not_written x f h j = subst (λ y. Rights (Err y)) (sym j) (not_written x h)
+
+-- ---- what is left
+
+pub none_left : (l : List ℕ) → (length l == 0) ≡ true → l ≡ []
+none_left [] e = refl
+none_left (x ∷ l) e = let i = eqb-true (length (x ∷ l)) 0 e in absurd (omega (arith, i))
+
+pub some_left : (l : List ℕ) → (length l == 0) ≡ false → l ≢ []
+some_left l e h = let k : true ≡ false = sym (ap (λ (m : List ℕ). length m == 0) h) ∙ e in cc
+
+-- ---- want of memory
+
+pub source_names_memory : (e : DecodeError) (f : RecodeFault) → f ≡ source_fault_of e → NamesMemoryAlone f
+source_names_memory e f h = subst NamesMemoryAlone (sym h) (at e)
+  where
+    at : (e : DecodeError) → NamesMemoryAlone (source_fault_of e)
+    at Decoding.OutOfMemory = tt
+    at e = tt
+
+pub target_names_memory : (e : EncodeError) (f : RecodeFault) → f ≡ target_fault_of e → NamesMemoryAlone f
+target_names_memory e f h = subst NamesMemoryAlone (sym h) (at e)
+  where
+    at : (e : EncodeError) → NamesMemoryAlone (target_fault_of e)
+    at Encoding.OutOfMemory = tt
+    at e = tt

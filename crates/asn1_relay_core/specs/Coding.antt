@@ -1,0 +1,30 @@
+-- What the calls of a codec answer, in whichever rules.
+use Rattle.std.specs.Prelude.{◌≡◌, ℕ, List, Option, Some, None}
+use Rattle.asn1_model.specs.Schema.{Schema}
+use Rattle.asn1_model.specs.Value.{Value}
+use Rattle.asn1_model.specs.Rules.{Rules, oer, coer, canonical}
+use Rattle.asn1_schema_faults.specs.declared.CodecKind.{CodecKind}
+use Rattle.asn1_schema_faults.specs.declared.CodecKind.TheVariants as Kind
+use Rattle.asn1_schema_faults.specs.declared.EncodeError.{EncodeError}
+use Rattle.asn1_schema_faults.specs.declared.EncodeError.TheVariants.{OutOfMemory}
+use Rattle.asn1_schema_presented.specs.Presents.{Fits}
+use Rattle.asn1_relay_core.specs.declared.codec.Codec.{Codec}
+use Rattle.asn1_relay_core.specs.declared.codec.Codec.TheVariants.{Oer, Coer}
+
+-- The rules as the model names them.
+abbrev pub rules_of : Codec → Rules
+rules_of Oer = oer
+rules_of Coer = coer
+
+-- The same as the traits of the schema name them.
+abbrev pub kind_of : Codec → CodecKind
+kind_of Oer = Kind.Oer
+kind_of Coer = Kind.Coer
+
+-- This is the canonical encoding of a value, or there is none, in whatever depth its type is unfolded.
+abbrev pub IsWritten : Rules → (ℕ → Schema) → Value → Option (List ℕ) → Type 0
+IsWritten r schema v w = (n : ℕ) → Fits (schema n) v → canonical r (schema n) v ≡ w
+
+-- Why a value is not written: want of memory, or it has no canonical encoding.
+pub record NotWritten (r : Rules) (schema : ℕ → Schema) (v : Value) (e : EncodeError) : Type 0 where
+  pub none : ¬ (e ≡ OutOfMemory) → IsWritten r schema v None
