@@ -14,7 +14,7 @@ use Rattle.asn1_schema_faults.specs.declared.EncodeError.{EncodeError}
 use Rattle.asn1_schema_faults.specs.declared.EncodeError.TheVariants as Encoding
 use Rattle.asn1_schema_presented.specs.Tables.{IsValue}
 use Rattle.asn1_schema_presented.specs.Presents.{Fits}
-use Rattle.oer_codec_calls.specs.Messages.{HasMessage, Tells, NoMessage}
+use Rattle.asn1_schema_messages.specs.Messages.{HasMessage, Tells, NoMessage}
 use Rattle.asn1_relay_core.specs.declared.codec.Codec.{Codec}
 use Rattle.asn1_relay_core.specs.declared.translation.RecodeFault.{RecodeFault}
 use Rattle.asn1_relay_core.specs.declared.translation.RecodeFault.TheVariants.{NotAnEncoding, Surplus, NoTarget, Memory}

@@ -1,5 +1,0 @@
-use Rattle.asn1_relay_texts.proofs.OctetTexts.{octets_read_again}
-use Rattle.asn1_relay_texts.proofs.octets_of_a_value_are_read.Goals as goal
-
-pub returns : goal.returns
-returns c = λ n s v a r h e d. octets_read_again n s v a r h e d
