@@ -3,7 +3,7 @@ use Rattle.std.specs.Prelude.{true, List, [], ◌∷◌, Option, Some, None, opt
 use Rattle.std.specs.Str.{bytes_eq}
 use Rattle.clap.specs.Words.{App, Rule, Row, Text, Kinds, first_of, fault_of, new_app, new_rule, subcommand_of, with_rule, with_subcommand}
 use Rattle.asn1_relay_core.specs.declared.codec.Codec.{Codec}
-use Rattle.asn1_relay_core.specs.declared.codec.Codec.TheVariants.{Oer, Coer}
+use Rattle.asn1_relay_core.specs.declared.codec.Codec.TheVariants.{Uper, Aper, Oer, Coer}
 use Rattle.asn1_relay_command.specs.declared.order.Kind.{Kind}
 use Rattle.asn1_relay_command.specs.declared.order.Kind.TheVariants as kind
 use Rattle.asn1_relay_command.specs.declared.order.Order.{Order}
@@ -26,9 +26,11 @@ program_app = with_subcommand (record { top = record (new_app (codes "asn1_relay
 
 abbrev pub codec_by_name : Text → Option Codec
 codec_by_name name =
-    if bytes_eq name (codes "oer") then Some Oer
+    if bytes_eq name (codes "uper") then Some Uper
+    else (if bytes_eq name (codes "aper") then Some Aper
+    else (if bytes_eq name (codes "oer") then Some Oer
     else (if bytes_eq name (codes "coer") then Some Coer
-    else None)
+    else None)))
 
 abbrev pub kind_by_name : Text → Option Kind
 kind_by_name name =

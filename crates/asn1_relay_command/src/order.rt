@@ -48,6 +48,8 @@ fn codec_named(name: &str) -> Option<Codec>
     ensures { result ≡ codec_by_name name.now }
 {
     match name {
+        "uper" => Some(Codec::Uper),
+        "aper" => Some(Codec::Aper),
         "oer" => Some(Codec::Oer),
         "coer" => Some(Codec::Coer),
         _ => None,

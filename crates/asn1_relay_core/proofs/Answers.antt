@@ -7,13 +7,16 @@ use Rattle.asn1_model.specs.Lawful.{IsLawful}
 use Rattle.asn1_model.specs.Rules.{Rules, canonical}
 use Rattle.asn1_laws_fronts.specs.Laws.{OneFrontIn}
 use Rattle.asn1_laws_fronts_octets.proofs.Forms.{one_front_oer, one_front_coer}
+use Rattle.asn1_laws_fronts_packed.proofs.Forms.{one_front_uper, one_front_aper}
 use Rattle.asn1_laws_order.proofs.Canonical.{same_written}
 use Rattle.asn1_relay_core.specs.declared.codec.Codec.{Codec}
-use Rattle.asn1_relay_core.specs.declared.codec.Codec.TheVariants.{Oer, Coer}
+use Rattle.asn1_relay_core.specs.declared.codec.Codec.TheVariants.{Uper, Aper, Oer, Coer}
 use Rattle.asn1_relay_core.specs.Coding.{rules_of}
 use Rattle.asn1_relay_core.specs.Recoding.{IsMessage, Answer, answered, not_an_encoding, surplus, no_target, IsAnswer, OneAnswerIsRight}
 
 one_front : (c : Codec) → OneFrontIn (rules_of c)
+one_front Uper = one_front_uper
+one_front Aper = one_front_aper
 one_front Oer = one_front_oer
 one_front Coer = one_front_coer
 

@@ -2,22 +2,26 @@
 use Rattle.std.specs.Prelude.{◌≡◌, ℕ, List, Option, Some, None}
 use Rattle.asn1_model.specs.Schema.{Schema}
 use Rattle.asn1_model.specs.Value.{Value}
-use Rattle.asn1_model.specs.Rules.{Rules, oer, coer, canonical}
+use Rattle.asn1_model.specs.Rules.{Rules, uper, aper, oer, coer, canonical}
 use Rattle.asn1_schema_faults.specs.declared.CodecKind.{CodecKind}
 use Rattle.asn1_schema_faults.specs.declared.CodecKind.TheVariants as Kind
 use Rattle.asn1_schema_faults.specs.declared.EncodeError.{EncodeError}
 use Rattle.asn1_schema_faults.specs.declared.EncodeError.TheVariants.{OutOfMemory}
 use Rattle.asn1_schema_presented.specs.Presents.{Fits}
 use Rattle.asn1_relay_core.specs.declared.codec.Codec.{Codec}
-use Rattle.asn1_relay_core.specs.declared.codec.Codec.TheVariants.{Oer, Coer}
+use Rattle.asn1_relay_core.specs.declared.codec.Codec.TheVariants.{Uper, Aper, Oer, Coer}
 
 -- The rules as the model names them.
 abbrev pub rules_of : Codec → Rules
+rules_of Uper = uper
+rules_of Aper = aper
 rules_of Oer = oer
 rules_of Coer = coer
 
 -- The same as the traits of the schema name them.
 abbrev pub kind_of : Codec → CodecKind
+kind_of Uper = Kind.Uper
+kind_of Aper = Kind.Aper
 kind_of Oer = Kind.Oer
 kind_of Coer = Kind.Coer
 

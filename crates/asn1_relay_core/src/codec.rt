@@ -7,11 +7,16 @@ use asn1_schema_decode::Decode;
 use asn1_schema_encode::Encode;
 use asn1_schema_faults::{CodecKind, DecodeError, EncodeError};
 use oer_codec::{coer, oer};
+use per_codec::{aper, uper};
 use std::alloc::Global;
 
 /// A set of encoding rules.
 #[derive(Clone, Copy, Debug, PartialEq, Eq)]
 pub enum Codec {
+    /// The unaligned packed encoding rules (X.691).
+    Uper,
+    /// The aligned packed encoding rules (X.691).
+    Aper,
     /// The basic octet encoding rules (X.696).
     Oer,
     /// The canonical octet encoding rules (X.696).
@@ -24,6 +29,8 @@ impl Codec {
         ensures { result ≡ kind_of self }
     {
         match self {
+            Codec::Uper => CodecKind::Uper,
+            Codec::Aper => CodecKind::Aper,
             Codec::Oer => CodecKind::Oer,
             Codec::Coer => CodecKind::Coer,
         }
@@ -39,6 +46,8 @@ impl Codec {
         ensures only { IfErr result (NotWritten (rules_of self) T.schema (T.meaning value.now)) }
     {
         let octets = match self {
+            Codec::Uper => uper::encode(alloc, value)?,
+            Codec::Aper => aper::encode(alloc, value)?,
             Codec::Oer => oer::encode(alloc, value)?,
             Codec::Coer => coer::encode(alloc, value)?,
         };
@@ -72,6 +81,8 @@ impl Codec {
         ensures only { IfErr result (NoMessage (rules_of self) T.schema input.now) }
     {
         let front = match self {
+            Codec::Uper => uper::decode_with_remainder(alloc, input)?,
+            Codec::Aper => aper::decode_with_remainder(alloc, input)?,
             Codec::Oer => oer::decode_with_remainder(alloc, input)?,
             Codec::Coer => coer::decode_with_remainder(alloc, input)?,
         };
