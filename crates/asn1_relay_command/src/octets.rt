@@ -88,8 +88,12 @@ impl Decode for Octets {
         tag: Tag,
         _constraints: Constraints,
     ) -> Result<Self, DecodeError> {
-        let octets =
-            OctetString::decode_with_tag_and_constraints(alloc, decoder, tag, one_to_three())?;
+        let octets = OctetString::decode_with_tag_and_constraints(
+            alloc,
+            decoder,
+            tag,
+            one_to_three(),
+        )?;
         Ok(Octets { octets })
     }
 }

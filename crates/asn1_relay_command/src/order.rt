@@ -88,8 +88,16 @@ fn grammar<'a>(alloc: Global) -> Result<Command<'a>, AllocError>
 {
     let once = Command::new(alloc, "once")
         .about("Translates the message that is all of standard input")
-        .arg(option(alloc, "from", "the rules of the input: uper, aper, oer or coer"))?
-        .arg(option(alloc, "to", "the rules of the output: uper, aper, oer or coer"))?
+        .arg(option(
+            alloc,
+            "from",
+            "the rules of the input: uper, aper, oer or coer",
+        ))?
+        .arg(option(
+            alloc,
+            "to",
+            "the rules of the output: uper, aper, oer or coer",
+        ))?
         .arg(option(
             alloc,
             "type",

@@ -2,13 +2,14 @@
 use crate::{
     Fault, Kind, Order, Pair, Small, command, read_order, refuse_arguments, translate_all,
 };
-use asn1_relay_core::{Codec, DecodeError, EncodeError, RecodeFault, Wire, recode};
+use asn1_relay_core::{Codec, DecodeError, EncodeError, RecodeFault, recode};
+use asn1_schema_decode::Decode;
+use asn1_schema_encode::Encode;
 use std::io::{Error, ErrorKind, Write};
 use std::process::Abort;
 use std::test::Fail;
 
 mod fakes;
-mod nested;
 
 use fakes::{FakeReader, FakeWriter, Step};
 
@@ -143,6 +144,74 @@ fn bool_rows(rt: HostRuntime) {
     check_rows(&rt, &rows);
 }
 
+#[test]
+fn basic_rows(rt: HostRuntime) {
+    let rows = [
+        done("bool", "oer", "coer", &[0x05], &[0xFF]),
+        done("bool", "oer", "uper", &[0x05], &[0x80]),
+        done("integer", "oer", "uper", &[0x02, 0x00, 0x00], &[0x01, 0x00]),
+        refused(
+            "integer",
+            "coer",
+            "uper",
+            &[0x02, 0x00, 0x00],
+            NOT_AN_ENCODING,
+        ),
+        done(
+            "nulls",
+            "oer",
+            "uper",
+            &[0x03, 0x01, 0x00, 0x00],
+            &[0xC4, 0x00],
+        ),
+        done("null", "uper", "oer", &[0x00], &[]),
+        done("null", "oer", "uper", &[], &[0x00]),
+    ];
+    check_rows(&rt, &rows);
+}
+
+#[test]
+fn string_rows(rt: HostRuntime) {
+    let rows = [
+        done(
+            "bits",
+            "coer",
+            "uper",
+            &[0x03, 0x02, 0xFF, 0x40],
+            &[0x0E, 0xFF, 0x40],
+        ),
+        done(
+            "octets",
+            "uper",
+            "coer",
+            &[0x82, 0x00, 0x81, 0x01, 0x82, 0x00],
+            &[0x04, 1, 2, 3, 4],
+        ),
+        done(
+            "octets",
+            "uper",
+            "aper",
+            &[0x82, 0x00, 0x81, 0x01, 0x82, 0x00],
+            &[0x80, 0x04, 1, 2, 3, 4],
+        ),
+        done(
+            "visible",
+            "coer",
+            "uper",
+            &[0x04, 0x4A, 0x6F, 0x68, 0x6E],
+            &[0x04, 0x95, 0xBF, 0x46, 0xE0],
+        ),
+        done(
+            "visible",
+            "uper",
+            "aper",
+            &[0x04, 0x95, 0xBF, 0x46, 0xE0],
+            &[0x04, 0x4A, 0x6F, 0x68, 0x6E],
+        ),
+    ];
+    check_rows(&rt, &rows);
+}
+
 const PROGRAM: &str = "asn1_relay";
 
 /// Runs a bad command line, before which no input is read, and says whether memory was refused.
@@ -194,9 +263,9 @@ fn bad_orders(rt: HostRuntime) {
 #[test]
 fn bad_names(rt: HostRuntime) {
     let lines: [&[&str]; 5] = [
-        &line_of("once", "aper", "uper", "bool"),
-        &line_of("once", "coer", "aper", "bool"),
-        &line_of("once", "coer", "uper", "integer"),
+        &line_of("once", "der", "uper", "bool"),
+        &line_of("once", "coer", "per", "bool"),
+        &line_of("once", "coer", "uper", "INTEGER"),
         &line_of("once", "Coer", "uper", "bool"),
         &line_of("once", "coer", "uper", "Bool"),
     ];
@@ -424,26 +493,6 @@ fn faults_of_translations(rt: HostRuntime) {
 }
 
 #[test]
-fn types(rt: HostRuntime) -> Result<(), Fail> {
-    let least = Small::new(-5).ok_or("a small number")?;
-    assert_eq!(rt; least.get(), -5);
-    assert_eq!(rt; Small::new(5).map(|small| small.get()), Some(5));
-    assert_eq!(rt; Small::new(-6), None);
-    assert_eq!(rt; Small::new(6), None);
-    let pair = Pair { a: true, b: least };
-    let mut answers = 0u32;
-    for _ in 0..2 {
-        if let Ok(value) = pair.to_value(rt.alloc()) {
-            assert_eq!(rt; Pair::from_value(&value), Some(pair));
-            assert_eq!(rt; Small::from_value(&value), None);
-            answers = answers.saturating_add(1);
-        }
-    }
-    assert!(rt; 0 < answers);
-    Ok(())
-}
-
-#[test]
 fn orders(rt: HostRuntime) {
     let words = ["relay", "once", "--type=bool", "--to=coer", "--from=uper"];
     let order = Order {
@@ -470,7 +519,7 @@ fn orders(rt: HostRuntime) {
 }
 
 /// The fault of a translation; one request for memory at most is refused.
-fn fault_of<T: Wire>(
+fn fault_of<T: Encode + Decode>(
     rt: &impl AllocGlobal,
     from: Codec,
     to: Codec,
@@ -500,7 +549,7 @@ fn kinds_of_faults(rt: HostRuntime) {
 }
 
 /// Whether a translation gives these octets; one request for memory at most is refused.
-fn gives<T: Wire>(
+fn gives<T: Encode + Decode>(
     rt: &impl AllocGlobal,
     from: Codec,
     to: Codec,
