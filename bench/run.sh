@@ -17,13 +17,4 @@ for round in 1 2 3 4 5; do
     $RUN "$work/plain" | sed 's/^/plain /'
     $RUN "$work/crates/bits_bench/out/bits_bench" | sed 's/^/proved /'
 done > "$work/times"
-awk '{
-    key = $1 " " $2
-    if (!(key in best) || $3 < best[key]) best[key] = $3
-    if (($2 in sum) && sum[$2] != $4) wrong = 1
-    sum[$2] = $4
-    if (!($2 in seen)) { seen[$2] = 1; order[++n] = $2 }
-} END {
-    for (i = 1; i <= n; i++) printf "%-16s plain %8d  proved %8d  ratio %.2f\n", order[i], best["plain " order[i]], best["proved " order[i]], best["proved " order[i]] / best["plain " order[i]]
-    if (wrong) { print "the sums differ"; exit 1 }
-}' "$work/times"
+awk -f "$here/compare.awk" "$work/times"
