@@ -91,6 +91,7 @@ static int put_sample(struct buffer *b, const struct sample *s)
     return put_octet(b, s->has_e ? 0x80 : 0x00)
         && put_number(b, s->a, 4)
         && put_number(b, s->b, 8)
+        && put_length(b, 32)
         && put_octets(b, s->c, 32)
         && put_octet(b, s->d ? 0xFF : 0x00)
         && (!s->has_e || put_number(b, s->e, 2));
@@ -148,7 +149,7 @@ static int get_length(struct input *in, uint64_t *length)
 static int get_sample(struct input *in, struct sample *s)
 {
     const uint8_t *octets;
-    uint64_t preamble, number;
+    uint64_t preamble, number, length;
     if (!get_number(in, 1, &preamble) || (preamble & 0x7F))
         return 0;
     if (!get_number(in, 4, &number))
@@ -156,8 +157,7 @@ static int get_sample(struct input *in, struct sample *s)
     s->a = (uint32_t)number;
     if (!get_number(in, 8, &s->b))
         return 0;
-    octets = take(in, 32);
-    if (!octets)
+    if (!get_length(in, &length) || length != 32 || !(octets = take(in, length)))
         return 0;
     memcpy(s->c, octets, 32);
     if (!get_number(in, 1, &number) || (number != 0x00 && number != 0xFF))
@@ -242,7 +242,7 @@ static int time_samples(void)
     struct buffer b = {0};
     struct input in;
     uint64_t state = 1, sum = 0;
-    double start;
+    double start, time;
     unsigned i;
     if (!samples)
         return 0;
@@ -254,7 +254,8 @@ static int time_samples(void)
     for (i = 0; i < COUNT; i++)
         if (!put_sample(&b, &samples[i]))
             return 0;
-    tell("write_sequences", now() - start, sum_of(b.octets, b.count));
+    time = now() - start;
+    tell("write_sequences", time, sum_of(b.octets, b.count));
 
     in.octets = b.octets;
     in.count = b.count;

@@ -1,5 +1,5 @@
 //! A value is written.
-ghost use Rattle.std.specs.Prelude.{◌≡◌, ◌++◌, List, ℕ, length, OnOk, OnErr, IfOk, IfErr, MatchResult, ◌<◌, ◌≤◌, ◌^◌};
+ghost use Rattle.std.specs.Prelude.{◌≡◌, ◌++◌, [], List, ℕ, length, OnOk, OnErr, IfOk, IfErr, MatchResult, ◌<◌, ◌≤◌, ◌^◌};
 ghost use Rattle.oer_codec_output.specs.Encoded.{IsEncoded, NotEncoded};
 
 use asn1_schema_constraints::Constraints;
@@ -10,6 +10,17 @@ use std::alloc::Global;
 
 /// An encoding has fewer octets than this.
 const LENGTH_LIMIT: usize = 1 << 60;
+
+/// How many octets there is room for before the first one is written.
+const FIRST_CAPACITY: usize = 128;
+
+/// No octets, with room for those of a small value.
+fn with_room(alloc: Global) -> Result<Vec<u8>, EncodeError>
+    ensures { MatchResult result (λ octets. octets.items ≡ []) (λ e. e ≡ EncodeError.OutOfMemory) }
+{
+    let octets = Vec::with_capacity(alloc, FIRST_CAPACITY)?;
+    Ok(octets)
+}
 
 /// The octets, if they are not too many for an encoding.
 fn within_limit(octets: Vec<u8>) -> Result<Vec<u8>, EncodeError>
@@ -30,7 +41,7 @@ pub fn encode<T: Encode>(alloc: Global, value: &T) -> Result<Vec<u8>, EncodeErro
     ensures ok { IfOk result (λ octets. IsEncoded T.schema (T.meaning value.now) octets.items) }
     ensures only { IfErr result (NotEncoded T.schema (T.meaning value.now)) }
 {
-    let mut output = Vec::new(alloc);
+    let mut output = with_room(alloc)?;
     let mut encoder = Encoder::from_buffer(alloc, EncoderOptions::coer(), &mut output);
     value.encode(&mut encoder)?;
     within_limit(encoder.output())
@@ -49,7 +60,7 @@ pub fn encode_with_constraints<T: Encode>(
     ensures ok { IfOk result (λ octets. IsEncoded (T.under constraints.entry) (T.meaning value.now) octets.items) }
     ensures only { IfErr result (NotEncoded (T.under constraints.entry) (T.meaning value.now)) }
 {
-    let mut output = Vec::new(alloc);
+    let mut output = with_room(alloc)?;
     let mut encoder = Encoder::from_buffer(alloc, EncoderOptions::coer(), &mut output);
     value.encode_with_constraints(&mut encoder, constraints)?;
     within_limit(encoder.output())
