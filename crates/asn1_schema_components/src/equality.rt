@@ -1,5 +1,6 @@
 //! Equality of a type of the program, and equality of what its values mean.
 ghost use Rattle.std.specs.Prelude.{◌≡◌, refl};
+ghost use Rattle.std.specs.Cow.{cow_value, cow_slice_items, cow_str_bytes};
 ghost use Rattle.asn1_model.specs.Value.{same};
 ghost use Rattle.asn1_schema_presented.proofs.Same.{truths_agree, naturals_agree, numbers_agree, bits_agree, octets_agree, texts_agree, arcs_agree};
 ghost use Rattle.asn1_schema_components.specs.Lists.{nothing_agrees, lists_agree};
@@ -12,6 +13,9 @@ use asn1_values_numbers::Integer;
 use asn1_values_octets::{FixedOctetString, OctetString};
 use asn1_values_strings::RestrictedString;
 use asn1_values_strings_wide::BmpString;
+use std::alloc::Global;
+use std::borrow::{Cow, CowSlice, CowStr};
+use std::marker::PhantomData;
 
 /// A type of the program whose equality is that of what its values mean.
 pub trait EqualByMeaning: Described + PartialEq {
@@ -129,4 +133,28 @@ impl<T: EqualByMeaning> EqualByMeaning for Vec<T> {
 
 impl<T: EqualByMeaning, const N: usize> EqualByMeaning for [T; N] {
     ghost agrees = { lists_agree T.PartialEq.eq T.Described.meaning T.agrees };
+}
+
+impl<T> EqualByMeaning for PhantomData<T> {
+    ghost agrees = { λ _ _. nothing_agrees };
+}
+
+impl<T: EqualByMeaning> EqualByMeaning for &T {
+    ghost agrees = { λ x y. T.agrees x.now y.now };
+}
+
+impl EqualByMeaning for &str {
+    ghost agrees = { λ x y. texts_agree x.now y.now };
+}
+
+impl<'a, T: EqualByMeaning> EqualByMeaning for Cow<'a, T> {
+    ghost agrees = { λ x y. T.agrees (cow_value x) (cow_value y) };
+}
+
+impl<'a, T: EqualByMeaning> EqualByMeaning for CowSlice<'a, T, Global> {
+    ghost agrees = { λ x y. lists_agree T.PartialEq.eq T.Described.meaning T.agrees (cow_slice_items x) (cow_slice_items y) };
+}
+
+impl<'a> EqualByMeaning for CowStr<'a, Global> {
+    ghost agrees = { λ x y. texts_agree (cow_str_bytes x) (cow_str_bytes y) };
 }

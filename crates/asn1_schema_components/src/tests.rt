@@ -1,5 +1,8 @@
 //! Equality by meaning, through its bound.
 use crate::EqualByMeaning;
+use std::alloc::Global;
+use std::borrow::{Cow, CowSlice, CowStr};
+use std::marker::PhantomData;
 use std::test::Fail;
 
 fn mean_the_same<T: EqualByMeaning>(left: &T, right: &T) -> bool {
@@ -25,5 +28,33 @@ fn boxes_and_nothing_are_compared(rt: HostRuntime) -> Result<(), Fail> {
     assert!(rt; mean_the_same(&one, &one));
     assert!(rt; !mean_the_same(&one, &other));
     assert!(rt; mean_the_same(&(), &()));
+    Ok(())
+}
+
+#[test]
+fn markers_and_lent_values_are_compared(rt: HostRuntime) {
+    let marker: PhantomData<bool> = PhantomData;
+    assert!(rt; mean_the_same(&marker, &PhantomData));
+    assert!(rt; mean_the_same(&&7_u8, &&7));
+    assert!(rt; !mean_the_same(&&7_u8, &&8));
+    assert!(rt; mean_the_same(&"abc", &"abc"));
+    assert!(rt; !mean_the_same(&"abc", &"abd"));
+}
+
+#[test]
+fn lent_and_held_values_are_compared(rt: HostRuntime) -> Result<(), Fail> {
+    let lent = 7_u8;
+    assert!(rt; mean_the_same(&Cow::Borrowed(&lent), &Cow::Owned(7_u8)));
+    assert!(rt; !mean_the_same(&Cow::Borrowed(&lent), &Cow::Owned(8_u8)));
+    let octets: [u8; 2] = [1, 2];
+    let held = vec![in rt.alloc(); 1_u8, 2]?;
+    let some: CowSlice<'_, u8, Global> = CowSlice::Borrowed(&octets);
+    let same: CowSlice<'_, u8, Global> = CowSlice::Owned(held);
+    assert!(rt; mean_the_same(&some, &same));
+    assert!(rt; !mean_the_same(&some, &CowSlice::Borrowed(&octets[..1])));
+    let text: CowStr<'_, Global> = CowStr::Borrowed("abc");
+    let held_text: CowStr<'_, Global> = CowStr::Owned(String::from_str(rt.alloc(), "abc")?);
+    assert!(rt; mean_the_same(&text, &held_text));
+    assert!(rt; !mean_the_same(&text, &CowStr::Borrowed("ab")));
     Ok(())
 }

@@ -8,7 +8,7 @@ use Rattle.asn1_schema_faults.specs.declared.CodecKind.{CodecKind}
 use Rattle.asn1_schema_faults.specs.declared.EncodeError.{EncodeError}
 use Rattle.asn1_schema_faults.specs.declared.EncodeError.TheVariants.{OutOfMemory}
 use Rattle.asn1_schema_faults.specs.declared.DecodeError.{DecodeError}
-use Rattle.asn1_schema_faults.specs.declared.DecodeError.TheVariants.{Incomplete, ExceedsMaxParseDepth, IntegerOverflow, PermittedAlphabet, ValueConstraintNotSatisfied, OutOfMemory as NoRoom, AlreadyFailed as HadFailed}
+use Rattle.asn1_schema_faults.specs.declared.DecodeError.TheVariants.{Incomplete, NotValidCanonicalEncoding, SizeConstraintNotSatisfied, ExceedsMaxParseDepth, IntegerOverflow, PermittedAlphabet, ValueConstraintNotSatisfied, OutOfMemory as NoRoom, AlreadyFailed as HadFailed}
 use Rattle.asn1_schema_bounds.specs.Bounds.{range_of}
 use Rattle.asn1_schema_constraints.specs.Sets.{has_additions}
 use Rattle.asn1_schema_constraints.specs.declared.extensions.Extensible.{Extensible}
@@ -160,6 +160,30 @@ IsSpent old e = ((e ≡ HadFailed) × (old.failed ≡ true)) ⊎ ((e ≡ Incompl
 -- Or no level is left.
 abbrev pub IsDeep : Left → DecodeError → Type 0
 IsDeep old e = ((e ≡ HadFailed) × (old.failed ≡ true)) ⊎ ((e ≡ ExceedsMaxParseDepth) × (old.failed ≡ false) × (old.levels ≡ 0)) ⊎ ((e ≡ Incomplete) × (old.failed ≡ false) × (0 < old.levels) × (old.records ≡ []))
+
+-- Which error comes: an earlier one, `Incomplete` where nothing is left, and else one of these kinds.
+abbrev pub IsRefused : Left → (DecodeError → Type 0) → DecodeError → Type 0
+IsRefused old kinds e = IsSpent old e ⊎ ((old.failed ≡ false) × ((old.records ≡ []) → ⊥) × kinds e)
+
+-- The same where a level is taken, of which none may be left.
+abbrev pub IsRefusedFirst : Left → (DecodeError → Type 0) → DecodeError → Type 0
+IsRefusedFirst old kinds e = IsDeep old e ⊎ ((old.failed ≡ false) × (0 < old.levels) × ((old.records ≡ []) → ⊥) × kinds e)
+
+-- What is next is of another kind.
+abbrev pub IsOtherKind : DecodeError → Type 0
+IsOtherKind e = e ≡ NotValidCanonicalEncoding
+
+-- Or of another size.
+abbrev pub IsMisfit : DecodeError → Type 0
+IsMisfit e = (e ≡ NotValidCanonicalEncoding) ⊎ (e ≡ SizeConstraintNotSatisfied)
+
+-- Or has other characters, or memory is wanting.
+abbrev pub IsMisfitText : DecodeError → Type 0
+IsMisfitText e = (e ≡ NotValidCanonicalEncoding) ⊎ (e ≡ SizeConstraintNotSatisfied) ⊎ (e ≡ PermittedAlphabet) ⊎ (e ≡ NoRoom)
+
+-- Or is another number, or memory is wanting.
+abbrev pub IsMisfitNumber : DecodeError → Type 0
+IsMisfitNumber e = (e ≡ NotValidCanonicalEncoding) ⊎ (e ≡ ValueConstraintNotSatisfied) ⊎ (e ≡ IntegerOverflow) ⊎ (e ≡ NoRoom)
 
 -- The numbers of 128 bits of two's complement.
 abbrev pub wide_range : Range

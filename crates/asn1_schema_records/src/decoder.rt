@@ -1,9 +1,14 @@
 //! The decoder that reads kept records.
-ghost use Rattle.std.specs.Prelude.{◌≡◌, ◌+◌, ◌≤◌, ◌<◌, ◌||◌, ◌↔◌, [], ◌∷◌, true, false, map, IsTrue, MatchBool, OnOk, OnErr, IfErr, IfOk};
+ghost use Rattle.std.specs.Prelude.{◌≡◌, ◌+◌, ◌≤◌, ◌<◌, ◌||◌, ◌↔◌, ℕ, [], ◌∷◌, true, false, length, map, string_bytes, IsTrue, MatchBool, OnOk, OnErr, IfErr, IfOk};
+ghost use Rattle.asn1_model.specs.Schema.{utf8};
+ghost use Rattle.asn1_model.specs.Types.{any_count};
 ghost use Rattle.asn1_model.specs.Numbers.{is_within, is_count_within};
-ghost use Rattle.asn1_schema_bounds.specs.Bounds.{counts_of};
-ghost use Rattle.asn1_schema_constraints.specs.Terms.{sizes_of};
-ghost use Rattle.asn1_schema_records.specs.Kept.{record_of, sizes_in, Takes, Leaves, Begins, Fails, IsSpent, IsDeep, IsUntaken, IsUnspelled, is_admitted};
+ghost use Rattle.asn1_schema_bounds.specs.Bounds.{counts_of, members_of};
+ghost use Rattle.asn1_schema_constraints.specs.Terms.{bounds_of, held_of, sizes_of, alphabet_of};
+ghost use Rattle.asn1_schema_decode.specs.Reads.{NoRecord, NoLevel};
+ghost use Rattle.asn1_schema_presented.specs.Records.{flag, nil, whole, bits, octets, characters, identifier as object_identifier, list_begins, further, sequence_begins, mark, is_default, ends};
+ghost use Rattle.asn1_schema_presented.specs.Records.{asks_flag, asks_nil, asks_whole, asks_bits, asks_octets, asks_characters, asks_identifier, asks_list, asks_further, asks_sequence, asks_mark, asks_default, asks_end};
+ghost use Rattle.asn1_schema_records.specs.Kept.{record_of, sizes_in, Takes, Leaves, Begins, Fails, IsSpent, IsDeep, IsRefused, IsRefusedFirst, IsOtherKind, IsMisfit, IsMisfitText, IsMisfitNumber, IsUntaken, IsUnspelled, is_admitted};
 ghost use Rattle.asn1_values_alphabets.specs.Permitted.{permits_all};
 
 use crate::items::{Item, Sizes};
@@ -141,7 +146,14 @@ impl Decoder for RecordDecoder {
         self.levels
     }
 
-    fn decode_bool(&mut self, _tag: Tag) -> Result<bool, DecodeError> {
+    fn decode_bool(&mut self, _tag: Tag) -> Result<bool, DecodeError>
+        ensures ok { IfOk result (λ x. Takes self.old (flag x) self.new) }
+        ensures level { OnOk result (self.new.levels ≡ self.old.levels) }
+        ensures only { IfErr result (NoRecord Takes asks_flag self.old) }
+        ensures failed { OnErr result (self.new.failed ≡ true) }
+        ensures already { self.old.failed ≡ true → result ≡ Err DecodeError.AlreadyFailed }
+        ensures kind { IfErr result (IsRefused self.old IsOtherKind) }
+    {
         let item = self.take_next()?;
         match item.into_flag() {
             Some(value) => Ok(value),
@@ -149,7 +161,14 @@ impl Decoder for RecordDecoder {
         }
     }
 
-    fn decode_null(&mut self, _tag: Tag) -> Result<(), DecodeError> {
+    fn decode_null(&mut self, _tag: Tag) -> Result<(), DecodeError>
+        ensures ok { OnOk result (Takes self.old nil self.new) }
+        ensures level { OnOk result (self.new.levels ≡ self.old.levels) }
+        ensures only { IfErr result (NoRecord Takes asks_nil self.old) }
+        ensures failed { OnErr result (self.new.failed ≡ true) }
+        ensures already { self.old.failed ≡ true → result ≡ Err DecodeError.AlreadyFailed }
+        ensures kind { IfErr result (IsRefused self.old IsOtherKind) }
+    {
         let item = self.take_next()?;
         if item.is_null() {
             return Ok(());
@@ -162,7 +181,15 @@ impl Decoder for RecordDecoder {
         alloc: Global,
         _tag: Tag,
         constraints: Constraints,
-    ) -> Result<I, DecodeError> {
+    ) -> Result<I, DecodeError>
+        ensures ok { IfOk result (λ x. Takes self.old (whole (bounds_of constraints.entry.value) (held_of constraints.entry.value I.held) (I.value x)) self.new) }
+        ensures within { IfOk result (λ x. ((bounds_of constraints.entry.value).extensible || is_within ((bounds_of constraints.entry.value).range) (I.value x)) ≡ true) }
+        ensures level { OnOk result (self.new.levels ≡ self.old.levels) }
+        ensures only { IfErr result (NoRecord Takes (asks_whole (bounds_of constraints.entry.value) (held_of constraints.entry.value I.held)) self.old) }
+        ensures failed { OnErr result (self.new.failed ≡ true) }
+        ensures already { self.old.failed ≡ true → result ≡ Err DecodeError.AlreadyFailed }
+        ensures kind { IfErr result (IsRefused self.old IsMisfitNumber) }
+    {
         let item = self.take_next()?;
         let Some((limits, number)) = item.into_integer() else {
             return Err(self.refuse(DecodeError::NotValidCanonicalEncoding));
@@ -182,7 +209,15 @@ impl Decoder for RecordDecoder {
         _tag: Tag,
         constraints: Constraints,
         held: Bounded<usize>,
-    ) -> Result<BitString, DecodeError> {
+    ) -> Result<BitString, DecodeError>
+        ensures ok { IfOk result (λ x. Takes self.old (bits (sizes_of constraints.entry.size) (counts_of held) x) self.new) }
+        ensures held { IfOk result (λ x. is_count_within (counts_of held) (length x) ≡ true) }
+        ensures level { OnOk result (self.new.levels ≡ self.old.levels) }
+        ensures only { IfErr result (NoRecord Takes (asks_bits (sizes_of constraints.entry.size) (counts_of held)) self.old) }
+        ensures failed { OnErr result (self.new.failed ≡ true) }
+        ensures already { self.old.failed ≡ true → result ≡ Err DecodeError.AlreadyFailed }
+        ensures kind { IfErr result (IsRefused self.old IsMisfit) }
+    {
         let item = self.take_next()?;
         let Some((sizes, bits)) = item.into_bits() else {
             return Err(self.refuse(DecodeError::NotValidCanonicalEncoding));
@@ -199,7 +234,15 @@ impl Decoder for RecordDecoder {
         _tag: Tag,
         constraints: Constraints,
         held: Bounded<usize>,
-    ) -> Result<Vec<u8>, DecodeError> {
+    ) -> Result<Vec<u8>, DecodeError>
+        ensures ok { IfOk result (λ x. Takes self.old (octets (sizes_of constraints.entry.size) (counts_of held) (x.items)) self.new) }
+        ensures held { IfOk result (λ x. is_count_within (counts_of held) (length (x.items)) ≡ true) }
+        ensures level { OnOk result (self.new.levels ≡ self.old.levels) }
+        ensures only { IfErr result (NoRecord Takes (asks_octets (sizes_of constraints.entry.size) (counts_of held)) self.old) }
+        ensures failed { OnErr result (self.new.failed ≡ true) }
+        ensures already { self.old.failed ≡ true → result ≡ Err DecodeError.AlreadyFailed }
+        ensures kind { IfErr result (IsRefused self.old IsMisfit) }
+    {
         let item = self.take_next()?;
         let Some((sizes, octets)) = item.into_octets() else {
             return Err(self.refuse(DecodeError::NotValidCanonicalEncoding));
@@ -215,7 +258,14 @@ impl Decoder for RecordDecoder {
         _alloc: Global,
         _tag: Tag,
         constraints: Constraints,
-    ) -> Result<String, DecodeError> {
+    ) -> Result<String, DecodeError>
+        ensures ok { IfOk result (λ x. Takes self.old (characters utf8 (sizes_of constraints.entry.size) (alphabet_of constraints.entry.permitted_alphabet) any_count (string_bytes x)) self.new) }
+        ensures level { OnOk result (self.new.levels ≡ self.old.levels) }
+        ensures only { IfErr result (NoRecord Takes (asks_characters utf8 (sizes_of constraints.entry.size) (alphabet_of constraints.entry.permitted_alphabet) any_count) self.old) }
+        ensures failed { OnErr result (self.new.failed ≡ true) }
+        ensures already { self.old.failed ≡ true → result ≡ Err DecodeError.AlreadyFailed }
+        ensures kind { IfErr result (IsRefused self.old IsMisfit) }
+    {
         let item = self.take_next()?;
         let Some((sizes, text)) = item.into_text() else {
             return Err(self.refuse(DecodeError::NotValidCanonicalEncoding));
@@ -231,7 +281,14 @@ impl Decoder for RecordDecoder {
         alloc: Global,
         _tag: Tag,
         constraints: Constraints,
-    ) -> Result<S, DecodeError> {
+    ) -> Result<S, DecodeError>
+        ensures ok { IfOk result (λ x. Takes self.old (characters S.kind (sizes_of constraints.entry.size) (alphabet_of constraints.entry.permitted_alphabet) any_count (S.characters x)) self.new) }
+        ensures level { OnOk result (self.new.levels ≡ self.old.levels) }
+        ensures only { IfErr result (NoRecord Takes (asks_characters S.kind (sizes_of constraints.entry.size) (alphabet_of constraints.entry.permitted_alphabet) any_count) self.old) }
+        ensures failed { OnErr result (self.new.failed ≡ true) }
+        ensures already { self.old.failed ≡ true → result ≡ Err DecodeError.AlreadyFailed }
+        ensures kind { IfErr result (IsRefused self.old IsMisfitText) }
+    {
         let item = self.take_next()?;
         let Some((sizes, characters)) = item.into_characters() else {
             return Err(self.refuse(DecodeError::NotValidCanonicalEncoding));
@@ -249,7 +306,14 @@ impl Decoder for RecordDecoder {
         &mut self,
         _alloc: Global,
         _tag: Tag,
-    ) -> Result<ObjectIdentifier, DecodeError> {
+    ) -> Result<ObjectIdentifier, DecodeError>
+        ensures ok { IfOk result (λ x. Takes self.old (object_identifier x) self.new) }
+        ensures level { OnOk result (self.new.levels ≡ self.old.levels) }
+        ensures only { IfErr result (NoRecord Takes (asks_identifier) self.old) }
+        ensures failed { OnErr result (self.new.failed ≡ true) }
+        ensures already { self.old.failed ≡ true → result ≡ Err DecodeError.AlreadyFailed }
+        ensures kind { IfErr result (IsRefused self.old IsOtherKind) }
+    {
         let item = self.take_next()?;
         match item.into_identifier() {
             Some(identifier) => Ok(identifier),
@@ -262,7 +326,14 @@ impl Decoder for RecordDecoder {
         _tag: Tag,
         constraints: Constraints,
         held: Bounded<usize>,
-    ) -> Result<(), DecodeError> {
+    ) -> Result<(), DecodeError>
+        ensures ok { OnOk result ((n : ℕ) → is_count_within (members_of held) n ≡ true → Takes self.old (list_begins (sizes_of constraints.entry.size) (members_of held) n) self.new) }
+        ensures level { OnOk result (self.old.levels ≡ self.new.levels + 1) }
+        ensures only { IfErr result (NoLevel Takes (asks_list (sizes_of constraints.entry.size) (members_of held)) self.old.levels self.old) }
+        ensures failed { OnErr result (self.new.failed ≡ true) }
+        ensures already { self.old.failed ≡ true → result ≡ Err DecodeError.AlreadyFailed }
+        ensures kind { IfErr result (IsRefusedFirst self.old IsMisfit) }
+    {
         let item = self.take_first()?;
         let Some((sizes, count)) = item.into_list() else {
             return Err(self.refuse(DecodeError::NotValidCanonicalEncoding));
@@ -273,7 +344,14 @@ impl Decoder for RecordDecoder {
         Err(self.refuse(DecodeError::SizeConstraintNotSatisfied))
     }
 
-    fn get_further(&mut self) -> Result<bool, DecodeError> {
+    fn get_further(&mut self) -> Result<bool, DecodeError>
+        ensures ok { IfOk result (λ x. Takes self.old (further x) self.new) }
+        ensures level { OnOk result (self.new.levels ≡ self.old.levels) }
+        ensures only { IfErr result (NoRecord Takes asks_further self.old) }
+        ensures failed { OnErr result (self.new.failed ≡ true) }
+        ensures already { self.old.failed ≡ true → result ≡ Err DecodeError.AlreadyFailed }
+        ensures kind { IfErr result (IsRefused self.old IsOtherKind) }
+    {
         let item = self.take_next()?;
         match item.into_further() {
             Some(more) => Ok(more),
@@ -286,7 +364,14 @@ impl Decoder for RecordDecoder {
         _tag: Tag,
         extensible: bool,
         optional: usize,
-    ) -> Result<(), DecodeError> {
+    ) -> Result<(), DecodeError>
+        ensures ok { OnOk result (Takes self.old (sequence_begins extensible optional) self.new) }
+        ensures level { OnOk result (self.old.levels ≡ self.new.levels + 1) }
+        ensures only { IfErr result (NoLevel Takes (asks_sequence extensible optional) self.old.levels self.old) }
+        ensures failed { OnErr result (self.new.failed ≡ true) }
+        ensures already { self.old.failed ≡ true → result ≡ Err DecodeError.AlreadyFailed }
+        ensures kind { IfErr result (IsRefusedFirst self.old IsOtherKind) }
+    {
         let item = self.take_first()?;
         if item.is_sequence(extensible, optional) {
             return Ok(());
@@ -294,7 +379,14 @@ impl Decoder for RecordDecoder {
         Err(self.refuse(DecodeError::NotValidCanonicalEncoding))
     }
 
-    fn get_mark(&mut self) -> Result<bool, DecodeError> {
+    fn get_mark(&mut self) -> Result<bool, DecodeError>
+        ensures ok { IfOk result (λ x. Takes self.old (mark x) self.new) }
+        ensures level { OnOk result (self.new.levels ≡ self.old.levels) }
+        ensures only { IfErr result (NoRecord Takes asks_mark self.old) }
+        ensures failed { OnErr result (self.new.failed ≡ true) }
+        ensures already { self.old.failed ≡ true → result ≡ Err DecodeError.AlreadyFailed }
+        ensures kind { IfErr result (IsRefused self.old IsOtherKind) }
+    {
         let item = self.take_next()?;
         match item.into_mark() {
             Some(present) => Ok(present),
@@ -302,7 +394,14 @@ impl Decoder for RecordDecoder {
         }
     }
 
-    fn note_default(&mut self) -> Result<(), DecodeError> {
+    fn note_default(&mut self) -> Result<(), DecodeError>
+        ensures ok { OnOk result (Takes self.old is_default self.new) }
+        ensures level { OnOk result (self.new.levels ≡ self.old.levels) }
+        ensures only { IfErr result (NoRecord Takes asks_default self.old) }
+        ensures failed { OnErr result (self.new.failed ≡ true) }
+        ensures already { self.old.failed ≡ true → result ≡ Err DecodeError.AlreadyFailed }
+        ensures kind { IfErr result (IsRefused self.old IsOtherKind) }
+    {
         let item = self.take_next()?;
         if item.is_default() {
             return Ok(());
@@ -310,7 +409,14 @@ impl Decoder for RecordDecoder {
         Err(self.refuse(DecodeError::NotValidCanonicalEncoding))
     }
 
-    fn end(&mut self) -> Result<(), DecodeError> {
+    fn end(&mut self) -> Result<(), DecodeError>
+        ensures ok { OnOk result (Takes self.old ends self.new) }
+        ensures level { OnOk result (self.new.levels ≡ self.old.levels + 1) }
+        ensures only { IfErr result (NoRecord Takes asks_end self.old) }
+        ensures failed { OnErr result (self.new.failed ≡ true) }
+        ensures already { self.old.failed ≡ true → result ≡ Err DecodeError.AlreadyFailed }
+        ensures kind { IfErr result (IsRefused self.old IsOtherKind) }
+    {
         let item = self.take_next()?;
         if !item.is_end() {
             return Err(self.refuse(DecodeError::NotValidCanonicalEncoding));
