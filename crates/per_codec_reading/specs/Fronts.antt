@@ -1,0 +1,37 @@
+-- What stands in front of the bits that are still to be read, and why a reader refuses them.
+use Rattle.std.specs.Prelude.{◌≡◌, ◌+◌, ◌++◌, Bool, true, false, List, length}
+use Rattle.asn1_model.specs.Form.{placed}
+use Rattle.asn1_model.specs.Per.{Freedom, BitForm, filling, missing}
+use Rattle.asn1_model.specs.Rules.{lenient}
+use Rattle.asn1_schema_faults.specs.declared.DecodeError.{DecodeError}
+use Rattle.asn1_schema_faults.specs.declared.DecodeError.TheVariants.{OutOfMemory}
+use Rattle.per_codec_fronts.specs.Takes.{Place, Front}
+use Rattle.per_codec_reading.specs.declared.variant.Variant.{Variant}
+use Rattle.per_codec_reading.specs.declared.variant.Variant.TheVariants.{Unaligned, Aligned}
+
+-- Whether bits fill up octets in front of some fields.
+abbrev pub is_aligned : Variant → Bool
+is_aligned Unaligned = false
+is_aligned Aligned = true
+
+-- What a reader of this variant may take besides the canonical form.
+abbrev pub freedoms : Variant → Freedom → Bool
+freedoms Unaligned = lenient
+freedoms Aligned = lenient
+
+-- These bits stand in front, and the others are left.
+abbrev pub Leads : List Bool → Place → Place → Type 0
+Leads w old new = (w ++ new.1 ≡ old.1) × (old.0 + length w ≡ new.0)
+
+-- None of some forms stands in front, whatever is behind.
+abbrev pub NoneStands : {X : Type 0} → (Freedom → Bool) → (X → BitForm) → Place → Type 0
+NoneStands {X} free f old = (x : X) (new : Place) → Front free (f x) old new → ⊥
+
+-- Why a reader of some forms refuses: no memory is left, or none of them stands in front.
+abbrev pub Misses : {X : Type 0} → (Freedom → Bool) → (X → BitForm) → Place → DecodeError → Type 0
+Misses free f old OutOfMemory = Unit {0}
+Misses free f old e = NoneStands free f old
+
+-- The bits that fill up to the next octet (X.691 11.1).
+abbrev pub to_octet : BitForm
+to_octet = placed (λ p. filling (missing p))

@@ -1,0 +1,114 @@
+//! The bits that are still to be read.
+ghost use Rattle.std.specs.Prelude.{◌≡◌, ◌-◌, ◌^◌, ◌<◌, ◌≤◌, take, [], length, IsTrue, ◌↔◌, IfOk, IfErr};
+ghost use Rattle.asn1_model.specs.Numbers.{binary, octet_bits};
+ghost use Rattle.asn1_values_bits.specs.BitStr.{bits_of};
+ghost use Rattle.per_codec_reading.specs.Fronts.{Leads};
+
+use asn1_schema_faults::DecodeError;
+use asn1_values_bits::BitStr;
+use std::marker::Model;
+
+/// An encoding has no more octets.
+const MOST_OCTETS: usize = (1 << 60) - 1;
+
+/// A place in a message or in an open type: how many bits stand in front of it, and the bits behind it, which are unread and lent.
+#[derive(Drop)]
+pub struct Cursor<'input> {
+    position: usize,
+    unread: BitStr<'input>,
+}
+
+impl<'input> Model for Cursor<'input> {
+    ghost use Rattle.std.specs.Prelude.{◌+◌, ◌<◌, ◌^◌, length};
+    ghost use Rattle.asn1_values_bits.specs.BitStr.{bits_of};
+    ghost use Rattle.per_codec_fronts.specs.Takes.{Place};
+
+    ghost Value = { Place };
+
+    ghost view = { λ cursor. (cursor.position, bits_of cursor.unread) };
+
+    ghost invariant = { λ cursor. cursor.position + length (bits_of cursor.unread) < 2 ^ 64 };
+}
+
+impl<'input> Cursor<'input> {
+    /// Before these octets: an encoding has fewer than 2^60, and of more of them the first 2^60 - 1 alone are read.
+    pub fn new(input: &'input [u8]) -> Self
+        ensures { result ≡ (0, octet_bits (take (2 ^ 60 - 1) input.entry.now)) }
+    {
+        let count = input.len().min(MOST_OCTETS);
+        Cursor::from_bits(BitStr::from_slice(&input[..count]))
+    }
+
+    /// Before these bits, which are all of a message or of an open type.
+    pub fn from_bits(bits: BitStr<'input>) -> Self
+        ensures { result ≡ (0, bits_of bits.entry) }
+    {
+        let _count = bits.len();
+        Cursor {
+            position: 0,
+            unread: bits,
+        }
+    }
+
+    /// How many bits of the message or open type are read.
+    pub fn position(&self) -> usize
+        ensures { result ≡ self.now.0 }
+    {
+        self.position
+    }
+
+    /// The unread bits.
+    pub fn bits(&self) -> BitStr<'input>
+        ensures { bits_of result ≡ self.now.1 }
+    {
+        self.unread
+    }
+
+    /// How many bits are unread.
+    pub fn len(&self) -> usize
+        ensures { result ≡ length self.now.1 }
+    {
+        self.unread.len()
+    }
+
+    /// Whether all bits are read.
+    pub fn is_empty(&self) -> bool
+        ensures { IsTrue result ↔ (self.now.1 ≡ []) }
+    {
+        self.unread.is_empty()
+    }
+
+    /// Takes the first bits, as many as are asked for, and lends them.
+    ///
+    /// # Errors
+    ///
+    /// `Incomplete` if there are fewer.
+    pub fn take(&mut self, count: usize) -> Result<BitStr<'input>, DecodeError>
+        ensures bits { IfOk result (λ bits. Leads (bits_of bits) self.old self.new) }
+        ensures count { IfOk result (λ bits. length (bits_of bits) ≡ count) }
+        ensures short { IfErr result (λ e. (e ≡ DecodeError.Incomplete) × (length self.old.1 < count)) }
+    {
+        if count > self.unread.len() {
+            return Err(DecodeError::Incomplete);
+        }
+        let (bits, rest) = self.unread.split_at(count);
+        self.position += count;
+        self.unread = rest;
+        Ok(bits)
+    }
+
+    /// Takes the number whose binary digits are the first bits, as many as are asked for and at most 128.
+    ///
+    /// # Errors
+    ///
+    /// `Incomplete` if there are fewer.
+    pub fn take_number(&mut self, width: u32) -> Result<u128, DecodeError>
+        requires { width ≤ 128 }
+        ensures digits { IfOk result (λ number. Leads (binary width number) self.old self.new) }
+        ensures fits { IfOk result (λ number. number < 2 ^ width) }
+        ensures short { IfErr result (λ e. (e ≡ DecodeError.Incomplete) × (length self.old.1 < width)) }
+    {
+        let bits = self.take(width as usize)?;
+        Ok(bits.first_number(width))
+    }
+}

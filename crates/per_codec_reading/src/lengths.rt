@@ -1,0 +1,73 @@
+//! Lengths (X.691 11.9.3).
+ghost use Rattle.std.specs.Prelude.{◌≡◌, ◌≤◌, ◌<◌, false, IfOk, IfErr};
+ghost use Rattle.asn1_model.specs.Per as Per;
+ghost use Rattle.per_codec_fronts.specs.Takes.{Front};
+ghost use Rattle.per_codec_reading.specs.Fronts.{freedoms, Misses};
+ghost use Rattle.per_codec_reading.specs.Fronts as fronts;
+ghost use Rattle.per_codec_reading.specs.Lengths.{IsLength, length_form};
+
+use crate::filling::align;
+use crate::{Cursor, Variant};
+use asn1_schema_faults::DecodeError;
+
+/// What stands in front of units.
+#[derive(Clone, Copy, Debug, PartialEq, Eq)]
+pub enum Length {
+    /// So many units, below 16384, and no more behind them.
+    Short(usize),
+    /// A fragment of so many times 16384 units, one to four, and a further length behind it.
+    Fragment(usize),
+}
+
+/// Reads a length that begins here: seven bits, fourteen bits or six, behind the bits that tell which (X.691 11.9.3.6 to 11.9.3.8).
+fn read_header(cursor: &mut Cursor<'_>, variant: Variant) -> Result<Length, DecodeError>
+    ensures ok { IfOk result (λ length. Front (freedoms variant) (length_form false length) cursor.old cursor.new) }
+    ensures bound { IfOk result IsLength }
+    ensures only { IfErr result (Misses (freedoms variant) (length_form false) cursor.old) }
+{
+    let first = cursor.take_number(8)? as usize;
+    if first < 0x80 {
+        return Ok(Length::Short(first));
+    }
+    if first < 0xC0 {
+        let second = cursor.take_number(8)? as usize;
+        return Ok(Length::Short((first - 0x80) * 0x100 + second));
+    }
+    let multiple = first - 0xC0;
+    if multiple < 1 || multiple > 4 {
+        return Err(DecodeError::LengthExceedsPlatformWidth);
+    }
+    Ok(Length::Fragment(multiple))
+}
+
+/// Reads a length, or the length of a fragment, at an octet in the aligned variant (X.691 11.9.3.5 to 11.9.3.8). A length below 128 is also
+/// taken in fourteen bits.
+///
+/// # Errors
+///
+/// `Incomplete` if the bits end early, and `LengthExceedsPlatformWidth` at a fragment of none or of more than four times 16384 units.
+pub fn read_length(cursor: &mut Cursor<'_>, variant: Variant) -> Result<Length, DecodeError>
+    ensures ok { IfOk result (λ length. Front (freedoms variant) (length_form (fronts.is_aligned variant) length) cursor.old cursor.new) }
+    ensures bound { IfOk result IsLength }
+    ensures only { IfErr result (Misses (freedoms variant) (length_form (fronts.is_aligned variant)) cursor.old) }
+{
+    align(cursor, variant)?;
+    read_header(cursor, variant)
+}
+
+/// Reads a length below 16384 (X.691 11.9.3.5 to 11.9.3.7).
+///
+/// # Errors
+///
+/// `Incomplete` if the bits end early, and `LengthExceedsPlatformWidth` at the length of a fragment.
+pub fn read_short_length(cursor: &mut Cursor<'_>, variant: Variant) -> Result<usize, DecodeError>
+    ensures ok { IfOk result (λ n. Front (freedoms variant) (Per.short_length (fronts.is_aligned variant) n) cursor.old cursor.new) }
+    ensures bound { IfOk result (λ n. n < 16384) }
+    ensures only { IfErr result (Misses (freedoms variant) (Per.short_length (fronts.is_aligned variant)) cursor.old) }
+{
+    let length = read_length(cursor, variant)?;
+    match length {
+        Length::Short(count) => Ok(count),
+        Length::Fragment(_) => Err(DecodeError::LengthExceedsPlatformWidth),
+    }
+}

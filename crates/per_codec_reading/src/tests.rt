@@ -1,0 +1,4 @@
+//! Bits that are read or refused, and why.
+mod lengths;
+mod numbers;
+mod units;

@@ -1,0 +1,21 @@
+//! Truth values, and nothing.
+use crate::units::{read_boolean, read_null};
+use crate::{Cursor, Variant};
+use asn1_schema_faults::DecodeError;
+
+#[test]
+fn a_truth_value_is_a_bit(rt: HostRuntime) {
+    let mut cursor = Cursor::new(&[0x80]);
+    assert_eq!(rt; read_boolean(&mut cursor, Variant::Aligned), Ok(true));
+    assert_eq!(rt; read_boolean(&mut cursor, Variant::Unaligned), Ok(false));
+    assert_eq!(rt; cursor.len(), 6);
+    let refused = read_boolean(&mut Cursor::new(&[]), Variant::Unaligned);
+    assert_eq!(rt; refused, Err(DecodeError::Incomplete));
+}
+
+#[test]
+fn nothing_has_no_bits(rt: HostRuntime) {
+    let mut cursor = Cursor::new(&[0x01]);
+    assert_eq!(rt; read_null(&mut cursor, Variant::Unaligned), Ok(()));
+    assert_eq!(rt; cursor.len(), 8);
+}

@@ -1,0 +1,45 @@
+//! Single bits, BOOLEAN and NULL (X.691 12 and 24).
+ghost use Rattle.std.specs.Prelude.{[], ◌∷◌, IfOk, IfErr, OnOk};
+ghost use Rattle.asn1_model.specs.Per as Per;
+ghost use Rattle.asn1_model.specs.Schema as Asn1;
+ghost use Rattle.asn1_model.specs.Value as Asn1Value;
+ghost use Rattle.per_codec_fronts.specs.Takes.{Front};
+ghost use Rattle.per_codec_reading.specs.Fronts as fronts;
+ghost use Rattle.per_codec_reading.specs.Fronts.{freedoms, Misses};
+ghost use Rattle.per_codec_reading.specs.Lengths.{one_bit};
+
+use crate::{Cursor, Variant};
+use asn1_schema_faults::DecodeError;
+
+/// Reads a bit, such as a mark of extensibility or a presence bit.
+///
+/// # Errors
+///
+/// `Incomplete` if there is none.
+pub fn read_bit(cursor: &mut Cursor<'_>, variant: Variant) -> Result<bool, DecodeError>
+    ensures ok { IfOk result (λ bit. Front (freedoms variant) (one_bit bit) cursor.old cursor.new) }
+    ensures only { IfErr result (Misses (freedoms variant) one_bit cursor.old) }
+{
+    let number = cursor.take_number(1)?;
+    Ok(number == 1)
+}
+
+/// Reads a truth value (X.691 12).
+///
+/// # Errors
+///
+/// `Incomplete` if there is no bit.
+pub fn read_boolean(cursor: &mut Cursor<'_>, variant: Variant) -> Result<bool, DecodeError>
+    ensures ok { IfOk result (λ b. Front (freedoms variant) (Per.form (fronts.is_aligned variant) Asn1.boolean (Asn1Value.truth b)) cursor.old cursor.new) }
+    ensures only { IfErr result (Misses (freedoms variant) (Per.form (fronts.is_aligned variant) Asn1.boolean) cursor.old) }
+{
+    read_bit(cursor, variant)
+}
+
+/// Reads the value of NULL (X.691 24), which has no bits.
+pub fn read_null(cursor: &mut Cursor<'_>, variant: Variant) -> Result<(), DecodeError>
+    ensures ok { OnOk result (Front (freedoms variant) (Per.form (fronts.is_aligned variant) Asn1.null Asn1Value.nothing) cursor.old cursor.new) }
+    ensures only { IfErr result (Misses (freedoms variant) (Per.form (fronts.is_aligned variant) Asn1.null) cursor.old) }
+{
+    Ok(())
+}

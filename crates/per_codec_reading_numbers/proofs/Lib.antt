@@ -1,0 +1,3 @@
+pub mod OctetFronts
+pub mod WholeFronts
+pub mod IntegerFronts

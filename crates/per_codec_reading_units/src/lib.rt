@@ -1,0 +1,22 @@
+//! Readers of units of one width behind their number, and of strings of them, in the packed encoding rules (X.691).
+//!
+//! Each reader answers a value just where its form stands in front, and takes its bits; it refuses, but for want of memory, just where none
+//! does. Nothing is said of the cursor after a refusal. What stands in one piece is lent; fragments are joined.
+#![tactic(auto)]
+
+pub mod identifiers;
+pub mod octets;
+pub mod runs;
+pub mod sizes;
+pub mod strings;
+pub mod texts;
+
+pub use identifiers::read_object_identifier;
+pub use octets::read_counted_octets;
+pub use runs::{Run, RunBits, read_counted};
+pub use sizes::{Contents, read_sized};
+pub use strings::{read_bit_string, read_octet_string};
+pub use texts::read_utf8_string;
+
+#[cfg(test)]
+mod tests;
