@@ -22,7 +22,7 @@ each_end : (test : ℕ → Bool) (cs : List ℕ) (c : ℕ) → each_is test cs �
 each_end test [] c h e = and_from _ _ e refl
 each_end test (d ∷ cs) c h e = let p = and_parts _ _ h in and_from _ _ p.0 (each_end test cs c p.1 e)
 
-split_bits : (w : List Bool) (n : ℕ) → take n w ++ drop n w ≡ w
+pub split_bits : (w : List Bool) (n : ℕ) → take n w ++ drop n w ≡ w
 split_bits w zero = refl
 split_bits [] (suc n) = refl
 split_bits (b ∷ w) (suc n) = ap (λ l. b ∷ l) (split_bits w n)
@@ -38,7 +38,7 @@ one_spelled k a done now c n w rest left s e p f t =
     })
 
 -- ---- the first of some characters is told by its code
-front : (x y : List Bool) (n : ℕ) → length x ≡ n → (take n (x ++ y) ≡ x) × (drop n (x ++ y) ≡ y)
+pub front : (x y : List Bool) (n : ℕ) → length x ≡ n → (take n (x ++ y) ≡ x) × (drop n (x ++ y) ≡ y)
 front [] y zero e = (refl, refl)
 front [] y (suc n) e = absurd (omega arith)
 front (b ∷ x) y zero e = absurd (omega arith)
