@@ -1,8 +1,8 @@
 -- Strings whose characters have no fixed width, as octets behind their number (X.691 30).
-use Rattle.std.proofs.Common.{◌≡◌, ℕ, leb, ltb, ◌&&◌, ◌||◌, Bool, true, false, cond, List, [], ◌∷◌, length, refl, ap, sym, ◌∙◌, subst, arith}
+use Rattle.std.proofs.Common.{◌≡◌, ℕ, leb, ◌&&◌, ◌||◌, Bool, true, false, cond, List, [], ◌∷◌, length, refl, ap, sym, ◌∙◌, subst, arith}
 use Rattle.std.proofs.lemmas.Bool.{ltb-true, le-leb, and_parts, and_from}
 use Rattle.asn1_model.specs.Schema.{Alphabet, Size, StringKind, numeric, printable, visible, ia5, bmp, general, graphic, teletex, utf8, character_string}
-use Rattle.asn1_model.specs.Value.{Value, text}
+use Rattle.asn1_model.specs.Value.{text}
 use Rattle.asn1_model.specs.Types.{any_count}
 use Rattle.asn1_model.specs.Numbers.{is_count_within}
 use Rattle.asn1_model.specs.Form.{only_if}
