@@ -4,7 +4,7 @@ use asn1_schema_constraints::{Bounded, Constraint, Constraints, Extensible, Size
 use asn1_schema_decode::{Decode, Decoder as _};
 use asn1_schema_faults::{CodecKind, DecodeError};
 use asn1_schema_tags::Tag;
-use asn1_values_octets::FixedOctetString;
+use asn1_values_octets::OctetString;
 use per_codec_decoder::{Decoder, DecoderOptions};
 use per_codec_reading::Variant;
 use std::alloc::Global;
@@ -107,16 +107,30 @@ fn the_level_past_128_is_refused(rt: HostRuntime) -> Result<(), Fail> {
     Ok(())
 }
 
-/// SEQUENCE (SIZE (low..high)) OF OCTET STRING (SIZE (3)).
-fn triples(
+/// Whether these are the members of SEQUENCE (SIZE (low..high)) OF OCTET STRING (SIZE (3)).
+fn has_triples(
     alloc: Global,
     decoder: &mut Decoder<'_>,
     (low, high): (usize, usize),
-) -> Result<Vec<FixedOctetString<3>>, DecodeError> {
+    members: &[[u8; 3]],
+) -> Result<bool, DecodeError> {
     let size = Extensible::new(Size::new(Bounded::const_new(low, high)));
+    let three = Extensible::new(Size::new(Bounded::const_new(3, 3)));
     let constraints = Constraints::new(&[Constraint::Size(size)]);
-    let members = Vec::<FixedOctetString<3>>::decode_with_constraints(alloc, decoder, constraints)?;
-    Ok(members)
+    decoder.begin_list(Tag::SEQUENCE, constraints, Bounded::None)?;
+    for member in members {
+        let constraints = Constraints::new(&[Constraint::Size(three)]);
+        if !decoder.get_further()? {
+            return Ok(false);
+        }
+        let octets = OctetString::decode_with_constraints(alloc, decoder, constraints)?;
+        if *octets.as_slice() != *member.as_slice() {
+            return Ok(false);
+        }
+    }
+    let more = decoder.get_further()?;
+    decoder.end()?;
+    Ok(!more)
 }
 
 /// Whether this is SEQUENCE {flag TRUE, fixed SEQUENCE (SIZE (2)) OF .., ranged SEQUENCE (SIZE (1..2)) OF .., trailer 171}.
@@ -128,16 +142,12 @@ fn has_two_lists(
     let mut decoder = Decoder::new(alloc, input, options);
     decoder.begin_sequence(Tag::SEQUENCE, false, 0)?;
     let flag = bool::decode(alloc, &mut decoder)?;
-    let fixed = triples(alloc, &mut decoder, (2, 2))?;
-    let ranged = triples(alloc, &mut decoder, (1, 2))?;
+    let fixed = has_triples(alloc, &mut decoder, (2, 2), &[[1, 2, 3], [4, 5, 6]])?;
+    let ranged = has_triples(alloc, &mut decoder, (1, 2), &[[7, 8, 9]])?;
     let trailer = u8::decode(alloc, &mut decoder)?;
     decoder.end()?;
     decoder.finish()?;
-    let are_fixed = fixed.len() == 2
-        && *fixed[0].as_slice() == *[1, 2, 3].as_slice()
-        && *fixed[1].as_slice() == *[4, 5, 6].as_slice();
-    let are_ranged = ranged.len() == 1 && *ranged[0].as_slice() == *[7, 8, 9].as_slice();
-    Ok(flag && are_fixed && are_ranged && trailer == 0xAB)
+    Ok(flag && fixed && ranged && trailer == 0xAB)
 }
 
 #[test]
