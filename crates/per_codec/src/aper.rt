@@ -106,7 +106,11 @@ pub fn decode_with_constraints<T: Decode>(
     ensures ok { IfOk result (λ x. (rest : List ℕ) × Tells aper (T.under constraints.entry) (T.meaning x) input.now rest) }
     ensures only { IfErr result (λ error. IsLawful (T.under constraints.entry 128) → NoMessage aper (T.under constraints.entry) input.now error) }
 {
-    let value =
-        per_codec_calls::decode_with_constraints(alloc, constraints, input, Variant::Aligned)?;
+    let value = per_codec_calls::decode_with_constraints(
+        alloc,
+        constraints,
+        input,
+        Variant::Aligned,
+    )?;
     Ok(value)
 }

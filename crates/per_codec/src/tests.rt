@@ -1,9 +1,7 @@
 //! Rows of both variants, through the calls.
 use crate::{aper, uper};
 use asn1_schema_bounds::Bounded;
-use asn1_schema_constraints::{
-    Constraint, Constraints, Extensible, PermittedAlphabet, Value,
-};
+use asn1_schema_constraints::{Constraint, Constraints, Extensible, PermittedAlphabet, Value};
 use asn1_schema_faults::{DecodeError, EncodeError};
 use asn1_values_numbers::Integer;
 use asn1_values_octets::OctetString;
@@ -39,8 +37,26 @@ fn numbers_of_an_octet_with_a_mark(rt: HostRuntime) -> Result<(), Fail> {
         aper::encode_with_constraints(alloc, octet, &more)?.as_slice(),
         [0x80u8, 0x02, 0x01, 0x2C].as_slice()
     );
+    Ok(())
+}
+
+#[test]
+fn numbers_of_an_octet_with_a_mark_are_read(rt: HostRuntime) -> Result<(), Fail> {
+    let alloc = rt.alloc();
+    let list = [between(0, 255, true)];
+    let octet = Constraints::new(&list);
+    let seven = Integer::from(7);
+    let more = Integer::from(300);
+    let read: Integer = uper::decode_with_constraints(alloc, octet, &[0x03, 0x80])?;
+    assert!(rt; read == seven);
     let read: Integer = uper::decode_with_constraints(alloc, octet, &[0x80, 0x83, 0x80])?;
     assert!(rt; read == seven);
+    let read: Integer = uper::decode_with_constraints(alloc, octet, &[0x81, 0x00, 0x96, 0x00])?;
+    assert!(rt; read == more);
+    let read: Integer = aper::decode_with_constraints(alloc, octet, &[0x00, 0x07])?;
+    assert!(rt; read == seven);
+    let read: Integer = aper::decode_with_constraints(alloc, octet, &[0x80, 0x02, 0x01, 0x2C])?;
+    assert!(rt; read == more);
     Ok(())
 }
 

@@ -106,7 +106,11 @@ pub fn decode_with_constraints<T: Decode>(
     ensures ok { IfOk result (λ x. (rest : List ℕ) × Tells uper (T.under constraints.entry) (T.meaning x) input.now rest) }
     ensures only { IfErr result (λ error. IsLawful (T.under constraints.entry 128) → NoMessage uper (T.under constraints.entry) input.now error) }
 {
-    let value =
-        per_codec_calls::decode_with_constraints(alloc, constraints, input, Variant::Unaligned)?;
+    let value = per_codec_calls::decode_with_constraints(
+        alloc,
+        constraints,
+        input,
+        Variant::Unaligned,
+    )?;
     Ok(value)
 }

@@ -4,6 +4,7 @@ use asn1_schema_constraints::{Bounded, Constraint, Constraints, Extensible, Size
 use asn1_schema_decode::{Decode, Decoder as _};
 use asn1_schema_faults::{CodecKind, DecodeError};
 use asn1_schema_tags::Tag;
+use asn1_values_octets::OctetString;
 use per_codec_decoder::{Decoder, DecoderOptions};
 use per_codec_reading::Variant;
 use std::alloc::Global;
@@ -103,5 +104,62 @@ fn the_level_past_128_is_refused(rt: HostRuntime) -> Result<(), Fail> {
         Err(DecodeError::ExceedsMaxParseDepth)
     );
     assert_eq!(rt; decoder.finish(), Err(DecodeError::AlreadyFailed));
+    Ok(())
+}
+
+/// Whether these are the members of SEQUENCE (SIZE (low..high)) OF OCTET STRING (SIZE (3)).
+fn has_triples(
+    alloc: Global,
+    decoder: &mut Decoder<'_>,
+    (low, high): (usize, usize),
+    members: &[[u8; 3]],
+) -> Result<bool, DecodeError> {
+    let size = Extensible::new(Size::new(Bounded::const_new(low, high)));
+    let three = Extensible::new(Size::new(Bounded::const_new(3, 3)));
+    let constraints = Constraints::new(&[Constraint::Size(size)]);
+    decoder.begin_list(Tag::SEQUENCE, constraints, Bounded::None)?;
+    for member in members {
+        let constraints = Constraints::new(&[Constraint::Size(three)]);
+        if !decoder.get_further()? {
+            return Ok(false);
+        }
+        let octets = OctetString::decode_with_constraints(alloc, decoder, constraints)?;
+        if *octets.as_slice() != *member.as_slice() {
+            return Ok(false);
+        }
+    }
+    let more = decoder.get_further()?;
+    decoder.end()?;
+    Ok(!more)
+}
+
+/// Whether this is SEQUENCE {flag TRUE, fixed SEQUENCE (SIZE (2)) OF .., ranged SEQUENCE (SIZE (1..2)) OF .., trailer 171}.
+fn has_two_lists(
+    alloc: Global,
+    input: &[u8],
+    options: DecoderOptions,
+) -> Result<bool, DecodeError> {
+    let mut decoder = Decoder::new(alloc, input, options);
+    decoder.begin_sequence(Tag::SEQUENCE, false, 0)?;
+    let flag = bool::decode(alloc, &mut decoder)?;
+    let fixed = has_triples(alloc, &mut decoder, (2, 2), &[[1, 2, 3], [4, 5, 6]])?;
+    let ranged = has_triples(alloc, &mut decoder, (1, 2), &[[7, 8, 9]])?;
+    let trailer = u8::decode(alloc, &mut decoder)?;
+    decoder.end()?;
+    decoder.finish()?;
+    Ok(flag && fixed && ranged && trailer == 0xAB)
+}
+
+#[test]
+fn lists_in_a_sequence(rt: HostRuntime) -> Result<(), Fail> {
+    let alloc = rt.alloc();
+    let unaligned = [
+        0x80, 0x81, 0x01, 0x82, 0x02, 0x83, 0x01, 0xC2, 0x02, 0x6A, 0xC0,
+    ];
+    assert!(rt; has_two_lists(alloc, &unaligned, DecoderOptions::unaligned())?);
+    let aligned = [
+        0x80, 0x01, 0x02, 0x03, 0x04, 0x05, 0x06, 0x00, 0x07, 0x08, 0x09, 0xAB,
+    ];
+    assert!(rt; has_two_lists(alloc, &aligned, DecoderOptions::aligned())?);
     Ok(())
 }
