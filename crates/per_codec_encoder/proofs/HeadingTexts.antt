@@ -1,19 +1,18 @@
 -- Numbers of members and headers of fragments, in the bits of an encoder.
-use Rattle.std.proofs.Common.{◌≡◌, ℕ, zero, suc, ◌+◌, ◌-◌, ◌*◌, ◌/◌, ◌%◌, ◌^◌, ◌<◌, ◌≤◌, ltb, leb, Bool, true, false, cond, ◌&&◌, List, [], ◌∷◌, ◌++◌, length, replicate, Option, Some, None, option_map, option_and_then, unwrap_or, Result, Ok, Err, IsErr, IsErrAnd, MatchResult, refl, ap, sym, subst, ◌∙◌, arith, append_assoc, length-append}
-use Rattle.std.proofs.lemmas.Bool.{leb-true, le-leb, ltb-true, ltb-false, lt-ltb, and_parts}
-use Rattle.std.proofs.lemmas.List.{append-nil}
+use Rattle.std.proofs.Common.{◌≡◌, ℕ, suc, ◌+◌, ◌-◌, ◌*◌, ◌/◌, ◌%◌, ◌^◌, ◌<◌, ◌≤◌, ltb, leb, Bool, true, false, cond, ◌&&◌, List, [], ◌∷◌, ◌++◌, length, replicate, Option, Some, None, option_map, unwrap_or, Result, Ok, Err, IsErr, IsErrAnd, MatchResult, refl, ap, sym, subst, ◌∙◌, arith}
+use Rattle.std.proofs.lemmas.Bool.{le-leb, ltb-true, ltb-false, lt-ltb}
 use Rattle.asn1_model.specs.Schema.{Counts}
-use Rattle.asn1_model.specs.Numbers.{binary, is_count_within}
+use Rattle.asn1_model.specs.Numbers.{binary}
 use Rattle.asn1_model.specs.Form.{exactly, only_if, written}
 use Rattle.asn1_model.specs.Per
 use Rattle.asn1_schema_faults.specs.declared.EncodeError.{EncodeError}
 use Rattle.asn1_schema_faults.specs.declared.EncodeError.TheVariants.{ValueConstraintNotSatisfied, SizeConstraintNotSatisfied, AlphabetConstraintNotSatisfied, TooLongValue, LengthExceedsPlatformSize, OutOfMemory, AlreadyFailed}
-use Rattle.per_codec_steps.specs.Texts.{Text, bit, as_text, moved, text_at}
-use Rattle.per_codec_steps.specs.Steps.{Scope, State, position, Heading, counted_on, before_all, next_header, general, sized_count, behind_bit, goes_on_in}
+use Rattle.per_codec_steps.specs.Texts.{Text, as_text, text_at}
+use Rattle.per_codec_steps.specs.Steps.{Heading, before_all, next_header, general, sized_count}
 use Rattle.per_codec_steps.proofs.Texts.{known}
 use Rattle.per_codec_writing.specs.Writing.{Adds, Refuses}
 use Rattle.per_codec_encoder.specs.declared.headings.Due.{Due}
-use Rattle.per_codec_encoder.specs.Headings.{headers_of, heading_of, Heads, NoHeading, GoesOn}
+use Rattle.per_codec_encoder.specs.Headings.{heading_of, Heads, NoHeading}
 
 -- ---- largest fragments first
 
@@ -88,49 +87,11 @@ fragment_heads al n m d old new f e a =
     all_three true false c x y z = cc
     all_three false b c x y z = cc
 
--- ---- where members go on
-
-pub goes_behind : (al : Bool) (d next : Due) (n : ℕ) (old new : List Bool) → d.members ≡ 0 → d.behind ≡ Some n → Heads (general al n (Some (length old))) old next new → (next.members ≡ 0 → next.behind ≡ None) → GoesOn al d old next new
-goes_behind al d next n old new a b h r = record {
-  bits = h.bits;
-  added = h.added;
-  goes = λ os k more q. ap (λ m. goes_on_in al m (headers_of d.behind) os k more) a ∙ ap (λ x. goes_on_in al 0 (headers_of x) os k more) b ∙ go os k more (position (os, k)) q;
-  ready = r;
-}
-  where
-    go : (os : Text) (k : List Scope) (more : Bool) (q : Option ℕ) → q ≡ Some (length old) → option_and_then (λ (g : Heading). counted_on g.due g.headers (os ++ g.text) k more) (general al n q) ≡ counted_on next.members (headers_of next.behind) (os ++ as_text h.bits) k more
-    go os k more q e = ap (λ j. option_and_then (λ (g : Heading). counted_on g.due g.headers (os ++ g.text) k more) (general al n j)) e ∙ ap (option_and_then (λ (g : Heading). counted_on g.due g.headers (os ++ g.text) k more)) h.is
-
-pub stays_behind : (al : Bool) (d : Due) (old : List Bool) → (d.members ≡ 0 → d.behind ≡ None) → GoesOn al d old d old
-stays_behind al d old r = record {
-  bits = [];
-  added = sym (append-nil old);
-  goes = λ os k more q. go d.members d.behind r os k more ∙ ap (λ t. counted_on d.members (headers_of d.behind) t k more) (sym (append-nil os));
-  ready = r;
-}
-  where
-    go : (n : ℕ) (b : Option ℕ) → (n ≡ 0 → b ≡ None) → (os : Text) (k : List Scope) (more : Bool) → goes_on_in al n (headers_of b) os k more ≡ counted_on n (headers_of b) os k more
-    go (suc n) b h os k more = refl
-    go zero None h os k more = refl
-    go zero (Some x) h os k more = let e = h refl in cc
-
 -- ---- sizes
-
-pub within_parts : (low n : ℕ) (high : Option ℕ) (h : ℕ) → is_count_within (record { low = low; high = high }) n ≡ true → h ≡ unwrap_or high (2 ^ 64 - 1) → n < 2 ^ 64 → (low ≤ n) × (n ≤ h)
-within_parts low n None h e a b = let p = and_parts _ _ e in (leb-true low n p.0, omega (arith, a, b))
-within_parts low n (Some m) h e a b = let p = and_parts _ _ e in let q = leb-true n m p.1 in (leb-true low n p.0, omega (arith, a, q))
 
 narrow_count : (al : Bool) (c : Counts) (o : Option ℕ) (n h : ℕ) (q : Option ℕ) → h ≡ unwrap_or o (2 ^ 64 - 1) → h < 65536 → sized_count al c o n q ≡ option_map (λ w. before_all n w) (text_at (Per.constrained al (h - c.low) (n - c.low)) q)
 narrow_count al c None n h q a b = absurd (omega arith)
 narrow_count al c (Some m) n h q a b = ap (λ t. cond t (option_map (λ w. before_all n w) (text_at (Per.constrained al (m - c.low) (n - c.low)) q)) (general al n q)) (lt-ltb m 65536 (omega (arith, a, b))) ∙ ap (λ j. option_map (λ w. before_all n w) (text_at (Per.constrained al (j - c.low) (n - c.low)) q)) (sym a)
-
-pub wide_count : (al : Bool) (c : Counts) (o : Option ℕ) (n h : ℕ) (q : Option ℕ) → h ≡ unwrap_or o (2 ^ 64 - 1) → 65536 ≤ h → sized_count al c o n q ≡ general al n q
-wide_count al c None n h q a b = refl
-wide_count al c (Some m) n h q a b = go (ltb m 65536) refl
-  where
-    go : (t : Bool) → ltb m 65536 ≡ t → cond (ltb m 65536) (option_map (λ w. before_all n w) (text_at (Per.constrained al (m - c.low) (n - c.low)) q)) (general al n q) ≡ general al n q
-    go true e = let l = ltb-true m 65536 e in absurd (omega (arith, a, b, l))
-    go false e = ap (λ t. cond t (option_map (λ w. before_all n w) (text_at (Per.constrained al (m - c.low) (n - c.low)) q)) (general al n q)) e
 
 pub narrow_heads : (al : Bool) (c : Counts) (o : Option ℕ) (n h low : ℕ) (d : Due) (old new : List Bool) → h ≡ unwrap_or o (2 ^ 64 - 1) → h < 65536 → low ≡ c.low → d ≡ record { members = n; behind = None } → Adds (written (Per.constrained al (h - low) (n - low)) (length old)) old new → Heads (sized_count al c o n (Some (length old))) old d new
 narrow_heads al c o n h low d old new a b l e x =
@@ -142,15 +103,6 @@ narrow_heads al c o n h low d old new a b l e x =
     }
 
 -- ---- why there is none
-
-pub none_so : (o u : Option Heading) → (o ≡ None → u ≡ None) → (e : EncodeError) → NoHeading o e → NoHeading u e
-none_so o u f OutOfMemory h = tt
-none_so o u f ValueConstraintNotSatisfied h = f h
-none_so o u f SizeConstraintNotSatisfied h = f h
-none_so o u f AlphabetConstraintNotSatisfied h = f h
-none_so o u f TooLongValue h = f h
-none_so o u f LengthExceedsPlatformSize h = f h
-none_so o u f AlreadyFailed h = f h
 
 refused_so : (t : Option (List Bool)) (u : Option Heading) → (t ≡ None → u ≡ None) → (e : EncodeError) → Refuses t e → NoHeading u e
 refused_so t u f OutOfMemory h = tt
@@ -168,25 +120,3 @@ narrow_none al c o n h low old a b l e x = refused_so _ _ (λ q. narrow_count al
 pub raised_on : {T E : Type 0} (P : T → Type 0) (Q : E → Type 0) (x : E) (r : Result T E) → IsErr r → IsErrAnd r (λ y. y ≡ x) → Q x → MatchResult r P Q
 raised_on P Q x (Ok v) a h q = cc
 raised_on P Q x (Err y) a h q = subst Q (sym h) q
-
--- ---- behind the mark
-
-pub behind_mark : (b : Bool) (f : Option ℕ → Option Heading) (old mid new : List Bool) (d : Due) → mid ≡ old ++ b ∷ [] → Heads (f (Some (length mid))) mid d new → Heads (behind_bit b f (Some (length old))) old d new
-behind_mark b f old mid new d a h =
-    let n : length old + 1 ≡ length mid = omega (arith, ap length a, length-append old (b ∷ [])) in
-    let put : Heading → Heading = λ g. record { text = bit b ∷ g.text; due = g.due; headers = g.headers } in
-    record {
-      bits = b ∷ h.bits;
-      is = ap (λ k. option_map put (f (Some k))) n ∙ ap (option_map put) h.is;
-      added = h.added ∙ ap (λ l. l ++ h.bits) a ∙ append_assoc old (b ∷ []) h.bits;
-    }
-
-pub none_behind_mark : (b : Bool) (f : Option ℕ → Option Heading) (old mid : List Bool) → mid ≡ old ++ b ∷ [] → f (Some (length mid)) ≡ None → behind_bit b f (Some (length old)) ≡ None
-none_behind_mark b f old mid a h =
-    let n : length old + 1 ≡ length mid = omega (arith, ap length a, length-append old (b ∷ [])) in
-    let put : Heading → Heading = λ g. record { text = bit b ∷ g.text; due = g.due; headers = g.headers } in
-    ap (λ k. option_map put (f (Some k))) n ∙ ap (option_map put) h
-
--- the same heading
-pub heads_same : (o u : Option Heading) (old new : List Bool) (d : Due) → u ≡ o → Heads o old d new → Heads u old d new
-heads_same o u old new d e h = record { bits = h.bits; is = e ∙ h.is; added = h.added }
