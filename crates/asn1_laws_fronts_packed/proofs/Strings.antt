@@ -58,7 +58,7 @@ place_equal c d (r ∷ rs) i e f = go (place_cases c r rs i e) (place_cases d r 
         k p.0 p.1 (q.1 ∙ ap Some l)
 
 -- ---- runs that end further on, one after the other
-abbrev tops : List Run → Bool
+abbrev pub tops : List Run → Bool
 tops [] = true
 tops (r ∷ []) = true
 tops (r ∷ s ∷ rs) = leb r.last s.last && tops (s ∷ rs)
@@ -79,7 +79,7 @@ place_some : (c : ℕ) (rs : List Run) (i : ℕ) → place_of c rs ≡ Some i �
 place_some c [] i e = cc
 place_some c (r ∷ rs) i e = omega arith
 
-place_top : (c : ℕ) (rs : List Run) (i : ℕ) → tops rs ≡ true → place_of c rs ≡ Some i → c ≤ largest rs
+pub place_top : (c : ℕ) (rs : List Run) (i : ℕ) → tops rs ≡ true → place_of c rs ≡ Some i → c ≤ largest rs
 place_top c [] i h e = cc
 place_top c (r ∷ rs) i h e = go (place_cases c r rs i e) (λ j f. place_top c rs j ((tops_rest r rs h).0) f)
   where
@@ -124,7 +124,7 @@ singles_largest top rs [] h i e = omega arith
 singles_largest top rs (c ∷ []) h i e = let a = among_top c rs h ((and_parts _ _ e).0) in omega arith
 singles_largest top rs (c ∷ d ∷ cs) h i e = singles_largest top rs (d ∷ cs) h i ((and_parts _ _ e).1)
 
-abbrev Orderly : List Run → Type 0
+abbrev pub Orderly : List Run → Type 0
 Orderly rs = (tops rs ≡ true) × (how_many rs ≤ 65536)
 
 singles_few : (rs : List Run) (cs : List ℕ) → tops rs ≡ true → largest rs ≤ 65535 → are_ascending ltb cs ≡ true → each_is (is_among rs) cs ≡ true → Orderly (singles cs)
@@ -205,7 +205,7 @@ alphabet_ascends k cs h e = go (or_cases _ _ e)
     go (inl p) = cc
     go (inr p) = p
 
-permitted_orderly : (k : StringKind) (extensible : Bool) (cs : Option (List ℕ)) → is_of_octets k ≡ false → is_alphabet k cs ≡ true → Orderly (permitted_in k extensible cs)
+pub permitted_orderly : (k : StringKind) (extensible : Bool) (cs : Option (List ℕ)) → is_of_octets k ≡ false → is_alphabet k cs ≡ true → Orderly (permitted_in k extensible cs)
 permitted_orderly k false (Some cs) h e = own_singles k cs h (alphabet_ascends k cs h e)
 permitted_orderly k false None h e = own_orderly k h
 permitted_orderly k true cs h e = own_orderly k h
@@ -224,7 +224,7 @@ bits_hold : (al : Bool) (rs : List Run) → how_many rs ≤ 65536 → width (how
 bits_hold false rs h = omega arith
 bits_hold true rs h = let b = width (how_many rs - 1) in raised_holds (width (how_many rs - 1)) _ _ _ refl refl refl (width_small (how_many rs) h)
 
-place_fits : (al : Bool) (rs : List Run) (c i : ℕ) → how_many rs ≤ 65536 → place_of c rs ≡ Some i → i < 2 ^ Per.character_bits al rs
+pub place_fits : (al : Bool) (rs : List Run) (c i : ℕ) → how_many rs ≤ 65536 → place_of c rs ≡ Some i → i < 2 ^ Per.character_bits al rs
 place_fits al rs c i h e =
     let a = place_below c rs i e in
     let w = places_hold (how_many rs - 1) 2 (how_many rs - 1) (lit< tt) (omega arith) in

@@ -90,6 +90,10 @@ fn characters_of_two(rt: HostRuntime) -> Result<(), Fail> {
     ] {
         assert_eq!(rt; octets.as_slice(), [0x04u8, 0x60].as_slice());
     }
+    let read: VisibleString = uper::decode_with_constraints(alloc, binary, &[0x04, 0x60])?;
+    assert!(rt; read == text);
+    let read: VisibleString = aper::decode_with_constraints(alloc, binary, &[0x04, 0x60])?;
+    assert!(rt; read == text);
     let other = VisibleString::from_text(alloc, "2")?;
     assert!(rt;
         uper::encode_with_constraints(alloc, binary, &other).err()

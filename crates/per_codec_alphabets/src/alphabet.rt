@@ -92,7 +92,7 @@ impl EffectiveAlphabet {
     /// The character that has this code, if there is one.
     pub fn character(&self, code: u32) -> Option<u32>
         ensures found { IfSome result (λ character. code_of self.now character ≡ Some code) }
-        ensures missing { result ≡ None → (character : ℕ) → code_of self.now character ≢ Some code }
+        ensures alone { (character : ℕ) → code_of self.now character ≡ Some code → result ≡ Some character }
     {
         let character = self.candidate(code)?;
         if self.code(character) == Some(u64::from(code)) {

@@ -24,11 +24,11 @@ use asn1_values_identifiers::ObjectIdentifier;
 use asn1_values_integer_types::IntegerType;
 use per_codec_reading::units::{read_boolean, read_null};
 use per_codec_reading::{Cursor, Variant};
+use per_codec_reading_characters::read_characters;
 use per_codec_reading_numbers::read_integer;
 use per_codec_reading_units::{
     read_bit_string, read_object_identifier, read_octet_string, read_utf8_string,
 };
-use per_codec_stubs::read_characters;
 use std::alloc::Global;
 use std::borrow::CowSlice;
 use std::marker::Model;

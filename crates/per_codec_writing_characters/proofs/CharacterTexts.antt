@@ -7,7 +7,7 @@ use Rattle.asn1_model.specs.Form.{written, exactly, given}
 use Rattle.asn1_model.specs.Numbers.{binary}
 use Rattle.asn1_model.specs.Per
 use Rattle.asn1_model.specs.Strings.{Run, largest, place_of, each_is}
-use Rattle.per_codec_alphabets.specs.Codes.{Coded, code_of, SameCharacters}
+use Rattle.per_codec_alphabets.specs.Codes.{Coded, SameCharacters}
 use Rattle.per_codec_writing_units.specs.Units.{together, forms_of}
 use Rattle.per_codec_writing_characters.specs.Characters.{has_code, text_of, texts_of}
 

@@ -1,15 +1,15 @@
 -- Strings of octets.
-use Rattle.std.proofs.Common.{◌≡◌, ℕ, ◌-◌, ◌^◌, ◌<◌, ◌≤◌, leb, ltb, Bool, true, false, cond, ◌&&◌, ◌||◌, List, [], ◌∷◌, length, map, Option, Some, None, option_map, refl, ap, subst, sym, ◌∙◌, arith}
+use Rattle.std.proofs.Common.{◌≡◌, ℕ, ◌-◌, ◌^◌, leb, ltb, Bool, true, false, cond, ◌&&◌, ◌||◌, List, [], ◌∷◌, length, Some, None, option_map, refl, ap, subst, sym, ◌∙◌, arith}
 use Rattle.std.specs.Prelude.{unwrap_or}
-use Rattle.std.proofs.lemmas.Bool.{and_parts, leb-true, le-leb, lt-ltb}
-use Rattle.asn1_model.specs.Form.{written, exactly, only_if}
+use Rattle.std.proofs.lemmas.Bool.{and_parts, leb-true, lt-ltb}
+use Rattle.asn1_model.specs.Form.{written, exactly}
 use Rattle.asn1_model.specs.Numbers as Numbers
 use Rattle.asn1_model.specs.Numbers.{binary}
 use Rattle.asn1_model.specs.Schema.{StringKind, numeric, printable, visible, ia5, bmp, general, graphic, teletex, utf8}
 use Rattle.asn1_model.specs.Strings.{Run, run, characters_of, is_among, is_octet, is_of_octets, each_is, largest, place_of}
 use Rattle.asn1_model.specs.Per
 use Rattle.asn1_values_alphabets.specs.Permitted.{permits_all}
-use Rattle.per_codec_alphabets.specs.Codes.{Coded, code_of, SameCharacters}
+use Rattle.per_codec_alphabets.specs.Codes.{Coded, SameCharacters}
 use Rattle.per_codec_writing.specs.Writing.{Adds}
 use Rattle.per_codec_writing.proofs.Texts.{adds_same, if_true}
 use Rattle.per_codec_writing_units.specs.Units.{forms_of}

@@ -1,9 +1,9 @@
 -- Units of which one has no text have none together.
-use Rattle.std.proofs.Common.{◌≡◌, ℕ, zero, suc, ◌+◌, ◌*◌, ◌<◌, leb, ltb, Bool, true, false, cond, ◌&&◌, List, [], ◌∷◌, ◌++◌, length, map, take, drop, Option, Some, None, option_map, refl, ap, sym, ◌∙◌}
+use Rattle.std.proofs.Common.{◌≡◌, ℕ, zero, suc, ◌+◌, ◌*◌, leb, ltb, Bool, true, false, cond, ◌&&◌, List, [], ◌∷◌, ◌++◌, length, map, take, drop, Option, Some, None, option_map, refl, ap, sym, ◌∙◌}
 use Rattle.std.specs.Prelude.{option_and_then}
 use Rattle.std.proofs.lemmas.List.{take-map, drop-map}
 use Rattle.asn1_model.specs.Form.{written, exactly, only_if, both, joined}
-use Rattle.asn1_model.specs.Numbers.{binary, is_count_within}
+use Rattle.asn1_model.specs.Numbers.{binary}
 use Rattle.asn1_model.specs.Schema.{Size, Counts}
 use Rattle.asn1_model.specs.Strings.{each_is}
 use Rattle.asn1_model.specs.Per

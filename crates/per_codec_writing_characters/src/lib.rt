@@ -5,3 +5,6 @@ mod strings;
 mod units;
 
 pub use strings::push_characters;
+
+#[cfg(test)]
+mod tests;

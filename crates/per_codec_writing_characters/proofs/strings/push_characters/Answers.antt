@@ -1,4 +1,4 @@
-use Rattle.std.proofs.Common.{◌≡◌, length, true, sym, ap, ◌∙◌}
+use Rattle.std.proofs.Common.{◌≡◌, length, true, sym, ◌∙◌}
 use Rattle.std.proofs.lemmas.Result.{err_from_is_err_and}
 use Rattle.asn1_model.specs.Strings.{may_hold}
 use Rattle.asn1_schema_constraints.specs.Terms.{sizes_of, alphabet_of}

@@ -1,6 +1,5 @@
-use Rattle.std.proofs.Common.{◌≡◌, length, true, false, Bool, ℕ, sym, ap, ◌∙◌}
+use Rattle.std.proofs.Common.{◌≡◌, length, sym, ap, ◌∙◌}
 use Rattle.std.proofs.lemmas.Result.{err_from_is_err_and}
-use Rattle.asn1_model.specs.Form.{written}
 use Rattle.asn1_model.specs.Per
 use Rattle.asn1_model.specs.Strings.{permitted}
 use Rattle.asn1_model.specs.Types.{any_count}

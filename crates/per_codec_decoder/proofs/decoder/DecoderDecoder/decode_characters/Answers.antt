@@ -8,4 +8,4 @@ use Rattle.per_codec_decoder.proofs.Finding.{none_of_alphabet}
 use Rattle.per_codec_decoder.proofs.decoder.DecoderDecoder.decode_characters.Goals as goal
 
 pub returns-in-Err-clause-only : goal.returns-in-Err-clause-only
-returns-in-Err-clause-only g c = none_of_alphabet _ _ g.S.StaticPermittedAlphabet.kind (sizes_of c.args.constraints.size) (alphabet_of c.args.constraints.permitted_alphabet) any_count _ _ (c.self.view_is ∙ c.in_ok-begin_record.ensures.ok.1) c.fail-in-Err.ensures.refused (λ i. c.in-Err.ensures.only)
+returns-in-Err-clause-only g c = none_of_alphabet _ _ g.S.StaticPermittedAlphabet.kind (sizes_of c.args.constraints.size) (alphabet_of c.args.constraints.permitted_alphabet) any_count _ _ (c.self.view_is ∙ c.in_ok-begin_record.ensures.ok.1) c.fail-in-Err.ensures.refused c.in-Err.ensures.only

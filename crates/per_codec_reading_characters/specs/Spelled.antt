@@ -1,0 +1,29 @@
+-- Characters whose codes are some bits (X.691 30.5).
+use Rattle.std.specs.Prelude.{◌≡◌, ℕ, ◌^◌, ◌<◌, Bool, true, List, length, flat_map, is_some, Some, unwrap_or}
+use Rattle.asn1_model.specs.Numbers.{binary}
+use Rattle.asn1_model.specs.Schema.{StringKind}
+use Rattle.asn1_model.specs.Strings.{each_is}
+use Rattle.asn1_values_alphabets.specs.Permitted.{permits_all}
+use Rattle.per_codec_alphabets.specs.Codes.{Coded, code_of}
+
+-- Whether a character has a code.
+abbrev pub has_code : Coded → ℕ → Bool
+has_code a c = is_some (code_of a c)
+
+-- The code of a character in bits; 0 in place of none.
+abbrev pub text_of : Coded → ℕ → List Bool
+text_of a c = binary a.code_bits (unwrap_or (code_of a c) 0)
+
+-- Permitted characters, whose codes one behind the other are these bits.
+pub record Spells (k : StringKind) (a : Coded) (cs : List ℕ) (w : List Bool) : Type 0 where
+  pub permitted : permits_all k cs ≡ true
+  pub coded : each_is (has_code a) cs ≡ true
+  pub spelled : flat_map (text_of a) cs ≡ w
+
+-- No so many characters have these codes.
+abbrev pub Stuck : StringKind → Coded → ℕ → List Bool → Type 0
+Stuck k a n w = (cs : List ℕ) → length cs ≡ n → Spells k a cs w → ⊥
+
+-- Each code fits in its bits, as it does in alphabets that ascend.
+pub record IsFitting (a : Coded) : Type 0 where
+  pub fits : (c code : ℕ) → code_of a c ≡ Some code → code < 2 ^ a.code_bits
