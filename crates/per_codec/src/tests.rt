@@ -110,7 +110,7 @@ fn eighty_thousand_octets(rt: HostRuntime) -> Result<(), Fail> {
     for octets in [uper::encode(alloc, &value)?, aper::encode(alloc, &value)?] {
         assert_eq!(rt; octets.len(), 1 + 65536 + 2 + 14464);
         assert_eq!(rt; octets[0], 0xC4);
-        assert_eq!(rt; octets[65537..65539], [0xB8u8, 0x80]);
+        assert_eq!(rt; &octets[65537..65539], [0xB8u8, 0x80].as_slice());
         let read: OctetString = uper::decode(alloc, &octets)?;
         assert!(rt; read == value);
     }
@@ -144,6 +144,6 @@ fn what_stands_behind_a_message_is_lent(rt: HostRuntime) -> Result<(), Fail> {
     let alloc = rt.alloc();
     let (value, rest) = aper::decode_with_remainder::<bool>(alloc, &[0x80, 0x17, 0x18])?;
     assert!(rt; value);
-    assert_eq!(rt; *rest, [0x17u8, 0x18]);
+    assert_eq!(rt; rest, [0x17u8, 0x18].as_slice());
     Ok(())
 }
