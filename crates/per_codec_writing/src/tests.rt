@@ -1,4 +1,6 @@
 //! Octets of X.691, behind so many bits that are set.
+ghost use Rattle.std.specs.Prelude.{◌<◌, ◌≤◌};
+
 use crate::{push_constrained, push_fragment_length, push_short_length};
 use asn1_schema_faults::EncodeError;
 use asn1_values_bits::BitBuffer;
