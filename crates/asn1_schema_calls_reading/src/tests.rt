@@ -2,7 +2,8 @@
 use asn1_schema_decode::{Decode, Decoder};
 use asn1_schema_encode::Encode;
 use asn1_schema_faults::{CodecKind, DecodeError, EncodeError};
-use asn1_schema_records::{RecordDecoder, RecordEncoder};
+use asn1_schema_records::RecordEncoder;
+use asn1_schema_records_reading::RecordDecoder;
 use asn1_schema_wrapped::{Any, Explicit, Implicit, InstanceOf, tag};
 use asn1_values_constrained::ConstrainedInteger;
 use asn1_values_identifiers::ObjectIdentifier;

@@ -1,14 +1,17 @@
 //! What reads the values of types.
-ghost use Rattle.std.specs.Prelude.{◌≡◌, ◌+◌, ◌||◌, true, ℕ, List, length, IfOk, OnOk, OnErr, IfErr, string_bytes};
+ghost use Rattle.std.specs.Prelude.{◌≡◌, ◌+◌, ◌<◌, ◌||◌, true, ℕ, List, length, IfOk, OnOk, OnErr, IfErr, cond, map, string_bytes};
 ghost use Rattle.std.specs.Cow.{cow_slice_items};
 ghost use Rattle.asn1_model.specs.Schema.{Size, Counts, utf8};
 ghost use Rattle.asn1_model.specs.Types.{any_count};
 ghost use Rattle.asn1_schema_faults.specs.declared.CodecKind.{CodecKind};
-ghost use Rattle.asn1_schema_presented.specs.Records.{Record, question, told, flag, nil, whole, bits, octets, characters, identifier, list_begins, further, sequence_begins, mark, is_default, ends};
-ghost use Rattle.asn1_schema_presented.specs.Records.{asks_flag, asks_nil, asks_whole, asks_bits, asks_octets, asks_characters, asks_identifier, asks_list, asks_further, asks_sequence, asks_mark, asks_default, asks_end};
+ghost use Rattle.asn1_schema_presented.specs.Records.{Record, question, told, flag, nil, whole, one_of, bits, octets, characters, identifier, list_begins, bag_begins, further, sequence_begins, set_begins};
+ghost use Rattle.asn1_schema_presented.specs.Records.{group_begins, mark, is_default, is_empty, additions_begin, addition, addition_ends, choice_begins, ends};
+ghost use Rattle.asn1_schema_presented.specs.Records.{asks_flag, asks_nil, asks_whole, asks_one_of, asks_bits, asks_octets, asks_characters, asks_identifier, asks_list, asks_bag, asks_further, asks_sequence};
+ghost use Rattle.asn1_schema_presented.specs.Records.{asks_set, asks_group, asks_mark, asks_default, asks_empty, asks_additions, asks_addition, asks_addition_end, asks_choice, asks_end};
 ghost use Rattle.asn1_model.specs.Numbers.{is_within, is_count_within};
 ghost use Rattle.asn1_schema_bounds.specs.Bounds.{counts_of, members_of};
 ghost use Rattle.asn1_schema_constraints.specs.Terms.{bounds_of, held_of, sizes_of, alphabet_of};
+ghost use Rattle.asn1_schema_tags.specs.Tags.{tag_of};
 ghost use Rattle.asn1_schema_decode.specs.Reads.{NoRecord, NoLevel, Stopped, Reads, Unread};
 
 use asn1_schema_bounds::Bounded;
@@ -16,6 +19,7 @@ use asn1_schema_constraints::Constraints;
 use asn1_schema_faults::{CodecKind, DecodeError};
 use asn1_schema_tags::Tag;
 use asn1_schema_types::AsnType;
+use asn1_schema_variants::{Chosen, Enumerated};
 use asn1_values_alphabets::StaticPermittedAlphabet;
 use asn1_values_bit_strings::BitString;
 use asn1_values_identifiers::ObjectIdentifier;
@@ -117,6 +121,14 @@ pub trait Decoder {
         ensures failed { OnErr result (has_failed self.new) }
         ensures already { has_failed self.old → result ≡ Err DecodeError.AlreadyFailed };
 
+    /// ENUMERATED (X.680 20): an item of the type.
+    fn decode_enumerated<T: Enumerated>(&mut self, tag: Tag) -> Result<T, DecodeError>
+        ensures ok { IfOk result (λ x. step self.old (one_of T.roots T.extensible T.additions (T.number x)) self.new) }
+        ensures level { OnOk result (levels self.new ≡ levels self.old) }
+        ensures only { IfErr result (NoRecord step (asks_one_of T.roots T.extensible T.additions) self.old) }
+        ensures failed { OnErr result (has_failed self.new) }
+        ensures already { has_failed self.old → result ≡ Err DecodeError.AlreadyFailed };
+
     /// BIT STRING (X.680 22) under a size constraint, in a type of the program that holds so many bits.
     fn decode_bit_string(
         &mut self,
@@ -201,6 +213,20 @@ pub trait Decoder {
         ensures failed { OnErr result (has_failed self.new) }
         ensures already { has_failed self.old → result ≡ Err DecodeError.AlreadyFailed };
 
+    /// A SET OF begins (X.680 28) under a size constraint, in a type of the program that holds so many members. Its
+    /// members come in any order. How many there are may be known at its end alone.
+    fn begin_bag(
+        &mut self,
+        tag: Tag,
+        constraints: Constraints,
+        held: Bounded<usize>,
+    ) -> Result<(), DecodeError>
+        ensures ok { OnOk result ((n : ℕ) → is_count_within (members_of held) n ≡ true → step self.old (bag_begins (sizes_of constraints.entry.size) (members_of held) n) self.new) }
+        ensures level { OnOk result (levels self.old ≡ levels self.new + 1) }
+        ensures only { IfErr result (NoLevel step (asks_bag (sizes_of constraints.entry.size) (members_of held)) (levels self.old) self.old) }
+        ensures failed { OnErr result (has_failed self.new) }
+        ensures already { has_failed self.old → result ≡ Err DecodeError.AlreadyFailed };
+
     /// Whether a further member comes.
     fn get_further(&mut self) -> Result<bool, DecodeError>
         ensures ok { IfOk result (λ x. step self.old (further x) self.new) }
@@ -223,6 +249,23 @@ pub trait Decoder {
         ensures failed { OnErr result (has_failed self.new) }
         ensures already { has_failed self.old → result ≡ Err DecodeError.AlreadyFailed };
 
+    /// A SET begins (X.680 27), with or without a mark of extensibility, of whose root components so many may be
+    /// absent. They come in the ascending order of their tags.
+    fn begin_set(&mut self, tag: Tag, extensible: bool, optional: usize) -> Result<(), DecodeError>
+        ensures ok { OnOk result (step self.old (set_begins extensible optional) self.new) }
+        ensures level { OnOk result (levels self.old ≡ levels self.new + 1) }
+        ensures only { IfErr result (NoLevel step (asks_set extensible optional) (levels self.old) self.old) }
+        ensures failed { OnErr result (has_failed self.new) }
+        ensures already { has_failed self.old → result ≡ Err DecodeError.AlreadyFailed };
+
+    /// A group of additions begins (X.680 25.1), of whose components so many may be absent.
+    fn begin_group(&mut self, optional: usize) -> Result<(), DecodeError>
+        ensures ok { OnOk result (step self.old (group_begins optional) self.new) }
+        ensures level { OnOk result (levels self.old ≡ levels self.new + 1) }
+        ensures only { IfErr result (NoLevel step (asks_group optional) (levels self.old) self.old) }
+        ensures failed { OnErr result (has_failed self.new) }
+        ensures already { has_failed self.old → result ≡ Err DecodeError.AlreadyFailed };
+
     /// Whether the next component is there, of those that may be absent.
     fn get_mark(&mut self) -> Result<bool, DecodeError>
         ensures ok { IfOk result (λ x. step self.old (mark x) self.new) }
@@ -236,6 +279,55 @@ pub trait Decoder {
         ensures ok { OnOk result (step self.old is_default self.new) }
         ensures level { OnOk result (levels self.new ≡ levels self.old) }
         ensures only { IfErr result (NoRecord step asks_default self.old) }
+        ensures failed { OnErr result (has_failed self.new) }
+        ensures already { has_failed self.old → result ≡ Err DecodeError.AlreadyFailed };
+
+    /// The group that was read last has no component: refused by rules that have one encoding.
+    fn note_empty(&mut self) -> Result<(), DecodeError>
+        ensures ok { OnOk result (step self.old is_empty self.new) }
+        ensures level { OnOk result (levels self.new ≡ levels self.old) }
+        ensures only { IfErr result (NoRecord step asks_empty self.old) }
+        ensures failed { OnErr result (has_failed self.new) }
+        ensures already { has_failed self.old → result ≡ Err DecodeError.AlreadyFailed };
+
+    /// Behind the root components of a type with a mark of extensibility come its additions (X.680 25 and 27), so
+    /// many. Those that the input has besides are skipped at the end.
+    fn begin_additions(&mut self, count: usize) -> Result<(), DecodeError>
+        ensures ok { OnOk result (step self.old (additions_begin count) self.new) }
+        ensures level { OnOk result (levels self.new ≡ levels self.old) }
+        ensures only { IfErr result (NoRecord step (asks_additions count) self.old) }
+        ensures failed { OnErr result (has_failed self.new) }
+        ensures already { has_failed self.old → result ≡ Err DecodeError.AlreadyFailed };
+
+    /// Whether the next addition is there.
+    fn get_addition(&mut self) -> Result<bool, DecodeError>
+        ensures ok { IfOk result (λ x. step self.old (addition x) self.new) }
+        ensures level { OnOk result (levels self.new ≡ levels self.old) }
+        ensures only { IfErr result (NoRecord step asks_addition self.old) }
+        ensures failed { OnErr result (has_failed self.new) }
+        ensures already { has_failed self.old → result ≡ Err DecodeError.AlreadyFailed };
+
+    /// The end of an addition that is there.
+    fn end_addition(&mut self) -> Result<(), DecodeError>
+        ensures ok { OnOk result (step self.old addition_ends self.new) }
+        ensures level { OnOk result (levels self.new ≡ levels self.old) }
+        ensures only { IfErr result (NoRecord step asks_addition_end self.old) }
+        ensures failed { OnErr result (has_failed self.new) }
+        ensures already { has_failed self.old → result ≡ Err DecodeError.AlreadyFailed };
+
+    /// A CHOICE begins (X.680 29), with the tags of its root alternatives, whether it has a mark of extensibility, and
+    /// the tags of its added alternatives: which one is chosen. Its end is called behind the value of the alternative.
+    fn begin_choice(
+        &mut self,
+        tag: Tag,
+        roots: &[Tag],
+        extensible: bool,
+        additions: &[Tag],
+    ) -> Result<Chosen, DecodeError>
+        ensures ok { IfOk result (λ x. step self.old (choice_begins (map tag_of roots.now) extensible (map tag_of additions.now) x.added x.place) self.new) }
+        ensures within { IfOk result (λ x. x.place < length (cond x.added (map tag_of additions.now) (map tag_of roots.now))) }
+        ensures level { OnOk result (levels self.old ≡ levels self.new + 1) }
+        ensures only { IfErr result (NoLevel step (asks_choice (map tag_of roots.now) extensible (map tag_of additions.now)) (levels self.old) self.old) }
         ensures failed { OnErr result (has_failed self.new) }
         ensures already { has_failed self.old → result ≡ Err DecodeError.AlreadyFailed };
 
@@ -257,6 +349,9 @@ pub trait Decoder {
 
     /// A list has as many members as the program's type holds.
     ghost list_held: { (a : Self) (z : Size) (h : Counts) (n : ℕ) (b : Self) → step a (list_begins z h n) b → is_count_within h n ≡ true };
+
+    /// So has a bag.
+    ghost bag_held: { (a : Self) (z : Size) (h : Counts) (n : ℕ) (b : Self) → step a (bag_begins z h n) b → is_count_within h n ≡ true };
 
     /// None stands after one that has failed.
     ghost none_after: { (a : Self) (r : Record) (b : Self) → has_failed a → step a r b → ⊥ };

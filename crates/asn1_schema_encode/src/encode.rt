@@ -1,11 +1,13 @@
 //! What writes the values of types.
-ghost use Rattle.std.specs.Prelude.{◌≡◌, OnOk, OnErr, IfErr};
+ghost use Rattle.std.specs.Prelude.{◌≡◌, OnOk, OnErr, IfErr, map};
 ghost use Rattle.asn1_model.specs.Schema.{utf8};
 ghost use Rattle.asn1_model.specs.Types.{any_count};
 ghost use Rattle.asn1_schema_faults.specs.declared.CodecKind.{CodecKind};
-ghost use Rattle.asn1_schema_presented.specs.Records.{Record, flag, nil, whole, bits, octets, characters, identifier as object_identifier, list_begins, further, sequence_begins, mark, ends};
+ghost use Rattle.asn1_schema_presented.specs.Records.{Record, flag, nil, whole, one_of, bits, octets, characters, identifier as object_identifier, list_begins, bag_begins, further, sequence_begins, set_begins};
+ghost use Rattle.asn1_schema_presented.specs.Records.{group_begins, mark, additions_begin, addition, addition_ends, choice_begins, ends};
 ghost use Rattle.asn1_schema_bounds.specs.Bounds.{counts_of, members_of};
 ghost use Rattle.asn1_schema_constraints.specs.Terms.{bounds_of, held_of, sizes_of, alphabet_of};
+ghost use Rattle.asn1_schema_tags.specs.Tags.{tag_of};
 ghost use Rattle.asn1_schema_encode.specs.Writes.{Refused, Writes, CannotWrite};
 ghost use Rattle.asn1_values_bits.specs.BitStr.{bits_of};
 
@@ -14,6 +16,7 @@ use asn1_schema_constraints::Constraints;
 use asn1_schema_faults::{CodecKind, EncodeError};
 use asn1_schema_tags::{Identifier, Tag};
 use asn1_schema_types::AsnType;
+use asn1_schema_variants::{Chosen, Enumerated};
 use asn1_values_alphabets::StaticPermittedAlphabet;
 use asn1_values_bits::BitStr;
 use asn1_values_identifiers::Oid;
@@ -65,6 +68,18 @@ pub trait Encoder {
     ) -> Result<(), EncodeError>
         ensures ok { OnOk result (step self.old (whole (bounds_of constraints.entry.value) (held_of constraints.entry.value I.held) (I.value value.now)) self.new) }
         ensures only { IfErr result (Refused step (whole (bounds_of constraints.entry.value) (held_of constraints.entry.value I.held) (I.value value.now)) self.old) }
+        ensures failed { OnErr result (has_failed self.new) }
+        ensures already { has_failed self.old → result ≡ Err EncodeError.AlreadyFailed };
+
+    /// ENUMERATED (X.680 20): an item, by its number and by its place among the items of its table.
+    fn encode_enumerated<T: Enumerated>(
+        &mut self,
+        tag: Tag,
+        value: &T,
+        identifier: Identifier,
+    ) -> Result<(), EncodeError>
+        ensures ok { OnOk result (step self.old (one_of T.roots T.extensible T.additions (T.number value.now)) self.new) }
+        ensures only { IfErr result (Refused step (one_of T.roots T.extensible T.additions (T.number value.now)) self.old) }
         ensures failed { OnErr result (has_failed self.new) }
         ensures already { has_failed self.old → result ≡ Err EncodeError.AlreadyFailed };
 
@@ -148,6 +163,21 @@ pub trait Encoder {
         ensures failed { OnErr result (has_failed self.new) }
         ensures already { has_failed self.old → result ≡ Err EncodeError.AlreadyFailed };
 
+    /// A SET OF begins (X.680 28) under a size constraint, in a type of the program that holds so many members,
+    /// with so many members. They are handed over in any order; the encoder puts them in the order that its rules
+    /// ask for (X.691 22 and X.696 19, in the ascending order of their complete encodings).
+    fn begin_bag(
+        &mut self,
+        tag: Tag,
+        constraints: Constraints,
+        held: Bounded<usize>,
+        count: usize,
+    ) -> Result<(), EncodeError>
+        ensures ok { OnOk result (step self.old (bag_begins (sizes_of constraints.entry.size) (members_of held) count) self.new) }
+        ensures only { IfErr result (Refused step (bag_begins (sizes_of constraints.entry.size) (members_of held) count) self.old) }
+        ensures failed { OnErr result (has_failed self.new) }
+        ensures already { has_failed self.old → result ≡ Err EncodeError.AlreadyFailed };
+
     /// Whether a further member comes.
     fn put_further(&mut self, more: bool) -> Result<(), EncodeError>
         ensures ok { OnOk result (step self.old (further more) self.new) }
@@ -168,10 +198,62 @@ pub trait Encoder {
         ensures failed { OnErr result (has_failed self.new) }
         ensures already { has_failed self.old → result ≡ Err EncodeError.AlreadyFailed };
 
+    /// A SET begins (X.680 27), with or without a mark of extensibility, of whose root components so many may be
+    /// absent. They are handed over in the ascending order of their tags.
+    fn begin_set(&mut self, tag: Tag, extensible: bool, optional: usize) -> Result<(), EncodeError>
+        ensures ok { OnOk result (step self.old (set_begins extensible optional) self.new) }
+        ensures only { IfErr result (Refused step (set_begins extensible optional) self.old) }
+        ensures failed { OnErr result (has_failed self.new) }
+        ensures already { has_failed self.old → result ≡ Err EncodeError.AlreadyFailed };
+
+    /// A group of additions begins (X.680 25.1), of whose components so many may be absent.
+    fn begin_group(&mut self, optional: usize) -> Result<(), EncodeError>
+        ensures ok { OnOk result (step self.old (group_begins optional) self.new) }
+        ensures only { IfErr result (Refused step (group_begins optional) self.old) }
+        ensures failed { OnErr result (has_failed self.new) }
+        ensures already { has_failed self.old → result ≡ Err EncodeError.AlreadyFailed };
+
     /// Whether the next component is there, of those that may be absent.
     fn put_mark(&mut self, present: bool) -> Result<(), EncodeError>
         ensures ok { OnOk result (step self.old (mark present) self.new) }
         ensures only { IfErr result (Refused step (mark present) self.old) }
+        ensures failed { OnErr result (has_failed self.new) }
+        ensures already { has_failed self.old → result ≡ Err EncodeError.AlreadyFailed };
+
+    /// Behind the root components of a type with a mark of extensibility come its additions (X.680 25 and 27), so
+    /// many.
+    fn begin_additions(&mut self, count: usize) -> Result<(), EncodeError>
+        ensures ok { OnOk result (step self.old (additions_begin count) self.new) }
+        ensures only { IfErr result (Refused step (additions_begin count) self.old) }
+        ensures failed { OnErr result (has_failed self.new) }
+        ensures already { has_failed self.old → result ≡ Err EncodeError.AlreadyFailed };
+
+    /// Whether the next addition is there.
+    fn put_addition(&mut self, present: bool) -> Result<(), EncodeError>
+        ensures ok { OnOk result (step self.old (addition present) self.new) }
+        ensures only { IfErr result (Refused step (addition present) self.old) }
+        ensures failed { OnErr result (has_failed self.new) }
+        ensures already { has_failed self.old → result ≡ Err EncodeError.AlreadyFailed };
+
+    /// The end of an addition that is there.
+    fn end_addition(&mut self) -> Result<(), EncodeError>
+        ensures ok { OnOk result (step self.old (addition_ends) self.new) }
+        ensures only { IfErr result (Refused step (addition_ends) self.old) }
+        ensures failed { OnErr result (has_failed self.new) }
+        ensures already { has_failed self.old → result ≡ Err EncodeError.AlreadyFailed };
+
+    /// A CHOICE begins (X.680 29), with the tags of its root alternatives, whether it has a mark of extensibility,
+    /// the tags of its added alternatives, and the chosen one. Its end is called behind the value of the alternative.
+    fn begin_choice(
+        &mut self,
+        tag: Tag,
+        roots: &[Tag],
+        extensible: bool,
+        additions: &[Tag],
+        chosen: Chosen,
+    ) -> Result<(), EncodeError>
+        ensures ok { OnOk result (step self.old (choice_begins (map tag_of roots.now) extensible (map tag_of additions.now) chosen.added chosen.place) self.new) }
+        ensures only { IfErr result (Refused step (choice_begins (map tag_of roots.now) extensible (map tag_of additions.now) chosen.added chosen.place) self.old) }
         ensures failed { OnErr result (has_failed self.new) }
         ensures already { has_failed self.old → result ≡ Err EncodeError.AlreadyFailed };
 

@@ -3,7 +3,8 @@ use crate::setting::Setting;
 use asn1_schema_decode::{Decode, Decoder};
 use asn1_schema_encode::Encode;
 use asn1_schema_faults::{CodecKind, DecodeError, EncodeError};
-use asn1_schema_records::{Item, RecordDecoder, RecordEncoder};
+use asn1_schema_records::{Item, RecordEncoder};
+use asn1_schema_records_reading::RecordDecoder;
 use std::alloc::Global;
 use std::test::Fail;
 

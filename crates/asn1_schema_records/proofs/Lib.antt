@@ -1,3 +1,3 @@
 pub mod Numbers
+pub mod Putting
 pub mod SameLimits
-pub mod Taking

@@ -1,25 +1,17 @@
--- What the plain codec keeps: the records themselves, without what the program's types hold, and of character strings without their kind
--- and alphabet, but for whether it is UTF8String.
-use Rattle.std.specs.Prelude.{◌≡◌, ◌+◌, ◌<◌, ◌≤◌, ◌^◌, ◌⊎◌, ◌-◌, ◌&&◌, ◌||◌, ℕ, ℤ, pos, negsuc, Bool, true, false, List, [], ◌∷◌, ◌++◌, Option, Some, None, length, string_bytes}
+-- What the plain codec keeps: the records themselves, without what the program's types hold, of character strings without their kind and
+-- alphabet, but for whether it is UTF8String, and of enumerations and choices without the tables of their items and alternatives.
+use Rattle.std.specs.Prelude.{◌≡◌, ◌++◌, Bool, true, false, List, [], ◌∷◌, None, string_bytes}
 use Rattle.asn1_model.specs.Schema.{Range, Bounds, Counts, Size, Alphabet, StringKind, utf8, visible}
-use Rattle.asn1_model.specs.Numbers.{is_within, is_count_within}
-use Rattle.asn1_model.specs.Strings.{may_hold}
 use Rattle.asn1_schema_faults.specs.declared.CodecKind.{CodecKind}
 use Rattle.asn1_schema_faults.specs.declared.EncodeError.{EncodeError}
 use Rattle.asn1_schema_faults.specs.declared.EncodeError.TheVariants.{OutOfMemory}
-use Rattle.asn1_schema_faults.specs.declared.DecodeError.{DecodeError}
-use Rattle.asn1_schema_faults.specs.declared.DecodeError.TheVariants.{Incomplete, NotValidCanonicalEncoding, SizeConstraintNotSatisfied, ExceedsMaxParseDepth, IntegerOverflow, PermittedAlphabet, ValueConstraintNotSatisfied, OutOfMemory as NoRoom, AlreadyFailed as HadFailed}
-use Rattle.asn1_schema_bounds.specs.Bounds.{range_of}
-use Rattle.asn1_schema_constraints.specs.Sets.{has_additions}
-use Rattle.asn1_schema_constraints.specs.declared.extensions.Extensible.{Extensible}
-use Rattle.asn1_schema_constraints.specs.declared.parts.Value.{Value}
-use Rattle.asn1_values_alphabets.specs.Permitted.{permits_all}
-use Rattle.asn1_values_natives.specs.Octets.{plain}
-use Rattle.asn1_schema_presented.specs.Records.{Record, Question, question, flag, nil, whole, bits, octets, characters, identifier, list_begins, bag_begins, further, sequence_begins, mark, is_default, ends, asks_list, asks_bag, asks_sequence, asks_set, asks_group, asks_choice, asks_end}
+use Rattle.asn1_schema_presented.specs.Records.{Record, flag, nil, whole, one_of, bits, octets, characters, identifier, list_begins, bag_begins, further, sequence_begins, set_begins}
+use Rattle.asn1_schema_presented.specs.Records.{group_begins, mark, is_default, is_empty, additions_begin, addition, addition_ends, choice_begins, ends}
 use Rattle.asn1_schema_records.specs.declared.items.Limits.{Limits}
 use Rattle.asn1_schema_records.specs.declared.items.Sizes.{Sizes}
 use Rattle.asn1_schema_records.specs.declared.items.Item.{Item}
-use Rattle.asn1_schema_records.specs.declared.items.Item.TheVariants.{Flag, Null, Integer, Bits, Octets, Text, Characters, Identifier, ListBegins, Further, SequenceBegins, Mark, IsDefault, Ends}
+use Rattle.asn1_schema_records.specs.declared.items.Item.TheVariants.{Flag, Null, Integer, OneOf, Bits, Octets, Text, Characters, Identifier, ListBegins, BagBegins, Further, SequenceBegins, SetBegins}
+use Rattle.asn1_schema_records.specs.declared.items.Item.TheVariants.{GroupBegins, Mark, IsDefault, IsEmpty, AdditionsBegin, Addition, AdditionEnds, ChoiceBegins, Ends}
 
 -- Bounds, as the model has them.
 abbrev pub bounds_in : Limits → Bounds
@@ -43,14 +35,16 @@ abbrev pub kept_kind : StringKind → StringKind
 kept_kind utf8 = utf8
 kept_kind k = visible
 
--- A record without what the program's type holds.
+-- A record without what the program's type holds, and without tables.
 abbrev pub kept : Record → Record
 kept (whole b h v) = whole b any_number v
+kept (one_of roots e adds v) = one_of [] e [] v
 kept (bits z h bs) = bits z any_count bs
 kept (octets z h os) = octets z any_count os
 kept (characters k z a h cs) = characters (kept_kind k) z any_alphabet any_count cs
 kept (list_begins z h n) = list_begins z any_count n
 kept (bag_begins z h n) = bag_begins z any_count n
+kept (choice_begins roots e adds added i) = choice_begins [] e [] added i
 kept r = r
 
 -- The record that an item is.
@@ -58,16 +52,25 @@ abbrev pub record_of : Item → Record
 record_of (Flag b) = flag b
 record_of Null = nil
 record_of (Integer l v) = whole (bounds_in l) any_number v
+record_of (OneOf e v) = one_of [] e [] v
 record_of (Bits z b) = bits (sizes_in z) any_count b
 record_of (Octets z o) = octets (sizes_in z) any_count o.items
 record_of (Text z s) = characters utf8 (sizes_in z) any_alphabet any_count (string_bytes s)
 record_of (Characters z c) = characters visible (sizes_in z) any_alphabet any_count c.items
 record_of (Identifier i) = identifier i
 record_of (ListBegins z n) = list_begins (sizes_in z) any_count n
+record_of (BagBegins z n) = bag_begins (sizes_in z) any_count n
 record_of (Further b) = further b
 record_of (SequenceBegins e n) = sequence_begins e n
+record_of (SetBegins e n) = set_begins e n
+record_of (GroupBegins n) = group_begins n
 record_of (Mark b) = mark b
 record_of IsDefault = is_default
+record_of IsEmpty = is_empty
+record_of (AdditionsBegin n) = additions_begin n
+record_of (Addition b) = addition b
+record_of AdditionEnds = addition_ends
+record_of (ChoiceBegins e c) = choice_begins [] e [] c.added c.place
 record_of Ends = ends
 
 -- What an encoder holds: the records so far, whether it has failed, and its rules.
@@ -83,127 +86,3 @@ Puts old r new = (old.failed ≡ false) × (new ≡ record { records = old.recor
 -- Why the encoder refuses: for want of memory, or because it has failed.
 pub record Refusal (failed : Bool) (x : EncodeError) : Type 0 where
   pub had_failed : ¬ (x ≡ OutOfMemory) → failed ≡ true
-
--- What a decoder holds: the records that are left, how many more levels may be nested, how many were so at the beginning, whether it has
--- failed, and its rules.
-pub record Left : Type 0 where
-  pub records : List Record
-  pub levels : ℕ
-  pub most : ℕ
-  pub failed : Bool
-  pub rules : CodecKind
-
--- A string of the kind may hold these characters. A text of UTF8String is kept as one.
-abbrev pub MayHold : StringKind → List ℕ → Type 0
-MayHold utf8 cs = Unit {0}
-MayHold k cs = may_hold k cs ≡ true
-
--- What is kept is this record: the type says the same there, the program's type holds what is found, and bounds without a mark admit it.
--- Of a list or bag a decoder is told no count, so any that the type holds will do, if it holds that which is kept.
-abbrev pub IsKept : Record → Record → Type 0
-IsKept k (whole b h v) = (k ≡ whole b any_number v) × (is_within h v ≡ true) × ((b.extensible || is_within b.range v) ≡ true)
-IsKept k (bits z h bs) = (k ≡ bits z any_count bs) × (is_count_within h (length bs) ≡ true)
-IsKept k (octets z h os) = (k ≡ octets z any_count os) × (is_count_within h (length os) ≡ true)
-IsKept k (characters t z a h cs) = (k ≡ characters (kept_kind t) z any_alphabet any_count cs) × MayHold t cs
-IsKept k (list_begins z h n) = (m : ℕ) × (k ≡ list_begins z any_count m) × (is_count_within h m ≡ true) × (is_count_within h n ≡ true)
-IsKept k (bag_begins z h n) = (m : ℕ) × (k ≡ bag_begins z any_count m) × (is_count_within h m ≡ true) × (is_count_within h n ≡ true)
-IsKept k r = k ≡ r
-
--- What the question does to the levels: what begins takes one, and its end gives that back.
-abbrev pub Levels : Question → Left → Left → Type 0
-Levels (asks_list z h) old new = old.levels ≡ new.levels + 1
-Levels (asks_bag z h) old new = old.levels ≡ new.levels + 1
-Levels (asks_sequence e n) old new = old.levels ≡ new.levels + 1
-Levels (asks_set e n) old new = old.levels ≡ new.levels + 1
-Levels (asks_group n) old new = old.levels ≡ new.levels + 1
-Levels (asks_choice r e a) old new = old.levels ≡ new.levels + 1
-Levels asks_end old new = (new.levels ≡ old.levels + 1) × (new.levels ≤ old.most)
-Levels q old new = new.levels ≡ old.levels
-
--- A record is taken from the front of those that are left, by a decoder that has not failed.
-pub record Takes (old : Left) (r : Record) (new : Left) : Type 0 where
-  pub ready : old.failed ≡ false
-  pub front : Record
-  pub taken : old.records ≡ front ∷ new.records
-  pub is_kept : IsKept front r
-  pub levels : Levels (question r) old new
-  pub most : new.most ≡ old.most
-  pub ready_still : new.failed ≡ false
-  pub rules : new.rules ≡ old.rules
-
--- What is in front leaves, and nothing else changes.
-pub record Leaves (old : Left) (k : Record) (new : Left) : Type 0 where
-  pub ready : old.failed ≡ false
-  pub taken : old.records ≡ k ∷ new.records
-  pub levels : new.levels ≡ old.levels
-  pub most : new.most ≡ old.most
-  pub ready_still : new.failed ≡ false
-  pub rules : new.rules ≡ old.rules
-
--- What is in front leaves, and one level is taken.
-pub record Begins (old : Left) (k : Record) (new : Left) : Type 0 where
-  pub ready : old.failed ≡ false
-  pub taken : old.records ≡ k ∷ new.records
-  pub levels : old.levels ≡ new.levels + 1
-  pub most : new.most ≡ old.most
-  pub ready_still : new.failed ≡ false
-  pub rules : new.rules ≡ old.rules
-
--- It has failed, and nothing else changes.
-abbrev pub Fails : Left → Left → Type 0
-Fails old new = new ≡ record { records = old.records; levels = old.levels; most = old.most; failed = true; rules = old.rules }
-
--- Why nothing can leave: the decoder has failed, or nothing is left.
-abbrev pub IsSpent : Left → DecodeError → Type 0
-IsSpent old e = ((e ≡ HadFailed) × (old.failed ≡ true)) ⊎ ((e ≡ Incomplete) × (old.failed ≡ false) × (old.records ≡ []))
-
--- Or no level is left.
-abbrev pub IsDeep : Left → DecodeError → Type 0
-IsDeep old e = ((e ≡ HadFailed) × (old.failed ≡ true)) ⊎ ((e ≡ ExceedsMaxParseDepth) × (old.failed ≡ false) × (old.levels ≡ 0)) ⊎ ((e ≡ Incomplete) × (old.failed ≡ false) × (0 < old.levels) × (old.records ≡ []))
-
--- Which error comes: an earlier one, `Incomplete` where nothing is left, and else one of these kinds.
-abbrev pub IsRefused : Left → (DecodeError → Type 0) → DecodeError → Type 0
-IsRefused old kinds e = IsSpent old e ⊎ ((old.failed ≡ false) × ((old.records ≡ []) → ⊥) × kinds e)
-
--- The same where a level is taken, of which none may be left.
-abbrev pub IsRefusedFirst : Left → (DecodeError → Type 0) → DecodeError → Type 0
-IsRefusedFirst old kinds e = IsDeep old e ⊎ ((old.failed ≡ false) × (0 < old.levels) × ((old.records ≡ []) → ⊥) × kinds e)
-
--- What is next is of another kind.
-abbrev pub IsOtherKind : DecodeError → Type 0
-IsOtherKind e = e ≡ NotValidCanonicalEncoding
-
--- Or of another size.
-abbrev pub IsMisfit : DecodeError → Type 0
-IsMisfit e = (e ≡ NotValidCanonicalEncoding) ⊎ (e ≡ SizeConstraintNotSatisfied)
-
--- Or has other characters, or memory is wanting.
-abbrev pub IsMisfitText : DecodeError → Type 0
-IsMisfitText e = (e ≡ NotValidCanonicalEncoding) ⊎ (e ≡ SizeConstraintNotSatisfied) ⊎ (e ≡ PermittedAlphabet) ⊎ (e ≡ NoRoom)
-
--- Or is another number, or memory is wanting.
-abbrev pub IsMisfitNumber : DecodeError → Type 0
-IsMisfitNumber e = (e ≡ NotValidCanonicalEncoding) ⊎ (e ≡ ValueConstraintNotSatisfied) ⊎ (e ≡ IntegerOverflow) ⊎ (e ≡ NoRoom)
-
--- The numbers of 128 bits of two's complement.
-abbrev pub wide_range : Range
-wide_range = record { low = Some (negsuc (2 ^ 127 - 1)); high = Some (pos (2 ^ 127 - 1)) }
-
--- Whether a value constraint, where there is one, admits a number: one of 128 bits, within bounds that have no mark.
-abbrev pub is_admitted : Option (Extensible Value) → ℤ → Bool
-is_admitted None v = true
-is_admitted (Some c) v = is_within wide_range v && (has_additions c || is_within (range_of c.constraint.value) v)
-
--- Why a number of the program's type is not made: a value constraint does not admit it; the type does not hold it; or it takes memory that
--- is wanting, which it does past 128 bits alone.
-abbrev pub IsUntaken : Option (Extensible Value) → Range → ℤ → DecodeError → Type 0
-IsUntaken c held v ValueConstraintNotSatisfied = is_admitted c v ≡ false
-IsUntaken c held v IntegerOverflow = (is_admitted c v ≡ true) × (is_within held v ≡ false)
-IsUntaken c held v NoRoom = 2 ^ 128 ≤ plain v
-IsUntaken c held v e = ⊥
-
--- Why a string of the program's type is not made: it may not hold a character; or memory is wanting.
-abbrev pub IsUnspelled : StringKind → List ℕ → DecodeError → Type 0
-IsUnspelled k cs PermittedAlphabet = permits_all k cs ≡ false
-IsUnspelled k cs NoRoom = permits_all k cs ≡ true
-IsUnspelled k cs e = ⊥

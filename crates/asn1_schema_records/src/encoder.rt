@@ -1,15 +1,17 @@
 //! The encoder that keeps records.
 ghost use Rattle.std.specs.Prelude.{◌≡◌, ◌≤◌, ◌^◌, ◌++◌, [], ◌∷◌, true, false, map, OnOk, OnErr, IfErr, IfOk};
-ghost use Rattle.asn1_schema_presented.specs.Records.{Record};
+ghost use Rattle.asn1_schema_encode.specs.Writes.{Refused};
+ghost use Rattle.asn1_schema_presented.specs.Records.{Record, one_of};
 ghost use Rattle.asn1_schema_records.specs.Kept.{record_of, Puts, Refusal};
 ghost use Rattle.asn1_values_natives.specs.Octets.{plain};
 
-use crate::items::{Item, Limits, Sizes};
+use crate::items::{Item, Limits, Sizes, is_extensible};
 use asn1_schema_bounds::Bounded;
 use asn1_schema_constraints::Constraints;
 use asn1_schema_encode::Encoder;
 use asn1_schema_faults::{CodecKind, EncodeError};
 use asn1_schema_tags::{Identifier, Tag};
+use asn1_schema_variants::{Chosen, Enumerated};
 use asn1_values_alphabets::StaticPermittedAlphabet;
 use asn1_values_bit_strings::BitString;
 use asn1_values_bits::BitStr;
@@ -130,6 +132,20 @@ impl Encoder for RecordEncoder {
         }
     }
 
+    fn encode_enumerated<T: Enumerated>(
+        &mut self,
+        _tag: Tag,
+        value: &T,
+        _identifier: Identifier,
+    ) -> Result<(), EncodeError>
+        ensures ok { OnOk result (Puts self.old (one_of T.roots T.extensible T.additions (T.number value.now)) self.new) }
+        ensures only { IfErr result (Refused Puts (one_of T.roots T.extensible T.additions (T.number value.now)) self.old) }
+        ensures failed { OnErr result (self.new.failed ≡ true) }
+        ensures already { self.old.failed ≡ true → result ≡ Err EncodeError.AlreadyFailed }
+    {
+        self.put(Item::OneOf(is_extensible::<T>(), value.discriminant()))
+    }
+
     fn encode_bit_string(
         &mut self,
         _tag: Tag,
@@ -206,6 +222,16 @@ impl Encoder for RecordEncoder {
         self.put(Item::ListBegins(Sizes::among(constraints), count))
     }
 
+    fn begin_bag(
+        &mut self,
+        _tag: Tag,
+        constraints: Constraints,
+        _held: Bounded<usize>,
+        count: usize,
+    ) -> Result<(), EncodeError> {
+        self.put(Item::BagBegins(Sizes::among(constraints), count))
+    }
+
     fn put_further(&mut self, more: bool) -> Result<(), EncodeError> {
         self.put(Item::Further(more))
     }
@@ -219,8 +245,44 @@ impl Encoder for RecordEncoder {
         self.put(Item::SequenceBegins(extensible, optional))
     }
 
+    fn begin_set(
+        &mut self,
+        _tag: Tag,
+        extensible: bool,
+        optional: usize,
+    ) -> Result<(), EncodeError> {
+        self.put(Item::SetBegins(extensible, optional))
+    }
+
+    fn begin_group(&mut self, optional: usize) -> Result<(), EncodeError> {
+        self.put(Item::GroupBegins(optional))
+    }
+
     fn put_mark(&mut self, present: bool) -> Result<(), EncodeError> {
         self.put(Item::Mark(present))
+    }
+
+    fn begin_additions(&mut self, count: usize) -> Result<(), EncodeError> {
+        self.put(Item::AdditionsBegin(count))
+    }
+
+    fn put_addition(&mut self, present: bool) -> Result<(), EncodeError> {
+        self.put(Item::Addition(present))
+    }
+
+    fn end_addition(&mut self) -> Result<(), EncodeError> {
+        self.put(Item::AdditionEnds)
+    }
+
+    fn begin_choice(
+        &mut self,
+        _tag: Tag,
+        _roots: &[Tag],
+        extensible: bool,
+        _additions: &[Tag],
+        chosen: Chosen,
+    ) -> Result<(), EncodeError> {
+        self.put(Item::ChoiceBegins(extensible, chosen))
     }
 
     fn end(&mut self) -> Result<(), EncodeError> {

@@ -1,11 +1,13 @@
 //! What is kept of each record.
-ghost use Rattle.std.specs.Prelude.{◌≡◌, ◌↔◌, ℕ, ℤ, Bool, List, IsTrue, MatchOption, string_bytes};
+ghost use Rattle.std.specs.Prelude.{◌≡◌, ◌↔◌, ℕ, ℤ, Bool, List, [], IsTrue, MatchOption, string_bytes};
 ghost use Rattle.asn1_model.specs.Schema.{Bounds, Size, utf8, visible};
 ghost use Rattle.asn1_schema_constraints.specs.Terms.{bounds_of, sizes_of};
-ghost use Rattle.asn1_schema_presented.specs.Records.{flag, nil, whole, bits, octets, characters, identifier, list_begins, further, sequence_begins, mark, is_default, ends};
+ghost use Rattle.asn1_schema_presented.specs.Records.{flag, nil, whole, one_of, bits, octets, characters, identifier, list_begins, bag_begins, further, sequence_begins, set_begins};
+ghost use Rattle.asn1_schema_presented.specs.Records.{group_begins, mark, is_default, is_empty, additions_begin, addition, addition_ends, choice_begins, ends};
 ghost use Rattle.asn1_schema_records.specs.Kept.{bounds_in, sizes_in, any_number, any_count, any_alphabet, record_of};
 
 use asn1_schema_constraints::Constraints;
+use asn1_schema_variants::{Chosen, Enumerated};
 use asn1_values_bit_strings::BitString;
 use asn1_values_identifiers::ObjectIdentifier;
 use asn1_values_numbers::Integer;
@@ -86,7 +88,8 @@ impl Sizes {
     }
 }
 
-/// A record, without what the program's type holds, and of a character string without its kind and its alphabet.
+/// A record, without what the program's type holds, of a character string without its kind and its alphabet, and of an enumeration or a
+/// choice without its tables.
 #[derive(Debug, Drop)]
 pub enum Item {
     /// BOOLEAN.
@@ -95,6 +98,8 @@ pub enum Item {
     Null,
     /// INTEGER: its bounds, and the number.
     Integer(Limits, Integer),
+    /// ENUMERATED: whether it has a mark, and the number of the item.
+    OneOf(bool, isize),
     /// BIT STRING: its size, and the bits.
     Bits(Sizes, BitString),
     /// OCTET STRING: its size, and the octets.
@@ -107,15 +112,31 @@ pub enum Item {
     Identifier(ObjectIdentifier),
     /// SEQUENCE OF begins: its size, and how many members it has.
     ListBegins(Sizes, usize),
+    /// SET OF begins: its size, and how many members it has.
+    BagBegins(Sizes, usize),
     /// Whether a further member comes.
     Further(bool),
     /// SEQUENCE begins: whether it has a mark, and how many root components may be absent.
     SequenceBegins(bool, usize),
+    /// SET begins: whether it has a mark, and how many root components may be absent.
+    SetBegins(bool, usize),
+    /// A group of additions begins: how many of its components may be absent.
+    GroupBegins(usize),
     /// Whether a component is there.
     Mark(bool),
     /// The component before is equal to its default.
     IsDefault,
-    /// The end of a list or sequence.
+    /// The group before has no component.
+    IsEmpty,
+    /// The additions begin: how many there are.
+    AdditionsBegin(usize),
+    /// Whether an addition is there.
+    Addition(bool),
+    /// The end of an addition.
+    AdditionEnds,
+    /// CHOICE begins: whether it has a mark, and which alternative is chosen.
+    ChoiceBegins(bool, Chosen),
+    /// The end of a list, bag, sequence, set, group or choice.
     Ends,
 }
 
@@ -143,6 +164,16 @@ impl Item {
     {
         match self {
             Item::Integer(limits, number) => Some((limits, number)),
+            _ => None,
+        }
+    }
+
+    /// The number of an item of an ENUMERATED with or without a mark; `None` of any other item.
+    pub fn into_one_of(self, extensible: bool) -> Option<isize>
+        ensures { MatchOption result ((v : ℤ) → record_of self ≡ one_of [] extensible [] v → ⊥) (λ v. record_of self ≡ one_of [] extensible [] v) }
+    {
+        match self {
+            Item::OneOf(mark, number) if mark == extensible => Some(number),
             _ => None,
         }
     }
@@ -207,6 +238,16 @@ impl Item {
         }
     }
 
+    /// The size of a SET OF that begins, and how many members it has; `None` of any other item.
+    pub fn into_bag(self) -> Option<(Sizes, usize)>
+        ensures { MatchOption result ((z : Size) (n : ℕ) → record_of self ≡ bag_begins z any_count n → ⊥) (λ p. record_of self ≡ bag_begins (sizes_in p.0) any_count p.1) }
+    {
+        match self {
+            Item::BagBegins(sizes, count) => Some((sizes, count)),
+            _ => None,
+        }
+    }
+
     /// Whether a further member comes; `None` of any other item.
     pub fn into_further(self) -> Option<bool>
         ensures { MatchOption result ((b : Bool) → record_of self ≡ further b → ⊥) (λ b. record_of self ≡ further b) }
@@ -223,6 +264,26 @@ impl Item {
     {
         match self {
             Item::SequenceBegins(mark, count) => *mark == extensible && *count == optional,
+            _ => false,
+        }
+    }
+
+    /// Whether it is the beginning of a SET with or without a mark, of whose root components so many may be absent.
+    pub fn is_set(&self, extensible: bool, optional: usize) -> bool
+        ensures { IsTrue result ↔ (record_of self.now ≡ set_begins extensible optional) }
+    {
+        match self {
+            Item::SetBegins(mark, count) => *mark == extensible && *count == optional,
+            _ => false,
+        }
+    }
+
+    /// Whether it is the beginning of a group of additions, of whose components so many may be absent.
+    pub fn is_group(&self, optional: usize) -> bool
+        ensures { IsTrue result ↔ (record_of self.now ≡ group_begins optional) }
+    {
+        match self {
+            Item::GroupBegins(count) => *count == optional,
             _ => false,
         }
     }
@@ -244,10 +305,61 @@ impl Item {
         matches!(self, Item::IsDefault)
     }
 
-    /// Whether it is the end of a list or sequence.
+    /// Whether it tells that the group before has no component.
+    pub fn is_empty(&self) -> bool
+        ensures { IsTrue result ↔ (record_of self.now ≡ is_empty) }
+    {
+        matches!(self, Item::IsEmpty)
+    }
+
+    /// Whether it is the beginning of so many additions.
+    pub fn is_additions(&self, additions: usize) -> bool
+        ensures { IsTrue result ↔ (record_of self.now ≡ additions_begin additions) }
+    {
+        match self {
+            Item::AdditionsBegin(count) => *count == additions,
+            _ => false,
+        }
+    }
+
+    /// Whether an addition is there; `None` of any other item.
+    pub fn into_addition(self) -> Option<bool>
+        ensures { MatchOption result ((b : Bool) → record_of self ≡ addition b → ⊥) (λ b. record_of self ≡ addition b) }
+    {
+        match self {
+            Item::Addition(present) => Some(present),
+            _ => None,
+        }
+    }
+
+    /// Whether it is the end of an addition.
+    pub fn is_addition_end(&self) -> bool
+        ensures { IsTrue result ↔ (record_of self.now ≡ addition_ends) }
+    {
+        matches!(self, Item::AdditionEnds)
+    }
+
+    /// The chosen alternative of a CHOICE with or without a mark that begins; `None` of any other item.
+    pub fn into_choice(self, extensible: bool) -> Option<Chosen>
+        ensures { MatchOption result ((added : Bool) (i : ℕ) → record_of self ≡ choice_begins [] extensible [] added i → ⊥) (λ c. record_of self ≡ choice_begins [] extensible [] c.added c.place) }
+    {
+        match self {
+            Item::ChoiceBegins(mark, chosen) if mark == extensible => Some(chosen),
+            _ => None,
+        }
+    }
+
+    /// Whether it is the end of a list, bag, sequence, set, group or choice.
     pub fn is_end(&self) -> bool
         ensures { IsTrue result ↔ (record_of self.now ≡ ends) }
     {
         matches!(self, Item::Ends)
     }
+}
+
+/// Whether an enumeration has a mark of extensibility (X.680 20).
+pub fn is_extensible<T: Enumerated>() -> bool
+    ensures { result ≡ T.extensible }
+{
+    T::extended_variants().is_some()
 }

@@ -1,8 +1,10 @@
 //! A value of each kind, through the bound of its type, to the encoder that keeps records.
 use crate::encoder::RecordEncoder;
 use crate::items::Item;
-use asn1_schema_encode::Encode;
+use asn1_schema_encode::{Encode, Encoder};
 use asn1_schema_faults::{CodecKind, EncodeError};
+use asn1_schema_tags::Tag;
+use asn1_schema_variants::Chosen;
 use asn1_values_bit_strings::BitString;
 use asn1_values_identifiers::{ObjectIdentifier, Oid};
 use asn1_values_numbers::Integer;
@@ -108,5 +110,36 @@ fn identifiers(rt: HostRuntime) -> Result<(), EncodeError> {
         None => return Err(EncodeError::AlreadyFailed),
     };
     assert!(rt; is_identifier(&record_of(alloc, &identifier), arcs.as_slice()));
+    Ok(())
+}
+
+#[test]
+fn an_addition_of_a_set(rt: HostRuntime) -> Result<(), EncodeError> {
+    let mut encoder = RecordEncoder::new(rt.alloc(), CodecKind::Oer);
+    encoder.begin_set(Tag::SET, true, 1)?;
+    encoder.begin_additions(3)?;
+    encoder.put_addition(true)?;
+    encoder.begin_group(2)?;
+    encoder.end_addition()?;
+    let items = encoder.into_items();
+    assert!(rt; matches!(items.get(0), Some(Item::SetBegins(true, 1))));
+    assert!(rt; matches!(items.get(1), Some(Item::AdditionsBegin(3))));
+    assert!(rt; matches!(items.get(2), Some(Item::Addition(true))));
+    assert!(rt; matches!(items.get(3), Some(Item::GroupBegins(2))));
+    assert!(rt; matches!(items.get(4), Some(Item::AdditionEnds)));
+    Ok(())
+}
+
+#[test]
+fn a_chosen_alternative(rt: HostRuntime) -> Result<(), EncodeError> {
+    let mut encoder = RecordEncoder::new(rt.alloc(), CodecKind::Oer);
+    let roots = [Tag::BOOL, Tag::NULL];
+    let additions = [Tag::INTEGER];
+    let chosen = Chosen::addition(0);
+    encoder.begin_choice(Tag::EOC, &roots, true, &additions, chosen)?;
+    match encoder.into_items().get(0) {
+        Some(Item::ChoiceBegins(mark, found)) => assert!(rt; *mark && *found == chosen),
+        _ => assert!(rt; false),
+    }
     Ok(())
 }

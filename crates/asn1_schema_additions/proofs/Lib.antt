@@ -1,0 +1,5 @@
+pub mod Extending
+pub mod Writing
+pub mod GroupWriting
+pub mod Reading
+pub mod GroupReading

@@ -1,0 +1,5 @@
+pub mod Tables
+pub mod Recursive
+pub mod Chosen
+pub mod Tagged
+pub mod Named

@@ -1,0 +1,47 @@
+//! How enumerations are written and read.
+ghost use Rattle.std.specs.Prelude.{◌≡◌, OnOk, OnErr, IfOk, IfErr};
+ghost use Rattle.asn1_schema_encode.specs.Writes.{Writes, CannotWrite};
+ghost use Rattle.asn1_schema_decode.specs.Reads.{Stopped, Reads, Unread};
+
+use asn1_schema_decode::Decoder;
+use asn1_schema_encode::Encoder;
+use asn1_schema_faults::{DecodeError, EncodeError};
+use asn1_schema_tags::{Identifier, Tag};
+use asn1_schema_variants::Enumerated;
+
+/// How enumerations are written.
+pub trait EncodeItems: Encoder {
+    /// ENUMERATED (X.680 20).
+    final fn encode_item<T: Enumerated>(&mut self, tag: Tag, value: &T) -> Result<(), EncodeError>
+    where
+        Self: Sized,
+        ensures ok { OnOk result (Writes Self.step T.schema (T.meaning value.now) self.old self.new) }
+        ensures only { IfErr result (CannotWrite Self.step T.schema (T.meaning value.now) self.old) }
+        ensures failed { OnErr result (Self.has_failed self.new) }
+        ensures already { Self.has_failed self.old → result ≡ Err EncodeError.AlreadyFailed }
+    {
+        self.encode_enumerated(tag, value, Identifier::ENUMERATED)?;
+        Ok(())
+    }
+}
+
+impl<E: Encoder> EncodeItems for E {}
+
+/// How enumerations are read.
+pub trait DecodeItems: Decoder {
+    /// ENUMERATED (X.680 20).
+    final fn decode_item<T: Enumerated>(&mut self, tag: Tag) -> Result<T, DecodeError>
+    where
+        Self: Sized,
+        ensures ok { IfOk result (λ x. Reads Self.step T.schema (Self.levels self.old) (T.meaning x) self.old self.new) }
+        ensures level { OnOk result (Self.levels self.new ≡ Self.levels self.old) }
+        ensures only { IfErr result (Unread Self.step T.schema (Self.levels self.old) self.old) }
+        ensures failed { IfErr result (Stopped Self.has_failed self.new) }
+        ensures already { Self.has_failed self.old → result ≡ Err DecodeError.AlreadyFailed }
+    {
+        let value = self.decode_enumerated(tag)?;
+        Ok(value)
+    }
+}
+
+impl<D: Decoder> DecodeItems for D {}

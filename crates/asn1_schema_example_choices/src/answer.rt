@@ -1,0 +1,120 @@
+//! ENUMERATED {yes (1000), no (-1000)}.
+ghost use Rattle.std.specs.Prelude.{◌∷◌, [], refl, pos, negsuc, false};
+ghost use Rattle.asn1_model.specs.Schema.{enumerated};
+ghost use Rattle.asn1_model.specs.Value.{item};
+ghost use Rattle.asn1_schema_constraints.specs.Sets.{no_constraint};
+ghost use Rattle.asn1_schema_choices.proofs.Types.{type_enumerated, value_enumerated};
+
+use asn1_schema_choices::{DecodeItems, EncodeItems};
+use asn1_schema_constraints::Constraints;
+use asn1_schema_decode::{Decode, Decoder};
+use asn1_schema_encode::{Encode, Encoder};
+use asn1_schema_faults::{DecodeError, EncodeError};
+use asn1_schema_tags::{Identifier, Tag, TagTree};
+use asn1_schema_types::{AsnType, Described};
+use asn1_schema_variants::Enumerated;
+use std::alloc::Global;
+
+/// An answer.
+#[derive(Clone, Copy, Debug, PartialEq, Eq)]
+pub enum Answer {
+    Yes,
+    No,
+}
+
+impl Described for Answer {
+    ghost use Rattle.asn1_schema_example_choices.specs.declared.answer.Answer.TheVariants.{Yes, No};
+
+    ghost tags = { record { class = 0; number = 10 } ∷ [] };
+
+    ghost own = { no_constraint };
+
+    ghost under = { λ _ _. enumerated (negsuc 999 ∷ pos 1000 ∷ []) false [] };
+
+    ghost schema = { λ _. enumerated (negsuc 999 ∷ pos 1000 ∷ []) false [] };
+
+    ghost is_own = { λ _. refl };
+
+    ghost meaning = { elim [ Yes ↦ item (pos 1000) | No ↦ item (negsuc 999) ] };
+
+    ghost typed = { type_enumerated _ _ _ refl refl };
+
+    ghost valued = { elim [ Yes ↦ value_enumerated _ _ _ _ | No ↦ value_enumerated _ _ _ _ ] };
+
+    ghost valued_under = { λ _. elim [ Yes ↦ value_enumerated _ _ _ _ | No ↦ value_enumerated _ _ _ _ ] };
+}
+
+impl AsnType for Answer {
+    const TAG: Tag = Tag::ENUMERATED;
+
+    const IDENTIFIER: Identifier = Identifier(Some("Answer"));
+
+    fn tag_tree() -> TagTree<'static> {
+        TagTree::of(Self::TAG)
+    }
+
+    fn constraints() -> Constraints<'static> {
+        Constraints::NONE
+    }
+}
+
+impl Enumerated for Answer {
+    ghost use Rattle.asn1_schema_example_choices.specs.declared.answer.Answer.TheVariants.{Yes, No};
+
+    ghost roots = { negsuc 999 ∷ pos 1000 ∷ [] };
+
+    ghost extensible = { false };
+
+    ghost additions = { [] };
+
+    ghost number = { elim [ Yes ↦ pos 1000 | No ↦ negsuc 999 ] };
+
+    fn variants<'a>() -> &'a [Self]
+    where
+        Self: 'a,
+    {
+        &[Answer::No, Answer::Yes]
+    }
+
+    fn extended_variants<'a>() -> Option<&'a [Self]>
+    where
+        Self: 'a,
+    {
+        None
+    }
+
+    fn discriminant(&self) -> isize {
+        match self {
+            Answer::Yes => 1000,
+            Answer::No => -1000,
+        }
+    }
+
+    ghost is_of = { λ _. refl };
+
+    ghost means = { elim [ Yes ↦ refl | No ↦ refl ] };
+
+    ghost listed = { elim [ Yes ↦ (false, 1, refl) | No ↦ (false, 0, refl) ] };
+}
+
+impl Encode for Answer {
+    fn encode_with_tag_and_constraints<E: Encoder>(
+        &self,
+        encoder: &mut E,
+        tag: Tag,
+        _constraints: Constraints,
+    ) -> Result<(), EncodeError> {
+        encoder.encode_item(tag, self)
+    }
+}
+
+impl Decode for Answer {
+    fn decode_with_tag_and_constraints<D: Decoder>(
+        _alloc: Global,
+        decoder: &mut D,
+        tag: Tag,
+        _constraints: Constraints,
+    ) -> Result<Self, DecodeError> {
+        decoder.decode_item(tag)
+    }
+}

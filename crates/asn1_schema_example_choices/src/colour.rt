@@ -1,0 +1,141 @@
+//! ENUMERATED {red, green, ..., blue}.
+ghost use Rattle.std.specs.Prelude.{◌∷◌, [], refl, pos, true, false, codes};
+ghost use Rattle.asn1_model.specs.Schema.{enumerated};
+ghost use Rattle.asn1_model.specs.Value.{item};
+ghost use Rattle.asn1_schema_constraints.specs.Sets.{no_constraint};
+ghost use Rattle.asn1_schema_choices.proofs.Types.{type_enumerated, value_enumerated};
+ghost use Rattle.asn1_schema_choices.proofs.Distinct.{one_number_of, one_name_of};
+
+use asn1_schema_choices::{DecodeItems, EncodeItems, NamedItems};
+use asn1_schema_constraints::Constraints;
+use asn1_schema_decode::{Decode, Decoder};
+use asn1_schema_encode::{Encode, Encoder};
+use asn1_schema_faults::{DecodeError, EncodeError};
+use asn1_schema_tags::{Identifier, Tag, TagTree};
+use asn1_schema_types::{AsnType, Described};
+use asn1_schema_variants::Enumerated;
+use std::alloc::Global;
+
+/// A colour.
+#[derive(Clone, Copy, Debug, PartialEq, Eq)]
+pub enum Colour {
+    Red,
+    Green,
+    Blue,
+}
+
+impl Described for Colour {
+    ghost use Rattle.asn1_schema_example_choices.specs.declared.colour.Colour.TheVariants.{Red, Green, Blue};
+
+    ghost tags = { record { class = 0; number = 10 } ∷ [] };
+
+    ghost own = { no_constraint };
+
+    ghost under = { λ _ _. enumerated (pos 0 ∷ pos 1 ∷ []) true (pos 2 ∷ []) };
+
+    ghost schema = { λ _. enumerated (pos 0 ∷ pos 1 ∷ []) true (pos 2 ∷ []) };
+
+    ghost is_own = { λ _. refl };
+
+    ghost meaning = { elim [ Red ↦ item (pos 0) | Green ↦ item (pos 1) | Blue ↦ item (pos 2) ] };
+
+    ghost typed = { type_enumerated _ _ _ refl refl };
+
+    ghost valued = { elim [ Red ↦ value_enumerated _ _ _ _ | Green ↦ value_enumerated _ _ _ _ | Blue ↦ value_enumerated _ _ _ _ ] };
+
+    ghost valued_under = { λ _. elim [ Red ↦ value_enumerated _ _ _ _ | Green ↦ value_enumerated _ _ _ _ | Blue ↦ value_enumerated _ _ _ _ ] };
+}
+
+impl AsnType for Colour {
+    const TAG: Tag = Tag::ENUMERATED;
+
+    const IDENTIFIER: Identifier = Identifier(Some("Colour"));
+
+    fn tag_tree() -> TagTree<'static> {
+        TagTree::of(Self::TAG)
+    }
+
+    fn constraints() -> Constraints<'static> {
+        Constraints::NONE
+    }
+}
+
+impl Enumerated for Colour {
+    ghost use Rattle.asn1_schema_example_choices.specs.declared.colour.Colour.TheVariants.{Red, Green, Blue};
+
+    ghost roots = { pos 0 ∷ pos 1 ∷ [] };
+
+    ghost extensible = { true };
+
+    ghost additions = { pos 2 ∷ [] };
+
+    ghost number = { elim [ Red ↦ pos 0 | Green ↦ pos 1 | Blue ↦ pos 2 ] };
+
+    fn variants<'a>() -> &'a [Self]
+    where
+        Self: 'a,
+    {
+        &[Colour::Red, Colour::Green]
+    }
+
+    fn extended_variants<'a>() -> Option<&'a [Self]>
+    where
+        Self: 'a,
+    {
+        Some(&[Colour::Blue])
+    }
+
+    fn discriminant(&self) -> isize {
+        match self {
+            Colour::Red => 0,
+            Colour::Green => 1,
+            Colour::Blue => 2,
+        }
+    }
+
+    ghost is_of = { λ _. refl };
+
+    ghost means = { elim [ Red ↦ refl | Green ↦ refl | Blue ↦ refl ] };
+
+    ghost listed = { elim [ Red ↦ (false, 0, refl) | Green ↦ (false, 1, refl) | Blue ↦ (true, 0, (refl, refl, refl)) ] };
+}
+
+impl NamedItems for Colour {
+    ghost use Rattle.asn1_schema_example_choices.specs.declared.colour.Colour.TheVariants.{Red, Green, Blue};
+
+    ghost name = { elim [ Red ↦ codes "red" | Green ↦ codes "green" | Blue ↦ codes "blue" ] };
+
+    fn identifier(&self) -> &'static str {
+        match self {
+            Colour::Red => "red",
+            Colour::Green => "green",
+            Colour::Blue => "blue",
+        }
+    }
+
+    ghost one_number = { one_number_of _ (Red ∷ Green ∷ Blue ∷ []) (elim [ Red ↦ (0, refl) | Green ↦ (1, refl) | Blue ↦ (2, refl) ]) refl };
+
+    ghost one_name = { one_name_of _ (Red ∷ Green ∷ Blue ∷ []) (elim [ Red ↦ (0, refl) | Green ↦ (1, refl) | Blue ↦ (2, refl) ]) refl };
+}
+
+impl Encode for Colour {
+    fn encode_with_tag_and_constraints<E: Encoder>(
+        &self,
+        encoder: &mut E,
+        tag: Tag,
+        _constraints: Constraints,
+    ) -> Result<(), EncodeError> {
+        encoder.encode_item(tag, self)
+    }
+}
+
+impl Decode for Colour {
+    fn decode_with_tag_and_constraints<D: Decoder>(
+        _alloc: Global,
+        decoder: &mut D,
+        tag: Tag,
+        _constraints: Constraints,
+    ) -> Result<Self, DecodeError> {
+        decoder.decode_item(tag)
+    }
+}

@@ -1,0 +1,182 @@
+//! CHOICE {flag [0] BOOLEAN, count [1] INTEGER, ..., name [2] UTF8String}.
+ghost use Rattle.std.specs.Prelude.{◌∷◌, [], refl, true, false};
+ghost use Rattle.asn1_model.specs.Types.{context};
+ghost use Rattle.asn1_schema_constraints.specs.Sets.{no_constraint};
+ghost use Rattle.asn1_schema_choices.specs.Tables.{variant, no_variant, choice_type};
+ghost use Rattle.asn1_schema_choices.specs.Chosen.{chosen_value};
+ghost use Rattle.asn1_schema_choices.proofs.Types.{type_choice, more_variants, no_variants, value_choice};
+
+use asn1_schema_choices::{Alternatives, Choice, DecodeAlternatives, DecodeChoice, EncodeChoice};
+use asn1_schema_constraints::Constraints;
+use asn1_schema_decode::{Decode, Decoder};
+use asn1_schema_encode::{Encode, Encoder};
+use asn1_schema_faults::{DecodeError, EncodeError};
+use asn1_schema_tags::{Class, Identifier, Tag, TagTree};
+use asn1_schema_types::{AsnType, Described};
+use asn1_schema_variants::Chosen;
+use asn1_values_numbers::Integer;
+use std::alloc::Global;
+
+/// A message.
+#[derive(Drop)]
+pub enum Message {
+    /// Whether it is so.
+    Flag(bool),
+    /// How many there are.
+    Count(Integer),
+    /// What it is called.
+    Name(String),
+}
+
+const FLAG: Tag = Tag {
+    class: Class::Context,
+    value: 0,
+};
+
+const COUNT: Tag = Tag {
+    class: Class::Context,
+    value: 1,
+};
+
+const NAME: Tag = Tag {
+    class: Class::Context,
+    value: 2,
+};
+
+impl Described for Message {
+    ghost use Rattle.asn1_schema_example_choices.specs.declared.message.Message.TheVariants.{Flag, Count, Name};
+
+    ghost tags = { context 0 ∷ context 1 ∷ context 2 ∷ [] };
+
+    ghost own = { no_constraint };
+
+    ghost under = { λ _. choice_type (record { root = variant (context 0) ⟦<bool as Described>⟧.schema (variant (context 1) ⟦<Integer as Described>⟧.schema no_variant); extensible = true; additions = variant (context 2) ⟦<String as Described>⟧.schema no_variant }) };
+
+    ghost schema = { choice_type (record { root = variant (context 0) ⟦<bool as Described>⟧.schema (variant (context 1) ⟦<Integer as Described>⟧.schema no_variant); extensible = true; additions = variant (context 2) ⟦<String as Described>⟧.schema no_variant }) };
+
+    ghost is_own = { λ _. refl };
+
+    ghost meaning = { elim [ Flag x ↦ chosen_value (record { added = false; place = 0 }) (⟦<bool as Described>⟧.meaning x) | Count x ↦ chosen_value (record { added = false; place = 1 }) (⟦<Integer as Described>⟧.meaning x) | Name x ↦ chosen_value (record { added = true; place = 0 }) (⟦<String as Described>⟧.meaning x) ] };
+
+    ghost typed = { type_choice _ refl (more_variants _ refl ⟦<bool as Described>⟧.typed (more_variants _ refl ⟦<Integer as Described>⟧.typed no_variants)) (more_variants _ refl ⟦<String as Described>⟧.typed no_variants) refl };
+
+    ghost valued = { elim [ Flag x ↦ value_choice _ false 0 (⟦<bool as Described>⟧.valued x) | Count x ↦ value_choice _ false 1 (⟦<Integer as Described>⟧.valued x) | Name x ↦ value_choice _ true 0 (⟦<String as Described>⟧.valued x) ] };
+
+    ghost valued_under = { λ _. elim [ Flag x ↦ value_choice _ false 0 (⟦<bool as Described>⟧.valued x) | Count x ↦ value_choice _ false 1 (⟦<Integer as Described>⟧.valued x) | Name x ↦ value_choice _ true 0 (⟦<String as Described>⟧.valued x) ] };
+}
+
+impl AsnType for Message {
+    const TAG: Tag = Tag::CHOICE;
+
+    const IDENTIFIER: Identifier = Identifier(Some("Message"));
+
+    const IS_CHOICE: bool = true;
+
+    fn tag_tree() -> TagTree<'static> {
+        const TREES: &'static [TagTree<'static>] = &[
+            TagTree::Leaf(FLAG),
+            TagTree::Leaf(COUNT),
+            TagTree::Leaf(NAME),
+        ];
+        TagTree::Choice(TREES)
+    }
+
+    fn constraints() -> Constraints<'static> {
+        Constraints::NONE
+    }
+}
+
+impl Alternatives for Message {
+    ghost table = { record { root = variant (context 0) ⟦<bool as Described>⟧.schema (variant (context 1) ⟦<Integer as Described>⟧.schema no_variant); extensible = true; additions = variant (context 2) ⟦<String as Described>⟧.schema no_variant } };
+
+    fn variants() -> &'static [Tag] {
+        &[FLAG, COUNT]
+    }
+
+    fn extended_variants() -> Option<&'static [Tag]> {
+        Some(&[NAME])
+    }
+
+    ghost is_of = { λ _ _. refl };
+}
+
+impl Choice for Message {
+    ghost use Rattle.asn1_schema_example_choices.specs.declared.message.Message.TheVariants.{Flag, Count, Name};
+
+    ghost place = { elim [ Flag x ↦ record { added = false; place = 0 } | Count x ↦ record { added = false; place = 1 } | Name x ↦ record { added = true; place = 0 } ] };
+
+    ghost inner = { elim [ Flag x ↦ ⟦<bool as Described>⟧.meaning x | Count x ↦ ⟦<Integer as Described>⟧.meaning x | Name x ↦ ⟦<String as Described>⟧.meaning x ] };
+
+    fn chosen(&self) -> Chosen {
+        match self {
+            Message::Flag(_) => Chosen::root(0),
+            Message::Count(_) => Chosen::root(1),
+            Message::Name(_) => Chosen::addition(0),
+        }
+    }
+
+    fn write_chosen<E: Encoder>(&self, encoder: &mut E) -> Result<Tag, EncodeError> {
+        match self {
+            Message::Flag(value) => {
+                value.encode_with_tag(encoder, FLAG)?;
+                Ok(FLAG)
+            }
+            Message::Count(value) => {
+                value.encode_with_tag(encoder, COUNT)?;
+                Ok(COUNT)
+            }
+            Message::Name(value) => {
+                value.encode_with_tag(encoder, NAME)?;
+                Ok(NAME)
+            }
+        }
+    }
+
+    ghost means = { elim [ Flag x ↦ refl | Count x ↦ refl | Name x ↦ refl ] };
+}
+
+impl DecodeChoice for Message {
+    fn from_chosen<D: Decoder>(
+        alloc: Global,
+        decoder: &mut D,
+        chosen: Chosen,
+    ) -> Result<Self, DecodeError> {
+        match (chosen.added, chosen.place) {
+            (false, 0) => {
+                let value = bool::decode_with_tag(alloc, decoder, FLAG)?;
+                Ok(Message::Flag(value))
+            }
+            (false, 1) => {
+                let value = Integer::decode_with_tag(alloc, decoder, COUNT)?;
+                Ok(Message::Count(value))
+            }
+            (true, 0) => {
+                let value = String::decode_with_tag(alloc, decoder, NAME)?;
+                Ok(Message::Name(value))
+            }
+            _ => unreachable!(),
+        }
+    }
+}
+
+impl Encode for Message {
+    fn encode_with_tag_and_constraints<E: Encoder>(
+        &self,
+        encoder: &mut E,
+        tag: Tag,
+        constraints: Constraints,
+    ) -> Result<(), EncodeError> {
+        encoder.encode_choice(tag, constraints, self)
+    }
+}
+
+impl Decode for Message {
+    fn decode_with_tag_and_constraints<D: Decoder>(
+        alloc: Global,
+        decoder: &mut D,
+        tag: Tag,
+        constraints: Constraints,
+    ) -> Result<Self, DecodeError> {
+        decoder.decode_choice(alloc, tag, constraints)
+    }
+}

@@ -1,0 +1,38 @@
+//! What no clause says: that each call can succeed, and in which order components stand.
+use crate::extra::Extra;
+use crate::grouped::Grouped;
+use crate::new::New;
+use crate::octets::octets_of;
+use crate::old::Old;
+use crate::ordered::Ordered;
+use asn1_schema_additions::Group;
+use asn1_schema_constructed::Constructed;
+use std::test::Fail;
+
+#[test]
+fn bags_of_octets_are_equal_in_any_order(rt: HostRuntime) -> Result<(), Fail> {
+    let octets = octets_of(rt.alloc(), &[3, 1, 2])?;
+    assert!(rt; octets == octets_of(rt.alloc(), &[2, 3, 1])?);
+    Ok(())
+}
+
+#[test]
+fn a_group_is_empty_without_its_component(rt: HostRuntime) {
+    assert!(rt; Extra { x: None }.is_empty());
+    assert!(rt; !Extra { x: Some(0) }.is_empty());
+}
+
+#[test]
+fn types_with_a_mark_are_extensible(rt: HostRuntime) {
+    assert!(rt; Old::is_extensible());
+    assert!(rt; New::is_extensible());
+    assert!(rt; Grouped::is_extensible());
+    assert!(rt; !Ordered::is_extensible());
+}
+
+#[test]
+fn components_of_a_set_stand_in_the_order_of_tags(rt: HostRuntime) {
+    let fields = Ordered::fields();
+    assert_eq!(rt; fields.len(), 3);
+    assert!(rt; fields.is_canonical());
+}

@@ -1,0 +1,156 @@
+-- How the decoder of kept records takes them: each exactly where it is next and the program's type holds it.
+use Rattle.std.specs.Prelude.{◌≡◌, ◌+◌, ◌<◌, ◌≤◌, ◌^◌, ◌⊎◌, ◌-◌, ◌&&◌, ◌||◌, ℕ, ℤ, pos, negsuc, Bool, true, false, cond, List, [], ◌∷◌, Option, Some, None, length}
+use Rattle.asn1_model.specs.Schema.{Range, StringKind, utf8}
+use Rattle.asn1_model.specs.Numbers.{is_within, is_count_within}
+use Rattle.asn1_model.specs.Strings.{may_hold}
+use Rattle.asn1_schema_faults.specs.declared.CodecKind.{CodecKind}
+use Rattle.asn1_schema_faults.specs.declared.DecodeError.{DecodeError}
+use Rattle.asn1_schema_faults.specs.declared.DecodeError.TheVariants.{Incomplete, NotValidCanonicalEncoding, SizeConstraintNotSatisfied, ExceedsMaxParseDepth, IntegerOverflow, PermittedAlphabet, ValueConstraintNotSatisfied, DiscriminantValueNotFound, InvalidTagVariantOnChoice, OutOfMemory as NoRoom, AlreadyFailed as HadFailed}
+use Rattle.asn1_schema_bounds.specs.Bounds.{range_of}
+use Rattle.asn1_schema_constraints.specs.Sets.{has_additions}
+use Rattle.asn1_schema_constraints.specs.declared.extensions.Extensible.{Extensible}
+use Rattle.asn1_schema_constraints.specs.declared.parts.Value.{Value}
+use Rattle.asn1_values_alphabets.specs.Permitted.{permits_all}
+use Rattle.asn1_values_natives.specs.Octets.{plain}
+use Rattle.asn1_schema_presented.specs.Records.{Record, Question, question, whole, one_of, bits, octets, characters, list_begins, bag_begins, choice_begins, asks_list, asks_bag, asks_sequence, asks_set, asks_group, asks_choice, asks_end}
+use Rattle.asn1_schema_records.specs.Kept.{any_number, any_count, any_alphabet, kept_kind}
+use Rattle.asn1_schema_variants.specs.Items.{IsPlaced}
+
+-- What a decoder holds: the records that are left, how many more levels may be nested, how many were so at the beginning, whether it has
+-- failed, and its rules.
+pub record Left : Type 0 where
+  pub records : List Record
+  pub levels : ℕ
+  pub most : ℕ
+  pub failed : Bool
+  pub rules : CodecKind
+
+-- A string of the kind may hold these characters. A text of UTF8String is kept as one.
+abbrev pub MayHold : StringKind → List ℕ → Type 0
+MayHold utf8 cs = Unit {0}
+MayHold k cs = may_hold k cs ≡ true
+
+-- The number is that of a root item, or of an added one.
+abbrev pub IsListed : List ℤ → Bool → List ℤ → ℤ → Type 0
+IsListed roots e adds v = (added : Bool) × (i : ℕ) × IsPlaced roots e adds v added i
+
+-- What is kept is this record: the type says the same there, the program's type holds what is found, and bounds without a mark admit it. An
+-- enumeration has the item of the number, and a choice an alternative at the place.
+-- Of a list or bag a decoder is told no count, so any that the type holds will do, if it holds that which is kept.
+abbrev pub IsKept : Record → Record → Type 0
+IsKept k (whole b h v) = (k ≡ whole b any_number v) × (is_within h v ≡ true) × ((b.extensible || is_within b.range v) ≡ true)
+IsKept k (one_of roots e adds v) = (k ≡ one_of [] e [] v) × IsListed roots e adds v
+IsKept k (bits z h bs) = (k ≡ bits z any_count bs) × (is_count_within h (length bs) ≡ true)
+IsKept k (octets z h os) = (k ≡ octets z any_count os) × (is_count_within h (length os) ≡ true)
+IsKept k (characters t z a h cs) = (k ≡ characters (kept_kind t) z any_alphabet any_count cs) × MayHold t cs
+IsKept k (list_begins z h n) = (m : ℕ) × (k ≡ list_begins z any_count m) × (is_count_within h m ≡ true) × (is_count_within h n ≡ true)
+IsKept k (bag_begins z h n) = (m : ℕ) × (k ≡ bag_begins z any_count m) × (is_count_within h m ≡ true) × (is_count_within h n ≡ true)
+IsKept k (choice_begins roots e adds added i) = (k ≡ choice_begins [] e [] added i) × (i < length (cond added adds roots))
+IsKept k r = k ≡ r
+
+-- What the question does to the levels: what begins takes one, and its end gives that back.
+abbrev pub Levels : Question → Left → Left → Type 0
+Levels (asks_list z h) old new = old.levels ≡ new.levels + 1
+Levels (asks_bag z h) old new = old.levels ≡ new.levels + 1
+Levels (asks_sequence e n) old new = old.levels ≡ new.levels + 1
+Levels (asks_set e n) old new = old.levels ≡ new.levels + 1
+Levels (asks_group n) old new = old.levels ≡ new.levels + 1
+Levels (asks_choice r e a) old new = old.levels ≡ new.levels + 1
+Levels asks_end old new = (new.levels ≡ old.levels + 1) × (new.levels ≤ old.most)
+Levels q old new = new.levels ≡ old.levels
+
+-- A record is taken from the front of those that are left, by a decoder that has not failed.
+pub record Takes (old : Left) (r : Record) (new : Left) : Type 0 where
+  pub ready : old.failed ≡ false
+  pub front : Record
+  pub taken : old.records ≡ front ∷ new.records
+  pub is_kept : IsKept front r
+  pub levels : Levels (question r) old new
+  pub most : new.most ≡ old.most
+  pub ready_still : new.failed ≡ false
+  pub rules : new.rules ≡ old.rules
+
+-- What is in front leaves, and nothing else changes.
+pub record Leaves (old : Left) (k : Record) (new : Left) : Type 0 where
+  pub ready : old.failed ≡ false
+  pub taken : old.records ≡ k ∷ new.records
+  pub levels : new.levels ≡ old.levels
+  pub most : new.most ≡ old.most
+  pub ready_still : new.failed ≡ false
+  pub rules : new.rules ≡ old.rules
+
+-- What is in front leaves, and one level is taken.
+pub record Begins (old : Left) (k : Record) (new : Left) : Type 0 where
+  pub ready : old.failed ≡ false
+  pub taken : old.records ≡ k ∷ new.records
+  pub levels : old.levels ≡ new.levels + 1
+  pub most : new.most ≡ old.most
+  pub ready_still : new.failed ≡ false
+  pub rules : new.rules ≡ old.rules
+
+-- It has failed, and nothing else changes.
+abbrev pub Fails : Left → Left → Type 0
+Fails old new = new ≡ record { records = old.records; levels = old.levels; most = old.most; failed = true; rules = old.rules }
+
+-- Why nothing can leave: the decoder has failed, or nothing is left.
+abbrev pub IsSpent : Left → DecodeError → Type 0
+IsSpent old e = ((e ≡ HadFailed) × (old.failed ≡ true)) ⊎ ((e ≡ Incomplete) × (old.failed ≡ false) × (old.records ≡ []))
+
+-- Or no level is left.
+abbrev pub IsDeep : Left → DecodeError → Type 0
+IsDeep old e = ((e ≡ HadFailed) × (old.failed ≡ true)) ⊎ ((e ≡ ExceedsMaxParseDepth) × (old.failed ≡ false) × (old.levels ≡ 0)) ⊎ ((e ≡ Incomplete) × (old.failed ≡ false) × (0 < old.levels) × (old.records ≡ []))
+
+-- Which error comes: an earlier one, `Incomplete` where nothing is left, and else one of these kinds.
+abbrev pub IsRefused : Left → (DecodeError → Type 0) → DecodeError → Type 0
+IsRefused old kinds e = IsSpent old e ⊎ ((old.failed ≡ false) × ((old.records ≡ []) → ⊥) × kinds e)
+
+-- The same where a level is taken, of which none may be left.
+abbrev pub IsRefusedFirst : Left → (DecodeError → Type 0) → DecodeError → Type 0
+IsRefusedFirst old kinds e = IsDeep old e ⊎ ((old.failed ≡ false) × (0 < old.levels) × ((old.records ≡ []) → ⊥) × kinds e)
+
+-- What is next is of another kind.
+abbrev pub IsOtherKind : DecodeError → Type 0
+IsOtherKind e = e ≡ NotValidCanonicalEncoding
+
+-- Or of another size.
+abbrev pub IsMisfit : DecodeError → Type 0
+IsMisfit e = (e ≡ NotValidCanonicalEncoding) ⊎ (e ≡ SizeConstraintNotSatisfied)
+
+-- Or has other characters, or memory is wanting.
+abbrev pub IsMisfitText : DecodeError → Type 0
+IsMisfitText e = (e ≡ NotValidCanonicalEncoding) ⊎ (e ≡ SizeConstraintNotSatisfied) ⊎ (e ≡ PermittedAlphabet) ⊎ (e ≡ NoRoom)
+
+-- Or is another number, or memory is wanting.
+abbrev pub IsMisfitNumber : DecodeError → Type 0
+IsMisfitNumber e = (e ≡ NotValidCanonicalEncoding) ⊎ (e ≡ ValueConstraintNotSatisfied) ⊎ (e ≡ IntegerOverflow) ⊎ (e ≡ NoRoom)
+
+-- Or is the number of no item.
+abbrev pub IsMisfitItem : DecodeError → Type 0
+IsMisfitItem e = (e ≡ NotValidCanonicalEncoding) ⊎ (e ≡ DiscriminantValueNotFound)
+
+-- Or the place of no alternative.
+abbrev pub IsMisfitChoice : DecodeError → Type 0
+IsMisfitChoice e = (e ≡ NotValidCanonicalEncoding) ⊎ (e ≡ InvalidTagVariantOnChoice)
+
+-- The numbers of 128 bits of two's complement.
+abbrev pub wide_range : Range
+wide_range = record { low = Some (negsuc (2 ^ 127 - 1)); high = Some (pos (2 ^ 127 - 1)) }
+
+-- Whether a value constraint, where there is one, admits a number: one of 128 bits, within bounds that have no mark.
+abbrev pub is_admitted : Option (Extensible Value) → ℤ → Bool
+is_admitted None v = true
+is_admitted (Some c) v = is_within wide_range v && (has_additions c || is_within (range_of c.constraint.value) v)
+
+-- Why a number of the program's type is not made: a value constraint does not admit it; the type does not hold it; or it takes memory that
+-- is wanting, which it does past 128 bits alone.
+abbrev pub IsUntaken : Option (Extensible Value) → Range → ℤ → DecodeError → Type 0
+IsUntaken c held v ValueConstraintNotSatisfied = is_admitted c v ≡ false
+IsUntaken c held v IntegerOverflow = (is_admitted c v ≡ true) × (is_within held v ≡ false)
+IsUntaken c held v NoRoom = 2 ^ 128 ≤ plain v
+IsUntaken c held v e = ⊥
+
+-- Why a string of the program's type is not made: it may not hold a character; or memory is wanting.
+abbrev pub IsUnspelled : StringKind → List ℕ → DecodeError → Type 0
+IsUnspelled k cs PermittedAlphabet = permits_all k cs ≡ false
+IsUnspelled k cs NoRoom = permits_all k cs ≡ true
+IsUnspelled k cs e = ⊥

@@ -1,0 +1,9 @@
+//! The plain codec reads: a decoder of kept records.
+#![tactic(auto)]
+
+pub mod decoder;
+
+pub use decoder::RecordDecoder;
+
+#[cfg(test)]
+mod tests;

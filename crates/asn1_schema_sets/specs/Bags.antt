@@ -1,0 +1,8 @@
+-- SET OF (X.680 28).
+use Rattle.std.specs.Prelude.{ℕ}
+use Rattle.asn1_model.specs.Schema.{Schema, Size, Counts, set_of}
+use Rattle.asn1_schema_presented.specs.Tables.{scope}
+
+-- A bag of members of this type, under a size constraint, in a type of the program that holds so many.
+unfoldable pub bag_type : Size → Counts → (ℕ → Schema) → ℕ → Schema
+bag_type z h s n = scope n (λ m. set_of z h (s m))

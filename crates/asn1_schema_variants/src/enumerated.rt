@@ -1,0 +1,151 @@
+//! Enumerations.
+ghost use Rattle.std.specs.Prelude.{◌≡◌, ℕ, ℤ, Bool, true, false, cond, List, length, map, ◌≤◌, MatchOption};
+ghost use Rattle.asn1_model.specs.Schema.{enumerated};
+ghost use Rattle.asn1_model.specs.Tables.{item_place};
+ghost use Rattle.asn1_model.specs.Value.{item};
+ghost use Rattle.asn1_schema_variants.specs.Items.{IsPlaced, IsNone};
+
+use crate::chosen::Chosen;
+use asn1_schema_types::AsnType;
+
+/// ENUMERATED (X.680 20): a type whose values are items, each with a number.
+pub trait Enumerated: AsnType + Copy {
+    /// The numbers of the root items, in ascending order.
+    ghost roots: { List ℤ };
+
+    /// Whether there is a mark of extensibility.
+    ghost extensible: { Bool };
+
+    /// The numbers of the added items, in ascending order.
+    ghost additions: { List ℤ };
+
+    /// The number of an item.
+    ghost number: { Self → ℤ };
+
+    /// The root items, in the ascending order of their numbers.
+    fn variants<'a>() -> &'a [Self]
+    where
+        Self: 'a,
+        ensures { map number result.now ≡ roots };
+
+    /// The added items, in the ascending order of their numbers, or `None` where there is no mark of extensibility.
+    fn extended_variants<'a>() -> Option<&'a [Self]>
+    where
+        Self: 'a,
+        ensures { MatchOption result (extensible ≡ false) (λ xs. (extensible ≡ true) × (map number xs.now ≡ additions)) };
+
+    /// The number of the item.
+    fn discriminant(&self) -> isize
+        ensures { result ≡ number self.now };
+
+    /// The type is that of these items, whatever constraints it has.
+    ghost is_of: { (n : ℕ) → Self.schema n ≡ enumerated roots extensible additions };
+
+    /// A value means its item.
+    ghost means: { (x : Self) → Self.meaning x ≡ item (number x) };
+
+    /// Each value is an item of the type.
+    ghost listed: { (x : Self) → (added : Bool) × (i : ℕ) × IsPlaced roots extensible additions (number x) added i };
+
+    /// How many root items there are.
+    final fn variance() -> usize
+    where
+        Self: Sized,
+        ensures { result ≡ length roots }
+    {
+        Self::variants().len()
+    }
+
+    /// How many added items there are.
+    final fn extended_variance() -> usize
+    where
+        Self: Sized,
+        ensures { result ≡ cond extensible (length additions) 0 }
+    {
+        match Self::extended_variants() {
+            Some(items) => items.len(),
+            None => 0,
+        }
+    }
+
+    /// Where the item stands: in the root or behind the mark of extensibility, and its place there, in the ascending order of the
+    /// numbers (X.691 14.1 and 14.2).
+    final fn item_place(&self) -> Chosen
+    where
+        Self: Sized,
+        ensures { IsPlaced roots extensible additions (number self.now) result.added result.place }
+    {
+        let number = self.discriminant();
+        if let Some(place) = place_of(Self::variants(), number) {
+            return Chosen::root(place);
+        }
+        if let Some(items) = Self::extended_variants() {
+            if let Some(place) = place_of(items, number) {
+                return Chosen::addition(place);
+            }
+        }
+        unreachable!()
+    }
+
+    /// Whether the item stands behind the mark of extensibility.
+    final fn is_extended_variant(&self) -> bool
+    where
+        Self: Sized,
+        ensures { (i : ℕ) × IsPlaced roots extensible additions (number self.now) result i }
+    {
+        self.item_place().added
+    }
+
+    /// The place of the item among those of its table, from 0 on.
+    final fn enumeration_index(&self) -> usize
+    where
+        Self: Sized,
+        ensures { (added : Bool) × IsPlaced roots extensible additions (number self.now) added result }
+    {
+        self.item_place().place
+    }
+
+    /// The root item at a place, if there is one.
+    final fn from_enumeration_index(index: usize) -> Option<Self>
+    where
+        Self: Sized,
+        ensures { MatchOption result (length roots ≤ index) (λ x. IsPlaced roots extensible additions (number x) false index) }
+    {
+        Self::variants().get(index).copied()
+    }
+
+    /// The added item at a place, if there is one.
+    final fn from_extended_enumeration_index(index: usize) -> Option<Self>
+    where
+        Self: Sized,
+        ensures { MatchOption result (extensible ≡ true → length additions ≤ index) (λ x. IsPlaced roots extensible additions (number x) true index) }
+    {
+        Self::extended_variants()?.get(index).copied()
+    }
+
+    /// The item of a number, if there is one.
+    final fn from_discriminant(wanted: isize) -> Option<Self>
+    where
+        Self: Sized,
+        ensures { MatchOption result (IsNone roots extensible additions wanted) (λ x. number x ≡ wanted) }
+    {
+        if let Some(place) = place_of(Self::variants(), wanted) {
+            return Self::variants().get(place).copied();
+        }
+        let items = Self::extended_variants()?;
+        let place = place_of(items, wanted)?;
+        items.get(place).copied()
+    }
+}
+
+/// The place of the first item of a number.
+fn place_of<T: Enumerated>(items: &[T], number: isize) -> Option<usize>
+    ensures { result ≡ item_place number (map T.number items.now) }
+{
+    for (place, item) in items.iter().enumerate() {
+        if item.discriminant() == number {
+            return Some(place);
+        }
+    }
+    None
+}
