@@ -1,12 +1,12 @@
 -- How a record that is asked for is found in front, and why none is.
-use Rattle.std.proofs.Common.{◌≡◌, ℕ, ℤ, zero, ◌+◌, ◌<◌, ◌≤◌, ◌^◌, suc, ltb, Bool, cond, true, false, ◌||◌, ◌&&◌, List, [], ◌∷◌, ◌++◌, length, take, Option, Some, None, Result, Ok, Err, refl, sym, ◌∙◌, ap, subst, arith}
+use Rattle.std.proofs.Common.{◌≡◌, ℕ, ℤ, zero, ◌+◌, ◌<◌, ◌≤◌, ◌^◌, suc, ltb, Bool, cond, true, false, ◌||◌, List, [], ◌∷◌, length, take, Some, Result, Ok, Err, refl, sym, ◌∙◌, ap, subst, arith}
 use Rattle.std.proofs.lemmas.Bool.{and_parts, le-leb, leb-true}
 use Rattle.std.specs.Prelude.{OnOk}
 use Rattle.asn1_schema_levels.specs.Levels.{level}
 use Rattle.asn1_model.specs.Value.{Value, truth, nothing, number, bit_list, octet_list, text, arcs}
 use Rattle.asn1_model.specs.Schema.{Range, Bounds, Counts, Size, Alphabet, StringKind, Schema, boolean, null, integer, bit_string, octet_string, character_string, object_identifier}
 use Rattle.asn1_model.specs.Numbers.{is_within, is_count_to, is_count_within}
-use Rattle.asn1_model.specs.Form.{Reads, only_if, exactly}
+use Rattle.asn1_model.specs.Form.{Reads, only_if}
 use Rattle.asn1_model.specs.Oer
 use Rattle.asn1_laws_fronts.proofs.OerNumbers.{unsigned_alike}
 use Rattle.asn1_schema_decode.specs.Reads.{NoRecord, NoLevel}
@@ -15,7 +15,7 @@ use Rattle.asn1_schema_faults.specs.declared.DecodeError.TheVariants.{OutOfMemor
 use Rattle.asn1_schema_presented.specs.Records.{Record, Question, question, flag, nil, whole, bits, octets, characters, identifier, list_begins, sequence_begins, asks_flag, asks_nil, asks_whole, asks_bits, asks_octets, asks_characters, asks_identifier, asks_list, asks_sequence}
 use Rattle.oer_codec_reading.specs.Fronts.{freedoms, Stands, NoneStands, Misses, NoFront, Front as FrontOf}
 use Rattle.oer_codec_reading.specs.Whole.{count_in}
-use Rattle.oer_codec_fronts.specs.Takes.{Scope, components, members, State, Front, Found, Counted, Begins, preamble_bits, Takes}
+use Rattle.oer_codec_fronts.specs.Takes.{Scope, components, members, State, Front, Found, Counted, Begins, Takes}
 use Rattle.oer_codec_fronts.proofs.Next.{same_fronts}
 use Rattle.oer_codec_decoder.specs.Held.{Held, state_of, Finds, IsReady}
 use Rattle.oer_codec_decoder.specs.Members.{HasMembers, NoMembers}
@@ -136,7 +136,7 @@ asked_sequence free e n a b (sequence_begins d m) k t =
     subst (λ r. Takes free a r b) p t
 asked_sequence free e n a b r k t = cc k
 
-no_beginning : (free : Oer.Freedom → Bool) (e : Bool) (n : ℕ) (a b : State) → Begins free e n a b → ((s : Scope) (rest : List ℕ) → HasPreamble e n s a.0 rest → ⊥) → ⊥
+pub no_beginning : (free : Oer.Freedom → Bool) (e : Bool) (n : ℕ) (a b : State) → Begins free e n a b → ((s : Scope) (rest : List ℕ) → HasPreamble e n s a.0 rest → ⊥) → ⊥
 unfolding Reads
 no_beginning free e n a b t none = none (components t.0 t.1) b.0 (t.2, t.3, (t.4.text, t.4.has_form, t.4.in_front))
 
@@ -162,6 +162,10 @@ no_list old now z h e x same faults m =
           let t = (asked_list (freedoms old.rules) z h (state_of old) (state_of new) r k p.taken).1 in
           n.none (λ y. i (faults ∙ y)) (members t.0) new.octets (t.2, stands t.3);
     }
+
+-- where no number of members is in front none begin
+pub not_counted : (free : Oer.Freedom → Bool) (h : Counts) (n : ℕ) (a b : State) (e : DecodeError) → NoMembers free h a.0 e → ¬ (e ≡ OutOfMemory) → Counted free h n a b → ⊥
+not_counted free h n a b e m i t = m.none i (members t.0) b.0 (t.2, stands t.3)
 
 -- what a number of members is between
 pub between : (h : Counts) (most n : ℕ) → h.high ≡ Some most → is_count_within h n ≡ true → (h.low ≤ n) × (n ≤ most)

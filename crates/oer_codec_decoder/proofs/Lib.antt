@@ -1,2 +1,5 @@
 pub mod Preambles
 pub mod Finding
+pub mod Adding
+pub mod Choosing
+pub mod Records

@@ -1,19 +1,14 @@
 -- Preambles in front of octets.
-use Rattle.std.proofs.Common.{◌≡◌, ℕ, suc, ◌+◌, ◌*◌, ◌/◌, ◌%◌, ◌^◌, ◌<◌, ◌≤◌, Bool, true, false, cond, List, [], ◌∷◌, ◌++◌, length, replicate, Option, Some, None, refl, sym, ◌∙◌, ap, subst, arith}
-use Rattle.std.proofs.Math.Nat.{mod-eq_of_lt}
+use Rattle.std.proofs.Common.{◌≡◌, ℕ, suc, ◌+◌, ◌*◌, ◌/◌, ◌<◌, Bool, false, cond, List, [], ◌∷◌, ◌++◌, length, replicate, Option, Some, None, refl, sym, ◌∙◌, ap, subst, arith}
 use Rattle.std.proofs.lemmas.List.{length-append, length-replicate}
 use Rattle.std.specs.List.{AllByRecursion}
 use Rattle.asn1_laws.proofs.Octets.{packed_back}
-use Rattle.asn1_model.specs.Numbers.{binary, octet_bits, packed, missing}
+use Rattle.asn1_model.specs.Numbers.{octet_bits, packed, missing}
 use Rattle.asn1_model.specs.Form.{is_present}
-use Rattle.asn1_values_bits.proofs.Binary.{low_zeros, length-octet_bits}
+use Rattle.asn1_values_bits.proofs.Binary.{length-octet_bits}
 use Rattle.asn1_values_bits.proofs.Leading.{packed-next}
 use Rattle.oer_codec_fronts.specs.Takes.{Scope, components, preamble_bits}
-use Rattle.oer_codec_decoder.specs.Preamble.{HasBits, FilledBits, HasPreamble}
-
--- a number of no set bit
-pub zero_bits : (w n : ℕ) (bs : List Bool) → n < 2 ^ w → binary w n ≡ bs → bs ≡ replicate w false → n ≡ 0
-zero_bits w n bs h e f = let z : n % 2 ^ w ≡ 0 = low_zeros w n (e ∙ f) in sym (mod-eq_of_lt h) ∙ z
+use Rattle.oer_codec_decoder.specs.Preamble.{HasBits, HasPreamble}
 
 -- beginnings of one length are equal, and what is behind them
 pub fronts_equal : {X : Type 0} (a b r s : List X) → length a ≡ length b → a ++ r ≡ b ++ s → (a ≡ b) × (r ≡ s)

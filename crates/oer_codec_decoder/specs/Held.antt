@@ -1,5 +1,5 @@
 -- What a decoder of the octet encoding rules (X.696) holds, and how each record that it finds changes that.
-use Rattle.std.specs.Prelude.{◌≡◌, ◌<◌, ◌^◌, ℕ, Bool, true, false, List, length, Some}
+use Rattle.std.specs.Prelude.{◌≡◌, ℕ, Bool, true, false, List, Some}
 use Rattle.asn1_schema_faults.specs.declared.CodecKind.{CodecKind}
 use Rattle.asn1_schema_faults.specs.declared.CodecKind.TheVariants.{Oer as OerKind, Coer as CoerKind}
 use Rattle.asn1_schema_presented.specs.Records.{Record}

@@ -1,4 +1,5 @@
 pub mod Scopes
+pub mod Refusals
 pub mod Preamble
 pub mod Members
 pub mod Held

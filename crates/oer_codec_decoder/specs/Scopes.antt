@@ -1,15 +1,28 @@
 -- What has begun and has not ended, as a reader of the octet encoding rules (X.696) holds it.
-use Rattle.std.specs.Prelude.{List, [], ◌∷◌, map, reverse, Option, Some, None}
-use Rattle.oer_codec_fronts.specs.Takes.{Scope, components, members}
+use Rattle.std.specs.Prelude.{◌≡◌, Bool, false, List, [], ◌∷◌, ◌++◌, map, replicate, reverse, Option, Some, None}
+use Rattle.oer_codec_fronts.specs.Takes.{Scope, components, added, open_type, members, alternative}
+use Rattle.oer_codec_decoder.specs.declared.additions.Additions.{Additions}
 use Rattle.oer_codec_decoder.specs.declared.frames.Frame.{Frame}
-use Rattle.oer_codec_decoder.specs.declared.frames.Frame.TheVariants.{Components, Members}
+use Rattle.oer_codec_decoder.specs.declared.frames.Frame.TheVariants.{Components, Added, OpenType, Members, Alternative}
+
+-- The presence bits of the type's additions that are still to come: those past the bitmap are 0.
+abbrev pub bits_due : Additions → List Bool
+bits_due a = a.known.bits ++ replicate a.absent false
 
 -- An open scope.
 abbrev pub scope_of : Frame → Scope
 scope_of (Components x r) = components x r.bits
+scope_of (Added a) = added (bits_due a) a.unknown.bits
+scope_of (OpenType behind) = open_type behind
 scope_of (Members n) = members n
+scope_of Alternative = alternative
 
 -- The open scopes, the innermost first: it stands alone, and those around it in the order in which they began.
 abbrev pub scopes_of : Option Frame → List Frame → List Scope
 scopes_of None fs = []
 scopes_of (Some f) fs = scope_of f ∷ map scope_of (reverse fs)
+
+-- The next presence bit of an addition.
+abbrev pub NextPresent : Bool → List Scope → List Scope → Type 0
+NextPresent v (added (m ∷ ms) us ∷ k) after = (v ≡ m) × (after ≡ added ms us ∷ k)
+NextPresent v k after = ⊥

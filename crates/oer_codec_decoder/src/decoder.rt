@@ -1,8 +1,15 @@
 //! What finds the records of a value in octets.
 ghost use Rattle.std.specs.Prelude.{◌≡◌, ◌+◌, ◌-◌, ◌<◌, ◌≤◌, ◌^◌, [], ◌∷◌, true, false, length, take, OnOk, OnErr, IfErr, IfOk};
-ghost use Rattle.oer_codec_decoder.specs.Held.{Held, Finds, HasFailed, kind_of, IsReady};
+ghost use Rattle.asn1_schema_decode.specs.Reads.{NoRecord};
+ghost use Rattle.asn1_schema_presented.specs.Records.{asks_one_of, one_of};
+ghost use Rattle.oer_codec_decoder.specs.Held.{Held, Finds, HasFailed, kind_of, state_of, IsReady};
+ghost use Rattle.oer_codec_decoder.specs.Refusals.{NotOpened};
 ghost use Rattle.oer_codec_decoder.specs.Scopes.{scope_of};
+ghost use Rattle.oer_codec_fronts.specs.Takes.{Opens};
+ghost use Rattle.oer_codec_reading.specs.Fronts.{freedoms};
 
+use crate::additions::read_additions;
+use crate::choices::read_choice;
 use crate::frames::{Frame, Scopes};
 use crate::members::read_members;
 use crate::preamble::read_preamble;
@@ -10,6 +17,7 @@ use asn1_schema_bounds::Bounded;
 use asn1_schema_constraints::Constraints;
 use asn1_schema_faults::{CodecKind, DecodeError};
 use asn1_schema_tags::Tag;
+use asn1_schema_variants::{Chosen, Enumerated};
 use asn1_values_alphabets::StaticPermittedAlphabet;
 use asn1_values_bit_strings::BitString;
 use asn1_values_identifiers::ObjectIdentifier;
@@ -20,7 +28,9 @@ use oer_codec_reading::integers::read_integer;
 use oer_codec_reading::octet_strings::read_octet_string;
 use oer_codec_reading::units::{read_boolean, read_null};
 use oer_codec_reading::{Cursor, EncodingRules};
+use oer_codec_reading_scopes::enter_open_type;
 use oer_codec_reading_strings::{read_characters, read_utf8_string};
+use oer_codec_reading_tags::read_enumerated;
 use std::alloc::Global;
 use std::borrow::CowSlice;
 use std::marker::Model;
@@ -103,10 +113,28 @@ impl<'input> Decoder<'input> {
         self.levels -= 1;
         Ok(())
     }
+
+    // Opens the scope of an open type (X.696 30), and takes no level for it.
+    fn open_type(&mut self) -> Result<(), DecodeError>
+        ensures opens { OnOk result (Opens (freedoms self.old.rules) self.old.octets self.old.scopes (state_of self.new)) }
+        ensures kept { OnOk result (self.new ≡ record { octets = self.new.octets; scopes = self.new.scopes; levels = self.old.levels; most = self.old.most; failed = self.old.failed; rules = self.old.rules }) }
+        ensures only { IfErr result (NotOpened (freedoms self.old.rules) self.old.octets) }
+        ensures failed { OnErr result (self.new.failed ≡ true) }
+    {
+        match enter_open_type(&mut self.cursor, self.rules) {
+            Ok(behind) => {
+                let Ok(()) = self.scopes.open(Frame::OpenType(behind)) else {
+                    return Err(self.fail(DecodeError::OutOfMemory));
+                };
+                Ok(())
+            }
+            Err(error) => Err(self.fail(error)),
+        }
+    }
 }
 
 impl<'input> asn1_schema_decode::Decoder for Decoder<'input> {
-    ghost use Rattle.oer_codec_decoder.specs.Laws.{finds_one, finds_held, finds_none, finds_same};
+    ghost use Rattle.oer_codec_decoder.specs.Laws.{finds_one, finds_held, finds_bag_held, finds_none, finds_same};
 
     type Octets = CowSlice<'input, u8>;
 
@@ -158,6 +186,20 @@ impl<'input> asn1_schema_decode::Decoder for Decoder<'input> {
         self.begin_record()?;
         match read_integer(alloc, &mut self.cursor, self.rules, constraints) {
             Ok(value) => Ok(value),
+            Err(error) => Err(self.fail(error)),
+        }
+    }
+
+    fn decode_enumerated<T: Enumerated>(&mut self, _tag: Tag) -> Result<T, DecodeError>
+        ensures ok { IfOk result (λ x. Finds self.old (one_of T.roots T.extensible T.additions (T.number x)) self.new) }
+        ensures level { OnOk result (self.new.levels ≡ self.old.levels) }
+        ensures only { IfErr result (NoRecord Finds (asks_one_of T.roots T.extensible T.additions) self.old) }
+        ensures failed { OnErr result (HasFailed self.new) }
+        ensures already { HasFailed self.old → result ≡ Err DecodeError.AlreadyFailed }
+    {
+        self.begin_record()?;
+        match read_enumerated(&mut self.cursor, self.rules) {
+            Ok(item) => Ok(item),
             Err(error) => Err(self.fail(error)),
         }
     }
@@ -244,6 +286,22 @@ impl<'input> asn1_schema_decode::Decoder for Decoder<'input> {
         }
     }
 
+    fn begin_bag(
+        &mut self,
+        _tag: Tag,
+        _constraints: Constraints,
+        held: Bounded<usize>,
+    ) -> Result<(), DecodeError> {
+        self.begin_record()?;
+        if self.levels == 0 {
+            return Err(self.fail(DecodeError::ExceedsMaxParseDepth));
+        }
+        match read_members(&mut self.cursor, self.rules, held) {
+            Ok(frame) => self.enter(frame),
+            Err(error) => Err(self.fail(error)),
+        }
+    }
+
     fn get_further(&mut self) -> Result<bool, DecodeError> {
         self.begin_record()?;
         match self.scopes.next_member() {
@@ -268,6 +326,33 @@ impl<'input> asn1_schema_decode::Decoder for Decoder<'input> {
         }
     }
 
+    fn begin_set(
+        &mut self,
+        _tag: Tag,
+        extensible: bool,
+        optional: usize,
+    ) -> Result<(), DecodeError> {
+        self.begin_record()?;
+        if self.levels == 0 {
+            return Err(self.fail(DecodeError::ExceedsMaxParseDepth));
+        }
+        match read_preamble(&mut self.cursor, extensible, optional) {
+            Ok(frame) => self.enter(frame),
+            Err(error) => Err(self.fail(error)),
+        }
+    }
+
+    fn begin_group(&mut self, optional: usize) -> Result<(), DecodeError> {
+        self.begin_record()?;
+        if self.levels == 0 {
+            return Err(self.fail(DecodeError::ExceedsMaxParseDepth));
+        }
+        match read_preamble(&mut self.cursor, false, optional) {
+            Ok(frame) => self.enter(frame),
+            Err(error) => Err(self.fail(error)),
+        }
+    }
+
     fn get_mark(&mut self) -> Result<bool, DecodeError> {
         self.begin_record()?;
         match self.scopes.next_mark() {
@@ -284,18 +369,86 @@ impl<'input> asn1_schema_decode::Decoder for Decoder<'input> {
         }
     }
 
+    fn note_empty(&mut self) -> Result<(), DecodeError> {
+        self.begin_record()?;
+        if self.rules.is_coer() {
+            return Err(self.fail(DecodeError::NotValidCanonicalEncoding));
+        }
+        Ok(())
+    }
+
+    fn begin_additions(&mut self, count: usize) -> Result<(), DecodeError> {
+        self.begin_record()?;
+        let Some(marked) = self.scopes.mark() else {
+            return Err(self.fail(DecodeError::NotValidCanonicalEncoding));
+        };
+        match read_additions(&mut self.cursor, self.rules, marked, count) {
+            Ok(additions) => {
+                self.scopes.replace(Frame::Added(additions));
+                Ok(())
+            }
+            Err(error) => Err(self.fail(error)),
+        }
+    }
+
+    fn get_addition(&mut self) -> Result<bool, DecodeError> {
+        self.begin_record()?;
+        let Some(present) = self.scopes.next_addition() else {
+            return Err(self.fail(DecodeError::NotValidCanonicalEncoding));
+        };
+        if present {
+            self.open_type()?;
+        }
+        Ok(present)
+    }
+
+    fn end_addition(&mut self) -> Result<(), DecodeError> {
+        self.begin_record()?;
+        match self.scopes.close_addition(&mut self.cursor, self.rules) {
+            Ok(()) => Ok(()),
+            Err(error) => Err(self.fail(error)),
+        }
+    }
+
+    fn begin_choice(
+        &mut self,
+        _tag: Tag,
+        roots: &[Tag],
+        extensible: bool,
+        additions: &[Tag],
+    ) -> Result<Chosen, DecodeError> {
+        self.begin_record()?;
+        if self.levels == 0 {
+            return Err(self.fail(DecodeError::ExceedsMaxParseDepth));
+        }
+        match read_choice(&mut self.cursor, self.rules, roots, extensible, additions) {
+            Ok((chosen, frame)) => {
+                self.enter(frame)?;
+                Ok(chosen)
+            }
+            Err(error) => Err(self.fail(error)),
+        }
+    }
+
     fn end(&mut self) -> Result<(), DecodeError> {
         self.begin_record()?;
-        if self.levels < self.most && self.scopes.close() {
-            self.levels += 1;
-            return Ok(());
+        if self.levels >= self.most {
+            return Err(self.fail(DecodeError::NotValidCanonicalEncoding));
         }
-        Err(self.fail(DecodeError::NotValidCanonicalEncoding))
+        match self.scopes.close(&mut self.cursor, self.rules) {
+            Ok(()) => {
+                self.levels += 1;
+                Ok(())
+            }
+            Err(error) => Err(self.fail(error)),
+        }
     }
 
     ghost one_record = { finds_one };
 
     ghost list_held = { finds_held };
+
+    ghost bag_held = { finds_bag_held };
 
     ghost none_after = { finds_none };
 

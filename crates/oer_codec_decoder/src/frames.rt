@@ -1,20 +1,33 @@
 //! Open scopes.
-ghost use Rattle.std.specs.Prelude.{◌≡◌, ◌∷◌, [], OnOk, IfSome, IfNone, MatchBool};
-ghost use Rattle.oer_codec_fronts.specs.Takes.{NextMark, NextMember, Ends};
-ghost use Rattle.oer_codec_decoder.specs.Scopes.{scope_of};
+ghost use Rattle.std.specs.Prelude.{◌≡◌, ◌∷◌, [], Some, OnOk, IfErr, IfSome, IfNone};
+ghost use Rattle.oer_codec_fronts.specs.Takes.{AdditionEnds, Ends, NextMark, NextMember, components};
+ghost use Rattle.oer_codec_reading.specs.Fronts.{freedoms};
+ghost use Rattle.oer_codec_decoder.specs.Refusals.{NoAdditionEnd, NoEnd};
+ghost use Rattle.oer_codec_decoder.specs.Scopes.{NextPresent, scope_of};
 
+use crate::additions::Additions;
+use crate::endings::finish;
+use asn1_schema_faults::DecodeError;
 use asn1_values_bits::BitReader;
+use oer_codec_reading::{Cursor, EncodingRules};
+use oer_codec_reading_scopes::leave_open_type;
 use std::alloc::{AllocError, Global};
 use std::marker::Model;
 
 /// What has begun and has not ended.
 #[derive(Drop)]
 pub(crate) enum Frame<'input> {
-    /// The components of a sequence (X.696 16): the bit of its mark of extensibility, if it has a mark, and the presence bits that are
-    /// still to come.
+    /// The components of a sequence, set or group (X.696 16): the bit of its mark of extensibility, if it has a mark, and the presence
+    /// bits that are still to come.
     Components(Option<bool>, BitReader<'input>),
-    /// The members of a list (X.696 17): how many are still to come.
+    /// The additions of such a type (X.696 16.4).
+    Added(Additions<'input>),
+    /// An open type (X.696 30): its octets stand alone, and those behind it are these.
+    OpenType(Cursor<'input>),
+    /// The members of a list or bag (X.696 17 and 19): how many are still to come.
     Members(usize),
+    /// An alternative of the root of a choice (X.696 20).
+    Alternative,
 }
 
 /// All that has begun and has not ended: the innermost, and what is around it.
@@ -57,6 +70,29 @@ impl<'input> Scopes<'input> {
         Ok(())
     }
 
+    /// Puts a scope in the place of the innermost.
+    pub(crate) fn replace(&mut self, frame: Frame<'input>)
+        ensures { (s : _) (k : _) → self.old ≡ s ∷ k → self.new ≡ scope_of frame.entry ∷ k }
+    {
+        self.innermost = Some(frame);
+    }
+
+    /// The bit of the mark of the innermost sequence, where all its presence bits are read.
+    pub(crate) fn mark(&self) -> Option<bool>
+        ensures some { IfSome result (λ set. (k : _) × (self.now ≡ components (Some set) [] ∷ k)) }
+        ensures none { IfNone result ((set : _) (k : _) → self.now ≡ components (Some set) [] ∷ k → ⊥) }
+    {
+        match &self.innermost {
+            Some(Frame::Components(Some(set), presence)) => {
+                if presence.is_empty() {
+                    return Some(*set);
+                }
+                None
+            }
+            _ => None,
+        }
+    }
+
     /// The next presence bit of the innermost sequence.
     pub(crate) fn next_mark(&mut self) -> Option<bool>
         ensures some { IfSome result (λ present. (os : _) → NextMark present os self.old (os, self.new)) }
@@ -71,6 +107,17 @@ impl<'input> Scopes<'input> {
                 let _first = presence.split(1);
                 Some(first)
             }
+            _ => None,
+        }
+    }
+
+    /// Whether the next addition of the innermost sequence is there.
+    pub(crate) fn next_addition(&mut self) -> Option<bool>
+        ensures some { IfSome result (λ present. NextPresent present self.old self.new) }
+        ensures none { IfNone result ((present : _) (after : _) → NextPresent present self.old after → ⊥) }
+    {
+        match &mut self.innermost {
+            Some(Frame::Added(additions)) => additions.next(),
             _ => None,
         }
     }
@@ -93,17 +140,39 @@ impl<'input> Scopes<'input> {
     }
 
     /// Closes the innermost scope, if nothing of it is still to come.
-    pub(crate) fn close(&mut self) -> bool
-        ensures { MatchBool result ((free : _) (os : _) → Ends free os self.old (os, self.new)) ((free : _) (os : _) (b : _) → Ends free os self.old b → ⊥) }
+    pub(crate) fn close(
+        &mut self,
+        cursor: &mut Cursor<'input>,
+        rules: EncodingRules,
+    ) -> Result<(), DecodeError>
+        ensures ok { OnOk result (Ends (freedoms rules) cursor.old self.old (cursor.new, self.new)) }
+        ensures only { IfErr result (NoEnd (freedoms rules) cursor.old self.old) }
     {
-        let is_at_end = match &self.innermost {
-            Some(Frame::Components(None, presence)) => presence.is_empty(),
-            Some(Frame::Members(due)) => *due == 0,
-            _ => false,
+        let Some(frame) = self.innermost.take() else {
+            return Err(DecodeError::NotValidCanonicalEncoding);
         };
-        if is_at_end {
-            self.innermost = self.outer.pop();
-        }
-        is_at_end
+        finish(frame, cursor, rules)?;
+        self.innermost = self.outer.pop();
+        Ok(())
+    }
+
+    /// Closes the innermost scope, if it is that of an addition (X.696 30).
+    pub(crate) fn close_addition(
+        &mut self,
+        cursor: &mut Cursor<'input>,
+        rules: EncodingRules,
+    ) -> Result<(), DecodeError>
+        ensures ok { OnOk result (AdditionEnds (freedoms rules) cursor.old self.old (cursor.new, self.new)) }
+        ensures only { IfErr result (NoAdditionEnd (freedoms rules) cursor.old self.old) }
+    {
+        let Some(Frame::OpenType(behind)) = self.innermost.take() else {
+            return Err(DecodeError::NotValidCanonicalEncoding);
+        };
+        let Some(Frame::Added(additions)) = self.outer.pop() else {
+            return Err(DecodeError::NotValidCanonicalEncoding);
+        };
+        leave_open_type(cursor, rules, behind)?;
+        self.innermost = Some(Frame::Added(additions));
+        Ok(())
     }
 }

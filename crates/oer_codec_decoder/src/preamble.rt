@@ -1,5 +1,5 @@
 //! The preamble of a sequence (X.696 16.2).
-ghost use Rattle.std.specs.Prelude.{◌≡◌, ◌+◌, ◌*◌, ◌^◌, ◌<◌, ◌≤◌, [], ◌∷◌, ◌++◌, cond, length, replicate, false, IsTrue, ◌↔◌, IfOk, IfErr};
+ghost use Rattle.std.specs.Prelude.{◌≡◌, ◌+◌, ◌*◌, ◌^◌, ◌<◌, ◌≤◌, [], ◌∷◌, ◌++◌, cond, length, IfOk, IfErr};
 ghost use Rattle.asn1_model.specs.Numbers.{missing};
 ghost use Rattle.oer_codec_decoder.specs.Preamble.{HasBits, HasPreamble};
 ghost use Rattle.oer_codec_decoder.specs.Scopes.{scope_of};
@@ -8,6 +8,7 @@ use crate::frames::Frame;
 use asn1_schema_faults::DecodeError;
 use asn1_values_bits::BitReader;
 use oer_codec_reading::Cursor;
+use oer_codec_reading_scopes::are_zero;
 
 /// How many octets the preamble has, whose bits fill whole octets.
 fn preamble_len(extensible: bool, optional: usize) -> usize
@@ -36,14 +37,6 @@ fn take_presence<'input>(
         Ok(presence) => Frame::Components(mark, presence),
         Err(_) => unreachable!(),
     }
-}
-
-/// Whether no bit is set.
-fn are_zero(bits: &BitReader<'_>) -> bool
-    requires { length bits.now.bits < 8 }
-    ensures { IsTrue result ↔ (bits.now.bits ≡ replicate (length bits.now.bits) false) }
-{
-    bits.first_bits(bits.len() as u32) == 0
 }
 
 /// Reads the preamble of a sequence, with or without a mark of extensibility, of which so many components may be absent: the bit of the

@@ -1,8 +1,7 @@
-pub mod LengthTexts
 pub mod Scopes
+pub mod AdditionScopes
+pub mod AlternativeScopes
+pub mod BagScopes
+pub mod EndScopes
+pub mod SlotTexts
 pub mod Stepped
-pub mod ScalarTexts
-pub mod IntegerTexts
-pub mod BitTexts
-pub mod CharacterTexts
-pub mod TextTexts

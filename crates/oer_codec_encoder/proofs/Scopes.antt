@@ -9,15 +9,15 @@ use Rattle.asn1_values_bits.specs.Octets.{filled_up}
 use Rattle.asn1_values_bits.proofs.Binary.{octet_bits-append, length-octet_bits}
 use Rattle.asn1_values_bits.proofs.Change.{kept_changed}
 use Rattle.asn1_values_bits.proofs.Packed.{packed-octet_bits}
-use Rattle.asn1_schema_presented.specs.Records.{sequence_begins, mark, ends, further, list_begins}
+use Rattle.asn1_schema_presented.specs.Records.{Record, sequence_begins, mark, ends, further, list_begins}
 use Rattle.asn1_model.specs.Form.{written, exactly, only_if}
 use Rattle.asn1_model.specs.Oer
 use Rattle.asn1_model.specs.Schema.{Size, Counts}
-use Rattle.oer_codec_steps.specs.Steps.{components, members, State, run, adds_text}
+use Rattle.oer_codec_steps.specs.Steps.{Scope, components, added, open_type, members, bag_members, alternative, State, run, adds_text}
 use Rattle.oer_codec_encoder.specs.declared.frames.Frame.{Frame}
-use Rattle.oer_codec_encoder.specs.declared.frames.Frame.TheVariants.{Components, Members}
-use Rattle.oer_codec_encoder.specs.Holding.{presence, shown, IsOpen, Holds, AreSound, Does}
-use Rattle.oer_codec_encoder.specs.Writing.{Adds}
+use Rattle.oer_codec_encoder.specs.declared.frames.Frame.TheVariants.{Components, Added, OpenType, Members, Bag, Alternative}
+use Rattle.oer_codec_encoder.specs.Holding.{presence, given_bits, slot_texts, member_texts, shown, IsOpen, Holds, AreSound, Does}
+use Rattle.oer_codec_writing.specs.Writing.{Adds}
 
 -- ---- what is shown is what they stand for
 
@@ -34,9 +34,9 @@ same_open e due i j m n t u a b c =
     ap (λ x. let l : State = (x, components e due m t.0 ∷ t.1) in l) a
     ∙ (ap (λ x. let l : State = (j, components e due x t.0 ∷ t.1) in l) b ∙ ap (λ (x : State). let l : State = (j, components e due n x.0 ∷ x.1) in l) c)
 
-pub shown_is : (fs : List Frame) (o : List ℕ) (s : State) → Holds fs o s → shown fs o ≡ s
-shown_is [] o s h = sym h
-shown_is (Components e due given start content ∷ fs) o s h =
+-- the octets in front of an open sequence, those behind its preamble, and its presence bits
+parts : {below : List ℕ → State → Type 0} (e : Bool) (due given start content : ℕ) (o : List ℕ) (s : State) → (h : IsOpen below e due given start content o s) → (take start o ≡ h.front) × (drop content o ≡ h.inner) × (given_bits e given start o ≡ h.marks)
+parts e due given start content o s h =
     let front : take start o ≡ h.front = ap (take start) h.text ∙ take_at h.front (h.preamble ++ h.inner) start h.starts in
     let behind : drop start o ≡ h.preamble ++ h.inner = ap (drop start) h.text ∙ drop_at h.front (h.preamble ++ h.inner) start h.starts in
     let whole : o ≡ (h.front ++ h.preamble) ++ h.inner = h.text ∙ sym (append_assoc h.front h.preamble h.inner) in
@@ -48,8 +48,23 @@ shown_is (Components e due given start content ∷ fs) o s h =
     ap octet_bits behind ∙ octet_bits-append h.preamble h.inner ∙ ap (λ l. l ++ octet_bits h.inner) (h.bits ∙ presence_behind e h.marks zeros fill)
     ∙ append_assoc (presence e h.marks) (zeros ++ fill) (octet_bits h.inner) in
     let marks = ap (λ l. take given (drop (length (presence e [])) l)) all ∙ presence_bits e h.marks ((zeros ++ fill) ++ octet_bits h.inner) given h.told in
-    let below = shown_is fs h.front h.outer h.under in
-    same_open e due _ h.inner _ h.marks _ h.outer inner marks (ap (shown fs) front ∙ below) ∙ sym h.is
+    (front, inner, marks)
+
+pub shown_is : (fs : List Frame) (o : List ℕ) (s : State) → Holds fs o s → shown fs o ≡ s
+shown_is [] o s h = sym h
+shown_is (Components e due given start content ∷ fs) o s h =
+    let x = parts e due given start content o s h in
+    same_open e due _ h.inner _ h.marks _ h.outer x.1 x.2 (ap (shown fs) x.0 ∙ shown_is fs h.front h.outer h.under) ∙ sym h.is
+shown_is (Added due given start content outer slots ∷ fs) o s h =
+    let i = h.1 in
+    let x = parts true 0 given start content outer.items h.0 i in
+    let below = ap (shown fs) x.0 ∙ shown_is fs i.front i.outer i.under in
+    ap (λ m. let l : State = (o, added due m (drop content outer.items) (slot_texts slots.items) (shown fs (take start outer.items)).0 ∷ (shown fs (take start outer.items)).1) in l) x.2
+    ∙ ap (λ r. let l : State = (o, added due i.marks r (slot_texts slots.items) (shown fs (take start outer.items)).0 ∷ (shown fs (take start outer.items)).1) in l) x.1
+    ∙ ap (λ (t : State). let l : State = (o, added due i.marks i.inner (slot_texts slots.items) t.0 ∷ t.1) in l) below ∙ sym h.2
+shown_is (OpenType outer ∷ fs) o s h = ap (λ (t : State). let l : State = (o, open_type t.0 ∷ t.1) in l) (shown_is fs outer.items h.0 h.2) ∙ sym h.1
+shown_is (Bag due outer ms ∷ fs) o s h = ap (λ (t : State). let l : State = (o, bag_members due (member_texts ms) t.0 ∷ t.1) in l) (shown_is fs outer.items h.0 h.2) ∙ sym h.1
+shown_is (Alternative ∷ fs) o s h = ap (λ (t : State). let l : State = (t.0, alternative ∷ t.1) in l) (shown_is fs o h.0 h.2) ∙ sym h.1
 shown_is (Members due ∷ fs) o s h = ap (λ (t : State). let l : State = (t.0, members due ∷ t.1) in l) (shown_is fs o h.0 h.2) ∙ sym h.1
 
 -- ---- octets behind those that stand there
@@ -72,6 +87,10 @@ appended (Components e due given start content ∷ fs) o s w h = record {
   under = h.under;
   is = ap (λ (t : State). let l : State = (t.0 ++ w, t.1) in l) h.is;
 }
+appended (Added due given start content outer slots ∷ fs) o s w h = (h.0, h.1, ap (λ (t : State). let l : State = (t.0 ++ w, t.1) in l) h.2)
+appended (OpenType outer ∷ fs) o s w h = (h.0, ap (λ (t : State). let l : State = (t.0 ++ w, t.1) in l) h.1, h.2)
+appended (Bag due outer ms ∷ fs) o s w h = (h.0, ap (λ (t : State). let l : State = (t.0 ++ w, t.1) in l) h.1, h.2)
+appended (Alternative ∷ fs) o s w h = ((h.0.0 ++ w, h.0.1), ap (λ (t : State). let l : State = (t.0 ++ w, t.1) in l) h.1, appended fs o h.0 w h.2)
 appended (Members due ∷ fs) o s w h = ((h.0.0 ++ w, h.0.1), ap (λ (t : State). let l : State = (t.0 ++ w, t.1) in l) h.1, appended fs o h.0 w h.2)
 
 -- ---- the innermost frame is the last
@@ -153,12 +172,12 @@ length-presence : (e : Bool) (ms : List Bool) → length (presence e ms) ≡ len
 length-presence true ms = omega arith
 length-presence false ms = omega arith
 
-get_or_any : (xs : List ℕ) (i : ℕ) → i < length xs → get_or xs i 0 ≡ get_or xs i (get_or xs i 0)
+pub get_or_any : (xs : List ℕ) (i : ℕ) → i < length xs → get_or xs i 0 ≡ get_or xs i (get_or xs i 0)
 get_or_any [] i h = absurd (omega arith)
 get_or_any (x ∷ xs) zero h = refl
 get_or_any (x ∷ xs) (suc i) h = get_or_any xs i (omega arith)
 
-set_small : (os : List ℕ) (q x : ℕ) → x < 256 → q < length os → ((k : ℕ) → k < length os → get_or os k 0 < 256) → (k : ℕ) → k < length (set os q x) → get_or (set os q x) k 0 < 256
+pub set_small : (os : List ℕ) (q x : ℕ) → x < 256 → q < length os → ((k : ℕ) → k < length os → get_or os k 0 < 256) → (k : ℕ) → k < length (set os q x) → get_or (set os q x) k 0 < 256
 set_small os q x h l s k m = elim (cases_eq k q) [
   | inl e ↦ let a : get_or (set os q x) k 0 ≡ x = ap (λ j. get_or (set os q x) j 0) e ∙ get_or-set_same os q x 0 l in omega (arith, a)
   | inr ne ↦ let a = get_or-set_other os q k x 0 ne in let b = s k (omega (arith, length-set os q x)) in omega (arith, a, b)
@@ -235,10 +254,10 @@ module _ (below : List ℕ → State → Type 0) (e : Bool) (d given start conte
 
 -- ---- the frame on top
 
-on_top : (fs rest : List Frame) (f g : Frame) (o : List ℕ) (s : State) → fs ≡ rest ++ f ∷ [] → f ≡ g → Holds (reverse fs) o s → Holds (g ∷ reverse rest) o s
+pub on_top : (fs rest : List Frame) (f g : Frame) (o : List ℕ) (s : State) → fs ≡ rest ++ f ∷ [] → f ≡ g → Holds (reverse fs) o s → Holds (g ∷ reverse rest) o s
 on_top fs rest f g o s a b h = subst (λ x. Holds (x ∷ reverse rest) o s) b (subst (λ l. Holds l o s) (turned rest fs f a) h)
 
-put_back : (rest gs : List Frame) (g : Frame) (o : List ℕ) (s : State) → gs ≡ rest ++ g ∷ [] → Holds (g ∷ reverse rest) o s → Holds (reverse gs) o s
+pub put_back : (rest gs : List Frame) (g : Frame) (o : List ℕ) (s : State) → gs ≡ rest ++ g ∷ [] → Holds (g ∷ reverse rest) o s → Holds (reverse gs) o s
 put_back rest gs g o s a h = subst (λ l. Holds l o s) (sym (turned rest gs g a)) h
 
 pub does_mark_absent : (fs rest gs : List Frame) (f : Frame) (e : Bool) (due given start content : ℕ) (o : List ℕ) → fs ≡ rest ++ f ∷ [] → f ≡ Components e due given start content → 0 < due → gs ≡ rest ++ Components e (due - 1) (given + 1) start content ∷ [] → Does (mark false) fs o gs o
@@ -284,7 +303,7 @@ does_no_further fs rest gs f due o a b n c = record { after = λ s h. go s (on_t
     go : (s : State) → Holds (Members 0 ∷ reverse rest) o s → (t : State) × (run (further false) s ≡ Some t) × Holds (reverse gs) o t
     go s h = ((h.0.0, members 0 ∷ h.0.1), ap (run (further false)) h.1, put_back rest gs _ o _ c (h.0, refl, h.2))
 
-closed_text : (p : List ℕ) (bs : List Bool) → octet_bits p ≡ filled_up bs → ((k : ℕ) → k < length p → get_or p k 0 < 256) → packed (filled_up bs) ≡ p
+pub closed_text : (p : List ℕ) (bs : List Bool) → octet_bits p ≡ filled_up bs → ((k : ℕ) → k < length p → get_or p k 0 < 256) → packed (filled_up bs) ≡ p
 closed_text p bs e h = ap packed (sym e) ∙ packed-octet_bits p h
 
 sequence_text : (ms : List Bool) (os : List ℕ) → written (Oer.sequence_form false ms (exactly os) []) 0 ≡ Some (packed (filled_up ms) ++ os)
@@ -337,11 +356,11 @@ byte_of false = refl
 pub with_mark_byte : (given n : ℕ) (e : Bool) → n ≡ bool_byte e → given + n ≡ given + cond e 1 0
 with_mark_byte given n e h = ap (λ k. given + k) (h ∙ byte_of e)
 
-agree_true : (x : Bool) → not (beq true x) ≡ false → x ≡ true
+pub agree_true : (x : Bool) → not (beq true x) ≡ false → x ≡ true
 agree_true true h = refl
 agree_true false h = cc
 
-agree_false : (x : Bool) → not (beq false x) ≡ false → x ≡ false
+pub agree_false : (x : Bool) → not (beq false x) ≡ false → x ≡ false
 agree_false true h = cc
 agree_false false h = refl
 
@@ -359,4 +378,21 @@ no_begin_members fs o z h n k s d = ap (λ (b : Bool). option_map (λ w. let v :
 pub nothing_open : (fs : List Frame) (o : List ℕ) (s : State) → Holds fs o s → s.1 ≡ [] → o ≡ s.0
 nothing_open [] o s h e = sym (ap (λ (t : State). t.0) h)
 nothing_open (Components e due given start content ∷ fs) o s h n = let p = ap (λ (t : State). t.1) h.is in cc
+nothing_open (Added due given start content outer slots ∷ fs) o s h n = let p = ap (λ (t : State). t.1) h.2 in cc
+nothing_open (OpenType outer ∷ fs) o s h n = let p = ap (λ (t : State). t.1) h.1 in cc
+nothing_open (Bag due outer ms ∷ fs) o s h n = let p = ap (λ (t : State). t.1) h.1 in cc
+nothing_open (Alternative ∷ fs) o s h n = let p = ap (λ (t : State). t.1) h.1 in cc
 nothing_open (Members due ∷ fs) o s h n = let p = ap (λ (t : State). t.1) h.1 in cc
+
+-- ---- sequences, sets and groups begin alike
+
+pub does_same : (r q : Record) (fs gs : List Frame) (o p : List ℕ) → ((s : State) → run q s ≡ run r s) → Does r fs o gs p → Does q fs o gs p
+does_same r q fs gs o p e d = record { after = λ s h. let t = d.after s h in (t.0, e s ∙ t.1, t.2) }
+
+-- ---- what stands on top
+
+pub none_on_top : (r : Record) (fs rest : List Frame) (f : Frame) (o : List ℕ) → fs ≡ rest ++ f ∷ [] → ((s : State) → Holds (f ∷ reverse rest) o s → run r s ≡ None) → (s : State) → Holds (reverse fs) o s → run r s ≡ None
+none_on_top r fs rest f o e h s k = h s (subst (λ l. Holds l o s) (turned rest fs f e) k)
+
+pub scope_on_top : (r : Record) (s : State) (os : List ℕ) (c : Scope) (k : List Scope) → s ≡ (os, c ∷ k) → run r (os, c ∷ k) ≡ None → run r s ≡ None
+scope_on_top r s os c k e h = ap (run r) e ∙ h

@@ -8,7 +8,7 @@ use Rattle.oer_codec_steps.specs.Steps.{State, run, adds_text}
 use Rattle.oer_codec_encoder.specs.declared.frames.Frame.{Frame}
 use Rattle.oer_codec_encoder.specs.Holding.{shown, Holds, AreSound, Does, Cannot}
 use Rattle.oer_codec_encoder.specs.Stepping.{Written, Puts}
-use Rattle.oer_codec_encoder.specs.Writing.{Adds, Refuses}
+use Rattle.oer_codec_writing.specs.Writing.{Adds, Refuses}
 use Rattle.oer_codec_encoder.proofs.Scopes.{shown_is, appended}
 
 -- what the octets and the frames stand for

@@ -1,28 +1,52 @@
 -- How the octets and the frames of an encoder stand for what a writer holds. The frames are given the innermost first.
-use Rattle.std.specs.Prelude.{◌≡◌, ℕ, ◌+◌, ◌^◌, ◌<◌, Bool, true, false, List, [], ◌∷◌, ◌++◌, length, take, drop, replicate, reverse, Some, None, slice_index}
+use Rattle.std.specs.Prelude.{◌≡◌, ℕ, ◌+◌, ◌^◌, ◌<◌, Bool, true, false, List, [], ◌∷◌, ◌++◌, length, map, take, drop, replicate, reverse, Option, Some, None, option_map, slice_index, Vec}
 use Rattle.asn1_model.specs.Numbers.{octet_bits}
 use Rattle.asn1_values_bits.specs.Octets.{filled_up}
 use Rattle.asn1_schema_faults.specs.declared.EncodeError.{EncodeError}
 use Rattle.asn1_schema_faults.specs.declared.EncodeError.TheVariants.{OutOfMemory}
 use Rattle.asn1_schema_presented.specs.Records.{Record}
-use Rattle.oer_codec_steps.specs.Steps.{components, members, State, run}
+use Rattle.oer_codec_steps.specs.Steps.{components, added, open_type, members, bag_members, alternative, State, run}
 use Rattle.oer_codec_encoder.specs.declared.frames.Frame.{Frame}
-use Rattle.oer_codec_encoder.specs.declared.frames.Frame.TheVariants.{Components, Members}
+use Rattle.oer_codec_encoder.specs.declared.frames.Frame.TheVariants.{Components, Added, OpenType, Members, Bag, Alternative}
 
 -- The bits of a preamble: the mark of extensibility, which is not set, where there is one, and the presence bits.
 abbrev pub presence : Bool → List Bool → List Bool
 presence true ms = false ∷ ms
 presence false ms = ms
 
+-- The octets of each addition, behind their number, where it is there.
+abbrev pub slot_texts : {Z : Type 0} → List (Option (Vec ℕ Z)) → List (Option (List ℕ))
+slot_texts slots = map (λ o. option_map (λ v. v.items) o) slots
+
+-- The octets of each member of a bag in front of the open one, if one is open.
+abbrev pub member_texts : {Z : Type 0} → Option (Vec (Vec ℕ Z) Z) → Option (List (List ℕ))
+member_texts held = option_map (λ ms. map (λ v. v.items) ms.items) held
+
+-- The presence bits that were given, behind the mark of extensibility, where there is one.
+abbrev pub given_bits : Bool → ℕ → ℕ → List ℕ → List Bool
+given_bits e given start o = take given (drop (length (presence e [])) (octet_bits (drop start o)))
+
 -- What the octets and the frames show.
 abbrev pub shown : List Frame → List ℕ → State
 shown [] o = (o, [])
 shown (Components e due given start content ∷ fs) o =
     let below = shown fs (take start o) in
-    (drop content o, components e due (take given (drop (length (presence e [])) (octet_bits (drop start o)))) below.0 ∷ below.1)
+    (drop content o, components e due (given_bits e given start o) below.0 ∷ below.1)
+shown (Added due given start content outer slots ∷ fs) o =
+    let below = shown fs (take start outer.items) in
+    (o, added due (given_bits true given start outer.items) (drop content outer.items) (slot_texts slots.items) below.0 ∷ below.1)
+shown (OpenType outer ∷ fs) o =
+    let below = shown fs outer.items in
+    (o, open_type below.0 ∷ below.1)
 shown (Members due ∷ fs) o =
     let below = shown fs o in
     (below.0, members due ∷ below.1)
+shown (Bag due outer ms ∷ fs) o =
+    let below = shown fs outer.items in
+    (o, bag_members due (member_texts ms) below.0 ∷ below.1)
+shown (Alternative ∷ fs) o =
+    let below = shown fs o in
+    (below.0, alternative ∷ below.1)
 
 -- The octets are those in front of an open sequence, its preamble, in which the bits that are due are not set, and those behind it.
 pub record IsOpen (below : List ℕ → State → Type 0) (e : Bool) (due given start content : ℕ) (o : List ℕ) (s : State) : Type 0 where
@@ -45,7 +69,11 @@ pub record IsOpen (below : List ℕ → State → Type 0) (e : Bool) (due given 
 abbrev pub Holds : List Frame → List ℕ → State → Type 0
 Holds [] o s = s ≡ (o, [])
 Holds (Components e due given start content ∷ fs) o s = IsOpen (λ p t. Holds fs p t) e due given start content o s
-Holds (Members due ∷ fs) o s = (outer : State) × (s ≡ (outer.0, members due ∷ outer.1)) × Holds fs o outer
+Holds (Added due given start content outer slots ∷ fs) o s = (root : State) × (h : IsOpen (λ p t. Holds fs p t) true 0 given start content outer.items root) × (s ≡ (o, added due h.marks h.inner (slot_texts slots.items) h.outer.0 ∷ h.outer.1))
+Holds (OpenType outer ∷ fs) o s = (below : State) × (s ≡ (o, open_type below.0 ∷ below.1)) × Holds fs outer.items below
+Holds (Members due ∷ fs) o s = (below : State) × (s ≡ (below.0, members due ∷ below.1)) × Holds fs o below
+Holds (Bag due outer ms ∷ fs) o s = (below : State) × (s ≡ (o, bag_members due (member_texts ms) below.0 ∷ below.1)) × Holds fs outer.items below
+Holds (Alternative ∷ fs) o s = (below : State) × (s ≡ (below.0, alternative ∷ below.1)) × Holds fs o below
 
 -- The octets and the frames, of which the innermost is the last, stand for some state.
 pub record AreSound (fs : List Frame) (o : List ℕ) : Type 0 where

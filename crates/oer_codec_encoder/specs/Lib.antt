@@ -1,4 +1,4 @@
-pub mod Writing
 pub mod Holding
+pub mod Slots
 pub mod Stepping
 pub mod Laws

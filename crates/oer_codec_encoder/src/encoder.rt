@@ -1,23 +1,28 @@
 //! The encoder.
 ghost use Rattle.std.specs.Prelude.{◌≡◌, OnOk, OnErr, IfErr, [], true, false};
+ghost use Rattle.asn1_schema_encode.specs.Writes.{Refused};
+ghost use Rattle.asn1_schema_presented.specs.Records.{one_of};
 ghost use Rattle.oer_codec_encoder.specs.Stepping.{Puts};
 
-use crate::bits::push_bit_string;
-use crate::frames::{Frame, begin_components, begin_members, end_scope, put_further, put_mark};
-use crate::identifiers::push_identifier;
-use crate::integers::push_integer;
+use crate::additions::{begin_additions, end_addition, put_addition};
+use crate::alternatives::begin_choice;
+use crate::bags::begin_bag;
+use crate::ends::{end_scope, put_further};
+use crate::frames::{Frame, begin_components, begin_members, put_mark};
 use crate::options::EncoderOptions;
-use crate::scalars::push_boolean;
-use crate::sizes::push_octet_string;
-use crate::strings::{push_characters, push_utf8};
 use asn1_schema_bounds::Bounded;
 use asn1_schema_constraints::Constraints;
 use asn1_schema_faults::{CodecKind, EncodeError};
 use asn1_schema_tags::{Identifier, Tag};
+use asn1_schema_variants::{Chosen, Enumerated};
 use asn1_values_alphabets::StaticPermittedAlphabet;
 use asn1_values_bits::BitStr;
 use asn1_values_identifiers::Oid;
 use asn1_values_integer_types::IntegerType;
+use oer_codec_writing::{
+    push_bit_string, push_boolean, push_characters, push_enumerated, push_identifier, push_integer,
+    push_octet_string, push_utf8,
+};
 use std::alloc::Global;
 use std::marker::Model;
 use std::mem;
@@ -123,6 +128,26 @@ impl<'buffer> asn1_schema_encode::Encoder for Encoder<'buffer> {
         Ok(())
     }
 
+    fn encode_enumerated<T: Enumerated>(
+        &mut self,
+        _tag: Tag,
+        value: &T,
+        _identifier: Identifier,
+    ) -> Result<(), EncodeError>
+        ensures ok { OnOk result (Puts self.old (one_of T.roots T.extensible T.additions (T.number value.now)) self.new) }
+        ensures only { IfErr result (Refused Puts (one_of T.roots T.extensible T.additions (T.number value.now)) self.old) }
+        ensures failed { OnErr result (self.new.failed ≡ true) }
+        ensures already { self.old.failed ≡ true → result ≡ Err EncodeError.AlreadyFailed }
+    {
+        if self.failed {
+            return Err(EncodeError::AlreadyFailed);
+        }
+        self.failed = true;
+        push_enumerated(self.output, value)?;
+        self.failed = false;
+        Ok(())
+    }
+
     fn encode_bit_string(
         &mut self,
         _tag: Tag,
@@ -220,12 +245,35 @@ impl<'buffer> asn1_schema_encode::Encoder for Encoder<'buffer> {
         Ok(())
     }
 
+    fn begin_bag(
+        &mut self,
+        _tag: Tag,
+        constraints: Constraints,
+        held: Bounded<usize>,
+        count: usize,
+    ) -> Result<(), EncodeError> {
+        if self.failed {
+            return Err(EncodeError::AlreadyFailed);
+        }
+        self.failed = true;
+        begin_bag(
+            self.output,
+            &mut self.frames,
+            self.alloc,
+            constraints,
+            held,
+            count,
+        )?;
+        self.failed = false;
+        Ok(())
+    }
+
     fn put_further(&mut self, more: bool) -> Result<(), EncodeError> {
         if self.failed {
             return Err(EncodeError::AlreadyFailed);
         }
         self.failed = true;
-        put_further(&mut self.frames, more)?;
+        put_further(self.output, &mut self.frames, self.alloc, more)?;
         self.failed = false;
         Ok(())
     }
@@ -245,6 +293,31 @@ impl<'buffer> asn1_schema_encode::Encoder for Encoder<'buffer> {
         Ok(())
     }
 
+    fn begin_set(
+        &mut self,
+        _tag: Tag,
+        extensible: bool,
+        optional: usize,
+    ) -> Result<(), EncodeError> {
+        if self.failed {
+            return Err(EncodeError::AlreadyFailed);
+        }
+        self.failed = true;
+        begin_components(self.output, &mut self.frames, extensible, optional)?;
+        self.failed = false;
+        Ok(())
+    }
+
+    fn begin_group(&mut self, optional: usize) -> Result<(), EncodeError> {
+        if self.failed {
+            return Err(EncodeError::AlreadyFailed);
+        }
+        self.failed = true;
+        begin_components(self.output, &mut self.frames, false, optional)?;
+        self.failed = false;
+        Ok(())
+    }
+
     fn put_mark(&mut self, present: bool) -> Result<(), EncodeError> {
         if self.failed {
             return Err(EncodeError::AlreadyFailed);
@@ -255,12 +328,67 @@ impl<'buffer> asn1_schema_encode::Encoder for Encoder<'buffer> {
         Ok(())
     }
 
+    fn begin_additions(&mut self, count: usize) -> Result<(), EncodeError> {
+        if self.failed {
+            return Err(EncodeError::AlreadyFailed);
+        }
+        self.failed = true;
+        begin_additions(self.output, &mut self.frames, self.alloc, count)?;
+        self.failed = false;
+        Ok(())
+    }
+
+    fn put_addition(&mut self, present: bool) -> Result<(), EncodeError> {
+        if self.failed {
+            return Err(EncodeError::AlreadyFailed);
+        }
+        self.failed = true;
+        put_addition(self.output, &mut self.frames, self.alloc, present)?;
+        self.failed = false;
+        Ok(())
+    }
+
+    fn end_addition(&mut self) -> Result<(), EncodeError> {
+        if self.failed {
+            return Err(EncodeError::AlreadyFailed);
+        }
+        self.failed = true;
+        end_addition(self.output, &mut self.frames, self.alloc)?;
+        self.failed = false;
+        Ok(())
+    }
+
+    fn begin_choice(
+        &mut self,
+        _tag: Tag,
+        roots: &[Tag],
+        extensible: bool,
+        additions: &[Tag],
+        chosen: Chosen,
+    ) -> Result<(), EncodeError> {
+        if self.failed {
+            return Err(EncodeError::AlreadyFailed);
+        }
+        self.failed = true;
+        begin_choice(
+            self.output,
+            &mut self.frames,
+            self.alloc,
+            roots,
+            extensible,
+            additions,
+            chosen,
+        )?;
+        self.failed = false;
+        Ok(())
+    }
+
     fn end(&mut self) -> Result<(), EncodeError> {
         if self.failed {
             return Err(EncodeError::AlreadyFailed);
         }
         self.failed = true;
-        end_scope(&mut self.frames)?;
+        end_scope(self.output, &mut self.frames, self.alloc)?;
         self.failed = false;
         Ok(())
     }

@@ -1,20 +1,20 @@
-//! What is open: sequences, with the places of their preambles, and lists.
+//! What is open, and sequences, sets, groups and lists, which begin.
 ghost use Rattle.std.specs.Prelude.{◌≡◌, ℕ, List, ◌+◌, ◌*◌, ◌/◌, ◌%◌, ◌<◌, ◌++◌, ◌∷◌, [], cond, replicate, MatchResult, vec_len, true, slice_set, slice_index};
 ghost use Rattle.asn1_model.specs.Numbers.{binary, missing};
-ghost use Rattle.asn1_schema_presented.specs.Records.{sequence_begins, mark, further, list_begins, ends};
+ghost use Rattle.asn1_schema_presented.specs.Records.{sequence_begins, mark, list_begins};
 ghost use Rattle.asn1_schema_bounds.specs.Bounds.{members_of};
 ghost use Rattle.asn1_schema_constraints.specs.Terms.{sizes_of};
 ghost use Rattle.oer_codec_encoder.specs.Holding.{AreSound, Does, Cannot};
 
-use crate::lengths::push_count;
 use asn1_schema_bounds::Bounded;
 use asn1_schema_constraints::Constraints;
 use asn1_schema_faults::EncodeError;
+use oer_codec_writing::push_count;
 
 /// What is open.
-#[derive(Clone, Copy)]
+#[derive(Drop)]
 pub(crate) enum Frame {
-    /// A sequence.
+    /// A sequence, a set, or a group of additions.
     Components {
         /// Whether it has a mark of extensibility.
         extensible: bool,
@@ -27,11 +27,42 @@ pub(crate) enum Frame {
         /// Where its components begin.
         content: usize,
     },
+    /// The additions of a sequence or of a set, behind its root.
+    Added {
+        /// How many additions are due.
+        due: usize,
+        /// How many presence bits were given.
+        given: usize,
+        /// Where the preamble stands.
+        start: usize,
+        /// Where the components of the root begin.
+        content: usize,
+        /// The octets up to the end of the root.
+        outer: Vec<u8>,
+        /// Each addition, behind its length, where it is there.
+        slots: Vec<Option<Vec<u8>>>,
+    },
+    /// An addition or an added alternative, whose octets stand alone.
+    OpenType {
+        /// The octets in front of it.
+        outer: Vec<u8>,
+    },
     /// A list.
     Members {
         /// How many members are due.
         due: usize,
     },
+    /// A bag, of whose members the open one stands alone.
+    Bag {
+        /// How many members are due.
+        due: usize,
+        /// The octets in front of the members.
+        outer: Vec<u8>,
+        /// The octets of each member in front of the open one, if one is open.
+        members: Option<Vec<Vec<u8>>>,
+    },
+    /// An alternative of the root of a choice.
+    Alternative,
 }
 
 /// How many octets the preamble of a sequence has (X.696 16.2), whose bits fill whole octets.
@@ -59,7 +90,7 @@ pub(crate) fn begin_components(
     extensible: bool,
     optional: usize,
 ) -> Result<(), EncodeError>
-    ensures { MatchResult result (λ _. Does (sequence_begins extensible optional) frames.old.items octets.old.items frames.new.items octets.new.items) (Cannot (sequence_begins extensible optional) frames.old.items octets.old.items) }
+    ensures { MatchResult result (λ _. Does (sequence_begins extensible optional) frames.old.items octets.old.items frames.new.items octets.new.items) (λ e. e ≡ EncodeError.OutOfMemory) }
 {
     let start = octets.len();
     push_zeros(octets, preamble_len(extensible, optional))?;
@@ -82,7 +113,7 @@ fn with_bit(octet: u8, index: u32) -> u8
 }
 
 /// Sets a bit of those that stand in the octets from one on.
-fn raise_bit(octets: &mut Vec<u8>, start: usize, place: usize)
+pub(crate) fn raise_bit(octets: &mut Vec<u8>, start: usize, place: usize)
     requires { start + place / 8 < vec_len octets.old }
     ensures others { octets.new.items ≡ slice_set octets.old.items (start + place / 8) (slice_index octets.new.items (start + place / 8)) }
     ensures bit { binary 8 (slice_index octets.new.items (start + place / 8)) ≡ slice_set (binary 8 (slice_index octets.old.items (start + place / 8))) (place % 8) true }
@@ -100,33 +131,32 @@ pub(crate) fn put_mark(
     requires { AreSound frames.old.items octets.old.items }
     ensures { MatchResult result (λ _. Does (mark present) frames.old.items octets.old.items frames.new.items octets.new.items) (Cannot (mark present) frames.old.items octets.old.items) }
 {
-    match frames.pop() {
-        Some(
-            Frame::Components {
-                extensible,
-                due,
-                given,
-                start,
-                content,
-            },
-        ) => {
-            if due == 0 {
-                return Err(EncodeError::SizeConstraintNotSatisfied);
-            }
-            if present {
-                raise_bit(octets, start, given + usize::from(extensible));
-            }
-            frames.push(Frame::Components {
-                extensible,
-                due: due - 1,
-                given: given + 1,
-                start,
-                content,
-            })?;
-            Ok(())
-        }
-        Some(Frame::Members { .. }) | None => Err(EncodeError::SizeConstraintNotSatisfied),
+    let Some(
+        Frame::Components {
+            extensible,
+            due,
+            given,
+            start,
+            content,
+        },
+    ) = frames.pop()
+    else {
+        return Err(EncodeError::SizeConstraintNotSatisfied);
+    };
+    if due == 0 {
+        return Err(EncodeError::SizeConstraintNotSatisfied);
     }
+    if present {
+        raise_bit(octets, start, given + usize::from(extensible));
+    }
+    frames.push(Frame::Components {
+        extensible,
+        due: due - 1,
+        given: given + 1,
+        start,
+        content,
+    })?;
+    Ok(())
 }
 
 /// Begins a list with its count (X.696 17), which the program's type has to hold.
@@ -145,49 +175,4 @@ pub(crate) fn begin_members(
     push_count(octets, count)?;
     frames.push(Frame::Members { due: count })?;
     Ok(())
-}
-
-/// Whether a further member comes (X.696 17): nothing is written, and as many come as were told.
-pub(crate) fn put_further(frames: &mut Vec<Frame>, more: bool) -> Result<(), EncodeError>
-    ensures { MatchResult result (λ _. (o : List ℕ) → Does (further more) frames.old.items o frames.new.items o) (λ e. (o : List ℕ) → Cannot (further more) frames.old.items o e) }
-{
-    match frames.pop() {
-        Some(Frame::Members { due }) => {
-            if more != (due > 0) {
-                return Err(EncodeError::SizeConstraintNotSatisfied);
-            }
-            frames.push(Frame::Members {
-                due: due - usize::from(more),
-            })?;
-            Ok(())
-        }
-        Some(Frame::Components { .. }) | None => Err(EncodeError::SizeConstraintNotSatisfied),
-    }
-}
-
-/// Ends what is innermost: a sequence of which no presence bit is due (X.696 16), or a list with all its members (X.696 17).
-pub(crate) fn end_scope(frames: &mut Vec<Frame>) -> Result<(), EncodeError>
-    ensures { MatchResult result (λ _. (o : List ℕ) → Does ends frames.old.items o frames.new.items o) (λ e. (o : List ℕ) → Cannot ends frames.old.items o e) }
-{
-    match frames.pop() {
-        Some(
-            Frame::Components {
-                extensible,
-                due,
-                ..
-            },
-        ) => {
-            if extensible || due > 0 {
-                return Err(EncodeError::SizeConstraintNotSatisfied);
-            }
-            Ok(())
-        }
-        Some(Frame::Members { due }) => {
-            if due > 0 {
-                return Err(EncodeError::SizeConstraintNotSatisfied);
-            }
-            Ok(())
-        }
-        None => Err(EncodeError::SizeConstraintNotSatisfied),
-    }
 }

@@ -1,5 +1,4 @@
-use Rattle.std.proofs.Common.{rules, ◌≡◌, true, inl, inr, arith}
-use Rattle.asn1_model.specs.Numbers.{is_count_within}
+use Rattle.std.proofs.Common.{◌≡◌, inl, inr, arith}
 use Rattle.asn1_schema_bounds.specs.Bounds.{members_of}
 use Rattle.asn1_schema_presented.proofs.Joined.{raised}
 use Rattle.oer_codec_reading.specs.Fronts.{freedoms}

@@ -1,5 +1,4 @@
-use Rattle.std.proofs.Common.{rules, ◌≡◌, ◌+◌, ◌*◌, ◌==◌, ◌^◌, ◌<◌, ◌≤◌, ℕ, List, Bool, IsTrue, false, cond, sym, ◌∙◌, ap, subst, length, replicate, arith}
-use Rattle.asn1_model.specs.Numbers.{octet_bits, missing}
+use Rattle.std.proofs.Common.{rules, ◌≡◌, ◌*◌, false, ◌∙◌, ap, subst, length, replicate, arith}
 use Rattle.asn1_schema_presented.proofs.Joined.{raised}
 use Rattle.asn1_values_bits.proofs.Binary.{length-octet_bits}
 use Rattle.oer_codec_decoder.specs.Preamble.{HasBits}

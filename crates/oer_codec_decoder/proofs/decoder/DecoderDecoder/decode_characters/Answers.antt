@@ -1,9 +1,7 @@
-use Rattle.std.proofs.Common.{rules, ◌∙◌}
-use Rattle.asn1_model.specs.Schema.{boolean, null, integer, bit_string, octet_string, character_string, object_identifier, utf8}
+use Rattle.std.proofs.Common.{◌∙◌}
+use Rattle.asn1_model.specs.Schema.{character_string}
 use Rattle.asn1_model.specs.Types.{any_count}
-use Rattle.asn1_schema_bounds.specs.Bounds.{counts_of}
-use Rattle.asn1_schema_constraints.specs.Terms.{bounds_of, held_of, sizes_of, alphabet_of}
-use Rattle.oer_codec_reading.specs.Fronts.{freedoms}
+use Rattle.asn1_schema_constraints.specs.Terms.{sizes_of, alphabet_of}
 use Rattle.oer_codec_decoder.proofs.Finding.{none_found, asked_characters}
 use Rattle.oer_codec_decoder.proofs.decoder.DecoderDecoder.decode_characters.Goals as goal
 

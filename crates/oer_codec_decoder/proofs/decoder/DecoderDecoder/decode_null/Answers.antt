@@ -1,9 +1,5 @@
-use Rattle.std.proofs.Common.{rules, ◌∙◌}
-use Rattle.asn1_model.specs.Schema.{boolean, null, integer, bit_string, octet_string, character_string, object_identifier, utf8}
-use Rattle.asn1_model.specs.Types.{any_count}
-use Rattle.asn1_schema_bounds.specs.Bounds.{counts_of}
-use Rattle.asn1_schema_constraints.specs.Terms.{bounds_of, held_of, sizes_of, alphabet_of}
-use Rattle.oer_codec_reading.specs.Fronts.{freedoms}
+use Rattle.std.proofs.Common.{◌∙◌}
+use Rattle.asn1_model.specs.Schema.{null}
 use Rattle.oer_codec_decoder.proofs.Finding.{none_found, asked_nil}
 use Rattle.oer_codec_decoder.proofs.decoder.DecoderDecoder.decode_null.Goals as goal
 

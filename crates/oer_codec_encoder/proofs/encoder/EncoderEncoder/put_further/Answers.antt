@@ -1,17 +1,8 @@
-use Rattle.std.proofs.Common.{ap}
-use Rattle.std.proofs.lemmas.Result.{err_from_is_err_and}
-use Rattle.asn1_schema_presented.specs.Records.{further}
-use Rattle.oer_codec_encoder.specs.Stepping.{Written}
-use Rattle.oer_codec_encoder.proofs.Stepped.{stays_sound, puts, is_refused}
+use Rattle.oer_codec_encoder.proofs.Stepped.{stays_sound, puts}
 use Rattle.oer_codec_encoder.proofs.encoder.EncoderEncoder.put_further.Goals as goal
 
 pub invariant_of-self-2 : goal.invariant_of-self-2
-invariant_of-self-2 c _ = stays_sound _ c.self.inside.frames.items c.put_further.new.frames.items c.self.inside.output.now.items c.self.inside.output.now.items (c.self.invariant c.if-self.false) (c.in_ok-put_further.ensures c.self.inside.output.now.items)
+invariant_of-self-2 c _ = stays_sound _ c.self.inside.frames.items c.put_further.new.frames.items c.self.inside.output.now.items c.put_further.new.octets.items (c.self.invariant c.if-self.false) c.in_ok-put_further.ensures
 
 pub returns-clause-ok : goal.returns-clause-ok
-returns-clause-ok c = puts _ c.self.inside.frames.items c.put_further.new.frames.items c.self.inside.output.now.items c.self.inside.output.now.items c.self.inside.failed c.args.self.now c.self.view_is c.if-self.false (c.self.invariant c.if-self.false) (c.in_ok-put_further.ensures c.self.inside.output.now.items)
-
-pub returns-in_err-put_further-clause-only : goal.returns-in_err-put_further-clause-only
-returns-in_err-put_further-clause-only c =
-    let p = err_from_is_err_and c.from_residual.result c.from_residual.ensures.1 in
-    rw (p.1, p.2) (is_refused (further c.args.more) c.self.inside.frames.items c.self.inside.output.now.items c.args.self.now _ (ap (λ (w : Written). w.state) c.self.view_is) (c.self.invariant c.if-self.false) (c.in_err-put_further.ensures c.self.inside.output.now.items))
+returns-clause-ok c = puts _ c.self.inside.frames.items c.put_further.new.frames.items c.self.inside.output.now.items c.put_further.new.octets.items c.self.inside.failed c.args.self.now c.self.view_is c.if-self.false (c.self.invariant c.if-self.false) c.in_ok-put_further.ensures

@@ -1,0 +1,64 @@
+-- Choices in front.
+use Rattle.std.proofs.Common.{◌≡◌, ℕ, Bool, true, false, List, Some, None, refl, sym, ◌∙◌, subst}
+use Rattle.asn1_laws_fronts_octets.proofs.Tags.{tags_alike}
+use Rattle.asn1_model.specs.Oer
+use Rattle.asn1_model.specs.Schema.{Tag}
+use Rattle.asn1_model.specs.Strings.{each_is}
+use Rattle.asn1_schema_faults.specs.declared.DecodeError.{DecodeError}
+use Rattle.oer_codec_fronts.specs.Takes.{IsPlace, Enters}
+use Rattle.oer_codec_fronts.proofs.Next.{same_fronts, same_tag}
+use Rattle.oer_codec_reading.specs.Fronts.{Stands, Misses}
+use Rattle.oer_codec_reading.proofs.Fronts.{if_stands}
+use Rattle.oer_codec_reading_scopes.proofs.Skipping.{missed, as_front, as_stands}
+use Rattle.oer_codec_reading_tags.specs.Tags.{is_in_32_bits, tag_in}
+use Rattle.oer_codec_reading_tags.proofs.Places.{place_fits}
+use Rattle.oer_codec_decoder.specs.Refusals.{NoTag, NoEntry, NoChoice}
+use Rattle.oer_codec_decoder.proofs.Adding.{not_opened}
+
+module _ (roots : List Tag) (e : Bool) (others : List Tag) (t : Tag) where
+  same_side : (p q : Bool) (i j : ℕ) → IsPlace roots e others t p i → IsPlace roots e others t q j → p ≡ q
+  same_side false false i j f g = refl
+  same_side true true i j f g = refl
+  same_side false true i j f g = let h : Some i ≡ None = sym f ∙ g.1 in cc h
+  same_side true false i j f g = let h : Some j ≡ None = sym g ∙ f.1 in cc h
+
+  fits : each_is is_in_32_bits roots ≡ true → each_is is_in_32_bits others ≡ true → (plus : Bool) (i : ℕ) → IsPlace roots e others t plus i → is_in_32_bits t ≡ true
+  fits a b false i p = place_fits t roots i a p
+  fits a b true i p = place_fits t others i b p.2
+
+-- ---- tags
+pub no_tag : (free : Oer.Freedom → Bool) (roots others : List Tag) (os : List ℕ) (e : DecodeError) → each_is is_in_32_bits roots ≡ true → each_is is_in_32_bits others ≡ true → Misses free tag_in os e → NoTag free roots others os e
+no_tag free roots others os e a b m = record {
+  none = λ i x t plus j rest p s. missed free tag_in os e m i t rest (if_stands free (is_in_32_bits t) (Oer.tag_form t) os rest (fits roots x others t a b plus j p) s);
+}
+
+-- ---- alternatives
+pub not_entered : (free : Oer.Freedom → Bool) (plus : Bool) (os : List ℕ) (e : DecodeError) → plus ≡ true → Misses free Oer.counted os e → NoEntry free plus os e
+not_entered free true os e p m = record { none = λ i k b t. (not_opened free os e m).none i k b t }
+not_entered free false os e p m = cc p
+
+-- ---- the choice
+module _ (free : Oer.Freedom → Bool) (roots : List Tag) (x : Bool) (others : List Tag) where
+  pub no_choice : (os : List ℕ) (e : DecodeError) → NoTag free roots others os e → NoChoice free roots x others os e
+  no_choice os e h = record { none = λ i plus j k b c. h.none i x c.0 plus j c.1 c.2 (as_stands free (Oer.tag_form c.0) os c.1 c.3) }
+
+  -- one tag at most stands in front
+  one_tag : (t u : Tag) (os r s : List ℕ) → Stands free (Oer.tag_form t) os r → Stands free (Oer.tag_form u) os s → (t ≡ u) × (r ≡ s)
+  one_tag t u os r s h g =
+      let q = same_fronts free (tags_alike free t u) os r s (as_front free (Oer.tag_form t) os r h) (as_front free (Oer.tag_form u) os s g) in
+      (same_tag t u q.0, q.1)
+
+  pub no_alternative : (t : Tag) (os mid : List ℕ) (e : DecodeError) → Stands free (Oer.tag_form t) os mid → ((plus : Bool) (i : ℕ) → IsPlace roots x others t plus i → ⊥) → NoChoice free roots x others os e
+  no_alternative t os mid e h none = record {
+    none = λ i plus j k b c.
+        let q = one_tag c.0 t os c.1 mid (as_stands free (Oer.tag_form c.0) os c.1 c.3) h in
+        none plus j (subst (λ u. IsPlace roots x others u plus j) q.0 c.2);
+  }
+
+  pub no_entry : (t : Tag) (p : Bool) (n : ℕ) (os mid : List ℕ) (e : DecodeError) → Stands free (Oer.tag_form t) os mid → IsPlace roots x others t p n → NoEntry free p mid e → NoChoice free roots x others os e
+  no_entry t p n os mid e h place entry = record {
+    none = λ i plus j k b c.
+        let q = one_tag c.0 t os c.1 mid (as_stands free (Oer.tag_form c.0) os c.1 c.3) h in
+        let s : plus ≡ p = same_side roots x others t plus p j n (subst (λ u. IsPlace roots x others u plus j) q.0 c.2) place in
+        entry.none i k b (subst (λ m. Enters free p m k b) q.1 (subst (λ a. Enters free a c.1 k b) s c.4));
+  }

@@ -1,0 +1,4 @@
+//! Records that are found or refused, and why.
+mod additions;
+mod bags;
+mod choices;

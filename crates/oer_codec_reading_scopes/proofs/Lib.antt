@@ -1,0 +1,2 @@
+pub mod BitmapFronts
+pub mod Skipping

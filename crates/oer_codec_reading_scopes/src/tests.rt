@@ -1,0 +1,2 @@
+//! Bitmaps that are read or refused, and why.
+mod bitmaps;

@@ -1,0 +1,70 @@
+-- What stands in front where an enumeration does.
+use Rattle.std.proofs.Common.{◌≡◌, ℕ, ℤ, Bool, true, false, ◌&&◌, ◌||◌, inl, inr, List, Option, Some, None, refl, sym, subst}
+use Rattle.std.proofs.lemmas.Bool.{and_parts, or_cases}
+use Rattle.asn1_laws_fronts_octets.proofs.Units.{items_alike}
+use Rattle.asn1_model.specs.Form.{Reads, is_present}
+use Rattle.asn1_model.specs.Oer.{Freedom, form, item_form}
+use Rattle.asn1_model.specs.Schema.{enumerated}
+use Rattle.asn1_model.specs.Tables.{item_place}
+use Rattle.asn1_model.specs.Value.{Value, item}
+use Rattle.asn1_schema_variants.specs.Items.{IsPlaced, IsNone}
+use Rattle.oer_codec_fronts.specs.Takes.{Front}
+use Rattle.oer_codec_fronts.proofs.Next.{same_fronts}
+use Rattle.oer_codec_reading.specs.Fronts.{Stands, NoneStands}
+use Rattle.oer_codec_reading.proofs.Fronts.{if_stands, if_front}
+
+as_front : (free : Freedom → Bool) (v : ℤ) (os rest : List ℕ) → Stands free (item_form v) os rest → Front free (item_form v) os rest
+as_front free v os rest h = record { text = h.0; has_form = h.2; in_front = h.1 }
+
+-- whether a number is one of a type's items
+abbrev is_item : List ℤ → Bool → List ℤ → ℤ → Bool
+is_item roots e adds v = is_present (item_place v roots) || (e && is_present (item_place v adds))
+
+present : (o : Option ℕ) (i : ℕ) → o ≡ Some i → is_present o ≡ true
+present None i e = cc e
+present (Some j) i e = refl
+
+or_right : (b c : Bool) → c ≡ true → (b || c) ≡ true
+or_right true c e = refl
+or_right false c e = e
+
+or_left : (b c : Bool) → b ≡ true → (b || c) ≡ true
+or_left true c e = refl
+or_left false c e = cc e
+
+both_true : (b c : Bool) → b ≡ true → c ≡ true → (b && c) ≡ true
+both_true true c d e = e
+both_true false c d e = d
+
+placed : (roots : List ℤ) (e : Bool) (adds : List ℤ) (v : ℤ) (added : Bool) (i : ℕ) → IsPlaced roots e adds v added i → is_item roots e adds v ≡ true
+placed roots e adds v false i h = or_left _ _ (present (item_place v roots) i h)
+placed roots e adds v true i h = or_right _ _ (both_true e _ h.1 (present (item_place v adds) i h.2))
+
+not_placed : (roots : List ℤ) (e : Bool) (adds : List ℤ) (v : ℤ) → IsNone roots e adds v → is_item roots e adds v ≡ true → ⊥
+not_placed roots e adds v h t = elim (or_cases (is_present (item_place v roots)) (e && is_present (item_place v adds)) t) [
+  | inl p ↦ none_present (item_place v roots) h.0 p
+  | inr p ↦ let q = and_parts e (is_present (item_place v adds)) p in none_present (item_place v adds) (h.1 q.0) q.1
+]
+  where
+    none_present : (o : Option ℕ) → o ≡ None → is_present o ≡ true → ⊥
+    none_present None e p = cc p
+    none_present (Some i) e p = cc e
+
+module _ (free : Freedom → Bool) (roots : List ℤ) (e : Bool) (adds : List ℤ) where
+  item_front : (x : Value) (os rest : List ℕ) → Stands free (form (enumerated roots e adds) x) os rest → (v : ℤ) × (is_item roots e adds v ≡ true) × Stands free (item_form v) os rest
+  unfolding form Reads
+  item_front (item v) os rest h = let i = if_front free (is_item roots e adds v) (item_form v) os rest h in (v, i.0, i.1)
+  item_front x os rest h = absurd h.2
+
+  pub no_item : (os : List ℕ) → NoneStands free item_form os → NoneStands free (form (enumerated roots e adds)) os
+  no_item os none x rest h = let f = item_front x os rest h in none f.0 rest f.2
+
+  pub item_stands : (v w : ℤ) (os rest : List ℕ) (added : Bool) (i : ℕ) → IsPlaced roots e adds v added i → v ≡ w → Stands free (item_form w) os rest → Stands free (form (enumerated roots e adds) (item v)) os rest
+  unfolding form
+  item_stands v w os rest added i p q h = if_stands free (is_item roots e adds v) (item_form v) os rest (placed roots e adds v added i p) (subst (λ z. Stands free (item_form z) os rest) (sym q) h)
+
+  pub no_such_item : (w : ℤ) (os mid : List ℕ) → IsNone roots e adds w → Stands free (item_form w) os mid → NoneStands free (form (enumerated roots e adds)) os
+  no_such_item w os mid none h x rest s =
+      let f = item_front x os rest s in
+      let q = (same_fronts free (items_alike free f.0 w) os rest mid (as_front free f.0 os rest f.2) (as_front free w os mid h)).0 in
+      not_placed roots e adds w none (subst (λ z. is_item roots e adds z ≡ true) q f.1)

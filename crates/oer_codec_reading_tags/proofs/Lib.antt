@@ -1,0 +1,5 @@
+pub mod Groups
+pub mod TagFronts
+pub mod ItemFronts
+pub mod Enumerations
+pub mod Places

@@ -1,0 +1,281 @@
+-- The texts of whole numbers, and what their writers added.
+use Rattle.std.proofs.Common.{◌≡◌, ℕ, zero, suc, ◌+◌, ◌-◌, ◌*◌, ◌/◌, ◌%◌, ◌^◌, ◌<◌, ◌≤◌, ℤ, pos, negsuc, ◌-ℤ◌, ◌≤ℤ◌, Bool, true, false, cond, not, leb, max, ◌&&◌, ◌||◌, List, [], ◌∷◌, ◌++◌, length, map, replicate, Option, Some, None, refl, ap, subst, sym, ◌∙◌, append_assoc, arith, inl, inr, pow-suc}
+use Rattle.std.specs.Prelude.{IfSome}
+use Rattle.std.proofs.Math.Nat.{pow-le-pow_right, div-eq_of_lt}
+use Rattle.std.proofs.lemmas.List.{replicate_more}
+use Rattle.std.proofs.lemmas.Int.{ints}
+use Rattle.std.proofs.lemmas.Bool.{le-leb, leb-true, cases_lt}
+use Rattle.asn1_model.specs.Form.{written, only_if}
+use Rattle.asn1_model.specs.Schema.{Range}
+use Rattle.asn1_model.specs.Numbers.{digits, width, octet_width, least_octets, signed_octets, complement, is_at_most, is_from, is_to, is_within, fits_128}
+use Rattle.asn1_model.specs.Oer
+use Rattle.asn1_model.specs.Tables.{is_bounded}
+use Rattle.asn1_schema_bounds.proofs.Common.{number_order}
+use Rattle.asn1_schema_bounds.proofs.Meets.{is_above, is_below, later_admits, earlier_admits}
+use Rattle.asn1_schema_bounds.specs.Bounds.{lower, upper, later, earlier}
+use Rattle.asn1_schema_bounds.specs.Widths.{has_sign, fixed_width}
+use Rattle.asn1_schema_constraints.specs.Terms.{bounds_of, held_of}
+use Rattle.asn1_schema_constraints.specs.declared.extensions.Extensible.{Extensible}
+use Rattle.asn1_schema_constraints.specs.declared.parts.Value.{Value}
+use Rattle.asn1_values_natives.specs.Octets.{plain, sign_free, is_below_zero, signed_octets_of, unsigned_octets_of}
+use Rattle.asn1_values_natives.proofs.OctetLaws.{digits-turned, length-digits}
+use Rattle.asn1_values_natives.proofs.RangeLaws.{not_at_most, at_most}
+use Rattle.asn1_values_natives.proofs.TwosComplement.{plain-fits, length-complement}
+use Rattle.asn1_values_natives.proofs.Widths.{signed_octets-le, width-bits, bits-least, octet_width-octets, octets-least}
+use Rattle.oer_codec_writing.specs.Writing.{Adds}
+use Rattle.oer_codec_writing.proofs.ScalarTexts.{if_true, if_false}
+
+-- ---- a width that need not be there
+
+pub if_some : (o : Option ℕ) (P : ℕ → Type 0) → ((k : ℕ) → o ≡ Some k → P k) → IfSome o P
+if_some None P f = tt
+if_some (Some k) P f = f k refl
+
+pub at_some : (o : Option ℕ) (P : ℕ → Type 0) (k : ℕ) → o ≡ Some k → IfSome o P → P k
+at_some None P k e h = cc
+at_some (Some j) P k e h = let q : j ≡ k = cc in subst P q h
+
+-- ---- numbers in more octets than they need
+
+digits_behind : (j n m : ℕ) → m < 256 ^ n → digits 256 (j + n) m ≡ replicate j 0 ++ digits 256 n m
+digits_behind zero n m h = let e : 0 + n ≡ n = omega arith in ap (λ k. digits 256 k m) e
+digits_behind (suc j) n m h =
+    let e : suc j + n ≡ suc (j + n) = omega arith in
+    let l : 256 ^ n ≤ 256 ^ (j + n) = pow-le-pow_right (omega arith) {i = n} {j = j + n} (omega arith) in
+    let d : m / 256 ^ (j + n) ≡ 0 = div-eq_of_lt (omega arith) in
+    let z : m / 256 ^ (j + n) % 256 ≡ 0 = ap (λ k. k % 256) d in
+    ap (λ k. digits 256 k m) e ∙ ap (λ k. k ∷ digits 256 (j + n) m) z ∙ ap (λ l. 0 ∷ l) (digits_behind j n m h)
+
+turned_zeros : (j : ℕ) (os : List ℕ) → map (sign_free true) (replicate j 0 ++ os) ≡ replicate j 255 ++ map (sign_free true) os
+turned_zeros zero os = refl
+turned_zeros (suc j) os = ap (λ l. 255 ∷ l) (turned_zeros j os)
+
+plain_small : (z : ℤ) (n : ℕ) → signed_octets z ≤ n → 1 ≤ n → plain z < 256 ^ n
+plain_small z zero h l = absurd (omega arith)
+plain_small z (suc n) h l =
+    let p : plain z < 128 * 256 ^ n = plain-fits z n (omega arith) in
+    let e : 256 ^ (n + 1) ≡ 256 ^ suc n = let q : n + 1 ≡ suc n = omega arith in ap (λ k. 256 ^ k) q in
+    let s : 256 ^ suc n ≡ 256 ^ n * 256 = pow-suc 256 n in
+    omega (arith, s)
+
+least_signed : (z : ℤ) → 1 ≤ signed_octets z
+least_signed (pos m) = omega arith
+least_signed (negsuc m) = omega arith
+
+abbrev pub fill_of : ℤ → ℕ
+fill_of v = cond (is_below_zero v) 255 0
+
+pub complement_behind : (k : ℕ) (z : ℤ) → signed_octets z ≤ k → complement k z ≡ replicate (k - length (signed_octets_of z)) (fill_of z) ++ signed_octets_of z
+complement_behind k (pos m) h =
+    let n : ℕ = signed_octets (pos m) in
+    let l : length (signed_octets_of (pos m)) ≡ n = length-complement n (pos m) in
+    let s : m < 256 ^ n = plain_small (pos m) n (omega arith) (least_signed (pos m)) in
+    let e : k ≡ (k - length (signed_octets_of (pos m))) + n = omega arith in
+    ap (λ w. digits 256 w m) e ∙ digits_behind (k - length (signed_octets_of (pos m))) n m s
+complement_behind k (negsuc m) h =
+    let n : ℕ = signed_octets (negsuc m) in
+    let l : length (signed_octets_of (negsuc m)) ≡ n = length-complement n (negsuc m) in
+    let s : m < 256 ^ n = plain_small (negsuc m) n (omega arith) (least_signed (negsuc m)) in
+    let b : m < 256 ^ k = plain_small (negsuc m) k h (omega (arith, least_signed (negsuc m))) in
+    let j : ℕ = k - length (signed_octets_of (negsuc m)) in
+    let e : k ≡ j + n = omega arith in
+    sym (digits-turned k m b) ∙ ap (λ w. map (sign_free true) (digits 256 w m)) e ∙ ap (map (sign_free true)) (digits_behind j n m s)
+    ∙ turned_zeros j (digits 256 n m) ∙ ap (λ l. replicate j 255 ++ l) (digits-turned n m s)
+
+pub natural_behind : (k m : ℕ) → least_octets m ≤ k → digits 256 k m ≡ replicate (k - length (unsigned_octets_of (pos m))) 0 ++ unsigned_octets_of (pos m)
+natural_behind k m h =
+    let n : ℕ = least_octets m in
+    let l : length (unsigned_octets_of (pos m)) ≡ n = length-digits n m in
+    let o = octet_width-octets m in
+    let p : 256 ^ octet_width m ≤ 256 ^ n = pow-le-pow_right (omega arith) {i = octet_width m} {j = n} (omega arith) in
+    let s : m < 256 ^ n = omega (arith, o.below) in
+    let e : k ≡ (k - length (unsigned_octets_of (pos m))) + n = omega arith in
+    ap (λ w. digits 256 w m) e ∙ digits_behind (k - length (unsigned_octets_of (pos m))) n m s
+
+-- ---- numbers within bounds fit their fixed form
+
+rounded_most : (n k : ℕ) → Oer.fixed_octets n ≡ Some k → (n ≤ k) × (1 ≤ k)
+rounded_most n k e = go (leb n 1) (leb n 2) (leb n 4) (leb n 8) refl refl refl refl e
+  where
+    go : (a b c d : Bool) → leb n 1 ≡ a → leb n 2 ≡ b → leb n 4 ≡ c → leb n 8 ≡ d → cond a (Some 1) (cond b (Some 2) (cond c (Some 4) (cond d (Some 8) None))) ≡ Some k → (n ≤ k) × (1 ≤ k)
+    go true b c d h i j l e = let x : k ≡ 1 = cc in let y = leb-true n 1 h in (omega arith, omega arith)
+    go false true c d h i j l e = let x : k ≡ 2 = cc in let y = leb-true n 2 i in (omega arith, omega arith)
+    go false false true d h i j l e = let x : k ≡ 4 = cc in let y = leb-true n 4 j in (omega arith, omega arith)
+    go false false false true h i j l e = let x : k ≡ 8 = cc in let y = leb-true n 8 l in (omega arith, omega arith)
+    go false false false false h i j l e = cc
+
+width_grows : (m n : ℕ) → m ≤ n → width m ≤ width n
+width_grows m n h = let b = width-bits n in bits-least m (width n) (width m) (width-bits m) (omega (arith, b.below))
+
+octets_grow : (m n : ℕ) → m ≤ n → octet_width m ≤ octet_width n
+octets_grow m n h = let b = octet_width-octets n in octets-least m (octet_width n) (octet_width m) (octet_width-octets m) (omega (arith, b.below))
+
+both_true : (p q : Bool) → (p && q) ≡ true → (p ≡ true) × (q ≡ true)
+both_true true q e = (refl, e)
+both_true false q e = cc
+
+is_at_most_le : (a b : ℤ) → is_at_most a b ≡ true → a ≤ℤ b
+is_at_most_le a b e = go (b -ℤ a) refl e
+  where
+    go : (z : ℤ) → b -ℤ a ≡ z → elim z as (λ _. Bool) [ pos n ↦ true | negsuc n ↦ false ] ≡ true → a ≤ℤ b
+    go (pos n) d f = omega (arith, ints)
+    go (negsuc n) d f = cc
+
+between : (low high v : ℤ) → is_within (record { low = Some low; high = Some high }) v ≡ true → (low ≤ℤ v) × (v ≤ℤ high)
+between low high v e = let p = both_true _ _ e in (is_at_most_le low v p.0, is_at_most_le v high p.1)
+
+signed_fits : (low : ℕ) (high v : ℤ) → (negsuc low ≤ℤ v) × (v ≤ℤ high) → signed_octets v ≤ max (signed_octets (negsuc low)) (signed_octets high)
+signed_fits low (pos high) (pos m) h = let l : m ≤ high = omega (arith, ints) in let w = width_grows m high l in omega arith
+signed_fits low (negsuc high) (pos m) h = absurd (omega (arith, ints))
+signed_fits low high (negsuc m) h = let l : m ≤ low = omega (arith, ints) in let w = width_grows m low l in omega arith
+
+module _ (low high : Option ℤ) (v : ℤ) (within : is_within (record { low = low; high = high }) v ≡ true) where
+  pub signed_width : (k : ℕ) → has_sign low ≡ true → fixed_width low high ≡ Some k → signed_octets v ≤ k
+  signed_width k s e = go low high within s e
+    where
+      go : (low high : Option ℤ) → is_within (record { low = low; high = high }) v ≡ true → has_sign low ≡ true → fixed_width low high ≡ Some k → signed_octets v ≤ k
+      go (Some (negsuc a)) (Some b) w s e = let f = signed_fits a b v (between (negsuc a) b v w) in let r = rounded_most (max (signed_octets (negsuc a)) (signed_octets b)) k e in omega (arith, f, r.0)
+      go (Some (negsuc a)) None w s e = cc
+      go (Some (pos a)) h w s e = cc
+      go None h w s e = cc
+
+  pub natural_sign : has_sign low ≡ false → is_below_zero v ≡ false
+  natural_sign s = go low v within s
+    where
+      go : (low : Option ℤ) (v : ℤ) → is_within (record { low = low; high = high }) v ≡ true → has_sign low ≡ false → is_below_zero v ≡ false
+      go (Some (pos a)) (pos m) w s = refl
+      go (Some (pos a)) (negsuc m) w s = let l = is_at_most_le (pos a) (negsuc m) (both_true _ _ w).0 in absurd (omega (arith, ints))
+      go (Some (negsuc a)) v w s = cc
+      go None v w s = cc
+
+  pub natural_width : (k : ℕ) → has_sign low ≡ false → fixed_width low high ≡ Some k → least_octets (plain v) ≤ k
+  natural_width k s e = go low high v within s e
+    where
+      go : (low high : Option ℤ) (v : ℤ) → is_within (record { low = low; high = high }) v ≡ true → has_sign low ≡ false → fixed_width low high ≡ Some k → least_octets (plain v) ≤ k
+      go (Some (pos a)) (Some (pos b)) (pos m) w s e =
+          let p = between (pos a) (pos b) (pos m) w in
+          let l : m ≤ b = omega (arith, ints) in
+          let g = octets_grow m b l in
+          let r = rounded_most (octet_width b) k e in
+          omega (arith, r.0, r.1)
+      go (Some (pos a)) (Some (pos b)) (negsuc m) w s e = let p = between (pos a) (pos b) (negsuc m) w in absurd (omega (arith, ints))
+      go (Some (pos a)) (Some (negsuc b)) v w s e = cc
+      go (Some (pos a)) None v w s e = cc
+      go (Some (negsuc a)) h v w s e = cc
+      go None h v w s e = cc
+
+-- ---- their texts
+
+pub signed_counted : (v : ℤ) → written (Oer.signed_form None v) 0 ≡ written (Oer.counted (signed_octets_of v)) 0
+unfolding written Oer.signed
+signed_counted v = if_true (leb (signed_octets v) (signed_octets v)) (Oer.counted (signed_octets_of v)) (le-leb _ _ (omega arith))
+
+pub natural_counted : (v : ℤ) → is_below_zero v ≡ false → written (Oer.natural_form None v) 0 ≡ written (Oer.counted (unsigned_octets_of v)) 0
+unfolding written Oer.unsigned
+natural_counted (pos m) e = if_true (leb (least_octets m) (least_octets m)) (Oer.counted (digits 256 (least_octets m) m)) (le-leb _ _ (omega arith))
+natural_counted (negsuc m) e = cc
+
+pub adds_fixed_signed : (k : ℕ) (v : ℤ) (os old new : List ℕ) (fill : ℕ) → signed_octets v ≤ k → os ≡ signed_octets_of v → fill ≡ fill_of v → new ≡ old ++ (replicate (k - length os) fill ++ os) → Adds (written (Oer.signed_form (Some k) v) 0) old new
+unfolding written
+adds_fixed_signed k v os old new fill h e f n =
+    ap (λ w. Some (old ++ w)) (complement_behind k v h) ∙ ap Some (sym (n ∙ ap (λ l. old ++ (replicate (k - length l) fill ++ l)) e ∙ ap (λ x. old ++ (replicate (k - length (signed_octets_of v)) x ++ signed_octets_of v)) f))
+
+pub adds_fixed_natural : (k : ℕ) (v : ℤ) (os old new : List ℕ) → least_octets (plain v) ≤ k → is_below_zero v ≡ false → os ≡ unsigned_octets_of v → new ≡ old ++ (replicate (k - length os) 0 ++ os) → Adds (written (Oer.natural_form (Some k) v) 0) old new
+unfolding written
+adds_fixed_natural k (pos m) os old new h s e n = ap (λ w. Some (old ++ w)) (natural_behind k m h) ∙ ap Some (sym (n ∙ ap (λ l. old ++ (replicate (k - length l) 0 ++ l)) e))
+adds_fixed_natural k (negsuc m) os old new h s e n = cc
+
+-- ---- under a value constraint
+
+from_is : (low : Option ℤ) (v : ℤ) → is_from low v ≡ is_above is_at_most low v
+from_is None v = refl
+from_is (Some a) v = refl
+
+to_is : (high : Option ℤ) (v : ℤ) → is_to high v ≡ is_below is_at_most high v
+to_is None v = refl
+to_is (Some a) v = refl
+
+regroup : (a b c d : Bool) → ((a && b) && (c && d)) ≡ ((a && c) && (b && d))
+regroup true true c d = refl
+regroup true false true d = refl
+regroup true false false d = refl
+regroup false b c d = refl
+
+both_by : {p p' q q' : Bool} → p ≡ p' → q ≡ q' → (p && q) ≡ (p' && q')
+both_by {p} {p'} {q} {q'} e f = ap (λ t. t && q) e ∙ ap (λ t. p' && t) f
+
+abbrev wide : Range
+wide = record { low = Some (negsuc (2 ^ 127 - 1)); high = Some (pos (2 ^ 127 - 1)) }
+
+held_within : (c : Extensible Value) (h : Range) (v : ℤ) → is_within (held_of (Some c) h) v ≡ (is_within h v && is_within wide v)
+held_within c h v =
+    both_by (from_is (later is_at_most h.low wide.low) v ∙ (later_admits is_at_most number_order h.low wide.low v ∙ sym (both_by (from_is h.low v) (from_is wide.low v))))
+    (to_is (earlier is_at_most h.high wide.high) v ∙ (earlier_admits is_at_most number_order h.high wide.high v ∙ sym (both_by (to_is h.high v) (to_is wide.high v))))
+    ∙ regroup (is_from h.low v) (is_from wide.low v) (is_to h.high v) (is_to wide.high v)
+
+fits_wide : (v : ℤ) → fits_128 v ≡ true → is_within wide v ≡ true
+fits_wide (pos m) e = let p = plain-fits (pos m) 15 (leb-true (signed_octets (pos m)) 16 e) in both_by (at_most (negsuc (2 ^ 127 - 1)) (pos m) (omega (arith, ints))) (at_most (pos m) (pos (2 ^ 127 - 1)) (omega (arith, ints, p)))
+fits_wide (negsuc m) e = let p = plain-fits (negsuc m) 15 (leb-true (signed_octets (negsuc m)) 16 e) in both_by (at_most (negsuc (2 ^ 127 - 1)) (negsuc m) (omega (arith, ints, p))) (at_most (negsuc m) (pos (2 ^ 127 - 1)) (omega (arith, ints)))
+
+too_wide : (v : ℤ) → 16 < signed_octets v → is_within wide v ≡ false
+too_wide (pos m) h = let l : 2 ^ 127 ≤ m = large (pos m) h in not_at_most (pos m) (pos (2 ^ 127 - 1)) (omega (arith, ints))
+  where
+    large : (z : ℤ) → 16 < signed_octets z → 2 ^ 127 ≤ plain z
+    large z h = elim (cases_lt (plain z) (2 ^ 127)) [ inl l ↦ let s = signed_octets-le z 15 l in absurd (omega arith) | inr g ↦ g ]
+too_wide (negsuc m) h = let l : 2 ^ 127 ≤ m = large (negsuc m) h in ap (λ b. b && is_at_most (negsuc m) (pos (2 ^ 127 - 1))) (not_at_most (negsuc (2 ^ 127 - 1)) (negsuc m) (omega (arith, ints)))
+  where
+    large : (z : ℤ) → 16 < signed_octets z → 2 ^ 127 ≤ plain z
+    large z h = elim (cases_lt (plain z) (2 ^ 127)) [ inl l ↦ let s = signed_octets-le z 15 l in absurd (omega arith) | inr g ↦ g ]
+
+or_right : (a b : Bool) → b ≡ true → (a || b) ≡ true
+or_right true b e = refl
+or_right false b e = e
+
+and_first : (a b : Bool) → a ≡ false → (a && b) ≡ false
+and_first true b e = cc
+and_first false b e = refl
+
+and_second : (a b : Bool) → b ≡ false → (a && b) ≡ false
+and_second true b e = e
+and_second false b e = refl
+
+few_octets : (v : ℤ) → signed_octets v ≤ 16 → fits_128 v ≡ true
+few_octets v h = le-leb _ _ h
+
+pub unbounded_text : (h : Range) (v : ℤ) → is_within h v ≡ true → written (Oer.integer_form (bounds_of None) (held_of None h) v) 0 ≡ written (Oer.signed_form None v) 0
+unfolding Oer.integer_form Oer.bounded Oer.signed
+unbounded_text h v e = if_true (is_within h v && true) (Oer.signed v) (both_by e refl)
+
+module _ (c : Extensible Value) (h : Range) (v : ℤ) (held : is_within h v ≡ true) (few : signed_octets v ≤ 16) where
+  may_stand : (is_within (held_of (Some c) h) v && (not (is_bounded (bounds_of (Some c))) || fits_128 v)) ≡ true
+  may_stand = both_by (held_within c h v ∙ both_by held (fits_wide v (few_octets v few))) (or_right (not (is_bounded (bounds_of (Some c)))) (fits_128 v) (few_octets v few))
+
+  pub marked_text : (bounds_of (Some c)).extensible ≡ true → written (Oer.integer_form (bounds_of (Some c)) (held_of (Some c) h) v) 0 ≡ written (Oer.signed_form None v) 0
+  unfolding Oer.integer_form
+  marked_text m = if_true _ _ may_stand ∙ ap (λ (b : Bool). written (cond b (Oer.signed v) (only_if (is_within (bounds_of (Some c)).range v) (Oer.bounded (bounds_of (Some c)).range.low (bounds_of (Some c)).range.high v))) 0) m
+
+  pub bounded_text : (bounds_of (Some c)).extensible ≡ false → is_within (bounds_of (Some c)).range v ≡ true → written (Oer.integer_form (bounds_of (Some c)) (held_of (Some c) h) v) 0 ≡ written (Oer.bounded (lower c.constraint.value) (upper c.constraint.value) v) 0
+  unfolding Oer.integer_form
+  bounded_text m w = if_true _ _ may_stand ∙ ap (λ (b : Bool). written (cond b (Oer.signed v) (only_if (is_within (bounds_of (Some c)).range v) (Oer.bounded (bounds_of (Some c)).range.low (bounds_of (Some c)).range.high v))) 0) m
+      ∙ if_true (is_within (bounds_of (Some c)).range v) _ w
+
+  pub outside_none : (bounds_of (Some c)).extensible ≡ false → is_within (bounds_of (Some c)).range v ≡ false → written (Oer.integer_form (bounds_of (Some c)) (held_of (Some c) h) v) 0 ≡ None
+  unfolding Oer.integer_form
+  outside_none m w = if_true _ _ may_stand ∙ ap (λ (b : Bool). written (cond b (Oer.signed v) (only_if (is_within (bounds_of (Some c)).range v) (Oer.bounded (bounds_of (Some c)).range.low (bounds_of (Some c)).range.high v))) 0) m
+      ∙ if_false (is_within (bounds_of (Some c)).range v) _ w
+
+pub wide_none : (c : Extensible Value) (h : Range) (v : ℤ) → 16 < signed_octets v → written (Oer.integer_form (bounds_of (Some c)) (held_of (Some c) h) v) 0 ≡ None
+unfolding Oer.integer_form
+wide_none c h v l = if_false _ _ (and_first _ _ (held_within c h v ∙ and_second (is_within h v) (is_within wide v) (too_wide v l)))
+
+pub length_signed : (v : ℤ) → length (signed_octets_of v) ≡ signed_octets v
+length_signed v = length-complement (signed_octets v) v
+
+pub length_natural : (v : ℤ) → is_below_zero v ≡ false → length (unsigned_octets_of v) ≡ least_octets (plain v)
+length_natural (pos m) e = length-digits (least_octets m) m
+length_natural (negsuc m) e = cc
+
+pub filled_more : (old now new : List ℕ) (i from : ℕ) (x : ℕ) → from ≤ i → now ≡ old ++ replicate (i - from) x → new ≡ now ++ x ∷ [] → new ≡ old ++ replicate (i + 1 - from) x
+filled_more old now new i from x h e f =
+    let n : i - from + 1 ≡ i + 1 - from = omega arith in
+    f ∙ ap (λ l. l ++ x ∷ []) e ∙ append_assoc old (replicate (i - from) x) (x ∷ []) ∙ ap (λ l. old ++ l) (replicate_more (i - from) x ∙ ap (λ k. replicate k x) n)

@@ -1,0 +1,23 @@
+use Rattle.std.proofs.Common.{ap, sym, subst, ◌∙◌}
+use Rattle.asn1_model.specs.Form.{written}
+use Rattle.asn1_model.specs.Oer
+use Rattle.asn1_schema_bounds.specs.Bounds.{counts_of}
+use Rattle.asn1_schema_constraints.specs.Terms.{sizes_of}
+use Rattle.asn1_values_bits.specs.BitStr.{bits_of}
+use Rattle.oer_codec_writing.specs.Writing.{Adds}
+use Rattle.oer_codec_writing.proofs.ScalarTexts.{adds_same}
+use Rattle.oer_codec_writing.proofs.BitTexts.{bit_string_text, bit_string_none}
+use Rattle.oer_codec_writing.proofs.bits.push_bit_string.Goals as goal
+
+pub returns-then-not-admits : goal.returns-then-not-admits
+returns-then-not-admits c =
+    let z = sizes_of c.args.constraints.size in
+    let h = counts_of c.args.held in
+    bit_string_none z h (bits_of c.args.value) (ap (Oer.admits z h) (sym c.len.ensures) ∙ sym c.admits.ensures ∙ c.if-not-admits.true)
+
+pub returns : goal.returns
+returns c =
+    let z = sizes_of c.args.constraints.size in
+    let h = counts_of c.args.held in
+    adds_same _ _ c.args.octets.now.items c.push_sized_bits.new.octets.items (bit_string_text z h (bits_of c.args.value) (ap (Oer.admits z h) (sym c.len.ensures) ∙ sym c.admits.ensures ∙ c.if-not-admits.false))
+    (subst (λ b. Adds (written (Oer.bit_string_form b (bits_of c.args.value)) 0) c.args.octets.now.items c.push_sized_bits.new.octets.items) c.is_fixed.ensures c.in_ok-push_sized_bits.ensures)

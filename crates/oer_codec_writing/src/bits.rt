@@ -1,0 +1,71 @@
+//! Bits (X.696 13).
+ghost use Rattle.std.specs.Prelude.{◌≡◌, ◌++◌, length, MatchResult};
+ghost use Rattle.asn1_model.specs.Form.{written};
+ghost use Rattle.asn1_model.specs.Numbers.{missing, packed};
+ghost use Rattle.asn1_model.specs.Oer.{bit_string_form, form};
+ghost use Rattle.asn1_model.specs.Schema.{bit_string};
+ghost use Rattle.asn1_model.specs.Value.{bit_list};
+ghost use Rattle.asn1_schema_bounds.specs.Bounds.{counts_of};
+ghost use Rattle.asn1_schema_constraints.specs.Terms.{sizes_of};
+ghost use Rattle.asn1_values_bits.specs.BitStr.{bits_of};
+ghost use Rattle.asn1_values_bits.specs.Octets.{filled_up};
+ghost use Rattle.oer_codec_writing.specs.Writing.{Adds, Refuses};
+
+use crate::lengths::push_length;
+use crate::sizes::{admits, is_fixed};
+use asn1_schema_bounds::Bounded;
+use asn1_schema_constraints::Constraints;
+use asn1_schema_faults::EncodeError;
+use asn1_values_bits::BitStr;
+
+/// How many bits are missing to whole octets.
+fn unused_bits(count: usize) -> u8
+    ensures { result ≡ missing count }
+{
+    ((8 - count % 8) % 8) as u8
+}
+
+/// Adds bits as octets, the last filled with zero bits (X.696 13).
+fn push_bits(octets: &mut Vec<u8>, value: BitStr) -> Result<(), EncodeError>
+    ensures { MatchResult result (λ _. octets.new.items ≡ octets.old.items ++ packed (filled_up (bits_of value.entry))) (λ e. e ≡ EncodeError.OutOfMemory) }
+{
+    let mut rest = value;
+    while rest.len() > 0 {
+        let few = rest.len().min(8);
+        let octet = (rest.first_number(few as u32) << (8 - few)) as u8;
+        octets.push(octet)?;
+        rest = rest.split_at(few).1;
+    }
+    Ok(())
+}
+
+/// Adds bits, behind a length and the number of unused bits unless there is one size (X.696 13).
+pub fn push_sized_bits(octets: &mut Vec<u8>, fixed: bool, value: BitStr) -> Result<(), EncodeError>
+    ensures { MatchResult result (λ _. Adds (written (bit_string_form fixed (bits_of value.entry)) 0) octets.old.items octets.new.items) (λ e. e ≡ EncodeError.OutOfMemory) }
+{
+    if fixed {
+        push_bits(octets, value)?;
+        return Ok(());
+    }
+    let count = value.len();
+    push_length(octets, count / 8 + (count % 8 + 7) / 8 + 1)?;
+    octets.push(unused_bits(count))?;
+    push_bits(octets, value)?;
+    Ok(())
+}
+
+/// Adds a BIT STRING (X.696 13).
+pub fn push_bit_string(
+    octets: &mut Vec<u8>,
+    constraints: Constraints,
+    held: Bounded<usize>,
+    value: BitStr,
+) -> Result<(), EncodeError>
+    ensures { MatchResult result (λ _. Adds (written (form (bit_string (sizes_of constraints.entry.size) (counts_of held)) (bit_list (bits_of value.entry))) 0) octets.old.items octets.new.items) (Refuses (written (form (bit_string (sizes_of constraints.entry.size) (counts_of held)) (bit_list (bits_of value.entry))) 0)) }
+{
+    if !admits(constraints, held, value.len()) {
+        return Err(EncodeError::SizeConstraintNotSatisfied);
+    }
+    push_sized_bits(octets, is_fixed(constraints), value)?;
+    Ok(())
+}

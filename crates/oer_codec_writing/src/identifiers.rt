@@ -1,0 +1,26 @@
+//! Object identifiers (X.696 21).
+ghost use Rattle.std.specs.Prelude.{◌≡◌, MatchResult};
+ghost use Rattle.asn1_model.specs.Form.{written};
+ghost use Rattle.asn1_model.specs.Oer.{form};
+ghost use Rattle.asn1_model.specs.Schema.{object_identifier};
+ghost use Rattle.asn1_model.specs.Value.{arcs};
+ghost use Rattle.oer_codec_writing.specs.Writing.{Adds, Refuses};
+
+use crate::lengths::push_counted;
+use asn1_schema_faults::EncodeError;
+use asn1_values_identifiers::{IdentifierError, Oid, oid_octets};
+use std::alloc::Global;
+
+/// Adds an OBJECT IDENTIFIER (X.696 21). One of a single arc has no contents.
+pub fn push_identifier(octets: &mut Vec<u8>, alloc: Global, value: &Oid) -> Result<(), EncodeError>
+    ensures { MatchResult result (λ _. Adds (written (form object_identifier (arcs value.now)) 0) octets.old.items octets.new.items) (Refuses (written (form object_identifier (arcs value.now)) 0)) }
+{
+    match oid_octets(alloc, value) {
+        Ok(contents) => {
+            push_counted(octets, contents.as_slice())?;
+            Ok(())
+        }
+        Err(IdentifierError::Truncated) => Err(EncodeError::ValueConstraintNotSatisfied),
+        Err(_) => Err(EncodeError::OutOfMemory),
+    }
+}

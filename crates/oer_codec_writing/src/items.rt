@@ -1,0 +1,19 @@
+//! Items of enumerations (X.696 11).
+ghost use Rattle.std.specs.Prelude.{◌≡◌, MatchResult};
+ghost use Rattle.asn1_model.specs.Form.{written};
+ghost use Rattle.asn1_model.specs.Oer.{form};
+ghost use Rattle.asn1_model.specs.Schema.{enumerated};
+ghost use Rattle.asn1_model.specs.Value.{item};
+ghost use Rattle.oer_codec_writing.specs.Writing.{Adds};
+
+use asn1_schema_faults::EncodeError;
+use asn1_schema_variants::Enumerated;
+use oer_codec_writing_tags::push_item;
+
+/// Adds an ENUMERATED by the number of its item (X.696 11).
+pub fn push_enumerated<T: Enumerated>(octets: &mut Vec<u8>, value: &T) -> Result<(), EncodeError>
+    ensures { MatchResult result (λ _. Adds (written (form (enumerated T.roots T.extensible T.additions) (item (T.number value.now))) 0) octets.old.items octets.new.items) (λ e. e ≡ EncodeError.OutOfMemory) }
+{
+    push_item(octets, value.discriminant())?;
+    Ok(())
+}

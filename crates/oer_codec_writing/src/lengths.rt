@@ -1,0 +1,62 @@
+//! Lengths, counts, and octets behind their number (X.696 8.6 and 17).
+ghost use Rattle.std.specs.Prelude.{◌≡◌, ◌+◌, ◌*◌, ◌^◌, ◌<◌, ◌≤◌, ◌++◌, ◌∷◌, MatchResult};
+ghost use Rattle.asn1_model.specs.Form.{written};
+ghost use Rattle.asn1_model.specs.Numbers.{digits, octet_width as octet_width_of};
+ghost use Rattle.asn1_model.specs.Oer.{length_form, counted, unsigned};
+ghost use Rattle.oer_codec_writing.specs.Writing.{Adds};
+
+use asn1_schema_faults::EncodeError;
+
+/// How many octets hold a number; zero needs none.
+fn octet_width(number: usize) -> u32
+    ensures width { result ≡ octet_width_of number }
+    ensures most { result ≤ 8 }
+{
+    (usize::BITS - number.leading_zeros() + 7) / 8
+}
+
+/// Adds the low `count` octets of a number, the highest first.
+fn push_digits(octets: &mut Vec<u8>, number: usize, count: u32) -> Result<(), EncodeError>
+    requires { count ≤ 8 }
+    ensures { MatchResult result (λ _. octets.new.items ≡ octets.old.items ++ digits 256 count number) (λ e. e ≡ EncodeError.OutOfMemory) }
+{
+    let mut left = count;
+    while left > 0 {
+        left -= 1;
+        octets.push((number >> (8 * left) & 0xFF) as u8)?;
+    }
+    Ok(())
+}
+
+/// Adds a length (X.696 8.6): below 128 one octet, else the fewest behind their number.
+pub(crate) fn push_length(octets: &mut Vec<u8>, length: usize) -> Result<(), EncodeError>
+    ensures { MatchResult result (λ _. Adds (written (length_form length) 0) octets.old.items octets.new.items) (λ e. e ≡ EncodeError.OutOfMemory) }
+{
+    if length < 0x80 {
+        octets.push(length as u8)?;
+        return Ok(());
+    }
+    let count = octet_width(length);
+    octets.push(0x80 + count as u8)?;
+    push_digits(octets, length, count)?;
+    Ok(())
+}
+
+/// Adds octets behind their number (X.696 8.6).
+pub fn push_counted(octets: &mut Vec<u8>, contents: &[u8]) -> Result<(), EncodeError>
+    ensures { MatchResult result (λ _. Adds (written (counted contents.now) 0) octets.old.items octets.new.items) (λ e. e ≡ EncodeError.OutOfMemory) }
+{
+    push_length(octets, contents.len())?;
+    octets.extend_from_slice(contents)?;
+    Ok(())
+}
+
+/// Adds a count of members (X.696 17): its fewest octets, at least one, behind their number.
+pub fn push_count(octets: &mut Vec<u8>, count: usize) -> Result<(), EncodeError>
+    ensures { MatchResult result (λ _. Adds (written (unsigned count) 0) octets.old.items octets.new.items) (λ e. e ≡ EncodeError.OutOfMemory) }
+{
+    let width = octet_width(count).max(1);
+    octets.push(width as u8)?;
+    push_digits(octets, count, width)?;
+    Ok(())
+}

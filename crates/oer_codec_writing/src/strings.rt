@@ -1,0 +1,119 @@
+//! Character strings (X.696 27).
+ghost use Rattle.std.specs.Prelude.{◌≡◌, ◌++◌, IsTrue, MatchResult, flat_map};
+ghost use Rattle.asn1_model.specs.Form.{written};
+ghost use Rattle.asn1_model.specs.Numbers.{digits};
+ghost use Rattle.asn1_model.specs.Oer.{form, octets_form};
+ghost use Rattle.asn1_model.specs.Schema.{character_string, utf8};
+ghost use Rattle.asn1_model.specs.Strings.{each_is, is_octet};
+ghost use Rattle.asn1_model.specs.Types.{any_count};
+ghost use Rattle.asn1_model.specs.Value.{text};
+ghost use Rattle.asn1_schema_constraints.specs.Terms.{sizes_of, alphabet_of};
+ghost use Rattle.oer_codec_writing.specs.Writing.{Adds, Refuses};
+
+use crate::lengths::push_length;
+use crate::sizes::{admits, is_fixed, push_sized};
+use asn1_schema_bounds::Bounded;
+use asn1_schema_constraints::Constraints;
+use asn1_schema_faults::EncodeError;
+use asn1_values_alphabets::StaticPermittedAlphabet;
+
+/// Adds a UTF8String (X.696 27).
+pub fn push_utf8(
+    octets: &mut Vec<u8>,
+    constraints: Constraints,
+    value: &str,
+) -> Result<(), EncodeError>
+    ensures { MatchResult result (λ _. Adds (written (form (character_string utf8 (sizes_of constraints.entry.size) (alphabet_of constraints.entry.permitted_alphabet) any_count) (text value.now)) 0) octets.old.items octets.new.items) (Refuses (written (form (character_string utf8 (sizes_of constraints.entry.size) (alphabet_of constraints.entry.permitted_alphabet) any_count) (text value.now)) 0)) }
+{
+    if !admits(constraints, Bounded::None, value.len()) {
+        return Err(EncodeError::SizeConstraintNotSatisfied);
+    }
+    push_sized(octets, is_fixed(constraints), value.as_bytes())?;
+    Ok(())
+}
+
+/// Adds the characters as octets, one for each.
+fn push_narrow<S: StaticPermittedAlphabet>(
+    octets: &mut Vec<u8>,
+    value: &S,
+) -> Result<(), EncodeError>
+    requires { IsTrue (each_is is_octet (S.characters value.now)) }
+    ensures { MatchResult result (λ _. octets.new.items ≡ octets.old.items ++ S.characters value.now) (λ e. e ≡ EncodeError.OutOfMemory) }
+{
+    let count = value.char_count();
+    for place in 0..count {
+        octets.push(value.char_at(place) as u8)?;
+    }
+    Ok(())
+}
+
+/// Adds the characters as octets, two for each, the highest first.
+fn push_wide<S: StaticPermittedAlphabet>(octets: &mut Vec<u8>, value: &S) -> Result<(), EncodeError>
+    ensures { MatchResult result (λ _. octets.new.items ≡ octets.old.items ++ flat_map (digits 256 2) (S.characters value.now)) (λ e. e ≡ EncodeError.OutOfMemory) }
+{
+    let count = value.char_count();
+    for place in 0..count {
+        let character = value.char_at(place);
+        octets.push((character >> 8 & 0xFF) as u8)?;
+        octets.push((character & 0xFF) as u8)?;
+    }
+    Ok(())
+}
+
+/// Adds the octets of a string in which each character has one, behind their number unless there is one size.
+fn push_narrow_string<S: StaticPermittedAlphabet>(
+    octets: &mut Vec<u8>,
+    fixed: bool,
+    value: &S,
+) -> Result<(), EncodeError>
+    requires { IsTrue (each_is is_octet (S.characters value.now)) }
+    ensures { MatchResult result (λ _. Adds (written (octets_form fixed (S.characters value.now)) 0) octets.old.items octets.new.items) (λ e. e ≡ EncodeError.OutOfMemory) }
+{
+    if fixed {
+        push_narrow(octets, value)?;
+        return Ok(());
+    }
+    push_length(octets, value.char_count())?;
+    push_narrow(octets, value)?;
+    Ok(())
+}
+
+/// Adds the octets of a string in which each character has two, behind their number unless there is one size.
+fn push_wide_string<S: StaticPermittedAlphabet>(
+    octets: &mut Vec<u8>,
+    fixed: bool,
+    value: &S,
+) -> Result<(), EncodeError>
+    ensures { MatchResult result (λ _. Adds (written (octets_form fixed (flat_map (digits 256 2) (S.characters value.now))) 0) octets.old.items octets.new.items) (λ e. e ≡ EncodeError.OutOfMemory) }
+{
+    if fixed {
+        push_wide(octets, value)?;
+        return Ok(());
+    }
+    let Some(length) = value.char_count().checked_mul(2) else {
+        return Err(EncodeError::OutOfMemory);
+    };
+    push_length(octets, length)?;
+    push_wide(octets, value)?;
+    Ok(())
+}
+
+/// Adds a character string of a kind with an alphabet of its own (X.696 27).
+pub fn push_characters<S: StaticPermittedAlphabet>(
+    octets: &mut Vec<u8>,
+    constraints: Constraints,
+    value: &S,
+) -> Result<(), EncodeError>
+    ensures { MatchResult result (λ _. Adds (written (form (character_string S.kind (sizes_of constraints.entry.size) (alphabet_of constraints.entry.permitted_alphabet) any_count) (text (S.characters value.now))) 0) octets.old.items octets.new.items) (Refuses (written (form (character_string S.kind (sizes_of constraints.entry.size) (alphabet_of constraints.entry.permitted_alphabet) any_count) (text (S.characters value.now))) 0)) }
+{
+    let count = value.char_count();
+    if !admits(constraints, Bounded::None, count) {
+        return Err(EncodeError::SizeConstraintNotSatisfied);
+    }
+    if S::contains_char(0x100) {
+        push_wide_string(octets, is_fixed(constraints), value)?;
+        return Ok(());
+    }
+    push_narrow_string(octets, is_fixed(constraints), value)?;
+    Ok(())
+}

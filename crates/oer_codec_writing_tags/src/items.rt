@@ -1,0 +1,22 @@
+//! Items of enumerations (X.696 11).
+ghost use Rattle.std.specs.Prelude.{◌≡◌, ◌++◌, Some, option_map, MatchResult};
+ghost use Rattle.asn1_model.specs.Form.{written};
+ghost use Rattle.asn1_model.specs.Oer.{item_form};
+
+use asn1_schema_faults::EncodeError;
+use asn1_values_integer_types::IntegerType;
+
+/// Adds the number of an item (X.696 11): one octet for 0 to 127, else the fewest octets of two's complement behind
+/// 0x80 and how many they are. Only memory can be refused.
+pub fn push_item(octets: &mut Vec<u8>, number: isize) -> Result<(), EncodeError>
+    ensures { MatchResult result (λ _. option_map (λ w. octets.old.items ++ w) (written (item_form number) 0) ≡ Some octets.new.items) (λ e. e ≡ EncodeError.OutOfMemory) }
+{
+    if 0 <= number && number < 0x80 {
+        octets.push(number as u8)?;
+        return Ok(());
+    }
+    let digits = number.to_signed_bytes_be();
+    octets.push(0x80 + digits.len() as u8)?;
+    octets.extend_from_slice(digits.as_slice())?;
+    Ok(())
+}
