@@ -1,4 +1,6 @@
 //! Rows of both variants, through the calls.
+mod alignments;
+
 use crate::{aper, uper};
 use asn1_schema_bounds::Bounded;
 use asn1_schema_constraints::{Constraint, Constraints, Extensible, PermittedAlphabet, Value};

@@ -1,5 +1,5 @@
 -- Which message a decoder has found, and why none stands in front where it has not.
-use Rattle.std.proofs.Common.{◌≡◌, ℕ, suc, ◌+◌, ◌-◌, ◌*◌, ◌/◌, ◌<◌, ◌≤◌, ◌^◌, Bool, false, IsTrue, List, [], ◌++◌, length, take, drop, refl, ap, sym, ◌∙◌, subst, append_assoc, arith, length-append}
+use Rattle.std.proofs.Common.{◌≡◌, ℕ, ◌+◌, ◌-◌, ◌*◌, ◌/◌, ◌<◌, ◌≤◌, ◌^◌, Bool, false, IsTrue, List, [], ◌++◌, length, take, drop, refl, ap, sym, ◌∙◌, subst, append_assoc, arith, length-append}
 use Rattle.std.proofs.lemmas.List.{length-take, take-append-drop}
 use Rattle.std.proofs.Math.Seq.{take-append-add, take-append_seam, drop-append_seam}
 use Rattle.asn1_model.specs.Value.{Value, depth}
@@ -22,7 +22,7 @@ use Rattle.asn1_values_bits.proofs.Binary.{octet_bits-append, octet_bits-take, l
 use Rattle.oer_codec_fronts.proofs.Fitting.{records_fit}
 use Rattle.per_codec_decoder.specs.Held.{Held, Finds, IsReady}
 use Rattle.per_codec_decoder.specs.Laws.{finds_one}
-use Rattle.per_codec_fronts.specs.Takes.{Place, State, Front, completion}
+use Rattle.per_codec_fronts.specs.Takes.{Place, Front, completion}
 use Rattle.per_codec_fronts.proofs.Opened.{filled_in, filled_out}
 use Rattle.per_codec_fronts.proofs.Whole.{records_read, forms_show}
 use Rattle.per_codec_reading.specs.Fronts.{freedoms, is_aligned}

@@ -1,5 +1,5 @@
 -- Headers and numbers of members in front.
-use Rattle.std.proofs.Common.{◌≡◌, ℕ, zero, suc, ◌+◌, ◌-◌, ◌*◌, ◌<◌, ◌≤◌, ◌^◌, ltb, leb, Bool, true, false, cond, ◌||◌, ◌&&◌, IsTrue, inl, inr, ◌⊎◌, List, [], ◌∷◌, length, drop, slice_index_or, Option, Some, None, refl, sym, ◌∙◌, ap, subst, arith}
+use Rattle.std.proofs.Common.{◌≡◌, ℕ, zero, suc, ◌+◌, ◌-◌, ◌*◌, ◌<◌, ◌≤◌, ltb, leb, Bool, true, false, cond, ◌||◌, ◌&&◌, IsTrue, inl, inr, List, [], ◌∷◌, length, drop, slice_index_or, Option, Some, None, refl, sym, ◌∙◌, ap, subst, arith}
 use Rattle.std.proofs.lemmas.Bool.{and_parts, leb-true, le-leb}
 use Rattle.std.specs.Prelude.{not}
 use Rattle.asn1_model.specs.Lawful.{are_ascending}
@@ -13,7 +13,7 @@ use Rattle.asn1_laws_fronts.proofs.Fronts.{agree_first, agree_map, agree_nothing
 use Rattle.asn1_laws_fronts.proofs.PerNumbers.{Alike, at_octet_alike, bits_apart, short_length_alike, constrained_alike}
 use Rattle.asn1_schema_faults.specs.declared.DecodeError.{DecodeError}
 use Rattle.asn1_schema_faults.specs.declared.DecodeError.TheVariants.{OutOfMemory, Incomplete}
-use Rattle.per_codec_fronts.specs.Takes.{Place, Tally, Scope, members, State, Front, InPlace, Admits, in_all, with_fragment, Header, Headed, Numbered, ByHighest, Counted, SizeMark, ListBegins, MemberDue, NextMember}
+use Rattle.per_codec_fronts.specs.Takes.{Place, Tally, Scope, members, State, Front, InPlace, Admits, in_all, with_fragment, Header, Headed, Numbered, ByHighest, Counted, SizeMark, MemberDue, NextMember}
 use Rattle.per_codec_fronts.proofs.Fronts.{if_in, if_out}
 use Rattle.per_codec_fronts.proofs.Next.{same_fronts}
 use Rattle.per_codec_reading.specs.Fronts.{NoneStands, Misses}

@@ -1,26 +1,23 @@
 -- How a record that is asked for is found in front, and why none is.
-use Rattle.std.proofs.Common.{◌≡◌, ℕ, ℤ, zero, suc, ◌+◌, ◌<◌, Bool, cond, true, false, ◌||◌, ◌&&◌, List, [], ◌∷◌, length, map, Option, Some, None, Result, Ok, Err, refl, sym, ◌∙◌, ap, subst, arith}
+use Rattle.std.proofs.Common.{◌≡◌, ℕ, ℤ, suc, ◌+◌, Bool, true, false, ◌||◌, ◌&&◌, List, ◌∷◌, length, Some, Result, Ok, Err, refl, sym, ◌∙◌, ap, subst, arith}
 use Rattle.std.specs.Prelude.{OnOk, not}
 use Rattle.asn1_schema_levels.specs.Levels.{level}
-use Rattle.asn1_model.specs.Value.{Value, truth, nothing, number, bit_list, octet_list, text, arcs}
-use Rattle.asn1_model.specs.Schema.{Range, Bounds, Counts, Size, Alphabet, StringKind, Schema, boolean, null, integer, bit_string, octet_string, character_string, object_identifier}
+use Rattle.asn1_model.specs.Value.{Value, truth, nothing, number, item, bit_list, octet_list, text, arcs}
+use Rattle.asn1_model.specs.Schema.{Range, Bounds, Counts, Size, Alphabet, StringKind, Schema, boolean, null, integer, enumerated, bit_string, octet_string, character_string, object_identifier}
 use Rattle.asn1_model.specs.Lawful.{is_alphabet}
 use Rattle.asn1_model.specs.Numbers.{is_within, is_count_within, fits_128}
 use Rattle.asn1_model.specs.Strings.{each_is, is_octet}
-use Rattle.asn1_model.specs.Form.{exactly, only_if}
 use Rattle.asn1_model.specs.Tables.{is_bounded}
 use Rattle.asn1_model.specs.Per
 use Rattle.asn1_laws_fronts.proofs.PerNumbers.{length_of_map}
-use Rattle.asn1_schema_decode.specs.Reads.{NoRecord, NoLevel}
+use Rattle.asn1_schema_decode.specs.Reads.{NoRecord}
 use Rattle.asn1_schema_faults.specs.declared.DecodeError.{DecodeError}
-use Rattle.asn1_schema_faults.specs.declared.DecodeError.TheVariants.{OutOfMemory}
-use Rattle.asn1_schema_presented.specs.Records.{Record, Question, question, flag, nil, whole, bits, octets, characters, identifier, list_begins, further, sequence_begins, asks_flag, asks_nil, asks_whole, asks_bits, asks_octets, asks_characters, asks_identifier, asks_list, asks_further, asks_sequence}
-use Rattle.oer_codec_fronts.specs.Takes.{preamble_bits}
-use Rattle.per_codec_fronts.specs.Takes.{Place, Scope, components, members, State, Tally, Front, Found, ListBegins, NextMember, Begins, Takes}
+use Rattle.asn1_schema_presented.specs.Records.{Record, Question, question, flag, nil, whole, one_of, bits, octets, characters, identifier, further, asks_flag, asks_nil, asks_whole, asks_one_of, asks_bits, asks_octets, asks_characters, asks_identifier, asks_further}
+use Rattle.per_codec_fronts.specs.Takes.{Place, Scope, components, State, Front, Found, NextMember, Begins, Takes}
 use Rattle.per_codec_fronts.proofs.Fronts.{if_out}
-use Rattle.per_codec_reading.specs.Fronts.{freedoms, is_aligned, NoneStands, Misses}
+use Rattle.per_codec_reading.specs.Fronts.{freedoms, is_aligned, Misses}
 use Rattle.per_codec_decoder.specs.Held.{Held, state_of, Finds, IsReady}
-use Rattle.per_codec_decoder.specs.Members.{HasMembers, NoMembers, NoFurther}
+use Rattle.per_codec_decoder.specs.Members.{NoFurther}
 use Rattle.per_codec_decoder.specs.Preamble.{HasPreamble}
 use Rattle.per_codec_decoder.proofs.Counting.{missed}
 
@@ -40,6 +37,10 @@ module _ (al : Bool) (free : Per.Freedom → Bool) (a b : State) where
   pub asked_whole : (z : Bounds) (h : Range) (r : Record) → question r ≡ asks_whole z h → Takes al free a r b → OfType (integer z h)
   asked_whole z h (whole y i v) k t = let e : integer y i ≡ integer z h = cc k in (number v, subst (λ s. Found free (Per.form al s (number v)) a b) e t)
   asked_whole z h r k t = cc k
+
+  pub asked_one_of : (ds : List ℤ) (e : Bool) (us : List ℤ) (r : Record) → question r ≡ asks_one_of ds e us → Takes al free a r b → OfType (enumerated ds e us)
+  asked_one_of ds e us (one_of xs d ys v) k t = let p : enumerated xs d ys ≡ enumerated ds e us = cc k in (item v, subst (λ s. Found free (Per.form al s (item v)) a b) p t)
+  asked_one_of ds e us r k t = cc k
 
   pub asked_bits : (z : Size) (h : Counts) (r : Record) → question r ≡ asks_bits z h → Takes al free a r b → OfType (bit_string z h)
   asked_bits z h (bits y i v) k t = let e : bit_string y i ≡ bit_string z h = cc k in (bit_list v, subst (λ s. Found free (Per.form al s (bit_list v)) a b) e t)
@@ -109,38 +110,7 @@ pub begins : (free : Per.Freedom → Bool) (e : Bool) (n : ℕ) (s : Scope) (a b
 begins free e n (components x ms) a b k h = (x, ms, h.0, h.1, h.2, refl)
 begins free e n s a b k h = absurd h
 
-asked_sequence : (al : Bool) (free : Per.Freedom → Bool) (e : Bool) (n : ℕ) (a b : State) (r : Record) → question r ≡ asks_sequence e n → Takes al free a r b → Begins free e n a b
-asked_sequence al free e n a b (sequence_begins d m) k t =
-    let p : sequence_begins d m ≡ sequence_begins e n = cc k in
-    subst (λ r. Takes al free a r b) p t
-asked_sequence al free e n a b r k t = cc k
-
-pub no_sequence : (old now : Held) (e : Bool) (n : ℕ) (x : DecodeError) → now ≡ old → ((free : Per.Freedom → Bool) (s : Scope) (b : Place) → HasPreamble free e n s now.place b → ⊥) → NoLevel Finds (asks_sequence e n) old.levels old x
-no_sequence old now e n x same none = record {
-  none = λ m l r new k p.
-      let t = asked_sequence (is_aligned old.variant) (freedoms old.variant) e n (state_of old) (state_of new) r k p.taken in
-      none (freedoms old.variant) (components t.0 t.1) new.place (t.2, t.3, subst (λ (g : Held). Front (freedoms old.variant) (exactly (preamble_bits t.0 t.1)) g.place new.place) (sym same) t.4);
-}
-
--- ---- lists
-pub listed : (al : Bool) (free : Per.Freedom → Bool) (z : Size) (h : Counts) (due n : ℕ) (hs : Option Tally) (a b : Place) (k : List Scope) → is_count_within h n ≡ true → HasMembers al free z h due hs a b → ListBegins al free z h n (a, k) (b, members due hs ∷ k)
-listed al free z h due n hs a b k e g = (e, g.0, g.1, g.2, g.3 k)
-
-asked_list : (al : Bool) (free : Per.Freedom → Bool) (z : Size) (h : Counts) (a b : State) (r : Record) → question r ≡ asks_list z h → Takes al free a r b → (n : ℕ) × ListBegins al free z h n a b
-asked_list al free z h a b (list_begins y i n) k t =
-    let p : list_begins y i n ≡ list_begins z h n = cc k in
-    (n, subst (λ r. Takes al free a r b) p t)
-asked_list al free z h a b r k t = cc k
-
-pub no_list : (old now : Held) (z : Size) (h : Counts) (e x : DecodeError) → now ≡ old → x ≡ e → NoMembers (is_aligned now.variant) (freedoms now.variant) z h now.place e → NoLevel Finds (asks_list z h) old.levels old x
-no_list old now z h e x same faults m =
-    let n : NoMembers (is_aligned old.variant) (freedoms old.variant) z h old.place e = subst (λ (g : Held). NoMembers (is_aligned g.variant) (freedoms g.variant) z h g.place e) same m in
-    record {
-      none = λ i l r new k p.
-          let t = asked_list (is_aligned old.variant) (freedoms old.variant) z h (state_of old) (state_of new) r k p.taken in
-          n.none (λ y. i (faults ∙ y)) t.0 old.scopes (state_of new) t.1;
-    }
-
+-- ---- members
 asked_further : (al : Bool) (free : Per.Freedom → Bool) (a b : State) (r : Record) → question r ≡ asks_further → Takes al free a r b → (v : Bool) × NextMember al free v a.0 a.1 b
 asked_further al free a b (further v) k t = (v, t)
 asked_further al free a b r k t = cc k

@@ -1,17 +1,21 @@
 -- Bits in front, and what a preamble and the end of a message are in them.
-use Rattle.std.proofs.Common.{◌≡◌, ℕ, zero, suc, ◌+◌, ◌<◌, ◌==◌, ◌%◌, ◌^◌, Bool, true, false, cond, IsTrue, inl, inr, List, [], ◌∷◌, ◌++◌, length, replicate, Option, Some, None, refl, sym, ◌∙◌, ap, subst, append_assoc, length-append, arith}
+use Rattle.std.proofs.Common.{◌≡◌, ℕ, zero, suc, ◌+◌, ◌<◌, ◌==◌, ◌*◌, ◌/◌, ◌%◌, ◌^◌, Bool, true, false, cond, IsTrue, inr, List, [], ◌∷◌, ◌++◌, length, replicate, Option, Some, None, refl, sym, ◌∙◌, ap, subst, length-append, arith}
 use Rattle.std.proofs.lemmas.Bool.{eq-eqb, eqb-true}
-use Rattle.std.proofs.lemmas.List.{length-replicate}
-use Rattle.asn1_model.specs.Numbers.{binary, missing}
+use Rattle.asn1_model.specs.Numbers.{binary, missing, octet_bits, packed}
+use Rattle.asn1_laws.proofs.Octets.{packed_back, packed_octets}
 use Rattle.asn1_model.specs.Form.{Reads, exactly, only_if, is_present}
 use Rattle.asn1_model.specs.Per
 use Rattle.oer_codec_fronts.specs.Takes.{preamble_bits}
-use Rattle.per_codec_fronts.specs.Takes.{Place, Scope, components, Front, completion, SizeMark}
+use Rattle.per_codec_fronts.specs.Takes.{Place, Scope, State, components, Front, Closes, completion, SizeMark}
 use Rattle.per_codec_reading.specs.Fronts.{freedoms, Leads}
 use Rattle.per_codec_reading.proofs.Fronts.{leads_join, leads_same}
 use Rattle.asn1_values_bits.proofs.Binary.{low_zeros, binary_zero}
 use Rattle.std.proofs.Math.Nat.{mod-eq_of_lt}
+use Rattle.per_codec_reading.specs.Fronts.{NoneStands}
+use Rattle.per_codec_reading_scopes.specs.Fields.{bits_form}
+use Rattle.per_codec_reading_scopes.proofs.FieldFronts.{bits_read}
 use Rattle.per_codec_decoder.specs.Held.{Held}
+use Rattle.per_codec_decoder.specs.Scopes.{IsClosed}
 use Rattle.per_codec_decoder.specs.Preamble.{HasPreamble}
 
 pub front_of : (free : Per.Freedom → Bool) (w : List Bool) (a b : Place) → Leads w a b → Front free (exactly w) a b
@@ -49,11 +53,20 @@ joined_bits (Some x) ms = refl
 pub preamble : (free : Per.Freedom → Bool) (e : Bool) (n : ℕ) (x : Option Bool) (ms : List Bool) (a m b : Place) → is_present x ≡ e → Leads (preamble_bits x []) a m → Leads ms m b → length ms ≡ n → HasPreamble free e n (components x ms) a b
 preamble free e n x ms a m b p h k l = (p, l, subst (λ w. Front free (exactly w) a b) (joined_bits x ms) (front_of free (preamble_bits x [] ++ ms) a b (leads_join (preamble_bits x []) ms a m b h k)))
 
-pub short_preamble : (free : Per.Freedom → Bool) (e : Bool) (n : ℕ) (x : Option Bool) (a m : Place) (s : Scope) (b : Place) → is_present x ≡ e → Leads (preamble_bits x []) a m → length m.1 < n → HasPreamble free e n s a b → ⊥
-short_preamble free e n x a m s b p h l g =
-    let k = has_bits e 0 x [] p refl in
-    let i = left_behind (preamble_bits x []) a m h in
-    no_preamble free e n s a b (omega (arith, k, i, l)) g
+behind_mark : (x y : Option Bool) (ms : List Bool) (a m b : Place) → is_present x ≡ is_present y → Leads (preamble_bits x []) a m → Leads (preamble_bits y ms) a b → Leads ms m b
+behind_mark None (Some v) ms a m b p l h = cc
+behind_mark (Some u) None ms a m b p l h = cc
+behind_mark None None ms a m b p l h = let i = l.1 in let j = h.1 in (h.0 ∙ sym l.0, omega (arith, i, j))
+behind_mark (Some u) (Some v) ms a m b p l h =
+    let e : v ∷ (ms ++ b.1) ≡ u ∷ m.1 = h.0 ∙ sym l.0 in
+    let t : ms ++ b.1 ≡ m.1 = cc in
+    let i = l.1 in
+    let j = h.1 in
+    (t, omega (arith, i, j))
+
+pub no_presence : (free : Per.Freedom → Bool) (e : Bool) (n : ℕ) (x : Option Bool) (a m : Place) (s : Scope) (b : Place) → is_present x ≡ e → Leads (preamble_bits x []) a m → NoneStands free (bits_form n) m → HasPreamble free e n s a b → ⊥
+no_presence free e n x a m (components y ms) b p l none h = none ms b (bits_read free n ms m b h.1 (behind_mark x y ms a m b (p ∙ sym h.0) l (leads_of free (preamble_bits y ms) a b h.2)))
+no_presence free e n x a m s b p l none h = h
 
 pub missing_mark : (free : Per.Freedom → Bool) (e : Bool) (n : ℕ) (s : Scope) (a b : Place) → e ≡ true → a.1 ≡ [] → HasPreamble free e n s a b → ⊥
 missing_mark free e n s a b t z g =
@@ -105,6 +118,39 @@ other_octet free d n a m b z e l h f =
     let s = leads_same (binary 8 d) (replicate 8 false) a m b refl h g in
     let q : d % 2 ^ 8 ≡ 0 = low_zeros 8 d s in
     e (sym (mod-eq_of_lt l) ∙ q)
+
+-- how many bits a completion has
+abbrev span : ℕ → ℕ
+span zero = 8
+span (suc n) = missing (suc n)
+
+completion_long : (free : Per.Freedom → Bool) (n : ℕ) (a b : Place) → Front free (completion n) a b → span n + length b.1 ≡ length a.1
+completion_long free zero a b f = left_behind (replicate 8 false) a b (leads_of free (replicate 8 false) a b f)
+completion_long free (suc n) a b f =
+    let e = filling_long free (missing (suc n)) a.0 f.text f.has_form in
+    let k = sym (length-append f.text b.1) ∙ ap length f.in_front in
+    omega (arith, e, k)
+
+-- ---- the end of an open type
+pub closes : (a m : Place) → ((free : Per.Freedom → Bool) → IsTrue (free Per.any_filling) → Front free (completion a.0) a m) → length m.1 % 8 ≡ 0 → IsClosed a
+closes a m h e free rest k t u =
+    let n = length m.1 / 8 in
+    let l : length m.1 ≡ 8 * n = omega (arith, e) in
+    (m, packed m.1, h free t, packed_octets n m.1 l, sym (packed_back n m.1 l), inr u, refl)
+
+pub no_completion : (a : Place) → ((free : Per.Freedom → Bool) (b : Place) → Front free (completion a.0) a b → ⊥) → (free : Per.Freedom → Bool) (rest : Place) (k : List Scope) (b : State) → Closes free a rest k b → ⊥
+no_completion a h free rest k b g = h free g.0 g.2
+
+length-octets : (os : List ℕ) → length (octet_bits os) ≡ length os * 8
+length-octets [] = refl
+length-octets (o ∷ os) = let i = length-octets os in length-append (binary 8 o) (octet_bits os) ∙ omega arith
+
+pub no_octets_left : (a m : Place) → ((free : Per.Freedom → Bool) → IsTrue (free Per.any_filling) → Front free (completion a.0) a m) → (length m.1 % 8 ≡ 0 → ⊥) → (free : Per.Freedom → Bool) (rest : Place) (k : List Scope) (b : State) → Closes free a rest k b → ⊥
+no_octets_left a m h z free rest k b g =
+    let i = completion_long (λ c. true) a.0 a m (h (λ c. true) refl) in
+    let j = completion_long free a.0 a g.0 g.2 in
+    let l : length g.0.1 ≡ length g.1 * 8 = ap length g.4 ∙ length-octets g.1 in
+    z (omega (arith, i, j, l))
 
 pub unfinished : (old now : Held) → now ≡ old → ((free : Per.Freedom → Bool) (b : Place) → Front free (completion now.place.0) now.place b → ⊥) → (b : Place) → Front (freedoms old.variant) (completion old.place.0) old.place b → ⊥
 unfinished old now same none b f = none (freedoms old.variant) b (subst (λ (h : Held). Front (freedoms old.variant) (completion h.place.0) h.place b) (sym same) f)

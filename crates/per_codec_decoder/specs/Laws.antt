@@ -1,10 +1,10 @@
 -- The laws of a decoder of the packed encoding rules.
-use Rattle.std.proofs.Common.{◌≡◌, ℕ, Bool, true, false, List, Option, Some, None, refl, sym, ◌∙◌, ap, subst}
+use Rattle.std.proofs.Common.{◌≡◌, ℕ, Bool, true, false, Option, Some, refl, sym, ◌∙◌, ap}
 use Rattle.asn1_model.specs.Schema.{Size, Counts}
 use Rattle.asn1_model.specs.Numbers.{is_count_within}
-use Rattle.asn1_schema_presented.specs.Records.{Record, Question, question, told, flag, list_begins, asks_list, asks_bag, asks_sequence, asks_set, asks_group, asks_choice, asks_end}
+use Rattle.asn1_schema_presented.specs.Records.{Record, Question, question, told, flag, list_begins, bag_begins, asks_list, asks_bag, asks_sequence, asks_set, asks_group, asks_choice, asks_end}
 use Rattle.asn1_schema_levels.specs.Levels.{level, inside, outside}
-use Rattle.per_codec_fronts.specs.Takes.{Scope, State}
+use Rattle.per_codec_fronts.specs.Takes.{State}
 use Rattle.per_codec_fronts.proofs.Next.{one_taken}
 use Rattle.per_codec_reading.specs.Fronts.{freedoms, is_aligned}
 use Rattle.per_codec_reading.specs.declared.variant.Variant.{Variant}
@@ -46,6 +46,9 @@ finds_one a r s b c k p q =
 
 pub finds_held : (a : Held) (z : Size) (h : Counts) (n : ℕ) (b : Held) → Finds a (list_begins z h n) b → is_count_within h n ≡ true
 finds_held a z h n b p = let t = p.taken in t.0
+
+pub finds_bag_held : (a : Held) (z : Size) (h : Counts) (n : ℕ) (b : Held) → Finds a (bag_begins z h n) b → is_count_within h n ≡ true
+finds_bag_held a z h n b p = let t = p.taken in t.0
 
 pub finds_none : (a : Held) (r : Record) (b : Held) → a.failed ≡ true → Finds a r b → ⊥
 finds_none a r b h p = let e : true ≡ false = sym h ∙ p.ready in cc

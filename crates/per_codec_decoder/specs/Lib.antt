@@ -1,3 +1,4 @@
+pub mod Additions
 pub mod Scopes
 pub mod Preamble
 pub mod Members

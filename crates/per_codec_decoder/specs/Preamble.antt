@@ -1,7 +1,9 @@
--- What stands in front of the components of a sequence (X.691 19.1 to 19.3).
-use Rattle.std.specs.Prelude.{◌≡◌, ℕ, Bool, length}
+-- What stands in front of the components of a sequence, set or group (X.691 19.1 to 19.3), and of additions (X.691 19.7).
+use Rattle.std.specs.Prelude.{◌≡◌, ℕ, Bool, true, false, List, [], length}
 use Rattle.asn1_model.specs.Form.{exactly, is_present}
 use Rattle.asn1_model.specs.Per
+use Rattle.asn1_schema_faults.specs.declared.DecodeError.{DecodeError}
+use Rattle.asn1_schema_faults.specs.declared.DecodeError.TheVariants.{OutOfMemory}
 use Rattle.oer_codec_fronts.specs.Takes.{preamble_bits}
 use Rattle.per_codec_fronts.specs.Takes.{Place, Scope, components, Front}
 
@@ -9,3 +11,16 @@ use Rattle.per_codec_fronts.specs.Takes.{Place, Scope, components, Front}
 abbrev pub HasPreamble : (Per.Freedom → Bool) → Bool → ℕ → Scope → Place → Place → Type 0
 HasPreamble free e n (components x ms) a b = (is_present x ≡ e) × (length ms ≡ n) × Front free (exactly (preamble_bits x ms)) a b
 HasPreamble free e n s a b = ⊥
+
+-- Why there is none such: for want of memory, or because the bits end early.
+abbrev pub NoPreamble : (Per.Freedom → Bool) → Bool → ℕ → Place → DecodeError → Type 0
+NoPreamble free e n a x = ¬ (x ≡ OutOfMemory) → (s : Scope) (b : Place) → HasPreamble free e n s a b → ⊥
+
+-- The bitmap of additions (X.691 19.7), where the bit of the mark is set.
+abbrev pub HasBitmap : (Per.Freedom → Bool) → Bool → Bool → List Bool → Place → Place → Type 0
+HasBitmap free al false bs a b = (bs ≡ []) × (b ≡ a)
+HasBitmap free al true bs a b = Front free (Per.normally_few al (Per.bit_units bs)) a b
+
+-- Why there is none: for want of memory, or because none stands in front.
+abbrev pub NoBitmap : (Per.Freedom → Bool) → Bool → Bool → Place → DecodeError → Type 0
+NoBitmap free al m a x = ¬ (x ≡ OutOfMemory) → (bs : List Bool) (b : Place) → HasBitmap free al m bs a b → ⊥

@@ -1,7 +1,8 @@
 //! What fills up a message (X.691 11.1).
 ghost use Rattle.std.specs.Prelude.{OnOk, IfErr, IsTrue};
 ghost use Rattle.asn1_model.specs.Per;
-ghost use Rattle.per_codec_fronts.specs.Takes.{Front, completion};
+ghost use Rattle.per_codec_fronts.specs.Takes.{Front, completion, Closes};
+ghost use Rattle.per_codec_decoder.specs.Scopes.{IsClosed};
 
 use asn1_schema_faults::DecodeError;
 use per_codec_reading::Cursor;
@@ -22,5 +23,21 @@ pub(crate) fn read_completion(cursor: &mut Cursor<'_>) -> Result<(), DecodeError
         return Ok(());
     }
     let _filling = cursor.take((8 - cursor.position() % 8) % 8)?;
+    Ok(())
+}
+
+/// Passes over what stands behind the value in an open type (X.691 11.2): what fills it up, and any octets behind that.
+///
+/// # Errors
+///
+/// Those of [`read_completion`], and `InvalidPadding` if what is left is not whole octets.
+pub(crate) fn read_to_end(cursor: &mut Cursor<'_>) -> Result<(), DecodeError>
+    ensures ok { OnOk result (IsClosed cursor.old) }
+    ensures only { IfErr result (λ _. (free : _) (rest : _) (k : _) (b : _) → Closes free cursor.old rest k b → ⊥) }
+{
+    read_completion(cursor)?;
+    if cursor.len() % 8 != 0 {
+        return Err(DecodeError::InvalidPadding);
+    }
     Ok(())
 }

@@ -1,42 +1,50 @@
 //! What finds the records of a value in bits.
 ghost use Rattle.std.specs.Prelude.{◌≡◌, ◌+◌, ◌-◌, ◌<◌, ◌≤◌, ◌^◌, [], ◌∷◌, true, false, length, take, OnOk, OnErr, IfErr, IfOk};
-ghost use Rattle.per_codec_decoder.specs.Held.{Held, Finds, HasFailed, kind_of, IsReady};
-ghost use Rattle.per_codec_decoder.specs.Scopes.{scope_of};
+ghost use Rattle.per_codec_decoder.specs.Held.{Held, Finds, HasFailed, kind_of, IsReady, Stays, Moves, Enters, HasOpened, NoOpening, EntersMembers, EntersComponents, NotMembers, NotComponents};
+ghost use Rattle.per_codec_decoder.specs.Scopes.{scope_of, Passes, NotPassed};
+ghost use Rattle.asn1_schema_bounds.specs.Bounds.{members_of};
+ghost use Rattle.asn1_schema_constraints.specs.Terms.{sizes_of};
 ghost use Rattle.asn1_model.specs.Numbers.{octet_bits};
 ghost use Rattle.asn1_values_bits.specs.BitStr.{bits_of};
 ghost use Rattle.per_codec_fronts.specs.Takes.{Front, completion};
-ghost use Rattle.per_codec_reading.specs.Fronts.{freedoms};
+ghost use Rattle.per_codec_reading.specs.Fronts.{freedoms, is_aligned};
 
+use crate::additions::Additions;
 use crate::alphabets::is_alphabet;
-use crate::completion::read_completion;
-use crate::frames::{Frame, Scopes};
+use crate::completion::{read_completion, read_to_end};
+use crate::frames::{Ending, Frame, Scopes};
 use crate::members::read_members;
+use crate::octets::read_held_octets;
 use crate::options::DecoderOptions;
-use crate::preamble::read_preamble;
+use crate::preamble::{read_bitmap, read_preamble};
 use asn1_schema_bounds::Bounded;
 use asn1_schema_constraints::Constraints;
 use asn1_schema_faults::{CodecKind, DecodeError};
 use asn1_schema_tags::Tag;
+use asn1_schema_variants::{Chosen, Enumerated};
 use asn1_values_alphabets::StaticPermittedAlphabet;
 use asn1_values_bit_strings::BitString;
 use asn1_values_bits::BitStr;
 use asn1_values_identifiers::ObjectIdentifier;
 use asn1_values_integer_types::IntegerType;
+use per_codec_reading::Variant;
 use per_codec_reading::units::{read_boolean, read_null};
-use per_codec_reading::{Cursor, Variant};
 use per_codec_reading_characters::read_characters;
 use per_codec_reading_numbers::read_integer;
+use per_codec_reading_places::{read_item, read_place};
+use per_codec_reading_scopes::{Field, Stretch, skip_unknown};
 use per_codec_reading_units::{
     read_bit_string, read_object_identifier, read_octet_string, read_utf8_string,
 };
 use std::alloc::Global;
 use std::borrow::CowSlice;
 use std::marker::Model;
+use std::mem::replace;
 
 /// A decoder of the packed encoding rules (X.691), unaligned or aligned, which lends octets from its input where they stand there.
 #[derive(Drop)]
 pub struct Decoder<'input> {
-    cursor: Cursor<'input>,
+    place: Stretch<'input>,
     scopes: Scopes<'input>,
     levels: usize,
     most: usize,
@@ -49,7 +57,7 @@ impl<'input> Model for Decoder<'input> {
 
     ghost Value = { Held };
 
-    ghost view = { λ d. record { place = d.cursor; scopes = d.scopes; levels = d.levels; most = d.most; failed = d.failed; variant = d.variant } };
+    ghost view = { λ d. record { place = d.place; scopes = d.scopes; levels = d.levels; most = d.most; failed = d.failed; variant = d.variant } };
 }
 
 impl<'input> Decoder<'input> {
@@ -59,7 +67,7 @@ impl<'input> Decoder<'input> {
         ensures { result ≡ record { place = (0, octet_bits (take (2 ^ 60 - 1) input.entry.now)); scopes = []; levels = 128; most = 128; failed = false; variant = options.variant } }
     {
         Decoder {
-            cursor: Cursor::new(input),
+            place: Stretch::from_octets(input),
             scopes: Scopes::new(alloc),
             levels: 128,
             most: 128,
@@ -69,10 +77,10 @@ impl<'input> Decoder<'input> {
     }
 
     /// The unread bits.
-    pub fn input(&self) -> BitStr<'input>
+    pub fn input(&self) -> BitStr<'_>
         ensures { bits_of result ≡ self.now.place.1 }
     {
-        self.cursor.bits()
+        self.place.bits()
     }
 
     /// Passes over what fills up a message behind its value (X.691 11.1): bits up to the next octet, or the one octet of a value of no bits.
@@ -86,10 +94,10 @@ impl<'input> Decoder<'input> {
         ensures only { IfErr result (λ _. IsReady self.old → (b : _) → Front (freedoms self.old.variant) (completion self.old.place.0) self.old.place b → ⊥) }
     {
         self.begin_record()?;
-        match read_completion(&mut self.cursor) {
-            Ok(()) => Ok(()),
-            Err(error) => Err(self.fail(error)),
-        }
+        let mut cursor = self.place.cursor();
+        let answer = read_completion(&mut cursor);
+        let position = cursor.position();
+        self.settle(position, answer)
     }
 
     // Fails for this reason, from now on.
@@ -114,6 +122,26 @@ impl<'input> Decoder<'input> {
         Ok(())
     }
 
+    // Goes on behind what a reader found, at this position, or fails as it did.
+    fn settle<T>(
+        &mut self,
+        position: usize,
+        answer: Result<T, DecodeError>,
+    ) -> Result<T, DecodeError>
+        ensures same { result ≡ answer }
+        ensures moved { OnOk result (Moves self.old position self.new) }
+        ensures levels { OnOk result (self.new.levels ≡ self.old.levels) }
+        ensures failed { OnErr result (self.new.failed ≡ true) }
+    {
+        match answer {
+            Ok(value) => {
+                self.place.move_to(position);
+                Ok(value)
+            }
+            Err(error) => Err(self.fail(error)),
+        }
+    }
+
     // Opens a scope, and takes a level for it.
     fn enter(&mut self, frame: Frame<'input>) -> Result<(), DecodeError>
         requires { 0 < self.old.levels }
@@ -125,13 +153,103 @@ impl<'input> Decoder<'input> {
         let Ok(()) = self.scopes.open(frame) else {
             return Err(self.fail(DecodeError::OutOfMemory));
         };
-        self.levels -= 1;
+        self.descend();
         Ok(())
+    }
+
+    // Takes a level.
+    fn descend(&mut self)
+        requires { 0 < self.old.levels }
+        ensures levels { self.old.levels ≡ self.new.levels + 1 }
+        ensures same { self.new ≡ record { place = self.old.place; scopes = self.old.scopes; levels = self.new.levels; most = self.old.most; failed = self.old.failed; variant = self.old.variant } }
+    {
+        self.levels -= 1;
+    }
+
+    // Begins a list or bag.
+    fn enter_members(
+        &mut self,
+        constraints: Constraints,
+        held: Bounded<usize>,
+    ) -> Result<(), DecodeError>
+        ensures ok { OnOk result (EntersMembers self.old (sizes_of constraints.entry.size) (members_of held) self.new) }
+        ensures only { IfErr result (NotMembers self.old (sizes_of constraints.entry.size) (members_of held)) }
+        ensures failed { OnErr result (self.new.failed ≡ true) }
+        ensures already { self.old.failed ≡ true → result ≡ Err DecodeError.AlreadyFailed }
+    {
+        self.begin_record()?;
+        if self.levels == 0 {
+            return Err(self.fail(DecodeError::ExceedsMaxParseDepth));
+        }
+        let alloc = self.scopes.allocator();
+        let mut cursor = self.place.cursor();
+        let answer = read_members(alloc, &mut cursor, self.variant, constraints, held);
+        let position = cursor.position();
+        let part = self.settle(position, answer)?;
+        self.enter(Frame::Members(part))
+    }
+
+    // Begins a sequence, set or group.
+    fn enter_components(&mut self, extensible: bool, optional: usize) -> Result<(), DecodeError>
+        ensures ok { OnOk result (EntersComponents self.old extensible optional self.new) }
+        ensures only { IfErr result (NotComponents self.old extensible optional) }
+        ensures failed { OnErr result (self.new.failed ≡ true) }
+        ensures already { self.old.failed ≡ true → result ≡ Err DecodeError.AlreadyFailed }
+    {
+        self.begin_record()?;
+        if self.levels == 0 {
+            return Err(self.fail(DecodeError::ExceedsMaxParseDepth));
+        }
+        let alloc = self.scopes.allocator();
+        match read_preamble(alloc, &mut self.place, self.variant, extensible, optional) {
+            Ok(frame) => self.enter(frame),
+            Err(error) => Err(self.fail(error)),
+        }
+    }
+
+    // Begins an open type: what is read next is what stands in it.
+    fn open_type(&mut self) -> Result<(), DecodeError>
+        ensures ok { OnOk result (HasOpened self.old self.new) }
+        ensures only { IfErr result (NoOpening self.old) }
+        ensures failed { OnErr result (self.new.failed ≡ true) }
+    {
+        let alloc = self.scopes.allocator();
+        let inside = match self.place.take_field(alloc, self.variant, Field::OpenType) {
+            Ok(inside) => inside,
+            Err(error) => return Err(self.fail(error)),
+        };
+        let behind = replace(&mut self.place, inside);
+        let Ok(()) = self.scopes.open(Frame::OpenType(behind)) else {
+            return Err(self.fail(DecodeError::OutOfMemory));
+        };
+        Ok(())
+    }
+
+    // Passes over what is left where a scope ends.
+    fn pass_over(&mut self, ending: Ending<'input>) -> Result<(), DecodeError>
+        ensures ok { OnOk result (Stays self.old self.new × Passes (is_aligned self.old.variant) (freedoms self.old.variant) ending.entry self.old.place self.new.place) }
+        ensures only { IfErr result (NotPassed (is_aligned self.old.variant) (freedoms self.old.variant) ending.entry self.old.place) }
+    {
+        match ending {
+            Ending::Nothing => Ok(()),
+            Ending::Unknown(marks) => {
+                let mut cursor = self.place.cursor();
+                skip_unknown(&mut cursor, self.variant, marks)?;
+                let position = cursor.position();
+                self.place.move_to(position);
+                Ok(())
+            }
+            Ending::OpenType(behind) => {
+                read_to_end(&mut self.place.cursor())?;
+                self.place = behind;
+                Ok(())
+            }
+        }
     }
 }
 
 impl<'input> asn1_schema_decode::Decoder for Decoder<'input> {
-    ghost use Rattle.per_codec_decoder.specs.Laws.{finds_one, finds_held, finds_none, finds_same};
+    ghost use Rattle.per_codec_decoder.specs.Laws.{finds_one, finds_held, finds_bag_held, finds_none, finds_same};
 
     type Octets = CowSlice<'input, u8>;
 
@@ -160,18 +278,18 @@ impl<'input> asn1_schema_decode::Decoder for Decoder<'input> {
 
     fn decode_bool(&mut self, _tag: Tag) -> Result<bool, DecodeError> {
         self.begin_record()?;
-        match read_boolean(&mut self.cursor, self.variant) {
-            Ok(value) => Ok(value),
-            Err(error) => Err(self.fail(error)),
-        }
+        let mut cursor = self.place.cursor();
+        let answer = read_boolean(&mut cursor, self.variant);
+        let position = cursor.position();
+        self.settle(position, answer)
     }
 
     fn decode_null(&mut self, _tag: Tag) -> Result<(), DecodeError> {
         self.begin_record()?;
-        match read_null(&mut self.cursor, self.variant) {
-            Ok(()) => Ok(()),
-            Err(error) => Err(self.fail(error)),
-        }
+        let mut cursor = self.place.cursor();
+        let answer = read_null(&mut cursor, self.variant);
+        let position = cursor.position();
+        self.settle(position, answer)
     }
 
     fn decode_integer<I: IntegerType>(
@@ -181,10 +299,19 @@ impl<'input> asn1_schema_decode::Decoder for Decoder<'input> {
         constraints: Constraints,
     ) -> Result<I, DecodeError> {
         self.begin_record()?;
-        match read_integer(alloc, &mut self.cursor, self.variant, constraints) {
-            Ok(value) => Ok(value),
-            Err(error) => Err(self.fail(error)),
-        }
+        let mut cursor = self.place.cursor();
+        let answer = read_integer(alloc, &mut cursor, self.variant, constraints);
+        let position = cursor.position();
+        self.settle(position, answer)
+    }
+
+    fn decode_enumerated<T: Enumerated>(&mut self, _tag: Tag) -> Result<T, DecodeError> {
+        self.begin_record()?;
+        let alloc = self.scopes.allocator();
+        let mut cursor = self.place.cursor();
+        let answer = read_item(alloc, &mut cursor, self.variant);
+        let position = cursor.position();
+        self.settle(position, answer)
     }
 
     fn decode_bit_string(
@@ -195,10 +322,10 @@ impl<'input> asn1_schema_decode::Decoder for Decoder<'input> {
         held: Bounded<usize>,
     ) -> Result<BitString, DecodeError> {
         self.begin_record()?;
-        match read_bit_string(alloc, &mut self.cursor, self.variant, constraints, held) {
-            Ok(value) => Ok(value),
-            Err(error) => Err(self.fail(error)),
-        }
+        let mut cursor = self.place.cursor();
+        let answer = read_bit_string(alloc, &mut cursor, self.variant, constraints, held);
+        let position = cursor.position();
+        self.settle(position, answer)
     }
 
     fn decode_octet_string(
@@ -209,10 +336,15 @@ impl<'input> asn1_schema_decode::Decoder for Decoder<'input> {
         held: Bounded<usize>,
     ) -> Result<CowSlice<'input, u8>, DecodeError> {
         self.begin_record()?;
-        match read_octet_string(alloc, &mut self.cursor, self.variant, constraints, held) {
-            Ok(octets) => Ok(octets),
-            Err(error) => Err(self.fail(error)),
+        if let Some(mut lent) = self.place.lent_cursor() {
+            let octets = read_octet_string(alloc, &mut lent, self.variant, constraints, held);
+            return self.settle(lent.position(), octets);
         }
+        let mut cursor = self.place.cursor();
+        let answer = read_held_octets(alloc, &mut cursor, self.variant, constraints, held);
+        let position = cursor.position();
+        let octets = self.settle(position, answer)?;
+        Ok(CowSlice::Owned(octets))
     }
 
     fn decode_utf8_string(
@@ -222,10 +354,10 @@ impl<'input> asn1_schema_decode::Decoder for Decoder<'input> {
         constraints: Constraints,
     ) -> Result<String, DecodeError> {
         self.begin_record()?;
-        match read_utf8_string(alloc, &mut self.cursor, self.variant, constraints) {
-            Ok(value) => Ok(value),
-            Err(error) => Err(self.fail(error)),
-        }
+        let mut cursor = self.place.cursor();
+        let answer = read_utf8_string(alloc, &mut cursor, self.variant, constraints);
+        let position = cursor.position();
+        self.settle(position, answer)
     }
 
     fn decode_characters<S: StaticPermittedAlphabet>(
@@ -238,10 +370,10 @@ impl<'input> asn1_schema_decode::Decoder for Decoder<'input> {
         if !is_alphabet::<S>(constraints) {
             return Err(self.fail(DecodeError::PermittedAlphabet));
         }
-        match read_characters(alloc, &mut self.cursor, self.variant, constraints) {
-            Ok(value) => Ok(value),
-            Err(error) => Err(self.fail(error)),
-        }
+        let mut cursor = self.place.cursor();
+        let answer = read_characters(alloc, &mut cursor, self.variant, constraints);
+        let position = cursor.position();
+        self.settle(position, answer)
     }
 
     fn decode_object_identifier(
@@ -250,10 +382,10 @@ impl<'input> asn1_schema_decode::Decoder for Decoder<'input> {
         _tag: Tag,
     ) -> Result<ObjectIdentifier, DecodeError> {
         self.begin_record()?;
-        match read_object_identifier(alloc, &mut self.cursor, self.variant) {
-            Ok(value) => Ok(value),
-            Err(error) => Err(self.fail(error)),
-        }
+        let mut cursor = self.place.cursor();
+        let answer = read_object_identifier(alloc, &mut cursor, self.variant);
+        let position = cursor.position();
+        self.settle(position, answer)
     }
 
     fn begin_list(
@@ -262,23 +394,24 @@ impl<'input> asn1_schema_decode::Decoder for Decoder<'input> {
         constraints: Constraints,
         held: Bounded<usize>,
     ) -> Result<(), DecodeError> {
-        self.begin_record()?;
-        if self.levels == 0 {
-            return Err(self.fail(DecodeError::ExceedsMaxParseDepth));
-        }
-        let alloc = self.scopes.allocator();
-        match read_members(alloc, &mut self.cursor, self.variant, constraints, held) {
-            Ok(part) => self.enter(Frame::Members(part)),
-            Err(error) => Err(self.fail(error)),
-        }
+        self.enter_members(constraints, held)
+    }
+
+    fn begin_bag(
+        &mut self,
+        _tag: Tag,
+        constraints: Constraints,
+        held: Bounded<usize>,
+    ) -> Result<(), DecodeError> {
+        self.enter_members(constraints, held)
     }
 
     fn get_further(&mut self) -> Result<bool, DecodeError> {
         self.begin_record()?;
-        match self.scopes.next_member(&mut self.cursor, self.variant) {
-            Ok(more) => Ok(more),
-            Err(error) => Err(self.fail(error)),
-        }
+        let mut cursor = self.place.cursor();
+        let answer = self.scopes.next_member(&mut cursor, self.variant);
+        let position = cursor.position();
+        self.settle(position, answer)
     }
 
     fn begin_sequence(
@@ -287,14 +420,20 @@ impl<'input> asn1_schema_decode::Decoder for Decoder<'input> {
         extensible: bool,
         optional: usize,
     ) -> Result<(), DecodeError> {
-        self.begin_record()?;
-        if self.levels == 0 {
-            return Err(self.fail(DecodeError::ExceedsMaxParseDepth));
-        }
-        match read_preamble(&mut self.cursor, extensible, optional) {
-            Ok(frame) => self.enter(frame),
-            Err(error) => Err(self.fail(error)),
-        }
+        self.enter_components(extensible, optional)
+    }
+
+    fn begin_set(
+        &mut self,
+        _tag: Tag,
+        extensible: bool,
+        optional: usize,
+    ) -> Result<(), DecodeError> {
+        self.enter_components(extensible, optional)
+    }
+
+    fn begin_group(&mut self, optional: usize) -> Result<(), DecodeError> {
+        self.enter_components(false, optional)
     }
 
     fn get_mark(&mut self) -> Result<bool, DecodeError> {
@@ -310,18 +449,106 @@ impl<'input> asn1_schema_decode::Decoder for Decoder<'input> {
         Ok(())
     }
 
+    fn note_empty(&mut self) -> Result<(), DecodeError> {
+        self.begin_record()?;
+        Ok(())
+    }
+
+    fn begin_additions(&mut self, count: usize) -> Result<(), DecodeError> {
+        self.begin_record()?;
+        let Some(mark) = self.scopes.mark() else {
+            return Err(self.fail(DecodeError::NotValidCanonicalEncoding));
+        };
+        let alloc = self.scopes.allocator();
+        match read_bitmap(alloc, &mut self.place, self.variant, mark) {
+            Ok(bitmap) => {
+                let left = count;
+                self.scopes
+                    .replace(Frame::Added(Additions { left, bitmap }));
+                Ok(())
+            }
+            Err(error) => Err(self.fail(error)),
+        }
+    }
+
+    fn get_addition(&mut self) -> Result<bool, DecodeError> {
+        self.begin_record()?;
+        let Some(is_there) = self.scopes.next_addition() else {
+            return Err(self.fail(DecodeError::NotValidCanonicalEncoding));
+        };
+        if is_there {
+            self.open_type()?;
+        }
+        Ok(is_there)
+    }
+
+    fn end_addition(&mut self) -> Result<(), DecodeError> {
+        self.begin_record()?;
+        let Some(behind) = self.scopes.leave_addition() else {
+            return Err(self.fail(DecodeError::NotValidCanonicalEncoding));
+        };
+        match self.pass_over(Ending::OpenType(behind)) {
+            Ok(()) => Ok(()),
+            Err(error) => Err(self.fail(error)),
+        }
+    }
+
+    fn begin_choice(
+        &mut self,
+        _tag: Tag,
+        roots: &[Tag],
+        extensible: bool,
+        additions: &[Tag],
+    ) -> Result<Chosen, DecodeError> {
+        self.begin_record()?;
+        if self.levels == 0 {
+            return Err(self.fail(DecodeError::ExceedsMaxParseDepth));
+        }
+        let alloc = self.scopes.allocator();
+        let root_count = roots.len();
+        let added_count = additions.len();
+        let mut cursor = self.place.cursor();
+        let answer = read_place(
+            alloc,
+            &mut cursor,
+            self.variant,
+            root_count,
+            extensible,
+            added_count,
+        );
+        let position = cursor.position();
+        let chosen = self.settle(position, answer)?;
+        if chosen.added {
+            self.open_type()?;
+            self.descend();
+            return Ok(chosen);
+        }
+        self.enter(Frame::Alternative)?;
+        Ok(chosen)
+    }
+
     fn end(&mut self) -> Result<(), DecodeError> {
         self.begin_record()?;
-        if self.levels < self.most && self.scopes.close() {
-            self.levels += 1;
-            return Ok(());
+        if self.levels >= self.most {
+            return Err(self.fail(DecodeError::NotValidCanonicalEncoding));
         }
-        Err(self.fail(DecodeError::NotValidCanonicalEncoding))
+        let Some(ending) = self.scopes.leave() else {
+            return Err(self.fail(DecodeError::NotValidCanonicalEncoding));
+        };
+        match self.pass_over(ending) {
+            Ok(()) => {
+                self.levels += 1;
+                Ok(())
+            }
+            Err(error) => Err(self.fail(error)),
+        }
     }
 
     ghost one_record = { finds_one };
 
     ghost list_held = { finds_held };
+
+    ghost bag_held = { finds_bag_held };
 
     ghost none_after = { finds_none };
 

@@ -1,25 +1,43 @@
 //! Open scopes.
 ghost use Rattle.std.specs.Prelude.{◌≡◌, ◌∷◌, [], OnOk, IfOk, IfErr, IfSome, IfNone, MatchBool};
-ghost use Rattle.per_codec_fronts.specs.Takes.{NextMark, NextMember, Ends};
+ghost use Rattle.per_codec_fronts.specs.Takes.{NextMark, NextMember};
 ghost use Rattle.per_codec_reading.specs.Fronts.{freedoms, is_aligned};
 ghost use Rattle.per_codec_decoder.specs.Members.{NoFurther};
-ghost use Rattle.per_codec_decoder.specs.Scopes.{scope_of};
+ghost use Rattle.per_codec_decoder.specs.Scopes.{scope_of, HasMark, NoAdditions, Flags, NoFlag, Leaves, NoEnd, LeavesAddition, NoAdditionEnd, IsAdded};
 
+use crate::additions::Additions;
 use crate::members::Part;
 use asn1_schema_faults::DecodeError;
-use asn1_values_bits::BitReader;
 use per_codec_reading::{Cursor, Variant};
+use per_codec_reading_scopes::Stretch;
 use std::alloc::{AllocError, Global};
 use std::marker::Model;
 
 /// What has begun and has not ended.
 #[derive(Drop)]
 pub(crate) enum Frame<'input> {
-    /// The components of a sequence (X.691 19): the bit of its mark of extensibility, if it has a mark, and the presence bits that are
-    /// still to come.
-    Components(Option<bool>, BitReader<'input>),
+    /// The components of a sequence, set or group (X.691 19): the bit of its mark of extensibility, if it has a mark, and the presence bits
+    /// that are still to come.
+    Components(Option<bool>, Stretch<'input>),
+    /// The additions of a sequence or set (X.691 19.7) that are still to come.
+    Added(Additions<'input>),
+    /// An addition, or an added alternative (X.691 11.2): the place behind its open type.
+    OpenType(Stretch<'input>),
     /// The members of a list (X.691 20): those that are due.
     Members(Part),
+    /// An alternative of the root of a choice (X.691 23).
+    Alternative,
+}
+
+/// What is left to pass over where a scope ends.
+#[derive(Drop)]
+pub(crate) enum Ending<'input> {
+    /// Nothing.
+    Nothing,
+    /// The unknown additions that these presence bits tell of (X.691 19.8).
+    Unknown(Stretch<'input>),
+    /// What fills up an open type, behind which is this place (X.691 11.2).
+    OpenType(Stretch<'input>),
 }
 
 /// All that has begun and has not ended: the innermost, and what is around it.
@@ -67,19 +85,77 @@ impl<'input> Scopes<'input> {
         Ok(())
     }
 
-    /// The next presence bit of the innermost sequence.
+    /// The next presence bit of the innermost sequence, set or group.
     pub(crate) fn next_mark(&mut self) -> Option<bool>
         ensures some { IfSome result (λ present. (p : _) → NextMark present p self.old (p, self.new)) }
         ensures none { IfNone result ((present : _) (p : _) (b : _) → NextMark present p self.old b → ⊥) }
     {
         match &mut self.innermost {
-            Some(Frame::Components(_, presence)) => {
-                if presence.is_empty() {
+            Some(Frame::Components(_, presence)) => presence.next_bit(),
+            _ => None,
+        }
+    }
+
+    /// The bit of the mark of extensibility of the innermost sequence or set, all of whose root components have passed.
+    pub(crate) fn mark(&self) -> Option<bool>
+        ensures some { IfSome result (λ mark. HasMark mark self.now) }
+        ensures none { IfNone result (NoAdditions self.now) }
+    {
+        match &self.innermost {
+            Some(Frame::Components(mark, presence)) if presence.is_empty() => *mark,
+            _ => None,
+        }
+    }
+
+    /// The innermost scope gives place to another.
+    pub(crate) fn replace(&mut self, frame: Frame<'input>)
+        ensures { (s : _) (k : _) → self.old ≡ s ∷ k → self.new ≡ scope_of frame.entry ∷ k }
+    {
+        self.innermost = Some(frame);
+    }
+
+    /// Whether the next addition of the innermost sequence or set is there. Those past the bits of the bitmap are not.
+    pub(crate) fn next_addition(&mut self) -> Option<bool>
+        ensures some { IfSome result (λ is_there. Flags is_there self.old self.new) }
+        ensures none { IfNone result (NoFlag self.old) }
+    {
+        match &mut self.innermost {
+            Some(Frame::Added(additions)) => additions.next(),
+            _ => None,
+        }
+    }
+
+    /// Takes the innermost scope off.
+    fn pop(&mut self) -> Option<Frame<'input>>
+        ensures some { IfSome result (λ frame. self.old ≡ scope_of frame ∷ self.new) }
+        ensures none { IfNone result (self.old ≡ []) }
+    {
+        let innermost = self.innermost.take();
+        self.innermost = self.outer.pop();
+        innermost
+    }
+
+    /// Whether the innermost scope is that of additions.
+    fn is_in_additions(&self) -> bool
+        ensures { MatchBool result (IsAdded self.now) (IsAdded self.now → ⊥) }
+    {
+        match &self.innermost {
+            Some(Frame::Added(_)) => true,
+            _ => false,
+        }
+    }
+
+    /// Closes the innermost scope, if it is an addition: the place behind its open type.
+    pub(crate) fn leave_addition(&mut self) -> Option<Stretch<'input>>
+        ensures some { IfSome result (λ place. LeavesAddition place self.old self.new) }
+        ensures none { IfNone result (NoAdditionEnd self.old) }
+    {
+        match self.pop() {
+            Some(Frame::OpenType(place)) => {
+                if !self.is_in_additions() {
                     return None;
                 }
-                let first = presence.first_bit();
-                let _first = presence.split(1);
-                Some(first)
+                Some(place)
             }
             _ => None,
         }
@@ -92,7 +168,7 @@ impl<'input> Scopes<'input> {
     /// Those of a header, and `SizeConstraintNotSatisfied` if all members are not as many as there may be.
     pub(crate) fn next_member(
         &mut self,
-        cursor: &mut Cursor<'input>,
+        cursor: &mut Cursor<'_>,
         variant: Variant,
     ) -> Result<bool, DecodeError>
         ensures ok { IfOk result (λ more. NextMember (is_aligned variant) (freedoms variant) more cursor.old self.old (cursor.new, self.new)) }
@@ -104,18 +180,33 @@ impl<'input> Scopes<'input> {
         }
     }
 
-    /// Closes the innermost scope, if nothing of it is still to come.
-    pub(crate) fn close(&mut self) -> bool
-        ensures { MatchBool result ((al : _) (free : _) (p : _) → Ends al free p self.old (p, self.new)) ((al : _) (free : _) (p : _) (b : _) → Ends al free p self.old b → ⊥) }
+    /// Closes the innermost scope, if nothing of it is still to come but what it leaves.
+    pub(crate) fn leave(&mut self) -> Option<Ending<'input>>
+        ensures some { IfSome result (λ ending. Leaves ending self.old self.new) }
+        ensures none { IfNone result (NoEnd self.old) }
     {
-        let is_at_end = match &self.innermost {
-            Some(Frame::Components(None, presence)) => presence.is_empty(),
-            Some(Frame::Members(part)) => part.is_last(),
-            _ => false,
-        };
-        if is_at_end {
-            self.innermost = self.outer.pop();
+        match self.pop() {
+            Some(Frame::Components(None, presence)) => {
+                if !presence.is_empty() {
+                    return None;
+                }
+                Some(Ending::Nothing)
+            }
+            Some(Frame::Added(additions)) => {
+                if additions.left > 0 {
+                    return None;
+                }
+                Some(Ending::Unknown(additions.bitmap))
+            }
+            Some(Frame::OpenType(place)) => Some(Ending::OpenType(place)),
+            Some(Frame::Members(part)) => {
+                if !part.is_last() {
+                    return None;
+                }
+                Some(Ending::Nothing)
+            }
+            Some(Frame::Alternative) => Some(Ending::Nothing),
+            _ => None,
         }
-        is_at_end
     }
 }

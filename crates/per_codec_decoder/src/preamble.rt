@@ -1,15 +1,18 @@
-//! The preamble of a sequence (X.691 19.1 to 19.3).
+//! The preamble of a sequence, set or group (X.691 19.1 to 19.3).
 ghost use Rattle.std.specs.Prelude.{◌≡◌, [], ◌∷◌, true, IfOk, IfErr};
 ghost use Rattle.asn1_model.specs.Form.{is_present};
 ghost use Rattle.oer_codec_fronts.specs.Takes.{preamble_bits};
-ghost use Rattle.per_codec_reading.specs.Fronts.{Leads};
-ghost use Rattle.per_codec_decoder.specs.Preamble.{HasPreamble};
+ghost use Rattle.per_codec_reading.specs.Fronts.{freedoms, is_aligned, Leads};
+ghost use Rattle.per_codec_decoder.specs.Preamble.{HasBitmap, HasPreamble, NoBitmap, NoPreamble};
 ghost use Rattle.per_codec_decoder.specs.Scopes.{scope_of};
 
 use crate::frames::Frame;
 use asn1_schema_faults::DecodeError;
-use asn1_values_bits::BitReader;
-use per_codec_reading::Cursor;
+use asn1_values_bits::{BitReader, BitStr};
+use per_codec_reading::{Cursor, Variant};
+use per_codec_reading_scopes::{Field, Stretch};
+use per_codec_reading_units::RunBits;
+use std::alloc::Global;
 
 /// Takes one bit.
 ///
@@ -29,33 +32,59 @@ pub(crate) fn read_bit(cursor: &mut Cursor<'_>) -> Result<bool, DecodeError>
 /// # Errors
 ///
 /// `Incomplete` if there is no bit.
-fn read_mark(cursor: &mut Cursor<'_>, extensible: bool) -> Result<Option<bool>, DecodeError>
+fn read_mark(place: &mut Stretch<'_>, extensible: bool) -> Result<Option<bool>, DecodeError>
     ensures mark { IfOk result (λ mark. is_present mark ≡ extensible) }
-    ensures bits { IfOk result (λ mark. Leads (preamble_bits mark []) cursor.old cursor.new) }
-    ensures only { IfErr result (λ _. (extensible ≡ true) × (cursor.old.1 ≡ [])) }
+    ensures bits { IfOk result (λ mark. Leads (preamble_bits mark []) place.old place.new) }
+    ensures only { IfErr result (λ _. (extensible ≡ true) × (place.old.1 ≡ [])) }
 {
     if !extensible {
         return Ok(None);
     }
-    let bit = read_bit(cursor)?;
+    let mut cursor = place.cursor();
+    let bit = read_bit(&mut cursor)?;
+    let position = cursor.position();
+    place.move_to(position);
     Ok(Some(bit))
 }
 
-/// Reads the preamble of a sequence, with or without a mark of extensibility, of which so many components may be absent: the bit of the
-/// mark, if there is one, and the presence bits.
+/// Reads the preamble of a sequence, set or group, with or without a mark of extensibility, of which so many components may be absent: the
+/// bit of the mark, if there is one, and the presence bits.
 ///
 /// # Errors
 ///
-/// `Incomplete` if the bits end early.
+/// `Incomplete` if the bits end early, and `OutOfMemory`.
 pub(crate) fn read_preamble<'input>(
-    cursor: &mut Cursor<'input>,
+    alloc: Global,
+    place: &mut Stretch<'input>,
+    variant: Variant,
     extensible: bool,
     optional: usize,
 ) -> Result<Frame<'input>, DecodeError>
-    ensures ok { IfOk result (λ frame. (free : _) → HasPreamble free extensible optional (scope_of frame) cursor.old cursor.new) }
-    ensures only { IfErr result (λ _. (free : _) (s : _) (b : _) → HasPreamble free extensible optional s cursor.old b → ⊥) }
+    ensures ok { IfOk result (λ frame. HasPreamble (freedoms variant) extensible optional (scope_of frame) place.old place.new) }
+    ensures only { IfErr result (NoPreamble (freedoms variant) extensible optional place.old) }
 {
-    let mark = read_mark(cursor, extensible)?;
-    let presence = cursor.take(optional)?;
-    Ok(Frame::Components(mark, BitReader::new(presence)))
+    let mark = read_mark(place, extensible)?;
+    let presence = place.take_field(alloc, variant, Field::Bits(optional))?;
+    Ok(Frame::Components(mark, presence))
+}
+
+/// Reads the bitmap of the additions of a sequence or set (X.691 19.7), if the mark of extensibility tells that there is one.
+///
+/// # Errors
+///
+/// `Incomplete` if the bits end early, the errors of a length, and `OutOfMemory`.
+pub(crate) fn read_bitmap<'input>(
+    alloc: Global,
+    place: &mut Stretch<'input>,
+    variant: Variant,
+    mark: bool,
+) -> Result<Stretch<'input>, DecodeError>
+    ensures ok { IfOk result (λ bitmap. HasBitmap (freedoms variant) (is_aligned variant) mark bitmap.1 place.old place.new) }
+    ensures only { IfErr result (NoBitmap (freedoms variant) (is_aligned variant) mark place.old) }
+{
+    if !mark {
+        return Ok(Stretch::new(RunBits::Lent(BitStr::new())));
+    }
+    let bitmap = place.take_field(alloc, variant, Field::Bitmap)?;
+    Ok(bitmap)
 }

@@ -1,4 +1,2 @@
-pub mod Scopes
-pub mod HeadingTexts
 pub mod Stepped
 pub mod Octets

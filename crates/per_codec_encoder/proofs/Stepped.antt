@@ -1,49 +1,52 @@
 -- What the encoder's calls did, by what they did to the bits and the frames.
-use Rattle.std.proofs.Common.{◌≡◌, ℕ, Bool, true, false, List, [], ◌++◌, length, reverse, Option, Some, None, option_map, Result, Ok, Err, Vec, Global, IfOk, MatchResult, refl, ap, subst, sym, ◌∙◌}
+use Rattle.std.proofs.Common.{◌≡◌, ℕ, Bool, true, false, List, [], ◌++◌, length, reverse, Option, Some, None, option_map, option_and_then, Result, Ok, Err, Vec, Global, IfOk, MatchResult, refl, ap, subst, sym, ◌∙◌}
 use Rattle.std.proofs.lemmas.List.{append-nil}
 use Rattle.asn1_model.specs.Form.{written}
+use Rattle.asn1_model.specs.Numbers.{packed}
 use Rattle.asn1_model.specs.Per
 use Rattle.asn1_schema_faults.specs.declared.EncodeError.{EncodeError}
 use Rattle.asn1_schema_faults.specs.declared.EncodeError.TheVariants.{ValueConstraintNotSatisfied, SizeConstraintNotSatisfied, AlphabetConstraintNotSatisfied, TooLongValue, LengthExceedsPlatformSize, OutOfMemory, AlreadyFailed}
 use Rattle.asn1_schema_encode.specs.Writes.{Refused}
-use Rattle.asn1_schema_presented.specs.Records.{Record, nil}
-use Rattle.per_codec_steps.specs.Texts.{Text, as_text, text_at}
+use Rattle.asn1_schema_presented.specs.Records.{Record, nil, sequence_begins, set_begins, group_begins}
+use Rattle.per_codec_texts.specs.Texts.{Text, as_text, plain, text_at}
+use Rattle.per_codec_texts.proofs.Texts.{plain_text}
+use Rattle.per_codec_packing.specs.Packed.{Packed, place, plus}
+use Rattle.per_codec_packing.proofs.Adding.{added}
 use Rattle.per_codec_steps.specs.Steps.{State, run, adds_text, adds_form, position}
 use Rattle.per_codec_steps.specs.Ties.{octets_of}
-use Rattle.per_codec_steps.proofs.Texts.{known}
 use Rattle.per_codec_writing.specs.Writing.{Adds, Refuses}
-use Rattle.per_codec_encoder.specs.declared.frames.Frame.{Frame}
-use Rattle.per_codec_encoder.specs.Holding.{shown, Holds, AreSound, Does, Cannot}
+use Rattle.per_codec_encoder_frames.specs.declared.frame.Frame.{Frame}
+use Rattle.per_codec_encoder_frames.specs.Holding.{shown, Holds, AreSound, Does, Cannot}
 use Rattle.per_codec_encoder.specs.Stepping.{Written, Puts}
-use Rattle.per_codec_encoder.proofs.Scopes.{shown_is, appended, at_end, nothing_open}
+use Rattle.per_codec_encoder_frames.proofs.Scopes.{shown_is, appended, at_end, nothing_open}
 
 -- what the bits and the frames stand for
-abbrev pub now : List Frame → List Bool → State
+abbrev pub now : List Frame → Packed → State
 now fs o = shown (reverse fs) o
 
-abbrev pub Sound : List Frame → List Bool → Type 0
+abbrev pub Sound : List Frame → Packed → Type 0
 Sound fs o = Holds (reverse fs) o (now fs o)
 
-pub is_sound : (fs : List Frame) (o : List Bool) → Sound fs o → AreSound fs o
+pub is_sound : (fs : List Frame) (o : Packed) → Sound fs o → AreSound fs o
 is_sound fs o h = record { state = now fs o; holds = h }
 
-moved : (fs : List Frame) (o : List Bool) (t : State) → Holds (reverse fs) o t → (now fs o ≡ t) × Sound fs o
+moved : (fs : List Frame) (o : Packed) (t : State) → Holds (reverse fs) o t → (now fs o ≡ t) × Sound fs o
 moved fs o t h = let e = shown_is (reverse fs) o t h in (e, subst (λ x. Holds (reverse fs) o x) (sym e) h)
 
-pub stays_sound : (al : Bool) (r : Record) (fs gs : List Frame) (o p : List Bool) → Sound fs o → Does al r fs o gs p → Sound gs p
+pub stays_sound : (al : Bool) (r : Record) (fs gs : List Frame) (o p : Packed) → Sound fs o → Does al r fs o gs p → Sound gs p
 stays_sound al r fs gs o p h d = let t = d.after (now fs o) h in (moved gs p t.0 t.2).1
 
-takes_step : (al : Bool) (r : Record) (fs gs : List Frame) (o p : List Bool) → Sound fs o → Does al r fs o gs p → run al r (now fs o) ≡ Some (now gs p)
+takes_step : (al : Bool) (r : Record) (fs gs : List Frame) (o p : Packed) → Sound fs o → Does al r fs o gs p → run al r (now fs o) ≡ Some (now gs p)
 takes_step al r fs gs o p h d = let t = d.after (now fs o) h in t.1 ∙ ap Some (sym (moved gs p t.0 t.2).0)
 
 no_step : (r : Record) (w : Written) (e : EncodeError) → run w.aligned r w.state ≡ None → Refused Puts r w e
 no_step r w e h = record { none = λ n b p. let x : None ≡ Some b.state = sym h ∙ p.3 in cc }
 
 -- an encoder with these bits and frames
-abbrev pub made : List Frame → List Bool → Bool → Bool → Written
+abbrev pub made : List Frame → Packed → Bool → Bool → Written
 made fs o al f = record { state = now fs o; aligned = al; failed = f }
 
-pub is_refused : (al : Bool) (r : Record) (fs : List Frame) (o : List Bool) (f : Bool) (w : Written) (e : EncodeError) → made fs o al f ≡ w → Sound fs o → Cannot al r fs o e → Refused Puts r w e
+pub is_refused : (al : Bool) (r : Record) (fs : List Frame) (o : Packed) (f : Bool) (w : Written) (e : EncodeError) → made fs o al f ≡ w → Sound fs o → Cannot al r fs o e → Refused Puts r w e
 is_refused al r fs o f w e q h c = subst (λ (v : Written). Refused Puts r v e) q (go e c)
   where
     go : (e : EncodeError) → Cannot al r fs o e → Refused Puts r (made fs o al f) e
@@ -55,27 +58,24 @@ is_refused al r fs o f w e q h c = subst (λ (v : Written). Refused Puts r v e) 
     go LengthExceedsPlatformSize c = no_step r _ _ (c (now fs o) h)
     go AlreadyFailed c = no_step r _ _ (c (now fs o) h)
 
-pub puts : (al : Bool) (r : Record) (fs gs : List Frame) (o p : List Bool) (f : Bool) (w : Written) → made fs o al f ≡ w → f ≡ false → Sound fs o → Does al r fs o gs p → Puts w r (made gs p al false)
+pub puts : (al : Bool) (r : Record) (fs gs : List Frame) (o p : Packed) (f : Bool) (w : Written) → made fs o al f ≡ w → f ≡ false → Sound fs o → Does al r fs o gs p → Puts w r (made gs p al false)
 puts al r fs gs o p f w e g h d = subst (λ (v : Written). Puts v r (made gs p al false)) e (g, refl, refl, takes_step al r fs gs o p h d)
 
 -- ---- a form that is added
 
-does_add : (al : Bool) (r : Record) (x : Per.BitForm) (fs : List Frame) (o p : List Bool) → ((s : State) → run al r s ≡ adds_form x s) → Adds (written x (length o)) o p → Does al r fs o fs p
-does_add al r x fs o p e a = record { after = λ s h. go s h (written x (length o)) refl a }
+does_add : (al : Bool) (r : Record) (x : Per.BitForm) (fs : List Frame) (o p : Packed) → ((s : State) → run al r s ≡ adds_form x s) → Adds (text_at x (place o)) o p → Does al r fs o fs p
+does_add al r x fs o p e a = record { after = λ s h. go s h (added (text_at x (place o)) o p a) }
   where
-    go : (s : State) → Holds (reverse fs) o s → (t : Option (List Bool)) → written x (length o) ≡ t → Adds t o p → (t : State) × (run al r s ≡ Some t) × Holds (reverse fs) p t
-    go s h None q a = cc
-    go s h (Some w) q a =
-        let b : o ++ w ≡ p = cc a in
-        ((s.0 ++ as_text w, s.1), e s ∙ ap (λ n. adds_text (text_at x n) s) (at_end (reverse fs) o s h) ∙ ap (λ t. adds_text t s) (known x (length o) ∙ ap (option_map as_text) q), subst (λ l. Holds (reverse fs) l (s.0 ++ as_text w, s.1)) b (appended (reverse fs) o s w h))
+    go : (s : State) → Holds (reverse fs) o s → (w : Text) × (text_at x (place o) ≡ Some w) × (plus o w ≡ p) → (t : State) × (run al r s ≡ Some t) × Holds (reverse fs) p t
+    go s h t = ((s.0 ++ t.0, s.1), e s ∙ ap (λ n. adds_text (text_at x n) s) (at_end (reverse fs) o s h) ∙ ap (λ u. adds_text u s) t.1, subst (λ l. Holds (reverse fs) l (s.0 ++ t.0, s.1)) t.2 (appended (reverse fs) o s t.0 h))
 
-refuses_none : (al : Bool) (r : Record) (x : Per.BitForm) (fs : List Frame) (o : List Bool) (e : EncodeError) → ((s : State) → run al r s ≡ adds_form x s) → Refuses (written x (length o)) e → Cannot al r fs o e
+refuses_none : (al : Bool) (r : Record) (x : Per.BitForm) (fs : List Frame) (o : Packed) (e : EncodeError) → ((s : State) → run al r s ≡ adds_form x s) → Refuses (text_at x (place o)) e → Cannot al r fs o e
 refuses_none al r x fs o e q h = by_error e h
   where
-    none : written x (length o) ≡ None → (s : State) → Holds (reverse fs) o s → run al r s ≡ None
-    none n s k = q s ∙ ap (λ j. adds_text (text_at x j) s) (at_end (reverse fs) o s k) ∙ ap (λ t. adds_text t s) (known x (length o) ∙ ap (option_map as_text) n)
+    none : text_at x (place o) ≡ None → (s : State) → Holds (reverse fs) o s → run al r s ≡ None
+    none n s k = q s ∙ ap (λ j. adds_text (text_at x j) s) (at_end (reverse fs) o s k) ∙ ap (λ t. adds_text t s) n
 
-    by_error : (e : EncodeError) → Refuses (written x (length o)) e → Cannot al r fs o e
+    by_error : (e : EncodeError) → Refuses (text_at x (place o)) e → Cannot al r fs o e
     by_error OutOfMemory h = tt
     by_error ValueConstraintNotSatisfied h = none h
     by_error SizeConstraintNotSatisfied h = none h
@@ -84,13 +84,13 @@ refuses_none al r x fs o e q h = by_error e h
     by_error LengthExceedsPlatformSize h = none h
     by_error AlreadyFailed h = none h
 
-pub adds_sound : (al : Bool) (r : Record) (x : Per.BitForm) (fs : List Frame) (o p : List Bool) → ((s : State) → run al r s ≡ adds_form x s) → Sound fs o → Adds (written x (length o)) o p → Sound fs p
+pub adds_sound : (al : Bool) (r : Record) (x : Per.BitForm) (fs : List Frame) (o p : Packed) → ((s : State) → run al r s ≡ adds_form x s) → Sound fs o → Adds (text_at x (place o)) o p → Sound fs p
 adds_sound al r x fs o p e h a = stays_sound al r fs fs o p h (does_add al r x fs o p e a)
 
-pub adds_puts : (al : Bool) (r : Record) (x : Per.BitForm) (fs : List Frame) (o p : List Bool) (f : Bool) (w : Written) → ((s : State) → run al r s ≡ adds_form x s) → made fs o al f ≡ w → f ≡ false → Sound fs o → Adds (written x (length o)) o p → Puts w r (made fs p al false)
+pub adds_puts : (al : Bool) (r : Record) (x : Per.BitForm) (fs : List Frame) (o p : Packed) (f : Bool) (w : Written) → ((s : State) → run al r s ≡ adds_form x s) → made fs o al f ≡ w → f ≡ false → Sound fs o → Adds (text_at x (place o)) o p → Puts w r (made fs p al false)
 adds_puts al r x fs o p f w q e g h a = puts al r fs fs o p f w e g h (does_add al r x fs o p q a)
 
-pub form_refused : (al : Bool) (r : Record) (x : Per.BitForm) (fs : List Frame) (o : List Bool) (f : Bool) (w : Written) (e : EncodeError) → ((s : State) → run al r s ≡ adds_form x s) → made fs o al f ≡ w → Sound fs o → Refuses (written x (length o)) e → Refused Puts r w e
+pub form_refused : (al : Bool) (r : Record) (x : Per.BitForm) (fs : List Frame) (o : Packed) (f : Bool) (w : Written) (e : EncodeError) → ((s : State) → run al r s ≡ adds_form x s) → made fs o al f ≡ w → Sound fs o → Refuses (text_at x (place o)) e → Refused Puts r w e
 form_refused al r x fs o f w e q v h a = is_refused al r fs o f w e v h (refuses_none al r x fs o e q a)
 
 -- ---- NULL adds nothing
@@ -100,9 +100,17 @@ nothing_added v w e f = let h : w.failed ≡ false = sym (ap (λ (u : Written). 
 
 -- ---- the message is taken
 
-pub taken_out : (fs : List Frame) (o l : List Bool) (al f : Bool) (w : Written) (r : Result (Vec ℕ Global) EncodeError) → made fs o al f ≡ w → (f ≡ false → Sound fs o) → l ≡ o → MatchResult r (λ octets. octets_of (as_text l, []) ≡ Some octets.items) (λ e. e ≡ OutOfMemory) → IfOk r (λ octets. w.failed ≡ false → w.state.1 ≡ [] → octets_of w.state ≡ Some octets.items)
+pub taken_out : (fs : List Frame) (o : Packed) (l : List Bool) (al f : Bool) (w : Written) (r : Result (Vec ℕ Global) EncodeError) → made fs o al f ≡ w → (f ≡ false → Sound fs o) → (o.placed ≡ true → plain o.text ≡ Some l) → MatchResult r (λ octets. octets_of (as_text l, []) ≡ Some octets.items) (λ e. e ≡ OutOfMemory) → IfOk r (λ octets. w.failed ≡ false → w.state.1 ≡ [] → octets_of w.state ≡ Some octets.items)
 taken_out fs o l al f w (Err x) e s q h = tt
 taken_out fs o l al f w (Ok v) e s q h = λ g k.
     let a : now fs o ≡ w.state = ap (λ (u : Written). u.state) e in
-    let b : now fs o ≡ (as_text o, []) = nothing_open (reverse fs) o (now fs o) (s (ap (λ (u : Written). u.failed) e ∙ g)) (ap (λ (t : State). t.1) a ∙ k) in
-    ap octets_of (sym a ∙ b ∙ ap (λ (t : List Bool). let z : State = (as_text t, []) in z) (sym q)) ∙ h
+    let b = nothing_open (reverse fs) o (now fs o) (s (ap (λ (u : Written). u.failed) e ∙ g)) (ap (λ (t : State). t.1) a ∙ k) in
+    ap octets_of (sym a ∙ b.1) ∙ ap (option_and_then (λ w. option_map packed (written (Per.filled_up w) 0))) (q b.0 ∙ sym (plain_text l)) ∙ h
+
+-- ---- sets and groups begin as sequences do
+
+pub as_set : (al e : Bool) (n : ℕ) (fs gs : List Frame) (o p : Packed) → Does al (sequence_begins e n) fs o gs p → Does al (set_begins e n) fs o gs p
+as_set al e n fs gs o p d = record { after = λ s h. d.after s h }
+
+pub as_group : (al : Bool) (n : ℕ) (fs gs : List Frame) (o p : Packed) → Does al (sequence_begins false n) fs o gs p → Does al (group_begins n) fs o gs p
+as_group al n fs gs o p d = record { after = λ s h. d.after s h }

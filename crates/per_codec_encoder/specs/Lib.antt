@@ -1,4 +1,3 @@
-pub mod Headings
-pub mod Holding
 pub mod Stepping
 pub mod Laws
+pub mod Trial

@@ -1,21 +1,29 @@
 //! The encoder.
 ghost use Rattle.std.specs.Prelude.{◌≡◌, OnOk, OnErr, IfOk, IfErr, MatchResult, [], Some, true, false};
-ghost use Rattle.per_codec_steps.specs.Texts.{as_text};
+ghost use Rattle.asn1_schema_encode.specs.Writes.{Refused};
+ghost use Rattle.asn1_schema_presented.specs.Records.{one_of};
+ghost use Rattle.per_codec_texts.specs.Texts.{as_text};
 ghost use Rattle.per_codec_steps.specs.Ties.{octets_of};
 ghost use Rattle.per_codec_encoder.specs.Stepping.{Puts, is_aligned};
 
-use crate::frames::{Frame, begin_components, begin_members, end_scope, put_further, put_mark};
 use crate::options::EncoderOptions;
 use asn1_schema_bounds::Bounded;
 use asn1_schema_constraints::Constraints;
 use asn1_schema_faults::{CodecKind, EncodeError};
 use asn1_schema_tags::{Identifier, Tag};
+use asn1_schema_variants::{Chosen, Enumerated};
 use asn1_values_alphabets::StaticPermittedAlphabet;
 use asn1_values_bits::{BitBuffer, BitStr};
 use asn1_values_identifiers::Oid;
 use asn1_values_integer_types::IntegerType;
+use per_codec_encoder_frames::{
+    Frame, begin_additions, begin_alternative, begin_bag, begin_components, begin_members,
+    end_addition, end_scope, put_addition, put_further, put_mark,
+};
+use per_codec_packing::Packing;
 use per_codec_writing_characters::push_characters;
 use per_codec_writing_numbers::{push_boolean, push_integer};
+use per_codec_writing_scopes::push_enumerated;
 use per_codec_writing_strings::{push_bit_string, push_identifier, push_octet_string, push_utf8};
 use std::alloc::Global;
 use std::marker::Model;
@@ -24,7 +32,7 @@ use std::mem;
 /// Writes values in the canonical packed encoding rules (X.691), unaligned or aligned, into one buffer.
 #[derive(Drop)]
 pub struct Encoder {
-    output: BitBuffer,
+    output: Packing,
     frames: Vec<Frame>,
     aligned: bool,
     failed: bool,
@@ -37,7 +45,7 @@ impl Model for Encoder {
 
     ghost Value = { Written };
 
-    ghost use Rattle.per_codec_encoder.specs.Holding.{shown, Holds};
+    ghost use Rattle.per_codec_encoder_frames.specs.Holding.{shown, Holds};
 
     ghost view = { λ e. record { state = shown (reverse e.frames.items) e.output; aligned = e.aligned; failed = e.failed } };
 
@@ -62,7 +70,7 @@ impl Encoder {
         ensures { result ≡ record { state = ([], []); aligned = is_aligned options; failed = false } }
     {
         Encoder {
-            output: BitBuffer::new(alloc),
+            output: Packing::new(alloc),
             frames: Vec::new(alloc),
             aligned: options.is_aligned(),
             failed: false,
@@ -74,10 +82,8 @@ impl Encoder {
     pub fn new_with_output(alloc: Global, options: EncoderOptions, output: Vec<u8>) -> Self
         ensures { result ≡ record { state = ([], []); aligned = is_aligned options; failed = false } }
     {
-        let mut octets = output;
-        octets.clear();
         Encoder {
-            output: BitBuffer::from_vec(octets),
+            output: Packing::from_octets(output),
             frames: Vec::new(alloc),
             aligned: options.is_aligned(),
             failed: false,
@@ -96,7 +102,7 @@ impl Encoder {
         ensures none { self.new ≡ record { state = ([], []); aligned = self.old.aligned; failed = self.old.failed } }
     {
         self.frames.clear();
-        let bits = mem::replace(&mut self.output, BitBuffer::new(self.alloc));
+        let bits = mem::replace(&mut self.output, Packing::new(self.alloc)).into_bits();
         message(bits)
     }
 
@@ -166,6 +172,26 @@ impl asn1_schema_encode::Encoder for Encoder {
         }
         self.failed = true;
         push_integer(&mut self.output, self.aligned, constraints, value)?;
+        self.failed = false;
+        Ok(())
+    }
+
+    fn encode_enumerated<T: Enumerated>(
+        &mut self,
+        _tag: Tag,
+        value: &T,
+        _identifier: Identifier,
+    ) -> Result<(), EncodeError>
+        ensures ok { OnOk result (Puts self.old (one_of T.roots T.extensible T.additions (T.number value.now)) self.new) }
+        ensures only { IfErr result (Refused Puts (one_of T.roots T.extensible T.additions (T.number value.now)) self.old) }
+        ensures failed { OnErr result (self.new.failed ≡ true) }
+        ensures already { self.old.failed ≡ true → result ≡ Err EncodeError.AlreadyFailed }
+    {
+        if self.failed {
+            return Err(EncodeError::AlreadyFailed);
+        }
+        self.failed = true;
+        push_enumerated(&mut self.output, self.aligned, value)?;
         self.failed = false;
         Ok(())
     }
@@ -280,12 +306,42 @@ impl asn1_schema_encode::Encoder for Encoder {
         Ok(())
     }
 
+    fn begin_bag(
+        &mut self,
+        _tag: Tag,
+        constraints: Constraints,
+        held: Bounded<usize>,
+        count: usize,
+    ) -> Result<(), EncodeError> {
+        if self.failed {
+            return Err(EncodeError::AlreadyFailed);
+        }
+        self.failed = true;
+        begin_bag(
+            &mut self.output,
+            &mut self.frames,
+            self.alloc,
+            self.aligned,
+            constraints,
+            held,
+            count,
+        )?;
+        self.failed = false;
+        Ok(())
+    }
+
     fn put_further(&mut self, more: bool) -> Result<(), EncodeError> {
         if self.failed {
             return Err(EncodeError::AlreadyFailed);
         }
         self.failed = true;
-        put_further(&mut self.output, &mut self.frames, self.aligned, more)?;
+        put_further(
+            &mut self.output,
+            &mut self.frames,
+            self.alloc,
+            self.aligned,
+            more,
+        )?;
         self.failed = false;
         Ok(())
     }
@@ -305,6 +361,31 @@ impl asn1_schema_encode::Encoder for Encoder {
         Ok(())
     }
 
+    fn begin_set(
+        &mut self,
+        _tag: Tag,
+        extensible: bool,
+        optional: usize,
+    ) -> Result<(), EncodeError> {
+        if self.failed {
+            return Err(EncodeError::AlreadyFailed);
+        }
+        self.failed = true;
+        begin_components(&mut self.output, &mut self.frames, extensible, optional)?;
+        self.failed = false;
+        Ok(())
+    }
+
+    fn begin_group(&mut self, optional: usize) -> Result<(), EncodeError> {
+        if self.failed {
+            return Err(EncodeError::AlreadyFailed);
+        }
+        self.failed = true;
+        begin_components(&mut self.output, &mut self.frames, false, optional)?;
+        self.failed = false;
+        Ok(())
+    }
+
     fn put_mark(&mut self, present: bool) -> Result<(), EncodeError> {
         if self.failed {
             return Err(EncodeError::AlreadyFailed);
@@ -315,12 +396,67 @@ impl asn1_schema_encode::Encoder for Encoder {
         Ok(())
     }
 
+    fn begin_additions(&mut self, count: usize) -> Result<(), EncodeError> {
+        if self.failed {
+            return Err(EncodeError::AlreadyFailed);
+        }
+        self.failed = true;
+        begin_additions(&self.output, &mut self.frames, self.alloc, count)?;
+        self.failed = false;
+        Ok(())
+    }
+
+    fn put_addition(&mut self, present: bool) -> Result<(), EncodeError> {
+        if self.failed {
+            return Err(EncodeError::AlreadyFailed);
+        }
+        self.failed = true;
+        put_addition(&mut self.output, &mut self.frames, self.alloc, present)?;
+        self.failed = false;
+        Ok(())
+    }
+
+    fn end_addition(&mut self) -> Result<(), EncodeError> {
+        if self.failed {
+            return Err(EncodeError::AlreadyFailed);
+        }
+        self.failed = true;
+        end_addition(&mut self.output, &mut self.frames)?;
+        self.failed = false;
+        Ok(())
+    }
+
+    fn begin_choice(
+        &mut self,
+        _tag: Tag,
+        roots: &[Tag],
+        extensible: bool,
+        additions: &[Tag],
+        chosen: Chosen,
+    ) -> Result<(), EncodeError> {
+        if self.failed {
+            return Err(EncodeError::AlreadyFailed);
+        }
+        self.failed = true;
+        begin_alternative(
+            &mut self.output,
+            &mut self.frames,
+            self.alloc,
+            self.aligned,
+            roots.len(),
+            extensible,
+            chosen,
+        )?;
+        self.failed = false;
+        Ok(())
+    }
+
     fn end(&mut self) -> Result<(), EncodeError> {
         if self.failed {
             return Err(EncodeError::AlreadyFailed);
         }
         self.failed = true;
-        end_scope(&mut self.frames)?;
+        end_scope(&mut self.output, &mut self.frames, self.alloc, self.aligned)?;
         self.failed = false;
         Ok(())
     }

@@ -2,8 +2,6 @@
 #![tactic(auto)]
 
 mod encoder;
-mod frames;
-mod headings;
 mod options;
 
 pub use encoder::Encoder;

@@ -9,3 +9,6 @@ pub mod integers;
 pub mod octets;
 
 pub use integers::read_integer;
+
+#[cfg(test)]
+mod tests;

@@ -12,10 +12,10 @@ use Rattle.asn1_model.specs.Form.{exactly, both, varied, only_if, given, joined,
 use Rattle.asn1_model.specs.Per
 use Rattle.asn1_schema_presented.specs.Records.{Record, additions_begin, addition, addition_ends, mismatch}
 use Rattle.asn1_schema_presented.specs.Presents.{presents, added_records, component_count, optional_count}
-use Rattle.per_codec_steps.specs.Texts.{Text, as_text, on, text_at}
+use Rattle.per_codec_texts.specs.Texts.{Text, as_text, on, text_at}
 use Rattle.per_codec_steps.specs.Steps.{Scope, components, added, open_type, State, position, opened, extended_text, runs}
 use Rattle.per_codec_steps.specs.Ties.{BridgesAt, Bridges}
-use Rattle.per_codec_steps.proofs.Texts.{chain_same, none_behind, in_turn, known, plain_text, length-text}
+use Rattle.per_codec_texts.proofs.Texts.{chain_same, none_behind, in_turn, known, plain_text, length-text}
 use Rattle.per_codec_steps.proofs.Bridge.{one_text}
 use Rattle.per_codec_steps.proofs.Sequences.{EachBridges, noted_by, spelled_by, root, marks_count, preamble_place, plain_sequences}
 

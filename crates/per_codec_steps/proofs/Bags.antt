@@ -8,10 +8,10 @@ use Rattle.asn1_model.specs.Form.{exactly, both, only_if, joined, given, put_in_
 use Rattle.asn1_model.specs.Per
 use Rattle.asn1_schema_presented.specs.Records.{Record}
 use Rattle.asn1_schema_presented.specs.Presents.{presents, member_records, member_count}
-use Rattle.per_codec_steps.specs.Texts.{Text, on, text_at, as_form}
+use Rattle.per_codec_texts.specs.Texts.{Text, on, text_at, as_form}
 use Rattle.per_codec_steps.specs.Steps.{Headers, Scope, bag_members, position, Heading, list_heading, with_open, bag_opened, closed_bag, State, runs}
 use Rattle.per_codec_steps.specs.Ties.{BridgesAt, Bridges}
-use Rattle.per_codec_steps.proofs.Texts.{chain_same, in_turn}
+use Rattle.per_codec_texts.proofs.Texts.{chain_same, in_turn}
 use Rattle.per_codec_steps.proofs.Bridge.{one_text}
 use Rattle.per_codec_steps.proofs.Fills.{Fills, AllFill, each_fills, form_fills, told_bits}
 use Rattle.per_codec_steps.proofs.Lists.{text_due, by_heading, length-each, list_text}

@@ -5,7 +5,7 @@ use Rattle.asn1_model.specs.Schema.{Range, Bounds, Counts, Size, StringKind, Alp
 use Rattle.asn1_model.specs.Per
 use Rattle.asn1_schema_presented.specs.Records.{Record}
 use Rattle.asn1_schema_presented.specs.Presents.{presents}
-use Rattle.per_codec_steps.specs.Texts.{Text, text_at}
+use Rattle.per_codec_texts.specs.Texts.{Text, text_at}
 use Rattle.per_codec_steps.specs.Steps.{Scope, position, adds_text, runs}
 use Rattle.per_codec_steps.specs.Ties.{Bridges}
 

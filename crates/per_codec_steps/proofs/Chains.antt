@@ -10,10 +10,10 @@ use Rattle.asn1_model.specs.Rules.{per}
 use Rattle.asn1_schema_presented.specs.Records.{Record}
 use Rattle.asn1_schema_presented.specs.Presents.{presents}
 use Rattle.asn1_schema_presented.specs.Chains.{Chain}
-use Rattle.per_codec_steps.specs.Texts.{Text, as_text, text_at}
+use Rattle.per_codec_texts.specs.Texts.{Text, as_text, text_at}
 use Rattle.per_codec_steps.specs.Steps.{Scope, State, Step, position, run, runs}
 use Rattle.per_codec_steps.specs.Ties.{octets_of}
-use Rattle.per_codec_steps.proofs.Texts.{known, plain_text}
+use Rattle.per_codec_texts.proofs.Texts.{known, plain_text}
 use Rattle.per_codec_steps.proofs.Types.{every_type}
 
 chain_runs : (al : Bool) (rs : List Record) (a b : State) → Chain (Step al) rs a b → runs al rs a ≡ Some b

@@ -8,10 +8,10 @@ use Rattle.asn1_model.specs.Form.{exactly, refused, both, written}
 use Rattle.asn1_model.specs.Per
 use Rattle.asn1_schema_presented.specs.Records.{Record, ends}
 use Rattle.asn1_schema_presented.specs.Presents.{presents, chosen_records}
-use Rattle.per_codec_steps.specs.Texts.{Text, as_text, on, text_at}
+use Rattle.per_codec_texts.specs.Texts.{Text, as_text, on, text_at}
 use Rattle.per_codec_steps.specs.Steps.{Scope, alternative, open_type, State, adds_form, offset, position, runs}
 use Rattle.per_codec_steps.specs.Ties.{Bridges}
-use Rattle.per_codec_steps.proofs.Texts.{in_turn, two_texts, behind, both_assoc, known, plain_text}
+use Rattle.per_codec_texts.proofs.Texts.{in_turn, two_texts, behind, both_assoc, known, plain_text}
 use Rattle.per_codec_steps.proofs.Bridge.{one_text}
 use Rattle.per_codec_steps.proofs.Additions.{open_text}
 

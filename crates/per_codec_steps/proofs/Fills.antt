@@ -9,25 +9,10 @@ use Rattle.asn1_model.specs.Strings.{Run, permitted, may_hold, is_of_octets, eac
 use Rattle.asn1_model.specs.Numbers.{digits, binary, width, octet_width, least_octets, above, is_count_within}
 use Rattle.asn1_model.specs.Form.{exactly, refused, both, placed, varied, within, only_if, given, joined, is_any_present, present_ones, put_in_place, with_keys, ascending, written}
 use Rattle.asn1_model.specs.Per
-use Rattle.per_codec_steps.specs.Texts.{Text, bit, fill, as_text, plain, moved, on, text_at, as_form}
-use Rattle.per_codec_steps.proofs.Texts.{chain_same, none_behind, in_turn, behind_nothing, both_assoc, bits_of}
+use Rattle.per_codec_texts.specs.Texts.{Text, bit, fill, as_text, plain, moved, on, text_at, as_form}
+use Rattle.per_codec_texts.proofs.Texts.{chain_same, none_behind, in_turn, bits_of}
+use Rattle.per_codec_texts.proofs.Forms.{as_form-append, form_of_bits}
 use Rattle.per_codec_steps.proofs.Additions.{by_presence, own}
-
--- the text where the position is not known tells it at each position
-as_form-append : (a b : Text) (q : Option ℕ) → text_at (as_form (a ++ b)) q ≡ text_at (both (as_form a) (as_form b)) q
-unfolding text_at
-as_form-append [] b q = same (text_at (as_form b) q) ∙ ap (λ p. option_map (λ c. c) (text_at (as_form b) p)) (behind_nothing q)
-  where
-    same : (o : Option Text) → o ≡ option_map (λ c. c) o
-    same None = refl
-    same (Some w) = refl
-as_form-append (bit c ∷ a) b q = ap (option_map (λ d. bit c ∷ d)) (as_form-append a b (moved q 1)) ∙ sym (both_assoc (exactly (c ∷ [])) (as_form a) (as_form b) q)
-as_form-append (fill ∷ a) b q = chain_same (text_at (placed (λ p. Per.filling (Per.missing p))) q) (λ d. option_map (λ e. d ++ e) (text_at (as_form (a ++ b)) (on q d))) (λ d. option_map (λ e. d ++ e) (text_at (both (as_form a) (as_form b)) (on q d))) (λ d. ap (option_map (λ e. d ++ e)) (as_form-append a b (on q d))) ∙ sym (both_assoc (placed (λ p. Per.filling (Per.missing p))) (as_form a) (as_form b) q)
-
-form_of_bits : (l : List Bool) (q : Option ℕ) → Some (as_text l) ≡ text_at (as_form (as_text l)) q
-unfolding text_at
-form_of_bits [] q = refl
-form_of_bits (b ∷ l) q = ap (option_map (λ t. bit b ∷ t)) (form_of_bits l (moved q 1))
 
 -- a form whose text without a position tells it at each
 pub record Fills (x : Per.BitForm) : Type 0 where

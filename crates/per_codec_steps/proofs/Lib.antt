@@ -1,4 +1,3 @@
-pub mod Texts
 pub mod Bridge
 pub mod Lists
 pub mod Sequences

@@ -9,10 +9,10 @@ use Rattle.asn1_model.specs.Form.{exactly, both, only_if, joined}
 use Rattle.asn1_model.specs.Per
 use Rattle.asn1_schema_presented.specs.Records.{Record, further, ends}
 use Rattle.asn1_schema_presented.specs.Presents.{presents, member_records, member_count}
-use Rattle.per_codec_steps.specs.Texts.{Text, bit, moved, on, text_at}
+use Rattle.per_codec_texts.specs.Texts.{Text, bit, moved, on, text_at}
 use Rattle.per_codec_steps.specs.Steps.{Headers, Scope, members, offset, position, Heading, before_all, next_header, general, sized_count, behind_bit, marked_count, list_heading, headed, counted_on, runs}
 use Rattle.per_codec_steps.specs.Ties.{BridgesAt, Bridges}
-use Rattle.per_codec_steps.proofs.Texts.{chain_same, two_texts, behind, behind_nothing, both_assoc}
+use Rattle.per_codec_texts.proofs.Texts.{chain_same, two_texts, behind, behind_nothing, both_assoc}
 
 -- the form of members where so many are due before these headers
 abbrev pub text_due : Bool → ℕ → Headers → List Per.BitForm → Per.BitForm

@@ -9,10 +9,10 @@ use Rattle.asn1_model.specs.Form.{exactly, refused, both, varied, only_if}
 use Rattle.asn1_model.specs.Per
 use Rattle.asn1_schema_presented.specs.Records.{Record, mark, is_default, is_empty, ends, mismatch}
 use Rattle.asn1_schema_presented.specs.Presents.{presents, root_records, optional_count, marked}
-use Rattle.per_codec_steps.specs.Texts.{Text, as_text, moved, on, text_at}
+use Rattle.per_codec_texts.specs.Texts.{Text, as_text, moved, on, text_at}
 use Rattle.per_codec_steps.specs.Steps.{Scope, components, mark_width, offset, position, runs}
 use Rattle.per_codec_steps.specs.Ties.{BridgesAt, Bridges}
-use Rattle.per_codec_steps.proofs.Texts.{chain_same, none_behind, two_texts, moved_twice, behind, length-text}
+use Rattle.per_codec_texts.proofs.Texts.{chain_same, none_behind, two_texts, moved_twice, behind, length-text}
 
 -- ---- what the normal form leaves out
 

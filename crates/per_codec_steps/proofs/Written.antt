@@ -11,11 +11,11 @@ use Rattle.asn1_schema_presented.specs.Records.{Record}
 use Rattle.asn1_schema_presented.specs.Presents.{presents, Fits}
 use Rattle.asn1_schema_presented.specs.Chains.{Chain}
 use Rattle.asn1_schema_presented.specs.Tables.{IsValue}
-use Rattle.per_codec_steps.specs.Texts.{Text, as_text, plain, text_at}
+use Rattle.per_codec_texts.specs.Texts.{Text, as_text, plain, text_at}
 use Rattle.per_codec_steps.specs.Steps.{State, Step}
 use Rattle.per_codec_steps.specs.Ties.{octets_of}
 use Rattle.per_codec_steps.specs.Written.{bits_of, WrittenByRecords, RefusedByRecords, IsWriter, HasOctets, WritesTheOctets, RefusesOnlyNone}
-use Rattle.per_codec_steps.proofs.Texts.{known, plain_text}
+use Rattle.per_codec_texts.proofs.Texts.{known, plain_text}
 use Rattle.per_codec_steps.proofs.Chains.{added}
 
 -- the bits of a value that is in its normal form

@@ -2,7 +2,7 @@
 use Rattle.std.specs.Prelude.{◌≡◌, ℕ, ℤ, pos, negsuc, Bool, true, false, List, [], ◌∷◌, ◌++◌, Some, None, option_and_then, replicate}
 use Rattle.asn1_model.specs.Types.{from_to, any_number, any_count, any_size, sizes, sizes_or_more, context}
 use Rattle.asn1_schema_presented.specs.Records as call
-use Rattle.per_codec_steps.specs.Texts.{fill, as_text}
+use Rattle.per_codec_texts.specs.Texts.{fill, as_text}
 use Rattle.per_codec_steps.specs.Steps.{components, members, bag_members, run, runs}
 use Rattle.per_codec_steps.specs.Ties.{octets_of}
 

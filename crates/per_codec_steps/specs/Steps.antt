@@ -6,7 +6,7 @@ use Rattle.asn1_model.specs.Schema.{Counts, Size, boolean, integer, enumerated, 
 use Rattle.asn1_model.specs.Numbers.{binary, is_count_within}
 use Rattle.asn1_model.specs.Form.{exactly, both, only_if, is_any_present}
 use Rattle.asn1_model.specs.Per
-use Rattle.per_codec_steps.specs.Texts.{Text, bit, as_text, plain, moved, on, text_at, as_form}
+use Rattle.per_codec_texts.specs.Texts.{Text, bit, as_text, plain, moved, on, text_at, as_form}
 use Rattle.asn1_schema_presented.specs.Records.{Record, flag, nil, whole, one_of, bits, octets, characters, identifier, list_begins, bag_begins, further, sequence_begins, set_begins, group_begins, mark, additions_begin, addition, addition_ends, choice_begins, ends}
 
 -- The headers of a list that are still to come: how many times 16384 members each fragment has, and how many members stand behind the first of

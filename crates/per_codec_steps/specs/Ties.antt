@@ -9,7 +9,7 @@ use Rattle.asn1_model.specs.Rules.{per}
 use Rattle.asn1_schema_presented.specs.Records.{Record}
 use Rattle.asn1_schema_presented.specs.Presents.{presents}
 use Rattle.asn1_schema_presented.specs.Chains.{Chain}
-use Rattle.per_codec_steps.specs.Texts.{Text, as_text, plain, text_at, as_form}
+use Rattle.per_codec_texts.specs.Texts.{Text, as_text, plain, text_at, as_form}
 use Rattle.per_codec_steps.specs.Steps.{Scope, State, Step, position, runs}
 
 -- in each state, whatever comes behind

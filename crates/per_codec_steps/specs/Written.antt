@@ -12,7 +12,7 @@ use Rattle.asn1_schema_encode.specs.Writes.{Writes, CannotWrite}
 use Rattle.asn1_schema_presented.specs.Records.{Record}
 use Rattle.asn1_schema_presented.specs.Presents.{Fits}
 use Rattle.asn1_schema_presented.specs.Tables.{IsValue}
-use Rattle.per_codec_steps.specs.Texts.{as_text}
+use Rattle.per_codec_texts.specs.Texts.{as_text}
 use Rattle.per_codec_steps.specs.Steps.{State, Step}
 use Rattle.per_codec_steps.specs.Ties.{octets_of}
 

@@ -1,12 +1,13 @@
 -- The texts of constrained whole numbers.
-use Rattle.std.proofs.Common.{◌≡◌, ℕ, zero, suc, ◌+◌, ◌-◌, ◌*◌, ◌/◌, ◌%◌, ◌^◌, ◌<◌, ◌≤◌, ◌==◌, Bool, true, false, not, cond, ltb, leb, ◌&&◌, ◌||◌, List, ◌++◌, length, flat_map, None, Some, refl, ap, subst, sym, ◌∙◌, arith}
+use Rattle.std.proofs.Common.{◌≡◌, ℕ, zero, suc, ◌+◌, ◌-◌, ◌*◌, ◌/◌, ◌%◌, ◌^◌, ◌<◌, ◌≤◌, ◌==◌, Bool, true, false, not, cond, ltb, leb, ◌&&◌, ◌||◌, ◌++◌, flat_map, Option, None, Some, refl, ap, subst, sym, ◌∙◌, arith}
 use Rattle.std.proofs.lemmas.Bool.{lt-ltb, le-ltb, le-leb, lt-leb, eq-eqb, ne_eqb, and_from, or_right}
-use Rattle.asn1_model.specs.Form.{written, exactly, varied}
+use Rattle.asn1_model.specs.Form.{exactly, varied}
 use Rattle.asn1_model.specs.Numbers.{binary, digits, width, octet_width, least_octets}
 use Rattle.asn1_model.specs.Per
 use Rattle.asn1_values_bits.proofs.Binary.{binary_split, binary_low}
 use Rattle.asn1_values_natives.proofs.Widths.{octet_width-octets, octets-least, pow256}
-use Rattle.per_codec_writing.specs.Writing.{Adds, fill_at}
+use Rattle.per_codec_texts.specs.Texts.{as_text, text_at}
+use Rattle.per_codec_writing.specs.Writing.{Packed, Adds, place, plus, fill_at}
 use Rattle.per_codec_writing.proofs.Texts.{adds_text, adds_same, if_true, if_false, cond_true, cond_false, adds_both, adds_bits_at_octet}
 
 -- ---- the bits of octets
@@ -22,43 +23,43 @@ octets_bits (suc k) n =
 
 -- ---- numbers outside, and numbers of so many bits
 
-pub outside : (al : Bool) (span d p : ℕ) → span < d → written (Per.constrained al span d) p ≡ None
+pub outside : (al : Bool) (span d : ℕ) (p : Option ℕ) → span < d → text_at (Per.constrained al span d) p ≡ None
 unfolding Per.constrained Per.constrained_in
 outside al span d p h = if_false (leb d span) _ p (lt-leb _ _ h)
 
-in_bits : (most : ℕ) (al : Bool) (span d p : ℕ) → d ≤ span → (not al || ltb span 255) ≡ true → written (Per.constrained_in (suc most) al span d) p ≡ Some (binary (width span) d)
-unfolding Per.constrained_in written
+in_bits : (most : ℕ) (al : Bool) (span d : ℕ) (p : Option ℕ) → d ≤ span → (not al || ltb span 255) ≡ true → text_at (Per.constrained_in (suc most) al span d) p ≡ Some (as_text (binary (width span) d))
+unfolding Per.constrained_in text_at
 in_bits most al span d p h t = if_true (leb d span) _ p (le-leb _ _ h) ∙ cond_true (not al || ltb span 255) _ _ p t
 
-pub constrained_bits : (al : Bool) (span d p : ℕ) → d ≤ span → (not al || ltb span 255) ≡ true → written (Per.constrained al span d) p ≡ Some (binary (width span) d)
+pub constrained_bits : (al : Bool) (span d : ℕ) (p : Option ℕ) → d ≤ span → (not al || ltb span 255) ≡ true → text_at (Per.constrained al span d) p ≡ Some (as_text (binary (width span) d))
 unfolding Per.constrained
 constrained_bits al span d p h t = in_bits span al span d p h t
 
 -- ---- numbers at octets
 
-large : (most span d p : ℕ) → d ≤ span → 255 ≤ span → written (Per.constrained_in (suc most) true span d) p ≡ written (cond (span == 255) (Per.at_octet true (exactly (binary 8 d))) (cond (ltb span 65536) (Per.at_octet true (exactly (binary 16 d))) (Per.in_octets_of (λ s c. Per.constrained_in most true s c) true span d (least_octets d)))) p
-unfolding Per.constrained_in written
+large : (most span d : ℕ) (p : Option ℕ) → d ≤ span → 255 ≤ span → text_at (Per.constrained_in (suc most) true span d) p ≡ text_at (cond (span == 255) (Per.at_octet true (exactly (binary 8 d))) (cond (ltb span 65536) (Per.at_octet true (exactly (binary 16 d))) (Per.in_octets_of (λ s c. Per.constrained_in most true s c) true span d (least_octets d)))) p
+unfolding Per.constrained_in text_at
 large most span d p h l = if_true (leb d span) _ p (le-leb _ _ h) ∙ cond_false (ltb span 255) _ _ p (le-ltb _ _ l) ∙ fits (span == 255) (ltb span 65536)
   where
-    fits : (s t : Bool) → written (cond s (Per.at_octet true (exactly (binary 8 d))) (cond t (Per.at_octet true (exactly (binary 16 d))) (varied Per.longer_number (least_octets d) (λ k. Per.in_octets_of (λ s c. Per.constrained_in most true s c) true span d k)))) p ≡ written (cond s (Per.at_octet true (exactly (binary 8 d))) (cond t (Per.at_octet true (exactly (binary 16 d))) (Per.in_octets_of (λ s c. Per.constrained_in most true s c) true span d (least_octets d)))) p
+    fits : (s t : Bool) → text_at (cond s (Per.at_octet true (exactly (binary 8 d))) (cond t (Per.at_octet true (exactly (binary 16 d))) (varied Per.longer_number (least_octets d) (λ k. Per.in_octets_of (λ s c. Per.constrained_in most true s c) true span d k)))) p ≡ text_at (cond s (Per.at_octet true (exactly (binary 8 d))) (cond t (Per.at_octet true (exactly (binary 16 d))) (Per.in_octets_of (λ s c. Per.constrained_in most true s c) true span d (least_octets d)))) p
     fits true t = refl
     fits false true = refl
     fits false false = refl
 
 -- 256 numbers
-pub adds_octet : (span d : ℕ) (old mid new : List Bool) → d ≤ span → span ≡ 255 → mid ≡ old ++ fill_at true (length old) → new ≡ mid ++ binary 8 d → Adds (written (Per.constrained true span d) (length old)) old new
+pub adds_octet : (span d : ℕ) (old mid new : Packed) → d ≤ span → span ≡ 255 → mid ≡ plus old (fill_at true (place old)) → new ≡ plus mid (as_text (binary 8 d)) → Adds (text_at (Per.constrained true span d) (place old)) old new
 unfolding Per.constrained
 adds_octet span d old mid new h s e f =
     adds_same _ _ old new
-    (large span span d (length old) h (omega arith) ∙ cond_true (span == 255) _ _ (length old) (eq-eqb _ _ s))
+    (large span span d (place old) h (omega arith) ∙ cond_true (span == 255) _ _ (place old) (eq-eqb _ _ s))
     (adds_bits_at_octet true (binary 8 d) old mid new e f)
 
 -- up to 65536 numbers
-pub adds_two_octets : (span d : ℕ) (old mid new : List Bool) → d ≤ span → 255 < span → span < 65536 → mid ≡ old ++ fill_at true (length old) → new ≡ mid ++ binary 16 d → Adds (written (Per.constrained true span d) (length old)) old new
+pub adds_two_octets : (span d : ℕ) (old mid new : Packed) → d ≤ span → 255 < span → span < 65536 → mid ≡ plus old (fill_at true (place old)) → new ≡ plus mid (as_text (binary 16 d)) → Adds (text_at (Per.constrained true span d) (place old)) old new
 unfolding Per.constrained
 adds_two_octets span d old mid new h s t e f =
     adds_same _ _ old new
-    (large span span d (length old) h (omega arith) ∙ cond_false (span == 255) _ _ (length old) (ne_eqb _ _ (λ x. omega arith)) ∙ cond_true (ltb span 65536) _ _ (length old) (lt-ltb _ _ t))
+    (large span span d (place old) h (omega arith) ∙ cond_false (span == 255) _ _ (place old) (ne_eqb _ _ (λ x. omega arith)) ∙ cond_true (ltb span 65536) _ _ (place old) (lt-ltb _ _ t))
     (adds_bits_at_octet true (binary 16 d) old mid new e f)
 
 -- more numbers, in their fewest octets behind the number of these
@@ -75,7 +76,7 @@ at_least_three (suc (suc (suc w))) span b h = omega arith
 pub octets_of_span : (span : ℕ) → 65536 ≤ span → span < 2 ^ 128 → (3 ≤ octet_width span) × (octet_width span ≤ 16)
 octets_of_span span h k = let b = octet_width-octets span in (at_least_three (octet_width span) span b.below h, octets-least span 16 (octet_width span) b k)
 
-pub adds_fewest : (span d : ℕ) (old number mid new : List Bool) → d ≤ span → 65536 ≤ span → span < 2 ^ 128 → number ≡ old ++ binary (width (octet_width span - 1)) (least_octets d - 1) → mid ≡ number ++ fill_at true (length number) → new ≡ mid ++ binary (least_octets d * 8) d → Adds (written (Per.constrained true span d) (length old)) old new
+pub adds_fewest : (span d : ℕ) (old number mid new : Packed) → d ≤ span → 65536 ≤ span → span < 2 ^ 128 → number ≡ plus old (as_text (binary (width (octet_width span - 1)) (least_octets d - 1))) → mid ≡ plus number (fill_at true (place number)) → new ≡ plus mid (as_text (binary (least_octets d * 8) d)) → Adds (text_at (Per.constrained true span d) (place old)) old new
 unfolding Per.constrained Per.in_octets_of
 adds_fewest span d old number mid new h s t e f g =
     let k : ℕ = least_octets d in
@@ -83,13 +84,13 @@ adds_fewest span d old number mid new h s t e f g =
     let some = octets_of_span span s t in
     let fewer : octet_width d ≤ most = octets_grow d span h in
     let fuel : suc (span - 1) ≡ span = omega arith in
-    let count : written (Per.constrained_in span true (most - 1) (k - 1)) (length old) ≡ Some (binary (width (most - 1)) (k - 1)) =
-    subst (λ m. written (Per.constrained_in m true (most - 1) (k - 1)) (length old) ≡ Some (binary (width (most - 1)) (k - 1))) fuel (in_bits (span - 1) true (most - 1) (k - 1) (length old) (omega arith) (lt-ltb _ _ (omega arith))) in
+    let count : text_at (Per.constrained_in span true (most - 1) (k - 1)) (place old) ≡ Some (as_text (binary (width (most - 1)) (k - 1))) =
+    subst (λ m. text_at (Per.constrained_in m true (most - 1) (k - 1)) (place old) ≡ Some (as_text (binary (width (most - 1)) (k - 1)))) fuel (in_bits (span - 1) true (most - 1) (k - 1) (place old) (omega arith) (lt-ltb _ _ (omega arith))) in
     adds_same _ _ old new
-    (large span span d (length old) h (omega arith) ∙ cond_false (span == 255) _ _ (length old) (ne_eqb _ _ (λ x. omega arith)) ∙ cond_false (ltb span 65536) _ _ (length old) (le-ltb _ _ s)
-    ∙ if_true (leb k k && leb k most) _ (length old) (and_from (leb k k) (leb k most) (le-leb k k (omega arith)) (le-leb k most (omega arith))))
-    (adds_both _ _ old number new (adds_text _ (binary (width (most - 1)) (k - 1)) old number count e)
-    (adds_bits_at_octet true (flat_map (binary 8) (digits 256 k d)) number mid new f (g ∙ ap (λ l. mid ++ l) (sym (octets_bits k d)))))
+    (large span span d (place old) h (omega arith) ∙ cond_false (span == 255) _ _ (place old) (ne_eqb _ _ (λ x. omega arith)) ∙ cond_false (ltb span 65536) _ _ (place old) (le-ltb _ _ s)
+    ∙ if_true (leb k k && leb k most) _ (place old) (and_from (leb k k) (leb k most) (le-leb k k (omega arith)) (le-leb k most (omega arith))))
+    (adds_both _ _ old number new (adds_text _ (as_text (binary (width (most - 1)) (k - 1))) old number count e)
+    (adds_bits_at_octet true (flat_map (binary 8) (digits 256 k d)) number mid new f (g ∙ ap (λ l. plus mid (as_text l)) (sym (octets_bits k d)))))
 
 -- ---- which of these
 

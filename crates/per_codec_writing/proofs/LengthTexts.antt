@@ -1,11 +1,12 @@
 -- The texts of lengths.
-use Rattle.std.proofs.Common.{◌≡◌, ℕ, ◌+◌, ◌*◌, ◌^◌, ◌<◌, ◌≤◌, Bool, true, false, ltb, leb, List, ◌∷◌, ◌++◌, length, ap, sym, ◌∙◌, arith}
+use Rattle.std.proofs.Common.{◌≡◌, ℕ, ◌+◌, ◌*◌, ◌^◌, ◌<◌, ◌≤◌, Bool, true, false, ltb, leb, ◌∷◌, ap, sym, ◌∙◌, arith}
 use Rattle.std.proofs.lemmas.Bool.{lt-ltb, le-leb, lt-leb}
-use Rattle.asn1_model.specs.Form.{written, exactly}
+use Rattle.asn1_model.specs.Form.{exactly}
 use Rattle.asn1_model.specs.Numbers.{binary}
 use Rattle.asn1_model.specs.Per
 use Rattle.asn1_values_bits.proofs.Binary.{binary_join}
-use Rattle.per_codec_writing.specs.Writing.{Adds, fill_at}
+use Rattle.per_codec_texts.specs.Texts.{as_text, text_at}
+use Rattle.per_codec_writing.specs.Writing.{Packed, Adds, place, plus, fill_at}
 use Rattle.per_codec_writing.proofs.Texts.{adds_text, if_true, cond_true, cond_false, adds_at_octet, adds_bits_at_octet}
 
 -- a number behind two bits that are set, and behind one that is and one that is not, and behind one that is not
@@ -18,21 +19,21 @@ long_bits n h = sym (binary_join 2 14 2 n h)
 short_bits : (n : ℕ) → n < 128 → binary 8 n ≡ false ∷ binary 7 n
 short_bits n h = let e : 0 * 2 ^ 7 + n ≡ n = omega arith in sym (binary_join 1 7 0 n h ∙ ap (λ k. binary 8 k) e)
 
-pub adds_fragment : (al : Bool) (m : ℕ) (old mid new : List Bool) → m ≤ 4 → mid ≡ old ++ fill_at al (length old) → new ≡ mid ++ binary 8 (192 + m) → Adds (written (Per.at_octet al (exactly (true ∷ true ∷ binary 6 m))) (length old)) old new
-adds_fragment al m old mid new h e f = adds_bits_at_octet al (true ∷ true ∷ binary 6 m) old mid new e (f ∙ ap (λ l. mid ++ l) (fragment_bits m (omega arith)))
+pub adds_fragment : (al : Bool) (m : ℕ) (old mid new : Packed) → m ≤ 4 → mid ≡ plus old (fill_at al (place old)) → new ≡ plus mid (as_text (binary 8 (192 + m))) → Adds (text_at (Per.at_octet al (exactly (true ∷ true ∷ binary 6 m))) (place old)) old new
+adds_fragment al m old mid new h e f = adds_bits_at_octet al (true ∷ true ∷ binary 6 m) old mid new e (f ∙ ap (λ l. plus mid (as_text l)) (fragment_bits m (omega arith)))
 
-pub adds_short : (al : Bool) (n : ℕ) (old mid new : List Bool) → n < 128 → mid ≡ old ++ fill_at al (length old) → new ≡ mid ++ binary 8 n → Adds (written (Per.short_length al n) (length old)) old new
-unfolding Per.short_length written
+pub adds_short : (al : Bool) (n : ℕ) (old mid new : Packed) → n < 128 → mid ≡ plus old (fill_at al (place old)) → new ≡ plus mid (as_text (binary 8 n)) → Adds (text_at (Per.short_length al n) (place old)) old new
+unfolding Per.short_length text_at
 adds_short al n old mid new h e f =
     adds_at_octet al _ old mid new e
-    (adds_text _ (false ∷ binary 7 n) mid new
-    (cond_false (leb 128 n) _ _ (length mid) (lt-leb _ _ h) ∙ if_true (ltb n 128) _ (length mid) (lt-ltb _ _ h))
-    (f ∙ ap (λ l. mid ++ l) (short_bits n h)))
+    (adds_text _ (as_text (false ∷ binary 7 n)) mid new
+    (cond_false (leb 128 n) _ _ (place mid) (lt-leb _ _ h) ∙ if_true (ltb n 128) _ (place mid) (lt-ltb _ _ h))
+    (f ∙ ap (λ l. plus mid (as_text l)) (short_bits n h)))
 
-pub adds_long : (al : Bool) (n : ℕ) (old mid new : List Bool) → 128 ≤ n → n < 16384 → mid ≡ old ++ fill_at al (length old) → new ≡ mid ++ binary 16 (32768 + n) → Adds (written (Per.short_length al n) (length old)) old new
-unfolding Per.short_length written
+pub adds_long : (al : Bool) (n : ℕ) (old mid new : Packed) → 128 ≤ n → n < 16384 → mid ≡ plus old (fill_at al (place old)) → new ≡ plus mid (as_text (binary 16 (32768 + n))) → Adds (text_at (Per.short_length al n) (place old)) old new
+unfolding Per.short_length text_at
 adds_long al n old mid new g h e f =
     adds_at_octet al _ old mid new e
-    (adds_text _ (true ∷ false ∷ binary 14 n) mid new
-    (cond_true (leb 128 n) _ _ (length mid) (le-leb _ _ g) ∙ if_true (ltb n 16384) _ (length mid) (lt-ltb _ _ h))
-    (f ∙ ap (λ l. mid ++ l) (long_bits n h)))
+    (adds_text _ (as_text (true ∷ false ∷ binary 14 n)) mid new
+    (cond_true (leb 128 n) _ _ (place mid) (le-leb _ _ g) ∙ if_true (ltb n 16384) _ (place mid) (lt-ltb _ _ h))
+    (f ∙ ap (λ l. plus mid (as_text l)) (long_bits n h)))

@@ -1,19 +1,17 @@
--- What a writer of bits did: it added a text behind what stood there, or there is no text, or memory was refused.
-use Rattle.std.specs.Prelude.{◌≡◌, ℕ, Bool, true, false, List, [], ◌++◌, replicate, Option, Some, None, option_map}
-use Rattle.asn1_model.specs.Numbers.{missing}
+-- What a writer did: it added a text behind what stood there, or there is no text, or memory was refused.
+use Rattle.std.specs.Prelude.{◌≡◌, ℕ, Bool, true, false, [], Option, None}
 use Rattle.asn1_schema_faults.specs.declared.EncodeError.{EncodeError}
 use Rattle.asn1_schema_faults.specs.declared.EncodeError.TheVariants.{OutOfMemory}
-
--- The text stands behind what stood there before.
-abbrev pub Adds : Option (List Bool) → List Bool → List Bool → Type 0
-Adds text old new = option_map (λ w. old ++ w) text ≡ Some new
+use Rattle.per_codec_texts.specs.Texts.{Text}
+use Rattle.per_codec_packing.specs.Packed.{filling_at}
+pub use Rattle.per_codec_packing.specs.Packed.{Packed, Adds, place, plus}
 
 -- Why no text was added: memory was refused, or there is none.
-abbrev pub Refuses : Option (List Bool) → EncodeError → Type 0
+abbrev pub Refuses : Option Text → EncodeError → Type 0
 Refuses text OutOfMemory = Unit {0}
 Refuses text e = text ≡ None
 
--- The zero bits from a position up to the next octet, in the aligned variant (X.691 11.1).
-abbrev pub fill_at : Bool → ℕ → List Bool
-fill_at false p = []
-fill_at true p = replicate (missing p) false
+-- What fills up to the next octet from a position on, in the aligned variant (X.691 11.1).
+abbrev pub fill_at : Bool → Option ℕ → Text
+fill_at false q = []
+fill_at true q = filling_at q

@@ -1,14 +1,13 @@
 //! Constrained whole numbers (X.691 11.5).
-ghost use Rattle.std.specs.Prelude.{◌≡◌, ◌≤◌, true, length, MatchResult};
-ghost use Rattle.asn1_model.specs.Form.{written};
+ghost use Rattle.std.specs.Prelude.{◌≡◌, ◌≤◌, true, MatchResult};
 ghost use Rattle.asn1_model.specs.Numbers.{octet_width as octet_width_of};
 ghost use Rattle.asn1_model.specs.Per.{constrained};
-ghost use Rattle.per_codec_writing.specs.Writing.{Adds, Refuses};
+ghost use Rattle.per_codec_texts.specs.Texts.{text_at};
+ghost use Rattle.per_codec_writing.specs.Writing.{Adds, Refuses, place};
 
-use crate::filling::push_filling;
 use asn1_schema_faults::EncodeError;
-use asn1_values_bits::BitBuffer;
 use asn1_values_natives::octets::bit_count;
+use per_codec_packing::Packing;
 
 /// How many octets hold the numbers from 0 to `span`.
 fn octet_width(span: u128) -> u32
@@ -20,31 +19,31 @@ fn octet_width(span: u128) -> u32
 
 /// Adds a number of 0 to `span` in its fewest octets, which stand at an octet behind their number, itself a constrained whole number
 /// (X.691 11.5.7.4 and 13.2.6).
-fn push_fewest_octets(output: &mut BitBuffer, span: u128, value: u128) -> Result<(), EncodeError>
+fn push_fewest_octets(output: &mut Packing, span: u128, value: u128) -> Result<(), EncodeError>
     requires within { value ≤ span }
     requires large { 65536 ≤ span }
-    ensures { MatchResult result (λ _. Adds (written (constrained true span value) (length output.old)) output.old output.new) (λ e. e ≡ EncodeError.OutOfMemory) }
+    ensures { MatchResult result (λ _. Adds (text_at (constrained true span value) (place output.old)) output.old output.new) (λ e. e ≡ EncodeError.OutOfMemory) }
 {
     let count = octet_width(value).max(1);
     let further = octet_width(span) - 1;
     output.push_bits(u128::from(count - 1), bit_count(u128::from(further)) as u32)?;
-    push_filling(output)?;
+    output.align()?;
     output.push_bits(value, count * 8)?;
     Ok(())
 }
 
 /// Adds a number of 0 to `span` at an octet: in one octet where there are 256 such numbers, in two where there are at most 65536, else
 /// behind the number of its octets (X.691 11.5.7.2 to 11.5.7.4).
-fn push_octets(output: &mut BitBuffer, span: u128, value: u128) -> Result<(), EncodeError>
+fn push_octets(output: &mut Packing, span: u128, value: u128) -> Result<(), EncodeError>
     requires within { value ≤ span }
     requires large { 255 ≤ span }
-    ensures { MatchResult result (λ _. Adds (written (constrained true span value) (length output.old)) output.old output.new) (λ e. e ≡ EncodeError.OutOfMemory) }
+    ensures { MatchResult result (λ _. Adds (text_at (constrained true span value) (place output.old)) output.old output.new) (λ e. e ≡ EncodeError.OutOfMemory) }
 {
     if span >= 65536 {
         push_fewest_octets(output, span, value)?;
         return Ok(());
     }
-    push_filling(output)?;
+    output.align()?;
     let width = if span == 255 { 8 } else { 16 };
     output.push_bits(value, width)?;
     Ok(())
@@ -52,12 +51,12 @@ fn push_octets(output: &mut BitBuffer, span: u128, value: u128) -> Result<(), En
 
 /// Adds a constrained whole number, one of 0 to `span` (X.691 11.5). A number above `span` is refused.
 pub fn push_constrained(
-    output: &mut BitBuffer,
+    output: &mut Packing,
     aligned: bool,
     span: u128,
     value: u128,
 ) -> Result<(), EncodeError>
-    ensures { MatchResult result (λ _. Adds (written (constrained aligned span value) (length output.old)) output.old output.new) (Refuses (written (constrained aligned span value) (length output.old))) }
+    ensures { MatchResult result (λ _. Adds (text_at (constrained aligned span value) (place output.old)) output.old output.new) (Refuses (text_at (constrained aligned span value) (place output.old))) }
 {
     if value > span {
         return Err(EncodeError::ValueConstraintNotSatisfied);

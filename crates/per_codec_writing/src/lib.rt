@@ -6,7 +6,7 @@ mod filling;
 mod lengths;
 
 pub use constrained::push_constrained;
-pub use filling::{align, push_filling};
+pub use filling::align;
 pub use lengths::{push_fragment_length, push_short_length};
 
 #[cfg(test)]

@@ -4,14 +4,15 @@ ghost use Rattle.std.specs.Prelude.{◌<◌, ◌≤◌};
 use crate::{push_constrained, push_fragment_length, push_short_length};
 use asn1_schema_faults::EncodeError;
 use asn1_values_bits::BitBuffer;
+use per_codec_packing::Packing;
 use std::alloc::Global;
 use std::test::Fail;
 
 // so many bits that are set
-fn ones(alloc: Global, count: u32) -> Result<BitBuffer, EncodeError>
+fn ones(alloc: Global, count: u32) -> Result<Packing, EncodeError>
     requires { count ≤ 128 }
 {
-    let mut output = BitBuffer::new(alloc);
+    let mut output = Packing::new(alloc);
     output.push_bits(u128::MAX, count)?;
     Ok(output)
 }
@@ -27,7 +28,7 @@ fn constrained(
 {
     let mut output = ones(alloc, in_front)?;
     push_constrained(&mut output, aligned, span, value)?;
-    Ok(output)
+    Ok(output.into_bits())
 }
 
 fn short_length(
@@ -41,7 +42,7 @@ fn short_length(
 {
     let mut output = ones(alloc, in_front)?;
     push_short_length(&mut output, aligned, length)?;
-    Ok(output)
+    Ok(output.into_bits())
 }
 
 #[test]
@@ -202,6 +203,21 @@ fn lengths(rt: HostRuntime) -> Result<(), Fail> {
     let mut output = ones(alloc, 1)?;
     push_fragment_length(&mut output, true, 4)?;
     push_fragment_length(&mut output, true, 1)?;
-    assert_eq!(rt; output.as_bytes(), [0x80u8, 0xC4, 0xC1].as_slice());
+    assert_eq!(rt;
+        output.as_bits().as_bytes(),
+        [0x80u8, 0xC4, 0xC1].as_slice()
+    );
+    Ok(())
+}
+
+#[test]
+fn a_length_that_is_placed_later(rt: HostRuntime) -> Result<(), Fail> {
+    let alloc = rt.alloc();
+    let mut later = Packing::unplaced(alloc);
+    later.push(true)?;
+    push_short_length(&mut later, true, 1)?;
+    let mut output = ones(alloc, 3)?;
+    output.append(&later)?;
+    assert_eq!(rt; output.as_bits().as_bytes(), [0xF0u8, 0x01].as_slice());
     Ok(())
 }

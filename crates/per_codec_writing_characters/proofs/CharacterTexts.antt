@@ -3,11 +3,15 @@ use Rattle.std.proofs.Common.{◌≡◌, ℕ, zero, suc, ◌+◌, ◌-◌, ◌^�
 use Rattle.std.specs.Prelude.{is_some, unwrap_or}
 use Rattle.std.proofs.lemmas.Bool.{and_parts}
 use Rattle.std.proofs.lemmas.List.{take_more, get_or-drop}
-use Rattle.asn1_model.specs.Form.{written, exactly, given}
+use Rattle.asn1_model.specs.Form.{exactly, given}
 use Rattle.asn1_model.specs.Numbers.{binary}
 use Rattle.asn1_model.specs.Per
 use Rattle.asn1_model.specs.Strings.{Run, largest, place_of, each_is}
 use Rattle.per_codec_alphabets.specs.Codes.{Coded, SameCharacters}
+use Rattle.per_codec_texts.specs.Texts.{as_text, text_at}
+use Rattle.per_codec_texts.proofs.Texts.{as_text-append}
+use Rattle.per_codec_packing.proofs.Adding.{plus_both}
+use Rattle.per_codec_writing.specs.Writing.{Packed, plus}
 use Rattle.per_codec_writing_units.specs.Units.{together, forms_of}
 use Rattle.per_codec_writing_characters.specs.Characters.{has_code, text_of, texts_of}
 
@@ -34,7 +38,7 @@ length_left ts zero = omega arith
 length_left [] (suc n) = omega arith
 length_left (t ∷ ts) (suc n) = let i = length_left ts n in omega arith
 
-pub one_more : (a : Coded) (cs : List ℕ) (from i c : ℕ) (old now new : List Bool) → from ≤ i → i < length cs → c ≡ get_or cs i 0 → now ≡ old ++ together (slice_range (texts_of a cs) from i) → new ≡ now ++ text_of a c → new ≡ old ++ together (slice_range (texts_of a cs) from (i + 1))
+pub one_more : (a : Coded) (cs : List ℕ) (from i c : ℕ) (old now new : Packed) → from ≤ i → i < length cs → c ≡ get_or cs i 0 → now ≡ plus old (as_text (together (slice_range (texts_of a cs) from i))) → new ≡ plus now (as_text (text_of a c)) → new ≡ plus old (as_text (together (slice_range (texts_of a cs) from (i + 1))))
 one_more a cs from i c old now new l h e f g =
     let ts = texts_of a cs in
     let n = length-texts a cs in
@@ -44,7 +48,9 @@ one_more a cs from i c old now new l h e f g =
     let within : i - from < length (drop from ts) = omega arith in
     let at : get_or (drop from ts) (i - from) [] ≡ text_of a c = get_or-drop from ts (i - from) [] ∙ ap (λ p. get_or ts p []) k ∙ map_at a cs i h ∙ ap (text_of a) (sym e) in
     let more : slice_range ts from (i + 1) ≡ slice_range ts from i ++ text_of a c ∷ [] = ap (λ p. take p (drop from ts)) j ∙ take_more (drop from ts) (i - from) [] within ∙ ap (λ t. slice_range ts from i ++ t ∷ []) at in
-    g ∙ ap (λ w. w ++ text_of a c) f ∙ append_assoc old (together (slice_range ts from i)) (text_of a c) ∙ ap (λ w. old ++ w) (sym (together_end (slice_range ts from i) (text_of a c)) ∙ ap together (sym more))
+    g ∙ ap (λ w. plus w (as_text (text_of a c))) f ∙ plus_both old (as_text (together (slice_range ts from i))) (as_text (text_of a c))
+    ∙ ap (λ t. plus old t) (as_text-append (together (slice_range ts from i)) (text_of a c))
+    ∙ ap (λ w. plus old (as_text w)) (sym (together_end (slice_range ts from i) (text_of a c)) ∙ ap together (sym more))
 
 -- ---- characters of an alphabet have these texts
 abbrev by_place : ℕ → ℕ → ℕ → Option ℕ → Per.BitForm
@@ -67,6 +73,6 @@ no_place : (t : Bool) (c : ℕ) (o : Option ℕ) → is_some (option_map (λ i. 
 no_place t c None e = refl
 no_place t c (Some i) e = cc
 
-pub no_form : (a : Coded) (rs : List Run) (c p : ℕ) → SameCharacters a.runs rs → has_code a c ≡ false → written (Per.character a.code_bits rs c) p ≡ None
-unfolding Per.character written
-no_form a rs c p s h = ap (λ o. written (by_place (largest rs) a.code_bits c o) p) (sym (s.places c) ∙ no_place (ltb (largest a.runs) (2 ^ a.code_bits)) c (place_of c a.runs) h)
+pub no_form : (a : Coded) (rs : List Run) (c : ℕ) (p : Option ℕ) → SameCharacters a.runs rs → has_code a c ≡ false → text_at (Per.character a.code_bits rs c) p ≡ None
+unfolding Per.character text_at
+no_form a rs c p s h = ap (λ o. text_at (by_place (largest rs) a.code_bits c o) p) (sym (s.places c) ∙ no_place (ltb (largest a.runs) (2 ^ a.code_bits)) c (place_of c a.runs) h)

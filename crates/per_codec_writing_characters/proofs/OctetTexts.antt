@@ -1,8 +1,8 @@
 -- Strings of octets.
-use Rattle.std.proofs.Common.{◌≡◌, ℕ, ◌-◌, ◌^◌, leb, ltb, Bool, true, false, cond, ◌&&◌, ◌||◌, List, [], ◌∷◌, length, Some, None, option_map, refl, ap, subst, sym, ◌∙◌, arith}
+use Rattle.std.proofs.Common.{◌≡◌, ℕ, ◌-◌, ◌^◌, leb, ltb, Bool, true, false, cond, ◌&&◌, ◌||◌, List, [], ◌∷◌, Some, None, option_map, refl, ap, subst, sym, ◌∙◌, arith}
 use Rattle.std.specs.Prelude.{unwrap_or}
 use Rattle.std.proofs.lemmas.Bool.{and_parts, leb-true, lt-ltb}
-use Rattle.asn1_model.specs.Form.{written, exactly}
+use Rattle.asn1_model.specs.Form.{exactly}
 use Rattle.asn1_model.specs.Numbers as Numbers
 use Rattle.asn1_model.specs.Numbers.{binary}
 use Rattle.asn1_model.specs.Schema.{StringKind, numeric, printable, visible, ia5, bmp, general, graphic, teletex, utf8}
@@ -10,7 +10,8 @@ use Rattle.asn1_model.specs.Strings.{Run, run, characters_of, is_among, is_octet
 use Rattle.asn1_model.specs.Per
 use Rattle.asn1_values_alphabets.specs.Permitted.{permits_all}
 use Rattle.per_codec_alphabets.specs.Codes.{Coded, SameCharacters}
-use Rattle.per_codec_writing.specs.Writing.{Adds}
+use Rattle.per_codec_texts.specs.Texts.{text_at}
+use Rattle.per_codec_writing.specs.Writing.{Packed, Adds, place}
 use Rattle.per_codec_writing.proofs.Texts.{adds_same, if_true}
 use Rattle.per_codec_writing_units.specs.Units.{forms_of}
 use Rattle.per_codec_writing_characters.specs.Characters.{text_of, texts_of}
@@ -64,11 +65,11 @@ are_octets : (cs : List ℕ) → each_is (is_among octets) cs ≡ true → each_
 are_octets [] h = refl
 are_octets (c ∷ cs) h = let p = and_parts _ _ h in ap (λ b. b && each_is is_octet cs) (octet c p.0) ∙ are_octets cs p.1
 
-pub octets_text : (al : Bool) (k : StringKind) (a : Coded) (cs : List ℕ) (old new : List Bool) (rs : List Run) → is_of_octets k ≡ true → permits_all k cs ≡ true → rs ≡ characters_of k → SameCharacters a.runs rs → a.code_bits ≡ Per.character_bits al rs → Adds (written (Per.counted al (forms_of (texts_of a cs))) (length old)) old new → Adds (written (Per.counted_octets al cs) (length old)) old new
+pub octets_text : (al : Bool) (k : StringKind) (a : Coded) (cs : List ℕ) (old new : Packed) (rs : List Run) → is_of_octets k ≡ true → permits_all k cs ≡ true → rs ≡ characters_of k → SameCharacters a.runs rs → a.code_bits ≡ Per.character_bits al rs → Adds (text_at (Per.counted al (forms_of (texts_of a cs))) (place old)) old new → Adds (text_at (Per.counted_octets al cs) (place old)) old new
 unfolding Per.counted_octets
 octets_text al k a cs old new rs o h e s b w =
     let r : rs ≡ octets = e ∙ all_octets k o in
     let m : each_is (is_among octets) cs ≡ true = ap (λ q. each_is (is_among q) cs) (sym (all_octets k o)) ∙ h in
     let t : SameCharacters a.runs octets = subst (λ q. SameCharacters a.runs q) r s in
     let n : a.code_bits ≡ 8 = b ∙ ap (Per.character_bits al) r ∙ eight al in
-    adds_same _ _ old new (if_true (each_is is_octet cs) (Per.counted al (Per.octet_units cs)) (length old) (are_octets cs m) ∙ ap (λ us. written (Per.counted al us) (length old)) (sym (own_texts a cs t n m))) w
+    adds_same _ _ old new (if_true (each_is is_octet cs) (Per.counted al (Per.octet_units cs)) (place old) (are_octets cs m) ∙ ap (λ us. text_at (Per.counted al us) (place old)) (sym (own_texts a cs t n m))) w

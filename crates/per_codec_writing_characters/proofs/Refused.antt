@@ -1,33 +1,34 @@
 -- Units of which one has no text have none together.
-use Rattle.std.proofs.Common.{◌≡◌, ℕ, zero, suc, ◌+◌, ◌*◌, leb, ltb, Bool, true, false, cond, ◌&&◌, List, [], ◌∷◌, ◌++◌, length, map, take, drop, Option, Some, None, option_map, refl, ap, sym, ◌∙◌}
+use Rattle.std.proofs.Common.{◌≡◌, ℕ, zero, suc, ◌*◌, leb, ltb, Bool, true, false, cond, ◌&&◌, List, [], ◌∷◌, ◌++◌, length, map, take, drop, Option, Some, None, option_map, refl, ap, sym, ◌∙◌}
 use Rattle.std.specs.Prelude.{option_and_then}
 use Rattle.std.proofs.lemmas.List.{take-map, drop-map}
-use Rattle.asn1_model.specs.Form.{written, exactly, only_if, both, joined}
+use Rattle.asn1_model.specs.Form.{exactly, only_if, both, joined}
 use Rattle.asn1_model.specs.Numbers.{binary}
 use Rattle.asn1_model.specs.Schema.{Size, Counts}
 use Rattle.asn1_model.specs.Strings.{each_is}
 use Rattle.asn1_model.specs.Per
+use Rattle.per_codec_texts.specs.Texts.{Text, on, text_at}
 
 -- no text at any position
 abbrev Never : Per.BitForm → Type 0
-Never x = (p : ℕ) → written x p ≡ None
+Never x = (p : Option ℕ) → text_at x p ≡ None
 
 none_if : (b : Bool) (x : Per.BitForm) → Never x → Never (only_if b x)
-unfolding written
+unfolding text_at
 none_if true x h p = h p
 none_if false x h p = refl
 
 none_first : (x y : Per.BitForm) → Never x → Never (both x y)
-unfolding written
+unfolding text_at
 none_first x y h p = rw (h p) refl
 
 none_second : (x y : Per.BitForm) → Never y → Never (both x y)
-unfolding written
-none_second x y h p = go (written x p)
+unfolding text_at
+none_second x y h p = go (text_at x p)
   where
-    go : (o : Option (List Bool)) → option_and_then (λ a. option_map (λ b. a ++ b) (written y (p + length a))) o ≡ None
+    go : (o : Option Text) → option_and_then (λ a. option_map (λ b. a ++ b) (text_at y (on p a))) o ≡ None
     go None = refl
-    go (Some a) = rw (h (p + length a)) refl
+    go (Some a) = rw (h (on p a)) refl
 
 none_either : (b : Bool) (x y : Per.BitForm) → Never x → Never y → Never (cond b x y)
 none_either true x y h k p = h p
@@ -52,7 +53,7 @@ module _ (f : ℕ → Per.BitForm) (test : ℕ → Bool) (h : (c : ℕ) → test
   none_joined [] e p = cc
   none_joined (c ∷ cs) e p = go (test c) refl e (λ k. none_joined cs k)
     where
-      go : (b : Bool) → test c ≡ b → (b && each_is test cs) ≡ false → (each_is test cs ≡ false → Never (joined (map f cs))) → written (both (f c) (joined (map f cs))) p ≡ None
+      go : (b : Bool) → test c ≡ b → (b && each_is test cs) ≡ false → (each_is test cs ≡ false → Never (joined (map f cs))) → text_at (both (f c) (joined (map f cs))) p ≡ None
       go false t k r = none_first (f c) (joined (map f cs)) (h c t) p
       go true t k r = none_second (f c) (joined (map f cs)) (r k) p
 
@@ -70,7 +71,7 @@ module _ (f : ℕ → Per.BitForm) (test : ℕ → Bool) (h : (c : ℕ) → test
       none_if (leb 1 m && leb m 4 && leb (m * 16384) (length (map f cs))) _ (none_second (Per.at_octet al (exactly (true ∷ true ∷ binary 6 m))) (both (joined (take (m * 16384) (map f cs))) (Per.fragments al ms (drop (m * 16384) (map f cs)))) (none_parts (Per.fragments al ms (drop (m * 16384) (map f cs))) (m * 16384) cs e (λ k. rw drop-map (none_fragments al ms (drop (m * 16384) cs) k)))) p
 
   none_counted : (al : Bool) (cs : List ℕ) → each_is test cs ≡ false → Never (Per.counted al (map f cs))
-  unfolding Per.counted written
+  unfolding Per.counted text_at
   none_counted al cs e p = none_fragments al _ cs e p
 
   none_root : (al : Bool) (c : Counts) (o : Option ℕ) (pads : Counts → Bool) (cs : List ℕ) → each_is test cs ≡ false → Never (Per.sized_root al c o pads (map f cs))
@@ -79,7 +80,7 @@ module _ (f : ℕ → Per.BitForm) (test : ℕ → Bool) (h : (c : ℕ) → test
   none_root al c (Some high) pads cs e p = none_either (ltb high 65536) _ _ (none_second _ _ (none_at_octet (al && pads c) _ (none_joined cs e))) (none_counted al cs e) p
 
   none_marked : (e b : Bool) (x y : Per.BitForm) → Never x → Never y → Never (Per.marked e b x y)
-  unfolding Per.marked written
+  unfolding Per.marked text_at
   none_marked false b x y h k p = none_if b x h p
   none_marked true true x y h k p = none_second (exactly (false ∷ [])) x h p
   none_marked true false x y h k p = none_second (exactly (true ∷ [])) y k p

@@ -4,9 +4,9 @@ use asn1_schema_bounds::Bounded;
 use asn1_schema_constraints::{Constraint, Constraints, Extensible, PermittedAlphabet, Size};
 use asn1_schema_faults::EncodeError;
 use asn1_values_alphabets::{StaticPermittedAlphabet, string_of_text};
-use asn1_values_bits::BitBuffer;
 use asn1_values_strings::{GeneralString, NumericString, VisibleString};
 use asn1_values_strings_wide::BmpString;
+use per_codec_packing::Packing;
 use std::alloc::Global;
 use std::process::Abort;
 use std::test::Fail;
@@ -21,9 +21,9 @@ fn written<S: StaticPermittedAlphabet>(
     let Ok(value) = string_of_text::<S>(alloc, text) else {
         return Err(EncodeError::OutOfMemory);
     };
-    let mut output = BitBuffer::new(alloc);
+    let mut output = Packing::new(alloc);
     push_characters(&mut output, aligned, alloc, constraints, &value)?;
-    Ok(output.into_vec())
+    Ok(output.into_bits().into_vec())
 }
 
 /// Whether these octets were written.

@@ -5,8 +5,8 @@ ghost use Rattle.per_codec_writing_characters.specs.Characters.{texts_of, has_co
 
 use asn1_schema_faults::EncodeError;
 use asn1_values_alphabets::StaticPermittedAlphabet;
-use asn1_values_bits::BitBuffer;
 use per_codec_alphabets::EffectiveAlphabet;
+use per_codec_packing::Packing;
 use per_codec_writing_units::Units;
 
 /// The characters of a string, each by its code among those of an alphabet (X.691 30.5).
@@ -39,12 +39,7 @@ impl<S: StaticPermittedAlphabet> Units for CharacterUnits<'_, S> {
         self.string.char_count()
     }
 
-    fn push_range(
-        &self,
-        output: &mut BitBuffer,
-        from: usize,
-        to: usize,
-    ) -> Result<(), EncodeError> {
+    fn push_range(&self, output: &mut Packing, from: usize, to: usize) -> Result<(), EncodeError> {
         let width = self.alphabet.width();
         for place in from..to {
             let code = self.alphabet.code(self.string.char_at(place)).unwrap_or(0);

@@ -1,17 +1,17 @@
 //! Truth values (X.691 12).
-ghost use Rattle.std.specs.Prelude.{◌≡◌, length, MatchResult};
-ghost use Rattle.asn1_model.specs.Form.{written};
+ghost use Rattle.std.specs.Prelude.{◌≡◌, MatchResult};
 ghost use Rattle.asn1_model.specs.Per.{form};
 ghost use Rattle.asn1_model.specs.Schema.{boolean};
 ghost use Rattle.asn1_model.specs.Value.{truth};
-ghost use Rattle.per_codec_writing.specs.Writing.{Adds};
+ghost use Rattle.per_codec_texts.specs.Texts.{text_at};
+ghost use Rattle.per_codec_writing.specs.Writing.{Adds, place};
 
 use asn1_schema_faults::EncodeError;
-use asn1_values_bits::BitBuffer;
+use per_codec_packing::Packing;
 
 /// Adds a BOOLEAN, one bit that is set for true (X.691 12). The only error is want of memory.
-pub fn push_boolean(output: &mut BitBuffer, aligned: bool, value: bool) -> Result<(), EncodeError>
-    ensures { MatchResult result (λ _. Adds (written (form aligned boolean (truth value)) (length output.old)) output.old output.new) (λ e. e ≡ EncodeError.OutOfMemory) }
+pub fn push_boolean(output: &mut Packing, aligned: bool, value: bool) -> Result<(), EncodeError>
+    ensures { MatchResult result (λ _. Adds (text_at (form aligned boolean (truth value)) (place output.old)) output.old output.new) (λ e. e ≡ EncodeError.OutOfMemory) }
 {
     output.push(value)?;
     Ok(())

@@ -1,6 +1,5 @@
 //! Whole numbers (X.691 13).
-ghost use Rattle.std.specs.Prelude.{◌≡◌, ◌-◌, ◌^◌, true, length, is_some, IfSome, MatchResult};
-ghost use Rattle.asn1_model.specs.Form.{written};
+ghost use Rattle.std.specs.Prelude.{◌≡◌, ◌-◌, ◌^◌, true, is_some, IfSome, MatchResult};
 ghost use Rattle.asn1_model.specs.Numbers.{is_within};
 ghost use Rattle.asn1_model.specs.Per.{form, marked, semi_constrained, unconstrained, whole_number as number_form};
 ghost use Rattle.asn1_model.specs.Schema.{integer};
@@ -9,14 +8,15 @@ ghost use Rattle.asn1_schema_bounds.specs.Bounds.{admits_number, lower, upper};
 ghost use Rattle.asn1_schema_constraints.specs.Terms.{bounds_of, held_of};
 ghost use Rattle.asn1_values_natives.specs.Octets.{signed_number};
 ghost use Rattle.asn1_values_natives.specs.Ranges.{whole_range};
-ghost use Rattle.per_codec_writing.specs.Writing.{Adds, Refuses};
+ghost use Rattle.per_codec_texts.specs.Texts.{text_at};
+ghost use Rattle.per_codec_writing.specs.Writing.{Adds, Refuses, place};
 
 use asn1_schema_bounds::Bounded;
 use asn1_schema_constraints::Constraints;
 use asn1_schema_faults::EncodeError;
-use asn1_values_bits::BitBuffer;
 use asn1_values_integer_types::IntegerType;
 use asn1_values_natives::Wide;
+use per_codec_packing::Packing;
 use per_codec_writing::push_constrained;
 use per_codec_writing_units::push_counted_octets;
 
@@ -31,11 +31,11 @@ fn whole_number(octets: &[u8]) -> Option<i128>
 /// Adds a number without a lower bound, in its fewest octets of two's complement behind their number (X.691 11.8 and 13.2.4). The only
 /// error is want of memory.
 fn push_unconstrained<I: IntegerType>(
-    output: &mut BitBuffer,
+    output: &mut Packing,
     aligned: bool,
     value: &I,
 ) -> Result<(), EncodeError>
-    ensures written { MatchResult result (λ _. Adds (written (unconstrained aligned (I.value value.now)) (length output.old)) output.old output.new) (λ e. e ≡ EncodeError.OutOfMemory) }
+    ensures written { MatchResult result (λ _. Adds (text_at (unconstrained aligned (I.value value.now)) (place output.old)) output.old output.new) (λ e. e ≡ EncodeError.OutOfMemory) }
     ensures held { is_within I.held (I.value value.now) ≡ true }
 {
     let octets = value.to_signed_bytes_be();
@@ -46,11 +46,11 @@ fn push_unconstrained<I: IntegerType>(
 /// Adds a number with a lower bound alone, by how far it is above that, in the fewest octets behind their number (X.691 11.7 and 13.2.3).
 /// The only error is want of memory.
 pub(crate) fn push_semi_constrained(
-    output: &mut BitBuffer,
+    output: &mut Packing,
     aligned: bool,
     offset: u128,
 ) -> Result<(), EncodeError>
-    ensures { MatchResult result (λ _. Adds (written (semi_constrained aligned offset) (length output.old)) output.old output.new) (λ e. e ≡ EncodeError.OutOfMemory) }
+    ensures { MatchResult result (λ _. Adds (text_at (semi_constrained aligned offset) (place output.old)) output.old output.new) (λ e. e ≡ EncodeError.OutOfMemory) }
 {
     let octets = offset.to_unsigned_bytes_be();
     push_counted_octets(output, aligned, octets.as_slice())?;
@@ -59,13 +59,13 @@ pub(crate) fn push_semi_constrained(
 
 /// Adds a number within bounds, in the form that they tell (X.691 13.2).
 fn push_root(
-    output: &mut BitBuffer,
+    output: &mut Packing,
     aligned: bool,
     bounds: Bounded<i128>,
     number: i128,
 ) -> Result<(), EncodeError>
     requires { admits_number bounds number ≡ true }
-    ensures { MatchResult result (λ _. Adds (written (number_form aligned (lower bounds) (upper bounds) number) (length output.old)) output.old output.new) (Refuses (written (number_form aligned (lower bounds) (upper bounds) number) (length output.old))) }
+    ensures { MatchResult result (λ _. Adds (text_at (number_form aligned (lower bounds) (upper bounds) number) (place output.old)) output.old output.new) (Refuses (text_at (number_form aligned (lower bounds) (upper bounds) number) (place output.old))) }
 {
     match (bounds.as_start().copied(), bounds.as_end().copied()) {
         (Some(low), Some(high)) => {
@@ -84,13 +84,13 @@ fn push_root(
 
 /// Adds a number under a value constraint: behind a bit that tells whether it is outside the bounds, where a mark follows these (X.691 13.1).
 fn push_bounded(
-    output: &mut BitBuffer,
+    output: &mut Packing,
     aligned: bool,
     bounds: Bounded<i128>,
     extensible: bool,
     number: i128,
 ) -> Result<(), EncodeError>
-    ensures { MatchResult result (λ _. Adds (written (marked extensible (admits_number bounds number) (number_form aligned (lower bounds) (upper bounds) number) (unconstrained aligned number)) (length output.old)) output.old output.new) (Refuses (written (marked extensible (admits_number bounds number) (number_form aligned (lower bounds) (upper bounds) number) (unconstrained aligned number)) (length output.old))) }
+    ensures { MatchResult result (λ _. Adds (text_at (marked extensible (admits_number bounds number) (number_form aligned (lower bounds) (upper bounds) number) (unconstrained aligned number)) (place output.old)) output.old output.new) (Refuses (text_at (marked extensible (admits_number bounds number) (number_form aligned (lower bounds) (upper bounds) number) (unconstrained aligned number)) (place output.old))) }
 {
     let inside = bounds.contains(&number);
     if !extensible {
@@ -111,12 +111,12 @@ fn push_bounded(
 /// Adds an INTEGER (X.691 13), of at most 128 bits under a value constraint. One outside its bounds is refused, unless a mark follows
 /// these.
 pub fn push_integer<I: IntegerType>(
-    output: &mut BitBuffer,
+    output: &mut Packing,
     aligned: bool,
     constraints: Constraints,
     value: &I,
 ) -> Result<(), EncodeError>
-    ensures { MatchResult result (λ _. Adds (written (form aligned (integer (bounds_of constraints.entry.value) (held_of constraints.entry.value I.held)) (number_value (I.value value.now))) (length output.old)) output.old output.new) (Refuses (written (form aligned (integer (bounds_of constraints.entry.value) (held_of constraints.entry.value I.held)) (number_value (I.value value.now))) (length output.old))) }
+    ensures { MatchResult result (λ _. Adds (text_at (form aligned (integer (bounds_of constraints.entry.value) (held_of constraints.entry.value I.held)) (number_value (I.value value.now))) (place output.old)) output.old output.new) (Refuses (text_at (form aligned (integer (bounds_of constraints.entry.value) (held_of constraints.entry.value I.held)) (number_value (I.value value.now))) (place output.old))) }
 {
     let Some(limits) = constraints.value else {
         push_unconstrained(output, aligned, value)?;

@@ -1,21 +1,21 @@
 //! Normally small whole numbers (X.691 11.6).
-ghost use Rattle.std.specs.Prelude.{◌≡◌, length, MatchResult};
-ghost use Rattle.asn1_model.specs.Form.{written};
+ghost use Rattle.std.specs.Prelude.{◌≡◌, MatchResult};
 ghost use Rattle.asn1_model.specs.Per.{normally_small};
-ghost use Rattle.per_codec_writing.specs.Writing.{Adds};
+ghost use Rattle.per_codec_texts.specs.Texts.{text_at};
+ghost use Rattle.per_codec_writing.specs.Writing.{Adds, place};
 
 use crate::integers::push_semi_constrained;
 use asn1_schema_faults::EncodeError;
-use asn1_values_bits::BitBuffer;
+use per_codec_packing::Packing;
 
 /// Adds a normally small number: up to 63 in six bits behind one that is not set, else behind one that is, in the fewest octets behind their
 /// number (X.691 11.6). The only error is want of memory.
 pub fn push_normally_small(
-    output: &mut BitBuffer,
+    output: &mut Packing,
     aligned: bool,
     number: u64,
 ) -> Result<(), EncodeError>
-    ensures { MatchResult result (λ _. Adds (written (normally_small aligned number) (length output.old)) output.old output.new) (λ e. e ≡ EncodeError.OutOfMemory) }
+    ensures { MatchResult result (λ _. Adds (text_at (normally_small aligned number) (place output.old)) output.old output.new) (λ e. e ≡ EncodeError.OutOfMemory) }
 {
     if number < 64 {
         output.push_bits(number as u128, 7)?;

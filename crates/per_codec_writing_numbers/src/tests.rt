@@ -6,6 +6,7 @@ use asn1_schema_faults::EncodeError;
 use asn1_values_bits::BitBuffer;
 use asn1_values_integer_types::IntegerType;
 use asn1_values_numbers::Integer;
+use per_codec_packing::Packing;
 use std::alloc::Global;
 use std::test::Fail;
 
@@ -32,19 +33,19 @@ fn integer<I: IntegerType + Drop>(
     constraints: Constraints,
     value: I,
 ) -> Result<BitBuffer, EncodeError> {
-    let mut output = BitBuffer::new(alloc);
+    let mut output = Packing::new(alloc);
     push_integer(&mut output, aligned, constraints, &value)?;
-    Ok(output)
+    Ok(output.into_bits())
 }
 
 #[test]
 fn truth_values(rt: HostRuntime) -> Result<(), Fail> {
-    let mut output = BitBuffer::new(rt.alloc());
+    let mut output = Packing::new(rt.alloc());
     push_boolean(&mut output, false, true)?;
     push_boolean(&mut output, true, false)?;
     push_boolean(&mut output, true, true)?;
     assert_eq!(rt; output.len(), 3);
-    assert_eq!(rt; output.as_bytes(), [0xA0u8].as_slice());
+    assert_eq!(rt; output.as_bits().as_bytes(), [0xA0u8].as_slice());
     Ok(())
 }
 
@@ -134,10 +135,10 @@ fn numbers_of_many_bits(rt: HostRuntime) -> Result<(), Fail> {
     let alloc = rt.alloc();
     let octets = [1u8, 0, 0, 0, 0, 0, 0, 0, 0, 0, 0, 0, 0, 0, 0, 0, 0];
     let wide = Integer::from_signed_octets(alloc, &octets)?;
-    let mut output = BitBuffer::new(alloc);
+    let mut output = Packing::new(alloc);
     push_integer(&mut output, false, Constraints::NONE, &wide)?;
     assert_eq!(rt;
-        output.as_bytes(),
+        output.as_bits().as_bytes(),
         [17u8, 1, 0, 0, 0, 0, 0, 0, 0, 0, 0, 0, 0, 0, 0, 0, 0, 0].as_slice()
     );
     let from = under(Bounded::start_from(0), true);
@@ -159,16 +160,23 @@ fn numbers_outside(rt: HostRuntime) {
 
 #[test]
 fn normally_small_numbers(rt: HostRuntime) -> Result<(), Fail> {
-    let mut output = BitBuffer::new(rt.alloc());
+    let alloc = rt.alloc();
+    let mut output = Packing::new(alloc);
     push_normally_small(&mut output, true, 5)?;
-    assert_eq!(rt; output.as_bytes(), [0x0Au8].as_slice());
+    assert_eq!(rt; output.as_bits().as_bytes(), [0x0Au8].as_slice());
     push_normally_small(&mut output, false, 63)?;
-    assert_eq!(rt; output.as_bytes(), [0x0Au8, 0xFC].as_slice());
-    output.clear();
+    assert_eq!(rt; output.as_bits().as_bytes(), [0x0Au8, 0xFC].as_slice());
+    let mut output = Packing::new(alloc);
     push_normally_small(&mut output, false, 64)?;
-    assert_eq!(rt; output.as_bytes(), [0x80u8, 0xA0, 0x00].as_slice());
-    output.clear();
+    assert_eq!(rt;
+        output.as_bits().as_bytes(),
+        [0x80u8, 0xA0, 0x00].as_slice()
+    );
+    let mut output = Packing::new(alloc);
     push_normally_small(&mut output, true, 64)?;
-    assert_eq!(rt; output.as_bytes(), [0x80u8, 0x01, 0x40].as_slice());
+    assert_eq!(rt;
+        output.as_bits().as_bytes(),
+        [0x80u8, 0x01, 0x40].as_slice()
+    );
     Ok(())
 }

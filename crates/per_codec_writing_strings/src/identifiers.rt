@@ -1,14 +1,14 @@
 //! OBJECT IDENTIFIER (X.691 24).
-ghost use Rattle.std.specs.Prelude.{length, MatchResult};
-ghost use Rattle.asn1_model.specs.Form.{written};
+ghost use Rattle.std.specs.Prelude.{MatchResult};
 ghost use Rattle.asn1_model.specs.Per.{form};
 ghost use Rattle.asn1_model.specs.Schema.{object_identifier};
 ghost use Rattle.asn1_model.specs.Value.{arcs};
-ghost use Rattle.per_codec_writing.specs.Writing.{Adds, Refuses};
+ghost use Rattle.per_codec_texts.specs.Texts.{text_at};
+ghost use Rattle.per_codec_writing.specs.Writing.{Adds, Refuses, place};
 
 use asn1_schema_faults::EncodeError;
-use asn1_values_bits::BitBuffer;
 use asn1_values_identifiers::{IdentifierError, Oid, oid_octets};
+use per_codec_packing::Packing;
 use per_codec_writing_units::push_counted_octets;
 use std::alloc::Global;
 
@@ -18,12 +18,12 @@ use std::alloc::Global;
 ///
 /// `ValueConstraintNotSatisfied` where it has a single arc, and so no contents.
 pub fn push_identifier(
-    output: &mut BitBuffer,
+    output: &mut Packing,
     aligned: bool,
     alloc: Global,
     value: &Oid,
 ) -> Result<(), EncodeError>
-    ensures { MatchResult result (λ _. Adds (written (form aligned object_identifier (arcs value.now)) (length output.old)) output.old output.new) (Refuses (written (form aligned object_identifier (arcs value.now)) (length output.old))) }
+    ensures { MatchResult result (λ _. Adds (text_at (form aligned object_identifier (arcs value.now)) (place output.old)) output.old output.new) (Refuses (text_at (form aligned object_identifier (arcs value.now)) (place output.old))) }
 {
     match oid_octets(alloc, value) {
         Ok(contents) => {

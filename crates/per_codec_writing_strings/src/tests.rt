@@ -7,6 +7,7 @@ use asn1_schema_constraints::{Constraints, Extensible, Size};
 use asn1_schema_faults::EncodeError;
 use asn1_values_bits::{BitBuffer, BitStr};
 use asn1_values_identifiers::Oid;
+use per_codec_packing::Packing;
 use std::alloc::Global;
 use std::test::Fail;
 
@@ -25,10 +26,10 @@ fn octets(
     constraints: Constraints,
     value: &[u8],
 ) -> Result<BitBuffer, EncodeError> {
-    let mut output = BitBuffer::new(alloc);
+    let mut output = Packing::new(alloc);
     output.push(true)?;
     push_octet_string(&mut output, aligned, constraints, Bounded::None, value)?;
-    Ok(output)
+    Ok(output.into_bits())
 }
 
 // a BIT STRING of set bits behind one that is not
@@ -40,11 +41,11 @@ fn bits(
 ) -> Result<BitBuffer, EncodeError>
     requires { count ≤ 32 }
 {
-    let mut output = BitBuffer::new(alloc);
+    let mut output = Packing::new(alloc);
     output.push(false)?;
     let value = BitStr::front_of(&[0xFF; 4], count);
     push_bit_string(&mut output, aligned, constraints, Bounded::None, value)?;
-    Ok(output)
+    Ok(output.into_bits())
 }
 
 #[test]
@@ -145,14 +146,17 @@ fn strings_of_bits(rt: HostRuntime) -> Result<(), Fail> {
 #[test]
 fn texts_and_identifiers(rt: HostRuntime) -> Result<(), Fail> {
     let alloc = rt.alloc();
-    let mut output = BitBuffer::new(alloc);
+    let mut output = Packing::new(alloc);
     push_utf8(&mut output, false, Constraints::NONE, "é")?;
-    assert_eq!(rt; output.as_bytes(), [0x02u8, 0xC3, 0xA9].as_slice());
-    output.clear();
+    assert_eq!(rt;
+        output.as_bits().as_bytes(),
+        [0x02u8, 0xC3, 0xA9].as_slice()
+    );
+    let mut output = Packing::new(alloc);
     let rsa = Oid::new(&[1, 2, 840, 113549]).ok_or("no identifier")?;
     push_identifier(&mut output, true, alloc, &rsa)?;
     assert_eq!(rt;
-        output.as_bytes(),
+        output.as_bits().as_bytes(),
         [0x06u8, 0x2A, 0x86, 0x48, 0x86, 0xF7, 0x0D].as_slice()
     );
     let lone = Oid::new(&[1]).ok_or("no identifier")?;

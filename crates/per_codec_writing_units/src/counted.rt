@@ -1,13 +1,13 @@
 //! Units behind their number (X.691 11.9).
-ghost use Rattle.std.specs.Prelude.{◌≡◌, length, MatchResult};
-ghost use Rattle.asn1_model.specs.Form.{written};
+ghost use Rattle.std.specs.Prelude.{◌≡◌, MatchResult};
 ghost use Rattle.asn1_model.specs.Per.{counted, counted_octets};
-ghost use Rattle.per_codec_writing.specs.Writing.{Adds};
+ghost use Rattle.per_codec_texts.specs.Texts.{text_at};
+ghost use Rattle.per_codec_writing.specs.Writing.{Adds, place};
 ghost use Rattle.per_codec_writing_units.specs.Units.{forms_of};
 
 use crate::Units;
 use asn1_schema_faults::EncodeError;
-use asn1_values_bits::BitBuffer;
+use per_codec_packing::Packing;
 use per_codec_writing::{push_fragment_length, push_short_length};
 
 /// How many units make a fragment of the smallest size (X.691 11.9.3.8).
@@ -16,11 +16,11 @@ const FRAGMENT: usize = 16384;
 /// Adds units behind their number: from 16384 units on in fragments, the largest first, and the rest behind a short length (X.691 11.9).
 /// The only error is want of memory.
 pub fn push_counted<U: Units>(
-    output: &mut BitBuffer,
+    output: &mut Packing,
     aligned: bool,
     units: &U,
 ) -> Result<(), EncodeError>
-    ensures { MatchResult result (λ _. Adds (written (counted aligned (forms_of (U.texts units.now))) (length output.old)) output.old output.new) (λ e. e ≡ EncodeError.OutOfMemory) }
+    ensures { MatchResult result (λ _. Adds (text_at (counted aligned (forms_of (U.texts units.now))) (place output.old)) output.old output.new) (λ e. e ≡ EncodeError.OutOfMemory) }
 {
     let count = units.count();
     let mut from = 0;
@@ -37,11 +37,11 @@ pub fn push_counted<U: Units>(
 
 /// Adds octets behind their number (X.691 11.9). The only error is want of memory.
 pub fn push_counted_octets(
-    output: &mut BitBuffer,
+    output: &mut Packing,
     aligned: bool,
     octets: &[u8],
 ) -> Result<(), EncodeError>
-    ensures { MatchResult result (λ _. Adds (written (counted_octets aligned octets.now) (length output.old)) output.old output.new) (λ e. e ≡ EncodeError.OutOfMemory) }
+    ensures { MatchResult result (λ _. Adds (text_at (counted_octets aligned octets.now) (place output.old)) output.old output.new) (λ e. e ≡ EncodeError.OutOfMemory) }
 {
     let units = octets;
     push_counted(output, aligned, &units)?;

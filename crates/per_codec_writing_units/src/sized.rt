@@ -1,23 +1,24 @@
 //! Units of a size (X.691 16, 17, 20 and 30).
 ghost use Rattle.std.specs.Prelude.{◌≡◌, ◌-◌, ◌≤◌, ◌&&◌, true, false, length, MatchResult};
-ghost use Rattle.asn1_model.specs.Form.{written, both, joined};
+ghost use Rattle.asn1_model.specs.Form.{both, joined};
 ghost use Rattle.asn1_model.specs.Numbers.{is_count_within};
 ghost use Rattle.asn1_model.specs.Per.{at_octet, constrained, counted, marked, sized, sized_root};
 ghost use Rattle.asn1_schema_bounds.specs.Bounds.{counts_of, upper};
 ghost use Rattle.asn1_schema_constraints.specs.Terms.{sizes_of};
-ghost use Rattle.per_codec_writing.specs.Writing.{Adds, Refuses};
+ghost use Rattle.per_codec_texts.specs.Texts.{text_at};
+ghost use Rattle.per_codec_writing.specs.Writing.{Adds, Refuses, place};
 ghost use Rattle.per_codec_writing_units.specs.Units.{forms_of};
 
 use crate::{Units, push_counted};
 use asn1_schema_bounds::Bounded;
 use asn1_schema_constraints::Constraints;
 use asn1_schema_faults::EncodeError;
-use asn1_values_bits::BitBuffer;
+use per_codec_packing::Packing;
 use per_codec_writing::{align, push_constrained};
 
 /// Adds units behind their number, which is one of `low` to `high`; `pads` tells whether they stand at an octet in the aligned variant.
 fn push_between<U: Units>(
-    output: &mut BitBuffer,
+    output: &mut Packing,
     aligned: bool,
     low: usize,
     high: usize,
@@ -26,7 +27,7 @@ fn push_between<U: Units>(
 ) -> Result<(), EncodeError>
     requires least { low ≤ length (U.texts units.now) }
     requires most { length (U.texts units.now) ≤ high }
-    ensures { MatchResult result (λ _. Adds (written (both (constrained aligned (high - low) (length (U.texts units.now) - low)) (at_octet (aligned && pads) (joined (forms_of (U.texts units.now))))) (length output.old)) output.old output.new) (Refuses (written (both (constrained aligned (high - low) (length (U.texts units.now) - low)) (at_octet (aligned && pads) (joined (forms_of (U.texts units.now))))) (length output.old))) }
+    ensures { MatchResult result (λ _. Adds (text_at (both (constrained aligned (high - low) (length (U.texts units.now) - low)) (at_octet (aligned && pads) (joined (forms_of (U.texts units.now))))) (place output.old)) output.old output.new) (Refuses (text_at (both (constrained aligned (high - low) (length (U.texts units.now) - low)) (at_octet (aligned && pads) (joined (forms_of (U.texts units.now))))) (place output.old))) }
 {
     let count = units.count();
     push_constrained(output, aligned, (high - low) as u128, (count - low) as u128)?;
@@ -38,14 +39,14 @@ fn push_between<U: Units>(
 /// Adds units of which the root has as many: behind their number by its bounds where the highest is below 65536, else behind a general length
 /// (X.691 11.9.4).
 fn push_root<U: Units>(
-    output: &mut BitBuffer,
+    output: &mut Packing,
     aligned: bool,
     range: Bounded<usize>,
     pads: bool,
     units: &U,
 ) -> Result<(), EncodeError>
     requires { is_count_within (counts_of range) (length (U.texts units.now)) ≡ true }
-    ensures { MatchResult result (λ _. Adds (written (sized_root aligned (counts_of range) (upper range) (λ _. pads) (forms_of (U.texts units.now))) (length output.old)) output.old output.new) (Refuses (written (sized_root aligned (counts_of range) (upper range) (λ _. pads) (forms_of (U.texts units.now))) (length output.old))) }
+    ensures { MatchResult result (λ _. Adds (text_at (sized_root aligned (counts_of range) (upper range) (λ _. pads) (forms_of (U.texts units.now))) (place output.old)) output.old output.new) (Refuses (text_at (sized_root aligned (counts_of range) (upper range) (λ _. pads) (forms_of (U.texts units.now))) (place output.old))) }
 {
     match range.as_end().copied() {
         None => {
@@ -65,13 +66,13 @@ fn push_root<U: Units>(
 
 /// Adds units of a size with a mark: behind a bit that tells whether their number is outside the root (X.691 16.6, 17.3, 20.4 and 30.4).
 fn push_marked<U: Units>(
-    output: &mut BitBuffer,
+    output: &mut Packing,
     aligned: bool,
     range: Bounded<usize>,
     pads: bool,
     units: &U,
 ) -> Result<(), EncodeError>
-    ensures { MatchResult result (λ _. Adds (written (marked true (is_count_within (counts_of range) (length (U.texts units.now))) (sized_root aligned (counts_of range) (upper range) (λ _. pads) (forms_of (U.texts units.now))) (counted aligned (forms_of (U.texts units.now)))) (length output.old)) output.old output.new) (Refuses (written (marked true (is_count_within (counts_of range) (length (U.texts units.now))) (sized_root aligned (counts_of range) (upper range) (λ _. pads) (forms_of (U.texts units.now))) (counted aligned (forms_of (U.texts units.now)))) (length output.old))) }
+    ensures { MatchResult result (λ _. Adds (text_at (marked true (is_count_within (counts_of range) (length (U.texts units.now))) (sized_root aligned (counts_of range) (upper range) (λ _. pads) (forms_of (U.texts units.now))) (counted aligned (forms_of (U.texts units.now)))) (place output.old)) output.old output.new) (Refuses (text_at (marked true (is_count_within (counts_of range) (length (U.texts units.now))) (sized_root aligned (counts_of range) (upper range) (λ _. pads) (forms_of (U.texts units.now))) (counted aligned (forms_of (U.texts units.now)))) (place output.old))) }
 {
     let is_outside = !range.contains(&units.count());
     output.push(is_outside)?;
@@ -85,13 +86,13 @@ fn push_marked<U: Units>(
 
 /// Adds units of a size without a mark.
 fn push_unmarked<U: Units>(
-    output: &mut BitBuffer,
+    output: &mut Packing,
     aligned: bool,
     range: Bounded<usize>,
     pads: bool,
     units: &U,
 ) -> Result<(), EncodeError>
-    ensures { MatchResult result (λ _. Adds (written (marked false (is_count_within (counts_of range) (length (U.texts units.now))) (sized_root aligned (counts_of range) (upper range) (λ _. pads) (forms_of (U.texts units.now))) (counted aligned (forms_of (U.texts units.now)))) (length output.old)) output.old output.new) (Refuses (written (marked false (is_count_within (counts_of range) (length (U.texts units.now))) (sized_root aligned (counts_of range) (upper range) (λ _. pads) (forms_of (U.texts units.now))) (counted aligned (forms_of (U.texts units.now)))) (length output.old))) }
+    ensures { MatchResult result (λ _. Adds (text_at (marked false (is_count_within (counts_of range) (length (U.texts units.now))) (sized_root aligned (counts_of range) (upper range) (λ _. pads) (forms_of (U.texts units.now))) (counted aligned (forms_of (U.texts units.now)))) (place output.old)) output.old output.new) (Refuses (text_at (marked false (is_count_within (counts_of range) (length (U.texts units.now))) (sized_root aligned (counts_of range) (upper range) (λ _. pads) (forms_of (U.texts units.now))) (counted aligned (forms_of (U.texts units.now)))) (place output.old))) }
 {
     if !range.contains(&units.count()) {
         return Err(EncodeError::SizeConstraintNotSatisfied);
@@ -107,14 +108,14 @@ fn push_unmarked<U: Units>(
 ///
 /// `SizeConstraintNotSatisfied` where the type does not hold so many, or a size constraint without a mark does not admit them.
 pub fn push_sized<U: Units>(
-    output: &mut BitBuffer,
+    output: &mut Packing,
     aligned: bool,
     constraints: Constraints,
     held: Bounded<usize>,
     pads: bool,
     units: &U,
 ) -> Result<(), EncodeError>
-    ensures { MatchResult result (λ _. Adds (written (sized aligned (sizes_of constraints.entry.size) (counts_of held) (λ _. pads) (forms_of (U.texts units.now))) (length output.old)) output.old output.new) (Refuses (written (sized aligned (sizes_of constraints.entry.size) (counts_of held) (λ _. pads) (forms_of (U.texts units.now))) (length output.old))) }
+    ensures { MatchResult result (λ _. Adds (text_at (sized aligned (sizes_of constraints.entry.size) (counts_of held) (λ _. pads) (forms_of (U.texts units.now))) (place output.old)) output.old output.new) (Refuses (text_at (sized aligned (sizes_of constraints.entry.size) (counts_of held) (λ _. pads) (forms_of (U.texts units.now))) (place output.old))) }
 {
     let count = units.count();
     if !held.contains(&count) {

@@ -4,14 +4,15 @@ ghost use Rattle.std.specs.Prelude.{◌<◌, ◌≤◌};
 use crate::{push_counted, push_counted_octets};
 use asn1_schema_faults::EncodeError;
 use asn1_values_bits::{BitBuffer, BitStr};
+use per_codec_packing::Packing;
 use std::alloc::Global;
 use std::test::Fail;
 
 // so many bits that are set, and in the aligned variant what fills up the octet
-fn ones(alloc: Global, aligned: bool, count: u32) -> Result<BitBuffer, EncodeError>
+fn ones(alloc: Global, aligned: bool, count: u32) -> Result<Packing, EncodeError>
     requires { count < 8 }
 {
-    let mut output = BitBuffer::new(alloc);
+    let mut output = Packing::new(alloc);
     output.push_bits(0x7F, count)?;
     if aligned {
         output.push_bits(0, (8 - count) % 8)?;
@@ -35,7 +36,7 @@ fn stand_behind(
             }
             let mut output = ones(alloc, false, in_front)?;
             push_counted_octets(&mut output, aligned, octets.as_slice())?;
-            if output.as_bitslice() != expected.as_bitslice() {
+            if output.as_bits().as_bitslice() != expected.as_bits().as_bitslice() {
                 return Ok(false);
             }
         }
@@ -71,13 +72,13 @@ fn bits(alloc: Global, count: usize) -> Result<BitBuffer, EncodeError>
     requires { count ≤ 80000 }
 {
     let octets = vec![in alloc; 0xFF; 10000]?;
-    let mut output = BitBuffer::new(alloc);
+    let mut output = Packing::new(alloc);
     push_counted(
         &mut output,
         true,
         &BitStr::front_of(octets.as_slice(), count),
     )?;
-    Ok(output)
+    Ok(output.into_bits())
 }
 
 #[test]
@@ -88,5 +89,28 @@ fn fragments_of_bits(rt: HostRuntime) -> Result<(), Fail> {
     assert_eq!(rt; output.len(), 8 + 16384 + 8 + 1);
     assert!(rt; output.as_bytes().starts_with(&[0xC1, 0xFF]));
     assert!(rt; output.as_bytes().ends_with(&[0xFF, 0x01, 0x80]));
+    Ok(())
+}
+
+// the same octets behind so many bits, at a place that is known from the beginning, and at one that was not
+fn is_placed_alike(alloc: Global, in_front: u32, octets: &[u8]) -> Result<bool, EncodeError>
+    requires { in_front < 8 }
+{
+    let mut output = ones(alloc, false, in_front)?;
+    push_counted_octets(&mut output, true, octets)?;
+    let mut later = Packing::unplaced(alloc);
+    push_counted_octets(&mut later, true, octets)?;
+    let mut placed = ones(alloc, false, in_front)?;
+    placed.append(&later)?;
+    Ok(placed.as_bits().as_bitslice() == output.as_bits().as_bitslice())
+}
+
+#[test]
+fn fragments_that_are_placed_later(rt: HostRuntime) -> Result<(), Fail> {
+    let alloc = rt.alloc();
+    let octets = vec![in alloc; 0x5A; 16385]?;
+    for in_front in 0..8u32 {
+        assert!(rt; is_placed_alike(alloc, in_front, octets.as_slice())?);
+    }
     Ok(())
 }

@@ -1,11 +1,14 @@
 //! Runs of units, which are written behind their number (X.691 11.9).
-ghost use Rattle.std.specs.Prelude.{◌≡◌, ◌≤◌, ◌++◌, ◌∷◌, [], Bool, List, length, map, slice_range, MatchResult};
+ghost use Rattle.std.specs.Prelude.{◌≡◌, ◌≤◌, ◌∷◌, [], Bool, List, length, map, slice_range, MatchResult};
 ghost use Rattle.asn1_model.specs.Numbers.{binary};
 ghost use Rattle.asn1_values_bits.specs.BitStr.{bits_of};
+ghost use Rattle.per_codec_texts.specs.Texts.{as_text};
+ghost use Rattle.per_codec_writing.specs.Writing.{plus};
 ghost use Rattle.per_codec_writing_units.specs.Units.{together};
 
 use asn1_schema_faults::EncodeError;
-use asn1_values_bits::{BitBuffer, BitStr};
+use asn1_values_bits::BitStr;
+use per_codec_packing::Packing;
 
 /// Units that can be written in pieces, since from 16384 units on they stand in fragments (X.691 11.9.3.8).
 pub trait Units {
@@ -17,10 +20,10 @@ pub trait Units {
         ensures { result ≡ length (texts self.now) };
 
     /// Adds the units from one place up to another, counted from 0, one behind the other. The only error is want of memory.
-    fn push_range(&self, output: &mut BitBuffer, from: usize, to: usize) -> Result<(), EncodeError>
+    fn push_range(&self, output: &mut Packing, from: usize, to: usize) -> Result<(), EncodeError>
         requires order { from ≤ to }
         requires within { to ≤ length (texts self.now) }
-        ensures { MatchResult result (λ _. output.new ≡ output.old ++ together (slice_range (texts self.now) from to)) (λ e. e ≡ EncodeError.OutOfMemory) };
+        ensures { MatchResult result (λ _. output.new ≡ plus output.old (as_text (together (slice_range (texts self.now) from to)))) (λ e. e ≡ EncodeError.OutOfMemory) };
 }
 
 /// Octets, of eight bits each.
@@ -31,12 +34,7 @@ impl Units for &[u8] {
         (*self).len()
     }
 
-    fn push_range(
-        &self,
-        output: &mut BitBuffer,
-        from: usize,
-        to: usize,
-    ) -> Result<(), EncodeError> {
+    fn push_range(&self, output: &mut Packing, from: usize, to: usize) -> Result<(), EncodeError> {
         output.extend_from_bytes(&self[from..to])?;
         Ok(())
     }
@@ -50,12 +48,7 @@ impl Units for BitStr<'_> {
         self.len()
     }
 
-    fn push_range(
-        &self,
-        output: &mut BitBuffer,
-        from: usize,
-        to: usize,
-    ) -> Result<(), EncodeError> {
+    fn push_range(&self, output: &mut Packing, from: usize, to: usize) -> Result<(), EncodeError> {
         let front = self.split_at(to).0;
         output.extend_from_bitslice(front.split_at(from).1)?;
         Ok(())

@@ -1,5 +1,5 @@
 use Rattle.asn1_model.specs.Per
-use Rattle.per_codec_steps.proofs.Texts as Texts
+use Rattle.per_codec_texts.proofs.Texts as Texts
 use Rattle.per_codec_steps.proofs.Fills as Fills
 use Rattle.per_codec_steps.proofs.texts_are_written.Goals as goal
 

@@ -1,4 +1,4 @@
-use Rattle.std.proofs.Common.{rules, ◌≡◌, ◌∙◌, ◌-◌, sym, ap, arith}
+use Rattle.std.proofs.Common.{◌∙◌, ◌-◌, sym, arith}
 use Rattle.per_codec_decoder.proofs.Counting.{ascending_end}
 use Rattle.per_codec_decoder.proofs.alphabets.is_ascending.Goals as goal
 

@@ -1,4 +1,4 @@
-use Rattle.std.proofs.Common.{rules, ◌≡◌, ◌∙◌, ◌∷◌, [], sym, ap, subst, refl, arith}
+use Rattle.std.proofs.Common.{◌∙◌, sym, ap, subst}
 use Rattle.std.specs.Prelude.{length, ◌<◌}
 use Rattle.asn1_model.specs.Numbers.{missing}
 use Rattle.asn1_schema_presented.proofs.Joined.{raised}

@@ -1,4 +1,4 @@
-use Rattle.std.proofs.Common.{rules, ◌≡◌, ◌∙◌, ◌∷◌, [], sym, ap, subst, refl, arith}
+use Rattle.std.proofs.Common.{◌∷◌, [], sym, subst}
 use Rattle.asn1_schema_presented.proofs.Joined.{raised}
 use Rattle.per_codec_fronts.specs.Takes.{SizeMark}
 use Rattle.per_codec_decoder.proofs.Leading.{front_of, no_mark}

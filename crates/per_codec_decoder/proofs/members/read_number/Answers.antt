@@ -1,4 +1,4 @@
-use Rattle.std.proofs.Common.{rules, ◌≡◌, ◌∙◌, ◌∷◌, ◌-◌, [], sym, ap, subst, refl, arith}
+use Rattle.std.proofs.Common.{◌-◌, ap}
 use Rattle.asn1_schema_presented.proofs.Joined.{raised}
 use Rattle.per_codec_reading.specs.Fronts.{freedoms, is_aligned}
 use Rattle.asn1_schema_bounds.specs.Bounds.{counts_of, members_of}

@@ -1,5 +1,7 @@
-use Rattle.std.proofs.Common.{◌≡◌, ◌-◌, ◌*◌, ◌++◌, ap, ◌∙◌, arith}
+use Rattle.std.proofs.Common.{◌≡◌, ◌-◌, ◌*◌, ap, ◌∙◌, arith}
 use Rattle.asn1_model.specs.Numbers.{binary, width, octet_width, least_octets}
+use Rattle.per_codec_texts.specs.Texts.{as_text}
+use Rattle.per_codec_writing.specs.Writing.{plus}
 use Rattle.per_codec_writing.proofs.ConstrainedTexts.{octets_of_span, adds_fewest}
 use Rattle.per_codec_writing.proofs.constrained.push_fewest_octets.Goals as goal
 
@@ -13,7 +15,7 @@ returns c =
     let d = c.args.value in
     let k : c.max-count.result ≡ least_octets d = omega (arith, c.max-count.ensures, c.octet_width.ensures.width) in
     let w : c.bit_count.result ≡ width (octet_width span - 1) = c.bit_count.ensures.value ∙ ap (λ n. width n) c.from-2.ensures ∙ ap (λ n. width (n - 1)) c.octet_width-further.ensures.width in
-    adds_fewest span d old c.push_bits.new.self c.push_filling.new.output c.push_bits-2.new.self c.requires.within c.requires.large c.ranges.span.fits
-    (c.in_ok-push_bits.ensures.ok ∙ ap (λ n. old ++ binary n c.from.result) w ∙ ap (λ n. old ++ binary (width (octet_width span - 1)) n) c.from.ensures ∙ ap (λ n. old ++ binary (width (octet_width span - 1)) (n - 1)) k)
-    c.in_ok-push_filling.ensures
-    (c.in_ok-push_bits-2.ensures.ok ∙ ap (λ n. c.push_filling.new.output ++ binary (n * 8) d) k)
+    adds_fewest span d old c.push_bits.new.self c.align.new.self c.push_bits-2.new.self c.requires.within c.requires.large c.ranges.span.fits
+    (c.in_ok-push_bits.ensures.ok ∙ ap (λ n. plus old (as_text (binary n c.from.result))) w ∙ ap (λ n. plus old (as_text (binary (width (octet_width span - 1)) n))) c.from.ensures ∙ ap (λ n. plus old (as_text (binary (width (octet_width span - 1)) (n - 1)))) k)
+    c.in_ok-align.ensures
+    (c.in_ok-push_bits-2.ensures.ok ∙ ap (λ n. plus c.align.new.self (as_text (binary (n * 8) d))) k)

@@ -1,5 +1,7 @@
-use Rattle.std.proofs.Common.{◌++◌, ap, ◌∙◌, arith}
+use Rattle.std.proofs.Common.{ap, ◌∙◌, arith}
 use Rattle.asn1_model.specs.Numbers.{binary}
+use Rattle.per_codec_texts.specs.Texts.{as_text}
+use Rattle.per_codec_writing.specs.Writing.{plus}
 use Rattle.per_codec_writing.proofs.ConstrainedTexts.{adds_octet, adds_two_octets}
 use Rattle.per_codec_writing.proofs.constrained.push_octets.Goals as goal
 use Rattle.per_codec_writing.proofs.constrained.push_octets.Goals.{then-span-eq255, else-span-eq255}
@@ -7,9 +9,9 @@ use Rattle.per_codec_writing.proofs.constrained.push_octets.Goals.{then-span-eq2
 pub returns : goal.returns
 returns c =
     let old = c.args.output.now in
-    let mid = c.push_filling.new.output in
+    let mid = c.align.new.self in
     let d = c.args.value in
     elim c.if-span-eq255.branch [
-      | then-span-eq255 w ↦ adds_octet c.args.span d old mid c.push_bits.new.self c.requires.within w.if-span-eq255.true c.in_ok-push_filling.ensures (c.in_ok-push_bits.ensures.ok ∙ ap (λ n. mid ++ binary n d) w.width-is)
-      | else-span-eq255 w ↦ adds_two_octets c.args.span d old mid c.push_bits.new.self c.requires.within (omega (arith, c.requires.large, w.if-span-eq255.false)) (omega (arith, c.if-span-ge65536.false)) c.in_ok-push_filling.ensures (c.in_ok-push_bits.ensures.ok ∙ ap (λ n. mid ++ binary n d) w.width-is)
+      | then-span-eq255 w ↦ adds_octet c.args.span d old mid c.push_bits.new.self c.requires.within w.if-span-eq255.true c.in_ok-align.ensures (c.in_ok-push_bits.ensures.ok ∙ ap (λ n. plus mid (as_text (binary n d))) w.width-is)
+      | else-span-eq255 w ↦ adds_two_octets c.args.span d old mid c.push_bits.new.self c.requires.within (omega (arith, c.requires.large, w.if-span-eq255.false)) (omega (arith, c.if-span-ge65536.false)) c.in_ok-align.ensures (c.in_ok-push_bits.ensures.ok ∙ ap (λ n. plus mid (as_text (binary n d))) w.width-is)
     ]

@@ -1,8 +1,7 @@
 use mir.Syntax.{w128}
 use mir.Val.{SFits}
-use Rattle.std.proofs.Common.{◌≡◌, ◌-◌, ◌^◌, Option, None, true, length, is_some, rules, ap, subst, sym, ◌∙◌}
+use Rattle.std.proofs.Common.{◌≡◌, ◌-◌, ◌^◌, Option, None, true, is_some, rules, ap, subst, sym, ◌∙◌}
 use Rattle.std.proofs.lemmas.Int.{to_z-of_z}
-use Rattle.asn1_model.specs.Form.{written}
 use Rattle.asn1_model.specs.Numbers.{is_within}
 use Rattle.asn1_model.specs.Per
 use Rattle.asn1_model.specs.Schema.{integer}
@@ -14,7 +13,8 @@ use Rattle.asn1_schema_constraints.specs.declared.parts.Value.{Value}
 use Rattle.asn1_values_natives.specs.Octets.{signed_number}
 use Rattle.asn1_values_natives.specs.Ranges.{whole_range}
 use Rattle.asn1_values_natives.proofs.TwosComplement.{signed-back}
-use Rattle.per_codec_writing.specs.Writing.{Adds}
+use Rattle.per_codec_texts.specs.Texts.{text_at}
+use Rattle.per_codec_writing.specs.Writing.{Adds, place}
 use Rattle.per_codec_writing.proofs.Texts.{adds_same}
 use Rattle.per_codec_writing_numbers.proofs.NumberTexts.{Did, did_same}
 use Rattle.per_codec_writing_numbers.proofs.BoundedTexts.{unbounded_text, bounded_text, wide_none}
@@ -26,8 +26,8 @@ returns-in_default g c =
     let h = g.I.IntegerType.held in
     let old = c.args.output.now in
     let new = c.push_unconstrained.new.output in
-    subst (λ (o : Option (Extensible Value)). Adds (written (Per.form c.args.aligned (integer (bounds_of o) (held_of o h)) (number_value v)) (length old)) old new) (sym c.in_default.is)
-    (adds_same _ _ old new (unbounded_text c.args.aligned h v (length old) c.push_unconstrained.ensures.held) c.in_ok-push_unconstrained.ensures.written)
+    subst (λ (o : Option (Extensible Value)). Adds (text_at (Per.form c.args.aligned (integer (bounds_of o) (held_of o h)) (number_value v)) (place old)) old new) (sym c.in_default.is)
+    (adds_same _ _ old new (unbounded_text c.args.aligned h v (place old) c.push_unconstrained.ensures.held) c.in_ok-push_unconstrained.ensures.written)
 
 pub returns-in_default-whole_number : goal.returns-in_default-whole_number
 returns-in_default-whole_number g c =
@@ -36,8 +36,8 @@ returns-in_default-whole_number g c =
     let al = c.args.aligned in
     let old = c.args.output.now in
     let same : signed_number c.as_slice.result.now ≡ v = ap signed_number (c.as_slice.ensures ∙ c.to_signed_bytes_be-octets.ensures.octets) ∙ signed-back v in
-    subst (λ (o : Option (Extensible Value)). written (Per.form al (integer (bounds_of o) (held_of o h)) (number_value v)) (length old) ≡ None) (sym c.in-Some.is)
-    (wide_none al c.in-Some.limits h v (length old) (ap (is_within (whole_range (2 ^ 127 - 1))) (sym same) ∙ sym c.in_default-whole_number.ensures.fits))
+    subst (λ (o : Option (Extensible Value)). text_at (Per.form al (integer (bounds_of o) (held_of o h)) (number_value v)) (place old) ≡ None) (sym c.in-Some.is)
+    (wide_none al c.in-Some.limits h v (place old) (ap (is_within (whole_range (2 ^ 127 - 1))) (sym same) ∙ sym c.in_default-whole_number.ensures.fits))
 
 pub returns : goal.returns
 returns g c =
@@ -54,9 +54,9 @@ returns g c =
     let same : z ≡ v = c.in-Some-whole_number.ensures.number ∙ octets in
     let wide : is_within (whole_range (2 ^ 127 - 1)) v ≡ true = ap (is_within (whole_range (2 ^ 127 - 1))) (sym octets) ∙ sym c.in-Some-whole_number.ensures.fits in
     let done = simp to_z-of_z at c.push_bounded.ensures in
-    subst (λ (o : Option (Extensible Value)). Did c.push_bounded.result (written (Per.form al (integer (bounds_of o) (held_of o h)) (number_value v)) (length old)) old new) (sym c.in-Some.is)
+    subst (λ (o : Option (Extensible Value)). Did c.push_bounded.result (text_at (Per.form al (integer (bounds_of o) (held_of o h)) (number_value v)) (place old)) old new) (sym c.in-Some.is)
     (did_same c.push_bounded.result _ _ old new
-    (bounded_text al limits h v (length old) c.to_signed_bytes_be-octets.ensures.within wide
-    ∙ ap (λ y. written (Per.marked (is_some limits.extensible) (admits_number bounds y) (Per.whole_number al (lower bounds) (upper bounds) y) (Per.unconstrained al y)) (length old)) (sym same)
-    ∙ ap (λ b. written (Per.marked b (admits_number bounds z) (Per.whole_number al (lower bounds) (upper bounds) z) (Per.unconstrained al z)) (length old)) (sym c.is_some.ensures))
+    (bounded_text al limits h v (place old) c.to_signed_bytes_be-octets.ensures.within wide
+    ∙ ap (λ y. text_at (Per.marked (is_some limits.extensible) (admits_number bounds y) (Per.whole_number al (lower bounds) (upper bounds) y) (Per.unconstrained al y)) (place old)) (sym same)
+    ∙ ap (λ b. text_at (Per.marked b (admits_number bounds z) (Per.whole_number al (lower bounds) (upper bounds) z) (Per.unconstrained al z)) (place old)) (sym c.is_some.ensures))
     done)

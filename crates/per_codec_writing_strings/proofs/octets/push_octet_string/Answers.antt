@@ -1,6 +1,7 @@
-use Rattle.std.proofs.Common.{length, ◌∙◌}
+use Rattle.std.proofs.Common.{◌∙◌}
 use Rattle.asn1_schema_bounds.specs.Bounds.{counts_of}
 use Rattle.asn1_schema_constraints.specs.Terms.{sizes_of}
+use Rattle.per_codec_writing.specs.Writing.{place}
 use Rattle.per_codec_writing.proofs.Texts.{adds_same}
 use Rattle.per_codec_writing_units.proofs.Adding.{raised}
 use Rattle.per_codec_writing_units.proofs.Fragments.{all_octets}
@@ -10,11 +11,11 @@ use Rattle.per_codec_writing_strings.proofs.octets.push_octet_string.Goals as go
 pub returns-in_err-push_sized : goal.returns-in_err-push_sized
 returns-in_err-push_sized c =
     raised _ _ _ _ _ c.from_residual.ensures.1
-    (λ n. octet_string_text c.args.aligned (sizes_of c.args.constraints.size) (counts_of c.args.held) c.args.value.now c.pads_string-pads.result (length c.args.output.now) (all_octets c.args.value.now c.type_inv.value) c.pads_string-pads.ensures ∙ n)
+    (λ n. octet_string_text c.args.aligned (sizes_of c.args.constraints.size) (counts_of c.args.held) c.args.value.now c.pads_string-pads.result (place c.args.output.now) (all_octets c.args.value.now c.type_inv.value) c.pads_string-pads.ensures ∙ n)
     c.in_err-push_sized.ensures
 
 pub returns : goal.returns
 returns c =
     adds_same _ _ c.args.output.now c.push_sized.new.output
-    (octet_string_text c.args.aligned (sizes_of c.args.constraints.size) (counts_of c.args.held) c.args.value.now c.pads_string-pads.result (length c.args.output.now) (all_octets c.args.value.now c.type_inv.value) c.pads_string-pads.ensures)
+    (octet_string_text c.args.aligned (sizes_of c.args.constraints.size) (counts_of c.args.held) c.args.value.now c.pads_string-pads.result (place c.args.output.now) (all_octets c.args.value.now c.type_inv.value) c.pads_string-pads.ensures)
     c.in_ok-push_sized.ensures

@@ -1,4 +1,5 @@
-use Rattle.std.proofs.Common.{arith, length}
+use Rattle.std.proofs.Common.{arith}
+use Rattle.per_codec_writing.specs.Writing.{place}
 use Rattle.per_codec_writing.proofs.Texts.{adds_same}
 use Rattle.per_codec_writing_units.proofs.Fragments.{counted_text, fragment_added, rest_added}
 use Rattle.per_codec_writing_units.proofs.counted.push_counted.Goals as goal
@@ -15,5 +16,5 @@ pub returns : goal.returns
 returns g c =
     let ts = g.U.Units.texts c.args.units.now in
     let new = c.push_range-2.new.output in
-    adds_same _ _ c.args.output.now new (counted_text c.args.aligned ts (length c.args.output.now))
+    adds_same _ _ c.args.output.now new (counted_text c.args.aligned ts (place c.args.output.now))
     (c.loop-from.invariant.rest new (rest_added c.args.aligned ts c.loop-from.from c.count-count.result c.loop-from.output c.push_short_length.new.output new c.count-count.ensures (omega (arith, c.loop-from-test.false)) c.in_ok-push_short_length.ensures c.in_ok-push_range-2.ensures))

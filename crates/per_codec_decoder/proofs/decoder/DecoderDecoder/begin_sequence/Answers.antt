@@ -1,12 +1,5 @@
-use Rattle.std.proofs.Common.{rules, ◌∙◌, refl}
-use Rattle.asn1_schema_presented.specs.Records.{sequence_begins}
-use Rattle.per_codec_reading.specs.Fronts.{freedoms, is_aligned}
-use Rattle.per_codec_decoder.specs.Scopes.{scope_of}
-use Rattle.per_codec_decoder.proofs.Finding.{both_ok, opens, begins, no_sequence}
+use Rattle.per_codec_decoder.proofs.Opening.{on_err, no_sequence}
 use Rattle.per_codec_decoder.proofs.decoder.DecoderDecoder.begin_sequence.Goals as goal
 
-pub returns-in-Ok-clause-ok : goal.returns-in-Ok-clause-ok
-returns-in-Ok-clause-ok c = both_ok c.enter.result c.enter.ensures.levels c.enter.ensures.scopes (λ l f. opens _ _ c.enter.new.self (scope_of c.in-Ok.frame) c.read_preamble.new.cursor (sequence_begins c.args.extensible c.args.optional) (c.self.view_is ∙ c.in_ok-begin_record.ensures.ok.1) c.in_ok-begin_record.ensures.ok.0 (begins (freedoms c.self.inside.variant) c.args.extensible c.args.optional (scope_of c.in-Ok.frame) c.self.inside.cursor c.read_preamble.new.cursor c.self.inside.scopes (c.in-Ok.ensures.ok (freedoms c.self.inside.variant))) (λ most k. refl) l f)
-
-pub returns-in-Err-clause-only : goal.returns-in-Err-clause-only
-returns-in-Err-clause-only c = no_sequence _ _ c.args.extensible c.args.optional _ (c.self.view_is ∙ c.in_ok-begin_record.ensures.ok.1) c.in-Err.ensures.only
+pub returns-clause-only : goal.returns-clause-only
+returns-clause-only c = on_err c.enter_components.result c.enter_components.ensures.only (λ e m. no_sequence _ c.args.extensible c.args.optional e m)

@@ -1,14 +1,15 @@
-use Rattle.std.proofs.Common.{rules, ◌∙◌}
-use Rattle.asn1_model.specs.Schema.{boolean, null, integer, bit_string, octet_string, character_string, object_identifier, utf8}
-use Rattle.asn1_model.specs.Types.{any_count}
+use Rattle.std.proofs.Common.{◌∙◌}
 use Rattle.asn1_schema_bounds.specs.Bounds.{counts_of}
-use Rattle.asn1_schema_constraints.specs.Terms.{bounds_of, held_of, sizes_of, alphabet_of}
+use Rattle.asn1_schema_constraints.specs.Terms.{sizes_of}
 use Rattle.per_codec_reading.specs.Fronts.{freedoms, is_aligned}
-use Rattle.per_codec_decoder.proofs.Finding.{none_found, asked_bits, bits_within}
+use Rattle.per_codec_decoder.proofs.Settling.{unfound, also}
+use Rattle.asn1_model.specs.Schema.{bit_string}
+use Rattle.asn1_schema_presented.specs.Records.{asks_bits}
+use Rattle.per_codec_decoder.proofs.Finding.{asked_bits, bits_within}
 use Rattle.per_codec_decoder.proofs.decoder.DecoderDecoder.decode_bit_string.Goals as goal
 
-pub returns-in-Ok-clause-held : goal.returns-in-Ok-clause-held
-returns-in-Ok-clause-held c = bits_within (freedoms c.self.inside.variant) (is_aligned c.self.inside.variant) _ _ (sizes_of c.args.constraints.size) (counts_of c.args.held) _ c.in-Ok.ensures.ok
+pub returns-clause-held : goal.returns-clause-held
+returns-clause-held c = also c.read_bit_string-answer.result c.settle.result _ _ c.settle.ensures.same c.read_bit_string-answer.ensures.ok (λ x f. bits_within (freedoms c.self.inside.variant) (is_aligned c.self.inside.variant) _ _ (sizes_of c.args.constraints.size) (counts_of c.args.held) _ f)
 
-pub returns-in-Err-clause-only : goal.returns-in-Err-clause-only
-returns-in-Err-clause-only c = none_found _ _ _ (bit_string (sizes_of c.args.constraints.size) (counts_of c.args.held)) _ _ (c.self.view_is ∙ c.in_ok-begin_record.ensures.ok.1) c.fail.ensures.refused c.in-Err.ensures.only (λ al free a b. asked_bits al free a b (sizes_of c.args.constraints.size) (counts_of c.args.held))
+pub returns-clause-only : goal.returns-clause-only
+returns-clause-only c = unfound c.read_bit_string-answer.result c.settle.result (asks_bits (sizes_of c.args.constraints.size) (counts_of c.args.held)) (bit_string (sizes_of c.args.constraints.size) (counts_of c.args.held)) _ _ c.cursor-cursor.result (c.self.view_is ∙ c.in_ok-begin_record.ensures.ok.1) c.cursor-cursor.ensures c.settle.ensures.same c.read_bit_string-answer.ensures.only (λ al free a b. asked_bits al free a b (sizes_of c.args.constraints.size) (counts_of c.args.held))

@@ -1,11 +1,9 @@
-use Rattle.std.proofs.Common.{rules, ◌∙◌}
-use Rattle.asn1_model.specs.Schema.{boolean, null, integer, bit_string, octet_string, character_string, object_identifier, utf8}
-use Rattle.asn1_model.specs.Types.{any_count}
-use Rattle.asn1_schema_bounds.specs.Bounds.{counts_of}
-use Rattle.asn1_schema_constraints.specs.Terms.{bounds_of, held_of, sizes_of, alphabet_of}
-use Rattle.per_codec_reading.specs.Fronts.{freedoms, is_aligned}
-use Rattle.per_codec_decoder.proofs.Finding.{none_found, asked_flag}
+use Rattle.std.proofs.Common.{◌∙◌}
+use Rattle.per_codec_decoder.proofs.Settling.{unfound}
+use Rattle.asn1_model.specs.Schema.{boolean}
+use Rattle.asn1_schema_presented.specs.Records.{asks_flag}
+use Rattle.per_codec_decoder.proofs.Finding.{asked_flag}
 use Rattle.per_codec_decoder.proofs.decoder.DecoderDecoder.decode_bool.Goals as goal
 
-pub returns-in-Err-clause-only : goal.returns-in-Err-clause-only
-returns-in-Err-clause-only c = none_found _ _ _ boolean _ _ (c.self.view_is ∙ c.in_ok-begin_record.ensures.ok.1) c.fail.ensures.refused c.in-Err.ensures.only asked_flag
+pub returns-clause-only : goal.returns-clause-only
+returns-clause-only c = unfound c.read_boolean-answer.result c.settle.result asks_flag boolean _ _ c.cursor-cursor.result (c.self.view_is ∙ c.in_ok-begin_record.ensures.ok.1) c.cursor-cursor.ensures c.settle.ensures.same c.read_boolean-answer.ensures.only asked_flag

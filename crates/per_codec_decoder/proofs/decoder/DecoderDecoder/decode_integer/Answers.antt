@@ -1,14 +1,14 @@
-use Rattle.std.proofs.Common.{rules, ◌∙◌}
-use Rattle.asn1_model.specs.Schema.{boolean, null, integer, bit_string, octet_string, character_string, object_identifier, utf8}
-use Rattle.asn1_model.specs.Types.{any_count}
-use Rattle.asn1_schema_bounds.specs.Bounds.{counts_of}
-use Rattle.asn1_schema_constraints.specs.Terms.{bounds_of, held_of, sizes_of, alphabet_of}
+use Rattle.std.proofs.Common.{◌∙◌}
+use Rattle.asn1_schema_constraints.specs.Terms.{bounds_of, held_of}
 use Rattle.per_codec_reading.specs.Fronts.{freedoms, is_aligned}
-use Rattle.per_codec_decoder.proofs.Finding.{none_found, asked_whole, number_within}
+use Rattle.per_codec_decoder.proofs.Settling.{unfound, also}
+use Rattle.asn1_model.specs.Schema.{integer}
+use Rattle.asn1_schema_presented.specs.Records.{asks_whole}
+use Rattle.per_codec_decoder.proofs.Finding.{asked_whole, number_within}
 use Rattle.per_codec_decoder.proofs.decoder.DecoderDecoder.decode_integer.Goals as goal
 
-pub returns-in-Ok-clause-within : goal.returns-in-Ok-clause-within
-returns-in-Ok-clause-within g c = number_within (freedoms c.self.inside.variant) (is_aligned c.self.inside.variant) _ _ (bounds_of c.args.constraints.value) (held_of c.args.constraints.value g.I.IntegerType.held) _ c.in-Ok.ensures.ok
+pub returns-clause-within : goal.returns-clause-within
+returns-clause-within g c = also c.read_integer-answer.result c.settle.result _ _ c.settle.ensures.same c.read_integer-answer.ensures.ok (λ x f. number_within (freedoms c.self.inside.variant) (is_aligned c.self.inside.variant) _ _ (bounds_of c.args.constraints.value) (held_of c.args.constraints.value g.I.IntegerType.held) _ f)
 
-pub returns-in-Err-clause-only : goal.returns-in-Err-clause-only
-returns-in-Err-clause-only g c = none_found _ _ _ (integer (bounds_of c.args.constraints.value) (held_of c.args.constraints.value g.I.IntegerType.held)) _ _ (c.self.view_is ∙ c.in_ok-begin_record.ensures.ok.1) c.fail.ensures.refused c.in-Err.ensures.only (λ al free a b. asked_whole al free a b (bounds_of c.args.constraints.value) (held_of c.args.constraints.value g.I.IntegerType.held))
+pub returns-clause-only : goal.returns-clause-only
+returns-clause-only g c = unfound c.read_integer-answer.result c.settle.result (asks_whole (bounds_of c.args.constraints.value) (held_of c.args.constraints.value g.I.IntegerType.held)) (integer (bounds_of c.args.constraints.value) (held_of c.args.constraints.value g.I.IntegerType.held)) _ _ c.cursor-cursor.result (c.self.view_is ∙ c.in_ok-begin_record.ensures.ok.1) c.cursor-cursor.ensures c.settle.ensures.same c.read_integer-answer.ensures.only (λ al free a b. asked_whole al free a b (bounds_of c.args.constraints.value) (held_of c.args.constraints.value g.I.IntegerType.held))

@@ -1,11 +1,9 @@
-use Rattle.std.proofs.Common.{rules, ◌∙◌}
-use Rattle.asn1_model.specs.Schema.{boolean, null, integer, bit_string, octet_string, character_string, object_identifier, utf8}
-use Rattle.asn1_model.specs.Types.{any_count}
-use Rattle.asn1_schema_bounds.specs.Bounds.{counts_of}
-use Rattle.asn1_schema_constraints.specs.Terms.{bounds_of, held_of, sizes_of, alphabet_of}
-use Rattle.per_codec_reading.specs.Fronts.{freedoms, is_aligned}
-use Rattle.per_codec_decoder.proofs.Finding.{none_found, asked_identifier}
+use Rattle.std.proofs.Common.{◌∙◌}
+use Rattle.per_codec_decoder.proofs.Settling.{unfound}
+use Rattle.asn1_model.specs.Schema.{object_identifier}
+use Rattle.asn1_schema_presented.specs.Records.{asks_identifier}
+use Rattle.per_codec_decoder.proofs.Finding.{asked_identifier}
 use Rattle.per_codec_decoder.proofs.decoder.DecoderDecoder.decode_object_identifier.Goals as goal
 
-pub returns-in-Err-clause-only : goal.returns-in-Err-clause-only
-returns-in-Err-clause-only c = none_found _ _ _ object_identifier _ _ (c.self.view_is ∙ c.in_ok-begin_record.ensures.ok.1) c.fail.ensures.refused c.in-Err.ensures.only asked_identifier
+pub returns-clause-only : goal.returns-clause-only
+returns-clause-only c = unfound c.read_object_identifier-answer.result c.settle.result asks_identifier object_identifier _ _ c.cursor-cursor.result (c.self.view_is ∙ c.in_ok-begin_record.ensures.ok.1) c.cursor-cursor.ensures c.settle.ensures.same c.read_object_identifier-answer.ensures.only asked_identifier

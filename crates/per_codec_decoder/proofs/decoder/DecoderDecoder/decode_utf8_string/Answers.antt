@@ -1,11 +1,9 @@
-use Rattle.std.proofs.Common.{rules, ◌∙◌}
-use Rattle.asn1_model.specs.Schema.{boolean, null, integer, bit_string, octet_string, character_string, object_identifier, utf8}
+use Rattle.std.proofs.Common.{◌∙◌}
 use Rattle.asn1_model.specs.Types.{any_count}
-use Rattle.asn1_schema_bounds.specs.Bounds.{counts_of}
-use Rattle.asn1_schema_constraints.specs.Terms.{bounds_of, held_of, sizes_of, alphabet_of}
-use Rattle.per_codec_reading.specs.Fronts.{freedoms, is_aligned}
-use Rattle.per_codec_decoder.proofs.Finding.{none_of_alphabet}
+use Rattle.asn1_schema_constraints.specs.Terms.{sizes_of, alphabet_of}
+use Rattle.per_codec_decoder.proofs.Settling.{uncharacters}
+use Rattle.asn1_model.specs.Schema.{utf8}
 use Rattle.per_codec_decoder.proofs.decoder.DecoderDecoder.decode_utf8_string.Goals as goal
 
-pub returns-in-Err-clause-only : goal.returns-in-Err-clause-only
-returns-in-Err-clause-only c = none_of_alphabet _ _ utf8 (sizes_of c.args.constraints.size) (alphabet_of c.args.constraints.permitted_alphabet) any_count _ _ (c.self.view_is ∙ c.in_ok-begin_record.ensures.ok.1) c.fail.ensures.refused (λ i. c.in-Err.ensures.only)
+pub returns-clause-only : goal.returns-clause-only
+returns-clause-only c = uncharacters c.read_utf8_string-answer.result c.settle.result utf8 (sizes_of c.args.constraints.size) (alphabet_of c.args.constraints.permitted_alphabet) any_count _ _ c.cursor-cursor.result (c.self.view_is ∙ c.in_ok-begin_record.ensures.ok.1) c.cursor-cursor.ensures c.settle.ensures.same c.read_utf8_string-answer.ensures.only

@@ -1,6 +1,6 @@
-use Rattle.std.proofs.Common.{rules, ◌∙◌}
-use Rattle.per_codec_decoder.proofs.Finding.{no_member}
+use Rattle.std.proofs.Common.{◌∙◌, refl}
+use Rattle.per_codec_decoder.proofs.Settling.{found_member}
 use Rattle.per_codec_decoder.proofs.decoder.DecoderDecoder.get_further.Goals as goal
 
-pub returns-in-Err-clause-only : goal.returns-in-Err-clause-only
-returns-in-Err-clause-only c = no_member _ _ _ _ (c.self.view_is ∙ c.in_ok-begin_record.ensures.ok.1) c.fail.ensures.refused c.in-Err.ensures.only
+pub returns-clause-ok : goal.returns-clause-ok
+returns-clause-ok c = found_member c.next_member-answer.result c.settle.result _ _ _ _ c.cursor-cursor.result c.next_member-answer.new.cursor c.position-position.result c.next_member-answer.new.self (c.self.view_is ∙ c.in_ok-begin_record.ensures.ok.1) c.in_ok-begin_record.ensures.ok.0 c.cursor-cursor.ensures c.position-position.ensures c.settle.ensures.same refl c.next_member-answer.ensures.ok c.settle.ensures.moved

@@ -1,6 +1,8 @@
-use Rattle.std.proofs.Common.{◌≡◌, ◌<◌, ◌++◌, length, ap, ◌∙◌, arith}
+use Rattle.std.proofs.Common.{◌≡◌, ◌<◌, length, ap, ◌∙◌, arith}
 use Rattle.std.specs.Prelude.{unwrap_or}
 use Rattle.asn1_model.specs.Numbers.{binary}
+use Rattle.per_codec_texts.specs.Texts.{as_text}
+use Rattle.per_codec_writing.specs.Writing.{plus}
 use Rattle.per_codec_writing_characters.specs.Characters.{text_of}
 use Rattle.per_codec_writing_characters.proofs.CharacterTexts.{length-texts, one_more}
 use Rattle.per_codec_writing_characters.proofs.units.CharacterUnitsUnits.push_range.Goals as goal
@@ -12,5 +14,5 @@ loop-place-preserved g c =
     let n = length-texts a cs in
     let within : c.loop-place.place < length cs = omega (arith, n, c.requires.within, c.loop-place-test.true) in
     let code : c.from.result ≡ unwrap_or c.code.result 0 = c.from.ensures ∙ c.unwrap_or-code.ensures in
-    let pushed : c.push_bits.new.self ≡ c.loop-place.output ++ text_of a c.char_at.result = c.in_ok-push_bits.ensures.ok ∙ ap (λ b. c.loop-place.output ++ binary b c.from.result) c.width-width.ensures.bits ∙ ap (λ k. c.loop-place.output ++ binary a.code_bits k) (code ∙ ap (λ o. unwrap_or o 0) c.code.ensures) in
+    let pushed : c.push_bits.new.self ≡ plus c.loop-place.output (as_text (text_of a c.char_at.result)) = c.in_ok-push_bits.ensures.ok ∙ ap (λ b. plus c.loop-place.output (as_text (binary b c.from.result))) c.width-width.ensures.bits ∙ ap (λ k. plus c.loop-place.output (as_text (binary a.code_bits k))) (code ∙ ap (λ o. unwrap_or o 0) c.code.ensures) in
     one_more a cs c.args.from c.loop-place.place c.char_at.result c.args.output.now c.loop-place.output c.push_bits.new.self c.loop-place.auto.place within c.char_at.ensures c.loop-place.invariant pushed

@@ -1,6 +1,0 @@
-use Rattle.std.proofs.Common.{arith}
-use Rattle.per_codec_encoder.proofs.Scopes.{does_begin}
-use Rattle.per_codec_encoder.proofs.frames.begin_components.Goals as goal
-
-pub returns : goal.returns
-returns c = does_begin c.args.frames.now.items c.push.new.self.items c.args.output.now c.resize.new.self c.args.extensible c.args.optional c.len-start.result c.in-Some.end c.len-start.ensures c.in-Some.ensures (omega arith) c.in_ok-resize.ensures.ok c.in_ok-push.ensures.items

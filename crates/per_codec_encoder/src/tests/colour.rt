@@ -1,0 +1,94 @@
+//! ENUMERATED {red, ..., blue}.
+ghost use Rattle.std.specs.Prelude.{◌∷◌, [], refl, pos, negsuc, true, false};
+ghost use Rattle.asn1_model.specs.Value.{item};
+ghost use Rattle.asn1_schema_constraints.specs.Sets.{no_constraint};
+ghost use Rattle.per_codec_encoder.specs.Trial.{colours, colours_typed, colours_valued};
+
+use asn1_schema_constraints::Constraints;
+use asn1_schema_tags::{Identifier, Tag, TagTree};
+use asn1_schema_types::{AsnType, Described};
+use asn1_schema_variants::Enumerated;
+
+/// ENUMERATED {red, ..., blue}.
+#[derive(Clone, Copy, Debug, PartialEq, Eq)]
+pub enum Colour {
+    /// Red.
+    Red,
+    /// Blue, which came later.
+    Blue,
+}
+
+impl Described for Colour {
+    ghost use Rattle.per_codec_encoder.specs.declared.tests.colour.Colour.TheVariants.{Red, Blue};
+
+    ghost tags = { record { class = 0; number = 10 } ∷ [] };
+
+    ghost own = { no_constraint };
+
+    ghost under = { λ _. colours };
+
+    ghost schema = { colours };
+
+    ghost is_own = { λ _. refl };
+
+    ghost meaning = { elim [ Red ↦ item (pos 0) | Blue ↦ item (pos 1) ] };
+
+    ghost typed = { colours_typed refl };
+
+    ghost valued = { elim [ Red ↦ colours_valued (pos 0) | Blue ↦ colours_valued (pos 1) ] };
+
+    ghost valued_under = { λ _. elim [ Red ↦ colours_valued (pos 0) | Blue ↦ colours_valued (pos 1) ] };
+}
+
+impl AsnType for Colour {
+    const TAG: Tag = Tag::ENUMERATED;
+
+    const IDENTIFIER: Identifier = Identifier(Some("Colour"));
+
+    fn tag_tree() -> TagTree<'static> {
+        TagTree::of(Self::TAG)
+    }
+
+    fn constraints() -> Constraints<'static> {
+        Constraints::NONE
+    }
+}
+
+impl Enumerated for Colour {
+    ghost use Rattle.per_codec_encoder.specs.declared.tests.colour.Colour.TheVariants.{Red, Blue};
+
+    ghost roots = { pos 0 ∷ [] };
+
+    ghost extensible = { true };
+
+    ghost additions = { pos 1 ∷ [] };
+
+    ghost number = { elim [ Red ↦ pos 0 | Blue ↦ pos 1 ] };
+
+    fn variants<'a>() -> &'a [Self]
+    where
+        Self: 'a,
+    {
+        &[Colour::Red]
+    }
+
+    fn extended_variants<'a>() -> Option<&'a [Self]>
+    where
+        Self: 'a,
+    {
+        Some(&[Colour::Blue])
+    }
+
+    fn discriminant(&self) -> isize {
+        match self {
+            Colour::Red => 0,
+            Colour::Blue => 1,
+        }
+    }
+
+    ghost is_of = { λ _. refl };
+
+    ghost means = { elim [ Red ↦ refl | Blue ↦ refl ] };
+
+    ghost listed = { elim [ Red ↦ (false, 0, refl) | Blue ↦ (true, 0, (refl, refl, refl)) ] };
+}

@@ -1,0 +1,7 @@
+pub mod Scopes
+pub mod HeadingTexts
+pub mod Opening
+pub mod Added
+pub mod Ending
+pub mod Choosing
+pub mod Bagging

@@ -1,0 +1,3 @@
+pub mod Headings
+pub mod Bags
+pub mod Holding

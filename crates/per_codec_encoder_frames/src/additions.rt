@@ -1,0 +1,93 @@
+//! Additions of sequences and sets, which are kept until these end.
+ghost use Rattle.std.specs.Prelude.{◌≡◌, Bool, MatchResult};
+ghost use Rattle.asn1_schema_presented.specs.Records.{additions_begin, addition, addition_ends};
+ghost use Rattle.per_codec_encoder_frames.specs.Holding.{Does, Cannot};
+
+use crate::frame::{Additions, Frame, Place};
+use asn1_schema_faults::EncodeError;
+use per_codec_packing::Packing;
+use std::alloc::Global;
+use std::mem;
+
+/// Behind the root of a sequence or set with a mark of extensibility come so many additions (X.691 19.7).
+pub fn begin_additions(
+    output: &Packing,
+    frames: &mut Vec<Frame>,
+    alloc: Global,
+    count: usize,
+) -> Result<(), EncodeError>
+    ensures { MatchResult result (λ _. (al : Bool) → Does al (additions_begin count) frames.old.items output.now frames.new.items output.now) (λ e. (al : Bool) → Cannot al (additions_begin count) frames.old.items output.now e) }
+{
+    match frames.pop() {
+        Some(
+            Frame::Components {
+                extensible,
+                due,
+                given,
+                start,
+            },
+        ) => {
+            if !extensible || due > 0 {
+                return Err(EncodeError::SizeConstraintNotSatisfied);
+            }
+            frames.push(Frame::Added(Additions {
+                due: count,
+                given,
+                start,
+                end: Place::end_of(output),
+                slots: Vec::new(alloc),
+            }))?;
+            Ok(())
+        }
+        _ => Err(EncodeError::SizeConstraintNotSatisfied),
+    }
+}
+
+/// Whether the next addition is there. The bits of one that is there stand alone until it ends (X.691 11.2 and 19.9).
+pub fn put_addition(
+    output: &mut Packing,
+    frames: &mut Vec<Frame>,
+    alloc: Global,
+    present: bool,
+) -> Result<(), EncodeError>
+    ensures { MatchResult result (λ _. (al : Bool) → Does al (addition present) frames.old.items output.old frames.new.items output.new) (λ e. (al : Bool) → Cannot al (addition present) frames.old.items output.old e) }
+{
+    match frames.pop() {
+        Some(Frame::Added(before)) => {
+            let mut additions = before;
+            if additions.due == 0 {
+                return Err(EncodeError::SizeConstraintNotSatisfied);
+            }
+            additions.due -= 1;
+            if !present {
+                additions.slots.push(None)?;
+                frames.push(Frame::Added(additions))?;
+                return Ok(());
+            }
+            frames.push(Frame::Added(additions))?;
+            let outer = mem::replace(output, Packing::new(alloc));
+            frames.push(Frame::OpenType { outer })?;
+            Ok(())
+        }
+        _ => Err(EncodeError::SizeConstraintNotSatisfied),
+    }
+}
+
+/// An addition ends, and its bits are kept.
+pub fn end_addition(output: &mut Packing, frames: &mut Vec<Frame>) -> Result<(), EncodeError>
+    ensures { MatchResult result (λ _. (al : Bool) → Does al addition_ends frames.old.items output.old frames.new.items output.new) (λ e. (al : Bool) → Cannot al addition_ends frames.old.items output.old e) }
+{
+    let Some(Frame::OpenType { outer }) = frames.pop() else {
+        return Err(EncodeError::SizeConstraintNotSatisfied);
+    };
+    match frames.pop() {
+        Some(Frame::Added(before)) => {
+            let mut additions = before;
+            let contents = mem::replace(output, outer).into_bits();
+            additions.slots.push(Some(contents))?;
+            frames.push(Frame::Added(additions))?;
+            Ok(())
+        }
+        _ => Err(EncodeError::SizeConstraintNotSatisfied),
+    }
+}

@@ -1,0 +1,91 @@
+//! What may be open.
+ghost use Rattle.std.specs.Prelude.{◌≡◌, ◌+◌, length};
+ghost use Rattle.per_codec_packing.specs.Packed.{solid};
+
+use crate::headings::Due;
+use asn1_schema_bounds::Bounded;
+use asn1_values_bits::BitBuffer;
+use per_codec_packing::Packing;
+
+/// A place in a text.
+#[derive(Clone, Copy, PartialEq, Eq)]
+pub struct Place {
+    /// How many bits stand in front.
+    pub bits: usize,
+    /// How many fillings, which are left open, stand in front.
+    pub fills: usize,
+}
+
+impl Place {
+    /// The place behind a text.
+    pub fn end_of(text: &Packing) -> Self
+        ensures bits { result.bits ≡ length (solid text.now.text) }
+        ensures all { result.bits + result.fills ≡ length text.now.text }
+    {
+        Place {
+            bits: text.len(),
+            fills: text.fill_count(),
+        }
+    }
+}
+
+/// What is open.
+#[derive(Drop)]
+pub enum Frame {
+    /// A sequence, a set or a group of additions.
+    Components {
+        /// Whether it has a mark of extensibility.
+        extensible: bool,
+        /// How many presence bits are due.
+        due: usize,
+        /// How many were given.
+        given: usize,
+        /// Where its preamble begins.
+        start: Place,
+    },
+    /// A sequence or a set behind its root.
+    Added(Additions),
+    /// An addition or an added alternative, whose bits stand alone.
+    OpenType {
+        /// What stands in front of it.
+        outer: Packing,
+    },
+    /// A list, and what is due of its members.
+    Members(Due),
+    /// A bag, whose members are kept until it ends.
+    Bag(Bag),
+    /// An alternative of the root.
+    Alternative,
+}
+
+/// The additions of a sequence or a set, which are kept until it ends.
+#[derive(Drop)]
+pub struct Additions {
+    /// How many are due.
+    pub due: usize,
+    /// How many presence bits the preamble has.
+    pub given: usize,
+    /// Where the preamble begins.
+    pub start: Place,
+    /// Where the root ends.
+    pub end: Place,
+    /// The bits of each addition that is there.
+    pub slots: Vec<Option<BitBuffer>>,
+}
+
+/// A bag. Each of its members stands alone until the bag ends, which puts them in their order (X.691 22).
+#[derive(Drop)]
+pub struct Bag {
+    /// What stands in front of it.
+    pub outer: Packing,
+    /// How many members the root of its size constraint admits.
+    pub range: Bounded<usize>,
+    /// Whether this constraint has a mark of extensibility.
+    pub extensible: bool,
+    /// How many members the program's type holds.
+    pub held: Bounded<usize>,
+    /// How many are due.
+    pub due: usize,
+    /// The members in front of the open one, if one is open.
+    pub members: Option<Vec<Packing>>,
+}

@@ -1,0 +1,18 @@
+//! What is open in an encoder of the packed encoding rules (X.691): sequences, sets and groups, lists, bags, additions and alternatives.
+#![tactic(auto)]
+
+mod additions;
+mod alternatives;
+mod bags;
+mod ends;
+mod frame;
+mod headings;
+mod sequences;
+
+pub use additions::{begin_additions, end_addition, put_addition};
+pub use alternatives::begin_alternative;
+pub use bags::begin_bag;
+pub use ends::end_scope;
+pub use frame::{Additions, Bag, Frame};
+pub use headings::{Due, push_heading, push_next_header};
+pub use sequences::{begin_components, begin_members, put_further, put_mark};

@@ -1,0 +1,53 @@
+-- The complete encoding of a text that stands alone (X.691 11.1).
+use Rattle.std.proofs.Common.{◌≡◌, ℕ, ◌==◌, Bool, true, false, List, [], ◌∷◌, ◌++◌, length, replicate, Option, Some, None, option_map, option_and_then, refl, ap, sym, ◌∙◌, append_assoc, eq-eqb}
+use Rattle.std.proofs.lemmas.List.{length-replicate}
+use Rattle.asn1_model.specs.Form.{exactly, only_if, written}
+use Rattle.asn1_model.specs.Numbers.{binary, missing, octet_bits}
+use Rattle.asn1_model.specs.Per
+use Rattle.asn1_values_bits.specs.Octets.{filled_up}
+use Rattle.per_codec_texts.specs.Texts.{Text, as_text, text_at, as_form}
+use Rattle.per_codec_texts.proofs.Texts.{known}
+use Rattle.per_codec_packing.specs.Packed.{Packed, Adds, place, solid}
+use Rattle.per_codec_packing.proofs.Adding.{added}
+use Rattle.per_codec_packing.proofs.Bits.{solid-bits}
+
+-- the bits of a text behind nothing
+bits_at_start : (o : Option (List Bool)) (w : Text) → option_map as_text o ≡ Some w → o ≡ Some (solid w)
+bits_at_start None w e = cc
+bits_at_start (Some l) w e = let f : as_text l ≡ w = cc in ap Some (sym (solid-bits l) ∙ ap solid f)
+
+pub alone : (t : Text) (nothing all : Packed) → nothing ≡ record { text = []; placed = true } → Adds (text_at (as_form t) (place nothing)) nothing all → written (as_form t) 0 ≡ Some (solid all.text)
+alone t nothing all e a =
+    let p = added (text_at (as_form t) (place nothing)) nothing all a in
+    let w : p.0 ≡ all.text = ap (λ (q : Packed). q.text ++ p.0) (sym e) ∙ ap (λ (q : Packed). q.text) p.2 in
+    bits_at_start (written (as_form t) 0) p.0 (sym (known (as_form t) 0) ∙ ap (λ (q : Packed). text_at (as_form t) (place q)) (sym e) ∙ p.1) ∙ ap (λ u. Some (solid u)) w
+
+filling_written : (n p : ℕ) → written (Per.filling n) p ≡ Some (replicate n false)
+unfolding Per.filling written
+filling_written n p = let h : (length (replicate n false) == n) ≡ true = eq-eqb _ _ (length-replicate n false) in ap (λ (t : Bool). written (only_if {F = Per.Freedom} {D = Per.Detail} t (exactly (replicate n false))) p) h
+
+filled : (b : Bool) (bs : List Bool) → written (Per.filled_up (b ∷ bs)) 0 ≡ Some (filled_up (b ∷ bs))
+unfolding Per.filled_up written
+filled b bs = ap (option_map (λ d. (b ∷ bs) ++ d)) (filling_written (missing (length (b ∷ bs))) _)
+
+completed : (x : Per.BitForm) (l : List Bool) → written x 0 ≡ Some l → written (Per.complete x) 0 ≡ written (Per.filled_up l) 0
+unfolding written Per.complete
+completed x l e = ap (option_and_then (λ w. written (Per.filled_up w) 0)) e
+
+octets-append : (a b : List ℕ) → octet_bits (a ++ b) ≡ octet_bits a ++ octet_bits b
+octets-append [] b = refl
+octets-append (x ∷ a) b = ap (λ l. binary 8 x ++ l) (octets-append a b) ∙ sym (append_assoc (binary 8 x) (octet_bits a) (octet_bits b))
+
+zeros : written (Per.filled_up []) 0 ≡ Some (filled_up [] ++ octet_bits (0 ∷ []))
+unfolding written Per.filled_up
+zeros = refl
+
+-- one zero octet in place of no bits
+pub of_none : (x : Per.BitForm) (l : List Bool) (os all : List ℕ) → written x 0 ≡ Some l → l ≡ [] → octet_bits os ≡ filled_up l → all ≡ os ++ 0 ∷ [] → written (Per.complete x) 0 ≡ Some (octet_bits all)
+of_none x l os all e n b f =
+    completed x l e ∙ ap (λ m. written (Per.filled_up m) 0) n ∙ zeros
+    ∙ ap Some (ap (λ m. m ++ octet_bits (0 ∷ [])) (sym (b ∙ ap filled_up n)) ∙ sym (octets-append os (0 ∷ [])) ∙ ap octet_bits (sym f))
+
+pub of_some : (x : Per.BitForm) (l : List Bool) (os : List ℕ) → written x 0 ≡ Some l → (l ≡ [] → ⊥) → octet_bits os ≡ filled_up l → written (Per.complete x) 0 ≡ Some (octet_bits os)
+of_some x [] os e n b = absurd (n refl)
+of_some x (c ∷ l) os e n b = completed x (c ∷ l) e ∙ filled c l ∙ ap Some (sym b)

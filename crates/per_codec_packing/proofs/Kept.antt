@@ -1,0 +1,95 @@
+-- What is kept shows the text.
+use Rattle.std.proofs.Common.{◌≡◌, ℕ, ◌+◌, ◌-◌, ◌≤◌, Bool, true, false, cond, List, [], ◌∷◌, ◌++◌, length, take, replicate, set, Some, None, refl, ap, sym, subst, ◌∙◌, length-append, length-set, arith}
+use Rattle.asn1_model.specs.Numbers.{missing}
+use Rattle.per_codec_texts.specs.Texts.{Text, fill, as_text, plain}
+use Rattle.per_codec_texts.proofs.Texts.{plain_text, length-text}
+use Rattle.per_codec_packing.specs.Packed.{Packed, place, plus, filling_at, solid, with_bit}
+use Rattle.per_codec_packing.specs.Spread.{spread, shown, Ascend, AreFills}
+use Rattle.per_codec_packing.proofs.Spread.{up_to, one_place, all_taken, spread-bits, spread-fill, spread-set, solid-spread}
+
+module _ (bits : List Bool) (fills : List ℕ) (placed : Bool) (h : AreFills bits fills placed) where
+  in_order : Ascend 0 fills (0 + length bits)
+  in_order = up_to 0 (length bits) (0 + length bits) fills (omega arith) h.ascend
+
+  pub with_bits : (w new : List Bool) → new ≡ bits ++ w → AreFills new fills placed
+  with_bits w new e = record {
+    ascend = let n = length-append bits w in up_to 0 (length bits) (length new) fills (omega (arith, ap length e)) h.ascend;
+    known = h.known;
+  }
+
+  pub with_fill : (new : List ℕ) → placed ≡ false → new ≡ fills ++ length bits ∷ [] → AreFills bits new placed
+  with_fill new p e = record {
+    ascend = subst (λ l. Ascend 0 l (length bits)) (sym e) (one_place 0 (length bits) fills h.ascend);
+    known = λ q. absurd (cc);
+  }
+
+  pub with_set : (i : ℕ) (b : Bool) (new : List Bool) → new ≡ set bits i b → AreFills new fills placed
+  with_set i b new e = record {
+    ascend = let n = length-set bits i b in up_to 0 (length bits) (length new) fills (omega (arith, ap length e)) h.ascend;
+    known = h.known;
+  }
+
+  module _ (v : Packed) (is : shown bits fills placed ≡ v) where
+    pub bits_alone : solid v.text ≡ bits
+    bits_alone = ap (λ (p : Packed). solid p.text) (sym is) ∙ solid-spread 0 bits fills
+
+    pub is_placed : v.placed ≡ placed
+    is_placed = ap (λ (p : Packed). p.placed) (sym is)
+
+    -- there is no text where there are neither bits nor filling, and only there
+    pub nothing_there : bits ≡ [] → fills ≡ [] → v.text ≡ []
+    nothing_there e f = ap (λ (p : Packed). p.text) (sym is) ∙ ap (λ l. spread 0 l fills) e ∙ ap (λ l. spread 0 [] l) f
+
+    pub no_bits : v.text ≡ [] → bits ≡ []
+    no_bits e = sym bits_alone ∙ ap solid e
+
+    pub no_fills : v.text ≡ [] → fills ≡ []
+    no_fills e = without fills (ap (λ (p : Packed). p.text) is ∙ e)
+      where
+        behind_fill : (s t : Text) → s ++ fill ∷ t ≡ [] → ⊥
+        behind_fill [] t e = cc
+        behind_fill (a ∷ s) t e = cc
+
+        without : (fs : List ℕ) → spread 0 bits fs ≡ [] → fs ≡ []
+        without [] e = refl
+        without (f ∷ fs) e = absurd (behind_fill _ _ e)
+
+    -- at a known place there are bits alone
+    pub text_is : placed ≡ true → v.text ≡ as_text bits
+    text_is e = ap (λ (p : Packed). p.text) (sym is) ∙ ap (λ l. spread 0 bits l) (h.known e)
+
+    pub plain_is : v.placed ≡ true → plain v.text ≡ Some bits
+    plain_is e = ap (λ t. plain t) (text_is (sym is_placed ∙ e)) ∙ plain_text bits
+
+    pub place_is : placed ≡ true → place v ≡ Some (length bits)
+    place_is e = ap (λ b. cond b (Some (length v.text)) None) (is_placed ∙ e) ∙ ap (λ t. Some (length t)) (text_is e) ∙ ap Some (length-text bits)
+
+    place_open : placed ≡ false → place v ≡ None
+    place_open e = ap (λ b. cond b (Some (length v.text)) None) (is_placed ∙ e)
+
+    pub bits_added : (w new : List Bool) → new ≡ bits ++ w → shown new fills placed ≡ plus v (as_text w)
+    bits_added w new e =
+        ap (λ b. shown b fills placed) e
+        ∙ ap (λ t. let p : Packed = record { text = t; placed = placed } in p) (spread-bits 0 bits w fills in_order)
+        ∙ ap (λ p. plus p (as_text w)) is
+
+    pub grown : (len : ℕ) (b : Bool) (new : List Bool) → length (solid v.text) ≤ len → new ≡ take len bits ++ replicate (len - length bits) b → new ≡ bits ++ replicate (len - length (solid v.text)) b
+    grown len b new l e =
+        let within : length bits ≤ len = subst (λ k. length k ≤ len) bits_alone l in
+        e ∙ ap (λ k. k ++ replicate (len - length bits) b) (all_taken len bits within) ∙ ap (λ k. bits ++ replicate (len - length k) b) (sym bits_alone)
+
+    pub filled : (new : List Bool) → placed ≡ true → new ≡ bits ++ replicate (missing (length bits)) false → shown new fills placed ≡ plus v (filling_at (place v))
+    filled new p e = bits_added (replicate (missing (length bits)) false) new e ∙ ap (λ q. plus v (filling_at q)) (sym (place_is p))
+
+    pub left_open : (new : List ℕ) → placed ≡ false → new ≡ fills ++ length bits ∷ [] → shown bits new placed ≡ plus v (filling_at (place v))
+    left_open new p e =
+        ap (λ l. shown bits l placed) e
+        ∙ ap (λ t. let q : Packed = record { text = t; placed = placed } in q) (spread-fill 0 (length bits) bits fills (omega arith) h.ascend)
+        ∙ ap (λ p. plus p (fill ∷ [])) is
+        ∙ ap (λ q. plus v (filling_at q)) (sym (place_open p))
+
+    pub changed : (i : ℕ) (b : Bool) (new : List Bool) → new ≡ set bits i b → shown new fills placed ≡ record { text = with_bit i b v.text; placed = v.placed }
+    changed i b new e =
+        ap (λ l. shown l fills placed) e
+        ∙ ap (λ t. let p : Packed = record { text = t; placed = placed } in p) (spread-set 0 bits fills i b in_order)
+        ∙ ap (λ (p : Packed). let q : Packed = record { text = with_bit i b p.text; placed = p.placed } in q) is

@@ -1,0 +1,9 @@
+use Rattle.asn1_model.specs.Numbers.{octet_bits}
+use Rattle.per_codec_packing.proofs.Kept.{with_bits, bits_added}
+use Rattle.per_codec_packing.proofs.packing.Packing.extend_from_bytes.Goals as goal
+
+pub invariant_of-self-2 : goal.invariant_of-self-2
+invariant_of-self-2 c = with_bits c.self.inside.bits c.self.inside.fills.items c.self.inside.is_placed c.self.invariant (octet_bits c.args.bytes.now) c.extend_from_bytes.new.self c.in_ok-extend_from_bytes.ensures.ok
+
+pub returns-clause-ok : goal.returns-clause-ok
+returns-clause-ok c = bits_added c.self.inside.bits c.self.inside.fills.items c.self.inside.is_placed c.self.invariant c.args.self.now c.self.view_is (octet_bits c.args.bytes.now) c.extend_from_bytes.new.self c.in_ok-extend_from_bytes.ensures.ok

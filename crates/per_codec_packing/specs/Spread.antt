@@ -1,0 +1,23 @@
+-- How a text is kept: its bits, and how many of them stand in front of each filling that is left open.
+use Rattle.std.specs.Prelude.{◌≡◌, ℕ, ◌-◌, ◌≤◌, Bool, true, List, [], ◌∷◌, ◌++◌, length, take, drop}
+use Rattle.per_codec_texts.specs.Texts.{Text, fill, as_text}
+use Rattle.per_codec_packing.specs.Packed.{Packed}
+
+-- The text of the bits from one on, with filling behind so many.
+abbrev pub spread : ℕ → List Bool → List ℕ → Text
+spread from bits [] = as_text bits
+spread from bits (f ∷ fs) = as_text (take (f - from) bits) ++ fill ∷ spread f (drop (f - from) bits) fs
+
+-- What the bits, the places of filling and what is known of the place stand for.
+abbrev pub shown : List Bool → List ℕ → Bool → Packed
+shown bits fills placed = record { text = spread 0 bits fills; placed = placed }
+
+-- The places ascend, from one on and up to another.
+abbrev pub Ascend : ℕ → List ℕ → ℕ → Type 0
+Ascend from [] to = from ≤ to
+Ascend from (f ∷ fs) to = (from ≤ f) × Ascend f fs to
+
+-- Filling is left open within the bits, and where the place is known there is none.
+pub record AreFills (bits : List Bool) (fills : List ℕ) (placed : Bool) : Type 0 where
+  pub ascend : Ascend 0 fills (length bits)
+  pub known : placed ≡ true → fills ≡ []

@@ -1,0 +1,229 @@
+//! A text that grows at its end.
+ghost use Rattle.std.specs.Prelude.{◌≡◌, ◌+◌, ◌-◌, ◌<◌, ◌≤◌, [], ◌∷◌, true, false, length, take, replicate, Some, IfOk, OnOk, OnErr, IsTrue, ◌↔◌};
+ghost use Rattle.asn1_model.specs.Form.{written};
+ghost use Rattle.asn1_model.specs.Numbers.{binary, octet_bits};
+ghost use Rattle.asn1_model.specs.Per.{complete};
+ghost use Rattle.asn1_values_bits.specs.BitStr.{bits_of};
+ghost use Rattle.per_codec_texts.specs.Texts.{as_text, plain, text_at, as_form};
+ghost use Rattle.per_codec_packing.specs.Packed.{Adds, filling_at, place, plus, solid, with_bit};
+
+use asn1_values_bits::{BitBuffer, BitStr};
+use std::alloc::{AllocError, Global};
+use std::marker::Model;
+
+/// A text that grows at its end. Where its place is known, it begins with its message or open type and is bits alone. Where it is not, as that
+/// of a member of a bag, filling up to octets (X.691 11.1) is left open until the text is added to another.
+#[derive(Drop)]
+pub struct Packing {
+    // The bits, without filling that is left open.
+    bits: BitBuffer,
+    // How many of them stand in front of each filling that is left open.
+    fills: Vec<usize>,
+    is_placed: bool,
+}
+
+impl Model for Packing {
+    ghost use Rattle.per_codec_packing.specs.Packed.{Packed};
+
+    ghost Value = { Packed };
+
+    ghost use Rattle.per_codec_packing.specs.Spread.{shown, AreFills};
+
+    ghost view = { λ p. shown p.bits p.fills.items p.is_placed };
+
+    ghost invariant = { λ p. AreFills p.bits p.fills.items p.is_placed };
+}
+
+impl Packing {
+    /// No bits, at the beginning of a message or open type. It takes no memory before it is handed something.
+    pub fn new(alloc: Global) -> Self
+        ensures { result ≡ record { text = []; placed = true } }
+    {
+        Packing {
+            bits: BitBuffer::new(alloc),
+            fills: Vec::new(alloc),
+            is_placed: true,
+        }
+    }
+
+    /// No bits, at a place that is not known. It takes no memory before it is handed something.
+    pub fn unplaced(alloc: Global) -> Self
+        ensures { result ≡ record { text = []; placed = false } }
+    {
+        Packing {
+            bits: BitBuffer::new(alloc),
+            fills: Vec::new(alloc),
+            is_placed: false,
+        }
+    }
+
+    /// No bits, at the beginning of a message or open type, in the room of these octets, which are cleared.
+    pub fn from_octets(octets: Vec<u8>) -> Self
+        ensures { result ≡ record { text = []; placed = true } }
+    {
+        let alloc = *octets.allocator();
+        let mut cleared = octets;
+        cleared.clear();
+        Packing {
+            bits: BitBuffer::from_vec(cleared),
+            fills: Vec::new(alloc),
+            is_placed: true,
+        }
+    }
+
+    /// How many bits there are, without filling that is left open.
+    pub fn len(&self) -> usize
+        ensures bits { result ≡ length (solid self.now.text) }
+        ensures placed { self.now.placed ≡ true → result ≡ length self.now.text }
+    {
+        self.bits.len()
+    }
+
+    /// How many fillings there are that are left open.
+    pub fn fill_count(&self) -> usize
+        ensures { length (solid self.now.text) + result ≡ length self.now.text }
+    {
+        self.fills.len()
+    }
+
+    /// Keeps the text in front of a place alone, which has so many bits and so many fillings that are left open. No memory is taken.
+    pub fn truncate(&mut self, bits: usize, fills: usize)
+        requires within { bits + fills ≤ length self.old.text }
+        requires place { length (solid (take (bits + fills) self.old.text)) ≡ bits }
+        ensures { self.new ≡ record { text = take (bits + fills) self.old.text; placed = self.old.placed } }
+    {
+        self.bits.truncate(bits);
+        self.fills.truncate(fills);
+    }
+
+    /// Whether there is neither a bit nor filling.
+    pub fn is_empty(&self) -> bool
+        ensures { IsTrue result ↔ (self.now.text ≡ []) }
+    {
+        self.bits.is_empty() && self.fills.is_empty()
+    }
+
+    /// Adds one bit.
+    pub fn push(&mut self, bit: bool) -> Result<(), AllocError>
+        ensures ok { OnOk result (self.new ≡ plus self.old (as_text (bit ∷ []))) }
+        ensures err { OnErr result (self.new ≡ self.old) }
+    {
+        self.bits.push(bit)?;
+        Ok(())
+    }
+
+    /// Adds the low `width` bits of a number, the highest first.
+    pub fn push_bits(&mut self, value: u128, width: u32) -> Result<(), AllocError>
+        requires { width ≤ 128 }
+        ensures ok { OnOk result (self.new ≡ plus self.old (as_text (binary width value))) }
+        ensures err { OnErr result (self.new ≡ self.old) }
+    {
+        self.bits.push_bits(value, width)?;
+        Ok(())
+    }
+
+    /// Adds the bits of all the octets.
+    pub fn extend_from_bytes(&mut self, bytes: &[u8]) -> Result<(), AllocError>
+        ensures ok { OnOk result (self.new ≡ plus self.old (as_text (octet_bits bytes.now))) }
+        ensures err { OnErr result (self.new ≡ self.old) }
+    {
+        self.bits.extend_from_bytes(bytes)?;
+        Ok(())
+    }
+
+    /// Adds the bits of a view.
+    pub fn extend_from_bitslice(&mut self, bits: BitStr<'_>) -> Result<(), AllocError>
+        ensures ok { OnOk result (self.new ≡ plus self.old (as_text (bits_of bits.entry))) }
+        ensures err { OnErr result (self.new ≡ self.old) }
+    {
+        self.bits.extend_from_bitslice(bits)?;
+        Ok(())
+    }
+
+    /// Adds copies of a bit up to `len` bits, by the count of `len`.
+    pub fn resize(&mut self, len: usize, bit: bool) -> Result<(), AllocError>
+        requires { length (solid self.old.text) ≤ len }
+        ensures ok { OnOk result (self.new ≡ plus self.old (as_text (replicate (len - length (solid self.old.text)) bit))) }
+        ensures err { OnErr result (self.new ≡ self.old) }
+    {
+        self.bits.resize(len, bit)?;
+        Ok(())
+    }
+
+    /// Changes one of the bits that are there, which are counted as `len` does.
+    pub fn set(&mut self, index: usize, bit: bool)
+        requires { index < length (solid self.old.text) }
+        ensures { self.new ≡ record { text = with_bit index bit self.old.text; placed = self.old.placed } }
+    {
+        self.bits.set(index, bit);
+    }
+
+    /// Fills up to the next octet (X.691 11.1): with at most seven zero bits where the place is known, else this is left open.
+    pub fn align(&mut self) -> Result<(), AllocError>
+        ensures { OnOk result (self.new ≡ plus self.old (filling_at (place self.old))) }
+    {
+        let len = self.bits.len();
+        if self.is_placed {
+            self.bits.push_bits(0, ((8 - len % 8) % 8) as u32)?;
+            return Ok(());
+        }
+        self.fills.push(len)?;
+        Ok(())
+    }
+
+    /// Adds another text: filling that it leaves open goes from here up to octets, where the place is known. Where memory is refused, some of it
+    /// may be there.
+    pub fn append(&mut self, other: &Packing) -> Result<(), AllocError>
+        ensures { OnOk result (Adds (text_at (as_form other.now.text) (place self.old)) self.old self.new) }
+    {
+        let bits = other.bits.as_bitslice();
+        let mut from = 0;
+        let mut done = 0;
+        while done < other.fills.len() {
+            let fill = other.fills[done];
+            self.extend_from_bitslice(bits.split_at(fill).0.split_at(from).1)?;
+            self.align()?;
+            from = fill;
+            done += 1;
+        }
+        self.extend_from_bitslice(bits.split_at(from).1)?;
+        Ok(())
+    }
+
+    /// The bits, without filling that is left open: all there is, where the place is known.
+    pub fn as_bits(&self) -> &BitBuffer
+        ensures bits { result.now ≡ solid self.now.text }
+        ensures placed { self.now.placed ≡ true → plain self.now.text ≡ Some result.now }
+    {
+        &self.bits
+    }
+
+    /// The bits, as `as_bits` shows them.
+    pub fn into_bits(self) -> BitBuffer
+        ensures bits { result ≡ solid self.text }
+        ensures placed { self.placed ≡ true → plain self.text ≡ Some result }
+    {
+        let Packing {
+            bits,
+            fills: _,
+            is_placed: _,
+        } = self;
+        bits
+    }
+
+    /// The complete encoding of the text where it stands alone (X.691 11.1): filled up with zero bits to whole octets, and one zero octet in
+    /// place of no bits. By these the members of a bag are put in order (X.691 22).
+    pub fn complete(&self, alloc: Global) -> Result<Vec<u8>, AllocError>
+        ensures { IfOk result (λ octets. written (complete (as_form self.now.text)) 0 ≡ Some (octet_bits octets.items)) }
+    {
+        let mut alone = Packing::new(alloc);
+        alone.append(self)?;
+        let bits = alone.into_bits();
+        if bits.is_empty() {
+            let mut octets = bits.into_vec();
+            octets.push(0)?;
+            return Ok(octets);
+        }
+        Ok(bits.into_vec())
+    }
+}

@@ -1,0 +1,2 @@
+pub mod SmallFronts
+pub mod PlaceFronts

@@ -1,0 +1,3 @@
+pub mod FieldFronts
+pub mod Moving
+pub mod Passing

@@ -1,0 +1,5 @@
+pub mod Fragments
+pub mod Sizes
+pub mod Ordered
+pub mod Each
+pub mod Keyed

@@ -1,0 +1,3 @@
+pub mod PlaceTexts
+pub mod OpenTypes
+pub mod AdditionTexts
