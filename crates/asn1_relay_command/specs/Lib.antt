@@ -1,4 +1,3 @@
-pub mod Octets
 pub mod Kinds
 pub mod Orders
 pub mod Lines

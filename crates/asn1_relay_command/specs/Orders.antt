@@ -43,7 +43,13 @@ kind_by_name name =
     else (if bytes_eq name (codes "visible") then Some kind.Visible
     else (if bytes_eq name (codes "null") then Some kind.Null
     else (if bytes_eq name (codes "nulls") then Some kind.Nulls
-    else None))))))))
+    else (if bytes_eq name (codes "set") then Some kind.Set
+    else (if bytes_eq name (codes "bag") then Some kind.Bag
+    else (if bytes_eq name (codes "nest") then Some kind.Nest
+    else (if bytes_eq name (codes "new") then Some kind.New
+    else (if bytes_eq name (codes "old") then Some kind.Old
+    else (if bytes_eq name (codes "group") then Some kind.Group
+    else None))))))))))))))
 
 -- ---- the order
 

@@ -30,6 +30,18 @@ pub enum Kind {
     Null,
     /// SEQUENCE OF NULL.
     Nulls,
+    /// SET {a [444] INTEGER OPTIONAL, b [5] INTEGER OPTIONAL, c [APPLICATION 9] INTEGER OPTIONAL}.
+    Set,
+    /// SET OF INTEGER (0..255).
+    Bag,
+    /// Nest ::= CHOICE {leaf [0] NULL, more [1] Nest}.
+    Nest,
+    /// SEQUENCE {a BOOLEAN, ..., b INTEGER (0..255) OPTIONAL}.
+    New,
+    /// SEQUENCE {a BOOLEAN, ...}.
+    Old,
+    /// SEQUENCE {a BOOLEAN, ..., [[x INTEGER (0..255) OPTIONAL]]}.
+    Group,
 }
 
 /// What to do: one message of this type becomes, from the one set of rules, that in the other.
@@ -70,6 +82,12 @@ fn kind_named(name: &str) -> Option<Kind>
         "visible" => Some(Kind::Visible),
         "null" => Some(Kind::Null),
         "nulls" => Some(Kind::Nulls),
+        "set" => Some(Kind::Set),
+        "bag" => Some(Kind::Bag),
+        "nest" => Some(Kind::Nest),
+        "new" => Some(Kind::New),
+        "old" => Some(Kind::Old),
+        "group" => Some(Kind::Group),
         _ => None,
     }
 }
@@ -101,7 +119,7 @@ fn grammar<'a>(alloc: Global) -> Result<Command<'a>, AllocError>
         .arg(option(
             alloc,
             "type",
-            "the type of the message: bool, small, pair, integer, bits, octets, visible, null or nulls",
+            "the type of the message: bool, small, pair, integer, bits, octets, visible, null, nulls, set, bag, nest, new, old or group",
         ))?;
     Command::new(alloc, "asn1_relay")
         .about("Translates messages between encoding rules of ASN.1")
@@ -145,7 +163,7 @@ pub fn read_order<S: AsStr>(alloc: Global, words: &[S]) -> Result<Order, Error>
         Some(order) => Ok(order),
         None => Err(grammar.error(
             ErrorKind::InvalidValue,
-            "rules are uper, aper, oer or coer, and types bool, small, pair, integer, bits, octets, visible, null or nulls",
+            "rules are uper, aper, oer or coer, and types bool, small, pair, integer, bits, octets, visible, null, nulls, set, bag, nest, new, old or group",
         )?),
     }
 }

@@ -9,11 +9,9 @@ ghost use Rattle.asn1_relay_command.specs.Orders.{order_of};
 ghost use Rattle.asn1_relay_command.specs.Runs.{Becomes, BecomesAs, Begins, HasDone, HasFailed, HasRefused, IsAllRead, IsDone, IsRefusedAs, IsRefusedBy, StopsBy};
 
 use crate::fault::Fault;
-use crate::octets::Octets;
 use crate::order::{Kind, Order, read_order};
-use crate::pair::Pair;
-use crate::small::Small;
 use asn1_relay_core::recode;
+use asn1_relay_types::{Bag, Group, Nest, New, Octets, Old, Pair, Set, Small};
 use asn1_schema_decode::Decode;
 use asn1_schema_encode::Encode;
 use asn1_values_bit_strings::BitString;
@@ -148,6 +146,12 @@ pub fn translate_all(alloc: Global, order: Order, message: &[u8]) -> Result<Vec<
         Kind::Visible => translate::<VisibleString>(alloc, order, message),
         Kind::Null => translate::<()>(alloc, order, message),
         Kind::Nulls => translate::<Vec<()>>(alloc, order, message),
+        Kind::Set => translate::<Set>(alloc, order, message),
+        Kind::Bag => translate::<Bag>(alloc, order, message),
+        Kind::Nest => translate::<Nest>(alloc, order, message),
+        Kind::New => translate::<New>(alloc, order, message),
+        Kind::Old => translate::<Old>(alloc, order, message),
+        Kind::Group => translate::<Group>(alloc, order, message),
     }
 }
 

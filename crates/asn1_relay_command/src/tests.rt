@@ -1,8 +1,7 @@
 //! Runs of the command.
-use crate::{
-    Fault, Kind, Order, Pair, Small, command, read_order, refuse_arguments, translate_all,
-};
+use crate::{Fault, Kind, Order, command, read_order, refuse_arguments, translate_all};
 use asn1_relay_core::{Codec, DecodeError, EncodeError, RecodeFault, recode};
+use asn1_relay_types::{Pair, Small};
 use asn1_schema_decode::Decode;
 use asn1_schema_encode::Encode;
 use std::io::{Error, ErrorKind, Write};
@@ -10,6 +9,7 @@ use std::process::Abort;
 use std::test::Fail;
 
 mod fakes;
+mod kinds;
 
 use fakes::{FakeReader, FakeWriter, Step};
 

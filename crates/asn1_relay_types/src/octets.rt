@@ -4,7 +4,7 @@ ghost use Rattle.asn1_model.specs.Value.{octet_list};
 ghost use Rattle.asn1_schema_constraints.specs.Sets.{no_constraint};
 ghost use Rattle.asn1_schema_constraints.specs.Terms.{sizes_of};
 ghost use Rattle.asn1_schema_presented.proofs.TypesByKind.{octet_string_type, octet_string_value};
-ghost use Rattle.asn1_relay_command.specs.Octets.{one_to_three, octets_schema};
+ghost use Rattle.asn1_relay_types.specs.Schemas.{one_to_three, octets_schema};
 
 use asn1_schema_bounds::Bounded;
 use asn1_schema_constraints::{Constraints, Extensible, Size};
