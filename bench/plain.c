@@ -1,12 +1,7 @@
 /* The work of bits_bench in plain C: octets at an octet's beginning are copied, all others shifted an octet at a time. */
-#include <stdint.h>
-#include <stdio.h>
-#include <stdlib.h>
-#include <string.h>
-#include <time.h>
+#include "common.h"
 
 #define FIELDS 10000000u
-#define OCTETS ((size_t)64 * 1024 * 1024)
 
 typedef unsigned __int128 u128;
 
@@ -103,36 +98,10 @@ static uint8_t *octets_at(const uint8_t *octets, size_t at, size_t count)
     return copy;
 }
 
-static uint64_t next(uint64_t state)
-{
-    return state * 6364136223846793005u + 1442695040888963407u;
-}
-
 static unsigned field(uint64_t state, u128 *value)
 {
     *value = (u128)state << 64 | (state << 31 | state >> 33);
     return (unsigned)(state >> 57) + 1;
-}
-
-static uint64_t sum_of(const uint8_t *octets, size_t count)
-{
-    uint64_t sum = 0;
-    size_t i;
-    for (i = 0; i < count; i++)
-        sum = sum * 31 + octets[i];
-    return sum;
-}
-
-static double now(void)
-{
-    struct timespec t;
-    clock_gettime(CLOCK_MONOTONIC, &t);
-    return t.tv_sec * 1e6 + t.tv_nsec / 1e3;
-}
-
-static void tell(const char *name, double time, uint64_t sum)
-{
-    printf("%s %.0f %llu\n", name, time, (unsigned long long)sum);
 }
 
 int main(void)
@@ -167,14 +136,9 @@ int main(void)
     }
     tell("read_fields", now() - start, sum);
 
-    octets = malloc(OCTETS);
+    octets = make_octets(OCTETS);
     if (!octets)
         return 1;
-    state = 1;
-    for (size_t j = 0; j < OCTETS; j++) {
-        state = next(state);
-        octets[j] = (uint8_t)(state >> 56);
-    }
     for (k = 0; k < 2; k++) {
         unsigned alignment = k * 3;
         struct buffer b = {0};

@@ -1,13 +1,8 @@
-/* What the benchmarks in C share: octets that grow, values without a pattern, and times. A set of rules defines put_sample, get_sample, put_list,
+/* What the benchmarks in C share: octets that grow, and values without a pattern. A set of rules defines put_sample, get_sample, put_list,
  * get_list, put_string and get_string, and includes this file first. */
-#include <stdint.h>
-#include <stdio.h>
-#include <stdlib.h>
-#include <string.h>
-#include <time.h>
+#include "../common.h"
 
 #define COUNT 1000000u
-#define OCTETS ((size_t)64 * 1024 * 1024)
 
 struct sample {
     uint32_t a;
@@ -56,48 +51,9 @@ static int put_octets(struct buffer *b, const uint8_t *octets, size_t count)
     return 1;
 }
 
-static uint64_t next(uint64_t state)
-{
-    return state * 6364136223846793005u + 1442695040888963407u;
-}
-
-static uint64_t sum_of(const uint8_t *octets, size_t count)
-{
-    uint64_t sum = 0;
-    size_t i;
-    for (i = 0; i < count; i++)
-        sum = sum * 31 + octets[i];
-    return sum;
-}
-
 static uint64_t sum_with(uint64_t sum, const struct sample *s)
 {
     return sum * 31 + (s->a ^ s->b ^ s->c[31] ^ (uint64_t)s->d) + (s->has_e ? s->e : 65536u);
-}
-
-static double now(void)
-{
-    struct timespec t;
-    clock_gettime(CLOCK_MONOTONIC, &t);
-    return t.tv_sec * 1e6 + t.tv_nsec / 1e3;
-}
-
-static void tell(const char *name, double time, uint64_t sum)
-{
-    printf("%s %.0f %llu\n", name, time, (unsigned long long)sum);
-}
-
-static uint8_t *make_octets(size_t count)
-{
-    uint8_t *octets = malloc(count);
-    uint64_t state = 1;
-    size_t i;
-    if (octets)
-        for (i = 0; i < count; i++) {
-            state = next(state);
-            octets[i] = (uint8_t)(state >> 56);
-        }
-    return octets;
 }
 
 static void make_sample(struct sample *s, uint64_t state)

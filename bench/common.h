@@ -1,0 +1,47 @@
+/* What all benchmarks in C share: octets without a pattern, sums and times. */
+#include <stdint.h>
+#include <stdio.h>
+#include <stdlib.h>
+#include <string.h>
+#include <time.h>
+
+#define OCTETS ((size_t)64 * 1024 * 1024)
+
+static uint64_t next(uint64_t state)
+{
+    return state * 6364136223846793005u + 1442695040888963407u;
+}
+
+static uint64_t sum_of(const uint8_t *octets, size_t count)
+{
+    uint64_t sum = 0;
+    size_t i;
+    for (i = 0; i < count; i++)
+        sum = sum * 31 + octets[i];
+    return sum;
+}
+
+static double now(void)
+{
+    struct timespec t;
+    clock_gettime(CLOCK_MONOTONIC, &t);
+    return t.tv_sec * 1e6 + t.tv_nsec / 1e3;
+}
+
+static void tell(const char *name, double time, uint64_t sum)
+{
+    printf("%s %.0f %llu\n", name, time, (unsigned long long)sum);
+}
+
+static uint8_t *make_octets(size_t count)
+{
+    uint8_t *octets = malloc(count);
+    uint64_t state = 1;
+    size_t i;
+    if (octets)
+        for (i = 0; i < count; i++) {
+            state = next(state);
+            octets[i] = (uint8_t)(state >> 56);
+        }
+    return octets;
+}
