@@ -2,7 +2,7 @@
 #![tactic(auto, using(crate::proofs::Orders::tests_of_order, std::proofs::lemmas::Grind::common_steps))]
 
 ghost use Rattle.std.specs.Prelude.{◌≡◌, ℕ, leb, ℤ, pos, ◌+ℤ◌, ◌-ℤ◌, ◌≤ℤ◌, ◌-◌, ◌≤◌, Some, None, unwrap_or, FitsSigned, IfSome, is_some, false, true, ◌&&◌, ◌^◌};
-ghost use Rattle.asn1_values_natives.specs.Octets.{signed_number, is_below_zero};
+ghost use Rattle.asn1_values_natives.specs.Octets.{is_below_zero};
 ghost use Rattle.asn1_values_natives.specs.Ranges.{whole_range};
 ghost use Rattle.std.specs.Int.{w128};
 ghost use Rattle.std.specs.Option.{option_copied, ForSome};
@@ -11,7 +11,6 @@ ghost use Rattle.asn1_schema_bounds.specs.Bounds.{lower, upper, range_of, counts
 ghost use Rattle.asn1_schema_bounds.specs.Texts.{bounds_text};
 
 use asn1_values_integer_types::IntegerType;
-use asn1_values_natives::Wide;
 use std::fmt;
 
 /// Bounds of a number (X.680 51.4): none, the one value, or a range, each end of which may be missing.
@@ -202,14 +201,6 @@ fn reaches_down(_high: i128, below: bool) -> bool
     below
 }
 
-// The number that octets of two's complement stand for, if 128 bits hold it.
-fn whole_number(octets: &[u8]) -> Option<i128>
-    ensures value { IfSome result (λ z. z ≡ signed_number octets.now) }
-    ensures fits { is_some result ≡ is_within (whole_range (2 ^ 127 - 1)) (signed_number octets.now) }
-{
-    Wide::from_signed_octets(octets)?.to_whole(i128::MAX)
-}
-
 impl Bounded<i128> {
     // From the later of the lower bounds to the earlier of the upper ones.
     pub fn joined(&self, other: Self) -> Self
@@ -290,7 +281,7 @@ impl Bounded<i128> {
     pub fn in_bound<I: IntegerType>(&self, element: &I) -> bool
         ensures { result ≡ admits_number self.now (I.value element.now) }
     {
-        match whole_number(element.to_signed_bytes_be().as_slice()) {
+        match element.to_i128() {
             Some(value) => self.admits(value),
             None => self.admits_past(element.is_negative()),
         }

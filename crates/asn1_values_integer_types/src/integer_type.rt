@@ -1,9 +1,9 @@
 //! A trait of the types of whole numbers.
-ghost use Rattle.std.specs.Prelude.{◌≡◌, ℕ, ◌<◌, ◌≤◌, ◌^◌, ◌↔◌, ℤ, pos, ◌+ℤ◌, Bool, false, true, length, IfOk, IsErrOf, ◌/◌, ◌-◌, None, refl};
+ghost use Rattle.std.specs.Prelude.{◌≡◌, ℕ, ◌<◌, ◌≤◌, ◌^◌, ◌↔◌, ℤ, pos, ◌+ℤ◌, Bool, false, true, length, IfOk, IfSome, is_some, IsErrOf, ◌/◌, ◌-◌, None, refl};
 ghost use Rattle.asn1_model.specs.Schema.{Range};
 ghost use Rattle.asn1_model.specs.Numbers.{is_within};
 ghost use Rattle.asn1_values_natives.specs.Octets.{signed_number, unsigned_number, signed_octets_of, unsigned_octets_of, own_number, is_below_zero, plain};
-ghost use Rattle.asn1_values_natives.specs.Ranges.{range_of, range_of_width, wrapped};
+ghost use Rattle.asn1_values_natives.specs.Ranges.{range_of, range_of_width, whole_range, wrapped};
 ghost use Rattle.asn1_values_natives.proofs.RangeLaws.{width_range};
 
 use asn1_values_natives::{IntegerBytes, NativeInteger, Wide};
@@ -102,6 +102,17 @@ pub trait IntegerType: Sized {
     fn to_integer(self) -> Integer
         ensures number { result ≡ value self }
         ensures within { is_within held (value self) ≡ true };
+
+    /// The number, if 128 bits of two's complement hold it.
+    fn to_i128(&self) -> Option<i128>
+        ensures number { IfSome result (λ z. z ≡ value self.now) }
+        ensures fits { is_some result ≡ is_within (whole_range (2 ^ 127 - 1)) (value self.now) }
+        ensures within { is_within held (value self.now) ≡ true };
+
+    /// The number, if the type holds it.
+    fn from_i128(number: i128) -> Option<Self>
+        ensures number { IfSome result (λ x. value x ≡ number) }
+        ensures fits { is_some result ≡ is_within held number };
 
     // Values of one number are one value.
     ghost injective: { (x y : Self) → value x ≡ value y → x ≡ y };
@@ -235,6 +246,14 @@ impl<T: NativeIntegerType> IntegerType for T {
     fn to_integer(self) -> Integer {
         Integer::from_wide(self.to_wide())
     }
+
+    fn to_i128(&self) -> Option<i128> {
+        self.to_wide().to_whole(i128::MAX)
+    }
+
+    fn from_i128(number: i128) -> Option<T> {
+        T::from_wide(Wide::from_i128(number))
+    }
 }
 
 impl IntegerType for Integer {
@@ -306,5 +325,13 @@ impl IntegerType for Integer {
 
     fn to_integer(self) -> Integer {
         self
+    }
+
+    fn to_i128(&self) -> Option<i128> {
+        Integer::to_i128(self)
+    }
+
+    fn from_i128(number: i128) -> Option<Integer> {
+        Some(Integer::from_i128(number))
     }
 }

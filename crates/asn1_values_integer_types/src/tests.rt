@@ -283,3 +283,27 @@ fn native_types_are_shown_and_compared(rt: HostRuntime) -> Result<(), Fail> {
     );
     Ok(())
 }
+
+// The number as a value of the type, and back.
+fn is_kept_in_128_bits<T: IntegerType + Drop>(rt: &impl Abort, number: i128) {
+    match T::from_i128(number) {
+        Some(value) => assert_eq!(rt; value.to_i128(), Some(number)),
+        None => assert!(rt; false, "refused"),
+    }
+}
+
+#[test]
+fn numbers_of_128_bits(rt: HostRuntime) {
+    is_kept_in_128_bits::<u8>(&rt, 255);
+    is_kept_in_128_bits::<i8>(&rt, -128);
+    is_kept_in_128_bits::<u64>(&rt, 18446744073709551615);
+    is_kept_in_128_bits::<u128>(&rt, i128::MAX);
+    is_kept_in_128_bits::<i128>(&rt, i128::MIN);
+    is_kept_in_128_bits::<Integer>(&rt, i128::MIN);
+    assert!(rt; <u8 as IntegerType>::from_i128(256).is_none());
+    assert!(rt; <u8 as IntegerType>::from_i128(-1).is_none());
+    assert!(rt; <i8 as IntegerType>::from_i128(128).is_none());
+    assert!(rt; <u128 as IntegerType>::from_i128(-1).is_none());
+    assert_eq!(rt; IntegerType::to_i128(&u128::MAX), None);
+    assert_eq!(rt; IntegerType::to_i128(&Integer::from(u128::MAX)), None);
+}
