@@ -126,6 +126,13 @@ next_digits bs rest few v h =
     ∙ append_assoc bs (binary few (v / 2 ^ rest)) (binary rest v)
     ∙ ap (λ l. bs ++ l) (sym (binary_split few rest v))
 
+-- a number's low digits, masked off
+pub masked : (old : List Bool) (w v : ℕ) → w ≤ 8 → old ++ binary w (bit_and v (1 * 2 ^ w % 2 ^ 128 - 1)) ≡ old ++ binary w v
+masked old w v h =
+    ap (λ x. old ++ binary w (bit_and v (x - 1))) (one_shl w 128 (omega arith))
+    ∙ ap (λ x. old ++ binary w x) (and_mask v w)
+    ∙ ap (λ l. old ++ l) (binary_low w v)
+
 pub kept_filled : (len : ℕ) (os : List ℕ) (v : List Bool) → IsKept len os → take len (octet_bits os) ≡ v → octet_bits os ≡ filled_up v
 kept_filled len os v k e = kept_bits len os v k e ∙ ap (λ n. v ++ replicate (missing n) false) (sym (kept_length len os v k e))
 

@@ -11,6 +11,9 @@ use std::marker::Model;
 // How many octets are shifted at a time.
 const BLOCK: usize = 512;
 
+// One more than the largest number of 64 bits.
+const WORD: u128 = 0x1_0000_0000_0000_0000;
+
 /// A list of bits that grows at its end. Between two calls all of them stand in octets, the first bit highest, and the bits past
 /// the last one are zero.
 #[derive(Drop)]
@@ -158,6 +161,18 @@ impl BitBuffer {
         ensures ok { OnOk result (self.new ≡ self.old ++ binary width value) }
         ensures err { OnErr result (self.new ≡ self.old) }
     {
+        if width <= 8 {
+            return self.push_few((value & ((1 << width) - 1)) as u16, width);
+        }
+        self.push_many(value, width)
+    }
+
+    // Adds the low `width` bits of a number: first those that fill the last octet.
+    fn push_many(&mut self, value: u128, width: u32) -> Result<(), AllocError>
+        requires { width ≤ 128 }
+        ensures ok { OnOk result (self.new ≡ self.old ++ binary width value) }
+        ensures err { OnErr result (self.new ≡ self.old) }
+    {
         let before = self.len();
         let left = self.fill_octet(value, width)?;
         if left == 0 {
@@ -200,6 +215,24 @@ impl BitBuffer {
         Ok(width - few)
     }
 
+    // Adds the low `width` bits of a number, up to 64, behind whole octets.
+    fn push_word(&mut self, value: u128, width: u32) -> Result<(), AllocError>
+        requires narrow { width ≤ 64 }
+        requires some { 0 < width }
+        requires whole { length self.old % 8 ≡ 0 }
+        ensures ok { OnOk result (self.new ≡ self.old ++ binary width value) }
+        ensures err { OnErr result (self.new ≡ self.old) }
+    {
+        let Some(len) = self.len.checked_add(width as usize) else {
+            return Err(AllocError);
+        };
+        let octets = (((value % WORD) as u64) << (64 - width)).to_be_bytes();
+        let count = (width as usize + 7) / 8;
+        self.octets.extend_from_slice(&octets[..count])?;
+        self.len = len;
+        Ok(())
+    }
+
     // Adds the low `width` bits of a number behind whole octets.
     fn push_whole(&mut self, value: u128, width: u32) -> Result<(), AllocError>
         requires narrow { width ≤ 128 }
@@ -208,6 +241,9 @@ impl BitBuffer {
         ensures ok { OnOk result (self.new ≡ self.old ++ binary width value) }
         ensures err { OnErr result (self.new ≡ self.old) }
     {
+        if width <= 64 {
+            return self.push_word(value, width);
+        }
         let Some(len) = self.len.checked_add(width as usize) else {
             return Err(AllocError);
         };
