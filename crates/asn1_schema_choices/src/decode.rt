@@ -1,9 +1,10 @@
 //! How choices are read.
-ghost use Rattle.std.specs.Prelude.{◌≡◌, ◌+◌, OnOk, OnErr, IfOk, IfErr};
+ghost use Rattle.std.specs.Prelude.{◌≡◌, ◌+◌, Some, None, OnOk, OnErr, IfOk, IfErr};
 ghost use Rattle.asn1_schema_decode.specs.Reads.{Stopped, Reads, Unread, NoLevel};
 ghost use Rattle.asn1_schema_tags.specs.Tags.{tag_of};
 ghost use Rattle.asn1_schema_choices.specs.Tagged.{ReadsTagged, UnreadTagged};
-ghost use Rattle.asn1_schema_choices.specs.Chosen.{chosen_type, begins, asks, IsAmong};
+ghost use Rattle.asn1_schema_choices.specs.Chosen.{chosen_type, begins, asks, IsAmong, of_tag};
+ghost use Rattle.asn1_schema_variants.specs.declared.chosen.Chosen.{Chosen};
 
 use crate::alternatives::{Alternatives, Choice, alternative_of, tag_tables_of};
 use asn1_schema_constraints::Constraints;
@@ -41,6 +42,8 @@ pub trait DecodeChoice: Choice + Drop {
         ensures level { OnOk result (D.levels decoder.new ≡ D.levels decoder.old) }
         ensures only { IfErr result (UnreadTagged D.step Self.table (tag_of tag) (D.levels decoder.old) decoder.old) }
         ensures failed { IfErr result (Stopped D.has_failed decoder.new) }
+        ensures unknown { of_tag Self.table (tag_of tag) ≡ None → result ≡ Err DecodeError.InvalidTagVariantOnChoice }
+        ensures already { D.has_failed decoder.old → (c : Chosen) → of_tag Self.table (tag_of tag) ≡ Some c → result ≡ Err DecodeError.AlreadyFailed }
     {
         let Some(chosen) = alternative_of::<Self>(tag) else {
             return Err(decoder.refuse(DecodeError::InvalidTagVariantOnChoice));

@@ -143,6 +143,10 @@ impl<T: EqualByMeaning> EqualByMeaning for &T {
     ghost agrees = { λ x y. T.agrees x.now y.now };
 }
 
+impl<T: EqualByMeaning> EqualByMeaning for &[T] {
+    ghost agrees = { λ x y. lists_agree T.PartialEq.eq T.Described.meaning T.agrees x.now y.now };
+}
+
 impl EqualByMeaning for &str {
     ghost agrees = { λ x y. texts_agree x.now y.now };
 }

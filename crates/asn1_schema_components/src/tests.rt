@@ -42,6 +42,14 @@ fn markers_and_lent_values_are_compared(rt: HostRuntime) {
 }
 
 #[test]
+fn lent_lists_are_compared(rt: HostRuntime) {
+    let some: &[u8] = &[1, 2];
+    let more: &[u8] = &[1, 2, 3];
+    assert!(rt; mean_the_same(&some, &&more[..2]));
+    assert!(rt; !mean_the_same(&some, &more));
+}
+
+#[test]
 fn lent_and_held_values_are_compared(rt: HostRuntime) -> Result<(), Fail> {
     let lent = 7_u8;
     assert!(rt; mean_the_same(&Cow::Borrowed(&lent), &Cow::Owned(7_u8)));

@@ -1,5 +1,5 @@
 //! Encodings in ascending order.
-ghost use Rattle.std.specs.Prelude.{◌≡◌, ℕ, List, ltb, Some, OnOk};
+ghost use Rattle.std.specs.Prelude.{◌≡◌, ℕ, List, ltb, Some, MatchResult};
 ghost use Rattle.asn1_model.specs.Form.{ascending, stands_before};
 
 use std::alloc::AllocError;
@@ -26,7 +26,7 @@ impl Encoded for Vec<u8> {
 /// other, and one with which another begins stands before that. Those of the same octets stay as they stood. Takes
 /// memory for as many items, where they are more than 20 and out of order, and a refusal of it leaves them unmoved.
 pub fn put_in_order<T: Encoded>(items: &mut Vec<T>) -> Result<(), AllocError>
-    ensures { OnOk result (ascending (λ x. Some (T.encoding x)) (stands_before ltb) items.old.items ≡ Some items.new.items) }
+    ensures { MatchResult result (λ _. ascending (λ x. Some (T.encoding x)) (stands_before ltb) items.old.items ≡ Some items.new.items) (λ _. items.new.items ≡ items.old.items) }
 {
     items.sort_by(|a, b| a.octets().cmp(b.octets()))?;
     Ok(())

@@ -1,5 +1,5 @@
 //! Enumerations.
-ghost use Rattle.std.specs.Prelude.{◌≡◌, ℕ, ℤ, Bool, true, false, cond, List, length, map, ◌≤◌, MatchOption};
+ghost use Rattle.std.specs.Prelude.{◌≡◌, ℕ, ℤ, Bool, true, false, cond, List, length, map, min, ◌+◌, ◌≤◌, MatchOption};
 ghost use Rattle.asn1_model.specs.Schema.{enumerated};
 ghost use Rattle.asn1_model.specs.Tables.{item_place};
 ghost use Rattle.asn1_model.specs.Value.{item};
@@ -66,6 +66,15 @@ pub trait Enumerated: AsnType + Copy {
             Some(items) => items.len(),
             None => 0,
         }
+    }
+
+    /// How many items there are, those of the root and the added ones, and `usize::MAX` where there are more than that.
+    final fn complete_variance() -> usize
+    where
+        Self: Sized,
+        ensures { result ≡ min (length roots + cond extensible (length additions) 0) 18446744073709551615 }
+    {
+        Self::variance().saturating_add(Self::extended_variance())
     }
 
     /// Where the item stands: in the root or behind the mark of extensibility, and its place there, in the ascending order of the
