@@ -7,7 +7,7 @@ ghost use Rattle.oer_codec_calls.specs.Messages.{rules_of};
 use asn1_schema_constraints::Constraints;
 use asn1_schema_decode::Decode;
 use asn1_schema_faults::DecodeError;
-use oer_codec_decoder::Decoder;
+use oer_codec_decoder::{Decoder, DecoderOptions};
 use oer_codec_reading::EncodingRules;
 use std::alloc::Global;
 
@@ -42,7 +42,7 @@ pub fn decode_with_remainder<'input, T: Decode>(
     ensures ok { IfOk result (λ x. Tells (rules_of rules) T.schema (T.meaning x.0) input.now x.1.now) }
     ensures only { IfErr result (NoMessage (rules_of rules) T.schema input.now) }
 {
-    let mut decoder = Decoder::new(alloc, input, rules);
+    let mut decoder = Decoder::new(alloc, input, DecoderOptions { rules });
     let looked_at = decoder.remaining().len();
     let value = T::decode(alloc, &mut decoder)?;
     let taken = looked_at - decoder.remaining().len();
@@ -66,7 +66,7 @@ pub fn decode_with_constraints<T: Decode>(
     ensures ok { IfOk result (λ x. (rest : List ℕ) × Tells (rules_of rules) (T.under constraints.entry) (T.meaning x) input.now rest) }
     ensures only { IfErr result (λ error. IsLawful (T.under constraints.entry 128) → NoMessage (rules_of rules) (T.under constraints.entry) input.now error) }
 {
-    let mut decoder = Decoder::new(alloc, input, rules);
+    let mut decoder = Decoder::new(alloc, input, DecoderOptions { rules });
     let value = T::decode_with_constraints(alloc, &mut decoder, constraints)?;
     Ok(value)
 }

@@ -12,6 +12,7 @@ use crate::additions::read_additions;
 use crate::choices::read_choice;
 use crate::frames::{Frame, Scopes};
 use crate::members::read_members;
+use crate::options::DecoderOptions;
 use crate::preamble::read_preamble;
 use asn1_schema_bounds::Bounded;
 use asn1_schema_constraints::Constraints;
@@ -55,10 +56,11 @@ impl<'input> Model for Decoder<'input> {
 }
 
 impl<'input> Decoder<'input> {
-    /// A decoder of this input by these rules, within 128 nested levels. Of an input of 2 to 60 octets or more the first ones are looked
+    /// A decoder of this input by the rules of these options, within 128 nested levels. Of an input of 2 to 60 octets or more the first ones are looked
     /// at, fewer than so many.
-    pub fn new(alloc: Global, input: &'input [u8], rules: EncodingRules) -> Self
-        ensures { result ≡ record { octets = take (2 ^ 60 - 1) input.entry.now; scopes = []; levels = 128; most = 128; failed = false; rules = rules } }
+    #[inline(always)]
+    pub fn new(alloc: Global, input: &'input [u8], options: DecoderOptions) -> Self
+        ensures { result ≡ record { octets = take (2 ^ 60 - 1) input.entry.now; scopes = []; levels = 128; most = 128; failed = false; rules = options.rules } }
     {
         Decoder {
             cursor: Cursor::new(input),
@@ -66,11 +68,12 @@ impl<'input> Decoder<'input> {
             levels: 128,
             most: 128,
             failed: false,
-            rules,
+            rules: options.rules,
         }
     }
 
     /// The octets that are left.
+    #[inline(always)]
     pub fn remaining(&self) -> &'input [u8]
         ensures { result.now ≡ self.now.octets }
     {
@@ -87,6 +90,7 @@ impl<'input> Decoder<'input> {
     }
 
     // Goes on, unless the decoder has failed.
+    #[inline(always)]
     fn begin_record(&mut self) -> Result<(), DecodeError>
         ensures ok { OnOk result (IsReady self.old × (self.new ≡ self.old)) }
         ensures only { IfErr result (λ _. IsReady self.old → ⊥) }
@@ -100,6 +104,7 @@ impl<'input> Decoder<'input> {
     }
 
     // Opens a scope, and takes a level for it.
+    #[inline(always)]
     fn enter(&mut self, frame: Frame<'input>) -> Result<(), DecodeError>
         requires { 0 < self.old.levels }
         ensures levels { OnOk result (self.old.levels ≡ self.new.levels + 1) }
@@ -161,6 +166,7 @@ impl<'input> asn1_schema_decode::Decoder for Decoder<'input> {
         self.fail(error)
     }
 
+    #[inline(always)]
     fn decode_bool(&mut self, _tag: Tag) -> Result<bool, DecodeError> {
         self.begin_record()?;
         match read_boolean(&mut self.cursor, self.rules) {
@@ -169,6 +175,7 @@ impl<'input> asn1_schema_decode::Decoder for Decoder<'input> {
         }
     }
 
+    #[inline(always)]
     fn decode_null(&mut self, _tag: Tag) -> Result<(), DecodeError> {
         self.begin_record()?;
         match read_null(&mut self.cursor, self.rules) {
@@ -177,6 +184,7 @@ impl<'input> asn1_schema_decode::Decoder for Decoder<'input> {
         }
     }
 
+    #[inline(always)]
     fn decode_integer<I: IntegerType>(
         &mut self,
         alloc: Global,
@@ -218,6 +226,7 @@ impl<'input> asn1_schema_decode::Decoder for Decoder<'input> {
         }
     }
 
+    #[inline(always)]
     fn decode_octet_string(
         &mut self,
         _alloc: Global,
@@ -270,6 +279,7 @@ impl<'input> asn1_schema_decode::Decoder for Decoder<'input> {
         }
     }
 
+    #[inline(always)]
     fn begin_list(
         &mut self,
         _tag: Tag,
@@ -302,6 +312,7 @@ impl<'input> asn1_schema_decode::Decoder for Decoder<'input> {
         }
     }
 
+    #[inline(always)]
     fn get_further(&mut self) -> Result<bool, DecodeError> {
         self.begin_record()?;
         match self.scopes.next_member() {
@@ -310,6 +321,7 @@ impl<'input> asn1_schema_decode::Decoder for Decoder<'input> {
         }
     }
 
+    #[inline(always)]
     fn begin_sequence(
         &mut self,
         _tag: Tag,
@@ -353,6 +365,7 @@ impl<'input> asn1_schema_decode::Decoder for Decoder<'input> {
         }
     }
 
+    #[inline(always)]
     fn get_mark(&mut self) -> Result<bool, DecodeError> {
         self.begin_record()?;
         match self.scopes.next_mark() {
@@ -430,6 +443,7 @@ impl<'input> asn1_schema_decode::Decoder for Decoder<'input> {
         }
     }
 
+    #[inline(always)]
     fn end(&mut self) -> Result<(), DecodeError> {
         self.begin_record()?;
         if self.levels >= self.most {

@@ -12,6 +12,7 @@ use oer_codec_reading::{Cursor, EncodingRules};
 use oer_codec_reading_scopes::{leave_open_type, skip_additions};
 
 /// Goes on where nothing is still to come.
+#[inline(always)]
 fn at_end(is_at_end: bool) -> Result<(), DecodeError>
     ensures ok { OnOk result (is_at_end ≡ true) }
     ensures only { IfErr result (λ _. is_at_end ≡ false) }
@@ -23,6 +24,7 @@ fn at_end(is_at_end: bool) -> Result<(), DecodeError>
 }
 
 /// Passes over the unknown additions of a sequence, if none of the type is still to come.
+#[inline(never)]
 fn finish_additions<'input>(
     additions: Additions<'input>,
     cursor: &mut Cursor<'input>,
@@ -45,6 +47,7 @@ fn finish_additions<'input>(
 ///
 /// `SurplusOctets` if octets are left in an open type in the canonical rules, the errors of unknown additions that are passed over, and
 /// `NotValidCanonicalEncoding` if the calls do not come in the order of the records.
+#[inline(always)]
 pub(crate) fn finish<'input>(
     frame: Frame<'input>,
     cursor: &mut Cursor<'input>,

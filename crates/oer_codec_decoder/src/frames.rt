@@ -1,5 +1,5 @@
 //! Open scopes.
-ghost use Rattle.std.specs.Prelude.{◌≡◌, ◌∷◌, [], Some, OnOk, IfErr, IfSome, IfNone};
+ghost use Rattle.std.specs.Prelude.{◌≡◌, ◌<◌, ◌∷◌, [], length, take, Some, OnOk, IfErr, IfSome, IfNone};
 ghost use Rattle.oer_codec_fronts.specs.Takes.{AdditionEnds, Ends, NextMark, NextMember, components};
 ghost use Rattle.oer_codec_reading.specs.Fronts.{freedoms};
 ghost use Rattle.oer_codec_decoder.specs.Refusals.{NoAdditionEnd, NoEnd};
@@ -13,6 +13,19 @@ use oer_codec_reading::{Cursor, EncodingRules};
 use oer_codec_reading_scopes::leave_open_type;
 use std::alloc::{AllocError, Global};
 use std::marker::Model;
+
+/// The first bit.
+#[inline(always)]
+#[tactic(auto, using(crate::proofs::Finding::first_taken, crate::proofs::Finding::first_there))]
+fn first_bit(bits: &BitReader<'_>) -> bool
+    requires { 0 < length bits.now.bits }
+    ensures { take 1 bits.now.bits ≡ result ∷ [] }
+{
+    match bits.bits().get(0) {
+        Some(first) => first,
+        None => unreachable!(),
+    }
+}
 
 /// What has begun and has not ended.
 #[derive(Drop)]
@@ -49,6 +62,7 @@ impl<'input> Model for Scopes<'input> {
 
 impl<'input> Scopes<'input> {
     /// Nothing is open.
+    #[inline(always)]
     pub(crate) fn new(alloc: Global) -> Self
         ensures { result ≡ [] }
     {
@@ -59,6 +73,7 @@ impl<'input> Scopes<'input> {
     }
 
     /// Opens a scope inside all others.
+    #[inline(always)]
     pub(crate) fn open(&mut self, frame: Frame<'input>) -> Result<(), AllocError>
         ensures { OnOk result (self.new ≡ scope_of frame.entry ∷ self.old) }
     {
@@ -71,6 +86,7 @@ impl<'input> Scopes<'input> {
     }
 
     /// Puts a scope in the place of the innermost.
+    #[inline(always)]
     pub(crate) fn replace(&mut self, frame: Frame<'input>)
         ensures { (s : _) (k : _) → self.old ≡ s ∷ k → self.new ≡ scope_of frame.entry ∷ k }
     {
@@ -78,6 +94,7 @@ impl<'input> Scopes<'input> {
     }
 
     /// The bit of the mark of the innermost sequence, where all its presence bits are read.
+    #[inline(always)]
     pub(crate) fn mark(&self) -> Option<bool>
         ensures some { IfSome result (λ set. (k : _) × (self.now ≡ components (Some set) [] ∷ k)) }
         ensures none { IfNone result ((set : _) (k : _) → self.now ≡ components (Some set) [] ∷ k → ⊥) }
@@ -94,6 +111,7 @@ impl<'input> Scopes<'input> {
     }
 
     /// The next presence bit of the innermost sequence.
+    #[inline(always)]
     pub(crate) fn next_mark(&mut self) -> Option<bool>
         ensures some { IfSome result (λ present. (os : _) → NextMark present os self.old (os, self.new)) }
         ensures none { IfNone result ((present : _) (os : _) (b : _) → NextMark present os self.old b → ⊥) }
@@ -103,7 +121,7 @@ impl<'input> Scopes<'input> {
                 if presence.is_empty() {
                     return None;
                 }
-                let first = presence.first_bit();
+                let first = first_bit(presence);
                 let _first = presence.split(1);
                 Some(first)
             }
@@ -112,6 +130,7 @@ impl<'input> Scopes<'input> {
     }
 
     /// Whether the next addition of the innermost sequence is there.
+    #[inline(always)]
     pub(crate) fn next_addition(&mut self) -> Option<bool>
         ensures some { IfSome result (λ present. NextPresent present self.old self.new) }
         ensures none { IfNone result ((present : _) (after : _) → NextPresent present self.old after → ⊥) }
@@ -123,6 +142,7 @@ impl<'input> Scopes<'input> {
     }
 
     /// Whether a member of the innermost list is still to come.
+    #[inline(always)]
     pub(crate) fn next_member(&mut self) -> Option<bool>
         ensures some { IfSome result (λ more. (os : _) → NextMember more os self.old (os, self.new)) }
         ensures none { IfNone result ((more : _) (os : _) (b : _) → NextMember more os self.old b → ⊥) }
@@ -140,6 +160,7 @@ impl<'input> Scopes<'input> {
     }
 
     /// Closes the innermost scope, if nothing of it is still to come.
+    #[inline(always)]
     pub(crate) fn close(
         &mut self,
         cursor: &mut Cursor<'input>,

@@ -7,9 +7,11 @@ pub mod decoder;
 mod endings;
 mod frames;
 mod members;
+mod options;
 mod preamble;
 
 pub use decoder::Decoder;
+pub use options::DecoderOptions;
 
 #[cfg(test)]
 mod tests;

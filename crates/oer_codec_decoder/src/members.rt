@@ -12,6 +12,7 @@ use oer_codec_reading::numbers::read_count;
 use oer_codec_reading::{Cursor, EncodingRules};
 
 /// The greatest number of members that a type of the program with these bounds holds.
+#[inline(always)]
 fn most_members(held: Bounded<usize>) -> usize
     ensures { (members_of held).high ≡ Some result }
 {
@@ -26,6 +27,7 @@ fn most_members(held: Bounded<usize>) -> usize
 /// # Errors
 ///
 /// `SizeConstraintNotSatisfied` if the program's type does not hold so many, and the errors of a number and its length.
+#[inline(always)]
 pub(crate) fn read_members<'input>(
     cursor: &mut Cursor<'input>,
     rules: EncodingRules,

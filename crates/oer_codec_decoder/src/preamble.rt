@@ -11,6 +11,7 @@ use oer_codec_reading::Cursor;
 use oer_codec_reading_scopes::are_zero;
 
 /// How many octets the preamble has, whose bits fill whole octets.
+#[inline(always)]
 fn preamble_len(extensible: bool, optional: usize) -> usize
     ensures { result * 8 ≡ (cond extensible 1 0 + optional) + missing (cond extensible 1 0 + optional) }
 {
@@ -18,6 +19,7 @@ fn preamble_len(extensible: bool, optional: usize) -> usize
 }
 
 /// Takes off the bit of the mark, if there is one, and the presence bits.
+#[inline(always)]
 fn take_presence<'input>(
     bits: &mut BitReader<'input>,
     extensible: bool,
@@ -45,6 +47,7 @@ fn take_presence<'input>(
 /// # Errors
 ///
 /// `Incomplete` if the octets end early, and `InvalidPreamble` if one of the bits that fill an octet is set.
+#[inline(always)]
 pub(crate) fn read_preamble<'input>(
     cursor: &mut Cursor<'input>,
     extensible: bool,

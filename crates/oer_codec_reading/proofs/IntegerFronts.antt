@@ -189,15 +189,13 @@ module _ (free : Freedom → Bool) where
   same_form c sign width v w rest e f s = subst (λ t. Stands free (number_in t (width_under (bounds_of c)) v) w rest) e (subst (λ o. Stands free (number_in sign o v) w rest) f s)
 
   pub value_read : {X : Type 0} (r : Result X DecodeError) (value : X → ℤ) (c : Option (Extensible Constraint.Value)) (h : Range) (sign : Bool) (width : Option ℕ) (v : ℤ) (w rest : List ℕ) → sign ≡ sign_under (bounds_of c) → width ≡ width_under (bounds_of c)
-      → IfOk r (λ x. value x ≡ v) → OnOk r (is_within h v ≡ true) → admits_whole c v ≡ true → Stands free (number_in sign width v) w rest → IfOk r (λ x. Front free (integer (bounds_of c) (held_of c h)) (number (value x)) w rest)
+      → IfOk r (λ x. value x ≡ v) → OnOk r (is_within h v ≡ true) → OnOk r (admits_whole c v ≡ true) → Stands free (number_in sign width v) w rest → IfOk r (λ x. Front free (integer (bounds_of c) (held_of c h)) (number (value x)) w rest)
   value_read (Ok x) value c h sign width v w rest e f n i a s = subst (λ z. Front free (integer (bounds_of c) (held_of c h)) (number z) w rest) (sym n) (integer_read c h v w rest a i (same_form c sign width v w rest e f s))
   value_read (Err e) value c h sign width v w rest d f n i a s = tt
 
   pub value_refused : {X : Type 0} (r : Result X DecodeError) (c : Option (Extensible Constraint.Value)) (h : Range) (sign : Bool) (width : Option ℕ) (v : ℤ) (w rest : List ℕ) → sign ≡ sign_under (bounds_of c) → width ≡ width_under (bounds_of c)
-      → IfErr r (λ e. (e ≡ OutOfMemory) ⊎ (is_within h v ≡ false)) → Stands free (number_in sign width v) w rest → IfErr r (NoFront free (integer (bounds_of c) (held_of c h)) w)
+      → IfErr r (λ e. (e ≡ OutOfMemory) ⊎ ((admits_whole c v ≡ false) ⊎ (is_within h v ≡ false))) → Stands free (number_in sign width v) w rest → IfErr r (NoFront free (integer (bounds_of c) (held_of c h)) w)
   value_refused (Ok x) c h sign width v w rest e f n s = tt
   value_refused (Err x) c h sign width v w rest e f (inl m) s = subst (NoFront free (integer (bounds_of c) (held_of c h)) w) (sym m) tt
-  value_refused (Err x) c h sign width v w rest e f (inr m) s = none_misses free (form (integer (bounds_of c) (held_of c h))) w x (not_held c h v w rest m (same_form c sign width v w rest e f s))
-
-  pub value_outside : (c : Option (Extensible Constraint.Value)) (h : Range) (sign : Bool) (width : Option ℕ) (v : ℤ) (w mid : List ℕ) → sign ≡ sign_under (bounds_of c) → width ≡ width_under (bounds_of c) → admits_whole c v ≡ false → Stands free (number_in sign width v) w mid → NoneStands free (form (integer (bounds_of c) (held_of c h))) w
-  value_outside c h sign width v w mid e f a s = not_admitted c h v w mid a (same_form c sign width v w mid e f s)
+  value_refused (Err x) c h sign width v w rest e f (inr (inl m)) s = none_misses free (form (integer (bounds_of c) (held_of c h))) w x (not_admitted c h v w rest m (same_form c sign width v w rest e f s))
+  value_refused (Err x) c h sign width v w rest e f (inr (inr m)) s = none_misses free (form (integer (bounds_of c) (held_of c h))) w x (not_held c h v w rest m (same_form c sign width v w rest e f s))

@@ -4,6 +4,8 @@ pub mod Truths
 pub mod LengthFronts
 pub mod SizedFronts
 pub mod WholeFronts
+pub mod Rooms
+pub mod Spans
 pub mod IntegerFronts
 pub mod BitFronts
 pub mod BitStringFronts

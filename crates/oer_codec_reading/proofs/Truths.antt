@@ -49,6 +49,12 @@ true_stands free o os new e z = some_truth free o os new e (omega arith) (omega 
 pub other_stands : (r : EncodingRules) (o : ℕ) (os new : List ℕ) → os ≡ o ∷ new → (o ≡ 0 → ⊥) → o < 256 → is_basic r ≡ true → Front (freedoms r) boolean (truth true) os new
 other_stands r o os new e z m b = some_truth (freedoms r) o os new e (omega arith) m (inr (any_truth_is_basic r ∙ b))
 
+pub truth_stands : (r : EncodingRules) (b : Bool) (o : ℕ) (os new : List ℕ) → os ≡ o ∷ new → o < 256 → (b ≡ true → o ≡ 0 → ⊥) → (b ≡ false → o ≡ 0) → (o ≡ 0) ⊎ ((o ≡ 255) ⊎ (is_basic r ≡ true)) → Front (freedoms r) boolean (truth b) os new
+truth_stands r false o os new e m y n t = false_stands (freedoms r) o os new e (n refl)
+truth_stands r true o os new e m y n (inl z) = absurd (y refl z)
+truth_stands r true o os new e m y n (inr (inl f)) = true_stands (freedoms r) o os new e f
+truth_stands r true o os new e m y n (inr (inr b)) = other_stands r o os new e (y refl) m b
+
 pub nothing_stands : (free : Freedom → Bool) (os : List ℕ) → Front free null nothing os os
 unfolding form
 nothing_stands free os = exactly_stands free [] os os refl

@@ -27,6 +27,7 @@ impl<'input> Model for Cursor<'input> {
 
 impl<'input> Cursor<'input> {
     /// Before these octets: an encoding has fewer than 2^60, and of more of them the first 2^60 - 1 alone are read.
+    #[inline(always)]
     pub fn new(input: &'input [u8]) -> Self
         ensures { result ≡ take (2 ^ 60 - 1) input.entry.now }
     {
@@ -37,6 +38,7 @@ impl<'input> Cursor<'input> {
     }
 
     /// The unread octets.
+    #[inline(always)]
     pub fn remaining(&self) -> &'input [u8]
         ensures { result.now ≡ self.now }
     {
@@ -44,6 +46,7 @@ impl<'input> Cursor<'input> {
     }
 
     /// How many octets are unread.
+    #[inline(always)]
     pub fn len(&self) -> usize
         ensures count { result ≡ length self.now }
         ensures few { result < 2 ^ 60 }
@@ -52,6 +55,7 @@ impl<'input> Cursor<'input> {
     }
 
     /// Whether all octets are read.
+    #[inline(always)]
     pub fn is_empty(&self) -> bool
         ensures { IsTrue result ↔ (self.now ≡ []) }
     {
@@ -63,6 +67,7 @@ impl<'input> Cursor<'input> {
     /// # Errors
     ///
     /// `Incomplete` if there is none.
+    #[inline(always)]
     pub fn take_octet(&mut self) -> Result<u8, DecodeError>
         ensures octet { IfOk result (λ octet. (self.old ≡ octet ∷ self.new) × (octet < 256)) }
         ensures none { IfErr result (λ e. (e ≡ DecodeError.Incomplete) × (self.old ≡ [])) }
@@ -81,6 +86,7 @@ impl<'input> Cursor<'input> {
     /// # Errors
     ///
     /// `Incomplete` if there are fewer.
+    #[inline(always)]
     pub fn take(&mut self, count: usize) -> Result<&'input [u8], DecodeError>
         ensures octets { IfOk result (λ octets. octets.now ++ self.new ≡ self.old) }
         ensures count { IfOk result (λ octets. length octets.now ≡ count) }

@@ -8,7 +8,9 @@ ghost use Rattle.asn1_values_natives.specs.Octets.{own_number};
 ghost use Rattle.oer_codec_reading.specs.Fronts.{freedoms, Front, NoFront};
 ghost use Rattle.oer_codec_reading.specs.Whole.{admits_whole, sign_under, wide_range, width_under};
 
+use crate::magnitudes::short_number;
 use crate::numbers::read_number;
+use crate::widths::form_within;
 use crate::{Cursor, EncodingRules};
 use asn1_schema_constraints::Constraints;
 use asn1_schema_faults::DecodeError;
@@ -18,6 +20,7 @@ use asn1_values_numbers::IntegerError;
 use std::alloc::Global;
 
 /// The form of numbers under a value constraint (X.696 10): whether they have a sign, and in how many octets they stand, if that is fixed.
+#[inline(always)]
 fn form_under(constraints: Constraints) -> (bool, Option<usize>)
     ensures sign { result.0 ≡ sign_under (bounds_of constraints.entry.value) }
     ensures width { result.1 ≡ width_under (bounds_of constraints.entry.value) }
@@ -29,15 +32,24 @@ fn form_under(constraints: Constraints) -> (bool, Option<usize>)
     if constraint.extensible.is_some() {
         return (true, None);
     }
-    let (signed, width) = constraint.constraint.value.range_in_bytes();
-    match width {
-        Some(count) => (signed, Some(count as usize)),
-        None => (signed, None),
-    }
+    form_within(&constraint.constraint.value)
 }
 
 /// The number that octets are, with a sign or without, if 128 bits of two's complement hold it.
+#[inline(always)]
 fn whole_number(signed: bool, octets: &[u8]) -> Option<i128>
+    ensures value { IfSome result (λ z. z ≡ own_number signed octets.now) }
+    ensures fits { is_some result ≡ is_within wide_range (own_number signed octets.now) }
+{
+    if octets.len() <= 8 {
+        return Some(short_number(signed, octets));
+    }
+    long_number(signed, octets)
+}
+
+/// The same of octets of any number.
+#[inline(never)]
+fn long_number(signed: bool, octets: &[u8]) -> Option<i128>
     ensures value { IfSome result (λ z. z ≡ own_number signed octets.now) }
     ensures fits { is_some result ≡ is_within wide_range (own_number signed octets.now) }
 {
@@ -47,19 +59,15 @@ fn whole_number(signed: bool, octets: &[u8]) -> Option<i128>
     Wide::from_unsigned_octets(octets)?.to_whole(i128::MAX)
 }
 
-/// Whether a value constraint, where there is one, admits the number that octets are: one of 128 bits, within bounds that have no mark.
-fn is_admitted(constraints: Constraints, signed: bool, octets: &[u8]) -> bool
-    ensures { result ≡ admits_whole constraints.entry.value (own_number signed octets.now) }
+/// Whether a value constraint, where there is one, admits a number of 128 bits: one within its bounds, if they have no mark.
+#[inline(always)]
+fn is_admitted(constraints: Constraints, number: i128) -> bool
+    ensures { result ≡ admits_whole constraints.entry.value number }
 {
     let Some(constraint) = constraints.value else {
         return true;
     };
-    match whole_number(signed, octets) {
-        Some(number) => {
-            constraint.extensible.is_some() || constraint.constraint.value.contains(&number)
-        }
-        None => false,
-    }
+    constraint.extensible.is_some() || constraint.constraint.value.contains(&number)
 }
 
 /// The number that octets are, in a type of the program, if that holds it.
@@ -91,6 +99,53 @@ fn fault_of(error: IntegerError) -> DecodeError
     }
 }
 
+/// A number that 128 bits do not hold, in a type of the program: no value constraint admits it.
+#[inline(never)]
+fn value_past<I: IntegerType>(
+    alloc: Global,
+    constraints: Constraints,
+    signed: bool,
+    octets: &[u8],
+) -> Result<I, DecodeError>
+    requires past { is_within wide_range (own_number signed octets.now) ≡ false }
+    requires some { 0 < length octets.now }
+    ensures value { IfOk result (λ x. I.value x ≡ own_number signed octets.now) }
+    ensures admitted { OnOk result (admits_whole constraints.entry.value (own_number signed octets.now) ≡ true) }
+    ensures held { OnOk result (is_within I.held (own_number signed octets.now) ≡ true) }
+    ensures refused { IfErr result (λ e. (e ≡ DecodeError.OutOfMemory) ⊎ ((admits_whole constraints.entry.value (own_number signed octets.now) ≡ false) ⊎ (is_within I.held (own_number signed octets.now) ≡ false))) }
+{
+    if constraints.value.is_some() {
+        return Err(DecodeError::ValueConstraintNotSatisfied);
+    }
+    value_of(alloc, signed, octets)
+}
+
+/// The number that octets are, in a type of the program, if a value constraint, where there is one, admits it and the type holds it.
+#[inline(always)]
+fn admitted_value<I: IntegerType>(
+    alloc: Global,
+    constraints: Constraints,
+    signed: bool,
+    octets: &[u8],
+) -> Result<I, DecodeError>
+    requires { 0 < length octets.now }
+    ensures value { IfOk result (λ x. I.value x ≡ own_number signed octets.now) }
+    ensures admitted { OnOk result (admits_whole constraints.entry.value (own_number signed octets.now) ≡ true) }
+    ensures held { OnOk result (is_within I.held (own_number signed octets.now) ≡ true) }
+    ensures refused { IfErr result (λ e. (e ≡ DecodeError.OutOfMemory) ⊎ ((admits_whole constraints.entry.value (own_number signed octets.now) ≡ false) ⊎ (is_within I.held (own_number signed octets.now) ≡ false))) }
+{
+    let Some(number) = whole_number(signed, octets) else {
+        return value_past(alloc, constraints, signed, octets);
+    };
+    if !is_admitted(constraints, number) {
+        return Err(DecodeError::ValueConstraintNotSatisfied);
+    }
+    match I::from_i128(number) {
+        Some(value) => Ok(value),
+        None => Err(DecodeError::IntegerOverflow),
+    }
+}
+
 /// Reads a whole number (X.696 10) under a value constraint, in a type of the program.
 ///
 /// # Errors
@@ -98,6 +153,7 @@ fn fault_of(error: IntegerError) -> DecodeError
 /// `Incomplete` if the octets end early, `ZeroLengthOfLength` if there are none, `NotValidCanonicalEncoding` if there is one more than needed
 /// in the canonical rules, `ValueConstraintNotSatisfied` if the constraint does not admit the number, `IntegerOverflow` if the program's
 /// type does not hold it, the errors of a length, and `OutOfMemory`.
+#[inline(always)]
 pub fn read_integer<I: IntegerType>(
     alloc: Global,
     cursor: &mut Cursor<'_>,
@@ -109,8 +165,5 @@ pub fn read_integer<I: IntegerType>(
 {
     let (signed, width) = form_under(constraints);
     let octets = read_number(cursor, rules, signed, width)?;
-    if !is_admitted(constraints, signed, octets) {
-        return Err(DecodeError::ValueConstraintNotSatisfied);
-    }
-    value_of(alloc, signed, octets)
+    admitted_value(alloc, constraints, signed, octets)
 }

@@ -5,6 +5,7 @@ ghost use Rattle.asn1_model.specs.Oer.{counted, length_form};
 ghost use Rattle.asn1_values_natives.specs.Octets.{unsigned_number};
 ghost use Rattle.oer_codec_reading.specs.Fronts.{freedoms, is_basic, Misses, Stands};
 
+use crate::magnitudes::short_magnitude;
 use crate::{Cursor, EncodingRules};
 use asn1_schema_faults::DecodeError;
 use asn1_values_natives::Wide;
@@ -18,6 +19,7 @@ fn octet_width(number: usize) -> usize
 }
 
 /// Whether a length in so many octets behind their number is read: in the canonical rules only if they are the fewest (X.696 8.6.5).
+#[inline(always)]
 fn is_taken(rules: EncodingRules, length: usize, count: usize) -> bool
     ensures { result ≡ (is_basic rules || (leb 128 length && (Numbers.octet_width length == count))) }
 {
@@ -25,17 +27,22 @@ fn is_taken(rules: EncodingRules, length: usize, count: usize) -> bool
 }
 
 /// The number that octets are, the highest first, if 64 bits hold it.
+#[inline(always)]
 pub fn number_of(octets: &[u8]) -> Option<usize>
     ensures number { IfSome result (λ n. n ≡ unsigned_number octets.now) }
     ensures fits { IfSome result (λ n. n < 2 ^ 64) }
     ensures none { IfNone result (2 ^ 64 ≤ unsigned_number octets.now) }
 {
+    if octets.len() <= 8 {
+        return Some(short_magnitude(false, octets) as usize);
+    }
     let wide = Wide::from_unsigned_octets(octets)?;
     let number = wide.to_natural(usize::MAX as u128)?;
     Some(number as usize)
 }
 
 /// Reads a length in so many octets, behind the octet that tells how many they are (X.696 8.6.5).
+#[inline(never)]
 fn read_long_length(
     cursor: &mut Cursor<'_>,
     rules: EncodingRules,
@@ -62,6 +69,7 @@ fn read_long_length(
 ///
 /// `Incomplete` if the octets end early, `ZeroLengthOfLength` if there are none behind their number, `LengthExceedsPlatformWidth` if 64 bits
 /// do not hold the length, and `NotValidCanonicalEncoding` if it has a shorter form in the canonical rules.
+#[inline(always)]
 pub fn read_length(cursor: &mut Cursor<'_>, rules: EncodingRules) -> Result<usize, DecodeError>
     ensures ok { IfOk result (λ n. Stands (freedoms rules) (length_form n) cursor.old cursor.new) }
     ensures only { IfErr result (Misses (freedoms rules) length_form cursor.old) }
@@ -81,6 +89,7 @@ pub fn read_length(cursor: &mut Cursor<'_>, rules: EncodingRules) -> Result<usiz
 /// # Errors
 ///
 /// Those of [`read_length`], and `Incomplete` if the octets end early.
+#[inline(always)]
 pub fn read_counted<'input>(
     cursor: &mut Cursor<'input>,
     rules: EncodingRules,

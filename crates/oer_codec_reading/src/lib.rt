@@ -10,11 +10,13 @@ pub mod cursor;
 pub mod identifiers;
 pub mod integers;
 pub mod lengths;
+pub mod magnitudes;
 pub mod numbers;
 pub mod octet_strings;
 pub mod rules;
 pub mod sizes;
 pub mod units;
+pub mod widths;
 
 pub use cursor::Cursor;
 pub use rules::EncodingRules;

@@ -12,6 +12,7 @@ use asn1_schema_faults::DecodeError;
 use asn1_values_natives::octets::has_padding;
 
 /// Whether the first octet of a number could be left out (X.690 8.3.2).
+#[inline(always)]
 fn has_spare_octet(signed: bool, octets: &[u8]) -> bool
     ensures { result ≡ has_spare signed octets.now }
 {
@@ -25,6 +26,7 @@ fn has_spare_octet(signed: bool, octets: &[u8]) -> bool
 }
 
 /// Whether a number in these octets is read: in the canonical rules only if none of them could be left out, unless their number is fixed.
+#[inline(always)]
 fn is_taken(rules: EncodingRules, signed: bool, width: Option<usize>, octets: &[u8]) -> bool
     ensures { result ≡ (is_some width || is_basic rules || not (has_spare signed octets.now)) }
 {
@@ -37,6 +39,7 @@ fn is_taken(rules: EncodingRules, signed: bool, width: Option<usize>, octets: &[
 ///
 /// `Incomplete` if the octets end early, `ZeroLengthOfLength` if there are none, `NotValidCanonicalEncoding` if there is one more than needed
 /// in the canonical rules, and the errors of a length.
+#[inline(always)]
 pub fn read_number<'input>(
     cursor: &mut Cursor<'input>,
     rules: EncodingRules,
@@ -63,6 +66,7 @@ pub fn read_number<'input>(
 /// # Errors
 ///
 /// Those of [`read_number`], and `LengthExceedsPlatformWidth` if 64 bits do not hold the count.
+#[inline]
 pub fn read_count(cursor: &mut Cursor<'_>, rules: EncodingRules) -> Result<usize, DecodeError>
     ensures ok { IfOk result (λ n. Stands (freedoms rules) (unsigned n) cursor.old cursor.new) }
     ensures only { IfErr result (Misses (freedoms rules) count_in cursor.old) }

@@ -19,6 +19,7 @@ use asn1_schema_faults::DecodeError;
 /// # Errors
 ///
 /// `Incomplete` if the octets end early, and those of [`read_counted`].
+#[inline(always)]
 pub fn read_sized<'input>(
     cursor: &mut Cursor<'input>,
     rules: EncodingRules,
@@ -45,6 +46,7 @@ pub fn read_sized<'input>(
 ///
 /// `SizeConstraintNotSatisfied` if the size or the program's type does not admit as many, `Incomplete` if they end early, and the errors of
 /// a length.
+#[inline(always)]
 pub fn read_octet_string<'input>(
     cursor: &mut Cursor<'input>,
     rules: EncodingRules,

@@ -13,6 +13,7 @@ pub enum EncodingRules {
 
 impl EncodingRules {
     /// Whether these are the basic rules.
+    #[inline(always)]
     pub fn is_oer(self) -> bool
         ensures { result ≡ is_basic self }
     {
@@ -23,6 +24,7 @@ impl EncodingRules {
     }
 
     /// Whether these are the canonical rules.
+    #[inline(always)]
     pub fn is_coer(self) -> bool
         ensures { result ≡ not (is_basic self) }
     {

@@ -9,6 +9,7 @@ use asn1_schema_bounds::Bounded;
 use asn1_schema_constraints::Constraints;
 
 /// The one size, if there is one and no mark of extensibility follows it: such a string has no length (X.696 13, 14 and 27).
+#[inline(always)]
 pub fn fixed_size(constraints: Constraints) -> Option<usize>
     ensures { result ≡ one_size (sizes_of constraints.entry.size) }
 {
@@ -20,6 +21,7 @@ pub fn fixed_size(constraints: Constraints) -> Option<usize>
 }
 
 /// Whether the program's type holds so many, and the size admits them, if no mark of extensibility follows it.
+#[inline(always)]
 pub fn is_admitted(constraints: Constraints, held: Bounded<usize>, count: usize) -> bool
     ensures { result ≡ admits (sizes_of constraints.entry.size) (counts_of held) count }
 {

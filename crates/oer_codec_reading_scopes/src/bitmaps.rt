@@ -11,6 +11,7 @@ use oer_codec_reading::lengths::read_length;
 use oer_codec_reading::{Cursor, EncodingRules};
 
 /// Whether no bit is set.
+#[inline(always)]
 pub fn are_zero(bits: &BitReader<'_>) -> bool
     requires { length bits.now.bits < 8 }
     ensures { IsTrue result ↔ (bits.now.bits ≡ replicate (length bits.now.bits) false) }

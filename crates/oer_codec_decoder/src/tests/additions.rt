@@ -1,18 +1,17 @@
 //! Additions, known and unknown.
-use crate::Decoder;
+use crate::{Decoder, DecoderOptions};
 use asn1_schema_decode::Decoder as Finding;
 use asn1_schema_faults::DecodeError;
 use asn1_schema_tags::Tag;
-use oer_codec_reading::EncodingRules;
 use std::alloc::Global;
 
 /// What is read of SEQUENCE {BOOLEAN, ..., BOOLEAN OPTIONAL}: the value of the addition, if it is there.
 fn addition(
     alloc: Global,
     input: &[u8],
-    rules: EncodingRules,
+    options: DecoderOptions,
 ) -> Result<Option<bool>, DecodeError> {
-    let mut decoder = Decoder::new(alloc, input, rules);
+    let mut decoder = Decoder::new(alloc, input, options);
     decoder.begin_sequence(Tag::SEQUENCE, true, 0)?;
     decoder.decode_bool(Tag::BOOL)?;
     decoder.begin_additions(1)?;
@@ -29,7 +28,7 @@ fn addition(
 fn an_addition_is_an_open_type(rt: HostRuntime) {
     let input = [0x80, 0xFF, 0x02, 0x07, 0x80, 0x01, 0xFF];
     assert_eq!(rt;
-        addition(rt.alloc(), &input, EncodingRules::Coer),
+        addition(rt.alloc(), &input, DecoderOptions::coer()),
         Ok(Some(true))
     );
 }
@@ -37,7 +36,7 @@ fn an_addition_is_an_open_type(rt: HostRuntime) {
 #[test]
 fn without_the_mark_no_addition_is_there(rt: HostRuntime) {
     assert_eq!(rt;
-        addition(rt.alloc(), &[0x00, 0xFF], EncodingRules::Coer),
+        addition(rt.alloc(), &[0x00, 0xFF], DecoderOptions::coer()),
         Ok(None)
     );
 }
@@ -45,19 +44,25 @@ fn without_the_mark_no_addition_is_there(rt: HostRuntime) {
 #[test]
 fn a_bitmap_has_no_bit_set(rt: HostRuntime) {
     let input = [0x80, 0xFF, 0x02, 0x07, 0x00];
-    assert_eq!(rt; addition(rt.alloc(), &input, EncodingRules::Coer), Ok(None));
+    assert_eq!(rt;
+        addition(rt.alloc(), &input, DecoderOptions::coer()),
+        Ok(None)
+    );
 }
 
 #[test]
 fn a_bitmap_has_no_bits(rt: HostRuntime) {
     let input = [0x80, 0xFF, 0x01, 0x00];
-    assert_eq!(rt; addition(rt.alloc(), &input, EncodingRules::Coer), Ok(None));
+    assert_eq!(rt;
+        addition(rt.alloc(), &input, DecoderOptions::coer()),
+        Ok(None)
+    );
 }
 
 #[test]
 fn a_bitmap_has_octets(rt: HostRuntime) {
     assert_eq!(rt;
-        addition(rt.alloc(), &[0x80, 0xFF, 0x00], EncodingRules::Oer),
+        addition(rt.alloc(), &[0x80, 0xFF, 0x00], DecoderOptions::oer()),
         Err(DecodeError::InvalidExtensionHeader)
     );
 }
@@ -66,7 +71,7 @@ fn a_bitmap_has_octets(rt: HostRuntime) {
 fn a_bitmap_has_at_most_seven_unused_bits(rt: HostRuntime) {
     let input = [0x80, 0xFF, 0x02, 0x08, 0x80, 0x01, 0xFF];
     assert_eq!(rt;
-        addition(rt.alloc(), &input, EncodingRules::Coer),
+        addition(rt.alloc(), &input, DecoderOptions::coer()),
         Err(DecodeError::InvalidExtensionHeader)
     );
 }
@@ -81,7 +86,7 @@ fn a_wide_bitmap_is_taken(rt: HostRuntime) {
     input[36] = 0x01;
     input[37] = 0xFF;
     assert_eq!(rt;
-        addition(rt.alloc(), &input, EncodingRules::Coer),
+        addition(rt.alloc(), &input, DecoderOptions::coer()),
         Ok(Some(true))
     );
 }
@@ -90,7 +95,7 @@ fn a_wide_bitmap_is_taken(rt: HostRuntime) {
 fn unknown_additions_are_passed_over(rt: HostRuntime) {
     let input = [0x80, 0xFF, 0x02, 0x06, 0xC0, 0x01, 0xFF, 0x01, 0xAA];
     assert_eq!(rt;
-        addition(rt.alloc(), &input, EncodingRules::Coer),
+        addition(rt.alloc(), &input, DecoderOptions::coer()),
         Ok(Some(true))
     );
 }
@@ -99,7 +104,7 @@ fn unknown_additions_are_passed_over(rt: HostRuntime) {
 fn an_unknown_addition_ends_early(rt: HostRuntime) {
     let input = [0x80, 0xFF, 0x02, 0x06, 0xC0, 0x01, 0xFF, 0x01];
     assert_eq!(rt;
-        addition(rt.alloc(), &input, EncodingRules::Coer),
+        addition(rt.alloc(), &input, DecoderOptions::coer()),
         Err(DecodeError::Incomplete)
     );
 }
@@ -108,7 +113,7 @@ fn an_unknown_addition_ends_early(rt: HostRuntime) {
 fn unused_bits_of_a_bitmap_are_taken_in_the_basic_rules(rt: HostRuntime) {
     let input = [0x80, 0xFF, 0x02, 0x07, 0xFF, 0x01, 0xFF];
     assert_eq!(rt;
-        addition(rt.alloc(), &input, EncodingRules::Oer),
+        addition(rt.alloc(), &input, DecoderOptions::oer()),
         Ok(Some(true))
     );
 }
@@ -117,7 +122,7 @@ fn unused_bits_of_a_bitmap_are_taken_in_the_basic_rules(rt: HostRuntime) {
 fn unused_bits_of_a_bitmap_are_refused_in_the_canonical_rules(rt: HostRuntime) {
     let input = [0x80, 0xFF, 0x02, 0x07, 0xFF, 0x01, 0xFF];
     assert_eq!(rt;
-        addition(rt.alloc(), &input, EncodingRules::Coer),
+        addition(rt.alloc(), &input, DecoderOptions::coer()),
         Err(DecodeError::NotValidCanonicalEncoding)
     );
 }
@@ -126,7 +131,7 @@ fn unused_bits_of_a_bitmap_are_refused_in_the_canonical_rules(rt: HostRuntime) {
 fn octets_behind_an_addition_are_taken_in_the_basic_rules(rt: HostRuntime) {
     let input = [0x80, 0xFF, 0x02, 0x07, 0x80, 0x02, 0xFF, 0xAA];
     assert_eq!(rt;
-        addition(rt.alloc(), &input, EncodingRules::Oer),
+        addition(rt.alloc(), &input, DecoderOptions::oer()),
         Ok(Some(true))
     );
 }
@@ -135,7 +140,7 @@ fn octets_behind_an_addition_are_taken_in_the_basic_rules(rt: HostRuntime) {
 fn octets_behind_an_addition_are_refused_in_the_canonical_rules(rt: HostRuntime) {
     let input = [0x80, 0xFF, 0x02, 0x07, 0x80, 0x02, 0xFF, 0xAA];
     assert_eq!(rt;
-        addition(rt.alloc(), &input, EncodingRules::Coer),
+        addition(rt.alloc(), &input, DecoderOptions::coer()),
         Err(DecodeError::SurplusOctets)
     );
 }

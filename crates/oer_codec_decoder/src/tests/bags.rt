@@ -1,16 +1,15 @@
 //! Sets, bags and groups.
-use crate::Decoder;
+use crate::{Decoder, DecoderOptions};
 use asn1_schema_bounds::Bounded;
 use asn1_schema_constraints::Constraints;
 use asn1_schema_decode::Decoder as Finding;
 use asn1_schema_faults::DecodeError;
 use asn1_schema_tags::Tag;
-use oer_codec_reading::EncodingRules;
 use std::alloc::Global;
 
 /// The two members of SET OF BOOLEAN.
 fn members(alloc: Global, input: &[u8]) -> Result<(bool, bool), DecodeError> {
-    let mut decoder = Decoder::new(alloc, input, EncodingRules::Coer);
+    let mut decoder = Decoder::new(alloc, input, DecoderOptions::coer());
     decoder.begin_bag(Tag::SET, Constraints::NONE, Bounded::start_from(0))?;
     let mut found = (false, false);
     if decoder.get_further()? {
@@ -25,7 +24,7 @@ fn members(alloc: Global, input: &[u8]) -> Result<(bool, bool), DecodeError> {
 
 /// Whether the component of SET {BOOLEAN OPTIONAL} is there.
 fn component(alloc: Global, input: &[u8]) -> Result<bool, DecodeError> {
-    let mut decoder = Decoder::new(alloc, input, EncodingRules::Coer);
+    let mut decoder = Decoder::new(alloc, input, DecoderOptions::coer());
     decoder.begin_set(Tag::SET, false, 1)?;
     let present = decoder.get_mark()?;
     if present {
@@ -36,8 +35,8 @@ fn component(alloc: Global, input: &[u8]) -> Result<bool, DecodeError> {
 }
 
 /// What a group of one component that is absent is read as.
-fn empty_group(alloc: Global, rules: EncodingRules) -> Result<(), DecodeError> {
-    let mut decoder = Decoder::new(alloc, &[0x00], rules);
+fn empty_group(alloc: Global, options: DecoderOptions) -> Result<(), DecodeError> {
+    let mut decoder = Decoder::new(alloc, &[0x00], options);
     decoder.begin_group(1)?;
     decoder.get_mark()?;
     decoder.end()?;
@@ -59,13 +58,13 @@ fn a_component_of_a_set_is_there(rt: HostRuntime) {
 
 #[test]
 fn an_empty_group_is_taken_in_the_basic_rules(rt: HostRuntime) {
-    assert_eq!(rt; empty_group(rt.alloc(), EncodingRules::Oer), Ok(()));
+    assert_eq!(rt; empty_group(rt.alloc(), DecoderOptions::oer()), Ok(()));
 }
 
 #[test]
 fn an_empty_group_is_refused_in_the_canonical_rules(rt: HostRuntime) {
     assert_eq!(rt;
-        empty_group(rt.alloc(), EncodingRules::Coer),
+        empty_group(rt.alloc(), DecoderOptions::coer()),
         Err(DecodeError::NotValidCanonicalEncoding)
     );
 }

@@ -1,10 +1,9 @@
 //! Choices, and sets of them.
-use crate::Decoder;
+use crate::{Decoder, DecoderOptions};
 use asn1_schema_decode::Decoder as Finding;
 use asn1_schema_faults::DecodeError;
 use asn1_schema_tags::{Class, Tag};
 use asn1_schema_variants::Chosen;
-use oer_codec_reading::EncodingRules;
 use std::alloc::Global;
 
 /// A context-specific tag.
@@ -19,9 +18,9 @@ fn context(value: u32) -> Tag {
 fn chosen(
     alloc: Global,
     input: &[u8],
-    rules: EncodingRules,
+    options: DecoderOptions,
 ) -> Result<(Chosen, bool), DecodeError> {
-    let mut decoder = Decoder::new(alloc, input, rules);
+    let mut decoder = Decoder::new(alloc, input, options);
     let roots = [context(0), context(5)];
     let which = decoder.begin_choice(Tag::EOC, &roots, true, &[context(2)])?;
     let value = decoder.decode_bool(Tag::BOOL)?;
@@ -32,7 +31,7 @@ fn chosen(
 #[test]
 fn an_alternative_of_the_root_stands_behind_its_tag(rt: HostRuntime) {
     assert_eq!(rt;
-        chosen(rt.alloc(), &[0x85, 0xFF], EncodingRules::Coer),
+        chosen(rt.alloc(), &[0x85, 0xFF], DecoderOptions::coer()),
         Ok((Chosen::root(1), true))
     );
 }
@@ -40,7 +39,7 @@ fn an_alternative_of_the_root_stands_behind_its_tag(rt: HostRuntime) {
 #[test]
 fn an_added_alternative_is_an_open_type(rt: HostRuntime) {
     assert_eq!(rt;
-        chosen(rt.alloc(), &[0x82, 0x01, 0xFF], EncodingRules::Coer),
+        chosen(rt.alloc(), &[0x82, 0x01, 0xFF], DecoderOptions::coer()),
         Ok((Chosen::addition(0), true))
     );
 }
@@ -48,7 +47,7 @@ fn an_added_alternative_is_an_open_type(rt: HostRuntime) {
 #[test]
 fn octets_behind_an_added_alternative_are_taken_in_the_basic_rules(rt: HostRuntime) {
     assert_eq!(rt;
-        chosen(rt.alloc(), &[0x82, 0x02, 0xFF, 0xAA], EncodingRules::Oer),
+        chosen(rt.alloc(), &[0x82, 0x02, 0xFF, 0xAA], DecoderOptions::oer()),
         Ok((Chosen::addition(0), true))
     );
 }
@@ -56,7 +55,11 @@ fn octets_behind_an_added_alternative_are_taken_in_the_basic_rules(rt: HostRunti
 #[test]
 fn octets_behind_an_added_alternative_are_refused_in_the_canonical_rules(rt: HostRuntime) {
     assert_eq!(rt;
-        chosen(rt.alloc(), &[0x82, 0x02, 0xFF, 0xAA], EncodingRules::Coer),
+        chosen(
+            rt.alloc(),
+            &[0x82, 0x02, 0xFF, 0xAA],
+            DecoderOptions::coer()
+        ),
         Err(DecodeError::SurplusOctets)
     );
 }
@@ -64,7 +67,7 @@ fn octets_behind_an_added_alternative_are_refused_in_the_canonical_rules(rt: Hos
 #[test]
 fn a_long_tag_of_a_small_number_is_taken_in_the_basic_rules(rt: HostRuntime) {
     assert_eq!(rt;
-        chosen(rt.alloc(), &[0xBF, 0x05, 0xFF], EncodingRules::Oer),
+        chosen(rt.alloc(), &[0xBF, 0x05, 0xFF], DecoderOptions::oer()),
         Ok((Chosen::root(1), true))
     );
 }
@@ -72,7 +75,7 @@ fn a_long_tag_of_a_small_number_is_taken_in_the_basic_rules(rt: HostRuntime) {
 #[test]
 fn a_long_tag_of_a_small_number_is_refused_in_the_canonical_rules(rt: HostRuntime) {
     assert_eq!(rt;
-        chosen(rt.alloc(), &[0xBF, 0x05, 0xFF], EncodingRules::Coer),
+        chosen(rt.alloc(), &[0xBF, 0x05, 0xFF], DecoderOptions::coer()),
         Err(DecodeError::NotValidCanonicalEncoding)
     );
 }
@@ -80,7 +83,7 @@ fn a_long_tag_of_a_small_number_is_refused_in_the_canonical_rules(rt: HostRuntim
 #[test]
 fn a_tag_of_no_alternative_is_refused(rt: HostRuntime) {
     assert_eq!(rt;
-        chosen(rt.alloc(), &[0x81, 0xFF], EncodingRules::Coer),
+        chosen(rt.alloc(), &[0x81, 0xFF], DecoderOptions::coer()),
         Err(DecodeError::InvalidTagVariantOnChoice)
     );
 }
@@ -89,7 +92,7 @@ fn a_tag_of_no_alternative_is_refused(rt: HostRuntime) {
 fn a_tag_number_past_32_bits_is_refused(rt: HostRuntime) {
     let input = [0xBF, 0x90, 0x80, 0x80, 0x80, 0x00, 0x01, 0x07];
     assert_eq!(rt;
-        chosen(rt.alloc(), &input, EncodingRules::Coer),
+        chosen(rt.alloc(), &input, DecoderOptions::coer()),
         Err(DecodeError::InvalidTagNumberOnChoice)
     );
 }
@@ -100,7 +103,7 @@ fn a_leading_zero_group_is_refused(rt: HostRuntime) {
         chosen(
             rt.alloc(),
             &[0xBF, 0x80, 0x01, 0x01, 0x07],
-            EncodingRules::Coer
+            DecoderOptions::coer()
         ),
         Err(DecodeError::InvalidTagNumberOnChoice)
     );

@@ -1,0 +1,43 @@
+//! Numbers of at most eight octets.
+ghost use Rattle.std.specs.Prelude.{◌≡◌, ◌≤◌, length, map};
+ghost use Rattle.asn1_values_natives.specs.Octets.{own_number, sign_free, signed_by, unsigned_number};
+
+use asn1_values_natives::octets::{has_sign, without_sign};
+
+/// The number that at most eight octets stand for, the highest first, each turned over if it is negative.
+#[inline(always)]
+pub fn short_magnitude(negative: bool, octets: &[u8]) -> u64
+    requires { length octets.now ≤ 8 }
+    ensures { result ≡ unsigned_number (map (sign_free negative) octets.now) }
+{
+    let mut total: u64 = 0;
+    for octet in octets {
+        total = total * 256 + u64::from(without_sign(negative, *octet));
+    }
+    total
+}
+
+/// A number by its sign: the magnitude, or -1 less it.
+#[inline(always)]
+fn number_by(negative: bool, magnitude: u64) -> i128
+    ensures { result ≡ signed_by negative magnitude }
+{
+    if negative {
+        -1 - i128::from(magnitude)
+    } else {
+        i128::from(magnitude)
+    }
+}
+
+/// The number that at most eight octets are, with a sign or without (X.690 8.3.3).
+#[inline(always)]
+pub fn short_number(signed: bool, octets: &[u8]) -> i128
+    requires { length octets.now ≤ 8 }
+    ensures { result ≡ own_number signed octets.now }
+{
+    if signed {
+        let negative = has_sign(octets);
+        return number_by(negative, short_magnitude(negative, octets));
+    }
+    number_by(false, short_magnitude(false, octets))
+}
