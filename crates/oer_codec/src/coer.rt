@@ -5,7 +5,7 @@ ghost use Rattle.asn1_model.specs.Rules.{coer};
 ghost use Rattle.asn1_schema_messages.specs.Messages.{NoMessage, Tells};
 ghost use Rattle.oer_codec_output.specs.Encoded.{IsEncoded, NotEncoded};
 
-pub use crate::oer::{Decoder, Encoder, EncoderOptions, EncodingRules};
+pub use crate::oer::{Decoder, DecoderOptions, Encoder, EncoderOptions, EncodingRules};
 use asn1_schema_constraints::Constraints;
 use asn1_schema_decode::Decode;
 use asn1_schema_encode::Encode;

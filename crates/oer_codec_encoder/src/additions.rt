@@ -4,6 +4,7 @@ ghost use Rattle.asn1_schema_presented.specs.Records.{additions_begin, addition,
 ghost use Rattle.oer_codec_encoder.specs.Holding.{Does, Cannot};
 
 use crate::frames::Frame;
+use crate::room::take_room;
 use asn1_schema_faults::EncodeError;
 use oer_codec_writing::push_counted;
 use std::alloc::Global;
@@ -45,9 +46,10 @@ pub(crate) fn begin_additions(
     }
 }
 
-/// Whether the next addition is there (X.696 16.4).
+/// Whether the next addition is there (X.696 16.4): its octets then stand alone, in the worker's room.
 pub(crate) fn put_addition(
     octets: &mut Vec<u8>,
+    worker: &mut Vec<u8>,
     frames: &mut Vec<Frame>,
     alloc: Global,
     present: bool,
@@ -80,7 +82,7 @@ pub(crate) fn put_addition(
                 slots,
             })?;
             if present {
-                let outer = mem::replace(octets, Vec::new(alloc));
+                let outer = mem::replace(octets, take_room(worker, alloc));
                 frames.push(Frame::OpenType { outer })?;
             }
             Ok(())
@@ -89,9 +91,11 @@ pub(crate) fn put_addition(
     }
 }
 
-/// Ends an addition that is there, whose octets are kept behind their number for the end of its sequence (X.696 16.5).
+/// Ends an addition that is there, whose octets are kept behind their number for the end of its sequence (X.696 16.5), and gives the
+/// worker back its room.
 pub(crate) fn end_addition(
     octets: &mut Vec<u8>,
+    worker: &mut Vec<u8>,
     frames: &mut Vec<Frame>,
     alloc: Global,
 ) -> Result<(), EncodeError>
@@ -114,6 +118,7 @@ pub(crate) fn end_addition(
             let contents = mem::replace(octets, before);
             let mut slot = Vec::new(alloc);
             push_counted(&mut slot, contents.as_slice())?;
+            *worker = contents;
             slots.push(Some(slot))?;
             frames.push(Frame::Added {
                 due,

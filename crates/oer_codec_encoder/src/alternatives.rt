@@ -6,6 +6,7 @@ ghost use Rattle.oer_codec_encoder.specs.Holding.{Does, Cannot};
 ghost use Rattle.oer_codec_steps.specs.Steps.{tag_at, tags_among};
 
 use crate::frames::Frame;
+use crate::room::take_room;
 use asn1_schema_faults::EncodeError;
 use asn1_schema_tags::Tag;
 use asn1_schema_variants::Chosen;
@@ -36,9 +37,11 @@ fn tag_of_chosen(roots: &[Tag], extensible: bool, additions: &[Tag], chosen: Cho
     tag_from(additions, chosen.place)
 }
 
-/// Begins a CHOICE with the tag of the chosen alternative (X.696 20), of which an added one is an open type.
+/// Begins a CHOICE with the tag of the chosen alternative (X.696 20), of which an added one is an open type, whose octets stand alone, in
+/// the worker's room.
 pub(crate) fn begin_choice(
     octets: &mut Vec<u8>,
+    worker: &mut Vec<u8>,
     frames: &mut Vec<Frame>,
     alloc: Global,
     roots: &[Tag],
@@ -53,7 +56,7 @@ pub(crate) fn begin_choice(
     };
     push_tag(octets, tag)?;
     if chosen.added {
-        let outer = mem::replace(octets, Vec::new(alloc));
+        let outer = mem::replace(octets, take_room(worker, alloc));
         frames.push(Frame::OpenType { outer })?;
     } else {
         frames.push(Frame::Alternative)?;

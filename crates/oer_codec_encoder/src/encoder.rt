@@ -28,9 +28,13 @@ use std::marker::Model;
 use std::mem;
 
 /// Writes values in the canonical octet encoding rules (X.696) into one buffer.
+///
+/// An addition and an added alternative stand behind their length, so their octets are written apart, into the room of a worker that is
+/// lent for this: with one worker for many messages such octets take memory for the longest of them alone, and not for each.
 #[derive(Drop)]
 pub struct Encoder<'buffer> {
     output: &'buffer mut Vec<u8>,
+    worker: &'buffer mut Vec<u8>,
     frames: Vec<Frame>,
     failed: bool,
     alloc: Global,
@@ -51,15 +55,20 @@ impl<'buffer> Model for Encoder<'buffer> {
 
 impl<'buffer> Encoder<'buffer> {
     /// An encoder that writes behind what stands in the buffer. It takes no memory.
+    ///
+    /// What the worker holds does not matter, and its octets are overwritten. An empty one serves, and has room afterwards if an addition or
+    /// an added alternative was written.
     pub fn from_buffer(
         alloc: Global,
         _options: EncoderOptions,
         output: &'buffer mut Vec<u8>,
+        worker: &'buffer mut Vec<u8>,
     ) -> Self
         ensures { result ≡ record { state = (output.entry.now.items, []); failed = false } }
     {
         Encoder {
             output,
+            worker,
             frames: Vec::new(alloc),
             failed: false,
             alloc,
@@ -343,7 +352,13 @@ impl<'buffer> asn1_schema_encode::Encoder for Encoder<'buffer> {
             return Err(EncodeError::AlreadyFailed);
         }
         self.failed = true;
-        put_addition(self.output, &mut self.frames, self.alloc, present)?;
+        put_addition(
+            self.output,
+            self.worker,
+            &mut self.frames,
+            self.alloc,
+            present,
+        )?;
         self.failed = false;
         Ok(())
     }
@@ -353,7 +368,7 @@ impl<'buffer> asn1_schema_encode::Encoder for Encoder<'buffer> {
             return Err(EncodeError::AlreadyFailed);
         }
         self.failed = true;
-        end_addition(self.output, &mut self.frames, self.alloc)?;
+        end_addition(self.output, self.worker, &mut self.frames, self.alloc)?;
         self.failed = false;
         Ok(())
     }
@@ -372,6 +387,7 @@ impl<'buffer> asn1_schema_encode::Encoder for Encoder<'buffer> {
         self.failed = true;
         begin_choice(
             self.output,
+            self.worker,
             &mut self.frames,
             self.alloc,
             roots,
@@ -388,7 +404,7 @@ impl<'buffer> asn1_schema_encode::Encoder for Encoder<'buffer> {
             return Err(EncodeError::AlreadyFailed);
         }
         self.failed = true;
-        end_scope(self.output, &mut self.frames, self.alloc)?;
+        end_scope(self.output, self.worker, &mut self.frames, self.alloc)?;
         self.failed = false;
         Ok(())
     }

@@ -61,9 +61,10 @@ pub(crate) fn put_further(
 }
 
 /// Ends what is innermost (X.696 16, 17, 19, 20 and 30): of a sequence without a mark no presence bit is due, of one with a mark
-/// no addition, and of a list and a bag no member.
+/// no addition, and of a list and a bag no member. The worker gets back the room of an open type.
 pub(crate) fn end_scope(
     octets: &mut Vec<u8>,
+    worker: &mut Vec<u8>,
     frames: &mut Vec<Frame>,
     alloc: Global,
 ) -> Result<(), EncodeError>
@@ -99,6 +100,7 @@ pub(crate) fn end_scope(
         Some(Frame::OpenType { outer }) => {
             let contents = mem::replace(octets, outer);
             push_counted(octets, contents.as_slice())?;
+            *worker = contents;
             Ok(())
         }
         Some(Frame::Members { due: 0 }) | Some(Frame::Alternative) => Ok(()),

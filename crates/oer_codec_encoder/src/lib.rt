@@ -9,6 +9,7 @@ mod encoder;
 mod ends;
 mod frames;
 mod options;
+mod room;
 
 pub use encoder::Encoder;
 pub use options::EncoderOptions;

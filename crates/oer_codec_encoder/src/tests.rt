@@ -15,7 +15,9 @@ use std::test::Fail;
 
 fn encoded<T: Encode>(alloc: Global, value: &T) -> Result<Vec<u8>, EncodeError> {
     let mut buffer = Vec::new(alloc);
-    let mut encoder = Encoder::from_buffer(alloc, EncoderOptions::coer(), &mut buffer);
+    let mut worker = Vec::new(alloc);
+    let options = EncoderOptions::coer();
+    let mut encoder = Encoder::from_buffer(alloc, options, &mut buffer, &mut worker);
     value.encode(&mut encoder)?;
     Ok(encoder.output())
 }
@@ -83,7 +85,9 @@ fn bits_and_strings(rt: HostRuntime) -> Result<(), Fail> {
 fn components_that_may_be_absent(rt: HostRuntime) -> Result<(), EncodeError> {
     let alloc = rt.alloc();
     let mut buffer = Vec::new(alloc);
-    let mut encoder = Encoder::from_buffer(alloc, EncoderOptions::coer(), &mut buffer);
+    let mut worker = Vec::new(alloc);
+    let options = EncoderOptions::coer();
+    let mut encoder = Encoder::from_buffer(alloc, options, &mut buffer, &mut worker);
     encoder.begin_sequence(Tag::SEQUENCE, false, 2)?;
     encoder.put_mark(true)?;
     Integer::from(1i64).encode(&mut encoder)?;
@@ -113,7 +117,9 @@ fn context(value: u32) -> Tag {
 fn sets(rt: HostRuntime) -> Result<(), EncodeError> {
     let alloc = rt.alloc();
     let mut buffer = Vec::new(alloc);
-    let mut encoder = Encoder::from_buffer(alloc, EncoderOptions::coer(), &mut buffer);
+    let mut worker = Vec::new(alloc);
+    let options = EncoderOptions::coer();
+    let mut encoder = Encoder::from_buffer(alloc, options, &mut buffer, &mut worker);
     encoder.begin_set(Tag::SET, false, 3)?;
     encoder.put_mark(true)?;
     Integer::from(7i64).encode(&mut encoder)?;
@@ -133,7 +139,9 @@ fn sets(rt: HostRuntime) -> Result<(), EncodeError> {
 fn alternatives_of_the_root(rt: HostRuntime) -> Result<(), EncodeError> {
     let alloc = rt.alloc();
     let mut buffer = Vec::new(alloc);
-    let mut encoder = Encoder::from_buffer(alloc, EncoderOptions::coer(), &mut buffer);
+    let mut worker = Vec::new(alloc);
+    let options = EncoderOptions::coer();
+    let mut encoder = Encoder::from_buffer(alloc, options, &mut buffer, &mut worker);
     let roots = [context(0), context(444)];
     encoder.begin_choice(Tag::EOC, &roots, false, &[], Chosen::root(1))?;
     true.encode(&mut encoder)?;
@@ -157,7 +165,9 @@ fn alternatives_of_the_root(rt: HostRuntime) -> Result<(), EncodeError> {
 fn added_alternatives(rt: HostRuntime) -> Result<(), EncodeError> {
     let alloc = rt.alloc();
     let mut buffer = Vec::new(alloc);
-    let mut encoder = Encoder::from_buffer(alloc, EncoderOptions::coer(), &mut buffer);
+    let mut worker = Vec::new(alloc);
+    let options = EncoderOptions::coer();
+    let mut encoder = Encoder::from_buffer(alloc, options, &mut buffer, &mut worker);
     let roots = [context(0), context(1)];
     let additions = [context(2)];
     encoder.begin_choice(Tag::EOC, &roots, true, &additions, Chosen::addition(0))?;
@@ -178,7 +188,9 @@ fn added_alternatives(rt: HostRuntime) -> Result<(), EncodeError> {
 fn additions(rt: HostRuntime) -> Result<(), EncodeError> {
     let alloc = rt.alloc();
     let mut buffer = Vec::new(alloc);
-    let mut encoder = Encoder::from_buffer(alloc, EncoderOptions::coer(), &mut buffer);
+    let mut worker = Vec::new(alloc);
+    let options = EncoderOptions::coer();
+    let mut encoder = Encoder::from_buffer(alloc, options, &mut buffer, &mut worker);
     encoder.begin_sequence(Tag::SEQUENCE, true, 1)?;
     encoder.put_mark(true)?;
     OctetString::from_slice(alloc, &[0x00u8, 0x01, 0x02])?.encode(&mut encoder)?;
@@ -198,7 +210,9 @@ fn additions(rt: HostRuntime) -> Result<(), EncodeError> {
 fn no_addition_that_is_there(rt: HostRuntime) -> Result<(), EncodeError> {
     let alloc = rt.alloc();
     let mut buffer = Vec::new(alloc);
-    let mut encoder = Encoder::from_buffer(alloc, EncoderOptions::coer(), &mut buffer);
+    let mut worker = Vec::new(alloc);
+    let options = EncoderOptions::coer();
+    let mut encoder = Encoder::from_buffer(alloc, options, &mut buffer, &mut worker);
     encoder.begin_sequence(Tag::SEQUENCE, true, 0)?;
     true.encode(&mut encoder)?;
     encoder.begin_additions(1)?;
@@ -213,7 +227,9 @@ fn no_addition_that_is_there(rt: HostRuntime) -> Result<(), EncodeError> {
 fn optional_addition(rt: HostRuntime) -> Result<(), EncodeError> {
     let alloc = rt.alloc();
     let mut buffer = Vec::new(alloc);
-    let mut encoder = Encoder::from_buffer(alloc, EncoderOptions::coer(), &mut buffer);
+    let mut worker = Vec::new(alloc);
+    let options = EncoderOptions::coer();
+    let mut encoder = Encoder::from_buffer(alloc, options, &mut buffer, &mut worker);
     encoder.begin_sequence(Tag::SEQUENCE, true, 0)?;
     true.encode(&mut encoder)?;
     encoder.begin_additions(1)?;
@@ -232,7 +248,9 @@ fn optional_addition(rt: HostRuntime) -> Result<(), EncodeError> {
 fn groups(rt: HostRuntime) -> Result<(), EncodeError> {
     let alloc = rt.alloc();
     let mut buffer = Vec::new(alloc);
-    let mut encoder = Encoder::from_buffer(alloc, EncoderOptions::coer(), &mut buffer);
+    let mut worker = Vec::new(alloc);
+    let options = EncoderOptions::coer();
+    let mut encoder = Encoder::from_buffer(alloc, options, &mut buffer, &mut worker);
     encoder.begin_sequence(Tag::SEQUENCE, true, 0)?;
     true.encode(&mut encoder)?;
     encoder.begin_additions(1)?;
@@ -254,7 +272,9 @@ fn groups(rt: HostRuntime) -> Result<(), EncodeError> {
 fn bags(rt: HostRuntime) -> Result<(), EncodeError> {
     let alloc = rt.alloc();
     let mut buffer = Vec::new(alloc);
-    let mut encoder = Encoder::from_buffer(alloc, EncoderOptions::coer(), &mut buffer);
+    let mut worker = Vec::new(alloc);
+    let options = EncoderOptions::coer();
+    let mut encoder = Encoder::from_buffer(alloc, options, &mut buffer, &mut worker);
     encoder.begin_bag(Tag::SET, Constraints::NONE, Bounded::None, 3)?;
     encoder.put_further(true)?;
     Integer::from(256i64).encode(&mut encoder)?;
@@ -276,7 +296,9 @@ fn bags(rt: HostRuntime) -> Result<(), EncodeError> {
 fn bags_of_one_width(rt: HostRuntime) -> Result<(), EncodeError> {
     let alloc = rt.alloc();
     let mut buffer = Vec::new(alloc);
-    let mut encoder = Encoder::from_buffer(alloc, EncoderOptions::coer(), &mut buffer);
+    let mut worker = Vec::new(alloc);
+    let options = EncoderOptions::coer();
+    let mut encoder = Encoder::from_buffer(alloc, options, &mut buffer, &mut worker);
     encoder.begin_bag(Tag::SET, Constraints::NONE, Bounded::None, 3)?;
     encoder.put_further(true)?;
     3u8.encode(&mut encoder)?;
@@ -296,7 +318,9 @@ fn bags_of_one_width(rt: HostRuntime) -> Result<(), EncodeError> {
 /// A sequence with so many additions, of which the last alone is there.
 fn octets_before_last(alloc: Global, count: usize) -> Result<Vec<u8>, EncodeError> {
     let mut buffer = Vec::new(alloc);
-    let mut encoder = Encoder::from_buffer(alloc, EncoderOptions::coer(), &mut buffer);
+    let mut worker = Vec::new(alloc);
+    let options = EncoderOptions::coer();
+    let mut encoder = Encoder::from_buffer(alloc, options, &mut buffer, &mut worker);
     encoder.begin_sequence(Tag::SEQUENCE, true, 0)?;
     encoder.begin_additions(count)?;
     for index in 0..count {
@@ -333,7 +357,9 @@ fn bitmaps(rt: HostRuntime) -> Result<(), EncodeError> {
 /// An added alternative whose value takes 16384 octets.
 fn long_alternative(alloc: Global) -> Result<Vec<u8>, EncodeError> {
     let mut buffer = Vec::new(alloc);
-    let mut encoder = Encoder::from_buffer(alloc, EncoderOptions::coer(), &mut buffer);
+    let mut worker = Vec::new(alloc);
+    let options = EncoderOptions::coer();
+    let mut encoder = Encoder::from_buffer(alloc, options, &mut buffer, &mut worker);
     let zeros = vec![in alloc; 0u8; 16381]?;
     encoder.begin_choice(Tag::EOC, &[], true, &[context(2)], Chosen::addition(0))?;
     OctetString::from_slice(alloc, zeros.as_slice())?.encode(&mut encoder)?;
@@ -350,5 +376,80 @@ fn long_open_types(rt: HostRuntime) -> Result<(), EncodeError> {
             .as_slice()
             .starts_with(&[0x82u8, 0x82, 0x40, 0x00, 0x82, 0x3F, 0xFD])
     );
+    Ok(())
+}
+
+/// Adds the messages of two values of CHOICE {..., a [2] OCTET STRING}, each of which an encoder of its own writes.
+fn write_both(
+    alloc: Global,
+    buffer: &mut Vec<u8>,
+    worker: &mut Vec<u8>,
+    values: [&OctetString; 2],
+) -> Result<(), EncodeError> {
+    for value in values {
+        let mut encoder = Encoder::from_buffer(alloc, EncoderOptions::coer(), buffer, worker);
+        encoder.begin_choice(Tag::EOC, &[], true, &[context(2)], Chosen::addition(0))?;
+        value.encode(&mut encoder)?;
+        encoder.end()?;
+    }
+    Ok(())
+}
+
+/// What a worker holds does not matter, and it keeps its room from message to message.
+#[test]
+fn one_worker_for_two_messages(rt: HostRuntime) -> Result<(), EncodeError> {
+    let alloc = rt.alloc();
+    let first = OctetString::from_slice(alloc, &[0x01, 0x02, 0x03])?;
+    let second = OctetString::from_slice(alloc, &[0x04])?;
+    let mut buffer = Vec::new(alloc);
+    let mut worker = Vec::with_capacity(alloc, 64)?;
+    worker.extend_from_slice(&[0xAA, 0xBB, 0xCC])?;
+    let room = worker.capacity();
+    write_both(alloc, &mut buffer, &mut worker, [&first, &second])?;
+    assert_eq!(rt;
+        buffer.as_slice(),
+        [0x82u8, 0x04, 0x03, 0x01, 0x02, 0x03, 0x82, 0x02, 0x01, 0x04].as_slice()
+    );
+    assert_eq!(rt; worker.capacity(), room);
+    Ok(())
+}
+
+/// Adds a value of SEQUENCE {..., a SEQUENCE {..., b BOOLEAN}}, an addition in an addition.
+fn write_nested(
+    alloc: Global,
+    buffer: &mut Vec<u8>,
+    worker: &mut Vec<u8>,
+) -> Result<(), EncodeError> {
+    let mut encoder = Encoder::from_buffer(alloc, EncoderOptions::coer(), buffer, worker);
+    encoder.begin_sequence(Tag::SEQUENCE, true, 0)?;
+    encoder.begin_additions(1)?;
+    encoder.put_addition(true)?;
+    encoder.begin_sequence(Tag::SEQUENCE, true, 0)?;
+    encoder.begin_additions(1)?;
+    encoder.put_addition(true)?;
+    true.encode(&mut encoder)?;
+    encoder.end_addition()?;
+    encoder.end()?;
+    encoder.end_addition()?;
+    encoder.end()?;
+    Ok(())
+}
+
+/// The outermost addition has the room of the worker, and gives it back.
+#[test]
+fn one_worker_for_nested_additions(rt: HostRuntime) -> Result<(), EncodeError> {
+    let alloc = rt.alloc();
+    let mut buffer = Vec::new(alloc);
+    let mut worker = Vec::with_capacity(alloc, 64)?;
+    let room = worker.capacity();
+    write_nested(alloc, &mut buffer, &mut worker)?;
+    assert_eq!(rt;
+        buffer.as_slice(),
+        [
+            0x80u8, 0x02, 0x07, 0x80, 0x06, 0x80, 0x02, 0x07, 0x80, 0x01, 0xFF
+        ]
+        .as_slice()
+    );
+    assert_eq!(rt; worker.capacity(), room);
     Ok(())
 }

@@ -42,7 +42,9 @@ pub fn encode<T: Encode>(alloc: Global, value: &T) -> Result<Vec<u8>, EncodeErro
     ensures only { IfErr result (NotEncoded T.schema (T.meaning value.now)) }
 {
     let mut output = with_room(alloc)?;
-    let mut encoder = Encoder::from_buffer(alloc, EncoderOptions::coer(), &mut output);
+    let mut worker = Vec::new(alloc);
+    let options = EncoderOptions::coer();
+    let mut encoder = Encoder::from_buffer(alloc, options, &mut output, &mut worker);
     value.encode(&mut encoder)?;
     within_limit(encoder.output())
 }
@@ -61,7 +63,9 @@ pub fn encode_with_constraints<T: Encode>(
     ensures only { IfErr result (NotEncoded (T.under constraints.entry) (T.meaning value.now)) }
 {
     let mut output = with_room(alloc)?;
-    let mut encoder = Encoder::from_buffer(alloc, EncoderOptions::coer(), &mut output);
+    let mut worker = Vec::new(alloc);
+    let options = EncoderOptions::coer();
+    let mut encoder = Encoder::from_buffer(alloc, options, &mut output, &mut worker);
     value.encode_with_constraints(&mut encoder, constraints)?;
     within_limit(encoder.output())
 }

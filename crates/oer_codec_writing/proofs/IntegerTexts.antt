@@ -1,6 +1,7 @@
 -- The texts of whole numbers, and what their writers added.
-use Rattle.std.proofs.Common.{◌≡◌, ℕ, zero, suc, ◌+◌, ◌-◌, ◌*◌, ◌/◌, ◌%◌, ◌^◌, ◌<◌, ◌≤◌, ℤ, pos, negsuc, ◌-ℤ◌, ◌≤ℤ◌, Bool, true, false, cond, not, leb, max, ◌&&◌, ◌||◌, List, [], ◌∷◌, ◌++◌, length, map, replicate, Option, Some, None, refl, ap, subst, sym, ◌∙◌, append_assoc, arith, inl, inr, pow-suc}
+use Rattle.std.proofs.Common.{◌≡◌, ℕ, zero, suc, ◌+◌, ◌-◌, ◌*◌, ◌/◌, ◌%◌, ◌^◌, ◌<◌, ◌≤◌, ℤ, pos, negsuc, ◌-ℤ◌, ◌≤ℤ◌, Bool, true, false, cond, not, leb, max, ◌&&◌, ◌||◌, List, [], ◌∷◌, ◌++◌, length, map, replicate, Option, Some, None, of_z, FitsSigned, refl, ap, subst, sym, ◌∙◌, arith, inl, inr, pow-suc}
 use Rattle.std.specs.Prelude.{IfSome}
+use Rattle.std.specs.Int.{w128}
 use Rattle.std.proofs.Math.Nat.{pow-le-pow_right, div-eq_of_lt}
 use Rattle.std.proofs.lemmas.List.{replicate_more}
 use Rattle.std.proofs.lemmas.Int.{ints}
@@ -11,6 +12,7 @@ use Rattle.asn1_model.specs.Numbers.{digits, width, octet_width, least_octets, s
 use Rattle.asn1_model.specs.Oer
 use Rattle.asn1_model.specs.Tables.{is_bounded}
 use Rattle.asn1_schema_bounds.proofs.Common.{number_order}
+use Rattle.asn1_schema_bounds.proofs.WidthLaws.{width_natural}
 use Rattle.asn1_schema_bounds.proofs.Meets.{is_above, is_below, later_admits, earlier_admits}
 use Rattle.asn1_schema_bounds.specs.Bounds.{lower, upper, later, earlier}
 use Rattle.asn1_schema_bounds.specs.Widths.{has_sign, fixed_width}
@@ -23,6 +25,7 @@ use Rattle.asn1_values_natives.proofs.RangeLaws.{not_at_most, at_most}
 use Rattle.asn1_values_natives.proofs.TwosComplement.{plain-fits, length-complement}
 use Rattle.asn1_values_natives.proofs.Widths.{signed_octets-le, width-bits, bits-least, octet_width-octets, octets-least}
 use Rattle.oer_codec_writing.specs.Writing.{Adds}
+use Rattle.oer_codec_writing.proofs.DigitTexts.{complement_digits}
 use Rattle.oer_codec_writing.proofs.ScalarTexts.{if_true, if_false}
 
 -- ---- a width that need not be there
@@ -35,20 +38,7 @@ pub at_some : (o : Option ℕ) (P : ℕ → Type 0) (k : ℕ) → o ≡ Some k �
 at_some None P k e h = cc
 at_some (Some j) P k e h = let q : j ≡ k = cc in subst P q h
 
--- ---- numbers in more octets than they need
-
-digits_behind : (j n m : ℕ) → m < 256 ^ n → digits 256 (j + n) m ≡ replicate j 0 ++ digits 256 n m
-digits_behind zero n m h = let e : 0 + n ≡ n = omega arith in ap (λ k. digits 256 k m) e
-digits_behind (suc j) n m h =
-    let e : suc j + n ≡ suc (j + n) = omega arith in
-    let l : 256 ^ n ≤ 256 ^ (j + n) = pow-le-pow_right (omega arith) {i = n} {j = j + n} (omega arith) in
-    let d : m / 256 ^ (j + n) ≡ 0 = div-eq_of_lt (omega arith) in
-    let z : m / 256 ^ (j + n) % 256 ≡ 0 = ap (λ k. k % 256) d in
-    ap (λ k. digits 256 k m) e ∙ ap (λ k. k ∷ digits 256 (j + n) m) z ∙ ap (λ l. 0 ∷ l) (digits_behind j n m h)
-
-turned_zeros : (j : ℕ) (os : List ℕ) → map (sign_free true) (replicate j 0 ++ os) ≡ replicate j 255 ++ map (sign_free true) os
-turned_zeros zero os = refl
-turned_zeros (suc j) os = ap (λ l. 255 ∷ l) (turned_zeros j os)
+-- ---- numbers in so many octets
 
 plain_small : (z : ℤ) (n : ℕ) → signed_octets z ≤ n → 1 ≤ n → plain z < 256 ^ n
 plain_small z zero h l = absurd (omega arith)
@@ -62,35 +52,8 @@ least_signed : (z : ℤ) → 1 ≤ signed_octets z
 least_signed (pos m) = omega arith
 least_signed (negsuc m) = omega arith
 
-abbrev pub fill_of : ℤ → ℕ
-fill_of v = cond (is_below_zero v) 255 0
-
-pub complement_behind : (k : ℕ) (z : ℤ) → signed_octets z ≤ k → complement k z ≡ replicate (k - length (signed_octets_of z)) (fill_of z) ++ signed_octets_of z
-complement_behind k (pos m) h =
-    let n : ℕ = signed_octets (pos m) in
-    let l : length (signed_octets_of (pos m)) ≡ n = length-complement n (pos m) in
-    let s : m < 256 ^ n = plain_small (pos m) n (omega arith) (least_signed (pos m)) in
-    let e : k ≡ (k - length (signed_octets_of (pos m))) + n = omega arith in
-    ap (λ w. digits 256 w m) e ∙ digits_behind (k - length (signed_octets_of (pos m))) n m s
-complement_behind k (negsuc m) h =
-    let n : ℕ = signed_octets (negsuc m) in
-    let l : length (signed_octets_of (negsuc m)) ≡ n = length-complement n (negsuc m) in
-    let s : m < 256 ^ n = plain_small (negsuc m) n (omega arith) (least_signed (negsuc m)) in
-    let b : m < 256 ^ k = plain_small (negsuc m) k h (omega (arith, least_signed (negsuc m))) in
-    let j : ℕ = k - length (signed_octets_of (negsuc m)) in
-    let e : k ≡ j + n = omega arith in
-    sym (digits-turned k m b) ∙ ap (λ w. map (sign_free true) (digits 256 w m)) e ∙ ap (map (sign_free true)) (digits_behind j n m s)
-    ∙ turned_zeros j (digits 256 n m) ∙ ap (λ l. replicate j 255 ++ l) (digits-turned n m s)
-
-pub natural_behind : (k m : ℕ) → least_octets m ≤ k → digits 256 k m ≡ replicate (k - length (unsigned_octets_of (pos m))) 0 ++ unsigned_octets_of (pos m)
-natural_behind k m h =
-    let n : ℕ = least_octets m in
-    let l : length (unsigned_octets_of (pos m)) ≡ n = length-digits n m in
-    let o = octet_width-octets m in
-    let p : 256 ^ octet_width m ≤ 256 ^ n = pow-le-pow_right (omega arith) {i = octet_width m} {j = n} (omega arith) in
-    let s : m < 256 ^ n = omega (arith, o.below) in
-    let e : k ≡ (k - length (unsigned_octets_of (pos m))) + n = omega arith in
-    ap (λ w. digits 256 w m) e ∙ digits_behind (k - length (unsigned_octets_of (pos m))) n m s
+pub plain_within : (k : ℕ) (z : ℤ) → signed_octets z ≤ k → plain z < 256 ^ k
+plain_within k z h = plain_small z k h (omega (arith, least_signed z))
 
 -- ---- numbers within bounds fit their fixed form
 
@@ -104,11 +67,30 @@ rounded_most n k e = go (leb n 1) (leb n 2) (leb n 4) (leb n 8) refl refl refl r
     go false false false true h i j l e = let x : k ≡ 8 = cc in let y = leb-true n 8 l in (omega arith, omega arith)
     go false false false false h i j l e = cc
 
+rounded_few : (n k : ℕ) → Oer.fixed_octets n ≡ Some k → k ≤ 16
+rounded_few n k e = go (leb n 1) (leb n 2) (leb n 4) (leb n 8) e
+  where
+    go : (a b c d : Bool) → cond a (Some 1) (cond b (Some 2) (cond c (Some 4) (cond d (Some 8) None))) ≡ Some k → k ≤ 16
+    go true b c d e = let x : k ≡ 1 = cc in omega arith
+    go false true c d e = let x : k ≡ 2 = cc in omega arith
+    go false false true d e = let x : k ≡ 4 = cc in omega arith
+    go false false false true e = let x : k ≡ 8 = cc in omega arith
+    go false false false false e = cc
+
+pub width_few : (low high : Option ℤ) (k : ℕ) → fixed_width low high ≡ Some k → k ≤ 16
+width_few (Some (pos a)) (Some (pos b)) k e = rounded_few (octet_width b) k e
+width_few (Some (pos a)) (Some (negsuc b)) k e = cc
+width_few (Some (pos a)) None k e = cc
+width_few (Some (negsuc a)) (Some b) k e = rounded_few (max (signed_octets (negsuc a)) (signed_octets b)) k e
+width_few (Some (negsuc a)) None k e = cc
+width_few None b k e = cc
+
+pub width_plain : (low high : ℤ) → pos 0 ≤ℤ low → pos 0 ≤ℤ high → Oer.fixed_octets (least_octets (of_z w128 high)) ≡ fixed_width (Some low) (Some high)
+width_plain low (pos m) a b = sym (ap Oer.fixed_octets (length-digits (least_octets m) m)) ∙ width_natural low (pos m) a b
+width_plain low (negsuc m) a b = absurd (omega (arith, ints))
+
 width_grows : (m n : ℕ) → m ≤ n → width m ≤ width n
 width_grows m n h = let b = width-bits n in bits-least m (width n) (width m) (width-bits m) (omega (arith, b.below))
-
-octets_grow : (m n : ℕ) → m ≤ n → octet_width m ≤ octet_width n
-octets_grow m n h = let b = octet_width-octets n in octets-least m (octet_width n) (octet_width m) (octet_width-octets m) (omega (arith, b.below))
 
 both_true : (p q : Bool) → (p && q) ≡ true → (p ≡ true) × (q ≡ true)
 both_true true q e = (refl, e)
@@ -148,22 +130,6 @@ module _ (low high : Option ℤ) (v : ℤ) (within : is_within (record { low = l
       go (Some (negsuc a)) v w s = cc
       go None v w s = cc
 
-  pub natural_width : (k : ℕ) → has_sign low ≡ false → fixed_width low high ≡ Some k → least_octets (plain v) ≤ k
-  natural_width k s e = go low high v within s e
-    where
-      go : (low high : Option ℤ) (v : ℤ) → is_within (record { low = low; high = high }) v ≡ true → has_sign low ≡ false → fixed_width low high ≡ Some k → least_octets (plain v) ≤ k
-      go (Some (pos a)) (Some (pos b)) (pos m) w s e =
-          let p = between (pos a) (pos b) (pos m) w in
-          let l : m ≤ b = omega (arith, ints) in
-          let g = octets_grow m b l in
-          let r = rounded_most (octet_width b) k e in
-          omega (arith, r.0, r.1)
-      go (Some (pos a)) (Some (pos b)) (negsuc m) w s e = let p = between (pos a) (pos b) (negsuc m) w in absurd (omega (arith, ints))
-      go (Some (pos a)) (Some (negsuc b)) v w s e = cc
-      go (Some (pos a)) None v w s e = cc
-      go (Some (negsuc a)) h v w s e = cc
-      go None h v w s e = cc
-
 -- ---- their texts
 
 pub signed_counted : (v : ℤ) → written (Oer.signed_form None v) 0 ≡ written (Oer.counted (signed_octets_of v)) 0
@@ -175,15 +141,24 @@ unfolding written Oer.unsigned
 natural_counted (pos m) e = if_true (leb (least_octets m) (least_octets m)) (Oer.counted (digits 256 (least_octets m) m)) (le-leb _ _ (omega arith))
 natural_counted (negsuc m) e = cc
 
-pub adds_fixed_signed : (k : ℕ) (v : ℤ) (os old new : List ℕ) (fill : ℕ) → signed_octets v ≤ k → os ≡ signed_octets_of v → fill ≡ fill_of v → new ≡ old ++ (replicate (k - length os) fill ++ os) → Adds (written (Oer.signed_form (Some k) v) 0) old new
+pub adds_fixed_signed : (k : ℕ) (v : ℤ) (old new : List ℕ) → k ≤ 16 → signed_octets v ≤ k → new ≡ old ++ digits 256 k (of_z w128 v) → Adds (written (Oer.signed_form (Some k) v) 0) old new
 unfolding written
-adds_fixed_signed k v os old new fill h e f n =
-    ap (λ w. Some (old ++ w)) (complement_behind k v h) ∙ ap Some (sym (n ∙ ap (λ l. old ++ (replicate (k - length l) fill ++ l)) e ∙ ap (λ x. old ++ (replicate (k - length (signed_octets_of v)) x ++ signed_octets_of v)) f))
+adds_fixed_signed k v old new l h n = ap (λ w. Some (old ++ w)) (sym (complement_digits k v l (plain_within k v h))) ∙ ap Some (sym n)
 
-pub adds_fixed_natural : (k : ℕ) (v : ℤ) (os old new : List ℕ) → least_octets (plain v) ≤ k → is_below_zero v ≡ false → os ≡ unsigned_octets_of v → new ≡ old ++ (replicate (k - length os) 0 ++ os) → Adds (written (Oer.natural_form (Some k) v) 0) old new
+pub adds_fewest_signed : (k : ℕ) (v : ℤ) (old new : List ℕ) → k ≡ signed_octets v → k ≤ 16 → Adds (written (Oer.counted (digits 256 k (of_z w128 v))) 0) old new → Adds (written (Oer.signed_form None v) 0) old new
+adds_fewest_signed k v old new e l a =
+    let d : digits 256 k (of_z w128 v) ≡ signed_octets_of v = complement_digits k v l (plain_within k v (omega arith)) ∙ ap (λ j. complement j v) e in
+    subst (λ t. Adds t old new) (sym (signed_counted v)) (subst (λ w. Adds (written (Oer.counted w) 0) old new) d a)
+
+pub adds_fixed_natural : (k : ℕ) (v : ℤ) (old new : List ℕ) → is_below_zero v ≡ false → new ≡ old ++ digits 256 k (of_z w128 v) → Adds (written (Oer.natural_form (Some k) v) 0) old new
 unfolding written
-adds_fixed_natural k (pos m) os old new h s e n = ap (λ w. Some (old ++ w)) (natural_behind k m h) ∙ ap Some (sym (n ∙ ap (λ l. old ++ (replicate (k - length l) 0 ++ l)) e))
-adds_fixed_natural k (negsuc m) os old new h s e n = cc
+adds_fixed_natural k (pos m) old new s n = ap Some (sym n)
+adds_fixed_natural k (negsuc m) old new s n = cc
+
+pub adds_fewest_natural : (k : ℕ) (v : ℤ) (old new : List ℕ) → is_below_zero v ≡ false → k ≡ least_octets (of_z w128 v) → Adds (written (Oer.counted (digits 256 k (of_z w128 v))) 0) old new → Adds (written (Oer.natural_form None v) 0) old new
+adds_fewest_natural k (pos m) old new s e a =
+    subst (λ t. Adds t old new) (sym (natural_counted (pos m) s)) (subst (λ j. Adds (written (Oer.counted (digits 256 j m)) 0) old new) e a)
+adds_fewest_natural k (negsuc m) old new s e a = cc
 
 -- ---- under a value constraint
 
@@ -268,14 +243,12 @@ pub wide_none : (c : Extensible Value) (h : Range) (v : ℤ) → 16 < signed_oct
 unfolding Oer.integer_form
 wide_none c h v l = if_false _ _ (and_first _ _ (held_within c h v ∙ and_second (is_within h v) (is_within wide v) (too_wide v l)))
 
-pub length_signed : (v : ℤ) → length (signed_octets_of v) ≡ signed_octets v
-length_signed v = length-complement (signed_octets v) v
+pub few_within : (v : ℤ) → is_within wide v ≡ true → signed_octets v ≤ 16
+few_within v e = elim (cases_lt 16 (signed_octets v)) [ inl l ↦ let n = too_wide v l in let x : true ≡ false = sym e ∙ n in cc | inr g ↦ g ]
 
-pub length_natural : (v : ℤ) → is_below_zero v ≡ false → length (unsigned_octets_of v) ≡ least_octets (plain v)
-length_natural (pos m) e = length-digits (least_octets m) m
-length_natural (negsuc m) e = cc
+pub many_past : (v : ℤ) → is_within wide v ≡ false → 16 < signed_octets v
+many_past v e = elim (cases_lt 16 (signed_octets v)) [ inl l ↦ l | inr g ↦ let y = fits_wide v (few_octets v g) in let x : true ≡ false = sym y ∙ e in cc ]
 
-pub filled_more : (old now new : List ℕ) (i from : ℕ) (x : ℕ) → from ≤ i → now ≡ old ++ replicate (i - from) x → new ≡ now ++ x ∷ [] → new ≡ old ++ replicate (i + 1 - from) x
-filled_more old now new i from x h e f =
-    let n : i - from + 1 ≡ i + 1 - from = omega arith in
-    f ∙ ap (λ l. l ++ x ∷ []) e ∙ append_assoc old (replicate (i - from) x) (x ∷ []) ∙ ap (λ l. old ++ l) (replicate_more (i - from) x ∙ ap (λ k. replicate k x) n)
+pub held_within_wide : (v : ℤ) → is_within wide v ≡ true → FitsSigned w128 v
+held_within_wide (pos m) e = let p = between (negsuc (2 ^ 127 - 1)) (pos (2 ^ 127 - 1)) (pos m) e in record { sfits = omega (arith, ints, p.1) }
+held_within_wide (negsuc m) e = let p = between (negsuc (2 ^ 127 - 1)) (pos (2 ^ 127 - 1)) (negsuc m) e in record { sfits = omega (arith, ints, p.0) }

@@ -1,99 +1,107 @@
 //! Whole numbers (X.696 10).
-ghost use Rattle.std.specs.Prelude.{◌≡◌, ◌-◌, ◌≤◌, ◌++◌, false, true, length, replicate, MatchResult, IfSome};
+ghost use Rattle.std.specs.Prelude.{◌≡◌, ◌≤◌, false, true, MatchResult, IfSome};
 ghost use Rattle.asn1_model.specs.Form.{written};
-ghost use Rattle.asn1_model.specs.Numbers.{least_octets, signed_octets};
+ghost use Rattle.asn1_model.specs.Numbers.{is_within, signed_octets};
 ghost use Rattle.asn1_model.specs.Oer.{bounded, integer_form, natural_form, signed_form};
+ghost use Rattle.asn1_model.specs.Schema.{Range};
 ghost use Rattle.asn1_schema_bounds.specs.Bounds.{admits_number, lower, upper};
 ghost use Rattle.asn1_schema_constraints.specs.Terms.{bounds_of, held_of};
-ghost use Rattle.asn1_values_natives.specs.Octets.{is_below_zero, plain};
+ghost use Rattle.asn1_values_natives.specs.Octets.{is_below_zero};
 ghost use Rattle.oer_codec_writing.specs.Writing.{Adds, Refuses};
 
+use crate::digits::{natural_len, push_counted_digits, push_digits, signed_len};
+use crate::forms::form_under;
 use crate::lengths::push_counted;
 use asn1_schema_bounds::Bounded;
-use asn1_schema_constraints::Constraints;
+use asn1_schema_constraints::{Constraints, Extensible, Value};
 use asn1_schema_faults::EncodeError;
 use asn1_values_integer_types::IntegerType;
 
-/// The most octets of a number under a value constraint.
-const MOST_OCTETS: usize = 16;
-
-/// Adds octets, behind as many others as a fixed form of so many has in front of them.
-fn push_fixed(octets: &mut Vec<u8>, fill: u8, digits: &[u8], width: u8) -> Result<(), EncodeError>
-    requires { length digits.now ≤ width }
-    ensures { MatchResult result (λ _. octets.new.items ≡ octets.old.items ++ (replicate (width - length digits.now) fill ++ digits.now)) (λ e. e ≡ EncodeError.OutOfMemory) }
-{
-    for _ in digits.len()..usize::from(width) {
-        octets.push(fill)?;
-    }
-    octets.extend_from_slice(digits)?;
-    Ok(())
-}
-
 /// Adds a number with a sign, in so many octets or in its fewest behind their number (X.696 10).
-fn push_signed<I: IntegerType>(
-    octets: &mut Vec<u8>,
-    width: Option<u8>,
-    value: &I,
-) -> Result<(), EncodeError>
-    requires { IfSome width (λ k. signed_octets (I.value value.now) ≤ k) }
-    ensures { MatchResult result (λ _. Adds (written (signed_form width (I.value value.now)) 0) octets.old.items octets.new.items) (λ e. e ≡ EncodeError.OutOfMemory) }
+#[inline]
+fn push_signed(octets: &mut Vec<u8>, width: Option<u8>, number: i128) -> Result<(), EncodeError>
+    requires { IfSome width (λ k. (signed_octets number ≤ k) × (k ≤ 16)) }
+    ensures { MatchResult result (λ _. Adds (written (signed_form width number) 0) octets.old.items octets.new.items) (λ e. e ≡ EncodeError.OutOfMemory) }
 {
-    let digits = value.to_signed_bytes_be();
+    let bits = number.cast_unsigned();
     match width {
         Some(width) => {
-            let fill = if value.is_negative() { 0xFF } else { 0x00 };
-            push_fixed(octets, fill, digits.as_slice(), width)?;
+            push_digits(octets, bits, usize::from(width))?;
             Ok(())
         }
         None => {
-            push_counted(octets, digits.as_slice())?;
+            push_counted_digits(octets, bits, signed_len(number))?;
             Ok(())
         }
     }
 }
 
 /// Adds a number that is not negative, in so many octets or in its fewest behind their number (X.696 10).
-fn push_natural<I: IntegerType>(
-    octets: &mut Vec<u8>,
-    width: Option<u8>,
-    value: &I,
-) -> Result<(), EncodeError>
-    requires sign { is_below_zero (I.value value.now) ≡ false }
-    requires width { IfSome width (λ k. least_octets (plain (I.value value.now)) ≤ k) }
-    ensures { MatchResult result (λ _. Adds (written (natural_form width (I.value value.now)) 0) octets.old.items octets.new.items) (λ e. e ≡ EncodeError.OutOfMemory) }
+#[inline]
+fn push_natural(octets: &mut Vec<u8>, width: Option<u8>, number: i128) -> Result<(), EncodeError>
+    requires sign { is_below_zero number ≡ false }
+    requires width { IfSome width (λ k. k ≤ 16) }
+    ensures { MatchResult result (λ _. Adds (written (natural_form width number) 0) octets.old.items octets.new.items) (λ e. e ≡ EncodeError.OutOfMemory) }
 {
-    let digits = value.to_unsigned_bytes_be();
+    let magnitude = number.cast_unsigned();
     match width {
         Some(width) => {
-            push_fixed(octets, 0x00, digits.as_slice(), width)?;
+            push_digits(octets, magnitude, usize::from(width))?;
             Ok(())
         }
         None => {
-            push_counted(octets, digits.as_slice())?;
+            push_counted_digits(octets, magnitude, natural_len(magnitude))?;
             Ok(())
         }
     }
 }
 
 /// Adds a number within bounds, in the form that they tell (X.696 10).
-fn push_bounded<I: IntegerType>(
+#[inline]
+fn push_bounded(
     octets: &mut Vec<u8>,
     bounds: Bounded<i128>,
-    value: &I,
+    number: i128,
 ) -> Result<(), EncodeError>
-    requires { admits_number bounds (I.value value.now) ≡ true }
-    ensures { MatchResult result (λ _. Adds (written (bounded (lower bounds) (upper bounds) (I.value value.now)) 0) octets.old.items octets.new.items) (λ e. e ≡ EncodeError.OutOfMemory) }
+    requires { admits_number bounds number ≡ true }
+    ensures { MatchResult result (λ _. Adds (written (bounded (lower bounds) (upper bounds) number) 0) octets.old.items octets.new.items) (λ e. e ≡ EncodeError.OutOfMemory) }
 {
-    let (signed, width) = bounds.range_in_bytes();
+    let (signed, width) = form_under(&bounds);
     if signed {
-        push_signed(octets, width, value)?;
+        push_signed(octets, width, number)?;
     } else {
-        push_natural(octets, width, value)?;
+        push_natural(octets, width, number)?;
     }
     Ok(())
 }
 
+/// Adds a number of 128 bits under a value constraint, if there is one; one with a mark counts for nothing (X.696 10).
+#[inline]
+fn push_number(
+    octets: &mut Vec<u8>,
+    limits: Option<Extensible<'_, Value>>,
+    number: i128,
+) -> Result<(), EncodeError>
+    ensures { (h : Range) → is_within h number ≡ true → MatchResult result (λ _. Adds (written (integer_form (bounds_of limits.entry) (held_of limits.entry h) number) 0) octets.old.items octets.new.items) (Refuses (written (integer_form (bounds_of limits.entry) (held_of limits.entry h) number) 0)) }
+{
+    let Some(limits) = limits else {
+        push_signed(octets, None, number)?;
+        return Ok(());
+    };
+    if limits.extensible.is_some() {
+        push_signed(octets, None, number)?;
+        return Ok(());
+    }
+    let bounds = limits.constraint.value;
+    if !bounds.contains(&number) {
+        return Err(EncodeError::ValueConstraintNotSatisfied);
+    }
+    push_bounded(octets, bounds, number)?;
+    Ok(())
+}
+
 /// Adds an INTEGER (X.696 10), of at most 128 bits under a value constraint; bounds with a mark count for nothing.
+#[inline]
 pub fn push_integer<I: IntegerType>(
     octets: &mut Vec<u8>,
     constraints: Constraints,
@@ -101,22 +109,12 @@ pub fn push_integer<I: IntegerType>(
 ) -> Result<(), EncodeError>
     ensures { MatchResult result (λ _. Adds (written (integer_form (bounds_of constraints.entry.value) (held_of constraints.entry.value I.held) (I.value value.now)) 0) octets.old.items octets.new.items) (Refuses (written (integer_form (bounds_of constraints.entry.value) (held_of constraints.entry.value I.held) (I.value value.now)) 0)) }
 {
-    let width = value.to_signed_bytes_be().len();
-    let Some(limits) = constraints.value else {
-        push_signed(octets, None, value)?;
-        return Ok(());
-    };
-    if width > MOST_OCTETS {
+    if let Some(number) = value.to_i128() {
+        return push_number(octets, constraints.value, number);
+    }
+    if constraints.value.is_some() {
         return Err(EncodeError::ValueConstraintNotSatisfied);
     }
-    if limits.extensible.is_some() {
-        push_signed(octets, None, value)?;
-        return Ok(());
-    }
-    let bounds = limits.constraint.value;
-    if !bounds.in_bound(value) {
-        return Err(EncodeError::ValueConstraintNotSatisfied);
-    }
-    push_bounded(octets, bounds, value)?;
+    push_counted(octets, value.to_signed_bytes_be().as_slice())?;
     Ok(())
 }

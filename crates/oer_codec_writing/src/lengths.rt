@@ -1,31 +1,19 @@
 //! Lengths, counts, and octets behind their number (X.696 8.6 and 17).
-ghost use Rattle.std.specs.Prelude.{◌≡◌, ◌+◌, ◌*◌, ◌^◌, ◌<◌, ◌≤◌, ◌++◌, ◌∷◌, MatchResult};
+ghost use Rattle.std.specs.Prelude.{◌≡◌, ◌≤◌, MatchResult};
 ghost use Rattle.asn1_model.specs.Form.{written};
-ghost use Rattle.asn1_model.specs.Numbers.{digits, octet_width as octet_width_of};
+ghost use Rattle.asn1_model.specs.Numbers.{octet_width as octet_width_of};
 ghost use Rattle.asn1_model.specs.Oer.{length_form, counted, unsigned};
 ghost use Rattle.oer_codec_writing.specs.Writing.{Adds};
 
+use crate::digits::{natural_len, push_counted_digits, push_digits};
 use asn1_schema_faults::EncodeError;
 
 /// How many octets hold a number; zero needs none.
-fn octet_width(number: usize) -> u32
+fn octet_width(number: usize) -> usize
     ensures width { result ≡ octet_width_of number }
     ensures most { result ≤ 8 }
 {
-    (usize::BITS - number.leading_zeros() + 7) / 8
-}
-
-/// Adds the low `count` octets of a number, the highest first.
-fn push_digits(octets: &mut Vec<u8>, number: usize, count: u32) -> Result<(), EncodeError>
-    requires { count ≤ 8 }
-    ensures { MatchResult result (λ _. octets.new.items ≡ octets.old.items ++ digits 256 count number) (λ e. e ≡ EncodeError.OutOfMemory) }
-{
-    let mut left = count;
-    while left > 0 {
-        left -= 1;
-        octets.push((number >> (8 * left) & 0xFF) as u8)?;
-    }
-    Ok(())
+    (64 - number.leading_zeros() as usize + 7) / 8
 }
 
 /// Adds a length (X.696 8.6): below 128 one octet, else the fewest behind their number.
@@ -38,7 +26,7 @@ pub(crate) fn push_length(octets: &mut Vec<u8>, length: usize) -> Result<(), Enc
     }
     let count = octet_width(length);
     octets.push(0x80 + count as u8)?;
-    push_digits(octets, length, count)?;
+    push_digits(octets, length as u128, count)?;
     Ok(())
 }
 
@@ -55,8 +43,7 @@ pub fn push_counted(octets: &mut Vec<u8>, contents: &[u8]) -> Result<(), EncodeE
 pub fn push_count(octets: &mut Vec<u8>, count: usize) -> Result<(), EncodeError>
     ensures { MatchResult result (λ _. Adds (written (unsigned count) 0) octets.old.items octets.new.items) (λ e. e ≡ EncodeError.OutOfMemory) }
 {
-    let width = octet_width(count).max(1);
-    octets.push(width as u8)?;
-    push_digits(octets, count, width)?;
+    let number = count as u128;
+    push_counted_digits(octets, number, natural_len(number))?;
     Ok(())
 }

@@ -2,6 +2,8 @@
 #![tactic(auto)]
 
 mod bits;
+mod digits;
+mod forms;
 mod identifiers;
 mod integers;
 mod items;

@@ -15,7 +15,7 @@ returns-in_ok-push-in-Some-Added-3 c =
           let mid = c.in_ok-push-in-Some-Added-2.ensures.items ∙ ap (λ v. c.pop.new.self.items ++ Added (f.due - 1) f.given f.start f.content f.outer v ∷ []) w.slots-is in
           subst (λ b. Does (addition b) c.args.frames.now.items c.args.octets.now.items c.push-then-present.new.self.items c.replace-outer.new.dest.items) (sym c.if-present.true)
           (does_addition c.args.frames.now.items c.pop.new.self.items c.push-in-Some-Added.new.self.items c.push-then-present.new.self.items f.field-0 f.due f.given f.start f.content c.args.octets.now.items c.replace-outer.new.dest.items f.outer c.replace-outer.result f.slots
-          f.ensures.items f.field-0-is (omega (arith, c.if-due-eq0.false)) mid (ap (λ v. v.items) c.replace-outer.ensures.value) (ap (λ v. v.items) c.replace-outer.ensures.after ∙ c.new.ensures.items) c.in_ok-push-in-Some-Added-3.ensures.items)
+          f.ensures.items f.field-0-is (omega (arith, c.if-due-eq0.false)) mid (ap (λ v. v.items) c.replace-outer.ensures.value) (ap (λ v. v.items) c.replace-outer.ensures.after ∙ c.take_room.ensures) c.in_ok-push-in-Some-Added-3.ensures.items)
     ]
 
 pub returns-else-present : goal.returns-else-present

@@ -6,7 +6,7 @@ use Rattle.oer_codec_encoder.proofs.alternatives.begin_choice.Goals as goal
 pub returns-in_ok-push : goal.returns-in_ok-push
 returns-in_ok-push c =
     does_begin_added (map tag_of c.args.roots.now) c.args.extensible (map tag_of c.args.additions.now) c.args.chosen.place c.args.frames.now.items c.push.new.self.items c.args.octets.now.items c.push_tag.new.octets.items c.replace-outer.new.dest.items c.args.chosen.added (tag_of c.in-Some.tag) c.replace-outer.result
-    c.if-chosen.true (sym c.tag_of_chosen.ensures ∙ ap (option_map tag_of) c.in-Some.is) c.in_ok-push_tag.ensures (ap (λ v. v.items) c.replace-outer.ensures.value) (ap (λ v. v.items) c.replace-outer.ensures.after ∙ c.new.ensures.items) c.in_ok-push.ensures.items
+    c.if-chosen.true (sym c.tag_of_chosen.ensures ∙ ap (option_map tag_of) c.in-Some.is) c.in_ok-push_tag.ensures (ap (λ v. v.items) c.replace-outer.ensures.value) (ap (λ v. v.items) c.replace-outer.ensures.after ∙ c.take_room.ensures) c.in_ok-push.ensures.items
 
 pub returns-in_ok-push-2 : goal.returns-in_ok-push-2
 returns-in_ok-push-2 c =

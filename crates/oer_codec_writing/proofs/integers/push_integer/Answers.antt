@@ -1,49 +1,43 @@
-use Rattle.std.proofs.Common.{◌≡◌, ◌≤◌, ◌<◌, Option, None, length, ap, subst, sym, ◌∙◌, arith}
+use Rattle.std.proofs.Common.{◌≡◌, ◌<◌, ℤ, is_some, true, false, MatchResult, Option, Some, None, FitsSigned, to_z-of_z, ap, subst, sym, ◌∙◌}
+use Rattle.std.specs.Int.{w128}
 use Rattle.asn1_model.specs.Form.{written}
-use Rattle.asn1_model.specs.Numbers.{signed_octets}
+use Rattle.asn1_model.specs.Numbers.{is_within, signed_octets}
 use Rattle.asn1_model.specs.Oer
+use Rattle.asn1_model.specs.Schema.{Range}
 use Rattle.asn1_schema_constraints.specs.Terms.{bounds_of, held_of}
 use Rattle.asn1_schema_constraints.specs.declared.extensions.Extensible.{Extensible}
 use Rattle.asn1_schema_constraints.specs.declared.parts.Value.{Value}
-use Rattle.oer_codec_writing.specs.Writing.{Adds}
-use Rattle.oer_codec_writing.proofs.ScalarTexts.{adds_same}
-use Rattle.oer_codec_writing.proofs.IntegerTexts.{length_signed, unbounded_text, marked_text, bounded_text, outside_none, wide_none}
+use Rattle.asn1_values_natives.specs.Octets.{signed_octets_of}
+use Rattle.oer_codec_writing.specs.Writing.{Adds, Refuses}
+use Rattle.oer_codec_writing.proofs.IntegerTexts.{held_within_wide, many_past, signed_counted, unbounded_text, wide_none}
 use Rattle.oer_codec_writing.proofs.integers.push_integer.Goals as goal
 
-pub returns-in_default : goal.returns-in_default
-returns-in_default g c =
-    let v = g.I.IntegerType.value c.args.value.now in
-    let h = g.I.IntegerType.held in
-    subst (λ (o : Option (Extensible Value)). Adds (written (Oer.integer_form (bounds_of o) (held_of o h) v) 0) c.args.octets.now.items c.push_signed.new.octets.items) (sym c.in_default.is)
-    (adds_same _ _ c.args.octets.now.items c.push_signed.new.octets.items (unbounded_text h v c.to_signed_bytes_be.ensures.within) c.in_ok-push_signed.ensures)
+refused : (o : Option (Extensible Value)) (h : Range) (v : ℤ) → is_some o ≡ true → 16 < signed_octets v → written (Oer.integer_form (bounds_of o) (held_of o h) v) 0 ≡ None
+refused None h v e l = cc
+refused (Some c) h v e l = wide_none c h v l
 
-pub returns-then-width-gt-MOST_OCTETS : goal.returns-then-width-gt-MOST_OCTETS
-returns-then-width-gt-MOST_OCTETS g c =
-    let v = g.I.IntegerType.value c.args.value.now in
+unbounded : (o : Option (Extensible Value)) (h : Range) (v : ℤ) → is_some o ≡ false → is_within h v ≡ true → written (Oer.integer_form (bounds_of o) (held_of o h) v) 0 ≡ written (Oer.counted (signed_octets_of v)) 0
+unbounded None h v e w = unbounded_text h v w ∙ signed_counted v
+unbounded (Some c) h v e w = cc
+
+pub returns-in-Some : goal.returns-in-Some
+returns-in-Some g c =
     let h = g.I.IntegerType.held in
-    let many : 16 < signed_octets v = omega (arith, c.if-width-gt-MOST_OCTETS.true, c.len-width.ensures, ap length c.to_signed_bytes_be.ensures.octets, length_signed v) in
-    subst (λ (o : Option (Extensible Value)). written (Oer.integer_form (bounds_of o) (held_of o h) v) 0 ≡ None) (sym c.in-Some.is) (wide_none c.in-Some.limits h v many)
+    let o = c.args.constraints.value in
+    let e = c.in-Some.ensures.number in
+    let fits : FitsSigned w128 c.in-Some.number = subst (λ (z : ℤ). FitsSigned w128 z) (sym e) (held_within_wide (g.I.IntegerType.value c.args.value.now) (sym c.in-Some.ensures.fits)) in
+    let t = to_z-of_z fits ∙ e in
+    subst (λ (z : ℤ). MatchResult c.push_number.result (λ _. Adds (written (Oer.integer_form (bounds_of o) (held_of o h) z) 0) c.args.octets.now.items c.push_number.new.octets.items) (Refuses (written (Oer.integer_form (bounds_of o) (held_of o h) z) 0))) t
+    (c.push_number.ensures h (ap (is_within h) t ∙ c.to_i128.ensures.within))
 
 pub returns-then-is_some : goal.returns-then-is_some
 returns-then-is_some g c =
     let v = g.I.IntegerType.value c.args.value.now in
-    let h = g.I.IntegerType.held in
-    let few : signed_octets v ≤ 16 = omega (arith, c.if-width-gt-MOST_OCTETS.false, c.len-width.ensures, ap length c.to_signed_bytes_be.ensures.octets, length_signed v) in
-    subst (λ (o : Option (Extensible Value)). Adds (written (Oer.integer_form (bounds_of o) (held_of o h) v) 0) c.args.octets.now.items c.push_signed-then-is_some.new.octets.items) (sym c.in-Some.is)
-    (adds_same _ _ c.args.octets.now.items c.push_signed-then-is_some.new.octets.items (marked_text c.in-Some.limits h v c.to_signed_bytes_be.ensures.within few (sym c.is_some.ensures ∙ c.if-is_some.true)) c.in_ok-push_signed-2.ensures)
-
-pub returns-then-not-in_bound : goal.returns-then-not-in_bound
-returns-then-not-in_bound g c =
-    let v = g.I.IntegerType.value c.args.value.now in
-    let h = g.I.IntegerType.held in
-    let few : signed_octets v ≤ 16 = omega (arith, c.if-width-gt-MOST_OCTETS.false, c.len-width.ensures, ap length c.to_signed_bytes_be.ensures.octets, length_signed v) in
-    subst (λ (o : Option (Extensible Value)). written (Oer.integer_form (bounds_of o) (held_of o h) v) 0 ≡ None) (sym c.in-Some.is)
-    (outside_none c.in-Some.limits h v c.to_signed_bytes_be.ensures.within few (sym c.is_some.ensures ∙ c.if-is_some.false) (sym c.in_bound.ensures ∙ c.if-not-in_bound.true))
+    refused c.args.constraints.value g.I.IntegerType.held v (sym c.is_some.ensures ∙ c.if-is_some.true) (many_past v (sym c.to_i128.ensures.fits ∙ ap is_some c.in_default.is))
 
 pub returns : goal.returns
 returns g c =
-    let v = g.I.IntegerType.value c.args.value.now in
-    let h = g.I.IntegerType.held in
-    let few : signed_octets v ≤ 16 = omega (arith, c.if-width-gt-MOST_OCTETS.false, c.len-width.ensures, ap length c.to_signed_bytes_be.ensures.octets, length_signed v) in
-    subst (λ (o : Option (Extensible Value)). Adds (written (Oer.integer_form (bounds_of o) (held_of o h) v) 0) c.args.octets.now.items c.push_bounded.new.octets.items) (sym c.in-Some.is)
-    (adds_same _ _ c.args.octets.now.items c.push_bounded.new.octets.items (bounded_text c.in-Some.limits h v c.to_signed_bytes_be.ensures.within few (sym c.is_some.ensures ∙ c.if-is_some.false) (sym c.in_bound.ensures ∙ c.if-not-in_bound.false)) c.in_ok-push_bounded.ensures)
+    let old = c.args.octets.now.items in
+    let new = c.push_counted.new.octets.items in
+    subst (λ t. Adds t old new) (sym (unbounded c.args.constraints.value g.I.IntegerType.held (g.I.IntegerType.value c.args.value.now) (sym c.is_some.ensures ∙ c.if-is_some.false) c.to_i128.ensures.within))
+    (subst (λ l. Adds (written (Oer.counted l) 0) old new) (c.as_slice.ensures ∙ c.to_signed_bytes_be.ensures.octets) c.in_ok-push_counted.ensures)

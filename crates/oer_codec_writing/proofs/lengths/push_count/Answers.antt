@@ -1,12 +1,14 @@
-use Rattle.std.proofs.Common.{◌≡◌, ◌++◌, ◌∷◌, [], Some, ap, sym, ◌∙◌, arith, append_assoc}
-use Rattle.asn1_model.specs.Numbers.{digits, least_octets}
-use Rattle.oer_codec_writing.proofs.LengthTexts.{count_text, adds_text}
+use Rattle.std.proofs.Common.{pos, refl, subst, sym}
+use Rattle.asn1_model.specs.Form.{written}
+use Rattle.asn1_model.specs.Numbers.{digits}
+use Rattle.asn1_model.specs.Oer
+use Rattle.oer_codec_writing.specs.Writing.{Adds}
+use Rattle.oer_codec_writing.proofs.IntegerTexts.{natural_counted}
 use Rattle.oer_codec_writing.proofs.lengths.push_count.Goals as goal
 
 pub returns : goal.returns
 returns c =
-    let w = c.max-width.result in
-    let e : w ≡ least_octets c.args.count = omega (arith, c.max-width.ensures, c.octet_width.ensures.width) in
-    adds_text _ (w ∷ digits 256 w c.args.count) c.args.octets.now.items c.push_digits.new.octets.items
-    (count_text c.args.count c.ranges.count.fits ∙ sym (ap (λ k. Some (k ∷ digits 256 k c.args.count)) e))
-    (c.in_ok-push_digits.ensures ∙ ap (λ l. l ++ digits 256 w c.args.count) c.in_ok-push.ensures.items ∙ append_assoc c.args.octets.now.items (w ∷ []) (digits 256 w c.args.count))
+    let old = c.args.octets.now.items in
+    let new = c.push_counted_digits.new.octets.items in
+    subst (λ t. Adds t old new) (sym (natural_counted (pos c.args.count) refl))
+    (subst (λ k. Adds (written (Oer.counted (digits 256 k c.args.count)) 0) old new) c.natural_len.ensures.octets c.in_ok-push_counted_digits.ensures)

@@ -1,0 +1,62 @@
+//! The low octets of numbers, and how many octets numbers have at the fewest.
+ghost use Rattle.std.specs.Prelude.{◌≡◌, ◌≤◌, ◌++◌, MatchResult};
+ghost use Rattle.asn1_model.specs.Form.{written};
+ghost use Rattle.asn1_model.specs.Numbers.{digits, least_octets, signed_octets};
+ghost use Rattle.asn1_model.specs.Oer.{counted};
+ghost use Rattle.oer_codec_writing.specs.Writing.{Adds};
+
+use asn1_schema_faults::EncodeError;
+use asn1_values_natives::Wide;
+use asn1_values_natives::octets::bit_count;
+
+/// Adds the low octets of a number, so many of them, the highest first.
+#[inline]
+pub(crate) fn push_digits(
+    octets: &mut Vec<u8>,
+    number: u128,
+    count: usize,
+) -> Result<(), EncodeError>
+    requires { count ≤ 16 }
+    ensures { MatchResult result (λ _. octets.new.items ≡ octets.old.items ++ digits 256 count number) (λ e. e ≡ EncodeError.OutOfMemory) }
+{
+    match count {
+        1 => octets.push((number % 0x100) as u8)?,
+        2 => octets.extend_from_slice(&((number % 0x1_0000) as u16).to_be_bytes())?,
+        4 => octets.extend_from_slice(&((number % 0x1_0000_0000) as u32).to_be_bytes())?,
+        8 => octets.extend_from_slice(&((number % 0x1_0000_0000_0000_0000) as u64).to_be_bytes())?,
+        _ => octets.extend_from_slice(&number.to_be_bytes()[16 - count..])?,
+    }
+    Ok(())
+}
+
+/// Adds the low octets of a number behind how many they are (X.696 8.6 and 10).
+pub(crate) fn push_counted_digits(
+    octets: &mut Vec<u8>,
+    number: u128,
+    count: usize,
+) -> Result<(), EncodeError>
+    requires { count ≤ 16 }
+    ensures { MatchResult result (λ _. Adds (written (counted (digits 256 count number)) 0) octets.old.items octets.new.items) (λ e. e ≡ EncodeError.OutOfMemory) }
+{
+    octets.push(count as u8)?;
+    push_digits(octets, number, count)?;
+    Ok(())
+}
+
+/// How many octets of two's complement a number has at the fewest (X.696 10).
+#[inline]
+pub(crate) fn signed_len(number: i128) -> usize
+    ensures octets { result ≡ signed_octets number }
+    ensures most { result ≤ 16 }
+{
+    bit_count(Wide::from_i128(number).magnitude) / 8 + 1
+}
+
+/// How many octets a number without a sign has at the fewest, at least one (X.696 10 and 17).
+#[inline]
+pub(crate) fn natural_len(number: u128) -> usize
+    ensures octets { result ≡ least_octets number }
+    ensures most { result ≤ 16 }
+{
+    ((bit_count(number) + 7) / 8).max(1)
+}
