@@ -30,6 +30,7 @@ pub fn decode<T: Decode>(alloc: Global, input: &[u8], variant: Variant) -> Resul
 /// # Errors
 ///
 /// As `decode`.
+#[inline(always)]
 pub fn decode_with_remainder<'input, T: Decode>(
     alloc: Global,
     input: &'input [u8],

@@ -31,7 +31,7 @@ use per_codec_reading::Variant;
 use per_codec_reading::units::{read_boolean, read_null};
 use per_codec_reading_characters::read_characters;
 use per_codec_reading_numbers::read_integer;
-use per_codec_reading_places::{read_item, read_place};
+use per_codec_reading_places::{read_item, read_place_of_alternative};
 use per_codec_reading_scopes::{Field, Stretch, skip_unknown};
 use per_codec_reading_units::{
     read_bit_string, read_object_identifier, read_octet_string, read_utf8_string,
@@ -63,6 +63,7 @@ impl<'input> Model for Decoder<'input> {
 impl<'input> Decoder<'input> {
     /// A decoder of this input, within 128 nested levels. Of an input of 2 to 60 octets or more the first ones are looked at, fewer than so
     /// many.
+    #[inline(always)]
     pub fn new(alloc: Global, input: &'input [u8], options: DecoderOptions) -> Self
         ensures { result ≡ record { place = (0, octet_bits (take (2 ^ 60 - 1) input.entry.now)); scopes = []; levels = 128; most = 128; failed = false; variant = options.variant } }
     {
@@ -77,6 +78,7 @@ impl<'input> Decoder<'input> {
     }
 
     /// The unread bits.
+    #[inline(always)]
     pub fn input(&self) -> BitStr<'_>
         ensures { bits_of result ≡ self.now.place.1 }
     {
@@ -89,6 +91,7 @@ impl<'input> Decoder<'input> {
     ///
     /// `AlreadyFailed` after a refusal, `InvalidPadding` if the octet of a value of no bits is not zero, and `Incomplete` if the input ends
     /// early.
+    #[inline(always)]
     pub fn finish(&mut self) -> Result<(), DecodeError>
         ensures ok { OnOk result (IsReady self.old × Front (freedoms self.old.variant) (completion self.old.place.0) self.old.place self.new.place) }
         ensures only { IfErr result (λ _. IsReady self.old → (b : _) → Front (freedoms self.old.variant) (completion self.old.place.0) self.old.place b → ⊥) }
@@ -110,6 +113,7 @@ impl<'input> Decoder<'input> {
     }
 
     // Goes on, unless the decoder has failed.
+    #[inline(always)]
     fn begin_record(&mut self) -> Result<(), DecodeError>
         ensures ok { OnOk result (IsReady self.old × (self.new ≡ self.old)) }
         ensures only { IfErr result (λ _. IsReady self.old → ⊥) }
@@ -123,6 +127,7 @@ impl<'input> Decoder<'input> {
     }
 
     // Goes on behind what a reader found, at this position, or fails as it did.
+    #[inline(always)]
     fn settle<T>(
         &mut self,
         position: usize,
@@ -143,6 +148,7 @@ impl<'input> Decoder<'input> {
     }
 
     // Opens a scope, and takes a level for it.
+    #[inline(always)]
     fn enter(&mut self, frame: Frame<'input>) -> Result<(), DecodeError>
         requires { 0 < self.old.levels }
         ensures levels { OnOk result (self.old.levels ≡ self.new.levels + 1) }
@@ -158,6 +164,7 @@ impl<'input> Decoder<'input> {
     }
 
     // Takes a level.
+    #[inline(always)]
     fn descend(&mut self)
         requires { 0 < self.old.levels }
         ensures levels { self.old.levels ≡ self.new.levels + 1 }
@@ -190,6 +197,7 @@ impl<'input> Decoder<'input> {
     }
 
     // Begins a sequence, set or group.
+    #[inline(always)]
     fn enter_components(&mut self, extensible: bool, optional: usize) -> Result<(), DecodeError>
         ensures ok { OnOk result (EntersComponents self.old extensible optional self.new) }
         ensures only { IfErr result (NotComponents self.old extensible optional) }
@@ -226,6 +234,7 @@ impl<'input> Decoder<'input> {
     }
 
     // Passes over what is left where a scope ends.
+    #[inline(always)]
     fn pass_over(&mut self, ending: Ending<'input>) -> Result<(), DecodeError>
         ensures ok { OnOk result (Stays self.old self.new × Passes (is_aligned self.old.variant) (freedoms self.old.variant) ending.entry self.old.place self.new.place) }
         ensures only { IfErr result (NotPassed (is_aligned self.old.variant) (freedoms self.old.variant) ending.entry self.old.place) }
@@ -276,6 +285,7 @@ impl<'input> asn1_schema_decode::Decoder for Decoder<'input> {
         self.fail(error)
     }
 
+    #[inline(always)]
     fn decode_bool(&mut self, _tag: Tag) -> Result<bool, DecodeError> {
         self.begin_record()?;
         let mut cursor = self.place.cursor();
@@ -292,6 +302,7 @@ impl<'input> asn1_schema_decode::Decoder for Decoder<'input> {
         self.settle(position, answer)
     }
 
+    #[inline(always)]
     fn decode_integer<I: IntegerType>(
         &mut self,
         alloc: Global,
@@ -328,6 +339,7 @@ impl<'input> asn1_schema_decode::Decoder for Decoder<'input> {
         self.settle(position, answer)
     }
 
+    #[inline(always)]
     fn decode_octet_string(
         &mut self,
         alloc: Global,
@@ -406,6 +418,7 @@ impl<'input> asn1_schema_decode::Decoder for Decoder<'input> {
         self.enter_members(constraints, held)
     }
 
+    #[inline(always)]
     fn get_further(&mut self) -> Result<bool, DecodeError> {
         self.begin_record()?;
         let mut cursor = self.place.cursor();
@@ -414,6 +427,7 @@ impl<'input> asn1_schema_decode::Decoder for Decoder<'input> {
         self.settle(position, answer)
     }
 
+    #[inline(always)]
     fn begin_sequence(
         &mut self,
         _tag: Tag,
@@ -436,6 +450,7 @@ impl<'input> asn1_schema_decode::Decoder for Decoder<'input> {
         self.enter_components(false, optional)
     }
 
+    #[inline(always)]
     fn get_mark(&mut self) -> Result<bool, DecodeError> {
         self.begin_record()?;
         match self.scopes.next_mark() {
@@ -508,7 +523,7 @@ impl<'input> asn1_schema_decode::Decoder for Decoder<'input> {
         let root_count = roots.len();
         let added_count = additions.len();
         let mut cursor = self.place.cursor();
-        let answer = read_place(
+        let answer = read_place_of_alternative(
             alloc,
             &mut cursor,
             self.variant,
@@ -527,6 +542,7 @@ impl<'input> asn1_schema_decode::Decoder for Decoder<'input> {
         Ok(chosen)
     }
 
+    #[inline(always)]
     fn end(&mut self) -> Result<(), DecodeError> {
         self.begin_record()?;
         if self.levels >= self.most {

@@ -59,6 +59,7 @@ impl<'input> Model for Scopes<'input> {
 
 impl<'input> Scopes<'input> {
     /// Nothing is open.
+    #[inline(always)]
     pub(crate) fn new(alloc: Global) -> Self
         ensures { result ≡ [] }
     {
@@ -74,6 +75,7 @@ impl<'input> Scopes<'input> {
     }
 
     /// Opens a scope inside all others.
+    #[inline(always)]
     pub(crate) fn open(&mut self, frame: Frame<'input>) -> Result<(), AllocError>
         ensures { OnOk result (self.new ≡ scope_of frame.entry ∷ self.old) }
     {
@@ -86,6 +88,7 @@ impl<'input> Scopes<'input> {
     }
 
     /// The next presence bit of the innermost sequence, set or group.
+    #[inline(always)]
     pub(crate) fn next_mark(&mut self) -> Option<bool>
         ensures some { IfSome result (λ present. (p : _) → NextMark present p self.old (p, self.new)) }
         ensures none { IfNone result ((present : _) (p : _) (b : _) → NextMark present p self.old b → ⊥) }
@@ -126,6 +129,7 @@ impl<'input> Scopes<'input> {
     }
 
     /// Takes the innermost scope off.
+    #[inline(always)]
     fn pop(&mut self) -> Option<Frame<'input>>
         ensures some { IfSome result (λ frame. self.old ≡ scope_of frame ∷ self.new) }
         ensures none { IfNone result (self.old ≡ []) }
@@ -166,6 +170,7 @@ impl<'input> Scopes<'input> {
     /// # Errors
     ///
     /// Those of a header, and `SizeConstraintNotSatisfied` if all members are not as many as there may be.
+    #[inline(always)]
     pub(crate) fn next_member(
         &mut self,
         cursor: &mut Cursor<'_>,
@@ -181,6 +186,7 @@ impl<'input> Scopes<'input> {
     }
 
     /// Closes the innermost scope, if nothing of it is still to come but what it leaves.
+    #[inline(always)]
     pub(crate) fn leave(&mut self) -> Option<Ending<'input>>
         ensures some { IfSome result (λ ending. Leaves ending self.old self.new) }
         ensures none { IfNone result (NoEnd self.old) }

@@ -92,6 +92,7 @@ impl Tally {
 
 impl Part {
     /// Whether none is due, and no header stands behind.
+    #[inline(always)]
     pub(crate) fn is_last(&self) -> bool
         ensures { IsTrue result ↔ ((self.now.due ≡ 0) × (self.now.tally ≡ None)) }
     {
@@ -103,6 +104,7 @@ impl Part {
     /// # Errors
     ///
     /// Those of a header.
+    #[inline(always)]
     pub(crate) fn next(
         &mut self,
         cursor: &mut Cursor<'_>,
@@ -125,6 +127,7 @@ impl Part {
     }
 
     /// Takes one of the members that are due, if there is one.
+    #[inline(always)]
     fn take_member(&mut self) -> bool
         requires { self.old.due ≡ 0 → self.old.tally ≡ None }
         ensures { (p : _) (k : _) → MemberDue result self.old.due self.old.tally p k (p, members self.new.due self.new.tally ∷ k) }

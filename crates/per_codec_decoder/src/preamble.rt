@@ -32,6 +32,7 @@ pub(crate) fn read_bit(cursor: &mut Cursor<'_>) -> Result<bool, DecodeError>
 /// # Errors
 ///
 /// `Incomplete` if there is no bit.
+#[inline(always)]
 fn read_mark(place: &mut Stretch<'_>, extensible: bool) -> Result<Option<bool>, DecodeError>
     ensures mark { IfOk result (λ mark. is_present mark ≡ extensible) }
     ensures bits { IfOk result (λ mark. Leads (preamble_bits mark []) place.old place.new) }
@@ -53,6 +54,7 @@ fn read_mark(place: &mut Stretch<'_>, extensible: bool) -> Result<Option<bool>, 
 /// # Errors
 ///
 /// `Incomplete` if the bits end early, and `OutOfMemory`.
+#[inline(always)]
 pub(crate) fn read_preamble<'input>(
     alloc: Global,
     place: &mut Stretch<'input>,

@@ -77,7 +77,7 @@ fn there_is_no_such_alternative(rt: HostRuntime) -> Result<(), Fail> {
         Tag::new_context(2),
     ];
     let chosen = decoder.begin_choice(Tag::EOC, &tags, false, &[]);
-    assert!(rt; chosen.err() == Some(DecodeError::ValueConstraintNotSatisfied));
+    assert!(rt; chosen.err() == Some(DecodeError::InvalidTagVariantOnChoice));
     assert!(rt; decoder.end().err() == Some(DecodeError::AlreadyFailed));
     Ok(())
 }

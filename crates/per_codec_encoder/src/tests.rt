@@ -1,4 +1,5 @@
 //! Octets of X.691 by values of real types, unaligned and aligned.
+mod additions;
 mod answer;
 mod colour;
 

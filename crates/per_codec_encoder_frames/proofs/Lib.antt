@@ -5,3 +5,4 @@ pub mod Added
 pub mod Ending
 pub mod Choosing
 pub mod Bagging
+pub mod Last

@@ -55,25 +55,22 @@ pub fn put_mark(
     requires { AreSound frames.old.items output.old }
     ensures { MatchResult result (λ _. (al : Bool) → Does al (mark present) frames.old.items output.old frames.new.items output.new) (λ e. (al : Bool) → Cannot al (mark present) frames.old.items output.old e) }
 {
-    match frames.pop() {
-        Some(
-            Frame::Components {
-                extensible,
-                due,
-                given,
-                start,
-            },
-        ) => {
-            if due == 0 {
+    let Some(innermost) = frames.last_mut() else {
+        return Err(EncodeError::SizeConstraintNotSatisfied);
+    };
+    match innermost {
+        Frame::Components {
+            extensible,
+            due,
+            given,
+            start,
+        } => {
+            if *due == 0 {
                 return Err(EncodeError::SizeConstraintNotSatisfied);
             }
-            output.set(start.bits + usize::from(extensible) + given, present);
-            frames.push(Frame::Components {
-                extensible,
-                due: due - 1,
-                given: given + 1,
-                start,
-            })?;
+            output.set(start.bits + usize::from(*extensible) + *given, present);
+            *due -= 1;
+            *given += 1;
             Ok(())
         }
         _ => Err(EncodeError::SizeConstraintNotSatisfied),

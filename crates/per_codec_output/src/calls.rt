@@ -13,6 +13,17 @@ use std::mem;
 /// An encoding has fewer octets than this.
 const LENGTH_LIMIT: usize = 1 << 60;
 
+/// How many octets there is room for before the first one is written.
+const FIRST_CAPACITY: usize = 128;
+
+/// No octets, with room for those of a small value.
+fn with_room(alloc: Global) -> Result<Vec<u8>, EncodeError>
+    ensures { MatchResult result (λ octets. octets.items ≡ []) (λ e. e ≡ EncodeError.OutOfMemory) }
+{
+    let octets = Vec::with_capacity(alloc, FIRST_CAPACITY)?;
+    Ok(octets)
+}
+
 /// The octets, if they are not too many for an encoding.
 fn within_limit(octets: Vec<u8>) -> Result<Vec<u8>, EncodeError>
     ensures { MatchResult result (λ kept. (kept.items ≡ octets.items) × (length octets.items < 2 ^ 60)) (λ e. (e ≡ EncodeError.TooLongValue) × (2 ^ 60 ≤ length octets.items)) }
@@ -36,7 +47,8 @@ pub fn encode<T: Encode>(
     ensures ok { IfOk result (λ octets. IsEncoded (is_aligned options) T.schema (T.meaning value.now) octets.items) }
     ensures only { IfErr result (NotEncoded (is_aligned options) T.schema (T.meaning value.now)) }
 {
-    encode_into(alloc, options, value, Vec::new(alloc))
+    let room = with_room(alloc)?;
+    encode_into(alloc, options, value, room)
 }
 
 /// The same in the room of these octets, which are cleared.
@@ -69,7 +81,8 @@ pub fn encode_with_constraints<T: Encode>(
     ensures ok { IfOk result (λ octets. IsEncoded (is_aligned options) (T.under constraints.entry) (T.meaning value.now) octets.items) }
     ensures only { IfErr result (NotEncoded (is_aligned options) (T.under constraints.entry) (T.meaning value.now)) }
 {
-    let mut encoder = Encoder::new(alloc, options);
+    let room = with_room(alloc)?;
+    let mut encoder = Encoder::new_with_output(alloc, options, room);
     value.encode_with_constraints(&mut encoder, constraints)?;
     let octets = encoder.output()?;
     within_limit(octets)

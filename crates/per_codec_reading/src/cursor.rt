@@ -40,6 +40,7 @@ impl<'input> Cursor<'input> {
     }
 
     /// Before these bits, which are all of a message or of an open type.
+    #[inline(always)]
     pub fn from_bits(bits: BitStr<'input>) -> Self
         ensures { result ≡ (0, bits_of bits.entry) }
     {
@@ -51,6 +52,7 @@ impl<'input> Cursor<'input> {
     }
 
     /// How many bits of the message or open type are read.
+    #[inline(always)]
     pub fn position(&self) -> usize
         ensures { result ≡ self.now.0 }
     {
@@ -58,6 +60,7 @@ impl<'input> Cursor<'input> {
     }
 
     /// The unread bits.
+    #[inline(always)]
     pub fn bits(&self) -> BitStr<'input>
         ensures { bits_of result ≡ self.now.1 }
     {
@@ -65,6 +68,7 @@ impl<'input> Cursor<'input> {
     }
 
     /// How many bits are unread.
+    #[inline(always)]
     pub fn len(&self) -> usize
         ensures { result ≡ length self.now.1 }
     {
@@ -72,6 +76,7 @@ impl<'input> Cursor<'input> {
     }
 
     /// Whether all bits are read.
+    #[inline(always)]
     pub fn is_empty(&self) -> bool
         ensures { IsTrue result ↔ (self.now.1 ≡ []) }
     {
@@ -83,6 +88,7 @@ impl<'input> Cursor<'input> {
     /// # Errors
     ///
     /// `Incomplete` if there are fewer.
+    #[inline(always)]
     pub fn take(&mut self, count: usize) -> Result<BitStr<'input>, DecodeError>
         ensures bits { IfOk result (λ bits. Leads (bits_of bits) self.old self.new) }
         ensures count { IfOk result (λ bits. length (bits_of bits) ≡ count) }
@@ -102,6 +108,7 @@ impl<'input> Cursor<'input> {
     /// # Errors
     ///
     /// `Incomplete` if there are fewer.
+    #[inline(always)]
     pub fn take_number(&mut self, width: u32) -> Result<u128, DecodeError>
         requires { width ≤ 128 }
         ensures digits { IfOk result (λ number. Leads (binary width number) self.old self.new) }

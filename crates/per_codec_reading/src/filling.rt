@@ -11,6 +11,7 @@ use crate::{Cursor, Variant};
 use asn1_schema_faults::DecodeError;
 
 /// How many bits are missing to whole octets.
+#[inline(always)]
 fn missing(count: usize) -> usize
     ensures { result ≡ Numbers.missing count }
 {
@@ -22,6 +23,7 @@ fn missing(count: usize) -> usize
 /// # Errors
 ///
 /// `Incomplete` if there are fewer.
+#[inline(always)]
 pub fn skip_filling(cursor: &mut Cursor<'_>, variant: Variant) -> Result<(), DecodeError>
     ensures ok { OnOk result (Front (freedoms variant) to_octet cursor.old cursor.new) }
     ensures only { IfErr result (Misses (freedoms variant) (λ (_ : Unit {0}). to_octet) cursor.old) }
@@ -35,6 +37,7 @@ pub fn skip_filling(cursor: &mut Cursor<'_>, variant: Variant) -> Result<(), Dec
 /// # Errors
 ///
 /// `Incomplete` if there are fewer bits.
+#[inline(always)]
 pub fn align(cursor: &mut Cursor<'_>, variant: Variant) -> Result<(), DecodeError>
     ensures ok { OnOk result (Front (freedoms variant) (Per.at_octet (fronts.is_aligned variant) nothing_more) cursor.old cursor.new) }
     ensures only { IfErr result (Misses (freedoms variant) (Per.at_octet (fronts.is_aligned variant)) cursor.old) }

@@ -20,6 +20,7 @@ pub enum Length {
 }
 
 /// Reads a length that begins here: seven bits, fourteen bits or six, behind the bits that tell which (X.691 11.9.3.6 to 11.9.3.8).
+#[inline(always)]
 fn read_header(cursor: &mut Cursor<'_>, variant: Variant) -> Result<Length, DecodeError>
     ensures ok { IfOk result (λ length. Front (freedoms variant) (length_form false length) cursor.old cursor.new) }
     ensures bound { IfOk result IsLength }
@@ -46,6 +47,7 @@ fn read_header(cursor: &mut Cursor<'_>, variant: Variant) -> Result<Length, Deco
 /// # Errors
 ///
 /// `Incomplete` if the bits end early, and `LengthExceedsPlatformWidth` at a fragment of none or of more than four times 16384 units.
+#[inline(always)]
 pub fn read_length(cursor: &mut Cursor<'_>, variant: Variant) -> Result<Length, DecodeError>
     ensures ok { IfOk result (λ length. Front (freedoms variant) (length_form (fronts.is_aligned variant) length) cursor.old cursor.new) }
     ensures bound { IfOk result IsLength }

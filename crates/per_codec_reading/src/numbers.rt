@@ -25,6 +25,7 @@ fn octet_width(number: u128) -> usize
 /// # Errors
 ///
 /// `Incomplete` if there are fewer bits, and `ValueConstraintNotSatisfied` if it is above the highest one.
+#[inline(always)]
 pub fn read_number_within(
     cursor: &mut Cursor<'_>,
     variant: Variant,
@@ -44,6 +45,7 @@ pub fn read_number_within(
 }
 
 /// Reads such a number at an octet in the aligned variant.
+#[inline(always)]
 fn read_aligned_within(
     cursor: &mut Cursor<'_>,
     variant: Variant,
@@ -83,6 +85,7 @@ fn read_octets_within(
 /// # Errors
 ///
 /// `Incomplete` if the bits end early, and `ValueConstraintNotSatisfied` if the number, or that of its octets, is too large.
+#[inline(always)]
 pub fn read_constrained(
     cursor: &mut Cursor<'_>,
     variant: Variant,

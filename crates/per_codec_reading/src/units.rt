@@ -16,6 +16,7 @@ use asn1_schema_faults::DecodeError;
 /// # Errors
 ///
 /// `Incomplete` if there is none.
+#[inline(always)]
 pub fn read_bit(cursor: &mut Cursor<'_>, variant: Variant) -> Result<bool, DecodeError>
     ensures ok { IfOk result (λ bit. Front (freedoms variant) (one_bit bit) cursor.old cursor.new) }
     ensures only { IfErr result (Misses (freedoms variant) one_bit cursor.old) }
@@ -29,6 +30,7 @@ pub fn read_bit(cursor: &mut Cursor<'_>, variant: Variant) -> Result<bool, Decod
 /// # Errors
 ///
 /// `Incomplete` if there is no bit.
+#[inline(always)]
 pub fn read_boolean(cursor: &mut Cursor<'_>, variant: Variant) -> Result<bool, DecodeError>
     ensures ok { IfOk result (λ b. Front (freedoms variant) (Per.form (fronts.is_aligned variant) Asn1.boolean (Asn1Value.truth b)) cursor.old cursor.new) }
     ensures only { IfErr result (Misses (freedoms variant) (Per.form (fronts.is_aligned variant) Asn1.boolean) cursor.old) }
@@ -37,6 +39,7 @@ pub fn read_boolean(cursor: &mut Cursor<'_>, variant: Variant) -> Result<bool, D
 }
 
 /// Reads the value of NULL (X.691 24), which has no bits.
+#[inline(always)]
 pub fn read_null(cursor: &mut Cursor<'_>, variant: Variant) -> Result<(), DecodeError>
     ensures ok { OnOk result (Front (freedoms variant) (Per.form (fronts.is_aligned variant) Asn1.null Asn1Value.nothing) cursor.old cursor.new) }
     ensures only { IfErr result (Misses (freedoms variant) (Per.form (fronts.is_aligned variant) Asn1.null) cursor.old) }

@@ -6,9 +6,9 @@ use Rattle.asn1_model.specs.Numbers.{digits, complement, octet_width, least_octe
 use Rattle.asn1_model.specs.Form.{only_if}
 use Rattle.asn1_model.specs.Strings.{each_is, is_octet}
 use Rattle.asn1_model.specs.Per
-use Rattle.asn1_values_natives.specs.Octets.{unsigned_number, signed_number, signed_octets_of}
+use Rattle.asn1_values_natives.specs.Octets.{unsigned_number, signed_number}
 use Rattle.asn1_values_natives.proofs.OctetLaws.{AreOctets, unsigned-lt, length-digits, unsigned-digits, digits-unsigned}
-use Rattle.asn1_values_natives.proofs.TwosComplement.{signed_octets-least, complement-back, signed-complement, plain-fits, length-complement, signed-back}
+use Rattle.asn1_values_natives.proofs.TwosComplement.{signed_octets-least, complement-back, signed-complement, plain-fits, length-complement}
 use Rattle.asn1_values_natives.proofs.Widths.{octets-least, octet_width-octets, signed_octets-plain}
 use Rattle.asn1_laws_fronts.proofs.PerNumbers.{counted_octets_alike}
 use Rattle.per_codec_fronts.specs.Takes.{Place, Front}
@@ -41,13 +41,6 @@ unsigned_back k n h =
     let p : 256 ^ octet_width n ≤ 256 ^ k = pow-le-pow_right (omega arith) h in
     let b = (octet_width-octets n).below in
     unsigned-digits k n (omega (arith, p, b))
-
--- a number's own octets
-pub own_octets : (z : ℤ) (os : List ℕ) → os ≡ signed_octets_of z → signed_number os ≡ z
-own_octets z os e = ap signed_number e ∙ signed-back z
-
-pub some_own_octets : (z : ℤ) (os : List ℕ) → os ≡ signed_octets_of z → 0 < length os
-some_own_octets z os e = let l = least_positive z in let n = length-complement (signed_octets z) z in let m = ap length e in omega (arith, l, n, m)
 
 module _ (free : Per.Freedom → Bool) where
   octets_of : (al : Bool) (os : List ℕ) (a b : Place) → Front free (Per.counted_octets al os) a b → AreOctets os

@@ -18,6 +18,7 @@ use per_codec_reading::{Cursor, Variant};
 use std::alloc::Global;
 
 /// The number so far above a lower bound, if 128 bits of two's complement hold it.
+#[inline(always)]
 fn number_above(low: i128, above: u128) -> Result<i128, DecodeError>
     ensures number { IfOk result (λ number. number ≡ low +ℤ pos above) }
     ensures held { OnOk result (is_within wide_range (low +ℤ pos above) ≡ true) }
@@ -34,6 +35,7 @@ fn number_above(low: i128, above: u128) -> Result<i128, DecodeError>
 /// # Errors
 ///
 /// `ValueConstraintNotSatisfied` if it is not between them, and the errors of a constrained whole number.
+#[inline(always)]
 fn read_between(
     cursor: &mut Cursor<'_>,
     variant: Variant,
@@ -91,6 +93,7 @@ fn read_up_to(
 }
 
 /// Reads a number of the root, by its bounds (X.691 13.2).
+#[inline(always)]
 fn read_root(
     alloc: Global,
     cursor: &mut Cursor<'_>,
@@ -136,6 +139,7 @@ fn read_marked(
 ///
 /// `Incomplete` if the bits end early, `ZeroLengthOfLength` if the number has no octets, `ValueConstraintNotSatisfied` if it is outside the
 /// bounds, or if 128 bits of two's complement do not hold it, the errors of a length, and `OutOfMemory`.
+#[inline(always)]
 pub fn read_bounded(
     alloc: Global,
     cursor: &mut Cursor<'_>,

@@ -15,7 +15,6 @@ use crate::octets::read_number_octets;
 use asn1_schema_constraints::Constraints;
 use asn1_schema_faults::DecodeError;
 use asn1_values_integer_types::IntegerType;
-use asn1_values_natives::{IntegerBytes, Wide};
 use asn1_values_numbers::IntegerError;
 use per_codec_reading::{Cursor, Variant};
 use std::alloc::Global;
@@ -44,13 +43,16 @@ fn value_of<I: IntegerType>(alloc: Global, octets: &[u8]) -> Result<I, DecodeErr
 }
 
 /// A number of 128 bits in a type of the program, if that holds it.
-fn held_number<I: IntegerType>(alloc: Global, number: i128) -> Result<I, DecodeError>
+#[inline(always)]
+fn held_number<I: IntegerType>(number: i128) -> Result<I, DecodeError>
     ensures value { IfOk result (λ x. I.value x ≡ number) }
     ensures held { OnOk result (is_within I.held number ≡ true) }
     ensures refused { IfErr result (λ e. (e ≡ DecodeError.OutOfMemory) ⊎ (is_within I.held number ≡ false)) }
 {
-    let octets = IntegerBytes::signed(Wide::from_i128(number));
-    value_of(alloc, octets.as_slice())
+    match I::from_i128(number) {
+        Some(value) => Ok(value),
+        None => Err(DecodeError::IntegerOverflow),
+    }
 }
 
 /// Reads a whole number (X.691 13) under a value constraint, in a type of the program.
@@ -59,6 +61,7 @@ fn held_number<I: IntegerType>(alloc: Global, number: i128) -> Result<I, DecodeE
 ///
 /// `Incomplete` if the bits end early, `ZeroLengthOfLength` if the number has no octets, `ValueConstraintNotSatisfied` if the constraint
 /// does not admit it, `IntegerOverflow` if the program's type does not hold it, the errors of a length, and `OutOfMemory`.
+#[inline(always)]
 pub fn read_integer<I: IntegerType>(
     alloc: Global,
     cursor: &mut Cursor<'_>,
@@ -73,5 +76,5 @@ pub fn read_integer<I: IntegerType>(
         return value_of(alloc, octets.as_slice());
     };
     let number = read_bounded(alloc, cursor, variant, constraint)?;
-    held_number(alloc, number)
+    held_number(number)
 }

@@ -9,7 +9,7 @@ ghost use Rattle.per_codec_fronts.specs.Takes.{Front};
 ghost use Rattle.per_codec_reading.specs.Fronts as fronts;
 ghost use Rattle.per_codec_reading.specs.Fronts.{freedoms, Misses};
 
-use crate::places::read_place;
+use crate::places::read_place_of_item;
 use asn1_schema_faults::DecodeError;
 use asn1_schema_variants::{Chosen, Enumerated};
 use per_codec_reading::{Cursor, Variant};
@@ -30,7 +30,7 @@ fn item_at<T: Enumerated>(chosen: Chosen) -> Option<T>
 ///
 /// # Errors
 ///
-/// `ValueConstraintNotSatisfied` if there is no item at the place, and the errors of a number.
+/// `DiscriminantValueNotFound` if there is no item at the place, and the errors of a number.
 pub fn read_item<T: Enumerated>(
     alloc: Global,
     cursor: &mut Cursor<'_>,
@@ -42,9 +42,9 @@ pub fn read_item<T: Enumerated>(
     let extensible = T::extended_variants().is_some();
     let roots = T::variance();
     let others = T::extended_variance();
-    let chosen = read_place(alloc, cursor, variant, roots, extensible, others)?;
+    let chosen = read_place_of_item(alloc, cursor, variant, roots, extensible, others)?;
     match item_at(chosen) {
         Some(item) => Ok(item),
-        None => Err(DecodeError::ValueConstraintNotSatisfied),
+        None => Err(DecodeError::DiscriminantValueNotFound),
     }
 }

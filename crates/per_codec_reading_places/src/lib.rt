@@ -10,5 +10,5 @@ pub mod places;
 pub mod small;
 
 pub use items::read_item;
-pub use places::read_place;
+pub use places::read_place_of_alternative;
 pub use small::read_normally_small;

@@ -78,7 +78,7 @@ fn read_added(
 /// # Errors
 ///
 /// `ValueConstraintNotSatisfied` if there is none at the place, and the errors of a number.
-pub fn read_place(
+fn read_place(
     alloc: Global,
     cursor: &mut Cursor<'_>,
     variant: Variant,
@@ -96,4 +96,52 @@ pub fn read_place(
     }
     let place = read_root(cursor, variant, roots)?;
     Ok(Chosen::root(place))
+}
+
+/// Reads the place of an item of an enumeration (X.691 14).
+///
+/// # Errors
+///
+/// `DiscriminantValueNotFound` if the type has no item at the place, and the errors of a number.
+pub(crate) fn read_place_of_item(
+    alloc: Global,
+    cursor: &mut Cursor<'_>,
+    variant: Variant,
+    roots: usize,
+    extensible: bool,
+    others: usize,
+) -> Result<Chosen, DecodeError>
+    ensures ok { IfOk result (λ place. Front (freedoms variant) (place_form (fronts.is_aligned variant) roots extensible others place) cursor.old cursor.new) }
+    ensures only { IfErr result (Misses (freedoms variant) (place_form (fronts.is_aligned variant) roots extensible others) cursor.old) }
+{
+    match read_place(alloc, cursor, variant, roots, extensible, others) {
+        Err(DecodeError::ValueConstraintNotSatisfied) => {
+            Err(DecodeError::DiscriminantValueNotFound)
+        }
+        answer => answer,
+    }
+}
+
+/// Reads the place of an alternative of a choice (X.691 23).
+///
+/// # Errors
+///
+/// `InvalidTagVariantOnChoice` if the type has no alternative at the place, and the errors of a number.
+pub fn read_place_of_alternative(
+    alloc: Global,
+    cursor: &mut Cursor<'_>,
+    variant: Variant,
+    roots: usize,
+    extensible: bool,
+    others: usize,
+) -> Result<Chosen, DecodeError>
+    ensures ok { IfOk result (λ place. Front (freedoms variant) (place_form (fronts.is_aligned variant) roots extensible others place) cursor.old cursor.new) }
+    ensures only { IfErr result (Misses (freedoms variant) (place_form (fronts.is_aligned variant) roots extensible others) cursor.old) }
+{
+    match read_place(alloc, cursor, variant, roots, extensible, others) {
+        Err(DecodeError::ValueConstraintNotSatisfied) => {
+            Err(DecodeError::InvalidTagVariantOnChoice)
+        }
+        answer => answer,
+    }
 }

@@ -25,6 +25,7 @@ pub enum Field {
 }
 
 /// Takes so many bits.
+#[inline(always)]
 fn read_bits<'input>(
     cursor: &mut Cursor<'input>,
     variant: Variant,
@@ -74,6 +75,7 @@ fn read_octets<'input>(
 /// # Errors
 ///
 /// `Incomplete` if the bits end early, the errors of a length, and `OutOfMemory`.
+#[inline(always)]
 pub(crate) fn read_field<'input>(
     alloc: Global,
     cursor: &mut Cursor<'input>,

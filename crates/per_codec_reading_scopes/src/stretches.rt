@@ -36,6 +36,7 @@ impl<'input> Model for Stretch<'input> {
 }
 
 /// The bits, lent by what holds them.
+#[inline(always)]
 fn lent<'a>(bits: &'a RunBits<'_>) -> BitStr<'a>
     ensures { bit_strs.bits_of result ≡ bits_in bits.now }
 {
@@ -60,6 +61,7 @@ fn held(alloc: Global, bits: RunBits<'_>) -> Result<BitBuffer, AllocError>
 }
 
 /// The place behind so many of the bits.
+#[inline(always)]
 fn cursor_at<'a>(bits: BitStr<'a>, position: usize) -> Cursor<'a>
     requires { position ≤ length (bit_strs.bits_of bits) }
     ensures { result ≡ (position, drop position (bit_strs.bits_of bits.entry)) }
@@ -72,6 +74,7 @@ fn cursor_at<'a>(bits: BitStr<'a>, position: usize) -> Cursor<'a>
 
 /// Takes bits as a whole behind so many of the bits, and tells the position behind them. They are lent where the bits are, and held where
 /// those are.
+#[inline(always)]
 fn take_field<'input>(
     alloc: Global,
     bits: &RunBits<'input>,
@@ -100,6 +103,7 @@ fn take_field<'input>(
 
 impl<'input> Stretch<'input> {
     /// Before these bits.
+    #[inline(always)]
     pub fn new(bits: RunBits<'input>) -> Self
         ensures { result ≡ (0, bits_in bits.entry) }
     {
@@ -107,6 +111,7 @@ impl<'input> Stretch<'input> {
     }
 
     /// Before these octets: an encoding has fewer than 2^60, and of more of them the first 2^60 - 1 alone are read.
+    #[inline(always)]
     pub fn from_octets(input: &'input [u8]) -> Self
         ensures { result ≡ (0, octet_bits (take (2 ^ 60 - 1) input.entry.now)) }
     {
@@ -115,6 +120,7 @@ impl<'input> Stretch<'input> {
     }
 
     /// The place that is reached.
+    #[inline(always)]
     pub fn cursor(&self) -> Cursor<'_>
         ensures { result ≡ self.now }
     {
@@ -122,6 +128,7 @@ impl<'input> Stretch<'input> {
     }
 
     /// The place that is reached, where the bits are lent by the input.
+    #[inline(always)]
     pub fn lent_cursor(&self) -> Option<Cursor<'input>>
         ensures { IfSome result (λ cursor. cursor ≡ self.now) }
     {
@@ -132,6 +139,7 @@ impl<'input> Stretch<'input> {
     }
 
     /// The unread bits.
+    #[inline(always)]
     pub fn bits(&self) -> BitStr<'_>
         ensures { bit_strs.bits_of result ≡ self.now.1 }
     {
@@ -140,6 +148,7 @@ impl<'input> Stretch<'input> {
     }
 
     /// Goes on to a later position, which a reader reached that began at this place.
+    #[inline(always)]
     pub fn move_to(&mut self, position: usize)
         ensures { (w : _) (b : Place) → b.0 ≡ position → Leads w self.old b → self.new ≡ b }
     {
@@ -150,6 +159,7 @@ impl<'input> Stretch<'input> {
     }
 
     /// Takes the next bit, if there is one.
+    #[inline(always)]
     pub fn next_bit(&mut self) -> Option<bool>
         ensures some { IfSome result (λ bit. self.old.1 ≡ bit ∷ self.new.1) }
         ensures none { IfNone result (self.old.1 ≡ []) }
@@ -165,6 +175,7 @@ impl<'input> Stretch<'input> {
     }
 
     /// Whether all bits are read.
+    #[inline(always)]
     pub fn is_empty(&self) -> bool
         ensures { IsTrue result ↔ (self.now.1 ≡ []) }
     {
@@ -176,6 +187,7 @@ impl<'input> Stretch<'input> {
     /// # Errors
     ///
     /// `Incomplete` if the bits end early, the errors of a length, and `OutOfMemory`.
+    #[inline(always)]
     pub fn take_field(
         &mut self,
         alloc: Global,

@@ -26,7 +26,31 @@ fn borrowed(octets: &[u8]) -> CowSlice<'_, u8>
     CowSlice::Borrowed(octets)
 }
 
+/// Up to so many bits are copied in numbers, and more of them in blocks.
+const FEW_BITS: usize = 2048;
+
+/// A copy of the bits.
+fn copied_bits(alloc: Global, bits: BitStr<'_>) -> Result<BitBuffer, AllocError>
+    ensures { IfOk result (λ copy. copy ≡ bits_of bits.entry) }
+{
+    let mut copy = BitBuffer::new(alloc);
+    if bits.len() > FEW_BITS {
+        copy.extend_from_bitslice(bits)?;
+        return Ok(copy);
+    }
+    copy.reserve_bytes(bits.len() / 8)?;
+    let mut rest = bits;
+    'numbers: while rest.len() > 128 {
+        copy.push_bits(rest.first_number(128), 128)?;
+        rest = rest.split_at(128).1;
+    }
+    let left = rest.len() as u32;
+    copy.push_bits(rest.first_number(left), left)?;
+    Ok(copy)
+}
+
 /// The octets that bits of the input are. Where the bits begin at an octet of the input they are lent, and no memory is taken.
+#[inline(always)]
 fn lent_octets<'input>(
     alloc: Global,
     bits: BitStr<'input>,
@@ -39,9 +63,8 @@ fn lent_octets<'input>(
     if let Some(octets) = bits.aligned_octets() {
         return Ok(borrowed(octets));
     }
-    let mut copy = BitBuffer::new(alloc);
-    copy.extend_from_bitslice(bits)?;
-    Ok(CowSlice::Owned(copy.into_vec()))
+    let copy = copied_bits(alloc, bits)?;
+    Ok(CowSlice::Owned(joined_octets(copy)))
 }
 
 /// The octets that joined bits are.
@@ -56,6 +79,7 @@ fn joined_octets(bits: BitBuffer) -> Vec<u8>
 impl<'input> Run<'input> {
     /// The octets that the units are. Where their bits stand in one piece of the input that begins at an octet they are lent, and no memory
     /// is taken.
+    #[inline(always)]
     pub fn into_octets(self, alloc: Global) -> Result<CowSlice<'input, u8>, AllocError>
         requires { length (bits_in self.bits) % 8 ≡ 0 }
         ensures octets { IfOk result (λ octets. octet_bits (cow_slice_items octets) ≡ bits_in self.entry.bits) }

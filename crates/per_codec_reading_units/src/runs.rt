@@ -43,6 +43,7 @@ struct Piece<'input> {
 }
 
 /// How many units stand behind a length.
+#[inline(always)]
 fn unit_count(length: Length) -> usize
     requires { IsLength length }
     ensures count { result ≡ count_of length }
@@ -55,6 +56,7 @@ fn unit_count(length: Length) -> usize
 }
 
 /// Reads a length, and as many units behind it.
+#[inline(always)]
 fn read_piece<'input>(
     cursor: &mut Cursor<'input>,
     variant: Variant,
@@ -103,6 +105,7 @@ fn read_further(
 /// # Errors
 ///
 /// `Incomplete` if the bits end early, the errors of a length, and `OutOfMemory`.
+#[inline(always)]
 pub fn read_counted<'input>(
     alloc: Global,
     cursor: &mut Cursor<'input>,

@@ -32,6 +32,7 @@ pub enum Contents {
 }
 
 /// The bounds of a size constraint, where there is one.
+#[inline(always)]
 fn size_bounds(constraints: Constraints) -> Bounded<usize>
     ensures { counts_of result ≡ (sizes_of constraints.entry.size).counts }
 {
@@ -42,6 +43,7 @@ fn size_bounds(constraints: Constraints) -> Bounded<usize>
 }
 
 /// Whether a mark of extensibility follows a size constraint.
+#[inline(always)]
 fn has_mark(constraints: Constraints) -> bool
     ensures { result ≡ (sizes_of constraints.entry.size).extensible }
 {
@@ -53,6 +55,7 @@ fn has_mark(constraints: Constraints) -> bool
 
 /// The highest number of units, if it tells the form of the number: it is below 65536, and the number is not marked as outside the root
 /// (X.691 11.9.4.1).
+#[inline(always)]
 fn told_highest(bounds: Bounded<usize>, is_outside: bool) -> Option<usize>
     ensures highest { result ≡ sizes.told_highest ((counts_of bounds).high) is_outside }
     ensures bound { IfSome result (λ high. high < 65536) }
@@ -95,6 +98,7 @@ fn is_padded(
 /// # Errors
 ///
 /// `Incomplete` if there is no bit.
+#[inline(always)]
 pub fn read_size_mark(
     cursor: &mut Cursor<'_>,
     variant: Variant,
@@ -172,6 +176,7 @@ fn read_told<'input>(
 }
 
 /// Reads units behind a number that their bounds tell, or behind a general length.
+#[inline(always)]
 fn read_units<'input>(
     alloc: Global,
     cursor: &mut Cursor<'input>,
@@ -197,6 +202,7 @@ fn read_units<'input>(
 }
 
 /// Whether the program's type holds so many units, and they are in the root or marked as outside.
+#[inline(always)]
 fn is_admitted(bounds: Bounded<usize>, held: Bounded<usize>, is_outside: bool, count: usize) -> bool
     ensures { result ≡ sizes.admitted (counts_of held) (counts_of bounds) is_outside count }
 {
@@ -209,6 +215,7 @@ fn is_admitted(bounds: Bounded<usize>, held: Bounded<usize>, is_outside: bool, c
 ///
 /// `SizeConstraintNotSatisfied` if the size or the program's type does not admit as many, `Incomplete` if the bits end early, the errors of
 /// a number and of a length, and `OutOfMemory`.
+#[inline(always)]
 pub fn read_sized<'input>(
     alloc: Global,
     cursor: &mut Cursor<'input>,

@@ -28,6 +28,7 @@ use std::borrow::CowSlice;
 ///
 /// `SizeConstraintNotSatisfied` if the size or the program's type does not admit as many, `Incomplete` if the bits end early, the errors of
 /// a number and of a length, and `OutOfMemory`.
+#[inline(always)]
 pub fn read_octet_string<'input>(
     alloc: Global,
     cursor: &mut Cursor<'input>,

@@ -1,13 +1,11 @@
 //! Whole numbers (X.691 13).
-ghost use Rattle.std.specs.Prelude.{◌≡◌, ◌-◌, ◌^◌, true, is_some, IfSome, MatchResult};
+ghost use Rattle.std.specs.Prelude.{◌≡◌, true, MatchResult};
 ghost use Rattle.asn1_model.specs.Numbers.{is_within};
 ghost use Rattle.asn1_model.specs.Per.{form, marked, semi_constrained, unconstrained, whole_number as number_form};
 ghost use Rattle.asn1_model.specs.Schema.{integer};
 ghost use Rattle.asn1_model.specs.Value.{number as number_value};
 ghost use Rattle.asn1_schema_bounds.specs.Bounds.{admits_number, lower, upper};
 ghost use Rattle.asn1_schema_constraints.specs.Terms.{bounds_of, held_of};
-ghost use Rattle.asn1_values_natives.specs.Octets.{signed_number};
-ghost use Rattle.asn1_values_natives.specs.Ranges.{whole_range};
 ghost use Rattle.per_codec_texts.specs.Texts.{text_at};
 ghost use Rattle.per_codec_writing.specs.Writing.{Adds, Refuses, place};
 
@@ -15,18 +13,9 @@ use asn1_schema_bounds::Bounded;
 use asn1_schema_constraints::Constraints;
 use asn1_schema_faults::EncodeError;
 use asn1_values_integer_types::IntegerType;
-use asn1_values_natives::Wide;
 use per_codec_packing::Packing;
 use per_codec_writing::push_constrained;
 use per_codec_writing_units::push_counted_octets;
-
-/// The number that octets of two's complement stand for, if 128 bits hold it.
-fn whole_number(octets: &[u8]) -> Option<i128>
-    ensures number { IfSome result (λ z. z ≡ signed_number octets.now) }
-    ensures fits { is_some result ≡ is_within (whole_range (2 ^ 127 - 1)) (signed_number octets.now) }
-{
-    Wide::from_signed_octets(octets)?.to_whole(i128::MAX)
-}
 
 /// Adds a number without a lower bound, in its fewest octets of two's complement behind their number (X.691 11.8 and 13.2.4). The only
 /// error is want of memory.
@@ -122,8 +111,7 @@ pub fn push_integer<I: IntegerType>(
         push_unconstrained(output, aligned, value)?;
         return Ok(());
     };
-    let octets = value.to_signed_bytes_be();
-    let Some(number) = whole_number(octets.as_slice()) else {
+    let Some(number) = value.to_i128() else {
         return Err(EncodeError::ValueConstraintNotSatisfied);
     };
     push_bounded(

@@ -10,9 +10,7 @@ use Rattle.asn1_schema_bounds.specs.Bounds.{admits_number, lower, upper}
 use Rattle.asn1_schema_constraints.specs.Terms.{bounds_of, held_of}
 use Rattle.asn1_schema_constraints.specs.declared.extensions.Extensible.{Extensible}
 use Rattle.asn1_schema_constraints.specs.declared.parts.Value.{Value}
-use Rattle.asn1_values_natives.specs.Octets.{signed_number}
 use Rattle.asn1_values_natives.specs.Ranges.{whole_range}
-use Rattle.asn1_values_natives.proofs.TwosComplement.{signed-back}
 use Rattle.per_codec_texts.specs.Texts.{text_at}
 use Rattle.per_codec_writing.specs.Writing.{Adds, place}
 use Rattle.per_codec_writing.proofs.Texts.{adds_same}
@@ -29,15 +27,14 @@ returns-in_default g c =
     subst (λ (o : Option (Extensible Value)). Adds (text_at (Per.form c.args.aligned (integer (bounds_of o) (held_of o h)) (number_value v)) (place old)) old new) (sym c.in_default.is)
     (adds_same _ _ old new (unbounded_text c.args.aligned h v (place old) c.push_unconstrained.ensures.held) c.in_ok-push_unconstrained.ensures.written)
 
-pub returns-in_default-whole_number : goal.returns-in_default-whole_number
-returns-in_default-whole_number g c =
+pub returns-in_default-to_i128 : goal.returns-in_default-to_i128
+returns-in_default-to_i128 g c =
     let v = g.I.IntegerType.value c.args.value.now in
     let h = g.I.IntegerType.held in
     let al = c.args.aligned in
     let old = c.args.output.now in
-    let same : signed_number c.as_slice.result.now ≡ v = ap signed_number (c.as_slice.ensures ∙ c.to_signed_bytes_be-octets.ensures.octets) ∙ signed-back v in
     subst (λ (o : Option (Extensible Value)). text_at (Per.form al (integer (bounds_of o) (held_of o h)) (number_value v)) (place old) ≡ None) (sym c.in-Some.is)
-    (wide_none al c.in-Some.limits h v (place old) (ap (is_within (whole_range (2 ^ 127 - 1))) (sym same) ∙ sym c.in_default-whole_number.ensures.fits))
+    (wide_none al c.in-Some.limits h v (place old) (sym c.in_default-to_i128.ensures.fits))
 
 pub returns : goal.returns
 returns g c =
@@ -48,15 +45,14 @@ returns g c =
     let new = c.push_bounded.new.output in
     let limits = c.in-Some.limits in
     let bounds = limits.constraint.value in
-    let z = c.in-Some-whole_number.number in
+    let z = c.in-Some-to_i128.number in
     let number : SFits w128 z = search rules in
-    let octets : signed_number c.as_slice.result.now ≡ v = ap signed_number (c.as_slice.ensures ∙ c.to_signed_bytes_be-octets.ensures.octets) ∙ signed-back v in
-    let same : z ≡ v = c.in-Some-whole_number.ensures.number ∙ octets in
-    let wide : is_within (whole_range (2 ^ 127 - 1)) v ≡ true = ap (is_within (whole_range (2 ^ 127 - 1))) (sym octets) ∙ sym c.in-Some-whole_number.ensures.fits in
+    let same : z ≡ v = c.in-Some-to_i128.ensures.number in
+    let wide : is_within (whole_range (2 ^ 127 - 1)) v ≡ true = sym c.in-Some-to_i128.ensures.fits in
     let done = simp to_z-of_z at c.push_bounded.ensures in
     subst (λ (o : Option (Extensible Value)). Did c.push_bounded.result (text_at (Per.form al (integer (bounds_of o) (held_of o h)) (number_value v)) (place old)) old new) (sym c.in-Some.is)
     (did_same c.push_bounded.result _ _ old new
-    (bounded_text al limits h v (place old) c.to_signed_bytes_be-octets.ensures.within wide
+    (bounded_text al limits h v (place old) c.in-Some-to_i128.ensures.within wide
     ∙ ap (λ y. text_at (Per.marked (is_some limits.extensible) (admits_number bounds y) (Per.whole_number al (lower bounds) (upper bounds) y) (Per.unconstrained al y)) (place old)) (sym same)
     ∙ ap (λ b. text_at (Per.marked b (admits_number bounds z) (Per.whole_number al (lower bounds) (upper bounds) z) (Per.unconstrained al z)) (place old)) (sym c.is_some.ensures))
     done)
