@@ -14,13 +14,13 @@ use Rattle.asn1_relay_core.specs.declared.codec.Codec.TheVariants.{Uper, Aper, O
 use Rattle.asn1_relay_core.specs.Coding.{rules_of}
 use Rattle.asn1_relay_core.specs.Recoding.{IsMessage, Answer, answered, not_an_encoding, surplus, no_target, IsAnswer, OneAnswerIsRight}
 
-one_front : (c : Codec) → OneFrontIn (rules_of c)
+pub one_front : (c : Codec) → OneFrontIn (rules_of c)
 one_front Uper = one_front_uper
 one_front Aper = one_front_aper
 one_front Oer = one_front_oer
 one_front Coer = one_front_coer
 
-whole : (w : List ℕ) → w ++ [] ≡ w
+pub whole : (w : List ℕ) → w ++ [] ≡ w
 whole w = append-nil w
 
 module _ (from to : Codec) (s : Schema) (w : List ℕ) (lawful : IsLawful s) where
@@ -28,11 +28,11 @@ module _ (from to : Codec) (s : Schema) (w : List ℕ) (lawful : IsLawful s) whe
   Message v x = IsMessage (rules_of from) s v x
 
   -- two messages that are all of the octets are written alike
-  alike : (v u : Value) → Message v w → Message u w → canonical (rules_of to) s v ≡ canonical (rules_of to) s u
+  pub alike : (v u : Value) → Message v w → Message u w → canonical (rules_of to) s v ≡ canonical (rules_of to) s u
   alike v u p q = same_written (rules_of to) s v u lawful (one_front from s v u w w [] [] lawful p.0 q.0 refl).1
 
   -- none stands behind a message that is all of them
-  none_behind : (v u : Value) (front behind : List ℕ) → Message v w → Message u front → front ++ behind ≡ w → behind ≡ []
+  pub none_behind : (v u : Value) (front behind : List ℕ) → Message v w → Message u front → front ++ behind ≡ w → behind ≡ []
   none_behind v u front behind p q e =
       let f = (one_front from s u v front w behind [] lawful q.0 p.0 (e ∙ sym (whole w))).0 in
       append_cancel_left front behind [] (e ∙ sym f ∙ sym (whole front))

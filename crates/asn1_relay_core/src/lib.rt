@@ -6,4 +6,6 @@ mod translation;
 
 pub use asn1_schema_faults::{CodecKind, DecodeError, EncodeError};
 pub use codec::Codec;
-pub use translation::{RecodeFault, one_answer_is_right, recode};
+pub use translation::{
+    RecodeFault, detours_change_no_answer, one_answer_is_right, recode, twice_is_once,
+};

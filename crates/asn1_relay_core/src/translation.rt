@@ -1,7 +1,7 @@
 //! Translation of one message from one set of encoding rules to another.
 ghost use Rattle.std.specs.Prelude.{◌≡◌, ◌⊎◌, None, Some, IfErr, IfSome};
 ghost use Rattle.asn1_relay_core.specs.Coding.{rules_of};
-ghost use Rattle.asn1_relay_core.specs.Recoding.{answer_of, Answer, IsAnswer, NamesMemoryAlone, OneAnswerIsRight};
+ghost use Rattle.asn1_relay_core.specs.Recoding.{answer_of, Answer, IsAnswer, NamesMemoryAlone, OneAnswerIsRight, DetoursChangeNoAnswer, TwiceIsOnce};
 
 use crate::codec::Codec;
 use asn1_schema_decode::Decode;
@@ -60,11 +60,23 @@ pub fn one_answer_is_right()
     ensures { OneAnswerIsRight }
 {}
 
+/// A detour changes no answer: where octets were translated to other rules, the right answer to what came out, in whichever rules, is the right
+/// answer to the octets themselves, and the other way round.
+pub fn detours_change_no_answer()
+    ensures { DetoursChangeNoAnswer }
+{}
+
+/// What was translated is translated to itself, so that translating twice is translating once.
+pub fn twice_is_once()
+    ensures { TwiceIsOnce }
+{}
+
 /// Translates one message of the type `T`: octets all of which are one encoding by the rules `from`, of a value that nests at most 128
 /// levels, become the canonical encoding of that value by the rules `to`.
 ///
 /// The answer is the right one, and as there is one at most (`one_answer_is_right`), each fault comes exactly where it should; only want of
-/// memory may come in its place, always as `RecodeFault::Memory`.
+/// memory may come in its place, always as `RecodeFault::Memory`. A detour through other rules changes nothing (`detours_change_no_answer`),
+/// and what was translated is translated to itself (`twice_is_once`).
 pub fn recode<T: Encode + Decode>(
     alloc: Global,
     from: Codec,

@@ -1,0 +1,120 @@
+//! ENUMERATED {red, ..., blue}: one item in the root, which takes no bit there, and one behind the mark.
+ghost use Rattle.std.specs.Prelude.{◌∷◌, [], refl, pos, true, false};
+ghost use Rattle.asn1_model.specs.Schema.{enumerated};
+ghost use Rattle.asn1_model.specs.Value.{item};
+ghost use Rattle.asn1_schema_constraints.specs.Sets.{no_constraint};
+ghost use Rattle.asn1_schema_choices.proofs.Types.{type_enumerated, value_enumerated};
+
+use asn1_schema_choices::{DecodeItems, EncodeItems};
+use asn1_schema_constraints::Constraints;
+use asn1_schema_decode::{Decode, Decoder};
+use asn1_schema_encode::{Encode, Encoder};
+use asn1_schema_faults::{DecodeError, EncodeError};
+use asn1_schema_tags::{Identifier, Tag, TagTree};
+use asn1_schema_types::{AsnType, Described};
+use asn1_schema_variants::Enumerated;
+use std::alloc::Global;
+
+/// A colour.
+#[derive(Clone, Copy, Debug, PartialEq, Eq)]
+pub enum Tint {
+    Red,
+    Blue,
+}
+
+impl Described for Tint {
+    ghost use Rattle.asn1_schema_example_alternatives.specs.declared.tint.Tint.TheVariants.{Red, Blue};
+
+    ghost tags = { record { class = 0; number = 10 } ∷ [] };
+
+    ghost own = { no_constraint };
+
+    ghost under = { λ _ _. enumerated (pos 0 ∷ []) true (pos 1 ∷ []) };
+
+    ghost schema = { λ _. enumerated (pos 0 ∷ []) true (pos 1 ∷ []) };
+
+    ghost is_own = { λ _. refl };
+
+    ghost meaning = { elim [ Red ↦ item (pos 0) | Blue ↦ item (pos 1) ] };
+
+    ghost typed = { type_enumerated _ _ _ refl refl };
+
+    ghost valued = { elim [ Red ↦ value_enumerated _ _ _ _ | Blue ↦ value_enumerated _ _ _ _ ] };
+
+    ghost valued_under = { λ _. elim [ Red ↦ value_enumerated _ _ _ _ | Blue ↦ value_enumerated _ _ _ _ ] };
+}
+
+impl AsnType for Tint {
+    const TAG: Tag = Tag::ENUMERATED;
+
+    const IDENTIFIER: Identifier = Identifier(Some("Tint"));
+
+    fn tag_tree() -> TagTree<'static> {
+        TagTree::of(Self::TAG)
+    }
+
+    fn constraints() -> Constraints<'static> {
+        Constraints::NONE
+    }
+}
+
+impl Enumerated for Tint {
+    ghost use Rattle.asn1_schema_example_alternatives.specs.declared.tint.Tint.TheVariants.{Red, Blue};
+
+    ghost roots = { pos 0 ∷ [] };
+
+    ghost extensible = { true };
+
+    ghost additions = { pos 1 ∷ [] };
+
+    ghost number = { elim [ Red ↦ pos 0 | Blue ↦ pos 1 ] };
+
+    fn variants<'a>() -> &'a [Self]
+    where
+        Self: 'a,
+    {
+        &[Tint::Red]
+    }
+
+    fn extended_variants<'a>() -> Option<&'a [Self]>
+    where
+        Self: 'a,
+    {
+        Some(&[Tint::Blue])
+    }
+
+    fn discriminant(&self) -> isize {
+        match self {
+            Tint::Red => 0,
+            Tint::Blue => 1,
+        }
+    }
+
+    ghost is_of = { λ _. refl };
+
+    ghost means = { elim [ Red ↦ refl | Blue ↦ refl ] };
+
+    ghost listed = { elim [ Red ↦ (false, 0, refl) | Blue ↦ (true, 0, (refl, refl, refl)) ] };
+}
+
+impl Encode for Tint {
+    fn encode_with_tag_and_constraints<E: Encoder>(
+        &self,
+        encoder: &mut E,
+        tag: Tag,
+        _constraints: Constraints,
+    ) -> Result<(), EncodeError> {
+        encoder.encode_item(tag, self)
+    }
+}
+
+impl Decode for Tint {
+    fn decode_with_tag_and_constraints<D: Decoder>(
+        _alloc: Global,
+        decoder: &mut D,
+        tag: Tag,
+        _constraints: Constraints,
+    ) -> Result<Self, DecodeError> {
+        decoder.decode_item(tag)
+    }
+}

@@ -1,0 +1,116 @@
+//! SEQUENCE {}.
+ghost use Rattle.std.specs.Prelude.{refl, [], ◌∷◌};
+ghost use Rattle.asn1_model.specs.Value.{fields};
+ghost use Rattle.asn1_schema_constraints.specs.Sets.{no_constraint};
+ghost use Rattle.asn1_schema_constructed.specs.Constructed.{sequence_form};
+ghost use Rattle.asn1_schema_presented.specs.Tables.{sequence_type};
+ghost use Rattle.asn1_schema_presented.proofs.Values.{type_sequence, value_sequence};
+
+use asn1_schema_components::{ComponentsOf, End};
+use asn1_schema_constraints::Constraints;
+use asn1_schema_constructed::{Constructed, DecodeConstructed, EncodeConstructed};
+use asn1_schema_decode::{Decode, DecodeComponents, Decoder};
+use asn1_schema_encode::{Encode, EncodeComponents, Encoder};
+use asn1_schema_faults::{DecodeError, EncodeError};
+use asn1_schema_fields::{Field, FieldPresence, Fields};
+use asn1_schema_tags::{Identifier, Tag, TagTree};
+use asn1_schema_types::{AsnType, Described};
+use std::alloc::Global;
+
+/// No component at all.
+#[derive(Drop)]
+pub struct Nothing {}
+
+type Form = End;
+
+impl Described for Nothing {
+    ghost tags = { record { class = 0; number = 16 } ∷ [] };
+
+    ghost own = { no_constraint };
+
+    ghost under = { λ _. sequence_type ⟦<Form as ComponentsOf>⟧.table };
+
+    ghost schema = { sequence_type ⟦<Form as ComponentsOf>⟧.table };
+
+    ghost is_own = { λ _. refl };
+
+    ghost meaning = { λ x. fields (⟦<Form as ComponentsOf>⟧.root (record {})) (⟦<Form as ComponentsOf>⟧.added (record {})) };
+
+    ghost typed = { type_sequence _ refl (⟦<Form as ComponentsOf>⟧.typed tt) refl };
+
+    ghost valued = { λ x. value_sequence _ (⟦<Form as ComponentsOf>⟧.valued tt (record {})) };
+
+    ghost valued_under = { λ _ x. value_sequence _ (⟦<Form as ComponentsOf>⟧.valued tt (record {})) };
+}
+
+impl AsnType for Nothing {
+    const TAG: Tag = Tag::SEQUENCE;
+
+    const IDENTIFIER: Identifier = Identifier(Some("Nothing"));
+
+    fn tag_tree() -> TagTree<'static> {
+        TagTree::of(Self::TAG)
+    }
+
+    fn constraints() -> Constraints<'static> {
+        Constraints::NONE
+    }
+}
+
+impl Constructed for Nothing {
+    ghost form = { sequence_form };
+
+    ghost table = { ⟦<Form as ComponentsOf>⟧.table };
+
+    ghost root = { λ x. ⟦<Form as ComponentsOf>⟧.root (record {}) };
+
+    ghost added = { λ x. ⟦<Form as ComponentsOf>⟧.added (record {}) };
+
+    fn fields() -> Fields<'static> {
+        Fields::from_static(&[])
+    }
+
+    fn extended_fields() -> Option<Fields<'static>> {
+        None
+    }
+
+    fn is_extensible() -> bool {
+        false
+    }
+
+    fn write_fields<E: Encoder>(&self, encoder: &mut E) -> Result<(), EncodeError> {
+        let components = End;
+        components.encode_components(encoder)
+    }
+
+    fn read_fields<D: Decoder>(alloc: Global, decoder: &mut D) -> Result<Self, DecodeError> {
+        Form::decode_components(alloc, decoder)?;
+        Ok(Nothing {})
+    }
+
+    ghost means = { λ _. refl };
+
+    ghost is_of = { λ _ _. refl };
+}
+
+impl Encode for Nothing {
+    fn encode_with_tag_and_constraints<E: Encoder>(
+        &self,
+        encoder: &mut E,
+        tag: Tag,
+        _constraints: Constraints,
+    ) -> Result<(), EncodeError> {
+        encoder.encode_fields_of(tag, self)
+    }
+}
+
+impl Decode for Nothing {
+    fn decode_with_tag_and_constraints<D: Decoder>(
+        alloc: Global,
+        decoder: &mut D,
+        tag: Tag,
+        _constraints: Constraints,
+    ) -> Result<Self, DecodeError> {
+        decoder.decode_fields_of(alloc, tag)
+    }
+}

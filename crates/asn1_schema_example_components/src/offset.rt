@@ -1,0 +1,179 @@
+//! SEQUENCE {a [0] INTEGER DEFAULT 0, b [1] INTEGER OPTIONAL}.
+ghost use Rattle.std.specs.Prelude.{refl, [], ◌∷◌, pos};
+ghost use Rattle.asn1_model.specs.Value.{fields, number};
+ghost use Rattle.asn1_schema_constraints.specs.Sets.{no_constraint};
+ghost use Rattle.asn1_schema_constructed.specs.Constructed.{sequence_form};
+ghost use Rattle.asn1_schema_presented.specs.Tables.{sequence_type};
+ghost use Rattle.asn1_schema_presented.proofs.Values.{type_sequence, value_sequence};
+ghost use Rattle.asn1_schema_presented.proofs.Defaults.{integer_default};
+
+use asn1_schema_components::{
+    ComponentsOf, DefaultOf, Defaulted, DefaultedComponent, End, EqualByMeaning, Optional,
+    OptionalComponent,
+};
+use asn1_schema_constraints::Constraints;
+use asn1_schema_constructed::{Constructed, DecodeConstructed, EncodeConstructed};
+use asn1_schema_decode::{Decode, DecodeComponents, Decoder};
+use asn1_schema_encode::{Encode, EncodeComponents, Encoder};
+use asn1_schema_faults::{DecodeError, EncodeError};
+use asn1_schema_fields::{Field, FieldPresence, Fields};
+use asn1_schema_tags::{Class, Identifier, Tag, TagTree};
+use asn1_schema_types::{AsnType, Described};
+use asn1_schema_wrapped::{Implicit, tag};
+use asn1_values_numbers::Integer;
+use std::alloc::{AllocError, Global};
+use std::marker::PhantomData;
+
+/// Two numbers that need not be spelled out.
+#[derive(Drop)]
+pub struct Offset {
+    /// 0 unless it is said.
+    pub a: Implicit<tag::Context<0>, Integer>,
+    /// There or not.
+    pub b: Option<Implicit<tag::Context<1>, Integer>>,
+}
+
+/// The default of the first.
+#[derive(Drop)]
+pub struct Zero;
+
+impl DefaultOf<Implicit<tag::Context<0>, Integer>> for Zero {
+    ghost value = { number (pos 0) };
+
+    fn default_value(_alloc: Global) -> Result<Implicit<tag::Context<0>, Integer>, AllocError> {
+        Ok(Implicit::new(Integer::zero()))
+    }
+
+    fn is_default(component: &Implicit<tag::Context<0>, Integer>) -> bool {
+        component.value.means_same(&Integer::zero())
+    }
+
+    ghost lawful = { integer_default _ _ _ refl };
+}
+
+type Form = DefaultedComponent<
+    Zero,
+    Implicit<tag::Context<0>, Integer>,
+    OptionalComponent<Implicit<tag::Context<1>, Integer>, End>,
+>;
+
+impl Described for Offset {
+    ghost tags = { record { class = 0; number = 16 } ∷ [] };
+
+    ghost own = { no_constraint };
+
+    ghost under = { λ _. sequence_type ⟦<Form as ComponentsOf>⟧.table };
+
+    ghost schema = { sequence_type ⟦<Form as ComponentsOf>⟧.table };
+
+    ghost is_own = { λ _. refl };
+
+    ghost meaning = { λ x. fields (⟦<Form as ComponentsOf>⟧.root (record { 0 = x.a; 1 = record {}; 2 = record { 0 = x.b; 1 = record {} } })) (⟦<Form as ComponentsOf>⟧.added (record { 0 = x.a; 1 = record {}; 2 = record { 0 = x.b; 1 = record {} } })) };
+
+    ghost typed = { type_sequence _ refl (⟦<Form as ComponentsOf>⟧.typed (integer_default _ _ _ refl, tt)) refl };
+
+    ghost valued = { λ x. value_sequence _ (⟦<Form as ComponentsOf>⟧.valued (integer_default _ _ _ refl, tt) (record { 0 = x.a; 1 = record {}; 2 = record { 0 = x.b; 1 = record {} } })) };
+
+    ghost valued_under = { λ _ x. value_sequence _ (⟦<Form as ComponentsOf>⟧.valued (integer_default _ _ _ refl, tt) (record { 0 = x.a; 1 = record {}; 2 = record { 0 = x.b; 1 = record {} } })) };
+}
+
+impl AsnType for Offset {
+    const TAG: Tag = Tag::SEQUENCE;
+
+    const IDENTIFIER: Identifier = Identifier(Some("Offset"));
+
+    fn tag_tree() -> TagTree<'static> {
+        TagTree::of(Self::TAG)
+    }
+
+    fn constraints() -> Constraints<'static> {
+        Constraints::NONE
+    }
+}
+
+impl Constructed for Offset {
+    ghost form = { sequence_form };
+
+    ghost table = { ⟦<Form as ComponentsOf>⟧.table };
+
+    ghost root = { λ x. ⟦<Form as ComponentsOf>⟧.root (record { 0 = x.a; 1 = record {}; 2 = record { 0 = x.b; 1 = record {} } }) };
+
+    ghost added = { λ x. ⟦<Form as ComponentsOf>⟧.added (record { 0 = x.a; 1 = record {}; 2 = record { 0 = x.b; 1 = record {} } }) };
+
+    fn fields() -> Fields<'static> {
+        const FIELDS: &'static [Field<'static>] = &[
+            Field {
+                index: 0,
+                tag: Tag {
+                    class: Class::Context,
+                    value: 0,
+                },
+                tag_tree: TagTree::Leaf(Tag {
+                    class: Class::Context,
+                    value: 0,
+                }),
+                presence: FieldPresence::Default,
+                name: "a",
+            },
+            Field {
+                index: 1,
+                tag: Tag {
+                    class: Class::Context,
+                    value: 1,
+                },
+                tag_tree: TagTree::Leaf(Tag {
+                    class: Class::Context,
+                    value: 1,
+                }),
+                presence: FieldPresence::Optional,
+                name: "b",
+            },
+        ];
+        Fields::from_static(FIELDS)
+    }
+
+    fn extended_fields() -> Option<Fields<'static>> {
+        None
+    }
+
+    fn is_extensible() -> bool {
+        false
+    }
+
+    fn write_fields<E: Encoder>(&self, encoder: &mut E) -> Result<(), EncodeError> {
+        let components = Defaulted(&self.a, PhantomData::<Zero>, Optional(&self.b, End));
+        components.encode_components(encoder)
+    }
+
+    fn read_fields<D: Decoder>(alloc: Global, decoder: &mut D) -> Result<Self, DecodeError> {
+        let form = Form::decode_components(alloc, decoder)?;
+        let DefaultedComponent(a, _, OptionalComponent(b, End)) = form;
+        Ok(Offset { a, b })
+    }
+
+    ghost means = { λ _. refl };
+
+    ghost is_of = { λ _ _. refl };
+}
+
+impl Encode for Offset {
+    fn encode_with_tag_and_constraints<E: Encoder>(
+        &self,
+        encoder: &mut E,
+        tag: Tag,
+        _constraints: Constraints,
+    ) -> Result<(), EncodeError> {
+        encoder.encode_fields_of(tag, self)
+    }
+}
+
+impl Decode for Offset {
+    fn decode_with_tag_and_constraints<D: Decoder>(
+        alloc: Global,
+        decoder: &mut D,
+        tag: Tag,
+        _constraints: Constraints,
+    ) -> Result<Self, DecodeError> {
+        decoder.decode_fields_of(alloc, tag)
+    }
+}

@@ -1,0 +1,139 @@
+//! SEQUENCE {age INTEGER, name UTF8String}.
+ghost use Rattle.std.specs.Prelude.{refl, [], ◌∷◌};
+ghost use Rattle.asn1_model.specs.Value.{fields};
+ghost use Rattle.asn1_schema_constraints.specs.Sets.{no_constraint};
+ghost use Rattle.asn1_schema_constructed.specs.Constructed.{sequence_form};
+ghost use Rattle.asn1_schema_presented.specs.Tables.{sequence_type};
+ghost use Rattle.asn1_schema_presented.proofs.Values.{type_sequence, value_sequence};
+
+use asn1_schema_components::{ComponentsOf, End, Required, RequiredComponent};
+use asn1_schema_constraints::Constraints;
+use asn1_schema_constructed::{Constructed, DecodeConstructed, EncodeConstructed};
+use asn1_schema_decode::{Decode, DecodeComponents, Decoder};
+use asn1_schema_encode::{Encode, EncodeComponents, Encoder};
+use asn1_schema_faults::{DecodeError, EncodeError};
+use asn1_schema_fields::{Field, FieldPresence, Fields};
+use asn1_schema_tags::{Identifier, Tag, TagTree};
+use asn1_schema_types::{AsnType, Described};
+use asn1_values_numbers::Integer;
+use std::alloc::Global;
+
+/// Somebody.
+#[derive(Drop)]
+pub struct Person {
+    /// In years.
+    pub age: Integer,
+    /// The name.
+    pub name: String,
+}
+
+type Form = RequiredComponent<Integer, RequiredComponent<String, End>>;
+
+impl Described for Person {
+    ghost tags = { record { class = 0; number = 16 } ∷ [] };
+
+    ghost own = { no_constraint };
+
+    ghost under = { λ _. sequence_type ⟦<Form as ComponentsOf>⟧.table };
+
+    ghost schema = { sequence_type ⟦<Form as ComponentsOf>⟧.table };
+
+    ghost is_own = { λ _. refl };
+
+    ghost meaning = { λ x. fields (⟦<Form as ComponentsOf>⟧.root (record { 0 = x.age; 1 = record { 0 = x.name; 1 = record {} } })) (⟦<Form as ComponentsOf>⟧.added (record { 0 = x.age; 1 = record { 0 = x.name; 1 = record {} } })) };
+
+    ghost typed = { type_sequence _ refl (⟦<Form as ComponentsOf>⟧.typed tt) refl };
+
+    ghost valued = { λ x. value_sequence _ (⟦<Form as ComponentsOf>⟧.valued tt (record { 0 = x.age; 1 = record { 0 = x.name; 1 = record {} } })) };
+
+    ghost valued_under = { λ _ x. value_sequence _ (⟦<Form as ComponentsOf>⟧.valued tt (record { 0 = x.age; 1 = record { 0 = x.name; 1 = record {} } })) };
+}
+
+impl AsnType for Person {
+    const TAG: Tag = Tag::SEQUENCE;
+
+    const IDENTIFIER: Identifier = Identifier(Some("Person"));
+
+    fn tag_tree() -> TagTree<'static> {
+        TagTree::of(Self::TAG)
+    }
+
+    fn constraints() -> Constraints<'static> {
+        Constraints::NONE
+    }
+}
+
+impl Constructed for Person {
+    ghost form = { sequence_form };
+
+    ghost table = { ⟦<Form as ComponentsOf>⟧.table };
+
+    ghost root = { λ x. ⟦<Form as ComponentsOf>⟧.root (record { 0 = x.age; 1 = record { 0 = x.name; 1 = record {} } }) };
+
+    ghost added = { λ x. ⟦<Form as ComponentsOf>⟧.added (record { 0 = x.age; 1 = record { 0 = x.name; 1 = record {} } }) };
+
+    fn fields() -> Fields<'static> {
+        const FIELDS: &'static [Field<'static>] = &[
+            Field {
+                index: 0,
+                tag: Tag::INTEGER,
+                tag_tree: TagTree::Leaf(Tag::INTEGER),
+                presence: FieldPresence::Required,
+                name: "age",
+            },
+            Field {
+                index: 1,
+                tag: Tag::UTF8_STRING,
+                tag_tree: TagTree::Leaf(Tag::UTF8_STRING),
+                presence: FieldPresence::Required,
+                name: "name",
+            },
+        ];
+        Fields::from_static(FIELDS)
+    }
+
+    fn extended_fields() -> Option<Fields<'static>> {
+        None
+    }
+
+    fn is_extensible() -> bool {
+        false
+    }
+
+    fn write_fields<E: Encoder>(&self, encoder: &mut E) -> Result<(), EncodeError> {
+        let components = Required(&self.age, Required(&self.name, End));
+        components.encode_components(encoder)
+    }
+
+    fn read_fields<D: Decoder>(alloc: Global, decoder: &mut D) -> Result<Self, DecodeError> {
+        let form = Form::decode_components(alloc, decoder)?;
+        let RequiredComponent(age, RequiredComponent(name, End)) = form;
+        Ok(Person { age, name })
+    }
+
+    ghost means = { λ _. refl };
+
+    ghost is_of = { λ _ _. refl };
+}
+
+impl Encode for Person {
+    fn encode_with_tag_and_constraints<E: Encoder>(
+        &self,
+        encoder: &mut E,
+        tag: Tag,
+        _constraints: Constraints,
+    ) -> Result<(), EncodeError> {
+        encoder.encode_fields_of(tag, self)
+    }
+}
+
+impl Decode for Person {
+    fn decode_with_tag_and_constraints<D: Decoder>(
+        alloc: Global,
+        decoder: &mut D,
+        tag: Tag,
+        _constraints: Constraints,
+    ) -> Result<Self, DecodeError> {
+        decoder.decode_fields_of(alloc, tag)
+    }
+}
