@@ -12,7 +12,7 @@ mkdir -p "$work/crates/bits_bench/src"
 cp "$here/bits_bench.in" "$work/crates/bits_bench/src/main.rt"
 printf 'asn1_model:\nasn1_values_bits: asn1_model\nbits_bench: asn1_values_bits anyhow\n' > "$work/crates.txt"
 ${CC:-clang} -O2 -o "$work/plain" "$here/plain.c"
-(cd "$work/crates/bits_bench" && rt run > "$work/first" 2> "$work/log") || { tail -20 "$work/log"; exit 1; }
+(cd "$work/crates/bits_bench" && ${RT:-rt} run > "$work/first" 2> "$work/log") || { tail -20 "$work/log"; exit 1; }
 for round in 1 2 3 4 5; do
     $RUN "$work/plain" | sed 's/^/plain /'
     $RUN "$work/crates/bits_bench/out/bits_bench" | sed 's/^/proved /'

@@ -1,12 +1,6 @@
 /* The canonical octet encoding rules in plain C: a writer and a reader of the types of the benchmark. */
 #include "work.h"
 
-/* Octets that are still to be read. */
-struct input {
-    const uint8_t *octets;
-    size_t count;
-};
-
 static int put_number(struct buffer *b, uint64_t number, unsigned width)
 {
     uint8_t octets[8];

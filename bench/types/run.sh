@@ -17,14 +17,15 @@ case $rules in
 esac
 mkdir -p "$work/crates/types_bench/src"
 for folder in "$top"/crates/*; do
-    [ -d "$work/crates/${folder##*/}" ] || cp -r "$folder" "$work/crates/"
+    name=${folder##*/}
+    [ -d "$work/crates/$name" ] || tar -C "$top/crates" --exclude="$name/out/incremental" -cf - "$name" | tar -C "$work/crates" -xf -
 done
 cp "$here/main.in" "$work/crates/types_bench/src/main.rt"
 cp "$here/sample.in" "$work/crates/types_bench/src/sample.rt"
 cp "$here/$rules.in" "$work/crates/types_bench/src/rules.rt"
 { cat "$top/crates.txt"; echo "types_bench: $uses"; } > "$work/crates.txt"
 ${CC:-clang} -O2 -o "$work/plain" $plain
-(cd "$work/crates/types_bench" && rt run > "$work/first" 2> "$work/log") || { tail -20 "$work/log"; exit 1; }
+(cd "$work/crates/types_bench" && ${RT:-rt} run > "$work/first" 2> "$work/log") || { tail -20 "$work/log"; exit 1; }
 asn1c=
 if [ "$rules" = uper ] && command -v asn1c > "$work/found"; then
     mkdir -p "$work/asn1c"

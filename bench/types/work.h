@@ -1,6 +1,6 @@
-/* What the benchmarks in C share: octets that grow, and values without a pattern. A set of rules defines put_sample, get_sample, put_list,
+/* What the benchmarks of sequences, lists and strings in C share: values without a pattern. A set of rules defines put_sample, get_sample, put_list,
  * get_list, put_string and get_string, and includes this file first. */
-#include "../common.h"
+#include "buffer.h"
 
 #define COUNT 1000000u
 
@@ -12,44 +12,6 @@ struct sample {
     int has_e;
     uint16_t e;
 };
-
-/* Octets that double where they are too few. */
-struct buffer {
-    uint8_t *octets;
-    size_t room;
-    size_t count;
-};
-
-static int grow(struct buffer *b, size_t count)
-{
-    size_t room = b->room * 2 > b->count + count ? b->room * 2 : b->count + count;
-    uint8_t *larger;
-    if (b->room - b->count >= count)
-        return 1;
-    larger = realloc(b->octets, room);
-    if (!larger)
-        return 0;
-    b->octets = larger;
-    b->room = room;
-    return 1;
-}
-
-static int put_octet(struct buffer *b, uint8_t octet)
-{
-    if (!grow(b, 1))
-        return 0;
-    b->octets[b->count++] = octet;
-    return 1;
-}
-
-static int put_octets(struct buffer *b, const uint8_t *octets, size_t count)
-{
-    if (!grow(b, count))
-        return 0;
-    memcpy(b->octets + b->count, octets, count);
-    b->count += count;
-    return 1;
-}
 
 static uint64_t sum_with(uint64_t sum, const struct sample *s)
 {

@@ -1,0 +1,69 @@
+# The best time of each work as a table in Markdown: in milliseconds of plain C, of asn1c where it was run, and of the proved code, and how many
+# times the first the last takes. Behind it, of bags of n members, nanoseconds for each member divided by log2 n; and of each translation the
+# sum of one read and one write by themselves.
+BEGIN {
+    text["append_fields"] = "10^7 fields of 1 to 128 bits appended"
+    text["read_fields"] = "the same fields read"
+    text["append_octets_0"] = "64 MiB appended at bit 0"
+    text["append_octets_3"] = "64 MiB appended at bit 3"
+    text["read_octets_0"] = "64 MiB copied from bit 0"
+    text["read_octets_3"] = "64 MiB copied from bit 3"
+    text["sequences"] = "10^6 sequences"
+    text["list"] = "a list of 10^6 numbers"
+    text["octets"] = "64 MiB in an OCTET STRING"
+    text["choices"] = "10^6 choices of 20 alternatives"
+    text["additions"] = "10^6 sequences with 3 of 8 additions"
+    text["bags_1000"] = "10^3 bags of 10^3 numbers"
+    text["bags_10000"] = "10^2 bags of 10^4 numbers"
+    text["bags_100000"] = "10 bags of 10^5 numbers"
+    text["_to_uper"] = "COER to UPER"
+    text["_to_coer"] = "UPER to COER"
+}
+{
+    key = $1 " " $2
+    if (!(key in best) || $3 < best[key]) best[key] = $3
+    if (($2 in sum) && sum[$2] != $4) wrong = 1
+    sum[$2] = $4
+    if (!($2 in seen)) { seen[$2] = 1; order[++n] = $2 }
+    if ($1 == "asn1c") generated = 1
+    if ($2 ~ /^recode_/) recodes = 1
+}
+function ms(key) { return key in best ? sprintf(best[key] < 9950 ? "%.1f" : "%.0f", best[key] / 1000) : "" }
+function ratio(a, b) { return sprintf("%.2f", best[a] / best[b]) }
+function words(name,   kind, done) {
+    if (name in text) return text[name]
+    kind = name; sub(/^[a-z]+_/, "", kind)
+    done = name ~ /^write_/ ? "written" : name ~ /^read_/ ? "read" : "translated"
+    if (match(kind, /_to_[a-z]+$/)) done = done ", " text[substr(kind, RSTART)]
+    sub(/_to_[a-z]+$/, "", kind)
+    return text[kind] " " done
+}
+function row(name) {
+    if (generated) printf "| %s | %s | %s | %s | %s |\n", words(name), ms("plain " name), ms("asn1c " name), ms("proved " name), ratio("proved " name, "plain " name)
+    else printf "| %s | %s | %s | %s |\n", words(name), ms("plain " name), ms("proved " name), ratio("proved " name, "plain " name)
+}
+function translation(name,   kind, both) {
+    kind = name; sub(/^recode_/, "", kind)
+    both = best["proved read_" kind] + best["proved write_" kind]
+    printf "| %s | %s | %s | %s | %s | %.2f | %s |\n", words(name), ms("plain " name), ms("proved read_" kind), ms("proved write_" kind), ms("proved " name), best["proved " name] / both, ratio("proved " name, "plain " name)
+}
+function growth(name, who,   count) {
+    count = name; sub(/.*_/, "", count)
+    return sprintf("%.2f", best[who " " name] / 1000 / (log(count) / log(2)))
+}
+END {
+    if (recodes) {
+        print "| Work | C | read by itself | written by itself | `recode` | to the sum of both | to C |"
+        print "|---|---|---|---|---|---|---|"
+        for (i = 1; i <= n; i++) if (order[i] ~ /^recode_/) translation(order[i])
+    } else {
+        print generated ? "| Work | C | asn1c | here | ratio |" : "| Work | C | here | ratio |"
+        print generated ? "|---|---|---|---|---|" : "|---|---|---|---|"
+        for (i = 1; i <= n; i++) row(order[i])
+    }
+    for (i = 1; i <= n; i++) if (order[i] ~ /^write_bags_[0-9]+$/) {
+        if (!bags++) print "\n| Nanoseconds for a member, divided by log2 n | C | here |\n|---|---|---|"
+        printf "| %s | %s | %s |\n", words(order[i]), growth(order[i], "plain"), growth(order[i], "proved")
+    }
+    if (wrong) { print "the sums differ"; exit 1 }
+}

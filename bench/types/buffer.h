@@ -1,0 +1,47 @@
+/* What the codecs in C share: octets that grow, and octets that are read. */
+#include "../common.h"
+
+/* Octets that double where they are too few. */
+struct buffer {
+    uint8_t *octets;
+    size_t room;
+    size_t count;
+};
+
+static int grow(struct buffer *b, size_t count)
+{
+    size_t room = b->room * 2 > b->count + count ? b->room * 2 : b->count + count;
+    uint8_t *larger;
+    if (b->room - b->count >= count)
+        return 1;
+    larger = realloc(b->octets, room);
+    if (!larger)
+        return 0;
+    b->octets = larger;
+    b->room = room;
+    return 1;
+}
+
+static int put_octet(struct buffer *b, uint8_t octet)
+{
+    if (!grow(b, 1))
+        return 0;
+    b->octets[b->count++] = octet;
+    return 1;
+}
+
+static int put_octets(struct buffer *b, const uint8_t *octets, size_t count)
+{
+    if (!grow(b, count))
+        return 0;
+    memcpy(b->octets + b->count, octets, count);
+    b->count += count;
+    return 1;
+}
+
+/* Octets that are still to be read, and in the packed rules how many bits of the first of them were. */
+struct input {
+    const uint8_t *octets;
+    size_t count;
+    unsigned bits;
+};
