@@ -33,15 +33,21 @@ static void tell(const char *name, double time, uint64_t sum)
     printf("%s %.0f %llu\n", name, time, (unsigned long long)sum);
 }
 
+/* Fills so many octets, each from the next number behind a state, and returns the last number. */
+static uint64_t fill_octets(uint8_t *octets, size_t count, uint64_t state)
+{
+    size_t i;
+    for (i = 0; i < count; i++) {
+        state = next(state);
+        octets[i] = (uint8_t)(state >> 56);
+    }
+    return state;
+}
+
 static uint8_t *make_octets(size_t count)
 {
     uint8_t *octets = malloc(count);
-    uint64_t state = 1;
-    size_t i;
     if (octets)
-        for (i = 0; i < count; i++) {
-            state = next(state);
-            octets[i] = (uint8_t)(state >> 56);
-        }
+        fill_octets(octets, count, 1);
     return octets;
 }

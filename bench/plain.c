@@ -1,37 +1,29 @@
 /* The work of bits_bench in plain C: octets at an octet's beginning are copied, all others shifted an octet at a time. */
-#include "common.h"
+#include "buffer.h"
 
 #define FIELDS 10000000u
 
 typedef unsigned __int128 u128;
 
-/* Bits from the first on, zero behind the last one; the octets double where they are too few. */
-struct buffer {
-    uint8_t *octets;
-    size_t room;
-    size_t bits;
+/* Bits from the first on, zero behind the last one. */
+struct bits {
+    struct buffer buffer;
+    size_t count;
 };
 
-static int grow(struct buffer *b, size_t bits)
+/* Has room for so many bits more. */
+static int make_room(struct bits *b, size_t bits)
 {
-    size_t octets = (b->bits + bits + 7) / 8;
-    size_t room = b->room * 2 > octets ? b->room * 2 : octets;
-    uint8_t *larger;
-    if (octets <= b->room)
-        return 1;
-    larger = realloc(b->octets, room);
-    if (!larger)
-        return 0;
-    b->octets = larger;
-    b->room = room;
-    return 1;
+    return reserve(&b->buffer, (b->count + bits + 7) / 8);
 }
 
-static int push_bits(struct buffer *b, u128 value, unsigned width)
+static int push_bits(struct bits *b, u128 value, unsigned width)
 {
-    size_t at = b->bits;
-    if (!grow(b, width))
+    uint8_t *octets;
+    size_t at = b->count;
+    if (!make_room(b, width))
         return 0;
+    octets = b->buffer.octets;
     while (width > 0) {
         unsigned used = at % 8;
         unsigned few = width < 8 - used ? width : 8 - used;
@@ -39,22 +31,22 @@ static int push_bits(struct buffer *b, u128 value, unsigned width)
         width -= few;
         part = (unsigned)(value >> width) & ((1u << few) - 1);
         if (used == 0)
-            b->octets[at / 8] = 0;
-        b->octets[at / 8] |= (uint8_t)(part << (8 - used - few));
+            octets[at / 8] = 0;
+        octets[at / 8] |= (uint8_t)(part << (8 - used - few));
         at += few;
     }
-    b->bits = at;
+    b->count = at;
     return 1;
 }
 
-static int push_octets(struct buffer *b, const uint8_t *octets, size_t count)
+static int push_octets(struct bits *b, const uint8_t *octets, size_t count)
 {
-    unsigned used = b->bits % 8;
+    unsigned used = b->count % 8;
     uint8_t *to;
     size_t i;
-    if (!grow(b, count * 8))
+    if (!make_room(b, count * 8))
         return 0;
-    to = b->octets + b->bits / 8;
+    to = b->buffer.octets + b->count / 8;
     if (used == 0) {
         memcpy(to, octets, count);
     } else {
@@ -63,7 +55,7 @@ static int push_octets(struct buffer *b, const uint8_t *octets, size_t count)
             to[i + 1] = (uint8_t)(octets[i] << (8 - used));
         }
     }
-    b->bits += count * 8;
+    b->count += count * 8;
     return 1;
 }
 
@@ -104,63 +96,65 @@ static unsigned field(uint64_t state, u128 *value)
     return (unsigned)(state >> 57) + 1;
 }
 
-int main(void)
+static int time_fields(void)
 {
-    struct buffer fields = {0};
+    struct bits fields = {0};
     uint64_t state = 1, sum = 0;
-    double start = now();
-    uint8_t *octets;
-    unsigned i, k;
+    double start = now(), time;
+    size_t at = 0;
+    unsigned i, width;
     u128 value;
     for (i = 0; i < FIELDS; i++) {
-        unsigned width;
         state = next(state);
         width = field(state, &value);
         if (!push_bits(&fields, value, width))
-            return 1;
+            return 0;
     }
-    start = now() - start;
-    tell("append_fields", start, sum_of(fields.octets, (fields.bits + 7) / 8));
+    time = now() - start;
+    tell("append_fields", time, sum_of(fields.buffer.octets, (fields.count + 7) / 8));
 
     start = now();
-    {
-        size_t at = 0;
-        state = 1;
-        for (i = 0; i < FIELDS; i++) {
-            unsigned width;
-            state = next(state);
-            width = field(state, &value);
-            sum = sum * 31 + (uint64_t)bits_at(fields.octets, at, width);
-            at += width;
-        }
+    state = 1;
+    for (i = 0; i < FIELDS; i++) {
+        state = next(state);
+        width = field(state, &value);
+        sum = sum * 31 + (uint64_t)bits_at(fields.buffer.octets, at, width);
+        at += width;
     }
     tell("read_fields", now() - start, sum);
+    free(fields.buffer.octets);
+    return 1;
+}
 
-    octets = make_octets(OCTETS);
+static int time_octets(const char *to_append, const char *to_read, unsigned alignment)
+{
+    uint8_t *octets = make_octets(OCTETS), *copy;
+    struct bits b = {0};
+    double start, time;
     if (!octets)
-        return 1;
-    for (k = 0; k < 2; k++) {
-        unsigned alignment = k * 3;
-        struct buffer b = {0};
-        char name[32];
-        uint8_t *copy;
-        start = now();
-        if (!push_bits(&b, 5, alignment) || !push_octets(&b, octets, OCTETS))
-            return 1;
-        start = now() - start;
-        snprintf(name, sizeof name, "append_octets_%u", alignment);
-        tell(name, start, sum_of(b.octets, (b.bits + 7) / 8));
-        start = now();
-        copy = octets_at(b.octets, alignment, OCTETS);
-        if (!copy)
-            return 1;
-        start = now() - start;
-        snprintf(name, sizeof name, "read_octets_%u", alignment);
-        tell(name, start, sum_of(copy, OCTETS));
-        free(copy);
-        free(b.octets);
-    }
+        return 0;
+    start = now();
+    if (!push_bits(&b, 5, alignment) || !push_octets(&b, octets, OCTETS))
+        return 0;
+    time = now() - start;
+    tell(to_append, time, sum_of(b.buffer.octets, (b.count + 7) / 8));
+
+    start = now();
+    copy = octets_at(b.buffer.octets, alignment, OCTETS);
+    if (!copy)
+        return 0;
+    time = now() - start;
+    tell(to_read, time, sum_of(copy, OCTETS));
     free(octets);
-    free(fields.octets);
-    return 0;
+    free(copy);
+    free(b.buffer.octets);
+    return 1;
+}
+
+int main(void)
+{
+    return time_fields()
+        && time_octets("append_octets_0", "read_octets_0", 0)
+        && time_octets("append_octets_3", "read_octets_3", 3)
+        ? 0 : 1;
 }

@@ -1,5 +1,5 @@
 #!/bin/sh
-# Refuses each request for memory in turn, in the tests of each package of values.
+# Refuses each request for memory in turn, in the tests of each package that is named, or of the values.
 #
 #   bench/refused.sh [PACKAGE..]
 #
@@ -8,18 +8,18 @@
 # first N at which all of its ample_* tests pass, or where it has none, with the first at which all of its tests do. Each run
 # builds the tests anew, which takes some seconds. Nothing is proved.
 here=$(cd "$(dirname "$0")/.." && pwd)
-[ $# -gt 0 ] || set -- $(sed -n 's/^\(asn1_values_[a-z_]*\):.*/\1/p' "$here/crates.txt")
+[ $# -gt 0 ] || set -- $(sed -n 's/^\(asn1_values_tests_[a-z]*\):.*/\1/p' "$here/crates.txt")
 log=$(mktemp)
 trap 'rm -f "$log"' EXIT
 status=0
 for package in "$@"; do
     cd "$here/crates/$package" || exit 2
-    if ! grep -qs '#\[test\]' src/tests.rt; then
+    if ! grep -rqs '#\[test\]' src; then
         echo "$package: no tests"
         continue
     fi
     last='.*'
-    if grep -q '^fn ample_' src/tests.rt; then
+    if grep -rq '^fn ample_' src; then
         last='ample_.*'
     fi
     n=1

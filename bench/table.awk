@@ -1,6 +1,6 @@
-# The best time of each work as a table in Markdown: in milliseconds of plain C, of asn1c where it was run, and of the proved code, and how many
-# times the first the last takes. Behind it, of bags of n members, nanoseconds for each member divided by log2 n; and of each translation the
-# sum of one read and one write by themselves.
+# The best time of each work as a table in Markdown: in milliseconds of plain C and of the proved code, how many times the first the second takes,
+# and that of asn1c where it was run. Behind it, of bags of n members, nanoseconds for each member divided by log2 n. A translation stands beside one
+# read and one write by themselves. It ends with an error where the sums of one work differ, or where one program did not say a work.
 BEGIN {
     text["append_fields"] = "10^7 fields of 1 to 128 bits appended"
     text["read_fields"] = "the same fields read"
@@ -22,14 +22,14 @@ BEGIN {
 {
     key = $1 " " $2
     if (!(key in best) || $3 < best[key]) best[key] = $3
-    if (($2 in sum) && sum[$2] != $4) wrong = 1
+    if (($2 in sum) && sum[$2] != $4) wrong = wrong $2 ": the sums differ\n"
     sum[$2] = $4
     if (!($2 in seen)) { seen[$2] = 1; order[++n] = $2 }
     if ($1 == "asn1c") generated = 1
     if ($2 ~ /^recode_/) recodes = 1
 }
 function ms(key) { return key in best ? sprintf(best[key] < 9950 ? "%.1f" : "%.0f", best[key] / 1000) : "" }
-function ratio(a, b) { return sprintf("%.2f", best[a] / best[b]) }
+function ratio(a, b) { return best[b] ? sprintf("%.2f", best[a] / best[b]) : "" }
 function words(name,   kind, done) {
     if (name in text) return text[name]
     kind = name; sub(/^[a-z]+_/, "", kind)
@@ -39,31 +39,36 @@ function words(name,   kind, done) {
     return text[kind] " " done
 }
 function row(name) {
-    if (generated) printf "| %s | %s | %s | %s | %s |\n", words(name), ms("plain " name), ms("asn1c " name), ms("proved " name), ratio("proved " name, "plain " name)
-    else printf "| %s | %s | %s | %s |\n", words(name), ms("plain " name), ms("proved " name), ratio("proved " name, "plain " name)
+    printf "| %s | %s | %s | %s |", words(name), ms("plain " name), ms("proved " name), ratio("proved " name, "plain " name)
+    print generated ? " " ms("asn1c " name) " |" : ""
 }
 function translation(name,   kind, both) {
     kind = name; sub(/^recode_/, "", kind)
     both = best["proved read_" kind] + best["proved write_" kind]
-    printf "| %s | %s | %s | %s | %s | %.2f | %s |\n", words(name), ms("plain " name), ms("proved read_" kind), ms("proved write_" kind), ms("proved " name), best["proved " name] / both, ratio("proved " name, "plain " name)
+    printf "| %s | %s | %s | %s | %s | %s | %.2f |\n", words(name), ms("plain " name), ms("proved " name), ratio("proved " name, "plain " name), ms("proved read_" kind), ms("proved write_" kind), best["proved " name] / both
 }
 function growth(name, who,   count) {
     count = name; sub(/.*_/, "", count)
     return sprintf("%.2f", best[who " " name] / 1000 / (log(count) / log(2)))
 }
 END {
+    for (i = 1; i <= n; i++) {
+        name = order[i]
+        if (!(("proved " name) in best) || !(("plain " name) in best) && (name ~ /^recode_/ || !recodes)) wrong = wrong name ": one program lacks it\n"
+    }
+    if (n == 0) wrong = "no work was timed\n"
+    if (wrong) { printf "%s", wrong; exit 1 }
     if (recodes) {
-        print "| Work | C | read by itself | written by itself | `recode` | to the sum of both | to C |"
+        print "| Work | C | `recode` | ratio | read by itself | written by itself | `recode` to both |"
         print "|---|---|---|---|---|---|---|"
         for (i = 1; i <= n; i++) if (order[i] ~ /^recode_/) translation(order[i])
-    } else {
-        print generated ? "| Work | C | asn1c | here | ratio |" : "| Work | C | here | ratio |"
-        print generated ? "|---|---|---|---|---|" : "|---|---|---|---|"
-        for (i = 1; i <= n; i++) row(order[i])
+        exit
     }
+    print generated ? "| Work | C | here | ratio | asn1c |" : "| Work | C | here | ratio |"
+    print generated ? "|---|---|---|---|---|" : "|---|---|---|---|"
+    for (i = 1; i <= n; i++) row(order[i])
     for (i = 1; i <= n; i++) if (order[i] ~ /^write_bags_[0-9]+$/) {
         if (!bags++) print "\n| Nanoseconds for a member, divided by log2 n | C | here |\n|---|---|---|"
         printf "| %s | %s | %s |\n", words(order[i]), growth(order[i], "plain"), growth(order[i], "proved")
     }
-    if (wrong) { print "the sums differ"; exit 1 }
 }

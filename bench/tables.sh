@@ -1,20 +1,17 @@
 #!/bin/sh
 # bench/tables.sh [FOLDER]: runs all benchmarks of speed, one behind the other, in a folder of its own, and prints their times as tables in
-# Markdown. RUN and RT are those of run.sh, types/run.sh and kinds/run.sh.
+# Markdown. RT, CC and RUN are those of shared.sh.
 set -e
 here=$(cd "$(dirname "$0")" && pwd)
 work=${1:-$(mktemp -d)}
-mkdir -p "$work"
 echo "## bits"
 echo
-"$here/run.sh" "$work" > "$work/said"
-awk -f "$here/table.awk" "$work/times"
-for rules in coer uper aper; do
+"$here/run.sh" "$work"
+for rules in coer oer uper aper; do
     echo
     echo "## types, $rules"
     echo
-    "$here/types/run.sh" $rules "$work" > "$work/said"
-    awk -f "$here/table.awk" "$work/times"
+    "$here/types/run.sh" $rules "$work"
 done
 for rules in coer oer uper aper recode; do
     echo

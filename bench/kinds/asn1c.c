@@ -1,13 +1,14 @@
 /* The types of the benchmark in the unaligned packed encoding rules, written and read by what asn1c generates of kinds.asn1. It has no writer of
  * SET OF, so that bags are read alone. */
 #include "kinds.h"
+#include "times.h"
 #include "per.h"
+#include "../asn1c.h"
 #include <Bag.h>
 #include <Grown.h>
 #include <Pick.h>
-#include <per_decoder.h>
-#include <per_encoder.h>
 
+/* What generated code calls to write a bag, and asn1c lacks. */
 asn_enc_rval_t SET_OF_encode_uper(asn_TYPE_descriptor_t *type, asn_per_constraints_t *constraints, void *value, asn_per_outp_t *output)
 {
     asn_enc_rval_t none = {-1, type, value};
@@ -16,31 +17,10 @@ asn_enc_rval_t SET_OF_encode_uper(asn_TYPE_descriptor_t *type, asn_per_constrain
     return none;
 }
 
-static int put(const void *octets, size_t count, void *buffer)
-{
-    return put_octets(buffer, octets, count) ? 0 : -1;
-}
-
-static int put_value(struct buffer *b, asn_TYPE_descriptor_t *type, void *value)
-{
-    return uper_encode(type, value, put, b).encoded >= 0;
-}
-
-static void *get_value(struct input *in, asn_TYPE_descriptor_t *type)
-{
-    void *value = NULL;
-    asn_dec_rval_t r = uper_decode(0, type, &value, in->octets, in->count, 0, 0);
-    size_t taken = (r.consumed + 7) / 8;
-    if (r.code != RC_OK)
-        return NULL;
-    in->octets += taken;
-    in->count -= taken;
-    return value;
-}
-
 /* Alternatives of one type stand at the same place. */
-static int put_pick(struct buffer *b, const struct pick *p)
+static int put_pick(struct buffer *b, const void *value)
 {
+    const struct pick *p = value;
     Pick_t t = {0};
     t.present = Pick_PR_number0 + p->tag;
     switch (p->tag % 3) {
@@ -57,12 +37,15 @@ static int put_pick(struct buffer *b, const struct pick *p)
     return put_value(b, &asn_DEF_Pick, &t);
 }
 
-static int get_pick(struct input *in, uint64_t *sum)
+static int get_pick(struct input *in, void *value)
 {
-    Pick_t *t = get_value(in, &asn_DEF_Pick);
+    return get_value(in, &asn_DEF_Pick, value);
+}
+
+static uint64_t sum_generated_pick(uint64_t sum, const void *value)
+{
+    const Pick_t *t = *(Pick_t *const *)value;
     struct pick p = {0};
-    if (!t)
-        return 0;
     p.tag = t->present - Pick_PR_number0;
     switch (p.tag % 3) {
     case 0:
@@ -75,13 +58,17 @@ static int get_pick(struct input *in, uint64_t *sum)
     default:
         p.truth = t->choice.truth2;
     }
-    *sum = sum_pick(*sum, &p);
-    ASN_STRUCT_FREE(asn_DEF_Pick, t);
-    return 1;
+    return sum_pick(sum, &p);
 }
 
-static int put_grown(struct buffer *b, const struct grown *g)
+static void release_pick(void *value)
 {
+    ASN_STRUCT_FREE(asn_DEF_Pick, *(Pick_t **)value);
+}
+
+static int put_grown(struct buffer *b, const void *value)
+{
+    const struct grown *g = value;
     Grown_t t = {0};
     long *added[ADDITIONS], numbers[ADDITIONS];
     unsigned i;
@@ -101,90 +88,60 @@ static int put_grown(struct buffer *b, const struct grown *g)
     return put_value(b, &asn_DEF_Grown, &t);
 }
 
-static int get_grown(struct input *in, uint64_t *sum)
+static int get_grown(struct input *in, void *value)
 {
-    Grown_t *t = get_value(in, &asn_DEF_Grown);
+    return get_value(in, &asn_DEF_Grown, value);
+}
+
+static uint64_t sum_generated_grown(uint64_t sum, const void *value)
+{
+    const Grown_t *t = *(Grown_t *const *)value;
+    const long *added[ADDITIONS] = {t->b, t->c, t->d, t->e, t->f, t->g, t->h, t->i};
     struct grown g = {0};
     unsigned i;
-    if (!t)
-        return 0;
-    long *added[ADDITIONS] = {t->b, t->c, t->d, t->e, t->f, t->g, t->h, t->i};
     g.a = t->a != 0;
     for (i = 0; i < ADDITIONS; i++)
         if (added[i]) {
             g.there |= (uint8_t)(1u << i);
             g.added[i] = (uint8_t)*added[i];
         }
-    *sum = sum_grown(*sum, &g);
-    ASN_STRUCT_FREE(asn_DEF_Grown, t);
-    return 1;
+    return sum_grown(sum, &g);
 }
 
-static int put_bag(struct buffer *b, const struct bag *g)
+static void release_grown(void *value)
 {
-    return per_put_bag(b, g);
+    ASN_STRUCT_FREE(asn_DEF_Grown, *(Grown_t **)value);
 }
 
-static int get_bag(struct input *in, uint64_t *sum)
+static int get_bag(struct input *in, void *value)
 {
-    Bag_t *t = get_value(in, &asn_DEF_Bag);
+    return get_value(in, &asn_DEF_Bag, value);
+}
+
+static uint64_t sum_generated_bag(uint64_t sum, const void *value)
+{
+    const Bag_t *t = *(Bag_t *const *)value;
     int i;
-    if (!t)
-        return 0;
     for (i = 0; i < t->list.count; i++)
-        *sum = *sum * 31 + (uint64_t)*t->list.array[i];
-    ASN_STRUCT_FREE(asn_DEF_Bag, t);
-    return 1;
+        sum = sum * 31 + (uint64_t)*t->list.array[i];
+    return sum;
 }
 
-/* The work of one type: so many values, with so many members each, are written one behind the other, and read. */
-#define WORK(type)                                                          \
-    static int time_##type(const char *to_write, const char *to_read, size_t count, size_t members) \
-    {                                                                       \
-        struct type *values = malloc(count * sizeof *values);              \
-        struct buffer b = {0};                                              \
-        struct input in = {0};                                              \
-        uint64_t state = 1, sum = 0;                                        \
-        double start, time;                                                 \
-        size_t i;                                                           \
-        if (!values)                                                        \
-            return 0;                                                       \
-        for (i = 0; i < count; i++) {                                       \
-            state = next(state);                                            \
-            if (!make_##type(&values[i], state, members))                   \
-                return 0;                                                   \
-        }                                                                   \
-        start = now();                                                      \
-        for (i = 0; i < count; i++)                                         \
-            if (!put_##type(&b, &values[i]))                                \
-                return 0;                                                   \
-        time = now() - start;                                               \
-        if (to_write)                                                       \
-            tell(to_write, time, sum_of(b.octets, b.count));                \
-        in.octets = b.octets;                                               \
-        in.count = b.count;                                                 \
-        start = now();                                                      \
-        for (i = 0; i < count; i++)                                         \
-            if (!get_##type(&in, &sum))                                     \
-                return 0;                                                   \
-        tell(to_read, now() - start, sum);                                  \
-        for (i = 0; i < count; i++)                                         \
-            free_##type(&values[i]);                                        \
-        free(values);                                                       \
-        free(b.octets);                                                     \
-        return 1;                                                           \
-    }
+static void release_bag(void *value)
+{
+    ASN_STRUCT_FREE(asn_DEF_Bag, *(Bag_t **)value);
+}
 
-WORK(pick)
-WORK(grown)
-WORK(bag)
+static const struct codec GENERATED_PICK = {put_pick, get_pick, sum_generated_pick, release_pick};
+static const struct codec GENERATED_GROWN = {put_grown, get_grown, sum_generated_grown, release_grown};
+static const struct codec GENERATED_BAG = {per_put_bag, get_bag, sum_generated_bag, release_bag};
 
 int main(void)
 {
-    return time_pick("write_choices", "read_choices", COUNT, 0)
-        && time_grown("write_additions", "read_additions", COUNT, 0)
-        && time_bag(NULL, "read_bags_1000", COUNT / 1000, 1000)
-        && time_bag(NULL, "read_bags_10000", COUNT / 10000, 10000)
-        && time_bag(NULL, "read_bags_100000", COUNT / 100000, 100000)
+    return time_values("write_choices", "read_choices", &PICK, &GENERATED_PICK, COUNT, 0)
+        && time_values("write_additions", "read_additions", &GROWN, &GENERATED_GROWN, COUNT, 0)
+        && time_values(NULL, "read_bags_1000", &BAG, &GENERATED_BAG, COUNT / 1000, 1000)
+        && time_values(NULL, "read_bags_10000", &BAG, &GENERATED_BAG, COUNT / 10000, 10000)
+        && time_values(NULL, "read_bags_100000", &BAG, &GENERATED_BAG, COUNT / 100000, 100000)
         ? 0 : 1;
 }

@@ -1,10 +1,13 @@
 /* What the benchmarks of a choice, a sequence with additions and bags in C share: the types, values without a pattern, and sums of what these
  * hold. */
-#include "../types/buffer.h"
+#include "../buffer.h"
 
 #define COUNT 1000000u
 #define TAGS 20u
 #define ADDITIONS 8u
+
+/* What has its kind and its codec at hand as constants is inlined, so that their functions are called as any others. */
+#define INLINED static inline __attribute__((always_inline))
 
 /* Under each third tag from 0 on a number, from 1 on octets, and from 2 on a truth value. */
 struct pick {
@@ -26,9 +29,32 @@ struct bag {
     size_t count;
 };
 
-static int make_pick(struct pick *p, uint64_t state, size_t members)
+/* A value of whichever kind, or one of generated code. */
+union value {
+    struct pick pick;
+    struct grown grown;
+    struct bag bag;
+    void *generated;
+};
+
+/* How values of one kind are made, of a number and with so many members where they have members, and how they are let go. */
+struct kind {
+    size_t size;
+    int (*make)(void *value, uint64_t state, size_t members);
+    void (*release)(void *value);
+};
+
+/* How values of one kind are written and read by one set of rules, and what is done with those that were read. */
+struct codec {
+    int (*put)(struct buffer *b, const void *value);
+    int (*get)(struct input *in, void *value);
+    uint64_t (*sum)(uint64_t sum, const void *value);
+    void (*release)(void *value);
+};
+
+static int make_pick(void *value, uint64_t state, size_t members)
 {
-    size_t i;
+    struct pick *p = value;
     (void)members;
     memset(p, 0, sizeof *p);
     p->tag = (unsigned)(state >> 40) % TAGS;
@@ -38,29 +64,27 @@ static int make_pick(struct pick *p, uint64_t state, size_t members)
         return 1;
     p->count = (state >> 32 & 15) + 1;
     p->octets = malloc(p->count);
-    if (!p->octets)
-        return 0;
-    for (i = 0; i < p->count; i++) {
-        state = next(state);
-        p->octets[i] = (uint8_t)(state >> 56);
-    }
-    return 1;
+    if (p->octets)
+        fill_octets(p->octets, p->count, state);
+    return p->octets != NULL;
 }
 
-static void free_pick(struct pick *p)
+static uint64_t sum_pick(uint64_t sum, const void *value)
 {
-    free(p->octets);
-}
-
-static uint64_t sum_pick(uint64_t sum, const struct pick *p)
-{
+    const struct pick *p = value;
     uint64_t held = p->tag % 3 == 0 ? p->number : p->tag % 3 == 2 ? (uint64_t)p->truth : p->count << 8 | p->octets[p->count - 1];
     return sum * 31 + ((uint64_t)p->tag << 32 | held);
 }
 
-/* Three of the eight additions are there. */
-static int make_grown(struct grown *g, uint64_t state, size_t members)
+static void free_pick(void *value)
 {
+    free(((struct pick *)value)->octets);
+}
+
+/* Three of the eight additions are there. */
+static int make_grown(void *value, uint64_t state, size_t members)
+{
+    struct grown *g = value;
     unsigned first = state >> 40 & 7, i;
     (void)members;
     g->a = state >> 63;
@@ -70,13 +94,9 @@ static int make_grown(struct grown *g, uint64_t state, size_t members)
     return 1;
 }
 
-static void free_grown(struct grown *g)
+static uint64_t sum_grown(uint64_t sum, const void *value)
 {
-    (void)g;
-}
-
-static uint64_t sum_grown(uint64_t sum, const struct grown *g)
-{
+    const struct grown *g = value;
     unsigned i;
     sum = sum * 31 + (uint64_t)g->a;
     for (i = 0; i < ADDITIONS; i++)
@@ -84,8 +104,15 @@ static uint64_t sum_grown(uint64_t sum, const struct grown *g)
     return sum;
 }
 
-static int make_bag(struct bag *b, uint64_t state, size_t members)
+/* Such a sequence takes no memory of its own. */
+static void free_grown(void *value)
 {
+    (void)value;
+}
+
+static int make_bag(void *value, uint64_t state, size_t members)
+{
+    struct bag *b = value;
     size_t i;
     state = state << 31 | state >> 33;
     b->members = malloc(members * sizeof *b->members);
@@ -99,17 +126,18 @@ static int make_bag(struct bag *b, uint64_t state, size_t members)
     return 1;
 }
 
-static void free_bag(struct bag *b)
+static uint64_t sum_bag(uint64_t sum, const void *value)
 {
-    free(b->members);
-}
-
-static uint64_t sum_bag(uint64_t sum, const struct bag *b)
-{
+    const struct bag *b = value;
     size_t i;
     for (i = 0; i < b->count; i++)
         sum = sum * 31 + b->members[i];
     return sum;
+}
+
+static void free_bag(void *value)
+{
+    free(((struct bag *)value)->members);
 }
 
 /* A member more, of which there are so many, behind room for so many. */
@@ -147,3 +175,7 @@ static uint8_t *sorted_members(const struct bag *b)
     qsort(octets, b->count, 2, compare_members);
     return octets;
 }
+
+static const struct kind PICK = {sizeof(struct pick), make_pick, free_pick};
+static const struct kind GROWN = {sizeof(struct grown), make_grown, free_grown};
+static const struct kind BAG = {sizeof(struct bag), make_bag, free_bag};

@@ -1,9 +1,10 @@
 /* The packed encoding rules in plain C, unaligned or, with ALIGNED, aligned: writers and readers of a choice, a sequence with additions and a
  * bag. */
-#include "../types/bits.h"
+#include "../bits.h"
 
-static int per_put_pick(struct buffer *b, const struct pick *p)
+static int per_put_pick(struct buffer *b, const void *value)
 {
+    const struct pick *p = value;
     struct bits o = {b, 0};
     if (!put_bits(&o, p->tag, 5))
         return 0;
@@ -20,8 +21,9 @@ static int per_put_pick(struct buffer *b, const struct pick *p)
     }
 }
 
-static int per_put_grown(struct buffer *b, const struct grown *g)
+static int per_put_grown(struct buffer *b, const void *value)
 {
+    const struct grown *g = value;
     struct bits o = {b, 0};
     uint32_t bitmap = 0;
     unsigned i;
@@ -55,8 +57,9 @@ static int per_put_members(struct bits *o, const uint8_t *octets, size_t count)
     }
 }
 
-static int per_put_bag(struct buffer *b, const struct bag *g)
+static int per_put_bag(struct buffer *b, const void *value)
 {
+    const struct bag *g = value;
     struct bits o = {b, 0};
     uint8_t *octets = sorted_members(g);
     int done = octets && per_put_members(&o, octets, g->count);
@@ -64,8 +67,9 @@ static int per_put_bag(struct buffer *b, const struct bag *g)
     return done;
 }
 
-static int per_get_pick(struct input *in, struct pick *p)
+static int per_get_pick(struct input *in, void *value)
 {
+    struct pick *p = value;
     uint32_t bits;
     uint64_t number;
     int more;
@@ -150,8 +154,9 @@ static int per_get_additions(struct input *in, struct grown *g)
     return 1;
 }
 
-static int per_get_grown(struct input *in, struct grown *g)
+static int per_get_grown(struct input *in, void *value)
 {
+    struct grown *g = value;
     uint32_t is_grown, a;
     in->bits = 0;
     if (!get_bits(in, 1, &is_grown) || !get_bits(in, 1, &a))
@@ -163,8 +168,9 @@ static int per_get_grown(struct input *in, struct grown *g)
     return skip_filling(in);
 }
 
-static int per_get_bag(struct input *in, struct bag *g)
+static int per_get_bag(struct input *in, void *value)
 {
+    struct bag *g = value;
     size_t count, i, room = 0;
     uint64_t number;
     int more;
@@ -180,3 +186,7 @@ static int per_get_bag(struct input *in, struct bag *g)
     } while (more);
     return skip_filling(in);
 }
+
+static const struct codec PER_PICK = {per_put_pick, per_get_pick, sum_pick, free_pick};
+static const struct codec PER_GROWN = {per_put_grown, per_get_grown, sum_grown, free_grown};
+static const struct codec PER_BAG = {per_put_bag, per_get_bag, sum_bag, free_bag};

@@ -1,68 +1,42 @@
 /* The sequences of the benchmark in the unaligned packed encoding rules, written and read by what asn1c generates of sample.asn1. */
 #include "work.h"
+#include "../asn1c.h"
 #include <Sample.h>
-#include <per_encoder.h>
-#include <per_decoder.h>
 
-static int put(const void *octets, size_t count, void *buffer)
+static int put_sample(struct buffer *b, const struct sample *s)
 {
-    return put_octets(buffer, octets, count) ? 0 : -1;
+    Sample_t t = {0};
+    long e = s->e;
+    t.a = s->a;
+    t.high = (uint32_t)(s->b >> 32);
+    t.low = (uint32_t)s->b;
+    t.c.buf = (uint8_t *)s->c;
+    t.c.size = 32;
+    t.d = s->d;
+    t.e = s->has_e ? &e : NULL;
+    return put_value(b, &asn_DEF_Sample, &t);
 }
 
-static void fill(Sample_t *t, struct sample *s, long *e)
+static int get_sample(struct input *in, struct sample *s)
 {
-    t->a = s->a;
-    t->high = (uint32_t)(s->b >> 32);
-    t->low = (uint32_t)s->b;
-    t->c.buf = s->c;
-    t->c.size = 32;
-    t->d = s->d;
-    *e = s->e;
-    t->e = s->has_e ? e : NULL;
+    void *value;
+    Sample_t *t;
+    if (!get_value(in, &asn_DEF_Sample, &value))
+        return 0;
+    t = value;
+    s->a = (uint32_t)t->a;
+    s->b = (uint64_t)t->high << 32 | (uint32_t)t->low;
+    memcpy(s->c, t->c.buf, 32);
+    s->d = t->d;
+    s->has_e = t->e != NULL;
+    s->e = t->e ? (uint16_t)*t->e : 0;
+    ASN_STRUCT_FREE(asn_DEF_Sample, t);
+    return 1;
 }
+
+#include "samples.h"
 
 int main(void)
 {
-    struct sample *samples = make_samples(), s;
-    struct buffer b = {0};
-    const uint8_t *octets;
-    size_t count;
-    uint64_t sum = 0;
-    double start, time;
-    unsigned i;
-    if (!samples)
-        return 1;
-    start = now();
-    for (i = 0; i < COUNT; i++) {
-        Sample_t t = {0};
-        long e;
-        fill(&t, &samples[i], &e);
-        if (uper_encode(&asn_DEF_Sample, &t, put, &b).encoded < 0)
-            return 1;
-    }
-    time = now() - start;
-    tell("write_sequences", time, sum_of(b.octets, b.count));
-
-    octets = b.octets;
-    count = b.count;
-    start = now();
-    for (i = 0; i < COUNT; i++) {
-        Sample_t *t = NULL;
-        asn_dec_rval_t r = uper_decode(0, &asn_DEF_Sample, (void **)&t, octets, count, 0, 0);
-        size_t taken = (r.consumed + 7) / 8;
-        if (r.code != RC_OK)
-            return 1;
-        s.a = (uint32_t)t->a;
-        s.b = (uint64_t)t->high << 32 | (uint32_t)t->low;
-        s.c[31] = t->c.buf[31];
-        s.d = t->d;
-        s.has_e = t->e != NULL;
-        s.e = t->e ? (uint16_t)*t->e : 0;
-        sum = sum_with(sum, &s);
-        ASN_STRUCT_FREE(asn_DEF_Sample, t);
-        octets += taken;
-        count -= taken;
-    }
-    tell("read_sequences", now() - start, sum);
-    return 0;
+    return time_samples() ? 0 : 1;
 }

@@ -1,6 +1,6 @@
 /* The packed encoding rules in plain C, unaligned or, with ALIGNED, aligned: a writer and a reader of the types of the benchmark. */
 #include "work.h"
-#include "bits.h"
+#include "../bits.h"
 
 static int put_sample(struct buffer *b, const struct sample *s)
 {

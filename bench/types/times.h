@@ -1,34 +1,5 @@
 /* Times the work of a set of rules: put_* add to a buffer, get_* take the octets from in front of an input. */
-static int time_samples(void)
-{
-    struct sample *samples = make_samples(), s;
-    struct buffer b = {0};
-    struct input in;
-    uint64_t sum = 0;
-    double start, time;
-    unsigned i;
-    if (!samples)
-        return 0;
-    start = now();
-    for (i = 0; i < COUNT; i++)
-        if (!put_sample(&b, &samples[i]))
-            return 0;
-    time = now() - start;
-    tell("write_sequences", time, sum_of(b.octets, b.count));
-
-    in.octets = b.octets;
-    in.count = b.count;
-    start = now();
-    for (i = 0; i < COUNT; i++) {
-        if (!get_sample(&in, &s))
-            return 0;
-        sum = sum_with(sum, &s);
-    }
-    tell("read_sequences", now() - start, sum);
-    free(samples);
-    free(b.octets);
-    return 1;
-}
+#include "samples.h"
 
 static int time_list(void)
 {

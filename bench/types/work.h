@@ -1,6 +1,6 @@
 /* What the benchmarks of sequences, lists and strings in C share: values without a pattern. A set of rules defines put_sample, get_sample, put_list,
  * get_list, put_string and get_string, and includes this file first. */
-#include "buffer.h"
+#include "../buffer.h"
 
 #define COUNT 1000000u
 
@@ -20,11 +20,7 @@ static uint64_t sum_with(uint64_t sum, const struct sample *s)
 
 static void make_sample(struct sample *s, uint64_t state)
 {
-    unsigned i;
-    for (i = 0; i < 32; i++) {
-        state = next(state);
-        s->c[i] = (uint8_t)(state >> 56);
-    }
+    state = fill_octets(s->c, 32, state);
     s->a = (uint32_t)(state >> 32);
     s->b = state << 31 | state >> 33;
     s->d = state >> 63;

@@ -1,16 +1,47 @@
-//! The schema of ASN.1 types: tags, constraints, tables of fields, types around others, and the errors of the codecs.
+//! The schema of ASN.1 types: tags, constraints, tables of components, alternatives and items, the traits of types and of codecs, types around
+//! others, bags, the plain codec, and the errors of the codecs.
 //!
 //! This crate is a face: its items stand in the packages whose names begin with its own.
 #![tactic(auto)]
 
+pub mod records;
+
+pub use asn1_schema_additions::{
+    AddedDefaulted, AddedDefaultedComponent, AddedGroup, AddedGroupComponent, AddedOptional,
+    AddedOptionalComponent, AddedRequired, AddedRequiredComponent, AdditionsOf, CountOf,
+    DecodeAdditions, DecodeExtension, EncodeAdditions, EncodeExtension, Group, Marked,
+    MarkedComponents, NoMore,
+};
+pub use asn1_schema_bags::SetOf;
 pub use asn1_schema_bounds::{Bounded, Effective};
+pub use asn1_schema_choices::{
+    Alternatives, Choice, DecodeAlternatives, DecodeChoice, DecodeItems, EncodeChoice, EncodeItems,
+    NamedItems, alternative_of,
+};
+pub use asn1_schema_components::{
+    ComponentsOf, DefaultOf, Defaulted, DefaultedComponent, End, EqualByMeaning, Optional,
+    OptionalComponent, Required, RequiredComponent,
+};
 pub use asn1_schema_constraints::{
     Constraint, ConstraintDiscriminant, Constraints, Extensible, PermittedAlphabet, Size, Value,
 };
+pub use asn1_schema_constructed::{Constructed, DecodeConstructed, EncodeConstructed};
+pub use asn1_schema_decode::{
+    Decode, DecodeComponents, DecodeList, DecodeSequence, Decoder, ReadOctets,
+};
+pub use asn1_schema_encode::{Encode, EncodeComponents, EncodeList, EncodeSequence, Encoder};
 pub use asn1_schema_faults::{CodecKind, DecodeError, EncodeError};
 pub use asn1_schema_fields::{Field, FieldPresence, Fields, OptionalAndDefaultFields};
+pub use asn1_schema_kinds::TaggedKind;
+pub use asn1_schema_named::{DecodeNamed, EncodeNamed};
+pub use asn1_schema_sets::{DecodeBag, DecodeSet, EncodeBag, EncodeSet};
 pub use asn1_schema_tags::{Class, Identifier, Tag, TagTree, Variants};
+pub use asn1_schema_types::{AsnType, Described};
+pub use asn1_schema_variants::{Chosen, Enumerated};
 pub use asn1_schema_wrapped::{
-    Any, Explicit, Implicit, InnerSubtypeConstraint, InnerSubtypeConstraintError, InstanceOf, Open,
-    SequenceOf, UniversalString, Utf8String, tag,
+    Any, Constrained, ConstraintsOf, Explicit, Implicit, InnerSubtypeConstraint,
+    InnerSubtypeConstraintError, InstanceOf, Open, SequenceOf, UniversalString, Utf8String, tag,
 };
+
+#[cfg(test)]
+mod tests;

@@ -6,6 +6,3 @@ pub mod equality;
 pub mod set_of;
 
 pub use set_of::SetOf;
-
-#[cfg(test)]
-mod tests;

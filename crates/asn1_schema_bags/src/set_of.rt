@@ -1,7 +1,7 @@
 //! Bags of members.
 ghost use Rattle.std.specs.List.{list_any};
 ghost use Rattle.std.specs.Slice.Iter.{iter_rest};
-ghost use Rattle.std.specs.Prelude.{◌≡◌, ◌<◌, ℕ, true, false, [], ◌∷◌, ◌++◌, length, map, nat_eq, get_or, swap_remove, MatchOption, IfOk, OnOk, OnErr};
+ghost use Rattle.std.specs.Prelude.{◌≡◌, ◌<◌, ℕ, true, false, [], ◌∷◌, ◌++◌, length, map, nat_eq, get_or, swap_remove, MatchOption, IfOk, IfErr, OnOk, OnErr};
 
 use std::alloc::{AllocError, AllocFailed, Global};
 use std::slice::Iter;
@@ -42,6 +42,7 @@ impl<T> SetOf<T> {
     pub fn insert(&mut self, item: T) -> Result<(), AllocFailed<T>>
         ensures inserted { OnOk result (self.new.items.items ≡ self.old.items.items ++ item ∷ []) }
         ensures unchanged { OnErr result (self.new.items.items ≡ self.old.items.items) }
+        ensures returned { IfErr result (λ refused. refused.value ≡ item) }
     {
         self.items.push(item)
     }

@@ -5,6 +5,3 @@ pub mod bounds;
 pub mod widths;
 
 pub use bounds::{Bounded, Effective};
-
-#[cfg(test)]
-mod tests;

@@ -3,11 +3,13 @@ ghost use Rattle.std.specs.Prelude.{◌≡◌, refl};
 ghost use Rattle.std.specs.Cow.{cow_value, cow_slice_items, cow_str_bytes};
 ghost use Rattle.asn1_model.specs.Value.{same};
 ghost use Rattle.asn1_schema_presented.proofs.Same.{truths_agree, naturals_agree, numbers_agree, bits_agree, octets_agree, texts_agree, arcs_agree};
+ghost use Rattle.asn1_values_constrained.specs.Constrained.{constrained_number};
 ghost use Rattle.asn1_schema_components.specs.Lists.{nothing_agrees, lists_agree};
 
 use asn1_schema_kinds::TaggedKind;
 use asn1_schema_types::Described;
 use asn1_values_bit_strings::{BitString, FixedBitString};
+use asn1_values_constrained::{Ends, RangedInteger};
 use asn1_values_identifiers::ObjectIdentifier;
 use asn1_values_numbers::Integer;
 use asn1_values_octets::{FixedOctetString, OctetString};
@@ -89,6 +91,10 @@ impl EqualByMeaning for isize {
 
 impl EqualByMeaning for Integer {
     ghost agrees = { numbers_agree };
+}
+
+impl<R: Ends> EqualByMeaning for RangedInteger<R> {
+    ghost agrees = { λ x y. numbers_agree (constrained_number x) (constrained_number y) };
 }
 
 impl EqualByMeaning for BitString {

@@ -11,6 +11,3 @@ pub use components::{
 };
 pub use defaults::DefaultOf;
 pub use equality::EqualByMeaning;
-
-#[cfg(test)]
-mod tests;

@@ -11,6 +11,3 @@ pub use asn1_schema_bounds::{Bounded, Effective};
 pub use extensions::{Extensible, PermittedAlphabet};
 pub use lists::{Constraint, ConstraintDiscriminant, Constraints};
 pub use parts::{Size, Value};
-
-#[cfg(test)]
-mod tests;

@@ -1,5 +1,6 @@
 //! Value and size constraints.
 ghost use Rattle.std.specs.Prelude.{◌≡◌, ℕ, leb, ℤ, ◌&&◌};
+ghost use Rattle.std.specs.Borrow.{Lends, sem, usize as count};
 ghost use Rattle.asn1_model.specs.Numbers.{is_at_most};
 ghost use Rattle.asn1_schema_bounds.specs.Bounds.{lower, upper, meet, admits_number, admits_count, is_one_size, is_size_range};
 ghost use Rattle.asn1_schema_bounds.specs.Widths.{has_sign, fixed_width};
@@ -124,8 +125,17 @@ impl Deref for Size {
     }
 }
 
+/// Once the bounds are given back, the constraint is to what was left in them.
 impl DerefMut for Size {
-    fn deref_mut(&mut self) -> &mut Bounded<usize> {
+    ghost use Rattle.asn1_schema_bounds.specs.contracts.bounds.Bounded.{the_row as bounds_row};
+    ghost use Rattle.asn1_schema_constraints.specs.contracts.parts.Size.{the_row};
+
+    ghost deref_mut_gives = { λ s bounds. bounds ≡ s.range };
+
+    fn deref_mut(&mut self) -> &mut Bounded<usize>
+        ensures* writes_back { sem 𝓛 (Lends the_row (bounds_row count) self.entry result (λ bounds. record self.old { range = bounds })) }
+        ensures shows { result.now ≡ self.old.range }
+    {
         &mut self.range
     }
 }

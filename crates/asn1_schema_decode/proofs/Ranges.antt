@@ -2,6 +2,7 @@
 use Rattle.std.proofs.Common.{◌≡◌, ◌∙◌, sym, subst, ℕ, ℤ, pos, negsuc, Bool, true, false, ◌&&◌, Option, Some, None}
 use Rattle.std.proofs.lemmas.Bool.{false≢true}
 use Rattle.asn1_model.specs.Numbers.{is_at_most, is_within}
+use Rattle.asn1_model.specs.Value.{number}
 use Rattle.asn1_schema_bounds.specs.Bounds.{range_of, admits_number}
 use Rattle.asn1_schema_bounds.proofs.Common.{number_meet_admits}
 use Rattle.asn1_schema_constraints.specs.Terms.{bounds_of, held_of}
@@ -10,13 +11,13 @@ use Rattle.asn1_schema_constraints.specs.declared.extensions.Extensible.{Extensi
 use Rattle.asn1_schema_constraints.specs.declared.lists.Constraints.{Constraints}
 use Rattle.asn1_schema_faults.specs.declared.DecodeError.{DecodeError}
 use Rattle.asn1_schema_presented.specs.Records.{Record, whole, asks_whole}
-use Rattle.asn1_schema_types.specs.Constrained.{to_root, root_between, met_root, within_range, constrained_type, constrained_value}
+use Rattle.asn1_schema_types.specs.Constrained.{to_root, root_between, met_root, within_range, constrained_type}
 use Rattle.asn1_schema_decode.specs.Reads.{NoRecord, Reads, Unread}
 use Rattle.asn1_schema_decode.proofs.SingleRecords.{reads_integer, unread_integer}
 
 module _ {S : Type 0} {step : S → Record → S → Type 0} (low high : ℤ) (c : Constraints) (n : ℕ) where
   pub reads_ranged : is_at_most low high ≡ true → {y z : ℤ} {a b : S} → y ≡ z → step a (whole (bounds_of (within_range low high c).value) (held_of (within_range low high c).value (record { low = None; high = None })) z) b
-      → Reads step (λ _. constrained_type low high c) n (constrained_value low high y) a b
+      → Reads step (λ _. constrained_type low high c) n (number y) a b
   reads_ranged e {y} {z} {a} {b} same k = rw e (reads_integer _ _ n (subst (λ (v : ℤ). step a (whole (bounds_of (within_range low high c).value) (held_of (within_range low high c).value (record { low = None; high = None })) v) b) (sym same) k))
 
   pub unread_ranged : is_at_most low high ≡ true → {a : S} {x : DecodeError} → NoRecord step (asks_whole (bounds_of (within_range low high c).value) (held_of (within_range low high c).value (record { low = None; high = None }))) a x

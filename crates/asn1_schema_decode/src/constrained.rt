@@ -8,35 +8,33 @@ use asn1_schema_constraints::Constraints;
 use asn1_schema_faults::DecodeError;
 use asn1_schema_tags::Tag;
 use asn1_schema_types::constrained::{no_number, within_range};
-use asn1_values_constrained::ConstrainedInteger;
+use asn1_values_constrained::{Ends, RangedInteger};
 use std::alloc::Global;
 
-impl<const START: i64, const END: i64> Decode for ConstrainedInteger<START, END> {
+impl<R: Ends> Decode for RangedInteger<R> {
     fn decode_with_tag_and_constraints<D: Decoder>(
         alloc: Global,
         decoder: &mut D,
         tag: Tag,
         constraints: Constraints,
     ) -> Result<Self, DecodeError> {
-        if START > END {
+        if R::START > R::END {
             let _octet: u8 = decoder.decode_integer(alloc, tag, no_number())?;
             unreachable!()
         }
-        let range = within_range(constraints, START, END);
+        let range = within_range(constraints, R::START, R::END);
         let number: i128 = decoder.decode_integer(alloc, tag, range)?;
-        let value = constrained_integer(number);
+        let value = ranged_integer(number);
         Ok(value)
     }
 }
 
 // The number that was read, which is within the range.
-fn constrained_integer<const START: i64, const END: i64>(
-    number: i128,
-) -> ConstrainedInteger<START, END>
-    requires within { is_within (between START END) number ≡ true }
+fn ranged_integer<R: Ends>(number: i128) -> RangedInteger<R>
+    requires within { is_within (between R.START R.END) number ≡ true }
     ensures { constrained_number result ≡ number }
 {
-    match ConstrainedInteger::try_from(number) {
+    match RangedInteger::try_from(number) {
         Ok(value) => value,
         Err(_) => unreachable!(),
     }

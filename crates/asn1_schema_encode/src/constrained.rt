@@ -4,23 +4,19 @@ use crate::encode::{Encode, Encoder};
 use asn1_schema_constraints::Constraints;
 use asn1_schema_faults::EncodeError;
 use asn1_schema_tags::{Identifier, Tag};
-use asn1_schema_types::constrained::{no_number, within_range};
-use asn1_values_constrained::ConstrainedInteger;
+use asn1_schema_types::constrained::within_range;
+use asn1_values_constrained::{Ends, RangedInteger};
 use asn1_values_numbers::Integer;
 
-impl<const START: i64, const END: i64> Encode for ConstrainedInteger<START, END> {
+impl<R: Ends> Encode for RangedInteger<R> {
     fn encode_with_tag_and_constraints<E: Encoder>(
         &self,
         encoder: &mut E,
         tag: Tag,
         constraints: Constraints,
     ) -> Result<(), EncodeError> {
-        if START > END {
-            encoder.encode_integer(tag, no_number(), &0_u8, Identifier::INTEGER)?;
-            return Ok(());
-        }
         let number: &Integer = self;
-        let range = within_range(constraints, START, END);
+        let range = within_range(constraints, R::START, R::END);
         encoder.encode_integer(tag, range, number, Identifier::INTEGER)?;
         Ok(())
     }

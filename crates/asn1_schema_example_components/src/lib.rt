@@ -10,3 +10,5 @@ pub mod offset;
 pub mod person;
 pub mod schedule;
 pub mod sizes;
+#[cfg(test)]
+mod tests;

@@ -6,3 +6,5 @@ pub mod control;
 pub mod gauge;
 pub mod grown;
 pub mod power;
+#[cfg(test)]
+mod tests;

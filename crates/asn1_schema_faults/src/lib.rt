@@ -158,6 +158,3 @@ impl<T: Drop> From<AllocFailed<T>> for EncodeError {
         EncodeError::OutOfMemory
     }
 }
-
-#[cfg(test)]
-mod tests;

@@ -4,6 +4,3 @@
 pub mod tables;
 
 pub use tables::{Field, FieldPresence, Fields, OptionalAndDefaultFields};
-
-#[cfg(test)]
-mod tests;

@@ -6,6 +6,3 @@ pub mod items;
 
 pub use encoder::RecordEncoder;
 pub use items::{Item, Limits, Sizes, is_extensible};
-
-#[cfg(test)]
-mod tests;

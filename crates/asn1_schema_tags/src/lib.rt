@@ -10,6 +10,3 @@ pub use alternatives::Variants;
 pub use identifiers::Identifier;
 pub use tags::{Class, Tag};
 pub use trees::TagTree;
-
-#[cfg(test)]
-mod tests;

@@ -41,10 +41,6 @@ abbrev pub constrained_type : ℤ → ℤ → Constraints → Schema
 constrained_type low high c =
     cond (is_at_most low high) (integer_under (within_range low high c) (record { low = None; high = None })) (integer_under (to_root (root_between (negsuc 0) (negsuc 0))) (natural_range 255))
 
--- What a number within a range means. There is no number where the ends are the wrong way round.
-abbrev pub constrained_value : ℤ → ℤ → ℤ → ModelValue
-constrained_value low high z = cond (is_at_most low high) (number z) (number (pos 0))
-
 -- Either way the same.
 either : {A : Type 0} (b : Bool) (x : A) → cond b x x ≡ x
 either true x = refl
@@ -68,8 +64,8 @@ constrained_is_type {ts} low high t = go (is_at_most low high) refl where
   go false e = integer_type _ _ t refl refl
 
 -- A number within a range is a value of its type.
-pub constrained_is_value : (low high : ℤ) (c : Constraints) (z : ℤ) → IsValue (λ _. constrained_type low high c) (constrained_value low high z)
+pub constrained_is_value : (low high : ℤ) (c : Constraints) (z : ℤ) → IsValue (λ _. constrained_type low high c) (number z)
 constrained_is_value low high c z = go (is_at_most low high) where
-  go : (b : Bool) → IsValue (λ _. cond b (integer_under (within_range low high c) (record { low = None; high = None })) (integer_under (to_root (root_between (negsuc 0) (negsuc 0))) (natural_range 255))) (cond b (number z) (number (pos 0)))
+  go : (b : Bool) → IsValue (λ _. cond b (integer_under (within_range low high c) (record { low = None; high = None })) (integer_under (to_root (root_between (negsuc 0) (negsuc 0))) (natural_range 255))) (number z)
   go true = integer_value _ _ _
   go false = integer_value _ _ _

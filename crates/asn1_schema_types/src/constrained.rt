@@ -1,6 +1,7 @@
 //! INTEGER within a range of the type's own (X.680 19 and 51.4).
 ghost use Rattle.std.specs.Prelude.{◌≡◌, refl, [], ◌∷◌, negsuc};
-ghost use Rattle.asn1_schema_types.specs.Constrained.{to_root, root_between, within_range, constrained_type, constrained_value, constrained_is_type, constrained_is_value};
+ghost use Rattle.asn1_schema_types.specs.Constrained.{to_root, root_between, within_range, constrained_type, constrained_is_type, constrained_is_value};
+ghost use Rattle.asn1_model.specs.Value.{number};
 ghost use Rattle.asn1_values_constrained.specs.Constrained.{constrained_number};
 
 use crate::described::{AsnType, Described};
@@ -8,7 +9,7 @@ use crate::integers::between;
 use asn1_schema_bounds::Bounded;
 use asn1_schema_constraints::{Constraints, Extensible, Value};
 use asn1_schema_tags::{Identifier, Tag, TagTree};
-use asn1_values_constrained::ConstrainedInteger;
+use asn1_values_constrained::{Ends, RangedInteger};
 
 /// Constraints, and then the range from `start` to `end`: what both admit. The mark of an earlier constraint is no mark of a
 /// later one (X.680 50.8), so there is none.
@@ -34,27 +35,27 @@ pub fn no_number() -> Constraints<'static>
 }
 
 /// Further constraints do not widen the range. A range whose ends are the wrong way round has no number.
-impl<const START: i64, const END: i64> Described for ConstrainedInteger<START, END> {
+impl<R: Ends> Described for RangedInteger<R> {
     ghost tags = { record { class = 0; number = 2 } ∷ [] };
 
-    ghost own = { to_root (root_between START END) };
+    ghost own = { to_root (root_between R.START R.END) };
 
-    ghost under = { λ c _. constrained_type START END c };
+    ghost under = { λ c _. constrained_type R.START R.END c };
 
-    ghost schema = { λ _. constrained_type START END (to_root (root_between START END)) };
+    ghost schema = { λ _. constrained_type R.START R.END (to_root (root_between R.START R.END)) };
 
     ghost is_own = { λ _. refl };
 
-    ghost meaning = { λ x. constrained_value START END (constrained_number x) };
+    ghost meaning = { λ x. number (constrained_number x) };
 
-    ghost typed = { constrained_is_type START END refl };
+    ghost typed = { constrained_is_type R.START R.END refl };
 
-    ghost valued = { λ x. constrained_is_value START END (to_root (root_between START END)) _ };
+    ghost valued = { λ x. constrained_is_value R.START R.END (to_root (root_between R.START R.END)) _ };
 
-    ghost valued_under = { λ c x. constrained_is_value START END c _ };
+    ghost valued_under = { λ c x. constrained_is_value R.START R.END c _ };
 }
 
-impl<const START: i64, const END: i64> AsnType for ConstrainedInteger<START, END> {
+impl<R: Ends> AsnType for RangedInteger<R> {
     const TAG: Tag = Tag::INTEGER;
 
     const IDENTIFIER: Identifier = Identifier::INTEGER;
@@ -66,6 +67,6 @@ impl<const START: i64, const END: i64> AsnType for ConstrainedInteger<START, END
     }
 
     fn constraints() -> Constraints<'static> {
-        between(START as i128, END as i128)
+        between(R::START as i128, R::END as i128)
     }
 }

@@ -3,8 +3,6 @@
 
 pub mod chosen;
 pub mod enumerated;
-#[cfg(test)]
-mod tests;
 
 pub use chosen::Chosen;
 pub use enumerated::Enumerated;

@@ -25,6 +25,3 @@ pub type Utf8String = String;
 
 /// A string of any characters (X.680 41).
 pub type UniversalString = Implicit<tag::UNIVERSAL_STRING, Utf8String>;
-
-#[cfg(test)]
-mod tests;

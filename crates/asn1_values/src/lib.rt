@@ -10,7 +10,7 @@ pub use asn1_values_alphabets::{
 };
 pub use asn1_values_bit_strings::{BitString, FixedBitString};
 pub use asn1_values_bits::{BitAppender, BitBuffer, BitReader, BitStr, bits};
-pub use asn1_values_constrained::ConstrainedInteger;
+pub use asn1_values_constrained::{Between, ConstrainedInteger, Ends, RangedInteger};
 pub use asn1_values_fields::{
     FieldBits, FieldFault, FieldFaultKind, FieldShape, FieldValue, read_fields, write_fields,
     written_fields_are_read,

@@ -13,6 +13,3 @@ pub use error::{
     InvalidVisibleString, PermittedAlphabetError,
 };
 pub use static_alphabet::{StaticPermittedAlphabet, string_of_text};
-
-#[cfg(test)]
-mod tests;

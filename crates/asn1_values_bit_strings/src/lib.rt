@@ -7,6 +7,3 @@ mod traits;
 
 pub use bit_string::BitString;
 pub use fixed_bit_string::FixedBitString;
-
-#[cfg(test)]
-mod tests;

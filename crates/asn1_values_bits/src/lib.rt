@@ -4,15 +4,9 @@
 mod bit_appender;
 mod bit_buffer;
 mod bit_reader;
-mod bit_str;
-pub mod bits;
-mod order;
 mod traits;
 
+pub use asn1_values_bit_views::{BitStr, bits};
 pub use bit_appender::BitAppender;
 pub use bit_buffer::BitBuffer;
 pub use bit_reader::BitReader;
-pub use bit_str::BitStr;
-
-#[cfg(test)]
-mod tests;

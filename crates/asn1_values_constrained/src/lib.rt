@@ -2,8 +2,10 @@
 #![tactic(auto)]
 
 mod constrained;
+mod ends;
 
-pub use constrained::ConstrainedInteger;
+pub use constrained::{ConstrainedInteger, RangedInteger};
+pub use ends::{Between, Ends};
 
 #[cfg(test)]
 mod tests;

@@ -12,6 +12,3 @@ pub use field_bits::{FieldBits, write_fields};
 pub use field_shape::{FieldShape, FieldValue};
 pub use laws::written_fields_are_read;
 pub use reading::read_fields;
-
-#[cfg(test)]
-mod tests;

@@ -13,6 +13,3 @@ pub use fault::IdentifierError;
 pub use object_identifier::ObjectIdentifier;
 pub use octets::{oid_from_octets, oid_octets};
 pub use oid::Oid;
-
-#[cfg(test)]
-mod tests;

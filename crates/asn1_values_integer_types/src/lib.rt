@@ -4,6 +4,3 @@
 mod integer_type;
 
 pub use integer_type::IntegerType;
-
-#[cfg(test)]
-mod tests;

@@ -10,6 +10,3 @@ mod wide;
 pub use bytes::IntegerBytes;
 pub use native::NativeInteger;
 pub use wide::Wide;
-
-#[cfg(test)]
-mod tests;

@@ -11,6 +11,3 @@ mod text;
 pub use conversions::TryFromIntegerError;
 pub use error::IntegerError;
 pub use integer::Integer;
-
-#[cfg(test)]
-mod tests;

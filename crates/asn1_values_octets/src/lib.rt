@@ -9,6 +9,3 @@ pub mod octet_string;
 
 pub use fixed_octet_string::{FixedOctetString, WrongLength};
 pub use octet_string::OctetString;
-
-#[cfg(test)]
-mod tests;

@@ -32,6 +32,3 @@ pub type GraphicString = RestrictedString<Graphic>;
 
 /// A TeletexString, seen as its octets (X.680 41.1).
 pub type TeletexString = RestrictedString<Teletex>;
-
-#[cfg(test)]
-mod tests;

@@ -6,6 +6,3 @@ pub mod characters;
 
 pub use bmp::BmpString;
 pub use characters::BmpCharacters;
-
-#[cfg(test)]
-mod tests;

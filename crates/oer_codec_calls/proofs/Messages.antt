@@ -18,8 +18,8 @@ use Rattle.oer_codec_fronts.specs.Takes.{State, Front}
 use Rattle.oer_codec_fronts.proofs.Whole.{records_read, forms_show}
 use Rattle.oer_codec_fronts.proofs.Fitting.{records_fit}
 use Rattle.oer_codec_reading.specs.Fronts.{freedoms}
-use Rattle.oer_codec_reading.specs.declared.rules.EncodingRules.{EncodingRules}
-use Rattle.oer_codec_reading.specs.declared.rules.EncodingRules.TheVariants.{Oer as OerRules, Coer as CoerRules}
+use Rattle.oer_codec_reading_lengths.specs.declared.rules.EncodingRules.{EncodingRules}
+use Rattle.oer_codec_reading_lengths.specs.declared.rules.EncodingRules.TheVariants.{Oer as OerRules, Coer as CoerRules}
 use Rattle.asn1_schema_messages.specs.Messages.{HasMessage, Tells, NoMessage}
 use Rattle.asn1_schema_messages.proofs.Nesting.{no_deeper}
 use Rattle.oer_codec_calls.specs.Messages.{rules_of}

@@ -1,8 +1,8 @@
 -- The rules of the calls, and that what they tell is one value.
 use Rattle.asn1_model.specs.Rules.{Rules, oer, coer}
 use Rattle.asn1_schema_messages.specs.Messages.{OneMessageIn}
-use Rattle.oer_codec_reading.specs.declared.rules.EncodingRules.{EncodingRules}
-use Rattle.oer_codec_reading.specs.declared.rules.EncodingRules.TheVariants.{Oer, Coer}
+use Rattle.oer_codec_reading_lengths.specs.declared.rules.EncodingRules.{EncodingRules}
+use Rattle.oer_codec_reading_lengths.specs.declared.rules.EncodingRules.TheVariants.{Oer, Coer}
 
 -- The rules as the model names them.
 abbrev pub rules_of : EncodingRules → Rules

@@ -5,8 +5,8 @@ use Rattle.asn1_schema_faults.specs.declared.CodecKind.TheVariants.{Oer as OerKi
 use Rattle.asn1_schema_presented.specs.Records.{Record}
 use Rattle.asn1_schema_levels.specs.Levels.{level}
 use Rattle.oer_codec_reading.specs.Fronts.{freedoms}
-use Rattle.oer_codec_reading.specs.declared.rules.EncodingRules.{EncodingRules}
-use Rattle.oer_codec_reading.specs.declared.rules.EncodingRules.TheVariants.{Oer, Coer}
+use Rattle.oer_codec_reading_lengths.specs.declared.rules.EncodingRules.{EncodingRules}
+use Rattle.oer_codec_reading_lengths.specs.declared.rules.EncodingRules.TheVariants.{Oer, Coer}
 use Rattle.oer_codec_fronts.specs.Takes.{Scope, State, Takes}
 
 -- What is held: the octets that are left, the open scopes, how many more levels may be nested, how many were so at the beginning, whether

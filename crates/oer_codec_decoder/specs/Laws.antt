@@ -7,7 +7,7 @@ use Rattle.asn1_schema_levels.specs.Levels.{level, inside, outside}
 use Rattle.oer_codec_fronts.specs.Takes.{State}
 use Rattle.oer_codec_fronts.proofs.Next.{one_taken}
 use Rattle.oer_codec_reading.specs.Fronts.{freedoms}
-use Rattle.oer_codec_reading.specs.declared.rules.EncodingRules.{EncodingRules}
+use Rattle.oer_codec_reading_lengths.specs.declared.rules.EncodingRules.{EncodingRules}
 use Rattle.oer_codec_decoder.specs.Held.{Held, state_of, kind_of, Finds}
 
 -- the levels that are left behind a record, by what it answers

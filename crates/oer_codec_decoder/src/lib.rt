@@ -12,6 +12,3 @@ mod preamble;
 
 pub use decoder::Decoder;
 pub use options::DecoderOptions;
-
-#[cfg(test)]
-mod tests;

@@ -1,28 +1,28 @@
 -- What the encoder's calls did, by what they did to the octets and the frames.
-use Rattle.std.proofs.Common.{◌≡◌, ℕ, Bool, true, false, List, ◌++◌, reverse, Option, Some, None, refl, ap, subst, sym, ◌∙◌}
+use Rattle.std.proofs.Common.{◌≡◌, ℕ, Bool, true, false, List, ◌++◌, Option, Some, None, refl, ap, subst, sym, ◌∙◌}
 use Rattle.asn1_schema_faults.specs.declared.EncodeError.{EncodeError}
 use Rattle.asn1_schema_faults.specs.declared.EncodeError.TheVariants.{ValueConstraintNotSatisfied, SizeConstraintNotSatisfied, AlphabetConstraintNotSatisfied, TooLongValue, LengthExceedsPlatformSize, OutOfMemory, AlreadyFailed}
 use Rattle.asn1_schema_encode.specs.Writes.{Refused}
 use Rattle.asn1_schema_presented.specs.Records.{Record}
 use Rattle.oer_codec_steps.specs.Steps.{State, run, adds_text}
-use Rattle.oer_codec_encoder.specs.declared.frames.Frame.{Frame}
-use Rattle.oer_codec_encoder.specs.Holding.{shown, Holds, AreSound, Does, Cannot}
+use Rattle.oer_codec_encoder_frames.specs.declared.frame.Frame.{Frame}
+use Rattle.oer_codec_encoder_frames.specs.Holding.{shown, Holds, AreSound, Does, Cannot}
 use Rattle.oer_codec_encoder.specs.Stepping.{Written, Puts}
 use Rattle.oer_codec_writing.specs.Writing.{Adds, Refuses}
-use Rattle.oer_codec_encoder.proofs.Scopes.{shown_is, appended}
+use Rattle.oer_codec_encoder_frames.proofs.Scopes.{shown_is, appended}
 
 -- what the octets and the frames stand for
 abbrev pub now : List Frame → List ℕ → State
-now fs o = shown (reverse fs) o
+now fs o = shown fs o
 
 abbrev pub Sound : List Frame → List ℕ → Type 0
-Sound fs o = Holds (reverse fs) o (now fs o)
+Sound fs o = Holds fs o (now fs o)
 
 pub is_sound : (fs : List Frame) (o : List ℕ) → Sound fs o → AreSound fs o
 is_sound fs o h = record { state = now fs o; holds = h }
 
-moved : (fs : List Frame) (o : List ℕ) (t : State) → Holds (reverse fs) o t → (now fs o ≡ t) × Sound fs o
-moved fs o t h = let e = shown_is (reverse fs) o t h in (e, subst (λ x. Holds (reverse fs) o x) (sym e) h)
+moved : (fs : List Frame) (o : List ℕ) (t : State) → Holds fs o t → (now fs o ≡ t) × Sound fs o
+moved fs o t h = let e = shown_is fs o t h in (e, subst (λ x. Holds fs o x) (sym e) h)
 
 pub stays_sound : (r : Record) (fs gs : List Frame) (o p : List ℕ) → Sound fs o → Does r fs o gs p → Sound gs p
 stays_sound r fs gs o p h d = let t = d.after (now fs o) h in (moved gs p t.0 t.2).1
@@ -53,11 +53,11 @@ puts r fs gs o p f w e g h d = (sym (ap (λ (v : Written). v.failed) e) ∙ g, r
 pub does_add : (r : Record) (x : Option (List ℕ)) (fs : List Frame) (o p : List ℕ) → ((s : State) → run r s ≡ adds_text x s) → Adds x o p → Does r fs o fs p
 does_add r x fs o p e a = record { after = λ s h. go x s h (e s) a }
   where
-    go : (x : Option (List ℕ)) (s : State) → Holds (reverse fs) o s → run r s ≡ adds_text x s → Adds x o p → (t : State) × (run r s ≡ Some t) × Holds (reverse fs) p t
+    go : (x : Option (List ℕ)) (s : State) → Holds fs o s → run r s ≡ adds_text x s → Adds x o p → (t : State) × (run r s ≡ Some t) × Holds fs p t
     go None s h e a = cc
     go (Some w) s h e a =
         let q : o ++ w ≡ p = cc a in
-        ((s.0 ++ w, s.1), e, subst (λ l. Holds (reverse fs) l (s.0 ++ w, s.1)) q (appended (reverse fs) o s w h))
+        ((s.0 ++ w, s.1), e, subst (λ l. Holds fs l (s.0 ++ w, s.1)) q (appended fs o s w h))
 
 pub refuses_none : (r : Record) (x : Option (List ℕ)) (fs : List Frame) (o : List ℕ) (e : EncodeError) → ((s : State) → run r s ≡ adds_text x s) → Refuses x e → Cannot r fs o e
 refuses_none r x fs o OutOfMemory q h = tt

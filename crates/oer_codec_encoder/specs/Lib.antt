@@ -1,4 +1,2 @@
-pub mod Holding
-pub mod Slots
 pub mod Stepping
 pub mod Laws

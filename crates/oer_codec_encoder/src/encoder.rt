@@ -4,11 +4,6 @@ ghost use Rattle.asn1_schema_encode.specs.Writes.{Refused};
 ghost use Rattle.asn1_schema_presented.specs.Records.{one_of};
 ghost use Rattle.oer_codec_encoder.specs.Stepping.{Puts};
 
-use crate::additions::{begin_additions, end_addition, put_addition};
-use crate::alternatives::begin_choice;
-use crate::bags::begin_bag;
-use crate::ends::{end_scope, put_further};
-use crate::frames::{Frame, begin_components, begin_members, put_mark};
 use crate::options::EncoderOptions;
 use asn1_schema_bounds::Bounded;
 use asn1_schema_constraints::Constraints;
@@ -19,6 +14,10 @@ use asn1_values_alphabets::StaticPermittedAlphabet;
 use asn1_values_bits::BitStr;
 use asn1_values_identifiers::Oid;
 use asn1_values_integer_types::IntegerType;
+use oer_codec_encoder_frames::{
+    Frames, begin_additions, begin_bag, begin_choice, begin_components, begin_members,
+    end_addition, end_scope, put_addition, put_mark,
+};
 use oer_codec_writing::{
     push_bit_string, push_boolean, push_characters, push_enumerated, push_identifier, push_integer,
     push_octet_string, push_utf8,
@@ -35,22 +34,22 @@ use std::mem;
 pub struct Encoder<'buffer> {
     output: &'buffer mut Vec<u8>,
     worker: &'buffer mut Vec<u8>,
-    frames: Vec<Frame>,
+    frames: Frames,
     failed: bool,
     alloc: Global,
 }
 
 impl<'buffer> Model for Encoder<'buffer> {
-    ghost use Rattle.std.specs.Prelude.{◌≡◌, false, reverse};
+    ghost use Rattle.std.specs.Prelude.{◌≡◌, false};
     ghost use Rattle.oer_codec_encoder.specs.Stepping.{Written};
 
     ghost Value = { Written };
 
-    ghost use Rattle.oer_codec_encoder.specs.Holding.{shown, Holds};
+    ghost use Rattle.oer_codec_encoder_frames.specs.Holding.{shown, Holds};
 
-    ghost view = { λ e. record { state = shown (reverse e.frames.items) e.output.now.items; failed = e.failed } };
+    ghost view = { λ e. record { state = shown e.frames e.output.now.items; failed = e.failed } };
 
-    ghost invariant = { λ e. e.failed ≡ false → Holds (reverse e.frames.items) e.output.now.items (shown (reverse e.frames.items) e.output.now.items) };
+    ghost invariant = { λ e. e.failed ≡ false → Holds e.frames e.output.now.items (shown e.frames e.output.now.items) };
 }
 
 impl<'buffer> Encoder<'buffer> {
@@ -58,6 +57,7 @@ impl<'buffer> Encoder<'buffer> {
     ///
     /// What the worker holds does not matter, and its octets are overwritten. An empty one serves, and has room afterwards if an addition or
     /// an added alternative was written.
+    #[inline]
     pub fn from_buffer(
         alloc: Global,
         _options: EncoderOptions,
@@ -69,13 +69,14 @@ impl<'buffer> Encoder<'buffer> {
         Encoder {
             output,
             worker,
-            frames: Vec::new(alloc),
+            frames: Frames::new(alloc),
             failed: false,
             alloc,
         }
     }
 
     /// Takes the contents of the buffer, and leaves none.
+    #[inline]
     pub fn output(&mut self) -> Vec<u8>
         ensures octets { self.old.failed ≡ false → self.old.state.1 ≡ [] → result.items ≡ self.old.state.0 }
         ensures none { self.new ≡ record { state = ([], []); failed = self.old.failed } }
@@ -99,6 +100,7 @@ impl<'buffer> asn1_schema_encode::Encoder for Encoder<'buffer> {
         CodecKind::Coer
     }
 
+    #[inline]
     fn encode_bool(
         &mut self,
         _tag: Tag,
@@ -114,6 +116,7 @@ impl<'buffer> asn1_schema_encode::Encoder for Encoder<'buffer> {
         Ok(())
     }
 
+    #[inline]
     fn encode_null(&mut self, _tag: Tag, _identifier: Identifier) -> Result<(), EncodeError> {
         if self.failed {
             return Err(EncodeError::AlreadyFailed);
@@ -121,6 +124,7 @@ impl<'buffer> asn1_schema_encode::Encoder for Encoder<'buffer> {
         Ok(())
     }
 
+    #[inline]
     fn encode_integer<I: IntegerType>(
         &mut self,
         _tag: Tag,
@@ -174,6 +178,7 @@ impl<'buffer> asn1_schema_encode::Encoder for Encoder<'buffer> {
         Ok(())
     }
 
+    #[inline]
     fn encode_octet_string(
         &mut self,
         _tag: Tag,
@@ -238,6 +243,7 @@ impl<'buffer> asn1_schema_encode::Encoder for Encoder<'buffer> {
         Ok(())
     }
 
+    #[inline]
     fn begin_list(
         &mut self,
         _tag: Tag,
@@ -277,16 +283,18 @@ impl<'buffer> asn1_schema_encode::Encoder for Encoder<'buffer> {
         Ok(())
     }
 
+    #[inline]
     fn put_further(&mut self, more: bool) -> Result<(), EncodeError> {
         if self.failed {
             return Err(EncodeError::AlreadyFailed);
         }
         self.failed = true;
-        put_further(self.output, &mut self.frames, self.alloc, more)?;
+        self.frames.put_further(self.output, self.alloc, more)?;
         self.failed = false;
         Ok(())
     }
 
+    #[inline]
     fn begin_sequence(
         &mut self,
         _tag: Tag,
@@ -302,6 +310,7 @@ impl<'buffer> asn1_schema_encode::Encoder for Encoder<'buffer> {
         Ok(())
     }
 
+    #[inline]
     fn begin_set(
         &mut self,
         _tag: Tag,
@@ -317,6 +326,7 @@ impl<'buffer> asn1_schema_encode::Encoder for Encoder<'buffer> {
         Ok(())
     }
 
+    #[inline]
     fn begin_group(&mut self, optional: usize) -> Result<(), EncodeError> {
         if self.failed {
             return Err(EncodeError::AlreadyFailed);
@@ -327,6 +337,7 @@ impl<'buffer> asn1_schema_encode::Encoder for Encoder<'buffer> {
         Ok(())
     }
 
+    #[inline]
     fn put_mark(&mut self, present: bool) -> Result<(), EncodeError> {
         if self.failed {
             return Err(EncodeError::AlreadyFailed);
@@ -399,6 +410,7 @@ impl<'buffer> asn1_schema_encode::Encoder for Encoder<'buffer> {
         Ok(())
     }
 
+    #[inline]
     fn end(&mut self) -> Result<(), EncodeError> {
         if self.failed {
             return Err(EncodeError::AlreadyFailed);

@@ -4,6 +4,4 @@
 pub mod calls;
 
 pub use calls::{encode, encode_buf, encode_with_constraints};
-
-#[cfg(test)]
-mod tests;
+pub use oer_codec_encoder::{Encoder, EncoderOptions};

@@ -1,10 +1,9 @@
-pub mod Freedoms
-pub mod Fronts
+pub use Rattle.oer_codec_reading_lengths.proofs.Freedoms
+pub use Rattle.oer_codec_reading_lengths.proofs.Fronts
+pub use Rattle.oer_codec_reading_lengths.proofs.LengthFronts
 pub mod Truths
-pub mod LengthFronts
 pub mod SizedFronts
 pub mod WholeFronts
-pub mod Rooms
 pub mod Spans
 pub mod IntegerFronts
 pub mod BitFronts

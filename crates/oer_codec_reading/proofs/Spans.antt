@@ -8,7 +8,7 @@ use Rattle.asn1_model.specs.Oer.{fixed_octets}
 use Rattle.asn1_values_natives.specs.Octets.{plain}
 use Rattle.asn1_values_natives.proofs.Widths.{width-bits, bits-least, signed_octets-plain, signed_octets-le, signed_octets-above}
 use Rattle.asn1_schema_bounds.specs.Widths.{fixed_width, has_sign}
-use Rattle.oer_codec_reading.proofs.LengthFronts.{octets_hold}
+use Rattle.oer_codec_reading_lengths.proofs.LengthFronts.{octets_hold}
 use Rattle.oer_codec_reading.proofs.WholeFronts.{width_at_most}
 
 -- ---- the least of 1, 2, 4 and 8

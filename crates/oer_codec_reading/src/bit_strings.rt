@@ -7,7 +7,7 @@ ghost use Rattle.asn1_model.specs.Value as Asn1Value;
 ghost use Rattle.asn1_schema_bounds.specs.Bounds.{counts_of};
 ghost use Rattle.asn1_schema_constraints.specs.Terms.{sizes_of};
 ghost use Rattle.asn1_values_bits.specs.BitStr.{bits_of};
-ghost use Rattle.oer_codec_reading.specs.Fronts.{freedoms, is_basic, Front, Misses, NoFront, Stands};
+ghost use Rattle.oer_codec_reading_lengths.specs.Fronts.{freedoms, is_basic, Front, Misses, NoFront, Stands};
 ghost use Rattle.oer_codec_reading.specs.Bits.{bits_in, preamble_of, sized_bits};
 
 use crate::lengths::read_length;

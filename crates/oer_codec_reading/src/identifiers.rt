@@ -2,7 +2,7 @@
 ghost use Rattle.std.specs.Prelude.{◌≡◌, IfOk, IfErr};
 ghost use Rattle.asn1_model.specs.Schema as Asn1;
 ghost use Rattle.asn1_model.specs.Value as Asn1Value;
-ghost use Rattle.oer_codec_reading.specs.Fronts.{freedoms, Front, NoFront};
+ghost use Rattle.oer_codec_reading_lengths.specs.Fronts.{freedoms, Front, NoFront};
 
 use crate::lengths::read_counted;
 use crate::{Cursor, EncodingRules};

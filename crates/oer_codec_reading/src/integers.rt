@@ -5,10 +5,9 @@ ghost use Rattle.asn1_model.specs.Schema as Asn1;
 ghost use Rattle.asn1_model.specs.Value as Asn1Value;
 ghost use Rattle.asn1_schema_constraints.specs.Terms.{bounds_of, held_of};
 ghost use Rattle.asn1_values_natives.specs.Octets.{own_number};
-ghost use Rattle.oer_codec_reading.specs.Fronts.{freedoms, Front, NoFront};
+ghost use Rattle.oer_codec_reading_lengths.specs.Fronts.{freedoms, Front, NoFront};
 ghost use Rattle.oer_codec_reading.specs.Whole.{admits_whole, sign_under, wide_range, width_under};
 
-use crate::magnitudes::short_number;
 use crate::numbers::read_number;
 use crate::widths::form_within;
 use crate::{Cursor, EncodingRules};
@@ -17,6 +16,7 @@ use asn1_schema_faults::DecodeError;
 use asn1_values_integer_types::IntegerType;
 use asn1_values_natives::Wide;
 use asn1_values_numbers::IntegerError;
+use oer_codec_reading_lengths::magnitudes::short_number;
 use std::alloc::Global;
 
 /// The form of numbers under a value constraint (X.696 10): whether they have a sign, and in how many octets they stand, if that is fixed.

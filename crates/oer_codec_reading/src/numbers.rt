@@ -2,7 +2,7 @@
 ghost use Rattle.std.specs.Prelude.{◌≡◌, ◌≤◌, ◌<◌, ◌||◌, not, is_some, length, IfOk, IfErr, IfSome};
 ghost use Rattle.asn1_model.specs.Oer.{unsigned};
 ghost use Rattle.asn1_values_natives.specs.Octets.{own_number};
-ghost use Rattle.oer_codec_reading.specs.Fronts.{freedoms, is_basic, Misses, Stands};
+ghost use Rattle.oer_codec_reading_lengths.specs.Fronts.{freedoms, is_basic, Misses, Stands};
 ghost use Rattle.oer_codec_reading.specs.Whole.{count_in, has_spare, number_in};
 
 use crate::lengths::number_of;

@@ -4,7 +4,7 @@ ghost use Rattle.asn1_model.specs.Schema as Asn1;
 ghost use Rattle.asn1_model.specs.Value as Asn1Value;
 ghost use Rattle.asn1_schema_bounds.specs.Bounds.{counts_of};
 ghost use Rattle.asn1_schema_constraints.specs.Terms.{sizes_of};
-ghost use Rattle.oer_codec_reading.specs.Fronts.{freedoms, Front, Misses, NoFront, Stands};
+ghost use Rattle.oer_codec_reading_lengths.specs.Fronts.{freedoms, Front, Misses, NoFront, Stands};
 ghost use Rattle.oer_codec_reading.specs.Sized.{sized};
 
 use crate::lengths::read_counted;

@@ -2,6 +2,5 @@
 mod bits;
 mod boolean;
 mod identifiers;
-mod lengths;
 mod numbers;
 mod octets;

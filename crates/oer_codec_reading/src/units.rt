@@ -2,7 +2,7 @@
 ghost use Rattle.std.specs.Prelude.{◌≡◌, ◌⊎◌, true, false, IfOk, IfErr, OnOk};
 ghost use Rattle.asn1_model.specs.Schema as Asn1;
 ghost use Rattle.asn1_model.specs.Value as Asn1Value;
-ghost use Rattle.oer_codec_reading.specs.Fronts.{freedoms, is_basic, Front, NoFront};
+ghost use Rattle.oer_codec_reading_lengths.specs.Fronts.{freedoms, is_basic, Front, NoFront};
 
 use crate::{Cursor, EncodingRules};
 use asn1_schema_faults::DecodeError;

@@ -8,7 +8,7 @@ use Rattle.asn1_model.specs.Oer.{Freedom, any_filling, bit_string_form, bits_for
 use Rattle.asn1_schema_faults.specs.declared.DecodeError.{DecodeError}
 use Rattle.asn1_values_bits.proofs.Binary.{low_zeros, length-octet_bits}
 use Rattle.oer_codec_fronts.proofs.Anywhere.{Anywhere, moves_exactly, moves_if, moves_varied}
-use Rattle.oer_codec_reading.specs.declared.rules.EncodingRules.{EncodingRules}
+use Rattle.oer_codec_reading_lengths.specs.declared.rules.EncodingRules.{EncodingRules}
 use Rattle.oer_codec_reading.specs.Bits.{bits_in}
 use Rattle.oer_codec_reading.specs.Fronts.{freedoms, Stands, NoneStands, Misses}
 use Rattle.oer_codec_reading.proofs.Fronts.{if_front, misses_also, varied_stands}

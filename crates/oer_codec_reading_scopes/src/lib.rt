@@ -1,7 +1,7 @@
 //! Readers of presence bitmaps (X.696 16.4), open types (X.696 30) and unknown additions in the octet encoding rules, basic and canonical.
 //!
-//! Each reader answers just where an encoding stands in front, and takes its octets; it refuses just where none does. After a refusal the
-//! cursor stands somewhere behind where it stood.
+//! Each reader answers just where an encoding stands in front, and takes its octets; it refuses just where none does. Nothing is said of
+//! the cursor after a refusal.
 #![tactic(auto)]
 
 pub mod bitmaps;

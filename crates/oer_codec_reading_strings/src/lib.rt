@@ -1,8 +1,8 @@
 //! Readers of character strings in the octet encoding rules (X.696 27), basic and canonical.
 //!
 //! Each reader answers a value just where an encoding of one stands in front, and takes its octets; it refuses, but for want of memory,
-//! just where none does. After a refusal the cursor stands somewhere behind where it stood. What a string may hold are the characters of its
-//! type: a constraint on the permitted alphabet is not asked.
+//! just where none does. Nothing is said of the cursor after a refusal. What a string may hold are the characters of its type: a
+//! constraint on the permitted alphabet is not asked.
 #![tactic(auto)]
 
 pub mod characters;

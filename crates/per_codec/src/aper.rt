@@ -9,8 +9,8 @@ use asn1_schema_constraints::Constraints;
 use asn1_schema_decode::Decode;
 use asn1_schema_encode::Encode;
 use asn1_schema_faults::{DecodeError, EncodeError};
-pub use per_codec_decoder::{Decoder, DecoderOptions};
-pub use per_codec_encoder::{Encoder, EncoderOptions};
+pub use per_codec_calls::{Decoder, DecoderOptions};
+pub use per_codec_output::{Encoder, EncoderOptions};
 use per_codec_reading::Variant;
 use std::alloc::Global;
 

@@ -4,8 +4,8 @@
 pub mod aper;
 pub mod uper;
 
-pub use per_codec_decoder::{Decoder, DecoderOptions};
-pub use per_codec_encoder::{Encoder, EncoderOptions};
+pub use per_codec_calls::{Decoder, DecoderOptions};
+pub use per_codec_output::{Encoder, EncoderOptions};
 
 #[cfg(test)]
 mod tests;

@@ -5,6 +5,4 @@ pub mod decoding;
 pub mod laws;
 
 pub use decoding::{decode, decode_with_constraints, decode_with_remainder};
-
-#[cfg(test)]
-mod tests;
+pub use per_codec_decoder::{Decoder, DecoderOptions};

@@ -13,6 +13,3 @@ mod preamble;
 
 pub use decoder::Decoder;
 pub use options::DecoderOptions;
-
-#[cfg(test)]
-mod tests;

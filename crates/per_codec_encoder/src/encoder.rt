@@ -17,7 +17,7 @@ use asn1_values_bits::{BitBuffer, BitStr};
 use asn1_values_identifiers::Oid;
 use asn1_values_integer_types::IntegerType;
 use per_codec_encoder_frames::{
-    Frame, begin_additions, begin_alternative, begin_bag, begin_components, begin_members,
+    Frames, begin_additions, begin_alternative, begin_bag, begin_components, begin_members,
     end_addition, end_scope, put_addition, put_further, put_mark,
 };
 use per_codec_packing::Packing;
@@ -33,7 +33,7 @@ use std::mem;
 #[derive(Drop)]
 pub struct Encoder {
     output: Packing,
-    frames: Vec<Frame>,
+    frames: Frames,
     aligned: bool,
     failed: bool,
     alloc: Global,
@@ -47,9 +47,9 @@ impl Model for Encoder {
 
     ghost use Rattle.per_codec_encoder_frames.specs.Holding.{shown, Holds};
 
-    ghost view = { λ e. record { state = shown (reverse e.frames.items) e.output; aligned = e.aligned; failed = e.failed } };
+    ghost view = { λ e. record { state = shown (reverse e.frames) e.output; aligned = e.aligned; failed = e.failed } };
 
-    ghost invariant = { λ e. e.failed ≡ false → Holds (reverse e.frames.items) e.output (shown (reverse e.frames.items) e.output) };
+    ghost invariant = { λ e. e.failed ≡ false → Holds (reverse e.frames) e.output (shown (reverse e.frames) e.output) };
 }
 
 /// The octets of a message: its bits, filled up with zero bits to whole octets, and one zero octet in place of no bits (X.691 11.1).
@@ -71,7 +71,7 @@ impl Encoder {
     {
         Encoder {
             output: Packing::new(alloc),
-            frames: Vec::new(alloc),
+            frames: Frames::new(alloc),
             aligned: options.is_aligned(),
             failed: false,
             alloc,
@@ -84,7 +84,7 @@ impl Encoder {
     {
         Encoder {
             output: Packing::from_octets(output),
-            frames: Vec::new(alloc),
+            frames: Frames::new(alloc),
             aligned: options.is_aligned(),
             failed: false,
             alloc,
@@ -138,6 +138,7 @@ impl asn1_schema_encode::Encoder for Encoder {
         }
     }
 
+    #[inline]
     fn encode_bool(
         &mut self,
         _tag: Tag,
@@ -160,6 +161,7 @@ impl asn1_schema_encode::Encoder for Encoder {
         Ok(())
     }
 
+    #[inline]
     fn encode_integer<I: IntegerType>(
         &mut self,
         _tag: Tag,
@@ -330,6 +332,7 @@ impl asn1_schema_encode::Encoder for Encoder {
         Ok(())
     }
 
+    #[inline]
     fn put_further(&mut self, more: bool) -> Result<(), EncodeError> {
         if self.failed {
             return Err(EncodeError::AlreadyFailed);
@@ -346,6 +349,7 @@ impl asn1_schema_encode::Encoder for Encoder {
         Ok(())
     }
 
+    #[inline]
     fn begin_sequence(
         &mut self,
         _tag: Tag,
@@ -386,6 +390,7 @@ impl asn1_schema_encode::Encoder for Encoder {
         Ok(())
     }
 
+    #[inline]
     fn put_mark(&mut self, present: bool) -> Result<(), EncodeError> {
         if self.failed {
             return Err(EncodeError::AlreadyFailed);

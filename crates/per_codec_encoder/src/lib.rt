@@ -6,6 +6,3 @@ mod options;
 
 pub use encoder::Encoder;
 pub use options::EncoderOptions;
-
-#[cfg(test)]
-mod tests;

@@ -1,15 +1,15 @@
 -- Additions that begin, come and end, in the bits and the frames of an encoder.
-use Rattle.std.proofs.Common.{◌≡◌, ℕ, zero, suc, ◌+◌, ◌-◌, ◌<◌, Bool, true, false, List, [], ◌∷◌, ◌++◌, length, replicate, reverse, Option, Some, None, option_map, Vec, Global, refl, ap, subst, sym, ◌∙◌, arith}
+use Rattle.std.proofs.Common.{◌≡◌, ℕ, zero, suc, ◌-◌, ◌<◌, Bool, true, false, List, [], ◌∷◌, ◌++◌, length, reverse, Option, Some, None, option_map, Vec, Global, refl, ap, subst, sym, ◌∙◌, arith}
 use Rattle.std.proofs.lemmas.List.{append-nil}
 use Rattle.asn1_schema_presented.specs.Records.{additions_begin, addition, addition_ends}
 use Rattle.per_codec_texts.specs.Texts.{Text, as_text, plain}
-use Rattle.per_codec_packing.specs.Packed.{Packed, place, solid}
-use Rattle.per_codec_steps.specs.Steps.{Scope, components, added, open_type, members, alternative, State, added_one, run}
+use Rattle.per_codec_packing.specs.Packed.{Packed, solid}
+use Rattle.per_codec_steps.specs.Steps.{components, added, open_type, State, added_one, run}
 use Rattle.per_codec_encoder_frames.specs.declared.frame.Additions.{Additions}
 use Rattle.per_codec_encoder_frames.specs.declared.frame.Frame.{Frame}
 use Rattle.per_codec_encoder_frames.specs.declared.frame.Place.{Place}
 use Rattle.per_codec_encoder_frames.specs.declared.frame.Frame.TheVariants.{Components, Added, OpenType, Members, Bag, Alternative}
-use Rattle.per_codec_encoder_frames.specs.Holding.{at, instead, preamble, IsOpen, IsAdded, Holds, Does}
+use Rattle.per_codec_encoder_frames.specs.Holding.{at, preamble, IsOpen, IsAdded, Holds, Does}
 use Rattle.per_codec_encoder_frames.proofs.Scopes.{length-open, on_top, put_back}
 
 -- the additions of a sequence, by their parts

@@ -1,11 +1,11 @@
 -- Bags that begin, go on and end, in the texts and the frames of an encoder.
-use Rattle.std.proofs.Common.{◌≡◌, ℕ, zero, suc, ◌+◌, ◌-◌, ◌<◌, ◌≤◌, Bool, true, false, cond, not, ltb, is_some, List, [], ◌∷◌, ◌++◌, length, take, map, reverse, Option, Some, None, option_map, Vec, Global, refl, ap, subst, sym, ◌∙◌, arith, length-append}
+use Rattle.std.proofs.Common.{◌≡◌, ℕ, zero, suc, ◌-◌, ◌≤◌, Bool, true, false, not, ltb, is_some, List, [], ◌∷◌, ◌++◌, length, take, map, reverse, Some, None, Vec, Global, Result, Ok, Err, MatchResult, refl, ap, subst, sym, ◌∙◌, arith, length-append}
 use mathlib.Core.Bool.{beq}
 use Rattle.std.proofs.lemmas.Bool.{ltb-false}
 use Rattle.std.proofs.lemmas.List.{take_at}
 use Rattle.asn1_model.specs.Per
 use Rattle.asn1_model.specs.Schema.{Size, Counts}
-use Rattle.asn1_schema_bounds.specs.Bounds.{counts_of, members_of}
+use Rattle.asn1_schema_bounds.specs.Bounds.{members_of}
 use Rattle.asn1_schema_bounds.specs.declared.bounds.Bounded.{Bounded}
 use Rattle.asn1_schema_constraints.specs.Terms.{sizes_of}
 use Rattle.asn1_schema_constraints.specs.declared.extensions.Extensible.{Extensible}
@@ -16,7 +16,7 @@ use Rattle.asn1_schema_presented.specs.Records.{bag_begins, further, ends}
 use Rattle.per_codec_texts.specs.Texts.{Text, text_at, as_form}
 use Rattle.per_codec_packing.specs.Packed.{Packed, place, plus, solid}
 use Rattle.per_codec_packing.proofs.Adding.{added}
-use Rattle.per_codec_steps.specs.Steps.{Scope, bag_members, State, list_heading, with_open, bag_opened, counted_in, closed_bag, adds_text, position, run}
+use Rattle.per_codec_steps.specs.Steps.{Scope, bag_members, State, list_heading, with_open, bag_opened, counted_in, closed_bag, adds_text, run}
 use Rattle.per_codec_writing.specs.Writing.{Adds, Refuses}
 use Rattle.per_codec_writing_bags.specs.Members.{forms}
 use Rattle.per_codec_encoder_frames.specs.declared.frame.Bag.{Bag as BagFrame}
@@ -113,13 +113,28 @@ module _ (al : Bool) (fs rest : List Frame) (f : Frame) (b : BagFrame) (o : Pack
   top : (s : State) → Holds (reverse fs) o s → Holds (Bag b ∷ reverse rest) o s
   top s h = on_top fs rest f (Bag b) o s x y h
 
-  pub does_further_bag : (gs : List Frame) (p : Packed) (next : BagFrame) (more : Bool) → GoesOnInBag more b o next p → gs ≡ rest ++ Bag next ∷ [] → Does al (further more) fs o gs p
+  does_further_bag : (gs : List Frame) (p : Packed) (next : BagFrame) (more : Bool) → GoesOnInBag more b o next p → gs ≡ rest ++ Bag next ∷ [] → Does al (further more) fs o gs p
   does_further_bag gs p next more g c = record { after = λ s h. go s (top s h) }
     where
       go : (s : State) → Holds (Bag b ∷ reverse rest) o s → (t : State) × (run al (further more) s ≡ Some t) × Holds (reverse gs) p t
       go s h =
           let t : State = (p.text, bag_of next h.0.0 ∷ h.0.1) in
           (t, ap (run al (further more)) h.1 ∙ g.goes h.0.0 h.0.1, put_back rest gs (Bag next) p t c (h.0, refl, g.unplaced h.2, subst (λ l. Holds (reverse rest) l h.0) (sym g.outer) h.3))
+
+  cannot_further_bag : (e : EncodeError) (more : Bool) → NoFurther more b o e → Cannot al (further more) fs o e
+  cannot_further_bag e more x = go e x
+    where
+      none : ((front : Text) (k : List Scope) → further_in more b o.text front k ≡ None) → (s : State) → Holds (reverse fs) o s → run al (further more) s ≡ None
+      none x s k = let h = top s k in ap (run al (further more)) h.1 ∙ x h.0.0 h.0.1
+
+      go : (e : EncodeError) → NoFurther more b o e → Cannot al (further more) fs o e
+      go OutOfMemory x = tt
+      go ValueConstraintNotSatisfied x = none x
+      go SizeConstraintNotSatisfied x = none x
+      go AlphabetConstraintNotSatisfied x = none x
+      go TooLongValue x = none x
+      go LengthExceedsPlatformSize x = none x
+      go AlreadyFailed x = none x
 
   -- ---- a bag ends
 
@@ -154,6 +169,12 @@ module _ (al : Bool) (fs rest : List Frame) (f : Frame) (b : BagFrame) (o : Pack
       go TooLongValue r = none r
       go LengthExceedsPlatformSize r = none r
       go AlreadyFailed r = none r
+
+-- ---- a further member, whatever is around the bag
+
+pub member_of_bag_asked : (al : Bool) (f : Frame) (b : BagFrame) (o : Packed) (y : f ≡ Bag b) (g : Frame) (p : Packed) (next : BagFrame) (more : Bool) (r : Result (Unit {0}) EncodeError) → g ≡ Bag next → MatchResult r (λ _. GoesOnInBag more b o next p) (λ e. NoFurther more b o e) → MatchResult r (λ _. (fs : List Frame) → Does al (further more) (fs ++ f ∷ []) o (fs ++ g ∷ []) p) (λ e. (fs : List Frame) → Cannot al (further more) (fs ++ f ∷ []) o e)
+member_of_bag_asked al f b o y g p next more (Ok x) c m = λ fs. does_further_bag al (fs ++ f ∷ []) fs f b o refl y (fs ++ g ∷ []) p next more m (ap (λ k. fs ++ k ∷ []) c)
+member_of_bag_asked al f b o y g p next more (Err e) c m = λ fs. cannot_further_bag al (fs ++ f ∷ []) fs f b o refl y e more m
 
 -- ---- the form of a bag, by its members
 

@@ -1,15 +1,15 @@
 -- Ends of what is open, in the bits and the frames of an encoder.
-use Rattle.std.proofs.Common.{◌≡◌, ℕ, zero, suc, ◌+◌, ◌-◌, ◌<◌, ◌≤◌, Bool, true, false, cond, List, [], ◌∷◌, ◌++◌, length, set, take, drop, get_or, length-set, reverse, is_some, Option, Some, None, option_map, option_and_then, refl, ap, subst, sym, ◌∙◌, arith, append_assoc, length-append}
+use Rattle.std.proofs.Common.{◌≡◌, ℕ, zero, suc, ◌+◌, ◌-◌, ◌<◌, ◌≤◌, Bool, true, false, cond, List, [], ◌∷◌, ◌++◌, length, take, drop, get_or, reverse, is_some, Option, Some, None, option_map, option_and_then, refl, ap, subst, sym, ◌∙◌, arith, append_assoc, length-append}
 use Rattle.std.proofs.lemmas.List.{append-nil}
 use Rattle.asn1_model.specs.Form.{exactly, is_any_present}
 use Rattle.asn1_model.specs.Per
 use Rattle.asn1_schema_presented.specs.Records.{ends}
 use Rattle.per_codec_texts.specs.Texts.{Text, bit, fill, as_text, plain, on, text_at}
-use Rattle.per_codec_texts.proofs.Texts.{as_text-append, length-text, behind}
+use Rattle.per_codec_texts.proofs.Texts.{length-text}
 use Rattle.per_codec_packing.specs.Packed.{Packed, Adds, place, plus, solid, with_bit}
 use Rattle.per_codec_packing.proofs.Adding.{added as text_added}
 use Rattle.per_codec_packing.proofs.Bits.{solid-append, changed_behind}
-use Rattle.per_codec_steps.specs.Steps.{components, added, open_type, members, alternative, position, State, adds_text, extended_text, run}
+use Rattle.per_codec_steps.specs.Steps.{added, members, position, State, adds_text, extended_text, run}
 use Rattle.per_codec_writing_scopes.specs.Additions.{as_open_types}
 use Rattle.per_codec_writing_scopes.proofs.AdditionTexts.{from_here}
 use Rattle.per_codec_encoder_frames.specs.declared.frame.Additions.{Additions}
@@ -18,7 +18,7 @@ use Rattle.per_codec_encoder_frames.specs.declared.frame.Frame.TheVariants.{Comp
 use Rattle.per_codec_encoder_frames.specs.declared.frame.Place.{Place}
 use Rattle.per_codec_encoder_frames.specs.declared.headings.Due.{Due}
 use Rattle.per_codec_encoder_frames.specs.Headings.{headers_of}
-use Rattle.per_codec_encoder_frames.specs.Holding.{at, instead, preamble, IsOpen, IsAdded, Holds, AreSound, Does, Cannot}
+use Rattle.per_codec_encoder_frames.specs.Holding.{at, instead, preamble, IsOpen, IsAdded, Holds, AreSound, Does}
 use Rattle.per_codec_encoder_frames.proofs.Scopes.{at_end, appended, on_top, head_shown, length-added}
 
 pub does_end_components : (fs rest : List Frame) (f : Frame) (e : Bool) (due given : ℕ) (start : Place) → fs ≡ rest ++ f ∷ [] → f ≡ Components e due given start → e ≡ false → due ≡ 0 → (al : Bool) (o : Packed) → Does al ends fs o rest o

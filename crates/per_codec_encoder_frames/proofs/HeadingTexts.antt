@@ -1,5 +1,5 @@
 -- Numbers of members and headers of fragments, in the bits of an encoder.
-use Rattle.std.proofs.Common.{◌≡◌, ℕ, suc, ◌+◌, ◌-◌, ◌*◌, ◌/◌, ◌%◌, ◌^◌, ◌<◌, ◌≤◌, ltb, leb, Bool, true, false, cond, ◌&&◌, List, [], ◌∷◌, ◌++◌, length, replicate, Option, Some, None, option_map, unwrap_or, Result, Ok, Err, IsErr, IsErrAnd, MatchResult, refl, ap, sym, subst, ◌∙◌, arith}
+use Rattle.std.proofs.Common.{◌≡◌, ℕ, suc, ◌-◌, ◌*◌, ◌/◌, ◌%◌, ◌^◌, ◌<◌, ◌≤◌, ltb, leb, Bool, true, false, cond, ◌&&◌, [], ◌∷◌, ◌++◌, replicate, Option, Some, None, option_map, unwrap_or, Result, Ok, Err, IsErr, IsErrAnd, MatchResult, refl, ap, sym, subst, ◌∙◌, arith}
 use Rattle.std.proofs.lemmas.Bool.{le-leb, ltb-true, ltb-false, lt-ltb}
 use Rattle.asn1_model.specs.Schema.{Counts}
 use Rattle.asn1_model.specs.Numbers.{binary}

@@ -5,4 +5,4 @@ pub mod Added
 pub mod Ending
 pub mod Choosing
 pub mod Bagging
-pub mod Last
+pub mod Innermost

@@ -1,24 +1,24 @@
 -- Sequences and lists that begin and go on, in the texts and the frames of an encoder.
-use Rattle.std.proofs.Common.{◌≡◌, ℕ, zero, suc, ◌+◌, ◌-◌, ◌^◌, ◌<◌, Bool, true, false, cond, not, ltb, List, [], ◌∷◌, ◌++◌, length, replicate, reverse, Option, Some, None, option_map, refl, ap, subst, sym, ◌∙◌, arith, append_assoc, length-append}
+use Rattle.std.proofs.Common.{◌≡◌, ℕ, suc, ◌+◌, ◌-◌, ◌^◌, ◌<◌, Bool, true, false, cond, not, ltb, List, [], ◌∷◌, ◌++◌, length, replicate, reverse, Some, None, Result, Ok, Err, MatchResult, refl, ap, subst, sym, ◌∙◌, arith, append_assoc, length-append}
 use mir.Val.{bool_byte}
 use mathlib.Core.Bool.{beq}
 use Rattle.std.proofs.lemmas.Bool.{ltb-true, ltb-false}
-use Rattle.std.proofs.lemmas.List.{append-nil, length-replicate}
+use Rattle.std.proofs.lemmas.List.{append-nil}
 use Rattle.asn1_model.specs.Schema.{Size, Counts}
 use Rattle.asn1_schema_faults.specs.declared.EncodeError.{EncodeError}
 use Rattle.asn1_schema_faults.specs.declared.EncodeError.TheVariants.{ValueConstraintNotSatisfied, SizeConstraintNotSatisfied, AlphabetConstraintNotSatisfied, TooLongValue, LengthExceedsPlatformSize, OutOfMemory, AlreadyFailed}
 use Rattle.asn1_schema_presented.specs.Records.{sequence_begins, mark, further, list_begins}
 use Rattle.per_codec_texts.specs.Texts.{Text, bit, as_text}
-use Rattle.per_codec_texts.proofs.Texts.{as_text-append, length-text}
+use Rattle.per_codec_texts.proofs.Texts.{as_text-append}
 use Rattle.per_codec_packing.specs.Packed.{Packed, place, plus, solid, with_bit}
 use Rattle.per_codec_packing.proofs.Bits.{solid-append, solid-bits, changed_behind}
-use Rattle.per_codec_steps.specs.Steps.{Headers, Scope, components, members, mark_width, State, list_heading, headed, counted_on, run}
+use Rattle.per_codec_steps.specs.Steps.{Headers, Scope, components, members, mark_width, State, position, list_heading, headed, goes_on_in, counted_on, run}
 use Rattle.per_codec_encoder_frames.specs.declared.frame.Frame.{Frame}
 use Rattle.per_codec_encoder_frames.specs.declared.frame.Frame.TheVariants.{Components, Members}
 use Rattle.per_codec_encoder_frames.specs.declared.frame.Place.{Place}
 use Rattle.per_codec_encoder_frames.specs.declared.headings.Due.{Due}
-use Rattle.per_codec_encoder_frames.specs.Headings.{headers_of, Heads, NoHeading, GoesOn}
-use Rattle.per_codec_encoder_frames.specs.Holding.{at, instead, preamble, IsOpen, Holds, AreSound, Does, Cannot}
+use Rattle.per_codec_encoder_frames.specs.Headings.{headers_of, Heads, NoHeading, GoesOn, GoesOnInList, NoMember}
+use Rattle.per_codec_encoder_frames.specs.Holding.{at, preamble, IsOpen, Holds, AreSound, Does, Cannot}
 use Rattle.per_codec_encoder_frames.proofs.Scopes.{at_end, appended, on_top, put_back}
 
 -- ---- a sequence begins
@@ -164,44 +164,28 @@ differ_false : (x : Bool) → not (beq false x) ≡ true → x ≡ true
 differ_false true h = refl
 differ_false false h = cc
 
-module _ (al : Bool) (fs rest : List Frame) (f : Frame) (d next : Due) (o p : Packed) (a : fs ≡ rest ++ f ∷ []) (b : f ≡ Members d) (g : GoesOn al d o next p) where
-  -- what is asked of the members behind the next header
-  asked : (more : Bool) (s : State) (h : Holds (Members d ∷ reverse rest) o s) → run al (further more) s ≡ counted_on next.members (headers_of next.behind) (h.0.0 ++ g.text) h.0.1 more
-  asked more s h = ap (run al (further more)) h.1 ∙ g.goes h.0.0 h.0.1 more (at_end (reverse rest) o h.0 h.2)
+module _ (al : Bool) (d next : Due) (o p : Packed) (g : GoesOn al d o next p) where
+  abbrev less : ℕ → Due
+  less k = record { members = next.members - k; behind = next.behind }
 
-  behind : (s : State) (h : Holds (Members d ∷ reverse rest) o s) → Holds (reverse rest) p (h.0.0 ++ g.text, h.0.1)
-  behind s h = subst (λ l. Holds (reverse rest) l (h.0.0 ++ g.text, h.0.1)) (sym g.added) (appended (reverse rest) o h.0 g.text h.2)
-
-  pub does_further : (gs : List Frame) (k : ℕ) (more : Bool) → not (beq more (ltb 0 next.members)) ≡ false → k ≡ bool_byte more → gs ≡ rest ++ Members (record { members = next.members - k; behind = next.behind }) ∷ [] → Does al (further more) fs o gs p
-  does_further gs k true n x c = record { after = λ s h. go s (on_top fs rest f _ o s a b h) }
+  pub comes_next : (k : ℕ) (more : Bool) → not (beq more (ltb 0 next.members)) ≡ false → k ≡ bool_byte more → GoesOnInList al more d o (less k) p
+  comes_next k true n x = record { text = g.text; added = g.added; goes = λ os j q. g.goes os j true q ∙ ap (λ m. counted_on m (headers_of next.behind) (os ++ g.text) j true) one }
     where
       some : 0 < next.members
       some = ltb-true _ _ (agree_true _ n)
 
-      left : Due
-      left = record { members = next.members - k; behind = next.behind }
-
       one : next.members ≡ suc (next.members - k)
       one = omega (arith, x, some)
-
-      go : (s : State) → Holds (Members d ∷ reverse rest) o s → (t : State) × (run al (further true) s ≡ Some t) × Holds (reverse gs) p t
-      go s h = ((h.0.0 ++ g.text, members (next.members - k) (headers_of next.behind) ∷ h.0.1), asked true s h ∙ ap (λ j. counted_on j (headers_of next.behind) (h.0.0 ++ g.text) h.0.1 true) one, put_back rest gs (Members left) p _ c ((h.0.0 ++ g.text, h.0.1), refl, behind s h))
-  does_further gs k false n x c = record { after = λ s h. go s (on_top fs rest f _ o s a b h) }
+  comes_next k false n x = record { text = g.text; added = g.added; goes = λ os j q. g.goes os j false q ∙ ap (λ m. counted_on m (headers_of next.behind) (os ++ g.text) j false) none ∙ ap (λ b. counted_on 0 (headers_of b) (os ++ g.text) j false) (g.ready none) ∙ ap (λ m. let l : State = (os ++ g.text, m ∷ j) in Some l) (sym now) }
     where
       none : next.members ≡ 0
       none = let l = ltb-false _ _ (agree_false _ n) in omega arith
 
-      left : Due
-      left = record { members = next.members - k; behind = next.behind }
-
       now : members (next.members - k) (headers_of next.behind) ≡ members 0 None
       now = let z : next.members - k ≡ 0 = omega (arith, none) in ap (λ j. members j (headers_of next.behind)) z ∙ ap (λ j. members 0 (headers_of j)) (g.ready none)
 
-      go : (s : State) → Holds (Members d ∷ reverse rest) o s → (t : State) × (run al (further false) s ≡ Some t) × Holds (reverse gs) p t
-      go s h = ((h.0.0 ++ g.text, members 0 None ∷ h.0.1), asked false s h ∙ ap (λ j. counted_on j (headers_of next.behind) (h.0.0 ++ g.text) h.0.1 false) none ∙ ap (λ j. counted_on 0 (headers_of j) (h.0.0 ++ g.text) h.0.1 false) (g.ready none), put_back rest gs (Members left) p _ c ((h.0.0 ++ g.text, h.0.1), ap (λ m. let l : State = (h.0.0 ++ g.text, m ∷ h.0.1) in l) (sym now), behind s h))
-
-  pub no_further : (more : Bool) → not (beq more (ltb 0 next.members)) ≡ true → (s : State) → Holds (reverse fs) o s → run al (further more) s ≡ None
-  no_further more n s h = let k = on_top fs rest f _ o s a b h in asked more s k ∙ go next.members (headers_of next.behind) more n (k.0.0 ++ g.text) k.0.1
+  pub none_next : (more : Bool) → not (beq more (ltb 0 next.members)) ≡ true → NoMember al more d o SizeConstraintNotSatisfied
+  none_next more n = λ os k q. g.goes os k more q ∙ go next.members (headers_of next.behind) more n (os ++ g.text) k
     where
       no_more : (hs : Headers) (os : Text) (k : List Scope) → counted_on 0 hs os k true ≡ None
       no_more None os k = refl
@@ -216,3 +200,32 @@ module _ (al : Bool) (fs rest : List Frame) (f : Frame) (d next : Due) (o p : Pa
           let e = ltb-true 0 m (differ_false _ n) in
           let z : m ≡ suc (m - 1) = omega (arith, e) in
           ap (λ j. counted_on j hs os k false) z
+
+module _ (al : Bool) (f : Frame) (d : Due) (o : Packed) (b : f ≡ Members d) (rest : List Frame) where
+  there : (s : State) → Holds (reverse (rest ++ f ∷ [])) o s → Holds (Members d ∷ reverse rest) o s
+  there s h = on_top (rest ++ f ∷ []) rest f _ o s refl b h
+
+  does_further : (g : Frame) (p : Packed) (next : Due) (more : Bool) → g ≡ Members next → GoesOnInList al more d o next p → Does al (further more) (rest ++ f ∷ []) o (rest ++ g ∷ []) p
+  does_further g p next more c x = record { after = λ s h. go s (there s h) }
+    where
+      go : (s : State) → Holds (Members d ∷ reverse rest) o s → (t : State) × (run al (further more) s ≡ Some t) × Holds (reverse (rest ++ g ∷ [])) p t
+      go s h = ((h.0.0 ++ x.text, members next.members (headers_of next.behind) ∷ h.0.1), ap (run al (further more)) h.1 ∙ x.goes h.0.0 h.0.1 (at_end (reverse rest) o h.0 h.2), put_back rest (rest ++ g ∷ []) (Members next) p _ (ap (λ k. rest ++ k ∷ []) c) ((h.0.0 ++ x.text, h.0.1), refl, subst (λ l. Holds (reverse rest) l (h.0.0 ++ x.text, h.0.1)) (sym x.added) (appended (reverse rest) o h.0 x.text h.2)))
+
+  cannot_further : (e : EncodeError) (more : Bool) → NoMember al more d o e → Cannot al (further more) (rest ++ f ∷ []) o e
+  cannot_further e more x = go e x
+    where
+      none : ((os : Text) (k : List Scope) → position (os, k) ≡ place o → goes_on_in al d.members (headers_of d.behind) os k more ≡ None) → (s : State) → Holds (reverse (rest ++ f ∷ [])) o s → run al (further more) s ≡ None
+      none x s k = let h = there s k in ap (run al (further more)) h.1 ∙ x h.0.0 h.0.1 (at_end (reverse rest) o h.0 h.2)
+
+      go : (e : EncodeError) → NoMember al more d o e → Cannot al (further more) (rest ++ f ∷ []) o e
+      go OutOfMemory x = tt
+      go ValueConstraintNotSatisfied x = none x
+      go SizeConstraintNotSatisfied x = none x
+      go AlphabetConstraintNotSatisfied x = none x
+      go TooLongValue x = none x
+      go LengthExceedsPlatformSize x = none x
+      go AlreadyFailed x = none x
+
+pub member_asked : (al : Bool) (f : Frame) (d : Due) (o : Packed) (b : f ≡ Members d) (g : Frame) (p : Packed) (next : Due) (more : Bool) (r : Result (Unit {0}) EncodeError) → g ≡ Members next → MatchResult r (λ _. GoesOnInList al more d o next p) (NoMember al more d o) → MatchResult r (λ _. (fs : List Frame) → Does al (further more) (fs ++ f ∷ []) o (fs ++ g ∷ []) p) (λ e. (fs : List Frame) → Cannot al (further more) (fs ++ f ∷ []) o e)
+member_asked al f d o b g p next more (Ok x) c m = λ fs. does_further al f d o b fs g p next more c m
+member_asked al f d o b g p next more (Err e) c m = λ fs. cannot_further al f d o b fs e more m

@@ -1,6 +1,6 @@
 -- What the texts and the frames of an encoder stand for.
-use Rattle.std.proofs.Common.{◌≡◌, ℕ, suc, ◌+◌, Bool, true, false, cond, List, [], ◌∷◌, ◌++◌, length, take, drop, replicate, reverse, Option, Some, None, refl, ap, subst, sym, ◌∙◌, arith, append_assoc, length-append}
-use Rattle.std.proofs.lemmas.List.{append-nil, reverse-append, take_at, drop_at, length-replicate}
+use Rattle.std.proofs.Common.{◌≡◌, ℕ, ◌+◌, Bool, true, false, cond, List, [], ◌∷◌, ◌++◌, length, take, drop, replicate, reverse, Option, Some, None, refl, ap, subst, sym, ◌∙◌, arith, append_assoc, length-append}
+use Rattle.std.proofs.lemmas.List.{reverse-append, take_at, drop_at, length-replicate}
 use Rattle.per_codec_texts.specs.Texts.{Text, bit, as_text, moved}
 use Rattle.per_codec_texts.proofs.Texts.{length-text, as_text-append}
 use Rattle.per_codec_packing.specs.Packed.{Packed, place, plus, solid}

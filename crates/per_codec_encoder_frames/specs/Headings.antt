@@ -1,11 +1,11 @@
 -- Headings of lists, in the bits of an encoder: their number of members, or the headers of fragments (X.691 11.9 and 20).
-use Rattle.std.specs.Prelude.{◌≡◌, ℕ, Bool, List, ◌++◌, Option, Some, None}
+use Rattle.std.specs.Prelude.{◌≡◌, ℕ, Bool, List, ◌∷◌, ◌++◌, Option, Some, None}
 use Rattle.asn1_model.specs.Per.{largest_first}
 use Rattle.asn1_schema_faults.specs.declared.EncodeError.{EncodeError}
 use Rattle.asn1_schema_faults.specs.declared.EncodeError.TheVariants.{OutOfMemory}
 use Rattle.per_codec_texts.specs.Texts.{Text}
 use Rattle.per_codec_packing.specs.Packed.{Packed, place, plus}
-use Rattle.per_codec_steps.specs.Steps.{Headers, Scope, position, Heading, goes_on_in, counted_on}
+use Rattle.per_codec_steps.specs.Steps.{Headers, Scope, members, position, Heading, goes_on_in, counted_on}
 use Rattle.per_codec_encoder_frames.specs.declared.headings.Due.{Due}
 
 -- The headers to come in front of so many members, the largest fragments first (X.691 11.9.3.8).
@@ -34,3 +34,14 @@ pub record GoesOn (al : Bool) (d : Due) (old : Packed) (next : Due) (new : Packe
   pub added : new ≡ plus old text
   pub goes : (os : Text) (k : List Scope) (b : Bool) → position (os, k) ≡ place old → goes_on_in al d.members (headers_of d.behind) os k b ≡ counted_on next.members (headers_of next.behind) (os ++ text) k b
   pub ready : next.members ≡ 0 → next.behind ≡ None
+
+-- Where a member or the end comes next in a list, the text and what is due are those behind this step.
+pub record GoesOnInList (al more : Bool) (d : Due) (old : Packed) (next : Due) (new : Packed) : Type 0 where
+  pub text : Text
+  pub added : new ≡ plus old text
+  pub goes : (os : Text) (k : List Scope) → position (os, k) ≡ place old → goes_on_in al d.members (headers_of d.behind) os k more ≡ Some (os ++ text, members next.members (headers_of next.behind) ∷ k)
+
+-- Why nothing comes next in a list: memory was refused, or there is no step.
+abbrev pub NoMember : Bool → Bool → Due → Packed → EncodeError → Type 0
+NoMember al more d old OutOfMemory = Unit {0}
+NoMember al more d old e = (os : Text) (k : List Scope) → position (os, k) ≡ place old → goes_on_in al d.members (headers_of d.behind) os k more ≡ None

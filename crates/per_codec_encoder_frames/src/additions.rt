@@ -4,6 +4,7 @@ ghost use Rattle.asn1_schema_presented.specs.Records.{additions_begin, addition,
 ghost use Rattle.per_codec_encoder_frames.specs.Holding.{Does, Cannot};
 
 use crate::frame::{Additions, Frame, Place};
+use crate::frames::Frames;
 use asn1_schema_faults::EncodeError;
 use per_codec_packing::Packing;
 use std::alloc::Global;
@@ -12,11 +13,11 @@ use std::mem;
 /// Behind the root of a sequence or set with a mark of extensibility come so many additions (X.691 19.7).
 pub fn begin_additions(
     output: &Packing,
-    frames: &mut Vec<Frame>,
+    frames: &mut Frames,
     alloc: Global,
     count: usize,
 ) -> Result<(), EncodeError>
-    ensures { MatchResult result (λ _. (al : Bool) → Does al (additions_begin count) frames.old.items output.now frames.new.items output.now) (λ e. (al : Bool) → Cannot al (additions_begin count) frames.old.items output.now e) }
+    ensures { MatchResult result (λ _. (al : Bool) → Does al (additions_begin count) frames.old output.now frames.new output.now) (λ e. (al : Bool) → Cannot al (additions_begin count) frames.old output.now e) }
 {
     match frames.pop() {
         Some(
@@ -46,11 +47,11 @@ pub fn begin_additions(
 /// Whether the next addition is there. The bits of one that is there stand alone until it ends (X.691 11.2 and 19.9).
 pub fn put_addition(
     output: &mut Packing,
-    frames: &mut Vec<Frame>,
+    frames: &mut Frames,
     alloc: Global,
     present: bool,
 ) -> Result<(), EncodeError>
-    ensures { MatchResult result (λ _. (al : Bool) → Does al (addition present) frames.old.items output.old frames.new.items output.new) (λ e. (al : Bool) → Cannot al (addition present) frames.old.items output.old e) }
+    ensures { MatchResult result (λ _. (al : Bool) → Does al (addition present) frames.old output.old frames.new output.new) (λ e. (al : Bool) → Cannot al (addition present) frames.old output.old e) }
 {
     match frames.pop() {
         Some(Frame::Added(before)) => {
@@ -74,8 +75,8 @@ pub fn put_addition(
 }
 
 /// An addition ends, and its bits are kept.
-pub fn end_addition(output: &mut Packing, frames: &mut Vec<Frame>) -> Result<(), EncodeError>
-    ensures { MatchResult result (λ _. (al : Bool) → Does al addition_ends frames.old.items output.old frames.new.items output.new) (λ e. (al : Bool) → Cannot al addition_ends frames.old.items output.old e) }
+pub fn end_addition(output: &mut Packing, frames: &mut Frames) -> Result<(), EncodeError>
+    ensures { MatchResult result (λ _. (al : Bool) → Does al addition_ends frames.old output.old frames.new output.new) (λ e. (al : Bool) → Cannot al addition_ends frames.old output.old e) }
 {
     let Some(Frame::OpenType { outer }) = frames.pop() else {
         return Err(EncodeError::SizeConstraintNotSatisfied);

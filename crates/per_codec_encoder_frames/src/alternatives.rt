@@ -5,6 +5,7 @@ ghost use Rattle.asn1_schema_presented.specs.Records.{choice_begins};
 ghost use Rattle.per_codec_encoder_frames.specs.Holding.{Does, Cannot};
 
 use crate::frame::Frame;
+use crate::frames::Frames;
 use asn1_schema_faults::EncodeError;
 use asn1_schema_variants::Chosen;
 use per_codec_packing::Packing;
@@ -16,14 +17,14 @@ use std::mem;
 /// type (X.691 23).
 pub fn begin_alternative(
     output: &mut Packing,
-    frames: &mut Vec<Frame>,
+    frames: &mut Frames,
     alloc: Global,
     aligned: bool,
     roots: usize,
     extensible: bool,
     chosen: Chosen,
 ) -> Result<(), EncodeError>
-    ensures { MatchResult result (λ _. (ts us : List Tag) → length ts ≡ roots → Does aligned (choice_begins ts extensible us chosen.added chosen.place) frames.old.items output.old frames.new.items output.new) (λ e. (ts us : List Tag) → length ts ≡ roots → Cannot aligned (choice_begins ts extensible us chosen.added chosen.place) frames.old.items output.old e) }
+    ensures { MatchResult result (λ _. (ts us : List Tag) → length ts ≡ roots → Does aligned (choice_begins ts extensible us chosen.added chosen.place) frames.old output.old frames.new output.new) (λ e. (ts us : List Tag) → length ts ≡ roots → Cannot aligned (choice_begins ts extensible us chosen.added chosen.place) frames.old output.old e) }
 {
     push_place(output, aligned, roots, extensible, chosen)?;
     if chosen.added {

@@ -11,6 +11,7 @@ ghost use Rattle.per_codec_encoder_frames.specs.Bags.{size_of, texts, texts_befo
 ghost use Rattle.per_codec_encoder_frames.specs.Holding.{Does, Cannot};
 
 use crate::frame::{Bag, Frame, Place};
+use crate::frames::Frames;
 use crate::headings::push_heading;
 use asn1_schema_bounds::Bounded;
 use asn1_schema_constraints::{Constraints, Extensible, Size};
@@ -34,14 +35,14 @@ fn sizes(constraints: Constraints) -> (Bounded<usize>, bool)
 /// written at its end.
 pub fn begin_bag(
     output: &mut Packing,
-    frames: &mut Vec<Frame>,
+    frames: &mut Frames,
     alloc: Global,
     aligned: bool,
     constraints: Constraints,
     held: Bounded<usize>,
     count: usize,
 ) -> Result<(), EncodeError>
-    ensures { MatchResult result (λ _. Does aligned (bag_begins (sizes_of constraints.entry.size) (members_of held) count) frames.old.items output.old frames.new.items output.new) (Cannot aligned (bag_begins (sizes_of constraints.entry.size) (members_of held) count) frames.old.items output.old) }
+    ensures { MatchResult result (λ _. Does aligned (bag_begins (sizes_of constraints.entry.size) (members_of held) count) frames.old output.old frames.new output.new) (Cannot aligned (bag_begins (sizes_of constraints.entry.size) (members_of held) count) frames.old output.old) }
 {
     let start = Place::end_of(output);
     push_heading(output, aligned, constraints, held, count)?;
@@ -80,28 +81,23 @@ fn kept(
 /// Whether a further member of a bag comes: as many come as were told, and each begins a text of its own.
 pub(crate) fn next_of_bag(
     output: &mut Packing,
-    bag: Bag,
+    bag: &mut Bag,
     alloc: Global,
     more: bool,
-) -> Result<Bag, EncodeError>
-    ensures { MatchResult result (λ next. GoesOnInBag more bag output.old next output.new) (λ e. NoFurther more bag output.old e) }
+) -> Result<(), EncodeError>
+    ensures { MatchResult result (λ _. GoesOnInBag more bag.old output.old bag.new output.new) (λ e. NoFurther more bag.old output.old e) }
 {
     if more != (bag.due > 0) {
         return Err(EncodeError::SizeConstraintNotSatisfied);
     }
     if !more {
-        return Ok(bag);
+        return Ok(());
     }
     let member = mem::replace(output, Packing::unplaced(alloc));
-    let members = kept(bag.members, member, alloc)?;
-    Ok(Bag {
-        outer: bag.outer,
-        range: bag.range,
-        extensible: bag.extensible,
-        held: bag.held,
-        due: bag.due - 1,
-        members: Some(members),
-    })
+    let members = kept(bag.members.take(), member, alloc)?;
+    bag.members = Some(members);
+    bag.due -= 1;
+    Ok(())
 }
 
 /// Ends a bag of which no member is due: behind what stands in front of it stand its members, in their order, behind their number (X.691 22).

@@ -10,6 +10,7 @@ ghost use Rattle.per_codec_encoder_frames.specs.Holding.{AreSound, Does, Cannot}
 
 use crate::bags::end_bag;
 use crate::frame::Frame;
+use crate::frames::Frames;
 use asn1_schema_faults::EncodeError;
 use asn1_values_bits::BitBuffer;
 use per_codec_packing::Packing;
@@ -55,12 +56,12 @@ fn push_extension(
 /// a bag (X.691 22), an open type (X.691 11.2) or an alternative (X.691 23).
 pub fn end_scope(
     output: &mut Packing,
-    frames: &mut Vec<Frame>,
+    frames: &mut Frames,
     alloc: Global,
     aligned: bool,
 ) -> Result<(), EncodeError>
-    requires { AreSound frames.old.items output.old }
-    ensures { MatchResult result (λ _. Does aligned ends frames.old.items output.old frames.new.items output.new) (Cannot aligned ends frames.old.items output.old) }
+    requires { AreSound frames.old output.old }
+    ensures { MatchResult result (λ _. Does aligned ends frames.old output.old frames.new output.new) (Cannot aligned ends frames.old output.old) }
 {
     match frames.pop() {
         Some(

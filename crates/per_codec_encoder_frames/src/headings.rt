@@ -49,6 +49,7 @@ fn push_header(output: &mut Packing, aligned: bool, count: usize) -> Result<Due,
 }
 
 /// Adds the header that comes in front of the next member or the end, if one does (X.691 11.9.3.8).
+#[inline]
 pub fn push_next_header(output: &mut Packing, aligned: bool, due: Due) -> Result<Due, EncodeError>
     ensures { MatchResult result (λ next. GoesOn aligned due output.old next output.new) (λ e. e ≡ EncodeError.OutOfMemory) }
 {

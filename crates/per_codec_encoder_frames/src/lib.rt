@@ -6,6 +6,7 @@ mod alternatives;
 mod bags;
 mod ends;
 mod frame;
+mod frames;
 mod headings;
 mod sequences;
 
@@ -14,5 +15,6 @@ pub use alternatives::begin_alternative;
 pub use bags::begin_bag;
 pub use ends::end_scope;
 pub use frame::{Additions, Bag, Frame};
+pub use frames::Frames;
 pub use headings::{Due, push_heading, push_next_header};
 pub use sequences::{begin_components, begin_members, put_further, put_mark};

@@ -72,6 +72,7 @@ impl Packing {
     }
 
     /// How many bits there are, without filling that is left open.
+    #[inline]
     pub fn len(&self) -> usize
         ensures bits { result ≡ length (solid self.now.text) }
         ensures placed { self.now.placed ≡ true → result ≡ length self.now.text }
@@ -80,6 +81,7 @@ impl Packing {
     }
 
     /// How many fillings there are that are left open.
+    #[inline]
     pub fn fill_count(&self) -> usize
         ensures { length (solid self.now.text) + result ≡ length self.now.text }
     {
@@ -104,6 +106,7 @@ impl Packing {
     }
 
     /// Adds one bit.
+    #[inline]
     pub fn push(&mut self, bit: bool) -> Result<(), AllocError>
         ensures ok { OnOk result (self.new ≡ plus self.old (as_text (bit ∷ []))) }
         ensures err { OnErr result (self.new ≡ self.old) }
@@ -113,6 +116,7 @@ impl Packing {
     }
 
     /// Adds the low `width` bits of a number, the highest first.
+    #[inline]
     pub fn push_bits(&mut self, value: u128, width: u32) -> Result<(), AllocError>
         requires { width ≤ 128 }
         ensures ok { OnOk result (self.new ≡ plus self.old (as_text (binary width value))) }
@@ -151,6 +155,7 @@ impl Packing {
     }
 
     /// Changes one of the bits that are there, which are counted as `len` does.
+    #[inline]
     pub fn set(&mut self, index: usize, bit: bool)
         requires { index < length (solid self.old.text) }
         ensures { self.new ≡ record { text = with_bit index bit self.old.text; placed = self.old.placed } }
@@ -159,8 +164,10 @@ impl Packing {
     }
 
     /// Fills up to the next octet (X.691 11.1): with at most seven zero bits where the place is known, else this is left open.
+    #[inline]
     pub fn align(&mut self) -> Result<(), AllocError>
-        ensures { OnOk result (self.new ≡ plus self.old (filling_at (place self.old))) }
+        ensures ok { OnOk result (self.new ≡ plus self.old (filling_at (place self.old))) }
+        ensures err { OnErr result (self.new ≡ self.old) }
     {
         let len = self.bits.len();
         if self.is_placed {

@@ -47,6 +47,7 @@ pub(crate) fn push_semi_constrained(
 }
 
 /// Adds a number within bounds, in the form that they tell (X.691 13.2).
+#[inline(always)]
 fn push_root(
     output: &mut Packing,
     aligned: bool,
@@ -72,6 +73,7 @@ fn push_root(
 }
 
 /// Adds a number under a value constraint: behind a bit that tells whether it is outside the bounds, where a mark follows these (X.691 13.1).
+#[inline(always)]
 fn push_bounded(
     output: &mut Packing,
     aligned: bool,
@@ -99,6 +101,7 @@ fn push_bounded(
 
 /// Adds an INTEGER (X.691 13), of at most 128 bits under a value constraint. One outside its bounds is refused, unless a mark follows
 /// these.
+#[inline(always)]
 pub fn push_integer<I: IntegerType>(
     output: &mut Packing,
     aligned: bool,

@@ -6,8 +6,8 @@ use Rattle.asn1_schema_bounds.specs.Bounds.{counts_of}
 use Rattle.asn1_schema_constraints.specs.Terms.{sizes_of}
 use Rattle.asn1_values_bits.specs.BitStr.{bits_of}
 use Rattle.oer_codec_reading.specs.Bits.{sized_bits}
-use Rattle.oer_codec_reading.specs.Fronts.{freedoms}
-use Rattle.oer_codec_reading.proofs.Fronts.{misses_also}
+use Rattle.oer_codec_reading_lengths.specs.Fronts.{freedoms}
+use Rattle.oer_codec_reading_lengths.proofs.Fronts.{misses_also}
 use Rattle.oer_codec_reading.proofs.BitStringFronts.{string_stands, no_string, not_admitted}
 use Rattle.oer_codec_reading.proofs.bit_strings.read_bit_string.Goals as goal
 

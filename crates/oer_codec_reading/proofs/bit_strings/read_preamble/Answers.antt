@@ -1,7 +1,7 @@
 use Rattle.std.proofs.Common.{refl, arith}
 use Rattle.std.proofs.lemmas.Bool.{false≢true}
 use Rattle.std.proofs.lemmas.Result.{err_from_is_err_and}
-use Rattle.oer_codec_reading.specs.Fronts.{freedoms}
+use Rattle.oer_codec_reading_lengths.specs.Fronts.{freedoms}
 use Rattle.oer_codec_reading.proofs.BitFronts.{preamble_read, short_preamble, filled_preamble}
 use Rattle.oer_codec_reading.proofs.bit_strings.read_preamble.Goals as goal
 

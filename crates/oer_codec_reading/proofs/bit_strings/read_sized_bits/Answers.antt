@@ -3,8 +3,8 @@ use Rattle.std.proofs.lemmas.Result.{err_from_is_err_and}
 use Rattle.asn1_model.specs.Oer.{bit_string_form}
 use Rattle.asn1_values_bits.specs.BitStr.{bits_of}
 use Rattle.oer_codec_reading.specs.Bits.{bits_in, sized_bits}
-use Rattle.oer_codec_reading.specs.Fronts.{freedoms}
-use Rattle.oer_codec_reading.proofs.Fronts.{misses_also}
+use Rattle.oer_codec_reading_lengths.specs.Fronts.{freedoms}
+use Rattle.oer_codec_reading_lengths.proofs.Fronts.{misses_also}
 use Rattle.oer_codec_reading.proofs.BitStringFronts.{of_size, none_of_size, of_any_size, none_of_any_size}
 use Rattle.oer_codec_reading.proofs.bit_strings.read_sized_bits.Goals as goal
 

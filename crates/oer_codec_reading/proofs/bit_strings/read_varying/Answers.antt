@@ -2,9 +2,9 @@ use Rattle.std.proofs.Common.{false, arith}
 use Rattle.std.proofs.lemmas.Result.{err_from_is_err_and}
 use Rattle.asn1_model.specs.Oer.{bit_string_form, length_form}
 use Rattle.asn1_values_bits.specs.BitStr.{bits_of}
-use Rattle.oer_codec_reading.specs.Fronts.{freedoms}
-use Rattle.oer_codec_reading.proofs.Freedoms.{is_not, not_is}
-use Rattle.oer_codec_reading.proofs.Fronts.{misses_also}
+use Rattle.oer_codec_reading_lengths.specs.Fronts.{freedoms}
+use Rattle.oer_codec_reading_lengths.proofs.Freedoms.{is_not, not_is}
+use Rattle.oer_codec_reading_lengths.proofs.Fronts.{misses_also}
 use Rattle.oer_codec_reading.proofs.BitStringFronts.{no_count, empty_count, no_bits, few_octets, wrong_unused, varying_read, varying_refused}
 use Rattle.oer_codec_reading.proofs.bit_strings.read_varying.Goals as goal
 

@@ -1,8 +1,8 @@
 use Rattle.std.proofs.lemmas.Result.{err_from_is_err_and}
 use Rattle.asn1_model.specs.Schema.{object_identifier}
 use Rattle.asn1_model.specs.Oer.{counted, form}
-use Rattle.oer_codec_reading.specs.Fronts.{freedoms}
-use Rattle.oer_codec_reading.proofs.Fronts.{misses_also}
+use Rattle.oer_codec_reading_lengths.specs.Fronts.{freedoms}
+use Rattle.oer_codec_reading_lengths.proofs.Fronts.{misses_also}
 use Rattle.oer_codec_reading.proofs.IdentifierFronts.{identifier_stands, no_octets, no_identifier}
 use Rattle.oer_codec_reading.proofs.identifiers.read_object_identifier.Goals as goal
 

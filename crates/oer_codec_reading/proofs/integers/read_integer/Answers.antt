@@ -3,9 +3,9 @@ use Rattle.asn1_model.specs.Schema.{integer}
 use Rattle.asn1_model.specs.Oer.{form}
 use Rattle.asn1_schema_constraints.specs.Terms.{bounds_of, held_of}
 use Rattle.asn1_values_natives.specs.Octets.{own_number}
-use Rattle.oer_codec_reading.specs.Fronts.{freedoms}
+use Rattle.oer_codec_reading_lengths.specs.Fronts.{freedoms}
 use Rattle.oer_codec_reading.specs.Whole.{number_in}
-use Rattle.oer_codec_reading.proofs.Fronts.{misses_also}
+use Rattle.oer_codec_reading_lengths.proofs.Fronts.{misses_also}
 use Rattle.oer_codec_reading.proofs.IntegerFronts.{no_integer, value_read, value_refused}
 use Rattle.oer_codec_reading.proofs.integers.read_integer.Goals as goal
 

@@ -4,9 +4,9 @@ use Rattle.asn1_model.specs.Schema.{octet_string}
 use Rattle.asn1_model.specs.Oer.{form}
 use Rattle.asn1_schema_bounds.specs.Bounds.{counts_of}
 use Rattle.asn1_schema_constraints.specs.Terms.{sizes_of}
-use Rattle.oer_codec_reading.specs.Fronts.{freedoms}
+use Rattle.oer_codec_reading_lengths.specs.Fronts.{freedoms}
 use Rattle.oer_codec_reading.specs.Sized.{sized}
-use Rattle.oer_codec_reading.proofs.Fronts.{misses_also}
+use Rattle.oer_codec_reading_lengths.proofs.Fronts.{misses_also}
 use Rattle.oer_codec_reading.proofs.SizedFronts.{octet_string_stands, no_sized, not_admitted}
 use Rattle.oer_codec_reading.proofs.octet_strings.read_octet_string.Goals as goal
 

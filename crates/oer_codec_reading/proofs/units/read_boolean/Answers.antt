@@ -1,5 +1,5 @@
 use Rattle.std.proofs.lemmas.Result.{err_from_is_err_and}
-use Rattle.oer_codec_reading.specs.Fronts.{freedoms}
+use Rattle.oer_codec_reading_lengths.specs.Fronts.{freedoms}
 use Rattle.oer_codec_reading.proofs.Truths.{no_octet, no_truth, truth_stands}
 use Rattle.oer_codec_reading.proofs.units.read_boolean.Goals as goal
 

@@ -1,4 +1,4 @@
-use Rattle.oer_codec_reading.specs.Fronts.{freedoms}
+use Rattle.oer_codec_reading_lengths.specs.Fronts.{freedoms}
 use Rattle.oer_codec_reading.proofs.Truths.{nothing_stands}
 use Rattle.oer_codec_reading.proofs.units.read_null.Goals as goal
 

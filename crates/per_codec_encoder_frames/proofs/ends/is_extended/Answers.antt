@@ -1,4 +1,4 @@
-use Rattle.std.proofs.Common.{◌≡◌, ◌<◌, length, sym, ◌∙◌, arith}
+use Rattle.std.proofs.Common.{◌<◌, length, sym, ◌∙◌, arith}
 use Rattle.per_codec_encoder_frames.proofs.Ending.{slot_there, slot_absent, none_left}
 use Rattle.per_codec_encoder_frames.proofs.ends.is_extended.Goals as goal
 

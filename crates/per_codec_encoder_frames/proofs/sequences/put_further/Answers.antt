@@ -1,21 +1,18 @@
-use Rattle.per_codec_encoder_frames.proofs.Bagging.{does_further_bag}
-use Rattle.per_codec_encoder_frames.proofs.Opening.{does_further, no_further}
+use Rattle.std.proofs.Common.{ap, subst, sym, MatchResult}
+use Rattle.asn1_schema_presented.specs.Records.{further}
+use Rattle.per_codec_encoder_frames.specs.Holding.{Does, Cannot}
+use Rattle.per_codec_encoder_frames.specs.contracts.frames.Frames.{the_view}
+use Rattle.per_codec_encoder_frames.proofs.Innermost.{innermost_is, done_within, no_member}
 use Rattle.per_codec_encoder_frames.proofs.sequences.put_further.Goals as goal
+use Rattle.per_codec_encoder_frames.proofs.sequences.put_further.Goals.{in-Some, in-None}
 
-pub returns-then-more-next : goal.returns-then-more-next
-returns-then-more-next c =
-    let f = c.in-Some-Members in
-    let n = c.in_ok-next-in-Some-Members in
-    no_further c.args.aligned c.args.frames.now.items c.pop.new.self.items f.field-0 f.due n.next c.args.output.now c.push_next_header.new.output f.ensures.items f.field-0-is n.ensures c.args.more c.if-more-next.true
-
-pub returns-in-Some-Members : goal.returns-in-Some-Members
-returns-in-Some-Members c =
-    let f = c.in-Some-Members in
-    let n = c.in_ok-next-in-Some-Members in
-    does_further c.args.aligned c.args.frames.now.items c.pop.new.self.items f.field-0 f.due n.next c.args.output.now c.push_next_header.new.output f.ensures.items f.field-0-is n.ensures c.push.new.self.items c.from.result c.args.more c.if-more-next.false c.from.ensures c.in_ok-push-in-Some-Members.ensures.items
-
-pub returns-in-Some-Bag : goal.returns-in-Some-Bag
-returns-in-Some-Bag c =
-    let f = c.in-Some-Bag in
-    let n = c.in_ok-next-in-Some-Bag in
-    does_further_bag c.args.aligned c.args.frames.now.items c.pop.new.self.items f.field-0 f.bag c.args.output.now f.ensures.items f.field-0-is c.push-in-Some-Bag.new.self.items c.next_of_bag.new.output n.next c.args.more n.ensures c.in_ok-push-in-Some-Bag.ensures.items
+pub returns : goal.returns
+returns c =
+    let i = c.frames.inside in
+    let m = c.match-frames in
+    elim m.branch [
+      | in-Some w ↦
+          let a = innermost_is _ i.outer.items i.innermost _ c.frames.view_is w.in-Some.is in
+          done_within c.args.aligned (further c.args.more) i.outer.items _ _ c.args.output.now _ w.next_of_frame.result m.result _ (the_view m.frames-inside) m.output w.result-is a (ap the_view w.frames-inside-is) w.output-is w.next_of_frame.ensures
+      | in-None w ↦ subst (λ r. MatchResult r (λ _. Does c.args.aligned (further c.args.more) c.args.frames.now c.args.output.now (the_view m.frames-inside) m.output) (Cannot c.args.aligned (further c.args.more) c.args.frames.now c.args.output.now)) (sym w.result-is) (no_member c.args.aligned c.args.frames.now i.outer.items i.innermost c.args.output.now c.args.more c.frames.view_is w.in-None.is (c.frames.invariant w.in-None.is))
+    ]

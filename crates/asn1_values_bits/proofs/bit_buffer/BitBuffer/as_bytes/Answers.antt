@@ -1,7 +1,7 @@
 use Rattle.std.proofs.Common.{ℕ, ◌<◌, ◌∙◌, get_or, length, rules, ap}
 use Rattle.asn1_model.specs.Numbers.{octet_bits}
 use Rattle.asn1_values_bits.proofs.Kept.{kept_filled}
-use Rattle.asn1_values_bits.proofs.Packed.{kept_octets}
+use Rattle.asn1_values_bits.proofs.Filled.{kept_octets}
 use Rattle.asn1_values_bits.proofs.bit_buffer.BitBuffer.as_bytes.Goals as goal
 
 pub returns-clause-octets : goal.returns-clause-octets

@@ -1,6 +1,6 @@
 use Rattle.std.proofs.Common.{ℕ, ◌<◌, get_or, length, arith}
 use Rattle.asn1_values_bits.proofs.Kept.{kept_filled}
-use Rattle.asn1_values_bits.proofs.Packed.{kept_octets}
+use Rattle.asn1_values_bits.proofs.Filled.{kept_octets}
 use Rattle.asn1_values_bits.proofs.bit_buffer.BitBuffer.into_vec.Goals as goal
 
 pub returns-clause-octets : goal.returns-clause-octets

@@ -1,12 +1,12 @@
-use Rattle.std.proofs.Common.{reverse, ap, ◌∙◌}
-use Rattle.oer_codec_encoder.specs.Holding.{shown}
+use Rattle.std.proofs.Common.{ap, ◌∙◌}
+use Rattle.oer_codec_encoder_frames.specs.Holding.{shown}
 use Rattle.oer_codec_encoder.specs.Stepping.{Written}
-use Rattle.oer_codec_encoder.proofs.Scopes.{nothing_open}
+use Rattle.oer_codec_encoder_frames.proofs.Scopes.{nothing_open}
 use Rattle.oer_codec_encoder.proofs.encoder.Encoder.output.Goals as goal
 
 pub returns-clause-octets : goal.returns-clause-octets
 returns-clause-octets c f n =
-    let fs = reverse c.self.inside.frames.items in
+    let fs = c.self.inside.frames in
     let o = c.self.inside.output.now.items in
     let ready = ap (λ (w : Written). w.failed) c.self.view_is ∙ f in
     let state = ap (λ (w : Written). w.state) c.self.view_is in

@@ -7,10 +7,10 @@ use Rattle.per_codec_encoder.proofs.Stepped.{stays_sound, puts, is_refused}
 use Rattle.per_codec_encoder.proofs.encoder.EncoderEncoder.begin_choice.Goals as goal
 
 pub invariant_of-self-2 : goal.invariant_of-self-2
-invariant_of-self-2 c _ = stays_sound c.self.inside.aligned (choice_begins (map tag_of c.args.roots.now) c.args.extensible (map tag_of c.args.additions.now) c.args.chosen.added c.args.chosen.place) c.self.inside.frames.items c.begin_alternative.new.frames.items c.self.inside.output c.begin_alternative.new.output (c.self.invariant c.if-self.false) (c.in_ok-begin_alternative.ensures (map tag_of c.args.roots.now) (map tag_of c.args.additions.now) (length-map c.args.roots.now tag_of))
+invariant_of-self-2 c _ = stays_sound c.self.inside.aligned (choice_begins (map tag_of c.args.roots.now) c.args.extensible (map tag_of c.args.additions.now) c.args.chosen.added c.args.chosen.place) c.self.inside.frames c.begin_alternative.new.frames c.self.inside.output c.begin_alternative.new.output (c.self.invariant c.if-self.false) (c.in_ok-begin_alternative.ensures (map tag_of c.args.roots.now) (map tag_of c.args.additions.now) (length-map c.args.roots.now tag_of))
 
 pub returns-clause-ok : goal.returns-clause-ok
-returns-clause-ok c = puts c.self.inside.aligned (choice_begins (map tag_of c.args.roots.now) c.args.extensible (map tag_of c.args.additions.now) c.args.chosen.added c.args.chosen.place) c.self.inside.frames.items c.begin_alternative.new.frames.items c.self.inside.output c.begin_alternative.new.output c.self.inside.failed c.args.self.now c.self.view_is c.if-self.false (c.self.invariant c.if-self.false) (c.in_ok-begin_alternative.ensures (map tag_of c.args.roots.now) (map tag_of c.args.additions.now) (length-map c.args.roots.now tag_of))
+returns-clause-ok c = puts c.self.inside.aligned (choice_begins (map tag_of c.args.roots.now) c.args.extensible (map tag_of c.args.additions.now) c.args.chosen.added c.args.chosen.place) c.self.inside.frames c.begin_alternative.new.frames c.self.inside.output c.begin_alternative.new.output c.self.inside.failed c.args.self.now c.self.view_is c.if-self.false (c.self.invariant c.if-self.false) (c.in_ok-begin_alternative.ensures (map tag_of c.args.roots.now) (map tag_of c.args.additions.now) (length-map c.args.roots.now tag_of))
 
 pub returns-in_err-begin_alternative-clause-only : goal.returns-in_err-begin_alternative-clause-only
-returns-in_err-begin_alternative-clause-only c = raised _ _ _ c.from_residual.ensures.1 (is_refused c.self.inside.aligned (choice_begins (map tag_of c.args.roots.now) c.args.extensible (map tag_of c.args.additions.now) c.args.chosen.added c.args.chosen.place) c.self.inside.frames.items c.self.inside.output c.self.inside.failed c.args.self.now _ c.self.view_is (c.self.invariant c.if-self.false) (c.in_err-begin_alternative.ensures (map tag_of c.args.roots.now) (map tag_of c.args.additions.now) (length-map c.args.roots.now tag_of)))
+returns-in_err-begin_alternative-clause-only c = raised _ _ _ c.from_residual.ensures.1 (is_refused c.self.inside.aligned (choice_begins (map tag_of c.args.roots.now) c.args.extensible (map tag_of c.args.additions.now) c.args.chosen.added c.args.chosen.place) c.self.inside.frames c.self.inside.output c.self.inside.failed c.args.self.now _ c.self.view_is (c.self.invariant c.if-self.false) (c.in_err-begin_alternative.ensures (map tag_of c.args.roots.now) (map tag_of c.args.additions.now) (length-map c.args.roots.now tag_of)))

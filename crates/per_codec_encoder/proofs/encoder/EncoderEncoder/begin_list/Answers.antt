@@ -6,10 +6,10 @@ use Rattle.per_codec_encoder.proofs.Stepped.{stays_sound, puts, is_refused}
 use Rattle.per_codec_encoder.proofs.encoder.EncoderEncoder.begin_list.Goals as goal
 
 pub invariant_of-self-2 : goal.invariant_of-self-2
-invariant_of-self-2 c _ = stays_sound c.self.inside.aligned _ c.self.inside.frames.items c.begin_members.new.frames.items c.self.inside.output c.begin_members.new.output (c.self.invariant c.if-self.false) c.in_ok-begin_members.ensures
+invariant_of-self-2 c _ = stays_sound c.self.inside.aligned _ c.self.inside.frames c.begin_members.new.frames c.self.inside.output c.begin_members.new.output (c.self.invariant c.if-self.false) c.in_ok-begin_members.ensures
 
 pub returns-clause-ok : goal.returns-clause-ok
-returns-clause-ok c = puts c.self.inside.aligned _ c.self.inside.frames.items c.begin_members.new.frames.items c.self.inside.output c.begin_members.new.output c.self.inside.failed c.args.self.now c.self.view_is c.if-self.false (c.self.invariant c.if-self.false) c.in_ok-begin_members.ensures
+returns-clause-ok c = puts c.self.inside.aligned _ c.self.inside.frames c.begin_members.new.frames c.self.inside.output c.begin_members.new.output c.self.inside.failed c.args.self.now c.self.view_is c.if-self.false (c.self.invariant c.if-self.false) c.in_ok-begin_members.ensures
 
 pub returns-in_err-begin_members-clause-only : goal.returns-in_err-begin_members-clause-only
-returns-in_err-begin_members-clause-only c = raised _ _ _ c.from_residual.ensures.1 (is_refused c.self.inside.aligned (list_begins (sizes_of c.args.constraints.size) (members_of c.args.held) c.args.count) c.self.inside.frames.items c.self.inside.output c.self.inside.failed c.args.self.now _ c.self.view_is (c.self.invariant c.if-self.false) c.in_err-begin_members.ensures)
+returns-in_err-begin_members-clause-only c = raised _ _ _ c.from_residual.ensures.1 (is_refused c.self.inside.aligned (list_begins (sizes_of c.args.constraints.size) (members_of c.args.held) c.args.count) c.self.inside.frames c.self.inside.output c.self.inside.failed c.args.self.now _ c.self.view_is (c.self.invariant c.if-self.false) c.in_err-begin_members.ensures)

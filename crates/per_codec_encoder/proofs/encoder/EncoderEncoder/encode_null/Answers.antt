@@ -2,4 +2,4 @@ use Rattle.per_codec_encoder.proofs.Stepped.{made, nothing_added}
 use Rattle.per_codec_encoder.proofs.encoder.EncoderEncoder.encode_null.Goals as goal
 
 pub returns-clause-ok : goal.returns-clause-ok
-returns-clause-ok c = nothing_added (made c.self.inside.frames.items c.self.inside.output c.self.inside.aligned c.self.inside.failed) c.args.self.now c.self.view_is c.if-self.false
+returns-clause-ok c = nothing_added (made c.self.inside.frames c.self.inside.output c.self.inside.aligned c.self.inside.failed) c.args.self.now c.self.view_is c.if-self.false

@@ -30,7 +30,7 @@ loop-done-preserved c =
     one_piece bits c.other.inside.fills.items c.loop-done.from c.loop-done.done c.args.self.now c.loop-done.self c.loop-done.invariant c.index-fill.result.now more c.index-fill.ensures
     (bits_of c.split_at-in-loop-done.result.1) c.extend_from_bitslice.new.self c.align.new.self
     (c.split_at-in-loop-done.ensures.rest ∙ ap (drop c.loop-done.from) (c.split_at.ensures.front ∙ ap (take c.index-fill.result.now) c.as_bitslice-bits.ensures.bits))
-    c.in_ok-extend_from_bitslice.ensures.ok c.in_ok-align.ensures
+    c.in_ok-extend_from_bitslice.ensures.ok c.in_ok-align.ensures.ok
 
 pub returns : goal.returns
 returns c =

@@ -1,0 +1,92 @@
+# What the benchmarks share. A script that reads this file has set here to the folder bench, and work to a folder in which all is built.
+#
+# RT is the command that proves and builds, rt if it is not given; CC the compiler of C, clang; RUN a command that starts each program that is timed,
+# as taskset -c 3, and none is needed.
+set -e
+top=$here/..
+generated=
+mkdir -p "$work/crates"
+
+# The lines of crates.txt for these packages and for all that they use.
+reached() {
+    awk -v wanted="$*" '
+        function reach(name,   words, count, i) {
+            if (!(name in line) || (name in seen)) return
+            seen[name] = 1
+            count = split(uses[name], words, " ")
+            for (i = 1; i <= count; i++) reach(words[i])
+            print line[name]
+        }
+        /^[a-z]/ { split($0, parts, ":"); split(parts[1], words, " "); line[words[1]] = $0; uses[words[1]] = parts[2] }
+        END { count = split(wanted, names, " "); for (i = 1; i <= count; i++) reach(names[i]) }' "$top/crates.txt"
+}
+
+# take_packages NAME..: copies of these packages and of all that they use, and links to what is built of them where that is newer than the copy's; rt
+# makes such a folder anew when it builds.
+take_packages() {
+    reached "$@" > "$work/crates.txt"
+    for name in $(sed 's/[ :].*//' "$work/crates.txt"); do
+        from=$top/crates/$name
+        to=$work/crates/$name
+        mkdir -p "$to/out"
+        for part in src specs proofs; do
+            rm -rf "${to:?}/$part"
+            [ ! -d "$from/$part" ] || cp -r "$from/$part" "$to/$part"
+        done
+        if [ -e "$from/out/rlib/stamp" ] && { [ ! -e "$to/out/rlib/stamp" ] || [ "$from/out/rlib/stamp" -nt "$to/out/rlib/stamp" ]; }; then
+            rm -rf "$to/out/rlib"
+            cp -rl "$from/out/rlib" "$to/out/" 2> "$work/found" || cp -r "$from/out/rlib" "$to/out/"
+        fi
+    done
+}
+
+# make_package NAME USES MODULE=FILE..: a package of the benchmark's own, each of whose modules is a file below bench.
+make_package() {
+    name=$1
+    echo "$name: $2" >> "$work/crates.txt"
+    shift 2
+    rm -rf "${work:?}/crates/$name/src"
+    mkdir -p "$work/crates/$name/src"
+    for module in "$@"; do
+        cp "$here/${module#*=}" "$work/crates/$name/src/${module%%=*}.rt"
+    done
+}
+
+# compile FLAG.. FILE: the work in C.
+compile() {
+    ${CC:-clang} -O2 -o "$work/plain" "$@"
+}
+
+# generate FOLDER SCHEMA: the work in the code that asn1c generates of a schema, where asn1c is there.
+generate() {
+    command -v asn1c > "$work/found" || return 0
+    rm -rf "$work/generated"
+    mkdir -p "$work/generated"
+    (cd "$work/generated" && asn1c -gen-PER -fcompound-names "$1/$2" > log 2>&1 && rm -f converter-sample.c)
+    generated=$work/asn1c
+    ${CC:-clang} -O2 -w -I"$work/generated" -o "$generated" "$1/asn1c.c" "$work"/generated/*.c
+}
+
+# prove PROGRAM: proves a program of the benchmark, with all packages that are not built yet, and builds it.
+prove() {
+    (cd "$work/crates/$1" && ${RT:-rt} run -- nothing > "$work/first" 2> "$work/log") || { tail -20 "$work/log" >&2; exit 1; }
+}
+
+# timed WHO COMMAND..: the lines that a program says of its works, behind who says them.
+timed() {
+    who=$1
+    shift
+    $RUN "$@" > "$work/said" || { echo "$*: it failed" >&2; exit 1; }
+    sed "s/^/$who /" "$work/said" >> "$work/times"
+}
+
+# measure PROGRAM [WORD]: runs the work in C, in generated code and in the proved program, five times in turn, and prints the best times as a table.
+measure() {
+    : > "$work/times"
+    for round in 1 2 3 4 5; do
+        timed plain "$work/plain"
+        [ -z "$generated" ] || timed asn1c "$generated"
+        timed proved "$work/crates/$1/out/$1" $2
+    done
+    awk -f "$here/table.awk" "$work/times"
+}

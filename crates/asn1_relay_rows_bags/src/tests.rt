@@ -1,0 +1,165 @@
+//! Bags and lists, sent from each set of rules to each (X.691 20, 22 and X.696 17, 19).
+use asn1_relay_core::{Codec, recode};
+use asn1_relay_rows::{Row, is_carried, is_right};
+use asn1_relay_types::{Bag, Small};
+use asn1_schema_bags::SetOf;
+use asn1_values_numbers::Integer;
+use std::alloc::{AllocError, Global};
+use std::test::Fail;
+
+#[test]
+fn bags(rt: HostRuntime) -> Result<(), Fail> {
+    let rows = [
+        Row {
+            uper: &[0x03, 0x01, 0x02, 0x03],
+            aper: &[0x03, 0x01, 0x02, 0x03],
+            octets: &[0x01, 0x03, 0x01, 0x02, 0x03],
+        },
+        Row {
+            uper: &[0x00],
+            aper: &[0x00],
+            octets: &[0x01, 0x00],
+        },
+    ];
+    for row in &rows {
+        assert!(rt; is_right::<Bag>(rt.alloc(), row)?, "{:?}", row.octets);
+    }
+    Ok(())
+}
+
+#[test]
+fn members_come_in_any_order(rt: HostRuntime) -> Result<(), Fail> {
+    let row = Row {
+        uper: &[0x03, 0x01, 0x02, 0x03],
+        aper: &[0x03, 0x01, 0x02, 0x03],
+        octets: &[0x01, 0x03, 0x01, 0x02, 0x03],
+    };
+    let readings: [(Codec, &[u8]); 4] = [
+        (Codec::Oer, &[0x01, 0x03, 0x03, 0x01, 0x02]),
+        (Codec::Coer, &[0x01, 0x03, 0x02, 0x03, 0x01]),
+        (Codec::Uper, &[0x03, 0x03, 0x01, 0x02]),
+        (Codec::Aper, &[0x03, 0x02, 0x03, 0x01]),
+    ];
+    for (codec, octets) in readings {
+        assert!(rt;
+            is_carried::<Bag>(rt.alloc(), codec, octets, &row)?,
+            "{octets:?}"
+        );
+    }
+    Ok(())
+}
+
+/// A bag that is handed in is written in the order of its members' encodings, whatever order they came in.
+#[test]
+fn members_are_handed_in_any_order(rt: HostRuntime) -> Result<(), Fail> {
+    let alloc = rt.alloc();
+    for members in [[3u8, 1, 2], [2, 3, 1]] {
+        let bag = Bag::from_vec(Vec::from_array(alloc, members)?);
+        for codec in [Codec::Uper, Codec::Aper] {
+            assert_eq!(rt;
+                codec.encode(alloc, &bag)?.as_slice(),
+                [3u8, 1, 2, 3].as_slice()
+            );
+        }
+        for codec in [Codec::Oer, Codec::Coer] {
+            assert_eq!(rt;
+                codec.encode(alloc, &bag)?.as_slice(),
+                [1u8, 3, 1, 2, 3].as_slice()
+            );
+        }
+    }
+    Ok(())
+}
+
+/// The members -1 and 1, of which the encodings ascend in the packed rules, and those of 1 and -1 in the others.
+#[test]
+fn an_order_of_its_own_in_each_set_of_rules(rt: HostRuntime) -> Result<(), Fail> {
+    let row = Row {
+        uper: &[0x02, 0x46],
+        aper: &[0x02, 0x46],
+        octets: &[0x01, 0x02, 0x01, 0xFF],
+    };
+    assert!(rt; is_right::<SetOf<Small>>(rt.alloc(), &row)?);
+    Ok(())
+}
+
+#[test]
+fn members_of_any_size(rt: HostRuntime) -> Result<(), Fail> {
+    let row = Row {
+        uper: &[0x03, 0x01, 0x01, 0x01, 0xFF, 0x02, 0x01, 0x00],
+        aper: &[0x03, 0x01, 0x01, 0x01, 0xFF, 0x02, 0x01, 0x00],
+        octets: &[0x01, 0x03, 0x01, 0x01, 0x01, 0xFF, 0x02, 0x01, 0x00],
+    };
+    assert!(rt; is_right::<SetOf<Integer>>(rt.alloc(), &row)?);
+    Ok(())
+}
+
+/// The members count, and take no octets.
+#[test]
+fn nulls_in_a_fragment(rt: HostRuntime) -> Result<(), Fail> {
+    let row = Row {
+        uper: &[0xC4, 0x00],
+        aper: &[0xC4, 0x00],
+        octets: &[0x03, 0x01, 0x00, 0x00],
+    };
+    assert!(rt; is_right::<Vec<()>>(rt.alloc(), &row)?);
+    Ok(())
+}
+
+/// The numbers 0 to 249, over and over, 100000 in all.
+fn in_turn(alloc: Global) -> Result<Vec<u8>, AllocError> {
+    let mut members = Vec::new(alloc);
+    for _ in 0..400 {
+        for number in 0..250u8 {
+            members.push(number)?;
+        }
+    }
+    Ok(members)
+}
+
+/// The same numbers in ascending order.
+fn in_order(alloc: Global) -> Result<Vec<u8>, AllocError> {
+    let mut members = Vec::new(alloc);
+    for number in 0..250u8 {
+        for _ in 0..400 {
+            members.push(number)?;
+        }
+    }
+    Ok(members)
+}
+
+/// A list of 100000 members in the octet rules: its length in octets, its number of members, and these.
+fn with_its_count(alloc: Global, members: &[u8]) -> Result<Vec<u8>, AllocError> {
+    let mut octets = vec![in alloc; 0x03u8, 0x01, 0x86, 0xA0]?;
+    octets.extend_from_slice(members)?;
+    Ok(octets)
+}
+
+/// The same in the packed rules: 65536, 32768 and 1696 members, each time behind their number.
+fn in_fragments(alloc: Global, members: &[u8]) -> Result<Vec<u8>, AllocError> {
+    let mut octets = Vec::new(alloc);
+    for (place, member) in members.iter().enumerate() {
+        match place {
+            0 => octets.push(0xC4)?,
+            65536 => octets.push(0xC2)?,
+            98304 => octets.extend_from_slice(&[0x86, 0xA0])?,
+            _ => {}
+        }
+        octets.push(*member)?;
+    }
+    Ok(octets)
+}
+
+#[test]
+fn a_bag_of_100000_members(rt: HostRuntime) -> Result<(), Fail> {
+    let alloc = rt.alloc();
+    let input = with_its_count(alloc, &in_turn(alloc)?)?;
+    let ordered = in_order(alloc)?;
+    let octets = with_its_count(alloc, &ordered)?;
+    let packed = in_fragments(alloc, &ordered)?;
+    assert!(rt; recode::<Bag>(alloc, Codec::Oer, Codec::Coer, &input)? == octets);
+    assert!(rt; recode::<Bag>(alloc, Codec::Coer, Codec::Uper, &input)? == packed);
+    assert!(rt; recode::<Bag>(alloc, Codec::Uper, Codec::Aper, &packed)? == packed);
+    assert!(rt; recode::<Bag>(alloc, Codec::Aper, Codec::Oer, &packed)? == octets);
+    Ok(())
+}

@@ -1,0 +1,4 @@
+//! The plain codec: it keeps the records of a value as they are, and reads them back.
+
+pub use asn1_schema_records::{Item, Limits, RecordEncoder, Sizes};
+pub use asn1_schema_records_reading::RecordDecoder;

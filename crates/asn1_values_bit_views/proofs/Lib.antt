@@ -1,0 +1,10 @@
+pub mod Binary
+pub mod Packed
+pub mod Reading
+pub mod Views
+pub mod Comparing
+pub mod Oring
+pub mod Leading
+pub mod Whole
+pub mod Window
+pub mod Shifting

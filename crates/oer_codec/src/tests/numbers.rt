@@ -1,0 +1,171 @@
+//! Whole numbers (X.696 10).
+use super::{
+    both_refuse, both_refuse_under, is_read_by_basic_rules_alone, stands_as, stands_under,
+};
+use crate::coer;
+use asn1_schema_bounds::Bounded;
+use asn1_schema_constraints::{Constraint, Constraints, Extensible, Value};
+use asn1_schema_faults::{DecodeError, EncodeError};
+use asn1_values_numbers::Integer;
+use std::alloc::Global;
+use std::test::Fail;
+
+/// A number, and its canonical octets.
+#[derive(Clone, Copy)]
+struct Row {
+    number: i128,
+    octets: &'static [u8],
+}
+
+/// The constraint to numbers between two bounds.
+fn between(low: i128, high: i128) -> Constraint<'static> {
+    Constraint::Value(Extensible::new(Value::new(Bounded::const_new(low, high))))
+}
+
+#[test]
+fn numbers_without_bounds(rt: HostRuntime) -> Result<(), Fail> {
+    let rows = [
+        Row {
+            number: 0,
+            octets: &[0x01, 0x00],
+        },
+        Row {
+            number: -1,
+            octets: &[0x01, 0xFF],
+        },
+        Row {
+            number: 255,
+            octets: &[0x02, 0x00, 0xFF],
+        },
+        Row {
+            number: -255,
+            octets: &[0x02, 0xFF, 0x01],
+        },
+        Row {
+            number: 4096,
+            octets: &[0x02, 0x10, 0x00],
+        },
+        Row {
+            number: -32768,
+            octets: &[0x02, 0x80, 0x00],
+        },
+        Row {
+            number: 32768,
+            octets: &[0x03, 0x00, 0x80, 0x00],
+        },
+        Row {
+            number: -32769,
+            octets: &[0x03, 0xFF, 0x7F, 0xFF],
+        },
+        Row {
+            number: -1234567,
+            octets: &[0x03, 0xED, 0x29, 0x79],
+        },
+    ];
+    for row in rows {
+        assert!(rt; stands_as(rt.alloc(), &Integer::from(row.number), row.octets)?);
+    }
+    Ok(())
+}
+
+#[test]
+fn numbers_past_128_bits(rt: HostRuntime) -> Result<(), Fail> {
+    let alloc = rt.alloc();
+    let mut above = [0x00u8; 18];
+    above[0] = 0x11;
+    above[2] = 0x80;
+    let number = Integer::from_signed_octets(alloc, &above[1..])?;
+    assert!(rt; stands_as(alloc, &number, &above)?);
+    let mut below = [0xFFu8; 18];
+    below[0] = 0x11;
+    below[2] = 0x7F;
+    let number = Integer::from_signed_octets(alloc, &below[1..])?;
+    assert!(rt; stands_as(alloc, &number, &below)?);
+    let mut far = [0xFFu8; 130];
+    far[0] = 0x81;
+    far[1] = 0x80;
+    far[2] = 0x00;
+    let number = Integer::from_signed_octets(alloc, &far[2..])?;
+    assert!(rt; stands_as(alloc, &number, &far)?);
+    Ok(())
+}
+
+/// Whether a number between two bounds has these octets.
+fn is_bounded(
+    alloc: Global,
+    low: i128,
+    high: i128,
+    number: i128,
+    octets: &[u8],
+) -> Result<bool, Fail> {
+    stands_under(alloc, between(low, high), &Integer::from(number), octets)
+}
+
+#[test]
+fn bounds_fix_the_octets(rt: HostRuntime) -> Result<(), Fail> {
+    let alloc = rt.alloc();
+    assert!(rt; is_bounded(alloc, 0, 65535, 255, &[0x00, 0xFF])?);
+    assert!(rt; is_bounded(alloc, 0, 4294967295, 65535, &[0x00, 0x00, 0xFF, 0xFF])?);
+    let eight = [0x00, 0x00, 0x00, 0x00, 0xFF, 0xFF, 0xFF, 0xFF];
+    assert!(rt; is_bounded(alloc, 0, u64::MAX as i128, 4294967295, &eight)?);
+    let counted = [0x09, 0x01, 0x00, 0x00, 0x00, 0x00, 0x00, 0x00, 0x00, 0x00];
+    assert!(rt; is_bounded(alloc, 0, i128::MAX, 18446744073709551616, &counted)?);
+    assert!(rt; is_bounded(alloc, -128, 127, -128, &[0x80])?);
+    assert!(rt; is_bounded(alloc, -32768, 32767, -128, &[0xFF, 0x80])?);
+    assert!(rt; is_bounded(alloc, 2, 65535, 2, &[0x00, 0x02])?);
+    assert!(rt; is_bounded(alloc, 5, 5, 5, &[0x05])?);
+    assert!(rt; is_bounded(alloc, -5, 5, -4, &[0xFC])?);
+    assert!(rt; is_bounded(alloc, 256, 1234567, 256, &[0x00, 0x00, 0x01, 0x00])?);
+    assert!(rt; is_bounded(alloc, 256, 1234567, 1234567, &[0x00, 0x12, 0xD6, 0x87])?);
+    Ok(())
+}
+
+#[test]
+fn numbers_past_their_type_are_refused(rt: HostRuntime) {
+    let octet = Value::new(Bounded::const_new(0, 255));
+    let marked = Constraint::Value(Extensible::new(octet).set_extensible(true));
+    let past = DecodeError::IntegerOverflow;
+    assert!(rt; both_refuse_under::<u8>(rt.alloc(), marked, &[0x02, 0x01, 0x2C], past));
+}
+
+/// Why the canonical rules refuse a number between two bounds.
+fn refusal(alloc: Global, low: i128, high: i128, octets: &[u8]) -> Option<DecodeError> {
+    let list = [between(low, high)];
+    coer::decode_with_constraints::<Integer>(alloc, Constraints::new(&list), octets).err()
+}
+
+#[test]
+fn padded_numbers_are_not_canonical(rt: HostRuntime) -> Result<(), Fail> {
+    let alloc = rt.alloc();
+    let padded = DecodeError::NotValidCanonicalEncoding;
+    let number = Integer::from(-1);
+    assert!(rt; is_read_by_basic_rules_alone(alloc, &number, &[0x02, 0xFF, 0xFF], padded)?);
+    let number = Integer::from(0);
+    assert!(rt; is_read_by_basic_rules_alone(alloc, &number, &[0x02, 0x00, 0x00], padded)?);
+    let past = 18446744073709551616;
+    assert_eq!(rt; refusal(alloc, 0, past, &[0x02, 0x00, 0xFF]), Some(padded));
+    let (low, high) = (-9223372036854775809, 9223372036854775808);
+    assert_eq!(rt;
+        refusal(alloc, low, high, &[0x02, 0x00, 0x7F]),
+        Some(padded)
+    );
+    assert_eq!(rt;
+        refusal(alloc, low, high, &[0x02, 0xFF, 0xFF]),
+        Some(padded)
+    );
+    Ok(())
+}
+
+#[test]
+fn numbers_outside_their_bounds_are_refused(rt: HostRuntime) {
+    let alloc = rt.alloc();
+    let outside = Some(DecodeError::ValueConstraintNotSatisfied);
+    assert_eq!(rt; refusal(alloc, -5, 5, &[0x06]), outside);
+    let mut past = [0x00u8; 18];
+    past[0] = 0x11;
+    past[1] = 0x01;
+    assert!(rt; both_refuse::<u128>(alloc, &past, DecodeError::ValueConstraintNotSatisfied));
+    let list = [between(5, 5)];
+    let written = coer::encode_with_constraints(alloc, Constraints::new(&list), &6u8).err();
+    assert_eq!(rt; written, Some(EncodeError::ValueConstraintNotSatisfied));
+}

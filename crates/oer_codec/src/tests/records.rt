@@ -1,0 +1,95 @@
+//! Sequences, record by record (X.696 16).
+use crate::coer::{Decoder, DecoderOptions, Encoder, EncoderOptions};
+use asn1_schema_decode::{Decode, Decoder as Reading};
+use asn1_schema_encode::{Encode, Encoder as Writing};
+use asn1_schema_faults::{DecodeError, EncodeError};
+use asn1_schema_tags::Tag;
+use asn1_values_numbers::Integer;
+use std::alloc::Global;
+use std::test::Fail;
+
+/// SEQUENCE {a INTEGER, b SEQUENCE {a INTEGER, b SEQUENCE {a INTEGER, b INTEGER OPTIONAL} OPTIONAL}} 1, 2, 3, 4.
+fn write_nested<E: Writing>(encoder: &mut E) -> Result<(), EncodeError> {
+    encoder.begin_sequence(Tag::SEQUENCE, false, 0)?;
+    Integer::from(1).encode(encoder)?;
+    encoder.begin_sequence(Tag::SEQUENCE, false, 1)?;
+    Integer::from(2).encode(encoder)?;
+    encoder.put_mark(true)?;
+    encoder.begin_sequence(Tag::SEQUENCE, false, 1)?;
+    Integer::from(3).encode(encoder)?;
+    encoder.put_mark(true)?;
+    Integer::from(4).encode(encoder)?;
+    encoder.end()?;
+    encoder.end()?;
+    encoder.end()
+}
+
+/// SEQUENCE of an INTEGER and twelve OPTIONAL ones, 1; the 1st, 5th and 9th 1.
+fn write_twelve<E: Writing>(encoder: &mut E) -> Result<(), EncodeError> {
+    encoder.begin_sequence(Tag::SEQUENCE, false, 12)?;
+    Integer::from(1).encode(encoder)?;
+    for place in 0..12 {
+        encoder.put_mark(place % 4 == 0)?;
+        if place % 4 == 0 {
+            Integer::from(1).encode(encoder)?;
+        }
+    }
+    encoder.end()
+}
+
+/// Whether the next number is this one.
+fn is_next(alloc: Global, decoder: &mut Decoder<'_>, number: i64) -> Result<bool, DecodeError> {
+    Ok(Integer::decode(alloc, decoder)? == Integer::from(number))
+}
+
+/// Whether the nested ones are read.
+fn reads_nested(alloc: Global, octets: &[u8]) -> Result<bool, DecodeError> {
+    let mut decoder = Decoder::new(alloc, octets, DecoderOptions::coer());
+    decoder.begin_sequence(Tag::SEQUENCE, false, 0)?;
+    let first = is_next(alloc, &mut decoder, 1)?;
+    decoder.begin_sequence(Tag::SEQUENCE, false, 1)?;
+    let second = is_next(alloc, &mut decoder, 2)? && decoder.get_mark()?;
+    decoder.begin_sequence(Tag::SEQUENCE, false, 1)?;
+    let third = is_next(alloc, &mut decoder, 3)? && decoder.get_mark()?;
+    let fourth = is_next(alloc, &mut decoder, 4)?;
+    for _ in 0..3 {
+        decoder.end()?;
+    }
+    Ok(first && second && third && fourth && decoder.remaining().is_empty())
+}
+
+/// Whether the twelve are read, and as those of them that are there.
+fn reads_twelve(alloc: Global, octets: &[u8]) -> Result<bool, DecodeError> {
+    let mut decoder = Decoder::new(alloc, octets, DecoderOptions::coer());
+    decoder.begin_sequence(Tag::SEQUENCE, false, 12)?;
+    let mut all_right = is_next(alloc, &mut decoder, 1)?;
+    for place in 0..12 {
+        let present = decoder.get_mark()?;
+        if present {
+            all_right = all_right && is_next(alloc, &mut decoder, 1)?;
+        }
+        all_right = all_right && present == (place % 4 == 0);
+    }
+    decoder.end()?;
+    Ok(all_right && decoder.remaining().is_empty())
+}
+
+#[test]
+fn sequences_record_by_record(rt: HostRuntime) -> Result<(), Fail> {
+    let alloc = rt.alloc();
+    let mut buffer = Vec::new(alloc);
+    let mut worker = Vec::new(alloc);
+    let options = EncoderOptions::coer();
+    let mut encoder = Encoder::from_buffer(alloc, options, &mut buffer, &mut worker);
+    write_nested(&mut encoder)?;
+    let nested = encoder.output();
+    let octets = [0x01u8, 0x01, 0x80, 0x01, 0x02, 0x80, 0x01, 0x03, 0x01, 0x04];
+    assert_eq!(rt; nested.as_slice(), octets.as_slice());
+    assert!(rt; reads_nested(alloc, &octets)?);
+    write_twelve(&mut encoder)?;
+    let twelve = encoder.output();
+    let octets = [0x88u8, 0x80, 0x01, 0x01, 0x01, 0x01, 0x01, 0x01, 0x01, 0x01];
+    assert_eq!(rt; twelve.as_slice(), octets.as_slice());
+    assert!(rt; reads_twelve(alloc, &octets)?);
+    Ok(())
+}

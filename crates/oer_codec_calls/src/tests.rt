@@ -1,3 +1,0 @@
-//! Encodings from outside, and what the calls answer.
-mod measure;
-mod rows;

@@ -1,4 +1,0 @@
-//! Records that are found or refused, and why.
-mod additions;
-mod bags;
-mod choices;

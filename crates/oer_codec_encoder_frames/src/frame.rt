@@ -1,0 +1,63 @@
+//! What may be open.
+
+/// The preamble of a sequence, a set or a group of additions (X.696 16.2), whose presence bits are told one at a time.
+#[derive(Clone, Copy)]
+pub struct Preamble {
+    /// Whether it has a mark of extensibility.
+    pub extensible: bool,
+    /// How many presence bits are due.
+    pub due: usize,
+    /// How many were given.
+    pub given: usize,
+    /// Where it stands.
+    pub start: usize,
+    /// Where the components begin behind it.
+    pub content: usize,
+}
+
+/// The additions of a sequence or of a set (X.696 16.4 and 16.5), which are kept until it ends.
+#[derive(Drop)]
+pub struct Additions {
+    /// How many are due.
+    pub due: usize,
+    /// The preamble, of which no bit is due.
+    pub preamble: Preamble,
+    /// The octets up to the end of the root.
+    pub outer: Vec<u8>,
+    /// Each addition, behind its length, where it is there.
+    pub slots: Vec<Option<Vec<u8>>>,
+}
+
+/// A bag (X.696 19), of whose members the open one stands alone.
+#[derive(Drop)]
+pub struct Bag {
+    /// How many members are due.
+    pub due: usize,
+    /// The octets in front of the members.
+    pub outer: Vec<u8>,
+    /// The octets of each member in front of the open one, if one is open.
+    pub members: Option<Vec<Vec<u8>>>,
+}
+
+/// What is open.
+#[derive(Drop)]
+pub enum Frame {
+    /// A sequence, a set, or a group of additions.
+    Components(Preamble),
+    /// A sequence or a set behind its root.
+    Added(Additions),
+    /// An addition or an added alternative, whose octets stand alone.
+    OpenType {
+        /// The octets in front of it.
+        outer: Vec<u8>,
+    },
+    /// A list.
+    Members {
+        /// How many members are due.
+        due: usize,
+    },
+    /// A bag.
+    Bag(Bag),
+    /// An alternative of the root of a choice.
+    Alternative,
+}

@@ -1,0 +1,20 @@
+//! What is open in an encoder of the octet encoding rules (X.696): sequences, sets and groups, lists, bags, additions and alternatives.
+#![tactic(auto)]
+
+mod additions;
+mod alternatives;
+mod bags;
+mod bitmaps;
+mod ends;
+mod frame;
+mod frames;
+mod room;
+mod sequences;
+
+pub use additions::{begin_additions, end_addition, put_addition};
+pub use alternatives::begin_choice;
+pub use bags::begin_bag;
+pub use ends::end_scope;
+pub use frame::{Additions, Bag, Frame, Preamble};
+pub use frames::Frames;
+pub use sequences::{begin_components, begin_members, put_mark};

@@ -1,0 +1,4 @@
+pub mod Freedoms
+pub mod Fronts
+pub mod Rooms
+pub mod LengthFronts

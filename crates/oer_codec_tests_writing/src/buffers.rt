@@ -1,0 +1,99 @@
+//! Rows of the calls that write.
+use asn1_schema_bounds::Bounded;
+use asn1_schema_constraints::{Constraint, Constraints, Extensible, Size, Value};
+use asn1_schema_faults::EncodeError;
+use asn1_values_numbers::Integer;
+use asn1_values_octets::OctetString;
+use oer_codec_output::{encode, encode_buf, encode_with_constraints};
+use std::alloc::Global;
+use std::test::Fail;
+
+/// The encoding of a number without bounds.
+fn number(alloc: Global, value: i64) -> Result<Vec<u8>, EncodeError> {
+    encode(alloc, &Integer::from(value))
+}
+
+/// The encoding of a number between two bounds.
+fn between(alloc: Global, value: u16, low: i128, high: i128) -> Result<Vec<u8>, EncodeError> {
+    let bounds = Value::new(Bounded::const_new(low, high));
+    let constraint = Constraint::Value(Extensible::new(bounds));
+    encode_with_constraints(alloc, Constraints::new(&[constraint]), &value)
+}
+
+/// The encoding of octets under SIZE (3..6).
+fn three_to_six(alloc: Global, octets: &[u8]) -> Result<Vec<u8>, EncodeError> {
+    let size = Size::new(Bounded::const_new(3, 6));
+    let constraint = Constraint::Size(Extensible::new(size));
+    let octets = OctetString::from_slice(alloc, octets)?;
+    encode_with_constraints(alloc, Constraints::new(&[constraint]), &octets)
+}
+
+#[test]
+fn numbers_in_the_fewest_octets(rt: HostRuntime) -> Result<(), Fail> {
+    let alloc = rt.alloc();
+    assert_eq!(rt; number(alloc, 0)?.as_slice(), [0x01u8, 0x00].as_slice());
+    assert_eq!(rt; number(alloc, -1)?.as_slice(), [0x01u8, 0xFF].as_slice());
+    assert_eq!(rt;
+        number(alloc, 255)?.as_slice(),
+        [0x02u8, 0x00, 0xFF].as_slice()
+    );
+    assert_eq!(rt;
+        number(alloc, -32768)?.as_slice(),
+        [0x02u8, 0x80, 0x00].as_slice()
+    );
+    assert_eq!(rt;
+        number(alloc, 32768)?.as_slice(),
+        [0x03u8, 0x00, 0x80, 0x00].as_slice()
+    );
+    assert_eq!(rt;
+        number(alloc, -32769)?.as_slice(),
+        [0x03u8, 0xFF, 0x7F, 0xFF].as_slice()
+    );
+    Ok(())
+}
+
+#[test]
+fn numbers_within_bounds(rt: HostRuntime) -> Result<(), Fail> {
+    let alloc = rt.alloc();
+    assert_eq!(rt;
+        encode(alloc, &65535u32)?.as_slice(),
+        [0x00u8, 0x00, 0xFF, 0xFF].as_slice()
+    );
+    assert_eq!(rt; encode(alloc, &-128i8)?.as_slice(), [0x80u8].as_slice());
+    assert_eq!(rt;
+        encode(alloc, &-128i16)?.as_slice(),
+        [0xFFu8, 0x80].as_slice()
+    );
+    assert_eq!(rt;
+        between(alloc, 2, 2, 65535)?.as_slice(),
+        [0x00u8, 0x02].as_slice()
+    );
+    assert_eq!(rt; between(alloc, 5, 5, 5)?.as_slice(), [0x05u8].as_slice());
+    Ok(())
+}
+
+#[test]
+fn a_number_outside_its_bounds_is_refused(rt: HostRuntime) {
+    assert!(rt; between(rt.alloc(), 6, 5, 5).is_err());
+}
+
+#[test]
+fn octets_within_their_size(rt: HostRuntime) -> Result<(), Fail> {
+    let alloc = rt.alloc();
+    assert_eq!(rt;
+        three_to_six(alloc, &[1, 2, 3, 4, 5])?.as_slice(),
+        [0x05u8, 0x01, 0x02, 0x03, 0x04, 0x05].as_slice()
+    );
+    assert!(rt; three_to_six(alloc, &[1, 2]).is_err());
+    assert!(rt; three_to_six(alloc, &[1, 2, 3, 4, 5, 6, 7]).is_err());
+    Ok(())
+}
+
+#[test]
+fn truth_behind_an_octet(rt: HostRuntime) -> Result<(), Fail> {
+    let alloc = rt.alloc();
+    let mut buffer = vec![in alloc; 0xAAu8]?;
+    encode_buf(alloc, &true, &mut buffer)?;
+    assert_eq!(rt; buffer.as_slice(), [0xAAu8, 0xFF].as_slice());
+    Ok(())
+}

@@ -1,0 +1,73 @@
+//! What is open, from the outermost on.
+ghost use Rattle.std.specs.Prelude.{◌≡◌, ◌++◌, ◌∷◌, [], OnOk, IsSome, option_to_list};
+
+use crate::frame::Frame;
+use std::alloc::{AllocError, Global};
+use std::marker::Model;
+use std::mem;
+
+/// What is open, from the outermost on. The innermost stands apart from those around it, so that no memory is taken before one is opened within
+/// another.
+#[derive(Drop)]
+pub struct Frames {
+    pub(crate) innermost: Option<Frame>,
+    outer: Vec<Frame>,
+}
+
+impl Model for Frames {
+    ghost use Rattle.std.specs.Prelude.{◌≡◌, ◌++◌, List, [], None, option_to_list};
+    ghost use Rattle.per_codec_encoder_frames.specs.declared.frame.Frame.{Frame};
+
+    ghost Value = { List Frame };
+
+    ghost view = { λ f. f.outer.items ++ option_to_list f.innermost };
+
+    ghost invariant = { λ f. f.innermost ≡ None → f.outer.items ≡ [] };
+}
+
+impl Frames {
+    /// Nothing is open. It takes no memory before something is opened within another.
+    pub fn new(alloc: Global) -> Self
+        ensures { result ≡ [] }
+    {
+        Frames {
+            innermost: None,
+            outer: Vec::new(alloc),
+        }
+    }
+
+    /// Leaves nothing open.
+    pub fn clear(&mut self)
+        ensures { self.new ≡ [] }
+    {
+        self.innermost = None;
+        self.outer.clear();
+    }
+
+    /// Opens a frame within what is innermost, which is let go where memory is refused.
+    #[inline]
+    pub(crate) fn push(&mut self, frame: Frame) -> Result<(), AllocError>
+        ensures items { OnOk result (self.new ≡ self.old ++ frame ∷ []) }
+    {
+        if self.innermost.is_none() {
+            self.innermost = Some(frame);
+            return Ok(());
+        }
+        if let Some(outer) = self.innermost.replace(frame) {
+            self.outer.push(outer)?;
+        }
+        Ok(())
+    }
+
+    /// Takes what is innermost, if something is open.
+    #[inline]
+    pub(crate) fn pop(&mut self) -> Option<Frame>
+        ensures items { self.old ≡ self.new ++ option_to_list result }
+        ensures none { result ≡ None → self.old ≡ [] }
+    {
+        if self.outer.is_empty() {
+            return self.innermost.take();
+        }
+        mem::replace(&mut self.innermost, self.outer.pop())
+    }
+}

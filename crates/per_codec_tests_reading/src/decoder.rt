@@ -1,0 +1,129 @@
+//! What the calls of the decoder find in encodings of X.691.
+use asn1_schema_bounds::Bounded;
+use asn1_schema_constraints::Constraints;
+use asn1_schema_decode::{Decoder as _, ReadOctets};
+use asn1_schema_faults::DecodeError;
+use asn1_schema_tags::Tag;
+use per_codec::uper::{Decoder, DecoderOptions};
+use std::alloc::{AllocError, Global};
+use std::test::Fail;
+
+#[test]
+fn an_unknown_addition_is_passed_over(rt: HostRuntime) -> Result<(), Fail> {
+    let input = [0xC0, 0xE0, 0x20, 0xE0, 0x35, 0x40];
+    let mut decoder = Decoder::new(rt.alloc(), &input, DecoderOptions::unaligned());
+    decoder.begin_sequence(Tag::SEQUENCE, true, 0)?;
+    assert!(rt; decoder.decode_bool(Tag::BOOL)?);
+    decoder.begin_additions(1)?;
+    assert!(rt; decoder.get_addition()?);
+    assert!(rt; decoder.decode_bool(Tag::BOOL) == Ok(false));
+    decoder.end_addition()?;
+    decoder.end()?;
+    decoder.finish()?;
+    Ok(())
+}
+
+#[test]
+fn a_bitmap_may_have_no_bits(rt: HostRuntime) -> Result<(), Fail> {
+    let input = [0xE0, 0x00];
+    let mut decoder = Decoder::new(rt.alloc(), &input, DecoderOptions::unaligned());
+    decoder.begin_sequence(Tag::SEQUENCE, true, 0)?;
+    assert!(rt; decoder.decode_bool(Tag::BOOL)?);
+    decoder.begin_additions(1)?;
+    assert!(rt; !decoder.get_addition()?);
+    decoder.end()?;
+    decoder.finish()?;
+    Ok(())
+}
+
+#[test]
+fn a_group_may_be_empty(rt: HostRuntime) -> Result<(), Fail> {
+    let input = [0xC0, 0x40, 0x40, 0x00];
+    let mut decoder = Decoder::new(rt.alloc(), &input, DecoderOptions::unaligned());
+    decoder.begin_sequence(Tag::SEQUENCE, true, 0)?;
+    assert!(rt; decoder.decode_bool(Tag::BOOL)?);
+    decoder.begin_additions(1)?;
+    assert!(rt; decoder.get_addition()?);
+    decoder.begin_group(1)?;
+    assert!(rt; !decoder.get_mark()?);
+    decoder.end()?;
+    decoder.note_empty()?;
+    decoder.end_addition()?;
+    decoder.end()?;
+    decoder.finish()?;
+    Ok(())
+}
+
+#[test]
+fn a_choice_has_its_place_in_front(rt: HostRuntime) -> Result<(), Fail> {
+    let input = [0xC2, 0x40];
+    let mut decoder = Decoder::new(rt.alloc(), &input, DecoderOptions::unaligned());
+    let tags = [Tag::new_context(1), Tag::new_context(7)];
+    decoder.begin_set(Tag::SET, false, 0)?;
+    let chosen = decoder.begin_choice(Tag::EOC, &tags, false, &[])?;
+    assert!(rt; !chosen.added && chosen.place == 1);
+    assert!(rt; decoder.decode_bool(Tag::BOOL)?);
+    decoder.end()?;
+    Ok(())
+}
+
+#[test]
+fn there_is_no_such_alternative(rt: HostRuntime) -> Result<(), Fail> {
+    let input = [0xC0];
+    let mut decoder = Decoder::new(rt.alloc(), &input, DecoderOptions::unaligned());
+    let tags = [
+        Tag::new_context(0),
+        Tag::new_context(1),
+        Tag::new_context(2),
+    ];
+    let chosen = decoder.begin_choice(Tag::EOC, &tags, false, &[]);
+    assert!(rt; chosen.err() == Some(DecodeError::InvalidTagVariantOnChoice));
+    assert!(rt; decoder.end().err() == Some(DecodeError::AlreadyFailed));
+    Ok(())
+}
+
+/// SEQUENCE {..., s OCTET STRING} in the aligned variant, s of 16382 octets, whose open type stands in a fragment.
+fn in_a_fragment(alloc: Global) -> Result<Vec<u8>, AllocError> {
+    let mut message = Vec::new(alloc);
+    message.push(0x80)?;
+    message.push(0x80)?;
+    message.push(0xC1)?;
+    message.push(0xBF)?;
+    message.push(0xFE)?;
+    message.resize(16387, 0x5A)?;
+    message.push(0x00)?;
+    Ok(message)
+}
+
+#[test]
+fn an_open_type_may_stand_in_fragments(rt: HostRuntime) -> Result<(), Fail> {
+    let alloc = rt.alloc();
+    let message = in_a_fragment(alloc)?;
+    let mut decoder = Decoder::new(alloc, message.as_slice(), DecoderOptions::aligned());
+    decoder.begin_sequence(Tag::SEQUENCE, true, 0)?;
+    decoder.begin_additions(1)?;
+    assert!(rt; decoder.get_addition()?);
+    let octets = decoder.decode_octet_string(
+        alloc,
+        Tag::OCTET_STRING,
+        Constraints::NONE,
+        Bounded::None,
+    )?;
+    assert_eq!(rt; octets.octets().len(), 16382);
+    decoder.end_addition()?;
+    decoder.end()?;
+    decoder.finish()?;
+    Ok(())
+}
+
+#[test]
+fn unknown_additions_may_stand_in_fragments(rt: HostRuntime) -> Result<(), Fail> {
+    let alloc = rt.alloc();
+    let message = in_a_fragment(alloc)?;
+    let mut decoder = Decoder::new(alloc, message.as_slice(), DecoderOptions::aligned());
+    decoder.begin_sequence(Tag::SEQUENCE, true, 0)?;
+    decoder.begin_additions(0)?;
+    decoder.end()?;
+    decoder.finish()?;
+    Ok(())
+}
