@@ -93,6 +93,3 @@ pub fn recode<T: Encode + Decode>(
     }
     Ok(to.encode(alloc, &value)?)
 }
-
-#[cfg(test)]
-mod tests;

@@ -4,7 +4,3 @@
 pub mod chain;
 pub mod measure;
 pub mod setting;
-#[cfg(test)]
-mod tests;
-#[cfg(test)]
-mod tests_reading;

@@ -6,7 +6,5 @@ pub mod around;
 pub mod distant;
 pub mod scale;
 pub mod spaced;
-#[cfg(test)]
-mod tests;
 pub mod tint;
 pub mod versioned;

@@ -5,5 +5,3 @@ pub mod answer;
 pub mod colour;
 pub mod message;
 pub mod nest;
-#[cfg(test)]
-mod tests;

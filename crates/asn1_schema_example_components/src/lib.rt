@@ -10,5 +10,3 @@ pub mod offset;
 pub mod person;
 pub mod schedule;
 pub mod sizes;
-#[cfg(test)]
-mod tests;

@@ -8,5 +8,3 @@ pub mod new;
 pub mod octets;
 pub mod old;
 pub mod ordered;
-#[cfg(test)]
-mod tests;

@@ -6,5 +6,3 @@ pub mod control;
 pub mod gauge;
 pub mod grown;
 pub mod power;
-#[cfg(test)]
-mod tests;

@@ -6,6 +6,3 @@ mod ends;
 
 pub use constrained::{ConstrainedInteger, RangedInteger};
 pub use ends::{Between, Ends};
-
-#[cfg(test)]
-mod tests;

@@ -1,7 +1,7 @@
 //! The example, as it is read back from its records.
-use crate::setting::Setting;
 use asn1_schema_decode::{Decode, Decoder};
 use asn1_schema_encode::Encode;
+use asn1_schema_example::setting::Setting;
 use asn1_schema_faults::{CodecKind, DecodeError, EncodeError};
 use asn1_schema_records::{Item, RecordEncoder};
 use asn1_schema_records_reading::RecordDecoder;

@@ -1,5 +1,5 @@
 //! The rows: octets of one set of rules, and what stands for them in the others.
-use crate::{Codec, DecodeError, RecodeFault, recode};
+use asn1_relay_core::{Codec, DecodeError, RecodeFault, recode};
 use asn1_schema_decode::Decode;
 use asn1_schema_encode::Encode;
 use asn1_values_bit_strings::BitString;

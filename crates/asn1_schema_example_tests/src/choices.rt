@@ -1,7 +1,7 @@
 //! The items of enumerations, by their numbers, places and names.
-use crate::answer::Answer;
-use crate::colour::Colour;
 use asn1_schema_choices::NamedItems;
+use asn1_schema_example_choices::answer::Answer;
+use asn1_schema_example_choices::colour::Colour;
 use asn1_schema_variants::{Chosen, Enumerated};
 
 #[test]

@@ -1,10 +1,10 @@
 //! What no clause says: in which order components stand, and which of them are additions.
-use crate::control::Control;
-use crate::gauge::Gauge;
-use crate::grown::Grown;
-use crate::power::Power;
 use asn1_schema_choices::Choice;
 use asn1_schema_constructed::Constructed;
+use asn1_schema_example_sets::control::Control;
+use asn1_schema_example_sets::gauge::Gauge;
+use asn1_schema_example_sets::grown::Grown;
+use asn1_schema_example_sets::power::Power;
 use asn1_schema_fields::Fields;
 use asn1_schema_tags::Tag;
 use asn1_schema_types::AsnType;

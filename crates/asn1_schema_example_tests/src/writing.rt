@@ -1,7 +1,7 @@
 //! The example through the codec that keeps records.
-use crate::measure::Measure;
-use crate::setting::Setting;
 use asn1_schema_encode::{Encode, Encoder};
+use asn1_schema_example::measure::Measure;
+use asn1_schema_example::setting::Setting;
 use asn1_schema_faults::CodecKind;
 use asn1_schema_records::{Item, RecordEncoder};
 use asn1_values_numbers::Integer;

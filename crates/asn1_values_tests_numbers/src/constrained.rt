@@ -1,4 +1,5 @@
-use super::*;
+//! Whole numbers within a range.
+use asn1_values_constrained::ConstrainedInteger;
 use std::hash::{DefaultHasher, Hash, Hasher};
 use std::test::Fail;
 

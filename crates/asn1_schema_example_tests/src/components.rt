@@ -1,14 +1,14 @@
 //! What no clause says: which components may be absent, which are additions, and when a component is its default.
-use crate::blocks::Blocks;
-use crate::demand::Demand;
-use crate::noted::Noted;
-use crate::nothing::Nothing;
-use crate::offset::{Offset, Zero};
-use crate::person::Person;
-use crate::schedule::Schedule;
-use crate::sizes::{FourteenBits, ThreeOctets};
 use asn1_schema_components::DefaultOf;
 use asn1_schema_constructed::Constructed;
+use asn1_schema_example_components::blocks::Blocks;
+use asn1_schema_example_components::demand::Demand;
+use asn1_schema_example_components::noted::Noted;
+use asn1_schema_example_components::nothing::Nothing;
+use asn1_schema_example_components::offset::{Offset, Zero};
+use asn1_schema_example_components::person::Person;
+use asn1_schema_example_components::schedule::Schedule;
+use asn1_schema_example_components::sizes::{FourteenBits, ThreeOctets};
 use asn1_schema_fields::Fields;
 use asn1_schema_types::AsnType;
 use asn1_schema_wrapped::Implicit;

@@ -1,12 +1,12 @@
 //! What no clause says: that each call can succeed, and in which order components stand.
-use crate::extra::Extra;
-use crate::grouped::Grouped;
-use crate::new::New;
-use crate::octets::octets_of;
-use crate::old::Old;
-use crate::ordered::Ordered;
 use asn1_schema_additions::Group;
 use asn1_schema_constructed::Constructed;
+use asn1_schema_example_kinds::extra::Extra;
+use asn1_schema_example_kinds::grouped::Grouped;
+use asn1_schema_example_kinds::new::New;
+use asn1_schema_example_kinds::octets::octets_of;
+use asn1_schema_example_kinds::old::Old;
+use asn1_schema_example_kinds::ordered::Ordered;
 use std::test::Fail;
 
 #[test]

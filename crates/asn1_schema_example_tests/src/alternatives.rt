@@ -1,11 +1,11 @@
 //! The tags of choices, and the items of enumerations by their numbers and places.
-use crate::around::Around;
-use crate::distant::Distant;
-use crate::scale::Scale;
-use crate::spaced::Spaced;
-use crate::tint::Tint;
-use crate::versioned::Versioned;
 use asn1_schema_choices::{Alternatives, Choice};
+use asn1_schema_example_alternatives::around::Around;
+use asn1_schema_example_alternatives::distant::Distant;
+use asn1_schema_example_alternatives::scale::Scale;
+use asn1_schema_example_alternatives::spaced::Spaced;
+use asn1_schema_example_alternatives::tint::Tint;
+use asn1_schema_example_alternatives::versioned::Versioned;
 use asn1_schema_tags::Tag;
 use asn1_schema_types::AsnType;
 use asn1_schema_variants::{Chosen, Enumerated};
