@@ -15,6 +15,3 @@ pub mod units;
 pub mod widths;
 
 pub use oer_codec_reading_lengths::{Cursor, EncodingRules, lengths};
-
-#[cfg(test)]
-mod tests;

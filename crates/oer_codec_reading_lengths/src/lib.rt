@@ -11,6 +11,3 @@ pub mod rules;
 
 pub use cursor::Cursor;
 pub use rules::EncodingRules;
-
-#[cfg(test)]
-mod tests;

@@ -9,6 +9,3 @@ pub mod open_types;
 
 pub use bitmaps::{are_zero, read_bitmap};
 pub use open_types::{enter_open_type, leave_open_type, skip_additions};
-
-#[cfg(test)]
-mod tests;

@@ -10,6 +10,3 @@ pub mod texts;
 
 pub use characters::read_characters;
 pub use texts::read_utf8_string;
-
-#[cfg(test)]
-mod tests;

@@ -10,6 +10,3 @@ pub mod tags;
 
 pub use enumerated::read_enumerated;
 pub use tags::{find_tag, read_tag, visit_numbers};
-
-#[cfg(test)]
-mod tests;

@@ -6,6 +6,3 @@ mod tags;
 
 pub use items::push_item;
 pub use tags::push_tag;
-
-#[cfg(test)]
-mod tests;

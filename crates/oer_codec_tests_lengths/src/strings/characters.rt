@@ -1,12 +1,12 @@
 //! Character strings with an alphabet of their own.
 use super::{is_refused, of_size};
-use crate::read_characters;
 use asn1_schema_bounds::Bounded;
 use asn1_schema_faults::DecodeError;
 use asn1_values_alphabets::StaticPermittedAlphabet;
 use asn1_values_strings::{Ia5String, NumericString, VisibleString};
 use asn1_values_strings_wide::BmpString;
 use oer_codec_reading::{Cursor, EncodingRules};
+use oer_codec_reading_strings::read_characters;
 use std::alloc::Global;
 
 /// The string in front, under a size constraint.

@@ -1,9 +1,9 @@
 //! Strings of octets.
-use crate::octet_strings::read_octet_string;
-use crate::{Cursor, EncodingRules};
 use asn1_schema_bounds::Bounded;
 use asn1_schema_constraints::{Constraint, Constraints, Extensible, Size};
 use asn1_schema_faults::DecodeError;
+use oer_codec_reading::octet_strings::read_octet_string;
+use oer_codec_reading::{Cursor, EncodingRules};
 
 /// The octets in front, under a size constraint.
 fn octets<'input>(input: &'input [u8], size: Bounded<usize>) -> Result<&'input [u8], DecodeError> {

@@ -1,12 +1,12 @@
 //! Whole numbers, and counts.
-use crate::integers::read_integer;
-use crate::numbers::read_count;
-use crate::{Cursor, EncodingRules};
 use asn1_schema_bounds::Bounded;
 use asn1_schema_constraints::{Constraint, Constraints, Extensible, Value};
 use asn1_schema_faults::DecodeError;
 use asn1_values_integer_types::IntegerType;
 use asn1_values_numbers::Integer;
+use oer_codec_reading::integers::read_integer;
+use oer_codec_reading::numbers::read_count;
+use oer_codec_reading::{Cursor, EncodingRules};
 use std::alloc::Global;
 use std::process::Abort;
 

@@ -1,9 +1,9 @@
 //! Texts in UTF-8.
 use super::{is_refused, of_size};
-use crate::read_utf8_string;
 use asn1_schema_bounds::Bounded;
 use asn1_schema_faults::DecodeError;
 use oer_codec_reading::{Cursor, EncodingRules};
+use oer_codec_reading_strings::read_utf8_string;
 use std::alloc::Global;
 
 /// The text in front, under a size constraint.

@@ -1,7 +1,7 @@
 //! Lengths in one octet and in more.
-use crate::lengths::{read_counted, read_length};
-use crate::{Cursor, EncodingRules};
 use asn1_schema_faults::DecodeError;
+use oer_codec_reading_lengths::lengths::{read_counted, read_length};
+use oer_codec_reading_lengths::{Cursor, EncodingRules};
 
 /// The length in front.
 fn length(input: &[u8], rules: EncodingRules) -> Result<usize, DecodeError> {

@@ -1,6 +1,6 @@
-//! Octets of X.696 and of the standard's examples.
-use crate::{push_item, push_tag};
+//! Octets of X.696 and of the standard's examples, by the writers of tags and of items.
 use asn1_schema_tags::{Class, Tag};
+use oer_codec_writing_tags::{push_item, push_tag};
 use std::test::Fail;
 
 #[test]

@@ -1,7 +1,7 @@
 //! Items in one octet and in more.
-use crate::items::read_item;
 use asn1_schema_faults::DecodeError;
 use oer_codec_reading::{Cursor, EncodingRules};
+use oer_codec_reading_tags::items::read_item;
 
 /// The octets of the item in front.
 fn item(input: &[u8], rules: EncodingRules) -> Result<&[u8], DecodeError> {

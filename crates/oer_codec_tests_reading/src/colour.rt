@@ -2,7 +2,7 @@
 ghost use Rattle.std.specs.Prelude.{◌∷◌, [], refl, pos, negsuc, true, false};
 ghost use Rattle.asn1_model.specs.Value.{item};
 ghost use Rattle.asn1_schema_constraints.specs.Sets.{no_constraint};
-ghost use Rattle.oer_codec_reading_tags.specs.Trial.{colours, colours_typed, colours_valued};
+ghost use Rattle.oer_codec_tests_reading.specs.Trial.{colours, colours_typed, colours_valued};
 
 use asn1_schema_constraints::Constraints;
 use asn1_schema_tags::{Identifier, Tag, TagTree};
@@ -19,7 +19,7 @@ pub enum Colour {
 }
 
 impl Described for Colour {
-    ghost use Rattle.oer_codec_reading_tags.specs.declared.tests.colour.Colour.TheVariants.{Red, Blue};
+    ghost use Rattle.oer_codec_tests_reading.specs.declared.colour.Colour.TheVariants.{Red, Blue};
 
     ghost tags = { record { class = 0; number = 10 } ∷ [] };
 
@@ -55,7 +55,7 @@ impl AsnType for Colour {
 }
 
 impl Enumerated for Colour {
-    ghost use Rattle.oer_codec_reading_tags.specs.declared.tests.colour.Colour.TheVariants.{Red, Blue};
+    ghost use Rattle.oer_codec_tests_reading.specs.declared.colour.Colour.TheVariants.{Red, Blue};
 
     ghost roots = { pos 0 ∷ [] };
 

@@ -1,10 +1,10 @@
 //! Presence bits, and strings of bits.
-use crate::bit_strings::{read_bit_string, read_preamble};
-use crate::{Cursor, EncodingRules};
 use asn1_schema_bounds::Bounded;
 use asn1_schema_constraints::{Constraint, Constraints, Extensible, Size};
 use asn1_schema_faults::DecodeError;
 use asn1_values_bit_strings::BitString;
+use oer_codec_reading::bit_strings::{read_bit_string, read_preamble};
+use oer_codec_reading::{Cursor, EncodingRules};
 use std::alloc::Global;
 
 /// The bits in front, under a size constraint.

@@ -1,7 +1,7 @@
 //! Object identifiers.
-use crate::identifiers::read_object_identifier;
-use crate::{Cursor, EncodingRules};
 use asn1_schema_faults::DecodeError;
+use oer_codec_reading::identifiers::read_object_identifier;
+use oer_codec_reading::{Cursor, EncodingRules};
 use std::test::Fail;
 
 #[test]

@@ -1,9 +1,9 @@
 //! Enumerations, with and without a mark.
-use super::answer::Answer;
-use super::colour::Colour;
-use crate::read_enumerated;
+use crate::answer::Answer;
+use crate::colour::Colour;
 use asn1_schema_faults::DecodeError;
 use oer_codec_reading::{Cursor, EncodingRules};
+use oer_codec_reading_tags::read_enumerated;
 
 /// The answer in front.
 fn answer(input: &[u8], rules: EncodingRules) -> Result<Answer, DecodeError> {

@@ -1,7 +1,7 @@
 //! Truth values and NULL.
-use crate::units::{read_boolean, read_null};
-use crate::{Cursor, EncodingRules};
 use asn1_schema_faults::DecodeError;
+use oer_codec_reading::units::{read_boolean, read_null};
+use oer_codec_reading::{Cursor, EncodingRules};
 
 /// The truth value in front.
 fn boolean(input: &[u8], rules: EncodingRules) -> Result<bool, DecodeError> {

@@ -2,7 +2,7 @@
 ghost use Rattle.std.specs.Prelude.{◌∷◌, [], refl, pos, negsuc, true, false};
 ghost use Rattle.asn1_model.specs.Value.{item};
 ghost use Rattle.asn1_schema_constraints.specs.Sets.{no_constraint};
-ghost use Rattle.oer_codec_reading_tags.specs.Trial.{answers, answers_typed, answers_valued};
+ghost use Rattle.oer_codec_tests_reading.specs.Trial.{answers, answers_typed, answers_valued};
 
 use asn1_schema_constraints::Constraints;
 use asn1_schema_tags::{Identifier, Tag, TagTree};
@@ -19,7 +19,7 @@ pub enum Answer {
 }
 
 impl Described for Answer {
-    ghost use Rattle.oer_codec_reading_tags.specs.declared.tests.answer.Answer.TheVariants.{Yes, No};
+    ghost use Rattle.oer_codec_tests_reading.specs.declared.answer.Answer.TheVariants.{Yes, No};
 
     ghost tags = { record { class = 0; number = 10 } ∷ [] };
 
@@ -55,7 +55,7 @@ impl AsnType for Answer {
 }
 
 impl Enumerated for Answer {
-    ghost use Rattle.oer_codec_reading_tags.specs.declared.tests.answer.Answer.TheVariants.{Yes, No};
+    ghost use Rattle.oer_codec_tests_reading.specs.declared.answer.Answer.TheVariants.{Yes, No};
 
     ghost roots = { negsuc 999 ∷ pos 1000 ∷ [] };
 

@@ -1,8 +1,8 @@
 //! Tags in one octet and in more.
-use crate::read_tag;
 use asn1_schema_faults::DecodeError;
 use asn1_schema_tags::{Class, Tag};
 use oer_codec_reading::{Cursor, EncodingRules};
+use oer_codec_reading_tags::read_tag;
 
 /// The tag in front.
 fn tag(input: &[u8], rules: EncodingRules) -> Result<Tag, DecodeError> {

@@ -1,7 +1,7 @@
 //! Presence bitmaps.
-use crate::read_bitmap;
 use asn1_schema_faults::DecodeError;
 use oer_codec_reading::{Cursor, EncodingRules};
+use oer_codec_reading_scopes::read_bitmap;
 
 /// How many bits the bitmap in front has.
 fn width(input: &[u8], rules: EncodingRules) -> Result<usize, DecodeError> {

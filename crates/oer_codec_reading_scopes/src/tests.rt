@@ -1,2 +1,0 @@
-//! Bitmaps that are read or refused, and why.
-mod bitmaps;
