@@ -6,6 +6,3 @@ mod runs;
 
 pub use alphabet::EffectiveAlphabet;
 pub use runs::is_of_octets;
-
-#[cfg(test)]
-mod tests;

@@ -5,6 +5,3 @@
 mod packing;
 
 pub use packing::Packing;
-
-#[cfg(test)]
-mod tests;

@@ -15,6 +15,3 @@ pub mod variant;
 pub use cursor::Cursor;
 pub use lengths::Length;
 pub use variant::Variant;
-
-#[cfg(test)]
-mod tests;

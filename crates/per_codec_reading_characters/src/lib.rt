@@ -6,6 +6,3 @@ mod strings;
 
 pub use codes::string_of;
 pub use strings::read_characters;
-
-#[cfg(test)]
-mod tests;

@@ -9,6 +9,3 @@ pub mod integers;
 pub mod octets;
 
 pub use integers::read_integer;
-
-#[cfg(test)]
-mod tests;

@@ -17,6 +17,3 @@ pub use runs::{Run, RunBits, read_counted};
 pub use sizes::{Contents, read_sized};
 pub use strings::{read_bit_string, read_octet_string};
 pub use texts::read_utf8_string;
-
-#[cfg(test)]
-mod tests;

@@ -1,4 +1,4 @@
-//! Tests of the encoder of UPER and APER, and of the calls that write.
+//! Tests of the writers of UPER and APER, of their encoder, and of the calls that write.
 #![tactic(auto)]
 
 #[cfg(test)]
@@ -7,3 +7,9 @@ mod additions;
 mod buffers;
 #[cfg(test)]
 mod encoder;
+#[cfg(test)]
+mod integers;
+#[cfg(test)]
+mod lengths_and_numbers;
+#[cfg(test)]
+mod scopes;

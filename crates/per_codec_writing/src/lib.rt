@@ -8,6 +8,3 @@ mod lengths;
 pub use constrained::push_constrained;
 pub use filling::align;
 pub use lengths::{push_fragment_length, push_short_length};
-
-#[cfg(test)]
-mod tests;

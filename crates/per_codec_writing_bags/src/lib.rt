@@ -8,6 +8,3 @@ mod members;
 mod sized;
 
 pub use bag::push_bag;
-
-#[cfg(test)]
-mod tests;

@@ -5,6 +5,3 @@ mod strings;
 mod units;
 
 pub use strings::push_characters;
-
-#[cfg(test)]
-mod tests;

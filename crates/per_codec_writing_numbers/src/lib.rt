@@ -8,6 +8,3 @@ mod small;
 pub use booleans::push_boolean;
 pub use integers::push_integer;
 pub use small::push_normally_small;
-
-#[cfg(test)]
-mod tests;

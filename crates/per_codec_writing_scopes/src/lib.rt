@@ -9,6 +9,3 @@ mod places;
 pub use additions::{push_additions, push_bitmap};
 pub use open_types::push_open_type;
 pub use places::{push_enumerated, push_place};
-
-#[cfg(test)]
-mod tests;

@@ -11,6 +11,3 @@ pub use bits::push_bit_string;
 pub use identifiers::push_identifier;
 pub use octets::push_octet_string;
 pub use texts::push_utf8;
-
-#[cfg(test)]
-mod tests;

@@ -11,6 +11,3 @@ pub use counted::{push_counted, push_counted_octets};
 pub use padding::{pads_characters, pads_string};
 pub use sized::push_sized;
 pub use units::Units;
-
-#[cfg(test)]
-mod tests;

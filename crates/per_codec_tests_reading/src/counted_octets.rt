@@ -1,10 +1,7 @@
 //! Octets behind their number, in one piece and in fragments.
-mod lengths;
-mod strings;
-
-use crate::read_counted_octets;
 use asn1_schema_faults::DecodeError;
 use per_codec_reading::{Cursor, Variant};
+use per_codec_reading_units::read_counted_octets;
 use std::alloc::{AllocError, Global};
 use std::borrow::CowSlice;
 

@@ -1,7 +1,7 @@
 //! Truth values, and nothing.
-use crate::units::{read_boolean, read_null};
-use crate::{Cursor, Variant};
 use asn1_schema_faults::DecodeError;
+use per_codec_reading::units::{read_boolean, read_null};
+use per_codec_reading::{Cursor, Variant};
 
 #[test]
 fn a_truth_value_is_a_bit(rt: HostRuntime) {

@@ -1,7 +1,7 @@
 //! Lengths, and those of fragments.
-use crate::lengths::{Length, read_length, read_short_length};
-use crate::{Cursor, Variant};
 use asn1_schema_faults::DecodeError;
+use per_codec_reading::lengths::{Length, read_length, read_short_length};
+use per_codec_reading::{Cursor, Variant};
 
 /// The length in front.
 fn length(input: &[u8]) -> Result<Length, DecodeError> {

@@ -1,9 +1,9 @@
 //! Whole numbers as they are read, unaligned and aligned.
-use crate::read_integer;
 use asn1_schema_bounds::Bounded;
 use asn1_schema_constraints::{Constraints, Extensible, Value};
 use asn1_schema_faults::DecodeError;
 use per_codec_reading::{Cursor, Variant};
+use per_codec_reading_numbers::read_integer;
 use std::alloc::Global;
 
 /// INTEGER between two bounds, with or without a mark of extensibility behind them.

@@ -1,15 +1,13 @@
 //! Rows of character strings, and what is refused.
-use crate::read_characters;
 use asn1_schema_bounds::Bounded;
 use asn1_schema_constraints::{Constraint, Constraints, Extensible, PermittedAlphabet, Size};
 use asn1_schema_faults::DecodeError;
-use asn1_values_alphabets::{StaticPermittedAlphabet, string_of_text};
+use asn1_values_alphabets::StaticPermittedAlphabet;
 use asn1_values_strings::{GeneralString, NumericString, VisibleString};
 use asn1_values_strings_wide::BmpString;
 use per_codec_reading::{Cursor, Variant};
+use per_codec_reading_characters::read_characters;
 use std::alloc::Global;
-use std::process::Abort;
-use std::test::Fail;
 
 /// The string at the beginning of the octets.
 fn read<S: StaticPermittedAlphabet>(

@@ -1,10 +1,10 @@
 //! Lengths by X.691 11.9.3, behind so many bits that are set.
 ghost use Rattle.std.specs.Prelude.{◌<◌, ◌≤◌};
 
-use crate::{push_counted, push_counted_octets};
 use asn1_schema_faults::EncodeError;
 use asn1_values_bits::{BitBuffer, BitStr};
 use per_codec_packing::Packing;
+use per_codec_writing_units::{push_counted, push_counted_octets};
 use std::alloc::Global;
 use std::test::Fail;
 

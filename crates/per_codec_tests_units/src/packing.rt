@@ -1,6 +1,6 @@
 //! Texts at known places, and texts that are placed later.
 
-use crate::Packing;
+use per_codec_packing::Packing;
 use std::alloc::Global;
 use std::test::Fail;
 

@@ -1,13 +1,13 @@
 //! Octets of X.691, behind so many bits that are set.
 ghost use Rattle.std.specs.Prelude.{◌≤◌};
 
-use crate::{push_bit_string, push_identifier, push_octet_string, push_utf8};
 use asn1_schema_bounds::Bounded;
 use asn1_schema_constraints::{Constraints, Extensible, Size};
 use asn1_schema_faults::EncodeError;
 use asn1_values_bits::{BitBuffer, BitStr};
 use asn1_values_identifiers::Oid;
 use per_codec_packing::Packing;
+use per_codec_writing_strings::{push_bit_string, push_identifier, push_octet_string, push_utf8};
 use std::alloc::Global;
 use std::test::Fail;
 

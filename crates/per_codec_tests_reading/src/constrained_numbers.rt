@@ -1,7 +1,7 @@
 //! Constrained whole numbers.
-use crate::numbers::read_constrained;
-use crate::{Cursor, Variant};
 use asn1_schema_faults::DecodeError;
+use per_codec_reading::numbers::read_constrained;
+use per_codec_reading::{Cursor, Variant};
 
 /// The number of 0 to `span` in front.
 fn number(input: &[u8], variant: Variant, span: u128) -> Result<u128, DecodeError> {

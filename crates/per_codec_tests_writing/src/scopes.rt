@@ -1,8 +1,8 @@
 //! Bits of X.691 by hand.
-use crate::{push_bitmap, push_open_type, push_place};
 use asn1_schema_variants::Chosen;
 use asn1_values_bits::BitBuffer;
 use per_codec_packing::Packing;
+use per_codec_writing_scopes::{push_bitmap, push_open_type, push_place};
 use std::test::Fail;
 
 #[test]

@@ -1,10 +1,10 @@
 //! Octets of X.691, behind so many bits that are set.
 ghost use Rattle.std.specs.Prelude.{◌<◌, ◌≤◌};
 
-use crate::{push_constrained, push_fragment_length, push_short_length};
 use asn1_schema_faults::EncodeError;
 use asn1_values_bits::BitBuffer;
 use per_codec_packing::Packing;
+use per_codec_writing::{push_constrained, push_fragment_length, push_short_length};
 use std::alloc::Global;
 use std::test::Fail;
 

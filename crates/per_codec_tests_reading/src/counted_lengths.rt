@@ -1,10 +1,10 @@
 //! Octets behind each kind of length, behind so many bits.
 ghost use Rattle.std.specs.Prelude.{◌≤◌};
 
-use crate::read_counted_octets;
 use asn1_schema_faults::DecodeError;
 use asn1_values_bits::BitBuffer;
 use per_codec_reading::{Cursor, Variant};
+use per_codec_reading_units::read_counted_octets;
 use std::alloc::{AllocError, Global};
 use std::test::Fail;
 

@@ -1,11 +1,13 @@
 //! Strings of bits and of octets, texts and object identifiers.
-use crate::{read_bit_string, read_object_identifier, read_octet_string, read_utf8_string};
 use asn1_schema_bounds::Bounded;
 use asn1_schema_constraints::{Constraints, Extensible, Size};
 use asn1_schema_faults::DecodeError;
 use asn1_values_bit_strings::BitString;
 use asn1_values_identifiers::ObjectIdentifier;
 use per_codec_reading::{Cursor, Variant};
+use per_codec_reading_units::{
+    read_bit_string, read_object_identifier, read_octet_string, read_utf8_string,
+};
 use std::alloc::Global;
 use std::borrow::CowSlice;
 use std::test::Fail;

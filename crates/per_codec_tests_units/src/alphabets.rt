@@ -1,11 +1,10 @@
 //! Widths and codes under constraints, and what is answered where a request for memory is refused.
-use crate::EffectiveAlphabet;
 use asn1_schema_constraints::{Extensible, PermittedAlphabet};
 use asn1_values_alphabets::StaticPermittedAlphabet;
 use asn1_values_strings::{Ia5String, NumericString, PrintableString, VisibleString};
 use asn1_values_strings_wide::BmpString;
+use per_codec_alphabets::EffectiveAlphabet;
 use std::alloc::{AllocError, Global};
-use std::process::Abort;
 use std::test::Fail;
 
 /// The alphabet of a type under a constraint to these characters.

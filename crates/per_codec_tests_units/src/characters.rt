@@ -1,5 +1,4 @@
 //! Rows of character strings, and what is refused.
-use crate::push_characters;
 use asn1_schema_bounds::Bounded;
 use asn1_schema_constraints::{Constraint, Constraints, Extensible, PermittedAlphabet, Size};
 use asn1_schema_faults::EncodeError;
@@ -7,9 +6,8 @@ use asn1_values_alphabets::{StaticPermittedAlphabet, string_of_text};
 use asn1_values_strings::{GeneralString, NumericString, VisibleString};
 use asn1_values_strings_wide::BmpString;
 use per_codec_packing::Packing;
+use per_codec_writing_characters::push_characters;
 use std::alloc::Global;
-use std::process::Abort;
-use std::test::Fail;
 
 /// The octets of a text as a string of the type, in either variant.
 fn written<S: StaticPermittedAlphabet>(

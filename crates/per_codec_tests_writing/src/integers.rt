@@ -1,5 +1,4 @@
 //! Octets of X.691 12 and 13.
-use crate::{push_boolean, push_integer, push_normally_small};
 use asn1_schema_bounds::Bounded;
 use asn1_schema_constraints::{Constraints, Extensible, Value};
 use asn1_schema_faults::EncodeError;
@@ -7,6 +6,7 @@ use asn1_values_bits::BitBuffer;
 use asn1_values_integer_types::IntegerType;
 use asn1_values_numbers::Integer;
 use per_codec_packing::Packing;
+use per_codec_writing_numbers::{push_boolean, push_integer, push_normally_small};
 use std::alloc::Global;
 use std::test::Fail;
 

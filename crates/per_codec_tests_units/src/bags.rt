@@ -1,11 +1,11 @@
 //! Bags whose members were written alone.
 ghost use Rattle.std.specs.Prelude.{◌≤◌};
 
-use crate::push_bag;
 use asn1_schema_bounds::Bounded;
 use asn1_schema_constraints::Constraints;
 use asn1_schema_faults::EncodeError;
 use per_codec_packing::Packing;
+use per_codec_writing_bags::push_bag;
 use std::alloc::Global;
 use std::test::Fail;
 
