@@ -76,7 +76,7 @@ impl<'buffer> Encoder<'buffer> {
     }
 
     /// Takes the contents of the buffer, and leaves none.
-    #[inline]
+    #[inline(always)]
     pub fn output(&mut self) -> Vec<u8>
         ensures octets { self.old.failed ≡ false → self.old.state.1 ≡ [] → result.items ≡ self.old.state.0 }
         ensures none { self.new ≡ record { state = ([], []); failed = self.old.failed } }
@@ -178,7 +178,7 @@ impl<'buffer> asn1_schema_encode::Encoder for Encoder<'buffer> {
         Ok(())
     }
 
-    #[inline]
+    #[inline(always)]
     fn encode_octet_string(
         &mut self,
         _tag: Tag,
@@ -410,7 +410,7 @@ impl<'buffer> asn1_schema_encode::Encoder for Encoder<'buffer> {
         Ok(())
     }
 
-    #[inline]
+    #[inline(always)]
     fn end(&mut self) -> Result<(), EncodeError> {
         if self.failed {
             return Err(EncodeError::AlreadyFailed);

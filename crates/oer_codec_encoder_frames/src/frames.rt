@@ -43,6 +43,7 @@ impl Frames {
     }
 
     /// Leaves nothing open.
+    #[inline(always)]
     pub fn clear(&mut self)
         ensures { self.new ≡ [] }
     {

@@ -37,7 +37,7 @@ fn push_signed(octets: &mut Vec<u8>, width: Option<u8>, number: i128) -> Result<
 }
 
 /// Adds a number that is not negative, in so many octets or in its fewest behind their number (X.696 10).
-#[inline]
+#[inline(always)]
 fn push_natural(octets: &mut Vec<u8>, width: Option<u8>, number: i128) -> Result<(), EncodeError>
     requires sign { is_below_zero number ≡ false }
     requires width { IfSome width (λ k. k ≤ 16) }
@@ -57,7 +57,7 @@ fn push_natural(octets: &mut Vec<u8>, width: Option<u8>, number: i128) -> Result
 }
 
 /// Adds a number within bounds, in the form that they tell (X.696 10).
-#[inline]
+#[inline(always)]
 fn push_bounded(
     octets: &mut Vec<u8>,
     bounds: Bounded<i128>,
@@ -76,7 +76,7 @@ fn push_bounded(
 }
 
 /// Adds a number of 128 bits under a value constraint, if there is one; one with a mark counts for nothing (X.696 10).
-#[inline]
+#[inline(always)]
 fn push_number(
     octets: &mut Vec<u8>,
     limits: Option<Extensible<'_, Value>>,

@@ -17,6 +17,7 @@ fn octet_width(number: usize) -> usize
 }
 
 /// Adds a length (X.696 8.6): below 128 one octet, else the fewest behind their number.
+#[inline(always)]
 pub(crate) fn push_length(octets: &mut Vec<u8>, length: usize) -> Result<(), EncodeError>
     ensures { MatchResult result (λ _. Adds (written (length_form length) 0) octets.old.items octets.new.items) (λ e. e ≡ EncodeError.OutOfMemory) }
 {
@@ -31,6 +32,7 @@ pub(crate) fn push_length(octets: &mut Vec<u8>, length: usize) -> Result<(), Enc
 }
 
 /// Adds octets behind their number (X.696 8.6).
+#[inline(always)]
 pub fn push_counted(octets: &mut Vec<u8>, contents: &[u8]) -> Result<(), EncodeError>
     ensures { MatchResult result (λ _. Adds (written (counted contents.now) 0) octets.old.items octets.new.items) (λ e. e ≡ EncodeError.OutOfMemory) }
 {

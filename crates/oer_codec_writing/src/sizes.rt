@@ -35,6 +35,7 @@ pub(crate) fn is_fixed(constraints: Constraints) -> bool
 }
 
 /// Adds octets, behind their number unless there is one size (X.696 14).
+#[inline(always)]
 pub(crate) fn push_sized(
     octets: &mut Vec<u8>,
     fixed: bool,
@@ -51,6 +52,7 @@ pub(crate) fn push_sized(
 }
 
 /// Adds an OCTET STRING (X.696 14).
+#[inline(always)]
 pub fn push_octet_string(
     octets: &mut Vec<u8>,
     constraints: Constraints,
