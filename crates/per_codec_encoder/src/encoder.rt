@@ -96,6 +96,7 @@ impl Encoder {
     /// # Errors
     ///
     /// `OutOfMemory`, where the one octet of a message of no bits has no room.
+    #[inline(always)]
     pub fn output(&mut self) -> Result<Vec<u8>, EncodeError>
         ensures octets { IfOk result (λ octets. self.old.failed ≡ false → self.old.state.1 ≡ [] → octets_of self.old.state ≡ Some octets.items) }
         ensures only { IfErr result (λ e. e ≡ EncodeError.OutOfMemory) }
@@ -215,6 +216,7 @@ impl asn1_schema_encode::Encoder for Encoder {
         Ok(())
     }
 
+    #[inline(always)]
     fn encode_octet_string(
         &mut self,
         _tag: Tag,
@@ -456,6 +458,7 @@ impl asn1_schema_encode::Encoder for Encoder {
         Ok(())
     }
 
+    #[inline(always)]
     fn end(&mut self) -> Result<(), EncodeError> {
         if self.failed {
             return Err(EncodeError::AlreadyFailed);

@@ -37,6 +37,7 @@ impl Frames {
     }
 
     /// Leaves nothing open.
+    #[inline(always)]
     pub fn clear(&mut self)
         ensures { self.new ≡ [] }
     {
@@ -45,7 +46,7 @@ impl Frames {
     }
 
     /// Opens a frame within what is innermost, which is let go where memory is refused.
-    #[inline]
+    #[inline(always)]
     pub(crate) fn push(&mut self, frame: Frame) -> Result<(), AllocError>
         ensures items { OnOk result (self.new ≡ self.old ++ frame ∷ []) }
     {

@@ -106,7 +106,7 @@ impl Packing {
     }
 
     /// Adds one bit.
-    #[inline]
+    #[inline(always)]
     pub fn push(&mut self, bit: bool) -> Result<(), AllocError>
         ensures ok { OnOk result (self.new ≡ plus self.old (as_text (bit ∷ []))) }
         ensures err { OnErr result (self.new ≡ self.old) }

@@ -12,6 +12,7 @@ use per_codec_packing::Packing;
 
 /// Adds a length, so many units below 16384: one octet below 128, else two (X.691 11.9.3.5 to 11.9.3.7). The only
 /// error is want of memory.
+#[inline(always)]
 pub fn push_short_length(
     output: &mut Packing,
     aligned: bool,
