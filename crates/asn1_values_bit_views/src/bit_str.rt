@@ -112,6 +112,7 @@ impl<'a> BitStr<'a> {
     }
 
     /// The number whose binary digits are the first `count` bits.
+    #[inline(always)]
     pub fn first_number(&self, count: u32) -> u128
         requires narrow { count ≤ 128 }
         requires within { count ≤ length (bits_of self.now) }

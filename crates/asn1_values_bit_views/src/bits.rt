@@ -74,6 +74,7 @@ fn read_by_octets(octets: &[u8], position: usize, count: u32) -> u64
 }
 
 /// The number whose binary digits are `count` bits of the octets from bit `position` on.
+#[inline(always)]
 pub fn read_wide(octets: &[u8], position: usize, count: u32) -> u128
     requires wide { count ≤ 128 }
     requires within { position + count ≤ length octets.now * 8 }

@@ -105,6 +105,7 @@ impl BitBuffer {
     }
 
     // Adds up to eight bits: the low ones of a number, the highest first.
+    #[inline(always)]
     fn push_few(&mut self, bits: u16, count: u32) -> Result<(), AllocError>
         requires few { count ≤ 8 }
         requires fits { bits < 2 ^ count }
@@ -147,6 +148,7 @@ impl BitBuffer {
     }
 
     /// Adds one bit.
+    #[inline(always)]
     pub fn push(&mut self, bit: bool) -> Result<(), AllocError>
         ensures ok { OnOk result (self.new ≡ self.old ++ bit ∷ []) }
         ensures err { OnErr result (self.new ≡ self.old) }
@@ -156,6 +158,7 @@ impl BitBuffer {
     }
 
     /// Adds the low `width` bits of a number, the highest first.
+    #[inline(always)]
     pub fn push_bits(&mut self, value: u128, width: u32) -> Result<(), AllocError>
         requires { width ≤ 128 }
         ensures ok { OnOk result (self.new ≡ self.old ++ binary width value) }
