@@ -14,7 +14,7 @@ use std::mem;
 
 /// Ends what is innermost (X.696 16, 17, 19, 20 and 30): of a sequence without a mark no presence bit is due, of one with a mark
 /// no addition, and of a list and a bag no member. The worker gets back the room of an open type.
-#[inline]
+#[inline(always)]
 pub fn end_scope(
     octets: &mut Vec<u8>,
     worker: &mut Vec<u8>,
