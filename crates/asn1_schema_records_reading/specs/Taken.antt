@@ -1,6 +1,6 @@
 -- How the decoder of kept records takes them: each exactly where it is next and the program's type holds it.
 use Rattle.std.specs.Prelude.{◌≡◌, ◌+◌, ◌<◌, ◌≤◌, ◌^◌, ◌⊎◌, ◌-◌, ◌&&◌, ◌||◌, ℕ, ℤ, pos, negsuc, Bool, true, false, cond, List, [], ◌∷◌, Option, Some, None, length}
-use Rattle.asn1_model.specs.Schema.{Range, StringKind, utf8}
+use Rattle.asn1_model.specs.Schema.{Tag, Range, Bounds, Counts, Size, StringKind, utf8, visible}
 use Rattle.asn1_model.specs.Numbers.{is_within, is_count_within}
 use Rattle.asn1_model.specs.Strings.{may_hold}
 use Rattle.asn1_schema_faults.specs.declared.CodecKind.{CodecKind}
@@ -8,13 +8,14 @@ use Rattle.asn1_schema_faults.specs.declared.DecodeError.{DecodeError}
 use Rattle.asn1_schema_faults.specs.declared.DecodeError.TheVariants.{Incomplete, NotValidCanonicalEncoding, SizeConstraintNotSatisfied, ExceedsMaxParseDepth, IntegerOverflow, PermittedAlphabet, ValueConstraintNotSatisfied, DiscriminantValueNotFound, InvalidTagVariantOnChoice, OutOfMemory as NoRoom, AlreadyFailed as HadFailed}
 use Rattle.asn1_schema_bounds.specs.Bounds.{range_of}
 use Rattle.asn1_schema_constraints.specs.Sets.{has_additions}
+use Rattle.asn1_schema_constraints.specs.Terms.{bounds_of}
 use Rattle.asn1_schema_constraints.specs.declared.extensions.Extensible.{Extensible}
 use Rattle.asn1_schema_constraints.specs.declared.parts.Value.{Value}
 use Rattle.asn1_values_alphabets.specs.Permitted.{permits_all}
 use Rattle.asn1_values_natives.specs.Octets.{plain}
-use Rattle.asn1_schema_presented.specs.Records.{Record, Question, question, whole, one_of, bits, octets, characters, list_begins, bag_begins, choice_begins, asks_list, asks_bag, asks_sequence, asks_set, asks_group, asks_choice, asks_end}
+use Rattle.asn1_schema_presented.specs.Records.{Record, Question, question, whole, one_of, bits, octets, characters, list_begins, bag_begins, choice_begins, asks_list, asks_bag, asks_sequence, asks_set, asks_group, asks_choice, asks_end, ends}
 use Rattle.asn1_schema_records.specs.Kept.{any_number, any_count, any_alphabet, kept_kind}
-use Rattle.asn1_schema_variants.specs.Items.{IsPlaced}
+use Rattle.asn1_schema_variants.specs.Items.{IsPlaced, IsNone}
 
 -- What a decoder holds: the records that are left, how many more levels may be nested, how many were so at the beginning, whether it has
 -- failed, and its rules.
@@ -100,37 +101,65 @@ IsSpent old e = ((e ≡ HadFailed) × (old.failed ≡ true)) ⊎ ((e ≡ Incompl
 abbrev pub IsDeep : Left → DecodeError → Type 0
 IsDeep old e = ((e ≡ HadFailed) × (old.failed ≡ true)) ⊎ ((e ≡ ExceedsMaxParseDepth) × (old.failed ≡ false) × (old.levels ≡ 0)) ⊎ ((e ≡ Incomplete) × (old.failed ≡ false) × (0 < old.levels) × (old.records ≡ []))
 
--- Which error comes: an earlier one, `Incomplete` where nothing is left, and else one of these kinds.
-abbrev pub IsRefused : Left → (DecodeError → Type 0) → DecodeError → Type 0
-IsRefused old kinds e = IsSpent old e ⊎ ((old.failed ≡ false) × ((old.records ≡ []) → ⊥) × kinds e)
+-- Something is next, and it is refused with an error that it calls for.
+pub record IsUnfit (old : Left) (why : Record → DecodeError → Type 0) (e : DecodeError) : Type 0 where
+  pub ready : old.failed ≡ false
+  pub front : Record
+  pub rest : List Record
+  pub is_next : old.records ≡ front ∷ rest
+  pub because : why front e
+
+-- Which error comes: an earlier one, `Incomplete` where nothing is left, and else one that what is next calls for.
+abbrev pub IsRefused : Left → (Record → DecodeError → Type 0) → DecodeError → Type 0
+IsRefused old why e = IsSpent old e ⊎ IsUnfit old why e
 
 -- The same where a level is taken, of which none may be left.
-abbrev pub IsRefusedFirst : Left → (DecodeError → Type 0) → DecodeError → Type 0
-IsRefusedFirst old kinds e = IsDeep old e ⊎ ((old.failed ≡ false) × (0 < old.levels) × ((old.records ≡ []) → ⊥) × kinds e)
+abbrev pub IsRefusedFirst : Left → (Record → DecodeError → Type 0) → DecodeError → Type 0
+IsRefusedFirst old why e = IsDeep old e ⊎ ((0 < old.levels) × IsUnfit old why e)
 
--- What is next is of another kind.
-abbrev pub IsOtherKind : DecodeError → Type 0
-IsOtherKind e = e ≡ NotValidCanonicalEncoding
+-- Records as they are kept: strings of bits and octets, texts, strings of characters, beginnings of lists and bags.
+abbrev pub kept_bits : Size → List Bool → Record
+kept_bits z bs = bits z any_count bs
 
--- Or of another size.
-abbrev pub IsMisfit : DecodeError → Type 0
-IsMisfit e = (e ≡ NotValidCanonicalEncoding) ⊎ (e ≡ SizeConstraintNotSatisfied)
+abbrev pub kept_octets : Size → List ℕ → Record
+kept_octets z os = octets z any_count os
 
--- Or has other characters, or memory is wanting.
-abbrev pub IsMisfitText : DecodeError → Type 0
-IsMisfitText e = (e ≡ NotValidCanonicalEncoding) ⊎ (e ≡ SizeConstraintNotSatisfied) ⊎ (e ≡ PermittedAlphabet) ⊎ (e ≡ NoRoom)
+abbrev pub kept_text : Size → List ℕ → Record
+kept_text z os = characters utf8 z any_alphabet any_count os
 
--- Or is another number, or memory is wanting.
-abbrev pub IsMisfitNumber : DecodeError → Type 0
-IsMisfitNumber e = (e ≡ NotValidCanonicalEncoding) ⊎ (e ≡ ValueConstraintNotSatisfied) ⊎ (e ≡ IntegerOverflow) ⊎ (e ≡ NoRoom)
+abbrev pub kept_characters : Size → List ℕ → Record
+kept_characters z cs = characters visible z any_alphabet any_count cs
 
--- Or is the number of no item.
-abbrev pub IsMisfitItem : DecodeError → Type 0
-IsMisfitItem e = (e ≡ NotValidCanonicalEncoding) ⊎ (e ≡ DiscriminantValueNotFound)
+abbrev pub kept_list : Size → ℕ → Record
+kept_list z n = list_begins z any_count n
 
--- Or the place of no alternative.
-abbrev pub IsMisfitChoice : DecodeError → Type 0
-IsMisfitChoice e = (e ≡ NotValidCanonicalEncoding) ⊎ (e ≡ InvalidTagVariantOnChoice)
+abbrev pub kept_bag : Size → ℕ → Record
+kept_bag z n = bag_begins z any_count n
+
+-- What is next is another record than this one.
+abbrev pub IsOtherThan : Record → Record → DecodeError → Type 0
+IsOtherThan r k e = (e ≡ NotValidCanonicalEncoding) × (k ≡ r → ⊥)
+
+-- It is of another kind: no record of this form.
+abbrev pub IsOtherKind : {T : Type 0} → (T → Record) → Record → DecodeError → Type 0
+IsOtherKind {T} form k e = (e ≡ NotValidCanonicalEncoding) × ((x : T) → k ≡ form x → ⊥)
+
+-- It is another record than an end, or the end of what has not begun.
+abbrev pub IsOtherEnd : Left → Record → DecodeError → Type 0
+IsOtherEnd old k e = (e ≡ NotValidCanonicalEncoding) × (k ≡ ends → old.most ≤ old.levels)
+
+-- It is of this form, but under another size, or of a length that the program's type does not hold.
+pub record IsOtherSize {T : Type 0} (form : Size → T → Record) (count : T → ℕ) (z : Size) (h : Counts) (k : Record) : Type 0 where
+  pub size : Size
+  pub found : T
+  pub is_kept : k ≡ form size found
+  pub apart : size ≡ z → is_count_within h (count found) ≡ true → ⊥
+
+-- It is of another kind, or of another size.
+abbrev pub IsMisfit : {T : Type 0} → (Size → T → Record) → (T → ℕ) → Size → Counts → Record → DecodeError → Type 0
+IsMisfit {T} form count z h k e =
+    ((e ≡ NotValidCanonicalEncoding) × ((y : Size) (x : T) → k ≡ form y x → ⊥))
+    ⊎ ((e ≡ SizeConstraintNotSatisfied) × IsOtherSize form count z h k)
 
 -- The numbers of 128 bits of two's complement.
 abbrev pub wide_range : Range
@@ -154,3 +183,59 @@ abbrev pub IsUnspelled : StringKind → List ℕ → DecodeError → Type 0
 IsUnspelled k cs PermittedAlphabet = permits_all k cs ≡ false
 IsUnspelled k cs NoRoom = permits_all k cs ≡ true
 IsUnspelled k cs e = ⊥
+
+-- A number is next, but under other bounds.
+pub record IsOtherBounds (b : Bounds) (k : Record) : Type 0 where
+  pub bounds : Bounds
+  pub number : ℤ
+  pub is_kept : k ≡ whole bounds any_number number
+  pub apart : bounds ≡ b → ⊥
+
+-- A number under these bounds is next, but none of the program's type is made of it.
+pub record IsOtherNumber (c : Option (Extensible Value)) (held : Range) (k : Record) (e : DecodeError) : Type 0 where
+  pub number : ℤ
+  pub is_kept : k ≡ whole (bounds_of c) any_number number
+  pub untaken : IsUntaken c held number e
+
+-- No number is next, or one under other bounds, or one of which none is made.
+abbrev pub IsMisfitNumber : Option (Extensible Value) → Range → Record → DecodeError → Type 0
+IsMisfitNumber c held k e =
+    ((e ≡ NotValidCanonicalEncoding) × ((b : Bounds) (v : ℤ) → k ≡ whole b any_number v → ⊥))
+    ⊎ (((e ≡ ValueConstraintNotSatisfied) × IsOtherBounds (bounds_of c) k) ⊎ IsOtherNumber c held k e)
+
+-- Characters of this size are next, but no string of the program's type is made of them.
+pub record IsOtherText (t : StringKind) (z : Size) (k : Record) (e : DecodeError) : Type 0 where
+  pub found : List ℕ
+  pub is_kept : k ≡ kept_characters z found
+  pub unspelled : IsUnspelled t found e
+
+-- No characters are next, or some of another size, or some of which no string is made.
+abbrev pub IsMisfitText : StringKind → Size → Record → DecodeError → Type 0
+IsMisfitText t z k e =
+    ((e ≡ NotValidCanonicalEncoding) × ((y : Size) (cs : List ℕ) → k ≡ kept_characters y cs → ⊥))
+    ⊎ (((e ≡ SizeConstraintNotSatisfied) × IsOtherSize kept_characters (λ (cs : List ℕ). length cs) z any_count k) ⊎ IsOtherText t z k e)
+
+-- The number of an item is next, but of none that the enumeration has.
+pub record IsNoItem (roots : List ℤ) (extensible : Bool) (adds : List ℤ) (k : Record) : Type 0 where
+  pub number : ℤ
+  pub is_kept : k ≡ one_of [] extensible [] number
+  pub none : IsNone roots extensible adds number
+
+-- No item is next, or one with another mark, or the number of none.
+abbrev pub IsMisfitItem : List ℤ → Bool → List ℤ → Record → DecodeError → Type 0
+IsMisfitItem roots extensible adds k e =
+    ((e ≡ NotValidCanonicalEncoding) × ((v : ℤ) → k ≡ one_of [] extensible [] v → ⊥))
+    ⊎ ((e ≡ DiscriminantValueNotFound) × IsNoItem roots extensible adds k)
+
+-- A choice begins, but at the place of no alternative.
+pub record IsNoAlternative (roots : List Tag) (extensible : Bool) (adds : List Tag) (k : Record) : Type 0 where
+  pub added : Bool
+  pub place : ℕ
+  pub is_kept : k ≡ choice_begins [] extensible [] added place
+  pub none : length (cond added adds roots) ≤ place
+
+-- No choice begins, or one with another mark, or one at the place of no alternative.
+abbrev pub IsMisfitChoice : List Tag → Bool → List Tag → Record → DecodeError → Type 0
+IsMisfitChoice roots extensible adds k e =
+    ((e ≡ NotValidCanonicalEncoding) × ((added : Bool) (i : ℕ) → k ≡ choice_begins [] extensible [] added i → ⊥))
+    ⊎ ((e ≡ InvalidTagVariantOnChoice) × IsNoAlternative roots extensible adds k)

@@ -11,7 +11,8 @@ ghost use Rattle.asn1_schema_presented.specs.Records.{group_begins, mark, is_def
 ghost use Rattle.asn1_schema_presented.specs.Records.{asks_flag, asks_nil, asks_whole, asks_one_of, asks_bits, asks_octets, asks_characters, asks_identifier, asks_list, asks_bag, asks_further, asks_sequence};
 ghost use Rattle.asn1_schema_presented.specs.Records.{asks_set, asks_group, asks_mark, asks_default, asks_empty, asks_additions, asks_addition, asks_addition_end, asks_choice, asks_end};
 ghost use Rattle.asn1_schema_records.specs.Kept.{record_of, sizes_in};
-ghost use Rattle.asn1_schema_records_reading.specs.Taken.{Takes, Leaves, Begins, Fails, IsSpent, IsDeep, IsRefused, IsRefusedFirst, IsOtherKind, IsMisfit, IsMisfitItem, IsMisfitChoice, IsMisfitText, IsMisfitNumber, IsUntaken, IsUnspelled, is_admitted};
+ghost use Rattle.asn1_schema_records_reading.specs.Taken.{Takes, Leaves, Begins, Fails, IsSpent, IsDeep, IsRefused, IsRefusedFirst, IsOtherThan, IsOtherKind, IsOtherEnd, IsMisfit, IsMisfitItem, IsMisfitChoice, IsMisfitText, IsMisfitNumber, IsUntaken, IsUnspelled, is_admitted};
+ghost use Rattle.asn1_schema_records_reading.specs.Taken.{kept_bits, kept_octets, kept_text, kept_list, kept_bag};
 ghost use Rattle.asn1_schema_tags.specs.Tags.{tag_of};
 ghost use Rattle.asn1_values_alphabets.specs.Permitted.{permits_all};
 
@@ -159,7 +160,7 @@ impl Decoder for RecordDecoder {
         ensures only { IfErr result (NoRecord Takes asks_flag self.old) }
         ensures failed { OnErr result (self.new.failed ≡ true) }
         ensures already { self.old.failed ≡ true → result ≡ Err DecodeError.AlreadyFailed }
-        ensures kind { IfErr result (IsRefused self.old IsOtherKind) }
+        ensures kind { IfErr result (IsRefused self.old (IsOtherKind flag)) }
     {
         let item = self.take_next()?;
         match item.into_flag() {
@@ -174,7 +175,7 @@ impl Decoder for RecordDecoder {
         ensures only { IfErr result (NoRecord Takes asks_nil self.old) }
         ensures failed { OnErr result (self.new.failed ≡ true) }
         ensures already { self.old.failed ≡ true → result ≡ Err DecodeError.AlreadyFailed }
-        ensures kind { IfErr result (IsRefused self.old IsOtherKind) }
+        ensures kind { IfErr result (IsRefused self.old (IsOtherThan nil)) }
     {
         let item = self.take_next()?;
         if item.is_null() {
@@ -195,7 +196,7 @@ impl Decoder for RecordDecoder {
         ensures only { IfErr result (NoRecord Takes (asks_whole (bounds_of constraints.entry.value) (held_of constraints.entry.value I.held)) self.old) }
         ensures failed { OnErr result (self.new.failed ≡ true) }
         ensures already { self.old.failed ≡ true → result ≡ Err DecodeError.AlreadyFailed }
-        ensures kind { IfErr result (IsRefused self.old IsMisfitNumber) }
+        ensures kind { IfErr result (IsRefused self.old (IsMisfitNumber constraints.entry.value I.held)) }
     {
         let item = self.take_next()?;
         let Some((limits, number)) = item.into_integer() else {
@@ -216,7 +217,7 @@ impl Decoder for RecordDecoder {
         ensures only { IfErr result (NoRecord Takes (asks_one_of T.roots T.extensible T.additions) self.old) }
         ensures failed { OnErr result (self.new.failed ≡ true) }
         ensures already { self.old.failed ≡ true → result ≡ Err DecodeError.AlreadyFailed }
-        ensures kind { IfErr result (IsRefused self.old IsMisfitItem) }
+        ensures kind { IfErr result (IsRefused self.old (IsMisfitItem T.roots T.extensible T.additions)) }
     {
         let item = self.take_next()?;
         let Some(number) = item.into_one_of(is_extensible::<T>()) else {
@@ -241,7 +242,7 @@ impl Decoder for RecordDecoder {
         ensures only { IfErr result (NoRecord Takes (asks_bits (sizes_of constraints.entry.size) (counts_of held)) self.old) }
         ensures failed { OnErr result (self.new.failed ≡ true) }
         ensures already { self.old.failed ≡ true → result ≡ Err DecodeError.AlreadyFailed }
-        ensures kind { IfErr result (IsRefused self.old IsMisfit) }
+        ensures kind { IfErr result (IsRefused self.old (IsMisfit kept_bits length (sizes_of constraints.entry.size) (counts_of held))) }
     {
         let item = self.take_next()?;
         let Some((sizes, bits)) = item.into_bits() else {
@@ -266,7 +267,7 @@ impl Decoder for RecordDecoder {
         ensures only { IfErr result (NoRecord Takes (asks_octets (sizes_of constraints.entry.size) (counts_of held)) self.old) }
         ensures failed { OnErr result (self.new.failed ≡ true) }
         ensures already { self.old.failed ≡ true → result ≡ Err DecodeError.AlreadyFailed }
-        ensures kind { IfErr result (IsRefused self.old IsMisfit) }
+        ensures kind { IfErr result (IsRefused self.old (IsMisfit kept_octets length (sizes_of constraints.entry.size) (counts_of held))) }
     {
         let item = self.take_next()?;
         let Some((sizes, octets)) = item.into_octets() else {
@@ -289,7 +290,7 @@ impl Decoder for RecordDecoder {
         ensures only { IfErr result (NoRecord Takes (asks_characters utf8 (sizes_of constraints.entry.size) (alphabet_of constraints.entry.permitted_alphabet) any_count) self.old) }
         ensures failed { OnErr result (self.new.failed ≡ true) }
         ensures already { self.old.failed ≡ true → result ≡ Err DecodeError.AlreadyFailed }
-        ensures kind { IfErr result (IsRefused self.old IsMisfit) }
+        ensures kind { IfErr result (IsRefused self.old (IsMisfit kept_text length (sizes_of constraints.entry.size) any_count)) }
     {
         let item = self.take_next()?;
         let Some((sizes, text)) = item.into_text() else {
@@ -312,7 +313,7 @@ impl Decoder for RecordDecoder {
         ensures only { IfErr result (NoRecord Takes (asks_characters S.kind (sizes_of constraints.entry.size) (alphabet_of constraints.entry.permitted_alphabet) any_count) self.old) }
         ensures failed { OnErr result (self.new.failed ≡ true) }
         ensures already { self.old.failed ≡ true → result ≡ Err DecodeError.AlreadyFailed }
-        ensures kind { IfErr result (IsRefused self.old IsMisfitText) }
+        ensures kind { IfErr result (IsRefused self.old (IsMisfitText S.kind (sizes_of constraints.entry.size))) }
     {
         let item = self.take_next()?;
         let Some((sizes, characters)) = item.into_characters() else {
@@ -337,7 +338,7 @@ impl Decoder for RecordDecoder {
         ensures only { IfErr result (NoRecord Takes (asks_identifier) self.old) }
         ensures failed { OnErr result (self.new.failed ≡ true) }
         ensures already { self.old.failed ≡ true → result ≡ Err DecodeError.AlreadyFailed }
-        ensures kind { IfErr result (IsRefused self.old IsOtherKind) }
+        ensures kind { IfErr result (IsRefused self.old (IsOtherKind object_identifier)) }
     {
         let item = self.take_next()?;
         match item.into_identifier() {
@@ -357,7 +358,7 @@ impl Decoder for RecordDecoder {
         ensures only { IfErr result (NoLevel Takes (asks_list (sizes_of constraints.entry.size) (members_of held)) self.old.levels self.old) }
         ensures failed { OnErr result (self.new.failed ≡ true) }
         ensures already { self.old.failed ≡ true → result ≡ Err DecodeError.AlreadyFailed }
-        ensures kind { IfErr result (IsRefusedFirst self.old IsMisfit) }
+        ensures kind { IfErr result (IsRefusedFirst self.old (IsMisfit kept_list (λ n. n) (sizes_of constraints.entry.size) (members_of held))) }
     {
         let item = self.take_first()?;
         let Some((sizes, count)) = item.into_list() else {
@@ -380,7 +381,7 @@ impl Decoder for RecordDecoder {
         ensures only { IfErr result (NoLevel Takes (asks_bag (sizes_of constraints.entry.size) (members_of held)) self.old.levels self.old) }
         ensures failed { OnErr result (self.new.failed ≡ true) }
         ensures already { self.old.failed ≡ true → result ≡ Err DecodeError.AlreadyFailed }
-        ensures kind { IfErr result (IsRefusedFirst self.old IsMisfit) }
+        ensures kind { IfErr result (IsRefusedFirst self.old (IsMisfit kept_bag (λ n. n) (sizes_of constraints.entry.size) (members_of held))) }
     {
         let item = self.take_first()?;
         let Some((sizes, count)) = item.into_bag() else {
@@ -398,7 +399,7 @@ impl Decoder for RecordDecoder {
         ensures only { IfErr result (NoRecord Takes asks_further self.old) }
         ensures failed { OnErr result (self.new.failed ≡ true) }
         ensures already { self.old.failed ≡ true → result ≡ Err DecodeError.AlreadyFailed }
-        ensures kind { IfErr result (IsRefused self.old IsOtherKind) }
+        ensures kind { IfErr result (IsRefused self.old (IsOtherKind further)) }
     {
         let item = self.take_next()?;
         match item.into_further() {
@@ -418,7 +419,7 @@ impl Decoder for RecordDecoder {
         ensures only { IfErr result (NoLevel Takes (asks_sequence extensible optional) self.old.levels self.old) }
         ensures failed { OnErr result (self.new.failed ≡ true) }
         ensures already { self.old.failed ≡ true → result ≡ Err DecodeError.AlreadyFailed }
-        ensures kind { IfErr result (IsRefusedFirst self.old IsOtherKind) }
+        ensures kind { IfErr result (IsRefusedFirst self.old (IsOtherThan (sequence_begins extensible optional))) }
     {
         let item = self.take_first()?;
         if item.is_sequence(extensible, optional) {
@@ -433,7 +434,7 @@ impl Decoder for RecordDecoder {
         ensures only { IfErr result (NoLevel Takes (asks_set extensible optional) self.old.levels self.old) }
         ensures failed { OnErr result (self.new.failed ≡ true) }
         ensures already { self.old.failed ≡ true → result ≡ Err DecodeError.AlreadyFailed }
-        ensures kind { IfErr result (IsRefusedFirst self.old IsOtherKind) }
+        ensures kind { IfErr result (IsRefusedFirst self.old (IsOtherThan (set_begins extensible optional))) }
     {
         let item = self.take_first()?;
         if item.is_set(extensible, optional) {
@@ -448,7 +449,7 @@ impl Decoder for RecordDecoder {
         ensures only { IfErr result (NoLevel Takes (asks_group optional) self.old.levels self.old) }
         ensures failed { OnErr result (self.new.failed ≡ true) }
         ensures already { self.old.failed ≡ true → result ≡ Err DecodeError.AlreadyFailed }
-        ensures kind { IfErr result (IsRefusedFirst self.old IsOtherKind) }
+        ensures kind { IfErr result (IsRefusedFirst self.old (IsOtherThan (group_begins optional))) }
     {
         let item = self.take_first()?;
         if item.is_group(optional) {
@@ -463,7 +464,7 @@ impl Decoder for RecordDecoder {
         ensures only { IfErr result (NoRecord Takes asks_mark self.old) }
         ensures failed { OnErr result (self.new.failed ≡ true) }
         ensures already { self.old.failed ≡ true → result ≡ Err DecodeError.AlreadyFailed }
-        ensures kind { IfErr result (IsRefused self.old IsOtherKind) }
+        ensures kind { IfErr result (IsRefused self.old (IsOtherKind mark)) }
     {
         let item = self.take_next()?;
         match item.into_mark() {
@@ -478,7 +479,7 @@ impl Decoder for RecordDecoder {
         ensures only { IfErr result (NoRecord Takes asks_default self.old) }
         ensures failed { OnErr result (self.new.failed ≡ true) }
         ensures already { self.old.failed ≡ true → result ≡ Err DecodeError.AlreadyFailed }
-        ensures kind { IfErr result (IsRefused self.old IsOtherKind) }
+        ensures kind { IfErr result (IsRefused self.old (IsOtherThan is_default)) }
     {
         let item = self.take_next()?;
         if item.is_default() {
@@ -493,7 +494,7 @@ impl Decoder for RecordDecoder {
         ensures only { IfErr result (NoRecord Takes asks_empty self.old) }
         ensures failed { OnErr result (self.new.failed ≡ true) }
         ensures already { self.old.failed ≡ true → result ≡ Err DecodeError.AlreadyFailed }
-        ensures kind { IfErr result (IsRefused self.old IsOtherKind) }
+        ensures kind { IfErr result (IsRefused self.old (IsOtherThan is_empty)) }
     {
         let item = self.take_next()?;
         if item.is_empty() {
@@ -508,7 +509,7 @@ impl Decoder for RecordDecoder {
         ensures only { IfErr result (NoRecord Takes (asks_additions count) self.old) }
         ensures failed { OnErr result (self.new.failed ≡ true) }
         ensures already { self.old.failed ≡ true → result ≡ Err DecodeError.AlreadyFailed }
-        ensures kind { IfErr result (IsRefused self.old IsOtherKind) }
+        ensures kind { IfErr result (IsRefused self.old (IsOtherThan (additions_begin count))) }
     {
         let item = self.take_next()?;
         if item.is_additions(count) {
@@ -523,7 +524,7 @@ impl Decoder for RecordDecoder {
         ensures only { IfErr result (NoRecord Takes asks_addition self.old) }
         ensures failed { OnErr result (self.new.failed ≡ true) }
         ensures already { self.old.failed ≡ true → result ≡ Err DecodeError.AlreadyFailed }
-        ensures kind { IfErr result (IsRefused self.old IsOtherKind) }
+        ensures kind { IfErr result (IsRefused self.old (IsOtherKind addition)) }
     {
         let item = self.take_next()?;
         match item.into_addition() {
@@ -538,7 +539,7 @@ impl Decoder for RecordDecoder {
         ensures only { IfErr result (NoRecord Takes asks_addition_end self.old) }
         ensures failed { OnErr result (self.new.failed ≡ true) }
         ensures already { self.old.failed ≡ true → result ≡ Err DecodeError.AlreadyFailed }
-        ensures kind { IfErr result (IsRefused self.old IsOtherKind) }
+        ensures kind { IfErr result (IsRefused self.old (IsOtherThan addition_ends)) }
     {
         let item = self.take_next()?;
         if item.is_addition_end() {
@@ -560,7 +561,7 @@ impl Decoder for RecordDecoder {
         ensures only { IfErr result (NoLevel Takes (asks_choice (map tag_of roots.now) extensible (map tag_of additions.now)) self.old.levels self.old) }
         ensures failed { OnErr result (self.new.failed ≡ true) }
         ensures already { self.old.failed ≡ true → result ≡ Err DecodeError.AlreadyFailed }
-        ensures kind { IfErr result (IsRefusedFirst self.old IsMisfitChoice) }
+        ensures kind { IfErr result (IsRefusedFirst self.old (IsMisfitChoice (map tag_of roots.now) extensible (map tag_of additions.now))) }
     {
         let item = self.take_first()?;
         let Some(chosen) = item.into_choice(extensible) else {
@@ -578,7 +579,7 @@ impl Decoder for RecordDecoder {
         ensures only { IfErr result (NoRecord Takes asks_end self.old) }
         ensures failed { OnErr result (self.new.failed ≡ true) }
         ensures already { self.old.failed ≡ true → result ≡ Err DecodeError.AlreadyFailed }
-        ensures kind { IfErr result (IsRefused self.old IsOtherKind) }
+        ensures kind { IfErr result (IsRefused self.old (IsOtherEnd self.old)) }
     {
         let item = self.take_next()?;
         if !item.is_end() {
