@@ -1,18 +1,9 @@
 //! Translates messages between encoding rules of ASN.1, from standard input to standard output.
 #![tactic(auto)]
 
-mod fault;
-mod order;
-mod program;
-
-use fault::Fault;
-use order::{Kind, Order, read_order};
-use program::{command, refuse_arguments, translate_all};
+use asn1_relay_command::{command, refuse_arguments};
 use std::process::ExitCode;
 use std::{env, io};
-
-#[cfg(test)]
-mod tests;
 
 fn main(rt: HostRuntime) -> ExitCode {
     let mut errors = rt.stderr();

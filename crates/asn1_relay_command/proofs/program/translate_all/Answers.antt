@@ -1,0 +1,41 @@
+use Rattle.asn1_schema_choices.specs.Recursive.{recursive_choice}
+use Rattle.asn1_schema_choices.specs.Tables.{alternatives_at, choice_type}
+use Rattle.asn1_schema_extensions.specs.Additions.{group_type}
+use Rattle.asn1_schema_presented.specs.Tables.{scope, components_at, sequence_type, list_type}
+use Rattle.asn1_schema_sets.specs.Bags.{bag_type}
+use Rattle.asn1_relay_command.proofs.program.translate_all.Goals as goal
+
+pub returns-in-Small : goal.returns-in-Small
+returns-in-Small c = rw c.in-Small.is c.translate-in-Small.ensures
+
+pub returns-in-Pair : goal.returns-in-Pair
+unfolding scope components_at sequence_type
+returns-in-Pair c = rw c.in-Pair.is c.translate-in-Pair.ensures
+
+pub returns-in-Nulls : goal.returns-in-Nulls
+unfolding scope list_type
+returns-in-Nulls c = rw c.in-Nulls.is c.translate-in-Nulls.ensures
+
+pub returns-in-Set : goal.returns-in-Set
+unfolding scope components_at
+returns-in-Set c = rw c.in-Set.is c.translate-in-Set.ensures
+
+pub returns-in-Bag : goal.returns-in-Bag
+unfolding scope bag_type
+returns-in-Bag c = rw c.in-Bag.is c.translate-in-Bag.ensures
+
+pub returns-in-Nest : goal.returns-in-Nest
+unfolding scope alternatives_at choice_type recursive_choice
+returns-in-Nest c = rw c.in-Nest.is c.translate-in-Nest.ensures
+
+pub returns-in-New : goal.returns-in-New
+unfolding scope components_at sequence_type
+returns-in-New c = rw c.in-New.is c.translate-in-New.ensures
+
+pub returns-in-Old : goal.returns-in-Old
+unfolding scope components_at sequence_type
+returns-in-Old c = rw c.in-Old.is c.translate-in-Old.ensures
+
+pub returns-in-Group : goal.returns-in-Group
+unfolding scope components_at sequence_type group_type
+returns-in-Group c = rw c.in-Group.is c.translate-in-Group.ensures

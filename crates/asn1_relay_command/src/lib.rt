@@ -1,0 +1,10 @@
+//! The command of the program `asn1_relay`.
+#![tactic(auto)]
+
+mod fault;
+mod order;
+mod program;
+
+pub use fault::Fault;
+pub use order::{Kind, Order, read_order};
+pub use program::{command, refuse_arguments, translate_all};

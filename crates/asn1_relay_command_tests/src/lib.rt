@@ -1,0 +1,5 @@
+//! Runs of the program's command, with readers and writers that fail.
+#![tactic(auto)]
+
+#[cfg(test)]
+mod tests;
