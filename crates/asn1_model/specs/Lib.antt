@@ -13,5 +13,4 @@ pub mod Rows
 pub mod Typed
 pub mod Lawful
 pub mod Versions
-pub mod ReadingRows
 pub mod VersionRows
