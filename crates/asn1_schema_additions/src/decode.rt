@@ -1,11 +1,11 @@
 //! The additions of a sequence or set, as they are read.
-ghost use Rattle.std.specs.Prelude.{◌≡◌, ◌+◌, true, OnOk, IfErr, IfOk};
+ghost use Rattle.std.specs.Prelude.{◌≡◌, ◌+◌, true, OnOk, OnErr, IfErr, IfOk};
 ghost use Rattle.asn1_model.specs.Value.{fields, end, same};
 ghost use Rattle.asn1_model.specs.Schema.{required, optional, by_default};
 ghost use Rattle.asn1_schema_presented.specs.Presents.{there};
 ghost use Rattle.asn1_schema_presented.specs.Tables.{marks, sequence_type};
 ghost use Rattle.asn1_schema_presented.specs.Parts.{part_of, part_unless};
-ghost use Rattle.asn1_schema_decode.specs.Reads.{Stopped, Reads, Unread};
+ghost use Rattle.asn1_schema_decode.specs.Reads.{Reads, Unread};
 ghost use Rattle.asn1_schema_extensions.specs.Additions.{group_type, group_part};
 ghost use Rattle.asn1_schema_additions.specs.Reads.{ReadsExtension, UnreadExtension, ReadsExtensionDefault, UnreadExtensionDefault, ReadsAddition, UnreadAddition, ReadsAdded, UnreadAdded};
 
@@ -29,7 +29,7 @@ pub trait DecodeAdditions: AdditionsOf + Drop {
         ensures ok { IfOk result (λ x. ReadsAdded D.step Self.additions (D.levels decoder.old) (Self.parts x) decoder.old decoder.new) }
         ensures level { OnOk result (D.levels decoder.new ≡ D.levels decoder.old + 1) }
         ensures only { IfErr result (UnreadAdded D.step Self.additions (D.levels decoder.old) decoder.old) }
-        ensures failed { IfErr result (Stopped D.has_failed decoder.new) }
+        ensures failed { OnErr result (D.has_failed decoder.new) }
         ensures already { D.has_failed decoder.old → result ≡ Err DecodeError.AlreadyFailed };
 }
 
@@ -95,7 +95,7 @@ pub trait DecodeExtension: Decoder {
         ensures ok { IfOk result (λ x. ReadsAddition Self.step required T.schema (Self.levels self.old) (there (T.meaning x)) self.old self.new) }
         ensures level { OnOk result (Self.levels self.new ≡ Self.levels self.old) }
         ensures only { IfErr result (UnreadAddition Self.step required T.schema (Self.levels self.old) self.old) }
-        ensures failed { IfErr result (Stopped Self.has_failed self.new) }
+        ensures failed { OnErr result (Self.has_failed self.new) }
         ensures already { Self.has_failed self.old → result ≡ Err DecodeError.AlreadyFailed }
     {
         let present = self.get_addition()?;
@@ -117,7 +117,7 @@ pub trait DecodeExtension: Decoder {
         ensures ok { IfOk result (λ x. ReadsAddition Self.step optional T.schema (Self.levels self.old) (part_of T.meaning x) self.old self.new) }
         ensures level { OnOk result (Self.levels self.new ≡ Self.levels self.old) }
         ensures only { IfErr result (UnreadAddition Self.step optional T.schema (Self.levels self.old) self.old) }
-        ensures failed { IfErr result (Stopped Self.has_failed self.new) }
+        ensures failed { OnErr result (Self.has_failed self.new) }
         ensures already { Self.has_failed self.old → result ≡ Err DecodeError.AlreadyFailed }
     {
         self.decode_extension_addition_with_tag(alloc, T::TAG)
@@ -134,7 +134,7 @@ pub trait DecodeExtension: Decoder {
         ensures ok { IfOk result (λ x. ReadsAddition Self.step optional T.schema (Self.levels self.old) (part_of T.meaning x) self.old self.new) }
         ensures level { OnOk result (Self.levels self.new ≡ Self.levels self.old) }
         ensures only { IfErr result (UnreadAddition Self.step optional T.schema (Self.levels self.old) self.old) }
-        ensures failed { IfErr result (Stopped Self.has_failed self.new) }
+        ensures failed { OnErr result (Self.has_failed self.new) }
         ensures already { Self.has_failed self.old → result ≡ Err DecodeError.AlreadyFailed }
     {
         let value = self.decode_extension_addition_with_tag_and_constraints(
@@ -156,7 +156,7 @@ pub trait DecodeExtension: Decoder {
         ensures ok { IfOk result (λ x. ReadsExtension Self.step (T.under constraints.entry) (Self.levels self.old) (part_of T.meaning x) self.old self.new) }
         ensures level { OnOk result (Self.levels self.new ≡ Self.levels self.old) }
         ensures only { IfErr result (UnreadExtension Self.step (T.under constraints.entry) (Self.levels self.old) self.old) }
-        ensures failed { IfErr result (Stopped Self.has_failed self.new) }
+        ensures failed { OnErr result (Self.has_failed self.new) }
         ensures already { Self.has_failed self.old → result ≡ Err DecodeError.AlreadyFailed }
     {
         self.decode_extension_addition_with_tag_and_constraints(alloc, T::TAG, constraints)
@@ -175,7 +175,7 @@ pub trait DecodeExtension: Decoder {
         ensures ok { IfOk result (λ x. ReadsExtension Self.step (T.under constraints.entry) (Self.levels self.old) (part_of T.meaning x) self.old self.new) }
         ensures level { OnOk result (Self.levels self.new ≡ Self.levels self.old) }
         ensures only { IfErr result (UnreadExtension Self.step (T.under constraints.entry) (Self.levels self.old) self.old) }
-        ensures failed { IfErr result (Stopped Self.has_failed self.new) }
+        ensures failed { OnErr result (Self.has_failed self.new) }
         ensures already { Self.has_failed self.old → result ≡ Err DecodeError.AlreadyFailed }
     {
         self.decode_extension_addition_with_constraints(alloc, constraints)
@@ -193,7 +193,7 @@ pub trait DecodeExtension: Decoder {
         ensures ok { IfOk result (λ x. ReadsExtension Self.step (T.under constraints.entry) (Self.levels self.old) (part_of T.meaning x) self.old self.new) }
         ensures level { OnOk result (Self.levels self.new ≡ Self.levels self.old) }
         ensures only { IfErr result (UnreadExtension Self.step (T.under constraints.entry) (Self.levels self.old) self.old) }
-        ensures failed { IfErr result (Stopped Self.has_failed self.new) }
+        ensures failed { OnErr result (Self.has_failed self.new) }
         ensures already { Self.has_failed self.old → result ≡ Err DecodeError.AlreadyFailed }
     {
         let present = self.get_addition()?;
@@ -217,7 +217,7 @@ pub trait DecodeExtension: Decoder {
         ensures ok { IfOk result (λ x. ReadsAddition Self.step (by_default V.value) T.schema (Self.levels self.old) (part_unless (same (T.meaning x) V.value) (T.meaning x)) self.old self.new) }
         ensures level { OnOk result (Self.levels self.new ≡ Self.levels self.old) }
         ensures only { IfErr result (UnreadAddition Self.step (by_default V.value) T.schema (Self.levels self.old) self.old) }
-        ensures failed { IfErr result (Stopped Self.has_failed self.new) }
+        ensures failed { OnErr result (Self.has_failed self.new) }
         ensures already { Self.has_failed self.old → result ≡ Err DecodeError.AlreadyFailed }
     {
         self.decode_extension_addition_with_default_and_tag::<V, T>(alloc, T::TAG)
@@ -234,7 +234,7 @@ pub trait DecodeExtension: Decoder {
         ensures ok { IfOk result (λ x. ReadsAddition Self.step (by_default V.value) T.schema (Self.levels self.old) (part_unless (same (T.meaning x) V.value) (T.meaning x)) self.old self.new) }
         ensures level { OnOk result (Self.levels self.new ≡ Self.levels self.old) }
         ensures only { IfErr result (UnreadAddition Self.step (by_default V.value) T.schema (Self.levels self.old) self.old) }
-        ensures failed { IfErr result (Stopped Self.has_failed self.new) }
+        ensures failed { OnErr result (Self.has_failed self.new) }
         ensures already { Self.has_failed self.old → result ≡ Err DecodeError.AlreadyFailed }
     {
         let value = self.decode_extension_addition_with_default_and_tag_and_constraints::<V, T>(
@@ -256,7 +256,7 @@ pub trait DecodeExtension: Decoder {
         ensures ok { IfOk result (λ x. ReadsExtensionDefault Self.step (T.under constraints.entry) (Self.levels self.old) V.value (T.meaning x) self.old self.new) }
         ensures level { OnOk result (Self.levels self.new ≡ Self.levels self.old) }
         ensures only { IfErr result (UnreadExtensionDefault Self.step (T.under constraints.entry) (Self.levels self.old) V.value self.old) }
-        ensures failed { IfErr result (Stopped Self.has_failed self.new) }
+        ensures failed { OnErr result (Self.has_failed self.new) }
         ensures already { Self.has_failed self.old → result ≡ Err DecodeError.AlreadyFailed }
     {
         self.decode_extension_addition_with_default_and_tag_and_constraints::<V, T>(
@@ -276,12 +276,14 @@ pub trait DecodeExtension: Decoder {
         ensures ok { IfOk result (λ x. ReadsExtensionDefault Self.step (T.under constraints.entry) (Self.levels self.old) V.value (T.meaning x) self.old self.new) }
         ensures level { OnOk result (Self.levels self.new ≡ Self.levels self.old) }
         ensures only { IfErr result (UnreadExtensionDefault Self.step (T.under constraints.entry) (Self.levels self.old) V.value self.old) }
-        ensures failed { IfErr result (Stopped Self.has_failed self.new) }
+        ensures failed { OnErr result (Self.has_failed self.new) }
         ensures already { Self.has_failed self.old → result ≡ Err DecodeError.AlreadyFailed }
     {
         let present = self.get_addition()?;
         if !present {
-            let default = V::default_value(alloc)?;
+            let Ok(default) = V::default_value(alloc) else {
+                return Err(self.refuse(DecodeError::OutOfMemory));
+            };
             return Ok(default);
         }
         let value = T::decode_with_tag_and_constraints(alloc, self, tag, constraints)?;
@@ -300,7 +302,7 @@ pub trait DecodeExtension: Decoder {
         ensures ok { IfOk result (λ x. Reads Self.step (group_type G.components) (Self.levels self.old) (fields (G.parts x) end) self.old self.new) }
         ensures level { OnOk result (Self.levels self.new ≡ Self.levels self.old) }
         ensures only { IfErr result (Unread Self.step (group_type G.components) (Self.levels self.old) self.old) }
-        ensures failed { IfErr result (Stopped Self.has_failed self.new) }
+        ensures failed { OnErr result (Self.has_failed self.new) }
         ensures already { Self.has_failed self.old → result ≡ Err DecodeError.AlreadyFailed }
     {
         let optional = G::fields().number_of_optional_and_default_fields();
@@ -320,7 +322,7 @@ pub trait DecodeExtension: Decoder {
         ensures ok { IfOk result (λ x. ReadsAddition Self.step optional (group_type G.components) (Self.levels self.old) (group_part G.parts x) self.old self.new) }
         ensures level { OnOk result (Self.levels self.new ≡ Self.levels self.old) }
         ensures only { IfErr result (UnreadAddition Self.step optional (group_type G.components) (Self.levels self.old) self.old) }
-        ensures failed { IfErr result (Stopped Self.has_failed self.new) }
+        ensures failed { OnErr result (Self.has_failed self.new) }
         ensures already { Self.has_failed self.old → result ≡ Err DecodeError.AlreadyFailed }
     {
         let present = self.get_addition()?;
@@ -350,7 +352,7 @@ pub trait DecodeExtension: Decoder {
         ensures ok { IfOk result (λ x. Reads Self.step (sequence_type C.table) (Self.levels self.old) (fields (C.root x) (C.added x)) self.old self.new) }
         ensures level { OnOk result (Self.levels self.new ≡ Self.levels self.old) }
         ensures only { IfErr result (Unread Self.step (sequence_type C.table) (Self.levels self.old) self.old) }
-        ensures failed { IfErr result (Stopped Self.has_failed self.new) }
+        ensures failed { OnErr result (Self.has_failed self.new) }
         ensures already { Self.has_failed self.old → result ≡ Err DecodeError.AlreadyFailed }
     {
         self.begin_sequence(tag, true, optional)?;

@@ -8,7 +8,7 @@ use std::slice::Iter;
 
 /// SET OF (X.680 28): a bag of members. They stand in the order in which they were put there, which means nothing. It keeps the
 /// allocator that its constructor, or the vector handed to it, brought.
-#[derive(Drop)]
+#[derive(Clone, Debug, Drop)]
 pub struct SetOf<T> {
     pub(crate) items: Vec<T>,
 }

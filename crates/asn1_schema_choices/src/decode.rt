@@ -1,6 +1,6 @@
 //! How choices are read.
 ghost use Rattle.std.specs.Prelude.{◌≡◌, ◌+◌, Some, None, OnOk, OnErr, IfOk, IfErr};
-ghost use Rattle.asn1_schema_decode.specs.Reads.{Stopped, Reads, Unread, NoLevel};
+ghost use Rattle.asn1_schema_decode.specs.Reads.{Reads, Unread, NoLevel};
 ghost use Rattle.asn1_schema_tags.specs.Tags.{tag_of};
 ghost use Rattle.asn1_schema_choices.specs.Tagged.{ReadsTagged, UnreadTagged};
 ghost use Rattle.asn1_schema_choices.specs.Chosen.{chosen_type, begins, asks, IsAmong, of_tag};
@@ -27,7 +27,7 @@ pub trait DecodeChoice: Choice + Drop {
         ensures ok { IfOk result (λ x. Reads D.step (chosen_type Self.table chosen) (D.levels decoder.old) (Self.inner x) decoder.old decoder.new) }
         ensures level { OnOk result (D.levels decoder.new ≡ D.levels decoder.old) }
         ensures only { IfErr result (Unread D.step (chosen_type Self.table chosen) (D.levels decoder.old) decoder.old) }
-        ensures failed { IfErr result (Stopped D.has_failed decoder.new) }
+        ensures failed { OnErr result (D.has_failed decoder.new) }
         ensures already { D.has_failed decoder.old → result ≡ Err DecodeError.AlreadyFailed };
 
     /// Reads the value of the alternative of a tag. A tag that no alternative has is `InvalidTagVariantOnChoice`.
@@ -41,7 +41,7 @@ pub trait DecodeChoice: Choice + Drop {
         ensures ok { IfOk result (λ x. ReadsTagged D.step Self.table (tag_of tag) (D.levels decoder.old) (Self.place x) (Self.inner x) decoder.old decoder.new) }
         ensures level { OnOk result (D.levels decoder.new ≡ D.levels decoder.old) }
         ensures only { IfErr result (UnreadTagged D.step Self.table (tag_of tag) (D.levels decoder.old) decoder.old) }
-        ensures failed { IfErr result (Stopped D.has_failed decoder.new) }
+        ensures failed { OnErr result (D.has_failed decoder.new) }
         ensures unknown { of_tag Self.table (tag_of tag) ≡ None → result ≡ Err DecodeError.InvalidTagVariantOnChoice }
         ensures already { D.has_failed decoder.old → (c : Chosen) → of_tag Self.table (tag_of tag) ≡ Some c → result ≡ Err DecodeError.AlreadyFailed }
     {
@@ -67,7 +67,7 @@ pub trait DecodeAlternatives: Decoder {
         ensures ok { IfOk result (λ x. Reads Self.step (T.under constraints.entry) (Self.levels self.old) (T.meaning x) self.old self.new) }
         ensures level { OnOk result (Self.levels self.new ≡ Self.levels self.old) }
         ensures only { IfErr result (Unread Self.step (T.under constraints.entry) (Self.levels self.old) self.old) }
-        ensures failed { IfErr result (Stopped Self.has_failed self.new) }
+        ensures failed { OnErr result (Self.has_failed self.new) }
         ensures already { Self.has_failed self.old → result ≡ Err DecodeError.AlreadyFailed }
     {
         let chosen = self.begin_alternatives::<T>(tag)?;

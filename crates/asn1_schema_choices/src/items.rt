@@ -1,7 +1,7 @@
 //! How enumerations are written and read.
 ghost use Rattle.std.specs.Prelude.{◌≡◌, OnOk, OnErr, IfOk, IfErr};
 ghost use Rattle.asn1_schema_encode.specs.Writes.{Writes, CannotWrite};
-ghost use Rattle.asn1_schema_decode.specs.Reads.{Stopped, Reads, Unread};
+ghost use Rattle.asn1_schema_decode.specs.Reads.{Reads, Unread};
 
 use asn1_schema_decode::Decoder;
 use asn1_schema_encode::Encoder;
@@ -36,7 +36,7 @@ pub trait DecodeItems: Decoder {
         ensures ok { IfOk result (λ x. Reads Self.step T.schema (Self.levels self.old) (T.meaning x) self.old self.new) }
         ensures level { OnOk result (Self.levels self.new ≡ Self.levels self.old) }
         ensures only { IfErr result (Unread Self.step T.schema (Self.levels self.old) self.old) }
-        ensures failed { IfErr result (Stopped Self.has_failed self.new) }
+        ensures failed { OnErr result (Self.has_failed self.new) }
         ensures already { Self.has_failed self.old → result ≡ Err DecodeError.AlreadyFailed }
     {
         let value = self.decode_enumerated(tag)?;

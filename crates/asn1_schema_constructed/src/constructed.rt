@@ -4,7 +4,7 @@ ghost use Rattle.asn1_model.specs.Value.{Parts, fields};
 ghost use Rattle.asn1_schema_constraints.specs.declared.lists.Constraints.{Constraints};
 ghost use Rattle.asn1_schema_presented.specs.Tables.{Table, sequence_type};
 ghost use Rattle.asn1_schema_encode.specs.Writes.{Writes, CannotWrite, WritesTail, CannotWriteTail};
-ghost use Rattle.asn1_schema_decode.specs.Reads.{Stopped, Reads, Unread, ReadsTail, UnreadTail};
+ghost use Rattle.asn1_schema_decode.specs.Reads.{Reads, Unread, ReadsTail, UnreadTail};
 ghost use Rattle.asn1_schema_constructed.specs.Constructed.{Form, AreFields, AreAdditions, constructed_type};
 
 use asn1_schema_decode::Decoder;
@@ -53,7 +53,7 @@ pub trait Constructed: AsnType + Drop {
         ensures ok { IfOk result (λ x. ReadsTail D.step table (D.levels decoder.old) (root x) (added x) decoder.old decoder.new) }
         ensures level { OnOk result (D.levels decoder.new ≡ D.levels decoder.old + 1) }
         ensures only { IfErr result (UnreadTail D.step table (D.levels decoder.old) decoder.old) }
-        ensures failed { IfErr result (Stopped D.has_failed decoder.new) }
+        ensures failed { OnErr result (D.has_failed decoder.new) }
         ensures already { D.has_failed decoder.old → result ≡ Err DecodeError.AlreadyFailed };
 
     /// A value means its components.
@@ -101,7 +101,7 @@ pub trait DecodeConstructed: Decoder {
         ensures ok { IfOk result (λ x. Reads Self.step (sequence_type T.table) (Self.levels self.old) (fields (T.root x) (T.added x)) self.old self.new) }
         ensures level { OnOk result (Self.levels self.new ≡ Self.levels self.old) }
         ensures only { IfErr result (Unread Self.step (sequence_type T.table) (Self.levels self.old) self.old) }
-        ensures failed { IfErr result (Stopped Self.has_failed self.new) }
+        ensures failed { OnErr result (Self.has_failed self.new) }
         ensures already { Self.has_failed self.old → result ≡ Err DecodeError.AlreadyFailed }
     {
         let optional = T::fields().number_of_optional_and_default_fields();

@@ -20,10 +20,6 @@ pub record NoRecord {S : Type 0} (step : S → Record → S → Type 0) (q : Que
 pub record NoLevel {S : Type 0} (step : S → Record → S → Type 0) (q : Question) (levels : ℕ) (old : S) (x : DecodeError) : Type 0 where
   pub none : ¬ (x ≡ OutOfMemory) → 0 < levels → (r : Record) (new : S) → question r ≡ q → step old r new → ⊥
 
--- After an error other than want of memory the decoder has failed.
-pub record Stopped {S : Type 0} (has_failed : S → Type 0) (new : S) (x : DecodeError) : Type 0 where
-  pub failed : ¬ (x ≡ OutOfMemory) → has_failed new
-
 -- The state goes from old to new by the records of a value that nests at most n levels, and v is its normal form.
 pub record Reads {S : Type 0} (step : S → Record → S → Type 0) (schema : ℕ → Schema) (n : ℕ) (v : Value) (old new : S) : Type 0 where
   pub raw : Value

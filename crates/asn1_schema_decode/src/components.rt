@@ -1,10 +1,10 @@
 //! The components of a sequence, as they are read.
-ghost use Rattle.std.specs.Prelude.{◌≡◌, ◌+◌, false, OnOk, IfErr, IfOk};
+ghost use Rattle.std.specs.Prelude.{◌≡◌, ◌+◌, false, OnOk, OnErr, IfErr, IfOk};
 ghost use Rattle.asn1_model.specs.Value.{fields, same};
 ghost use Rattle.asn1_model.specs.Schema.{optional, by_default};
 ghost use Rattle.asn1_schema_presented.specs.Tables.{marks, sequence_type};
 ghost use Rattle.asn1_schema_presented.specs.Parts.{part_of, part_unless};
-ghost use Rattle.asn1_schema_decode.specs.Reads.{Stopped, Reads, Unread, ReadsPart, UnreadPart, ReadsOptional, UnreadOptional, ReadsDefault, UnreadDefault, ReadsTail, UnreadTail};
+ghost use Rattle.asn1_schema_decode.specs.Reads.{Reads, Unread, ReadsPart, UnreadPart, ReadsOptional, UnreadOptional, ReadsDefault, UnreadDefault, ReadsTail, UnreadTail};
 
 use crate::decode::{Decode, Decoder};
 use asn1_schema_components::{
@@ -23,7 +23,7 @@ pub trait DecodeComponents: ComponentsOf + Drop {
         ensures ok { IfOk result (λ x. ReadsTail D.step Self.table (D.levels decoder.old) (Self.root x) (Self.added x) decoder.old decoder.new) }
         ensures level { OnOk result (D.levels decoder.new ≡ D.levels decoder.old + 1) }
         ensures only { IfErr result (UnreadTail D.step Self.table (D.levels decoder.old) decoder.old) }
-        ensures failed { IfErr result (Stopped D.has_failed decoder.new) }
+        ensures failed { OnErr result (D.has_failed decoder.new) }
         ensures already { D.has_failed decoder.old → result ≡ Err DecodeError.AlreadyFailed };
 }
 
@@ -68,7 +68,7 @@ pub trait DecodeSequence: Decoder {
         ensures ok { IfOk result (λ x. ReadsPart Self.step optional T.schema (Self.levels self.old) (part_of T.meaning x) self.old self.new) }
         ensures level { OnOk result (Self.levels self.new ≡ Self.levels self.old) }
         ensures only { IfErr result (UnreadPart Self.step optional T.schema (Self.levels self.old) self.old) }
-        ensures failed { IfErr result (Stopped Self.has_failed self.new) }
+        ensures failed { OnErr result (Self.has_failed self.new) }
         ensures already { Self.has_failed self.old → result ≡ Err DecodeError.AlreadyFailed }
     {
         self.decode_optional_with_tag(alloc, T::TAG)
@@ -85,7 +85,7 @@ pub trait DecodeSequence: Decoder {
         ensures ok { IfOk result (λ x. ReadsPart Self.step optional T.schema (Self.levels self.old) (part_of T.meaning x) self.old self.new) }
         ensures level { OnOk result (Self.levels self.new ≡ Self.levels self.old) }
         ensures only { IfErr result (UnreadPart Self.step optional T.schema (Self.levels self.old) self.old) }
-        ensures failed { IfErr result (Stopped Self.has_failed self.new) }
+        ensures failed { OnErr result (Self.has_failed self.new) }
         ensures already { Self.has_failed self.old → result ≡ Err DecodeError.AlreadyFailed }
     {
         let value = self.decode_optional_with_tag_and_constraints(alloc, tag, T::constraints())?;
@@ -103,7 +103,7 @@ pub trait DecodeSequence: Decoder {
         ensures ok { IfOk result (λ x. ReadsOptional Self.step (T.under constraints.entry) (Self.levels self.old) (part_of T.meaning x) self.old self.new) }
         ensures level { OnOk result (Self.levels self.new ≡ Self.levels self.old) }
         ensures only { IfErr result (UnreadOptional Self.step (T.under constraints.entry) (Self.levels self.old) self.old) }
-        ensures failed { IfErr result (Stopped Self.has_failed self.new) }
+        ensures failed { OnErr result (Self.has_failed self.new) }
         ensures already { Self.has_failed self.old → result ≡ Err DecodeError.AlreadyFailed }
     {
         self.decode_optional_with_tag_and_constraints(alloc, T::TAG, constraints)
@@ -121,7 +121,7 @@ pub trait DecodeSequence: Decoder {
         ensures ok { IfOk result (λ x. ReadsOptional Self.step (T.under constraints.entry) (Self.levels self.old) (part_of T.meaning x) self.old self.new) }
         ensures level { OnOk result (Self.levels self.new ≡ Self.levels self.old) }
         ensures only { IfErr result (UnreadOptional Self.step (T.under constraints.entry) (Self.levels self.old) self.old) }
-        ensures failed { IfErr result (Stopped Self.has_failed self.new) }
+        ensures failed { OnErr result (Self.has_failed self.new) }
         ensures already { Self.has_failed self.old → result ≡ Err DecodeError.AlreadyFailed }
     {
         let present = self.get_mark()?;
@@ -144,7 +144,7 @@ pub trait DecodeSequence: Decoder {
         ensures ok { IfOk result (λ x. ReadsPart Self.step optional T.schema (Self.levels self.old) (part_of T.meaning x) self.old self.new) }
         ensures level { OnOk result (Self.levels self.new ≡ Self.levels self.old) }
         ensures only { IfErr result (UnreadPart Self.step optional T.schema (Self.levels self.old) self.old) }
-        ensures failed { IfErr result (Stopped Self.has_failed self.new) }
+        ensures failed { OnErr result (Self.has_failed self.new) }
         ensures already { Self.has_failed self.old → result ≡ Err DecodeError.AlreadyFailed }
     {
         self.decode_optional(alloc)
@@ -162,7 +162,7 @@ pub trait DecodeSequence: Decoder {
         ensures ok { IfOk result (λ x. ReadsPart Self.step (by_default V.value) T.schema (Self.levels self.old) (part_unless (same (T.meaning x) V.value) (T.meaning x)) self.old self.new) }
         ensures level { OnOk result (Self.levels self.new ≡ Self.levels self.old) }
         ensures only { IfErr result (UnreadPart Self.step (by_default V.value) T.schema (Self.levels self.old) self.old) }
-        ensures failed { IfErr result (Stopped Self.has_failed self.new) }
+        ensures failed { OnErr result (Self.has_failed self.new) }
         ensures already { Self.has_failed self.old → result ≡ Err DecodeError.AlreadyFailed }
     {
         self.decode_default_with_tag::<V, T>(alloc, T::TAG)
@@ -179,7 +179,7 @@ pub trait DecodeSequence: Decoder {
         ensures ok { IfOk result (λ x. ReadsPart Self.step (by_default V.value) T.schema (Self.levels self.old) (part_unless (same (T.meaning x) V.value) (T.meaning x)) self.old self.new) }
         ensures level { OnOk result (Self.levels self.new ≡ Self.levels self.old) }
         ensures only { IfErr result (UnreadPart Self.step (by_default V.value) T.schema (Self.levels self.old) self.old) }
-        ensures failed { IfErr result (Stopped Self.has_failed self.new) }
+        ensures failed { OnErr result (Self.has_failed self.new) }
         ensures already { Self.has_failed self.old → result ≡ Err DecodeError.AlreadyFailed }
     {
         let value = self.decode_default_with_tag_and_constraints::<V, T>(
@@ -201,7 +201,7 @@ pub trait DecodeSequence: Decoder {
         ensures ok { IfOk result (λ x. ReadsDefault Self.step (T.under constraints.entry) (Self.levels self.old) V.value (T.meaning x) self.old self.new) }
         ensures level { OnOk result (Self.levels self.new ≡ Self.levels self.old) }
         ensures only { IfErr result (UnreadDefault Self.step (T.under constraints.entry) (Self.levels self.old) V.value self.old) }
-        ensures failed { IfErr result (Stopped Self.has_failed self.new) }
+        ensures failed { OnErr result (Self.has_failed self.new) }
         ensures already { Self.has_failed self.old → result ≡ Err DecodeError.AlreadyFailed }
     {
         self.decode_default_with_tag_and_constraints::<V, T>(alloc, T::TAG, constraints)
@@ -219,12 +219,14 @@ pub trait DecodeSequence: Decoder {
         ensures ok { IfOk result (λ x. ReadsDefault Self.step (T.under constraints.entry) (Self.levels self.old) V.value (T.meaning x) self.old self.new) }
         ensures level { OnOk result (Self.levels self.new ≡ Self.levels self.old) }
         ensures only { IfErr result (UnreadDefault Self.step (T.under constraints.entry) (Self.levels self.old) V.value self.old) }
-        ensures failed { IfErr result (Stopped Self.has_failed self.new) }
+        ensures failed { OnErr result (Self.has_failed self.new) }
         ensures already { Self.has_failed self.old → result ≡ Err DecodeError.AlreadyFailed }
     {
         let is_there = self.get_mark()?;
         if !is_there {
-            let default = V::default_value(alloc)?;
+            let Ok(default) = V::default_value(alloc) else {
+                return Err(self.refuse(DecodeError::OutOfMemory));
+            };
             return Ok(default);
         }
         let value = T::decode_with_tag_and_constraints(alloc, self, tag, constraints)?;
@@ -249,7 +251,7 @@ pub trait DecodeSequence: Decoder {
         ensures ok { IfOk result (λ x. Reads Self.step (sequence_type C.table) (Self.levels self.old) (fields (C.root x) (C.added x)) self.old self.new) }
         ensures level { OnOk result (Self.levels self.new ≡ Self.levels self.old) }
         ensures only { IfErr result (Unread Self.step (sequence_type C.table) (Self.levels self.old) self.old) }
-        ensures failed { IfErr result (Stopped Self.has_failed self.new) }
+        ensures failed { OnErr result (Self.has_failed self.new) }
         ensures already { Self.has_failed self.old → result ≡ Err DecodeError.AlreadyFailed }
     {
         self.begin_sequence(tag, false, optional)?;

@@ -12,7 +12,7 @@ ghost use Rattle.asn1_model.specs.Numbers.{is_within, is_count_within};
 ghost use Rattle.asn1_schema_bounds.specs.Bounds.{counts_of, members_of};
 ghost use Rattle.asn1_schema_constraints.specs.Terms.{bounds_of, held_of, sizes_of, alphabet_of};
 ghost use Rattle.asn1_schema_tags.specs.Tags.{tag_of};
-ghost use Rattle.asn1_schema_decode.specs.Reads.{NoRecord, NoLevel, Stopped, Reads, Unread};
+ghost use Rattle.asn1_schema_decode.specs.Reads.{NoRecord, NoLevel, Reads, Unread};
 
 use asn1_schema_bounds::Bounded;
 use asn1_schema_constraints::Constraints;
@@ -363,7 +363,7 @@ pub trait Decoder {
 /// A type whose values are read.
 pub trait Decode: AsnType + Drop {
     /// Reads a value of the type under these constraints whose records are next, and gives the value of the
-    /// program that means its normal form. After an error other than want of memory the decoder has failed.
+    /// program that means its normal form. After an error the decoder has failed.
     fn decode_with_tag_and_constraints<D: Decoder>(
         alloc: Global,
         decoder: &mut D,
@@ -373,7 +373,7 @@ pub trait Decode: AsnType + Drop {
         ensures ok { IfOk result (λ x. Reads D.step (Self.under constraints.entry) (D.levels decoder.old) (Self.meaning x) decoder.old decoder.new) }
         ensures level { OnOk result (D.levels decoder.new ≡ D.levels decoder.old) }
         ensures only { IfErr result (Unread D.step (Self.under constraints.entry) (D.levels decoder.old) decoder.old) }
-        ensures failed { IfErr result (Stopped D.has_failed decoder.new) }
+        ensures failed { OnErr result (D.has_failed decoder.new) }
         ensures already { D.has_failed decoder.old → result ≡ Err DecodeError.AlreadyFailed };
 
     /// Reads a value of the type whose records are next, and gives the value of the program that means its
@@ -384,7 +384,7 @@ pub trait Decode: AsnType + Drop {
         ensures ok { IfOk result (λ x. Reads D.step Self.schema (D.levels decoder.old) (Self.meaning x) decoder.old decoder.new) }
         ensures level { OnOk result (D.levels decoder.new ≡ D.levels decoder.old) }
         ensures only { IfErr result (Unread D.step Self.schema (D.levels decoder.old) decoder.old) }
-        ensures failed { IfErr result (Stopped D.has_failed decoder.new) }
+        ensures failed { OnErr result (D.has_failed decoder.new) }
         ensures already { D.has_failed decoder.old → result ≡ Err DecodeError.AlreadyFailed }
     {
         Self::decode_with_tag(alloc, decoder, Self::TAG)
@@ -401,7 +401,7 @@ pub trait Decode: AsnType + Drop {
         ensures ok { IfOk result (λ x. Reads D.step Self.schema (D.levels decoder.old) (Self.meaning x) decoder.old decoder.new) }
         ensures level { OnOk result (D.levels decoder.new ≡ D.levels decoder.old) }
         ensures only { IfErr result (Unread D.step Self.schema (D.levels decoder.old) decoder.old) }
-        ensures failed { IfErr result (Stopped D.has_failed decoder.new) }
+        ensures failed { OnErr result (D.has_failed decoder.new) }
         ensures already { D.has_failed decoder.old → result ≡ Err DecodeError.AlreadyFailed }
     {
         let value = Self::decode_with_tag_and_constraints(
@@ -424,7 +424,7 @@ pub trait Decode: AsnType + Drop {
         ensures ok { IfOk result (λ x. Reads D.step (Self.under constraints.entry) (D.levels decoder.old) (Self.meaning x) decoder.old decoder.new) }
         ensures level { OnOk result (D.levels decoder.new ≡ D.levels decoder.old) }
         ensures only { IfErr result (Unread D.step (Self.under constraints.entry) (D.levels decoder.old) decoder.old) }
-        ensures failed { IfErr result (Stopped D.has_failed decoder.new) }
+        ensures failed { OnErr result (D.has_failed decoder.new) }
         ensures already { D.has_failed decoder.old → result ≡ Err DecodeError.AlreadyFailed }
     {
         Self::decode_with_tag_and_constraints(alloc, decoder, Self::TAG, constraints)

@@ -1,13 +1,13 @@
 //! Lists, as they are read.
 
-ghost use Rattle.std.specs.Prelude.{◌≡◌, ◌+◌, length, true, not, OnOk, IfOk, IfErr};
+ghost use Rattle.std.specs.Prelude.{◌≡◌, ◌+◌, length, true, not, OnOk, IfOk, OnErr, IfErr};
 ghost use Rattle.asn1_model.specs.Numbers.{is_count_to, is_count_within};
 ghost use Rattle.asn1_model.specs.Value.{members};
 ghost use Rattle.asn1_schema_bounds.specs.Bounds.{members_of};
 ghost use Rattle.asn1_schema_constraints.specs.Terms.{sizes_of};
 ghost use Rattle.asn1_schema_presented.specs.Parts.{values_of};
 ghost use Rattle.asn1_schema_presented.specs.Tables.{list_type};
-ghost use Rattle.asn1_schema_decode.specs.Reads.{Stopped, Reads, Unread, ReadsMembers, UnreadMembers};
+ghost use Rattle.asn1_schema_decode.specs.Reads.{Reads, Unread, ReadsMembers, UnreadMembers};
 
 use crate::decode::{Decode, Decoder};
 use asn1_schema_bounds::Bounded;
@@ -33,7 +33,7 @@ pub trait DecodeList: Decoder {
         ensures held { IfOk result (λ x. is_count_within (members_of held) (length x.items) ≡ true) }
         ensures level { OnOk result (Self.levels self.new ≡ Self.levels self.old) }
         ensures only { IfErr result (Unread Self.step (list_type (sizes_of constraints.entry.size) (members_of held) T.schema) (Self.levels self.old) self.old) }
-        ensures failed { IfErr result (Stopped Self.has_failed self.new) }
+        ensures failed { OnErr result (Self.has_failed self.new) }
         ensures already { Self.has_failed self.old → result ≡ Err DecodeError.AlreadyFailed }
     {
         self.begin_list(tag, constraints, held)?;
@@ -54,7 +54,7 @@ fn members_within<T: Decode, D: Decoder>(
     ensures held { IfOk result (λ x. is_count_within (members_of held) (length x.items) ≡ true) }
     ensures level { OnOk result (D.levels decoder.new ≡ D.levels decoder.old + 1) }
     ensures only { IfErr result (UnreadMembers D.step T.schema (D.levels decoder.old) (members_of held) decoder.old) }
-    ensures failed { IfErr result (Stopped D.has_failed decoder.new) }
+    ensures failed { OnErr result (D.has_failed decoder.new) }
 {
     let mut items = Vec::new(alloc);
     while decoder.get_further()? {
@@ -62,7 +62,9 @@ fn members_within<T: Decode, D: Decoder>(
             return Err(decoder.refuse(DecodeError::SizeConstraintNotSatisfied));
         }
         let item = T::decode(alloc, decoder)?;
-        items.push(item)?;
+        let Ok(()) = items.push(item) else {
+            return Err(decoder.refuse(DecodeError::OutOfMemory));
+        };
     }
     if !held.holds(items.len()) {
         return Err(decoder.refuse(DecodeError::SizeConstraintNotSatisfied));

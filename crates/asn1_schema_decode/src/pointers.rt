@@ -15,7 +15,7 @@ impl<T: Decode> Decode for Box<T> {
         let inner = T::decode_with_tag_and_constraints(alloc, decoder, tag, constraints)?;
         match Box::new(alloc, inner) {
             Ok(boxed) => Ok(boxed),
-            Err(_) => Err(DecodeError::OutOfMemory),
+            Err(_) => Err(decoder.refuse(DecodeError::OutOfMemory)),
         }
     }
 }

@@ -31,8 +31,10 @@ impl Decode for OctetString {
         constraints: Constraints,
     ) -> Result<Self, DecodeError> {
         let value = decoder.decode_octet_string(alloc, tag, constraints, Bounded::None)?;
-        let string = octet_string(alloc, value)?;
-        Ok(string)
+        match octet_string(alloc, value) {
+            Ok(string) => Ok(string),
+            Err(error) => Err(decoder.refuse(error)),
+        }
     }
 }
 

@@ -118,7 +118,7 @@ impl Constructed for Chain {
         decoder.begin_sequence(Tag::SEQUENCE, false, optional)?;
         let inner = Chain::read_fields(alloc, decoder)?;
         let Ok(boxed) = Box::new(alloc, inner) else {
-            return Err(DecodeError::OutOfMemory);
+            return Err(decoder.refuse(DecodeError::OutOfMemory));
         };
         decoder.end()?;
         Ok(Chain {

@@ -156,7 +156,7 @@ impl Decode for Nest {
         }
         let inner = Nest::decode_with_tag_and_constraints(alloc, decoder, MORE, Constraints::NONE)?;
         let Ok(boxed) = Box::new(alloc, inner) else {
-            return Err(DecodeError::OutOfMemory);
+            return Err(decoder.refuse(DecodeError::OutOfMemory));
         };
         decoder.end()?;
         Ok(Nest::More(boxed))

@@ -3,7 +3,7 @@ ghost use Rattle.std.specs.Prelude.{◌≡◌, OnOk, OnErr, IfOk, IfErr};
 ghost use Rattle.asn1_model.specs.Schema.{visible, ia5, printable, numeric, general, graphic, teletex, bmp};
 ghost use Rattle.asn1_model.specs.Types.{any_count, any_size};
 ghost use Rattle.asn1_schema_constraints.specs.Terms.{sizes_of, alphabet_of};
-ghost use Rattle.asn1_schema_decode.specs.Reads.{NoRecord, Stopped, Reads, Unread};
+ghost use Rattle.asn1_schema_decode.specs.Reads.{NoRecord, Reads, Unread};
 ghost use Rattle.asn1_schema_presented.specs.Records.{octets, characters, asks_octets, asks_characters};
 
 use asn1_schema_bounds::Bounded;
@@ -21,24 +21,26 @@ use std::alloc::Global;
 
 /// What a decoder reads, by the names of types.
 pub trait DecodeNamed: Decoder {
-    /// A value of any type, as its octets: OCTET STRING (X.680 23) without constraints. After an error other than want of
-    /// memory the decoder has failed.
+    /// A value of any type, as its octets: OCTET STRING (X.680 23) without constraints. After an error the
+    /// decoder has failed.
     final fn decode_any(&mut self, alloc: Global, tag: Tag) -> Result<Any, DecodeError>
     where
         Self: Sized,
         ensures ok { IfOk result (λ x. Self.step self.old (octets any_size any_count x) self.new) }
         ensures level { OnOk result (Self.levels self.new ≡ Self.levels self.old) }
         ensures only { IfErr result (NoRecord Self.step (asks_octets any_size any_count) self.old) }
-        ensures failed { IfErr result (Stopped Self.has_failed self.new) }
+        ensures failed { OnErr result (Self.has_failed self.new) }
         ensures already { Self.has_failed self.old → result ≡ Err DecodeError.AlreadyFailed }
     {
         let octets = self.decode_octet_string(alloc, tag, Constraints::NONE, Bounded::None)?;
-        let owned = octets.into_vec(alloc)?;
+        let Ok(owned) = octets.into_vec(alloc) else {
+            return Err(self.refuse(DecodeError::OutOfMemory));
+        };
         Ok(Any::new(owned))
     }
 
     /// A value with another tag around its own (X.680 31.2.8), which leaves no octet in the packed and the octet encoding
-    /// rules. After an error other than want of memory the decoder has failed.
+    /// rules. After an error the decoder has failed.
     final fn decode_explicit_prefix<T: Decode>(
         &mut self,
         alloc: Global,
@@ -49,7 +51,7 @@ pub trait DecodeNamed: Decoder {
         ensures ok { IfOk result (λ x. Reads Self.step T.schema (Self.levels self.old) (T.meaning x) self.old self.new) }
         ensures level { OnOk result (Self.levels self.new ≡ Self.levels self.old) }
         ensures only { IfErr result (Unread Self.step T.schema (Self.levels self.old) self.old) }
-        ensures failed { IfErr result (Stopped Self.has_failed self.new) }
+        ensures failed { OnErr result (Self.has_failed self.new) }
         ensures already { Self.has_failed self.old → result ≡ Err DecodeError.AlreadyFailed }
     {
         T::decode(alloc, self)

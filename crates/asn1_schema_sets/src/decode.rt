@@ -1,8 +1,8 @@
 //! Sets, as they are read.
-ghost use Rattle.std.specs.Prelude.{◌≡◌, OnOk, IfErr, IfOk};
+ghost use Rattle.std.specs.Prelude.{◌≡◌, OnOk, OnErr, IfErr, IfOk};
 ghost use Rattle.asn1_model.specs.Value.{fields};
 ghost use Rattle.asn1_schema_presented.specs.Tables.{marks};
-ghost use Rattle.asn1_schema_decode.specs.Reads.{Stopped, Reads, Unread};
+ghost use Rattle.asn1_schema_decode.specs.Reads.{Reads, Unread};
 ghost use Rattle.asn1_schema_sets.specs.Sets.{set_type};
 
 use asn1_schema_constructed::Constructed;
@@ -28,7 +28,7 @@ pub trait DecodeSet: Decoder {
         ensures ok { IfOk result (λ x. Reads Self.step (set_type C.table) (Self.levels self.old) (fields (C.root x) (C.added x)) self.old self.new) }
         ensures level { OnOk result (Self.levels self.new ≡ Self.levels self.old) }
         ensures only { IfErr result (Unread Self.step (set_type C.table) (Self.levels self.old) self.old) }
-        ensures failed { IfErr result (Stopped Self.has_failed self.new) }
+        ensures failed { OnErr result (Self.has_failed self.new) }
         ensures already { Self.has_failed self.old → result ≡ Err DecodeError.AlreadyFailed }
     {
         self.begin_set(tag, extensible, optional)?;
@@ -47,7 +47,7 @@ pub trait DecodeSet: Decoder {
         ensures ok { IfOk result (λ x. Reads Self.step (set_type T.table) (Self.levels self.old) (fields (T.root x) (T.added x)) self.old self.new) }
         ensures level { OnOk result (Self.levels self.new ≡ Self.levels self.old) }
         ensures only { IfErr result (Unread Self.step (set_type T.table) (Self.levels self.old) self.old) }
-        ensures failed { IfErr result (Stopped Self.has_failed self.new) }
+        ensures failed { OnErr result (Self.has_failed self.new) }
         ensures already { Self.has_failed self.old → result ≡ Err DecodeError.AlreadyFailed }
     {
         let optional = T::fields().number_of_optional_and_default_fields();

@@ -146,7 +146,9 @@ impl Decode for Any {
         _constraints: Constraints,
     ) -> Result<Self, DecodeError> {
         let octets = decoder.decode_octet_string(alloc, tag, Constraints::NONE, Bounded::None)?;
-        let owned = octets.into_vec(alloc)?;
+        let Ok(owned) = octets.into_vec(alloc) else {
+            return Err(decoder.refuse(DecodeError::OutOfMemory));
+        };
         Ok(Any::new(owned))
     }
 }

@@ -106,3 +106,16 @@ fn equal_bags_are_hashed_alike(rt: HostRuntime) -> Result<(), Fail> {
     assert_eq!(rt; hashing.hash_one(&first), hashing.hash_one(&second));
     Ok(())
 }
+
+#[test]
+fn a_copy_has_the_same_members_and_the_bag_keeps_its_own(rt: HostRuntime) -> Result<(), Fail> {
+    let bag = bag_of(rt.alloc(), &[3, 1])?;
+    let copy = bag.clone()?;
+    assert_eq!(rt; copy.as_slice(), [3, 1].as_slice());
+    assert_eq!(rt; bag.as_slice(), [3, 1].as_slice());
+    assert_eq!(rt;
+        format!(in rt.alloc(); "{copy:?}")?.as_str(),
+        "SetOf { items: [3, 1] }"
+    );
+    Ok(())
+}

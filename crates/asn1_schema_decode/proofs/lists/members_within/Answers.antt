@@ -15,7 +15,7 @@ returns-in_err-item-clause-only g c = raised _ _ _ c.from_residual-in_err-item.e
 pub loop-items-preserved : goal.loop-items-preserved
 loop-items-preserved g c =
     let e = c.in_ok-get_further.ensures.level ∙ c.loop-items.invariant.1 in
-    (rw c.in_ok-push.ensures.items (from_next g.met.D.Decoder.one_record c.loop-items.invariant.0 (rw c.if-branch.true at c.in_ok-get_further.ensures.ok) (rw e at c.in_ok-item.ensures.ok)), c.in_ok-item.ensures.level ∙ e, refl)
+    (rw c.in-Ok.ensures.items (from_next g.met.D.Decoder.one_record c.loop-items.invariant.0 (rw c.if-branch.true at c.in_ok-get_further.ensures.ok) (rw e at c.in_ok-item.ensures.ok)), c.in_ok-item.ensures.level ∙ e, refl)
 
 pub returns-then-not-holds-clause-only : goal.returns-then-not-holds-clause-only
 returns-then-not-holds-clause-only g c = from_other g.met.D.Decoder.one_record _ _ c.loop-items.invariant.0 (rw c.if-branch.false at c.in_ok-get_further.ensures.ok) (let l : c.len-2.result ≡ length c.loop-items.items.items = omega (arith, c.len-2.ensures, c.loop-items.items.ok.0) in let e = c.holds.ensures in let f = c.if-not-holds.true in cc)

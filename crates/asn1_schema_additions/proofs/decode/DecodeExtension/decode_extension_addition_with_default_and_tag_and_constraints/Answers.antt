@@ -9,7 +9,7 @@ pub returns-in_err-present-clause-only : goal.returns-in_err-present-clause-only
 returns-in_err-present-clause-only g c = raised _ _ _ c.from_residual.ensures.1 (unread_extension_default_here c.in_err-present.ensures.only)
 
 pub returns-then-not-present-clause-ok : goal.returns-then-not-present-clause-ok
-returns-then-not-present-clause-ok g c = omitted c.in_ok-default.ensures (rw c.if-not-present.true at c.in_ok-present.ensures.ok)
+returns-then-not-present-clause-ok g c = omitted c.in-Ok.ensures (rw c.if-not-present.true at c.in_ok-present.ensures.ok)
 
 pub returns-in_err-value-clause-only : goal.returns-in_err-value-clause-only
 returns-in_err-value-clause-only g c = let one = g.met.Self.Decoder.one_record in raised _ _ _ c.from_residual-in_err-value.ensures.1 (unread_extension_default one (rw c.if-not-present.false at c.in_ok-present.ensures.ok) (rw c.in_ok-present.ensures.level at c.in_err-value.ensures.only))

@@ -9,7 +9,7 @@ pub returns-in_err-is_there-clause-only : goal.returns-in_err-is_there-clause-on
 returns-in_err-is_there-clause-only g c = raised _ _ _ c.from_residual.ensures.1 (unread_default_here c.in_err-is_there.ensures.only)
 
 pub returns-then-not-is_there-clause-ok : goal.returns-then-not-is_there-clause-ok
-returns-then-not-is_there-clause-ok g c = omitted c.in_ok-default.ensures (rw c.if-not-is_there.true at c.in_ok-is_there.ensures.ok)
+returns-then-not-is_there-clause-ok g c = omitted c.in-Ok.ensures (rw c.if-not-is_there.true at c.in_ok-is_there.ensures.ok)
 
 pub returns-in_err-value-clause-only : goal.returns-in_err-value-clause-only
 returns-in_err-value-clause-only g c = let one = g.met.Self.Decoder.one_record in raised _ _ _ c.from_residual-in_err-value.ensures.1 (unread_default one (rw c.if-not-is_there.false at c.in_ok-is_there.ensures.ok) (rw c.in_ok-is_there.ensures.level at c.in_err-value.ensures.only))
