@@ -4,7 +4,7 @@ use Rattle.std.proofs.lemmas.List.{append_cancel_left, append-nil}
 use Rattle.asn1_model.specs.Schema.{Schema}
 use Rattle.asn1_model.specs.Value.{Value}
 use Rattle.asn1_model.specs.Lawful.{IsLawful}
-use Rattle.asn1_model.specs.Rules.{Rules, canonical}
+use Rattle.asn1_model.specs.Rules.{canonical}
 use Rattle.asn1_laws_fronts.specs.Laws.{OneFrontIn}
 use Rattle.asn1_laws_fronts_octets.proofs.Forms.{one_front_oer, one_front_coer}
 use Rattle.asn1_laws_fronts_packed.proofs.Forms.{one_front_uper, one_front_aper}
@@ -12,7 +12,7 @@ use Rattle.asn1_laws_order.proofs.Canonical.{same_written}
 use Rattle.asn1_relay_core.specs.declared.codec.Codec.{Codec}
 use Rattle.asn1_relay_core.specs.declared.codec.Codec.TheVariants.{Uper, Aper, Oer, Coer}
 use Rattle.asn1_relay_core.specs.Coding.{rules_of}
-use Rattle.asn1_relay_core.specs.Recoding.{IsMessage, Answer, answered, not_an_encoding, surplus, no_target, IsAnswer, OneAnswerIsRight}
+use Rattle.asn1_relay_core.specs.Recoding.{IsMessage, Answer, answered, not_an_encoding, surplus, no_target, IsAnswer}
 
 pub one_front : (c : Codec) → OneFrontIn (rules_of c)
 one_front Uper = one_front_uper

@@ -5,7 +5,6 @@ use Rattle.std.proofs.lemmas.List.{append-nil}
 use Rattle.asn1_model.specs.Schema.{Schema}
 use Rattle.asn1_model.specs.Value.{Value, depth}
 use Rattle.asn1_model.specs.Lawful.{IsLawful}
-use Rattle.asn1_model.specs.Normal.{normal}
 use Rattle.asn1_model.specs.Rules.{Rules, canonical, encoding, of_moderate_length, IsEncoding}
 use Rattle.asn1_laws_values.proofs.Normal.{normal_depth}
 use Rattle.asn1_schema_faults.specs.declared.DecodeError.{DecodeError}
@@ -13,7 +12,6 @@ use Rattle.asn1_schema_faults.specs.declared.DecodeError.TheVariants as Decoding
 use Rattle.asn1_schema_faults.specs.declared.EncodeError.{EncodeError}
 use Rattle.asn1_schema_faults.specs.declared.EncodeError.TheVariants as Encoding
 use Rattle.asn1_schema_presented.specs.Tables.{IsValue}
-use Rattle.asn1_schema_presented.specs.Presents.{Fits}
 use Rattle.asn1_schema_messages.specs.Messages.{HasMessage, Tells, NoMessage}
 use Rattle.asn1_relay_core.specs.declared.codec.Codec.{Codec}
 use Rattle.asn1_relay_core.specs.declared.translation.RecodeFault.{RecodeFault}

@@ -40,7 +40,7 @@ impl Codec {
     ///
     /// # Errors
     ///
-    /// Want of memory aside, only where the value has none, or one of 2 to 60 octets or more.
+    /// Want of memory aside, only where the value has none, or, and then `TooLongValue`, one of 2 to 60 octets or more.
     pub fn encode<T: Encode>(self, alloc: Global, value: &T) -> Result<Vec<u8>, EncodeError>
         ensures ok { IfOk result (λ octets. IsWritten (rules_of self) T.schema (T.meaning value.now) (Some octets.items)) }
         ensures only { IfErr result (NotWritten (rules_of self) T.schema (T.meaning value.now)) }

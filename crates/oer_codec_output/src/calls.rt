@@ -32,11 +32,24 @@ fn within_limit(octets: Vec<u8>) -> Result<Vec<u8>, EncodeError>
     Ok(octets)
 }
 
+/// How a refusal of the value's type is passed on. That an encoding is too long is found by `within_limit` alone; a type that says so itself
+/// refuses its value, and is taken to refuse a length.
+fn refusal(error: EncodeError) -> EncodeError
+    ensures length { error ≡ EncodeError.TooLongValue → result ≡ EncodeError.SizeConstraintNotSatisfied }
+    ensures others { ¬ (error ≡ EncodeError.TooLongValue) → result ≡ error }
+{
+    match error {
+        EncodeError::TooLongValue => EncodeError::SizeConstraintNotSatisfied,
+        error => error,
+    }
+}
+
 /// The canonical encoding of a value (X.696).
 ///
 /// # Errors
 ///
-/// Those of the value's type, `TooLongValue` for an encoding of 2 to 60 octets or more, and `OutOfMemory`.
+/// `TooLongValue` for an encoding of 2 to 60 octets or more and for nothing else, `OutOfMemory`, and those of the value's type, where the
+/// value has no encoding of any length; a `TooLongValue` of the type's own comes as `SizeConstraintNotSatisfied`.
 pub fn encode<T: Encode>(alloc: Global, value: &T) -> Result<Vec<u8>, EncodeError>
     ensures ok { IfOk result (λ octets. IsEncoded T.schema (T.meaning value.now) octets.items) }
     ensures only { IfErr result (NotEncoded T.schema (T.meaning value.now)) }
@@ -45,8 +58,10 @@ pub fn encode<T: Encode>(alloc: Global, value: &T) -> Result<Vec<u8>, EncodeErro
     let mut worker = Vec::new(alloc);
     let options = EncoderOptions::coer();
     let mut encoder = Encoder::from_buffer(alloc, options, &mut output, &mut worker);
-    value.encode(&mut encoder)?;
-    within_limit(encoder.output())
+    match value.encode(&mut encoder) {
+        Ok(()) => within_limit(encoder.output()),
+        Err(error) => Err(refusal(error)),
+    }
 }
 
 /// The canonical encoding of a value (X.696) by its type under these constraints, which stand in place of its own.
@@ -66,8 +81,10 @@ pub fn encode_with_constraints<T: Encode>(
     let mut worker = Vec::new(alloc);
     let options = EncoderOptions::coer();
     let mut encoder = Encoder::from_buffer(alloc, options, &mut output, &mut worker);
-    value.encode_with_constraints(&mut encoder, constraints)?;
-    within_limit(encoder.output())
+    match value.encode_with_constraints(&mut encoder, constraints) {
+        Ok(()) => within_limit(encoder.output()),
+        Err(error) => Err(refusal(error)),
+    }
 }
 
 /// Adds the canonical encoding of a value (X.696) behind what stands in the buffer.

@@ -34,11 +34,24 @@ fn within_limit(octets: Vec<u8>) -> Result<Vec<u8>, EncodeError>
     Ok(octets)
 }
 
+/// How a refusal of the value's type is passed on. That an encoding is too long is found by `within_limit` alone; a type that says so itself
+/// refuses its value, and is taken to refuse a length.
+fn refusal(error: EncodeError) -> EncodeError
+    ensures length { error ≡ EncodeError.TooLongValue → result ≡ EncodeError.SizeConstraintNotSatisfied }
+    ensures others { ¬ (error ≡ EncodeError.TooLongValue) → result ≡ error }
+{
+    match error {
+        EncodeError::TooLongValue => EncodeError::SizeConstraintNotSatisfied,
+        error => error,
+    }
+}
+
 /// The canonical encoding of a value (X.691), in the variant that the options name: at least one octet.
 ///
 /// # Errors
 ///
-/// Those of the value's type, `TooLongValue` for an encoding of 2 to 60 octets or more, and `OutOfMemory`.
+/// `TooLongValue` for an encoding of 2 to 60 octets or more and for nothing else, `OutOfMemory`, and those of the value's type, where the
+/// value has no encoding of any length; a `TooLongValue` of the type's own comes as `SizeConstraintNotSatisfied`.
 pub fn encode<T: Encode>(
     alloc: Global,
     options: EncoderOptions,
@@ -62,9 +75,13 @@ fn encode_into<T: Encode>(
     ensures only { IfErr result (NotEncoded (is_aligned options) T.schema (T.meaning value.now)) }
 {
     let mut encoder = Encoder::new_with_output(alloc, options, room);
-    value.encode(&mut encoder)?;
-    let octets = encoder.output()?;
-    within_limit(octets)
+    match value.encode(&mut encoder) {
+        Ok(()) => {
+            let octets = encoder.output()?;
+            within_limit(octets)
+        }
+        Err(error) => Err(refusal(error)),
+    }
 }
 
 /// The canonical encoding of a value (X.691) by its type under these constraints, which stand in place of its own.
@@ -83,9 +100,13 @@ pub fn encode_with_constraints<T: Encode>(
 {
     let room = with_room(alloc)?;
     let mut encoder = Encoder::new_with_output(alloc, options, room);
-    value.encode_with_constraints(&mut encoder, constraints)?;
-    let octets = encoder.output()?;
-    within_limit(octets)
+    match value.encode_with_constraints(&mut encoder, constraints) {
+        Ok(()) => {
+            let octets = encoder.output()?;
+            within_limit(octets)
+        }
+        Err(error) => Err(refusal(error)),
+    }
 }
 
 /// Puts the canonical encoding of a value (X.691) in the place of what the buffer holds, whose room is used.

@@ -1,4 +1,4 @@
-use Rattle.std.proofs.Common.{sym, ◌∙◌}
+use Rattle.std.proofs.Common.{sym}
 use Rattle.std.proofs.lemmas.Result.{err_from_is_err_and}
 use Rattle.asn1_relay_core.proofs.Coded.{right_not_read, right_surplus, right_answered, right_not_written, none_left, some_left}
 use Rattle.asn1_relay_core.proofs.translation.recode.Goals as goal
