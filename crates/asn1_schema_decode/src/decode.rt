@@ -52,6 +52,18 @@ impl ReadOctets for Vec<u8> {
     }
 }
 
+impl<'input> ReadOctets for &'input [u8] {
+    ghost items = { λ octets. octets.now };
+
+    fn octets(&self) -> &[u8] {
+        *self
+    }
+
+    fn into_vec(self, alloc: Global) -> Result<Vec<u8>, AllocError> {
+        Vec::from_slice(alloc, self)
+    }
+}
+
 impl<'a> ReadOctets for CowSlice<'a, u8> {
     ghost items = { cow_slice_items };
 

@@ -33,7 +33,6 @@ use oer_codec_reading_scopes::enter_open_type;
 use oer_codec_reading_strings::{read_characters, read_utf8_string};
 use oer_codec_reading_tags::read_enumerated;
 use std::alloc::Global;
-use std::borrow::CowSlice;
 use std::marker::Model;
 
 /// A decoder of the octet encoding rules (X.696), which lends octets from its input.
@@ -141,7 +140,7 @@ impl<'input> Decoder<'input> {
 impl<'input> asn1_schema_decode::Decoder for Decoder<'input> {
     ghost use Rattle.oer_codec_decoder.specs.Laws.{finds_one, finds_held, finds_bag_held, finds_none, finds_same};
 
-    type Octets = CowSlice<'input, u8>;
+    type Octets = &'input [u8];
 
     ghost step = { Finds };
 
@@ -233,10 +232,10 @@ impl<'input> asn1_schema_decode::Decoder for Decoder<'input> {
         _tag: Tag,
         constraints: Constraints,
         held: Bounded<usize>,
-    ) -> Result<CowSlice<'input, u8>, DecodeError> {
+    ) -> Result<&'input [u8], DecodeError> {
         self.begin_record()?;
         match read_octet_string(&mut self.cursor, self.rules, constraints, held) {
-            Ok(octets) => Ok(CowSlice::Borrowed(octets)),
+            Ok(octets) => Ok(octets),
             Err(error) => Err(self.fail(error)),
         }
     }
