@@ -1,5 +1,0 @@
-//! Rows of bags and lists: what stands for one value in each set of encoding rules.
-#![tactic(auto)]
-
-#[cfg(test)]
-mod tests;

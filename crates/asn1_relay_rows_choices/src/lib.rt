@@ -1,5 +1,0 @@
-//! Rows of enumerations and choices: what stands for one value in each set of encoding rules.
-#![tactic(auto)]
-
-#[cfg(test)]
-mod tests;

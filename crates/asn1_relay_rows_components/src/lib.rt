@@ -1,0 +1,9 @@
+//! Rows of sequences and sets, with additions and without: what stands for one value in each set of encoding rules.
+#![tactic(auto)]
+
+#[cfg(test)]
+mod additions;
+#[cfg(test)]
+mod sequences;
+#[cfg(test)]
+mod wide_bitmaps;

@@ -1,0 +1,13 @@
+//! Rows of types without components, choices, bags and lists: what stands for one value in each set of encoding rules.
+#![tactic(auto)]
+
+#[cfg(test)]
+mod bags;
+#[cfg(test)]
+mod choices;
+#[cfg(test)]
+mod many_alternatives;
+#[cfg(test)]
+mod scalars;
+#[cfg(test)]
+mod translation;
