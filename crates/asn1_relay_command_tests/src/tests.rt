@@ -1,5 +1,7 @@
 //! Runs of the command.
-use asn1_relay_command::{Fault, Kind, Order, command, read_order, refuse_arguments, translate_all};
+use asn1_relay_command::{
+    Fault, Kind, Order, command, read_order, refuse_arguments, translate_all,
+};
 use asn1_relay_core::{Codec, DecodeError, EncodeError, RecodeFault, recode};
 use asn1_relay_types::{Pair, Small};
 use asn1_schema_decode::Decode;
