@@ -9,7 +9,7 @@ use asn1_values_constrained::ConstrainedInteger;
 use asn1_values_identifiers::ObjectIdentifier;
 use asn1_values_numbers::Integer;
 use std::alloc::Global;
-use std::borrow::CowSlice;
+use std::borrow::{Cow, CowSlice};
 use std::marker::PhantomData;
 use std::test::Fail;
 
@@ -80,7 +80,7 @@ fn numbers_of_any_size(rt: HostRuntime) -> Result<(), Fail> {
 #[test]
 fn numbers_within_a_range(rt: HostRuntime) -> Result<(), Fail> {
     let Ok(value) = ConstrainedInteger::<-5, 5>::try_from(3_i32) else {
-        return Ok(());
+        return Err(Fail::new("3 is refused"));
     };
     let number: ConstrainedInteger<-5, 5> = read_back(rt.alloc(), &value)?;
     assert!(rt; *number == Integer::from(3_i64));
@@ -124,6 +124,17 @@ fn tagged_and_boxed_values(rt: HostRuntime) -> Result<(), Fail> {
     assert_eq!(rt; explicit.value, 7);
     let boxed: Box<u8> = read_back(alloc, &7_u8)?;
     assert_eq!(rt; *boxed, 7);
+    Ok(())
+}
+
+#[test]
+fn values_that_are_lent_or_owned(rt: HostRuntime) -> Result<(), Fail> {
+    let alloc = rt.alloc();
+    let number: Cow<u8> = read_back(alloc, &7_u8)?;
+    assert!(rt; matches!(number, Cow::Owned(7)));
+    let numbers: [u8; 2] = [3, 5];
+    let list: CowSlice<u8, Global> = read_back(alloc, &Vec::from_array(alloc, numbers)?)?;
+    assert_eq!(rt; list.as_slice(), [3, 5].as_slice());
     Ok(())
 }
 

@@ -3,7 +3,7 @@ ghost use Rattle.std.specs.Prelude.{◌≡◌, ◌++◌, ℕ, List, OnOk, OnErr,
 ghost use Rattle.asn1_model.specs.Lawful.{IsLawful};
 ghost use Rattle.asn1_model.specs.Rules.{coer};
 ghost use Rattle.asn1_schema_messages.specs.Messages.{NoMessage, Tells};
-ghost use Rattle.oer_codec_output.specs.Encoded.{IsEncoded, NotEncoded};
+ghost use Rattle.oer_codec.specs.Encoded.{IsEncoded, NotEncoded};
 
 pub use crate::oer::{Decoder, DecoderOptions, Encoder, EncoderOptions, EncodingRules};
 use asn1_schema_constraints::Constraints;
@@ -22,7 +22,7 @@ pub fn encode<T: Encode>(alloc: Global, value: &T) -> Result<Vec<u8>, EncodeErro
     ensures ok { IfOk result (λ octets. IsEncoded T.schema (T.meaning value.now) octets.items) }
     ensures only { IfErr result (NotEncoded T.schema (T.meaning value.now)) }
 {
-    let octets = oer_codec_output::encode(alloc, value)?;
+    let octets = crate::writing::encode(alloc, value)?;
     Ok(octets)
 }
 
@@ -40,7 +40,7 @@ pub fn encode_buf<T: Encode>(
     ensures only { IfErr result (NotEncoded T.schema (T.meaning value.now)) }
     ensures same { OnErr result (buffer.new.items ≡ buffer.old.items) }
 {
-    oer_codec_output::encode_buf(alloc, value, buffer)?;
+    crate::writing::encode_buf(alloc, value, buffer)?;
     Ok(())
 }
 
@@ -57,7 +57,7 @@ pub fn encode_with_constraints<T: Encode>(
     ensures ok { IfOk result (λ octets. IsEncoded (T.under constraints.entry) (T.meaning value.now) octets.items) }
     ensures only { IfErr result (NotEncoded (T.under constraints.entry) (T.meaning value.now)) }
 {
-    let octets = oer_codec_output::encode_with_constraints(alloc, constraints, value)?;
+    let octets = crate::writing::encode_with_constraints(alloc, constraints, value)?;
     Ok(octets)
 }
 
@@ -70,7 +70,7 @@ pub fn decode<T: Decode>(alloc: Global, input: &[u8]) -> Result<T, DecodeError>
     ensures ok { IfOk result (λ x. (rest : List ℕ) × Tells coer T.schema (T.meaning x) input.now rest) }
     ensures only { IfErr result (NoMessage coer T.schema input.now) }
 {
-    let value = oer_codec_calls::decode(alloc, input, EncodingRules::Coer)?;
+    let value = crate::reading::decode(alloc, input, EncodingRules::Coer)?;
     Ok(value)
 }
 
@@ -86,7 +86,7 @@ pub fn decode_with_remainder<'input, T: Decode>(
     ensures ok { IfOk result (λ x. Tells coer T.schema (T.meaning x.0) input.now x.1.now) }
     ensures only { IfErr result (NoMessage coer T.schema input.now) }
 {
-    let (value, rest) = oer_codec_calls::decode_with_remainder(alloc, input, EncodingRules::Coer)?;
+    let (value, rest) = crate::reading::decode_with_remainder(alloc, input, EncodingRules::Coer)?;
     Ok((value, rest))
 }
 
@@ -103,7 +103,7 @@ pub fn decode_with_constraints<T: Decode>(
     ensures ok { IfOk result (λ x. (rest : List ℕ) × Tells coer (T.under constraints.entry) (T.meaning x) input.now rest) }
     ensures only { IfErr result (λ error. IsLawful (T.under constraints.entry 128) → NoMessage coer (T.under constraints.entry) input.now error) }
 {
-    let value = oer_codec_calls::decode_with_constraints(
+    let value = crate::reading::decode_with_constraints(
         alloc,
         constraints,
         input,

@@ -2,7 +2,10 @@
 #![tactic(auto)]
 
 pub mod coer;
+pub mod laws;
 pub mod oer;
+pub mod reading;
+pub mod writing;
 
 /// The edition of X.696 that is followed.
 pub const ITU_T_X696_OER_EDITION: u32 = 3;

@@ -5,6 +5,7 @@ ghost use Rattle.oer_codec_reading.specs.Fronts.{freedoms};
 ghost use Rattle.oer_codec_decoder.specs.Refusals.{NoAdditions};
 ghost use Rattle.oer_codec_decoder.specs.Scopes.{bits_due};
 
+use crate::frames::first_bit;
 use asn1_schema_faults::DecodeError;
 use asn1_values_bits::{BitReader, BitStr};
 use oer_codec_reading::{Cursor, EncodingRules};
@@ -23,13 +24,14 @@ pub(crate) struct Additions<'input> {
 
 impl<'input> Additions<'input> {
     /// Whether the next addition of the type is there.
+    #[inline(always)]
     pub(crate) fn next(&mut self) -> Option<bool>
         ensures some { IfSome result (λ present. bits_due self.old ≡ present ∷ bits_due self.new) }
         ensures none { IfNone result (bits_due self.old ≡ []) }
         ensures unknown { self.new.unknown ≡ self.old.unknown }
     {
         if !self.known.is_empty() {
-            let first = self.known.first_bit();
+            let first = first_bit(&self.known);
             let _first = self.known.split(1);
             return Some(first);
         }
@@ -41,6 +43,7 @@ impl<'input> Additions<'input> {
     }
 
     /// Whether no addition of the type is still to come.
+    #[inline(always)]
     pub(crate) fn is_empty(&self) -> bool
         ensures { IsTrue result ↔ (bits_due self.now ≡ []) }
     {
@@ -49,6 +52,7 @@ impl<'input> Additions<'input> {
 }
 
 /// Tells the presence bits of so many additions from those of unknown ones behind them.
+#[inline(always)]
 fn among<'input>(bitmap: BitReader<'input>, count: usize) -> Additions<'input>
     ensures due { bits_due result ≡ first_bits count bitmap.entry.bits }
     ensures unknown { result.unknown.bits ≡ drop count bitmap.entry.bits }
@@ -71,6 +75,7 @@ fn among<'input>(bitmap: BitReader<'input>, count: usize) -> Additions<'input>
 /// # Errors
 ///
 /// Those of a presence bitmap.
+#[inline(always)]
 pub(crate) fn read_additions<'input>(
     cursor: &mut Cursor<'input>,
     rules: EncodingRules,

@@ -16,6 +16,7 @@ use oer_codec_reading_scopes::enter_open_type;
 use oer_codec_reading_tags::{find_tag, read_tag, visit_numbers};
 
 /// Reads the tag of an alternative, which has a place in one of these tables.
+#[inline(always)]
 fn read_alternative(
     cursor: &mut Cursor<'_>,
     rules: EncodingRules,
@@ -36,6 +37,7 @@ fn read_alternative(
 }
 
 /// The alternative of a tag: one of the root, else an added one behind a mark.
+#[inline(always)]
 fn find_alternative(tag: Tag, roots: &[Tag], extensible: bool, additions: &[Tag]) -> Option<Chosen>
     ensures some { IfSome result (λ x. IsPlace (map tag_of roots.now) extensible (map tag_of additions.now) (tag_of tag) x.added x.place) }
     ensures within { IfSome result (λ x. x.place < length (cond x.added (map tag_of additions.now) (map tag_of roots.now))) }
@@ -54,6 +56,7 @@ fn find_alternative(tag: Tag, roots: &[Tag], extensible: bool, additions: &[Tag]
 }
 
 /// Enters an alternative: an added one is an open type (X.696 20).
+#[inline(always)]
 fn enter_alternative<'input>(
     cursor: &mut Cursor<'input>,
     rules: EncodingRules,
@@ -74,6 +77,7 @@ fn enter_alternative<'input>(
 /// # Errors
 ///
 /// `InvalidTagVariantOnChoice` if no alternative has the tag, the errors of a tag, and those of an open type for an added alternative.
+#[inline(always)]
 pub(crate) fn read_choice<'input>(
     cursor: &mut Cursor<'input>,
     rules: EncodingRules,

@@ -119,6 +119,7 @@ impl<'input> Decoder<'input> {
     }
 
     // Opens the scope of an open type (X.696 30), and takes no level for it.
+    #[inline(always)]
     fn open_type(&mut self) -> Result<(), DecodeError>
         ensures opens { OnOk result (Opens (freedoms self.old.rules) self.old.octets self.old.scopes (state_of self.new)) }
         ensures kept { OnOk result (self.new ≡ record { octets = self.new.octets; scopes = self.new.scopes; levels = self.old.levels; most = self.old.most; failed = self.old.failed; rules = self.old.rules }) }
@@ -295,6 +296,7 @@ impl<'input> asn1_schema_decode::Decoder for Decoder<'input> {
         }
     }
 
+    #[inline(always)]
     fn begin_bag(
         &mut self,
         _tag: Tag,
@@ -337,6 +339,7 @@ impl<'input> asn1_schema_decode::Decoder for Decoder<'input> {
         }
     }
 
+    #[inline(always)]
     fn begin_set(
         &mut self,
         _tag: Tag,
@@ -353,6 +356,7 @@ impl<'input> asn1_schema_decode::Decoder for Decoder<'input> {
         }
     }
 
+    #[inline(always)]
     fn begin_group(&mut self, optional: usize) -> Result<(), DecodeError> {
         self.begin_record()?;
         if self.levels == 0 {
@@ -389,6 +393,7 @@ impl<'input> asn1_schema_decode::Decoder for Decoder<'input> {
         Ok(())
     }
 
+    #[inline(always)]
     fn begin_additions(&mut self, count: usize) -> Result<(), DecodeError> {
         self.begin_record()?;
         let Some(marked) = self.scopes.mark() else {
@@ -403,6 +408,7 @@ impl<'input> asn1_schema_decode::Decoder for Decoder<'input> {
         }
     }
 
+    #[inline(always)]
     fn get_addition(&mut self) -> Result<bool, DecodeError> {
         self.begin_record()?;
         let Some(present) = self.scopes.next_addition() else {
@@ -414,6 +420,7 @@ impl<'input> asn1_schema_decode::Decoder for Decoder<'input> {
         Ok(present)
     }
 
+    #[inline(always)]
     fn end_addition(&mut self) -> Result<(), DecodeError> {
         self.begin_record()?;
         match self.scopes.close_addition(&mut self.cursor, self.rules) {
@@ -422,6 +429,7 @@ impl<'input> asn1_schema_decode::Decoder for Decoder<'input> {
         }
     }
 
+    #[inline(always)]
     fn begin_choice(
         &mut self,
         _tag: Tag,

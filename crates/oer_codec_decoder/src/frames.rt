@@ -17,7 +17,7 @@ use std::marker::Model;
 /// The first bit.
 #[inline(always)]
 #[tactic(auto, using(crate::proofs::Finding::first_taken, crate::proofs::Finding::first_there))]
-fn first_bit(bits: &BitReader<'_>) -> bool
+pub(crate) fn first_bit(bits: &BitReader<'_>) -> bool
     requires { 0 < length bits.now.bits }
     ensures { take 1 bits.now.bits ≡ result ∷ [] }
 {
@@ -178,6 +178,7 @@ impl<'input> Scopes<'input> {
     }
 
     /// Closes the innermost scope, if it is that of an addition (X.696 30).
+    #[inline(always)]
     pub(crate) fn close_addition(
         &mut self,
         cursor: &mut Cursor<'input>,

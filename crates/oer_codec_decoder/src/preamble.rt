@@ -4,7 +4,7 @@ ghost use Rattle.asn1_model.specs.Numbers.{missing};
 ghost use Rattle.oer_codec_decoder.specs.Preamble.{HasBits, HasPreamble};
 ghost use Rattle.oer_codec_decoder.specs.Scopes.{scope_of};
 
-use crate::frames::Frame;
+use crate::frames::{Frame, first_bit};
 use asn1_schema_faults::DecodeError;
 use asn1_values_bits::BitReader;
 use oer_codec_reading::Cursor;
@@ -29,7 +29,7 @@ fn take_presence<'input>(
     ensures { HasBits extensible optional (scope_of result) bits.old.bits bits.new.bits }
 {
     let mark = if extensible {
-        let first = bits.first_bit();
+        let first = first_bit(bits);
         let _first = bits.split(1);
         Some(first)
     } else {

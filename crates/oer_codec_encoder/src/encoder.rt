@@ -28,7 +28,7 @@ use std::mem;
 
 /// Writes values in the canonical octet encoding rules (X.696) into one buffer.
 ///
-/// An addition and an added alternative stand behind their length, so their octets are written apart, into the room of a worker that is
+/// Additions stand behind a bitmap that tells which of them are there, so their octets are written apart, into the room of a worker that is
 /// lent for this: with one worker for many messages such octets take memory for the longest of them alone, and not for each.
 #[derive(Drop)]
 pub struct Encoder<'buffer> {
@@ -55,8 +55,8 @@ impl<'buffer> Model for Encoder<'buffer> {
 impl<'buffer> Encoder<'buffer> {
     /// An encoder that writes behind what stands in the buffer. It takes no memory.
     ///
-    /// What the worker holds does not matter, and its octets are overwritten. An empty one serves, and has room afterwards if an addition or
-    /// an added alternative was written.
+    /// What the worker holds does not matter, and its octets are overwritten. An empty one serves, and has room afterwards if an addition was
+    /// written.
     #[inline]
     pub fn from_buffer(
         alloc: Global,
@@ -348,42 +348,46 @@ impl<'buffer> asn1_schema_encode::Encoder for Encoder<'buffer> {
         Ok(())
     }
 
+    #[inline]
     fn begin_additions(&mut self, count: usize) -> Result<(), EncodeError> {
         if self.failed {
             return Err(EncodeError::AlreadyFailed);
         }
         self.failed = true;
-        begin_additions(self.output, &mut self.frames, self.alloc, count)?;
-        self.failed = false;
-        Ok(())
-    }
-
-    fn put_addition(&mut self, present: bool) -> Result<(), EncodeError> {
-        if self.failed {
-            return Err(EncodeError::AlreadyFailed);
-        }
-        self.failed = true;
-        put_addition(
+        begin_additions(
             self.output,
             self.worker,
             &mut self.frames,
             self.alloc,
-            present,
+            count,
         )?;
         self.failed = false;
         Ok(())
     }
 
+    #[inline]
+    fn put_addition(&mut self, present: bool) -> Result<(), EncodeError> {
+        if self.failed {
+            return Err(EncodeError::AlreadyFailed);
+        }
+        self.failed = true;
+        put_addition(self.output, &mut self.frames, present)?;
+        self.failed = false;
+        Ok(())
+    }
+
+    #[inline]
     fn end_addition(&mut self) -> Result<(), EncodeError> {
         if self.failed {
             return Err(EncodeError::AlreadyFailed);
         }
         self.failed = true;
-        end_addition(self.output, self.worker, &mut self.frames, self.alloc)?;
+        end_addition(self.output, &mut self.frames, self.alloc)?;
         self.failed = false;
         Ok(())
     }
 
+    #[inline(always)]
     fn begin_choice(
         &mut self,
         _tag: Tag,
@@ -398,9 +402,7 @@ impl<'buffer> asn1_schema_encode::Encoder for Encoder<'buffer> {
         self.failed = true;
         begin_choice(
             self.output,
-            self.worker,
             &mut self.frames,
-            self.alloc,
             roots,
             extensible,
             additions,

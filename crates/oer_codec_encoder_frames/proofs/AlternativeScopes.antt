@@ -1,5 +1,5 @@
 -- Choices that begin, in the octets and the frames of an encoder.
-use Rattle.std.proofs.Common.{◌≡◌, ℕ, zero, suc, ◌<◌, ◌≤◌, length, get_or, map, not, arith, Bool, true, false, List, [], ◌∷◌, ◌++◌, Option, Some, None, option_and_then, Vec, Global, refl, ap, subst, sym, ◌∙◌}
+use Rattle.std.proofs.Common.{◌≡◌, ℕ, zero, suc, ◌<◌, ◌≤◌, length, get_or, map, not, arith, Bool, true, false, List, [], ◌∷◌, ◌++◌, Option, Some, None, option_and_then, refl, ap, subst, sym, ◌∙◌}
 use Rattle.asn1_model.specs.Form.{written}
 use Rattle.asn1_model.specs.Oer
 use Rattle.asn1_model.specs.Schema.{Tag}
@@ -12,6 +12,7 @@ use Rattle.oer_codec_encoder_frames.specs.declared.frame.Frame.TheVariants.{Open
 use Rattle.oer_codec_encoder_frames.specs.Holding.{Holds, Does}
 use Rattle.oer_codec_writing.specs.Writing.{Adds}
 use Rattle.oer_codec_encoder_frames.proofs.Scopes.{put_back, appended}
+use Rattle.oer_codec_encoder_frames.proofs.AdditionScopes.{begins_apart}
 
 -- ---- tags
 
@@ -54,17 +55,17 @@ module _ (roots : List Tag) (e : Bool) (others : List Tag) (i : ℕ) where
           let b : o ++ w ≡ p = cc a in
           (u, begins plus tag w s h q ∙ ap (λ c. chosen_on c w s) c, put_back gs fs Alternative p u y ((s.0 ++ w, s.1), refl, subst (λ l. Holds fs l (s.0 ++ w, s.1)) b (appended fs o s w d)))
 
-  pub does_begin_added : (fs gs : List Frame) (o p q : List ℕ) (plus : Bool) (tag : Tag) (outer : Vec ℕ Global) → plus ≡ true → tag_at i (tags_among roots e others plus) ≡ Some tag → Adds (written (Oer.tag_form tag) 0) o p → outer.items ≡ p → q ≡ [] → gs ≡ OpenType outer ∷ fs → Does (choice_begins roots e others plus i) fs o gs q
-  does_begin_added fs gs o p q plus tag outer c h x r z y = record { after = λ s d. go s d (written (Oer.tag_form tag) 0) refl x }
+  pub does_begin_added : (fs gs : List Frame) (o p q : List ℕ) (plus : Bool) (tag : Tag) → plus ≡ true → tag_at i (tags_among roots e others plus) ≡ Some tag → Adds (written (Oer.tag_form tag) 0) o p → q ≡ p ++ 0 ∷ [] → gs ≡ OpenType (length p) ∷ fs → Does (choice_begins roots e others plus i) fs o gs q
+  does_begin_added fs gs o p q plus tag c h x z y = record { after = λ s d. go s d (written (Oer.tag_form tag) 0) refl x }
     where
       go : (s : State) → Holds fs o s → (t : Option (List ℕ)) → written (Oer.tag_form tag) 0 ≡ t → Adds t o p → (u : State) × (run (choice_begins roots e others plus i) s ≡ Some u) × Holds gs q u
       go s d None k a = cc
       go s d (Some w) k a =
           let t : State = (s.0 ++ w, s.1) in
           let u : State = ([], open_type t.0 ∷ t.1) in
-          let b : o ++ w ≡ outer.items = (let same : o ++ w ≡ p = cc a in same) ∙ sym r in
-          let under : Holds fs outer.items t = subst (λ l. Holds fs l t) b (appended fs o s w d) in
-          (u, begins plus tag w s h k ∙ ap (λ c. chosen_on c w s) c, subst (λ l. Holds gs l u) (sym z) (put_back gs fs (OpenType outer) [] u y (t, refl, under)))
+          let b : o ++ w ≡ p = cc a in
+          let under : Holds fs p t = subst (λ l. Holds fs l t) b (appended fs o s w d) in
+          (u, begins plus tag w s h k ∙ ap (λ c. chosen_on c w s) c, subst (λ l. Holds gs l u) (sym z) (put_back gs fs (OpenType (length p)) (p ++ 0 ∷ []) u y (begins_apart fs p t under)))
 
   pub no_begin_choice : (fs : List Frame) (o : List ℕ) (plus : Bool) → tag_at i (tags_among roots e others plus) ≡ None → (s : State) → Holds fs o s → run (choice_begins roots e others plus i) s ≡ None
   no_begin_choice fs o plus h s d = ap (λ o. option_and_then (λ t. option_and_then (λ w. chosen_on plus w s) (written (Oer.tag_form t) 0)) o) h

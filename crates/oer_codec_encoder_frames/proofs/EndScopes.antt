@@ -1,35 +1,40 @@
 -- Open types, alternatives and additions that end, in the octets and the frames of an encoder.
-use Rattle.std.proofs.Common.{◌≡◌, ℕ, ◌+◌, ◌-◌, ◌<◌, Bool, true, false, cond, ltb, List, [], ◌∷◌, ◌++◌, length, get_or, set, map, take, drop, replicate, Option, Some, None, option_map, option_and_then, Vec, Global, refl, ap, subst, sym, ◌∙◌, arith, append_assoc, length-append, length-set}
-use Rattle.std.proofs.lemmas.Bool.{lt-ltb}
+use Rattle.std.proofs.Common.{◌≡◌, ℕ, ◌+◌, ◌-◌, ◌<◌, Bool, true, false, cond, List, [], ◌∷◌, ◌++◌, length, get_or, set, take, drop, replicate, Option, Some, None, option_map, option_and_then, refl, ap, subst, sym, ◌∙◌, arith, append_assoc, length-append, length-set}
 use Rattle.std.proofs.lemmas.List.{append-nil, set-append_left, set-append_right, get_or-append_right, get_or_append_left}
-use Rattle.asn1_model.specs.Form.{written, exactly, both, joined, is_present, is_any_present, present_ones, covered_by}
+use Rattle.asn1_model.specs.Form.{written, exactly, both}
 use Rattle.asn1_model.specs.Numbers.{binary, octet_bits, packed, missing}
 use Rattle.asn1_model.specs.Oer
 use Rattle.asn1_values_bits.specs.Octets.{filled_up}
 use Rattle.asn1_values_bits.proofs.Binary.{length-octet_bits}
 use Rattle.asn1_values_bits.proofs.Change.{kept_changed}
 use Rattle.asn1_schema_presented.specs.Records.{ends}
-use Rattle.oer_codec_steps.specs.Steps.{State, run, adds_text}
+use Rattle.oer_codec_steps.specs.Steps.{State, run, adds_text, is_any_set, with_added}
 use Rattle.oer_codec_steps.proofs.Still.{counted_bits_still}
 use Rattle.oer_codec_encoder_frames.specs.declared.frame.Additions.{Additions}
 use Rattle.oer_codec_encoder_frames.specs.declared.frame.Frame.{Frame}
 use Rattle.oer_codec_encoder_frames.specs.declared.frame.Frame.TheVariants.{Added, OpenType, Alternative}
-use Rattle.oer_codec_encoder_frames.specs.Holding.{slot_texts, IsOpen, Holds, Does}
-use Rattle.oer_codec_encoder_frames.specs.Slots.{slots_joined, HasAdditions, Completes}
+use Rattle.oer_codec_encoder_frames.specs.Holding.{IsOpen, Holds, AreSound, Does}
+use Rattle.oer_codec_encoder_frames.specs.Slots.{HasAdditions, Completes}
 use Rattle.oer_codec_writing.specs.Writing.{Adds}
-use Rattle.oer_codec_encoder_frames.proofs.Scopes.{on_top, appended, closed_text, set_small, get_or_any}
+use Rattle.oer_codec_encoder_frames.proofs.Scopes.{on_top, appended, behind_room, before_room, room_within, closed_text, set_small, get_or_any}
 
 -- ---- open types and alternatives
 
-pub does_end_open : (fs rest : List Frame) (o p : List ℕ) (outer : Vec ℕ Global) → fs ≡ OpenType outer ∷ rest → Adds (written (Oer.counted o) 0) outer.items p → Does ends fs o rest p
-does_end_open fs rest o p outer a x = record { after = λ s h. go s (on_top fs rest (OpenType outer) o s a h) (written (Oer.counted o) 0) refl x }
+pub does_end_open : (fs rest : List Frame) (o p : List ℕ) (start : ℕ) → fs ≡ OpenType start ∷ rest → Adds (written (Oer.counted (drop (start + 1) o)) 0) (take start o) p → Does ends fs o rest p
+does_end_open fs rest o p start a x = record { after = λ s h. go s (on_top fs rest (OpenType start) o s a h) }
   where
-    go : (s : State) → Holds (OpenType outer ∷ rest) o s → (t : Option (List ℕ)) → written (Oer.counted o) 0 ≡ t → Adds t outer.items p → (u : State) × (run ends s ≡ Some u) × Holds rest p u
-    go s h None e y = cc
-    go s h (Some w) e y =
-        let u : State = (h.0.0 ++ w, h.0.1) in
-        let q : outer.items ++ w ≡ p = cc y in
-        (u, ap (run ends) h.1 ∙ ap (λ t. adds_text t h.0) e, subst (λ l. Holds rest l u) q (appended rest outer.items h.0 w h.2))
+    go : (s : State) → Holds (OpenType start ∷ rest) o s → (u : State) × (run ends s ≡ Some u) × Holds rest p u
+    go s h = closes (written (Oer.counted h.inner) 0) refl (subst (λ l. Adds (written (Oer.counted l) 0) h.front p) (behind_room start o s h) (subst (λ l. Adds (written (Oer.counted (drop (start + 1) o)) 0) l p) (before_room start o s h) x))
+      where
+        closes : (t : Option (List ℕ)) → written (Oer.counted h.inner) 0 ≡ t → Adds t h.front p → (u : State) × (run ends s ≡ Some u) × Holds rest p u
+        closes None e y = cc
+        closes (Some w) e y =
+            let u : State = (h.outer.0 ++ w, h.outer.1) in
+            let q : h.front ++ w ≡ p = cc y in
+            (u, ap (run ends) h.is ∙ ap (λ t. adds_text t h.outer) e, subst (λ l. Holds rest l u) q (appended rest h.front h.outer w h.under))
+
+pub open_within : (fs rest : List Frame) (o : List ℕ) (start : ℕ) → AreSound fs o → fs ≡ OpenType start ∷ rest → start < length o
+open_within fs rest o start s a = room_within start o s.state (on_top fs rest (OpenType start) o s.state a s.holds)
 
 pub does_end_alternative : (fs rest : List Frame) (o : List ℕ) → fs ≡ Alternative ∷ rest → Does ends fs o rest o
 does_end_alternative fs rest o a = record { after = λ s h. go s (on_top fs rest Alternative o s a h) }
@@ -37,81 +42,28 @@ does_end_alternative fs rest o a = record { after = λ s h. go s (on_top fs rest
     go : (s : State) → Holds (Alternative ∷ rest) o s → (t : State) × (run ends s ≡ Some t) × Holds rest o t
     go s h = (h.0, ap (run ends) h.1, h.2)
 
--- ---- the form of a sequence by the texts of its additions
-
-abbrev forms : List (Option (List ℕ)) → List (Option Oer.OctetForm)
-forms ts = map (λ o. option_map (λ w. exactly w) o) ts
-
-drop_all : {X : Type 0} (xs : List X) → drop (length xs) xs ≡ []
-drop_all [] = refl
-drop_all (x ∷ xs) = drop_all xs
-
-take_all : {X : Type 0} (xs : List X) → take (length xs) xs ≡ xs
-take_all [] = refl
-take_all (x ∷ xs) = ap (λ l. x ∷ l) (take_all xs)
-
-all_covered : {X : Type 0} (unknown : List ℕ → X) (xs : List (Option X)) → covered_by unknown (record { covered = length xs; further = [] }) xs ≡ Some xs
-all_covered unknown xs =
-    let d = drop_all xs in
-    let t = take_all xs in
-    let l : ltb (length xs) (length xs + 1) ≡ true = lt-ltb _ _ (omega arith) in
-    rw (d, l, t) (ap Some (append-nil xs))
-
-by_presence : (ms : List Bool) (x : Oer.OctetForm) (xs : List (Option Oer.OctetForm)) → written (Oer.sequence_form true ms x xs) 0 ≡ cond (is_any_present xs) (written (Oer.with_additions ms x xs) 0) (written (both (Oer.preamble (false ∷ ms)) x) 0)
-unfolding written Oer.sequence_form Oer.bitmapped
-by_presence ms x xs = go (is_any_present xs) refl
-  where
-    go : (t : Bool) → is_any_present xs ≡ t → written (Oer.bitmapped ms x xs (cond t (Some (record { covered = length xs; further = [] })) None)) 0 ≡ cond t (written (Oer.with_additions ms x xs) 0) (written (both (Oer.preamble (false ∷ ms)) x) 0)
-    go false e = rw e refl
-    go true e = let c = all_covered Oer.counted xs in rw (c, e) refl
-
-any_form : (ts : List (Option (List ℕ))) → is_any_present (forms ts) ≡ is_any_present ts
-any_form [] = refl
-any_form (None ∷ ts) = any_form ts
-any_form (Some w ∷ ts) = refl
-
-form_bits : (ts : List (Option (List ℕ))) → map (λ o. is_present o) (forms ts) ≡ map (λ o. is_present o) ts
-form_bits [] = refl
-form_bits (None ∷ ts) = ap (λ l. false ∷ l) (form_bits ts)
-form_bits (Some w ∷ ts) = ap (λ l. true ∷ l) (form_bits ts)
-
-joined_forms : (ts : List (Option (List ℕ))) (p : ℕ) → written (joined (present_ones (forms ts))) p ≡ Some (slots_joined ts)
-unfolding written
-joined_forms [] p = refl
-joined_forms (None ∷ ts) p = joined_forms ts p
-joined_forms (Some w ∷ ts) p = ap (λ o. option_map (λ b. w ++ b) o) (joined_forms ts (p + length w))
+-- ---- the form of a sequence by the octets of its additions
 
 plain_text : (ms : List Bool) (os : List ℕ) → written (both (Oer.preamble (false ∷ ms)) (exactly os)) 0 ≡ Some (packed (filled_up (false ∷ ms)) ++ os)
 unfolding written
 plain_text ms os = refl
 
-no_addition_text : (ms : List Bool) (os : List ℕ) (ts : List (Option (List ℕ))) → is_any_present ts ≡ false → written (Oer.sequence_form true ms (exactly os) (forms ts)) 0 ≡ Some (packed (filled_up (false ∷ ms)) ++ os)
-no_addition_text ms os ts h = by_presence ms (exactly os) (forms ts) ∙ ap (λ t. cond t (written (Oer.with_additions ms (exactly os) (forms ts)) 0) (written (both (Oer.preamble (false ∷ ms)) (exactly os)) 0)) (any_form ts ∙ h) ∙ plain_text ms os
+none_added : (ms : List Bool) (root : List ℕ) (bs : List Bool) (all : List ℕ) → is_any_set bs ≡ false → with_added ms root bs all ≡ Some (packed (filled_up (false ∷ ms)) ++ root)
+none_added ms root bs all h = ap (λ t. cond t (written (both (Oer.preamble (true ∷ ms)) (both (exactly root) (both (Oer.counted_bits bs) (exactly all)))) 0) (written (both (Oer.preamble (false ∷ ms)) (exactly root)) 0)) h ∙ plain_text ms root
 
 bitmap_text : (bs : List Bool) → written (Oer.bit_string_form false bs) 0 ≡ written (Oer.counted_bits bs) 0
 unfolding written Oer.bit_string_form
 bitmap_text bs = refl
 
-after_root : (ms bs : List Bool) (os c all : List ℕ) (j : Oer.OctetForm) → ((p : ℕ) → written (Oer.counted_bits bs) p ≡ Some c) → ((p : ℕ) → written j p ≡ Some all) → written (both (Oer.preamble (true ∷ ms)) (both (exactly os) (both (Oer.counted_bits bs) j))) 0 ≡ Some (packed (filled_up (true ∷ ms)) ++ (os ++ (c ++ all)))
+after_root : (ms bs : List Bool) (os c all : List ℕ) → ((p : ℕ) → written (Oer.counted_bits bs) p ≡ Some c) → written (both (Oer.preamble (true ∷ ms)) (both (exactly os) (both (Oer.counted_bits bs) (exactly all)))) 0 ≡ Some (packed (filled_up (true ∷ ms)) ++ (os ++ (c ++ all)))
 unfolding written
-after_root ms bs os c all j hc hj =
+after_root ms bs os c all h =
     let front : List ℕ = packed (filled_up (true ∷ ms)) in
     let p : ℕ = 0 + length front + length os in
-    ap (λ o. option_map (λ b. front ++ b) (option_map (λ b. os ++ b) (option_and_then (λ a. option_map (λ b. a ++ b) (written j (p + length a))) o))) (hc p)
-    ∙ ap (λ o. option_map (λ b. front ++ b) (option_map (λ b. os ++ b) (option_map (λ b. c ++ b) o))) (hj (p + length c))
+    ap (λ o. option_map (λ b. front ++ b) (option_map (λ b. os ++ b) (option_and_then (λ a. option_map (λ b. a ++ b) (Some all)) o))) (h p)
 
-with_root : (ms : List Bool) (x : Oer.OctetForm) (xs : List (Option Oer.OctetForm)) → written (Oer.with_additions ms x xs) 0 ≡ written (both (Oer.preamble (true ∷ ms)) (both x (both (Oer.counted_bits (map (λ o. is_present o) xs)) (joined (present_ones xs))))) 0
-unfolding Oer.with_additions Oer.additions
-with_root ms x xs = refl
-
-additions_text : (ms : List Bool) (os c : List ℕ) (ts : List (Option (List ℕ))) → is_any_present ts ≡ true → written (Oer.bit_string_form false (map (λ o. is_present o) ts)) 0 ≡ Some c → written (Oer.sequence_form true ms (exactly os) (forms ts)) 0 ≡ Some (packed (filled_up (true ∷ ms)) ++ (os ++ (c ++ slots_joined ts)))
-additions_text ms os c ts h k = by_presence ms (exactly os) (forms ts) ∙ ap (λ t. cond t (written (Oer.with_additions ms (exactly os) (forms ts)) 0) (written (both (Oer.preamble (false ∷ ms)) (exactly os)) 0)) (any_form ts ∙ h) ∙ all
-  where
-    bitmap : (p : ℕ) → written (Oer.counted_bits (map (λ o. is_present o) (forms ts))) p ≡ Some c
-    bitmap p = ap (λ bs. written (Oer.counted_bits bs) p) (form_bits ts) ∙ (counted_bits_still (map (λ o. is_present o) ts)).at p ∙ sym (bitmap_text (map (λ o. is_present o) ts)) ∙ k
-
-    all : written (Oer.with_additions ms (exactly os) (forms ts)) 0 ≡ Some (packed (filled_up (true ∷ ms)) ++ (os ++ (c ++ slots_joined ts)))
-    all = with_root ms (exactly os) (forms ts) ∙ after_root ms (map (λ o. is_present o) (forms ts)) os c (slots_joined ts) (joined (present_ones (forms ts))) bitmap (joined_forms ts)
+some_added : (ms : List Bool) (root c : List ℕ) (bs : List Bool) (all : List ℕ) → is_any_set bs ≡ true → written (Oer.bit_string_form false bs) 0 ≡ Some c → with_added ms root bs all ≡ Some (packed (filled_up (true ∷ ms)) ++ (root ++ (c ++ all)))
+some_added ms root c bs all h k = ap (λ t. cond t (written (both (Oer.preamble (true ∷ ms)) (both (exactly root) (both (Oer.counted_bits bs) (exactly all)))) 0) (written (both (Oer.preamble (false ∷ ms)) (exactly root)) 0)) h ∙ after_root ms bs root c all (λ p. (counted_bits_still bs).at p ∙ sym (bitmap_text bs) ∙ k)
 
 -- ---- the mark of extensibility is set
 
@@ -162,42 +114,45 @@ octet_small xs ys zs p i e h fits =
 -- ---- additions end
 
 abbrev none_left : Additions → Additions
-none_left a = record { due = 0; preamble = a.preamble; outer = a.outer; slots = a.slots }
+none_left a = record { due = 0; preamble = a.preamble; outer = a.outer; present = a.present; any = a.any }
 
-pub does_end_added : (fs rest : List Frame) (a : Additions) (o p : List ℕ) → fs ≡ Added a ∷ rest → a.due ≡ 0 → Completes a.preamble.start (slot_texts a.slots.items) a.outer.items p → ((i d : ℕ) → i < length p → get_or p i d < 256) → Does ends fs o rest p
-does_end_added fs rest a o p b n x fits = record { after = λ s h. go s (none_due s (on_top fs rest (Added a) o s b h)) (is_any_present (slot_texts a.slots.items)) refl }
+pub does_end_added : (fs rest : List Frame) (a : Additions) (o p : List ℕ) → fs ≡ Added a ∷ rest → a.due ≡ 0 → Completes a.preamble.start a.any a.present o a.outer.items p → ((i d : ℕ) → i < length p → get_or p i d < 256) → Does ends fs o rest p
+does_end_added fs rest a o p b n x fits = record { after = λ s h. go s (none_due s (on_top fs rest (Added a) o s b h)) a.any refl }
   where
     none_due : (s : State) → Holds (Added a ∷ rest) o s → Holds (Added (none_left a) ∷ rest) o s
-    none_due s h = subst (λ k. Holds (Added (record { due = k; preamble = a.preamble; outer = a.outer; slots = a.slots }) ∷ rest) o s) n h
+    none_due s h = subst (λ k. Holds (Added (record { due = k; preamble = a.preamble; outer = a.outer; present = a.present; any = a.any }) ∷ rest) o s) n h
 
-    closes : (s : State) → (h : Holds (Added (none_left a) ∷ rest) o s) → (w : List ℕ) → written (Oer.sequence_form true h.1.marks (exactly h.1.inner) (forms (slot_texts a.slots.items))) 0 ≡ Some w → h.1.front ++ w ≡ p → (t : State) × (run ends s ≡ Some t) × Holds rest p t
+    closes : (s : State) → (h : Holds (Added (none_left a) ∷ rest) o s) → (w : List ℕ) → with_added h.1.marks h.1.inner a.present o ≡ Some w → h.1.front ++ w ≡ p → (t : State) × (run ends s ≡ Some t) × Holds rest p t
     closes s h w e q =
         let i = h.1 in
         let u : State = (i.outer.0 ++ w, i.outer.1) in
-        (u, ap (run ends) h.2 ∙ ap (λ t. adds_text t i.outer) e, subst (λ l. Holds rest l u) q (appended rest i.front i.outer w i.under))
+        (u, ap (run ends) h.3 ∙ ap (λ t. adds_text t i.outer) e, subst (λ l. Holds rest l u) q (appended rest i.front i.outer w i.under))
 
-    with_some : (s : State) → (h : Holds (Added (none_left a) ∷ rest) o s) → is_any_present (slot_texts a.slots.items) ≡ true → (z : HasAdditions a.preamble.start (slot_texts a.slots.items) a.outer.items p) → (c : Option (List ℕ)) → written (Oer.bit_string_form false (map (λ o. is_present o) (slot_texts a.slots.items))) 0 ≡ c → Adds c z.marked z.mapped → (t : State) × (run ends s ≡ Some t) × Holds rest p t
+    with_some : (s : State) → (h : Holds (Added (none_left a) ∷ rest) o s) → is_any_set a.present ≡ true → (z : HasAdditions a.preamble.start a.present o a.outer.items p) → (c : Option (List ℕ)) → written (Oer.bit_string_form false a.present) 0 ≡ c → Adds c z.marked z.mapped → (t : State) × (run ends s ≡ Some t) × Holds rest p t
     with_some s h t z None e m = cc
     with_some s h t z (Some c) e m =
         let i = h.1 in
         let y : ℕ = get_or z.marked a.preamble.start 0 in
         let mapped : z.marked ++ c ≡ z.mapped = cc m in
         let long : a.preamble.start < length z.marked = omega (arith, ap length z.others, length-set a.outer.items a.preamble.start y, starts_within (λ q t. Holds rest q t) a.preamble.given a.preamble.start a.preamble.content a.outer.items h.0 i) in
-        let small : y < 256 = octet_small z.marked c (slots_joined (slot_texts a.slots.items)) p a.preamble.start (z.texts ∙ ap (λ l. l ++ slots_joined (slot_texts a.slots.items)) (sym mapped)) long fits in
+        let small : y < 256 = octet_small z.marked c o p a.preamble.start (z.texts ∙ ap (λ l. l ++ o) (sym mapped)) long fits in
         let whole = marked_whole (λ q t. Holds rest q t) a.preamble.given a.preamble.start a.preamble.content a.outer.items h.0 i z.marked y z.others z.bit small in
         let first = marked_text (λ q t. Holds rest q t) a.preamble.given a.preamble.start a.preamble.content a.outer.items h.0 i z.marked y z.others z.bit small in
         let pre : List ℕ = set i.preamble 0 y in
-        let all : List ℕ = c ++ slots_joined (slot_texts a.slots.items) in
-        closes s h (packed (filled_up (true ∷ i.marks)) ++ (i.inner ++ all)) (additions_text i.marks i.inner c (slot_texts a.slots.items) t e)
+        let all : List ℕ = c ++ o in
+        closes s h (packed (filled_up (true ∷ i.marks)) ++ (i.inner ++ all)) (some_added i.marks i.inner c a.present o t e)
         (ap (λ l. i.front ++ (l ++ (i.inner ++ all))) first ∙ ap (λ l. i.front ++ l) (sym (append_assoc pre i.inner all)) ∙ sym (append_assoc i.front (pre ++ i.inner) all) ∙ ap (λ l. l ++ all) (sym whole)
-        ∙ sym (append_assoc z.marked c (slots_joined (slot_texts a.slots.items))) ∙ ap (λ l. l ++ slots_joined (slot_texts a.slots.items)) mapped ∙ sym z.texts)
+        ∙ sym (append_assoc z.marked c o) ∙ ap (λ l. l ++ o) mapped ∙ sym z.texts)
 
-    go : (s : State) → Holds (Added (none_left a) ∷ rest) o s → (t : Bool) → is_any_present (slot_texts a.slots.items) ≡ t → (u : State) × (run ends s ≡ Some u) × Holds rest p u
+    go : (s : State) → Holds (Added (none_left a) ∷ rest) o s → (t : Bool) → a.any ≡ t → (u : State) × (run ends s ≡ Some u) × Holds rest p u
     go s h false t =
         let i = h.1 in
         let first = unmarked_text (λ q t. Holds rest q t) a.preamble.given a.preamble.start a.preamble.content a.outer.items h.0 i in
-        closes s h (packed (filled_up (false ∷ i.marks)) ++ i.inner) (no_addition_text i.marks i.inner (slot_texts a.slots.items) t) (ap (λ l. i.front ++ (l ++ i.inner)) first ∙ sym i.text ∙ sym (x.0 t))
-    go s h true t = let z = x.1 t in with_some s h t z (written (Oer.bit_string_form false (map (λ o. is_present o) (slot_texts a.slots.items))) 0) refl z.bitmap
+        let none : p ≡ a.outer.items = subst (λ b. Completes a.preamble.start b a.present o a.outer.items p) t x in
+        closes s h (packed (filled_up (false ∷ i.marks)) ++ i.inner) (none_added i.marks i.inner a.present o (sym h.2 ∙ t)) (ap (λ l. i.front ++ (l ++ i.inner)) first ∙ sym i.text ∙ sym none)
+    go s h true t =
+        let z : HasAdditions a.preamble.start a.present o a.outer.items p = subst (λ b. Completes a.preamble.start b a.present o a.outer.items p) t x in
+        with_some s h (sym h.2 ∙ t) z (written (Oer.bit_string_form false a.present) 0) refl z.bitmap
 
 -- where the preamble stands
 pub added_within : (fs rest : List Frame) (a : Additions) (o : List ℕ) (s : State) → fs ≡ Added a ∷ rest → Holds fs o s → a.preamble.start < length a.outer.items

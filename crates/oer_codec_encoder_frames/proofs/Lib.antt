@@ -5,4 +5,5 @@ pub mod BagScopes
 pub mod EndScopes
 pub mod Going
 pub mod Refusals
+pub mod RoomTexts
 pub mod SlotTexts

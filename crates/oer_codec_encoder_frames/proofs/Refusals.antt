@@ -1,5 +1,5 @@
 -- Why records are refused, by the octets and the frames of an encoder.
-use Rattle.std.proofs.Common.{◌≡◌, ℕ, zero, suc, not, ltb, Bool, true, false, List, [], ◌∷◌, Vec, Global, None, Result, Ok, Err, MatchResult, refl, ap, subst, sym, ◌∙◌, arith}
+use Rattle.std.proofs.Common.{◌≡◌, ℕ, zero, suc, not, ltb, Bool, true, false, List, [], ◌∷◌, None, Result, Ok, Err, MatchResult, refl, ap, subst, sym, ◌∙◌, arith}
 use Rattle.std.specs.Result.{IsErr, IsErrAnd}
 use Rattle.std.proofs.lemmas.Bool.{lt-ltb}
 use Rattle.asn1_schema_faults.specs.declared.EncodeError.{EncodeError}
@@ -11,7 +11,7 @@ use Rattle.oer_codec_encoder_frames.specs.declared.frame.Bag.{Bag as BagFrame}
 use Rattle.oer_codec_encoder_frames.specs.declared.frame.Frame.{Frame}
 use Rattle.oer_codec_encoder_frames.specs.declared.frame.Frame.TheVariants.{Components, Added, OpenType, Members, Bag, Alternative}
 use Rattle.oer_codec_encoder_frames.specs.declared.frame.Preamble.{Preamble}
-use Rattle.oer_codec_encoder_frames.specs.Holding.{slot_texts, member_texts, Holds, Cannot}
+use Rattle.oer_codec_encoder_frames.specs.Holding.{member_texts, Holds, Cannot}
 use Rattle.oer_codec_encoder_frames.proofs.Scopes.{on_top}
 
 -- what a `?` passes on
@@ -34,7 +34,7 @@ cannot r fs o AlreadyFailed h = h (λ e. cc)
 pub no_addition_due : (fs rest : List Frame) (a : Additions) (o : List ℕ) (present : Bool) → fs ≡ Added a ∷ rest → a.due ≡ 0 → (s : State) → Holds fs o s → run (addition present) s ≡ None
 no_addition_due fs rest a o present e n s h =
     let i = on_top fs rest (Added a) o s e h in
-    ap (run (addition present)) (i.2 ∙ ap (λ k. let m : State = (o, added k i.1.marks i.1.inner (slot_texts a.slots.items) i.1.outer.0 ∷ i.1.outer.1) in m) n)
+    ap (run (addition present)) (i.3 ∙ ap (λ k. let m : State = (o, added k i.1.marks i.1.inner a.present i.1.outer.0 ∷ i.1.outer.1) in m) n)
 
 pub no_member_due : (fs rest : List Frame) (due : ℕ) (o : List ℕ) (more : Bool) → fs ≡ Members due ∷ rest → more ≡ not (ltb 0 due) → (s : State) → Holds fs o s → run (further more) s ≡ None
 no_member_due fs rest due o more e n s h = go due more n (on_top fs rest (Members due) o s e h)
@@ -54,23 +54,23 @@ no_member_of_bag fs rest b o more e n s h = let i = on_top fs rest (Bag b) o s e
     go (suc k) true n t h = absurd (apart n (ap not (lt-ltb 0 (suc k) (omega arith))))
     go (suc k) false n t h = ap (run (further false)) h
 
-pub no_addition_end : (fs rest : List Frame) (o : List ℕ) (before : Vec ℕ Global) → fs ≡ OpenType before ∷ rest → ((a : Additions) (k : List Frame) → rest ≡ Added a ∷ k → ⊥) → (s : State) → Holds fs o s → run addition_ends s ≡ None
-no_addition_end fs rest o before e n s h = go rest n (on_top fs rest (OpenType before) o s e h)
+pub no_addition_end : (fs rest : List Frame) (o : List ℕ) (start : ℕ) → fs ≡ OpenType start ∷ rest → ((a : Additions) (k : List Frame) → rest ≡ Added a ∷ k → ⊥) → (s : State) → Holds fs o s → run addition_ends s ≡ None
+no_addition_end fs rest o start e n s h = go rest n (on_top fs rest (OpenType start) o s e h)
   where
-    go : (rest : List Frame) → ((a : Additions) (k : List Frame) → rest ≡ Added a ∷ k → ⊥) → Holds (OpenType before ∷ rest) o s → run addition_ends s ≡ None
-    go [] n h = ap (run addition_ends) (h.1 ∙ ap (λ (b : State). let l : State = (o, open_type b.0 ∷ b.1) in l) h.2)
-    go (Components c ∷ k) n h = ap (run addition_ends) (h.1 ∙ ap (λ (b : State). let l : State = (o, open_type b.0 ∷ b.1) in l) h.2.is)
+    go : (rest : List Frame) → ((a : Additions) (k : List Frame) → rest ≡ Added a ∷ k → ⊥) → Holds (OpenType start ∷ rest) o s → run addition_ends s ≡ None
+    go [] n h = ap (run addition_ends) (h.is ∙ ap (λ (b : State). let l : State = (h.inner, open_type b.0 ∷ b.1) in l) h.under)
+    go (Components c ∷ k) n h = ap (run addition_ends) (h.is ∙ ap (λ (b : State). let l : State = (h.inner, open_type b.0 ∷ b.1) in l) h.under.is)
     go (Added a ∷ k) n h = absurd (n a k refl)
-    go (OpenType outer ∷ k) n h = ap (run addition_ends) (h.1 ∙ ap (λ (b : State). let l : State = (o, open_type b.0 ∷ b.1) in l) h.2.1)
-    go (Members due ∷ k) n h = ap (run addition_ends) (h.1 ∙ ap (λ (b : State). let l : State = (o, open_type b.0 ∷ b.1) in l) h.2.1)
-    go (Bag b ∷ k) n h = ap (run addition_ends) (h.1 ∙ ap (λ (b : State). let l : State = (o, open_type b.0 ∷ b.1) in l) h.2.1)
-    go (Alternative ∷ k) n h = ap (run addition_ends) (h.1 ∙ ap (λ (b : State). let l : State = (o, open_type b.0 ∷ b.1) in l) h.2.1)
+    go (OpenType outer ∷ k) n h = ap (run addition_ends) (h.is ∙ ap (λ (b : State). let l : State = (h.inner, open_type b.0 ∷ b.1) in l) h.under.is)
+    go (Members due ∷ k) n h = ap (run addition_ends) (h.is ∙ ap (λ (b : State). let l : State = (h.inner, open_type b.0 ∷ b.1) in l) h.under.1)
+    go (Bag b ∷ k) n h = ap (run addition_ends) (h.is ∙ ap (λ (b : State). let l : State = (h.inner, open_type b.0 ∷ b.1) in l) h.under.1)
+    go (Alternative ∷ k) n h = ap (run addition_ends) (h.is ∙ ap (λ (b : State). let l : State = (h.inner, open_type b.0 ∷ b.1) in l) h.under.1)
 
 pub no_mark_due : (fs : List Frame) (o : List ℕ) (present : Bool) → ((p : Preamble) (k : List Frame) → fs ≡ Components p ∷ k → p.due ≡ 0) → (s : State) → Holds fs o s → run (mark present) s ≡ None
 no_mark_due [] o present n s h = ap (run (mark present)) h
 no_mark_due (Components c ∷ k) o present n s h = ap (run (mark present)) (h.is ∙ ap (λ d. let l : State = (h.inner, components c.extensible d h.marks h.outer.0 ∷ h.outer.1) in l) (n c k refl))
-no_mark_due (Added a ∷ k) o present n s h = ap (run (mark present)) h.2
-no_mark_due (OpenType outer ∷ k) o present n s h = ap (run (mark present)) h.1
+no_mark_due (Added a ∷ k) o present n s h = ap (run (mark present)) h.3
+no_mark_due (OpenType start ∷ k) o present n s h = ap (run (mark present)) h.is
 no_mark_due (Members due ∷ k) o present n s h = ap (run (mark present)) h.1
 no_mark_due (Bag b ∷ k) o present n s h = ap (run (mark present)) h.1
 no_mark_due (Alternative ∷ k) o present n s h = ap (run (mark present)) h.1

@@ -17,7 +17,7 @@ use Rattle.oer_codec_encoder_frames.specs.declared.frame.Frame.{Frame}
 use Rattle.oer_codec_encoder_frames.specs.declared.frame.Frame.TheVariants.{Components, Added, OpenType, Members, Bag, Alternative}
 use Rattle.oer_codec_encoder_frames.specs.declared.frame.Preamble.{Preamble}
 use Rattle.oer_codec_encoder_frames.specs.Frames.{told}
-use Rattle.oer_codec_encoder_frames.specs.Holding.{presence, given_bits, slot_texts, member_texts, shown, IsOpen, Holds, AreSound, Does}
+use Rattle.oer_codec_encoder_frames.specs.Holding.{presence, given_bits, member_texts, shown, IsOpen, IsApart, Holds, AreSound, Does}
 use Rattle.oer_codec_writing.specs.Writing.{Adds}
 
 -- ---- what is shown is what they stand for
@@ -51,6 +51,26 @@ parts e due given start content o s h =
     let marks = ap (λ l. take given (drop (length (presence e [])) l)) all ∙ presence_bits e h.marks ((zeros ++ fill) ++ octet_bits h.inner) given h.told in
     (front, inner, marks)
 
+-- the octets in front of an open type, and its own
+parts_apart : {below : List ℕ → State → Type 0} (start : ℕ) (o : List ℕ) (s : State) → (h : IsApart below start o s) → (take start o ≡ h.front) × (drop (start + 1) o ≡ h.inner)
+parts_apart start o s h =
+    let whole : o ≡ (h.front ++ h.room ∷ []) ++ h.inner = h.text ∙ sym (append_assoc h.front (h.room ∷ []) h.inner) in
+    let n : length (h.front ++ h.room ∷ []) ≡ start + 1 = omega (arith, length-append h.front (h.room ∷ []), h.starts) in
+    (ap (take start) h.text ∙ take_at h.front (h.room ∷ h.inner) start h.starts, ap (drop (start + 1)) whole ∙ drop_at (h.front ++ h.room ∷ []) h.inner (start + 1) n)
+
+pub behind_room : {below : List ℕ → State → Type 0} (start : ℕ) (o : List ℕ) (s : State) → (h : IsApart below start o s) → drop (start + 1) o ≡ h.inner
+behind_room start o s h = (parts_apart start o s h).1
+
+pub before_room : {below : List ℕ → State → Type 0} (start : ℕ) (o : List ℕ) (s : State) → (h : IsApart below start o s) → take start o ≡ h.front
+before_room start o s h = (parts_apart start o s h).0
+
+-- there is room
+pub room_within : {below : List ℕ → State → Type 0} (start : ℕ) (o : List ℕ) (s : State) → IsApart below start o s → start < length o
+room_within start o s h = omega (arith, ap length h.text, length-append h.front (h.room ∷ h.inner), h.starts)
+
+same_apart : (i j : List ℕ) (t u : State) → i ≡ j → t ≡ u → (let l : State = (i, open_type t.0 ∷ t.1) in l) ≡ (j, open_type u.0 ∷ u.1)
+same_apart i j t u a b = ap (λ x. let l : State = (x, open_type t.0 ∷ t.1) in l) a ∙ ap (λ (x : State). let l : State = (j, open_type x.0 ∷ x.1) in l) b
+
 pub shown_is : (fs : List Frame) (o : List ℕ) (s : State) → Holds fs o s → shown fs o ≡ s
 shown_is [] o s h = sym h
 shown_is (Components c ∷ fs) o s h =
@@ -60,10 +80,12 @@ shown_is (Added a ∷ fs) o s h =
     let i = h.1 in
     let x = parts true 0 a.preamble.given a.preamble.start a.preamble.content a.outer.items h.0 i in
     let below = ap (shown fs) x.0 ∙ shown_is fs i.front i.outer i.under in
-    ap (λ m. let l : State = (o, added a.due m (drop a.preamble.content a.outer.items) (slot_texts a.slots.items) (shown fs (take a.preamble.start a.outer.items)).0 ∷ (shown fs (take a.preamble.start a.outer.items)).1) in l) x.2
-    ∙ ap (λ r. let l : State = (o, added a.due i.marks r (slot_texts a.slots.items) (shown fs (take a.preamble.start a.outer.items)).0 ∷ (shown fs (take a.preamble.start a.outer.items)).1) in l) x.1
-    ∙ ap (λ (t : State). let l : State = (o, added a.due i.marks i.inner (slot_texts a.slots.items) t.0 ∷ t.1) in l) below ∙ sym h.2
-shown_is (OpenType outer ∷ fs) o s h = ap (λ (t : State). let l : State = (o, open_type t.0 ∷ t.1) in l) (shown_is fs outer.items h.0 h.2) ∙ sym h.1
+    ap (λ m. let l : State = (o, added a.due m (drop a.preamble.content a.outer.items) a.present (shown fs (take a.preamble.start a.outer.items)).0 ∷ (shown fs (take a.preamble.start a.outer.items)).1) in l) x.2
+    ∙ ap (λ r. let l : State = (o, added a.due i.marks r a.present (shown fs (take a.preamble.start a.outer.items)).0 ∷ (shown fs (take a.preamble.start a.outer.items)).1) in l) x.1
+    ∙ ap (λ (t : State). let l : State = (o, added a.due i.marks i.inner a.present t.0 ∷ t.1) in l) below ∙ sym h.3
+shown_is (OpenType start ∷ fs) o s h =
+    let x = parts_apart start o s h in
+    same_apart _ h.inner _ h.outer x.1 (ap (shown fs) x.0 ∙ shown_is fs h.front h.outer h.under) ∙ sym h.is
 shown_is (Bag b ∷ fs) o s h = ap (λ (t : State). let l : State = (o, bag_members b.due (member_texts b.members) t.0 ∷ t.1) in l) (shown_is fs b.outer.items h.0 h.2) ∙ sym h.1
 shown_is (Alternative ∷ fs) o s h = ap (λ (t : State). let l : State = (t.0, alternative ∷ t.1) in l) (shown_is fs o h.0 h.2) ∙ sym h.1
 shown_is (Members due ∷ fs) o s h = ap (λ (t : State). let l : State = (t.0, members due ∷ t.1) in l) (shown_is fs o h.0 h.2) ∙ sym h.1
@@ -88,8 +110,17 @@ appended (Components c ∷ fs) o s w h = record {
   under = h.under;
   is = ap (λ (t : State). let l : State = (t.0 ++ w, t.1) in l) h.is;
 }
-appended (Added a ∷ fs) o s w h = (h.0, h.1, ap (λ (t : State). let l : State = (t.0 ++ w, t.1) in l) h.2)
-appended (OpenType outer ∷ fs) o s w h = (h.0, ap (λ (t : State). let l : State = (t.0 ++ w, t.1) in l) h.1, h.2)
+appended (Added a ∷ fs) o s w h = (h.0, h.1, h.2, ap (λ (t : State). let l : State = (t.0 ++ w, t.1) in l) h.3)
+appended (OpenType start ∷ fs) o s w h = record {
+  front = h.front;
+  room = h.room;
+  inner = h.inner ++ w;
+  outer = h.outer;
+  text = ap (λ l. l ++ w) h.text ∙ append_assoc h.front (h.room ∷ h.inner) w;
+  starts = h.starts;
+  under = h.under;
+  is = ap (λ (t : State). let l : State = (t.0 ++ w, t.1) in l) h.is;
+}
 appended (Bag b ∷ fs) o s w h = (h.0, ap (λ (t : State). let l : State = (t.0 ++ w, t.1) in l) h.1, h.2)
 appended (Alternative ∷ fs) o s w h = ((h.0.0 ++ w, h.0.1), ap (λ (t : State). let l : State = (t.0 ++ w, t.1) in l) h.1, appended fs o h.0 w h.2)
 appended (Members due ∷ fs) o s w h = ((h.0.0 ++ w, h.0.1), ap (λ (t : State). let l : State = (t.0 ++ w, t.1) in l) h.1, appended fs o h.0 w h.2)
@@ -368,8 +399,8 @@ no_begin_members fs o z h n k s d = ap (λ (b : Bool). option_map (λ w. let v :
 pub nothing_open : (fs : List Frame) (o : List ℕ) (s : State) → Holds fs o s → s.1 ≡ [] → o ≡ s.0
 nothing_open [] o s h e = sym (ap (λ (t : State). t.0) h)
 nothing_open (Components c ∷ fs) o s h n = let p = ap (λ (t : State). t.1) h.is in cc
-nothing_open (Added a ∷ fs) o s h n = let p = ap (λ (t : State). t.1) h.2 in cc
-nothing_open (OpenType outer ∷ fs) o s h n = let p = ap (λ (t : State). t.1) h.1 in cc
+nothing_open (Added a ∷ fs) o s h n = let p = ap (λ (t : State). t.1) h.3 in cc
+nothing_open (OpenType start ∷ fs) o s h n = let p = ap (λ (t : State). t.1) h.is in cc
 nothing_open (Bag b ∷ fs) o s h n = let p = ap (λ (t : State). t.1) h.1 in cc
 nothing_open (Alternative ∷ fs) o s h n = let p = ap (λ (t : State). t.1) h.1 in cc
 nothing_open (Members due ∷ fs) o s h n = let p = ap (λ (t : State). t.1) h.1 in cc

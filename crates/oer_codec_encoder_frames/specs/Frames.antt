@@ -1,6 +1,5 @@
 -- The frames of an encoder, and how they go on.
-use Rattle.std.specs.Prelude.{◌≡◌, ℕ, ◌+◌, ◌-◌, ◌<◌, Bool, true, false, List, [], ◌∷◌, ◌++◌, reverse, not, ltb, Option, Some, None, Vec}
-use Rattle.std.specs.Global.{Global}
+use Rattle.std.specs.Prelude.{◌≡◌, ℕ, ◌+◌, ◌-◌, ◌<◌, Bool, ◌||◌, List, [], ◌∷◌, ◌++◌, reverse, not, ltb, Option, Some, None}
 use Rattle.asn1_schema_faults.specs.declared.EncodeError.{EncodeError}
 use Rattle.asn1_schema_faults.specs.declared.EncodeError.TheVariants.{OutOfMemory}
 use Rattle.oer_codec_encoder_frames.specs.declared.frame.Additions.{Additions}
@@ -17,27 +16,19 @@ frames_of (Some f) fs = f ∷ reverse fs
 abbrev pub told : Preamble → Preamble
 told p = record { extensible = p.extensible; due = p.due - 1; given = p.given + 1; start = p.start; content = p.content }
 
--- The same additions, of which so many are due and these were told.
-pub record IsLike (a : Additions) (due : ℕ) (kept : List (Option (Vec ℕ Global))) (b : Additions) : Type 0 where
-  pub counts : b.due ≡ due
+-- The additions behind the next one: one fewer is due, and whether it is there was told.
+pub record Next (here : Bool) (a b : Additions) : Type 0 where
+  pub one : 0 < a.due
+  pub counts : b.due ≡ a.due - 1
   pub preamble : b.preamble ≡ a.preamble
   pub outer : b.outer ≡ a.outer
-  pub slots : b.slots.items ≡ kept
-
--- The additions behind the next one, which is kept where it is not there.
-abbrev pub Next : Bool → Additions → Additions → Type 0
-Next true a b = (0 < a.due) × IsLike a (a.due - 1) a.slots.items b
-Next false a b = (0 < a.due) × IsLike a (a.due - 1) (a.slots.items ++ None ∷ []) b
+  pub present : b.present ≡ a.present ++ here ∷ []
+  pub any : b.any ≡ (a.any || here)
 
 -- The next addition of the innermost sequence is counted.
 abbrev pub CountsAddition : Bool → List Frame → List Frame → Type 0
 CountsAddition present (Added a ∷ k) after = (b : Additions) × Next present a b × (after ≡ Added b ∷ k)
 CountsAddition present k after = ⊥
-
--- An addition is kept in the innermost sequence.
-abbrev pub KeepsAddition : Vec ℕ Global → List Frame → List Frame → Type 0
-KeepsAddition slot (Added a ∷ k) after = (b : Additions) × IsLike a a.due (a.slots.items ++ Some slot ∷ []) b × (after ≡ Added b ∷ k)
-KeepsAddition slot k after = ⊥
 
 -- Why no member, or no end of the members, comes where so many are due: memory was refused, or it is not what is due.
 abbrev pub NoMember : Bool → ℕ → EncodeError → Type 0

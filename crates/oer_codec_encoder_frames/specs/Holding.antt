@@ -5,7 +5,7 @@ use Rattle.asn1_values_bits.specs.Octets.{filled_up}
 use Rattle.asn1_schema_faults.specs.declared.EncodeError.{EncodeError}
 use Rattle.asn1_schema_faults.specs.declared.EncodeError.TheVariants.{OutOfMemory}
 use Rattle.asn1_schema_presented.specs.Records.{Record}
-use Rattle.oer_codec_steps.specs.Steps.{components, added, open_type, members, bag_members, alternative, with_open, State, run}
+use Rattle.oer_codec_steps.specs.Steps.{components, added, open_type, members, bag_members, alternative, with_open, is_any_set, State, run}
 use Rattle.oer_codec_encoder_frames.specs.declared.frame.Bag.{Bag as BagFrame}
 use Rattle.oer_codec_encoder_frames.specs.declared.frame.Frame.{Frame}
 use Rattle.oer_codec_encoder_frames.specs.declared.frame.Frame.TheVariants.{Components, Added, OpenType, Members, Bag, Alternative}
@@ -14,10 +14,6 @@ use Rattle.oer_codec_encoder_frames.specs.declared.frame.Frame.TheVariants.{Comp
 abbrev pub presence : Bool → List Bool → List Bool
 presence true ms = false ∷ ms
 presence false ms = ms
-
--- The octets of each addition, behind their number, where it is there.
-abbrev pub slot_texts : {Z : Type 0} → List (Option (Vec ℕ Z)) → List (Option (List ℕ))
-slot_texts slots = map (λ o. option_map (λ v. v.items) o) slots
 
 -- The octets of each member of a bag in front of the open one, if one is open.
 abbrev pub member_texts : {Z : Type 0} → Option (Vec (Vec ℕ Z) Z) → Option (List (List ℕ))
@@ -35,10 +31,10 @@ shown (Components c ∷ fs) o =
     (drop c.content o, components c.extensible c.due (given_bits c.extensible c.given c.start o) below.0 ∷ below.1)
 shown (Added a ∷ fs) o =
     let below = shown fs (take a.preamble.start a.outer.items) in
-    (o, added a.due (given_bits true a.preamble.given a.preamble.start a.outer.items) (drop a.preamble.content a.outer.items) (slot_texts a.slots.items) below.0 ∷ below.1)
-shown (OpenType outer ∷ fs) o =
-    let below = shown fs outer.items in
-    (o, open_type below.0 ∷ below.1)
+    (o, added a.due (given_bits true a.preamble.given a.preamble.start a.outer.items) (drop a.preamble.content a.outer.items) a.present below.0 ∷ below.1)
+shown (OpenType start ∷ fs) o =
+    let below = shown fs (take start o) in
+    (drop (start + 1) o, open_type below.0 ∷ below.1)
 shown (Members due ∷ fs) o =
     let below = shown fs o in
     (below.0, members due ∷ below.1)
@@ -66,12 +62,23 @@ pub record IsOpen (below : List ℕ → State → Type 0) (e : Bool) (due given 
   pub under : below front outer
   pub is : s ≡ (inner, components e due marks outer.0 ∷ outer.1)
 
+-- The octets are those in front of an open type, room for one octet, and those of the open type.
+pub record IsApart (below : List ℕ → State → Type 0) (start : ℕ) (o : List ℕ) (s : State) : Type 0 where
+  pub front : List ℕ
+  pub room : ℕ
+  pub inner : List ℕ
+  pub outer : State
+  pub text : o ≡ front ++ room ∷ inner
+  pub starts : length front ≡ start
+  pub under : below front outer
+  pub is : s ≡ (inner, open_type outer.0 ∷ outer.1)
+
 -- The octets and the frames stand for a state.
 abbrev pub Holds : List Frame → List ℕ → State → Type 0
 Holds [] o s = s ≡ (o, [])
 Holds (Components c ∷ fs) o s = IsOpen (λ p t. Holds fs p t) c.extensible c.due c.given c.start c.content o s
-Holds (Added a ∷ fs) o s = (root : State) × (h : IsOpen (λ p t. Holds fs p t) true 0 a.preamble.given a.preamble.start a.preamble.content a.outer.items root) × (s ≡ (o, added a.due h.marks h.inner (slot_texts a.slots.items) h.outer.0 ∷ h.outer.1))
-Holds (OpenType outer ∷ fs) o s = (below : State) × (s ≡ (o, open_type below.0 ∷ below.1)) × Holds fs outer.items below
+Holds (Added a ∷ fs) o s = (root : State) × (h : IsOpen (λ p t. Holds fs p t) true 0 a.preamble.given a.preamble.start a.preamble.content a.outer.items root) × (a.any ≡ is_any_set a.present) × (s ≡ (o, added a.due h.marks h.inner a.present h.outer.0 ∷ h.outer.1))
+Holds (OpenType start ∷ fs) o s = IsApart (λ p t. Holds fs p t) start o s
 Holds (Members due ∷ fs) o s = (below : State) × (s ≡ (below.0, members due ∷ below.1)) × Holds fs o below
 Holds (Bag b ∷ fs) o s = (below : State) × (s ≡ (o, bag_members b.due (member_texts b.members) below.0 ∷ below.1)) × Holds fs b.outer.items below
 Holds (Alternative ∷ fs) o s = (below : State) × (s ≡ (below.0, alternative ∷ below.1)) × Holds fs o below

@@ -2,19 +2,22 @@
 ghost use Rattle.std.specs.Prelude.{◌≡◌, MatchResult};
 ghost use Rattle.asn1_schema_presented.specs.Records.{additions_begin, addition, addition_ends};
 ghost use Rattle.oer_codec_encoder_frames.specs.Frames.{Next};
-ghost use Rattle.oer_codec_encoder_frames.specs.Holding.{Does, Cannot};
+ghost use Rattle.oer_codec_encoder_frames.specs.Holding.{AreSound, Does, Cannot};
 
 use crate::frame::{Additions, Frame};
 use crate::frames::Frames;
+use crate::open_types::{open_in_place, put_length};
 use crate::room::take_room;
 use asn1_schema_faults::EncodeError;
-use oer_codec_writing::push_counted;
+use asn1_values_bits::BitBuffer;
 use std::alloc::Global;
 use std::mem;
 
-/// Begins the additions behind the root of a sequence or of a set with a mark of extensibility (X.696 16).
+/// Begins the additions behind the root of a sequence or of a set with a mark of extensibility (X.696 16): their octets stand alone, in
+/// the worker's room.
 pub fn begin_additions(
     octets: &mut Vec<u8>,
+    worker: &mut Vec<u8>,
     frames: &mut Frames,
     alloc: Global,
     count: usize,
@@ -29,8 +32,9 @@ pub fn begin_additions(
             frames.open(Frame::Added(Additions {
                 due: count,
                 preamble,
-                outer: mem::replace(octets, Vec::new(alloc)),
-                slots: Vec::new(alloc),
+                outer: mem::replace(octets, take_room(worker, alloc)),
+                present: BitBuffer::new(alloc),
+                any: false,
             }))?;
             Ok(())
         }
@@ -38,55 +42,52 @@ pub fn begin_additions(
     }
 }
 
-/// Counts the next addition, which is kept if it is not there.
+/// Counts the next addition, and keeps whether it is there.
+#[inline(always)]
 pub(crate) fn count_addition(additions: &mut Additions, present: bool) -> Result<(), EncodeError>
     ensures { MatchResult result (λ _. Next present additions.old additions.new) (λ e. ¬ (e ≡ EncodeError.OutOfMemory) → additions.old.due ≡ 0) }
 {
     if additions.due == 0 {
         return Err(EncodeError::SizeConstraintNotSatisfied);
     }
+    additions.present.push(present)?;
     additions.due -= 1;
-    if !present {
-        additions.slots.push(None)?;
-    }
+    additions.any = additions.any || present;
     Ok(())
 }
 
-/// Whether the next addition is there (X.696 16.4): its octets then stand alone, in the worker's room.
+/// Whether the next addition is there (X.696 16.4): its octets then stand behind those in front, as an open type.
+#[inline]
 pub fn put_addition(
     octets: &mut Vec<u8>,
-    worker: &mut Vec<u8>,
     frames: &mut Frames,
-    alloc: Global,
     present: bool,
 ) -> Result<(), EncodeError>
     ensures { MatchResult result (λ _. Does (addition present) frames.old octets.old.items frames.new octets.new.items) (Cannot (addition present) frames.old octets.old.items) }
 {
     frames.next_addition(present)?;
     if present {
-        let outer = mem::replace(octets, take_room(worker, alloc));
-        frames.open(Frame::OpenType { outer })?;
+        open_in_place(octets, frames)?;
     }
     Ok(())
 }
 
-/// Ends an addition that is there, whose octets are kept behind their number for the end of its sequence (X.696 16.5), and gives the
-/// worker back its room.
+/// Ends an addition that is there, whose octets stand behind their number (X.696 16.5).
+#[inline]
 pub fn end_addition(
     octets: &mut Vec<u8>,
-    worker: &mut Vec<u8>,
     frames: &mut Frames,
     alloc: Global,
 ) -> Result<(), EncodeError>
+    requires { AreSound frames.old octets.old.items }
     ensures { MatchResult result (λ _. Does addition_ends frames.old octets.old.items frames.new octets.new.items) (Cannot addition_ends frames.old octets.old.items) }
 {
-    let Some(Frame::OpenType { outer }) = frames.close() else {
+    let Some(Frame::OpenType { start }) = frames.close() else {
         return Err(EncodeError::SizeConstraintNotSatisfied);
     };
-    let contents = mem::replace(octets, outer);
-    let mut slot = Vec::new(alloc);
-    push_counted(&mut slot, contents.as_slice())?;
-    *worker = contents;
-    frames.keep_addition(slot)?;
+    let Some(_) = frames.additions() else {
+        return Err(EncodeError::SizeConstraintNotSatisfied);
+    };
+    put_length(octets, alloc, start)?;
     Ok(())
 }

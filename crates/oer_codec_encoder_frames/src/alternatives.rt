@@ -7,15 +7,14 @@ ghost use Rattle.oer_codec_steps.specs.Steps.{tag_at, tags_among};
 
 use crate::frame::Frame;
 use crate::frames::Frames;
-use crate::room::take_room;
+use crate::open_types::open_in_place;
 use asn1_schema_faults::EncodeError;
 use asn1_schema_tags::Tag;
 use asn1_schema_variants::Chosen;
 use oer_codec_writing_tags::push_tag;
-use std::alloc::Global;
-use std::mem;
 
 /// The tag at a place, if there is one.
+#[inline(always)]
 fn tag_from(tags: &[Tag], place: usize) -> Option<Tag>
     ensures { option_map tag_of result ≡ tag_at place (map tag_of tags.now) }
 {
@@ -26,6 +25,7 @@ fn tag_from(tags: &[Tag], place: usize) -> Option<Tag>
 }
 
 /// The tag of the chosen alternative, if the type has it.
+#[inline(always)]
 fn tag_of_chosen(roots: &[Tag], extensible: bool, additions: &[Tag], chosen: Chosen) -> Option<Tag>
     ensures { option_map tag_of result ≡ tag_at chosen.place (tags_among (map tag_of roots.now) extensible (map tag_of additions.now) chosen.added) }
 {
@@ -38,13 +38,11 @@ fn tag_of_chosen(roots: &[Tag], extensible: bool, additions: &[Tag], chosen: Cho
     tag_from(additions, chosen.place)
 }
 
-/// Begins a CHOICE with the tag of the chosen alternative (X.696 20), of which an added one is an open type, whose octets stand alone, in
-/// the worker's room.
+/// Begins a CHOICE with the tag of the chosen alternative (X.696 20), of which an added one is an open type.
+#[inline(always)]
 pub fn begin_choice(
     octets: &mut Vec<u8>,
-    worker: &mut Vec<u8>,
     frames: &mut Frames,
-    alloc: Global,
     roots: &[Tag],
     extensible: bool,
     additions: &[Tag],
@@ -57,8 +55,7 @@ pub fn begin_choice(
     };
     push_tag(octets, tag)?;
     if chosen.added {
-        let outer = mem::replace(octets, take_room(worker, alloc));
-        frames.open(Frame::OpenType { outer })?;
+        open_in_place(octets, frames)?;
     } else {
         frames.open(Frame::Alternative)?;
     }

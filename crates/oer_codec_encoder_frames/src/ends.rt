@@ -7,13 +7,13 @@ use crate::bags::{push_members, with_open_member};
 use crate::bitmaps::push_additions;
 use crate::frame::Frame;
 use crate::frames::Frames;
+use crate::open_types::put_length;
 use asn1_schema_faults::EncodeError;
-use oer_codec_writing::push_counted;
 use std::alloc::Global;
 use std::mem;
 
 /// Ends what is innermost (X.696 16, 17, 19, 20 and 30): of a sequence without a mark no presence bit is due, of one with a mark
-/// no addition, and of a list and a bag no member. The worker gets back the room of an open type.
+/// no addition, and of a list and a bag no member. The worker gets back the room of additions.
 #[inline(always)]
 pub fn end_scope(
     octets: &mut Vec<u8>,
@@ -35,15 +35,20 @@ pub fn end_scope(
             if additions.due > 0 {
                 return Err(EncodeError::SizeConstraintNotSatisfied);
             }
-            *octets = additions.outer;
+            let all = mem::replace(octets, additions.outer);
             let start = additions.preamble.start;
-            push_additions(octets, alloc, start, additions.slots.as_slice())?;
+            push_additions(
+                octets,
+                start,
+                additions.any,
+                &additions.present,
+                all.as_slice(),
+            )?;
+            *worker = all;
             Ok(())
         }
-        Some(Frame::OpenType { outer }) => {
-            let contents = mem::replace(octets, outer);
-            push_counted(octets, contents.as_slice())?;
-            *worker = contents;
+        Some(Frame::OpenType { start }) => {
+            put_length(octets, alloc, start)?;
             Ok(())
         }
         Some(Frame::Members { due: 0 }) | Some(Frame::Alternative) => Ok(()),

@@ -1,5 +1,7 @@
 //! What may be open.
 
+use asn1_values_bits::BitBuffer;
+
 /// The preamble of a sequence, a set or a group of additions (X.696 16.2), whose presence bits are told one at a time.
 #[derive(Clone, Copy)]
 pub struct Preamble {
@@ -15,7 +17,7 @@ pub struct Preamble {
     pub content: usize,
 }
 
-/// The additions of a sequence or of a set (X.696 16.4 and 16.5), which are kept until it ends.
+/// The additions of a sequence or of a set (X.696 16.4 and 16.5), whose octets stand alone until it ends, one behind the other.
 #[derive(Drop)]
 pub struct Additions {
     /// How many are due.
@@ -24,8 +26,10 @@ pub struct Additions {
     pub preamble: Preamble,
     /// The octets up to the end of the root.
     pub outer: Vec<u8>,
-    /// Each addition, behind its length, where it is there.
-    pub slots: Vec<Option<Vec<u8>>>,
+    /// Which of those that were told are there.
+    pub present: BitBuffer,
+    /// Whether one of them is there.
+    pub any: bool,
 }
 
 /// A bag (X.696 19), of whose members the open one stands alone.
@@ -46,10 +50,10 @@ pub enum Frame {
     Components(Preamble),
     /// A sequence or a set behind its root.
     Added(Additions),
-    /// An addition or an added alternative, whose octets stand alone.
+    /// An addition or an added alternative, whose octets stand behind room for one octet of their number.
     OpenType {
-        /// The octets in front of it.
-        outer: Vec<u8>,
+        /// Where this room is.
+        start: usize,
     },
     /// A list.
     Members {

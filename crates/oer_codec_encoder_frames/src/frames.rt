@@ -2,12 +2,12 @@
 ghost use Rattle.std.specs.Prelude.{◌≡◌, ◌+◌, ◌^◌, ◌<◌, ◌∷◌, [], List, ℕ, OnOk, IfErr, IfSome, IfNone, MatchResult};
 ghost use Rattle.asn1_schema_presented.specs.Records.{addition, further};
 ghost use Rattle.oer_codec_encoder_frames.specs.declared.frame.Frame.TheVariants.{Added, Components};
-ghost use Rattle.oer_codec_encoder_frames.specs.Frames.{told, CountsAddition, KeepsAddition};
+ghost use Rattle.oer_codec_encoder_frames.specs.Frames.{told, CountsAddition};
 ghost use Rattle.oer_codec_encoder_frames.specs.Holding.{Does, Cannot};
 
 use crate::additions::count_addition;
 use crate::bags::next_of_bag;
-use crate::frame::{Frame, Preamble};
+use crate::frame::{Additions, Frame, Preamble};
 use crate::sequences::count_member;
 use asn1_schema_faults::EncodeError;
 use std::alloc::{AllocError, Global};
@@ -114,7 +114,8 @@ impl Frames {
         Ok(())
     }
 
-    /// Counts the next addition of the innermost sequence, which is kept if it is not there.
+    /// Counts the next addition of the innermost sequence, and keeps whether it is there.
+    #[inline(always)]
     pub(crate) fn next_addition(&mut self, present: bool) -> Result<(), EncodeError>
         ensures ok { OnOk result (CountsAddition present self.old self.new) }
         ensures only { IfErr result (λ e. (o : List ℕ) → Cannot (addition present) self.old o e) }
@@ -126,15 +127,15 @@ impl Frames {
         Ok(())
     }
 
-    /// Keeps an addition that is there for the end of the innermost sequence.
-    pub(crate) fn keep_addition(&mut self, slot: Vec<u8>) -> Result<(), EncodeError>
-        ensures ok { OnOk result (KeepsAddition slot self.old self.new) }
-        ensures only { IfErr result (λ e. ¬ (e ≡ EncodeError.OutOfMemory) → (a : _) (k : _) → self.old ≡ Added a ∷ k → ⊥) }
+    /// The additions of the innermost sequence, if it is behind its root.
+    #[inline(always)]
+    pub(crate) fn additions(&self) -> Option<&Additions>
+        ensures some { IfSome result (λ a. (k : _) × (self.now ≡ Added a.now ∷ k)) }
+        ensures none { IfNone result ((a : _) (k : _) → self.now ≡ Added a ∷ k → ⊥) }
     {
-        match &mut self.innermost {
-            Some(Frame::Added(additions)) => additions.slots.push(Some(slot))?,
-            _ => return Err(EncodeError::SizeConstraintNotSatisfied),
+        match &self.innermost {
+            Some(Frame::Added(additions)) => Some(additions),
+            _ => None,
         }
-        Ok(())
     }
 }

@@ -8,6 +8,7 @@ mod bitmaps;
 mod ends;
 mod frame;
 mod frames;
+mod open_types;
 mod room;
 mod sequences;
 

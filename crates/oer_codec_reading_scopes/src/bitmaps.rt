@@ -20,6 +20,7 @@ pub fn are_zero(bits: &BitReader<'_>) -> bool
 }
 
 /// How many bits a bitmap has behind a length, by the number of its unused bits (X.696 13), if there is such a bitmap.
+#[inline(always)]
 fn bit_count(length: usize, unused: u8) -> Option<usize>
     requires some { 1 ≤ length }
     requires most { length ≤ 2 ^ 60 }
@@ -38,6 +39,7 @@ fn bit_count(length: usize, unused: u8) -> Option<usize>
 /// # Errors
 ///
 /// `Incomplete` if the octets end early, and `NotValidCanonicalEncoding` if a filling bit is set in the canonical rules.
+#[inline(always)]
 fn read_filled<'input>(
     cursor: &mut Cursor<'input>,
     rules: EncodingRules,
@@ -63,6 +65,7 @@ fn read_filled<'input>(
 ///
 /// `InvalidExtensionHeader` if its length is zero or it has more unused bits than seven or than there are, `Incomplete` if the octets end
 /// early, `NotValidCanonicalEncoding` if an unused bit is set in the canonical rules, and the errors of a length.
+#[inline]
 pub fn read_bitmap<'input>(
     cursor: &mut Cursor<'input>,
     rules: EncodingRules,

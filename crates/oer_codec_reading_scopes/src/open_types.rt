@@ -16,6 +16,7 @@ use std::mem;
 /// # Errors
 ///
 /// `Incomplete` if the octets end early, and the errors of a length.
+#[inline(always)]
 pub fn enter_open_type<'input>(
     cursor: &mut Cursor<'input>,
     rules: EncodingRules,
@@ -33,6 +34,7 @@ pub fn enter_open_type<'input>(
 /// # Errors
 ///
 /// `SurplusOctets` if octets are left in it, in the canonical rules.
+#[inline(always)]
 pub fn leave_open_type<'input>(
     cursor: &mut Cursor<'input>,
     rules: EncodingRules,

@@ -15,6 +15,7 @@ use oer_codec_reading::{Cursor, EncodingRules};
 const LIMIT: u32 = 1 << 25;
 
 /// Reads further groups of seven bits of a tag's number, of which these were read before (X.696 8.7.2.3).
+#[inline(never)]
 fn read_groups(cursor: &mut Cursor<'_>, begun: u32) -> Result<u32, DecodeError>
     ensures ok { IfOk result (λ n. number_behind begun cursor.old ≡ Some (n, cursor.new)) }
     ensures only { IfErr result (λ _. number_behind begun cursor.old ≡ None) }
@@ -37,6 +38,7 @@ fn read_groups(cursor: &mut Cursor<'_>, begun: u32) -> Result<u32, DecodeError>
 ///
 /// `Incomplete` if the octets end early, `InvalidTagNumberOnChoice` if the number has a leading zero group or 32 bits do not hold it, and
 /// `NotValidCanonicalEncoding` if a number below 63 has the long form in the canonical rules.
+#[inline(always)]
 pub fn read_tag(cursor: &mut Cursor<'_>, rules: EncodingRules) -> Result<Tag, DecodeError>
     ensures ok { IfOk result (λ t. Stands (freedoms rules) (tag_form (tag_of t)) cursor.old cursor.new) }
     ensures only { IfErr result (Misses (freedoms rules) tag_in cursor.old) }
@@ -74,6 +76,7 @@ pub fn visit_numbers(table: &[Tag])
 }
 
 /// The first place of a tag in a table.
+#[inline(always)]
 pub fn find_tag(tag: Tag, table: &[Tag]) -> Option<usize>
     ensures { result ≡ tag_place (tag_of tag) (map tag_of table.now) }
 {

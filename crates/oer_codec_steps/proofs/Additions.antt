@@ -10,7 +10,7 @@ use Rattle.asn1_model.specs.Form.{exactly, refused, both, given, joined, is_pres
 use Rattle.asn1_model.specs.Oer
 use Rattle.asn1_schema_presented.specs.Records.{Record, additions_begin, addition, addition_ends, is_default, is_empty, mismatch}
 use Rattle.asn1_schema_presented.specs.Presents.{presents, added_records, component_count, root_records, optional_count, behind_root}
-use Rattle.oer_codec_steps.specs.Steps.{Scope, components, added, open_type, State, runs}
+use Rattle.oer_codec_steps.specs.Steps.{Scope, components, added, open_type, State, runs, adds_text, is_any_set, with_added}
 use Rattle.oer_codec_steps.proofs.Still.{OctetsStill, still_both, counted_still, counted_bits_still}
 use Rattle.oer_codec_steps.specs.Ties.{BridgesAt, Bridges}
 use Rattle.oer_codec_steps.proofs.Bridge.{EachBridges, chain_same, none_behind, two_steps, one_text, noted_by, spelled_by, root, closed_off, preamble_octets}
@@ -25,34 +25,6 @@ texts_of (Some x ∷ xs) = option_and_then (λ w. option_map (λ us. Some w ∷ 
 abbrev pub closing : List Bool → List ℕ → List (Option (List ℕ)) → Option (List ℕ)
 closing ms r us = written (Oer.sequence_form true ms (exactly r) (map (λ o. option_map (λ w. exactly w) o) us)) 0
 
--- the rest of the additions, behind those that are there
-abbrev Rest : Components → Type 0
-Rest cs = (qs : Parts) (ms : List Bool) (r : List ℕ) (slots : List (Option (List ℕ))) (front : List ℕ) (k : List Scope) (rest : List Record) → runs (added_records cs qs ++ rest) ([], added (component_count cs) ms r slots front ∷ k) ≡ option_and_then (λ xs. option_and_then (λ us. option_and_then (λ w. runs rest (front ++ w, k)) (closing ms r (slots ++ us))) (texts_of xs)) (Oer.addition_forms cs qs)
-
--- one slot more
-abbrev after_slot : List Bool → List ℕ → List (Option (List ℕ)) → List ℕ → List Scope → List Record → Option (List ℕ) → Option (List (Option Oer.OctetForm)) → Option State
-after_slot ms r slots front k rest u o = option_and_then (λ xs. option_and_then (λ us. option_and_then (λ w. runs rest (front ++ w, k)) (closing ms r ((slots ++ u ∷ []) ++ us))) (texts_of xs)) o
-
-absent_slot : (ms : List Bool) (r : List ℕ) (slots : List (Option (List ℕ))) (front : List ℕ) (k : List Scope) (rest : List Record) (o : Option (List (Option Oer.OctetForm))) → after_slot ms r slots front k rest None o ≡ option_and_then (λ xs. option_and_then (λ us. option_and_then (λ w. runs rest (front ++ w, k)) (closing ms r (slots ++ us))) (texts_of xs)) (option_map (λ xs. None ∷ xs) o)
-absent_slot ms r slots front k rest None = refl
-absent_slot ms r slots front k rest (Some xs) = go (texts_of xs)
-  where
-    go : (t : Option (List (Option (List ℕ)))) → option_and_then (λ us. option_and_then (λ w. runs rest (front ++ w, k)) (closing ms r ((slots ++ None ∷ []) ++ us))) t ≡ option_and_then (λ us. option_and_then (λ w. runs rest (front ++ w, k)) (closing ms r (slots ++ us))) (option_map (λ us. None ∷ us) t)
-    go None = refl
-    go (Some us) = ap (λ l. option_and_then (λ w. runs rest (front ++ w, k)) (closing ms r l)) (append_assoc slots (None ∷ []) us)
-
-present_slot : (ms : List Bool) (r : List ℕ) (slots : List (Option (List ℕ))) (front : List ℕ) (k : List Scope) (rest : List Record) (x : Oer.OctetForm) (o : Option (List (Option Oer.OctetForm))) → option_and_then (λ w. after_slot ms r slots front k rest (Some w) o) (written x 0) ≡ option_and_then (λ xs. option_and_then (λ us. option_and_then (λ w. runs rest (front ++ w, k)) (closing ms r (slots ++ us))) (texts_of xs)) (option_map (λ xs. Some x ∷ xs) o)
-present_slot ms r slots front k rest x None = none_behind (written x 0)
-present_slot ms r slots front k rest x (Some xs) = outer (written x 0)
-  where
-    go : (w : List ℕ) (t : Option (List (Option (List ℕ)))) → option_and_then (λ us. option_and_then (λ w. runs rest (front ++ w, k)) (closing ms r ((slots ++ Some w ∷ []) ++ us))) t ≡ option_and_then (λ us. option_and_then (λ w. runs rest (front ++ w, k)) (closing ms r (slots ++ us))) (option_map (λ us. Some w ∷ us) t)
-    go w None = refl
-    go w (Some us) = ap (λ l. option_and_then (λ w. runs rest (front ++ w, k)) (closing ms r l)) (append_assoc slots (Some w ∷ []) us)
-
-    outer : (c : Option (List ℕ)) → option_and_then (λ w. after_slot ms r slots front k rest (Some w) (Some xs)) c ≡ option_and_then (λ us. option_and_then (λ w. runs rest (front ++ w, k)) (closing ms r (slots ++ us))) (option_and_then (λ w. option_map (λ us. Some w ∷ us) (texts_of xs)) c)
-    outer None = refl
-    outer (Some w) = go w (texts_of xs)
-
 -- an addition that is there
 abbrev pub opened : Option (List ℕ) → Option (List ℕ)
 opened o = option_and_then (λ w. written (Oer.counted w) 0) o
@@ -60,44 +32,6 @@ opened o = option_and_then (λ w. written (Oer.counted w) 0) o
 pub open_text : (x : Oer.OctetForm) → written (Oer.open_type x) 0 ≡ opened (written x 0)
 unfolding written Oer.open_type
 open_text x = chain_same (written x 0) (λ w. written (Oer.counted (w ++ [])) 0) (λ w. written (Oer.counted w) 0) (λ w. ap (λ l. written (Oer.counted l) 0) (append-nil w))
-
-one_added : (s : Schema) (v : Value) → BridgesAt s v → (d g : Bool) (n : ℕ) (ms : List Bool) (r : List ℕ) (slots : List (Option (List ℕ))) (front : List ℕ) (k : List Scope) (rest : List Record) → runs ((presents s v ++ (addition_ends ∷ noted_by d g)) ++ rest) ([], open_type [] ∷ added n ms r slots front ∷ k) ≡ option_and_then (λ w. runs rest ([], added n ms r (slots ++ Some w ∷ []) front ∷ k)) (written (spelled_by d g (Oer.open_type (Oer.form s v))) 0)
-unfolding written
-one_added s v h d g n ms r slots front k rest =
-    ap (λ l. runs l ([], open_type [] ∷ added n ms r slots front ∷ k)) (append_assoc (presents s v) (addition_ends ∷ noted_by d g) rest)
-    ∙ h 0 [] (open_type [] ∷ added n ms r slots front ∷ k) (addition_ends ∷ (noted_by d g ++ rest))
-    ∙ noted d g
-  where
-    -- the octets behind their number, and what comes then
-    kept : (more : List Record) (o : Option (List ℕ)) → option_and_then (λ w. runs (addition_ends ∷ more) (w, open_type [] ∷ added n ms r slots front ∷ k)) o ≡ option_and_then (λ w. runs more ([], added n ms r (slots ++ Some w ∷ []) front ∷ k)) (opened o)
-    kept more None = refl
-    kept more (Some w) = go (written (Oer.counted w) 0)
-      where
-        go : (c : Option (List ℕ)) → option_and_then (λ m. runs more m) (option_map (λ w. ([], added n ms r (slots ++ Some w ∷ []) front ∷ k)) c) ≡ option_and_then (λ w. runs more ([], added n ms r (slots ++ Some w ∷ []) front ∷ k)) c
-        go None = refl
-        go (Some u) = refl
-
-    noted : (d g : Bool) → option_and_then (λ w. runs (addition_ends ∷ (noted_by d g ++ rest)) (w, open_type [] ∷ added n ms r slots front ∷ k)) (written (Oer.form s v) 0) ≡ option_and_then (λ w. runs rest ([], added n ms r (slots ++ Some w ∷ []) front ∷ k)) (written (spelled_by d g (Oer.open_type (Oer.form s v))) 0)
-    noted true g = kept (is_default ∷ rest) (written (Oer.form s v) 0) ∙ none_behind (opened (written (Oer.form s v) 0))
-    noted false true = kept (is_empty ∷ rest) (written (Oer.form s v) 0) ∙ none_behind (opened (written (Oer.form s v) 0))
-    noted false false = kept rest (written (Oer.form s v) 0) ∙ ap (λ o. option_and_then (λ w. runs rest ([], added n ms r (slots ++ Some w ∷ []) front ∷ k)) o) (sym (open_text (Oer.form s v)))
-
-one_left_out : (q : Bool) (cs : Components) → Rest cs → (qs : Parts) (ms : List Bool) (r : List ℕ) (slots : List (Option (List ℕ))) (front : List ℕ) (k : List Scope) (rest : List Record) → runs ((cond q (mismatch ∷ []) (addition false ∷ []) ++ added_records cs qs) ++ rest) ([], added (suc (component_count cs)) ms r slots front ∷ k) ≡ option_and_then (λ xs. option_and_then (λ us. option_and_then (λ w. runs rest (front ++ w, k)) (closing ms r (slots ++ us))) (texts_of xs)) (cond q None (option_map (λ xs. None ∷ xs) (Oer.addition_forms cs qs)))
-one_left_out true cs others qs ms r slots front k rest = refl
-one_left_out false cs others qs ms r slots front k rest = others qs ms r (slots ++ None ∷ []) front k rest ∙ absent_slot ms r slots front k rest (Oer.addition_forms cs qs)
-
--- the additions, and the end
-pub rest_of : (cs : Components) → EachBridges cs → Rest cs
-unfolding added_records Oer.addition_forms Oer.spelled
-rest_of no_component h end ms r slots front k rest = one_text (closing ms r slots) front k rest ∙ ap (λ l. option_and_then (λ w. runs rest (front ++ w, k)) (closing ms r l)) (sym (append-nil slots))
-rest_of no_component h qs ms r slots front k rest = refl
-rest_of (component t o s cs) h (present v qs) ms r slots front k rest =
-    ap (λ l. runs l ([], open_type [] ∷ added (component_count cs) ms r slots front ∷ k)) (append_assoc (presents s v ++ (addition_ends ∷ noted_by (is_at_default o s v) (is_group_left_out s v))) (added_records cs qs) rest)
-    ∙ one_added s v (h.0 v) (is_at_default o s v) (is_group_left_out s v) (component_count cs) ms r slots front k (added_records cs qs ++ rest)
-    ∙ chain_same (written (Oer.spelled o s v (Oer.open_type (Oer.form s v))) 0) _ (λ w. after_slot ms r slots front k rest (Some w) (Oer.addition_forms cs qs)) (λ w. rest_of cs h.1 qs ms r (slots ++ Some w ∷ []) front k rest)
-    ∙ present_slot ms r slots front k rest (Oer.spelled o s v (Oer.open_type (Oer.form s v))) (Oer.addition_forms cs qs)
-rest_of (component t o s cs) h (absent qs) ms r slots front k rest = one_left_out (is_required o) cs (rest_of cs h.1) qs ms r slots front k rest
-rest_of (component t o s cs) h end ms r slots front k rest = refl
 
 -- ---- the form of the whole, by the texts of the additions
 
@@ -126,6 +60,10 @@ own ms x xs p = go (is_any_present xs) refl
 
 abbrev as_forms : List (Option (List ℕ)) → List (Option Oer.OctetForm)
 as_forms us = map (λ o. option_map (λ w. exactly w) o) us
+
+-- which additions are there
+abbrev told : List (Option (List ℕ)) → List Bool
+told us = map (λ o. is_present o) us
 
 abbrev pub EachStill : List (Option Oer.OctetForm) → Type 0
 EachStill [] = Unit {0}
@@ -187,6 +125,127 @@ sum ms x bs j all hx hj p = ap (λ o. option_map (λ b. preamble_octets (true �
 still_exact : (l : List ℕ) → OctetsStill (exactly l)
 unfolding written
 still_exact l = record { at = λ p. refl }
+
+-- ---- the same by which are there, and by all of their octets
+
+told_more : (us : List (Option (List ℕ))) (o : Option (List ℕ)) → told (us ++ o ∷ []) ≡ told us ++ is_present o ∷ []
+told_more [] o = refl
+told_more (u ∷ us) o = ap (λ l. is_present u ∷ l) (told_more us o)
+
+joined_more : (us : List (Option (List ℕ))) (w : List ℕ) → texts_joined (us ++ Some w ∷ []) ≡ texts_joined us ++ w
+joined_more [] w = append-nil w
+joined_more (None ∷ us) w = joined_more us w
+joined_more (Some v ∷ us) w = ap (λ l. v ++ l) (joined_more us w) ∙ sym (append_assoc v (texts_joined us) w)
+
+joined_same : (us : List (Option (List ℕ))) → texts_joined (us ++ None ∷ []) ≡ texts_joined us
+joined_same [] = refl
+joined_same (None ∷ us) = joined_same us
+joined_same (Some v ∷ us) = ap (λ l. v ++ l) (joined_same us)
+
+told_forms : (us : List (Option (List ℕ))) → map (λ a. is_present a) (as_forms us) ≡ told us
+told_forms [] = refl
+told_forms (None ∷ us) = ap (λ l. false ∷ l) (told_forms us)
+told_forms (Some w ∷ us) = ap (λ l. true ∷ l) (told_forms us)
+
+any_told : (us : List (Option (List ℕ))) → is_any_set (told us) ≡ is_any_present (as_forms us)
+any_told [] = refl
+any_told (None ∷ us) = any_told us
+any_told (Some w ∷ us) = refl
+
+exact_text : (l : List ℕ) (p : ℕ) → written {F = Oer.Freedom} {D = Oer.Detail} (exactly l) p ≡ Some l
+unfolding written
+exact_text l p = refl
+
+by_forms : (ms : List Bool) (r : List ℕ) (us : List (Option (List ℕ))) → written (Oer.with_additions ms (exactly r) (as_forms us)) 0 ≡ written (both (Oer.preamble (true ∷ ms)) (both (exactly r) (both (Oer.counted_bits (map (λ a. is_present a) (as_forms us))) (joined (present_ones (as_forms us)))))) 0
+unfolding Oer.with_additions Oer.additions
+by_forms ms r us = refl
+
+same_text_of : (ms : List Bool) (r : List ℕ) (us : List (Option (List ℕ))) → written (both (Oer.preamble (true ∷ ms)) (both (exactly r) (both (Oer.counted_bits (told us)) (exactly (texts_joined us))))) 0 ≡ written (Oer.with_additions ms (exactly r) (as_forms us)) 0
+same_text_of ms r us =
+    sum ms (exactly r) (told us) (exactly (texts_joined us)) (texts_joined us) (still_exact r) (exact_text (texts_joined us)) 0
+    ∙ sym (sum ms (exactly r) (told us) (joined (present_ones (as_forms us))) (texts_joined us) (still_exact r) (joined_exactly us) 0)
+    ∙ sym (by_forms ms r us ∙ ap (λ bs. written (both (Oer.preamble (true ∷ ms)) (both (exactly r) (both (Oer.counted_bits bs) (joined (present_ones (as_forms us)))))) 0) (told_forms us))
+
+same_closing : (ms : List Bool) (r : List ℕ) (us : List (Option (List ℕ))) → with_added ms r (told us) (texts_joined us) ≡ closing ms r us
+same_closing ms r us =
+    ap (λ t. cond t (written (both (Oer.preamble (true ∷ ms)) (both (exactly r) (both (Oer.counted_bits (told us)) (exactly (texts_joined us))))) 0) (written (both (Oer.preamble (false ∷ ms)) (exactly r)) 0)) (any_told us)
+    ∙ ap (λ o. cond (is_any_present (as_forms us)) o (written (both (Oer.preamble (false ∷ ms)) (exactly r)) 0)) (same_text_of ms r us)
+    ∙ sym (own ms (exactly r) (as_forms us) 0)
+
+-- ---- the records of additions
+
+-- the rest of the additions, behind those that are there
+abbrev Rest : Components → Type 0
+Rest cs = (qs : Parts) (ms : List Bool) (r : List ℕ) (slots : List (Option (List ℕ))) (front : List ℕ) (k : List Scope) (rest : List Record) → runs (added_records cs qs ++ rest) (texts_joined slots, added (component_count cs) ms r (told slots) front ∷ k) ≡ option_and_then (λ xs. option_and_then (λ us. option_and_then (λ w. runs rest (front ++ w, k)) (closing ms r (slots ++ us))) (texts_of xs)) (Oer.addition_forms cs qs)
+
+-- one slot more
+abbrev after_slot : List Bool → List ℕ → List (Option (List ℕ)) → List ℕ → List Scope → List Record → Option (List ℕ) → Option (List (Option Oer.OctetForm)) → Option State
+after_slot ms r slots front k rest u o = option_and_then (λ xs. option_and_then (λ us. option_and_then (λ w. runs rest (front ++ w, k)) (closing ms r ((slots ++ u ∷ []) ++ us))) (texts_of xs)) o
+
+absent_slot : (ms : List Bool) (r : List ℕ) (slots : List (Option (List ℕ))) (front : List ℕ) (k : List Scope) (rest : List Record) (o : Option (List (Option Oer.OctetForm))) → after_slot ms r slots front k rest None o ≡ option_and_then (λ xs. option_and_then (λ us. option_and_then (λ w. runs rest (front ++ w, k)) (closing ms r (slots ++ us))) (texts_of xs)) (option_map (λ xs. None ∷ xs) o)
+absent_slot ms r slots front k rest None = refl
+absent_slot ms r slots front k rest (Some xs) = go (texts_of xs)
+  where
+    go : (t : Option (List (Option (List ℕ)))) → option_and_then (λ us. option_and_then (λ w. runs rest (front ++ w, k)) (closing ms r ((slots ++ None ∷ []) ++ us))) t ≡ option_and_then (λ us. option_and_then (λ w. runs rest (front ++ w, k)) (closing ms r (slots ++ us))) (option_map (λ us. None ∷ us) t)
+    go None = refl
+    go (Some us) = ap (λ l. option_and_then (λ w. runs rest (front ++ w, k)) (closing ms r l)) (append_assoc slots (None ∷ []) us)
+
+present_slot : (ms : List Bool) (r : List ℕ) (slots : List (Option (List ℕ))) (front : List ℕ) (k : List Scope) (rest : List Record) (x : Oer.OctetForm) (o : Option (List (Option Oer.OctetForm))) → option_and_then (λ w. after_slot ms r slots front k rest (Some w) o) (written x 0) ≡ option_and_then (λ xs. option_and_then (λ us. option_and_then (λ w. runs rest (front ++ w, k)) (closing ms r (slots ++ us))) (texts_of xs)) (option_map (λ xs. Some x ∷ xs) o)
+present_slot ms r slots front k rest x None = none_behind (written x 0)
+present_slot ms r slots front k rest x (Some xs) = outer (written x 0)
+  where
+    go : (w : List ℕ) (t : Option (List (Option (List ℕ)))) → option_and_then (λ us. option_and_then (λ w. runs rest (front ++ w, k)) (closing ms r ((slots ++ Some w ∷ []) ++ us))) t ≡ option_and_then (λ us. option_and_then (λ w. runs rest (front ++ w, k)) (closing ms r (slots ++ us))) (option_map (λ us. Some w ∷ us) t)
+    go w None = refl
+    go w (Some us) = ap (λ l. option_and_then (λ w. runs rest (front ++ w, k)) (closing ms r l)) (append_assoc slots (Some w ∷ []) us)
+
+    outer : (c : Option (List ℕ)) → option_and_then (λ w. after_slot ms r slots front k rest (Some w) (Some xs)) c ≡ option_and_then (λ us. option_and_then (λ w. runs rest (front ++ w, k)) (closing ms r (slots ++ us))) (option_and_then (λ w. option_map (λ us. Some w ∷ us) (texts_of xs)) c)
+    outer None = refl
+    outer (Some w) = go w (texts_of xs)
+
+one_added : (s : Schema) (v : Value) → BridgesAt s v → (d g : Bool) (n : ℕ) (ms : List Bool) (r : List ℕ) (bs : List Bool) (os front : List ℕ) (k : List Scope) (rest : List Record) → runs ((presents s v ++ (addition_ends ∷ noted_by d g)) ++ rest) ([], open_type os ∷ added n ms r bs front ∷ k) ≡ option_and_then (λ w. runs rest (os ++ w, added n ms r bs front ∷ k)) (written (spelled_by d g (Oer.open_type (Oer.form s v))) 0)
+unfolding written
+one_added s v h d g n ms r bs os front k rest =
+    ap (λ l. runs l ([], open_type os ∷ added n ms r bs front ∷ k)) (append_assoc (presents s v) (addition_ends ∷ noted_by d g) rest)
+    ∙ h 0 [] (open_type os ∷ added n ms r bs front ∷ k) (addition_ends ∷ (noted_by d g ++ rest))
+    ∙ noted d g
+  where
+    -- the octets behind their number, and what comes then
+    kept : (more : List Record) (o : Option (List ℕ)) → option_and_then (λ w. runs (addition_ends ∷ more) (w, open_type os ∷ added n ms r bs front ∷ k)) o ≡ option_and_then (λ w. runs more (os ++ w, added n ms r bs front ∷ k)) (opened o)
+    kept more None = refl
+    kept more (Some w) = one_text (written (Oer.counted w) 0) os (added n ms r bs front ∷ k) more
+
+    noted : (d g : Bool) → option_and_then (λ w. runs (addition_ends ∷ (noted_by d g ++ rest)) (w, open_type os ∷ added n ms r bs front ∷ k)) (written (Oer.form s v) 0) ≡ option_and_then (λ w. runs rest (os ++ w, added n ms r bs front ∷ k)) (written (spelled_by d g (Oer.open_type (Oer.form s v))) 0)
+    noted true g = kept (is_default ∷ rest) (written (Oer.form s v) 0) ∙ none_behind (opened (written (Oer.form s v) 0))
+    noted false true = kept (is_empty ∷ rest) (written (Oer.form s v) 0) ∙ none_behind (opened (written (Oer.form s v) 0))
+    noted false false = kept rest (written (Oer.form s v) 0) ∙ ap (λ o. option_and_then (λ w. runs rest (os ++ w, added n ms r bs front ∷ k)) o) (sym (open_text (Oer.form s v)))
+
+-- what is held behind one addition more
+one_more : (n : ℕ) (ms : List Bool) (r : List ℕ) (slots : List (Option (List ℕ))) (w front : List ℕ) (k : List Scope) → (let t : State = (texts_joined slots ++ w, added n ms r (told slots ++ true ∷ []) front ∷ k) in t) ≡ (texts_joined (slots ++ Some w ∷ []), added n ms r (told (slots ++ Some w ∷ [])) front ∷ k)
+one_more n ms r slots w front k =
+    ap (λ l. let t : State = (l, added n ms r (told slots ++ true ∷ []) front ∷ k) in t) (sym (joined_more slots w))
+    ∙ ap (λ l. let t : State = (texts_joined (slots ++ Some w ∷ []), added n ms r l front ∷ k) in t) (sym (told_more slots (Some w)))
+
+one_less : (n : ℕ) (ms : List Bool) (r : List ℕ) (slots : List (Option (List ℕ))) (front : List ℕ) (k : List Scope) → (let t : State = (texts_joined slots, added n ms r (told slots ++ false ∷ []) front ∷ k) in t) ≡ (texts_joined (slots ++ None ∷ []), added n ms r (told (slots ++ None ∷ [])) front ∷ k)
+one_less n ms r slots front k =
+    ap (λ l. let t : State = (l, added n ms r (told slots ++ false ∷ []) front ∷ k) in t) (sym (joined_same slots))
+    ∙ ap (λ l. let t : State = (texts_joined (slots ++ None ∷ []), added n ms r l front ∷ k) in t) (sym (told_more slots None))
+
+one_left_out : (q : Bool) (cs : Components) → Rest cs → (qs : Parts) (ms : List Bool) (r : List ℕ) (slots : List (Option (List ℕ))) (front : List ℕ) (k : List Scope) (rest : List Record) → runs ((cond q (mismatch ∷ []) (addition false ∷ []) ++ added_records cs qs) ++ rest) (texts_joined slots, added (suc (component_count cs)) ms r (told slots) front ∷ k) ≡ option_and_then (λ xs. option_and_then (λ us. option_and_then (λ w. runs rest (front ++ w, k)) (closing ms r (slots ++ us))) (texts_of xs)) (cond q None (option_map (λ xs. None ∷ xs) (Oer.addition_forms cs qs)))
+one_left_out true cs others qs ms r slots front k rest = refl
+one_left_out false cs others qs ms r slots front k rest = ap (runs (added_records cs qs ++ rest)) (one_less (component_count cs) ms r slots front k) ∙ others qs ms r (slots ++ None ∷ []) front k rest ∙ absent_slot ms r slots front k rest (Oer.addition_forms cs qs)
+
+-- the additions, and the end
+pub rest_of : (cs : Components) → EachBridges cs → Rest cs
+unfolding added_records Oer.addition_forms Oer.spelled
+rest_of no_component h end ms r slots front k rest = ap (λ o. option_and_then (λ m. runs rest m) (adds_text o (front, k))) (same_closing ms r slots) ∙ one_text (closing ms r slots) front k rest ∙ ap (λ l. option_and_then (λ w. runs rest (front ++ w, k)) (closing ms r l)) (sym (append-nil slots))
+rest_of no_component h qs ms r slots front k rest = refl
+rest_of (component t o s cs) h (present v qs) ms r slots front k rest =
+    ap (λ l. runs l ([], open_type (texts_joined slots) ∷ added (component_count cs) ms r (told slots ++ true ∷ []) front ∷ k)) (append_assoc (presents s v ++ (addition_ends ∷ noted_by (is_at_default o s v) (is_group_left_out s v))) (added_records cs qs) rest)
+    ∙ one_added s v (h.0 v) (is_at_default o s v) (is_group_left_out s v) (component_count cs) ms r (told slots ++ true ∷ []) (texts_joined slots) front k (added_records cs qs ++ rest)
+    ∙ chain_same (written (Oer.spelled o s v (Oer.open_type (Oer.form s v))) 0) _ (λ w. after_slot ms r slots front k rest (Some w) (Oer.addition_forms cs qs)) (λ w. ap (runs (added_records cs qs ++ rest)) (one_more (component_count cs) ms r slots w front k) ∙ rest_of cs h.1 qs ms r (slots ++ Some w ∷ []) front k rest)
+    ∙ present_slot ms r slots front k rest (Oer.spelled o s v (Oer.open_type (Oer.form s v))) (Oer.addition_forms cs qs)
+rest_of (component t o s cs) h (absent qs) ms r slots front k rest = one_left_out (is_required o) cs (rest_of cs h.1) qs ms r slots front k rest
+rest_of (component t o s cs) h end ms r slots front k rest = refl
 
 -- where each addition has a text
 module _ (ms : List Bool) (x : Oer.OctetForm) (xs : List (Option Oer.OctetForm)) (us : List (Option (List ℕ))) (hx : OctetsStill x) (h : EachStill xs) (e : texts_of xs ≡ Some us) (p : ℕ) where

@@ -1,9 +1,9 @@
 -- What a writer of the octet encoding rules (X.696) holds: the octets of the innermost open scope, and the open scopes. Each record changes them.
-use Rattle.std.specs.Prelude.{◌≡◌, ℕ, zero, suc, Bool, true, false, List, [], ◌∷◌, ◌++◌, map, Option, Some, None, option_map, option_and_then}
+use Rattle.std.specs.Prelude.{◌≡◌, ℕ, zero, suc, Bool, true, false, cond, ◌||◌, List, [], ◌∷◌, ◌++◌, map, Option, Some, None, option_map, option_and_then}
 use Rattle.asn1_model.specs.Value.{truth, item, bit_list, octet_list, text, arcs}
 use Rattle.asn1_model.specs.Schema.{Tag, boolean, enumerated, bit_string, octet_string, character_string, object_identifier}
 use Rattle.asn1_model.specs.Numbers.{is_count_within}
-use Rattle.asn1_model.specs.Form.{exactly, written, joined, only_if}
+use Rattle.asn1_model.specs.Form.{exactly, written, both, joined, only_if}
 use Rattle.asn1_model.specs.Oer
 use Rattle.asn1_schema_presented.specs.Records.{Record, flag, nil, whole, one_of, bits, octets, characters, identifier, list_begins, bag_begins, further, sequence_begins, set_begins, group_begins, mark, additions_begin, addition, addition_ends, choice_begins, ends}
 
@@ -12,9 +12,9 @@ pub data Scope : Type 0 where
   -- a sequence, set or group: whether it has a mark of extensibility, how many presence bits are due, those that are there, and the octets in
   -- front of it
   components : Bool → ℕ → List Bool → List ℕ → Scope
-  -- behind the root of such a type with a mark: how many additions are due, the presence bits, the root's octets, each addition's octets,
-  -- and the octets in front of the sequence
-  added : ℕ → List Bool → List ℕ → List (Option (List ℕ)) → List ℕ → Scope
+  -- behind the root of such a type with a mark: how many additions are due, the presence bits, the root's octets, which of the additions in
+  -- front are there, and the octets in front of the sequence; the octets of the scope are those of the additions, one behind the other
+  added : ℕ → List Bool → List ℕ → List Bool → List ℕ → Scope
   -- an addition, or an added alternative: its octets stand alone, and those in front are these
   open_type : List ℕ → Scope
   -- a list: how many members are due
@@ -67,10 +67,21 @@ abbrev pub closed : Bool → ℕ → List Bool → List ℕ → List ℕ → Lis
 closed false zero ms front os k = adds_text (written (Oer.sequence_form false ms (exactly os) []) 0) (front, k)
 closed e n ms front os k = None
 
--- So is the end of one with additions.
-abbrev pub closed_added : ℕ → List Bool → List ℕ → List (Option (List ℕ)) → List ℕ → List Scope → Option State
-closed_added zero ms root slots front k = adds_text (written (Oer.sequence_form true ms (exactly root) (map (λ o. option_map (λ w. exactly w) o) slots)) 0) (front, k)
-closed_added n ms root slots front k = None
+-- Whether one of the bits is set.
+abbrev pub is_any_set : List Bool → Bool
+is_any_set [] = false
+is_any_set (b ∷ bs) = b || is_any_set bs
+
+-- The preamble and the root, and where an addition is there the mark is set, and the bitmap and the additions' octets stand behind (X.696 16).
+abbrev pub with_added : List Bool → List ℕ → List Bool → List ℕ → Option (List ℕ)
+with_added ms root bs os = cond (is_any_set bs)
+    (written (both (Oer.preamble (true ∷ ms)) (both (exactly root) (both (Oer.counted_bits bs) (exactly os)))) 0)
+    (written (both (Oer.preamble (false ∷ ms)) (exactly root)) 0)
+
+-- The end of one with additions.
+abbrev pub closed_added : ℕ → List Bool → List ℕ → List Bool → List ℕ → List ℕ → List Scope → Option State
+closed_added zero ms root bs os front k = adds_text (with_added ms root bs os) (front, k)
+closed_added n ms root bs os front k = None
 
 -- The end of a bag puts its members in the ascending order of their octets (X.696 19).
 abbrev pub closed_bag : ℕ → List (List ℕ) → List ℕ → List Scope → Option State
@@ -79,7 +90,7 @@ closed_bag n ws front k = None
 
 abbrev pub ended : List ℕ → List Scope → Option State
 ended os (components e n ms front ∷ k) = closed e n ms front os k
-ended os (added n ms root slots front ∷ k) = closed_added n ms root slots front k
+ended os (added n ms root bs front ∷ k) = closed_added n ms root bs os front k
 ended os (open_type front ∷ k) = adds_text (written (Oer.counted os) 0) (front, k)
 ended os (members zero ∷ k) = Some (os, k)
 ended os (bag_members n ws front ∷ k) = closed_bag n (with_open ws os) front k
@@ -95,18 +106,18 @@ abbrev pub extended : ℕ → List ℕ → List Scope → Option State
 extended n os (components e due ms front ∷ k) = rooted e due ms front os k n
 extended n os k = None
 
-abbrev pub next_addition : ℕ → List Bool → List ℕ → List (Option (List ℕ)) → List ℕ → List ℕ → List Scope → Bool → Option State
-next_addition zero ms root slots front os k b = None
-next_addition (suc n) ms root slots front os k false = Some (os, added n ms root (slots ++ None ∷ []) front ∷ k)
-next_addition (suc n) ms root slots front os k true = Some ([], open_type os ∷ added n ms root slots front ∷ k)
+abbrev pub next_addition : ℕ → List Bool → List ℕ → List Bool → List ℕ → List ℕ → List Scope → Bool → Option State
+next_addition zero ms root bs front os k b = None
+next_addition (suc n) ms root bs front os k false = Some (os, added n ms root (bs ++ false ∷ []) front ∷ k)
+next_addition (suc n) ms root bs front os k true = Some ([], open_type os ∷ added n ms root (bs ++ true ∷ []) front ∷ k)
 
 abbrev pub adds : Bool → List ℕ → List Scope → Option State
-adds b os (added n ms root slots front ∷ k) = next_addition n ms root slots front os k b
+adds b os (added n ms root bs front ∷ k) = next_addition n ms root bs front os k b
 adds b os k = None
 
--- An addition's octets behind their number are kept for the end.
+-- An addition's octets stand behind their number, and behind the additions in front.
 abbrev pub added_one : List ℕ → List Scope → Option State
-added_one os (open_type front ∷ added n ms root slots before ∷ k) = option_map (λ w. (front, added n ms root (slots ++ Some w ∷ []) before ∷ k)) (written (Oer.counted os) 0)
+added_one os (open_type front ∷ added n ms root bs before ∷ k) = adds_text (written (Oer.counted os) 0) (front, added n ms root bs before ∷ k)
 added_one os k = None
 
 -- The tag at a place.

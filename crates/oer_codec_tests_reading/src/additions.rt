@@ -1,5 +1,5 @@
 //! Additions, known and unknown.
-use asn1_schema_decode::Decoder as Finding;
+use asn1_schema_decode::{Decode, Decoder as Finding};
 use asn1_schema_faults::DecodeError;
 use asn1_schema_tags::Tag;
 use oer_codec::coer::{Decoder, DecoderOptions};
@@ -143,4 +143,37 @@ fn octets_behind_an_addition_are_refused_in_the_canonical_rules(rt: HostRuntime)
         addition(rt.alloc(), &input, DecoderOptions::coer()),
         Err(DecodeError::SurplusOctets)
     );
+}
+
+/// The additions that are read of SEQUENCE {..., and 65 additions INTEGER (0..255) OPTIONAL}, each behind its place.
+fn additions_of_65(
+    alloc: Global,
+    input: &[u8],
+    options: DecoderOptions,
+) -> Result<Vec<(u8, u8)>, DecodeError> {
+    let mut decoder = Decoder::new(alloc, input, options);
+    decoder.begin_sequence(Tag::SEQUENCE, true, 0)?;
+    decoder.begin_additions(65)?;
+    let mut found = Vec::new(alloc);
+    for place in 0..65u8 {
+        if decoder.get_addition()? {
+            found.push((place, u8::decode(alloc, &mut decoder)?))?;
+            decoder.end_addition()?;
+        }
+    }
+    decoder.end()?;
+    Ok(found)
+}
+
+/// A bitmap of 65 bits has nine octets, of which the last has seven unused bits (X.696 16.4).
+#[test]
+fn an_addition_behind_64_others(rt: HostRuntime) -> Result<(), DecodeError> {
+    let input = [0x80, 0x0A, 0x07, 0, 0, 0, 0, 0, 0, 0, 0, 0x80, 0x01, 0x07];
+    for options in [DecoderOptions::coer(), DecoderOptions::oer()] {
+        assert_eq!(rt;
+            additions_of_65(rt.alloc(), &input, options)?.as_slice(),
+            [(64u8, 7u8)].as_slice()
+        );
+    }
+    Ok(())
 }

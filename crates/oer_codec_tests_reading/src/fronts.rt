@@ -4,7 +4,7 @@ use asn1_schema_constraints::{Bounded, Constraint, Constraints, Extensible, Valu
 use asn1_schema_decode::Decode;
 use asn1_schema_faults::DecodeError;
 use asn1_values_numbers::Integer;
-use oer_codec_calls::{decode, decode_with_constraints, decode_with_remainder};
+use oer_codec::reading::{decode, decode_with_constraints, decode_with_remainder};
 use oer_codec_reading::EncodingRules;
 use std::alloc::Global;
 use std::test::Fail;

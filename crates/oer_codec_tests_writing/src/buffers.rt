@@ -4,7 +4,7 @@ use asn1_schema_constraints::{Constraint, Constraints, Extensible, Size, Value};
 use asn1_schema_faults::EncodeError;
 use asn1_values_numbers::Integer;
 use asn1_values_octets::OctetString;
-use oer_codec_output::{encode, encode_buf, encode_with_constraints};
+use oer_codec::writing::{encode, encode_buf, encode_with_constraints};
 use std::alloc::Global;
 use std::test::Fail;
 

@@ -2,10 +2,13 @@
 #![tactic(auto)]
 
 pub mod aper;
+pub mod laws;
+pub mod reading;
 pub mod uper;
+pub mod writing;
 
-pub use per_codec_calls::{Decoder, DecoderOptions};
-pub use per_codec_output::{Encoder, EncoderOptions};
+pub use per_codec_decoder::{Decoder, DecoderOptions};
+pub use per_codec_encoder::{Encoder, EncoderOptions};
 
 #[cfg(test)]
 mod tests;

@@ -3,14 +3,14 @@ ghost use Rattle.std.specs.Prelude.{◌≡◌, [], ℕ, List, OnOk, OnErr, IfOk,
 ghost use Rattle.asn1_model.specs.Lawful.{IsLawful};
 ghost use Rattle.asn1_model.specs.Rules.{uper};
 ghost use Rattle.asn1_schema_messages.specs.Messages.{NoMessage, Tells};
-ghost use Rattle.per_codec_output.specs.Encoded.{IsEncoded, NotEncoded};
+ghost use Rattle.per_codec.specs.Encoded.{IsEncoded, NotEncoded};
 
 use asn1_schema_constraints::Constraints;
 use asn1_schema_decode::Decode;
 use asn1_schema_encode::Encode;
 use asn1_schema_faults::{DecodeError, EncodeError};
-pub use per_codec_calls::{Decoder, DecoderOptions};
-pub use per_codec_output::{Encoder, EncoderOptions};
+pub use per_codec_decoder::{Decoder, DecoderOptions};
+pub use per_codec_encoder::{Encoder, EncoderOptions};
 use per_codec_reading::Variant;
 use std::alloc::Global;
 
@@ -24,7 +24,7 @@ pub fn encode<T: Encode>(alloc: Global, value: &T) -> Result<Vec<u8>, EncodeErro
     ensures ok { IfOk result (λ octets. IsEncoded false T.schema (T.meaning value.now) octets.items) }
     ensures only { IfErr result (NotEncoded false T.schema (T.meaning value.now)) }
 {
-    let octets = per_codec_output::encode(alloc, EncoderOptions::unaligned(), value)?;
+    let octets = crate::writing::encode(alloc, EncoderOptions::unaligned(), value)?;
     Ok(octets)
 }
 
@@ -42,7 +42,7 @@ pub fn encode_buf<T: Encode>(
     ensures only { IfErr result (NotEncoded false T.schema (T.meaning value.now)) }
     ensures empty { OnErr result (buffer.new.items ≡ []) }
 {
-    per_codec_output::encode_buf(alloc, EncoderOptions::unaligned(), value, buffer)?;
+    crate::writing::encode_buf(alloc, EncoderOptions::unaligned(), value, buffer)?;
     Ok(())
 }
 
@@ -60,7 +60,7 @@ pub fn encode_with_constraints<T: Encode>(
     ensures only { IfErr result (NotEncoded false (T.under constraints.entry) (T.meaning value.now)) }
 {
     let options = EncoderOptions::unaligned();
-    let octets = per_codec_output::encode_with_constraints(alloc, options, constraints, value)?;
+    let octets = crate::writing::encode_with_constraints(alloc, options, constraints, value)?;
     Ok(octets)
 }
 
@@ -73,7 +73,7 @@ pub fn decode<T: Decode>(alloc: Global, input: &[u8]) -> Result<T, DecodeError>
     ensures ok { IfOk result (λ x. (rest : List ℕ) × Tells uper T.schema (T.meaning x) input.now rest) }
     ensures only { IfErr result (NoMessage uper T.schema input.now) }
 {
-    let value = per_codec_calls::decode(alloc, input, Variant::Unaligned)?;
+    let value = crate::reading::decode(alloc, input, Variant::Unaligned)?;
     Ok(value)
 }
 
@@ -89,7 +89,7 @@ pub fn decode_with_remainder<'input, T: Decode>(
     ensures ok { IfOk result (λ x. Tells uper T.schema (T.meaning x.0) input.now x.1.now) }
     ensures only { IfErr result (NoMessage uper T.schema input.now) }
 {
-    let (value, rest) = per_codec_calls::decode_with_remainder(alloc, input, Variant::Unaligned)?;
+    let (value, rest) = crate::reading::decode_with_remainder(alloc, input, Variant::Unaligned)?;
     Ok((value, rest))
 }
 
@@ -106,7 +106,7 @@ pub fn decode_with_constraints<T: Decode>(
     ensures ok { IfOk result (λ x. (rest : List ℕ) × Tells uper (T.under constraints.entry) (T.meaning x) input.now rest) }
     ensures only { IfErr result (λ error. IsLawful (T.under constraints.entry 128) → NoMessage uper (T.under constraints.entry) input.now error) }
 {
-    let value = per_codec_calls::decode_with_constraints(
+    let value = crate::reading::decode_with_constraints(
         alloc,
         constraints,
         input,

@@ -1,8 +1,13 @@
 //! What finds the records of a value in bits.
-ghost use Rattle.std.specs.Prelude.{◌≡◌, ◌+◌, ◌-◌, ◌<◌, ◌≤◌, ◌^◌, [], ◌∷◌, true, false, length, take, OnOk, OnErr, IfErr, IfOk};
+ghost use Rattle.std.specs.Cow.{cow_slice_items, IsBorrowedSlice};
+ghost use Rattle.std.specs.Prelude.{◌≡◌, ◌+◌, ◌-◌, ◌%◌, ◌<◌, ◌≤◌, ◌^◌, [], ◌∷◌, true, false, length, take, OnOk, OnErr, IfErr, IfOk};
 ghost use Rattle.per_codec_decoder.specs.Held.{Held, Finds, HasFailed, kind_of, IsReady, Stays, Moves, Enters, HasOpened, NoOpening, EntersMembers, EntersComponents, NotMembers, NotComponents};
 ghost use Rattle.per_codec_decoder.specs.Scopes.{scope_of, Passes, NotPassed};
-ghost use Rattle.asn1_schema_bounds.specs.Bounds.{members_of};
+ghost use Rattle.asn1_schema_bounds.specs.Bounds.{counts_of, members_of};
+ghost use Rattle.asn1_schema_decode.specs.Reads.{NoRecord};
+ghost use Rattle.asn1_schema_presented.specs.Records.{octets, asks_octets};
+ghost use Rattle.per_codec_reading_units.specs.Runs.{InOneRun, StandsIn};
+ghost use Rattle.per_codec_reading_units.specs.Sizes.{surely_told};
 ghost use Rattle.asn1_schema_constraints.specs.Terms.{sizes_of};
 ghost use Rattle.asn1_model.specs.Numbers.{octet_bits};
 ghost use Rattle.asn1_values_bits.specs.BitStr.{bits_of};
@@ -34,7 +39,8 @@ use per_codec_reading_numbers::read_integer;
 use per_codec_reading_places::{read_item, read_place_of_alternative};
 use per_codec_reading_scopes::{Field, Stretch, skip_unknown};
 use per_codec_reading_units::{
-    read_bit_string, read_object_identifier, read_octet_string, read_utf8_string,
+    read_bit_string, read_object_identifier, read_octet_string, read_octet_string_in,
+    read_utf8_string,
 };
 use std::alloc::Global;
 use std::borrow::CowSlice;
@@ -99,6 +105,45 @@ impl<'input> Decoder<'input> {
         self.begin_record()?;
         let mut cursor = self.place.cursor();
         let answer = read_completion(&mut cursor);
+        let position = cursor.position();
+        self.settle(position, answer)
+    }
+
+    /// OCTET STRING (X.680 23) as `decode_octet_string` reads it, where the input is handed over once more, of which the unread bits of the
+    /// message are the last. Where the octets stand in one run (X.691 11.9.4) that begins at an octet of the input, as it does where it ends at
+    /// one, the input lends them, and no memory is taken.
+    ///
+    /// # Errors
+    ///
+    /// Those of `decode_octet_string`.
+    #[inline(always)]
+    pub fn decode_octet_string_in<'a>(
+        &mut self,
+        alloc: Global,
+        input: &'a [u8],
+        constraints: Constraints,
+        held: Bounded<usize>,
+    ) -> Result<CowSlice<'a, u8>, DecodeError>
+        requires few { length input.now < 2 ^ 60 }
+        requires stands { StandsIn (octet_bits input.now) self.old.place }
+        ensures ok { IfOk result (λ x. Finds self.old (octets (sizes_of constraints.entry.size) (counts_of held) (cow_slice_items x)) self.new) }
+        ensures lent { IfOk result (λ x. InOneRun (surely_told (sizes_of constraints.entry.size)) (length (cow_slice_items x)) → self.new.place.0 % 8 ≡ 0 → IsBorrowedSlice x) }
+        ensures level { OnOk result (self.new.levels ≡ self.old.levels) }
+        ensures only { IfErr result (NoRecord Finds (asks_octets (sizes_of constraints.entry.size) (counts_of held)) self.old) }
+        ensures failed { OnErr result (HasFailed self.new) }
+        ensures already { HasFailed self.old → result ≡ Err DecodeError.AlreadyFailed }
+    {
+        self.begin_record()?;
+        let bits = BitStr::from_slice(input);
+        let mut cursor = self.place.cursor();
+        let answer = read_octet_string_in(
+            alloc,
+            bits,
+            &mut cursor,
+            self.variant,
+            constraints,
+            held,
+        );
         let position = cursor.position();
         self.settle(position, answer)
     }

@@ -6,3 +6,4 @@ pub mod RunsOne
 pub mod SizedFronts
 pub mod ToldFronts
 pub mod StringFronts
+pub mod LastFronts

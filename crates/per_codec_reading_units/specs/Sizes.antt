@@ -24,6 +24,10 @@ told_highest high true = None
 told_highest None false = None
 told_highest (Some high) false = cond (ltb high 65536) (Some high) None
 
+-- That highest number where there is no mark, so that no number is outside the root.
+abbrev pub surely_told : Size → Option ℕ
+surely_told z = told_highest z.counts.high z.extensible
+
 -- A number from a lowest to a highest one (X.691 11.9.4.1).
 abbrev pub told_count : Bool → ℕ → ℕ → ℕ → Per.BitForm
 told_count al low high n = only_if (leb low n && leb n high) (Per.constrained al (high - low) (n - low))

@@ -9,7 +9,7 @@ ghost use Rattle.per_codec_reading.specs.Fronts.{freedoms, Misses};
 ghost use Rattle.per_codec_reading.specs.Fronts as fronts;
 ghost use Rattle.per_codec_reading.specs.Lengths.{IsLength};
 ghost use Rattle.per_codec_reading_units.specs.Units.{count_of, counted_units, piece_form};
-ghost use Rattle.per_codec_reading_units.specs.Runs.{units_in, IsLent, Continued};
+ghost use Rattle.per_codec_reading_units.specs.Runs.{units_in, IsLent, EndsWith, EndsWithLent, Continued};
 
 use asn1_schema_faults::DecodeError;
 use asn1_values_bits::{BitBuffer, BitStr};
@@ -64,6 +64,7 @@ fn read_piece<'input>(
 ) -> Result<Piece<'input>, DecodeError>
     ensures ok { IfOk result (λ piece. Front (freedoms variant) (piece_form (fronts.is_aligned variant) width (piece.length, bits_of piece.bits)) cursor.old cursor.new) }
     ensures bound { IfOk result (λ piece. IsLength piece.length) }
+    ensures last { IfOk result (λ piece. EndsWith (bits_of piece.bits) cursor.old cursor.new) }
     ensures only { IfErr result (Misses (freedoms variant) (piece_form (fronts.is_aligned variant) width) cursor.old) }
 {
     let length = read_length(cursor, variant)?;
@@ -114,6 +115,7 @@ pub fn read_counted<'input>(
 ) -> Result<Run<'input>, DecodeError>
     ensures ok { IfOk result (λ run. Front (freedoms variant) (counted_units (fronts.is_aligned variant) width (units_in run)) cursor.old cursor.new) }
     ensures lent { IfOk result (λ run. run.count < 16384 → IsLent run.bits) }
+    ensures last { IfOk result (λ run. EndsWithLent run.bits cursor.old cursor.new) }
     ensures only { IfErr result (Misses (freedoms variant) (counted_units (fronts.is_aligned variant) width) cursor.old) }
 {
     let first = read_piece(cursor, variant, width)?;

@@ -8,9 +8,9 @@ ghost use Rattle.asn1_schema_constraints.specs.Terms.{sizes_of};
 ghost use Rattle.per_codec_fronts.specs.Takes.{Front};
 ghost use Rattle.per_codec_reading.specs.Fronts.{freedoms, Misses};
 ghost use Rattle.per_codec_reading.specs.Fronts as fronts;
-ghost use Rattle.per_codec_reading_units.specs.Runs.{units_in};
+ghost use Rattle.per_codec_reading_units.specs.Runs.{units_in, IsLent, InOneRun, EndsWithLent};
 ghost use Rattle.per_codec_reading_units.specs.Sizes as sizes;
-ghost use Rattle.per_codec_reading_units.specs.Sizes.{pads_of, size_mark, sized_units, told_count, told_units, units_told};
+ghost use Rattle.per_codec_reading_units.specs.Sizes.{pads_of, size_mark, sized_units, surely_told, told_count, told_units, units_told};
 
 use crate::runs::{Run, RunBits, read_counted};
 use asn1_schema_bounds::Bounded;
@@ -163,6 +163,8 @@ fn read_told<'input>(
     requires bounds { (counts_of bounds).high ≡ Some highest }
     requires highest { highest < 65536 }
     ensures ok { IfOk result (λ run. Front (freedoms variant) (told_units (fronts.is_aligned variant) width (pads_of contents width) (counts_of bounds) highest (units_in run)) cursor.old cursor.new) }
+    ensures lent { IfOk result (λ run. IsLent run.bits) }
+    ensures last { IfOk result (λ run. EndsWithLent run.bits cursor.old cursor.new) }
     ensures only { IfErr result (Misses (freedoms variant) (told_units (fronts.is_aligned variant) width (pads_of contents width) (counts_of bounds) highest) cursor.old) }
 {
     let count = read_told_count(cursor, variant, bounds.minimum(), highest)?;
@@ -187,6 +189,8 @@ fn read_units<'input>(
     is_outside: bool,
 ) -> Result<Run<'input>, DecodeError>
     ensures ok { IfOk result (λ run. Front (freedoms variant) (units_told (fronts.is_aligned variant) width (pads_of contents width) (counts_of bounds) (sizes.told_highest ((counts_of bounds).high) is_outside) (units_in run)) cursor.old cursor.new) }
+    ensures lent { IfOk result (λ run. InOneRun (sizes.told_highest ((counts_of bounds).high) is_outside) run.count → IsLent run.bits) }
+    ensures last { IfOk result (λ run. EndsWithLent run.bits cursor.old cursor.new) }
     ensures only { IfErr result (Misses (freedoms variant) (units_told (fronts.is_aligned variant) width (pads_of contents width) (counts_of bounds) (sizes.told_highest ((counts_of bounds).high) is_outside)) cursor.old) }
 {
     match told_highest(bounds, is_outside) {
@@ -226,6 +230,8 @@ pub fn read_sized<'input>(
     contents: Contents,
 ) -> Result<Run<'input>, DecodeError>
     ensures ok { IfOk result (λ run. Front (freedoms variant) (sized_units (fronts.is_aligned variant) (sizes_of constraints.entry.size) (counts_of held) width (pads_of contents width) (units_in run)) cursor.old cursor.new) }
+    ensures lent { IfOk result (λ run. InOneRun (surely_told (sizes_of constraints.entry.size)) run.count → IsLent run.bits) }
+    ensures last { IfOk result (λ run. EndsWithLent run.bits cursor.old cursor.new) }
     ensures only { IfErr result (Misses (freedoms variant) (sized_units (fronts.is_aligned variant) (sizes_of constraints.entry.size) (counts_of held) width (pads_of contents width)) cursor.old) }
 {
     let is_outside = read_size_mark(cursor, variant, constraints)?;

@@ -1,7 +1,7 @@
 //! What the calls of the decoder find in encodings of X.691.
 use asn1_schema_bounds::Bounded;
 use asn1_schema_constraints::Constraints;
-use asn1_schema_decode::{Decoder as _, ReadOctets};
+use asn1_schema_decode::{Decode, Decoder as _, ReadOctets};
 use asn1_schema_faults::DecodeError;
 use asn1_schema_tags::Tag;
 use per_codec::uper::{Decoder, DecoderOptions};
@@ -79,6 +79,51 @@ fn there_is_no_such_alternative(rt: HostRuntime) -> Result<(), Fail> {
     let chosen = decoder.begin_choice(Tag::EOC, &tags, false, &[]);
     assert!(rt; chosen.err() == Some(DecodeError::InvalidTagVariantOnChoice));
     assert!(rt; decoder.end().err() == Some(DecodeError::AlreadyFailed));
+    Ok(())
+}
+
+/// The additions that are read of SEQUENCE {a BOOLEAN, ..., and 65 additions INTEGER (0..255) OPTIONAL}, each behind its place.
+fn additions_of_65(
+    alloc: Global,
+    options: DecoderOptions,
+    message: &[u8],
+) -> Result<Vec<(u8, u8)>, DecodeError> {
+    let mut decoder = Decoder::new(alloc, message, options);
+    decoder.begin_sequence(Tag::SEQUENCE, true, 0)?;
+    decoder.decode_bool(Tag::BOOL)?;
+    decoder.begin_additions(65)?;
+    let mut found = Vec::new(alloc);
+    for place in 0..65u8 {
+        if decoder.get_addition()? {
+            found.push((place, u8::decode(alloc, &mut decoder)?))?;
+            decoder.end_addition()?;
+        }
+    }
+    decoder.end()?;
+    decoder.finish()?;
+    Ok(found)
+}
+
+/// A bitmap of more than 64 bits has its width in a length behind a bit that is set (X.691 11.9.3.4).
+#[test]
+fn an_addition_behind_64_others(rt: HostRuntime) -> Result<(), Fail> {
+    let alloc = rt.alloc();
+    let messages: [(DecoderOptions, &[u8]); 2] = [
+        (
+            DecoderOptions::unaligned(),
+            &[0xE8, 0x20, 0, 0, 0, 0, 0, 0, 0, 0x10, 0x10, 0x70],
+        ),
+        (
+            DecoderOptions::aligned(),
+            &[0xE0, 0x41, 0, 0, 0, 0, 0, 0, 0, 0, 0x80, 0x01, 0x07],
+        ),
+    ];
+    for (options, message) in messages {
+        assert_eq!(rt;
+            additions_of_65(alloc, options, message)?.as_slice(),
+            [(64u8, 7u8)].as_slice()
+        );
+    }
     Ok(())
 }
 

@@ -4,7 +4,7 @@ use asn1_schema_decode::{Decode, Decoder as _};
 use asn1_schema_faults::{CodecKind, DecodeError};
 use asn1_schema_tags::Tag;
 use asn1_values_octets::OctetString;
-use per_codec_calls::{decode, decode_with_constraints, decode_with_remainder};
+use per_codec::reading::{decode, decode_with_constraints, decode_with_remainder};
 use per_codec_decoder::{Decoder, DecoderOptions};
 use per_codec_reading::Variant;
 use std::alloc::Global;

@@ -2,8 +2,8 @@
 use asn1_schema_bounds::Bounded;
 use asn1_schema_constraints::{Constraint, Constraints, Extensible, Value};
 use asn1_schema_faults::EncodeError;
+use per_codec::writing::{encode, encode_buf, encode_with_constraints};
 use per_codec_encoder::EncoderOptions;
-use per_codec_output::{encode, encode_buf, encode_with_constraints};
 use std::alloc::Global;
 use std::test::Fail;
 

@@ -7,6 +7,9 @@ use Rattle.per_codec_reading.specs.Fronts.{freedoms, is_aligned, NoneStands}
 use Rattle.per_codec_reading.proofs.Fronts.{misses_also, root_marked_outside_is_free}
 use Rattle.per_codec_reading_units.specs.Runs.{units_in}
 use Rattle.per_codec_reading_units.specs.Sizes.{pads_of, size_mark, sized_units, units_told, told_highest, admitted}
+use Rattle.asn1_model.specs.Schema.{Counts}
+use Rattle.per_codec_reading_units.specs.Runs.{InOneRun, IsLent}
+use Rattle.per_codec_reading_units.proofs.LastFronts.{lent_behind, lent_marked}
 use Rattle.per_codec_reading_units.proofs.SizedFronts.{sized_in, no_mark, no_units, not_admitted}
 use Rattle.per_codec_reading_units.proofs.sizes.read_sized.Goals as goal
 
@@ -69,3 +72,14 @@ returns-clause-ok c =
     let front = subst (λ r. Front f (units_told al w pads r (told_highest r.high o) us) mid b) e c.in_ok-run.ensures.ok in
     let some = subst (λ r. admitted h r o us.0 ≡ true) e (sym c.if-not-is_admitted.ensures) in
     sized_in f al z h w pads us o c.args.cursor.now mid b (root_marked_outside_is_free c.args.variant) c.in_ok-is_outside.ensures.ok front some
+
+pub returns-clause-lent : goal.returns-clause-lent
+returns-clause-lent c =
+    let z = sizes_of c.args.constraints.size in
+    let o = c.in_ok-is_outside.is_outside in
+    let us = c.in_ok-run.run' in
+    let k = subst (λ (r : Counts). InOneRun (told_highest r.high o) us.count → IsLent us.bits) c.size_bounds-bounds.ensures c.in_ok-run.ensures.lent in
+    lent_marked (freedoms c.args.variant) z.extensible o z.counts.high us.count us.bits c.args.cursor.now c.read_size_mark.new.cursor c.in_ok-is_outside.ensures.ok k
+
+pub returns-clause-last : goal.returns-clause-last
+returns-clause-last c = lent_behind (freedoms c.args.variant) _ c.in_ok-run.run'.bits c.args.cursor.now c.read_size_mark.new.cursor c.read_units.new.cursor c.in_ok-is_outside.ensures.ok c.in_ok-run.ensures.last

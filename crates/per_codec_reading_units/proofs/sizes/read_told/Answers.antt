@@ -9,6 +9,7 @@ use Rattle.per_codec_reading.specs.Fronts.{freedoms, is_aligned, NoneStands}
 use Rattle.per_codec_reading.proofs.Fronts.{misses_also}
 use Rattle.per_codec_reading_units.specs.Sizes.{pads_of, told_count, told_units}
 use Rattle.per_codec_reading_units.proofs.ToldFronts.{no_count, no_octet, few_bits, told_stands}
+use Rattle.per_codec_reading_units.proofs.LastFronts.{last_behind, ends_behind}
 use Rattle.per_codec_reading_units.proofs.sizes.read_told.Goals as goal
 
 pub returns-in_err-count-clause-only : goal.returns-in_err-count-clause-only
@@ -66,3 +67,11 @@ returns-clause-ok c =
     let h = subst (λ l. Front f (told_count al l high n) a m) c.minimum.ensures c.in_ok-count.ensures.ok in
     let k = subst (λ t. Front f (Per.at_octet (al && t) nothing_more) m o) c.is_padded-padded.ensures c.in_ok-align_if.ensures.ok in
     told_stands f al c.args.width (pads_of c.args.contents c.args.width) (counts_of c.args.bounds) high n (bits_of c.in_ok-bits.bits) a m o c.take.new.self h k q.bits q.count
+
+pub returns-clause-last : goal.returns-clause-last
+returns-clause-last c =
+    let f = freedoms c.args.variant in
+    let m = c.read_told_count.new.cursor in
+    let o = c.align_if.new.cursor in
+    let bs = bits_of c.in_ok-bits.bits in
+    ends_behind f _ bs c.args.cursor.now m c.take.new.self c.in_ok-count.ensures.ok (last_behind f _ bs m o c.take.new.self c.in_ok-align_if.ensures.ok c.in_ok-bits.ensures.bits)

@@ -1,5 +1,8 @@
-use Rattle.oer_codec_encoder.proofs.Stepped.{stays_sound, puts}
+use Rattle.oer_codec_encoder.proofs.Stepped.{is_sound, stays_sound, puts}
 use Rattle.oer_codec_encoder.proofs.encoder.EncoderEncoder.end_addition.Goals as goal
+
+pub end_addition-requires : goal.end_addition-requires
+end_addition-requires c = is_sound c.self.inside.frames c.self.inside.output.now.items (c.self.invariant c.if-self.false)
 
 pub invariant_of-self-2 : goal.invariant_of-self-2
 invariant_of-self-2 c _ = stays_sound _ c.self.inside.frames c.end_addition.new.frames c.self.inside.output.now.items c.end_addition.new.octets.items (c.self.invariant c.if-self.false) c.in_ok-end_addition.ensures

@@ -1,0 +1,4 @@
+mod Encoding
+mod Lifting
+mod Messages
+mod Once

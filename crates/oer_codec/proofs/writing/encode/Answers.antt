@@ -1,0 +1,15 @@
+use Rattle.oer_codec.proofs.Encoding.{written_all, refused_all, encoded, not_encoded}
+use Rattle.oer_codec.proofs.writing.encode.Goals as goal
+
+pub returns-clause-only : goal.returns-clause-only
+returns-clause-only g c = refused_all g.T.Described.schema (g.T.Described.meaning c.args.value.now) c.from_buffer-encoder.result _ c.in-Err.error c.refusal.result c.from_buffer-encoder.ensures c.in_ok-output.ensures (g.T.Described.valued c.args.value.now) c.in-Err.ensures.only (record { length = c.refusal.ensures.length; others = c.refusal.ensures.others })
+
+pub returns-in-Ok-clause-ok : goal.returns-in-Ok-clause-ok
+returns-in-Ok-clause-ok g c =
+    let w = written_all g.T.Described.schema (g.T.Described.meaning c.args.value.now) c.from_buffer-encoder.result c.encode.new.encoder _ c.from_buffer-encoder.ensures c.in_ok-output.ensures (g.T.Described.valued c.args.value.now) c.in-Ok.ensures.ok in
+    encoded g.T.Described.schema (g.T.Described.meaning c.args.value.now) c.encode.new.encoder.state.0 c.output.result.items c.within_limit.result w.2 (c.output.ensures.octets w.0 w.1) c.within_limit.ensures
+
+pub returns-in-Ok-clause-only : goal.returns-in-Ok-clause-only
+returns-in-Ok-clause-only g c =
+    let w = written_all g.T.Described.schema (g.T.Described.meaning c.args.value.now) c.from_buffer-encoder.result c.encode.new.encoder _ c.from_buffer-encoder.ensures c.in_ok-output.ensures (g.T.Described.valued c.args.value.now) c.in-Ok.ensures.ok in
+    not_encoded g.T.Described.schema (g.T.Described.meaning c.args.value.now) c.encode.new.encoder.state.0 c.output.result.items c.within_limit.result w.2 w.3 (c.output.ensures.octets w.0 w.1) c.within_limit.ensures

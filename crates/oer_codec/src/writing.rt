@@ -1,0 +1,107 @@
+//! A value is written.
+ghost use Rattle.std.specs.Prelude.{◌≡◌, ◌++◌, [], List, ℕ, length, OnOk, OnErr, IfOk, IfErr, MatchResult, ◌<◌, ◌≤◌, ◌^◌};
+ghost use Rattle.oer_codec.specs.Encoded.{IsEncoded, NotEncoded};
+
+use asn1_schema_constraints::Constraints;
+use asn1_schema_encode::Encode;
+use asn1_schema_faults::EncodeError;
+use oer_codec_encoder::{Encoder, EncoderOptions};
+use std::alloc::Global;
+
+/// An encoding has fewer octets than this.
+const LENGTH_LIMIT: usize = 1 << 60;
+
+/// How many octets there is room for before the first one is written.
+const FIRST_CAPACITY: usize = 128;
+
+/// No octets, with room for those of a small value.
+fn with_room(alloc: Global) -> Result<Vec<u8>, EncodeError>
+    ensures { MatchResult result (λ octets. octets.items ≡ []) (λ e. e ≡ EncodeError.OutOfMemory) }
+{
+    let octets = Vec::with_capacity(alloc, FIRST_CAPACITY)?;
+    Ok(octets)
+}
+
+/// The octets, if they are not too many for an encoding.
+fn within_limit(octets: Vec<u8>) -> Result<Vec<u8>, EncodeError>
+    ensures { MatchResult result (λ kept. (kept.items ≡ octets.items) × (length octets.items < 2 ^ 60)) (λ e. (e ≡ EncodeError.TooLongValue) × (2 ^ 60 ≤ length octets.items)) }
+{
+    if octets.len() >= LENGTH_LIMIT {
+        return Err(EncodeError::TooLongValue);
+    }
+    Ok(octets)
+}
+
+/// How a refusal of the value's type is passed on. That an encoding is too long is found by `within_limit` alone; a type that says so itself
+/// refuses its value, and is taken to refuse a length.
+fn refusal(error: EncodeError) -> EncodeError
+    ensures length { error ≡ EncodeError.TooLongValue → result ≡ EncodeError.SizeConstraintNotSatisfied }
+    ensures others { ¬ (error ≡ EncodeError.TooLongValue) → result ≡ error }
+{
+    match error {
+        EncodeError::TooLongValue => EncodeError::SizeConstraintNotSatisfied,
+        error => error,
+    }
+}
+
+/// The canonical encoding of a value (X.696).
+///
+/// # Errors
+///
+/// `TooLongValue` for an encoding of 2 to 60 octets or more and for nothing else, `OutOfMemory`, and those of the value's type, where the
+/// value has no encoding of any length; a `TooLongValue` of the type's own comes as `SizeConstraintNotSatisfied`.
+pub fn encode<T: Encode>(alloc: Global, value: &T) -> Result<Vec<u8>, EncodeError>
+    ensures ok { IfOk result (λ octets. IsEncoded T.schema (T.meaning value.now) octets.items) }
+    ensures only { IfErr result (NotEncoded T.schema (T.meaning value.now)) }
+{
+    let mut output = with_room(alloc)?;
+    let mut worker = Vec::new(alloc);
+    let options = EncoderOptions::coer();
+    let mut encoder = Encoder::from_buffer(alloc, options, &mut output, &mut worker);
+    match value.encode(&mut encoder) {
+        Ok(()) => within_limit(encoder.output()),
+        Err(error) => Err(refusal(error)),
+    }
+}
+
+/// The canonical encoding of a value (X.696) by its type under these constraints, which stand in place of its own.
+///
+/// # Errors
+///
+/// Those of `encode`.
+pub fn encode_with_constraints<T: Encode>(
+    alloc: Global,
+    constraints: Constraints,
+    value: &T,
+) -> Result<Vec<u8>, EncodeError>
+    ensures ok { IfOk result (λ octets. IsEncoded (T.under constraints.entry) (T.meaning value.now) octets.items) }
+    ensures only { IfErr result (NotEncoded (T.under constraints.entry) (T.meaning value.now)) }
+{
+    let mut output = with_room(alloc)?;
+    let mut worker = Vec::new(alloc);
+    let options = EncoderOptions::coer();
+    let mut encoder = Encoder::from_buffer(alloc, options, &mut output, &mut worker);
+    match value.encode_with_constraints(&mut encoder, constraints) {
+        Ok(()) => within_limit(encoder.output()),
+        Err(error) => Err(refusal(error)),
+    }
+}
+
+/// Adds the canonical encoding of a value (X.696) behind what stands in the buffer.
+///
+/// # Errors
+///
+/// Those of `encode`; the buffer is then as it was.
+pub fn encode_buf<T: Encode>(
+    alloc: Global,
+    value: &T,
+    buffer: &mut Vec<u8>,
+) -> Result<(), EncodeError>
+    ensures ok { OnOk result ((octets : List ℕ) × IsEncoded T.schema (T.meaning value.now) octets × (buffer.new.items ≡ buffer.old.items ++ octets)) }
+    ensures only { IfErr result (NotEncoded T.schema (T.meaning value.now)) }
+    ensures same { OnErr result (buffer.new.items ≡ buffer.old.items) }
+{
+    let octets = encode(alloc, value)?;
+    buffer.extend_from_slice(&octets)?;
+    Ok(())
+}

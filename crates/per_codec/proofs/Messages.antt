@@ -1,0 +1,210 @@
+-- Which message a decoder has found, and why none stands in front where it has not.
+use Rattle.std.proofs.Common.{◌≡◌, ℕ, ◌+◌, ◌-◌, ◌*◌, ◌/◌, ◌<◌, ◌≤◌, ◌^◌, Bool, false, IsTrue, List, [], ◌++◌, length, take, drop, refl, ap, sym, ◌∙◌, subst, append_assoc, arith, length-append}
+use Rattle.std.proofs.lemmas.List.{length-take, take-append-drop}
+use Rattle.std.proofs.Math.Seq.{take-append-add, take-append_seam, drop-append_seam}
+use Rattle.asn1_model.specs.Value.{Value, depth}
+use Rattle.asn1_model.specs.Schema.{Schema}
+use Rattle.asn1_model.specs.Lawful.{IsLawful}
+use Rattle.asn1_model.specs.Form.{Reads}
+use Rattle.asn1_model.specs.Numbers.{octet_bits}
+use Rattle.asn1_model.specs.Per
+use Rattle.asn1_model.specs.Rules.{IsEncoding}
+use Rattle.asn1_laws_fronts_packed.proofs.Units.{complete_whole}
+use Rattle.asn1_schema_decode.specs.Reads.{Reads as ReadsValue, Unread}
+use Rattle.asn1_schema_faults.specs.declared.DecodeError.{DecodeError}
+use Rattle.asn1_schema_levels.proofs.Levels.{nests}
+use Rattle.asn1_schema_messages.specs.Messages.{HasMessage, Tells, NoMessage}
+use Rattle.asn1_schema_messages.proofs.Nesting.{no_deeper}
+use Rattle.asn1_schema_presented.specs.Chains.{Chain}
+use Rattle.asn1_schema_presented.specs.Presents.{presents, Fits}
+use Rattle.asn1_schema_presented.proofs.OneValue.{one_value}
+use Rattle.asn1_values_bits.proofs.Binary.{octet_bits-append, octet_bits-take, length-octet_bits}
+use Rattle.oer_codec_fronts.proofs.Fitting.{records_fit}
+use Rattle.per_codec_decoder.specs.Held.{Held, Finds, IsReady}
+use Rattle.per_codec_decoder.specs.Laws.{finds_one}
+use Rattle.per_codec_fronts.specs.Takes.{Place, Front, completion}
+use Rattle.per_codec_fronts.proofs.Opened.{filled_in, filled_out}
+use Rattle.per_codec_fronts.proofs.Whole.{records_read, forms_show}
+use Rattle.per_codec_reading.specs.Fronts.{freedoms, is_aligned}
+use Rattle.per_codec_reading.specs.declared.variant.Variant.{Variant}
+use Rattle.per_codec_reading.specs.declared.variant.Variant.TheVariants.{Unaligned, Aligned}
+use Rattle.per_codec.specs.Messages.{rules_of}
+use Rattle.per_codec.proofs.Lifting.{held_at, bits_taken, levels_taken, both_found, ready_still, variant_still}
+
+-- ---- the variants
+any_bitmap : (r : Variant) → IsTrue (freedoms r Per.other_bitmap)
+any_bitmap Unaligned = refl
+any_bitmap Aligned = refl
+
+any_order : (r : Variant) → IsTrue (freedoms r Per.other_order)
+any_order Unaligned = refl
+any_order Aligned = refl
+
+encoding_of : (r : Variant) (s : Schema) (v : Value) (w : List ℕ) → length w < 2 ^ 60 → Reads (freedoms r) (Per.message (is_aligned r) s v) 0 (octet_bits w) → IsEncoding (rules_of r) s v w
+unfolding IsEncoding
+encoding_of Unaligned s v w h f = (h, f)
+encoding_of Aligned s v w h f = (h, f)
+
+form_of : (r : Variant) (s : Schema) (v : Value) (w : List ℕ) → IsEncoding (rules_of r) s v w → (length w < 2 ^ 60) × Reads (freedoms r) (Per.message (is_aligned r) s v) 0 (octet_bits w)
+unfolding IsEncoding
+form_of Unaligned s v w e = e
+form_of Aligned s v w e = e
+
+-- ---- what a decoder is at the beginning
+abbrev pub first : List ℕ → List ℕ
+first input = take (2 ^ 60 - 1) input
+
+abbrev pub begun : Variant → List ℕ → Held
+begun r input = record { place = (0, octet_bits (first input)); scopes = []; levels = 128; most = 128; failed = false; variant = r }
+
+-- ---- what is found
+-- so many octets of those that are looked at, and the input's others behind them
+front_octets : (k : ℕ) (input : List ℕ) → k ≤ length (first input) → take k (first input) ++ drop k input ≡ input
+front_octets k input h =
+    let text = take k (first input) in
+    let rest = drop k (first input) ++ drop (2 ^ 60 - 1) input in
+    let n : length text ≡ k = omega (arith, h, length-take k (first input)) in
+    let i : text ++ rest ≡ input = sym (append_assoc text (drop k (first input)) (drop (2 ^ 60 - 1) input)) ∙ ap (λ l. l ++ drop (2 ^ 60 - 1) input) (take-append-drop k (first input)) ∙ take-append-drop (2 ^ 60 - 1) input in
+    let d : drop k input ≡ rest = ap (drop k) (sym i) ∙ ap (λ j. drop j (text ++ rest)) (sym n) ∙ drop-append_seam text rest in
+    ap (λ l. text ++ l) d ∙ i
+
+-- the bits of a value and what fills them up are those of whole octets
+record Whole (r : Variant) (s : Schema) (v : Value) (input : List ℕ) (after : Place) : Type 0 where
+  count : ℕ
+  within : count ≤ length (first input)
+  left : length after.1 + count * 8 ≡ length (octet_bits (first input))
+  reads : Reads (freedoms r) (Per.message (is_aligned r) s v) 0 (octet_bits (take count (first input)))
+
+whole : (r : Variant) (s : Schema) (v : Value) (input : List ℕ) (left after : Place) → Front (freedoms r) (Per.form (is_aligned r) s v) (0, octet_bits (first input)) left → Front (freedoms r) (completion left.0) left after → Whole r s v input after
+unfolding Per.message Per.complete Reads
+whole r s v input left after f g =
+    let free = freedoms r in
+    let os = first input in
+    let text = f.text ++ g.text in
+    let all : text ++ after.1 ≡ octet_bits os = append_assoc f.text g.text after.1 ∙ ap (λ l. f.text ++ l) g.in_front ∙ f.in_front in
+    let reads : Reads free (Per.complete (Per.form (is_aligned r) s v)) 0 text = (f.text, f.has_form, filled_in free f.text g.text left.0 f.moved g.has_form) in
+    let k = complete_whole free (Per.form (is_aligned r) s v) text 0 reads in
+    let n : length text ≡ k.0 * 8 = let e = k.1 in omega (arith, e) in
+    let m = sym (length-append text after.1) ∙ ap length all in
+    let o = length-octet_bits os in
+    let w : k.0 ≤ length os = omega (arith, n, m, o) in
+    let bits : octet_bits (take k.0 os) ≡ text = octet_bits-take k.0 os w ∙ ap (λ (l : List Bool). take (k.0 * 8) l) (sym all) ∙ ap (λ i. take i (text ++ after.1)) (sym n) ∙ take-append_seam text after.1 in
+    record {
+      count = k.0;
+      within = w;
+      left = omega (arith, n, m);
+      reads = subst (λ (l : List Bool). Reads free (Per.complete (Per.form (is_aligned r) s v)) 0 l) (sym bits) reads;
+    }
+
+abbrev pub Finished : Variant → Held → Place → Type 0
+Finished r new after = Front (freedoms r) (completion new.place.0) new.place after
+
+found_form : (r : Variant) (schema : ℕ → Schema) (v : Value) (input : List ℕ) (new : Held) (t : ReadsValue Finds schema 128 v (begun r input) new) → Front (freedoms r) (Per.form (is_aligned r) (schema 128) t.raw) (0, octet_bits (first input)) new.place
+found_form r schema v input new t =
+    let f = records_read (is_aligned r) (freedoms r) (schema 128) t.raw ((0, octet_bits (first input)), []) (new.place, new.scopes) (any_bitmap r) (any_order r) (bits_taken (presents (schema 128) t.raw) (begun r input) new t.chain) in
+    f.0
+
+pub told : (r : Variant) (schema : ℕ → Schema) (v : Value) (input : List ℕ) (new : Held) (after : Place) → ReadsValue Finds schema 128 v (begun r input) new → Finished r new after → Tells (rules_of r) schema v input (drop ((length (octet_bits (first input)) - length after.1) / 8) input)
+told r schema v input new after t g =
+    let s = schema 128 in
+    let w = whole r s t.raw input new.place after (found_form r schema v input new t) g in
+    let l = (nests s t.raw 128 128 new.levels t.fits (omega arith)).0 (levels_taken (presents s t.raw) (begun r input) new t.chain) in
+    let k = w.left in
+    let c : (length (octet_bits (first input)) - length after.1) / 8 ≡ w.count = omega (arith, k) in
+    let i = w.within in
+    let n : length (take w.count (first input)) < 2 ^ 60 = omega (arith, i, length-take (2 ^ 60 - 1) input, length-take w.count (first input)) in
+    subst (λ m. Tells (rules_of r) schema v input (drop m input)) (sym c) (record {
+      raw = t.raw;
+      message = record {
+        message = take w.count (first input);
+        in_front = front_octets w.count input w.within;
+        encoding = encoding_of r s t.raw (take w.count (first input)) n w.reads;
+        levels = l.0;
+      };
+      means = t.means;
+    })
+
+-- the same of a decoder as it was made
+pub told_from : (r : Variant) (schema : ℕ → Schema) (v : Value) (input : List ℕ) (old new : Held) (after : Place) → old ≡ begun r input → ReadsValue Finds schema old.levels v old new → Front (freedoms new.variant) (completion new.place.0) new.place after → Tells (rules_of r) schema v input (drop ((length old.place.1 - length after.1) / 8) input)
+told_from r schema v input old new after e t g =
+    let u : ReadsValue Finds schema 128 v (begun r input) new = subst (λ (h : Held). ReadsValue Finds schema h.levels v h new) e t in
+    let q : new.variant ≡ r = variant_still (presents (schema 128) u.raw) (begun r input) new u.chain in
+    let f : Finished r new after = subst (λ (x : Variant). Front (freedoms x) (completion new.place.0) new.place after) q g in
+    subst (λ (n : ℕ). Tells (rules_of r) schema v input (drop ((n - length after.1) / 8) input)) (sym (ap (λ (h : Held). length h.place.1) e)) (told r schema v input new after u f)
+
+-- no more bits are left than there were, and so many octets as were taken are in the input
+pub left_within : (r : Variant) (schema : ℕ → Schema) (v : Value) (input : List ℕ) (old new : Held) (after : Place) → old ≡ begun r input → ReadsValue Finds schema old.levels v old new → Front (freedoms new.variant) (completion new.place.0) new.place after → (length after.1 ≤ length old.place.1) × ((length old.place.1 - length after.1) / 8 ≤ length input)
+left_within r schema v input old new after e t g =
+    let u : ReadsValue Finds schema 128 v (begun r input) new = subst (λ (h : Held). ReadsValue Finds schema h.levels v h new) e t in
+    let q : new.variant ≡ r = variant_still (presents (schema 128) u.raw) (begun r input) new u.chain in
+    let f : Finished r new after = subst (λ (x : Variant). Front (freedoms x) (completion new.place.0) new.place after) q g in
+    let w = whole r (schema 128) u.raw input new.place after (found_form r schema v input new u) f in
+    let k = w.left in
+    let i = w.within in
+    let l : length old.place.1 ≡ length (octet_bits (first input)) = ap (λ (h : Held). length h.place.1) e in
+    (omega (arith, k, l), omega (arith, k, l, i, length-take (2 ^ 60 - 1) input))
+
+-- ---- what is not found
+front_of : (text rest input : List ℕ) → length text < 2 ^ 60 → text ++ rest ≡ input → text ++ take (2 ^ 60 - 1 - length text) rest ≡ first input
+front_of text rest input h e =
+    let n : length text + (2 ^ 60 - 1 - length text) ≡ 2 ^ 60 - 1 = omega (arith, h) in
+    sym (take-append-add text rest (2 ^ 60 - 1 - length text)) ∙ ap (λ k. take k (text ++ rest)) n ∙ ap first e
+
+module _ (r : Variant) (schema : ℕ → Schema) (input : List ℕ) (lawful : IsLawful (schema 128)) where
+  -- a message in front has records that are found, and what fills it up behind them
+  record Again : Type 0 where
+    value : Value
+    left : Place
+    after : Place
+    fits : Fits (schema 128) value
+    chain : Chain Finds (presents (schema 128) value) (begun r input) (held_at (begun r input) (left, []) 128)
+    filled : Front (freedoms r) (completion left.0) left after
+
+  found_again : (v : Value) (rest : List ℕ) → HasMessage (rules_of r) (schema 128) v input rest → Again
+  unfolding Per.message Per.complete Reads
+  found_again v rest m =
+      let s = schema 128 in
+      let al = is_aligned r in
+      let free = freedoms r in
+      let q = form_of r s v m.message m.encoding in
+      let bits = q.1.0 in
+      let z = filled_out free bits (octet_bits m.message) q.1.2 in
+      let others = octet_bits (take (2 ^ 60 - 1 - length m.message) rest) in
+      let left : Place = (length bits, z.0 ++ others) in
+      let after : Place = (length bits + length z.0, others) in
+      let all : bits ++ (z.0 ++ others) ≡ octet_bits (first input) = sym (append_assoc bits z.0 others) ∙ ap (λ l. l ++ others) z.1 ∙ sym (octet_bits-append m.message (take (2 ^ 60 - 1 - length m.message) rest)) ∙ ap octet_bits (front_of m.message rest input q.0 m.in_front) in
+      let f : Front free (Per.form al s v) (0, octet_bits (first input)) (length bits, z.0 ++ others) = record { text = bits; has_form = q.1.1; in_front = all; moved = omega arith } in
+      let g : Front free (completion (length bits)) (length bits, z.0 ++ others) (length bits + length z.0, others) = record { text = z.0; has_form = z.2; in_front = refl; moved = refl } in
+      let w = forms_show al free s v ((0, octet_bits (first input)), []) ((length bits, z.0 ++ others), []) (any_bitmap r) lawful (f, refl) in
+      let fits = records_fit _ _ (λ x y n. n) s w.0 ((0, octet_bits (first input)), []) ((length bits, z.0 ++ others), []) w.2 in
+      let d : depth w.0 ≤ 128 = let x = no_deeper v w.0 w.1 in let y = m.levels in omega (arith, x, y) in
+      let l = (nests s w.0 128 128 128 fits (omega arith)).1 (d, refl) in
+      record {
+        value = w.0;
+        left = (length bits, z.0 ++ others);
+        after = (length bits + length z.0, others);
+        fits = fits;
+        chain = both_found (presents s w.0) (begun r input) ((length bits, z.0 ++ others), []) 128 refl w.2 l;
+        filled = g;
+      }
+
+  pub none_told : (e : DecodeError) → Unread Finds schema 128 (begun r input) e → NoMessage (rules_of r) schema input e
+  none_told e u = record { none = λ n v rest m. let f = found_again v rest m in u.none n f.value (held_at (begun r input) (f.left, []) 128) f.fits f.chain }
+
+  pub none_finished : (e : DecodeError) (x : Value) (new : Held) → ReadsValue Finds schema 128 x (begun r input) new → ((b : Place) → Front (freedoms r) (completion new.place.0) new.place b → ⊥) → NoMessage (rules_of r) schema input e
+  none_finished e x new t none = record {
+    none = λ n v rest m.
+        let f = found_again v rest m in
+        let k = one_value finds_one (schema 128) t.raw f.value (begun r input) new (held_at (begun r input) (f.left, []) 128) t.fits f.fits t.chain f.chain in
+        none f.after (subst (λ (h : Held). Front (freedoms r) (completion h.place.0) h.place f.after) (sym k.1) f.filled);
+  }
+
+pub none_told_from : (r : Variant) (schema : ℕ → Schema) (input : List ℕ) (old : Held) (e : DecodeError) → IsLawful (schema 128) → old ≡ begun r input → Unread Finds schema old.levels old e → NoMessage (rules_of r) schema input e
+none_told_from r schema input old e lawful q u = none_told r schema input lawful e (subst (λ (h : Held). Unread Finds schema h.levels h e) q u)
+
+pub none_finished_from : (r : Variant) (schema : ℕ → Schema) (input : List ℕ) (x : Value) (old new : Held) (e : DecodeError) → IsLawful (schema 128) → old ≡ begun r input → ReadsValue Finds schema old.levels x old new → (IsReady new → (b : Place) → Front (freedoms new.variant) (completion new.place.0) new.place b → ⊥) → NoMessage (rules_of r) schema input e
+none_finished_from r schema input x old new e lawful q t none =
+    let u : ReadsValue Finds schema 128 x (begun r input) new = subst (λ (h : Held). ReadsValue Finds schema h.levels x h new) q t in
+    let k : new.variant ≡ r = variant_still (presents (schema 128) u.raw) (begun r input) new u.chain in
+    let i : IsReady new = ready_still (presents (schema 128) u.raw) (begun r input) new refl u.chain in
+    none_finished r schema input lawful e x new u (λ b f. none i b (subst (λ (y : Variant). Front (freedoms y) (completion new.place.0) new.place b) (sym k) f))

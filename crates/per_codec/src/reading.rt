@@ -1,0 +1,71 @@
+//! A value is read from the front of octets.
+ghost use Rattle.std.specs.Prelude.{ℕ, List, IfOk, IfErr};
+ghost use Rattle.asn1_model.specs.Lawful.{IsLawful};
+ghost use Rattle.asn1_schema_messages.specs.Messages.{Tells, NoMessage};
+ghost use Rattle.per_codec.specs.Messages.{rules_of};
+
+use asn1_schema_constraints::Constraints;
+use asn1_schema_decode::Decode;
+use asn1_schema_faults::DecodeError;
+use per_codec_decoder::{Decoder, DecoderOptions};
+use per_codec_reading::Variant;
+use std::alloc::Global;
+
+/// Reads the value whose encoding stands in front (X.691), and passes over the octets behind it.
+///
+/// # Errors
+///
+/// `OutOfMemory` for want of memory. Any other only if no octets in front, fewer than 2 to 60, are an encoding of a value of the type that
+/// nests at most 128 levels.
+pub fn decode<T: Decode>(alloc: Global, input: &[u8], variant: Variant) -> Result<T, DecodeError>
+    ensures ok { IfOk result (λ x. (rest : List ℕ) × Tells (rules_of variant) T.schema (T.meaning x) input.now rest) }
+    ensures only { IfErr result (NoMessage (rules_of variant) T.schema input.now) }
+{
+    let (value, _rest) = decode_with_remainder(alloc, input, variant)?;
+    Ok(value)
+}
+
+/// Reads the value whose encoding stands in front (X.691), and lends the octets behind it.
+///
+/// # Errors
+///
+/// As `decode`.
+#[inline(always)]
+pub fn decode_with_remainder<'input, T: Decode>(
+    alloc: Global,
+    input: &'input [u8],
+    variant: Variant,
+) -> Result<(T, &'input [u8]), DecodeError>
+    ensures ok { IfOk result (λ x. Tells (rules_of variant) T.schema (T.meaning x.0) input.now x.1.now) }
+    ensures only { IfErr result (NoMessage (rules_of variant) T.schema input.now) }
+{
+    let mut decoder = Decoder::new(alloc, input, DecoderOptions { variant });
+    let looked_at = decoder.input().len();
+    let value = T::decode(alloc, &mut decoder)?;
+    decoder.finish()?;
+    let taken = (looked_at - decoder.input().len()) / 8;
+    let (_, rest) = input.split_at(taken);
+    Ok((value, rest))
+}
+
+/// Reads the value whose encoding under these constraints, in place of the type's own, stands in front (X.691), and passes over the octets
+/// behind it.
+///
+/// # Errors
+///
+/// `OutOfMemory` for want of memory. Any other, if the type under these constraints is a lawful one, only if no octets in front, fewer than
+/// 2 to 60, are an encoding of a value of it that nests at most 128 levels.
+pub fn decode_with_constraints<T: Decode>(
+    alloc: Global,
+    constraints: Constraints,
+    input: &[u8],
+    variant: Variant,
+) -> Result<T, DecodeError>
+    ensures ok { IfOk result (λ x. (rest : List ℕ) × Tells (rules_of variant) (T.under constraints.entry) (T.meaning x) input.now rest) }
+    ensures only { IfErr result (λ error. IsLawful (T.under constraints.entry 128) → NoMessage (rules_of variant) (T.under constraints.entry) input.now error) }
+{
+    let mut decoder = Decoder::new(alloc, input, DecoderOptions { variant });
+    let value = T::decode_with_constraints(alloc, &mut decoder, constraints)?;
+    decoder.finish()?;
+    Ok(value)
+}

@@ -1,0 +1,130 @@
+//! A value is written.
+ghost use Rattle.std.specs.Prelude.{◌≡◌, [], length, OnOk, OnErr, IfOk, IfErr, MatchResult, ◌<◌, ◌≤◌, ◌^◌};
+ghost use Rattle.per_codec_encoder.specs.Stepping.{is_aligned};
+ghost use Rattle.per_codec.specs.Encoded.{IsEncoded, NotEncoded};
+
+use asn1_schema_constraints::Constraints;
+use asn1_schema_encode::Encode;
+use asn1_schema_faults::EncodeError;
+use per_codec_encoder::{Encoder, EncoderOptions};
+use std::alloc::Global;
+use std::mem;
+
+/// An encoding has fewer octets than this.
+const LENGTH_LIMIT: usize = 1 << 60;
+
+/// How many octets there is room for before the first one is written.
+const FIRST_CAPACITY: usize = 128;
+
+/// No octets, with room for those of a small value.
+fn with_room(alloc: Global) -> Result<Vec<u8>, EncodeError>
+    ensures { MatchResult result (λ octets. octets.items ≡ []) (λ e. e ≡ EncodeError.OutOfMemory) }
+{
+    let octets = Vec::with_capacity(alloc, FIRST_CAPACITY)?;
+    Ok(octets)
+}
+
+/// The octets, if they are not too many for an encoding.
+fn within_limit(octets: Vec<u8>) -> Result<Vec<u8>, EncodeError>
+    ensures { MatchResult result (λ kept. (kept.items ≡ octets.items) × (length octets.items < 2 ^ 60)) (λ e. (e ≡ EncodeError.TooLongValue) × (2 ^ 60 ≤ length octets.items)) }
+{
+    if octets.len() >= LENGTH_LIMIT {
+        return Err(EncodeError::TooLongValue);
+    }
+    Ok(octets)
+}
+
+/// How a refusal of the value's type is passed on. That an encoding is too long is found by `within_limit` alone; a type that says so itself
+/// refuses its value, and is taken to refuse a length.
+fn refusal(error: EncodeError) -> EncodeError
+    ensures length { error ≡ EncodeError.TooLongValue → result ≡ EncodeError.SizeConstraintNotSatisfied }
+    ensures others { ¬ (error ≡ EncodeError.TooLongValue) → result ≡ error }
+{
+    match error {
+        EncodeError::TooLongValue => EncodeError::SizeConstraintNotSatisfied,
+        error => error,
+    }
+}
+
+/// The canonical encoding of a value (X.691), in the variant that the options name: at least one octet.
+///
+/// # Errors
+///
+/// `TooLongValue` for an encoding of 2 to 60 octets or more and for nothing else, `OutOfMemory`, and those of the value's type, where the
+/// value has no encoding of any length; a `TooLongValue` of the type's own comes as `SizeConstraintNotSatisfied`.
+pub fn encode<T: Encode>(
+    alloc: Global,
+    options: EncoderOptions,
+    value: &T,
+) -> Result<Vec<u8>, EncodeError>
+    ensures ok { IfOk result (λ octets. IsEncoded (is_aligned options) T.schema (T.meaning value.now) octets.items) }
+    ensures only { IfErr result (NotEncoded (is_aligned options) T.schema (T.meaning value.now)) }
+{
+    let room = with_room(alloc)?;
+    encode_into(alloc, options, value, room)
+}
+
+/// The same in the room of these octets, which are cleared.
+fn encode_into<T: Encode>(
+    alloc: Global,
+    options: EncoderOptions,
+    value: &T,
+    room: Vec<u8>,
+) -> Result<Vec<u8>, EncodeError>
+    ensures ok { IfOk result (λ octets. IsEncoded (is_aligned options) T.schema (T.meaning value.now) octets.items) }
+    ensures only { IfErr result (NotEncoded (is_aligned options) T.schema (T.meaning value.now)) }
+{
+    let mut encoder = Encoder::new_with_output(alloc, options, room);
+    match value.encode(&mut encoder) {
+        Ok(()) => {
+            let octets = encoder.output()?;
+            within_limit(octets)
+        }
+        Err(error) => Err(refusal(error)),
+    }
+}
+
+/// The canonical encoding of a value (X.691) by its type under these constraints, which stand in place of its own.
+///
+/// # Errors
+///
+/// Those of `encode`.
+pub fn encode_with_constraints<T: Encode>(
+    alloc: Global,
+    options: EncoderOptions,
+    constraints: Constraints,
+    value: &T,
+) -> Result<Vec<u8>, EncodeError>
+    ensures ok { IfOk result (λ octets. IsEncoded (is_aligned options) (T.under constraints.entry) (T.meaning value.now) octets.items) }
+    ensures only { IfErr result (NotEncoded (is_aligned options) (T.under constraints.entry) (T.meaning value.now)) }
+{
+    let room = with_room(alloc)?;
+    let mut encoder = Encoder::new_with_output(alloc, options, room);
+    match value.encode_with_constraints(&mut encoder, constraints) {
+        Ok(()) => {
+            let octets = encoder.output()?;
+            within_limit(octets)
+        }
+        Err(error) => Err(refusal(error)),
+    }
+}
+
+/// Puts the canonical encoding of a value (X.691) in the place of what the buffer holds, whose room is used.
+///
+/// # Errors
+///
+/// Those of `encode`; the buffer is then empty.
+pub fn encode_buf<T: Encode>(
+    alloc: Global,
+    options: EncoderOptions,
+    value: &T,
+    buffer: &mut Vec<u8>,
+) -> Result<(), EncodeError>
+    ensures ok { OnOk result (IsEncoded (is_aligned options) T.schema (T.meaning value.now) buffer.new.items) }
+    ensures only { IfErr result (NotEncoded (is_aligned options) T.schema (T.meaning value.now)) }
+    ensures none { OnErr result (buffer.new.items ≡ []) }
+{
+    let room = mem::replace(buffer, Vec::new(alloc));
+    *buffer = encode_into(alloc, options, value, room)?;
+    Ok(())
+}

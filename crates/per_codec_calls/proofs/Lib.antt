@@ -1,3 +1,0 @@
-mod Lifting
-mod Messages
-mod Once

@@ -1,7 +1,0 @@
-use Rattle.asn1_schema_messages.proofs.Once.{one_message}
-use Rattle.per_codec_calls.specs.Messages.{rules_of}
-use Rattle.per_codec_calls.proofs.Once.{one_front}
-use Rattle.per_codec_calls.proofs.laws.one_message_is_told.Goals as goal
-
-pub returns : goal.returns
-returns c rules = one_message (rules_of rules) (one_front rules)
