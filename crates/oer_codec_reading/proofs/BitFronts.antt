@@ -1,15 +1,15 @@
 -- What stands in front where bits do.
 use Rattle.std.proofs.Common.{◌≡◌, ℕ, zero, suc, ◌+◌, ◌*◌, ◌/◌, ◌^◌, ◌≤◌, ◌<◌, ◌==◌, Bool, true, false, cond, ◌⊎◌, inl, inr, List, [], ◌∷◌, ◌++◌, length, take, drop, map, replicate, refl, sym, ap, ◌∙◌, arith, append_assoc, length-append, length-drop, get_or}
-use Rattle.std.proofs.lemmas.List.{append-nil, take-append-drop, length-replicate, length-take-le, take_all}
+use Rattle.std.proofs.lemmas.List.{append-nil, take-append-drop, length-take-le, take_all}
 use Rattle.std.proofs.Math.Nat.{mod-eq_of_lt}
 use Rattle.std.proofs.lemmas.Bool.{false≢true, eqb-true, eq-eqb}
 use Rattle.asn1_model.specs.Numbers.{binary, number_after, missing, octet_bits, packed}
 use Rattle.asn1_model.specs.Form.{exactly, only_if}
-use Rattle.asn1_model.specs.Oer.{Freedom, any_filling, bits_form, preamble}
+use Rattle.asn1_model.specs.Oer.{any_filling, bits_form}
 use Rattle.asn1_values_bits.proofs.Binary.{binary_join, binary_zero, low_zeros, length-octet_bits, same_fronts, same_backs}
 use Rattle.asn1_values_bits.proofs.Packed.{packed-octet_bits}
 use Rattle.asn1_values_natives.proofs.OctetLaws.{AreOctets}
-use Rattle.oer_codec_reading.specs.Bits.{bits_in, preamble_of}
+use Rattle.oer_codec_reading.specs.Bits.{bits_in}
 use Rattle.oer_codec_reading_lengths.specs.Fronts.{freedoms, is_basic, Stands, NoneStands}
 use Rattle.oer_codec_reading_lengths.proofs.Fronts.{fronts_equal, exactly_stands, exactly_front, if_stands, if_front, varied_stands, varied_front}
 use Rattle.oer_codec_reading_lengths.proofs.Freedoms.{any_filling_is_basic}
@@ -93,33 +93,6 @@ zero_filling n m x os l e b h =
       λ z. sym t ∙ ap (binary m) (eqb-true x 0 z) ∙ binary_zero m ∙ ap (λ k. replicate k false) e,
       λ z. let f : binary m x ≡ replicate m false = t ∙ z ∙ ap (λ k. replicate k false) (sym e) in eq-eqb x 0 (sym (mod-eq_of_lt h) ∙ low_zeros m x f),
     )
-
--- ---- preambles
-
-module _ (free : Freedom → Bool) where
-  pub preamble_read : (n : ℕ) (os w new : List ℕ) (bs : List Bool) → length os * 8 ≡ n + missing n → AreOctets os → os ++ new ≡ w → drop n (octet_bits os) ≡ replicate (missing n) false → bs ≡ take n (octet_bits os) → Stands free (preamble_of n bs) w new
-  preamble_read n os w new bs l a e z b =
-      let m : length bs ≡ n = ap length b ∙ taken_length n os l in
-      let f : bs ++ replicate (missing (length bs)) false ≡ take n (octet_bits os) ++ drop n (octet_bits os) = ap (λ k. bs ++ replicate (missing k) false) m ∙ ap (λ c. c ++ replicate (missing n) false) b ∙ ap (λ c. take n (octet_bits os) ++ c) (sym z) in
-      if_stands free (length bs == n) (preamble bs) w new (eq-eqb _ _ m) (exactly_stands free (packed (bs ++ replicate (missing (length bs)) false)) w new (ap (λ c. packed c ++ new) f ∙ taken_text n os w new a e))
-
-  preamble_front : (n : ℕ) (bs : List Bool) (w rest : List ℕ) → Stands free (preamble_of n bs) w rest → (length bs ≡ n) × (packed (bs ++ replicate (missing (length bs)) false) ++ rest ≡ w)
-  preamble_front n bs w rest h = let i = if_front free (length bs == n) (preamble bs) w rest h in (eqb-true _ _ i.0, exactly_front free (packed (bs ++ replicate (missing (length bs)) false)) w rest i.1)
-
-  pub short_preamble : (n m : ℕ) (w : List ℕ) → m * 8 ≡ n + missing n → length w < m → NoneStands free (preamble_of n) w
-  short_preamble n m w e l bs rest h =
-      let f = preamble_front n bs w rest h in
-      let p = packed_length bs (replicate (missing (length bs)) false) (length-replicate _ _) in
-      let q = length-append (packed (bs ++ replicate (missing (length bs)) false)) rest in
-      let r = ap length f.1 in
-      let s : length bs + missing (length bs) ≡ n + missing n = ap (λ k. k + missing k) f.0 in
-      absurd (omega (arith, p, q, r, s, e, l))
-
-  pub filled_preamble : (n : ℕ) (os w new : List ℕ) → length os * 8 ≡ n + missing n → os ++ new ≡ w → (drop n (octet_bits os) ≡ replicate (missing n) false → ⊥) → NoneStands free (preamble_of n) w
-  filled_preamble n os w new l e z bs rest h =
-      let f = preamble_front n bs w rest h in
-      let g = filled_front bs (replicate (missing (length bs)) false) os w new rest (length-replicate _ _) f.1 e (l ∙ ap (λ k. k + missing k) (sym f.0)) in
-      z (ap (λ k. drop k (octet_bits os)) (sym f.0) ∙ g.1 ∙ ap (λ k. replicate (missing k) false) f.0)
 
 -- ---- bits of a string
 

@@ -1,11 +1,7 @@
 -- Bits, as many as are told.
 use Rattle.std.specs.Prelude.{ℕ, ◌==◌, Bool, false, List, length, Option, Some, None}
 use Rattle.asn1_model.specs.Form.{only_if}
-use Rattle.asn1_model.specs.Oer.{OctetForm, bit_string_form, bits_form, preamble}
-
--- So many presence bits, filled up with zeros (X.696 16.2).
-abbrev pub preamble_of : ℕ → List Bool → OctetForm
-preamble_of n bs = only_if (length bs == n) (preamble bs)
+use Rattle.asn1_model.specs.Oer.{OctetForm, bit_string_form, bits_form}
 
 -- So many bits, filled up to whole octets (X.696 13).
 abbrev pub bits_in : ℕ → List Bool → OctetForm

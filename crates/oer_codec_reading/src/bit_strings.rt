@@ -1,4 +1,4 @@
-//! Bits in octets: preambles (X.696 16.2) and BIT STRING (X.696 13).
+//! BIT STRING (X.696 13).
 ghost use Rattle.std.specs.Prelude.{◌≡◌, ℕ, ◌+◌, ◌*◌, ◌/◌, ◌^◌, ◌<◌, ◌≤◌, ◌==◌, IsTrue, ◌↔◌, ◌⊎◌, false, true, drop, length, replicate, IfOk, IfErr, IfSome, IfNone};
 ghost use Rattle.asn1_model.specs.Numbers.{missing, octet_bits};
 ghost use Rattle.asn1_model.specs.Oer.{bit_string_form};
@@ -8,7 +8,7 @@ ghost use Rattle.asn1_schema_bounds.specs.Bounds.{counts_of};
 ghost use Rattle.asn1_schema_constraints.specs.Terms.{sizes_of};
 ghost use Rattle.asn1_values_bits.specs.BitStr.{bits_of};
 ghost use Rattle.oer_codec_reading_lengths.specs.Fronts.{freedoms, is_basic, Front, Misses, NoFront, Stands};
-ghost use Rattle.oer_codec_reading.specs.Bits.{bits_in, preamble_of, sized_bits};
+ghost use Rattle.oer_codec_reading.specs.Bits.{bits_in, sized_bits};
 
 use crate::lengths::read_length;
 use crate::sizes::{fixed_size, is_admitted};
@@ -29,26 +29,6 @@ fn has_zero_filling(octets: &[u8], count: usize) -> bool
 {
     let missing = (8 - count % 8) % 8;
     read_bits(octets, count, missing as u32) == 0
-}
-
-/// Reads so many presence bits, filled up with zeros, with the mark of extensibility in front of them where there is one (X.696 16.2).
-///
-/// # Errors
-///
-/// `Incomplete` if the octets end early, and `InvalidPreamble` if a filling bit is set.
-pub fn read_preamble<'input>(
-    cursor: &mut Cursor<'input>,
-    rules: EncodingRules,
-    count: usize,
-) -> Result<BitStr<'input>, DecodeError>
-    ensures ok { IfOk result (λ bits. Stands (freedoms rules) (preamble_of count (bits_of bits)) cursor.old cursor.new) }
-    ensures only { IfErr result (Misses (freedoms rules) (preamble_of count) cursor.old) }
-{
-    let octets = cursor.take(count.div_ceil(8))?;
-    if !has_zero_filling(octets, count) {
-        return Err(DecodeError::InvalidPreamble);
-    }
-    Ok(BitStr::front_of(octets, count))
 }
 
 /// Whether bits with such a filling are read: in the canonical rules only if it is zero (X.696 13).

@@ -3,7 +3,7 @@ use asn1_schema_bounds::Bounded;
 use asn1_schema_constraints::{Constraint, Constraints, Extensible, Size};
 use asn1_schema_faults::DecodeError;
 use asn1_values_bit_strings::BitString;
-use oer_codec_reading::bit_strings::{read_bit_string, read_preamble};
+use oer_codec_reading::bit_strings::read_bit_string;
 use oer_codec_reading::{Cursor, EncodingRules};
 use std::alloc::Global;
 
@@ -37,22 +37,6 @@ fn is_refused(found: &Result<BitString, DecodeError>, fault: DecodeError) -> boo
     match found {
         Ok(_) => false,
         Err(error) => *error == fault,
-    }
-}
-
-#[test]
-fn presence_bits_are_filled_up_with_zeros(rt: HostRuntime) {
-    let mut cursor = Cursor::new(&[0xC0, 0x01]);
-    let found = read_preamble(&mut cursor, EncodingRules::Coer, 2);
-    assert!(rt; matches!(&found, Ok(marks) if marks.len() == 2 && marks.get(1) == Some(true)));
-    assert_eq!(rt; cursor.len(), 1);
-    for rules in [EncodingRules::Oer, EncodingRules::Coer] {
-        let set = read_preamble(&mut Cursor::new(&[0xC1]), rules, 2);
-        assert!(rt; matches!(&set, Err(DecodeError::InvalidPreamble)));
-        let none = read_preamble(&mut Cursor::new(&[]), rules, 0);
-        assert!(rt; matches!(&none, Ok(marks) if marks.is_empty()));
-        let short = read_preamble(&mut Cursor::new(&[0x00]), rules, 9);
-        assert!(rt; matches!(&short, Err(DecodeError::Incomplete)));
     }
 }
 
