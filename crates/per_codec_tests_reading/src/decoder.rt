@@ -1,9 +1,11 @@
 //! What the calls of the decoder find in encodings of X.691.
+use crate::calls::{addition, addition_ends, additions, begin, end, finish, is_true};
 use asn1_schema_bounds::Bounded;
 use asn1_schema_constraints::Constraints;
 use asn1_schema_decode::{Decode, Decoder as _, ReadOctets};
 use asn1_schema_faults::DecodeError;
 use asn1_schema_tags::Tag;
+use asn1_schema_variants::Chosen;
 use per_codec::uper::{Decoder, DecoderOptions};
 use std::alloc::{AllocError, Global};
 use std::test::Fail;
@@ -12,14 +14,14 @@ use std::test::Fail;
 fn an_unknown_addition_is_passed_over(rt: HostRuntime) -> Result<(), Fail> {
     let input = [0xC0, 0xE0, 0x20, 0xE0, 0x35, 0x40];
     let mut decoder = Decoder::new(rt.alloc(), &input, DecoderOptions::unaligned());
-    decoder.begin_sequence(Tag::SEQUENCE, true, 0)?;
-    assert!(rt; decoder.decode_bool(Tag::BOOL)?);
-    decoder.begin_additions(1)?;
-    assert!(rt; decoder.get_addition()?);
-    assert!(rt; decoder.decode_bool(Tag::BOOL) == Ok(false));
-    decoder.end_addition()?;
-    decoder.end()?;
-    decoder.finish()?;
+    begin(&mut decoder, true)?;
+    assert!(rt; is_true(&mut decoder)?);
+    additions(&mut decoder, 1)?;
+    assert!(rt; addition(&mut decoder)?);
+    assert!(rt; is_true(&mut decoder) == Ok(false));
+    addition_ends(&mut decoder)?;
+    end(&mut decoder)?;
+    finish(&mut decoder)?;
     Ok(())
 }
 
@@ -27,31 +29,42 @@ fn an_unknown_addition_is_passed_over(rt: HostRuntime) -> Result<(), Fail> {
 fn a_bitmap_may_have_no_bits(rt: HostRuntime) -> Result<(), Fail> {
     let input = [0xE0, 0x00];
     let mut decoder = Decoder::new(rt.alloc(), &input, DecoderOptions::unaligned());
-    decoder.begin_sequence(Tag::SEQUENCE, true, 0)?;
-    assert!(rt; decoder.decode_bool(Tag::BOOL)?);
-    decoder.begin_additions(1)?;
-    assert!(rt; !decoder.get_addition()?);
-    decoder.end()?;
-    decoder.finish()?;
+    begin(&mut decoder, true)?;
+    assert!(rt; is_true(&mut decoder)?);
+    additions(&mut decoder, 1)?;
+    assert!(rt; !addition(&mut decoder)?);
+    end(&mut decoder)?;
+    finish(&mut decoder)?;
     Ok(())
+}
+
+/// Whether this is a group of one component that may be absent, and is.
+fn is_group_empty(decoder: &mut Decoder<'_>) -> Result<bool, DecodeError> {
+    decoder.begin_group(1)?;
+    let there = decoder.get_mark()?;
+    decoder.end()?;
+    decoder.note_empty()?;
+    Ok(!there)
 }
 
 #[test]
 fn a_group_may_be_empty(rt: HostRuntime) -> Result<(), Fail> {
     let input = [0xC0, 0x40, 0x40, 0x00];
     let mut decoder = Decoder::new(rt.alloc(), &input, DecoderOptions::unaligned());
-    decoder.begin_sequence(Tag::SEQUENCE, true, 0)?;
-    assert!(rt; decoder.decode_bool(Tag::BOOL)?);
-    decoder.begin_additions(1)?;
-    assert!(rt; decoder.get_addition()?);
-    decoder.begin_group(1)?;
-    assert!(rt; !decoder.get_mark()?);
-    decoder.end()?;
-    decoder.note_empty()?;
-    decoder.end_addition()?;
-    decoder.end()?;
-    decoder.finish()?;
+    begin(&mut decoder, true)?;
+    assert!(rt; is_true(&mut decoder)?);
+    additions(&mut decoder, 1)?;
+    assert!(rt; addition(&mut decoder)?);
+    assert!(rt; is_group_empty(&mut decoder)?);
+    addition_ends(&mut decoder)?;
+    end(&mut decoder)?;
+    finish(&mut decoder)?;
     Ok(())
+}
+
+/// Which alternative of those with these tags is chosen.
+fn choice(decoder: &mut Decoder<'_>, tags: &[Tag]) -> Result<Chosen, DecodeError> {
+    decoder.begin_choice(Tag::EOC, tags, false, &[])
 }
 
 #[test]
@@ -60,10 +73,10 @@ fn a_choice_has_its_place_in_front(rt: HostRuntime) -> Result<(), Fail> {
     let mut decoder = Decoder::new(rt.alloc(), &input, DecoderOptions::unaligned());
     let tags = [Tag::new_context(1), Tag::new_context(7)];
     decoder.begin_set(Tag::SET, false, 0)?;
-    let chosen = decoder.begin_choice(Tag::EOC, &tags, false, &[])?;
+    let chosen = choice(&mut decoder, &tags)?;
     assert!(rt; !chosen.added && chosen.place == 1);
-    assert!(rt; decoder.decode_bool(Tag::BOOL)?);
-    decoder.end()?;
+    assert!(rt; is_true(&mut decoder)?);
+    end(&mut decoder)?;
     Ok(())
 }
 
@@ -76,10 +89,15 @@ fn there_is_no_such_alternative(rt: HostRuntime) -> Result<(), Fail> {
         Tag::new_context(1),
         Tag::new_context(2),
     ];
-    let chosen = decoder.begin_choice(Tag::EOC, &tags, false, &[]);
+    let chosen = choice(&mut decoder, &tags);
     assert!(rt; chosen.err() == Some(DecodeError::InvalidTagVariantOnChoice));
-    assert!(rt; decoder.end().err() == Some(DecodeError::AlreadyFailed));
+    assert!(rt; end(&mut decoder).err() == Some(DecodeError::AlreadyFailed));
     Ok(())
+}
+
+/// An INTEGER (0..255).
+fn octet(alloc: Global, decoder: &mut Decoder<'_>) -> Result<u8, DecodeError> {
+    u8::decode(alloc, decoder)
 }
 
 /// The additions that are read of SEQUENCE {a BOOLEAN, ..., and 65 additions INTEGER (0..255) OPTIONAL}, each behind its place.
@@ -89,18 +107,18 @@ fn additions_of_65(
     message: &[u8],
 ) -> Result<Vec<(u8, u8)>, DecodeError> {
     let mut decoder = Decoder::new(alloc, message, options);
-    decoder.begin_sequence(Tag::SEQUENCE, true, 0)?;
-    decoder.decode_bool(Tag::BOOL)?;
-    decoder.begin_additions(65)?;
+    begin(&mut decoder, true)?;
+    is_true(&mut decoder)?;
+    additions(&mut decoder, 65)?;
     let mut found = Vec::new(alloc);
     for place in 0..65u8 {
-        if decoder.get_addition()? {
-            found.push((place, u8::decode(alloc, &mut decoder)?))?;
-            decoder.end_addition()?;
+        if addition(&mut decoder)? {
+            found.push((place, octet(alloc, &mut decoder)?))?;
+            addition_ends(&mut decoder)?;
         }
     }
-    decoder.end()?;
-    decoder.finish()?;
+    end(&mut decoder)?;
+    finish(&mut decoder)?;
     Ok(found)
 }
 
@@ -140,24 +158,29 @@ fn in_a_fragment(alloc: Global) -> Result<Vec<u8>, AllocError> {
     Ok(message)
 }
 
-#[test]
-fn an_open_type_may_stand_in_fragments(rt: HostRuntime) -> Result<(), Fail> {
-    let alloc = rt.alloc();
-    let message = in_a_fragment(alloc)?;
-    let mut decoder = Decoder::new(alloc, message.as_slice(), DecoderOptions::aligned());
-    decoder.begin_sequence(Tag::SEQUENCE, true, 0)?;
-    decoder.begin_additions(1)?;
-    assert!(rt; decoder.get_addition()?);
+/// How many octets an OCTET STRING has.
+fn string_length(alloc: Global, decoder: &mut Decoder<'_>) -> Result<usize, DecodeError> {
     let octets = decoder.decode_octet_string(
         alloc,
         Tag::OCTET_STRING,
         Constraints::NONE,
         Bounded::None,
     )?;
-    assert_eq!(rt; octets.octets().len(), 16382);
-    decoder.end_addition()?;
-    decoder.end()?;
-    decoder.finish()?;
+    Ok(octets.octets().len())
+}
+
+#[test]
+fn an_open_type_may_stand_in_fragments(rt: HostRuntime) -> Result<(), Fail> {
+    let alloc = rt.alloc();
+    let message = in_a_fragment(alloc)?;
+    let mut decoder = Decoder::new(alloc, message.as_slice(), DecoderOptions::aligned());
+    begin(&mut decoder, true)?;
+    additions(&mut decoder, 1)?;
+    assert!(rt; addition(&mut decoder)?);
+    assert_eq!(rt; string_length(alloc, &mut decoder)?, 16382);
+    addition_ends(&mut decoder)?;
+    end(&mut decoder)?;
+    finish(&mut decoder)?;
     Ok(())
 }
 
@@ -166,9 +189,9 @@ fn unknown_additions_may_stand_in_fragments(rt: HostRuntime) -> Result<(), Fail>
     let alloc = rt.alloc();
     let message = in_a_fragment(alloc)?;
     let mut decoder = Decoder::new(alloc, message.as_slice(), DecoderOptions::aligned());
-    decoder.begin_sequence(Tag::SEQUENCE, true, 0)?;
-    decoder.begin_additions(0)?;
-    decoder.end()?;
-    decoder.finish()?;
+    begin(&mut decoder, true)?;
+    additions(&mut decoder, 0)?;
+    end(&mut decoder)?;
+    finish(&mut decoder)?;
     Ok(())
 }

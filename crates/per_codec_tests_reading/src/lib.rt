@@ -4,6 +4,8 @@
 #[cfg(test)]
 mod booleans;
 #[cfg(test)]
+mod calls;
+#[cfg(test)]
 mod characters;
 #[cfg(test)]
 mod constrained_numbers;

@@ -1,6 +1,4 @@
 //! Bags whose members were written alone.
-ghost use Rattle.std.specs.Prelude.{◌≤◌};
-
 use asn1_schema_bounds::Bounded;
 use asn1_schema_constraints::Constraints;
 use asn1_schema_faults::EncodeError;
@@ -10,22 +8,18 @@ use std::alloc::Global;
 use std::test::Fail;
 
 // a member of these bits, at a place that is not known
-fn member(alloc: Global, bits: u32, width: u32) -> Result<Packing, EncodeError>
-    requires { width ≤ 32 }
-{
+fn member(alloc: Global, bits: u32, width: u32) -> Result<Packing, EncodeError> {
     let mut text = Packing::unplaced(alloc);
-    text.push_bits(bits as u128, width)?;
+    text.push_bits(bits as u128, width.min(32))?;
     Ok(text)
 }
 
-// SET OF INTEGER with 256, -1 and 1
-#[test]
-fn shorter_encodings_first(rt: HostRuntime) -> Result<(), Fail> {
-    let alloc = rt.alloc();
-    let mut members = Vec::new(alloc);
-    members.push(member(alloc, 0x020100, 24)?)?;
-    members.push(member(alloc, 0x01FF, 16)?)?;
-    members.push(member(alloc, 0x0101, 16)?)?;
+// whether the bag of these members stands in these octets
+fn stands_in(alloc: Global, members: &[(u32, u32)], expected: &[u8]) -> Result<bool, EncodeError> {
+    let mut texts = Vec::new(alloc);
+    for (bits, width) in members {
+        texts.push(member(alloc, *bits, *width)?)?;
+    }
     let mut output = Packing::new(alloc);
     push_bag(
         alloc,
@@ -33,31 +27,23 @@ fn shorter_encodings_first(rt: HostRuntime) -> Result<(), Fail> {
         false,
         Constraints::NONE,
         Bounded::None,
-        members,
+        texts,
     )?;
-    assert_eq!(rt;
-        output.as_bits().as_bytes(),
-        [0x03u8, 0x01, 0x01, 0x01, 0xFF, 0x02, 0x01, 0x00].as_slice()
-    );
+    Ok(output.as_bits().as_bytes() == expected)
+}
+
+// SET OF INTEGER with 256, -1 and 1
+#[test]
+fn shorter_encodings_first(rt: HostRuntime) -> Result<(), Fail> {
+    let members = [(0x020100, 24), (0x01FF, 16), (0x0101, 16)];
+    let octets = [0x03, 0x01, 0x01, 0x01, 0xFF, 0x02, 0x01, 0x00];
+    assert!(rt; stands_in(rt.alloc(), &members, &octets)?);
     Ok(())
 }
 
 // SET OF INTEGER (-5..5) with 1 and -1: four bits each
 #[test]
 fn members_of_bits(rt: HostRuntime) -> Result<(), Fail> {
-    let alloc = rt.alloc();
-    let mut members = Vec::new(alloc);
-    members.push(member(alloc, 6, 4)?)?;
-    members.push(member(alloc, 4, 4)?)?;
-    let mut output = Packing::new(alloc);
-    push_bag(
-        alloc,
-        &mut output,
-        false,
-        Constraints::NONE,
-        Bounded::None,
-        members,
-    )?;
-    assert_eq!(rt; output.as_bits().as_bytes(), [0x02u8, 0x46].as_slice());
+    assert!(rt; stands_in(rt.alloc(), &[(6, 4), (4, 4)], &[0x02, 0x46])?);
     Ok(())
 }

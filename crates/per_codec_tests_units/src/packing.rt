@@ -15,38 +15,41 @@ fn member(alloc: Global) -> Result<Packing, Fail> {
     Ok(text)
 }
 
-// the same behind so many zero bits
-fn behind(alloc: Global, zeros: usize) -> Result<Packing, Fail> {
+// whether the same behind so many zero bits stands in these octets
+fn stands_behind(alloc: Global, zeros: usize, expected: &[u8]) -> Result<bool, Fail> {
     let mut text = Packing::new(alloc);
     text.resize(zeros, false)?;
     text.append(&member(alloc)?)?;
-    Ok(text)
+    Ok(text.as_bits().as_bytes() == expected)
+}
+
+// the same behind a bit, at a place that is not known
+fn within_a_member(alloc: Global) -> Result<Packing, Fail> {
+    let mut outer = Packing::unplaced(alloc);
+    outer.push(true)?;
+    outer.append(&member(alloc)?)?;
+    Ok(outer)
+}
+
+// whether these octets are the complete encoding of a text
+fn completes(alloc: Global, text: Packing, expected: &[u8]) -> Result<bool, Fail> {
+    let octets = text.complete(alloc)?;
+    Ok(octets.as_slice() == expected)
 }
 
 #[test]
 fn filled_where_it_comes_to_stand(rt: HostRuntime) -> Result<(), Fail> {
     let alloc = rt.alloc();
-    assert_eq!(rt;
-        behind(alloc, 0)?.as_bits().as_bytes(),
-        [0x80u8, 0xAB, 0x80].as_slice()
-    );
-    assert_eq!(rt;
-        behind(alloc, 3)?.as_bits().as_bytes(),
-        [0x10u8, 0xAB, 0x80].as_slice()
-    );
-    assert_eq!(rt;
-        behind(alloc, 8)?.as_bits().as_bytes(),
-        [0x00u8, 0x80, 0xAB, 0x80].as_slice()
-    );
+    assert!(rt; stands_behind(alloc, 0, &[0x80, 0xAB, 0x80])?);
+    assert!(rt; stands_behind(alloc, 3, &[0x10, 0xAB, 0x80])?);
+    assert!(rt; stands_behind(alloc, 8, &[0x00, 0x80, 0xAB, 0x80])?);
     Ok(())
 }
 
 #[test]
 fn a_member_within_a_member(rt: HostRuntime) -> Result<(), Fail> {
     let alloc = rt.alloc();
-    let mut outer = Packing::unplaced(alloc);
-    outer.push(true)?;
-    outer.append(&member(alloc)?)?;
+    let outer = within_a_member(alloc)?;
     let mut text = Packing::new(alloc);
     text.resize(6, false)?;
     text.append(&outer)?;
@@ -57,13 +60,7 @@ fn a_member_within_a_member(rt: HostRuntime) -> Result<(), Fail> {
 #[test]
 fn complete_encodings(rt: HostRuntime) -> Result<(), Fail> {
     let alloc = rt.alloc();
-    assert_eq!(rt;
-        member(alloc)?.complete(alloc)?.as_slice(),
-        [0x80u8, 0xAB, 0x80].as_slice()
-    );
-    assert_eq!(rt;
-        Packing::unplaced(alloc).complete(alloc)?.as_slice(),
-        [0x00u8].as_slice()
-    );
+    assert!(rt; completes(alloc, member(alloc)?, &[0x80, 0xAB, 0x80])?);
+    assert!(rt; completes(alloc, Packing::unplaced(alloc), &[0x00])?);
     Ok(())
 }

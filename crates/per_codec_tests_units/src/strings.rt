@@ -32,45 +32,59 @@ fn octets(
     Ok(output.into_bits())
 }
 
-// a BIT STRING of set bits behind one that is not
-fn bits(
+// whether it stands in these octets
+fn stands_in(
+    alloc: Global,
+    aligned: bool,
+    constraints: Constraints,
+    value: &[u8],
+    expected: &[u8],
+) -> Result<bool, EncodeError> {
+    let bits = octets(alloc, aligned, constraints, value)?;
+    Ok(bits.as_bytes() == expected)
+}
+
+// whether a BIT STRING of so many set bits behind one that is not stands in these octets
+fn bits_stand_in(
     alloc: Global,
     aligned: bool,
     constraints: Constraints,
     count: usize,
-) -> Result<BitBuffer, EncodeError>
+    expected: &[u8],
+) -> Result<bool, EncodeError>
     requires { count ≤ 32 }
 {
     let mut output = Packing::new(alloc);
     output.push(false)?;
     let value = BitStr::front_of(&[0xFF; 4], count);
     push_bit_string(&mut output, aligned, constraints, Bounded::None, value)?;
-    Ok(output.into_bits())
+    Ok(output.as_bits().as_bytes() == expected)
+}
+
+// whether a text stands in these octets
+fn text_stands_in(alloc: Global, text: &str, expected: &[u8]) -> Result<bool, EncodeError> {
+    let mut output = Packing::new(alloc);
+    push_utf8(&mut output, false, Constraints::NONE, text)?;
+    Ok(output.as_bits().as_bytes() == expected)
+}
+
+// the octets of an object identifier
+fn identifier(alloc: Global, identifier: &Oid<'_>) -> Result<Vec<u8>, EncodeError> {
+    let mut output = Packing::new(alloc);
+    push_identifier(&mut output, true, alloc, identifier)?;
+    Ok(output.into_bits().into_vec())
 }
 
 #[test]
 fn octets_of_one_size(rt: HostRuntime) -> Result<(), Fail> {
     let alloc = rt.alloc();
     let three = sized(Bounded::Single(3), false);
-    assert_eq!(rt;
-        octets(alloc, false, three, &[1, 2, 3])?.as_bytes(),
-        [0x80u8, 0x81, 0x01, 0x80].as_slice()
-    );
-    assert_eq!(rt;
-        octets(alloc, true, three, &[1, 2, 3])?.as_bytes(),
-        [0x80u8, 0x01, 0x02, 0x03].as_slice()
-    );
+    assert!(rt; stands_in(alloc, false, three, &[1, 2, 3], &[0x80, 0x81, 0x01, 0x80])?);
+    assert!(rt; stands_in(alloc, true, three, &[1, 2, 3], &[0x80, 0x01, 0x02, 0x03])?);
     let two = sized(Bounded::Single(2), false);
-    assert_eq!(rt;
-        octets(alloc, true, two, &[1, 2])?.as_bytes(),
-        [0x80u8, 0x81, 0x00].as_slice()
-    );
-    assert!(rt;
-        matches!(
-            octets(alloc, true, two, &[1]),
-            Err(EncodeError::SizeConstraintNotSatisfied)
-        )
-    );
+    assert!(rt; stands_in(alloc, true, two, &[1, 2], &[0x80, 0x81, 0x00])?);
+    let refused = octets(alloc, true, two, &[1]);
+    assert!(rt; matches!(&refused, Err(EncodeError::SizeConstraintNotSatisfied)));
     Ok(())
 }
 
@@ -78,25 +92,14 @@ fn octets_of_one_size(rt: HostRuntime) -> Result<(), Fail> {
 fn octets_of_a_range(rt: HostRuntime) -> Result<(), Fail> {
     let alloc = rt.alloc();
     let few = sized(Bounded::up_to(3), false);
-    assert_eq!(rt;
-        octets(alloc, false, few, &[1, 2])?.as_bytes(),
-        [0xC0u8, 0x20, 0x40].as_slice()
-    );
-    assert_eq!(rt;
-        octets(alloc, true, few, &[1, 2])?.as_bytes(),
-        [0xC0u8, 0x01, 0x02].as_slice()
-    );
-    assert_eq!(rt; octets(alloc, true, few, &[])?.len(), 3);
+    assert!(rt; stands_in(alloc, false, few, &[1, 2], &[0xC0, 0x20, 0x40])?);
+    assert!(rt; stands_in(alloc, true, few, &[1, 2], &[0xC0, 0x01, 0x02])?);
+    let none = octets(alloc, true, few, &[])?;
+    assert_eq!(rt; none.len(), 3);
     let many = sized(Bounded::up_to(65535), false);
-    assert_eq!(rt;
-        octets(alloc, true, many, &[9])?.as_bytes(),
-        [0x80u8, 0x00, 0x01, 0x09].as_slice()
-    );
+    assert!(rt; stands_in(alloc, true, many, &[9], &[0x80, 0x00, 0x01, 0x09])?);
     let more = sized(Bounded::up_to(65536), false);
-    assert_eq!(rt;
-        octets(alloc, true, more, &[9])?.as_bytes(),
-        [0x80u8, 0x01, 0x09].as_slice()
-    );
+    assert!(rt; stands_in(alloc, true, more, &[9], &[0x80, 0x01, 0x09])?);
     Ok(())
 }
 
@@ -104,67 +107,44 @@ fn octets_of_a_range(rt: HostRuntime) -> Result<(), Fail> {
 fn octets_behind_a_mark(rt: HostRuntime) -> Result<(), Fail> {
     let alloc = rt.alloc();
     let marked = sized(Bounded::const_new(1, 2), true);
-    assert_eq!(rt;
-        octets(alloc, true, marked, &[1, 2, 3])?.as_bytes(),
-        [0xC0u8, 0x03, 0x01, 0x02, 0x03].as_slice()
+    assert!(rt;
+        stands_in(
+            alloc,
+            true,
+            marked,
+            &[1, 2, 3],
+            &[0xC0, 0x03, 0x01, 0x02, 0x03]
+        )?
     );
-    assert_eq!(rt;
-        octets(alloc, true, marked, &[1])?.as_bytes(),
-        [0x80u8, 0x01].as_slice()
-    );
-    assert_eq!(rt;
-        octets(alloc, false, marked, &[1])?.as_bytes(),
-        [0x80u8, 0x20].as_slice()
-    );
+    assert!(rt; stands_in(alloc, true, marked, &[1], &[0x80, 0x01])?);
+    assert!(rt; stands_in(alloc, false, marked, &[1], &[0x80, 0x20])?);
     Ok(())
 }
 
 #[test]
 fn strings_of_bits(rt: HostRuntime) -> Result<(), Fail> {
     let alloc = rt.alloc();
-    assert_eq!(rt;
-        bits(alloc, true, Constraints::NONE, 5)?.as_bytes(),
-        [0x00u8, 0x05, 0xF8].as_slice()
-    );
+    assert!(rt; bits_stand_in(alloc, true, Constraints::NONE, 5, &[0x00, 0x05, 0xF8])?);
     let sixteen = sized(Bounded::Single(16), false);
-    assert_eq!(rt;
-        bits(alloc, true, sixteen, 16)?.as_bytes(),
-        [0x7Fu8, 0xFF, 0x80].as_slice()
-    );
+    assert!(rt; bits_stand_in(alloc, true, sixteen, 16, &[0x7F, 0xFF, 0x80])?);
     let seventeen = sized(Bounded::Single(17), false);
-    assert_eq!(rt;
-        bits(alloc, true, seventeen, 17)?.as_bytes(),
-        [0x00u8, 0xFF, 0xFF, 0x80].as_slice()
-    );
-    assert_eq!(rt;
-        bits(alloc, false, seventeen, 17)?.as_bytes(),
-        [0x7Fu8, 0xFF, 0xC0].as_slice()
-    );
+    assert!(rt; bits_stand_in(alloc, true, seventeen, 17, &[0x00, 0xFF, 0xFF, 0x80])?);
+    assert!(rt; bits_stand_in(alloc, false, seventeen, 17, &[0x7F, 0xFF, 0xC0])?);
     Ok(())
 }
 
 #[test]
 fn texts_and_identifiers(rt: HostRuntime) -> Result<(), Fail> {
     let alloc = rt.alloc();
-    let mut output = Packing::new(alloc);
-    push_utf8(&mut output, false, Constraints::NONE, "é")?;
-    assert_eq!(rt;
-        output.as_bits().as_bytes(),
-        [0x02u8, 0xC3, 0xA9].as_slice()
-    );
-    let mut output = Packing::new(alloc);
+    assert!(rt; text_stands_in(alloc, "é", &[0x02, 0xC3, 0xA9])?);
     let rsa = Oid::new(&[1, 2, 840, 113549]).ok_or("no identifier")?;
-    push_identifier(&mut output, true, alloc, &rsa)?;
+    let octets = identifier(alloc, &rsa)?;
     assert_eq!(rt;
-        output.as_bits().as_bytes(),
+        octets.as_slice(),
         [0x06u8, 0x2A, 0x86, 0x48, 0x86, 0xF7, 0x0D].as_slice()
     );
     let lone = Oid::new(&[1]).ok_or("no identifier")?;
-    assert!(rt;
-        matches!(
-            push_identifier(&mut output, true, alloc, &lone),
-            Err(EncodeError::ValueConstraintNotSatisfied)
-        )
-    );
+    let refused = identifier(alloc, &lone);
+    assert!(rt; matches!(&refused, Err(EncodeError::ValueConstraintNotSatisfied)));
     Ok(())
 }
