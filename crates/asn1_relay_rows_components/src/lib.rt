@@ -4,6 +4,8 @@
 #[cfg(test)]
 mod additions;
 #[cfg(test)]
+mod optional;
+#[cfg(test)]
 mod sequences;
 #[cfg(test)]
 mod wide_bitmaps;
