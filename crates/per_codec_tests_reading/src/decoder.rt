@@ -1,5 +1,4 @@
 //! What the calls of the decoder find in encodings of X.691.
-use crate::calls::{addition, addition_ends, additions, begin, end, finish, is_true};
 use asn1_schema_bounds::Bounded;
 use asn1_schema_constraints::Constraints;
 use asn1_schema_decode::{Decode, Decoder as _, ReadOctets};
@@ -10,116 +9,126 @@ use per_codec::uper::{Decoder, DecoderOptions};
 use std::alloc::{AllocError, Global};
 use std::test::Fail;
 
+/// SEQUENCE {a BOOLEAN, ..., b BOOLEAN} with a true and b false, behind which stands an addition that the type lacks.
+fn has_one_of_two_additions(decoder: &mut Decoder<'_>) -> Result<bool, DecodeError> {
+    decoder.begin_sequence(Tag::SEQUENCE, true, 0)?;
+    let a = decoder.decode_bool(Tag::BOOL)?;
+    decoder.begin_additions(1)?;
+    let there = decoder.get_addition()?;
+    let b = decoder.decode_bool(Tag::BOOL)?;
+    decoder.end_addition()?;
+    decoder.end()?;
+    decoder.finish()?;
+    Ok(a && there && !b)
+}
+
 #[test]
 fn an_unknown_addition_is_passed_over(rt: HostRuntime) -> Result<(), Fail> {
     let input = [0xC0, 0xE0, 0x20, 0xE0, 0x35, 0x40];
     let mut decoder = Decoder::new(rt.alloc(), &input, DecoderOptions::unaligned());
-    begin(&mut decoder, true)?;
-    assert!(rt; is_true(&mut decoder)?);
-    additions(&mut decoder, 1)?;
-    assert!(rt; addition(&mut decoder)?);
-    assert!(rt; is_true(&mut decoder) == Ok(false));
-    addition_ends(&mut decoder)?;
-    end(&mut decoder)?;
-    finish(&mut decoder)?;
+    assert!(rt; has_one_of_two_additions(&mut decoder)?);
     Ok(())
+}
+
+/// SEQUENCE {a BOOLEAN, ..., b BOOLEAN OPTIONAL} with a true alone.
+fn lacks_its_addition(decoder: &mut Decoder<'_>) -> Result<bool, DecodeError> {
+    decoder.begin_sequence(Tag::SEQUENCE, true, 0)?;
+    let a = decoder.decode_bool(Tag::BOOL)?;
+    decoder.begin_additions(1)?;
+    let there = decoder.get_addition()?;
+    decoder.end()?;
+    decoder.finish()?;
+    Ok(a && !there)
 }
 
 #[test]
 fn a_bitmap_may_have_no_bits(rt: HostRuntime) -> Result<(), Fail> {
     let input = [0xE0, 0x00];
     let mut decoder = Decoder::new(rt.alloc(), &input, DecoderOptions::unaligned());
-    begin(&mut decoder, true)?;
-    assert!(rt; is_true(&mut decoder)?);
-    additions(&mut decoder, 1)?;
-    assert!(rt; !addition(&mut decoder)?);
-    end(&mut decoder)?;
-    finish(&mut decoder)?;
+    assert!(rt; lacks_its_addition(&mut decoder)?);
     Ok(())
 }
 
-/// Whether this is a group of one component that may be absent, and is.
-fn is_group_empty(decoder: &mut Decoder<'_>) -> Result<bool, DecodeError> {
+/// SEQUENCE {a BOOLEAN, ..., [[b BOOLEAN OPTIONAL]]} with a true and a group in which nothing is.
+fn has_an_empty_group(decoder: &mut Decoder<'_>) -> Result<bool, DecodeError> {
+    decoder.begin_sequence(Tag::SEQUENCE, true, 0)?;
+    let a = decoder.decode_bool(Tag::BOOL)?;
+    decoder.begin_additions(1)?;
+    let there = decoder.get_addition()?;
     decoder.begin_group(1)?;
-    let there = decoder.get_mark()?;
+    let b = decoder.get_mark()?;
     decoder.end()?;
     decoder.note_empty()?;
-    Ok(!there)
+    decoder.end_addition()?;
+    decoder.end()?;
+    decoder.finish()?;
+    Ok(a && there && !b)
 }
 
 #[test]
 fn a_group_may_be_empty(rt: HostRuntime) -> Result<(), Fail> {
     let input = [0xC0, 0x40, 0x40, 0x00];
     let mut decoder = Decoder::new(rt.alloc(), &input, DecoderOptions::unaligned());
-    begin(&mut decoder, true)?;
-    assert!(rt; is_true(&mut decoder)?);
-    additions(&mut decoder, 1)?;
-    assert!(rt; addition(&mut decoder)?);
-    assert!(rt; is_group_empty(&mut decoder)?);
-    addition_ends(&mut decoder)?;
-    end(&mut decoder)?;
-    finish(&mut decoder)?;
+    assert!(rt; has_an_empty_group(&mut decoder)?);
     Ok(())
 }
 
-/// Which alternative of those with these tags is chosen.
-fn choice(decoder: &mut Decoder<'_>, tags: &[Tag]) -> Result<Chosen, DecodeError> {
-    decoder.begin_choice(Tag::EOC, tags, false, &[])
+/// SET {x CHOICE {[1] .., [7] BOOLEAN}} with [7] true.
+fn has_the_second(decoder: &mut Decoder<'_>) -> Result<bool, DecodeError> {
+    let tags = [Tag::new_context(1), Tag::new_context(7)];
+    decoder.begin_set(Tag::SET, false, 0)?;
+    let chosen = decoder.begin_choice(Tag::EOC, &tags, false, &[])?;
+    let value = decoder.decode_bool(Tag::BOOL)?;
+    decoder.end()?;
+    Ok(!chosen.added && chosen.place == 1 && value)
 }
 
 #[test]
 fn a_choice_has_its_place_in_front(rt: HostRuntime) -> Result<(), Fail> {
     let input = [0xC2, 0x40];
     let mut decoder = Decoder::new(rt.alloc(), &input, DecoderOptions::unaligned());
-    let tags = [Tag::new_context(1), Tag::new_context(7)];
-    decoder.begin_set(Tag::SET, false, 0)?;
-    let chosen = choice(&mut decoder, &tags)?;
-    assert!(rt; !chosen.added && chosen.place == 1);
-    assert!(rt; is_true(&mut decoder)?);
-    end(&mut decoder)?;
+    assert!(rt; has_the_second(&mut decoder)?);
     Ok(())
+}
+
+/// Which of three alternatives is chosen.
+fn chosen_of_three(decoder: &mut Decoder<'_>) -> Result<Chosen, DecodeError> {
+    let tags = [
+        Tag::new_context(0),
+        Tag::new_context(1),
+        Tag::new_context(2),
+    ];
+    decoder.begin_choice(Tag::EOC, &tags, false, &[])
 }
 
 #[test]
 fn there_is_no_such_alternative(rt: HostRuntime) -> Result<(), Fail> {
     let input = [0xC0];
     let mut decoder = Decoder::new(rt.alloc(), &input, DecoderOptions::unaligned());
-    let tags = [
-        Tag::new_context(0),
-        Tag::new_context(1),
-        Tag::new_context(2),
-    ];
-    let chosen = choice(&mut decoder, &tags);
+    let chosen = chosen_of_three(&mut decoder);
     assert!(rt; chosen.err() == Some(DecodeError::InvalidTagVariantOnChoice));
-    assert!(rt; end(&mut decoder).err() == Some(DecodeError::AlreadyFailed));
+    assert!(rt; decoder.end().err() == Some(DecodeError::AlreadyFailed));
     Ok(())
 }
 
-/// An INTEGER (0..255).
-fn octet(alloc: Global, decoder: &mut Decoder<'_>) -> Result<u8, DecodeError> {
-    u8::decode(alloc, decoder)
-}
-
-/// The additions that are read of SEQUENCE {a BOOLEAN, ..., and 65 additions INTEGER (0..255) OPTIONAL}, each behind its place.
-fn additions_of_65(
-    alloc: Global,
-    options: DecoderOptions,
-    message: &[u8],
-) -> Result<Vec<(u8, u8)>, DecodeError> {
-    let mut decoder = Decoder::new(alloc, message, options);
-    begin(&mut decoder, true)?;
-    is_true(&mut decoder)?;
-    additions(&mut decoder, 65)?;
-    let mut found = Vec::new(alloc);
-    for place in 0..65u8 {
-        if addition(&mut decoder)? {
-            found.push((place, octet(alloc, &mut decoder)?))?;
-            addition_ends(&mut decoder)?;
+/// Whether this is SEQUENCE {a BOOLEAN, ..., and 65 additions INTEGER (0..255) OPTIONAL} with 7 in the last addition, and no other.
+fn has_the_last_of_65(alloc: Global, decoder: &mut Decoder<'_>) -> Result<bool, DecodeError> {
+    decoder.begin_sequence(Tag::SEQUENCE, true, 0)?;
+    decoder.decode_bool(Tag::BOOL)?;
+    decoder.begin_additions(65)?;
+    for _ in 0..64u8 {
+        if decoder.get_addition()? {
+            return Ok(false);
         }
     }
-    end(&mut decoder)?;
-    finish(&mut decoder)?;
-    Ok(found)
+    if !decoder.get_addition()? {
+        return Ok(false);
+    }
+    let value = u8::decode(alloc, decoder)?;
+    decoder.end_addition()?;
+    decoder.end()?;
+    decoder.finish()?;
+    Ok(value == 7)
 }
 
 /// A bitmap of more than 64 bits has its width in a length behind a bit that is set (X.691 11.9.3.4).
@@ -137,10 +146,8 @@ fn an_addition_behind_64_others(rt: HostRuntime) -> Result<(), Fail> {
         ),
     ];
     for (options, message) in messages {
-        assert_eq!(rt;
-            additions_of_65(alloc, options, message)?.as_slice(),
-            [(64u8, 7u8)].as_slice()
-        );
+        let mut decoder = Decoder::new(alloc, message, options);
+        assert!(rt; has_the_last_of_65(alloc, &mut decoder)?);
     }
     Ok(())
 }
@@ -156,6 +163,20 @@ fn in_a_fragment(alloc: Global) -> Result<Vec<u8>, AllocError> {
     message.resize(16387, 0x5A)?;
     message.push(0x00)?;
     Ok(message)
+}
+
+/// How many octets s has.
+fn octets_in_front(alloc: Global, decoder: &mut Decoder<'_>) -> Result<usize, DecodeError> {
+    decoder.begin_sequence(Tag::SEQUENCE, true, 0)?;
+    decoder.begin_additions(1)?;
+    if !decoder.get_addition()? {
+        return Ok(0);
+    }
+    let count = string_length(alloc, decoder)?;
+    decoder.end_addition()?;
+    decoder.end()?;
+    decoder.finish()?;
+    Ok(count)
 }
 
 /// How many octets an OCTET STRING has.
@@ -174,14 +195,17 @@ fn an_open_type_may_stand_in_fragments(rt: HostRuntime) -> Result<(), Fail> {
     let alloc = rt.alloc();
     let message = in_a_fragment(alloc)?;
     let mut decoder = Decoder::new(alloc, message.as_slice(), DecoderOptions::aligned());
-    begin(&mut decoder, true)?;
-    additions(&mut decoder, 1)?;
-    assert!(rt; addition(&mut decoder)?);
-    assert_eq!(rt; string_length(alloc, &mut decoder)?, 16382);
-    addition_ends(&mut decoder)?;
-    end(&mut decoder)?;
-    finish(&mut decoder)?;
+    let count = octets_in_front(alloc, &mut decoder);
+    assert!(rt; count == Ok(16382));
     Ok(())
+}
+
+/// Passes over SEQUENCE {...} with additions that the type lacks.
+fn pass_over(decoder: &mut Decoder<'_>) -> Result<(), DecodeError> {
+    decoder.begin_sequence(Tag::SEQUENCE, true, 0)?;
+    decoder.begin_additions(0)?;
+    decoder.end()?;
+    decoder.finish()
 }
 
 #[test]
@@ -189,9 +213,7 @@ fn unknown_additions_may_stand_in_fragments(rt: HostRuntime) -> Result<(), Fail>
     let alloc = rt.alloc();
     let message = in_a_fragment(alloc)?;
     let mut decoder = Decoder::new(alloc, message.as_slice(), DecoderOptions::aligned());
-    begin(&mut decoder, true)?;
-    additions(&mut decoder, 0)?;
-    end(&mut decoder)?;
-    finish(&mut decoder)?;
+    let passed = pass_over(&mut decoder);
+    assert!(rt; passed == Ok(()));
     Ok(())
 }

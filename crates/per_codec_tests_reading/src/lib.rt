@@ -4,8 +4,6 @@
 #[cfg(test)]
 mod booleans;
 #[cfg(test)]
-mod calls;
-#[cfg(test)]
 mod characters;
 #[cfg(test)]
 mod constrained_numbers;
