@@ -6,7 +6,7 @@ use asn1_schema_constraints::Constraints;
 use asn1_schema_encode::Encode;
 use asn1_schema_faults::EncodeError;
 use oer_codec_encoder::{Encoder, EncoderOptions};
-use std::alloc::Global;
+use std::alloc::{AllocError, Global};
 
 /// An encoding has fewer octets than this.
 const LENGTH_LIMIT: usize = 1 << 60;
@@ -87,6 +87,19 @@ pub fn encode_with_constraints<T: Encode>(
     }
 }
 
+/// Adds octets behind those of a buffer; they take the place of an empty one that has no room for them.
+fn append(buffer: &mut Vec<u8>, octets: Vec<u8>) -> Result<(), AllocError>
+    ensures ok { OnOk result (buffer.new.items ≡ buffer.old.items ++ octets.items) }
+    ensures same { OnErr result (buffer.new.items ≡ buffer.old.items) }
+{
+    if buffer.is_empty() && buffer.capacity() < octets.len() {
+        *buffer = octets;
+        return Ok(());
+    }
+    buffer.extend_from_slice(&octets)?;
+    Ok(())
+}
+
 /// Adds the canonical encoding of a value (X.696) behind what stands in the buffer.
 ///
 /// # Errors
@@ -102,6 +115,6 @@ pub fn encode_buf<T: Encode>(
     ensures same { OnErr result (buffer.new.items ≡ buffer.old.items) }
 {
     let octets = encode(alloc, value)?;
-    buffer.extend_from_slice(&octets)?;
+    append(buffer, octets)?;
     Ok(())
 }
