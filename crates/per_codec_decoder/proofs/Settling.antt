@@ -11,7 +11,7 @@ use Rattle.asn1_schema_presented.specs.Records.{Record, Question, question, furt
 use Rattle.per_codec_fronts.specs.Takes.{Place, Scope, members, State, Tally, Front, Found, Header, ByHighest, Counted, SizeMark, NextMember, MemberDue, completion, Takes}
 use Rattle.per_codec_reading.specs.Fronts.{freedoms, is_aligned, Leads, Misses}
 use Rattle.per_codec_reading.proofs.Fronts.{leads_join}
-use Rattle.per_codec_decoder.specs.Held.{Held, state_of, Finds, IsReady, Moves, EntersMembers, EntersComponents}
+use Rattle.per_codec_decoder.specs.Held.{Held, state_of, Finds, IsReady, Stays, Moves, EntersMembers, EntersComponents}
 use Rattle.per_codec_decoder.specs.Preamble.{HasPreamble}
 use Rattle.per_codec_decoder.specs.Members.{HasMembers}
 use Rattle.per_codec_decoder.proofs.Finding.{OfType, none_found, none_of_alphabet}
@@ -155,6 +155,17 @@ finished (Ok x) (Ok y) old now new here there n same ready h p r t f m =
     let j : new ≡ record { place = there; scopes = now.scopes; levels = now.levels; most = now.most; failed = now.failed; variant = now.variant } = m g.text there (sym p) (subst (λ (q : Place). Leads g.text q there) h (g.in_front, g.moved)) in
     let k : Front (freedoms now.variant) (completion now.place.0) now.place new.place = subst (λ (q : Place). Front (freedoms now.variant) (completion now.place.0) now.place q) (sym (ap (λ (w : Held). w.place) j)) i in
     (ready, subst (λ (w : Held). Front (freedoms w.variant) (completion w.place.0) w.place new.place) same k)
+
+-- and all but the place is as it was
+pub finished_there : (answer result : Result (Unit {0}) DecodeError) (old now new : Held) (here there : Place) (n : ℕ) → now ≡ old → here ≡ now.place → n ≡ there.0 → result ≡ answer → IsTrue (freedoms now.variant Per.any_filling) → OnOk answer ((free : Per.Freedom → Bool) → IsTrue (free Per.any_filling) → Front free (completion here.0) here there) → OnOk result (Moves now n new) → OnOk result (Stays old new)
+finished_there answer (Err e) old now new here there n same h p r t f m = tt
+finished_there (Err x) (Ok y) old now new here there n same h p r t f m = cc
+finished_there (Ok x) (Ok y) old now new here there n same h p r t f m =
+    let g : Front (freedoms now.variant) (completion here.0) here there = f (freedoms now.variant) t in
+    let j : new ≡ record { place = there; scopes = now.scopes; levels = now.levels; most = now.most; failed = now.failed; variant = now.variant } = m g.text there (sym p) (subst (λ (q : Place). Leads g.text q there) h (g.in_front, g.moved)) in
+    let l : new.place ≡ there = ap (λ (w : Held). w.place) j in
+    let k : Stays now new = j ∙ ap (λ (q : Place). let w : Held = record { place = q; scopes = now.scopes; levels = now.levels; most = now.most; failed = now.failed; variant = now.variant } in w) (sym l) in
+    subst (λ (w : Held). Stays w new) same k
 
 pub unfinished_at : (old now : Held) (here : Place) → now ≡ old → here ≡ now.place → ((free : Per.Freedom → Bool) (b : Place) → Front free (completion here.0) here b → ⊥) → IsReady old → (b : Place) → Front (freedoms old.variant) (completion old.place.0) old.place b → ⊥
 unfinished_at old now here same p none ready b f = none (freedoms old.variant) b (subst (λ (q : Place). Front (freedoms old.variant) (completion q.0) q b) (sym (p ∙ ap (λ (w : Held). w.place) same)) f)

@@ -100,7 +100,10 @@ impl<'input> Decoder<'input> {
     #[inline(always)]
     pub fn finish(&mut self) -> Result<(), DecodeError>
         ensures ok { OnOk result (IsReady self.old × Front (freedoms self.old.variant) (completion self.old.place.0) self.old.place self.new.place) }
+        ensures rest { OnOk result (Stays self.old self.new) }
         ensures only { IfErr result (λ _. IsReady self.old → (b : _) → Front (freedoms self.old.variant) (completion self.old.place.0) self.old.place b → ⊥) }
+        ensures failed { OnErr result (HasFailed self.new) }
+        ensures already { HasFailed self.old → result ≡ Err DecodeError.AlreadyFailed }
     {
         self.begin_record()?;
         let mut cursor = self.place.cursor();
