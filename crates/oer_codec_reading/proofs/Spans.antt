@@ -1,15 +1,14 @@
 -- In how many octets numbers within bounds stand, by how large the numbers are.
 use Rattle.std.specs.Prelude.{max}
-use Rattle.std.proofs.Common.{◌≡◌, ◌∙◌, refl, sym, ap, subst, ℕ, suc, ◌+◌, ◌*◌, ◌^◌, ◌<◌, ◌≤◌, leb, ℤ, pos, negsuc, ◌<ℤ◌, ◌≤ℤ◌, Bool, true, false, cond, Option, Some, None, inl, inr, arith}
+use Rattle.std.proofs.Common.{◌≡◌, ◌∙◌, refl, sym, ap, ℕ, ◌^◌, ◌<◌, ◌≤◌, ℤ, pos, negsuc, ◌<ℤ◌, ◌≤ℤ◌, Some, None, inl, inr, arith}
 use Rattle.std.proofs.lemmas.Int.{ints}
 use Rattle.std.proofs.lemmas.Bool.{le-leb, lt-leb, cases_lt}
 use Rattle.asn1_model.specs.Numbers.{octet_width, signed_octets, width}
 use Rattle.asn1_model.specs.Oer.{fixed_octets}
 use Rattle.asn1_values_natives.specs.Octets.{plain}
-use Rattle.asn1_values_natives.proofs.Widths.{width-bits, bits-least, signed_octets-plain, signed_octets-le, signed_octets-above}
-use Rattle.asn1_schema_bounds.specs.Widths.{fixed_width, has_sign}
+use Rattle.asn1_values_natives.proofs.Widths.{width-bits, bits-least, signed_octets-plain}
+use Rattle.asn1_schema_bounds.specs.Widths.{fixed_width}
 use Rattle.oer_codec_reading_lengths.proofs.LengthFronts.{octets_hold}
-use Rattle.oer_codec_reading.proofs.WholeFronts.{width_at_most}
 
 -- ---- the least of 1, 2, 4 and 8
 

@@ -1,11 +1,11 @@
 -- The octets of a message, from its bits.
-use Rattle.std.proofs.Common.{◌≡◌, ℕ, ◌-◌, ◌%◌, ◌==◌, Bool, true, false, List, [], ◌∷◌, ◌++◌, length, replicate, Option, Some, None, option_map, option_and_then, refl, ap, sym, ◌∙◌, eq-eqb}
+use Rattle.std.proofs.Common.{◌≡◌, ℕ, ◌-◌, ◌%◌, ◌==◌, Bool, true, false, List, [], ◌∷◌, ◌++◌, length, replicate, Some, option_map, option_and_then, refl, ap, sym, ◌∙◌, eq-eqb}
 use Rattle.std.proofs.lemmas.List.{length-replicate}
 use Rattle.asn1_model.specs.Form.{exactly, only_if, written}
 use Rattle.asn1_model.specs.Numbers.{packed}
 use Rattle.asn1_model.specs.Per
 use Rattle.asn1_values_bits.specs.Octets.{filled_up}
-use Rattle.per_codec_texts.specs.Texts.{as_text, plain}
+use Rattle.per_codec_texts.specs.Texts.{as_text}
 use Rattle.per_codec_steps.specs.Ties.{octets_of}
 use Rattle.per_codec_texts.proofs.Texts.{plain_text}
 

@@ -1,5 +1,5 @@
 -- What the encoder's calls did, by what they did to the bits and the frames.
-use Rattle.std.proofs.Common.{◌≡◌, ℕ, Bool, true, false, List, [], ◌++◌, length, reverse, Option, Some, None, option_map, option_and_then, Result, Ok, Err, Vec, Global, IfOk, MatchResult, refl, ap, subst, sym, ◌∙◌}
+use Rattle.std.proofs.Common.{◌≡◌, ℕ, Bool, true, false, List, [], ◌++◌, reverse, Some, None, option_map, option_and_then, Result, Ok, Err, Vec, Global, IfOk, MatchResult, refl, ap, subst, sym, ◌∙◌}
 use Rattle.std.proofs.lemmas.List.{append-nil}
 use Rattle.asn1_model.specs.Form.{written}
 use Rattle.asn1_model.specs.Numbers.{packed}
@@ -12,7 +12,7 @@ use Rattle.per_codec_texts.specs.Texts.{Text, as_text, plain, text_at}
 use Rattle.per_codec_texts.proofs.Texts.{plain_text}
 use Rattle.per_codec_packing.specs.Packed.{Packed, place, plus}
 use Rattle.per_codec_packing.proofs.Adding.{added}
-use Rattle.per_codec_steps.specs.Steps.{State, run, adds_text, adds_form, position}
+use Rattle.per_codec_steps.specs.Steps.{State, run, adds_text, adds_form}
 use Rattle.per_codec_steps.specs.Ties.{octets_of}
 use Rattle.per_codec_writing.specs.Writing.{Adds, Refuses}
 use Rattle.per_codec_encoder_frames.specs.declared.frame.Frame.{Frame}

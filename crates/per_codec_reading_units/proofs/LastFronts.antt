@@ -1,7 +1,6 @@
 -- The last of the bits that were taken.
-use Rattle.std.proofs.Common.{◌≡◌, ℕ, ◌+◌, ◌<◌, ltb, Bool, true, false, cond, IsTrue, List, [], ◌++◌, length, Option, Some, None, refl, ap, sym, ◌∙◌, subst}
-use Rattle.std.specs.Prelude.{not}
-use Rattle.asn1_model.specs.Form.{only_if, nothing_more}
+use Rattle.std.proofs.Common.{◌≡◌, ℕ, ◌<◌, ltb, Bool, true, false, cond, List, ◌++◌, Option, Some, None, refl, sym, subst}
+use Rattle.asn1_model.specs.Form.{nothing_more}
 use Rattle.asn1_model.specs.Per
 use Rattle.asn1_values_bits.specs.BitStr.{bits_of}
 use Rattle.per_codec_fronts.specs.Takes.{Place, Front}

@@ -1,16 +1,14 @@
 -- The units of fragments, as they are joined one fragment after another.
-use Rattle.std.proofs.Common.{◌≡◌, ◌⊎◌, inl, inr, ℕ, zero, suc, ◌+◌, ◌*◌, ◌<◌, ◌≤◌, leb, ◌&&◌, Bool, true, false, IsTrue, List, [], ◌∷◌, ◌++◌, length, refl, ap, sym, ◌∙◌, subst, append_assoc, arith, length-append}
+use Rattle.std.proofs.Common.{◌≡◌, ℕ, ◌+◌, ◌*◌, ◌<◌, ◌≤◌, leb, ◌&&◌, Bool, true, false, IsTrue, List, ◌∷◌, ◌++◌, length, refl, ap, sym, ◌∙◌, subst, append_assoc, arith, length-append}
 use Rattle.asn1_model.specs.Numbers.{binary}
-use Rattle.asn1_model.specs.Form.{Reads, exactly}
+use Rattle.asn1_model.specs.Form.{exactly}
 use Rattle.asn1_model.specs.Per
 use Rattle.per_codec_fronts.specs.Takes.{Place, Front}
 use Rattle.per_codec_fronts.proofs.Fronts.{split, if_out}
-use Rattle.per_codec_reading.specs.Fronts.{freedoms, Leads, NoneStands}
-use Rattle.per_codec_reading.specs.Lengths.{length_form}
-use Rattle.per_codec_reading.specs.declared.lengths.Length.{Length}
+use Rattle.per_codec_reading.specs.Fronts.{NoneStands}
 use Rattle.per_codec_reading.specs.declared.lengths.Length.TheVariants.{Short, Fragment}
 use Rattle.per_codec_reading.proofs.Fronts.{exactly_out}
-use Rattle.per_codec_reading_units.specs.Units.{Units, counted_units, count_of, Piece, piece_form}
+use Rattle.per_codec_reading_units.specs.Units.{Units, counted_units, piece_form}
 use Rattle.per_codec_reading_units.specs.Runs.{Continued}
 use Rattle.per_codec_reading_units.proofs.RunFronts.{Run, NoRun, piece_out, run_last, run_more, no_piece, none_behind, run_in, run_out}
 

@@ -1,12 +1,12 @@
 -- Units of one width behind their number, by what stands in front: a length and as many units, and what is behind a fragment.
-use Rattle.std.proofs.Common.{◌≡◌, ◌⊎◌, inl, inr, ℕ, zero, suc, ◌+◌, ◌*◌, ◌<◌, ◌≤◌, ◌==◌, leb, ltb, cond, ◌&&◌, Bool, true, false, IsTrue, List, [], ◌∷◌, ◌++◌, length, refl, ap, sym, ◌∙◌, subst, arith, length-append}
+use Rattle.std.proofs.Common.{◌≡◌, ◌⊎◌, inl, inr, ℕ, ◌+◌, ◌*◌, ◌<◌, ◌≤◌, ◌==◌, leb, ltb, cond, ◌&&◌, Bool, true, false, IsTrue, List, [], ◌∷◌, ◌++◌, length, ap, sym, ◌∙◌, subst, arith, length-append}
 use Rattle.std.proofs.lemmas.List.{append_cancel_left}
 use Rattle.std.proofs.lemmas.Bool.{leb-true, eqb-true, eq-eqb, and_parts}
 use Rattle.asn1_model.specs.Numbers.{binary}
-use Rattle.asn1_model.specs.Form.{Reads, exactly, both, only_if}
+use Rattle.asn1_model.specs.Form.{exactly, only_if}
 use Rattle.asn1_model.specs.Per
-use Rattle.asn1_laws_fronts.proofs.Fronts.{agree_exactly, agree_first, agree_if, agree_if_left, agree_if_right, agree_varied_left, agree_varied_right, agree_map}
-use Rattle.asn1_laws_fronts.proofs.PerNumbers.{Alike, at_octet_alike, binary_alike, bits_apart, bits_apart', short_length_alike}
+use Rattle.asn1_laws_fronts.proofs.Fronts.{agree_exactly, agree_first, agree_if_right, agree_varied_right}
+use Rattle.asn1_laws_fronts.proofs.PerNumbers.{Alike, at_octet_alike, binary_alike, bits_apart, short_length_alike}
 use Rattle.per_codec_fronts.specs.Takes.{Place, Front}
 use Rattle.per_codec_fronts.proofs.Fronts.{split, join, if_in, if_out, varied_in, varied_out}
 use Rattle.per_codec_fronts.proofs.Next.{place_same}
@@ -15,8 +15,8 @@ use Rattle.per_codec_reading.specs.Lengths.{length_form}
 use Rattle.per_codec_reading.specs.declared.lengths.Length.{Length}
 use Rattle.per_codec_reading.specs.declared.lengths.Length.TheVariants.{Short, Fragment}
 use Rattle.per_codec_reading.proofs.Fronts.{exactly_in, exactly_out}
-use Rattle.per_codec_reading_units.specs.Units.{Units, units_of, counted_units, count_of, Piece, piece_form}
-use Rattle.per_codec_reading_units.proofs.UnitFronts.{Divided, Behind, last_in, last_out, more_in, more_out}
+use Rattle.per_codec_reading_units.specs.Units.{units_of, counted_units, count_of, Piece, piece_form}
+use Rattle.per_codec_reading_units.proofs.UnitFronts.{Divided, last_in, last_out, more_in, more_out}
 
 module _ (free : Per.Freedom → Bool) where
   -- ---- one front

@@ -1,12 +1,11 @@
 -- One run of units at most stands in front.
-use Rattle.std.proofs.Common.{◌≡◌, ◌⊎◌, inl, inr, ℕ, ◌+◌, ◌*◌, Bool, List, [], ◌∷◌, ◌++◌, refl, ap, sym, ◌∙◌, subst, arith}
+use Rattle.std.proofs.Common.{◌≡◌, inl, inr, ℕ, ◌+◌, ◌*◌, Bool, List, [], ◌∷◌, ap, sym, ◌∙◌, subst}
 use Rattle.asn1_model.specs.Per
 use Rattle.per_codec_fronts.specs.Takes.{Place, Front}
-use Rattle.per_codec_reading.specs.declared.lengths.Length.{Length}
 use Rattle.per_codec_reading.specs.declared.lengths.Length.TheVariants.{Short, Fragment}
-use Rattle.per_codec_reading_units.specs.Units.{Units, counted_units, piece_form}
-use Rattle.per_codec_reading_units.proofs.UnitFronts.{Divided, Behind, last_out, more_out}
-use Rattle.per_codec_reading_units.proofs.RunFronts.{Run, Further, piece_in, piece_one, run_cases, run_out}
+use Rattle.per_codec_reading_units.specs.Units.{Units, counted_units}
+use Rattle.per_codec_reading_units.proofs.UnitFronts.{Divided, last_out, more_out}
+use Rattle.per_codec_reading_units.proofs.RunFronts.{Run, piece_in, piece_one, run_cases, run_out}
 
 module _ (free : Per.Freedom → Bool) (al : Bool) (w : ℕ) where
   divided_one : (ms : List ℕ) (n m : ℕ) (bs cs : List Bool) (a b c : Place) → Divided free al w ms n bs a b → Run free al w m cs a c → n ≡ m

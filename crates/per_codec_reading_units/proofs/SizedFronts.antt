@@ -1,16 +1,16 @@
 -- Units of a size that stand in front: their mark, and the units behind it.
-use Rattle.std.proofs.Common.{◌≡◌, ◌⊎◌, inl, inr, ℕ, ◌+◌, ◌-◌, ◌*◌, ◌≤◌, ◌<◌, ◌==◌, leb, ltb, not, ◌&&◌, ◌||◌, Bool, true, false, cond, IsTrue, Option, Some, None, List, [], ◌∷◌, ◌++◌, length, refl, ap, sym, ◌∙◌, subst, arith}
+use Rattle.std.proofs.Common.{◌≡◌, inr, ℕ, ◌-◌, ◌*◌, ◌≤◌, ◌==◌, leb, ltb, ◌&&◌, ◌||◌, Bool, true, false, cond, IsTrue, Option, Some, None, List, [], ◌∷◌, length, refl, ap, sym, ◌∙◌, subst, arith}
 use Rattle.std.proofs.lemmas.Bool.{false≢true, leb-true, eqb-true, eq-eqb, and_parts, and_from}
 use Rattle.asn1_model.specs.Schema.{Counts, Size}
 use Rattle.asn1_model.specs.Numbers.{is_count_to, is_count_within}
-use Rattle.asn1_model.specs.Form.{Reads, exactly, both, only_if, joined, nothing_more}
+use Rattle.asn1_model.specs.Form.{exactly, both, only_if, joined}
 use Rattle.asn1_model.specs.Per
 use Rattle.asn1_laws_fronts.proofs.PerNumbers.{constrained_alike}
 use Rattle.per_codec_fronts.specs.Takes.{Place, Front}
 use Rattle.per_codec_fronts.proofs.Fronts.{split, join, if_in, if_out, varied_in, varied_out, nothing_front, of_nothing, of_refused}
-use Rattle.per_codec_reading.specs.Fronts.{Leads, NoneStands}
+use Rattle.per_codec_reading.specs.Fronts.{NoneStands}
 use Rattle.per_codec_reading.proofs.Fronts.{exactly_in, exactly_out}
-use Rattle.per_codec_reading_units.specs.Units.{Units, units_of, counted_units}
+use Rattle.per_codec_reading_units.specs.Units.{Units, units_of}
 use Rattle.per_codec_reading_units.specs.Sizes.{size_mark, told_highest, told_count, told_units, units_told, sized_units, admitted}
 use Rattle.per_codec_reading_units.proofs.UnitFronts.{length-units, units_in, units_out}
 use Rattle.per_codec_reading_units.proofs.RunFronts.{one, leads_one}

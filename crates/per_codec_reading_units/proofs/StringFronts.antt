@@ -1,12 +1,12 @@
 -- Strings of octets and of bits, texts and object identifiers that stand in front.
-use Rattle.std.proofs.Common.{◌≡◌, ◌⊎◌, inl, inr, ℕ, zero, ◌+◌, ◌*◌, ◌≤◌, ◌==◌, leb, ◌&&◌, Bool, true, false, List, [], ◌∷◌, length, Ok, Err, refl, ap, sym, ◌∙◌, subst, arith}
+use Rattle.std.proofs.Common.{◌≡◌, ◌⊎◌, inl, inr, ℕ, ◌*◌, ◌==◌, Bool, true, false, List, [], ◌∷◌, length, Ok, Err, refl, ap, sym, ◌∙◌, subst, arith}
 use Rattle.std.proofs.lemmas.Bool.{false≢true, eqb-true, eq-eqb, le-leb, and_from}
 use Rattle.asn1_model.specs.Schema.{Counts, Size, Alphabet, bit_string, octet_string, character_string, object_identifier, utf8}
 use Rattle.asn1_model.specs.Value.{Value, bit_list, octet_list, text, arcs}
 use Rattle.asn1_model.specs.Types.{any_count}
 use Rattle.asn1_model.specs.Numbers.{octet_bits, is_count_within}
 use Rattle.asn1_model.specs.Strings.{each_is, is_octet, may_hold, is_identifier, identifier_octets}
-use Rattle.asn1_model.specs.Form.{exactly, only_if}
+use Rattle.asn1_model.specs.Form.{exactly}
 use Rattle.asn1_model.specs.Per
 use Rattle.asn1_laws_fronts.proofs.PerNumbers.{counted_octets_alike}
 use Rattle.asn1_schema_faults.specs.declared.DecodeError.{DecodeError}

@@ -1,8 +1,8 @@
 -- Units behind a number that bounds tell, part by part.
-use Rattle.std.proofs.Common.{◌≡◌, ℕ, ◌+◌, ◌-◌, ◌*◌, ◌≤◌, ◌<◌, ◌==◌, leb, ◌&&◌, Bool, true, false, List, ◌++◌, length, refl, ap, sym, ◌∙◌, subst, arith, length-append}
+use Rattle.std.proofs.Common.{◌≡◌, ℕ, ◌-◌, ◌*◌, ◌≤◌, ◌<◌, ◌==◌, leb, ◌&&◌, Bool, true, false, List, length, refl, ap, sym, ◌∙◌, subst, arith, length-append}
 use Rattle.std.proofs.lemmas.Bool.{leb-true, eqb-true, eq-eqb, and_parts}
 use Rattle.asn1_model.specs.Schema.{Counts}
-use Rattle.asn1_model.specs.Form.{exactly, both, only_if, nothing_more}
+use Rattle.asn1_model.specs.Form.{exactly, nothing_more}
 use Rattle.asn1_model.specs.Per
 use Rattle.asn1_laws_fronts.proofs.PerNumbers.{constrained_alike}
 use Rattle.per_codec_fronts.specs.Takes.{Place, Front}

@@ -1,5 +1,5 @@
 -- Units of a size: a mark, a number that its bounds tell, and the units.
-use Rattle.std.specs.Prelude.{ℕ, ◌-◌, ◌*◌, ◌==◌, leb, ltb, not, ◌&&◌, ◌||◌, Bool, true, false, cond, List, [], ◌∷◌, length, Option, Some, None}
+use Rattle.std.specs.Prelude.{ℕ, ◌-◌, ◌*◌, ◌==◌, leb, ltb, not, ◌&&◌, ◌||◌, Bool, true, false, cond, [], ◌∷◌, length, Option, Some, None}
 use Rattle.asn1_model.specs.Schema.{Counts, Size}
 use Rattle.asn1_model.specs.Numbers.{is_count_within}
 use Rattle.asn1_model.specs.Form.{exactly, both, only_if, nothing_more}

@@ -1,4 +1,4 @@
-use Rattle.std.proofs.Common.{◌≡◌, List, [], ◌∷◌, ◌++◌, true, false, ap, sym, ◌∙◌}
+use Rattle.std.proofs.Common.{◌≡◌, [], ◌∷◌, ◌++◌, true, false, ap, sym, ◌∙◌}
 use Rattle.asn1_model.specs.Numbers.{packed}
 use Rattle.asn1_values_bits.specs.Octets.{filled_up}
 use Rattle.per_codec_encoder.proofs.Octets.{of_none, of_some}

@@ -1,5 +1,5 @@
-use Rattle.std.proofs.Common.{◌≡◌, ◌≤◌, ◌++◌, length, take, ap, sym, ◌∙◌, arith}
-use Rattle.std.proofs.lemmas.List.{length-drop, take_all}
+use Rattle.std.proofs.Common.{◌++◌, length, ap, ◌∙◌, arith}
+use Rattle.std.proofs.lemmas.List.{length-drop}
 use Rattle.asn1_values_bits.specs.BitStr.{bits_of}
 use Rattle.asn1_values_bits.proofs.Kept.{moved}
 use Rattle.per_codec_reading_units.proofs.octets.copied_bits.Goals as goal

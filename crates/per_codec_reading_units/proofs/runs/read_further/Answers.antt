@@ -1,11 +1,11 @@
-use Rattle.std.proofs.Common.{◌≡◌, ◌+◌, ◌*◌, ◌++◌, ap, sym, ◌∙◌, subst, arith}
+use Rattle.std.proofs.Common.{◌≡◌, ◌+◌, ◌*◌, ap, sym, ◌∙◌, subst, arith}
 use Rattle.std.proofs.lemmas.Result.{err_from_is_err_and}
 use Rattle.asn1_values_bits.specs.BitStr.{bits_of}
 use Rattle.per_codec_fronts.specs.Takes.{Front}
 use Rattle.per_codec_reading.specs.Fronts.{freedoms, is_aligned}
 use Rattle.per_codec_reading.proofs.Fronts.{misses_also, other_fragments_are_free}
 use Rattle.per_codec_reading_units.specs.Units.{count_of, counted_units, piece_form}
-use Rattle.per_codec_reading_units.proofs.Loops.{Joins, joins_none, joins_more, joins_last, joins_stop, fragment_shortens}
+use Rattle.per_codec_reading_units.proofs.Loops.{Joins, joins_more, joins_last, joins_stop, fragment_shortens}
 use Rattle.per_codec_reading_units.proofs.runs.read_further.Goals as goal
 
 pub returns-in_err-piece-clause-only : goal.returns-in_err-piece-clause-only
