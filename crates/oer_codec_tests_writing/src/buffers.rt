@@ -1,6 +1,7 @@
 //! Rows of the calls that write.
 use asn1_schema_bounds::Bounded;
 use asn1_schema_constraints::{Constraint, Constraints, Extensible, Size, Value};
+use asn1_schema_encode::Encode;
 use asn1_schema_faults::EncodeError;
 use asn1_values_numbers::Integer;
 use asn1_values_octets::OctetString;
@@ -8,9 +9,15 @@ use oer_codec::writing::{encode, encode_buf, encode_with_constraints};
 use std::alloc::Global;
 use std::test::Fail;
 
-/// The encoding of a number without bounds.
-fn number(alloc: Global, value: i64) -> Result<Vec<u8>, EncodeError> {
-    encode(alloc, &Integer::from(value))
+/// Whether a value stands in these octets.
+fn stands_in<T: Encode>(alloc: Global, value: &T, expected: &[u8]) -> Result<bool, EncodeError> {
+    let octets = encode(alloc, value)?;
+    Ok(octets.as_slice() == expected)
+}
+
+/// Whether a number without bounds stands in these octets.
+fn number_stands_in(alloc: Global, number: i64, expected: &[u8]) -> Result<bool, EncodeError> {
+    stands_in(alloc, &Integer::from(number), expected)
 }
 
 /// The encoding of a number between two bounds.
@@ -18,6 +25,17 @@ fn between(alloc: Global, value: u16, low: i128, high: i128) -> Result<Vec<u8>, 
     let bounds = Value::new(Bounded::const_new(low, high));
     let constraint = Constraint::Value(Extensible::new(bounds));
     encode_with_constraints(alloc, Constraints::new(&[constraint]), &value)
+}
+
+/// Whether a number between two bounds stands in these octets.
+fn between_stands_in(
+    alloc: Global,
+    value: u16,
+    (low, high): (i128, i128),
+    expected: &[u8],
+) -> Result<bool, EncodeError> {
+    let octets = between(alloc, value, low, high)?;
+    Ok(octets.as_slice() == expected)
 }
 
 /// The encoding of octets under SIZE (3..6).
@@ -31,44 +49,23 @@ fn three_to_six(alloc: Global, octets: &[u8]) -> Result<Vec<u8>, EncodeError> {
 #[test]
 fn numbers_in_the_fewest_octets(rt: HostRuntime) -> Result<(), Fail> {
     let alloc = rt.alloc();
-    assert_eq!(rt; number(alloc, 0)?.as_slice(), [0x01u8, 0x00].as_slice());
-    assert_eq!(rt; number(alloc, -1)?.as_slice(), [0x01u8, 0xFF].as_slice());
-    assert_eq!(rt;
-        number(alloc, 255)?.as_slice(),
-        [0x02u8, 0x00, 0xFF].as_slice()
-    );
-    assert_eq!(rt;
-        number(alloc, -32768)?.as_slice(),
-        [0x02u8, 0x80, 0x00].as_slice()
-    );
-    assert_eq!(rt;
-        number(alloc, 32768)?.as_slice(),
-        [0x03u8, 0x00, 0x80, 0x00].as_slice()
-    );
-    assert_eq!(rt;
-        number(alloc, -32769)?.as_slice(),
-        [0x03u8, 0xFF, 0x7F, 0xFF].as_slice()
-    );
+    assert!(rt; number_stands_in(alloc, 0, &[0x01, 0x00])?);
+    assert!(rt; number_stands_in(alloc, -1, &[0x01, 0xFF])?);
+    assert!(rt; number_stands_in(alloc, 255, &[0x02, 0x00, 0xFF])?);
+    assert!(rt; number_stands_in(alloc, -32768, &[0x02, 0x80, 0x00])?);
+    assert!(rt; number_stands_in(alloc, 32768, &[0x03, 0x00, 0x80, 0x00])?);
+    assert!(rt; number_stands_in(alloc, -32769, &[0x03, 0xFF, 0x7F, 0xFF])?);
     Ok(())
 }
 
 #[test]
 fn numbers_within_bounds(rt: HostRuntime) -> Result<(), Fail> {
     let alloc = rt.alloc();
-    assert_eq!(rt;
-        encode(alloc, &65535u32)?.as_slice(),
-        [0x00u8, 0x00, 0xFF, 0xFF].as_slice()
-    );
-    assert_eq!(rt; encode(alloc, &-128i8)?.as_slice(), [0x80u8].as_slice());
-    assert_eq!(rt;
-        encode(alloc, &-128i16)?.as_slice(),
-        [0xFFu8, 0x80].as_slice()
-    );
-    assert_eq!(rt;
-        between(alloc, 2, 2, 65535)?.as_slice(),
-        [0x00u8, 0x02].as_slice()
-    );
-    assert_eq!(rt; between(alloc, 5, 5, 5)?.as_slice(), [0x05u8].as_slice());
+    assert!(rt; stands_in(alloc, &65535u32, &[0x00, 0x00, 0xFF, 0xFF])?);
+    assert!(rt; stands_in(alloc, &-128i8, &[0x80])?);
+    assert!(rt; stands_in(alloc, &-128i16, &[0xFF, 0x80])?);
+    assert!(rt; between_stands_in(alloc, 2, (2, 65535), &[0x00, 0x02])?);
+    assert!(rt; between_stands_in(alloc, 5, (5, 5), &[0x05])?);
     Ok(())
 }
 
