@@ -16,11 +16,17 @@ fn both_refuse<T: Decode>(alloc: Global, input: &[u8], error: DecodeError) -> bo
         && decode::<T>(alloc, input, Variant::Aligned).err() == Some(error)
 }
 
+// How many values of NULL this list has.
+fn count_of(alloc: Global, input: &[u8], variant: Variant) -> Result<usize, DecodeError> {
+    let members = decode::<Vec<()>>(alloc, input, variant)?;
+    Ok(members.len())
+}
+
 // Whether this is a list of so many values of NULL in both variants.
 fn both_count(alloc: Global, input: &[u8], count: usize) -> Result<bool, DecodeError> {
-    let unaligned = decode::<Vec<()>>(alloc, input, Variant::Unaligned)?;
-    let aligned = decode::<Vec<()>>(alloc, input, Variant::Aligned)?;
-    Ok(unaligned.len() == count && aligned.len() == count)
+    let unaligned = count_of(alloc, input, Variant::Unaligned)?;
+    let aligned = count_of(alloc, input, Variant::Aligned)?;
+    Ok(unaligned == count && aligned == count)
 }
 
 #[test]
@@ -52,19 +58,30 @@ fn bits_that_fill_up_a_message_are_passed_over(rt: HostRuntime) -> Result<(), Fa
     Ok(())
 }
 
+// Whether this is the list of true and false.
+fn is_true_and_false(alloc: Global, input: &[u8]) -> Result<bool, DecodeError> {
+    let truths = decode::<Vec<bool>>(alloc, input, Variant::Unaligned)?;
+    Ok(truths.len() == 2 && truths[0] && !truths[1])
+}
+
+// Whether this is the list of true and false where a list has up to three members.
+fn is_short_true_and_false(alloc: Global, input: &[u8]) -> Result<bool, DecodeError> {
+    let four = Constraint::Size(Extensible::new(Size::new(Bounded::const_new(0, 3))));
+    let constraints = [four];
+    let truths = decode_with_constraints::<Vec<bool>>(
+        alloc,
+        Constraints::new(&constraints),
+        input,
+        Variant::Unaligned,
+    )?;
+    Ok(truths.len() == 2 && truths[0] && !truths[1])
+}
+
 #[test]
 fn members_stand_behind_their_number(rt: HostRuntime) -> Result<(), Fail> {
     let alloc = rt.alloc();
-    let truths = decode::<Vec<bool>>(alloc, &[0x02, 0x80], Variant::Unaligned)?;
-    assert!(rt; truths.len() == 2 && truths[0] && !truths[1]);
-    let four = Constraint::Size(Extensible::new(Size::new(Bounded::const_new(0, 3))));
-    let truths = decode_with_constraints::<Vec<bool>>(
-        alloc,
-        Constraints::new(&[four]),
-        &[0xA0],
-        Variant::Unaligned,
-    )?;
-    assert!(rt; truths.len() == 2 && truths[0] && !truths[1]);
+    assert!(rt; is_true_and_false(alloc, &[0x02, 0x80])?);
+    assert!(rt; is_short_true_and_false(alloc, &[0xA0])?);
     Ok(())
 }
 
@@ -90,14 +107,21 @@ fn a_list_of_a_fixed_size_has_no_other_count(rt: HostRuntime) {
     );
 }
 
+// Begins so many sequences in one another.
+fn begin_sequences(decoder: &mut Decoder<'_>, count: usize) -> Result<(), DecodeError> {
+    for _ in 0..count {
+        decoder.begin_sequence(Tag::SEQUENCE, false, 0)?;
+    }
+    Ok(())
+}
+
 #[test]
 fn the_level_past_128_is_refused(rt: HostRuntime) -> Result<(), Fail> {
     let input = [0x00];
     let mut decoder = Decoder::new(rt.alloc(), &input, DecoderOptions::aligned());
     assert_eq!(rt; decoder.codec(), CodecKind::Aper);
-    for _ in 0..128 {
-        decoder.begin_sequence(Tag::SEQUENCE, false, 0)?;
-    }
+    let begun = begin_sequences(&mut decoder, 128);
+    assert_eq!(rt; begun, Ok(()));
     assert_eq!(rt; decoder.levels_left(), 0);
     assert_eq!(rt;
         decoder.begin_sequence(Tag::SEQUENCE, false, 0),
@@ -105,6 +129,18 @@ fn the_level_past_128_is_refused(rt: HostRuntime) -> Result<(), Fail> {
     );
     assert_eq!(rt; decoder.finish(), Err(DecodeError::AlreadyFailed));
     Ok(())
+}
+
+/// Whether this is OCTET STRING (SIZE (3)) with these octets.
+fn has_triple(
+    alloc: Global,
+    decoder: &mut Decoder<'_>,
+    member: &[u8; 3],
+) -> Result<bool, DecodeError> {
+    let three = Extensible::new(Size::new(Bounded::const_new(3, 3)));
+    let constraints = Constraints::new(&[Constraint::Size(three)]);
+    let octets = OctetString::decode_with_constraints(alloc, decoder, constraints)?;
+    Ok(*octets.as_slice() == *member.as_slice())
 }
 
 /// Whether these are the members of SEQUENCE (SIZE (low..high)) OF OCTET STRING (SIZE (3)).
@@ -115,16 +151,13 @@ fn has_triples(
     members: &[[u8; 3]],
 ) -> Result<bool, DecodeError> {
     let size = Extensible::new(Size::new(Bounded::const_new(low, high)));
-    let three = Extensible::new(Size::new(Bounded::const_new(3, 3)));
     let constraints = Constraints::new(&[Constraint::Size(size)]);
     decoder.begin_list(Tag::SEQUENCE, constraints, Bounded::None)?;
     for member in members {
-        let constraints = Constraints::new(&[Constraint::Size(three)]);
         if !decoder.get_further()? {
             return Ok(false);
         }
-        let octets = OctetString::decode_with_constraints(alloc, decoder, constraints)?;
-        if *octets.as_slice() != *member.as_slice() {
+        if !has_triple(alloc, decoder, member)? {
             return Ok(false);
         }
     }
@@ -134,17 +167,12 @@ fn has_triples(
 }
 
 /// Whether this is SEQUENCE {flag TRUE, fixed SEQUENCE (SIZE (2)) OF .., ranged SEQUENCE (SIZE (1..2)) OF .., trailer 171}.
-fn has_two_lists(
-    alloc: Global,
-    input: &[u8],
-    options: DecoderOptions,
-) -> Result<bool, DecodeError> {
-    let mut decoder = Decoder::new(alloc, input, options);
+fn has_two_lists(alloc: Global, decoder: &mut Decoder<'_>) -> Result<bool, DecodeError> {
     decoder.begin_sequence(Tag::SEQUENCE, false, 0)?;
-    let flag = bool::decode(alloc, &mut decoder)?;
-    let fixed = has_triples(alloc, &mut decoder, (2, 2), &[[1, 2, 3], [4, 5, 6]])?;
-    let ranged = has_triples(alloc, &mut decoder, (1, 2), &[[7, 8, 9]])?;
-    let trailer = u8::decode(alloc, &mut decoder)?;
+    let flag = bool::decode(alloc, decoder)?;
+    let fixed = has_triples(alloc, decoder, (2, 2), &[[1, 2, 3], [4, 5, 6]])?;
+    let ranged = has_triples(alloc, decoder, (1, 2), &[[7, 8, 9]])?;
+    let trailer = u8::decode(alloc, decoder)?;
     decoder.end()?;
     decoder.finish()?;
     Ok(flag && fixed && ranged && trailer == 0xAB)
@@ -153,13 +181,23 @@ fn has_two_lists(
 #[test]
 fn lists_in_a_sequence(rt: HostRuntime) -> Result<(), Fail> {
     let alloc = rt.alloc();
-    let unaligned = [
-        0x80, 0x81, 0x01, 0x82, 0x02, 0x83, 0x01, 0xC2, 0x02, 0x6A, 0xC0,
+    let messages: [(DecoderOptions, &[u8]); 2] = [
+        (
+            DecoderOptions::unaligned(),
+            &[
+                0x80, 0x81, 0x01, 0x82, 0x02, 0x83, 0x01, 0xC2, 0x02, 0x6A, 0xC0,
+            ],
+        ),
+        (
+            DecoderOptions::aligned(),
+            &[
+                0x80, 0x01, 0x02, 0x03, 0x04, 0x05, 0x06, 0x00, 0x07, 0x08, 0x09, 0xAB,
+            ],
+        ),
     ];
-    assert!(rt; has_two_lists(alloc, &unaligned, DecoderOptions::unaligned())?);
-    let aligned = [
-        0x80, 0x01, 0x02, 0x03, 0x04, 0x05, 0x06, 0x00, 0x07, 0x08, 0x09, 0xAB,
-    ];
-    assert!(rt; has_two_lists(alloc, &aligned, DecoderOptions::aligned())?);
+    for (options, message) in messages {
+        let mut decoder = Decoder::new(alloc, message, options);
+        assert!(rt; has_two_lists(alloc, &mut decoder)?);
+    }
     Ok(())
 }

@@ -10,36 +10,67 @@ use per_codec::uper::{Encoder, EncoderOptions};
 use std::alloc::{AllocError, Global};
 use std::test::Fail;
 
-/// SEQUENCE {a BOOLEAN, ..., of so many additions the last INTEGER (0..255)}, each OPTIONAL, with a true and the last addition 7 alone.
-fn last_of(alloc: Global, options: EncoderOptions, count: usize) -> Result<Vec<u8>, EncodeError> {
-    let mut encoder = Encoder::new(alloc, options);
+/// So many copies of an octet between others.
+#[derive(Clone, Copy)]
+struct Pattern<'a> {
+    front: &'a [u8],
+    octet: u8,
+    count: usize,
+    behind: &'a [u8],
+}
+
+/// So many copies of an octet between others.
+fn around<'a>(front: &'a [u8], (octet, count): (u8, usize), behind: &'a [u8]) -> Pattern<'a> {
+    Pattern {
+        front,
+        octet,
+        count,
+        behind,
+    }
+}
+
+/// The octets themselves.
+fn octets_of(alloc: Global, pattern: Pattern<'_>) -> Result<Vec<u8>, AllocError> {
+    let mut octets = Vec::new(alloc);
+    octets.extend_from_slice(pattern.front)?;
+    for _ in 0..pattern.count {
+        octets.push(pattern.octet)?;
+    }
+    octets.extend_from_slice(pattern.behind)?;
+    Ok(octets)
+}
+
+/// Writes SEQUENCE {a BOOLEAN, ..., of so many additions the last INTEGER (0..255)}, each OPTIONAL, with a true and the last addition 7 alone.
+fn put_last_of(encoder: &mut Encoder, count: usize) -> Result<(), EncodeError> {
     encoder.begin_sequence(Tag::SEQUENCE, true, 0)?;
-    true.encode(&mut encoder)?;
+    true.encode(encoder)?;
     encoder.begin_additions(count)?;
     for _ in 1..count {
         encoder.put_addition(false)?;
     }
     encoder.put_addition(true)?;
-    7u8.encode(&mut encoder)?;
+    7u8.encode(encoder)?;
     encoder.end_addition()?;
-    encoder.end()?;
+    encoder.end()
+}
+
+/// The octets of this sequence.
+fn last_of(alloc: Global, options: EncoderOptions, count: usize) -> Result<Vec<u8>, EncodeError> {
+    let mut encoder = Encoder::new(alloc, options);
+    put_last_of(&mut encoder, count)?;
     encoder.output()
 }
 
-/// So many copies of an octet between others.
-fn around(
+/// Whether this sequence stands in these octets.
+fn last_stands_in(
     alloc: Global,
-    front: &[u8],
-    (octet, count): (u8, usize),
-    behind: &[u8],
-) -> Result<Vec<u8>, AllocError> {
-    let mut octets = Vec::new(alloc);
-    octets.extend_from_slice(front)?;
-    for _ in 0..count {
-        octets.push(octet)?;
-    }
-    octets.extend_from_slice(behind)?;
-    Ok(octets)
+    options: EncoderOptions,
+    count: usize,
+    expected: Pattern<'_>,
+) -> Result<bool, EncodeError> {
+    let written = last_of(alloc, options, count)?;
+    let octets = octets_of(alloc, expected)?;
+    Ok(written == octets)
 }
 
 /// Up to 64 additions are counted in six bits behind a bit that is not set.
@@ -48,17 +79,13 @@ fn bitmaps_of_few_additions(rt: HostRuntime) -> Result<(), Fail> {
     let alloc = rt.alloc();
     let aligned = EncoderOptions::aligned();
     let unaligned = EncoderOptions::unaligned();
-    let of_63 = around(alloc, &[0xDF], (0, 7), &[0x01, 0x01, 0x07])?;
-    assert_eq!(rt; last_of(alloc, unaligned, 63)?, of_63);
-    assert_eq!(rt; last_of(alloc, aligned, 63)?, of_63);
-    assert_eq!(rt;
-        last_of(alloc, unaligned, 64)?,
-        around(alloc, &[0xDF, 0x80], (0, 7), &[0x80, 0x83, 0x80])?
-    );
-    assert_eq!(rt;
-        last_of(alloc, aligned, 64)?,
-        around(alloc, &[0xDF, 0x80], (0, 7), &[0x80, 0x01, 0x07])?
-    );
+    let of_63 = around(&[0xDF], (0, 7), &[0x01, 0x01, 0x07]);
+    assert!(rt; last_stands_in(alloc, unaligned, 63, of_63)?);
+    assert!(rt; last_stands_in(alloc, aligned, 63, of_63)?);
+    let of_64 = around(&[0xDF, 0x80], (0, 7), &[0x80, 0x83, 0x80]);
+    assert!(rt; last_stands_in(alloc, unaligned, 64, of_64)?);
+    let of_64 = around(&[0xDF, 0x80], (0, 7), &[0x80, 0x01, 0x07]);
+    assert!(rt; last_stands_in(alloc, aligned, 64, of_64)?);
     Ok(())
 }
 
@@ -66,14 +93,10 @@ fn bitmaps_of_few_additions(rt: HostRuntime) -> Result<(), Fail> {
 #[test]
 fn bitmap_of_65_additions(rt: HostRuntime) -> Result<(), Fail> {
     let alloc = rt.alloc();
-    assert_eq!(rt;
-        last_of(alloc, EncoderOptions::unaligned(), 65)?,
-        around(alloc, &[0xE8, 0x20], (0, 7), &[0x10, 0x10, 0x70])?
-    );
-    assert_eq!(rt;
-        last_of(alloc, EncoderOptions::aligned(), 65)?,
-        around(alloc, &[0xE0, 0x41], (0, 8), &[0x80, 0x01, 0x07])?
-    );
+    let octets = around(&[0xE8, 0x20], (0, 7), &[0x10, 0x10, 0x70]);
+    assert!(rt; last_stands_in(alloc, EncoderOptions::unaligned(), 65, octets)?);
+    let octets = around(&[0xE0, 0x41], (0, 8), &[0x80, 0x01, 0x07]);
+    assert!(rt; last_stands_in(alloc, EncoderOptions::aligned(), 65, octets)?);
     Ok(())
 }
 
@@ -82,18 +105,12 @@ fn bitmap_of_65_additions(rt: HostRuntime) -> Result<(), Fail> {
 fn bitmaps_of_many_additions(rt: HostRuntime) -> Result<(), Fail> {
     let alloc = rt.alloc();
     let options = EncoderOptions::unaligned();
-    assert_eq!(rt;
-        last_of(alloc, options, 255)?,
-        around(alloc, &[0xF0, 0x1F, 0xE0], (0, 31), &[0x40, 0x41, 0xC0])?
-    );
-    assert_eq!(rt;
-        last_of(alloc, options, 256)?,
-        around(alloc, &[0xF0, 0x20], (0, 32), &[0x20, 0x20, 0xE0])?
-    );
-    assert_eq!(rt;
-        last_of(alloc, options, 257)?,
-        around(alloc, &[0xF0, 0x20, 0x20], (0, 31), &[0x10, 0x10, 0x70])?
-    );
+    let of_255 = around(&[0xF0, 0x1F, 0xE0], (0, 31), &[0x40, 0x41, 0xC0]);
+    assert!(rt; last_stands_in(alloc, options, 255, of_255)?);
+    let of_256 = around(&[0xF0, 0x20], (0, 32), &[0x20, 0x20, 0xE0]);
+    assert!(rt; last_stands_in(alloc, options, 256, of_256)?);
+    let of_257 = around(&[0xF0, 0x20, 0x20], (0, 31), &[0x10, 0x10, 0x70]);
+    assert!(rt; last_stands_in(alloc, options, 257, of_257)?);
     Ok(())
 }
 
@@ -101,35 +118,36 @@ fn bitmaps_of_many_additions(rt: HostRuntime) -> Result<(), Fail> {
 fn bitmaps_of_many_additions_aligned(rt: HostRuntime) -> Result<(), Fail> {
     let alloc = rt.alloc();
     let options = EncoderOptions::aligned();
-    assert_eq!(rt;
-        last_of(alloc, options, 255)?,
-        around(alloc, &[0xE0, 0x80, 0xFF], (0, 31), &[0x02, 0x01, 0x07])?
-    );
-    assert_eq!(rt;
-        last_of(alloc, options, 256)?,
-        around(alloc, &[0xE0, 0x81, 0x00], (0, 31), &[0x01, 0x01, 0x07])?
-    );
-    assert_eq!(rt;
-        last_of(alloc, options, 257)?,
-        around(alloc, &[0xE0, 0x81, 0x01], (0, 32), &[0x80, 0x01, 0x07])?
-    );
+    let of_255 = around(&[0xE0, 0x80, 0xFF], (0, 31), &[0x02, 0x01, 0x07]);
+    assert!(rt; last_stands_in(alloc, options, 255, of_255)?);
+    let of_256 = around(&[0xE0, 0x81, 0x00], (0, 31), &[0x01, 0x01, 0x07]);
+    assert!(rt; last_stands_in(alloc, options, 256, of_256)?);
+    let of_257 = around(&[0xE0, 0x81, 0x01], (0, 32), &[0x80, 0x01, 0x07]);
+    assert!(rt; last_stands_in(alloc, options, 257, of_257)?);
     Ok(())
 }
 
-/// CHOICE {a [0] INTEGER, ..., and 65 added alternatives of INTEGER}: 333 by one of these.
-fn added_alternative(
-    alloc: Global,
-    options: EncoderOptions,
-    place: usize,
-) -> Result<Vec<u8>, EncodeError> {
+/// Writes CHOICE {a [0] INTEGER, ..., and 65 added alternatives of INTEGER}: 333 by one of these.
+fn put_added_alternative(encoder: &mut Encoder, place: usize) -> Result<(), EncodeError> {
     let roots = [Tag::new_context(0)];
     let additions = [Tag::new_context(1); 65];
     let chosen = Chosen::addition(place);
-    let mut encoder = Encoder::new(alloc, options);
     encoder.begin_choice(Tag::new_context(1), &roots, true, &additions, chosen)?;
-    333i64.encode_with_constraints(&mut encoder, Constraints::new(&[]))?;
-    encoder.end()?;
-    encoder.output()
+    333i64.encode_with_constraints(encoder, Constraints::new(&[]))?;
+    encoder.end()
+}
+
+/// Whether this choice stands in these octets.
+fn added_alternative_stands_in(
+    alloc: Global,
+    options: EncoderOptions,
+    place: usize,
+    octets: &[u8],
+) -> Result<bool, EncodeError> {
+    let mut encoder = Encoder::new(alloc, options);
+    put_added_alternative(&mut encoder, place)?;
+    let written = encoder.output()?;
+    Ok(*written.as_slice() == *octets)
 }
 
 /// A normally small number is up to 63 six bits; from 64 on it stands behind its length.
@@ -138,44 +156,60 @@ fn added_alternatives_with_high_numbers(rt: HostRuntime) -> Result<(), Fail> {
     let alloc = rt.alloc();
     let aligned = EncoderOptions::aligned();
     let unaligned = EncoderOptions::unaligned();
-    let of_63 = [0xBFu8, 0x03, 0x02, 0x01, 0x4D];
-    assert_eq!(rt;
-        added_alternative(alloc, unaligned, 63)?.as_slice(),
-        of_63.as_slice()
-    );
-    assert_eq!(rt;
-        added_alternative(alloc, aligned, 63)?.as_slice(),
-        of_63.as_slice()
-    );
-    assert_eq!(rt;
-        added_alternative(alloc, unaligned, 64)?.as_slice(),
-        [0xC0u8, 0x50, 0x00, 0xC0, 0x80, 0x53, 0x40].as_slice()
-    );
-    assert_eq!(rt;
-        added_alternative(alloc, aligned, 64)?.as_slice(),
-        [0xC0u8, 0x01, 0x40, 0x03, 0x02, 0x01, 0x4D].as_slice()
-    );
+    let of_63 = [0xBF, 0x03, 0x02, 0x01, 0x4D];
+    assert!(rt; added_alternative_stands_in(alloc, unaligned, 63, &of_63)?);
+    assert!(rt; added_alternative_stands_in(alloc, aligned, 63, &of_63)?);
+    let of_64 = [0xC0, 0x50, 0x00, 0xC0, 0x80, 0x53, 0x40];
+    assert!(rt; added_alternative_stands_in(alloc, unaligned, 64, &of_64)?);
+    let of_64 = [0xC0, 0x01, 0x40, 0x03, 0x02, 0x01, 0x4D];
+    assert!(rt; added_alternative_stands_in(alloc, aligned, 64, &of_64)?);
     Ok(())
 }
 
-/// SEQUENCE {a BOOLEAN, ..., b OCTET STRING (SIZE (count)) OPTIONAL} with a true and as many octets FF in b.
+/// Writes OCTET STRING (SIZE (count)) with as many octets FF.
+fn put_string(alloc: Global, encoder: &mut Encoder, count: usize) -> Result<(), EncodeError> {
+    let size = Extensible::new(Size::new(Bounded::const_new(count, count)));
+    let octets = octets_of(alloc, around(&[], (0xFF, count), &[]))?;
+    let string = OctetString::from_slice(alloc, &octets)?;
+    string.encode_with_constraints(encoder, Constraints::new(&[Constraint::Size(size)]))
+}
+
+/// Writes SEQUENCE {a BOOLEAN, ..., b OCTET STRING (SIZE (count)) OPTIONAL} with a true and as many octets FF in b.
+fn put_long_addition(
+    alloc: Global,
+    encoder: &mut Encoder,
+    count: usize,
+) -> Result<(), EncodeError> {
+    encoder.begin_sequence(Tag::SEQUENCE, true, 0)?;
+    true.encode(encoder)?;
+    encoder.begin_additions(1)?;
+    encoder.put_addition(true)?;
+    put_string(alloc, encoder, count)?;
+    encoder.end_addition()?;
+    encoder.end()
+}
+
+/// The octets of this sequence.
 fn long_addition(
     alloc: Global,
     options: EncoderOptions,
     count: usize,
 ) -> Result<Vec<u8>, EncodeError> {
-    let size = Extensible::new(Size::new(Bounded::const_new(count, count)));
-    let octets = around(alloc, &[], (0xFF, count), &[])?;
     let mut encoder = Encoder::new(alloc, options);
-    encoder.begin_sequence(Tag::SEQUENCE, true, 0)?;
-    true.encode(&mut encoder)?;
-    encoder.begin_additions(1)?;
-    encoder.put_addition(true)?;
-    let string = OctetString::from_slice(alloc, octets.as_slice())?;
-    string.encode_with_constraints(&mut encoder, Constraints::new(&[Constraint::Size(size)]))?;
-    encoder.end_addition()?;
-    encoder.end()?;
+    put_long_addition(alloc, &mut encoder, count)?;
     encoder.output()
+}
+
+/// Whether this sequence stands in these octets.
+fn long_addition_stands_in(
+    alloc: Global,
+    options: EncoderOptions,
+    count: usize,
+    expected: Pattern<'_>,
+) -> Result<bool, EncodeError> {
+    let written = long_addition(alloc, options, count)?;
+    let octets = octets_of(alloc, expected)?;
+    Ok(written == octets)
 }
 
 /// From 16384 octets on an open type stands in fragments, behind which comes the length of the rest, even of none.
@@ -183,19 +217,10 @@ fn long_addition(
 fn open_types_in_fragments(rt: HostRuntime) -> Result<(), Fail> {
     let alloc = rt.alloc();
     let options = EncoderOptions::unaligned();
-    assert_eq!(rt;
-        long_addition(alloc, options, 16384)?,
-        around(alloc, &[0xC0, 0x70, 0x7F], (0xFF, 16383), &[0xC0, 0x00])?
-    );
-    assert_eq!(rt;
-        long_addition(alloc, options, 16385)?,
-        around(
-            alloc,
-            &[0xC0, 0x70, 0x7F],
-            (0xFF, 16383),
-            &[0xC0, 0x7F, 0xC0]
-        )?
-    );
+    let whole = around(&[0xC0, 0x70, 0x7F], (0xFF, 16383), &[0xC0, 0x00]);
+    assert!(rt; long_addition_stands_in(alloc, options, 16384, whole)?);
+    let more = around(&[0xC0, 0x70, 0x7F], (0xFF, 16383), &[0xC0, 0x7F, 0xC0]);
+    assert!(rt; long_addition_stands_in(alloc, options, 16385, more)?);
     Ok(())
 }
 
@@ -203,13 +228,9 @@ fn open_types_in_fragments(rt: HostRuntime) -> Result<(), Fail> {
 fn open_types_in_fragments_aligned(rt: HostRuntime) -> Result<(), Fail> {
     let alloc = rt.alloc();
     let options = EncoderOptions::aligned();
-    assert_eq!(rt;
-        long_addition(alloc, options, 16384)?,
-        around(alloc, &[0xC0, 0x40, 0xC1], (0xFF, 16384), &[0x00])?
-    );
-    assert_eq!(rt;
-        long_addition(alloc, options, 16385)?,
-        around(alloc, &[0xC0, 0x40, 0xC1], (0xFF, 16384), &[0x01, 0xFF])?
-    );
+    let whole = around(&[0xC0, 0x40, 0xC1], (0xFF, 16384), &[0x00]);
+    assert!(rt; long_addition_stands_in(alloc, options, 16384, whole)?);
+    let more = around(&[0xC0, 0x40, 0xC1], (0xFF, 16384), &[0x01, 0xFF]);
+    assert!(rt; long_addition_stands_in(alloc, options, 16385, more)?);
     Ok(())
 }

@@ -12,15 +12,27 @@ use per_codec::uper::{Encoder, EncoderOptions};
 use std::alloc::Global;
 use std::test::Fail;
 
-/// SEQUENCE (SIZE (low..high)) OF OCTET STRING (SIZE (3)).
-fn triples(
+/// Whether what the encoder has written is these octets, which are taken from it.
+fn has_written(encoder: &mut Encoder, octets: &[u8]) -> Result<bool, EncodeError> {
+    let written = encoder.output()?;
+    Ok(*written.as_slice() == *octets)
+}
+
+/// Writes OCTET STRING (SIZE (3)).
+fn put_triple(alloc: Global, encoder: &mut Encoder, member: &[u8; 3]) -> Result<(), EncodeError> {
+    let three = Extensible::new(Size::new(Bounded::const_new(3, 3)));
+    let octets = OctetString::from_slice(alloc, member)?;
+    octets.encode_with_constraints(encoder, Constraints::new(&[Constraint::Size(three)]))
+}
+
+/// Writes SEQUENCE (SIZE (low..high)) OF OCTET STRING (SIZE (3)).
+fn put_triples(
     alloc: Global,
     encoder: &mut Encoder,
     (low, high): (usize, usize),
     members: &[[u8; 3]],
 ) -> Result<(), EncodeError> {
     let size = Extensible::new(Size::new(Bounded::const_new(low, high)));
-    let three = Extensible::new(Size::new(Bounded::const_new(3, 3)));
     encoder.begin_list(
         Tag::SEQUENCE,
         Constraints::new(&[Constraint::Size(size)]),
@@ -29,83 +41,107 @@ fn triples(
     )?;
     for member in members {
         encoder.put_further(true)?;
-        let octets = OctetString::from_slice(alloc, member)?;
-        octets.encode_with_constraints(encoder, Constraints::new(&[Constraint::Size(three)]))?;
+        put_triple(alloc, encoder, member)?;
     }
     encoder.put_further(false)?;
-    encoder.end()?;
-    Ok(())
+    encoder.end()
 }
 
-/// SEQUENCE {flag BOOLEAN, fixed SEQUENCE (SIZE (2)) OF .., ranged SEQUENCE (SIZE (1..2)) OF .., trailer INTEGER (0..255)}.
-fn two_lists(alloc: Global, options: EncoderOptions) -> Result<Vec<u8>, EncodeError> {
-    let mut encoder = Encoder::new(alloc, options);
+/// Writes SEQUENCE {flag BOOLEAN, fixed SEQUENCE (SIZE (2)) OF .., ranged SEQUENCE (SIZE (1..2)) OF .., trailer INTEGER (0..255)}.
+fn put_two_lists(alloc: Global, encoder: &mut Encoder) -> Result<(), EncodeError> {
     encoder.begin_sequence(Tag::SEQUENCE, false, 0)?;
-    true.encode(&mut encoder)?;
-    triples(alloc, &mut encoder, (2, 2), &[[1, 2, 3], [4, 5, 6]])?;
-    triples(alloc, &mut encoder, (1, 2), &[[7, 8, 9]])?;
-    0xABu8.encode(&mut encoder)?;
-    encoder.end()?;
-    encoder.output()
+    true.encode(encoder)?;
+    put_triples(alloc, encoder, (2, 2), &[[1, 2, 3], [4, 5, 6]])?;
+    put_triples(alloc, encoder, (1, 2), &[[7, 8, 9]])?;
+    0xABu8.encode(encoder)?;
+    encoder.end()
 }
 
-/// SEQUENCE {a INTEGER (0..65535) OPTIONAL, b BOOLEAN OPTIONAL} with a alone.
-fn optional_word(alloc: Global, options: EncoderOptions) -> Result<Vec<u8>, EncodeError> {
+/// Whether the two lists stand in these octets.
+fn two_lists_stand_in(
+    alloc: Global,
+    options: EncoderOptions,
+    octets: &[u8],
+) -> Result<bool, EncodeError> {
     let mut encoder = Encoder::new(alloc, options);
+    put_two_lists(alloc, &mut encoder)?;
+    has_written(&mut encoder, octets)
+}
+
+/// Writes SEQUENCE {a INTEGER (0..65535) OPTIONAL, b BOOLEAN OPTIONAL} with a alone.
+fn put_optional_word(encoder: &mut Encoder) -> Result<(), EncodeError> {
     encoder.begin_sequence(Tag::SEQUENCE, false, 2)?;
     encoder.put_mark(true)?;
-    0x1234u16.encode(&mut encoder)?;
+    0x1234u16.encode(encoder)?;
     encoder.put_mark(false)?;
-    encoder.end()?;
-    encoder.output_into_vec()
+    encoder.end()
+}
+
+/// Whether the word that may be absent stands in these octets, which the encoder becomes.
+fn optional_word_stands_in(
+    alloc: Global,
+    options: EncoderOptions,
+    octets: &[u8],
+) -> Result<bool, EncodeError> {
+    let mut encoder = Encoder::new(alloc, options);
+    put_optional_word(&mut encoder)?;
+    let written = encoder.output_into_vec()?;
+    Ok(*written.as_slice() == *octets)
 }
 
 #[test]
 fn lists_in_a_sequence(rt: HostRuntime) -> Result<(), Fail> {
     let alloc = rt.alloc();
-    assert_eq!(rt;
-        two_lists(alloc, EncoderOptions::unaligned())?.as_slice(),
-        [
-            0x80u8, 0x81, 0x01, 0x82, 0x02, 0x83, 0x01, 0xC2, 0x02, 0x6A, 0xC0
-        ]
-        .as_slice()
-    );
-    assert_eq!(rt;
-        two_lists(alloc, EncoderOptions::aligned())?.as_slice(),
-        [
-            0x80u8, 0x01, 0x02, 0x03, 0x04, 0x05, 0x06, 0x00, 0x07, 0x08, 0x09, 0xAB
-        ]
-        .as_slice()
-    );
+    let unaligned = [
+        0x80, 0x81, 0x01, 0x82, 0x02, 0x83, 0x01, 0xC2, 0x02, 0x6A, 0xC0,
+    ];
+    assert!(rt; two_lists_stand_in(alloc, EncoderOptions::unaligned(), &unaligned)?);
+    let aligned = [
+        0x80, 0x01, 0x02, 0x03, 0x04, 0x05, 0x06, 0x00, 0x07, 0x08, 0x09, 0xAB,
+    ];
+    assert!(rt; two_lists_stand_in(alloc, EncoderOptions::aligned(), &aligned)?);
     Ok(())
 }
 
 #[test]
 fn components_that_may_be_absent(rt: HostRuntime) -> Result<(), Fail> {
     let alloc = rt.alloc();
-    assert_eq!(rt;
-        optional_word(alloc, EncoderOptions::unaligned())?.as_slice(),
-        [0x84u8, 0x8D, 0x00].as_slice()
-    );
-    assert_eq!(rt;
-        optional_word(alloc, EncoderOptions::aligned())?.as_slice(),
-        [0x80u8, 0x12, 0x34].as_slice()
-    );
+    let unaligned = [0x84, 0x8D, 0x00];
+    assert!(rt; optional_word_stands_in(alloc, EncoderOptions::unaligned(), &unaligned)?);
+    let aligned = [0x80, 0x12, 0x34];
+    assert!(rt; optional_word_stands_in(alloc, EncoderOptions::aligned(), &aligned)?);
     Ok(())
+}
+
+/// Writes SEQUENCE OF BOOLEAN with so many members, each of them true.
+fn put_truths(alloc: Global, encoder: &mut Encoder, count: usize) -> Result<(), EncodeError> {
+    let mut members = Vec::new(alloc);
+    members.resize(count, true)?;
+    members.encode(encoder)
+}
+
+/// The octets of so many truths in the aligned variant.
+fn truths(alloc: Global, count: usize) -> Result<Vec<u8>, EncodeError> {
+    let mut encoder = Encoder::new(alloc, EncoderOptions::aligned());
+    put_truths(alloc, &mut encoder, count)?;
+    encoder.output()
 }
 
 #[test]
 fn members_in_fragments(rt: HostRuntime) -> Result<(), Fail> {
-    let alloc = rt.alloc();
-    let mut encoder = Encoder::new(alloc, EncoderOptions::aligned());
-    let mut members = Vec::new(alloc);
-    members.resize(16385, true)?;
-    members.encode(&mut encoder)?;
-    let octets = encoder.output()?;
+    let octets = truths(rt.alloc(), 16385)?;
     assert_eq!(rt; octets.len(), 2051);
     assert_eq!(rt; &octets.as_slice()[..2], [0xC1u8, 0xFF].as_slice());
     assert_eq!(rt; &octets.as_slice()[2048..], [0xFFu8, 0x01, 0x80].as_slice());
     Ok(())
+}
+
+/// Whether the octet of TRUE is taken from an encoder once, and of what is left then, which is nothing, the octet of no bits.
+fn gives_true_once(encoder: &mut Encoder) -> Result<bool, EncodeError> {
+    true.encode(encoder)?;
+    let first = has_written(encoder, &[0x80])?;
+    let second = has_written(encoder, &[0x00])?;
+    Ok(first && second)
 }
 
 #[test]
@@ -113,127 +149,128 @@ fn what_is_held_is_taken_once(rt: HostRuntime) -> Result<(), Fail> {
     let alloc = rt.alloc();
     let room = vec![in alloc; 1u8, 2, 3]?;
     let mut encoder = Encoder::new_with_output(alloc, EncoderOptions::unaligned(), room);
-    true.encode(&mut encoder)?;
-    assert_eq!(rt; encoder.output()?.as_slice(), [0x80u8].as_slice());
-    assert_eq!(rt; encoder.output()?.as_slice(), [0x00u8].as_slice());
+    let given = gives_true_once(&mut encoder);
+    assert_eq!(rt; given, Ok(true));
     assert_eq!(rt; encoder.end(), Err(EncodeError::SizeConstraintNotSatisfied));
     assert_eq!(rt; encoder.put_mark(true), Err(EncodeError::AlreadyFailed));
     Ok(())
 }
 
-/// INTEGER (0..255).
-fn octet(encoder: &mut Encoder, value: u8) -> Result<(), EncodeError> {
-    value.encode(encoder)?;
-    Ok(())
-}
-
-/// SEQUENCE {a BOOLEAN, ..., b INTEGER (0..255) OPTIONAL} with a true.
-fn with_addition(
-    alloc: Global,
-    options: EncoderOptions,
-    added: Option<u8>,
-) -> Result<Vec<u8>, EncodeError> {
-    let mut encoder = Encoder::new(alloc, options);
+/// Writes SEQUENCE {a BOOLEAN, ..., b INTEGER (0..255) OPTIONAL} with a true.
+fn put_with_addition(encoder: &mut Encoder, added: Option<u8>) -> Result<(), EncodeError> {
     encoder.begin_sequence(Tag::SEQUENCE, true, 0)?;
-    true.encode(&mut encoder)?;
+    true.encode(encoder)?;
     encoder.begin_additions(1)?;
     encoder.put_addition(added.is_some())?;
     if let Some(value) = added {
-        octet(&mut encoder, value)?;
+        value.encode(encoder)?;
         encoder.end_addition()?;
     }
-    encoder.end()?;
-    encoder.output()
+    encoder.end()
+}
+
+/// Whether this sequence stands in these octets.
+fn with_addition_stands_in(
+    alloc: Global,
+    options: EncoderOptions,
+    added: Option<u8>,
+    octets: &[u8],
+) -> Result<bool, EncodeError> {
+    let mut encoder = Encoder::new(alloc, options);
+    put_with_addition(&mut encoder, added)?;
+    has_written(&mut encoder, octets)
 }
 
 #[test]
 fn addition_there(rt: HostRuntime) -> Result<(), Fail> {
-    let octets = with_addition(rt.alloc(), EncoderOptions::unaligned(), Some(7))?;
-    assert_eq!(rt; octets.as_slice(), [0xC0u8, 0x40, 0x41, 0xC0].as_slice());
+    let octets = [0xC0, 0x40, 0x41, 0xC0];
+    assert!(rt;
+        with_addition_stands_in(rt.alloc(), EncoderOptions::unaligned(), Some(7), &octets)?
+    );
     Ok(())
 }
 
 #[test]
 fn addition_there_aligned(rt: HostRuntime) -> Result<(), Fail> {
-    let octets = with_addition(rt.alloc(), EncoderOptions::aligned(), Some(7))?;
-    assert_eq!(rt; octets.as_slice(), [0xC0u8, 0x40, 0x01, 0x07].as_slice());
+    let octets = [0xC0, 0x40, 0x01, 0x07];
+    assert!(rt; with_addition_stands_in(rt.alloc(), EncoderOptions::aligned(), Some(7), &octets)?);
     Ok(())
 }
 
 #[test]
 fn addition_absent(rt: HostRuntime) -> Result<(), Fail> {
-    let octets = with_addition(rt.alloc(), EncoderOptions::unaligned(), None)?;
-    assert_eq!(rt; octets.as_slice(), [0x40u8].as_slice());
+    assert!(rt; with_addition_stands_in(rt.alloc(), EncoderOptions::unaligned(), None, &[0x40])?);
     Ok(())
 }
 
-/// SEQUENCE {a BOOLEAN, ..., [[x INTEGER (0..255) OPTIONAL]]} with a true and x 7.
-#[test]
-fn group_of_additions(rt: HostRuntime) -> Result<(), Fail> {
-    let mut encoder = Encoder::new(rt.alloc(), EncoderOptions::unaligned());
+/// Writes SEQUENCE {a BOOLEAN, ..., [[x INTEGER (0..255) OPTIONAL]]} with a true and x 7.
+fn put_group(encoder: &mut Encoder) -> Result<(), EncodeError> {
     encoder.begin_sequence(Tag::SEQUENCE, true, 0)?;
-    true.encode(&mut encoder)?;
+    true.encode(encoder)?;
     encoder.begin_additions(1)?;
     encoder.put_addition(true)?;
     encoder.begin_group(1)?;
     encoder.put_mark(true)?;
-    octet(&mut encoder, 7)?;
+    7u8.encode(encoder)?;
     encoder.end()?;
     encoder.end_addition()?;
-    encoder.end()?;
-    let octets = encoder.output()?;
-    assert_eq!(rt;
-        octets.as_slice(),
-        [0xC0u8, 0x40, 0xA0, 0xE0, 0x00].as_slice()
-    );
+    encoder.end()
+}
+
+#[test]
+fn group_of_additions(rt: HostRuntime) -> Result<(), Fail> {
+    let mut encoder = Encoder::new(rt.alloc(), EncoderOptions::unaligned());
+    put_group(&mut encoder)?;
+    assert!(rt; has_written(&mut encoder, &[0xC0, 0x40, 0xA0, 0xE0, 0x00])?);
     Ok(())
 }
 
-/// CHOICE {a [0] INTEGER, b [1] INTEGER, ..., c [2] INTEGER}.
-fn alternative(
-    alloc: Global,
-    options: EncoderOptions,
-    chosen: Chosen,
-    value: i64,
-) -> Result<Vec<u8>, EncodeError> {
+/// Writes CHOICE {a [0] INTEGER, b [1] INTEGER, ..., c [2] INTEGER}.
+fn put_alternative(encoder: &mut Encoder, chosen: Chosen, value: i64) -> Result<(), EncodeError> {
     let tags = [
         Tag::new_context(0),
         Tag::new_context(1),
         Tag::new_context(2),
     ];
-    let mut encoder = Encoder::new(alloc, options);
     encoder.begin_choice(Tag::new_context(0), &tags[..2], true, &tags[2..], chosen)?;
-    value.encode_with_constraints(&mut encoder, Constraints::new(&[]))?;
-    encoder.end()?;
-    encoder.output()
+    value.encode_with_constraints(encoder, Constraints::new(&[]))?;
+    encoder.end()
+}
+
+/// Whether this choice stands in these octets.
+fn alternative_stands_in(
+    alloc: Global,
+    options: EncoderOptions,
+    chosen: Chosen,
+    value: i64,
+    octets: &[u8],
+) -> Result<bool, EncodeError> {
+    let mut encoder = Encoder::new(alloc, options);
+    put_alternative(&mut encoder, chosen, value)?;
+    has_written(&mut encoder, octets)
 }
 
 #[test]
 fn added_alternative(rt: HostRuntime) -> Result<(), Fail> {
-    let octets = alternative(
-        rt.alloc(),
-        EncoderOptions::unaligned(),
-        Chosen::addition(0),
-        333,
-    )?;
-    assert_eq!(rt;
-        octets.as_slice(),
-        [0x80u8, 0x03, 0x02, 0x01, 0x4D].as_slice()
-    );
+    let options = EncoderOptions::unaligned();
+    let octets = [0x80, 0x03, 0x02, 0x01, 0x4D];
+    assert!(rt; alternative_stands_in(rt.alloc(), options, Chosen::addition(0), 333, &octets)?);
     Ok(())
 }
 
 #[test]
 fn root_alternative(rt: HostRuntime) -> Result<(), Fail> {
-    let octets = alternative(rt.alloc(), EncoderOptions::unaligned(), Chosen::root(1), 1)?;
-    assert_eq!(rt; octets.as_slice(), [0x40u8, 0x40, 0x40].as_slice());
+    let options = EncoderOptions::unaligned();
+    let octets = [0x40, 0x40, 0x40];
+    assert!(rt; alternative_stands_in(rt.alloc(), options, Chosen::root(1), 1, &octets)?);
     Ok(())
 }
 
 #[test]
 fn root_alternative_aligned(rt: HostRuntime) -> Result<(), Fail> {
-    let octets = alternative(rt.alloc(), EncoderOptions::aligned(), Chosen::root(1), 1)?;
-    assert_eq!(rt; octets.as_slice(), [0x40u8, 0x01, 0x01].as_slice());
+    let options = EncoderOptions::aligned();
+    let octets = [0x40, 0x01, 0x01];
+    assert!(rt; alternative_stands_in(rt.alloc(), options, Chosen::root(1), 1, &octets)?);
     Ok(())
 }
 
@@ -246,10 +283,9 @@ fn added_alternative_without_a_mark(rt: HostRuntime) -> Result<(), Fail> {
     Ok(())
 }
 
-/// Nest ::= CHOICE {leaf [0] NULL, more [1] Nest}: leaf within more, so many times.
-fn nested(alloc: Global, further: usize) -> Result<Vec<u8>, EncodeError> {
+/// Writes Nest ::= CHOICE {leaf [0] NULL, more [1] Nest}: leaf within more, so many times.
+fn put_nested(encoder: &mut Encoder, further: usize) -> Result<(), EncodeError> {
     let tags = [Tag::new_context(0), Tag::new_context(1)];
-    let mut encoder = Encoder::new(alloc, EncoderOptions::unaligned());
     for _ in 0..further {
         encoder.begin_choice(Tag::new_context(1), &tags, false, &[], Chosen::root(1))?;
     }
@@ -259,6 +295,13 @@ fn nested(alloc: Global, further: usize) -> Result<Vec<u8>, EncodeError> {
     for _ in 0..further {
         encoder.end()?;
     }
+    Ok(())
+}
+
+/// The octets of that choice.
+fn nested(alloc: Global, further: usize) -> Result<Vec<u8>, EncodeError> {
+    let mut encoder = Encoder::new(alloc, EncoderOptions::unaligned());
+    put_nested(&mut encoder, further)?;
     encoder.output()
 }
 
@@ -275,7 +318,7 @@ fn alternatives_in_alternatives(rt: HostRuntime) -> Result<(), Fail> {
 fn second_item(rt: HostRuntime) -> Result<(), Fail> {
     let mut encoder = Encoder::new(rt.alloc(), EncoderOptions::unaligned());
     encoder.encode_enumerated(Tag::ENUMERATED, &Answer::Yes, Identifier::ENUMERATED)?;
-    assert_eq!(rt; encoder.output()?.as_slice(), [0x80u8].as_slice());
+    assert!(rt; has_written(&mut encoder, &[0x80])?);
     Ok(())
 }
 
@@ -283,7 +326,7 @@ fn second_item(rt: HostRuntime) -> Result<(), Fail> {
 fn first_item(rt: HostRuntime) -> Result<(), Fail> {
     let mut encoder = Encoder::new(rt.alloc(), EncoderOptions::unaligned());
     encoder.encode_enumerated(Tag::ENUMERATED, &Answer::No, Identifier::ENUMERATED)?;
-    assert_eq!(rt; encoder.output()?.as_slice(), [0x00u8].as_slice());
+    assert!(rt; has_written(&mut encoder, &[0x00])?);
     Ok(())
 }
 
@@ -291,84 +334,75 @@ fn first_item(rt: HostRuntime) -> Result<(), Fail> {
 fn added_item(rt: HostRuntime) -> Result<(), Fail> {
     let mut encoder = Encoder::new(rt.alloc(), EncoderOptions::unaligned());
     encoder.encode_enumerated(Tag::ENUMERATED, &Colour::Blue, Identifier::ENUMERATED)?;
-    assert_eq!(rt; encoder.output()?.as_slice(), [0x80u8].as_slice());
+    assert!(rt; has_written(&mut encoder, &[0x80])?);
     Ok(())
 }
 
-/// SET OF INTEGER, unaligned.
-fn bag_of_numbers(alloc: Global, values: &[i64]) -> Result<Vec<u8>, EncodeError> {
-    let mut encoder = Encoder::new(alloc, EncoderOptions::unaligned());
+/// Writes SET OF INTEGER.
+fn put_bag_of_numbers(encoder: &mut Encoder, values: &[i64]) -> Result<(), EncodeError> {
     encoder.begin_bag(Tag::SET, Constraints::new(&[]), Bounded::None, values.len())?;
     for value in values {
         encoder.put_further(true)?;
-        value.encode_with_constraints(&mut encoder, Constraints::new(&[]))?;
+        value.encode_with_constraints(encoder, Constraints::new(&[]))?;
     }
     encoder.put_further(false)?;
-    encoder.end()?;
-    encoder.output()
+    encoder.end()
 }
 
 #[test]
 fn members_of_a_bag_in_their_order(rt: HostRuntime) -> Result<(), Fail> {
-    let octets = bag_of_numbers(rt.alloc(), &[256, -1, 1])?;
-    assert_eq!(rt;
-        octets.as_slice(),
-        [0x03u8, 0x01, 0x01, 0x01, 0xFF, 0x02, 0x01, 0x00].as_slice()
-    );
+    let octets = [0x03, 0x01, 0x01, 0x01, 0xFF, 0x02, 0x01, 0x00];
+    let mut encoder = Encoder::new(rt.alloc(), EncoderOptions::unaligned());
+    put_bag_of_numbers(&mut encoder, &[256, -1, 1])?;
+    assert!(rt; has_written(&mut encoder, &octets)?);
     Ok(())
 }
 
-/// SEQUENCE {a BOOLEAN, b SET (SIZE (1..2)) OF SEQUENCE {c BOOLEAN, d INTEGER (0..65535)}} with a true.
-fn bag_behind_a_bit(
-    alloc: Global,
-    options: EncoderOptions,
-    members: &[(bool, u16)],
-) -> Result<Vec<u8>, EncodeError> {
+/// Writes SEQUENCE {c BOOLEAN, d INTEGER (0..65535)}.
+fn put_pair(encoder: &mut Encoder, (flag, word): (bool, u16)) -> Result<(), EncodeError> {
+    encoder.begin_sequence(Tag::SEQUENCE, false, 0)?;
+    flag.encode(encoder)?;
+    word.encode(encoder)?;
+    encoder.end()
+}
+
+/// Writes SEQUENCE {a BOOLEAN, b SET (SIZE (1..2)) OF SEQUENCE {c BOOLEAN, d INTEGER (0..65535)}} with a true.
+fn put_bag_behind_a_bit(encoder: &mut Encoder, members: &[(bool, u16)]) -> Result<(), EncodeError> {
     let size = Extensible::new(Size::new(Bounded::const_new(1, 2)));
     let sized = Constraints::new(&[Constraint::Size(size)]);
-    let mut encoder = Encoder::new(alloc, options);
     encoder.begin_sequence(Tag::SEQUENCE, false, 0)?;
-    true.encode(&mut encoder)?;
+    true.encode(encoder)?;
     encoder.begin_bag(Tag::SET, sized, Bounded::None, members.len())?;
-    for (flag, word) in members {
+    for member in members {
         encoder.put_further(true)?;
-        encoder.begin_sequence(Tag::SEQUENCE, false, 0)?;
-        flag.encode(&mut encoder)?;
-        word.encode(&mut encoder)?;
-        encoder.end()?;
+        put_pair(encoder, *member)?;
     }
     encoder.put_further(false)?;
     encoder.end()?;
-    encoder.end()?;
-    encoder.output()
+    encoder.end()
 }
 
 #[test]
 fn bag_behind_other_bits(rt: HostRuntime) -> Result<(), Fail> {
-    let members = [(true, 1u16), (false, 2)];
-    let octets = bag_behind_a_bit(rt.alloc(), EncoderOptions::unaligned(), &members)?;
-    assert_eq!(rt;
-        octets.as_slice(),
-        [0xC0u8, 0x00, 0x50, 0x00, 0x10].as_slice()
-    );
+    let mut encoder = Encoder::new(rt.alloc(), EncoderOptions::unaligned());
+    put_bag_behind_a_bit(&mut encoder, &[(true, 1), (false, 2)])?;
+    assert!(rt; has_written(&mut encoder, &[0xC0, 0x00, 0x50, 0x00, 0x10])?);
     Ok(())
 }
 
 #[test]
 fn members_of_a_bag_filled_where_they_stand(rt: HostRuntime) -> Result<(), Fail> {
-    let members = [(true, 1u16), (false, 2)];
-    let octets = bag_behind_a_bit(rt.alloc(), EncoderOptions::aligned(), &members)?;
-    assert_eq!(rt;
-        octets.as_slice(),
-        [0xC0u8, 0x00, 0x02, 0x80, 0x00, 0x01].as_slice()
-    );
+    let mut encoder = Encoder::new(rt.alloc(), EncoderOptions::aligned());
+    put_bag_behind_a_bit(&mut encoder, &[(true, 1), (false, 2)])?;
+    assert!(rt; has_written(&mut encoder, &[0xC0, 0x00, 0x02, 0x80, 0x00, 0x01])?);
     Ok(())
 }
 
 #[test]
 fn bag_with_too_many_members(rt: HostRuntime) -> Result<(), Fail> {
-    let members = [(true, 1u16), (false, 2), (false, 3)];
-    let answer = bag_behind_a_bit(rt.alloc(), EncoderOptions::aligned(), &members);
+    let members = [(true, 1), (false, 2), (false, 3)];
+    let mut encoder = Encoder::new(rt.alloc(), EncoderOptions::aligned());
+    let answer = put_bag_behind_a_bit(&mut encoder, &members);
     assert_eq!(rt; answer.is_err(), true);
     Ok(())
 }

@@ -27,23 +27,41 @@ fn marked(low: i128, high: i128) -> Constraints<'static> {
     under(Bounded::const_new(low, high), true)
 }
 
-fn integer<I: IntegerType + Drop>(
+fn integer<I: IntegerType>(
     alloc: Global,
     aligned: bool,
     constraints: Constraints,
-    value: I,
+    value: &I,
 ) -> Result<BitBuffer, EncodeError> {
     let mut output = Packing::new(alloc);
-    push_integer(&mut output, aligned, constraints, &value)?;
+    push_integer(&mut output, aligned, constraints, value)?;
     Ok(output.into_bits())
+}
+
+/// Whether the number stands in these octets.
+fn stands_in<I: IntegerType>(
+    alloc: Global,
+    aligned: bool,
+    constraints: Constraints,
+    value: &I,
+    octets: &[u8],
+) -> Result<bool, EncodeError> {
+    let bits = integer(alloc, aligned, constraints, value)?;
+    Ok(*bits.as_bytes() == *octets)
+}
+
+/// Writes three truth values.
+fn push_truth_values(output: &mut Packing) -> Result<(), EncodeError> {
+    push_boolean(output, false, true)?;
+    push_boolean(output, true, false)?;
+    push_boolean(output, true, true)
 }
 
 #[test]
 fn truth_values(rt: HostRuntime) -> Result<(), Fail> {
     let mut output = Packing::new(rt.alloc());
-    push_boolean(&mut output, false, true)?;
-    push_boolean(&mut output, true, false)?;
-    push_boolean(&mut output, true, true)?;
+    let pushed = push_truth_values(&mut output);
+    assert_eq!(rt; pushed, Ok(()));
     assert_eq!(rt; output.len(), 3);
     assert_eq!(rt; output.as_bits().as_bytes(), [0xA0u8].as_slice());
     Ok(())
@@ -53,25 +71,13 @@ fn truth_values(rt: HostRuntime) -> Result<(), Fail> {
 fn between_bounds(rt: HostRuntime) -> Result<(), Fail> {
     let alloc = rt.alloc();
     let range = between(256, 1234567);
-    assert_eq!(rt;
-        integer(alloc, false, range, 1234567u32)?.as_bytes(),
-        [0x96u8, 0xAC, 0x38].as_slice()
-    );
-    assert_eq!(rt;
-        integer(alloc, true, range, 1234567u32)?.as_bytes(),
-        [0x80u8, 0x12, 0xD5, 0x87].as_slice()
-    );
+    assert!(rt; stands_in(alloc, false, range, &1234567u32, &[0x96, 0xAC, 0x38])?);
+    assert!(rt; stands_in(alloc, true, range, &1234567u32, &[0x80, 0x12, 0xD5, 0x87])?);
     let one = under(Bounded::single_value(38), false);
-    assert!(rt; integer(alloc, true, one, 38u8)?.is_empty());
+    assert!(rt; stands_in(alloc, true, one, &38u8, &[])?);
     let all = between(i128::MIN, i128::MAX);
-    assert_eq!(rt;
-        integer(alloc, false, all, i128::MAX)?.as_bytes(),
-        [0xFFu8; 16].as_slice()
-    );
-    assert_eq!(rt;
-        integer(alloc, true, all, i128::MIN)?.as_bytes(),
-        [0x00u8, 0x00].as_slice()
-    );
+    assert!(rt; stands_in(alloc, false, all, &i128::MAX, &[0xFF; 16])?);
+    assert!(rt; stands_in(alloc, true, all, &i128::MIN, &[0x00, 0x00])?);
     Ok(())
 }
 
@@ -79,22 +85,10 @@ fn between_bounds(rt: HostRuntime) -> Result<(), Fail> {
 fn marked_bounds(rt: HostRuntime) -> Result<(), Fail> {
     let alloc = rt.alloc();
     let range = marked(0, 255);
-    assert_eq!(rt;
-        integer(alloc, false, range, 7u8)?.as_bytes(),
-        [0x03u8, 0x80].as_slice()
-    );
-    assert_eq!(rt;
-        integer(alloc, true, range, 7u8)?.as_bytes(),
-        [0x00u8, 0x07].as_slice()
-    );
-    assert_eq!(rt;
-        integer(alloc, false, range, 300i64)?.as_bytes(),
-        [0x81u8, 0x00, 0x96, 0x00].as_slice()
-    );
-    assert_eq!(rt;
-        integer(alloc, true, range, 300i64)?.as_bytes(),
-        [0x80u8, 0x02, 0x01, 0x2C].as_slice()
-    );
+    assert!(rt; stands_in(alloc, false, range, &7u8, &[0x03, 0x80])?);
+    assert!(rt; stands_in(alloc, true, range, &7u8, &[0x00, 0x07])?);
+    assert!(rt; stands_in(alloc, false, range, &300i64, &[0x81, 0x00, 0x96, 0x00])?);
+    assert!(rt; stands_in(alloc, true, range, &300i64, &[0x80, 0x02, 0x01, 0x2C])?);
     Ok(())
 }
 
@@ -103,30 +97,13 @@ fn one_bound_or_none(rt: HostRuntime) -> Result<(), Fail> {
     let alloc = rt.alloc();
     let from = under(Bounded::start_from(-1), false);
     let up_to = under(Bounded::up_to(65535), false);
-    assert_eq!(rt;
-        integer(alloc, false, from, 4096)?.as_bytes(),
-        [0x02u8, 0x10, 0x01].as_slice()
-    );
-    assert_eq!(rt;
-        integer(alloc, true, from, 127i8)?.as_bytes(),
-        [0x01u8, 0x80].as_slice()
-    );
-    assert_eq!(rt;
-        integer(alloc, false, up_to, 127u8)?.as_bytes(),
-        [0x01u8, 0x7F].as_slice()
-    );
-    assert_eq!(rt;
-        integer(alloc, true, Constraints::NONE, 4096i32)?.as_bytes(),
-        [0x02u8, 0x10, 0x00].as_slice()
-    );
-    assert_eq!(rt;
-        integer(alloc, false, Constraints::NONE, 128u64)?.as_bytes(),
-        [0x02u8, 0x00, 0x80].as_slice()
-    );
-    assert_eq!(rt;
-        integer(alloc, false, Constraints::NONE, Integer::from(-1i64))?.as_bytes(),
-        [0x01u8, 0xFF].as_slice()
-    );
+    let none = Constraints::NONE;
+    assert!(rt; stands_in(alloc, false, from, &4096, &[0x02, 0x10, 0x01])?);
+    assert!(rt; stands_in(alloc, true, from, &127i8, &[0x01, 0x80])?);
+    assert!(rt; stands_in(alloc, false, up_to, &127u8, &[0x01, 0x7F])?);
+    assert!(rt; stands_in(alloc, true, none, &4096i32, &[0x02, 0x10, 0x00])?);
+    assert!(rt; stands_in(alloc, false, none, &128u64, &[0x02, 0x00, 0x80])?);
+    assert!(rt; stands_in(alloc, false, none, &Integer::from(-1i64), &[0x01, 0xFF])?);
     Ok(())
 }
 
@@ -134,15 +111,11 @@ fn one_bound_or_none(rt: HostRuntime) -> Result<(), Fail> {
 fn numbers_of_many_bits(rt: HostRuntime) -> Result<(), Fail> {
     let alloc = rt.alloc();
     let octets = [1u8, 0, 0, 0, 0, 0, 0, 0, 0, 0, 0, 0, 0, 0, 0, 0, 0];
+    let counted = [17u8, 1, 0, 0, 0, 0, 0, 0, 0, 0, 0, 0, 0, 0, 0, 0, 0, 0];
     let wide = Integer::from_signed_octets(alloc, &octets)?;
-    let mut output = Packing::new(alloc);
-    push_integer(&mut output, false, Constraints::NONE, &wide)?;
-    assert_eq!(rt;
-        output.as_bits().as_bytes(),
-        [17u8, 1, 0, 0, 0, 0, 0, 0, 0, 0, 0, 0, 0, 0, 0, 0, 0, 0].as_slice()
-    );
+    assert!(rt; stands_in(alloc, false, Constraints::NONE, &wide, &counted)?);
     let from = under(Bounded::start_from(0), true);
-    let refused = integer(alloc, false, from, wide);
+    let refused = integer(alloc, false, from, &wide);
     assert!(rt; matches!(&refused, Err(EncodeError::ValueConstraintNotSatisfied)));
     Ok(())
 }
@@ -152,31 +125,39 @@ fn numbers_outside(rt: HostRuntime) {
     let alloc = rt.alloc();
     for aligned in [false, true] {
         for value in [-1i64, 256] {
-            let refused = integer(alloc, aligned, between(0, 255), value);
+            let refused = integer(alloc, aligned, between(0, 255), &value);
             assert!(rt; matches!(&refused, Err(EncodeError::ValueConstraintNotSatisfied)));
         }
     }
+}
+
+/// Whether the first of two normally small numbers stands in seven bits, and the second right behind it.
+fn two_stand_in_fourteen_bits(output: &mut Packing) -> Result<bool, EncodeError> {
+    push_normally_small(output, true, 5)?;
+    let first = output.as_bits().as_bytes() == [0x0Au8].as_slice();
+    push_normally_small(output, false, 63)?;
+    let both = output.as_bits().as_bytes() == [0x0Au8, 0xFC].as_slice();
+    Ok(first && both)
+}
+
+/// Whether the normally small number stands in these octets.
+fn small_stands_in(
+    alloc: Global,
+    aligned: bool,
+    number: u64,
+    octets: &[u8],
+) -> Result<bool, EncodeError> {
+    let mut output = Packing::new(alloc);
+    push_normally_small(&mut output, aligned, number)?;
+    Ok(*output.as_bits().as_bytes() == *octets)
 }
 
 #[test]
 fn normally_small_numbers(rt: HostRuntime) -> Result<(), Fail> {
     let alloc = rt.alloc();
     let mut output = Packing::new(alloc);
-    push_normally_small(&mut output, true, 5)?;
-    assert_eq!(rt; output.as_bits().as_bytes(), [0x0Au8].as_slice());
-    push_normally_small(&mut output, false, 63)?;
-    assert_eq!(rt; output.as_bits().as_bytes(), [0x0Au8, 0xFC].as_slice());
-    let mut output = Packing::new(alloc);
-    push_normally_small(&mut output, false, 64)?;
-    assert_eq!(rt;
-        output.as_bits().as_bytes(),
-        [0x80u8, 0xA0, 0x00].as_slice()
-    );
-    let mut output = Packing::new(alloc);
-    push_normally_small(&mut output, true, 64)?;
-    assert_eq!(rt;
-        output.as_bits().as_bytes(),
-        [0x80u8, 0x01, 0x40].as_slice()
-    );
+    assert!(rt; two_stand_in_fourteen_bits(&mut output)?);
+    assert!(rt; small_stands_in(alloc, false, 64, &[0x80, 0xA0, 0x00])?);
+    assert!(rt; small_stands_in(alloc, true, 64, &[0x80, 0x01, 0x40])?);
     Ok(())
 }

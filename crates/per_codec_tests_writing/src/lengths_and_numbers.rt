@@ -31,107 +31,73 @@ fn constrained(
     Ok(output.into_bits())
 }
 
-fn short_length(
+/// Whether the number of a span stands in these octets.
+fn number_stands_in(
+    alloc: Global,
+    aligned: bool,
+    in_front: u32,
+    span_and_value: (u128, u128),
+    octets: &[u8],
+) -> Result<bool, EncodeError>
+    requires { in_front ≤ 128 }
+{
+    let (span, value) = span_and_value;
+    let bits = constrained(alloc, aligned, in_front, span, value)?;
+    Ok(*bits.as_bytes() == *octets)
+}
+
+/// Whether the length stands in these octets.
+fn length_stands_in(
     alloc: Global,
     aligned: bool,
     in_front: u32,
     length: usize,
-) -> Result<BitBuffer, EncodeError>
+    octets: &[u8],
+) -> Result<bool, EncodeError>
     requires few { in_front ≤ 128 }
     requires short { length < 16384 }
 {
     let mut output = ones(alloc, in_front)?;
     push_short_length(&mut output, aligned, length)?;
-    Ok(output.into_bits())
+    Ok(*output.as_bits().as_bytes() == *octets)
 }
 
 #[test]
 fn numbers_in_bits(rt: HostRuntime) -> Result<(), Fail> {
     let alloc = rt.alloc();
-    assert!(rt; constrained(alloc, false, 0, 0, 0)?.is_empty());
-    assert!(rt; constrained(alloc, true, 0, 0, 0)?.is_empty());
-    assert_eq!(rt;
-        constrained(alloc, true, 0, 1, 1)?.as_bytes(),
-        [0x80u8].as_slice()
-    );
-    assert_eq!(rt;
-        constrained(alloc, true, 3, 2, 2)?.as_bytes(),
-        [0xF0u8].as_slice()
-    );
-    assert_eq!(rt;
-        constrained(alloc, true, 1, 254, 7)?.as_bytes(),
-        [0x83u8, 0x80].as_slice()
-    );
-    assert_eq!(rt;
-        constrained(alloc, false, 1, 255, 7)?.as_bytes(),
-        [0x83u8, 0x80].as_slice()
-    );
-    assert_eq!(rt;
-        constrained(alloc, false, 0, 256, 256)?.as_bytes(),
-        [0x80u8, 0x00].as_slice()
-    );
-    assert_eq!(rt;
-        constrained(alloc, false, 0, 65535, 258)?.as_bytes(),
-        [0x01u8, 0x02].as_slice()
-    );
-    assert_eq!(rt;
-        constrained(alloc, false, 0, 65536, 65536)?.as_bytes(),
-        [0x80u8, 0x00, 0x00].as_slice()
-    );
-    assert_eq!(rt;
-        constrained(alloc, false, 0, 1234567 - 256, 1234567 - 256)?.as_bytes(),
-        [0x96u8, 0xAC, 0x38].as_slice()
-    );
-    assert_eq!(rt;
-        constrained(alloc, false, 0, 1 << 64, 1 << 64)?.as_bytes(),
-        [0x80u8, 0, 0, 0, 0, 0, 0, 0, 0].as_slice()
-    );
-    assert_eq!(rt;
-        constrained(alloc, false, 0, u128::MAX, u128::MAX)?.as_bytes(),
-        [0xFFu8; 16].as_slice()
-    );
+    assert!(rt; number_stands_in(alloc, false, 0, (0, 0), &[])?);
+    assert!(rt; number_stands_in(alloc, true, 0, (0, 0), &[])?);
+    assert!(rt; number_stands_in(alloc, true, 0, (1, 1), &[0x80])?);
+    assert!(rt; number_stands_in(alloc, true, 3, (2, 2), &[0xF0])?);
+    assert!(rt; number_stands_in(alloc, true, 1, (254, 7), &[0x83, 0x80])?);
+    assert!(rt; number_stands_in(alloc, false, 1, (255, 7), &[0x83, 0x80])?);
+    assert!(rt; number_stands_in(alloc, false, 0, (256, 256), &[0x80, 0x00])?);
+    assert!(rt; number_stands_in(alloc, false, 0, (65535, 258), &[0x01, 0x02])?);
+    assert!(rt; number_stands_in(alloc, false, 0, (65536, 65536), &[0x80, 0x00, 0x00])?);
+    let last = (1234567 - 256, 1234567 - 256);
+    assert!(rt; number_stands_in(alloc, false, 0, last, &[0x96, 0xAC, 0x38])?);
+    let last = (1 << 64, 1 << 64);
+    assert!(rt; number_stands_in(alloc, false, 0, last, &[0x80, 0, 0, 0, 0, 0, 0, 0, 0])?);
+    let last = (u128::MAX, u128::MAX);
+    assert!(rt; number_stands_in(alloc, false, 0, last, &[0xFF; 16])?);
     Ok(())
 }
 
 #[test]
 fn numbers_at_octets(rt: HostRuntime) -> Result<(), Fail> {
     let alloc = rt.alloc();
-    assert_eq!(rt;
-        constrained(alloc, true, 1, 255, 7)?.as_bytes(),
-        [0x80u8, 0x07].as_slice()
-    );
-    assert_eq!(rt;
-        constrained(alloc, true, 0, 256, 256)?.as_bytes(),
-        [0x01u8, 0x00].as_slice()
-    );
-    assert_eq!(rt;
-        constrained(alloc, true, 2, 65535, 258)?.as_bytes(),
-        [0xC0u8, 0x01, 0x02].as_slice()
-    );
-    assert_eq!(rt;
-        constrained(alloc, true, 0, 65536, 0)?.as_bytes(),
-        [0x00u8, 0x00].as_slice()
-    );
-    assert_eq!(rt;
-        constrained(alloc, true, 1, 65536, 65536)?.as_bytes(),
-        [0xC0u8, 0x01, 0x00, 0x00].as_slice()
-    );
-    assert_eq!(rt;
-        constrained(alloc, true, 0, 1234567 - 256, 1234567 - 256)?.as_bytes(),
-        [0x80u8, 0x12, 0xD5, 0x87].as_slice()
-    );
-    assert_eq!(rt;
-        constrained(alloc, true, 0, 1 << 64, 1 << 64)?.as_bytes(),
-        [0x80u8, 0x01, 0, 0, 0, 0, 0, 0, 0, 0].as_slice()
-    );
-    assert_eq!(rt;
-        constrained(alloc, true, 0, u128::MAX, 1)?.as_bytes(),
-        [0x00u8, 0x01].as_slice()
-    );
-    assert_eq!(rt;
-        constrained(alloc, true, 8, u128::MAX, u128::MAX)?.len(),
-        18 * 8
-    );
+    assert!(rt; number_stands_in(alloc, true, 1, (255, 7), &[0x80, 0x07])?);
+    assert!(rt; number_stands_in(alloc, true, 0, (256, 256), &[0x01, 0x00])?);
+    assert!(rt; number_stands_in(alloc, true, 2, (65535, 258), &[0xC0, 0x01, 0x02])?);
+    assert!(rt; number_stands_in(alloc, true, 0, (65536, 0), &[0x00, 0x00])?);
+    assert!(rt; number_stands_in(alloc, true, 1, (65536, 65536), &[0xC0, 0x01, 0x00, 0x00])?);
+    let last = (1234567 - 256, 1234567 - 256);
+    assert!(rt; number_stands_in(alloc, true, 0, last, &[0x80, 0x12, 0xD5, 0x87])?);
+    let last = (1 << 64, 1 << 64);
+    assert!(rt; number_stands_in(alloc, true, 0, last, &[0x80, 0x01, 0, 0, 0, 0, 0, 0, 0, 0])?);
+    assert!(rt; number_stands_in(alloc, true, 0, (u128::MAX, 1), &[0x00, 0x01])?);
+    let wide = constrained(alloc, true, 8, u128::MAX, u128::MAX)?;
+    assert_eq!(rt; wide.len(), 18 * 8);
     Ok(())
 }
 
@@ -149,21 +115,23 @@ fn numbers_outside(rt: HostRuntime) {
 #[test]
 fn every_alignment(rt: HostRuntime) -> Result<(), Fail> {
     let alloc = rt.alloc();
-    for in_front in 0..8 {
+    assert!(rt; number_stands_in(alloc, false, 0, (255, 0xAB), &[0xAB])?);
+    assert!(rt; number_stands_in(alloc, true, 0, (255, 0xAB), &[0xAB])?);
+    for in_front in 1..8 {
         let octet = !(0xFFu8 >> in_front);
         let shifted = 0xABu16 << (8 - in_front);
-        let unaligned = constrained(alloc, false, in_front, 255, 0xAB)?;
-        let aligned = constrained(alloc, true, in_front, 255, 0xAB)?;
-        if in_front == 0 {
-            assert_eq!(rt; unaligned.as_bytes(), [0xABu8].as_slice());
-            assert_eq!(rt; aligned.as_bytes(), [0xABu8].as_slice());
-        } else {
-            let first = octet | (shifted >> 8) as u8;
-            let second = (shifted & 0xFF) as u8;
-            assert_eq!(rt; unaligned.as_bytes(), [first, second].as_slice());
-            assert_eq!(rt; aligned.as_bytes(), [octet, 0xAB].as_slice());
-        }
+        let first = octet | (shifted >> 8) as u8;
+        let second = (shifted & 0xFF) as u8;
+        assert!(rt; number_stands_in(alloc, false, in_front, (255, 0xAB), &[first, second])?);
+        assert!(rt; number_stands_in(alloc, true, in_front, (255, 0xAB), &[octet, 0xAB])?);
     }
+    Ok(())
+}
+
+/// Writes the lengths of a fragment of four pieces and of one of one.
+fn push_fragment_lengths(output: &mut Packing) -> Result<(), EncodeError> {
+    push_fragment_length(output, true, 4)?;
+    push_fragment_length(output, true, 1)?;
     Ok(())
 }
 
@@ -171,38 +139,16 @@ fn every_alignment(rt: HostRuntime) -> Result<(), Fail> {
 fn lengths(rt: HostRuntime) -> Result<(), Fail> {
     let alloc = rt.alloc();
     for aligned in [false, true] {
-        assert_eq!(rt;
-            short_length(alloc, aligned, 0, 0)?.as_bytes(),
-            [0x00u8].as_slice()
-        );
-        assert_eq!(rt;
-            short_length(alloc, aligned, 0, 1)?.as_bytes(),
-            [0x01u8].as_slice()
-        );
-        assert_eq!(rt;
-            short_length(alloc, aligned, 0, 127)?.as_bytes(),
-            [0x7Fu8].as_slice()
-        );
-        assert_eq!(rt;
-            short_length(alloc, aligned, 0, 128)?.as_bytes(),
-            [0x80u8, 0x80].as_slice()
-        );
-        assert_eq!(rt;
-            short_length(alloc, aligned, 0, 16383)?.as_bytes(),
-            [0xBFu8, 0xFF].as_slice()
-        );
+        assert!(rt; length_stands_in(alloc, aligned, 0, 0, &[0x00])?);
+        assert!(rt; length_stands_in(alloc, aligned, 0, 1, &[0x01])?);
+        assert!(rt; length_stands_in(alloc, aligned, 0, 127, &[0x7F])?);
+        assert!(rt; length_stands_in(alloc, aligned, 0, 128, &[0x80, 0x80])?);
+        assert!(rt; length_stands_in(alloc, aligned, 0, 16383, &[0xBF, 0xFF])?);
     }
-    assert_eq!(rt;
-        short_length(alloc, false, 1, 1)?.as_bytes(),
-        [0x80u8, 0x80].as_slice()
-    );
-    assert_eq!(rt;
-        short_length(alloc, true, 1, 1)?.as_bytes(),
-        [0x80u8, 0x01].as_slice()
-    );
+    assert!(rt; length_stands_in(alloc, false, 1, 1, &[0x80, 0x80])?);
+    assert!(rt; length_stands_in(alloc, true, 1, 1, &[0x80, 0x01])?);
     let mut output = ones(alloc, 1)?;
-    push_fragment_length(&mut output, true, 4)?;
-    push_fragment_length(&mut output, true, 1)?;
+    push_fragment_lengths(&mut output)?;
     assert_eq!(rt;
         output.as_bits().as_bytes(),
         [0x80u8, 0xC4, 0xC1].as_slice()
@@ -210,14 +156,25 @@ fn lengths(rt: HostRuntime) -> Result<(), Fail> {
     Ok(())
 }
 
+/// Writes a bit and a length behind it.
+fn push_bit_and_length(output: &mut Packing) -> Result<(), EncodeError> {
+    output.push(true)?;
+    push_short_length(output, true, 1)
+}
+
+/// Writes behind what stands there a bit and a length that were packed before their place was known.
+fn append_bit_and_length(alloc: Global, output: &mut Packing) -> Result<(), EncodeError> {
+    let mut later = Packing::unplaced(alloc);
+    push_bit_and_length(&mut later)?;
+    output.append(&later)?;
+    Ok(())
+}
+
 #[test]
 fn a_length_that_is_placed_later(rt: HostRuntime) -> Result<(), Fail> {
     let alloc = rt.alloc();
-    let mut later = Packing::unplaced(alloc);
-    later.push(true)?;
-    push_short_length(&mut later, true, 1)?;
     let mut output = ones(alloc, 3)?;
-    output.append(&later)?;
+    append_bit_and_length(alloc, &mut output)?;
     assert_eq!(rt; output.as_bits().as_bytes(), [0xF0u8, 0x01].as_slice());
     Ok(())
 }
