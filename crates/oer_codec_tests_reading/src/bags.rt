@@ -7,9 +7,8 @@ use asn1_schema_tags::Tag;
 use oer_codec::coer::{Decoder, DecoderOptions};
 use std::alloc::Global;
 
-/// The two members of SET OF BOOLEAN.
-fn members(alloc: Global, input: &[u8]) -> Result<(bool, bool), DecodeError> {
-    let mut decoder = Decoder::new(alloc, input, DecoderOptions::coer());
+/// Reads SET OF BOOLEAN of two members.
+fn read_members(decoder: &mut Decoder<'_>) -> Result<(bool, bool), DecodeError> {
     decoder.begin_bag(Tag::SET, Constraints::NONE, Bounded::start_from(0))?;
     let mut found = (false, false);
     if decoder.get_further()? {
@@ -22,9 +21,14 @@ fn members(alloc: Global, input: &[u8]) -> Result<(bool, bool), DecodeError> {
     Ok(found)
 }
 
-/// Whether the component of SET {BOOLEAN OPTIONAL} is there.
-fn component(alloc: Global, input: &[u8]) -> Result<bool, DecodeError> {
+/// The two members of SET OF BOOLEAN.
+fn members(alloc: Global, input: &[u8]) -> Result<(bool, bool), DecodeError> {
     let mut decoder = Decoder::new(alloc, input, DecoderOptions::coer());
+    read_members(&mut decoder)
+}
+
+/// Reads SET {BOOLEAN OPTIONAL}: whether the component is there.
+fn read_component(decoder: &mut Decoder<'_>) -> Result<bool, DecodeError> {
     decoder.begin_set(Tag::SET, false, 1)?;
     let present = decoder.get_mark()?;
     if present {
@@ -34,13 +38,24 @@ fn component(alloc: Global, input: &[u8]) -> Result<bool, DecodeError> {
     Ok(present)
 }
 
-/// What a group of one component that is absent is read as.
-fn empty_group(alloc: Global, options: DecoderOptions) -> Result<(), DecodeError> {
-    let mut decoder = Decoder::new(alloc, &[0x00], options);
+/// Whether the component of SET {BOOLEAN OPTIONAL} is there.
+fn component(alloc: Global, input: &[u8]) -> Result<bool, DecodeError> {
+    let mut decoder = Decoder::new(alloc, input, DecoderOptions::coer());
+    read_component(&mut decoder)
+}
+
+/// Reads a group of one component that is absent.
+fn read_empty_group(decoder: &mut Decoder<'_>) -> Result<(), DecodeError> {
     decoder.begin_group(1)?;
     decoder.get_mark()?;
     decoder.end()?;
     decoder.note_empty()
+}
+
+/// What a group of one component that is absent is read as.
+fn empty_group(alloc: Global, options: DecoderOptions) -> Result<(), DecodeError> {
+    let mut decoder = Decoder::new(alloc, &[0x00], options);
+    read_empty_group(&mut decoder)
 }
 
 #[test]

@@ -14,18 +14,23 @@ fn context(value: u32) -> Tag {
     }
 }
 
-/// Which alternative of CHOICE {[0] BOOLEAN, [5] BOOLEAN, ..., [2] BOOLEAN} is chosen, and its value.
+/// Reads CHOICE {[0] BOOLEAN, [5] BOOLEAN, ..., [2] BOOLEAN}: which alternative is chosen, and its value.
+fn read_chosen(decoder: &mut Decoder<'_>) -> Result<(Chosen, bool), DecodeError> {
+    let roots = [context(0), context(5)];
+    let which = decoder.begin_choice(Tag::EOC, &roots, true, &[context(2)])?;
+    let value = decoder.decode_bool(Tag::BOOL)?;
+    decoder.end()?;
+    Ok((which, value))
+}
+
+/// What is read of such a value by these rules.
 fn chosen(
     alloc: Global,
     input: &[u8],
     options: DecoderOptions,
 ) -> Result<(Chosen, bool), DecodeError> {
     let mut decoder = Decoder::new(alloc, input, options);
-    let roots = [context(0), context(5)];
-    let which = decoder.begin_choice(Tag::EOC, &roots, true, &[context(2)])?;
-    let value = decoder.decode_bool(Tag::BOOL)?;
-    decoder.end()?;
-    Ok((which, value))
+    read_chosen(&mut decoder)
 }
 
 #[test]

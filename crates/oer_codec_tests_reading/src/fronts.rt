@@ -19,15 +19,24 @@ fn is_number(number: &Integer, value: i128) -> bool {
     *number == Integer::from(value)
 }
 
+/// Whether this is SEQUENCE OF INTEGER without members.
+fn is_empty_list(alloc: Global, input: &[u8], rules: EncodingRules) -> Result<bool, DecodeError> {
+    let numbers = decode::<Vec<Integer>>(alloc, input, rules)?;
+    Ok(numbers.is_empty())
+}
+
+/// Whether this is SEQUENCE OF INTEGER 1, 2.
+fn is_one_and_two(alloc: Global, input: &[u8], rules: EncodingRules) -> Result<bool, DecodeError> {
+    let numbers = decode::<Vec<Integer>>(alloc, input, rules)?;
+    Ok(numbers.len() == 2 && is_number(&numbers[0], 1) && is_number(&numbers[1], 2))
+}
+
 #[test]
 fn numbers_of_a_list_are_read(rt: HostRuntime) -> Result<(), Fail> {
     let alloc = rt.alloc();
-    let none = decode::<Vec<Integer>>(alloc, &[0x01, 0x00], EncodingRules::Coer)?;
-    assert!(rt; none.is_empty());
+    assert!(rt; is_empty_list(alloc, &[0x01, 0x00], EncodingRules::Coer)?);
     let input = [0x01, 0x02, 0x01, 0x01, 0x01, 0x02];
-    let numbers = decode::<Vec<Integer>>(alloc, &input, EncodingRules::Coer)?;
-    assert_eq!(rt; numbers.len(), 2);
-    assert!(rt; is_number(&numbers[0], 1) && is_number(&numbers[1], 2));
+    assert!(rt; is_one_and_two(alloc, &input, EncodingRules::Coer)?);
     Ok(())
 }
 
@@ -35,10 +44,8 @@ fn numbers_of_a_list_are_read(rt: HostRuntime) -> Result<(), Fail> {
 fn a_padded_count_is_read_by_the_basic_rules_alone(rt: HostRuntime) -> Result<(), Fail> {
     let alloc = rt.alloc();
     let input = [0x02, 0x00, 0x02, 0x01, 0x01, 0x01, 0x02];
-    let numbers = decode::<Vec<Integer>>(alloc, &input, EncodingRules::Oer)?;
-    assert_eq!(rt; numbers.len(), 2);
-    assert!(rt; is_number(&numbers[0], 1) && is_number(&numbers[1], 2));
-    assert!(rt; decode::<Vec<Integer>>(alloc, &input, EncodingRules::Coer).is_err());
+    assert!(rt; is_one_and_two(alloc, &input, EncodingRules::Oer)?);
+    assert!(rt; is_one_and_two(alloc, &input, EncodingRules::Coer).is_err());
     Ok(())
 }
 
@@ -50,18 +57,20 @@ fn a_list_of_a_fixed_size_has_no_further_member(rt: HostRuntime) {
     );
 }
 
+/// Whether this is a measure with the offset 0 that does not say whether it is exact.
+fn is_bare_measure(alloc: Global, input: &[u8], rules: EncodingRules) -> Result<bool, DecodeError> {
+    let measure = decode::<Measure>(alloc, input, rules)?;
+    Ok(is_number(&measure.offset, 0) && measure.exact.is_none())
+}
+
 #[test]
 fn a_default_is_spelled_out_by_the_basic_rules_alone(rt: HostRuntime) -> Result<(), Fail> {
     let alloc = rt.alloc();
     let input = [0x80, 0x01, 0x00];
-    let measure = decode::<Measure>(alloc, &input, EncodingRules::Oer)?;
-    assert!(rt; is_number(&measure.offset, 0) && measure.exact.is_none());
-    assert_eq!(rt;
-        decode::<Measure>(alloc, &input, EncodingRules::Coer).err(),
-        Some(DecodeError::NotValidCanonicalEncoding)
-    );
-    let measure = decode::<Measure>(alloc, &[0x00], EncodingRules::Coer)?;
-    assert!(rt; is_number(&measure.offset, 0) && measure.exact.is_none());
+    assert!(rt; is_bare_measure(alloc, &input, EncodingRules::Oer)?);
+    let refused = is_bare_measure(alloc, &input, EncodingRules::Coer).err();
+    assert_eq!(rt; refused, Some(DecodeError::NotValidCanonicalEncoding));
+    assert!(rt; is_bare_measure(alloc, &[0x00], EncodingRules::Coer)?);
     Ok(())
 }
 
@@ -102,23 +111,26 @@ fn what_stands_behind_a_value_is_lent(rt: HostRuntime) -> Result<(), Fail> {
     Ok(())
 }
 
+/// Whether this is 7 under these constraints.
+fn is_seven_under(
+    alloc: Global,
+    constraints: Constraints,
+    input: &[u8],
+) -> Result<bool, DecodeError> {
+    let number = decode_with_constraints::<Integer>(
+        alloc,
+        constraints,
+        input,
+        EncodingRules::Coer,
+    )?;
+    Ok(is_number(&number, 7))
+}
+
 #[test]
 fn given_constraints_stand_in_place_of_those_of_the_type(rt: HostRuntime) -> Result<(), Fail> {
     let alloc = rt.alloc();
-    let unbounded = decode_with_constraints::<Integer>(
-        alloc,
-        Constraints::NONE,
-        &[0x01, 0x07],
-        EncodingRules::Coer,
-    )?;
-    assert!(rt; is_number(&unbounded, 7));
+    assert!(rt; is_seven_under(alloc, Constraints::NONE, &[0x01, 0x07])?);
     let octet = Constraint::Value(Extensible::new(Value::new(Bounded::const_new(0, 255))));
-    let within = decode_with_constraints::<Integer>(
-        alloc,
-        Constraints::new(&[octet]),
-        &[0x07, 0x01],
-        EncodingRules::Coer,
-    )?;
-    assert!(rt; is_number(&within, 7));
+    assert!(rt; is_seven_under(alloc, Constraints::new(&[octet]), &[0x07, 0x01])?);
     Ok(())
 }

@@ -18,6 +18,8 @@ mod fronts;
 #[cfg(test)]
 mod items;
 #[cfg(test)]
+mod levels;
+#[cfg(test)]
 mod measure;
 #[cfg(test)]
 mod tags;

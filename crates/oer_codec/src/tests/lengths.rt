@@ -5,7 +5,7 @@ use asn1_schema_faults::DecodeError;
 use asn1_values_numbers::Integer;
 use asn1_values_octets::OctetString;
 use asn1_values_strings::VisibleString;
-use std::alloc::Global;
+use std::alloc::{AllocError, Global};
 use std::test::Fail;
 
 /// Octets behind such a length.
@@ -15,11 +15,22 @@ fn behind(alloc: Global, length: &[u8], contents: &[u8]) -> Result<Vec<u8>, Fail
     Ok(octets)
 }
 
+/// Whether these octets stand behind this length.
+fn stand_behind(alloc: Global, length: &[u8], contents: &[u8]) -> Result<bool, Fail> {
+    let octets = behind(alloc, length, contents)?;
+    string_stands_as(alloc, contents, &octets)
+}
+
+/// Whether OCTET STRING stands in these octets.
+fn string_stands_as(alloc: Global, contents: &[u8], octets: &[u8]) -> Result<bool, Fail> {
+    let string = OctetString::from_slice(alloc, contents)?;
+    stands_as(alloc, &string, octets)
+}
+
 /// Whether so many octets stand behind this length.
 fn is_length(alloc: Global, count: usize, length: &[u8]) -> Result<bool, Fail> {
     let contents = vec![in alloc; 0x61u8; count]?;
-    let value = OctetString::from_slice(alloc, &contents)?;
-    stands_as(alloc, &value, &behind(alloc, length, &contents)?)
+    stand_behind(alloc, length, &contents)
 }
 
 #[test]
@@ -36,18 +47,34 @@ fn the_fewest_octets_are_canonical(rt: HostRuntime) -> Result<(), Fail> {
     Ok(())
 }
 
+/// Adds "foo" behind a length of this first octet, so many zeros, and a 3.
+fn push_padded_foo(octets: &mut Vec<u8>, first: u8, zeros: u8) -> Result<(), AllocError> {
+    octets.push(first)?;
+    for _ in 0..zeros {
+        octets.push(0x00)?;
+    }
+    octets.extend_from_slice(&[0x03, 0x66, 0x6F, 0x6F])
+}
+
+/// Whether the basic rules alone read "foo" behind such a length.
+fn is_padded_foo(alloc: Global, first: u8, zeros: u8) -> Result<bool, Fail> {
+    let mut octets = Vec::new(alloc);
+    push_padded_foo(&mut octets, first, zeros)?;
+    is_foo_by_basic_rules_alone(alloc, &octets)
+}
+
+/// Whether the basic rules alone read "foo" from these octets.
+fn is_foo_by_basic_rules_alone(alloc: Global, octets: &[u8]) -> Result<bool, Fail> {
+    let foo = VisibleString::from_text(alloc, "foo")?;
+    let padded = DecodeError::NotValidCanonicalEncoding;
+    is_read_by_basic_rules_alone(alloc, &foo, octets, padded)
+}
+
 #[test]
 fn padded_lengths_are_not_canonical(rt: HostRuntime) -> Result<(), Fail> {
     let alloc = rt.alloc();
-    let padded = DecodeError::NotValidCanonicalEncoding;
-    let foo = VisibleString::from_text(alloc, "foo")?;
-    for count in 1..=8u8 {
-        let mut octets = vec![in alloc; 0x80 + count]?;
-        for _ in 1..count {
-            octets.push(0x00)?;
-        }
-        octets.extend_from_slice(&[0x03, 0x66, 0x6F, 0x6F])?;
-        assert!(rt; is_read_by_basic_rules_alone(alloc, &foo, &octets, padded)?);
+    for zeros in 0..8u8 {
+        assert!(rt; is_padded_foo(alloc, 0x81 + zeros, zeros)?);
     }
     Ok(())
 }
@@ -80,20 +107,32 @@ fn lengths_that_are_refused(rt: HostRuntime) {
     assert!(rt; both_refuse::<OctetString>(alloc, &[0x02, 0x61], DecodeError::Incomplete));
 }
 
+/// Whether SEQUENCE OF INTEGER 1, 2 stands in these octets, and the basic rules alone read it from the padded ones.
+fn is_one_and_two(alloc: Global, octets: &[u8], padded: &[u8]) -> Result<bool, Fail> {
+    let two = vec![in alloc; Integer::from(1), Integer::from(2)]?;
+    let wrong = DecodeError::NotValidCanonicalEncoding;
+    let stands = stands_as(alloc, &two, octets)?;
+    let alone = is_read_by_basic_rules_alone(alloc, &two, padded, wrong)?;
+    Ok(stands && alone)
+}
+
+/// How many members SEQUENCE OF NULL has by the basic rules.
+fn count_of_nulls(alloc: Global, octets: &[u8]) -> Result<usize, Fail> {
+    let nulls = oer::decode::<Vec<()>>(alloc, octets)?;
+    Ok(nulls.len())
+}
+
 #[test]
 fn counts_of_members(rt: HostRuntime) -> Result<(), Fail> {
     let alloc = rt.alloc();
     assert!(rt; stands_as(alloc, &Vec::<Integer>::new(alloc), &[0x01, 0x00])?);
-    let two = vec![in alloc; Integer::from(1), Integer::from(2)]?;
-    assert!(rt; stands_as(alloc, &two, &[0x01, 0x02, 0x01, 0x01, 0x01, 0x02])?);
+    let octets = [0x01, 0x02, 0x01, 0x01, 0x01, 0x02];
     let padded = [0x02, 0x00, 0x02, 0x01, 0x01, 0x01, 0x02];
-    let wrong = DecodeError::NotValidCanonicalEncoding;
-    assert!(rt; is_read_by_basic_rules_alone(alloc, &two, &padded, wrong)?);
+    assert!(rt; is_one_and_two(alloc, &octets, &padded)?);
     let three = [0x01, 0x03, 0xFF, 0xFF, 0xFF];
     let many = DecodeError::SizeConstraintNotSatisfied;
     assert!(rt; both_refuse::<[bool; 2]>(alloc, &three, many));
-    let nulls = oer::decode::<Vec<()>>(alloc, &[0x03, 0x01, 0x00, 0x00])?;
-    assert_eq!(rt; nulls.len(), 65536);
+    assert_eq!(rt; count_of_nulls(alloc, &[0x03, 0x01, 0x00, 0x00])?, 65536);
     assert!(rt; both_refuse::<Vec<bool>>(alloc, &[0x00], DecodeError::ZeroLengthOfLength));
     Ok(())
 }

@@ -22,6 +22,11 @@ fn between(low: i128, high: i128) -> Constraint<'static> {
     Constraint::Value(Extensible::new(Value::new(Bounded::const_new(low, high))))
 }
 
+/// Whether a number without bounds stands in these octets.
+fn number_stands_as(alloc: Global, number: i128, octets: &[u8]) -> Result<bool, Fail> {
+    stands_as(alloc, &Integer::from(number), octets)
+}
+
 #[test]
 fn numbers_without_bounds(rt: HostRuntime) -> Result<(), Fail> {
     let rows = [
@@ -63,9 +68,15 @@ fn numbers_without_bounds(rt: HostRuntime) -> Result<(), Fail> {
         },
     ];
     for row in rows {
-        assert!(rt; stands_as(rt.alloc(), &Integer::from(row.number), row.octets)?);
+        assert!(rt; number_stands_as(rt.alloc(), row.number, row.octets)?);
     }
     Ok(())
+}
+
+/// Whether the number of these octets in two's complement stands in those.
+fn signed_stands_as(alloc: Global, number: &[u8], octets: &[u8]) -> Result<bool, Fail> {
+    let number = Integer::from_signed_octets(alloc, number)?;
+    stands_as(alloc, &number, octets)
 }
 
 #[test]
@@ -74,19 +85,16 @@ fn numbers_past_128_bits(rt: HostRuntime) -> Result<(), Fail> {
     let mut above = [0x00u8; 18];
     above[0] = 0x11;
     above[2] = 0x80;
-    let number = Integer::from_signed_octets(alloc, &above[1..])?;
-    assert!(rt; stands_as(alloc, &number, &above)?);
+    assert!(rt; signed_stands_as(alloc, &above[1..], &above)?);
     let mut below = [0xFFu8; 18];
     below[0] = 0x11;
     below[2] = 0x7F;
-    let number = Integer::from_signed_octets(alloc, &below[1..])?;
-    assert!(rt; stands_as(alloc, &number, &below)?);
+    assert!(rt; signed_stands_as(alloc, &below[1..], &below)?);
     let mut far = [0xFFu8; 130];
     far[0] = 0x81;
     far[1] = 0x80;
     far[2] = 0x00;
-    let number = Integer::from_signed_octets(alloc, &far[2..])?;
-    assert!(rt; stands_as(alloc, &number, &far)?);
+    assert!(rt; signed_stands_as(alloc, &far[2..], &far)?);
     Ok(())
 }
 
@@ -134,14 +142,18 @@ fn refusal(alloc: Global, low: i128, high: i128, octets: &[u8]) -> Option<Decode
     coer::decode_with_constraints::<Integer>(alloc, Constraints::new(&list), octets).err()
 }
 
+/// Whether the basic rules alone read a number without bounds from these octets.
+fn is_padded(alloc: Global, number: i128, octets: &[u8]) -> Result<bool, Fail> {
+    let padded = DecodeError::NotValidCanonicalEncoding;
+    is_read_by_basic_rules_alone(alloc, &Integer::from(number), octets, padded)
+}
+
 #[test]
 fn padded_numbers_are_not_canonical(rt: HostRuntime) -> Result<(), Fail> {
     let alloc = rt.alloc();
     let padded = DecodeError::NotValidCanonicalEncoding;
-    let number = Integer::from(-1);
-    assert!(rt; is_read_by_basic_rules_alone(alloc, &number, &[0x02, 0xFF, 0xFF], padded)?);
-    let number = Integer::from(0);
-    assert!(rt; is_read_by_basic_rules_alone(alloc, &number, &[0x02, 0x00, 0x00], padded)?);
+    assert!(rt; is_padded(alloc, -1, &[0x02, 0xFF, 0xFF])?);
+    assert!(rt; is_padded(alloc, 0, &[0x02, 0x00, 0x00])?);
     let past = 18446744073709551616;
     assert_eq!(rt; refusal(alloc, 0, past, &[0x02, 0x00, 0xFF]), Some(padded));
     let (low, high) = (-9223372036854775809, 9223372036854775808);

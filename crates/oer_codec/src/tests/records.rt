@@ -8,33 +8,43 @@ use asn1_values_numbers::Integer;
 use std::alloc::Global;
 use std::test::Fail;
 
+/// Hands over INTEGER.
+fn write_number(encoder: &mut Encoder<'_>, number: i64) -> Result<(), EncodeError> {
+    Integer::from(number).encode(encoder)
+}
+
 /// SEQUENCE {a INTEGER, b SEQUENCE {a INTEGER, b SEQUENCE {a INTEGER, b INTEGER OPTIONAL} OPTIONAL}} 1, 2, 3, 4.
-fn write_nested<E: Writing>(encoder: &mut E) -> Result<(), EncodeError> {
+fn write_nested(encoder: &mut Encoder<'_>) -> Result<(), EncodeError> {
     encoder.begin_sequence(Tag::SEQUENCE, false, 0)?;
-    Integer::from(1).encode(encoder)?;
+    write_number(encoder, 1)?;
     encoder.begin_sequence(Tag::SEQUENCE, false, 1)?;
-    Integer::from(2).encode(encoder)?;
+    write_number(encoder, 2)?;
     encoder.put_mark(true)?;
     encoder.begin_sequence(Tag::SEQUENCE, false, 1)?;
-    Integer::from(3).encode(encoder)?;
+    write_number(encoder, 3)?;
     encoder.put_mark(true)?;
-    Integer::from(4).encode(encoder)?;
+    write_number(encoder, 4)?;
     encoder.end()?;
     encoder.end()?;
     encoder.end()
 }
 
 /// SEQUENCE of an INTEGER and twelve OPTIONAL ones, 1; the 1st, 5th and 9th 1.
-fn write_twelve<E: Writing>(encoder: &mut E) -> Result<(), EncodeError> {
+fn write_twelve(encoder: &mut Encoder<'_>) -> Result<(), EncodeError> {
     encoder.begin_sequence(Tag::SEQUENCE, false, 12)?;
-    Integer::from(1).encode(encoder)?;
+    write_number(encoder, 1)?;
     for place in 0..12 {
         encoder.put_mark(place % 4 == 0)?;
         if place % 4 == 0 {
-            Integer::from(1).encode(encoder)?;
+            write_number(encoder, 1)?;
         }
     }
     encoder.end()
+}
+
+/// Whether these octets stand in the buffer, which is empty afterwards.
+fn has_written(encoder: &mut Encoder<'_>, expected: &[u8]) -> bool {
+    encoder.output().as_slice() == expected
 }
 
 /// Whether the next number is this one.
@@ -42,54 +52,64 @@ fn is_next(alloc: Global, decoder: &mut Decoder<'_>, number: i64) -> Result<bool
     Ok(Integer::decode(alloc, decoder)? == Integer::from(number))
 }
 
-/// Whether the nested ones are read.
-fn reads_nested(alloc: Global, octets: &[u8]) -> Result<bool, DecodeError> {
-    let mut decoder = Decoder::new(alloc, octets, DecoderOptions::coer());
+/// Whether the nested ones are next.
+fn has_nested(alloc: Global, decoder: &mut Decoder<'_>) -> Result<bool, DecodeError> {
     decoder.begin_sequence(Tag::SEQUENCE, false, 0)?;
-    let first = is_next(alloc, &mut decoder, 1)?;
+    let first = is_next(alloc, decoder, 1)?;
     decoder.begin_sequence(Tag::SEQUENCE, false, 1)?;
-    let second = is_next(alloc, &mut decoder, 2)? && decoder.get_mark()?;
+    let second = is_next(alloc, decoder, 2)? && decoder.get_mark()?;
     decoder.begin_sequence(Tag::SEQUENCE, false, 1)?;
-    let third = is_next(alloc, &mut decoder, 3)? && decoder.get_mark()?;
-    let fourth = is_next(alloc, &mut decoder, 4)?;
+    let third = is_next(alloc, decoder, 3)? && decoder.get_mark()?;
+    let fourth = is_next(alloc, decoder, 4)?;
     for _ in 0..3 {
         decoder.end()?;
     }
-    Ok(first && second && third && fourth && decoder.remaining().is_empty())
+    Ok(first && second && third && fourth)
 }
 
-/// Whether the twelve are read, and as those of them that are there.
-fn reads_twelve(alloc: Global, octets: &[u8]) -> Result<bool, DecodeError> {
+/// Whether the nested ones are read, and nothing stands behind them.
+fn reads_nested(alloc: Global, octets: &[u8]) -> Result<bool, DecodeError> {
     let mut decoder = Decoder::new(alloc, octets, DecoderOptions::coer());
+    let found = has_nested(alloc, &mut decoder)?;
+    Ok(found && decoder.remaining().is_empty())
+}
+
+/// Whether the twelve are next, and as those of them that are there.
+fn has_twelve(alloc: Global, decoder: &mut Decoder<'_>) -> Result<bool, DecodeError> {
     decoder.begin_sequence(Tag::SEQUENCE, false, 12)?;
-    let mut all_right = is_next(alloc, &mut decoder, 1)?;
+    let mut all_right = is_next(alloc, decoder, 1)?;
     for place in 0..12 {
         let present = decoder.get_mark()?;
         if present {
-            all_right = all_right && is_next(alloc, &mut decoder, 1)?;
+            all_right = all_right && is_next(alloc, decoder, 1)?;
         }
         all_right = all_right && present == (place % 4 == 0);
     }
     decoder.end()?;
-    Ok(all_right && decoder.remaining().is_empty())
+    Ok(all_right)
+}
+
+/// Whether the twelve are read, and nothing stands behind them.
+fn reads_twelve(alloc: Global, octets: &[u8]) -> Result<bool, DecodeError> {
+    let mut decoder = Decoder::new(alloc, octets, DecoderOptions::coer());
+    let found = has_twelve(alloc, &mut decoder)?;
+    Ok(found && decoder.remaining().is_empty())
 }
 
 #[test]
 fn sequences_record_by_record(rt: HostRuntime) -> Result<(), Fail> {
     let alloc = rt.alloc();
+    let nested = [0x01, 0x01, 0x80, 0x01, 0x02, 0x80, 0x01, 0x03, 0x01, 0x04];
+    assert!(rt; reads_nested(alloc, &nested)?);
+    let twelve = [0x88, 0x80, 0x01, 0x01, 0x01, 0x01, 0x01, 0x01, 0x01, 0x01];
+    assert!(rt; reads_twelve(alloc, &twelve)?);
     let mut buffer = Vec::new(alloc);
     let mut worker = Vec::new(alloc);
     let options = EncoderOptions::coer();
     let mut encoder = Encoder::from_buffer(alloc, options, &mut buffer, &mut worker);
     write_nested(&mut encoder)?;
-    let nested = encoder.output();
-    let octets = [0x01u8, 0x01, 0x80, 0x01, 0x02, 0x80, 0x01, 0x03, 0x01, 0x04];
-    assert_eq!(rt; nested.as_slice(), octets.as_slice());
-    assert!(rt; reads_nested(alloc, &octets)?);
+    assert!(rt; has_written(&mut encoder, &nested));
     write_twelve(&mut encoder)?;
-    let twelve = encoder.output();
-    let octets = [0x88u8, 0x80, 0x01, 0x01, 0x01, 0x01, 0x01, 0x01, 0x01, 0x01];
-    assert_eq!(rt; twelve.as_slice(), octets.as_slice());
-    assert!(rt; reads_twelve(alloc, &octets)?);
+    assert!(rt; has_written(&mut encoder, &twelve));
     Ok(())
 }

@@ -16,10 +16,10 @@ fn context(value: u32) -> Tag {
 }
 
 /// Reads SEQUENCE {a INTEGER DEFAULT 0, b INTEGER OPTIONAL}: which of them are there.
-fn read_offset(decoder: &mut Decoder<'_>, alloc: Global) -> Result<(bool, bool), DecodeError> {
+fn read_offset(alloc: Global, decoder: &mut Decoder<'_>) -> Result<(bool, bool), DecodeError> {
     decoder.begin_sequence(Tag::SEQUENCE, false, 2)?;
     let has_a = decoder.get_mark()?;
-    if has_a && Integer::decode(alloc, decoder)? == Integer::from(0) {
+    if has_a && is_zero(alloc, decoder)? {
         decoder.note_default()?;
     }
     let has_b = decoder.get_mark()?;
@@ -30,28 +30,36 @@ fn read_offset(decoder: &mut Decoder<'_>, alloc: Global) -> Result<(bool, bool),
     Ok((has_a, has_b))
 }
 
+/// Whether the next number is 0.
+fn is_zero(alloc: Global, decoder: &mut Decoder<'_>) -> Result<bool, DecodeError> {
+    Ok(Integer::decode(alloc, decoder)? == Integer::from(0))
+}
+
+/// What is read of such a value by these rules.
+fn offset(
+    alloc: Global,
+    options: DecoderOptions,
+    octets: &[u8],
+) -> Result<(bool, bool), DecodeError> {
+    let mut decoder = Decoder::new(alloc, octets, options);
+    read_offset(alloc, &mut decoder)
+}
+
 #[test]
 fn preambles_and_defaults(rt: HostRuntime) {
     let alloc = rt.alloc();
     let coer = DecoderOptions::coer();
     for options in [DecoderOptions::oer(), coer] {
-        let mut decoder = Decoder::new(alloc, &[0x20], options);
-        let found = read_offset(&mut decoder, alloc);
-        assert_eq!(rt; found, Err(DecodeError::InvalidPreamble));
-        let mut decoder = Decoder::new(alloc, &[], options);
-        assert_eq!(rt;
-            read_offset(&mut decoder, alloc),
-            Err(DecodeError::Incomplete)
-        );
-        let mut decoder = Decoder::new(alloc, &[0x00], options);
-        assert_eq!(rt; read_offset(&mut decoder, alloc), Ok((false, false)));
+        let refused = Err(DecodeError::InvalidPreamble);
+        assert_eq!(rt; offset(alloc, options, &[0x20]), refused);
+        assert_eq!(rt; offset(alloc, options, &[]), Err(DecodeError::Incomplete));
+        assert_eq!(rt; offset(alloc, options, &[0x00]), Ok((false, false)));
     }
     let spelled_out = [0x80, 0x01, 0x00];
-    let mut decoder = Decoder::new(alloc, &spelled_out, DecoderOptions::oer());
-    assert_eq!(rt; read_offset(&mut decoder, alloc), Ok((true, false)));
-    let mut decoder = Decoder::new(alloc, &spelled_out, coer);
-    let found = read_offset(&mut decoder, alloc);
-    assert_eq!(rt; found, Err(DecodeError::NotValidCanonicalEncoding));
+    let basic = offset(alloc, DecoderOptions::oer(), &spelled_out);
+    assert_eq!(rt; basic, Ok((true, false)));
+    let canonical = offset(alloc, coer, &spelled_out);
+    assert_eq!(rt; canonical, Err(DecodeError::NotValidCanonicalEncoding));
 }
 
 /// Reads the tag of a choice with these in its root: the place of the alternative.
@@ -92,22 +100,27 @@ fn tags_of_choices(rt: HostRuntime) {
 }
 
 /// Reads SEQUENCE {a BOOLEAN, ..., b INTEGER (0..255) OPTIONAL}: the addition, if it is there.
+fn read_addition(alloc: Global, decoder: &mut Decoder<'_>) -> Result<Option<u8>, DecodeError> {
+    decoder.begin_sequence(Tag::SEQUENCE, true, 0)?;
+    bool::decode(alloc, decoder)?;
+    decoder.begin_additions(1)?;
+    let mut addition = None;
+    if decoder.get_addition()? {
+        addition = Some(u8::decode(alloc, decoder)?);
+        decoder.end_addition()?;
+    }
+    decoder.end()?;
+    Ok(addition)
+}
+
+/// What is read of such a value by these rules.
 fn read_new(
     alloc: Global,
     options: DecoderOptions,
     octets: &[u8],
 ) -> Result<Option<u8>, DecodeError> {
     let mut decoder = Decoder::new(alloc, octets, options);
-    decoder.begin_sequence(Tag::SEQUENCE, true, 0)?;
-    bool::decode(alloc, &mut decoder)?;
-    decoder.begin_additions(1)?;
-    let mut addition = None;
-    if decoder.get_addition()? {
-        addition = Some(u8::decode(alloc, &mut decoder)?);
-        decoder.end_addition()?;
-    }
-    decoder.end()?;
-    Ok(addition)
+    read_addition(alloc, &mut decoder)
 }
 
 #[test]

@@ -5,6 +5,7 @@ use super::{
 use crate::coer;
 use asn1_schema_bounds::Bounded;
 use asn1_schema_constraints::{Constraint, Constraints, Extensible, PermittedAlphabet, Size};
+use asn1_schema_encode::Encode;
 use asn1_schema_faults::{DecodeError, EncodeError};
 use asn1_values_bit_strings::BitString;
 use asn1_values_bits::BitStr;
@@ -12,6 +13,7 @@ use asn1_values_identifiers::{ObjectIdentifier, Oid};
 use asn1_values_octets::OctetString;
 use asn1_values_strings::{Ia5String, NumericString, PrintableString, VisibleString};
 use asn1_values_strings_wide::BmpString;
+use std::alloc::{AllocError, Global};
 use std::test::Fail;
 
 /// The constraint to sizes from one to another.
@@ -19,76 +21,200 @@ fn size(low: usize, high: usize) -> Constraint<'static> {
     Constraint::Size(Extensible::new(Size::new(Bounded::const_new(low, high))))
 }
 
+/// Why a string has no canonical encoding under one constraint.
+fn refusal<T: Encode>(
+    alloc: Global,
+    constraint: Constraint<'_>,
+    string: &T,
+) -> Option<EncodeError> {
+    let list = [constraint];
+    coer::encode_with_constraints(alloc, Constraints::new(&list), string).err()
+}
+
+/// Whether BIT STRING of so many whole octets stands in these octets.
+fn whole_octets_stand_as(alloc: Global, bits: &[u8], octets: &[u8]) -> Result<bool, Fail> {
+    let string = BitString::from_slice(alloc, bits)?;
+    stands_as(alloc, &string, octets)
+}
+
+/// The bits 1111 1111 0100 00.
+fn fourteen_bits(alloc: Global) -> Result<BitString, AllocError> {
+    BitString::from_bitslice(alloc, BitStr::front_of(&[0xFF, 0x40], 14))
+}
+
+/// Whether they stand in these octets.
+fn fourteen_stand_as(alloc: Global, octets: &[u8]) -> Result<bool, Fail> {
+    let fourteen = fourteen_bits(alloc)?;
+    stands_as(alloc, &fourteen, octets)
+}
+
+/// Whether they stand in these octets under one constraint.
+fn fourteen_stand_under(
+    alloc: Global,
+    constraint: Constraint<'_>,
+    octets: &[u8],
+) -> Result<bool, Fail> {
+    let fourteen = fourteen_bits(alloc)?;
+    stands_under(alloc, constraint, &fourteen, octets)
+}
+
 #[test]
 fn bits(rt: HostRuntime) -> Result<(), Fail> {
     let alloc = rt.alloc();
-    let one = BitString::from_slice(alloc, &[0x01])?;
-    assert!(rt; stands_as(alloc, &one, &[0x02, 0x00, 0x01])?);
-    let fourteen = BitString::from_bitslice(alloc, BitStr::front_of(&[0xFF, 0x40], 14))?;
-    assert!(rt; stands_as(alloc, &fourteen, &[0x03, 0x02, 0xFF, 0x40])?);
-    assert!(rt; stands_under(alloc, size(14, 14), &fourteen, &[0xFF, 0x40])?);
-    let list = [size(15, 15)];
-    let written = coer::encode_with_constraints(alloc, Constraints::new(&list), &fourteen).err();
-    assert_eq!(rt; written, Some(EncodeError::SizeConstraintNotSatisfied));
+    assert!(rt; whole_octets_stand_as(alloc, &[0x01], &[0x02, 0x00, 0x01])?);
+    assert!(rt; fourteen_stand_as(alloc, &[0x03, 0x02, 0xFF, 0x40])?);
+    assert!(rt; fourteen_stand_under(alloc, size(14, 14), &[0xFF, 0x40])?);
+    let fourteen = fourteen_bits(alloc)?;
+    let refused = refusal(alloc, size(15, 15), &fourteen);
+    assert_eq!(rt; refused, Some(EncodeError::SizeConstraintNotSatisfied));
     Ok(())
+}
+
+/// Whether no bits stand in these octets.
+fn no_bits_stand_as(alloc: Global, octets: &[u8]) -> Result<bool, Fail> {
+    stands_as(alloc, &BitString::new(alloc), octets)
+}
+
+/// Whether the basic rules alone read no bits from these octets.
+fn is_no_bits_by_basic_rules_alone(alloc: Global, octets: &[u8]) -> Result<bool, Fail> {
+    let other = DecodeError::NotValidCanonicalEncoding;
+    is_read_by_basic_rules_alone(alloc, &BitString::new(alloc), octets, other)
+}
+
+/// Whether the basic rules alone read four bits that are set from these octets.
+fn is_four_bits_by_basic_rules_alone(alloc: Global, octets: &[u8]) -> Result<bool, Fail> {
+    let four = BitString::from_bitslice(alloc, BitStr::front_of(&[0xF0], 4))?;
+    let other = DecodeError::NotValidCanonicalEncoding;
+    is_read_by_basic_rules_alone(alloc, &four, octets, other)
 }
 
 #[test]
 fn unused_bits(rt: HostRuntime) -> Result<(), Fail> {
     let alloc = rt.alloc();
-    let none = BitString::new(alloc);
-    assert!(rt; stands_as(alloc, &none, &[0x01, 0x00])?);
-    let other = DecodeError::NotValidCanonicalEncoding;
-    assert!(rt; is_read_by_basic_rules_alone(alloc, &none, &[0x00], other)?);
-    let four = BitString::from_bitslice(alloc, BitStr::front_of(&[0xF0], 4))?;
-    assert!(rt; is_read_by_basic_rules_alone(alloc, &four, &[0x02, 0x04, 0xFF], other)?);
+    assert!(rt; no_bits_stand_as(alloc, &[0x01, 0x00])?);
+    assert!(rt; is_no_bits_by_basic_rules_alone(alloc, &[0x00])?);
+    assert!(rt; is_four_bits_by_basic_rules_alone(alloc, &[0x02, 0x04, 0xFF])?);
     let wrong = DecodeError::InvalidBitString;
     assert!(rt; both_refuse::<BitString>(alloc, &[0x02, 0x08, 0xFF], wrong));
     assert!(rt; both_refuse::<BitString>(alloc, &[0x01, 0x01], wrong));
     Ok(())
 }
 
+/// Whether OCTET STRING stands in these octets under one constraint.
+fn string_stands_under(
+    alloc: Global,
+    constraint: Constraint<'_>,
+    string: &[u8],
+    octets: &[u8],
+) -> Result<bool, Fail> {
+    let string = OctetString::from_slice(alloc, string)?;
+    stands_under(alloc, constraint, &string, octets)
+}
+
+/// Why OCTET STRING has no canonical encoding under one constraint.
+fn string_refusal(
+    alloc: Global,
+    constraint: Constraint<'_>,
+    string: &[u8],
+) -> Result<Option<EncodeError>, Fail> {
+    let string = OctetString::from_slice(alloc, string)?;
+    Ok(refusal(alloc, constraint, &string))
+}
+
 #[test]
 fn octets(rt: HostRuntime) -> Result<(), Fail> {
     let alloc = rt.alloc();
-    let five = OctetString::from_slice(alloc, &[1, 2, 3, 4, 5])?;
-    assert!(rt;
-        stands_under(
-            alloc,
-            size(3, 6),
-            &five,
-            &[0x05, 0x01, 0x02, 0x03, 0x04, 0x05]
-        )?
+    let octets = [0x05, 0x01, 0x02, 0x03, 0x04, 0x05];
+    assert!(rt; string_stands_under(alloc, size(3, 6), &[1, 2, 3, 4, 5], &octets)?);
+    let outside = Some(EncodeError::SizeConstraintNotSatisfied);
+    assert_eq!(rt; string_refusal(alloc, size(3, 6), &[1, 2])?, outside);
+    assert_eq!(rt;
+        string_refusal(alloc, size(3, 6), &[1, 2, 3, 4, 5, 6, 7])?,
+        outside
     );
-    let list = [size(3, 6)];
-    let three_to_six = Constraints::new(&list);
-    for octets in [[1u8, 2].as_slice(), [1, 2, 3, 4, 5, 6, 7].as_slice()] {
-        let string = OctetString::from_slice(alloc, octets)?;
-        let written = coer::encode_with_constraints(alloc, three_to_six, &string).err();
-        assert_eq!(rt; written, Some(EncodeError::SizeConstraintNotSatisfied));
-    }
     Ok(())
+}
+
+/// Whether PrintableString stands in these octets.
+fn printable_stands_as(alloc: Global, text: &str, octets: &[u8]) -> Result<bool, Fail> {
+    let string = PrintableString::from_text(alloc, text)?;
+    stands_as(alloc, &string, octets)
+}
+
+/// Whether NumericString stands in these octets.
+fn digits_stand_as(alloc: Global, text: &str, octets: &[u8]) -> Result<bool, Fail> {
+    let string = NumericString::from_text(alloc, text)?;
+    stands_as(alloc, &string, octets)
+}
+
+/// Whether VisibleString stands in these octets.
+fn visible_stands_as(alloc: Global, text: &str, octets: &[u8]) -> Result<bool, Fail> {
+    let string = VisibleString::from_text(alloc, text)?;
+    stands_as(alloc, &string, octets)
+}
+
+/// The same under one constraint.
+fn visible_stands_under(
+    alloc: Global,
+    constraint: Constraint<'_>,
+    text: &str,
+    octets: &[u8],
+) -> Result<bool, Fail> {
+    let string = VisibleString::from_text(alloc, text)?;
+    stands_under(alloc, constraint, &string, octets)
+}
+
+/// Whether BMPString stands in these octets under one constraint.
+fn wide_stands_under(
+    alloc: Global,
+    constraint: Constraint<'_>,
+    text: &str,
+    octets: &[u8],
+) -> Result<bool, Fail> {
+    let string = BmpString::from_text(alloc, text)?;
+    stands_under(alloc, constraint, &string, octets)
 }
 
 #[test]
 fn characters(rt: HostRuntime) -> Result<(), Fail> {
     let alloc = rt.alloc();
-    let marks = PrintableString::from_text(alloc, " '()+,-./:=?")?;
     let octets = [
         0x0C, 0x20, 0x27, 0x28, 0x29, 0x2B, 0x2C, 0x2D, 0x2E, 0x2F, 0x3A, 0x3D, 0x3F,
     ];
-    assert!(rt; stands_as(alloc, &marks, &octets)?);
-    let digits = NumericString::from_text(alloc, "123")?;
-    assert!(rt; stands_as(alloc, &digits, &[0x03, 0x31, 0x32, 0x33])?);
-    let john = VisibleString::from_text(alloc, "John")?;
-    assert!(rt; stands_as(alloc, &john, &[0x04, 0x4A, 0x6F, 0x68, 0x6E])?);
-    let wide = BmpString::from_text(alloc, "ab")?;
-    assert!(rt; stands_under(alloc, size(2, 2), &wide, &[0x00, 0x61, 0x00, 0x62])?);
-    let two = VisibleString::from_text(alloc, "2")?;
+    assert!(rt; printable_stands_as(alloc, " '()+,-./:=?", &octets)?);
+    assert!(rt; digits_stand_as(alloc, "123", &[0x03, 0x31, 0x32, 0x33])?);
+    assert!(rt; visible_stands_as(alloc, "John", &[0x04, 0x4A, 0x6F, 0x68, 0x6E])?);
+    assert!(rt; wide_stands_under(alloc, size(2, 2), "ab", &[0x00, 0x61, 0x00, 0x62])?);
     let binary = PermittedAlphabet::new(&[48, 49]);
     let alphabet = Constraint::PermittedAlphabet(Extensible::new(binary));
-    assert!(rt; stands_under(alloc, alphabet, &two, &[0x01, 0x32])?);
+    assert!(rt; visible_stands_under(alloc, alphabet, "2", &[0x01, 0x32])?);
     Ok(())
+}
+
+/// Whether UTF8String of so many twos stands in these octets.
+fn twos_stand_as(alloc: Global, count: u8, octets: &[u8]) -> Result<bool, Fail> {
+    let mut twos = String::new(alloc);
+    push_twos(&mut twos, count)?;
+    stands_as(alloc, &twos, octets)
+}
+
+/// Adds so many twos.
+fn push_twos(text: &mut String, count: u8) -> Result<(), AllocError> {
+    for _ in 0..count {
+        text.push('2')?;
+    }
+    Ok(())
+}
+
+/// Whether UTF8String stands in these octets under one constraint.
+fn text_stands_under(
+    alloc: Global,
+    constraint: Constraint<'_>,
+    text: &str,
+    octets: &[u8],
+) -> Result<bool, Fail> {
+    let text = String::from_str(alloc, text)?;
+    stands_under(alloc, constraint, &text, octets)
 }
 
 #[test]
@@ -97,13 +223,8 @@ fn texts(rt: HostRuntime) -> Result<(), Fail> {
     let mut octets = [0x32u8; 130];
     octets[0] = 0x81;
     octets[1] = 0x80;
-    let mut twos = String::new(alloc);
-    for _ in 0..128 {
-        twos.push('2')?;
-    }
-    assert!(rt; stands_as(alloc, &twos, &octets)?);
-    let foo = String::from_str(alloc, "foo")?;
-    assert!(rt; stands_under(alloc, size(3, 3), &foo, &[0x66, 0x6F, 0x6F])?);
+    assert!(rt; twos_stand_as(alloc, 128, &octets)?);
+    assert!(rt; text_stands_under(alloc, size(3, 3), "foo", &[0x66, 0x6F, 0x6F])?);
     Ok(())
 }
 
