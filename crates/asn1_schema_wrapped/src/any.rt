@@ -5,9 +5,11 @@ ghost use Rattle.std.specs.Cmp.{partial_equiv_from_equiv};
 ghost use Rattle.asn1_model.specs.Value.{octet_list};
 ghost use Rattle.asn1_schema_constraints.specs.Sets.{no_constraint};
 ghost use Rattle.asn1_schema_constraints.specs.Terms.{octet_string_under};
+ghost use Rattle.asn1_schema_presented.proofs.Same.{octets_agree};
 ghost use Rattle.asn1_schema_presented.proofs.TypesByKind.{octet_string_type, octet_string_value};
 
 use asn1_schema_bounds::Bounded;
+use asn1_schema_components::EqualByMeaning;
 use asn1_schema_constraints::Constraints;
 use asn1_schema_decode::{Decode, Decoder, ReadOctets};
 use asn1_schema_encode::{Encode, Encoder};
@@ -104,6 +106,10 @@ impl Described for Any {
     ghost valued = { λ a. octet_string_value _ _ _ };
 
     ghost valued_under = { λ _ a. octet_string_value _ _ _ };
+}
+
+impl EqualByMeaning for Any {
+    ghost agrees = { octets_agree };
 }
 
 impl AsnType for Any {

@@ -1,11 +1,14 @@
 //! Values under constraints of a component's own (X.680 49.1).
 ghost use Rattle.std.specs.Prelude.{◌≡◌, ℕ, List, true, refl};
 ghost use Rattle.std.specs.Borrow.{Lends, sem};
+ghost use Rattle.std.proofs.Common.{ap, ◌∙◌};
+ghost use Rattle.std.proofs.Math.Bool.{and-true};
 ghost use Rattle.asn1_schema_constraints.specs.declared.lists.Constraints.{Constraints as Terms};
 ghost use Rattle.asn1_model.specs.Schema.{Schema, Tag as ModelTag};
-ghost use Rattle.asn1_model.specs.Value.{Value};
+ghost use Rattle.asn1_model.specs.Value.{Value, same};
 ghost use Rattle.asn1_schema_presented.specs.Tables.{are_tags, IsType, IsValue};
 
+use asn1_schema_components::EqualByMeaning;
 use asn1_schema_constraints::Constraints;
 use asn1_schema_decode::{Decode, Decoder};
 use asn1_schema_encode::{Encode, Encoder};
@@ -115,6 +118,11 @@ impl<C: ConstraintsOf<V>, V: Described> Described for Constrained<C, V> {
     ghost valued = { λ t. C.valued C.terms t.value };
 
     ghost valued_under = { λ c t. C.valued c t.value };
+}
+
+/// Values under constraints are equal exactly if what they mean is.
+impl<C: ConstraintsOf<V>, V: EqualByMeaning> EqualByMeaning for Constrained<C, V> {
+    ghost agrees = { λ x y. and-true _ ∙ V.agrees x.value y.value ∙ ap (λ m. same m (V.Described.meaning y.value)) (C.same_meaning x.value) ∙ ap (λ m. same (C.meaning x.value) m) (C.same_meaning y.value) };
 }
 
 impl<C: ConstraintsOf<V>, V: AsnType> AsnType for Constrained<C, V> {

@@ -3,11 +3,13 @@ ghost use Rattle.std.specs.Prelude.{refl, [], ◌∷◌};
 ghost use Rattle.asn1_model.specs.Value.{fields};
 ghost use Rattle.asn1_schema_constraints.specs.Sets.{no_constraint};
 ghost use Rattle.asn1_schema_presented.specs.Tables.{sequence_type};
+ghost use Rattle.asn1_schema_presented.proofs.Same.{arcs_agree};
 ghost use Rattle.asn1_schema_presented.proofs.Values.{type_sequence, value_sequence};
+ghost use Rattle.asn1_schema_wrapped.specs.Instances.{instances_agree};
 
 use crate::tag::Context;
 use crate::tagged::Explicit;
-use asn1_schema_components::{ComponentsOf, End, Required, RequiredComponent};
+use asn1_schema_components::{ComponentsOf, End, EqualByMeaning, Required, RequiredComponent};
 use asn1_schema_constraints::Constraints;
 use asn1_schema_decode::{Decode, DecodeSequence, Decoder};
 use asn1_schema_encode::{Encode, EncodeSequence, Encoder};
@@ -47,6 +49,11 @@ impl<T: Described> Described for InstanceOf<T> {
     ghost valued = { λ x. value_sequence _ (⟦<Form<T> as ComponentsOf>⟧.valued tt (record { 0 = x.type_id; 1 = record { 0 = record { value = x.value; tag = _ }; 1 = record {} } })) };
 
     ghost valued_under = { λ _ x. value_sequence _ (⟦<Form<T> as ComponentsOf>⟧.valued tt (record { 0 = x.type_id; 1 = record { 0 = record { value = x.value; tag = _ }; 1 = record {} } })) };
+}
+
+/// Values with the identifiers of their types are equal exactly if what they mean is.
+impl<T: EqualByMeaning> EqualByMeaning for InstanceOf<T> {
+    ghost agrees = { λ x y. instances_agree _ _ _ _ (arcs_agree x.type_id y.type_id) (T.agrees x.value y.value) };
 }
 
 impl<T: AsnType> AsnType for InstanceOf<T> {

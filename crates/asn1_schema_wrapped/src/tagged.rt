@@ -1,7 +1,10 @@
 //! Values under another tag (X.680 31).
 ghost use Rattle.std.specs.Prelude.{◌≡◌};
+ghost use Rattle.std.proofs.Common.{◌∙◌};
+ghost use Rattle.std.proofs.Math.Bool.{and-true};
 ghost use Rattle.std.specs.Borrow.{Lends, sem};
 
+use asn1_schema_components::EqualByMeaning;
 use asn1_schema_constraints::Constraints;
 use asn1_schema_decode::{Decode, Decoder};
 use asn1_schema_encode::{Encode, Encoder};
@@ -83,6 +86,11 @@ impl<T: Described, V: Described> Described for Implicit<T, V> {
     ghost valued = { λ t. V.valued t.value };
 
     ghost valued_under = { λ c t. V.valued_under c t.value };
+}
+
+/// Values under a tag are equal exactly if what they mean is.
+impl<T: Described, V: EqualByMeaning> EqualByMeaning for Implicit<T, V> {
+    ghost agrees = { λ x y. and-true _ ∙ V.agrees x.value y.value };
 }
 
 impl<T: AsnType, V: AsnType> AsnType for Implicit<T, V> {
@@ -193,6 +201,11 @@ impl<T: Described, V: Described> Described for Explicit<T, V> {
     ghost valued = { λ t. V.valued t.value };
 
     ghost valued_under = { λ c t. V.valued_under c t.value };
+}
+
+/// Values under a tag are equal exactly if what they mean is.
+impl<T: Described, V: EqualByMeaning> EqualByMeaning for Explicit<T, V> {
+    ghost agrees = { λ x y. and-true _ ∙ V.agrees x.value y.value };
 }
 
 impl<T: AsnType, V: AsnType> AsnType for Explicit<T, V> {

@@ -1,5 +1,6 @@
 //! Equality by meaning, through its bound.
-use crate::EqualByMeaning;
+use crate::tag::Context;
+use crate::{Any, EqualByMeaning, Explicit, Implicit};
 use asn1_values_constrained::ConstrainedInteger;
 use std::alloc::Global;
 use std::borrow::{Cow, CowSlice, CowStr};
@@ -77,5 +78,27 @@ fn lent_and_held_values_are_compared(rt: HostRuntime) -> Result<(), Fail> {
     let held_text: CowStr<'_, Global> = CowStr::Owned(String::from_str(rt.alloc(), "abc")?);
     assert!(rt; mean_the_same(&text, &held_text));
     assert!(rt; !mean_the_same(&text, &CowStr::Borrowed("ab")));
+    Ok(())
+}
+
+#[test]
+fn values_under_tags_and_constraints_are_compared(rt: HostRuntime) {
+    let one = Implicit::<Context<0>, u8>::new(3);
+    let other = Implicit::<Context<0>, u8>::new(4);
+    assert!(rt; mean_the_same(&one, &one));
+    assert!(rt; !mean_the_same(&one, &other));
+    let one = Explicit::<Context<0>, bool>::new(true);
+    let other = Explicit::<Context<0>, bool>::new(false);
+    assert!(rt; mean_the_same(&one, &one));
+    assert!(rt; !mean_the_same(&one, &other));
+}
+
+#[test]
+fn octets_of_any_type_are_compared(rt: HostRuntime) -> Result<(), Fail> {
+    let alloc = rt.alloc();
+    let one = Any::new(vec![in alloc; 1_u8, 2]?);
+    let other = Any::new(vec![in alloc; 1_u8]?);
+    assert!(rt; mean_the_same(&one, &one));
+    assert!(rt; !mean_the_same(&one, &other));
     Ok(())
 }
