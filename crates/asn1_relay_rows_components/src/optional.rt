@@ -1,7 +1,7 @@
 //! Sequences in one another, and one of many components that may be absent (X.696 16): written, read, and sent through packed rules and back.
 use asn1_relay_core::{Codec, recode};
-use asn1_schema_example_components::nested::{Inner, Middle, Outer};
-use asn1_schema_example_components::twelve::{Tagged, Twelve};
+use asn1_schema_example_optional::nested::{Inner, Middle, Outer};
+use asn1_schema_example_optional::twelve::{Tagged, Twelve};
 use asn1_schema_wrapped::Implicit;
 use asn1_values_numbers::Integer;
 use std::test::Fail;
