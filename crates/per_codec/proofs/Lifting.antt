@@ -5,7 +5,7 @@ use Rattle.asn1_schema_presented.specs.Chains.{Chain}
 use Rattle.asn1_schema_levels.specs.Levels.{Level}
 use Rattle.per_codec_reading.specs.Fronts.{freedoms, is_aligned}
 use Rattle.per_codec_fronts.specs.Takes.{State, Takes}
-use Rattle.per_codec_decoder.specs.Held.{Held, Finds, state_of}
+use Rattle.per_codec_decoder.specs.Held.{Held, Finds, kept, state_of}
 
 pub bits_taken : (rs : List Record) (a b : Held) → Chain Finds rs a b → Chain (Takes (is_aligned a.variant) (freedoms a.variant)) rs (state_of a) (state_of b)
 bits_taken [] a b c = ap state_of c
@@ -19,22 +19,23 @@ levels_taken (r ∷ rs) a b c =
     let p = c.1 in
     (c.0.levels, p.levels, subst (λ x. Chain (Level x) rs c.0.levels b.levels) p.most (levels_taken rs c.0 b c.2))
 
--- a decoder in this state, with so many levels left
-abbrev pub held_at : Held → State → ℕ → Held
-held_at a s l = record { place = s.0; scopes = s.1; levels = l; most = a.most; failed = false; variant = a.variant }
+-- a decoder in this state, with so many levels left, whether its input is known to lend the bits
+abbrev pub held_at : Held → State → ℕ → Bool → Held
+held_at a s l m = record { place = s.0; scopes = s.1; levels = l; most = a.most; failed = false; variant = a.variant; lends = m }
 
-nothing_taken : (a : Held) (s : State) (l : ℕ) → a.failed ≡ false → s ≡ state_of a → l ≡ a.levels → held_at a s l ≡ a
+nothing_taken : (a : Held) (s : State) (l : ℕ) → a.failed ≡ false → s ≡ state_of a → l ≡ a.levels → held_at a s l a.lends ≡ a
 nothing_taken a s l h e f =
-    ap (λ (t : State). held_at a t l) e
-    ∙ (ap (λ (t : ℕ). held_at a (state_of a) t) f
-    ∙ ap (λ (t : Bool). let x : Held = record { place = a.place; scopes = a.scopes; levels = a.levels; most = a.most; failed = t; variant = a.variant } in x) (sym h))
+    ap (λ (t : State). held_at a t l a.lends) e
+    ∙ (ap (λ (t : ℕ). held_at a (state_of a) t a.lends) f
+    ∙ ap (λ (t : Bool). let x : Held = record { place = a.place; scopes = a.scopes; levels = a.levels; most = a.most; failed = t; variant = a.variant; lends = a.lends } in x) (sym h))
 
-pub both_found : (rs : List Record) (a : Held) (s : State) (l : ℕ) → a.failed ≡ false → Chain (Takes (is_aligned a.variant) (freedoms a.variant)) rs (state_of a) s → Chain (Level a.most) rs a.levels l → Chain Finds rs a (held_at a s l)
-both_found [] a s l h c d = nothing_taken a s l h c d
+pub both_found : (rs : List Record) (a : Held) (s : State) (l : ℕ) → a.failed ≡ false → Chain (Takes (is_aligned a.variant) (freedoms a.variant)) rs (state_of a) s → Chain (Level a.most) rs a.levels l → (m : Bool) × Chain Finds rs a (held_at a s l m)
+both_found [] a s l h c d = (a.lends, nothing_taken a s l h c d)
 both_found (r ∷ rs) a s l h c d =
-    let next : Held = held_at a c.0 d.0 in
-    let p : Finds a r next = record { ready = h; taken = c.1; levels = d.1; most = refl; ready_still = refl; variant = refl } in
-    (next, p, both_found rs next s l refl c.2 d.2)
+    let next : Held = held_at a c.0 d.0 (kept a r) in
+    let p : Finds a r next = record { ready = h; taken = c.1; levels = d.1; most = refl; ready_still = refl; variant = refl; lends = refl } in
+    let q = both_found rs next s l refl c.2 d.2 in
+    (q.0, (next, p, q.1))
 
 -- a decoder that has found records has not failed
 pub ready_still : (rs : List Record) (a b : Held) → a.failed ≡ false → Chain Finds rs a b → b.failed ≡ false

@@ -55,7 +55,7 @@ abbrev pub first : List ℕ → List ℕ
 first input = take (2 ^ 60 - 1) input
 
 abbrev pub begun : Variant → List ℕ → Held
-begun r input = record { place = (0, octet_bits (first input)); scopes = []; levels = 128; most = 128; failed = false; variant = r }
+begun r input = record { place = (0, octet_bits (first input)); scopes = []; levels = 128; most = 128; failed = false; variant = r; lends = true }
 
 -- ---- what is found
 -- so many octets of those that are looked at, and the input's others behind them
@@ -156,8 +156,9 @@ module _ (r : Variant) (schema : ℕ → Schema) (input : List ℕ) (lawful : Is
     value : Value
     left : Place
     after : Place
+    lends : Bool
     fits : Fits (schema 128) value
-    chain : Chain Finds (presents (schema 128) value) (begun r input) (held_at (begun r input) (left, []) 128)
+    chain : Chain Finds (presents (schema 128) value) (begun r input) (held_at (begun r input) (left, []) 128 lends)
     filled : Front (freedoms r) (completion left.0) left after
 
   found_again : (v : Value) (rest : List ℕ) → HasMessage (rules_of r) (schema 128) v input rest → Again
@@ -179,23 +180,25 @@ module _ (r : Variant) (schema : ℕ → Schema) (input : List ℕ) (lawful : Is
       let fits = records_fit _ _ (λ x y n. n) s w.0 ((0, octet_bits (first input)), []) ((length bits, z.0 ++ others), []) w.2 in
       let d : depth w.0 ≤ 128 = let x = no_deeper v w.0 w.1 in let y = m.levels in omega (arith, x, y) in
       let l = (nests s w.0 128 128 128 fits (omega arith)).1 (d, refl) in
+      let chain = both_found (presents s w.0) (begun r input) ((length bits, z.0 ++ others), []) 128 refl w.2 l in
       record {
         value = w.0;
         left = (length bits, z.0 ++ others);
         after = (length bits + length z.0, others);
+        lends = chain.0;
         fits = fits;
-        chain = both_found (presents s w.0) (begun r input) ((length bits, z.0 ++ others), []) 128 refl w.2 l;
+        chain = chain.1;
         filled = g;
       }
 
   pub none_told : (e : DecodeError) → Unread Finds schema 128 (begun r input) e → NoMessage (rules_of r) schema input e
-  none_told e u = record { none = λ n v rest m. let f = found_again v rest m in u.none n f.value (held_at (begun r input) (f.left, []) 128) f.fits f.chain }
+  none_told e u = record { none = λ n v rest m. let f = found_again v rest m in u.none n f.value (held_at (begun r input) (f.left, []) 128 f.lends) f.fits f.chain }
 
   pub none_finished : (e : DecodeError) (x : Value) (new : Held) → ReadsValue Finds schema 128 x (begun r input) new → ((b : Place) → Front (freedoms r) (completion new.place.0) new.place b → ⊥) → NoMessage (rules_of r) schema input e
   none_finished e x new t none = record {
     none = λ n v rest m.
         let f = found_again v rest m in
-        let k = one_value finds_one (schema 128) t.raw f.value (begun r input) new (held_at (begun r input) (f.left, []) 128) t.fits f.fits t.chain f.chain in
+        let k = one_value finds_one (schema 128) t.raw f.value (begun r input) new (held_at (begun r input) (f.left, []) 128 f.lends) t.fits f.fits t.chain f.chain in
         none f.after (subst (λ (h : Held). Front (freedoms r) (completion h.place.0) h.place f.after) (sym k.1) f.filled);
   }
 

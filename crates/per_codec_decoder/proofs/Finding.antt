@@ -16,7 +16,7 @@ use Rattle.asn1_schema_presented.specs.Records.{Record, Question, question, flag
 use Rattle.per_codec_fronts.specs.Takes.{Place, Scope, components, State, Front, Found, NextMember, Begins, Takes}
 use Rattle.per_codec_fronts.proofs.Fronts.{if_out}
 use Rattle.per_codec_reading.specs.Fronts.{freedoms, is_aligned, Misses}
-use Rattle.per_codec_decoder.specs.Held.{Held, state_of, Finds, IsReady}
+use Rattle.per_codec_decoder.specs.Held.{Held, state_of, kept, Finds, IsReady}
 use Rattle.per_codec_decoder.specs.Members.{NoFurther}
 use Rattle.per_codec_decoder.specs.Preamble.{HasPreamble}
 use Rattle.per_codec_decoder.proofs.Counting.{missed}
@@ -91,8 +91,8 @@ pub both_ok : {A E : Type 0} {P Q R : Type 0} (r : Result A E) → OnOk r P → 
 both_ok (Ok x) p q f = f p q
 both_ok (Err e) p q f = tt
 
-pub opens : (old now new : Held) (s : Scope) (rest : Place) (r : Record) → now ≡ old → IsReady old → Takes (is_aligned now.variant) (freedoms now.variant) (state_of now) r (rest, s ∷ now.scopes) → ((most l : ℕ) → level most r (suc l) ≡ Some l) → now.levels ≡ new.levels + 1 → new ≡ record { place = rest; scopes = s ∷ now.scopes; levels = new.levels; most = now.most; failed = now.failed; variant = now.variant } → Finds old r new
-opens old now new s rest r same ready t lower e f =
+pub opens : (old now new : Held) (s : Scope) (rest : Place) (r : Record) → now ≡ old → IsReady old → Takes (is_aligned now.variant) (freedoms now.variant) (state_of now) r (rest, s ∷ now.scopes) → ((most l : ℕ) → level most r (suc l) ≡ Some l) → old.lends ≡ kept old r → now.levels ≡ new.levels + 1 → new ≡ record { place = rest; scopes = s ∷ now.scopes; levels = new.levels; most = now.most; failed = now.failed; variant = now.variant; lends = now.lends } → Finds old r new
+opens old now new s rest r same ready t lower u e f =
     let g : Takes (is_aligned old.variant) (freedoms old.variant) (state_of old) r (rest, s ∷ old.scopes) = subst (λ (h : Held). Takes (is_aligned h.variant) (freedoms h.variant) (state_of h) r (rest, s ∷ h.scopes)) same t in
     let k : (rest, s ∷ old.scopes) ≡ state_of new = ap (λ (h : Held). (rest, s ∷ h.scopes)) (sym same) ∙ sym (ap state_of f) in
     let l : old.levels ≡ suc new.levels = let i : old.levels ≡ now.levels = ap (λ (h : Held). h.levels) (sym same) in omega (arith, e, i) in
@@ -103,6 +103,7 @@ opens old now new s rest r same ready t lower e f =
       most = ap (λ (h : Held). h.most) f ∙ ap (λ (h : Held). h.most) same;
       ready_still = ap (λ (h : Held). h.failed) f ∙ ap (λ (h : Held). h.failed) same ∙ ready;
       variant = ap (λ (h : Held). h.variant) f ∙ ap (λ (h : Held). h.variant) same;
+      lends = ap (λ (h : Held). h.lends) f ∙ ap (λ (h : Held). h.lends) same ∙ u;
     }
 
 -- ---- sequences

@@ -5,11 +5,11 @@ use Rattle.per_codec_decoder.specs.declared.additions.Additions.{Additions}
 
 -- The presence bits of the type's own additions: those past the bitmap are absent.
 abbrev pub own_marks : Additions → List Bool
-own_marks a = first_bits a.left a.bitmap.1
+own_marks a = first_bits a.left a.bitmap.place.1
 
 -- The presence bits of unknown ones.
 abbrev pub unknown_marks : Additions → List Bool
-unknown_marks a = drop a.left a.bitmap.1
+unknown_marks a = drop a.left a.bitmap.place.1
 
 -- This is the next presence bit.
 abbrev pub TellsOf : Bool → Additions → Additions → Type 0

@@ -12,9 +12,9 @@ use Rattle.per_codec_decoder.specs.declared.frames.Ending.TheVariants.{Nothing, 
 
 -- An open scope.
 abbrev pub scope_of : Frame → Scope
-scope_of (Components x r) = components x r.1
+scope_of (Components x r) = components x r.place.1
 scope_of (Added a) = added (own_marks a) (unknown_marks a)
-scope_of (OpenType p) = open_type p
+scope_of (OpenType p) = open_type p.place
 scope_of (Members p) = members p.due p.tally
 scope_of Alternative = alternative
 
@@ -42,8 +42,8 @@ NoFlag s = (al : Bool) (free : Per.Freedom → Bool) (v : Bool) (a : Place) (b :
 -- The innermost scope is left, and so much stands in front of its end.
 abbrev pub Leaves : Ending → List Scope → List Scope → Type 0
 Leaves Nothing old new = (al : Bool) (free : Per.Freedom → Bool) (a : Place) → Ends al free a old (a, new)
-Leaves (Unknown r) old new = old ≡ added [] r.1 ∷ new
-Leaves (Filled p) old new = old ≡ open_type p ∷ new
+Leaves (Unknown r) old new = old ≡ added [] r.place.1 ∷ new
+Leaves (Filled p) old new = old ≡ open_type p.place ∷ new
 
 -- No end comes here.
 abbrev pub NoEnd : List Scope → Type 0
@@ -68,11 +68,11 @@ IsClosed a = (free : Per.Freedom → Bool) (rest : Place) (k : List Scope) → I
 -- What is left where a scope ends is passed over.
 abbrev pub Passes : Bool → (Per.Freedom → Bool) → Ending → Place → Place → Type 0
 Passes al free Nothing a b = b ≡ a
-Passes al free (Unknown r) a b = Skips al free r.1 a b
-Passes al free (Filled p) a b = IsClosed a × (b ≡ p)
+Passes al free (Unknown r) a b = Skips al free r.place.1 a b
+Passes al free (Filled p) a b = IsClosed a × (b ≡ p.place)
 
 -- Why it is not: for want of memory, or because something else stands there.
 abbrev pub NotPassed : Bool → (Per.Freedom → Bool) → Ending → Place → DecodeError → Type 0
 NotPassed al free Nothing a x = ⊥
-NotPassed al free (Unknown r) a x = ¬ (x ≡ OutOfMemory) → (b : Place) → Skips al free r.1 a b → ⊥
+NotPassed al free (Unknown r) a x = ¬ (x ≡ OutOfMemory) → (b : Place) → Skips al free r.place.1 a b → ⊥
 NotPassed al free (Filled p) a x = (rest : Place) (k : List Scope) (b : State) → Closes free a rest k b → ⊥

@@ -1,7 +1,7 @@
 //! What finds the records of a value in bits.
 ghost use Rattle.std.specs.Cow.{cow_slice_items, IsBorrowedSlice};
 ghost use Rattle.std.specs.Prelude.{◌≡◌, ◌+◌, ◌-◌, ◌%◌, ◌<◌, ◌≤◌, ◌^◌, [], ◌∷◌, true, false, length, take, OnOk, OnErr, IfErr, IfOk};
-ghost use Rattle.per_codec_decoder.specs.Held.{Held, Finds, HasFailed, kind_of, IsReady, Stays, Moves, Enters, HasOpened, NoOpening, EntersMembers, EntersComponents, NotMembers, NotComponents};
+ghost use Rattle.per_codec_decoder.specs.Held.{Held, Finds, HasFailed, kind_of, IsReady, Stays, Moves, Enters, HasOpened, HasPassed, NoOpening, EntersMembers, EntersComponents, NotMembers, NotComponents};
 ghost use Rattle.per_codec_decoder.specs.Scopes.{scope_of, Passes, NotPassed};
 ghost use Rattle.asn1_schema_bounds.specs.Bounds.{counts_of, members_of};
 ghost use Rattle.asn1_schema_decode.specs.Reads.{NoRecord};
@@ -9,7 +9,7 @@ ghost use Rattle.asn1_schema_presented.specs.Records.{octets, asks_octets};
 ghost use Rattle.per_codec_reading_units.specs.Runs.{InOneRun, StandsIn};
 ghost use Rattle.per_codec_reading_units.specs.Sizes.{surely_told};
 ghost use Rattle.asn1_schema_constraints.specs.Terms.{sizes_of};
-ghost use Rattle.asn1_model.specs.Numbers.{octet_bits};
+ghost use Rattle.asn1_model.specs.Numbers.{octet_bits, is_count_within};
 ghost use Rattle.asn1_values_bits.specs.BitStr.{bits_of};
 ghost use Rattle.per_codec_fronts.specs.Takes.{Front, completion};
 ghost use Rattle.per_codec_reading.specs.Fronts.{freedoms, is_aligned};
@@ -39,8 +39,7 @@ use per_codec_reading_numbers::read_integer;
 use per_codec_reading_places::{read_item, read_place_of_alternative};
 use per_codec_reading_scopes::{Field, Stretch, skip_unknown};
 use per_codec_reading_units::{
-    read_bit_string, read_object_identifier, read_octet_string, read_octet_string_in,
-    read_utf8_string,
+    read_bit_string, read_object_identifier, read_octet_string_in, read_utf8_string,
 };
 use std::alloc::Global;
 use std::borrow::CowSlice;
@@ -56,14 +55,17 @@ pub struct Decoder<'input> {
     most: usize,
     failed: bool,
     variant: Variant,
+    // whether no open type has begun
+    lends: bool,
 }
 
 impl<'input> Model for Decoder<'input> {
+    ghost use Rattle.std.specs.Prelude.{◌&&◌};
     ghost use Rattle.per_codec_decoder.specs.Held.{Held};
 
     ghost Value = { Held };
 
-    ghost view = { λ d. record { place = d.place; scopes = d.scopes; levels = d.levels; most = d.most; failed = d.failed; variant = d.variant } };
+    ghost view = { λ d. record { place = d.place.place; scopes = d.scopes; levels = d.levels; most = d.most; failed = d.failed; variant = d.variant; lends = d.lends && d.place.lends } };
 }
 
 impl<'input> Decoder<'input> {
@@ -71,7 +73,7 @@ impl<'input> Decoder<'input> {
     /// many.
     #[inline(always)]
     pub fn new(alloc: Global, input: &'input [u8], options: DecoderOptions) -> Self
-        ensures { result ≡ record { place = (0, octet_bits (take (2 ^ 60 - 1) input.entry.now)); scopes = []; levels = 128; most = 128; failed = false; variant = options.variant } }
+        ensures { result ≡ record { place = (0, octet_bits (take (2 ^ 60 - 1) input.entry.now)); scopes = []; levels = 128; most = 128; failed = false; variant = options.variant; lends = true } }
     {
         Decoder {
             place: Stretch::from_octets(input),
@@ -80,6 +82,7 @@ impl<'input> Decoder<'input> {
             most: 128,
             failed: false,
             variant: options.variant,
+            lends: true,
         }
     }
 
@@ -110,6 +113,50 @@ impl<'input> Decoder<'input> {
         let answer = read_completion(&mut cursor);
         let position = cursor.position();
         self.settle(position, answer)
+    }
+
+    /// OCTET STRING (X.680 23) under a size constraint, in a type of the program that holds so many octets. Before an open type (X.691 11.2)
+    /// begins the input is known to lend the octets, and no memory is taken, where they stand in one run (X.691 11.9.4) that ends at an octet
+    /// of it.
+    ///
+    /// # Errors
+    ///
+    /// `AlreadyFailed` after a refusal, `SizeConstraintNotSatisfied` if the size or the program's type does not admit as many, `Incomplete` if
+    /// the bits end early, the errors of a number and of a length, and `OutOfMemory`.
+    #[inline(always)]
+    pub fn decode_octet_string(
+        &mut self,
+        alloc: Global,
+        _tag: Tag,
+        constraints: Constraints,
+        held: Bounded<usize>,
+    ) -> Result<CowSlice<'input, u8>, DecodeError>
+        ensures ok { IfOk result (λ x. Finds self.old (octets (sizes_of constraints.entry.size) (counts_of held) (cow_slice_items x)) self.new) }
+        ensures held { IfOk result (λ x. is_count_within (counts_of held) (length (cow_slice_items x)) ≡ true) }
+        ensures lent { IfOk result (λ x. self.old.lends ≡ true → InOneRun (surely_told (sizes_of constraints.entry.size)) (length (cow_slice_items x)) → self.new.place.0 % 8 ≡ 0 → IsBorrowedSlice x) }
+        ensures level { OnOk result (self.new.levels ≡ self.old.levels) }
+        ensures only { IfErr result (NoRecord Finds (asks_octets (sizes_of constraints.entry.size) (counts_of held)) self.old) }
+        ensures failed { OnErr result (HasFailed self.new) }
+        ensures already { HasFailed self.old → result ≡ Err DecodeError.AlreadyFailed }
+    {
+        self.begin_record()?;
+        let mut cursor = self.place.cursor();
+        if let Some(bits) = self.place.lent_bits() {
+            let lent = read_octet_string_in(
+                alloc,
+                bits,
+                &mut cursor,
+                self.variant,
+                constraints,
+                held,
+            );
+            let position = cursor.position();
+            return self.settle(position, lent);
+        }
+        let answer = read_held_octets(alloc, &mut cursor, self.variant, constraints, held);
+        let position = cursor.position();
+        let octets = self.settle(position, answer)?;
+        Ok(CowSlice::Owned(octets))
     }
 
     /// OCTET STRING (X.680 23) as `decode_octet_string` reads it, where the input is handed over once more, of which the unread bits of the
@@ -200,7 +247,7 @@ impl<'input> Decoder<'input> {
     fn enter(&mut self, frame: Frame<'input>) -> Result<(), DecodeError>
         requires { 0 < self.old.levels }
         ensures levels { OnOk result (self.old.levels ≡ self.new.levels + 1) }
-        ensures scopes { OnOk result (self.new ≡ record { place = self.old.place; scopes = scope_of frame.entry ∷ self.old.scopes; levels = self.new.levels; most = self.old.most; failed = self.old.failed; variant = self.old.variant }) }
+        ensures scopes { OnOk result (self.new ≡ record { place = self.old.place; scopes = scope_of frame.entry ∷ self.old.scopes; levels = self.new.levels; most = self.old.most; failed = self.old.failed; variant = self.old.variant; lends = self.old.lends }) }
         ensures only { IfErr result (λ error. error ≡ DecodeError.OutOfMemory) }
         ensures failed { OnErr result (self.new.failed ≡ true) }
     {
@@ -216,7 +263,7 @@ impl<'input> Decoder<'input> {
     fn descend(&mut self)
         requires { 0 < self.old.levels }
         ensures levels { self.old.levels ≡ self.new.levels + 1 }
-        ensures same { self.new ≡ record { place = self.old.place; scopes = self.old.scopes; levels = self.new.levels; most = self.old.most; failed = self.old.failed; variant = self.old.variant } }
+        ensures same { self.new ≡ record { place = self.old.place; scopes = self.old.scopes; levels = self.new.levels; most = self.old.most; failed = self.old.failed; variant = self.old.variant; lends = self.old.lends } }
     {
         self.levels -= 1;
     }
@@ -274,6 +321,7 @@ impl<'input> Decoder<'input> {
             Ok(inside) => inside,
             Err(error) => return Err(self.fail(error)),
         };
+        self.lends = false;
         let behind = replace(&mut self.place, inside);
         let Ok(()) = self.scopes.open(Frame::OpenType(behind)) else {
             return Err(self.fail(DecodeError::OutOfMemory));
@@ -284,7 +332,7 @@ impl<'input> Decoder<'input> {
     // Passes over what is left where a scope ends.
     #[inline(always)]
     fn pass_over(&mut self, ending: Ending<'input>) -> Result<(), DecodeError>
-        ensures ok { OnOk result (Stays self.old self.new × Passes (is_aligned self.old.variant) (freedoms self.old.variant) ending.entry self.old.place self.new.place) }
+        ensures ok { OnOk result (HasPassed ending.entry self.old self.new × Passes (is_aligned self.old.variant) (freedoms self.old.variant) ending.entry self.old.place self.new.place) }
         ensures only { IfErr result (NotPassed (is_aligned self.old.variant) (freedoms self.old.variant) ending.entry self.old.place) }
     {
         match ending {
@@ -298,6 +346,7 @@ impl<'input> Decoder<'input> {
             }
             Ending::OpenType(behind) => {
                 read_to_end(&mut self.place.cursor())?;
+                self.lends = false;
                 self.place = behind;
                 Ok(())
             }
@@ -391,20 +440,11 @@ impl<'input> asn1_schema_decode::Decoder for Decoder<'input> {
     fn decode_octet_string(
         &mut self,
         alloc: Global,
-        _tag: Tag,
+        tag: Tag,
         constraints: Constraints,
         held: Bounded<usize>,
     ) -> Result<CowSlice<'input, u8>, DecodeError> {
-        self.begin_record()?;
-        if let Some(mut lent) = self.place.lent_cursor() {
-            let octets = read_octet_string(alloc, &mut lent, self.variant, constraints, held);
-            return self.settle(lent.position(), octets);
-        }
-        let mut cursor = self.place.cursor();
-        let answer = read_held_octets(alloc, &mut cursor, self.variant, constraints, held);
-        let position = cursor.position();
-        let octets = self.settle(position, answer)?;
-        Ok(CowSlice::Owned(octets))
+        self.decode_octet_string(alloc, tag, constraints, held)
     }
 
     fn decode_utf8_string(

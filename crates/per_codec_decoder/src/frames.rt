@@ -151,7 +151,7 @@ impl<'input> Scopes<'input> {
 
     /// Closes the innermost scope, if it is an addition: the place behind its open type.
     pub(crate) fn leave_addition(&mut self) -> Option<Stretch<'input>>
-        ensures some { IfSome result (λ place. LeavesAddition place self.old self.new) }
+        ensures some { IfSome result (λ behind. LeavesAddition behind.place self.old self.new) }
         ensures none { IfNone result (NoAdditionEnd self.old) }
     {
         match self.pop() {

@@ -1,5 +1,5 @@
 //! The preamble of a sequence, set or group (X.691 19.1 to 19.3).
-ghost use Rattle.std.specs.Prelude.{◌≡◌, [], ◌∷◌, true, IfOk, IfErr};
+ghost use Rattle.std.specs.Prelude.{◌≡◌, [], ◌∷◌, true, OnOk, IfOk, IfErr};
 ghost use Rattle.asn1_model.specs.Form.{is_present};
 ghost use Rattle.oer_codec_fronts.specs.Takes.{preamble_bits};
 ghost use Rattle.per_codec_reading.specs.Fronts.{freedoms, is_aligned, Leads};
@@ -35,8 +35,9 @@ pub(crate) fn read_bit(cursor: &mut Cursor<'_>) -> Result<bool, DecodeError>
 #[inline(always)]
 fn read_mark(place: &mut Stretch<'_>, extensible: bool) -> Result<Option<bool>, DecodeError>
     ensures mark { IfOk result (λ mark. is_present mark ≡ extensible) }
-    ensures bits { IfOk result (λ mark. Leads (preamble_bits mark []) place.old place.new) }
-    ensures only { IfErr result (λ _. (extensible ≡ true) × (place.old.1 ≡ [])) }
+    ensures bits { IfOk result (λ mark. Leads (preamble_bits mark []) place.old.place place.new.place) }
+    ensures lends { OnOk result (place.new.lends ≡ place.old.lends) }
+    ensures only { IfErr result (λ _. (extensible ≡ true) × (place.old.place.1 ≡ [])) }
 {
     if !extensible {
         return Ok(None);
@@ -62,8 +63,9 @@ pub(crate) fn read_preamble<'input>(
     extensible: bool,
     optional: usize,
 ) -> Result<Frame<'input>, DecodeError>
-    ensures ok { IfOk result (λ frame. HasPreamble (freedoms variant) extensible optional (scope_of frame) place.old place.new) }
-    ensures only { IfErr result (NoPreamble (freedoms variant) extensible optional place.old) }
+    ensures ok { IfOk result (λ frame. HasPreamble (freedoms variant) extensible optional (scope_of frame) place.old.place place.new.place) }
+    ensures lends { OnOk result (place.new.lends ≡ place.old.lends) }
+    ensures only { IfErr result (NoPreamble (freedoms variant) extensible optional place.old.place) }
 {
     let mark = read_mark(place, extensible)?;
     let presence = place.take_field(alloc, variant, Field::Bits(optional))?;
@@ -81,8 +83,9 @@ pub(crate) fn read_bitmap<'input>(
     variant: Variant,
     mark: bool,
 ) -> Result<Stretch<'input>, DecodeError>
-    ensures ok { IfOk result (λ bitmap. HasBitmap (freedoms variant) (is_aligned variant) mark bitmap.1 place.old place.new) }
-    ensures only { IfErr result (NoBitmap (freedoms variant) (is_aligned variant) mark place.old) }
+    ensures ok { IfOk result (λ bitmap. HasBitmap (freedoms variant) (is_aligned variant) mark bitmap.place.1 place.old.place place.new.place) }
+    ensures lends { OnOk result (place.new.lends ≡ place.old.lends) }
+    ensures only { IfErr result (NoBitmap (freedoms variant) (is_aligned variant) mark place.old.place) }
 {
     if !mark {
         return Ok(Stretch::new(RunBits::Lent(BitStr::new())));

@@ -1,10 +1,13 @@
 -- Places of a stretch of bits.
-use Rattle.std.proofs.Common.{◌≡◌, ℕ, ◌+◌, ◌≤◌, Bool, List, [], ◌∷◌, ◌++◌, length, take, drop, refl, ap, sym, ◌∙◌, length-append, arith}
-use Rattle.std.proofs.lemmas.List.{length-drop, drop_at, drop-drop, take-append-drop}
+use Rattle.std.specs.Prelude.{min}
+use Rattle.std.proofs.Common.{◌≡◌, ℕ, ◌+◌, ◌≤◌, Bool, inl, inr, List, [], ◌∷◌, ◌++◌, length, take, drop, refl, ap, sym, ◌∙◌, length-append, arith}
+use Rattle.std.proofs.lemmas.Bool.{cases_lt}
+use Rattle.std.proofs.lemmas.List.{length-drop, length-take-le, drop_at, drop-drop, take_all, take-append-drop}
 use Rattle.asn1_model.specs.Per
 use Rattle.per_codec_fronts.specs.Takes.{Place, Front}
 use Rattle.per_codec_fronts.proofs.Next.{place_same}
 use Rattle.per_codec_reading.specs.Fronts.{Leads}
+use Rattle.per_codec_reading_units.specs.Runs.{StandsIn}
 
 -- behind bits that stand in front
 pub behind : (w bs : List Bool) (n : ℕ) (b : Place) → Leads w (n, drop n bs) b → (n + length w, drop (n + length w) bs) ≡ b
@@ -29,6 +32,17 @@ moved w bs n p q b l e m h =
 -- the next bit
 pub next_bits : (bs : List Bool) (n : ℕ) (b : Bool) → take 1 (drop n bs) ≡ b ∷ [] → drop n bs ≡ b ∷ drop (n + 1) bs
 next_bits bs n b e = sym (take-append-drop 1 (drop n bs)) ∙ ap (λ t. t ++ drop 1 (drop n bs)) e ∙ ap (λ t. b ∷ t) (drop-drop 1 n bs)
+
+-- the place behind so many of the bits
+pub stands : (bs : List Bool) (n : ℕ) → n ≤ length bs → StandsIn bs (n, drop n bs)
+stands bs n l = let e = length-take-le n bs l in (take n bs, (take-append-drop n bs, omega (arith, e)))
+
+-- as many as there are, and no more than so many
+pub take_at_most : (m n : ℕ) (xs : List ℕ) → m ≡ min (length xs) n → take m xs ≡ take n xs
+take_at_most m n xs e = elim (cases_lt n (length xs)) [
+  | inl l ↦ let s : m ≡ n = omega arith in ap (λ k. take k xs) s
+  | inr g ↦ take_all m xs (omega arith) ∙ sym (take_all n xs g)
+]
 
 module _ (free : Per.Freedom → Bool) where
   pub leads_of : (x : Per.BitForm) (a b : Place) (f : Front free x a b) → Leads f.text a b

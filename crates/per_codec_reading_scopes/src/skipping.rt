@@ -57,8 +57,8 @@ pub fn skip_unknown(
     variant: Variant,
     mut marks: Stretch<'_>,
 ) -> Result<(), DecodeError>
-    ensures ok { OnOk result (Skips (fronts.is_aligned variant) (freedoms variant) marks.entry.1 cursor.old cursor.new) }
-    ensures only { IfErr result (NoSkip (freedoms variant) (fronts.is_aligned variant) marks.entry.1 cursor.old) }
+    ensures ok { OnOk result (Skips (fronts.is_aligned variant) (freedoms variant) marks.entry.place.1 cursor.old cursor.new) }
+    ensures only { IfErr result (NoSkip (freedoms variant) (fronts.is_aligned variant) marks.entry.place.1 cursor.old) }
 {
     while let Some(is_there) = marks.next_bit() {
         if is_there {

@@ -1,12 +1,13 @@
 //! A stretch of bits, and how far it is read.
-ghost use Rattle.std.specs.Prelude.{◌≡◌, ◌≤◌, ◌-◌, ◌^◌, ◌∷◌, [], length, take, drop, IsTrue, ◌↔◌, IfOk, IfErr, IfSome, IfNone};
+ghost use Rattle.std.specs.Prelude.{◌≡◌, ◌≤◌, ◌-◌, ◌^◌, ◌∷◌, [], true, length, take, drop, IsTrue, ◌↔◌, OnOk, IfOk, IfErr, IfSome, IfNone, IsSomeAnd};
 ghost use Rattle.asn1_model.specs.Numbers.{octet_bits};
 ghost use Rattle.asn1_values_bits.specs.BitStr as bit_strs;
 ghost use Rattle.per_codec_fronts.specs.Takes.{Place, Front};
 ghost use Rattle.per_codec_reading.specs.Fronts as fronts;
 ghost use Rattle.per_codec_reading.specs.Fronts.{freedoms, Leads, Misses};
-ghost use Rattle.per_codec_reading_units.specs.Runs.{bits_in};
+ghost use Rattle.per_codec_reading_units.specs.Runs.{bits_in, StandsIn};
 ghost use Rattle.per_codec_reading_scopes.specs.Fields.{field_form, HasField};
+ghost use Rattle.per_codec_reading_scopes.specs.Stretches.{lends_octets};
 
 use crate::fields::{Field, read_field};
 use asn1_schema_faults::DecodeError;
@@ -15,6 +16,9 @@ use per_codec_reading::{Cursor, Variant};
 use per_codec_reading_units::RunBits;
 use std::alloc::{AllocError, Global};
 use std::marker::Model;
+
+/// An encoding has no more octets.
+const MOST_OCTETS: usize = (1 << 60) - 1;
 
 /// The bits of a message or of an open type, presence bits or a bitmap, lent or held, and how many of them are read.
 #[derive(Drop)]
@@ -25,12 +29,12 @@ pub struct Stretch<'input> {
 
 impl<'input> Model for Stretch<'input> {
     ghost use Rattle.std.specs.Prelude.{◌≤◌, length, drop};
-    ghost use Rattle.per_codec_fronts.specs.Takes.{Place};
     ghost use Rattle.per_codec_reading_units.specs.Runs.{bits_in};
+    ghost use Rattle.per_codec_reading_scopes.specs.Stretches.{Stretched, lends_octets};
 
-    ghost Value = { Place };
+    ghost Value = { Stretched };
 
-    ghost view = { λ stretch. (stretch.position, drop stretch.position (bits_in stretch.bits)) };
+    ghost view = { λ stretch. record { place = (stretch.position, drop stretch.position (bits_in stretch.bits)); lends = lends_octets stretch.bits } };
 
     ghost invariant = { λ stretch. stretch.position ≤ length (bits_in stretch.bits) };
 }
@@ -105,7 +109,7 @@ impl<'input> Stretch<'input> {
     /// Before these bits.
     #[inline(always)]
     pub fn new(bits: RunBits<'input>) -> Self
-        ensures { result ≡ (0, bits_in bits.entry) }
+        ensures { result ≡ record { place = (0, bits_in bits.entry); lends = lends_octets bits.entry } }
     {
         Stretch { bits, position: 0 }
     }
@@ -113,27 +117,29 @@ impl<'input> Stretch<'input> {
     /// Before these octets: an encoding has fewer than 2^60, and of more of them the first 2^60 - 1 alone are read.
     #[inline(always)]
     pub fn from_octets(input: &'input [u8]) -> Self
-        ensures { result ≡ (0, octet_bits (take (2 ^ 60 - 1) input.entry.now)) }
+        ensures place { result.place ≡ (0, octet_bits (take (2 ^ 60 - 1) input.entry.now)) }
+        ensures lends { result.lends ≡ true }
     {
-        let cursor = Cursor::new(input);
-        Stretch::new(RunBits::Lent(cursor.bits()))
+        let count = input.len().min(MOST_OCTETS);
+        Stretch::new(RunBits::Lent(BitStr::from_slice(&input[..count])))
     }
 
     /// The place that is reached.
     #[inline(always)]
     pub fn cursor(&self) -> Cursor<'_>
-        ensures { result ≡ self.now }
+        ensures { result ≡ self.now.place }
     {
         cursor_at(lent(&self.bits), self.position)
     }
 
-    /// The place that is reached, where the bits are lent by the input.
+    /// All of the bits, where they are lent by the input.
     #[inline(always)]
-    pub fn lent_cursor(&self) -> Option<Cursor<'input>>
-        ensures { IfSome result (λ cursor. cursor ≡ self.now) }
+    pub fn lent_bits(&self) -> Option<BitStr<'input>>
+        ensures stands { IfSome result (λ bits. StandsIn (bit_strs.bits_of bits) self.now.place) }
+        ensures lent { self.now.lends ≡ true → IsSomeAnd result (λ bits. bit_strs.offset_of bits ≡ 0) }
     {
         match &self.bits {
-            RunBits::Lent(bits) => Some(cursor_at(*bits, self.position)),
+            RunBits::Lent(bits) => Some(*bits),
             RunBits::Joined(_) => None,
         }
     }
@@ -141,7 +147,7 @@ impl<'input> Stretch<'input> {
     /// The unread bits.
     #[inline(always)]
     pub fn bits(&self) -> BitStr<'_>
-        ensures { bit_strs.bits_of result ≡ self.now.1 }
+        ensures { bit_strs.bits_of result ≡ self.now.place.1 }
     {
         let (_read, unread) = lent(&self.bits).split_at(self.position);
         unread
@@ -150,7 +156,8 @@ impl<'input> Stretch<'input> {
     /// Goes on to a later position, which a reader reached that began at this place.
     #[inline(always)]
     pub fn move_to(&mut self, position: usize)
-        ensures { (w : _) (b : Place) → b.0 ≡ position → Leads w self.old b → self.new ≡ b }
+        ensures place { (w : _) (b : Place) → b.0 ≡ position → Leads w self.old.place b → self.new.place ≡ b }
+        ensures lends { self.new.lends ≡ self.old.lends }
     {
         if position > lent(&self.bits).len() {
             return;
@@ -161,8 +168,9 @@ impl<'input> Stretch<'input> {
     /// Takes the next bit, if there is one.
     #[inline(always)]
     pub fn next_bit(&mut self) -> Option<bool>
-        ensures some { IfSome result (λ bit. self.old.1 ≡ bit ∷ self.new.1) }
-        ensures none { IfNone result (self.old.1 ≡ []) }
+        ensures some { IfSome result (λ bit. self.old.place.1 ≡ bit ∷ self.new.place.1) }
+        ensures none { IfNone result (self.old.place.1 ≡ []) }
+        ensures lends { self.new.lends ≡ self.old.lends }
     {
         let bits = lent(&self.bits);
         if self.position >= bits.len() {
@@ -177,7 +185,7 @@ impl<'input> Stretch<'input> {
     /// Whether all bits are read.
     #[inline(always)]
     pub fn is_empty(&self) -> bool
-        ensures { IsTrue result ↔ (self.now.1 ≡ []) }
+        ensures { IsTrue result ↔ (self.now.place.1 ≡ []) }
     {
         self.bits().is_empty()
     }
@@ -194,9 +202,10 @@ impl<'input> Stretch<'input> {
         variant: Variant,
         field: Field,
     ) -> Result<Stretch<'input>, DecodeError>
-        ensures start { IfOk result (λ taken. taken.0 ≡ 0) }
-        ensures ok { IfOk result (λ taken. Front (freedoms variant) (field_form (fronts.is_aligned variant) field taken.1) self.old self.new) }
-        ensures only { IfErr result (Misses (freedoms variant) (field_form (fronts.is_aligned variant) field) self.old) }
+        ensures start { IfOk result (λ taken. taken.place.0 ≡ 0) }
+        ensures ok { IfOk result (λ taken. Front (freedoms variant) (field_form (fronts.is_aligned variant) field taken.place.1) self.old.place self.new.place) }
+        ensures lends { OnOk result (self.new.lends ≡ self.old.lends) }
+        ensures only { IfErr result (Misses (freedoms variant) (field_form (fronts.is_aligned variant) field) self.old.place) }
     {
         let (bits, position) = take_field(alloc, &self.bits, self.position, variant, field)?;
         self.move_to(position);

@@ -9,13 +9,13 @@ use Rattle.per_codec_decoder.proofs.Settling.{unfound, also}
 use Rattle.asn1_model.specs.Schema.{octet_string}
 use Rattle.asn1_schema_presented.specs.Records.{asks_octets}
 use Rattle.per_codec_decoder.proofs.Finding.{asked_octets, octets_within}
-use Rattle.per_codec_decoder.proofs.decoder.DecoderDecoder.decode_octet_string.Goals as goal
+use Rattle.per_codec_decoder.proofs.decoder.Decoder.decode_octet_string.Goals as goal
 
 pub returns-in-Some-clause-held : goal.returns-in-Some-clause-held
-returns-in-Some-clause-held c = also c.read_octet_string-octets.result c.settle.result _ _ c.settle.ensures.same c.read_octet_string-octets.ensures.ok (λ x f. octets_within (freedoms c.self.inside.variant) (is_aligned c.self.inside.variant) _ _ (sizes_of c.args.constraints.size) (counts_of c.args.held) _ f)
+returns-in-Some-clause-held c = also c.read_octet_string_in-lent.result c.settle.result _ _ c.settle.ensures.same c.read_octet_string_in-lent.ensures.ok (λ x f. octets_within (freedoms c.self.inside.variant) (is_aligned c.self.inside.variant) _ _ (sizes_of c.args.constraints.size) (counts_of c.args.held) _ f)
 
 pub returns-in-Some-clause-only : goal.returns-in-Some-clause-only
-returns-in-Some-clause-only c = unfound c.read_octet_string-octets.result c.settle.result (asks_octets (sizes_of c.args.constraints.size) (counts_of c.args.held)) (octet_string (sizes_of c.args.constraints.size) (counts_of c.args.held)) _ _ c.in-Some.lent (c.self.view_is ∙ c.in_ok-begin_record.ensures.ok.1) c.in-Some.ensures c.settle.ensures.same c.read_octet_string-octets.ensures.only (λ al free a b. asked_octets al free a b (sizes_of c.args.constraints.size) (counts_of c.args.held))
+returns-in-Some-clause-only c = unfound c.read_octet_string_in-lent.result c.settle.result (asks_octets (sizes_of c.args.constraints.size) (counts_of c.args.held)) (octet_string (sizes_of c.args.constraints.size) (counts_of c.args.held)) _ _ c.cursor-cursor.result (c.self.view_is ∙ c.in_ok-begin_record.ensures.ok.1) c.cursor-cursor.ensures c.settle.ensures.same c.read_octet_string_in-lent.ensures.only (λ al free a b. asked_octets al free a b (sizes_of c.args.constraints.size) (counts_of c.args.held))
 
 pub returns-in_err-octets-clause-only : goal.returns-in_err-octets-clause-only
 returns-in_err-octets-clause-only c = raised _ _ _ c.from_residual-in_err-octets.ensures.1 (unfound c.read_held_octets-answer.result (Err c.in_err-octets.field-0.0) (asks_octets (sizes_of c.args.constraints.size) (counts_of c.args.held)) (octet_string (sizes_of c.args.constraints.size) (counts_of c.args.held)) _ _ c.cursor-cursor.result (c.self.view_is ∙ c.in_ok-begin_record.ensures.ok.1) c.cursor-cursor.ensures c.in_err-octets.ensures.same c.read_held_octets-answer.ensures.only (λ al free a b. asked_octets al free a b (sizes_of c.args.constraints.size) (counts_of c.args.held)))
