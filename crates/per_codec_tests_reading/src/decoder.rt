@@ -7,6 +7,7 @@ use asn1_schema_tags::Tag;
 use asn1_schema_variants::Chosen;
 use per_codec::uper::{Decoder, DecoderOptions};
 use std::alloc::{AllocError, Global};
+use std::borrow::CowSlice;
 use std::test::Fail;
 
 /// SEQUENCE {a BOOLEAN, ..., b BOOLEAN} with a true and b false, behind which stands an addition that the type lacks.
@@ -215,5 +216,24 @@ fn unknown_additions_may_stand_in_fragments(rt: HostRuntime) -> Result<(), Fail>
     let mut decoder = Decoder::new(alloc, message.as_slice(), DecoderOptions::aligned());
     let passed = pass_over(&mut decoder);
     assert!(rt; passed == Ok(()));
+    Ok(())
+}
+
+/// Whether the string of octets behind the first bit of an aligned message is lent by it, and is these octets.
+fn lends(alloc: Global, input: &[u8], expected: &[u8]) -> Result<bool, DecodeError> {
+    let mut decoder = Decoder::new(alloc, input, DecoderOptions::aligned());
+    decoder.decode_bool(Tag::BOOL)?;
+    let tag = Tag::OCTET_STRING;
+    match decoder.decode_octet_string(alloc, tag, Constraints::NONE, Bounded::None)? {
+        CowSlice::Borrowed(octets) => Ok(octets == expected),
+        CowSlice::Owned(_) => Ok(false),
+    }
+}
+
+#[test]
+fn an_aligned_message_lends_its_octets(rt: HostRuntime) -> Result<(), Fail> {
+    let alloc = rt.alloc();
+    assert!(rt; lends(alloc, &[0x80, 0x03, 0x01, 0x02, 0x03], &[1, 2, 3])?);
+    assert!(rt; lends(alloc, &[0x80, 0x00], &[])?);
     Ok(())
 }
