@@ -5,6 +5,7 @@ mod components;
 mod constraints;
 mod faults;
 mod fields;
+mod order;
 mod records;
 mod tags;
 mod variants;

@@ -8,6 +8,8 @@ mod tests_chain;
 #[cfg(test)]
 mod tests_named;
 #[cfg(test)]
+mod tests_records;
+#[cfg(test)]
 mod tests_refused;
 #[cfg(test)]
 mod tests_strings;

@@ -4,6 +4,3 @@
 mod order;
 
 pub use order::{Encoded, put_in_order};
-
-#[cfg(test)]
-mod tests;

@@ -1,3 +1,2 @@
 pub mod Taken
 pub mod Laws
-pub mod Trial

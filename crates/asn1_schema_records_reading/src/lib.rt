@@ -4,6 +4,3 @@
 pub mod decoder;
 
 pub use decoder::RecordDecoder;
-
-#[cfg(test)]
-mod tests;

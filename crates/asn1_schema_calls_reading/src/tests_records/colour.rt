@@ -2,7 +2,7 @@
 ghost use Rattle.std.specs.Prelude.{◌∷◌, [], refl, pos, true, false};
 ghost use Rattle.asn1_model.specs.Value.{item};
 ghost use Rattle.asn1_schema_constraints.specs.Sets.{no_constraint};
-ghost use Rattle.asn1_schema_records_reading.specs.Trial.{colours, colours_typed, colours_valued};
+ghost use Rattle.asn1_schema_calls_reading.specs.Trial.{colours, colours_typed, colours_valued};
 
 use asn1_schema_constraints::Constraints;
 use asn1_schema_tags::{Identifier, Tag, TagTree};
@@ -21,7 +21,7 @@ pub enum Colour {
 }
 
 impl Described for Colour {
-    ghost use Rattle.asn1_schema_records_reading.specs.declared.tests.colour.Colour.TheVariants.{Red, Blue, Green};
+    ghost use Rattle.asn1_schema_calls_reading.specs.declared.tests_records.colour.Colour.TheVariants.{Red, Blue, Green};
 
     ghost tags = { record { class = 0; number = 10 } ∷ [] };
 
@@ -57,7 +57,7 @@ impl AsnType for Colour {
 }
 
 impl Enumerated for Colour {
-    ghost use Rattle.asn1_schema_records_reading.specs.declared.tests.colour.Colour.TheVariants.{Red, Blue, Green};
+    ghost use Rattle.asn1_schema_calls_reading.specs.declared.tests_records.colour.Colour.TheVariants.{Red, Blue, Green};
 
     ghost roots = { pos 0 ∷ pos 2 ∷ [] };
 
