@@ -32,12 +32,13 @@ pub fn begin_additions(
             if !extensible || due > 0 {
                 return Err(EncodeError::SizeConstraintNotSatisfied);
             }
+            let slots = Vec::with_capacity(alloc, count)?;
             frames.push(Frame::Added(Additions {
                 due: count,
                 given,
                 start,
                 end: Place::end_of(output),
-                slots: Vec::new(alloc),
+                slots,
             }))?;
             Ok(())
         }
