@@ -1,5 +1,5 @@
 -- Additions that begin, come and end, in the bits and the frames of an encoder.
-use Rattle.std.proofs.Common.{◌≡◌, ℕ, zero, suc, ◌-◌, ◌<◌, Bool, true, false, List, [], ◌∷◌, ◌++◌, length, reverse, Option, Some, None, option_map, Vec, Global, refl, ap, subst, sym, ◌∙◌, arith}
+use Rattle.std.proofs.Common.{◌≡◌, ℕ, zero, suc, ◌-◌, ◌<◌, Bool, true, false, cond, List, [], ◌∷◌, ◌++◌, length, reverse, Option, Some, None, option_map, Vec, Global, refl, ap, subst, sym, ◌∙◌, arith}
 use Rattle.std.proofs.lemmas.List.{append-nil}
 use Rattle.asn1_schema_presented.specs.Records.{additions_begin, addition, addition_ends}
 use Rattle.per_codec_texts.specs.Texts.{Text, as_text, plain}
@@ -9,6 +9,7 @@ use Rattle.per_codec_encoder_frames.specs.declared.frame.Additions.{Additions}
 use Rattle.per_codec_encoder_frames.specs.declared.frame.Frame.{Frame}
 use Rattle.per_codec_encoder_frames.specs.declared.frame.Place.{Place}
 use Rattle.per_codec_encoder_frames.specs.declared.frame.Frame.TheVariants.{Components, Added, OpenType, Members, Bag, Alternative}
+use Rattle.per_codec_encoder_frames.specs.Frames.{Next, CountsAddition}
 use Rattle.per_codec_encoder_frames.specs.Holding.{at, preamble, IsOpen, IsAdded, Holds, Does}
 use Rattle.per_codec_encoder_frames.proofs.Scopes.{length-open, on_top, put_back}
 
@@ -107,19 +108,35 @@ module _ (fs rest : List Frame) (f : Frame) (ad : Additions) (o : Packed) (a : f
           let slots : List (Option (List Bool)) = ad.slots.items ++ None ∷ [] in
           (then_state s h (ad.due - 1) slots, one_due s h al false n, put_back rest gs (Added (kept (ad.due - 1) ad.given ad.start ad.end v)) o (then_state s h (ad.due - 1) slots) y (then_open s h (ad.due - 1) slots v.items i))
 
-  pub does_open : (gs hs : List Frame) (outer p : Packed) (present : Bool) → present ≡ true → (ad.due ≡ 0 → ⊥) → outer ≡ o → p ≡ record { text = []; placed = true } → gs ≡ rest ++ Added (kept (ad.due - 1) ad.given ad.start ad.end ad.slots) ∷ [] → hs ≡ gs ++ OpenType outer ∷ [] → (al : Bool) → Does al (addition present) fs o hs p
-  does_open gs hs outer p false c n i e y x al = cc
-  does_open gs hs outer p true c n i e y x al = record { after = λ s h. go s (top s h) }
+  pub does_open : (gs hs : List Frame) (v : Vec (Option (List Bool)) Global) (outer p : Packed) (present : Bool) → present ≡ true → (ad.due ≡ 0 → ⊥) → v.items ≡ ad.slots.items → outer ≡ o → p ≡ record { text = []; placed = true } → gs ≡ rest ++ Added (kept (ad.due - 1) ad.given ad.start ad.end v) ∷ [] → hs ≡ gs ++ OpenType outer ∷ [] → (al : Bool) → Does al (addition present) fs o hs p
+  does_open gs hs v outer p false c n j i e y x al = cc
+  does_open gs hs v outer p true c n j i e y x al = record { after = λ s h. go s (top s h) }
     where
       go : (s : State) → Open s → (t : State) × (run al (addition true) s ≡ Some t) × Holds (reverse hs) p t
       go s h =
           let t : State = then_state s h (ad.due - 1) ad.slots.items in
           let z : State = ([], open_type t.0 ∷ t.1) in
-          let under : Holds (reverse gs) o t = put_back rest gs (Added (kept (ad.due - 1) ad.given ad.start ad.end ad.slots)) o t y (then_open s h (ad.due - 1) ad.slots.items ad.slots.items refl) in
+          let under : Holds (reverse gs) o t = put_back rest gs (Added (kept (ad.due - 1) ad.given ad.start ad.end v)) o t y (then_open s h (ad.due - 1) ad.slots.items v.items j) in
           (z, one_due s h al true n, put_back gs hs (OpenType outer) p z x (t, ap (λ (l : Packed). let q : State = (l.text, open_type t.0 ∷ t.1) in q) (sym e), ap (λ (l : Packed). l.placed) e, subst (λ l. Holds (reverse gs) l t) (sym i) under))
 
   pub none_due : (al present : Bool) → ad.due ≡ 0 → (s : State) → Holds (reverse fs) o s → run al (addition present) s ≡ None
   none_due al present n s q = let h = top s q in ap (run al (addition present)) (h.is ∙ ap (λ k. then_state s h k ad.slots.items) n)
+
+-- the additions behind the next one, by their parts
+next_is : {here : Bool} {x y : Additions} → Next here x y → y ≡ kept (x.due - 1) x.given x.start x.end y.slots
+next_is {here} {x} {y} n =
+    ap (λ k. kept k y.given y.start y.end y.slots) n.counts
+    ∙ (ap (λ k. kept (x.due - 1) k y.start y.end y.slots) n.given
+    ∙ (ap (λ p. kept (x.due - 1) x.given p y.end y.slots) n.start
+    ∙ ap (λ p. kept (x.due - 1) x.given x.start p y.slots) n.end))
+
+pub does_no_addition : (present : Bool) (fs gs : List Frame) (o : Packed) → present ≡ false → CountsAddition present fs gs → (al : Bool) → Does al (addition present) fs o gs o
+does_no_addition present fs gs o e c al =
+    does_pass fs c.around (Added c.old) c.old o c.before refl gs c.new.slots present e (λ z. absurd (omega (arith, z, c.next.one))) (c.next.slots ∙ ap (λ b. cond b c.old.slots.items (c.old.slots.items ++ None ∷ [])) e) (c.after ∙ ap (λ x. c.around ++ Added x ∷ []) (next_is c.next)) al
+
+pub does_addition : (present : Bool) (fs gs hs : List Frame) (o outer p : Packed) → present ≡ true → CountsAddition present fs gs → outer ≡ o → p ≡ record { text = []; placed = true } → hs ≡ gs ++ OpenType outer ∷ [] → (al : Bool) → Does al (addition present) fs o hs p
+does_addition present fs gs hs o outer p e c i n x al =
+    does_open fs c.around (Added c.old) c.old o c.before refl gs hs c.new.slots outer p present e (λ z. absurd (omega (arith, z, c.next.one))) (c.next.slots ∙ ap (λ b. cond b c.old.slots.items (c.old.slots.items ++ None ∷ [])) e) i n (c.after ∙ ap (λ x. c.around ++ Added x ∷ []) (next_is c.next)) x al
 
 -- ---- one that is there ends
 

@@ -1,3 +1,4 @@
 pub mod Headings
 pub mod Bags
 pub mod Holding
+pub mod Frames

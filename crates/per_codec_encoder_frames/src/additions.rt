@@ -1,6 +1,7 @@
 //! Additions of sequences and sets, which are kept until these end.
 ghost use Rattle.std.specs.Prelude.{◌≡◌, Bool, MatchResult};
 ghost use Rattle.asn1_schema_presented.specs.Records.{additions_begin, addition, addition_ends};
+ghost use Rattle.per_codec_encoder_frames.specs.Frames.{Next};
 ghost use Rattle.per_codec_encoder_frames.specs.Holding.{Does, Cannot};
 
 use crate::frame::{Additions, Frame, Place};
@@ -31,12 +32,13 @@ pub fn begin_additions(
             if !extensible || due > 0 {
                 return Err(EncodeError::SizeConstraintNotSatisfied);
             }
+            let slots = Vec::with_capacity(alloc, count)?;
             frames.push(Frame::Added(Additions {
                 due: count,
                 given,
                 start,
                 end: Place::end_of(output),
-                slots: Vec::new(alloc),
+                slots,
             }))?;
             Ok(())
         }
@@ -44,7 +46,23 @@ pub fn begin_additions(
     }
 }
 
+/// Counts the next addition, and keeps the place of one that is not there.
+#[inline(always)]
+pub(crate) fn count_addition(additions: &mut Additions, present: bool) -> Result<(), EncodeError>
+    ensures { MatchResult result (λ _. Next present additions.old additions.new) (λ e. ¬ (e ≡ EncodeError.OutOfMemory) → additions.old.due ≡ 0) }
+{
+    if additions.due == 0 {
+        return Err(EncodeError::SizeConstraintNotSatisfied);
+    }
+    if !present {
+        additions.slots.push(None)?;
+    }
+    additions.due -= 1;
+    Ok(())
+}
+
 /// Whether the next addition is there. The bits of one that is there stand alone until it ends (X.691 11.2 and 19.9).
+#[inline]
 pub fn put_addition(
     output: &mut Packing,
     frames: &mut Frames,
@@ -53,25 +71,12 @@ pub fn put_addition(
 ) -> Result<(), EncodeError>
     ensures { MatchResult result (λ _. (al : Bool) → Does al (addition present) frames.old output.old frames.new output.new) (λ e. (al : Bool) → Cannot al (addition present) frames.old output.old e) }
 {
-    match frames.pop() {
-        Some(Frame::Added(before)) => {
-            let mut additions = before;
-            if additions.due == 0 {
-                return Err(EncodeError::SizeConstraintNotSatisfied);
-            }
-            additions.due -= 1;
-            if !present {
-                additions.slots.push(None)?;
-                frames.push(Frame::Added(additions))?;
-                return Ok(());
-            }
-            frames.push(Frame::Added(additions))?;
-            let outer = mem::replace(output, Packing::new(alloc));
-            frames.push(Frame::OpenType { outer })?;
-            Ok(())
-        }
-        _ => Err(EncodeError::SizeConstraintNotSatisfied),
+    frames.next_addition(present)?;
+    if present {
+        let outer = mem::replace(output, Packing::new(alloc));
+        frames.push(Frame::OpenType { outer })?;
     }
+    Ok(())
 }
 
 /// An addition ends, and its bits are kept.

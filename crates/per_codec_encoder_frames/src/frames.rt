@@ -1,7 +1,13 @@
 //! What is open, from the outermost on.
-ghost use Rattle.std.specs.Prelude.{◌≡◌, ◌++◌, ◌∷◌, [], OnOk, IsSome, option_to_list};
+ghost use Rattle.std.specs.Prelude.{◌≡◌, ◌++◌, ◌∷◌, [], Bool, OnOk, IfErr, IsSome, option_to_list};
+ghost use Rattle.asn1_schema_presented.specs.Records.{addition};
+ghost use Rattle.per_codec_packing.specs.Packed.{Packed};
+ghost use Rattle.per_codec_encoder_frames.specs.Frames.{CountsAddition};
+ghost use Rattle.per_codec_encoder_frames.specs.Holding.{Cannot};
 
+use crate::additions::count_addition;
 use crate::frame::Frame;
+use asn1_schema_faults::EncodeError;
 use std::alloc::{AllocError, Global};
 use std::marker::Model;
 use std::mem;
@@ -70,5 +76,18 @@ impl Frames {
             return self.innermost.take();
         }
         mem::replace(&mut self.innermost, self.outer.pop())
+    }
+
+    /// Counts the next addition of the innermost sequence or set.
+    #[inline(always)]
+    pub(crate) fn next_addition(&mut self, present: bool) -> Result<(), EncodeError>
+        ensures ok { OnOk result (CountsAddition present self.old self.new) }
+        ensures only { IfErr result (λ e. (al : Bool) (o : Packed) → Cannot al (addition present) self.old o e) }
+    {
+        match &mut self.innermost {
+            Some(Frame::Added(additions)) => count_addition(additions, present)?,
+            _ => return Err(EncodeError::SizeConstraintNotSatisfied),
+        }
+        Ok(())
     }
 }

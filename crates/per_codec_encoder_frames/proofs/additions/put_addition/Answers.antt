@@ -1,13 +1,15 @@
-use Rattle.std.proofs.Common.{◌∙◌}
-use Rattle.per_codec_encoder_frames.proofs.Added.{does_pass, does_open}
+use Rattle.std.proofs.Common.{◌∙◌, Bool}
+use Rattle.asn1_schema_presented.specs.Records.{addition}
+use Rattle.per_codec_encoder_frames.specs.Holding.{Cannot}
+use Rattle.per_codec_encoder_frames.proofs.Added.{does_no_addition, does_addition}
+use Rattle.per_codec_encoder_frames.proofs.HeadingTexts.{raised_on}
 use Rattle.per_codec_encoder_frames.proofs.additions.put_addition.Goals as goal
 
-pub returns-then-not-present : goal.returns-then-not-present
-returns-then-not-present c =
-    let f = c.in-Some-Added in
-    does_pass c.args.frames.now c.pop.new.self f.field-0 f.before c.args.output.now f.ensures.items f.field-0-is c.push-then-not-present.new.self c.push.new.self c.args.present c.if-not-present.true c.if-additions-eq0.false c.in_ok-push-in-Some-Added.ensures.items c.in_ok-push-in-Some-Added-2.ensures.items
+pub returns-in_err-next_addition : goal.returns-in_err-next_addition
+returns-in_err-next_addition c = raised_on _ (λ e. (al : Bool) → Cannot al (addition c.args.present) c.args.frames.now c.args.output.now e) _ _ c.from_residual.ensures.0 c.from_residual.ensures.1 (λ al. c.in_err-next_addition.ensures.only al c.args.output.now)
 
-pub returns-in-Some-Added : goal.returns-in-Some-Added
-returns-in-Some-Added c =
-    let f = c.in-Some-Added in
-    does_open c.args.frames.now c.pop.new.self f.field-0 f.before c.args.output.now f.ensures.items f.field-0-is c.push-in-Some-Added.new.self c.push-in-Some-Added-2.new.self c.replace-outer.result c.replace-outer.new.dest c.args.present c.if-not-present.false c.if-additions-eq0.false c.replace-outer.ensures.value (c.replace-outer.ensures.after ∙ c.new.ensures) c.in_ok-push-in-Some-Added-3.ensures.items c.in_ok-push-in-Some-Added-4.ensures.items
+pub returns-in_ok-push : goal.returns-in_ok-push
+returns-in_ok-push c = does_addition c.args.present c.args.frames.now c.next_addition.new.self c.push.new.self c.args.output.now c.replace-outer.result c.replace-outer.new.dest c.if-present.true c.in_ok-next_addition.ensures.ok c.replace-outer.ensures.value (c.replace-outer.ensures.after ∙ c.new.ensures) c.in_ok-push.ensures.items
+
+pub returns-else-present : goal.returns-else-present
+returns-else-present c = does_no_addition c.args.present c.args.frames.now c.next_addition.new.self c.args.output.now c.if-present.false c.in_ok-next_addition.ensures.ok
