@@ -9,6 +9,3 @@ pub mod writing;
 
 /// The edition of X.696 that is followed.
 pub const ITU_T_X696_OER_EDITION: u32 = 3;
-
-#[cfg(test)]
-mod tests;

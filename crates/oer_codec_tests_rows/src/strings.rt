@@ -1,8 +1,7 @@
 //! Strings of bits, of octets and of characters (X.696 13, 14, 27), and object identifiers (X.696 15).
-use super::{
+use crate::rows::{
     both_refuse, both_refuse_under, is_read_by_basic_rules_alone, stands_as, stands_under,
 };
-use crate::coer;
 use asn1_schema_bounds::Bounded;
 use asn1_schema_constraints::{Constraint, Constraints, Extensible, PermittedAlphabet, Size};
 use asn1_schema_encode::Encode;
@@ -13,6 +12,7 @@ use asn1_values_identifiers::{ObjectIdentifier, Oid};
 use asn1_values_octets::OctetString;
 use asn1_values_strings::{Ia5String, NumericString, PrintableString, VisibleString};
 use asn1_values_strings_wide::BmpString;
+use oer_codec::coer;
 use std::alloc::{AllocError, Global};
 use std::test::Fail;
 
@@ -58,14 +58,22 @@ fn fourteen_stand_under(
     stands_under(alloc, constraint, &fourteen, octets)
 }
 
+/// Why they have no canonical encoding under one constraint.
+fn refusal_of_fourteen(
+    alloc: Global,
+    constraint: Constraint<'_>,
+) -> Result<Option<EncodeError>, AllocError> {
+    let fourteen = fourteen_bits(alloc)?;
+    Ok(refusal(alloc, constraint, &fourteen))
+}
+
 #[test]
 fn bits(rt: HostRuntime) -> Result<(), Fail> {
     let alloc = rt.alloc();
     assert!(rt; whole_octets_stand_as(alloc, &[0x01], &[0x02, 0x00, 0x01])?);
     assert!(rt; fourteen_stand_as(alloc, &[0x03, 0x02, 0xFF, 0x40])?);
     assert!(rt; fourteen_stand_under(alloc, size(14, 14), &[0xFF, 0x40])?);
-    let fourteen = fourteen_bits(alloc)?;
-    let refused = refusal(alloc, size(15, 15), &fourteen);
+    let refused = refusal_of_fourteen(alloc, size(15, 15))?;
     assert_eq!(rt; refused, Some(EncodeError::SizeConstraintNotSatisfied));
     Ok(())
 }
@@ -76,7 +84,7 @@ fn no_bits_stand_as(alloc: Global, octets: &[u8]) -> Result<bool, Fail> {
 }
 
 /// Whether the basic rules alone read no bits from these octets.
-fn is_no_bits_by_basic_rules_alone(alloc: Global, octets: &[u8]) -> Result<bool, Fail> {
+fn is_no_bits_by_basic_rules_alone(alloc: Global, octets: &[u8]) -> Result<bool, DecodeError> {
     let other = DecodeError::NotValidCanonicalEncoding;
     is_read_by_basic_rules_alone(alloc, &BitString::new(alloc), octets, other)
 }
@@ -85,7 +93,7 @@ fn is_no_bits_by_basic_rules_alone(alloc: Global, octets: &[u8]) -> Result<bool,
 fn is_four_bits_by_basic_rules_alone(alloc: Global, octets: &[u8]) -> Result<bool, Fail> {
     let four = BitString::from_bitslice(alloc, BitStr::front_of(&[0xF0], 4))?;
     let other = DecodeError::NotValidCanonicalEncoding;
-    is_read_by_basic_rules_alone(alloc, &four, octets, other)
+    Ok(is_read_by_basic_rules_alone(alloc, &four, octets, other)?)
 }
 
 #[test]
@@ -116,7 +124,7 @@ fn string_refusal(
     alloc: Global,
     constraint: Constraint<'_>,
     string: &[u8],
-) -> Result<Option<EncodeError>, Fail> {
+) -> Result<Option<EncodeError>, AllocError> {
     let string = OctetString::from_slice(alloc, string)?;
     Ok(refusal(alloc, constraint, &string))
 }
@@ -128,10 +136,8 @@ fn octets(rt: HostRuntime) -> Result<(), Fail> {
     assert!(rt; string_stands_under(alloc, size(3, 6), &[1, 2, 3, 4, 5], &octets)?);
     let outside = Some(EncodeError::SizeConstraintNotSatisfied);
     assert_eq!(rt; string_refusal(alloc, size(3, 6), &[1, 2])?, outside);
-    assert_eq!(rt;
-        string_refusal(alloc, size(3, 6), &[1, 2, 3, 4, 5, 6, 7])?,
-        outside
-    );
+    let seven = [1, 2, 3, 4, 5, 6, 7];
+    assert_eq!(rt; string_refusal(alloc, size(3, 6), &seven)?, outside);
     Ok(())
 }
 
@@ -191,19 +197,29 @@ fn characters(rt: HostRuntime) -> Result<(), Fail> {
     Ok(())
 }
 
-/// Whether UTF8String of so many twos stands in these octets.
-fn twos_stand_as(alloc: Global, count: u8, octets: &[u8]) -> Result<bool, Fail> {
-    let mut twos = String::new(alloc);
-    push_twos(&mut twos, count)?;
-    stands_as(alloc, &twos, octets)
-}
-
 /// Adds so many twos.
 fn push_twos(text: &mut String, count: u8) -> Result<(), AllocError> {
     for _ in 0..count {
         text.push('2')?;
     }
     Ok(())
+}
+
+/// Adds so many twos to no text: whether UTF8String of them stands in these octets.
+fn added_twos_stand_as(
+    alloc: Global,
+    text: &mut String,
+    count: u8,
+    octets: &[u8],
+) -> Result<bool, Fail> {
+    push_twos(text, count)?;
+    stands_as(alloc, text, octets)
+}
+
+/// Whether UTF8String of so many twos stands in these octets.
+fn twos_stand_as(alloc: Global, count: u8, octets: &[u8]) -> Result<bool, Fail> {
+    let mut twos = String::new(alloc);
+    added_twos_stand_as(alloc, &mut twos, count, octets)
 }
 
 /// Whether UTF8String stands in these octets under one constraint.
@@ -241,12 +257,17 @@ fn characters_that_are_refused(rt: HostRuntime) {
     assert!(rt; both_refuse_under::<NumericString>(alloc, size(3, 7), &[0x02, 0x31, 0x32], few));
 }
 
+/// Whether OBJECT IDENTIFIER stands in these octets.
+fn identifier_stands_as(alloc: Global, oid: &Oid, octets: &[u8]) -> Result<bool, Fail> {
+    let identifier = ObjectIdentifier::from_oid(alloc, oid)?;
+    stands_as(alloc, &identifier, octets)
+}
+
 #[test]
 fn identifiers(rt: HostRuntime) -> Result<(), Fail> {
     let alloc = rt.alloc();
     let oid = Oid::new_unchecked(&[1, 2, 3321]);
-    let identifier = ObjectIdentifier::from_oid(alloc, &oid)?;
-    assert!(rt; stands_as(alloc, &identifier, &[0x03, 0x2A, 0x99, 0x79])?);
+    assert!(rt; identifier_stands_as(alloc, &oid, &[0x03, 0x2A, 0x99, 0x79])?);
     let wrong = DecodeError::InvalidObjectIdentifier;
     assert!(rt; both_refuse::<ObjectIdentifier>(alloc, &[0x03, 0x2A, 0x80, 0x01], wrong));
     Ok(())

@@ -1,12 +1,18 @@
 //! Sequences, record by record (X.696 16).
-use crate::coer::{Decoder, DecoderOptions, Encoder, EncoderOptions};
 use asn1_schema_decode::{Decode, Decoder as Reading};
 use asn1_schema_encode::{Encode, Encoder as Writing};
 use asn1_schema_faults::{DecodeError, EncodeError};
 use asn1_schema_tags::Tag;
 use asn1_values_numbers::Integer;
+use oer_codec::coer::{Decoder, DecoderOptions, Encoder, EncoderOptions};
 use std::alloc::Global;
 use std::test::Fail;
+
+/// The octets of `write_nested`.
+const NESTED: [u8; 10] = [0x01, 0x01, 0x80, 0x01, 0x02, 0x80, 0x01, 0x03, 0x01, 0x04];
+
+/// The octets of `write_twelve`.
+const TWELVE: [u8; 10] = [0x88, 0x80, 0x01, 0x01, 0x01, 0x01, 0x01, 0x01, 0x01, 0x01];
 
 /// Hands over INTEGER.
 fn write_number(encoder: &mut Encoder<'_>, number: i64) -> Result<(), EncodeError> {
@@ -47,6 +53,15 @@ fn has_written(encoder: &mut Encoder<'_>, expected: &[u8]) -> bool {
     encoder.output().as_slice() == expected
 }
 
+/// Writes the nested ones and the twelve: whether their octets stand in the buffer.
+fn writes_both(encoder: &mut Encoder<'_>) -> Result<bool, EncodeError> {
+    write_nested(encoder)?;
+    let nested = has_written(encoder, &NESTED);
+    write_twelve(encoder)?;
+    let twelve = has_written(encoder, &TWELVE);
+    Ok(nested && twelve)
+}
+
 /// Whether the next number is this one.
 fn is_next(alloc: Global, decoder: &mut Decoder<'_>, number: i64) -> Result<bool, DecodeError> {
     Ok(Integer::decode(alloc, decoder)? == Integer::from(number))
@@ -67,11 +82,16 @@ fn has_nested(alloc: Global, decoder: &mut Decoder<'_>) -> Result<bool, DecodeEr
     Ok(first && second && third && fourth)
 }
 
-/// Whether the nested ones are read, and nothing stands behind them.
+/// Whether the nested ones are next, and nothing stands behind them.
+fn ends_with_nested(alloc: Global, decoder: &mut Decoder<'_>) -> Result<bool, DecodeError> {
+    let found = has_nested(alloc, decoder)?;
+    Ok(found && decoder.remaining().is_empty())
+}
+
+/// Whether these octets are those of the nested ones.
 fn reads_nested(alloc: Global, octets: &[u8]) -> Result<bool, DecodeError> {
     let mut decoder = Decoder::new(alloc, octets, DecoderOptions::coer());
-    let found = has_nested(alloc, &mut decoder)?;
-    Ok(found && decoder.remaining().is_empty())
+    ends_with_nested(alloc, &mut decoder)
 }
 
 /// Whether the twelve are next, and as those of them that are there.
@@ -89,27 +109,27 @@ fn has_twelve(alloc: Global, decoder: &mut Decoder<'_>) -> Result<bool, DecodeEr
     Ok(all_right)
 }
 
-/// Whether the twelve are read, and nothing stands behind them.
+/// Whether the twelve are next, and nothing stands behind them.
+fn ends_with_twelve(alloc: Global, decoder: &mut Decoder<'_>) -> Result<bool, DecodeError> {
+    let found = has_twelve(alloc, decoder)?;
+    Ok(found && decoder.remaining().is_empty())
+}
+
+/// Whether these octets are those of the twelve.
 fn reads_twelve(alloc: Global, octets: &[u8]) -> Result<bool, DecodeError> {
     let mut decoder = Decoder::new(alloc, octets, DecoderOptions::coer());
-    let found = has_twelve(alloc, &mut decoder)?;
-    Ok(found && decoder.remaining().is_empty())
+    ends_with_twelve(alloc, &mut decoder)
 }
 
 #[test]
 fn sequences_record_by_record(rt: HostRuntime) -> Result<(), Fail> {
     let alloc = rt.alloc();
-    let nested = [0x01, 0x01, 0x80, 0x01, 0x02, 0x80, 0x01, 0x03, 0x01, 0x04];
-    assert!(rt; reads_nested(alloc, &nested)?);
-    let twelve = [0x88, 0x80, 0x01, 0x01, 0x01, 0x01, 0x01, 0x01, 0x01, 0x01];
-    assert!(rt; reads_twelve(alloc, &twelve)?);
+    assert!(rt; reads_nested(alloc, &NESTED)?);
+    assert!(rt; reads_twelve(alloc, &TWELVE)?);
     let mut buffer = Vec::new(alloc);
     let mut worker = Vec::new(alloc);
     let options = EncoderOptions::coer();
     let mut encoder = Encoder::from_buffer(alloc, options, &mut buffer, &mut worker);
-    write_nested(&mut encoder)?;
-    assert!(rt; has_written(&mut encoder, &nested));
-    write_twelve(&mut encoder)?;
-    assert!(rt; has_written(&mut encoder, &twelve));
+    assert!(rt; writes_both(&mut encoder)?);
     Ok(())
 }
