@@ -9,6 +9,3 @@ pub mod writing;
 
 pub use per_codec_decoder::{Decoder, DecoderOptions};
 pub use per_codec_encoder::{Encoder, EncoderOptions};
-
-#[cfg(test)]
-mod tests;
