@@ -41,7 +41,8 @@ fn count_of(pieces: &[Piece]) -> usize {
 fn push_pieces(octets: &mut Vec<u8>, pieces: &[Piece]) -> Result<(), AllocError> {
     for (length, units) in pieces {
         octets.extend_from_slice(length)?;
-        octets.resize(octets.len().saturating_add(*units), 0x61)?;
+        let whole = octets.len().saturating_add(*units);
+        octets.resize(whole, 0x61)?;
     }
     Ok(())
 }
@@ -92,7 +93,8 @@ fn octets_in_pieces(rt: HostRuntime) -> Result<(), Fail> {
 
 /// Whether a list of so many values of NULL stands in these octets.
 fn nulls_stand_in(alloc: Global, count: usize, octets: &[u8]) -> Result<bool, Fail> {
-    let nulls = vec![in alloc; (); count]?;
+    let mut nulls = Vec::new(alloc);
+    nulls.resize(count, ())?;
     stands_as(alloc, nulls, octets, octets)
 }
 
