@@ -1,4 +1,6 @@
 //! Rows of widths and codes, what errors tell, and what is answered where a request for memory is refused.
+ghost use Rattle.std.specs.Prelude.{◌<◌, ◌≤◌};
+
 use asn1_values::{
     CharacterAlphabet, InvalidBmpString, InvalidGeneralString, InvalidGraphicString,
     InvalidIA5String, InvalidNumericString, InvalidPrintableString, InvalidRestrictedString,
@@ -10,56 +12,69 @@ use std::test::Fail;
 
 const NUMERIC: [u32; 11] = [32, 48, 49, 50, 51, 52, 53, 54, 55, 56, 57];
 
-/// What a call answers, and what it answers the next time where it found no memory at first.
-fn settled<T: Drop, F: Fn() -> Result<T, PermittedAlphabetError>>(
-    call: F,
-) -> Result<T, PermittedAlphabetError>
-    requires { F.IsAlwaysCallable call }
-{
-    match call() {
-        Err(PermittedAlphabetError::Memory(_)) => call(),
-        settled => settled,
-    }
-}
-
-/// The alphabet of these characters, which has to be made.
+/// The alphabet of these characters, which has to be made: also where there was no memory for it at first.
 fn alphabet_of(
     alloc: Global,
     characters: &[u32],
     raised: bool,
 ) -> Result<CharacterAlphabet, PermittedAlphabetError> {
-    settled(|| CharacterAlphabet::new(alloc, characters, raised))
+    match CharacterAlphabet::new(alloc, characters, raised) {
+        Err(PermittedAlphabetError::Memory(_)) => {
+            CharacterAlphabet::new(alloc, characters, raised)
+        }
+        settled => settled,
+    }
+}
+
+/// Whether a character has this code, and the code stands for the character.
+fn has_code(alphabet: &CharacterAlphabet, character: u32, code: u32) -> bool {
+    matches!(alphabet.encode(character), Ok(found) if found == code)
+        && matches!(alphabet.decode(code), Ok(found) if found == character)
 }
 
 /// Whether each character has its code among these, and each code stands for its character.
 fn has_codes(alphabet: &CharacterAlphabet, rows: &[(u32, u32)]) -> bool {
-    rows.iter().all(|(
-        character,
-        code,
-    )| matches!(alphabet.encode(*character), Ok(found) if found == *code))
-        && rows.iter().all(|(
-            character,
-            code,
-        )| matches!(alphabet.decode(*code), Ok(found) if found == *character))
+    for (character, code) in rows {
+        if !has_code(alphabet, *character, *code) {
+            return false;
+        }
+    }
+    true
+}
+
+/// Whether an alphabet has codes of so many bits, and these.
+fn is_coded(alphabet: &CharacterAlphabet, width: u32, rows: &[(u32, u32)]) -> bool {
+    alphabet.width() == width && has_codes(alphabet, rows)
+}
+
+/// Whether an alphabet tells that it lacks a character.
+fn lacks_character(alphabet: &CharacterAlphabet, wanted: u32) -> bool {
+    matches!(
+        alphabet.encode(wanted),
+        Err(PermittedAlphabetError::CharacterNotFound { character }) if character == wanted
+    )
+}
+
+/// Whether an alphabet tells that it lacks a code.
+fn lacks_code(alphabet: &CharacterAlphabet, wanted: u32) -> bool {
+    matches!(
+        alphabet.decode(wanted),
+        Err(PermittedAlphabetError::IndexNotFound { index }) if index == wanted
+    )
 }
 
 #[test]
 fn codes_of_numeric_characters(rt: HostRuntime) -> Result<(), Fail> {
     let alphabet = alphabet_of(rt.alloc(), &NUMERIC, false)?;
-    assert_eq!(rt; alphabet.width(), 4);
-    assert!(rt; has_codes(&alphabet, &[(49, 2), (50, 3), (51, 4), (32, 0), (57, 10)]));
     assert!(rt;
-        matches!(
-            alphabet.encode(65),
-            Err(PermittedAlphabetError::CharacterNotFound { character: 65 })
+        is_coded(
+            &alphabet,
+            4,
+            &[(49, 2), (50, 3), (51, 4), (32, 0), (57, 10)]
         )
     );
-    assert!(rt;
-        matches!(
-            alphabet.decode(11),
-            Err(PermittedAlphabetError::IndexNotFound { index: 11 })
-        )
-    );
+    assert!(rt; lacks_character(&alphabet, 65));
+    assert!(rt; lacks_code(&alphabet, 11));
     Ok(())
 }
 
@@ -67,15 +82,19 @@ fn codes_of_numeric_characters(rt: HostRuntime) -> Result<(), Fail> {
 fn own_numbers_where_they_fit(rt: HostRuntime) -> Result<(), Fail> {
     // 0 to 3 take two bits, and so do 0, 1 and 3, where no character has the code 2.
     let alphabet = alphabet_of(rt.alloc(), &[0, 1, 3], false)?;
-    assert_eq!(rt; alphabet.width(), 2);
-    assert!(rt; has_codes(&alphabet, &[(0, 0), (1, 1), (3, 3)]));
-    assert!(rt;
-        matches!(
-            alphabet.decode(2),
-            Err(PermittedAlphabetError::IndexNotFound { index: 2 })
-        )
-    );
+    assert!(rt; is_coded(&alphabet, 2, &[(0, 0), (1, 1), (3, 3)]));
+    assert!(rt; lacks_code(&alphabet, 2));
     Ok(())
+}
+
+/// How many bits the codes of these characters take.
+fn width_of(
+    alloc: Global,
+    characters: &[u32],
+    raised: bool,
+) -> Result<u32, PermittedAlphabetError> {
+    let alphabet = alphabet_of(alloc, characters, raised)?;
+    Ok(alphabet.width())
 }
 
 #[test]
@@ -89,18 +108,23 @@ fn widths(rt: HostRuntime) -> Result<(), Fail> {
         (&NUMERIC, true, 4),
     ];
     for (characters, raised, width) in rows.iter() {
-        let alphabet = alphabet_of(rt.alloc(), characters, *raised)?;
-        assert_eq!(rt; alphabet.width(), *width);
+        assert_eq!(rt; width_of(rt.alloc(), characters, *raised)?, *width);
     }
     Ok(())
 }
 
+/// Whether a list of characters is refused since it does not ascend.
+fn is_no_list(alloc: Global, characters: &[u32]) -> bool {
+    matches!(
+        CharacterAlphabet::new(alloc, characters, false),
+        Err(PermittedAlphabetError::InvalidData)
+    )
+}
+
 #[test]
 fn lists_that_do_not_ascend(rt: HostRuntime) {
-    let twice = CharacterAlphabet::new(rt.alloc(), &[49, 49], false);
-    assert!(rt; matches!(twice, Err(PermittedAlphabetError::InvalidData)));
-    let falling = CharacterAlphabet::new(rt.alloc(), &[50, 49], false);
-    assert!(rt; matches!(falling, Err(PermittedAlphabetError::InvalidData)));
+    assert!(rt; is_no_list(rt.alloc(), &[49, 49]));
+    assert!(rt; is_no_list(rt.alloc(), &[50, 49]));
 }
 
 #[test]
@@ -108,8 +132,7 @@ fn codes_of_one_character(rt: HostRuntime) -> Result<(), Fail> {
     // 97 does not fit a code of no bits, and 0 does: both have the code 0.
     for character in [97, 0] {
         let alphabet = alphabet_of(rt.alloc(), &[character], true)?;
-        assert_eq!(rt; alphabet.width(), 0);
-        assert!(rt; has_codes(&alphabet, &[(character, 0)]));
+        assert!(rt; is_coded(&alphabet, 0, &[(character, 0)]));
     }
     Ok(())
 }
@@ -117,25 +140,41 @@ fn codes_of_one_character(rt: HostRuntime) -> Result<(), Fail> {
 #[test]
 fn codes_of_large_characters(rt: HostRuntime) -> Result<(), Fail> {
     let alphabet = alphabet_of(rt.alloc(), &[7, u32::MAX], false)?;
-    assert_eq!(rt; alphabet.width(), 1);
-    assert!(rt; has_codes(&alphabet, &[(7, 0), (u32::MAX, 1)]));
+    assert!(rt; is_coded(&alphabet, 1, &[(7, 0), (u32::MAX, 1)]));
     Ok(())
 }
 
-/// The alphabet of the characters from one to another.
+/// The characters from one to another.
+fn characters_from_to(alloc: Global, first: u32, last: u32) -> Result<Vec<u32>, AllocError> {
+    let mut characters = Vec::new(alloc);
+    for character in first..=last {
+        characters.push(character)?;
+    }
+    Ok(characters)
+}
+
+/// Their alphabet.
+fn made_from_to(
+    alloc: Global,
+    first: u32,
+    last: u32,
+    raised: bool,
+) -> Result<CharacterAlphabet, PermittedAlphabetError> {
+    let characters = characters_from_to(alloc, first, last)?;
+    CharacterAlphabet::new(alloc, &characters, raised)
+}
+
+/// Their alphabet, which has to be made: also where there was no memory for it at first.
 fn alphabet_from_to(
     alloc: Global,
     first: u32,
     last: u32,
     raised: bool,
 ) -> Result<CharacterAlphabet, PermittedAlphabetError> {
-    let mut characters = Vec::new(alloc);
-    for character in first..=last {
-        characters
-            .push(character)
-            .map_err(|_| PermittedAlphabetError::Memory(AllocError))?;
+    match made_from_to(alloc, first, last, raised) {
+        Err(PermittedAlphabetError::Memory(_)) => made_from_to(alloc, first, last, raised),
+        settled => settled,
     }
-    CharacterAlphabet::new(alloc, &characters, raised)
 }
 
 #[test]
@@ -149,11 +188,28 @@ fn widths_of_whole_alphabets(rt: HostRuntime) -> Result<(), Fail> {
         (0, 65535, false, 16),
         (0, 65535, true, 16),
     ] {
-        let alphabet = settled(|| alphabet_from_to(rt.alloc(), first, last, raised))?;
-        assert_eq!(rt; alphabet.width(), width);
-        assert!(rt; has_codes(&alphabet, &[(first, first), (last, last)]));
+        let alphabet = alphabet_from_to(rt.alloc(), first, last, raised)?;
+        assert!(rt; is_coded(&alphabet, width, &[(first, first), (last, last)]));
     }
     Ok(())
+}
+
+/// Whether the codes of so many characters from 1000 on are their places, in so many bits.
+fn has_places(alloc: Global, count: u32, width: u32) -> Result<bool, PermittedAlphabetError>
+    requires some { 0 < count }
+    requires few { count ≤ 1000 }
+{
+    let last = 999 + count;
+    let alphabet = alphabet_from_to(alloc, 1000, last, false)?;
+    Ok(is_coded(&alphabet, width, &[(1000, 0), (last, count - 1)]))
+}
+
+/// How many bits those codes take where their width is raised.
+fn raised_width(alloc: Global, count: u32) -> Result<u32, PermittedAlphabetError>
+    requires { count ≤ 1000 }
+{
+    let alphabet = alphabet_from_to(alloc, 1000, 999 + count, true)?;
+    Ok(alphabet.width())
 }
 
 #[test]
@@ -169,18 +225,24 @@ fn widths_are_raised(rt: HostRuntime) -> Result<(), Fail> {
         (256, 8, 8),
         (257, 9, 16),
     ] {
-        let alphabet = settled(|| alphabet_from_to(rt.alloc(), 1000, 999 + count, false))?;
-        assert_eq!(rt; alphabet.width(), plain);
-        assert!(rt; has_codes(&alphabet, &[(1000, 0), (999 + count, count - 1)]));
-        let alphabet = settled(|| alphabet_from_to(rt.alloc(), 1000, 999 + count, true))?;
-        assert_eq!(rt; alphabet.width(), raised);
+        assert!(rt; has_places(rt.alloc(), count, plain)?);
+        assert_eq!(rt; raised_width(rt.alloc(), count)?, raised);
     }
     Ok(())
 }
 
-/// What an error tells of itself.
-fn told(alloc: Global, error: &PermittedAlphabetError) -> Result<String, PermittedAlphabetError> {
-    settled(|| format!(in alloc; "{error}").map_err(PermittedAlphabetError::Memory))
+/// What an error tells of itself, also where there was no memory for it at first.
+fn told(alloc: Global, error: &PermittedAlphabetError) -> Result<String, AllocError> {
+    match format!(in alloc; "{error}") {
+        Err(AllocError) => format!(in alloc; "{error}"),
+        told => told,
+    }
+}
+
+/// Whether an error tells this of itself.
+fn tells(alloc: Global, error: &PermittedAlphabetError, wanted: &str) -> Result<bool, AllocError> {
+    let text = told(alloc, error)?;
+    Ok(text.as_str() == wanted)
 }
 
 #[test]
@@ -221,8 +283,7 @@ fn refusals_are_told(rt: HostRuntime) -> Result<(), Fail> {
         ),
     ];
     for (error, wanted) in rows {
-        let text = told(rt.alloc(), &PermittedAlphabetError::from(error))?;
-        assert_eq!(rt; text.as_str(), wanted);
+        assert!(rt; tells(rt.alloc(), &PermittedAlphabetError::from(error), wanted)?);
     }
     Ok(())
 }
@@ -248,7 +309,7 @@ fn errors_are_told(rt: HostRuntime) -> Result<(), Fail> {
         ),
     ];
     for (error, wanted) in rows {
-        assert_eq!(rt; told(rt.alloc(), &error)?.as_str(), wanted);
+        assert!(rt; tells(rt.alloc(), &error, wanted)?);
     }
     Ok(())
 }
@@ -265,24 +326,26 @@ fn errors_are_compared(rt: HostRuntime) {
     );
 }
 
-/// Makes alphabets: each answer is the whole one of "123", or wants memory. Whether none was refused.
-fn makes(rt: &impl Abort, alloc: Global) -> bool {
-    let mut granted = true;
-    for raised in [false, true] {
-        match CharacterAlphabet::new(alloc, &[49, 50, 51], raised) {
-            Ok(alphabet) => {
-                assert_eq!(rt; alphabet.width(), 2);
-                assert!(rt; has_codes(&alphabet, &[(49, 0), (50, 1), (51, 2)]));
-            }
-            Err(error) => {
-                granted = false;
-                assert!(rt; matches!(error, PermittedAlphabetError::Memory(_)));
-            }
+/// Makes an alphabet: the answer is the whole one of "123", or wants memory. Whether it was not refused.
+fn makes_one(rt: &impl Abort, alloc: Global, raised: bool) -> bool {
+    match CharacterAlphabet::new(alloc, &[49, 50, 51], raised) {
+        Ok(alphabet) => {
+            assert!(rt; is_coded(&alphabet, 2, &[(49, 0), (50, 1), (51, 2)]));
+            true
+        }
+        Err(error) => {
+            assert!(rt; matches!(error, PermittedAlphabetError::Memory(_)));
+            false
         }
     }
-    let falling = CharacterAlphabet::new(alloc, &[50, 49], false);
-    assert!(rt; matches!(falling, Err(PermittedAlphabetError::InvalidData)));
-    granted
+}
+
+/// Makes alphabets: each answer is the whole one of "123", or wants memory. Whether none was refused.
+fn makes(rt: &impl Abort, alloc: Global) -> bool {
+    let plain = makes_one(rt, alloc, false);
+    let raised = makes_one(rt, alloc, true);
+    assert!(rt; is_no_list(alloc, &[50, 49]));
+    plain && raised
 }
 
 #[test]

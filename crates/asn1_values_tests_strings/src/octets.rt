@@ -22,11 +22,23 @@ fn is_before<T: Ord>(first: &T, second: &T) -> bool {
 
 const OCTETS: [u8; 3] = [0xFF, 0x00, 0x61];
 
+/// Whether a vector of a string's octets is whole.
+fn is_listed(alloc: Global, value: &OctetString) -> Result<bool, AllocError> {
+    let vector = value.to_vec(alloc)?;
+    Ok(vector.as_slice() == OCTETS.as_slice())
+}
+
+/// Whether a string that is given up gives all its octets.
+fn is_given_up(alloc: Global, value: OctetString) -> Result<bool, AllocError> {
+    let vector = value.into_vec(alloc)?;
+    Ok(vector.as_slice() == OCTETS.as_slice())
+}
+
 #[test]
 fn slices_are_copied(rt: HostRuntime) -> Result<(), Fail> {
     let value = OctetString::from_slice(rt.alloc(), &OCTETS)?;
     assert_eq!(rt; octets_of(&value), OCTETS.as_slice());
-    assert_eq!(rt; value.to_vec(rt.alloc())?.as_slice(), OCTETS.as_slice());
+    assert!(rt; is_listed(rt.alloc(), &value)?);
     Ok(())
 }
 
@@ -42,7 +54,7 @@ fn arrays_are_copied(rt: HostRuntime) -> Result<(), Fail> {
 fn vectors_are_moved(rt: HostRuntime) -> Result<(), Fail> {
     let value = OctetString::from_vec(OCTETS.to_vec(rt.alloc())?)?;
     assert!(rt; !value.is_empty());
-    assert_eq!(rt; value.into_vec(rt.alloc())?.as_slice(), OCTETS.as_slice());
+    assert!(rt; is_given_up(rt.alloc(), value)?);
     Ok(())
 }
 
@@ -53,12 +65,21 @@ fn vectors_are_converted(rt: HostRuntime) -> Result<(), Fail> {
     Ok(())
 }
 
+/// Whether a clone is equal to its string.
+fn is_equal_to_its_clone(value: &OctetString) -> Result<bool, AllocError> {
+    Ok(value.clone()? == *value)
+}
+
+/// Whether a clone gives all the octets. It shares them with its string, so that they are copied.
+fn is_copied_of_a_clone(alloc: Global, value: &OctetString) -> Result<bool, AllocError> {
+    is_given_up(alloc, value.clone()?)
+}
+
 #[test]
 fn clones_are_equal(rt: HostRuntime) -> Result<(), Fail> {
     let value = OctetString::from_static(&[0xFF, 0x00, 0x61]);
-    let copy = value.clone()?;
-    assert!(rt; copy == value);
-    assert_eq!(rt; copy.into_vec(rt.alloc())?.as_slice(), OCTETS.as_slice());
+    assert!(rt; is_equal_to_its_clone(&value)?);
+    assert!(rt; is_copied_of_a_clone(rt.alloc(), &value)?);
     Ok(())
 }
 
@@ -68,21 +89,40 @@ fn a_new_string_is_empty(rt: HostRuntime) {
     assert!(rt; OctetString::new().is_empty());
 }
 
+/// Whether a string of bytes that are lent has their octets.
+fn is_taken_of(octets: &Bytes) -> Result<bool, AllocError> {
+    let value = OctetString::try_from(octets)?;
+    Ok(value.as_slice() == OCTETS.as_slice())
+}
+
 #[test]
 fn octets_are_taken_of_bytes(rt: HostRuntime) -> Result<(), Fail> {
     let octets = Bytes::copy_from_slice(rt.alloc(), &OCTETS)?;
-    let value = OctetString::try_from(&octets)?;
-    assert_eq!(rt; value.as_slice(), OCTETS.as_slice());
+    assert!(rt; is_taken_of(&octets)?);
     assert_eq!(rt; OctetString::from(octets).as_slice(), OCTETS.as_slice());
     Ok(())
+}
+
+/// Whether the bytes of a string that is lent have its octets.
+fn is_given_as_bytes(value: &OctetString) -> Result<bool, AllocError> {
+    let octets = Bytes::try_from(value)?;
+    Ok(octets.as_slice() == OCTETS.as_slice())
 }
 
 #[test]
 fn octets_are_given_as_bytes(rt: HostRuntime) -> Result<(), Fail> {
     let value = OctetString::from_static(&[0xFF, 0x00, 0x61]);
-    assert_eq!(rt; Bytes::try_from(&value)?.as_slice(), OCTETS.as_slice());
+    assert!(rt; is_given_as_bytes(&value)?);
     assert_eq!(rt; Bytes::from(value).as_slice(), OCTETS.as_slice());
     Ok(())
+}
+
+/// Whether the strings of these octets are ordered so.
+fn are_ordered(first: &'static [u8], second: &'static [u8]) -> bool {
+    is_before(
+        &OctetString::from_static(first),
+        &OctetString::from_static(second),
+    )
 }
 
 #[test]
@@ -94,9 +134,7 @@ fn octet_strings_are_compared_as_lists(rt: HostRuntime) {
         (&[1, 0], &[255]),
     ];
     for (first, second) in rows {
-        let lower = OctetString::from_static(first);
-        let upper = OctetString::from_static(second);
-        assert!(rt; is_before(&lower, &upper));
+        assert!(rt; are_ordered(first, second));
     }
 }
 
@@ -153,12 +191,18 @@ fn octet_strings_become_fixed_strings(rt: HostRuntime) {
     assert_eq!(rt; exact.ok(), Some(FixedOctetString::from(OCTETS)));
 }
 
+/// Whether a vector of the octets of a string of three is whole.
+fn is_listed_of_three(alloc: Global) -> Result<bool, AllocError> {
+    let vector = FixedOctetString::new(OCTETS).to_vec(alloc)?;
+    Ok(vector.as_slice() == OCTETS.as_slice())
+}
+
 #[test]
 fn fixed_strings_give_their_octets(rt: HostRuntime) -> Result<(), Fail> {
     let value = FixedOctetString::new(OCTETS);
     let copy = value.clone()?;
     assert_eq!(rt; octets_of(&value), OCTETS.as_slice());
-    assert_eq!(rt; value.to_vec(rt.alloc())?.as_slice(), OCTETS.as_slice());
+    assert!(rt; is_listed_of_three(rt.alloc())?);
     assert_eq!(rt; value.into_array().as_slice(), OCTETS.as_slice());
     assert_eq!(rt; <[u8; 3]>::from(copy).as_slice(), OCTETS.as_slice());
     Ok(())
@@ -203,46 +247,50 @@ fn wrong_lengths_are_shown(rt: HostRuntime) -> Result<(), Fail> {
     Ok(())
 }
 
+/// Whether an octet string of an array is whole.
+fn is_made_of_an_array(alloc: Global) -> Result<bool, AllocError> {
+    let value = OctetString::from_array(alloc, OCTETS)?;
+    Ok(value.as_slice() == OCTETS.as_slice())
+}
+
+/// Whether a string that has gone through bytes is what it was.
+fn is_same_through_bytes(value: &OctetString) -> Result<bool, AllocError> {
+    let octets = Bytes::try_from(value)?;
+    Ok(OctetString::try_from(&octets)? == *value)
+}
+
+/// Whether a call was granted its memory: then what it made is whole.
+fn is_granted(rt: &impl Abort, answer: Result<bool, AllocError>) -> bool {
+    match answer {
+        Ok(whole) => {
+            assert!(rt; whole);
+            true
+        }
+        Err(AllocError) => false,
+    }
+}
+
+/// The octet string of a slice; where its memory is refused, one that needs none, and then `granted` is false.
+fn of_slice(alloc: Global, granted: &mut bool) -> OctetString {
+    match OctetString::from_slice(alloc, &OCTETS) {
+        Ok(value) => value,
+        Err(AllocError) => {
+            *granted = false;
+            OctetString::from_static(&[0xFF, 0x00, 0x61])
+        }
+    }
+}
+
 /// Makes octet strings of what is lent, copies them and takes their octets: each answer is whole, or refused. Whether
 /// none was refused.
 fn copies(rt: &impl Abort, alloc: Global) -> bool {
-    let mut granted = true;
-    match OctetString::from_array(alloc, OCTETS) {
-        Ok(value) => assert_eq!(rt; value.as_slice(), OCTETS.as_slice()),
-        Err(AllocError) => granted = false,
-    }
-    let value = match OctetString::from_slice(alloc, &OCTETS) {
-        Ok(value) => value,
-        Err(AllocError) => {
-            granted = false;
-            OctetString::from_static(&[0xFF, 0x00, 0x61])
-        }
-    };
-    match value.to_vec(alloc) {
-        Ok(vector) => assert_eq!(rt; vector.as_slice(), OCTETS.as_slice()),
-        Err(AllocError) => granted = false,
-    }
-    match value.clone() {
-        // The clone shares its octets, so that they are copied.
-        Ok(copy) => match copy.into_vec(alloc) {
-            Ok(vector) => assert_eq!(rt; vector.as_slice(), OCTETS.as_slice()),
-            Err(AllocError) => granted = false,
-        },
-        Err(AllocError) => granted = false,
-    }
-    match Bytes::try_from(&value) {
-        Ok(octets) => match OctetString::try_from(&octets) {
-            Ok(same) => assert!(rt; same == value),
-            Err(AllocError) => granted = false,
-        },
-        Err(AllocError) => granted = false,
-    }
+    let mut granted = is_granted(rt, is_made_of_an_array(alloc));
+    let value = of_slice(alloc, &mut granted);
+    granted &= is_granted(rt, is_listed(alloc, &value));
+    granted &= is_granted(rt, is_copied_of_a_clone(alloc, &value));
+    granted &= is_granted(rt, is_same_through_bytes(&value));
     assert_eq!(rt; value.as_slice(), OCTETS.as_slice());
-    match FixedOctetString::new(OCTETS).to_vec(alloc) {
-        Ok(vector) => assert_eq!(rt; vector.as_slice(), OCTETS.as_slice()),
-        Err(AllocError) => granted = false,
-    }
-    granted
+    granted & is_granted(rt, is_listed_of_three(alloc))
 }
 
 #[test]
@@ -255,30 +303,38 @@ fn ample_memory(rt: HostRuntime) {
     assert!(rt; copies(&rt, rt.alloc()));
 }
 
+/// Moves a vector into a string, and back out of it. A refused vector is handed back as it was. Whether memory was not refused.
+fn is_moved(rt: &impl Abort, alloc: Global, vector: Vec<u8>) -> bool {
+    match OctetString::from_vec(vector) {
+        Ok(moved) => is_granted(rt, is_given_up(alloc, moved)),
+        Err(refused) => {
+            assert_eq!(rt; refused.value.as_slice(), OCTETS.as_slice());
+            false
+        }
+    }
+}
+
+/// Whether a string of two octets refuses a vector of three, and hands it back as it was.
+fn is_handed_back(vector: Vec<u8>) -> bool {
+    match FixedOctetString::<2>::try_from(vector) {
+        Ok(_) => false,
+        Err(refused) => refused.as_slice() == OCTETS.as_slice(),
+    }
+}
+
+/// Whether a vector that does not fit is handed back.
+fn is_too_long_for_two(alloc: Global) -> Result<bool, AllocError> {
+    Ok(is_handed_back(OCTETS.to_vec(alloc)?))
+}
+
 /// Makes strings of vectors and gives the vectors back. A refused vector is handed back as it was. Whether none was refused for want of memory.
 fn moves(rt: &impl Abort, alloc: Global) -> bool {
-    let mut granted = true;
-    match OCTETS.to_vec(alloc) {
-        Ok(vector) => match OctetString::from_vec(vector) {
-            Ok(moved) => match moved.into_vec(alloc) {
-                Ok(octets) => assert_eq!(rt; octets.as_slice(), OCTETS.as_slice()),
-                Err(AllocError) => granted = false,
-            },
-            Err(refused) => {
-                granted = false;
-                assert_eq!(rt; refused.value.as_slice(), OCTETS.as_slice());
-            }
-        },
-        Err(AllocError) => granted = false,
-    }
-    match OCTETS.to_vec(alloc) {
-        Ok(vector) => match FixedOctetString::<2>::try_from(vector) {
-            Ok(_) => assert!(rt; false),
-            Err(refused) => assert_eq!(rt; refused.as_slice(), OCTETS.as_slice()),
-        },
-        Err(AllocError) => granted = false,
-    }
-    granted
+    let moved = match OCTETS.to_vec(alloc) {
+        Ok(vector) => is_moved(rt, alloc, vector),
+        Err(AllocError) => false,
+    };
+    let kept = is_granted(rt, is_too_long_for_two(alloc));
+    moved && kept
 }
 
 #[test]

@@ -3,12 +3,12 @@ use asn1_values::{
     BitString, CharacterKind, General, GeneralString, Graphic, GraphicString, Ia5, Ia5String,
     InvalidRestrictedString, Numeric, NumericString, OctetString, PermittedAlphabetError,
     Printable, PrintableString, RestrictedString, StaticPermittedAlphabet, Teletex, TeletexString,
-    Visible, VisibleString,
+    TextKind, Visible, VisibleString,
 };
 use std::alloc::{AllocError, Global};
 use std::convert::AsSlice;
 use std::default::MadeWith;
-use std::hash::{BuildHasher, BuildHasherDefault, DefaultHasher};
+use std::hash::{BuildHasher, BuildHasherDefault, DefaultHasher, Hash};
 use std::process::Abort;
 use std::test::Fail;
 
@@ -58,18 +58,6 @@ fn refused_by(error: &PermittedAlphabetError) -> Option<u32> {
     }
 }
 
-/// What a call answers, and what it answers the next time where it found no memory at first.
-fn settled<T: Drop, F: Fn() -> Result<T, PermittedAlphabetError>>(
-    call: F,
-) -> Result<T, PermittedAlphabetError>
-    requires { F.IsAlwaysCallable call }
-{
-    match call() {
-        Err(PermittedAlphabetError::Memory(_)) => call(),
-        settled => settled,
-    }
-}
-
 /// The character by which a call was refused.
 fn refusal<T: Drop>(answer: Result<T, PermittedAlphabetError>) -> Option<u32> {
     match answer {
@@ -78,40 +66,122 @@ fn refusal<T: Drop>(answer: Result<T, PermittedAlphabetError>) -> Option<u32> {
     }
 }
 
-/// Whether the octets make a string of them.
-fn is_made<K: CharacterKind>(alloc: Global, octets: &[u8]) -> bool {
-    match settled(|| RestrictedString::<K>::from_bytes(alloc, octets)) {
+/// What a string is made of: of octets or a text that are lent, or of a value of these that is given up.
+#[derive(Clone, Copy)]
+enum Source<'a> {
+    Octets(&'a [u8]),
+    Text(&'a str),
+    OwnedText(&'a str),
+    OctetString(&'a [u8]),
+    BitString(&'a [u8]),
+    Vector(&'a [u8]),
+}
+
+/// The string of a text that is given up.
+fn of_string<K: CharacterKind>(
+    alloc: Global,
+    text: &str,
+) -> Result<RestrictedString<K>, PermittedAlphabetError> {
+    RestrictedString::try_from(String::from_str(alloc, text)?)
+}
+
+/// The string of the octets of an octet string.
+fn of_octet_string<K: CharacterKind>(
+    alloc: Global,
+    octets: &[u8],
+) -> Result<RestrictedString<K>, PermittedAlphabetError> {
+    RestrictedString::from_octet_string(alloc, OctetString::from_slice(alloc, octets)?)
+}
+
+/// The string of the octets of a bit string.
+fn of_bits<K: CharacterKind>(
+    alloc: Global,
+    octets: &[u8],
+) -> Result<RestrictedString<K>, PermittedAlphabetError> {
+    RestrictedString::try_from(BitString::from_slice(alloc, octets)?)
+}
+
+/// The string of the octets of a vector.
+fn of_vector<K: CharacterKind>(
+    alloc: Global,
+    octets: &[u8],
+) -> Result<RestrictedString<K>, PermittedAlphabetError> {
+    RestrictedString::try_from(Vec::from_slice(alloc, octets)?)
+}
+
+/// What one call makes.
+fn made_at_once<K: CharacterKind>(
+    alloc: Global,
+    source: Source<'_>,
+) -> Result<RestrictedString<K>, PermittedAlphabetError> {
+    match source {
+        Source::Octets(octets) => RestrictedString::from_bytes(alloc, octets),
+        Source::Text(text) => RestrictedString::from_text(alloc, text),
+        Source::OwnedText(text) => of_string(alloc, text),
+        Source::OctetString(octets) => of_octet_string(alloc, octets),
+        Source::BitString(octets) => of_bits(alloc, octets),
+        Source::Vector(octets) => of_vector(alloc, octets),
+    }
+}
+
+/// What a call makes, and what it makes the next time where it found no memory at first.
+fn made<K: CharacterKind>(
+    alloc: Global,
+    source: Source<'_>,
+) -> Result<RestrictedString<K>, PermittedAlphabetError> {
+    match made_at_once(alloc, source) {
+        Err(PermittedAlphabetError::Memory(_)) => made_at_once(alloc, source),
+        settled => settled,
+    }
+}
+
+/// Whether the string that is made has these octets.
+fn is_made<K: CharacterKind>(alloc: Global, source: Source<'_>, octets: &[u8]) -> bool {
+    match made::<K>(alloc, source) {
         Ok(string) => string.as_bytes() == octets,
         Err(_) => false,
     }
 }
 
-/// Whether the octets are refused by this character.
-fn is_refused<K: CharacterKind>(alloc: Global, octets: &[u8], character: u32) -> bool {
-    refusal(settled(|| RestrictedString::<K>::from_bytes(alloc, octets))) == Some(character)
+/// Whether the octets make a string of them.
+fn is_kept<K: CharacterKind>(alloc: Global, octets: &[u8]) -> bool {
+    is_made::<K>(alloc, Source::Octets(octets), octets)
+}
+
+/// Whether no string is made, by this character.
+fn is_refused<K: CharacterKind>(alloc: Global, source: Source<'_>, character: u32) -> bool {
+    refusal(made::<K>(alloc, source)) == Some(character)
 }
 
 #[test]
 fn strings_of_octets(rt: HostRuntime) {
-    assert!(rt; is_made::<Numeric>(rt.alloc(), b"123"));
-    assert!(rt; is_made::<Printable>(rt.alloc(), b"Jo (1)?"));
-    assert!(rt; is_made::<Visible>(rt.alloc(), b"a~b"));
-    assert!(rt; is_made::<Ia5>(rt.alloc(), &[0, 127]));
-    assert!(rt; is_made::<General>(rt.alloc(), &[0, 255]));
-    assert!(rt; is_made::<Graphic>(rt.alloc(), &[0, 255]));
-    assert!(rt; is_made::<Teletex>(rt.alloc(), &[0, 255]));
-    assert!(rt; is_refused::<Numeric>(rt.alloc(), b"12a3b", 97));
-    assert!(rt; is_refused::<Printable>(rt.alloc(), b"a*", 42));
-    assert!(rt; is_refused::<Visible>(rt.alloc(), &[0x80], 128));
-    assert!(rt; is_refused::<Ia5>(rt.alloc(), &[127, 128], 128));
+    let alloc = rt.alloc();
+    assert!(rt; is_kept::<Numeric>(alloc, b"123"));
+    assert!(rt; is_kept::<Printable>(alloc, b"Jo (1)?"));
+    assert!(rt; is_kept::<Visible>(alloc, b"a~b"));
+    assert!(rt; is_kept::<Ia5>(alloc, &[0, 127]));
+    assert!(rt; is_kept::<General>(alloc, &[0, 255]));
+    assert!(rt; is_kept::<Graphic>(alloc, &[0, 255]));
+    assert!(rt; is_kept::<Teletex>(alloc, &[0, 255]));
+    assert!(rt; is_refused::<Numeric>(alloc, Source::Octets(b"12a3b"), 97));
+    assert!(rt; is_refused::<Printable>(alloc, Source::Octets(b"a*"), 42));
+    assert!(rt; is_refused::<Visible>(alloc, Source::Octets(&[0x80]), 128));
+    assert!(rt; is_refused::<Ia5>(alloc, Source::Octets(&[127, 128]), 128));
+}
+
+/// Whether an empty string refuses a character by itself.
+fn is_outside<K: CharacterKind>(alloc: Global, character: u32) -> bool {
+    refusal(RestrictedString::<K>::new(alloc).push_char(character)) == Some(character)
 }
 
 /// Whether strings of a kind take these two characters, and refuse each of the others by itself.
 fn has_bounds<K: CharacterKind>(alloc: Global, permitted: [u8; 2], outside: &[u32]) -> bool {
-    is_made::<K>(alloc, permitted.as_slice())
-        && outside.iter().all(|character| refusal(RestrictedString::<K>::new(alloc).push_char(
-            *character,
-        )) == Some(*character))
+    for character in outside {
+        if !is_outside::<K>(alloc, *character) {
+            return false;
+        }
+    }
+    is_kept::<K>(alloc, permitted.as_slice())
 }
 
 #[test]
@@ -126,82 +196,70 @@ fn bounds_of_alphabets(rt: HostRuntime) {
     assert!(rt; has_bounds::<Teletex>(alloc, [0, 255], &[256]));
 }
 
+/// Whether a text makes an IA5String whose octets are these.
+fn is_iso646(alloc: Global, text: &str, octets: &[u8]) -> Result<bool, PermittedAlphabetError> {
+    let string = made::<Ia5>(alloc, Source::Text(text))?;
+    Ok(string.as_iso646_bytes() == octets)
+}
+
 #[test]
 fn strings_of_texts(rt: HostRuntime) -> Result<(), Fail> {
-    let string = settled(|| Ia5String::from_text(rt.alloc(), "Jo"))?;
-    assert_eq!(rt; string.as_iso646_bytes(), b"Jo".as_slice());
+    let alloc = rt.alloc();
+    assert!(rt; is_iso646(alloc, "Jo", b"Jo")?);
     // 233 is one octet of a TeletexString, and two of the text.
-    let string = settled(|| TeletexString::from_text(rt.alloc(), "\u{E9}"))?;
-    assert_eq!(rt; string.as_bytes(), [233].as_slice());
-    let refused = settled(|| VisibleString::from_text(rt.alloc(), "a\u{E9}b\u{FF}"));
-    assert_eq!(rt; refusal(refused), Some(233));
-    let refused = settled(|| GeneralString::from_text(rt.alloc(), "a\u{100}"));
-    assert_eq!(rt; refusal(refused), Some(256));
+    assert!(rt; is_made::<Teletex>(alloc, Source::Text("\u{E9}"), &[233]));
+    assert!(rt; is_refused::<Visible>(alloc, Source::Text("a\u{E9}b\u{FF}"), 233));
+    assert!(rt; is_refused::<General>(alloc, Source::Text("a\u{100}"), 256));
     Ok(())
 }
 
-/// The string of a text that is given up.
-fn of_string<K: CharacterKind>(
-    alloc: Global,
-    text: &str,
-) -> Result<RestrictedString<K>, PermittedAlphabetError> {
-    let text = String::from_str(alloc, text).map_err(PermittedAlphabetError::Memory)?;
-    RestrictedString::try_from(text)
+#[test]
+fn strings_of_owned_texts(rt: HostRuntime) {
+    let alloc = rt.alloc();
+    assert!(rt; is_made::<Printable>(alloc, Source::OwnedText("Jo"), b"Jo"));
+    assert!(rt; is_made::<Graphic>(alloc, Source::OwnedText("a\u{E9}"), &[97, 233]));
+    assert!(rt; is_refused::<Numeric>(alloc, Source::OwnedText("1a"), 97));
+    assert!(rt; is_refused::<Ia5>(alloc, Source::OwnedText("1\u{E9}"), 233));
 }
 
 #[test]
-fn strings_of_owned_texts(rt: HostRuntime) -> Result<(), Fail> {
-    let string = settled(|| of_string::<Printable>(rt.alloc(), "Jo"))?;
-    assert_eq!(rt; string.as_bytes(), b"Jo".as_slice());
-    let string = settled(|| of_string::<Graphic>(rt.alloc(), "a\u{E9}"))?;
-    assert_eq!(rt; string.as_bytes(), [97, 233].as_slice());
-    assert_eq!(rt;
-        refusal(settled(|| of_string::<Numeric>(rt.alloc(), "1a"))),
-        Some(97)
-    );
-    assert_eq!(rt;
-        refusal(settled(|| of_string::<Ia5>(rt.alloc(), "1\u{E9}"))),
-        Some(233)
-    );
-    Ok(())
+fn strings_of_others(rt: HostRuntime) {
+    let alloc = rt.alloc();
+    assert!(rt; is_made::<Numeric>(alloc, Source::OctetString(b"42"), b"42"));
+    assert!(rt; is_made::<Numeric>(alloc, Source::BitString(b"42"), b"42"));
+    assert!(rt; is_made::<Numeric>(alloc, Source::Vector(b"42"), b"42"));
+    assert!(rt; is_refused::<Numeric>(alloc, Source::OctetString(b"4x"), 120));
+    assert!(rt; is_refused::<Numeric>(alloc, Source::BitString(b"4x"), 120));
+    assert!(rt; is_refused::<Numeric>(alloc, Source::Vector(b"4x"), 120));
 }
 
-/// The string of the octets of an octet string, of a bit string and of a vector.
-fn others(alloc: Global, octets: &[u8]) -> Result<[NumericString; 3], PermittedAlphabetError> {
-    let shared = OctetString::from_slice(alloc, octets).map_err(PermittedAlphabetError::Memory)?;
-    let bits = BitString::from_slice(alloc, octets).map_err(PermittedAlphabetError::Memory)?;
-    let vector = Vec::from_slice(alloc, octets).map_err(PermittedAlphabetError::Memory)?;
-    Ok([
-        NumericString::from_octet_string(alloc, shared)?,
-        NumericString::try_from(bits)?,
-        NumericString::try_from(vector)?,
-    ])
-}
-
-#[test]
-fn strings_of_others(rt: HostRuntime) -> Result<(), Fail> {
-    let strings = settled(|| others(rt.alloc(), b"42"))?;
-    for string in &strings {
-        assert_eq!(rt; string.as_bytes(), b"42".as_slice());
+/// So many zero bits.
+fn zeros(alloc: Global, len: usize) -> Result<BitString, AllocError> {
+    let mut bits = BitString::new(alloc);
+    for _ in 0..len {
+        bits.push(false)?;
     }
-    assert_eq!(rt; refusal(settled(|| others(rt.alloc(), b"4x"))), Some(120));
-    Ok(())
+    Ok(bits)
 }
 
 /// The string of so many zero bits.
 fn of_zeros(alloc: Global, len: usize) -> Result<Ia5String, PermittedAlphabetError> {
-    let mut bits = BitString::new(alloc);
-    for _ in 0..len {
-        bits.push(false).map_err(PermittedAlphabetError::Memory)?;
+    Ia5String::try_from(zeros(alloc, len)?)
+}
+
+/// That string, also where there was no memory for it at first.
+fn made_of_zeros(alloc: Global, len: usize) -> Result<Ia5String, PermittedAlphabetError> {
+    match of_zeros(alloc, len) {
+        Err(PermittedAlphabetError::Memory(_)) => of_zeros(alloc, len),
+        settled => settled,
     }
-    Ia5String::try_from(bits)
 }
 
 #[test]
 fn bits_as_characters(rt: HostRuntime) -> Result<(), Fail> {
-    let partly = settled(|| of_zeros(rt.alloc(), 9));
+    let partly = made_of_zeros(rt.alloc(), 9);
     assert!(rt; matches!(partly, Err(PermittedAlphabetError::InvalidData)));
-    let whole = settled(|| of_zeros(rt.alloc(), 16))?;
+    let whole = made_of_zeros(rt.alloc(), 16)?;
     assert_eq!(rt; whole.as_bytes(), [0, 0].as_slice());
     Ok(())
 }
@@ -214,13 +272,18 @@ fn is_pushed<S: StaticPermittedAlphabet>(string: &mut S, character: u32) -> bool
     }
 }
 
+/// Whether a string takes the characters 1 and 2, and none outside its alphabet between them.
+fn takes_digits(string: &mut NumericString) -> bool {
+    is_pushed(string, 0x31)
+        && !is_pushed(string, 0x41)
+        && !is_pushed(string, 0x131)
+        && is_pushed(string, 0x32)
+}
+
 #[test]
 fn pushed_characters(rt: HostRuntime) {
     let mut string = NumericString::new(rt.alloc());
-    assert!(rt; is_pushed(&mut string, 0x31));
-    assert!(rt; !is_pushed(&mut string, 0x41));
-    assert!(rt; !is_pushed(&mut string, 0x131));
-    assert!(rt; is_pushed(&mut string, 0x32));
+    assert!(rt; takes_digits(&mut string));
     assert_eq!(rt; string.as_bytes(), b"12".as_slice());
 }
 
@@ -236,31 +299,59 @@ fn each_character<S: StaticPermittedAlphabet>(
     Ok(characters)
 }
 
+/// Whether a string that is asked for its characters one by one gives these, at the second time where there was no memory at first.
+fn lists<S: StaticPermittedAlphabet>(
+    alloc: Global,
+    string: &S,
+    wanted: &[u32],
+) -> Result<bool, AllocError> {
+    let characters = match each_character(alloc, string) {
+        Err(AllocError) => each_character(alloc, string)?,
+        Ok(characters) => characters,
+    };
+    Ok(characters.as_slice() == wanted)
+}
+
+/// Whether the octets that a string gives are these, at the second time where there was no memory at first.
+fn gives(alloc: Global, string: &PrintableString, wanted: &[u8]) -> Result<bool, AllocError> {
+    let octets = match string.to_bytes(alloc) {
+        Err(AllocError) => string.to_bytes(alloc)?,
+        Ok(octets) => octets,
+    };
+    Ok(octets.as_slice() == wanted)
+}
+
+/// Whether a string goes through the characters 65 and 98, and no further.
+fn has_two_characters(string: &PrintableString) -> bool {
+    let mut characters = string.chars();
+    characters.next() == Some(65)
+        && characters.next() == Some(98)
+        && characters.next() == None
+        && characters.next() == None
+}
+
 #[test]
 fn characters_of_strings(rt: HostRuntime) -> Result<(), Fail> {
-    let string = settled(|| PrintableString::from_bytes(rt.alloc(), b"Ab"))?;
-    assert_eq!(rt; string.len(), 2);
-    assert!(rt; !string.is_empty());
-    let mut characters = string.chars();
-    assert_eq!(rt; characters.next(), Some(65));
-    assert_eq!(rt; characters.next(), Some(98));
-    assert_eq!(rt; characters.next(), None);
-    assert_eq!(rt; characters.next(), None);
-    let all = settled(|| each_character(rt.alloc(), &string).map_err(
-        PermittedAlphabetError::Memory,
-    ))?;
-    assert_eq!(rt; all.as_slice(), [65, 98].as_slice());
-    let octets = settled(|| string
-        .to_bytes(rt.alloc())
-        .map_err(PermittedAlphabetError::Memory))?;
-    assert_eq!(rt; octets.as_slice(), b"Ab".as_slice());
+    let string = made::<Printable>(rt.alloc(), Source::Octets(b"Ab"))?;
+    assert!(rt; string.len() == 2 && !string.is_empty());
+    assert!(rt; has_two_characters(&string));
+    assert!(rt; lists(rt.alloc(), &string, &[65, 98])?);
+    assert!(rt; gives(rt.alloc(), &string, b"Ab")?);
     assert_eq!(rt; string.into_vec().as_slice(), b"Ab".as_slice());
     Ok(())
 }
 
 /// The value that a type makes with an allocator, by the trait alone.
-fn made<S: MadeWith<Global>>(alloc: Global) -> S {
+fn made_with<S: MadeWith<Global>>(alloc: Global) -> S {
     S::made_with(alloc)
+}
+
+/// An empty string with room, also where there was none at first.
+fn roomy(alloc: Global, count: usize) -> Result<GeneralString, AllocError> {
+    match <GeneralString as StaticPermittedAlphabet>::with_capacity(alloc, count) {
+        Err(AllocError) => StaticPermittedAlphabet::with_capacity(alloc, count),
+        roomy => roomy,
+    }
 }
 
 #[test]
@@ -268,13 +359,8 @@ fn empty_strings(rt: HostRuntime) -> Result<(), Fail> {
     let empty: GeneralString = StaticPermittedAlphabet::empty(rt.alloc());
     assert_eq!(rt; empty.char_count(), 0);
     assert_eq!(rt; empty.chars().next(), None);
-    assert!(rt; made::<GeneralString>(rt.alloc()) == empty);
-    let roomy = settled(
-        || <GeneralString as StaticPermittedAlphabet>::with_capacity(rt.alloc(), 4).map_err(
-            PermittedAlphabetError::Memory,
-        ),
-    )?;
-    assert!(rt; roomy.is_empty());
+    assert!(rt; made_with::<GeneralString>(rt.alloc()) == empty);
+    assert!(rt; roomy(rt.alloc(), 4)?.is_empty());
     Ok(())
 }
 
@@ -283,32 +369,70 @@ fn is_before<T: Ord>(first: &T, second: &T) -> bool {
     first < second && first != second
 }
 
+/// Whether the strings of these octets are ordered so.
+fn are_ordered(alloc: Global, first: &[u8], second: &[u8]) -> Result<bool, PermittedAlphabetError> {
+    let first = made::<Graphic>(alloc, Source::Octets(first))?;
+    let second = made::<Graphic>(alloc, Source::Octets(second))?;
+    Ok(is_before(&first, &second))
+}
+
+/// A copy, also where there was no memory for it at first.
+fn copied(string: &GraphicString) -> Result<GraphicString, AllocError> {
+    match string.clone() {
+        Ok(copy) => Ok(copy),
+        Err(AllocError) => Ok(string.clone()?),
+    }
+}
+
+/// What a hasher makes of a value.
+fn hash_of<T: Hash + Drop>(value: T) -> u64 {
+    BuildHasherDefault::<DefaultHasher>::new().hash_one(value)
+}
+
+/// Whether a copy is equal to its string, and hashed as that and as its octets are.
+fn is_copied(string: &GraphicString, octets: &[u8]) -> Result<bool, AllocError> {
+    let copy = copied(string)?;
+    Ok(copy == *string && hash_of(&copy) == hash_of(string) && hash_of(&copy) == hash_of(octets))
+}
+
 #[test]
 fn copies_and_comparisons(rt: HostRuntime) -> Result<(), Fail> {
-    let small = settled(|| GraphicString::from_bytes(rt.alloc(), &[1, 2]))?;
-    let large = settled(|| GraphicString::from_bytes(rt.alloc(), &[1, 3]))?;
-    let short = settled(|| GraphicString::from_bytes(rt.alloc(), &[2]))?;
-    assert!(rt; is_before(&small, &large));
-    assert!(rt; is_before(&large, &short));
-    let copy = settled(|| small.clone().map_err(PermittedAlphabetError::Memory))?;
-    assert!(rt; copy == small);
-    let hashing = BuildHasherDefault::<DefaultHasher>::new();
-    assert_eq!(rt; hashing.hash_one(&copy), hashing.hash_one(&small));
-    assert_eq!(rt;
-        hashing.hash_one(&copy),
-        hashing.hash_one([1u8, 2].as_slice())
-    );
+    assert!(rt; are_ordered(rt.alloc(), &[1, 2], &[1, 3])?);
+    assert!(rt; are_ordered(rt.alloc(), &[1, 3], &[2])?);
+    let string = made::<Graphic>(rt.alloc(), Source::Octets(&[1, 2]))?;
+    assert!(rt; is_copied(&string, &[1, 2])?);
     Ok(())
+}
+
+/// The string "Jo" of a kind with texts, also where there was no memory for it at first.
+fn jo<K: TextKind>(alloc: Global) -> Result<RestrictedString<K>, PermittedAlphabetError> {
+    match RestrictedString::from_iso646_bytes(alloc, b"Jo") {
+        Err(PermittedAlphabetError::Memory(_)) => {
+            RestrictedString::from_iso646_bytes(alloc, b"Jo")
+        }
+        settled => settled,
+    }
+}
+
+/// What is shown of a string: its text, in four places, and as a value.
+fn shown(alloc: Global, string: &VisibleString) -> Result<String, AllocError> {
+    format!(in alloc; "{string} {string:>4} {string:?}")
+}
+
+/// Whether this is shown of a string, at the second time where there was no memory at first.
+fn is_shown(alloc: Global, string: &VisibleString, wanted: &str) -> Result<bool, AllocError> {
+    let text = match shown(alloc, string) {
+        Err(AllocError) => shown(alloc, string)?,
+        Ok(text) => text,
+    };
+    Ok(text.as_str() == wanted)
 }
 
 #[test]
 fn texts_of_strings(rt: HostRuntime) -> Result<(), Fail> {
-    let string = settled(|| VisibleString::from_iso646_bytes(rt.alloc(), b"Jo"))?;
+    let string = jo::<Visible>(rt.alloc())?;
     assert_eq!(rt; string.as_str(), "Jo");
-    let text = settled(|| format!(in rt.alloc(); "{string} {string:>4} {string:?}").map_err(
-        PermittedAlphabetError::Memory,
-    ))?;
-    assert_eq!(rt; text.as_str(), "Jo   Jo VisibleString([74, 111])");
+    assert!(rt; is_shown(rt.alloc(), &string, "Jo   Jo VisibleString([74, 111])")?);
     assert_eq!(rt; String::from(string).as_str(), "Jo");
     Ok(())
 }
@@ -319,9 +443,17 @@ fn octets_of(alloc: Global) -> Result<OctetString, PermittedAlphabetError> {
     OctetString::try_from(string).map_err(|_| PermittedAlphabetError::Memory(AllocError))
 }
 
+/// Those octets, also where there was no memory for them at first.
+fn octets_at_last(alloc: Global) -> Result<OctetString, PermittedAlphabetError> {
+    match octets_of(alloc) {
+        Err(PermittedAlphabetError::Memory(_)) => octets_of(alloc),
+        settled => settled,
+    }
+}
+
 #[test]
 fn octets_of_strings(rt: HostRuntime) -> Result<(), Fail> {
-    let octets = settled(|| octets_of(rt.alloc()))?;
+    let octets = octets_at_last(rt.alloc())?;
     assert_eq!(rt; octets.as_slice(), b"Jo".as_slice());
     Ok(())
 }
@@ -344,17 +476,33 @@ fn is_whole<K: CharacterKind>(
     }
 }
 
-/// Makes strings of what is lent and of what is given up: each answer is whole, or refused. Whether none was refused.
+/// The string of octets that stand for as long as the program runs.
+fn of_static_octets(alloc: Global) -> Result<NumericString, PermittedAlphabetError> {
+    NumericString::from_octet_string(alloc, OctetString::from_static(b"12"))
+}
+
+/// Makes strings of what is lent: each answer is whole, or refused. Whether none was refused.
+fn makes_of_lent(rt: &impl Abort, alloc: Global) -> bool {
+    let numeric = is_whole(rt, NumericString::from_bytes(alloc, b"12"), b"12");
+    let ia5 = is_whole(rt, Ia5String::from_iso646_bytes(alloc, b"Jo"), b"Jo");
+    let teletex = is_whole(rt, TeletexString::from_text(alloc, "\u{E9}"), &[233]);
+    numeric && ia5 && teletex
+}
+
+/// Makes strings of what is given up: each answer is whole, or refused. Whether none was refused.
+fn makes_of_owned(rt: &impl Abort, alloc: Global) -> bool {
+    let wide = is_whole(rt, of_string::<Graphic>(alloc, "\u{E9}a"), &[233, 97]);
+    let narrow = is_whole(rt, of_string::<Graphic>(alloc, "a"), &[97]);
+    let octets = is_whole(rt, of_static_octets(alloc), b"12");
+    let bits = is_whole(rt, of_zeros(alloc, 8), &[0]);
+    wide && narrow && octets && bits
+}
+
+/// Makes strings. Whether no request for memory was refused.
 fn makes(rt: &impl Abort, alloc: Global) -> bool {
-    let mut granted = is_whole(rt, NumericString::from_bytes(alloc, b"12"), b"12");
-    granted &= is_whole(rt, Ia5String::from_iso646_bytes(alloc, b"Jo"), b"Jo");
-    granted &= is_whole(rt, TeletexString::from_text(alloc, "\u{E9}"), &[233]);
-    granted &= is_whole(rt, of_string::<Graphic>(alloc, "\u{E9}a"), &[233, 97]);
-    granted &= is_whole(rt, of_string::<Graphic>(alloc, "a"), &[97]);
-    let octets = OctetString::from_static(b"12");
-    granted &= is_whole(rt, NumericString::from_octet_string(alloc, octets), b"12");
-    granted &= is_whole(rt, of_zeros(alloc, 8), &[0]);
-    granted
+    let lent = makes_of_lent(rt, alloc);
+    let owned = makes_of_owned(rt, alloc);
+    lent && owned
 }
 
 #[test]
@@ -367,10 +515,9 @@ fn ample_memory(rt: HostRuntime) {
     assert!(rt; makes(&rt, rt.alloc()));
 }
 
-/// Appends characters and copies the string. A refused character leaves it as it was. Whether none was refused.
-fn grows(rt: &impl Abort, alloc: Global) -> bool {
+/// Appends twenty characters. A refused character leaves the string as it was. Whether none was refused.
+fn appends(rt: &impl Abort, string: &mut NumericString) -> bool {
     let mut granted = true;
-    let mut string = NumericString::new(alloc);
     for count in 0..20 {
         if string.push_char(0x31).is_err() {
             granted = false;
@@ -379,27 +526,63 @@ fn grows(rt: &impl Abort, alloc: Global) -> bool {
         }
     }
     assert_eq!(rt; string.as_bytes(), b"11111111111111111111".as_slice());
-    let copied = string.clone().map_err(PermittedAlphabetError::Memory);
-    granted &= is_whole(rt, copied, string.as_bytes());
-    match string.to_bytes(alloc) {
-        Ok(octets) => assert_eq!(rt; octets.as_slice(), string.as_bytes()),
-        Err(AllocError) => granted = false,
-    }
-    match OctetString::try_from(Ia5String::new(alloc)) {
-        Ok(octets) => assert!(rt; octets.is_empty()),
-        Err(refused) => {
-            granted = false;
-            assert!(rt; refused.value.is_empty());
-        }
-    }
-    match octets_of(alloc) {
-        Ok(octets) => assert_eq!(rt; octets.as_slice(), b"Jo".as_slice()),
-        Err(error) => {
-            granted = false;
-            assert!(rt; matches!(error, PermittedAlphabetError::Memory(_)));
-        }
-    }
     granted
+}
+
+/// Copies a string. Whether it was granted its memory: then the copy is whole.
+fn clones(rt: &impl Abort, string: &NumericString) -> bool {
+    let copied = string.clone().map_err(PermittedAlphabetError::Memory);
+    is_whole(rt, copied, string.as_bytes())
+}
+
+/// Copies the octets of a string. Whether it was granted its memory: then the copy is whole.
+fn copies_octets(rt: &impl Abort, alloc: Global, string: &NumericString) -> bool {
+    match string.to_bytes(alloc) {
+        Ok(octets) => {
+            assert_eq!(rt; octets.as_slice(), string.as_bytes());
+            true
+        }
+        Err(AllocError) => false,
+    }
+}
+
+/// Takes the octets of an empty string, which is handed back where they are refused. Whether they were not.
+fn gives_no_octets(rt: &impl Abort, alloc: Global) -> bool {
+    match OctetString::try_from(Ia5String::new(alloc)) {
+        Ok(octets) => {
+            assert!(rt; octets.is_empty());
+            true
+        }
+        Err(refused) => {
+            assert!(rt; refused.value.is_empty());
+            false
+        }
+    }
+}
+
+/// Takes the octets of a string of two characters. Whether it was granted its memory: then they are whole.
+fn gives_octets(rt: &impl Abort, alloc: Global) -> bool {
+    match octets_of(alloc) {
+        Ok(octets) => {
+            assert_eq!(rt; octets.as_slice(), b"Jo".as_slice());
+            true
+        }
+        Err(error) => {
+            assert!(rt; matches!(error, PermittedAlphabetError::Memory(_)));
+            false
+        }
+    }
+}
+
+/// Appends characters, copies the string and takes octets. Whether no request for memory was refused.
+fn grows(rt: &impl Abort, alloc: Global) -> bool {
+    let mut string = NumericString::new(alloc);
+    let appended = appends(rt, &mut string);
+    let cloned = clones(rt, &string);
+    let copied = copies_octets(rt, alloc, &string);
+    let empty = gives_no_octets(rt, alloc);
+    let whole = gives_octets(rt, alloc);
+    appended && cloned && copied && empty && whole
 }
 
 #[test]

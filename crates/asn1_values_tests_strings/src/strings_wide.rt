@@ -6,21 +6,9 @@ use asn1_values::{
 use std::alloc::{AllocError, Global};
 use std::convert::AsSlice;
 use std::default::MadeWith;
-use std::hash::{BuildHasher, BuildHasherDefault, DefaultHasher};
+use std::hash::{BuildHasher, BuildHasherDefault, DefaultHasher, Hash};
 use std::process::Abort;
 use std::test::Fail;
-
-/// What a call answers, and what it answers the next time where it found no memory at first.
-fn settled<T: Drop, F: Fn() -> Result<T, PermittedAlphabetError>>(
-    call: F,
-) -> Result<T, PermittedAlphabetError>
-    requires { F.IsAlwaysCallable call }
-{
-    match call() {
-        Err(PermittedAlphabetError::Memory(_)) => call(),
-        settled => settled,
-    }
-}
 
 /// The character by which a call was refused.
 fn refusal<T: Drop>(answer: Result<T, PermittedAlphabetError>) -> Option<u32> {
@@ -42,90 +30,163 @@ fn alphabet(rt: HostRuntime) {
     assert!(rt; !BmpString::contains_char(u32::MAX));
 }
 
-#[test]
-fn strings_of_texts(rt: HostRuntime) -> Result<(), Fail> {
-    let string = settled(|| BmpString::from_text(rt.alloc(), "A\u{20AC}"))?;
-    assert_eq!(rt; string.as_units(), [0x41, 0x20AC].as_slice());
-    let refused = settled(|| BmpString::from_text(rt.alloc(), "A\u{1F600}\u{1F601}"));
-    assert_eq!(rt; refusal(refused), Some(0x1F600));
-    Ok(())
+/// What a string is made of: of octets or a text that are lent, or of a value of these that is given up.
+#[derive(Clone, Copy)]
+enum Source<'a> {
+    Octets(&'a [u8]),
+    Text(&'a str),
+    OwnedText(&'a str),
+    OctetString(&'a [u8]),
+    BitString(&'a [u8]),
+    Vector(&'a [u8]),
 }
 
 /// The string of a text that is given up.
 fn of_string(alloc: Global, text: &str) -> Result<BmpString, PermittedAlphabetError> {
-    BmpString::try_from(String::from_str(alloc, text).map_err(PermittedAlphabetError::Memory)?)
+    BmpString::try_from(String::from_str(alloc, text)?)
+}
+
+/// The string of the octets of an octet string.
+fn of_octet_string(alloc: Global, octets: &[u8]) -> Result<BmpString, PermittedAlphabetError> {
+    BmpString::from_octet_string(alloc, OctetString::from_slice(alloc, octets)?)
+}
+
+/// The string of the octets of a bit string.
+fn of_bits(alloc: Global, octets: &[u8]) -> Result<BmpString, PermittedAlphabetError> {
+    BmpString::try_from(BitString::from_slice(alloc, octets)?)
+}
+
+/// The string of a vector of these octets.
+fn of_vector(alloc: Global, octets: &[u8]) -> Result<BmpString, PermittedAlphabetError> {
+    BmpString::try_from(Vec::from_slice(alloc, octets)?)
+}
+
+/// What one call makes.
+fn made_at_once(alloc: Global, source: Source<'_>) -> Result<BmpString, PermittedAlphabetError> {
+    match source {
+        Source::Octets(octets) => BmpString::from_bytes(alloc, octets),
+        Source::Text(text) => BmpString::from_text(alloc, text),
+        Source::OwnedText(text) => of_string(alloc, text),
+        Source::OctetString(octets) => of_octet_string(alloc, octets),
+        Source::BitString(octets) => of_bits(alloc, octets),
+        Source::Vector(octets) => of_vector(alloc, octets),
+    }
+}
+
+/// What a call makes, and what it makes the next time where it found no memory at first.
+fn made(alloc: Global, source: Source<'_>) -> Result<BmpString, PermittedAlphabetError> {
+    match made_at_once(alloc, source) {
+        Err(PermittedAlphabetError::Memory(_)) => made_at_once(alloc, source),
+        settled => settled,
+    }
+}
+
+/// Whether the string that is made has these characters.
+fn is_made(alloc: Global, source: Source<'_>, characters: &[u16]) -> bool {
+    match made(alloc, source) {
+        Ok(string) => string.as_units() == characters,
+        Err(_) => false,
+    }
+}
+
+/// Whether no string is made, by this character.
+fn is_refused(alloc: Global, source: Source<'_>, character: u32) -> bool {
+    refusal(made(alloc, source)) == Some(character)
+}
+
+/// Whether no string is made, since the octets are no whole characters.
+fn is_no_data(alloc: Global, source: Source<'_>) -> bool {
+    matches!(
+        made(alloc, source),
+        Err(PermittedAlphabetError::InvalidData)
+    )
 }
 
 #[test]
-fn strings_of_owned_texts(rt: HostRuntime) -> Result<(), Fail> {
-    let string = settled(|| of_string(rt.alloc(), "\u{20AC}B"))?;
-    assert_eq!(rt; string.as_units(), [0x20AC, 0x42].as_slice());
-    assert_eq!(rt;
-        refusal(settled(|| of_string(rt.alloc(), "\u{10000}"))),
-        Some(0x10000)
-    );
-    Ok(())
+fn strings_of_texts(rt: HostRuntime) {
+    let alloc = rt.alloc();
+    assert!(rt; is_made(alloc, Source::Text("A\u{20AC}"), &[0x41, 0x20AC]));
+    assert!(rt; is_refused(alloc, Source::Text("A\u{1F600}\u{1F601}"), 0x1F600));
+}
+
+#[test]
+fn strings_of_owned_texts(rt: HostRuntime) {
+    let alloc = rt.alloc();
+    assert!(rt; is_made(alloc, Source::OwnedText("\u{20AC}B"), &[0x20AC, 0x42]));
+    assert!(rt; is_refused(alloc, Source::OwnedText("\u{10000}"), 0x10000));
+}
+
+/// Whether the octets that a string gives are these, at the second time where there was no memory at first.
+fn gives(alloc: Global, string: &BmpString, wanted: &[u8]) -> Result<bool, AllocError> {
+    let octets = match string.to_bytes(alloc) {
+        Err(AllocError) => string.to_bytes(alloc)?,
+        Ok(octets) => octets,
+    };
+    Ok(octets.as_slice() == wanted)
 }
 
 #[test]
 fn strings_of_octets(rt: HostRuntime) -> Result<(), Fail> {
-    let string = settled(|| BmpString::from_bytes(rt.alloc(), &[0x00, 0x41, 0x20, 0xAC]))?;
+    let octets = [0x00, 0x41, 0x20, 0xAC];
+    let string = made(rt.alloc(), Source::Octets(&octets))?;
     assert_eq!(rt; string.as_units(), [0x41, 0x20AC].as_slice());
-    let octets = settled(|| string
-        .to_bytes(rt.alloc())
-        .map_err(PermittedAlphabetError::Memory))?;
-    assert_eq!(rt; octets.as_slice(), [0x00, 0x41, 0x20, 0xAC].as_slice());
-    let odd = settled(|| BmpString::from_bytes(rt.alloc(), &[0x00, 0x41, 0x20]));
-    assert!(rt; matches!(odd, Err(PermittedAlphabetError::InvalidData)));
+    assert!(rt; gives(rt.alloc(), &string, &octets)?);
+    assert!(rt; is_no_data(rt.alloc(), Source::Octets(&octets[..3])));
     Ok(())
-}
-
-/// The strings of the octets of an octet string, of a bit string and of a vector.
-fn others(alloc: Global, octets: &[u8]) -> Result<[BmpString; 3], PermittedAlphabetError> {
-    let shared = OctetString::from_slice(alloc, octets).map_err(PermittedAlphabetError::Memory)?;
-    let bits = BitString::from_slice(alloc, octets).map_err(PermittedAlphabetError::Memory)?;
-    let vector = Vec::from_slice(alloc, octets).map_err(PermittedAlphabetError::Memory)?;
-    Ok([
-        BmpString::from_octet_string(alloc, shared)?,
-        BmpString::try_from(bits)?,
-        BmpString::try_from(vector)?,
-    ])
 }
 
 #[test]
-fn strings_of_others(rt: HostRuntime) -> Result<(), Fail> {
-    let strings = settled(|| others(rt.alloc(), &[0x20, 0xAC]))?;
-    for string in &strings {
-        assert_eq!(rt; string.as_units(), [0x20AC].as_slice());
-    }
-    let odd = settled(|| others(rt.alloc(), &[0x41]));
-    assert!(rt; matches!(odd, Err(PermittedAlphabetError::InvalidData)));
-    Ok(())
+fn strings_of_others(rt: HostRuntime) {
+    let alloc = rt.alloc();
+    assert!(rt; is_made(alloc, Source::OctetString(&[0x20, 0xAC]), &[0x20AC]));
+    assert!(rt; is_made(alloc, Source::BitString(&[0x20, 0xAC]), &[0x20AC]));
+    assert!(rt; is_made(alloc, Source::Vector(&[0x20, 0xAC]), &[0x20AC]));
+    assert!(rt; is_no_data(alloc, Source::OctetString(&[0x41])));
+    assert!(rt; is_no_data(alloc, Source::BitString(&[0x41])));
+    assert!(rt; is_no_data(alloc, Source::Vector(&[0x41])));
+}
+
+/// Whether the string of a string's octets is that string.
+fn is_made_again(alloc: Global, string: &BmpString) -> Result<bool, PermittedAlphabetError> {
+    let octets = string.to_bytes(alloc)?;
+    Ok(BmpString::try_from(octets)? == *string)
 }
 
 /// What was made is made again of its own octets.
 #[test]
 fn octets_and_back(rt: HostRuntime) -> Result<(), Fail> {
     let string = BmpString::from(Vec::from_slice(rt.alloc(), &[0, 1, 0x20AC, 0xFFFF])?);
-    let octets = string.to_bytes(rt.alloc())?;
-    assert!(rt; BmpString::try_from(octets)? == string);
+    assert!(rt; is_made_again(rt.alloc(), &string)?);
     Ok(())
+}
+
+/// So many zero bits.
+fn zeros(alloc: Global, len: usize) -> Result<BitString, AllocError> {
+    let mut bits = BitString::new(alloc);
+    for _ in 0..len {
+        bits.push(false)?;
+    }
+    Ok(bits)
 }
 
 /// The string of so many zero bits.
 fn of_zeros(alloc: Global, len: usize) -> Result<BmpString, PermittedAlphabetError> {
-    let mut bits = BitString::new(alloc);
-    for _ in 0..len {
-        bits.push(false).map_err(PermittedAlphabetError::Memory)?;
+    BmpString::try_from(zeros(alloc, len)?)
+}
+
+/// That string, also where there was no memory for it at first.
+fn made_of_zeros(alloc: Global, len: usize) -> Result<BmpString, PermittedAlphabetError> {
+    match of_zeros(alloc, len) {
+        Err(PermittedAlphabetError::Memory(_)) => of_zeros(alloc, len),
+        settled => settled,
     }
-    BmpString::try_from(bits)
 }
 
 #[test]
 fn bits_as_characters(rt: HostRuntime) -> Result<(), Fail> {
-    let partly = settled(|| of_zeros(rt.alloc(), 24));
+    let partly = made_of_zeros(rt.alloc(), 24);
     assert!(rt; matches!(partly, Err(PermittedAlphabetError::InvalidData)));
-    let whole = settled(|| of_zeros(rt.alloc(), 16))?;
+    let whole = made_of_zeros(rt.alloc(), 16)?;
     assert_eq!(rt; whole.as_units(), [0].as_slice());
     Ok(())
 }
@@ -138,25 +199,38 @@ fn is_pushed<S: StaticPermittedAlphabet>(string: &mut S, character: u32) -> bool
     }
 }
 
+/// Whether a string takes the characters FFFF and 0, and none past FFFF between them.
+fn takes_two_octets(string: &mut BmpString) -> bool {
+    is_pushed(string, 0xFFFF) && !is_pushed(string, 0x10000) && is_pushed(string, 0)
+}
+
+/// Whether a string refuses a character by itself.
+fn refuses(string: &mut BmpString, character: u32) -> bool {
+    refusal(string.push_char(character)) == Some(character)
+}
+
 #[test]
 fn pushed_characters(rt: HostRuntime) {
     let mut string = BmpString::new(rt.alloc());
-    assert!(rt; is_pushed(&mut string, 0xFFFF));
-    assert!(rt; !is_pushed(&mut string, 0x10000));
-    assert!(rt; is_pushed(&mut string, 0));
+    assert!(rt; takes_two_octets(&mut string));
     assert_eq!(rt; string.as_units(), [0xFFFF, 0].as_slice());
-    assert_eq!(rt; refusal(string.push_char(0x10000)), Some(0x10000));
-    assert_eq!(rt; refusal(string.push_char(u32::MAX)), Some(u32::MAX));
+    assert!(rt; refuses(&mut string, 0x10000));
+    assert!(rt; refuses(&mut string, u32::MAX));
+}
+
+/// Whether a string goes through the characters 41 and 20AC, and no further.
+fn has_two_characters(string: &BmpString) -> bool {
+    let mut characters = string.chars();
+    characters.next() == Some(0x41)
+        && characters.next() == Some(0x20AC)
+        && characters.next() == None
+        && characters.next() == None
 }
 
 #[test]
 fn characters_of_strings(rt: HostRuntime) -> Result<(), Fail> {
-    let string = settled(|| BmpString::from_text(rt.alloc(), "A\u{20AC}"))?;
-    let mut characters = string.chars();
-    assert_eq!(rt; characters.next(), Some(0x41));
-    assert_eq!(rt; characters.next(), Some(0x20AC));
-    assert_eq!(rt; characters.next(), None);
-    assert_eq!(rt; characters.next(), None);
+    let string = made(rt.alloc(), Source::Text("A\u{20AC}"))?;
+    assert!(rt; has_two_characters(&string));
     assert_eq!(rt; string.char_count(), 2);
     assert_eq!(rt; string.char_at(1), 0x20AC);
     assert_eq!(rt; string.into_vec().as_slice(), [0x41, 0x20AC].as_slice());
@@ -164,19 +238,24 @@ fn characters_of_strings(rt: HostRuntime) -> Result<(), Fail> {
 }
 
 /// The value that a type makes with an allocator, by the trait alone.
-fn made<S: MadeWith<Global>>(alloc: Global) -> S {
+fn made_with<S: MadeWith<Global>>(alloc: Global) -> S {
     S::made_with(alloc)
+}
+
+/// An empty string with room, also where there was none at first.
+fn roomy(alloc: Global, count: usize) -> Result<BmpString, AllocError> {
+    match BmpString::with_capacity(alloc, count) {
+        Err(AllocError) => BmpString::with_capacity(alloc, count),
+        roomy => roomy,
+    }
 }
 
 #[test]
 fn empty_strings(rt: HostRuntime) -> Result<(), Fail> {
     let empty: BmpString = StaticPermittedAlphabet::empty(rt.alloc());
     assert!(rt; empty.is_empty());
-    assert!(rt; made::<BmpString>(rt.alloc()) == empty);
-    let roomy = settled(|| BmpString::with_capacity(rt.alloc(), 4).map_err(
-        PermittedAlphabetError::Memory,
-    ))?;
-    assert!(rt; roomy.is_empty());
+    assert!(rt; made_with::<BmpString>(rt.alloc()) == empty);
+    assert!(rt; roomy(rt.alloc(), 4)?.is_empty());
     Ok(())
 }
 
@@ -185,28 +264,53 @@ fn is_before<T: Ord>(first: &T, second: &T) -> bool {
     first < second && first != second
 }
 
+/// Whether the strings of these texts are ordered so.
+fn are_ordered(alloc: Global, first: &str, second: &str) -> Result<bool, PermittedAlphabetError> {
+    let first = made(alloc, Source::Text(first))?;
+    let second = made(alloc, Source::Text(second))?;
+    Ok(is_before(&first, &second))
+}
+
+/// A copy, also where there was no memory for it at first.
+fn copied(string: &BmpString) -> Result<BmpString, AllocError> {
+    match string.clone() {
+        Ok(copy) => Ok(copy),
+        Err(AllocError) => Ok(string.clone()?),
+    }
+}
+
+/// What a hasher makes of a value.
+fn hash_of<T: Hash + Drop>(value: T) -> u64 {
+    BuildHasherDefault::<DefaultHasher>::new().hash_one(value)
+}
+
+/// Whether a copy is equal to its string of two characters, and hashed as that is.
+fn is_copied(string: &BmpString) -> Result<bool, AllocError> {
+    let copy = copied(string)?;
+    Ok(copy == *string && copy.len() == 2 && hash_of(&copy) == hash_of(string))
+}
+
 #[test]
 fn copies_and_comparisons(rt: HostRuntime) -> Result<(), Fail> {
-    let small = settled(|| BmpString::from_text(rt.alloc(), "A\u{FF}"))?;
-    let large = settled(|| BmpString::from_text(rt.alloc(), "A\u{100}"))?;
-    let short = settled(|| BmpString::from_text(rt.alloc(), "B"))?;
-    assert!(rt; is_before(&small, &large));
-    assert!(rt; is_before(&large, &short));
-    let copy = settled(|| small.clone().map_err(PermittedAlphabetError::Memory))?;
-    assert!(rt; copy == small);
-    assert_eq!(rt; copy.len(), 2);
-    let hashing = BuildHasherDefault::<DefaultHasher>::new();
-    assert_eq!(rt; hashing.hash_one(&copy), hashing.hash_one(&small));
+    assert!(rt; are_ordered(rt.alloc(), "A\u{FF}", "A\u{100}")?);
+    assert!(rt; are_ordered(rt.alloc(), "A\u{100}", "B")?);
+    let string = made(rt.alloc(), Source::Text("A\u{FF}"))?;
+    assert!(rt; is_copied(&string)?);
     Ok(())
+}
+
+/// What is shown of a string, also where there was no memory for it at first.
+fn shown(alloc: Global, string: &BmpString) -> Result<String, AllocError> {
+    match format!(in alloc; "{string:?}") {
+        Err(AllocError) => format!(in alloc; "{string:?}"),
+        shown => shown,
+    }
 }
 
 #[test]
 fn strings_are_shown(rt: HostRuntime) -> Result<(), Fail> {
-    let string = settled(|| BmpString::from_text(rt.alloc(), "A"))?;
-    let text = settled(|| format!(in rt.alloc(); "{string:?}").map_err(
-        PermittedAlphabetError::Memory,
-    ))?;
-    assert_eq!(rt; text.as_str(), "BMPString([65])");
+    let string = made(rt.alloc(), Source::Text("A"))?;
+    assert_eq!(rt; shown(rt.alloc(), &string)?.as_str(), "BMPString([65])");
     Ok(())
 }
 
@@ -228,22 +332,32 @@ fn is_whole(
     }
 }
 
-/// The string of a vector of these octets.
-fn of_vector(alloc: Global, octets: &[u8]) -> Result<BmpString, PermittedAlphabetError> {
-    let octets = Vec::from_slice(alloc, octets).map_err(PermittedAlphabetError::Memory)?;
-    BmpString::try_from(octets)
+/// The string of octets that stand for as long as the program runs.
+fn of_static_octets(alloc: Global) -> Result<BmpString, PermittedAlphabetError> {
+    BmpString::from_octet_string(alloc, OctetString::from_static(&[0x20, 0xAC]))
 }
 
-/// Makes strings of what is lent and of what is given up: each answer is whole, or refused. Whether none was refused.
+/// Makes strings of what is lent: each answer is whole, or refused. Whether none was refused.
+fn makes_of_lent(rt: &impl Abort, alloc: Global) -> bool {
+    let octets = is_whole(rt, BmpString::from_bytes(alloc, &[0x20, 0xAC]), &[0x20AC]);
+    let text = is_whole(rt, BmpString::from_text(alloc, "\u{20AC}"), &[0x20AC]);
+    octets && text
+}
+
+/// Makes strings of what is given up: each answer is whole, or refused. Whether none was refused.
+fn makes_of_owned(rt: &impl Abort, alloc: Global) -> bool {
+    let text = is_whole(rt, of_string(alloc, "\u{20AC}"), &[0x20AC]);
+    let octets = is_whole(rt, of_static_octets(alloc), &[0x20AC]);
+    let vector = is_whole(rt, of_vector(alloc, &[0x20, 0xAC]), &[0x20AC]);
+    let bits = is_whole(rt, of_zeros(alloc, 16), &[0]);
+    text && octets && vector && bits
+}
+
+/// Makes strings. Whether no request for memory was refused.
 fn makes(rt: &impl Abort, alloc: Global) -> bool {
-    let mut granted = is_whole(rt, BmpString::from_bytes(alloc, &[0x20, 0xAC]), &[0x20AC]);
-    granted &= is_whole(rt, BmpString::from_text(alloc, "\u{20AC}"), &[0x20AC]);
-    granted &= is_whole(rt, of_string(alloc, "\u{20AC}"), &[0x20AC]);
-    let octets = OctetString::from_static(&[0x20, 0xAC]);
-    granted &= is_whole(rt, BmpString::from_octet_string(alloc, octets), &[0x20AC]);
-    granted &= is_whole(rt, of_vector(alloc, &[0x20, 0xAC]), &[0x20AC]);
-    granted &= is_whole(rt, of_zeros(alloc, 16), &[0]);
-    granted
+    let lent = makes_of_lent(rt, alloc);
+    let owned = makes_of_owned(rt, alloc);
+    lent && owned
 }
 
 #[test]
@@ -256,10 +370,9 @@ fn ample_memory(rt: HostRuntime) {
     assert!(rt; makes(&rt, rt.alloc()));
 }
 
-/// Appends characters and copies the string. A refused character leaves it as it was. Whether none was refused.
-fn grows(rt: &impl Abort, alloc: Global) -> bool {
+/// Appends twenty characters. A refused character leaves the string as it was. Whether none was refused.
+fn appends(rt: &impl Abort, string: &mut BmpString) -> bool {
     let mut granted = true;
-    let mut string = BmpString::new(alloc);
     for count in 0..20 {
         if string.push_char(0x20AC).is_err() {
             granted = false;
@@ -268,13 +381,33 @@ fn grows(rt: &impl Abort, alloc: Global) -> bool {
         }
     }
     assert_eq!(rt; string.as_units(), [0x20AC; 20].as_slice());
-    let copied = string.clone().map_err(PermittedAlphabetError::Memory);
-    granted &= is_whole(rt, copied, string.as_units());
-    match string.to_bytes(alloc) {
-        Ok(octets) => assert_eq!(rt; octets.len(), 40),
-        Err(AllocError) => granted = false,
-    }
     granted
+}
+
+/// Copies a string. Whether it was granted its memory: then the copy is whole.
+fn clones(rt: &impl Abort, string: &BmpString) -> bool {
+    let copied = string.clone().map_err(PermittedAlphabetError::Memory);
+    is_whole(rt, copied, string.as_units())
+}
+
+/// Copies the octets of a string of twenty characters. Whether it was granted its memory: then the copy is whole.
+fn copies_octets(rt: &impl Abort, alloc: Global, string: &BmpString) -> bool {
+    match string.to_bytes(alloc) {
+        Ok(octets) => {
+            assert_eq!(rt; octets.len(), 40);
+            true
+        }
+        Err(AllocError) => false,
+    }
+}
+
+/// Appends characters and copies the string. Whether no request for memory was refused.
+fn grows(rt: &impl Abort, alloc: Global) -> bool {
+    let mut string = BmpString::new(alloc);
+    let appended = appends(rt, &mut string);
+    let cloned = clones(rt, &string);
+    let copied = copies_octets(rt, alloc, &string);
+    appended && cloned && copied
 }
 
 #[test]
