@@ -101,7 +101,7 @@ fn push_padded_foo(octets: &mut Vec<u8>, first: u8, zeros: u8) -> Result<(), All
 fn is_foo_by_basic_rules_alone(alloc: Global, octets: &[u8]) -> Result<bool, Fail> {
     let foo = VisibleString::from_text(alloc, "foo")?;
     let padded = DecodeError::NotValidCanonicalEncoding;
-    Ok(is_read_by_basic_rules_alone(alloc, &foo, octets, padded)?)
+    is_read_by_basic_rules_alone(alloc, &foo, octets, padded)
 }
 
 /// Adds "foo" behind such a length to no octets: whether the basic rules alone read it.
@@ -131,7 +131,7 @@ fn padded_lengths_are_not_canonical(rt: HostRuntime) -> Result<(), Fail> {
 }
 
 /// Whether the basic rules alone read 7 from these octets.
-fn is_seven_by_basic_rules_alone(alloc: Global, octets: &[u8]) -> Result<bool, DecodeError> {
+fn is_seven_by_basic_rules_alone(alloc: Global, octets: &[u8]) -> Result<bool, Fail> {
     let padded = DecodeError::NotValidCanonicalEncoding;
     is_read_by_basic_rules_alone(alloc, &Integer::from(7), octets, padded)
 }

@@ -6,6 +6,8 @@ mod calls;
 #[cfg(test)]
 mod five;
 #[cfg(test)]
+mod items;
+#[cfg(test)]
 mod lengths;
 #[cfg(test)]
 mod numbers;

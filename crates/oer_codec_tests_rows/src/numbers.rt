@@ -10,14 +10,14 @@ use oer_codec::coer;
 use std::alloc::Global;
 use std::test::Fail;
 
-/// A number, and its canonical octets.
+/// A number, and octets of it.
 #[derive(Clone, Copy)]
 struct Row {
     number: i128,
     octets: &'static [u8],
 }
 
-/// Numbers without bounds.
+/// Numbers without bounds, in their canonical octets.
 const WITHOUT_BOUNDS: [Row; 9] = [
     Row {
         number: 0,
@@ -105,7 +105,7 @@ fn numbers_past_128_bits(rt: HostRuntime) -> Result<(), Fail> {
     Ok(())
 }
 
-/// A number between two bounds, and its canonical octets.
+/// A number between two bounds, and octets of it.
 #[derive(Clone, Copy)]
 struct BoundedRow {
     low: i128,
@@ -114,7 +114,7 @@ struct BoundedRow {
     octets: &'static [u8],
 }
 
-/// Bounds that fix how many octets there are, and some that do not.
+/// Bounds that fix how many octets there are, and some that do not; the octets are canonical.
 const WITHIN_BOUNDS: [BoundedRow; 11] = [
     BoundedRow {
         low: 0,
@@ -214,22 +214,60 @@ fn refusal(alloc: Global, low: i128, high: i128, octets: &[u8]) -> Option<Decode
 }
 
 /// Whether the basic rules alone read a number without bounds from these octets.
-fn is_padded(alloc: Global, number: i128, octets: &[u8]) -> Result<bool, DecodeError> {
+fn is_padded(alloc: Global, number: i128, octets: &[u8]) -> Result<bool, Fail> {
     let padded = DecodeError::NotValidCanonicalEncoding;
     is_read_by_basic_rules_alone(alloc, &Integer::from(number), octets, padded)
+}
+
+/// Numbers between two bounds that do not fix how many octets there are, in more than they need.
+const PADDED_WITHIN_BOUNDS: [BoundedRow; 3] = [
+    BoundedRow {
+        low: 0,
+        high: 18446744073709551616,
+        number: 255,
+        octets: &[0x02, 0x00, 0xFF],
+    },
+    BoundedRow {
+        low: -9223372036854775809,
+        high: 9223372036854775808,
+        number: 127,
+        octets: &[0x02, 0x00, 0x7F],
+    },
+    BoundedRow {
+        low: -9223372036854775809,
+        high: 9223372036854775808,
+        number: -1,
+        octets: &[0x02, 0xFF, 0xFF],
+    },
+];
+
+/// Numbers without bounds, in more octets than they need.
+const PADDED_WITHOUT_BOUNDS: [Row; 2] = [
+    Row {
+        number: -1,
+        octets: &[0x02, 0xFF, 0xFF],
+    },
+    Row {
+        number: 0,
+        octets: &[0x02, 0x00, 0x00],
+    },
+];
+
+/// Whether the canonical rules refuse a number between two bounds, as it is padded.
+fn is_refused_as_padded(alloc: Global, row: &BoundedRow) -> bool {
+    let padded = Some(DecodeError::NotValidCanonicalEncoding);
+    refusal(alloc, row.low, row.high, row.octets) == padded
 }
 
 #[test]
 fn padded_numbers_are_not_canonical(rt: HostRuntime) -> Result<(), Fail> {
     let alloc = rt.alloc();
-    assert!(rt; is_padded(alloc, -1, &[0x02, 0xFF, 0xFF])?);
-    assert!(rt; is_padded(alloc, 0, &[0x02, 0x00, 0x00])?);
-    let past = 18446744073709551616;
-    let (low, high) = (-9223372036854775809, 9223372036854775808);
-    let padded = Some(DecodeError::NotValidCanonicalEncoding);
-    assert_eq!(rt; refusal(alloc, 0, past, &[0x02, 0x00, 0xFF]), padded);
-    assert_eq!(rt; refusal(alloc, low, high, &[0x02, 0x00, 0x7F]), padded);
-    assert_eq!(rt; refusal(alloc, low, high, &[0x02, 0xFF, 0xFF]), padded);
+    for row in &PADDED_WITHOUT_BOUNDS {
+        assert!(rt; is_padded(alloc, row.number, row.octets)?, "{}", row.number);
+    }
+    for row in &PADDED_WITHIN_BOUNDS {
+        assert!(rt; is_refused_as_padded(alloc, row), "{}", row.number);
+    }
     Ok(())
 }
 

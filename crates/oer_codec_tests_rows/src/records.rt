@@ -1,9 +1,9 @@
 //! Sequences, record by record (X.696 16).
-use asn1_schema_decode::{Decode, Decoder as Reading};
-use asn1_schema_encode::{Encode, Encoder as Writing};
+use crate::items::{is_number, write_number};
+use asn1_schema_decode::Decoder as Reading;
+use asn1_schema_encode::Encoder as Writing;
 use asn1_schema_faults::{DecodeError, EncodeError};
 use asn1_schema_tags::Tag;
-use asn1_values_numbers::Integer;
 use oer_codec::coer::{Decoder, DecoderOptions, Encoder, EncoderOptions};
 use std::alloc::Global;
 use std::test::Fail;
@@ -13,11 +13,6 @@ const NESTED: [u8; 10] = [0x01, 0x01, 0x80, 0x01, 0x02, 0x80, 0x01, 0x03, 0x01, 
 
 /// The octets of `write_twelve`.
 const TWELVE: [u8; 10] = [0x88, 0x80, 0x01, 0x01, 0x01, 0x01, 0x01, 0x01, 0x01, 0x01];
-
-/// Hands over INTEGER.
-fn write_number(encoder: &mut Encoder<'_>, number: i64) -> Result<(), EncodeError> {
-    Integer::from(number).encode(encoder)
-}
 
 /// SEQUENCE {a INTEGER, b SEQUENCE {a INTEGER, b SEQUENCE {a INTEGER, b INTEGER OPTIONAL} OPTIONAL}} 1, 2, 3, 4.
 fn write_nested(encoder: &mut Encoder<'_>) -> Result<(), EncodeError> {
@@ -62,20 +57,15 @@ fn writes_both(encoder: &mut Encoder<'_>) -> Result<bool, EncodeError> {
     Ok(nested && twelve)
 }
 
-/// Whether the next number is this one.
-fn is_next(alloc: Global, decoder: &mut Decoder<'_>, number: i64) -> Result<bool, DecodeError> {
-    Ok(Integer::decode(alloc, decoder)? == Integer::from(number))
-}
-
 /// Whether the nested ones are next.
 fn has_nested(alloc: Global, decoder: &mut Decoder<'_>) -> Result<bool, DecodeError> {
     decoder.begin_sequence(Tag::SEQUENCE, false, 0)?;
-    let first = is_next(alloc, decoder, 1)?;
+    let first = is_number(alloc, decoder, 1)?;
     decoder.begin_sequence(Tag::SEQUENCE, false, 1)?;
-    let second = is_next(alloc, decoder, 2)? && decoder.get_mark()?;
+    let second = is_number(alloc, decoder, 2)? && decoder.get_mark()?;
     decoder.begin_sequence(Tag::SEQUENCE, false, 1)?;
-    let third = is_next(alloc, decoder, 3)? && decoder.get_mark()?;
-    let fourth = is_next(alloc, decoder, 4)?;
+    let third = is_number(alloc, decoder, 3)? && decoder.get_mark()?;
+    let fourth = is_number(alloc, decoder, 4)?;
     for _ in 0..3 {
         decoder.end()?;
     }
@@ -94,16 +84,27 @@ fn reads_nested(alloc: Global, octets: &[u8]) -> Result<bool, DecodeError> {
     ends_with_nested(alloc, &mut decoder)
 }
 
-/// Whether the twelve are next, and as those of them that are there.
+/// Whether the next of the twelve is there or not, as it should be, and 1 if it is there.
+fn has_optional(
+    alloc: Global,
+    decoder: &mut Decoder<'_>,
+    present: bool,
+) -> Result<bool, DecodeError> {
+    if decoder.get_mark()? != present {
+        return Ok(false);
+    }
+    if present {
+        return is_number(alloc, decoder, 1);
+    }
+    Ok(true)
+}
+
+/// Whether the twelve are next, and those of them that should be there are.
 fn has_twelve(alloc: Global, decoder: &mut Decoder<'_>) -> Result<bool, DecodeError> {
     decoder.begin_sequence(Tag::SEQUENCE, false, 12)?;
-    let mut all_right = is_next(alloc, decoder, 1)?;
+    let mut all_right = is_number(alloc, decoder, 1)?;
     for place in 0..12 {
-        let present = decoder.get_mark()?;
-        if present {
-            all_right = all_right && is_next(alloc, decoder, 1)?;
-        }
-        all_right = all_right && present == (place % 4 == 0);
+        all_right = has_optional(alloc, decoder, place % 4 == 0)? && all_right;
     }
     decoder.end()?;
     Ok(all_right)

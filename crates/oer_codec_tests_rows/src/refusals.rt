@@ -1,15 +1,15 @@
 //! Why sequences and choices are refused, record by record.
+use crate::items::{is_number, read_flag, read_octet};
 use crate::rows::both_refuse;
-use asn1_schema_decode::{Decode, Decoder as Reading};
+use asn1_schema_decode::Decoder as Reading;
 use asn1_schema_faults::DecodeError;
 use asn1_schema_tags::{Class, Tag};
-use asn1_values_numbers::Integer;
 use oer_codec::coer::{Decoder, DecoderOptions};
 use std::alloc::Global;
 use std::test::Fail;
 
 /// Octets, and what each set of rules finds in them.
-#[derive(Clone, Copy)]
+#[derive(Drop)]
 struct Row<T> {
     octets: &'static [u8],
     basic: Result<T, DecodeError>,
@@ -24,24 +24,29 @@ fn context(value: u32) -> Tag {
     }
 }
 
+/// Reads a, which is noted where it is its default.
+fn read_defaulted(alloc: Global, decoder: &mut Decoder<'_>) -> Result<(), DecodeError> {
+    let is_default = is_number(alloc, decoder, 0)?;
+    if is_default {
+        decoder.note_default()?;
+    }
+    Ok(())
+}
+
 /// Reads SEQUENCE {a INTEGER DEFAULT 0, b INTEGER OPTIONAL}: which of them are there.
 fn read_offset(alloc: Global, decoder: &mut Decoder<'_>) -> Result<(bool, bool), DecodeError> {
     decoder.begin_sequence(Tag::SEQUENCE, false, 2)?;
     let has_a = decoder.get_mark()?;
-    if has_a && is_zero(alloc, decoder)? {
-        decoder.note_default()?;
+    if has_a {
+        read_defaulted(alloc, decoder)?;
     }
     let has_b = decoder.get_mark()?;
     if has_b {
-        Integer::decode(alloc, decoder)?;
+        // any number: it is only passed over
+        is_number(alloc, decoder, 0)?;
     }
     decoder.end()?;
     Ok((has_a, has_b))
-}
-
-/// Whether the next number is 0.
-fn is_zero(alloc: Global, decoder: &mut Decoder<'_>) -> Result<bool, DecodeError> {
-    Ok(Integer::decode(alloc, decoder)? == Integer::from(0))
 }
 
 /// What is read of such a value by these rules.
@@ -78,19 +83,22 @@ const OFFSETS: [Row<(bool, bool)>; 4] = [
     },
 ];
 
+/// Whether each set of rules finds in such octets what it should.
+fn is_offset_right(alloc: Global, row: &Row<(bool, bool)>) -> bool {
+    offset(alloc, DecoderOptions::oer(), row.octets) == row.basic
+        && offset(alloc, DecoderOptions::coer(), row.octets) == row.canonical
+}
+
 #[test]
 fn preambles_and_defaults(rt: HostRuntime) {
     let alloc = rt.alloc();
-    for row in OFFSETS {
-        let basic = offset(alloc, DecoderOptions::oer(), row.octets);
-        assert_eq!(rt; basic, row.basic, "{:?}", row.octets);
-        let canonical = offset(alloc, DecoderOptions::coer(), row.octets);
-        assert_eq!(rt; canonical, row.canonical, "{:?}", row.octets);
+    for row in &OFFSETS {
+        assert!(rt; is_offset_right(alloc, row), "{:?}", row.octets);
     }
 }
 
 /// The tags of a choice, octets, and which place of the tags each set of rules finds in them.
-#[derive(Clone, Copy)]
+#[derive(Drop)]
 struct TagRow {
     roots: &'static [Tag],
     octets: &'static [u8],
@@ -178,33 +186,47 @@ fn read_place(decoder: &mut Decoder<'_>, roots: &[Tag]) -> Result<usize, DecodeE
     Ok(chosen.place)
 }
 
-/// Which place is read from such octets by these rules.
-fn read_tag(alloc: Global, options: DecoderOptions, row: TagRow) -> Result<usize, DecodeError> {
-    let mut decoder = Decoder::new(alloc, row.octets, options);
-    read_place(&mut decoder, row.roots)
+/// Which place is read from these octets by these rules.
+fn read_tag(
+    alloc: Global,
+    options: DecoderOptions,
+    octets: &[u8],
+    roots: &[Tag],
+) -> Result<usize, DecodeError> {
+    let mut decoder = Decoder::new(alloc, octets, options);
+    read_place(&mut decoder, roots)
+}
+
+/// Whether each set of rules finds the place that it should.
+fn is_place_right(alloc: Global, row: &TagRow) -> bool {
+    read_tag(alloc, DecoderOptions::oer(), row.octets, row.roots) == row.basic
+        && read_tag(alloc, DecoderOptions::coer(), row.octets, row.roots) == row.canonical
 }
 
 #[test]
 fn tags_of_choices(rt: HostRuntime) {
     let alloc = rt.alloc();
-    for row in TAGS {
-        let basic = read_tag(alloc, DecoderOptions::oer(), row);
-        assert_eq!(rt; basic, row.basic, "{:?}", row.octets);
-        let canonical = read_tag(alloc, DecoderOptions::coer(), row);
-        assert_eq!(rt; canonical, row.canonical, "{:?}", row.octets);
+    for row in &TAGS {
+        assert!(rt; is_place_right(alloc, row), "{:?}", row.octets);
     }
+}
+
+/// Reads b INTEGER (0..255) OPTIONAL, an addition.
+fn read_added(alloc: Global, decoder: &mut Decoder<'_>) -> Result<Option<u8>, DecodeError> {
+    if !decoder.get_addition()? {
+        return Ok(None);
+    }
+    let added = read_octet(alloc, decoder)?;
+    decoder.end_addition()?;
+    Ok(Some(added))
 }
 
 /// Reads SEQUENCE {a BOOLEAN, ..., b INTEGER (0..255) OPTIONAL}: the addition, if it is there.
 fn read_addition(alloc: Global, decoder: &mut Decoder<'_>) -> Result<Option<u8>, DecodeError> {
     decoder.begin_sequence(Tag::SEQUENCE, true, 0)?;
-    bool::decode(alloc, decoder)?;
+    read_flag(alloc, decoder)?;
     decoder.begin_additions(1)?;
-    let mut addition = None;
-    if decoder.get_addition()? {
-        addition = Some(u8::decode(alloc, decoder)?);
-        decoder.end_addition()?;
-    }
+    let addition = read_added(alloc, decoder)?;
     decoder.end()?;
     Ok(addition)
 }
@@ -258,14 +280,17 @@ const ADDITIONS: [Row<Option<u8>>; 7] = [
     },
 ];
 
+/// Whether each set of rules finds the addition that it should.
+fn is_addition_right(alloc: Global, row: &Row<Option<u8>>) -> bool {
+    read_new(alloc, DecoderOptions::oer(), row.octets) == row.basic
+        && read_new(alloc, DecoderOptions::coer(), row.octets) == row.canonical
+}
+
 #[test]
 fn additions(rt: HostRuntime) {
     let alloc = rt.alloc();
-    for row in ADDITIONS {
-        let basic = read_new(alloc, DecoderOptions::oer(), row.octets);
-        assert_eq!(rt; basic, row.basic, "{:?}", row.octets);
-        let canonical = read_new(alloc, DecoderOptions::coer(), row.octets);
-        assert_eq!(rt; canonical, row.canonical, "{:?}", row.octets);
+    for row in &ADDITIONS {
+        assert!(rt; is_addition_right(alloc, row), "{:?}", row.octets);
     }
 }
 
@@ -279,12 +304,17 @@ fn refusal_past_128(decoder: &mut Decoder<'_>) -> Result<Option<DecodeError>, De
     Ok(past.err())
 }
 
+/// Why the choice past 128 in one another is refused.
+fn refusal_past_128_levels(alloc: Global) -> Result<Option<DecodeError>, DecodeError> {
+    let octets = [0x81u8; 129];
+    let mut decoder = Decoder::new(alloc, &octets, DecoderOptions::coer());
+    refusal_past_128(&mut decoder)
+}
+
 #[test]
 fn the_level_past_128(rt: HostRuntime) -> Result<(), Fail> {
     let alloc = rt.alloc();
-    let octets = [0x81u8; 129];
-    let mut decoder = Decoder::new(alloc, &octets, DecoderOptions::coer());
-    let past = refusal_past_128(&mut decoder)?;
+    let past = refusal_past_128_levels(alloc)?;
     assert_eq!(rt; past, Some(DecodeError::ExceedsMaxParseDepth));
     assert!(rt; both_refuse::<bool>(alloc, &[], DecodeError::Incomplete));
     Ok(())

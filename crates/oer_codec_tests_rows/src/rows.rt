@@ -7,10 +7,15 @@ use oer_codec::{coer, oer};
 use std::alloc::Global;
 use std::test::Fail;
 
+/// Whether a text has these octets.
+fn has_octets(written: &Vec<u8>, octets: &[u8]) -> bool {
+    written.as_slice() == octets
+}
+
 /// Whether these are the canonical octets of a value.
 fn is_written_as<T: Encode>(alloc: Global, value: &T, octets: &[u8]) -> Result<bool, EncodeError> {
     let written = coer::encode(alloc, value)?;
-    Ok(*written.as_slice() == *octets)
+    Ok(has_octets(&written, octets))
 }
 
 /// Whether the basic rules read a value from these octets.
@@ -53,7 +58,7 @@ fn is_written_under<T: Encode>(
     octets: &[u8],
 ) -> Result<bool, EncodeError> {
     let written = coer::encode_with_constraints(alloc, constraints, value)?;
-    Ok(*written.as_slice() == *octets)
+    Ok(has_octets(&written, octets))
 }
 
 /// Whether the basic rules read a value from these octets under these constraints.
@@ -109,7 +114,7 @@ pub fn is_read_by_basic_rules_alone<T: Decode + PartialEq>(
     value: &T,
     octets: &[u8],
     error: DecodeError,
-) -> Result<bool, DecodeError> {
+) -> Result<bool, Fail> {
     let basic = is_basic(alloc, value, octets)?;
     Ok(basic && canonical_refuse::<T>(alloc, octets, error))
 }

@@ -84,7 +84,7 @@ fn no_bits_stand_as(alloc: Global, octets: &[u8]) -> Result<bool, Fail> {
 }
 
 /// Whether the basic rules alone read no bits from these octets.
-fn is_no_bits_by_basic_rules_alone(alloc: Global, octets: &[u8]) -> Result<bool, DecodeError> {
+fn is_no_bits_by_basic_rules_alone(alloc: Global, octets: &[u8]) -> Result<bool, Fail> {
     let other = DecodeError::NotValidCanonicalEncoding;
     is_read_by_basic_rules_alone(alloc, &BitString::new(alloc), octets, other)
 }
@@ -93,7 +93,12 @@ fn is_no_bits_by_basic_rules_alone(alloc: Global, octets: &[u8]) -> Result<bool,
 fn is_four_bits_by_basic_rules_alone(alloc: Global, octets: &[u8]) -> Result<bool, Fail> {
     let four = BitString::from_bitslice(alloc, BitStr::front_of(&[0xF0], 4))?;
     let other = DecodeError::NotValidCanonicalEncoding;
-    Ok(is_read_by_basic_rules_alone(alloc, &four, octets, other)?)
+    is_read_by_basic_rules_alone(alloc, &four, octets, other)
+}
+
+/// Whether both sets of rules refuse to read bits from these octets.
+fn bits_are_refused(alloc: Global, octets: &[u8]) -> bool {
+    both_refuse::<BitString>(alloc, octets, DecodeError::InvalidBitString)
 }
 
 #[test]
@@ -102,9 +107,8 @@ fn unused_bits(rt: HostRuntime) -> Result<(), Fail> {
     assert!(rt; no_bits_stand_as(alloc, &[0x01, 0x00])?);
     assert!(rt; is_no_bits_by_basic_rules_alone(alloc, &[0x00])?);
     assert!(rt; is_four_bits_by_basic_rules_alone(alloc, &[0x02, 0x04, 0xFF])?);
-    let wrong = DecodeError::InvalidBitString;
-    assert!(rt; both_refuse::<BitString>(alloc, &[0x02, 0x08, 0xFF], wrong));
-    assert!(rt; both_refuse::<BitString>(alloc, &[0x01, 0x01], wrong));
+    assert!(rt; bits_are_refused(alloc, &[0x02, 0x08, 0xFF]));
+    assert!(rt; bits_are_refused(alloc, &[0x01, 0x01]));
     Ok(())
 }
 
@@ -263,12 +267,16 @@ fn identifier_stands_as(alloc: Global, oid: &Oid, octets: &[u8]) -> Result<bool,
     stands_as(alloc, &identifier, octets)
 }
 
+/// Whether both sets of rules refuse to read an object identifier from these octets.
+fn identifier_is_refused(alloc: Global, octets: &[u8]) -> bool {
+    both_refuse::<ObjectIdentifier>(alloc, octets, DecodeError::InvalidObjectIdentifier)
+}
+
 #[test]
 fn identifiers(rt: HostRuntime) -> Result<(), Fail> {
     let alloc = rt.alloc();
     let oid = Oid::new_unchecked(&[1, 2, 3321]);
     assert!(rt; identifier_stands_as(alloc, &oid, &[0x03, 0x2A, 0x99, 0x79])?);
-    let wrong = DecodeError::InvalidObjectIdentifier;
-    assert!(rt; both_refuse::<ObjectIdentifier>(alloc, &[0x03, 0x2A, 0x80, 0x01], wrong));
+    assert!(rt; identifier_is_refused(alloc, &[0x03, 0x2A, 0x80, 0x01]));
     Ok(())
 }
