@@ -1,6 +1,7 @@
 //! Bags and lists, sent from each set of rules to each (X.691 20, 22 and X.696 17, 19).
-use asn1_relay_core::{Codec, recode};
-use asn1_relay_rows::{Row, is_carried, is_right};
+use crate::checks::{check_readings, check_rows};
+use asn1_relay_core::{Codec, EncodeError, RecodeFault, recode};
+use asn1_relay_rows::{CODECS, Row};
 use asn1_relay_types::{Bag, Small};
 use asn1_schema_bags::SetOf;
 use asn1_values_numbers::Integer;
@@ -21,10 +22,7 @@ fn bags(rt: HostRuntime) -> Result<(), Fail> {
             octets: &[0x01, 0x00],
         },
     ];
-    for row in &rows {
-        assert!(rt; is_right::<Bag>(rt.alloc(), row)?, "{:?}", row.octets);
-    }
-    Ok(())
+    check_rows::<Bag>(&rt, &rows)
 }
 
 #[test]
@@ -40,33 +38,32 @@ fn members_come_in_any_order(rt: HostRuntime) -> Result<(), Fail> {
         (Codec::Uper, &[0x03, 0x03, 0x01, 0x02]),
         (Codec::Aper, &[0x03, 0x02, 0x03, 0x01]),
     ];
-    for (codec, octets) in readings {
-        assert!(rt;
-            is_carried::<Bag>(rt.alloc(), codec, octets, &row)?,
-            "{octets:?}"
-        );
+    check_readings::<Bag>(&rt, &row, &readings)
+}
+
+/// Whether a bag has the octets of a row in each set of rules.
+fn is_written(alloc: Global, bag: &Bag, row: &Row<'_>) -> Result<bool, EncodeError> {
+    for codec in CODECS {
+        let octets = codec.encode(alloc, bag)?;
+        if octets.as_slice() != row.by(codec) {
+            return Ok(false);
+        }
     }
-    Ok(())
+    Ok(true)
 }
 
 /// A bag that is handed in is written in the order of its members' encodings, whatever order they came in.
 #[test]
 fn members_are_handed_in_any_order(rt: HostRuntime) -> Result<(), Fail> {
     let alloc = rt.alloc();
+    let row = Row {
+        uper: &[3, 1, 2, 3],
+        aper: &[3, 1, 2, 3],
+        octets: &[1, 3, 1, 2, 3],
+    };
     for members in [[3u8, 1, 2], [2, 3, 1]] {
         let bag = Bag::from_vec(Vec::from_array(alloc, members)?);
-        for codec in [Codec::Uper, Codec::Aper] {
-            assert_eq!(rt;
-                codec.encode(alloc, &bag)?.as_slice(),
-                [3u8, 1, 2, 3].as_slice()
-            );
-        }
-        for codec in [Codec::Oer, Codec::Coer] {
-            assert_eq!(rt;
-                codec.encode(alloc, &bag)?.as_slice(),
-                [1u8, 3, 1, 2, 3].as_slice()
-            );
-        }
+        assert!(rt; is_written(alloc, &bag, &row)?, "{members:?}");
     }
     Ok(())
 }
@@ -79,8 +76,7 @@ fn an_order_of_its_own_in_each_set_of_rules(rt: HostRuntime) -> Result<(), Fail>
         aper: &[0x02, 0x46],
         octets: &[0x01, 0x02, 0x01, 0xFF],
     };
-    assert!(rt; is_right::<SetOf<Small>>(rt.alloc(), &row)?);
-    Ok(())
+    check_rows::<SetOf<Small>>(&rt, &[row])
 }
 
 #[test]
@@ -90,8 +86,7 @@ fn members_of_any_size(rt: HostRuntime) -> Result<(), Fail> {
         aper: &[0x03, 0x01, 0x01, 0x01, 0xFF, 0x02, 0x01, 0x00],
         octets: &[0x01, 0x03, 0x01, 0x01, 0x01, 0xFF, 0x02, 0x01, 0x00],
     };
-    assert!(rt; is_right::<SetOf<Integer>>(rt.alloc(), &row)?);
-    Ok(())
+    check_rows::<SetOf<Integer>>(&rt, &[row])
 }
 
 /// The members count, and take no octets.
@@ -102,8 +97,7 @@ fn nulls_in_a_fragment(rt: HostRuntime) -> Result<(), Fail> {
         aper: &[0xC4, 0x00],
         octets: &[0x03, 0x01, 0x00, 0x00],
     };
-    assert!(rt; is_right::<Vec<()>>(rt.alloc(), &row)?);
-    Ok(())
+    check_rows::<Vec<()>>(&rt, &[row])
 }
 
 /// The numbers 0 to 249, over and over, 100000 in all.
@@ -150,16 +144,47 @@ fn in_fragments(alloc: Global, members: &[u8]) -> Result<Vec<u8>, AllocError> {
     Ok(octets)
 }
 
+/// Whether octets of a bag are translated to these.
+fn becomes(
+    alloc: Global,
+    from: Codec,
+    input: &[u8],
+    to: Codec,
+    output: &[u8],
+) -> Result<bool, RecodeFault> {
+    let translated = recode::<Bag>(alloc, from, to, input)?;
+    Ok(translated.as_slice() == output)
+}
+
+/// Whether a bag is put in order, and is carried on through the packed rules to the others.
+fn goes_round(
+    alloc: Global,
+    input: &[u8],
+    octets: &[u8],
+    packed: &[u8],
+) -> Result<bool, RecodeFault> {
+    Ok(
+        becomes(alloc, Codec::Oer, input, Codec::Coer, octets)?
+            && becomes(alloc, Codec::Coer, input, Codec::Uper, packed)?
+            && becomes(alloc, Codec::Uper, packed, Codec::Aper, packed)?
+            && becomes(alloc, Codec::Aper, packed, Codec::Oer, octets)?,
+    )
+}
+
+/// Whether members go round, as a bag, whose members in order are these.
+fn are_put_in_order(alloc: Global, members: &[u8], ordered: &[u8]) -> Result<bool, Fail> {
+    let input = with_its_count(alloc, members)?;
+    let octets = with_its_count(alloc, ordered)?;
+    let packed = in_fragments(alloc, ordered)?;
+    let goes = goes_round(alloc, &input, &octets, &packed)?;
+    Ok(goes)
+}
+
 #[test]
 fn a_bag_of_100000_members(rt: HostRuntime) -> Result<(), Fail> {
     let alloc = rt.alloc();
-    let input = with_its_count(alloc, &in_turn(alloc)?)?;
+    let members = in_turn(alloc)?;
     let ordered = in_order(alloc)?;
-    let octets = with_its_count(alloc, &ordered)?;
-    let packed = in_fragments(alloc, &ordered)?;
-    assert!(rt; recode::<Bag>(alloc, Codec::Oer, Codec::Coer, &input)? == octets);
-    assert!(rt; recode::<Bag>(alloc, Codec::Coer, Codec::Uper, &input)? == packed);
-    assert!(rt; recode::<Bag>(alloc, Codec::Uper, Codec::Aper, &packed)? == packed);
-    assert!(rt; recode::<Bag>(alloc, Codec::Aper, Codec::Oer, &packed)? == octets);
+    assert!(rt; are_put_in_order(alloc, &members, &ordered)?);
     Ok(())
 }

@@ -1,6 +1,7 @@
 //! Enumerations and choices, sent from each set of rules to each (X.691 14, 23 and X.696 11, 20).
+use crate::checks::{check_readings, check_refusals, check_rows};
 use asn1_relay_core::{Codec, DecodeError};
-use asn1_relay_rows::{CODECS, Repeated, Row, is_carried, is_right};
+use asn1_relay_rows::{Repeated, Row};
 use asn1_relay_types::Nest;
 use asn1_schema_example_alternatives::around::Around;
 use asn1_schema_example_alternatives::distant::Distant;
@@ -10,6 +11,7 @@ use asn1_schema_example_alternatives::tint::Tint;
 use asn1_schema_example_alternatives::versioned::Versioned;
 use asn1_schema_example_choices::answer::Answer;
 use asn1_schema_example_choices::colour::Colour;
+use std::alloc::{AllocError, Global};
 use std::test::Fail;
 
 #[test]
@@ -26,10 +28,7 @@ fn large_numbers_of_items(rt: HostRuntime) -> Result<(), Fail> {
             octets: &[0x82, 0xFC, 0x18],
         },
     ];
-    for row in &rows {
-        assert!(rt; is_right::<Answer>(rt.alloc(), row)?, "{:?}", row.octets);
-    }
-    Ok(())
+    check_rows::<Answer>(&rt, &rows)
 }
 
 /// From 0 to 127 an item is one octet, and else it stands behind its length (X.696 11.4 and 11.5).
@@ -72,10 +71,7 @@ fn numbers_of_each_length(rt: HostRuntime) -> Result<(), Fail> {
             octets: &[0x84, 0x7F, 0xFF, 0xFF, 0xFF],
         },
     ];
-    for row in &rows {
-        assert!(rt; is_right::<Scale>(rt.alloc(), row)?, "{:?}", row.octets);
-    }
-    Ok(())
+    check_rows::<Scale>(&rt, &rows)
 }
 
 #[test]
@@ -97,10 +93,7 @@ fn items_of_two_roots_and_an_addition(rt: HostRuntime) -> Result<(), Fail> {
             octets: &[0x02],
         },
     ];
-    for row in &rows {
-        assert!(rt; is_right::<Colour>(rt.alloc(), row)?, "{:?}", row.octets);
-    }
-    Ok(())
+    check_rows::<Colour>(&rt, &rows)
 }
 
 #[test]
@@ -117,10 +110,7 @@ fn items_of_one_root_and_an_addition(rt: HostRuntime) -> Result<(), Fail> {
             octets: &[0x01],
         },
     ];
-    for row in &rows {
-        assert!(rt; is_right::<Tint>(rt.alloc(), row)?, "{:?}", row.octets);
-    }
-    Ok(())
+    check_rows::<Tint>(&rt, &rows)
 }
 
 #[test]
@@ -132,13 +122,7 @@ fn items_that_the_type_lacks(rt: HostRuntime) {
         (Codec::Coer, &[0x02], DecodeError::DiscriminantValueNotFound),
         (Codec::Coer, &[0x80], DecodeError::ZeroLengthOfLength),
     ];
-    for (codec, octets, error) in refusals {
-        assert_eq!(rt;
-            codec.decode::<Tint>(rt.alloc(), octets).err(),
-            Some(error),
-            "{octets:?}"
-        );
-    }
+    check_refusals::<Tint>(&rt, &refusals);
 }
 
 /// The basic rules take the long form of a small number, and a padded number.
@@ -153,20 +137,13 @@ fn padded_items(rt: HostRuntime) -> Result<(), Fail> {
         (Codec::Oer, &[0x81, 0x7F]),
         (Codec::Oer, &[0x82, 0x00, 0x7F]),
     ];
-    for (codec, octets) in readings {
-        assert!(rt;
-            is_carried::<Scale>(rt.alloc(), codec, octets, &row)?,
-            "{octets:?}"
-        );
-    }
+    check_readings::<Scale>(&rt, &row, &readings)?;
     let row = Row {
         uper: &[0x40],
         aper: &[0x40],
         octets: &[0x81, 0x80],
     };
-    let padded = [0x82, 0xFF, 0x80];
-    assert!(rt; is_carried::<Scale>(rt.alloc(), Codec::Oer, &padded, &row)?);
-    Ok(())
+    check_readings::<Scale>(&rt, &row, &[(Codec::Oer, &[0x82, 0xFF, 0x80])])
 }
 
 #[test]
@@ -183,13 +160,7 @@ fn padded_items_in_the_canonical_rules(rt: HostRuntime) {
             DecodeError::NotValidCanonicalEncoding,
         ),
     ];
-    for (codec, octets, error) in refusals {
-        assert_eq!(rt;
-            codec.decode::<Scale>(rt.alloc(), octets).err(),
-            Some(error),
-            "{octets:?}"
-        );
-    }
+    check_refusals::<Scale>(&rt, &refusals);
 }
 
 #[test]
@@ -211,10 +182,7 @@ fn tags_of_two_groups_of_seven_bits(rt: HostRuntime) -> Result<(), Fail> {
             octets: &[0xBF, 0x83, 0x3C, 0x00],
         },
     ];
-    for row in &rows {
-        assert!(rt; is_right::<Spaced>(rt.alloc(), row)?, "{:?}", row.octets);
-    }
-    Ok(())
+    check_rows::<Spaced>(&rt, &rows)
 }
 
 #[test]
@@ -231,13 +199,7 @@ fn tags_that_the_type_lacks(rt: HostRuntime) {
             DecodeError::InvalidTagVariantOnChoice,
         ),
     ];
-    for (codec, octets, error) in refusals {
-        assert_eq!(rt;
-            codec.decode::<Spaced>(rt.alloc(), octets).err(),
-            Some(error),
-            "{octets:?}"
-        );
-    }
+    check_refusals::<Spaced>(&rt, &refusals);
 }
 
 #[test]
@@ -247,8 +209,7 @@ fn the_greatest_tag(rt: HostRuntime) -> Result<(), Fail> {
         aper: &[0x80, 0x02, 0x01, 0x4D],
         octets: &[0xBF, 0x8F, 0xFF, 0xFF, 0xFF, 0x7F, 0x02, 0x01, 0x4D],
     };
-    assert!(rt; is_right::<Distant>(rt.alloc(), &row)?);
-    Ok(())
+    check_rows::<Distant>(&rt, &[row])
 }
 
 /// A number past 32 bits, a leading group of zeros, and the place behind the last alternative.
@@ -281,13 +242,7 @@ fn numbers_of_tags_that_are_none(rt: HostRuntime) {
             DecodeError::InvalidTagVariantOnChoice,
         ),
     ];
-    for (codec, octets, error) in refusals {
-        assert_eq!(rt;
-            codec.decode::<Distant>(rt.alloc(), octets).err(),
-            Some(error),
-            "{octets:?}"
-        );
-    }
+    check_refusals::<Distant>(&rt, &refusals);
 }
 
 /// An added alternative is an open type; one of the root is not.
@@ -305,10 +260,7 @@ fn an_added_alternative(rt: HostRuntime) -> Result<(), Fail> {
             octets: &[0x81, 0x02, 0x01, 0x4D],
         },
     ];
-    for row in &rows {
-        assert!(rt; is_right::<Versioned>(rt.alloc(), row)?, "{:?}", row.octets);
-    }
-    Ok(())
+    check_rows::<Versioned>(&rt, &rows)
 }
 
 #[test]
@@ -330,13 +282,7 @@ fn added_alternatives_that_the_type_lacks(rt: HostRuntime) {
             DecodeError::InvalidTagVariantOnChoice,
         ),
     ];
-    for (codec, octets, error) in refusals {
-        assert_eq!(rt;
-            codec.decode::<Versioned>(rt.alloc(), octets).err(),
-            Some(error),
-            "{octets:?}"
-        );
-    }
+    check_refusals::<Versioned>(&rt, &refusals);
 }
 
 #[test]
@@ -353,63 +299,72 @@ fn a_choice_in_a_choice(rt: HostRuntime) -> Result<(), Fail> {
             octets: &[0x82, 0x80, 0x02, 0x01, 0x4D],
         },
     ];
-    for row in &rows {
-        assert!(rt; is_right::<Around>(rt.alloc(), row)?, "{:?}", row.octets);
-    }
-    Ok(())
+    check_rows::<Around>(&rt, &rows)
+}
+
+/// So many choices within one another, in octets.
+fn levels_in_octets(alloc: Global, count: usize) -> Result<Vec<u8>, AllocError> {
+    let levels = Repeated {
+        front: &[],
+        octet: 0x81,
+        count,
+        back: &[0x80],
+    };
+    levels.octets(alloc)
+}
+
+/// Eight times as many choices within one another, and what stands behind them, in bits.
+fn levels_in_bits(alloc: Global, count: usize, last: &[u8]) -> Result<Vec<u8>, AllocError> {
+    let levels = Repeated {
+        front: &[],
+        octet: 0xFF,
+        count,
+        back: last,
+    };
+    levels.octets(alloc)
 }
 
 /// A value may nest 128 levels, and is refused at one more.
 #[test]
 fn the_deepest_value(rt: HostRuntime) -> Result<(), Fail> {
     let alloc = rt.alloc();
-    let octets = Repeated {
-        front: &[],
-        octet: 0x81,
-        count: 127,
-        back: &[0x80],
-    };
-    let coer = octets.octets(alloc)?;
-    let bits = Repeated {
-        front: &[],
-        octet: 0xFF,
-        count: 15,
-        back: &[0xFE],
-    };
-    let uper = bits.octets(alloc)?;
+    let coer = levels_in_octets(alloc, 127)?;
+    let uper = levels_in_bits(alloc, 15, &[0xFE])?;
     let row = Row {
         uper: &uper,
         aper: &uper,
         octets: &coer,
     };
-    assert!(rt; is_right::<Nest>(alloc, &row)?);
-    Ok(())
+    check_rows::<Nest>(&rt, &[row])
 }
 
 #[test]
 fn one_level_too_many(rt: HostRuntime) -> Result<(), Fail> {
     let alloc = rt.alloc();
-    let octets = Repeated {
-        front: &[],
-        octet: 0x81,
-        count: 128,
-        back: &[0x80],
-    };
-    let too_deep = octets.octets(alloc)?;
-    let bits = Repeated {
-        front: &[],
-        octet: 0xFF,
-        count: 16,
-        back: &[0x00],
-    };
-    let too_deep_in_bits = bits.octets(alloc)?;
-    for codec in CODECS {
-        let octets = match codec {
-            Codec::Uper | Codec::Aper => &too_deep_in_bits,
-            Codec::Oer | Codec::Coer => &too_deep,
-        };
-        let fault = codec.decode::<Nest>(alloc, octets).err();
-        assert_eq!(rt; fault, Some(DecodeError::ExceedsMaxParseDepth));
-    }
+    let octets = levels_in_octets(alloc, 128)?;
+    let bits = levels_in_bits(alloc, 16, &[0x00])?;
+    let refusals: [(Codec, &[u8], DecodeError); 4] = [
+        (
+            Codec::Uper,
+            bits.as_slice(),
+            DecodeError::ExceedsMaxParseDepth,
+        ),
+        (
+            Codec::Aper,
+            bits.as_slice(),
+            DecodeError::ExceedsMaxParseDepth,
+        ),
+        (
+            Codec::Oer,
+            octets.as_slice(),
+            DecodeError::ExceedsMaxParseDepth,
+        ),
+        (
+            Codec::Coer,
+            octets.as_slice(),
+            DecodeError::ExceedsMaxParseDepth,
+        ),
+    ];
+    check_refusals::<Nest>(&rt, &refusals);
     Ok(())
 }

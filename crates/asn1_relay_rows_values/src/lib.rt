@@ -4,6 +4,8 @@
 #[cfg(test)]
 mod bags;
 #[cfg(test)]
+mod checks;
+#[cfg(test)]
 mod choices;
 #[cfg(test)]
 mod many_alternatives;

@@ -7,6 +7,7 @@ use asn1_schema_tags::Tag;
 use asn1_schema_variants::Chosen;
 use oer_codec::oer;
 use std::alloc::{AllocError, Global};
+use std::process::Abort;
 use std::test::Fail;
 
 /// TRUE by the alternative of a place, whose tag has that number.
@@ -99,14 +100,23 @@ fn packed(
     encoder.output()
 }
 
+/// What an encoder of octets has written once TRUE is written by the alternative of a place.
+fn output_of(
+    mut encoder: oer::Encoder<'_>,
+    tags: &[Tag],
+    place: usize,
+) -> Result<Vec<u8>, EncodeError> {
+    write(&mut encoder, tags, place)?;
+    Ok(encoder.output())
+}
+
 /// TRUE by the alternative of a place, in the octet encoding rules.
 fn in_octets(alloc: Global, tags: &[Tag], place: usize) -> Result<Vec<u8>, EncodeError> {
     let mut buffer = Vec::new(alloc);
     let mut worker = Vec::new(alloc);
     let options = oer::EncoderOptions::coer();
-    let mut encoder = oer::Encoder::from_buffer(alloc, options, &mut buffer, &mut worker);
-    write(&mut encoder, tags, place)?;
-    Ok(encoder.output())
+    let encoder = oer::Encoder::from_buffer(alloc, options, &mut buffer, &mut worker);
+    output_of(encoder, tags, place)
 }
 
 /// TRUE by the alternative of a place, in these rules.
@@ -160,45 +170,67 @@ fn found(
     }
 }
 
+/// TRUE by an alternative is written as its row says.
+fn check_written(
+    rt: &(impl Abort + AllocGlobal),
+    tags: &[Tag],
+    alternative: &Alternative,
+) -> Result<(), Fail> {
+    for codec in CODECS {
+        let octets = written(rt.alloc(), codec, tags, alternative.place)?;
+        assert_eq!(rt; octets.as_slice(), alternative.row.by(codec));
+    }
+    Ok(())
+}
+
 #[test]
 fn alternatives_are_written(rt: HostRuntime) -> Result<(), Fail> {
-    let alloc = rt.alloc();
-    let tags = tags(alloc)?;
+    let tags = tags(rt.alloc())?;
     for alternative in &ALTERNATIVES {
-        for codec in CODECS {
-            let octets = written(alloc, codec, &tags, alternative.place)?;
-            assert_eq!(rt; octets.as_slice(), alternative.row.by(codec));
-        }
+        check_written(&rt, &tags, alternative)?;
+    }
+    Ok(())
+}
+
+/// TRUE by an alternative is read as its row says.
+fn check_read(
+    rt: &(impl Abort + AllocGlobal),
+    tags: &[Tag],
+    alternative: &Alternative,
+) -> Result<(), Fail> {
+    for codec in CODECS {
+        let read = found(rt.alloc(), codec, tags, alternative.row.by(codec))?;
+        assert_eq!(rt; read, (Chosen::root(alternative.place), true));
     }
     Ok(())
 }
 
 #[test]
 fn alternatives_are_read(rt: HostRuntime) -> Result<(), Fail> {
-    let alloc = rt.alloc();
-    let tags = tags(alloc)?;
+    let tags = tags(rt.alloc())?;
     for alternative in &ALTERNATIVES {
-        for codec in CODECS {
-            let read = found(alloc, codec, &tags, alternative.row.by(codec))?;
-            assert_eq!(rt; read, (Chosen::root(alternative.place), true));
-        }
+        check_read(&rt, &tags, alternative)?;
     }
     Ok(())
+}
+
+/// What a row says is no value of the choice.
+fn check_refused(rt: &(impl Abort + AllocGlobal), tags: &[Tag], row: &Row<'_>) {
+    for codec in CODECS {
+        let fault = found(rt.alloc(), codec, tags, row.by(codec)).err();
+        assert_eq!(rt; fault, Some(DecodeError::InvalidTagVariantOnChoice));
+    }
 }
 
 /// The place 300, and the tag [300], are those of no alternative.
 #[test]
 fn there_is_no_alternative_behind_the_last(rt: HostRuntime) -> Result<(), Fail> {
-    let alloc = rt.alloc();
-    let tags = tags(alloc)?;
+    let tags = tags(rt.alloc())?;
     let row = Row {
         uper: &[0x96, 0x40],
         aper: &[0x01, 0x2C, 0x80],
         octets: &[0xBF, 0x82, 0x2C, 0xFF],
     };
-    for codec in CODECS {
-        let fault = found(alloc, codec, &tags, row.by(codec)).err();
-        assert_eq!(rt; fault, Some(DecodeError::InvalidTagVariantOnChoice));
-    }
+    check_refused(&rt, &tags, &row);
     Ok(())
 }

@@ -1,6 +1,7 @@
 //! Values of types without components, sent from each set of rules to each.
+use crate::checks::{check_readings, check_refusals, check_rows};
 use asn1_relay_core::{Codec, DecodeError};
-use asn1_relay_rows::{Repeated, Row, is_carried, is_right};
+use asn1_relay_rows::{Repeated, Row};
 use asn1_relay_types::{Octets, Small};
 use asn1_values_bit_strings::BitString;
 use asn1_values_constrained::ConstrainedInteger;
@@ -24,10 +25,7 @@ fn truth_values(rt: HostRuntime) -> Result<(), Fail> {
             octets: &[0x00],
         },
     ];
-    for row in &rows {
-        assert!(rt; is_right::<bool>(rt.alloc(), row)?, "{:?}", row.octets);
-    }
-    Ok(())
+    check_rows::<bool>(&rt, &rows)
 }
 
 #[test]
@@ -37,8 +35,7 @@ fn any_octet_is_true_in_the_basic_rules(rt: HostRuntime) -> Result<(), Fail> {
         aper: &[0x80],
         octets: &[0xFF],
     };
-    assert!(rt; is_carried::<bool>(rt.alloc(), Codec::Oer, &[0x05], &row)?);
-    Ok(())
+    check_readings::<bool>(&rt, &row, &[(Codec::Oer, &[0x05])])
 }
 
 #[test]
@@ -48,13 +45,7 @@ fn truth_values_that_are_none(rt: HostRuntime) {
         (Codec::Coer, &[], DecodeError::Incomplete),
         (Codec::Uper, &[], DecodeError::Incomplete),
     ];
-    for (codec, octets, error) in refusals {
-        assert_eq!(rt;
-            codec.decode::<bool>(rt.alloc(), octets).err(),
-            Some(error),
-            "{octets:?}"
-        );
-    }
+    check_refusals::<bool>(&rt, &refusals);
 }
 
 #[test]
@@ -64,8 +55,7 @@ fn nothing(rt: HostRuntime) -> Result<(), Fail> {
         aper: &[0x00],
         octets: &[],
     };
-    assert!(rt; is_right::<()>(rt.alloc(), &row)?);
-    Ok(())
+    check_rows::<()>(&rt, &[row])
 }
 
 #[test]
@@ -74,13 +64,7 @@ fn nothing_with_a_bit_set(rt: HostRuntime) {
         (Codec::Uper, &[0x01], DecodeError::InvalidPadding),
         (Codec::Aper, &[0x01], DecodeError::InvalidPadding),
     ];
-    for (codec, octets, error) in refusals {
-        assert_eq!(rt;
-            codec.decode::<()>(rt.alloc(), octets).err(),
-            Some(error),
-            "{octets:?}"
-        );
-    }
+    check_refusals::<()>(&rt, &refusals);
 }
 
 #[test]
@@ -97,10 +81,7 @@ fn numbers_of_a_small_range(rt: HostRuntime) -> Result<(), Fail> {
             octets: &[0xFF],
         },
     ];
-    for row in &rows {
-        assert!(rt; is_right::<Small>(rt.alloc(), row)?, "{:?}", row.octets);
-    }
-    Ok(())
+    check_rows::<Small>(&rt, &rows)
 }
 
 #[test]
@@ -111,13 +92,7 @@ fn spare_bits(rt: HostRuntime) -> Result<(), Fail> {
         octets: &[0xFC],
     };
     let readings: [(Codec, &[u8]); 2] = [(Codec::Uper, &[0x17]), (Codec::Aper, &[0x17])];
-    for (codec, octets) in readings {
-        assert!(rt;
-            is_carried::<Small>(rt.alloc(), codec, octets, &row)?,
-            "{octets:?}"
-        );
-    }
-    Ok(())
+    check_readings::<Small>(&rt, &row, &readings)
 }
 
 #[test]
@@ -139,13 +114,7 @@ fn numbers_out_of_range(rt: HostRuntime) {
             DecodeError::ValueConstraintNotSatisfied,
         ),
     ];
-    for (codec, octets, error) in refusals {
-        assert_eq!(rt;
-            codec.decode::<Small>(rt.alloc(), octets).err(),
-            Some(error),
-            "{octets:?}"
-        );
-    }
+    check_refusals::<Small>(&rt, &refusals);
 }
 
 #[test]
@@ -172,10 +141,7 @@ fn numbers_of_any_size(rt: HostRuntime) -> Result<(), Fail> {
             octets: &[0x03, 0xED, 0x29, 0x79],
         },
     ];
-    for row in &rows {
-        assert!(rt; is_right::<Integer>(rt.alloc(), row)?, "{:?}", row.octets);
-    }
-    Ok(())
+    check_rows::<Integer>(&rt, &rows)
 }
 
 #[test]
@@ -190,13 +156,7 @@ fn padded_numbers(rt: HostRuntime) -> Result<(), Fail> {
         (Codec::Uper, &[0x02, 0x00, 0x00]),
         (Codec::Aper, &[0x02, 0x00, 0x00]),
     ];
-    for (codec, octets) in readings {
-        assert!(rt;
-            is_carried::<Integer>(rt.alloc(), codec, octets, &row)?,
-            "{octets:?}"
-        );
-    }
-    Ok(())
+    check_readings::<Integer>(&rt, &row, &readings)
 }
 
 #[test]
@@ -213,13 +173,7 @@ fn padded_numbers_in_the_canonical_rules(rt: HostRuntime) {
             DecodeError::NotValidCanonicalEncoding,
         ),
     ];
-    for (codec, octets, error) in refusals {
-        assert_eq!(rt;
-            codec.decode::<Integer>(rt.alloc(), octets).err(),
-            Some(error),
-            "{octets:?}"
-        );
-    }
+    check_refusals::<Integer>(&rt, &refusals);
 }
 
 #[test]
@@ -236,14 +190,7 @@ fn numbers_of_a_wide_range(rt: HostRuntime) -> Result<(), Fail> {
             octets: &[0x00, 0x12, 0xD6, 0x87],
         },
     ];
-    for row in &rows {
-        assert!(rt;
-            is_right::<ConstrainedInteger<256, 1234567>>(rt.alloc(), row)?,
-            "{:?}",
-            row.octets
-        );
-    }
-    Ok(())
+    check_rows::<ConstrainedInteger<256, 1234567>>(&rt, &rows)
 }
 
 #[test]
@@ -253,8 +200,7 @@ fn bits(rt: HostRuntime) -> Result<(), Fail> {
         aper: &[0x0E, 0xFF, 0x40],
         octets: &[0x03, 0x02, 0xFF, 0x40],
     };
-    assert!(rt; is_right::<BitString>(rt.alloc(), &row)?);
-    Ok(())
+    check_rows::<BitString>(&rt, &[row])
 }
 
 #[test]
@@ -271,10 +217,7 @@ fn octets_with_an_extensible_size(rt: HostRuntime) -> Result<(), Fail> {
             octets: &[0x01, 0x01],
         },
     ];
-    for row in &rows {
-        assert!(rt; is_right::<Octets>(rt.alloc(), row)?, "{:?}", row.octets);
-    }
-    Ok(())
+    check_rows::<Octets>(&rt, &rows)
 }
 
 #[test]
@@ -288,13 +231,7 @@ fn a_size_of_the_root_marked_as_outside_it(rt: HostRuntime) -> Result<(), Fail> 
         (Codec::Uper, &[0x80, 0x80, 0x80]),
         (Codec::Aper, &[0x80, 0x01, 0x01]),
     ];
-    for (codec, octets) in readings {
-        assert!(rt;
-            is_carried::<Octets>(rt.alloc(), codec, octets, &row)?,
-            "{octets:?}"
-        );
-    }
-    Ok(())
+    check_readings::<Octets>(&rt, &row, &readings)
 }
 
 #[test]
@@ -304,8 +241,7 @@ fn characters_of_seven_bits(rt: HostRuntime) -> Result<(), Fail> {
         aper: &[0x04, 0x4A, 0x6F, 0x68, 0x6E],
         octets: &[0x04, 0x4A, 0x6F, 0x68, 0x6E],
     };
-    assert!(rt; is_right::<VisibleString>(rt.alloc(), &row)?);
-    Ok(())
+    check_rows::<VisibleString>(&rt, &[row])
 }
 
 #[test]
@@ -315,8 +251,7 @@ fn characters_of_four_bits(rt: HostRuntime) -> Result<(), Fail> {
         aper: &[0x03, 0x23, 0x40],
         octets: &[0x03, 0x31, 0x32, 0x33],
     };
-    assert!(rt; is_right::<NumericString>(rt.alloc(), &row)?);
-    Ok(())
+    check_rows::<NumericString>(&rt, &[row])
 }
 
 #[test]
@@ -326,8 +261,7 @@ fn identifiers(rt: HostRuntime) -> Result<(), Fail> {
         aper: &[0x03, 0x2A, 0x99, 0x79],
         octets: &[0x03, 0x2A, 0x99, 0x79],
     };
-    assert!(rt; is_right::<ObjectIdentifier>(rt.alloc(), &row)?);
-    Ok(())
+    check_rows::<ObjectIdentifier>(&rt, &[row])
 }
 
 #[test]
@@ -354,13 +288,7 @@ fn padded_identifiers(rt: HostRuntime) {
             DecodeError::InvalidObjectIdentifier,
         ),
     ];
-    for (codec, octets, error) in refusals {
-        assert_eq!(rt;
-            codec.decode::<ObjectIdentifier>(rt.alloc(), octets).err(),
-            Some(error),
-            "{octets:?}"
-        );
-    }
+    check_refusals::<ObjectIdentifier>(&rt, &refusals);
 }
 
 /// From 16384 octets on a string stands in fragments in the packed rules.
@@ -385,6 +313,5 @@ fn octets_in_a_fragment(rt: HostRuntime) -> Result<(), Fail> {
         aper: &packed,
         octets: &octets,
     };
-    assert!(rt; is_right::<OctetString>(alloc, &row)?);
-    Ok(())
+    check_rows::<OctetString>(&rt, &[row])
 }

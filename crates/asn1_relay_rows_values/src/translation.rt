@@ -1,5 +1,6 @@
 //! The rows: octets of one set of rules, and what stands for them in the others.
 use asn1_relay_core::{Codec, DecodeError, RecodeFault, recode};
+use asn1_relay_rows::{CODECS, Repeated, Row};
 use asn1_schema_decode::Decode;
 use asn1_schema_encode::Encode;
 use asn1_values_bit_strings::BitString;
@@ -8,32 +9,15 @@ use asn1_values_identifiers::ObjectIdentifier;
 use asn1_values_numbers::Integer;
 use asn1_values_octets::OctetString;
 use asn1_values_strings::VisibleString;
+use std::alloc::Global;
 use std::process::Abort;
 use std::test::Fail;
 
-/// One value in four sets of rules.
-#[derive(Clone, Copy)]
-struct Row {
-    uper: &'static [u8],
-    aper: &'static [u8],
-    octets: &'static [u8],
-}
-
-impl Row {
-    /// Its encoding in these rules.
-    fn by(&self, codec: Codec) -> &'static [u8] {
-        match codec {
-            Codec::Uper => self.uper,
-            Codec::Aper => self.aper,
-            Codec::Oer | Codec::Coer => self.octets,
-        }
-    }
-}
-
-const CODECS: [Codec; 4] = [Codec::Uper, Codec::Aper, Codec::Oer, Codec::Coer];
-
 /// Translates a row from each set of rules to each.
-fn translate<T: Encode + Decode>(rt: &(impl Abort + AllocGlobal), row: Row) -> Result<(), Fail> {
+fn translate<T: Encode + Decode>(
+    rt: &(impl Abort + AllocGlobal),
+    row: Row<'_>,
+) -> Result<(), Fail> {
     for from in CODECS {
         for to in CODECS {
             let octets = recode::<T>(rt.alloc(), from, to, row.by(from))?;
@@ -93,58 +77,79 @@ fn numbers_within_a_wide_range(rt: HostRuntime) -> Result<(), Fail> {
     translate::<ConstrainedInteger<256, 1234567>>(&rt, least)
 }
 
+/// Whether octets are translated to these.
+fn becomes<T: Encode + Decode>(
+    alloc: Global,
+    from: Codec,
+    input: &[u8],
+    to: Codec,
+    output: &[u8],
+) -> Result<bool, RecodeFault> {
+    let translated = recode::<T>(alloc, from, to, input)?;
+    Ok(translated.as_slice() == output)
+}
+
+/// Why octets are not translated.
+fn fault_of<T: Encode + Decode>(
+    alloc: Global,
+    from: Codec,
+    input: &[u8],
+    to: Codec,
+) -> Option<RecodeFault> {
+    recode::<T>(alloc, from, to, input).err()
+}
+
 #[test]
 fn basic_encodings_become_canonical(rt: HostRuntime) -> Result<(), Fail> {
     let alloc = rt.alloc();
-    let octets = recode::<bool>(alloc, Codec::Oer, Codec::Coer, &[0x05])?;
-    assert_eq!(rt; octets.as_slice(), [0xFFu8].as_slice());
+    assert!(rt; becomes::<bool>(alloc, Codec::Oer, &[0x05], Codec::Coer, &[0xFF])?);
     let padded = [0x02, 0x00, 0x00];
-    let octets = recode::<Integer>(alloc, Codec::Oer, Codec::Uper, &padded)?;
-    assert_eq!(rt; octets.as_slice(), [0x01u8, 0x00].as_slice());
-    assert!(rt; recode::<Integer>(alloc, Codec::Coer, Codec::Uper, &padded).is_err());
+    assert!(rt; becomes::<Integer>(alloc, Codec::Oer, &padded, Codec::Uper, &[0x01, 0x00])?);
+    assert!(rt; fault_of::<Integer>(alloc, Codec::Coer, &padded, Codec::Uper).is_some());
     let nulls = [0x03, 0x01, 0x00, 0x00];
-    let octets = recode::<Vec<()>>(alloc, Codec::Oer, Codec::Uper, &nulls)?;
-    assert_eq!(rt; octets.as_slice(), [0xC4u8, 0x00].as_slice());
+    assert!(rt; becomes::<Vec<()>>(alloc, Codec::Oer, &nulls, Codec::Uper, &[0xC4, 0x00])?);
     Ok(())
 }
 
 #[test]
 fn octets_in_a_fragment(rt: HostRuntime) -> Result<(), Fail> {
     let alloc = rt.alloc();
-    let mut coer = vec![in alloc; 0x82u8, 0x40, 0x00]?;
-    let contents = vec![in alloc; 0x61u8; 16384]?;
-    coer.extend_from_slice(&contents)?;
-    let uper = recode::<OctetString>(alloc, Codec::Coer, Codec::Uper, &coer)?;
-    assert_eq!(rt; uper.len(), 16386);
-    assert_eq!(rt; uper[0], 0xC1);
-    assert!(rt; uper[1..16385] == contents[..]);
-    assert_eq!(rt; uper[16385], 0x00);
-    let back = recode::<OctetString>(alloc, Codec::Uper, Codec::Coer, &uper)?;
-    assert!(rt; back.as_slice() == coer.as_slice());
+    let string = Repeated {
+        front: &[0x82, 0x40, 0x00],
+        octet: 0x61,
+        count: 16384,
+        back: &[],
+    };
+    let coer = string.octets(alloc)?;
+    let fragment = Repeated {
+        front: &[0xC1],
+        back: &[0x00],
+        ..string
+    };
+    let uper = fragment.octets(alloc)?;
+    assert!(rt; becomes::<OctetString>(alloc, Codec::Coer, &coer, Codec::Uper, &uper)?);
+    assert!(rt; becomes::<OctetString>(alloc, Codec::Uper, &uper, Codec::Coer, &coer)?);
     Ok(())
 }
 
 #[test]
 fn faults(rt: HostRuntime) {
     let alloc = rt.alloc();
+    let (coer, uper) = (Codec::Coer, Codec::Uper);
     let invalid = RecodeFault::NotAnEncoding(DecodeError::InvalidBool);
+    assert_eq!(rt; fault_of::<bool>(alloc, coer, &[0x05], uper), Some(invalid));
+    let surplus = RecodeFault::Surplus;
+    assert_eq!(rt;
+        fault_of::<bool>(alloc, coer, &[0xFF, 0xFF], uper),
+        Some(surplus)
+    );
     let incomplete = RecodeFault::NotAnEncoding(DecodeError::Incomplete);
-    assert_eq!(rt;
-        recode::<bool>(alloc, Codec::Coer, Codec::Uper, &[0x05]).err(),
-        Some(invalid)
-    );
-    assert_eq!(rt;
-        recode::<bool>(alloc, Codec::Coer, Codec::Uper, &[0xFF, 0xFF]).err(),
-        Some(RecodeFault::Surplus)
-    );
-    assert_eq!(rt;
-        recode::<bool>(alloc, Codec::Coer, Codec::Uper, &[]).err(),
-        Some(incomplete)
-    );
+    assert_eq!(rt; fault_of::<bool>(alloc, coer, &[], uper), Some(incomplete));
     let padded = RecodeFault::NotAnEncoding(DecodeError::InvalidObjectIdentifier);
+    let identifier = [0x03, 0x2A, 0x80, 0x01];
     for from in CODECS {
         assert_eq!(rt;
-            recode::<ObjectIdentifier>(alloc, from, Codec::Coer, &[0x03, 0x2A, 0x80, 0x01]).err(),
+            fault_of::<ObjectIdentifier>(alloc, from, &identifier, coer),
             Some(padded)
         );
     }
