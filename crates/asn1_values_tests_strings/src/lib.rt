@@ -1,10 +1,8 @@
-//! Tests of octets and of character strings.
+//! Tests of character strings and of their alphabets.
 #![tactic(auto)]
 
 #[cfg(test)]
 mod alphabets;
-#[cfg(test)]
-mod octets;
 #[cfg(test)]
 mod strings;
 #[cfg(test)]

@@ -1,0 +1,5 @@
+//! Tests of octets.
+#![tactic(auto)]
+
+#[cfg(test)]
+mod octets;
