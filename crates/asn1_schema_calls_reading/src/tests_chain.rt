@@ -1,54 +1,68 @@
 //! A type that leads back to itself, read back from its records.
-use asn1_schema_decode::Decode;
-use asn1_schema_encode::Encode;
+use crate::tests::{encoder, found, write};
+use asn1_schema_decode::Decoder;
+use asn1_schema_encode::Encoder;
 use asn1_schema_example::chain::Chain;
-use asn1_schema_faults::{CodecKind, DecodeError};
-use asn1_schema_records::{Item, RecordEncoder};
+use asn1_schema_faults::{CodecKind, DecodeError, EncodeError};
 use asn1_schema_records_reading::RecordDecoder;
 use asn1_values_numbers::Integer;
-use std::alloc::Global;
-use std::test::Fail;
+use std::alloc::{AllocError, Global};
 
-// The records of a chain of 1 and 2.
-fn written(alloc: Global) -> Result<Vec<Item>, Fail> {
+/// A chain of 1 and 2.
+fn chain(alloc: Global) -> Result<Chain, AllocError> {
     let last = Chain {
         value: Integer::from(2_i64),
         next: None,
     };
-    let chain = Chain {
+    Ok(Chain {
         value: Integer::from(1_i64),
         next: Some(Box::new(alloc, last)?),
+    })
+}
+
+/// Hands a chain of 1 and 2 to an encoder.
+fn write_chain<E: Encoder>(alloc: Global, encoder: &mut E) -> Result<(), EncodeError> {
+    let chain = chain(alloc)?;
+    write(encoder, &chain)
+}
+
+/// Whether the chain is of 1 and 2.
+fn is_of_two(chain: &Chain) -> bool {
+    let Some(following) = &chain.next else {
+        return false;
     };
-    let mut encoder = RecordEncoder::new(alloc, CodecKind::Coer);
-    chain.encode(&mut encoder)?;
-    Ok(encoder.into_items())
+    chain.value == Integer::from(1_i64)
+        && following.value == Integer::from(2_i64)
+        && following.next.is_none()
 }
 
-// What is read within so many levels.
-fn read(alloc: Global, items: Vec<Item>, levels: usize) -> Result<Chain, DecodeError> {
-    Chain::decode(
-        alloc,
-        &mut RecordDecoder::with_levels(items, CodecKind::Coer, levels),
-    )
+/// Whether a decoder finds a chain of 1 and 2.
+fn is_found<D: Decoder>(alloc: Global, decoder: &mut D) -> Result<bool, DecodeError> {
+    let chain: Chain = found(alloc, decoder)?;
+    Ok(is_of_two(&chain))
 }
 
-#[test]
-fn chains(rt: HostRuntime) -> Result<(), Fail> {
-    let alloc = rt.alloc();
-    let Chain { value, next } = read(alloc, written(alloc)?, 2)?;
-    assert!(rt; value == Integer::from(1_i64));
-    assert!(rt; next.is_some());
-    if let Some(following) = next {
-        assert!(rt; following.value == Integer::from(2_i64));
-        assert!(rt; following.next.is_none());
+/// Whether a chain of 1 and 2 is read back within so many levels.
+fn is_read_within(alloc: Global, levels: usize) -> Result<bool, DecodeError> {
+    let mut kept = encoder(alloc);
+    match write_chain(alloc, &mut kept) {
+        Ok(()) => is_found(
+            alloc,
+            &mut RecordDecoder::with_levels(kept.into_items(), CodecKind::Coer, levels),
+        ),
+        Err(_) => Err(DecodeError::OutOfMemory),
     }
-    Ok(())
 }
 
 #[test]
-fn chains_that_nest_too_deep_are_refused(rt: HostRuntime) -> Result<(), Fail> {
-    let alloc = rt.alloc();
-    let refused = read(alloc, written(alloc)?, 1);
-    assert_eq!(rt; refused.err(), Some(DecodeError::ExceedsMaxParseDepth));
-    Ok(())
+fn chains(rt: HostRuntime) {
+    assert_eq!(rt; is_read_within(rt.alloc(), 2), Ok(true));
+}
+
+#[test]
+fn chains_that_nest_too_deep_are_refused(rt: HostRuntime) {
+    assert_eq!(rt;
+        is_read_within(rt.alloc(), 1),
+        Err(DecodeError::ExceedsMaxParseDepth)
+    );
 }

@@ -1,36 +1,40 @@
 //! What is refused, and why.
-use crate::tests::read_back;
+use crate::tests::{decoder, encoder, found, refusal, write};
 use asn1_schema_constraints::Constraints;
-use asn1_schema_decode::Decode;
-use asn1_schema_encode::Encode;
-use asn1_schema_faults::{CodecKind, DecodeError};
-use asn1_schema_records::RecordEncoder;
-use asn1_schema_records_reading::RecordDecoder;
+use asn1_schema_decode::{Decode, Decoder};
+use asn1_schema_faults::DecodeError;
 use asn1_values_numbers::Integer;
 use asn1_values_strings::VisibleString;
 use asn1_values_strings_wide::BmpString;
+use std::alloc::Global;
 use std::test::Fail;
 
+/// The number of one octet that a decoder finds under no constraints.
+fn unconstrained<D: Decoder>(alloc: Global, decoder: &mut D) -> Result<u8, DecodeError> {
+    u8::decode_with_constraints(alloc, decoder, Constraints::NONE)
+}
+
 #[test]
-fn numbers_that_a_type_does_not_hold(rt: HostRuntime) -> Result<(), Fail> {
+fn numbers_that_a_type_does_not_hold(rt: HostRuntime) {
     let alloc = rt.alloc();
-    let mut encoder = RecordEncoder::new(alloc, CodecKind::Coer);
-    Integer::from(300_i64).encode(&mut encoder)?;
-    let mut decoder = RecordDecoder::new(encoder.into_items(), CodecKind::Coer);
-    let refused = u8::decode_with_constraints(alloc, &mut decoder, Constraints::NONE);
-    assert_eq!(rt; refused, Err(DecodeError::IntegerOverflow));
+    let mut kept = encoder(alloc);
+    assert_eq!(rt; write(&mut kept, &Integer::from(300_i64)), Ok(()));
+    let mut decoder = decoder(kept);
     assert_eq!(rt;
-        u8::decode(alloc, &mut decoder),
-        Err(DecodeError::AlreadyFailed)
+        unconstrained(alloc, &mut decoder),
+        Err(DecodeError::IntegerOverflow)
     );
-    Ok(())
+    let again: Result<u8, DecodeError> = found(alloc, &mut decoder);
+    assert_eq!(rt; again, Err(DecodeError::AlreadyFailed));
 }
 
 #[test]
 fn characters_that_a_type_does_not_hold(rt: HostRuntime) -> Result<(), Fail> {
     let alloc = rt.alloc();
     let string = BmpString::from_text(alloc, "€")?;
-    let refused: Result<VisibleString, DecodeError> = read_back(alloc, &string);
-    assert_eq!(rt; refused.err(), Some(DecodeError::PermittedAlphabet));
+    assert_eq!(rt;
+        refusal::<BmpString, VisibleString>(alloc, &string),
+        Some(DecodeError::PermittedAlphabet)
+    );
     Ok(())
 }

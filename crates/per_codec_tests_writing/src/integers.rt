@@ -2,7 +2,6 @@
 use asn1_schema_bounds::Bounded;
 use asn1_schema_constraints::{Constraints, Extensible, Value};
 use asn1_schema_faults::EncodeError;
-use asn1_values_bits::BitBuffer;
 use asn1_values_integer_types::IntegerType;
 use asn1_values_numbers::Integer;
 use per_codec_packing::Packing;
@@ -27,15 +26,15 @@ fn marked(low: i128, high: i128) -> Constraints<'static> {
     under(Bounded::const_new(low, high), true)
 }
 
-fn integer<I: IntegerType>(
-    alloc: Global,
-    aligned: bool,
-    constraints: Constraints,
+/// Whether the number is written in these octets.
+fn is_written<I: IntegerType>(
+    output: &mut Packing,
+    (aligned, constraints): (bool, Constraints),
     value: &I,
-) -> Result<BitBuffer, EncodeError> {
-    let mut output = Packing::new(alloc);
-    push_integer(&mut output, aligned, constraints, value)?;
-    Ok(output.into_bits())
+    octets: &[u8],
+) -> Result<bool, EncodeError> {
+    push_integer(output, aligned, constraints, value)?;
+    Ok(*output.as_bits().as_bytes() == *octets)
 }
 
 /// Whether the number stands in these octets.
@@ -46,24 +45,23 @@ fn stands_in<I: IntegerType>(
     value: &I,
     octets: &[u8],
 ) -> Result<bool, EncodeError> {
-    let bits = integer(alloc, aligned, constraints, value)?;
-    Ok(*bits.as_bytes() == *octets)
+    let mut output = Packing::new(alloc);
+    is_written(&mut output, (aligned, constraints), value, octets)
 }
 
-/// Writes three truth values.
-fn push_truth_values(output: &mut Packing) -> Result<(), EncodeError> {
+/// Whether three truth values are written in three bits, in this octet.
+fn are_truth_values(output: &mut Packing, octet: u8) -> Result<bool, EncodeError> {
     push_boolean(output, false, true)?;
     push_boolean(output, true, false)?;
-    push_boolean(output, true, true)
+    push_boolean(output, true, true)?;
+    Ok(output.len() == 3 && *output.as_bits().as_bytes() == *[octet].as_slice())
 }
 
 #[test]
 fn truth_values(rt: HostRuntime) -> Result<(), Fail> {
     let mut output = Packing::new(rt.alloc());
-    let pushed = push_truth_values(&mut output);
-    assert_eq!(rt; pushed, Ok(()));
-    assert_eq!(rt; output.len(), 3);
-    assert_eq!(rt; output.as_bits().as_bytes(), [0xA0u8].as_slice());
+    let written = are_truth_values(&mut output, 0xA0);
+    assert_eq!(rt; written, Ok(true));
     Ok(())
 }
 
@@ -107,16 +105,22 @@ fn one_bound_or_none(rt: HostRuntime) -> Result<(), Fail> {
     Ok(())
 }
 
+/// Whether a number of many bits stands in these octets where it has no bound, and is refused where it has one.
+fn is_unbounded(alloc: Global, wide: &Integer, octets: &[u8]) -> Result<bool, EncodeError> {
+    let from = under(Bounded::start_from(0), true);
+    let stands = stands_in(alloc, false, Constraints::NONE, wide, octets)?;
+    let refused = stands_in(alloc, false, from, wide, &[]);
+    Ok(stands && refused == Err(EncodeError::ValueConstraintNotSatisfied))
+}
+
 #[test]
 fn numbers_of_many_bits(rt: HostRuntime) -> Result<(), Fail> {
     let alloc = rt.alloc();
     let octets = [1u8, 0, 0, 0, 0, 0, 0, 0, 0, 0, 0, 0, 0, 0, 0, 0, 0];
     let counted = [17u8, 1, 0, 0, 0, 0, 0, 0, 0, 0, 0, 0, 0, 0, 0, 0, 0, 0];
     let wide = Integer::from_signed_octets(alloc, &octets)?;
-    assert!(rt; stands_in(alloc, false, Constraints::NONE, &wide, &counted)?);
-    let from = under(Bounded::start_from(0), true);
-    let refused = integer(alloc, false, from, &wide);
-    assert!(rt; matches!(&refused, Err(EncodeError::ValueConstraintNotSatisfied)));
+    let written = is_unbounded(alloc, &wide, &counted);
+    assert_eq!(rt; written, Ok(true));
     Ok(())
 }
 
@@ -125,18 +129,27 @@ fn numbers_outside(rt: HostRuntime) {
     let alloc = rt.alloc();
     for aligned in [false, true] {
         for value in [-1i64, 256] {
-            let refused = integer(alloc, aligned, between(0, 255), &value);
-            assert!(rt; matches!(&refused, Err(EncodeError::ValueConstraintNotSatisfied)));
+            let refused = stands_in(alloc, aligned, between(0, 255), &value, &[]);
+            assert_eq!(rt; refused, Err(EncodeError::ValueConstraintNotSatisfied));
         }
     }
 }
 
+/// Whether a normally small number behind what stands there makes these octets of it.
+fn is_small(
+    output: &mut Packing,
+    aligned: bool,
+    number: u64,
+    octets: &[u8],
+) -> Result<bool, EncodeError> {
+    push_normally_small(output, aligned, number)?;
+    Ok(*output.as_bits().as_bytes() == *octets)
+}
+
 /// Whether the first of two normally small numbers stands in seven bits, and the second right behind it.
 fn two_stand_in_fourteen_bits(output: &mut Packing) -> Result<bool, EncodeError> {
-    push_normally_small(output, true, 5)?;
-    let first = output.as_bits().as_bytes() == [0x0Au8].as_slice();
-    push_normally_small(output, false, 63)?;
-    let both = output.as_bits().as_bytes() == [0x0Au8, 0xFC].as_slice();
+    let first = is_small(output, true, 5, &[0x0A])?;
+    let both = is_small(output, false, 63, &[0x0A, 0xFC])?;
     Ok(first && both)
 }
 
@@ -148,15 +161,20 @@ fn small_stands_in(
     octets: &[u8],
 ) -> Result<bool, EncodeError> {
     let mut output = Packing::new(alloc);
-    push_normally_small(&mut output, aligned, number)?;
-    Ok(*output.as_bits().as_bytes() == *octets)
+    is_small(&mut output, aligned, number, octets)
 }
 
 #[test]
-fn normally_small_numbers(rt: HostRuntime) -> Result<(), Fail> {
+fn two_normally_small_numbers(rt: HostRuntime) -> Result<(), Fail> {
+    let mut output = Packing::new(rt.alloc());
+    let written = two_stand_in_fourteen_bits(&mut output);
+    assert_eq!(rt; written, Ok(true));
+    Ok(())
+}
+
+#[test]
+fn normally_small_numbers_from_64_on(rt: HostRuntime) -> Result<(), Fail> {
     let alloc = rt.alloc();
-    let mut output = Packing::new(alloc);
-    assert!(rt; two_stand_in_fourteen_bits(&mut output)?);
     assert!(rt; small_stands_in(alloc, false, 64, &[0x80, 0xA0, 0x00])?);
     assert!(rt; small_stands_in(alloc, true, 64, &[0x80, 0x01, 0x40])?);
     Ok(())

@@ -12,4 +12,8 @@ mod integers;
 #[cfg(test)]
 mod lengths_and_numbers;
 #[cfg(test)]
+mod messages;
+#[cfg(test)]
+mod patterns;
+#[cfg(test)]
 mod scopes;
