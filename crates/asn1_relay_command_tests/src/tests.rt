@@ -1,4 +1,5 @@
 //! Runs of the command.
+use crate::assertions::assert_same;
 use asn1_relay_command::{
     Fault, Kind, Order, command, read_order, refuse_arguments, translate_all,
 };
@@ -91,7 +92,7 @@ fn is_refused_memory(rt: &(impl Abort + AllocGlobal), row: &Row) -> bool {
     let mut errors = FakeWriter::new();
     let status = command(rt.alloc(), &words, &mut input, &mut output, &mut errors);
     if errors.holds(OUT_OF_MEMORY.as_bytes()) {
-        assert_eq!(rt; status, 1);
+        assert_same(&rt, &status, &1);
         assert!(rt; output.holds(&[]));
         return true;
     }
@@ -452,11 +453,11 @@ fn short_errors(rt: HostRuntime) {
 fn arguments_that_cannot_be_had(rt: HostRuntime) {
     let mut errors = FakeWriter::new();
     let no_memory = Error::from(ErrorKind::OutOfMemory);
-    assert_eq!(rt; refuse_arguments(&no_memory, &mut errors), 1);
+    assert_same(&rt, &refuse_arguments(&no_memory, &mut errors), &1);
     assert!(rt; errors.holds(OUT_OF_MEMORY.as_bytes()));
     let mut errors = FakeWriter::new();
     let no_text = Error::from(ErrorKind::InvalidData);
-    assert_eq!(rt; refuse_arguments(&no_text, &mut errors), 2);
+    assert_same(&rt, &refuse_arguments(&no_text, &mut errors), &2);
     assert!(rt; !errors.holds(&[]));
 }
 
@@ -487,11 +488,15 @@ fn lines(rt: HostRuntime) {
 #[test]
 fn faults_of_translations(rt: HostRuntime) {
     let none = RecodeFault::NotAnEncoding(DecodeError::Incomplete);
-    assert_eq!(rt; Fault::from(none), Fault::NotAnEncoding);
-    assert_eq!(rt; Fault::from(RecodeFault::Surplus), Fault::SurplusOctets);
+    assert_same(&rt, &Fault::from(none), &Fault::NotAnEncoding);
+    assert_same(
+        &rt,
+        &Fault::from(RecodeFault::Surplus),
+        &Fault::SurplusOctets,
+    );
     let too_long = RecodeFault::NoTarget(EncodeError::TooLongValue);
-    assert_eq!(rt; Fault::from(too_long), Fault::NoTargetEncoding);
-    assert_eq!(rt; Fault::from(RecodeFault::Memory), Fault::OutOfMemory);
+    assert_same(&rt, &Fault::from(too_long), &Fault::NoTargetEncoding);
+    assert_same(&rt, &Fault::from(RecodeFault::Memory), &Fault::OutOfMemory);
 }
 
 #[test]
@@ -505,7 +510,7 @@ fn orders(rt: HostRuntime) {
     let mut answers = 0u32;
     for _ in 0..3 {
         if let Ok(read) = read_order(rt.alloc(), &words) {
-            assert_eq!(rt; read, order);
+            assert_same(&rt, &read, &order);
             answers = answers.saturating_add(1);
         }
         match translate_all(rt.alloc(), order, &[0x80]) {
@@ -513,7 +518,7 @@ fn orders(rt: HostRuntime) {
                 assert!(rt; octets.as_slice() == [0xFF].as_slice());
                 answers = answers.saturating_add(1);
             }
-            Err(fault) => assert_eq!(rt; fault, Fault::OutOfMemory),
+            Err(fault) => assert_same(&rt, &fault, &Fault::OutOfMemory),
         }
     }
     // one request at most is refused
@@ -540,14 +545,26 @@ fn kinds_of_faults(rt: HostRuntime) {
     let invalid = Some(RecodeFault::NotAnEncoding(DecodeError::InvalidBool));
     let surplus = Some(RecodeFault::Surplus);
     let (coer, uper) = (Codec::Coer, Codec::Uper);
-    assert_eq!(rt; fault_of::<Small>(&rt, coer, uper, &[0x06]), outside);
-    assert_eq!(rt; fault_of::<Small>(&rt, uper, coer, &[0xB0]), outside);
-    assert_eq!(rt; fault_of::<Pair>(&rt, coer, uper, &[0xFF]), incomplete);
-    assert_eq!(rt; fault_of::<Pair>(&rt, uper, coer, &[0xD8]), outside);
-    assert_eq!(rt; fault_of::<Pair>(&rt, uper, coer, &[0x88, 0x00]), surplus);
-    assert_eq!(rt; fault_of::<bool>(&rt, coer, uper, &[0x05]), invalid);
-    assert_eq!(rt; fault_of::<bool>(&rt, coer, uper, &[0xFF, 0xFF]), surplus);
-    assert_eq!(rt; fault_of::<bool>(&rt, coer, uper, &[]), incomplete);
+    assert_same(&rt, &fault_of::<Small>(&rt, coer, uper, &[0x06]), &outside);
+    assert_same(&rt, &fault_of::<Small>(&rt, uper, coer, &[0xB0]), &outside);
+    assert_same(
+        &rt,
+        &fault_of::<Pair>(&rt, coer, uper, &[0xFF]),
+        &incomplete,
+    );
+    assert_same(&rt, &fault_of::<Pair>(&rt, uper, coer, &[0xD8]), &outside);
+    assert_same(
+        &rt,
+        &fault_of::<Pair>(&rt, uper, coer, &[0x88, 0x00]),
+        &surplus,
+    );
+    assert_same(&rt, &fault_of::<bool>(&rt, coer, uper, &[0x05]), &invalid);
+    assert_same(
+        &rt,
+        &fault_of::<bool>(&rt, coer, uper, &[0xFF, 0xFF]),
+        &surplus,
+    );
+    assert_same(&rt, &fault_of::<bool>(&rt, coer, uper, &[]), &incomplete);
 }
 
 /// Whether a translation gives these octets; one request for memory at most is refused.

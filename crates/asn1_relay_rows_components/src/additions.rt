@@ -1,11 +1,12 @@
 //! Additions and groups of them, sent from each set of rules to each (X.691 19.7 to 19.9 and X.696 16.4).
+use crate::assertions::assert_same;
 use asn1_relay_core::{Codec, DecodeError};
 use asn1_relay_rows::{Repeated, Row, is_carried, is_right};
 use asn1_relay_types::{Group, New, Old};
+use asn1_schema_example::grown::Grown;
 use asn1_schema_example_components::demand::Demand;
 use asn1_schema_example_components::noted::Noted;
 use asn1_schema_example_components::schedule::Schedule;
-use asn1_schema_example_sets::grown::Grown;
 use std::test::Fail;
 
 #[test]
@@ -236,7 +237,11 @@ fn an_empty_group_is_absent(rt: HostRuntime) -> Result<(), Fail> {
 #[test]
 fn an_empty_group_in_the_canonical_rules(rt: HostRuntime) {
     let read = Codec::Coer.decode::<Group>(rt.alloc(), &[0x80, 0xFF, 0x02, 0x07, 0x80, 0x01, 0x00]);
-    assert_eq!(rt; read.err(), Some(DecodeError::NotValidCanonicalEncoding));
+    assert_same(
+        &rt,
+        &read.err(),
+        &Some(DecodeError::NotValidCanonicalEncoding),
+    );
 }
 
 #[test]

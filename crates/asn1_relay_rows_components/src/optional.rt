@@ -1,7 +1,8 @@
 //! Sequences in one another, and one of many components that may be absent (X.696 16): written, read, and sent through packed rules and back.
+use crate::assertions::assert_same;
 use asn1_relay_core::{Codec, recode};
-use asn1_schema_example_optional::nested::{Inner, Middle, Outer};
-use asn1_schema_example_optional::twelve::{Tagged, Twelve};
+use asn1_schema_example_kinds::nested::{Inner, Middle, Outer};
+use asn1_schema_example_kinds::twelve::{Tagged, Twelve};
 use asn1_schema_wrapped::Implicit;
 use asn1_values_numbers::Integer;
 use std::test::Fail;
@@ -86,7 +87,7 @@ fn sequences_in_one_another(rt: HostRuntime) -> Result<(), Fail> {
     let alloc = rt.alloc();
     for codec in [Codec::Coer, Codec::Oer] {
         let octets = codec.encode(alloc, &four_numbers())?;
-        assert_eq!(rt; octets.as_slice(), NESTED.as_slice());
+        assert_same(&rt, &octets.as_slice(), &NESTED.as_slice());
         let outer: Outer = codec.decode(alloc, &NESTED)?;
         assert!(rt; are_four_numbers(&outer));
     }
@@ -98,7 +99,7 @@ fn sequences_in_one_another_through_packed_rules(rt: HostRuntime) -> Result<(), 
     let alloc = rt.alloc();
     let packed = recode::<Outer>(alloc, Codec::Coer, Codec::Uper, &NESTED)?;
     let octets = recode::<Outer>(alloc, Codec::Uper, Codec::Coer, &packed)?;
-    assert_eq!(rt; octets.as_slice(), NESTED.as_slice());
+    assert_same(&rt, &octets.as_slice(), &NESTED.as_slice());
     Ok(())
 }
 
@@ -107,7 +108,7 @@ fn many_components_that_may_be_absent(rt: HostRuntime) -> Result<(), Fail> {
     let alloc = rt.alloc();
     for codec in [Codec::Coer, Codec::Oer] {
         let octets = codec.encode(alloc, &every_fourth())?;
-        assert_eq!(rt; octets.as_slice(), TWELVE.as_slice());
+        assert_same(&rt, &octets.as_slice(), &TWELVE.as_slice());
         let twelve: Twelve = codec.decode(alloc, &TWELVE)?;
         assert!(rt; is_every_fourth(&twelve));
     }
@@ -119,6 +120,6 @@ fn many_components_through_packed_rules(rt: HostRuntime) -> Result<(), Fail> {
     let alloc = rt.alloc();
     let packed = recode::<Twelve>(alloc, Codec::Coer, Codec::Uper, &TWELVE)?;
     let octets = recode::<Twelve>(alloc, Codec::Uper, Codec::Coer, &packed)?;
-    assert_eq!(rt; octets.as_slice(), TWELVE.as_slice());
+    assert_same(&rt, &octets.as_slice(), &TWELVE.as_slice());
     Ok(())
 }

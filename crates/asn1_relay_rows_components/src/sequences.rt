@@ -1,14 +1,15 @@
 //! Sequences and sets, sent from each set of rules to each (X.691 19, 21 and X.696 16, 18).
+use crate::assertions::assert_same;
 use asn1_relay_core::{Codec, DecodeError, EncodeError, RecodeFault, recode};
 use asn1_relay_rows::{Row, is_carried, is_right};
 use asn1_relay_types::{Pair, Set};
+use asn1_schema_example::control::Control;
+use asn1_schema_example::gauge::Gauge;
 use asn1_schema_example_components::blocks::Blocks;
 use asn1_schema_example_components::nothing::Nothing;
 use asn1_schema_example_components::offset::Offset;
 use asn1_schema_example_components::person::Person;
 use asn1_schema_example_components::sizes::{FourteenBits, ListOfOneOrTwo, ThreeCharacters};
-use asn1_schema_example_sets::control::Control;
-use asn1_schema_example_sets::gauge::Gauge;
 use std::test::Fail;
 
 #[test]
@@ -263,12 +264,12 @@ fn a_list_that_only_some_rules_can_write(rt: HostRuntime) -> Result<(), Fail> {
     for from in [Codec::Oer, Codec::Coer] {
         for to in [Codec::Oer, Codec::Coer] {
             let octets = recode::<ListOfOneOrTwo<bool>>(alloc, from, to, &empty)?;
-            assert_eq!(rt; octets.as_slice(), empty.as_slice());
+            assert_same(&rt, &octets.as_slice(), &empty.as_slice());
         }
         for to in [Codec::Uper, Codec::Aper] {
             let fault = recode::<ListOfOneOrTwo<bool>>(alloc, from, to, &empty).err();
             let none = RecodeFault::NoTarget(EncodeError::SizeConstraintNotSatisfied);
-            assert_eq!(rt; fault, Some(none));
+            assert_same(&rt, &fault, &Some(none));
         }
     }
     Ok(())

@@ -1,4 +1,5 @@
 //! A choice of 300 alternatives, each a BOOLEAN, by calls of the codecs (X.691 11.5.7, 23.6 and X.696 8.7, 20.1).
+use crate::assertions::assert_same;
 use asn1_relay_core::{Codec, DecodeError, EncodeError};
 use asn1_relay_rows::{CODECS, Row};
 use asn1_schema_decode::{Decode, Decoder};
@@ -178,7 +179,7 @@ fn check_written(
 ) -> Result<(), Fail> {
     for codec in CODECS {
         let octets = written(rt.alloc(), codec, tags, alternative.place)?;
-        assert_eq!(rt; octets.as_slice(), alternative.row.by(codec));
+        assert_same(&rt, &octets.as_slice(), &alternative.row.by(codec));
     }
     Ok(())
 }
@@ -200,7 +201,7 @@ fn check_read(
 ) -> Result<(), Fail> {
     for codec in CODECS {
         let read = found(rt.alloc(), codec, tags, alternative.row.by(codec))?;
-        assert_eq!(rt; read, (Chosen::root(alternative.place), true));
+        assert_same(&rt, &read, &(Chosen::root(alternative.place), true));
     }
     Ok(())
 }
@@ -218,7 +219,7 @@ fn alternatives_are_read(rt: HostRuntime) -> Result<(), Fail> {
 fn check_refused(rt: &(impl Abort + AllocGlobal), tags: &[Tag], row: &Row<'_>) {
     for codec in CODECS {
         let fault = found(rt.alloc(), codec, tags, row.by(codec)).err();
-        assert_eq!(rt; fault, Some(DecodeError::InvalidTagVariantOnChoice));
+        assert_same(&rt, &fault, &Some(DecodeError::InvalidTagVariantOnChoice));
     }
 }
 

@@ -1,4 +1,5 @@
 //! The rows: octets of one set of rules, and what stands for them in the others.
+use crate::assertions::assert_same;
 use asn1_relay_core::{Codec, DecodeError, RecodeFault, recode};
 use asn1_relay_rows::{CODECS, Repeated, Row};
 use asn1_schema_decode::Decode;
@@ -137,20 +138,30 @@ fn faults(rt: HostRuntime) {
     let alloc = rt.alloc();
     let (coer, uper) = (Codec::Coer, Codec::Uper);
     let invalid = RecodeFault::NotAnEncoding(DecodeError::InvalidBool);
-    assert_eq!(rt; fault_of::<bool>(alloc, coer, &[0x05], uper), Some(invalid));
+    assert_same(
+        &rt,
+        &fault_of::<bool>(alloc, coer, &[0x05], uper),
+        &Some(invalid),
+    );
     let surplus = RecodeFault::Surplus;
-    assert_eq!(rt;
-        fault_of::<bool>(alloc, coer, &[0xFF, 0xFF], uper),
-        Some(surplus)
+    assert_same(
+        &rt,
+        &fault_of::<bool>(alloc, coer, &[0xFF, 0xFF], uper),
+        &Some(surplus),
     );
     let incomplete = RecodeFault::NotAnEncoding(DecodeError::Incomplete);
-    assert_eq!(rt; fault_of::<bool>(alloc, coer, &[], uper), Some(incomplete));
+    assert_same(
+        &rt,
+        &fault_of::<bool>(alloc, coer, &[], uper),
+        &Some(incomplete),
+    );
     let padded = RecodeFault::NotAnEncoding(DecodeError::InvalidObjectIdentifier);
     let identifier = [0x03, 0x2A, 0x80, 0x01];
     for from in CODECS {
-        assert_eq!(rt;
-            fault_of::<ObjectIdentifier>(alloc, from, &identifier, coer),
-            Some(padded)
+        assert_same(
+            &rt,
+            &fault_of::<ObjectIdentifier>(alloc, from, &identifier, coer),
+            &Some(padded),
         );
     }
 }

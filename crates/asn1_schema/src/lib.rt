@@ -14,10 +14,6 @@ pub use asn1_schema_additions::{
 };
 pub use asn1_schema_bags::SetOf;
 pub use asn1_schema_bounds::{Bounded, Effective};
-pub use asn1_schema_choices::{
-    Alternatives, Choice, DecodeAlternatives, DecodeChoice, DecodeItems, EncodeChoice, EncodeItems,
-    NamedItems, alternative_of,
-};
 pub use asn1_schema_components::{
     ComponentsOf, DefaultOf, Defaulted, DefaultedComponent, End, EqualByMeaning, Optional,
     OptionalComponent, Required, RequiredComponent,
@@ -25,22 +21,25 @@ pub use asn1_schema_components::{
 pub use asn1_schema_constraints::{
     Constraint, ConstraintDiscriminant, Constraints, Extensible, PermittedAlphabet, Size, Value,
 };
-pub use asn1_schema_constructed::{Constructed, DecodeConstructed, EncodeConstructed};
+pub use asn1_schema_constructed::{
+    Alternatives, Choice, Constructed, DecodeAlternatives, DecodeBag, DecodeChoice,
+    DecodeConstructed, DecodeItems, DecodeSet, EncodeBag, EncodeChoice, EncodeConstructed,
+    EncodeItems, EncodeSet, Field, FieldPresence, Fields, NamedItems, OptionalAndDefaultFields,
+    alternative_of,
+};
 pub use asn1_schema_decode::{
     Decode, DecodeComponents, DecodeList, DecodeSequence, Decoder, ReadOctets,
 };
 pub use asn1_schema_encode::{Encode, EncodeComponents, EncodeList, EncodeSequence, Encoder};
 pub use asn1_schema_faults::{CodecKind, DecodeError, EncodeError};
-pub use asn1_schema_fields::{Field, FieldPresence, Fields, OptionalAndDefaultFields};
 pub use asn1_schema_kinds::TaggedKind;
-pub use asn1_schema_named::{DecodeNamed, EncodeNamed};
-pub use asn1_schema_sets::{DecodeBag, DecodeSet, EncodeBag, EncodeSet};
 pub use asn1_schema_tags::{Class, Identifier, Tag, TagTree, Variants};
 pub use asn1_schema_types::{AsnType, Described};
 pub use asn1_schema_variants::{Chosen, Enumerated};
 pub use asn1_schema_wrapped::{
-    Any, Constrained, ConstraintsOf, Explicit, Implicit, InnerSubtypeConstraint,
-    InnerSubtypeConstraintError, InstanceOf, Open, SequenceOf, UniversalString, Utf8String, tag,
+    Any, Constrained, ConstraintsOf, DecodeNamed, EncodeNamed, Explicit, Implicit,
+    InnerSubtypeConstraint, InnerSubtypeConstraintError, InstanceOf, Open, SequenceOf,
+    UniversalString, Utf8String, tag,
 };
 
 #[cfg(test)]

@@ -1,4 +1,3 @@
 //! The plain codec: it keeps the records of a value as they are, and reads them back.
 
-pub use asn1_schema_records::{Item, Limits, RecordEncoder, Sizes};
-pub use asn1_schema_records_reading::RecordDecoder;
+pub use asn1_schema_records::{Item, Limits, RecordDecoder, RecordEncoder, Sizes};

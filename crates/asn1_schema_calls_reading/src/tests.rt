@@ -1,9 +1,9 @@
 //! Numbers, lists and types around others, read back from their records.
+use crate::assertions::assert_same;
 use asn1_schema_decode::{Decode, Decoder};
 use asn1_schema_encode::{Encode, Encoder};
 use asn1_schema_faults::{CodecKind, DecodeError, EncodeError};
-use asn1_schema_records::RecordEncoder;
-use asn1_schema_records_reading::RecordDecoder;
+use asn1_schema_records::{RecordDecoder, RecordEncoder};
 use asn1_schema_wrapped::{Any, Explicit, Implicit, InstanceOf, tag};
 use asn1_values_constrained::ConstrainedInteger;
 use asn1_values_identifiers::ObjectIdentifier;
@@ -70,9 +70,10 @@ fn truths_and_nothing(rt: HostRuntime) {
     let alloc = rt.alloc();
     assert!(rt; is_read_back(alloc, &true));
     assert!(rt; is_read_back(alloc, &()));
-    assert_eq!(rt;
-        refusal::<bool, ()>(alloc, &true),
-        Some(DecodeError::NotValidCanonicalEncoding)
+    assert_same(
+        &rt,
+        &refusal::<bool, ()>(alloc, &true),
+        &Some(DecodeError::NotValidCanonicalEncoding),
     );
 }
 
@@ -121,9 +122,10 @@ fn numbers_within_a_range(rt: HostRuntime) -> Result<(), Fail> {
 
 #[test]
 fn numbers_under_other_bounds_are_refused(rt: HostRuntime) {
-    assert_eq!(rt;
-        refusal::<u16, u8>(rt.alloc(), &7),
-        Some(DecodeError::ValueConstraintNotSatisfied)
+    assert_same(
+        &rt,
+        &refusal::<u16, u8>(rt.alloc(), &7),
+        &Some(DecodeError::ValueConstraintNotSatisfied),
     );
 }
 
@@ -143,9 +145,10 @@ fn arrays(rt: HostRuntime) {
     let alloc = rt.alloc();
     let numbers: [u8; 2] = [3, 5];
     assert!(rt; is_read_back(alloc, &numbers));
-    assert_eq!(rt;
-        refusal::<[u8; 2], [u8; 3]>(alloc, &numbers),
-        Some(DecodeError::SizeConstraintNotSatisfied)
+    assert_same(
+        &rt,
+        &refusal::<[u8; 2], [u8; 3]>(alloc, &numbers),
+        &Some(DecodeError::SizeConstraintNotSatisfied),
     );
 }
 

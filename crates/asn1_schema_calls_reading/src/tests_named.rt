@@ -5,17 +5,16 @@ ghost use Rattle.asn1_schema_presented.proofs.Defaults.{integer_default};
 
 mod strings;
 
+use crate::assertions::assert_same;
 use crate::tests::{decoder, encoder};
 use asn1_schema_components::{DefaultOf, EqualByMeaning};
 use asn1_schema_constraints::Constraints;
 use asn1_schema_decode::DecodeSequence;
 use asn1_schema_encode::EncodeSequence;
 use asn1_schema_faults::{CodecKind, DecodeError, EncodeError};
-use asn1_schema_named::{DecodeNamed, EncodeNamed};
-use asn1_schema_records::{Item, Limits};
-use asn1_schema_records_reading::RecordDecoder;
+use asn1_schema_records::{Item, Limits, RecordDecoder};
 use asn1_schema_tags::{Identifier, Tag};
-use asn1_schema_wrapped::Any;
+use asn1_schema_wrapped::{Any, DecodeNamed, EncodeNamed};
 use asn1_values_numbers::Integer;
 use std::alloc::{AllocError, Global};
 use std::test::Fail;
@@ -36,8 +35,8 @@ fn any_value(rt: HostRuntime) -> Result<(), Fail> {
     let octets: [u8; 2] = [5, 0];
     let any = Any::new(Vec::from_array(alloc, octets)?);
     let mut kept = encoder(alloc);
-    assert_eq!(rt; write_any(&mut kept, &any), Ok(()));
-    assert_eq!(rt; is_any(alloc, &mut decoder(kept), &any), Ok(true));
+    assert_same(&rt, &write_any(&mut kept, &any), &Ok(()));
+    assert_same(&rt, &is_any(alloc, &mut decoder(kept), &any), &Ok(true));
     Ok(())
 }
 
@@ -60,8 +59,8 @@ fn values_with_a_tag_around_their_own(rt: HostRuntime) {
     let alloc = rt.alloc();
     let tag = Tag::new_context(0);
     let mut kept = encoder(alloc);
-    assert_eq!(rt; write_prefixed(&mut kept, tag, 7), Ok(()));
-    assert_eq!(rt; prefixed(alloc, &mut decoder(kept), tag), Ok(7));
+    assert_same(&rt, &write_prefixed(&mut kept, tag, 7), &Ok(()));
+    assert_same(&rt, &prefixed(alloc, &mut decoder(kept), tag), &Ok(7));
 }
 
 /// Hands components that may be absent to an encoder: 1, 2, none and 4.
@@ -100,12 +99,12 @@ fn components_that_may_be_absent(rt: HostRuntime) {
     let alloc = rt.alloc();
     let tag = Tag::new_context(1);
     let mut kept = encoder(alloc);
-    assert_eq!(rt; write_optional(&mut kept, tag), Ok(()));
+    assert_same(&rt, &write_optional(&mut kept, tag), &Ok(()));
     let mut read = decoder(kept);
     let tagged = tagged_optional(alloc, &mut read, tag);
-    assert_eq!(rt; tagged, Ok((Some(1), Some(2))));
+    assert_same(&rt, &tagged, &Ok((Some(1), Some(2))));
     let others = other_optional(alloc, &mut read, tag);
-    assert_eq!(rt; others, Ok((None, Some(4))));
+    assert_same(&rt, &others, &Ok((None, Some(4))));
 }
 
 /// The default 0.
@@ -175,13 +174,18 @@ fn components_with_a_default(rt: HostRuntime) {
     let tag = Tag::new_context(1);
     let (zero, five) = (Integer::zero(), Integer::from(5_i64));
     let mut kept = encoder(alloc);
-    assert_eq!(rt; write_defaults(&mut kept, tag, (&zero, &five)), Ok(()));
+    assert_same(
+        &rt,
+        &write_defaults(&mut kept, tag, (&zero, &five)),
+        &Ok(()),
+    );
     let mut read = decoder(kept);
-    assert_eq!(rt; is_tagged(alloc, &mut read, tag, &zero), Ok(true));
-    assert_eq!(rt; is_constrained(alloc, &mut read, &five), Ok(true));
-    assert_eq!(rt;
-        is_tagged_and_constrained(alloc, &mut read, tag, &five),
-        Ok(true)
+    assert_same(&rt, &is_tagged(alloc, &mut read, tag, &zero), &Ok(true));
+    assert_same(&rt, &is_constrained(alloc, &mut read, &five), &Ok(true));
+    assert_same(
+        &rt,
+        &is_tagged_and_constrained(alloc, &mut read, tag, &five),
+        &Ok(true),
     );
 }
 

@@ -1,13 +1,13 @@
 //! Records of enumerations, sets, groups, additions and choices, as they are read back.
 mod colour;
 
+use crate::assertions::assert_same;
 use crate::tests::{decoder, encoder};
 use crate::tests_records::colour::Colour;
 use asn1_schema_decode::Decoder;
 use asn1_schema_encode::Encoder;
 use asn1_schema_faults::{CodecKind, DecodeError, EncodeError};
-use asn1_schema_records::{Item, RecordEncoder};
-use asn1_schema_records_reading::RecordDecoder;
+use asn1_schema_records::{Item, RecordDecoder, RecordEncoder};
 use asn1_schema_tags::{Identifier, Tag};
 use asn1_schema_variants::Chosen;
 use std::alloc::Global;
@@ -41,9 +41,9 @@ fn levels_of_group<D: Decoder>(decoder: &mut D) -> Result<(usize, usize), Decode
 #[test]
 fn a_group_among_the_additions_of_a_set(rt: HostRuntime) {
     let mut encoder = RecordEncoder::new(rt.alloc(), CodecKind::Oer);
-    assert_eq!(rt; write_group(&mut encoder), Ok(()));
+    assert_same(&rt, &write_group(&mut encoder), &Ok(()));
     let mut decoder = RecordDecoder::new(encoder.into_items(), CodecKind::Oer);
-    assert_eq!(rt; levels_of_group(&mut decoder), Ok((126, 128)));
+    assert_same(&rt, &levels_of_group(&mut decoder), &Ok((126, 128)));
 }
 
 /// Begins a choice with a mark of which this alternative is chosen.
@@ -77,21 +77,21 @@ fn found_of(
 fn the_chosen_alternative_is_found(rt: HostRuntime) {
     let choice: (&[Tag], bool, &[Tag]) = (&[Tag::BOOL, Tag::NULL], true, &[]);
     let found = found_of(rt.alloc(), Chosen::root(1), choice);
-    assert_eq!(rt; found, Ok(Chosen::root(1)));
+    assert_same(&rt, &found, &Ok(Chosen::root(1)));
 }
 
 #[test]
 fn an_alternative_that_a_choice_has_not_is_refused(rt: HostRuntime) {
     let choice: (&[Tag], bool, &[Tag]) = (&[Tag::BOOL, Tag::NULL], true, &[Tag::INTEGER]);
     let found = found_of(rt.alloc(), Chosen::addition(1), choice);
-    assert_eq!(rt; found, Err(DecodeError::InvalidTagVariantOnChoice));
+    assert_same(&rt, &found, &Err(DecodeError::InvalidTagVariantOnChoice));
 }
 
 #[test]
 fn a_choice_without_a_mark_is_another(rt: HostRuntime) {
     let choice: (&[Tag], bool, &[Tag]) = (&[Tag::BOOL], false, &[]);
     let found = found_of(rt.alloc(), Chosen::root(0), choice);
-    assert_eq!(rt; found, Err(DecodeError::NotValidCanonicalEncoding));
+    assert_same(&rt, &found, &Err(DecodeError::NotValidCanonicalEncoding));
 }
 
 /// Hands a colour to an encoder.
@@ -107,7 +107,7 @@ fn colour_of<D: Decoder>(decoder: &mut D) -> Result<Colour, DecodeError> {
 #[test]
 fn an_item_is_kept_by_its_number(rt: HostRuntime) {
     let mut encoder = RecordEncoder::new(rt.alloc(), CodecKind::Uper);
-    assert_eq!(rt; write_colour(&mut encoder, Colour::Blue), Ok(()));
+    assert_same(&rt, &write_colour(&mut encoder, Colour::Blue), &Ok(()));
     let items = encoder.into_items();
     assert!(rt; matches!(items.get(0), Some(Item::OneOf(true, 2))));
 }
@@ -115,9 +115,9 @@ fn an_item_is_kept_by_its_number(rt: HostRuntime) {
 #[test]
 fn an_added_item_is_read_back(rt: HostRuntime) {
     let mut encoder = RecordEncoder::new(rt.alloc(), CodecKind::Uper);
-    assert_eq!(rt; write_colour(&mut encoder, Colour::Green), Ok(()));
+    assert_same(&rt, &write_colour(&mut encoder, Colour::Green), &Ok(()));
     let mut decoder = RecordDecoder::new(encoder.into_items(), CodecKind::Uper);
-    assert_eq!(rt; colour_of(&mut decoder), Ok(Colour::Green));
+    assert_same(&rt, &colour_of(&mut decoder), &Ok(Colour::Green));
 }
 
 /// What a decoder finds of a colour in one item.
@@ -130,11 +130,11 @@ fn colour_in(alloc: Global, item: Item) -> Result<Colour, DecodeError> {
 #[test]
 fn the_number_of_no_item_is_refused(rt: HostRuntime) {
     let found = colour_in(rt.alloc(), Item::OneOf(true, 3));
-    assert_eq!(rt; found, Err(DecodeError::DiscriminantValueNotFound));
+    assert_same(&rt, &found, &Err(DecodeError::DiscriminantValueNotFound));
 }
 
 #[test]
 fn an_enumeration_without_a_mark_is_another(rt: HostRuntime) {
     let found = colour_in(rt.alloc(), Item::OneOf(false, 0));
-    assert_eq!(rt; found, Err(DecodeError::NotValidCanonicalEncoding));
+    assert_same(&rt, &found, &Err(DecodeError::NotValidCanonicalEncoding));
 }

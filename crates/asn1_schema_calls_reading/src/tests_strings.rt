@@ -1,4 +1,5 @@
 //! Strings of each type, read back from their records.
+use crate::assertions::assert_same;
 use crate::tests::{is_read_back, read_back};
 use asn1_schema_decode::Decode;
 use asn1_schema_encode::Encode;
@@ -69,8 +70,8 @@ fn is_text_held(alloc: Global, text: &str) -> Result<bool, DecodeError> {
 #[test]
 fn texts(rt: HostRuntime) {
     let alloc = rt.alloc();
-    assert_eq!(rt; is_text_owned(alloc, "é"), Ok(true));
-    assert_eq!(rt; is_text_held(alloc, "é"), Ok(true));
+    assert_same(&rt, &is_text_owned(alloc, "é"), &Ok(true));
+    assert_same(&rt, &is_text_held(alloc, "é"), &Ok(true));
 }
 
 #[test]

@@ -2,8 +2,8 @@
 use Rattle.std.proofs.Common.{◌≡◌, ℕ, suc, Bool, true, false, cond, not, List, [], ◌∷◌, filter, length, refl, sym, ap, ◌∙◌}
 use Rattle.asn1_model.specs.Schema.{Presence, required, optional, by_default}
 use Rattle.asn1_model.specs.Tables.{is_required}
-use Rattle.asn1_schema_fields.specs.declared.tables.Field.{Field}
-use Rattle.asn1_schema_fields.specs.Fields.{may_be_absent, is_optional}
+use Rattle.asn1_schema_constructed.specs.declared.tables.Field.{Field}
+use Rattle.asn1_schema_constructed.specs.Fields.{may_be_absent, is_optional}
 use Rattle.asn1_schema_presented.specs.Tables.{Fields, no_field, field, marks}
 use Rattle.asn1_schema_constructed.specs.Constructed.{presence_of, AreFields}
 

@@ -2,10 +2,10 @@
 use Rattle.std.specs.Prelude.{◌≡◌, ℕ, true, false, List, [], ◌∷◌, Option, Some, None}
 use Rattle.asn1_model.specs.Schema.{Presence, required, optional, by_default, Schema, set}
 use Rattle.asn1_schema_tags.specs.Trees.{leaves}
-use Rattle.asn1_schema_fields.specs.declared.tables.FieldPresence.{FieldPresence}
-use Rattle.asn1_schema_fields.specs.declared.tables.FieldPresence.TheVariants.{Required, Optional, Default}
-use Rattle.asn1_schema_fields.specs.declared.tables.Field.{Field}
-use Rattle.asn1_schema_fields.specs.declared.tables.Fields.{Fields}
+use Rattle.asn1_schema_constructed.specs.declared.tables.FieldPresence.{FieldPresence}
+use Rattle.asn1_schema_constructed.specs.declared.tables.FieldPresence.TheVariants.{Required, Optional, Default}
+use Rattle.asn1_schema_constructed.specs.declared.tables.Field.{Field}
+use Rattle.asn1_schema_constructed.specs.declared.tables.Fields.{Fields}
 use Rattle.asn1_schema_presented.specs.Tables.{Fields as Components, no_field, field, Table, scope, components_at, sequence_type}
 
 -- Whether a component is always there, optional, or has a default (X.680 25).

@@ -7,10 +7,10 @@ ghost use Rattle.asn1_schema_encode.specs.Writes.{Writes, CannotWrite, WritesTai
 ghost use Rattle.asn1_schema_decode.specs.Reads.{Reads, Unread, ReadsTail, UnreadTail};
 ghost use Rattle.asn1_schema_constructed.specs.Constructed.{Form, AreFields, AreAdditions, constructed_type};
 
+use crate::Fields;
 use asn1_schema_decode::Decoder;
 use asn1_schema_encode::Encoder;
 use asn1_schema_faults::{DecodeError, EncodeError};
-use asn1_schema_fields::Fields;
 use asn1_schema_tags::Tag;
 use asn1_schema_types::AsnType;
 use std::alloc::Global;

@@ -1,6 +1,27 @@
-//! Types with components: sequences and sets (X.680 clauses 25 and 27).
+//! Types with components, sequences and sets (X.680 clauses 25 and 27), with their tables of fields; bags (X.680 28), as they are written and
+//! read; choices and enumerations above the calls of codecs (X.680 clauses 20 and 29).
 #![tactic(auto)]
 
+pub mod alternatives;
+pub mod bags_read;
+pub mod bags_written;
+pub mod choices_read;
+pub mod choices_written;
 pub mod constructed;
+pub mod items;
+pub mod names;
+pub mod sets_read;
+pub mod sets_written;
+pub mod tables;
 
+pub use alternatives::{Alternatives, Choice, alternative_of};
+pub use bags_read::DecodeBag;
+pub use bags_written::EncodeBag;
+pub use choices_read::{DecodeAlternatives, DecodeChoice};
+pub use choices_written::EncodeChoice;
 pub use constructed::{Constructed, DecodeConstructed, EncodeConstructed};
+pub use items::{DecodeItems, EncodeItems};
+pub use names::NamedItems;
+pub use sets_read::DecodeSet;
+pub use sets_written::EncodeSet;
+pub use tables::{Field, FieldPresence, Fields, OptionalAndDefaultFields};

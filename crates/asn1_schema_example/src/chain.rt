@@ -5,11 +5,10 @@ ghost use Rattle.asn1_schema_constraints.specs.Sets.{no_constraint};
 ghost use Rattle.asn1_schema_constructed.specs.Constructed.{sequence_form};
 
 use asn1_schema_constraints::Constraints;
-use asn1_schema_constructed::Constructed;
+use asn1_schema_constructed::{Constructed, Field, FieldPresence, Fields};
 use asn1_schema_decode::{Decode, Decoder};
 use asn1_schema_encode::{Encode, EncodeSequence, Encoder};
 use asn1_schema_faults::{DecodeError, EncodeError};
-use asn1_schema_fields::{Field, FieldPresence, Fields};
 use asn1_schema_tags::{Identifier, Tag, TagTree};
 use asn1_schema_types::{AsnType, Described};
 use asn1_values_numbers::Integer;

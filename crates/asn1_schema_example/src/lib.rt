@@ -1,6 +1,10 @@
-//! Types of a program's own, as their author writes them: a sequence, one with a default, and one that leads back to itself.
+//! Types of a program's own, as their author writes them: sequences, and sets, with a choice that has no tag of its own, and with additions.
 #![tactic(auto)]
 
 pub mod chain;
+pub mod control;
+pub mod gauge;
+pub mod grown;
 pub mod measure;
+pub mod power;
 pub mod setting;

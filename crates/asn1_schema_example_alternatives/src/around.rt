@@ -3,13 +3,15 @@
 ghost use Rattle.std.specs.Prelude.{◌∷◌, [], refl, true, false};
 ghost use Rattle.asn1_model.specs.Types.{context};
 ghost use Rattle.asn1_schema_constraints.specs.Sets.{no_constraint};
-ghost use Rattle.asn1_schema_choices.specs.Tables.{variant, no_variant, choice_type};
-ghost use Rattle.asn1_schema_choices.specs.Chosen.{chosen_value};
-ghost use Rattle.asn1_schema_choices.proofs.Types.{type_choice, more_variants, no_variants, value_choice};
+ghost use Rattle.asn1_schema_constructed.specs.Tables.{variant, no_variant, choice_type};
+ghost use Rattle.asn1_schema_constructed.specs.Chosen.{chosen_value};
+ghost use Rattle.asn1_schema_constructed.proofs.Types.{type_choice, more_variants, no_variants, value_choice};
 
 use crate::versioned::Versioned;
-use asn1_schema_choices::{Alternatives, Choice, DecodeAlternatives, DecodeChoice, EncodeChoice};
 use asn1_schema_constraints::Constraints;
+use asn1_schema_constructed::{
+    Alternatives, Choice, DecodeAlternatives, DecodeChoice, EncodeChoice,
+};
 use asn1_schema_decode::{Decode, Decoder};
 use asn1_schema_encode::{Encode, Encoder};
 use asn1_schema_faults::{DecodeError, EncodeError};

@@ -3,10 +3,10 @@ ghost use Rattle.std.specs.Prelude.{◌∷◌, [], refl, pos, true, false};
 ghost use Rattle.asn1_model.specs.Schema.{enumerated};
 ghost use Rattle.asn1_model.specs.Value.{item};
 ghost use Rattle.asn1_schema_constraints.specs.Sets.{no_constraint};
-ghost use Rattle.asn1_schema_choices.proofs.Types.{type_enumerated, value_enumerated};
+ghost use Rattle.asn1_schema_constructed.proofs.Types.{type_enumerated, value_enumerated};
 
-use asn1_schema_choices::{DecodeItems, EncodeItems};
 use asn1_schema_constraints::Constraints;
+use asn1_schema_constructed::{DecodeItems, EncodeItems};
 use asn1_schema_decode::{Decode, Decoder};
 use asn1_schema_encode::{Encode, Encoder};
 use asn1_schema_faults::{DecodeError, EncodeError};

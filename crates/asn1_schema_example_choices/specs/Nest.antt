@@ -8,10 +8,10 @@ use Rattle.asn1_schema_presented.specs.Tables.{scope, IsType, IsValue}
 use Rattle.asn1_schema_presented.proofs.TypesByKind.{null_type, null_value}
 use Rattle.asn1_schema_presented.proofs.Recursive.{value_as}
 use Rattle.asn1_schema_variants.specs.declared.chosen.Chosen.{Chosen}
-use Rattle.asn1_schema_choices.specs.Tables.{Choices, variant, no_variant, alternatives_at, choice_type}
-use Rattle.asn1_schema_choices.specs.Chosen.{IsAmong}
-use Rattle.asn1_schema_choices.specs.Recursive.{recursive_choice}
-use Rattle.asn1_schema_choices.proofs.Types.{recursive_choice_type, more_variants, no_variants, value_choice}
+use Rattle.asn1_schema_constructed.specs.Tables.{Choices, variant, no_variant, alternatives_at, choice_type}
+use Rattle.asn1_schema_constructed.specs.Chosen.{IsAmong}
+use Rattle.asn1_schema_constructed.specs.Recursive.{recursive_choice}
+use Rattle.asn1_schema_constructed.proofs.Types.{recursive_choice_type, more_variants, no_variants, value_choice}
 use Rattle.asn1_schema_example_choices.specs.declared.nest.Nest.{Nest, Leaf, More'}
 
 -- The alternatives, by the type that the second leads to.

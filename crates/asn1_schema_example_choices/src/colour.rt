@@ -3,11 +3,11 @@ ghost use Rattle.std.specs.Prelude.{◌∷◌, [], refl, pos, true, false, codes
 ghost use Rattle.asn1_model.specs.Schema.{enumerated};
 ghost use Rattle.asn1_model.specs.Value.{item};
 ghost use Rattle.asn1_schema_constraints.specs.Sets.{no_constraint};
-ghost use Rattle.asn1_schema_choices.proofs.Types.{type_enumerated, value_enumerated};
-ghost use Rattle.asn1_schema_choices.proofs.Distinct.{one_number_of, one_name_of};
+ghost use Rattle.asn1_schema_constructed.proofs.Types.{type_enumerated, value_enumerated};
+ghost use Rattle.asn1_schema_constructed.proofs.Distinct.{one_number_of, one_name_of};
 
-use asn1_schema_choices::{DecodeItems, EncodeItems, NamedItems};
 use asn1_schema_constraints::Constraints;
+use asn1_schema_constructed::{DecodeItems, EncodeItems, NamedItems};
 use asn1_schema_decode::{Decode, Decoder};
 use asn1_schema_encode::{Encode, Encoder};
 use asn1_schema_faults::{DecodeError, EncodeError};

@@ -3,8 +3,8 @@ ghost use Rattle.std.specs.Prelude.{[], ◌∷◌, refl};
 ghost use Rattle.asn1_model.specs.Types.{context};
 ghost use Rattle.asn1_schema_constraints.specs.Sets.{no_constraint};
 
-use asn1_schema_choices::{Alternatives, Choice, DecodeAlternatives, EncodeChoice};
 use asn1_schema_constraints::Constraints;
+use asn1_schema_constructed::{Alternatives, Choice, DecodeAlternatives, EncodeChoice};
 use asn1_schema_decode::{Decode, Decoder};
 use asn1_schema_encode::{Encode, Encoder};
 use asn1_schema_faults::{DecodeError, EncodeError};

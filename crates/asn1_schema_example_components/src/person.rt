@@ -8,11 +8,12 @@ ghost use Rattle.asn1_schema_presented.proofs.Values.{type_sequence, value_seque
 
 use asn1_schema_components::{ComponentsOf, End, Required, RequiredComponent};
 use asn1_schema_constraints::Constraints;
-use asn1_schema_constructed::{Constructed, DecodeConstructed, EncodeConstructed};
+use asn1_schema_constructed::{
+    Constructed, DecodeConstructed, EncodeConstructed, Field, FieldPresence, Fields,
+};
 use asn1_schema_decode::{Decode, DecodeComponents, Decoder};
 use asn1_schema_encode::{Encode, EncodeComponents, Encoder};
 use asn1_schema_faults::{DecodeError, EncodeError};
-use asn1_schema_fields::{Field, FieldPresence, Fields};
 use asn1_schema_tags::{Identifier, Tag, TagTree};
 use asn1_schema_types::{AsnType, Described};
 use asn1_values_numbers::Integer;

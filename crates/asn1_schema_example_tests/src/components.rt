@@ -1,6 +1,7 @@
 //! What no clause says: which components may be absent, which are additions, and when a component is its default.
+use crate::assertions::assert_same;
 use asn1_schema_components::DefaultOf;
-use asn1_schema_constructed::Constructed;
+use asn1_schema_constructed::{Constructed, Fields};
 use asn1_schema_example_components::blocks::Blocks;
 use asn1_schema_example_components::demand::Demand;
 use asn1_schema_example_components::noted::Noted;
@@ -9,7 +10,6 @@ use asn1_schema_example_components::offset::{Offset, Zero};
 use asn1_schema_example_components::person::Person;
 use asn1_schema_example_components::schedule::Schedule;
 use asn1_schema_example_components::sizes::{FourteenBits, ThreeOctets};
-use asn1_schema_fields::Fields;
 use asn1_schema_types::AsnType;
 use asn1_schema_wrapped::Implicit;
 use asn1_values_numbers::Integer;
@@ -24,21 +24,30 @@ fn additions_of<T: Constructed>() -> (usize, usize) {
 #[test]
 fn some_components_may_be_absent(rt: HostRuntime) {
     assert!(rt; Nothing::fields().is_empty());
-    assert_eq!(rt; Blocks::fields().number_of_optional_and_default_fields(), 0);
-    assert_eq!(rt; Offset::fields().number_of_optional_and_default_fields(), 2);
-    assert_eq!(rt;
-        Schedule::fields().number_of_optional_and_default_fields(),
-        2
+    assert_same(
+        &rt,
+        &Blocks::fields().number_of_optional_and_default_fields(),
+        &0,
+    );
+    assert_same(
+        &rt,
+        &Offset::fields().number_of_optional_and_default_fields(),
+        &2,
+    );
+    assert_same(
+        &rt,
+        &Schedule::fields().number_of_optional_and_default_fields(),
+        &2,
     );
     assert!(rt; Person::fields().has_required_field());
 }
 
 #[test]
 fn additions_may_be_required(rt: HostRuntime) {
-    assert_eq!(rt; additions_of::<Demand>(), (1, 0));
-    assert_eq!(rt; additions_of::<Schedule>(), (1, 0));
-    assert_eq!(rt; additions_of::<Noted>(), (1, 1));
-    assert_eq!(rt; additions_of::<Person>(), (0, 0));
+    assert_same(&rt, &additions_of::<Demand>(), &(1, 0));
+    assert_same(&rt, &additions_of::<Schedule>(), &(1, 0));
+    assert_same(&rt, &additions_of::<Noted>(), &(1, 1));
+    assert_same(&rt, &additions_of::<Person>(), &(0, 0));
     assert!(rt; Noted::is_extensible() && !Person::is_extensible());
 }
 

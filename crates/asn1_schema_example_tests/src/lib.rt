@@ -4,6 +4,8 @@
 #[cfg(test)]
 mod alternatives;
 #[cfg(test)]
+mod assertions;
+#[cfg(test)]
 mod choices;
 #[cfg(test)]
 mod components;

@@ -1,10 +1,10 @@
 //! The example, as it is read back from its records.
+use crate::assertions::assert_same;
 use asn1_schema_decode::{Decode, Decoder};
 use asn1_schema_encode::Encode;
 use asn1_schema_example::setting::Setting;
 use asn1_schema_faults::{CodecKind, DecodeError, EncodeError};
-use asn1_schema_records::{Item, RecordEncoder};
-use asn1_schema_records_reading::RecordDecoder;
+use asn1_schema_records::{Item, RecordDecoder, RecordEncoder};
 use std::alloc::Global;
 use std::test::Fail;
 
@@ -37,10 +37,11 @@ fn a_setting_is_read_back(rt: HostRuntime) -> Result<(), Fail> {
         let mut decoder = RecordDecoder::new(written(alloc, level)?, CodecKind::Uper);
         let setting: Setting = found(alloc, &mut decoder)?;
         assert!(rt; is_setting(&setting, level));
-        assert_eq!(rt; decoder.levels_left(), 128);
-        assert_eq!(rt;
-            found::<bool, RecordDecoder>(alloc, &mut decoder),
-            Err(DecodeError::Incomplete)
+        assert_same(&rt, &decoder.levels_left(), &128);
+        assert_same(
+            &rt,
+            &found::<bool, RecordDecoder>(alloc, &mut decoder),
+            &Err(DecodeError::Incomplete),
         );
     }
     Ok(())
@@ -66,9 +67,10 @@ fn truncated_and_nested_settings_are_refused(rt: HostRuntime) -> Result<(), Fail
         );
     }
     let items = written(alloc, None)?;
-    assert_eq!(rt;
-        refusal(alloc, items, 0),
-        Some(DecodeError::ExceedsMaxParseDepth)
+    assert_same(
+        &rt,
+        &refusal(alloc, items, 0),
+        &Some(DecodeError::ExceedsMaxParseDepth),
     );
     Ok(())
 }

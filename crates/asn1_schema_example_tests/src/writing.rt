@@ -1,4 +1,5 @@
 //! The example through the codec that keeps records.
+use crate::assertions::assert_same;
 use asn1_schema_encode::{Encode, Encoder};
 use asn1_schema_example::measure::Measure;
 use asn1_schema_example::setting::Setting;
@@ -16,8 +17,8 @@ fn a_setting_is_written(rt: HostRuntime) {
     };
     let mut encoder = RecordEncoder::new(rt.alloc(), CodecKind::Uper);
     assert!(rt; setting.encode(&mut encoder).is_ok());
-    assert_eq!(rt; encoder.codec(), CodecKind::Uper);
-    assert_eq!(rt; encoder.into_items().len(), 6);
+    assert_same(&rt, &encoder.codec(), &CodecKind::Uper);
+    assert_same(&rt, &encoder.into_items().len(), &6);
 }
 
 // The records of a measure.
@@ -50,7 +51,7 @@ fn a_default_is_left_out(rt: HostRuntime) {
         exact: None,
     };
     let records = records_of(rt.alloc(), &measure);
-    assert_eq!(rt; records.len(), 4);
+    assert_same(&rt, &records.len(), &4);
     assert!(rt; matches!(records.get(0), Some(Item::SequenceBegins(false, 2))));
     assert!(rt; is_mark(records.get(1), false));
     assert!(rt; is_mark(records.get(2), false));
@@ -64,7 +65,7 @@ fn another_value_is_written(rt: HostRuntime) {
         exact: None,
     };
     let records = records_of(rt.alloc(), &measure);
-    assert_eq!(rt; records.len(), 5);
+    assert_same(&rt, &records.len(), &5);
     assert!(rt; is_mark(records.get(1), true));
     assert!(rt; is_number(records.get(2), 3));
     assert!(rt; is_mark(records.get(3), false));

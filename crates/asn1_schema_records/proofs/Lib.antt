@@ -1,3 +1,6 @@
 pub mod Numbers
 pub mod Putting
 pub mod SameLimits
+pub mod ItemsRead
+pub mod NumbersRead
+pub mod Taking

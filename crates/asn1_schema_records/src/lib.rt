@@ -1,8 +1,10 @@
-//! The plain codec: it keeps the records of values themselves.
+//! The plain codec: an encoder that keeps the records of values themselves, and a decoder that reads them.
 #![tactic(auto)]
 
+pub mod decoder;
 pub mod encoder;
 pub mod items;
 
+pub use decoder::RecordDecoder;
 pub use encoder::RecordEncoder;
 pub use items::{Item, Limits, Sizes, is_extensible};

@@ -1,11 +1,13 @@
 //! Types around others: with another tag, under constraints of a component's own, of a type that is named beside the value, and any
-//! value as octets.
+//! value as octets; and the calls of encoders and decoders by the names of types.
 #![tactic(auto)]
 
 pub mod any;
 pub mod constrained;
 pub mod inner;
 pub mod instances;
+pub mod named_read;
+pub mod named_written;
 pub mod open;
 pub mod tag;
 pub mod tagged;
@@ -14,6 +16,8 @@ pub use any::Any;
 pub use constrained::{Constrained, ConstraintsOf};
 pub use inner::{InnerSubtypeConstraint, InnerSubtypeConstraintError};
 pub use instances::InstanceOf;
+pub use named_read::DecodeNamed;
+pub use named_written::EncodeNamed;
 pub use open::Open;
 pub use tagged::{Explicit, Implicit};
 

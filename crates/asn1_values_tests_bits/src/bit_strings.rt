@@ -1,4 +1,5 @@
 //! Strings of bits: made, compared and shown, with every request for memory refused in turn.
+use crate::assertions::assert_same;
 use asn1_values::{BitStr, BitString, FixedBitString};
 use std::alloc::{AllocError, Global};
 use std::default::MadeWith;
@@ -19,8 +20,8 @@ fn rows(rt: HostRuntime) -> Result<(), Fail> {
     let octets = [0xff, 0x40];
     let (fourteen, _) = BitStr::from_slice(&octets).split_at(14);
     let string = BitString::from_bitslice(rt.alloc(), fourteen)?;
-    assert_eq!(rt; string.len(), 14);
-    assert_eq!(rt; string.as_bytes(), [0xff, 0x40].as_slice());
+    assert_same(&rt, &string.len(), &14);
+    assert_same(&rt, &string.as_bytes(), &[0xff, 0x40].as_slice());
     Ok(())
 }
 
@@ -28,15 +29,15 @@ fn rows(rt: HostRuntime) -> Result<(), Fail> {
 fn strings(rt: HostRuntime) -> Result<(), Fail> {
     let mut string = BitString::from_slice(rt.alloc(), &[0x2f])?;
     let same = string.clone()?;
-    assert_eq!(rt; string, same);
+    assert_same(&rt, &string, &same);
     string.push(true)?;
     assert_ne!(rt; string, same);
     assert!(rt; same < string);
-    assert_eq!(rt; string.get(8), Some(true));
-    assert_eq!(rt; string.get(9), None);
+    assert_same(&rt, &string.get(8), &Some(true));
+    assert_same(&rt, &string.get(9), &None);
     assert!(rt; !string.is_empty());
     assert!(rt; BitString::new(rt.alloc()).is_empty());
-    assert_eq!(rt; hash_of(&string), hash_of(&string.as_bitslice()));
+    assert_same(&rt, &hash_of(&string), &hash_of(&string.as_bitslice()));
     Ok(())
 }
 
@@ -45,19 +46,19 @@ fn shown(rt: HostRuntime) -> Result<(), Fail> {
     let mut string = BitString::from_slice(rt.alloc(), &[0x2f])?;
     string.push(true)?;
     let text = format!(in rt.alloc(); "{string:?}")?;
-    assert_eq!(rt; text.as_str(), "001011111");
+    assert_same(&rt, &text.as_str(), &"001011111");
     let buffer = string.into_buffer();
-    assert_eq!(rt; BitString::from_buffer(buffer).len(), 9);
+    assert_same(&rt, &BitString::from_buffer(buffer).len(), &9);
     Ok(())
 }
 
 #[test]
 fn fixed_strings(rt: HostRuntime) {
     let three = FixedBitString::<3>::new([0xbf, 0xff, 0xff]);
-    assert_eq!(rt; three.len(), 3);
+    assert_same(&rt, &three.len(), &3);
     assert!(rt; !three.is_empty());
-    assert_eq!(rt; three.get(1), Some(false));
-    assert_eq!(rt; three.get(3), None);
+    assert_same(&rt, &three.get(1), &Some(false));
+    assert_same(&rt, &three.get(3), &None);
     assert!(rt; FixedBitString::<3>::from_slice(&[0xbf]).is_none());
     let octets = [0xa0];
     let (front, _) = BitStr::from_slice(&octets).split_at(3);
@@ -65,10 +66,10 @@ fn fixed_strings(rt: HostRuntime) {
     assert!(rt; three.as_bitslice() == front);
     assert!(rt; FixedBitString::<4>::from_bitslice(front).is_none());
     let copy = three;
-    assert_eq!(rt; copy, three);
-    assert_eq!(rt; FixedBitString::from([0xa0, 0, 0]), three);
+    assert_same(&rt, &copy, &three);
+    assert_same(&rt, &FixedBitString::from([0xa0, 0, 0]), &three);
     assert!(rt; FixedBitString::<3>::default() < three);
-    assert_eq!(rt; hash_of(&three), hash_of(&front));
+    assert_same(&rt, &hash_of(&three), &hash_of(&front));
 }
 
 // The value that a type makes with an allocator, by the trait alone.
@@ -80,7 +81,7 @@ fn made<T: MadeWith<Global>>(alloc: Global) -> T {
 fn made_strings(rt: HostRuntime) {
     let string: BitString = made(rt.alloc());
     assert!(rt; string.is_empty());
-    assert_eq!(rt; string, BitString::new(rt.alloc()));
+    assert_same(&rt, &string, &BitString::new(rt.alloc()));
 }
 
 // Makes strings and copies them: the answer is whole, or refused. Whether none was refused.
@@ -90,7 +91,7 @@ fn makes(rt: &impl Abort, alloc: Global) -> bool {
     let (_, bits) = BitStr::from_slice(&octets).split_at(4);
     match BitString::from_bitslice(alloc, bits) {
         Ok(string) => {
-            assert_eq!(rt; string.as_bytes(), [0x23, 0x45, 0x60].as_slice());
+            assert_same(rt, &string.as_bytes(), &[0x23, 0x45, 0x60].as_slice());
             match string.clone() {
                 Ok(copy) => assert!(rt; copy == string),
                 Err(AllocError) => granted = false,
@@ -99,7 +100,7 @@ fn makes(rt: &impl Abort, alloc: Global) -> bool {
         Err(AllocError) => granted = false,
     }
     match BitString::from_slice(alloc, &octets) {
-        Ok(string) => assert_eq!(rt; string.as_bytes(), octets.as_slice()),
+        Ok(string) => assert_same(rt, &string.as_bytes(), &octets.as_slice()),
         Err(AllocError) => granted = false,
     }
     granted
@@ -122,10 +123,10 @@ fn pushes(rt: &impl Abort, alloc: Global) -> bool {
     for count in 0..200 {
         if string.push(count % 3 == 0).is_err() {
             granted = false;
-            assert_eq!(rt; string.len(), count);
+            assert_same(rt, &string.len(), &count);
             assert!(rt; string.push(count % 3 == 0).is_ok());
         }
-        assert_eq!(rt; string.get(count), Some(count % 3 == 0));
+        assert_same(rt, &string.get(count), &Some(count % 3 == 0));
     }
     granted
 }

@@ -1,20 +1,21 @@
 //! Views wherever they stand, and the numbers of bits.
+use crate::assertions::assert_same;
 use asn1_values::{BitStr, bits};
 use std::hash::{DefaultHasher, Hash, Hasher};
 use std::test::Fail;
 
 #[test]
 fn numbers(rt: HostRuntime) {
-    assert_eq!(rt; bits::range_from_len(8), 255);
-    assert_eq!(rt; bits::range_from_len(0), 0);
+    assert_same(&rt, &bits::range_from_len(8), &255);
+    assert_same(&rt, &bits::range_from_len(0), &0);
     assert!(rt; bits::should_be_indexed(7, &[0x30, 0x80]));
     assert!(rt; !bits::should_be_indexed(8, &[0x30, 0x80]));
     assert!(rt; !bits::should_be_indexed(0, &[]));
-    assert_eq!(rt; bits::read_bits(&[0x25, 0x0f], 4, 8), 0x50);
-    assert_eq!(rt; bits::read_wide(&[0x25, 0x0f], 4, 8), 0x50);
+    assert_same(&rt, &bits::read_bits(&[0x25, 0x0f], 4, 8), &0x50);
+    assert_same(&rt, &bits::read_wide(&[0x25, 0x0f], 4, 8), &0x50);
     let mut octets = [0x80, 0x01];
     bits::or_bits(&mut octets, 6, &[0xff], 4);
-    assert_eq!(rt; octets, [0x83, 0xc1]);
+    assert_same(&rt, &octets, &[0x83, 0xc1]);
 }
 
 // what a hasher makes of a value
@@ -32,14 +33,14 @@ fn comparisons(rt: HostRuntime) -> Result<(), Fail> {
     let (_, shifted) = front.split_at(4);
     let (same, _) = BitStr::from_slice(&[0xa5, 0xf7]).split_at(12);
     assert!(rt; shifted == same);
-    assert_eq!(rt; hash_of(&shifted), hash_of(&same));
+    assert_same(&rt, &hash_of(&shifted), &hash_of(&same));
     let longer = BitStr::from_slice(&[0xa5, 0xf0]);
     assert!(rt; shifted < longer);
     assert!(rt; hash_of(&shifted) != hash_of(&longer));
     assert!(rt; BitStr::default().is_empty());
     assert!(rt; BitStr::from_bitslice(front) == front);
     let text = format!(in rt.alloc(); "{:?}", shifted.split_at(3).0)?;
-    assert_eq!(rt; text.as_str(), "101");
+    assert_same(&rt, &text.as_str(), &"101");
     Ok(())
 }
 
@@ -52,8 +53,8 @@ fn octets_of_views(rt: HostRuntime) {
     assert!(rt; shifted.aligned_octets().is_none());
     let mut copied = [0; 2];
     shifted.copy_to(&mut copied);
-    assert_eq!(rt; copied, [0x23, 0x45]);
+    assert_same(&rt, &copied, &[0x23, 0x45]);
     let (whole, rest) = BitStr::front_of(&octets, 20).whole_octets();
-    assert_eq!(rt; whole, &octets[..2]);
+    assert_same(&rt, &whole, &&octets[..2]);
     assert!(rt; rest.get(3) == Some(true) && rest.get(4).is_none());
 }

@@ -2,6 +2,7 @@
 ghost use Rattle.std.specs.Prelude.{◌≡◌, ◌++◌, ◌<◌, ◌≤◌, OnOk, OnErr};
 ghost use Rattle.asn1_model.specs.Numbers.{binary};
 
+use crate::assertions::assert_same;
 use asn1_values::{BitBuffer, BitReader, BitStr};
 use std::alloc::{AllocError, Global};
 use std::borrow::CowSlice;
@@ -60,7 +61,7 @@ fn every_alignment_and_width(rt: HostRuntime) -> Result<(), Fail> {
         for width in 0..129 {
             let buffer = written(rt.alloc(), alignment, value, width)?;
             let total = (alignment + width + 3) as usize;
-            assert_eq!(rt; buffer.as_bytes().len(), total.div_ceil(8));
+            assert_same(&rt, &buffer.as_bytes().len(), &total.div_ceil(8));
             assert!(rt;
                 holds_bits(buffer.as_bitslice(), alignment, value, width),
                 "{width} bits at {alignment}"
@@ -83,7 +84,11 @@ fn rows(rt: HostRuntime) -> Result<(), Fail> {
     for character in b"John" {
         name.push_bits(*character as u128, 7)?;
     }
-    assert_eq!(rt; name.as_bytes(), [0x04, 0x95, 0xbf, 0x46, 0xe0].as_slice());
+    assert_same(
+        &rt,
+        &name.as_bytes(),
+        &[0x04, 0x95, 0xbf, 0x46, 0xe0].as_slice(),
+    );
 
     // fourteen bits, eight ones and 010000, and behind their number in an octet
     let octets = [0xff, 0x40];
@@ -91,21 +96,21 @@ fn rows(rt: HostRuntime) -> Result<(), Fail> {
     let mut counted = BitBuffer::new(rt.alloc());
     counted.push_bits(14, 8)?;
     counted.extend_from_bitslice(fourteen)?;
-    assert_eq!(rt; counted.as_bytes(), [0x0e, 0xff, 0x40].as_slice());
+    assert_same(&rt, &counted.as_bytes(), &[0x0e, 0xff, 0x40].as_slice());
     Ok(())
 }
 
 #[test]
 fn buffers(rt: HostRuntime) -> Result<(), Fail> {
     let mut buffer = BitBuffer::from_vec([0xa5, 0x0f].to_vec(rt.alloc())?);
-    assert_eq!(rt; buffer.len(), 16);
+    assert_same(&rt, &buffer.len(), &16);
     buffer.reserve_bytes(4)?;
     buffer.push(true)?;
     buffer.resize(12, false)?;
-    assert_eq!(rt; buffer.as_bytes(), [0xa5, 0x00].as_slice());
+    assert_same(&rt, &buffer.as_bytes(), &[0xa5, 0x00].as_slice());
     buffer.resize(20, true)?;
-    assert_eq!(rt; buffer.as_bytes(), [0xa5, 0x0f, 0xf0].as_slice());
-    assert_eq!(rt; buffer.len(), 20);
+    assert_same(&rt, &buffer.as_bytes(), &[0xa5, 0x0f, 0xf0].as_slice());
+    assert_same(&rt, &buffer.len(), &20);
     Ok(())
 }
 
@@ -122,14 +127,18 @@ fn changes(rt: HostRuntime) -> Result<(), Fail> {
     buffer.set(0, false);
     assert!(rt; buffer.len() > 19);
     buffer.set(19, false);
-    assert_eq!(rt; buffer.as_bytes(), [0x25, 0x0f, 0xe0].as_slice());
+    assert_same(&rt, &buffer.as_bytes(), &[0x25, 0x0f, 0xe0].as_slice());
     let mut other: BitBuffer = made(rt.alloc());
     assert!(rt; other.is_empty());
     other.push_bits(0b101, 3)?;
     other.extend_from_buffer(&buffer)?;
-    assert_eq!(rt; other.into_vec().as_slice(), [0xa4, 0xa1, 0xfc].as_slice());
+    assert_same(
+        &rt,
+        &other.into_vec().as_slice(),
+        &[0xa4, 0xa1, 0xfc].as_slice(),
+    );
     buffer.clear();
-    assert_eq!(rt; buffer.len(), 0);
+    assert_same(&rt, &buffer.len(), &0);
     Ok(())
 }
 
@@ -168,19 +177,19 @@ fn readers(rt: HostRuntime) -> Result<(), Fail> {
     assert!(rt; matches!(all, CowSlice::Borrowed(_)));
     let short = reader.split(25);
     assert!(rt; matches!(short, Err(1)));
-    assert_eq!(rt; reader.len(), 24);
+    assert_same(&rt, &reader.len(), &24);
     let Ok(front) = reader.split(3) else {
         panic!(rt; "too short");
     };
     assert!(rt; front.len() > 2);
-    assert_eq!(rt; front.first_bits(3), 0b101);
+    assert_same(&rt, &front.first_bits(3), &0b101);
     assert!(rt; reader.aligned_octets().is_none());
     let rest = reader.octets(rt.alloc())?;
     let CowSlice::Owned(rest) = rest else {
         panic!(rt; "lent");
     };
-    assert_eq!(rt; rest.as_slice(), [0x25, 0x0f, 0xe0].as_slice());
-    assert_eq!(rt; reader.bits().len(), 21);
+    assert_same(&rt, &rest.as_slice(), &[0x25, 0x0f, 0xe0].as_slice());
+    assert_same(&rt, &reader.bits().len(), &21);
     Ok(())
 }
 
@@ -223,13 +232,13 @@ fn grows(rt: &impl Abort, alloc: Global) -> bool {
         let hash = hash_of(&buffer);
         if grow(&mut buffer, &other, step).is_err() {
             granted = false;
-            assert_eq!(rt; buffer.len(), len);
-            assert_eq!(rt; buffer.as_bytes().len(), len.div_ceil(8));
-            assert_eq!(rt; hash_of(&buffer), hash);
+            assert_same(rt, &buffer.len(), &len);
+            assert_same(rt, &buffer.as_bytes().len(), &len.div_ceil(8));
+            assert_same(rt, &hash_of(&buffer), &hash);
             assert!(rt; grow(&mut buffer, &other, step).is_ok());
         }
     }
-    assert_eq!(rt; buffer.len(), 2706);
+    assert_same(rt, &buffer.len(), &2706);
     granted
 }
 
@@ -252,15 +261,15 @@ fn appends(rt: &impl Abort, alloc: Global) -> bool {
         let before = buffer.len();
         if append_twice(&mut buffer, 0x9c).is_err() {
             granted = false;
-            assert_eq!(rt; buffer.len(), before);
+            assert_same(rt, &buffer.len(), &before);
             assert!(rt; append_twice(&mut buffer, 0x9c).is_ok());
         }
-        assert_eq!(rt; buffer.len(), count * 16);
+        assert_same(rt, &buffer.len(), &(count * 16));
     }
     let octets = buffer.into_vec();
-    assert_eq!(rt; octets.len(), 80);
+    assert_same(rt, &octets.len(), &80);
     for octet in &octets {
-        assert_eq!(rt; *octet, 0x9c);
+        assert_same(rt, &*octet, &0x9c);
     }
     granted
 }
@@ -273,10 +282,10 @@ fn comparisons(rt: HostRuntime) -> Result<(), Fail> {
     let (_, shifted) = front.split_at(4);
     let mut buffer = BitBuffer::new(rt.alloc());
     buffer.extend_from_bitslice(shifted)?;
-    assert_eq!(rt; buffer.as_bytes(), [0xa5, 0xf0].as_slice());
+    assert_same(&rt, &buffer.as_bytes(), &[0xa5, 0xf0].as_slice());
     assert!(rt; buffer.as_bitslice() == shifted);
-    assert_eq!(rt; hash_of(&shifted), hash_of(&buffer.as_bitslice()));
-    assert_eq!(rt; hash_of(&shifted), hash_of(&buffer));
+    assert_same(&rt, &hash_of(&shifted), &hash_of(&buffer.as_bitslice()));
+    assert_same(&rt, &hash_of(&shifted), &hash_of(&buffer));
     let mut longer = BitBuffer::new(rt.alloc());
     longer.extend_from_buffer(&buffer)?;
     assert!(rt; longer == buffer);
@@ -285,7 +294,7 @@ fn comparisons(rt: HostRuntime) -> Result<(), Fail> {
     assert!(rt; hash_of(&buffer) != hash_of(&longer));
     longer.truncate(3);
     let text = format!(in rt.alloc(); "{longer:?}")?;
-    assert_eq!(rt; text.as_str(), "101");
+    assert_same(&rt, &text.as_str(), &"101");
     Ok(())
 }
 
@@ -295,7 +304,7 @@ fn copies(rt: &impl Abort, alloc: Global) -> bool {
     let octets = [0x12, 0x34, 0x56];
     let (_, bits) = BitStr::from_slice(&octets).split_at(4);
     match BitReader::new(bits).octets(alloc) {
-        Ok(copied) => assert_eq!(rt; copied.as_slice(), [0x23, 0x45, 0x60].as_slice()),
+        Ok(copied) => assert_same(rt, &copied.as_slice(), &[0x23, 0x45, 0x60].as_slice()),
         Err(AllocError) => granted = false,
     }
     let mut buffer = BitBuffer::new(alloc);
@@ -308,7 +317,7 @@ fn copies(rt: &impl Abort, alloc: Global) -> bool {
         Ok(copy) => assert!(rt; copy == buffer),
         Err(AllocError) => granted = false,
     }
-    assert_eq!(rt; buffer.as_bytes(), [0x23, 0x45, 0x60].as_slice());
+    assert_same(rt, &buffer.as_bytes(), &[0x23, 0x45, 0x60].as_slice());
     granted
 }
 

@@ -1,6 +1,7 @@
 //! Rows of bits, every alignment with every width, and what is answered when memory is refused.
 ghost use Rattle.std.specs.Prelude.{◌<◌, ◌≤◌, ◌^◌, length};
 
+use crate::assertions::assert_same;
 use asn1_values::{
     BitBuffer, BitReader, BitStr, CharacterAlphabet, FieldBits, FieldFault, FieldFaultKind,
     FieldShape, FieldValue, Integer, read_fields, write_fields,
@@ -174,8 +175,8 @@ fn is_read_back(alloc: Global, offset: u32, width: u32) -> Result<bool, FieldFau
 fn a_row_is_written(rt: HostRuntime) -> Result<(), Fail> {
     let mut buffer = BitBuffer::new(rt.alloc());
     write_row(&mut buffer)?;
-    assert_eq!(rt; buffer.len(), 20);
-    assert_eq!(rt; buffer.as_bytes(), ROW.as_slice());
+    assert_same(&rt, &buffer.len(), &20);
+    assert_same(&rt, &buffer.as_bytes(), &ROW.as_slice());
     Ok(())
 }
 
@@ -184,7 +185,7 @@ fn a_row_is_read(rt: HostRuntime) -> Result<(), Fail> {
     let mut reader = BitReader::from_octets(&ROW);
     let values = read_row(rt.alloc(), &mut reader)?;
     assert!(rt; is_row(&values));
-    assert_eq!(rt; reader.len(), 4);
+    assert_same(&rt, &reader.len(), &4);
     Ok(())
 }
 
@@ -197,7 +198,7 @@ fn characters_are_written(rt: HostRuntime) -> Result<(), Fail> {
         characters: &[49, 50, 51],
     };
     write_fields(&mut buffer, &[field])?;
-    assert_eq!(rt; buffer.as_bytes(), [0x23, 0x40].as_slice());
+    assert_same(&rt, &buffer.as_bytes(), &[0x23, 0x40].as_slice());
     Ok(())
 }
 
@@ -212,7 +213,7 @@ fn unknown_codes_are_told(rt: HostRuntime) -> Result<(), Fail> {
         field: 0,
         kind: FieldFaultKind::NoCharacter,
     };
-    assert_eq!(rt; fault_of(rt.alloc(), &[0x2B], shape), Some(wanted));
+    assert_same(&rt, &fault_of(rt.alloc(), &[0x2B], shape), &Some(wanted));
     Ok(())
 }
 
@@ -222,13 +223,15 @@ fn longer_octets_are_refused(rt: HostRuntime) {
         field: 0,
         kind: FieldFaultKind::NotShortest,
     };
-    assert_eq!(rt;
-        fault_of(rt.alloc(), &[0x00, 0x7F], FieldShape::Whole(2)),
-        Some(wanted)
+    assert_same(
+        &rt,
+        &fault_of(rt.alloc(), &[0x00, 0x7F], FieldShape::Whole(2)),
+        &Some(wanted),
     );
-    assert_eq!(rt;
-        fault_of(rt.alloc(), &[0x00], FieldShape::Whole(0)),
-        Some(wanted)
+    assert_same(
+        &rt,
+        &fault_of(rt.alloc(), &[0x00], FieldShape::Whole(0)),
+        &Some(wanted),
     );
 }
 
@@ -238,21 +241,25 @@ fn missing_bits_are_told(rt: HostRuntime) {
         field: 0,
         kind: FieldFaultKind::Short,
     };
-    assert_eq!(rt;
-        fault_of(rt.alloc(), &[0x7F], FieldShape::Number(9)),
-        Some(wanted)
+    assert_same(
+        &rt,
+        &fault_of(rt.alloc(), &[0x7F], FieldShape::Number(9)),
+        &Some(wanted),
     );
-    assert_eq!(rt;
-        fault_of(rt.alloc(), &[0x7F], FieldShape::Octets(usize::MAX)),
-        Some(wanted)
+    assert_same(
+        &rt,
+        &fault_of(rt.alloc(), &[0x7F], FieldShape::Octets(usize::MAX)),
+        &Some(wanted),
     );
-    assert_eq!(rt;
-        fault_of(rt.alloc(), &[0x7F], FieldShape::Bits(9)),
-        Some(wanted)
+    assert_same(
+        &rt,
+        &fault_of(rt.alloc(), &[0x7F], FieldShape::Bits(9)),
+        &Some(wanted),
     );
-    assert_eq!(rt;
-        fault_of(rt.alloc(), &[0x7F], FieldShape::Whole(2)),
-        Some(wanted)
+    assert_same(
+        &rt,
+        &fault_of(rt.alloc(), &[0x7F], FieldShape::Whole(2)),
+        &Some(wanted),
     );
 }
 
@@ -263,10 +270,11 @@ fn what_does_not_fit_is_told(rt: HostRuntime) {
         kind: FieldFaultKind::DoesNotFit,
     };
     let large = FieldBits::Number { value: 8, width: 3 };
-    assert_eq!(rt; unwritten(rt.alloc(), large), Some(wanted));
-    assert_eq!(rt;
-        fault_of(rt.alloc(), &[0x7F], FieldShape::Number(129)),
-        Some(wanted)
+    assert_same(&rt, &unwritten(rt.alloc(), large), &Some(wanted));
+    assert_same(
+        &rt,
+        &fault_of(rt.alloc(), &[0x7F], FieldShape::Number(129)),
+        &Some(wanted),
     );
 }
 
@@ -287,7 +295,7 @@ fn faults_are_shown(rt: HostRuntime) -> Result<(), Fail> {
         kind: FieldFaultKind::Short,
     };
     let shown = format!(in rt.alloc(); "{fault}")?;
-    assert_eq!(rt; shown.as_str(), "field 2: too few bits are left");
+    assert_same(&rt, &shown.as_str(), &"field 2: too few bits are left");
     Ok(())
 }
 
@@ -298,12 +306,12 @@ fn every_kind_is_written_and_read(rt: HostRuntime) -> Result<(), Fail> {
     let (digits, number) = digits_and_number(alloc, &mut true)?;
     let mut buffer = BitBuffer::new(alloc);
     write_each(&mut buffer, &digits, &number)?;
-    assert_eq!(rt; buffer.len(), 183);
-    assert_eq!(rt; buffer.as_bytes(), ROW_OF_EACH.as_slice());
+    assert_same(&rt, &buffer.len(), &183);
+    assert_same(&rt, &buffer.as_bytes(), &ROW_OF_EACH.as_slice());
     let mut reader = BitReader::from_octets(&ROW_OF_EACH);
     let values = read_each(alloc, &mut reader, &digits)?;
     assert!(rt; is_each(&values));
-    assert_eq!(rt; reader.len(), 1);
+    assert_same(&rt, &reader.len(), &1);
     Ok(())
 }
 
@@ -316,9 +324,13 @@ fn aligned_octets_are_read(rt: HostRuntime) -> Result<(), Fail> {
     let [FieldValue::Octets(octets), FieldValue::Whole(number)] = values.as_slice() else {
         return Err("octets and a whole number".into());
     };
-    assert_eq!(rt; octets.as_slice(), [0xB6, 0x47, 0xFE].as_slice());
-    assert_eq!(rt; number.to_signed_bytes_be().as_slice(), [2; 20].as_slice());
-    assert_eq!(rt; reader.len(), 0);
+    assert_same(&rt, &octets.as_slice(), &[0xB6, 0x47, 0xFE].as_slice());
+    assert_same(
+        &rt,
+        &number.to_signed_bytes_be().as_slice(),
+        &[2; 20].as_slice(),
+    );
+    assert_same(&rt, &reader.len(), &0);
     Ok(())
 }
 
@@ -331,11 +343,11 @@ fn writes(rt: &impl Abort, alloc: Global) -> Result<bool, Fail> {
     for count in 0..8 {
         if let Err(fault) = write_each(&mut buffer, &digits, &number) {
             granted = false;
-            assert_eq!(rt; fault.kind, FieldFaultKind::Memory);
-            assert_eq!(rt; buffer.len(), count * 183);
+            assert_same(rt, &fault.kind, &FieldFaultKind::Memory);
+            assert_same(rt, &buffer.len(), &(count * 183));
             assert!(rt; write_each(&mut buffer, &digits, &number).is_ok());
         }
-        assert_eq!(rt; buffer.len(), count * 183 + 183);
+        assert_same(rt, &buffer.len(), &(count * 183 + 183));
     }
     assert!(rt; buffer.as_bytes().starts_with(&ROW_OF_EACH[..22]));
     Ok(granted)
@@ -354,9 +366,9 @@ fn a_wrong_field_leaves_the_old_bits(rt: HostRuntime) -> Result<(), Fail> {
         field: 1,
         kind: FieldFaultKind::DoesNotFit,
     };
-    assert_eq!(rt; write_fields(&mut buffer, &fields), Err(wanted));
-    assert_eq!(rt; buffer.len(), 3);
-    assert_eq!(rt; buffer.as_bytes(), [0xA0].as_slice());
+    assert_same(&rt, &write_fields(&mut buffer, &fields), &Err(wanted));
+    assert_same(&rt, &buffer.len(), &3);
+    assert_same(&rt, &buffer.as_bytes(), &[0xA0].as_slice());
     Ok(())
 }
 
@@ -380,13 +392,13 @@ fn reads(rt: &impl Abort, alloc: Global) -> Result<bool, Fail> {
         Ok(values) => values,
         Err(fault) => {
             granted = false;
-            assert_eq!(rt; fault.kind, FieldFaultKind::Memory);
-            assert_eq!(rt; reader.len(), 184);
+            assert_same(rt, &fault.kind, &FieldFaultKind::Memory);
+            assert_same(rt, &reader.len(), &184);
             read_each(alloc, &mut reader, &digits)?
         }
     };
     assert!(rt; is_each(&values));
-    assert_eq!(rt; reader.len(), 1);
+    assert_same(rt, &reader.len(), &1);
     Ok(granted)
 }
 

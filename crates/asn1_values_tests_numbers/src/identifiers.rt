@@ -1,4 +1,5 @@
 //! Rows of octets, what is shown, and that each call can succeed.
+use crate::assertions::assert_same;
 use asn1_values::{IdentifierError, ObjectIdentifier, Oid, oid_from_octets, oid_octets};
 use std::alloc::{AllocError, Global};
 use std::borrow::CowSlice;
@@ -29,8 +30,8 @@ fn identifiers_are_written_and_read(rt: HostRuntime) -> Result<(), Fail> {
     ];
     for (arcs, octets) in rows {
         let oid = Oid::new(arcs).ok_or("no identifier")?;
-        assert_eq!(rt; oid_octets(rt.alloc(), &oid)?.as_slice(), octets);
-        assert_eq!(rt; oid_from_octets(rt.alloc(), octets)?.as_slice(), arcs);
+        assert_same(&rt, &oid_octets(rt.alloc(), &oid)?.as_slice(), &octets);
+        assert_same(&rt, &oid_from_octets(rt.alloc(), octets)?.as_slice(), &arcs);
     }
     Ok(())
 }
@@ -67,9 +68,10 @@ fn faults_are_told_apart(rt: HostRuntime) {
         );
     }
     let lone = Oid::new(&[2]).expect(&rt, "one arc is valid");
-    assert_eq!(rt;
-        oid_octets(rt.alloc(), &lone).err(),
-        Some(IdentifierError::Truncated)
+    assert_same(
+        &rt,
+        &oid_octets(rt.alloc(), &lone).err(),
+        &Some(IdentifierError::Truncated),
     );
 }
 
@@ -100,21 +102,26 @@ fn identifiers_are_shown_and_compared(rt: HostRuntime) -> Result<(), Fail> {
     let first = Oid::new_unchecked(&[1, 2, 3321]);
     let kept = ObjectIdentifier::from_oid(rt.alloc(), &first)?;
     let other = ObjectIdentifier::new_unchecked(CowSlice::Borrowed(&[1, 2, 3322]));
-    assert_eq!(rt;
-        format!(in rt.alloc(); "{first} {kept}")?.as_str(),
-        "1.2.3321 1.2.3321"
+    assert_same(
+        &rt,
+        &format!(in rt.alloc(); "{first} {kept}")?.as_str(),
+        &"1.2.3321 1.2.3321",
     );
     assert!(rt; kept.as_oid() == first);
     assert!(rt; first.clone()? == first);
     assert!(rt; is_before(&kept, &other));
     assert!(rt; is_before(&first, &other.as_oid()));
-    assert_eq!(rt; kept.partial_cmp(&other), Some(Ordering::Less));
-    assert_eq!(rt; first.partial_cmp(&first), Some(Ordering::Equal));
-    assert_eq!(rt; arcs_of(&first), arcs_of(&kept));
-    assert_eq!(rt; kept[2], 3321);
-    assert_eq!(rt; first.len(), 3);
+    assert_same(&rt, &kept.partial_cmp(&other), &Some(Ordering::Less));
+    assert_same(&rt, &first.partial_cmp(&first), &Some(Ordering::Equal));
+    assert_same(&rt, &arcs_of(&first), &arcs_of(&kept));
+    assert_same(&rt, &kept[2], &3321);
+    assert_same(&rt, &first.len(), &3);
     let hashing = BuildHasherDefault::<DefaultHasher>::new();
-    assert_eq!(rt; hashing.hash_one(kept.clone()?), hashing.hash_one(first));
+    assert_same(
+        &rt,
+        &hashing.hash_one(kept.clone()?),
+        &hashing.hash_one(first),
+    );
     Ok(())
 }
 
@@ -127,9 +134,10 @@ fn faults_are_shown(rt: HostRuntime) -> Result<(), Fail> {
         IdentifierError::ArcTooLarge,
         IdentifierError::Memory
     )?;
-    assert_eq!(rt;
-        shown.as_str(),
-        "the identifier is truncated; a subidentifier is padded; an arc is too large; out of memory"
+    assert_same(
+        &rt,
+        &shown.as_str(),
+        &"the identifier is truncated; a subidentifier is padded; an arc is too large; out of memory",
     );
     Ok(())
 }
@@ -140,17 +148,17 @@ fn writes_and_reads(rt: &impl Abort, alloc: Global) -> bool {
     let octets = [0x90, 0x80, 0x80, 0x80, 0x4F, 0x99, 0x79];
     let oid = Oid::new_unchecked(&[2, 4294967295, 3321]);
     match oid_octets(alloc, &oid) {
-        Ok(written) => assert_eq!(rt; written.as_slice(), octets.as_slice()),
+        Ok(written) => assert_same(rt, &written.as_slice(), &octets.as_slice()),
         Err(fault) => {
             granted = false;
-            assert_eq!(rt; fault, IdentifierError::Memory);
+            assert_same(rt, &fault, &IdentifierError::Memory);
         }
     }
     match oid_from_octets(alloc, &octets) {
         Ok(read) => assert!(rt; read.as_oid() == oid),
         Err(fault) => {
             granted = false;
-            assert_eq!(rt; fault, IdentifierError::Memory);
+            assert_same(rt, &fault, &IdentifierError::Memory);
         }
     }
     match ObjectIdentifier::from_oid(alloc, &oid) {

@@ -1,4 +1,5 @@
 //! What all types of whole numbers have in common, at each type.
+use crate::assertions::assert_same;
 use asn1_values::{Integer, IntegerError, IntegerType, NativeInteger};
 use std::alloc::Global;
 use std::process::Abort;
@@ -8,13 +9,14 @@ use std::test::Fail;
 fn is_kept<T: IntegerType + Drop>(rt: &impl Abort, alloc: Global, octets: &[u8]) {
     match T::try_from_signed_bytes(alloc, octets) {
         Ok(value) => {
-            assert_eq!(rt; value.to_signed_bytes_be().as_slice(), octets);
-            assert_eq!(rt;
-                value.is_negative(),
-                octets.first().is_some_and(|first| *first >= 128)
+            assert_same(rt, &value.to_signed_bytes_be().as_slice(), &octets);
+            assert_same(
+                rt,
+                &value.is_negative(),
+                &octets.first().is_some_and(|first| *first >= 128),
             );
             let whole = value.to_integer();
-            assert_eq!(rt; whole.to_signed_bytes_be().as_slice(), octets);
+            assert_same(rt, &whole.to_signed_bytes_be().as_slice(), &octets);
         }
         Err(_) => assert!(rt; false, "refused"),
     }
@@ -159,24 +161,33 @@ fn signed_types_hold_their_range(rt: HostRuntime) {
 
 #[test]
 fn widths(rt: HostRuntime) {
-    assert_eq!(rt; <u8 as IntegerType>::WIDTH, 8);
-    assert_eq!(rt; <i16 as IntegerType>::BYTE_WIDTH, 2);
-    assert_eq!(rt; <usize as IntegerType>::WIDTH, 64);
-    assert_eq!(rt; <u128 as IntegerType>::BYTE_WIDTH, 16);
-    assert_eq!(rt; <Integer as IntegerType>::WIDTH, u32::MAX);
+    assert_same(&rt, &<u8 as IntegerType>::WIDTH, &8);
+    assert_same(&rt, &<i16 as IntegerType>::BYTE_WIDTH, &2);
+    assert_same(&rt, &<usize as IntegerType>::WIDTH, &64);
+    assert_same(&rt, &<u128 as IntegerType>::BYTE_WIDTH, &16);
+    assert_same(&rt, &<Integer as IntegerType>::WIDTH, &u32::MAX);
     assert!(rt; 0i8.is_signed() && !0u8.is_signed() && Integer::ZERO.is_signed());
 }
 
 #[test]
 fn sums_wrap(rt: HostRuntime) {
-    assert_eq!(rt; IntegerType::wrapping_unsigned_add(255u8, 2u8), 1);
-    assert_eq!(rt; IntegerType::wrapping_unsigned_add(-128i8, 255u8), 127);
-    assert_eq!(rt; IntegerType::wrapping_unsigned_add(100i8, 100u8), -56);
-    assert_eq!(rt;
-        IntegerType::wrapping_unsigned_add(i64::MIN, u64::MAX),
-        i64::MAX
+    assert_same(&rt, &IntegerType::wrapping_unsigned_add(255u8, 2u8), &1);
+    assert_same(
+        &rt,
+        &IntegerType::wrapping_unsigned_add(-128i8, 255u8),
+        &127,
     );
-    assert_eq!(rt; IntegerType::wrapping_unsigned_add(u128::MAX, 1u128), 0);
+    assert_same(&rt, &IntegerType::wrapping_unsigned_add(100i8, 100u8), &-56);
+    assert_same(
+        &rt,
+        &IntegerType::wrapping_unsigned_add(i64::MIN, u64::MAX),
+        &i64::MAX,
+    );
+    assert_same(
+        &rt,
+        &IntegerType::wrapping_unsigned_add(u128::MAX, 1u128),
+        &0,
+    );
     let sum = IntegerType::wrapping_unsigned_add(Integer::from_i128(i128::MAX), Integer::ONE);
     assert!(rt; sum == Integer::from_i128(i128::MIN));
     let sum = IntegerType::wrapping_unsigned_add(Integer::from(u128::MAX), Integer::from(3u8));
@@ -186,28 +197,45 @@ fn sums_wrap(rt: HostRuntime) {
 #[test]
 fn octets_without_a_sign(rt: HostRuntime) -> Result<(), Fail> {
     let alloc = rt.alloc();
-    assert_eq!(rt; u8::try_from_bytes(alloc, &[0, 200])?, 200);
-    assert_eq!(rt; i8::try_from_bytes(alloc, &[200])?, -56);
-    assert_eq!(rt; i16::try_from_unsigned_bytes(alloc, &[200])?, 200);
+    assert_same(&rt, &u8::try_from_bytes(alloc, &[0, 200])?, &200);
+    assert_same(&rt, &i8::try_from_bytes(alloc, &[200])?, &-56);
+    assert_same(&rt, &i16::try_from_unsigned_bytes(alloc, &[200])?, &200);
     assert!(rt;
         matches!(
             i8::try_from_unsigned_bytes(alloc, &[200]),
             Err(IntegerError::Overflow)
         )
     );
-    assert_eq!(rt; 200u8.to_unsigned_bytes_be().as_slice(), [200].as_slice());
-    assert_eq!(rt; 0u64.to_unsigned_bytes_be().as_slice(), [0].as_slice());
-    assert_eq!(rt; u128::MAX.to_unsigned_bytes_be().len(), 16);
-    assert_eq!(rt; 256i32.to_unsigned_bytes_be().as_slice(), [1, 0].as_slice());
+    assert_same(
+        &rt,
+        &200u8.to_unsigned_bytes_be().as_slice(),
+        &[200].as_slice(),
+    );
+    assert_same(
+        &rt,
+        &0u64.to_unsigned_bytes_be().as_slice(),
+        &[0].as_slice(),
+    );
+    assert_same(&rt, &u128::MAX.to_unsigned_bytes_be().len(), &16);
+    assert_same(
+        &rt,
+        &256i32.to_unsigned_bytes_be().as_slice(),
+        &[1, 0].as_slice(),
+    );
     let large = Integer::try_from_unsigned_bytes(alloc, &GREATEST_SIGNED)?;
     assert!(rt; large == Integer::from_i128(i128::MAX));
     let large = Integer::try_from_unsigned_bytes(alloc, &ABOVE_UNSIGNED)?;
-    assert_eq!(rt;
-        large.to_unsigned_bytes_be().as_slice(),
-        ABOVE_UNSIGNED.as_slice()
+    assert_same(
+        &rt,
+        &large.to_unsigned_bytes_be().as_slice(),
+        &ABOVE_UNSIGNED.as_slice(),
     );
     let large = Integer::try_from_signed_bytes(alloc, &ABOVE_SIGNED)?;
-    assert_eq!(rt; large.to_unsigned_bytes_be().as_slice(), &ABOVE_SIGNED[1..]);
+    assert_same(
+        &rt,
+        &large.to_unsigned_bytes_be().as_slice(),
+        &&ABOVE_SIGNED[1..],
+    );
     Ok(())
 }
 
@@ -228,11 +256,20 @@ fn numbers_of_twenty_octets_are_read(rt: HostRuntime) -> Result<(), Fail> {
         let own = Integer::try_from_bytes(alloc, &octets)?;
         let signed = Integer::try_from_signed_bytes(alloc, &octets)?;
         let unsigned = Integer::try_from_unsigned_bytes(alloc, &octets)?;
-        assert_eq!(rt; own.to_signed_bytes_be().as_slice(), octets.as_slice());
-        assert_eq!(rt; signed.to_signed_bytes_be().as_slice(), octets.as_slice());
-        assert_eq!(rt;
-            unsigned.to_unsigned_bytes_be().as_slice(),
-            octets.as_slice()
+        assert_same(
+            &rt,
+            &own.to_signed_bytes_be().as_slice(),
+            &octets.as_slice(),
+        );
+        assert_same(
+            &rt,
+            &signed.to_signed_bytes_be().as_slice(),
+            &octets.as_slice(),
+        );
+        assert_same(
+            &rt,
+            &unsigned.to_unsigned_bytes_be().as_slice(),
+            &octets.as_slice(),
         );
     }
     Ok(())
@@ -245,9 +282,13 @@ fn want_of_memory(rt: HostRuntime) {
     for read in readings(rt.alloc(), &octets) {
         match read {
             Ok(number) => {
-                assert_eq!(rt; number.to_unsigned_bytes_be().as_slice(), octets.as_slice());
+                assert_same(
+                    &rt,
+                    &number.to_unsigned_bytes_be().as_slice(),
+                    &octets.as_slice(),
+                );
             }
-            Err(error) => assert_eq!(rt; error, IntegerError::Memory),
+            Err(error) => assert_same(&rt, &error, &IntegerError::Memory),
         }
     }
 }
@@ -256,9 +297,9 @@ fn want_of_memory(rt: HostRuntime) {
 #[test]
 fn native_numbers_take_no_memory(rt: HostRuntime) -> Result<(), Fail> {
     let alloc = rt.alloc();
-    assert_eq!(rt; u64::try_from_bytes(alloc, &[0, 0, 7])?, 7);
-    assert_eq!(rt; i8::try_from_signed_bytes(alloc, &[0x80])?, -128);
-    assert_eq!(rt; u8::try_from_unsigned_bytes(alloc, &[0x80])?, 128);
+    assert_same(&rt, &u64::try_from_bytes(alloc, &[0, 0, 7])?, &7);
+    assert_same(&rt, &i8::try_from_signed_bytes(alloc, &[0x80])?, &-128);
+    assert_same(&rt, &u8::try_from_unsigned_bytes(alloc, &[0x80])?, &128);
     Ok(())
 }
 
@@ -275,10 +316,11 @@ fn described<T: NativeInteger + Drop>(alloc: Global, number: T) -> Result<String
 #[test]
 fn native_types_are_shown_and_compared(rt: HostRuntime) -> Result<(), Fail> {
     let alloc = rt.alloc();
-    assert_eq!(rt; described(alloc, -3i8)?.as_str(), "-3 -3 false 0");
-    assert_eq!(rt;
-        described(alloc, u128::MAX)?.as_str(),
-        "340282366920938463463374607431768211455 340282366920938463463374607431768211455 true 0"
+    assert_same(&rt, &described(alloc, -3i8)?.as_str(), &"-3 -3 false 0");
+    assert_same(
+        &rt,
+        &described(alloc, u128::MAX)?.as_str(),
+        &"340282366920938463463374607431768211455 340282366920938463463374607431768211455 true 0",
     );
     Ok(())
 }
@@ -286,7 +328,7 @@ fn native_types_are_shown_and_compared(rt: HostRuntime) -> Result<(), Fail> {
 // The number as a value of the type, and back.
 fn is_kept_in_128_bits<T: IntegerType + Drop>(rt: &impl Abort, number: i128) {
     match T::from_i128(number) {
-        Some(value) => assert_eq!(rt; value.to_i128(), Some(number)),
+        Some(value) => assert_same(rt, &value.to_i128(), &Some(number)),
         None => assert!(rt; false, "refused"),
     }
 }
@@ -303,6 +345,6 @@ fn numbers_of_128_bits(rt: HostRuntime) {
     assert!(rt; <u8 as IntegerType>::from_i128(-1).is_none());
     assert!(rt; <i8 as IntegerType>::from_i128(128).is_none());
     assert!(rt; <u128 as IntegerType>::from_i128(-1).is_none());
-    assert_eq!(rt; IntegerType::to_i128(&u128::MAX), None);
-    assert_eq!(rt; IntegerType::to_i128(&Integer::from(u128::MAX)), None);
+    assert_same(&rt, &IntegerType::to_i128(&u128::MAX), &None);
+    assert_same(&rt, &IntegerType::to_i128(&Integer::from(u128::MAX)), &None);
 }

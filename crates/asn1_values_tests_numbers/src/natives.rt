@@ -1,4 +1,5 @@
 //! Native integers and their octets: the ends of each type, and the octets of numbers at their ends.
+use crate::assertions::assert_same;
 use asn1_values::{IntegerBytes, NativeInteger, Wide};
 use asn1_values_natives::octets::{
     bit_count, has_leading, has_padding, has_sign, last_octets, magnitude, without_leading,
@@ -42,10 +43,11 @@ fn has_ends<T: NativeInteger>(rt: &impl Abort, least: Wide, greatest: Wide) {
         assert!(rt; T::from_wide(natural(above)).is_none());
     }
     assert!(rt; T::ZERO == T::default() && T::ZERO.to_wide() == natural(0));
-    assert_eq!(rt; T::SIGNED, least.negative);
-    assert_eq!(rt;
-        T::BITS as usize,
-        bit_count(greatest.magnitude) + usize::from(T::SIGNED)
+    assert_same(rt, &T::SIGNED, &least.negative);
+    assert_same(
+        rt,
+        &(T::BITS as usize),
+        &(bit_count(greatest.magnitude) + usize::from(T::SIGNED)),
     );
 }
 
@@ -78,65 +80,97 @@ fn next<T: NativeInteger<Unsigned = u8>>(value: T) -> T {
 
 #[test]
 fn sums_wrap(rt: HostRuntime) {
-    assert_eq!(rt; next(255u8), 0);
-    assert_eq!(rt; next(127i8), -128);
-    assert_eq!(rt; next(-1i8), 0);
-    assert_eq!(rt; NativeInteger::wrapping_unsigned_add(-1i16, 32769), -32768);
-    assert_eq!(rt; NativeInteger::wrapping_unsigned_add(65535u16, 2), 1);
-    assert_eq!(rt; NativeInteger::wrapping_unsigned_add(7i32, 9), 16);
-    assert_eq!(rt;
-        NativeInteger::wrapping_unsigned_add(u32::MAX, u32::MAX),
-        u32::MAX - 1
+    assert_same(&rt, &next(255u8), &0);
+    assert_same(&rt, &next(127i8), &-128);
+    assert_same(&rt, &next(-1i8), &0);
+    assert_same(
+        &rt,
+        &NativeInteger::wrapping_unsigned_add(-1i16, 32769),
+        &-32768,
     );
-    assert_eq!(rt; NativeInteger::wrapping_unsigned_add(i64::MAX, 1), i64::MIN);
-    assert_eq!(rt; NativeInteger::wrapping_unsigned_add(u64::MAX, 3), 2);
-    assert_eq!(rt;
-        NativeInteger::wrapping_unsigned_add(isize::MIN, usize::MAX),
-        isize::MAX
+    assert_same(&rt, &NativeInteger::wrapping_unsigned_add(65535u16, 2), &1);
+    assert_same(&rt, &NativeInteger::wrapping_unsigned_add(7i32, 9), &16);
+    assert_same(
+        &rt,
+        &NativeInteger::wrapping_unsigned_add(u32::MAX, u32::MAX),
+        &(u32::MAX - 1),
     );
-    assert_eq!(rt; NativeInteger::wrapping_unsigned_add(usize::MAX, 1), 0);
-    assert_eq!(rt;
-        NativeInteger::wrapping_unsigned_add(i128::MAX, 1),
-        i128::MIN
+    assert_same(
+        &rt,
+        &NativeInteger::wrapping_unsigned_add(i64::MAX, 1),
+        &i64::MIN,
     );
-    assert_eq!(rt; NativeInteger::wrapping_unsigned_add(u128::MAX, 5), 4);
+    assert_same(&rt, &NativeInteger::wrapping_unsigned_add(u64::MAX, 3), &2);
+    assert_same(
+        &rt,
+        &NativeInteger::wrapping_unsigned_add(isize::MIN, usize::MAX),
+        &isize::MAX,
+    );
+    assert_same(
+        &rt,
+        &NativeInteger::wrapping_unsigned_add(usize::MAX, 1),
+        &0,
+    );
+    assert_same(
+        &rt,
+        &NativeInteger::wrapping_unsigned_add(i128::MAX, 1),
+        &i128::MIN,
+    );
+    assert_same(&rt, &NativeInteger::wrapping_unsigned_add(u128::MAX, 5), &4);
 }
 
 #[test]
 fn numbers_of_octets(rt: HostRuntime) {
     let mut ones = [0xff; 17];
-    assert_eq!(rt; Wide::from_signed_octets(&ones), Some(below(0)));
-    assert_eq!(rt; Wide::from_unsigned_octets(&ones), None);
+    assert_same(&rt, &Wide::from_signed_octets(&ones), &Some(below(0)));
+    assert_same(&rt, &Wide::from_unsigned_octets(&ones), &None);
     ones[0] = 0;
-    assert_eq!(rt; Wide::from_signed_octets(&ones), Some(natural(u128::MAX)));
-    assert_eq!(rt; Wide::from_unsigned_octets(&ones), Some(natural(u128::MAX)));
+    assert_same(
+        &rt,
+        &Wide::from_signed_octets(&ones),
+        &Some(natural(u128::MAX)),
+    );
+    assert_same(
+        &rt,
+        &Wide::from_unsigned_octets(&ones),
+        &Some(natural(u128::MAX)),
+    );
     ones[0] = 0xfe;
-    assert_eq!(rt; Wide::from_signed_octets(&ones), None);
+    assert_same(&rt, &Wide::from_signed_octets(&ones), &None);
     let mut zeros = [0; 17];
     zeros[0] = 0xff;
-    assert_eq!(rt; Wide::from_signed_octets(&zeros), Some(below(u128::MAX)));
+    assert_same(
+        &rt,
+        &Wide::from_signed_octets(&zeros),
+        &Some(below(u128::MAX)),
+    );
     zeros[0] = 1;
-    assert_eq!(rt; Wide::from_signed_octets(&zeros), None);
-    assert_eq!(rt; Wide::from_signed_octets(&[]), Some(natural(0)));
-    assert_eq!(rt; Wide::from_signed_octets(&[0xff, 0x7f]), Some(below(128)));
-    assert_eq!(rt;
-        Wide::from_unsigned_octets(&[0xff, 0x7f]),
-        Some(natural(0xff7f))
+    assert_same(&rt, &Wide::from_signed_octets(&zeros), &None);
+    assert_same(&rt, &Wide::from_signed_octets(&[]), &Some(natural(0)));
+    assert_same(
+        &rt,
+        &Wide::from_signed_octets(&[0xff, 0x7f]),
+        &Some(below(128)),
+    );
+    assert_same(
+        &rt,
+        &Wide::from_unsigned_octets(&[0xff, 0x7f]),
+        &Some(natural(0xff7f)),
     );
 }
 
 #[test]
 fn numbers_within_bounds(rt: HostRuntime) {
-    assert_eq!(rt; Wide::from_i128(i128::MIN), below(u128::MAX / 2));
-    assert_eq!(rt; Wide::from_natural(7, 7), natural(7));
-    assert_eq!(rt; Wide::from_whole(-8, 7), below(7));
-    assert_eq!(rt; natural(7).to_natural(7), Some(7));
-    assert_eq!(rt; natural(8).to_natural(7), None);
-    assert_eq!(rt; below(0).to_natural(7), None);
-    assert_eq!(rt; below(7).to_whole(7), Some(-8));
-    assert_eq!(rt; below(8).to_whole(7), None);
-    assert_eq!(rt; natural(7).to_whole(7), Some(7));
-    assert_eq!(rt; natural(8).to_whole(7), None);
+    assert_same(&rt, &Wide::from_i128(i128::MIN), &below(u128::MAX / 2));
+    assert_same(&rt, &Wide::from_natural(7, 7), &natural(7));
+    assert_same(&rt, &Wide::from_whole(-8, 7), &below(7));
+    assert_same(&rt, &natural(7).to_natural(7), &Some(7));
+    assert_same(&rt, &natural(8).to_natural(7), &None);
+    assert_same(&rt, &below(0).to_natural(7), &None);
+    assert_same(&rt, &below(7).to_whole(7), &Some(-8));
+    assert_same(&rt, &below(8).to_whole(7), &None);
+    assert_same(&rt, &natural(7).to_whole(7), &Some(7));
+    assert_same(&rt, &natural(8).to_whole(7), &None);
 }
 
 fn octets_of<T: AsSlice<u8>>(octets: &T) -> &[u8] {
@@ -157,49 +191,61 @@ fn fewest_octets(rt: HostRuntime) {
     ];
     for (wide, signed, unsigned) in rows {
         let octets = IntegerBytes::signed(wide);
-        assert_eq!(rt; octets_of(&octets), signed);
-        assert_eq!(rt; octets.len(), signed.len());
-        assert_eq!(rt; IntegerBytes::unsigned(wide).as_slice(), unsigned);
+        assert_same(&rt, &octets_of(&octets), &signed);
+        assert_same(&rt, &octets.len(), &signed.len());
+        assert_same(&rt, &IntegerBytes::unsigned(wide).as_slice(), &unsigned);
     }
-    assert_eq!(rt; IntegerBytes::signed(below(u128::MAX)).len(), 17);
-    assert_eq!(rt;
-        IntegerBytes::unsigned(natural(u128::MAX)).as_slice(),
-        [0xff; 16].as_slice()
+    assert_same(&rt, &IntegerBytes::signed(below(u128::MAX)).len(), &17);
+    assert_same(
+        &rt,
+        &IntegerBytes::unsigned(natural(u128::MAX)).as_slice(),
+        &[0xff; 16].as_slice(),
     );
     let lent = IntegerBytes::lent(&[1, 2, 3]);
-    assert_eq!(rt; lent.first(), Some(&1));
-    assert_eq!(rt; lent.as_slice(), [1, 2, 3].as_slice());
+    assert_same(&rt, &lent.first(), &Some(&1));
+    assert_same(&rt, &lent.as_slice(), &[1, 2, 3].as_slice());
 }
 
 #[test]
 fn octets_of_the_sign(rt: HostRuntime) {
     assert!(rt; has_padding(&[0, 0x7f]) && has_padding(&[0xff, 0x80]));
     assert!(rt; !has_padding(&[0, 0x80]) && !has_padding(&[0xff, 0x7f]) && !has_padding(&[0]));
-    assert_eq!(rt; without_padding(&[0, 0, 0, 0x80]), [0, 0x80].as_slice());
-    assert_eq!(rt; without_padding(&[0xff, 0xff]), [0xff].as_slice());
+    assert_same(
+        &rt,
+        &without_padding(&[0, 0, 0, 0x80]),
+        &[0, 0x80].as_slice(),
+    );
+    assert_same(&rt, &without_padding(&[0xff, 0xff]), &[0xff].as_slice());
     assert!(rt; has_sign(&[0x80, 0]) && !has_sign(&[0x7f, 0xff]) && !has_sign(&[]));
-    assert_eq!(rt;
-        (without_sign(true, 0x0f), without_sign(false, 0x0f)),
-        (0xf0, 0x0f)
+    assert_same(
+        &rt,
+        &(without_sign(true, 0x0f), without_sign(false, 0x0f)),
+        &(0xf0, 0x0f),
     );
     assert!(rt; has_leading(true, &[0xff]) && has_leading(false, &[0]) && !has_leading(true, &[0]));
-    assert_eq!(rt;
-        without_leading(true, &[0xff, 0xff, 0xfe]),
-        [0xfe].as_slice()
+    assert_same(
+        &rt,
+        &without_leading(true, &[0xff, 0xff, 0xfe]),
+        &[0xfe].as_slice(),
     );
     assert!(rt; without_leading(false, &[0, 0]).is_empty());
-    assert_eq!(rt; without_zero(&[0, 0x80]), [0x80].as_slice());
-    assert_eq!(rt; without_zero(&[1, 0]), [1, 0].as_slice());
-    assert_eq!(rt;
-        (magnitude(false, &[1, 2]), magnitude(true, &[0xfe, 0xff])),
-        (258, 256)
+    assert_same(&rt, &without_zero(&[0, 0x80]), &[0x80].as_slice());
+    assert_same(&rt, &without_zero(&[1, 0]), &[1, 0].as_slice());
+    assert_same(
+        &rt,
+        &(magnitude(false, &[1, 2]), magnitude(true, &[0xfe, 0xff])),
+        &(258, 256),
     );
-    assert_eq!(rt; (bit_count(0), bit_count(255), bit_count(256)), (0, 8, 9));
+    assert_same(
+        &rt,
+        &(bit_count(0), bit_count(255), bit_count(256)),
+        &(0, 8, 9),
+    );
     let mut last = [0; 17];
     last[15] = 1;
     last[16] = 2;
-    assert_eq!(rt; last_octets(false, 0x03_0102, 2), last);
+    assert_same(&rt, &last_octets(false, 0x03_0102, 2), &last);
     last[15] = 0xfe;
     last[16] = 0xfd;
-    assert_eq!(rt; last_octets(true, 0x03_0102, 2), last);
+    assert_same(&rt, &last_octets(true, 0x03_0102, 2), &last);
 }

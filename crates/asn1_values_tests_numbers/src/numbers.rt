@@ -1,4 +1,5 @@
 //! Whole numbers of any size: their ends, their texts, and what is answered where a request for memory is refused.
+use crate::assertions::assert_same;
 use asn1_values::{Integer, IntegerError, TryFromIntegerError};
 use std::alloc::{AllocError, Global};
 use std::hash::{DefaultHasher, Hash, Hasher};
@@ -43,11 +44,12 @@ fn integers_of_any_size(rt: HostRuntime) -> Result<(), Fail> {
     ];
     for (octets, text) in rows {
         let number = Integer::from_signed_octets(alloc, octets)?;
-        assert_eq!(rt; number.to_signed_bytes_be().as_slice(), octets);
-        assert_eq!(rt; number.to_string(alloc)?.as_str(), text);
-        assert_eq!(rt;
-            number.is_negative(),
-            octets.first().is_some_and(|first| *first >= 128)
+        assert_same(&rt, &number.to_signed_bytes_be().as_slice(), &octets);
+        assert_same(&rt, &number.to_string(alloc)?.as_str(), &text);
+        assert_same(
+            &rt,
+            &number.is_negative(),
+            &octets.first().is_some_and(|first| *first >= 128),
         );
     }
     assert!(rt;
@@ -75,13 +77,31 @@ fn long_integers(rt: HostRuntime) -> Result<(), Fail> {
     let alloc = rt.alloc();
     let octets = long_octets(alloc)?;
     let number = Integer::from_signed_octets(alloc, &octets)?;
-    assert_eq!(rt; number.to_signed_bytes_be().as_slice(), octets.as_slice());
-    assert_eq!(rt; number.to_unsigned_bytes_be().len(), 127);
-    assert_eq!(rt; number.to_i128(), None);
+    assert_same(
+        &rt,
+        &number.to_signed_bytes_be().as_slice(),
+        &octets.as_slice(),
+    );
+    assert_same(&rt, &number.to_unsigned_bytes_be().len(), &127);
+    assert_same(&rt, &number.to_i128(), &None);
     assert!(rt; number > Integer::from(u128::MAX) && !number.is_negative());
     let same = number.clone()?;
     assert!(rt; same == number);
     assert!(rt; number.checked_add(&Integer::ONE).is_none());
+    Ok(())
+}
+
+// A number of these octets, and its copy, which is the same.
+fn is_copied(rt: &impl Abort, number: &Integer, octets: &[u8]) -> Result<(), Fail> {
+    assert_same(rt, &number.to_signed_bytes_be().as_slice(), &octets);
+    assert!(rt; number.clone()? == *number);
+    Ok(())
+}
+
+// A refusal to convert the number, whose copy gives the number back.
+fn is_given_back(rt: &impl Abort, kept: Integer, number: &Integer) -> Result<(), Fail> {
+    let refusal = u8::try_from(kept).err().ok_or("no refusal")?;
+    assert!(rt; refusal.clone()?.into_original() == *number);
     Ok(())
 }
 
@@ -91,14 +111,23 @@ fn ample_numbers_of_twenty_octets(rt: HostRuntime) -> Result<(), Fail> {
     let alloc = rt.alloc();
     for octets in [[1; 20], [0x80; 20]] {
         let number = Integer::from_signed_octets(alloc, &octets)?;
-        assert_eq!(rt; number.to_signed_bytes_be().as_slice(), octets.as_slice());
-        assert!(rt; number.clone()? == number);
-        let plain = Integer::from_unsigned_octets(alloc, &octets)?;
-        assert_eq!(rt; plain.to_unsigned_bytes_be().as_slice(), octets.as_slice());
+        is_copied(&rt, &number, &octets)?;
         let kept = Integer::from_fewest_octets(vec![in alloc; octets[0]; 20]?);
-        assert!(rt; kept == number);
-        let refusal = u8::try_from(kept).err().ok_or("no refusal")?;
-        assert!(rt; refusal.clone()?.into_original() == number);
+        is_given_back(&rt, kept, &number)?;
+    }
+    Ok(())
+}
+
+#[test]
+fn ample_numbers_without_a_sign(rt: HostRuntime) -> Result<(), Fail> {
+    let alloc = rt.alloc();
+    for octets in [[1; 20], [0x80; 20]] {
+        let plain = Integer::from_unsigned_octets(alloc, &octets)?;
+        assert_same(
+            &rt,
+            &plain.to_unsigned_bytes_be().as_slice(),
+            &octets.as_slice(),
+        );
     }
     let short = Integer::from_fewest_octets(vec![in alloc; 0x80; 1]?);
     assert!(rt; short == Integer::from(-128i16));
@@ -173,37 +202,47 @@ fn order_is_that_of_numbers(rt: HostRuntime) -> Result<(), Fail> {
     let mut right = DefaultHasher::new();
     Integer::from(u128::MAX).hash(&mut left);
     Integer::from_signed_octets(alloc, &GREATEST_UNSIGNED)?.hash(&mut right);
-    assert_eq!(rt; left.finish(), right.finish());
+    assert_same(&rt, &left.finish(), &right.finish());
     Ok(())
 }
 
 #[test]
 fn conversions_are_exact(rt: HostRuntime) -> Result<(), Fail> {
-    assert_eq!(rt; Integer::from(-1i8).to_i64(), Some(-1));
-    assert_eq!(rt; Integer::from(-1i8).to_u64(), None);
-    assert_eq!(rt; Integer::from(u64::MAX).to_u64(), Some(u64::MAX));
-    assert_eq!(rt; Integer::from(u64::MAX).to_i64(), None);
-    assert_eq!(rt; u8::try_from(Integer::from(255i32)).ok(), Some(255));
-    assert_eq!(rt; u16::try_from(Integer::from(65536i32)).ok(), None);
-    assert_eq!(rt; u32::try_from(Integer::from(7i32)).ok(), Some(7));
-    assert_eq!(rt; u64::try_from(Integer::from(-7i32)).ok(), None);
-    assert_eq!(rt;
-        u128::try_from(Integer::from(u128::MAX)).ok(),
-        Some(u128::MAX)
+    assert_same(&rt, &Integer::from(-1i8).to_i64(), &Some(-1));
+    assert_same(&rt, &Integer::from(-1i8).to_u64(), &None);
+    assert_same(&rt, &Integer::from(u64::MAX).to_u64(), &Some(u64::MAX));
+    assert_same(&rt, &Integer::from(u64::MAX).to_i64(), &None);
+    assert_same(&rt, &u8::try_from(Integer::from(255i32)).ok(), &Some(255));
+    assert_same(&rt, &u16::try_from(Integer::from(65536i32)).ok(), &None);
+    assert_same(&rt, &u32::try_from(Integer::from(7i32)).ok(), &Some(7));
+    assert_same(&rt, &u64::try_from(Integer::from(-7i32)).ok(), &None);
+    assert_same(
+        &rt,
+        &u128::try_from(Integer::from(u128::MAX)).ok(),
+        &Some(u128::MAX),
     );
-    assert_eq!(rt; usize::try_from(Integer::from(9usize)).ok(), Some(9));
-    assert_eq!(rt; i8::try_from(Integer::from(-129i32)).ok(), None);
-    assert_eq!(rt; i16::try_from(Integer::from(-129i32)).ok(), Some(-129));
-    assert_eq!(rt; i32::try_from(Integer::from(i64::MIN)).ok(), None);
-    assert_eq!(rt; i64::try_from(Integer::from(i64::MIN)).ok(), Some(i64::MIN));
-    assert_eq!(rt; i128::try_from(Integer::from(u128::MAX)).ok(), None);
-    assert_eq!(rt; isize::try_from(Integer::from(3u16)).ok(), Some(3));
+    assert_same(&rt, &usize::try_from(Integer::from(9usize)).ok(), &Some(9));
+    assert_same(&rt, &i8::try_from(Integer::from(-129i32)).ok(), &None);
+    assert_same(
+        &rt,
+        &i16::try_from(Integer::from(-129i32)).ok(),
+        &Some(-129),
+    );
+    assert_same(&rt, &i32::try_from(Integer::from(i64::MIN)).ok(), &None);
+    assert_same(
+        &rt,
+        &i64::try_from(Integer::from(i64::MIN)).ok(),
+        &Some(i64::MIN),
+    );
+    assert_same(&rt, &i128::try_from(Integer::from(u128::MAX)).ok(), &None);
+    assert_same(&rt, &isize::try_from(Integer::from(3u16)).ok(), &Some(3));
     match u8::try_from(Integer::from(256u16)) {
         Ok(_) => assert!(rt; false),
         Err(error) => {
-            assert_eq!(rt;
-                error.to_string(rt.alloc())?.as_str(),
-                "256 is outside the range of its type"
+            assert_same(
+                &rt,
+                &error.to_string(rt.alloc())?.as_str(),
+                &"256 is outside the range of its type",
             );
             assert!(rt; error.clone()? == error);
             assert!(rt; error != TryFromIntegerError::new(255));
@@ -229,19 +268,19 @@ fn sums_and_differences(rt: HostRuntime) {
 fn lent_numbers_are_converted(rt: HostRuntime) {
     let number = Integer::from(200u8);
     let overflow = Some(IntegerError::Overflow);
-    assert_eq!(rt; u8::try_from(&number).ok(), Some(200));
-    assert_eq!(rt; u16::try_from(&number).ok(), Some(200));
-    assert_eq!(rt; u32::try_from(&number).ok(), Some(200));
-    assert_eq!(rt; u64::try_from(&number).ok(), Some(200));
-    assert_eq!(rt; u128::try_from(&number).ok(), Some(200));
-    assert_eq!(rt; usize::try_from(&number).ok(), Some(200));
-    assert_eq!(rt; i8::try_from(&number).err(), overflow);
-    assert_eq!(rt; i16::try_from(&number).ok(), Some(200));
-    assert_eq!(rt; i32::try_from(&number).ok(), Some(200));
-    assert_eq!(rt; i64::try_from(&number).ok(), Some(200));
-    assert_eq!(rt; i128::try_from(&number).ok(), Some(200));
-    assert_eq!(rt; isize::try_from(&number).ok(), Some(200));
-    assert_eq!(rt; u8::try_from(&Integer::from(-1i8)).err(), overflow);
+    assert_same(&rt, &u8::try_from(&number).ok(), &Some(200));
+    assert_same(&rt, &u16::try_from(&number).ok(), &Some(200));
+    assert_same(&rt, &u32::try_from(&number).ok(), &Some(200));
+    assert_same(&rt, &u64::try_from(&number).ok(), &Some(200));
+    assert_same(&rt, &u128::try_from(&number).ok(), &Some(200));
+    assert_same(&rt, &usize::try_from(&number).ok(), &Some(200));
+    assert_same(&rt, &i8::try_from(&number).err(), &overflow);
+    assert_same(&rt, &i16::try_from(&number).ok(), &Some(200));
+    assert_same(&rt, &i32::try_from(&number).ok(), &Some(200));
+    assert_same(&rt, &i64::try_from(&number).ok(), &Some(200));
+    assert_same(&rt, &i128::try_from(&number).ok(), &Some(200));
+    assert_same(&rt, &isize::try_from(&number).ok(), &Some(200));
+    assert_same(&rt, &u8::try_from(&Integer::from(-1i8)).err(), &overflow);
 }
 
 #[test]
@@ -254,16 +293,18 @@ fn refusals_are_shown(rt: HostRuntime) -> Result<(), Fail> {
         IntegerError::Memory,
         IntegerError::Overflow
     )?;
-    assert_eq!(rt;
-        shown.as_str(),
-        "no octets; the number is outside the range of its type; out of memory; Overflow"
+    assert_same(
+        &rt,
+        &shown.as_str(),
+        &"no octets; the number is outside the range of its type; out of memory; Overflow",
     );
     let Err(refusal) = u8::try_from(Integer::from(256u16)) else {
         return Err("256 is no u8".into());
     };
-    assert_eq!(rt;
-        format!(in alloc; "{refusal:?}")?.as_str(),
-        "TryFromIntegerError { original: Integer { kind: Primitive(256) } }"
+    assert_same(
+        &rt,
+        &format!(in alloc; "{refusal:?}")?.as_str(),
+        &"TryFromIntegerError { original: Integer { kind: Primitive(256) } }",
     );
     Ok(())
 }

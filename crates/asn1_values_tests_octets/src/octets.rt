@@ -1,6 +1,7 @@
 //! What no clause says: that each call can succeed, and what is shown.
 ghost use Rattle.std.specs.Prelude.{◌≡◌, slice_set};
 
+use crate::assertions::assert_same;
 use asn1_values::{FixedOctetString, OctetString, WrongLength};
 use bytes::Bytes;
 use std::alloc::{AllocError, Global};
@@ -37,7 +38,7 @@ fn is_given_up(alloc: Global, value: OctetString) -> Result<bool, AllocError> {
 #[test]
 fn slices_are_copied(rt: HostRuntime) -> Result<(), Fail> {
     let value = OctetString::from_slice(rt.alloc(), &OCTETS)?;
-    assert_eq!(rt; octets_of(&value), OCTETS.as_slice());
+    assert_same(&rt, &octets_of(&value), &OCTETS.as_slice());
     assert!(rt; is_listed(rt.alloc(), &value)?);
     Ok(())
 }
@@ -45,8 +46,8 @@ fn slices_are_copied(rt: HostRuntime) -> Result<(), Fail> {
 #[test]
 fn arrays_are_copied(rt: HostRuntime) -> Result<(), Fail> {
     let value = OctetString::from_array(rt.alloc(), OCTETS)?;
-    assert_eq!(rt; value.len(), 3);
-    assert_eq!(rt; value.as_slice(), OCTETS.as_slice());
+    assert_same(&rt, &value.len(), &3);
+    assert_same(&rt, &value.as_slice(), &OCTETS.as_slice());
     Ok(())
 }
 
@@ -61,7 +62,7 @@ fn vectors_are_moved(rt: HostRuntime) -> Result<(), Fail> {
 #[test]
 fn vectors_are_converted(rt: HostRuntime) -> Result<(), Fail> {
     let value = OctetString::try_from(OCTETS.to_vec(rt.alloc())?)?;
-    assert_eq!(rt; value.as_slice(), OCTETS.as_slice());
+    assert_same(&rt, &value.as_slice(), &OCTETS.as_slice());
     Ok(())
 }
 
@@ -99,7 +100,11 @@ fn is_taken_of(octets: &Bytes) -> Result<bool, AllocError> {
 fn octets_are_taken_of_bytes(rt: HostRuntime) -> Result<(), Fail> {
     let octets = Bytes::copy_from_slice(rt.alloc(), &OCTETS)?;
     assert!(rt; is_taken_of(&octets)?);
-    assert_eq!(rt; OctetString::from(octets).as_slice(), OCTETS.as_slice());
+    assert_same(
+        &rt,
+        &OctetString::from(octets).as_slice(),
+        &OCTETS.as_slice(),
+    );
     Ok(())
 }
 
@@ -113,7 +118,7 @@ fn is_given_as_bytes(value: &OctetString) -> Result<bool, AllocError> {
 fn octets_are_given_as_bytes(rt: HostRuntime) -> Result<(), Fail> {
     let value = OctetString::from_static(&[0xFF, 0x00, 0x61]);
     assert!(rt; is_given_as_bytes(&value)?);
-    assert_eq!(rt; Bytes::from(value).as_slice(), OCTETS.as_slice());
+    assert_same(&rt, &Bytes::from(value).as_slice(), &OCTETS.as_slice());
     Ok(())
 }
 
@@ -142,7 +147,7 @@ fn octet_strings_are_compared_as_lists(rt: HostRuntime) {
 fn orders_agree(rt: HostRuntime) {
     let lower = OctetString::from_static(&[1]);
     let upper = OctetString::from_static(&[1, 0]);
-    assert_eq!(rt; lower.partial_cmp(&upper), Some(Ordering::Less));
+    assert_same(&rt, &lower.partial_cmp(&upper), &Some(Ordering::Less));
 }
 
 #[test]
@@ -150,7 +155,7 @@ fn fixed_strings_are_compared_as_lists(rt: HostRuntime) {
     let first = FixedOctetString::new([1, 0]);
     let second = FixedOctetString::new([1, 1]);
     assert!(rt; is_before(&first, &second));
-    assert_eq!(rt; first.partial_cmp(&first), Some(Ordering::Equal));
+    assert_same(&rt, &first.partial_cmp(&first), &Some(Ordering::Equal));
 }
 
 #[test]
@@ -158,11 +163,16 @@ fn equal_strings_are_hashed_alike(rt: HostRuntime) {
     let hashing = BuildHasherDefault::<DefaultHasher>::new();
     let octets = [7, 8, 9];
     let wanted = hashing.hash_one(octets.as_slice());
-    assert_eq!(rt;
-        hashing.hash_one(OctetString::from_static(&[7, 8, 9])),
-        wanted
+    assert_same(
+        &rt,
+        &hashing.hash_one(OctetString::from_static(&[7, 8, 9])),
+        &wanted,
     );
-    assert_eq!(rt; hashing.hash_one(FixedOctetString::new(octets)), wanted);
+    assert_same(
+        &rt,
+        &hashing.hash_one(FixedOctetString::new(octets)),
+        &wanted,
+    );
 }
 
 #[test]
@@ -172,15 +182,15 @@ fn fixed_strings_hold_as_many_octets(rt: HostRuntime) {
         expected: 4,
     };
     let short = FixedOctetString::<4>::try_from(OCTETS.as_slice());
-    assert_eq!(rt; short.err(), Some(wanted));
+    assert_same(&rt, &short.err(), &Some(wanted));
     let exact = FixedOctetString::<3>::try_from(OCTETS.as_slice());
-    assert_eq!(rt; exact.ok(), Some(FixedOctetString::new(OCTETS)));
+    assert_same(&rt, &exact.ok(), &Some(FixedOctetString::new(OCTETS)));
 }
 
 #[test]
 fn vectors_become_fixed_strings(rt: HostRuntime) -> Result<(), Fail> {
     let exact = FixedOctetString::<3>::try_from(OCTETS.to_vec(rt.alloc())?);
-    assert_eq!(rt; exact.ok(), Some(FixedOctetString::new(OCTETS)));
+    assert_same(&rt, &exact.ok(), &Some(FixedOctetString::new(OCTETS)));
     Ok(())
 }
 
@@ -188,7 +198,7 @@ fn vectors_become_fixed_strings(rt: HostRuntime) -> Result<(), Fail> {
 fn octet_strings_become_fixed_strings(rt: HostRuntime) {
     let listed = OctetString::from_static(&[0xFF, 0x00, 0x61]);
     let exact = FixedOctetString::<3>::try_from(listed);
-    assert_eq!(rt; exact.ok(), Some(FixedOctetString::from(OCTETS)));
+    assert_same(&rt, &exact.ok(), &Some(FixedOctetString::from(OCTETS)));
 }
 
 /// Whether a vector of the octets of a string of three is whole.
@@ -201,38 +211,39 @@ fn is_listed_of_three(alloc: Global) -> Result<bool, AllocError> {
 fn fixed_strings_give_their_octets(rt: HostRuntime) -> Result<(), Fail> {
     let value = FixedOctetString::new(OCTETS);
     let copy = value.clone()?;
-    assert_eq!(rt; octets_of(&value), OCTETS.as_slice());
+    assert_same(&rt, &octets_of(&value), &OCTETS.as_slice());
     assert!(rt; is_listed_of_three(rt.alloc())?);
-    assert_eq!(rt; value.into_array().as_slice(), OCTETS.as_slice());
-    assert_eq!(rt; <[u8; 3]>::from(copy).as_slice(), OCTETS.as_slice());
+    assert_same(&rt, &value.into_array().as_slice(), &OCTETS.as_slice());
+    assert_same(&rt, &<[u8; 3]>::from(copy).as_slice(), &OCTETS.as_slice());
     Ok(())
 }
 
 #[test]
 fn fixed_strings_are_zeros_at_first(rt: HostRuntime) {
-    assert_eq!(rt;
-        FixedOctetString::<2>::default().as_slice(),
-        [0, 0].as_slice()
+    assert_same(
+        &rt,
+        &FixedOctetString::<2>::default().as_slice(),
+        &[0, 0].as_slice(),
     );
-    assert_eq!(rt; FixedOctetString::<0>::default().len(), 0);
+    assert_same(&rt, &FixedOctetString::<0>::default().len(), &0);
 }
 
 #[test]
 fn fixed_strings_are_written_in_place(rt: HostRuntime) {
     let mut value = FixedOctetString::new([1, 2, 3]);
     value.set(1, 9);
-    assert_eq!(rt; value.as_slice(), [1, 9, 3].as_slice());
+    assert_same(&rt, &value.as_slice(), &[1, 9, 3].as_slice());
     value.copy_from_slice(&[4, 5, 6]);
-    assert_eq!(rt; value.as_slice(), [4, 5, 6].as_slice());
+    assert_same(&rt, &value.as_slice(), &[4, 5, 6].as_slice());
     value.reverse();
-    assert_eq!(rt; value.as_slice(), [6, 5, 4].as_slice());
+    assert_same(&rt, &value.as_slice(), &[6, 5, 4].as_slice());
 }
 
 #[test]
 fn strings_are_shown(rt: HostRuntime) -> Result<(), Fail> {
     let value = OctetString::from_static(&[0x61, 0x00]);
     let shown = format!(in rt.alloc(); "{value:?}")?;
-    assert_eq!(rt; shown.as_str(), "OctetString { octets: b\"a\\0\" }");
+    assert_same(&rt, &shown.as_str(), &"OctetString { octets: b\"a\\0\" }");
     Ok(())
 }
 
@@ -243,7 +254,7 @@ fn wrong_lengths_are_shown(rt: HostRuntime) -> Result<(), Fail> {
         expected: 4,
     };
     let shown = format!(in rt.alloc(); "{wrong}")?;
-    assert_eq!(rt; shown.as_str(), "3 octets in place of 4");
+    assert_same(&rt, &shown.as_str(), &"3 octets in place of 4");
     Ok(())
 }
 
@@ -289,7 +300,7 @@ fn copies(rt: &impl Abort, alloc: Global) -> bool {
     granted &= is_granted(rt, is_listed(alloc, &value));
     granted &= is_granted(rt, is_copied_of_a_clone(alloc, &value));
     granted &= is_granted(rt, is_same_through_bytes(&value));
-    assert_eq!(rt; value.as_slice(), OCTETS.as_slice());
+    assert_same(rt, &value.as_slice(), &OCTETS.as_slice());
     granted & is_granted(rt, is_listed_of_three(alloc))
 }
 
@@ -308,7 +319,7 @@ fn is_moved(rt: &impl Abort, alloc: Global, vector: Vec<u8>) -> bool {
     match OctetString::from_vec(vector) {
         Ok(moved) => is_granted(rt, is_given_up(alloc, moved)),
         Err(refused) => {
-            assert_eq!(rt; refused.value.as_slice(), OCTETS.as_slice());
+            assert_same(rt, &refused.value.as_slice(), &OCTETS.as_slice());
             false
         }
     }
@@ -359,5 +370,5 @@ fn write_last(value: &mut FixedOctetString<3>, octet: u8)
 fn writes_through_a_slice_stay(rt: HostRuntime) {
     let mut value = FixedOctetString::new([1, 2, 3]);
     write_last(&mut value, 9);
-    assert_eq!(rt; value.as_slice(), [1, 2, 9].as_slice());
+    assert_same(&rt, &value.as_slice(), &[1, 2, 9].as_slice());
 }

@@ -1,6 +1,7 @@
 //! Rows of widths and codes, what errors tell, and what is answered where a request for memory is refused.
 ghost use Rattle.std.specs.Prelude.{◌<◌, ◌≤◌};
 
+use crate::assertions::assert_same;
 use asn1_values::{
     CharacterAlphabet, InvalidBmpString, InvalidGeneralString, InvalidGraphicString,
     InvalidIA5String, InvalidNumericString, InvalidPrintableString, InvalidRestrictedString,
@@ -108,7 +109,7 @@ fn widths(rt: HostRuntime) -> Result<(), Fail> {
         (&NUMERIC, true, 4),
     ];
     for (characters, raised, width) in rows.iter() {
-        assert_eq!(rt; width_of(rt.alloc(), characters, *raised)?, *width);
+        assert_same(&rt, &width_of(rt.alloc(), characters, *raised)?, &*width);
     }
     Ok(())
 }
@@ -226,7 +227,7 @@ fn widths_are_raised(rt: HostRuntime) -> Result<(), Fail> {
         (257, 9, 16),
     ] {
         assert!(rt; has_places(rt.alloc(), count, plain)?);
-        assert_eq!(rt; raised_width(rt.alloc(), count)?, raised);
+        assert_same(&rt, &raised_width(rt.alloc(), count)?, &raised);
     }
     Ok(())
 }
@@ -316,9 +317,10 @@ fn errors_are_told(rt: HostRuntime) -> Result<(), Fail> {
 
 #[test]
 fn errors_are_compared(rt: HostRuntime) {
-    assert_eq!(rt;
-        InvalidBmpString { character: 65536 },
-        InvalidBmpString { character: 65536 }
+    assert_same(
+        &rt,
+        &InvalidBmpString { character: 65536 },
+        &InvalidBmpString { character: 65536 },
     );
     assert_ne!(rt;
         InvalidPrintableString { character: 42 },

@@ -1,4 +1,5 @@
 //! What no clause says: that each call can succeed, what is shown, and what stands after a refused request for memory.
+use crate::assertions::assert_same;
 use asn1_values::{
     BitString, CharacterKind, General, GeneralString, Graphic, GraphicString, Ia5, Ia5String,
     InvalidRestrictedString, Numeric, NumericString, OctetString, PermittedAlphabetError,
@@ -260,7 +261,7 @@ fn bits_as_characters(rt: HostRuntime) -> Result<(), Fail> {
     let partly = made_of_zeros(rt.alloc(), 9);
     assert!(rt; matches!(partly, Err(PermittedAlphabetError::InvalidData)));
     let whole = made_of_zeros(rt.alloc(), 16)?;
-    assert_eq!(rt; whole.as_bytes(), [0, 0].as_slice());
+    assert_same(&rt, &whole.as_bytes(), &[0, 0].as_slice());
     Ok(())
 }
 
@@ -284,7 +285,7 @@ fn takes_digits(string: &mut NumericString) -> bool {
 fn pushed_characters(rt: HostRuntime) {
     let mut string = NumericString::new(rt.alloc());
     assert!(rt; takes_digits(&mut string));
-    assert_eq!(rt; string.as_bytes(), b"12".as_slice());
+    assert_same(&rt, &string.as_bytes(), &b"12".as_slice());
 }
 
 /// The characters of a string that is asked for them one by one.
@@ -337,7 +338,7 @@ fn characters_of_strings(rt: HostRuntime) -> Result<(), Fail> {
     assert!(rt; has_two_characters(&string));
     assert!(rt; lists(rt.alloc(), &string, &[65, 98])?);
     assert!(rt; gives(rt.alloc(), &string, b"Ab")?);
-    assert_eq!(rt; string.into_vec().as_slice(), b"Ab".as_slice());
+    assert_same(&rt, &string.into_vec().as_slice(), &b"Ab".as_slice());
     Ok(())
 }
 
@@ -357,8 +358,8 @@ fn roomy(alloc: Global, count: usize) -> Result<GeneralString, AllocError> {
 #[test]
 fn empty_strings(rt: HostRuntime) -> Result<(), Fail> {
     let empty: GeneralString = StaticPermittedAlphabet::empty(rt.alloc());
-    assert_eq!(rt; empty.char_count(), 0);
-    assert_eq!(rt; empty.chars().next(), None);
+    assert_same(&rt, &empty.char_count(), &0);
+    assert_same(&rt, &empty.chars().next(), &None);
     assert!(rt; made_with::<GeneralString>(rt.alloc()) == empty);
     assert!(rt; roomy(rt.alloc(), 4)?.is_empty());
     Ok(())
@@ -431,9 +432,9 @@ fn is_shown(alloc: Global, string: &VisibleString, wanted: &str) -> Result<bool,
 #[test]
 fn texts_of_strings(rt: HostRuntime) -> Result<(), Fail> {
     let string = jo::<Visible>(rt.alloc())?;
-    assert_eq!(rt; string.as_str(), "Jo");
+    assert_same(&rt, &string.as_str(), &"Jo");
     assert!(rt; is_shown(rt.alloc(), &string, "Jo   Jo VisibleString([74, 111])")?);
-    assert_eq!(rt; String::from(string).as_str(), "Jo");
+    assert_same(&rt, &String::from(string).as_str(), &"Jo");
     Ok(())
 }
 
@@ -454,7 +455,7 @@ fn octets_at_last(alloc: Global) -> Result<OctetString, PermittedAlphabetError> 
 #[test]
 fn octets_of_strings(rt: HostRuntime) -> Result<(), Fail> {
     let octets = octets_at_last(rt.alloc())?;
-    assert_eq!(rt; octets.as_slice(), b"Jo".as_slice());
+    assert_same(&rt, &octets.as_slice(), &b"Jo".as_slice());
     Ok(())
 }
 
@@ -521,11 +522,11 @@ fn appends(rt: &impl Abort, string: &mut NumericString) -> bool {
     for count in 0..20 {
         if string.push_char(0x31).is_err() {
             granted = false;
-            assert_eq!(rt; string.len(), count);
+            assert_same(rt, &string.len(), &count);
             assert!(rt; string.push_char(0x31).is_ok());
         }
     }
-    assert_eq!(rt; string.as_bytes(), b"11111111111111111111".as_slice());
+    assert_same(rt, &string.as_bytes(), &b"11111111111111111111".as_slice());
     granted
 }
 
@@ -539,7 +540,7 @@ fn clones(rt: &impl Abort, string: &NumericString) -> bool {
 fn copies_octets(rt: &impl Abort, alloc: Global, string: &NumericString) -> bool {
     match string.to_bytes(alloc) {
         Ok(octets) => {
-            assert_eq!(rt; octets.as_slice(), string.as_bytes());
+            assert_same(rt, &octets.as_slice(), &string.as_bytes());
             true
         }
         Err(AllocError) => false,
@@ -564,7 +565,7 @@ fn gives_no_octets(rt: &impl Abort, alloc: Global) -> bool {
 fn gives_octets(rt: &impl Abort, alloc: Global) -> bool {
     match octets_of(alloc) {
         Ok(octets) => {
-            assert_eq!(rt; octets.as_slice(), b"Jo".as_slice());
+            assert_same(rt, &octets.as_slice(), &b"Jo".as_slice());
             true
         }
         Err(error) => {

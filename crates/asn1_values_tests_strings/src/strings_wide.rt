@@ -1,4 +1,5 @@
 //! What no clause says: that each call can succeed, what is shown, and what stands after a refused request for memory.
+use crate::assertions::assert_same;
 use asn1_values::{
     BitString, BmpString, InvalidRestrictedString, OctetString, PermittedAlphabetError,
     StaticPermittedAlphabet,
@@ -129,7 +130,7 @@ fn gives(alloc: Global, string: &BmpString, wanted: &[u8]) -> Result<bool, Alloc
 fn strings_of_octets(rt: HostRuntime) -> Result<(), Fail> {
     let octets = [0x00, 0x41, 0x20, 0xAC];
     let string = made(rt.alloc(), Source::Octets(&octets))?;
-    assert_eq!(rt; string.as_units(), [0x41, 0x20AC].as_slice());
+    assert_same(&rt, &string.as_units(), &[0x41, 0x20AC].as_slice());
     assert!(rt; gives(rt.alloc(), &string, &octets)?);
     assert!(rt; is_no_data(rt.alloc(), Source::Octets(&octets[..3])));
     Ok(())
@@ -187,7 +188,7 @@ fn bits_as_characters(rt: HostRuntime) -> Result<(), Fail> {
     let partly = made_of_zeros(rt.alloc(), 24);
     assert!(rt; matches!(partly, Err(PermittedAlphabetError::InvalidData)));
     let whole = made_of_zeros(rt.alloc(), 16)?;
-    assert_eq!(rt; whole.as_units(), [0].as_slice());
+    assert_same(&rt, &whole.as_units(), &[0].as_slice());
     Ok(())
 }
 
@@ -213,7 +214,7 @@ fn refuses(string: &mut BmpString, character: u32) -> bool {
 fn pushed_characters(rt: HostRuntime) {
     let mut string = BmpString::new(rt.alloc());
     assert!(rt; takes_two_octets(&mut string));
-    assert_eq!(rt; string.as_units(), [0xFFFF, 0].as_slice());
+    assert_same(&rt, &string.as_units(), &[0xFFFF, 0].as_slice());
     assert!(rt; refuses(&mut string, 0x10000));
     assert!(rt; refuses(&mut string, u32::MAX));
 }
@@ -231,9 +232,13 @@ fn has_two_characters(string: &BmpString) -> bool {
 fn characters_of_strings(rt: HostRuntime) -> Result<(), Fail> {
     let string = made(rt.alloc(), Source::Text("A\u{20AC}"))?;
     assert!(rt; has_two_characters(&string));
-    assert_eq!(rt; string.char_count(), 2);
-    assert_eq!(rt; string.char_at(1), 0x20AC);
-    assert_eq!(rt; string.into_vec().as_slice(), [0x41, 0x20AC].as_slice());
+    assert!(rt; string.char_count() == 2);
+    assert_same(&rt, &string.char_at(1), &0x20AC);
+    assert_same(
+        &rt,
+        &string.into_vec().as_slice(),
+        &[0x41, 0x20AC].as_slice(),
+    );
     Ok(())
 }
 
@@ -310,7 +315,11 @@ fn shown(alloc: Global, string: &BmpString) -> Result<String, AllocError> {
 #[test]
 fn strings_are_shown(rt: HostRuntime) -> Result<(), Fail> {
     let string = made(rt.alloc(), Source::Text("A"))?;
-    assert_eq!(rt; shown(rt.alloc(), &string)?.as_str(), "BMPString([65])");
+    assert_same(
+        &rt,
+        &shown(rt.alloc(), &string)?.as_str(),
+        &"BMPString([65])",
+    );
     Ok(())
 }
 
@@ -376,11 +385,11 @@ fn appends(rt: &impl Abort, string: &mut BmpString) -> bool {
     for count in 0..20 {
         if string.push_char(0x20AC).is_err() {
             granted = false;
-            assert_eq!(rt; string.len(), count);
+            assert_same(rt, &string.len(), &count);
             assert!(rt; string.push_char(0x20AC).is_ok());
         }
     }
-    assert_eq!(rt; string.as_units(), [0x20AC; 20].as_slice());
+    assert_same(rt, &string.as_units(), &[0x20AC; 20].as_slice());
     granted
 }
 
@@ -394,7 +403,7 @@ fn clones(rt: &impl Abort, string: &BmpString) -> bool {
 fn copies_octets(rt: &impl Abort, alloc: Global, string: &BmpString) -> bool {
     match string.to_bytes(alloc) {
         Ok(octets) => {
-            assert_eq!(rt; octets.len(), 40);
+            assert_same(rt, &octets.len(), &40);
             true
         }
         Err(AllocError) => false,

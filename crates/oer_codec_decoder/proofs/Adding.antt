@@ -3,8 +3,8 @@ use Rattle.std.proofs.Common.{◌≡◌, ℕ, zero, suc, ◌+◌, min, Bool, tru
 use Rattle.asn1_model.specs.Oer
 use Rattle.asn1_schema_faults.specs.declared.DecodeError.{DecodeError}
 use Rattle.oer_codec_reading.specs.Fronts.{Misses}
-use Rattle.oer_codec_reading_scopes.specs.Skipping.{SkipsNone}
-use Rattle.oer_codec_reading_scopes.proofs.Skipping.{missed, as_stands}
+use Rattle.oer_codec_reading.specs.Skipping.{SkipsNone}
+use Rattle.oer_codec_reading.proofs.Skipping.{missed, as_stands}
 use Rattle.oer_codec_fronts.specs.Takes.{Scope, added, State, first_bits, Opens, NextAddition}
 use Rattle.oer_codec_decoder.specs.Refusals.{NoAdditions, NotFinished, NotOpened}
 use Rattle.oer_codec_decoder.specs.Scopes.{NextPresent}

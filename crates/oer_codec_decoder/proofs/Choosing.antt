@@ -9,9 +9,9 @@ use Rattle.oer_codec_fronts.specs.Takes.{IsPlace, Enters}
 use Rattle.oer_codec_fronts.proofs.Next.{same_fronts, same_tag}
 use Rattle.oer_codec_reading.specs.Fronts.{Stands, Misses}
 use Rattle.oer_codec_reading.proofs.Fronts.{if_stands}
-use Rattle.oer_codec_reading_scopes.proofs.Skipping.{missed, as_front, as_stands}
-use Rattle.oer_codec_reading_tags.specs.Tags.{is_in_32_bits, tag_in}
-use Rattle.oer_codec_reading_tags.proofs.Places.{place_fits}
+use Rattle.oer_codec_reading.proofs.Skipping.{missed, as_front, as_stands}
+use Rattle.oer_codec_reading.specs.Tags.{is_in_32_bits, tag_in}
+use Rattle.oer_codec_reading.proofs.Places.{place_fits}
 use Rattle.oer_codec_decoder.specs.Refusals.{NoTag, NoEntry, NoChoice}
 use Rattle.oer_codec_decoder.proofs.Adding.{not_opened}
 

@@ -8,8 +8,7 @@ ghost use Rattle.oer_codec_decoder.specs.Scopes.{bits_due};
 use crate::frames::first_bit;
 use asn1_schema_faults::DecodeError;
 use asn1_values_bits::{BitReader, BitStr};
-use oer_codec_reading::{Cursor, EncodingRules};
-use oer_codec_reading_scopes::read_bitmap;
+use oer_codec_reading::{Cursor, EncodingRules, read_bitmap};
 
 /// The additions of a sequence that are still to come (X.696 16.4).
 #[derive(Drop)]

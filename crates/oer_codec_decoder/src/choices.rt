@@ -11,9 +11,9 @@ use crate::frames::Frame;
 use asn1_schema_faults::DecodeError;
 use asn1_schema_tags::Tag;
 use asn1_schema_variants::Chosen;
-use oer_codec_reading::{Cursor, EncodingRules};
-use oer_codec_reading_scopes::enter_open_type;
-use oer_codec_reading_tags::{find_tag, read_tag, visit_numbers};
+use oer_codec_reading::{
+    Cursor, EncodingRules, enter_open_type, find_tag, read_tag, visit_numbers,
+};
 
 /// Reads the tag of an alternative, which has a place in one of these tables.
 #[inline(always)]

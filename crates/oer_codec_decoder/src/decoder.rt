@@ -28,10 +28,9 @@ use oer_codec_reading::identifiers::read_object_identifier;
 use oer_codec_reading::integers::read_integer;
 use oer_codec_reading::octet_strings::read_octet_string;
 use oer_codec_reading::units::{read_boolean, read_null};
-use oer_codec_reading::{Cursor, EncodingRules};
-use oer_codec_reading_scopes::enter_open_type;
-use oer_codec_reading_strings::{read_characters, read_utf8_string};
-use oer_codec_reading_tags::read_enumerated;
+use oer_codec_reading::{
+    Cursor, EncodingRules, enter_open_type, read_characters, read_enumerated, read_utf8_string,
+};
 use std::alloc::Global;
 use std::marker::Model;
 

@@ -8,8 +8,7 @@ ghost use Rattle.oer_codec_decoder.specs.Scopes.{bits_due, scope_of};
 use crate::additions::Additions;
 use crate::frames::Frame;
 use asn1_schema_faults::DecodeError;
-use oer_codec_reading::{Cursor, EncodingRules};
-use oer_codec_reading_scopes::{leave_open_type, skip_additions};
+use oer_codec_reading::{Cursor, EncodingRules, leave_open_type, skip_additions};
 
 /// Goes on where nothing is still to come.
 #[inline(always)]

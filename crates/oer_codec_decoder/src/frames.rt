@@ -9,8 +9,7 @@ use crate::additions::Additions;
 use crate::endings::finish;
 use asn1_schema_faults::DecodeError;
 use asn1_values_bits::BitReader;
-use oer_codec_reading::{Cursor, EncodingRules};
-use oer_codec_reading_scopes::leave_open_type;
+use oer_codec_reading::{Cursor, EncodingRules, leave_open_type};
 use std::alloc::{AllocError, Global};
 use std::marker::Model;
 

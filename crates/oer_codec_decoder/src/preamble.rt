@@ -7,8 +7,7 @@ ghost use Rattle.oer_codec_decoder.specs.Scopes.{scope_of};
 use crate::frames::{Frame, first_bit};
 use asn1_schema_faults::DecodeError;
 use asn1_values_bits::BitReader;
-use oer_codec_reading::Cursor;
-use oer_codec_reading_scopes::are_zero;
+use oer_codec_reading::{Cursor, are_zero};
 
 /// How many octets the preamble has, whose bits fill whole octets.
 #[inline(always)]

@@ -5,11 +5,11 @@ use Rattle.asn1_schema_faults.specs.declared.EncodeError.TheVariants.{ValueConst
 use Rattle.asn1_schema_encode.specs.Writes.{Refused}
 use Rattle.asn1_schema_presented.specs.Records.{Record}
 use Rattle.oer_codec_steps.specs.Steps.{State, run, adds_text}
-use Rattle.oer_codec_encoder_frames.specs.declared.frame.Frame.{Frame}
-use Rattle.oer_codec_encoder_frames.specs.Holding.{shown, Holds, AreSound, Does, Cannot}
+use Rattle.oer_codec_encoder.specs.declared.frame.Frame.{Frame}
+use Rattle.oer_codec_encoder.specs.Holding.{shown, Holds, AreSound, Does, Cannot}
 use Rattle.oer_codec_encoder.specs.Stepping.{Written, Puts}
 use Rattle.oer_codec_writing.specs.Writing.{Adds, Refuses}
-use Rattle.oer_codec_encoder_frames.proofs.Scopes.{shown_is, appended}
+use Rattle.oer_codec_encoder.proofs.Scopes.{shown_is, appended}
 
 -- what the octets and the frames stand for
 abbrev pub now : List Frame → List ℕ → State

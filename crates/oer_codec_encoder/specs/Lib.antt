@@ -1,2 +1,5 @@
 pub mod Stepping
 pub mod Laws
+pub mod Frames
+pub mod Holding
+pub mod Slots

@@ -5,6 +5,10 @@ ghost use Rattle.asn1_schema_presented.specs.Records.{one_of};
 ghost use Rattle.oer_codec_encoder.specs.Stepping.{Puts};
 
 use crate::options::EncoderOptions;
+use crate::{
+    Frames, begin_additions, begin_bag, begin_choice, begin_components, begin_members,
+    end_addition, end_scope, put_addition, put_mark,
+};
 use asn1_schema_bounds::Bounded;
 use asn1_schema_constraints::Constraints;
 use asn1_schema_faults::{CodecKind, EncodeError};
@@ -14,10 +18,6 @@ use asn1_values_alphabets::StaticPermittedAlphabet;
 use asn1_values_bits::BitStr;
 use asn1_values_identifiers::Oid;
 use asn1_values_integer_types::IntegerType;
-use oer_codec_encoder_frames::{
-    Frames, begin_additions, begin_bag, begin_choice, begin_components, begin_members,
-    end_addition, end_scope, put_addition, put_mark,
-};
 use oer_codec_writing::{
     push_bit_string, push_boolean, push_characters, push_enumerated, push_identifier, push_integer,
     push_octet_string, push_utf8,
@@ -45,7 +45,7 @@ impl<'buffer> Model for Encoder<'buffer> {
 
     ghost Value = { Written };
 
-    ghost use Rattle.oer_codec_encoder_frames.specs.Holding.{shown, Holds};
+    ghost use Rattle.oer_codec_encoder.specs.Holding.{shown, Holds};
 
     ghost view = { λ e. record { state = shown e.frames e.output.now.items; failed = e.failed } };
 

@@ -9,3 +9,13 @@ pub mod IntegerFronts
 pub mod BitFronts
 pub mod BitStringFronts
 pub mod IdentifierFronts
+pub mod TextFronts
+pub mod Spelled
+pub mod CharacterFronts
+pub mod Groups
+pub mod TagFronts
+pub mod ItemFronts
+pub mod Enumerations
+pub mod Places
+pub mod BitmapFronts
+pub mod Skipping

@@ -1,4 +1,5 @@
 //! Object identifiers.
+use crate::assertions::assert_same;
 use asn1_schema_faults::DecodeError;
 use oer_codec_reading::identifiers::read_object_identifier;
 use oer_codec_reading::{Cursor, EncodingRules};
@@ -8,8 +9,8 @@ use std::test::Fail;
 fn an_identifier_is_its_contents_behind_their_number(rt: HostRuntime) -> Result<(), Fail> {
     let mut cursor = Cursor::new(&[0x03, 0x2A, 0x99, 0x79, 0x00]);
     let identifier = read_object_identifier(rt.alloc(), &mut cursor, EncodingRules::Coer)?;
-    assert_eq!(rt; identifier.as_slice(), [1u32, 2, 3321].as_slice());
-    assert_eq!(rt; cursor.len(), 1);
+    assert_same(&rt, &identifier.as_slice(), &[1u32, 2, 3321].as_slice());
+    assert_same(&rt, &cursor.len(), &1);
     Ok(())
 }
 

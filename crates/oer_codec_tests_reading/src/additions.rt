@@ -1,4 +1,5 @@
 //! Additions, known and unknown.
+use crate::assertions::assert_same;
 use asn1_schema_decode::{Decode, Decoder as Finding};
 use asn1_schema_faults::DecodeError;
 use asn1_schema_tags::Tag;
@@ -32,52 +33,58 @@ fn addition(
 #[test]
 fn an_addition_is_an_open_type(rt: HostRuntime) {
     let input = [0x80, 0xFF, 0x02, 0x07, 0x80, 0x01, 0xFF];
-    assert_eq!(rt;
-        addition(rt.alloc(), &input, DecoderOptions::coer()),
-        Ok(Some(true))
+    assert_same(
+        &rt,
+        &addition(rt.alloc(), &input, DecoderOptions::coer()),
+        &Ok(Some(true)),
     );
 }
 
 #[test]
 fn without_the_mark_no_addition_is_there(rt: HostRuntime) {
-    assert_eq!(rt;
-        addition(rt.alloc(), &[0x00, 0xFF], DecoderOptions::coer()),
-        Ok(None)
+    assert_same(
+        &rt,
+        &addition(rt.alloc(), &[0x00, 0xFF], DecoderOptions::coer()),
+        &Ok(None),
     );
 }
 
 #[test]
 fn a_bitmap_has_no_bit_set(rt: HostRuntime) {
     let input = [0x80, 0xFF, 0x02, 0x07, 0x00];
-    assert_eq!(rt;
-        addition(rt.alloc(), &input, DecoderOptions::coer()),
-        Ok(None)
+    assert_same(
+        &rt,
+        &addition(rt.alloc(), &input, DecoderOptions::coer()),
+        &Ok(None),
     );
 }
 
 #[test]
 fn a_bitmap_has_no_bits(rt: HostRuntime) {
     let input = [0x80, 0xFF, 0x01, 0x00];
-    assert_eq!(rt;
-        addition(rt.alloc(), &input, DecoderOptions::coer()),
-        Ok(None)
+    assert_same(
+        &rt,
+        &addition(rt.alloc(), &input, DecoderOptions::coer()),
+        &Ok(None),
     );
 }
 
 #[test]
 fn a_bitmap_has_octets(rt: HostRuntime) {
-    assert_eq!(rt;
-        addition(rt.alloc(), &[0x80, 0xFF, 0x00], DecoderOptions::oer()),
-        Err(DecodeError::InvalidExtensionHeader)
+    assert_same(
+        &rt,
+        &addition(rt.alloc(), &[0x80, 0xFF, 0x00], DecoderOptions::oer()),
+        &Err(DecodeError::InvalidExtensionHeader),
     );
 }
 
 #[test]
 fn a_bitmap_has_at_most_seven_unused_bits(rt: HostRuntime) {
     let input = [0x80, 0xFF, 0x02, 0x08, 0x80, 0x01, 0xFF];
-    assert_eq!(rt;
-        addition(rt.alloc(), &input, DecoderOptions::coer()),
-        Err(DecodeError::InvalidExtensionHeader)
+    assert_same(
+        &rt,
+        &addition(rt.alloc(), &input, DecoderOptions::coer()),
+        &Err(DecodeError::InvalidExtensionHeader),
     );
 }
 
@@ -90,63 +97,70 @@ fn a_wide_bitmap_is_taken(rt: HostRuntime) {
     input[4] = 0x80;
     input[36] = 0x01;
     input[37] = 0xFF;
-    assert_eq!(rt;
-        addition(rt.alloc(), &input, DecoderOptions::coer()),
-        Ok(Some(true))
+    assert_same(
+        &rt,
+        &addition(rt.alloc(), &input, DecoderOptions::coer()),
+        &Ok(Some(true)),
     );
 }
 
 #[test]
 fn unknown_additions_are_passed_over(rt: HostRuntime) {
     let input = [0x80, 0xFF, 0x02, 0x06, 0xC0, 0x01, 0xFF, 0x01, 0xAA];
-    assert_eq!(rt;
-        addition(rt.alloc(), &input, DecoderOptions::coer()),
-        Ok(Some(true))
+    assert_same(
+        &rt,
+        &addition(rt.alloc(), &input, DecoderOptions::coer()),
+        &Ok(Some(true)),
     );
 }
 
 #[test]
 fn an_unknown_addition_ends_early(rt: HostRuntime) {
     let input = [0x80, 0xFF, 0x02, 0x06, 0xC0, 0x01, 0xFF, 0x01];
-    assert_eq!(rt;
-        addition(rt.alloc(), &input, DecoderOptions::coer()),
-        Err(DecodeError::Incomplete)
+    assert_same(
+        &rt,
+        &addition(rt.alloc(), &input, DecoderOptions::coer()),
+        &Err(DecodeError::Incomplete),
     );
 }
 
 #[test]
 fn unused_bits_of_a_bitmap_are_taken_in_the_basic_rules(rt: HostRuntime) {
     let input = [0x80, 0xFF, 0x02, 0x07, 0xFF, 0x01, 0xFF];
-    assert_eq!(rt;
-        addition(rt.alloc(), &input, DecoderOptions::oer()),
-        Ok(Some(true))
+    assert_same(
+        &rt,
+        &addition(rt.alloc(), &input, DecoderOptions::oer()),
+        &Ok(Some(true)),
     );
 }
 
 #[test]
 fn unused_bits_of_a_bitmap_are_refused_in_the_canonical_rules(rt: HostRuntime) {
     let input = [0x80, 0xFF, 0x02, 0x07, 0xFF, 0x01, 0xFF];
-    assert_eq!(rt;
-        addition(rt.alloc(), &input, DecoderOptions::coer()),
-        Err(DecodeError::NotValidCanonicalEncoding)
+    assert_same(
+        &rt,
+        &addition(rt.alloc(), &input, DecoderOptions::coer()),
+        &Err(DecodeError::NotValidCanonicalEncoding),
     );
 }
 
 #[test]
 fn octets_behind_an_addition_are_taken_in_the_basic_rules(rt: HostRuntime) {
     let input = [0x80, 0xFF, 0x02, 0x07, 0x80, 0x02, 0xFF, 0xAA];
-    assert_eq!(rt;
-        addition(rt.alloc(), &input, DecoderOptions::oer()),
-        Ok(Some(true))
+    assert_same(
+        &rt,
+        &addition(rt.alloc(), &input, DecoderOptions::oer()),
+        &Ok(Some(true)),
     );
 }
 
 #[test]
 fn octets_behind_an_addition_are_refused_in_the_canonical_rules(rt: HostRuntime) {
     let input = [0x80, 0xFF, 0x02, 0x07, 0x80, 0x02, 0xFF, 0xAA];
-    assert_eq!(rt;
-        addition(rt.alloc(), &input, DecoderOptions::coer()),
-        Err(DecodeError::SurplusOctets)
+    assert_same(
+        &rt,
+        &addition(rt.alloc(), &input, DecoderOptions::coer()),
+        &Err(DecodeError::SurplusOctets),
     );
 }
 

@@ -1,4 +1,5 @@
 //! Sets, bags and groups.
+use crate::assertions::assert_same;
 use asn1_schema_bounds::Bounded;
 use asn1_schema_constraints::Constraints;
 use asn1_schema_decode::Decoder as Finding;
@@ -60,26 +61,32 @@ fn empty_group(alloc: Global, options: DecoderOptions) -> Result<(), DecodeError
 
 #[test]
 fn members_of_a_bag_come_in_any_order(rt: HostRuntime) {
-    assert_eq!(rt;
-        members(rt.alloc(), &[0x01, 0x02, 0xFF, 0x00]),
-        Ok((true, false))
+    assert_same(
+        &rt,
+        &members(rt.alloc(), &[0x01, 0x02, 0xFF, 0x00]),
+        &Ok((true, false)),
     );
 }
 
 #[test]
 fn a_component_of_a_set_is_there(rt: HostRuntime) {
-    assert_eq!(rt; component(rt.alloc(), &[0x80, 0xFF]), Ok(true));
+    assert_same(&rt, &component(rt.alloc(), &[0x80, 0xFF]), &Ok(true));
 }
 
 #[test]
 fn an_empty_group_is_taken_in_the_basic_rules(rt: HostRuntime) {
-    assert_eq!(rt; empty_group(rt.alloc(), DecoderOptions::oer()), Ok(()));
+    assert_same(
+        &rt,
+        &empty_group(rt.alloc(), DecoderOptions::oer()),
+        &Ok(()),
+    );
 }
 
 #[test]
 fn an_empty_group_is_refused_in_the_canonical_rules(rt: HostRuntime) {
-    assert_eq!(rt;
-        empty_group(rt.alloc(), DecoderOptions::coer()),
-        Err(DecodeError::NotValidCanonicalEncoding)
+    assert_same(
+        &rt,
+        &empty_group(rt.alloc(), DecoderOptions::coer()),
+        &Err(DecodeError::NotValidCanonicalEncoding),
     );
 }

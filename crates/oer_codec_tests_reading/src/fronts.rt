@@ -1,4 +1,5 @@
 //! What stands in front of octets, by both sets of rules.
+use crate::assertions::assert_same;
 use crate::measure::{Measure, Reading};
 use asn1_schema_constraints::{Bounded, Constraint, Constraints, Extensible, Value};
 use asn1_schema_decode::Decode;
@@ -69,7 +70,7 @@ fn a_default_is_spelled_out_by_the_basic_rules_alone(rt: HostRuntime) -> Result<
     let input = [0x80, 0x01, 0x00];
     assert!(rt; is_bare_measure(alloc, &input, EncodingRules::Oer)?);
     let refused = is_bare_measure(alloc, &input, EncodingRules::Coer).err();
-    assert_eq!(rt; refused, Some(DecodeError::NotValidCanonicalEncoding));
+    assert_same(&rt, &refused, &Some(DecodeError::NotValidCanonicalEncoding));
     assert!(rt; is_bare_measure(alloc, &[0x00], EncodingRules::Coer)?);
     Ok(())
 }
@@ -87,7 +88,7 @@ fn a_sequence_stands_in_another(rt: HostRuntime) -> Result<(), Fail> {
     let reading = decode::<Reading>(rt.alloc(), &input, EncodingRules::Coer)?;
     assert!(rt; is_number(&reading.number, 5));
     assert!(rt; is_number(&reading.measure.offset, 7));
-    assert_eq!(rt; reading.measure.exact, Some(true));
+    assert_same(&rt, &reading.measure.exact, &Some(true));
     Ok(())
 }
 

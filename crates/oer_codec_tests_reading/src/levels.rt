@@ -1,4 +1,5 @@
 //! How many levels stand in one another.
+use crate::assertions::assert_same;
 use asn1_schema_bounds::Bounded;
 use asn1_schema_constraints::Constraints;
 use asn1_schema_decode::Decoder as Finding;
@@ -28,12 +29,17 @@ fn the_list_past_128_levels_is_refused(rt: HostRuntime) -> Result<(), Fail> {
     let input = [0x01; 258];
     let mut decoder = Decoder::new(rt.alloc(), &input, DecoderOptions::coer());
     assert!(rt; nest_lists(&mut decoder)?);
-    assert_eq!(rt; decoder.levels_left(), 0);
-    assert_eq!(rt;
-        begin_list(&mut decoder),
-        Err(DecodeError::ExceedsMaxParseDepth)
+    assert_same(&rt, &decoder.levels_left(), &0);
+    assert_same(
+        &rt,
+        &begin_list(&mut decoder),
+        &Err(DecodeError::ExceedsMaxParseDepth),
     );
-    assert_eq!(rt; decoder.get_further(), Err(DecodeError::AlreadyFailed));
+    assert_same(
+        &rt,
+        &decoder.get_further(),
+        &Err(DecodeError::AlreadyFailed),
+    );
     Ok(())
 }
 
@@ -49,9 +55,9 @@ fn nest_sequences(decoder: &mut Decoder<'_>) -> Result<(), DecodeError> {
 fn the_sequence_past_128_levels_is_refused(rt: HostRuntime) -> Result<(), Fail> {
     let mut decoder = Decoder::new(rt.alloc(), &[], DecoderOptions::coer());
     nest_sequences(&mut decoder)?;
-    assert_eq!(rt; decoder.levels_left(), 0);
+    assert_same(&rt, &decoder.levels_left(), &0);
     let past = decoder.begin_sequence(Tag::SEQUENCE, false, 0);
-    assert_eq!(rt; past, Err(DecodeError::ExceedsMaxParseDepth));
-    assert_eq!(rt; decoder.end(), Err(DecodeError::AlreadyFailed));
+    assert_same(&rt, &past, &Err(DecodeError::ExceedsMaxParseDepth));
+    assert_same(&rt, &decoder.end(), &Err(DecodeError::AlreadyFailed));
     Ok(())
 }

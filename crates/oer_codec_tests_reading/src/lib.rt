@@ -6,6 +6,8 @@ mod additions;
 #[cfg(test)]
 mod answer;
 #[cfg(test)]
+mod assertions;
+#[cfg(test)]
 mod bags;
 #[cfg(test)]
 mod choices;

@@ -1,8 +1,8 @@
 //! Tags in one octet and in more.
+use crate::assertions::assert_same;
 use asn1_schema_faults::DecodeError;
 use asn1_schema_tags::{Class, Tag};
-use oer_codec_reading::{Cursor, EncodingRules};
-use oer_codec_reading_tags::read_tag;
+use oer_codec_reading::{Cursor, EncodingRules, read_tag};
 
 /// The tag in front.
 fn tag(input: &[u8], rules: EncodingRules) -> Result<Tag, DecodeError> {
@@ -19,16 +19,21 @@ fn context(value: u32) -> Tag {
 
 #[test]
 fn one_octet_holds_a_number_below_63(rt: HostRuntime) {
-    assert_eq!(rt; tag(&[0x82], EncodingRules::Coer), Ok(context(2)));
-    assert_eq!(rt; tag(&[0x01], EncodingRules::Coer), Ok(Tag::BOOL));
+    assert_same(&rt, &tag(&[0x82], EncodingRules::Coer), &Ok(context(2)));
+    assert_same(&rt, &tag(&[0x01], EncodingRules::Coer), &Ok(Tag::BOOL));
 }
 
 #[test]
 fn long_tags_of_small_numbers_are_taken_in_the_basic_rules_alone(rt: HostRuntime) {
-    assert_eq!(rt; tag(&[0xBF, 0x05], EncodingRules::Oer), Ok(context(5)));
-    assert_eq!(rt;
-        tag(&[0xBF, 0x05], EncodingRules::Coer),
-        Err(DecodeError::NotValidCanonicalEncoding)
+    assert_same(
+        &rt,
+        &tag(&[0xBF, 0x05], EncodingRules::Oer),
+        &Ok(context(5)),
+    );
+    assert_same(
+        &rt,
+        &tag(&[0xBF, 0x05], EncodingRules::Coer),
+        &Err(DecodeError::NotValidCanonicalEncoding),
     );
 }
 
@@ -36,7 +41,7 @@ fn long_tags_of_small_numbers_are_taken_in_the_basic_rules_alone(rt: HostRuntime
 fn leading_zero_groups_and_numbers_past_32_bits_are_refused(rt: HostRuntime) {
     let refused = Err(DecodeError::InvalidTagNumberOnChoice);
     let past = [0xBF, 0x90, 0x80, 0x80, 0x80, 0x00];
-    assert_eq!(rt; tag(&past, EncodingRules::Coer), refused);
-    assert_eq!(rt; tag(&[0xBF, 0x80, 0x01], EncodingRules::Oer), refused);
-    assert_eq!(rt; tag(&[0xBF, 0x00], EncodingRules::Oer), refused);
+    assert_same(&rt, &tag(&past, EncodingRules::Coer), &refused);
+    assert_same(&rt, &tag(&[0xBF, 0x80, 0x01], EncodingRules::Oer), &refused);
+    assert_same(&rt, &tag(&[0xBF, 0x00], EncodingRules::Oer), &refused);
 }

@@ -1,4 +1,5 @@
 //! Lengths of one octet and of more (X.696 8.6), and counts of members (X.696 17).
+use crate::assertions::assert_same;
 use crate::rows::{both_refuse, is_read_by_basic_rules_alone, stands_as};
 use asn1_schema_faults::DecodeError;
 use asn1_values_numbers::Integer;
@@ -202,7 +203,11 @@ fn counts_of_members(rt: HostRuntime) -> Result<(), Fail> {
     let three = [0x01, 0x03, 0xFF, 0xFF, 0xFF];
     let many = DecodeError::SizeConstraintNotSatisfied;
     assert!(rt; both_refuse::<[bool; 2]>(alloc, &three, many));
-    assert_eq!(rt; count_of_nulls(alloc, &[0x03, 0x01, 0x00, 0x00])?, 65536);
+    assert_same(
+        &rt,
+        &count_of_nulls(alloc, &[0x03, 0x01, 0x00, 0x00])?,
+        &65536,
+    );
     assert!(rt; both_refuse::<Vec<bool>>(alloc, &[0x00], DecodeError::ZeroLengthOfLength));
     Ok(())
 }

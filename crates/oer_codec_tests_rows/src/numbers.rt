@@ -1,4 +1,5 @@
 //! Whole numbers (X.696 10).
+use crate::assertions::assert_same;
 use crate::rows::{
     both_refuse, both_refuse_under, is_read_by_basic_rules_alone, stands_as, stands_under,
 };
@@ -281,11 +282,15 @@ fn refusal_to_write(alloc: Global, low: i128, high: i128, number: u8) -> Option<
 fn numbers_outside_their_bounds_are_refused(rt: HostRuntime) {
     let alloc = rt.alloc();
     let outside = DecodeError::ValueConstraintNotSatisfied;
-    assert_eq!(rt; refusal(alloc, -5, 5, &[0x06]), Some(outside));
+    assert_same(&rt, &refusal(alloc, -5, 5, &[0x06]), &Some(outside));
     let mut past = [0x00u8; 18];
     past[0] = 0x11;
     past[1] = 0x01;
     assert!(rt; both_refuse::<u128>(alloc, &past, outside));
     let written = refusal_to_write(alloc, 5, 5, 6);
-    assert_eq!(rt; written, Some(EncodeError::ValueConstraintNotSatisfied));
+    assert_same(
+        &rt,
+        &written,
+        &Some(EncodeError::ValueConstraintNotSatisfied),
+    );
 }

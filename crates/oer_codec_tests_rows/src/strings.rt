@@ -1,4 +1,5 @@
 //! Strings of bits, of octets and of characters (X.696 13, 14, 27), and object identifiers (X.696 15).
+use crate::assertions::assert_same;
 use crate::rows::{
     both_refuse, both_refuse_under, is_read_by_basic_rules_alone, stands_as, stands_under,
 };
@@ -74,7 +75,11 @@ fn bits(rt: HostRuntime) -> Result<(), Fail> {
     assert!(rt; fourteen_stand_as(alloc, &[0x03, 0x02, 0xFF, 0x40])?);
     assert!(rt; fourteen_stand_under(alloc, size(14, 14), &[0xFF, 0x40])?);
     let refused = refusal_of_fourteen(alloc, size(15, 15))?;
-    assert_eq!(rt; refused, Some(EncodeError::SizeConstraintNotSatisfied));
+    assert_same(
+        &rt,
+        &refused,
+        &Some(EncodeError::SizeConstraintNotSatisfied),
+    );
     Ok(())
 }
 
@@ -139,9 +144,9 @@ fn octets(rt: HostRuntime) -> Result<(), Fail> {
     let octets = [0x05, 0x01, 0x02, 0x03, 0x04, 0x05];
     assert!(rt; string_stands_under(alloc, size(3, 6), &[1, 2, 3, 4, 5], &octets)?);
     let outside = Some(EncodeError::SizeConstraintNotSatisfied);
-    assert_eq!(rt; string_refusal(alloc, size(3, 6), &[1, 2])?, outside);
+    assert_same(&rt, &string_refusal(alloc, size(3, 6), &[1, 2])?, &outside);
     let seven = [1, 2, 3, 4, 5, 6, 7];
-    assert_eq!(rt; string_refusal(alloc, size(3, 6), &seven)?, outside);
+    assert_same(&rt, &string_refusal(alloc, size(3, 6), &seven)?, &outside);
     Ok(())
 }
 

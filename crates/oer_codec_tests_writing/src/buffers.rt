@@ -1,4 +1,5 @@
 //! Rows of the calls that write.
+use crate::assertions::assert_same;
 use asn1_schema_bounds::Bounded;
 use asn1_schema_constraints::{Constraint, Constraints, Extensible, Size, Value};
 use asn1_schema_encode::Encode;
@@ -77,9 +78,10 @@ fn a_number_outside_its_bounds_is_refused(rt: HostRuntime) {
 #[test]
 fn octets_within_their_size(rt: HostRuntime) -> Result<(), Fail> {
     let alloc = rt.alloc();
-    assert_eq!(rt;
-        three_to_six(alloc, &[1, 2, 3, 4, 5])?.as_slice(),
-        [0x05u8, 0x01, 0x02, 0x03, 0x04, 0x05].as_slice()
+    assert_same(
+        &rt,
+        &three_to_six(alloc, &[1, 2, 3, 4, 5])?.as_slice(),
+        &[0x05u8, 0x01, 0x02, 0x03, 0x04, 0x05].as_slice(),
     );
     assert!(rt; three_to_six(alloc, &[1, 2]).is_err());
     assert!(rt; three_to_six(alloc, &[1, 2, 3, 4, 5, 6, 7]).is_err());
@@ -91,6 +93,6 @@ fn truth_behind_an_octet(rt: HostRuntime) -> Result<(), Fail> {
     let alloc = rt.alloc();
     let mut buffer = vec![in alloc; 0xAAu8]?;
     encode_buf(alloc, &true, &mut buffer)?;
-    assert_eq!(rt; buffer.as_slice(), [0xAAu8, 0xFF].as_slice());
+    assert_same(&rt, &buffer.as_slice(), &[0xAAu8, 0xFF].as_slice());
     Ok(())
 }

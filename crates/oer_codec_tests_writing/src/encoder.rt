@@ -1,4 +1,5 @@
 //! Octets of X.696 and of the standard's examples, by values of real types.
+use crate::assertions::assert_same;
 use asn1_schema_bounds::Bounded;
 use asn1_schema_constraints::Constraints;
 use asn1_schema_encode::{Encode, Encoder as Writer};
@@ -116,8 +117,16 @@ fn components_that_may_be_absent(rt: HostRuntime) -> Result<(), EncodeError> {
     let mut encoder = Encoder::from_buffer(alloc, options, &mut buffer, &mut worker);
     write_optional_numbers(&mut encoder)?;
     assert!(rt; has_written(&mut encoder, &[0xC0, 0x01, 0x01, 0x01, 0x03]));
-    assert_eq!(rt; encoder.end(), Err(EncodeError::SizeConstraintNotSatisfied));
-    assert_eq!(rt; encoder.put_mark(true), Err(EncodeError::AlreadyFailed));
+    assert_same(
+        &rt,
+        &encoder.end(),
+        &Err(EncodeError::SizeConstraintNotSatisfied),
+    );
+    assert_same(
+        &rt,
+        &encoder.put_mark(true),
+        &Err(EncodeError::AlreadyFailed),
+    );
     Ok(())
 }
 
@@ -209,7 +218,7 @@ fn added_alternatives(rt: HostRuntime) -> Result<(), EncodeError> {
     write_added(&mut encoder)?;
     assert!(rt; has_written(&mut encoder, &[0x82, 0x03, 0x02, 0x01, 0x4D]));
     let refused = Err(EncodeError::ValueConstraintNotSatisfied);
-    assert_eq!(rt; begin_without_mark(&mut encoder), refused);
+    assert_same(&rt, &begin_without_mark(&mut encoder), &refused);
     Ok(())
 }
 
@@ -445,7 +454,7 @@ fn long_alternative(alloc: Global) -> Result<Vec<u8>, EncodeError> {
 #[test]
 fn long_open_types(rt: HostRuntime) -> Result<(), EncodeError> {
     let octets = long_alternative(rt.alloc())?;
-    assert_eq!(rt; octets.len(), 16388);
+    assert_same(&rt, &octets.len(), &16388);
     assert!(rt;
         octets
             .as_slice()
@@ -491,11 +500,12 @@ fn one_worker_for_two_messages(rt: HostRuntime) -> Result<(), EncodeError> {
     let room = worker.capacity();
     let mut buffer = Vec::new(alloc);
     write_both(alloc, &mut buffer, &mut worker)?;
-    assert_eq!(rt;
-        buffer.as_slice(),
-        [0x82u8, 0x04, 0x03, 0x01, 0x02, 0x03, 0x82, 0x02, 0x01, 0x04].as_slice()
+    assert_same(
+        &rt,
+        &buffer.as_slice(),
+        &[0x82u8, 0x04, 0x03, 0x01, 0x02, 0x03, 0x82, 0x02, 0x01, 0x04].as_slice(),
     );
-    assert_eq!(rt; worker.capacity(), room);
+    assert_same(&rt, &worker.capacity(), &room);
     Ok(())
 }
 
@@ -532,13 +542,14 @@ fn one_worker_for_nested_additions(rt: HostRuntime) -> Result<(), EncodeError> {
     let room = worker.capacity();
     let mut buffer = Vec::new(alloc);
     add_nested(alloc, &mut buffer, &mut worker)?;
-    assert_eq!(rt;
-        buffer.as_slice(),
-        [
-            0x80u8, 0x02, 0x07, 0x80, 0x06, 0x80, 0x02, 0x07, 0x80, 0x01, 0xFF
+    assert_same(
+        &rt,
+        &buffer.as_slice(),
+        &[
+            0x80u8, 0x02, 0x07, 0x80, 0x06, 0x80, 0x02, 0x07, 0x80, 0x01, 0xFF,
         ]
-        .as_slice()
+        .as_slice(),
     );
-    assert_eq!(rt; worker.capacity(), room);
+    assert_same(&rt, &worker.capacity(), &room);
     Ok(())
 }

@@ -1,7 +1,8 @@
 //! Octets of X.696 and of the standard's examples, by the writers of tags and of items.
+use crate::assertions::assert_same;
 use asn1_schema_faults::EncodeError;
 use asn1_schema_tags::{Class, Tag};
-use oer_codec_writing_tags::{push_item, push_tag};
+use oer_codec_writing::{push_item, push_tag};
 use std::alloc::Global;
 use std::test::Fail;
 
@@ -16,9 +17,10 @@ fn push_items(octets: &mut Vec<u8>) -> Result<(), EncodeError> {
 fn items(rt: HostRuntime) -> Result<(), Fail> {
     let mut octets = Vec::new(rt.alloc());
     push_items(&mut octets)?;
-    assert_eq!(rt;
-        octets.as_slice(),
-        [0x82u8, 0x03, 0xE8, 0x82, 0xFC, 0x18, 0x7F].as_slice()
+    assert_same(
+        &rt,
+        &octets.as_slice(),
+        &[0x82u8, 0x03, 0xE8, 0x82, 0xFC, 0x18, 0x7F].as_slice(),
     );
     Ok(())
 }

@@ -5,3 +5,4 @@ pub mod BitTexts
 pub mod DigitTexts
 pub mod CharacterTexts
 pub mod TextTexts
+pub mod TagTexts

@@ -6,9 +6,9 @@ ghost use Rattle.asn1_model.specs.Schema.{enumerated};
 ghost use Rattle.asn1_model.specs.Value.{item};
 ghost use Rattle.oer_codec_writing.specs.Writing.{Adds};
 
+use crate::push_item;
 use asn1_schema_faults::EncodeError;
 use asn1_schema_variants::Enumerated;
-use oer_codec_writing_tags::push_item;
 
 /// Adds an ENUMERATED by the number of its item (X.696 11).
 pub fn push_enumerated<T: Enumerated>(octets: &mut Vec<u8>, value: &T) -> Result<(), EncodeError>

@@ -1,4 +1,4 @@
-//! Writers of the scalar types of the octet encoding rules (X.696), and of lengths and counts.
+//! Writers of the scalar types, of tags and of the items of enumerations in the octet encoding rules (X.696).
 #![tactic(auto)]
 
 mod bits;
@@ -6,17 +6,21 @@ mod digits;
 mod forms;
 mod identifiers;
 mod integers;
+mod item_numbers;
 mod items;
 mod lengths;
 mod scalars;
 mod sizes;
 mod strings;
+mod tags;
 
 pub use bits::{push_bit_string, push_sized_bits};
 pub use identifiers::push_identifier;
 pub use integers::push_integer;
+pub use item_numbers::push_item;
 pub use items::push_enumerated;
 pub use lengths::{push_count, push_counted};
 pub use scalars::push_boolean;
 pub use sizes::push_octet_string;
 pub use strings::{push_characters, push_utf8};
+pub use tags::push_tag;

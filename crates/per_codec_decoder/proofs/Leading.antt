@@ -12,8 +12,8 @@ use Rattle.per_codec_reading.proofs.Fronts.{leads_join, leads_same}
 use Rattle.asn1_values_bits.proofs.Binary.{low_zeros, binary_zero}
 use Rattle.std.proofs.Math.Nat.{mod-eq_of_lt}
 use Rattle.per_codec_reading.specs.Fronts.{NoneStands}
-use Rattle.per_codec_reading_scopes.specs.Fields.{bits_form}
-use Rattle.per_codec_reading_scopes.proofs.FieldFronts.{bits_read}
+use Rattle.per_codec_reading_values.specs.Fields.{bits_form}
+use Rattle.per_codec_reading_values.proofs.FieldFronts.{bits_read}
 use Rattle.per_codec_decoder.specs.Held.{Held}
 use Rattle.per_codec_decoder.specs.Scopes.{IsClosed}
 use Rattle.per_codec_decoder.specs.Preamble.{HasPreamble}

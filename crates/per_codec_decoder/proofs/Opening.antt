@@ -28,11 +28,11 @@ use Rattle.asn1_laws_fronts_packed.proofs.Units.{small_alike}
 use Rattle.per_codec_fronts.proofs.Fronts.{split, if_out}
 use Rattle.per_codec_reading_units.specs.Sizes.{size_mark}
 use Rattle.per_codec_reading_units.proofs.SizedFronts.{mark_one}
-use Rattle.per_codec_reading_places.specs.Places.{place_form, added_form, root_form}
-use Rattle.per_codec_reading_places.proofs.PlaceFronts.{root_told, added_told, root_is, added_is}
-use Rattle.per_codec_reading_scopes.specs.Fields.{octets_form}
-use Rattle.per_codec_reading_scopes.specs.Stretches.{Stretched}
-use Rattle.per_codec_reading_scopes.proofs.FieldFronts.{octets_of, octets_read, units_told}
+use Rattle.per_codec_reading_values.specs.Places.{place_form, added_form, root_form}
+use Rattle.per_codec_reading_values.proofs.PlaceFronts.{root_told, added_told, root_is, added_is}
+use Rattle.per_codec_reading_values.specs.Fields.{octets_form}
+use Rattle.per_codec_reading_values.specs.Stretches.{Stretched}
+use Rattle.per_codec_reading_values.proofs.FieldFronts.{octets_of, octets_read, units_told}
 use Rattle.per_codec_decoder.proofs.Counting.{missed}
 use Rattle.per_codec_decoder.proofs.Finding.{begins}
 use Rattle.per_codec_decoder.proofs.Settling.{steps, moves_there}

@@ -2,7 +2,7 @@
 ghost use Rattle.std.specs.Prelude.{◌≡◌, IfSome, IfNone};
 ghost use Rattle.per_codec_decoder.specs.Additions.{TellsOf};
 
-use per_codec_reading_scopes::Stretch;
+use per_codec_reading_values::Stretch;
 
 /// The additions that are still to come.
 #[derive(Drop)]

@@ -34,12 +34,12 @@ use asn1_values_identifiers::ObjectIdentifier;
 use asn1_values_integer_types::IntegerType;
 use per_codec_reading::Variant;
 use per_codec_reading::units::{read_boolean, read_null};
-use per_codec_reading_characters::read_characters;
-use per_codec_reading_numbers::read_integer;
-use per_codec_reading_places::{read_item, read_place_of_alternative};
-use per_codec_reading_scopes::{Field, Stretch, skip_unknown};
 use per_codec_reading_units::{
     read_bit_string, read_object_identifier, read_octet_string_in, read_utf8_string,
+};
+use per_codec_reading_values::{
+    Field, Stretch, read_characters, read_integer, read_item, read_place_of_alternative,
+    skip_unknown,
 };
 use std::alloc::Global;
 use std::borrow::CowSlice;

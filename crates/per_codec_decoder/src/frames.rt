@@ -9,7 +9,7 @@ use crate::additions::Additions;
 use crate::members::Part;
 use asn1_schema_faults::DecodeError;
 use per_codec_reading::{Cursor, Variant};
-use per_codec_reading_scopes::Stretch;
+use per_codec_reading_values::Stretch;
 use std::alloc::{AllocError, Global};
 use std::marker::Model;
 

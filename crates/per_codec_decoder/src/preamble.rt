@@ -10,8 +10,8 @@ use crate::frames::Frame;
 use asn1_schema_faults::DecodeError;
 use asn1_values_bits::{BitReader, BitStr};
 use per_codec_reading::{Cursor, Variant};
-use per_codec_reading_scopes::{Field, Stretch};
 use per_codec_reading_units::RunBits;
+use per_codec_reading_values::{Field, Stretch};
 use std::alloc::Global;
 
 /// Takes one bit.

@@ -15,10 +15,10 @@ use Rattle.per_codec_packing.proofs.Adding.{added}
 use Rattle.per_codec_steps.specs.Steps.{State, run, adds_text, adds_form}
 use Rattle.per_codec_steps.specs.Ties.{octets_of}
 use Rattle.per_codec_writing.specs.Writing.{Adds, Refuses}
-use Rattle.per_codec_encoder_frames.specs.declared.frame.Frame.{Frame}
-use Rattle.per_codec_encoder_frames.specs.Holding.{shown, Holds, AreSound, Does, Cannot}
+use Rattle.per_codec_encoder.specs.declared.frame.Frame.{Frame}
+use Rattle.per_codec_encoder.specs.Holding.{shown, Holds, AreSound, Does, Cannot}
 use Rattle.per_codec_encoder.specs.Stepping.{Written, Puts}
-use Rattle.per_codec_encoder_frames.proofs.Scopes.{shown_is, appended, at_end, nothing_open}
+use Rattle.per_codec_encoder.proofs.Scopes.{shown_is, appended, at_end, nothing_open}
 
 -- what the bits and the frames stand for
 abbrev pub now : List Frame → Packed → State

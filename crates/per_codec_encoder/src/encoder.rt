@@ -7,6 +7,10 @@ ghost use Rattle.per_codec_steps.specs.Ties.{octets_of};
 ghost use Rattle.per_codec_encoder.specs.Stepping.{Puts, is_aligned};
 
 use crate::options::EncoderOptions;
+use crate::{
+    Frames, begin_additions, begin_alternative, begin_bag, begin_components, begin_members,
+    end_addition, end_scope, put_addition, put_further, put_mark,
+};
 use asn1_schema_bounds::Bounded;
 use asn1_schema_constraints::Constraints;
 use asn1_schema_faults::{CodecKind, EncodeError};
@@ -16,15 +20,11 @@ use asn1_values_alphabets::StaticPermittedAlphabet;
 use asn1_values_bits::{BitBuffer, BitStr};
 use asn1_values_identifiers::Oid;
 use asn1_values_integer_types::IntegerType;
-use per_codec_encoder_frames::{
-    Frames, begin_additions, begin_alternative, begin_bag, begin_components, begin_members,
-    end_addition, end_scope, put_addition, put_further, put_mark,
-};
 use per_codec_packing::Packing;
-use per_codec_writing_characters::push_characters;
-use per_codec_writing_numbers::{push_boolean, push_integer};
-use per_codec_writing_scopes::push_enumerated;
-use per_codec_writing_strings::{push_bit_string, push_identifier, push_octet_string, push_utf8};
+use per_codec_writing::{
+    push_bit_string, push_boolean, push_characters, push_enumerated, push_identifier, push_integer,
+    push_octet_string, push_utf8,
+};
 use std::alloc::Global;
 use std::marker::Model;
 use std::mem;
@@ -45,7 +45,7 @@ impl Model for Encoder {
 
     ghost Value = { Written };
 
-    ghost use Rattle.per_codec_encoder_frames.specs.Holding.{shown, Holds};
+    ghost use Rattle.per_codec_encoder.specs.Holding.{shown, Holds};
 
     ghost view = { λ e. record { state = shown (reverse e.frames) e.output; aligned = e.aligned; failed = e.failed } };
 

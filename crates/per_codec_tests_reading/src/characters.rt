@@ -6,7 +6,7 @@ use asn1_values_alphabets::StaticPermittedAlphabet;
 use asn1_values_strings::{GeneralString, NumericString, VisibleString};
 use asn1_values_strings_wide::BmpString;
 use per_codec_reading::{Cursor, Variant};
-use per_codec_reading_characters::read_characters;
+use per_codec_reading_values::read_characters;
 use std::alloc::Global;
 
 /// The string at the beginning of the octets.

@@ -1,4 +1,5 @@
 //! Encodings from outside, and what the calls answer.
+use crate::assertions::assert_same;
 use asn1_schema_constraints::{Bounded, Constraint, Constraints, Extensible, Size};
 use asn1_schema_decode::{Decode, Decoder as _};
 use asn1_schema_faults::{CodecKind, DecodeError};
@@ -101,9 +102,10 @@ fn a_list_in_fragments_is_judged_by_all_its_members(rt: HostRuntime) -> Result<(
 #[test]
 fn a_list_of_a_fixed_size_has_no_other_count(rt: HostRuntime) {
     let input = [0xE0];
-    assert_eq!(rt;
-        decode::<[bool; 3]>(rt.alloc(), &input, Variant::Unaligned).is_ok(),
-        true
+    assert_same(
+        &rt,
+        &decode::<[bool; 3]>(rt.alloc(), &input, Variant::Unaligned).is_ok(),
+        &true,
     );
 }
 
@@ -119,15 +121,16 @@ fn begin_sequences(decoder: &mut Decoder<'_>, count: usize) -> Result<(), Decode
 fn the_level_past_128_is_refused(rt: HostRuntime) -> Result<(), Fail> {
     let input = [0x00];
     let mut decoder = Decoder::new(rt.alloc(), &input, DecoderOptions::aligned());
-    assert_eq!(rt; decoder.codec(), CodecKind::Aper);
+    assert_same(&rt, &decoder.codec(), &CodecKind::Aper);
     let begun = begin_sequences(&mut decoder, 128);
-    assert_eq!(rt; begun, Ok(()));
-    assert_eq!(rt; decoder.levels_left(), 0);
-    assert_eq!(rt;
-        decoder.begin_sequence(Tag::SEQUENCE, false, 0),
-        Err(DecodeError::ExceedsMaxParseDepth)
+    assert_same(&rt, &begun, &Ok(()));
+    assert_same(&rt, &decoder.levels_left(), &0);
+    assert_same(
+        &rt,
+        &decoder.begin_sequence(Tag::SEQUENCE, false, 0),
+        &Err(DecodeError::ExceedsMaxParseDepth),
     );
-    assert_eq!(rt; decoder.finish(), Err(DecodeError::AlreadyFailed));
+    assert_same(&rt, &decoder.finish(), &Err(DecodeError::AlreadyFailed));
     Ok(())
 }
 

@@ -3,7 +3,7 @@ use asn1_schema_bounds::Bounded;
 use asn1_schema_constraints::{Constraints, Extensible, Value};
 use asn1_schema_faults::DecodeError;
 use per_codec_reading::{Cursor, Variant};
-use per_codec_reading_numbers::read_integer;
+use per_codec_reading_values::read_integer;
 use std::alloc::Global;
 
 /// INTEGER between two bounds, with or without a mark of extensibility behind them.

@@ -1,4 +1,5 @@
 //! Strings of bits and of octets, texts and object identifiers.
+use crate::assertions::assert_same;
 use asn1_schema_bounds::Bounded;
 use asn1_schema_constraints::{Constraints, Extensible, Size};
 use asn1_schema_faults::DecodeError;
@@ -64,16 +65,16 @@ fn strings_of_bits(rt: HostRuntime) -> Result<(), Fail> {
     let alloc = rt.alloc();
     let aper = Variant::Aligned;
     let five = bits(alloc, aper, Constraints::NONE, &[0x00, 0x05, 0xF8])?;
-    assert_eq!(rt; five.len(), 5);
-    assert_eq!(rt; five.as_bytes(), [0xF8u8].as_slice());
+    assert_same(&rt, &five.len(), &5);
+    assert_same(&rt, &five.as_bytes(), &[0xF8u8].as_slice());
     let sixteen = sized(Bounded::Single(16), false);
     let found = bits(alloc, aper, sixteen, &[0x7F, 0xFF, 0x80])?;
-    assert_eq!(rt; found.as_bytes(), [0xFFu8, 0xFF].as_slice());
+    assert_same(&rt, &found.as_bytes(), &[0xFFu8, 0xFF].as_slice());
     let seventeen = sized(Bounded::Single(17), false);
     let found = bits(alloc, aper, seventeen, &[0x00, 0xFF, 0xFF, 0x80])?;
-    assert_eq!(rt; found.as_bytes(), [0xFFu8, 0xFF, 0x80].as_slice());
+    assert_same(&rt, &found.as_bytes(), &[0xFFu8, 0xFF, 0x80].as_slice());
     let found = bits(alloc, Variant::Unaligned, seventeen, &[0x7F, 0xFF, 0xC0])?;
-    assert_eq!(rt; found.as_bytes(), [0xFFu8, 0xFF, 0x80].as_slice());
+    assert_same(&rt, &found.as_bytes(), &[0xFFu8, 0xFF, 0x80].as_slice());
     Ok(())
 }
 
@@ -82,14 +83,14 @@ fn strings_of_octets(rt: HostRuntime) -> Result<(), Fail> {
     let alloc = rt.alloc();
     let three = sized(Bounded::Single(3), false);
     let found = octets(alloc, Variant::Unaligned, three, &[0x80, 0x81, 0x01, 0x80])?;
-    assert_eq!(rt; found.as_slice(), [1u8, 2, 3].as_slice());
+    assert_same(&rt, &found.as_slice(), &[1u8, 2, 3].as_slice());
     let found = octets(alloc, Variant::Aligned, three, &[0x80, 0x01, 0x02, 0x03])?;
-    assert_eq!(rt; found.as_slice(), [1u8, 2, 3].as_slice());
+    assert_same(&rt, &found.as_slice(), &[1u8, 2, 3].as_slice());
     let few = sized(Bounded::up_to(3), false);
     let found = octets(alloc, Variant::Unaligned, few, &[0xC0, 0x20, 0x40])?;
-    assert_eq!(rt; found.as_slice(), [1u8, 2].as_slice());
+    assert_same(&rt, &found.as_slice(), &[1u8, 2].as_slice());
     let found = octets(alloc, Variant::Aligned, few, &[0xC0, 0x01, 0x02])?;
-    assert_eq!(rt; found.as_slice(), [1u8, 2].as_slice());
+    assert_same(&rt, &found.as_slice(), &[1u8, 2].as_slice());
     Ok(())
 }
 
@@ -99,9 +100,9 @@ fn sizes_outside_the_root(rt: HostRuntime) -> Result<(), Fail> {
     let aper = Variant::Aligned;
     let marked = sized(Bounded::const_new(1, 2), true);
     let found = octets(alloc, aper, marked, &[0xC0, 0x03, 0x01, 0x02, 0x03])?;
-    assert_eq!(rt; found.as_slice(), [1u8, 2, 3].as_slice());
+    assert_same(&rt, &found.as_slice(), &[1u8, 2, 3].as_slice());
     let found = octets(alloc, aper, marked, &[0xC0, 0x01, 0x09])?;
-    assert_eq!(rt; found.as_slice(), [9u8].as_slice());
+    assert_same(&rt, &found.as_slice(), &[9u8].as_slice());
     let four = sized(Bounded::const_new(2, 4), false);
     assert!(rt;
         matches!(
@@ -116,7 +117,7 @@ fn sizes_outside_the_root(rt: HostRuntime) -> Result<(), Fail> {
 fn texts(rt: HostRuntime) -> Result<(), Fail> {
     let alloc = rt.alloc();
     let found = text(alloc, &[0x02, 0xC3, 0xA9])?;
-    assert_eq!(rt; found.as_str(), "é");
+    assert_same(&rt, &found.as_str(), &"é");
     assert!(rt;
         matches!(
             text(alloc, &[0x01, 0xFF]),
@@ -130,7 +131,7 @@ fn texts(rt: HostRuntime) -> Result<(), Fail> {
 fn identifiers(rt: HostRuntime) -> Result<(), Fail> {
     let alloc = rt.alloc();
     let found = identifier(alloc, &[0x06, 0x2A, 0x86, 0x48, 0x86, 0xF7, 0x0D])?;
-    assert_eq!(rt; found.as_slice(), [1u32, 2, 840, 113549].as_slice());
+    assert_same(&rt, &found.as_slice(), &[1u32, 2, 840, 113549].as_slice());
     assert!(rt;
         matches!(
             identifier(alloc, &[0x00]),

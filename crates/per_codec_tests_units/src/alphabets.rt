@@ -1,4 +1,5 @@
 //! Widths and codes under constraints, and what is answered where a request for memory is refused.
+use crate::assertions::assert_same;
 use asn1_schema_constraints::{Extensible, PermittedAlphabet};
 use asn1_values_alphabets::StaticPermittedAlphabet;
 use asn1_values_strings::{Ia5String, NumericString, PrintableString, VisibleString};
@@ -64,10 +65,10 @@ fn printable_characters_by_their_numbers(rt: HostRuntime) -> Result<(), Fail> {
 #[test]
 fn characters_that_a_constraint_leaves(rt: HostRuntime) -> Result<(), Fail> {
     let alphabet = constrained::<VisibleString>(rt.alloc(), true, &[48, 49])?;
-    assert_eq!(rt; alphabet.width(), 1);
+    assert_same(&rt, &alphabet.width(), &1);
     assert!(rt; has_codes(&alphabet, &[(48, 0), (49, 1)]));
     let alphabet = constrained::<NumericString>(rt.alloc(), true, &[32, 49, 50, 51, 65, 57])?;
-    assert_eq!(rt; alphabet.width(), 4);
+    assert_same(&rt, &alphabet.width(), &4);
     assert!(rt; has_codes(&alphabet, &[(32, 0), (49, 1), (51, 3), (57, 4)]));
     assert!(rt; alphabet.code(65) == None);
     assert!(rt; alphabet.character(5) == None);
@@ -81,7 +82,7 @@ fn a_mark_makes_a_constraint_count_for_nothing(rt: HostRuntime) -> Result<(), Fa
         false,
         Some(Extensible::new_extensible(PermittedAlphabet::new(&[48, 49]), &[])),
     )?;
-    assert_eq!(rt; alphabet.width(), 7);
+    assert_same(&rt, &alphabet.width(), &7);
     assert!(rt; has_codes(&alphabet, &[(65, 65)]));
     Ok(())
 }

@@ -3,7 +3,7 @@ use asn1_schema_bounds::Bounded;
 use asn1_schema_constraints::Constraints;
 use asn1_schema_faults::EncodeError;
 use per_codec_packing::Packing;
-use per_codec_writing_bags::push_bag;
+use per_codec_writing::push_bag;
 use std::alloc::Global;
 use std::test::Fail;
 

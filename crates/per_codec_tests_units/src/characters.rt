@@ -6,7 +6,7 @@ use asn1_values_alphabets::{StaticPermittedAlphabet, string_of_text};
 use asn1_values_strings::{GeneralString, NumericString, VisibleString};
 use asn1_values_strings_wide::BmpString;
 use per_codec_packing::Packing;
-use per_codec_writing_characters::push_characters;
+use per_codec_writing::push_characters;
 use std::alloc::Global;
 
 /// The octets of a text as a string of the type, in either variant.

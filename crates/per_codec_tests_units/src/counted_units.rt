@@ -1,10 +1,11 @@
 //! Lengths by X.691 11.9.3, behind so many bits that are set.
 ghost use Rattle.std.specs.Prelude.{◌<◌, ◌≤◌};
 
+use crate::assertions::assert_same;
 use asn1_schema_faults::EncodeError;
 use asn1_values_bits::{BitBuffer, BitStr};
 use per_codec_packing::Packing;
-use per_codec_writing_units::{push_counted, push_counted_octets};
+use per_codec_writing::{push_counted, push_counted_octets};
 use std::alloc::Global;
 use std::test::Fail;
 
@@ -84,9 +85,9 @@ fn bits(alloc: Global, count: usize) -> Result<BitBuffer, EncodeError>
 #[test]
 fn fragments_of_bits(rt: HostRuntime) -> Result<(), Fail> {
     let alloc = rt.alloc();
-    assert_eq!(rt; bits(alloc, 5)?.as_bytes(), [0x05u8, 0xF8].as_slice());
+    assert_same(&rt, &bits(alloc, 5)?.as_bytes(), &[0x05u8, 0xF8].as_slice());
     let output = bits(alloc, 16385)?;
-    assert_eq!(rt; output.len(), 8 + 16384 + 8 + 1);
+    assert_same(&rt, &output.len(), &(8 + 16384 + 8 + 1));
     assert!(rt; output.as_bytes().starts_with(&[0xC1, 0xFF]));
     assert!(rt; output.as_bytes().ends_with(&[0xFF, 0x01, 0x80]));
     Ok(())

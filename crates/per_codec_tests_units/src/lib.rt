@@ -4,6 +4,8 @@
 #[cfg(test)]
 mod alphabets;
 #[cfg(test)]
+mod assertions;
+#[cfg(test)]
 mod bags;
 #[cfg(test)]
 mod characters;

@@ -1,5 +1,6 @@
 //! Texts at known places, and texts that are placed later.
 
+use crate::assertions::assert_same;
 use per_codec_packing::Packing;
 use std::alloc::Global;
 use std::test::Fail;
@@ -53,7 +54,11 @@ fn a_member_within_a_member(rt: HostRuntime) -> Result<(), Fail> {
     let mut text = Packing::new(alloc);
     text.resize(6, false)?;
     text.append(&outer)?;
-    assert_eq!(rt; text.as_bits().as_bytes(), [0x03u8, 0xAB, 0x80].as_slice());
+    assert_same(
+        &rt,
+        &text.as_bits().as_bytes(),
+        &[0x03u8, 0xAB, 0x80].as_slice(),
+    );
     Ok(())
 }
 

@@ -1,13 +1,14 @@
 //! Octets of X.691, behind so many bits that are set.
 ghost use Rattle.std.specs.Prelude.{◌≤◌};
 
+use crate::assertions::assert_same;
 use asn1_schema_bounds::Bounded;
 use asn1_schema_constraints::{Constraints, Extensible, Size};
 use asn1_schema_faults::EncodeError;
 use asn1_values_bits::{BitBuffer, BitStr};
 use asn1_values_identifiers::Oid;
 use per_codec_packing::Packing;
-use per_codec_writing_strings::{push_bit_string, push_identifier, push_octet_string, push_utf8};
+use per_codec_writing::{push_bit_string, push_identifier, push_octet_string, push_utf8};
 use std::alloc::Global;
 use std::test::Fail;
 
@@ -95,7 +96,7 @@ fn octets_of_a_range(rt: HostRuntime) -> Result<(), Fail> {
     assert!(rt; stands_in(alloc, false, few, &[1, 2], &[0xC0, 0x20, 0x40])?);
     assert!(rt; stands_in(alloc, true, few, &[1, 2], &[0xC0, 0x01, 0x02])?);
     let none = octets(alloc, true, few, &[])?;
-    assert_eq!(rt; none.len(), 3);
+    assert_same(&rt, &none.len(), &3);
     let many = sized(Bounded::up_to(65535), false);
     assert!(rt; stands_in(alloc, true, many, &[9], &[0x80, 0x00, 0x01, 0x09])?);
     let more = sized(Bounded::up_to(65536), false);
@@ -139,9 +140,10 @@ fn texts_and_identifiers(rt: HostRuntime) -> Result<(), Fail> {
     assert!(rt; text_stands_in(alloc, "é", &[0x02, 0xC3, 0xA9])?);
     let rsa = Oid::new(&[1, 2, 840, 113549]).ok_or("no identifier")?;
     let octets = identifier(alloc, &rsa)?;
-    assert_eq!(rt;
-        octets.as_slice(),
-        [0x06u8, 0x2A, 0x86, 0x48, 0x86, 0xF7, 0x0D].as_slice()
+    assert_same(
+        &rt,
+        &octets.as_slice(),
+        &[0x06u8, 0x2A, 0x86, 0x48, 0x86, 0xF7, 0x0D].as_slice(),
     );
     let lone = Oid::new(&[1]).ok_or("no identifier")?;
     let refused = identifier(alloc, &lone);

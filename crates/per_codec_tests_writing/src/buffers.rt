@@ -1,4 +1,5 @@
 //! Rows of the calls that write, unaligned and aligned.
+use crate::assertions::assert_same;
 use asn1_schema_bounds::Bounded;
 use asn1_schema_constraints::{Constraint, Constraints, Extensible, Value};
 use asn1_schema_encode::Encode;
@@ -102,6 +103,6 @@ fn a_buffer_is_replaced(rt: HostRuntime) -> Result<(), Fail> {
     let alloc = rt.alloc();
     let mut buffer = vec![in alloc; 0xAAu8, 0xBB]?;
     let replaced = is_replaced_by_true(alloc, &mut buffer);
-    assert_eq!(rt; replaced, Ok(true));
+    assert_same(&rt, &replaced, &Ok(true));
     Ok(())
 }

@@ -1,4 +1,5 @@
 //! Octets of X.691 by values of real types, unaligned and aligned.
+use crate::assertions::assert_same;
 use crate::messages::{
     Message, begin_without_a_mark, end, has_written, put, put_flag, put_mark, stands_in,
 };
@@ -92,7 +93,7 @@ fn what_is_held_is_taken_once(rt: HostRuntime) -> Result<(), Fail> {
     let room = vec![in alloc; 1u8, 2, 3]?;
     let mut encoder = Encoder::new_with_output(alloc, EncoderOptions::unaligned(), room);
     let given = gives_true_once(&mut encoder);
-    assert_eq!(rt; given, Ok(true));
+    assert_same(&rt, &given, &Ok(true));
     assert!(rt; refuses_to_end(&mut encoder));
     Ok(())
 }

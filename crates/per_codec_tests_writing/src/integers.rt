@@ -1,11 +1,12 @@
 //! Octets of X.691 12 and 13.
+use crate::assertions::assert_same;
 use asn1_schema_bounds::Bounded;
 use asn1_schema_constraints::{Constraints, Extensible, Value};
 use asn1_schema_faults::EncodeError;
 use asn1_values_integer_types::IntegerType;
 use asn1_values_numbers::Integer;
 use per_codec_packing::Packing;
-use per_codec_writing_numbers::{push_boolean, push_integer, push_normally_small};
+use per_codec_writing::{push_boolean, push_integer, push_normally_small};
 use std::alloc::Global;
 use std::test::Fail;
 
@@ -61,7 +62,7 @@ fn are_truth_values(output: &mut Packing, octet: u8) -> Result<bool, EncodeError
 fn truth_values(rt: HostRuntime) -> Result<(), Fail> {
     let mut output = Packing::new(rt.alloc());
     let written = are_truth_values(&mut output, 0xA0);
-    assert_eq!(rt; written, Ok(true));
+    assert_same(&rt, &written, &Ok(true));
     Ok(())
 }
 
@@ -120,7 +121,7 @@ fn numbers_of_many_bits(rt: HostRuntime) -> Result<(), Fail> {
     let counted = [17u8, 1, 0, 0, 0, 0, 0, 0, 0, 0, 0, 0, 0, 0, 0, 0, 0, 0];
     let wide = Integer::from_signed_octets(alloc, &octets)?;
     let written = is_unbounded(alloc, &wide, &counted);
-    assert_eq!(rt; written, Ok(true));
+    assert_same(&rt, &written, &Ok(true));
     Ok(())
 }
 
@@ -130,7 +131,11 @@ fn numbers_outside(rt: HostRuntime) {
     for aligned in [false, true] {
         for value in [-1i64, 256] {
             let refused = stands_in(alloc, aligned, between(0, 255), &value, &[]);
-            assert_eq!(rt; refused, Err(EncodeError::ValueConstraintNotSatisfied));
+            assert_same(
+                &rt,
+                &refused,
+                &Err(EncodeError::ValueConstraintNotSatisfied),
+            );
         }
     }
 }
@@ -168,7 +173,7 @@ fn small_stands_in(
 fn two_normally_small_numbers(rt: HostRuntime) -> Result<(), Fail> {
     let mut output = Packing::new(rt.alloc());
     let written = two_stand_in_fourteen_bits(&mut output);
-    assert_eq!(rt; written, Ok(true));
+    assert_same(&rt, &written, &Ok(true));
     Ok(())
 }
 

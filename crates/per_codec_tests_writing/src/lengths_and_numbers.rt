@@ -1,4 +1,5 @@
 //! Octets of X.691, behind so many bits that are set.
+use crate::assertions::assert_same;
 use asn1_schema_faults::EncodeError;
 use per_codec_packing::Packing;
 use per_codec_writing::{push_constrained, push_fragment_length, push_short_length};
@@ -148,7 +149,7 @@ fn bits_of_the_greatest(output: &mut Packing) -> Result<usize, EncodeError> {
 fn the_greatest_number(rt: HostRuntime) -> Result<(), Fail> {
     let mut output = Packing::new(rt.alloc());
     let count = bits_of_the_greatest(&mut output);
-    assert_eq!(rt; count, Ok(18 * 8));
+    assert_same(&rt, &count, &Ok(18 * 8));
     Ok(())
 }
 
@@ -158,7 +159,11 @@ fn numbers_outside(rt: HostRuntime) {
     for aligned in [false, true] {
         for span in [0, 1, 254, 255, 256, 65535, 65536, 1 << 64] {
             let outside = number_stands_in(alloc, (aligned, 0), (span, span + 1), &[]);
-            assert_eq!(rt; outside, Err(EncodeError::ValueConstraintNotSatisfied));
+            assert_same(
+                &rt,
+                &outside,
+                &Err(EncodeError::ValueConstraintNotSatisfied),
+            );
         }
     }
 }
@@ -216,7 +221,7 @@ fn are_fragment_lengths(output: &mut Packing, octets: &[u8]) -> Result<bool, Enc
 fn lengths_of_fragments(rt: HostRuntime) -> Result<(), Fail> {
     let mut output = Packing::new(rt.alloc());
     let written = are_fragment_lengths(&mut output, &[0x80, 0xC4, 0xC1]);
-    assert_eq!(rt; written, Ok(true));
+    assert_same(&rt, &written, &Ok(true));
     Ok(())
 }
 
@@ -243,6 +248,6 @@ fn a_length_that_is_placed_later(rt: HostRuntime) -> Result<(), Fail> {
     let mut output = Packing::new(rt.alloc());
     let mut later = Packing::unplaced(rt.alloc());
     let written = is_placed_later(&mut output, &mut later, &[0xF0, 0x01]);
-    assert_eq!(rt; written, Ok(true));
+    assert_same(&rt, &written, &Ok(true));
     Ok(())
 }

@@ -4,6 +4,8 @@
 #[cfg(test)]
 mod additions;
 #[cfg(test)]
+mod assertions;
+#[cfg(test)]
 mod buffers;
 #[cfg(test)]
 mod encoder;

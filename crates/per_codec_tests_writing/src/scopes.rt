@@ -1,9 +1,10 @@
 //! Bits of X.691 by hand.
+use crate::assertions::assert_same;
 use asn1_schema_faults::EncodeError;
 use asn1_schema_variants::Chosen;
 use asn1_values_bits::BitBuffer;
 use per_codec_packing::Packing;
-use per_codec_writing_scopes::{push_bitmap, push_open_type, push_place};
+use per_codec_writing::{push_bitmap, push_open_type, push_place};
 use std::alloc::Global;
 use std::test::Fail;
 
@@ -51,7 +52,7 @@ fn open_type_of_no_bits(rt: HostRuntime) -> Result<(), Fail> {
     let mut output = Packing::new(rt.alloc());
     let contents = BitBuffer::new(rt.alloc());
     let written = is_open_type(&mut output, &contents, &[0x01, 0x00]);
-    assert_eq!(rt; written, Ok(true));
+    assert_same(&rt, &written, &Ok(true));
     Ok(())
 }
 
@@ -71,6 +72,6 @@ fn bitmap_of_one_addition(rt: HostRuntime) -> Result<(), Fail> {
     let mut output = Packing::new(rt.alloc());
     let mut bitmap = BitBuffer::new(rt.alloc());
     let written = is_bitmap_of_one(&mut output, &mut bitmap, &[0x01]);
-    assert_eq!(rt; written, Ok(true));
+    assert_same(&rt, &written, &Ok(true));
     Ok(())
 }

@@ -7,7 +7,7 @@ use Rattle.asn1_model.specs.Per
 use Rattle.asn1_values_bits.proofs.Binary.{binary_join}
 use Rattle.per_codec_texts.specs.Texts.{as_text, text_at}
 use Rattle.per_codec_writing.specs.Writing.{Packed, Adds, place, plus, fill_at}
-use Rattle.per_codec_writing.proofs.Texts.{adds_text, if_true, cond_true, cond_false, adds_at_octet, adds_bits_at_octet}
+use Rattle.per_codec_writing.proofs.FillingTexts.{adds_text, if_true, cond_true, cond_false, adds_at_octet, adds_bits_at_octet}
 
 -- a number behind two bits that are set, and behind one that is and one that is not, and behind one that is not
 fragment_bits : (m : ℕ) → m < 64 → binary 8 (192 + m) ≡ true ∷ true ∷ binary 6 m

@@ -1,1 +1,8 @@
 pub mod Writing
+pub mod Units
+pub mod Padding
+pub mod Members
+pub mod Keys
+pub mod Places
+pub mod Additions
+pub mod Characters

@@ -1,10 +1,47 @@
-//! Filling, lengths and constrained whole numbers of the packed encoding rules (X.691 11), unaligned and aligned.
+//! Writers of the packed encoding rules (X.691): of filling, lengths and whole numbers, of units behind their number, of the scalar types, of
+//! the places of items and alternatives, open types and additions, and of the members of bags in the order of their complete encodings.
 #![tactic(auto)]
 
+mod additions;
+mod bag;
+mod bits;
+mod booleans;
+mod character_units;
+mod characters;
 mod constrained;
+mod counted;
+mod counted_members;
 mod filling;
+mod identifiers;
+mod integers;
 mod lengths;
+mod members;
+mod octets;
+mod open_types;
+mod padding;
+mod places;
+mod sized;
+mod sized_members;
+mod small;
+mod texts;
+mod units;
 
+pub use additions::{push_additions, push_bitmap};
+pub use bag::push_bag;
+pub use bits::push_bit_string;
+pub use booleans::push_boolean;
+pub use characters::push_characters;
 pub use constrained::push_constrained;
+pub use counted::{push_counted, push_counted_octets};
 pub use filling::align;
+pub use identifiers::push_identifier;
+pub use integers::push_integer;
 pub use lengths::{push_fragment_length, push_short_length};
+pub use octets::push_octet_string;
+pub use open_types::push_open_type;
+pub use padding::{pads_characters, pads_string};
+pub use places::{push_enumerated, push_place};
+pub use sized::push_sized;
+pub use small::push_normally_small;
+pub use texts::push_utf8;
+pub use units::Units;

@@ -1,4 +1,5 @@
 //! Rows, and each call once.
+use crate::tests::assert_same;
 use crate::{
     Bounded, Constraint, ConstraintDiscriminant, Constraints, Extensible, PermittedAlphabet, Size,
     Value,
@@ -9,9 +10,9 @@ fn rows_of_intersections(rt: HostRuntime) {
     let joined = Value::new(Bounded::const_new(0, 10)).intersect(&Value::new(Bounded::const_new(
         5, 20,
     )));
-    assert_eq!(rt; joined, Value::new(Bounded::const_new(5, 10)));
+    assert_same(&rt, &joined, &Value::new(Bounded::const_new(5, 10)));
     let size = Size::new(Bounded::const_new(3, 6)).intersect(&Size::fixed(5));
-    assert_eq!(rt; size, Size::fixed(5));
+    assert_same(&rt, &size, &Size::fixed(5));
 }
 
 #[test]
@@ -25,18 +26,20 @@ fn lists_of_constraints(rt: HostRuntime) {
             true,
         )),
     ]);
-    assert_eq!(rt;
-        all.value().unwrap().constraint,
-        Value::new(Bounded::const_new(5, 10))
+    assert_same(
+        &rt,
+        &all.value().unwrap().constraint,
+        &Value::new(Bounded::const_new(5, 10)),
     );
-    assert_eq!(rt; all.size().unwrap().constraint, Size::fixed(2));
-    assert_eq!(rt;
-        all.permitted_alphabet()
+    assert_same(&rt, &all.size().unwrap().constraint, &Size::fixed(2));
+    assert_same(
+        &rt,
+        &all.permitted_alphabet()
             .unwrap()
             .constraint
             .as_inner()
             .len(),
-        2
+        &2,
     );
     assert!(rt; all.extensible());
     assert!(rt; !Constraints::default().extensible());
@@ -46,9 +49,17 @@ fn lists_of_constraints(rt: HostRuntime) {
 #[test]
 fn forms_of_numbers(rt: HostRuntime) {
     let small = Value::new(Bounded::const_new(-5, 5));
-    assert_eq!(rt; (small.get_sign(), small.get_range()), (true, Some(1)));
+    assert_same(
+        &rt,
+        &(small.get_sign(), small.get_range()),
+        &(true, Some(1)),
+    );
     let large = Value::new(Bounded::const_new(256, 1234567));
-    assert_eq!(rt; (large.get_sign(), large.get_range()), (false, Some(4)));
+    assert_same(
+        &rt,
+        &(large.get_sign(), large.get_range()),
+        &(false, Some(4)),
+    );
     assert!(rt; large.contains(&256));
 }
 
@@ -61,7 +72,7 @@ fn sizes_are_fixed_or_ranges(rt: HostRuntime) {
     assert!(rt; !Size::new(Bounded::None).is_range());
     let mut size = Size::fixed(5);
     *size = Bounded::const_new(1, 3);
-    assert_eq!(rt; size, Size::new(Bounded::const_new(1, 3)));
+    assert_same(&rt, &size, &Size::new(Bounded::const_new(1, 3)));
 }
 
 #[test]
@@ -106,43 +117,62 @@ fn a_mark_of_either_stands(rt: HostRuntime) {
     assert!(rt; shut.intersect(opened).extensible());
     assert!(rt; opened.intersect(shut).extensible());
     assert!(rt; !shut.intersect(shut).extensible());
-    assert_eq!(rt; opened.intersect(Constraints::NONE), opened);
-    assert_eq!(rt; opened.value().unwrap().extensible.unwrap().len(), 1);
+    assert_same(&rt, &opened.intersect(Constraints::NONE), &opened);
+    assert_same(&rt, &opened.value().unwrap().extensible.unwrap().len(), &1);
 }
 
 #[test]
 fn bounds_of_native_numbers(rt: HostRuntime) {
     let wanted = Value::new(Bounded::const_new(5, 10));
-    assert_eq!(rt; Value::from(Bounded::<u8>::const_new(5, 10)), wanted);
-    assert_eq!(rt; Value::from(Bounded::<u16>::const_new(5, 10)), wanted);
-    assert_eq!(rt; Value::from(Bounded::<u32>::const_new(5, 10)), wanted);
-    assert_eq!(rt; Value::from(Bounded::<i8>::const_new(5, 10)), wanted);
-    assert_eq!(rt; Value::from(Bounded::<i16>::const_new(5, 10)), wanted);
-    assert_eq!(rt; Value::from(Bounded::<i32>::const_new(5, 10)), wanted);
-    assert_eq!(rt; Value::from(Bounded::<isize>::const_new(5, 10)), wanted);
-    assert_eq!(rt; Value::from(Bounded::<i128>::const_new(5, 10)), wanted);
-    assert_eq!(rt;
-        Value::from(Bounded::single_value(u64::MAX)),
-        Value::new(Bounded::Single(18446744073709551615))
+    assert_same(&rt, &Value::from(Bounded::<u8>::const_new(5, 10)), &wanted);
+    assert_same(&rt, &Value::from(Bounded::<u16>::const_new(5, 10)), &wanted);
+    assert_same(&rt, &Value::from(Bounded::<u32>::const_new(5, 10)), &wanted);
+    assert_same(&rt, &Value::from(Bounded::<i8>::const_new(5, 10)), &wanted);
+    assert_same(&rt, &Value::from(Bounded::<i16>::const_new(5, 10)), &wanted);
+    assert_same(&rt, &Value::from(Bounded::<i32>::const_new(5, 10)), &wanted);
+    assert_same(
+        &rt,
+        &Value::from(Bounded::<isize>::const_new(5, 10)),
+        &wanted,
     );
-    assert_eq!(rt;
-        Value::from(Bounded::start_from(i64::MIN)),
-        Value::new(Bounded::start_from(-9223372036854775808))
+    assert_same(
+        &rt,
+        &Value::from(Bounded::<i128>::const_new(5, 10)),
+        &wanted,
     );
-    assert_eq!(rt; Value::from(Bounded::<u8>::None), Value::new(Bounded::None));
+    assert_same(
+        &rt,
+        &Value::from(Bounded::single_value(u64::MAX)),
+        &Value::new(Bounded::Single(18446744073709551615)),
+    );
+    assert_same(
+        &rt,
+        &Value::from(Bounded::start_from(i64::MIN)),
+        &Value::new(Bounded::start_from(-9223372036854775808)),
+    );
+    assert_same(
+        &rt,
+        &Value::from(Bounded::<u8>::None),
+        &Value::new(Bounded::None),
+    );
 }
 
 #[test]
 fn bounds_of_counts_and_wide_numbers(rt: HostRuntime) {
     let count = Value::try_from(Bounded::<usize>::up_to(usize::MAX));
-    assert_eq!(rt;
-        count.ok(),
-        Some(Value::new(Bounded::up_to(18446744073709551615)))
+    assert_same(
+        &rt,
+        &count.ok(),
+        &Some(Value::new(Bounded::up_to(18446744073709551615))),
     );
     let low = Value::try_from(Bounded::<u128>::start_from(3));
-    assert_eq!(rt; low.ok(), Some(Value::new(Bounded::start_from(3))));
+    assert_same(&rt, &low.ok(), &Some(Value::new(Bounded::start_from(3))));
     let greatest = Value::try_from(Bounded::<u128>::single_value(i128::MAX as u128));
-    assert_eq!(rt; greatest.ok(), Some(Value::new(Bounded::Single(i128::MAX))));
+    assert_same(
+        &rt,
+        &greatest.ok(),
+        &Some(Value::new(Bounded::Single(i128::MAX))),
+    );
     assert!(rt; Value::try_from(Bounded::<u128>::const_new(0, u128::MAX)).is_err());
     assert!(rt; Value::try_from(Bounded::single_value(1u128 << 127)).is_err());
 }

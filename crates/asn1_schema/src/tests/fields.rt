@@ -1,4 +1,5 @@
 //! Rows, and each call once.
+use crate::tests::assert_same;
 use crate::{Field, FieldPresence, Fields, Tag, TagTree};
 
 #[test]
@@ -27,12 +28,12 @@ fn fields_are_counted(rt: HostRuntime) {
         Field::new_default(2, tag, TagTree::Leaf(tag), "c"),
     ];
     let table = Fields::from_static(&fields);
-    assert_eq!(rt; table.len(), 3);
+    assert_same(&rt, &table.len(), &3);
     assert!(rt; !table.is_empty());
     assert!(rt; table.is_not_empty());
     assert!(rt; table.has_required_field());
-    assert_eq!(rt; table.number_of_optional_and_default_fields(), 2);
-    assert_eq!(rt; table.iter().count(), 3);
+    assert_same(&rt, &table.number_of_optional_and_default_fields(), &2);
+    assert_same(&rt, &table.iter().count(), &3);
     assert!(rt; fields[0].is_not_optional_or_default());
     assert!(rt; FieldPresence::Default.is_optional_or_default());
 }
@@ -48,27 +49,30 @@ fn fields_that_may_be_absent(rt: HostRuntime) {
     ];
     let table = Fields::from_static(&fields);
     let mut optional = table.optional_and_default_fields();
-    assert_eq!(rt; optional.next().unwrap().name, "b");
-    assert_eq!(rt; *optional.next().unwrap(), fields[3]);
+    assert_same(&rt, &optional.next().unwrap().name, &"b");
+    assert_same(&rt, &*optional.next().unwrap(), &fields[3]);
     assert!(rt; optional.next().is_none());
     assert!(rt; optional.next().is_none());
     assert!(rt; fields[0] != fields[2]);
-    assert_eq!(rt; table, Fields::from_static(&fields));
+    assert_same(&rt, &table, &Fields::from_static(&fields));
 }
 
 #[test]
 fn fields_of_types(rt: HostRuntime) {
     let tree = TagTree::Leaf(Tag::BOOL);
-    assert_eq!(rt;
-        Field::new_required_type::<bool>(0, "a"),
-        Field::new_required(0, Tag::BOOL, tree, "a")
+    assert_same(
+        &rt,
+        &Field::new_required_type::<bool>(0, "a"),
+        &Field::new_required(0, Tag::BOOL, tree, "a"),
     );
-    assert_eq!(rt;
-        Field::new_optional_type::<bool>(1, "b"),
-        Field::new_optional(1, Tag::BOOL, tree, "b")
+    assert_same(
+        &rt,
+        &Field::new_optional_type::<bool>(1, "b"),
+        &Field::new_optional(1, Tag::BOOL, tree, "b"),
     );
-    assert_eq!(rt;
-        Field::new_default_type::<bool>(2, "c"),
-        Field::new_default(2, Tag::BOOL, tree, "c")
+    assert_same(
+        &rt,
+        &Field::new_default_type::<bool>(2, "c"),
+        &Field::new_default(2, Tag::BOOL, tree, "c"),
     );
 }

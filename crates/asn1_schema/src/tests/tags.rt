@@ -1,4 +1,5 @@
 //! Rows, what is shown, and each call once.
+use crate::tests::assert_same;
 use crate::{Class, Identifier, Tag, TagTree, Variants};
 use std::cmp::Ordering;
 use std::ops::DerefSlice;
@@ -23,33 +24,39 @@ fn tags_are_ordered_by_class_first(rt: HostRuntime) {
         ),
     ];
     for (one, other, wanted) in rows {
-        assert_eq!(rt; one.const_cmp(&other), wanted);
-        assert_eq!(rt; one.cmp(&other), wanted);
-        assert_eq!(rt; one.const_less_than(other), wanted == Ordering::Less);
-        assert_eq!(rt; one.const_eq(&other), wanted == Ordering::Equal);
-        assert_eq!(rt; one == other, wanted == Ordering::Equal);
+        assert_same(&rt, &one.const_cmp(&other), &wanted);
+        assert_same(&rt, &one.cmp(&other), &wanted);
+        assert_same(
+            &rt,
+            &one.const_less_than(other),
+            &(wanted == Ordering::Less),
+        );
+        assert_same(&rt, &one.const_eq(&other), &(wanted == Ordering::Equal));
+        assert_same(&rt, &(one == other), &(wanted == Ordering::Equal));
     }
 }
 
 #[test]
 fn tags_are_made_and_shown(rt: HostRuntime) -> Result<(), Fail> {
-    assert_eq!(rt; Tag::INTEGER.set_value(1), Tag::BOOL);
+    assert_same(&rt, &Tag::INTEGER.set_value(1), &Tag::BOOL);
     assert!(rt; Tag::CHOICE.is_choice());
     assert!(rt; !Tag::NULL.is_choice());
-    assert_eq!(rt; Class::from_u8(1), Class::Application);
+    assert_same(&rt, &Class::from_u8(1), &Class::Application);
     assert!(rt; Class::from_u8(0).is_universal());
     assert!(rt; !Class::from_u8(3).is_universal());
     let application = Tag::new_application(9);
     let context = Tag::new_context(5);
-    assert_eq!(rt;
-        format!(in rt.alloc(); "{application} {context}")?.as_str(),
-        "[APPLICATION 9] [5]"
+    assert_same(
+        &rt,
+        &format!(in rt.alloc(); "{application} {context}")?.as_str(),
+        &"[APPLICATION 9] [5]",
     );
     let universal = Tag::INTEGER;
     let private = Tag::new_private(3);
-    assert_eq!(rt;
-        format!(in rt.alloc(); "{universal} {private}")?.as_str(),
-        "[UNIVERSAL 2] [PRIVATE 3]"
+    assert_same(
+        &rt,
+        &format!(in rt.alloc(); "{universal} {private}")?.as_str(),
+        &"[UNIVERSAL 2] [PRIVATE 3]",
     );
     Ok(())
 }
@@ -88,21 +95,22 @@ fn leaves_are_found(rt: HostRuntime) -> Result<(), Fail> {
     ];
     let tree = TagTree::Choice(&outer);
     assert!(rt; tree.is_unique());
-    assert_eq!(rt; tree.smallest_tag(), Tag::NULL);
-    assert_eq!(rt;
-        TagTree::empty().smallest_tag(),
-        Tag::new_private(4294967295)
+    assert_same(&rt, &tree.smallest_tag(), &Tag::NULL);
+    assert_same(
+        &rt,
+        &TagTree::empty().smallest_tag(),
+        &Tag::new_private(4294967295),
     );
     assert!(rt; TagTree::tag_contains(&Tag::NULL, &outer));
     assert!(rt; !TagTree::tag_contains(&Tag::BOOL, &outer));
-    assert_eq!(rt; tree.leaf_count().ok_or("too many")?, 3);
-    assert_eq!(rt; tree.leaf_position(&Tag::NULL), Some(2));
-    assert_eq!(rt; tree.leaf_position(&Tag::BOOL), None);
+    assert_same(&rt, &tree.leaf_count().ok_or("too many")?, &3);
+    assert_same(&rt, &tree.leaf_position(&Tag::NULL), &Some(2));
+    assert_same(&rt, &tree.leaf_position(&Tag::BOOL), &None);
     let tags = [Tag::new_context(1), Tag::new_context(3), Tag::NULL];
     for (place, tag) in tags.iter().enumerate() {
-        assert_eq!(rt; tree.leaf_at(place), Some(*tag));
+        assert_same(&rt, &tree.leaf_at(place), &Some(*tag));
     }
-    assert_eq!(rt; tree.leaf_at(3), None);
+    assert_same(&rt, &tree.leaf_at(3), &None);
     Ok(())
 }
 
@@ -110,21 +118,25 @@ fn leaves_are_found(rt: HostRuntime) -> Result<(), Fail> {
 fn alternatives_are_lists_of_trees(rt: HostRuntime) -> Result<(), Fail> {
     let trees = [TagTree::Leaf(Tag::BOOL), TagTree::Leaf(Tag::NULL)];
     let lent = Variants::from_slice(&trees);
-    assert_eq!(rt; lent.deref().len(), 2);
+    assert_same(&rt, &lent.deref().len(), &2);
     let mut kept = Vec::new(rt.alloc());
     kept.push(TagTree::Leaf(Tag::SET))?;
     let owned = Variants::new(kept);
-    assert_eq!(rt; owned.deref().len(), 1);
-    assert_eq!(rt; Variants::empty().deref().len(), 0);
-    assert_eq!(rt; Variants::from_static(&[]).deref().len(), 0);
+    assert_same(&rt, &owned.deref().len(), &1);
+    assert_same(&rt, &Variants::empty().deref().len(), &0);
+    assert_same(&rt, &Variants::from_static(&[]).deref().len(), &0);
     Ok(())
 }
 
 #[test]
 fn names_stand_in_for_missing_ones(rt: HostRuntime) -> Result<(), Fail> {
-    assert_eq!(rt; Identifier::EMPTY.or(Identifier::BOOL), Identifier::BOOL);
-    assert_eq!(rt; Identifier::SET.or(Identifier::BOOL), Identifier::SET);
-    assert_eq!(rt; Identifier(Some("IA5String")).unwrap(), "IA5String");
+    assert_same(
+        &rt,
+        &Identifier::EMPTY.or(Identifier::BOOL),
+        &Identifier::BOOL,
+    );
+    assert_same(&rt, &Identifier::SET.or(Identifier::BOOL), &Identifier::SET);
+    assert_same(&rt, &Identifier(Some("IA5String")).unwrap(), &"IA5String");
     Ok(())
 }
 
@@ -188,7 +200,7 @@ fn universal_tags_have_their_numbers(rt: HostRuntime) {
         (Tag::CHOICE, 0),
     ];
     for (tag, number) in rows {
-        assert_eq!(rt; tag, Tag::new(Class::Universal, number));
+        assert_same(&rt, &tag, &Tag::new(Class::Universal, number));
     }
 }
 
@@ -235,7 +247,7 @@ fn types_have_their_names(rt: HostRuntime) {
         ),
     ];
     for (identifier, name) in rows {
-        assert_eq!(rt; identifier.0, Some(name));
+        assert_same(&rt, &identifier.0, &Some(name));
     }
-    assert_eq!(rt; Identifier::EMPTY.0, None);
+    assert_same(&rt, &Identifier::EMPTY.0, &None);
 }

@@ -1,4 +1,5 @@
 //! Each marker, and each call once.
+use crate::tests::assert_same;
 use crate::{
     Any, AsnType, CodecKind, Explicit, Implicit, InnerSubtypeConstraint,
     InnerSubtypeConstraintError, InstanceOf, Open, SequenceOf, Tag, UniversalString, tag,
@@ -46,19 +47,19 @@ fn each_marker_has_the_tag_of_its_name(rt: HostRuntime) {
         (tag::DURATION::TAG, Tag::DURATION),
     ];
     for (one, other) in rows {
-        assert_eq!(rt; one, other);
+        assert_same(&rt, &one, &other);
     }
-    assert_eq!(rt; tag::Application::<9>::TAG, Tag::new_application(9));
-    assert_eq!(rt; tag::Context::<5>::TAG, Tag::new_context(5));
-    assert_eq!(rt; tag::Private::<0>::TAG, Tag::new_private(0));
+    assert_same(&rt, &tag::Application::<9>::TAG, &Tag::new_application(9));
+    assert_same(&rt, &tag::Context::<5>::TAG, &Tag::new_context(5));
+    assert_same(&rt, &tag::Private::<0>::TAG, &Tag::new_private(0));
 }
 
 #[test]
 fn values_stand_under_another_tag(rt: HostRuntime) -> Result<(), Fail> {
     let mut one = Implicit::<tag::Context<1>, u8>::new(5);
-    assert_eq!(rt; *one, 5);
+    assert_same(&rt, &*one, &5);
     *one = 6;
-    assert_eq!(rt; one.value, 6);
+    assert_same(&rt, &one.value, &6);
     assert!(rt; one == Implicit::from(6));
     assert!(rt; one != Implicit::from(7));
     let mut two: Explicit<tag::BOOL, bool> = true.into();
@@ -73,7 +74,7 @@ fn values_stand_under_another_tag(rt: HostRuntime) -> Result<(), Fail> {
 #[test]
 fn strings_of_any_characters(rt: HostRuntime) -> Result<(), Fail> {
     let text = UniversalString::new(String::from_str(rt.alloc(), "aé")?);
-    assert_eq!(rt; text.as_str(), "aé");
+    assert_same(&rt, &text.as_str(), &"aé");
     Ok(())
 }
 
@@ -83,11 +84,11 @@ fn any_value_is_its_octets(rt: HostRuntime) -> Result<(), Fail> {
     octets.push(2)?;
     octets.push(1)?;
     let any = Any::new(octets);
-    assert_eq!(rt; any.as_bytes(), [2, 1].as_slice());
+    assert_same(&rt, &any.as_bytes(), &[2, 1].as_slice());
     let copy = any.clone()?;
     assert!(rt; copy == any);
     let again = Any::from(any.into_bytes());
-    assert_eq!(rt; again.into_bytes().as_slice(), [2, 1].as_slice());
+    assert_same(&rt, &again.into_bytes().as_slice(), &[2, 1].as_slice());
     Ok(())
 }
 
@@ -124,10 +125,11 @@ impl InnerSubtypeConstraint for Even {
 #[test]
 fn components_are_validated(rt: HostRuntime) {
     let odd = InnerSubtypeConstraintError { component: "even" };
-    assert_eq!(rt; Even(2).validate_components(), Ok(Even(2)));
-    assert_eq!(rt; Even(3).validate_components(), Err(odd));
-    assert_eq!(rt;
-        Even(2).validate_and_decode_containing(Some(CodecKind::Oer)),
-        Err(odd)
+    assert_same(&rt, &Even(2).validate_components(), &Ok(Even(2)));
+    assert_same(&rt, &Even(3).validate_components(), &Err(odd));
+    assert_same(
+        &rt,
+        &Even(2).validate_and_decode_containing(Some(CodecKind::Oer)),
+        &Err(odd),
     );
 }

@@ -2,8 +2,8 @@
 use crate::tests::{decoder, encoder};
 use asn1_schema_constraints::Constraints;
 use asn1_schema_faults::{DecodeError, EncodeError};
-use asn1_schema_named::{DecodeNamed, EncodeNamed};
 use asn1_schema_tags::{Identifier, Tag};
+use asn1_schema_wrapped::{DecodeNamed, EncodeNamed};
 use asn1_values_alphabets::{StaticPermittedAlphabet, string_of_text};
 use asn1_values_strings::{
     GeneralString, GraphicString, Ia5String, NumericString, PrintableString, TeletexString,

@@ -5,8 +5,7 @@ use asn1_schema_faults::DecodeError;
 use asn1_values_alphabets::StaticPermittedAlphabet;
 use asn1_values_strings::{Ia5String, NumericString, VisibleString};
 use asn1_values_strings_wide::BmpString;
-use oer_codec_reading::{Cursor, EncodingRules};
-use oer_codec_reading_strings::read_characters;
+use oer_codec_reading::{Cursor, EncodingRules, read_characters};
 use std::alloc::Global;
 
 /// The string in front, under a size constraint.

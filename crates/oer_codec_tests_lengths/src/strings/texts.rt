@@ -1,9 +1,9 @@
 //! Texts in UTF-8.
 use super::{is_refused, of_size};
+use crate::assertions::assert_same;
 use asn1_schema_bounds::Bounded;
 use asn1_schema_faults::DecodeError;
-use oer_codec_reading::{Cursor, EncodingRules};
-use oer_codec_reading_strings::read_utf8_string;
+use oer_codec_reading::{Cursor, EncodingRules, read_utf8_string};
 use std::alloc::Global;
 
 /// The text in front, under a size constraint.
@@ -40,7 +40,7 @@ fn other_sizes_have_a_length(rt: HostRuntime) {
     input[1] = 0x80;
     let read = text(rt.alloc(), &input, EncodingRules::Coer, Bounded::None);
     match read {
-        Ok(text) => assert_eq!(rt; text.as_bytes(), &input[2..]),
+        Ok(text) => assert_same(&rt, &text.as_bytes(), &&input[2..]),
         Err(_) => assert!(rt; false),
     }
     let accent = [0x02, 0xC3, 0xA9];

@@ -1,7 +1,7 @@
 use Rattle.std.proofs.Common.{◌<◌, cond, length, map, subst, sym}
 use Rattle.asn1_schema_tags.specs.Tags.{tag_of}
 use Rattle.asn1_schema_variants.specs.declared.chosen.Chosen.{Chosen}
-use Rattle.oer_codec_reading_tags.proofs.Places.{place_below}
+use Rattle.oer_codec_reading.proofs.Places.{place_below}
 use Rattle.oer_codec_decoder.proofs.choices.find_alternative.Goals as goal
 
 pub returns-in-Some-clause-within : goal.returns-in-Some-clause-within

@@ -1,6 +1,6 @@
 use Rattle.std.proofs.Common.{refl, false}
 use Rattle.asn1_schema_presented.proofs.Joined.{raised}
-use Rattle.asn1_schema_choices.proofs.Reading.{reads_begun, unread_begun, unread_begun_here, unread_begun_end}
+use Rattle.asn1_schema_constructed.proofs.ChoiceReading.{reads_begun, unread_begun, unread_begun_here, unread_begun_end}
 use Rattle.asn1_schema_example_choices.specs.Nest.{nest_table, nest_schema, nest_is, nest_first, nest_second}
 use Rattle.asn1_schema_example_choices.proofs.nest.NestDecode.+decode_with_tag_and_constraints.Goals as goal
 

@@ -1,6 +1,6 @@
 use Rattle.std.proofs.Common.{ap, false}
 use Rattle.asn1_schema_presented.proofs.Joined.{raised}
-use Rattle.asn1_schema_choices.proofs.Writing.{writes_begun, cannot_begun, cannot_begun_here, cannot_begun_end}
+use Rattle.asn1_schema_constructed.proofs.ChoiceWriting.{writes_begun, cannot_begun, cannot_begun_here, cannot_begun_end}
 use Rattle.asn1_schema_example_choices.specs.Nest.{nest_table, nest_schema, nest_is, nest_meaning}
 use Rattle.asn1_schema_example_choices.proofs.nest.NestEncode.+encode_with_tag_and_constraints.Goals as goal
 

@@ -1,7 +1,7 @@
 use Rattle.std.proofs.Common.{ap, ◌∙◌}
-use Rattle.oer_codec_encoder_frames.specs.Holding.{shown}
+use Rattle.oer_codec_encoder.specs.Holding.{shown}
 use Rattle.oer_codec_encoder.specs.Stepping.{Written}
-use Rattle.oer_codec_encoder_frames.proofs.Scopes.{nothing_open}
+use Rattle.oer_codec_encoder.proofs.Scopes.{nothing_open}
 use Rattle.oer_codec_encoder.proofs.encoder.Encoder.output.Goals as goal
 
 pub returns-clause-octets : goal.returns-clause-octets

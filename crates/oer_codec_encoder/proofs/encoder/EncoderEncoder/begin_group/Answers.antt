@@ -1,6 +1,6 @@
 use Rattle.std.proofs.Common.{false, refl}
 use Rattle.asn1_schema_presented.specs.Records.{sequence_begins, group_begins}
-use Rattle.oer_codec_encoder_frames.proofs.Scopes.{does_same}
+use Rattle.oer_codec_encoder.proofs.Scopes.{does_same}
 use Rattle.oer_codec_encoder.proofs.Stepped.{stays_sound, puts}
 use Rattle.oer_codec_encoder.proofs.encoder.EncoderEncoder.begin_group.Goals as goal
 

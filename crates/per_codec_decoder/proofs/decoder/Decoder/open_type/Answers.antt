@@ -1,8 +1,8 @@
 use Rattle.std.proofs.Common.{◌∙◌, ap, sym, subst, refl}
 use Rattle.per_codec_fronts.specs.Takes.{Front}
 use Rattle.per_codec_reading.specs.Fronts.{freedoms, is_aligned}
-use Rattle.per_codec_reading_scopes.specs.Fields.{octets_form}
-use Rattle.per_codec_reading_scopes.specs.Stretches.{Stretched}
+use Rattle.per_codec_reading_values.specs.Fields.{octets_form}
+use Rattle.per_codec_reading_values.specs.Stretches.{Stretched}
 use Rattle.per_codec_decoder.proofs.Opening.{not_opened, opened}
 use Rattle.per_codec_decoder.proofs.decoder.Decoder.open_type.Goals as goal
 

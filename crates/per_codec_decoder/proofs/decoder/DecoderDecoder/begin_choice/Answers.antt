@@ -6,7 +6,7 @@ use Rattle.std.proofs.Common.{map}
 use Rattle.asn1_laws_fronts.proofs.PerNumbers.{length_of_map}
 use Rattle.asn1_schema_tags.specs.Tags.{tag_of}
 use Rattle.asn1_schema_variants.specs.declared.chosen.Chosen.{Chosen}
-use Rattle.per_codec_reading_places.specs.Places.{place_form}
+use Rattle.per_codec_reading_values.specs.Places.{place_form}
 use Rattle.per_codec_decoder.specs.Held.{Held}
 use Rattle.per_codec_decoder.proofs.Settling.{ok_of, err_of, moves_there}
 use Rattle.per_codec_decoder.proofs.Opening.{no_place, no_chosen_type, type_begun, alternative_begun, place_within}

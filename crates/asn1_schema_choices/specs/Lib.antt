@@ -1,5 +1,0 @@
-pub mod Tables
-pub mod Recursive
-pub mod Chosen
-pub mod Tagged
-pub mod Named

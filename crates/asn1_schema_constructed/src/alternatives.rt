@@ -1,0 +1,111 @@
+//! Choices by the tables of their alternatives.
+ghost use Rattle.std.specs.Prelude.{◌≡◌, ℕ, List, [], true, false, map, MatchOption, IfOk, IfErr, OnErr};
+ghost use Rattle.asn1_model.specs.Value.{Value};
+ghost use Rattle.asn1_schema_constraints.specs.declared.lists.Constraints.{Constraints};
+ghost use Rattle.asn1_schema_tags.specs.Tags.{tag_of};
+ghost use Rattle.asn1_schema_variants.specs.declared.chosen.Chosen.{Chosen};
+ghost use Rattle.asn1_schema_encode.specs.Writes.{Writes, CannotWrite};
+ghost use Rattle.asn1_schema_constructed.specs.Tables.{Choices, tags_of, choice_type};
+ghost use Rattle.asn1_schema_constructed.specs.Chosen.{chosen_type, chosen_value, IsTag, AreTold, of_tag};
+ghost use Rattle.asn1_schema_tags.specs.Trees.{place_of};
+
+use asn1_schema_encode::Encoder;
+use asn1_schema_faults::EncodeError;
+use asn1_schema_tags::Tag;
+use asn1_schema_types::AsnType;
+use asn1_schema_variants::Chosen;
+
+/// CHOICE (X.680 29), by the tables of its alternatives.
+pub trait Alternatives: AsnType {
+    /// The alternatives.
+    ghost table: { Choices };
+
+    /// The tags of the root alternatives, in ascending order (X.680 8.6).
+    fn variants() -> &'static [Tag]
+        ensures { map tag_of result.now ≡ tags_of table.root };
+
+    /// The tags of the added alternatives in their order, or `None` where there is no mark of extensibility.
+    fn extended_variants() -> Option<&'static [Tag]>
+        ensures { MatchOption result ((false ≡ table.extensible) × ([] ≡ tags_of table.additions)) (λ tags. (true ≡ table.extensible) × (map tag_of tags.now ≡ tags_of table.additions)) };
+
+    /// The type is that of the alternatives, whatever constraints it has.
+    ghost is_of: { (c : Constraints) (n : ℕ) → Self.under c n ≡ choice_type table n };
+}
+
+/// The values of a CHOICE: which alternative each is, and how that is written.
+pub trait Choice: Alternatives {
+    /// The alternative of a value.
+    ghost place: { Self → Chosen };
+
+    /// The value of that alternative.
+    ghost inner: { Self → Value };
+
+    /// Which alternative the value is.
+    fn chosen(&self) -> Chosen
+        ensures { result ≡ place self.now };
+
+    /// Hands over the records of the chosen alternative's value, each once, and answers the tag of the alternative.
+    fn write_chosen<E: Encoder>(&self, encoder: &mut E) -> Result<Tag, EncodeError>
+        ensures ok { IfOk result (λ _. Writes E.step (chosen_type Self.table (place self.now)) (inner self.now) encoder.old encoder.new) }
+        ensures tag { IfOk result (λ tag. IsTag Self.table (place self.now) (tag_of tag)) }
+        ensures only { IfErr result (CannotWrite E.step (chosen_type Self.table (place self.now)) (inner self.now) encoder.old) }
+        ensures failed { OnErr result (E.has_failed encoder.new) }
+        ensures already { E.has_failed encoder.old → result ≡ Err EncodeError.AlreadyFailed };
+
+    /// A value means that of its alternative.
+    ghost means: { (x : Self) → Self.meaning x ≡ chosen_value (place x) (inner x) };
+}
+
+/// What a codec is told of a choice.
+#[derive(Drop)]
+pub struct TagTables {
+    /// The tags of the root alternatives.
+    pub roots: &'static [Tag],
+    /// Whether there is a mark of extensibility.
+    pub extensible: bool,
+    /// The tags of the added alternatives.
+    pub additions: &'static [Tag],
+}
+
+/// What a codec is told of a choice.
+pub fn tag_tables_of<T: Alternatives>() -> TagTables
+    ensures { AreTold T.table (map tag_of result.roots.now) result.extensible (map tag_of result.additions.now) }
+{
+    let roots = T::variants();
+    match T::extended_variants() {
+        Some(additions) => TagTables {
+            roots,
+            extensible: true,
+            additions,
+        },
+        None => TagTables {
+            roots,
+            extensible: false,
+            additions: &[],
+        },
+    }
+}
+
+/// The alternative of a tag, of the root or else an added one, if there is one.
+pub fn alternative_of<T: Alternatives>(tag: Tag) -> Option<Chosen>
+    ensures { result ≡ of_tag T.table (tag_of tag) }
+{
+    if let Some(place) = position_of(T::variants(), tag) {
+        return Some(Chosen::root(place));
+    }
+    let additions = T::extended_variants()?;
+    let place = position_of(additions, tag)?;
+    Some(Chosen::addition(place))
+}
+
+/// The place of the first of some tags that is this one.
+fn position_of(tags: &[Tag], tag: Tag) -> Option<usize>
+    ensures { result ≡ place_of (map tag_of tags.now) (tag_of tag) }
+{
+    for (place, own) in tags.iter().enumerate() {
+        if tag.const_eq(own) {
+            return Some(place);
+        }
+    }
+    None
+}

@@ -1,0 +1,45 @@
+//! Bags, as they are written.
+ghost use Rattle.std.specs.Prelude.{◌≡◌, OnOk, OnErr, IfErr};
+ghost use Rattle.asn1_model.specs.Value.{bag};
+ghost use Rattle.asn1_schema_bounds.specs.Bounds.{members_of};
+ghost use Rattle.asn1_schema_constraints.specs.Terms.{sizes_of};
+ghost use Rattle.asn1_schema_presented.specs.Parts.{values_of};
+ghost use Rattle.asn1_schema_constructed.specs.Bags.{bag_type};
+ghost use Rattle.asn1_schema_encode.specs.Writes.{Writes, CannotWrite};
+
+use asn1_schema_bounds::Bounded;
+use asn1_schema_constraints::Constraints;
+use asn1_schema_encode::{Encode, Encoder};
+use asn1_schema_faults::EncodeError;
+use asn1_schema_tags::Tag;
+
+/// How a bag is written.
+pub trait EncodeBag: Encoder {
+    /// SET OF (X.680 28) under a size constraint, in a type of the program that holds so many members, handed over in
+    /// any order.
+    final fn encode_set_of<T: Encode>(
+        &mut self,
+        tag: Tag,
+        items: &[T],
+        constraints: Constraints,
+        held: Bounded<usize>,
+    ) -> Result<(), EncodeError>
+    where
+        Self: Sized,
+        ensures ok { OnOk result (Writes Self.step (bag_type (sizes_of constraints.entry.size) (members_of held) T.schema) (bag (values_of T.meaning items.now)) self.old self.new) }
+        ensures only { IfErr result (CannotWrite Self.step (bag_type (sizes_of constraints.entry.size) (members_of held) T.schema) (bag (values_of T.meaning items.now)) self.old) }
+        ensures failed { OnErr result (Self.has_failed self.new) }
+        ensures already { Self.has_failed self.old → result ≡ Err EncodeError.AlreadyFailed }
+    {
+        self.begin_bag(tag, constraints, held, items.len())?;
+        for item in items {
+            self.put_further(true)?;
+            item.encode(self)?;
+        }
+        self.put_further(false)?;
+        self.end()?;
+        Ok(())
+    }
+}
+
+impl<E: Encoder> EncodeBag for E {}

@@ -1,0 +1,96 @@
+//! How choices are read.
+ghost use Rattle.std.specs.Prelude.{◌≡◌, ◌+◌, Some, None, OnOk, OnErr, IfOk, IfErr};
+ghost use Rattle.asn1_schema_decode.specs.Reads.{Reads, Unread, NoLevel};
+ghost use Rattle.asn1_schema_tags.specs.Tags.{tag_of};
+ghost use Rattle.asn1_schema_constructed.specs.Tagged.{ReadsTagged, UnreadTagged};
+ghost use Rattle.asn1_schema_constructed.specs.Chosen.{chosen_type, begins, asks, IsAmong, of_tag};
+ghost use Rattle.asn1_schema_variants.specs.declared.chosen.Chosen.{Chosen};
+
+use crate::alternatives::{Alternatives, Choice, alternative_of, tag_tables_of};
+use asn1_schema_constraints::Constraints;
+use asn1_schema_decode::Decoder;
+use asn1_schema_faults::DecodeError;
+use asn1_schema_tags::Tag;
+use asn1_schema_variants::Chosen;
+use std::alloc::Global;
+
+/// A CHOICE that is read by its alternatives (X.680 29).
+pub trait DecodeChoice: Choice + Drop {
+    /// Reads the value of an alternative.
+    fn from_chosen<D: Decoder>(
+        alloc: Global,
+        decoder: &mut D,
+        chosen: Chosen,
+    ) -> Result<Self, DecodeError>
+        requires { IsAmong Self.table chosen }
+        ensures place { IfOk result (λ x. Self.place x ≡ chosen) }
+        ensures ok { IfOk result (λ x. Reads D.step (chosen_type Self.table chosen) (D.levels decoder.old) (Self.inner x) decoder.old decoder.new) }
+        ensures level { OnOk result (D.levels decoder.new ≡ D.levels decoder.old) }
+        ensures only { IfErr result (Unread D.step (chosen_type Self.table chosen) (D.levels decoder.old) decoder.old) }
+        ensures failed { OnErr result (D.has_failed decoder.new) }
+        ensures already { D.has_failed decoder.old → result ≡ Err DecodeError.AlreadyFailed };
+
+    /// Reads the value of the alternative of a tag. A tag that no alternative has is `InvalidTagVariantOnChoice`.
+    final fn from_tag<D: Decoder>(
+        alloc: Global,
+        decoder: &mut D,
+        tag: Tag,
+    ) -> Result<Self, DecodeError>
+    where
+        Self: Sized,
+        ensures ok { IfOk result (λ x. ReadsTagged D.step Self.table (tag_of tag) (D.levels decoder.old) (Self.place x) (Self.inner x) decoder.old decoder.new) }
+        ensures level { OnOk result (D.levels decoder.new ≡ D.levels decoder.old) }
+        ensures only { IfErr result (UnreadTagged D.step Self.table (tag_of tag) (D.levels decoder.old) decoder.old) }
+        ensures failed { OnErr result (D.has_failed decoder.new) }
+        ensures unknown { of_tag Self.table (tag_of tag) ≡ None → result ≡ Err DecodeError.InvalidTagVariantOnChoice }
+        ensures already { D.has_failed decoder.old → (c : Chosen) → of_tag Self.table (tag_of tag) ≡ Some c → result ≡ Err DecodeError.AlreadyFailed }
+    {
+        let Some(chosen) = alternative_of::<Self>(tag) else {
+            return Err(decoder.refuse(DecodeError::InvalidTagVariantOnChoice));
+        };
+        let value = Self::from_chosen(alloc, decoder, chosen)?;
+        Ok(value)
+    }
+}
+
+/// How choices are read.
+pub trait DecodeAlternatives: Decoder {
+    /// CHOICE (X.680 29).
+    final fn decode_choice<T: DecodeChoice>(
+        &mut self,
+        alloc: Global,
+        tag: Tag,
+        constraints: Constraints,
+    ) -> Result<T, DecodeError>
+    where
+        Self: Sized,
+        ensures ok { IfOk result (λ x. Reads Self.step (T.under constraints.entry) (Self.levels self.old) (T.meaning x) self.old self.new) }
+        ensures level { OnOk result (Self.levels self.new ≡ Self.levels self.old) }
+        ensures only { IfErr result (Unread Self.step (T.under constraints.entry) (Self.levels self.old) self.old) }
+        ensures failed { OnErr result (Self.has_failed self.new) }
+        ensures already { Self.has_failed self.old → result ≡ Err DecodeError.AlreadyFailed }
+    {
+        let chosen = self.begin_alternatives::<T>(tag)?;
+        let value = T::from_chosen(alloc, self, chosen)?;
+        self.end()?;
+        Ok(value)
+    }
+
+    /// A CHOICE begins: which of its alternatives is chosen. A choice that leads back to itself is read by it.
+    final fn begin_alternatives<C: Alternatives>(&mut self, tag: Tag) -> Result<Chosen, DecodeError>
+    where
+        Self: Sized,
+        ensures ok { IfOk result (λ x. Self.step self.old (begins C.table x.added x.place) self.new) }
+        ensures within { IfOk result (IsAmong C.table) }
+        ensures level { OnOk result (Self.levels self.old ≡ Self.levels self.new + 1) }
+        ensures only { IfErr result (NoLevel Self.step (asks C.table) (Self.levels self.old) self.old) }
+        ensures failed { OnErr result (Self.has_failed self.new) }
+        ensures already { Self.has_failed self.old → result ≡ Err DecodeError.AlreadyFailed }
+    {
+        let tables = tag_tables_of::<C>();
+        let chosen = self.begin_choice(tag, tables.roots, tables.extensible, tables.additions)?;
+        Ok(chosen)
+    }
+}
+
+impl<D: Decoder> DecodeAlternatives for D {}

@@ -1,0 +1,60 @@
+//! How choices are written.
+ghost use Rattle.std.specs.Prelude.{◌≡◌, OnOk, OnErr, IfErr};
+ghost use Rattle.asn1_schema_encode.specs.Writes.{Refused, Writes, CannotWrite};
+ghost use Rattle.asn1_schema_constructed.specs.Chosen.{begins};
+
+use crate::alternatives::{Alternatives, Choice, tag_tables_of};
+use asn1_schema_constraints::Constraints;
+use asn1_schema_encode::Encoder;
+use asn1_schema_faults::EncodeError;
+use asn1_schema_tags::Tag;
+use asn1_schema_variants::Chosen;
+
+/// How choices are written.
+pub trait EncodeChoice: Encoder {
+    /// CHOICE (X.680 29).
+    final fn encode_choice<T: Choice>(
+        &mut self,
+        tag: Tag,
+        constraints: Constraints,
+        value: &T,
+    ) -> Result<(), EncodeError>
+    where
+        Self: Sized,
+        ensures ok { OnOk result (Writes Self.step (T.under constraints.entry) (T.meaning value.now) self.old self.new) }
+        ensures only { IfErr result (CannotWrite Self.step (T.under constraints.entry) (T.meaning value.now) self.old) }
+        ensures failed { OnErr result (Self.has_failed self.new) }
+        ensures already { Self.has_failed self.old → result ≡ Err EncodeError.AlreadyFailed }
+    {
+        self.begin_alternative::<T>(tag, value.chosen())?;
+        value.write_chosen(self)?;
+        self.end()?;
+        Ok(())
+    }
+
+    /// A CHOICE begins, with the chosen one of its alternatives. A choice that leads back to itself is written by it.
+    final fn begin_alternative<C: Alternatives>(
+        &mut self,
+        tag: Tag,
+        chosen: Chosen,
+    ) -> Result<(), EncodeError>
+    where
+        Self: Sized,
+        ensures ok { OnOk result (Self.step self.old (begins C.table chosen.added chosen.place) self.new) }
+        ensures only { IfErr result (Refused Self.step (begins C.table chosen.added chosen.place) self.old) }
+        ensures failed { OnErr result (Self.has_failed self.new) }
+        ensures already { Self.has_failed self.old → result ≡ Err EncodeError.AlreadyFailed }
+    {
+        let tables = tag_tables_of::<C>();
+        self.begin_choice(
+            tag,
+            tables.roots,
+            tables.extensible,
+            tables.additions,
+            chosen,
+        )?;
+        Ok(())
+    }
+}
+
+impl<E: Encoder> EncodeChoice for E {}

@@ -1,0 +1,61 @@
+//! Sets, as they are read.
+ghost use Rattle.std.specs.Prelude.{◌≡◌, OnOk, OnErr, IfErr, IfOk};
+ghost use Rattle.asn1_model.specs.Value.{fields};
+ghost use Rattle.asn1_schema_presented.specs.Tables.{marks};
+ghost use Rattle.asn1_schema_decode.specs.Reads.{Reads, Unread};
+ghost use Rattle.asn1_schema_constructed.specs.Sets.{set_type};
+
+use crate::Constructed;
+use asn1_schema_decode::{DecodeComponents, Decoder};
+use asn1_schema_faults::DecodeError;
+use asn1_schema_tags::Tag;
+use std::alloc::Global;
+
+/// How sets are read.
+pub trait DecodeSet: Decoder {
+    /// SET (X.680 27) of these components, with or without a mark of extensibility, of whose root components so many may be absent.
+    final fn decode_set<C: DecodeComponents>(
+        &mut self,
+        alloc: Global,
+        tag: Tag,
+        extensible: bool,
+        optional: usize,
+    ) -> Result<C, DecodeError>
+    where
+        Self: Sized,
+        requires marks { optional ≡ marks C.table.root }
+        requires mark { C.table.extensible ≡ extensible }
+        ensures ok { IfOk result (λ x. Reads Self.step (set_type C.table) (Self.levels self.old) (fields (C.root x) (C.added x)) self.old self.new) }
+        ensures level { OnOk result (Self.levels self.new ≡ Self.levels self.old) }
+        ensures only { IfErr result (Unread Self.step (set_type C.table) (Self.levels self.old) self.old) }
+        ensures failed { OnErr result (Self.has_failed self.new) }
+        ensures already { Self.has_failed self.old → result ≡ Err DecodeError.AlreadyFailed }
+    {
+        self.begin_set(tag, extensible, optional)?;
+        let components = C::decode_components(alloc, self)?;
+        Ok(components)
+    }
+
+    /// SET (X.680 27) of a type with components.
+    final fn decode_set_fields_of<T: Constructed>(
+        &mut self,
+        alloc: Global,
+        tag: Tag,
+    ) -> Result<T, DecodeError>
+    where
+        Self: Sized,
+        ensures ok { IfOk result (λ x. Reads Self.step (set_type T.table) (Self.levels self.old) (fields (T.root x) (T.added x)) self.old self.new) }
+        ensures level { OnOk result (Self.levels self.new ≡ Self.levels self.old) }
+        ensures only { IfErr result (Unread Self.step (set_type T.table) (Self.levels self.old) self.old) }
+        ensures failed { OnErr result (Self.has_failed self.new) }
+        ensures already { Self.has_failed self.old → result ≡ Err DecodeError.AlreadyFailed }
+    {
+        let optional = T::fields().number_of_optional_and_default_fields();
+        let extensible = T::is_extensible();
+        self.begin_set(tag, extensible, optional)?;
+        let value = T::read_fields(alloc, self)?;
+        Ok(value)
+    }
+}
+
+impl<D: Decoder> DecodeSet for D {}

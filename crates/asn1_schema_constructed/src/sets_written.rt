@@ -1,0 +1,58 @@
+//! Sets, as they are written.
+ghost use Rattle.std.specs.Prelude.{◌≡◌, OnOk, OnErr, IfErr};
+ghost use Rattle.asn1_model.specs.Value.{fields};
+ghost use Rattle.asn1_schema_presented.specs.Tables.{marks};
+ghost use Rattle.asn1_schema_encode.specs.Writes.{Writes, CannotWrite};
+ghost use Rattle.asn1_schema_constructed.specs.Sets.{set_type};
+
+use crate::Constructed;
+use asn1_schema_encode::{EncodeComponents, Encoder};
+use asn1_schema_faults::EncodeError;
+use asn1_schema_tags::Tag;
+
+/// How sets are written.
+pub trait EncodeSet: Encoder {
+    /// SET (X.680 27) of these components, with or without a mark of extensibility, of whose root components so many may be absent.
+    final fn encode_set<C: EncodeComponents>(
+        &mut self,
+        tag: Tag,
+        extensible: bool,
+        optional: usize,
+        components: &C,
+    ) -> Result<(), EncodeError>
+    where
+        Self: Sized,
+        requires marks { optional ≡ marks C.table.root }
+        requires mark { C.table.extensible ≡ extensible }
+        ensures ok { OnOk result (Writes Self.step (set_type C.table) (fields (C.root components.now) (C.added components.now)) self.old self.new) }
+        ensures only { IfErr result (CannotWrite Self.step (set_type C.table) (fields (C.root components.now) (C.added components.now)) self.old) }
+        ensures failed { OnErr result (Self.has_failed self.new) }
+        ensures already { Self.has_failed self.old → result ≡ Err EncodeError.AlreadyFailed }
+    {
+        self.begin_set(tag, extensible, optional)?;
+        components.encode_components(self)?;
+        Ok(())
+    }
+
+    /// SET (X.680 27) of a type with components.
+    final fn encode_set_fields_of<T: Constructed>(
+        &mut self,
+        tag: Tag,
+        value: &T,
+    ) -> Result<(), EncodeError>
+    where
+        Self: Sized,
+        ensures ok { OnOk result (Writes Self.step (set_type T.table) (fields (T.root value.now) (T.added value.now)) self.old self.new) }
+        ensures only { IfErr result (CannotWrite Self.step (set_type T.table) (fields (T.root value.now) (T.added value.now)) self.old) }
+        ensures failed { OnErr result (Self.has_failed self.new) }
+        ensures already { Self.has_failed self.old → result ≡ Err EncodeError.AlreadyFailed }
+    {
+        let optional = T::fields().number_of_optional_and_default_fields();
+        let extensible = T::is_extensible();
+        self.begin_set(tag, extensible, optional)?;
+        value.write_fields(self)?;
+        Ok(())
+    }
+}
+
+impl<E: Encoder> EncodeSet for E {}

@@ -1,0 +1,8 @@
+use Rattle.std.proofs.Common.{◌∙◌, refl}
+use Rattle.asn1_schema_tags.proofs.TreeLaws.{leaves_leaf, leaves_choice}
+use Rattle.asn1_schema_example.proofs.Leaves.{two_leaves}
+use Rattle.asn1_schema_example.proofs.gauge.GaugeConstructed.fields.Goals as goal
+
+-- The tree of the choice has the tags of its alternatives.
+pub returns : goal.returns
+returns c = rw c.from_static.ensures (leaves_leaf _, refl, (leaves_choice _ ∙ two_leaves _ _, refl, tt))

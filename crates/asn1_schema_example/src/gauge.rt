@@ -1,0 +1,155 @@
+//! SET {power CHOICE {on [7] BOOLEAN, off [1] NULL}, level [0] INTEGER (0..255)}: the smallest tag of the choice is [1], so that it stands behind
+//! the number.
+ghost use Rattle.std.specs.Prelude.{refl, [], ◌∷◌};
+ghost use Rattle.asn1_model.specs.Value.{fields};
+ghost use Rattle.asn1_schema_constraints.specs.Sets.{no_constraint};
+ghost use Rattle.asn1_schema_constructed.specs.Constructed.{set_form};
+ghost use Rattle.asn1_schema_constructed.specs.Sets.{set_type};
+ghost use Rattle.asn1_schema_constructed.proofs.SetValues.{type_set, value_set};
+
+use crate::power::Power;
+use asn1_schema_components::{ComponentsOf, End, Required, RequiredComponent};
+use asn1_schema_constraints::Constraints;
+use asn1_schema_constructed::{Constructed, DecodeSet, EncodeSet, Field, FieldPresence, Fields};
+use asn1_schema_decode::{Decode, DecodeComponents, Decoder};
+use asn1_schema_encode::{Encode, EncodeComponents, Encoder};
+use asn1_schema_faults::{DecodeError, EncodeError};
+use asn1_schema_tags::{Class, Identifier, Tag, TagTree};
+use asn1_schema_types::{AsnType, Described};
+use asn1_schema_wrapped::{Implicit, tag};
+use std::alloc::Global;
+
+/// A number, and a choice without a tag of its own behind it.
+#[derive(Drop)]
+pub struct Gauge {
+    /// How much there is.
+    pub level: Implicit<tag::Context<0>, u8>,
+    /// What runs, under no tag of its own.
+    pub power: Power,
+}
+
+type Form = RequiredComponent<Implicit<tag::Context<0>, u8>, RequiredComponent<Power, End>>;
+
+impl Described for Gauge {
+    ghost tags = { record { class = 0; number = 17 } ∷ [] };
+
+    ghost own = { no_constraint };
+
+    ghost under = { λ _. set_type ⟦<Form as ComponentsOf>⟧.table };
+
+    ghost schema = { set_type ⟦<Form as ComponentsOf>⟧.table };
+
+    ghost is_own = { λ _. refl };
+
+    ghost meaning = { λ x. fields (⟦<Form as ComponentsOf>⟧.root (record { 0 = x.level; 1 = record { 0 = x.power; 1 = record {} } })) (⟦<Form as ComponentsOf>⟧.added (record { 0 = x.level; 1 = record { 0 = x.power; 1 = record {} } })) };
+
+    ghost typed = { type_set _ refl (⟦<Form as ComponentsOf>⟧.typed tt) refl refl };
+
+    ghost valued = { λ x. value_set _ (⟦<Form as ComponentsOf>⟧.valued tt (record { 0 = x.level; 1 = record { 0 = x.power; 1 = record {} } })) };
+
+    ghost valued_under = { λ _ x. value_set _ (⟦<Form as ComponentsOf>⟧.valued tt (record { 0 = x.level; 1 = record { 0 = x.power; 1 = record {} } })) };
+}
+
+impl AsnType for Gauge {
+    const TAG: Tag = Tag::SET;
+
+    const IDENTIFIER: Identifier = Identifier(Some("Gauge"));
+
+    fn tag_tree() -> TagTree<'static> {
+        TagTree::of(Self::TAG)
+    }
+
+    fn constraints() -> Constraints<'static> {
+        Constraints::NONE
+    }
+}
+
+impl Constructed for Gauge {
+    ghost form = { set_form };
+
+    ghost table = { ⟦<Form as ComponentsOf>⟧.table };
+
+    ghost root = { λ x. ⟦<Form as ComponentsOf>⟧.root (record { 0 = x.level; 1 = record { 0 = x.power; 1 = record {} } }) };
+
+    ghost added = { λ x. ⟦<Form as ComponentsOf>⟧.added (record { 0 = x.level; 1 = record { 0 = x.power; 1 = record {} } }) };
+
+    fn fields() -> Fields<'static> {
+        const FIELDS: &'static [Field<'static>] = &[
+            Field {
+                index: 0,
+                tag: Tag {
+                    class: Class::Context,
+                    value: 0,
+                },
+                tag_tree: TagTree::Leaf(Tag {
+                    class: Class::Context,
+                    value: 0,
+                }),
+                presence: FieldPresence::Required,
+                name: "level",
+            },
+            Field {
+                index: 1,
+                tag: Tag::CHOICE,
+                tag_tree: TagTree::Choice(&[
+                    TagTree::Leaf(Tag {
+                        class: Class::Context,
+                        value: 1,
+                    }),
+                    TagTree::Leaf(Tag {
+                        class: Class::Context,
+                        value: 7,
+                    }),
+                ]),
+                presence: FieldPresence::Required,
+                name: "power",
+            },
+        ];
+        Fields::from_static(FIELDS)
+    }
+
+    fn extended_fields() -> Option<Fields<'static>> {
+        None
+    }
+
+    fn is_extensible() -> bool {
+        false
+    }
+
+    fn write_fields<E: Encoder>(&self, encoder: &mut E) -> Result<(), EncodeError> {
+        let components = Required(&self.level, Required(&self.power, End));
+        components.encode_components(encoder)
+    }
+
+    fn read_fields<D: Decoder>(alloc: Global, decoder: &mut D) -> Result<Self, DecodeError> {
+        let form = Form::decode_components(alloc, decoder)?;
+        let RequiredComponent(level, RequiredComponent(power, End)) = form;
+        Ok(Gauge { level, power })
+    }
+
+    ghost means = { λ _. refl };
+
+    ghost is_of = { λ _ _. refl };
+}
+
+impl Encode for Gauge {
+    fn encode_with_tag_and_constraints<E: Encoder>(
+        &self,
+        encoder: &mut E,
+        tag: Tag,
+        _constraints: Constraints,
+    ) -> Result<(), EncodeError> {
+        encoder.encode_set_fields_of(tag, self)
+    }
+}
+
+impl Decode for Gauge {
+    fn decode_with_tag_and_constraints<D: Decoder>(
+        alloc: Global,
+        decoder: &mut D,
+        tag: Tag,
+        _constraints: Constraints,
+    ) -> Result<Self, DecodeError> {
+        decoder.decode_set_fields_of(alloc, tag)
+    }
+}

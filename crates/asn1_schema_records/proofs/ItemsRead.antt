@@ -1,0 +1,42 @@
+-- How the item of an enumeration is taken, and why none is.
+use Rattle.std.proofs.Common.{◌≡◌, ℤ, Bool, true, false, List, [], Some, None, sym, ◌∙◌, subst, ap}
+use Rattle.asn1_schema_decode.specs.Reads.{NoRecord}
+use Rattle.asn1_schema_faults.specs.declared.DecodeError.{DecodeError}
+use Rattle.asn1_schema_presented.specs.Records.{Record, question, one_of, asks_one_of}
+use Rattle.asn1_schema_records.proofs.Taking.{leaves, other}
+use Rattle.asn1_schema_records.specs.Taken.{Left, Takes, Leaves, IsKept, IsListed}
+use Rattle.asn1_schema_variants.specs.Items.{IsNone}
+
+-- a number cannot be listed and be in no table
+not_both : (roots : List ℤ) (e : Bool) (adds : List ℤ) (v : ℤ) → IsListed roots e adds v → IsNone roots e adds v → ⊥
+not_both roots e adds v (false, i, p) n = let h : Some i ≡ None = sym p ∙ n.0 in cc
+not_both roots e adds v (true, i, p) n = let h : Some i ≡ None = sym p.2 ∙ n.1 p.1 in cc
+
+module _ {a b : Left} {k : Record} where
+  pub takes_item : {roots adds : List ℤ} {e m : Bool} {v w : ℤ} → Leaves a k b → k ≡ one_of [] m [] v → m ≡ e → w ≡ v → IsListed roots e adds w → Takes a (one_of roots e adds w) b
+  takes_item {roots} {adds} {e} {m} {v} {w} l f g h i =
+      leaves (one_of roots e adds w) l (f ∙ (ap (λ (t : Bool). one_of [] t [] v) g ∙ ap (λ (t : ℤ). one_of [] e [] t) (sym h)), i) l.levels
+
+  -- another record, or one with another mark
+  pub no_one_of : {roots adds : List ℤ} {e m : Bool} {y : DecodeError} → Leaves a k b → m ≡ e → ((v : ℤ) → k ≡ one_of [] m [] v → ⊥) → NoRecord Takes (asks_one_of roots e adds) a y
+  no_one_of {roots} {adds} {e} {m} l g apart = other l go where
+    go : (r : Record) → question r ≡ asks_one_of roots e adds → IsKept k r → ⊥
+    go (one_of roots' e' adds' w) q i =
+        let x : e' ≡ e = cc q in
+        apart w (i.0 ∙ ap (λ (t : Bool). one_of [] t [] w) (x ∙ sym g))
+    go r q i = cc q
+
+  -- the number of no item
+  pub no_item : {roots adds : List ℤ} {e m : Bool} {v : ℤ} {y : DecodeError} → Leaves a k b → k ≡ one_of [] m [] v → IsNone roots e adds v → NoRecord Takes (asks_one_of roots e adds) a y
+  no_item {roots} {adds} {e} {m} {v} l f n = other l go where
+    go : (r : Record) → question r ≡ asks_one_of roots e adds → IsKept k r → ⊥
+    go (one_of roots' e' adds' w) q i =
+        let s : one_of [] e' [] w ≡ one_of [] m [] v = sym i.0 ∙ f in
+        let x : w ≡ v = cc s in
+        let y : roots' ≡ roots = cc q in
+        let z : e' ≡ e = cc q in
+        let u : adds' ≡ adds = cc q in
+        let h : IsListed roots e adds v =
+        subst (λ (t : ℤ). IsListed roots e adds t) x (subst (λ (t : List ℤ). IsListed roots e t w) u (subst (λ (t : Bool). IsListed roots t adds' w) z (subst (λ (t : List ℤ). IsListed t e' adds' w) y i.1))) in
+        not_both roots e adds v h n
+    go r q i = cc q

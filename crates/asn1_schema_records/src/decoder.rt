@@ -1,0 +1,701 @@
+//! The decoder that reads kept records.
+ghost use Rattle.std.specs.Prelude.{◌≡◌, ◌+◌, ◌≤◌, ◌<◌, ◌||◌, ◌↔◌, ℕ, [], ◌∷◌, true, false, cond, length, map, string_bytes, IsTrue, MatchBool, OnOk, OnErr, IfErr, IfOk};
+ghost use Rattle.asn1_model.specs.Schema.{utf8};
+ghost use Rattle.asn1_model.specs.Types.{any_count};
+ghost use Rattle.asn1_model.specs.Numbers.{is_within, is_count_within};
+ghost use Rattle.asn1_schema_bounds.specs.Bounds.{counts_of, members_of};
+ghost use Rattle.asn1_schema_constraints.specs.Terms.{bounds_of, held_of, sizes_of, alphabet_of};
+ghost use Rattle.asn1_schema_decode.specs.Reads.{NoRecord, NoLevel};
+ghost use Rattle.asn1_schema_presented.specs.Records.{flag, nil, whole, one_of, bits, octets, characters, identifier as object_identifier, list_begins, bag_begins, further, sequence_begins, set_begins};
+ghost use Rattle.asn1_schema_presented.specs.Records.{group_begins, mark, is_default, is_empty, additions_begin, addition, addition_ends, choice_begins, ends};
+ghost use Rattle.asn1_schema_presented.specs.Records.{asks_flag, asks_nil, asks_whole, asks_one_of, asks_bits, asks_octets, asks_characters, asks_identifier, asks_list, asks_bag, asks_further, asks_sequence};
+ghost use Rattle.asn1_schema_presented.specs.Records.{asks_set, asks_group, asks_mark, asks_default, asks_empty, asks_additions, asks_addition, asks_addition_end, asks_choice, asks_end};
+ghost use Rattle.asn1_schema_records.specs.Kept.{record_of, sizes_in};
+ghost use Rattle.asn1_schema_records.specs.Taken.{Takes, Leaves, Begins, Fails, IsSpent, IsDeep, IsRefused, IsRefusedFirst, IsOtherThan, IsOtherKind, IsOtherEnd, IsMisfit, IsMisfitItem, IsMisfitChoice, IsMisfitText, IsMisfitNumber, IsUntaken, IsUnspelled, is_admitted};
+ghost use Rattle.asn1_schema_records.specs.Taken.{kept_bits, kept_octets, kept_text, kept_list, kept_bag};
+ghost use Rattle.asn1_schema_tags.specs.Tags.{tag_of};
+ghost use Rattle.asn1_values_alphabets.specs.Permitted.{permits_all};
+
+use crate::{Item, Sizes, is_extensible};
+use asn1_schema_bounds::Bounded;
+use asn1_schema_constraints::Constraints;
+use asn1_schema_decode::Decoder;
+use asn1_schema_faults::{CodecKind, DecodeError};
+use asn1_schema_tags::Tag;
+use asn1_schema_variants::{Chosen, Enumerated};
+use asn1_values_alphabets::StaticPermittedAlphabet;
+use asn1_values_bit_strings::BitString;
+use asn1_values_identifiers::ObjectIdentifier;
+use asn1_values_integer_types::IntegerType;
+use asn1_values_numbers::{Integer, IntegerError};
+use std::alloc::Global;
+use std::marker::Model;
+use std::vec::IntoIter;
+
+/// A decoder that reads kept records, from the first on.
+///
+/// Refused are, besides what the trait says: `Incomplete` where no record is left; `NotValidCanonicalEncoding` a record of another kind
+/// than the one that is asked for, and the end of what has not begun; `ValueConstraintNotSatisfied` a number under other bounds, or
+/// outside bounds without a mark; `IntegerOverflow` a number that the program's type does not hold; `SizeConstraintNotSatisfied` a
+/// length or count under another size, or one that the type does not hold; `PermittedAlphabet` a character that the type does not
+/// hold; `DiscriminantValueNotFound` the number of no item; `InvalidTagVariantOnChoice` the place of no alternative;
+/// `ExceedsMaxParseDepth` one level more than may be nested.
+#[derive(Drop)]
+pub struct RecordDecoder {
+    items: IntoIter<Item, Global>,
+    levels: usize,
+    most: usize,
+    failed: bool,
+    kind: CodecKind,
+}
+
+impl Model for RecordDecoder {
+    ghost use Rattle.std.specs.Prelude.{map};
+    ghost use Rattle.std.specs.Vec.Iter.{into_iter_items};
+    ghost use Rattle.asn1_schema_records.specs.Kept.{record_of};
+    ghost use Rattle.asn1_schema_records.specs.Taken.{Left};
+
+    ghost Value = { Left };
+
+    ghost view = { λ d. record { records = map record_of (into_iter_items d.items); levels = d.levels; most = d.most; failed = d.failed; rules = d.kind } };
+}
+
+impl RecordDecoder {
+    /// A decoder of these records within 128 nested levels, which answers that it follows these rules.
+    pub fn new(items: Vec<Item>, kind: CodecKind) -> Self
+        ensures { result ≡ record { records = map record_of items.items; levels = 128; most = 128; failed = false; rules = kind } }
+    {
+        RecordDecoder::with_levels(items, kind, 128)
+    }
+
+    /// The same within so many nested levels.
+    pub fn with_levels(items: Vec<Item>, kind: CodecKind, levels: usize) -> Self
+        ensures { result ≡ record { records = map record_of items.items; levels = levels; most = levels; failed = false; rules = kind } }
+    {
+        RecordDecoder {
+            items: items.into_iter(),
+            levels,
+            most: levels,
+            failed: false,
+            kind,
+        }
+    }
+
+    // Takes the item in front.
+    fn take_next(&mut self) -> Result<Item, DecodeError>
+        ensures ok { IfOk result (λ item. Leaves self.old (record_of item) self.new) }
+        ensures only { IfErr result (IsSpent self.old) }
+        ensures fails { OnErr result (Fails self.old self.new) }
+        ensures failed { OnErr result (self.new.failed ≡ true) }
+        ensures already { self.old.failed ≡ true → result ≡ Err DecodeError.AlreadyFailed }
+    {
+        if self.failed {
+            return Err(DecodeError::AlreadyFailed);
+        }
+        match self.items.next() {
+            Some(item) => Ok(item),
+            None => Err(self.refuse(DecodeError::Incomplete)),
+        }
+    }
+
+    // Takes the item in front, and a level.
+    fn take_first(&mut self) -> Result<Item, DecodeError>
+        ensures ok { IfOk result (λ item. Begins self.old (record_of item) self.new) }
+        ensures only { IfErr result (IsDeep self.old) }
+        ensures fails { OnErr result (Fails self.old self.new) }
+        ensures failed { OnErr result (self.new.failed ≡ true) }
+        ensures already { self.old.failed ≡ true → result ≡ Err DecodeError.AlreadyFailed }
+    {
+        if self.failed {
+            return Err(DecodeError::AlreadyFailed);
+        }
+        if self.levels == 0 {
+            return Err(self.refuse(DecodeError::ExceedsMaxParseDepth));
+        }
+        match self.items.next() {
+            Some(item) => {
+                self.levels -= 1;
+                Ok(item)
+            }
+            None => Err(self.refuse(DecodeError::Incomplete)),
+        }
+    }
+
+    // Gives a level back, if one is taken.
+    fn give_back(&mut self) -> bool
+        ensures { MatchBool result ((self.old.levels < self.old.most) × (self.new ≡ record { records = self.old.records; levels = self.old.levels + 1; most = self.old.most; failed = self.old.failed; rules = self.old.rules })) ((self.old.most ≤ self.old.levels) × (self.new ≡ self.old)) }
+    {
+        if self.levels < self.most {
+            self.levels += 1;
+            return true;
+        }
+        false
+    }
+}
+
+impl Decoder for RecordDecoder {
+    ghost use Rattle.asn1_schema_records.specs.ReadingLaws.{takes_one, takes_held, takes_bag_held, takes_none, takes_same};
+
+    type Octets = Vec<u8>;
+
+    ghost step = { Takes };
+
+    ghost has_failed = { λ d. d.failed ≡ true };
+
+    ghost levels = { λ d. d.levels };
+
+    ghost rules = { λ d. d.rules };
+
+    fn codec(&self) -> CodecKind {
+        self.kind
+    }
+
+    fn levels_left(&self) -> usize {
+        self.levels
+    }
+
+    fn decode_bool(&mut self, _tag: Tag) -> Result<bool, DecodeError>
+        ensures ok { IfOk result (λ x. Takes self.old (flag x) self.new) }
+        ensures level { OnOk result (self.new.levels ≡ self.old.levels) }
+        ensures only { IfErr result (NoRecord Takes asks_flag self.old) }
+        ensures failed { OnErr result (self.new.failed ≡ true) }
+        ensures already { self.old.failed ≡ true → result ≡ Err DecodeError.AlreadyFailed }
+        ensures kind { IfErr result (IsRefused self.old (IsOtherKind flag)) }
+    {
+        let item = self.take_next()?;
+        match item.into_flag() {
+            Some(value) => Ok(value),
+            None => Err(self.refuse(DecodeError::NotValidCanonicalEncoding)),
+        }
+    }
+
+    fn decode_null(&mut self, _tag: Tag) -> Result<(), DecodeError>
+        ensures ok { OnOk result (Takes self.old nil self.new) }
+        ensures level { OnOk result (self.new.levels ≡ self.old.levels) }
+        ensures only { IfErr result (NoRecord Takes asks_nil self.old) }
+        ensures failed { OnErr result (self.new.failed ≡ true) }
+        ensures already { self.old.failed ≡ true → result ≡ Err DecodeError.AlreadyFailed }
+        ensures kind { IfErr result (IsRefused self.old (IsOtherThan nil)) }
+    {
+        let item = self.take_next()?;
+        if item.is_null() {
+            return Ok(());
+        }
+        Err(self.refuse(DecodeError::NotValidCanonicalEncoding))
+    }
+
+    fn decode_integer<I: IntegerType>(
+        &mut self,
+        alloc: Global,
+        _tag: Tag,
+        constraints: Constraints,
+    ) -> Result<I, DecodeError>
+        ensures ok { IfOk result (λ x. Takes self.old (whole (bounds_of constraints.entry.value) (held_of constraints.entry.value I.held) (I.value x)) self.new) }
+        ensures within { IfOk result (λ x. ((bounds_of constraints.entry.value).extensible || is_within ((bounds_of constraints.entry.value).range) (I.value x)) ≡ true) }
+        ensures level { OnOk result (self.new.levels ≡ self.old.levels) }
+        ensures only { IfErr result (NoRecord Takes (asks_whole (bounds_of constraints.entry.value) (held_of constraints.entry.value I.held)) self.old) }
+        ensures failed { OnErr result (self.new.failed ≡ true) }
+        ensures already { self.old.failed ≡ true → result ≡ Err DecodeError.AlreadyFailed }
+        ensures kind { IfErr result (IsRefused self.old (IsMisfitNumber constraints.entry.value I.held)) }
+    {
+        let item = self.take_next()?;
+        let Some((limits, number)) = item.into_integer() else {
+            return Err(self.refuse(DecodeError::NotValidCanonicalEncoding));
+        };
+        if !limits.are_among(constraints) {
+            return Err(self.refuse(DecodeError::ValueConstraintNotSatisfied));
+        }
+        match number_within(alloc, &number, constraints) {
+            Ok(value) => Ok(value),
+            Err(error) => Err(self.refuse(error)),
+        }
+    }
+
+    fn decode_enumerated<T: Enumerated>(&mut self, _tag: Tag) -> Result<T, DecodeError>
+        ensures ok { IfOk result (λ x. Takes self.old (one_of T.roots T.extensible T.additions (T.number x)) self.new) }
+        ensures level { OnOk result (self.new.levels ≡ self.old.levels) }
+        ensures only { IfErr result (NoRecord Takes (asks_one_of T.roots T.extensible T.additions) self.old) }
+        ensures failed { OnErr result (self.new.failed ≡ true) }
+        ensures already { self.old.failed ≡ true → result ≡ Err DecodeError.AlreadyFailed }
+        ensures kind { IfErr result (IsRefused self.old (IsMisfitItem T.roots T.extensible T.additions)) }
+    {
+        let item = self.take_next()?;
+        let Some(number) = item.into_one_of(is_extensible::<T>()) else {
+            return Err(self.refuse(DecodeError::NotValidCanonicalEncoding));
+        };
+        match T::from_discriminant(number) {
+            Some(value) => Ok(value),
+            None => Err(self.refuse(DecodeError::DiscriminantValueNotFound)),
+        }
+    }
+
+    fn decode_bit_string(
+        &mut self,
+        _alloc: Global,
+        _tag: Tag,
+        constraints: Constraints,
+        held: Bounded<usize>,
+    ) -> Result<BitString, DecodeError>
+        ensures ok { IfOk result (λ x. Takes self.old (bits (sizes_of constraints.entry.size) (counts_of held) x) self.new) }
+        ensures held { IfOk result (λ x. is_count_within (counts_of held) (length x) ≡ true) }
+        ensures level { OnOk result (self.new.levels ≡ self.old.levels) }
+        ensures only { IfErr result (NoRecord Takes (asks_bits (sizes_of constraints.entry.size) (counts_of held)) self.old) }
+        ensures failed { OnErr result (self.new.failed ≡ true) }
+        ensures already { self.old.failed ≡ true → result ≡ Err DecodeError.AlreadyFailed }
+        ensures kind { IfErr result (IsRefused self.old (IsMisfit kept_bits length (sizes_of constraints.entry.size) (counts_of held))) }
+    {
+        let item = self.take_next()?;
+        let Some((sizes, bits)) = item.into_bits() else {
+            return Err(self.refuse(DecodeError::NotValidCanonicalEncoding));
+        };
+        if are_sizes(sizes, constraints, held, bits.len()) {
+            return Ok(bits);
+        }
+        Err(self.refuse(DecodeError::SizeConstraintNotSatisfied))
+    }
+
+    fn decode_octet_string(
+        &mut self,
+        _alloc: Global,
+        _tag: Tag,
+        constraints: Constraints,
+        held: Bounded<usize>,
+    ) -> Result<Vec<u8>, DecodeError>
+        ensures ok { IfOk result (λ x. Takes self.old (octets (sizes_of constraints.entry.size) (counts_of held) (x.items)) self.new) }
+        ensures held { IfOk result (λ x. is_count_within (counts_of held) (length (x.items)) ≡ true) }
+        ensures level { OnOk result (self.new.levels ≡ self.old.levels) }
+        ensures only { IfErr result (NoRecord Takes (asks_octets (sizes_of constraints.entry.size) (counts_of held)) self.old) }
+        ensures failed { OnErr result (self.new.failed ≡ true) }
+        ensures already { self.old.failed ≡ true → result ≡ Err DecodeError.AlreadyFailed }
+        ensures kind { IfErr result (IsRefused self.old (IsMisfit kept_octets length (sizes_of constraints.entry.size) (counts_of held))) }
+    {
+        let item = self.take_next()?;
+        let Some((sizes, octets)) = item.into_octets() else {
+            return Err(self.refuse(DecodeError::NotValidCanonicalEncoding));
+        };
+        if are_sizes(sizes, constraints, held, octets.len()) {
+            return Ok(octets);
+        }
+        Err(self.refuse(DecodeError::SizeConstraintNotSatisfied))
+    }
+
+    fn decode_utf8_string(
+        &mut self,
+        _alloc: Global,
+        _tag: Tag,
+        constraints: Constraints,
+    ) -> Result<String, DecodeError>
+        ensures ok { IfOk result (λ x. Takes self.old (characters utf8 (sizes_of constraints.entry.size) (alphabet_of constraints.entry.permitted_alphabet) any_count (string_bytes x)) self.new) }
+        ensures level { OnOk result (self.new.levels ≡ self.old.levels) }
+        ensures only { IfErr result (NoRecord Takes (asks_characters utf8 (sizes_of constraints.entry.size) (alphabet_of constraints.entry.permitted_alphabet) any_count) self.old) }
+        ensures failed { OnErr result (self.new.failed ≡ true) }
+        ensures already { self.old.failed ≡ true → result ≡ Err DecodeError.AlreadyFailed }
+        ensures kind { IfErr result (IsRefused self.old (IsMisfit kept_text length (sizes_of constraints.entry.size) any_count)) }
+    {
+        let item = self.take_next()?;
+        let Some((sizes, text)) = item.into_text() else {
+            return Err(self.refuse(DecodeError::NotValidCanonicalEncoding));
+        };
+        if sizes.are_among(constraints) {
+            return Ok(text);
+        }
+        Err(self.refuse(DecodeError::SizeConstraintNotSatisfied))
+    }
+
+    fn decode_characters<S: StaticPermittedAlphabet>(
+        &mut self,
+        alloc: Global,
+        _tag: Tag,
+        constraints: Constraints,
+    ) -> Result<S, DecodeError>
+        ensures ok { IfOk result (λ x. Takes self.old (characters S.kind (sizes_of constraints.entry.size) (alphabet_of constraints.entry.permitted_alphabet) any_count (S.characters x)) self.new) }
+        ensures level { OnOk result (self.new.levels ≡ self.old.levels) }
+        ensures only { IfErr result (NoRecord Takes (asks_characters S.kind (sizes_of constraints.entry.size) (alphabet_of constraints.entry.permitted_alphabet) any_count) self.old) }
+        ensures failed { OnErr result (self.new.failed ≡ true) }
+        ensures already { self.old.failed ≡ true → result ≡ Err DecodeError.AlreadyFailed }
+        ensures kind { IfErr result (IsRefused self.old (IsMisfitText S.kind (sizes_of constraints.entry.size))) }
+    {
+        let item = self.take_next()?;
+        let Some((sizes, characters)) = item.into_characters() else {
+            return Err(self.refuse(DecodeError::NotValidCanonicalEncoding));
+        };
+        if !sizes.are_among(constraints) {
+            return Err(self.refuse(DecodeError::SizeConstraintNotSatisfied));
+        }
+        match string_of(alloc, characters.as_slice()) {
+            Ok(string) => Ok(string),
+            Err(error) => Err(self.refuse(error)),
+        }
+    }
+
+    fn decode_object_identifier(
+        &mut self,
+        _alloc: Global,
+        _tag: Tag,
+    ) -> Result<ObjectIdentifier, DecodeError>
+        ensures ok { IfOk result (λ x. Takes self.old (object_identifier x) self.new) }
+        ensures level { OnOk result (self.new.levels ≡ self.old.levels) }
+        ensures only { IfErr result (NoRecord Takes (asks_identifier) self.old) }
+        ensures failed { OnErr result (self.new.failed ≡ true) }
+        ensures already { self.old.failed ≡ true → result ≡ Err DecodeError.AlreadyFailed }
+        ensures kind { IfErr result (IsRefused self.old (IsOtherKind object_identifier)) }
+    {
+        let item = self.take_next()?;
+        match item.into_identifier() {
+            Some(identifier) => Ok(identifier),
+            None => Err(self.refuse(DecodeError::NotValidCanonicalEncoding)),
+        }
+    }
+
+    fn begin_list(
+        &mut self,
+        _tag: Tag,
+        constraints: Constraints,
+        held: Bounded<usize>,
+    ) -> Result<(), DecodeError>
+        ensures ok { OnOk result ((n : ℕ) → is_count_within (members_of held) n ≡ true → Takes self.old (list_begins (sizes_of constraints.entry.size) (members_of held) n) self.new) }
+        ensures level { OnOk result (self.old.levels ≡ self.new.levels + 1) }
+        ensures only { IfErr result (NoLevel Takes (asks_list (sizes_of constraints.entry.size) (members_of held)) self.old.levels self.old) }
+        ensures failed { OnErr result (self.new.failed ≡ true) }
+        ensures already { self.old.failed ≡ true → result ≡ Err DecodeError.AlreadyFailed }
+        ensures kind { IfErr result (IsRefusedFirst self.old (IsMisfit kept_list (λ n. n) (sizes_of constraints.entry.size) (members_of held))) }
+    {
+        let item = self.take_first()?;
+        let Some((sizes, count)) = item.into_list() else {
+            return Err(self.refuse(DecodeError::NotValidCanonicalEncoding));
+        };
+        if sizes.are_among(constraints) && held.holds(count) {
+            return Ok(());
+        }
+        Err(self.refuse(DecodeError::SizeConstraintNotSatisfied))
+    }
+
+    fn begin_bag(
+        &mut self,
+        _tag: Tag,
+        constraints: Constraints,
+        held: Bounded<usize>,
+    ) -> Result<(), DecodeError>
+        ensures ok { OnOk result ((n : ℕ) → is_count_within (members_of held) n ≡ true → Takes self.old (bag_begins (sizes_of constraints.entry.size) (members_of held) n) self.new) }
+        ensures level { OnOk result (self.old.levels ≡ self.new.levels + 1) }
+        ensures only { IfErr result (NoLevel Takes (asks_bag (sizes_of constraints.entry.size) (members_of held)) self.old.levels self.old) }
+        ensures failed { OnErr result (self.new.failed ≡ true) }
+        ensures already { self.old.failed ≡ true → result ≡ Err DecodeError.AlreadyFailed }
+        ensures kind { IfErr result (IsRefusedFirst self.old (IsMisfit kept_bag (λ n. n) (sizes_of constraints.entry.size) (members_of held))) }
+    {
+        let item = self.take_first()?;
+        let Some((sizes, count)) = item.into_bag() else {
+            return Err(self.refuse(DecodeError::NotValidCanonicalEncoding));
+        };
+        if sizes.are_among(constraints) && held.holds(count) {
+            return Ok(());
+        }
+        Err(self.refuse(DecodeError::SizeConstraintNotSatisfied))
+    }
+
+    fn get_further(&mut self) -> Result<bool, DecodeError>
+        ensures ok { IfOk result (λ x. Takes self.old (further x) self.new) }
+        ensures level { OnOk result (self.new.levels ≡ self.old.levels) }
+        ensures only { IfErr result (NoRecord Takes asks_further self.old) }
+        ensures failed { OnErr result (self.new.failed ≡ true) }
+        ensures already { self.old.failed ≡ true → result ≡ Err DecodeError.AlreadyFailed }
+        ensures kind { IfErr result (IsRefused self.old (IsOtherKind further)) }
+    {
+        let item = self.take_next()?;
+        match item.into_further() {
+            Some(more) => Ok(more),
+            None => Err(self.refuse(DecodeError::NotValidCanonicalEncoding)),
+        }
+    }
+
+    fn begin_sequence(
+        &mut self,
+        _tag: Tag,
+        extensible: bool,
+        optional: usize,
+    ) -> Result<(), DecodeError>
+        ensures ok { OnOk result (Takes self.old (sequence_begins extensible optional) self.new) }
+        ensures level { OnOk result (self.old.levels ≡ self.new.levels + 1) }
+        ensures only { IfErr result (NoLevel Takes (asks_sequence extensible optional) self.old.levels self.old) }
+        ensures failed { OnErr result (self.new.failed ≡ true) }
+        ensures already { self.old.failed ≡ true → result ≡ Err DecodeError.AlreadyFailed }
+        ensures kind { IfErr result (IsRefusedFirst self.old (IsOtherThan (sequence_begins extensible optional))) }
+    {
+        let item = self.take_first()?;
+        if item.is_sequence(extensible, optional) {
+            return Ok(());
+        }
+        Err(self.refuse(DecodeError::NotValidCanonicalEncoding))
+    }
+
+    fn begin_set(&mut self, _tag: Tag, extensible: bool, optional: usize) -> Result<(), DecodeError>
+        ensures ok { OnOk result (Takes self.old (set_begins extensible optional) self.new) }
+        ensures level { OnOk result (self.old.levels ≡ self.new.levels + 1) }
+        ensures only { IfErr result (NoLevel Takes (asks_set extensible optional) self.old.levels self.old) }
+        ensures failed { OnErr result (self.new.failed ≡ true) }
+        ensures already { self.old.failed ≡ true → result ≡ Err DecodeError.AlreadyFailed }
+        ensures kind { IfErr result (IsRefusedFirst self.old (IsOtherThan (set_begins extensible optional))) }
+    {
+        let item = self.take_first()?;
+        if item.is_set(extensible, optional) {
+            return Ok(());
+        }
+        Err(self.refuse(DecodeError::NotValidCanonicalEncoding))
+    }
+
+    fn begin_group(&mut self, optional: usize) -> Result<(), DecodeError>
+        ensures ok { OnOk result (Takes self.old (group_begins optional) self.new) }
+        ensures level { OnOk result (self.old.levels ≡ self.new.levels + 1) }
+        ensures only { IfErr result (NoLevel Takes (asks_group optional) self.old.levels self.old) }
+        ensures failed { OnErr result (self.new.failed ≡ true) }
+        ensures already { self.old.failed ≡ true → result ≡ Err DecodeError.AlreadyFailed }
+        ensures kind { IfErr result (IsRefusedFirst self.old (IsOtherThan (group_begins optional))) }
+    {
+        let item = self.take_first()?;
+        if item.is_group(optional) {
+            return Ok(());
+        }
+        Err(self.refuse(DecodeError::NotValidCanonicalEncoding))
+    }
+
+    fn get_mark(&mut self) -> Result<bool, DecodeError>
+        ensures ok { IfOk result (λ x. Takes self.old (mark x) self.new) }
+        ensures level { OnOk result (self.new.levels ≡ self.old.levels) }
+        ensures only { IfErr result (NoRecord Takes asks_mark self.old) }
+        ensures failed { OnErr result (self.new.failed ≡ true) }
+        ensures already { self.old.failed ≡ true → result ≡ Err DecodeError.AlreadyFailed }
+        ensures kind { IfErr result (IsRefused self.old (IsOtherKind mark)) }
+    {
+        let item = self.take_next()?;
+        match item.into_mark() {
+            Some(present) => Ok(present),
+            None => Err(self.refuse(DecodeError::NotValidCanonicalEncoding)),
+        }
+    }
+
+    fn note_default(&mut self) -> Result<(), DecodeError>
+        ensures ok { OnOk result (Takes self.old is_default self.new) }
+        ensures level { OnOk result (self.new.levels ≡ self.old.levels) }
+        ensures only { IfErr result (NoRecord Takes asks_default self.old) }
+        ensures failed { OnErr result (self.new.failed ≡ true) }
+        ensures already { self.old.failed ≡ true → result ≡ Err DecodeError.AlreadyFailed }
+        ensures kind { IfErr result (IsRefused self.old (IsOtherThan is_default)) }
+    {
+        let item = self.take_next()?;
+        if item.is_default() {
+            return Ok(());
+        }
+        Err(self.refuse(DecodeError::NotValidCanonicalEncoding))
+    }
+
+    fn note_empty(&mut self) -> Result<(), DecodeError>
+        ensures ok { OnOk result (Takes self.old is_empty self.new) }
+        ensures level { OnOk result (self.new.levels ≡ self.old.levels) }
+        ensures only { IfErr result (NoRecord Takes asks_empty self.old) }
+        ensures failed { OnErr result (self.new.failed ≡ true) }
+        ensures already { self.old.failed ≡ true → result ≡ Err DecodeError.AlreadyFailed }
+        ensures kind { IfErr result (IsRefused self.old (IsOtherThan is_empty)) }
+    {
+        let item = self.take_next()?;
+        if item.is_empty() {
+            return Ok(());
+        }
+        Err(self.refuse(DecodeError::NotValidCanonicalEncoding))
+    }
+
+    fn begin_additions(&mut self, count: usize) -> Result<(), DecodeError>
+        ensures ok { OnOk result (Takes self.old (additions_begin count) self.new) }
+        ensures level { OnOk result (self.new.levels ≡ self.old.levels) }
+        ensures only { IfErr result (NoRecord Takes (asks_additions count) self.old) }
+        ensures failed { OnErr result (self.new.failed ≡ true) }
+        ensures already { self.old.failed ≡ true → result ≡ Err DecodeError.AlreadyFailed }
+        ensures kind { IfErr result (IsRefused self.old (IsOtherThan (additions_begin count))) }
+    {
+        let item = self.take_next()?;
+        if item.is_additions(count) {
+            return Ok(());
+        }
+        Err(self.refuse(DecodeError::NotValidCanonicalEncoding))
+    }
+
+    fn get_addition(&mut self) -> Result<bool, DecodeError>
+        ensures ok { IfOk result (λ x. Takes self.old (addition x) self.new) }
+        ensures level { OnOk result (self.new.levels ≡ self.old.levels) }
+        ensures only { IfErr result (NoRecord Takes asks_addition self.old) }
+        ensures failed { OnErr result (self.new.failed ≡ true) }
+        ensures already { self.old.failed ≡ true → result ≡ Err DecodeError.AlreadyFailed }
+        ensures kind { IfErr result (IsRefused self.old (IsOtherKind addition)) }
+    {
+        let item = self.take_next()?;
+        match item.into_addition() {
+            Some(present) => Ok(present),
+            None => Err(self.refuse(DecodeError::NotValidCanonicalEncoding)),
+        }
+    }
+
+    fn end_addition(&mut self) -> Result<(), DecodeError>
+        ensures ok { OnOk result (Takes self.old addition_ends self.new) }
+        ensures level { OnOk result (self.new.levels ≡ self.old.levels) }
+        ensures only { IfErr result (NoRecord Takes asks_addition_end self.old) }
+        ensures failed { OnErr result (self.new.failed ≡ true) }
+        ensures already { self.old.failed ≡ true → result ≡ Err DecodeError.AlreadyFailed }
+        ensures kind { IfErr result (IsRefused self.old (IsOtherThan addition_ends)) }
+    {
+        let item = self.take_next()?;
+        if item.is_addition_end() {
+            return Ok(());
+        }
+        Err(self.refuse(DecodeError::NotValidCanonicalEncoding))
+    }
+
+    fn begin_choice(
+        &mut self,
+        _tag: Tag,
+        roots: &[Tag],
+        extensible: bool,
+        additions: &[Tag],
+    ) -> Result<Chosen, DecodeError>
+        ensures ok { IfOk result (λ x. Takes self.old (choice_begins (map tag_of roots.now) extensible (map tag_of additions.now) x.added x.place) self.new) }
+        ensures within { IfOk result (λ x. x.place < length (cond x.added (map tag_of additions.now) (map tag_of roots.now))) }
+        ensures level { OnOk result (self.old.levels ≡ self.new.levels + 1) }
+        ensures only { IfErr result (NoLevel Takes (asks_choice (map tag_of roots.now) extensible (map tag_of additions.now)) self.old.levels self.old) }
+        ensures failed { OnErr result (self.new.failed ≡ true) }
+        ensures already { self.old.failed ≡ true → result ≡ Err DecodeError.AlreadyFailed }
+        ensures kind { IfErr result (IsRefusedFirst self.old (IsMisfitChoice (map tag_of roots.now) extensible (map tag_of additions.now))) }
+    {
+        let item = self.take_first()?;
+        let Some(chosen) = item.into_choice(extensible) else {
+            return Err(self.refuse(DecodeError::NotValidCanonicalEncoding));
+        };
+        if is_alternative(roots, additions, chosen) {
+            return Ok(chosen);
+        }
+        Err(self.refuse(DecodeError::InvalidTagVariantOnChoice))
+    }
+
+    fn end(&mut self) -> Result<(), DecodeError>
+        ensures ok { OnOk result (Takes self.old ends self.new) }
+        ensures level { OnOk result (self.new.levels ≡ self.old.levels + 1) }
+        ensures only { IfErr result (NoRecord Takes asks_end self.old) }
+        ensures failed { OnErr result (self.new.failed ≡ true) }
+        ensures already { self.old.failed ≡ true → result ≡ Err DecodeError.AlreadyFailed }
+        ensures kind { IfErr result (IsRefused self.old (IsOtherEnd self.old)) }
+    {
+        let item = self.take_next()?;
+        if !item.is_end() {
+            return Err(self.refuse(DecodeError::NotValidCanonicalEncoding));
+        }
+        if self.give_back() {
+            return Ok(());
+        }
+        Err(self.refuse(DecodeError::NotValidCanonicalEncoding))
+    }
+
+    fn refuse(&mut self, error: DecodeError) -> DecodeError
+        ensures refused { result ≡ error }
+        ensures failed { self.new.failed ≡ true }
+        ensures fails { Fails self.old self.new }
+    {
+        self.failed = true;
+        error
+    }
+
+    ghost one_record = { takes_one };
+
+    ghost list_held = { takes_held };
+
+    ghost bag_held = { takes_bag_held };
+
+    ghost none_after = { takes_none };
+
+    ghost same_rules = { takes_same };
+}
+
+// Whether the constraints have just these sizes, and the program's type holds so many.
+fn are_sizes(sizes: Sizes, constraints: Constraints, held: Bounded<usize>, count: usize) -> bool
+    ensures { IsTrue result ↔ ((sizes_in sizes ≡ sizes_of constraints.entry.size) × (is_count_within (counts_of held) count ≡ true)) }
+{
+    sizes.are_among(constraints) && held.contains(&count)
+}
+
+// Whether a choice of these alternatives has this one.
+fn is_alternative(roots: &[Tag], additions: &[Tag], chosen: Chosen) -> bool
+    ensures { IsTrue result ↔ (chosen.place < length (cond chosen.added (map tag_of additions.now) (map tag_of roots.now))) }
+{
+    let count = if chosen.added {
+        additions.len()
+    } else {
+        roots.len()
+    };
+    chosen.place < count
+}
+
+// Whether a number is one of 128 bits and within bounds that have no mark, where there is a value constraint.
+fn is_admitted(constraints: Constraints, number: &Integer) -> bool
+    ensures { result ≡ is_admitted constraints.entry.value number.now }
+{
+    match constraints.value {
+        None => true,
+        Some(constraint) => {
+            Bounded::const_new(i128::MIN, i128::MAX).in_bound(number)
+                && (constraint.extensible.is_some() || constraint.constraint.value.in_bound(number))
+        }
+    }
+}
+
+// The number in a type of the program, if that holds it and the constraints admit it.
+fn number_within<I: IntegerType>(
+    alloc: Global,
+    number: &Integer,
+    constraints: Constraints,
+) -> Result<I, DecodeError>
+    ensures value { IfOk result (λ x. I.value x ≡ number.now) }
+    ensures held { OnOk result (is_within I.held number.now ≡ true) }
+    ensures admitted { OnOk result (is_admitted constraints.entry.value number.now ≡ true) }
+    ensures refused { IfErr result (IsUntaken constraints.entry.value I.held number.now) }
+{
+    if !is_admitted(constraints, number) {
+        return Err(DecodeError::ValueConstraintNotSatisfied);
+    }
+    match I::try_from_signed_bytes(alloc, number.to_signed_bytes_be().as_slice()) {
+        Ok(value) => Ok(value),
+        Err(IntegerError::Memory) => Err(DecodeError::OutOfMemory),
+        Err(IntegerError::Overflow) => Err(DecodeError::IntegerOverflow),
+        Err(IntegerError::Empty) => Err(DecodeError::IntegerOverflow),
+    }
+}
+
+// Whether a string of the type may hold these characters.
+fn are_permitted<S: StaticPermittedAlphabet>(characters: &[u32]) -> bool
+    ensures { result ≡ permits_all S.kind characters.now }
+{
+    for character in characters {
+        if !S::contains_char(*character) {
+            return false;
+        }
+    }
+    true
+}
+
+// The string of these characters.
+fn string_of<S: StaticPermittedAlphabet>(
+    alloc: Global,
+    characters: &[u32],
+) -> Result<S, DecodeError>
+    ensures value { IfOk result (λ s. S.characters s ≡ characters.now) }
+    ensures permitted { OnOk result (permits_all S.kind characters.now ≡ true) }
+    ensures refused { IfErr result (IsUnspelled S.kind characters.now) }
+{
+    if !are_permitted::<S>(characters) {
+        return Err(DecodeError::PermittedAlphabet);
+    }
+    let Ok(mut string) = S::with_capacity(alloc, characters.len()) else {
+        return Err(DecodeError::OutOfMemory);
+    };
+    for character in characters {
+        let Ok(()) = string.push_char(*character) else {
+            return Err(DecodeError::OutOfMemory);
+        };
+    }
+    Ok(string)
+}

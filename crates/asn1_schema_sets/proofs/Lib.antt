@@ -1,6 +1,0 @@
-pub mod Values
-pub mod Writing
-pub mod Reading
-pub mod Bags
-pub mod BagWriting
-pub mod BagReading

@@ -1,0 +1,205 @@
+//! The calls of a decoder by the names of types.
+ghost use Rattle.std.specs.Prelude.{◌≡◌, OnOk, OnErr, IfOk, IfErr};
+ghost use Rattle.asn1_model.specs.Schema.{visible, ia5, printable, numeric, general, graphic, teletex, bmp};
+ghost use Rattle.asn1_model.specs.Types.{any_count, any_size};
+ghost use Rattle.asn1_schema_constraints.specs.Terms.{sizes_of, alphabet_of};
+ghost use Rattle.asn1_schema_decode.specs.Reads.{NoRecord, Reads, Unread};
+ghost use Rattle.asn1_schema_presented.specs.Records.{octets, characters, asks_octets, asks_characters};
+
+use crate::Any;
+use asn1_schema_bounds::Bounded;
+use asn1_schema_constraints::Constraints;
+use asn1_schema_decode::{Decode, Decoder, ReadOctets};
+use asn1_schema_faults::DecodeError;
+use asn1_schema_tags::Tag;
+use asn1_values_strings::{
+    GeneralString, GraphicString, Ia5String, NumericString, PrintableString, TeletexString,
+    VisibleString,
+};
+use asn1_values_strings_wide::BmpString;
+use std::alloc::Global;
+
+/// What a decoder reads, by the names of types.
+pub trait DecodeNamed: Decoder {
+    /// A value of any type, as its octets: OCTET STRING (X.680 23) without constraints. After an error the
+    /// decoder has failed.
+    final fn decode_any(&mut self, alloc: Global, tag: Tag) -> Result<Any, DecodeError>
+    where
+        Self: Sized,
+        ensures ok { IfOk result (λ x. Self.step self.old (octets any_size any_count x) self.new) }
+        ensures level { OnOk result (Self.levels self.new ≡ Self.levels self.old) }
+        ensures only { IfErr result (NoRecord Self.step (asks_octets any_size any_count) self.old) }
+        ensures failed { OnErr result (Self.has_failed self.new) }
+        ensures already { Self.has_failed self.old → result ≡ Err DecodeError.AlreadyFailed }
+    {
+        let octets = self.decode_octet_string(alloc, tag, Constraints::NONE, Bounded::None)?;
+        let Ok(owned) = octets.into_vec(alloc) else {
+            return Err(self.refuse(DecodeError::OutOfMemory));
+        };
+        Ok(Any::new(owned))
+    }
+
+    /// A value with another tag around its own (X.680 31.2.8), which leaves no octet in the packed and the octet encoding
+    /// rules. After an error the decoder has failed.
+    final fn decode_explicit_prefix<T: Decode>(
+        &mut self,
+        alloc: Global,
+        _tag: Tag,
+    ) -> Result<T, DecodeError>
+    where
+        Self: Sized,
+        ensures ok { IfOk result (λ x. Reads Self.step T.schema (Self.levels self.old) (T.meaning x) self.old self.new) }
+        ensures level { OnOk result (Self.levels self.new ≡ Self.levels self.old) }
+        ensures only { IfErr result (Unread Self.step T.schema (Self.levels self.old) self.old) }
+        ensures failed { OnErr result (Self.has_failed self.new) }
+        ensures already { Self.has_failed self.old → result ≡ Err DecodeError.AlreadyFailed }
+    {
+        T::decode(alloc, self)
+    }
+
+    /// VisibleString (X.680 41) under a size and an alphabet constraint.
+    final fn decode_visible_string(
+        &mut self,
+        alloc: Global,
+        tag: Tag,
+        constraints: Constraints,
+    ) -> Result<VisibleString, DecodeError>
+    where
+        Self: Sized,
+        ensures ok { IfOk result (λ x. Self.step self.old (characters visible (sizes_of constraints.entry.size) (alphabet_of constraints.entry.permitted_alphabet) any_count x) self.new) }
+        ensures level { OnOk result (Self.levels self.new ≡ Self.levels self.old) }
+        ensures only { IfErr result (NoRecord Self.step (asks_characters visible (sizes_of constraints.entry.size) (alphabet_of constraints.entry.permitted_alphabet) any_count) self.old) }
+        ensures failed { OnErr result (Self.has_failed self.new) }
+        ensures already { Self.has_failed self.old → result ≡ Err DecodeError.AlreadyFailed }
+    {
+        self.decode_characters(alloc, tag, constraints)
+    }
+
+    /// IA5String (X.680 41) under a size and an alphabet constraint.
+    final fn decode_ia5_string(
+        &mut self,
+        alloc: Global,
+        tag: Tag,
+        constraints: Constraints,
+    ) -> Result<Ia5String, DecodeError>
+    where
+        Self: Sized,
+        ensures ok { IfOk result (λ x. Self.step self.old (characters ia5 (sizes_of constraints.entry.size) (alphabet_of constraints.entry.permitted_alphabet) any_count x) self.new) }
+        ensures level { OnOk result (Self.levels self.new ≡ Self.levels self.old) }
+        ensures only { IfErr result (NoRecord Self.step (asks_characters ia5 (sizes_of constraints.entry.size) (alphabet_of constraints.entry.permitted_alphabet) any_count) self.old) }
+        ensures failed { OnErr result (Self.has_failed self.new) }
+        ensures already { Self.has_failed self.old → result ≡ Err DecodeError.AlreadyFailed }
+    {
+        self.decode_characters(alloc, tag, constraints)
+    }
+
+    /// PrintableString (X.680 41) under a size and an alphabet constraint.
+    final fn decode_printable_string(
+        &mut self,
+        alloc: Global,
+        tag: Tag,
+        constraints: Constraints,
+    ) -> Result<PrintableString, DecodeError>
+    where
+        Self: Sized,
+        ensures ok { IfOk result (λ x. Self.step self.old (characters printable (sizes_of constraints.entry.size) (alphabet_of constraints.entry.permitted_alphabet) any_count x) self.new) }
+        ensures level { OnOk result (Self.levels self.new ≡ Self.levels self.old) }
+        ensures only { IfErr result (NoRecord Self.step (asks_characters printable (sizes_of constraints.entry.size) (alphabet_of constraints.entry.permitted_alphabet) any_count) self.old) }
+        ensures failed { OnErr result (Self.has_failed self.new) }
+        ensures already { Self.has_failed self.old → result ≡ Err DecodeError.AlreadyFailed }
+    {
+        self.decode_characters(alloc, tag, constraints)
+    }
+
+    /// NumericString (X.680 41) under a size and an alphabet constraint.
+    final fn decode_numeric_string(
+        &mut self,
+        alloc: Global,
+        tag: Tag,
+        constraints: Constraints,
+    ) -> Result<NumericString, DecodeError>
+    where
+        Self: Sized,
+        ensures ok { IfOk result (λ x. Self.step self.old (characters numeric (sizes_of constraints.entry.size) (alphabet_of constraints.entry.permitted_alphabet) any_count x) self.new) }
+        ensures level { OnOk result (Self.levels self.new ≡ Self.levels self.old) }
+        ensures only { IfErr result (NoRecord Self.step (asks_characters numeric (sizes_of constraints.entry.size) (alphabet_of constraints.entry.permitted_alphabet) any_count) self.old) }
+        ensures failed { OnErr result (Self.has_failed self.new) }
+        ensures already { Self.has_failed self.old → result ≡ Err DecodeError.AlreadyFailed }
+    {
+        self.decode_characters(alloc, tag, constraints)
+    }
+
+    /// GeneralString (X.680 41) under a size and an alphabet constraint.
+    final fn decode_general_string(
+        &mut self,
+        alloc: Global,
+        tag: Tag,
+        constraints: Constraints,
+    ) -> Result<GeneralString, DecodeError>
+    where
+        Self: Sized,
+        ensures ok { IfOk result (λ x. Self.step self.old (characters general (sizes_of constraints.entry.size) (alphabet_of constraints.entry.permitted_alphabet) any_count x) self.new) }
+        ensures level { OnOk result (Self.levels self.new ≡ Self.levels self.old) }
+        ensures only { IfErr result (NoRecord Self.step (asks_characters general (sizes_of constraints.entry.size) (alphabet_of constraints.entry.permitted_alphabet) any_count) self.old) }
+        ensures failed { OnErr result (Self.has_failed self.new) }
+        ensures already { Self.has_failed self.old → result ≡ Err DecodeError.AlreadyFailed }
+    {
+        self.decode_characters(alloc, tag, constraints)
+    }
+
+    /// GraphicString (X.680 41) under a size and an alphabet constraint.
+    final fn decode_graphic_string(
+        &mut self,
+        alloc: Global,
+        tag: Tag,
+        constraints: Constraints,
+    ) -> Result<GraphicString, DecodeError>
+    where
+        Self: Sized,
+        ensures ok { IfOk result (λ x. Self.step self.old (characters graphic (sizes_of constraints.entry.size) (alphabet_of constraints.entry.permitted_alphabet) any_count x) self.new) }
+        ensures level { OnOk result (Self.levels self.new ≡ Self.levels self.old) }
+        ensures only { IfErr result (NoRecord Self.step (asks_characters graphic (sizes_of constraints.entry.size) (alphabet_of constraints.entry.permitted_alphabet) any_count) self.old) }
+        ensures failed { OnErr result (Self.has_failed self.new) }
+        ensures already { Self.has_failed self.old → result ≡ Err DecodeError.AlreadyFailed }
+    {
+        self.decode_characters(alloc, tag, constraints)
+    }
+
+    /// TeletexString (X.680 41) under a size and an alphabet constraint.
+    final fn decode_teletex_string(
+        &mut self,
+        alloc: Global,
+        tag: Tag,
+        constraints: Constraints,
+    ) -> Result<TeletexString, DecodeError>
+    where
+        Self: Sized,
+        ensures ok { IfOk result (λ x. Self.step self.old (characters teletex (sizes_of constraints.entry.size) (alphabet_of constraints.entry.permitted_alphabet) any_count x) self.new) }
+        ensures level { OnOk result (Self.levels self.new ≡ Self.levels self.old) }
+        ensures only { IfErr result (NoRecord Self.step (asks_characters teletex (sizes_of constraints.entry.size) (alphabet_of constraints.entry.permitted_alphabet) any_count) self.old) }
+        ensures failed { OnErr result (Self.has_failed self.new) }
+        ensures already { Self.has_failed self.old → result ≡ Err DecodeError.AlreadyFailed }
+    {
+        self.decode_characters(alloc, tag, constraints)
+    }
+
+    /// BMPString (X.680 41) under a size and an alphabet constraint.
+    final fn decode_bmp_string(
+        &mut self,
+        alloc: Global,
+        tag: Tag,
+        constraints: Constraints,
+    ) -> Result<BmpString, DecodeError>
+    where
+        Self: Sized,
+        ensures ok { IfOk result (λ x. Self.step self.old (characters bmp (sizes_of constraints.entry.size) (alphabet_of constraints.entry.permitted_alphabet) any_count x) self.new) }
+        ensures level { OnOk result (Self.levels self.new ≡ Self.levels self.old) }
+        ensures only { IfErr result (NoRecord Self.step (asks_characters bmp (sizes_of constraints.entry.size) (alphabet_of constraints.entry.permitted_alphabet) any_count) self.old) }
+        ensures failed { OnErr result (Self.has_failed self.new) }
+        ensures already { Self.has_failed self.old → result ≡ Err DecodeError.AlreadyFailed }
+    {
+        self.decode_characters(alloc, tag, constraints)
+    }
+}
+
+impl<D: Decoder> DecodeNamed for D {}

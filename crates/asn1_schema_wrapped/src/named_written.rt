@@ -1,0 +1,209 @@
+//! The calls of an encoder by the names of types.
+ghost use Rattle.std.specs.Prelude.{◌≡◌, OnOk, OnErr, IfErr};
+ghost use Rattle.asn1_model.specs.Schema.{visible, ia5, printable, numeric, general, graphic, teletex, bmp};
+ghost use Rattle.asn1_model.specs.Types.{any_count, any_size};
+ghost use Rattle.asn1_schema_constraints.specs.Terms.{sizes_of, alphabet_of};
+ghost use Rattle.asn1_schema_encode.specs.Writes.{Refused, Writes, CannotWrite};
+ghost use Rattle.asn1_schema_presented.specs.Records.{octets, characters};
+
+use crate::Any;
+use asn1_schema_bounds::Bounded;
+use asn1_schema_constraints::Constraints;
+use asn1_schema_encode::{Encode, Encoder};
+use asn1_schema_faults::EncodeError;
+use asn1_schema_tags::{Identifier, Tag};
+use asn1_values_strings::{
+    GeneralString, GraphicString, Ia5String, NumericString, PrintableString, TeletexString,
+    VisibleString,
+};
+use asn1_values_strings_wide::BmpString;
+
+/// What an encoder writes, by the names of types.
+pub trait EncodeNamed: Encoder {
+    /// A value of any type, as its octets: OCTET STRING (X.680 23) without constraints.
+    final fn encode_any(
+        &mut self,
+        tag: Tag,
+        value: &Any,
+        identifier: Identifier,
+    ) -> Result<(), EncodeError>
+    where
+        Self: Sized,
+        ensures ok { OnOk result (Self.step self.old (octets any_size any_count value.now) self.new) }
+        ensures only { IfErr result (Refused Self.step (octets any_size any_count value.now) self.old) }
+        ensures failed { OnErr result (Self.has_failed self.new) }
+        ensures already { Self.has_failed self.old → result ≡ Err EncodeError.AlreadyFailed }
+    {
+        self.encode_octet_string(
+            tag,
+            Constraints::NONE,
+            Bounded::None,
+            value.as_bytes(),
+            identifier,
+        )
+    }
+
+    /// A value with another tag around its own (X.680 31.2.8), which leaves no octet in the packed and the octet encoding
+    /// rules.
+    final fn encode_explicit_prefix<T: Encode>(
+        &mut self,
+        _tag: Tag,
+        value: &T,
+        _identifier: Identifier,
+    ) -> Result<(), EncodeError>
+    where
+        Self: Sized,
+        ensures ok { OnOk result (Writes Self.step T.schema (T.meaning value.now) self.old self.new) }
+        ensures only { IfErr result (CannotWrite Self.step T.schema (T.meaning value.now) self.old) }
+        ensures failed { OnErr result (Self.has_failed self.new) }
+        ensures already { Self.has_failed self.old → result ≡ Err EncodeError.AlreadyFailed }
+    {
+        value.encode(self)
+    }
+
+    /// VisibleString (X.680 41) under a size and an alphabet constraint.
+    final fn encode_visible_string(
+        &mut self,
+        tag: Tag,
+        constraints: Constraints,
+        value: &VisibleString,
+        identifier: Identifier,
+    ) -> Result<(), EncodeError>
+    where
+        Self: Sized,
+        ensures ok { OnOk result (Self.step self.old (characters visible (sizes_of constraints.entry.size) (alphabet_of constraints.entry.permitted_alphabet) any_count value.now) self.new) }
+        ensures only { IfErr result (Refused Self.step (characters visible (sizes_of constraints.entry.size) (alphabet_of constraints.entry.permitted_alphabet) any_count value.now) self.old) }
+        ensures failed { OnErr result (Self.has_failed self.new) }
+        ensures already { Self.has_failed self.old → result ≡ Err EncodeError.AlreadyFailed }
+    {
+        self.encode_characters(tag, constraints, value, identifier)
+    }
+
+    /// IA5String (X.680 41) under a size and an alphabet constraint.
+    final fn encode_ia5_string(
+        &mut self,
+        tag: Tag,
+        constraints: Constraints,
+        value: &Ia5String,
+        identifier: Identifier,
+    ) -> Result<(), EncodeError>
+    where
+        Self: Sized,
+        ensures ok { OnOk result (Self.step self.old (characters ia5 (sizes_of constraints.entry.size) (alphabet_of constraints.entry.permitted_alphabet) any_count value.now) self.new) }
+        ensures only { IfErr result (Refused Self.step (characters ia5 (sizes_of constraints.entry.size) (alphabet_of constraints.entry.permitted_alphabet) any_count value.now) self.old) }
+        ensures failed { OnErr result (Self.has_failed self.new) }
+        ensures already { Self.has_failed self.old → result ≡ Err EncodeError.AlreadyFailed }
+    {
+        self.encode_characters(tag, constraints, value, identifier)
+    }
+
+    /// PrintableString (X.680 41) under a size and an alphabet constraint.
+    final fn encode_printable_string(
+        &mut self,
+        tag: Tag,
+        constraints: Constraints,
+        value: &PrintableString,
+        identifier: Identifier,
+    ) -> Result<(), EncodeError>
+    where
+        Self: Sized,
+        ensures ok { OnOk result (Self.step self.old (characters printable (sizes_of constraints.entry.size) (alphabet_of constraints.entry.permitted_alphabet) any_count value.now) self.new) }
+        ensures only { IfErr result (Refused Self.step (characters printable (sizes_of constraints.entry.size) (alphabet_of constraints.entry.permitted_alphabet) any_count value.now) self.old) }
+        ensures failed { OnErr result (Self.has_failed self.new) }
+        ensures already { Self.has_failed self.old → result ≡ Err EncodeError.AlreadyFailed }
+    {
+        self.encode_characters(tag, constraints, value, identifier)
+    }
+
+    /// NumericString (X.680 41) under a size and an alphabet constraint.
+    final fn encode_numeric_string(
+        &mut self,
+        tag: Tag,
+        constraints: Constraints,
+        value: &NumericString,
+        identifier: Identifier,
+    ) -> Result<(), EncodeError>
+    where
+        Self: Sized,
+        ensures ok { OnOk result (Self.step self.old (characters numeric (sizes_of constraints.entry.size) (alphabet_of constraints.entry.permitted_alphabet) any_count value.now) self.new) }
+        ensures only { IfErr result (Refused Self.step (characters numeric (sizes_of constraints.entry.size) (alphabet_of constraints.entry.permitted_alphabet) any_count value.now) self.old) }
+        ensures failed { OnErr result (Self.has_failed self.new) }
+        ensures already { Self.has_failed self.old → result ≡ Err EncodeError.AlreadyFailed }
+    {
+        self.encode_characters(tag, constraints, value, identifier)
+    }
+
+    /// GeneralString (X.680 41) under a size and an alphabet constraint.
+    final fn encode_general_string(
+        &mut self,
+        tag: Tag,
+        constraints: Constraints,
+        value: &GeneralString,
+        identifier: Identifier,
+    ) -> Result<(), EncodeError>
+    where
+        Self: Sized,
+        ensures ok { OnOk result (Self.step self.old (characters general (sizes_of constraints.entry.size) (alphabet_of constraints.entry.permitted_alphabet) any_count value.now) self.new) }
+        ensures only { IfErr result (Refused Self.step (characters general (sizes_of constraints.entry.size) (alphabet_of constraints.entry.permitted_alphabet) any_count value.now) self.old) }
+        ensures failed { OnErr result (Self.has_failed self.new) }
+        ensures already { Self.has_failed self.old → result ≡ Err EncodeError.AlreadyFailed }
+    {
+        self.encode_characters(tag, constraints, value, identifier)
+    }
+
+    /// GraphicString (X.680 41) under a size and an alphabet constraint.
+    final fn encode_graphic_string(
+        &mut self,
+        tag: Tag,
+        constraints: Constraints,
+        value: &GraphicString,
+        identifier: Identifier,
+    ) -> Result<(), EncodeError>
+    where
+        Self: Sized,
+        ensures ok { OnOk result (Self.step self.old (characters graphic (sizes_of constraints.entry.size) (alphabet_of constraints.entry.permitted_alphabet) any_count value.now) self.new) }
+        ensures only { IfErr result (Refused Self.step (characters graphic (sizes_of constraints.entry.size) (alphabet_of constraints.entry.permitted_alphabet) any_count value.now) self.old) }
+        ensures failed { OnErr result (Self.has_failed self.new) }
+        ensures already { Self.has_failed self.old → result ≡ Err EncodeError.AlreadyFailed }
+    {
+        self.encode_characters(tag, constraints, value, identifier)
+    }
+
+    /// TeletexString (X.680 41) under a size and an alphabet constraint.
+    final fn encode_teletex_string(
+        &mut self,
+        tag: Tag,
+        constraints: Constraints,
+        value: &TeletexString,
+        identifier: Identifier,
+    ) -> Result<(), EncodeError>
+    where
+        Self: Sized,
+        ensures ok { OnOk result (Self.step self.old (characters teletex (sizes_of constraints.entry.size) (alphabet_of constraints.entry.permitted_alphabet) any_count value.now) self.new) }
+        ensures only { IfErr result (Refused Self.step (characters teletex (sizes_of constraints.entry.size) (alphabet_of constraints.entry.permitted_alphabet) any_count value.now) self.old) }
+        ensures failed { OnErr result (Self.has_failed self.new) }
+        ensures already { Self.has_failed self.old → result ≡ Err EncodeError.AlreadyFailed }
+    {
+        self.encode_characters(tag, constraints, value, identifier)
+    }
+
+    /// BMPString (X.680 41) under a size and an alphabet constraint.
+    final fn encode_bmp_string(
+        &mut self,
+        tag: Tag,
+        constraints: Constraints,
+        value: &BmpString,
+        identifier: Identifier,
+    ) -> Result<(), EncodeError>
+    where
+        Self: Sized,
+        ensures ok { OnOk result (Self.step self.old (characters bmp (sizes_of constraints.entry.size) (alphabet_of constraints.entry.permitted_alphabet) any_count value.now) self.new) }
+        ensures only { IfErr result (Refused Self.step (characters bmp (sizes_of constraints.entry.size) (alphabet_of constraints.entry.permitted_alphabet) any_count value.now) self.old) }
+        ensures failed { OnErr result (Self.has_failed self.new) }
+        ensures already { Self.has_failed self.old → result ≡ Err EncodeError.AlreadyFailed }
+    {
+        self.encode_characters(tag, constraints, value, identifier)
+    }
+}
+
+impl<E: Encoder> EncodeNamed for E {}

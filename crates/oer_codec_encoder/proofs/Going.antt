@@ -1,0 +1,15 @@
+-- Bags that go on, in the octets and the frames of an encoder.
+use Rattle.std.proofs.Common.{◌≡◌, ℕ, Bool, List, ◌∷◌, Result, Ok, Err, MatchResult}
+use Rattle.asn1_schema_faults.specs.declared.EncodeError.{EncodeError}
+use Rattle.asn1_schema_presented.specs.Records.{further}
+use Rattle.oer_codec_encoder.specs.declared.frame.Bag.{Bag as BagFrame}
+use Rattle.oer_codec_encoder.specs.declared.frame.Frame.{Frame}
+use Rattle.oer_codec_encoder.specs.declared.frame.Frame.TheVariants.{Bag}
+use Rattle.oer_codec_encoder.specs.Frames.{NoMember}
+use Rattle.oer_codec_encoder.specs.Holding.{NextOfBag, Does, Cannot}
+use Rattle.oer_codec_encoder.proofs.BagScopes.{does_next}
+use Rattle.oer_codec_encoder.proofs.Refusals.{cannot, no_member_of_bag}
+
+pub bag_goes_on : (more : Bool) (fs rest gs : List Frame) (b c : BagFrame) (o p : List ℕ) (r : Result (Unit {0}) EncodeError) → fs ≡ Bag b ∷ rest → MatchResult r (λ _. NextOfBag more b o c p) (NoMember more b.due) → gs ≡ Bag c ∷ rest → MatchResult r (λ _. Does (further more) fs o gs p) (Cannot (further more) fs o)
+bag_goes_on more fs rest gs b c o p (Ok u) a m d = does_next fs rest gs b c o p more a m d
+bag_goes_on more fs rest gs b c o p (Err e) a m d = cannot (further more) fs o e (λ n. no_member_of_bag fs rest b o more a (m n))

@@ -1,0 +1,76 @@
+-- Why records are refused, by the octets and the frames of an encoder.
+use Rattle.std.proofs.Common.{◌≡◌, ℕ, zero, suc, not, ltb, Bool, true, false, List, [], ◌∷◌, None, Result, Ok, Err, MatchResult, refl, ap, subst, sym, ◌∙◌, arith}
+use Rattle.std.specs.Result.{IsErr, IsErrAnd}
+use Rattle.std.proofs.lemmas.Bool.{lt-ltb}
+use Rattle.asn1_schema_faults.specs.declared.EncodeError.{EncodeError}
+use Rattle.asn1_schema_faults.specs.declared.EncodeError.TheVariants.{ValueConstraintNotSatisfied, SizeConstraintNotSatisfied, AlphabetConstraintNotSatisfied, TooLongValue, LengthExceedsPlatformSize, OutOfMemory, AlreadyFailed}
+use Rattle.asn1_schema_presented.specs.Records.{Record, mark, addition, addition_ends, further}
+use Rattle.oer_codec_steps.specs.Steps.{components, open_type, added, bag_members, State, run}
+use Rattle.oer_codec_encoder.specs.declared.frame.Additions.{Additions}
+use Rattle.oer_codec_encoder.specs.declared.frame.Bag.{Bag as BagFrame}
+use Rattle.oer_codec_encoder.specs.declared.frame.Frame.{Frame}
+use Rattle.oer_codec_encoder.specs.declared.frame.Frame.TheVariants.{Components, Added, OpenType, Members, Bag, Alternative}
+use Rattle.oer_codec_encoder.specs.declared.frame.Preamble.{Preamble}
+use Rattle.oer_codec_encoder.specs.Holding.{member_texts, Holds, Cannot}
+use Rattle.oer_codec_encoder.proofs.Scopes.{on_top}
+
+-- what a `?` passes on
+pub passed_on : {T E : Type 0} (P : T → Type 0) (Q : E → Type 0) (x : E) (r : Result T E) → IsErr r → IsErrAnd r (λ y. y ≡ x) → Q x → MatchResult r P Q
+passed_on P Q x (Ok v) n h p = let e : false ≡ true = n in cc
+passed_on P Q x (Err y) n h p = subst Q (sym h) p
+
+apart : {b : Bool} → true ≡ b → b ≡ false → ⊥
+apart h k = let x : true ≡ false = h ∙ k in cc
+
+pub cannot : (r : Record) (fs : List Frame) (o : List ℕ) (e : EncodeError) → (¬ (e ≡ OutOfMemory) → (s : State) → Holds fs o s → run r s ≡ None) → Cannot r fs o e
+cannot r fs o OutOfMemory h = tt
+cannot r fs o ValueConstraintNotSatisfied h = h (λ e. cc)
+cannot r fs o SizeConstraintNotSatisfied h = h (λ e. cc)
+cannot r fs o AlphabetConstraintNotSatisfied h = h (λ e. cc)
+cannot r fs o TooLongValue h = h (λ e. cc)
+cannot r fs o LengthExceedsPlatformSize h = h (λ e. cc)
+cannot r fs o AlreadyFailed h = h (λ e. cc)
+
+pub no_addition_due : (fs rest : List Frame) (a : Additions) (o : List ℕ) (present : Bool) → fs ≡ Added a ∷ rest → a.due ≡ 0 → (s : State) → Holds fs o s → run (addition present) s ≡ None
+no_addition_due fs rest a o present e n s h =
+    let i = on_top fs rest (Added a) o s e h in
+    ap (run (addition present)) (i.3 ∙ ap (λ k. let m : State = (o, added k i.1.marks i.1.inner a.present i.1.outer.0 ∷ i.1.outer.1) in m) n)
+
+pub no_member_due : (fs rest : List Frame) (due : ℕ) (o : List ℕ) (more : Bool) → fs ≡ Members due ∷ rest → more ≡ not (ltb 0 due) → (s : State) → Holds fs o s → run (further more) s ≡ None
+no_member_due fs rest due o more e n s h = go due more n (on_top fs rest (Members due) o s e h)
+  where
+    go : (due : ℕ) (more : Bool) → more ≡ not (ltb 0 due) → Holds (Members due ∷ rest) o s → run (further more) s ≡ None
+    go zero true n h = ap (run (further true)) h.1
+    go zero false n h = cc
+    go (suc k) true n h = absurd (apart n (ap not (lt-ltb 0 (suc k) (omega arith))))
+    go (suc k) false n h = ap (run (further false)) h.1
+
+pub no_member_of_bag : (fs rest : List Frame) (b : BagFrame) (o : List ℕ) (more : Bool) → fs ≡ Bag b ∷ rest → more ≡ not (ltb 0 b.due) → (s : State) → Holds fs o s → run (further more) s ≡ None
+no_member_of_bag fs rest b o more e n s h = let i = on_top fs rest (Bag b) o s e h in go b.due more n i.0 i.1
+  where
+    go : (due : ℕ) (more : Bool) → more ≡ not (ltb 0 due) → (t : State) → s ≡ (o, bag_members due (member_texts b.members) t.0 ∷ t.1) → run (further more) s ≡ None
+    go zero true n t h = ap (run (further true)) h
+    go zero false n t h = cc
+    go (suc k) true n t h = absurd (apart n (ap not (lt-ltb 0 (suc k) (omega arith))))
+    go (suc k) false n t h = ap (run (further false)) h
+
+pub no_addition_end : (fs rest : List Frame) (o : List ℕ) (start : ℕ) → fs ≡ OpenType start ∷ rest → ((a : Additions) (k : List Frame) → rest ≡ Added a ∷ k → ⊥) → (s : State) → Holds fs o s → run addition_ends s ≡ None
+no_addition_end fs rest o start e n s h = go rest n (on_top fs rest (OpenType start) o s e h)
+  where
+    go : (rest : List Frame) → ((a : Additions) (k : List Frame) → rest ≡ Added a ∷ k → ⊥) → Holds (OpenType start ∷ rest) o s → run addition_ends s ≡ None
+    go [] n h = ap (run addition_ends) (h.is ∙ ap (λ (b : State). let l : State = (h.inner, open_type b.0 ∷ b.1) in l) h.under)
+    go (Components c ∷ k) n h = ap (run addition_ends) (h.is ∙ ap (λ (b : State). let l : State = (h.inner, open_type b.0 ∷ b.1) in l) h.under.is)
+    go (Added a ∷ k) n h = absurd (n a k refl)
+    go (OpenType outer ∷ k) n h = ap (run addition_ends) (h.is ∙ ap (λ (b : State). let l : State = (h.inner, open_type b.0 ∷ b.1) in l) h.under.is)
+    go (Members due ∷ k) n h = ap (run addition_ends) (h.is ∙ ap (λ (b : State). let l : State = (h.inner, open_type b.0 ∷ b.1) in l) h.under.1)
+    go (Bag b ∷ k) n h = ap (run addition_ends) (h.is ∙ ap (λ (b : State). let l : State = (h.inner, open_type b.0 ∷ b.1) in l) h.under.1)
+    go (Alternative ∷ k) n h = ap (run addition_ends) (h.is ∙ ap (λ (b : State). let l : State = (h.inner, open_type b.0 ∷ b.1) in l) h.under.1)
+
+pub no_mark_due : (fs : List Frame) (o : List ℕ) (present : Bool) → ((p : Preamble) (k : List Frame) → fs ≡ Components p ∷ k → p.due ≡ 0) → (s : State) → Holds fs o s → run (mark present) s ≡ None
+no_mark_due [] o present n s h = ap (run (mark present)) h
+no_mark_due (Components c ∷ k) o present n s h = ap (run (mark present)) (h.is ∙ ap (λ d. let l : State = (h.inner, components c.extensible d h.marks h.outer.0 ∷ h.outer.1) in l) (n c k refl))
+no_mark_due (Added a ∷ k) o present n s h = ap (run (mark present)) h.3
+no_mark_due (OpenType start ∷ k) o present n s h = ap (run (mark present)) h.is
+no_mark_due (Members due ∷ k) o present n s h = ap (run (mark present)) h.1
+no_mark_due (Bag b ∷ k) o present n s h = ap (run (mark present)) h.1
+no_mark_due (Alternative ∷ k) o present n s h = ap (run (mark present)) h.1

@@ -1,0 +1,419 @@
+-- Sequences and lists that begin, go on and end, in the octets and the frames of an encoder.
+use Rattle.std.proofs.Common.{◌≡◌, ℕ, zero, suc, ◌+◌, ◌-◌, ◌*◌, ◌/◌, ◌%◌, ◌^◌, ◌<◌, Bool, true, false, cond, ltb, List, [], ◌∷◌, ◌++◌, length, get_or, set, take, drop, replicate, Option, Some, None, option_map, refl, ap, subst, sym, ◌∙◌, arith, append_assoc, length-append, length-set, inl, inr}
+use mir.Val.{bool_byte}
+use Rattle.std.proofs.lemmas.Bool.{cases_eq, ltb-true, ltb-false}
+use Rattle.std.proofs.lemmas.List.{append-nil, get_or-set_same, get_or-set_other, set-append_left, set-append_right, get_or-append_right, get_or_append_left, take_at, drop_at, length-replicate, replicate-append-replicate}
+use Rattle.asn1_model.specs.Numbers.{binary, octet_bits, missing, packed, is_count_within}
+use Rattle.asn1_values_bits.specs.Octets.{filled_up}
+use Rattle.asn1_values_bits.proofs.Binary.{octet_bits-append, length-octet_bits}
+use Rattle.asn1_values_bits.proofs.Change.{kept_changed}
+use Rattle.asn1_values_bits.proofs.Packed.{packed-octet_bits}
+use Rattle.asn1_schema_presented.specs.Records.{Record, sequence_begins, mark, ends, further, list_begins}
+use Rattle.asn1_model.specs.Form.{written, exactly, only_if}
+use Rattle.asn1_model.specs.Oer
+use Rattle.asn1_model.specs.Schema.{Size, Counts}
+use Rattle.oer_codec_steps.specs.Steps.{Scope, components, added, open_type, members, bag_members, alternative, State, run, adds_text}
+use Rattle.oer_codec_encoder.specs.declared.frame.Frame.{Frame}
+use Rattle.oer_codec_encoder.specs.declared.frame.Frame.TheVariants.{Components, Added, OpenType, Members, Bag, Alternative}
+use Rattle.oer_codec_encoder.specs.declared.frame.Preamble.{Preamble}
+use Rattle.oer_codec_encoder.specs.Frames.{told}
+use Rattle.oer_codec_encoder.specs.Holding.{presence, given_bits, member_texts, shown, IsOpen, IsApart, Holds, AreSound, Does}
+use Rattle.oer_codec_writing.specs.Writing.{Adds}
+
+-- ---- what is shown is what they stand for
+
+presence_bits : (e : Bool) (ms rest : List Bool) (given : ℕ) → length ms ≡ given → take given (drop (length (presence e [])) (presence e ms ++ rest)) ≡ ms
+presence_bits true ms rest given h = take_at ms rest given h
+presence_bits false ms rest given h = take_at ms rest given h
+
+presence_behind : (e : Bool) (ms rest more : List Bool) → presence e (ms ++ rest) ++ more ≡ presence e ms ++ (rest ++ more)
+presence_behind true ms rest more = ap (λ l. false ∷ l) (append_assoc ms rest more)
+presence_behind false ms rest more = append_assoc ms rest more
+
+same_open : (e : Bool) (due : ℕ) (i j : List ℕ) (m n : List Bool) (t u : State) → i ≡ j → m ≡ n → t ≡ u → (let l : State = (i, components e due m t.0 ∷ t.1) in l) ≡ (j, components e due n u.0 ∷ u.1)
+same_open e due i j m n t u a b c =
+    ap (λ x. let l : State = (x, components e due m t.0 ∷ t.1) in l) a
+    ∙ (ap (λ x. let l : State = (j, components e due x t.0 ∷ t.1) in l) b ∙ ap (λ (x : State). let l : State = (j, components e due n x.0 ∷ x.1) in l) c)
+
+-- the octets in front of an open sequence, those behind its preamble, and its presence bits
+parts : {below : List ℕ → State → Type 0} (e : Bool) (due given start content : ℕ) (o : List ℕ) (s : State) → (h : IsOpen below e due given start content o s) → (take start o ≡ h.front) × (drop content o ≡ h.inner) × (given_bits e given start o ≡ h.marks)
+parts e due given start content o s h =
+    let front : take start o ≡ h.front = ap (take start) h.text ∙ take_at h.front (h.preamble ++ h.inner) start h.starts in
+    let behind : drop start o ≡ h.preamble ++ h.inner = ap (drop start) h.text ∙ drop_at h.front (h.preamble ++ h.inner) start h.starts in
+    let whole : o ≡ (h.front ++ h.preamble) ++ h.inner = h.text ∙ sym (append_assoc h.front h.preamble h.inner) in
+    let n : length (h.front ++ h.preamble) ≡ content = omega (arith, length-append h.front h.preamble, h.starts, h.begins) in
+    let inner : drop content o ≡ h.inner = ap (drop content) whole ∙ drop_at (h.front ++ h.preamble) h.inner content n in
+    let zeros : List Bool = replicate due false in
+    let fill : List Bool = replicate (missing (length (presence e (h.marks ++ zeros)))) false in
+    let all : octet_bits (drop start o) ≡ presence e h.marks ++ ((zeros ++ fill) ++ octet_bits h.inner) =
+    ap octet_bits behind ∙ octet_bits-append h.preamble h.inner ∙ ap (λ l. l ++ octet_bits h.inner) (h.bits ∙ presence_behind e h.marks zeros fill)
+    ∙ append_assoc (presence e h.marks) (zeros ++ fill) (octet_bits h.inner) in
+    let marks = ap (λ l. take given (drop (length (presence e [])) l)) all ∙ presence_bits e h.marks ((zeros ++ fill) ++ octet_bits h.inner) given h.told in
+    (front, inner, marks)
+
+-- the octets in front of an open type, and its own
+parts_apart : {below : List ℕ → State → Type 0} (start : ℕ) (o : List ℕ) (s : State) → (h : IsApart below start o s) → (take start o ≡ h.front) × (drop (start + 1) o ≡ h.inner)
+parts_apart start o s h =
+    let whole : o ≡ (h.front ++ h.room ∷ []) ++ h.inner = h.text ∙ sym (append_assoc h.front (h.room ∷ []) h.inner) in
+    let n : length (h.front ++ h.room ∷ []) ≡ start + 1 = omega (arith, length-append h.front (h.room ∷ []), h.starts) in
+    (ap (take start) h.text ∙ take_at h.front (h.room ∷ h.inner) start h.starts, ap (drop (start + 1)) whole ∙ drop_at (h.front ++ h.room ∷ []) h.inner (start + 1) n)
+
+pub behind_room : {below : List ℕ → State → Type 0} (start : ℕ) (o : List ℕ) (s : State) → (h : IsApart below start o s) → drop (start + 1) o ≡ h.inner
+behind_room start o s h = (parts_apart start o s h).1
+
+pub before_room : {below : List ℕ → State → Type 0} (start : ℕ) (o : List ℕ) (s : State) → (h : IsApart below start o s) → take start o ≡ h.front
+before_room start o s h = (parts_apart start o s h).0
+
+-- there is room
+pub room_within : {below : List ℕ → State → Type 0} (start : ℕ) (o : List ℕ) (s : State) → IsApart below start o s → start < length o
+room_within start o s h = omega (arith, ap length h.text, length-append h.front (h.room ∷ h.inner), h.starts)
+
+same_apart : (i j : List ℕ) (t u : State) → i ≡ j → t ≡ u → (let l : State = (i, open_type t.0 ∷ t.1) in l) ≡ (j, open_type u.0 ∷ u.1)
+same_apart i j t u a b = ap (λ x. let l : State = (x, open_type t.0 ∷ t.1) in l) a ∙ ap (λ (x : State). let l : State = (j, open_type x.0 ∷ x.1) in l) b
+
+pub shown_is : (fs : List Frame) (o : List ℕ) (s : State) → Holds fs o s → shown fs o ≡ s
+shown_is [] o s h = sym h
+shown_is (Components c ∷ fs) o s h =
+    let x = parts c.extensible c.due c.given c.start c.content o s h in
+    same_open c.extensible c.due _ h.inner _ h.marks _ h.outer x.1 x.2 (ap (shown fs) x.0 ∙ shown_is fs h.front h.outer h.under) ∙ sym h.is
+shown_is (Added a ∷ fs) o s h =
+    let i = h.1 in
+    let x = parts true 0 a.preamble.given a.preamble.start a.preamble.content a.outer.items h.0 i in
+    let below = ap (shown fs) x.0 ∙ shown_is fs i.front i.outer i.under in
+    ap (λ m. let l : State = (o, added a.due m (drop a.preamble.content a.outer.items) a.present (shown fs (take a.preamble.start a.outer.items)).0 ∷ (shown fs (take a.preamble.start a.outer.items)).1) in l) x.2
+    ∙ ap (λ r. let l : State = (o, added a.due i.marks r a.present (shown fs (take a.preamble.start a.outer.items)).0 ∷ (shown fs (take a.preamble.start a.outer.items)).1) in l) x.1
+    ∙ ap (λ (t : State). let l : State = (o, added a.due i.marks i.inner a.present t.0 ∷ t.1) in l) below ∙ sym h.3
+shown_is (OpenType start ∷ fs) o s h =
+    let x = parts_apart start o s h in
+    same_apart _ h.inner _ h.outer x.1 (ap (shown fs) x.0 ∙ shown_is fs h.front h.outer h.under) ∙ sym h.is
+shown_is (Bag b ∷ fs) o s h = ap (λ (t : State). let l : State = (o, bag_members b.due (member_texts b.members) t.0 ∷ t.1) in l) (shown_is fs b.outer.items h.0 h.2) ∙ sym h.1
+shown_is (Alternative ∷ fs) o s h = ap (λ (t : State). let l : State = (t.0, alternative ∷ t.1) in l) (shown_is fs o h.0 h.2) ∙ sym h.1
+shown_is (Members due ∷ fs) o s h = ap (λ (t : State). let l : State = (t.0, members due ∷ t.1) in l) (shown_is fs o h.0 h.2) ∙ sym h.1
+
+-- ---- octets behind those that stand there
+
+pub appended : (fs : List Frame) (o : List ℕ) (s : State) (w : List ℕ) → Holds fs o s → Holds fs (o ++ w) (s.0 ++ w, s.1)
+appended [] o s w h = ap (λ (t : State). let l : State = (t.0 ++ w, t.1) in l) h
+appended (Components c ∷ fs) o s w h = record {
+  front = h.front;
+  preamble = h.preamble;
+  inner = h.inner ++ w;
+  marks = h.marks;
+  outer = h.outer;
+  text = ap (λ l. l ++ w) h.text ∙ (append_assoc h.front (h.preamble ++ h.inner) w ∙ ap (λ l. h.front ++ l) (append_assoc h.preamble h.inner w));
+  starts = h.starts;
+  begins = h.begins;
+  told = h.told;
+  counts = h.counts;
+  bits = h.bits;
+  small = h.small;
+  under = h.under;
+  is = ap (λ (t : State). let l : State = (t.0 ++ w, t.1) in l) h.is;
+}
+appended (Added a ∷ fs) o s w h = (h.0, h.1, h.2, ap (λ (t : State). let l : State = (t.0 ++ w, t.1) in l) h.3)
+appended (OpenType start ∷ fs) o s w h = record {
+  front = h.front;
+  room = h.room;
+  inner = h.inner ++ w;
+  outer = h.outer;
+  text = ap (λ l. l ++ w) h.text ∙ append_assoc h.front (h.room ∷ h.inner) w;
+  starts = h.starts;
+  under = h.under;
+  is = ap (λ (t : State). let l : State = (t.0 ++ w, t.1) in l) h.is;
+}
+appended (Bag b ∷ fs) o s w h = (h.0, ap (λ (t : State). let l : State = (t.0 ++ w, t.1) in l) h.1, h.2)
+appended (Alternative ∷ fs) o s w h = ((h.0.0 ++ w, h.0.1), ap (λ (t : State). let l : State = (t.0 ++ w, t.1) in l) h.1, appended fs o h.0 w h.2)
+appended (Members due ∷ fs) o s w h = ((h.0.0 ++ w, h.0.1), ap (λ (t : State). let l : State = (t.0 ++ w, t.1) in l) h.1, appended fs o h.0 w h.2)
+
+-- ---- the innermost frame
+
+pub on_top : (fs rest : List Frame) (f : Frame) (o : List ℕ) (s : State) → fs ≡ f ∷ rest → Holds fs o s → Holds (f ∷ rest) o s
+on_top fs rest f o s a h = subst (λ l. Holds l o s) a h
+
+pub put_back : (gs rest : List Frame) (g : Frame) (o : List ℕ) (s : State) → gs ≡ g ∷ rest → Holds (g ∷ rest) o s → Holds gs o s
+put_back gs rest g o s a h = subst (λ l. Holds l o s) (sym a) h
+
+-- ---- a sequence begins
+
+zero_bits : (k : ℕ) → octet_bits (replicate k 0) ≡ replicate (k * 8) false
+zero_bits zero = refl
+zero_bits (suc k) =
+    let n : 8 + k * 8 ≡ suc k * 8 = omega arith in
+    ap (λ l. binary 8 0 ++ l) (zero_bits k) ∙ replicate-append-replicate 8 (k * 8) false ∙ ap (λ m. replicate m false) n
+
+zeros_small : (n k : ℕ) → k < length {A = ℕ} (replicate n 0) → get_or {A = ℕ} (replicate n 0) k 0 < 256
+zeros_small zero k h = absurd (omega arith)
+zeros_small (suc n) zero h = omega arith
+zeros_small (suc n) (suc k) h = zeros_small n k (omega arith)
+
+pub filled_zeros : (e : Bool) (n k : ℕ) → k * 8 ≡ (n + cond e 1 0) + missing (n + cond e 1 0) → replicate (k * 8) false ≡ filled_up (presence e (replicate n false))
+filled_zeros e n k h = go e refl h
+  where
+    zeros : (m : ℕ) → k * 8 ≡ m + missing m → replicate (k * 8) false ≡ replicate m false ++ replicate (missing (length (replicate m false))) false
+    zeros m h = ap (λ j. replicate j false) h ∙ sym (ap (λ j. replicate m false ++ replicate (missing j) false) (length-replicate m false) ∙ replicate-append-replicate m (missing m) false)
+
+    go : (b : Bool) → e ≡ b → k * 8 ≡ (n + cond b 1 0) + missing (n + cond b 1 0) → replicate (k * 8) false ≡ filled_up (presence b (replicate n false))
+    go true d h = zeros (suc n) (let q : n + 1 ≡ suc n = omega arith in subst (λ j. k * 8 ≡ j + missing j) q h)
+    go false d h = zeros n (let q : n + 0 ≡ n = omega arith in subst (λ j. k * 8 ≡ j + missing j) q h)
+
+abbrev pub fresh : Bool → ℕ → ℕ → ℕ → Preamble
+fresh e n start content = record { extensible = e; due = n; given = 0; start = start; content = content }
+
+pub opened : (fs : List Frame) (o : List ℕ) (s : State) (e : Bool) (n k start content : ℕ) → Holds fs o s → n < 2 ^ 64 → k * 8 ≡ (n + cond e 1 0) + missing (n + cond e 1 0) → start ≡ length o → content ≡ length (o ++ replicate k 0) → Holds (Components (fresh e n start content) ∷ fs) (o ++ replicate k 0) ([], components e n [] s.0 ∷ s.1)
+opened fs o s e n k start content h m d a b = record {
+  front = o;
+  preamble = replicate k 0;
+  inner = [];
+  marks = [];
+  outer = s;
+  text = ap (λ l. o ++ l) (sym (append-nil (replicate k 0)));
+  starts = sym a;
+  begins = omega (arith, length-append o (replicate k 0), a, b);
+  told = refl;
+  counts = omega arith;
+  bits = zero_bits k ∙ filled_zeros e n k d;
+  small = zeros_small k;
+  under = h;
+  is = refl;
+}
+
+pub does_begin : (fs gs : List Frame) (o p : List ℕ) (e : Bool) (n k start content : ℕ) → n < 2 ^ 64 → k * 8 ≡ (n + cond e 1 0) + missing (n + cond e 1 0) → start ≡ length o → content ≡ length p → p ≡ o ++ replicate k 0 → gs ≡ Components (fresh e n start content) ∷ fs → Does (sequence_begins e n) fs o gs p
+does_begin fs gs o p e n k start content m d a b x y = record { after = λ s h. (opens s, refl, put_back gs fs _ p (opens s) y (subst (λ l. Holds (Components (fresh e n start content) ∷ fs) l (opens s)) (sym x) (opened fs o s e n k start content h m d a (b ∙ ap length x)))) }
+  where
+    opens : State → State
+    opens s = ([], components e n [] s.0 ∷ s.1)
+
+-- ---- a presence bit
+
+set_seam : {X : Type 0} (xs ys : List X) (x y : X) → set (xs ++ x ∷ ys) (length xs) y ≡ xs ++ y ∷ ys
+set_seam [] ys x y = refl
+set_seam (z ∷ xs) ys x y = ap (λ l. z ∷ l) (set_seam xs ys x y)
+
+-- the next bit set, among those that are due
+raised_bits : (e : Bool) (ms : List Bool) (d i : ℕ) → i ≡ length ms + cond e 1 0 → set (presence e (ms ++ replicate (suc d) false)) i true ≡ presence e ((ms ++ true ∷ []) ++ replicate d false)
+raised_bits true ms d i h =
+    let n : i ≡ suc (length ms) = omega arith in
+    ap (λ k. set (false ∷ (ms ++ replicate (suc d) false)) k true) n ∙ ap (λ l. false ∷ l) (set_seam ms (replicate d false) false true ∙ sym (append_assoc ms (true ∷ []) (replicate d false)))
+raised_bits false ms d i h =
+    let n : i ≡ length ms = omega arith in
+    ap (λ k. set (ms ++ replicate (suc d) false) k true) n ∙ (set_seam ms (replicate d false) false true ∙ sym (append_assoc ms (true ∷ []) (replicate d false)))
+
+lowered_bits : (e : Bool) (ms : List Bool) (d : ℕ) → presence e (ms ++ replicate (suc d) false) ≡ presence e ((ms ++ false ∷ []) ++ replicate d false)
+lowered_bits e ms d = ap (presence e) (sym (append_assoc ms (false ∷ []) (replicate d false)))
+
+one_longer : (ms : List Bool) (b : Bool) (given : ℕ) → length ms ≡ given → length (ms ++ b ∷ []) ≡ given + 1
+one_longer ms b given h = omega (arith, length-append ms (b ∷ []), h)
+
+length-presence : (e : Bool) (ms : List Bool) → length (presence e ms) ≡ length ms + cond e 1 0
+length-presence true ms = omega arith
+length-presence false ms = omega arith
+
+pub get_or_any : (xs : List ℕ) (i : ℕ) → i < length xs → get_or xs i 0 ≡ get_or xs i (get_or xs i 0)
+get_or_any [] i h = absurd (omega arith)
+get_or_any (x ∷ xs) zero h = refl
+get_or_any (x ∷ xs) (suc i) h = get_or_any xs i (omega arith)
+
+pub set_small : (os : List ℕ) (q x : ℕ) → x < 256 → q < length os → ((k : ℕ) → k < length os → get_or os k 0 < 256) → (k : ℕ) → k < length (set os q x) → get_or (set os q x) k 0 < 256
+set_small os q x h l s k m = elim (cases_eq k q) [
+  | inl e ↦ let a : get_or (set os q x) k 0 ≡ x = ap (λ j. get_or (set os q x) j 0) e ∙ get_or-set_same os q x 0 l in omega (arith, a)
+  | inr ne ↦ let a = get_or-set_other os q k x 0 ne in let b = s k (omega (arith, length-set os q x)) in omega (arith, a, b)
+]
+
+module _ (below : List ℕ → State → Type 0) (e : Bool) (d given start content : ℕ) (o : List ℕ) (s : State) (h : IsOpen below e (suc d) given start content o s) where
+  abbrev then_state : Bool → State
+  then_state b = (h.inner, components e d (h.marks ++ b ∷ []) h.outer.0 ∷ h.outer.1)
+
+  bits_due : ℕ
+  bits_due = length h.marks + cond e 1 0
+
+  unmarked : IsOpen below e d (given + 1) start content o (then_state false)
+  unmarked = record {
+    front = h.front;
+    preamble = h.preamble;
+    inner = h.inner;
+    marks = h.marks ++ false ∷ [];
+    outer = h.outer;
+    text = h.text;
+    starts = h.starts;
+    begins = h.begins;
+    told = one_longer h.marks false given h.told;
+    counts = omega (arith, h.counts);
+    bits = h.bits ∙ ap filled_up (lowered_bits e h.marks d);
+    small = h.small;
+    under = h.under;
+    is = refl;
+  }
+
+  abbrev due_bits : List Bool
+  due_bits = presence e (h.marks ++ replicate (suc d) false)
+
+  within_bits : (i : ℕ) → i ≡ given + cond e 1 0 → i < length due_bits
+  within_bits i n = omega (arith, length-presence e (h.marks ++ replicate (suc d) false), length-append h.marks (replicate (suc d) false), length-replicate (suc d) false, h.told)
+
+  within_preamble : (i : ℕ) → i ≡ given + cond e 1 0 → i / 8 < length h.preamble
+  within_preamble i n = omega (arith, within_bits i n, ap length h.bits, length-octet_bits h.preamble, length-append due_bits (replicate (missing (length due_bits)) false))
+
+  pub within_octets : (i : ℕ) → i ≡ given + cond e 1 0 → start + i / 8 < length o
+  within_octets i n = omega (arith, within_preamble i n, ap length h.text, length-append h.front (h.preamble ++ h.inner), length-append h.preamble h.inner, h.starts)
+
+  octet_at : (i x : ℕ) → i ≡ given + cond e 1 0 → get_or o (start + i / 8) x ≡ get_or h.preamble (i / 8) x
+  octet_at i x n =
+      let k : start + i / 8 - start ≡ i / 8 = omega arith in
+      ap (λ l. get_or l (start + i / 8) x) h.text ∙ get_or-append_right h.front (h.preamble ++ h.inner) start (start + i / 8) x h.starts (omega arith)
+      ∙ ap (λ j. get_or (h.preamble ++ h.inner) j x) k ∙ get_or_append_left h.preamble h.inner x (i / 8) (within_preamble i n)
+
+  marked_with : (p : List ℕ) (i x y : ℕ) → i ≡ given + cond e 1 0 → p ≡ set o (start + i / 8) x → y ≡ get_or o (start + i / 8) y → binary 8 x ≡ set (binary 8 y) (i % 8) true → x < 256 → IsOpen below e d (given + 1) start content p (then_state true)
+  marked_with p i x y n changed at bit small =
+      let q : i / 8 < length h.preamble = within_preamble i n in
+      let k : start + i / 8 - start ≡ i / 8 = omega arith in
+      let place : i ≡ length h.marks + cond e 1 0 = omega (arith, h.told) in
+      let raised = raised_bits e h.marks d i place in
+      let long : length due_bits ≡ length (presence e ((h.marks ++ true ∷ []) ++ replicate d false)) = sym (length-set due_bits i true) ∙ ap length raised in
+      record {
+        front = h.front;
+        preamble = set h.preamble (i / 8) x;
+        inner = h.inner;
+        marks = h.marks ++ true ∷ [];
+        outer = h.outer;
+        text = changed ∙ ap (λ l. set l (start + i / 8) x) h.text ∙ set-append_right h.front (h.preamble ++ h.inner) start (start + i / 8) x h.starts (omega arith)
+            ∙ ap (λ j. h.front ++ set (h.preamble ++ h.inner) j x) k ∙ ap (λ l. h.front ++ l) (set-append_left h.preamble h.inner (i / 8) x q);
+        starts = h.starts;
+        begins = omega (arith, h.begins, length-set h.preamble (i / 8) x);
+        told = one_longer h.marks true given h.told;
+        counts = omega (arith, h.counts);
+        bits = kept_changed h.preamble due_bits (length due_bits) i y x true h.bits refl (within_bits i n) (at ∙ octet_at i y n) bit ∙ ap (λ l. l ++ replicate (missing (length due_bits)) false) raised
+            ∙ ap (λ m. presence e ((h.marks ++ true ∷ []) ++ replicate d false) ++ replicate (missing m) false) long;
+        small = set_small h.preamble (i / 8) x small q h.small;
+        under = h.under;
+        is = refl;
+      }
+
+-- the presence bits of the innermost sequence can be counted
+pub marks_fit : (fs rest : List Frame) (c : Preamble) (o : List ℕ) → AreSound fs o → fs ≡ Components c ∷ rest → c.given + c.due < 2 ^ 64
+marks_fit fs rest c o s a = (on_top fs rest (Components c) o s.state a s.holds).counts
+
+-- the mark of the innermost sequence
+module _ (fs rest : List Frame) (c : Preamble) (o : List ℕ) (a : fs ≡ Components c ∷ rest) (n : 0 < c.due) where
+  one : c.due ≡ suc (c.due - 1)
+  one = omega arith
+
+  next_due : (s : State) → Holds fs o s → IsOpen (λ q t. Holds rest q t) c.extensible (suc (c.due - 1)) c.given c.start c.content o s
+  next_due s h = subst (λ k. IsOpen (λ q t. Holds rest q t) c.extensible k c.given c.start c.content o s) one (on_top fs rest (Components c) o s a h)
+
+  pub does_mark_absent : (gs : List Frame) → gs ≡ Components (told c) ∷ rest → Does (mark false) fs o gs o
+  does_mark_absent gs b = record { after = λ s h. let i = next_due s h in (then_state _ c.extensible (c.due - 1) c.given c.start c.content o s i false, ap (run (mark false)) i.is, put_back gs rest _ o _ b (unmarked _ c.extensible (c.due - 1) c.given c.start c.content o s i)) }
+
+  pub does_mark_present : (gs : List Frame) (p : List ℕ) (i : ℕ) → gs ≡ Components (told c) ∷ rest → i ≡ c.given + cond c.extensible 1 0 → p ≡ set o (c.start + i / 8) (get_or p (c.start + i / 8) 0) → binary 8 (get_or p (c.start + i / 8) 0) ≡ set (binary 8 (get_or o (c.start + i / 8) 0)) (i % 8) true → ((j d : ℕ) → j < length p → get_or p j d < 256) → Does (mark true) fs o gs p
+  does_mark_present gs p i b place others bit small = record { after = λ s h. go s (next_due s h) }
+    where
+      go : (s : State) → IsOpen (λ q t. Holds rest q t) c.extensible (suc (c.due - 1)) c.given c.start c.content o s → (t : State) × (run (mark true) s ≡ Some t) × Holds gs p t
+      go s h =
+          let at : ℕ = c.start + i / 8 in
+          let l = within_octets _ c.extensible (c.due - 1) c.given c.start c.content o s h i place in
+          (then_state _ c.extensible (c.due - 1) c.given c.start c.content o s h true, ap (run (mark true)) h.is, put_back gs rest _ p _ b (marked_with _ c.extensible (c.due - 1) c.given c.start c.content o s h p i (get_or p at 0) (get_or o at 0) place others (get_or_any o at l) bit (small at 0 (omega (arith, l, ap length others, length-set o at (get_or p at 0))))))
+
+  pub mark_within : (i : ℕ) → AreSound fs o → i ≡ c.given + cond c.extensible 1 0 → c.start + i / 8 < length o
+  mark_within i s place = within_octets _ c.extensible (c.due - 1) c.given c.start c.content o s.state (next_due s.state s.holds) i place
+
+-- ---- lists, and ends
+
+pub does_further : (fs rest gs : List Frame) (due : ℕ) (o : List ℕ) → fs ≡ Members due ∷ rest → 0 < due → gs ≡ Members (due - 1) ∷ rest → Does (further true) fs o gs o
+does_further fs rest gs due o a n c = record { after = λ s h. go s (subst (λ k. Holds (Members k ∷ rest) o s) one (on_top fs rest (Members due) o s a h)) }
+  where
+    one : due ≡ suc (due - 1)
+    one = omega arith
+
+    go : (s : State) → Holds (Members (suc (due - 1)) ∷ rest) o s → (t : State) × (run (further true) s ≡ Some t) × Holds gs o t
+    go s h = ((h.0.0, members (due - 1) ∷ h.0.1), ap (run (further true)) h.1, put_back gs rest _ o _ c (h.0, refl, h.2))
+
+pub does_no_further : (fs rest gs : List Frame) (due : ℕ) (o : List ℕ) → fs ≡ Members due ∷ rest → due ≡ 0 → gs ≡ Members 0 ∷ rest → Does (further false) fs o gs o
+does_no_further fs rest gs due o a n c = record { after = λ s h. go s (subst (λ k. Holds (Members k ∷ rest) o s) n (on_top fs rest (Members due) o s a h)) }
+  where
+    go : (s : State) → Holds (Members 0 ∷ rest) o s → (t : State) × (run (further false) s ≡ Some t) × Holds gs o t
+    go s h = ((h.0.0, members 0 ∷ h.0.1), ap (run (further false)) h.1, put_back gs rest _ o _ c (h.0, refl, h.2))
+
+pub closed_text : (p : List ℕ) (bs : List Bool) → octet_bits p ≡ filled_up bs → ((k : ℕ) → k < length p → get_or p k 0 < 256) → packed (filled_up bs) ≡ p
+closed_text p bs e h = ap packed (sym e) ∙ packed-octet_bits p h
+
+sequence_text : (ms : List Bool) (os : List ℕ) → written (Oer.sequence_form false ms (exactly os) []) 0 ≡ Some (packed (filled_up ms) ++ os)
+unfolding written Oer.sequence_form
+sequence_text ms os = refl
+
+pub does_end_components : (fs rest : List Frame) (c : Preamble) (o : List ℕ) → fs ≡ Components c ∷ rest → c.extensible ≡ false → c.due ≡ 0 → Does ends fs o rest o
+does_end_components fs rest c o a f n = record { after = λ s h. go s (subst (λ x. IsOpen (λ q t. Holds rest q t) x 0 c.given c.start c.content o s) f (subst (λ k. IsOpen (λ q t. Holds rest q t) c.extensible k c.given c.start c.content o s) n (on_top fs rest (Components c) o s a h))) }
+  where
+    go : (s : State) → IsOpen (λ q t. Holds rest q t) false 0 c.given c.start c.content o s → (t : State) × (run ends s ≡ Some t) × Holds rest o t
+    go s h =
+        let w : List ℕ = packed (filled_up h.marks) ++ h.inner in
+        let z : State = (h.outer.0 ++ w, h.outer.1) in
+        let bits : octet_bits h.preamble ≡ filled_up h.marks = h.bits ∙ ap filled_up (append-nil h.marks) in
+        let back : o ≡ h.front ++ w = h.text ∙ ap (λ l. h.front ++ (l ++ h.inner)) (sym (closed_text h.preamble h.marks bits h.small)) in
+        (z, ap (run ends) h.is ∙ ap (λ x. adds_text x h.outer) (sequence_text h.marks h.inner), subst (λ l. Holds rest l z) (sym back) (appended rest h.front h.outer w h.under))
+
+pub does_end_members : (fs rest : List Frame) (due : ℕ) (o : List ℕ) → fs ≡ Members due ∷ rest → due ≡ 0 → Does ends fs o rest o
+does_end_members fs rest due o a n = record { after = λ s h. go s (subst (λ k. Holds (Members k ∷ rest) o s) n (on_top fs rest (Members due) o s a h)) }
+  where
+    go : (s : State) → Holds (Members 0 ∷ rest) o s → (t : State) × (run ends s ≡ Some t) × Holds rest o t
+    go s h = (h.0, ap (run ends) h.1, h.2)
+
+pub does_begin_members : (fs gs : List Frame) (o p : List ℕ) (z : Size) (h : Counts) (n : ℕ) → is_count_within h n ≡ true → Adds (written (Oer.unsigned n) 0) o p → gs ≡ Members n ∷ fs → Does (list_begins z h n) fs o gs p
+does_begin_members fs gs o p z h n k x y = record { after = λ s d. go s d (written (Oer.unsigned n) 0) refl x }
+  where
+    told_count : written (only_if (is_count_within h n) (Oer.unsigned n)) 0 ≡ written (Oer.unsigned n) 0
+    told_count = ap (λ (b : Bool). written (only_if b (Oer.unsigned n)) 0) k
+
+    go : (s : State) → Holds fs o s → (t : Option (List ℕ)) → written (Oer.unsigned n) 0 ≡ t → Adds t o p → (u : State) × (run (list_begins z h n) s ≡ Some u) × Holds gs p u
+    go s d None e a = cc
+    go s d (Some w) e a =
+        let u : State = (s.0 ++ w, members n ∷ s.1) in
+        let b : o ++ w ≡ p = cc a in
+        (u, ap (option_map (λ l. let v : State = (s.0 ++ l, members n ∷ s.1) in v)) (told_count ∙ e), put_back gs fs (Members n) p u y ((s.0 ++ w, s.1), refl, subst (λ l. Holds fs l (s.0 ++ w, s.1)) b (appended fs o s w d)))
+
+pub raised_at : (os : List ℕ) (i y x r : ℕ) → i < length os → y ≡ get_or os i y → binary 8 x ≡ set (binary 8 y) r true → binary 8 (get_or (set os i x) i 0) ≡ set (binary 8 (get_or os i 0)) r true
+raised_at os i y x r h a b =
+    ap (binary 8) (get_or-set_same os i x 0 h) ∙ b ∙ ap (λ z. set (binary 8 z) r true) (a ∙ same os i y h)
+  where
+    same : (os : List ℕ) (i y : ℕ) → i < length os → get_or os i y ≡ get_or os i 0
+    same [] i y h = absurd (omega arith)
+    same (o ∷ os) zero y h = refl
+    same (o ∷ os) (suc i) y h = same os i y (omega arith)
+
+byte_of : (b : Bool) → bool_byte b ≡ cond b 1 0
+byte_of true = refl
+byte_of false = refl
+
+pub with_mark_byte : (given n : ℕ) (e : Bool) → n ≡ bool_byte e → given + n ≡ given + cond e 1 0
+with_mark_byte given n e h = ap (λ k. given + k) (h ∙ byte_of e)
+
+pub does_whether_further : (fs rest gs : List Frame) (due next : ℕ) (o : List ℕ) (b : Bool) → fs ≡ Members due ∷ rest → b ≡ ltb 0 due → next ≡ due - cond b 1 0 → gs ≡ Members next ∷ rest → Does (further b) fs o gs o
+does_whether_further fs rest gs due next o true a n d e = does_further fs rest gs due o a (ltb-true _ _ (sym n)) (e ∙ ap (λ (j : ℕ). Members j ∷ rest) d)
+does_whether_further fs rest gs due next o false a n d e =
+    let z : due ≡ 0 = let l = ltb-false _ _ (sym n) in omega arith in
+    let y : next ≡ 0 = omega arith in
+    does_no_further fs rest gs due o a z (e ∙ ap (λ (j : ℕ). Members j ∷ rest) y)
+
+pub no_begin_members : (fs : List Frame) (o : List ℕ) (z : Size) (h : Counts) (n : ℕ) → is_count_within h n ≡ false → (s : State) → Holds fs o s → run (list_begins z h n) s ≡ None
+unfolding written
+no_begin_members fs o z h n k s d = ap (λ (b : Bool). option_map (λ w. let v : State = (s.0 ++ w, members n ∷ s.1) in v) (written (only_if b (Oer.unsigned n)) 0)) k
+
+pub nothing_open : (fs : List Frame) (o : List ℕ) (s : State) → Holds fs o s → s.1 ≡ [] → o ≡ s.0
+nothing_open [] o s h e = sym (ap (λ (t : State). t.0) h)
+nothing_open (Components c ∷ fs) o s h n = let p = ap (λ (t : State). t.1) h.is in cc
+nothing_open (Added a ∷ fs) o s h n = let p = ap (λ (t : State). t.1) h.3 in cc
+nothing_open (OpenType start ∷ fs) o s h n = let p = ap (λ (t : State). t.1) h.is in cc
+nothing_open (Bag b ∷ fs) o s h n = let p = ap (λ (t : State). t.1) h.1 in cc
+nothing_open (Alternative ∷ fs) o s h n = let p = ap (λ (t : State). t.1) h.1 in cc
+nothing_open (Members due ∷ fs) o s h n = let p = ap (λ (t : State). t.1) h.1 in cc
+
+-- ---- sequences, sets and groups begin alike
+
+pub does_same : (r q : Record) (fs gs : List Frame) (o p : List ℕ) → ((s : State) → run q s ≡ run r s) → Does r fs o gs p → Does q fs o gs p
+does_same r q fs gs o p e d = record { after = λ s h. let t = d.after s h in (t.0, e s ∙ t.1, t.2) }
+
+-- ---- what stands on top
+
+pub none_on_top : (r : Record) (fs rest : List Frame) (f : Frame) (o : List ℕ) → fs ≡ f ∷ rest → ((s : State) → Holds (f ∷ rest) o s → run r s ≡ None) → (s : State) → Holds fs o s → run r s ≡ None
+none_on_top r fs rest f o e h s k = h s (on_top fs rest f o s e k)
+
+pub scope_on_top : (r : Record) (s : State) (os : List ℕ) (c : Scope) (k : List Scope) → s ≡ (os, c ∷ k) → run r (os, c ∷ k) ≡ None → run r s ≡ None
+scope_on_top r s os c k e h = ap (run r) e ∙ h

@@ -1,0 +1,35 @@
+-- The frames of an encoder, and how they go on.
+use Rattle.std.specs.Prelude.{◌≡◌, ℕ, ◌+◌, ◌-◌, ◌<◌, Bool, ◌||◌, List, [], ◌∷◌, ◌++◌, reverse, not, ltb, Option, Some, None}
+use Rattle.asn1_schema_faults.specs.declared.EncodeError.{EncodeError}
+use Rattle.asn1_schema_faults.specs.declared.EncodeError.TheVariants.{OutOfMemory}
+use Rattle.oer_codec_encoder.specs.declared.frame.Additions.{Additions}
+use Rattle.oer_codec_encoder.specs.declared.frame.Frame.{Frame}
+use Rattle.oer_codec_encoder.specs.declared.frame.Frame.TheVariants.{Added}
+use Rattle.oer_codec_encoder.specs.declared.frame.Preamble.{Preamble}
+
+-- All that is open, the innermost first: it stands alone, and those around it in the order in which they began.
+abbrev pub frames_of : Option Frame → List Frame → List Frame
+frames_of None fs = []
+frames_of (Some f) fs = f ∷ reverse fs
+
+-- A preamble behind its next presence bit.
+abbrev pub told : Preamble → Preamble
+told p = record { extensible = p.extensible; due = p.due - 1; given = p.given + 1; start = p.start; content = p.content }
+
+-- The additions behind the next one: one fewer is due, and whether it is there was told.
+pub record Next (here : Bool) (a b : Additions) : Type 0 where
+  pub one : 0 < a.due
+  pub counts : b.due ≡ a.due - 1
+  pub preamble : b.preamble ≡ a.preamble
+  pub outer : b.outer ≡ a.outer
+  pub present : b.present ≡ a.present ++ here ∷ []
+  pub any : b.any ≡ (a.any || here)
+
+-- The next addition of the innermost sequence is counted.
+abbrev pub CountsAddition : Bool → List Frame → List Frame → Type 0
+CountsAddition present (Added a ∷ k) after = (b : Additions) × Next present a b × (after ≡ Added b ∷ k)
+CountsAddition present k after = ⊥
+
+-- Why no member, or no end of the members, comes where so many are due: memory was refused, or it is not what is due.
+abbrev pub NoMember : Bool → ℕ → EncodeError → Type 0
+NoMember more due e = ¬ (e ≡ OutOfMemory) → more ≡ not (ltb 0 due)

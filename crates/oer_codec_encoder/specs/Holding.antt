@@ -1,0 +1,103 @@
+-- How the octets and the frames of an encoder stand for what a writer holds. The frames are given the innermost first.
+use Rattle.std.specs.Prelude.{◌≡◌, ℕ, ◌+◌, ◌-◌, ◌^◌, ◌<◌, Bool, true, false, List, [], ◌∷◌, ◌++◌, length, map, take, drop, replicate, Option, Some, None, option_map, slice_index, Vec}
+use Rattle.asn1_model.specs.Numbers.{octet_bits}
+use Rattle.asn1_values_bits.specs.Octets.{filled_up}
+use Rattle.asn1_schema_faults.specs.declared.EncodeError.{EncodeError}
+use Rattle.asn1_schema_faults.specs.declared.EncodeError.TheVariants.{OutOfMemory}
+use Rattle.asn1_schema_presented.specs.Records.{Record}
+use Rattle.oer_codec_steps.specs.Steps.{components, added, open_type, members, bag_members, alternative, with_open, is_any_set, State, run}
+use Rattle.oer_codec_encoder.specs.declared.frame.Bag.{Bag as BagFrame}
+use Rattle.oer_codec_encoder.specs.declared.frame.Frame.{Frame}
+use Rattle.oer_codec_encoder.specs.declared.frame.Frame.TheVariants.{Components, Added, OpenType, Members, Bag, Alternative}
+
+-- The bits of a preamble: the mark of extensibility, which is not set, where there is one, and the presence bits.
+abbrev pub presence : Bool → List Bool → List Bool
+presence true ms = false ∷ ms
+presence false ms = ms
+
+-- The octets of each member of a bag in front of the open one, if one is open.
+abbrev pub member_texts : {Z : Type 0} → Option (Vec (Vec ℕ Z) Z) → Option (List (List ℕ))
+member_texts held = option_map (λ ms. map (λ v. v.items) ms.items) held
+
+-- The presence bits that were given, behind the mark of extensibility, where there is one.
+abbrev pub given_bits : Bool → ℕ → ℕ → List ℕ → List Bool
+given_bits e given start o = take given (drop (length (presence e [])) (octet_bits (drop start o)))
+
+-- What the octets and the frames show.
+abbrev pub shown : List Frame → List ℕ → State
+shown [] o = (o, [])
+shown (Components c ∷ fs) o =
+    let below = shown fs (take c.start o) in
+    (drop c.content o, components c.extensible c.due (given_bits c.extensible c.given c.start o) below.0 ∷ below.1)
+shown (Added a ∷ fs) o =
+    let below = shown fs (take a.preamble.start a.outer.items) in
+    (o, added a.due (given_bits true a.preamble.given a.preamble.start a.outer.items) (drop a.preamble.content a.outer.items) a.present below.0 ∷ below.1)
+shown (OpenType start ∷ fs) o =
+    let below = shown fs (take start o) in
+    (drop (start + 1) o, open_type below.0 ∷ below.1)
+shown (Members due ∷ fs) o =
+    let below = shown fs o in
+    (below.0, members due ∷ below.1)
+shown (Bag b ∷ fs) o =
+    let below = shown fs b.outer.items in
+    (o, bag_members b.due (member_texts b.members) below.0 ∷ below.1)
+shown (Alternative ∷ fs) o =
+    let below = shown fs o in
+    (below.0, alternative ∷ below.1)
+
+-- The octets are those in front of an open sequence, its preamble, in which the bits that are due are not set, and those behind it.
+pub record IsOpen (below : List ℕ → State → Type 0) (e : Bool) (due given start content : ℕ) (o : List ℕ) (s : State) : Type 0 where
+  pub front : List ℕ
+  pub preamble : List ℕ
+  pub inner : List ℕ
+  pub marks : List Bool
+  pub outer : State
+  pub text : o ≡ front ++ (preamble ++ inner)
+  pub starts : length front ≡ start
+  pub begins : start + length preamble ≡ content
+  pub told : length marks ≡ given
+  pub counts : given + due < 2 ^ 64
+  pub bits : octet_bits preamble ≡ filled_up (presence e (marks ++ replicate due false))
+  pub small : (k : ℕ) → k < length preamble → slice_index preamble k < 256
+  pub under : below front outer
+  pub is : s ≡ (inner, components e due marks outer.0 ∷ outer.1)
+
+-- The octets are those in front of an open type, room for one octet, and those of the open type.
+pub record IsApart (below : List ℕ → State → Type 0) (start : ℕ) (o : List ℕ) (s : State) : Type 0 where
+  pub front : List ℕ
+  pub room : ℕ
+  pub inner : List ℕ
+  pub outer : State
+  pub text : o ≡ front ++ room ∷ inner
+  pub starts : length front ≡ start
+  pub under : below front outer
+  pub is : s ≡ (inner, open_type outer.0 ∷ outer.1)
+
+-- The octets and the frames stand for a state.
+abbrev pub Holds : List Frame → List ℕ → State → Type 0
+Holds [] o s = s ≡ (o, [])
+Holds (Components c ∷ fs) o s = IsOpen (λ p t. Holds fs p t) c.extensible c.due c.given c.start c.content o s
+Holds (Added a ∷ fs) o s = (root : State) × (h : IsOpen (λ p t. Holds fs p t) true 0 a.preamble.given a.preamble.start a.preamble.content a.outer.items root) × (a.any ≡ is_any_set a.present) × (s ≡ (o, added a.due h.marks h.inner a.present h.outer.0 ∷ h.outer.1))
+Holds (OpenType start ∷ fs) o s = IsApart (λ p t. Holds fs p t) start o s
+Holds (Members due ∷ fs) o s = (below : State) × (s ≡ (below.0, members due ∷ below.1)) × Holds fs o below
+Holds (Bag b ∷ fs) o s = (below : State) × (s ≡ (o, bag_members b.due (member_texts b.members) below.0 ∷ below.1)) × Holds fs b.outer.items below
+Holds (Alternative ∷ fs) o s = (below : State) × (s ≡ (below.0, alternative ∷ below.1)) × Holds fs o below
+
+-- The octets and the frames stand for some state.
+pub record AreSound (fs : List Frame) (o : List ℕ) : Type 0 where
+  pub state : State
+  pub holds : Holds fs o state
+
+-- What a record does to the octets and the frames: it follows the step.
+pub record Does (r : Record) (fs : List Frame) (o : List ℕ) (gs : List Frame) (p : List ℕ) : Type 0 where
+  pub after : (s : State) → Holds fs o s → (t : State) × (run r s ≡ Some t) × Holds gs p t
+
+-- Why a record was refused: memory was, or there is no step.
+abbrev pub Cannot : Record → List Frame → List ℕ → EncodeError → Type 0
+Cannot r fs o OutOfMemory = Unit {0}
+Cannot r fs o e = (s : State) → Holds fs o s → run r s ≡ None
+
+-- A bag behind the octets of a member that begins, or as it was.
+abbrev pub NextOfBag : Bool → BagFrame → List ℕ → BagFrame → List ℕ → Type 0
+NextOfBag true b o c p = (0 < b.due) × (c.due ≡ b.due - 1) × (c.outer ≡ b.outer) × (member_texts c.members ≡ Some (with_open (member_texts b.members) o)) × (p ≡ [])
+NextOfBag false b o c p = (b.due ≡ 0) × (c ≡ b) × (p ≡ o)

@@ -1,0 +1,64 @@
+//! Open types (X.696 30), whose octets are written where they stay.
+ghost use Rattle.std.specs.Prelude.{◌≡◌, ◌+◌, ◌<◌, ◌++◌, ◌∷◌, [], length, take, drop, OnOk, MatchResult, vec_len, slice_set};
+ghost use Rattle.asn1_model.specs.Form.{written};
+ghost use Rattle.asn1_model.specs.Oer.{counted};
+ghost use Rattle.oer_codec_encoder.specs.declared.frame.Frame.TheVariants.{OpenType};
+ghost use Rattle.oer_codec_writing.specs.Writing.{Adds};
+
+use crate::frame::Frame;
+use crate::frames::Frames;
+use asn1_schema_faults::EncodeError;
+use oer_codec_writing::push_counted;
+use std::alloc::{AllocError, Global};
+
+/// Opens an open type behind the octets, with room for one octet of their number.
+#[inline(always)]
+pub(crate) fn open_in_place(octets: &mut Vec<u8>, frames: &mut Frames) -> Result<(), AllocError>
+    ensures octets { OnOk result (octets.new.items ≡ octets.old.items ++ 0 ∷ []) }
+    ensures frames { OnOk result (frames.new ≡ OpenType (length octets.old.items) ∷ frames.old) }
+{
+    let start = octets.len();
+    octets.push(0)?;
+    frames.open(Frame::OpenType { start })?;
+    Ok(())
+}
+
+/// Puts an octet at a place.
+#[inline(always)]
+fn put_octet(octets: &mut Vec<u8>, at: usize, octet: u8)
+    requires { at < vec_len octets.old }
+    ensures { octets.new.items ≡ slice_set octets.old.items at octet }
+{
+    octets[at] = octet;
+}
+
+/// Puts a length in front of the octets behind the room for it (X.696 8.6 and 30): the octets of a longer one are moved.
+#[inline(always)]
+pub(crate) fn put_length(
+    octets: &mut Vec<u8>,
+    alloc: Global,
+    start: usize,
+) -> Result<(), EncodeError>
+    requires { start < vec_len octets.old }
+    ensures { MatchResult result (λ _. Adds (written (counted (drop (start + 1) octets.old.items)) 0) (take start octets.old.items) octets.new.items) (λ e. e ≡ EncodeError.OutOfMemory) }
+{
+    let length = octets.len() - start - 1;
+    if length < 0x80 {
+        put_octet(octets, start, length as u8);
+    } else {
+        put_long_length(octets, alloc, start)?;
+    }
+    Ok(())
+}
+
+/// Puts a length of any size in front of the octets behind the room for it.
+#[inline(never)]
+fn put_long_length(octets: &mut Vec<u8>, alloc: Global, start: usize) -> Result<(), EncodeError>
+    requires { start < vec_len octets.old }
+    ensures { MatchResult result (λ _. Adds (written (counted (drop (start + 1) octets.old.items)) 0) (take start octets.old.items) octets.new.items) (λ e. e ≡ EncodeError.OutOfMemory) }
+{
+    let contents = Vec::from_slice(alloc, &octets[start + 1..])?;
+    octets.truncate(start);
+    push_counted(octets, contents.as_slice())?;
+    Ok(())
+}

@@ -1,0 +1,121 @@
+//! Sequences, sets, groups and lists.
+ghost use Rattle.std.specs.Prelude.{◌≡◌, ℕ, List, ltb, ◌-◌, ◌+◌, ◌*◌, ◌/◌, ◌%◌, ◌<◌, ◌++◌, ◌∷◌, [], cond, replicate, MatchResult, vec_len, true, slice_set, slice_index};
+ghost use Rattle.asn1_model.specs.Numbers.{binary, missing};
+ghost use Rattle.asn1_schema_presented.specs.Records.{sequence_begins, mark, list_begins};
+ghost use Rattle.asn1_schema_bounds.specs.Bounds.{members_of};
+ghost use Rattle.asn1_schema_constraints.specs.Terms.{sizes_of};
+ghost use Rattle.oer_codec_encoder.specs.Frames.{NoMember};
+ghost use Rattle.oer_codec_encoder.specs.Holding.{AreSound, Does, Cannot};
+
+use crate::frame::{Frame, Preamble};
+use crate::frames::Frames;
+use asn1_schema_bounds::Bounded;
+use asn1_schema_constraints::Constraints;
+use asn1_schema_faults::EncodeError;
+use oer_codec_writing::push_count;
+
+/// How many octets the preamble of a sequence has (X.696 16.2), whose bits fill whole octets.
+fn preamble_len(extensible: bool, optional: usize) -> usize
+    ensures { result * 8 ≡ (optional + cond extensible 1 0) + missing (optional + cond extensible 1 0) }
+{
+    optional / 8 + (optional % 8 + usize::from(extensible) + 7) / 8
+}
+
+/// Adds so many octets of zero bits.
+fn push_zeros(octets: &mut Vec<u8>, count: usize) -> Result<(), EncodeError>
+    ensures { MatchResult result (λ _. octets.new.items ≡ octets.old.items ++ replicate count 0) (λ e. e ≡ EncodeError.OutOfMemory) }
+{
+    let Some(len) = octets.len().checked_add(count) else {
+        return Err(EncodeError::OutOfMemory);
+    };
+    octets.resize(len, 0)?;
+    Ok(())
+}
+
+/// Begins a sequence, with its preamble (X.696 16.2), in which no bit is set.
+#[inline]
+pub fn begin_components(
+    octets: &mut Vec<u8>,
+    frames: &mut Frames,
+    extensible: bool,
+    optional: usize,
+) -> Result<(), EncodeError>
+    ensures { MatchResult result (λ _. Does (sequence_begins extensible optional) frames.old octets.old.items frames.new octets.new.items) (λ e. e ≡ EncodeError.OutOfMemory) }
+{
+    let start = octets.len();
+    push_zeros(octets, preamble_len(extensible, optional))?;
+    frames.open(Frame::Components(Preamble {
+        extensible,
+        due: optional,
+        given: 0,
+        start,
+        content: octets.len(),
+    }))?;
+    Ok(())
+}
+
+/// An octet with one of its bits set, of which the highest is the first.
+fn with_bit(octet: u8, index: u32) -> u8
+    requires { index < 8 }
+    ensures { binary 8 result ≡ slice_set (binary 8 octet) index true }
+{
+    octet | 1 << (7 - index)
+}
+
+/// Sets a bit of those that stand in the octets from one on.
+#[inline]
+pub(crate) fn raise_bit(octets: &mut Vec<u8>, start: usize, place: usize)
+    requires { start + place / 8 < vec_len octets.old }
+    ensures others { octets.new.items ≡ slice_set octets.old.items (start + place / 8) (slice_index octets.new.items (start + place / 8)) }
+    ensures bit { binary 8 (slice_index octets.new.items (start + place / 8)) ≡ slice_set (binary 8 (slice_index octets.old.items (start + place / 8))) (place % 8) true }
+{
+    let at = start + place / 8;
+    octets[at] = with_bit(octets[at], (place % 8) as u32);
+}
+
+/// Whether the next component is there, of those that may be absent (X.696 16.2): sets its bit if it is.
+#[inline]
+pub fn put_mark(octets: &mut Vec<u8>, frames: &mut Frames, present: bool) -> Result<(), EncodeError>
+    requires { AreSound frames.old octets.old.items }
+    ensures { MatchResult result (λ _. Does (mark present) frames.old octets.old.items frames.new octets.new.items) (Cannot (mark present) frames.old octets.old.items) }
+{
+    let Some(preamble) = frames.next_mark() else {
+        return Err(EncodeError::SizeConstraintNotSatisfied);
+    };
+    if present {
+        let place = preamble.given + usize::from(preamble.extensible);
+        raise_bit(octets, preamble.start, place);
+    }
+    Ok(())
+}
+
+/// Begins a list with its count (X.696 17), which the program's type has to hold.
+#[inline]
+pub fn begin_members(
+    octets: &mut Vec<u8>,
+    frames: &mut Frames,
+    constraints: Constraints,
+    held: Bounded<usize>,
+    count: usize,
+) -> Result<(), EncodeError>
+    ensures { MatchResult result (λ _. Does (list_begins (sizes_of constraints.entry.size) (members_of held) count) frames.old octets.old.items frames.new octets.new.items) (Cannot (list_begins (sizes_of constraints.entry.size) (members_of held) count) frames.old octets.old.items) }
+{
+    if !held.holds(count) {
+        return Err(EncodeError::SizeConstraintNotSatisfied);
+    }
+    push_count(octets, count)?;
+    frames.open(Frame::Members { due: count })?;
+    Ok(())
+}
+
+/// Counts a further member, if one comes: as many come as were told.
+#[inline(always)]
+pub(crate) fn count_member(due: &mut usize, more: bool) -> Result<(), EncodeError>
+    ensures { MatchResult result (λ _. (more ≡ ltb 0 due.old) × (due.new ≡ due.old - cond more 1 0)) (NoMember more due.old) }
+{
+    if more != (*due > 0) {
+        return Err(EncodeError::SizeConstraintNotSatisfied);
+    }
+    *due -= usize::from(more);
+    Ok(())
+}

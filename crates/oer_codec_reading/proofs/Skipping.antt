@@ -1,0 +1,93 @@
+-- Unknown additions that are passed over.
+use Rattle.std.proofs.Common.{Result, Ok, Err, IsOk, IfOk, ◌≡◌, ℕ, ◌^◌, ◌-◌, ◌<◌, ◌≤◌, Bool, true, false, List, [], ◌∷◌, length, take, drop, Some, None, refl, sym, ap, ◌∙◌, subst, arith, take_all}
+use Rattle.asn1_laws_fronts.proofs.OerNumbers.{counted_alike}
+use Rattle.asn1_model.specs.Form.{joined, present_ones}
+use Rattle.asn1_model.specs.Oer
+use Rattle.asn1_schema_faults.specs.declared.DecodeError.{DecodeError}
+use Rattle.asn1_schema_faults.specs.declared.DecodeError.TheVariants.{OutOfMemory, Incomplete}
+use Rattle.oer_codec_fronts.specs.Takes.{Front, Skips, unknown_forms}
+use Rattle.oer_codec_fronts.proofs.Anywhere.{joined_moves, each_unknown_moves}
+use Rattle.oer_codec_fronts.proofs.Fronts.{nothing_front, split, join}
+use Rattle.oer_codec_fronts.proofs.Next.{same_fronts}
+use Rattle.oer_codec_reading.specs.Fronts.{Stands, NoneStands, Misses}
+use Rattle.oer_codec_reading.specs.Skipping.{SkipsNone}
+
+-- want of memory aside, what is missed does not stand in front
+pub missed : {X : Type 0} (free : Oer.Freedom → Bool) (f : X → Oer.OctetForm) (os : List ℕ) (e : DecodeError) → Misses free f os e → ¬ (e ≡ OutOfMemory) → NoneStands free f os
+missed free f os OutOfMemory m n = absurd (n refl)
+missed free f os Incomplete m n = m
+missed free f os e m n = m
+
+pub as_front : (free : Oer.Freedom → Bool) (x : Oer.OctetForm) (os rest : List ℕ) → Stands free x os rest → Front free x os rest
+as_front free x os rest h = record { text = h.0; has_form = h.2; in_front = h.1 }
+
+pub as_stands : (free : Oer.Freedom → Bool) (x : Oer.OctetForm) (os rest : List ℕ) → Front free x os rest → Stands free x os rest
+as_stands free x os rest f = (f.text, f.in_front, f.has_form)
+
+module _ (free : Oer.Freedom → Bool) where
+  pub skip_none : (os : List ℕ) → Skips free [] os os
+  skip_none os = ([], refl, nothing_front free os)
+
+  -- one that is absent
+  pub skip_absent : (us : List Bool) (os rest : List ℕ) → Skips free us os rest → Skips free (false ∷ us) os rest
+  skip_absent us os rest h = (None ∷ h.0, ap (λ l. false ∷ l) h.1, h.2)
+
+  pub skipped_absent : (us : List Bool) (os rest : List ℕ) → Skips free (false ∷ us) os rest → Skips free us os rest
+  skipped_absent us os rest ([], e, f) = cc e
+  skipped_absent us os rest (None ∷ xs, e, f) = (xs, cc e, f)
+  skipped_absent us os rest (Some x ∷ xs, e, f) = cc e
+
+  -- one that is there
+  pub skip_present : (us : List Bool) (l os mid rest : List ℕ) → Stands free (Oer.counted l) os mid → Skips free us mid rest → Skips free (true ∷ us) os rest
+  skip_present us l os mid rest h s = (Some l ∷ s.0, ap (λ l. true ∷ l) s.1, join free (Oer.counted l) (joined (present_ones (unknown_forms s.0))) (joined_moves free (unknown_forms s.0) (each_unknown_moves free s.0)) os mid rest (as_front free (Oer.counted l) os mid h) s.2)
+
+  present_first : (us : List Bool) (os rest : List ℕ) → Skips free (true ∷ us) os rest → (l : List ℕ) × (mid : List ℕ) × Front free (Oer.counted l) os mid × Skips free us mid rest
+  present_first us os rest ([], e, f) = cc e
+  present_first us os rest (None ∷ xs, e, f) = cc e
+  present_first us os rest (Some x ∷ xs, e, f) =
+      let q = split free (Oer.counted x) (joined (present_ones (unknown_forms xs))) (joined_moves free (unknown_forms xs) (each_unknown_moves free xs)) os rest f in
+      (x, q.0, q.1, (xs, cc e, q.2))
+
+  pub skipped_present : (us : List Bool) (l os mid rest : List ℕ) → Stands free (Oer.counted l) os mid → Skips free (true ∷ us) os rest → Skips free us mid rest
+  skipped_present us l os mid rest h s =
+      let p = present_first us os rest s in
+      let q = (same_fronts free (counted_alike free p.0 l) os p.1 mid p.2 (as_front free (Oer.counted l) os mid h)).1 in
+      subst (λ m. Skips free us m rest) q p.3
+
+  pub none_present : (us : List Bool) (os : List ℕ) (e : DecodeError) → Misses free Oer.counted os e → SkipsNone free (true ∷ us) os e
+  none_present us os e m = record { none = λ i rest s. let p = present_first us os rest s in missed free Oer.counted os e m i p.0 p.1 (as_stands free (Oer.counted p.0) os p.1 p.2) }
+
+pub all_taken : (l : List ℕ) → length l < 2 ^ 60 → take (2 ^ 60 - 1) l ≡ l
+all_taken l h = take_all (2 ^ 60 - 1) l (omega (arith, h))
+
+-- ---- one turn of the loop
+
+first_is : (us : List Bool) (b : Bool) → take 1 us ≡ b ∷ [] → us ≡ b ∷ drop 1 us
+first_is [] b e = cc e
+first_is (u ∷ us) b e = let f : u ≡ b = cc e in ap (λ x. x ∷ us) f
+
+-- what stands in front before the turn and what stands in front after it go together
+abbrev pub Together : (Oer.Freedom → Bool) → List Bool → List Bool → List ℕ → List ℕ → Type 0
+Together free us vs os mid = ((rest : List ℕ) → Skips free vs mid rest → Skips free us os rest) × ((rest : List ℕ) → Skips free us os rest → Skips free vs mid rest)
+
+pub one_present : (free : Oer.Freedom → Bool) (us vs : List Bool) (b : Bool) (l os mid : List ℕ) → take 1 us ≡ b ∷ [] → b ≡ true → vs ≡ drop 1 us → Stands free (Oer.counted l) os mid → Together free us vs os mid
+one_present free us vs b l os mid e t d h =
+    let f : us ≡ true ∷ vs = first_is us b e ∙ ap (λ x. x ∷ drop 1 us) t ∙ ap (λ x. true ∷ x) (sym d) in
+    subst (λ ws. Together free ws vs os mid) (sym f) (λ rest s. skip_present free vs l os mid rest h s, λ rest s. skipped_present free vs l os mid rest h s)
+
+pub one_absent : (free : Oer.Freedom → Bool) (us vs : List Bool) (b : Bool) (os mid : List ℕ) → take 1 us ≡ b ∷ [] → b ≡ false → vs ≡ drop 1 us → mid ≡ os → Together free us vs os mid
+one_absent free us vs b os mid e t d h =
+    let f : us ≡ false ∷ vs = first_is us b e ∙ ap (λ x. x ∷ drop 1 us) t ∙ ap (λ x. false ∷ x) (sym d) in
+    subst (λ m. Together free us vs os m) (sym h) (subst (λ ws. Together free ws vs os os) (sym f) (λ rest s. skip_absent free vs os rest s, λ rest s. skipped_absent free vs os rest s))
+
+pub first_missed : (free : Oer.Freedom → Bool) (us : List Bool) (b : Bool) (os : List ℕ) (e : DecodeError) → take 1 us ≡ b ∷ [] → b ≡ true → Misses free Oer.counted os e → SkipsNone free us os e
+first_missed free us b os e f t m =
+    let g : us ≡ true ∷ drop 1 us = first_is us b f ∙ ap (λ x. x ∷ drop 1 us) t in
+    subst (λ ws. SkipsNone free ws os e) (sym g) (none_present free (drop 1 us) os e m)
+
+pub one_long : (us : List Bool) (b : Bool) → take 1 us ≡ b ∷ [] → 1 ≤ length us
+one_long us b e = let l = ap length (first_is us b e) in omega (arith, l)
+
+pub when_ok : {X E : Type 0} {P : Type 0} (r : Result X E) → IsOk r → IfOk r (λ x. P) → P
+when_ok (Ok x) o p = p
+when_ok (Err e) o p = cc o

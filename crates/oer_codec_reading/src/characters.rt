@@ -1,0 +1,119 @@
+//! Character strings with an alphabet of their own (X.696 27).
+ghost use Rattle.std.specs.Prelude.{◌≡◌, ◌<◌, ◌/◌, ◌⊎◌, true, false, length, slice_index, IfOk, IfErr, OnOk};
+ghost use Rattle.asn1_model.specs.Schema as Asn1;
+ghost use Rattle.asn1_model.specs.Types.{any_count};
+ghost use Rattle.asn1_model.specs.Value as Asn1Value;
+ghost use Rattle.asn1_schema_constraints.specs.Terms.{sizes_of, alphabet_of};
+ghost use Rattle.asn1_values_alphabets.specs.Permitted.{permits_all};
+ghost use Rattle.oer_codec_reading.specs.Fronts.{freedoms, Front, Misses, NoFront, Stands};
+ghost use Rattle.oer_codec_reading.specs.Sized.{sized};
+ghost use Rattle.oer_codec_reading.specs.Characters as Characters;
+
+use crate::octet_strings::read_sized;
+use crate::sizes::{fixed_size, is_admitted};
+use crate::{Cursor, EncodingRules};
+use asn1_schema_bounds::Bounded;
+use asn1_schema_constraints::Constraints;
+use asn1_schema_faults::DecodeError;
+use asn1_values_alphabets::StaticPermittedAlphabet;
+use std::alloc::Global;
+
+/// How many octets each character has: two if characters past an octet are among them, else one.
+fn octets_each(wide: bool) -> usize
+    ensures { result ≡ Characters.width wide }
+{
+    if wide { 2 } else { 1 }
+}
+
+/// Reads the octets of so many characters, or behind their number if there is not one size alone, and lends them.
+fn read_spelled<'input>(
+    cursor: &mut Cursor<'input>,
+    rules: EncodingRules,
+    size: Option<usize>,
+    wide: bool,
+) -> Result<&'input [u8], DecodeError>
+    ensures ok { IfOk result (λ octets. Stands (freedoms rules) (sized (Characters.octet_size wide size) octets.now) cursor.old cursor.new) }
+    ensures only { IfErr result (Misses (freedoms rules) (sized (Characters.octet_size wide size)) cursor.old) }
+{
+    match size {
+        Some(count) => {
+            if count > cursor.len() {
+                return Err(DecodeError::Incomplete);
+            }
+            let octets = read_sized(cursor, rules, Some(count * octets_each(wide)))?;
+            Ok(octets)
+        }
+        None => {
+            let octets = read_sized(cursor, rules, None)?;
+            Ok(octets)
+        }
+    }
+}
+
+/// The character at a place, counted from 0, among those that octets are.
+fn character_at(octets: &[u8], wide: bool, place: usize) -> u32
+    requires { place < length octets.now / Characters.width wide }
+    ensures { result ≡ slice_index (Characters.characters_in wide octets.now) place }
+{
+    if wide {
+        u32::from(octets[place * 2]) * 256 + u32::from(octets[place * 2 + 1])
+    } else {
+        u32::from(octets[place])
+    }
+}
+
+/// The string of the characters that octets are.
+fn string_of<S: StaticPermittedAlphabet>(
+    alloc: Global,
+    octets: &[u8],
+    wide: bool,
+) -> Result<S, DecodeError>
+    ensures characters { IfOk result (λ s. S.characters s ≡ Characters.characters_in wide octets.now) }
+    ensures permitted { OnOk result (permits_all S.kind (Characters.characters_in wide octets.now) ≡ true) }
+    ensures refused { IfErr result (λ e. (e ≡ DecodeError.OutOfMemory) ⊎ (permits_all S.kind (Characters.characters_in wide octets.now) ≡ false)) }
+{
+    let count = octets.len() / octets_each(wide);
+    let Ok(mut string) = S::with_capacity(alloc, count) else {
+        return Err(DecodeError::OutOfMemory);
+    };
+    for place in 0..count {
+        let character = character_at(octets, wide, place);
+        if !S::contains_char(character) {
+            return Err(DecodeError::PermittedAlphabet);
+        }
+        let Ok(()) = string.push_char(character) else {
+            return Err(DecodeError::OutOfMemory);
+        };
+    }
+    Ok(string)
+}
+
+/// Reads a character string with an alphabet of its own (X.696 27) under a size constraint, which counts its characters: two octets for each
+/// character of a BMPString, else one.
+///
+/// # Errors
+///
+/// `StringConversionFailed` if the octets of a BMPString are odd in number, `SizeConstraintNotSatisfied` if the size does not admit as many
+/// characters, `PermittedAlphabet` if the type does not hold one of them, `Incomplete` if the octets end early, the errors of a length, and
+/// `OutOfMemory`.
+pub fn read_characters<S: StaticPermittedAlphabet>(
+    alloc: Global,
+    cursor: &mut Cursor<'_>,
+    rules: EncodingRules,
+    constraints: Constraints,
+) -> Result<S, DecodeError>
+    ensures ok { IfOk result (λ x. Front (freedoms rules) (Asn1.character_string S.kind (sizes_of constraints.entry.size) (alphabet_of constraints.entry.permitted_alphabet) any_count) (Asn1Value.text (S.characters x)) cursor.old cursor.new) }
+    ensures only { IfErr result (NoFront (freedoms rules) (Asn1.character_string S.kind (sizes_of constraints.entry.size) (alphabet_of constraints.entry.permitted_alphabet) any_count) cursor.old) }
+{
+    let wide = S::contains_char(0x100);
+    let octets = read_spelled(cursor, rules, fixed_size(constraints), wide)?;
+    let width = octets_each(wide);
+    if octets.len() % width != 0 {
+        return Err(DecodeError::StringConversionFailed);
+    }
+    if !is_admitted(constraints, Bounded::None, octets.len() / width) {
+        return Err(DecodeError::SizeConstraintNotSatisfied);
+    }
+    let string = string_of(alloc, octets, wide)?;
+    Ok(string)
+}

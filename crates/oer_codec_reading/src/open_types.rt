@@ -1,0 +1,73 @@
+//! Open types (X.696 30), and additions that are passed over by their lengths.
+ghost use Rattle.std.specs.Prelude.{◌≡◌, ◌⊎◌, [], IsTrue, OnOk, IfOk, IfErr};
+ghost use Rattle.asn1_model.specs.Oer.{counted, octets_behind};
+ghost use Rattle.oer_codec_fronts.specs.Takes.{Skips};
+ghost use Rattle.oer_codec_reading.specs.Fronts.{freedoms, Misses, Stands};
+ghost use Rattle.oer_codec_reading.specs.Skipping.{SkipsNone};
+
+use crate::lengths::{read_counted, read_length};
+use crate::{Cursor, EncodingRules};
+use asn1_schema_faults::DecodeError;
+use asn1_values_bits::BitReader;
+use std::mem;
+
+/// Enters an open type (X.696 30): the cursor goes to its octets, and the answer is where those behind it begin.
+///
+/// # Errors
+///
+/// `Incomplete` if the octets end early, and the errors of a length.
+#[inline(always)]
+pub fn enter_open_type<'input>(
+    cursor: &mut Cursor<'input>,
+    rules: EncodingRules,
+) -> Result<Cursor<'input>, DecodeError>
+    ensures ok { IfOk result (λ behind. Stands (freedoms rules) (counted cursor.new) cursor.old behind) }
+    ensures only { IfErr result (Misses (freedoms rules) counted cursor.old) }
+{
+    let length = read_length(cursor, rules)?;
+    let octets = cursor.take(length)?;
+    Ok(mem::replace(cursor, Cursor::new(octets)))
+}
+
+/// Leaves an open type (X.696 30): the cursor goes to the octets behind it.
+///
+/// # Errors
+///
+/// `SurplusOctets` if octets are left in it, in the canonical rules.
+#[inline(always)]
+pub fn leave_open_type<'input>(
+    cursor: &mut Cursor<'input>,
+    rules: EncodingRules,
+    behind: Cursor<'input>,
+) -> Result<(), DecodeError>
+    ensures ok { OnOk result (((cursor.old ≡ []) ⊎ IsTrue (freedoms rules octets_behind)) × (cursor.new ≡ behind.entry)) }
+    ensures only { IfErr result (λ _. ((cursor.old ≡ []) ⊎ IsTrue (freedoms rules octets_behind)) → ⊥) }
+{
+    if rules.is_coer() && !cursor.is_empty() {
+        return Err(DecodeError::SurplusOctets);
+    }
+    *cursor = behind;
+    Ok(())
+}
+
+/// Passes over unknown additions by their lengths (X.696 16.4), those whose presence bits are set.
+///
+/// # Errors
+///
+/// `Incomplete` if the octets end early, and the errors of a length.
+pub fn skip_additions(
+    cursor: &mut Cursor<'_>,
+    rules: EncodingRules,
+    presence: &mut BitReader<'_>,
+) -> Result<(), DecodeError>
+    ensures ok { OnOk result (Skips (freedoms rules) presence.old.bits cursor.old cursor.new) }
+    ensures only { IfErr result (SkipsNone (freedoms rules) presence.old.bits cursor.old) }
+{
+    'unknown: while !presence.is_empty() {
+        if presence.first_bit() {
+            let _passed_over = read_counted(cursor, rules)?;
+        }
+        let _first = presence.split(1);
+    }
+    Ok(())
+}

@@ -1,0 +1,89 @@
+//! Tags (X.696 8.7).
+ghost use Rattle.std.specs.Prelude.{◌≡◌, ◌^◌, true, Some, None, map, IfOk, IfErr};
+ghost use Rattle.asn1_model.specs.Oer.{tag_form};
+ghost use Rattle.asn1_model.specs.Strings.{each_is};
+ghost use Rattle.asn1_schema_tags.specs.Tags.{tag_of};
+ghost use Rattle.oer_codec_fronts.specs.Takes.{tag_place};
+ghost use Rattle.oer_codec_reading.specs.Fronts.{freedoms, Misses, Stands};
+ghost use Rattle.oer_codec_reading.specs.Tags.{is_in_32_bits, number_behind, tag_in};
+
+use crate::{Cursor, EncodingRules};
+use asn1_schema_faults::DecodeError;
+use asn1_schema_tags::{Class, Tag};
+
+/// A number of 32 bits with seven bits more is below this.
+const LIMIT: u32 = 1 << 25;
+
+/// Reads further groups of seven bits of a tag's number, of which these were read before (X.696 8.7.2.3).
+#[inline(never)]
+fn read_groups(cursor: &mut Cursor<'_>, begun: u32) -> Result<u32, DecodeError>
+    ensures ok { IfOk result (λ n. number_behind begun cursor.old ≡ Some (n, cursor.new)) }
+    ensures only { IfErr result (λ _. number_behind begun cursor.old ≡ None) }
+{
+    let octet = cursor.take_octet()?;
+    let group = u32::from(octet % 128);
+    if begun == 0 && group == 0 || begun >= LIMIT {
+        return Err(DecodeError::InvalidTagNumberOnChoice);
+    }
+    let number = begun * 128 + group;
+    if octet < 128 {
+        return Ok(number);
+    }
+    read_groups(cursor, number)
+}
+
+/// Reads a tag (X.696 8.7): two bits of class, and a number below 63 in six bits, else six one bits and the number in groups of seven bits.
+///
+/// # Errors
+///
+/// `Incomplete` if the octets end early, `InvalidTagNumberOnChoice` if the number has a leading zero group or 32 bits do not hold it, and
+/// `NotValidCanonicalEncoding` if a number below 63 has the long form in the canonical rules.
+#[inline(always)]
+pub fn read_tag(cursor: &mut Cursor<'_>, rules: EncodingRules) -> Result<Tag, DecodeError>
+    ensures ok { IfOk result (λ t. Stands (freedoms rules) (tag_form (tag_of t)) cursor.old cursor.new) }
+    ensures only { IfErr result (Misses (freedoms rules) tag_in cursor.old) }
+{
+    let first = cursor.take_octet()?;
+    let class = Class::from_u8(first / 64);
+    let low = first % 64;
+    if low < 63 {
+        return Ok(Tag {
+            class,
+            value: u32::from(low),
+        });
+    }
+    let value = read_groups(cursor, 0)?;
+    if value < 63 && rules.is_coer() {
+        return Err(DecodeError::NotValidCanonicalEncoding);
+    }
+    Ok(Tag { class, value })
+}
+
+/// The number of a tag.
+fn number_of(tag: &Tag) -> u32
+    ensures { result ≡ tag.now.value }
+{
+    tag.value
+}
+
+/// Goes through the numbers of the tags of a table: 32 bits hold each of them, so a tag with a larger number has no place in it.
+pub fn visit_numbers(table: &[Tag])
+    ensures { each_is is_in_32_bits (map tag_of table.now) ≡ true }
+{
+    for entry in table {
+        let _number = number_of(entry);
+    }
+}
+
+/// The first place of a tag in a table.
+#[inline(always)]
+pub fn find_tag(tag: Tag, table: &[Tag]) -> Option<usize>
+    ensures { result ≡ tag_place (tag_of tag) (map tag_of table.now) }
+{
+    for (place, entry) in table.iter().enumerate() {
+        if tag.const_eq(entry) {
+            return Some(place);
+        }
+    }
+    None
+}

@@ -1,2 +1,0 @@
-pub mod BitmapFronts
-pub mod Skipping

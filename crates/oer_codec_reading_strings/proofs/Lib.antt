@@ -1,3 +1,0 @@
-pub mod TextFronts
-pub mod Spelled
-pub mod CharacterFronts

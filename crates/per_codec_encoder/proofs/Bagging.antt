@@ -1,0 +1,201 @@
+-- Bags that begin, go on and end, in the texts and the frames of an encoder.
+use Rattle.std.proofs.Common.{◌≡◌, ℕ, zero, suc, ◌-◌, ◌≤◌, Bool, true, false, not, ltb, is_some, List, [], ◌∷◌, ◌++◌, length, take, map, reverse, Some, None, Vec, Global, Result, Ok, Err, MatchResult, refl, ap, subst, sym, ◌∙◌, arith, length-append}
+use mathlib.Core.Bool.{beq}
+use Rattle.std.proofs.lemmas.Bool.{ltb-false}
+use Rattle.std.proofs.lemmas.List.{take_at}
+use Rattle.asn1_model.specs.Per
+use Rattle.asn1_model.specs.Schema.{Size, Counts}
+use Rattle.asn1_schema_bounds.specs.Bounds.{members_of}
+use Rattle.asn1_schema_bounds.specs.declared.bounds.Bounded.{Bounded}
+use Rattle.asn1_schema_constraints.specs.Terms.{sizes_of}
+use Rattle.asn1_schema_constraints.specs.declared.extensions.Extensible.{Extensible}
+use Rattle.asn1_schema_constraints.specs.declared.parts.Size.{Size as SizeConstraint}
+use Rattle.asn1_schema_faults.specs.declared.EncodeError.{EncodeError}
+use Rattle.asn1_schema_faults.specs.declared.EncodeError.TheVariants.{ValueConstraintNotSatisfied, SizeConstraintNotSatisfied, AlphabetConstraintNotSatisfied, TooLongValue, LengthExceedsPlatformSize, OutOfMemory, AlreadyFailed}
+use Rattle.asn1_schema_presented.specs.Records.{bag_begins, further, ends}
+use Rattle.per_codec_texts.specs.Texts.{Text, text_at, as_form}
+use Rattle.per_codec_packing.specs.Packed.{Packed, place, plus, solid}
+use Rattle.per_codec_packing.proofs.Adding.{added}
+use Rattle.per_codec_steps.specs.Steps.{Scope, bag_members, State, list_heading, with_open, bag_opened, counted_in, closed_bag, adds_text, run}
+use Rattle.per_codec_writing.specs.Writing.{Adds, Refuses}
+use Rattle.per_codec_writing.specs.Members.{forms}
+use Rattle.per_codec_encoder.specs.declared.frame.Bag.{Bag as BagFrame}
+use Rattle.per_codec_encoder.specs.declared.frame.Frame.{Frame}
+use Rattle.per_codec_encoder.specs.declared.frame.Frame.TheVariants.{Bag}
+use Rattle.per_codec_encoder.specs.declared.headings.Due.{Due}
+use Rattle.per_codec_encoder.specs.Bags.{size_of, texts, texts_before, bag_of, form_of, further_in, GoesOnInBag, NoFurther}
+use Rattle.per_codec_encoder.specs.Headings.{Heads, NoHeading}
+use Rattle.per_codec_encoder.specs.Holding.{instead, Holds, Does, Cannot}
+use Rattle.per_codec_encoder.proofs.Scopes.{at_end, appended, on_top, put_back}
+use Rattle.per_codec_encoder.proofs.Opening.{agree_false, differ_true}
+
+-- ---- a bag begins
+
+-- behind its judgement, the text is what it was
+module _ (al : Bool) (z : Size) (h : Counts) (n : ℕ) (o p : Packed) (d : Due) (k : ℕ) (x : Heads (list_heading al z h n (place o)) o d p) (e : k ≡ length o.text) where
+  front_is : take k p.text ≡ o.text
+  front_is = ap (λ (l : Packed). take k l.text) x.added ∙ take_at o.text x.text k (sym e)
+
+  pub cut_back : (q : Packed) → q ≡ record { text = take k p.text; placed = p.placed } → q ≡ o
+  cut_back q c = c ∙ (ap (λ b. let l : Packed = record { text = take k p.text; placed = b } in l) (ap (λ (l : Packed). l.placed) x.added) ∙ ap (λ t. instead t o) front_is)
+
+  pub cut_within : k ≤ length p.text
+  cut_within = omega (arith, ap (λ (l : Packed). length l.text) x.added, length-append o.text x.text, e)
+
+  pub cut_place : (i : ℕ) → i ≡ length (solid o.text) → length (solid (take k p.text)) ≡ i
+  cut_place i c = ap (λ t. length (solid t)) front_is ∙ sym c
+
+pub does_begin_bag : (al : Bool) (fs gs : List Frame) (o p r outer : Packed) (z : Size) (range held : Bounded ℕ) (e : Bool) (n : ℕ) (d : Due) → Heads (list_heading al z (members_of held) n (place o)) o d p → outer ≡ o → size_of range e ≡ z → r ≡ record { text = []; placed = false } → gs ≡ fs ++ Bag (record { outer = outer; range = range; extensible = e; held = held; due = n; members = None }) ∷ [] → Does al (bag_begins z (members_of held) n) fs o gs r
+does_begin_bag al fs gs o p r outer z range held e n d x a b c y = record { after = λ s k. (go s, ap (λ q. bag_opened z (members_of held) n s (list_heading al z (members_of held) n q)) (at_end (reverse fs) o s k) ∙ ap (bag_opened z (members_of held) n s) x.is, put_back fs gs (Bag (record { outer = outer; range = range; extensible = e; held = held; due = n; members = None })) r (go s) y (s, shown_as s, ap (λ (l : Packed). l.placed) c, subst (λ l. Holds (reverse fs) l s) (sym a) k)) }
+  where
+    go : State → State
+    go s = ([], bag_members z (members_of held) n None s.0 ∷ s.1)
+
+    shown_as : (s : State) → go s ≡ (r.text, bag_members (size_of range e) (members_of held) n None s.0 ∷ s.1)
+    shown_as s =
+        ap (λ y. let l : State = ([], bag_members y (members_of held) n None s.0 ∷ s.1) in l) (sym b)
+        ∙ ap (λ (q : Packed). let l : State = (q.text, bag_members (size_of range e) (members_of held) n None s.0 ∷ s.1) in l) (sym c)
+
+pub cannot_begin_bag : (al : Bool) (fs : List Frame) (o : Packed) (z : Size) (h : Counts) (n : ℕ) (e : EncodeError) → NoHeading (list_heading al z h n (place o)) e → Cannot al (bag_begins z h n) fs o e
+cannot_begin_bag al fs o z h n e x = go e x
+  where
+    none : list_heading al z h n (place o) ≡ None → (s : State) → Holds (reverse fs) o s → run al (bag_begins z h n) s ≡ None
+    none e s k = ap (λ q. bag_opened z h n s (list_heading al z h n q)) (at_end (reverse fs) o s k) ∙ ap (bag_opened z h n s) e
+
+    go : (e : EncodeError) → NoHeading (list_heading al z h n (place o)) e → Cannot al (bag_begins z h n) fs o e
+    go OutOfMemory x = tt
+    go ValueConstraintNotSatisfied x = none x
+    go SizeConstraintNotSatisfied x = none x
+    go AlphabetConstraintNotSatisfied x = none x
+    go TooLongValue x = none x
+    go LengthExceedsPlatformSize x = none x
+    go AlreadyFailed x = none x
+
+-- ---- a further member
+
+pub stuck : (b : BagFrame) (o : Packed) (more : Bool) → not (beq more (ltb 0 b.due)) ≡ true → NoFurther more b o SizeConstraintNotSatisfied
+stuck b o more h front k = go b.due more h
+  where
+    go : (n : ℕ) (more : Bool) → not (beq more (ltb 0 n)) ≡ true → counted_in (size_of b.range b.extensible) (members_of b.held) n (texts_before b.members) front o.text k more ≡ None
+    go zero true h = refl
+    go zero false h = cc
+    go (suc n) true h = let l = ltb-false 0 (suc n) (differ_true _ h) in absurd (omega (arith, l))
+    go (suc n) false h = refl
+
+pub stays : (b : BagFrame) (o : Packed) (more : Bool) → not (beq more (ltb 0 b.due)) ≡ false → more ≡ false → GoesOnInBag more b o b o
+stays b o more h e = record { goes = λ front k. go front k b.due more h e; outer = refl; unplaced = λ u. u }
+  where
+    go : (front : Text) (k : List Scope) (n : ℕ) (more : Bool) → not (beq more (ltb 0 n)) ≡ false → more ≡ false → counted_in (size_of b.range b.extensible) (members_of b.held) n (texts_before b.members) front o.text k more ≡ Some (o.text, bag_members (size_of b.range b.extensible) (members_of b.held) n (texts_before b.members) front ∷ k)
+    go front k zero true h e = cc
+    go front k zero false h e = refl
+    go front k (suc n) true h e = cc
+    go front k (suc n) false h e = let l = ltb-false 0 (suc n) (agree_false _ h) in absurd (omega (arith, l))
+
+-- the bag behind a member that was kept
+abbrev pub behind_one : BagFrame → Vec Packed Global → BagFrame
+behind_one b v = record { outer = b.outer; range = b.range; extensible = b.extensible; held = b.held; due = b.due - 1; members = Some v }
+
+pub comes : (b : BagFrame) (o p : Packed) (more : Bool) (v : Vec Packed Global) (member : Packed) → not (beq more (ltb 0 b.due)) ≡ false → more ≡ true → member ≡ o → p ≡ record { text = []; placed = false } → texts v.items ≡ with_open (texts_before b.members) member.text → GoesOnInBag more b o (behind_one b v) p
+comes b o p more v member h e m c t = record { goes = λ front k. go front k b.due more h e ∙ last front k; outer = refl; unplaced = λ u. ap (λ (l : Packed). l.placed) c }
+  where
+    go : (front : Text) (k : List Scope) (n : ℕ) (more : Bool) → not (beq more (ltb 0 n)) ≡ false → more ≡ true → counted_in (size_of b.range b.extensible) (members_of b.held) n (texts_before b.members) front o.text k more ≡ Some ([], bag_members (size_of b.range b.extensible) (members_of b.held) (n - 1) (Some (with_open (texts_before b.members) o.text)) front ∷ k)
+    go front k zero true h e = cc
+    go front k zero false h e = cc
+    go front k (suc n) true h e = let q : n ≡ suc n - 1 = omega arith in ap (λ j. let l : State = ([], bag_members (size_of b.range b.extensible) (members_of b.held) j (Some (with_open (texts_before b.members) o.text)) front ∷ k) in Some l) q
+    go front k (suc n) false h e = cc
+
+    last : (front : Text) (k : List Scope) → (let l : State = ([], bag_members (size_of b.range b.extensible) (members_of b.held) (b.due - 1) (Some (with_open (texts_before b.members) o.text)) front ∷ k) in Some l) ≡ Some (p.text, bag_of (behind_one b v) front ∷ k)
+    last front k =
+        ap (λ ts. let l : State = ([], bag_members (size_of b.range b.extensible) (members_of b.held) (b.due - 1) (Some ts) front ∷ k) in Some l) (sym (t ∙ ap (λ (l : Packed). with_open (texts_before b.members) l.text) m))
+        ∙ ap (λ (q : Packed). let l : State = (q.text, bag_of (behind_one b v) front ∷ k) in Some l) (sym c)
+
+module _ (al : Bool) (fs rest : List Frame) (f : Frame) (b : BagFrame) (o : Packed) (x : fs ≡ rest ++ f ∷ []) (y : f ≡ Bag b) where
+  top : (s : State) → Holds (reverse fs) o s → Holds (Bag b ∷ reverse rest) o s
+  top s h = on_top fs rest f (Bag b) o s x y h
+
+  does_further_bag : (gs : List Frame) (p : Packed) (next : BagFrame) (more : Bool) → GoesOnInBag more b o next p → gs ≡ rest ++ Bag next ∷ [] → Does al (further more) fs o gs p
+  does_further_bag gs p next more g c = record { after = λ s h. go s (top s h) }
+    where
+      go : (s : State) → Holds (Bag b ∷ reverse rest) o s → (t : State) × (run al (further more) s ≡ Some t) × Holds (reverse gs) p t
+      go s h =
+          let t : State = (p.text, bag_of next h.0.0 ∷ h.0.1) in
+          (t, ap (run al (further more)) h.1 ∙ g.goes h.0.0 h.0.1, put_back rest gs (Bag next) p t c (h.0, refl, g.unplaced h.2, subst (λ l. Holds (reverse rest) l h.0) (sym g.outer) h.3))
+
+  cannot_further_bag : (e : EncodeError) (more : Bool) → NoFurther more b o e → Cannot al (further more) fs o e
+  cannot_further_bag e more x = go e x
+    where
+      none : ((front : Text) (k : List Scope) → further_in more b o.text front k ≡ None) → (s : State) → Holds (reverse fs) o s → run al (further more) s ≡ None
+      none x s k = let h = top s k in ap (run al (further more)) h.1 ∙ x h.0.0 h.0.1
+
+      go : (e : EncodeError) → NoFurther more b o e → Cannot al (further more) fs o e
+      go OutOfMemory x = tt
+      go ValueConstraintNotSatisfied x = none x
+      go SizeConstraintNotSatisfied x = none x
+      go AlphabetConstraintNotSatisfied x = none x
+      go TooLongValue x = none x
+      go LengthExceedsPlatformSize x = none x
+      go AlreadyFailed x = none x
+
+  -- ---- a bag ends
+
+  abbrev all_texts : List Text
+  all_texts = with_open (texts_before b.members) o.text
+
+  ended_as : (s : State) (h : Holds (Bag b ∷ reverse rest) o s) → b.due ≡ 0 → run al ends s ≡ adds_text (text_at (form_of al b all_texts) (place b.outer)) h.0
+  ended_as s h n =
+      ap (run al ends) h.1
+      ∙ ap (λ j. closed_bag al (size_of b.range b.extensible) (members_of b.held) j all_texts h.0.0 h.0.1) n
+      ∙ ap (λ q. adds_text (text_at (form_of al b all_texts) q) h.0) (at_end (reverse rest) b.outer h.0 h.3)
+
+  pub does_end_bag : (p : Packed) → b.due ≡ 0 → Adds (text_at (form_of al b all_texts) (place b.outer)) b.outer p → Does al ends fs o rest p
+  does_end_bag p n a = record { after = λ s h. go s (top s h) (added (text_at (form_of al b all_texts) (place b.outer)) b.outer p a) }
+    where
+      go : (s : State) → Holds (Bag b ∷ reverse rest) o s → (w : Text) × (text_at (form_of al b all_texts) (place b.outer) ≡ Some w) × (plus b.outer w ≡ p) → (t : State) × (run al ends s ≡ Some t) × Holds (reverse rest) p t
+      go s h t =
+          let z : State = (h.0.0 ++ t.0, h.0.1) in
+          (z, ended_as s h n ∙ ap (λ w. adds_text w h.0) t.1, subst (λ l. Holds (reverse rest) l z) t.2 (appended (reverse rest) b.outer h.0 t.0 h.3))
+
+  pub cannot_end_bag : (e : EncodeError) → b.due ≡ 0 → Refuses (text_at (form_of al b all_texts) (place b.outer)) e → Cannot al ends fs o e
+  cannot_end_bag e n r = go e r
+    where
+      none : text_at (form_of al b all_texts) (place b.outer) ≡ None → (s : State) → Holds (reverse fs) o s → run al ends s ≡ None
+      none r s k = let h = top s k in ended_as s h n ∙ ap (λ w. adds_text w h.0) r
+
+      go : (e : EncodeError) → Refuses (text_at (form_of al b all_texts) (place b.outer)) e → Cannot al ends fs o e
+      go OutOfMemory r = tt
+      go ValueConstraintNotSatisfied r = none r
+      go SizeConstraintNotSatisfied r = none r
+      go AlphabetConstraintNotSatisfied r = none r
+      go TooLongValue r = none r
+      go LengthExceedsPlatformSize r = none r
+      go AlreadyFailed r = none r
+
+-- ---- a further member, whatever is around the bag
+
+pub member_of_bag_asked : (al : Bool) (f : Frame) (b : BagFrame) (o : Packed) (y : f ≡ Bag b) (g : Frame) (p : Packed) (next : BagFrame) (more : Bool) (r : Result (Unit {0}) EncodeError) → g ≡ Bag next → MatchResult r (λ _. GoesOnInBag more b o next p) (λ e. NoFurther more b o e) → MatchResult r (λ _. (fs : List Frame) → Does al (further more) (fs ++ f ∷ []) o (fs ++ g ∷ []) p) (λ e. (fs : List Frame) → Cannot al (further more) (fs ++ f ∷ []) o e)
+member_of_bag_asked al f b o y g p next more (Ok x) c m = λ fs. does_further_bag al (fs ++ f ∷ []) fs f b o refl y (fs ++ g ∷ []) p next more m (ap (λ k. fs ++ k ∷ []) c)
+member_of_bag_asked al f b o y g p next more (Err e) c m = λ fs. cannot_further_bag al (fs ++ f ∷ []) fs f b o refl y e more m
+
+-- ---- the form of a bag, by its members
+
+forms_are : (ms : List Packed) → forms ms ≡ map as_form (texts ms)
+forms_are [] = refl
+forms_are (m ∷ ms) = ap (λ l. as_form m.text ∷ l) (forms_are ms)
+
+pub sizes_are : (z : Extensible SizeConstraint) (range : Bounded ℕ) (e : Bool) → z.constraint.range ≡ range → is_some z.extensible ≡ e → sizes_of (Some z) ≡ size_of range e
+sizes_are z range e a b = ap (λ r. size_of r (is_some z.extensible)) a ∙ ap (λ x. size_of range x) b
+
+pub form_is : (al : Bool) (b : BagFrame) (z : Size) (ms : List Packed) (ts : List Text) → z ≡ size_of b.range b.extensible → texts ms ≡ ts → Per.in_any_order (forms ms) (λ us. Per.sized al z (members_of b.held) Per.never us) ≡ form_of al b ts
+form_is al b z ms ts a c =
+    ap (λ l. Per.in_any_order l (λ us. Per.sized al z (members_of b.held) Per.never us)) (forms_are ms ∙ ap (map as_form) c)
+    ∙ ap (λ y. Per.in_any_order (map as_form ts) (λ us. Per.sized al y (members_of b.held) Per.never us)) a
+
+module _ (al : Bool) (b : BagFrame) (z : Size) (ms : List Packed) (ts : List Text) (front : Packed) (a : z ≡ size_of b.range b.extensible) (c : texts ms ≡ ts) (d : front ≡ b.outer) where
+  abbrev written_as : Per.BitForm
+  written_as = Per.in_any_order (forms ms) (λ us. Per.sized al z (members_of b.held) Per.never us)
+
+  pub bag_added : (p : Packed) → Adds (text_at written_as (place front)) front p → Adds (text_at (form_of al b ts) (place b.outer)) b.outer p
+  bag_added p x = subst (λ l. Adds (text_at (form_of al b ts) (place l)) l p) d (subst (λ y. Adds (text_at y (place front)) front p) (form_is al b z ms ts a c) x)
+
+  pub bag_refused : (e : EncodeError) → Refuses (text_at written_as (place front)) e → Refuses (text_at (form_of al b ts) (place b.outer)) e
+  bag_refused e x = subst (λ l. Refuses (text_at (form_of al b ts) (place l)) e) d (subst (λ y. Refuses (text_at y (place front)) e) (form_is al b z ms ts a c) x)

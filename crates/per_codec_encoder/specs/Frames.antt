@@ -1,0 +1,40 @@
+-- The frames of an encoder, and how the additions of the innermost go on.
+use Rattle.std.specs.Prelude.{◌≡◌, ◌-◌, ◌<◌, Bool, cond, List, [], ◌∷◌, ◌++◌, Some, None}
+use Rattle.per_codec_encoder.specs.declared.frame.Additions.{Additions}
+use Rattle.per_codec_encoder.specs.declared.frame.Frame.{Frame}
+use Rattle.per_codec_encoder.specs.declared.frame.Frame.TheVariants.{Added}
+
+-- The additions behind the next one: one fewer is due, and one that is not there has its place.
+pub record Next (here : Bool) (a b : Additions) : Type 0 where
+  pub one : 0 < a.due
+  pub counts : b.due ≡ a.due - 1
+  pub given : b.given ≡ a.given
+  pub start : b.start ≡ a.start
+  pub end : b.end ≡ a.end
+  pub slots : b.slots.items ≡ cond here a.slots.items (a.slots.items ++ None ∷ [])
+
+-- The additions with the bits of one more, which is there.
+pub record Keeps (contents : List Bool) (a b : Additions) : Type 0 where
+  pub counts : b.due ≡ a.due
+  pub given : b.given ≡ a.given
+  pub start : b.start ≡ a.start
+  pub end : b.end ≡ a.end
+  pub slots : b.slots.items ≡ a.slots.items ++ Some contents ∷ []
+
+-- The next addition of the innermost sequence is counted.
+pub record CountsAddition (here : Bool) (fs gs : List Frame) : Type 0 where
+  pub around : List Frame
+  pub old : Additions
+  pub new : Additions
+  pub before : fs ≡ around ++ Added old ∷ []
+  pub next : Next here old new
+  pub after : gs ≡ around ++ Added new ∷ []
+
+-- The bits of an addition of the innermost sequence are kept.
+pub record KeepsAddition (contents : List Bool) (fs gs : List Frame) : Type 0 where
+  pub around : List Frame
+  pub old : Additions
+  pub new : Additions
+  pub before : fs ≡ around ++ Added old ∷ []
+  pub next : Keeps contents old new
+  pub after : gs ≡ around ++ Added new ∷ []

@@ -1,0 +1,103 @@
+-- How the texts and the frames of an encoder stand for what a writer holds. The frames are given the innermost first. The text is that of the
+-- innermost message, open type or member of a bag.
+use Rattle.std.specs.Prelude.{◌≡◌, ℕ, ◌+◌, ◌^◌, ◌<◌, Bool, true, false, List, [], ◌∷◌, ◌++◌, length, take, drop, replicate, reverse, Option, Some, None}
+use Rattle.asn1_schema_faults.specs.declared.EncodeError.{EncodeError}
+use Rattle.asn1_schema_faults.specs.declared.EncodeError.TheVariants.{OutOfMemory}
+use Rattle.asn1_schema_presented.specs.Records.{Record}
+use Rattle.per_codec_texts.specs.Texts.{Text, as_text}
+use Rattle.per_codec_packing.specs.Packed.{Packed, solid}
+use Rattle.per_codec_steps.specs.Steps.{components, added, open_type, members, alternative, mark_width, State, run}
+use Rattle.per_codec_encoder.specs.declared.frame.Frame.{Frame}
+use Rattle.per_codec_encoder.specs.declared.frame.Frame.TheVariants.{Components, Added, OpenType, Members, Bag, Alternative}
+use Rattle.per_codec_encoder.specs.declared.frame.Place.{Place}
+use Rattle.per_codec_encoder.specs.Headings.{headers_of}
+use Rattle.per_codec_encoder.specs.Bags.{bag_of}
+
+-- How long the text in front of a place is.
+abbrev pub at : Place → ℕ
+at p = p.bits + p.fills
+
+-- The bits of a preamble (X.691 19.1 to 19.3): the mark of extensibility, which is not set, where there is one, and the presence bits.
+abbrev pub preamble : Bool → List Bool → List Bool
+preamble true ms = false ∷ ms
+preamble false ms = ms
+
+-- A text at the place of another.
+abbrev pub instead : Text → Packed → Packed
+instead t o = record { text = t; placed = o.placed }
+
+-- What the text and the frames show.
+abbrev pub shown : List Frame → Packed → State
+shown [] o = (o.text, [])
+shown (Components e due given start ∷ fs) o =
+    let below = shown fs (instead (take (at start) o.text) o) in
+    (drop (at start + (mark_width e + (given + due))) o.text, components e due (solid (take given (drop (at start + mark_width e) o.text))) below.0 ∷ below.1)
+shown (Added a ∷ fs) o =
+    let below = shown fs (instead (take (at a.start) o.text) o) in
+    (drop (at a.end) o.text, added a.due (solid (take a.given (drop (at a.start + 1) o.text))) (drop (at a.start + (1 + a.given)) (take (at a.end) o.text)) a.slots.items below.0 ∷ below.1)
+shown (OpenType front ∷ fs) o =
+    let below = shown fs front in
+    (o.text, open_type below.0 ∷ below.1)
+shown (Members d ∷ fs) o =
+    let below = shown fs o in
+    (below.0, members d.members (headers_of d.behind) ∷ below.1)
+shown (Bag b ∷ fs) o =
+    let below = shown fs b.outer in
+    (o.text, bag_of b below.0 ∷ below.1)
+shown (Alternative ∷ fs) o =
+    let below = shown fs o in
+    (below.0, alternative ∷ below.1)
+
+-- The text is that in front of an open sequence, its preamble, in which the bits that are due are not set, and what stands behind it.
+pub record IsOpen (below : Packed → State → Type 0) (e : Bool) (due given : ℕ) (start : Place) (o : Packed) (s : State) : Type 0 where
+  pub front : Text
+  pub inner : Text
+  pub marks : List Bool
+  pub outer : State
+  pub text : o.text ≡ front ++ (as_text (preamble e (marks ++ replicate due false)) ++ inner)
+  pub bits : length (solid front) ≡ start.bits
+  pub starts : length front ≡ at start
+  pub told : length marks ≡ given
+  pub counts : start.bits + (mark_width e + (given + due)) < 2 ^ 64
+  pub under : below (instead front o) outer
+  pub is : s ≡ (inner, components e due marks outer.0 ∷ outer.1)
+
+-- The text is that in front of a sequence behind its root, its preamble, of which no bit is due, its root, and what stands behind it.
+pub record IsAdded (below : Packed → State → Type 0) (due given : ℕ) (start end : Place) (slots : List (Option (List Bool))) (o : Packed) (s : State) : Type 0 where
+  pub front : Text
+  pub marks : List Bool
+  pub root : Text
+  pub inner : Text
+  pub outer : State
+  pub text : o.text ≡ front ++ (as_text (preamble true marks) ++ (root ++ inner))
+  pub bits : length (solid front) ≡ start.bits
+  pub starts : length front ≡ at start
+  pub told : length marks ≡ given
+  pub ends : at start + (1 + given + length root) ≡ at end
+  pub end_bits : length (solid (front ++ (as_text (preamble true marks) ++ root))) ≡ end.bits
+  pub under : below (instead front o) outer
+  pub is : s ≡ (inner, added due marks root slots outer.0 ∷ outer.1)
+
+-- The text and the frames stand for a state.
+abbrev pub Holds : List Frame → Packed → State → Type 0
+Holds [] o s = (o.placed ≡ true) × (s ≡ (o.text, []))
+Holds (Components e due given start ∷ fs) o s = IsOpen (λ p t. Holds fs p t) e due given start o s
+Holds (Added a ∷ fs) o s = IsAdded (λ p t. Holds fs p t) a.due a.given a.start a.end a.slots.items o s
+Holds (OpenType front ∷ fs) o s = (outer : State) × (s ≡ (o.text, open_type outer.0 ∷ outer.1)) × (o.placed ≡ true) × Holds fs front outer
+Holds (Members d ∷ fs) o s = (outer : State) × (s ≡ (outer.0, members d.members (headers_of d.behind) ∷ outer.1)) × Holds fs o outer
+Holds (Bag b ∷ fs) o s = (outer : State) × (s ≡ (o.text, bag_of b outer.0 ∷ outer.1)) × (o.placed ≡ false) × Holds fs b.outer outer
+Holds (Alternative ∷ fs) o s = (outer : State) × (s ≡ (outer.0, alternative ∷ outer.1)) × Holds fs o outer
+
+-- The text and the frames, of which the innermost is the last, stand for some state.
+pub record AreSound (fs : List Frame) (o : Packed) : Type 0 where
+  pub state : State
+  pub holds : Holds (reverse fs) o state
+
+-- What a record does to the text and the frames in a variant: it follows the step.
+pub record Does (al : Bool) (r : Record) (fs : List Frame) (o : Packed) (gs : List Frame) (p : Packed) : Type 0 where
+  pub after : (s : State) → Holds (reverse fs) o s → (t : State) × (run al r s ≡ Some t) × Holds (reverse gs) p t
+
+-- Why a record was refused: memory was, or there is no step.
+abbrev pub Cannot : Bool → Record → List Frame → Packed → EncodeError → Type 0
+Cannot al r fs o OutOfMemory = Unit {0}
+Cannot al r fs o e = (s : State) → Holds (reverse fs) o s → run al r s ≡ None

@@ -1,0 +1,99 @@
+//! Additions of sequences and sets, which are kept until these end.
+ghost use Rattle.std.specs.Prelude.{◌≡◌, Bool, MatchResult};
+ghost use Rattle.asn1_schema_presented.specs.Records.{additions_begin, addition, addition_ends};
+ghost use Rattle.per_codec_encoder.specs.Frames.{Next};
+ghost use Rattle.per_codec_encoder.specs.Holding.{Does, Cannot};
+
+use crate::frame::{Additions, Frame, Place};
+use crate::frames::Frames;
+use asn1_schema_faults::EncodeError;
+use per_codec_packing::Packing;
+use std::alloc::Global;
+use std::mem;
+
+/// Behind the root of a sequence or set with a mark of extensibility come so many additions (X.691 19.7).
+pub fn begin_additions(
+    output: &Packing,
+    frames: &mut Frames,
+    alloc: Global,
+    count: usize,
+) -> Result<(), EncodeError>
+    ensures { MatchResult result (λ _. (al : Bool) → Does al (additions_begin count) frames.old output.now frames.new output.now) (λ e. (al : Bool) → Cannot al (additions_begin count) frames.old output.now e) }
+{
+    match frames.pop() {
+        Some(
+            Frame::Components {
+                extensible,
+                due,
+                given,
+                start,
+            },
+        ) => {
+            if !extensible || due > 0 {
+                return Err(EncodeError::SizeConstraintNotSatisfied);
+            }
+            let slots = Vec::with_capacity(alloc, count)?;
+            frames.push(Frame::Added(Additions {
+                due: count,
+                given,
+                start,
+                end: Place::end_of(output),
+                slots,
+            }))?;
+            Ok(())
+        }
+        _ => Err(EncodeError::SizeConstraintNotSatisfied),
+    }
+}
+
+/// Counts the next addition, and keeps the place of one that is not there.
+#[inline(always)]
+pub(crate) fn count_addition(additions: &mut Additions, present: bool) -> Result<(), EncodeError>
+    ensures { MatchResult result (λ _. Next present additions.old additions.new) (λ e. ¬ (e ≡ EncodeError.OutOfMemory) → additions.old.due ≡ 0) }
+{
+    if additions.due == 0 {
+        return Err(EncodeError::SizeConstraintNotSatisfied);
+    }
+    if !present {
+        additions.slots.push(None)?;
+    }
+    additions.due -= 1;
+    Ok(())
+}
+
+/// Whether the next addition is there. The bits of one that is there stand alone until it ends (X.691 11.2 and 19.9).
+#[inline]
+pub fn put_addition(
+    output: &mut Packing,
+    frames: &mut Frames,
+    alloc: Global,
+    present: bool,
+) -> Result<(), EncodeError>
+    ensures { MatchResult result (λ _. (al : Bool) → Does al (addition present) frames.old output.old frames.new output.new) (λ e. (al : Bool) → Cannot al (addition present) frames.old output.old e) }
+{
+    frames.next_addition(present)?;
+    if present {
+        let outer = mem::replace(output, Packing::new(alloc));
+        frames.push(Frame::OpenType { outer })?;
+    }
+    Ok(())
+}
+
+/// An addition ends, and its bits are kept.
+pub fn end_addition(output: &mut Packing, frames: &mut Frames) -> Result<(), EncodeError>
+    ensures { MatchResult result (λ _. (al : Bool) → Does al addition_ends frames.old output.old frames.new output.new) (λ e. (al : Bool) → Cannot al addition_ends frames.old output.old e) }
+{
+    let Some(Frame::OpenType { outer }) = frames.pop() else {
+        return Err(EncodeError::SizeConstraintNotSatisfied);
+    };
+    match frames.pop() {
+        Some(Frame::Added(before)) => {
+            let mut additions = before;
+            let contents = mem::replace(output, outer).into_bits();
+            additions.slots.push(Some(contents))?;
+            frames.push(Frame::Added(additions))?;
+            Ok(())
+        }
+        _ => Err(EncodeError::SizeConstraintNotSatisfied),
+    }
+}

@@ -1,0 +1,121 @@
+//! Bags, whose members are kept until they end.
+ghost use Rattle.std.specs.Prelude.{◌≡◌, MatchResult, IfOk};
+ghost use Rattle.asn1_schema_presented.specs.Records.{bag_begins};
+ghost use Rattle.asn1_schema_bounds.specs.Bounds.{counts_of, members_of};
+ghost use Rattle.asn1_schema_constraints.specs.Terms.{sizes_of};
+ghost use Rattle.per_codec_packing.specs.Packed.{Adds, place};
+ghost use Rattle.per_codec_steps.specs.Steps.{with_open};
+ghost use Rattle.per_codec_texts.specs.Texts.{text_at};
+ghost use Rattle.per_codec_writing.specs.Writing.{Refuses};
+ghost use Rattle.per_codec_encoder.specs.Bags.{size_of, texts, texts_before, form_of, GoesOnInBag, NoFurther};
+ghost use Rattle.per_codec_encoder.specs.Holding.{Does, Cannot};
+
+use crate::frame::{Bag, Frame, Place};
+use crate::frames::Frames;
+use crate::headings::push_heading;
+use asn1_schema_bounds::Bounded;
+use asn1_schema_constraints::{Constraints, Extensible, Size};
+use asn1_schema_faults::EncodeError;
+use per_codec_packing::Packing;
+use per_codec_writing::push_bag;
+use std::alloc::{AllocError, Global};
+use std::mem;
+
+/// The bounds of a size constraint before its mark of extensibility, and whether it has one.
+fn sizes(constraints: Constraints) -> (Bounded<usize>, bool)
+    ensures { size_of result.0 result.1 ≡ sizes_of constraints.entry.size }
+{
+    match constraints.size {
+        None => (Bounded::None, false),
+        Some(size) => (size.constraint.range, size.extensible.is_some()),
+    }
+}
+
+/// Begins a bag (X.691 22) of so many members, if the size and the program's type allow so many. Its number of members is judged here, and
+/// written at its end.
+pub fn begin_bag(
+    output: &mut Packing,
+    frames: &mut Frames,
+    alloc: Global,
+    aligned: bool,
+    constraints: Constraints,
+    held: Bounded<usize>,
+    count: usize,
+) -> Result<(), EncodeError>
+    ensures { MatchResult result (λ _. Does aligned (bag_begins (sizes_of constraints.entry.size) (members_of held) count) frames.old output.old frames.new output.new) (Cannot aligned (bag_begins (sizes_of constraints.entry.size) (members_of held) count) frames.old output.old) }
+{
+    let start = Place::end_of(output);
+    push_heading(output, aligned, constraints, held, count)?;
+    output.truncate(start.bits, start.fills);
+    let (range, extensible) = sizes(constraints);
+    let outer = mem::replace(output, Packing::unplaced(alloc));
+    frames.push(Frame::Bag(Bag {
+        outer,
+        range,
+        extensible,
+        held,
+        due: count,
+        members: None,
+    }))?;
+    Ok(())
+}
+
+/// The members in front of the open one, and this behind them, if one is open.
+fn kept(
+    members: Option<Vec<Packing>>,
+    last: Packing,
+    alloc: Global,
+) -> Result<Vec<Packing>, AllocError>
+    ensures { IfOk result (λ all. texts all.items ≡ with_open (texts_before members) last.text) }
+{
+    match members {
+        None => Ok(Vec::new(alloc)),
+        Some(before) => {
+            let mut all = before;
+            all.push(last)?;
+            Ok(all)
+        }
+    }
+}
+
+/// Whether a further member of a bag comes: as many come as were told, and each begins a text of its own.
+pub(crate) fn next_of_bag(
+    output: &mut Packing,
+    bag: &mut Bag,
+    alloc: Global,
+    more: bool,
+) -> Result<(), EncodeError>
+    ensures { MatchResult result (λ _. GoesOnInBag more bag.old output.old bag.new output.new) (λ e. NoFurther more bag.old output.old e) }
+{
+    if more != (bag.due > 0) {
+        return Err(EncodeError::SizeConstraintNotSatisfied);
+    }
+    if !more {
+        return Ok(());
+    }
+    let member = mem::replace(output, Packing::unplaced(alloc));
+    let members = kept(bag.members.take(), member, alloc)?;
+    bag.members = Some(members);
+    bag.due -= 1;
+    Ok(())
+}
+
+/// Ends a bag of which no member is due: behind what stands in front of it stand its members, in their order, behind their number (X.691 22).
+pub(crate) fn end_bag(
+    output: &mut Packing,
+    bag: Bag,
+    alloc: Global,
+    aligned: bool,
+) -> Result<(), EncodeError>
+    ensures { MatchResult result (λ _. Adds (text_at (form_of aligned bag (with_open (texts_before bag.members) output.old.text)) (place bag.outer)) bag.outer output.new) (Refuses (text_at (form_of aligned bag (with_open (texts_before bag.members) output.old.text)) (place bag.outer))) }
+{
+    let size = Extensible::new(Size::new(bag.range)).set_extensible(bag.extensible);
+    let constraints = Constraints {
+        size: Some(size),
+        ..Constraints::NONE
+    };
+    let last = mem::replace(output, bag.outer);
+    let members = kept(bag.members, last, alloc)?;
+    push_bag(alloc, output, aligned, constraints, bag.held, members)?;
+    Ok(())
+}

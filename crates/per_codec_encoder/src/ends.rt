@@ -1,0 +1,109 @@
+//! Ends of what is open.
+ghost use Rattle.std.specs.Prelude.{◌≡◌, ◌<◌, Bool, List, true, false, length, cond, IfOk, IfErr, MatchResult};
+ghost use Rattle.asn1_model.specs.Form.{is_any_present};
+ghost use Rattle.asn1_model.specs.Per.{additions};
+ghost use Rattle.asn1_schema_presented.specs.Records.{ends};
+ghost use Rattle.per_codec_packing.specs.Packed.{Adds, place, solid, with_bit};
+ghost use Rattle.per_codec_texts.specs.Texts.{text_at};
+ghost use Rattle.per_codec_writing.specs.Additions.{as_open_types};
+ghost use Rattle.per_codec_encoder.specs.Holding.{AreSound, Does, Cannot};
+
+use crate::bags::end_bag;
+use crate::frame::Frame;
+use crate::frames::Frames;
+use asn1_schema_faults::EncodeError;
+use asn1_values_bits::BitBuffer;
+use per_codec_packing::Packing;
+use per_codec_writing::{push_additions, push_open_type};
+use std::alloc::Global;
+use std::mem;
+
+/// Whether an addition is there.
+fn is_extended(slots: &[Option<BitBuffer>]) -> bool
+    ensures { result ≡ is_any_present slots.now }
+{
+    for slot in slots {
+        if slot.is_some() {
+            return true;
+        }
+    }
+    false
+}
+
+/// Sets the mark of extensibility at a place and adds the additions, if one is there (X.691 19.1 and 19.7 to 19.9). The only error is want of
+/// memory.
+fn push_extension(
+    output: &mut Packing,
+    aligned: bool,
+    alloc: Global,
+    mark: usize,
+    slots: &[Option<BitBuffer>],
+) -> Result<(), EncodeError>
+    requires { mark < length (solid output.old.text) }
+    ensures only { IfErr result (λ e. e ≡ EncodeError.OutOfMemory) }
+    ensures some { IfOk result (λ _. is_any_present slots.now ≡ true → Adds (text_at (additions aligned (as_open_types aligned slots.now)) (place output.old)) (record { text = with_bit mark true output.old.text; placed = output.old.placed }) output.new) }
+    ensures none { IfOk result (λ _. is_any_present slots.now ≡ false → output.new ≡ output.old) }
+{
+    if !is_extended(slots) {
+        return Ok(());
+    }
+    output.set(mark, true);
+    push_additions(output, aligned, alloc, slots)?;
+    Ok(())
+}
+
+/// Ends what is innermost: a sequence, set or group of which nothing is due (X.691 19), a list with all its members and headers (X.691 20),
+/// a bag (X.691 22), an open type (X.691 11.2) or an alternative (X.691 23).
+pub fn end_scope(
+    output: &mut Packing,
+    frames: &mut Frames,
+    alloc: Global,
+    aligned: bool,
+) -> Result<(), EncodeError>
+    requires { AreSound frames.old output.old }
+    ensures { MatchResult result (λ _. Does aligned ends frames.old output.old frames.new output.new) (Cannot aligned ends frames.old output.old) }
+{
+    match frames.pop() {
+        Some(
+            Frame::Components {
+                extensible,
+                due,
+                ..
+            },
+        ) => {
+            if extensible || due > 0 {
+                return Err(EncodeError::SizeConstraintNotSatisfied);
+            }
+            Ok(())
+        }
+        Some(Frame::Added(additions)) => {
+            if additions.due > 0 {
+                return Err(EncodeError::SizeConstraintNotSatisfied);
+            }
+            output.truncate(additions.end.bits, additions.end.fills);
+            let slots = additions.slots.as_slice();
+            push_extension(output, aligned, alloc, additions.start.bits, slots)?;
+            Ok(())
+        }
+        Some(Frame::OpenType { outer }) => {
+            let contents = mem::replace(output, outer).into_bits();
+            push_open_type(output, aligned, &contents)?;
+            Ok(())
+        }
+        Some(Frame::Members(due)) => {
+            if due.members > 0 || due.behind.is_some() {
+                return Err(EncodeError::SizeConstraintNotSatisfied);
+            }
+            Ok(())
+        }
+        Some(Frame::Bag(bag)) => {
+            if bag.due > 0 {
+                return Err(EncodeError::SizeConstraintNotSatisfied);
+            }
+            end_bag(output, bag, alloc, aligned)?;
+            Ok(())
+        }
+        Some(Frame::Alternative) => Ok(()),
+        None => Err(EncodeError::SizeConstraintNotSatisfied),
+    }
+}

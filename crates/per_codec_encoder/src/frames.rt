@@ -1,0 +1,93 @@
+//! What is open, from the outermost on.
+ghost use Rattle.std.specs.Prelude.{◌≡◌, ◌++◌, ◌∷◌, [], Bool, OnOk, IfErr, IsSome, option_to_list};
+ghost use Rattle.asn1_schema_presented.specs.Records.{addition};
+ghost use Rattle.per_codec_packing.specs.Packed.{Packed};
+ghost use Rattle.per_codec_encoder.specs.Frames.{CountsAddition};
+ghost use Rattle.per_codec_encoder.specs.Holding.{Cannot};
+
+use crate::additions::count_addition;
+use crate::frame::Frame;
+use asn1_schema_faults::EncodeError;
+use std::alloc::{AllocError, Global};
+use std::marker::Model;
+use std::mem;
+
+/// What is open, from the outermost on. The innermost stands apart from those around it, so that no memory is taken before one is opened within
+/// another.
+#[derive(Drop)]
+pub struct Frames {
+    pub(crate) innermost: Option<Frame>,
+    outer: Vec<Frame>,
+}
+
+impl Model for Frames {
+    ghost use Rattle.std.specs.Prelude.{◌≡◌, ◌++◌, List, [], None, option_to_list};
+    ghost use Rattle.per_codec_encoder.specs.declared.frame.Frame.{Frame};
+
+    ghost Value = { List Frame };
+
+    ghost view = { λ f. f.outer.items ++ option_to_list f.innermost };
+
+    ghost invariant = { λ f. f.innermost ≡ None → f.outer.items ≡ [] };
+}
+
+impl Frames {
+    /// Nothing is open. It takes no memory before something is opened within another.
+    pub fn new(alloc: Global) -> Self
+        ensures { result ≡ [] }
+    {
+        Frames {
+            innermost: None,
+            outer: Vec::new(alloc),
+        }
+    }
+
+    /// Leaves nothing open.
+    #[inline(always)]
+    pub fn clear(&mut self)
+        ensures { self.new ≡ [] }
+    {
+        self.innermost = None;
+        self.outer.clear();
+    }
+
+    /// Opens a frame within what is innermost, which is let go where memory is refused.
+    #[inline(always)]
+    pub(crate) fn push(&mut self, frame: Frame) -> Result<(), AllocError>
+        ensures items { OnOk result (self.new ≡ self.old ++ frame ∷ []) }
+    {
+        if self.innermost.is_none() {
+            self.innermost = Some(frame);
+            return Ok(());
+        }
+        if let Some(outer) = self.innermost.replace(frame) {
+            self.outer.push(outer)?;
+        }
+        Ok(())
+    }
+
+    /// Takes what is innermost, if something is open.
+    #[inline]
+    pub(crate) fn pop(&mut self) -> Option<Frame>
+        ensures items { self.old ≡ self.new ++ option_to_list result }
+        ensures none { result ≡ None → self.old ≡ [] }
+    {
+        if self.outer.is_empty() {
+            return self.innermost.take();
+        }
+        mem::replace(&mut self.innermost, self.outer.pop())
+    }
+
+    /// Counts the next addition of the innermost sequence or set.
+    #[inline(always)]
+    pub(crate) fn next_addition(&mut self, present: bool) -> Result<(), EncodeError>
+        ensures ok { OnOk result (CountsAddition present self.old self.new) }
+        ensures only { IfErr result (λ e. (al : Bool) (o : Packed) → Cannot al (addition present) self.old o e) }
+    {
+        match &mut self.innermost {
+            Some(Frame::Added(additions)) => count_addition(additions, present)?,
+            _ => return Err(EncodeError::SizeConstraintNotSatisfied),
+        }
+        Ok(())
+    }
+}

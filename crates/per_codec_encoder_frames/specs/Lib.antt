@@ -1,4 +1,0 @@
-pub mod Headings
-pub mod Bags
-pub mod Holding
-pub mod Frames

@@ -1,3 +1,0 @@
-pub mod OctetFronts
-pub mod WholeFronts
-pub mod IntegerFronts

@@ -1,2 +1,0 @@
-pub mod SmallFronts
-pub mod PlaceFronts

@@ -1,3 +1,0 @@
-pub mod FieldFronts
-pub mod Moving
-pub mod Passing

@@ -1,0 +1,11 @@
+pub mod OctetFronts
+pub mod WholeFronts
+pub mod IntegerFronts
+pub mod SmallFronts
+pub mod PlaceFronts
+pub mod FieldFronts
+pub mod Moving
+pub mod Passing
+pub mod Steps
+pub mod CharacterFronts
+pub mod CharacterOctetFronts

@@ -1,0 +1,139 @@
+-- What stands in front where a number in octets behind how many they are does.
+use Rattle.std.proofs.Common.{◌≡◌, ℕ, zero, suc, ◌^◌, ◌≤◌, ◌<◌, leb, ltb, ℤ, Bool, true, false, IsTrue, inr, List, [], ◌∷◌, length, sym, ap, ◌∙◌, subst, arith}
+use Rattle.std.proofs.lemmas.Bool.{false≢true, leb-true, le-leb, ltb-true, lt-ltb, and_parts}
+use Rattle.std.proofs.Math.Nat.{pow-le-pow_right}
+use Rattle.asn1_model.specs.Numbers.{digits, complement, octet_width, least_octets, signed_octets, is_within}
+use Rattle.asn1_model.specs.Form.{only_if}
+use Rattle.asn1_model.specs.Strings.{each_is, is_octet}
+use Rattle.asn1_model.specs.Per
+use Rattle.asn1_values_natives.specs.Octets.{unsigned_number, signed_number}
+use Rattle.asn1_values_natives.proofs.OctetLaws.{AreOctets, unsigned-lt, length-digits, unsigned-digits, digits-unsigned}
+use Rattle.asn1_values_natives.proofs.TwosComplement.{signed_octets-least, complement-back, signed-complement, plain-fits, length-complement}
+use Rattle.asn1_values_natives.proofs.Widths.{octets-least, octet_width-octets, signed_octets-plain}
+use Rattle.asn1_laws_fronts.proofs.PerNumbers.{counted_octets_alike}
+use Rattle.per_codec_fronts.specs.Takes.{Place, Front}
+use Rattle.per_codec_fronts.proofs.Fronts.{varied_in, varied_out, if_in, if_out}
+use Rattle.per_codec_fronts.proofs.Next.{same_fronts}
+use Rattle.per_codec_reading.specs.Fronts.{NoneStands}
+use Rattle.per_codec_reading_values.specs.Whole.{number_octets, offset_form, is_offset, in_128_bits, wide_range}
+
+-- ---- octets as numbers
+are_octets : (os : List ℕ) → each_is is_octet os ≡ true → AreOctets os
+are_octets [] h = tt
+are_octets (o ∷ os) h = let p = and_parts (is_octet o) (each_is is_octet os) h in (ltb-true o 256 p.0, are_octets os p.1)
+
+least_positive : (v : ℤ) → 1 ≤ signed_octets v
+least_positive v = let e = signed_octets-plain v in omega (arith, e)
+
+signed_back : (k : ℕ) (v : ℤ) → signed_octets v ≤ k → signed_number (complement k v) ≡ v
+signed_back zero v h = let l = least_positive v in absurd (omega arith)
+signed_back (suc k) v h = signed-complement k v (plain-fits v k (omega arith))
+
+least_signed : (os : List ℕ) → AreOctets os → 0 < length os → signed_octets (signed_number os) ≤ length os
+least_signed [] a l = absurd (omega arith)
+least_signed (o ∷ os) a l = signed_octets-least o os a
+
+least_unsigned : (os : List ℕ) → AreOctets os → 0 < length os → least_octets (unsigned_number os) ≤ length os
+least_unsigned os a l = let d = octets-least (unsigned_number os) (length os) (octet_width (unsigned_number os)) (octet_width-octets (unsigned_number os)) (unsigned-lt os a) in omega (arith, d, l)
+
+unsigned_back : (k n : ℕ) → octet_width n ≤ k → unsigned_number (digits 256 k n) ≡ n
+unsigned_back k n h =
+    let p : 256 ^ octet_width n ≤ 256 ^ k = pow-le-pow_right (omega arith) h in
+    let b = (octet_width-octets n).below in
+    unsigned-digits k n (omega (arith, p, b))
+
+module _ (free : Per.Freedom → Bool) where
+  octets_of : (al : Bool) (os : List ℕ) (a b : Place) → Front free (Per.counted_octets al os) a b → AreOctets os
+  unfolding Per.counted_octets
+  octets_of al os a b f = are_octets os (if_out free (each_is is_octet os) _ a b f).0
+
+  -- ---- the octets
+  pub octets_read : (al : Bool) (os : List ℕ) (a b : Place) → 0 < length os → Front free (Per.counted_octets al os) a b → Front free (number_octets al os) a b
+  octets_read al os a b l f = if_in free (ltb 0 (length os)) _ a b (lt-ltb 0 (length os) l) f
+
+  octets_told : (al : Bool) (os : List ℕ) (a b : Place) → Front free (number_octets al os) a b → (0 < length os) × Front free (Per.counted_octets al os) a b
+  octets_told al os a b f = let i = if_out free (ltb 0 (length os)) _ a b f in (ltb-true 0 (length os) i.0, i.1)
+
+  pub none_counted : (al : Bool) (a : Place) → NoneStands free (Per.counted_octets al) a → NoneStands free (number_octets al) a
+  none_counted al a n os b f = n os b (octets_told al os a b f).1
+
+  pub no_octets : (al : Bool) (os : List ℕ) (a b : Place) → length os ≡ 0 → Front free (Per.counted_octets al os) a b → NoneStands free (number_octets al) a
+  no_octets al os a b l f ps c g =
+      let t = octets_told al ps a c g in
+      let e : os ≡ ps = (same_fronts free (counted_octets_alike free al os ps) a b c f t.1).0 in
+      let m : length os ≡ length ps = ap length e in
+      let n = t.0 in
+      omega arith
+
+  octets_same : (al : Bool) (os ps : List ℕ) (a b c : Place) → Front free (number_octets al os) a b → Front free (number_octets al ps) a c → os ≡ ps
+  octets_same al os ps a b c f g = (same_fronts free (counted_octets_alike free al os ps) a b c (octets_told al os a b f).1 (octets_told al ps a c g).1).0
+
+  -- ---- with a sign
+  signed_read : (al : Bool) (os : List ℕ) (a b : Place) → IsTrue (free Per.longer_number) → Front free (number_octets al os) a b → Front free (Per.unconstrained al (signed_number os)) a b
+  unfolding Per.unconstrained
+  signed_read al os a b t f =
+      let i = octets_told al os a b f in
+      let o = octets_of al os a b i.1 in
+      let v = signed_number os in
+      varied_in free (λ k. only_if (leb (signed_octets v) k) (Per.counted_octets al (complement k v))) (length os) (inr t) a b
+      (if_in free (leb (signed_octets v) (length os)) _ a b (le-leb (signed_octets v) (length os) (least_signed os o i.0)) (subst (λ l. Front free (Per.counted_octets al l) a b) (sym (complement-back os o i.0)) i.1))
+
+  signed_told : (al : Bool) (v : ℤ) (a b : Place) → Front free (Per.unconstrained al v) a b → (os : List ℕ) × (signed_number os ≡ v) × Front free (number_octets al os) a b
+  unfolding Per.unconstrained
+  signed_told al v a b f =
+      let q = varied_out free (λ k. only_if (leb (signed_octets v) k) (Per.counted_octets al (complement k v))) a b f in
+      let i = if_out free (leb (signed_octets v) q.0) _ a b q.2 in
+      let l = leb-true (signed_octets v) q.0 i.0 in
+      let p = least_positive v in
+      let n = length-complement q.0 v in
+      (complement q.0 v, signed_back q.0 v l, octets_read al (complement q.0 v) a b (omega arith) i.1)
+
+  pub unconstrained_read : (al : Bool) (v : ℤ) (os : List ℕ) (a b : Place) → IsTrue (free Per.longer_number) → v ≡ signed_number os → is_within wide_range (signed_number os) ≡ true → Front free (number_octets al os) a b → Front free (in_128_bits (Per.unconstrained al) v) a b
+  unconstrained_read al v os a b t e w f = subst (λ z. Front free (in_128_bits (Per.unconstrained al) z) a b) (sym e) (if_in free (is_within wide_range (signed_number os)) _ a b w (signed_read al os a b t f))
+
+  -- the same for a number of any size
+  pub number_read : (al : Bool) (v : ℤ) (os : List ℕ) (a b : Place) → IsTrue (free Per.longer_number) → v ≡ signed_number os → Front free (number_octets al os) a b → Front free (Per.unconstrained al v) a b
+  number_read al v os a b t e f = subst (λ z. Front free (Per.unconstrained al z) a b) (sym e) (signed_read al os a b t f)
+
+  pub none_signed : (al : Bool) (a : Place) → NoneStands free (number_octets al) a → NoneStands free (Per.unconstrained al) a
+  none_signed al a n v b f = let t = signed_told al v a b f in n t.0 b t.2
+
+  pub signed_same : (al : Bool) (v : ℤ) (os : List ℕ) (a b c : Place) → Front free (number_octets al os) a b → Front free (Per.unconstrained al v) a c → v ≡ signed_number os
+  signed_same al v os a b c f g = let t = signed_told al v a c g in sym t.1 ∙ ap signed_number (octets_same al t.0 os a c b t.2 f)
+
+  pub no_unconstrained : (al : Bool) (a : Place) → NoneStands free (number_octets al) a → NoneStands free (in_128_bits (Per.unconstrained al)) a
+  no_unconstrained al a n v b f = none_signed al a n v b (if_out free (is_within wide_range v) _ a b f).1
+
+  pub unconstrained_outside : (al : Bool) (os : List ℕ) (a b : Place) → is_within wide_range (signed_number os) ≡ false → Front free (number_octets al os) a b → NoneStands free (in_128_bits (Per.unconstrained al)) a
+  unconstrained_outside al os a b w f v c g =
+      let i = if_out free (is_within wide_range v) _ a c g in
+      false≢true (sym w ∙ ap (is_within wide_range) (sym (signed_same al v os a b c f i.1)) ∙ i.0)
+
+  -- ---- without a sign
+  pub offset_read : (al : Bool) (n : ℕ) (os : List ℕ) (a b : Place) → IsTrue (free Per.longer_number) → n ≡ unsigned_number os → is_offset (unsigned_number os) ≡ true → Front free (number_octets al os) a b → Front free (offset_form al n) a b
+  unfolding Per.semi_constrained
+  offset_read al n os a b t e w f =
+      let i = octets_told al os a b f in
+      let o = octets_of al os a b i.1 in
+      let m = unsigned_number os in
+      subst (λ z. Front free (offset_form al z) a b) (sym e) (if_in free (is_offset m) _ a b w (varied_in free (λ k. only_if (leb (least_octets m) k) (Per.counted_octets al (digits 256 k m))) (length os) (inr t) a b
+      (if_in free (leb (least_octets m) (length os)) _ a b (le-leb (least_octets m) (length os) (least_unsigned os o i.0)) (subst (λ l. Front free (Per.counted_octets al l) a b) (sym (digits-unsigned os o)) i.1))))
+
+  unsigned_told : (al : Bool) (n : ℕ) (a b : Place) → Front free (Per.semi_constrained al n) a b → (os : List ℕ) × (unsigned_number os ≡ n) × Front free (number_octets al os) a b
+  unfolding Per.semi_constrained
+  unsigned_told al n a b f =
+      let q = varied_out free (λ k. only_if (leb (least_octets n) k) (Per.counted_octets al (digits 256 k n))) a b f in
+      let i = if_out free (leb (least_octets n) q.0) _ a b q.2 in
+      let l = leb-true (least_octets n) q.0 i.0 in
+      let m = length-digits q.0 n in
+      (digits 256 q.0 n, unsigned_back q.0 n (omega arith), octets_read al (digits 256 q.0 n) a b (omega arith) i.1)
+
+  pub no_offset : (al : Bool) (a : Place) → NoneStands free (number_octets al) a → NoneStands free (offset_form al) a
+  no_offset al a n m b f = let t = unsigned_told al m a b (if_out free (is_offset m) _ a b f).1 in n t.0 b t.2
+
+  pub offset_outside : (al : Bool) (os : List ℕ) (a b : Place) → is_offset (unsigned_number os) ≡ false → Front free (number_octets al os) a b → NoneStands free (offset_form al) a
+  offset_outside al os a b w f m c g =
+      let i = if_out free (is_offset m) _ a c g in
+      let t = unsigned_told al m a c i.1 in
+      let e : m ≡ unsigned_number os = sym t.1 ∙ ap unsigned_number (octets_same al t.0 os a c b t.2 f) in
+      false≢true (sym w ∙ ap is_offset (sym e) ∙ i.0)

@@ -1,0 +1,107 @@
+-- Octets that are passed over, one fragment after another and one unknown addition after another.
+use Rattle.std.proofs.Common.{◌≡◌, ℕ, ◌+◌, ◌*◌, ◌<◌, Bool, true, false, IsTrue, Some, None, List, [], ◌∷◌, ◌++◌, length, map, refl, ap, sym, subst}
+use Rattle.asn1_model.specs.Numbers as Numbers
+use Rattle.asn1_model.specs.Form.{joined, present_ones, is_present}
+use Rattle.asn1_model.specs.Per
+use Rattle.asn1_laws_fronts.proofs.PerNumbers.{counted_octets_alike}
+use Rattle.asn1_schema_faults.specs.declared.DecodeError.{DecodeError}
+use Rattle.asn1_schema_faults.specs.declared.DecodeError.TheVariants.{OutOfMemory}
+use Rattle.per_codec_fronts.specs.Takes.{Place, Front, Skips, unknown_forms}
+use Rattle.per_codec_fronts.proofs.Fronts.{split, join, nothing_front}
+use Rattle.per_codec_fronts.proofs.Next.{same_fronts}
+use Rattle.per_codec_reading.specs.Fronts.{NoneStands, Misses}
+use Rattle.per_codec_reading.specs.declared.lengths.Length.TheVariants.{Short, Fragment}
+use Rattle.per_codec_reading_units.specs.Units.{Units, counted_units, piece_form}
+use Rattle.per_codec_reading_units.proofs.Loops.{Joins, joins_none, joins_more, joins_last, joins_stop, fragment_shortens}
+use Rattle.per_codec_reading_values.specs.Fields.{HasPiece, HasUnits, NoSkip}
+use Rattle.per_codec_reading_values.proofs.FieldFronts.{octets_of, units_told}
+
+-- want of memory aside, what is missed does not stand in front
+pub missed : {X : Type 0} (free : Per.Freedom → Bool) (f : X → Per.BitForm) (a : Place) (e : DecodeError) → Misses free f a e → ¬ (e ≡ OutOfMemory) → NoneStands free f a
+missed free f a OutOfMemory m n = absurd (n refl)
+missed free f a e m n = m
+
+-- the same of a place that is known by its equal
+pub misses_at : {X : Type 0} (free : Per.Freedom → Bool) (f : X → Per.BitForm) (a b : Place) (e : DecodeError) → a ≡ b → Misses free f a e → Misses free f b e
+misses_at free f a b e q m = subst (λ (p : Place). Misses free f p e) q m
+
+module _ (free : Per.Freedom → Bool) (al : Bool) where
+  -- ---- fragments
+  -- octets of fragments so far are passed over
+  abbrev pub Passed : Place → Place → Type 0
+  Passed start here = (us : Units) × Joins free al 8 (0, []) start us here
+
+  pub passed_none : (start : Place) → Passed start start
+  passed_none start = ((0, []), joins_none free al 8 (0, []) start)
+
+  pub passed_more : (m : ℕ) (start here next : Place) → Passed start here → HasPiece free al (Fragment m) here next → Passed start next
+  passed_more m start here next j f = ((j.0.0 + m * 16384, j.0.1 ++ f.0), joins_more free al 8 m f.0 (0, []) j.0 start here next j.1 f.1)
+
+  pub passed_last : (n : ℕ) (start here next : Place) → IsTrue (free Per.other_fragments) → Passed start here → HasPiece free al (Short n) here next → HasUnits free al start next
+  passed_last n start here next t j f = let c = joins_last free al 8 n f.0 (0, []) j.0 start here next t j.1 f.1 in (c.0, c.3)
+
+  pub passed_stop : (start here : Place) → Passed start here → NoneStands free (piece_form al 8) here → NoneStands free (counted_units al 8) start
+  passed_stop start here j n = joins_stop free al 8 (0, []) j.0 start here j.1 n
+
+  pub piece_shortens : (m : ℕ) (a b : Place) → HasPiece free al (Fragment m) a b → length b.1 < length a.1
+  piece_shortens m a b f = fragment_shortens free al 8 m f.0 a b f.1
+
+  -- ---- unknown additions
+  skip_there : (us : List Bool) (a m b : Place) → HasUnits free al a m → Skips al free us m b → Skips al free (true ∷ us) a b
+  skip_there us a m b f s =
+      let o = octets_of free al f.0 a m f.1 in
+      (Some o.0 ∷ s.0, ap (λ (l : List Bool). true ∷ l) s.1, join free (Per.counted_octets al o.0) (joined (present_ones (unknown_forms al s.0))) a m b o.2 s.2)
+
+  skip_absent : (us : List Bool) (a b : Place) → Skips al free us a b → Skips al free (false ∷ us) a b
+  skip_absent us a b s = (None ∷ s.0, ap (λ (l : List Bool). false ∷ l) s.1, s.2)
+
+  skipped_there : (us : List Bool) (a b : Place) → Skips al free (true ∷ us) a b → (os : List ℕ) × (m : Place) × Front free (Per.counted_octets al os) a m × Skips al free us m b
+  skipped_there us a b ([], e, f) = let n : [] ≡ true ∷ us = e in cc
+  skipped_there us a b (None ∷ xs, e, f) = let n : false ∷ map (λ a. is_present a) (unknown_forms al xs) ≡ true ∷ us = e in cc
+  skipped_there us a b (Some os ∷ xs, e, f) =
+      let n : true ∷ map (λ a. is_present a) (unknown_forms al xs) ≡ true ∷ us = e in
+      let t : map (λ a. is_present a) (unknown_forms al xs) ≡ us = cc in
+      let s = split free (Per.counted_octets al os) (joined (present_ones (unknown_forms al xs))) a b f in
+      (os, s.0, s.1, (xs, t, s.2))
+
+  skipped_absent : (us : List Bool) (a b : Place) → Skips al free (false ∷ us) a b → Skips al free us a b
+  skipped_absent us a b ([], e, f) = let n : [] ≡ false ∷ us = e in cc
+  skipped_absent us a b (Some os ∷ xs, e, f) = let n : true ∷ map (λ a. is_present a) (unknown_forms al xs) ≡ false ∷ us = e in cc
+  skipped_absent us a b (None ∷ xs, e, f) =
+      let n : false ∷ map (λ a. is_present a) (unknown_forms al xs) ≡ false ∷ us = e in
+      let t : map (λ a. is_present a) (unknown_forms al xs) ≡ us = cc in
+      (xs, t, f)
+
+  one_octets : (us : Units) (os : List ℕ) (a b c : Place) → Front free (counted_units al 8 us) a b → Front free (Per.counted_octets al os) a c → b ≡ c
+  one_octets us os a b c f g = let o = octets_of free al us a b f in (same_fronts free (counted_octets_alike free al o.0 os) a b c o.2 g).1
+
+  -- some marks are looked at, and these are left
+  pub record Reaches (all : List Bool) (start : Place) (left : List Bool) (here : Place) : Type 0 where
+    pub whole : (b : Place) → Skips al free left here b → Skips al free all start b
+    pub back : (b : Place) → Skips al free all start b → Skips al free left here b
+
+  pub reaches_first : (all : List Bool) (start : Place) → Reaches all start all start
+  reaches_first all start = record { whole = λ b s. s; back = λ b s. s }
+
+  pub reaches_there : (all : List Bool) (v : Bool) (left : List Bool) (start here next : Place) → v ≡ true → Reaches all start (v ∷ left) here → HasUnits free al here next → Reaches all start left next
+  reaches_there all false left start here next t r f = cc
+  reaches_there all true left start here next t r f = record {
+    whole = λ b s. r.whole b (skip_there left here next b f s);
+    back = λ b s.
+        let q = skipped_there left here b (r.back b s) in
+        let e = one_octets f.0 q.0 here next q.1 f.1 q.2 in
+        subst (λ p. Skips al free left p b) (sym e) q.3;
+  }
+
+  pub reaches_absent : (all : List Bool) (v : Bool) (left : List Bool) (start here : Place) → v ≡ false → Reaches all start (v ∷ left) here → Reaches all start left here
+  reaches_absent all true left start here t r = cc
+  reaches_absent all false left start here t r = record { whole = λ b s. r.whole b (skip_absent left here b s); back = λ b s. skipped_absent left here b (r.back b s) }
+
+  pub reaches_end : (all left : List Bool) (start here : Place) → left ≡ [] → Reaches all start left here → Skips al free all start here
+  reaches_end all left start here e r = r.whole here (subst (λ l. Skips al free l here here) (sym e) ([], refl, nothing_front free here))
+
+  pub reaches_stop : (all : List Bool) (v : Bool) (left : List Bool) (start here : Place) (e : DecodeError) → v ≡ true → Reaches all start (v ∷ left) here → Misses free (counted_units al 8) here e → NoSkip free al all start e
+  reaches_stop all false left start here e t r m = cc
+  reaches_stop all true left start here e t r m = λ n b s.
+      let q = skipped_there left here b (r.back b s) in
+      missed free (counted_units al 8) here e m n (length q.0, Numbers.octet_bits q.0) q.1 (units_told free al q.0 here q.1 q.2)

@@ -1,0 +1,7 @@
+use Rattle.per_codec_reading_values.proofs.bounded.read_marked.Goals as goal
+
+pub returns-then-is_outside-clause-only : goal.returns-then-is_outside-clause-only
+returns-then-is_outside-clause-only c = rw c.if-is_outside.true c.read_unconstrained.ensures.only
+
+pub returns-clause-only : goal.returns-clause-only
+returns-clause-only c = rw c.if-is_outside.false c.read_root.ensures.only

@@ -1,0 +1,5 @@
+pub mod Whole
+pub mod Places
+pub mod Fields
+pub mod Stretches
+pub mod Spelled

@@ -1,0 +1,27 @@
+-- Normally small numbers, and the places of items and of alternatives.
+use Rattle.std.specs.Prelude.{◌≡◌, ◌≤◌, ℕ, ℤ, ◌-◌, ltb, Bool, true, cond, List, length}
+use Rattle.asn1_model.specs.Form.{both, only_if}
+use Rattle.asn1_model.specs.Per.{BitForm, constrained, normally_small}
+use Rattle.asn1_schema_variants.specs.declared.chosen.Chosen.{Chosen}
+use Rattle.per_codec_reading_values.specs.Whole.{is_offset}
+use Rattle.per_codec_reading_units.specs.Sizes.{size_mark}
+
+-- A normally small number, if 128 bits hold it (X.691 11.6).
+abbrev pub small_form : Bool → ℕ → BitForm
+small_form al n = only_if (is_offset n) (normally_small al n)
+
+-- The place of one of so many in the root (X.691 14.2 and 23.6).
+abbrev pub root_form : Bool → ℕ → ℕ → BitForm
+root_form al count i = only_if (ltb i count) (constrained al (count - 1) i)
+
+-- The place of one of so many added ones (X.691 14.3 and 23.8).
+abbrev pub added_form : Bool → ℕ → ℕ → BitForm
+added_form al count i = only_if (ltb i count) (normally_small al i)
+
+-- The mark of extensibility, if there is one, and the place.
+abbrev pub place_form : Bool → ℕ → Bool → ℕ → Chosen → BitForm
+place_form al roots e others c = both (size_mark e c.added) (cond c.added (added_form al others c.place) (root_form al roots c.place))
+
+-- There is no item at the place: it is past those of its table.
+abbrev pub NoItem : List ℤ → Bool → List ℤ → Chosen → Type 0
+NoItem roots e others c = cond c.added (e ≡ true → length others ≤ c.place) (length roots ≤ c.place)

@@ -1,0 +1,214 @@
+//! A stretch of bits, and how far it is read.
+ghost use Rattle.std.specs.Prelude.{◌≡◌, ◌≤◌, ◌-◌, ◌^◌, ◌∷◌, [], true, length, take, drop, IsTrue, ◌↔◌, OnOk, IfOk, IfErr, IfSome, IfNone, IsSomeAnd};
+ghost use Rattle.asn1_model.specs.Numbers.{octet_bits};
+ghost use Rattle.asn1_values_bits.specs.BitStr as bit_strs;
+ghost use Rattle.per_codec_fronts.specs.Takes.{Place, Front};
+ghost use Rattle.per_codec_reading.specs.Fronts as fronts;
+ghost use Rattle.per_codec_reading.specs.Fronts.{freedoms, Leads, Misses};
+ghost use Rattle.per_codec_reading_units.specs.Runs.{bits_in, StandsIn};
+ghost use Rattle.per_codec_reading_values.specs.Fields.{field_form, HasField};
+ghost use Rattle.per_codec_reading_values.specs.Stretches.{lends_octets};
+
+use crate::fields::{Field, read_field};
+use asn1_schema_faults::DecodeError;
+use asn1_values_bits::{BitBuffer, BitReader, BitStr};
+use per_codec_reading::{Cursor, Variant};
+use per_codec_reading_units::RunBits;
+use std::alloc::{AllocError, Global};
+use std::marker::Model;
+
+/// An encoding has no more octets.
+const MOST_OCTETS: usize = (1 << 60) - 1;
+
+/// The bits of a message or of an open type, presence bits or a bitmap, lent or held, and how many of them are read.
+#[derive(Drop)]
+pub struct Stretch<'input> {
+    bits: RunBits<'input>,
+    position: usize,
+}
+
+impl<'input> Model for Stretch<'input> {
+    ghost use Rattle.std.specs.Prelude.{◌≤◌, length, drop};
+    ghost use Rattle.per_codec_reading_units.specs.Runs.{bits_in};
+    ghost use Rattle.per_codec_reading_values.specs.Stretches.{Stretched, lends_octets};
+
+    ghost Value = { Stretched };
+
+    ghost view = { λ stretch. record { place = (stretch.position, drop stretch.position (bits_in stretch.bits)); lends = lends_octets stretch.bits } };
+
+    ghost invariant = { λ stretch. stretch.position ≤ length (bits_in stretch.bits) };
+}
+
+/// The bits, lent by what holds them.
+#[inline(always)]
+fn lent<'a>(bits: &'a RunBits<'_>) -> BitStr<'a>
+    ensures { bit_strs.bits_of result ≡ bits_in bits.now }
+{
+    match bits {
+        RunBits::Lent(bits) => *bits,
+        RunBits::Joined(bits) => bits.as_bitslice(),
+    }
+}
+
+/// The bits, held.
+fn held(alloc: Global, bits: RunBits<'_>) -> Result<BitBuffer, AllocError>
+    ensures { IfOk result (λ buffer. buffer ≡ bits_in bits.entry) }
+{
+    match bits {
+        RunBits::Lent(bits) => {
+            let mut buffer = BitBuffer::new(alloc);
+            buffer.extend_from_bitslice(bits)?;
+            Ok(buffer)
+        }
+        RunBits::Joined(buffer) => Ok(buffer),
+    }
+}
+
+/// The place behind so many of the bits.
+#[inline(always)]
+fn cursor_at<'a>(bits: BitStr<'a>, position: usize) -> Cursor<'a>
+    requires { position ≤ length (bit_strs.bits_of bits) }
+    ensures { result ≡ (position, drop position (bit_strs.bits_of bits.entry)) }
+{
+    let mut cursor = Cursor::from_bits(bits);
+    match cursor.take(position) {
+        Ok(_) | Err(_) => cursor,
+    }
+}
+
+/// Takes bits as a whole behind so many of the bits, and tells the position behind them. They are lent where the bits are, and held where
+/// those are.
+#[inline(always)]
+fn take_field<'input>(
+    alloc: Global,
+    bits: &RunBits<'input>,
+    position: usize,
+    variant: Variant,
+    field: Field,
+) -> Result<(RunBits<'input>, usize), DecodeError>
+    requires { position ≤ length (bits_in bits.now) }
+    ensures ok { IfOk result (λ taken. HasField (freedoms variant) (fronts.is_aligned variant) field (position, drop position (bits_in bits.now)) (bits_in taken.0) taken.1) }
+    ensures only { IfErr result (Misses (freedoms variant) (field_form (fronts.is_aligned variant) field) (position, drop position (bits_in bits.now))) }
+{
+    match bits {
+        RunBits::Lent(bits) => {
+            let mut cursor = cursor_at(*bits, position);
+            let taken = read_field(alloc, &mut cursor, variant, field)?;
+            Ok((taken, cursor.position()))
+        }
+        RunBits::Joined(bits) => {
+            let mut cursor = cursor_at(bits.as_bitslice(), position);
+            let taken = read_field(alloc, &mut cursor, variant, field)?;
+            let buffer = held(alloc, taken)?;
+            Ok((RunBits::Joined(buffer), cursor.position()))
+        }
+    }
+}
+
+impl<'input> Stretch<'input> {
+    /// Before these bits.
+    #[inline(always)]
+    pub fn new(bits: RunBits<'input>) -> Self
+        ensures { result ≡ record { place = (0, bits_in bits.entry); lends = lends_octets bits.entry } }
+    {
+        Stretch { bits, position: 0 }
+    }
+
+    /// Before these octets: an encoding has fewer than 2^60, and of more of them the first 2^60 - 1 alone are read.
+    #[inline(always)]
+    pub fn from_octets(input: &'input [u8]) -> Self
+        ensures place { result.place ≡ (0, octet_bits (take (2 ^ 60 - 1) input.entry.now)) }
+        ensures lends { result.lends ≡ true }
+    {
+        let count = input.len().min(MOST_OCTETS);
+        Stretch::new(RunBits::Lent(BitStr::from_slice(&input[..count])))
+    }
+
+    /// The place that is reached.
+    #[inline(always)]
+    pub fn cursor(&self) -> Cursor<'_>
+        ensures { result ≡ self.now.place }
+    {
+        cursor_at(lent(&self.bits), self.position)
+    }
+
+    /// All of the bits, where they are lent by the input.
+    #[inline(always)]
+    pub fn lent_bits(&self) -> Option<BitStr<'input>>
+        ensures stands { IfSome result (λ bits. StandsIn (bit_strs.bits_of bits) self.now.place) }
+        ensures lent { self.now.lends ≡ true → IsSomeAnd result (λ bits. bit_strs.offset_of bits ≡ 0) }
+    {
+        match &self.bits {
+            RunBits::Lent(bits) => Some(*bits),
+            RunBits::Joined(_) => None,
+        }
+    }
+
+    /// The unread bits.
+    #[inline(always)]
+    pub fn bits(&self) -> BitStr<'_>
+        ensures { bit_strs.bits_of result ≡ self.now.place.1 }
+    {
+        let (_read, unread) = lent(&self.bits).split_at(self.position);
+        unread
+    }
+
+    /// Goes on to a later position, which a reader reached that began at this place.
+    #[inline(always)]
+    pub fn move_to(&mut self, position: usize)
+        ensures place { (w : _) (b : Place) → b.0 ≡ position → Leads w self.old.place b → self.new.place ≡ b }
+        ensures lends { self.new.lends ≡ self.old.lends }
+    {
+        if position > lent(&self.bits).len() {
+            return;
+        }
+        self.position = position;
+    }
+
+    /// Takes the next bit, if there is one.
+    #[inline(always)]
+    pub fn next_bit(&mut self) -> Option<bool>
+        ensures some { IfSome result (λ bit. self.old.place.1 ≡ bit ∷ self.new.place.1) }
+        ensures none { IfNone result (self.old.place.1 ≡ []) }
+        ensures lends { self.new.lends ≡ self.old.lends }
+    {
+        let bits = lent(&self.bits);
+        if self.position >= bits.len() {
+            return None;
+        }
+        let unread = bits.split_at(self.position).1;
+        let bit = BitReader::new(unread).first_bit();
+        self.position += 1;
+        Some(bit)
+    }
+
+    /// Whether all bits are read.
+    #[inline(always)]
+    pub fn is_empty(&self) -> bool
+        ensures { IsTrue result ↔ (self.now.place.1 ≡ []) }
+    {
+        self.bits().is_empty()
+    }
+
+    /// Takes bits as a whole.
+    ///
+    /// # Errors
+    ///
+    /// `Incomplete` if the bits end early, the errors of a length, and `OutOfMemory`.
+    #[inline(always)]
+    pub fn take_field(
+        &mut self,
+        alloc: Global,
+        variant: Variant,
+        field: Field,
+    ) -> Result<Stretch<'input>, DecodeError>
+        ensures start { IfOk result (λ taken. taken.place.0 ≡ 0) }
+        ensures ok { IfOk result (λ taken. Front (freedoms variant) (field_form (fronts.is_aligned variant) field taken.place.1) self.old.place self.new.place) }
+        ensures lends { OnOk result (self.new.lends ≡ self.old.lends) }
+        ensures only { IfErr result (Misses (freedoms variant) (field_form (fronts.is_aligned variant) field) self.old.place) }
+    {
+        let (bits, position) = take_field(alloc, &self.bits, self.position, variant, field)?;
+        self.move_to(position);
+        Ok(Stretch::new(bits))
+    }
+}

@@ -1,0 +1,139 @@
+//! Character strings (X.691 30).
+ghost use Rattle.std.specs.Prelude.{◌≡◌, ◌*◌, ◌≤◌, ◌⊎◌, true, false, length, IfOk, IfErr};
+ghost use Rattle.std.specs.Cow.{cow_slice_items};
+ghost use Rattle.asn1_model.specs.Lawful.{is_alphabet};
+ghost use Rattle.asn1_model.specs.Per as Per;
+ghost use Rattle.asn1_model.specs.Schema as Asn1;
+ghost use Rattle.asn1_model.specs.Strings.{is_of_octets as holds_octets};
+ghost use Rattle.asn1_model.specs.Types.{any_count};
+ghost use Rattle.asn1_model.specs.Value as Asn1Value;
+ghost use Rattle.asn1_schema_constraints.specs.Terms.{alphabet_of, sizes_of};
+ghost use Rattle.per_codec_fronts.specs.Takes.{Front};
+ghost use Rattle.per_codec_reading.specs.Fronts.{freedoms, Misses};
+ghost use Rattle.per_codec_reading.specs.Fronts as fronts;
+ghost use Rattle.per_codec_reading_values.specs.Spelled.{Spells, Stuck, IsFitting};
+ghost use Rattle.per_codec_reading_units.specs.Runs.{bits_in};
+
+use crate::codes::string_of;
+use asn1_schema_bounds::Bounded;
+use asn1_schema_constraints::Constraints;
+use asn1_schema_faults::DecodeError;
+use asn1_values_alphabets::StaticPermittedAlphabet;
+use per_codec_alphabets::{EffectiveAlphabet, is_of_octets};
+use per_codec_reading::{Cursor, Variant};
+use per_codec_reading_units::{Contents, Run, RunBits, read_counted_octets, read_sized};
+use std::alloc::Global;
+
+/// The string of these octets, each of which is a character.
+fn string_of_octets<S: StaticPermittedAlphabet>(
+    alloc: Global,
+    octets: &[u8],
+) -> Result<S, DecodeError>
+    ensures characters { IfOk result (λ s. S.characters s ≡ octets.now) }
+    ensures refused { IfErr result (λ e. e ≡ DecodeError.OutOfMemory) }
+{
+    let Ok(mut string) = S::with_capacity(alloc, octets.len()) else {
+        return Err(DecodeError::OutOfMemory);
+    };
+    for octet in octets {
+        let Ok(()) = string.push_char(u32::from(*octet)) else {
+            return Err(DecodeError::OutOfMemory);
+        };
+    }
+    Ok(string)
+}
+
+/// Reads the octets of a string whose characters have no fixed width, behind their number (X.691 30).
+fn read_octets<S: StaticPermittedAlphabet>(
+    alloc: Global,
+    cursor: &mut Cursor<'_>,
+    variant: Variant,
+    _constraints: Constraints,
+) -> Result<S, DecodeError>
+    requires kind { holds_octets S.kind ≡ true }
+    ensures ok { IfOk result (λ s. Front (freedoms variant) (Per.form (fronts.is_aligned variant) (Asn1.character_string S.kind (sizes_of _constraints.entry.size) (alphabet_of _constraints.entry.permitted_alphabet) any_count) (Asn1Value.text (S.characters s))) cursor.old cursor.new) }
+    ensures only { IfErr result (Misses (freedoms variant) (Per.form (fronts.is_aligned variant) (Asn1.character_string S.kind (sizes_of _constraints.entry.size) (alphabet_of _constraints.entry.permitted_alphabet) any_count)) cursor.old) }
+{
+    let octets = read_counted_octets(alloc, cursor, variant)?;
+    match string_of_octets(alloc, octets.as_slice()) {
+        Ok(string) => Ok(string),
+        Err(_) => Err(DecodeError::OutOfMemory),
+    }
+}
+
+/// The string of the characters whose codes were read.
+fn string_of_run<S: StaticPermittedAlphabet>(
+    alloc: Global,
+    alphabet: &EffectiveAlphabet,
+    run: &Run<'_>,
+) -> Result<S, DecodeError>
+    requires narrow { alphabet.now.code_bits ≤ 32 }
+    requires whole { length (bits_in run.now.bits) ≡ run.now.count * alphabet.now.code_bits }
+    ensures count { IfOk result (λ s. length (S.characters s) ≡ run.now.count) }
+    ensures codes { IfOk result (λ s. Spells S.kind alphabet.now (S.characters s) (bits_in run.now.bits)) }
+    ensures refused { IfErr result (λ e. (e ≡ DecodeError.OutOfMemory) ⊎ (IsFitting alphabet.now → Stuck S.kind alphabet.now run.now.count (bits_in run.now.bits))) }
+{
+    let codes = match &run.bits {
+        RunBits::Lent(bits) => *bits,
+        RunBits::Joined(bits) => bits.as_bitslice(),
+    };
+    string_of(alloc, alphabet, codes, run.count)
+}
+
+/// Reads the characters of a string by their codes, behind their number (X.691 30.5).
+fn read_codes<S: StaticPermittedAlphabet>(
+    alloc: Global,
+    cursor: &mut Cursor<'_>,
+    variant: Variant,
+    constraints: Constraints,
+) -> Result<S, DecodeError>
+    requires kind { holds_octets S.kind ≡ false }
+    ensures ok { IfOk result (λ s. Front (freedoms variant) (Per.form (fronts.is_aligned variant) (Asn1.character_string S.kind (sizes_of constraints.entry.size) (alphabet_of constraints.entry.permitted_alphabet) any_count) (Asn1Value.text (S.characters s))) cursor.old cursor.new) }
+    ensures only { IfErr result (λ e. is_alphabet S.kind (alphabet_of constraints.entry.permitted_alphabet).characters ≡ true → Misses (freedoms variant) (Per.form (fronts.is_aligned variant) (Asn1.character_string S.kind (sizes_of constraints.entry.size) (alphabet_of constraints.entry.permitted_alphabet) any_count)) cursor.old e) }
+{
+    let alphabet = EffectiveAlphabet::new::<S>(
+        alloc,
+        variant.is_aligned(),
+        constraints.permitted_alphabet,
+    )?;
+    let width = alphabet.width();
+    if width > 16 {
+        return Err(DecodeError::PermittedAlphabet);
+    }
+    let run = read_sized(
+        alloc,
+        cursor,
+        variant,
+        constraints,
+        Bounded::None,
+        width,
+        Contents::Characters,
+    )?;
+    match string_of_run(alloc, &alphabet, &run) {
+        Ok(string) => Ok(string),
+        Err(error) => Err(error),
+    }
+}
+
+/// Reads a character string of a kind with an alphabet of its own (X.691 30), under a size constraint, which counts its characters, and a
+/// permitted alphabet.
+///
+/// # Errors
+///
+/// `PermittedAlphabet` if a code stands for no permitted character, or if the constraint's characters do not ascend and their codes need
+/// more than 16 bits; `SizeConstraintNotSatisfied` if the size does not admit as many, `Incomplete` if the bits end early, the errors of a
+/// number and of a length, and `OutOfMemory`.
+pub fn read_characters<S: StaticPermittedAlphabet>(
+    alloc: Global,
+    cursor: &mut Cursor<'_>,
+    variant: Variant,
+    constraints: Constraints,
+) -> Result<S, DecodeError>
+    ensures ok { IfOk result (λ s. Front (freedoms variant) (Per.form (fronts.is_aligned variant) (Asn1.character_string S.kind (sizes_of constraints.entry.size) (alphabet_of constraints.entry.permitted_alphabet) any_count) (Asn1Value.text (S.characters s))) cursor.old cursor.new) }
+    ensures only { IfErr result (λ e. is_alphabet S.kind (alphabet_of constraints.entry.permitted_alphabet).characters ≡ true → Misses (freedoms variant) (Per.form (fronts.is_aligned variant) (Asn1.character_string S.kind (sizes_of constraints.entry.size) (alphabet_of constraints.entry.permitted_alphabet) any_count)) cursor.old e) }
+{
+    if is_of_octets::<S>() {
+        return read_octets(alloc, cursor, variant, constraints);
+    }
+    read_codes(alloc, cursor, variant, constraints)
+}

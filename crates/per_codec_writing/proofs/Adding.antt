@@ -1,0 +1,32 @@
+-- Units one behind the other, and texts that are missing.
+use Rattle.std.proofs.Common.{◌≡◌, ℕ, Bool, List, [], ◌∷◌, ◌++◌, Option, Some, None, option_map, Result, Ok, Err, refl, ap, subst, sym, ◌∙◌}
+use Rattle.std.specs.Result.{IsErrAnd, MatchResult}
+use Rattle.asn1_model.specs.Form.{joined}
+use Rattle.asn1_schema_faults.specs.declared.EncodeError.{EncodeError}
+use Rattle.asn1_schema_faults.specs.declared.EncodeError.TheVariants.{OutOfMemory}
+use Rattle.per_codec_texts.specs.Texts.{Text, as_text, on, text_at}
+use Rattle.per_codec_texts.proofs.Texts.{as_text-append}
+use Rattle.per_codec_writing.specs.Writing.{Packed, Adds, Refuses, place, plus}
+use Rattle.per_codec_writing.proofs.FillingTexts.{adds_text}
+use Rattle.per_codec_writing.specs.Units.{together, forms_of}
+
+joined_text : (ts : List (List Bool)) (p : Option ℕ) → text_at (joined (forms_of ts)) p ≡ Some (as_text (together ts))
+unfolding text_at
+joined_text [] p = refl
+joined_text (t ∷ ts) p = ap (option_map (λ v. as_text t ++ v)) (joined_text ts (on p (as_text t))) ∙ ap Some (as_text-append t (together ts))
+
+pub adds_joined : (ts : List (List Bool)) (old new : Packed) → new ≡ plus old (as_text (together ts)) → Adds (text_at (joined (forms_of ts)) (place old)) old new
+adds_joined ts old new e = adds_text _ (as_text (together ts)) old new (joined_text ts (place old)) e
+
+-- where one text is missing, so is another
+pub refuses_also : (o o' : Option Text) (e : EncodeError) → (o ≡ None → o' ≡ None) → Refuses o e → Refuses o' e
+refuses_also o o' OutOfMemory h r = tt
+refuses_also o o' e h r = h r
+
+pub refuses_memory : (o : Option Text) (e : EncodeError) → e ≡ OutOfMemory → Refuses o e
+refuses_memory o e h = subst (Refuses o) (sym h) tt
+
+-- what a `?` passes on
+pub raised : (o o' : Option Text) (A : Unit {0} → Type 0) (x : EncodeError) (r : Result (Unit {0}) EncodeError) → IsErrAnd r (λ y. y ≡ x) → (o ≡ None → o' ≡ None) → Refuses o x → MatchResult r A (Refuses o')
+raised o o' A x (Ok v) h n p = absurd h
+raised o o' A x (Err y) h n p = refuses_also o o' y n (subst (Refuses o) (sym h) p)

@@ -1,0 +1,115 @@
+-- The texts of additions.
+use Rattle.std.proofs.Common.{◌≡◌, ℕ, zero, suc, ◌+◌, ◌-◌, ◌*◌, ◌^◌, ◌<◌, ◌≤◌, leb, Bool, true, false, not, ◌&&◌, List, [], ◌∷◌, ◌++◌, length, map, drop, get_or, drop-cons, Option, Some, None, refl, ap, subst, sym, ◌∙◌, arith}
+use Rattle.std.proofs.lemmas.Bool.{le-leb, leb-true}
+use Rattle.std.proofs.lemmas.List.{append-nil}
+use Rattle.asn1_model.specs.Form.{exactly, both, joined, is_present, present_ones}
+use Rattle.asn1_model.specs.Numbers.{binary}
+use Rattle.asn1_model.specs.Per
+use Rattle.asn1_values_bits.proofs.Binary.{binary_join}
+use Rattle.per_codec_texts.specs.Texts.{Text, as_text, text_at}
+use Rattle.per_codec_writing.specs.Writing.{Packed, Adds, place, plus}
+use Rattle.per_codec_writing.proofs.FillingTexts.{adds_text, adds_same, adds_both, if_true, cond_true, cond_false}
+use Rattle.per_codec_writing.specs.Units.{together, forms_of}
+use Rattle.per_codec_writing.proofs.Adding.{adds_joined}
+use Rattle.per_codec_writing.specs.Additions.{as_open_types}
+
+-- ---- bits as units
+
+abbrev pub alone : List Bool → List (List Bool)
+alone bs = map (λ b. b ∷ []) bs
+
+forms_of_bits : (bs : List Bool) → forms_of (alone bs) ≡ Per.bit_units bs
+forms_of_bits [] = refl
+forms_of_bits (b ∷ bs) = ap (λ us. exactly (b ∷ []) ∷ us) (forms_of_bits bs)
+
+bits_together : (bs : List Bool) → together (alone bs) ≡ bs
+bits_together [] = refl
+bits_together (b ∷ bs) = ap (λ l. b ∷ l) (bits_together bs)
+
+length_units : (bs : List Bool) → length (Per.bit_units bs) ≡ length bs
+length_units [] = refl
+length_units (b ∷ bs) = ap suc (length_units bs)
+
+-- ---- behind a normally small length
+
+few : (n : ℕ) → 1 ≤ n → n ≤ 64 → Per.is_from_1_to_64 n ≡ true
+few n a b = ap (λ t. t && leb n 64) (le-leb 1 n a) ∙ le-leb n 64 b
+
+six_bits : (n : ℕ) → n < 64 → binary 7 n ≡ false ∷ binary 6 n
+six_bits n h = let e : 0 * 2 ^ 6 + n ≡ n = omega arith in sym (binary_join 1 6 0 n h ∙ ap (λ k. binary 7 k) e)
+
+pub adds_few : (al : Bool) (bs : List Bool) (n : ℕ) (old mid new : Packed) → n ≡ length bs → 1 ≤ n → n ≤ 64 → mid ≡ plus old (as_text (binary 7 (n - 1))) → new ≡ plus mid (as_text bs) → Adds (text_at (Per.normally_few al (Per.bit_units bs)) (place old)) old new
+unfolding Per.normally_few text_at
+adds_few al bs n old mid new e a b x y =
+    let m : length (Per.bit_units bs) ≡ n = length_units bs ∙ sym e in
+    let t : Per.is_from_1_to_64 (length (Per.bit_units bs)) ≡ true = ap Per.is_from_1_to_64 m ∙ few n a b in
+    let six : binary 7 (n - 1) ≡ false ∷ binary 6 (length (Per.bit_units bs) - 1) = six_bits (n - 1) (omega (arith, a, b)) ∙ ap (λ k. false ∷ binary 6 (k - 1)) (sym m) in
+    adds_same _ _ old new
+    (cond_false (not (Per.is_from_1_to_64 (length (Per.bit_units bs)))) _ _ (place old) (ap not t) ∙ if_true (Per.is_from_1_to_64 (length (Per.bit_units bs))) _ (place old) t)
+    (adds_both (exactly (false ∷ binary 6 (length (Per.bit_units bs) - 1))) (joined (Per.bit_units bs)) old mid new
+    (adds_text _ (as_text (false ∷ binary 6 (length (Per.bit_units bs) - 1))) old mid refl (x ∙ ap (λ l. plus old (as_text l)) six))
+    (subst (λ us. Adds (text_at (joined us) (place mid)) mid new) (forms_of_bits bs) (adds_joined (alone bs) mid new (y ∙ ap (λ l. plus mid (as_text l)) (sym (bits_together bs))))))
+
+many : (n : ℕ) → (1 ≤ n → 64 < n) → Per.is_from_1_to_64 n ≡ false
+many n h = go (leb 1 n) (leb n 64) refl refl
+  where
+    go : (a b : Bool) → leb 1 n ≡ a → leb n 64 ≡ b → (a && b) ≡ false
+    go false b x y = refl
+    go true false x y = refl
+    go true true x y = absurd (omega (arith, h, leb-true 1 n x, leb-true n 64 y))
+
+pub adds_many : (al : Bool) (bs : List Bool) (n : ℕ) (old mid new : Packed) → n ≡ length bs → (1 ≤ n → 64 < n) → mid ≡ plus old (as_text (true ∷ [])) → Adds (text_at (Per.counted al (forms_of (alone bs))) (place mid)) mid new → Adds (text_at (Per.normally_few al (Per.bit_units bs)) (place old)) old new
+unfolding Per.normally_few text_at
+adds_many al bs n old mid new e h x y =
+    let m : length (Per.bit_units bs) ≡ n = length_units bs ∙ sym e in
+    let t : Per.is_from_1_to_64 (length (Per.bit_units bs)) ≡ false = ap Per.is_from_1_to_64 m ∙ many n h in
+    adds_same _ _ old new
+    (cond_true (not (Per.is_from_1_to_64 (length (Per.bit_units bs)))) _ _ (place old) (ap not t))
+    (adds_both (exactly (true ∷ [])) (Per.counted al (Per.bit_units bs)) old mid new (adds_text _ (as_text (true ∷ [])) old mid refl x) (subst (λ us. Adds (text_at (Per.counted al us) (place mid)) mid new) (forms_of_bits bs) y))
+
+-- ---- additions
+
+flags_of : (al : Bool) (slots : List (Option (List Bool))) → map Per.flag (as_open_types al slots) ≡ Per.bit_units (map is_present slots)
+flags_of al [] = refl
+flags_of al (None ∷ slots) = ap (λ us. exactly (false ∷ []) ∷ us) (flags_of al slots)
+flags_of al (Some w ∷ slots) = ap (λ us. exactly (true ∷ []) ∷ us) (flags_of al slots)
+
+-- the bits of those that are there, one behind the other
+abbrev pub Present : Bool → List (Option (List Bool)) → Packed → Packed → Type 0
+Present al slots old new = Adds (text_at (joined (present_ones (as_open_types al slots))) (place old)) old new
+
+pub present_none : (al : Bool) (old : Packed) → Present al [] old old
+unfolding text_at
+present_none al old = adds_text _ [] old old refl (ap (λ t. let q : Packed = record { text = t; placed = old.placed } in q) (sym (append-nil old.text)))
+
+pub present_on : (al : Bool) (o : Option (List Bool)) (slots : List (Option (List Bool))) (w : List Bool) (old mid new : Packed) → o ≡ Some w → Adds (text_at (Per.open_type al (exactly w)) (place old)) old mid → Present al slots mid new → Present al (o ∷ slots) old new
+present_on al None slots w old mid new e a b = cc
+present_on al (Some v) slots w old mid new e a b =
+    let same : w ≡ v = cc e in
+    adds_both (Per.open_type al (exactly v)) (joined (present_ones (as_open_types al slots))) old mid new (subst (λ l. Adds (text_at (Per.open_type al (exactly l)) (place old)) old mid) same a) b
+
+pub present_past : (al : Bool) (o : Option (List Bool)) (slots : List (Option (List Bool))) (old new : Packed) → o ≡ None → Present al slots old new → Present al (o ∷ slots) old new
+present_past al None slots old new e b = b
+present_past al (Some v) slots old new e b = cc
+
+pub adds_additions : (al : Bool) (slots : List (Option (List Bool))) (bitmap : List Bool) (old mid new : Packed) → bitmap ≡ map is_present slots → Adds (text_at (Per.normally_few al (Per.bit_units bitmap)) (place old)) old mid → Present al slots mid new → Adds (text_at (Per.additions al (as_open_types al slots)) (place old)) old new
+unfolding Per.additions
+adds_additions al slots bitmap old mid new e a b =
+    adds_both (Per.normally_few al (map Per.flag (as_open_types al slots))) (joined (present_ones (as_open_types al slots))) old mid new
+    (adds_same _ _ old mid (ap (λ us. text_at (Per.normally_few al us) (place old)) (flags_of al slots) ∙ ap (λ l. text_at (Per.normally_few al (Per.bit_units l)) (place old)) (sym e)) a) b
+
+-- ---- one after another
+
+pub from_here : {X : Type 0} (xs : List X) (i : ℕ) (x : X) → i < length xs → x ≡ get_or xs i x → drop i xs ≡ x ∷ drop (i + 1) xs
+from_here xs i x h e =
+    let one : suc i ≡ i + 1 = omega arith in
+    drop-cons xs i x h ∙ ap (λ y. y ∷ drop (suc i) xs) (sym e) ∙ ap (λ k. x ∷ drop k xs) one
+
+pub all_passed : (al : Bool) (slots : List (Option (List Bool))) (i : ℕ) (old : Packed) → length slots ≤ i → Present al (drop i slots) old old
+all_passed al slots i old h = subst (λ l. Present al l old old) (sym (drop_all slots i h)) (present_none al old)
+  where
+    drop_all : (xs : List (Option (List Bool))) (n : ℕ) → length xs ≤ n → drop n xs ≡ []
+    drop_all [] zero h = refl
+    drop_all [] (suc n) h = refl
+    drop_all (x ∷ xs) zero h = absurd (omega arith)
+    drop_all (x ∷ xs) (suc n) h = drop_all xs n (omega arith)

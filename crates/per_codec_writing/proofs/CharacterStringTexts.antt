@@ -1,0 +1,42 @@
+-- Character strings as units of a size.
+use Rattle.std.proofs.Common.{◌≡◌, ℕ, Option, Bool, true, false, ◌&&◌, List, length, map, None, ap, sym, ◌∙◌, arith}
+use Rattle.std.proofs.lemmas.Bool.{le-leb}
+use Rattle.asn1_model.specs.Form.{only_if}
+use Rattle.asn1_model.specs.Numbers.{is_count_within}
+use Rattle.asn1_model.specs.Schema.{Size, Counts, Alphabet, StringKind, character_string}
+use Rattle.asn1_model.specs.Strings.{Run, is_of_octets, may_hold, permitted, each_is}
+use Rattle.asn1_model.specs.Types.{any_count}
+use Rattle.asn1_model.specs.Value.{text}
+use Rattle.asn1_model.specs.Per
+use Rattle.per_codec_alphabets.specs.Codes.{Coded, SameCharacters}
+use Rattle.per_codec_texts.specs.Texts.{text_at}
+use Rattle.per_codec_writing.proofs.FillingTexts.{if_true, cond_true, cond_false}
+use Rattle.per_codec_writing.specs.Units.{forms_of}
+use Rattle.per_codec_writing.proofs.Sizes.{sized_padded}
+use Rattle.per_codec_writing.specs.Characters.{has_code, texts_of}
+use Rattle.per_codec_writing.proofs.CharacterTexts.{forms, no_form}
+use Rattle.per_codec_writing.proofs.Refused.{none_sized}
+
+module _ (al : Bool) (z : Size) (h : Counts) (rs : List Run) (a : Coded) (cs : List ℕ) (s : SameCharacters a.runs rs) (b : a.code_bits ≡ Per.character_bits al rs) where
+  of_width : Per.characters al z h rs cs ≡ Per.sized al z h (Per.pads_characters a.code_bits (length cs)) (map (Per.character a.code_bits rs) cs)
+  unfolding Per.characters
+  of_width = ap (λ n. Per.sized al z h (Per.pads_characters n (length cs)) (map (Per.character n rs) cs)) (sym b)
+
+  pub coded_text : (pads : Bool) (p : Option ℕ) → each_is (has_code a) cs ≡ true → pads ≡ Per.pads_characters a.code_bits (length cs) z.counts → text_at (Per.characters al z h rs cs) p ≡ text_at (Per.sized al z h (λ _. pads) (forms_of (texts_of a cs))) p
+  coded_text pads p t e =
+      ap (λ x. text_at x p) (of_width ∙ ap (λ us. Per.sized al z h (Per.pads_characters a.code_bits (length cs)) us) (forms a rs cs s t) ∙ sized_padded al z h (Per.pads_characters a.code_bits (length cs)) (λ _. pads) (forms_of (texts_of a cs)) (sym e))
+
+  pub coded_none : (p : Option ℕ) → each_is (has_code a) cs ≡ false → text_at (Per.characters al z h rs cs) p ≡ None
+  coded_none p t = ap (λ x. text_at x p) of_width ∙ none_sized (Per.character a.code_bits rs) (has_code a) (λ c e q. no_form a rs c q s e) al z h (Per.pads_characters a.code_bits (length cs)) cs t p
+
+any_held : (n : ℕ) → is_count_within any_count n ≡ true
+any_held n = ap (λ b. b && true) (le-leb 0 n (omega arith))
+
+module _ (al : Bool) (k : StringKind) (z : Size) (l : Alphabet) (cs : List ℕ) (p : Option ℕ) (m : may_hold k cs ≡ true) where
+  pub string_of_octets : is_of_octets k ≡ true → text_at (Per.form al (character_string k z l any_count) (text cs)) p ≡ text_at (Per.counted_octets al cs) p
+  unfolding Per.form Per.string_form
+  string_of_octets o = if_true (may_hold k cs) _ p m ∙ cond_true (is_of_octets k) (only_if (is_count_within any_count (length cs)) (Per.counted_octets al cs)) (Per.characters al z any_count (permitted k l) cs) p o ∙ if_true (is_count_within any_count (length cs)) (Per.counted_octets al cs) p (any_held (length cs))
+
+  pub string_of_codes : is_of_octets k ≡ false → text_at (Per.form al (character_string k z l any_count) (text cs)) p ≡ text_at (Per.characters al z any_count (permitted k l) cs) p
+  unfolding Per.form Per.string_form
+  string_of_codes o = if_true (may_hold k cs) _ p m ∙ cond_false (is_of_octets k) (only_if (is_count_within any_count (length cs)) (Per.counted_octets al cs)) (Per.characters al z any_count (permitted k l) cs) p o

@@ -1,0 +1,78 @@
+-- The texts of characters, one behind the other.
+use Rattle.std.proofs.Common.{◌≡◌, ℕ, zero, suc, ◌+◌, ◌-◌, ◌^◌, ◌<◌, ◌≤◌, ltb, Bool, true, false, cond, List, [], ◌∷◌, ◌++◌, length, map, take, drop, get_or, slice_range, Option, Some, None, option_map, refl, ap, sym, ◌∙◌, append_assoc, arith}
+use Rattle.std.specs.Prelude.{is_some, unwrap_or}
+use Rattle.std.proofs.lemmas.Bool.{and_parts}
+use Rattle.std.proofs.lemmas.List.{take_more, get_or-drop}
+use Rattle.asn1_model.specs.Form.{exactly, given}
+use Rattle.asn1_model.specs.Numbers.{binary}
+use Rattle.asn1_model.specs.Per
+use Rattle.asn1_model.specs.Strings.{Run, largest, place_of, each_is}
+use Rattle.per_codec_alphabets.specs.Codes.{Coded, SameCharacters}
+use Rattle.per_codec_texts.specs.Texts.{as_text, text_at}
+use Rattle.per_codec_texts.proofs.Texts.{as_text-append}
+use Rattle.per_codec_packing.proofs.Adding.{plus_both}
+use Rattle.per_codec_writing.specs.Writing.{Packed, plus}
+use Rattle.per_codec_writing.specs.Units.{together, forms_of}
+use Rattle.per_codec_writing.specs.Characters.{has_code, text_of, texts_of}
+
+-- ---- one text more
+together_end : (ts : List (List Bool)) (t : List Bool) → together (ts ++ t ∷ []) ≡ together ts ++ t
+together_end [] t = nothing t
+  where
+    nothing : (t : List Bool) → t ++ [] ≡ t
+    nothing [] = refl
+    nothing (b ∷ bs) = ap (λ l. b ∷ l) (nothing bs)
+together_end (s ∷ ts) t = ap (λ l. s ++ l) (together_end ts t) ∙ sym (append_assoc s (together ts) t)
+
+map_at : (a : Coded) (cs : List ℕ) (i : ℕ) → i < length cs → get_or (texts_of a cs) i [] ≡ text_of a (get_or cs i 0)
+map_at a [] i h = absurd (omega arith)
+map_at a (c ∷ cs) zero h = refl
+map_at a (c ∷ cs) (suc i) h = map_at a cs i (omega arith)
+
+pub length-texts : (a : Coded) (cs : List ℕ) → length (texts_of a cs) ≡ length cs
+length-texts a [] = refl
+length-texts a (c ∷ cs) = ap suc (length-texts a cs)
+
+length_left : (ts : List (List Bool)) (n : ℕ) → length (drop n ts) ≡ length ts - n
+length_left ts zero = omega arith
+length_left [] (suc n) = omega arith
+length_left (t ∷ ts) (suc n) = let i = length_left ts n in omega arith
+
+pub one_more : (a : Coded) (cs : List ℕ) (from i c : ℕ) (old now new : Packed) → from ≤ i → i < length cs → c ≡ get_or cs i 0 → now ≡ plus old (as_text (together (slice_range (texts_of a cs) from i))) → new ≡ plus now (as_text (text_of a c)) → new ≡ plus old (as_text (together (slice_range (texts_of a cs) from (i + 1))))
+one_more a cs from i c old now new l h e f g =
+    let ts = texts_of a cs in
+    let n = length-texts a cs in
+    let m = length_left ts from in
+    let j : i + 1 - from ≡ i - from + 1 = omega arith in
+    let k : from + (i - from) ≡ i = omega arith in
+    let within : i - from < length (drop from ts) = omega arith in
+    let at : get_or (drop from ts) (i - from) [] ≡ text_of a c = get_or-drop from ts (i - from) [] ∙ ap (λ p. get_or ts p []) k ∙ map_at a cs i h ∙ ap (text_of a) (sym e) in
+    let more : slice_range ts from (i + 1) ≡ slice_range ts from i ++ text_of a c ∷ [] = ap (λ p. take p (drop from ts)) j ∙ take_more (drop from ts) (i - from) [] within ∙ ap (λ t. slice_range ts from i ++ t ∷ []) at in
+    g ∙ ap (λ w. plus w (as_text (text_of a c))) f ∙ plus_both old (as_text (together (slice_range ts from i))) (as_text (text_of a c))
+    ∙ ap (λ t. plus old t) (as_text-append (together (slice_range ts from i)) (text_of a c))
+    ∙ ap (λ w. plus old (as_text w)) (sym (together_end (slice_range ts from i) (text_of a c)) ∙ ap together (sym more))
+
+-- ---- characters of an alphabet have these texts
+abbrev by_place : ℕ → ℕ → ℕ → Option ℕ → Per.BitForm
+by_place n b c o = given o (λ i. exactly (binary b (cond (ltb n (2 ^ b)) c i)))
+
+coded_form : (n b c : ℕ) (o : Option ℕ) → is_some (option_map (λ i. cond (ltb n (2 ^ b)) c i) o) ≡ true → by_place n b c o ≡ exactly (binary b (unwrap_or (option_map (λ i. cond (ltb n (2 ^ b)) c i) o) 0))
+coded_form n b c (Some i) e = refl
+coded_form n b c None e = cc
+
+one_form : (a : Coded) (rs : List Run) (c : ℕ) → SameCharacters a.runs rs → has_code a c ≡ true → Per.character a.code_bits rs c ≡ exactly (text_of a c)
+unfolding Per.character
+one_form a rs c s h = ap (by_place (largest rs) a.code_bits c) (sym (s.places c)) ∙ ap (λ n. by_place n a.code_bits c (place_of c a.runs)) (sym s.greatest) ∙ coded_form (largest a.runs) a.code_bits c (place_of c a.runs) h
+
+pub forms : (a : Coded) (rs : List Run) (cs : List ℕ) → SameCharacters a.runs rs → each_is (has_code a) cs ≡ true → map (Per.character a.code_bits rs) cs ≡ forms_of (texts_of a cs)
+forms a rs [] s h = refl
+forms a rs (c ∷ cs) s h = let p = and_parts _ _ h in ap (λ x. x ∷ map (Per.character a.code_bits rs) cs) (one_form a rs c s p.0) ∙ ap (λ l. exactly (text_of a c) ∷ l) (forms a rs cs s p.1)
+
+-- ---- other characters have no form
+no_place : (t : Bool) (c : ℕ) (o : Option ℕ) → is_some (option_map (λ i. cond t c i) o) ≡ false → o ≡ None
+no_place t c None e = refl
+no_place t c (Some i) e = cc
+
+pub no_form : (a : Coded) (rs : List Run) (c : ℕ) (p : Option ℕ) → SameCharacters a.runs rs → has_code a c ≡ false → text_at (Per.character a.code_bits rs c) p ≡ None
+unfolding Per.character text_at
+no_form a rs c p s h = ap (λ o. text_at (by_place (largest rs) a.code_bits c o) p) (sym (s.places c) ∙ no_place (ltb (largest a.runs) (2 ^ a.code_bits)) c (place_of c a.runs) h)

@@ -1,0 +1,45 @@
+-- The texts of open types.
+use Rattle.std.proofs.Common.{◌≡◌, ℕ, ◌+◌, ◌-◌, ◌*◌, ◌/◌, ◌%◌, ◌==◌, Bool, true, false, List, [], ◌∷◌, ◌++◌, length, replicate, Option, Some, None, option_map, option_and_then, refl, ap, subst, sym, ◌∙◌, arith, length-append}
+use Rattle.std.proofs.lemmas.Bool.{eq-eqb}
+use Rattle.std.proofs.lemmas.List.{append-nil, length-replicate}
+use Rattle.asn1_model.specs.Form.{exactly, only_if, written}
+use Rattle.asn1_model.specs.Numbers.{missing, packed}
+use Rattle.asn1_model.specs.Per
+use Rattle.asn1_model.specs.Strings.{each_is, is_octet}
+use Rattle.asn1_laws.proofs.Octets.{eights_units, packed_octets}
+use Rattle.asn1_values_bits.specs.Octets.{filled_up}
+use Rattle.per_codec_texts.specs.Texts.{Text, as_text, text_at}
+use Rattle.per_codec_writing.specs.Writing.{Packed, Adds, place, plus}
+use Rattle.per_codec_writing.proofs.FillingTexts.{adds_same, if_true}
+
+open_text : (al : Bool) (w z : List Bool) (k : ℕ) (p : Option ℕ) → written (Per.filled_up w) 0 ≡ Some z → length z ≡ 8 * k → text_at (Per.open_type al (exactly w)) p ≡ text_at (Per.counted_octets al (packed z)) p
+unfolding Per.open_type Per.complete Per.counted_octets written text_at
+open_text al w z k p e n =
+    ap (option_and_then (λ (y : List Bool). text_at (Per.counted_eights al (y ++ [])) p)) e
+    ∙ ap (λ y. text_at (Per.counted_eights al y) p) (append-nil z)
+    ∙ ap (λ us. text_at (Per.counted al us) p) (eights_units k z n)
+    ∙ sym (if_true (each_is is_octet (packed z)) (Per.counted al (Per.octet_units (packed z))) p (packed_octets k z n))
+
+filling_written : (n p : ℕ) → written (Per.filling n) p ≡ Some (replicate n false)
+unfolding Per.filling written
+filling_written n p = let h : (length (replicate n false) == n) ≡ true = eq-eqb _ _ (length-replicate n false) in ap (λ (t : Bool). written (only_if {F = Per.Freedom} {D = Per.Detail} t (exactly (replicate n false))) p) h
+
+filled : (b : Bool) (bs : List Bool) → written (Per.filled_up (b ∷ bs)) 0 ≡ Some (filled_up (b ∷ bs))
+unfolding Per.filled_up written
+filled b bs = ap (option_map (λ d. (b ∷ bs) ++ d)) (filling_written (missing (length (b ∷ bs))) _)
+
+filled_none : written (Per.filled_up []) 0 ≡ Some (replicate 8 false)
+unfolding Per.filled_up written
+filled_none = refl
+
+pub adds_open_none : (al : Bool) (w : List Bool) (os : List ℕ) (old new : Packed) → w ≡ [] → os ≡ 0 ∷ [] → Adds (text_at (Per.counted_octets al os) (place old)) old new → Adds (text_at (Per.open_type al (exactly w)) (place old)) old new
+adds_open_none al w os old new e f a =
+    adds_same _ _ old new (ap (λ l. text_at (Per.open_type al (exactly l)) (place old)) e ∙ open_text al [] (replicate 8 false) 1 (place old) filled_none refl ∙ ap (λ l. text_at (Per.counted_octets al l) (place old)) (sym f)) a
+
+length_filled : (w : List Bool) → length (filled_up w) ≡ 8 * ((length w + missing (length w)) / 8)
+length_filled w = omega (arith, length-append w (replicate (missing (length w)) false), length-replicate (missing (length w)) false)
+
+pub adds_open_some : (al : Bool) (w : List Bool) (os : List ℕ) (old new : Packed) → (w ≡ [] → ⊥) → os ≡ packed (filled_up w) → Adds (text_at (Per.counted_octets al os) (place old)) old new → Adds (text_at (Per.open_type al (exactly w)) (place old)) old new
+adds_open_some al [] os old new n e a = absurd (n refl)
+adds_open_some al (b ∷ bs) os old new n e a =
+    adds_same _ _ old new (open_text al (b ∷ bs) (filled_up (b ∷ bs)) _ (place old) (filled b bs) (length_filled (b ∷ bs)) ∙ ap (λ l. text_at (Per.counted_octets al l) (place old)) (sym e)) a

@@ -1,0 +1,75 @@
+-- The texts of places.
+use Rattle.std.proofs.Common.{◌≡◌, ℕ, ◌-◌, ℤ, Bool, true, false, not, List, [], ◌∷◌, ◌++◌, length, Option, Some, None, refl, ap, subst, sym, ◌∙◌}
+use Rattle.std.specs.Prelude.{Result, MatchOption, is_some}
+use Rattle.std.proofs.lemmas.List.{append-nil}
+use Rattle.asn1_model.specs.Form.{exactly, both}
+use Rattle.asn1_model.specs.Schema.{enumerated}
+use Rattle.asn1_model.specs.Tables.{item_place}
+use Rattle.asn1_model.specs.Value.{item}
+use Rattle.asn1_model.specs.Per
+use Rattle.asn1_schema_faults.specs.declared.EncodeError.{EncodeError}
+use Rattle.asn1_schema_variants.specs.Items.{IsPlaced}
+use Rattle.per_codec_texts.specs.Texts.{Text, as_text, text_at}
+use Rattle.per_codec_writing.specs.Writing.{Packed, Adds, place, plus}
+use Rattle.per_codec_writing.proofs.FillingTexts.{adds_text, adds_both}
+use Rattle.per_codec_writing.proofs.NumberTexts.{Did, did_same, did_behind}
+use Rattle.per_codec_writing.specs.Places.{place_form}
+
+-- ---- marks
+
+pub no_mark : (e m : Bool) (old : Packed) → e ≡ false → Adds (text_at (Per.mark_of e m) (place old)) old old
+unfolding text_at
+no_mark false m old h = ap (λ t. let q : Packed = record { text = t; placed = old.placed } in Some q) (append-nil old.text)
+no_mark true m old h = cc
+
+pub adds_mark : (e m : Bool) (old new : Packed) → e ≡ true → new ≡ plus old (as_text (m ∷ [])) → Adds (text_at (Per.mark_of e m) (place old)) old new
+unfolding text_at
+adds_mark false m old new h e = cc
+adds_mark true m old new h e = ap Some (sym e)
+
+-- ---- places
+
+pub turned_false : (b : Bool) → not b ≡ true → b ≡ false
+turned_false true h = sym h
+turned_false false h = refl
+
+pub turned_true : (b : Bool) → not b ≡ false → b ≡ true
+turned_true true h = refl
+turned_true false h = sym h
+
+pub did_root : {T : Type 0} (r : Result T EncodeError) (al e added : Bool) (n i : ℕ) (old mid new : Packed) → added ≡ false → Adds (text_at (Per.mark_of e false) (place old)) old mid → Did r (text_at (Per.constrained al (n - 1) i) (place mid)) mid new → Did r (text_at (place_form al n e added i) (place old)) old new
+did_root r al e false n i old mid new h a d = did_behind r (Per.mark_of e false) (Per.constrained al (n - 1) i) old mid new a d
+did_root r al e true n i old mid new h a d = cc
+
+pub adds_added : (al e added : Bool) (n i : ℕ) (old mid new : Packed) → added ≡ true → e ≡ true → mid ≡ plus old (as_text (true ∷ [])) → Adds (text_at (Per.normally_small al i) (place mid)) mid new → Adds (text_at (place_form al n e added i) (place old)) old new
+unfolding text_at
+adds_added al true true n i old mid new h k e a = adds_both (exactly (true ∷ [])) (Per.normally_small al i) old mid new (adds_text _ (as_text (true ∷ [])) old mid refl e) a
+adds_added al true false n i old mid new h k e a = cc
+adds_added al false added n i old mid new h k e a = cc
+
+pub none_added : (al e added : Bool) (n i : ℕ) (p : Option ℕ) → added ≡ true → e ≡ false → text_at (place_form al n e added i) p ≡ None
+unfolding text_at
+none_added al false true n i p h k = refl
+none_added al false false n i p h k = cc
+none_added al true added n i p h k = cc
+
+-- ---- items
+
+item_text : (al e added : Bool) (roots others : List ℤ) (v : ℤ) (i : ℕ) (p : Option ℕ) → IsPlaced roots e others v added i → text_at (Per.form al (enumerated roots e others) (item v)) p ≡ text_at (place_form al (length roots) e added i) p
+unfolding Per.form Per.item_form Per.added_item
+item_text al e false roots others v i p h = ap (λ o. text_at (Per.item_form al (length roots) e o (item_place v others)) p) h
+item_text al e true roots others v i p h =
+    ap (λ o. text_at (Per.item_form al (length roots) e o (item_place v others)) p) h.0
+    ∙ ap (λ o. text_at (Per.added_item al e o) p) h.2
+    ∙ ap (λ b. text_at (Per.added_item al b (Some i)) p) h.1
+    ∙ ap (λ b. text_at (place_form al (length roots) b true i) p) (sym h.1)
+
+pub did_item : {T : Type 0} (r : Result T EncodeError) (al e ext added : Bool) (n : ℕ) (roots others : List ℤ) (v : ℤ) (i : ℕ) (old new : Packed) → n ≡ length roots → ext ≡ e → IsPlaced roots e others v added i → Did r (text_at (place_form al n ext added i) (place old)) old new → Did r (text_at (Per.form al (enumerated roots e others) (item v)) (place old)) old new
+did_item r al e ext added n roots others v i old new a b h d =
+    did_same r _ (text_at (place_form al n ext added i) (place old)) old new
+    (item_text al e added roots others v i (place old) h ∙ ap (λ m. text_at (place_form al m e added i) (place old)) (sym a) ∙ ap (λ x. text_at (place_form al n x added i) (place old)) (sym b)) d
+
+-- a table is there just where there is a mark
+pub is_extensible : {X : Type 0} (o : Option X) (e : Bool) (P : X → Type 0) → MatchOption o (e ≡ false) (λ x. (e ≡ true) × P x) → is_some o ≡ e
+is_extensible None e P h = sym h
+is_extensible (Some x) e P h = sym h.0

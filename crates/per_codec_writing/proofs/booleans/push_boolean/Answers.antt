@@ -1,0 +1,5 @@
+use Rattle.per_codec_writing.proofs.NumberTexts.{adds_truth}
+use Rattle.per_codec_writing.proofs.booleans.push_boolean.Goals as goal
+
+pub returns : goal.returns
+returns c = adds_truth c.args.aligned c.args.value c.args.output.now c.push.new.self c.in_ok-push.ensures.ok

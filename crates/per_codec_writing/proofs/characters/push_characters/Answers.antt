@@ -1,0 +1,34 @@
+use Rattle.std.proofs.Common.{◌≡◌, true, sym, ◌∙◌}
+use Rattle.std.proofs.lemmas.Result.{err_from_is_err_and}
+use Rattle.asn1_model.specs.Strings.{may_hold}
+use Rattle.asn1_schema_constraints.specs.Terms.{sizes_of, alphabet_of}
+use Rattle.per_codec_writing.specs.Writing.{place}
+use Rattle.per_codec_writing.proofs.FillingTexts.{adds_same}
+use Rattle.per_codec_writing.proofs.Adding.{refuses_also}
+use Rattle.per_codec_writing.proofs.CharacterStringTexts.{string_of_octets, string_of_codes}
+use Rattle.per_codec_writing.proofs.characters.push_characters.Goals as goal
+
+pub returns-then-is_of_octets : goal.returns-then-is_of_octets
+returns-then-is_of_octets g c =
+    let k = g.S.StaticPermittedAlphabet.kind in
+    let cs = g.S.StaticPermittedAlphabet.characters c.args.value.now in
+    let holds : may_hold k cs ≡ true = g.met.S.StaticPermittedAlphabet.holds cs ∙ c.char_count-count.ensures.permitted in
+    let same = string_of_octets c.args.aligned k (sizes_of c.args.constraints.size) (alphabet_of c.args.constraints.permitted_alphabet) cs (place c.args.output.now) holds (sym c.if-is_of_octets.ensures) in
+    adds_same _ _ c.args.output.now c.push_octets.new.output same c.in_ok-push_octets.ensures
+
+pub returns-in_err-push_codes : goal.returns-in_err-push_codes
+returns-in_err-push_codes g c =
+    let p = err_from_is_err_and c.from_residual-in_err-push_codes.result c.from_residual-in_err-push_codes.ensures.1 in
+    let k = g.S.StaticPermittedAlphabet.kind in
+    let cs = g.S.StaticPermittedAlphabet.characters c.args.value.now in
+    let holds : may_hold k cs ≡ true = g.met.S.StaticPermittedAlphabet.holds cs ∙ c.char_count-count.ensures.permitted in
+    let same = string_of_codes c.args.aligned k (sizes_of c.args.constraints.size) (alphabet_of c.args.constraints.permitted_alphabet) cs (place c.args.output.now) holds (sym c.if-is_of_octets.ensures) in
+    rw (p.1, p.2) (refuses_also _ _ _ (λ e. same ∙ e) c.in_err-push_codes.ensures)
+
+pub returns : goal.returns
+returns g c =
+    let k = g.S.StaticPermittedAlphabet.kind in
+    let cs = g.S.StaticPermittedAlphabet.characters c.args.value.now in
+    let holds : may_hold k cs ≡ true = g.met.S.StaticPermittedAlphabet.holds cs ∙ c.char_count-count.ensures.permitted in
+    let same = string_of_codes c.args.aligned k (sizes_of c.args.constraints.size) (alphabet_of c.args.constraints.permitted_alphabet) cs (place c.args.output.now) holds (sym c.if-is_of_octets.ensures) in
+    adds_same _ _ c.args.output.now c.push_codes.new.output same c.in_ok-push_codes.ensures

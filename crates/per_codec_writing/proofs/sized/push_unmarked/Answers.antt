@@ -1,0 +1,34 @@
+use Rattle.std.proofs.Common.{Bool, false, refl, ap, sym, ◌∙◌}
+use Rattle.asn1_model.specs.Numbers.{is_count_within}
+use Rattle.asn1_model.specs.Per
+use Rattle.asn1_model.specs.Schema.{Counts}
+use Rattle.asn1_schema_bounds.specs.Bounds.{counts_of, upper}
+use Rattle.per_codec_writing.specs.Writing.{place}
+use Rattle.per_codec_writing.proofs.FillingTexts.{adds_same}
+use Rattle.per_codec_writing.specs.Units.{forms_of}
+use Rattle.per_codec_writing.proofs.Adding.{raised}
+use Rattle.per_codec_writing.proofs.Sizes.{unmarked_text, unmarked_none}
+use Rattle.per_codec_writing.proofs.sized.push_unmarked.Goals as goal
+
+pub returns-then-not-contains : goal.returns-then-not-contains
+returns-then-not-contains g c =
+    let us = forms_of (g.U.Units.texts c.args.units.now) in
+    let pads : Counts → Bool = λ x. c.args.pads in
+    let inside = c.contains.ensures ∙ ap (is_count_within (counts_of c.args.range)) c.count.ensures in
+    unmarked_none false _ (Per.sized_root c.args.aligned (counts_of c.args.range) (upper c.args.range) pads us) (Per.counted c.args.aligned us) (place c.args.output.now) refl (sym inside ∙ c.if-not-contains.true)
+
+pub returns-in_err-push_root : goal.returns-in_err-push_root
+returns-in_err-push_root g c =
+    let us = forms_of (g.U.Units.texts c.args.units.now) in
+    let pads : Counts → Bool = λ x. c.args.pads in
+    let inside = c.contains.ensures ∙ ap (is_count_within (counts_of c.args.range)) c.count.ensures in
+    raised _ _ _ _ _ c.from_residual.ensures.1
+    (λ n. unmarked_text false _ (Per.sized_root c.args.aligned (counts_of c.args.range) (upper c.args.range) pads us) (Per.counted c.args.aligned us) (place c.args.output.now) refl (sym inside ∙ c.if-not-contains.false) ∙ n)
+    c.in_err-push_root.ensures
+
+pub returns : goal.returns
+returns g c =
+    let us = forms_of (g.U.Units.texts c.args.units.now) in
+    let pads : Counts → Bool = λ x. c.args.pads in
+    let inside = c.contains.ensures ∙ ap (is_count_within (counts_of c.args.range)) c.count.ensures in
+    adds_same _ _ c.args.output.now c.push_root.new.output (unmarked_text false _ (Per.sized_root c.args.aligned (counts_of c.args.range) (upper c.args.range) pads us) (Per.counted c.args.aligned us) (place c.args.output.now) refl (sym inside ∙ c.if-not-contains.false)) c.in_ok-push_root.ensures

@@ -1,0 +1,17 @@
+use Rattle.std.proofs.Common.{subst}
+use Rattle.asn1_model.specs.Per
+use Rattle.asn1_schema_constraints.specs.Terms.{sizes_of, alphabet_of}
+use Rattle.asn1_values_utf8.proofs.Utf8.{utf8_is_text}
+use Rattle.per_codec_texts.specs.Texts.{text_at}
+use Rattle.per_codec_writing.specs.Writing.{Adds, place}
+use Rattle.per_codec_writing.proofs.FillingTexts.{adds_same}
+use Rattle.per_codec_writing.proofs.StringTexts.{utf8_text}
+use Rattle.per_codec_writing.proofs.texts.push_utf8.Goals as goal
+
+pub returns : goal.returns
+returns c =
+    let old = c.args.output.now in
+    let new = c.push_counted_octets.new.output in
+    let os = c.args.value.now in
+    adds_same _ _ old new (utf8_text c.args.aligned (sizes_of c.args._constraints.size) (alphabet_of c.args._constraints.permitted_alphabet) os (place old) ((utf8_is_text os).1 c.utf8.value))
+    (subst (λ l. Adds (text_at (Per.counted_octets c.args.aligned l) (place old)) old new) c.as_bytes.ensures.value c.in_ok-push_counted_octets.ensures)

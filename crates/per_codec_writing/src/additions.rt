@@ -1,0 +1,78 @@
+//! Additions of sequences and sets (X.691 19.7 to 19.9).
+ghost use Rattle.std.specs.Prelude.{◌≡◌, map, MatchResult, IfOk, IfErr};
+ghost use Rattle.asn1_model.specs.Form.{is_present, joined, present_ones};
+ghost use Rattle.asn1_model.specs.Per.{additions, normally_few, bit_units};
+ghost use Rattle.per_codec_texts.specs.Texts.{text_at};
+ghost use Rattle.per_codec_writing.specs.Writing.{Adds, place};
+ghost use Rattle.per_codec_writing.specs.Additions.{as_open_types};
+
+use crate::open_types::push_open_type;
+use crate::push_counted;
+use asn1_schema_faults::EncodeError;
+use asn1_values_bits::BitBuffer;
+use per_codec_packing::Packing;
+use std::alloc::Global;
+
+/// Adds bits behind a normally small length: up to 64 in six bits behind one that is not set, else behind one that is set and a length
+/// (X.691 11.9.3.4). The only error is want of memory.
+pub fn push_bitmap(
+    output: &mut Packing,
+    aligned: bool,
+    bitmap: &BitBuffer,
+) -> Result<(), EncodeError>
+    ensures { MatchResult result (λ _. Adds (text_at (normally_few aligned (bit_units bitmap.now)) (place output.old)) output.old output.new) (λ e. e ≡ EncodeError.OutOfMemory) }
+{
+    let count = bitmap.len();
+    if 1 <= count && count <= 64 {
+        output.push_bits(count as u128 - 1, 7)?;
+        output.extend_from_bitslice(bitmap.as_bitslice())?;
+        return Ok(());
+    }
+    output.push(true)?;
+    let units = bitmap.as_bitslice();
+    push_counted(output, aligned, &units)?;
+    Ok(())
+}
+
+/// For each addition a bit that tells whether it is there (X.691 19.8). The only error is want of memory.
+fn presence(alloc: Global, slots: &[Option<BitBuffer>]) -> Result<BitBuffer, EncodeError>
+    ensures { MatchResult result (λ bitmap. bitmap ≡ map is_present slots.now) (λ e. e ≡ EncodeError.OutOfMemory) }
+{
+    let mut bitmap = BitBuffer::new(alloc);
+    for slot in slots {
+        bitmap.push(slot.is_some())?;
+    }
+    Ok(bitmap)
+}
+
+/// Adds each addition that is there as an open type (X.691 19.9). The only error is want of memory.
+fn push_present(
+    output: &mut Packing,
+    aligned: bool,
+    slots: &[Option<BitBuffer>],
+) -> Result<(), EncodeError>
+    ensures { MatchResult result (λ _. Adds (text_at (joined (present_ones (as_open_types aligned slots.now))) (place output.old)) output.old output.new) (λ e. e ≡ EncodeError.OutOfMemory) }
+{
+    for slot in slots {
+        if let Some(contents) = slot {
+            push_open_type(output, aligned, contents)?;
+        }
+    }
+    Ok(())
+}
+
+/// Adds the additions of a sequence or set, each given by its bits where it is there: their number, which of them are there, and these as
+/// open types (X.691 19.7 to 19.9). The only error is want of memory.
+pub fn push_additions(
+    output: &mut Packing,
+    aligned: bool,
+    alloc: Global,
+    slots: &[Option<BitBuffer>],
+) -> Result<(), EncodeError>
+    ensures { MatchResult result (λ _. Adds (text_at (additions aligned (as_open_types aligned slots.now)) (place output.old)) output.old output.new) (λ e. e ≡ EncodeError.OutOfMemory) }
+{
+    let bitmap = presence(alloc, slots)?;
+    push_bitmap(output, aligned, &bitmap)?;
+    push_present(output, aligned, slots)?;
+    Ok(())
+}

@@ -1,0 +1,39 @@
+//! The end of a bag (X.691 22).
+ghost use Rattle.std.specs.Prelude.{MatchResult};
+ghost use Rattle.asn1_model.specs.Per.{in_any_order, sized, never};
+ghost use Rattle.asn1_schema_bounds.specs.Bounds.{members_of};
+ghost use Rattle.asn1_schema_constraints.specs.Terms.{sizes_of};
+ghost use Rattle.per_codec_texts.specs.Texts.{text_at};
+ghost use Rattle.per_codec_writing.specs.Writing.{Adds, Refuses, place};
+ghost use Rattle.per_codec_writing.specs.Members.{forms};
+
+use crate::members::with_encodings;
+use crate::sized_members::push_sized;
+use asn1_schema_bounds::Bounded;
+use asn1_schema_constraints::Constraints;
+use asn1_schema_faults::EncodeError;
+use asn1_schema_order::put_in_order;
+use per_codec_packing::Packing;
+use std::alloc::Global;
+
+/// Adds the members of a bag behind their number, in the ascending order of their complete encodings (X.691 22), those of the same encoding as
+/// they stood. `held` are the numbers of members that the program's type holds.
+///
+/// # Errors
+///
+/// `SizeConstraintNotSatisfied` where the type does not hold so many, or a size constraint without a mark does not admit them; `OutOfMemory`.
+pub fn push_bag(
+    alloc: Global,
+    output: &mut Packing,
+    aligned: bool,
+    constraints: Constraints,
+    held: Bounded<usize>,
+    members: Vec<Packing>,
+) -> Result<(), EncodeError>
+    ensures { MatchResult result (λ _. Adds (text_at (in_any_order (forms members.items) (λ us. sized aligned (sizes_of constraints.entry.size) (members_of held) never us)) (place output.old)) output.old output.new) (Refuses (text_at (in_any_order (forms members.items) (λ us. sized aligned (sizes_of constraints.entry.size) (members_of held) never us)) (place output.old))) }
+{
+    let mut ordered = with_encodings(alloc, members)?;
+    put_in_order(&mut ordered)?;
+    push_sized(output, aligned, constraints, held, ordered.as_slice())?;
+    Ok(())
+}

@@ -1,0 +1,36 @@
+//! BIT STRING (X.691 16).
+ghost use Rattle.std.specs.Prelude.{MatchResult};
+ghost use Rattle.asn1_model.specs.Per.{form};
+ghost use Rattle.asn1_model.specs.Schema.{bit_string};
+ghost use Rattle.asn1_model.specs.Value.{bit_list};
+ghost use Rattle.asn1_schema_bounds.specs.Bounds.{counts_of};
+ghost use Rattle.asn1_schema_constraints.specs.Terms.{sizes_of};
+ghost use Rattle.asn1_values_bits.specs.BitStr.{bits_of};
+ghost use Rattle.per_codec_texts.specs.Texts.{text_at};
+ghost use Rattle.per_codec_writing.specs.Writing.{Adds, Refuses, place};
+
+use crate::{pads_string, push_sized};
+use asn1_schema_bounds::Bounded;
+use asn1_schema_constraints::Constraints;
+use asn1_schema_faults::EncodeError;
+use asn1_values_bits::BitStr;
+use per_codec_packing::Packing;
+
+/// Adds a BIT STRING (X.691 16), of which the program's type holds as many bits as `held` tells.
+///
+/// # Errors
+///
+/// `SizeConstraintNotSatisfied` where the type does not hold so many bits, or a size constraint without a mark does not admit them.
+pub fn push_bit_string(
+    output: &mut Packing,
+    aligned: bool,
+    constraints: Constraints,
+    held: Bounded<usize>,
+    value: BitStr,
+) -> Result<(), EncodeError>
+    ensures { MatchResult result (λ _. Adds (text_at (form aligned (bit_string (sizes_of constraints.entry.size) (counts_of held)) (bit_list (bits_of value.entry))) (place output.old)) output.old output.new) (Refuses (text_at (form aligned (bit_string (sizes_of constraints.entry.size) (counts_of held)) (bit_list (bits_of value.entry))) (place output.old))) }
+{
+    let pads = pads_string(constraints, 1, value.len());
+    push_sized(output, aligned, constraints, held, pads, &value)?;
+    Ok(())
+}

@@ -1,0 +1,88 @@
+//! Character strings (X.691 30).
+ghost use Rattle.std.specs.Prelude.{◌≡◌, true, MatchResult};
+ghost use Rattle.asn1_model.specs.Per.{characters, counted_octets, form};
+ghost use Rattle.asn1_model.specs.Schema.{character_string};
+ghost use Rattle.asn1_model.specs.Strings.{is_of_octets as holds_octets, permitted};
+ghost use Rattle.asn1_model.specs.Types.{any_count};
+ghost use Rattle.asn1_model.specs.Value.{text};
+ghost use Rattle.asn1_schema_constraints.specs.Terms.{sizes_of, alphabet_of};
+ghost use Rattle.asn1_values_alphabets.specs.Permitted.{permits_all};
+ghost use Rattle.per_codec_texts.specs.Texts.{text_at};
+ghost use Rattle.per_codec_writing.specs.Writing.{Adds, Refuses, place};
+
+use crate::character_units::CharacterUnits;
+use crate::{pads_characters, push_counted, push_sized};
+use asn1_schema_bounds::Bounded;
+use asn1_schema_constraints::Constraints;
+use asn1_schema_faults::EncodeError;
+use asn1_values_alphabets::StaticPermittedAlphabet;
+use per_codec_alphabets::{EffectiveAlphabet, is_of_octets};
+use per_codec_packing::Packing;
+use std::alloc::Global;
+
+/// Adds the octets of a string whose characters have no fixed width, behind their number (X.691 30).
+fn push_octets<S: StaticPermittedAlphabet>(
+    output: &mut Packing,
+    aligned: bool,
+    alloc: Global,
+    value: &S,
+) -> Result<(), EncodeError>
+    requires kind { holds_octets S.kind ≡ true }
+    requires permitted { permits_all S.kind (S.characters value.now) ≡ true }
+    ensures { MatchResult result (λ _. Adds (text_at (counted_octets aligned (S.characters value.now)) (place output.old)) output.old output.new) (λ e. e ≡ EncodeError.OutOfMemory) }
+{
+    let alphabet = EffectiveAlphabet::new::<S>(alloc, aligned, None)?;
+    let units = CharacterUnits {
+        alphabet: &alphabet,
+        string: value,
+    };
+    push_counted(output, aligned, &units)?;
+    Ok(())
+}
+
+/// Adds the characters of a string by their codes, behind their number (X.691 30.5).
+fn push_codes<S: StaticPermittedAlphabet>(
+    output: &mut Packing,
+    aligned: bool,
+    alloc: Global,
+    constraints: Constraints,
+    value: &S,
+) -> Result<(), EncodeError>
+    ensures { MatchResult result (λ _. Adds (text_at (characters aligned (sizes_of constraints.entry.size) any_count (permitted S.kind (alphabet_of constraints.entry.permitted_alphabet)) (S.characters value.now)) (place output.old)) output.old output.new) (Refuses (text_at (characters aligned (sizes_of constraints.entry.size) any_count (permitted S.kind (alphabet_of constraints.entry.permitted_alphabet)) (S.characters value.now)) (place output.old))) }
+{
+    let alphabet = EffectiveAlphabet::new::<S>(alloc, aligned, constraints.permitted_alphabet)?;
+    let units = CharacterUnits {
+        alphabet: &alphabet,
+        string: value,
+    };
+    if !units.has_codes() {
+        return Err(EncodeError::AlphabetConstraintNotSatisfied);
+    }
+    let pads = pads_characters(constraints, alphabet.width() as usize, value.char_count());
+    push_sized(output, aligned, constraints, Bounded::None, pads, &units)?;
+    Ok(())
+}
+
+/// Adds a character string of a kind with an alphabet of its own (X.691 30).
+///
+/// # Errors
+///
+/// `AlphabetConstraintNotSatisfied` if the constraint does not permit one of the characters, `SizeConstraintNotSatisfied` if the size does
+/// not admit as many, and `OutOfMemory`.
+pub fn push_characters<S: StaticPermittedAlphabet>(
+    output: &mut Packing,
+    aligned: bool,
+    alloc: Global,
+    constraints: Constraints,
+    value: &S,
+) -> Result<(), EncodeError>
+    ensures { MatchResult result (λ _. Adds (text_at (form aligned (character_string S.kind (sizes_of constraints.entry.size) (alphabet_of constraints.entry.permitted_alphabet) any_count) (text (S.characters value.now))) (place output.old)) output.old output.new) (Refuses (text_at (form aligned (character_string S.kind (sizes_of constraints.entry.size) (alphabet_of constraints.entry.permitted_alphabet) any_count) (text (S.characters value.now))) (place output.old))) }
+{
+    let _count = value.char_count();
+    if is_of_octets::<S>() {
+        push_octets(output, aligned, alloc, value)?;
+        return Ok(());
+    }
+    push_codes(output, aligned, alloc, constraints, value)?;
+    Ok(())
+}

@@ -1,0 +1,126 @@
+//! Whole numbers (X.691 13).
+ghost use Rattle.std.specs.Prelude.{◌≡◌, true, MatchResult};
+ghost use Rattle.asn1_model.specs.Numbers.{is_within};
+ghost use Rattle.asn1_model.specs.Per.{form, marked, semi_constrained, unconstrained, whole_number as number_form};
+ghost use Rattle.asn1_model.specs.Schema.{integer};
+ghost use Rattle.asn1_model.specs.Value.{number as number_value};
+ghost use Rattle.asn1_schema_bounds.specs.Bounds.{admits_number, lower, upper};
+ghost use Rattle.asn1_schema_constraints.specs.Terms.{bounds_of, held_of};
+ghost use Rattle.per_codec_texts.specs.Texts.{text_at};
+ghost use Rattle.per_codec_writing.specs.Writing.{Adds, Refuses, place};
+
+use crate::{push_constrained, push_counted_octets};
+use asn1_schema_bounds::Bounded;
+use asn1_schema_constraints::Constraints;
+use asn1_schema_faults::EncodeError;
+use asn1_values_integer_types::IntegerType;
+use per_codec_packing::Packing;
+
+/// Adds a number without a lower bound, in its fewest octets of two's complement behind their number (X.691 11.8 and 13.2.4). The only
+/// error is want of memory.
+fn push_unconstrained<I: IntegerType>(
+    output: &mut Packing,
+    aligned: bool,
+    value: &I,
+) -> Result<(), EncodeError>
+    ensures written { MatchResult result (λ _. Adds (text_at (unconstrained aligned (I.value value.now)) (place output.old)) output.old output.new) (λ e. e ≡ EncodeError.OutOfMemory) }
+    ensures held { is_within I.held (I.value value.now) ≡ true }
+{
+    let octets = value.to_signed_bytes_be();
+    push_counted_octets(output, aligned, octets.as_slice())?;
+    Ok(())
+}
+
+/// Adds a number with a lower bound alone, by how far it is above that, in the fewest octets behind their number (X.691 11.7 and 13.2.3).
+/// The only error is want of memory.
+pub(crate) fn push_semi_constrained(
+    output: &mut Packing,
+    aligned: bool,
+    offset: u128,
+) -> Result<(), EncodeError>
+    ensures { MatchResult result (λ _. Adds (text_at (semi_constrained aligned offset) (place output.old)) output.old output.new) (λ e. e ≡ EncodeError.OutOfMemory) }
+{
+    let octets = offset.to_unsigned_bytes_be();
+    push_counted_octets(output, aligned, octets.as_slice())?;
+    Ok(())
+}
+
+/// Adds a number within bounds, in the form that they tell (X.691 13.2).
+#[inline(always)]
+fn push_root(
+    output: &mut Packing,
+    aligned: bool,
+    bounds: Bounded<i128>,
+    number: i128,
+) -> Result<(), EncodeError>
+    requires { admits_number bounds number ≡ true }
+    ensures { MatchResult result (λ _. Adds (text_at (number_form aligned (lower bounds) (upper bounds) number) (place output.old)) output.old output.new) (Refuses (text_at (number_form aligned (lower bounds) (upper bounds) number) (place output.old))) }
+{
+    match (bounds.as_start().copied(), bounds.as_end().copied()) {
+        (Some(low), Some(high)) => {
+            push_constrained(output, aligned, high.abs_diff(low), number.abs_diff(low))
+        }
+        (Some(low), None) => {
+            push_semi_constrained(output, aligned, number.abs_diff(low))?;
+            Ok(())
+        }
+        (None, _) => {
+            push_unconstrained(output, aligned, &number)?;
+            Ok(())
+        }
+    }
+}
+
+/// Adds a number under a value constraint: behind a bit that tells whether it is outside the bounds, where a mark follows these (X.691 13.1).
+#[inline(always)]
+fn push_bounded(
+    output: &mut Packing,
+    aligned: bool,
+    bounds: Bounded<i128>,
+    extensible: bool,
+    number: i128,
+) -> Result<(), EncodeError>
+    ensures { MatchResult result (λ _. Adds (text_at (marked extensible (admits_number bounds number) (number_form aligned (lower bounds) (upper bounds) number) (unconstrained aligned number)) (place output.old)) output.old output.new) (Refuses (text_at (marked extensible (admits_number bounds number) (number_form aligned (lower bounds) (upper bounds) number) (unconstrained aligned number)) (place output.old))) }
+{
+    let inside = bounds.contains(&number);
+    if !extensible {
+        if !inside {
+            return Err(EncodeError::ValueConstraintNotSatisfied);
+        }
+        return push_root(output, aligned, bounds, number);
+    }
+    output.push(!inside)?;
+    if inside {
+        push_root(output, aligned, bounds, number)
+    } else {
+        push_unconstrained(output, aligned, &number)?;
+        Ok(())
+    }
+}
+
+/// Adds an INTEGER (X.691 13), of at most 128 bits under a value constraint. One outside its bounds is refused, unless a mark follows
+/// these.
+#[inline(always)]
+pub fn push_integer<I: IntegerType>(
+    output: &mut Packing,
+    aligned: bool,
+    constraints: Constraints,
+    value: &I,
+) -> Result<(), EncodeError>
+    ensures { MatchResult result (λ _. Adds (text_at (form aligned (integer (bounds_of constraints.entry.value) (held_of constraints.entry.value I.held)) (number_value (I.value value.now))) (place output.old)) output.old output.new) (Refuses (text_at (form aligned (integer (bounds_of constraints.entry.value) (held_of constraints.entry.value I.held)) (number_value (I.value value.now))) (place output.old))) }
+{
+    let Some(limits) = constraints.value else {
+        push_unconstrained(output, aligned, value)?;
+        return Ok(());
+    };
+    let Some(number) = value.to_i128() else {
+        return Err(EncodeError::ValueConstraintNotSatisfied);
+    };
+    push_bounded(
+        output,
+        aligned,
+        limits.constraint.value,
+        limits.extensible.is_some(),
+        number,
+    )
+}

@@ -1,0 +1,35 @@
+//! OCTET STRING (X.691 17).
+ghost use Rattle.std.specs.Prelude.{MatchResult};
+ghost use Rattle.asn1_model.specs.Per.{form};
+ghost use Rattle.asn1_model.specs.Schema.{octet_string};
+ghost use Rattle.asn1_model.specs.Value.{octet_list};
+ghost use Rattle.asn1_schema_bounds.specs.Bounds.{counts_of};
+ghost use Rattle.asn1_schema_constraints.specs.Terms.{sizes_of};
+ghost use Rattle.per_codec_texts.specs.Texts.{text_at};
+ghost use Rattle.per_codec_writing.specs.Writing.{Adds, Refuses, place};
+
+use crate::{pads_string, push_sized};
+use asn1_schema_bounds::Bounded;
+use asn1_schema_constraints::Constraints;
+use asn1_schema_faults::EncodeError;
+use per_codec_packing::Packing;
+
+/// Adds an OCTET STRING (X.691 17), of which the program's type holds as many octets as `held` tells.
+///
+/// # Errors
+///
+/// `SizeConstraintNotSatisfied` where the type does not hold so many octets, or a size constraint without a mark does not admit them.
+pub fn push_octet_string(
+    output: &mut Packing,
+    aligned: bool,
+    constraints: Constraints,
+    held: Bounded<usize>,
+    value: &[u8],
+) -> Result<(), EncodeError>
+    ensures { MatchResult result (λ _. Adds (text_at (form aligned (octet_string (sizes_of constraints.entry.size) (counts_of held)) (octet_list value.now)) (place output.old)) output.old output.new) (Refuses (text_at (form aligned (octet_string (sizes_of constraints.entry.size) (counts_of held)) (octet_list value.now)) (place output.old))) }
+{
+    let pads = pads_string(constraints, 8, value.len());
+    let octets = value;
+    push_sized(output, aligned, constraints, held, pads, &octets)?;
+    Ok(())
+}

@@ -1,0 +1,28 @@
+//! Open types (X.691 11.2).
+ghost use Rattle.std.specs.Prelude.{◌≡◌, MatchResult};
+ghost use Rattle.asn1_model.specs.Form.{exactly};
+ghost use Rattle.asn1_model.specs.Per.{open_type};
+ghost use Rattle.per_codec_texts.specs.Texts.{text_at};
+ghost use Rattle.per_codec_writing.specs.Writing.{Adds, place};
+
+use crate::push_counted_octets;
+use asn1_schema_faults::EncodeError;
+use asn1_values_bits::BitBuffer;
+use per_codec_packing::Packing;
+
+/// Adds bits as an open type: filled up with zero bits to whole octets, one zero octet in place of no bits, behind the number of these
+/// octets (X.691 11.1 and 11.2). The only error is want of memory.
+pub fn push_open_type(
+    output: &mut Packing,
+    aligned: bool,
+    contents: &BitBuffer,
+) -> Result<(), EncodeError>
+    ensures { MatchResult result (λ _. Adds (text_at (open_type aligned (exactly contents.now)) (place output.old)) output.old output.new) (λ e. e ≡ EncodeError.OutOfMemory) }
+{
+    if contents.is_empty() {
+        push_counted_octets(output, aligned, &[0])?;
+        return Ok(());
+    }
+    push_counted_octets(output, aligned, contents.as_bytes())?;
+    Ok(())
+}

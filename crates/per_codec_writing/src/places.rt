@@ -1,0 +1,67 @@
+//! The places of items among those of an enumeration, and of alternatives among those of a choice (X.691 14 and 23).
+ghost use Rattle.std.specs.Prelude.{◌≡◌, MatchResult};
+ghost use Rattle.asn1_model.specs.Per.{form, mark_of};
+ghost use Rattle.asn1_model.specs.Schema.{enumerated};
+ghost use Rattle.asn1_model.specs.Value.{item};
+ghost use Rattle.per_codec_texts.specs.Texts.{text_at};
+ghost use Rattle.per_codec_writing.specs.Writing.{Adds, Refuses, place};
+ghost use Rattle.per_codec_writing.specs.Places.{place_form};
+
+use crate::{push_constrained, push_normally_small};
+use asn1_schema_faults::EncodeError;
+use asn1_schema_variants::{Chosen, Enumerated};
+use per_codec_packing::Packing;
+
+/// Adds the mark of extensibility, where the type has one (X.691 14.3 and 23.5). The only error is want of memory.
+fn push_mark(output: &mut Packing, extensible: bool, mark: bool) -> Result<(), EncodeError>
+    ensures { MatchResult result (λ _. Adds (text_at (mark_of extensible mark) (place output.old)) output.old output.new) (λ e. e ≡ EncodeError.OutOfMemory) }
+{
+    if !extensible {
+        return Ok(());
+    }
+    output.push(mark)?;
+    Ok(())
+}
+
+/// Adds a place: among so many in the root, as a constrained whole number behind the mark of extensibility, or among the added ones, as a
+/// normally small number behind the mark that is set (X.691 14.2, 14.3 and 23.5 to 23.8). A place outside the root is refused, and so is an
+/// added one of a type without a mark.
+pub fn push_place(
+    output: &mut Packing,
+    aligned: bool,
+    roots: usize,
+    extensible: bool,
+    chosen: Chosen,
+) -> Result<(), EncodeError>
+    ensures { MatchResult result (λ _. Adds (text_at (place_form aligned roots extensible chosen.added chosen.place) (place output.old)) output.old output.new) (Refuses (text_at (place_form aligned roots extensible chosen.added chosen.place) (place output.old))) }
+{
+    if !chosen.added {
+        push_mark(output, extensible, false)?;
+        let span = roots.saturating_sub(1);
+        return push_constrained(output, aligned, span as u128, chosen.place as u128);
+    }
+    if !extensible {
+        return Err(EncodeError::ValueConstraintNotSatisfied);
+    }
+    output.push(true)?;
+    push_normally_small(output, aligned, chosen.place as u64)?;
+    Ok(())
+}
+
+/// Adds an ENUMERATED, an item by its place (X.691 14).
+pub fn push_enumerated<T: Enumerated>(
+    output: &mut Packing,
+    aligned: bool,
+    value: &T,
+) -> Result<(), EncodeError>
+    ensures { MatchResult result (λ _. Adds (text_at (form aligned (enumerated T.roots T.extensible T.additions) (item (T.number value.now))) (place output.old)) output.old output.new) (Refuses (text_at (form aligned (enumerated T.roots T.extensible T.additions) (item (T.number value.now))) (place output.old))) }
+{
+    let extensible = T::extended_variants().is_some();
+    push_place(
+        output,
+        aligned,
+        T::variance(),
+        extensible,
+        value.item_place(),
+    )
+}

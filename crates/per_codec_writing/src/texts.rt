@@ -1,0 +1,27 @@
+//! UTF8String (X.691 30).
+ghost use Rattle.std.specs.Prelude.{◌≡◌, MatchResult};
+ghost use Rattle.asn1_model.specs.Per.{form};
+ghost use Rattle.asn1_model.specs.Schema.{character_string, utf8};
+ghost use Rattle.asn1_model.specs.Types.{any_count};
+ghost use Rattle.asn1_model.specs.Value.{text};
+ghost use Rattle.asn1_schema_constraints.specs.Terms.{sizes_of, alphabet_of};
+ghost use Rattle.per_codec_texts.specs.Texts.{text_at};
+ghost use Rattle.per_codec_writing.specs.Writing.{Adds, place};
+
+use crate::push_counted_octets;
+use asn1_schema_constraints::Constraints;
+use asn1_schema_faults::EncodeError;
+use per_codec_packing::Packing;
+
+/// Adds a UTF8String (X.691 30): its octets behind their number, since its constraints count for nothing. The only error is want of memory.
+pub fn push_utf8(
+    output: &mut Packing,
+    aligned: bool,
+    _constraints: Constraints,
+    value: &str,
+) -> Result<(), EncodeError>
+    ensures { MatchResult result (λ _. Adds (text_at (form aligned (character_string utf8 (sizes_of _constraints.entry.size) (alphabet_of _constraints.entry.permitted_alphabet) any_count) (text value.now)) (place output.old)) output.old output.new) (λ e. e ≡ EncodeError.OutOfMemory) }
+{
+    push_counted_octets(output, aligned, value.as_bytes())?;
+    Ok(())
+}

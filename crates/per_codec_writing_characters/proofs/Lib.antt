@@ -1,4 +1,0 @@
-pub mod CharacterTexts
-pub mod OctetTexts
-pub mod Refused
-pub mod StringTexts

@@ -1,9 +1,0 @@
-use Rattle.std.proofs.Common.{◌≡◌, drop}
-use Rattle.asn1_model.specs.Strings.{each_is}
-use Rattle.per_codec_writing_characters.specs.Characters.{has_code}
-use Rattle.per_codec_writing_characters.proofs.units.CharacterUnits.has_codes.Given as goal
-
-abbrev pub invariant-loop-place : goal.invariant-loop-place
-invariant-loop-place g l =
-    let cs = g.S.StaticPermittedAlphabet.characters l.self.string.now in
-    each_is (has_code l.self.alphabet.now) (drop l.place cs) ≡ each_is (has_code l.self.alphabet.now) cs

@@ -1,5 +1,0 @@
-use Rattle.per_codec_writing_numbers.proofs.NumberTexts.{adds_truth}
-use Rattle.per_codec_writing_numbers.proofs.booleans.push_boolean.Goals as goal
-
-pub returns : goal.returns
-returns c = adds_truth c.args.aligned c.args.value c.args.output.now c.push.new.self c.in_ok-push.ensures.ok

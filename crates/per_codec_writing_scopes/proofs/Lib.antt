@@ -1,3 +1,0 @@
-pub mod PlaceTexts
-pub mod OpenTypes
-pub mod AdditionTexts

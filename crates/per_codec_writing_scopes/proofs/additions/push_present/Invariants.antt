@@ -1,7 +1,0 @@
-use Rattle.std.proofs.Common.{drop}
-use Rattle.per_codec_packing.specs.Packed.{Packed}
-use Rattle.per_codec_writing_scopes.proofs.AdditionTexts.{Present}
-use Rattle.per_codec_writing_scopes.proofs.additions.push_present.Given as goal
-
-abbrev pub invariant-loop-slot : goal.invariant-loop-slot
-invariant-loop-slot l = (new : Packed) → Present l.aligned (drop l.slot-index l.slots) l.output new → Present l.aligned l.slots l.fn.output new

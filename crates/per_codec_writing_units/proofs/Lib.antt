@@ -1,4 +1,0 @@
-pub mod Texts
-pub mod Adding
-pub mod Fragments
-pub mod Sizes
