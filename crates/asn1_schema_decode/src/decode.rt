@@ -390,6 +390,7 @@ pub trait Decode: AsnType + Drop {
 
     /// Reads a value of the type whose records are next, and gives the value of the program that means its
     /// normal form.
+    #[inline(always)]
     final fn decode<D: Decoder>(alloc: Global, decoder: &mut D) -> Result<Self, DecodeError>
     where
         Self: Sized,
@@ -403,6 +404,7 @@ pub trait Decode: AsnType + Drop {
     }
 
     /// The same with another tag.
+    #[inline(always)]
     final fn decode_with_tag<D: Decoder>(
         alloc: Global,
         decoder: &mut D,
@@ -426,6 +428,7 @@ pub trait Decode: AsnType + Drop {
     }
 
     /// Reads a value of the type under these constraints.
+    #[inline(always)]
     final fn decode_with_constraints<D: Decoder>(
         alloc: Global,
         decoder: &mut D,

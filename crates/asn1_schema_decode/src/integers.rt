@@ -8,6 +8,7 @@ use asn1_values_numbers::Integer;
 use std::alloc::Global;
 
 impl Decode for Integer {
+    #[inline(always)]
     fn decode_with_tag_and_constraints<D: Decoder>(
         alloc: Global,
         decoder: &mut D,
@@ -20,6 +21,7 @@ impl Decode for Integer {
 }
 
 impl Decode for u8 {
+    #[inline(always)]
     fn decode_with_tag_and_constraints<D: Decoder>(
         alloc: Global,
         decoder: &mut D,

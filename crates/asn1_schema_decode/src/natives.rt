@@ -7,6 +7,7 @@ use asn1_schema_tags::Tag;
 use std::alloc::Global;
 
 impl Decode for u16 {
+    #[inline(always)]
     fn decode_with_tag_and_constraints<D: Decoder>(
         alloc: Global,
         decoder: &mut D,
@@ -19,6 +20,7 @@ impl Decode for u16 {
 }
 
 impl Decode for u32 {
+    #[inline(always)]
     fn decode_with_tag_and_constraints<D: Decoder>(
         alloc: Global,
         decoder: &mut D,
@@ -31,6 +33,7 @@ impl Decode for u32 {
 }
 
 impl Decode for u64 {
+    #[inline(always)]
     fn decode_with_tag_and_constraints<D: Decoder>(
         alloc: Global,
         decoder: &mut D,

@@ -7,6 +7,7 @@ use asn1_schema_tags::Tag;
 use std::alloc::Global;
 
 impl Decode for bool {
+    #[inline(always)]
     fn decode_with_tag_and_constraints<D: Decoder>(
         _alloc: Global,
         decoder: &mut D,
@@ -19,6 +20,7 @@ impl Decode for bool {
 }
 
 impl Decode for () {
+    #[inline(always)]
     fn decode_with_tag_and_constraints<D: Decoder>(
         _alloc: Global,
         decoder: &mut D,

@@ -7,6 +7,7 @@ use asn1_schema_tags::Tag;
 use std::alloc::Global;
 
 impl Decode for i8 {
+    #[inline(always)]
     fn decode_with_tag_and_constraints<D: Decoder>(
         alloc: Global,
         decoder: &mut D,
@@ -19,6 +20,7 @@ impl Decode for i8 {
 }
 
 impl Decode for i16 {
+    #[inline(always)]
     fn decode_with_tag_and_constraints<D: Decoder>(
         alloc: Global,
         decoder: &mut D,
@@ -31,6 +33,7 @@ impl Decode for i16 {
 }
 
 impl Decode for i32 {
+    #[inline(always)]
     fn decode_with_tag_and_constraints<D: Decoder>(
         alloc: Global,
         decoder: &mut D,
@@ -43,6 +46,7 @@ impl Decode for i32 {
 }
 
 impl Decode for i64 {
+    #[inline(always)]
     fn decode_with_tag_and_constraints<D: Decoder>(
         alloc: Global,
         decoder: &mut D,

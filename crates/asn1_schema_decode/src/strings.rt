@@ -24,6 +24,7 @@ impl Decode for BitString {
 }
 
 impl Decode for OctetString {
+    #[inline(always)]
     fn decode_with_tag_and_constraints<D: Decoder>(
         alloc: Global,
         decoder: &mut D,

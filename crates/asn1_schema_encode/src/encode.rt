@@ -289,6 +289,7 @@ pub trait Encode: AsnType {
         ensures already { E.has_failed encoder.old → result ≡ Err EncodeError.AlreadyFailed };
 
     /// Hands over the records of the value by its type, each once.
+    #[inline(always)]
     final fn encode<E: Encoder>(&self, encoder: &mut E) -> Result<(), EncodeError>
     where
         Self: Sized,
@@ -301,6 +302,7 @@ pub trait Encode: AsnType {
     }
 
     /// The same with another tag.
+    #[inline(always)]
     final fn encode_with_tag<E: Encoder>(
         &self,
         encoder: &mut E,
@@ -318,6 +320,7 @@ pub trait Encode: AsnType {
     }
 
     /// Hands over the records of the value by its type under these constraints, each once.
+    #[inline(always)]
     final fn encode_with_constraints<E: Encoder>(
         &self,
         encoder: &mut E,

@@ -7,6 +7,7 @@ use asn1_schema_tags::{Identifier, Tag};
 use asn1_values_numbers::Integer;
 
 impl Encode for Integer {
+    #[inline(always)]
     fn encode_with_tag_and_constraints<E: Encoder>(
         &self,
         encoder: &mut E,
@@ -19,6 +20,7 @@ impl Encode for Integer {
 }
 
 impl Encode for u8 {
+    #[inline(always)]
     fn encode_with_tag_and_constraints<E: Encoder>(
         &self,
         encoder: &mut E,

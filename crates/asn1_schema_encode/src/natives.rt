@@ -5,6 +5,7 @@ use asn1_schema_faults::EncodeError;
 use asn1_schema_tags::{Identifier, Tag};
 
 impl Encode for i8 {
+    #[inline(always)]
     fn encode_with_tag_and_constraints<E: Encoder>(
         &self,
         encoder: &mut E,
@@ -17,6 +18,7 @@ impl Encode for i8 {
 }
 
 impl Encode for i16 {
+    #[inline(always)]
     fn encode_with_tag_and_constraints<E: Encoder>(
         &self,
         encoder: &mut E,
@@ -29,6 +31,7 @@ impl Encode for i16 {
 }
 
 impl Encode for i32 {
+    #[inline(always)]
     fn encode_with_tag_and_constraints<E: Encoder>(
         &self,
         encoder: &mut E,
@@ -41,6 +44,7 @@ impl Encode for i32 {
 }
 
 impl Encode for i64 {
+    #[inline(always)]
     fn encode_with_tag_and_constraints<E: Encoder>(
         &self,
         encoder: &mut E,
@@ -53,6 +57,7 @@ impl Encode for i64 {
 }
 
 impl Encode for u16 {
+    #[inline(always)]
     fn encode_with_tag_and_constraints<E: Encoder>(
         &self,
         encoder: &mut E,
@@ -65,6 +70,7 @@ impl Encode for u16 {
 }
 
 impl Encode for u32 {
+    #[inline(always)]
     fn encode_with_tag_and_constraints<E: Encoder>(
         &self,
         encoder: &mut E,
@@ -77,6 +83,7 @@ impl Encode for u32 {
 }
 
 impl Encode for u64 {
+    #[inline(always)]
     fn encode_with_tag_and_constraints<E: Encoder>(
         &self,
         encoder: &mut E,

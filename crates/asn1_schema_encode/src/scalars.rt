@@ -6,6 +6,7 @@ use asn1_schema_faults::EncodeError;
 use asn1_schema_tags::{Identifier, Tag};
 
 impl Encode for bool {
+    #[inline(always)]
     fn encode_with_tag_and_constraints<E: Encoder>(
         &self,
         encoder: &mut E,
@@ -18,6 +19,7 @@ impl Encode for bool {
 }
 
 impl Encode for () {
+    #[inline(always)]
     fn encode_with_tag_and_constraints<E: Encoder>(
         &self,
         encoder: &mut E,

@@ -27,6 +27,7 @@ impl Encode for BitString {
 }
 
 impl Encode for OctetString {
+    #[inline(always)]
     fn encode_with_tag_and_constraints<E: Encoder>(
         &self,
         encoder: &mut E,

@@ -100,7 +100,7 @@ impl<'buffer> asn1_schema_encode::Encoder for Encoder<'buffer> {
         CodecKind::Coer
     }
 
-    #[inline]
+    #[inline(always)]
     fn encode_bool(
         &mut self,
         _tag: Tag,
@@ -116,7 +116,7 @@ impl<'buffer> asn1_schema_encode::Encoder for Encoder<'buffer> {
         Ok(())
     }
 
-    #[inline]
+    #[inline(always)]
     fn encode_null(&mut self, _tag: Tag, _identifier: Identifier) -> Result<(), EncodeError> {
         if self.failed {
             return Err(EncodeError::AlreadyFailed);
@@ -124,7 +124,7 @@ impl<'buffer> asn1_schema_encode::Encoder for Encoder<'buffer> {
         Ok(())
     }
 
-    #[inline]
+    #[inline(always)]
     fn encode_integer<I: IntegerType>(
         &mut self,
         _tag: Tag,
@@ -243,7 +243,7 @@ impl<'buffer> asn1_schema_encode::Encoder for Encoder<'buffer> {
         Ok(())
     }
 
-    #[inline]
+    #[inline(always)]
     fn begin_list(
         &mut self,
         _tag: Tag,
@@ -260,6 +260,7 @@ impl<'buffer> asn1_schema_encode::Encoder for Encoder<'buffer> {
         Ok(())
     }
 
+    #[inline(always)]
     fn begin_bag(
         &mut self,
         _tag: Tag,
@@ -283,7 +284,7 @@ impl<'buffer> asn1_schema_encode::Encoder for Encoder<'buffer> {
         Ok(())
     }
 
-    #[inline]
+    #[inline(always)]
     fn put_further(&mut self, more: bool) -> Result<(), EncodeError> {
         if self.failed {
             return Err(EncodeError::AlreadyFailed);
@@ -294,7 +295,7 @@ impl<'buffer> asn1_schema_encode::Encoder for Encoder<'buffer> {
         Ok(())
     }
 
-    #[inline]
+    #[inline(always)]
     fn begin_sequence(
         &mut self,
         _tag: Tag,
@@ -310,7 +311,7 @@ impl<'buffer> asn1_schema_encode::Encoder for Encoder<'buffer> {
         Ok(())
     }
 
-    #[inline]
+    #[inline(always)]
     fn begin_set(
         &mut self,
         _tag: Tag,
@@ -326,7 +327,7 @@ impl<'buffer> asn1_schema_encode::Encoder for Encoder<'buffer> {
         Ok(())
     }
 
-    #[inline]
+    #[inline(always)]
     fn begin_group(&mut self, optional: usize) -> Result<(), EncodeError> {
         if self.failed {
             return Err(EncodeError::AlreadyFailed);
@@ -337,7 +338,7 @@ impl<'buffer> asn1_schema_encode::Encoder for Encoder<'buffer> {
         Ok(())
     }
 
-    #[inline]
+    #[inline(always)]
     fn put_mark(&mut self, present: bool) -> Result<(), EncodeError> {
         if self.failed {
             return Err(EncodeError::AlreadyFailed);
@@ -348,7 +349,7 @@ impl<'buffer> asn1_schema_encode::Encoder for Encoder<'buffer> {
         Ok(())
     }
 
-    #[inline]
+    #[inline(always)]
     fn begin_additions(&mut self, count: usize) -> Result<(), EncodeError> {
         if self.failed {
             return Err(EncodeError::AlreadyFailed);
@@ -365,7 +366,7 @@ impl<'buffer> asn1_schema_encode::Encoder for Encoder<'buffer> {
         Ok(())
     }
 
-    #[inline]
+    #[inline(always)]
     fn put_addition(&mut self, present: bool) -> Result<(), EncodeError> {
         if self.failed {
             return Err(EncodeError::AlreadyFailed);
@@ -376,7 +377,7 @@ impl<'buffer> asn1_schema_encode::Encoder for Encoder<'buffer> {
         Ok(())
     }
 
-    #[inline]
+    #[inline(always)]
     fn end_addition(&mut self) -> Result<(), EncodeError> {
         if self.failed {
             return Err(EncodeError::AlreadyFailed);

@@ -139,7 +139,7 @@ impl asn1_schema_encode::Encoder for Encoder {
         }
     }
 
-    #[inline]
+    #[inline(always)]
     fn encode_bool(
         &mut self,
         _tag: Tag,
@@ -155,6 +155,7 @@ impl asn1_schema_encode::Encoder for Encoder {
         Ok(())
     }
 
+    #[inline(always)]
     fn encode_null(&mut self, _tag: Tag, _identifier: Identifier) -> Result<(), EncodeError> {
         if self.failed {
             return Err(EncodeError::AlreadyFailed);
@@ -162,7 +163,7 @@ impl asn1_schema_encode::Encoder for Encoder {
         Ok(())
     }
 
-    #[inline]
+    #[inline(always)]
     fn encode_integer<I: IntegerType>(
         &mut self,
         _tag: Tag,
@@ -287,6 +288,7 @@ impl asn1_schema_encode::Encoder for Encoder {
         Ok(())
     }
 
+    #[inline(always)]
     fn begin_list(
         &mut self,
         _tag: Tag,
@@ -310,6 +312,7 @@ impl asn1_schema_encode::Encoder for Encoder {
         Ok(())
     }
 
+    #[inline(always)]
     fn begin_bag(
         &mut self,
         _tag: Tag,
@@ -334,7 +337,7 @@ impl asn1_schema_encode::Encoder for Encoder {
         Ok(())
     }
 
-    #[inline]
+    #[inline(always)]
     fn put_further(&mut self, more: bool) -> Result<(), EncodeError> {
         if self.failed {
             return Err(EncodeError::AlreadyFailed);
@@ -351,7 +354,7 @@ impl asn1_schema_encode::Encoder for Encoder {
         Ok(())
     }
 
-    #[inline]
+    #[inline(always)]
     fn begin_sequence(
         &mut self,
         _tag: Tag,
@@ -367,6 +370,7 @@ impl asn1_schema_encode::Encoder for Encoder {
         Ok(())
     }
 
+    #[inline(always)]
     fn begin_set(
         &mut self,
         _tag: Tag,
@@ -382,6 +386,7 @@ impl asn1_schema_encode::Encoder for Encoder {
         Ok(())
     }
 
+    #[inline(always)]
     fn begin_group(&mut self, optional: usize) -> Result<(), EncodeError> {
         if self.failed {
             return Err(EncodeError::AlreadyFailed);
@@ -392,7 +397,7 @@ impl asn1_schema_encode::Encoder for Encoder {
         Ok(())
     }
 
-    #[inline]
+    #[inline(always)]
     fn put_mark(&mut self, present: bool) -> Result<(), EncodeError> {
         if self.failed {
             return Err(EncodeError::AlreadyFailed);
@@ -403,6 +408,7 @@ impl asn1_schema_encode::Encoder for Encoder {
         Ok(())
     }
 
+    #[inline(always)]
     fn begin_additions(&mut self, count: usize) -> Result<(), EncodeError> {
         if self.failed {
             return Err(EncodeError::AlreadyFailed);
@@ -413,6 +419,7 @@ impl asn1_schema_encode::Encoder for Encoder {
         Ok(())
     }
 
+    #[inline(always)]
     fn put_addition(&mut self, present: bool) -> Result<(), EncodeError> {
         if self.failed {
             return Err(EncodeError::AlreadyFailed);
@@ -423,6 +430,7 @@ impl asn1_schema_encode::Encoder for Encoder {
         Ok(())
     }
 
+    #[inline(always)]
     fn end_addition(&mut self) -> Result<(), EncodeError> {
         if self.failed {
             return Err(EncodeError::AlreadyFailed);
@@ -433,6 +441,7 @@ impl asn1_schema_encode::Encoder for Encoder {
         Ok(())
     }
 
+    #[inline(always)]
     fn begin_choice(
         &mut self,
         _tag: Tag,
