@@ -1,18 +1,10 @@
 //! Strings of bits: made, compared and shown, with every request for memory refused in turn.
-use crate::assertions::assert_same;
+use crate::assertions::{assert_same, hash_of};
 use asn1_values::{BitStr, BitString, FixedBitString};
 use std::alloc::{AllocError, Global};
 use std::default::MadeWith;
-use std::hash::{DefaultHasher, Hash, Hasher};
 use std::process::Abort;
 use std::test::Fail;
-
-// what a hasher makes of a value
-fn hash_of<T: Hash>(value: &T) -> u64 {
-    let mut state = DefaultHasher::new();
-    value.hash(&mut state);
-    state.finish()
-}
 
 // fourteen bits: eight ones and 010000
 #[test]

@@ -1,7 +1,6 @@
 //! Views wherever they stand, and the numbers of bits.
-use crate::assertions::assert_same;
+use crate::assertions::{assert_same, hash_of};
 use asn1_values::{BitStr, bits};
-use std::hash::{DefaultHasher, Hash, Hasher};
 use std::test::Fail;
 
 #[test]
@@ -16,13 +15,6 @@ fn numbers(rt: HostRuntime) {
     let mut octets = [0x80, 0x01];
     bits::or_bits(&mut octets, 6, &[0xff], 4);
     assert_same(&rt, &octets, &[0x83, 0xc1]);
-}
-
-// what a hasher makes of a value
-fn hash_of<T: Hash>(value: &T) -> u64 {
-    let mut state = DefaultHasher::new();
-    value.hash(&mut state);
-    state.finish()
 }
 
 // Views go by their bits, wherever these stand.

@@ -2,12 +2,11 @@
 ghost use Rattle.std.specs.Prelude.{◌≡◌, ◌++◌, ◌<◌, ◌≤◌, OnOk, OnErr};
 ghost use Rattle.asn1_model.specs.Numbers.{binary};
 
-use crate::assertions::assert_same;
+use crate::assertions::{assert_same, hash_of};
 use asn1_values::{BitBuffer, BitReader, BitStr};
 use std::alloc::{AllocError, Global};
 use std::borrow::CowSlice;
 use std::default::MadeWith;
-use std::hash::{DefaultHasher, Hash, Hasher};
 use std::process::Abort;
 use std::test::Fail;
 
@@ -191,13 +190,6 @@ fn readers(rt: HostRuntime) -> Result<(), Fail> {
     assert_same(&rt, &rest.as_slice(), &[0x25, 0x0f, 0xe0].as_slice());
     assert_same(&rt, &reader.bits().len(), &21);
     Ok(())
-}
-
-// what a hasher makes of a value
-fn hash_of<T: Hash>(value: &T) -> u64 {
-    let mut state = DefaultHasher::new();
-    value.hash(&mut state);
-    state.finish()
 }
 
 // one growing call, told by a number

@@ -1,5 +1,5 @@
 //! What no clause says: that each call can succeed, what is shown, and what stands after a refused request for memory.
-use crate::assertions::assert_same;
+use crate::assertions::{assert_same, hash_of};
 use asn1_values::{
     BitString, BmpString, InvalidRestrictedString, OctetString, PermittedAlphabetError,
     StaticPermittedAlphabet,
@@ -7,7 +7,6 @@ use asn1_values::{
 use std::alloc::{AllocError, Global};
 use std::convert::AsSlice;
 use std::default::MadeWith;
-use std::hash::{BuildHasher, BuildHasherDefault, DefaultHasher, Hash};
 use std::process::Abort;
 use std::test::Fail;
 
@@ -282,11 +281,6 @@ fn copied(string: &BmpString) -> Result<BmpString, AllocError> {
         Ok(copy) => Ok(copy),
         Err(AllocError) => Ok(string.clone()?),
     }
-}
-
-/// What a hasher makes of a value.
-fn hash_of<T: Hash + Drop>(value: T) -> u64 {
-    BuildHasherDefault::<DefaultHasher>::new().hash_one(value)
 }
 
 /// Whether a copy is equal to its string of two characters, and hashed as that is.

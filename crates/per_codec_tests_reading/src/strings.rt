@@ -60,37 +60,72 @@ fn identifier(alloc: Global, input: &[u8]) -> Result<ObjectIdentifier, DecodeErr
     read_object_identifier(alloc, &mut Cursor::new(input), Variant::Aligned)
 }
 
+/// Whether the string of bits behind the first bit has so many, which stand in these octets.
+fn is_bits(
+    alloc: Global,
+    variant: Variant,
+    constraints: Constraints,
+    input: &[u8],
+    (count, expected): (usize, &[u8]),
+) -> Result<bool, DecodeError> {
+    let found = bits(alloc, variant, constraints, input)?;
+    Ok(found.len() == count && found.as_bytes() == expected)
+}
+
 #[test]
 fn strings_of_bits(rt: HostRuntime) -> Result<(), Fail> {
     let alloc = rt.alloc();
     let aper = Variant::Aligned;
-    let five = bits(alloc, aper, Constraints::NONE, &[0x00, 0x05, 0xF8])?;
-    assert_same(&rt, &five.len(), &5);
-    assert_same(&rt, &five.as_bytes(), &[0xF8u8].as_slice());
+    let uper = Variant::Unaligned;
+    assert!(rt;
+        is_bits(
+            alloc,
+            aper,
+            Constraints::NONE,
+            &[0x00, 0x05, 0xF8],
+            (5, &[0xF8])
+        )?
+    );
     let sixteen = sized(Bounded::Single(16), false);
-    let found = bits(alloc, aper, sixteen, &[0x7F, 0xFF, 0x80])?;
-    assert_same(&rt, &found.as_bytes(), &[0xFFu8, 0xFF].as_slice());
+    assert!(rt;
+        is_bits(
+            alloc,
+            aper,
+            sixteen,
+            &[0x7F, 0xFF, 0x80],
+            (16, &[0xFF, 0xFF])
+        )?
+    );
     let seventeen = sized(Bounded::Single(17), false);
-    let found = bits(alloc, aper, seventeen, &[0x00, 0xFF, 0xFF, 0x80])?;
-    assert_same(&rt, &found.as_bytes(), &[0xFFu8, 0xFF, 0x80].as_slice());
-    let found = bits(alloc, Variant::Unaligned, seventeen, &[0x7F, 0xFF, 0xC0])?;
-    assert_same(&rt, &found.as_bytes(), &[0xFFu8, 0xFF, 0x80].as_slice());
+    let ones: (usize, &[u8]) = (17, &[0xFF, 0xFF, 0x80]);
+    assert!(rt; is_bits(alloc, aper, seventeen, &[0x00, 0xFF, 0xFF, 0x80], ones)?);
+    assert!(rt; is_bits(alloc, uper, seventeen, &[0x7F, 0xFF, 0xC0], ones)?);
     Ok(())
+}
+
+/// Whether the string of octets behind the first bit has these.
+fn is_octets(
+    alloc: Global,
+    variant: Variant,
+    constraints: Constraints,
+    input: &[u8],
+    expected: &[u8],
+) -> Result<bool, DecodeError> {
+    let found = octets(alloc, variant, constraints, input)?;
+    Ok(found.as_slice() == expected)
 }
 
 #[test]
 fn strings_of_octets(rt: HostRuntime) -> Result<(), Fail> {
     let alloc = rt.alloc();
+    let aper = Variant::Aligned;
+    let uper = Variant::Unaligned;
     let three = sized(Bounded::Single(3), false);
-    let found = octets(alloc, Variant::Unaligned, three, &[0x80, 0x81, 0x01, 0x80])?;
-    assert_same(&rt, &found.as_slice(), &[1u8, 2, 3].as_slice());
-    let found = octets(alloc, Variant::Aligned, three, &[0x80, 0x01, 0x02, 0x03])?;
-    assert_same(&rt, &found.as_slice(), &[1u8, 2, 3].as_slice());
+    assert!(rt; is_octets(alloc, uper, three, &[0x80, 0x81, 0x01, 0x80], &[1, 2, 3])?);
+    assert!(rt; is_octets(alloc, aper, three, &[0x80, 0x01, 0x02, 0x03], &[1, 2, 3])?);
     let few = sized(Bounded::up_to(3), false);
-    let found = octets(alloc, Variant::Unaligned, few, &[0xC0, 0x20, 0x40])?;
-    assert_same(&rt, &found.as_slice(), &[1u8, 2].as_slice());
-    let found = octets(alloc, Variant::Aligned, few, &[0xC0, 0x01, 0x02])?;
-    assert_same(&rt, &found.as_slice(), &[1u8, 2].as_slice());
+    assert!(rt; is_octets(alloc, uper, few, &[0xC0, 0x20, 0x40], &[1, 2])?);
+    assert!(rt; is_octets(alloc, aper, few, &[0xC0, 0x01, 0x02], &[1, 2])?);
     Ok(())
 }
 
@@ -99,10 +134,16 @@ fn sizes_outside_the_root(rt: HostRuntime) -> Result<(), Fail> {
     let alloc = rt.alloc();
     let aper = Variant::Aligned;
     let marked = sized(Bounded::const_new(1, 2), true);
-    let found = octets(alloc, aper, marked, &[0xC0, 0x03, 0x01, 0x02, 0x03])?;
-    assert_same(&rt, &found.as_slice(), &[1u8, 2, 3].as_slice());
-    let found = octets(alloc, aper, marked, &[0xC0, 0x01, 0x09])?;
-    assert_same(&rt, &found.as_slice(), &[9u8].as_slice());
+    assert!(rt;
+        is_octets(
+            alloc,
+            aper,
+            marked,
+            &[0xC0, 0x03, 0x01, 0x02, 0x03],
+            &[1, 2, 3]
+        )?
+    );
+    assert!(rt; is_octets(alloc, aper, marked, &[0xC0, 0x01, 0x09], &[9])?);
     let four = sized(Bounded::const_new(2, 4), false);
     assert!(rt;
         matches!(

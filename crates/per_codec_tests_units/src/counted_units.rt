@@ -16,7 +16,7 @@ fn ones(alloc: Global, aligned: bool, count: u32) -> Result<Packing, EncodeError
     let mut output = Packing::new(alloc);
     output.push_bits(0x7F, count)?;
     if aligned {
-        output.push_bits(0, (8 - count) % 8)?;
+        output.align()?;
     }
     Ok(output)
 }
@@ -93,17 +93,30 @@ fn fragments_of_bits(rt: HostRuntime) -> Result<(), Fail> {
     Ok(())
 }
 
-// the same octets behind so many bits, at a place that is known from the beginning, and at one that was not
-fn is_placed_alike(alloc: Global, in_front: u32, octets: &[u8]) -> Result<bool, EncodeError>
+// octets behind so many bits, at a place that is known from the beginning
+fn placed(alloc: Global, in_front: u32, octets: &[u8]) -> Result<Packing, EncodeError>
     requires { in_front < 8 }
 {
     let mut output = ones(alloc, false, in_front)?;
     push_counted_octets(&mut output, true, octets)?;
-    let mut later = Packing::unplaced(alloc);
-    push_counted_octets(&mut later, true, octets)?;
-    let mut placed = ones(alloc, false, in_front)?;
-    placed.append(&later)?;
-    Ok(placed.as_bits().as_bitslice() == output.as_bits().as_bitslice())
+    Ok(output)
+}
+
+// octets at a place that is not known
+fn unplaced(alloc: Global, octets: &[u8]) -> Result<Packing, EncodeError> {
+    let mut output = Packing::unplaced(alloc);
+    push_counted_octets(&mut output, true, octets)?;
+    Ok(output)
+}
+
+// the same octets behind so many bits, at a place that is known from the beginning, and at one that was not
+fn is_placed_alike(alloc: Global, in_front: u32, octets: &[u8]) -> Result<bool, EncodeError>
+    requires { in_front < 8 }
+{
+    let early = placed(alloc, in_front, octets)?;
+    let mut late = ones(alloc, false, in_front)?;
+    late.append(&unplaced(alloc, octets)?)?;
+    Ok(late.as_bits().as_bitslice() == early.as_bits().as_bitslice())
 }
 
 #[test]

@@ -2,17 +2,22 @@
 
 use crate::assertions::assert_same;
 use per_codec_packing::Packing;
-use std::alloc::Global;
+use std::alloc::{AllocError, Global};
 use std::test::Fail;
 
-// a bit, filling, an octet, filling, and a bit, at a place that is not known
-fn member(alloc: Global) -> Result<Packing, Fail> {
-    let mut text = Packing::unplaced(alloc);
+// a bit, filling, an octet, filling, and a bit
+fn push_member(text: &mut Packing) -> Result<(), AllocError> {
     text.push(true)?;
     text.align()?;
     text.push_bits(0xAB, 8)?;
     text.align()?;
-    text.push(true)?;
+    text.push(true)
+}
+
+// these at a place that is not known
+fn member(alloc: Global) -> Result<Packing, AllocError> {
+    let mut text = Packing::unplaced(alloc);
+    push_member(&mut text)?;
     Ok(text)
 }
 

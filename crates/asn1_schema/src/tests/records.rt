@@ -85,15 +85,28 @@ fn numbers_with_their_limits(rt: HostRuntime) {
     );
 }
 
+// Whether the record of octets is these.
+fn are_recorded(alloc: Global, octets: &'static [u8]) -> bool {
+    is_octets(&record_of(alloc, &OctetString::from_static(octets)), octets)
+}
+
+// Whether the record of a string of all bits of octets is these.
+fn are_recorded_bits(alloc: Global, octets: &[u8]) -> Result<bool, EncodeError> {
+    let bits = BitString::from_slice(alloc, octets)?;
+    Ok(is_bits(&record_of(alloc, &bits), bits.len(), octets))
+}
+
+// Whether the record of a text is this text.
+fn is_recorded_text(alloc: Global, text: &str) -> Result<bool, EncodeError> {
+    let held = String::from_str(alloc, text)?;
+    Ok(is_text(&record_of(alloc, &held), text))
+}
+
 #[test]
 fn octets_bits_and_texts(rt: HostRuntime) -> Result<(), EncodeError> {
-    let alloc = rt.alloc();
-    let octets = OctetString::from_static(&[1, 2, 3]);
-    assert!(rt; is_octets(&record_of(alloc, &octets), [1, 2, 3].as_slice()));
-    let bits = BitString::from_slice(alloc, [0xA5].as_slice())?;
-    assert!(rt; is_bits(&record_of(alloc, &bits), 8, [0xA5].as_slice()));
-    let text = String::from_str(alloc, "é")?;
-    assert!(rt; is_text(&record_of(alloc, &text), "é"));
+    assert!(rt; are_recorded(rt.alloc(), &[1, 2, 3]));
+    assert!(rt; are_recorded_bits(rt.alloc(), &[0xA5])?);
+    assert!(rt; is_recorded_text(rt.alloc(), "é")?);
     Ok(())
 }
 
