@@ -8,15 +8,9 @@ mod calls;
 #[cfg(test)]
 mod five;
 #[cfg(test)]
-mod items;
-#[cfg(test)]
 mod lengths;
 #[cfg(test)]
 mod numbers;
-#[cfg(test)]
-mod records;
-#[cfg(test)]
-mod refusals;
 #[cfg(test)]
 mod rows;
 #[cfg(test)]

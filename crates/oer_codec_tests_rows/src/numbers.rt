@@ -294,3 +294,8 @@ fn numbers_outside_their_bounds_are_refused(rt: HostRuntime) {
         &Some(EncodeError::ValueConstraintNotSatisfied),
     );
 }
+
+#[test]
+fn a_truth_value_of_no_octets(rt: HostRuntime) {
+    assert!(rt; both_refuse::<bool>(rt.alloc(), &[], DecodeError::Incomplete));
+}
