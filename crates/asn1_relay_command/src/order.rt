@@ -153,6 +153,10 @@ fn order_in(matches: &ArgMatches<'_>) -> Option<Order>
 
 /// Reads a command line, whose first word is the name of the program. An error's `Display` is the text for the user; its kind is
 /// `OutOfMemory` where no memory was left.
+///
+/// # Errors
+///
+/// Where the line asks for nothing that the program does, for the help text too, or for want of memory, of the kind `OutOfMemory`.
 pub fn read_order<S: AsStr>(alloc: Global, words: &[S]) -> Result<Order, Error>
     ensures ok { IfOk result (λ order. order_of (map S.text words.now) ≡ Some order) }
     ensures bad { IfErr result (λ e. (order_of (map S.text words.now) ≡ None) ⊎ (kind_of e ≡ ErrorKind.OutOfMemory)) }

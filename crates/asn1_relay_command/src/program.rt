@@ -133,6 +133,10 @@ fn translate<T: Encode + Decode>(
 }
 
 /// Translates one message.
+///
+/// # Errors
+///
+/// That of `recode` for the type, the rules of the input and those of the output that the order names.
 pub fn translate_all(alloc: Global, order: Order, message: &[u8]) -> Result<Vec<u8>, Fault>
     ensures { MatchResult result (λ v. Becomes order message.now (answered v.items)) (IsRefusedBy order message.now) }
 {

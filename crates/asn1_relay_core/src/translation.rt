@@ -77,6 +77,11 @@ pub fn twice_is_once()
 /// The answer is the right one, and as there is one at most (`one_answer_is_right`), each fault comes exactly where it should; only want of
 /// memory may come in its place, always as `RecodeFault::Memory`. A detour through other rules changes nothing (`detours_change_no_answer`),
 /// and what was translated is translated to itself (`twice_is_once`).
+///
+/// # Errors
+///
+/// `NotAnEncoding` where no octets in front are an encoding of a value that nests at most 128 levels, `Surplus` where octets stand behind one,
+/// `NoTarget` where the value has no encoding by the rules `to`, and `Memory` for want of memory.
 pub fn recode<T: Encode + Decode>(
     alloc: Global,
     from: Codec,

@@ -24,6 +24,10 @@ impl<T> SetOf<T> {
     }
 
     /// A bag with no member, and with room for so many.
+    ///
+    /// # Errors
+    ///
+    /// Want of memory.
     pub fn with_capacity(alloc: Global, capacity: usize) -> Result<Self, AllocError>
         ensures { IfOk result (λ s. s.items.items ≡ []) }
     {
@@ -39,6 +43,10 @@ impl<T> SetOf<T> {
     }
 
     /// Puts a member into the bag. Where memory is wanting, the member comes back, and the bag is as before.
+    ///
+    /// # Errors
+    ///
+    /// Want of memory, with the member in the error.
     pub fn insert(&mut self, item: T) -> Result<(), AllocFailed<T>>
         ensures inserted { OnOk result (self.new.items.items ≡ self.old.items.items ++ item ∷ []) }
         ensures unchanged { OnErr result (self.new.items.items ≡ self.old.items.items) }
@@ -91,6 +99,10 @@ impl<T> SetOf<T> {
     }
 
     /// The members, each borrowed, in the order in which they stand.
+    ///
+    /// # Errors
+    ///
+    /// Want of memory.
     pub fn to_vec(&self, alloc: Global) -> Result<Vec<&T>, AllocError>
         ensures { IfOk result (λ v. map (λ x. x.now) v.items ≡ self.now.items.items) }
     {

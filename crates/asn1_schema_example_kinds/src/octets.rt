@@ -12,6 +12,10 @@ use std::alloc::{AllocError, Global};
 pub type Octets = SetOf<u8>;
 
 /// The bag of these numbers.
+///
+/// # Errors
+///
+/// Want of memory.
 pub fn octets_of(alloc: Global, numbers: &[u8]) -> Result<Octets, AllocError>
     ensures { IfOk result (λ s. s.items.items ≡ numbers.now) }
 {

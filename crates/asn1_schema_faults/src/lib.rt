@@ -78,10 +78,10 @@ pub enum DecodeError {
     /// The canonical octet encoding rules refuse the form.
     #[error("the form is not the canonical one")]
     NotValidCanonicalEncoding,
-    /// A tag has no class or number: only a type that is not lawful gives this.
+    /// A tag has no class or number. No call answers this.
     #[error("a tag has no class or number")]
     MissingTagClassOrValue,
-    /// A type without a mark has additions: only a type that is not lawful gives this.
+    /// A type without a mark has additions. No call answers this.
     #[error("the type is not extensible")]
     TypeNotExtensible,
     /// An object identifier is truncated, padded or empty, or an arc is past 32 bits.
@@ -132,7 +132,7 @@ pub enum EncodeError {
     /// The encoding has 2^60 octets or more.
     #[error("the encoding is too long")]
     TooLongValue,
-    /// A length in bits does not fit 64 bits.
+    /// A length in bits does not fit 64 bits. No call answers this: no memory is left before.
     #[error("a length in bits does not fit")]
     LengthExceedsPlatformSize,
     /// No memory was left.

@@ -25,6 +25,10 @@ impl Encoded for Vec<u8> {
 /// Puts encodings in ascending order (X.696 19): the first octet in which two differ tells which stands before the
 /// other, and one with which another begins stands before that. Those of the same octets stay as they stood. Takes
 /// memory for as many items, where they are more than 20 and out of order, and a refusal of it leaves them unmoved.
+///
+/// # Errors
+///
+/// Want of memory; the items are then as they were.
 pub fn put_in_order<T: Encoded>(items: &mut Vec<T>) -> Result<(), AllocError>
     ensures { MatchResult result (λ _. ascending (λ x. Some (T.encoding x)) (stands_before ltb) items.old.items ≡ Some items.new.items) (λ _. items.new.items ≡ items.old.items) }
 {

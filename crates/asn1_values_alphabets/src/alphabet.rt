@@ -37,6 +37,10 @@ impl CharacterAlphabet {
     /// An alphabet of characters that ascend strictly; an empty list does.
     ///
     /// Where `raised` is true a code takes 1, 2, 4, 8, 16 or 32 bits, or none (X.691 30.5.2).
+    ///
+    /// # Errors
+    ///
+    /// `InvalidData` where the characters do not ascend strictly, and `Memory` for want of memory.
     pub fn new(
         alloc: Global,
         characters: &[u32],
@@ -70,6 +74,10 @@ impl CharacterAlphabet {
     }
 
     /// The code of a permitted character (X.691 30.5.4).
+    ///
+    /// # Errors
+    ///
+    /// `CharacterNotFound` where the character is not permitted.
     pub fn encode(&self, character: u32) -> Result<u32, PermittedAlphabetError>
         ensures code { IfOk result (λ code. code_of self.now character ≡ Some code) }
         ensures narrow { IfOk result (λ code. code < 2 ^ self.now.code_bits) }
@@ -85,6 +93,10 @@ impl CharacterAlphabet {
     }
 
     /// The permitted character that has this code.
+    ///
+    /// # Errors
+    ///
+    /// `IndexNotFound` where no permitted character has the code.
     pub fn decode(&self, code: u32) -> Result<u32, PermittedAlphabetError>
         ensures character { IfOk result (λ character. code_of self.now character ≡ Some code) }
         ensures alone { IfOk result (λ character. (other : ℕ) → code_of self.now other ≡ Some code → other ≡ character) }

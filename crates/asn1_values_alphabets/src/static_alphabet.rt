@@ -55,6 +55,10 @@ pub trait StaticPermittedAlphabet: Drop {
 }
 
 /// The string of a text's characters. Memory is taken once, and none where a character is refused.
+///
+/// # Errors
+///
+/// The refusal of the first character that the type has not, or `Memory` for want of memory.
 pub fn string_of_text<S: StaticPermittedAlphabet>(
     alloc: Global,
     text: &str,

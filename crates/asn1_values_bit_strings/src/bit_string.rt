@@ -34,6 +34,10 @@ impl BitString {
     }
 
     /// All bits of the octets.
+    ///
+    /// # Errors
+    ///
+    /// Want of memory.
     pub fn from_slice(alloc: Global, octets: &[u8]) -> Result<Self, AllocError>
         ensures { IfOk result (λ string. string ≡ octet_bits octets.now) }
     {
@@ -43,6 +47,10 @@ impl BitString {
     }
 
     /// The bits of a view.
+    ///
+    /// # Errors
+    ///
+    /// Want of memory.
     pub fn from_bitslice(alloc: Global, bits: BitStr<'_>) -> Result<Self, AllocError>
         ensures { IfOk result (λ string. string ≡ bits_of bits.entry) }
     {
@@ -88,6 +96,10 @@ impl BitString {
     }
 
     /// Adds one bit.
+    ///
+    /// # Errors
+    ///
+    /// Want of memory; nothing is changed then.
     pub fn push(&mut self, bit: bool) -> Result<(), AllocError>
         ensures ok { OnOk result (self.new ≡ self.old ++ bit ∷ []) }
         ensures err { OnErr result (self.new ≡ self.old) }

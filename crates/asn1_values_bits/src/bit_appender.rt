@@ -17,6 +17,10 @@ pub struct BitAppender<'a> {
 
 impl BitBuffer {
     /// Makes room for so many bits, to be added by an appender.
+    ///
+    /// # Errors
+    ///
+    /// Want of memory; nothing is changed then.
     pub fn appender(&mut self, room: usize) -> Result<BitAppender<'_>, AllocError>
         ensures* refused { sem 𝓛 (RestsIfErr the_row self.entry lender_of result (λ last. last ≡ self.old)) }
         ensures same_reference { IfOk result (λ appender. lender_of appender ≡ self.entry.ghost_name) }

@@ -97,6 +97,10 @@ impl BitBuffer {
     }
 
     /// Makes room for so many octets behind those that are there.
+    ///
+    /// # Errors
+    ///
+    /// Want of memory; nothing is changed then.
     pub fn reserve_bytes(&mut self, additional: usize) -> Result<(), AllocError>
         ensures { self.new ≡ self.old }
     {
@@ -148,6 +152,10 @@ impl BitBuffer {
     }
 
     /// Adds one bit.
+    ///
+    /// # Errors
+    ///
+    /// Want of memory; nothing is changed then.
     #[inline(always)]
     pub fn push(&mut self, bit: bool) -> Result<(), AllocError>
         ensures ok { OnOk result (self.new ≡ self.old ++ bit ∷ []) }
@@ -158,6 +166,10 @@ impl BitBuffer {
     }
 
     /// Adds the low `width` bits of a number, the highest first.
+    ///
+    /// # Errors
+    ///
+    /// Want of memory; nothing is changed then.
     #[inline(always)]
     pub fn push_bits(&mut self, value: u128, width: u32) -> Result<(), AllocError>
         requires { width ≤ 128 }
@@ -258,6 +270,10 @@ impl BitBuffer {
     }
 
     /// Adds the bits of all the octets.
+    ///
+    /// # Errors
+    ///
+    /// Want of memory; nothing is changed then.
     pub fn extend_from_bytes(&mut self, bytes: &[u8]) -> Result<(), AllocError>
         ensures ok { OnOk result (self.new ≡ self.old ++ octet_bits bytes.now) }
         ensures err { OnErr result (self.new ≡ self.old) }
@@ -342,6 +358,10 @@ impl BitBuffer {
     }
 
     /// Adds the bits of a view.
+    ///
+    /// # Errors
+    ///
+    /// Want of memory; nothing is changed then.
     pub fn extend_from_bitslice(&mut self, bits: BitStr<'_>) -> Result<(), AllocError>
         ensures ok { OnOk result (self.new ≡ self.old ++ bits_of bits.entry) }
         ensures err { OnErr result (self.new ≡ self.old) }
@@ -354,6 +374,10 @@ impl BitBuffer {
     }
 
     /// Adds the bits of another buffer.
+    ///
+    /// # Errors
+    ///
+    /// Want of memory; nothing is changed then.
     pub fn extend_from_buffer(&mut self, other: &BitBuffer) -> Result<(), AllocError>
         ensures ok { OnOk result (self.new ≡ self.old ++ other.now) }
         ensures err { OnErr result (self.new ≡ self.old) }
@@ -405,6 +429,10 @@ impl BitBuffer {
     }
 
     /// Keeps the first `len` bits, or adds copies of a bit up to `len` bits.
+    ///
+    /// # Errors
+    ///
+    /// Want of memory; nothing is changed then.
     pub fn resize(&mut self, len: usize, bit: bool) -> Result<(), AllocError>
         ensures ok { OnOk result (self.new ≡ take len self.old ++ replicate (len - length self.old) bit) }
         ensures err { OnErr result (self.new ≡ self.old) }

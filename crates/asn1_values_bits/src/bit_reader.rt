@@ -69,6 +69,10 @@ impl<'a> BitReader<'a> {
     }
 
     /// Takes the first bits off. Where there are fewer, it answers how many are missing, and stays as it is.
+    ///
+    /// # Errors
+    ///
+    /// How many bits are missing, where there are fewer than `count`; the reader is then as it was.
     pub fn split(&mut self, count: usize) -> Result<BitReader<'a>, usize>
         ensures ok { IsOk result ↔ (count ≤ length self.old.bits) }
         ensures front { IfOk result (λ front. front.bits ≡ take count self.old.bits) }
@@ -125,6 +129,10 @@ impl<'a> BitReader<'a> {
 
     /// The unread bits in octets, with zero bits behind the last one. Where the bits begin at an octet and end at one, the octets
     /// are lent and no memory is taken.
+    ///
+    /// # Errors
+    ///
+    /// Want of memory, and not where the octets are lent.
     pub fn octets(&self, alloc: Global) -> Result<CowSlice<'a, u8>, AllocError>
         ensures octets { IfOk result (λ octets. octet_bits (cow_slice_items octets) ≡ filled_up self.now.bits) }
         ensures lent { self.now.offset ≡ 0 → length self.now.bits % 8 ≡ 0 → IsOkAnd result IsBorrowedSlice }

@@ -112,6 +112,10 @@ fn push_all(buffer: &mut BitBuffer, fields: &[FieldBits<'_>]) -> Result<(), Fiel
 /// Appends the joined bits of the fields: a field's bits stand directly behind those of the one before,
 /// whatever alignment they meet. Refused, it answers the first field that is not written, and the buffer
 /// is as it was: DoesNotFit, or Memory for a field behind fields that fit.
+///
+/// # Errors
+///
+/// The place and the fault of the first field that is not written; the buffer is then as it was.
 pub fn write_fields(buffer: &mut BitBuffer, fields: &[FieldBits<'_>]) -> Result<(), FieldFault>
     ensures ok { OnOk result (appended buffer.old (bits_of_fields fields.now) ≡ Some buffer.new) }
     ensures err { OnErr result (buffer.new ≡ buffer.old) }

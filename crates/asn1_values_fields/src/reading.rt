@@ -279,6 +279,10 @@ fn read_all(
 /// Takes the fields of the shapes off the front of the unread bits, at any bit. It takes exactly what
 /// begins with their joined bits, a whole number in its fewest octets, and leaves the rest. Else it
 /// answers the first field that is wrong, and the reader is as it was.
+///
+/// # Errors
+///
+/// The place and the fault of the first field that is not read; the reader is then as it was.
 pub fn read_fields<'a>(
     alloc: Global,
     reader: &mut BitReader<'a>,

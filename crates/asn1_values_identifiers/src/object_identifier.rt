@@ -63,6 +63,10 @@ impl ObjectIdentifier {
     }
 
     /// A copy of a borrowed identifier.
+    ///
+    /// # Errors
+    ///
+    /// Want of memory.
     pub fn from_oid(alloc: Global, oid: &Oid<'_>) -> Result<ObjectIdentifier, AllocError>
         ensures { IfOk result (λ o. o ≡ oid.now) }
     {

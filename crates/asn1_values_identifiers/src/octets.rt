@@ -137,6 +137,10 @@ fn arcs_from_octets(alloc: Global, octets: &[u8]) -> Result<Vec<u32>, Identifier
 }
 
 /// The contents octets of an identifier (X.690 8.19). An identifier of one arc has none: Truncated.
+///
+/// # Errors
+///
+/// `Truncated` for an identifier of one arc, and `Memory` for want of memory.
 pub fn oid_octets(alloc: Global, identifier: &Oid<'_>) -> Result<Vec<u8>, IdentifierError>
     ensures octets { IfOk result (λ v. v.items ≡ identifier_octets identifier.now) }
     ensures reads_back { IfOk result (λ v. arcs_of v.items ≡ Ok identifier.now) }
@@ -151,6 +155,10 @@ pub fn oid_octets(alloc: Global, identifier: &Oid<'_>) -> Result<Vec<u8>, Identi
 /// The identifier whose contents octets these are (X.690 8.19), or the fault of the first subidentifier
 /// that is wrong: Padded if it begins with 0x80, else Truncated if it has no last octet, else ArcTooLarge
 /// if an arc does not fit 32 bits. No octets at all are Truncated.
+///
+/// # Errors
+///
+/// `Padded`, `Truncated` or `ArcTooLarge` for the first subidentifier that is wrong, and `Memory` for want of memory.
 pub fn oid_from_octets(alloc: Global, octets: &[u8]) -> Result<ObjectIdentifier, IdentifierError>
     ensures read { IfOk result (λ o. arcs_of octets.now ≡ Ok o) }
     ensures wrong { IfErr result (λ e. (e ≡ IdentifierError.Memory) ⊎ (arcs_of octets.now ≡ Err e)) }

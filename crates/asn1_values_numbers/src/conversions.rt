@@ -105,6 +105,10 @@ impl Integer {
     }
 
     /// The number as a value of a native type; itself, if the type does not hold it.
+    ///
+    /// # Errors
+    ///
+    /// Where the type does not hold the number, which the error gives back.
     pub fn into_native<T: NativeInteger>(self) -> Result<T, TryFromIntegerError>
         ensures value { IfOk result (λ x. T.number x ≡ self) }
         ensures original { IfErr result (λ e. e ≡ self) }

@@ -107,6 +107,10 @@ impl Integer {
     /// The number that octets of two's complement stand for (X.690 8.3). Octets that only repeat
     /// the sign are taken and not kept. Refuses no octets, and takes memory for numbers outside
     /// -2^128 to 2^128 - 1 alone.
+    ///
+    /// # Errors
+    ///
+    /// `Empty` for no octets, and `Memory` for want of memory.
     pub fn from_signed_octets(alloc: Global, octets: &[u8]) -> Result<Integer, IntegerError>
         ensures value { IfOk result (λ n. n ≡ signed_number octets.now) }
         ensures empty { IsErrOf result IntegerError.Empty ↔ (length octets.now ≡ 0) }
@@ -140,6 +144,10 @@ impl Integer {
 
     /// The number that octets without a sign stand for. Leading zeros are taken and not kept.
     /// Refuses no octets, and takes memory for numbers from 2^128 on alone.
+    ///
+    /// # Errors
+    ///
+    /// `Empty` for no octets, and `Memory` for want of memory.
     pub fn from_unsigned_octets(alloc: Global, octets: &[u8]) -> Result<Integer, IntegerError>
         ensures value { IfOk result (λ n. n ≡ pos (unsigned_number octets.now)) }
         ensures empty { IsErrOf result IntegerError.Empty ↔ (length octets.now ≡ 0) }

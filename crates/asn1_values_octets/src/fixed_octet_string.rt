@@ -91,6 +91,10 @@ impl<const N: usize> FixedOctetString<N> {
     }
 
     /// A copy of the octets.
+    ///
+    /// # Errors
+    ///
+    /// Want of memory.
     pub fn to_vec(&self, alloc: Global) -> Result<Vec<u8>, AllocError>
         ensures { IfOk result (λ v. v.items ≡ self.now) }
     {

@@ -49,6 +49,10 @@ impl OctetString {
     }
 
     /// The string of a copy of these octets.
+    ///
+    /// # Errors
+    ///
+    /// Want of memory.
     pub fn from_slice(alloc: Global, value: &[u8]) -> Result<OctetString, AllocError>
         ensures { IfOk result (λ s. s ≡ value.now) }
     {
@@ -68,6 +72,10 @@ impl OctetString {
     }
 
     /// The string of the vector's octets, which are not copied. Refused, the error hands the vector back.
+    ///
+    /// # Errors
+    ///
+    /// Want of memory, with the vector in the error.
     pub fn from_vec(value: Vec<u8>) -> Result<OctetString, AllocFailed<Vec<u8>>>
         ensures ok { IfOk result (λ s. s ≡ value.items) }
         ensures value_returned { IfErr result (λ e. e.value.items ≡ value.items) }
@@ -100,6 +108,10 @@ impl OctetString {
     }
 
     /// A copy of the octets.
+    ///
+    /// # Errors
+    ///
+    /// Want of memory.
     pub fn to_vec(&self, alloc: Global) -> Result<Vec<u8>, AllocError>
         ensures { IfOk result (λ v. v.items ≡ self.now) }
     {
@@ -107,6 +119,10 @@ impl OctetString {
     }
 
     /// The octets as a vector. Where no clone shares them, they are not copied.
+    ///
+    /// # Errors
+    ///
+    /// Want of memory.
     pub fn into_vec(self, alloc: Global) -> Result<Vec<u8>, AllocError>
         ensures { IfOk result (λ v. v.items ≡ self) }
     {

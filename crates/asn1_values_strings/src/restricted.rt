@@ -60,6 +60,10 @@ impl<K: CharacterKind> RestrictedString<K> {
     }
 
     /// The string of these characters, each one octet.
+    ///
+    /// # Errors
+    ///
+    /// The refusal of the first character that the type has not, or `Memory` for want of memory.
     pub fn from_bytes(alloc: Global, bytes: &[u8]) -> Result<Self, PermittedAlphabetError>
         ensures characters { IfOk result (λ s. s ≡ bytes.now) }
         ensures permitted { OnOk result (IsTrue (permits_all K.kind bytes.now)) }
@@ -74,6 +78,10 @@ impl<K: CharacterKind> RestrictedString<K> {
     }
 
     /// The string of a text's characters.
+    ///
+    /// # Errors
+    ///
+    /// The refusal of the first character that the type has not, or `Memory` for want of memory.
     pub fn from_text(alloc: Global, text: &str) -> Result<Self, PermittedAlphabetError>
         ensures characters { IfOk result (λ s. s ≡ chars text.now) }
         ensures permitted { OnOk result (IsTrue (permits_all K.kind (chars text.now))) }
@@ -83,6 +91,10 @@ impl<K: CharacterKind> RestrictedString<K> {
     }
 
     /// The string of these octets as characters. Where no clone shares the octets, they are not copied.
+    ///
+    /// # Errors
+    ///
+    /// The refusal of the first character that the type has not, or `Memory` for want of memory.
     pub fn from_octet_string(
         alloc: Global,
         octets: OctetString,
@@ -110,6 +122,10 @@ impl<K: CharacterKind> RestrictedString<K> {
     }
 
     /// A copy of the characters, each one octet.
+    ///
+    /// # Errors
+    ///
+    /// Want of memory.
     pub fn to_bytes(&self, alloc: Global) -> Result<Vec<u8>, AllocError>
         ensures { IfOk result (λ v. v.items ≡ self.now) }
     {
@@ -148,6 +164,10 @@ impl<K: CharacterKind> RestrictedString<K> {
     }
 
     /// Appends a character. Refused, the string is as it was.
+    ///
+    /// # Errors
+    ///
+    /// The refusal of a character that the type has not, or `Memory` for want of memory.
     pub fn push_char(&mut self, character: u32) -> Result<(), PermittedAlphabetError>
         ensures pushed { OnOk result (self.new ≡ self.old ++ character ∷ []) }
         ensures permitted { OnOk result (IsTrue (permits K.kind character)) }

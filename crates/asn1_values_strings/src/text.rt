@@ -12,6 +12,10 @@ use std::fmt;
 
 impl<K: TextKind> RestrictedString<K> {
     /// The string of these characters of ISO 646.
+    ///
+    /// # Errors
+    ///
+    /// The refusal of the first character that the type has not, or `Memory` for want of memory.
     pub fn from_iso646_bytes(alloc: Global, bytes: &[u8]) -> Result<Self, PermittedAlphabetError>
         ensures characters { IfOk result (λ s. s ≡ bytes.now) }
         ensures permitted { OnOk result (IsTrue (permits_all K.kind bytes.now)) }

@@ -56,6 +56,10 @@ impl BmpString {
     }
 
     /// The string of the characters that these octets are in pairs. An odd octet is refused.
+    ///
+    /// # Errors
+    ///
+    /// The refusal of an odd octet, or `Memory` for want of memory.
     pub fn from_bytes(alloc: Global, bytes: &[u8]) -> Result<Self, PermittedAlphabetError>
         ensures characters { IfOk result (λ s. flat_map (digits 256 2) s ≡ bytes.now) }
         ensures even { OnOk result (length bytes.now % 2 ≡ 0) }
@@ -78,6 +82,10 @@ impl BmpString {
     }
 
     /// The string of a text's characters.
+    ///
+    /// # Errors
+    ///
+    /// The refusal of the first character that the type has not, or `Memory` for want of memory.
     pub fn from_text(alloc: Global, text: &str) -> Result<Self, PermittedAlphabetError>
         ensures characters { IfOk result (λ s. s ≡ chars text.now) }
         ensures permitted { OnOk result (IsTrue (permits_all bmp (chars text.now))) }
@@ -87,6 +95,10 @@ impl BmpString {
     }
 
     /// The string of the characters that these octets are in pairs. An odd octet is refused.
+    ///
+    /// # Errors
+    ///
+    /// The refusal of an odd octet, or `Memory` for want of memory.
     pub fn from_octet_string(
         alloc: Global,
         octets: OctetString,
@@ -108,6 +120,10 @@ impl BmpString {
     }
 
     /// The characters as octets, two for each, the most significant first.
+    ///
+    /// # Errors
+    ///
+    /// Want of memory.
     pub fn to_bytes(&self, alloc: Global) -> Result<Vec<u8>, AllocError>
         ensures { IfOk result (λ v. v.items ≡ flat_map (digits 256 2) self.now) }
     {
@@ -151,6 +167,10 @@ impl BmpString {
     }
 
     /// Appends a character. Refused, the string is as it was.
+    ///
+    /// # Errors
+    ///
+    /// The refusal of a character that the type has not, or `Memory` for want of memory.
     pub fn push_char(&mut self, character: u32) -> Result<(), PermittedAlphabetError>
         ensures pushed { OnOk result (self.new ≡ self.old ++ character ∷ []) }
         ensures permitted { OnOk result (IsTrue (permits bmp character)) }

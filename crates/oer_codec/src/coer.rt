@@ -12,7 +12,7 @@ use asn1_schema_encode::Encode;
 use asn1_schema_faults::{DecodeError, EncodeError};
 use std::alloc::Global;
 
-/// The canonical encoding of a value, which OER and COER have in common.
+/// The canonical encoding of a value (X.696), which OER and COER have in common.
 ///
 /// # Errors
 ///
@@ -26,7 +26,7 @@ pub fn encode<T: Encode>(alloc: Global, value: &T) -> Result<Vec<u8>, EncodeErro
     Ok(octets)
 }
 
-/// Adds the canonical encoding of a value behind what stands in the buffer.
+/// Adds the canonical encoding of a value (X.696) behind what stands in the buffer.
 ///
 /// # Errors
 ///
@@ -44,7 +44,7 @@ pub fn encode_buf<T: Encode>(
     Ok(())
 }
 
-/// The canonical encoding of a value under these constraints, which stand in place of those of its type.
+/// The canonical encoding of a value (X.696) under these constraints, which stand in place of those of its type.
 ///
 /// # Errors
 ///
@@ -61,7 +61,7 @@ pub fn encode_with_constraints<T: Encode>(
     Ok(octets)
 }
 
-/// Reads the value whose encoding stands in front, and passes over the octets behind it.
+/// Reads the value whose encoding (X.696) stands in front, and passes over the octets behind it.
 ///
 /// # Errors
 ///
@@ -74,7 +74,7 @@ pub fn decode<T: Decode>(alloc: Global, input: &[u8]) -> Result<T, DecodeError>
     Ok(value)
 }
 
-/// Reads the value whose encoding stands in front, and lends the octets behind it.
+/// Reads the value whose encoding (X.696) stands in front, and lends the octets behind it.
 ///
 /// # Errors
 ///
@@ -90,7 +90,7 @@ pub fn decode_with_remainder<'input, T: Decode>(
     Ok((value, rest))
 }
 
-/// Reads the value whose encoding under these constraints, in place of the type's own, stands in front.
+/// Reads the value whose encoding (X.696) under these constraints, in place of the type's own, stands in front.
 ///
 /// # Errors
 ///

@@ -15,6 +15,10 @@ use std::mem;
 
 /// Begins the additions behind the root of a sequence or of a set with a mark of extensibility (X.696 16): their octets stand alone, in
 /// the worker's room.
+///
+/// # Errors
+///
+/// `OutOfMemory`; any other only where nothing that is open takes this call.
 pub fn begin_additions(
     octets: &mut Vec<u8>,
     worker: &mut Vec<u8>,
@@ -57,6 +61,10 @@ pub(crate) fn count_addition(additions: &mut Additions, present: bool) -> Result
 }
 
 /// Whether the next addition is there (X.696 16.4): its octets then stand behind those in front, as an open type.
+///
+/// # Errors
+///
+/// `OutOfMemory`; any other only where nothing that is open takes this call.
 #[inline]
 pub fn put_addition(
     octets: &mut Vec<u8>,
@@ -73,6 +81,10 @@ pub fn put_addition(
 }
 
 /// Ends an addition that is there, whose octets stand behind their number (X.696 16.5).
+///
+/// # Errors
+///
+/// `OutOfMemory`; any other only where nothing that is open takes this call.
 #[inline]
 pub fn end_addition(
     octets: &mut Vec<u8>,

@@ -39,6 +39,10 @@ fn tag_of_chosen(roots: &[Tag], extensible: bool, additions: &[Tag], chosen: Cho
 }
 
 /// Begins a CHOICE with the tag of the chosen alternative (X.696 20), of which an added one is an open type.
+///
+/// # Errors
+///
+/// `OutOfMemory`; any other only where nothing that is open takes this call.
 #[inline(always)]
 pub fn begin_choice(
     octets: &mut Vec<u8>,

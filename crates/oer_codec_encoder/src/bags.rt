@@ -23,6 +23,10 @@ use std::alloc::{AllocError, Global};
 use std::mem;
 
 /// Begins a bag with its count (X.696 19), which the program's type has to hold.
+///
+/// # Errors
+///
+/// `OutOfMemory`; any other only where nothing that is open takes this call.
 pub fn begin_bag(
     octets: &mut Vec<u8>,
     frames: &mut Frames,

@@ -14,6 +14,10 @@ use std::mem;
 
 /// Ends what is innermost (X.696 16, 17, 19, 20 and 30): of a sequence without a mark no presence bit is due, of one with a mark
 /// no addition, and of a list and a bag no member. The worker gets back the room of additions.
+///
+/// # Errors
+///
+/// `OutOfMemory`; any other only where nothing that is open takes this call.
 #[inline(always)]
 pub fn end_scope(
     octets: &mut Vec<u8>,

@@ -97,6 +97,10 @@ impl Frames {
     }
 
     /// Whether a further member of the innermost list or bag comes (X.696 17 and 19): nothing is written, and as many come as were told.
+    ///
+    /// # Errors
+    ///
+    /// `OutOfMemory`; any other only where nothing that is open takes this call.
     #[inline(always)]
     pub fn put_further(
         &mut self,

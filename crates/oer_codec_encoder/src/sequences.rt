@@ -33,6 +33,10 @@ fn push_zeros(octets: &mut Vec<u8>, count: usize) -> Result<(), EncodeError>
 }
 
 /// Begins a sequence, with its preamble (X.696 16.2), in which no bit is set.
+///
+/// # Errors
+///
+/// `OutOfMemory`, and no other.
 #[inline]
 pub fn begin_components(
     octets: &mut Vec<u8>,
@@ -74,6 +78,10 @@ pub(crate) fn raise_bit(octets: &mut Vec<u8>, start: usize, place: usize)
 }
 
 /// Whether the next component is there, of those that may be absent (X.696 16.2): sets its bit if it is.
+///
+/// # Errors
+///
+/// `OutOfMemory`; any other only where nothing that is open takes this call.
 #[inline]
 pub fn put_mark(octets: &mut Vec<u8>, frames: &mut Frames, present: bool) -> Result<(), EncodeError>
     requires { AreSound frames.old octets.old.items }
@@ -90,6 +98,10 @@ pub fn put_mark(octets: &mut Vec<u8>, frames: &mut Frames, present: bool) -> Res
 }
 
 /// Begins a list with its count (X.696 17), which the program's type has to hold.
+///
+/// # Errors
+///
+/// `OutOfMemory`; any other only where nothing that is open takes this call.
 #[inline]
 pub fn begin_members(
     octets: &mut Vec<u8>,

@@ -40,6 +40,10 @@ fn push_bits(octets: &mut Vec<u8>, value: BitStr) -> Result<(), EncodeError>
 }
 
 /// Adds bits, behind a length and the number of unused bits unless there is one size (X.696 13).
+///
+/// # Errors
+///
+/// `OutOfMemory`, and no other.
 pub fn push_sized_bits(octets: &mut Vec<u8>, fixed: bool, value: BitStr) -> Result<(), EncodeError>
     ensures { MatchResult result (λ _. Adds (written (bit_string_form fixed (bits_of value.entry)) 0) octets.old.items octets.new.items) (λ e. e ≡ EncodeError.OutOfMemory) }
 {
@@ -55,6 +59,10 @@ pub fn push_sized_bits(octets: &mut Vec<u8>, fixed: bool, value: BitStr) -> Resu
 }
 
 /// Adds a BIT STRING (X.696 13).
+///
+/// # Errors
+///
+/// `OutOfMemory`; any other only where the value has no encoding in this form.
 pub fn push_bit_string(
     octets: &mut Vec<u8>,
     constraints: Constraints,

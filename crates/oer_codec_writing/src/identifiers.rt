@@ -12,6 +12,10 @@ use asn1_values_identifiers::{IdentifierError, Oid, oid_octets};
 use std::alloc::Global;
 
 /// Adds an OBJECT IDENTIFIER (X.696 21). One of a single arc has no contents.
+///
+/// # Errors
+///
+/// `OutOfMemory`; any other only where the value has no encoding in this form.
 pub fn push_identifier(octets: &mut Vec<u8>, alloc: Global, value: &Oid) -> Result<(), EncodeError>
     ensures { MatchResult result (λ _. Adds (written (form object_identifier (arcs value.now)) 0) octets.old.items octets.new.items) (Refuses (written (form object_identifier (arcs value.now)) 0)) }
 {

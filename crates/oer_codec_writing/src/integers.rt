@@ -101,6 +101,10 @@ fn push_number(
 }
 
 /// Adds an INTEGER (X.696 10), of at most 128 bits under a value constraint; bounds with a mark count for nothing.
+///
+/// # Errors
+///
+/// `OutOfMemory`; any other only where the value has no encoding in this form.
 #[inline]
 pub fn push_integer<I: IntegerType>(
     octets: &mut Vec<u8>,

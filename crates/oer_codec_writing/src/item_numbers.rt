@@ -7,7 +7,11 @@ use asn1_schema_faults::EncodeError;
 use asn1_values_integer_types::IntegerType;
 
 /// Adds the number of an item (X.696 11): one octet for 0 to 127, else the fewest octets of two's complement behind
-/// 0x80 and how many they are. Only memory can be refused.
+/// 0x80 and how many they are.
+///
+/// # Errors
+///
+/// `OutOfMemory`, and no other.
 pub fn push_item(octets: &mut Vec<u8>, number: isize) -> Result<(), EncodeError>
     ensures { MatchResult result (λ _. option_map (λ w. octets.old.items ++ w) (written (item_form number) 0) ≡ Some octets.new.items) (λ e. e ≡ EncodeError.OutOfMemory) }
 {

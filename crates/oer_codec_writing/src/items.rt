@@ -11,6 +11,10 @@ use asn1_schema_faults::EncodeError;
 use asn1_schema_variants::Enumerated;
 
 /// Adds an ENUMERATED by the number of its item (X.696 11).
+///
+/// # Errors
+///
+/// `OutOfMemory`, and no other.
 pub fn push_enumerated<T: Enumerated>(octets: &mut Vec<u8>, value: &T) -> Result<(), EncodeError>
     ensures { MatchResult result (λ _. Adds (written (form (enumerated T.roots T.extensible T.additions) (item (T.number value.now))) 0) octets.old.items octets.new.items) (λ e. e ≡ EncodeError.OutOfMemory) }
 {

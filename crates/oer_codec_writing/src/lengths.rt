@@ -32,6 +32,10 @@ pub(crate) fn push_length(octets: &mut Vec<u8>, length: usize) -> Result<(), Enc
 }
 
 /// Adds octets behind their number (X.696 8.6).
+///
+/// # Errors
+///
+/// `OutOfMemory`, and no other.
 #[inline(always)]
 pub fn push_counted(octets: &mut Vec<u8>, contents: &[u8]) -> Result<(), EncodeError>
     ensures { MatchResult result (λ _. Adds (written (counted contents.now) 0) octets.old.items octets.new.items) (λ e. e ≡ EncodeError.OutOfMemory) }
@@ -42,6 +46,10 @@ pub fn push_counted(octets: &mut Vec<u8>, contents: &[u8]) -> Result<(), EncodeE
 }
 
 /// Adds a count of members (X.696 17): its fewest octets, at least one, behind their number.
+///
+/// # Errors
+///
+/// `OutOfMemory`, and no other.
 pub fn push_count(octets: &mut Vec<u8>, count: usize) -> Result<(), EncodeError>
     ensures { MatchResult result (λ _. Adds (written (unsigned count) 0) octets.old.items octets.new.items) (λ e. e ≡ EncodeError.OutOfMemory) }
 {

@@ -9,6 +9,10 @@ ghost use Rattle.oer_codec_writing.specs.Writing.{Adds};
 use asn1_schema_faults::EncodeError;
 
 /// Adds a BOOLEAN (X.696 9).
+///
+/// # Errors
+///
+/// `OutOfMemory`, and no other.
 pub fn push_boolean(octets: &mut Vec<u8>, value: bool) -> Result<(), EncodeError>
     ensures { MatchResult result (λ _. Adds (written (form boolean (truth value)) 0) octets.old.items octets.new.items) (λ e. e ≡ EncodeError.OutOfMemory) }
 {

@@ -52,6 +52,10 @@ pub(crate) fn push_sized(
 }
 
 /// Adds an OCTET STRING (X.696 14).
+///
+/// # Errors
+///
+/// `OutOfMemory`; any other only where the value has no encoding in this form.
 #[inline(always)]
 pub fn push_octet_string(
     octets: &mut Vec<u8>,

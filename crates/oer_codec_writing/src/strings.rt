@@ -18,6 +18,10 @@ use asn1_schema_faults::EncodeError;
 use asn1_values_alphabets::StaticPermittedAlphabet;
 
 /// Adds a UTF8String (X.696 27).
+///
+/// # Errors
+///
+/// `OutOfMemory`; any other only where the value has no encoding in this form.
 pub fn push_utf8(
     octets: &mut Vec<u8>,
     constraints: Constraints,
@@ -99,6 +103,10 @@ fn push_wide_string<S: StaticPermittedAlphabet>(
 }
 
 /// Adds a character string of a kind with an alphabet of its own (X.696 27).
+///
+/// # Errors
+///
+/// `OutOfMemory`; any other only where the value has no encoding in this form.
 pub fn push_characters<S: StaticPermittedAlphabet>(
     octets: &mut Vec<u8>,
     constraints: Constraints,

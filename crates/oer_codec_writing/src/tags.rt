@@ -53,7 +53,11 @@ fn push_groups(octets: &mut Vec<u8>, number: u32) -> Result<(), AllocError>
 }
 
 /// Adds a tag (X.696 8.7): two bits of class, and a number below 63 in six bits, else six one bits and the number in
-/// groups of seven bits. Only memory can be refused.
+/// groups of seven bits.
+///
+/// # Errors
+///
+/// `OutOfMemory`, and no other.
 pub fn push_tag(octets: &mut Vec<u8>, tag: Tag) -> Result<(), EncodeError>
     ensures { MatchResult result (λ _. option_map (λ w. octets.old.items ++ w) (written (tag_form (tag_of tag)) 0) ≡ Some octets.new.items) (λ e. e ≡ EncodeError.OutOfMemory) }
 {

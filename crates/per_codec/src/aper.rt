@@ -14,7 +14,7 @@ pub use per_codec_encoder::{Encoder, EncoderOptions};
 use per_codec_reading::Variant;
 use std::alloc::Global;
 
-/// The canonical encoding of a value: at least one octet.
+/// The canonical encoding of a value (X.691 11.1): at least one octet.
 ///
 /// # Errors
 ///
@@ -28,7 +28,7 @@ pub fn encode<T: Encode>(alloc: Global, value: &T) -> Result<Vec<u8>, EncodeErro
     Ok(octets)
 }
 
-/// Puts the canonical encoding of a value in the place of what the buffer holds.
+/// Puts the canonical encoding of a value (X.691 11.1) in the place of what the buffer holds.
 ///
 /// # Errors
 ///
@@ -46,7 +46,7 @@ pub fn encode_buf<T: Encode>(
     Ok(())
 }
 
-/// The canonical encoding of a value under these constraints, which stand in place of those of its type.
+/// The canonical encoding of a value (X.691 11.1) under these constraints, which stand in place of those of its type.
 ///
 /// # Errors
 ///
@@ -64,7 +64,7 @@ pub fn encode_with_constraints<T: Encode>(
     Ok(octets)
 }
 
-/// Reads the value whose encoding stands in front, and passes over the octets behind it.
+/// Reads the value whose encoding (X.691 11.1) stands in front, and passes over the octets behind it.
 ///
 /// # Errors
 ///
@@ -77,7 +77,7 @@ pub fn decode<T: Decode>(alloc: Global, input: &[u8]) -> Result<T, DecodeError>
     Ok(value)
 }
 
-/// Reads the value whose encoding stands in front, and lends the octets behind it.
+/// Reads the value whose encoding (X.691 11.1) stands in front, and lends the octets behind it.
 ///
 /// # Errors
 ///
@@ -93,7 +93,7 @@ pub fn decode_with_remainder<'input, T: Decode>(
     Ok((value, rest))
 }
 
-/// Reads the value whose encoding under these constraints, in place of the type's own, stands in front.
+/// Reads the value whose encoding (X.691 11.1) under these constraints, in place of the type's own, stands in front.
 ///
 /// # Errors
 ///

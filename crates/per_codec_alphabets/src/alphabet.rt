@@ -52,6 +52,10 @@ impl EffectiveAlphabet {
     ///
     /// Where `aligned` is true a code takes 1, 2, 4, 8 or 16 bits, or none (X.691 30.5.2). Memory is taken once, and only under a constraint
     /// that counts.
+    ///
+    /// # Errors
+    ///
+    /// Want of memory.
     pub fn new<S: StaticPermittedAlphabet>(
         alloc: Global,
         aligned: bool,

@@ -209,6 +209,10 @@ fn push_character(runs: &mut Vec<CharacterRun>, character: u32) -> Result<(), Al
 }
 
 /// Those of the characters that a type of strings has, in the order given.
+///
+/// # Errors
+///
+/// Want of memory.
 pub fn kept_runs<S: StaticPermittedAlphabet>(
     alloc: Global,
     characters: &[u32],

@@ -12,6 +12,10 @@ use std::alloc::Global;
 use std::mem;
 
 /// Behind the root of a sequence or set with a mark of extensibility come so many additions (X.691 19.7).
+///
+/// # Errors
+///
+/// `OutOfMemory`; any other only where nothing that is open takes this call.
 pub fn begin_additions(
     output: &Packing,
     frames: &mut Frames,
@@ -62,6 +66,10 @@ pub(crate) fn count_addition(additions: &mut Additions, present: bool) -> Result
 }
 
 /// Whether the next addition is there. The bits of one that is there stand alone until it ends (X.691 11.2 and 19.9).
+///
+/// # Errors
+///
+/// `OutOfMemory`; any other only where nothing that is open takes this call.
 #[inline]
 pub fn put_addition(
     output: &mut Packing,
@@ -80,6 +88,10 @@ pub fn put_addition(
 }
 
 /// An addition ends, and its bits are kept.
+///
+/// # Errors
+///
+/// `OutOfMemory`; any other only where nothing that is open takes this call.
 pub fn end_addition(output: &mut Packing, frames: &mut Frames) -> Result<(), EncodeError>
     ensures { MatchResult result (λ _. (al : Bool) → Does al addition_ends frames.old output.old frames.new output.new) (λ e. (al : Bool) → Cannot al addition_ends frames.old output.old e) }
 {

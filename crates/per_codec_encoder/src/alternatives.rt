@@ -15,6 +15,10 @@ use std::mem;
 
 /// Begins an alternative of a choice with so many in its root: one of these stands behind its place, an added one behind its place as an open
 /// type (X.691 23).
+///
+/// # Errors
+///
+/// `OutOfMemory`; any other only where nothing that is open takes this call.
 pub fn begin_alternative(
     output: &mut Packing,
     frames: &mut Frames,

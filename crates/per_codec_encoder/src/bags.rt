@@ -33,6 +33,10 @@ fn sizes(constraints: Constraints) -> (Bounded<usize>, bool)
 
 /// Begins a bag (X.691 22) of so many members, if the size and the program's type allow so many. Its number of members is judged here, and
 /// written at its end.
+///
+/// # Errors
+///
+/// `OutOfMemory`; any other only where nothing that is open takes this call.
 pub fn begin_bag(
     output: &mut Packing,
     frames: &mut Frames,

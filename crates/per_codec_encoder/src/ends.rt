@@ -54,6 +54,10 @@ fn push_extension(
 
 /// Ends what is innermost: a sequence, set or group of which nothing is due (X.691 19), a list with all its members and headers (X.691 20),
 /// a bag (X.691 22), an open type (X.691 11.2) or an alternative (X.691 23).
+///
+/// # Errors
+///
+/// `OutOfMemory`; any other only where nothing that is open takes this call.
 pub fn end_scope(
     output: &mut Packing,
     frames: &mut Frames,

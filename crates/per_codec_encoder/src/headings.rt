@@ -49,6 +49,10 @@ fn push_header(output: &mut Packing, aligned: bool, count: usize) -> Result<Due,
 }
 
 /// Adds the header that comes in front of the next member or the end, if one does (X.691 11.9.3.8).
+///
+/// # Errors
+///
+/// `OutOfMemory`, and no other.
 #[inline]
 pub fn push_next_header(output: &mut Packing, aligned: bool, due: Due) -> Result<Due, EncodeError>
     ensures { MatchResult result (λ next. GoesOn aligned due output.old next output.new) (λ e. e ≡ EncodeError.OutOfMemory) }
@@ -115,6 +119,10 @@ fn push_marked_count(
 }
 
 /// Adds the number of members of a list (X.691 20), which the program's type has to hold, or the header of the first of its fragments.
+///
+/// # Errors
+///
+/// `OutOfMemory`; any other only where such a list has no heading.
 pub fn push_heading(
     output: &mut Packing,
     aligned: bool,

@@ -27,6 +27,10 @@ fn preamble_end(start: usize, extensible: bool, optional: usize) -> Option<usize
 }
 
 /// Begins a sequence, a set or a group of additions, with its preamble (X.691 19.1 to 19.3), in which no bit is set.
+///
+/// # Errors
+///
+/// `OutOfMemory`, and no other.
 #[inline]
 pub fn begin_components(
     output: &mut Packing,
@@ -51,6 +55,10 @@ pub fn begin_components(
 }
 
 /// Whether the next component is there, of those that may be absent (X.691 19.2 and 19.3): its bit tells.
+///
+/// # Errors
+///
+/// `OutOfMemory`; any other only where nothing that is open takes this call.
 #[inline(always)]
 pub fn put_mark(output: &mut Packing, frames: &mut Frames, present: bool) -> Result<(), EncodeError>
     requires { AreSound frames.old output.old }
@@ -78,6 +86,10 @@ pub fn put_mark(output: &mut Packing, frames: &mut Frames, present: bool) -> Res
 }
 
 /// Begins a list with the number of its members or its first header (X.691 20), if the size and the program's type allow so many.
+///
+/// # Errors
+///
+/// `OutOfMemory`; any other only where nothing that is open takes this call.
 pub fn begin_members(
     output: &mut Packing,
     frames: &mut Frames,
@@ -131,6 +143,10 @@ fn next_of_frame(
 }
 
 /// Whether a further member of a list or a bag comes: as many come as were told.
+///
+/// # Errors
+///
+/// `OutOfMemory`; any other only where nothing that is open takes this call.
 #[inline(always)]
 pub fn put_further(
     output: &mut Packing,

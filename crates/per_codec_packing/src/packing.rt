@@ -106,6 +106,10 @@ impl Packing {
     }
 
     /// Adds one bit.
+    ///
+    /// # Errors
+    ///
+    /// Want of memory; nothing is changed then.
     #[inline(always)]
     pub fn push(&mut self, bit: bool) -> Result<(), AllocError>
         ensures ok { OnOk result (self.new ≡ plus self.old (as_text (bit ∷ []))) }
@@ -116,6 +120,10 @@ impl Packing {
     }
 
     /// Adds the low `width` bits of a number, the highest first.
+    ///
+    /// # Errors
+    ///
+    /// Want of memory; nothing is changed then.
     #[inline]
     pub fn push_bits(&mut self, value: u128, width: u32) -> Result<(), AllocError>
         requires { width ≤ 128 }
@@ -127,6 +135,10 @@ impl Packing {
     }
 
     /// Adds the bits of all the octets.
+    ///
+    /// # Errors
+    ///
+    /// Want of memory; nothing is changed then.
     pub fn extend_from_bytes(&mut self, bytes: &[u8]) -> Result<(), AllocError>
         ensures ok { OnOk result (self.new ≡ plus self.old (as_text (octet_bits bytes.now))) }
         ensures err { OnErr result (self.new ≡ self.old) }
@@ -136,6 +148,10 @@ impl Packing {
     }
 
     /// Adds the bits of a view.
+    ///
+    /// # Errors
+    ///
+    /// Want of memory; nothing is changed then.
     pub fn extend_from_bitslice(&mut self, bits: BitStr<'_>) -> Result<(), AllocError>
         ensures ok { OnOk result (self.new ≡ plus self.old (as_text (bits_of bits.entry))) }
         ensures err { OnErr result (self.new ≡ self.old) }
@@ -145,6 +161,10 @@ impl Packing {
     }
 
     /// Adds copies of a bit up to `len` bits, by the count of `len`.
+    ///
+    /// # Errors
+    ///
+    /// Want of memory; nothing is changed then.
     pub fn resize(&mut self, len: usize, bit: bool) -> Result<(), AllocError>
         requires { length (solid self.old.text) ≤ len }
         ensures ok { OnOk result (self.new ≡ plus self.old (as_text (replicate (len - length (solid self.old.text)) bit))) }
@@ -164,6 +184,10 @@ impl Packing {
     }
 
     /// Fills up to the next octet (X.691 11.1): with at most seven zero bits where the place is known, else this is left open.
+    ///
+    /// # Errors
+    ///
+    /// Want of memory; nothing is changed then.
     #[inline]
     pub fn align(&mut self) -> Result<(), AllocError>
         ensures ok { OnOk result (self.new ≡ plus self.old (filling_at (place self.old))) }
@@ -180,6 +204,10 @@ impl Packing {
 
     /// Adds another text: filling that it leaves open goes from here up to octets, where the place is known. Where memory is refused, some of it
     /// may be there.
+    ///
+    /// # Errors
+    ///
+    /// Want of memory; a part of the text may then be there.
     pub fn append(&mut self, other: &Packing) -> Result<(), AllocError>
         ensures { OnOk result (Adds (text_at (as_form other.now.text) (place self.old)) self.old self.new) }
     {
@@ -220,6 +248,10 @@ impl Packing {
 
     /// The complete encoding of the text where it stands alone (X.691 11.1): filled up with zero bits to whole octets, and one zero octet in
     /// place of no bits. By these the members of a bag are put in order (X.691 22).
+    ///
+    /// # Errors
+    ///
+    /// Want of memory.
     pub fn complete(&self, alloc: Global) -> Result<Vec<u8>, AllocError>
         ensures { IfOk result (λ octets. written (complete (as_form self.now.text)) 0 ≡ Some (octet_bits octets.items)) }
     {

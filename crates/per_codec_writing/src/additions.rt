@@ -14,7 +14,11 @@ use per_codec_packing::Packing;
 use std::alloc::Global;
 
 /// Adds bits behind a normally small length: up to 64 in six bits behind one that is not set, else behind one that is set and a length
-/// (X.691 11.9.3.4). The only error is want of memory.
+/// (X.691 11.9.3.4).
+///
+/// # Errors
+///
+/// `OutOfMemory`, and no other.
 pub fn push_bitmap(
     output: &mut Packing,
     aligned: bool,
@@ -62,7 +66,11 @@ fn push_present(
 }
 
 /// Adds the additions of a sequence or set, each given by its bits where it is there: their number, which of them are there, and these as
-/// open types (X.691 19.7 to 19.9). The only error is want of memory.
+/// open types (X.691 19.7 to 19.9).
+///
+/// # Errors
+///
+/// `OutOfMemory`, and no other.
 pub fn push_additions(
     output: &mut Packing,
     aligned: bool,

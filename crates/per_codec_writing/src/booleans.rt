@@ -9,7 +9,11 @@ ghost use Rattle.per_codec_writing.specs.Writing.{Adds, place};
 use asn1_schema_faults::EncodeError;
 use per_codec_packing::Packing;
 
-/// Adds a BOOLEAN, one bit that is set for true (X.691 12). The only error is want of memory.
+/// Adds a BOOLEAN, one bit that is set for true (X.691 12).
+///
+/// # Errors
+///
+/// `OutOfMemory`, and no other.
 #[inline]
 pub fn push_boolean(output: &mut Packing, aligned: bool, value: bool) -> Result<(), EncodeError>
     ensures { MatchResult result (λ _. Adds (text_at (form aligned boolean (truth value)) (place output.old)) output.old output.new) (λ e. e ≡ EncodeError.OutOfMemory) }

@@ -50,6 +50,10 @@ fn push_octets(output: &mut Packing, span: u128, value: u128) -> Result<(), Enco
 }
 
 /// Adds a constrained whole number, one of 0 to `span` (X.691 11.5). A number above `span` is refused.
+///
+/// # Errors
+///
+/// `OutOfMemory`; any other only where the value has no encoding in this form.
 #[inline(always)]
 pub fn push_constrained(
     output: &mut Packing,

@@ -13,7 +13,10 @@ use per_codec_packing::Packing;
 const FRAGMENT: usize = 16384;
 
 /// Adds units behind their number: from 16384 units on in fragments, the largest first, and the rest behind a short length (X.691 11.9).
-/// The only error is want of memory.
+///
+/// # Errors
+///
+/// `OutOfMemory`, and no other.
 pub fn push_counted<U: Units>(
     output: &mut Packing,
     aligned: bool,
@@ -34,7 +37,11 @@ pub fn push_counted<U: Units>(
     Ok(())
 }
 
-/// Adds octets behind their number (X.691 11.9). The only error is want of memory.
+/// Adds octets behind their number (X.691 11.9).
+///
+/// # Errors
+///
+/// `OutOfMemory`, and no other.
 pub fn push_counted_octets(
     output: &mut Packing,
     aligned: bool,

@@ -5,7 +5,11 @@ ghost use Rattle.per_codec_writing.specs.Writing.{fill_at, place, plus};
 use asn1_schema_faults::EncodeError;
 use per_codec_packing::Packing;
 
-/// Fills up to the next octet in the aligned variant, and adds nothing in the other (X.691 11.1). The only error is want of memory.
+/// Fills up to the next octet in the aligned variant, and adds nothing in the other (X.691 11.1).
+///
+/// # Errors
+///
+/// `OutOfMemory`, and no other.
 pub fn align(output: &mut Packing, aligned: bool) -> Result<(), EncodeError>
     ensures { MatchResult result (λ _. output.new ≡ plus output.old (fill_at aligned (place output.old))) (λ e. e ≡ EncodeError.OutOfMemory) }
 {

@@ -100,6 +100,10 @@ fn push_bounded(
 
 /// Adds an INTEGER (X.691 13), of at most 128 bits under a value constraint. One outside its bounds is refused, unless a mark follows
 /// these.
+///
+/// # Errors
+///
+/// `OutOfMemory`; any other only where the value has no encoding in this form.
 #[inline(always)]
 pub fn push_integer<I: IntegerType>(
     output: &mut Packing,

@@ -10,8 +10,11 @@ use crate::filling::align;
 use asn1_schema_faults::EncodeError;
 use per_codec_packing::Packing;
 
-/// Adds a length, so many units below 16384: one octet below 128, else two (X.691 11.9.3.5 to 11.9.3.7). The only
-/// error is want of memory.
+/// Adds a length, so many units below 16384: one octet below 128, else two (X.691 11.9.3.5 to 11.9.3.7).
+///
+/// # Errors
+///
+/// `OutOfMemory`, and no other.
 #[inline(always)]
 pub fn push_short_length(
     output: &mut Packing,
@@ -30,7 +33,11 @@ pub fn push_short_length(
     Ok(())
 }
 
-/// Adds the length of a fragment, of 1 to 4 times 16384 units (X.691 11.9.3.8). The only error is want of memory.
+/// Adds the length of a fragment, of 1 to 4 times 16384 units (X.691 11.9.3.8).
+///
+/// # Errors
+///
+/// `OutOfMemory`, and no other.
 pub fn push_fragment_length(
     output: &mut Packing,
     aligned: bool,

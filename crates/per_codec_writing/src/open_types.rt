@@ -11,7 +11,11 @@ use asn1_values_bits::BitBuffer;
 use per_codec_packing::Packing;
 
 /// Adds bits as an open type: filled up with zero bits to whole octets, one zero octet in place of no bits, behind the number of these
-/// octets (X.691 11.1 and 11.2). The only error is want of memory.
+/// octets (X.691 11.1 and 11.2).
+///
+/// # Errors
+///
+/// `OutOfMemory`, and no other.
 pub fn push_open_type(
     output: &mut Packing,
     aligned: bool,

@@ -26,6 +26,10 @@ fn push_mark(output: &mut Packing, extensible: bool, mark: bool) -> Result<(), E
 /// Adds a place: among so many in the root, as a constrained whole number behind the mark of extensibility, or among the added ones, as a
 /// normally small number behind the mark that is set (X.691 14.2, 14.3 and 23.5 to 23.8). A place outside the root is refused, and so is an
 /// added one of a type without a mark.
+///
+/// # Errors
+///
+/// `OutOfMemory`; any other only where the value has no encoding in this form.
 pub fn push_place(
     output: &mut Packing,
     aligned: bool,
@@ -49,6 +53,10 @@ pub fn push_place(
 }
 
 /// Adds an ENUMERATED, an item by its place (X.691 14).
+///
+/// # Errors
+///
+/// `OutOfMemory`; any other only where the value has no encoding in this form.
 pub fn push_enumerated<T: Enumerated>(
     output: &mut Packing,
     aligned: bool,

@@ -9,7 +9,11 @@ use asn1_schema_faults::EncodeError;
 use per_codec_packing::Packing;
 
 /// Adds a normally small number: up to 63 in six bits behind one that is not set, else behind one that is, in the fewest octets behind their
-/// number (X.691 11.6). The only error is want of memory.
+/// number (X.691 11.6).
+///
+/// # Errors
+///
+/// `OutOfMemory`, and no other.
 pub fn push_normally_small(
     output: &mut Packing,
     aligned: bool,

@@ -13,7 +13,11 @@ use asn1_schema_constraints::Constraints;
 use asn1_schema_faults::EncodeError;
 use per_codec_packing::Packing;
 
-/// Adds a UTF8String (X.691 30): its octets behind their number, since its constraints count for nothing. The only error is want of memory.
+/// Adds a UTF8String (X.691 30): its octets behind their number, since its constraints count for nothing.
+///
+/// # Errors
+///
+/// `OutOfMemory`, and no other.
 pub fn push_utf8(
     output: &mut Packing,
     aligned: bool,
