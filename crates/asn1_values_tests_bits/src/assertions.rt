@@ -1,17 +1,22 @@
 //! What the tests have in common.
-use std::fmt::Debug;
+use std::alloc::AllocError;
 use std::hash::{DefaultHasher, Hash, Hasher};
 use std::process::Abort;
-
-/// Ends the test, and shows both values, unless what was found is what is wanted: `assert_eq!`, which is proved here once for all types, and not again with
-/// each call.
-pub fn assert_same<T: Debug + PartialEq>(rt: &impl Abort, found: &T, wanted: &T) {
-    assert_eq!(rt; found, wanted);
-}
 
 /// What a hasher makes of a value.
 pub fn hash_of<T: Hash>(value: &T) -> u64 {
     let mut state = DefaultHasher::new();
     value.hash(&mut state);
     state.finish()
+}
+
+/// Whether a call was granted its memory: then what it made is whole.
+pub fn is_granted(rt: &impl Abort, answer: Result<bool, AllocError>) -> bool {
+    match answer {
+        Ok(whole) => {
+            assert!(rt; whole);
+            true
+        }
+        Err(AllocError) => false,
+    }
 }

@@ -2,7 +2,7 @@
 ghost use Rattle.std.specs.Prelude.{◌≡◌, ◌++◌, ◌<◌, ◌≤◌, OnOk, OnErr};
 ghost use Rattle.asn1_model.specs.Numbers.{binary};
 
-use crate::assertions::{assert_same, hash_of};
+use crate::assertions::{hash_of, is_granted};
 use asn1_values::{BitBuffer, BitReader, BitStr};
 use std::alloc::{AllocError, Global};
 use std::borrow::CowSlice;
@@ -53,21 +53,33 @@ fn read_behind(mut reader: BitReader<'_>, alignment: u32, width: u32) -> Option<
     Some(field.first_u128(width))
 }
 
+// whether the value stands where it was written, in no more octets than it takes, and is read from there
+fn is_written_and_read(
+    alloc: Global,
+    alignment: u32,
+    value: u128,
+    width: u32,
+) -> Result<bool, AllocError>
+    requires narrow { width ≤ 128 }
+    requires few { alignment < 8 }
+{
+    let buffer = written(alloc, alignment, value, width)?;
+    let total = (alignment + width + 3) as usize;
+    let all = buffer.as_bitslice();
+    Ok(
+        buffer.as_bytes().len() == total.div_ceil(8)
+            && holds_bits(all, alignment, value, width)
+            && read_behind(BitReader::new(all), alignment, width) == Some(low_bits(value, width)),
+    )
+}
+
 #[test]
 fn every_alignment_and_width(rt: HostRuntime) -> Result<(), Fail> {
     let value = 0xb3a1_9c5d_7e2f_8046_1d3b_5f79_8ace_0247_u128;
     for alignment in 0..8 {
         for width in 0..129 {
-            let buffer = written(rt.alloc(), alignment, value, width)?;
-            let total = (alignment + width + 3) as usize;
-            assert_same(&rt, &buffer.as_bytes().len(), &total.div_ceil(8));
             assert!(rt;
-                holds_bits(buffer.as_bitslice(), alignment, value, width),
-                "{width} bits at {alignment}"
-            );
-            let read = read_behind(BitReader::new(buffer.as_bitslice()), alignment, width);
-            assert!(rt;
-                read == Some(low_bits(value, width)),
+                is_written_and_read(rt.alloc(), alignment, value, width)?,
                 "{width} bits at {alignment}"
             );
         }
@@ -75,41 +87,53 @@ fn every_alignment_and_width(rt: HostRuntime) -> Result<(), Fail> {
     Ok(())
 }
 
-#[test]
-fn rows(rt: HostRuntime) -> Result<(), Fail> {
-    // the VisibleString "John", unaligned
-    let mut name = BitBuffer::new(rt.alloc());
+// whether the VisibleString "John" is written, unaligned
+fn writes_characters(alloc: Global) -> Result<bool, AllocError> {
+    let mut name = BitBuffer::new(alloc);
     name.push_bits(4, 8)?;
     for character in b"John" {
         name.push_bits(*character as u128, 7)?;
     }
-    assert_same(
-        &rt,
-        &name.as_bytes(),
-        &[0x04, 0x95, 0xbf, 0x46, 0xe0].as_slice(),
-    );
+    Ok(name.as_bytes() == [0x04, 0x95, 0xbf, 0x46, 0xe0].as_slice())
+}
 
-    // fourteen bits, eight ones and 010000, and behind their number in an octet
+// whether fourteen bits, eight ones and 010000, are written behind their number in an octet
+fn writes_counted_bits(alloc: Global) -> Result<bool, AllocError> {
     let octets = [0xff, 0x40];
     let (fourteen, _) = BitStr::from_slice(&octets).split_at(14);
-    let mut counted = BitBuffer::new(rt.alloc());
+    let mut counted = BitBuffer::new(alloc);
     counted.push_bits(14, 8)?;
     counted.extend_from_bitslice(fourteen)?;
-    assert_same(&rt, &counted.as_bytes(), &[0x0e, 0xff, 0x40].as_slice());
+    Ok(counted.as_bytes() == [0x0e, 0xff, 0x40].as_slice())
+}
+
+#[test]
+fn rows(rt: HostRuntime) -> Result<(), Fail> {
+    assert!(rt; writes_characters(rt.alloc())?);
+    assert!(rt; writes_counted_bits(rt.alloc())?);
     Ok(())
+}
+
+// Whether sixteen bits and one more are cut to twelve.
+fn is_cut(buffer: &mut BitBuffer) -> Result<bool, AllocError> {
+    let before = buffer.len();
+    buffer.reserve_bytes(4)?;
+    buffer.push(true)?;
+    buffer.resize(12, false)?;
+    Ok(before == 16 && buffer.as_bytes() == [0xa5, 0x00].as_slice())
+}
+
+// Whether these are filled up to twenty by one bits.
+fn is_filled_up(buffer: &mut BitBuffer) -> Result<bool, AllocError> {
+    buffer.resize(20, true)?;
+    Ok(buffer.as_bytes() == [0xa5, 0x0f, 0xf0].as_slice() && buffer.len() == 20)
 }
 
 #[test]
 fn buffers(rt: HostRuntime) -> Result<(), Fail> {
     let mut buffer = BitBuffer::from_vec([0xa5, 0x0f].to_vec(rt.alloc())?);
-    assert_same(&rt, &buffer.len(), &16);
-    buffer.reserve_bytes(4)?;
-    buffer.push(true)?;
-    buffer.resize(12, false)?;
-    assert_same(&rt, &buffer.as_bytes(), &[0xa5, 0x00].as_slice());
-    buffer.resize(20, true)?;
-    assert_same(&rt, &buffer.as_bytes(), &[0xa5, 0x0f, 0xf0].as_slice());
-    assert_same(&rt, &buffer.len(), &20);
+    assert!(rt; is_cut(&mut buffer)?);
+    assert!(rt; is_filled_up(&mut buffer)?);
     Ok(())
 }
 
@@ -118,77 +142,124 @@ fn made<T: MadeWith<Global>>(alloc: Global) -> T {
     T::made_with(alloc)
 }
 
+// Clears the first and the twentieth bit. Whether the others stay.
+fn clears_two_bits(buffer: &mut BitBuffer) -> bool {
+    if buffer.len() <= 19 {
+        return false;
+    }
+    buffer.set(0, false);
+    if buffer.len() <= 19 {
+        return false;
+    }
+    buffer.set(19, false);
+    buffer.as_bytes() == [0x25, 0x0f, 0xe0].as_slice()
+}
+
+// Whether a buffer is added behind the bits 101.
+fn is_added_behind(alloc: Global, buffer: &BitBuffer) -> Result<bool, AllocError> {
+    let mut other: BitBuffer = made(alloc);
+    let was_empty = other.is_empty();
+    other.push_bits(0b101, 3)?;
+    other.extend_from_buffer(buffer)?;
+    let octets = other.into_vec();
+    Ok(was_empty && octets.as_slice() == [0xa4, 0xa1, 0xfc].as_slice())
+}
+
 #[test]
 fn changes(rt: HostRuntime) -> Result<(), Fail> {
     let mut buffer = BitBuffer::from_vec([0xa5, 0x0f, 0xf0].to_vec(rt.alloc())?);
     buffer.resize(20, false)?;
-    assert!(rt; buffer.len() > 19);
-    buffer.set(0, false);
-    assert!(rt; buffer.len() > 19);
-    buffer.set(19, false);
-    assert_same(&rt, &buffer.as_bytes(), &[0x25, 0x0f, 0xe0].as_slice());
-    let mut other: BitBuffer = made(rt.alloc());
-    assert!(rt; other.is_empty());
-    other.push_bits(0b101, 3)?;
-    other.extend_from_buffer(&buffer)?;
-    assert_same(
-        &rt,
-        &other.into_vec().as_slice(),
-        &[0xa4, 0xa1, 0xfc].as_slice(),
-    );
+    assert!(rt; clears_two_bits(&mut buffer));
+    assert!(rt; is_added_behind(rt.alloc(), &buffer)?);
     buffer.clear();
-    assert_same(&rt, &buffer.len(), &0);
+    assert!(rt; buffer.len() == 0);
     Ok(())
+}
+
+// The low thirteen bits of the first 700 squares: 9100 bits.
+fn many_bits(alloc: Global) -> Result<BitBuffer, AllocError> {
+    let mut bits = BitBuffer::new(alloc);
+    for i in 0..700_u32 {
+        bits.push_bits(u128::from(i * i), 13)?;
+    }
+    Ok(bits)
+}
+
+// Whether the bits of a long view stand behind so many zero bits.
+fn is_copied_behind(alloc: Global, view: BitStr<'_>, alignment: u32) -> Result<bool, AllocError>
+    requires { alignment < 8 }
+{
+    let mut buffer = BitBuffer::new(alloc);
+    buffer.push_bits(0, alignment)?;
+    buffer.extend_from_bitslice(view)?;
+    let copied = buffer.as_bitslice();
+    Ok(copied.len() > 9000 && copied.split_at(alignment as usize).1 == view)
 }
 
 // Long views, from each bit of an octet to each bit of an octet.
 #[test]
 fn every_shift(rt: HostRuntime) -> Result<(), Fail> {
-    let mut bits = BitBuffer::new(rt.alloc());
-    for i in 0..700_u32 {
-        bits.push_bits(u128::from(i * i), 13)?;
-    }
+    let bits = many_bits(rt.alloc())?;
     let all = bits.as_bitslice();
     assert!(rt; all.len() > 9000);
     for first in 0..8 {
         let (_, view) = all.split_at(first);
         for alignment in 0..8 {
-            let mut buffer = BitBuffer::new(rt.alloc());
-            buffer.push_bits(0, alignment)?;
-            buffer.extend_from_bitslice(view)?;
-            let copied = buffer.as_bitslice();
-            assert!(rt; copied.len() > 9000);
-            assert!(rt; copied.split_at(alignment as usize).1 == view);
+            assert!(rt;
+                is_copied_behind(rt.alloc(), view, alignment)?,
+                "from {first} to {alignment}"
+            );
         }
     }
     Ok(())
+}
+
+// Whether bits are unread, of which the first is a one bit and stands first in an octet.
+fn is_unread(reader: &BitReader<'_>) -> bool {
+    !reader.is_empty()
+        && reader.len() > 0
+        && reader.first_bit()
+        && reader.aligned_octets().is_some()
+}
+
+// Whether whole octets are lent.
+fn lends_octets(alloc: Global, reader: &BitReader<'_>) -> Result<bool, AllocError> {
+    let all = reader.octets(alloc)?;
+    Ok(matches!(all, CowSlice::Borrowed(_)))
+}
+
+// Whether 24 bits are one short of 25, and stay.
+fn is_one_short(reader: &mut BitReader<'_>) -> bool {
+    let short = reader.split(25);
+    matches!(short, Err(1)) && reader.len() == 24
+}
+
+// Whether the bits 101 are taken off.
+fn takes_three_bits(reader: &mut BitReader<'_>) -> bool {
+    let Ok(front) = reader.split(3) else {
+        return false;
+    };
+    front.len() > 2 && front.first_bits(3) == 0b101
+}
+
+// Whether the 21 bits behind them, which stand across octets, are copied.
+fn copies_octets(alloc: Global, reader: &BitReader<'_>) -> Result<bool, AllocError> {
+    let are_copied = match reader.octets(alloc)? {
+        CowSlice::Owned(rest) => rest.as_slice() == [0x25, 0x0f, 0xe0].as_slice(),
+        CowSlice::Borrowed(_) => false,
+    };
+    Ok(are_copied && reader.aligned_octets().is_none() && reader.bits().len() == 21)
 }
 
 #[test]
 fn readers(rt: HostRuntime) -> Result<(), Fail> {
     let octets = [0xa4, 0xa1, 0xfc];
     let mut reader = BitReader::from_octets(&octets);
-    assert!(rt; !reader.is_empty());
-    assert!(rt; reader.len() > 0);
-    assert!(rt; reader.first_bit());
-    assert!(rt; reader.aligned_octets().is_some());
-    let all = reader.octets(rt.alloc())?;
-    assert!(rt; matches!(all, CowSlice::Borrowed(_)));
-    let short = reader.split(25);
-    assert!(rt; matches!(short, Err(1)));
-    assert_same(&rt, &reader.len(), &24);
-    let Ok(front) = reader.split(3) else {
-        panic!(rt; "too short");
-    };
-    assert!(rt; front.len() > 2);
-    assert_same(&rt, &front.first_bits(3), &0b101);
-    assert!(rt; reader.aligned_octets().is_none());
-    let rest = reader.octets(rt.alloc())?;
-    let CowSlice::Owned(rest) = rest else {
-        panic!(rt; "lent");
-    };
-    assert_same(&rt, &rest.as_slice(), &[0x25, 0x0f, 0xe0].as_slice());
-    assert_same(&rt, &reader.bits().len(), &21);
+    assert!(rt; is_unread(&reader));
+    assert!(rt; lends_octets(rt.alloc(), &reader)?);
+    assert!(rt; is_one_short(&mut reader));
+    assert!(rt; takes_three_bits(&mut reader));
+    assert!(rt; copies_octets(rt.alloc(), &reader)?);
     Ok(())
 }
 
@@ -208,29 +279,41 @@ fn grow(buffer: &mut BitBuffer, other: &BitBuffer, step: u32) -> Result<(), Allo
     }
 }
 
-// Grows a buffer by each call in turn. A call that is refused leaves the bits as they were, and the same call goes on from there.
-// Whether none was refused.
+// Adds nineteen bits to an empty buffer. Refused, it is empty still, and the same call goes on from there; then `granted` is false.
+// Whether the bits are added at last.
+fn adds_nineteen_bits(buffer: &mut BitBuffer, granted: &mut bool) -> bool {
+    if buffer.push_bits(0x5_A5A5, 19).is_ok() {
+        return true;
+    }
+    *granted = false;
+    buffer.is_empty() && buffer.push_bits(0x5_A5A5, 19).is_ok()
+}
+
+// Grows a buffer by one call. A call that is refused leaves the bits as they were, and the same call goes on from there; then
+// `granted` is false. Whether the buffer is grown at last.
+fn is_grown(buffer: &mut BitBuffer, other: &BitBuffer, step: u32, granted: &mut bool) -> bool {
+    let len = buffer.len();
+    let hash = hash_of(&*buffer);
+    if grow(buffer, other, step).is_ok() {
+        return true;
+    }
+    *granted = false;
+    buffer.len() == len
+        && buffer.as_bytes().len() == len.div_ceil(8)
+        && hash_of(&*buffer) == hash
+        && grow(buffer, other, step).is_ok()
+}
+
+// Grows a buffer by each call in turn. Whether none was refused.
 fn grows(rt: &impl Abort, alloc: Global) -> bool {
     let mut granted = true;
     let mut other = BitBuffer::new(alloc);
-    if other.push_bits(0x5_A5A5, 19).is_err() {
-        granted = false;
-        assert!(rt; other.is_empty());
-        assert!(rt; other.push_bits(0x5_A5A5, 19).is_ok());
-    }
+    assert!(rt; adds_nineteen_bits(&mut other, &mut granted));
     let mut buffer = BitBuffer::new(alloc);
     for step in 0..42 {
-        let len = buffer.len();
-        let hash = hash_of(&buffer);
-        if grow(&mut buffer, &other, step).is_err() {
-            granted = false;
-            assert_same(rt, &buffer.len(), &len);
-            assert_same(rt, &buffer.as_bytes().len(), &len.div_ceil(8));
-            assert_same(rt, &hash_of(&buffer), &hash);
-            assert!(rt; grow(&mut buffer, &other, step).is_ok());
-        }
+        assert!(rt; is_grown(&mut buffer, &other, step, &mut granted));
     }
-    assert_same(rt, &buffer.len(), &2706);
+    assert!(rt; buffer.len() == 2706);
     granted
 }
 
@@ -245,25 +328,54 @@ fn append_twice(buffer: &mut BitBuffer, number: u8) -> Result<(), AllocError>
     Ok(())
 }
 
+// Appends a number twice. Refused, the buffer is as long as before, and the same call goes on from there; then `granted` is false.
+// Whether it has so many bits at last.
+fn is_appended(buffer: &mut BitBuffer, len: usize, granted: &mut bool) -> bool {
+    let before = buffer.len();
+    if append_twice(buffer, 0x9c).is_err() {
+        *granted = false;
+        if buffer.len() != before || append_twice(buffer, 0x9c).is_err() {
+            return false;
+        }
+    }
+    buffer.len() == len
+}
+
 // Appends a number many times, each time once more where it was refused. Whether none was refused.
 fn appends(rt: &impl Abort, alloc: Global) -> bool {
     let mut granted = true;
     let mut buffer = BitBuffer::new(alloc);
     for count in 1..=40 {
-        let before = buffer.len();
-        if append_twice(&mut buffer, 0x9c).is_err() {
-            granted = false;
-            assert_same(rt, &buffer.len(), &before);
-            assert!(rt; append_twice(&mut buffer, 0x9c).is_ok());
-        }
-        assert_same(rt, &buffer.len(), &(count * 16));
+        assert!(rt; is_appended(&mut buffer, count * 16, &mut granted));
     }
     let octets = buffer.into_vec();
-    assert_same(rt, &octets.len(), &80);
-    for octet in &octets {
-        assert_same(rt, &*octet, &0x9c);
-    }
+    assert!(rt; octets.as_slice() == [0x9c; 80].as_slice());
     granted
+}
+
+// Whether a buffer has twelve bits, A5 and 1111, and is compared and hashed as a view of them.
+fn is_same(buffer: &BitBuffer, shifted: BitStr<'_>) -> bool {
+    buffer.as_bytes() == [0xa5, 0xf0].as_slice()
+        && buffer.as_bitslice() == shifted
+        && hash_of(&shifted) == hash_of(&buffer.as_bitslice())
+        && hash_of(&shifted) == hash_of(buffer)
+}
+
+// Whether the bits 101 are shown.
+fn are_shown(alloc: Global, three: &BitBuffer) -> Result<bool, AllocError> {
+    let text = format!(in alloc; "{three:?}")?;
+    Ok(text.as_str() == "101")
+}
+
+// Whether a copy is equal to its buffer, comes behind it with one more bit, and is shown by its first three bits.
+fn is_before_longer(alloc: Global, buffer: &BitBuffer) -> Result<bool, AllocError> {
+    let mut longer = BitBuffer::new(alloc);
+    longer.extend_from_buffer(buffer)?;
+    let was_equal = longer == *buffer;
+    longer.push(false)?;
+    let is_before = *buffer < longer && hash_of(buffer) != hash_of(&longer);
+    longer.truncate(3);
+    Ok(was_equal && is_before && are_shown(alloc, &longer)?)
 }
 
 // Views and buffers go by their bits, wherever these stand.
@@ -274,42 +386,41 @@ fn comparisons(rt: HostRuntime) -> Result<(), Fail> {
     let (_, shifted) = front.split_at(4);
     let mut buffer = BitBuffer::new(rt.alloc());
     buffer.extend_from_bitslice(shifted)?;
-    assert_same(&rt, &buffer.as_bytes(), &[0xa5, 0xf0].as_slice());
-    assert!(rt; buffer.as_bitslice() == shifted);
-    assert_same(&rt, &hash_of(&shifted), &hash_of(&buffer.as_bitslice()));
-    assert_same(&rt, &hash_of(&shifted), &hash_of(&buffer));
-    let mut longer = BitBuffer::new(rt.alloc());
-    longer.extend_from_buffer(&buffer)?;
-    assert!(rt; longer == buffer);
-    longer.push(false)?;
-    assert!(rt; buffer < longer);
-    assert!(rt; hash_of(&buffer) != hash_of(&longer));
-    longer.truncate(3);
-    let text = format!(in rt.alloc(); "{longer:?}")?;
-    assert_same(&rt, &text.as_str(), &"101");
+    assert!(rt; is_same(&buffer, shifted));
+    assert!(rt; is_before_longer(rt.alloc(), &buffer)?);
     Ok(())
+}
+
+// Whether a reader copies unaligned bits into octets.
+fn are_copied(alloc: Global, bits: BitStr<'_>) -> Result<bool, AllocError> {
+    let copied = BitReader::new(bits).octets(alloc)?;
+    Ok(copied.as_slice() == [0x23, 0x45, 0x60].as_slice())
+}
+
+// Adds bits to an empty buffer. Refused, it is empty still, and the same call goes on from there; then `granted` is false. Whether
+// the bits are added at last.
+fn adds_bits(buffer: &mut BitBuffer, bits: BitStr<'_>, granted: &mut bool) -> bool {
+    if buffer.extend_from_bitslice(bits).is_ok() {
+        return true;
+    }
+    *granted = false;
+    buffer.is_empty() && buffer.extend_from_bitslice(bits).is_ok()
+}
+
+// Whether a copy is equal to its buffer.
+fn is_equal_to_its_copy(buffer: &BitBuffer) -> Result<bool, AllocError> {
+    Ok(buffer.clone()? == *buffer)
 }
 
 // Copies unaligned bits, in octets and as a buffer: the answer is whole, or refused. Whether none was refused.
 fn copies(rt: &impl Abort, alloc: Global) -> bool {
-    let mut granted = true;
     let octets = [0x12, 0x34, 0x56];
     let (_, bits) = BitStr::from_slice(&octets).split_at(4);
-    match BitReader::new(bits).octets(alloc) {
-        Ok(copied) => assert_same(rt, &copied.as_slice(), &[0x23, 0x45, 0x60].as_slice()),
-        Err(AllocError) => granted = false,
-    }
+    let mut granted = is_granted(rt, are_copied(alloc, bits));
     let mut buffer = BitBuffer::new(alloc);
-    if buffer.extend_from_bitslice(bits).is_err() {
-        granted = false;
-        assert!(rt; buffer.is_empty());
-        assert!(rt; buffer.extend_from_bitslice(bits).is_ok());
-    }
-    match buffer.clone() {
-        Ok(copy) => assert!(rt; copy == buffer),
-        Err(AllocError) => granted = false,
-    }
-    assert_same(rt, &buffer.as_bytes(), &[0x23, 0x45, 0x60].as_slice());
+    assert!(rt; adds_bits(&mut buffer, bits, &mut granted));
+    granted &= is_granted(rt, is_equal_to_its_copy(&buffer));
+    assert!(rt; buffer.as_bytes() == [0x23, 0x45, 0x60].as_slice());
     granted
 }
 

@@ -1,7 +1,6 @@
 //! Rows of bits, every alignment with every width, and what is answered when memory is refused.
 ghost use Rattle.std.specs.Prelude.{◌<◌, ◌≤◌, ◌^◌, length};
 
-use crate::assertions::assert_same;
 use asn1_values::{
     BitBuffer, BitReader, BitStr, CharacterAlphabet, FieldBits, FieldFault, FieldFaultKind,
     FieldShape, FieldValue, Integer, read_fields, write_fields,
@@ -171,34 +170,47 @@ fn is_read_back(alloc: Global, offset: u32, width: u32) -> Result<bool, FieldFau
     }
 }
 
+/// Whether the fields of the short row are written as its octets.
+fn is_row_written(alloc: Global) -> Result<bool, FieldFault> {
+    let mut buffer = BitBuffer::new(alloc);
+    write_row(&mut buffer)?;
+    Ok(buffer.len() == 20 && buffer.as_bytes() == ROW.as_slice())
+}
+
 #[test]
 fn a_row_is_written(rt: HostRuntime) -> Result<(), Fail> {
-    let mut buffer = BitBuffer::new(rt.alloc());
-    write_row(&mut buffer)?;
-    assert_same(&rt, &buffer.len(), &20);
-    assert_same(&rt, &buffer.as_bytes(), &ROW.as_slice());
+    assert!(rt; is_row_written(rt.alloc())?);
     Ok(())
+}
+
+/// Whether its octets are read as its fields, and four bits are left.
+fn is_row_read(alloc: Global) -> Result<bool, FieldFault> {
+    let mut reader = BitReader::from_octets(&ROW);
+    let values = read_row(alloc, &mut reader)?;
+    Ok(is_row(&values) && reader.len() == 4)
 }
 
 #[test]
 fn a_row_is_read(rt: HostRuntime) -> Result<(), Fail> {
-    let mut reader = BitReader::from_octets(&ROW);
-    let values = read_row(rt.alloc(), &mut reader)?;
-    assert!(rt; is_row(&values));
-    assert_same(&rt, &reader.len(), &4);
+    assert!(rt; is_row_read(rt.alloc())?);
     Ok(())
+}
+
+/// Whether the digits "123" are written by their codes.
+fn are_digits_written(alloc: Global, digits: &CharacterAlphabet) -> Result<bool, FieldFault> {
+    let mut buffer = BitBuffer::new(alloc);
+    let field = FieldBits::Characters {
+        alphabet: digits,
+        characters: &[49, 50, 51],
+    };
+    write_fields(&mut buffer, &[field])?;
+    Ok(buffer.as_bytes() == [0x23, 0x40].as_slice())
 }
 
 #[test]
 fn characters_are_written(rt: HostRuntime) -> Result<(), Fail> {
-    let alphabet = CharacterAlphabet::new(rt.alloc(), &NUMERIC, false)?;
-    let mut buffer = BitBuffer::new(rt.alloc());
-    let field = FieldBits::Characters {
-        alphabet: &alphabet,
-        characters: &[49, 50, 51],
-    };
-    write_fields(&mut buffer, &[field])?;
-    assert_same(&rt, &buffer.as_bytes(), &[0x23, 0x40].as_slice());
+    let digits = CharacterAlphabet::new(rt.alloc(), &NUMERIC, false)?;
+    assert!(rt; are_digits_written(rt.alloc(), &digits)?);
     Ok(())
 }
 
@@ -213,26 +225,23 @@ fn unknown_codes_are_told(rt: HostRuntime) -> Result<(), Fail> {
         field: 0,
         kind: FieldFaultKind::NoCharacter,
     };
-    assert_same(&rt, &fault_of(rt.alloc(), &[0x2B], shape), &Some(wanted));
+    assert!(rt; fault_of(rt.alloc(), &[0x2B], shape) == Some(wanted));
     Ok(())
 }
 
-#[test]
-fn longer_octets_are_refused(rt: HostRuntime) {
+/// Whether whole numbers in more octets than the fewest, or in none, are told.
+fn longer_octets_are_told(alloc: Global) -> bool {
     let wanted = FieldFault {
         field: 0,
         kind: FieldFaultKind::NotShortest,
     };
-    assert_same(
-        &rt,
-        &fault_of(rt.alloc(), &[0x00, 0x7F], FieldShape::Whole(2)),
-        &Some(wanted),
-    );
-    assert_same(
-        &rt,
-        &fault_of(rt.alloc(), &[0x00], FieldShape::Whole(0)),
-        &Some(wanted),
-    );
+    fault_of(alloc, &[0x00, 0x7F], FieldShape::Whole(2)) == Some(wanted)
+        && fault_of(alloc, &[0x00], FieldShape::Whole(0)) == Some(wanted)
+}
+
+#[test]
+fn longer_octets_are_refused(rt: HostRuntime) {
+    assert!(rt; longer_octets_are_told(rt.alloc()));
 }
 
 #[test]
@@ -241,41 +250,34 @@ fn missing_bits_are_told(rt: HostRuntime) {
         field: 0,
         kind: FieldFaultKind::Short,
     };
-    assert_same(
-        &rt,
-        &fault_of(rt.alloc(), &[0x7F], FieldShape::Number(9)),
-        &Some(wanted),
-    );
-    assert_same(
-        &rt,
-        &fault_of(rt.alloc(), &[0x7F], FieldShape::Octets(usize::MAX)),
-        &Some(wanted),
-    );
-    assert_same(
-        &rt,
-        &fault_of(rt.alloc(), &[0x7F], FieldShape::Bits(9)),
-        &Some(wanted),
-    );
-    assert_same(
-        &rt,
-        &fault_of(rt.alloc(), &[0x7F], FieldShape::Whole(2)),
-        &Some(wanted),
-    );
+    let shapes: [FieldShape<'_>; 4] = [
+        FieldShape::Number(9),
+        FieldShape::Octets(usize::MAX),
+        FieldShape::Bits(9),
+        FieldShape::Whole(2),
+    ];
+    for shape in shapes {
+        assert!(rt;
+            fault_of(rt.alloc(), &[0x7F], shape) == Some(wanted),
+            "of {shape:?}"
+        );
+    }
 }
 
-#[test]
-fn what_does_not_fit_is_told(rt: HostRuntime) {
+/// Whether a number that its bits do not hold, and one of more than 128 bits, are told.
+fn large_numbers_are_told(alloc: Global) -> bool {
     let wanted = FieldFault {
         field: 0,
         kind: FieldFaultKind::DoesNotFit,
     };
     let large = FieldBits::Number { value: 8, width: 3 };
-    assert_same(&rt, &unwritten(rt.alloc(), large), &Some(wanted));
-    assert_same(
-        &rt,
-        &fault_of(rt.alloc(), &[0x7F], FieldShape::Number(129)),
-        &Some(wanted),
-    );
+    unwritten(alloc, large) == Some(wanted)
+        && fault_of(alloc, &[0x7F], FieldShape::Number(129)) == Some(wanted)
+}
+
+#[test]
+fn what_does_not_fit_is_told(rt: HostRuntime) {
+    assert!(rt; large_numbers_are_told(rt.alloc()));
 }
 
 #[test]
@@ -295,69 +297,127 @@ fn faults_are_shown(rt: HostRuntime) -> Result<(), Fail> {
         kind: FieldFaultKind::Short,
     };
     let shown = format!(in rt.alloc(); "{fault}")?;
-    assert_same(&rt, &shown.as_str(), &"field 2: too few bits are left");
+    assert!(rt; shown.as_str() == "field 2: too few bits are left");
     Ok(())
+}
+
+/// Whether the fields of the long row are written as its octets.
+fn is_each_written(
+    alloc: Global,
+    digits: &CharacterAlphabet,
+    number: &Integer,
+) -> Result<bool, FieldFault> {
+    let mut buffer = BitBuffer::new(alloc);
+    write_each(&mut buffer, digits, number)?;
+    Ok(buffer.len() == 183 && buffer.as_bytes() == ROW_OF_EACH.as_slice())
+}
+
+/// Whether its octets are read as its fields, and one bit is left. A request for memory that is refused
+/// is Memory, and then the reader is as before, the same call goes on from there, and `granted` is false.
+fn is_each_read(
+    alloc: Global,
+    digits: &CharacterAlphabet,
+    granted: &mut bool,
+) -> Result<bool, FieldFault> {
+    let mut reader = BitReader::from_octets(&ROW_OF_EACH);
+    let values = match read_each(alloc, &mut reader, digits) {
+        Ok(values) => values,
+        Err(fault) => {
+            *granted = false;
+            if fault.kind != FieldFaultKind::Memory || reader.len() != 184 {
+                return Ok(false);
+            }
+            read_each(alloc, &mut reader, digits)?
+        }
+    };
+    Ok(is_each(&values) && reader.len() == 1)
 }
 
 /// Fields of every kind, of which all but the first stand across octets.
 #[test]
 fn every_kind_is_written_and_read(rt: HostRuntime) -> Result<(), Fail> {
-    let alloc = rt.alloc();
-    let (digits, number) = digits_and_number(alloc, &mut true)?;
-    let mut buffer = BitBuffer::new(alloc);
-    write_each(&mut buffer, &digits, &number)?;
-    assert_same(&rt, &buffer.len(), &183);
-    assert_same(&rt, &buffer.as_bytes(), &ROW_OF_EACH.as_slice());
-    let mut reader = BitReader::from_octets(&ROW_OF_EACH);
-    let values = read_each(alloc, &mut reader, &digits)?;
-    assert!(rt; is_each(&values));
-    assert_same(&rt, &reader.len(), &1);
+    let (digits, number) = digits_and_number(rt.alloc(), &mut true)?;
+    assert!(rt; is_each_written(rt.alloc(), &digits, &number)?);
+    assert!(rt; is_each_read(rt.alloc(), &digits, &mut true)?);
     Ok(())
+}
+
+/// Whether the values are the octets B6, 47 and FE and the whole number of twenty octets 02.
+fn are_octets_and_number(values: &[FieldValue]) -> bool {
+    match values {
+        [FieldValue::Octets(octets), FieldValue::Whole(number)] => {
+            octets.as_slice() == [0xB6, 0x47, 0xFE].as_slice()
+                && number.to_signed_bytes_be().as_slice() == [2; 20].as_slice()
+        }
+        _ => false,
+    }
+}
+
+/// Whether octets that begin at an octet are read, and none are left.
+fn are_octets_read(alloc: Global) -> Result<bool, FieldFault> {
+    let shapes = [FieldShape::Octets(3), FieldShape::Whole(20)];
+    let mut reader = BitReader::from_octets(&ROW_OF_EACH);
+    let values = read_fields(alloc, &mut reader, &shapes)?;
+    Ok(are_octets_and_number(&values) && reader.len() == 0)
 }
 
 /// Octets that begin at an octet.
 #[test]
 fn aligned_octets_are_read(rt: HostRuntime) -> Result<(), Fail> {
-    let shapes = [FieldShape::Octets(3), FieldShape::Whole(20)];
-    let mut reader = BitReader::from_octets(&ROW_OF_EACH);
-    let values = read_fields(rt.alloc(), &mut reader, &shapes)?;
-    let [FieldValue::Octets(octets), FieldValue::Whole(number)] = values.as_slice() else {
-        return Err("octets and a whole number".into());
-    };
-    assert_same(&rt, &octets.as_slice(), &[0xB6, 0x47, 0xFE].as_slice());
-    assert_same(
-        &rt,
-        &number.to_signed_bytes_be().as_slice(),
-        &[2; 20].as_slice(),
-    );
-    assert_same(&rt, &reader.len(), &0);
+    assert!(rt; are_octets_read(rt.alloc())?);
     Ok(())
 }
 
-/// A request for memory that is refused is Memory, and then the buffer is as before, and the same call
-/// goes on from there. Whether none was refused.
+/// Writes the long row behind so many of them. A request for memory that is refused is Memory, and then
+/// the buffer is as before, the same call goes on from there, and `granted` is false. Whether the row is
+/// written at last.
+fn is_written_behind(
+    buffer: &mut BitBuffer,
+    digits: &CharacterAlphabet,
+    number: &Integer,
+    count: usize,
+    granted: &mut bool,
+) -> bool
+    requires { count < 8 }
+{
+    if let Err(fault) = write_each(buffer, digits, number) {
+        *granted = false;
+        if fault.kind != FieldFaultKind::Memory
+            || buffer.len() != count * 183
+            || write_each(buffer, digits, number).is_err()
+        {
+            return false;
+        }
+    }
+    buffer.len() == count * 183 + 183
+}
+
+/// Whether the long row is written eight times, one behind the other.
+fn are_written(
+    alloc: Global,
+    digits: &CharacterAlphabet,
+    number: &Integer,
+    granted: &mut bool,
+) -> bool {
+    let mut buffer = BitBuffer::new(alloc);
+    for count in 0..8 {
+        if !is_written_behind(&mut buffer, digits, number, count, granted) {
+            return false;
+        }
+    }
+    buffer.as_bytes().starts_with(&ROW_OF_EACH[..22])
+}
+
+/// Writes the long row, each time once more where it was refused. Whether none was refused.
 fn writes(rt: &impl Abort, alloc: Global) -> Result<bool, Fail> {
     let mut granted = true;
     let (digits, number) = digits_and_number(alloc, &mut granted)?;
-    let mut buffer = BitBuffer::new(alloc);
-    for count in 0..8 {
-        if let Err(fault) = write_each(&mut buffer, &digits, &number) {
-            granted = false;
-            assert_same(rt, &fault.kind, &FieldFaultKind::Memory);
-            assert_same(rt, &buffer.len(), &(count * 183));
-            assert!(rt; write_each(&mut buffer, &digits, &number).is_ok());
-        }
-        assert_same(rt, &buffer.len(), &(count * 183 + 183));
-    }
-    assert!(rt; buffer.as_bytes().starts_with(&ROW_OF_EACH[..22]));
+    assert!(rt; are_written(alloc, &digits, &number, &mut granted));
     Ok(granted)
 }
 
-/// A field that does not fit leaves nothing of those before it behind.
-#[test]
-fn a_wrong_field_leaves_the_old_bits(rt: HostRuntime) -> Result<(), Fail> {
-    let mut buffer = BitBuffer::new(rt.alloc());
-    buffer.push_bits(5, 3)?;
+/// Whether a field that does not fit is told, and nothing of those before it is left behind three bits.
+fn is_left_alone(buffer: &mut BitBuffer) -> bool {
     let fields = [
         FieldBits::Octets(&[0xFF]),
         FieldBits::Number { value: 8, width: 3 },
@@ -366,39 +426,39 @@ fn a_wrong_field_leaves_the_old_bits(rt: HostRuntime) -> Result<(), Fail> {
         field: 1,
         kind: FieldFaultKind::DoesNotFit,
     };
-    assert_same(&rt, &write_fields(&mut buffer, &fields), &Err(wanted));
-    assert_same(&rt, &buffer.len(), &3);
-    assert_same(&rt, &buffer.as_bytes(), &[0xA0].as_slice());
+    write_fields(buffer, &fields) == Err(wanted)
+        && buffer.len() == 3
+        && buffer.as_bytes() == [0xA0].as_slice()
+}
+
+/// A field that does not fit leaves nothing of those before it behind.
+#[test]
+fn a_wrong_field_leaves_the_old_bits(rt: HostRuntime) -> Result<(), Fail> {
+    let mut buffer = BitBuffer::new(rt.alloc());
+    buffer.push_bits(5, 3)?;
+    assert!(rt; is_left_alone(&mut buffer));
     Ok(())
+}
+
+/// Whether the values of two readings are equal, and the first and the last of one are not.
+fn are_compared(alloc: Global) -> Result<bool, FieldFault> {
+    let first = read_row(alloc, &mut BitReader::from_octets(&ROW))?;
+    let again = read_row(alloc, &mut BitReader::from_octets(&ROW))?;
+    Ok(first == again && first.first() != first.last())
 }
 
 /// Values that were read are compared by what they hold.
 #[test]
 fn values_are_compared(rt: HostRuntime) -> Result<(), Fail> {
-    let first = read_row(rt.alloc(), &mut BitReader::from_octets(&ROW))?;
-    let again = read_row(rt.alloc(), &mut BitReader::from_octets(&ROW))?;
-    assert!(rt; first == again);
-    assert!(rt; first.first() != first.last());
+    assert!(rt; are_compared(rt.alloc())?);
     Ok(())
 }
 
-/// A request for memory that is refused is Memory, and then the reader is as before, and the same call
-/// goes on from there. Whether none was refused.
+/// Reads the long row, once more where it was refused. Whether none was refused.
 fn reads(rt: &impl Abort, alloc: Global) -> Result<bool, Fail> {
     let mut granted = true;
     let (digits, _) = digits_and_number(alloc, &mut granted)?;
-    let mut reader = BitReader::from_octets(&ROW_OF_EACH);
-    let values = match read_each(alloc, &mut reader, &digits) {
-        Ok(values) => values,
-        Err(fault) => {
-            granted = false;
-            assert_same(rt, &fault.kind, &FieldFaultKind::Memory);
-            assert_same(rt, &reader.len(), &184);
-            read_each(alloc, &mut reader, &digits)?
-        }
-    };
-    assert!(rt; is_each(&values));
-    assert_same(rt, &reader.len(), &1);
+    assert!(rt; is_each_read(alloc, &digits, &mut granted)?);
     Ok(granted)
 }
 

@@ -1,9 +1,16 @@
 //! What the tests have in common.
-use std::fmt::Debug;
-use std::process::Abort;
+use std::alloc::AllocError;
+use std::hash::{DefaultHasher, Hash, Hasher};
 
-/// Ends the test, and shows both values, unless what was found is what is wanted: `assert_eq!`, which is proved here once for all types, and not again with
-/// each call.
-pub fn assert_same<T: Debug + PartialEq>(rt: &impl Abort, found: &T, wanted: &T) {
-    assert_eq!(rt; found, wanted);
+/// What a hasher makes of a value.
+pub fn hash_of<T: Hash>(value: &T) -> u64 {
+    let mut state = DefaultHasher::new();
+    value.hash(&mut state);
+    state.finish()
+}
+
+/// Whether a copy of a value is the same as the value.
+pub fn is_copied<T: Clone + PartialEq + Drop>(value: &T) -> Result<bool, AllocError> {
+    let copy = value.clone()?;
+    Ok(copy == *value)
 }

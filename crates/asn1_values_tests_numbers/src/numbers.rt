@@ -1,9 +1,7 @@
 //! Whole numbers of any size: their ends, their texts, and what is answered where a request for memory is refused.
-use crate::assertions::assert_same;
+use crate::assertions::{hash_of, is_copied};
 use asn1_values::{Integer, IntegerError, TryFromIntegerError};
 use std::alloc::{AllocError, Global};
-use std::hash::{DefaultHasher, Hash, Hasher};
-use std::process::Abort;
 use std::test::Fail;
 
 // Octets of numbers at the ends of 128 bits.
@@ -27,6 +25,38 @@ const GREATEST_UNSIGNED: [u8; 17] = [
 
 const ABOVE_UNSIGNED: [u8; 17] = [1, 0, 0, 0, 0, 0, 0, 0, 0, 0, 0, 0, 0, 0, 0, 0, 0];
 
+// Whether a number has these octets, and the sign that the first of them says.
+fn has_octets(number: &Integer, octets: &[u8]) -> bool {
+    number.to_signed_bytes_be().as_slice() == octets
+        && number.is_negative() == octets.first().is_some_and(|first| *first >= 128)
+}
+
+// Whether a number has this text.
+fn has_text(alloc: Global, number: &Integer, text: &str) -> Result<bool, AllocError> {
+    let shown = number.to_string(alloc)?;
+    Ok(shown.as_str() == text)
+}
+
+// Whether the octets are those of a number of this text.
+fn is_number(alloc: Global, octets: &[u8], text: &str) -> Result<bool, Fail> {
+    let number = Integer::from_signed_octets(alloc, octets)?;
+    Ok(has_octets(&number, octets) && has_text(alloc, &number, text)?)
+}
+
+// Whether no octets are no number.
+fn no_octets_are_refused(alloc: Global) -> bool {
+    matches!(
+        Integer::from_signed_octets(alloc, &[]),
+        Err(IntegerError::Empty)
+    )
+}
+
+// Whether octets that only repeat the sign are taken, and not kept.
+fn padding_is_not_kept(alloc: Global) -> Result<bool, IntegerError> {
+    let padded = Integer::from_signed_octets(alloc, &[0xff, 0xff, 0xff, 0x7f])?;
+    Ok(padded == Integer::from(-129i16))
+}
+
 // Octets, and the text of their number.
 #[test]
 fn integers_of_any_size(rt: HostRuntime) -> Result<(), Fail> {
@@ -43,23 +73,10 @@ fn integers_of_any_size(rt: HostRuntime) -> Result<(), Fail> {
         (&ABOVE_UNSIGNED, "0x0100000000000000000000000000000000"),
     ];
     for (octets, text) in rows {
-        let number = Integer::from_signed_octets(alloc, octets)?;
-        assert_same(&rt, &number.to_signed_bytes_be().as_slice(), &octets);
-        assert_same(&rt, &number.to_string(alloc)?.as_str(), &text);
-        assert_same(
-            &rt,
-            &number.is_negative(),
-            &octets.first().is_some_and(|first| *first >= 128),
-        );
+        assert!(rt; is_number(alloc, octets, text)?, "of {text}");
     }
-    assert!(rt;
-        matches!(
-            Integer::from_signed_octets(alloc, &[]),
-            Err(IntegerError::Empty)
-        )
-    );
-    let padded = Integer::from_signed_octets(alloc, &[0xff, 0xff, 0xff, 0x7f])?;
-    assert!(rt; padded == Integer::from(-129i16));
+    assert!(rt; no_octets_are_refused(alloc));
+    assert!(rt; padding_is_not_kept(alloc)?);
     Ok(())
 }
 
@@ -72,37 +89,32 @@ fn long_octets(alloc: Global) -> Result<Vec<u8>, Fail> {
     Ok(octets)
 }
 
+// Whether that number has its octets, and is greater than each number of 128 bits.
+fn is_long(number: &Integer, octets: &[u8]) -> bool {
+    number.to_signed_bytes_be().as_slice() == octets
+        && number.to_unsigned_bytes_be().len() == 127
+        && number.to_i128().is_none()
+        && *number > Integer::from(u128::MAX)
+        && !number.is_negative()
+        && number.checked_add(&Integer::ONE).is_none()
+}
+
 #[test]
 fn long_integers(rt: HostRuntime) -> Result<(), Fail> {
     let alloc = rt.alloc();
     let octets = long_octets(alloc)?;
     let number = Integer::from_signed_octets(alloc, &octets)?;
-    assert_same(
-        &rt,
-        &number.to_signed_bytes_be().as_slice(),
-        &octets.as_slice(),
-    );
-    assert_same(&rt, &number.to_unsigned_bytes_be().len(), &127);
-    assert_same(&rt, &number.to_i128(), &None);
-    assert!(rt; number > Integer::from(u128::MAX) && !number.is_negative());
-    let same = number.clone()?;
-    assert!(rt; same == number);
-    assert!(rt; number.checked_add(&Integer::ONE).is_none());
+    assert!(rt; is_long(&number, &octets));
+    assert!(rt; is_copied(&number)?);
     Ok(())
 }
 
-// A number of these octets, and its copy, which is the same.
-fn is_copied(rt: &impl Abort, number: &Integer, octets: &[u8]) -> Result<(), Fail> {
-    assert_same(rt, &number.to_signed_bytes_be().as_slice(), &octets);
-    assert!(rt; number.clone()? == *number);
-    Ok(())
-}
-
-// A refusal to convert the number, whose copy gives the number back.
-fn is_given_back(rt: &impl Abort, kept: Integer, number: &Integer) -> Result<(), Fail> {
-    let refusal = u8::try_from(kept).err().ok_or("no refusal")?;
-    assert!(rt; refusal.clone()?.into_original() == *number);
-    Ok(())
+// Whether the number is refused by a type of 8 bits, and the copy of the refusal gives the number back.
+fn is_given_back(kept: Integer, number: &Integer) -> Result<bool, AllocError> {
+    match u8::try_from(kept) {
+        Ok(_) => Ok(false),
+        Err(refusal) => Ok(refusal.clone()?.into_original() == *number),
+    }
 }
 
 // Every call that takes memory succeeds where there is some.
@@ -111,47 +123,53 @@ fn ample_numbers_of_twenty_octets(rt: HostRuntime) -> Result<(), Fail> {
     let alloc = rt.alloc();
     for octets in [[1; 20], [0x80; 20]] {
         let number = Integer::from_signed_octets(alloc, &octets)?;
-        is_copied(&rt, &number, &octets)?;
+        assert!(rt; has_octets(&number, &octets) && is_copied(&number)?);
         let kept = Integer::from_fewest_octets(vec![in alloc; octets[0]; 20]?);
-        is_given_back(&rt, kept, &number)?;
+        assert!(rt; is_given_back(kept, &number)?);
     }
     Ok(())
+}
+
+// Whether the octets are those of a number without a sign.
+fn is_plain(alloc: Global, octets: &[u8]) -> Result<bool, IntegerError> {
+    let plain = Integer::from_unsigned_octets(alloc, octets)?;
+    Ok(plain.to_unsigned_bytes_be().as_slice() == octets)
+}
+
+// Whether a number of one octet is that of the octet that is given up.
+fn is_short(alloc: Global) -> Result<bool, AllocError> {
+    let short = Integer::from_fewest_octets(vec![in alloc; 0x80; 1]?);
+    Ok(short == Integer::from(-128i16))
 }
 
 #[test]
 fn ample_numbers_without_a_sign(rt: HostRuntime) -> Result<(), Fail> {
     let alloc = rt.alloc();
     for octets in [[1; 20], [0x80; 20]] {
-        let plain = Integer::from_unsigned_octets(alloc, &octets)?;
-        assert_same(
-            &rt,
-            &plain.to_unsigned_bytes_be().as_slice(),
-            &octets.as_slice(),
-        );
+        assert!(rt; is_plain(alloc, &octets)?, "of {octets:?}");
     }
-    let short = Integer::from_fewest_octets(vec![in alloc; 0x80; 1]?);
-    assert!(rt; short == Integer::from(-128i16));
+    assert!(rt; is_short(alloc)?);
     Ok(())
 }
 
+// Whether the refusal to convert the number to a type of 8 bits is copied, where there is memory for a copy.
+fn is_copied_in_refusal(number: Integer) -> bool {
+    match u8::try_from(number) {
+        Ok(_) => false,
+        Err(refusal) => is_copied(&refusal).unwrap_or(true),
+    }
+}
+
 // Either the number of the octets, which is then copied alone and in a refusal, or want of memory and nothing else.
-fn is_read_or_refused(rt: &impl Abort, read: Result<Integer, IntegerError>, octets: &[u8]) -> bool {
-    let Ok(number) = read else {
-        return matches!(read, Err(IntegerError::Memory));
-    };
-    match number.clone() {
-        Ok(same) => assert!(rt; same == number),
-        Err(AllocError) => {}
+fn is_read_or_refused(read: Result<Integer, IntegerError>, octets: &[u8]) -> bool {
+    match read {
+        Ok(number) => {
+            let is_same = is_copied(&number).unwrap_or(true);
+            let is_read = number.to_unsigned_bytes_be().as_slice() == octets;
+            is_copied_in_refusal(number) && is_read && is_same
+        }
+        Err(error) => error == IntegerError::Memory,
     }
-    let is_read = number.to_unsigned_bytes_be().as_slice() == octets;
-    let Err(refusal) = u8::try_from(number) else {
-        return false;
-    };
-    match refusal.clone() {
-        Ok(same) => assert!(rt; same == refusal),
-        Err(AllocError) => {}
-    }
-    is_read
 }
 
 // Each refused request for memory gives want of memory, and nothing else.
@@ -159,26 +177,52 @@ fn is_read_or_refused(rt: &impl Abort, read: Result<Integer, IntegerError>, octe
 fn want_of_memory(rt: HostRuntime) {
     let alloc = rt.alloc();
     let octets = [1; 20];
-    assert!(rt; is_read_or_refused(&rt, Integer::from_signed_octets(alloc, &octets), &octets));
+    assert!(rt; is_read_or_refused(Integer::from_signed_octets(alloc, &octets), &octets));
     let octets = [0x80; 20];
-    assert!(rt; is_read_or_refused(&rt, Integer::from_unsigned_octets(alloc, &octets), &octets));
+    assert!(rt; is_read_or_refused(Integer::from_unsigned_octets(alloc, &octets), &octets));
+}
+
+// Whether the greatest number of 128 bits was read, and is copied.
+fn is_greatest(read: Result<Integer, IntegerError>) -> Result<bool, Fail> {
+    let number = read?;
+    Ok(number == Integer::from(u128::MAX) && is_copied(&number)?)
 }
 
 // What takes no memory succeeds also where each request for it is refused.
 #[test]
 fn small_numbers_take_no_memory(rt: HostRuntime) -> Result<(), Fail> {
     let alloc = rt.alloc();
-    let number = Integer::from_signed_octets(alloc, &GREATEST_UNSIGNED)?;
-    assert!(rt; number.clone()? == Integer::from(u128::MAX));
-    assert!(rt; Integer::from_unsigned_octets(alloc, &GREATEST_UNSIGNED)? == number);
+    assert!(rt; is_greatest(Integer::from_signed_octets(alloc, &GREATEST_UNSIGNED))?);
+    assert!(rt; is_greatest(Integer::from_unsigned_octets(alloc, &GREATEST_UNSIGNED))?);
     Ok(())
+}
+
+// Whether the number of these octets is less than that of the others.
+fn is_before(alloc: Global, first: &[u8], second: &[u8]) -> Result<bool, IntegerError> {
+    let less = Integer::from_signed_octets(alloc, first)?;
+    let greater = Integer::from_signed_octets(alloc, second)?;
+    Ok(less < greater)
+}
+
+fn are_zero_and_one() -> bool {
+    Integer::default() == Integer::ZERO
+        && Integer::zero() == Integer::ZERO
+        && Integer::one() == Integer::ONE
+        && Integer::ONE > Integer::ZERO
+}
+
+// Whether a number that is read has the hash of the same number that is made.
+fn have_one_hash(alloc: Global) -> Result<bool, IntegerError> {
+    let read = Integer::from_signed_octets(alloc, &GREATEST_UNSIGNED)?;
+    let made = Integer::from(u128::MAX);
+    Ok(hash_of(&read) == hash_of(&made))
 }
 
 #[test]
 fn order_is_that_of_numbers(rt: HostRuntime) -> Result<(), Fail> {
     let alloc = rt.alloc();
-    let ascending: [&[u8]; 9] = [
-        &[0xfe, 0, 0, 0, 0, 0, 0, 0, 0, 0, 0, 0, 0, 0, 0, 0, 0, 0],
+    let mut last: &[u8] = &[0xfe, 0, 0, 0, 0, 0, 0, 0, 0, 0, 0, 0, 0, 0, 0, 0, 0, 0];
+    let ascending: [&[u8]; 8] = [
         &BELOW_SIGNED,
         &LEAST_SIGNED,
         &[0xff],
@@ -188,104 +232,122 @@ fn order_is_that_of_numbers(rt: HostRuntime) -> Result<(), Fail> {
         &GREATEST_UNSIGNED,
         &ABOVE_UNSIGNED,
     ];
-    let mut last: Option<Integer> = None;
     for octets in ascending {
-        let number = Integer::from_signed_octets(alloc, octets)?;
-        if let Some(before) = &last {
-            assert!(rt; *before < number);
-        }
-        last = Some(number);
+        assert!(rt;
+            is_before(alloc, last, octets)?,
+            "of {last:?} and {octets:?}"
+        );
+        last = octets;
     }
-    assert!(rt; Integer::default() == Integer::ZERO && Integer::zero() == Integer::ZERO);
-    assert!(rt; Integer::one() == Integer::ONE && Integer::ONE > Integer::ZERO);
-    let mut left = DefaultHasher::new();
-    let mut right = DefaultHasher::new();
-    Integer::from(u128::MAX).hash(&mut left);
-    Integer::from_signed_octets(alloc, &GREATEST_UNSIGNED)?.hash(&mut right);
-    assert_same(&rt, &left.finish(), &right.finish());
+    assert!(rt; are_zero_and_one());
+    assert!(rt; have_one_hash(alloc)?);
     Ok(())
+}
+
+// Whether numbers are those of 64 bits, where these have room.
+fn words_are_exact() -> bool {
+    Integer::from(-1i8).to_i64() == Some(-1)
+        && Integer::from(-1i8).to_u64().is_none()
+        && Integer::from(u64::MAX).to_u64() == Some(u64::MAX)
+        && Integer::from(u64::MAX).to_i64().is_none()
+}
+
+// Whether numbers are those of types without a sign, where these have room.
+fn unsigned_conversions_are_exact() -> bool {
+    u8::try_from(Integer::from(255i32)).ok() == Some(255)
+        && u16::try_from(Integer::from(65536i32)).is_err()
+        && u32::try_from(Integer::from(7i32)).ok() == Some(7)
+        && u64::try_from(Integer::from(-7i32)).is_err()
+        && u128::try_from(Integer::from(u128::MAX)).ok() == Some(u128::MAX)
+        && usize::try_from(Integer::from(9usize)).ok() == Some(9)
+}
+
+// Whether numbers are those of types with a sign, where these have room.
+fn signed_conversions_are_exact() -> bool {
+    i8::try_from(Integer::from(-129i32)).is_err()
+        && i16::try_from(Integer::from(-129i32)).ok() == Some(-129)
+        && i32::try_from(Integer::from(i64::MIN)).is_err()
+        && i64::try_from(Integer::from(i64::MIN)).ok() == Some(i64::MIN)
+        && i128::try_from(Integer::from(u128::MAX)).is_err()
+        && isize::try_from(Integer::from(3u16)).ok() == Some(3)
+}
+
+// The refusal to convert 256 to a type of 8 bits.
+fn refusal_of_256() -> Result<TryFromIntegerError, Fail> {
+    match u8::try_from(Integer::from(256u16)) {
+        Ok(_) => Err("256 is no u8".into()),
+        Err(refusal) => Ok(refusal),
+    }
+}
+
+// Whether a refusal to convert 256 is shown.
+fn is_shown(alloc: Global, refusal: &TryFromIntegerError) -> Result<bool, AllocError> {
+    let shown = refusal.to_string(alloc)?;
+    Ok(shown.as_str() == "256 is outside the range of its type")
 }
 
 #[test]
 fn conversions_are_exact(rt: HostRuntime) -> Result<(), Fail> {
-    assert_same(&rt, &Integer::from(-1i8).to_i64(), &Some(-1));
-    assert_same(&rt, &Integer::from(-1i8).to_u64(), &None);
-    assert_same(&rt, &Integer::from(u64::MAX).to_u64(), &Some(u64::MAX));
-    assert_same(&rt, &Integer::from(u64::MAX).to_i64(), &None);
-    assert_same(&rt, &u8::try_from(Integer::from(255i32)).ok(), &Some(255));
-    assert_same(&rt, &u16::try_from(Integer::from(65536i32)).ok(), &None);
-    assert_same(&rt, &u32::try_from(Integer::from(7i32)).ok(), &Some(7));
-    assert_same(&rt, &u64::try_from(Integer::from(-7i32)).ok(), &None);
-    assert_same(
-        &rt,
-        &u128::try_from(Integer::from(u128::MAX)).ok(),
-        &Some(u128::MAX),
-    );
-    assert_same(&rt, &usize::try_from(Integer::from(9usize)).ok(), &Some(9));
-    assert_same(&rt, &i8::try_from(Integer::from(-129i32)).ok(), &None);
-    assert_same(
-        &rt,
-        &i16::try_from(Integer::from(-129i32)).ok(),
-        &Some(-129),
-    );
-    assert_same(&rt, &i32::try_from(Integer::from(i64::MIN)).ok(), &None);
-    assert_same(
-        &rt,
-        &i64::try_from(Integer::from(i64::MIN)).ok(),
-        &Some(i64::MIN),
-    );
-    assert_same(&rt, &i128::try_from(Integer::from(u128::MAX)).ok(), &None);
-    assert_same(&rt, &isize::try_from(Integer::from(3u16)).ok(), &Some(3));
-    match u8::try_from(Integer::from(256u16)) {
-        Ok(_) => assert!(rt; false),
-        Err(error) => {
-            assert_same(
-                &rt,
-                &error.to_string(rt.alloc())?.as_str(),
-                &"256 is outside the range of its type",
-            );
-            assert!(rt; error.clone()? == error);
-            assert!(rt; error != TryFromIntegerError::new(255));
-            assert!(rt; error.into_original() == Integer::from(256u16));
-        }
-    }
+    assert!(rt; words_are_exact());
+    assert!(rt; unsigned_conversions_are_exact());
+    assert!(rt; signed_conversions_are_exact());
+    let refusal = refusal_of_256()?;
+    assert!(rt; is_shown(rt.alloc(), &refusal)? && is_copied(&refusal)?);
+    assert!(rt; refusal != TryFromIntegerError::new(255));
+    assert!(rt; refusal.into_original() == Integer::from(256u16));
     Ok(())
+}
+
+// Whether sums and differences outside 128 bits are none.
+fn have_ends(least: &Integer, greatest: &Integer) -> bool {
+    greatest.checked_add(&Integer::ONE).is_none() && least.checked_sub(&Integer::ONE).is_none()
+}
+
+fn is_minus_one(answer: Option<Integer>) -> bool {
+    match answer {
+        Some(number) => number == Integer::from(-1i8),
+        None => false,
+    }
 }
 
 #[test]
 fn sums_and_differences(rt: HostRuntime) {
     let greatest = Integer::from_i128(i128::MAX);
     let least = Integer::from_i128(i128::MIN);
-    assert!(rt; greatest.checked_add(&Integer::ONE).is_none());
-    assert!(rt; least.checked_sub(&Integer::ONE).is_none());
-    let sum = greatest.checked_add(&least);
-    assert!(rt; sum.is_some_and(|sum| sum == Integer::from(-1i8)));
-    let difference = Integer::ZERO.checked_sub(&Integer::ONE);
-    assert!(rt; difference.is_some_and(|difference| difference == Integer::from(-1i8)));
+    assert!(rt; have_ends(&least, &greatest));
+    assert!(rt; is_minus_one(greatest.checked_add(&least)));
+    assert!(rt; is_minus_one(Integer::ZERO.checked_sub(&Integer::ONE)));
+}
+
+// Whether 200, which is lent, is a number of each type without a sign.
+fn unsigned_types_hold_200(number: &Integer) -> bool {
+    u8::try_from(number) == Ok(200)
+        && u16::try_from(number) == Ok(200)
+        && u32::try_from(number) == Ok(200)
+        && u64::try_from(number) == Ok(200)
+        && u128::try_from(number) == Ok(200)
+        && usize::try_from(number) == Ok(200)
+}
+
+// Whether 200, which is lent, is a number of each type with a sign that has more than 8 bits.
+fn signed_types_hold_200(number: &Integer) -> bool {
+    i8::try_from(number) == Err(IntegerError::Overflow)
+        && i16::try_from(number) == Ok(200)
+        && i32::try_from(number) == Ok(200)
+        && i64::try_from(number) == Ok(200)
+        && i128::try_from(number) == Ok(200)
+        && isize::try_from(number) == Ok(200)
 }
 
 #[test]
 fn lent_numbers_are_converted(rt: HostRuntime) {
     let number = Integer::from(200u8);
-    let overflow = Some(IntegerError::Overflow);
-    assert_same(&rt, &u8::try_from(&number).ok(), &Some(200));
-    assert_same(&rt, &u16::try_from(&number).ok(), &Some(200));
-    assert_same(&rt, &u32::try_from(&number).ok(), &Some(200));
-    assert_same(&rt, &u64::try_from(&number).ok(), &Some(200));
-    assert_same(&rt, &u128::try_from(&number).ok(), &Some(200));
-    assert_same(&rt, &usize::try_from(&number).ok(), &Some(200));
-    assert_same(&rt, &i8::try_from(&number).err(), &overflow);
-    assert_same(&rt, &i16::try_from(&number).ok(), &Some(200));
-    assert_same(&rt, &i32::try_from(&number).ok(), &Some(200));
-    assert_same(&rt, &i64::try_from(&number).ok(), &Some(200));
-    assert_same(&rt, &i128::try_from(&number).ok(), &Some(200));
-    assert_same(&rt, &isize::try_from(&number).ok(), &Some(200));
-    assert_same(&rt, &u8::try_from(&Integer::from(-1i8)).err(), &overflow);
+    assert!(rt; unsigned_types_hold_200(&number) && signed_types_hold_200(&number));
+    assert!(rt; u8::try_from(&Integer::from(-1i8)) == Err(IntegerError::Overflow));
 }
 
-#[test]
-fn refusals_are_shown(rt: HostRuntime) -> Result<(), Fail> {
-    let alloc = rt.alloc();
+// Whether the reasons of refusals are shown.
+fn reasons_are_shown(alloc: Global) -> Result<bool, AllocError> {
     let shown = format!(in alloc;
         "{}; {}; {}; {:?}",
         IntegerError::Empty,
@@ -293,18 +355,22 @@ fn refusals_are_shown(rt: HostRuntime) -> Result<(), Fail> {
         IntegerError::Memory,
         IntegerError::Overflow
     )?;
-    assert_same(
-        &rt,
-        &shown.as_str(),
-        &"no octets; the number is outside the range of its type; out of memory; Overflow",
-    );
-    let Err(refusal) = u8::try_from(Integer::from(256u16)) else {
-        return Err("256 is no u8".into());
-    };
-    assert_same(
-        &rt,
-        &format!(in alloc; "{refusal:?}")?.as_str(),
-        &"TryFromIntegerError { original: Integer { kind: Primitive(256) } }",
-    );
+    Ok(
+        shown.as_str()
+            == "no octets; the number is outside the range of its type; out of memory; Overflow",
+    )
+}
+
+// Whether a refusal to convert 256 is shown with what it is made of.
+fn is_shown_whole(alloc: Global, refusal: &TryFromIntegerError) -> Result<bool, AllocError> {
+    let shown = format!(in alloc; "{refusal:?}")?;
+    Ok(shown.as_str() == "TryFromIntegerError { original: Integer { kind: Primitive(256) } }")
+}
+
+#[test]
+fn refusals_are_shown(rt: HostRuntime) -> Result<(), Fail> {
+    let alloc = rt.alloc();
+    assert!(rt; reasons_are_shown(alloc)?);
+    assert!(rt; is_shown_whole(alloc, &refusal_of_256()?)?);
     Ok(())
 }

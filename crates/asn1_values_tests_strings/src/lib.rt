@@ -4,7 +4,7 @@
 #[cfg(test)]
 mod alphabets;
 #[cfg(test)]
-mod assertions;
+mod common;
 #[cfg(test)]
 mod strings;
 #[cfg(test)]
