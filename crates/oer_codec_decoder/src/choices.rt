@@ -5,9 +5,9 @@ ghost use Rattle.asn1_schema_tags.specs.Tags.{tag_of};
 ghost use Rattle.oer_codec_fronts.specs.Takes.{Chooses, Enters, IsPlace};
 ghost use Rattle.oer_codec_reading.specs.Fronts.{freedoms, Stands};
 ghost use Rattle.oer_codec_decoder.specs.Refusals.{NoChoice, NoEntry, NoTag};
-ghost use Rattle.oer_codec_decoder.specs.Scopes.{scope_of};
+ghost use Rattle.oer_codec_decoder.specs.Scopes.{frame_of, scope_of};
 
-use crate::frames::Frame;
+use crate::frames::Enclosing;
 use asn1_schema_faults::DecodeError;
 use asn1_schema_tags::Tag;
 use asn1_schema_variants::Chosen;
@@ -61,15 +61,15 @@ fn enter_alternative<'input>(
     cursor: &mut Cursor<'input>,
     rules: EncodingRules,
     added: bool,
-) -> Result<Frame<'input>, DecodeError>
-    ensures ok { IfOk result (λ frame. (k : _) → Enters (freedoms rules) added cursor.old k (cursor.new, scope_of frame ∷ k)) }
+) -> Result<Enclosing<'input>, DecodeError>
+    ensures ok { IfOk result (λ enclosing. (k : _) → Enters (freedoms rules) added cursor.old k (cursor.new, scope_of (frame_of enclosing) ∷ k)) }
     ensures only { IfErr result (NoEntry (freedoms rules) added cursor.old) }
 {
     if !added {
-        return Ok(Frame::Alternative);
+        return Ok(Enclosing::Alternative);
     }
     let behind = enter_open_type(cursor, rules)?;
-    Ok(Frame::OpenType(behind))
+    Ok(Enclosing::OpenType(behind))
 }
 
 /// Reads the tag of a choice, and enters its alternative (X.696 20).
@@ -84,8 +84,8 @@ pub(crate) fn read_choice<'input>(
     roots: &[Tag],
     extensible: bool,
     additions: &[Tag],
-) -> Result<(Chosen, Frame<'input>), DecodeError>
-    ensures ok { IfOk result (λ p. (k : _) → Chooses (freedoms rules) (map tag_of roots.now) extensible (map tag_of additions.now) p.0.added p.0.place (cursor.old, k) (cursor.new, scope_of p.1 ∷ k)) }
+) -> Result<(Chosen, Enclosing<'input>), DecodeError>
+    ensures ok { IfOk result (λ p. (k : _) → Chooses (freedoms rules) (map tag_of roots.now) extensible (map tag_of additions.now) p.0.added p.0.place (cursor.old, k) (cursor.new, scope_of (frame_of p.1) ∷ k)) }
     ensures within { IfOk result (λ p. p.0.place < length (cond p.0.added (map tag_of additions.now) (map tag_of roots.now))) }
     ensures only { IfErr result (NoChoice (freedoms rules) (map tag_of roots.now) extensible (map tag_of additions.now) cursor.old) }
 {
@@ -93,6 +93,6 @@ pub(crate) fn read_choice<'input>(
     let Some(chosen) = find_alternative(tag, roots, extensible, additions) else {
         return Err(DecodeError::InvalidTagVariantOnChoice);
     };
-    let frame = enter_alternative(cursor, rules, chosen.added)?;
-    Ok((chosen, frame))
+    let enclosing = enter_alternative(cursor, rules, chosen.added)?;
+    Ok((chosen, enclosing))
 }

@@ -4,13 +4,13 @@ ghost use Rattle.asn1_schema_decode.specs.Reads.{NoRecord};
 ghost use Rattle.asn1_schema_presented.specs.Records.{asks_one_of, one_of};
 ghost use Rattle.oer_codec_decoder.specs.Held.{Held, Finds, HasFailed, kind_of, state_of, IsReady};
 ghost use Rattle.oer_codec_decoder.specs.Refusals.{NotOpened};
-ghost use Rattle.oer_codec_decoder.specs.Scopes.{scope_of};
+ghost use Rattle.oer_codec_decoder.specs.Scopes.{frame_of, scope_of};
 ghost use Rattle.oer_codec_fronts.specs.Takes.{Opens};
 ghost use Rattle.oer_codec_reading.specs.Fronts.{freedoms};
 
 use crate::additions::read_additions;
 use crate::choices::read_choice;
-use crate::frames::{Frame, Scopes};
+use crate::frames::{Enclosing, Frame, Scopes};
 use crate::members::read_members;
 use crate::options::DecoderOptions;
 use crate::preamble::read_preamble;
@@ -117,6 +117,22 @@ impl<'input> Decoder<'input> {
         Ok(())
     }
 
+    // Encloses one value alone, and takes a level for it.
+    #[inline(always)]
+    fn enter_enclosing(&mut self, enclosing: Enclosing<'input>) -> Result<(), DecodeError>
+        requires { 0 < self.old.levels }
+        ensures levels { OnOk result (self.old.levels ≡ self.new.levels + 1) }
+        ensures scopes { OnOk result (self.new ≡ record { octets = self.old.octets; scopes = scope_of (frame_of enclosing.entry) ∷ self.old.scopes; levels = self.new.levels; most = self.old.most; failed = self.old.failed; rules = self.old.rules }) }
+        ensures only { IfErr result (λ error. error ≡ DecodeError.OutOfMemory) }
+        ensures failed { OnErr result (self.new.failed ≡ true) }
+    {
+        let Ok(()) = self.scopes.enclose(enclosing) else {
+            return Err(self.fail(DecodeError::OutOfMemory));
+        };
+        self.levels -= 1;
+        Ok(())
+    }
+
     // Opens the scope of an open type (X.696 30), and takes no level for it.
     #[inline(always)]
     fn open_type(&mut self) -> Result<(), DecodeError>
@@ -127,7 +143,7 @@ impl<'input> Decoder<'input> {
     {
         match enter_open_type(&mut self.cursor, self.rules) {
             Ok(behind) => {
-                let Ok(()) = self.scopes.open(Frame::OpenType(behind)) else {
+                let Ok(()) = self.scopes.enclose(Enclosing::OpenType(behind)) else {
                     return Err(self.fail(DecodeError::OutOfMemory));
                 };
                 Ok(())
@@ -441,8 +457,8 @@ impl<'input> asn1_schema_decode::Decoder for Decoder<'input> {
             return Err(self.fail(DecodeError::ExceedsMaxParseDepth));
         }
         match read_choice(&mut self.cursor, self.rules, roots, extensible, additions) {
-            Ok((chosen, frame)) => {
-                self.enter(frame)?;
+            Ok((chosen, enclosing)) => {
+                self.enter_enclosing(enclosing)?;
                 Ok(chosen)
             }
             Err(error) => Err(self.fail(error)),

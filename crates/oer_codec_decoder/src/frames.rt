@@ -3,7 +3,7 @@ ghost use Rattle.std.specs.Prelude.{◌≡◌, ◌<◌, ◌∷◌, [], length, t
 ghost use Rattle.oer_codec_fronts.specs.Takes.{AdditionEnds, Ends, NextMark, NextMember, components};
 ghost use Rattle.oer_codec_reading.specs.Fronts.{freedoms};
 ghost use Rattle.oer_codec_decoder.specs.Refusals.{NoAdditionEnd, NoEnd};
-ghost use Rattle.oer_codec_decoder.specs.Scopes.{NextPresent, scope_of};
+ghost use Rattle.oer_codec_decoder.specs.Scopes.{NextPresent, frame_of, framed, scope_of};
 
 use crate::additions::Additions;
 use crate::endings::finish;
@@ -42,9 +42,84 @@ pub(crate) enum Frame<'input> {
     Alternative,
 }
 
-/// All that has begun and has not ended: the innermost, and what is around it.
+/// What encloses one value alone.
+#[derive(Drop)]
+pub(crate) enum Enclosing<'input> {
+    /// An alternative of the root of a choice (X.696 20).
+    Alternative,
+    /// An open type (X.696 30): its octets stand alone, and those behind it are these.
+    OpenType(Cursor<'input>),
+}
+
+impl<'input> Enclosing<'input> {
+    /// Its frame among others.
+    #[inline(always)]
+    fn frame(self) -> Frame<'input>
+        ensures { result ≡ frame_of self.entry }
+    {
+        match self {
+            Enclosing::Alternative => Frame::Alternative,
+            Enclosing::OpenType(behind) => Frame::OpenType(behind),
+        }
+    }
+}
+
+/// Opens a frame inside all others.
+#[inline(always)]
+fn put<'input>(
+    innermost: &mut Option<Frame<'input>>,
+    outer: &mut Vec<Frame<'input>>,
+    frame: Frame<'input>,
+) -> Result<(), AllocError>
+    ensures { OnOk result (framed innermost.new outer.new.items ≡ scope_of frame.entry ∷ framed innermost.old outer.old.items) }
+{
+    match innermost.take() {
+        Some(around) => outer.push(around)?,
+        None => outer.clear(),
+    }
+    *innermost = Some(frame);
+    Ok(())
+}
+
+/// Opens what encloses one value alone as a frame inside all others. It is seldom called: where something begins in an open type or in an
+/// alternative.
+#[inline(never)]
+fn put_enclosing<'input>(
+    innermost: &mut Option<Frame<'input>>,
+    outer: &mut Vec<Frame<'input>>,
+    enclosing: Enclosing<'input>,
+) -> Result<(), AllocError>
+    ensures { OnOk result (framed innermost.new outer.new.items ≡ scope_of (frame_of enclosing.entry) ∷ framed innermost.old outer.old.items) }
+{
+    put(innermost, outer, enclosing.frame())
+}
+
+/// Closes the innermost frame, if it is that of an addition (X.696 30).
+fn close_frame_of_addition<'input>(
+    innermost: &mut Option<Frame<'input>>,
+    outer: &mut Vec<Frame<'input>>,
+    cursor: &mut Cursor<'input>,
+    rules: EncodingRules,
+) -> Result<(), DecodeError>
+    ensures ok { OnOk result (AdditionEnds (freedoms rules) cursor.old (framed innermost.old outer.old.items) (cursor.new, framed innermost.new outer.new.items)) }
+    ensures only { IfErr result (NoAdditionEnd (freedoms rules) cursor.old (framed innermost.old outer.old.items)) }
+{
+    let Some(Frame::OpenType(behind)) = innermost.take() else {
+        return Err(DecodeError::NotValidCanonicalEncoding);
+    };
+    let Some(Frame::Added(additions)) = outer.pop() else {
+        return Err(DecodeError::NotValidCanonicalEncoding);
+    };
+    leave_open_type(cursor, rules, behind)?;
+    *innermost = Some(Frame::Added(additions));
+    Ok(())
+}
+
+/// All that has begun and has not ended: what encloses one value alone, which stands inside all others if it is there, and the others, the
+/// innermost of them and what is around it.
 #[derive(Drop)]
 pub(crate) struct Scopes<'input> {
+    enclosing: Option<Enclosing<'input>>,
     innermost: Option<Frame<'input>>,
     outer: Vec<Frame<'input>>,
 }
@@ -56,7 +131,7 @@ impl<'input> Model for Scopes<'input> {
 
     ghost Value = { List Scope };
 
-    ghost view = { λ s. scopes_of s.innermost s.outer.items };
+    ghost view = { λ s. scopes_of s.enclosing s.innermost s.outer.items };
 }
 
 impl<'input> Scopes<'input> {
@@ -66,6 +141,7 @@ impl<'input> Scopes<'input> {
         ensures { result ≡ [] }
     {
         Scopes {
+            enclosing: None,
             innermost: None,
             outer: Vec::new(alloc),
         }
@@ -76,18 +152,27 @@ impl<'input> Scopes<'input> {
     pub(crate) fn open(&mut self, frame: Frame<'input>) -> Result<(), AllocError>
         ensures { OnOk result (self.new ≡ scope_of frame.entry ∷ self.old) }
     {
-        match self.innermost.take() {
-            Some(around) => self.outer.push(around)?,
-            None => self.outer.clear(),
+        if let Some(around) = self.enclosing.take() {
+            put_enclosing(&mut self.innermost, &mut self.outer, around)?;
         }
-        self.innermost = Some(frame);
+        put(&mut self.innermost, &mut self.outer, frame)
+    }
+
+    /// Opens inside all others what encloses one value alone.
+    #[inline(always)]
+    pub(crate) fn enclose(&mut self, enclosing: Enclosing<'input>) -> Result<(), AllocError>
+        ensures { OnOk result (self.new ≡ scope_of (frame_of enclosing.entry) ∷ self.old) }
+    {
+        if let Some(around) = self.enclosing.replace(enclosing) {
+            put_enclosing(&mut self.innermost, &mut self.outer, around)?;
+        }
         Ok(())
     }
 
-    /// Puts a scope in the place of the innermost.
+    /// Puts a scope in the place of the innermost, which is that of components.
     #[inline(always)]
     pub(crate) fn replace(&mut self, frame: Frame<'input>)
-        ensures { (s : _) (k : _) → self.old ≡ s ∷ k → self.new ≡ scope_of frame.entry ∷ k }
+        ensures { (x : _) (ms : _) (k : _) → self.old ≡ components x ms ∷ k → self.new ≡ scope_of frame.entry ∷ k }
     {
         self.innermost = Some(frame);
     }
@@ -98,6 +183,9 @@ impl<'input> Scopes<'input> {
         ensures some { IfSome result (λ set. (k : _) × (self.now ≡ components (Some set) [] ∷ k)) }
         ensures none { IfNone result ((set : _) (k : _) → self.now ≡ components (Some set) [] ∷ k → ⊥) }
     {
+        if self.enclosing.is_some() {
+            return None;
+        }
         match &self.innermost {
             Some(Frame::Components(Some(set), presence)) => {
                 if presence.is_empty() {
@@ -115,6 +203,9 @@ impl<'input> Scopes<'input> {
         ensures some { IfSome result (λ present. (os : _) → NextMark present os self.old (os, self.new)) }
         ensures none { IfNone result ((present : _) (os : _) (b : _) → NextMark present os self.old b → ⊥) }
     {
+        if self.enclosing.is_some() {
+            return None;
+        }
         match &mut self.innermost {
             Some(Frame::Components(_, presence)) => {
                 if presence.is_empty() {
@@ -134,6 +225,9 @@ impl<'input> Scopes<'input> {
         ensures some { IfSome result (λ present. NextPresent present self.old self.new) }
         ensures none { IfNone result ((present : _) (after : _) → NextPresent present self.old after → ⊥) }
     {
+        if self.enclosing.is_some() {
+            return None;
+        }
         match &mut self.innermost {
             Some(Frame::Added(additions)) => additions.next(),
             _ => None,
@@ -146,6 +240,9 @@ impl<'input> Scopes<'input> {
         ensures some { IfSome result (λ more. (os : _) → NextMember more os self.old (os, self.new)) }
         ensures none { IfNone result ((more : _) (os : _) (b : _) → NextMember more os self.old b → ⊥) }
     {
+        if self.enclosing.is_some() {
+            return None;
+        }
         match &mut self.innermost {
             Some(Frame::Members(due)) => {
                 if *due == 0 {
@@ -168,11 +265,19 @@ impl<'input> Scopes<'input> {
         ensures ok { OnOk result (Ends (freedoms rules) cursor.old self.old (cursor.new, self.new)) }
         ensures only { IfErr result (NoEnd (freedoms rules) cursor.old self.old) }
     {
+        if let Some(enclosing) = self.enclosing.take() {
+            if let Enclosing::OpenType(behind) = enclosing {
+                leave_open_type(cursor, rules, behind)?;
+            }
+            return Ok(());
+        }
         let Some(frame) = self.innermost.take() else {
             return Err(DecodeError::NotValidCanonicalEncoding);
         };
         finish(frame, cursor, rules)?;
-        self.innermost = self.outer.pop();
+        if !self.outer.is_empty() {
+            self.innermost = self.outer.pop();
+        }
         Ok(())
     }
 
@@ -186,14 +291,16 @@ impl<'input> Scopes<'input> {
         ensures ok { OnOk result (AdditionEnds (freedoms rules) cursor.old self.old (cursor.new, self.new)) }
         ensures only { IfErr result (NoAdditionEnd (freedoms rules) cursor.old self.old) }
     {
-        let Some(Frame::OpenType(behind)) = self.innermost.take() else {
+        let Some(enclosing) = self.enclosing.take() else {
+            return close_frame_of_addition(&mut self.innermost, &mut self.outer, cursor, rules);
+        };
+        let Enclosing::OpenType(behind) = enclosing else {
             return Err(DecodeError::NotValidCanonicalEncoding);
         };
-        let Some(Frame::Added(additions)) = self.outer.pop() else {
+        let Some(Frame::Added(_)) = &self.innermost else {
             return Err(DecodeError::NotValidCanonicalEncoding);
         };
         leave_open_type(cursor, rules, behind)?;
-        self.innermost = Some(Frame::Added(additions));
         Ok(())
     }
 }

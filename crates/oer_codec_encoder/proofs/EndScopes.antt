@@ -1,5 +1,5 @@
 -- Open types, alternatives and additions that end, in the octets and the frames of an encoder.
-use Rattle.std.proofs.Common.{◌≡◌, ℕ, ◌+◌, ◌-◌, ◌<◌, Bool, true, false, cond, List, [], ◌∷◌, ◌++◌, length, get_or, set, take, drop, replicate, Option, Some, None, option_map, option_and_then, refl, ap, subst, sym, ◌∙◌, arith, append_assoc, length-append, length-set}
+use Rattle.std.proofs.Common.{◌≡◌, ℕ, ◌+◌, ◌-◌, ◌<◌, Bool, true, false, cond, List, [], ◌∷◌, ◌++◌, length, get_or, set, take, drop, replicate, Option, Some, None, option_map, option_and_then, Result, Ok, Err, MatchResult, refl, ap, subst, sym, ◌∙◌, arith, append_assoc, length-append, length-set}
 use Rattle.std.proofs.lemmas.List.{append-nil, set-append_left, set-append_right, get_or-append_right, get_or_append_left}
 use Rattle.asn1_model.specs.Form.{written, exactly, both}
 use Rattle.asn1_model.specs.Numbers.{binary, octet_bits, packed, missing}
@@ -7,13 +7,14 @@ use Rattle.asn1_model.specs.Oer
 use Rattle.asn1_values_bits.specs.Octets.{filled_up}
 use Rattle.asn1_values_bits.proofs.Binary.{length-octet_bits}
 use Rattle.asn1_values_bits.proofs.Change.{kept_changed}
+use Rattle.asn1_schema_faults.specs.declared.EncodeError.{EncodeError}
 use Rattle.asn1_schema_presented.specs.Records.{ends}
 use Rattle.oer_codec_steps.specs.Steps.{State, run, adds_text, is_any_set, with_added}
 use Rattle.oer_codec_steps.proofs.Still.{counted_bits_still}
 use Rattle.oer_codec_encoder.specs.declared.frame.Additions.{Additions}
 use Rattle.oer_codec_encoder.specs.declared.frame.Frame.{Frame}
 use Rattle.oer_codec_encoder.specs.declared.frame.Frame.TheVariants.{Added, OpenType, Alternative}
-use Rattle.oer_codec_encoder.specs.Holding.{IsOpen, Holds, AreSound, Does}
+use Rattle.oer_codec_encoder.specs.Holding.{IsOpen, Holds, AreSound, Does, Cannot}
 use Rattle.oer_codec_encoder.specs.Slots.{HasAdditions, Completes}
 use Rattle.oer_codec_writing.specs.Writing.{Adds}
 use Rattle.oer_codec_encoder.proofs.Scopes.{on_top, appended, behind_room, before_room, room_within, closed_text, set_small, get_or_any}
@@ -41,6 +42,11 @@ does_end_alternative fs rest o a = record { after = λ s h. go s (on_top fs rest
   where
     go : (s : State) → Holds (Alternative ∷ rest) o s → (t : State) × (run ends s ≡ Some t) × Holds rest o t
     go s h = (h.0, ap (run ends) h.1, h.2)
+
+-- what ends a frame, whatever is around it
+pub ends_around : (fs rest : List Frame) (f : Frame) (o p : List ℕ) (r : Result (Unit {0}) EncodeError) → fs ≡ f ∷ rest → MatchResult r (λ _. (k : List Frame) → Does ends (f ∷ k) o k p) (λ e. (k : List Frame) → Cannot ends (f ∷ k) o e) → MatchResult r (λ _. Does ends fs o rest p) (Cannot ends fs o)
+ends_around fs rest f o p (Ok u) a m = subst (λ l. Does ends l o rest p) (sym a) (m rest)
+ends_around fs rest f o p (Err e) a m = subst (λ l. Cannot ends l o e) (sym a) (m rest)
 
 -- ---- the form of a sequence by the octets of its additions
 

@@ -1,14 +1,18 @@
--- Bags that go on, in the octets and the frames of an encoder.
-use Rattle.std.proofs.Common.{◌≡◌, ℕ, Bool, List, ◌∷◌, Result, Ok, Err, MatchResult}
+-- What goes on where nothing encloses one value alone, in the octets and the frames of an encoder.
+use Rattle.std.proofs.Common.{◌≡◌, ℕ, Bool, List, ◌∷◌, reverse, Option, Some, None, Result, Ok, Err, MatchResult, ap, ◌∙◌}
 use Rattle.asn1_schema_faults.specs.declared.EncodeError.{EncodeError}
 use Rattle.asn1_schema_presented.specs.Records.{further}
 use Rattle.oer_codec_encoder.specs.declared.frame.Bag.{Bag as BagFrame}
 use Rattle.oer_codec_encoder.specs.declared.frame.Frame.{Frame}
 use Rattle.oer_codec_encoder.specs.declared.frame.Frame.TheVariants.{Bag}
-use Rattle.oer_codec_encoder.specs.Frames.{NoMember}
+use Rattle.oer_codec_encoder.specs.declared.frames.Enclosing.{Enclosing}
+use Rattle.oer_codec_encoder.specs.Frames.{others_of, frames_of, NoMember}
 use Rattle.oer_codec_encoder.specs.Holding.{NextOfBag, Does, Cannot}
 use Rattle.oer_codec_encoder.proofs.BagScopes.{does_next}
 use Rattle.oer_codec_encoder.proofs.Refusals.{cannot, no_member_of_bag}
+
+pub none_encloses : (e : Option Enclosing) (i : Option Frame) (f : Frame) (fs : List Frame) → e ≡ None → i ≡ Some f → frames_of e i fs ≡ f ∷ reverse fs
+none_encloses e i f fs a b = ap (λ x. frames_of x i fs) a ∙ ap (λ x. others_of x fs) b
 
 pub bag_goes_on : (more : Bool) (fs rest gs : List Frame) (b c : BagFrame) (o p : List ℕ) (r : Result (Unit {0}) EncodeError) → fs ≡ Bag b ∷ rest → MatchResult r (λ _. NextOfBag more b o c p) (NoMember more b.due) → gs ≡ Bag c ∷ rest → MatchResult r (λ _. Does (further more) fs o gs p) (Cannot (further more) fs o)
 bag_goes_on more fs rest gs b c o p (Ok u) a m d = does_next fs rest gs b c o p more a m d

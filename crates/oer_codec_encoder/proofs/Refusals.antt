@@ -4,7 +4,7 @@ use Rattle.std.specs.Result.{IsErr, IsErrAnd}
 use Rattle.std.proofs.lemmas.Bool.{lt-ltb}
 use Rattle.asn1_schema_faults.specs.declared.EncodeError.{EncodeError}
 use Rattle.asn1_schema_faults.specs.declared.EncodeError.TheVariants.{ValueConstraintNotSatisfied, SizeConstraintNotSatisfied, AlphabetConstraintNotSatisfied, TooLongValue, LengthExceedsPlatformSize, OutOfMemory, AlreadyFailed}
-use Rattle.asn1_schema_presented.specs.Records.{Record, mark, addition, addition_ends, further}
+use Rattle.asn1_schema_presented.specs.Records.{Record, mark, additions_begin, addition, addition_ends, further}
 use Rattle.oer_codec_steps.specs.Steps.{components, open_type, added, bag_members, State, run}
 use Rattle.oer_codec_encoder.specs.declared.frame.Additions.{Additions}
 use Rattle.oer_codec_encoder.specs.declared.frame.Bag.{Bag as BagFrame}
@@ -74,3 +74,21 @@ no_mark_due (OpenType start ∷ k) o present n s h = ap (run (mark present)) h.i
 no_mark_due (Members due ∷ k) o present n s h = ap (run (mark present)) h.1
 no_mark_due (Bag b ∷ k) o present n s h = ap (run (mark present)) h.1
 no_mark_due (Alternative ∷ k) o present n s h = ap (run (mark present)) h.1
+
+pub no_root : (fs : List Frame) (o : List ℕ) (count : ℕ) → ((p : Preamble) (k : List Frame) → fs ≡ Components p ∷ k → ⊥) → (s : State) → Holds fs o s → run (additions_begin count) s ≡ None
+no_root [] o count n s h = ap (run (additions_begin count)) h
+no_root (Components c ∷ k) o count n s h = absurd (n c k refl)
+no_root (Added a ∷ k) o count n s h = ap (run (additions_begin count)) h.3
+no_root (OpenType start ∷ k) o count n s h = ap (run (additions_begin count)) h.is
+no_root (Members due ∷ k) o count n s h = ap (run (additions_begin count)) h.1
+no_root (Bag b ∷ k) o count n s h = ap (run (additions_begin count)) h.1
+no_root (Alternative ∷ k) o count n s h = ap (run (additions_begin count)) h.1
+
+pub no_open_type : (fs : List Frame) (o : List ℕ) → ((start : ℕ) (k : List Frame) → fs ≡ OpenType start ∷ k → ⊥) → (s : State) → Holds fs o s → run addition_ends s ≡ None
+no_open_type [] o n s h = ap (run addition_ends) h
+no_open_type (Components c ∷ k) o n s h = ap (run addition_ends) h.is
+no_open_type (Added a ∷ k) o n s h = ap (run addition_ends) h.3
+no_open_type (OpenType start ∷ k) o n s h = absurd (n start k refl)
+no_open_type (Members due ∷ k) o n s h = ap (run addition_ends) h.1
+no_open_type (Bag b ∷ k) o n s h = ap (run addition_ends) h.1
+no_open_type (Alternative ∷ k) o n s h = ap (run addition_ends) h.1

@@ -4,13 +4,25 @@ use Rattle.asn1_schema_faults.specs.declared.EncodeError.{EncodeError}
 use Rattle.asn1_schema_faults.specs.declared.EncodeError.TheVariants.{OutOfMemory}
 use Rattle.oer_codec_encoder.specs.declared.frame.Additions.{Additions}
 use Rattle.oer_codec_encoder.specs.declared.frame.Frame.{Frame}
-use Rattle.oer_codec_encoder.specs.declared.frame.Frame.TheVariants.{Added}
+use Rattle.oer_codec_encoder.specs.declared.frame.Frame.TheVariants.{Added, OpenType, Alternative}
 use Rattle.oer_codec_encoder.specs.declared.frame.Preamble.{Preamble}
+use Rattle.oer_codec_encoder.specs.declared.frames.Enclosing.{Enclosing}
+use Rattle.oer_codec_encoder.specs.declared.frames.Enclosing.TheVariants.{Alternative as EnclosingAlternative, OpenType as EnclosingOpenType}
 
--- All that is open, the innermost first: it stands alone, and those around it in the order in which they began.
-abbrev pub frames_of : Option Frame → List Frame → List Frame
-frames_of None fs = []
-frames_of (Some f) fs = f ∷ reverse fs
+-- The frame that encloses one value alone.
+abbrev pub frame_of : Enclosing → Frame
+frame_of EnclosingAlternative = Alternative
+frame_of (EnclosingOpenType start) = OpenType start
+
+-- What is open but for what encloses one value alone, the innermost first: it stands alone, and those around it in the order in which they began.
+abbrev pub others_of : Option Frame → List Frame → List Frame
+others_of None fs = []
+others_of (Some f) fs = f ∷ reverse fs
+
+-- All that is open: what encloses one value alone is innermost of all.
+abbrev pub frames_of : Option Enclosing → Option Frame → List Frame → List Frame
+frames_of None i fs = others_of i fs
+frames_of (Some e) i fs = frame_of e ∷ others_of i fs
 
 -- A preamble behind its next presence bit.
 abbrev pub told : Preamble → Preamble

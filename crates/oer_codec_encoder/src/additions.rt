@@ -19,7 +19,7 @@ use std::mem;
 /// # Errors
 ///
 /// `OutOfMemory`; any other only where nothing that is open takes this call.
-pub fn begin_additions(
+pub(crate) fn begin_additions(
     octets: &mut Vec<u8>,
     worker: &mut Vec<u8>,
     frames: &mut Frames,
@@ -28,22 +28,20 @@ pub fn begin_additions(
 ) -> Result<(), EncodeError>
     ensures { MatchResult result (λ _. Does (additions_begin count) frames.old octets.old.items frames.new octets.new.items) (Cannot (additions_begin count) frames.old octets.old.items) }
 {
-    match frames.close() {
-        Some(Frame::Components(preamble)) => {
-            if !preamble.extensible || preamble.due > 0 {
-                return Err(EncodeError::SizeConstraintNotSatisfied);
-            }
-            frames.open(Frame::Added(Additions {
-                due: count,
-                preamble,
-                outer: mem::replace(octets, take_room(worker, alloc)),
-                present: BitBuffer::new(alloc),
-                any: false,
-            }))?;
-            Ok(())
-        }
-        _ => Err(EncodeError::SizeConstraintNotSatisfied),
+    let Some(preamble) = frames.preamble() else {
+        return Err(EncodeError::SizeConstraintNotSatisfied);
+    };
+    if !preamble.extensible || preamble.due > 0 {
+        return Err(EncodeError::SizeConstraintNotSatisfied);
     }
+    frames.replace(Frame::Added(Additions {
+        due: count,
+        preamble,
+        outer: mem::replace(octets, take_room(worker, alloc)),
+        present: BitBuffer::new(alloc),
+        any: false,
+    }));
+    Ok(())
 }
 
 /// Counts the next addition, and keeps whether it is there.
@@ -66,7 +64,7 @@ pub(crate) fn count_addition(additions: &mut Additions, present: bool) -> Result
 ///
 /// `OutOfMemory`; any other only where nothing that is open takes this call.
 #[inline]
-pub fn put_addition(
+pub(crate) fn put_addition(
     octets: &mut Vec<u8>,
     frames: &mut Frames,
     present: bool,
@@ -86,7 +84,7 @@ pub fn put_addition(
 ///
 /// `OutOfMemory`; any other only where nothing that is open takes this call.
 #[inline]
-pub fn end_addition(
+pub(crate) fn end_addition(
     octets: &mut Vec<u8>,
     frames: &mut Frames,
     alloc: Global,
@@ -94,7 +92,7 @@ pub fn end_addition(
     requires { AreSound frames.old octets.old.items }
     ensures { MatchResult result (λ _. Does addition_ends frames.old octets.old.items frames.new octets.new.items) (Cannot addition_ends frames.old octets.old.items) }
 {
-    let Some(Frame::OpenType { start }) = frames.close() else {
+    let Some(start) = frames.close_open_type() else {
         return Err(EncodeError::SizeConstraintNotSatisfied);
     };
     let Some(_) = frames.additions() else {

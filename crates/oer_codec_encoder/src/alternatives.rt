@@ -5,8 +5,7 @@ ghost use Rattle.asn1_schema_tags.specs.Tags.{tag_of};
 ghost use Rattle.oer_codec_encoder.specs.Holding.{Does, Cannot};
 ghost use Rattle.oer_codec_steps.specs.Steps.{tag_at, tags_among};
 
-use crate::frame::Frame;
-use crate::frames::Frames;
+use crate::frames::{Enclosing, Frames};
 use crate::open_types::open_in_place;
 use asn1_schema_faults::EncodeError;
 use asn1_schema_tags::Tag;
@@ -44,7 +43,7 @@ fn tag_of_chosen(roots: &[Tag], extensible: bool, additions: &[Tag], chosen: Cho
 ///
 /// `OutOfMemory`; any other only where nothing that is open takes this call.
 #[inline(always)]
-pub fn begin_choice(
+pub(crate) fn begin_choice(
     octets: &mut Vec<u8>,
     frames: &mut Frames,
     roots: &[Tag],
@@ -61,7 +60,7 @@ pub fn begin_choice(
     if chosen.added {
         open_in_place(octets, frames)?;
     } else {
-        frames.open(Frame::Alternative)?;
+        frames.enclose(Enclosing::Alternative)?;
     }
     Ok(())
 }

@@ -27,7 +27,7 @@ use std::mem;
 /// # Errors
 ///
 /// `OutOfMemory`; any other only where nothing that is open takes this call.
-pub fn begin_bag(
+pub(crate) fn begin_bag(
     octets: &mut Vec<u8>,
     frames: &mut Frames,
     alloc: Global,

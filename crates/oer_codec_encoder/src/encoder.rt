@@ -4,11 +4,13 @@ ghost use Rattle.asn1_schema_encode.specs.Writes.{Refused};
 ghost use Rattle.asn1_schema_presented.specs.Records.{one_of};
 ghost use Rattle.oer_codec_encoder.specs.Stepping.{Puts};
 
+use crate::additions::{begin_additions, end_addition, put_addition};
+use crate::alternatives::begin_choice;
+use crate::bags::begin_bag;
+use crate::ends::end_scope;
+use crate::frames::Frames;
 use crate::options::EncoderOptions;
-use crate::{
-    Frames, begin_additions, begin_bag, begin_choice, begin_components, begin_members,
-    end_addition, end_scope, put_addition, put_mark,
-};
+use crate::sequences::{begin_components, begin_members, put_mark};
 use asn1_schema_bounds::Bounded;
 use asn1_schema_constraints::Constraints;
 use asn1_schema_faults::{CodecKind, EncodeError};

@@ -4,48 +4,48 @@ use asn1_values_bits::BitBuffer;
 
 /// The preamble of a sequence, a set or a group of additions (X.696 16.2), whose presence bits are told one at a time.
 #[derive(Clone, Copy)]
-pub struct Preamble {
+pub(crate) struct Preamble {
     /// Whether it has a mark of extensibility.
-    pub extensible: bool,
+    pub(crate) extensible: bool,
     /// How many presence bits are due.
-    pub due: usize,
+    pub(crate) due: usize,
     /// How many were given.
-    pub given: usize,
+    pub(crate) given: usize,
     /// Where it stands.
-    pub start: usize,
+    pub(crate) start: usize,
     /// Where the components begin behind it.
-    pub content: usize,
+    pub(crate) content: usize,
 }
 
 /// The additions of a sequence or of a set (X.696 16.4 and 16.5), whose octets stand alone until it ends, one behind the other.
 #[derive(Drop)]
-pub struct Additions {
+pub(crate) struct Additions {
     /// How many are due.
-    pub due: usize,
+    pub(crate) due: usize,
     /// The preamble, of which no bit is due.
-    pub preamble: Preamble,
+    pub(crate) preamble: Preamble,
     /// The octets up to the end of the root.
-    pub outer: Vec<u8>,
+    pub(crate) outer: Vec<u8>,
     /// Which of those that were told are there.
-    pub present: BitBuffer,
+    pub(crate) present: BitBuffer,
     /// Whether one of them is there.
-    pub any: bool,
+    pub(crate) any: bool,
 }
 
 /// A bag (X.696 19), of whose members the open one stands alone.
 #[derive(Drop)]
-pub struct Bag {
+pub(crate) struct Bag {
     /// How many members are due.
-    pub due: usize,
+    pub(crate) due: usize,
     /// The octets in front of the members.
-    pub outer: Vec<u8>,
+    pub(crate) outer: Vec<u8>,
     /// The octets of each member in front of the open one, if one is open.
-    pub members: Option<Vec<Vec<u8>>>,
+    pub(crate) members: Option<Vec<Vec<u8>>>,
 }
 
 /// What is open.
 #[derive(Drop)]
-pub enum Frame {
+pub(crate) enum Frame {
     /// A sequence, a set, or a group of additions.
     Components(Preamble),
     /// A sequence or a set behind its root.

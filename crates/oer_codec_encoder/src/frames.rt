@@ -1,8 +1,8 @@
 //! All that is open.
 ghost use Rattle.std.specs.Prelude.{◌≡◌, ◌+◌, ◌^◌, ◌<◌, ◌∷◌, [], List, ℕ, OnOk, IfErr, IfSome, IfNone, MatchResult};
 ghost use Rattle.asn1_schema_presented.specs.Records.{addition, further};
-ghost use Rattle.oer_codec_encoder.specs.declared.frame.Frame.TheVariants.{Added, Components};
-ghost use Rattle.oer_codec_encoder.specs.Frames.{told, CountsAddition};
+ghost use Rattle.oer_codec_encoder.specs.declared.frame.Frame.TheVariants.{Added, Components, OpenType};
+ghost use Rattle.oer_codec_encoder.specs.Frames.{frame_of, others_of, frames_of, told, CountsAddition};
 ghost use Rattle.oer_codec_encoder.specs.Holding.{Does, Cannot};
 
 use crate::additions::count_addition;
@@ -12,10 +12,38 @@ use crate::sequences::count_member;
 use asn1_schema_faults::EncodeError;
 use std::alloc::{AllocError, Global};
 use std::marker::Model;
+use std::mem;
 
-/// All that has begun and has not ended: the innermost, and what is around it. The innermost takes no memory.
+/// What encloses one value alone, and takes no more than one number.
+#[derive(Clone, Copy)]
+pub(crate) enum Enclosing {
+    /// An alternative of the root of a choice.
+    Alternative,
+    /// An addition or an added alternative, whose octets stand behind room for one octet of their number.
+    OpenType {
+        /// Where this room is.
+        start: usize,
+    },
+}
+
+impl Enclosing {
+    /// The frame that it is.
+    #[inline(always)]
+    fn frame(self) -> Frame
+        ensures { result ≡ frame_of self }
+    {
+        match self {
+            Enclosing::Alternative => Frame::Alternative,
+            Enclosing::OpenType { start } => Frame::OpenType { start },
+        }
+    }
+}
+
+/// All that has begun and has not ended. What encloses one value alone is innermost of all, if something does; then comes the innermost of the
+/// other frames, and what is around it. Neither of the two takes memory.
 #[derive(Drop)]
-pub struct Frames {
+pub(crate) struct Frames {
+    enclosing: Option<Enclosing>,
     innermost: Option<Frame>,
     outer: Vec<Frame>,
 }
@@ -27,16 +55,64 @@ impl Model for Frames {
 
     ghost Value = { List Frame };
 
-    ghost view = { λ f. frames_of f.innermost f.outer.items };
+    ghost view = { λ f. frames_of f.enclosing f.innermost f.outer.items };
+}
+
+/// Opens a frame inside all others, where nothing encloses one value alone.
+#[inline(always)]
+fn put(
+    innermost: &mut Option<Frame>,
+    outer: &mut Vec<Frame>,
+    frame: Frame,
+) -> Result<(), AllocError>
+    ensures { OnOk result (others_of innermost.new outer.new.items ≡ frame ∷ others_of innermost.old outer.old.items) }
+{
+    match innermost.take() {
+        Some(around) => outer.push(around)?,
+        None => outer.clear(),
+    }
+    *innermost = Some(frame);
+    Ok(())
+}
+
+/// Opens what encloses one value alone as a frame inside all others. It is seldom called: where something begins in an open type or in an
+/// alternative.
+#[inline(never)]
+fn put_enclosing(
+    innermost: &mut Option<Frame>,
+    outer: &mut Vec<Frame>,
+    enclosing: Enclosing,
+) -> Result<(), AllocError>
+    ensures { OnOk result (others_of innermost.new outer.new.items ≡ frame_of enclosing ∷ others_of innermost.old outer.old.items) }
+{
+    put(innermost, outer, enclosing.frame())
+}
+
+/// Moves what encloses one value alone, if something does, to the other frames.
+#[inline(always)]
+fn settle(
+    enclosing: &mut Option<Enclosing>,
+    innermost: &mut Option<Frame>,
+    outer: &mut Vec<Frame>,
+) -> Result<(), AllocError>
+    ensures none { OnOk result (enclosing.new ≡ None) }
+    ensures same { OnOk result (others_of innermost.new outer.new.items ≡ frames_of enclosing.old innermost.old outer.old.items) }
+{
+    if let Some(around) = *enclosing {
+        *enclosing = None;
+        put_enclosing(innermost, outer, around)?;
+    }
+    Ok(())
 }
 
 impl Frames {
     /// Nothing is open. It takes no memory.
     #[inline(always)]
-    pub fn new(alloc: Global) -> Self
+    pub(crate) fn new(alloc: Global) -> Self
         ensures { result ≡ [] }
     {
         Frames {
+            enclosing: None,
             innermost: None,
             outer: Vec::new(alloc),
         }
@@ -44,9 +120,10 @@ impl Frames {
 
     /// Leaves nothing open.
     #[inline(always)]
-    pub fn clear(&mut self)
+    pub(crate) fn clear(&mut self)
         ensures { self.new ≡ [] }
     {
+        self.enclosing = None;
         self.innermost = None;
         self.outer.clear();
     }
@@ -56,11 +133,17 @@ impl Frames {
     pub(crate) fn open(&mut self, frame: Frame) -> Result<(), AllocError>
         ensures { OnOk result (self.new ≡ frame ∷ self.old) }
     {
-        match self.innermost.take() {
-            Some(around) => self.outer.push(around)?,
-            None => self.outer.clear(),
-        }
-        self.innermost = Some(frame);
+        settle(&mut self.enclosing, &mut self.innermost, &mut self.outer)?;
+        put(&mut self.innermost, &mut self.outer, frame)
+    }
+
+    /// Opens what encloses one value alone inside all others.
+    #[inline(always)]
+    pub(crate) fn enclose(&mut self, enclosing: Enclosing) -> Result<(), AllocError>
+        ensures { OnOk result (self.new ≡ frame_of enclosing ∷ self.old) }
+    {
+        settle(&mut self.enclosing, &mut self.innermost, &mut self.outer)?;
+        self.enclosing = Some(enclosing);
         Ok(())
     }
 
@@ -70,9 +153,62 @@ impl Frames {
         ensures some { IfSome result (λ frame. self.old ≡ frame ∷ self.new) }
         ensures none { IfNone result (self.old ≡ []) }
     {
-        let frame = self.innermost.take()?;
-        self.innermost = self.outer.pop();
-        Some(frame)
+        if let Some(enclosing) = self.enclosing {
+            self.enclosing = None;
+            return Some(enclosing.frame());
+        }
+        if self.outer.is_empty() {
+            return self.innermost.take();
+        }
+        mem::replace(&mut self.innermost, self.outer.pop())
+    }
+
+    /// Closes the innermost frame, if it encloses one value alone.
+    #[inline(always)]
+    pub(crate) fn close_enclosing(&mut self) -> Option<Enclosing>
+        ensures some { IfSome result (λ enclosing. self.old ≡ frame_of enclosing ∷ self.new) }
+        ensures none { IfNone result (self.new ≡ self.old) }
+    {
+        let enclosing = self.enclosing;
+        self.enclosing = None;
+        enclosing
+    }
+
+    /// Closes the innermost frame, if it is an open type, and answers where the room for its number is.
+    #[inline(always)]
+    pub(crate) fn close_open_type(&mut self) -> Option<usize>
+        ensures some { IfSome result (λ start. self.old ≡ OpenType start ∷ self.new) }
+        ensures none { IfNone result ((start : _) (k : _) → self.old ≡ OpenType start ∷ k → ⊥) }
+    {
+        match self.close_enclosing() {
+            Some(Enclosing::OpenType { start }) => Some(start),
+            Some(Enclosing::Alternative) => None,
+            None => match self.close() {
+                Some(Frame::OpenType { start }) => Some(start),
+                _ => None,
+            },
+        }
+    }
+
+    /// The preamble of the innermost sequence, if it is not behind its root.
+    #[inline(always)]
+    pub(crate) fn preamble(&self) -> Option<Preamble>
+        ensures some { IfSome result (λ p. (k : _) × (self.now ≡ Components p ∷ k)) }
+        ensures none { IfNone result ((p : _) (k : _) → self.now ≡ Components p ∷ k → ⊥) }
+    {
+        match (&self.enclosing, &self.innermost) {
+            (None, Some(Frame::Components(preamble))) => Some(*preamble),
+            _ => None,
+        }
+    }
+
+    /// Puts a frame in the place of the components of the innermost sequence.
+    #[inline(always)]
+    pub(crate) fn replace(&mut self, frame: Frame)
+        requires { (p : _) × (k : _) × (self.old ≡ Components p ∷ k) }
+        ensures { (f : _) (k : _) → self.old ≡ f ∷ k → self.new ≡ frame ∷ k }
+    {
+        self.innermost = Some(frame);
     }
 
     /// Takes the next presence bit of the innermost sequence, and gives the preamble as it was in front of it.
@@ -82,8 +218,8 @@ impl Frames {
         ensures some { IfSome result (λ p. (k : _) × (self.old ≡ Components p ∷ k) × (0 < p.due) × (self.new ≡ Components (told p) ∷ k)) }
         ensures none { IfNone result ((p : _) (k : _) → self.old ≡ Components p ∷ k → p.due ≡ 0) }
     {
-        match &mut self.innermost {
-            Some(Frame::Components(preamble)) => {
+        match (&self.enclosing, &mut self.innermost) {
+            (None, Some(Frame::Components(preamble))) => {
                 if preamble.due == 0 {
                     return None;
                 }
@@ -102,7 +238,7 @@ impl Frames {
     ///
     /// `OutOfMemory`; any other only where nothing that is open takes this call.
     #[inline(always)]
-    pub fn put_further(
+    pub(crate) fn put_further(
         &mut self,
         octets: &mut Vec<u8>,
         alloc: Global,
@@ -110,9 +246,9 @@ impl Frames {
     ) -> Result<(), EncodeError>
         ensures { MatchResult result (λ _. Does (further more) self.old octets.old.items self.new octets.new.items) (Cannot (further more) self.old octets.old.items) }
     {
-        match &mut self.innermost {
-            Some(Frame::Members { due }) => count_member(due, more)?,
-            Some(Frame::Bag(bag)) => return next_of_bag(octets, bag, alloc, more),
+        match (&self.enclosing, &mut self.innermost) {
+            (None, Some(Frame::Members { due })) => count_member(due, more)?,
+            (None, Some(Frame::Bag(bag))) => return next_of_bag(octets, bag, alloc, more),
             _ => return Err(EncodeError::SizeConstraintNotSatisfied),
         }
         Ok(())
@@ -124,8 +260,8 @@ impl Frames {
         ensures ok { OnOk result (CountsAddition present self.old self.new) }
         ensures only { IfErr result (λ e. (o : List ℕ) → Cannot (addition present) self.old o e) }
     {
-        match &mut self.innermost {
-            Some(Frame::Added(additions)) => count_addition(additions, present)?,
+        match (&self.enclosing, &mut self.innermost) {
+            (None, Some(Frame::Added(additions))) => count_addition(additions, present)?,
             _ => return Err(EncodeError::SizeConstraintNotSatisfied),
         }
         Ok(())
@@ -137,8 +273,8 @@ impl Frames {
         ensures some { IfSome result (λ a. (k : _) × (self.now ≡ Added a.now ∷ k)) }
         ensures none { IfNone result ((a : _) (k : _) → self.now ≡ Added a ∷ k → ⊥) }
     {
-        match &self.innermost {
-            Some(Frame::Added(additions)) => Some(additions),
+        match (&self.enclosing, &self.innermost) {
+            (None, Some(Frame::Added(additions))) => Some(additions),
             _ => None,
         }
     }

@@ -15,12 +15,5 @@ mod options;
 mod room;
 mod sequences;
 
-pub use additions::{begin_additions, end_addition, put_addition};
-pub use alternatives::begin_choice;
-pub use bags::begin_bag;
 pub use encoder::Encoder;
-pub use ends::end_scope;
-pub use frame::{Additions, Bag, Frame, Preamble};
-pub use frames::Frames;
 pub use options::EncoderOptions;
-pub use sequences::{begin_components, begin_members, put_mark};

@@ -5,8 +5,7 @@ ghost use Rattle.asn1_model.specs.Oer.{counted};
 ghost use Rattle.oer_codec_encoder.specs.declared.frame.Frame.TheVariants.{OpenType};
 ghost use Rattle.oer_codec_writing.specs.Writing.{Adds};
 
-use crate::frame::Frame;
-use crate::frames::Frames;
+use crate::frames::{Enclosing, Frames};
 use asn1_schema_faults::EncodeError;
 use oer_codec_writing::push_counted;
 use std::alloc::{AllocError, Global};
@@ -19,7 +18,7 @@ pub(crate) fn open_in_place(octets: &mut Vec<u8>, frames: &mut Frames) -> Result
 {
     let start = octets.len();
     octets.push(0)?;
-    frames.open(Frame::OpenType { start })?;
+    frames.enclose(Enclosing::OpenType { start })?;
     Ok(())
 }
 

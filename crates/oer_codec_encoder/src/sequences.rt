@@ -38,7 +38,7 @@ fn push_zeros(octets: &mut Vec<u8>, count: usize) -> Result<(), EncodeError>
 ///
 /// `OutOfMemory`, and no other.
 #[inline]
-pub fn begin_components(
+pub(crate) fn begin_components(
     octets: &mut Vec<u8>,
     frames: &mut Frames,
     extensible: bool,
@@ -83,7 +83,11 @@ pub(crate) fn raise_bit(octets: &mut Vec<u8>, start: usize, place: usize)
 ///
 /// `OutOfMemory`; any other only where nothing that is open takes this call.
 #[inline]
-pub fn put_mark(octets: &mut Vec<u8>, frames: &mut Frames, present: bool) -> Result<(), EncodeError>
+pub(crate) fn put_mark(
+    octets: &mut Vec<u8>,
+    frames: &mut Frames,
+    present: bool,
+) -> Result<(), EncodeError>
     requires { AreSound frames.old octets.old.items }
     ensures { MatchResult result (λ _. Does (mark present) frames.old octets.old.items frames.new octets.new.items) (Cannot (mark present) frames.old octets.old.items) }
 {
@@ -103,7 +107,7 @@ pub fn put_mark(octets: &mut Vec<u8>, frames: &mut Frames, present: bool) -> Res
 ///
 /// `OutOfMemory`; any other only where nothing that is open takes this call.
 #[inline]
-pub fn begin_members(
+pub(crate) fn begin_members(
     octets: &mut Vec<u8>,
     frames: &mut Frames,
     constraints: Constraints,

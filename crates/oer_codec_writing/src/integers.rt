@@ -105,7 +105,7 @@ fn push_number(
 /// # Errors
 ///
 /// `OutOfMemory`; any other only where the value has no encoding in this form.
-#[inline]
+#[inline(always)]
 pub fn push_integer<I: IntegerType>(
     octets: &mut Vec<u8>,
     constraints: Constraints,

@@ -7,6 +7,8 @@ use Rattle.per_codec_fronts.specs.Takes.{Place, State, Scope, components, added,
 use Rattle.per_codec_decoder.specs.Additions.{own_marks, unknown_marks}
 use Rattle.per_codec_decoder.specs.declared.frames.Frame.{Frame}
 use Rattle.per_codec_decoder.specs.declared.frames.Frame.TheVariants.{Components, Added, OpenType, Members, Alternative}
+use Rattle.per_codec_decoder.specs.declared.frames.Enclosing.{Enclosing}
+use Rattle.per_codec_decoder.specs.declared.frames.Enclosing.TheVariants.{OpenType as Opened, Alternative as Chosen}
 use Rattle.per_codec_decoder.specs.declared.frames.Ending.{Ending}
 use Rattle.per_codec_decoder.specs.declared.frames.Ending.TheVariants.{Nothing, Unknown, OpenType as Filled}
 
@@ -18,10 +20,20 @@ scope_of (OpenType p) = open_type p.place
 scope_of (Members p) = members p.due p.tally
 scope_of Alternative = alternative
 
--- The open scopes, the innermost first: it stands alone, and those around it in the order in which they began.
-abbrev pub scopes_of : Option Frame → List Frame → List Scope
-scopes_of None fs = []
-scopes_of (Some f) fs = scope_of f ∷ map scope_of (reverse fs)
+-- An open scope that encloses one value alone.
+abbrev pub scope_around : Enclosing → Scope
+scope_around (Opened p) = open_type p.place
+scope_around Chosen = alternative
+
+-- The open scopes of frames, the innermost first: it stands alone, and those around it in the order in which they began.
+abbrev pub scopes_in : Option Frame → List Frame → List Scope
+scopes_in None fs = []
+scopes_in (Some f) fs = scope_of f ∷ map scope_of (reverse fs)
+
+-- The open scopes, the innermost first: what encloses one value alone, if it is there, and those of the frames.
+abbrev pub scopes_of : Option Enclosing → Option Frame → List Frame → List Scope
+scopes_of None f fs = scopes_in f fs
+scopes_of (Some e) f fs = scope_around e ∷ scopes_in f fs
 
 -- All root components of the innermost sequence or set have passed, and this is the bit of its mark.
 abbrev pub HasMark : Bool → List Scope → Type 0

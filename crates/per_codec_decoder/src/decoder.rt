@@ -2,7 +2,7 @@
 ghost use Rattle.std.specs.Cow.{cow_slice_items, IsBorrowedSlice};
 ghost use Rattle.std.specs.Prelude.{◌≡◌, ◌+◌, ◌-◌, ◌%◌, ◌<◌, ◌≤◌, ◌^◌, [], ◌∷◌, true, false, length, take, OnOk, OnErr, IfErr, IfOk};
 ghost use Rattle.per_codec_decoder.specs.Held.{Held, Finds, HasFailed, kind_of, IsReady, Stays, Moves, Enters, HasOpened, HasPassed, NoOpening, EntersMembers, EntersComponents, NotMembers, NotComponents};
-ghost use Rattle.per_codec_decoder.specs.Scopes.{scope_of, Passes, NotPassed};
+ghost use Rattle.per_codec_decoder.specs.Scopes.{scope_of, scope_around, Passes, NotPassed};
 ghost use Rattle.asn1_schema_bounds.specs.Bounds.{counts_of, members_of};
 ghost use Rattle.asn1_schema_decode.specs.Reads.{NoRecord};
 ghost use Rattle.asn1_schema_presented.specs.Records.{octets, asks_octets};
@@ -17,7 +17,7 @@ ghost use Rattle.per_codec_reading.specs.Fronts.{freedoms, is_aligned};
 use crate::additions::Additions;
 use crate::alphabets::is_alphabet;
 use crate::completion::{read_completion, read_to_end};
-use crate::frames::{Ending, Frame, Scopes};
+use crate::frames::{Enclosing, Ending, Frame, Scopes};
 use crate::members::read_members;
 use crate::octets::read_held_octets;
 use crate::options::DecoderOptions;
@@ -258,6 +258,22 @@ impl<'input> Decoder<'input> {
         Ok(())
     }
 
+    // Opens a scope that encloses one value alone, and takes a level for it.
+    #[inline(always)]
+    fn enter_enclosing(&mut self, enclosing: Enclosing<'input>) -> Result<(), DecodeError>
+        requires { 0 < self.old.levels }
+        ensures levels { OnOk result (self.old.levels ≡ self.new.levels + 1) }
+        ensures scopes { OnOk result (self.new ≡ record { place = self.old.place; scopes = scope_around enclosing.entry ∷ self.old.scopes; levels = self.new.levels; most = self.old.most; failed = self.old.failed; variant = self.old.variant; lends = self.old.lends }) }
+        ensures only { IfErr result (λ error. error ≡ DecodeError.OutOfMemory) }
+        ensures failed { OnErr result (self.new.failed ≡ true) }
+    {
+        let Ok(()) = self.scopes.enclose(enclosing) else {
+            return Err(self.fail(DecodeError::OutOfMemory));
+        };
+        self.descend();
+        Ok(())
+    }
+
     // Takes a level.
     #[inline(always)]
     fn descend(&mut self)
@@ -323,7 +339,7 @@ impl<'input> Decoder<'input> {
         };
         self.lends = false;
         let behind = replace(&mut self.place, inside);
-        let Ok(()) = self.scopes.open(Frame::OpenType(behind)) else {
+        let Ok(()) = self.scopes.enclose(Enclosing::OpenType(behind)) else {
             return Err(self.fail(DecodeError::OutOfMemory));
         };
         Ok(())
@@ -626,7 +642,7 @@ impl<'input> asn1_schema_decode::Decoder for Decoder<'input> {
             self.descend();
             return Ok(chosen);
         }
-        self.enter(Frame::Alternative)?;
+        self.enter_enclosing(Enclosing::Alternative)?;
         Ok(chosen)
     }
 

@@ -1,10 +1,14 @@
-use Rattle.std.proofs.Common.{Some, ◌∷◌, ap, reverse, refl, subst, sym, ◌∙◌}
+use Rattle.std.proofs.Common.{◌≡◌, Some, refl, subst, sym, ◌∙◌}
 use Rattle.oer_codec_encoder.specs.declared.frame.Frame.TheVariants.{Added}
 use Rattle.oer_codec_encoder.specs.Frames.{frames_of, CountsAddition}
+use Rattle.oer_codec_encoder.proofs.Going.{none_encloses}
 use Rattle.oer_codec_encoder.proofs.frames.Frames.next_addition.Goals as goal
 
 pub returns-clause-ok : goal.returns-clause-ok
 returns-clause-ok c =
-    let f = c.in-Some-Added in
-    let old = sym (ap (λ i. frames_of i c.self.inside.outer.items) (f.is ∙ ap Some f.field-0-is)) ∙ c.self.view_is in
-    subst (λ l. CountsAddition c.args.present l (Added c.count_addition.new.additions ∷ reverse c.self.inside.outer.items)) old (c.count_addition.new.additions, c.in_ok-count_addition-in-Some-Added.ensures, refl)
+    let f = c.in-None-Some-Added in
+    let b = c.count_addition.new.additions in
+    let i = c.self.inside in
+    let at : i.innermost ≡ Some (Added f.additions) = cc in
+    let old = sym (none_encloses i.enclosing i.innermost (Added f.additions) i.outer.items f.is-0 at) ∙ c.self.view_is in
+    subst (λ l. CountsAddition c.args.present l (frames_of i.enclosing (Some (Added b)) i.outer.items)) old (b, c.in_ok-count_addition-in-None-Some-Added.ensures, none_encloses i.enclosing (Some (Added b)) (Added b) i.outer.items f.is-0 refl)

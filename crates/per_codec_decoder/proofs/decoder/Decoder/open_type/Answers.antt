@@ -10,4 +10,4 @@ pub returns-in-Err-clause-only : goal.returns-in-Err-clause-only
 returns-in-Err-clause-only c = not_opened _ _ c.in-Err.error _ c.self.view_is c.fail.ensures.refused c.in-Err.ensures.only
 
 pub returns-clause-ok : goal.returns-clause-ok
-returns-clause-ok c = opened _ _ _ c.replace-behind.new.dest.place c.replace-behind.result.place c.take_field.new.self.place c.open.new.self c.self.view_is (ap (λ (p : Stretched). p.place.0) c.replace-behind.ensures.after ∙ c.in-Ok.ensures.start) (subst (λ (p : Stretched). Front (freedoms c.self.inside.variant) (octets_form (is_aligned c.self.inside.variant) p.place.1) c.self.inside.place.place c.take_field.new.self.place) (sym c.replace-behind.ensures.after) c.in-Ok.ensures.ok) (ap (λ (p : Stretched). p.place) c.replace-behind.ensures.value) c.in-Ok-open.ensures refl
+returns-clause-ok c = opened _ _ _ c.replace-behind.new.dest.place c.replace-behind.result.place c.take_field.new.self.place c.enclose.new.self c.self.view_is (ap (λ (p : Stretched). p.place.0) c.replace-behind.ensures.after ∙ c.in-Ok.ensures.start) (subst (λ (p : Stretched). Front (freedoms c.self.inside.variant) (octets_form (is_aligned c.self.inside.variant) p.place.1) c.self.inside.place.place c.take_field.new.self.place) (sym c.replace-behind.ensures.after) c.in-Ok.ensures.ok) (ap (λ (p : Stretched). p.place) c.replace-behind.ensures.value) c.in-Ok-enclose.ensures refl
