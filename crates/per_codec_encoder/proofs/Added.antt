@@ -9,7 +9,7 @@ use Rattle.per_codec_encoder.specs.declared.frame.Additions.{Additions}
 use Rattle.per_codec_encoder.specs.declared.frame.Frame.{Frame}
 use Rattle.per_codec_encoder.specs.declared.frame.Place.{Place}
 use Rattle.per_codec_encoder.specs.declared.frame.Frame.TheVariants.{Components, Added, OpenType, Members, Bag, Alternative}
-use Rattle.per_codec_encoder.specs.Frames.{Next, CountsAddition}
+use Rattle.per_codec_encoder.specs.Frames.{Next, Keeps, CountsAddition, KeepsAddition}
 use Rattle.per_codec_encoder.specs.Holding.{at, preamble, IsOpen, IsAdded, Holds, Does}
 use Rattle.per_codec_encoder.proofs.Scopes.{length-open, on_top, put_back}
 
@@ -170,3 +170,15 @@ module _ (fs mid rest : List Frame) (f g : Frame) (ad : Additions) (outer o : Pa
 
   pub no_end_addition : IsNotAdded (reverse mid) → (al : Bool) (s : State) → Holds (reverse fs) o s → run al addition_ends s ≡ None
   no_end_addition n al s h = let k = on_top fs mid f (OpenType outer) o s a b h in ap (run al addition_ends) k.1 ∙ not_added (reverse mid) outer k.0 k.3 n
+
+-- the additions with the bits of one more, by their parts
+keeps_is : {contents : List Bool} {x y : Additions} → Keeps contents x y → y ≡ kept x.due x.given x.start x.end y.slots
+keeps_is {contents} {x} {y} n =
+    ap (λ k. kept k y.given y.start y.end y.slots) n.counts
+    ∙ (ap (λ k. kept x.due k y.start y.end y.slots) n.given
+    ∙ (ap (λ p. kept x.due x.given p y.end y.slots) n.start
+    ∙ ap (λ p. kept x.due x.given x.start p y.slots) n.end))
+
+pub does_keep_addition : (fs mid gs : List Frame) (f : Frame) (outer o p : Packed) (contents : List Bool) → fs ≡ mid ++ f ∷ [] → f ≡ OpenType outer → KeepsAddition contents mid gs → p ≡ outer → (o.placed ≡ true → plain o.text ≡ Some contents) → (al : Bool) → Does al addition_ends fs o gs p
+does_keep_addition fs mid gs f outer o p contents a b k e i al =
+    does_end_addition fs mid k.around f (Added k.old) k.old outer o a b gs k.new.slots p contents k.before refl e i k.next.slots (k.after ∙ ap (λ x. k.around ++ Added x ∷ []) (keeps_is k.next)) al

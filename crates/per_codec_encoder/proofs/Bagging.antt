@@ -1,5 +1,5 @@
 -- Bags that begin, go on and end, in the texts and the frames of an encoder.
-use Rattle.std.proofs.Common.{◌≡◌, ℕ, zero, suc, ◌-◌, ◌≤◌, Bool, true, false, not, ltb, is_some, List, [], ◌∷◌, ◌++◌, length, take, map, reverse, Some, None, Vec, Global, Result, Ok, Err, MatchResult, refl, ap, subst, sym, ◌∙◌, arith, length-append}
+use Rattle.std.proofs.Common.{◌≡◌, ℕ, zero, suc, ◌-◌, ◌≤◌, Bool, true, false, not, ltb, is_some, List, [], ◌∷◌, ◌++◌, length, take, map, reverse, Some, None, Box, Vec, Global, Result, Ok, Err, MatchResult, refl, ap, subst, sym, ◌∙◌, arith, length-append}
 use mathlib.Core.Bool.{beq}
 use Rattle.std.proofs.lemmas.Bool.{ltb-false}
 use Rattle.std.proofs.lemmas.List.{take_at}
@@ -45,8 +45,12 @@ module _ (al : Bool) (z : Size) (h : Counts) (n : ℕ) (o p : Packed) (d : Due) 
   pub cut_place : (i : ℕ) → i ≡ length (solid o.text) → length (solid (take k p.text)) ≡ i
   cut_place i c = ap (λ t. length (solid t)) front_is ∙ sym c
 
-pub does_begin_bag : (al : Bool) (fs gs : List Frame) (o p r outer : Packed) (z : Size) (range held : Bounded ℕ) (e : Bool) (n : ℕ) (d : Due) → Heads (list_heading al z (members_of held) n (place o)) o d p → outer ≡ o → size_of range e ≡ z → r ≡ record { text = []; placed = false } → gs ≡ fs ++ Bag (record { outer = outer; range = range; extensible = e; held = held; due = n; members = None }) ∷ [] → Does al (bag_begins z (members_of held) n) fs o gs r
-does_begin_bag al fs gs o p r outer z range held e n d x a b c y = record { after = λ s k. (go s, ap (λ q. bag_opened z (members_of held) n s (list_heading al z (members_of held) n q)) (at_end (reverse fs) o s k) ∙ ap (bag_opened z (members_of held) n s) x.is, put_back fs gs (Bag (record { outer = outer; range = range; extensible = e; held = held; due = n; members = None })) r (go s) y (s, shown_as s, ap (λ (l : Packed). l.placed) c, subst (λ l. Holds (reverse fs) l s) (sym a) k)) }
+-- what holds with a bag holds with the box of it
+boxed_holds : (boxed : Box BagFrame Global) (b : BagFrame) → boxed.value ≡ b → (fs : List Frame) (o : Packed) (s outer : State) → s ≡ (o.text, bag_of b outer.0 ∷ outer.1) → o.placed ≡ false → Holds fs b.outer outer → Holds (Bag boxed ∷ fs) o s
+boxed_holds boxed b v fs o s outer x y z = (outer, subst (λ (w : BagFrame). s ≡ (o.text, bag_of w outer.0 ∷ outer.1)) (sym v) x, y, subst (λ (w : BagFrame). Holds fs w.outer outer) (sym v) z)
+
+pub does_begin_bag : (al : Bool) (fs gs : List Frame) (o p r outer : Packed) (z : Size) (range held : Bounded ℕ) (e : Bool) (n : ℕ) (d : Due) (boxed : Box BagFrame Global) → Heads (list_heading al z (members_of held) n (place o)) o d p → outer ≡ o → size_of range e ≡ z → r ≡ record { text = []; placed = false } → boxed.value ≡ record { outer = outer; range = range; extensible = e; held = held; due = n; members = None } → gs ≡ fs ++ Bag boxed ∷ [] → Does al (bag_begins z (members_of held) n) fs o gs r
+does_begin_bag al fs gs o p r outer z range held e n d boxed x a b c v y = record { after = λ s k. (go s, ap (λ q. bag_opened z (members_of held) n s (list_heading al z (members_of held) n q)) (at_end (reverse fs) o s k) ∙ ap (bag_opened z (members_of held) n s) x.is, put_back fs gs (Bag boxed) r (go s) y (boxed_holds boxed _ v (reverse fs) r (go s) s (shown_as s) (ap (λ (l : Packed). l.placed) c) (subst (λ l. Holds (reverse fs) l s) (sym a) k))) }
   where
     go : State → State
     go s = ([], bag_members z (members_of held) n None s.0 ∷ s.1)
@@ -109,25 +113,25 @@ comes b o p more v member h e m c t = record { goes = λ front k. go front k b.d
         ap (λ ts. let l : State = ([], bag_members (size_of b.range b.extensible) (members_of b.held) (b.due - 1) (Some ts) front ∷ k) in Some l) (sym (t ∙ ap (λ (l : Packed). with_open (texts_before b.members) l.text) m))
         ∙ ap (λ (q : Packed). let l : State = (q.text, bag_of (behind_one b v) front ∷ k) in Some l) (sym c)
 
-module _ (al : Bool) (fs rest : List Frame) (f : Frame) (b : BagFrame) (o : Packed) (x : fs ≡ rest ++ f ∷ []) (y : f ≡ Bag b) where
-  top : (s : State) → Holds (reverse fs) o s → Holds (Bag b ∷ reverse rest) o s
-  top s h = on_top fs rest f (Bag b) o s x y h
+module _ (al : Bool) (fs rest : List Frame) (f : Frame) (boxed : Box BagFrame Global) (o : Packed) (x : fs ≡ rest ++ f ∷ []) (y : f ≡ Bag boxed) where
+  top : (s : State) → Holds (reverse fs) o s → Holds (Bag boxed ∷ reverse rest) o s
+  top s h = on_top fs rest f (Bag boxed) o s x y h
 
-  does_further_bag : (gs : List Frame) (p : Packed) (next : BagFrame) (more : Bool) → GoesOnInBag more b o next p → gs ≡ rest ++ Bag next ∷ [] → Does al (further more) fs o gs p
+  does_further_bag : (gs : List Frame) (p : Packed) (next : Box BagFrame Global) (more : Bool) → GoesOnInBag more boxed.value o next.value p → gs ≡ rest ++ Bag next ∷ [] → Does al (further more) fs o gs p
   does_further_bag gs p next more g c = record { after = λ s h. go s (top s h) }
     where
-      go : (s : State) → Holds (Bag b ∷ reverse rest) o s → (t : State) × (run al (further more) s ≡ Some t) × Holds (reverse gs) p t
+      go : (s : State) → Holds (Bag boxed ∷ reverse rest) o s → (t : State) × (run al (further more) s ≡ Some t) × Holds (reverse gs) p t
       go s h =
-          let t : State = (p.text, bag_of next h.0.0 ∷ h.0.1) in
+          let t : State = (p.text, bag_of next.value h.0.0 ∷ h.0.1) in
           (t, ap (run al (further more)) h.1 ∙ g.goes h.0.0 h.0.1, put_back rest gs (Bag next) p t c (h.0, refl, g.unplaced h.2, subst (λ l. Holds (reverse rest) l h.0) (sym g.outer) h.3))
 
-  cannot_further_bag : (e : EncodeError) (more : Bool) → NoFurther more b o e → Cannot al (further more) fs o e
+  cannot_further_bag : (e : EncodeError) (more : Bool) → NoFurther more boxed.value o e → Cannot al (further more) fs o e
   cannot_further_bag e more x = go e x
     where
-      none : ((front : Text) (k : List Scope) → further_in more b o.text front k ≡ None) → (s : State) → Holds (reverse fs) o s → run al (further more) s ≡ None
+      none : ((front : Text) (k : List Scope) → further_in more boxed.value o.text front k ≡ None) → (s : State) → Holds (reverse fs) o s → run al (further more) s ≡ None
       none x s k = let h = top s k in ap (run al (further more)) h.1 ∙ x h.0.0 h.0.1
 
-      go : (e : EncodeError) → NoFurther more b o e → Cannot al (further more) fs o e
+      go : (e : EncodeError) → NoFurther more boxed.value o e → Cannot al (further more) fs o e
       go OutOfMemory x = tt
       go ValueConstraintNotSatisfied x = none x
       go SizeConstraintNotSatisfied x = none x
@@ -139,29 +143,29 @@ module _ (al : Bool) (fs rest : List Frame) (f : Frame) (b : BagFrame) (o : Pack
   -- ---- a bag ends
 
   abbrev all_texts : List Text
-  all_texts = with_open (texts_before b.members) o.text
+  all_texts = with_open (texts_before boxed.value.members) o.text
 
-  ended_as : (s : State) (h : Holds (Bag b ∷ reverse rest) o s) → b.due ≡ 0 → run al ends s ≡ adds_text (text_at (form_of al b all_texts) (place b.outer)) h.0
+  ended_as : (s : State) (h : Holds (Bag boxed ∷ reverse rest) o s) → boxed.value.due ≡ 0 → run al ends s ≡ adds_text (text_at (form_of al boxed.value all_texts) (place boxed.value.outer)) h.0
   ended_as s h n =
       ap (run al ends) h.1
-      ∙ ap (λ j. closed_bag al (size_of b.range b.extensible) (members_of b.held) j all_texts h.0.0 h.0.1) n
-      ∙ ap (λ q. adds_text (text_at (form_of al b all_texts) q) h.0) (at_end (reverse rest) b.outer h.0 h.3)
+      ∙ ap (λ j. closed_bag al (size_of boxed.value.range boxed.value.extensible) (members_of boxed.value.held) j all_texts h.0.0 h.0.1) n
+      ∙ ap (λ q. adds_text (text_at (form_of al boxed.value all_texts) q) h.0) (at_end (reverse rest) boxed.value.outer h.0 h.3)
 
-  pub does_end_bag : (p : Packed) → b.due ≡ 0 → Adds (text_at (form_of al b all_texts) (place b.outer)) b.outer p → Does al ends fs o rest p
-  does_end_bag p n a = record { after = λ s h. go s (top s h) (added (text_at (form_of al b all_texts) (place b.outer)) b.outer p a) }
+  does_end : (p : Packed) → boxed.value.due ≡ 0 → Adds (text_at (form_of al boxed.value all_texts) (place boxed.value.outer)) boxed.value.outer p → Does al ends fs o rest p
+  does_end p n a = record { after = λ s h. go s (top s h) (added (text_at (form_of al boxed.value all_texts) (place boxed.value.outer)) boxed.value.outer p a) }
     where
-      go : (s : State) → Holds (Bag b ∷ reverse rest) o s → (w : Text) × (text_at (form_of al b all_texts) (place b.outer) ≡ Some w) × (plus b.outer w ≡ p) → (t : State) × (run al ends s ≡ Some t) × Holds (reverse rest) p t
+      go : (s : State) → Holds (Bag boxed ∷ reverse rest) o s → (w : Text) × (text_at (form_of al boxed.value all_texts) (place boxed.value.outer) ≡ Some w) × (plus boxed.value.outer w ≡ p) → (t : State) × (run al ends s ≡ Some t) × Holds (reverse rest) p t
       go s h t =
           let z : State = (h.0.0 ++ t.0, h.0.1) in
-          (z, ended_as s h n ∙ ap (λ w. adds_text w h.0) t.1, subst (λ l. Holds (reverse rest) l z) t.2 (appended (reverse rest) b.outer h.0 t.0 h.3))
+          (z, ended_as s h n ∙ ap (λ w. adds_text w h.0) t.1, subst (λ l. Holds (reverse rest) l z) t.2 (appended (reverse rest) boxed.value.outer h.0 t.0 h.3))
 
-  pub cannot_end_bag : (e : EncodeError) → b.due ≡ 0 → Refuses (text_at (form_of al b all_texts) (place b.outer)) e → Cannot al ends fs o e
-  cannot_end_bag e n r = go e r
+  cannot_end : (e : EncodeError) → boxed.value.due ≡ 0 → Refuses (text_at (form_of al boxed.value all_texts) (place boxed.value.outer)) e → Cannot al ends fs o e
+  cannot_end e n r = go e r
     where
-      none : text_at (form_of al b all_texts) (place b.outer) ≡ None → (s : State) → Holds (reverse fs) o s → run al ends s ≡ None
+      none : text_at (form_of al boxed.value all_texts) (place boxed.value.outer) ≡ None → (s : State) → Holds (reverse fs) o s → run al ends s ≡ None
       none r s k = let h = top s k in ended_as s h n ∙ ap (λ w. adds_text w h.0) r
 
-      go : (e : EncodeError) → Refuses (text_at (form_of al b all_texts) (place b.outer)) e → Cannot al ends fs o e
+      go : (e : EncodeError) → Refuses (text_at (form_of al boxed.value all_texts) (place boxed.value.outer)) e → Cannot al ends fs o e
       go OutOfMemory r = tt
       go ValueConstraintNotSatisfied r = none r
       go SizeConstraintNotSatisfied r = none r
@@ -170,11 +174,25 @@ module _ (al : Bool) (fs rest : List Frame) (f : Frame) (b : BagFrame) (o : Pack
       go LengthExceedsPlatformSize r = none r
       go AlreadyFailed r = none r
 
+  -- the same by the bag that was in the box
+  module _ (bag : BagFrame) (v : bag ≡ boxed.value) (n : bag.due ≡ 0) where
+    none_due : boxed.value.due ≡ 0
+    none_due = ap (λ (b : BagFrame). b.due) (sym v) ∙ n
+
+    abbrev form_with : BagFrame → Per.BitForm
+    form_with b = form_of al b (with_open (texts_before b.members) o.text)
+
+    pub does_end_bag : (p : Packed) → Adds (text_at (form_with bag) (place bag.outer)) bag.outer p → Does al ends fs o rest p
+    does_end_bag p a = does_end p none_due (subst (λ (b : BagFrame). Adds (text_at (form_with b) (place b.outer)) b.outer p) v a)
+
+    pub cannot_end_bag : (e : EncodeError) → Refuses (text_at (form_with bag) (place bag.outer)) e → Cannot al ends fs o e
+    cannot_end_bag e r = cannot_end e none_due (subst (λ (b : BagFrame). Refuses (text_at (form_with b) (place b.outer)) e) v r)
+
 -- ---- a further member, whatever is around the bag
 
-pub member_of_bag_asked : (al : Bool) (f : Frame) (b : BagFrame) (o : Packed) (y : f ≡ Bag b) (g : Frame) (p : Packed) (next : BagFrame) (more : Bool) (r : Result (Unit {0}) EncodeError) → g ≡ Bag next → MatchResult r (λ _. GoesOnInBag more b o next p) (λ e. NoFurther more b o e) → MatchResult r (λ _. (fs : List Frame) → Does al (further more) (fs ++ f ∷ []) o (fs ++ g ∷ []) p) (λ e. (fs : List Frame) → Cannot al (further more) (fs ++ f ∷ []) o e)
-member_of_bag_asked al f b o y g p next more (Ok x) c m = λ fs. does_further_bag al (fs ++ f ∷ []) fs f b o refl y (fs ++ g ∷ []) p next more m (ap (λ k. fs ++ k ∷ []) c)
-member_of_bag_asked al f b o y g p next more (Err e) c m = λ fs. cannot_further_bag al (fs ++ f ∷ []) fs f b o refl y e more m
+pub member_of_bag_asked : (al : Bool) (f : Frame) (boxed : Box BagFrame Global) (o : Packed) (y : f ≡ Bag boxed) (g : Frame) (p : Packed) (next : Box BagFrame Global) (more : Bool) (r : Result (Unit {0}) EncodeError) → g ≡ Bag next → MatchResult r (λ _. GoesOnInBag more boxed.value o next.value p) (λ e. NoFurther more boxed.value o e) → MatchResult r (λ _. (fs : List Frame) → Does al (further more) (fs ++ f ∷ []) o (fs ++ g ∷ []) p) (λ e. (fs : List Frame) → Cannot al (further more) (fs ++ f ∷ []) o e)
+member_of_bag_asked al f boxed o y g p next more (Ok x) c m = λ fs. does_further_bag al (fs ++ f ∷ []) fs f boxed o refl y (fs ++ g ∷ []) p next more m (ap (λ k. fs ++ k ∷ []) c)
+member_of_bag_asked al f boxed o y g p next more (Err e) c m = λ fs. cannot_further_bag al (fs ++ f ∷ []) fs f boxed o refl y e more m
 
 -- ---- the form of a bag, by its members
 

@@ -1,7 +1,9 @@
 -- The innermost frame, changed in its place.
-use Rattle.std.proofs.Common.{◌≡◌, Bool, List, [], ◌∷◌, ◌++◌, reverse, Option, Some, None, option_to_list, Result, Ok, Err, MatchResult, ap, subst, sym, ◌∙◌}
+use Rattle.std.proofs.Common.{◌≡◌, Bool, List, [], ◌∷◌, ◌++◌, reverse, Option, Some, None, option_copied, option_to_list, MatchOption, Bor, Result, Ok, Err, MatchResult, refl, ap, subst, sym, ◌∙◌}
+use Rattle.std.proofs.lemmas.List.{same_from_push}
 use Rattle.asn1_schema_faults.specs.declared.EncodeError.{EncodeError}
-use Rattle.asn1_schema_presented.specs.Records.{Record, further}
+use Rattle.asn1_schema_faults.specs.declared.EncodeError.TheVariants.{OutOfMemory}
+use Rattle.asn1_schema_presented.specs.Records.{Record, further, ends}
 use Rattle.per_codec_packing.specs.Packed.{Packed}
 use Rattle.per_codec_steps.specs.Steps.{State, run}
 use Rattle.per_codec_encoder.specs.declared.frame.Frame.{Frame}
@@ -23,6 +25,42 @@ module _ (al : Bool) (x : Record) (outer : List Frame) (f g : Frame) (o p : Pack
       let m = subst (λ k. MatchResult r (λ _. Does al x (outer ++ f ∷ []) o k l) (Cannot al x (outer ++ f ∷ []) o)) (sym c) m in
       let m = subst (λ k. MatchResult r (λ _. Does al x k o gs l) (Cannot al x k o)) (sym b) m in
       subst (λ k. MatchResult k (λ _. Does al x fs o gs l) (Cannot al x fs o)) (sym a) m
+
+pub around_is : (fs rest : List Frame) (f g : Frame) → fs ≡ rest ++ f ∷ [] → f ≡ g → fs ≡ rest ++ g ∷ []
+around_is fs rest f g a b = a ∙ ap (λ x. rest ++ x ∷ []) b
+
+-- what ends the innermost, whatever is around it, leaves what is around it
+module _ (al : Bool) (fs rest : List Frame) (f g : Frame) (o p : Packed) (a : fs ≡ rest ++ f ∷ []) (b : f ≡ g) where
+  pub ended_within : (r : Result (Unit {0}) EncodeError) → MatchResult r (λ _. (ks : List Frame) → Does al ends (ks ++ g ∷ []) o ks p) (λ e. (ks : List Frame) → Cannot al ends (ks ++ g ∷ []) o e) → MatchResult r (λ _. Does al ends fs o rest p) (Cannot al ends fs o)
+  ended_within (Ok u) m = subst (λ k. Does al ends k o rest p) (sym (around_is fs rest f g a b)) (m rest)
+  ended_within (Err e) m = subst (λ k. Cannot al ends k o e) (sym (around_is fs rest f g a b)) (m rest)
+
+  pub ended_unless_full : (r : Result (Unit {0}) EncodeError) → MatchResult r (λ _. (ks : List Frame) → Does al ends (ks ++ g ∷ []) o ks p) (λ e. e ≡ OutOfMemory) → MatchResult r (λ _. Does al ends fs o rest p) (Cannot al ends fs o)
+  ended_unless_full (Ok u) m = subst (λ k. Does al ends k o rest p) (sym (around_is fs rest f g a b)) (m rest)
+  ended_unless_full (Err e) m = subst (Cannot al ends fs o) (sym m) tt
+
+-- ---- what is innermost
+
+pub innermost_shown : (fs outer : List Frame) (t : Option Frame) (r : Option (Bor Frame)) → (t ≡ None → outer ≡ []) → outer ++ option_to_list t ≡ fs → option_copied r ≡ t → MatchOption r (fs ≡ []) (λ x. (around : List Frame) × (fs ≡ around ++ x.now ∷ []))
+innermost_shown fs outer t None n a e = sym a ∙ ap (λ (u : Option Frame). outer ++ option_to_list u) (sym e) ∙ ap (λ l. l ++ []) (n (sym e))
+innermost_shown fs outer t (Some x) n a e = (outer, sym a ∙ ap (λ (u : Option Frame). outer ++ option_to_list u) (sym e))
+
+-- ---- another in the place of the innermost
+
+nothing_in_front : (xs ys : List Frame) → xs ++ ys ≡ [] → xs ≡ []
+nothing_in_front [] ys e = refl
+nothing_in_front (x ∷ xs) ys e = cc
+
+one_there : (xs : List Frame) (x : Frame) → xs ++ x ∷ [] ≡ [] → ⊥
+one_there [] x e = cc
+one_there (y ∷ xs) x e = cc
+
+pub replaced_alone : (outer : List Frame) (t : Option Frame) (new : Frame) → outer ++ option_to_list t ≡ [] → outer ++ new ∷ [] ≡ new ∷ []
+replaced_alone outer t new e = ap (λ l. l ++ new ∷ []) (nothing_in_front outer (option_to_list t) e)
+
+pub replaced_within : (outer around : List Frame) (t : Option Frame) (old new : Frame) → (t ≡ None → outer ≡ []) → outer ++ option_to_list t ≡ around ++ old ∷ [] → outer ++ new ∷ [] ≡ around ++ new ∷ []
+replaced_within outer around None old new n e = absurd (one_there around old (sym e ∙ ap (λ l. l ++ []) (n refl)))
+replaced_within outer around (Some f) old new n e = ap (λ l. l ++ new ∷ []) (same_from_push outer around f old e).0
 
 -- where nothing is open, no member comes
 pub no_member : (al : Bool) (fs outer : List Frame) (t : Option Frame) (o : Packed) (more : Bool) → outer ++ option_to_list t ≡ fs → t ≡ None → outer ≡ [] → (s : State) → Holds (reverse fs) o s → run al (further more) s ≡ None

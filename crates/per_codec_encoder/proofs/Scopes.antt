@@ -118,7 +118,7 @@ shown_is (Added a ∷ fs) o s h =
     (ap (λ t. shown fs (instead t o)) (before_shown _ a.due a.given a.start a.end a.slots.items o s h) ∙ shown_is fs (instead h.front o) h.outer h.under)
     ∙ sym h.is
 shown_is (OpenType front ∷ fs) o s h = ap (λ (t : State). let l : State = (o.text, open_type t.0 ∷ t.1) in l) (shown_is fs front h.0 h.3) ∙ sym h.1
-shown_is (Bag b ∷ fs) o s h = ap (λ (t : State). let l : State = (o.text, bag_of b t.0 ∷ t.1) in l) (shown_is fs b.outer h.0 h.3) ∙ sym h.1
+shown_is (Bag b ∷ fs) o s h = ap (λ (t : State). let l : State = (o.text, bag_of b.value t.0 ∷ t.1) in l) (shown_is fs b.value.outer h.0 h.3) ∙ sym h.1
 shown_is (Alternative ∷ fs) o s h = ap (λ (t : State). let l : State = (t.0, alternative ∷ t.1) in l) (shown_is fs o h.0 h.2) ∙ sym h.1
 shown_is (Members d ∷ fs) o s h = ap (λ (t : State). let l : State = (t.0, members d.members (headers_of d.behind) ∷ t.1) in l) (shown_is fs o h.0 h.2) ∙ sym h.1
 

@@ -42,8 +42,8 @@ shown (Members d ∷ fs) o =
     let below = shown fs o in
     (below.0, members d.members (headers_of d.behind) ∷ below.1)
 shown (Bag b ∷ fs) o =
-    let below = shown fs b.outer in
-    (o.text, bag_of b below.0 ∷ below.1)
+    let below = shown fs b.value.outer in
+    (o.text, bag_of b.value below.0 ∷ below.1)
 shown (Alternative ∷ fs) o =
     let below = shown fs o in
     (below.0, alternative ∷ below.1)
@@ -85,7 +85,7 @@ Holds (Components e due given start ∷ fs) o s = IsOpen (λ p t. Holds fs p t) 
 Holds (Added a ∷ fs) o s = IsAdded (λ p t. Holds fs p t) a.due a.given a.start a.end a.slots.items o s
 Holds (OpenType front ∷ fs) o s = (outer : State) × (s ≡ (o.text, open_type outer.0 ∷ outer.1)) × (o.placed ≡ true) × Holds fs front outer
 Holds (Members d ∷ fs) o s = (outer : State) × (s ≡ (outer.0, members d.members (headers_of d.behind) ∷ outer.1)) × Holds fs o outer
-Holds (Bag b ∷ fs) o s = (outer : State) × (s ≡ (o.text, bag_of b outer.0 ∷ outer.1)) × (o.placed ≡ false) × Holds fs b.outer outer
+Holds (Bag b ∷ fs) o s = (outer : State) × (s ≡ (o.text, bag_of b.value outer.0 ∷ outer.1)) × (o.placed ≡ false) × Holds fs b.value.outer outer
 Holds (Alternative ∷ fs) o s = (outer : State) × (s ≡ (outer.0, alternative ∷ outer.1)) × Holds fs o outer
 
 -- The text and the frames, of which the innermost is the last, stand for some state.

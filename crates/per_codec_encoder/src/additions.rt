@@ -16,7 +16,7 @@ use std::mem;
 /// # Errors
 ///
 /// `OutOfMemory`; any other only where nothing that is open takes this call.
-pub fn begin_additions(
+pub(crate) fn begin_additions(
     output: &Packing,
     frames: &mut Frames,
     alloc: Global,
@@ -24,30 +24,30 @@ pub fn begin_additions(
 ) -> Result<(), EncodeError>
     ensures { MatchResult result (λ _. (al : Bool) → Does al (additions_begin count) frames.old output.now frames.new output.now) (λ e. (al : Bool) → Cannot al (additions_begin count) frames.old output.now e) }
 {
-    match frames.pop() {
-        Some(
-            Frame::Components {
-                extensible,
-                due,
-                given,
-                start,
-            },
-        ) => {
-            if !extensible || due > 0 {
-                return Err(EncodeError::SizeConstraintNotSatisfied);
-            }
-            let slots = Vec::with_capacity(alloc, count)?;
-            frames.push(Frame::Added(Additions {
-                due: count,
-                given,
-                start,
-                end: Place::end_of(output),
-                slots,
-            }))?;
-            Ok(())
-        }
-        _ => Err(EncodeError::SizeConstraintNotSatisfied),
+    let Some(
+        Frame::Components {
+            extensible,
+            due,
+            given,
+            start,
+        },
+    ) = frames.innermost()
+    else {
+        return Err(EncodeError::SizeConstraintNotSatisfied);
+    };
+    if !*extensible || *due > 0 {
+        return Err(EncodeError::SizeConstraintNotSatisfied);
     }
+    let (given, start) = (*given, *start);
+    let slots = Vec::with_capacity(alloc, count)?;
+    frames.replace(Frame::Added(Additions {
+        due: count,
+        given,
+        start,
+        end: Place::end_of(output),
+        slots,
+    }));
+    Ok(())
 }
 
 /// Counts the next addition, and keeps the place of one that is not there.
@@ -71,7 +71,7 @@ pub(crate) fn count_addition(additions: &mut Additions, present: bool) -> Result
 ///
 /// `OutOfMemory`; any other only where nothing that is open takes this call.
 #[inline]
-pub fn put_addition(
+pub(crate) fn put_addition(
     output: &mut Packing,
     frames: &mut Frames,
     alloc: Global,
@@ -92,20 +92,13 @@ pub fn put_addition(
 /// # Errors
 ///
 /// `OutOfMemory`; any other only where nothing that is open takes this call.
-pub fn end_addition(output: &mut Packing, frames: &mut Frames) -> Result<(), EncodeError>
+pub(crate) fn end_addition(output: &mut Packing, frames: &mut Frames) -> Result<(), EncodeError>
     ensures { MatchResult result (λ _. (al : Bool) → Does al addition_ends frames.old output.old frames.new output.new) (λ e. (al : Bool) → Cannot al addition_ends frames.old output.old e) }
 {
     let Some(Frame::OpenType { outer }) = frames.pop() else {
         return Err(EncodeError::SizeConstraintNotSatisfied);
     };
-    match frames.pop() {
-        Some(Frame::Added(before)) => {
-            let mut additions = before;
-            let contents = mem::replace(output, outer).into_bits();
-            additions.slots.push(Some(contents))?;
-            frames.push(Frame::Added(additions))?;
-            Ok(())
-        }
-        _ => Err(EncodeError::SizeConstraintNotSatisfied),
-    }
+    let contents = mem::replace(output, outer).into_bits();
+    frames.keep_addition(contents)?;
+    Ok(())
 }

@@ -19,7 +19,7 @@ use std::mem;
 /// # Errors
 ///
 /// `OutOfMemory`; any other only where nothing that is open takes this call.
-pub fn begin_alternative(
+pub(crate) fn begin_alternative(
     output: &mut Packing,
     frames: &mut Frames,
     alloc: Global,

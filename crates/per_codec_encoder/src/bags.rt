@@ -37,7 +37,7 @@ fn sizes(constraints: Constraints) -> (Bounded<usize>, bool)
 /// # Errors
 ///
 /// `OutOfMemory`; any other only where nothing that is open takes this call.
-pub fn begin_bag(
+pub(crate) fn begin_bag(
     output: &mut Packing,
     frames: &mut Frames,
     alloc: Global,
@@ -53,14 +53,16 @@ pub fn begin_bag(
     output.truncate(start.bits, start.fills);
     let (range, extensible) = sizes(constraints);
     let outer = mem::replace(output, Packing::unplaced(alloc));
-    frames.push(Frame::Bag(Bag {
+    let bag = Bag {
         outer,
         range,
         extensible,
         held,
         due: count,
         members: None,
-    }))?;
+    };
+    let boxed = Box::new(alloc, bag)?;
+    frames.push(Frame::Bag(boxed))?;
     Ok(())
 }
 

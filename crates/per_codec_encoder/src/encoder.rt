@@ -6,11 +6,13 @@ ghost use Rattle.per_codec_texts.specs.Texts.{as_text};
 ghost use Rattle.per_codec_steps.specs.Ties.{octets_of};
 ghost use Rattle.per_codec_encoder.specs.Stepping.{Puts, is_aligned};
 
+use crate::additions::{begin_additions, end_addition, put_addition};
+use crate::alternatives::begin_alternative;
+use crate::bags::begin_bag;
+use crate::ends::end_scope;
+use crate::frames::Frames;
 use crate::options::EncoderOptions;
-use crate::{
-    Frames, begin_additions, begin_alternative, begin_bag, begin_components, begin_members,
-    end_addition, end_scope, put_addition, put_further, put_mark,
-};
+use crate::sequences::{begin_components, begin_members, put_further, put_mark};
 use asn1_schema_bounds::Bounded;
 use asn1_schema_constraints::Constraints;
 use asn1_schema_faults::{CodecKind, EncodeError};

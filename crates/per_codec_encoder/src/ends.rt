@@ -1,15 +1,16 @@
 //! Ends of what is open.
-ghost use Rattle.std.specs.Prelude.{◌≡◌, ◌<◌, Bool, List, true, false, length, cond, IfOk, IfErr, MatchResult};
+ghost use Rattle.std.specs.Prelude.{◌≡◌, ◌<◌, ◌++◌, ◌∷◌, [], Bool, List, true, false, length, cond, IfOk, IfErr, MatchResult};
 ghost use Rattle.asn1_model.specs.Form.{is_any_present};
 ghost use Rattle.asn1_model.specs.Per.{additions};
 ghost use Rattle.asn1_schema_presented.specs.Records.{ends};
 ghost use Rattle.per_codec_packing.specs.Packed.{Adds, place, solid, with_bit};
 ghost use Rattle.per_codec_texts.specs.Texts.{text_at};
 ghost use Rattle.per_codec_writing.specs.Additions.{as_open_types};
+ghost use Rattle.per_codec_encoder.specs.declared.frame.Frame.{Frame};
 ghost use Rattle.per_codec_encoder.specs.Holding.{AreSound, Does, Cannot};
 
 use crate::bags::end_bag;
-use crate::frame::Frame;
+use crate::frame::{Additions, Frame};
 use crate::frames::Frames;
 use asn1_schema_faults::EncodeError;
 use asn1_values_bits::BitBuffer;
@@ -52,13 +53,45 @@ fn push_extension(
     Ok(())
 }
 
+/// Ends a sequence or set behind its root, of which no addition is due: behind its root stand its additions, if one is there, and its mark of
+/// extensibility is then set (X.691 19.1 and 19.7 to 19.9).
+#[inline(always)]
+fn end_additions(
+    output: &mut Packing,
+    additions: Additions,
+    alloc: Global,
+    aligned: bool,
+) -> Result<(), EncodeError>
+    requires { (around : List Frame) × AreSound (around ++ Frame.Added additions ∷ []) output.old }
+    ensures { MatchResult result (λ _. (around : List Frame) → Does aligned ends (around ++ Frame.Added additions ∷ []) output.old around output.new) (λ e. (around : List Frame) → Cannot aligned ends (around ++ Frame.Added additions ∷ []) output.old e) }
+{
+    if additions.due > 0 {
+        return Err(EncodeError::SizeConstraintNotSatisfied);
+    }
+    output.truncate(additions.end.bits, additions.end.fills);
+    let slots = additions.slots.as_slice();
+    push_extension(output, aligned, alloc, additions.start.bits, slots)?;
+    Ok(())
+}
+
+/// Ends an open type: its bits stand behind their number of octets, and these behind what stands in front of it (X.691 11.2). The only error is
+/// want of memory.
+#[inline(always)]
+fn end_open_type(output: &mut Packing, outer: Packing, aligned: bool) -> Result<(), EncodeError>
+    ensures { MatchResult result (λ _. (around : List Frame) → Does aligned ends (around ++ Frame.OpenType outer ∷ []) output.old around output.new) (λ e. e ≡ EncodeError.OutOfMemory) }
+{
+    let contents = mem::replace(output, outer).into_bits();
+    push_open_type(output, aligned, &contents)?;
+    Ok(())
+}
+
 /// Ends what is innermost: a sequence, set or group of which nothing is due (X.691 19), a list with all its members and headers (X.691 20),
 /// a bag (X.691 22), an open type (X.691 11.2) or an alternative (X.691 23).
 ///
 /// # Errors
 ///
 /// `OutOfMemory`; any other only where nothing that is open takes this call.
-pub fn end_scope(
+pub(crate) fn end_scope(
     output: &mut Packing,
     frames: &mut Frames,
     alloc: Global,
@@ -80,27 +113,16 @@ pub fn end_scope(
             }
             Ok(())
         }
-        Some(Frame::Added(additions)) => {
-            if additions.due > 0 {
-                return Err(EncodeError::SizeConstraintNotSatisfied);
-            }
-            output.truncate(additions.end.bits, additions.end.fills);
-            let slots = additions.slots.as_slice();
-            push_extension(output, aligned, alloc, additions.start.bits, slots)?;
-            Ok(())
-        }
-        Some(Frame::OpenType { outer }) => {
-            let contents = mem::replace(output, outer).into_bits();
-            push_open_type(output, aligned, &contents)?;
-            Ok(())
-        }
+        Some(Frame::Added(additions)) => end_additions(output, additions, alloc, aligned),
+        Some(Frame::OpenType { outer }) => end_open_type(output, outer, aligned),
         Some(Frame::Members(due)) => {
             if due.members > 0 || due.behind.is_some() {
                 return Err(EncodeError::SizeConstraintNotSatisfied);
             }
             Ok(())
         }
-        Some(Frame::Bag(bag)) => {
+        Some(Frame::Bag(boxed)) => {
+            let bag = Box::into_inner(boxed);
             if bag.due > 0 {
                 return Err(EncodeError::SizeConstraintNotSatisfied);
             }

@@ -9,7 +9,7 @@ use per_codec_packing::Packing;
 
 /// A place in a text.
 #[derive(Clone, Copy, PartialEq, Eq)]
-pub struct Place {
+pub(crate) struct Place {
     /// How many bits stand in front.
     pub bits: usize,
     /// How many fillings, which are left open, stand in front.
@@ -18,7 +18,7 @@ pub struct Place {
 
 impl Place {
     /// The place behind a text.
-    pub fn end_of(text: &Packing) -> Self
+    pub(crate) fn end_of(text: &Packing) -> Self
         ensures bits { result.bits ≡ length (solid text.now.text) }
         ensures all { result.bits + result.fills ≡ length text.now.text }
     {
@@ -31,7 +31,7 @@ impl Place {
 
 /// What is open.
 #[derive(Drop)]
-pub enum Frame {
+pub(crate) enum Frame {
     /// A sequence, a set or a group of additions.
     Components {
         /// Whether it has a mark of extensibility.
@@ -52,15 +52,15 @@ pub enum Frame {
     },
     /// A list, and what is due of its members.
     Members(Due),
-    /// A bag, whose members are kept until it ends.
-    Bag(Bag),
+    /// A bag, whose members are kept until it ends. It stands apart, as it is larger than the others.
+    Bag(Box<Bag>),
     /// An alternative of the root.
     Alternative,
 }
 
 /// The additions of a sequence or a set, which are kept until it ends.
 #[derive(Drop)]
-pub struct Additions {
+pub(crate) struct Additions {
     /// How many are due.
     pub due: usize,
     /// How many presence bits the preamble has.
@@ -75,7 +75,7 @@ pub struct Additions {
 
 /// A bag. Each of its members stands alone until the bag ends, which puts them in their order (X.691 22).
 #[derive(Drop)]
-pub struct Bag {
+pub(crate) struct Bag {
     /// What stands in front of it.
     pub outer: Packing,
     /// How many members the root of its size constraint admits.

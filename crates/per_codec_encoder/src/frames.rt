@@ -1,13 +1,15 @@
 //! What is open, from the outermost on.
-ghost use Rattle.std.specs.Prelude.{◌≡◌, ◌++◌, ◌∷◌, [], Bool, OnOk, IfErr, IsSome, option_to_list};
-ghost use Rattle.asn1_schema_presented.specs.Records.{addition};
+ghost use Rattle.std.specs.Prelude.{◌≡◌, ◌++◌, ◌∷◌, [], Bool, List, MatchOption, OnOk, IfErr, IsSome, option_to_list};
+ghost use Rattle.asn1_schema_presented.specs.Records.{addition, addition_ends};
 ghost use Rattle.per_codec_packing.specs.Packed.{Packed};
-ghost use Rattle.per_codec_encoder.specs.Frames.{CountsAddition};
+ghost use Rattle.per_codec_encoder.specs.declared.frame.Frame.{Frame};
+ghost use Rattle.per_codec_encoder.specs.Frames.{CountsAddition, KeepsAddition};
 ghost use Rattle.per_codec_encoder.specs.Holding.{Cannot};
 
 use crate::additions::count_addition;
 use crate::frame::Frame;
 use asn1_schema_faults::EncodeError;
+use asn1_values_bits::BitBuffer;
 use std::alloc::{AllocError, Global};
 use std::marker::Model;
 use std::mem;
@@ -15,7 +17,7 @@ use std::mem;
 /// What is open, from the outermost on. The innermost stands apart from those around it, so that no memory is taken before one is opened within
 /// another.
 #[derive(Drop)]
-pub struct Frames {
+pub(crate) struct Frames {
     pub(crate) innermost: Option<Frame>,
     outer: Vec<Frame>,
 }
@@ -33,7 +35,7 @@ impl Model for Frames {
 
 impl Frames {
     /// Nothing is open. It takes no memory before something is opened within another.
-    pub fn new(alloc: Global) -> Self
+    pub(crate) fn new(alloc: Global) -> Self
         ensures { result ≡ [] }
     {
         Frames {
@@ -44,7 +46,7 @@ impl Frames {
 
     /// Leaves nothing open.
     #[inline(always)]
-    pub fn clear(&mut self)
+    pub(crate) fn clear(&mut self)
         ensures { self.new ≡ [] }
     {
         self.innermost = None;
@@ -76,6 +78,36 @@ impl Frames {
             return self.innermost.take();
         }
         mem::replace(&mut self.innermost, self.outer.pop())
+    }
+
+    /// What is innermost, if something is open.
+    #[inline(always)]
+    pub(crate) fn innermost(&self) -> Option<&Frame>
+        ensures { MatchOption result (self.now ≡ []) (λ frame. (around : List Frame) × (self.now ≡ around ++ frame.now ∷ [])) }
+    {
+        self.innermost.as_ref()
+    }
+
+    /// Puts another in the place of what is innermost.
+    #[inline(always)]
+    pub(crate) fn replace(&mut self, frame: Frame)
+        ensures within { (around : List Frame) (replaced : Frame) → self.old ≡ around ++ replaced ∷ [] → self.new ≡ around ++ frame ∷ [] }
+        ensures alone { self.old ≡ [] → self.new ≡ frame ∷ [] }
+    {
+        self.innermost = Some(frame);
+    }
+
+    /// Keeps the bits of an addition of the innermost sequence or set.
+    #[inline(always)]
+    pub(crate) fn keep_addition(&mut self, contents: BitBuffer) -> Result<(), EncodeError>
+        ensures ok { OnOk result (KeepsAddition contents self.old self.new) }
+        ensures only { IfErr result (λ e. (al : Bool) (outer o : Packed) → Cannot al addition_ends (self.old ++ Frame.OpenType outer ∷ []) o e) }
+    {
+        match &mut self.innermost {
+            Some(Frame::Added(additions)) => additions.slots.push(Some(contents))?,
+            _ => return Err(EncodeError::SizeConstraintNotSatisfied),
+        }
+        Ok(())
     }
 
     /// Counts the next addition of the innermost sequence or set.

@@ -19,7 +19,7 @@ const FRAGMENT: usize = 16384;
 
 /// The members of a list that are still to come.
 #[derive(Clone, Copy)]
-pub struct Due {
+pub(crate) struct Due {
     /// How many come before the next header or the end.
     pub members: usize,
     /// How many stand behind the next header, if one comes.
@@ -54,7 +54,11 @@ fn push_header(output: &mut Packing, aligned: bool, count: usize) -> Result<Due,
 ///
 /// `OutOfMemory`, and no other.
 #[inline]
-pub fn push_next_header(output: &mut Packing, aligned: bool, due: Due) -> Result<Due, EncodeError>
+pub(crate) fn push_next_header(
+    output: &mut Packing,
+    aligned: bool,
+    due: Due,
+) -> Result<Due, EncodeError>
     ensures { MatchResult result (λ next. GoesOn aligned due output.old next output.new) (λ e. e ≡ EncodeError.OutOfMemory) }
 {
     match due.behind {
@@ -123,7 +127,7 @@ fn push_marked_count(
 /// # Errors
 ///
 /// `OutOfMemory`; any other only where such a list has no heading.
-pub fn push_heading(
+pub(crate) fn push_heading(
     output: &mut Packing,
     aligned: bool,
     constraints: Constraints,

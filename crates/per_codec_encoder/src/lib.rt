@@ -13,13 +13,5 @@ mod headings;
 mod options;
 mod sequences;
 
-pub use additions::{begin_additions, end_addition, put_addition};
-pub use alternatives::begin_alternative;
-pub use bags::begin_bag;
 pub use encoder::Encoder;
-pub use ends::end_scope;
-pub use frame::{Additions, Bag, Frame};
-pub use frames::Frames;
-pub use headings::{Due, push_heading, push_next_header};
 pub use options::EncoderOptions;
-pub use sequences::{begin_components, begin_members, put_further, put_mark};

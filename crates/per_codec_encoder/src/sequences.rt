@@ -32,7 +32,7 @@ fn preamble_end(start: usize, extensible: bool, optional: usize) -> Option<usize
 ///
 /// `OutOfMemory`, and no other.
 #[inline]
-pub fn begin_components(
+pub(crate) fn begin_components(
     output: &mut Packing,
     frames: &mut Frames,
     extensible: bool,
@@ -60,7 +60,11 @@ pub fn begin_components(
 ///
 /// `OutOfMemory`; any other only where nothing that is open takes this call.
 #[inline(always)]
-pub fn put_mark(output: &mut Packing, frames: &mut Frames, present: bool) -> Result<(), EncodeError>
+pub(crate) fn put_mark(
+    output: &mut Packing,
+    frames: &mut Frames,
+    present: bool,
+) -> Result<(), EncodeError>
     requires { AreSound frames.old output.old }
     ensures { MatchResult result (λ _. (al : Bool) → Does al (mark present) frames.old output.old frames.new output.new) (λ e. (al : Bool) → Cannot al (mark present) frames.old output.old e) }
 {
@@ -90,7 +94,7 @@ pub fn put_mark(output: &mut Packing, frames: &mut Frames, present: bool) -> Res
 /// # Errors
 ///
 /// `OutOfMemory`; any other only where nothing that is open takes this call.
-pub fn begin_members(
+pub(crate) fn begin_members(
     output: &mut Packing,
     frames: &mut Frames,
     aligned: bool,
@@ -148,7 +152,7 @@ fn next_of_frame(
 ///
 /// `OutOfMemory`; any other only where nothing that is open takes this call.
 #[inline(always)]
-pub fn put_further(
+pub(crate) fn put_further(
     output: &mut Packing,
     frames: &mut Frames,
     alloc: Global,

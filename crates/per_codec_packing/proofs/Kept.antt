@@ -1,11 +1,15 @@
 -- What is kept shows the text.
 use Rattle.std.proofs.Common.{◌≡◌, ℕ, ◌+◌, ◌-◌, ◌≤◌, Bool, true, false, cond, List, [], ◌∷◌, ◌++◌, length, take, replicate, set, Some, None, refl, ap, sym, subst, ◌∙◌, length-append, length-set, arith}
-use Rattle.asn1_model.specs.Numbers.{missing}
+use Rattle.asn1_model.specs.Numbers.{binary, missing}
 use Rattle.per_codec_texts.specs.Texts.{Text, fill, as_text, plain}
 use Rattle.per_codec_texts.proofs.Texts.{plain_text, length-text}
 use Rattle.per_codec_packing.specs.Packed.{Packed, place, plus, filling_at, solid, with_bit}
 use Rattle.per_codec_packing.specs.Spread.{spread, shown, Ascend, AreFills}
 use Rattle.per_codec_packing.proofs.Spread.{up_to, one_place, all_taken, spread-bits, spread-fill, spread-set, solid-spread}
+
+-- bits behind others are all added as one number that has as many digits
+pub as_number : (bits w new : List Bool) (count n : ℕ) → length w ≤ count → binary count n ≡ take count w → new ≡ bits ++ binary count n → new ≡ bits ++ w
+as_number bits w new count n h e f = f ∙ ap (λ l. bits ++ l) (e ∙ all_taken count w h)
 
 module _ (bits : List Bool) (fills : List ℕ) (placed : Bool) (h : AreFills bits fills placed) where
   in_order : Ascend 0 fills (0 + length bits)

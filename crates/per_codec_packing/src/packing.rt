@@ -11,6 +11,12 @@ use asn1_values_bits::{BitBuffer, BitStr};
 use std::alloc::{AllocError, Global};
 use std::marker::Model;
 
+// How many bits are at most added as one number.
+const NUMBER_BITS: usize = 128;
+
+// How many octets are at most added as one number.
+const NUMBER_OCTETS: usize = 16;
+
 /// A text that grows at its end. Where its place is known, it begins with its message or open type and is bits alone. Where it is not, as that
 /// of a member of a bag, filling up to octets (X.691 11.1) is left open until the text is added to another.
 #[derive(Drop)]
@@ -143,7 +149,21 @@ impl Packing {
         ensures ok { OnOk result (self.new ≡ plus self.old (as_text (octet_bits bytes.now))) }
         ensures err { OnErr result (self.new ≡ self.old) }
     {
+        if bytes.len() <= NUMBER_OCTETS && self.bits.len() % 8 > 0 {
+            return self.push_short(BitStr::front_of(bytes, bytes.len() * 8));
+        }
         self.bits.extend_from_bytes(bytes)?;
+        Ok(())
+    }
+
+    // Adds the bits of a view as one number. The only error is want of memory; nothing is changed then.
+    fn push_short(&mut self, bits: BitStr<'_>) -> Result<(), AllocError>
+        requires { length (bits_of bits) ≤ 128 }
+        ensures ok { OnOk result (self.new ≡ plus self.old (as_text (bits_of bits.entry))) }
+        ensures err { OnErr result (self.new ≡ self.old) }
+    {
+        let width = bits.len() as u32;
+        self.bits.push_bits(bits.first_number(width), width)?;
         Ok(())
     }
 
@@ -156,6 +176,9 @@ impl Packing {
         ensures ok { OnOk result (self.new ≡ plus self.old (as_text (bits_of bits.entry))) }
         ensures err { OnErr result (self.new ≡ self.old) }
     {
+        if bits.len() <= NUMBER_BITS {
+            return self.push_short(bits);
+        }
         self.bits.extend_from_bitslice(bits)?;
         Ok(())
     }

@@ -1,5 +1,5 @@
 -- The texts of open types.
-use Rattle.std.proofs.Common.{◌≡◌, ℕ, ◌+◌, ◌-◌, ◌*◌, ◌/◌, ◌%◌, ◌==◌, Bool, true, false, List, [], ◌∷◌, ◌++◌, length, replicate, Option, Some, None, option_map, option_and_then, refl, ap, subst, sym, ◌∙◌, arith, length-append}
+use Rattle.std.proofs.Common.{◌≡◌, ℕ, ◌+◌, ◌*◌, ◌/◌, ◌==◌, Bool, true, false, List, [], ◌∷◌, ◌++◌, length, replicate, Option, Some, option_map, option_and_then, refl, ap, sym, ◌∙◌, arith, length-append}
 use Rattle.std.proofs.lemmas.Bool.{eq-eqb}
 use Rattle.std.proofs.lemmas.List.{append-nil, length-replicate}
 use Rattle.asn1_model.specs.Form.{exactly, only_if, written}
@@ -8,8 +8,8 @@ use Rattle.asn1_model.specs.Per
 use Rattle.asn1_model.specs.Strings.{each_is, is_octet}
 use Rattle.asn1_laws.proofs.Octets.{eights_units, packed_octets}
 use Rattle.asn1_values_bits.specs.Octets.{filled_up}
-use Rattle.per_codec_texts.specs.Texts.{Text, as_text, text_at}
-use Rattle.per_codec_writing.specs.Writing.{Packed, Adds, place, plus}
+use Rattle.per_codec_texts.specs.Texts.{text_at}
+use Rattle.per_codec_writing.specs.Writing.{Packed, Adds, place}
 use Rattle.per_codec_writing.proofs.FillingTexts.{adds_same, if_true}
 
 open_text : (al : Bool) (w z : List Bool) (k : ℕ) (p : Option ℕ) → written (Per.filled_up w) 0 ≡ Some z → length z ≡ 8 * k → text_at (Per.open_type al (exactly w)) p ≡ text_at (Per.counted_octets al (packed z)) p

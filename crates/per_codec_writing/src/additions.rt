@@ -49,6 +49,29 @@ fn presence(alloc: Global, slots: &[Option<BitBuffer>]) -> Result<BitBuffer, Enc
     Ok(bitmap)
 }
 
+/// Adds for each addition a bit that tells whether it is there, behind their normally small number (X.691 19.7 and 19.8). Up to 64 such bits take
+/// no memory of their own. The only error is want of memory.
+fn push_presence(
+    output: &mut Packing,
+    aligned: bool,
+    alloc: Global,
+    slots: &[Option<BitBuffer>],
+) -> Result<(), EncodeError>
+    ensures { MatchResult result (λ _. Adds (text_at (normally_few aligned (bit_units (map is_present slots.now))) (place output.old)) output.old output.new) (λ e. e ≡ EncodeError.OutOfMemory) }
+{
+    let count = slots.len();
+    if 1 <= count && count <= 64 {
+        output.push_bits(count as u128 - 1, 7)?;
+        for slot in slots {
+            output.push(slot.is_some())?;
+        }
+        return Ok(());
+    }
+    let bitmap = presence(alloc, slots)?;
+    push_bitmap(output, aligned, &bitmap)?;
+    Ok(())
+}
+
 /// Adds each addition that is there as an open type (X.691 19.9). The only error is want of memory.
 fn push_present(
     output: &mut Packing,
@@ -79,8 +102,7 @@ pub fn push_additions(
 ) -> Result<(), EncodeError>
     ensures { MatchResult result (λ _. Adds (text_at (additions aligned (as_open_types aligned slots.now)) (place output.old)) output.old output.new) (λ e. e ≡ EncodeError.OutOfMemory) }
 {
-    let bitmap = presence(alloc, slots)?;
-    push_bitmap(output, aligned, &bitmap)?;
+    push_presence(output, aligned, alloc, slots)?;
     push_present(output, aligned, slots)?;
     Ok(())
 }

@@ -1,12 +1,23 @@
-use Rattle.std.proofs.Common.{◌≡◌, true, Some, subst}
+use Rattle.std.proofs.Common.{◌≡◌, Bool, true, Some, subst, sym}
+use Rattle.asn1_schema_presented.specs.Records.{addition_ends}
 use Rattle.per_codec_texts.specs.Texts.{plain}
 use Rattle.per_codec_packing.specs.Packed.{Packed}
-use Rattle.per_codec_encoder.proofs.Added.{does_end_addition}
+use Rattle.per_codec_encoder.specs.declared.frame.Frame.TheVariants.{OpenType}
+use Rattle.per_codec_encoder.specs.Holding.{Cannot}
+use Rattle.per_codec_encoder.proofs.Added.{does_keep_addition}
+use Rattle.per_codec_encoder.proofs.HeadingTexts.{raised_on}
+use Rattle.per_codec_encoder.proofs.Innermost.{around_is}
 use Rattle.per_codec_encoder.proofs.additions.end_addition.Goals as goal
 
-pub returns-in_ok-push-in-Some-Added-2 : goal.returns-in_ok-push-in-Some-Added-2
-returns-in_ok-push-in-Some-Added-2 c =
+pub returns : goal.returns
+returns c =
     let f = c.in-Some-OpenType in
-    let g = c.in-Some-Added in
     let contents = c.into_bits-contents.result in
-    does_end_addition c.args.frames.now c.pop.new.self c.pop-2.new.self f.field-0 g.field-0 g.before f.outer c.args.output.now f.ensures.items f.field-0-is c.push-in-Some-Added.new.self c.push.new.self c.replace.new.dest contents g.ensures.items g.field-0-is c.replace.ensures.after (subst (λ (q : Packed). q.placed ≡ true → plain q.text ≡ Some contents) c.replace.ensures.value c.into_bits-contents.ensures.placed) c.in_ok-push-in-Some-Added.ensures.items c.in_ok-push-in-Some-Added-2.ensures.items
+    does_keep_addition c.args.frames.now c.pop.new.self c.keep_addition.new.self f.field-0 f.outer c.args.output.now c.replace.new.dest contents f.ensures.items f.field-0-is c.in_ok-keep_addition.ensures.ok c.replace.ensures.after (subst (λ (q : Packed). q.placed ≡ true → plain q.text ≡ Some contents) c.replace.ensures.value c.into_bits-contents.ensures.placed)
+
+pub returns-in_err-keep_addition : goal.returns-in_err-keep_addition
+returns-in_err-keep_addition c =
+    let f = c.in-Some-OpenType in
+    let o = c.args.output.now in
+    let e = c.in_err-keep_addition.field-0.0 in
+    raised_on _ (λ e. (al : Bool) → Cannot al addition_ends c.args.frames.now o e) e c.from_residual.result c.from_residual.ensures.0 c.from_residual.ensures.1 (λ al. subst (λ l. Cannot al addition_ends l o e) (sym (around_is c.args.frames.now c.pop.new.self f.field-0 (OpenType f.outer) f.ensures.items f.field-0-is)) (c.in_err-keep_addition.ensures.only al f.outer o))

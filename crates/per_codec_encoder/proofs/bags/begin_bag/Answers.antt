@@ -12,7 +12,7 @@ pub returns : goal.returns
 returns c =
     let d = c.in_ok-push_heading.field-0 in
     let back = cut_back c.args.aligned (sizes_of c.args.constraints.size) (members_of c.args.held) c.args.count c.args.output.now c.push_heading.new.output d (c.end_of-start.result.bits + c.end_of-start.result.fills) c.in_ok-push_heading.ensures c.end_of-start.ensures.all c.truncate.new.self c.truncate.ensures in
-    does_begin_bag c.args.aligned c.args.frames.now c.push.new.self c.args.output.now c.push_heading.new.output c.replace-outer.new.dest c.replace-outer.result (sizes_of c.args.constraints.size) c.sizes-range.result.0 c.args.held c.sizes-range.result.1 c.args.count d c.in_ok-push_heading.ensures (c.replace-outer.ensures.value ∙ back) c.sizes-range.ensures (c.replace-outer.ensures.after ∙ c.unplaced.ensures) c.in_ok-push.ensures.items
+    does_begin_bag c.args.aligned c.args.frames.now c.push.new.self c.args.output.now c.push_heading.new.output c.replace-outer.new.dest c.replace-outer.result (sizes_of c.args.constraints.size) c.sizes-range.result.0 c.args.held c.sizes-range.result.1 c.args.count d c.in_ok-boxed.boxed c.in_ok-push_heading.ensures (c.replace-outer.ensures.value ∙ back) c.sizes-range.ensures (c.replace-outer.ensures.after ∙ c.unplaced.ensures) c.in_ok-boxed.ensures.ok c.in_ok-push.ensures.items
 
 pub truncate-requires-clause-within : goal.truncate-requires-clause-within
 truncate-requires-clause-within c = cut_within c.args.aligned (sizes_of c.args.constraints.size) (members_of c.args.held) c.args.count c.args.output.now c.push_heading.new.output c.in_ok-push_heading.field-0 (c.end_of-start.result.bits + c.end_of-start.result.fills) c.in_ok-push_heading.ensures c.end_of-start.ensures.all

@@ -1,5 +1,7 @@
+use Rattle.std.proofs.Common.{map, refl}
+use Rattle.asn1_model.specs.Form.{is_present}
 use Rattle.per_codec_writing.proofs.AdditionTexts.{adds_additions}
 use Rattle.per_codec_writing.proofs.additions.push_additions.Goals as goal
 
 pub returns : goal.returns
-returns c = adds_additions c.args.aligned c.args.slots.now c.in_ok-bitmap.bitmap c.args.output.now c.push_bitmap.new.output c.push_present.new.output c.in_ok-bitmap.ensures c.in_ok-push_bitmap.ensures c.in_ok-push_present.ensures
+returns c = adds_additions c.args.aligned c.args.slots.now (map is_present c.args.slots.now) c.args.output.now c.push_presence.new.output c.push_present.new.output refl c.in_ok-push_presence.ensures c.in_ok-push_present.ensures

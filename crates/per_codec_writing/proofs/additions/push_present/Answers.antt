@@ -1,5 +1,5 @@
-use Rattle.std.proofs.Common.{◌≡◌, ◌+◌, ◌<◌, length, Bool, List, drop, sym, subst, arith}
-use Rattle.per_codec_writing.proofs.AdditionTexts.{Present, from_here, present_none, present_on, present_past, all_passed}
+use Rattle.std.proofs.Common.{◌+◌, ◌<◌, length, drop, sym, subst, arith}
+use Rattle.per_codec_writing.proofs.AdditionTexts.{Present, from_here, present_on, present_past, all_passed}
 use Rattle.per_codec_writing.proofs.additions.push_present.Goals as goal
 use Rattle.per_codec_writing.proofs.additions.push_present.Goals.{in-Some+in_ok-push_open_type, in_default}
 
