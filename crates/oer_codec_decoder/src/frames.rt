@@ -83,7 +83,7 @@ fn put<'input>(
 
 /// Opens what encloses one value alone as a frame inside all others. It is seldom called: where something begins in an open type or in an
 /// alternative.
-#[inline(never)]
+#[cold]
 fn put_enclosing<'input>(
     innermost: &mut Option<Frame<'input>>,
     outer: &mut Vec<Frame<'input>>,
@@ -95,6 +95,7 @@ fn put_enclosing<'input>(
 }
 
 /// Closes the innermost frame, if it is that of an addition (X.696 30).
+#[cold]
 fn close_frame_of_addition<'input>(
     innermost: &mut Option<Frame<'input>>,
     outer: &mut Vec<Frame<'input>>,

@@ -77,7 +77,7 @@ fn put(
 
 /// Opens what encloses one value alone as a frame inside all others. It is seldom called: where something begins in an open type or in an
 /// alternative.
-#[inline(never)]
+#[cold]
 fn put_enclosing(
     innermost: &mut Option<Frame>,
     outer: &mut Vec<Frame>,

@@ -93,7 +93,7 @@ fn put<'input>(
 
 /// Opens what encloses one value alone as a frame inside the others. It is seldom called: where something begins in an open type or in an
 /// alternative.
-#[inline(never)]
+#[cold]
 fn put_enclosing<'input>(
     innermost: &mut Option<Frame<'input>>,
     outer: &mut Vec<Frame<'input>>,
