@@ -6,7 +6,8 @@ use asn1_schema_constraints::Constraints;
 use asn1_schema_encode::Encode;
 use asn1_schema_faults::EncodeError;
 use oer_codec_encoder::{Encoder, EncoderOptions};
-use std::alloc::{AllocError, Global};
+use std::alloc::Global;
+use std::mem;
 
 /// An encoding has fewer octets than this.
 const LENGTH_LIMIT: usize = 1 << 60;
@@ -14,12 +15,14 @@ const LENGTH_LIMIT: usize = 1 << 60;
 /// How many octets there is room for before the first one is written.
 const FIRST_CAPACITY: usize = 128;
 
-/// No octets, with room for those of a small value.
-fn with_room(alloc: Global) -> Result<Vec<u8>, EncodeError>
-    ensures { MatchResult result (λ octets. octets.items ≡ []) (λ e. e ≡ EncodeError.OutOfMemory) }
+/// No octets, with the room of these, and at least that for those of a small value.
+fn with_room(octets: Vec<u8>) -> Result<Vec<u8>, EncodeError>
+    ensures { MatchResult result (λ room. room.items ≡ []) (λ e. e ≡ EncodeError.OutOfMemory) }
 {
-    let octets = Vec::with_capacity(alloc, FIRST_CAPACITY)?;
-    Ok(octets)
+    let mut room = octets;
+    room.clear();
+    room.reserve(FIRST_CAPACITY)?;
+    Ok(room)
 }
 
 /// The octets, if they are not too many for an encoding.
@@ -54,7 +57,19 @@ pub fn encode<T: Encode>(alloc: Global, value: &T) -> Result<Vec<u8>, EncodeErro
     ensures ok { IfOk result (λ octets. IsEncoded T.schema (T.meaning value.now) octets.items) }
     ensures only { IfErr result (NotEncoded T.schema (T.meaning value.now)) }
 {
-    let mut output = with_room(alloc)?;
+    encode_into(alloc, value, Vec::new(alloc))
+}
+
+/// The same in the room of these octets, which are cleared.
+fn encode_into<T: Encode>(
+    alloc: Global,
+    value: &T,
+    octets: Vec<u8>,
+) -> Result<Vec<u8>, EncodeError>
+    ensures ok { IfOk result (λ octets. IsEncoded T.schema (T.meaning value.now) octets.items) }
+    ensures only { IfErr result (NotEncoded T.schema (T.meaning value.now)) }
+{
+    let mut output = with_room(octets)?;
     let mut worker = Vec::new(alloc);
     let options = EncoderOptions::coer();
     let mut encoder = Encoder::from_buffer(alloc, options, &mut output, &mut worker);
@@ -77,7 +92,7 @@ pub fn encode_with_constraints<T: Encode>(
     ensures ok { IfOk result (λ octets. IsEncoded (T.under constraints.entry) (T.meaning value.now) octets.items) }
     ensures only { IfErr result (NotEncoded (T.under constraints.entry) (T.meaning value.now)) }
 {
-    let mut output = with_room(alloc)?;
+    let mut output = with_room(Vec::new(alloc))?;
     let mut worker = Vec::new(alloc);
     let options = EncoderOptions::coer();
     let mut encoder = Encoder::from_buffer(alloc, options, &mut output, &mut worker);
@@ -87,20 +102,7 @@ pub fn encode_with_constraints<T: Encode>(
     }
 }
 
-/// Adds octets behind those of a buffer; they take the place of an empty one that has no room for them.
-fn append(buffer: &mut Vec<u8>, octets: Vec<u8>) -> Result<(), AllocError>
-    ensures ok { OnOk result (buffer.new.items ≡ buffer.old.items ++ octets.items) }
-    ensures same { OnErr result (buffer.new.items ≡ buffer.old.items) }
-{
-    if buffer.is_empty() && buffer.capacity() < octets.len() {
-        *buffer = octets;
-        return Ok(());
-    }
-    buffer.extend_from_slice(&octets)?;
-    Ok(())
-}
-
-/// Adds the canonical encoding of a value (X.696) behind what stands in the buffer.
+/// Adds the canonical encoding of a value (X.696) behind what stands in the buffer. If nothing does, it is written in the buffer's own room.
 ///
 /// # Errors
 ///
@@ -114,7 +116,12 @@ pub fn encode_buf<T: Encode>(
     ensures only { IfErr result (NotEncoded T.schema (T.meaning value.now)) }
     ensures same { OnErr result (buffer.new.items ≡ buffer.old.items) }
 {
+    if buffer.is_empty() {
+        let room = mem::replace(buffer, Vec::new(alloc));
+        *buffer = encode_into(alloc, value, room)?;
+        return Ok(());
+    }
     let octets = encode(alloc, value)?;
-    append(buffer, octets)?;
+    buffer.extend_from_slice(&octets)?;
     Ok(())
 }

@@ -1,5 +1,5 @@
 use Rattle.oer_codec.proofs.Encoding.{written_all, refused_all, encoded, not_encoded}
-use Rattle.oer_codec.proofs.writing.encode.Goals as goal
+use Rattle.oer_codec.proofs.writing.encode_into.Goals as goal
 
 pub returns-clause-only : goal.returns-clause-only
 returns-clause-only g c = refused_all g.T.Described.schema (g.T.Described.meaning c.args.value.now) c.from_buffer-encoder.result _ c.in-Err.error c.refusal.result c.from_buffer-encoder.ensures c.in_ok-output.ensures (g.T.Described.valued c.args.value.now) c.in-Err.ensures.only (record { length = c.refusal.ensures.length; others = c.refusal.ensures.others })
