@@ -1,1 +1,3 @@
 pub mod Ascending
+mod Placed
+mod Spans

@@ -1,0 +1,21 @@
+-- Entries of encodings, one after another.
+use Rattle.std.proofs.Common.{◌≡◌, ℕ, suc, ◌+◌, ◌<◌, List, [], ◌∷◌, ◌++◌, length, get_or, take, sym, subst, ◌∙◌, arith}
+use Rattle.std.proofs.lemmas.List.{take_all, take_more, length-take-le}
+use Rattle.asn1_schema_order.specs.declared.encodings.Entry.{Entry}
+use Rattle.asn1_schema_order.specs.Entries.{octets_of, ArePlaced}
+
+placed_one : (i : ℕ) (ws : List (List ℕ)) (es : List Entry) (w : List ℕ) (e : Entry) → ArePlaced i ws es → octets_of e ≡ w → e.index ≡ i + length ws → ArePlaced i (ws ++ w ∷ []) (es ++ e ∷ [])
+placed_one i [] [] w e p a b = (a, b ∙ (omega arith), tt)
+placed_one i [] (f ∷ fs) w e p a b = absurd p
+placed_one i (v ∷ vs) [] w e p a b = absurd p
+placed_one i (v ∷ vs) (f ∷ fs) w e p a b = (p.0, p.1, placed_one (suc i) vs fs w e p.2 a (omega (arith, b)))
+
+-- one more of those taken
+pub placed_next : (ws : List (List ℕ)) (es fs : List Entry) (i : ℕ) (e : Entry) → i < length ws → ArePlaced 0 (take i ws) es → octets_of e ≡ get_or ws i [] → e.index ≡ i → fs ≡ es ++ e ∷ [] → ArePlaced 0 (take (i + 1) ws) fs
+placed_next ws es fs i e h p a b c =
+    subst (λ l. ArePlaced 0 (take (i + 1) ws) l) (sym c)
+    (subst (λ l. ArePlaced 0 l (es ++ e ∷ [])) (sym (take_more ws i [] h)) (placed_one 0 (take i ws) es (get_or ws i []) e p a (omega (arith, b, h, length-take-le i ws (omega (arith, h))))))
+
+-- all are taken
+pub placed_all : (ws : List (List ℕ)) (es : List Entry) (i : ℕ) → length ws ≡ i → ArePlaced 0 (take i ws) es → ArePlaced 0 ws es
+placed_all ws es i h p = subst (λ l. ArePlaced 0 l es) (take_all i ws (omega (arith, h))) p

@@ -1,0 +1,6 @@
+use Rattle.std.proofs.Common.{take}
+use Rattle.asn1_schema_order.specs.Entries.{ArePlaced}
+use Rattle.asn1_schema_order.proofs.encodings.Encodings.in_order.Given as goal
+
+abbrev pub invariant-loop-index : goal.invariant-loop-index
+invariant-loop-index l = ArePlaced 0 (take l.index l.self) l.all.items

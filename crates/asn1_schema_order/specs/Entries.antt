@@ -1,0 +1,21 @@
+-- Entries of encodings.
+use Rattle.std.specs.Prelude.{◌≡◌, ℕ, suc, List, [], ◌∷◌, Some, ltb}
+use Rattle.asn1_model.specs.Form.{ascending, stands_before}
+use Rattle.asn1_schema_order.specs.declared.encodings.Entry.{Entry}
+
+-- the octets of an entry
+abbrev pub octets_of : Entry → List ℕ
+octets_of e = e.octets.now
+
+-- each encoding has its entry, with its place, from one on
+abbrev pub ArePlaced : ℕ → List (List ℕ) → List Entry → Type 0
+ArePlaced i [] [] = Unit {0}
+ArePlaced i (w ∷ ws) (e ∷ es) = (octets_of e ≡ w) × (e.index ≡ i) × ArePlaced (suc i) ws es
+ArePlaced i ws es = ⊥
+
+-- The entries are those of the encodings, each with its place among these, in ascending order of their octets; those of the same octets stand as
+-- they stood.
+pub record AreInOrder (encodings : List (List ℕ)) (ordered : List Entry) : Type 0 where
+  pub all : List Entry
+  pub placed : ArePlaced 0 encodings all
+  pub ascend : ascending (λ e. Some (octets_of e)) (stands_before ltb) all ≡ Some ordered

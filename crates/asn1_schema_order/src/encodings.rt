@@ -1,0 +1,116 @@
+//! Encodings that share memory.
+ghost use Rattle.std.specs.Prelude.{◌≡◌, ◌++◌, ◌<◌, [], ◌∷◌, length, OnOk, OnErr, IfOk, get_or};
+ghost use Rattle.asn1_schema_order.specs.Entries.{octets_of, AreInOrder};
+
+use crate::order::{Encoded, put_in_order};
+use std::alloc::{AllocError, Global};
+use std::marker::Model;
+
+// The octets from one on and up to another.
+#[derive(Clone, Copy)]
+struct Span {
+    from: usize,
+    to: usize,
+}
+
+/// Encodings, one behind the other, in memory that they share.
+#[derive(Drop)]
+pub struct Encodings {
+    octets: Vec<u8>,
+    spans: Vec<Span>,
+}
+
+impl Model for Encodings {
+    ghost use Rattle.std.specs.Prelude.{ℕ, List, length};
+
+    ghost Value = { List (List ℕ) };
+
+    ghost use Rattle.asn1_schema_order.specs.Spans.{cut, AreWithin};
+
+    ghost view = { λ e. cut e.octets.items e.spans.items };
+
+    ghost invariant = { λ e. AreWithin (length e.octets.items) e.spans.items };
+}
+
+/// One of some encodings: its octets, and its place among them.
+#[derive(Clone, Copy)]
+pub struct Entry<'a> {
+    /// Its octets.
+    pub octets: &'a [u8],
+    /// How many stand in front of it.
+    pub index: usize,
+}
+
+impl Encoded for Entry<'_> {
+    ghost encoding = { λ e. octets_of e };
+
+    fn octets(&self) -> &[u8] {
+        self.octets
+    }
+}
+
+impl Encodings {
+    /// No encodings. It takes no memory before it is handed one.
+    pub fn new(alloc: Global) -> Self
+        ensures { result ≡ [] }
+    {
+        Encodings {
+            octets: Vec::new(alloc),
+            spans: Vec::new(alloc),
+        }
+    }
+
+    /// How many there are.
+    #[inline]
+    pub fn len(&self) -> usize
+        ensures { result ≡ length self.now }
+    {
+        self.spans.len()
+    }
+
+    /// Adds one behind the others.
+    ///
+    /// # Errors
+    ///
+    /// Want of memory; nothing is changed then.
+    #[inline]
+    pub fn push(&mut self, octets: &[u8]) -> Result<(), AllocError>
+        ensures ok { OnOk result (self.new ≡ self.old ++ (octets.now ∷ [])) }
+        ensures err { OnErr result (self.new ≡ self.old) }
+    {
+        let from = self.octets.len();
+        self.octets.extend_from_slice(octets)?;
+        let to = self.octets.len();
+        self.spans.push(Span { from, to })?;
+        Ok(())
+    }
+
+    /// One of them.
+    #[inline]
+    pub fn get(&self, index: usize) -> &[u8]
+        requires { index < length self.now }
+        ensures { result.now ≡ get_or self.now index [] }
+    {
+        let span = self.spans[index];
+        &self.octets[span.from..span.to]
+    }
+
+    /// All of them in ascending order, each with its place among them; those of the same octets stand as they stood.
+    ///
+    /// # Errors
+    ///
+    /// Want of memory.
+    pub fn in_order(&self, alloc: Global) -> Result<Vec<Entry<'_>>, AllocError>
+        ensures { IfOk result (λ all. AreInOrder self.now all.items) }
+    {
+        let mut all = Vec::with_capacity(alloc, self.len())?;
+        for index in 0..self.len() {
+            all.push(Entry {
+                octets: self.get(index),
+                index,
+            })?;
+        }
+        put_in_order(&mut all)?;
+        Ok(all)
+    }
+}
