@@ -1,15 +1,18 @@
 -- Bags that begin, go on and end, in the octets and the frames of an encoder.
 use Rattle.std.proofs.Common.{◌≡◌, ℕ, suc, ◌+◌, ◌-◌, Bool, true, false, cond, ltb, List, [], ◌∷◌, ◌++◌, length, map, Option, Some, None, option_map, Vec, Global, refl, ap, subst, sym, ◌∙◌, arith}
+use Rattle.std.proofs.lemmas.List.{append-nil}
 use Rattle.asn1_model.specs.Form.{written, exactly, only_if, given, joined, stands_before, ascending, with_keys, put_in_place}
 use Rattle.asn1_model.specs.Numbers.{is_count_within}
 use Rattle.asn1_model.specs.Oer
 use Rattle.asn1_model.specs.Schema.{Size, Counts}
+use Rattle.asn1_schema_order.specs.declared.encodings.Entry.{Entry}
+use Rattle.asn1_schema_order.specs.Entries.{octets_of, ArePlaced, AreInOrder}
 use Rattle.asn1_schema_presented.specs.Records.{bag_begins, further, ends}
 use Rattle.oer_codec_steps.specs.Steps.{bag_members, with_open, State, run, adds_text}
 use Rattle.oer_codec_encoder.specs.declared.frame.Bag.{Bag as BagFrame}
 use Rattle.oer_codec_encoder.specs.declared.frame.Frame.{Frame}
 use Rattle.oer_codec_encoder.specs.declared.frame.Frame.TheVariants.{Bag}
-use Rattle.oer_codec_encoder.specs.Holding.{NextOfBag, member_texts, Holds, Does}
+use Rattle.oer_codec_encoder.specs.Holding.{NextOfBag, Holds, Does}
 use Rattle.oer_codec_encoder.specs.Slots.{texts_joined}
 use Rattle.oer_codec_writing.specs.Writing.{Adds}
 use Rattle.oer_codec_encoder.proofs.Scopes.{on_top, put_back, appended}
@@ -52,7 +55,7 @@ does_next fs rest gs b c o p false a n y = record { after = λ s h. go s (subst 
 
     go : (s : State) → Holds (Bag (ended b) ∷ rest) o s → (t : State) × (run (further false) s ≡ Some t) × Holds gs p t
     go s h =
-        let t : State = (o, bag_members 0 (member_texts b.members) h.0.0 ∷ h.0.1) in
+        let t : State = (o, bag_members 0 b.members h.0.0 ∷ h.0.1) in
         (t, ap (run (further false)) h.1, put_back gs rest (Bag c) p t y (subst (λ l. Holds (Bag c ∷ rest) l t) (sym n.2) (subst (λ k. Holds (Bag k ∷ rest) o t) same (h.0, refl, h.2))))
 does_next fs rest gs b c o p true a n y = record { after = λ s h. go s (subst (λ k. Holds (Bag (record { due = k; outer = b.outer; members = b.members }) ∷ rest) o s) one (on_top fs rest (Bag b) o s a h)) }
   where
@@ -61,30 +64,33 @@ does_next fs rest gs b c o p true a n y = record { after = λ s h. go s (subst (
 
     go : (s : State) → Holds (Bag (record { due = suc (b.due - 1); outer = b.outer; members = b.members }) ∷ rest) o s → (t : State) × (run (further true) s ≡ Some t) × Holds gs p t
     go s h =
-        let t : State = ([], bag_members (b.due - 1) (Some (with_open (member_texts b.members) o)) h.0.0 ∷ h.0.1) in
-        let counted : t ≡ ([], bag_members c.due (Some (with_open (member_texts b.members) o)) h.0.0 ∷ h.0.1) = ap (λ k. let l : State = ([], bag_members k (Some (with_open (member_texts b.members) o)) h.0.0 ∷ h.0.1) in l) (sym n.1) in
-        let told : t ≡ ([], bag_members c.due (member_texts c.members) h.0.0 ∷ h.0.1) = counted ∙ ap (λ ws. let l : State = ([], bag_members c.due ws h.0.0 ∷ h.0.1) in l) (sym n.3) in
+        let t : State = ([], bag_members (b.due - 1) (Some (with_open b.members o)) h.0.0 ∷ h.0.1) in
+        let counted : t ≡ ([], bag_members c.due (Some (with_open b.members o)) h.0.0 ∷ h.0.1) = ap (λ k. let l : State = ([], bag_members k (Some (with_open b.members o)) h.0.0 ∷ h.0.1) in l) (sym n.1) in
+        let told : t ≡ ([], bag_members c.due c.members h.0.0 ∷ h.0.1) = counted ∙ ap (λ ws. let l : State = ([], bag_members c.due ws h.0.0 ∷ h.0.1) in l) (sym n.3) in
         (t, ap (run (further true)) h.1, subst (λ l. Holds gs l t) (sym n.4) (put_back gs rest (Bag c) [] t y (h.0, told, subst (λ v. Holds rest v.items h.0) (sym n.2) h.2)))
 
 -- ---- it ends
 
-abbrev Held : Type 0
-Held = Vec ℕ Global
+placed_octets : (i : ℕ) (ws : List (List ℕ)) (es : List Entry) → ArePlaced i ws es → map octets_of es ≡ ws
+placed_octets i [] [] p = refl
+placed_octets i [] (e ∷ es) p = absurd p
+placed_octets i (w ∷ ws) [] p = absurd p
+placed_octets i (w ∷ ws) (e ∷ es) p = ap (λ l. l ∷ map octets_of es) p.0 ∙ ap (λ l. w ∷ l) (placed_octets (suc i) ws es p.2)
 
-abbrev form_of : Held → Oer.OctetForm
-form_of v = exactly v.items
+abbrev form_of : Entry → Oer.OctetForm
+form_of e = exactly (octets_of e)
 
-pub forms_of : (vs : List Held) → map form_of vs ≡ map (λ w. exactly w) (map (λ v. v.items) vs)
+forms_of : (es : List Entry) → map form_of es ≡ map (λ w. exactly w) (map octets_of es)
 forms_of [] = refl
-forms_of (v ∷ vs) = ap (λ l. form_of v ∷ l) (forms_of vs)
+forms_of (e ∷ es) = ap (λ l. form_of e ∷ l) (forms_of es)
 
 abbrev before : List ℕ → List ℕ → Bool
 before = stands_before ltb
 
-abbrev own : List ℕ × Held → List ℕ × Oer.OctetForm
+abbrev own : List ℕ × Entry → List ℕ × Oer.OctetForm
 own e = (e.0, form_of e.1)
 
-put_formed : (e : List ℕ × Held) (es : List (List ℕ × Held)) → put_in_place before (own e) (map own es) ≡ map own (put_in_place before e es)
+put_formed : (e : List ℕ × Entry) (es : List (List ℕ × Entry)) → put_in_place before (own e) (map own es) ≡ map own (put_in_place before e es)
 put_formed e [] = refl
 put_formed e (f ∷ fs) = go (before f.0 e.0) (put_formed e fs)
   where
@@ -92,45 +98,72 @@ put_formed e (f ∷ fs) = go (before f.0 e.0) (put_formed e fs)
     go true h = ap (λ l. own f ∷ l) h
     go false h = refl
 
-formed_keys : (vs : List Held) → with_keys (λ x. written x 0) before (map form_of vs) ≡ option_map (map own) (with_keys (λ v. Some v.items) before vs)
+formed_keys : (es : List Entry) → with_keys (λ x. written x 0) before (map form_of es) ≡ option_map (map own) (with_keys (λ e. Some (octets_of e)) before es)
 unfolding written
 formed_keys [] = refl
-formed_keys (v ∷ vs) = ap (option_map (λ es. put_in_place before (v.items, form_of v) es)) (formed_keys vs) ∙ go (with_keys (λ v. Some v.items) before vs)
+formed_keys (e ∷ es) = ap (option_map (λ l. put_in_place before (octets_of e, form_of e) l)) (formed_keys es) ∙ go (with_keys (λ f. Some (octets_of f)) before es)
   where
-    go : (o : Option (List (List ℕ × Held))) → option_map (λ es. put_in_place before (v.items, form_of v) es) (option_map (map own) o) ≡ option_map (map own) (option_map (λ es. put_in_place before (v.items, v) es) o)
+    go : (o : Option (List (List ℕ × Entry))) → option_map (λ l. put_in_place before (octets_of e, form_of e) l) (option_map (map own) o) ≡ option_map (map own) (option_map (λ l. put_in_place before (octets_of e, e) l) o)
     go None = refl
-    go (Some es) = ap Some (put_formed (v.items, v) es)
+    go (Some l) = ap Some (put_formed (octets_of e, e) l)
 
-seconds : (es : List (List ℕ × Held)) → map (λ e. e.1) (map own es) ≡ map form_of (map (λ e. e.1) es)
+seconds : (es : List (List ℕ × Entry)) → map (λ e. e.1) (map own es) ≡ map form_of (map (λ e. e.1) es)
 seconds [] = refl
 seconds (e ∷ es) = ap (λ l. form_of e.1 ∷ l) (seconds es)
 
-formed : (vs ws : List Held) → ascending (λ v. Some v.items) before vs ≡ Some ws → ascending (λ x. written x 0) before (map form_of vs) ≡ Some (map form_of ws)
-formed vs ws h = ap (option_map (map (λ e. e.1))) (formed_keys vs) ∙ go (with_keys (λ v. Some v.items) before vs) h
+formed : (es fs : List Entry) → ascending (λ e. Some (octets_of e)) before es ≡ Some fs → ascending (λ x. written x 0) before (map form_of es) ≡ Some (map form_of fs)
+formed es fs h = ap (option_map (map (λ e. e.1))) (formed_keys es) ∙ go (with_keys (λ e. Some (octets_of e)) before es) h
   where
-    go : (o : Option (List (List ℕ × Held))) → option_map (map (λ e. e.1)) o ≡ Some ws → option_map (map (λ e. e.1)) (option_map (map own) o) ≡ Some (map form_of ws)
+    go : (o : Option (List (List ℕ × Entry))) → option_map (map (λ e. e.1)) o ≡ Some fs → option_map (map (λ e. e.1)) (option_map (map own) o) ≡ Some (map form_of fs)
     go None e = cc
-    go (Some es) e = let same : map (λ e. e.1) es ≡ ws = cc e in ap Some (seconds es ∙ ap (map form_of) same)
+    go (Some l) e = let same : map (λ e. e.1) l ≡ fs = cc e in ap Some (seconds l ∙ ap (map form_of) same)
 
-joined_text : (ws : List Held) (p : ℕ) → written (joined (map form_of ws)) p ≡ Some (texts_joined (map (λ v. v.items) ws))
+joined_text : (es : List Entry) (p : ℕ) → written (joined (map form_of es)) p ≡ Some (texts_joined (map octets_of es))
 unfolding written
 joined_text [] p = refl
-joined_text (w ∷ ws) p = ap (option_map (λ b. w.items ++ b)) (joined_text ws (p + length w.items))
+joined_text (e ∷ es) p = ap (option_map (λ b. octets_of e ++ b)) (joined_text es (p + length (octets_of e)))
 
-pub ordered_text : (vs ws : List Held) → ascending (λ v. Some v.items) before vs ≡ Some ws → written (Oer.in_any_order (map form_of vs) (λ xs. joined xs)) 0 ≡ Some (texts_joined (map (λ v. v.items) ws))
+ordered_text : (es fs : List Entry) → ascending (λ e. Some (octets_of e)) before es ≡ Some fs → written (Oer.in_any_order (map form_of es) (λ xs. joined xs)) 0 ≡ Some (texts_joined (map octets_of fs))
 unfolding written Oer.in_any_order
-ordered_text vs ws h = ap (λ o. written (given o (λ xs. joined xs)) 0) (formed vs ws h) ∙ joined_text ws 0
+ordered_text es fs h = ap (λ o. written (given o (λ xs. joined xs)) 0) (formed es fs h) ∙ joined_text fs 0
 
-pub adds_ordered : (vs ws : List Held) (old new : List ℕ) → ascending (λ v. Some v.items) before vs ≡ Some ws → new ≡ old ++ texts_joined (map (λ v. v.items) ws) → Adds (written (Oer.in_any_order (map form_of vs) (λ xs. joined xs)) 0) old new
-adds_ordered vs ws old new h e = ap (option_map (λ w. old ++ w)) (ordered_text vs ws h) ∙ ap Some (sym e)
+-- the octets of members in their order
+abbrev pub bag_text : List (List ℕ) → Option (List ℕ)
+bag_text ws = written (Oer.in_any_order (map (λ w. exactly w) ws) (λ xs. joined xs)) 0
 
-pub does_end_bag : (fs rest : List Frame) (b : BagFrame) (o p : List ℕ) (all : List Held) → fs ≡ Bag b ∷ rest → b.due ≡ 0 → map (λ v. v.items) all ≡ with_open (member_texts b.members) o → Adds (written (Oer.in_any_order (map form_of all) (λ xs. joined xs)) 0) b.outer.items p → Does ends fs o rest p
-does_end_bag fs rest b o p all a n m x = record { after = λ s h. go s (subst (λ k. Holds (Bag (record { due = k; outer = b.outer; members = b.members }) ∷ rest) o s) n (on_top fs rest (Bag b) o s a h)) (written (Oer.in_any_order (map form_of all) (λ xs. joined xs)) 0) refl x }
+pub adds_ordered : (ws : List (List ℕ)) (es : List Entry) (old new : List ℕ) → AreInOrder ws es → new ≡ old ++ texts_joined (map octets_of es) → Adds (bag_text ws) old new
+adds_ordered ws es old new h e = ap (option_map (λ w. old ++ w)) (ap (λ l. written (Oer.in_any_order l (λ xs. joined xs)) 0) forms ∙ ordered_text h.all es h.ascend) ∙ ap Some (sym e)
   where
-    go : (s : State) → Holds (Bag (record { due = 0; outer = b.outer; members = b.members }) ∷ rest) o s → (t : Option (List ℕ)) → written (Oer.in_any_order (map form_of all) (λ xs. joined xs)) 0 ≡ t → Adds t b.outer.items p → (u : State) × (run ends s ≡ Some u) × Holds rest p u
+    forms : map (λ w. exactly w) ws ≡ map form_of h.all
+    forms = ap (map (λ w. exactly w)) (sym (placed_octets 0 ws h.all h.placed)) ∙ sym (forms_of h.all)
+
+-- one alone
+pub adds_one : (ws : List (List ℕ)) (w old new : List ℕ) → length ws ≡ 0 → new ≡ old ++ w → Adds (bag_text (ws ++ w ∷ [])) old new
+unfolding written Oer.in_any_order
+adds_one [] w old new n e = ap (λ l. Some (old ++ l)) (append-nil w) ∙ ap Some (sym e)
+adds_one (v ∷ vs) w old new n e = absurd (omega (arith, n))
+
+-- none at all
+adds_none : (old : List ℕ) → Adds (bag_text []) old old
+unfolding written Oer.in_any_order
+adds_none old = ap Some (append-nil old)
+
+does_end_bag : (b : BagFrame) (k : List Frame) (o p : List ℕ) → b.due ≡ 0 → Adds (bag_text (with_open b.members o)) b.outer.items p → Does ends (Bag b ∷ k) o k p
+does_end_bag b k o p n x = record { after = λ s h. go s (subst (λ i. Holds (Bag (record { due = i; outer = b.outer; members = b.members }) ∷ k) o s) n h) (bag_text (with_open b.members o)) refl x }
+  where
+    go : (s : State) → Holds (Bag (record { due = 0; outer = b.outer; members = b.members }) ∷ k) o s → (t : Option (List ℕ)) → bag_text (with_open b.members o) ≡ t → Adds t b.outer.items p → (u : State) × (run ends s ≡ Some u) × Holds k p u
     go s h None e y = cc
     go s h (Some w) e y =
         let u : State = (h.0.0 ++ w, h.0.1) in
         let q : b.outer.items ++ w ≡ p = cc y in
-        let text : written (Oer.in_any_order (map (λ w. exactly w) (with_open (member_texts b.members) o)) (λ xs. joined xs)) 0 ≡ Some w = ap (λ l. written (Oer.in_any_order l (λ xs. joined xs)) 0) (sym (forms_of all ∙ ap (map (λ w. exactly w)) m)) ∙ e in
-        (u, ap (run ends) h.1 ∙ ap (λ t. adds_text t h.0) text, subst (λ l. Holds rest l u) q (appended rest b.outer.items h.0 w h.2))
+        (u, ap (run ends) h.1 ∙ ap (λ t. adds_text t h.0) e, subst (λ l. Holds k l u) q (appended k b.outer.items h.0 w h.2))
+
+-- a member is open
+pub ends_with_open : (b : BagFrame) (k : List Frame) (o p q w : List ℕ) (ms : List (List ℕ)) → b.due ≡ 0 → b.members ≡ Some ms → w ≡ o → q ≡ b.outer.items → Adds (bag_text (ms ++ w ∷ [])) q p → Does ends (Bag b ∷ k) o k p
+ends_with_open b k o p q w ms n e f g x =
+    does_end_bag b k o p n (subst (λ l. Adds (bag_text l) b.outer.items p) (ap (λ l. ms ++ l ∷ []) f ∙ ap (λ m. with_open m o) (sym e)) (subst (λ l. Adds (bag_text (ms ++ w ∷ [])) l p) g x))
+
+-- no member was told
+pub ends_without : (b : BagFrame) (k : List Frame) (o p : List ℕ) → b.due ≡ 0 → b.members ≡ None → p ≡ b.outer.items → Does ends (Bag b ∷ k) o k p
+ends_without b k o p n e g =
+    does_end_bag b k o p n (subst (λ l. Adds (bag_text l) b.outer.items p) (ap (λ m. with_open m o) (sym e)) (subst (λ l. Adds (bag_text []) b.outer.items l) (sym g) (adds_none b.outer.items)))

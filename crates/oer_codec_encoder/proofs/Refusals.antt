@@ -11,7 +11,7 @@ use Rattle.oer_codec_encoder.specs.declared.frame.Bag.{Bag as BagFrame}
 use Rattle.oer_codec_encoder.specs.declared.frame.Frame.{Frame}
 use Rattle.oer_codec_encoder.specs.declared.frame.Frame.TheVariants.{Components, Added, OpenType, Members, Bag, Alternative}
 use Rattle.oer_codec_encoder.specs.declared.frame.Preamble.{Preamble}
-use Rattle.oer_codec_encoder.specs.Holding.{member_texts, Holds, Cannot}
+use Rattle.oer_codec_encoder.specs.Holding.{Holds, Cannot}
 use Rattle.oer_codec_encoder.proofs.Scopes.{on_top}
 
 -- what a `?` passes on
@@ -48,7 +48,7 @@ no_member_due fs rest due o more e n s h = go due more n (on_top fs rest (Member
 pub no_member_of_bag : (fs rest : List Frame) (b : BagFrame) (o : List ℕ) (more : Bool) → fs ≡ Bag b ∷ rest → more ≡ not (ltb 0 b.due) → (s : State) → Holds fs o s → run (further more) s ≡ None
 no_member_of_bag fs rest b o more e n s h = let i = on_top fs rest (Bag b) o s e h in go b.due more n i.0 i.1
   where
-    go : (due : ℕ) (more : Bool) → more ≡ not (ltb 0 due) → (t : State) → s ≡ (o, bag_members due (member_texts b.members) t.0 ∷ t.1) → run (further more) s ≡ None
+    go : (due : ℕ) (more : Bool) → more ≡ not (ltb 0 due) → (t : State) → s ≡ (o, bag_members due b.members t.0 ∷ t.1) → run (further more) s ≡ None
     go zero true n t h = ap (run (further true)) h
     go zero false n t h = cc
     go (suc k) true n t h = absurd (apart n (ap not (lt-ltb 0 (suc k) (omega arith))))

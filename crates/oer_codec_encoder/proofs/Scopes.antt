@@ -17,7 +17,7 @@ use Rattle.oer_codec_encoder.specs.declared.frame.Frame.{Frame}
 use Rattle.oer_codec_encoder.specs.declared.frame.Frame.TheVariants.{Components, Added, OpenType, Members, Bag, Alternative}
 use Rattle.oer_codec_encoder.specs.declared.frame.Preamble.{Preamble}
 use Rattle.oer_codec_encoder.specs.Frames.{told}
-use Rattle.oer_codec_encoder.specs.Holding.{presence, given_bits, member_texts, shown, IsOpen, IsApart, Holds, AreSound, Does}
+use Rattle.oer_codec_encoder.specs.Holding.{presence, given_bits, shown, IsOpen, IsApart, Holds, AreSound, Does}
 use Rattle.oer_codec_writing.specs.Writing.{Adds}
 
 -- ---- what is shown is what they stand for
@@ -86,7 +86,7 @@ shown_is (Added a ∷ fs) o s h =
 shown_is (OpenType start ∷ fs) o s h =
     let x = parts_apart start o s h in
     same_apart _ h.inner _ h.outer x.1 (ap (shown fs) x.0 ∙ shown_is fs h.front h.outer h.under) ∙ sym h.is
-shown_is (Bag b ∷ fs) o s h = ap (λ (t : State). let l : State = (o, bag_members b.due (member_texts b.members) t.0 ∷ t.1) in l) (shown_is fs b.outer.items h.0 h.2) ∙ sym h.1
+shown_is (Bag b ∷ fs) o s h = ap (λ (t : State). let l : State = (o, bag_members b.due b.members t.0 ∷ t.1) in l) (shown_is fs b.outer.items h.0 h.2) ∙ sym h.1
 shown_is (Alternative ∷ fs) o s h = ap (λ (t : State). let l : State = (t.0, alternative ∷ t.1) in l) (shown_is fs o h.0 h.2) ∙ sym h.1
 shown_is (Members due ∷ fs) o s h = ap (λ (t : State). let l : State = (t.0, members due ∷ t.1) in l) (shown_is fs o h.0 h.2) ∙ sym h.1
 

@@ -1,5 +1,5 @@
 -- How the octets and the frames of an encoder stand for what a writer holds. The frames are given the innermost first.
-use Rattle.std.specs.Prelude.{◌≡◌, ℕ, ◌+◌, ◌-◌, ◌^◌, ◌<◌, Bool, true, false, List, [], ◌∷◌, ◌++◌, length, map, take, drop, replicate, Option, Some, None, option_map, slice_index, Vec}
+use Rattle.std.specs.Prelude.{◌≡◌, ℕ, ◌+◌, ◌-◌, ◌^◌, ◌<◌, Bool, true, false, List, [], ◌∷◌, ◌++◌, length, take, drop, replicate, Some, None, slice_index}
 use Rattle.asn1_model.specs.Numbers.{octet_bits}
 use Rattle.asn1_values_bits.specs.Octets.{filled_up}
 use Rattle.asn1_schema_faults.specs.declared.EncodeError.{EncodeError}
@@ -14,10 +14,6 @@ use Rattle.oer_codec_encoder.specs.declared.frame.Frame.TheVariants.{Components,
 abbrev pub presence : Bool → List Bool → List Bool
 presence true ms = false ∷ ms
 presence false ms = ms
-
--- The octets of each member of a bag in front of the open one, if one is open.
-abbrev pub member_texts : {Z : Type 0} → Option (Vec (Vec ℕ Z) Z) → Option (List (List ℕ))
-member_texts held = option_map (λ ms. map (λ v. v.items) ms.items) held
 
 -- The presence bits that were given, behind the mark of extensibility, where there is one.
 abbrev pub given_bits : Bool → ℕ → ℕ → List ℕ → List Bool
@@ -40,7 +36,7 @@ shown (Members due ∷ fs) o =
     (below.0, members due ∷ below.1)
 shown (Bag b ∷ fs) o =
     let below = shown fs b.outer.items in
-    (o, bag_members b.due (member_texts b.members) below.0 ∷ below.1)
+    (o, bag_members b.due b.members below.0 ∷ below.1)
 shown (Alternative ∷ fs) o =
     let below = shown fs o in
     (below.0, alternative ∷ below.1)
@@ -80,7 +76,7 @@ Holds (Components c ∷ fs) o s = IsOpen (λ p t. Holds fs p t) c.extensible c.d
 Holds (Added a ∷ fs) o s = (root : State) × (h : IsOpen (λ p t. Holds fs p t) true 0 a.preamble.given a.preamble.start a.preamble.content a.outer.items root) × (a.any ≡ is_any_set a.present) × (s ≡ (o, added a.due h.marks h.inner a.present h.outer.0 ∷ h.outer.1))
 Holds (OpenType start ∷ fs) o s = IsApart (λ p t. Holds fs p t) start o s
 Holds (Members due ∷ fs) o s = (below : State) × (s ≡ (below.0, members due ∷ below.1)) × Holds fs o below
-Holds (Bag b ∷ fs) o s = (below : State) × (s ≡ (o, bag_members b.due (member_texts b.members) below.0 ∷ below.1)) × Holds fs b.outer.items below
+Holds (Bag b ∷ fs) o s = (below : State) × (s ≡ (o, bag_members b.due b.members below.0 ∷ below.1)) × Holds fs b.outer.items below
 Holds (Alternative ∷ fs) o s = (below : State) × (s ≡ (below.0, alternative ∷ below.1)) × Holds fs o below
 
 -- The octets and the frames stand for some state.
@@ -99,5 +95,5 @@ Cannot r fs o e = (s : State) → Holds fs o s → run r s ≡ None
 
 -- A bag behind the octets of a member that begins, or as it was.
 abbrev pub NextOfBag : Bool → BagFrame → List ℕ → BagFrame → List ℕ → Type 0
-NextOfBag true b o c p = (0 < b.due) × (c.due ≡ b.due - 1) × (c.outer ≡ b.outer) × (member_texts c.members ≡ Some (with_open (member_texts b.members) o)) × (p ≡ [])
+NextOfBag true b o c p = (0 < b.due) × (c.due ≡ b.due - 1) × (c.outer ≡ b.outer) × (c.members ≡ Some (with_open b.members o)) × (p ≡ [])
 NextOfBag false b o c p = (b.due ≡ 0) × (c ≡ b) × (p ≡ o)

@@ -1,13 +1,13 @@
 //! Bags, whose members stand in ascending order (X.696 19).
-ghost use Rattle.std.specs.Prelude.{◌≡◌, ◌++◌, map, IfOk, OnOk, MatchResult};
+ghost use Rattle.std.specs.Prelude.{◌≡◌, ◌++◌, [], ◌∷◌, map, OnOk, MatchResult};
 ghost use Rattle.asn1_model.specs.Form.{written, exactly, joined};
 ghost use Rattle.asn1_model.specs.Oer.{in_any_order};
 ghost use Rattle.asn1_schema_presented.specs.Records.{bag_begins};
 ghost use Rattle.asn1_schema_bounds.specs.Bounds.{members_of};
 ghost use Rattle.asn1_schema_constraints.specs.Terms.{sizes_of};
-ghost use Rattle.oer_codec_steps.specs.Steps.{with_open};
+ghost use Rattle.asn1_schema_order.specs.Entries.{octets_of};
 ghost use Rattle.oer_codec_encoder.specs.Frames.{NoMember};
-ghost use Rattle.oer_codec_encoder.specs.Holding.{NextOfBag, member_texts, Does, Cannot};
+ghost use Rattle.oer_codec_encoder.specs.Holding.{NextOfBag, Does, Cannot};
 ghost use Rattle.oer_codec_encoder.specs.Slots.{texts_joined};
 ghost use Rattle.oer_codec_writing.specs.Writing.{Adds};
 
@@ -17,7 +17,7 @@ use crate::sequences::count_member;
 use asn1_schema_bounds::Bounded;
 use asn1_schema_constraints::Constraints;
 use asn1_schema_faults::EncodeError;
-use asn1_schema_order::put_in_order;
+use asn1_schema_order::{Encodings, Entry};
 use oer_codec_writing::push_count;
 use std::alloc::{AllocError, Global};
 use std::mem;
@@ -50,21 +50,6 @@ pub(crate) fn begin_bag(
     Ok(())
 }
 
-/// The members of a bag, the open one behind the others.
-pub(crate) fn with_open_member(
-    alloc: Global,
-    members: Option<Vec<Vec<u8>>>,
-    last: Vec<u8>,
-) -> Result<Vec<Vec<u8>>, AllocError>
-    ensures { IfOk result (λ ms. map (λ v. v.items) ms.items ≡ with_open (member_texts members) last.items) }
-{
-    let Some(mut members) = members else {
-        return Ok(Vec::new(alloc));
-    };
-    members.push(last)?;
-    Ok(members)
-}
-
 /// Whether a further member of a bag comes (X.696 19): the octets of each stand alone, and as many come as were told.
 pub(crate) fn next_of_bag(
     octets: &mut Vec<u8>,
@@ -76,28 +61,40 @@ pub(crate) fn next_of_bag(
 {
     count_member(&mut bag.due, more)?;
     if more {
-        let last = mem::replace(octets, Vec::new(alloc));
-        bag.members = Some(with_open_member(alloc, bag.members.take(), last)?);
+        match &mut bag.members {
+            Some(members) => members.push(octets.as_slice())?,
+            None => bag.members = Some(Encodings::new(alloc)),
+        }
+        octets.clear();
     }
     Ok(())
 }
 
 /// Adds texts, one behind the other.
-fn push_each(octets: &mut Vec<u8>, texts: &[Vec<u8>]) -> Result<(), AllocError>
-    ensures { OnOk result (octets.new.items ≡ octets.old.items ++ texts_joined (map (λ v. v.items) texts.now)) }
+fn push_each(octets: &mut Vec<u8>, texts: &[Entry<'_>]) -> Result<(), AllocError>
+    ensures { OnOk result (octets.new.items ≡ octets.old.items ++ texts_joined (map octets_of texts.now)) }
 {
     for text in texts {
-        octets.extend_from_slice(text.as_slice())?;
+        octets.extend_from_slice(text.octets)?;
     }
     Ok(())
 }
 
-/// Adds the members of a bag in the ascending order of their octets (X.696 19).
-pub(crate) fn push_members(octets: &mut Vec<u8>, members: Vec<Vec<u8>>) -> Result<(), EncodeError>
-    ensures { MatchResult result (λ _. Adds (written (in_any_order (map (λ v. exactly v.items) members.items) (λ xs. joined xs)) 0) octets.old.items octets.new.items) (λ e. e ≡ EncodeError.OutOfMemory) }
+/// Adds the members of a bag, the open one behind the others, in the ascending order of their octets (X.696 19). One alone is added as it is.
+pub(crate) fn push_members(
+    octets: &mut Vec<u8>,
+    alloc: Global,
+    mut members: Encodings,
+    last: &[u8],
+) -> Result<(), EncodeError>
+    ensures { MatchResult result (λ _. Adds (written (in_any_order (map (λ w. exactly w) (members ++ last.now ∷ [])) (λ xs. joined xs)) 0) octets.old.items octets.new.items) (λ e. e ≡ EncodeError.OutOfMemory) }
 {
-    let mut ordered = members;
-    put_in_order(&mut ordered)?;
+    if members.len() == 0 {
+        octets.extend_from_slice(last)?;
+        return Ok(());
+    }
+    members.push(last)?;
+    let ordered = members.in_order(alloc)?;
     push_each(octets, ordered.as_slice())?;
     Ok(())
 }

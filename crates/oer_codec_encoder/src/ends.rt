@@ -4,7 +4,7 @@ ghost use Rattle.asn1_schema_presented.specs.Records.{ends};
 ghost use Rattle.oer_codec_encoder.specs.declared.frame.Frame.TheVariants.{Added, Bag as BagFrame};
 ghost use Rattle.oer_codec_encoder.specs.Holding.{AreSound, Does, Cannot};
 
-use crate::bags::{push_members, with_open_member};
+use crate::bags::push_members;
 use crate::bitmaps::push_additions;
 use crate::frame::{Additions, Bag, Frame};
 use crate::frames::{Enclosing, Frames};
@@ -47,7 +47,10 @@ fn end_bag(octets: &mut Vec<u8>, alloc: Global, bag: Bag) -> Result<(), EncodeEr
         return Err(EncodeError::SizeConstraintNotSatisfied);
     }
     let last = mem::replace(octets, bag.outer);
-    push_members(octets, with_open_member(alloc, bag.members, last)?)?;
+    let Some(members) = bag.members else {
+        return Ok(());
+    };
+    push_members(octets, alloc, members, last.as_slice())?;
     Ok(())
 }
 

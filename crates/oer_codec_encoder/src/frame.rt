@@ -1,5 +1,6 @@
 //! What may be open.
 
+use asn1_schema_order::Encodings;
 use asn1_values_bits::BitBuffer;
 
 /// The preamble of a sequence, a set or a group of additions (X.696 16.2), whose presence bits are told one at a time.
@@ -40,7 +41,7 @@ pub(crate) struct Bag {
     /// The octets in front of the members.
     pub(crate) outer: Vec<u8>,
     /// The octets of each member in front of the open one, if one is open.
-    pub(crate) members: Option<Vec<Vec<u8>>>,
+    pub(crate) members: Option<Encodings>,
 }
 
 /// What is open.

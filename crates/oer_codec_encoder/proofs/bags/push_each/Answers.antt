@@ -2,4 +2,4 @@ use Rattle.oer_codec_encoder.proofs.SlotTexts.{text_next}
 use Rattle.oer_codec_encoder.proofs.bags.push_each.Goals as goal
 
 pub loop-text-preserved : goal.loop-text-preserved
-loop-text-preserved c = text_next c.args.octets.now.items c.loop-text.octets.items c.extend_from_slice.new.self.items c.args.texts.now c.loop-text.text-index c.text-item.result c.as_slice.result.now c.loop-text-test.true c.text-item.is c.as_slice.ensures.value c.loop-text.invariant c.in_ok-extend_from_slice.ensures.items
+loop-text-preserved c = text_next c.args.octets.now.items c.loop-text.octets.items c.extend_from_slice.new.self.items c.args.texts.now c.loop-text.text-index _ c.loop-text-test.true c.loop-text.invariant c.in_ok-extend_from_slice.ensures.items

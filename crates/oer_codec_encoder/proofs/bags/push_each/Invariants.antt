@@ -1,6 +1,7 @@
 use Rattle.std.proofs.Common.{◌≡◌, ◌++◌, map, take}
+use Rattle.asn1_schema_order.specs.Entries.{octets_of}
 use Rattle.oer_codec_encoder.specs.Slots.{texts_joined}
 use Rattle.oer_codec_encoder.proofs.bags.push_each.Given as goal
 
 abbrev pub invariant-loop-text : goal.invariant-loop-text
-invariant-loop-text l = l.octets.items ≡ l.initial.octets.items ++ texts_joined (map (λ v. v.items) (take l.text-index l.texts))
+invariant-loop-text l = l.octets.items ≡ l.initial.octets.items ++ texts_joined (map octets_of (take l.text-index l.texts))

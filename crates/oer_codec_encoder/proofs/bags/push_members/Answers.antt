@@ -1,9 +1,15 @@
-use Rattle.std.proofs.Common.{ap, map, ◌++◌, ◌∙◌}
+use Rattle.std.proofs.Common.{[], ◌∷◌, ◌++◌, map, ap, ◌∙◌, subst, arith}
+use Rattle.asn1_schema_order.specs.Entries.{octets_of, AreInOrder}
 use Rattle.oer_codec_encoder.specs.Slots.{texts_joined}
-use Rattle.oer_codec_encoder.proofs.BagScopes.{adds_ordered}
+use Rattle.oer_codec_encoder.proofs.BagScopes.{adds_one, adds_ordered}
 use Rattle.oer_codec_encoder.proofs.bags.push_members.Goals as goal
+
+pub returns-then-len-eq0 : goal.returns-then-len-eq0
+returns-then-len-eq0 c = adds_one c.args.members c.args.last.now c.args.octets.now.items c.extend_from_slice.new.self.items (omega (arith, c.len.ensures, c.if-len-eq0.true)) c.in_ok-extend_from_slice.ensures.items
 
 pub returns : goal.returns
 returns c =
     let old = c.args.octets.now.items in
-    adds_ordered c.args.members.items c.put_in_order.new.items.items old c.push_each.new.octets.items c.in_ok-put_in_order.ensures (c.in_ok-push_each.ensures ∙ ap (λ l. old ++ texts_joined (map (λ v. v.items) l)) c.as_slice.ensures.value)
+    let ordered = c.in_ok-ordered.ordered.items in
+    adds_ordered (c.args.members ++ c.args.last.now ∷ []) ordered old c.push_each.new.octets.items (subst (λ l. AreInOrder l ordered) c.in_ok-push.ensures.ok c.in_ok-ordered.ensures)
+    (c.in_ok-push_each.ensures ∙ ap (λ l. old ++ texts_joined (map octets_of l)) c.as_slice.ensures.value)

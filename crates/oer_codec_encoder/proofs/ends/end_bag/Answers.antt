@@ -1,18 +1,15 @@
-use Rattle.std.proofs.Common.{◌∷◌, ap, subst, ◌∙◌, refl, map, arith}
-use Rattle.asn1_model.specs.Form.{written, exactly, joined}
-use Rattle.asn1_model.specs.Oer
-use Rattle.oer_codec_steps.specs.Steps.{with_open}
+use Rattle.std.proofs.Common.{[], ◌∷◌, ◌++◌, ap, subst, ◌∙◌, arith}
 use Rattle.oer_codec_writing.specs.Writing.{Adds}
-use Rattle.oer_codec_encoder.specs.declared.frame.Frame.TheVariants.{Bag}
-use Rattle.oer_codec_encoder.specs.Holding.{member_texts}
-use Rattle.oer_codec_encoder.proofs.BagScopes.{does_end_bag}
+use Rattle.oer_codec_encoder.proofs.BagScopes.{bag_text, ends_with_open, ends_without}
 use Rattle.oer_codec_encoder.proofs.ends.end_bag.Goals as goal
+
+pub returns-in_default : goal.returns-in_default
+returns-in_default c k = ends_without c.args.bag k c.args.octets.now.items c.replace-last.new.dest.items (omega (arith, c.if-bag-gt0.false)) c.in_default.is (ap (λ v. v.items) c.replace-last.ensures.after)
 
 pub returns : goal.returns
 returns c k =
-    let b = c.args.bag in
-    let all = c.in_ok-with_open_member in
     let p = c.push_members.new.octets.items in
-    does_end_bag (Bag b ∷ k) k b c.args.octets.now.items p all.field-0.items refl (omega (arith, c.if-bag-gt0.false))
-    (all.ensures ∙ ap (λ l. with_open (member_texts b.members) l) (ap (λ v. v.items) c.replace-last.ensures.value))
-    (subst (λ l. Adds (written (Oer.in_any_order (map (λ v. exactly v.items) all.field-0.items) (λ xs. joined xs)) 0) l p) (ap (λ v. v.items) c.replace-last.ensures.after) c.in_ok-push_members.ensures)
+    let q = c.replace-last.new.dest.items in
+    let last = c.as_slice.result.now in
+    ends_with_open c.args.bag k c.args.octets.now.items p q last c.in-Some.members (omega (arith, c.if-bag-gt0.false)) c.in-Some.is (c.as_slice.ensures.value ∙ ap (λ v. v.items) c.replace-last.ensures.value)
+    (ap (λ v. v.items) c.replace-last.ensures.after) (subst (λ ms. Adds (bag_text (ms ++ last ∷ [])) q p) c.in-Some.members-is c.in_ok-push_members.ensures)
