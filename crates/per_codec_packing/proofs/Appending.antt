@@ -31,9 +31,9 @@ module _ (bits : List Bool) (from f : ℕ) (fs : List ℕ) (a : Ascend from (f �
       (adds_form_fill (spread f (drop (f - from) (drop from bits)) fs) mid filled new h (subst (λ l. Adds (text_at (as_form (spread f l fs)) (place filled)) filled new) (sym left) k))
 
 module _ (bits : List Bool) (fills : List ℕ) (from done : ℕ) (old now : Packed) (i : IsAdded bits fills from done old now) where
-  module _ (f : ℕ) (h : done < length fills) (e : f ≡ get_or fills done f) where
+  module _ (f : ℕ) (h : done < length fills) (e : f ≡ get_or fills done 0) where
     split : drop done fills ≡ f ∷ drop (done + 1) fills
-    split = drop_more fills done f h ∙ ap (λ g. g ∷ drop (done + 1) fills) (sym e)
+    split = drop_more fills done 0 h ∙ ap (λ g. g ∷ drop (done + 1) fills) (sym e)
 
     ascending : Ascend from (f ∷ drop (done + 1) fills) (length bits)
     ascending = subst (λ l. Ascend from l (length bits)) split i.ascend

@@ -1,5 +1,5 @@
 -- A text that ends sooner.
-use Rattle.std.proofs.Common.{◌≡◌, ℕ, zero, suc, ◌+◌, ◌-◌, ◌<◌, ◌≤◌, min, Bool, List, [], ◌∷◌, ◌++◌, length, take, drop, inl, inr, refl, ap, subst, sym, ◌∙◌, arith, length-append}
+use Rattle.std.proofs.Common.{◌≡◌, ℕ, zero, suc, ◌+◌, ◌-◌, ◌≤◌, Bool, List, [], ◌∷◌, ◌++◌, length, take, drop, inl, inr, refl, ap, subst, sym, ◌∙◌, arith, length-append}
 use Rattle.std.proofs.lemmas.Bool.{cases_lt}
 use Rattle.std.proofs.lemmas.List.{length-drop, length-take, length-take-le, take-append-le, take-take, take-map, drop-take}
 use Rattle.std.proofs.Math.Seq.{take-append-add}
@@ -8,7 +8,7 @@ use Rattle.per_codec_texts.proofs.Texts.{length-text}
 use Rattle.per_codec_packing.specs.Packed.{Packed, solid}
 use Rattle.per_codec_packing.specs.Spread.{spread, shown, Ascend, AreFills}
 use Rattle.per_codec_packing.proofs.Bits.{solid-append, solid-bits}
-use Rattle.per_codec_packing.proofs.Spread.{up_to, goes_up, reaches, behind}
+use Rattle.per_codec_packing.proofs.Spread.{up_to, reaches, behind}
 
 -- ---- how long it is
 

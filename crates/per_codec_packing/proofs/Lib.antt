@@ -6,3 +6,4 @@ pub mod Appending
 pub mod Complete
 pub mod Placed
 pub mod Cutting
+pub mod Sharing

@@ -1,2 +1,4 @@
 pub mod Packed
 pub mod Spread
+pub mod Viewed
+pub mod Parts

@@ -1,5 +1,6 @@
 -- How a text is kept: its bits, and how many of them stand in front of each filling that is left open.
 use Rattle.std.specs.Prelude.{◌≡◌, ℕ, ◌-◌, ◌≤◌, Bool, true, List, [], ◌∷◌, ◌++◌, length, take, drop}
+use Rattle.std.specs.Coded.{×_prop, le_prop}
 use Rattle.per_codec_texts.specs.Texts.{Text, fill, as_text}
 use Rattle.per_codec_packing.specs.Packed.{Packed}
 
@@ -16,6 +17,11 @@ shown bits fills placed = record { text = spread 0 bits fills; placed = placed }
 abbrev pub Ascend : ℕ → List ℕ → ℕ → Type 0
 Ascend from [] to = from ≤ to
 Ascend from (f ∷ fs) to = (from ≤ f) × Ascend f fs to
+
+-- .. and there is at most one proof of it
+pub Ascend-prop : (from : ℕ) (fs : List ℕ) (to : ℕ) → IsProp (Ascend from fs to)
+Ascend-prop from [] to = le_prop
+Ascend-prop from (f ∷ fs) to = ×_prop le_prop (Ascend-prop f fs to)
 
 -- Filling is left open within the bits, and where the place is known there is none.
 pub record AreFills (bits : List Bool) (fills : List ℕ) (placed : Bool) : Type 0 where

@@ -2,6 +2,13 @@
 //! position is not known yet.
 #![tactic(auto)]
 
+mod completion;
 mod packing;
+mod text_view;
+mod texts;
+mod views;
 
+pub use completion::complete_in;
 pub use packing::Packing;
+pub use text_view::TextView;
+pub use texts::Texts;

@@ -1,18 +1,16 @@
 //! A text that grows at its end.
-ghost use Rattle.std.specs.Prelude.{◌≡◌, ◌+◌, ◌-◌, ◌<◌, ◌≤◌, [], ◌∷◌, true, false, length, take, replicate, Some, IfOk, OnOk, OnErr, IsTrue, ◌↔◌};
-ghost use Rattle.asn1_model.specs.Form.{written};
+ghost use Rattle.std.specs.Prelude.{◌≡◌, ◌+◌, ◌-◌, ◌<◌, ◌≤◌, [], ◌∷◌, true, false, length, take, replicate, Some, OnOk, OnErr, IsTrue, ◌↔◌};
 ghost use Rattle.asn1_model.specs.Numbers.{binary, octet_bits};
-ghost use Rattle.asn1_model.specs.Per.{complete};
 ghost use Rattle.asn1_values_bits.specs.BitStr.{bits_of};
 ghost use Rattle.per_codec_texts.specs.Texts.{as_text, plain, text_at, as_form};
 ghost use Rattle.per_codec_packing.specs.Packed.{Adds, filling_at, place, plus, solid, with_bit};
+ghost use Rattle.per_codec_packing.specs.Viewed.{text_of};
 
+use crate::text_view::TextView;
+use crate::views::{push_number, push_view};
 use asn1_values_bits::{BitBuffer, BitStr};
 use std::alloc::{AllocError, Global};
 use std::marker::Model;
-
-// How many bits are at most added as one number.
-const NUMBER_BITS: usize = 128;
 
 // How many octets are at most added as one number.
 const NUMBER_OCTETS: usize = 16;
@@ -150,20 +148,10 @@ impl Packing {
         ensures err { OnErr result (self.new ≡ self.old) }
     {
         if bytes.len() <= NUMBER_OCTETS && self.bits.len() % 8 > 0 {
-            return self.push_short(BitStr::front_of(bytes, bytes.len() * 8));
+            push_number(&mut self.bits, BitStr::front_of(bytes, bytes.len() * 8))?;
+            return Ok(());
         }
         self.bits.extend_from_bytes(bytes)?;
-        Ok(())
-    }
-
-    // Adds the bits of a view as one number. The only error is want of memory; nothing is changed then.
-    fn push_short(&mut self, bits: BitStr<'_>) -> Result<(), AllocError>
-        requires { length (bits_of bits) ≤ 128 }
-        ensures ok { OnOk result (self.new ≡ plus self.old (as_text (bits_of bits.entry))) }
-        ensures err { OnErr result (self.new ≡ self.old) }
-    {
-        let width = bits.len() as u32;
-        self.bits.push_bits(bits.first_number(width), width)?;
         Ok(())
     }
 
@@ -176,10 +164,7 @@ impl Packing {
         ensures ok { OnOk result (self.new ≡ plus self.old (as_text (bits_of bits.entry))) }
         ensures err { OnErr result (self.new ≡ self.old) }
     {
-        if bits.len() <= NUMBER_BITS {
-            return self.push_short(bits);
-        }
-        self.bits.extend_from_bitslice(bits)?;
+        push_view(&mut self.bits, bits)?;
         Ok(())
     }
 
@@ -225,27 +210,32 @@ impl Packing {
         Ok(())
     }
 
-    /// Adds another text: filling that it leaves open goes from here up to octets, where the place is known. Where memory is refused, some of it
-    /// may be there.
+    /// Adds a text: filling that it leaves open goes from here up to octets, where the place is known.
     ///
     /// # Errors
     ///
     /// Want of memory; a part of the text may then be there.
-    pub fn append(&mut self, other: &Packing) -> Result<(), AllocError>
-        ensures { OnOk result (Adds (text_at (as_form other.now.text) (place self.old)) self.old self.new) }
+    pub fn append_text(&mut self, text: TextView<'_>) -> Result<(), AllocError>
+        ensures { OnOk result (Adds (text_at (as_form (text_of text.entry)) (place self.old)) self.old self.new) }
     {
-        let bits = other.bits.as_bitslice();
         let mut from = 0;
-        let mut done = 0;
-        while done < other.fills.len() {
-            let fill = other.fills[done];
-            self.extend_from_bitslice(bits.split_at(fill).0.split_at(from).1)?;
+        for fill in text.fills {
+            self.extend_from_bitslice(text.bits.split_at(*fill).0.split_at(from).1)?;
             self.align()?;
-            from = fill;
-            done += 1;
+            from = *fill;
         }
-        self.extend_from_bitslice(bits.split_at(from).1)?;
+        self.extend_from_bitslice(text.bits.split_at(from).1)?;
         Ok(())
+    }
+
+    /// A view of the text.
+    pub fn as_text(&self) -> TextView<'_>
+        ensures { text_of result ≡ self.now.text }
+    {
+        TextView {
+            bits: self.bits.as_bitslice(),
+            fills: self.fills.as_slice(),
+        }
     }
 
     /// The bits, without filling that is left open: all there is, where the place is known.
@@ -267,25 +257,5 @@ impl Packing {
             is_placed: _,
         } = self;
         bits
-    }
-
-    /// The complete encoding of the text where it stands alone (X.691 11.1): filled up with zero bits to whole octets, and one zero octet in
-    /// place of no bits. By these the members of a bag are put in order (X.691 22).
-    ///
-    /// # Errors
-    ///
-    /// Want of memory.
-    pub fn complete(&self, alloc: Global) -> Result<Vec<u8>, AllocError>
-        ensures { IfOk result (λ octets. written (complete (as_form self.now.text)) 0 ≡ Some (octet_bits octets.items)) }
-    {
-        let mut alone = Packing::new(alloc);
-        alone.append(self)?;
-        let bits = alone.into_bits();
-        if bits.is_empty() {
-            let mut octets = bits.into_vec();
-            octets.push(0)?;
-            return Ok(octets);
-        }
-        Ok(bits.into_vec())
     }
 }

@@ -1,0 +1,109 @@
+//! Texts that share memory.
+ghost use Rattle.std.specs.Prelude.{◌≡◌, ◌<◌, ◌++◌, [], ◌∷◌, length, get_or, OnOk, OnErr};
+ghost use Rattle.per_codec_packing.specs.Viewed.{text_of};
+
+use crate::packing::Packing;
+use crate::text_view::TextView;
+use crate::views::push_view;
+use asn1_values_bits::BitBuffer;
+use std::alloc::{AllocError, Global};
+use std::marker::Model;
+
+// From where on and up to where something stands.
+#[derive(Clone, Copy)]
+struct Span {
+    from: usize,
+    to: usize,
+}
+
+// Where a text stands.
+#[derive(Clone, Copy)]
+struct Part {
+    bits: Span,
+    fills: Span,
+}
+
+/// Texts whose places are not known, as those of the members of a bag, one behind the other in memory that they share.
+#[derive(Drop)]
+pub struct Texts {
+    // The bits of all, without filling that is left open.
+    bits: BitBuffer,
+    // How many bits of its text stand in front of each filling that is left open.
+    fills: Vec<usize>,
+    parts: Vec<Part>,
+}
+
+impl Model for Texts {
+    ghost use Rattle.std.specs.Prelude.{List};
+    ghost use Rattle.per_codec_texts.specs.Texts.{Text};
+
+    ghost Value = { List Text };
+
+    ghost use Rattle.per_codec_packing.specs.Parts.{texts_in, AreParts};
+
+    ghost view = { λ t. texts_in t.bits t.fills.items t.parts.items };
+
+    ghost invariant = { λ t. AreParts t.bits t.fills.items t.parts.items };
+}
+
+impl Texts {
+    /// No texts. It takes no memory before it is handed one.
+    pub fn new(alloc: Global) -> Self
+        ensures { result ≡ [] }
+    {
+        Texts {
+            bits: BitBuffer::new(alloc),
+            fills: Vec::new(alloc),
+            parts: Vec::new(alloc),
+        }
+    }
+
+    /// How many texts there are.
+    pub fn len(&self) -> usize
+        ensures { result ≡ length self.now }
+    {
+        self.parts.len()
+    }
+
+    /// Adds a text behind the others.
+    ///
+    /// # Errors
+    ///
+    /// Want of memory; nothing is changed then.
+    pub fn push(&mut self, text: &Packing) -> Result<(), AllocError>
+        ensures ok { OnOk result (self.new ≡ self.old ++ (text.now.text ∷ [])) }
+        ensures err { OnErr result (self.new ≡ self.old) }
+    {
+        let added = text.as_text();
+        let first_bit = self.bits.len();
+        let first_fill = self.fills.len();
+        push_view(&mut self.bits, added.bits)?;
+        self.fills.extend_from_slice(added.fills)?;
+        let part = Part {
+            bits: Span {
+                from: first_bit,
+                to: self.bits.len(),
+            },
+            fills: Span {
+                from: first_fill,
+                to: self.fills.len(),
+            },
+        };
+        self.parts.push(part)?;
+        Ok(())
+    }
+
+    /// The text at a place.
+    pub fn get(&self, index: usize) -> TextView<'_>
+        requires { index < length self.now }
+        ensures { text_of result ≡ get_or self.now index [] }
+    {
+        let part = self.parts[index];
+        let front = self.bits.as_bitslice().split_at(part.bits.to).0;
+        let fills = &self.fills[part.fills.from..part.fills.to];
+        TextView {
+            bits: front.split_at(part.bits.from).1,
+            fills,
+        }
+    }
+}

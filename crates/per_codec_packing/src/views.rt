@@ -1,0 +1,32 @@
+//! Bits of views that are added to others.
+ghost use Rattle.std.specs.Prelude.{◌≡◌, ◌≤◌, ◌++◌, length, OnOk, OnErr};
+ghost use Rattle.asn1_values_bits.specs.BitStr.{bits_of};
+
+use asn1_values_bits::{BitBuffer, BitStr};
+use std::alloc::AllocError;
+
+// How many bits are at most added as one number.
+const NUMBER_BITS: usize = 128;
+
+// Adds the bits of a view as one number. The only error is want of memory; nothing is changed then.
+pub(crate) fn push_number(buffer: &mut BitBuffer, bits: BitStr<'_>) -> Result<(), AllocError>
+    requires { length (bits_of bits) ≤ 128 }
+    ensures ok { OnOk result (buffer.new ≡ buffer.old ++ bits_of bits.entry) }
+    ensures err { OnErr result (buffer.new ≡ buffer.old) }
+{
+    let width = bits.len() as u32;
+    buffer.push_bits(bits.first_number(width), width)?;
+    Ok(())
+}
+
+// Adds the bits of a view, few of them as one number. The only error is want of memory; nothing is changed then.
+pub(crate) fn push_view(buffer: &mut BitBuffer, bits: BitStr<'_>) -> Result<(), AllocError>
+    ensures ok { OnOk result (buffer.new ≡ buffer.old ++ bits_of bits.entry) }
+    ensures err { OnErr result (buffer.new ≡ buffer.old) }
+{
+    if bits.len() <= NUMBER_BITS {
+        return push_number(buffer, bits);
+    }
+    buffer.extend_from_bitslice(bits)?;
+    Ok(())
+}
