@@ -1,18 +1,16 @@
--- Members beside their complete encodings, one after another.
-use Rattle.std.proofs.Common.{◌≡◌, List, [], ◌∷◌, ◌++◌, length, refl, subst, sym, arith}
-use Rattle.per_codec_writing.specs.Writing.{Packed}
+-- Texts beside their complete encodings, one after another.
+use Rattle.std.proofs.Common.{◌≡◌, ℕ, ◌+◌, ◌<◌, List, [], ◌∷◌, ◌++◌, length, take, get_or, ap, subst, sym, ◌∙◌}
+use Rattle.std.proofs.lemmas.List.{take_more}
+use Rattle.per_codec_texts.specs.Texts.{Text}
 use Rattle.per_codec_writing.specs.Keys.{IsKeyed, AreKeyed}
-use Rattle.per_codec_writing.specs.declared.members.Member.{Member}
 
-one_behind : (ps : List Packed) (ms : List Member) (p : Packed) (m : Member) → AreKeyed ps ms → IsKeyed p m → AreKeyed (ps ++ p ∷ []) (ms ++ m ∷ [])
-one_behind [] [] p m r k = (k, tt)
-one_behind [] (n ∷ ms) p m r k = absurd r
-one_behind (q ∷ ps) [] p m r k = absurd r
-one_behind (q ∷ ps) (n ∷ ms) p m r k = (r.0, one_behind ps ms p m r.1 k)
+one_behind : (ts : List Text) (ws : List (List ℕ)) (t : Text) (w : List ℕ) → AreKeyed ts ws → IsKeyed t w → AreKeyed (ts ++ t ∷ []) (ws ++ w ∷ [])
+one_behind [] [] t w r k = (k, tt)
+one_behind [] (v ∷ ws) t w r k = absurd r
+one_behind (s ∷ ts) [] t w r k = absurd r
+one_behind (s ∷ ts) (v ∷ ws) t w r k = (r.0, one_behind ts ws t w r.1 k)
 
-pub next_keyed : (ps : List Packed) (ms all : List Member) (p : Packed) (m : Member) → AreKeyed ps ms → IsKeyed p m → all ≡ ms ++ m ∷ [] → AreKeyed (ps ++ p ∷ []) all
-next_keyed ps ms all p m r k e = subst (AreKeyed (ps ++ p ∷ [])) (sym e) (one_behind ps ms p m r k)
-
-pub nothing_left : {X : Type 0} (l : List X) → length l ≡ 0 → l ≡ []
-nothing_left [] h = refl
-nothing_left (x ∷ xs) h = absurd (omega arith)
+pub next_keyed : (ts : List Text) (ws all : List (List ℕ)) (i : ℕ) (t : Text) (w : List ℕ) → i < length ts → AreKeyed (take i ts) ws → t ≡ get_or ts i [] → IsKeyed t w → all ≡ ws ++ w ∷ [] → AreKeyed (take (i + 1) ts) all
+next_keyed ts ws all i t w h r e k f =
+    subst (AreKeyed (take (i + 1) ts)) (sym f)
+    (subst (λ us. AreKeyed us (ws ++ w ∷ [])) (ap (λ u. take i ts ++ u ∷ []) e ∙ sym (take_more ts i [] h)) (one_behind (take i ts) ws t w r k))

@@ -1,30 +1,19 @@
--- The texts of members in the order of their complete encodings are those in the order of the octets of these.
-use Rattle.std.proofs.Common.{◌≡◌, ℕ, Bool, true, false, cond, ltb, List, [], ◌∷◌, map, Option, Some, option_map, option_and_then, refl, ap, sym, ◌∙◌}
+-- Texts in the order of their complete encodings are those in the order of the octets of these.
+use Rattle.std.proofs.Common.{◌≡◌, ℕ, zero, suc, ◌+◌, ◌<◌, Bool, true, false, cond, ltb, List, [], ◌∷◌, ◌++◌, length, map, take, drop, get_or, Option, Some, option_map, option_and_then, refl, ap, subst, sym, ◌∙◌, add-one, arith}
 use Rattle.std.specs.Prelude.{⊤}
+use Rattle.std.proofs.lemmas.List.{length-drop, drop_more, take_more, map-append}
 use Rattle.asn1_model.specs.Form.{written, ascending, with_keys, put_in_place, stands_before, given}
 use Rattle.asn1_model.specs.Numbers.{octet_bits}
 use Rattle.asn1_model.specs.Strings.{each_is, is_octet}
 use Rattle.asn1_model.specs.Per
 use Rattle.asn1_laws_numbers.proofs.Ordered.{ordered_as_bits}
-use Rattle.per_codec_texts.specs.Texts.{text_at, as_form}
-use Rattle.per_codec_writing.specs.Writing.{Packed}
+use Rattle.asn1_schema_order.specs.Entries.{octets_of, ArePlaced, AreInOrder}
+use Rattle.asn1_schema_order.specs.declared.encodings.Entry.{Entry}
+use Rattle.per_codec_texts.specs.Texts.{Text, text_at, as_form}
+use Rattle.per_codec_packing.specs.Viewed.{text_of}
+use Rattle.per_codec_packing.specs.declared.text_view.TextView.{TextView}
 use Rattle.per_codec_writing.specs.Keys.{AreKeyed}
 use Rattle.per_codec_writing.specs.Members.{forms, forms_of}
-use Rattle.per_codec_writing.specs.declared.members.Member.{Member}
-
-abbrev Entry : Type 0
-Entry = List ℕ × Member
-
-abbrev form_of : Member → Per.BitForm
-form_of m = as_form m.packing.text
-
--- the entry by its bits
-abbrev turned : Entry → List Bool × Per.BitForm
-turned e = (octet_bits e.0, form_of e.1)
-
-abbrev OctetKeys : List Entry → Type 0
-OctetKeys [] = ⊤
-OctetKeys (e ∷ es) = (each_is is_octet e.0 ≡ true) × OctetKeys es
 
 abbrev by_bits : List Bool → List Bool → Bool
 by_bits = stands_before Per.bit_less
@@ -32,75 +21,139 @@ by_bits = stands_before Per.bit_less
 abbrev by_octets : List ℕ → List ℕ → Bool
 by_octets = stands_before ltb
 
-put_turned : (e : Entry) (es : List Entry) → each_is is_octet e.0 ≡ true → OctetKeys es → put_in_place by_bits (turned e) (map turned es) ≡ map turned (put_in_place by_octets e es)
-put_turned e [] h k = refl
-put_turned e (d ∷ es) h k =
-    ap (λ b. cond b (turned d ∷ put_in_place by_bits (turned e) (map turned es)) (turned e ∷ turned d ∷ map turned es)) (ordered_as_bits d.0 e.0 k.0 h)
-    ∙ go (by_octets d.0 e.0) (put_turned e es h k.1)
-  where
-    go : (b : Bool) → put_in_place by_bits (turned e) (map turned es) ≡ map turned (put_in_place by_octets e es) → cond b (turned d ∷ put_in_place by_bits (turned e) (map turned es)) (turned e ∷ turned d ∷ map turned es) ≡ map turned (cond b (d ∷ put_in_place by_octets e es) (e ∷ d ∷ es))
-    go true i = ap (λ l. turned d ∷ l) i
-    go false i = refl
-
-put_octets : (e : Entry) (es : List Entry) → each_is is_octet e.0 ≡ true → OctetKeys es → OctetKeys (put_in_place by_octets e es)
-put_octets e [] h k = (h, tt)
-put_octets e (d ∷ es) h k = go (by_octets d.0 e.0) (put_octets e es h k.1)
-  where
-    go : (b : Bool) → OctetKeys (put_in_place by_octets e es) → OctetKeys (cond b (d ∷ put_in_place by_octets e es) (e ∷ d ∷ es))
-    go true i = (k.0, i)
-    go false i = (h, k)
-
 abbrev key : Per.BitForm → Option (List Bool)
 key x = written (Per.complete x) 0
 
-abbrev own : Member → Option (List ℕ)
-own m = Some m.octets.items
+abbrev own : Entry → Option (List ℕ)
+own e = Some (octets_of e)
 
--- the entries of members, by octets and by bits
-record Entered (ps : List Packed) (ms : List Member) : Type 0 where
-  entries : List Entry
-  octets : OctetKeys entries
-  owned : with_keys own by_octets ms ≡ Some entries
-  keyed : with_keys key by_bits (forms ps) ≡ Some (map turned entries)
+-- an entry beside its octets
+abbrev Held : Type 0
+Held = List ℕ × Entry
 
-entered : (ps : List Packed) (ms : List Member) → AreKeyed ps ms → Entered ps ms
-entered [] (m ∷ ms) r = absurd r
-entered (p ∷ ps) [] r = absurd r
-entered [] [] r = record { entries = []; octets = tt; owned = refl; keyed = refl }
-entered (p ∷ ps) (m ∷ ms) r = go (entered ps ms r.1)
-  where
-    entry : Entry
-    entry = (m.octets.items, m)
+-- the entries are of some texts, and have octets
+abbrev AreOf : List Text → List Held → Type 0
+AreOf ts [] = ⊤
+AreOf ts (e ∷ es) = (each_is is_octet e.0 ≡ true) × (e.1.index < length ts) × AreOf ts es
 
-    go : Entered ps ms → Entered (p ∷ ps) (m ∷ ms)
-    go i = record {
-      entries = put_in_place by_octets entry i.entries;
-      octets = put_octets entry i.entries r.0.octets i.octets;
-      owned = ap (option_map (λ es. put_in_place by_octets entry es)) i.owned;
-      keyed =
-          ap (option_and_then (λ b. option_map (λ es. put_in_place by_bits (b, as_form p.text) es) (with_keys key by_bits (forms ps)))) r.0.key
-          ∙ ap (option_map (λ es. put_in_place by_bits (octet_bits m.octets.items, as_form p.text) es)) i.keyed
-          ∙ ap (λ (q : Packed). Some (put_in_place by_bits (octet_bits m.octets.items, as_form q.text) (map turned i.entries))) (sym r.0.same)
-          ∙ ap Some (put_turned entry i.entries r.0.octets i.octets);
-    }
+-- entries are of some texts
+abbrev pub AreWithin : List Text → List Entry → Type 0
+AreWithin ts [] = ⊤
+AreWithin ts (e ∷ es) = (e.index < length ts) × AreWithin ts es
 
-last_turned : (es : List Entry) → map (λ (e : List Bool × Per.BitForm). e.1) (map turned es) ≡ forms_of (map (λ (e : Entry). e.1) es)
-last_turned [] = refl
-last_turned (e ∷ es) = ap (λ l. form_of e.1 ∷ l) (last_turned es)
+module _ (ts : List Text) where
+  -- the text of an entry, as a form
+  abbrev pub form_at : Entry → Per.BitForm
+  form_at e = as_form (get_or ts e.index [])
 
-pub in_order_of_bits : (ps : List Packed) (ms ss : List Member) → AreKeyed ps ms → ascending (λ (m : Member). Some m.octets.items) (stands_before ltb) ms ≡ Some ss → ascending key by_bits (forms ps) ≡ Some (forms_of ss)
-in_order_of_bits ps ms ss r e =
-    let i = entered ps ms r in
-    let owned : Some (map (λ (e : Entry). e.1) i.entries) ≡ Some ss = sym (ap (option_map (map (λ (e : Entry). e.1))) i.owned) ∙ e in
-    let same : map (λ (e : Entry). e.1) i.entries ≡ ss = cc in
-    ap (option_map (map (λ (e : List Bool × Per.BitForm). e.1))) i.keyed ∙ ap Some (last_turned i.entries ∙ ap forms_of same)
+  -- .. and beside its bits
+  abbrev turned : Held → List Bool × Per.BitForm
+  turned e = (octet_bits e.0, form_at e.1)
+
+  put_turned : (e : Held) (es : List Held) → each_is is_octet e.0 ≡ true → AreOf ts es → put_in_place by_bits (turned e) (map turned es) ≡ map turned (put_in_place by_octets e es)
+  put_turned e [] h k = refl
+  put_turned e (d ∷ es) h k =
+      ap (λ b. cond b (turned d ∷ put_in_place by_bits (turned e) (map turned es)) (turned e ∷ turned d ∷ map turned es)) (ordered_as_bits d.0 e.0 k.0 h)
+      ∙ go (by_octets d.0 e.0) (put_turned e es h k.2)
+    where
+      go : (b : Bool) → put_in_place by_bits (turned e) (map turned es) ≡ map turned (put_in_place by_octets e es) → cond b (turned d ∷ put_in_place by_bits (turned e) (map turned es)) (turned e ∷ turned d ∷ map turned es) ≡ map turned (cond b (d ∷ put_in_place by_octets e es) (e ∷ d ∷ es))
+      go true i = ap (λ l. turned d ∷ l) i
+      go false i = refl
+
+  put_of : (e : Held) (es : List Held) → each_is is_octet e.0 ≡ true → e.1.index < length ts → AreOf ts es → AreOf ts (put_in_place by_octets e es)
+  put_of e [] h l k = (h, l, tt)
+  put_of e (d ∷ es) h l k = go (by_octets d.0 e.0) (put_of e es h l k.2)
+    where
+      go : (b : Bool) → AreOf ts (put_in_place by_octets e es) → AreOf ts (cond b (d ∷ put_in_place by_octets e es) (e ∷ d ∷ es))
+      go true i = (k.0, k.1, i)
+      go false i = (h, l, k)
+
+  -- the entries of texts, by octets and by bits
+  record Entered (us : List Text) (es : List Entry) : Type 0 where
+    held : List Held
+    sound : AreOf ts held
+    owned : with_keys own by_octets es ≡ Some held
+    keyed : with_keys key by_bits (forms us) ≡ Some (map turned held)
+
+  -- the text at a place, and those behind it
+  front : (i : ℕ) (u : Text) (us : List Text) → drop i ts ≡ u ∷ us → (i < length ts) × (get_or ts i [] ≡ u) × (drop (suc i) ts ≡ us)
+  front i u us e =
+      let l : i < length ts = omega (arith, length-drop i ts, ap length e) in
+      let d : get_or ts i [] ∷ drop (suc i) ts ≡ u ∷ us = ap (λ n. get_or ts i [] ∷ drop n ts) (sym (add-one i)) ∙ sym (drop_more ts i [] l) ∙ e in
+      (l, cc, cc)
+
+  entered : (i : ℕ) (us : List Text) (ws : List (List ℕ)) (es : List Entry) → drop i ts ≡ us → AreKeyed us ws → ArePlaced i ws es → Entered us es
+  entered i [] (w ∷ ws) es d r p = absurd r
+  entered i (u ∷ us) [] es d r p = absurd r
+  entered i [] [] (e ∷ es) d r p = absurd p
+  entered i (u ∷ us) (w ∷ ws) [] d r p = absurd p
+  entered i [] [] [] d r p = record { held = []; sound = tt; owned = refl; keyed = refl }
+  entered i (u ∷ us) (w ∷ ws) (e ∷ es) d r p = go (entered (suc i) us ws es at.2 r.1 p.2)
+    where
+      at : (i < length ts) × (get_or ts i [] ≡ u) × (drop (suc i) ts ≡ us)
+      at = front i u us d
+
+      entry : Held
+      entry = (octets_of e, e)
+
+      octets : each_is is_octet (octets_of e) ≡ true
+      octets = ap (each_is is_octet) p.0 ∙ r.0.octets
+
+      text : get_or ts e.index [] ≡ u
+      text = ap (λ k. get_or ts k []) p.1 ∙ at.1
+
+      within : e.index < length ts
+      within = subst (λ k. k < length ts) (sym p.1) at.0
+
+      go : Entered us es → Entered (u ∷ us) (e ∷ es)
+      go x = record {
+        held = put_in_place by_octets entry x.held;
+        sound = put_of entry x.held octets within x.sound;
+        owned = ap (option_map (λ l. put_in_place by_octets entry l)) x.owned;
+        keyed =
+            ap (option_and_then (λ b. option_map (λ l. put_in_place by_bits (b, as_form u) l) (with_keys key by_bits (forms us)))) r.0.key
+            ∙ ap (option_map (λ l. put_in_place by_bits (octet_bits w, as_form u) l)) x.keyed
+            ∙ ap (λ v. Some (put_in_place by_bits (octet_bits v, as_form u) (map turned x.held))) (sym p.0)
+            ∙ ap (λ t. Some (put_in_place by_bits (octet_bits (octets_of e), as_form t) (map turned x.held))) (sym text)
+            ∙ ap Some (put_turned entry x.held octets x.sound);
+      }
+
+  last_turned : (es : List Held) → map (λ (e : List Bool × Per.BitForm). e.1) (map turned es) ≡ map form_at (map (λ (e : Held). e.1) es)
+  last_turned [] = refl
+  last_turned (e ∷ es) = ap (λ l. form_at e.1 ∷ l) (last_turned es)
+
+  last_within : (es : List Held) → AreOf ts es → AreWithin ts (map (λ (e : Held). e.1) es)
+  last_within [] h = tt
+  last_within (e ∷ es) h = (h.1, last_within es h.2)
+
+  module _ (ws : List (List ℕ)) (entries : List Entry) (r : AreKeyed ts ws) (o : AreInOrder ws entries) where
+    all : Entered ts o.all
+    all = entered 0 ts ws o.all refl r o.placed
+
+    sorted : map (λ (e : Held). e.1) all.held ≡ entries
+    sorted = let e : Some (map (λ (e : Held). e.1) all.held) ≡ Some entries = sym (ap (option_map (map (λ (e : Held). e.1))) all.owned) ∙ o.ascend in cc
+
+    pub entries_within : AreWithin ts entries
+    entries_within = subst (AreWithin ts) sorted (last_within all.held all.sound)
+
+    pub in_order_of_bits : (vs : List TextView) → forms_of vs ≡ map form_at entries → ascending key by_bits (forms ts) ≡ Some (forms_of vs)
+    in_order_of_bits vs e =
+        ap (option_map (map (λ (e : List Bool × Per.BitForm). e.1))) all.keyed ∙ ap Some (last_turned all.held ∙ ap (map form_at) sorted ∙ sym e)
+
+pub within_at : (ts : List Text) (es : List Entry) (k : ℕ) (e d : Entry) → AreWithin ts es → k < length es → e ≡ get_or es k d → e.index < length ts
+within_at ts [] k e d h l q = absurd (omega arith)
+within_at ts (f ∷ es) zero e d h l q = subst (λ (x : Entry). x.index < length ts) (sym q) h.0
+within_at ts (f ∷ es) (suc k) e d h l q = within_at ts es k e d h.1 (omega arith) q
+
+-- one view more of the texts of entries
+pub next_of : (ts : List Text) (es : List Entry) (vs more : List TextView) (k : ℕ) (e d : Entry) (v : TextView) → k < length es → forms_of vs ≡ map (form_at ts) (take k es) → e ≡ get_or es k d → text_of v ≡ get_or ts e.index [] → more ≡ vs ++ v ∷ [] → forms_of more ≡ map (form_at ts) (take (k + 1) es)
+next_of ts es vs more k e d v l h q t f =
+    ap forms_of f ∙ map-append (λ u. as_form (text_of u)) vs (v ∷ [])
+    ∙ ap (λ us. us ++ as_form (text_of v) ∷ []) h ∙ ap (λ u. map (form_at ts) (take k es) ++ as_form u ∷ []) t
+    ∙ sym (map-append (form_at ts) (take k es) (e ∷ []))
+    ∙ ap (map (form_at ts)) (ap (λ x. take k es ++ x ∷ []) q ∙ sym (take_more es k d l))
 
 -- the text of a bag is that of the list of its members in order
-pub bag_text : (ps : List Packed) (ms ss : List Member) (f : List Per.BitForm → Per.BitForm) (q : Option ℕ) → AreKeyed ps ms → ascending (λ (m : Member). Some m.octets.items) (stands_before ltb) ms ≡ Some ss → text_at (Per.in_any_order (forms ps) f) q ≡ text_at (f (forms_of ss)) q
+pub bag_text : (ts : List Text) (vs : List TextView) (f : List Per.BitForm → Per.BitForm) (q : Option ℕ) → ascending (λ x. written (Per.complete x) 0) (stands_before Per.bit_less) (forms ts) ≡ Some (forms_of vs) → text_at (Per.in_any_order (forms ts) f) q ≡ text_at (f (forms_of vs)) q
 unfolding text_at Per.in_any_order
-bag_text ps ms ss f q r e = ap (λ o. text_at (given o f) q) (in_order_of_bits ps ms ss r e)
-
--- the members as forms are their texts as forms
-pub forms-texts : (ps : List Packed) → forms ps ≡ map (λ t. as_form t) (map (λ (p : Packed). p.text) ps)
-forms-texts [] = refl
-forms-texts (p ∷ ps) = ap (λ l. as_form p.text ∷ l) (forms-texts ps)
+bag_text ts vs f q e = ap (λ o. text_at (given o f) q) e

@@ -1,15 +1,15 @@
 -- The texts of places.
-use Rattle.std.proofs.Common.{◌≡◌, ℕ, ◌-◌, ℤ, Bool, true, false, not, List, [], ◌∷◌, ◌++◌, length, Option, Some, None, refl, ap, subst, sym, ◌∙◌}
+use Rattle.std.proofs.Common.{◌≡◌, ℕ, ◌-◌, ℤ, Bool, true, false, not, List, [], ◌∷◌, length, Option, Some, None, refl, ap, sym, ◌∙◌}
 use Rattle.std.specs.Prelude.{Result, MatchOption, is_some}
 use Rattle.std.proofs.lemmas.List.{append-nil}
-use Rattle.asn1_model.specs.Form.{exactly, both}
+use Rattle.asn1_model.specs.Form.{exactly}
 use Rattle.asn1_model.specs.Schema.{enumerated}
 use Rattle.asn1_model.specs.Tables.{item_place}
 use Rattle.asn1_model.specs.Value.{item}
 use Rattle.asn1_model.specs.Per
 use Rattle.asn1_schema_faults.specs.declared.EncodeError.{EncodeError}
 use Rattle.asn1_schema_variants.specs.Items.{IsPlaced}
-use Rattle.per_codec_texts.specs.Texts.{Text, as_text, text_at}
+use Rattle.per_codec_texts.specs.Texts.{as_text, text_at}
 use Rattle.per_codec_writing.specs.Writing.{Packed, Adds, place, plus}
 use Rattle.per_codec_writing.proofs.FillingTexts.{adds_text, adds_both}
 use Rattle.per_codec_writing.proofs.NumberTexts.{Did, did_same, did_behind}

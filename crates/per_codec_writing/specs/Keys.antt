@@ -1,22 +1,19 @@
--- Members beside their complete encodings.
-use Rattle.std.specs.Prelude.{◌≡◌, ⊤, true, List, [], ◌∷◌, Some}
+-- Texts beside their complete encodings.
+use Rattle.std.specs.Prelude.{◌≡◌, ℕ, ⊤, true, List, [], ◌∷◌, Some}
 use Rattle.asn1_model.specs.Form.{written}
 use Rattle.asn1_model.specs.Numbers.{octet_bits}
 use Rattle.asn1_model.specs.Strings.{each_is, is_octet}
 use Rattle.asn1_model.specs.Per.{complete}
-use Rattle.per_codec_texts.specs.Texts.{as_form}
-use Rattle.per_codec_packing.specs.Packed.{Packed}
-use Rattle.per_codec_writing.specs.declared.members.Member.{Member}
+use Rattle.per_codec_texts.specs.Texts.{Text, as_form}
 
--- The member's octets are the complete encoding of its text (X.691 11.1).
-pub record IsKeyed (p : Packed) (m : Member) : Type 0 where
-  pub same : m.packing ≡ p
-  pub octets : each_is is_octet m.octets.items ≡ true
-  pub key : written (complete (as_form p.text)) 0 ≡ Some (octet_bits m.octets.items)
+-- The octets are the complete encoding of the text (X.691 11.1).
+pub record IsKeyed (t : Text) (w : List ℕ) : Type 0 where
+  pub octets : each_is is_octet w ≡ true
+  pub key : written (complete (as_form t)) 0 ≡ Some (octet_bits w)
 
--- These members are those, each beside its complete encoding.
-abbrev pub AreKeyed : List Packed → List Member → Type 0
+-- These are the complete encodings of the texts.
+abbrev pub AreKeyed : List Text → List (List ℕ) → Type 0
 AreKeyed [] [] = ⊤
-AreKeyed [] (m ∷ ms) = ⊥
-AreKeyed (p ∷ ps) [] = ⊥
-AreKeyed (p ∷ ps) (m ∷ ms) = IsKeyed p m × AreKeyed ps ms
+AreKeyed [] (w ∷ ws) = ⊥
+AreKeyed (t ∷ ts) [] = ⊥
+AreKeyed (t ∷ ts) (w ∷ ws) = IsKeyed t w × AreKeyed ts ws

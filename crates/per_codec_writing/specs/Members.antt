@@ -1,14 +1,14 @@
 -- The members of a bag.
 use Rattle.std.specs.Prelude.{List, map}
 use Rattle.asn1_model.specs.Per
-use Rattle.per_codec_texts.specs.Texts.{as_form}
-use Rattle.per_codec_packing.specs.Packed.{Packed}
-use Rattle.per_codec_writing.specs.declared.members.Member.{Member}
+use Rattle.per_codec_texts.specs.Texts.{Text, as_form}
+use Rattle.per_codec_packing.specs.Viewed.{text_of}
+use Rattle.per_codec_packing.specs.declared.text_view.TextView.{TextView}
 
--- The members as they are handed over: each with its own text.
-abbrev pub forms : List Packed → List Per.BitForm
-forms ms = map (λ (m : Packed). as_form m.text) ms
+-- The members by their texts.
+abbrev pub forms : List Text → List Per.BitForm
+forms ts = map (λ t. as_form t) ts
 
--- The members with their complete encodings beside them, as forms.
-abbrev pub forms_of : List Member → List Per.BitForm
-forms_of ms = map (λ (m : Member). as_form m.packing.text) ms
+-- The members by views of their texts.
+abbrev pub forms_of : List TextView → List Per.BitForm
+forms_of vs = map (λ v. as_form (text_of v)) vs

@@ -7,13 +7,12 @@ ghost use Rattle.per_codec_texts.specs.Texts.{text_at};
 ghost use Rattle.per_codec_writing.specs.Writing.{Adds, Refuses, place};
 ghost use Rattle.per_codec_writing.specs.Members.{forms};
 
-use crate::members::with_encodings;
+use crate::members::in_order;
 use crate::sized_members::push_sized;
 use asn1_schema_bounds::Bounded;
 use asn1_schema_constraints::Constraints;
 use asn1_schema_faults::EncodeError;
-use asn1_schema_order::put_in_order;
-use per_codec_packing::Packing;
+use per_codec_packing::{Packing, Texts};
 use std::alloc::Global;
 
 /// Adds the members of a bag behind their number, in the ascending order of their complete encodings (X.691 22), those of the same encoding as
@@ -28,12 +27,11 @@ pub fn push_bag(
     aligned: bool,
     constraints: Constraints,
     held: Bounded<usize>,
-    members: Vec<Packing>,
+    members: &Texts,
 ) -> Result<(), EncodeError>
-    ensures { MatchResult result (λ _. Adds (text_at (in_any_order (forms members.items) (λ us. sized aligned (sizes_of constraints.entry.size) (members_of held) never us)) (place output.old)) output.old output.new) (Refuses (text_at (in_any_order (forms members.items) (λ us. sized aligned (sizes_of constraints.entry.size) (members_of held) never us)) (place output.old))) }
+    ensures { MatchResult result (λ _. Adds (text_at (in_any_order (forms members.now) (λ us. sized aligned (sizes_of constraints.entry.size) (members_of held) never us)) (place output.old)) output.old output.new) (Refuses (text_at (in_any_order (forms members.now) (λ us. sized aligned (sizes_of constraints.entry.size) (members_of held) never us)) (place output.old))) }
 {
-    let mut ordered = with_encodings(alloc, members)?;
-    put_in_order(&mut ordered)?;
+    let ordered = in_order(alloc, members)?;
     push_sized(output, aligned, constraints, held, ordered.as_slice())?;
     Ok(())
 }

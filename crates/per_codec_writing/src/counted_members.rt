@@ -5,10 +5,10 @@ ghost use Rattle.per_codec_texts.specs.Texts.{text_at};
 ghost use Rattle.per_codec_writing.specs.Writing.{Adds, place};
 ghost use Rattle.per_codec_writing.specs.Members.{forms_of};
 
-use crate::members::{Member, push_each};
+use crate::members::push_each;
 use crate::{push_fragment_length, push_short_length};
 use asn1_schema_faults::EncodeError;
-use per_codec_packing::Packing;
+use per_codec_packing::{Packing, TextView};
 
 /// How many members make a fragment of the smallest size (X.691 11.9.3.8).
 const FRAGMENT: usize = 16384;
@@ -18,7 +18,7 @@ const FRAGMENT: usize = 16384;
 pub(crate) fn push_counted(
     output: &mut Packing,
     aligned: bool,
-    members: &[Member],
+    members: &[TextView<'_>],
 ) -> Result<(), EncodeError>
     ensures { MatchResult result (λ _. Adds (text_at (counted aligned (forms_of members.now)) (place output.old)) output.old output.new) (λ e. e ≡ EncodeError.OutOfMemory) }
 {

@@ -1,71 +1,56 @@
-//! Members of a bag beside their complete encodings.
+//! Members of a bag in the ascending order of their complete encodings.
 ghost use Rattle.std.specs.Prelude.{◌≡◌, true, Some, MatchResult, IfOk};
-ghost use Rattle.asn1_model.specs.Form.{joined, written};
-ghost use Rattle.asn1_model.specs.Numbers.{octet_bits};
-ghost use Rattle.asn1_model.specs.Per.{complete};
+ghost use Rattle.asn1_model.specs.Form.{ascending, joined, stands_before, written};
+ghost use Rattle.asn1_model.specs.Per.{bit_less, complete};
 ghost use Rattle.asn1_model.specs.Strings.{each_is, is_octet};
-ghost use Rattle.per_codec_texts.specs.Texts.{as_form, text_at};
+ghost use Rattle.per_codec_texts.specs.Texts.{text_at};
 ghost use Rattle.per_codec_writing.specs.Writing.{Adds, place};
-ghost use Rattle.per_codec_writing.specs.Keys.{AreKeyed, IsKeyed};
-ghost use Rattle.per_codec_writing.specs.Members.{forms_of};
+ghost use Rattle.per_codec_writing.specs.Keys.{AreKeyed};
+ghost use Rattle.per_codec_writing.specs.Members.{forms, forms_of};
 
 use asn1_schema_faults::EncodeError;
-use asn1_schema_order::Encoded;
-use per_codec_packing::Packing;
+use asn1_schema_order::Encodings;
+use per_codec_packing::{Packing, TextView, Texts, complete_in};
 use std::alloc::{AllocError, Global};
-
-/// A member of a bag.
-#[derive(Drop)]
-pub(crate) struct Member {
-    /// Its complete encoding (X.691 11.1), which tells its place.
-    pub(crate) octets: Vec<u8>,
-    /// What is written of it.
-    pub(crate) packing: Packing,
-}
-
-impl Encoded for Member {
-    ghost encoding = { λ m. m.octets.items };
-
-    fn octets(&self) -> &[u8] {
-        self.octets.as_slice()
-    }
-}
 
 /// Octets are below 256, which is why they stand in the order of their bits.
 fn are_octets(octets: &[u8])
     ensures { each_is is_octet octets.now ≡ true }
 {}
 
-/// A member beside its complete encoding.
-fn keyed(octets: Vec<u8>, packing: Packing) -> Member
-    requires { written (complete (as_form packing.text)) 0 ≡ Some (octet_bits octets.items) }
-    ensures { IsKeyed packing result }
+/// The complete encodings of the members (X.691 11.1), which tell their places.
+fn encodings_of(alloc: Global, members: &Texts) -> Result<Encodings, AllocError>
+    ensures { IfOk result (λ encodings. AreKeyed members.now encodings) }
 {
-    are_octets(octets.as_slice());
-    Member { octets, packing }
+    let mut encodings = Encodings::new(alloc);
+    let mut octets = Vec::new(alloc);
+    for index in 0..members.len() {
+        octets = complete_in(members.get(index), octets)?;
+        are_octets(octets.as_slice());
+        encodings.push(octets.as_slice())?;
+    }
+    Ok(encodings)
 }
 
-/// The members, each beside its complete encoding.
-pub(crate) fn with_encodings(
-    alloc: Global,
-    members: Vec<Packing>,
-) -> Result<Vec<Member>, AllocError>
-    ensures { IfOk result (λ ms. AreKeyed members.items ms.items) }
+/// The members in the ascending order of their complete encodings (X.691 22), those of the same encoding as they stood.
+pub(crate) fn in_order(alloc: Global, members: &Texts) -> Result<Vec<TextView<'_>>, AllocError>
+    ensures { IfOk result (λ ordered. ascending (λ x. written (complete x) 0) (stands_before bit_less) (forms members.now) ≡ Some (forms_of ordered.items)) }
 {
-    let mut all = Vec::new(alloc);
-    for packing in members {
-        let octets = packing.complete(alloc)?;
-        all.push(keyed(octets, packing))?;
+    let encodings = encodings_of(alloc, members)?;
+    let entries = encodings.in_order(alloc)?;
+    let mut ordered = Vec::with_capacity(alloc, entries.len())?;
+    for entry in &entries {
+        ordered.push(members.get(entry.index))?;
     }
-    Ok(all)
+    Ok(ordered)
 }
 
 /// Adds members, one behind the other. The only error is want of memory.
-pub(crate) fn push_each(output: &mut Packing, members: &[Member]) -> Result<(), EncodeError>
+pub(crate) fn push_each(output: &mut Packing, members: &[TextView<'_>]) -> Result<(), EncodeError>
     ensures { MatchResult result (λ _. Adds (text_at (joined (forms_of members.now)) (place output.old)) output.old output.new) (λ e. e ≡ EncodeError.OutOfMemory) }
 {
     for member in members {
-        output.append(&member.packing)?;
+        output.append_text(*member)?;
     }
     Ok(())
 }

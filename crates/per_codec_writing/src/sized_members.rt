@@ -10,12 +10,12 @@ ghost use Rattle.per_codec_writing.specs.Writing.{Adds, Refuses, place};
 ghost use Rattle.per_codec_writing.specs.Members.{forms_of};
 
 use crate::counted_members::push_counted;
-use crate::members::{Member, push_each};
+use crate::members::push_each;
 use crate::push_constrained;
 use asn1_schema_bounds::Bounded;
 use asn1_schema_constraints::Constraints;
 use asn1_schema_faults::EncodeError;
-use per_codec_packing::Packing;
+use per_codec_packing::{Packing, TextView};
 
 /// Adds members behind their number, which is one of `low` to `high`.
 fn push_between(
@@ -23,7 +23,7 @@ fn push_between(
     aligned: bool,
     low: usize,
     high: usize,
-    members: &[Member],
+    members: &[TextView<'_>],
 ) -> Result<(), EncodeError>
     requires least { low ≤ length members.now }
     requires most { length members.now ≤ high }
@@ -41,7 +41,7 @@ fn push_root(
     output: &mut Packing,
     aligned: bool,
     range: Bounded<usize>,
-    members: &[Member],
+    members: &[TextView<'_>],
 ) -> Result<(), EncodeError>
     requires { is_count_within (counts_of range) (length members.now) ≡ true }
     ensures { MatchResult result (λ _. Adds (text_at (sized_root aligned (counts_of range) (upper range) never (forms_of members.now)) (place output.old)) output.old output.new) (Refuses (text_at (sized_root aligned (counts_of range) (upper range) never (forms_of members.now)) (place output.old))) }
@@ -67,7 +67,7 @@ fn push_marked(
     output: &mut Packing,
     aligned: bool,
     range: Bounded<usize>,
-    members: &[Member],
+    members: &[TextView<'_>],
 ) -> Result<(), EncodeError>
     ensures { MatchResult result (λ _. Adds (text_at (marked true (is_count_within (counts_of range) (length members.now)) (sized_root aligned (counts_of range) (upper range) never (forms_of members.now)) (counted aligned (forms_of members.now))) (place output.old)) output.old output.new) (Refuses (text_at (marked true (is_count_within (counts_of range) (length members.now)) (sized_root aligned (counts_of range) (upper range) never (forms_of members.now)) (counted aligned (forms_of members.now))) (place output.old))) }
 {
@@ -86,7 +86,7 @@ fn push_unmarked(
     output: &mut Packing,
     aligned: bool,
     range: Bounded<usize>,
-    members: &[Member],
+    members: &[TextView<'_>],
 ) -> Result<(), EncodeError>
     ensures { MatchResult result (λ _. Adds (text_at (marked false (is_count_within (counts_of range) (length members.now)) (sized_root aligned (counts_of range) (upper range) never (forms_of members.now)) (counted aligned (forms_of members.now))) (place output.old)) output.old output.new) (Refuses (text_at (marked false (is_count_within (counts_of range) (length members.now)) (sized_root aligned (counts_of range) (upper range) never (forms_of members.now)) (counted aligned (forms_of members.now))) (place output.old))) }
 {
@@ -107,7 +107,7 @@ pub(crate) fn push_sized(
     aligned: bool,
     constraints: Constraints,
     held: Bounded<usize>,
-    members: &[Member],
+    members: &[TextView<'_>],
 ) -> Result<(), EncodeError>
     ensures { MatchResult result (λ _. Adds (text_at (sized aligned (sizes_of constraints.entry.size) (members_of held) never (forms_of members.now)) (place output.old)) output.old output.new) (Refuses (text_at (sized aligned (sizes_of constraints.entry.size) (members_of held) never (forms_of members.now)) (place output.old))) }
 {
