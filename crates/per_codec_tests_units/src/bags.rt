@@ -2,7 +2,7 @@
 use asn1_schema_bounds::Bounded;
 use asn1_schema_constraints::Constraints;
 use asn1_schema_faults::EncodeError;
-use per_codec_packing::Packing;
+use per_codec_packing::{Packing, Texts};
 use per_codec_writing::push_bag;
 use std::alloc::Global;
 use std::test::Fail;
@@ -16,9 +16,10 @@ fn member(alloc: Global, bits: u32, width: u32) -> Result<Packing, EncodeError> 
 
 // whether the bag of these members stands in these octets
 fn stands_in(alloc: Global, members: &[(u32, u32)], expected: &[u8]) -> Result<bool, EncodeError> {
-    let mut texts = Vec::new(alloc);
+    let mut texts = Texts::new(alloc);
     for (bits, width) in members {
-        texts.push(member(alloc, *bits, *width)?)?;
+        let text = member(alloc, *bits, *width)?;
+        texts.push(&text)?;
     }
     let mut output = Packing::new(alloc);
     push_bag(
@@ -27,7 +28,7 @@ fn stands_in(alloc: Global, members: &[(u32, u32)], expected: &[u8]) -> Result<b
         false,
         Constraints::NONE,
         Bounded::None,
-        texts,
+        &texts,
     )?;
     Ok(output.as_bits().as_bytes() == expected)
 }

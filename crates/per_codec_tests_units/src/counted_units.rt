@@ -115,7 +115,8 @@ fn is_placed_alike(alloc: Global, in_front: u32, octets: &[u8]) -> Result<bool, 
 {
     let early = placed(alloc, in_front, octets)?;
     let mut late = ones(alloc, false, in_front)?;
-    late.append(&unplaced(alloc, octets)?)?;
+    let text = unplaced(alloc, octets)?;
+    late.append_text(text.as_text())?;
     Ok(late.as_bits().as_bitslice() == early.as_bits().as_bitslice())
 }
 

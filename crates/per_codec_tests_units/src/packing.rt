@@ -1,7 +1,7 @@
 //! Texts at known places, and texts that are placed later.
 
 use crate::assertions::assert_same;
-use per_codec_packing::Packing;
+use per_codec_packing::{Packing, complete_in};
 use std::alloc::{AllocError, Global};
 use std::test::Fail;
 
@@ -25,7 +25,8 @@ fn member(alloc: Global) -> Result<Packing, AllocError> {
 fn stands_behind(alloc: Global, zeros: usize, expected: &[u8]) -> Result<bool, Fail> {
     let mut text = Packing::new(alloc);
     text.resize(zeros, false)?;
-    text.append(&member(alloc)?)?;
+    let inner = member(alloc)?;
+    text.append_text(inner.as_text())?;
     Ok(text.as_bits().as_bytes() == expected)
 }
 
@@ -33,13 +34,14 @@ fn stands_behind(alloc: Global, zeros: usize, expected: &[u8]) -> Result<bool, F
 fn within_a_member(alloc: Global) -> Result<Packing, Fail> {
     let mut outer = Packing::unplaced(alloc);
     outer.push(true)?;
-    outer.append(&member(alloc)?)?;
+    let inner = member(alloc)?;
+    outer.append_text(inner.as_text())?;
     Ok(outer)
 }
 
 // whether these octets are the complete encoding of a text
 fn completes(alloc: Global, text: Packing, expected: &[u8]) -> Result<bool, Fail> {
-    let octets = text.complete(alloc)?;
+    let octets = complete_in(text.as_text(), Vec::new(alloc))?;
     Ok(octets.as_slice() == expected)
 }
 
@@ -58,7 +60,7 @@ fn a_member_within_a_member(rt: HostRuntime) -> Result<(), Fail> {
     let outer = within_a_member(alloc)?;
     let mut text = Packing::new(alloc);
     text.resize(6, false)?;
-    text.append(&outer)?;
+    text.append_text(outer.as_text())?;
     assert_same(
         &rt,
         &text.as_bits().as_bytes(),

@@ -227,7 +227,7 @@ fn lengths_of_fragments(rt: HostRuntime) -> Result<(), Fail> {
 
 /// Writes behind what stands there what was packed before its place was known.
 fn append(output: &mut Packing, later: &Packing) -> Result<(), EncodeError> {
-    output.append(later)?;
+    output.append_text(later.as_text())?;
     Ok(())
 }
 
