@@ -17,9 +17,9 @@ use Rattle.per_codec_fronts.specs.Takes.{Place, Scope, components, State, Front,
 use Rattle.per_codec_fronts.proofs.Fronts.{if_out}
 use Rattle.per_codec_reading.specs.Fronts.{freedoms, is_aligned, Misses}
 use Rattle.per_codec_decoder.specs.Held.{Held, state_of, kept, Finds, IsReady}
-use Rattle.per_codec_decoder.specs.Members.{NoFurther}
-use Rattle.per_codec_decoder.specs.Preamble.{HasPreamble}
-use Rattle.per_codec_decoder.proofs.Counting.{missed}
+use Rattle.per_codec_decoder_scopes.specs.Members.{NoFurther}
+use Rattle.per_codec_decoder_scopes.specs.Preamble.{HasPreamble}
+use Rattle.per_codec_decoder_scopes.proofs.Counting.{missed}
 
 -- ---- scalars
 module _ (al : Bool) (free : Per.Freedom → Bool) (a b : State) where

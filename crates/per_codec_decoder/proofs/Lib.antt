@@ -1,5 +1,5 @@
-pub mod Leading
-pub mod Counting
+pub mod Closing
+pub mod Ascending
 pub mod Finding
 pub mod Settling
 pub mod Opening

@@ -17,10 +17,11 @@ use Rattle.per_codec_reading.specs.Fronts.{freedoms, is_aligned, Leads, Misses}
 use Rattle.per_codec_reading.specs.declared.variant.Variant.{Variant}
 use Rattle.per_codec_reading.specs.declared.variant.Variant.TheVariants.{Unaligned, Aligned}
 use Rattle.per_codec_decoder.specs.Held.{Held, state_of, kept, kept_outside, lends_behind, Finds, IsReady, Moves, Enters, EntersMembers, EntersComponents, NotMembers, NotComponents, HasOpened, NoOpening, HasPassed}
-use Rattle.per_codec_decoder.specs.Preamble.{HasBitmap, NoBitmap}
-use Rattle.per_codec_decoder.specs.Scopes.{NoAdditions, Flags, NoFlag, Leaves, NoEnd, LeavesAddition, NoAdditionEnd, IsClosed, Passes, NotPassed}
-use Rattle.per_codec_decoder.specs.declared.frames.Ending.{Ending}
-use Rattle.per_codec_decoder.specs.declared.frames.Ending.TheVariants.{Nothing, Unknown, OpenType as Filled}
+use Rattle.per_codec_decoder_scopes.specs.Preamble.{HasBitmap, NoBitmap}
+use Rattle.per_codec_decoder_scopes.specs.Scopes.{NoAdditions, Flags, NoFlag, Leaves, NoEnd, LeavesAddition, NoAdditionEnd}
+use Rattle.per_codec_decoder.specs.Endings.{IsClosed, Passes, NotPassed}
+use Rattle.per_codec_decoder_scopes.specs.declared.frames.Ending.{Ending}
+use Rattle.per_codec_decoder_scopes.specs.declared.frames.Ending.TheVariants.{Nothing, Unknown, OpenType as Filled}
 use Rattle.asn1_schema_variants.specs.declared.chosen.Chosen.{Chosen}
 use Rattle.per_codec_fronts.proofs.Next.{place_same, state_same, same_fronts}
 use Rattle.asn1_laws_fronts.proofs.PerNumbers.{constrained_alike}
@@ -33,7 +34,7 @@ use Rattle.per_codec_reading_values.proofs.PlaceFronts.{root_told, added_told, r
 use Rattle.per_codec_reading_values.specs.Fields.{octets_form}
 use Rattle.per_codec_reading_values.specs.Stretches.{Stretched}
 use Rattle.per_codec_reading_values.proofs.FieldFronts.{octets_of, octets_read, units_told}
-use Rattle.per_codec_decoder.proofs.Counting.{missed}
+use Rattle.per_codec_decoder_scopes.proofs.Counting.{missed}
 use Rattle.per_codec_decoder.proofs.Finding.{begins}
 use Rattle.per_codec_decoder.proofs.Settling.{steps, moves_there}
 

@@ -12,8 +12,8 @@ use Rattle.per_codec_fronts.specs.Takes.{Place, Scope, members, State, Tally, Fr
 use Rattle.per_codec_reading.specs.Fronts.{freedoms, is_aligned, Leads, Misses}
 use Rattle.per_codec_reading.proofs.Fronts.{leads_join}
 use Rattle.per_codec_decoder.specs.Held.{Held, state_of, kept, Finds, IsReady, Stays, Moves, EntersMembers, EntersComponents}
-use Rattle.per_codec_decoder.specs.Preamble.{HasPreamble}
-use Rattle.per_codec_decoder.specs.Members.{HasMembers}
+use Rattle.per_codec_decoder_scopes.specs.Preamble.{HasPreamble}
+use Rattle.per_codec_decoder_scopes.specs.Members.{HasMembers}
 use Rattle.per_codec_decoder.proofs.Finding.{OfType, none_found, none_of_alphabet}
 
 -- a record is found

@@ -1,6 +1,3 @@
-pub mod Additions
-pub mod Scopes
-pub mod Preamble
-pub mod Members
+pub mod Endings
 pub mod Held
 pub mod Laws

@@ -2,7 +2,7 @@
 ghost use Rattle.std.specs.Prelude.{OnOk, IfErr, IsTrue};
 ghost use Rattle.asn1_model.specs.Per;
 ghost use Rattle.per_codec_fronts.specs.Takes.{Front, completion, Closes};
-ghost use Rattle.per_codec_decoder.specs.Scopes.{IsClosed};
+ghost use Rattle.per_codec_decoder.specs.Endings.{IsClosed};
 
 use asn1_schema_faults::DecodeError;
 use per_codec_reading::Cursor;

@@ -2,7 +2,8 @@
 ghost use Rattle.std.specs.Cow.{cow_slice_items, IsBorrowedSlice};
 ghost use Rattle.std.specs.Prelude.{◌≡◌, ◌+◌, ◌-◌, ◌%◌, ◌<◌, ◌≤◌, ◌^◌, [], ◌∷◌, true, false, length, take, OnOk, OnErr, IfErr, IfOk};
 ghost use Rattle.per_codec_decoder.specs.Held.{Held, Finds, HasFailed, kind_of, IsReady, Stays, Moves, Enters, HasOpened, HasPassed, NoOpening, EntersMembers, EntersComponents, NotMembers, NotComponents};
-ghost use Rattle.per_codec_decoder.specs.Scopes.{scope_of, scope_around, Passes, NotPassed};
+ghost use Rattle.per_codec_decoder.specs.Endings.{Passes, NotPassed};
+ghost use Rattle.per_codec_decoder_scopes.specs.Scopes.{scope_of, scope_around};
 ghost use Rattle.asn1_schema_bounds.specs.Bounds.{counts_of, members_of};
 ghost use Rattle.asn1_schema_decode.specs.Reads.{NoRecord};
 ghost use Rattle.asn1_schema_presented.specs.Records.{octets, asks_octets};
@@ -14,14 +15,10 @@ ghost use Rattle.asn1_values_bits.specs.BitStr.{bits_of};
 ghost use Rattle.per_codec_fronts.specs.Takes.{Front, completion};
 ghost use Rattle.per_codec_reading.specs.Fronts.{freedoms, is_aligned};
 
-use crate::additions::Additions;
 use crate::alphabets::is_alphabet;
 use crate::completion::{read_completion, read_to_end};
-use crate::frames::{Enclosing, Ending, Frame, Scopes};
-use crate::members::read_members;
 use crate::octets::read_held_octets;
 use crate::options::DecoderOptions;
-use crate::preamble::{read_bitmap, read_preamble};
 use asn1_schema_bounds::Bounded;
 use asn1_schema_constraints::Constraints;
 use asn1_schema_faults::{CodecKind, DecodeError};
@@ -32,6 +29,9 @@ use asn1_values_bit_strings::BitString;
 use asn1_values_bits::BitStr;
 use asn1_values_identifiers::ObjectIdentifier;
 use asn1_values_integer_types::IntegerType;
+use per_codec_decoder_scopes::{
+    Additions, Enclosing, Ending, Frame, Scopes, read_bitmap, read_members, read_preamble,
+};
 use per_codec_reading::Variant;
 use per_codec_reading::units::{read_boolean, read_null};
 use per_codec_reading_units::{

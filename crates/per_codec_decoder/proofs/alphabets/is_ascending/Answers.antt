@@ -1,5 +1,5 @@
 use Rattle.std.proofs.Common.{◌∙◌, ◌-◌, sym, arith}
-use Rattle.per_codec_decoder.proofs.Counting.{ascending_end}
+use Rattle.per_codec_decoder.proofs.Ascending.{ascending_end}
 use Rattle.per_codec_decoder.proofs.alphabets.is_ascending.Goals as goal
 
 pub returns : goal.returns

@@ -3,7 +3,7 @@ use Rattle.std.specs.Prelude.{length, ◌<◌}
 use Rattle.asn1_model.specs.Numbers.{missing}
 use Rattle.asn1_schema_presented.proofs.Joined.{raised}
 use Rattle.asn1_values_bits.specs.BitStr.{bits_of}
-use Rattle.per_codec_decoder.proofs.Leading.{filled, unfilled, zero_octet, no_octet, other_octet}
+use Rattle.per_codec_decoder.proofs.Closing.{filled, unfilled, zero_octet, no_octet, other_octet}
 use Rattle.per_codec_decoder.proofs.completion.read_completion.Goals as goal
 
 pub returns-in_err-take_number-clause-only : goal.returns-in_err-take_number-clause-only

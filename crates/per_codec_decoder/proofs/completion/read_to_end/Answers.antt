@@ -1,6 +1,6 @@
 use Rattle.std.proofs.Common.{◌∙◌, ◌%◌, ap, sym}
 use Rattle.asn1_schema_presented.proofs.Joined.{raised}
-use Rattle.per_codec_decoder.proofs.Leading.{closes, no_completion, no_octets_left}
+use Rattle.per_codec_decoder.proofs.Closing.{closes, no_completion, no_octets_left}
 use Rattle.per_codec_decoder.proofs.completion.read_to_end.Goals as goal
 
 pub returns-in_err-read_completion-clause-only : goal.returns-in_err-read_completion-clause-only

@@ -1,0 +1,24 @@
+-- How what is left where a scope ends is passed over (X.691 11.2, 19.8), and why it is not.
+use Rattle.std.specs.Prelude.{◌≡◌, IsTrue, Bool, List}
+use Rattle.asn1_model.specs.Per
+use Rattle.asn1_schema_faults.specs.declared.DecodeError.{DecodeError}
+use Rattle.asn1_schema_faults.specs.declared.DecodeError.TheVariants.{OutOfMemory}
+use Rattle.per_codec_fronts.specs.Takes.{Place, State, Scope, Closes, Skips}
+use Rattle.per_codec_decoder_scopes.specs.declared.frames.Ending.{Ending}
+use Rattle.per_codec_decoder_scopes.specs.declared.frames.Ending.TheVariants.{Nothing, Unknown, OpenType as Filled}
+
+-- What stands in an open type behind its value, up to its end, may stand there: a reader with the freedoms takes it.
+abbrev pub IsClosed : Place → Type 0
+IsClosed a = (free : Per.Freedom → Bool) (rest : Place) (k : List Scope) → IsTrue (free Per.any_filling) → IsTrue (free Per.octets_behind) → Closes free a rest k (rest, k)
+
+-- What is left where a scope ends is passed over.
+abbrev pub Passes : Bool → (Per.Freedom → Bool) → Ending → Place → Place → Type 0
+Passes al free Nothing a b = b ≡ a
+Passes al free (Unknown r) a b = Skips al free r.place.1 a b
+Passes al free (Filled p) a b = IsClosed a × (b ≡ p.place)
+
+-- Why it is not: for want of memory, or because something else stands there.
+abbrev pub NotPassed : Bool → (Per.Freedom → Bool) → Ending → Place → DecodeError → Type 0
+NotPassed al free Nothing a x = ⊥
+NotPassed al free (Unknown r) a x = ¬ (x ≡ OutOfMemory) → (b : Place) → Skips al free r.place.1 a b → ⊥
+NotPassed al free (Filled p) a x = (rest : Place) (k : List Scope) (b : State) → Closes free a rest k b → ⊥

@@ -1,0 +1,4 @@
+pub mod Additions
+pub mod Members
+pub mod Scopes
+pub mod Preamble

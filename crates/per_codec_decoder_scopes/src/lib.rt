@@ -1,0 +1,13 @@
+//! What is open in the decoder of the packed encoding rules (X.691), unaligned and aligned, and what stands in front of it: the preambles of
+//! sequences, sets and groups, the bitmaps of additions, and the numbers of members.
+#![tactic(auto)]
+
+pub mod additions;
+pub mod frames;
+pub mod members;
+pub mod preamble;
+
+pub use additions::Additions;
+pub use frames::{Enclosing, Ending, Frame, Scopes};
+pub use members::{Part, read_members};
+pub use preamble::{read_bitmap, read_preamble};
