@@ -1,5 +1,5 @@
 -- A list in ascending order, in which those of one place stand as they stood, is the one that the model's arrangement gives.
-use Rattle.std.proofs.Common.{◌≡◌, ℕ, suc, ◌<◌, ◌≤◌, Bool, true, false, cond, not, ltb, ◌&&◌, List, [], ◌∷◌, length, map, get_or, Some, option_map, refl, ap, sym, ◌∙◌, arith, inl, inr}
+use Rattle.std.proofs.Common.{◌≡◌, ℕ, suc, ◌<◌, ◌≤◌, Bool, true, false, cond, not, ltb, ◌&&◌, List, [], ◌∷◌, ◌++◌, length, map, get_or, Some, option_map, refl, ap, sym, ◌∙◌, arith, inl, inr}
 use Rattle.std.specs.Prelude.{◌==◌, ⊤}
 use Rattle.std.specs.List.{filter}
 use Rattle.std.specs.List.Sorted.{IsSortedBy, IsStableBy, ties}
@@ -176,6 +176,37 @@ module _ {X : Type 0} (lt : X → X → Bool) where
     sorted_in_turn : (xs ys : List X) → IsSortedBy lt ys → IsStableBy lt xs ys → in_turn xs ≡ ys
     sorted_in_turn xs ys up stable = only_one (in_turn xs) ys (up_in_turn xs) (up_of ys (sorted_far lt o ys up)) (λ x. kept_in_turn x xs ∙ sym (stable x))
 
+-- ---- two orders that agree on what a list holds
+
+abbrev pub Each : {X : Type 0} → (X → Type 0) → List X → Type 0
+Each P [] = ⊤
+Each P (x ∷ xs) = P x × Each P xs
+
+pub each_push : {X : Type 0} (P : X → Type 0) (xs : List X) (x : X) → Each P xs → P x → Each P (xs ++ x ∷ [])
+each_push P [] x q p = (p, tt)
+each_push P (y ∷ ys) x q p = (q.0, each_push P ys x q.1 p)
+
+module _ {X : Type 0} (P : X → Type 0) (lt other : X → X → Bool) (agree : (x y : X) → P x → P y → lt x y ≡ other x y) where
+  put_each : (e : X) (es : List X) → P e → Each P es → Each P (put lt e es)
+  put_each e [] p q = (p, tt)
+  put_each e (f ∷ fs) p q = go (lt f e) (put_each e fs p q.1)
+    where
+      go : (b : Bool) → Each P (put lt e fs) → Each P (cond b (f ∷ put lt e fs) (e ∷ f ∷ fs))
+      go true h = (q.0, h)
+      go false h = (p, q)
+
+  in_turn_each : (xs : List X) → Each P xs → Each P (in_turn lt xs)
+  in_turn_each [] q = tt
+  in_turn_each (x ∷ xs) q = put_each x (in_turn lt xs) q.0 (in_turn_each xs q.1)
+
+  put_alike : (e : X) (es : List X) → P e → Each P es → put lt e es ≡ put other e es
+  put_alike e [] p q = refl
+  put_alike e (f ∷ fs) p q = ap (λ b. cond b (f ∷ put lt e fs) (e ∷ f ∷ fs)) (agree f e q.0 p) ∙ ap (λ l. cond (other f e) (f ∷ l) (e ∷ f ∷ fs)) (put_alike e fs p q.1)
+
+  in_turn_alike : (xs : List X) → Each P xs → in_turn lt xs ≡ in_turn other xs
+  in_turn_alike [] q = refl
+  in_turn_alike (x ∷ xs) q = put_alike x (in_turn lt xs) q.0 (in_turn_each xs q.1) ∙ ap (put other x) (in_turn_alike xs q.1)
+
 -- ---- the model's arrangement
 
 module _ {X : Type 0} (key : X → List ℕ) where
@@ -215,6 +246,13 @@ module _ {X : Type 0} (key : X → List ℕ) where
   in_turn_same [] = refl
   in_turn_same (x ∷ xs) = put_same x (in_turn before xs) ∙ ap (put less x) (in_turn_same xs)
 
+  ascending_in_turn : (xs : List X) → ascending (λ x. Some (key x)) (stands_before ltb) xs ≡ Some (in_turn less xs)
+  ascending_in_turn xs = ap (option_map (map (λ e. e.1))) (all_keyed xs) ∙ ap Some (plain (in_turn before xs) ∙ in_turn_same xs)
+
   pub is_ascending : (xs ys : List X) → IsSortedBy less ys → IsStableBy less xs ys → ascending (λ x. Some (key x)) (stands_before ltb) xs ≡ Some ys
-  is_ascending xs ys up stable =
-      ap (option_map (map (λ e. e.1))) (all_keyed xs) ∙ ap Some (plain (in_turn before xs) ∙ in_turn_same xs ∙ sorted_in_turn less ranks xs ys up stable)
+  is_ascending xs ys up stable = ascending_in_turn xs ∙ ap Some (sorted_in_turn less ranks xs ys up stable)
+
+-- the same where it is sorted by other keys that agree with these on what the list holds
+pub is_ascending_by : {X : Type 0} (P : X → Type 0) (key near : X → List ℕ) → ((x y : X) → P x → P y → less key x y ≡ less near x y) → (xs ys : List X) → Each P xs → IsSortedBy (less near) ys → IsStableBy (less near) xs ys → ascending (λ x. Some (key x)) (stands_before ltb) xs ≡ Some ys
+is_ascending_by P key near agree xs ys q up stable =
+    ascending_in_turn key xs ∙ ap Some (in_turn_alike P (less key) (less near) agree xs q ∙ sorted_in_turn (less near) (ranks near) xs ys up stable)

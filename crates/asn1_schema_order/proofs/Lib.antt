@@ -1,3 +1,4 @@
 pub mod Ascending
+mod Leading
 mod Placed
 mod Spans

@@ -1,9 +1,13 @@
 //! Encodings that share memory.
 ghost use Rattle.std.specs.Prelude.{◌≡◌, ◌++◌, ◌<◌, [], ◌∷◌, length, OnOk, OnErr, IfOk, get_or};
+ghost use Rattle.std.specs.Cmp.Lexicographic.{slice_cmp};
+ghost use Rattle.std.specs.Ordering.{nat_cmp};
 ghost use Rattle.asn1_schema_order.specs.Entries.{octets_of, AreInOrder};
+ghost use Rattle.asn1_schema_order.specs.Fronts.{leading, fronted};
 
-use crate::order::{Encoded, put_in_order};
+use crate::order::Encoded;
 use std::alloc::{AllocError, Global};
+use std::cmp::Ordering;
 use std::marker::Model;
 
 // The octets from one on and up to another.
@@ -32,13 +36,30 @@ impl Model for Encodings {
     ghost invariant = { λ e. AreWithin (length e.octets.items) e.spans.items };
 }
 
-/// One of some encodings: its octets, and its place among them.
+// The first eight octets as a number, the highest first, with zero octets in place of those that are not there.
+#[inline]
+fn front_of(octets: &[u8]) -> u64
+    ensures { result ≡ leading 8 octets.now }
+{
+    let first = &octets[..octets.len().min(8)];
+    let mut front = 0;
+    let mut weight: u64 = 1 << 56;
+    for octet in first {
+        front += u64::from(*octet) * weight;
+        weight /= 256;
+    }
+    front
+}
+
+/// One of some encodings: its octets, and its place among them. Only [`Encodings::in_order`] makes one.
 #[derive(Clone, Copy)]
 pub struct Entry<'a> {
     /// Its octets.
     pub octets: &'a [u8],
     /// How many stand in front of it.
     pub index: usize,
+    // Its first eight octets as a number, which mostly tells which of two stands before the other.
+    front: u64,
 }
 
 impl Encoded for Entry<'_> {
@@ -46,6 +67,19 @@ impl Encoded for Entry<'_> {
 
     fn octets(&self) -> &[u8] {
         self.octets
+    }
+}
+
+impl Entry<'_> {
+    // How it stands to another, by their first octets and, where these are the same, by all.
+    #[inline]
+    fn compare(&self, other: &Entry<'_>) -> Ordering
+        ensures { result ≡ slice_cmp nat_cmp (fronted self.now) (fronted other.now) }
+    {
+        match self.front.cmp(&other.front) {
+            Ordering::Equal => self.octets.cmp(other.octets),
+            differing => differing,
+        }
     }
 }
 
@@ -105,12 +139,14 @@ impl Encodings {
     {
         let mut all = Vec::with_capacity(alloc, self.len())?;
         for index in 0..self.len() {
+            let octets = self.get(index);
             all.push(Entry {
-                octets: self.get(index),
+                octets,
                 index,
+                front: front_of(octets),
             })?;
         }
-        put_in_order(&mut all)?;
+        all.sort_by(|a, b| a.compare(b))?;
         Ok(all)
     }
 }
