@@ -1,5 +1,5 @@
 -- Bags that begin, go on and end, in the texts and the frames of an encoder.
-use Rattle.std.proofs.Common.{◌≡◌, ℕ, zero, suc, ◌-◌, ◌≤◌, Bool, true, false, not, ltb, is_some, List, [], ◌∷◌, ◌++◌, length, take, map, reverse, Some, None, Box, Vec, Global, Result, Ok, Err, MatchResult, refl, ap, subst, sym, ◌∙◌, arith, length-append}
+use Rattle.std.proofs.Common.{◌≡◌, ℕ, zero, suc, ◌-◌, ◌≤◌, Bool, true, false, not, ltb, is_some, List, [], ◌∷◌, ◌++◌, length, take, map, reverse, Some, None, Box, Global, Result, Ok, Err, MatchResult, refl, ap, subst, sym, ◌∙◌, arith, length-append}
 use mathlib.Core.Bool.{beq}
 use Rattle.std.proofs.lemmas.Bool.{ltb-false}
 use Rattle.std.proofs.lemmas.List.{take_at}
@@ -18,12 +18,11 @@ use Rattle.per_codec_packing.specs.Packed.{Packed, place, plus, solid}
 use Rattle.per_codec_packing.proofs.Adding.{added}
 use Rattle.per_codec_steps.specs.Steps.{Scope, bag_members, State, list_heading, with_open, bag_opened, counted_in, closed_bag, adds_text, run}
 use Rattle.per_codec_writing.specs.Writing.{Adds, Refuses}
-use Rattle.per_codec_writing.specs.Members.{forms}
 use Rattle.per_codec_encoder.specs.declared.frame.Bag.{Bag as BagFrame}
 use Rattle.per_codec_encoder.specs.declared.frame.Frame.{Frame}
 use Rattle.per_codec_encoder.specs.declared.frame.Frame.TheVariants.{Bag}
 use Rattle.per_codec_encoder.specs.declared.headings.Due.{Due}
-use Rattle.per_codec_encoder.specs.Bags.{size_of, texts, texts_before, bag_of, form_of, further_in, GoesOnInBag, NoFurther}
+use Rattle.per_codec_encoder.specs.Bags.{size_of, bag_of, form_of, further_in, GoesOnInBag, NoFurther}
 use Rattle.per_codec_encoder.specs.Headings.{Heads, NoHeading}
 use Rattle.per_codec_encoder.specs.Holding.{instead, Holds, Does, Cannot}
 use Rattle.per_codec_encoder.proofs.Scopes.{at_end, appended, on_top, put_back}
@@ -77,42 +76,6 @@ cannot_begin_bag al fs o z h n e x = go e x
 
 -- ---- a further member
 
-pub stuck : (b : BagFrame) (o : Packed) (more : Bool) → not (beq more (ltb 0 b.due)) ≡ true → NoFurther more b o SizeConstraintNotSatisfied
-stuck b o more h front k = go b.due more h
-  where
-    go : (n : ℕ) (more : Bool) → not (beq more (ltb 0 n)) ≡ true → counted_in (size_of b.range b.extensible) (members_of b.held) n (texts_before b.members) front o.text k more ≡ None
-    go zero true h = refl
-    go zero false h = cc
-    go (suc n) true h = let l = ltb-false 0 (suc n) (differ_true _ h) in absurd (omega (arith, l))
-    go (suc n) false h = refl
-
-pub stays : (b : BagFrame) (o : Packed) (more : Bool) → not (beq more (ltb 0 b.due)) ≡ false → more ≡ false → GoesOnInBag more b o b o
-stays b o more h e = record { goes = λ front k. go front k b.due more h e; outer = refl; unplaced = λ u. u }
-  where
-    go : (front : Text) (k : List Scope) (n : ℕ) (more : Bool) → not (beq more (ltb 0 n)) ≡ false → more ≡ false → counted_in (size_of b.range b.extensible) (members_of b.held) n (texts_before b.members) front o.text k more ≡ Some (o.text, bag_members (size_of b.range b.extensible) (members_of b.held) n (texts_before b.members) front ∷ k)
-    go front k zero true h e = cc
-    go front k zero false h e = refl
-    go front k (suc n) true h e = cc
-    go front k (suc n) false h e = let l = ltb-false 0 (suc n) (agree_false _ h) in absurd (omega (arith, l))
-
--- the bag behind a member that was kept
-abbrev pub behind_one : BagFrame → Vec Packed Global → BagFrame
-behind_one b v = record { outer = b.outer; range = b.range; extensible = b.extensible; held = b.held; due = b.due - 1; members = Some v }
-
-pub comes : (b : BagFrame) (o p : Packed) (more : Bool) (v : Vec Packed Global) (member : Packed) → not (beq more (ltb 0 b.due)) ≡ false → more ≡ true → member ≡ o → p ≡ record { text = []; placed = false } → texts v.items ≡ with_open (texts_before b.members) member.text → GoesOnInBag more b o (behind_one b v) p
-comes b o p more v member h e m c t = record { goes = λ front k. go front k b.due more h e ∙ last front k; outer = refl; unplaced = λ u. ap (λ (l : Packed). l.placed) c }
-  where
-    go : (front : Text) (k : List Scope) (n : ℕ) (more : Bool) → not (beq more (ltb 0 n)) ≡ false → more ≡ true → counted_in (size_of b.range b.extensible) (members_of b.held) n (texts_before b.members) front o.text k more ≡ Some ([], bag_members (size_of b.range b.extensible) (members_of b.held) (n - 1) (Some (with_open (texts_before b.members) o.text)) front ∷ k)
-    go front k zero true h e = cc
-    go front k zero false h e = cc
-    go front k (suc n) true h e = let q : n ≡ suc n - 1 = omega arith in ap (λ j. let l : State = ([], bag_members (size_of b.range b.extensible) (members_of b.held) j (Some (with_open (texts_before b.members) o.text)) front ∷ k) in Some l) q
-    go front k (suc n) false h e = cc
-
-    last : (front : Text) (k : List Scope) → (let l : State = ([], bag_members (size_of b.range b.extensible) (members_of b.held) (b.due - 1) (Some (with_open (texts_before b.members) o.text)) front ∷ k) in Some l) ≡ Some (p.text, bag_of (behind_one b v) front ∷ k)
-    last front k =
-        ap (λ ts. let l : State = ([], bag_members (size_of b.range b.extensible) (members_of b.held) (b.due - 1) (Some ts) front ∷ k) in Some l) (sym (t ∙ ap (λ (l : Packed). with_open (texts_before b.members) l.text) m))
-        ∙ ap (λ (q : Packed). let l : State = (q.text, bag_of (behind_one b v) front ∷ k) in Some l) (sym c)
-
 module _ (al : Bool) (fs rest : List Frame) (f : Frame) (boxed : Box BagFrame Global) (o : Packed) (x : fs ≡ rest ++ f ∷ []) (y : f ≡ Bag boxed) where
   top : (s : State) → Holds (reverse fs) o s → Holds (Bag boxed ∷ reverse rest) o s
   top s h = on_top fs rest f (Bag boxed) o s x y h
@@ -143,7 +106,7 @@ module _ (al : Bool) (fs rest : List Frame) (f : Frame) (boxed : Box BagFrame Gl
   -- ---- a bag ends
 
   abbrev all_texts : List Text
-  all_texts = with_open (texts_before boxed.value.members) o.text
+  all_texts = with_open boxed.value.members o.text
 
   ended_as : (s : State) (h : Holds (Bag boxed ∷ reverse rest) o s) → boxed.value.due ≡ 0 → run al ends s ≡ adds_text (text_at (form_of al boxed.value all_texts) (place boxed.value.outer)) h.0
   ended_as s h n =
@@ -180,7 +143,7 @@ module _ (al : Bool) (fs rest : List Frame) (f : Frame) (boxed : Box BagFrame Gl
     none_due = ap (λ (b : BagFrame). b.due) (sym v) ∙ n
 
     abbrev form_with : BagFrame → Per.BitForm
-    form_with b = form_of al b (with_open (texts_before b.members) o.text)
+    form_with b = form_of al b (with_open b.members o.text)
 
     pub does_end_bag : (p : Packed) → Adds (text_at (form_with bag) (place bag.outer)) bag.outer p → Does al ends fs o rest p
     does_end_bag p a = does_end p none_due (subst (λ (b : BagFrame). Adds (text_at (form_with b) (place b.outer)) b.outer p) v a)
@@ -193,27 +156,3 @@ module _ (al : Bool) (fs rest : List Frame) (f : Frame) (boxed : Box BagFrame Gl
 pub member_of_bag_asked : (al : Bool) (f : Frame) (boxed : Box BagFrame Global) (o : Packed) (y : f ≡ Bag boxed) (g : Frame) (p : Packed) (next : Box BagFrame Global) (more : Bool) (r : Result (Unit {0}) EncodeError) → g ≡ Bag next → MatchResult r (λ _. GoesOnInBag more boxed.value o next.value p) (λ e. NoFurther more boxed.value o e) → MatchResult r (λ _. (fs : List Frame) → Does al (further more) (fs ++ f ∷ []) o (fs ++ g ∷ []) p) (λ e. (fs : List Frame) → Cannot al (further more) (fs ++ f ∷ []) o e)
 member_of_bag_asked al f boxed o y g p next more (Ok x) c m = λ fs. does_further_bag al (fs ++ f ∷ []) fs f boxed o refl y (fs ++ g ∷ []) p next more m (ap (λ k. fs ++ k ∷ []) c)
 member_of_bag_asked al f boxed o y g p next more (Err e) c m = λ fs. cannot_further_bag al (fs ++ f ∷ []) fs f boxed o refl y e more m
-
--- ---- the form of a bag, by its members
-
-forms_are : (ms : List Packed) → forms ms ≡ map as_form (texts ms)
-forms_are [] = refl
-forms_are (m ∷ ms) = ap (λ l. as_form m.text ∷ l) (forms_are ms)
-
-pub sizes_are : (z : Extensible SizeConstraint) (range : Bounded ℕ) (e : Bool) → z.constraint.range ≡ range → is_some z.extensible ≡ e → sizes_of (Some z) ≡ size_of range e
-sizes_are z range e a b = ap (λ r. size_of r (is_some z.extensible)) a ∙ ap (λ x. size_of range x) b
-
-pub form_is : (al : Bool) (b : BagFrame) (z : Size) (ms : List Packed) (ts : List Text) → z ≡ size_of b.range b.extensible → texts ms ≡ ts → Per.in_any_order (forms ms) (λ us. Per.sized al z (members_of b.held) Per.never us) ≡ form_of al b ts
-form_is al b z ms ts a c =
-    ap (λ l. Per.in_any_order l (λ us. Per.sized al z (members_of b.held) Per.never us)) (forms_are ms ∙ ap (map as_form) c)
-    ∙ ap (λ y. Per.in_any_order (map as_form ts) (λ us. Per.sized al y (members_of b.held) Per.never us)) a
-
-module _ (al : Bool) (b : BagFrame) (z : Size) (ms : List Packed) (ts : List Text) (front : Packed) (a : z ≡ size_of b.range b.extensible) (c : texts ms ≡ ts) (d : front ≡ b.outer) where
-  abbrev written_as : Per.BitForm
-  written_as = Per.in_any_order (forms ms) (λ us. Per.sized al z (members_of b.held) Per.never us)
-
-  pub bag_added : (p : Packed) → Adds (text_at written_as (place front)) front p → Adds (text_at (form_of al b ts) (place b.outer)) b.outer p
-  bag_added p x = subst (λ l. Adds (text_at (form_of al b ts) (place l)) l p) d (subst (λ y. Adds (text_at y (place front)) front p) (form_is al b z ms ts a c) x)
-
-  pub bag_refused : (e : EncodeError) → Refuses (text_at written_as (place front)) e → Refuses (text_at (form_of al b ts) (place b.outer)) e
-  bag_refused e x = subst (λ l. Refuses (text_at (form_of al b ts) (place l)) e) d (subst (λ y. Refuses (text_at y (place front)) e) (form_is al b z ms ts a c) x)

@@ -1,6 +1,5 @@
 -- Bags, whose members are kept until they end (X.691 22).
-use Rattle.std.specs.Prelude.{◌≡◌, ℕ, Bool, false, List, ◌∷◌, map, Option, Some, None, option_map, Vec}
-use Rattle.std.specs.Global.{Global}
+use Rattle.std.specs.Prelude.{◌≡◌, ℕ, Bool, false, List, ◌∷◌, map, Option, Some, None}
 use Rattle.asn1_model.specs.Per
 use Rattle.asn1_model.specs.Schema.{Size}
 use Rattle.asn1_schema_bounds.specs.Bounds.{counts_of, members_of}
@@ -16,17 +15,9 @@ use Rattle.per_codec_encoder.specs.declared.frame.Bag.{Bag}
 abbrev pub size_of : Bounded ℕ → Bool → Size
 size_of b e = record { counts = counts_of b; extensible = e }
 
--- The text of each member.
-abbrev pub texts : List Packed → List Text
-texts ms = map (λ (m : Packed). m.text) ms
-
--- The text of each member in front of the open one, if one is open.
-abbrev pub texts_before : Option (Vec Packed Global) → Option (List Text)
-texts_before ms = option_map (λ (v : Vec Packed Global). texts v.items) ms
-
 -- The scope of a bag, with the text in front of it.
 abbrev pub bag_of : Bag → Text → Scope
-bag_of b front = bag_members (size_of b.range b.extensible) (members_of b.held) b.due (texts_before b.members) front
+bag_of b front = bag_members (size_of b.range b.extensible) (members_of b.held) b.due b.members front
 
 -- The form of a bag of these members (X.691 22).
 abbrev pub form_of : Bool → Bag → List Text → Per.BitForm
@@ -34,7 +25,7 @@ form_of al b ts = Per.in_any_order (map as_form ts) (Per.sized al (size_of b.ran
 
 -- Whether a further member comes, as the writer has it: the text of the innermost member, and the scopes.
 abbrev pub further_in : Bool → Bag → Text → Text → List Scope → Option (Text × List Scope)
-further_in more b os front k = counted_in (size_of b.range b.extensible) (members_of b.held) b.due (texts_before b.members) front os k more
+further_in more b os front k = counted_in (size_of b.range b.extensible) (members_of b.held) b.due b.members front os k more
 
 -- A further member or the end comes next: the text and the bag are those behind this step.
 pub record GoesOnInBag (more : Bool) (b : Bag) (o : Packed) (next : Bag) (p : Packed) : Type 0 where

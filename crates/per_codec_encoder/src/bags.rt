@@ -7,7 +7,7 @@ ghost use Rattle.per_codec_packing.specs.Packed.{Adds, place};
 ghost use Rattle.per_codec_steps.specs.Steps.{with_open};
 ghost use Rattle.per_codec_texts.specs.Texts.{text_at};
 ghost use Rattle.per_codec_writing.specs.Writing.{Refuses};
-ghost use Rattle.per_codec_encoder.specs.Bags.{size_of, texts, texts_before, form_of, GoesOnInBag, NoFurther};
+ghost use Rattle.per_codec_encoder.specs.Bags.{size_of, form_of, GoesOnInBag, NoFurther};
 ghost use Rattle.per_codec_encoder.specs.Holding.{Does, Cannot};
 
 use crate::frame::{Bag, Frame, Place};
@@ -16,7 +16,7 @@ use crate::headings::push_heading;
 use asn1_schema_bounds::Bounded;
 use asn1_schema_constraints::{Constraints, Extensible, Size};
 use asn1_schema_faults::EncodeError;
-use per_codec_packing::Packing;
+use per_codec_packing::{Packing, Texts};
 use per_codec_writing::push_bag;
 use std::alloc::{AllocError, Global};
 use std::mem;
@@ -66,24 +66,6 @@ pub(crate) fn begin_bag(
     Ok(())
 }
 
-/// The members in front of the open one, and this behind them, if one is open.
-fn kept(
-    members: Option<Vec<Packing>>,
-    last: Packing,
-    alloc: Global,
-) -> Result<Vec<Packing>, AllocError>
-    ensures { IfOk result (λ all. texts all.items ≡ with_open (texts_before members) last.text) }
-{
-    match members {
-        None => Ok(Vec::new(alloc)),
-        Some(before) => {
-            let mut all = before;
-            all.push(last)?;
-            Ok(all)
-        }
-    }
-}
-
 /// Whether a further member of a bag comes: as many come as were told, and each begins a text of its own.
 pub(crate) fn next_of_bag(
     output: &mut Packing,
@@ -99,11 +81,31 @@ pub(crate) fn next_of_bag(
     if !more {
         return Ok(());
     }
-    let member = mem::replace(output, Packing::unplaced(alloc));
-    let members = kept(bag.members.take(), member, alloc)?;
-    bag.members = Some(members);
+    match &mut bag.members {
+        None => bag.members = Some(Texts::new(alloc)),
+        Some(members) => members.push(output)?,
+    }
+    output.truncate(0, 0);
     bag.due -= 1;
     Ok(())
+}
+
+/// The members in front of the open one, and this behind them, if one is open.
+fn all_members(
+    members: Option<Texts>,
+    open: &Packing,
+    alloc: Global,
+) -> Result<Texts, AllocError>
+    ensures { IfOk result (λ all. all ≡ with_open members open.now.text) }
+{
+    match members {
+        None => Ok(Texts::new(alloc)),
+        Some(before) => {
+            let mut all = before;
+            all.push(open)?;
+            Ok(all)
+        }
+    }
 }
 
 /// Ends a bag of which no member is due: behind what stands in front of it stand its members, in their order, behind their number (X.691 22).
@@ -113,15 +115,15 @@ pub(crate) fn end_bag(
     alloc: Global,
     aligned: bool,
 ) -> Result<(), EncodeError>
-    ensures { MatchResult result (λ _. Adds (text_at (form_of aligned bag (with_open (texts_before bag.members) output.old.text)) (place bag.outer)) bag.outer output.new) (Refuses (text_at (form_of aligned bag (with_open (texts_before bag.members) output.old.text)) (place bag.outer))) }
+    ensures { MatchResult result (λ _. Adds (text_at (form_of aligned bag (with_open bag.members output.old.text)) (place bag.outer)) bag.outer output.new) (Refuses (text_at (form_of aligned bag (with_open bag.members output.old.text)) (place bag.outer))) }
 {
     let size = Extensible::new(Size::new(bag.range)).set_extensible(bag.extensible);
     let constraints = Constraints {
         size: Some(size),
         ..Constraints::NONE
     };
-    let last = mem::replace(output, bag.outer);
-    let members = kept(bag.members, last, alloc)?;
-    push_bag(alloc, output, aligned, constraints, bag.held, members)?;
+    let members = all_members(bag.members, output, alloc)?;
+    *output = bag.outer;
+    push_bag(alloc, output, aligned, constraints, bag.held, &members)?;
     Ok(())
 }

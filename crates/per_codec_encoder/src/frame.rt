@@ -5,7 +5,7 @@ ghost use Rattle.per_codec_packing.specs.Packed.{solid};
 use crate::headings::Due;
 use asn1_schema_bounds::Bounded;
 use asn1_values_bits::BitBuffer;
-use per_codec_packing::Packing;
+use per_codec_packing::{Packing, Texts};
 
 /// A place in a text.
 #[derive(Clone, Copy, PartialEq, Eq)]
@@ -87,5 +87,5 @@ pub(crate) struct Bag {
     /// How many are due.
     pub due: usize,
     /// The members in front of the open one, if one is open.
-    pub members: Option<Vec<Packing>>,
+    pub members: Option<Texts>,
 }
