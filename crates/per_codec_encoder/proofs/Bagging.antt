@@ -1,22 +1,17 @@
 -- Bags that begin, go on and end, in the texts and the frames of an encoder.
-use Rattle.std.proofs.Common.{◌≡◌, ℕ, zero, suc, ◌-◌, ◌≤◌, Bool, true, false, not, ltb, is_some, List, [], ◌∷◌, ◌++◌, length, take, map, reverse, Some, None, Box, Global, Result, Ok, Err, MatchResult, refl, ap, subst, sym, ◌∙◌, arith, length-append}
-use mathlib.Core.Bool.{beq}
-use Rattle.std.proofs.lemmas.Bool.{ltb-false}
+use Rattle.std.proofs.Common.{◌≡◌, ℕ, ◌≤◌, Bool, false, List, [], ◌∷◌, ◌++◌, length, take, reverse, Some, None, Box, Global, Result, Ok, Err, MatchResult, refl, ap, subst, sym, ◌∙◌, arith, length-append}
 use Rattle.std.proofs.lemmas.List.{take_at}
 use Rattle.asn1_model.specs.Per
 use Rattle.asn1_model.specs.Schema.{Size, Counts}
 use Rattle.asn1_schema_bounds.specs.Bounds.{members_of}
 use Rattle.asn1_schema_bounds.specs.declared.bounds.Bounded.{Bounded}
-use Rattle.asn1_schema_constraints.specs.Terms.{sizes_of}
-use Rattle.asn1_schema_constraints.specs.declared.extensions.Extensible.{Extensible}
-use Rattle.asn1_schema_constraints.specs.declared.parts.Size.{Size as SizeConstraint}
 use Rattle.asn1_schema_faults.specs.declared.EncodeError.{EncodeError}
 use Rattle.asn1_schema_faults.specs.declared.EncodeError.TheVariants.{ValueConstraintNotSatisfied, SizeConstraintNotSatisfied, AlphabetConstraintNotSatisfied, TooLongValue, LengthExceedsPlatformSize, OutOfMemory, AlreadyFailed}
 use Rattle.asn1_schema_presented.specs.Records.{bag_begins, further, ends}
-use Rattle.per_codec_texts.specs.Texts.{Text, text_at, as_form}
+use Rattle.per_codec_texts.specs.Texts.{Text, text_at}
 use Rattle.per_codec_packing.specs.Packed.{Packed, place, plus, solid}
 use Rattle.per_codec_packing.proofs.Adding.{added}
-use Rattle.per_codec_steps.specs.Steps.{Scope, bag_members, State, list_heading, with_open, bag_opened, counted_in, closed_bag, adds_text, run}
+use Rattle.per_codec_steps.specs.Steps.{Scope, bag_members, State, list_heading, with_open, bag_opened, closed_bag, adds_text, run}
 use Rattle.per_codec_writing.specs.Writing.{Adds, Refuses}
 use Rattle.per_codec_encoder.specs.declared.frame.Bag.{Bag as BagFrame}
 use Rattle.per_codec_encoder.specs.declared.frame.Frame.{Frame}
@@ -26,7 +21,6 @@ use Rattle.per_codec_encoder.specs.Bags.{size_of, bag_of, form_of, further_in, G
 use Rattle.per_codec_encoder.specs.Headings.{Heads, NoHeading}
 use Rattle.per_codec_encoder.specs.Holding.{instead, Holds, Does, Cannot}
 use Rattle.per_codec_encoder.proofs.Scopes.{at_end, appended, on_top, put_back}
-use Rattle.per_codec_encoder.proofs.Opening.{agree_false, differ_true}
 
 -- ---- a bag begins
 

@@ -152,11 +152,11 @@ agree_true : (x : Bool) → not (beq true x) ≡ false → x ≡ true
 agree_true true h = refl
 agree_true false h = cc
 
-pub agree_false : (x : Bool) → not (beq false x) ≡ false → x ≡ false
+agree_false : (x : Bool) → not (beq false x) ≡ false → x ≡ false
 agree_false true h = cc
 agree_false false h = refl
 
-pub differ_true : (x : Bool) → not (beq true x) ≡ true → x ≡ false
+differ_true : (x : Bool) → not (beq true x) ≡ true → x ≡ false
 differ_true true h = cc
 differ_true false h = refl
 
