@@ -91,11 +91,7 @@ pub(crate) fn next_of_bag(
 }
 
 /// The members in front of the open one, and this behind them, if one is open.
-fn all_members(
-    members: Option<Texts>,
-    open: &Packing,
-    alloc: Global,
-) -> Result<Texts, AllocError>
+fn all_members(members: Option<Texts>, open: &Packing, alloc: Global) -> Result<Texts, AllocError>
     ensures { IfOk result (λ all. all ≡ with_open members open.now.text) }
 {
     match members {
