@@ -94,14 +94,11 @@ pub(crate) fn next_of_bag(
 fn all_members(members: Option<Texts>, open: &Packing, alloc: Global) -> Result<Texts, AllocError>
     ensures { IfOk result (λ all. all ≡ with_open members open.now.text) }
 {
-    match members {
-        None => Ok(Texts::new(alloc)),
-        Some(before) => {
-            let mut all = before;
-            all.push(open)?;
-            Ok(all)
-        }
-    }
+    let Some(mut all) = members else {
+        return Ok(Texts::new(alloc));
+    };
+    all.push(open)?;
+    Ok(all)
 }
 
 /// Ends a bag of which no member is due: behind what stands in front of it stand its members, in their order, behind their number (X.691 22).
