@@ -61,11 +61,7 @@ pub fn encode<T: Encode>(alloc: Global, value: &T) -> Result<Vec<u8>, EncodeErro
 }
 
 /// The same in the room of these octets, which are cleared.
-fn encode_into<T: Encode>(
-    alloc: Global,
-    value: &T,
-    octets: Vec<u8>,
-) -> Result<Vec<u8>, EncodeError>
+fn encode_into<T: Encode>(alloc: Global, value: &T, octets: Vec<u8>) -> Result<Vec<u8>, EncodeError>
     ensures ok { IfOk result (λ octets. IsEncoded T.schema (T.meaning value.now) octets.items) }
     ensures only { IfErr result (NotEncoded T.schema (T.meaning value.now)) }
 {
