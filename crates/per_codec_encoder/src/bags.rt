@@ -91,13 +91,13 @@ pub(crate) fn next_of_bag(
 }
 
 /// The members in front of the open one, and this behind them, if one is open.
-fn all_members(members: Option<Texts>, open: &Packing, alloc: Global) -> Result<Texts, AllocError>
-    ensures { IfOk result (λ all. all ≡ with_open members open.now.text) }
+fn all_members(members: Option<Texts>, last: &Packing, alloc: Global) -> Result<Texts, AllocError>
+    ensures { IfOk result (λ all. all ≡ with_open members last.now.text) }
 {
     let Some(mut all) = members else {
         return Ok(Texts::new(alloc));
     };
-    all.push(open)?;
+    all.push(last)?;
     Ok(all)
 }
 
