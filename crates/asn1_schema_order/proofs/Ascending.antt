@@ -249,10 +249,7 @@ module _ {X : Type 0} (key : X → List ℕ) where
   ascending_in_turn : (xs : List X) → ascending (λ x. Some (key x)) (stands_before ltb) xs ≡ Some (in_turn less xs)
   ascending_in_turn xs = ap (option_map (map (λ e. e.1))) (all_keyed xs) ∙ ap Some (plain (in_turn before xs) ∙ in_turn_same xs)
 
-  pub is_ascending : (xs ys : List X) → IsSortedBy less ys → IsStableBy less xs ys → ascending (λ x. Some (key x)) (stands_before ltb) xs ≡ Some ys
-  is_ascending xs ys up stable = ascending_in_turn xs ∙ ap Some (sorted_in_turn less ranks xs ys up stable)
-
--- the same where it is sorted by other keys that agree with these on what the list holds
+-- sorted by other keys that agree with these on what the list holds
 pub is_ascending_by : {X : Type 0} (P : X → Type 0) (key near : X → List ℕ) → ((x y : X) → P x → P y → less key x y ≡ less near x y) → (xs ys : List X) → Each P xs → IsSortedBy (less near) ys → IsStableBy (less near) xs ys → ascending (λ x. Some (key x)) (stands_before ltb) xs ≡ Some ys
 is_ascending_by P key near agree xs ys q up stable =
     ascending_in_turn key xs ∙ ap Some (in_turn_alike P (less key) (less near) agree xs q ∙ sorted_in_turn (less near) (ranks near) xs ys up stable)

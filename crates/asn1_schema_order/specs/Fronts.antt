@@ -9,6 +9,6 @@ leading zero octets = 0
 leading (suc n) [] = 0
 leading (suc n) (o ∷ os) = o * 256 ^ n + leading n os
 
--- an entry's octets, behind the number of its first
+-- the octets of an entry, behind the number that its first eight make
 abbrev pub fronted : Entry → List ℕ
 fronted e = e.front ∷ octets_of e

@@ -1,11 +1,10 @@
 //! Encodings that share memory.
-ghost use Rattle.std.specs.Prelude.{◌≡◌, ◌++◌, ◌<◌, [], ◌∷◌, length, OnOk, OnErr, IfOk, get_or};
+ghost use Rattle.std.specs.Prelude.{◌≡◌, ◌++◌, ◌<◌, [], ◌∷◌, length, OnOk, OnErr, IfOk, IsTrue, ◌↔◌, get_or};
 ghost use Rattle.std.specs.Cmp.Lexicographic.{slice_cmp};
 ghost use Rattle.std.specs.Ordering.{nat_cmp};
 ghost use Rattle.asn1_schema_order.specs.Entries.{octets_of, AreInOrder};
 ghost use Rattle.asn1_schema_order.specs.Fronts.{leading, fronted};
 
-use crate::order::Encoded;
 use std::alloc::{AllocError, Global};
 use std::cmp::Ordering;
 use std::marker::Model;
@@ -56,22 +55,14 @@ fn front_of(octets: &[u8]) -> u64
 pub struct Entry<'a> {
     /// Its octets.
     pub octets: &'a [u8],
-    /// How many stand in front of it.
+    /// How many of the encodings were added before it.
     pub index: usize,
     // Its first eight octets as a number, which mostly tells which of two stands before the other.
     front: u64,
 }
 
-impl Encoded for Entry<'_> {
-    ghost encoding = { λ e. octets_of e };
-
-    fn octets(&self) -> &[u8] {
-        self.octets
-    }
-}
-
 impl Entry<'_> {
-    // How it stands to another, by their first octets and, where these are the same, by all.
+    // How it stands to another, by their first eight octets and, where these are the same, by all.
     #[inline]
     fn compare(&self, other: &Entry<'_>) -> Ordering
         ensures { result ≡ slice_cmp nat_cmp (fronted self.now) (fronted other.now) }
@@ -102,6 +93,14 @@ impl Encodings {
         self.spans.len()
     }
 
+    /// Whether there are none.
+    #[inline]
+    pub fn is_empty(&self) -> bool
+        ensures { IsTrue result ↔ (self.now ≡ []) }
+    {
+        self.len() == 0
+    }
+
     /// Adds one behind the others.
     ///
     /// # Errors
@@ -119,7 +118,7 @@ impl Encodings {
         Ok(())
     }
 
-    /// One of them.
+    /// The octets of the one at a place.
     #[inline]
     pub fn get(&self, index: usize) -> &[u8]
         requires { index < length self.now }
@@ -129,7 +128,8 @@ impl Encodings {
         &self.octets[span.from..span.to]
     }
 
-    /// All of them in ascending order, each with its place among them; those of the same octets stand as they stood.
+    /// All of them in ascending order (X.691 22, X.696 19), each with its place among them; those of the same octets stand as they stood. The first
+    /// octet in which two differ tells which stands before the other, and one with which another begins stands before that.
     ///
     /// # Errors
     ///

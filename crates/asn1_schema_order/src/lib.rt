@@ -2,7 +2,5 @@
 #![tactic(auto)]
 
 mod encodings;
-mod order;
 
 pub use encodings::{Encodings, Entry};
-pub use order::{Encoded, put_in_order};

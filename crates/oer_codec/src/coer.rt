@@ -26,11 +26,12 @@ pub fn encode<T: Encode>(alloc: Global, value: &T) -> Result<Vec<u8>, EncodeErro
     Ok(octets)
 }
 
-/// Adds the canonical encoding of a value (X.696) behind what stands in the buffer.
+/// Adds the canonical encoding of a value (X.696) behind what stands in the buffer. If nothing does, it is written in the buffer's own
+/// room.
 ///
 /// # Errors
 ///
-/// Those of `encode`; the buffer is then as it was.
+/// Those of `encode`; the buffer then holds what it held, but an empty one has no room any more.
 pub fn encode_buf<T: Encode>(
     alloc: Global,
     value: &T,

@@ -16,13 +16,12 @@ const LENGTH_LIMIT: usize = 1 << 60;
 const FIRST_CAPACITY: usize = 128;
 
 /// No octets, with the room of these, and at least that for those of a small value.
-fn with_room(octets: Vec<u8>) -> Result<Vec<u8>, EncodeError>
+fn with_room(mut octets: Vec<u8>) -> Result<Vec<u8>, EncodeError>
     ensures { MatchResult result (λ room. room.items ≡ []) (λ e. e ≡ EncodeError.OutOfMemory) }
 {
-    let mut room = octets;
-    room.clear();
-    room.reserve(FIRST_CAPACITY)?;
-    Ok(room)
+    octets.clear();
+    octets.reserve(FIRST_CAPACITY)?;
+    Ok(octets)
 }
 
 /// The octets, if they are not too many for an encoding.
@@ -61,11 +60,11 @@ pub fn encode<T: Encode>(alloc: Global, value: &T) -> Result<Vec<u8>, EncodeErro
 }
 
 /// The same in the room of these octets, which are cleared.
-fn encode_into<T: Encode>(alloc: Global, value: &T, octets: Vec<u8>) -> Result<Vec<u8>, EncodeError>
+fn encode_into<T: Encode>(alloc: Global, value: &T, room: Vec<u8>) -> Result<Vec<u8>, EncodeError>
     ensures ok { IfOk result (λ octets. IsEncoded T.schema (T.meaning value.now) octets.items) }
     ensures only { IfErr result (NotEncoded T.schema (T.meaning value.now)) }
 {
-    let mut output = with_room(octets)?;
+    let mut output = with_room(room)?;
     let mut worker = Vec::new(alloc);
     let options = EncoderOptions::coer();
     let mut encoder = Encoder::from_buffer(alloc, options, &mut output, &mut worker);
@@ -102,7 +101,7 @@ pub fn encode_with_constraints<T: Encode>(
 ///
 /// # Errors
 ///
-/// Those of `encode`; the buffer is then as it was.
+/// Those of `encode`; the buffer then holds what it held, but an empty one has no room any more.
 pub fn encode_buf<T: Encode>(
     alloc: Global,
     value: &T,

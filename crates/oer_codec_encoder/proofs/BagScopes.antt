@@ -138,10 +138,10 @@ adds_ordered ws es old new h e = ap (option_map (λ w. old ++ w)) (ap (λ l. wri
     forms = ap (map (λ w. exactly w)) (sym (placed_octets 0 ws h.all h.placed)) ∙ sym (forms_of h.all)
 
 -- one alone
-pub adds_one : (ws : List (List ℕ)) (w old new : List ℕ) → length ws ≡ 0 → new ≡ old ++ w → Adds (bag_text (ws ++ w ∷ [])) old new
+pub adds_one : (ws : List (List ℕ)) (w old new : List ℕ) → ws ≡ [] → new ≡ old ++ w → Adds (bag_text (ws ++ w ∷ [])) old new
 unfolding written Oer.in_any_order
 adds_one [] w old new n e = ap (λ l. Some (old ++ l)) (append-nil w) ∙ ap Some (sym e)
-adds_one (v ∷ vs) w old new n e = absurd (omega (arith, n))
+adds_one (v ∷ vs) w old new n e = cc
 
 -- none at all
 adds_none : (old : List ℕ) → Adds (bag_text []) old old

@@ -62,20 +62,20 @@ pub(crate) fn next_of_bag(
     count_member(&mut bag.due, more)?;
     if more {
         match &mut bag.members {
-            Some(members) => members.push(octets.as_slice())?,
             None => bag.members = Some(Encodings::new(alloc)),
+            Some(members) => members.push(octets.as_slice())?,
         }
         octets.clear();
     }
     Ok(())
 }
 
-/// Adds texts, one behind the other.
-fn push_each(octets: &mut Vec<u8>, texts: &[Entry<'_>]) -> Result<(), AllocError>
-    ensures { OnOk result (octets.new.items ≡ octets.old.items ++ texts_joined (map octets_of texts.now)) }
+/// Adds the octets of entries, one behind the other.
+fn push_each(octets: &mut Vec<u8>, entries: &[Entry<'_>]) -> Result<(), AllocError>
+    ensures { OnOk result (octets.new.items ≡ octets.old.items ++ texts_joined (map octets_of entries.now)) }
 {
-    for text in texts {
-        octets.extend_from_slice(text.octets)?;
+    for entry in entries {
+        octets.extend_from_slice(entry.octets)?;
     }
     Ok(())
 }
@@ -89,7 +89,7 @@ pub(crate) fn push_members(
 ) -> Result<(), EncodeError>
     ensures { MatchResult result (λ _. Adds (written (in_any_order (map (λ w. exactly w) (members ++ last.now ∷ [])) (λ xs. joined xs)) 0) octets.old.items octets.new.items) (λ e. e ≡ EncodeError.OutOfMemory) }
 {
-    if members.len() == 0 {
+    if members.is_empty() {
         octets.extend_from_slice(last)?;
         return Ok(());
     }

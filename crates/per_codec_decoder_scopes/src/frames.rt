@@ -158,6 +158,10 @@ impl<'input> Scopes<'input> {
     }
 
     /// Opens a scope inside all others.
+    ///
+    /// # Errors
+    ///
+    /// Want of memory; the scopes are then of no more use.
     #[inline(always)]
     pub fn open(&mut self, frame: Frame<'input>) -> Result<(), AllocError>
         ensures { OnOk result (self.new ≡ scope_of frame.entry ∷ self.old) }
@@ -167,6 +171,10 @@ impl<'input> Scopes<'input> {
     }
 
     /// Opens a scope inside all others that encloses one value alone.
+    ///
+    /// # Errors
+    ///
+    /// Want of memory; the scopes are then of no more use.
     #[inline(always)]
     pub fn enclose(&mut self, enclosing: Enclosing<'input>) -> Result<(), AllocError>
         ensures { OnOk result (self.new ≡ scope_around enclosing.entry ∷ self.old) }
@@ -176,7 +184,7 @@ impl<'input> Scopes<'input> {
         Ok(())
     }
 
-    /// The next presence bit of the innermost sequence, set or group.
+    /// The next presence bit of the innermost sequence, set or group, if one is due.
     #[inline(always)]
     pub fn next_mark(&mut self) -> Option<bool>
         ensures some { IfSome result (λ present. (p : _) → NextMark present p self.old (p, self.new)) }
@@ -213,7 +221,7 @@ impl<'input> Scopes<'input> {
         self.innermost = Some(frame);
     }
 
-    /// Whether the next addition of the innermost sequence or set is there. Those past the bits of the bitmap are not.
+    /// Whether the next addition of the innermost sequence or set is there, if one is due. Those past the bits of the bitmap are not.
     pub fn next_addition(&mut self) -> Option<bool>
         ensures some { IfSome result (λ is_there. Flags is_there self.old self.new) }
         ensures none { IfNone result (NoFlag self.old) }
@@ -270,7 +278,7 @@ impl<'input> Scopes<'input> {
         }
     }
 
-    /// Closes the innermost scope, if it is an addition: the place behind its open type.
+    /// Closes the innermost scope, if it is an addition: the place behind its open type. Where it is none, the scopes are of no more use.
     pub fn leave_addition(&mut self) -> Option<Stretch<'input>>
         ensures some { IfSome result (λ behind. LeavesAddition behind.place self.old self.new) }
         ensures none { IfNone result (NoAdditionEnd self.old) }
@@ -305,7 +313,7 @@ impl<'input> Scopes<'input> {
         }
     }
 
-    /// Closes the innermost scope, if nothing of it is still to come but what it leaves.
+    /// Closes the innermost scope, if nothing of it is still to come but what it leaves. Where more is, the scopes are of no more use.
     #[inline(always)]
     pub fn leave(&mut self) -> Option<Ending<'input>>
         ensures some { IfSome result (λ ending. Leaves ending self.old self.new) }

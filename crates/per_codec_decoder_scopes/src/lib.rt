@@ -2,10 +2,10 @@
 //! sequences, sets and groups, the bitmaps of additions, and the numbers of members.
 #![tactic(auto)]
 
-pub mod additions;
-pub mod frames;
-pub mod members;
-pub mod preamble;
+mod additions;
+mod frames;
+mod members;
+mod preamble;
 
 pub use additions::Additions;
 pub use frames::{Enclosing, Ending, Frame, Scopes};

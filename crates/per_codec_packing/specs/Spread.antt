@@ -18,10 +18,10 @@ abbrev pub Ascend : ℕ → List ℕ → ℕ → Type 0
 Ascend from [] to = from ≤ to
 Ascend from (f ∷ fs) to = (from ≤ f) × Ascend f fs to
 
--- .. and there is at most one proof of it
-pub Ascend-prop : (from : ℕ) (fs : List ℕ) (to : ℕ) → IsProp (Ascend from fs to)
-Ascend-prop from [] to = le_prop
-Ascend-prop from (f ∷ fs) to = ×_prop le_prop (Ascend-prop f fs to)
+-- There is at most one proof that they ascend.
+pub ascend_prop : (from : ℕ) (fs : List ℕ) (to : ℕ) → IsProp (Ascend from fs to)
+ascend_prop from [] to = le_prop
+ascend_prop from (f ∷ fs) to = ×_prop le_prop (ascend_prop f fs to)
 
 -- Filling is left open within the bits, and where the place is known there is none.
 pub record AreFills (bits : List Bool) (fills : List ℕ) (placed : Bool) : Type 0 where

@@ -1,33 +1,35 @@
 //! Orders of octets.
-use asn1_schema_order::put_in_order;
+use asn1_schema_order::Encodings;
 use std::alloc::{AllocError, Global};
 use std::test::Fail;
 
-// Three encodings, the longest first.
-fn put_three(members: &mut Vec<Vec<u8>>, alloc: Global) -> Result<(), AllocError> {
-    members.push(vec![in alloc; 0x02u8, 0x01, 0x00]?)?;
-    members.push(vec![in alloc; 0x01u8, 0xFF]?)?;
-    members.push(vec![in alloc; 0x01u8]?)?;
-    put_in_order(members)
+// Encodings of which some begin as others do.
+fn add_encodings(all: &mut Encodings) -> Result<(), AllocError> {
+    all.push(&[0x02, 0x01, 0x00])?;
+    all.push(&[0x01, 0x00])?;
+    all.push(&[0x01])?;
+    all.push(&[0x01, 0x00])?;
+    all.push(&[0x01, 0xFF])?;
+    all.push(&[0x03, 0, 0, 0, 0, 0, 0, 0, 0x02])?;
+    all.push(&[0x03, 0, 0, 0, 0, 0, 0, 0, 0x01])?;
+    all.push(&[])
 }
 
-// Whether these are the three in their order.
-fn are_in_order(members: &[Vec<u8>]) -> bool {
-    match members {
-        [first, second, third] => {
-            first.as_slice() == [0x01u8].as_slice()
-                && second.as_slice() == [0x01u8, 0xFF].as_slice()
-                && third.as_slice() == [0x02u8, 0x01, 0x00].as_slice()
-        }
-        _ => false,
+// Whether the encodings stand in this order, by the places at which they were added.
+fn stand_so(alloc: Global, all: &Encodings, places: &[usize]) -> Result<bool, AllocError> {
+    let entries = all.in_order(alloc)?;
+    let mut found = Vec::new(alloc);
+    for entry in &entries {
+        found.push(entry.index)?;
     }
+    Ok(found.as_slice() == places)
 }
 
 #[test]
 fn shorter_ones_first(rt: HostRuntime) -> Result<(), Fail> {
     let alloc = rt.alloc();
-    let mut members = Vec::new(alloc);
-    put_three(&mut members, alloc)?;
-    assert!(rt; are_in_order(members.as_slice()));
+    let mut all = Encodings::new(alloc);
+    add_encodings(&mut all)?;
+    assert!(rt; stand_so(alloc, &all, &[7, 2, 1, 3, 4, 0, 6, 5])?);
     Ok(())
 }

@@ -1,11 +1,11 @@
-use Rattle.std.proofs.Common.{[], ◌∷◌, ◌++◌, map, ap, ◌∙◌, subst, arith}
+use Rattle.std.proofs.Common.{[], ◌∷◌, ◌++◌, map, ap, ◌∙◌, subst}
 use Rattle.asn1_schema_order.specs.Entries.{octets_of, AreInOrder}
 use Rattle.oer_codec_encoder.specs.Slots.{texts_joined}
 use Rattle.oer_codec_encoder.proofs.BagScopes.{adds_one, adds_ordered}
 use Rattle.oer_codec_encoder.proofs.bags.push_members.Goals as goal
 
-pub returns-then-len-eq0 : goal.returns-then-len-eq0
-returns-then-len-eq0 c = adds_one c.args.members c.args.last.now c.args.octets.now.items c.extend_from_slice.new.self.items (omega (arith, c.len.ensures, c.if-len-eq0.true)) c.in_ok-extend_from_slice.ensures.items
+pub returns-then-is_empty : goal.returns-then-is_empty
+returns-then-is_empty c = adds_one c.args.members c.args.last.now c.args.octets.now.items c.extend_from_slice.new.self.items (c.is_empty.ensures.0 c.if-is_empty.true) c.in_ok-extend_from_slice.ensures.items
 
 pub returns : goal.returns
 returns c =
