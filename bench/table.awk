@@ -18,6 +18,8 @@ BEGIN {
     text["bags_100000"] = "10 bags of 10^5 numbers"
     text["_to_uper"] = "COER to UPER"
     text["_to_coer"] = "UPER to COER"
+    text["_to_aper"] = "OER to APER"
+    text["_to_oer"] = "APER to OER"
 }
 {
     key = $1 " " $2

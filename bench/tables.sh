@@ -13,7 +13,7 @@ for rules in coer oer uper aper; do
     echo
     "$here/types/run.sh" $rules "$work"
 done
-for rules in coer oer uper aper recode; do
+for rules in coer oer uper aper recode recode_aligned; do
     echo
     echo "## kinds, $rules"
     echo

@@ -1,8 +1,16 @@
-/* Messages of a choice, of a sequence with additions and of bags translated between COER and UPER in plain C: each is read, and what was read
- * is written. */
+/* Messages of a choice, of a sequence with additions and of bags translated in plain C, between COER and UPER, or between OER and APER with BASIC and
+ * ALIGNED: each is read, and what was read is written. */
 #include "kinds.h"
 #include "oer.h"
 #include "per.h"
+
+#ifdef ALIGNED
+#define TO_PACKED "_to_aper"
+#define TO_OCTETS "_to_oer"
+#else
+#define TO_PACKED "_to_uper"
+#define TO_OCTETS "_to_coer"
+#endif
 
 /* The messages of so many values, one behind the other. */
 INLINED int make_messages(struct buffer *b, const struct kind *kind, const struct codec *codec, size_t count, size_t members)
@@ -46,11 +54,11 @@ INLINED int time_recode(const char *name, const struct kind *kind, const struct 
 
 int main(void)
 {
-    return time_recode("recode_choices_to_uper", &PICK, &OER_PICK, &PER_PICK, COUNT, 0)
-        && time_recode("recode_choices_to_coer", &PICK, &PER_PICK, &OER_PICK, COUNT, 0)
-        && time_recode("recode_additions_to_uper", &GROWN, &OER_GROWN, &PER_GROWN, COUNT, 0)
-        && time_recode("recode_additions_to_coer", &GROWN, &PER_GROWN, &OER_GROWN, COUNT, 0)
-        && time_recode("recode_bags_10000_to_uper", &BAG, &OER_BAG, &PER_BAG, COUNT / 10000, 10000)
-        && time_recode("recode_bags_10000_to_coer", &BAG, &PER_BAG, &OER_BAG, COUNT / 10000, 10000)
+    return time_recode("recode_choices" TO_PACKED, &PICK, &OER_PICK, &PER_PICK, COUNT, 0)
+        && time_recode("recode_choices" TO_OCTETS, &PICK, &PER_PICK, &OER_PICK, COUNT, 0)
+        && time_recode("recode_additions" TO_PACKED, &GROWN, &OER_GROWN, &PER_GROWN, COUNT, 0)
+        && time_recode("recode_additions" TO_OCTETS, &GROWN, &PER_GROWN, &OER_GROWN, COUNT, 0)
+        && time_recode("recode_bags_10000" TO_PACKED, &BAG, &OER_BAG, &PER_BAG, COUNT / 10000, 10000)
+        && time_recode("recode_bags_10000" TO_OCTETS, &BAG, &PER_BAG, &OER_BAG, COUNT / 10000, 10000)
         ? 0 : 1;
 }

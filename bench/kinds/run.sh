@@ -1,6 +1,7 @@
 #!/bin/sh
-# bench/kinds/run.sh coer|oer|uper|aper|recode [FOLDER]: times a choice, a sequence with additions and bags by one set of rules, or their translation
-# between COER and UPER, beside the same work in C, and in UPER beside the code that asn1c generates, where it is there; the rest as in bench/run.sh.
+# bench/kinds/run.sh coer|oer|uper|aper|recode|recode_aligned [FOLDER]: times a choice, a sequence with additions and bags by one set of rules, or their
+# translation between COER and UPER or between OER and APER, beside the same work in C, and in UPER beside the code that asn1c generates, where it is
+# there; the rest as in bench/run.sh.
 here=$(cd "$(dirname "$0")/.." && pwd)
 rules=${1:-coer}
 work=${2:-$(mktemp -d)}
@@ -12,6 +13,7 @@ case $rules in
     uper) compile -DPACKED "$here/kinds/plain.c"; generate "$here/kinds" kinds.asn1 ;;
     aper) compile -DPACKED -DALIGNED "$here/kinds/plain.c" ;;
     recode) compile "$here/kinds/recode.c"; program=kinds_recode ;;
+    recode_aligned) compile -DBASIC -DALIGNED "$here/kinds/recode.c"; program=kinds_recode ;;
     *) echo "no such rules" >&2; exit 2 ;;
 esac
 codecs='asn1_schema_decode asn1_schema_encode asn1_schema_faults oer_codec per_codec'
