@@ -2,7 +2,7 @@
 use Rattle.std.specs.Prelude.{◌≡◌, ℕ, zero, suc, refl, List, [], ◌∷◌, map, None, false}
 use Rattle.std.proofs.Common.{ap, sym, subst, ◌∙◌}
 use Rattle.asn1_model.specs.Value.{Value, Values, Parts, number, members, no_more, member, fields, end}
-use Rattle.asn1_model.specs.Schema.{Schema, Tag, required, integer, cut}
+use Rattle.asn1_model.specs.Schema.{Schema, required, integer, cut}
 use Rattle.asn1_model.specs.Types.{any_size}
 use Rattle.asn1_model.specs.Lawful.{is_lawful}
 use Rattle.asn1_schema_presented.specs.Presents.{there, with_part}
@@ -16,7 +16,7 @@ use Rattle.asn1_schema_example_trees.specs.declared.tree.Tree.{Tree, Tree', Row_
 use Rattle.asn1_schema_example_trees.specs.declared.tree.Tree.TheBlock.{hidden-the_row-Tree-0}
 use Rattle.asn1_schema_example_trees.specs.declared.tree.Tree.TheOpen.{Tree-F}
 use Rattle.asn1_schema_example_trees.specs.declared.tree.Tree.TheViews.{out-Tree, roll-Tree, out-roll-Tree, roll-out-Tree, rolls-struct-Tree}
-use Rattle.asn1_schema_example_trees.specs.declared.tree.Tree.TheFolds.{map-Tree, ind-Tree}
+use Rattle.asn1_schema_example_trees.specs.declared.tree.Tree.TheFolds.{ind-Tree}
 
 -- INTEGER, in any number of levels.
 abbrev pub whole_number : ℕ → Schema
@@ -63,6 +63,7 @@ list_typed t = type_list any_size any_number refl refl t
 
 mutual
   unfolding tree_schema branches_schema is_lawful
+
   tree_at : (n : ℕ) → IsSequence (λ _. tree_schema n)
   tree_at zero = record { tagged = refl; lawful = λ m. refl; no_group = λ m. refl }
   tree_at (suc n) = record { tagged = refl; lawful = λ m. (sequence_typed (branches_at n)).lawful (suc n); no_group = λ m. (sequence_typed (branches_at n)).no_group (suc n) }

@@ -1,5 +1,5 @@
 //! Tree ::= SEQUENCE {value INTEGER, branches SEQUENCE OF Tree}, a type that leads back to itself through a list.
-ghost use Rattle.std.specs.Prelude.{◌≡◌, [], ◌∷◌, refl, length, OnOk, OnErr, IfOk, IfErr};
+ghost use Rattle.std.specs.Prelude.{◌≡◌, [], ◌∷◌, refl, OnOk, OnErr, IfOk, IfErr};
 ghost use Rattle.asn1_model.specs.Value.{end, members};
 ghost use Rattle.asn1_schema_constraints.specs.Sets.{no_constraint};
 ghost use Rattle.asn1_schema_constructed.specs.Constructed.{sequence_form};
@@ -131,7 +131,12 @@ fn write_branches<E: Encoder>(branches: &[Tree], encoder: &mut E) -> Result<(), 
     ensures only { IfErr result (CannotWrite E.step branches_schema (members (values_of tree_meaning branches.now)) encoder.old) }
     ensures failed { OnErr result (E.has_failed encoder.new) }
 {
-    encoder.begin_list(Tag::SEQUENCE, Constraints::NONE, Bounded::None, branches.len())?;
+    encoder.begin_list(
+        Tag::SEQUENCE,
+        Constraints::NONE,
+        Bounded::None,
+        branches.len(),
+    )?;
     for branch in branches {
         encoder.put_further(true)?;
         branch.encode(encoder)?;
@@ -152,9 +157,12 @@ fn read_branches<D: Decoder>(alloc: Global, decoder: &mut D) -> Result<Vec<Tree>
     decoder.begin_list(Tag::SEQUENCE, Constraints::NONE, Bounded::None)?;
     let mut branches = Vec::new(alloc);
     while decoder.get_further()? {
-        let optional = Tree::fields().number_of_optional_and_default_fields();
-        decoder.begin_sequence(Tag::SEQUENCE, false, optional)?;
-        let branch = Tree::read_fields(alloc, decoder)?;
+        let branch = Tree::decode_with_tag_and_constraints(
+            alloc,
+            decoder,
+            Tag::SEQUENCE,
+            Constraints::NONE,
+        )?;
         let Ok(()) = branches.push(branch) else {
             return Err(decoder.refuse(DecodeError::OutOfMemory));
         };
@@ -179,6 +187,7 @@ impl Encode for Tree {
 }
 
 impl Decode for Tree {
+    #[cycle(reading)]
     fn decode_with_tag_and_constraints<D: Decoder>(
         alloc: Global,
         decoder: &mut D,
