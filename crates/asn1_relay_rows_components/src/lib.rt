@@ -10,4 +10,6 @@ mod optional;
 #[cfg(test)]
 mod sequences;
 #[cfg(test)]
+mod trees;
+#[cfg(test)]
 mod wide_bitmaps;

@@ -4,7 +4,6 @@ ghost use Rattle.asn1_model.specs.Value.{end, members};
 ghost use Rattle.asn1_schema_constraints.specs.Sets.{no_constraint};
 ghost use Rattle.asn1_schema_constructed.specs.Constructed.{sequence_form};
 ghost use Rattle.asn1_schema_decode.specs.Reads.{Reads, Unread};
-ghost use Rattle.asn1_schema_encode.specs.Writes.{Writes, CannotWrite};
 ghost use Rattle.asn1_schema_presented.specs.Parts.{values_of};
 ghost use Rattle.asn1_schema_example_trees.specs.Tree.{branches_schema, tree_meaning};
 
@@ -106,7 +105,7 @@ impl Constructed for Tree {
     #[cycle(writing)]
     fn write_fields<E: Encoder>(&self, encoder: &mut E) -> Result<(), EncodeError> {
         self.value.encode(encoder)?;
-        write_branches(&self.branches, encoder)?;
+        self.branches.encode(encoder)?;
         encoder.end()?;
         Ok(())
     }
@@ -124,29 +123,7 @@ impl Constructed for Tree {
     ghost is_of = { λ _. tree_is };
 }
 
-// The list of the trees that branch off, each handed over where it stands.
-#[cycle(writing)]
-fn write_branches<E: Encoder>(branches: &[Tree], encoder: &mut E) -> Result<(), EncodeError>
-    ensures ok { OnOk result (Writes E.step branches_schema (members (values_of tree_meaning branches.now)) encoder.old encoder.new) }
-    ensures only { IfErr result (CannotWrite E.step branches_schema (members (values_of tree_meaning branches.now)) encoder.old) }
-    ensures failed { OnErr result (E.has_failed encoder.new) }
-{
-    encoder.begin_list(
-        Tag::SEQUENCE,
-        Constraints::NONE,
-        Bounded::None,
-        branches.len(),
-    )?;
-    for branch in branches {
-        encoder.put_further(true)?;
-        branch.encode(encoder)?;
-    }
-    encoder.put_further(false)?;
-    encoder.end()?;
-    Ok(())
-}
-
-// The list of the trees that branch off, each read where it stands.
+// The list of the trees that branch off. Each is read by a direct call, which the levels that are left bound.
 #[cycle(reading)]
 fn read_branches<D: Decoder>(alloc: Global, decoder: &mut D) -> Result<Vec<Tree>, DecodeError>
     ensures ok { IfOk result (λ x. Reads D.step branches_schema (D.levels decoder.old) (members (values_of tree_meaning x.items)) decoder.old decoder.new) }

@@ -1,22 +1,21 @@
-use Rattle.std.proofs.Common.{refl, ◌∙◌, arith}
+use Rattle.std.proofs.Common.{refl, ◌∙◌}
 use Rattle.asn1_schema_presented.proofs.Joined.{raised}
-use Rattle.asn1_schema_encode.proofs.Listing.{count_values, writes_list, cannot_list_here, cannot_list, from_start, from_next, from_further, from_stuck, from_end, from_no_more, from_close}
 use Rattle.asn1_schema_encode.proofs.Writing.{writes_required, writes_end, writes_field, writes_this, writes_as, cannot_as, cannot_required, cannot_end, cannot_field, cannot_field_here, cannot_this, cannot_this_here}
 use Rattle.asn1_schema_constructed.proofs.Counting.{count_marks}
-use Rattle.asn1_schema_example_trees.specs.Tree.{tree_table, tree_meaning, tree_is, branches_schema, branches_are, tree_opens, number_typed, branches_typed}
+use Rattle.asn1_schema_example_trees.specs.Tree.{tree_table, tree_is, branches_schema, branches_are, tree_opens, number_typed, branches_typed}
 use Rattle.asn1_schema_example_trees.proofs.tree.+writing.Goals as goal
 
 pub TreeConstructed::write_fields-returns-in_err-encode-clause-only : goal.TreeConstructed::write_fields-returns-in_err-encode-clause-only
 TreeConstructed::write_fields-returns-in_err-encode-clause-only g t c = raised _ _ _ c.from_residual.ensures.1 (cannot_field_here _ _ _ _ (cannot_required number_typed c.in_err-encode.ensures.only))
 
-pub TreeConstructed::write_fields-returns-in_err-write_branches-clause-only : goal.TreeConstructed::write_fields-returns-in_err-write_branches-clause-only
-TreeConstructed::write_fields-returns-in_err-write_branches-clause-only g t c = let one = g.met.E.Encoder.one_after in raised _ _ _ c.from_residual-in_err-write_branches.ensures.1 (cannot_field one _ (writes_required number_typed c.in_ok-encode.ensures.ok) (cannot_field_here _ _ _ _ (cannot_required branches_typed (rw c.deref.ensures.value at c.in_err-write_branches.ensures.only))))
+pub TreeConstructed::write_fields-returns-in_err-encode-2-clause-only : goal.TreeConstructed::write_fields-returns-in_err-encode-2-clause-only
+TreeConstructed::write_fields-returns-in_err-encode-2-clause-only g t c = let one = g.met.E.Encoder.one_after in raised _ _ _ c.from_residual-in_err-encode-2.ensures.1 (cannot_field one _ (writes_required number_typed c.in_ok-encode.ensures.ok) (cannot_field_here _ _ _ _ (cannot_required branches_typed (cannot_as _ _ branches_are c.in_err-encode-2.ensures.only))))
 
 pub TreeConstructed::write_fields-returns-in_err-end-clause-only : goal.TreeConstructed::write_fields-returns-in_err-end-clause-only
-TreeConstructed::write_fields-returns-in_err-end-clause-only g t c = let one = g.met.E.Encoder.one_after in raised _ _ _ c.from_residual-in_err-end.ensures.1 (cannot_field one _ (writes_required number_typed c.in_ok-encode.ensures.ok) (cannot_field one _ (writes_required branches_typed (rw c.deref.ensures.value at c.in_ok-write_branches.ensures.ok)) (cannot_end c.in_err-end.ensures.only)))
+TreeConstructed::write_fields-returns-in_err-end-clause-only g t c = let one = g.met.E.Encoder.one_after in raised _ _ _ c.from_residual-in_err-end.ensures.1 (cannot_field one _ (writes_required number_typed c.in_ok-encode.ensures.ok) (cannot_field one _ (writes_required branches_typed (writes_as _ _ branches_are c.in_ok-encode-2.ensures.ok)) (cannot_end c.in_err-end.ensures.only)))
 
 pub TreeConstructed::write_fields-returns-clause-ok : goal.TreeConstructed::write_fields-returns-clause-ok
-TreeConstructed::write_fields-returns-clause-ok g t c = writes_field _ (writes_required number_typed c.in_ok-encode.ensures.ok) (writes_field _ (writes_required branches_typed (rw c.deref.ensures.value at c.in_ok-write_branches.ensures.ok)) (writes_end c.in_ok-end.ensures.ok))
+TreeConstructed::write_fields-returns-clause-ok g t c = writes_field _ (writes_required number_typed c.in_ok-encode.ensures.ok) (writes_field _ (writes_required branches_typed (writes_as _ _ branches_are c.in_ok-encode-2.ensures.ok)) (writes_end c.in_ok-end.ensures.ok))
 
 pub TreeEncode::encode_with_tag_and_constraints-returns-in_err-begin_sequence-clause-only : goal.TreeEncode::encode_with_tag_and_constraints-returns-in_err-begin_sequence-clause-only
 TreeEncode::encode_with_tag_and_constraints-returns-in_err-begin_sequence-clause-only g t c = raised _ _ _ c.from_residual.ensures.1 (rw tree_opens (cannot_as _ _ tree_is (cannot_this_here _ (tree_table branches_schema) (c.number_of_optional_and_default_fields-optional.ensures ∙ count_marks _ _ c.fields.ensures) refl _ _ c.in_err-begin_sequence.ensures.only)))
@@ -26,27 +25,3 @@ TreeEncode::encode_with_tag_and_constraints-returns-in_err-write_fields-clause-o
 
 pub TreeEncode::encode_with_tag_and_constraints-returns-clause-ok : goal.TreeEncode::encode_with_tag_and_constraints-returns-clause-ok
 TreeEncode::encode_with_tag_and_constraints-returns-clause-ok g t c = rw tree_opens (writes_as _ _ tree_is (writes_this _ (tree_table branches_schema) (c.number_of_optional_and_default_fields-optional.ensures ∙ count_marks _ _ c.fields.ensures) refl c.in_ok-begin_sequence.ensures.ok c.in_ok-write_fields.ensures.ok))
-
-pub write_branches-returns-in_err-begin_list-clause-only : goal.write_branches-returns-in_err-begin_list-clause-only
-write_branches-returns-in_err-begin_list-clause-only g t c = raised _ _ _ c.from_residual.ensures.1 (cannot_as _ _ branches_are (cannot_list_here _ _ _ _ (rw (count_values tree_meaning c.args.branches.now) c.in_err-begin_list.ensures.only)))
-
-pub write_branches-loop-branch-init : goal.write_branches-loop-branch-init
-write_branches-loop-branch-init g t c = from_start _
-
-pub write_branches-returns-in_err-put_further-clause-only : goal.write_branches-returns-in_err-put_further-clause-only
-write_branches-returns-in_err-put_further-clause-only g t c = let one = g.met.E.Encoder.one_after in raised _ _ _ c.from_residual-in_err-put_further.ensures.1 (cannot_as _ _ branches_are (cannot_list _ _ _ one (rw (count_values tree_meaning c.args.branches.now) c.in_ok-begin_list.ensures.ok) (from_further (omega arith) c.branch-item.is c.loop-branch.invariant c.in_err-put_further.ensures.only)))
-
-pub write_branches-returns-in_err-encode-clause-only : goal.write_branches-returns-in_err-encode-clause-only
-write_branches-returns-in_err-encode-clause-only g t c = let one = g.met.E.Encoder.one_after in raised _ _ _ c.from_residual-in_err-encode.ensures.1 (cannot_as _ _ branches_are (cannot_list _ _ _ one (rw (count_values tree_meaning c.args.branches.now) c.in_ok-begin_list.ensures.ok) (from_stuck one (omega arith) c.branch-item.is c.loop-branch.invariant c.in_ok-put_further.ensures.ok c.in_err-encode.ensures.only)))
-
-pub write_branches-loop-branch-preserved : goal.write_branches-loop-branch-preserved
-write_branches-loop-branch-preserved g t c = let one = g.met.E.Encoder.one_after in from_next one (omega arith) c.branch-item.is c.loop-branch.invariant c.in_ok-put_further.ensures.ok c.in_ok-encode.ensures.ok
-
-pub write_branches-returns-in_err-put_further-2-clause-only : goal.write_branches-returns-in_err-put_further-2-clause-only
-write_branches-returns-in_err-put_further-2-clause-only g t c = let one = g.met.E.Encoder.one_after in raised _ _ _ c.from_residual-in_err-put_further-2.ensures.1 (cannot_as _ _ branches_are (cannot_list _ _ _ one (rw (count_values tree_meaning c.args.branches.now) c.in_ok-begin_list.ensures.ok) (from_no_more (omega arith) c.loop-branch.invariant c.in_err-put_further-2.ensures.only)))
-
-pub write_branches-returns-in_err-end-clause-only : goal.write_branches-returns-in_err-end-clause-only
-write_branches-returns-in_err-end-clause-only g t c = let one = g.met.E.Encoder.one_after in raised _ _ _ c.from_residual-in_err-end.ensures.1 (cannot_as _ _ branches_are (cannot_list _ _ _ one (rw (count_values tree_meaning c.args.branches.now) c.in_ok-begin_list.ensures.ok) (from_close one (omega arith) c.loop-branch.invariant c.in_ok-put_further-2.ensures.ok c.in_err-end.ensures.only)))
-
-pub write_branches-returns-clause-ok : goal.write_branches-returns-clause-ok
-write_branches-returns-clause-ok g t c = writes_as _ _ branches_are (writes_list _ _ _ (rw (count_values tree_meaning c.args.branches.now) c.in_ok-begin_list.ensures.ok) (from_end (omega arith) c.loop-branch.invariant c.in_ok-put_further-2.ensures.ok c.in_ok-end.ensures.ok))
