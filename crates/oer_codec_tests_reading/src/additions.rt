@@ -4,7 +4,7 @@ use asn1_schema_decode::{Decode, Decoder as Finding};
 use asn1_schema_faults::DecodeError;
 use asn1_schema_tags::Tag;
 use oer_codec::coer::{Decoder, DecoderOptions};
-use std::alloc::Global;
+use std::alloc::{AllocError, Global};
 
 /// Reads SEQUENCE {BOOLEAN, ..., BOOLEAN OPTIONAL}: the value of the addition, if it is there.
 fn read_addition(decoder: &mut Decoder<'_>) -> Result<Option<bool>, DecodeError> {
@@ -122,6 +122,61 @@ fn an_unknown_addition_ends_early(rt: HostRuntime) {
         &addition(rt.alloc(), &input, DecoderOptions::coer()),
         &Err(DecodeError::Incomplete),
     );
+}
+
+/// SEQUENCE {BOOLEAN, ..., BOOLEAN OPTIONAL} with both true, and an addition that the type lacks: so many octets 5A behind these.
+fn with_unknown(alloc: Global, length: &[u8], count: usize) -> Result<Vec<u8>, AllocError> {
+    let mut octets = Vec::new(alloc);
+    octets.extend_from_slice(&[0x80, 0xFF, 0x02, 0x06, 0xC0, 0x01, 0xFF])?;
+    octets.extend_from_slice(length)?;
+    for _ in 0..count {
+        octets.push(0x5A)?;
+    }
+    Ok(octets)
+}
+
+/// Whether the known addition is true, and nothing is left behind the value.
+fn is_all_read(decoder: &mut Decoder<'_>) -> Result<bool, DecodeError> {
+    let value = read_addition(decoder)?;
+    Ok(value == Some(true) && decoder.remaining().is_empty())
+}
+
+/// Whether such a value is read, and all of it.
+fn passes_over(
+    alloc: Global,
+    length: &[u8],
+    count: usize,
+    options: DecoderOptions,
+) -> Result<bool, DecodeError> {
+    let input = with_unknown(alloc, length, count)?;
+    let mut decoder = Decoder::new(alloc, &input, options);
+    is_all_read(&mut decoder)
+}
+
+/// The length of an open type takes further octets from 128 on, and stands before all of its octets however many these are (X.696 8.6 and 30).
+#[test]
+fn long_unknown_additions_are_passed_over(rt: HostRuntime) -> Result<(), DecodeError> {
+    let rows: [(&[u8], usize); 6] = [
+        (&[0x7F], 127),
+        (&[0x81, 0x80], 128),
+        (&[0x82, 0x01, 0x00], 256),
+        (&[0x82, 0x40, 0x00], 16384),
+        (&[0x82, 0x40, 0x01], 16385),
+        (&[0x83, 0x01, 0x00, 0x00], 65536),
+    ];
+    for (length, count) in rows {
+        assert!(rt; passes_over(rt.alloc(), length, count, DecoderOptions::coer())?);
+        assert!(rt; passes_over(rt.alloc(), length, count, DecoderOptions::oer())?);
+    }
+    Ok(())
+}
+
+#[test]
+fn a_long_unknown_addition_ends_early(rt: HostRuntime) {
+    for options in [DecoderOptions::coer(), DecoderOptions::oer()] {
+        let passed = passes_over(rt.alloc(), &[0x82, 0x40, 0x01], 16384, options);
+        assert_same(&rt, &passed, &Err(DecodeError::Incomplete));
+    }
 }
 
 #[test]

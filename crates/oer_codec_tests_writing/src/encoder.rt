@@ -402,28 +402,49 @@ fn octets_before_last(alloc: Global, count: usize) -> Result<Vec<u8>, EncodeErro
     Ok(encoder.output())
 }
 
-/// Whether such a sequence has so many octets, of which these are the first.
-fn begins_with(
+/// These octets around so many copies of another.
+fn around(
     alloc: Global,
-    count: usize,
-    length: usize,
     front: &[u8],
-) -> Result<bool, EncodeError> {
-    let octets = octets_before_last(alloc, count)?;
-    Ok(octets.len() == length && octets.as_slice().starts_with(front))
+    (octet, count): (u8, usize),
+    behind: &[u8],
+) -> Result<Vec<u8>, AllocError> {
+    let mut octets = Vec::new(alloc);
+    octets.extend_from_slice(front)?;
+    for _ in 0..count {
+        octets.push(octet)?;
+    }
+    octets.extend_from_slice(behind)?;
+    Ok(octets)
 }
 
+/// Whether such a sequence stands in these octets around so many zeros.
+fn last_stands_in(
+    alloc: Global,
+    count: usize,
+    (front, zeros, behind): (&[u8], usize, &[u8]),
+) -> Result<bool, EncodeError> {
+    let found = octets_before_last(alloc, count)?;
+    let wanted = around(alloc, front, (0x00, zeros), behind)?;
+    Ok(found.as_slice() == wanted.as_slice())
+}
+
+/// A bitmap stands behind its length, which counts the octet of the unused bits too (X.696 16.4).
 #[test]
 fn bitmaps(rt: HostRuntime) -> Result<(), EncodeError> {
-    let alloc = rt.alloc();
-    assert!(rt; begins_with(alloc, 7, 5, &[0x80, 0x02, 0x01, 0x02, 0x00])?);
-    assert!(rt; begins_with(alloc, 8, 5, &[0x80, 0x02, 0x00, 0x01, 0x00])?);
-    assert!(rt; begins_with(alloc, 63, 12, &[])?);
-    assert!(rt; begins_with(alloc, 64, 12, &[])?);
-    assert!(rt; begins_with(alloc, 65, 13, &[0x80, 0x0A, 0x07])?);
-    assert!(rt; begins_with(alloc, 255, 36, &[])?);
-    assert!(rt; begins_with(alloc, 256, 36, &[])?);
-    assert!(rt; begins_with(alloc, 257, 37, &[])?);
+    let rows: [(usize, (&[u8], usize, &[u8])); 8] = [
+        (7, (&[0x80, 0x02, 0x01], 0, &[0x02, 0x00])),
+        (8, (&[0x80, 0x02, 0x00], 0, &[0x01, 0x00])),
+        (63, (&[0x80, 0x09, 0x01], 7, &[0x02, 0x00])),
+        (64, (&[0x80, 0x09, 0x00], 7, &[0x01, 0x00])),
+        (65, (&[0x80, 0x0A, 0x07], 8, &[0x80, 0x00])),
+        (255, (&[0x80, 0x21, 0x01], 31, &[0x02, 0x00])),
+        (256, (&[0x80, 0x21, 0x00], 31, &[0x01, 0x00])),
+        (257, (&[0x80, 0x22, 0x07], 32, &[0x80, 0x00])),
+    ];
+    for (count, octets) in rows {
+        assert!(rt; last_stands_in(rt.alloc(), count, octets)?);
+    }
     Ok(())
 }
 
@@ -434,32 +455,34 @@ fn write_alternative(encoder: &mut Encoder<'_>, string: &OctetString) -> Result<
     encoder.end()
 }
 
-/// So many zeros.
-fn zeros(alloc: Global, count: usize) -> Result<OctetString, AllocError> {
-    let octets = vec![in alloc; 0u8; count]?;
-    OctetString::from_slice(alloc, octets.as_slice())
-}
-
-/// An added alternative whose value takes 16384 octets.
-fn long_alternative(alloc: Global) -> Result<Vec<u8>, EncodeError> {
-    let string = zeros(alloc, 16381)?;
+/// The octets of an added alternative OCTET STRING of so many octets FF.
+fn long_alternative(alloc: Global, count: usize) -> Result<Vec<u8>, EncodeError> {
+    let octets = vec![in alloc; 0xFFu8; count]?;
     let mut buffer = Vec::new(alloc);
     let mut worker = Vec::new(alloc);
-    let options = EncoderOptions::coer();
-    let mut encoder = Encoder::from_buffer(alloc, options, &mut buffer, &mut worker);
-    write_alternative(&mut encoder, &string)?;
-    Ok(encoder.output())
+    write_message(alloc, &mut buffer, &mut worker, octets.as_slice())?;
+    Ok(buffer)
 }
 
+/// Whether such an alternative stands in these octets, behind which come its own.
+fn long_alternative_stands_in(
+    alloc: Global,
+    count: usize,
+    front: &[u8],
+) -> Result<bool, EncodeError> {
+    let found = long_alternative(alloc, count)?;
+    let wanted = around(alloc, front, (0xFF, count), &[])?;
+    Ok(found.as_slice() == wanted.as_slice())
+}
+
+/// An open type stands behind its length however long it is, here of 16384 octets and of 16385.
 #[test]
 fn long_open_types(rt: HostRuntime) -> Result<(), EncodeError> {
-    let octets = long_alternative(rt.alloc())?;
-    assert_same(&rt, &octets.len(), &16388);
-    assert!(rt;
-        octets
-            .as_slice()
-            .starts_with(&[0x82u8, 0x82, 0x40, 0x00, 0x82, 0x3F, 0xFD])
-    );
+    let alloc = rt.alloc();
+    let front = [0x82u8, 0x82, 0x40, 0x00, 0x82, 0x3F, 0xFD];
+    assert!(rt; long_alternative_stands_in(alloc, 16381, &front)?);
+    let front = [0x82u8, 0x82, 0x40, 0x01, 0x82, 0x3F, 0xFE];
+    assert!(rt; long_alternative_stands_in(alloc, 16382, &front)?);
     Ok(())
 }
 

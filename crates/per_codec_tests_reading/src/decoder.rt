@@ -201,24 +201,6 @@ fn an_open_type_may_stand_in_fragments(rt: HostRuntime) -> Result<(), Fail> {
     Ok(())
 }
 
-/// Passes over SEQUENCE {...} with additions that the type lacks.
-fn pass_over(decoder: &mut Decoder<'_>) -> Result<(), DecodeError> {
-    decoder.begin_sequence(Tag::SEQUENCE, true, 0)?;
-    decoder.begin_additions(0)?;
-    decoder.end()?;
-    decoder.finish()
-}
-
-#[test]
-fn unknown_additions_may_stand_in_fragments(rt: HostRuntime) -> Result<(), Fail> {
-    let alloc = rt.alloc();
-    let message = in_a_fragment(alloc)?;
-    let mut decoder = Decoder::new(alloc, message.as_slice(), DecoderOptions::aligned());
-    let passed = pass_over(&mut decoder);
-    assert!(rt; passed == Ok(()));
-    Ok(())
-}
-
 /// Whether the string of octets behind the first bit is lent by the message, and is these octets.
 fn lends(alloc: Global, decoder: &mut Decoder<'_>, expected: &[u8]) -> Result<bool, DecodeError> {
     let first = decoder.decode_bool(Tag::BOOL)?;

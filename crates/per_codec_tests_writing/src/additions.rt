@@ -9,7 +9,9 @@ use std::test::Fail;
 #[test]
 fn bitmaps_of_additions(rt: HostRuntime) -> Result<(), Fail> {
     let options = EncoderOptions::unaligned();
-    let rows: [(usize, Pattern<'_>); 6] = [
+    let rows: [(usize, Pattern<'_>); 8] = [
+        (7, around(&[0xC3], (0x01, 2), &[0x07])),
+        (8, around(&[0xC3], (0x80, 2), &[0x83, 0x80])),
         (63, around(&[0xDF], (0, 7), &[0x01, 0x01, 0x07])),
         (64, around(&[0xDF, 0x80], (0, 7), &[0x80, 0x83, 0x80])),
         (65, around(&[0xE8, 0x20], (0, 7), &[0x10, 0x10, 0x70])),
@@ -32,7 +34,9 @@ fn bitmaps_of_additions(rt: HostRuntime) -> Result<(), Fail> {
 #[test]
 fn bitmaps_of_additions_aligned(rt: HostRuntime) -> Result<(), Fail> {
     let options = EncoderOptions::aligned();
-    let rows: [(usize, Pattern<'_>); 6] = [
+    let rows: [(usize, Pattern<'_>); 8] = [
+        (7, around(&[0xC3], (0x01, 2), &[0x07])),
+        (8, around(&[0xC3], (0x80, 2), &[0x01, 0x07])),
         (63, around(&[0xDF], (0, 7), &[0x01, 0x01, 0x07])),
         (64, around(&[0xDF, 0x80], (0, 7), &[0x80, 0x01, 0x07])),
         (65, around(&[0xE0, 0x41], (0, 8), &[0x80, 0x01, 0x07])),
