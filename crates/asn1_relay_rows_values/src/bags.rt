@@ -156,28 +156,47 @@ fn becomes(
     Ok(translated.as_slice() == output)
 }
 
-/// Whether a bag is put in order, and is carried on through the packed rules to the others.
-fn goes_round(
+/// Whether a bag in the basic octet rules, its members in any order, is put in order by each set of rules.
+fn is_put_in_order(
     alloc: Global,
     input: &[u8],
     octets: &[u8],
     packed: &[u8],
 ) -> Result<bool, RecodeFault> {
     Ok(
-        becomes(alloc, Codec::Oer, input, Codec::Coer, octets)?
-            && becomes(alloc, Codec::Coer, input, Codec::Uper, packed)?
+        becomes(alloc, Codec::Oer, input, Codec::Uper, packed)?
+            && becomes(alloc, Codec::Oer, input, Codec::Aper, packed)?
+            && becomes(alloc, Codec::Oer, input, Codec::Oer, octets)?
+            && becomes(alloc, Codec::Oer, input, Codec::Coer, octets)?,
+    )
+}
+
+/// Whether a bag in order is carried from the canonical octet rules through the packed ones to the basic octet rules.
+fn goes_round(alloc: Global, octets: &[u8], packed: &[u8]) -> Result<bool, RecodeFault> {
+    Ok(
+        becomes(alloc, Codec::Coer, octets, Codec::Uper, packed)?
             && becomes(alloc, Codec::Uper, packed, Codec::Aper, packed)?
             && becomes(alloc, Codec::Aper, packed, Codec::Oer, octets)?,
     )
 }
 
-/// Whether members go round, as a bag, whose members in order are these.
+/// Whether a bag is put in order by each set of rules, and is then carried on.
+fn is_carried(
+    alloc: Global,
+    input: &[u8],
+    octets: &[u8],
+    packed: &[u8],
+) -> Result<bool, RecodeFault> {
+    Ok(is_put_in_order(alloc, input, octets, packed)? && goes_round(alloc, octets, packed)?)
+}
+
+/// Whether members are put in order, and carried on, as a bag, whose members in order are these.
 fn are_put_in_order(alloc: Global, members: &[u8], ordered: &[u8]) -> Result<bool, Fail> {
     let input = with_its_count(alloc, members)?;
     let octets = with_its_count(alloc, ordered)?;
     let packed = in_fragments(alloc, ordered)?;
-    let goes = goes_round(alloc, &input, &octets, &packed)?;
-    Ok(goes)
+    let is_carried = is_carried(alloc, &input, &octets, &packed)?;
+    Ok(is_carried)
 }
 
 #[test]

@@ -1,4 +1,5 @@
-//! Rows of types without components, choices, bags and lists: what stands for one value in each set of encoding rules.
+//! Rows of types without components, choices, bags and lists, and of a type that leads back to itself through a list: what stands for one value
+//! in each set of encoding rules.
 #![tactic(auto)]
 
 #[cfg(test)]
@@ -15,3 +16,5 @@ mod many_alternatives;
 mod scalars;
 #[cfg(test)]
 mod translation;
+#[cfg(test)]
+mod trees;
