@@ -24,8 +24,8 @@ pub use asn1_schema_constraints::{
 pub use asn1_schema_constructed::{
     Alternatives, Choice, Constructed, DecodeAlternatives, DecodeBag, DecodeChoice,
     DecodeConstructed, DecodeItems, DecodeSet, EncodeBag, EncodeChoice, EncodeConstructed,
-    EncodeItems, EncodeSet, Field, FieldPresence, Fields, NamedItems, OptionalAndDefaultFields,
-    alternative_of,
+    EncodeItems, EncodeSet, EnumeratedType, Field, FieldPresence, Fields, NamedItems,
+    OptionalAndDefaultFields, alternative_of,
 };
 pub use asn1_schema_decode::{
     Decode, DecodeComponents, DecodeList, DecodeSequence, Decoder, ReadOctets,

@@ -1,5 +1,7 @@
 //! How enumerations are written and read.
-ghost use Rattle.std.specs.Prelude.{◌≡◌, OnOk, OnErr, IfOk, IfErr};
+ghost use Rattle.std.specs.Prelude.{◌≡◌, ℕ, OnOk, OnErr, IfOk, IfErr};
+ghost use Rattle.asn1_model.specs.Schema.{enumerated};
+ghost use Rattle.asn1_model.specs.Value.{item};
 ghost use Rattle.asn1_schema_encode.specs.Writes.{Writes, CannotWrite};
 ghost use Rattle.asn1_schema_decode.specs.Reads.{Reads, Unread};
 
@@ -7,12 +9,26 @@ use asn1_schema_decode::Decoder;
 use asn1_schema_encode::Encoder;
 use asn1_schema_faults::{DecodeError, EncodeError};
 use asn1_schema_tags::{Identifier, Tag};
+use asn1_schema_types::AsnType;
 use asn1_schema_variants::Enumerated;
+
+/// An enumeration that is a type of the program.
+pub trait EnumeratedType: Enumerated + AsnType {
+    /// The type is that of these items, whatever constraints it has.
+    ghost is_of: { (n : ℕ) → Self.schema n ≡ enumerated Self.roots Self.extensible Self.additions };
+
+    /// A value means its item.
+    ghost means: { (x : Self) → Self.meaning x ≡ item (Self.number x) };
+}
 
 /// How enumerations are written.
 pub trait EncodeItems: Encoder {
     /// ENUMERATED (X.680 20).
-    final fn encode_item<T: Enumerated>(&mut self, tag: Tag, value: &T) -> Result<(), EncodeError>
+    final fn encode_item<T: EnumeratedType>(
+        &mut self,
+        tag: Tag,
+        value: &T,
+    ) -> Result<(), EncodeError>
     where
         Self: Sized,
         ensures ok { OnOk result (Writes Self.step T.schema (T.meaning value.now) self.old self.new) }
@@ -30,7 +46,7 @@ impl<E: Encoder> EncodeItems for E {}
 /// How enumerations are read.
 pub trait DecodeItems: Decoder {
     /// ENUMERATED (X.680 20).
-    final fn decode_item<T: Enumerated>(&mut self, tag: Tag) -> Result<T, DecodeError>
+    final fn decode_item<T: EnumeratedType>(&mut self, tag: Tag) -> Result<T, DecodeError>
     where
         Self: Sized,
         ensures ok { IfOk result (λ x. Reads Self.step T.schema (Self.levels self.old) (T.meaning x) self.old self.new) }

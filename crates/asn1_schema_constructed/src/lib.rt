@@ -20,7 +20,7 @@ pub use bags_written::EncodeBag;
 pub use choices_read::{DecodeAlternatives, DecodeChoice};
 pub use choices_written::EncodeChoice;
 pub use constructed::{Constructed, DecodeConstructed, EncodeConstructed};
-pub use items::{DecodeItems, EncodeItems};
+pub use items::{DecodeItems, EncodeItems, EnumeratedType};
 pub use names::NamedItems;
 pub use sets_read::DecodeSet;
 pub use sets_written::EncodeSet;

@@ -7,7 +7,7 @@ ghost use Rattle.asn1_schema_constraints.specs.Sets.{no_constraint};
 ghost use Rattle.asn1_schema_constructed.proofs.Types.{type_enumerated, value_enumerated};
 
 use asn1_schema_constraints::Constraints;
-use asn1_schema_constructed::{DecodeItems, EncodeItems};
+use asn1_schema_constructed::{DecodeItems, EncodeItems, EnumeratedType};
 use asn1_schema_decode::{Decode, Decoder};
 use asn1_schema_encode::{Encode, Encoder};
 use asn1_schema_faults::{DecodeError, EncodeError};
@@ -116,11 +116,17 @@ impl Enumerated for Scale {
         }
     }
 
+    ghost distinct = { refl };
+
+    ghost listed = { elim [ Lowest ↦ (false, 0, refl) | Below ↦ (false, 1, refl) | Least ↦ (false, 2, refl) | Zero ↦ (false, 3, refl) | Most ↦ (false, 4, refl) | Above ↦ (false, 5, refl) | Highest ↦ (false, 6, refl) ] };
+}
+
+impl EnumeratedType for Scale {
+    ghost use Rattle.asn1_schema_example_alternatives.specs.declared.scale.Scale.TheVariants.{Lowest, Below, Least, Zero, Most, Above, Highest};
+
     ghost is_of = { λ _. refl };
 
     ghost means = { elim [ Lowest ↦ refl | Below ↦ refl | Least ↦ refl | Zero ↦ refl | Most ↦ refl | Above ↦ refl | Highest ↦ refl ] };
-
-    ghost listed = { elim [ Lowest ↦ (false, 0, refl) | Below ↦ (false, 1, refl) | Least ↦ (false, 2, refl) | Zero ↦ (false, 3, refl) | Most ↦ (false, 4, refl) | Above ↦ (false, 5, refl) | Highest ↦ (false, 6, refl) ] };
 }
 
 impl Encode for Scale {

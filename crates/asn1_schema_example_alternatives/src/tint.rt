@@ -6,7 +6,7 @@ ghost use Rattle.asn1_schema_constraints.specs.Sets.{no_constraint};
 ghost use Rattle.asn1_schema_constructed.proofs.Types.{type_enumerated, value_enumerated};
 
 use asn1_schema_constraints::Constraints;
-use asn1_schema_constructed::{DecodeItems, EncodeItems};
+use asn1_schema_constructed::{DecodeItems, EncodeItems, EnumeratedType};
 use asn1_schema_decode::{Decode, Decoder};
 use asn1_schema_encode::{Encode, Encoder};
 use asn1_schema_faults::{DecodeError, EncodeError};
@@ -90,11 +90,17 @@ impl Enumerated for Tint {
         }
     }
 
+    ghost distinct = { refl };
+
+    ghost listed = { elim [ Red ↦ (false, 0, refl) | Blue ↦ (true, 0, (refl, refl, refl)) ] };
+}
+
+impl EnumeratedType for Tint {
+    ghost use Rattle.asn1_schema_example_alternatives.specs.declared.tint.Tint.TheVariants.{Red, Blue};
+
     ghost is_of = { λ _. refl };
 
     ghost means = { elim [ Red ↦ refl | Blue ↦ refl ] };
-
-    ghost listed = { elim [ Red ↦ (false, 0, refl) | Blue ↦ (true, 0, (refl, refl, refl)) ] };
 }
 
 impl Encode for Tint {

@@ -6,7 +6,7 @@ ghost use Rattle.asn1_schema_constraints.specs.Sets.{no_constraint};
 ghost use Rattle.asn1_schema_constructed.proofs.Types.{type_enumerated, value_enumerated};
 
 use asn1_schema_constraints::Constraints;
-use asn1_schema_constructed::{DecodeItems, EncodeItems};
+use asn1_schema_constructed::{DecodeItems, EncodeItems, EnumeratedType};
 use asn1_schema_decode::{Decode, Decoder};
 use asn1_schema_encode::{Encode, Encoder};
 use asn1_schema_faults::{DecodeError, EncodeError};
@@ -90,11 +90,17 @@ impl Enumerated for Answer {
         }
     }
 
+    ghost distinct = { refl };
+
+    ghost listed = { elim [ Yes ↦ (false, 1, refl) | No ↦ (false, 0, refl) ] };
+}
+
+impl EnumeratedType for Answer {
+    ghost use Rattle.asn1_schema_example_choices.specs.declared.answer.Answer.TheVariants.{Yes, No};
+
     ghost is_of = { λ _. refl };
 
     ghost means = { elim [ Yes ↦ refl | No ↦ refl ] };
-
-    ghost listed = { elim [ Yes ↦ (false, 1, refl) | No ↦ (false, 0, refl) ] };
 }
 
 impl Encode for Answer {

@@ -7,7 +7,7 @@ ghost use Rattle.asn1_schema_constructed.proofs.Types.{type_enumerated, value_en
 ghost use Rattle.asn1_schema_constructed.proofs.Distinct.{one_number_of, one_name_of};
 
 use asn1_schema_constraints::Constraints;
-use asn1_schema_constructed::{DecodeItems, EncodeItems, NamedItems};
+use asn1_schema_constructed::{DecodeItems, EncodeItems, EnumeratedType, NamedItems};
 use asn1_schema_decode::{Decode, Decoder};
 use asn1_schema_encode::{Encode, Encoder};
 use asn1_schema_faults::{DecodeError, EncodeError};
@@ -93,11 +93,17 @@ impl Enumerated for Colour {
         }
     }
 
+    ghost distinct = { refl };
+
+    ghost listed = { elim [ Red ↦ (false, 0, refl) | Green ↦ (false, 1, refl) | Blue ↦ (true, 0, (refl, refl, refl)) ] };
+}
+
+impl EnumeratedType for Colour {
+    ghost use Rattle.asn1_schema_example_choices.specs.declared.colour.Colour.TheVariants.{Red, Green, Blue};
+
     ghost is_of = { λ _. refl };
 
     ghost means = { elim [ Red ↦ refl | Green ↦ refl | Blue ↦ refl ] };
-
-    ghost listed = { elim [ Red ↦ (false, 0, refl) | Green ↦ (false, 1, refl) | Blue ↦ (true, 0, (refl, refl, refl)) ] };
 }
 
 impl NamedItems for Colour {

@@ -1,15 +1,13 @@
 -- The places of items.
 use Rattle.std.proofs.Common.{◌≡◌, ◌∙◌, refl, sym, ap, ℕ, zero, suc, ◌+◌, ◌<◌, ◌≤◌, ℤ, pos, negsuc, Bool, true, false, cond, not, ◌&&◌, List, [], ◌∷◌, ◌++◌, length, map, drop, get_or, slice_get, Option, Some, None, option_map, arith, eqb-true, eq-eqb, Bor, MatchOption, IfSome}
-use Rattle.std.specs.Prelude.{◌||◌}
 use Rattle.std.specs.Option.{option_copied}
 use Rattle.std.specs.List.{HoldsAt}
 use Rattle.asn1_schema_variants.specs.Items.{IsPlaced}
 use Rattle.std.proofs.lemmas.Option.{slice_get-map, slice_get_past, slice_get-get_or}
 use Rattle.std.proofs.lemmas.List.{drop_more}
 use Rattle.asn1_model.specs.Value.{same_number}
-use Rattle.asn1_model.specs.Schema.{enumerated}
 use Rattle.asn1_model.specs.Strings.{each_is}
-use Rattle.asn1_model.specs.Lawful.{are_distinct, are_ascending, int_less, is_empty, is_lawful}
+use Rattle.asn1_model.specs.Lawful.{are_distinct}
 use Rattle.asn1_model.specs.Tables.{item_place}
 
 -- equal numbers
@@ -87,11 +85,6 @@ back_step v x xs i k false s h = let r = raised (item_place v xs) i h in ap (sli
 pub place_back : (v : ℤ) (xs : List ℤ) (i : ℕ) → item_place v xs ≡ Some i → slice_get xs i ≡ Some v
 place_back v [] i e = cc
 place_back v (x ∷ xs) i e = back_step v x xs i (λ j h. place_back v xs j h) (same_number v x) refl e
-
--- the tables of an enumerated type have no number twice
-pub items_distinct : (roots : List ℤ) (e : Bool) (others : List ℤ) → is_lawful (enumerated roots e others) ≡ true → are_distinct same_number (roots ++ others) ≡ true
-unfolding is_lawful
-items_distinct roots e others h = (both_true (not (is_empty roots) && (e || is_empty others) && are_ascending int_less roots && are_ascending int_less others) (are_distinct same_number (roots ++ others)) h).1
 
 -- ---- what an item's place tells
 pub missed : (o : Option ℕ) (m n : ℤ) (xs ys : List ℤ) → o ≡ None → o ≡ item_place m xs → m ≡ n → xs ≡ ys → item_place n ys ≡ None

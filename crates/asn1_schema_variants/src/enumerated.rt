@@ -1,15 +1,14 @@
 //! Enumerations.
-ghost use Rattle.std.specs.Prelude.{◌≡◌, ℕ, ℤ, Bool, true, false, cond, List, length, map, min, ◌+◌, ◌≤◌, MatchOption};
-ghost use Rattle.asn1_model.specs.Schema.{enumerated};
+ghost use Rattle.std.specs.Prelude.{◌≡◌, ℕ, ℤ, Bool, true, false, cond, List, ◌++◌, length, map, min, ◌+◌, ◌≤◌, MatchOption};
+ghost use Rattle.asn1_model.specs.Lawful.{are_distinct};
 ghost use Rattle.asn1_model.specs.Tables.{item_place};
-ghost use Rattle.asn1_model.specs.Value.{item};
+ghost use Rattle.asn1_model.specs.Value.{same_number};
 ghost use Rattle.asn1_schema_variants.specs.Items.{IsPlaced, IsNone};
 
 use crate::chosen::Chosen;
-use asn1_schema_types::AsnType;
 
 /// ENUMERATED (X.680 20): a type whose values are items, each with a number.
-pub trait Enumerated: AsnType + Copy {
+pub trait Enumerated: Copy {
     /// The numbers of the root items, in ascending order.
     ghost roots: { List ℤ };
 
@@ -38,11 +37,8 @@ pub trait Enumerated: AsnType + Copy {
     fn discriminant(&self) -> isize
         ensures { result ≡ number self.now };
 
-    /// The type is that of these items, whatever constraints it has.
-    ghost is_of: { (n : ℕ) → Self.schema n ≡ enumerated roots extensible additions };
-
-    /// A value means its item.
-    ghost means: { (x : Self) → Self.meaning x ≡ item (number x) };
+    /// No number occurs twice (X.680 20.6).
+    ghost distinct: { are_distinct same_number (roots ++ additions) ≡ true };
 
     /// Each value is an item of the type.
     ghost listed: { (x : Self) → (added : Bool) × (i : ℕ) × IsPlaced roots extensible additions (number x) added i };

@@ -86,9 +86,7 @@ impl Enumerated for Answer {
         }
     }
 
-    ghost is_of = { λ _. refl };
-
-    ghost means = { elim [ Yes ↦ refl | No ↦ refl ] };
+    ghost distinct = { refl };
 
     ghost listed = { elim [ Yes ↦ (false, 1, refl) | No ↦ (false, 0, refl) ] };
 }

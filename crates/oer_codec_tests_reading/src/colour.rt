@@ -86,9 +86,7 @@ impl Enumerated for Colour {
         }
     }
 
-    ghost is_of = { λ _. refl };
-
-    ghost means = { elim [ Red ↦ refl | Blue ↦ refl ] };
+    ghost distinct = { refl };
 
     ghost listed = { elim [ Red ↦ (false, 0, refl) | Blue ↦ (true, 0, (refl, refl, refl)) ] };
 }

@@ -89,9 +89,7 @@ impl Enumerated for Colour {
         }
     }
 
-    ghost is_of = { λ _. refl };
-
-    ghost means = { elim [ Red ↦ refl | Blue ↦ refl | Green ↦ refl ] };
+    ghost distinct = { refl };
 
     ghost listed = { elim [ Red ↦ (false, 0, refl) | Blue ↦ (false, 1, refl) | Green ↦ (true, 0, (refl, refl, refl)) ] };
 }

@@ -1,0 +1,181 @@
+//! Whether a type's octets are translated, or refused, as a line says.
+use crate::line::{Claim, LineError, Spelled};
+use crate::octets::shown;
+use asn1_relay_core::{Codec, DecodeError, RecodeFault, recode};
+use asn1_schema_decode::Decode;
+use asn1_schema_encode::Encode;
+use std::alloc::{AllocError, Global};
+
+/// The four sets of rules.
+const CODECS: [Codec; 4] = [Codec::Uper, Codec::Aper, Codec::Oer, Codec::Coer];
+
+/// Octets are cut at each place if they are no more than twice so many, and else within so many of the first and of the last.
+const CUTS: usize = 512;
+
+/// Judges what is said of octets of a type.
+///
+/// # Errors
+///
+/// `Translated` or `Cut` where the library does not do what is said, and `Memory` for want of memory.
+pub fn judge<T: Encode + Decode>(alloc: Global, claim: &Claim) -> Result<(), LineError> {
+    match claim {
+        Claim::Same(encodings) => {
+            for source in encodings {
+                for target in encodings {
+                    becomes::<T>(alloc, source, target)?;
+                }
+            }
+            Ok(())
+        }
+        Claim::Becomes(source, target) => {
+            becomes::<T>(alloc, source, target)?;
+            becomes::<T>(alloc, target, target)
+        }
+        Claim::Refused(source, fault) => is_refused::<T>(alloc, source, *fault),
+        Claim::NoTarget(source, rules, fault) => has_no_target::<T>(alloc, source, rules, *fault),
+    }
+}
+
+/// Octets become others in each set of rules that is named, by any way, and are refused cut or with an octet behind them.
+fn becomes<T: Encode + Decode>(
+    alloc: Global,
+    source: &Spelled,
+    target: &Spelled,
+) -> Result<(), LineError> {
+    let octets = source.octets.as_slice();
+    for from in source.rules.iter() {
+        for to in target.rules.iter() {
+            gives_by_any_way::<T>(alloc, *from, octets, *to, target.octets.as_slice())?;
+        }
+        is_refused_in_part::<T>(alloc, *from, octets, DecodeError::Incomplete)?;
+        is_not_read_to_its_end::<T>(alloc, *from, octets)?;
+    }
+    Ok(())
+}
+
+/// Octets are translated to others at once, and by way of each set of rules in which the value has an encoding.
+fn gives_by_any_way<T: Encode + Decode>(
+    alloc: Global,
+    from: Codec,
+    octets: &[u8],
+    to: Codec,
+    wanted: &[u8],
+) -> Result<(), LineError> {
+    gives::<T>(alloc, from, octets, to, Ok(wanted))?;
+    for through in CODECS {
+        match recode::<T>(alloc, from, through, octets) {
+            Ok(halfway) => gives::<T>(alloc, through, halfway.as_slice(), to, Ok(wanted))?,
+            Err(RecodeFault::NoTarget(_)) => {}
+            Err(fault) => return Err(translated(alloc, from, through, &Err(fault))?),
+        }
+    }
+    Ok(())
+}
+
+/// The octets are refused for this reason, whatever they are to become. No reader finds an encoding in a part of them.
+fn is_refused<T: Encode + Decode>(
+    alloc: Global,
+    source: &Spelled,
+    fault: RecodeFault,
+) -> Result<(), LineError> {
+    let octets = source.octets.as_slice();
+    for from in source.rules.iter() {
+        for to in CODECS {
+            gives::<T>(alloc, *from, octets, to, Err(fault))?;
+        }
+        if let RecodeFault::NotAnEncoding(error) = fault {
+            is_refused_in_part::<T>(alloc, *from, octets, error)?;
+        }
+    }
+    Ok(())
+}
+
+/// The octets are read, and their value has no encoding in these rules.
+fn has_no_target<T: Encode + Decode>(
+    alloc: Global,
+    source: &Spelled,
+    rules: &Vec<Codec>,
+    fault: RecodeFault,
+) -> Result<(), LineError> {
+    for from in source.rules.iter() {
+        for to in rules.iter() {
+            gives::<T>(alloc, *from, source.octets.as_slice(), *to, Err(fault))?;
+        }
+    }
+    Ok(())
+}
+
+/// The translation of octets gives this.
+fn gives<T: Encode + Decode>(
+    alloc: Global,
+    from: Codec,
+    octets: &[u8],
+    to: Codec,
+    wanted: Result<&[u8], RecodeFault>,
+) -> Result<(), LineError> {
+    let found = recode::<T>(alloc, from, to, octets);
+    let is_wanted = match (&found, wanted) {
+        (Ok(found), Ok(wanted)) => found.as_slice() == wanted,
+        (Err(found), Err(wanted)) => *found == wanted,
+        _ => false,
+    };
+    if is_wanted {
+        return Ok(());
+    }
+    Err(translated(alloc, from, to, &found)?)
+}
+
+/// Each beginning of the octets is refused for this reason, or as it ends early.
+fn is_refused_in_part<T: Decode>(
+    alloc: Global,
+    from: Codec,
+    octets: &[u8],
+    error: DecodeError,
+) -> Result<(), LineError> {
+    for length in 0..octets.len() {
+        if length >= CUTS && octets.len() - length > CUTS {
+            continue;
+        }
+        let found = from.decode::<T>(alloc, &octets[..length]).err();
+        if found != Some(DecodeError::Incomplete) && found != Some(error) {
+            let found = format!(in alloc; "{found:?}")?;
+            return Err(LineError::Cut {
+                from,
+                length,
+                found,
+            });
+        }
+    }
+    Ok(())
+}
+
+/// An octet behind the octets is surplus.
+fn is_not_read_to_its_end<T: Encode + Decode>(
+    alloc: Global,
+    from: Codec,
+    octets: &[u8],
+) -> Result<(), LineError> {
+    let mut longer = Vec::from_slice(alloc, octets)?;
+    longer.push(0).map_err(AllocError::from)?;
+    gives::<T>(
+        alloc,
+        from,
+        longer.as_slice(),
+        from,
+        Err(RecodeFault::Surplus),
+    )
+}
+
+/// The error that tells what a translation gave.
+fn translated(
+    alloc: Global,
+    from: Codec,
+    to: Codec,
+    found: &Result<Vec<u8>, RecodeFault>,
+) -> Result<LineError, LineError> {
+    let found = match found {
+        Ok(octets) => shown(alloc, octets.as_slice())?,
+        Err(fault) => format!(in alloc; "{fault:?}")?,
+    };
+    Ok(LineError::Translated { from, to, found })
+}
