@@ -1,7 +1,9 @@
 //! Whether a type's octets are translated, or refused, as a line says.
-use crate::line::{Claim, LineError, Spelled};
+use crate::limits::Limits;
+use crate::line::{Claim, Line, LineError, Spelled};
 use crate::octets::shown;
-use asn1_relay_core::{Codec, DecodeError, RecodeFault, recode};
+use crate::translating::{read, translate};
+use asn1_relay_core::{Codec, DecodeError, RecodeFault};
 use asn1_schema_decode::Decode;
 use asn1_schema_encode::Encode;
 use std::alloc::{AllocError, Global};
@@ -17,38 +19,42 @@ const CUTS: usize = 512;
 /// # Errors
 ///
 /// `Translated` or `Cut` where the library does not do what is said, and `Memory` for want of memory.
-pub fn judge<T: Encode + Decode>(alloc: Global, claim: &Claim) -> Result<(), LineError> {
-    match claim {
+pub fn judge<T: Encode + Decode>(alloc: Global, line: &Line<'_>) -> Result<(), LineError> {
+    let limits = &line.limits;
+    match &line.claim {
         Claim::Same(encodings) => {
-            for source in encodings {
-                for target in encodings {
-                    becomes::<T>(alloc, source, target)?;
+            for source in encodings.iter() {
+                for target in encodings.iter() {
+                    becomes::<T>(alloc, limits, source, target)?;
                 }
             }
             Ok(())
         }
         Claim::Becomes(source, target) => {
-            becomes::<T>(alloc, source, target)?;
-            becomes::<T>(alloc, target, target)
+            becomes::<T>(alloc, limits, source, target)?;
+            becomes::<T>(alloc, limits, target, target)
         }
-        Claim::Refused(source, fault) => is_refused::<T>(alloc, source, *fault),
-        Claim::NoTarget(source, rules, fault) => has_no_target::<T>(alloc, source, rules, *fault),
+        Claim::Refused(source, fault) => is_refused::<T>(alloc, limits, source, *fault),
+        Claim::NoTarget(source, rules, fault) => {
+            has_no_target::<T>(alloc, limits, source, rules.as_slice(), *fault)
+        }
     }
 }
 
 /// Octets become others in each set of rules that is named, by any way, and are refused cut or with an octet behind them.
 fn becomes<T: Encode + Decode>(
     alloc: Global,
+    limits: &Limits,
     source: &Spelled,
     target: &Spelled,
 ) -> Result<(), LineError> {
     let octets = source.octets.as_slice();
     for from in source.rules.iter() {
         for to in target.rules.iter() {
-            gives_by_any_way::<T>(alloc, *from, octets, *to, target.octets.as_slice())?;
+            gives_by_any_way::<T>(alloc, limits, *from, octets, *to, target.octets.as_slice())?;
         }
-        is_refused_in_part::<T>(alloc, *from, octets, DecodeError::Incomplete)?;
-        is_not_read_to_its_end::<T>(alloc, *from, octets)?;
+        is_refused_in_part::<T>(alloc, limits, *from, octets, DecodeError::Incomplete)?;
+        is_not_read_to_its_end::<T>(alloc, limits, *from, octets)?;
     }
     Ok(())
 }
@@ -56,15 +62,16 @@ fn becomes<T: Encode + Decode>(
 /// Octets are translated to others at once, and by way of each set of rules in which the value has an encoding.
 fn gives_by_any_way<T: Encode + Decode>(
     alloc: Global,
+    limits: &Limits,
     from: Codec,
     octets: &[u8],
     to: Codec,
     wanted: &[u8],
 ) -> Result<(), LineError> {
-    gives::<T>(alloc, from, octets, to, Ok(wanted))?;
+    gives::<T>(alloc, limits, from, octets, to, Ok(wanted))?;
     for through in CODECS {
-        match recode::<T>(alloc, from, through, octets) {
-            Ok(halfway) => gives::<T>(alloc, through, halfway.as_slice(), to, Ok(wanted))?,
+        match translate::<T>(alloc, limits, from, through, octets) {
+            Ok(halfway) => gives::<T>(alloc, limits, through, halfway.as_slice(), to, Ok(wanted))?,
             Err(RecodeFault::NoTarget(_)) => {}
             Err(fault) => return Err(translated(alloc, from, through, &Err(fault))?),
         }
@@ -75,16 +82,17 @@ fn gives_by_any_way<T: Encode + Decode>(
 /// The octets are refused for this reason, whatever they are to become. No reader finds an encoding in a part of them.
 fn is_refused<T: Encode + Decode>(
     alloc: Global,
+    limits: &Limits,
     source: &Spelled,
     fault: RecodeFault,
 ) -> Result<(), LineError> {
     let octets = source.octets.as_slice();
     for from in source.rules.iter() {
         for to in CODECS {
-            gives::<T>(alloc, *from, octets, to, Err(fault))?;
+            gives::<T>(alloc, limits, *from, octets, to, Err(fault))?;
         }
         if let RecodeFault::NotAnEncoding(error) = fault {
-            is_refused_in_part::<T>(alloc, *from, octets, error)?;
+            is_refused_in_part::<T>(alloc, limits, *from, octets, error)?;
         }
     }
     Ok(())
@@ -93,13 +101,14 @@ fn is_refused<T: Encode + Decode>(
 /// The octets are read, and their value has no encoding in these rules.
 fn has_no_target<T: Encode + Decode>(
     alloc: Global,
+    limits: &Limits,
     source: &Spelled,
-    rules: &Vec<Codec>,
+    rules: &[Codec],
     fault: RecodeFault,
 ) -> Result<(), LineError> {
     for from in source.rules.iter() {
         for to in rules.iter() {
-            gives::<T>(alloc, *from, source.octets.as_slice(), *to, Err(fault))?;
+            gives::<T>(alloc, limits, *from, source.octets.as_slice(), *to, Err(fault))?;
         }
     }
     Ok(())
@@ -108,12 +117,13 @@ fn has_no_target<T: Encode + Decode>(
 /// The translation of octets gives this.
 fn gives<T: Encode + Decode>(
     alloc: Global,
+    limits: &Limits,
     from: Codec,
     octets: &[u8],
     to: Codec,
     wanted: Result<&[u8], RecodeFault>,
 ) -> Result<(), LineError> {
-    let found = recode::<T>(alloc, from, to, octets);
+    let found = translate::<T>(alloc, limits, from, to, octets);
     let is_wanted = match (&found, wanted) {
         (Ok(found), Ok(wanted)) => found.as_slice() == wanted,
         (Err(found), Err(wanted)) => *found == wanted,
@@ -128,6 +138,7 @@ fn gives<T: Encode + Decode>(
 /// Each beginning of the octets is refused for this reason, or as it ends early.
 fn is_refused_in_part<T: Decode>(
     alloc: Global,
+    limits: &Limits,
     from: Codec,
     octets: &[u8],
     error: DecodeError,
@@ -136,7 +147,7 @@ fn is_refused_in_part<T: Decode>(
         if length >= CUTS && octets.len() - length > CUTS {
             continue;
         }
-        let found = from.decode::<T>(alloc, &octets[..length]).err();
+        let found = read::<T>(alloc, limits, from, &octets[..length]).err();
         if found != Some(DecodeError::Incomplete) && found != Some(error) {
             let found = format!(in alloc; "{found:?}")?;
             return Err(LineError::Cut {
@@ -149,21 +160,20 @@ fn is_refused_in_part<T: Decode>(
     Ok(())
 }
 
-/// An octet behind the octets is surplus.
+/// An octet behind the octets is surplus. (Readers that are given constraints pass over it.)
 fn is_not_read_to_its_end<T: Encode + Decode>(
     alloc: Global,
+    limits: &Limits,
     from: Codec,
     octets: &[u8],
 ) -> Result<(), LineError> {
+    if !limits.is_none() {
+        return Ok(());
+    }
     let mut longer = Vec::from_slice(alloc, octets)?;
     longer.push(0).map_err(AllocError::from)?;
-    gives::<T>(
-        alloc,
-        from,
-        longer.as_slice(),
-        from,
-        Err(RecodeFault::Surplus),
-    )
+    let surplus = Err(RecodeFault::Surplus);
+    gives::<T>(alloc, limits, from, longer.as_slice(), from, surplus)
 }
 
 /// The error that tells what a translation gave.

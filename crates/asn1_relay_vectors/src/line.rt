@@ -1,4 +1,5 @@
 //! What a line says.
+use crate::limits::Limits;
 use crate::octets::push_octets;
 use asn1_relay_core::{Codec, DecodeError, EncodeError, RecodeFault};
 use std::alloc::{AllocError, Global};
@@ -16,6 +17,9 @@ pub enum LineError {
     /// A word names no rules.
     #[error("rules are uper, aper, oer and coer, with a comma between two of them")]
     Rules,
+    /// What stands behind the name of a type is no constraint.
+    #[error("constraints are (0..255), (SIZE(1..3)) and (FROM(\"01\")), each with ,... at its end for a mark")]
+    Limits,
     /// A word is the name of no error.
     #[error("there is no such error")]
     NoError,
@@ -80,6 +84,8 @@ pub enum Claim {
 pub struct Line<'a> {
     /// The name of the type.
     pub kind: &'a str,
+    /// Its constraints.
+    pub limits: Limits,
     /// What is said of it.
     pub claim: Claim,
 }
@@ -92,11 +98,19 @@ impl<'a> Line<'a> {
     /// `Form`, `Rules` or `Octets` where it has not the form of a line, and `Memory` for want of memory.
     pub fn read(alloc: Global, said: &'a str) -> Result<Line<'a>, LineError> {
         let (kind, text) = said.split_once(' ').ok_or(LineError::Form)?;
+        let (kind, limits) = match kind.find('(') {
+            Some(place) => (&kind[..place], Limits::read(alloc, &kind[place..])?),
+            None => (kind, Limits::NONE),
+        };
         let claim = match text.split_once("->") {
             Some((source, answer)) => read_answer(alloc, source, answer)?,
             None => Claim::Same(read_all(alloc, text)?),
         };
-        Ok(Line { kind, claim })
+        Ok(Line {
+            kind,
+            limits,
+            claim,
+        })
     }
 }
 

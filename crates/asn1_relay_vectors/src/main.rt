@@ -3,9 +3,11 @@
 #![tactic(auto)]
 
 mod judging;
+mod limits;
 mod line;
 mod named;
 mod octets;
+mod translating;
 
 use crate::line::{Line, LineError};
 use crate::named::judge_named;

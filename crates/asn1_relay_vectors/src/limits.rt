@@ -1,0 +1,150 @@
+//! Constraints that stand behind the name of a type.
+use crate::line::LineError;
+use asn1_schema_bounds::Bounded;
+use asn1_schema_constraints::{Constraints, Extensible, PermittedAlphabet, Size, Value};
+use std::alloc::{AllocError, Global};
+
+/// What a line's type is constrained to, as in `octet-string(SIZE(1..3,...))` (X.680 51).
+#[derive(Debug, Drop)]
+pub struct Limits {
+    value: Option<Extensible<'static, Value>>,
+    size: Option<Extensible<'static, Size>>,
+    alphabet: Option<Alphabet>,
+}
+
+/// Permitted characters, by their numbers, and whether a mark stands behind them.
+#[derive(Debug, Drop)]
+struct Alphabet {
+    characters: Vec<u32>,
+    extensible: bool,
+}
+
+impl Limits {
+    /// No constraints.
+    pub const NONE: Limits = Limits {
+        value: None,
+        size: None,
+        alphabet: None,
+    };
+
+    /// Reads constraints, each in parentheses: `(0..255,...)`, `(SIZE(5))`, `(FROM("01"))`.
+    ///
+    /// # Errors
+    ///
+    /// `Limits` where one has not that form, and `Memory` for want of memory.
+    pub fn read(alloc: Global, text: &str) -> Result<Limits, LineError> {
+        let mut limits = Limits::NONE;
+        let inner = text
+            .strip_prefix('(')
+            .and_then(|text| text.strip_suffix(')'))
+            .ok_or(LineError::Limits)?;
+        for part in inner.split(")(") {
+            limits.push(alloc, part)?;
+        }
+        Ok(limits)
+    }
+
+    /// Adds one constraint.
+    fn push(&mut self, alloc: Global, text: &str) -> Result<(), LineError> {
+        if let Some(size) = inside(text, "SIZE(", ")") {
+            let (range, extensible) = without_mark(size);
+            let size = Size::new(read_counts(range)?);
+            self.size = Some(Extensible::new(size).set_extensible(extensible));
+        } else if let Some(alphabet) = inside(text, "FROM(", ")") {
+            let (characters, extensible) = without_mark(alphabet);
+            let characters = read_characters(alloc, characters)?;
+            self.alphabet = Some(Alphabet {
+                characters,
+                extensible,
+            });
+        } else {
+            let (range, extensible) = without_mark(text);
+            let value = Value::new(read_range(range)?);
+            self.value = Some(Extensible::new(value).set_extensible(extensible));
+        }
+        Ok(())
+    }
+
+    /// Whether there are no constraints.
+    pub fn is_none(&self) -> bool {
+        self.value.is_none() && self.size.is_none() && self.alphabet.is_none()
+    }
+
+    /// The constraints as the codecs take them.
+    pub fn constraints(&self) -> Constraints<'_> {
+        let permitted_alphabet = match &self.alphabet {
+            Some(alphabet) => {
+                let permitted = PermittedAlphabet::new(alphabet.characters.as_slice());
+                Some(Extensible::new(permitted).set_extensible(alphabet.extensible))
+            }
+            None => None,
+        };
+        Constraints {
+            value: self.value,
+            size: self.size,
+            permitted_alphabet,
+            is_marked: false,
+        }
+    }
+}
+
+/// What stands between two texts, if a text begins and ends with these.
+fn inside<'a>(text: &'a str, front: &str, back: &str) -> Option<&'a str> {
+    text.strip_prefix(front)?.strip_suffix(back)
+}
+
+/// A constraint without its mark of extensibility, and whether it has one.
+fn without_mark(text: &str) -> (&str, bool) {
+    match text.strip_suffix(",...") {
+        Some(root) => (root, true),
+        None => (text, false),
+    }
+}
+
+/// The numbers of a range: `0..255`, `MIN..5`, `0..MAX` or `5`.
+fn read_range(text: &str) -> Result<Bounded<i128>, LineError> {
+    match text.split_once("..") {
+        Some((low, high)) => Ok(Bounded::Range {
+            start: read_end(low, "MIN")?,
+            end: read_end(high, "MAX")?,
+        }),
+        None => Ok(Bounded::Single(read_number(text)?)),
+    }
+}
+
+/// An end of a range, which is open where it has this name.
+fn read_end(text: &str, open: &str) -> Result<Option<i128>, LineError> {
+    if text == open {
+        return Ok(None);
+    }
+    Ok(Some(read_number(text)?))
+}
+
+/// A number in decimal digits.
+fn read_number(text: &str) -> Result<i128, LineError> {
+    text.parse::<i128>().map_err(|_| LineError::Limits)
+}
+
+/// The counts of a size: `1..3`, `0..MAX` or `5`.
+fn read_counts(text: &str) -> Result<Bounded<usize>, LineError> {
+    match text.split_once("..") {
+        Some((low, "MAX")) => Ok(Bounded::start_from(read_count(low)?)),
+        Some((low, high)) => Ok(Bounded::const_new(read_count(low)?, read_count(high)?)),
+        None => Ok(Bounded::Single(read_count(text)?)),
+    }
+}
+
+/// A count in decimal digits.
+fn read_count(text: &str) -> Result<usize, LineError> {
+    text.parse::<usize>().map_err(|_| LineError::Limits)
+}
+
+/// The characters between quotation marks.
+fn read_characters(alloc: Global, text: &str) -> Result<Vec<u32>, LineError> {
+    let quoted = inside(text, "\"", "\"").ok_or(LineError::Limits)?;
+    let mut characters = Vec::new(alloc);
+    for character in quoted.chars() {
+        characters.push(u32::from(character)).map_err(AllocError::from)?;
+    }
+    Ok(characters)
+}
