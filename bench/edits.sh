@@ -4,7 +4,7 @@
 #   bench/edits.sh [PACKAGE..]
 #
 # Each is tried, or those of the packages that are named, over a copy of the crates as they are committed, in which they stand in
-# must-fail/. The packages, and what they need below them, are proved there by rt ci, which takes up what it passed earlier on this
+# must-fail/ alone. The packages, and what they need below them, are proved there by rt ci, which takes up what it passed earlier on this
 # machine. The last line says how many packages were proved and edits refused, and how many not.
 here=$(cd "$(dirname "$0")/.." && pwd)
 [ $# -gt 0 ] || set -- $(cd "$here/bench/edits" && ls)
