@@ -21,7 +21,7 @@ use std::alloc::Global;
 
 /// Three numbers under tags of their own.
 #[derive(Drop)]
-pub struct Ordered {
+pub struct Set {
     /// The last of them in the order of tags.
     pub a: Option<Implicit<tag::Context<444>, Integer>>,
     /// The second.
@@ -36,7 +36,7 @@ type Rest = OptionalComponent<Implicit<tag::Context<5>, Integer>, Last>;
 
 type Form = OptionalComponent<Implicit<tag::Application<9>, Integer>, Rest>;
 
-impl Described for Ordered {
+impl Described for Set {
     ghost tags = { record { class = 0; number = 17 } ∷ [] };
 
     ghost own = { no_constraint };
@@ -56,10 +56,10 @@ impl Described for Ordered {
     ghost valued_under = { λ _ x. value_set _ (⟦<Form as ComponentsOf>⟧.valued tt (record { 0 = x.c; 1 = record { 0 = x.b; 1 = record { 0 = x.a; 1 = record {} } } })) };
 }
 
-impl AsnType for Ordered {
+impl AsnType for Set {
     const TAG: Tag = Tag::SET;
 
-    const IDENTIFIER: Identifier = Identifier(Some("Ordered"));
+    const IDENTIFIER: Identifier = Identifier(Some("Set"));
 
     fn tag_tree() -> TagTree<'static> {
         TagTree::of(Self::TAG)
@@ -70,7 +70,7 @@ impl AsnType for Ordered {
     }
 }
 
-impl Constructed for Ordered {
+impl Constructed for Set {
     ghost form = { set_form };
 
     ghost table = { ⟦<Form as ComponentsOf>⟧.table };
@@ -140,7 +140,7 @@ impl Constructed for Ordered {
     fn read_fields<D: Decoder>(alloc: Global, decoder: &mut D) -> Result<Self, DecodeError> {
         let form = Form::decode_components(alloc, decoder)?;
         let OptionalComponent(c, OptionalComponent(b, OptionalComponent(a, End))) = form;
-        Ok(Ordered { a, b, c })
+        Ok(Set { a, b, c })
     }
 
     ghost means = { λ _. refl };
@@ -148,7 +148,7 @@ impl Constructed for Ordered {
     ghost is_of = { λ _ _. refl };
 }
 
-impl Encode for Ordered {
+impl Encode for Set {
     fn encode_with_tag_and_constraints<E: Encoder>(
         &self,
         encoder: &mut E,
@@ -159,7 +159,7 @@ impl Encode for Ordered {
     }
 }
 
-impl Decode for Ordered {
+impl Decode for Set {
     fn decode_with_tag_and_constraints<D: Decoder>(
         alloc: Global,
         decoder: &mut D,

@@ -25,7 +25,7 @@ use std::alloc::Global;
 
 /// A type that has grown by a group.
 #[derive(Drop)]
-pub struct Grouped {
+pub struct Group {
     /// What it always had.
     pub a: bool,
     /// What was added.
@@ -44,7 +44,7 @@ impl CountOf<Additions> for One {
     ghost countable = { Prim.omega arith };
 }
 
-impl Described for Grouped {
+impl Described for Group {
     ghost tags = { record { class = 0; number = 16 } ∷ [] };
 
     ghost own = { no_constraint };
@@ -64,10 +64,10 @@ impl Described for Grouped {
     ghost valued_under = { λ _ x. value_sequence _ (⟦<Form as ComponentsOf>⟧.valued tt (record { 0 = x.a; 1 = record { 0 = record { 0 = x.extra; 1 = record {} }; 1 = record {} } })) };
 }
 
-impl AsnType for Grouped {
+impl AsnType for Group {
     const TAG: Tag = Tag::SEQUENCE;
 
-    const IDENTIFIER: Identifier = Identifier(Some("Grouped"));
+    const IDENTIFIER: Identifier = Identifier(Some("Group"));
 
     fn tag_tree() -> TagTree<'static> {
         TagTree::of(Self::TAG)
@@ -78,7 +78,7 @@ impl AsnType for Grouped {
     }
 }
 
-impl Constructed for Grouped {
+impl Constructed for Group {
     ghost form = { sequence_form };
 
     ghost table = { ⟦<Form as ComponentsOf>⟧.table };
@@ -124,7 +124,7 @@ impl Constructed for Grouped {
     fn read_fields<D: Decoder>(alloc: Global, decoder: &mut D) -> Result<Self, DecodeError> {
         let form = Form::decode_components(alloc, decoder)?;
         let RequiredComponent(a, MarkedComponents(AddedGroupComponent(extra, NoMore), _)) = form;
-        Ok(Grouped { a, extra })
+        Ok(Group { a, extra })
     }
 
     ghost means = { λ _. refl };
@@ -132,7 +132,7 @@ impl Constructed for Grouped {
     ghost is_of = { λ _ _. refl };
 }
 
-impl Encode for Grouped {
+impl Encode for Group {
     fn encode_with_tag_and_constraints<E: Encoder>(
         &self,
         encoder: &mut E,
@@ -143,7 +143,7 @@ impl Encode for Grouped {
     }
 }
 
-impl Decode for Grouped {
+impl Decode for Group {
     fn decode_with_tag_and_constraints<D: Decoder>(
         alloc: Global,
         decoder: &mut D,
