@@ -8,6 +8,7 @@ mod line;
 mod named;
 mod octets;
 mod translating;
+mod types;
 
 use crate::line::{Line, LineError};
 use crate::named::judge_named;

@@ -1,5 +1,7 @@
 //! Types by their names.
 mod builtin;
+mod choices;
+mod components;
 mod lists;
 mod program;
 mod strings;
@@ -20,6 +22,12 @@ pub fn judge_named(alloc: Global, line: &Line<'_>) -> Result<(), LineError> {
         return judged;
     }
     if let Some(judged) = lists::judge_list(alloc, line) {
+        return judged;
+    }
+    if let Some(judged) = choices::judge_choice(alloc, line) {
+        return judged;
+    }
+    if let Some(judged) = components::judge_components(alloc, line) {
         return judged;
     }
     program::judge_program(alloc, line).unwrap_or(Err(LineError::NoType))

@@ -1,0 +1,337 @@
+//! Runs of the command.
+use crate::assertions::assert_same;
+use crate::fakes::{FakeReader, FakeWriter, Step};
+use asn1_relay_command::{
+    Fault, Kind, Order, command, read_order, refuse_arguments, translate_all,
+};
+use asn1_relay_core::{Codec, DecodeError, EncodeError, RecodeFault};
+use std::io::{Error, ErrorKind, Write};
+use std::process::Abort;
+
+/// One run of the command, and what comes of it.
+#[derive(Clone, Copy)]
+struct Run {
+    words: &'static [&'static str],
+    steps: &'static [Step],
+    /// How many octets one write of the output takes at most.
+    write_size: usize,
+    /// How many writes of the output succeed.
+    writes: u32,
+    can_flush: bool,
+    /// How many writes of an error succeed, of seven octets each.
+    error_writes: u32,
+    status: u8,
+    output: &'static [u8],
+    line: &'static str,
+}
+
+const NOT_AN_ENCODING: &str = "asn1_relay: not an encoding\n";
+
+const SURPLUS_OCTETS: &str = "asn1_relay: surplus octets\n";
+
+const OUT_OF_MEMORY: &str = "asn1_relay: out of memory\n";
+
+const READ_FAILED: &str = "asn1_relay: read failed\n";
+
+const WRITE_FAILED: &str = "asn1_relay: write failed\n";
+
+/// The words that ask for a message of a type to be translated.
+macro_rules! once {
+    ($kind:literal, $from:literal, $to:literal) => {
+        &[
+            "asn1_relay",
+            "once",
+            "--from",
+            $from,
+            "--to",
+            $to,
+            "--type",
+            $kind,
+        ]
+    };
+}
+
+/// No message, with a reader and writers that do not fail.
+const BARE: Run = Run {
+    words: &[],
+    steps: &[],
+    write_size: 64,
+    writes: u32::MAX,
+    can_flush: true,
+    error_writes: u32::MAX,
+    status: 0,
+    output: &[],
+    line: "",
+};
+
+/// A message of a type that is translated.
+macro_rules! done {
+    ($kind:literal, $from:literal, $to:literal, $input:expr, $output:expr) => {
+        Run {
+            words: once!($kind, $from, $to),
+            steps: &[Step::Octets($input)],
+            output: $output,
+            ..BARE
+        }
+    };
+}
+
+/// Octets of a type that are refused.
+macro_rules! refused {
+    ($kind:literal, $from:literal, $to:literal, $input:expr, $line:expr) => {
+        Run {
+            words: once!($kind, $from, $to),
+            steps: &[Step::Octets($input)],
+            status: 1,
+            line: $line,
+            ..BARE
+        }
+    };
+}
+
+/// A pair that is read by these steps, and written octet by octet.
+macro_rules! reading {
+    ($steps:expr, $status:literal, $output:expr, $line:expr) => {
+        Run {
+            words: once!("pair", "uper", "coer"),
+            steps: $steps,
+            write_size: 1,
+            status: $status,
+            output: $output,
+            line: $line,
+            ..BARE
+        }
+    };
+}
+
+/// A pair of which so much is written before a write or a flush fails.
+macro_rules! writing {
+    ($writes:literal, $can_flush:literal, $output:expr) => {
+        Run {
+            words: once!("pair", "uper", "coer"),
+            steps: &[Step::Octets(&[0x88])],
+            write_size: 1,
+            writes: $writes,
+            can_flush: $can_flush,
+            status: 1,
+            output: $output,
+            line: WRITE_FAILED,
+            ..BARE
+        }
+    };
+}
+
+/// Words that ask for nothing that the program does, before which no input is read. What is written of it is the usage of the program.
+macro_rules! bad {
+    ($words:expr) => {
+        Run {
+            words: $words,
+            steps: &[Step::Failure],
+            status: 2,
+            ..BARE
+        }
+    };
+}
+
+/// A message of each type, from each set of rules and to each.
+const MESSAGES: [Run; 15] = [
+    done!("bool", "oer", "coer", &[0x05], &[0xFF]),
+    done!("small", "uper", "coer", &[0x17], &[0xFC]),
+    done!("pair", "coer", "uper", &[0xFF, 0xFC], &[0x88]),
+    done!("integer", "oer", "uper", &[0x02, 0x00, 0x00], &[0x01, 0x00]),
+    done!("bits", "coer", "uper", &[0x03, 0x02, 0xFF, 0x40], &[0x0E, 0xFF, 0x40]),
+    done!("octets", "uper", "aper", &[0x00, 0x20], &[0x00, 0x01]),
+    done!("visible", "aper", "oer", &[0x01, 0x4A], &[0x01, 0x4A]),
+    done!("null", "uper", "oer", &[0x00], &[]),
+    done!("nulls", "oer", "uper", &[0x03, 0x01, 0x00, 0x00], &[0xC4, 0x00]),
+    done!("set", "coer", "uper", &[0x00], &[0x00]),
+    done!("bag", "oer", "coer", &[0x01, 0x03, 0x03, 0x01, 0x02], &[0x01, 0x03, 0x01, 0x02, 0x03]),
+    done!("nest", "coer", "uper", &[0x81, 0x80], &[0x80]),
+    done!("new", "uper", "aper", &[0xC0, 0x40, 0x41, 0xC0], &[0xC0, 0x40, 0x01, 0x07]),
+    done!("old", "uper", "uper", &[0xC0, 0xE0, 0x20, 0xE0, 0x35, 0x40], &[0x40]),
+    done!("group", "uper", "coer", &[0xC0, 0x40, 0x40, 0x00], &[0x00, 0xFF]),
+];
+
+/// Each fault of a message, of a reader and of a writer.
+const FAULTS: [Run; 14] = [
+    refused!("bool", "coer", "uper", &[0x05], NOT_AN_ENCODING),
+    refused!("bool", "coer", "uper", &[], NOT_AN_ENCODING),
+    refused!("bool", "coer", "uper", &[0xFF, 0xFF], SURPLUS_OCTETS),
+    reading!(&[Step::Failure], 1, &[], READ_FAILED),
+    reading!(&[Step::Octets(&[0x88]), Step::Failure], 1, &[], READ_FAILED),
+    // the input is read to its end before it is translated
+    reading!(&[Step::Octets(&[0xD8]), Step::Failure], 1, &[], READ_FAILED),
+    reading!(&[Step::Octets(&[0x88]), Step::Octets(&[0x00])], 1, &[], SURPLUS_OCTETS),
+    reading!(&[Step::Interrupted, Step::Octets(&[0x88])], 0, &[0xFF, 0xFC], ""),
+    reading!(&[Step::Octets(&[0x57])], 0, &[0x00, 0x05], ""),
+    writing!(0, true, &[]),
+    writing!(1, true, &[0xFF]),
+    writing!(2, false, &[0xFF, 0xFC]),
+    // no error can be written, or its beginning alone
+    Run {
+        error_writes: 0,
+        ..refused!("pair", "coer", "uper", &[0x01, 0xFC], NOT_AN_ENCODING)
+    },
+    Run {
+        error_writes: 2,
+        ..reading!(&[Step::Failure], 1, &[], READ_FAILED)
+    },
+];
+
+/// Words that are no order.
+const ORDERS: [Run; 19] = [
+    bad!(&[]),
+    bad!(&["asn1_relay"]),
+    bad!(&["asn1_relay", "--help"]),
+    bad!(&["asn1_relay", "help"]),
+    bad!(&["asn1_relay", "once", "--help"]),
+    bad!(&["asn1_relay", "ONCE", "--from", "coer", "--to", "uper", "--type", "bool"]),
+    bad!(&["asn1_relay", "stream", "--from", "coer", "--to", "uper", "--type", "bool"]),
+    bad!(&["asn1_relay", "route", "--from", "coer", "--pair", "plain"]),
+    bad!(once!("bool", "der", "uper")),
+    bad!(once!("bool", "coer", "per")),
+    bad!(once!("INTEGER", "coer", "uper")),
+    bad!(once!("bool", "Coer", "uper")),
+    bad!(once!("Bool", "coer", "uper")),
+    bad!(&["asn1_relay", "once", "--to", "uper", "--type", "bool"]),
+    bad!(&["asn1_relay", "once", "--from", "coer", "--type", "bool"]),
+    bad!(&["asn1_relay", "once", "--from", "coer", "--to", "uper"]),
+    bad!(&["asn1_relay", "once", "--from", "coer", "--from", "coer", "--to", "uper", "--type", "bool"]),
+    bad!(&["asn1_relay", "once", "--from", "coer", "--to", "uper", "--type", "bool", "surplus"]),
+    Run {
+        error_writes: 0,
+        ..bad!(&["asn1_relay", "twice"])
+    },
+];
+
+/// Whether an error is this line, or as much of it as can be written.
+fn holds_line(errors: &FakeWriter, run: &Run, line: &str) -> bool {
+    let written = line.len().min(7usize.saturating_mul(run.error_writes as usize));
+    errors.holds(&line.as_bytes()[..written])
+}
+
+/// Whether what is written of an error is as a run says. The usage of the program may be any text.
+fn errors_are_right(errors: &FakeWriter, run: &Run) -> bool {
+    if run.status == 2 && run.error_writes != 0 {
+        return !errors.holds(&[]);
+    }
+    holds_line(errors, run, run.line)
+}
+
+/// Makes a run, and says whether memory was refused; all else has to be as the run says.
+fn is_refused_memory(rt: &(impl Abort + AllocGlobal), run: &Run) -> bool {
+    let mut input = FakeReader::new(run.steps);
+    let mut output = FakeWriter::new();
+    output.write_size = run.write_size;
+    output.writes_left = run.writes;
+    output.can_flush = run.can_flush;
+    let mut errors = FakeWriter::new();
+    errors.write_size = 7;
+    errors.writes_left = run.error_writes;
+    let status = command(rt.alloc(), run.words, &mut input, &mut output, &mut errors);
+    if status == 1 && holds_line(&errors, run, OUT_OF_MEMORY) {
+        assert!(rt; output.holds(&[]));
+        return run.error_writes != 0 || run.status != 1;
+    }
+    let is_flushed = status != 0 || output.is_flushed;
+    let is_unread = status != 2 || input.is_unread();
+    let is_right = status == run.status && output.holds(run.output) && is_flushed && is_unread;
+    assert!(rt; is_right && errors_are_right(&errors, run), "{:?}", run.words);
+    false
+}
+
+/// Each run has its answer, at the second try at the latest: one request for memory at most is refused.
+fn check_runs(rt: &(impl Abort + AllocGlobal), runs: &[Run]) {
+    for run in runs {
+        let is_refused = is_refused_memory(rt, run);
+        assert!(rt; !is_refused || !is_refused_memory(rt, run));
+    }
+}
+
+#[test]
+fn runs(rt: HostRuntime) {
+    check_runs(&rt, &MESSAGES);
+    check_runs(&rt, &FAULTS);
+    check_runs(&rt, &ORDERS);
+}
+
+#[test]
+fn arguments_that_cannot_be_had(rt: HostRuntime) {
+    let mut errors = FakeWriter::new();
+    let no_memory = Error::from(ErrorKind::OutOfMemory);
+    let no_text = Error::from(ErrorKind::InvalidData);
+    let is_memory = refuse_arguments(&no_memory, &mut errors) == 1;
+    assert!(rt; is_memory && errors.holds(OUT_OF_MEMORY.as_bytes()));
+    let mut errors = FakeWriter::new();
+    let is_text = refuse_arguments(&no_text, &mut errors) == 2;
+    assert!(rt; is_text && !errors.holds(&[]));
+}
+
+/// Whether the line of a fault is its text behind the program's name.
+fn is_shown(fault: Fault) -> bool {
+    let mut written = FakeWriter::new();
+    let shown = writeln!(written, "asn1_relay: {fault}");
+    shown.is_ok() && written.holds(fault.line().as_bytes())
+}
+
+#[test]
+fn lines(rt: HostRuntime) {
+    let faults = [
+        Fault::NotAnEncoding,
+        Fault::SurplusOctets,
+        Fault::NoTargetEncoding,
+        Fault::OutOfMemory,
+        Fault::ReadFailed,
+        Fault::WriteFailed,
+    ];
+    for fault in faults {
+        assert!(rt; is_shown(fault), "{fault}");
+    }
+    let line = Fault::NoTargetEncoding.line();
+    assert!(rt; line == "asn1_relay: no target encoding\n");
+}
+
+#[test]
+fn faults_of_translations(rt: HostRuntime) {
+    let faults = [
+        (
+            RecodeFault::NotAnEncoding(DecodeError::Incomplete),
+            Fault::NotAnEncoding,
+        ),
+        (RecodeFault::Surplus, Fault::SurplusOctets),
+        (
+            RecodeFault::NoTarget(EncodeError::TooLongValue),
+            Fault::NoTargetEncoding,
+        ),
+        (RecodeFault::Memory, Fault::OutOfMemory),
+    ];
+    for (fault, wanted) in faults {
+        assert!(rt; Fault::from(fault) == wanted, "{wanted}");
+    }
+}
+
+#[test]
+fn orders(rt: HostRuntime) {
+    let words = ["relay", "once", "--type=bool", "--to=coer", "--from=uper"];
+    let order = Order {
+        from: Codec::Uper,
+        to: Codec::Coer,
+        kind: Kind::Bool,
+    };
+    let mut answers = 0u32;
+    for _ in 0..3 {
+        if let Ok(read) = read_order(rt.alloc(), &words) {
+            assert_same(&rt, &read, &order);
+            answers = answers.saturating_add(1);
+        }
+        match translate_all(rt.alloc(), order, &[0x80]) {
+            Ok(octets) => {
+                assert!(rt; octets.as_slice() == [0xFF].as_slice());
+                answers = answers.saturating_add(1);
+            }
+            Err(fault) => assert_same(&rt, &fault, &Fault::OutOfMemory),
+        }
+    }
+    // one request at most is refused
+    assert!(rt; 5 <= answers);
+}

@@ -1,0 +1,19 @@
+//! Tests of the program's command, with readers and writers that fail, and of values of types of a program's own.
+#![tactic(auto)]
+
+#[cfg(test)]
+mod assertions;
+#[cfg(test)]
+mod command;
+#[cfg(test)]
+mod fakes;
+#[cfg(test)]
+mod many_alternatives;
+#[cfg(test)]
+mod records;
+#[cfg(test)]
+mod rows;
+#[cfg(test)]
+mod tables;
+#[cfg(test)]
+mod values;

@@ -1,0 +1,204 @@
+//! A choice of 300 alternatives, each a BOOLEAN, by calls of the codecs (X.691 11.5.7, 23.6 and X.696 8.7, 20.1).
+use crate::rows::{CODECS, Row};
+use asn1_relay_core::{Codec, DecodeError, EncodeError};
+use asn1_schema_decode::{Decode, Decoder};
+use asn1_schema_encode::{Encode, Encoder};
+use asn1_schema_tags::Tag;
+use asn1_schema_variants::Chosen;
+use oer_codec::oer;
+use std::alloc::{AllocError, Global};
+use std::test::Fail;
+
+/// TRUE by the alternative of a place, whose tag has that number.
+#[derive(Clone, Copy)]
+struct Alternative {
+    place: usize,
+    row: Row,
+}
+
+const ALTERNATIVES: [Alternative; 5] = [
+    Alternative {
+        place: 0,
+        row: Row {
+            uper: &[0x00, 0x40],
+            aper: &[0x00, 0x00, 0x80],
+            octets: &[0x80, 0xFF],
+        },
+    },
+    Alternative {
+        place: 127,
+        row: Row {
+            uper: &[0x3F, 0xC0],
+            aper: &[0x00, 0x7F, 0x80],
+            octets: &[0xBF, 0x7F, 0xFF],
+        },
+    },
+    Alternative {
+        place: 255,
+        row: Row {
+            uper: &[0x7F, 0xC0],
+            aper: &[0x00, 0xFF, 0x80],
+            octets: &[0xBF, 0x81, 0x7F, 0xFF],
+        },
+    },
+    Alternative {
+        place: 256,
+        row: Row {
+            uper: &[0x80, 0x40],
+            aper: &[0x01, 0x00, 0x80],
+            octets: &[0xBF, 0x82, 0x00, 0xFF],
+        },
+    },
+    Alternative {
+        place: 299,
+        row: Row {
+            uper: &[0x95, 0xC0],
+            aper: &[0x01, 0x2B, 0x80],
+            octets: &[0xBF, 0x82, 0x2B, 0xFF],
+        },
+    },
+];
+
+/// The tags [0] to [299].
+fn tags(alloc: Global) -> Result<Vec<Tag>, AllocError> {
+    let mut tags = Vec::new(alloc);
+    for number in 0..300 {
+        tags.push(Tag::new_context(number))?;
+    }
+    Ok(tags)
+}
+
+/// Writes TRUE by the alternative of a place.
+fn write<E: Encoder>(encoder: &mut E, tags: &[Tag], place: usize) -> Result<(), EncodeError> {
+    encoder.begin_choice(Tag::CHOICE, tags, false, &[], Chosen::root(place))?;
+    true.encode(encoder)?;
+    encoder.end()
+}
+
+/// Reads which alternative is chosen, and its value.
+fn read<D: Decoder>(
+    alloc: Global,
+    decoder: &mut D,
+    tags: &[Tag],
+) -> Result<(Chosen, bool), DecodeError> {
+    let chosen = decoder.begin_choice(Tag::CHOICE, tags, false, &[])?;
+    let value = bool::decode(alloc, decoder)?;
+    decoder.end()?;
+    Ok((chosen, value))
+}
+
+/// TRUE by the alternative of a place, in the packed encoding rules.
+fn packed(
+    alloc: Global,
+    options: per_codec::EncoderOptions,
+    tags: &[Tag],
+    place: usize,
+) -> Result<Vec<u8>, EncodeError> {
+    let mut encoder = per_codec::Encoder::new(alloc, options);
+    write(&mut encoder, tags, place)?;
+    encoder.output()
+}
+
+/// What an encoder of octets has written once TRUE is written by the alternative of a place.
+fn output_of(
+    mut encoder: oer::Encoder<'_>,
+    tags: &[Tag],
+    place: usize,
+) -> Result<Vec<u8>, EncodeError> {
+    write(&mut encoder, tags, place)?;
+    Ok(encoder.output())
+}
+
+/// TRUE by the alternative of a place, in the octet encoding rules.
+fn in_octets(alloc: Global, tags: &[Tag], place: usize) -> Result<Vec<u8>, EncodeError> {
+    let mut buffer = Vec::new(alloc);
+    let mut worker = Vec::new(alloc);
+    let options = oer::EncoderOptions::coer();
+    let encoder = oer::Encoder::from_buffer(alloc, options, &mut buffer, &mut worker);
+    output_of(encoder, tags, place)
+}
+
+/// TRUE by the alternative of a place, in these rules.
+fn written(
+    alloc: Global,
+    codec: Codec,
+    tags: &[Tag],
+    place: usize,
+) -> Result<Vec<u8>, EncodeError> {
+    match codec {
+        Codec::Uper => packed(alloc, per_codec::EncoderOptions::unaligned(), tags, place),
+        Codec::Aper => packed(alloc, per_codec::EncoderOptions::aligned(), tags, place),
+        Codec::Oer | Codec::Coer => in_octets(alloc, tags, place),
+    }
+}
+
+/// What the packed encoding rules read.
+fn from_packed(
+    alloc: Global,
+    options: per_codec::DecoderOptions,
+    tags: &[Tag],
+    octets: &[u8],
+) -> Result<(Chosen, bool), DecodeError> {
+    let mut decoder = per_codec::Decoder::new(alloc, octets, options);
+    read(alloc, &mut decoder, tags)
+}
+
+/// What the octet encoding rules read.
+fn from_octets(
+    alloc: Global,
+    options: oer::DecoderOptions,
+    tags: &[Tag],
+    octets: &[u8],
+) -> Result<(Chosen, bool), DecodeError> {
+    let mut decoder = oer::Decoder::new(alloc, octets, options);
+    read(alloc, &mut decoder, tags)
+}
+
+/// What these rules read.
+fn found(
+    alloc: Global,
+    codec: Codec,
+    tags: &[Tag],
+    octets: &[u8],
+) -> Result<(Chosen, bool), DecodeError> {
+    match codec {
+        Codec::Uper => from_packed(alloc, per_codec::DecoderOptions::unaligned(), tags, octets),
+        Codec::Aper => from_packed(alloc, per_codec::DecoderOptions::aligned(), tags, octets),
+        Codec::Oer => from_octets(alloc, oer::DecoderOptions::oer(), tags, octets),
+        Codec::Coer => from_octets(alloc, oer::DecoderOptions::coer(), tags, octets),
+    }
+}
+
+/// Whether TRUE by an alternative is written as its row says, and read so.
+fn is_right(
+    alloc: Global,
+    codec: Codec,
+    tags: &[Tag],
+    alternative: &Alternative,
+) -> Result<bool, Fail> {
+    let octets = written(alloc, codec, tags, alternative.place)?;
+    let read = found(alloc, codec, tags, alternative.row.by(codec))?;
+    let is_written = octets.as_slice() == alternative.row.by(codec);
+    Ok(is_written && read == (Chosen::root(alternative.place), true))
+}
+
+/// The place 300, and the tag [300], are those of no alternative.
+const BEHIND_THE_LAST: Row = Row {
+    uper: &[0x96, 0x40],
+    aper: &[0x01, 0x2C, 0x80],
+    octets: &[0xBF, 0x82, 0x2C, 0xFF],
+};
+
+#[test]
+fn alternatives(rt: HostRuntime) -> Result<(), Fail> {
+    let alloc = rt.alloc();
+    let tags = tags(alloc)?;
+    for codec in CODECS {
+        for alternative in &ALTERNATIVES {
+            assert!(rt; is_right(alloc, codec, &tags, alternative)?, "{codec:?} {}", alternative.place);
+        }
+        let fault = found(alloc, codec, &tags, BEHIND_THE_LAST.by(codec)).err();
+        assert!(rt; fault == Some(DecodeError::InvalidTagVariantOnChoice), "{codec:?}");
+    }
+    Ok(())
+}

@@ -1,0 +1,299 @@
+//! Values of a program's types, written by each set of rules and read back: that they mean what the octets say.
+use crate::rows::{CODECS, Row};
+use asn1_relay_core::{Codec, DecodeError, EncodeError, RecodeFault, recode};
+use asn1_relay_types::{Bag, Extra, Group, New, Set};
+use asn1_schema_encode::Encode;
+use asn1_schema_example::control::Control;
+use asn1_schema_example::measure::Measure;
+use asn1_schema_example::power::Power;
+use asn1_schema_example_choices::message::Message;
+use asn1_schema_wrapped::Implicit;
+use asn1_values_numbers::Integer;
+use std::alloc::{AllocError, Global};
+use std::test::Fail;
+
+/// Whether a value is written as these octets.
+fn is_written<T: Encode>(
+    alloc: Global,
+    codec: Codec,
+    value: &T,
+    row: &Row,
+) -> Result<bool, EncodeError> {
+    let octets = codec.encode(alloc, value)?;
+    Ok(octets.as_slice() == row.by(codec))
+}
+
+/// {a 5, b 6, c 7}, in the order of tags (X.691 21, X.696 18).
+const SET: Row = Row {
+    uper: &[0xE0, 0x20, 0xE0, 0x20, 0xC0, 0x20, 0xA0],
+    aper: &[0xE0, 0x01, 0x07, 0x01, 0x06, 0x01, 0x05],
+    octets: &[0xE0, 0x01, 0x07, 0x01, 0x06, 0x01, 0x05],
+};
+
+/// Whether these rules write a set as its row says.
+fn set_is_written(alloc: Global, codec: Codec) -> Result<bool, EncodeError> {
+    let set = Set {
+        a: Some(Implicit::new(Integer::from(5))),
+        b: Some(Implicit::new(Integer::from(6))),
+        c: Some(Implicit::new(Integer::from(7))),
+    };
+    is_written(alloc, codec, &set, &SET)
+}
+
+/// Whether these rules read a set as its row says.
+fn set_is_read(alloc: Global, codec: Codec) -> Result<bool, DecodeError> {
+    let set: Set = codec.decode(alloc, SET.by(codec))?;
+    Ok(
+        set.a == Some(Implicit::new(Integer::from(5)))
+            && set.b == Some(Implicit::new(Integer::from(6)))
+            && set.c == Some(Implicit::new(Integer::from(7))),
+    )
+}
+
+/// {power on: TRUE, level 9}, with a choice in a set (X.691 23, X.696 20).
+const CONTROL: Row = Row {
+    uper: &[0xC2, 0x40],
+    aper: &[0xC0, 0x09],
+    octets: &[0x87, 0xFF, 0x09],
+};
+
+/// Whether these rules write a set with a choice as its row says.
+fn control_is_written(alloc: Global, codec: Codec) -> Result<bool, EncodeError> {
+    let control = Control {
+        power: Power::On(true),
+        level: Implicit::new(9),
+    };
+    is_written(alloc, codec, &control, &CONTROL)
+}
+
+/// Whether these rules read a set with a choice as its row says.
+fn control_is_read(alloc: Global, codec: Codec) -> Result<bool, DecodeError> {
+    let control: Control = codec.decode(alloc, CONTROL.by(codec))?;
+    Ok(matches!(&control.power, Power::On(true)) && control.level.value == 9)
+}
+
+/// {a TRUE, b 7}, with an addition (X.691 19.7, X.696 16.4).
+const NEW: Row = Row {
+    uper: &[0xC0, 0x40, 0x41, 0xC0],
+    aper: &[0xC0, 0x40, 0x01, 0x07],
+    octets: &[0x80, 0xFF, 0x02, 0x07, 0x80, 0x01, 0x07],
+};
+
+/// Whether these rules write a value with an addition as its row says.
+fn new_is_written(alloc: Global, codec: Codec) -> Result<bool, EncodeError> {
+    let new = New {
+        a: true,
+        b: Some(7),
+    };
+    is_written(alloc, codec, &new, &NEW)
+}
+
+/// Whether these rules read a value with an addition as its row says.
+fn new_is_read(alloc: Global, codec: Codec) -> Result<bool, DecodeError> {
+    let new: New = codec.decode(alloc, NEW.by(codec))?;
+    Ok(new.a && new.b == Some(7))
+}
+
+/// {a TRUE, x 7}, with a group of additions (X.691 19.9, X.696 16.4).
+const GROUP: Row = Row {
+    uper: &[0xC0, 0x40, 0xA0, 0xE0, 0x00],
+    aper: &[0xC0, 0x40, 0x02, 0x80, 0x07],
+    octets: &[0x80, 0xFF, 0x02, 0x07, 0x80, 0x02, 0x80, 0x07],
+};
+
+/// Whether these rules write a value with a group as its row says.
+fn group_is_written(alloc: Global, codec: Codec) -> Result<bool, EncodeError> {
+    let group = Group {
+        a: true,
+        extra: Some(Extra { x: Some(7) }),
+    };
+    is_written(alloc, codec, &group, &GROUP)
+}
+
+/// Whether these rules read a value with a group as its row says.
+fn group_is_read(alloc: Global, codec: Codec) -> Result<bool, DecodeError> {
+    let group: Group = codec.decode(alloc, GROUP.by(codec))?;
+    Ok(group.a && matches!(&group.extra, Some(Extra { x: Some(7) })))
+}
+
+/// name: "Jo", an added alternative, which is an open type (X.691 23.8, X.696 20.2).
+const MESSAGE: Row = Row {
+    uper: &[0x80, 0x03, 0x02, 0x4A, 0x6F],
+    aper: &[0x80, 0x03, 0x02, 0x4A, 0x6F],
+    octets: &[0x82, 0x03, 0x02, 0x4A, 0x6F],
+};
+
+/// Whether these rules write an added alternative as its row says.
+fn message_is_written(alloc: Global, codec: Codec) -> Result<bool, Fail> {
+    let message = Message::Name(String::from_str(alloc, "Jo")?);
+    Ok(is_written(alloc, codec, &message, &MESSAGE)?)
+}
+
+/// Whether these rules read an added alternative as its row says.
+fn message_is_read(alloc: Global, codec: Codec) -> Result<bool, DecodeError> {
+    let message: Message = codec.decode(alloc, MESSAGE.by(codec))?;
+    match &message {
+        Message::Name(name) => Ok(name.as_str() == "Jo"),
+        _ => Ok(false),
+    }
+}
+
+/// {offset 0}, a default, which is left out (X.691 19.5, X.696 16.2).
+const MEASURE: Row = Row {
+    uper: &[0x00],
+    aper: &[0x00],
+    octets: &[0x00],
+};
+
+/// Whether these rules write a default as its row says.
+fn measure_is_written(alloc: Global, codec: Codec) -> Result<bool, EncodeError> {
+    let measure = Measure {
+        offset: Integer::from(0),
+        exact: None,
+    };
+    is_written(alloc, codec, &measure, &MEASURE)
+}
+
+/// Whether these rules read a default as its row says.
+fn measure_is_read(alloc: Global, codec: Codec) -> Result<bool, DecodeError> {
+    let measure: Measure = codec.decode(alloc, MEASURE.by(codec))?;
+    Ok(measure.offset == Integer::from(0) && measure.exact.is_none())
+}
+
+#[test]
+fn values_are_written(rt: HostRuntime) -> Result<(), Fail> {
+    let alloc = rt.alloc();
+    for codec in CODECS {
+        assert!(rt; set_is_written(alloc, codec)?);
+        assert!(rt; control_is_written(alloc, codec)?);
+        assert!(rt; new_is_written(alloc, codec)?);
+        assert!(rt; group_is_written(alloc, codec)?);
+        assert!(rt; message_is_written(alloc, codec)?);
+        assert!(rt; measure_is_written(alloc, codec)?);
+    }
+    Ok(())
+}
+
+#[test]
+fn values_are_read(rt: HostRuntime) -> Result<(), Fail> {
+    let alloc = rt.alloc();
+    for codec in CODECS {
+        assert!(rt; set_is_read(alloc, codec)?);
+        assert!(rt; control_is_read(alloc, codec)?);
+        assert!(rt; new_is_read(alloc, codec)?);
+        assert!(rt; group_is_read(alloc, codec)?);
+        assert!(rt; message_is_read(alloc, codec)?);
+        assert!(rt; measure_is_read(alloc, codec)?);
+    }
+    Ok(())
+}
+
+/// {1, 2, 3}.
+const BAG: Row = Row {
+    uper: &[3, 1, 2, 3],
+    aper: &[3, 1, 2, 3],
+    octets: &[1, 3, 1, 2, 3],
+};
+
+/// The bag of these numbers.
+fn bag_of(alloc: Global, numbers: &[u8]) -> Result<Bag, AllocError> {
+    Ok(Bag::from_vec(Vec::from_slice(alloc, numbers)?))
+}
+
+/// Whether a bag of these numbers is the same as {1, 2, 3}, and is written so by each set of rules.
+fn is_bag(alloc: Global, numbers: &[u8]) -> Result<bool, Fail> {
+    let bag = bag_of(alloc, numbers)?;
+    let mut is_right = bag == bag_of(alloc, &[1, 2, 3])?;
+    for codec in CODECS {
+        is_right = is_right && is_written(alloc, codec, &bag, &BAG)?;
+    }
+    Ok(is_right)
+}
+
+/// Members are handed in in any order, and written in that of their encodings.
+#[test]
+fn members_are_handed_in_any_order(rt: HostRuntime) -> Result<(), Fail> {
+    for numbers in [[3, 1, 2], [2, 3, 1]] {
+        assert!(rt; is_bag(rt.alloc(), &numbers)?, "{numbers:?}");
+    }
+    Ok(())
+}
+
+/// The numbers 0 to 249, over and over, 100000 in all.
+fn in_turn(alloc: Global) -> Result<Vec<u8>, AllocError> {
+    let mut members = Vec::new(alloc);
+    for _ in 0..400 {
+        for number in 0..250u8 {
+            members.push(number)?;
+        }
+    }
+    Ok(members)
+}
+
+/// The same numbers in ascending order.
+fn in_order(alloc: Global) -> Result<Vec<u8>, AllocError> {
+    let mut members = Vec::new(alloc);
+    for number in 0..250u8 {
+        for _ in 0..400 {
+            members.push(number)?;
+        }
+    }
+    Ok(members)
+}
+
+/// A list of 100000 members in the octet rules: its length in octets, its number of members, and these.
+fn with_its_count(alloc: Global, members: &[u8]) -> Result<Vec<u8>, AllocError> {
+    let mut octets = vec![in alloc; 0x03u8, 0x01, 0x86, 0xA0]?;
+    octets.extend_from_slice(members)?;
+    Ok(octets)
+}
+
+/// The same in the packed rules: 65536, 32768 and 1696 members, each time behind their number.
+fn in_fragments(alloc: Global, members: &[u8]) -> Result<Vec<u8>, AllocError> {
+    let mut octets = Vec::new(alloc);
+    for (place, member) in members.iter().enumerate() {
+        match place {
+            0 => octets.push(0xC4)?,
+            65536 => octets.push(0xC2)?,
+            98304 => octets.extend_from_slice(&[0x86, 0xA0])?,
+            _ => {}
+        }
+        octets.push(*member)?;
+    }
+    Ok(octets)
+}
+
+/// Whether octets of a bag are translated to these.
+fn becomes(
+    alloc: Global,
+    from: Codec,
+    input: &[u8],
+    to: Codec,
+    output: &[u8],
+) -> Result<bool, RecodeFault> {
+    let translated = recode::<Bag>(alloc, from, to, input)?;
+    Ok(translated.as_slice() == output)
+}
+
+/// Whether a bag of 100000 members is put in order by each set of rules, and carried on from each to another.
+fn is_put_in_order(alloc: Global) -> Result<bool, Fail> {
+    let ordered = in_order(alloc)?;
+    let input = with_its_count(alloc, &in_turn(alloc)?)?;
+    let octets = with_its_count(alloc, &ordered)?;
+    let packed = in_fragments(alloc, &ordered)?;
+    Ok(
+        becomes(alloc, Codec::Oer, &input, Codec::Uper, &packed)?
+            && becomes(alloc, Codec::Oer, &input, Codec::Aper, &packed)?
+            && becomes(alloc, Codec::Oer, &input, Codec::Oer, &octets)?
+            && becomes(alloc, Codec::Oer, &input, Codec::Coer, &octets)?
+            && becomes(alloc, Codec::Coer, &octets, Codec::Uper, &packed)?
+            && becomes(alloc, Codec::Uper, &packed, Codec::Aper, &packed)?
+            && becomes(alloc, Codec::Aper, &packed, Codec::Oer, &octets)?,
+    )
+}
+
+#[test]
+fn a_bag_of_100000_members(rt: HostRuntime) -> Result<(), Fail> {
+    assert!(rt; is_put_in_order(rt.alloc())?);
+    Ok(())
+}
