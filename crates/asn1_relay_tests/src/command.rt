@@ -139,17 +139,53 @@ const MESSAGES: [Run; 15] = [
     done!("small", "uper", "coer", &[0x17], &[0xFC]),
     done!("pair", "coer", "uper", &[0xFF, 0xFC], &[0x88]),
     done!("integer", "oer", "uper", &[0x02, 0x00, 0x00], &[0x01, 0x00]),
-    done!("bits", "coer", "uper", &[0x03, 0x02, 0xFF, 0x40], &[0x0E, 0xFF, 0x40]),
+    done!(
+        "bits",
+        "coer",
+        "uper",
+        &[0x03, 0x02, 0xFF, 0x40],
+        &[0x0E, 0xFF, 0x40]
+    ),
     done!("octets", "uper", "aper", &[0x00, 0x20], &[0x00, 0x01]),
     done!("visible", "aper", "oer", &[0x01, 0x4A], &[0x01, 0x4A]),
     done!("null", "uper", "oer", &[0x00], &[]),
-    done!("nulls", "oer", "uper", &[0x03, 0x01, 0x00, 0x00], &[0xC4, 0x00]),
+    done!(
+        "nulls",
+        "oer",
+        "uper",
+        &[0x03, 0x01, 0x00, 0x00],
+        &[0xC4, 0x00]
+    ),
     done!("set", "coer", "uper", &[0x00], &[0x00]),
-    done!("bag", "oer", "coer", &[0x01, 0x03, 0x03, 0x01, 0x02], &[0x01, 0x03, 0x01, 0x02, 0x03]),
+    done!(
+        "bag",
+        "oer",
+        "coer",
+        &[0x01, 0x03, 0x03, 0x01, 0x02],
+        &[0x01, 0x03, 0x01, 0x02, 0x03]
+    ),
     done!("nest", "coer", "uper", &[0x81, 0x80], &[0x80]),
-    done!("new", "uper", "aper", &[0xC0, 0x40, 0x41, 0xC0], &[0xC0, 0x40, 0x01, 0x07]),
-    done!("old", "uper", "uper", &[0xC0, 0xE0, 0x20, 0xE0, 0x35, 0x40], &[0x40]),
-    done!("group", "uper", "coer", &[0xC0, 0x40, 0x40, 0x00], &[0x00, 0xFF]),
+    done!(
+        "new",
+        "uper",
+        "aper",
+        &[0xC0, 0x40, 0x41, 0xC0],
+        &[0xC0, 0x40, 0x01, 0x07]
+    ),
+    done!(
+        "old",
+        "uper",
+        "uper",
+        &[0xC0, 0xE0, 0x20, 0xE0, 0x35, 0x40],
+        &[0x40]
+    ),
+    done!(
+        "group",
+        "uper",
+        "coer",
+        &[0xC0, 0x40, 0x40, 0x00],
+        &[0x00, 0xFF]
+    ),
 ];
 
 /// Each fault of a message, of a reader and of a writer.
@@ -161,8 +197,18 @@ const FAULTS: [Run; 14] = [
     reading!(&[Step::Octets(&[0x88]), Step::Failure], 1, &[], READ_FAILED),
     // the input is read to its end before it is translated
     reading!(&[Step::Octets(&[0xD8]), Step::Failure], 1, &[], READ_FAILED),
-    reading!(&[Step::Octets(&[0x88]), Step::Octets(&[0x00])], 1, &[], SURPLUS_OCTETS),
-    reading!(&[Step::Interrupted, Step::Octets(&[0x88])], 0, &[0xFF, 0xFC], ""),
+    reading!(
+        &[Step::Octets(&[0x88]), Step::Octets(&[0x00])],
+        1,
+        &[],
+        SURPLUS_OCTETS
+    ),
+    reading!(
+        &[Step::Interrupted, Step::Octets(&[0x88])],
+        0,
+        &[0xFF, 0xFC],
+        ""
+    ),
     reading!(&[Step::Octets(&[0x57])], 0, &[0x00, 0x05], ""),
     writing!(0, true, &[]),
     writing!(1, true, &[0xFF]),
@@ -185,8 +231,26 @@ const ORDERS: [Run; 19] = [
     bad!(&["asn1_relay", "--help"]),
     bad!(&["asn1_relay", "help"]),
     bad!(&["asn1_relay", "once", "--help"]),
-    bad!(&["asn1_relay", "ONCE", "--from", "coer", "--to", "uper", "--type", "bool"]),
-    bad!(&["asn1_relay", "stream", "--from", "coer", "--to", "uper", "--type", "bool"]),
+    bad!(&[
+        "asn1_relay",
+        "ONCE",
+        "--from",
+        "coer",
+        "--to",
+        "uper",
+        "--type",
+        "bool"
+    ]),
+    bad!(&[
+        "asn1_relay",
+        "stream",
+        "--from",
+        "coer",
+        "--to",
+        "uper",
+        "--type",
+        "bool"
+    ]),
     bad!(&["asn1_relay", "route", "--from", "coer", "--pair", "plain"]),
     bad!(once!("bool", "der", "uper")),
     bad!(once!("bool", "coer", "per")),
@@ -196,8 +260,29 @@ const ORDERS: [Run; 19] = [
     bad!(&["asn1_relay", "once", "--to", "uper", "--type", "bool"]),
     bad!(&["asn1_relay", "once", "--from", "coer", "--type", "bool"]),
     bad!(&["asn1_relay", "once", "--from", "coer", "--to", "uper"]),
-    bad!(&["asn1_relay", "once", "--from", "coer", "--from", "coer", "--to", "uper", "--type", "bool"]),
-    bad!(&["asn1_relay", "once", "--from", "coer", "--to", "uper", "--type", "bool", "surplus"]),
+    bad!(&[
+        "asn1_relay",
+        "once",
+        "--from",
+        "coer",
+        "--from",
+        "coer",
+        "--to",
+        "uper",
+        "--type",
+        "bool"
+    ]),
+    bad!(&[
+        "asn1_relay",
+        "once",
+        "--from",
+        "coer",
+        "--to",
+        "uper",
+        "--type",
+        "bool",
+        "surplus"
+    ]),
     Run {
         error_writes: 0,
         ..bad!(&["asn1_relay", "twice"])
@@ -206,7 +291,9 @@ const ORDERS: [Run; 19] = [
 
 /// Whether an error is this line, or as much of it as can be written.
 fn holds_line(errors: &FakeWriter, run: &Run, line: &str) -> bool {
-    let written = line.len().min(7usize.saturating_mul(run.error_writes as usize));
+    let written = line
+        .len()
+        .min(7usize.saturating_mul(run.error_writes as usize));
     errors.holds(&line.as_bytes()[..written])
 }
 
@@ -236,7 +323,11 @@ fn is_refused_memory(rt: &(impl Abort + AllocGlobal), run: &Run) -> bool {
     let is_flushed = status != 0 || output.is_flushed;
     let is_unread = status != 2 || input.is_unread();
     let is_right = status == run.status && output.holds(run.output) && is_flushed && is_unread;
-    assert!(rt; is_right && errors_are_right(&errors, run), "{:?}", run.words);
+    assert!(rt;
+        is_right && errors_are_right(&errors, run),
+        "{:?}",
+        run.words
+    );
     false
 }
 

@@ -195,10 +195,17 @@ fn alternatives(rt: HostRuntime) -> Result<(), Fail> {
     let tags = tags(alloc)?;
     for codec in CODECS {
         for alternative in &ALTERNATIVES {
-            assert!(rt; is_right(alloc, codec, &tags, alternative)?, "{codec:?} {}", alternative.place);
+            assert!(rt;
+                is_right(alloc, codec, &tags, alternative)?,
+                "{codec:?} {}",
+                alternative.place
+            );
         }
         let fault = found(alloc, codec, &tags, BEHIND_THE_LAST.by(codec)).err();
-        assert!(rt; fault == Some(DecodeError::InvalidTagVariantOnChoice), "{codec:?}");
+        assert!(rt;
+            fault == Some(DecodeError::InvalidTagVariantOnChoice),
+            "{codec:?}"
+        );
     }
     Ok(())
 }

@@ -2,6 +2,7 @@
 use crate::assertions::assert_same;
 use asn1_relay_types::{Extra, New, Set};
 use asn1_schema_additions::Group;
+use asn1_schema_components::DefaultOf;
 use asn1_schema_constructed::{Alternatives, Choice, Constructed, Fields, NamedItems};
 use asn1_schema_example::control::Control;
 use asn1_schema_example::gauge::Gauge;
@@ -10,7 +11,6 @@ use asn1_schema_example::measure::{Measure, Zero};
 use asn1_schema_example::power::Power;
 use asn1_schema_example_choices::answer::Answer;
 use asn1_schema_example_choices::colour::Colour;
-use asn1_schema_components::DefaultOf;
 use asn1_schema_tags::Tag;
 use asn1_schema_types::AsnType;
 use asn1_schema_variants::{Chosen, Enumerated};
@@ -92,7 +92,10 @@ fn items(rt: HostRuntime) {
     assert_same(&rt, &counts, &[2, 1]);
     let numbered = [Colour::from_discriminant(2), Colour::from_discriminant(3)];
     assert_same(&rt, &numbered, &[Some(Colour::Blue), None]);
-    let named = [Colour::from_identifier("blue"), Colour::from_identifier("black")];
+    let named = [
+        Colour::from_identifier("blue"),
+        Colour::from_identifier("black"),
+    ];
     assert_same(&rt, &named, &[Some(Colour::Blue), None]);
     assert!(rt; Answer::from_discriminant(-1000) == Some(Answer::No));
 }

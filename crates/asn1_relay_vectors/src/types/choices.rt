@@ -72,7 +72,10 @@ impl AsnType for Spaced {
     const IS_CHOICE: bool = true;
 
     fn tag_tree() -> TagTree<'static> {
-        const TREES: &'static [TagTree<'static>] = &[TagTree::Leaf(context!(0)), TagTree::Leaf(context!(444))];
+        const TREES: &'static [TagTree<'static>] = &[
+            TagTree::Leaf(context!(0)),
+            TagTree::Leaf(context!(444)),
+        ];
         TagTree::Choice(TREES)
     }
 
@@ -251,9 +254,21 @@ impl DecodeChoice for Distant {
         chosen: Chosen,
     ) -> Result<Self, DecodeError> {
         match (chosen.added, chosen.place) {
-            (false, 0) => Ok(Distant::First(Integer::decode_with_tag(alloc, decoder, context!(0))?)),
-            (false, 1) => Ok(Distant::Second(Integer::decode_with_tag(alloc, decoder, context!(1))?)),
-            (false, 2) => Ok(Distant::Last(Integer::decode_with_tag(alloc, decoder, context!(4294967295))?)),
+            (false, 0) => Ok(Distant::First(Integer::decode_with_tag(
+                alloc,
+                decoder,
+                context!(0),
+            )?)),
+            (false, 1) => Ok(Distant::Second(Integer::decode_with_tag(
+                alloc,
+                decoder,
+                context!(1),
+            )?)),
+            (false, 2) => Ok(Distant::Last(Integer::decode_with_tag(
+                alloc,
+                decoder,
+                context!(4294967295),
+            )?)),
             _ => unreachable!(),
         }
     }

@@ -1,6 +1,8 @@
 //! Sequences with a mark of extensibility.
-ghost use Rattle.std.specs.Prelude.{refl};
+ghost use Rattle.std.specs.Prelude.{refl, [], ◌∷◌};
 ghost use Rattle.std.proofs.Common.{rules, arith};
+ghost use Rattle.asn1_model.specs.Value.{fields};
+ghost use Rattle.asn1_schema_presented.proofs.Values.{type_sequence, value_sequence};
 
 use crate::types::listed::{Listed, Sequence};
 use crate::types::sequences::Tagged;
@@ -35,9 +37,13 @@ impl CountOf<Note> for One {
 }
 
 impl Listed for NotedForm {
-    ghost defaults = { tt };
+    ghost form = { ⟦<NotedForm as ComponentsOf>⟧.table };
 
-    ghost distinct = { refl };
+    ghost value = { λ x. fields (⟦<NotedForm as ComponentsOf>⟧.root x) (⟦<NotedForm as ComponentsOf>⟧.added x) };
+
+    ghost lawful = { type_sequence _ refl (⟦<NotedForm as ComponentsOf>⟧.typed tt) refl };
+
+    ghost each = { λ x. value_sequence _ (⟦<NotedForm as ComponentsOf>⟧.valued tt x) };
 
     fn write<E: Encoder>(&self, encoder: &mut E, tag: Tag) -> Result<(), EncodeError> {
         let OptionalComponent(a, MarkedComponents(AddedOptionalComponent(n, NoMore), _)) = self;
@@ -62,9 +68,13 @@ impl CountOf<Demanded> for One {
 }
 
 impl Listed for DemandForm {
-    ghost defaults = { tt };
+    ghost form = { ⟦<DemandForm as ComponentsOf>⟧.table };
 
-    ghost distinct = { refl };
+    ghost value = { λ x. fields (⟦<DemandForm as ComponentsOf>⟧.root x) (⟦<DemandForm as ComponentsOf>⟧.added x) };
+
+    ghost lawful = { type_sequence _ refl (⟦<DemandForm as ComponentsOf>⟧.typed tt) refl };
+
+    ghost each = { λ x. value_sequence _ (⟦<DemandForm as ComponentsOf>⟧.valued tt x) };
 
     fn write<E: Encoder>(&self, encoder: &mut E, tag: Tag) -> Result<(), EncodeError> {
         let RequiredComponent(a, MarkedComponents(AddedRequiredComponent(r, NoMore), _)) = self;
@@ -94,9 +104,13 @@ impl CountOf<Today> for One {
 }
 
 impl Listed for ScheduleForm {
-    ghost defaults = { tt };
+    ghost form = { ⟦<ScheduleForm as ComponentsOf>⟧.table };
 
-    ghost distinct = { refl };
+    ghost value = { λ x. fields (⟦<ScheduleForm as ComponentsOf>⟧.root x) (⟦<ScheduleForm as ComponentsOf>⟧.added x) };
+
+    ghost lawful = { type_sequence _ refl (⟦<ScheduleForm as ComponentsOf>⟧.typed tt) refl };
+
+    ghost each = { λ x. value_sequence _ (⟦<ScheduleForm as ComponentsOf>⟧.valued tt x) };
 
     fn write<E: Encoder>(&self, encoder: &mut E, tag: Tag) -> Result<(), EncodeError> {
         let RequiredComponent(it, OptionalComponent(is, form)) = self;

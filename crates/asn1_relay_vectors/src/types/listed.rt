@@ -1,16 +1,13 @@
 //! Sequences that consist of their components as they are read, without names.
-ghost use Rattle.std.specs.Prelude.{◌≡◌, ◌++◌, refl, true, [], ◌∷◌, OnOk, OnErr, IfOk, IfErr};
-ghost use Rattle.asn1_model.specs.Lawful.{are_distinct, tag_same};
-ghost use Rattle.asn1_model.specs.Value.{fields};
+ghost use Rattle.std.specs.Prelude.{◌≡◌, refl, [], ◌∷◌, OnOk, OnErr, IfOk, IfErr};
+ghost use Rattle.asn1_model.specs.Value.{Value};
 ghost use Rattle.asn1_schema_constraints.specs.Sets.{no_constraint};
 ghost use Rattle.asn1_schema_decode.specs.Reads.{Reads, Unread};
 ghost use Rattle.asn1_schema_encode.specs.Writes.{CannotWrite, Writes};
-ghost use Rattle.asn1_schema_presented.proofs.Values.{type_sequence, value_sequence};
-ghost use Rattle.asn1_schema_presented.specs.Tables.{field_tags, sequence_type};
-ghost use Rattle.asn1_schema_presented.specs.Typed.{AreDefaults};
+ghost use Rattle.asn1_schema_presented.specs.Tables.{IsType, IsValue, Table, sequence_type};
 
 use asn1_schema_constraints::Constraints;
-use asn1_schema_decode::{Decode, DecodeComponents, Decoder};
+use asn1_schema_decode::{Decode, Decoder};
 use asn1_schema_encode::{Encode, Encoder};
 use asn1_schema_faults::{DecodeError, EncodeError};
 use asn1_schema_tags::{Tag, TagTree};
@@ -18,25 +15,31 @@ use asn1_schema_types::{AsnType, Described};
 use std::alloc::Global;
 
 /// The components of a sequence.
-pub trait Listed: DecodeComponents {
-    /// Each default may stand where it does.
-    ghost defaults: { AreDefaults Self.table };
+pub trait Listed: Drop {
+    /// The table of the components.
+    ghost form: { Table };
 
-    /// No two components have a tag in common (X.680 25.6).
-    ghost distinct: { are_distinct tag_same (field_tags Self.table.root ++ field_tags Self.table.additions) ≡ true };
+    /// What they mean.
+    ghost value: { Self → Value };
+
+    /// The sequence is a lawful type.
+    ghost lawful: { IsType (record { class = 0; number = 16 } ∷ []) (sequence_type form) };
+
+    /// Its components mean values of it.
+    ghost each: { (x : Self) → IsValue (sequence_type form) (value x) };
 
     /// Writes the sequence.
     fn write<E: Encoder>(&self, encoder: &mut E, tag: Tag) -> Result<(), EncodeError>
-        ensures ok { OnOk result (Writes E.step (sequence_type Self.table) (fields (Self.root self.now) (Self.added self.now)) encoder.old encoder.new) }
-        ensures only { IfErr result (CannotWrite E.step (sequence_type Self.table) (fields (Self.root self.now) (Self.added self.now)) encoder.old) }
+        ensures ok { OnOk result (Writes E.step (sequence_type form) (value self.now) encoder.old encoder.new) }
+        ensures only { IfErr result (CannotWrite E.step (sequence_type form) (value self.now) encoder.old) }
         ensures failed { OnErr result (E.has_failed encoder.new) }
         ensures already { E.has_failed encoder.old → result ≡ Err EncodeError.AlreadyFailed };
 
     /// Reads the sequence.
     fn read<D: Decoder>(alloc: Global, decoder: &mut D, tag: Tag) -> Result<Self, DecodeError>
-        ensures ok { IfOk result (λ x. Reads D.step (sequence_type Self.table) (D.levels decoder.old) (fields (Self.root x) (Self.added x)) decoder.old decoder.new) }
+        ensures ok { IfOk result (λ x. Reads D.step (sequence_type form) (D.levels decoder.old) (value x) decoder.old decoder.new) }
         ensures level { OnOk result (D.levels decoder.new ≡ D.levels decoder.old) }
-        ensures only { IfErr result (Unread D.step (sequence_type Self.table) (D.levels decoder.old) decoder.old) }
+        ensures only { IfErr result (Unread D.step (sequence_type form) (D.levels decoder.old) decoder.old) }
         ensures failed { OnErr result (D.has_failed decoder.new) }
         ensures already { D.has_failed decoder.old → result ≡ Err DecodeError.AlreadyFailed };
 }
@@ -52,26 +55,26 @@ impl<C: Listed> Described for Sequence<C> {
 
     ghost own = { no_constraint };
 
-    ghost under = { λ _. sequence_type C.table };
+    ghost under = { λ _. sequence_type C.form };
 
-    ghost schema = { sequence_type C.table };
+    ghost schema = { sequence_type C.form };
 
     ghost is_own = { λ _. refl };
 
-    ghost meaning = { λ x. fields (C.root x.components) (C.added x.components) };
+    ghost meaning = { λ x. C.value x.components };
 
-    ghost typed = { type_sequence _ refl (C.typed C.defaults) C.distinct };
+    ghost typed = { C.lawful };
 
-    ghost valued = { λ x. value_sequence _ (C.valued C.defaults x.components) };
+    ghost valued = { λ x. C.each x.components };
 
-    ghost valued_under = { λ _ x. value_sequence _ (C.valued C.defaults x.components) };
+    ghost valued_under = { λ _ x. C.each x.components };
 }
 
 impl<C: Listed> AsnType for Sequence<C> {
     const TAG: Tag = Tag::SEQUENCE;
 
     fn tag_tree() -> TagTree<'static> {
-        TagTree::of(Self::TAG)
+        TagTree::of(Tag::SEQUENCE)
     }
 
     fn constraints() -> Constraints<'static> {

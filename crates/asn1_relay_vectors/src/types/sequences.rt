@@ -1,7 +1,8 @@
 //! Sequences without a mark of extensibility.
-ghost use Rattle.std.specs.Prelude.{refl, pos};
-ghost use Rattle.asn1_model.specs.Value.{number};
+ghost use Rattle.std.specs.Prelude.{refl, pos, [], ◌∷◌};
+ghost use Rattle.asn1_model.specs.Value.{fields, number};
 ghost use Rattle.asn1_schema_presented.proofs.Defaults.{integer_default};
+ghost use Rattle.asn1_schema_presented.proofs.Values.{type_sequence, value_sequence};
 
 use crate::types::listed::{Listed, Sequence};
 use crate::types::sizes::{ListOfOneOrTwo, ThreeOctets};
@@ -27,9 +28,13 @@ pub type Person = Sequence<PersonForm>;
 type PersonForm = RequiredComponent<Integer, RequiredComponent<String, End>>;
 
 impl Listed for PersonForm {
-    ghost defaults = { tt };
+    ghost form = { ⟦<PersonForm as ComponentsOf>⟧.table };
 
-    ghost distinct = { refl };
+    ghost value = { λ x. fields (⟦<PersonForm as ComponentsOf>⟧.root x) (⟦<PersonForm as ComponentsOf>⟧.added x) };
+
+    ghost lawful = { type_sequence _ refl (⟦<PersonForm as ComponentsOf>⟧.typed tt) refl };
+
+    ghost each = { λ x. value_sequence _ (⟦<PersonForm as ComponentsOf>⟧.valued tt x) };
 
     fn write<E: Encoder>(&self, encoder: &mut E, tag: Tag) -> Result<(), EncodeError> {
         let RequiredComponent(age, RequiredComponent(name, End)) = self;
@@ -45,9 +50,13 @@ impl Listed for PersonForm {
 pub type Nothing = Sequence<End>;
 
 impl Listed for End {
-    ghost defaults = { tt };
+    ghost form = { ⟦<End as ComponentsOf>⟧.table };
 
-    ghost distinct = { refl };
+    ghost value = { λ x. fields (⟦<End as ComponentsOf>⟧.root x) (⟦<End as ComponentsOf>⟧.added x) };
+
+    ghost lawful = { type_sequence _ refl (⟦<End as ComponentsOf>⟧.typed tt) refl };
+
+    ghost each = { λ x. value_sequence _ (⟦<End as ComponentsOf>⟧.valued tt x) };
 
     fn write<E: Encoder>(&self, encoder: &mut E, tag: Tag) -> Result<(), EncodeError> {
         encoder.encode_sequence(tag, 0, &End)
@@ -86,9 +95,13 @@ impl DefaultOf<Tagged<0, Integer>> for Zero {
 }
 
 impl Listed for OffsetForm {
-    ghost defaults = { (integer_default _ _ _ refl, tt) };
+    ghost form = { ⟦<OffsetForm as ComponentsOf>⟧.table };
 
-    ghost distinct = { refl };
+    ghost value = { λ x. fields (⟦<OffsetForm as ComponentsOf>⟧.root x) (⟦<OffsetForm as ComponentsOf>⟧.added x) };
+
+    ghost lawful = { type_sequence _ refl (⟦<OffsetForm as ComponentsOf>⟧.typed (integer_default _ _ _ refl, tt)) refl };
+
+    ghost each = { λ x. value_sequence _ (⟦<OffsetForm as ComponentsOf>⟧.valued (integer_default _ _ _ refl, tt) x) };
 
     fn write<E: Encoder>(&self, encoder: &mut E, tag: Tag) -> Result<(), EncodeError> {
         let DefaultedComponent(a, _, OptionalComponent(b, End)) = self;
@@ -107,9 +120,13 @@ pub type Outer = Sequence<OuterForm>;
 type OuterForm = RequiredComponent<Integer, RequiredComponent<Sequence<MiddleForm>, End>>;
 
 impl Listed for OuterForm {
-    ghost defaults = { tt };
+    ghost form = { ⟦<OuterForm as ComponentsOf>⟧.table };
 
-    ghost distinct = { refl };
+    ghost value = { λ x. fields (⟦<OuterForm as ComponentsOf>⟧.root x) (⟦<OuterForm as ComponentsOf>⟧.added x) };
+
+    ghost lawful = { type_sequence _ refl (⟦<OuterForm as ComponentsOf>⟧.typed tt) refl };
+
+    ghost each = { λ x. value_sequence _ (⟦<OuterForm as ComponentsOf>⟧.valued tt x) };
 
     fn write<E: Encoder>(&self, encoder: &mut E, tag: Tag) -> Result<(), EncodeError> {
         let RequiredComponent(number, RequiredComponent(middle, End)) = self;
@@ -124,9 +141,13 @@ impl Listed for OuterForm {
 type MiddleForm = RequiredComponent<Integer, OptionalComponent<Sequence<InnerForm>, End>>;
 
 impl Listed for MiddleForm {
-    ghost defaults = { tt };
+    ghost form = { ⟦<MiddleForm as ComponentsOf>⟧.table };
 
-    ghost distinct = { refl };
+    ghost value = { λ x. fields (⟦<MiddleForm as ComponentsOf>⟧.root x) (⟦<MiddleForm as ComponentsOf>⟧.added x) };
+
+    ghost lawful = { type_sequence _ refl (⟦<MiddleForm as ComponentsOf>⟧.typed tt) refl };
+
+    ghost each = { λ x. value_sequence _ (⟦<MiddleForm as ComponentsOf>⟧.valued tt x) };
 
     fn write<E: Encoder>(&self, encoder: &mut E, tag: Tag) -> Result<(), EncodeError> {
         let RequiredComponent(number, OptionalComponent(inner, End)) = self;
@@ -141,9 +162,13 @@ impl Listed for MiddleForm {
 type InnerForm = RequiredComponent<Integer, OptionalComponent<Tagged<0, Integer>, End>>;
 
 impl Listed for InnerForm {
-    ghost defaults = { tt };
+    ghost form = { ⟦<InnerForm as ComponentsOf>⟧.table };
 
-    ghost distinct = { refl };
+    ghost value = { λ x. fields (⟦<InnerForm as ComponentsOf>⟧.root x) (⟦<InnerForm as ComponentsOf>⟧.added x) };
+
+    ghost lawful = { type_sequence _ refl (⟦<InnerForm as ComponentsOf>⟧.typed tt) refl };
+
+    ghost each = { λ x. value_sequence _ (⟦<InnerForm as ComponentsOf>⟧.valued tt x) };
 
     fn write<E: Encoder>(&self, encoder: &mut E, tag: Tag) -> Result<(), EncodeError> {
         let RequiredComponent(number, OptionalComponent(last, End)) = self;
@@ -169,9 +194,13 @@ type LastFour<R> = Maybe<8, Maybe<9, Maybe<10, Maybe<11, R>>>>;
 type TwelveForm = RequiredComponent<Integer, FirstFour<NextFour<LastFour<End>>>>;
 
 impl Listed for TwelveForm {
-    ghost defaults = { tt };
+    ghost form = { ⟦<TwelveForm as ComponentsOf>⟧.table };
 
-    ghost distinct = { refl };
+    ghost value = { λ x. fields (⟦<TwelveForm as ComponentsOf>⟧.root x) (⟦<TwelveForm as ComponentsOf>⟧.added x) };
+
+    ghost lawful = { type_sequence _ refl (⟦<TwelveForm as ComponentsOf>⟧.typed tt) refl };
+
+    ghost each = { λ x. value_sequence _ (⟦<TwelveForm as ComponentsOf>⟧.valued tt x) };
 
     fn write<E: Encoder>(&self, encoder: &mut E, tag: Tag) -> Result<(), EncodeError> {
         let RequiredComponent(required, form) = self;
@@ -187,7 +216,10 @@ impl Listed for TwelveForm {
         let OptionalComponent(tenth, form) = form;
         let OptionalComponent(eleventh, form) = form;
         let OptionalComponent(twelfth, End) = form;
-        let components = Optional(ninth, Optional(tenth, Optional(eleventh, Optional(twelfth, End))));
+        let components = Optional(
+            ninth,
+            Optional(tenth, Optional(eleventh, Optional(twelfth, End))),
+        );
         let components = Optional(seventh, Optional(eighth, components));
         let components = Optional(fifth, Optional(sixth, components));
         let components = Optional(third, Optional(fourth, components));
@@ -215,9 +247,13 @@ type BlocksForm = RequiredComponent<
 >;
 
 impl Listed for BlocksForm {
-    ghost defaults = { tt };
+    ghost form = { ⟦<BlocksForm as ComponentsOf>⟧.table };
 
-    ghost distinct = { refl };
+    ghost value = { λ x. fields (⟦<BlocksForm as ComponentsOf>⟧.root x) (⟦<BlocksForm as ComponentsOf>⟧.added x) };
+
+    ghost lawful = { type_sequence _ refl (⟦<BlocksForm as ComponentsOf>⟧.typed tt) refl };
+
+    ghost each = { λ x. value_sequence _ (⟦<BlocksForm as ComponentsOf>⟧.valued tt x) };
 
     fn write<E: Encoder>(&self, encoder: &mut E, tag: Tag) -> Result<(), EncodeError> {
         let RequiredComponent(flag, RequiredComponent(fixed, form)) = self;
