@@ -1,0 +1,248 @@
+//! Decoders, call by call.
+use asn1_schema_bounds::Bounded;
+use asn1_schema_constraints::Constraints;
+use asn1_schema_decode::{Decode, Decoder as Reading};
+use asn1_schema_faults::DecodeError;
+use asn1_schema_tags::{Class, Tag};
+use asn1_schema_variants::Chosen;
+use asn1_values_numbers::Integer;
+use oer_codec::coer::{Decoder, DecoderOptions};
+use std::alloc::Global;
+use std::test::Fail;
+
+/// Octets of a choice, and what each set of rules finds in them.
+#[derive(Drop)]
+struct Row {
+    octets: &'static [u8],
+    basic: Result<(Chosen, bool), DecodeError>,
+    canonical: Result<(Chosen, bool), DecodeError>,
+}
+
+/// The alternative [5].
+const ROOT: Chosen = Chosen {
+    added: false,
+    place: 1,
+};
+
+/// The alternative [2].
+const ADDITION: Chosen = Chosen {
+    added: true,
+    place: 0,
+};
+
+/// Of CHOICE {[0] BOOLEAN, [5] BOOLEAN, ..., [2] BOOLEAN}.
+const CHOICES: [Row; 7] = [
+    Row {
+        octets: &[0x85, 0xFF],
+        basic: Ok((ROOT, true)),
+        canonical: Ok((ROOT, true)),
+    },
+    Row {
+        octets: &[0x82, 0x01, 0xFF],
+        basic: Ok((ADDITION, true)),
+        canonical: Ok((ADDITION, true)),
+    },
+    Row {
+        octets: &[0x82, 0x02, 0xFF, 0xAA],
+        basic: Ok((ADDITION, true)),
+        canonical: Err(DecodeError::SurplusOctets),
+    },
+    Row {
+        octets: &[0xBF, 0x05, 0xFF],
+        basic: Ok((ROOT, true)),
+        canonical: Err(DecodeError::NotValidCanonicalEncoding),
+    },
+    Row {
+        octets: &[0x81, 0xFF],
+        basic: Err(DecodeError::InvalidTagVariantOnChoice),
+        canonical: Err(DecodeError::InvalidTagVariantOnChoice),
+    },
+    Row {
+        octets: &[0xBF, 0x90, 0x80, 0x80, 0x80, 0x00, 0x01, 0x07],
+        basic: Err(DecodeError::InvalidTagNumberOnChoice),
+        canonical: Err(DecodeError::InvalidTagNumberOnChoice),
+    },
+    Row {
+        octets: &[0xBF, 0x80, 0x01, 0x01, 0x07],
+        basic: Err(DecodeError::InvalidTagNumberOnChoice),
+        canonical: Err(DecodeError::InvalidTagNumberOnChoice),
+    },
+];
+
+/// A context-specific tag.
+fn context(value: u32) -> Tag {
+    Tag {
+        class: Class::Context,
+        value,
+    }
+}
+
+/// Reads such a choice: which alternative is chosen, and its value.
+fn read_choice(decoder: &mut Decoder<'_>) -> Result<(Chosen, bool), DecodeError> {
+    let roots = [context(0), context(5)];
+    let chosen = decoder.begin_choice(Tag::EOC, &roots, true, &[context(2)])?;
+    let value = decoder.decode_bool(Tag::BOOL)?;
+    decoder.end()?;
+    Ok((chosen, value))
+}
+
+/// What is read of such a choice by these rules.
+fn choice(
+    alloc: Global,
+    options: DecoderOptions,
+    octets: &[u8],
+) -> Result<(Chosen, bool), DecodeError> {
+    let mut decoder = Decoder::new(alloc, octets, options);
+    read_choice(&mut decoder)
+}
+
+/// Whether each set of rules finds what it should.
+fn is_right(alloc: Global, row: &Row) -> bool {
+    choice(alloc, DecoderOptions::oer(), row.octets) == row.basic
+        && choice(alloc, DecoderOptions::coer(), row.octets) == row.canonical
+}
+
+#[test]
+fn choices(rt: HostRuntime) {
+    let alloc = rt.alloc();
+    for row in &CHOICES {
+        assert!(rt; is_right(alloc, row), "{:?}", row.octets);
+    }
+}
+
+/// Whether INTEGER of this number is next.
+fn is_number(alloc: Global, decoder: &mut Decoder<'_>, number: i64) -> Result<bool, DecodeError> {
+    let found = Integer::decode(alloc, decoder)?;
+    Ok(found == Integer::from(number))
+}
+
+/// Whether SEQUENCE {INTEGER, SEQUENCE {INTEGER DEFAULT 0, BOOLEAN OPTIONAL}} 5, 7, true is next.
+fn is_nested(alloc: Global, decoder: &mut Decoder<'_>) -> Result<bool, DecodeError> {
+    decoder.begin_sequence(Tag::SEQUENCE, false, 0)?;
+    let outer = is_number(alloc, decoder, 5)?;
+    decoder.begin_sequence(Tag::SEQUENCE, false, 2)?;
+    let inner = decoder.get_mark()?
+        && is_number(alloc, decoder, 7)?
+        && decoder.get_mark()?
+        && decoder.decode_bool(Tag::BOOL)?;
+    decoder.end()?;
+    decoder.end()?;
+    Ok(outer && inner)
+}
+
+/// Whether SET {BOOLEAN OPTIONAL} true is next.
+fn is_set(decoder: &mut Decoder<'_>) -> Result<bool, DecodeError> {
+    decoder.begin_set(Tag::SET, false, 1)?;
+    let found = decoder.get_mark()? && decoder.decode_bool(Tag::BOOL)?;
+    decoder.end()?;
+    Ok(found)
+}
+
+/// Whether both are next, one behind the other, and nothing behind them.
+fn are_both(alloc: Global, decoder: &mut Decoder<'_>) -> Result<bool, DecodeError> {
+    let nested = is_nested(alloc, decoder)?;
+    let set = is_set(decoder)?;
+    Ok(nested && set && decoder.remaining().is_empty())
+}
+
+#[test]
+fn one_value_behind_another(rt: HostRuntime) -> Result<(), Fail> {
+    let alloc = rt.alloc();
+    let octets = [0x01, 0x05, 0xC0, 0x01, 0x07, 0xFF, 0x80, 0xFF];
+    let mut decoder = Decoder::new(alloc, &octets, DecoderOptions::coer());
+    assert!(rt; are_both(alloc, &mut decoder)?);
+    Ok(())
+}
+
+/// Whether the octet in front is refused, and what stands behind it is then not read either.
+fn fails_for_good(decoder: &mut Decoder<'_>) -> bool {
+    decoder.decode_bool(Tag::BOOL) == Err(DecodeError::InvalidBool)
+        && decoder.decode_bool(Tag::BOOL) == Err(DecodeError::AlreadyFailed)
+}
+
+/// Whether true stands in front, and one octet behind it.
+fn is_true_before(decoder: &mut Decoder<'_>, octet: u8) -> bool {
+    decoder.decode_bool(Tag::BOOL) == Ok(true) && *decoder.remaining() == *[octet].as_slice()
+}
+
+#[test]
+fn a_decoder_that_has_failed(rt: HostRuntime) {
+    let alloc = rt.alloc();
+    let mut canonical = Decoder::new(alloc, &[0x05, 0xFF], DecoderOptions::coer());
+    assert!(rt; fails_for_good(&mut canonical));
+    let mut basic = Decoder::new(alloc, &[0x05, 0xFF], DecoderOptions::oer());
+    assert!(rt; is_true_before(&mut basic, 0xFF));
+}
+
+/// Whether this is SEQUENCE {..., and 65 additions INTEGER (0..255) OPTIONAL} with 7 in the last addition, and no other.
+fn has_the_last_of_65(alloc: Global, decoder: &mut Decoder<'_>) -> Result<bool, DecodeError> {
+    decoder.begin_sequence(Tag::SEQUENCE, true, 0)?;
+    decoder.begin_additions(65)?;
+    for _ in 0..64u8 {
+        if decoder.get_addition()? {
+            return Ok(false);
+        }
+    }
+    if !decoder.get_addition()? {
+        return Ok(false);
+    }
+    let value = u8::decode(alloc, decoder)?;
+    decoder.end_addition()?;
+    decoder.end()?;
+    Ok(value == 7)
+}
+
+/// A bitmap of 65 bits has nine octets, of which the last has seven unused bits (X.696 16.4).
+#[test]
+fn an_addition_behind_64_others(rt: HostRuntime) -> Result<(), DecodeError> {
+    let alloc = rt.alloc();
+    let octets = [0x80, 0x0A, 0x07, 0, 0, 0, 0, 0, 0, 0, 0, 0x80, 0x01, 0x07];
+    for options in [DecoderOptions::coer(), DecoderOptions::oer()] {
+        let mut decoder = Decoder::new(alloc, &octets, options);
+        assert!(rt; has_the_last_of_65(alloc, &mut decoder)?);
+    }
+    Ok(())
+}
+
+/// Begins a list.
+fn begin_list(decoder: &mut Decoder<'_>) -> Result<(), DecodeError> {
+    decoder.begin_list(Tag::SEQUENCE, Constraints::NONE, Bounded::None)
+}
+
+/// Begins 128 lists, each in a member of the one before: whether all of them have a member, and one more is refused.
+fn is_full_of_lists(decoder: &mut Decoder<'_>) -> Result<bool, DecodeError> {
+    for _ in 0..128u8 {
+        begin_list(decoder)?;
+        if !decoder.get_further()? {
+            return Ok(false);
+        }
+    }
+    Ok(
+        decoder.levels_left() == 0
+            && begin_list(decoder) == Err(DecodeError::ExceedsMaxParseDepth)
+            && decoder.get_further() == Err(DecodeError::AlreadyFailed),
+    )
+}
+
+/// Begins 128 sequences, each in the one before: whether one more is refused.
+fn is_full_of_sequences(decoder: &mut Decoder<'_>) -> Result<bool, DecodeError> {
+    for _ in 0..128u8 {
+        decoder.begin_sequence(Tag::SEQUENCE, false, 0)?;
+    }
+    let past = Err(DecodeError::ExceedsMaxParseDepth);
+    Ok(
+        decoder.levels_left() == 0
+            && decoder.begin_sequence(Tag::SEQUENCE, false, 0) == past
+            && decoder.end() == Err(DecodeError::AlreadyFailed),
+    )
+}
+
+#[test]
+fn the_level_past_128(rt: HostRuntime) -> Result<(), Fail> {
+    let alloc = rt.alloc();
+    let mut lists = Decoder::new(alloc, &[0x01; 258], DecoderOptions::coer());
+    assert!(rt; is_full_of_lists(&mut lists)?);
+    let mut sequences = Decoder::new(alloc, &[], DecoderOptions::coer());
+    assert!(rt; is_full_of_sequences(&mut sequences)?);
+    Ok(())
+}

@@ -1,0 +1,14 @@
+//! Tests of OER and COER of what no line of vectors says: what a call leaves in a buffer that it is lent, values that have no encoding, encoders and decoders
+//! call by call, and readers and writers of tags and lengths.
+#![tactic(auto)]
+
+#[cfg(test)]
+mod calls;
+#[cfg(test)]
+mod decoders;
+#[cfg(test)]
+mod encoders;
+#[cfg(test)]
+mod five;
+#[cfg(test)]
+mod tags_and_lengths;
