@@ -1,0 +1,341 @@
+//! Each kind without components, and lists, behind 0 to 7 bits, unaligned and aligned.
+use crate::spelled::push_spelled;
+use asn1_schema_bounds::Bounded;
+use asn1_schema_constraints::{Constraints, Extensible, Size};
+use asn1_schema_decode::{Decode, Decoder as _};
+use asn1_schema_encode::{Encode, Encoder as _};
+use asn1_schema_faults::{DecodeError, EncodeError};
+use asn1_schema_tags::{Identifier, Tag};
+use asn1_values_bit_strings::BitString;
+use asn1_values_bits::BitBuffer;
+use asn1_values_constrained::ConstrainedInteger;
+use asn1_values_identifiers::{ObjectIdentifier, Oid};
+use asn1_values_numbers::Integer;
+use asn1_values_octets::OctetString;
+use asn1_values_strings::{
+    GeneralString, GraphicString, Ia5String, NumericString, PrintableString, TeletexString,
+    VisibleString,
+};
+use asn1_values_strings_wide::BmpString;
+use per_codec::uper::{Decoder, DecoderOptions, Encoder, EncoderOptions};
+use per_codec_reading::Variant;
+use std::alloc::{AllocError, Global};
+use std::test::Fail;
+
+/// INTEGER (0..1234311).
+type Wide = ConstrainedInteger<0, 1234311>;
+
+/// A value, and its type.
+#[derive(Clone, Copy)]
+enum Value {
+    Truth(bool),
+    Nothing,
+    Number(i64),
+    Octet(u8),
+    Word(u16),
+    Long(u32),
+    Wide(i64),
+    Bits(&'static str),
+    Octets(&'static [u8]),
+    Text(&'static str),
+    Numeric(&'static str),
+    Printable(&'static str),
+    Visible(&'static str),
+    Ia5(&'static str),
+    General(&'static str),
+    Graphic(&'static str),
+    Teletex(&'static str),
+    Bmp(&'static str),
+    Identifier(&'static [u32]),
+    Numbers(&'static [i64]),
+    /// Lists of so many members each, all of them true.
+    Lists(&'static [usize]),
+}
+
+/// The size that a value is constrained to.
+#[derive(Clone, Copy)]
+enum Sizes {
+    Any,
+    Fixed(usize),
+    UpTo(usize),
+    /// From one to another, with a mark.
+    Marked(usize, usize),
+}
+
+/// A value, its size, and its bits: in both variants, or before a stroke in the unaligned one and behind it in the aligned one.
+type Row = (Value, Sizes, &'static str);
+
+/// Truth values, nothing, and numbers (X.691 11.5, 12, 13 and 24). A message of no bits has an octet. A range of 256 numbers and one of 65536
+/// take whole octets; of a wider one the number of octets comes first in the aligned variant.
+const NUMBERS: [Row; 8] = [
+    (Value::Truth(true), Sizes::Any, "b1"),
+    (Value::Nothing, Sizes::Any, ""),
+    (Value::Number(4096), Sizes::Any, "| 02 10 00"),
+    (Value::Octet(7), Sizes::Any, "| 07"),
+    (Value::Octet(0xAB), Sizes::Any, "| AB"),
+    (Value::Word(300), Sizes::Any, "| 01 2C"),
+    (Value::Long(300), Sizes::Any, "00 00 01 2C / b01 | 01 2C"),
+    (
+        Value::Wide(1234311),
+        Sizes::Any,
+        "96 AC b00111 / b10 | 12 D5 87",
+    ),
+];
+
+/// Strings behind their length (X.691 16, 17, 24 and 30). Characters of seven bits have eight in the aligned variant.
+const STRINGS: [Row; 14] = [
+    (Value::Bits("FF b010000"), Sizes::Any, "| 0E FF b010000"),
+    (Value::Bits("b11111"), Sizes::Any, "| 05 b11111"),
+    (Value::Octets(&[1, 2, 3]), Sizes::Any, "| 03 01 02 03"),
+    (Value::Text("Jo"), Sizes::Any, "| 02 4A 6F"),
+    (Value::Numeric("123"), Sizes::Any, "| 03 23 b0100"),
+    (
+        Value::Printable("Jo"),
+        Sizes::Any,
+        "02 95 b101111 / | 02 4A 6F",
+    ),
+    (
+        Value::Visible("Jo"),
+        Sizes::Any,
+        "02 95 b101111 / | 02 4A 6F",
+    ),
+    (Value::Ia5("Jo"), Sizes::Any, "02 95 b101111 / | 02 4A 6F"),
+    (Value::General("Jo"), Sizes::Any, "| 02 4A 6F"),
+    (Value::Graphic("Jo"), Sizes::Any, "| 02 4A 6F"),
+    (Value::Teletex("Jo"), Sizes::Any, "| 02 4A 6F"),
+    (Value::Bmp("Jo"), Sizes::Any, "| 02 00 4A 00 6F"),
+    (
+        Value::Identifier(&[1, 2, 3321]),
+        Sizes::Any,
+        "| 03 2A 99 79",
+    ),
+    (
+        Value::Identifier(&[1, 2, 840, 113549]),
+        Sizes::Any,
+        "| 06 2A 86 48 86 F7 0D",
+    ),
+];
+
+/// Strings under a size (X.691 16, 17 and 30). Up to 16 bits of a fixed size, and up to two octets of one, stand right behind what is before
+/// them. Of characters whose number of octets is not known a size counts for nothing.
+const SIZED: [Row; 12] = [
+    (Value::General("abc"), Sizes::Fixed(2), "| 03 61 62 63"),
+    (Value::Bits("FF FF"), Sizes::Fixed(16), "FF FF"),
+    (Value::Bits("FF FF b1"), Sizes::Fixed(17), "| FF FF b1"),
+    (Value::Octets(&[1, 2, 3]), Sizes::Fixed(3), "| 01 02 03"),
+    (Value::Octets(&[1, 2]), Sizes::Fixed(2), "01 02"),
+    (Value::Octets(&[1, 2]), Sizes::UpTo(3), "b10 | 01 02"),
+    (Value::Octets(&[]), Sizes::UpTo(3), "b00"),
+    (Value::Octets(&[9]), Sizes::UpTo(65535), "| 00 01 09"),
+    (Value::Octets(&[9]), Sizes::UpTo(65536), "| 01 09"),
+    (
+        Value::Octets(&[1, 2, 3]),
+        Sizes::Marked(1, 2),
+        "b1 | 03 01 02 03",
+    ),
+    (Value::Octets(&[1]), Sizes::Marked(1, 2), "b00 | 01"),
+    (
+        Value::Octets(&[1, 2, 3, 4]),
+        Sizes::Marked(1, 3),
+        "b1 | 04 01 02 03 04",
+    ),
+];
+
+/// Lists (X.691 20). Behind the bits of a member the next one is filled up again.
+const LISTS: [Row; 2] = [
+    (Value::Numbers(&[1, 2]), Sizes::Any, "| 02 01 01 01 02"),
+    (Value::Lists(&[1, 3]), Sizes::Any, "| 02 | 01 b1 | 03 b111"),
+];
+
+/// The constraint to a size, if there is one.
+fn constraints_of(sizes: Sizes) -> Option<Constraints<'static>> {
+    let (range, is_marked) = match sizes {
+        Sizes::Any => return None,
+        Sizes::Fixed(size) => (Bounded::Single(size), false),
+        Sizes::UpTo(high) => (Bounded::up_to(high), false),
+        Sizes::Marked(low, high) => (Bounded::const_new(low, high), true),
+    };
+    let size = Extensible::new(Size::new(range)).set_extensible(is_marked);
+    Some(Constraints {
+        size: Some(size),
+        ..Constraints::NONE
+    })
+}
+
+/// Writes so many set bits and the value behind them.
+fn write_behind<T: Encode>(
+    encoder: &mut Encoder,
+    count: usize,
+    value: &T,
+    sizes: Sizes,
+) -> Result<(), EncodeError> {
+    for _ in 0..count {
+        encoder.encode_bool(Tag::BOOL, true, Identifier::EMPTY)?;
+    }
+    match constraints_of(sizes) {
+        Some(constraints) => value.encode_with_constraints(encoder, constraints),
+        None => value.encode(encoder),
+    }
+}
+
+/// The message of so many set bits and the value behind them.
+fn message<T: Encode>(
+    alloc: Global,
+    (variant, count): (Variant, usize),
+    value: &T,
+    sizes: Sizes,
+) -> Result<Vec<u8>, EncodeError> {
+    let options = match variant {
+        Variant::Unaligned => EncoderOptions::unaligned(),
+        Variant::Aligned => EncoderOptions::aligned(),
+    };
+    let mut encoder = Encoder::new(alloc, options);
+    write_behind(&mut encoder, count, value, sizes)?;
+    encoder.output_into_vec()
+}
+
+/// Reads so many bits, and whether this value stands behind them, and nothing behind it.
+fn reads_behind<T: Decode + PartialEq>(
+    alloc: Global,
+    decoder: &mut Decoder<'_>,
+    count: usize,
+    value: &T,
+    sizes: Sizes,
+) -> Result<bool, DecodeError> {
+    for _ in 0..count {
+        decoder.decode_bool(Tag::BOOL)?;
+    }
+    let read = match constraints_of(sizes) {
+        Some(constraints) => T::decode_with_constraints(alloc, decoder, constraints)?,
+        None => T::decode(alloc, decoder)?,
+    };
+    decoder.finish()?;
+    Ok(read == *value && decoder.input().is_empty())
+}
+
+/// So many set bits and these: zero bits fill up the octets, of which there is one at least.
+fn expected(
+    alloc: Global,
+    (variant, count): (Variant, usize),
+    spelled: &str,
+) -> Result<Vec<u8>, Fail> {
+    let mut message = BitBuffer::new(alloc);
+    message.resize(count, true)?;
+    push_spelled(&mut message, spelled, variant)?;
+    if message.is_empty() {
+        message.resize(8, false)?;
+    }
+    Ok(message.into_vec())
+}
+
+/// Whether the value has these bits behind so many others in one variant, and is read back.
+fn stands_behind<T: Encode + Decode + PartialEq>(
+    alloc: Global,
+    front: (Variant, usize),
+    value: &T,
+    sizes: Sizes,
+    spelled: &str,
+) -> Result<bool, Fail> {
+    let (variant, count) = front;
+    let octets = expected(alloc, front, spelled)?;
+    let written = message(alloc, front, value, sizes)?;
+    let mut decoder = Decoder::new(alloc, octets.as_slice(), DecoderOptions { variant });
+    let is_read = reads_behind(alloc, &mut decoder, count, value, sizes)?;
+    Ok(is_read && written.as_slice() == octets.as_slice())
+}
+
+/// Whether the value stands as its row says behind 0 to 7 bits, and is read back.
+fn stands<T: Encode + Decode + PartialEq>(
+    alloc: Global,
+    value: T,
+    (sizes, spelled): (Sizes, &str),
+) -> Result<bool, Fail> {
+    let (unaligned, aligned) = spelled.split_once('/').unwrap_or((spelled, spelled));
+    for count in 0..8 {
+        if !stands_behind(alloc, (Variant::Unaligned, count), &value, sizes, unaligned)?
+            || !stands_behind(alloc, (Variant::Aligned, count), &value, sizes, aligned)?
+        {
+            return Ok(false);
+        }
+    }
+    Ok(true)
+}
+
+/// These bits.
+fn bits(alloc: Global, spelled: &str) -> Result<BitString, Fail> {
+    let mut bits = BitBuffer::new(alloc);
+    push_spelled(&mut bits, spelled, Variant::Unaligned)?;
+    Ok(BitString::from_buffer(bits))
+}
+
+/// The identifier of these arcs.
+fn identifier(alloc: Global, arcs: &[u32]) -> Result<ObjectIdentifier, Fail> {
+    let oid = Oid::new(arcs).ok_or("no identifier")?;
+    Ok(ObjectIdentifier::from_oid(alloc, &oid)?)
+}
+
+/// A list of numbers.
+fn numbers(alloc: Global, members: &[i64]) -> Result<Vec<Integer>, AllocError> {
+    let mut list = Vec::new(alloc);
+    for member in members {
+        list.push(Integer::from(*member))?;
+    }
+    Ok(list)
+}
+
+/// Lists of so many members each, all of them true.
+fn lists(alloc: Global, counts: &[usize]) -> Result<Vec<Vec<bool>>, AllocError> {
+    let mut lists = Vec::new(alloc);
+    for count in counts {
+        let list = vec![in alloc; true; *count]?;
+        lists.push(list)?;
+    }
+    Ok(lists)
+}
+
+/// Whether a value that is no character string stands as its row says.
+fn is_right(alloc: Global, (value, sizes, spelled): Row) -> Result<bool, Fail> {
+    let row = (sizes, spelled);
+    match value {
+        Value::Truth(value) => stands(alloc, value, row),
+        Value::Nothing => stands(alloc, (), row),
+        Value::Number(value) => stands(alloc, Integer::from(value), row),
+        Value::Octet(value) => stands(alloc, value, row),
+        Value::Word(value) => stands(alloc, value, row),
+        Value::Long(value) => stands(alloc, value, row),
+        Value::Wide(value) => stands(alloc, Wide::try_from(value)?, row),
+        Value::Bits(spelled) => stands(alloc, bits(alloc, spelled)?, row),
+        Value::Octets(octets) => stands(alloc, OctetString::from_slice(alloc, octets)?, row),
+        Value::Text(text) => stands(alloc, String::from_str(alloc, text)?, row),
+        Value::Identifier(arcs) => stands(alloc, identifier(alloc, arcs)?, row),
+        Value::Numbers(members) => stands(alloc, numbers(alloc, members)?, row),
+        Value::Lists(counts) => stands(alloc, lists(alloc, counts)?, row),
+        text => is_right_text(alloc, text, row),
+    }
+}
+
+/// Whether a character string stands as its row says.
+fn is_right_text(alloc: Global, value: Value, row: (Sizes, &str)) -> Result<bool, Fail> {
+    match value {
+        Value::Numeric(text) => stands(alloc, NumericString::from_text(alloc, text)?, row),
+        Value::Printable(text) => stands(alloc, PrintableString::from_text(alloc, text)?, row),
+        Value::Visible(text) => stands(alloc, VisibleString::from_text(alloc, text)?, row),
+        Value::Ia5(text) => stands(alloc, Ia5String::from_text(alloc, text)?, row),
+        Value::General(text) => stands(alloc, GeneralString::from_text(alloc, text)?, row),
+        Value::Graphic(text) => stands(alloc, GraphicString::from_text(alloc, text)?, row),
+        Value::Teletex(text) => stands(alloc, TeletexString::from_text(alloc, text)?, row),
+        Value::Bmp(text) => stands(alloc, BmpString::from_text(alloc, text)?, row),
+        _ => Ok(false),
+    }
+}
+
+#[test]
+fn values_behind_bits(rt: HostRuntime) -> Result<(), Fail> {
+    let tables: [&[Row]; 4] = [&NUMBERS, &STRINGS, &SIZED, &LISTS];
+    for (table, rows) in tables.iter().enumerate() {
+        for (place, row) in rows.iter().enumerate() {
+            assert!(rt; is_right(rt.alloc(), *row)?, "row {place} of table {table}");
+        }
+    }
+    Ok(())
+}

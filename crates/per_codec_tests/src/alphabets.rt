@@ -1,0 +1,115 @@
+//! Widths and codes of characters under constraints (X.691 30.5).
+use asn1_schema_constraints::{Extensible, PermittedAlphabet};
+use asn1_values_strings::{Ia5String, NumericString, PrintableString, VisibleString};
+use asn1_values_strings_wide::BmpString;
+use per_codec_alphabets::EffectiveAlphabet;
+use std::alloc::{AllocError, Global};
+use std::test::Fail;
+
+/// A type of strings.
+#[derive(Clone, Copy)]
+enum Kind {
+    Numeric,
+    Printable,
+    Visible,
+    Ia5,
+    Bmp,
+}
+
+/// A type, whether the variant is aligned, and the characters that are permitted, where there is a constraint, and whether it has a mark.
+type Alphabet = (Kind, bool, Option<(&'static [u32], bool)>);
+
+/// Characters and their codes, a character without a code, and a code without a character.
+type Codes = (&'static [(u32, u32)], Option<u32>, Option<u32>);
+
+/// Alphabets, how wide their codes are, and some of these.
+const ROWS: [(Alphabet, u32, Codes); 13] = [
+    (
+        (Kind::Numeric, false, None),
+        4,
+        (
+            &[(49, 2), (50, 3), (51, 4), (32, 0), (57, 10)],
+            Some(65),
+            Some(11),
+        ),
+    ),
+    ((Kind::Numeric, true, None), 4, NONE),
+    ((Kind::Printable, false, None), 7, NONE),
+    (
+        (Kind::Printable, true, None),
+        8,
+        (&[(32, 32), (65, 65), (122, 122)], Some(64), Some(64)),
+    ),
+    ((Kind::Visible, false, None), 7, NONE),
+    ((Kind::Visible, true, None), 8, NONE),
+    ((Kind::Ia5, false, None), 7, NONE),
+    ((Kind::Ia5, true, None), 8, NONE),
+    ((Kind::Bmp, false, None), 16, NONE),
+    ((Kind::Bmp, true, None), 16, NONE),
+    (
+        (Kind::Visible, true, Some((&[48, 49], false))),
+        1,
+        (&[(48, 0), (49, 1)], None, None),
+    ),
+    (
+        (
+            Kind::Numeric,
+            true,
+            Some((&[32, 49, 50, 51, 65, 57], false)),
+        ),
+        4,
+        (&[(32, 0), (49, 1), (51, 3), (57, 4)], Some(65), Some(5)),
+    ),
+    // A mark makes a constraint count for nothing.
+    (
+        (Kind::Visible, false, Some((&[48, 49], true))),
+        7,
+        (&[(65, 65)], None, None),
+    ),
+];
+
+const NONE: Codes = (&[], None, None);
+
+/// The alphabet of a row.
+fn alphabet(
+    alloc: Global,
+    (kind, aligned, permitted): Alphabet,
+) -> Result<EffectiveAlphabet, AllocError> {
+    let permitted = permitted.map(|(characters, is_marked)| {
+        Extensible::new(PermittedAlphabet::new(characters)).set_extensible(is_marked)
+    });
+    match kind {
+        Kind::Numeric => EffectiveAlphabet::new::<NumericString>(alloc, aligned, permitted),
+        Kind::Printable => EffectiveAlphabet::new::<PrintableString>(alloc, aligned, permitted),
+        Kind::Visible => EffectiveAlphabet::new::<VisibleString>(alloc, aligned, permitted),
+        Kind::Ia5 => EffectiveAlphabet::new::<Ia5String>(alloc, aligned, permitted),
+        Kind::Bmp => EffectiveAlphabet::new::<BmpString>(alloc, aligned, permitted),
+    }
+}
+
+/// Whether each character has its code, each code stands for its character, and those without are without.
+fn has_codes(alphabet: &EffectiveAlphabet, (codes, character, code): Codes) -> bool {
+    for (character, code) in codes {
+        if alphabet.code(*character) != Some(u64::from(*code))
+            || alphabet.character(*code) != Some(*character)
+        {
+            return false;
+        }
+    }
+    character.is_none_or(|character| alphabet.code(character).is_none())
+        && code.is_none_or(|code| alphabet.character(code).is_none())
+}
+
+/// Whether the codes of an alphabet are as wide as this, and these.
+fn is_right(alloc: Global, row: (Alphabet, u32, Codes)) -> Result<bool, AllocError> {
+    let alphabet = alphabet(alloc, row.0)?;
+    Ok(alphabet.width() == row.1 && has_codes(&alphabet, row.2))
+}
+
+#[test]
+fn codes_of_characters(rt: HostRuntime) -> Result<(), Fail> {
+    for row in ROWS {
+        assert!(rt; is_right(rt.alloc(), row)?);
+    }
+    Ok(())
+}

@@ -1,0 +1,82 @@
+//! Texts at known places, and texts that are placed later.
+use per_codec_packing::{Packing, complete_in};
+use std::alloc::{AllocError, Global};
+use std::test::Fail;
+
+/// Adds a bit, filling, an octet, filling, and a bit.
+fn push_member(text: &mut Packing) -> Result<(), AllocError> {
+    text.push(true)?;
+    text.align()?;
+    text.push_bits(0xAB, 8)?;
+    text.align()?;
+    text.push(true)
+}
+
+/// These at a place that is not known.
+fn member(alloc: Global) -> Result<Packing, AllocError> {
+    let mut text = Packing::unplaced(alloc);
+    push_member(&mut text)?;
+    Ok(text)
+}
+
+/// The same behind a bit, at a place that is not known.
+fn within_a_member(alloc: Global) -> Result<Packing, AllocError> {
+    let mut outer = Packing::unplaced(alloc);
+    outer.push(true)?;
+    let inner = member(alloc)?;
+    outer.append_text(inner.as_text())?;
+    Ok(outer)
+}
+
+/// Whether a text behind so many zero bits stands in these octets.
+fn stands_behind(
+    alloc: Global,
+    zeros: usize,
+    inner: &Packing,
+    octets: &[u8],
+) -> Result<bool, AllocError> {
+    let mut text = Packing::new(alloc);
+    text.resize(zeros, false)?;
+    text.append_text(inner.as_text())?;
+    Ok(text.as_bits().as_bytes() == octets)
+}
+
+/// How many zero bits stand in front, whether there is a member around the member, and the octets.
+const ROWS: [(usize, bool, &[u8]); 4] = [
+    (0, false, &[0x80, 0xAB, 0x80]),
+    (3, false, &[0x10, 0xAB, 0x80]),
+    (8, false, &[0x00, 0x80, 0xAB, 0x80]),
+    (6, true, &[0x03, 0xAB, 0x80]),
+];
+
+/// Whether a member stands in the octets of its row.
+fn is_right(alloc: Global, (zeros, is_nested, octets): (usize, bool, &[u8])) -> Result<bool, Fail> {
+    let text = if is_nested {
+        within_a_member(alloc)?
+    } else {
+        member(alloc)?
+    };
+    Ok(stands_behind(alloc, zeros, &text, octets)?)
+}
+
+/// Whether these octets are the complete encoding of a text.
+fn completes(alloc: Global, text: &Packing, octets: &[u8]) -> Result<bool, AllocError> {
+    let complete = complete_in(text.as_text(), Vec::new(alloc))?;
+    Ok(complete.as_slice() == octets)
+}
+
+/// Whether the complete encodings of a member and of nothing are these.
+fn are_complete(alloc: Global, of_member: &[u8], of_nothing: &[u8]) -> Result<bool, Fail> {
+    let text = member(alloc)?;
+    let empty = Packing::unplaced(alloc);
+    Ok(completes(alloc, &text, of_member)? && completes(alloc, &empty, of_nothing)?)
+}
+
+#[test]
+fn filled_where_it_comes_to_stand(rt: HostRuntime) -> Result<(), Fail> {
+    for row in ROWS {
+        assert!(rt; is_right(rt.alloc(), row)?);
+    }
+    assert!(rt; are_complete(rt.alloc(), &[0x80, 0xAB, 0x80], &[0x00])?);
+    Ok(())
+}

@@ -1,0 +1,172 @@
+//! Parts of encodings as they are written behind so many bits: numbers, lengths, places, and what else stands in no message alone (X.691 11).
+use crate::spelled::push_spelled;
+use asn1_schema_faults::EncodeError;
+use asn1_schema_variants::Chosen;
+use asn1_values_bits::BitBuffer;
+use per_codec_packing::Packing;
+use per_codec_reading::Variant;
+use per_codec_writing::{
+    push_bitmap, push_boolean, push_constrained, push_fragment_length, push_normally_small,
+    push_open_type, push_place, push_short_length,
+};
+use std::alloc::Global;
+use std::test::Fail;
+
+/// A part of an encoding.
+#[derive(Clone, Copy)]
+enum Part {
+    Truth(bool),
+    /// A number from 0 to a span: the span and the number.
+    Number(u128, u128),
+    Small(u64),
+    Length(usize),
+    /// The length of a fragment of so many times 16384 units.
+    Fragment(usize),
+    /// The alternative of a root of two.
+    Root(usize),
+    /// An added alternative beside a root of two.
+    Added(usize),
+    /// An open type of no bits.
+    OpenType,
+    /// A bitmap of one addition, which is there.
+    Bitmap,
+}
+
+/// A variant, how many set bits stand in front, parts, and the bits that there are then.
+type Row = (Variant, usize, &'static [Part], &'static str);
+
+const ROWS: [Row; 23] = [
+    (UPER, 0, &TRUTHS, "b101"),
+    (APER, 0, &TRUTHS, "b101"),
+    (UPER, 0, &[Part::Number(0, 0)], ""),
+    (APER, 0, &[Part::Number(0, 0)], ""),
+    (APER, 3, &[Part::Number(2, 2)], "b11110"),
+    (APER, 1, &[Part::Number(254, 7)], "83 b1"),
+    (UPER, 1, &[Part::Number(255, 7)], "83 b1"),
+    (APER, 1, &[Part::Number(255, 7)], "80 07"),
+    (APER, 2, &[Part::Number(65535, 258)], "C0 01 02"),
+    (APER, 1, &[Part::Number(65536, 65536)], "C0 01 00 00"),
+    (
+        APER,
+        8,
+        &[Part::Number(u128::MAX, u128::MAX)],
+        "FF F0 FF*16",
+    ),
+    (UPER, 1, &[Part::Length(1)], "80 b1"),
+    (APER, 1, &[Part::Length(1)], "80 01"),
+    (APER, 3, &[Part::Truth(true), Part::Length(1)], "F0 01"),
+    (APER, 1, &[Part::Fragment(4), Part::Fragment(1)], "80 C4 C1"),
+    (UPER, 0, &[Part::Small(5), Part::Small(63)], "0A b111111"),
+    (APER, 0, &[Part::Small(5), Part::Small(63)], "0A b111111"),
+    (UPER, 0, &[Part::Small(64)], "80 A0 b0"),
+    (APER, 0, &[Part::Small(64)], "80 01 40"),
+    (UPER, 0, &[Part::Root(1)], "b1"),
+    (UPER, 0, &[Part::Added(0)], "80"),
+    (UPER, 0, &[Part::OpenType], "01 00"),
+    (APER, 0, &[Part::Bitmap], "01"),
+];
+
+const UPER: Variant = Variant::Unaligned;
+
+const APER: Variant = Variant::Aligned;
+
+const TRUTHS: [Part; 3] = [Part::Truth(true), Part::Truth(false), Part::Truth(true)];
+
+/// Writes a bitmap of one addition, which is there.
+fn push_bitmap_of_one(
+    alloc: Global,
+    output: &mut Packing,
+    aligned: bool,
+) -> Result<(), EncodeError> {
+    let mut bitmap = BitBuffer::new(alloc);
+    bitmap.push(true)?;
+    push_bitmap(output, aligned, &bitmap)
+}
+
+/// Writes a part.
+fn push_part(
+    alloc: Global,
+    output: &mut Packing,
+    aligned: bool,
+    part: Part,
+) -> Result<(), EncodeError> {
+    match part {
+        Part::Truth(value) => push_boolean(output, aligned, value),
+        Part::Number(span, value) => push_constrained(output, aligned, span, value),
+        Part::Small(number) => push_normally_small(output, aligned, number),
+        Part::Length(length) if length < 16384 => push_short_length(output, aligned, length),
+        Part::Fragment(times) if times <= 4 => push_fragment_length(output, aligned, times),
+        Part::Length(_) | Part::Fragment(_) => Err(EncodeError::SizeConstraintNotSatisfied),
+        Part::Root(place) => push_place(output, aligned, 2, false, Chosen::root(place)),
+        Part::Added(place) => push_place(output, aligned, 2, true, Chosen::addition(place)),
+        Part::OpenType => push_open_type(output, aligned, &BitBuffer::new(alloc)),
+        Part::Bitmap => push_bitmap_of_one(alloc, output, aligned),
+    }
+}
+
+/// Writes parts behind what stands there.
+fn push_parts(
+    alloc: Global,
+    output: &mut Packing,
+    aligned: bool,
+    parts: &[Part],
+) -> Result<(), EncodeError> {
+    for part in parts {
+        push_part(alloc, output, aligned, *part)?;
+    }
+    Ok(())
+}
+
+/// So many set bits and parts behind them, whose place is known from the beginning or is not.
+fn written(
+    alloc: Global,
+    (variant, count, parts, _): Row,
+    is_placed: bool,
+) -> Result<Packing, EncodeError> {
+    let aligned = variant.is_aligned();
+    let mut output = Packing::new(alloc);
+    output.resize(count, true)?;
+    if is_placed {
+        push_parts(alloc, &mut output, aligned, parts)?;
+    } else {
+        let mut text = Packing::unplaced(alloc);
+        push_parts(alloc, &mut text, aligned, parts)?;
+        output.append_text(text.as_text())?;
+    }
+    Ok(output)
+}
+
+/// Whether parts stand as their row says.
+fn is_right(alloc: Global, row: Row, is_placed: bool) -> Result<bool, Fail> {
+    let mut wanted = BitBuffer::new(alloc);
+    push_spelled(&mut wanted, row.3, row.0)?;
+    let output = written(alloc, row, is_placed)?;
+    Ok(output.as_bits().as_bitslice() == wanted.as_bitslice())
+}
+
+#[test]
+fn parts_behind_bits(rt: HostRuntime) -> Result<(), Fail> {
+    for (place, row) in ROWS.iter().enumerate() {
+        assert!(rt; is_right(rt.alloc(), *row, true)?, "row {place}");
+        assert!(rt;
+            is_right(rt.alloc(), *row, false)?,
+            "row {place}, placed later"
+        );
+    }
+    Ok(())
+}
+
+/// Whether a number is refused in a span.
+fn is_outside(alloc: Global, aligned: bool, span: u128, number: u128) -> bool {
+    let answer = push_constrained(&mut Packing::new(alloc), aligned, span, number);
+    answer == Err(EncodeError::ValueConstraintNotSatisfied)
+}
+
+#[test]
+fn numbers_outside(rt: HostRuntime) {
+    for aligned in [false, true] {
+        for span in [0, 1, 254, 255, 256, 65535, 65536, 1 << 64] {
+            assert!(rt; is_outside(rt.alloc(), aligned, span, span + 1));
+        }
+    }
+}

@@ -1,0 +1,124 @@
+//! What readers and a decoder leave, lend and refuse.
+use asn1_schema_bounds::Bounded;
+use asn1_schema_constraints::Constraints;
+use asn1_schema_decode::Decoder as _;
+use asn1_schema_faults::{CodecKind, DecodeError};
+use asn1_schema_tags::Tag;
+use per_codec::uper::{Decoder, DecoderOptions};
+use per_codec_reading::lengths::{Length, read_length, read_short_length};
+use per_codec_reading::numbers::read_constrained;
+use per_codec_reading::units::{read_boolean, read_null};
+use per_codec_reading::{Cursor, Variant};
+use std::alloc::Global;
+use std::borrow::CowSlice;
+use std::test::Fail;
+
+/// Whether two truth values are read from two bits of an octet, which leaves six.
+fn leaves_six_bits(cursor: &mut Cursor<'_>) -> Result<bool, DecodeError> {
+    let first = read_boolean(cursor, Variant::Aligned)?;
+    let second = read_boolean(cursor, Variant::Unaligned)?;
+    Ok(first && !second && cursor.len() == 6)
+}
+
+/// Whether nothing, and a number of one, take no bits.
+fn takes_no_bits(input: &[u8]) -> Result<bool, DecodeError> {
+    let mut cursor = Cursor::new(input);
+    read_null(&mut cursor, Variant::Unaligned)?;
+    let number = read_constrained(&mut cursor, Variant::Unaligned, 0)?;
+    Ok(number == 0 && cursor.len() == input.len().saturating_mul(8))
+}
+
+#[test]
+fn bits_that_are_left(rt: HostRuntime) -> Result<(), Fail> {
+    assert!(rt; leaves_six_bits(&mut Cursor::new(&[0x80]))?);
+    assert!(rt; takes_no_bits(&[0x01])?);
+    assert!(rt; takes_no_bits(&[])?);
+    let empty = read_boolean(&mut Cursor::new(&[]), Variant::Unaligned);
+    assert!(rt; empty == Err(DecodeError::Incomplete));
+    Ok(())
+}
+
+/// Whether a length stands behind so many bits, right behind them in the unaligned variant, and at the next octet in the aligned one.
+fn is_length_behind(used: u32) -> Result<bool, DecodeError> {
+    let mut unaligned = Cursor::new(&[0x00, 0x05]);
+    unaligned.take(used as usize)?;
+    let near = read_length(&mut unaligned, Variant::Unaligned)?;
+    let mut aligned = Cursor::new(&[0xFF, 0x05, 0x05]);
+    aligned.take(used as usize + 1)?;
+    let far = read_length(&mut aligned, Variant::Aligned)?;
+    let shifted = Length::Short(5 >> (8 - used));
+    Ok(near == shifted && far == Length::Short(5) && aligned.position() == 16)
+}
+
+#[test]
+fn lengths_behind_bits(rt: HostRuntime) -> Result<(), Fail> {
+    for used in 0..8u32 {
+        assert!(rt; is_length_behind(used)?);
+    }
+    let fragment = read_short_length(&mut Cursor::new(&[0xC1]), Variant::Unaligned);
+    assert!(rt; fragment == Err(DecodeError::LengthExceedsPlatformWidth));
+    Ok(())
+}
+
+/// Whether a decoder lacks a bit, and has failed from then on.
+fn fails_for_good(decoder: &mut Decoder<'_>) -> bool {
+    decoder.decode_bool(Tag::BOOL) == Err(DecodeError::Incomplete)
+        && decoder.decode_bool(Tag::BOOL) == Err(DecodeError::AlreadyFailed)
+}
+
+/// Whether none of three alternatives is read, and the decoder has failed then.
+fn lacks_an_alternative(decoder: &mut Decoder<'_>) -> bool {
+    let tags = [
+        Tag::new_context(0),
+        Tag::new_context(1),
+        Tag::new_context(2),
+    ];
+    let chosen = decoder.begin_choice(Tag::EOC, &tags, false, &[]);
+    chosen == Err(DecodeError::InvalidTagVariantOnChoice)
+        && decoder.end() == Err(DecodeError::AlreadyFailed)
+}
+
+/// Whether 128 sequences may begin in one another, and no further one.
+fn nests_128_levels(decoder: &mut Decoder<'_>) -> Result<bool, DecodeError> {
+    for _ in 0..128 {
+        decoder.begin_sequence(Tag::SEQUENCE, false, 0)?;
+    }
+    let left = decoder.levels_left();
+    let further = decoder.begin_sequence(Tag::SEQUENCE, false, 0);
+    Ok(
+        left == 0
+            && further == Err(DecodeError::ExceedsMaxParseDepth)
+            && decoder.finish() == Err(DecodeError::AlreadyFailed),
+    )
+}
+
+#[test]
+fn decoders_that_have_failed(rt: HostRuntime) -> Result<(), Fail> {
+    let alloc = rt.alloc();
+    let unaligned = DecoderOptions::unaligned();
+    let aligned = DecoderOptions::aligned();
+    assert!(rt; fails_for_good(&mut Decoder::new(alloc, &[], unaligned)));
+    assert!(rt; lacks_an_alternative(&mut Decoder::new(alloc, &[0xC0], unaligned)));
+    assert!(rt; nests_128_levels(&mut Decoder::new(alloc, &[0x00], aligned))?);
+    assert!(rt; Decoder::new(alloc, &[], aligned).codec() == CodecKind::Aper);
+    Ok(())
+}
+
+/// Whether the string of octets behind the first bit is lent by the message, and is these octets.
+fn lends(alloc: Global, decoder: &mut Decoder<'_>, octets: &[u8]) -> Result<bool, DecodeError> {
+    let first = decoder.decode_bool(Tag::BOOL)?;
+    let tag = Tag::OCTET_STRING;
+    match decoder.decode_octet_string(alloc, tag, Constraints::NONE, Bounded::None)? {
+        CowSlice::Borrowed(found) => Ok(first && found == octets),
+        CowSlice::Owned(_) => Ok(false),
+    }
+}
+
+#[test]
+fn an_aligned_message_lends_its_octets(rt: HostRuntime) -> Result<(), Fail> {
+    let alloc = rt.alloc();
+    let input = [0x80, 0x03, 0x01, 0x02, 0x03];
+    let mut decoder = Decoder::new(alloc, &input, DecoderOptions::aligned());
+    assert!(rt; lends(alloc, &mut decoder, &[1, 2, 3])?);
+    Ok(())
+}
