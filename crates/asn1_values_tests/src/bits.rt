@@ -2,7 +2,7 @@
 ghost use Rattle.std.specs.Prelude.{◌≡◌, ◌++◌, ◌<◌, ◌≤◌, OnOk, OnErr};
 ghost use Rattle.asn1_model.specs.Numbers.{binary};
 
-use crate::common::{has, hash_of, is_before, is_granted, is_shown};
+use crate::common::{has, hash_of, is_before, is_copied, is_granted, is_shown};
 use asn1_values::{BitBuffer, BitReader, BitStr, BitString, FixedBitString, bits};
 use std::alloc::{AllocError, Global};
 use std::borrow::CowSlice;
@@ -14,16 +14,14 @@ fn low_bits(value: u128, width: u32) -> u128 {
     value & !u128::MAX.checked_shl(width).unwrap_or(0)
 }
 
-/// So many bits, then the low bits of a value, then three bits.
-fn written(alloc: Global, alignment: u32, value: u128, width: u32) -> Result<BitBuffer, AllocError>
+/// Puts so many bits, then the low bits of a value, then three bits into a buffer.
+fn put(buffer: &mut BitBuffer, alignment: u32, value: u128, width: u32) -> Result<(), AllocError>
     requires narrow { width ≤ 128 }
     requires few { alignment < 8 }
 {
-    let mut buffer = BitBuffer::new(alloc);
     buffer.push_bits(0b1010_1010, alignment)?;
     buffer.push_bits(value, width)?;
-    buffer.push_bits(0b101, 3)?;
-    Ok(buffer)
+    buffer.push_bits(0b101, 3)
 }
 
 /// Whether each bit of the value is where it was written.
@@ -53,23 +51,19 @@ fn read_behind(mut reader: BitReader<'_>, alignment: u32, width: u32) -> Option<
 }
 
 /// Whether the value stands where it was written, in no more octets than it takes, and is read from there.
-fn is_written_and_read(
-    alloc: Global,
-    alignment: u32,
-    value: u128,
-    width: u32,
-) -> Result<bool, AllocError>
+fn is_written_and_read(alloc: Global, alignment: u32, value: u128, width: u32) -> bool
     requires narrow { width ≤ 128 }
     requires few { alignment < 8 }
 {
-    let buffer = written(alloc, alignment, value, width)?;
+    let mut buffer = BitBuffer::new(alloc);
+    if put(&mut buffer, alignment, value, width).is_err() {
+        return false;
+    }
     let total = (alignment + width + 3) as usize;
     let all = buffer.as_bitslice();
-    Ok(
-        buffer.as_bytes().len() == total.div_ceil(8)
-            && holds_bits(all, alignment, value, width)
-            && read_behind(BitReader::new(all), alignment, width) == Some(low_bits(value, width)),
-    )
+    buffer.as_bytes().len() == total.div_ceil(8)
+        && holds_bits(all, alignment, value, width)
+        && read_behind(BitReader::new(all), alignment, width) == Some(low_bits(value, width))
 }
 
 #[test]
@@ -77,7 +71,7 @@ fn every_alignment_and_width(rt: HostRuntime) {
     let value = 0xb3a1_9c5d_7e2f_8046_1d3b_5f79_8ace_0247_u128;
     for alignment in 0..8 {
         for width in 0..129 {
-            assert!(rt; is_written_and_read(rt.alloc(), alignment, value, width) == Ok(true));
+            assert!(rt; is_written_and_read(rt.alloc(), alignment, value, width));
         }
     }
 }
@@ -91,15 +85,24 @@ fn many_bits(alloc: Global) -> Result<BitBuffer, AllocError> {
     Ok(bits)
 }
 
+/// Puts so many zero bits and the bits of a view into an empty buffer.
+fn put_behind(buffer: &mut BitBuffer, view: BitStr<'_>, alignment: u32) -> Result<(), AllocError>
+    requires { alignment < 8 }
+{
+    buffer.push_bits(0, alignment)?;
+    buffer.extend_from_bitslice(view)
+}
+
 /// Whether the bits of a long view stand behind so many zero bits.
-fn is_copied_behind(alloc: Global, view: BitStr<'_>, alignment: u32) -> Result<bool, AllocError>
+fn is_copied_behind(alloc: Global, view: BitStr<'_>, alignment: u32) -> bool
     requires { alignment < 8 }
 {
     let mut buffer = BitBuffer::new(alloc);
-    buffer.push_bits(0, alignment)?;
-    buffer.extend_from_bitslice(view)?;
+    if put_behind(&mut buffer, view, alignment).is_err() {
+        return false;
+    }
     let copied = buffer.as_bitslice();
-    Ok(copied.len() > 9000 && copied.split_at(alignment as usize).1 == view)
+    copied.len() > 9000 && copied.split_at(alignment as usize).1 == view
 }
 
 /// Whether long views, from each bit of an octet, are copied to each bit of an octet.
@@ -110,7 +113,7 @@ fn are_copied_behind(alloc: Global, all: BitStr<'_>) -> bool {
     for first in 0..8 {
         let (_, view) = all.split_at(first);
         for alignment in 0..8 {
-            if is_copied_behind(alloc, view, alignment) != Ok(true) {
+            if !is_copied_behind(alloc, view, alignment) {
                 return false;
             }
         }
@@ -127,10 +130,7 @@ fn every_shift(rt: HostRuntime) {
 }
 
 /// Whether the VisibleString "John" is written, unaligned, and then fourteen bits, eight ones and 010000, behind their number in an octet.
-fn are_rows_written(alloc: Global) -> Result<bool, AllocError> {
-    let octets = [0xff, 0x40];
-    let (fourteen, _) = BitStr::from_slice(&octets).split_at(14);
-    let mut buffer = BitBuffer::new(alloc);
+fn are_rows_written(buffer: &mut BitBuffer, fourteen: BitStr<'_>) -> Result<bool, AllocError> {
     buffer.push_bits(4, 8)?;
     for character in b"John" {
         buffer.push_bits(*character as u128, 7)?;
@@ -139,9 +139,15 @@ fn are_rows_written(alloc: Global) -> Result<bool, AllocError> {
     buffer.clear();
     buffer.push_bits(14, 8)?;
     buffer.extend_from_bitslice(fourteen)?;
-    let is_counted = buffer.as_bytes() == [0x0e, 0xff, 0x40].as_slice();
-    let string = BitString::from_bitslice(alloc, fourteen)?;
-    Ok(is_named && is_counted && string.len() == 14 && string.as_bytes() == octets.as_slice())
+    Ok(is_named && buffer.as_bytes() == [0x0e, 0xff, 0x40].as_slice())
+}
+
+/// Whether those fourteen bits make a string of them.
+fn is_of_fourteen(answer: Result<BitString, AllocError>) -> bool {
+    match answer {
+        Ok(string) => string.len() == 14 && string.as_bytes() == [0xff, 0x40].as_slice(),
+        Err(AllocError) => false,
+    }
 }
 
 /// Whether sixteen bits, of which a further one is added, are cut to twelve, and these are filled up to twenty by one bits.
@@ -173,21 +179,25 @@ fn made<T: MadeWith<Global>>(alloc: Global) -> T {
     T::made_with(alloc)
 }
 
+/// Puts the bits 101 and a buffer behind them into another one.
+fn put_buffer(other: &mut BitBuffer, buffer: &BitBuffer) -> Result<(), AllocError> {
+    other.push_bits(0b101, 3)?;
+    other.extend_from_buffer(buffer)
+}
+
 /// Whether a buffer is added behind the bits 101.
 fn is_added_behind(alloc: Global, buffer: &BitBuffer) -> Result<bool, AllocError> {
     let mut other: BitBuffer = made(alloc);
     let was_empty = other.is_empty();
-    other.push_bits(0b101, 3)?;
-    other.extend_from_buffer(buffer)?;
+    put_buffer(&mut other, buffer)?;
     Ok(was_empty && has(&other.into_vec(), &[0xa4, 0xa1, 0xfc]))
 }
 
-/// Whether twenty bits are changed, added to others, and cleared.
-fn are_changed(alloc: Global) -> Result<bool, AllocError> {
-    let mut buffer = BitBuffer::from_vec([0xa5, 0x0f].to_vec(alloc)?);
-    let is_right = is_resized(&mut buffer)?
-        && clears_two_bits(&mut buffer)
-        && is_added_behind(alloc, &buffer)?;
+/// Whether sixteen bits are resized, changed, added to others, and cleared.
+fn are_changed(alloc: Global, buffer: &mut BitBuffer) -> Result<bool, AllocError> {
+    let is_right = is_resized(buffer)?
+        && clears_two_bits(buffer)
+        && is_added_behind(alloc, buffer)?;
     buffer.clear();
     Ok(is_right && buffer.len() == 0)
 }
@@ -195,7 +205,16 @@ fn are_changed(alloc: Global) -> Result<bool, AllocError> {
 #[test]
 fn buffers(rt: HostRuntime) {
     let alloc = rt.alloc();
-    assert!(rt; are_rows_written(alloc) == Ok(true) && are_changed(alloc) == Ok(true));
+    let octets = [0xff, 0x40];
+    let (fourteen, _) = BitStr::from_slice(&octets).split_at(14);
+    assert!(rt; are_rows_written(&mut BitBuffer::new(alloc), fourteen) == Ok(true));
+    assert!(rt; is_of_fourteen(BitString::from_bitslice(alloc, fourteen)));
+    match [0xa5, 0x0f].to_vec(alloc) {
+        Ok(octets) => {
+            assert!(rt; are_changed(alloc, &mut BitBuffer::from_vec(octets)) == Ok(true));
+        }
+        Err(AllocError) => assert!(rt; false),
+    }
 }
 
 /// Whether 24 bits are unread, of which the first is a one bit, stands first in an octet and all whole octets are lent.
@@ -262,45 +281,65 @@ fn is_same(buffer: &BitBuffer, shifted: BitStr<'_>) -> bool {
         && hash_of(&shifted) == hash_of(buffer)
 }
 
-/// Whether a buffer of those bits is equal to its copy, comes before it with one more bit, and this is shown by its first three bits.
-fn is_before_longer(alloc: Global, shifted: BitStr<'_>) -> Result<bool, AllocError> {
-    let mut buffer = BitBuffer::new(alloc);
+/// Puts those bits into a buffer, and these and one more into another. Whether they were equal before.
+fn put_both(
+    buffer: &mut BitBuffer,
+    longer: &mut BitBuffer,
+    shifted: BitStr<'_>,
+) -> Result<bool, AllocError> {
     buffer.extend_from_bitslice(shifted)?;
-    let mut longer = BitBuffer::new(alloc);
-    longer.extend_from_buffer(&buffer)?;
-    let was_equal = longer == buffer;
+    longer.extend_from_buffer(buffer)?;
+    let was_equal = *longer == *buffer;
     longer.push(false)?;
-    let is_before = buffer < longer && hash_of(&buffer) != hash_of(&longer);
+    Ok(was_equal)
+}
+
+/// Whether a buffer of those bits comes before one with one more bit, and this is shown by its first three bits.
+fn is_before_longer(alloc: Global, buffer: &BitBuffer, longer: &mut BitBuffer) -> bool {
+    let is_before = *buffer < *longer && hash_of(buffer) != hash_of(&*longer);
     longer.truncate(3);
-    Ok(was_equal && is_before && is_same(&buffer, shifted) && is_shown(alloc, &longer, "101"))
+    is_before && is_shown(alloc, &*longer, "101")
+}
+
+/// Whether buffers go by their bits.
+fn are_buffers_compared(alloc: Global, shifted: BitStr<'_>) -> bool {
+    let mut buffer = BitBuffer::new(alloc);
+    let mut longer = BitBuffer::new(alloc);
+    put_both(&mut buffer, &mut longer, shifted) == Ok(true)
+        && is_same(&buffer, shifted)
+        && is_before_longer(alloc, &buffer, &mut longer)
 }
 
 /// Whether views and buffers go by their bits, wherever these stand.
-fn are_compared(alloc: Global) -> Result<bool, AllocError> {
+fn are_compared(alloc: Global) -> bool {
     let octets = [0x0a, 0x5f, 0x55, 0xf0];
     let (front, _) = BitStr::front_of(&octets, 31).split_at(16);
     let (_, shifted) = front.split_at(4);
-    Ok(
-        BitStr::from_bitslice(front) == front
-            && go_by_their_bits(alloc, shifted)
-            && is_before_longer(alloc, shifted)?,
-    )
+    BitStr::from_bitslice(front) == front
+        && go_by_their_bits(alloc, shifted)
+        && are_buffers_compared(alloc, shifted)
 }
 
-/// Whether a view lends the octets that hold it, and those that stand whole at its front, and one that begins within an octet is copied.
+/// Whether a view lends the octets that hold it, and those that stand whole at its front.
 fn lends_octets() -> bool {
     let octets = [0x12, 0x34, 0x56];
     let all = BitStr::from_slice(&octets);
     let (_, shifted) = all.split_at(4);
     let (whole, rest) = BitStr::front_of(&octets, 20).whole_octets();
-    let mut copied = [0; 2];
-    shifted.copy_to(&mut copied);
     all.aligned_octets() == Some(octets.as_slice())
         && shifted.aligned_octets().is_none()
         && whole == &octets[..2]
         && rest.get(3) == Some(true)
         && rest.get(4).is_none()
-        && copied == [0x23, 0x45]
+}
+
+/// Whether a view that begins within an octet is copied into octets.
+fn copies_view() -> bool {
+    let octets = [0x12, 0x34, 0x56];
+    let (_, shifted) = BitStr::from_slice(&octets).split_at(4);
+    let mut copied = [0; 2];
+    shifted.copy_to(&mut copied);
+    copied == [0x23, 0x45]
 }
 
 /// Whether the numbers that bits hold are told, read of octets, and put into octets.
@@ -320,8 +359,8 @@ fn numbers_are_told() -> bool {
 #[test]
 fn readers_and_views(rt: HostRuntime) {
     let alloc = rt.alloc();
-    assert!(rt; are_read(alloc) == Ok(true) && are_compared(alloc) == Ok(true));
-    assert!(rt; lends_octets() && numbers_are_told());
+    assert!(rt; are_read(alloc) == Ok(true) && are_compared(alloc));
+    assert!(rt; lends_octets() && copies_view() && numbers_are_told());
 }
 
 /// Adds a one bit to a string. Whether a copy is equal to it before, and behind that differs from it and comes before it.
@@ -347,13 +386,11 @@ fn are_made_empty(alloc: Global) -> bool {
 }
 
 /// Whether a string of eight bits and a one bit is compared, hashed and shown, and given up as a buffer.
-fn are_strings(alloc: Global) -> Result<bool, AllocError> {
-    let mut string = BitString::from_slice(alloc, &[0x2f])?;
-    let is_right = is_behind_its_copy(&mut string)?
+fn is_string(alloc: Global, mut string: BitString) -> bool {
+    is_behind_its_copy(&mut string) == Ok(true)
         && ends_in_a_ninth_bit(&string)
         && is_shown(alloc, &string, "001011111")
-        && are_made_empty(alloc);
-    Ok(is_right && BitString::from_buffer(string.into_buffer()).len() == 9)
+        && BitString::from_buffer(string.into_buffer()).len() == 9
 }
 
 /// Whether three bits, the second of them a zero bit, are all; they make a string of three and none of four, and an octet makes none.
@@ -379,7 +416,11 @@ fn go_by_three_bits(three: FixedBitString<3>, front: BitStr<'_>) -> bool {
 
 #[test]
 fn strings(rt: HostRuntime) {
-    assert!(rt; are_strings(rt.alloc()) == Ok(true));
+    match BitString::from_slice(rt.alloc(), &[0x2f]) {
+        Ok(string) => assert!(rt; is_string(rt.alloc(), string)),
+        Err(AllocError) => assert!(rt; false),
+    }
+    assert!(rt; are_made_empty(rt.alloc()));
     let three = FixedBitString::<3>::new([0xbf, 0xff, 0xff]);
     let octets = [0xa0];
     let (front, _) = BitStr::from_slice(&octets).split_at(3);
@@ -464,6 +505,16 @@ fn is_appended(buffer: &mut BitBuffer, len: usize, granted: &mut bool) -> bool {
     buffer.len() == len
 }
 
+/// Whether there are so many octets, all of them this one.
+fn are_alike(octets: &[u8], wanted: u8, count: usize) -> bool {
+    for octet in octets {
+        if *octet != wanted {
+            return false;
+        }
+    }
+    octets.len() == count
+}
+
 /// Appends a number many times, each time once more where it was refused. Whether none was refused.
 fn appends(rt: &impl Abort, alloc: Global) -> bool {
     let mut granted = true;
@@ -471,7 +522,7 @@ fn appends(rt: &impl Abort, alloc: Global) -> bool {
     for count in 1..=40 {
         assert!(rt; is_appended(&mut buffer, count * 16, &mut granted));
     }
-    assert!(rt; has(&buffer.into_vec(), &[0x9c; 80]));
+    assert!(rt; are_alike(&buffer.into_vec(), 0x9c, 80));
     granted
 }
 
@@ -506,7 +557,7 @@ fn are_copied(alloc: Global, bits: BitStr<'_>) -> Result<bool, AllocError> {
 /// Whether a string of the bits of a view has them in its octets, and a copy is equal to it.
 fn is_made_of_bits(alloc: Global, bits: BitStr<'_>) -> Result<bool, AllocError> {
     let string = BitString::from_bitslice(alloc, bits)?;
-    Ok(string.as_bytes() == [0x23, 0x45, 0x60].as_slice() && string.clone()? == string)
+    Ok(string.as_bytes() == [0x23, 0x45, 0x60].as_slice() && is_copied(&string)?)
 }
 
 /// Whether a string of octets has them.
@@ -525,11 +576,6 @@ fn adds_bits(buffer: &mut BitBuffer, bits: BitStr<'_>, granted: &mut bool) -> bo
     buffer.is_empty() && buffer.extend_from_bitslice(bits).is_ok()
 }
 
-/// Whether a copy is equal to its buffer.
-fn is_equal_to_its_copy(buffer: &BitBuffer) -> Result<bool, AllocError> {
-    Ok(buffer.clone()? == *buffer)
-}
-
 /// Copies unaligned bits, in octets, as a buffer and as strings: the answer is whole, or refused. Whether none was refused.
 fn copies(rt: &impl Abort, alloc: Global) -> bool {
     let octets = [0x12, 0x34, 0x56];
@@ -537,7 +583,7 @@ fn copies(rt: &impl Abort, alloc: Global) -> bool {
     let mut granted = is_granted(rt, are_copied(alloc, bits));
     let mut buffer = BitBuffer::new(alloc);
     assert!(rt; adds_bits(&mut buffer, bits, &mut granted));
-    granted &= is_granted(rt, is_equal_to_its_copy(&buffer));
+    granted &= is_granted(rt, is_copied(&buffer));
     assert!(rt; buffer.as_bytes() == [0x23, 0x45, 0x60].as_slice());
     granted &= is_granted(rt, is_made_of_bits(alloc, bits));
     granted & is_granted(rt, is_made_of_octets(alloc, &octets))

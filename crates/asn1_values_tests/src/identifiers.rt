@@ -103,11 +103,12 @@ fn are_the_same(first: &Oid<'_>, kept: &ObjectIdentifier) -> bool {
 }
 
 /// Whether the same identifier, lent and kept, is before one whose last arc is greater, and both are shown.
-fn are_in_order(alloc: Global, first: &Oid<'_>, kept: &ObjectIdentifier) -> bool {
+fn are_in_order(alloc: Global, kept: &ObjectIdentifier) -> bool {
+    let first = Oid::new_unchecked(&[1, 2, 3321]);
     let other = ObjectIdentifier::new_unchecked(CowSlice::Borrowed(&[1, 2, 3322]));
     is_before(kept, &other)
-        && is_before(first, &other.as_oid())
-        && is_told(alloc, first, "1.2.3321")
+        && is_before(&first, &other.as_oid())
+        && is_told(alloc, &first, "1.2.3321")
         && is_told(alloc, kept, "1.2.3321")
 }
 
@@ -126,7 +127,7 @@ fn identifiers_are_shown_and_compared(rt: HostRuntime) {
     match ObjectIdentifier::from_oid(alloc, &first) {
         Ok(kept) => {
             assert!(rt; kept[2] == 3321);
-            assert!(rt; are_the_same(&first, &kept) && are_in_order(alloc, &first, &kept));
+            assert!(rt; are_the_same(&first, &kept) && are_in_order(alloc, &kept));
         }
         Err(_) => assert!(rt; false),
     }

@@ -38,26 +38,26 @@ enum Reading {
 }
 
 /// What is to be of a native type.
-struct Native {
+struct Native<'s> {
     bits: u32,
     /// Its least and its greatest number, and their octets.
     ends: [Row; 2],
-    octets: [&'static [u8]; 2],
+    octets: [&'s [u8]; 2],
     /// The octets of the numbers beside these.
-    beside: [&'static [u8]; 2],
+    beside: [&'s [u8]; 2],
     /// Numbers, what is added to them, and their sums.
-    sums: &'static [(Row, u128, Row)],
+    sums: &'s [(Row, u128, Row)],
     /// Numbers, and whether the type holds them.
-    held: &'static [(i128, bool)],
+    held: &'s [(i128, bool)],
     /// Octets, how they are read, and the number, or none where it is outside the type.
-    read: &'static [(Reading, &'static [u8], Option<Row>)],
+    read: &'s [(Reading, &'s [u8], Option<Row>)],
     /// Numbers, and their octets without a sign.
-    plain: &'static [(Row, &'static [u8])],
+    plain: &'s [(Row, &'s [u8])],
     /// Numbers, and what is shown of them: twice, whether they are above the default, and zero.
-    texts: &'static [(Row, &'static str)],
+    texts: &'s [(Row, &'s str)],
 }
 
-impl Native {
+impl Native<'_> {
     fn is_signed(&self) -> bool {
         let [(is_signed, _), _] = self.ends;
         is_signed
@@ -79,7 +79,7 @@ fn is_held<T: NativeInteger>(number: Wide) -> bool {
 }
 
 /// Whether the type holds its ends, and no number beside them.
-fn has_ends<T: NativeInteger>(row: &Native) -> bool {
+fn has_ends<T: NativeInteger>(row: &Native<'_>) -> bool {
     let [(is_signed, least), (_, greatest)] = row.ends;
     let first = wide((is_signed, least));
     let lower = if is_signed {
@@ -99,7 +99,7 @@ fn has_ends<T: NativeInteger>(row: &Native) -> bool {
 }
 
 /// Whether the type has so many bits, a sign where numbers are below zero, and zero.
-fn has_width<T: NativeInteger + IntegerType>(row: &Native) -> bool {
+fn has_width<T: NativeInteger + IntegerType>(row: &Native<'_>) -> bool {
     let [_, (_, greatest)] = row.ends;
     T::SIGNED == row.is_signed()
         && T::BITS == row.bits
@@ -131,7 +131,7 @@ fn is_kept<T: IntegerType + Drop>(alloc: Global, octets: &[u8]) -> bool {
 }
 
 /// Whether a type holds its least and its greatest number, and none of those beside them, all as octets.
-fn has_range<T: IntegerType + Drop>(alloc: Global, row: &Native) -> bool {
+fn has_range<T: IntegerType + Drop>(alloc: Global, row: &Native<'_>) -> bool {
     let [least, greatest] = row.octets;
     let [lower, above] = row.beside;
     is_kept::<T>(alloc, least)
@@ -249,7 +249,7 @@ fn are_converted<
     T: NativeInteger
         + TryFrom<&'a Integer, Error = IntegerError>
         + TryFrom<Integer, Error = TryFromIntegerError>,
->(row: &Native, numbers: &'a [Integer]) -> bool {
+>(row: &Native<'_>, numbers: &'a [Integer]) -> bool {
     for lent in numbers {
         match lent.to_wide() {
             Some(number) if is_converted::<T>(lent, number, row.has(number)) => {}
@@ -263,7 +263,7 @@ fn are_converted<
 fn has_sums<
     T: NativeInteger<Unsigned = U> + IntegerType<UnsignedPair = U> + Drop,
     U: NativeInteger,
->(row: &Native) -> bool {
+>(row: &Native<'_>) -> bool {
     for sum in row.sums {
         if !is_sum::<T, U>(*sum) {
             return false;
@@ -278,7 +278,7 @@ fn has_sums<
 }
 
 /// Whether octets are read, numbers written without a sign, and shown, as the row says.
-fn has_rows<T: NativeInteger + IntegerType + Drop>(alloc: Global, row: &Native) -> bool {
+fn has_rows<T: NativeInteger + IntegerType + Drop>(alloc: Global, row: &Native<'_>) -> bool {
     for reading in row.read {
         if !is_read::<T>(alloc, *reading) {
             return false;
@@ -306,7 +306,7 @@ fn is_native<
         + TryFrom<Integer, Error = TryFromIntegerError>
         + Drop,
     U: NativeInteger,
->(alloc: Global, row: &Native, numbers: &'a [Integer]) -> bool {
+>(alloc: Global, row: &Native<'_>, numbers: &'a [Integer]) -> bool {
     has_ends::<T>(row)
         && has_width::<T>(row)
         && has_range::<T>(alloc, row)
@@ -315,7 +315,7 @@ fn is_native<
         && are_converted::<T>(row, numbers)
 }
 
-const U8: Native = Native {
+const U8: Native<'static> = Native {
     bits: 8,
     ends: [(false, 0x0), (false, 0xff)],
     octets: [&[0x0], &[0x0, 0xff]],
@@ -333,7 +333,7 @@ const U8: Native = Native {
     texts: &[],
 };
 
-const U16: Native = Native {
+const U16: Native<'static> = Native {
     bits: 16,
     ends: [(false, 0x0), (false, 0xffff)],
     octets: [&[0x0], &[0x0, 0xff, 0xff]],
@@ -345,7 +345,7 @@ const U16: Native = Native {
     texts: &[],
 };
 
-const U32: Native = Native {
+const U32: Native<'static> = Native {
     bits: 32,
     ends: [(false, 0x0), (false, 0xffffffff)],
     octets: [&[0x0], &[0x0, 0xff, 0xff, 0xff, 0xff]],
@@ -357,7 +357,7 @@ const U32: Native = Native {
     texts: &[],
 };
 
-const U64: Native = Native {
+const U64: Native<'static> = Native {
     bits: 64,
     ends: [(false, 0x0), (false, 0xffffffffffffffff)],
     octets: [
@@ -372,7 +372,7 @@ const U64: Native = Native {
     texts: &[],
 };
 
-const U128: Native = Native {
+const U128: Native<'static> = Native {
     bits: 128,
     ends: [(false, 0x0), (false, 0xffffffffffffffffffffffffffffffff)],
     octets: [
@@ -409,7 +409,7 @@ const U128: Native = Native {
     )],
 };
 
-const USIZE: Native = Native {
+const USIZE: Native<'static> = Native {
     bits: 64,
     ends: [(false, 0x0), (false, 0xffffffffffffffff)],
     octets: [
@@ -424,7 +424,7 @@ const USIZE: Native = Native {
     texts: &[],
 };
 
-const I8: Native = Native {
+const I8: Native<'static> = Native {
     bits: 8,
     ends: [(true, 0x7f), (false, 0x7f)],
     octets: [&[0x80], &[0x7f]],
@@ -445,7 +445,7 @@ const I8: Native = Native {
     texts: &[((true, 0x2), "-3 -3 false 0")],
 };
 
-const I16: Native = Native {
+const I16: Native<'static> = Native {
     bits: 16,
     ends: [(true, 0x7fff), (false, 0x7fff)],
     octets: [&[0x80, 0x0], &[0x7f, 0xff]],
@@ -457,7 +457,7 @@ const I16: Native = Native {
     texts: &[],
 };
 
-const I32: Native = Native {
+const I32: Native<'static> = Native {
     bits: 32,
     ends: [(true, 0x7fffffff), (false, 0x7fffffff)],
     octets: [&[0x80, 0x0, 0x0, 0x0], &[0x7f, 0xff, 0xff, 0xff]],
@@ -469,7 +469,7 @@ const I32: Native = Native {
     texts: &[],
 };
 
-const I64: Native = Native {
+const I64: Native<'static> = Native {
     bits: 64,
     ends: [(true, 0x7fffffffffffffff), (false, 0x7fffffffffffffff)],
     octets: [
@@ -494,7 +494,7 @@ const I64: Native = Native {
     texts: &[],
 };
 
-const I128: Native = Native {
+const I128: Native<'static> = Native {
     bits: 128,
     ends: [
         (true, 0x7fffffffffffffffffffffffffffffff),
@@ -529,7 +529,7 @@ const I128: Native = Native {
     texts: &[],
 };
 
-const ISIZE: Native = Native {
+const ISIZE: Native<'static> = Native {
     bits: 64,
     ends: [(true, 0x7fffffffffffffff), (false, 0x7fffffffffffffff)],
     octets: [

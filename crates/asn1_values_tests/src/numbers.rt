@@ -216,24 +216,26 @@ fn is_long_read(alloc: Global) -> Result<bool, AllocError> {
     }
 }
 
-/// Whether the number is refused by a type of 8 bits, and the copy of the refusal gives the number back.
-fn is_given_back(kept: Integer, number: &Integer) -> bool {
+/// Whether the number of octets that are given up is refused by a type of 8 bits, and the copy of the refusal gives the number back.
+fn is_given_back(alloc: Global, kept: Integer, octets: &[u8]) -> bool {
     match u8::try_from(kept) {
         Ok(_) => false,
         Err(refusal) => match refusal.clone() {
-            Ok(copy) => copy.into_original() == *number,
+            Ok(copy) => is_this(
+                Integer::from_signed_octets(alloc, octets),
+                &copy.into_original(),
+            ),
             Err(AllocError) => false,
         },
     }
 }
 
-/// Whether a number of twenty octets that are given up is refused by a type of 8 bits, and given back.
-fn is_given_up(alloc: Global, octet: u8) -> Result<bool, AllocError> {
-    let kept = Integer::from_fewest_octets(vec![in alloc; octet; 20]?);
-    match Integer::from_signed_octets(alloc, &[octet; 20]) {
-        Ok(number) => Ok(is_given_back(kept, &number)),
-        Err(_) => Ok(false),
-    }
+/// Whether numbers of twenty octets that are given up are so.
+fn are_given_up(alloc: Global) -> Result<bool, AllocError> {
+    let low = Integer::from_fewest_octets(vec![in alloc; 1; 20]?);
+    let is_low = is_given_back(alloc, low, &[1; 20]);
+    let high = Integer::from_fewest_octets(vec![in alloc; 0x80; 20]?);
+    Ok(is_low && is_given_back(alloc, high, &[0x80; 20]))
 }
 
 /// Whether a number of one octet is that of the octet that is given up.
@@ -273,8 +275,7 @@ fn is_greatest_read(alloc: Global) -> bool {
 fn long_and_short_integers(rt: HostRuntime) {
     let alloc = rt.alloc();
     assert!(rt; is_long_read(alloc) == Ok(true) && is_short(alloc) == Ok(true));
-    assert!(rt; is_given_up(alloc, 1) == Ok(true) && is_given_up(alloc, 0x80) == Ok(true));
-    assert!(rt; are_zero_and_one() && is_greatest_read(alloc));
+    assert!(rt; are_given_up(alloc) == Ok(true) && are_zero_and_one() && is_greatest_read(alloc));
 }
 
 /// Whether this is the sum of two numbers, of which the second is without a sign, at 128 bits.
