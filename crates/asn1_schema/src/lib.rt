@@ -41,6 +41,3 @@ pub use asn1_schema_wrapped::{
     InnerSubtypeConstraint, InnerSubtypeConstraintError, InstanceOf, Open, SequenceOf,
     UniversalString, Utf8String, tag,
 };
-
-#[cfg(test)]
-mod tests;

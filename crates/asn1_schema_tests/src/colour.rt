@@ -1,0 +1,53 @@
+//! ENUMERATED {red(0), blue(2), ..., green(1)}, which no type of the program stands under.
+ghost use Rattle.std.specs.Prelude.{◌∷◌, [], refl, pos, true, false};
+
+use asn1_schema::Enumerated;
+
+/// A colour.
+#[derive(Clone, Copy, Debug, PartialEq, Eq)]
+pub enum Colour {
+    /// Red.
+    Red,
+    /// Blue.
+    Blue,
+    /// Green, which came later.
+    Green,
+}
+
+impl Enumerated for Colour {
+    ghost use Rattle.asn1_schema_tests.specs.declared.colour.Colour.TheVariants.{Red, Blue, Green};
+
+    ghost roots = { pos 0 ∷ pos 2 ∷ [] };
+
+    ghost extensible = { true };
+
+    ghost additions = { pos 1 ∷ [] };
+
+    ghost number = { elim [ Red ↦ pos 0 | Blue ↦ pos 2 | Green ↦ pos 1 ] };
+
+    fn variants<'a>() -> &'a [Self]
+    where
+        Self: 'a,
+    {
+        &[Colour::Red, Colour::Blue]
+    }
+
+    fn extended_variants<'a>() -> Option<&'a [Self]>
+    where
+        Self: 'a,
+    {
+        Some(&[Colour::Green])
+    }
+
+    fn discriminant(&self) -> isize {
+        match self {
+            Colour::Red => 0,
+            Colour::Blue => 2,
+            Colour::Green => 1,
+        }
+    }
+
+    ghost distinct = { refl };
+
+    ghost listed = { elim [ Red ↦ (false, 0, refl) | Blue ↦ (false, 1, refl) | Green ↦ (true, 0, (refl, refl, refl)) ] };
+}

@@ -1,0 +1,314 @@
+//! The calls by the names of types, each once: strings of each type, any value, values with a tag around their own, and components that may
+//! be absent or have a default.
+ghost use Rattle.std.specs.Prelude.{refl, pos};
+ghost use Rattle.asn1_model.specs.Value.{number};
+ghost use Rattle.asn1_schema_presented.proofs.Defaults.{integer_default};
+
+use crate::common::{Wanted, decoder, encoder, is_kept};
+use asn1_schema::records::{Item, Limits, RecordDecoder};
+use asn1_schema::{
+    Any, CodecKind, Constraints, Decode, DecodeError, DecodeNamed, DecodeSequence, DefaultOf,
+    Encode, EncodeError, EncodeNamed, EncodeSequence, EqualByMeaning, Identifier, Tag,
+};
+use asn1_values_alphabets::{PermittedAlphabetError, StaticPermittedAlphabet};
+use asn1_values_numbers::Integer;
+use asn1_values_strings::{
+    GeneralString, GraphicString, Ia5String, NumericString, PrintableString, TeletexString,
+    VisibleString,
+};
+use asn1_values_strings_wide::BmpString;
+use std::alloc::{AllocError, Global};
+
+/// A type of strings with calls of its name.
+trait Named: Encode + Decode + StaticPermittedAlphabet + PartialEq {
+    /// Hands the string to an encoder by the name of its type.
+    fn write<E: EncodeNamed>(&self, encoder: &mut E) -> Result<(), EncodeError>;
+
+    /// The string that a decoder finds by the name of its type.
+    fn read<D: DecodeNamed>(alloc: Global, decoder: &mut D) -> Result<Self, DecodeError>;
+}
+
+impl Named for NumericString {
+    fn write<E: EncodeNamed>(&self, encoder: &mut E) -> Result<(), EncodeError> {
+        let (tag, identifier) = (Tag::NUMERIC_STRING, Identifier::NUMERIC_STRING);
+        encoder.encode_numeric_string(tag, Constraints::NONE, self, identifier)
+    }
+
+    fn read<D: DecodeNamed>(alloc: Global, decoder: &mut D) -> Result<Self, DecodeError> {
+        decoder.decode_numeric_string(alloc, Tag::NUMERIC_STRING, Constraints::NONE)
+    }
+}
+
+impl Named for PrintableString {
+    fn write<E: EncodeNamed>(&self, encoder: &mut E) -> Result<(), EncodeError> {
+        let (tag, identifier) = (Tag::PRINTABLE_STRING, Identifier::PRINTABLE_STRING);
+        encoder.encode_printable_string(tag, Constraints::NONE, self, identifier)
+    }
+
+    fn read<D: DecodeNamed>(alloc: Global, decoder: &mut D) -> Result<Self, DecodeError> {
+        decoder.decode_printable_string(alloc, Tag::PRINTABLE_STRING, Constraints::NONE)
+    }
+}
+
+impl Named for VisibleString {
+    fn write<E: EncodeNamed>(&self, encoder: &mut E) -> Result<(), EncodeError> {
+        let (tag, identifier) = (Tag::VISIBLE_STRING, Identifier::VISIBLE_STRING);
+        encoder.encode_visible_string(tag, Constraints::NONE, self, identifier)
+    }
+
+    fn read<D: DecodeNamed>(alloc: Global, decoder: &mut D) -> Result<Self, DecodeError> {
+        decoder.decode_visible_string(alloc, Tag::VISIBLE_STRING, Constraints::NONE)
+    }
+}
+
+impl Named for Ia5String {
+    fn write<E: EncodeNamed>(&self, encoder: &mut E) -> Result<(), EncodeError> {
+        let (tag, identifier) = (Tag::IA5_STRING, Identifier::IA5_STRING);
+        encoder.encode_ia5_string(tag, Constraints::NONE, self, identifier)
+    }
+
+    fn read<D: DecodeNamed>(alloc: Global, decoder: &mut D) -> Result<Self, DecodeError> {
+        decoder.decode_ia5_string(alloc, Tag::IA5_STRING, Constraints::NONE)
+    }
+}
+
+impl Named for GeneralString {
+    fn write<E: EncodeNamed>(&self, encoder: &mut E) -> Result<(), EncodeError> {
+        let (tag, identifier) = (Tag::GENERAL_STRING, Identifier::GENERAL_STRING);
+        encoder.encode_general_string(tag, Constraints::NONE, self, identifier)
+    }
+
+    fn read<D: DecodeNamed>(alloc: Global, decoder: &mut D) -> Result<Self, DecodeError> {
+        decoder.decode_general_string(alloc, Tag::GENERAL_STRING, Constraints::NONE)
+    }
+}
+
+impl Named for GraphicString {
+    fn write<E: EncodeNamed>(&self, encoder: &mut E) -> Result<(), EncodeError> {
+        let (tag, identifier) = (Tag::GRAPHIC_STRING, Identifier::GRAPHIC_STRING);
+        encoder.encode_graphic_string(tag, Constraints::NONE, self, identifier)
+    }
+
+    fn read<D: DecodeNamed>(alloc: Global, decoder: &mut D) -> Result<Self, DecodeError> {
+        decoder.decode_graphic_string(alloc, Tag::GRAPHIC_STRING, Constraints::NONE)
+    }
+}
+
+impl Named for TeletexString {
+    fn write<E: EncodeNamed>(&self, encoder: &mut E) -> Result<(), EncodeError> {
+        let (tag, identifier) = (Tag::TELETEX_STRING, Identifier::TELETEX_STRING);
+        encoder.encode_teletex_string(tag, Constraints::NONE, self, identifier)
+    }
+
+    fn read<D: DecodeNamed>(alloc: Global, decoder: &mut D) -> Result<Self, DecodeError> {
+        decoder.decode_teletex_string(alloc, Tag::TELETEX_STRING, Constraints::NONE)
+    }
+}
+
+impl Named for BmpString {
+    fn write<E: EncodeNamed>(&self, encoder: &mut E) -> Result<(), EncodeError> {
+        let (tag, identifier) = (Tag::BMP_STRING, Identifier::BMP_STRING);
+        encoder.encode_bmp_string(tag, Constraints::NONE, self, identifier)
+    }
+
+    fn read<D: DecodeNamed>(alloc: Global, decoder: &mut D) -> Result<Self, DecodeError> {
+        decoder.decode_bmp_string(alloc, Tag::BMP_STRING, Constraints::NONE)
+    }
+}
+
+/// The string of these characters, which its type permits.
+fn string_of<S: StaticPermittedAlphabet>(
+    alloc: Global,
+    characters: &[u32],
+) -> Result<S, PermittedAlphabetError> {
+    let mut string = S::empty(alloc);
+    for character in characters {
+        string.push_char(*character)?;
+    }
+    Ok(string)
+}
+
+/// Whether a string is read by the name of its type as it is written by it.
+fn is_read_by_name<S: Named>(alloc: Global, string: &S) -> bool {
+    let mut kept = encoder(alloc);
+    if string.write(&mut kept).is_err() {
+        return false;
+    }
+    match S::read(alloc, &mut decoder(kept)) {
+        Ok(read) => read == *string,
+        Err(_) => false,
+    }
+}
+
+/// Whether the string of these characters is written and read back, and another one by the name of the type.
+fn is_string<S: Named>(
+    alloc: Global,
+    characters: &'static [u32],
+    named: &[u32],
+) -> Result<bool, PermittedAlphabetError> {
+    let string: S = string_of(alloc, characters)?;
+    let other: S = string_of(alloc, named)?;
+    Ok(is_kept(alloc, &string, &[Wanted::Characters(characters)]) && is_read_by_name(alloc, &other))
+}
+
+/// Whether strings of each type are written and read back, and by their names.
+fn are_strings(alloc: Global) -> Result<bool, PermittedAlphabetError> {
+    Ok(
+        is_string::<NumericString>(alloc, &[0x31, 0x20, 0x32], &[0x31, 0x20, 0x32])?
+            && is_string::<PrintableString>(alloc, &[0x41, 0x3A], &[0x41, 0x3A])?
+            && is_string::<VisibleString>(alloc, &[0x7E, 0x20], &[0x7E, 0x20, 0x61])?
+            && is_string::<Ia5String>(alloc, &[0x00, 0x7F], &[0x61, 0x40])?
+            && is_string::<GeneralString>(alloc, &[0xFF, 0x1B], &[0x61, 0x62])?
+            && is_string::<GraphicString>(alloc, &[0xFF, 0x1B], &[0x61, 0x62])?
+            && is_string::<TeletexString>(alloc, &[0xFF, 0x1B], &[0x61, 0x62])?
+            && is_string::<BmpString>(alloc, &[0x20AC, 0x41], &[0x20AC, 0x61])?,
+    )
+}
+
+/// Hands any value to an encoder, and a number with this tag around its own.
+fn write_any<E: EncodeNamed>(encoder: &mut E, any: &Any, tag: Tag) -> Result<(), EncodeError> {
+    encoder.encode_any(Tag::OCTET_STRING, any, Identifier::OCTET_STRING)?;
+    encoder.encode_explicit_prefix(tag, &7_u8, Identifier::INTEGER)
+}
+
+/// Whether a decoder finds this value of any type, and the number with this tag around its own.
+fn is_any<D: DecodeNamed>(
+    alloc: Global,
+    decoder: &mut D,
+    any: &Any,
+    tag: Tag,
+) -> Result<bool, DecodeError> {
+    let is_same = decoder.decode_any(alloc, Tag::OCTET_STRING)? == *any;
+    let number: u8 = decoder.decode_explicit_prefix(alloc, tag)?;
+    Ok(is_same && number == 7)
+}
+
+/// Whether these are read as they are written.
+fn is_any_kept(alloc: Global) -> Result<bool, DecodeError> {
+    let tag = Tag::new_context(0);
+    let any = Any::new(Vec::from_array(alloc, [5, 0])?);
+    let mut kept = encoder(alloc);
+    Ok(write_any(&mut kept, &any, tag) == Ok(()) && is_any(alloc, &mut decoder(kept), &any, tag)?)
+}
+
+/// Hands components that may be absent to an encoder: 1, 2, none and 4.
+fn write_optional<E: EncodeSequence>(encoder: &mut E, tag: Tag) -> Result<(), EncodeError> {
+    encoder.encode_some_with_tag(tag, &1_u8)?;
+    encoder.encode_some_with_tag_and_constraints(tag, &2_u8, Constraints::NONE)?;
+    encoder.encode_none_with_tag::<u8>(tag)?;
+    encoder.encode_some(&4_u8)
+}
+
+/// The components that a decoder finds: with a tag, with a tag and constraints, with constraints, and with a tag around its own.
+fn optional<D: DecodeSequence>(
+    alloc: Global,
+    decoder: &mut D,
+    tag: Tag,
+) -> Result<[Option<u8>; 4], DecodeError> {
+    let under = Constraints::NONE;
+    Ok([
+        decoder.decode_optional_with_tag(alloc, tag)?,
+        decoder.decode_optional_with_tag_and_constraints(alloc, tag, under)?,
+        decoder.decode_optional_with_constraints(alloc, under)?,
+        decoder.decode_optional_with_explicit_prefix(alloc, tag)?,
+    ])
+}
+
+/// Whether these are read as they are written.
+fn are_optional_kept(alloc: Global) -> bool {
+    let tag = Tag::new_context(1);
+    let mut kept = encoder(alloc);
+    write_optional(&mut kept, tag) == Ok(())
+        && optional(alloc, &mut decoder(kept), tag) == Ok([Some(1), Some(2), None, Some(4)])
+}
+
+/// The default 0.
+struct Zero;
+
+impl DefaultOf<Integer> for Zero {
+    ghost value = { number (pos 0) };
+
+    fn default_value(_alloc: Global) -> Result<Integer, AllocError> {
+        Ok(Integer::zero())
+    }
+
+    fn is_default(component: &Integer) -> bool {
+        component.means_same(&Integer::zero())
+    }
+
+    ghost lawful = { integer_default _ _ _ refl };
+}
+
+/// Hands components with the default 0 to an encoder: the first number, and the second twice.
+fn write_defaults<E: EncodeSequence>(
+    encoder: &mut E,
+    tag: Tag,
+    (first, second): (&Integer, &Integer),
+) -> Result<(), EncodeError> {
+    let under = Constraints::NONE;
+    encoder.encode_default_with_tag::<Zero, Integer>(tag, first)?;
+    encoder.encode_default_with_constraints::<Zero, Integer>(second, under)?;
+    encoder.encode_default_with_tag_and_constraints::<Zero, Integer>(tag, second, under)
+}
+
+/// Whether a decoder finds these numbers in such components.
+fn are_defaults<D: DecodeSequence>(
+    alloc: Global,
+    decoder: &mut D,
+    tag: Tag,
+    (first, second): (&Integer, &Integer),
+) -> Result<bool, DecodeError> {
+    let under = Constraints::NONE;
+    let is_first = decoder.decode_default_with_tag::<Zero, Integer>(alloc, tag)? == *first;
+    let is_second = decoder.decode_default_with_constraints::<Zero, Integer>(alloc, under)?
+        == *second;
+    let third = decoder.decode_default_with_tag_and_constraints::<Zero, Integer>(
+        alloc, tag, under,
+    )?;
+    Ok(is_first && is_second && third == *second)
+}
+
+/// Whether 0 and 5 are read from such components as they are written.
+fn are_defaults_kept(alloc: Global) -> bool {
+    let tag = Tag::new_context(1);
+    let (zero, five) = (Integer::zero(), Integer::from(5_i64));
+    let mut kept = encoder(alloc);
+    write_defaults(&mut kept, tag, (&zero, &five)) == Ok(())
+        && are_defaults(alloc, &mut decoder(kept), tag, (&zero, &five)) == Ok(true)
+}
+
+/// Puts the items of a default that is spelled out, with or without a note behind it.
+fn push_spelled_out(items: &mut Vec<Item>, is_noted: bool) -> Result<(), DecodeError> {
+    let limits = Limits {
+        low: None,
+        high: None,
+        extensible: false,
+    };
+    items.push(Item::Mark(true))?;
+    items.push(Item::Integer(limits, Integer::zero()))?;
+    if is_noted {
+        items.push(Item::IsDefault)?;
+    }
+    Ok(())
+}
+
+/// What a decoder finds in a component with the default 0.
+fn with_default<D: DecodeSequence>(alloc: Global, decoder: &mut D) -> Result<Integer, DecodeError> {
+    decoder.decode_default::<Zero, Integer>(alloc)
+}
+
+/// What is read of a default that is spelled out, with or without a note behind it.
+fn spelled_out(alloc: Global, is_noted: bool) -> Result<Integer, DecodeError> {
+    let mut items = Vec::new(alloc);
+    push_spelled_out(&mut items, is_noted)?;
+    with_default(alloc, &mut RecordDecoder::new(items, CodecKind::Uper))
+}
+
+#[test]
+fn calls_by_names(rt: HostRuntime) {
+    let alloc = rt.alloc();
+    assert!(rt; matches!(are_strings(alloc), Ok(true)) && is_any_kept(alloc) == Ok(true));
+    assert!(rt; are_optional_kept(alloc) && are_defaults_kept(alloc));
+    assert!(rt; spelled_out(alloc, true) == Ok(Integer::zero()));
+    assert!(rt; spelled_out(alloc, false) == Err(DecodeError::Incomplete));
+}

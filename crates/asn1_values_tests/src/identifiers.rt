@@ -1,0 +1,172 @@
+//! Object identifiers: rows of octets, what is shown, and what is answered when memory is refused.
+use crate::common::{has, has_copy, hash_of, is_before, is_of, is_refused, is_told};
+use asn1_values::{IdentifierError, ObjectIdentifier, Oid, oid_from_octets, oid_octets};
+use std::alloc::{AllocError, Global};
+use std::borrow::CowSlice;
+use std::process::Abort;
+
+/// Arcs, and their octets.
+const WRITTEN: [(&'static [u32], &'static [u8]); 5] = [
+    (&[2, 999], &[0x88, 0x37]),
+    (&[2, 4294967295], &[0x90, 0x80, 0x80, 0x80, 0x4F]),
+    (&[1, 2, 3321], &[0x2A, 0x99, 0x79]),
+    (&[0, 0], &[0x00]),
+    (&[1, 39, 0], &[0x4F, 0x00]),
+];
+
+/// Octets that are no identifier, and why.
+const FAULTS: [(&'static [u8], IdentifierError); 8] = [
+    (
+        &[0x90, 0x80, 0x80, 0x80, 0x50],
+        IdentifierError::ArcTooLarge,
+    ),
+    (&[0x80, 0x01], IdentifierError::Padded),
+    (&[0x2A, 0x80, 0x01], IdentifierError::Padded),
+    (&[0x81], IdentifierError::Truncated),
+    (&[], IdentifierError::Truncated),
+    (
+        &[0x2A, 0x90, 0x80, 0x80, 0x80, 0x00],
+        IdentifierError::ArcTooLarge,
+    ),
+    (
+        &[0x2A, 0x90, 0x80, 0x80, 0x80, 0x80],
+        IdentifierError::Truncated,
+    ),
+    (
+        &[0x2A, 0x90, 0x80, 0x80, 0x80, 0x00, 0x80],
+        IdentifierError::ArcTooLarge,
+    ),
+];
+
+/// Arcs, and whether they are those of an identifier.
+const JUDGED: [(&'static [u32], bool); 8] = [
+    (&[], false),
+    (&[2], true),
+    (&[3], false),
+    (&[0, 39], true),
+    (&[1, 40], false),
+    (&[2, 40], true),
+    (&[3, 1], false),
+    (&[1, 39, 4294967295], true),
+];
+
+/// Whether the arcs are written as these octets, which are read as these arcs.
+fn are_written_and_read(alloc: Global, arcs: &[u32], octets: &[u8]) -> bool {
+    match Oid::new(arcs) {
+        Some(oid) => {
+            is_of(oid_octets(alloc, &oid), octets) && is_of(oid_from_octets(alloc, octets), arcs)
+        }
+        None => false,
+    }
+}
+
+/// Whether an identifier of one arc is valid, and has no octets.
+fn one_arc_is_not_written(alloc: Global) -> bool {
+    match Oid::new(&[2]) {
+        Some(lone) => is_refused(oid_octets(alloc, &lone), &IdentifierError::Truncated),
+        None => false,
+    }
+}
+
+/// Whether the arcs are those of an identifier, lent or kept, or those of neither, as is wanted.
+fn are_judged(arcs: &'static [u32], wanted: bool) -> bool {
+    Oid::new(arcs).is_some() == wanted && ObjectIdentifier::new(arcs.into()).is_some() == wanted
+}
+
+#[test]
+fn identifiers_are_written_and_read(rt: HostRuntime) {
+    let alloc = rt.alloc();
+    for (arcs, octets) in &WRITTEN {
+        assert!(rt; are_written_and_read(alloc, arcs, octets), "of {arcs:?}");
+    }
+    for (octets, wanted) in &FAULTS {
+        assert!(rt;
+            is_refused(oid_from_octets(alloc, octets), wanted),
+            "of {octets:?}"
+        );
+    }
+    assert!(rt; one_arc_is_not_written(alloc));
+    for (arcs, wanted) in &JUDGED {
+        assert!(rt; are_judged(arcs, *wanted), "of {arcs:?}");
+    }
+}
+
+/// Whether an identifier that is lent and its copy that is kept are the same, with the same three arcs.
+fn are_the_same(first: &Oid<'_>, kept: &ObjectIdentifier) -> bool {
+    kept.as_oid() == *first
+        && has(first, &[1, 2, 3321])
+        && has(kept, &[1, 2, 3321])
+        && first.len() == 3
+        && has_copy(first)
+        && has_copy(kept)
+        && hash_of(first) == hash_of(kept)
+}
+
+/// Whether the same identifier, lent and kept, is before one whose last arc is greater, and both are shown.
+fn are_in_order(alloc: Global, kept: &ObjectIdentifier) -> bool {
+    let first = Oid::new_unchecked(&[1, 2, 3321]);
+    let other = ObjectIdentifier::new_unchecked(CowSlice::Borrowed(&[1, 2, 3322]));
+    is_before(kept, &other)
+        && is_before(&first, &other.as_oid())
+        && is_told(alloc, &first, "1.2.3321")
+        && is_told(alloc, kept, "1.2.3321")
+}
+
+/// What each fault tells.
+const TOLD: [(IdentifierError, &'static str); 4] = [
+    (IdentifierError::Truncated, "the identifier is truncated"),
+    (IdentifierError::Padded, "a subidentifier is padded"),
+    (IdentifierError::ArcTooLarge, "an arc is too large"),
+    (IdentifierError::Memory, "out of memory"),
+];
+
+#[test]
+fn identifiers_are_shown_and_compared(rt: HostRuntime) {
+    let alloc = rt.alloc();
+    let first = Oid::new_unchecked(&[1, 2, 3321]);
+    match ObjectIdentifier::from_oid(alloc, &first) {
+        Ok(kept) => {
+            assert!(rt; kept[2] == 3321);
+            assert!(rt; are_the_same(&first, &kept) && are_in_order(alloc, &kept));
+        }
+        Err(_) => assert!(rt; false),
+    }
+    for (error, text) in &TOLD {
+        assert!(rt; is_told(alloc, error, text), "of {text}");
+    }
+}
+
+/// Whether the identifier is written as these octets.
+fn is_written(alloc: Global, oid: &Oid<'_>, octets: &[u8]) -> Result<bool, IdentifierError> {
+    let written = oid_octets(alloc, oid)?;
+    Ok(has(&written, octets))
+}
+
+/// Whether the octets are read as an identifier of these arcs.
+fn is_read(alloc: Global, octets: &[u8], arcs: &[u32]) -> Result<bool, IdentifierError> {
+    let read = oid_from_octets(alloc, octets)?;
+    Ok(has(&read, arcs))
+}
+
+/// Whether an identifier that is kept, and then copied, is the same.
+fn is_kept_and_copied(alloc: Global, oid: &Oid<'_>) -> Result<bool, IdentifierError> {
+    let kept = ObjectIdentifier::from_oid(alloc, oid)?;
+    let copy = kept.clone()?;
+    Ok(copy.as_oid() == *oid)
+}
+
+/// Whether a call was granted its memory: then what it made is whole, and else it wants memory.
+fn is_granted(rt: &impl Abort, answer: Result<bool, IdentifierError>) -> bool {
+    assert!(rt; answer == Ok(true) || answer == Err(IdentifierError::Memory));
+    answer.is_ok()
+}
+
+/// Writes an identifier, reads it and copies it: each answer is this one, or wants memory. Whether none was refused.
+pub fn requests(rt: &impl Abort, alloc: Global) -> bool {
+    let octets = [0x90, 0x80, 0x80, 0x80, 0x4F, 0x99, 0x79];
+    let oid = Oid::new_unchecked(&[2, 4294967295, 3321]);
+    let written = is_granted(rt, is_written(alloc, &oid, &octets));
+    let read = is_granted(rt, is_read(alloc, &octets, oid.as_slice()));
+    let kept = is_granted(rt, is_kept_and_copied(alloc, &oid));
+    written && read && kept
+}

@@ -1,0 +1,425 @@
+//! Whole numbers of any size: their ends, texts, sums and conversions, those within a range, and what is answered when memory is refused.
+use crate::common::{has, has_copy, hash_of, is_before, is_copied, is_refused, is_shown, is_told};
+use crate::natives::has_octets;
+use asn1_values::{Integer, IntegerError, IntegerType, TryFromIntegerError};
+use asn1_values_constrained::ConstrainedInteger;
+use std::alloc::{AllocError, Global};
+use std::process::Abort;
+
+const GREATEST_UNSIGNED: [u8; 17] = [
+    0, 0xff, 0xff, 0xff, 0xff, 0xff, 0xff, 0xff, 0xff, 0xff, 0xff, 0xff, 0xff, 0xff, 0xff, 0xff,
+    0xff,
+];
+
+/// Octets, and the text of their number.
+const TEXTS: [(&'static [u8], &'static str); 9] = [
+    (&[0], "0"),
+    (&[0, 0x80], "128"),
+    (&[0x80], "-128"),
+    (
+        &[0x80, 0, 0, 0, 0, 0, 0, 0, 0, 0, 0, 0, 0, 0, 0, 0],
+        "-170141183460469231731687303715884105728",
+    ),
+    (
+        &[
+            0x7f, 0xff, 0xff, 0xff, 0xff, 0xff, 0xff, 0xff, 0xff, 0xff, 0xff, 0xff, 0xff, 0xff,
+            0xff, 0xff,
+        ],
+        "170141183460469231731687303715884105727",
+    ),
+    (
+        &[0, 0x80, 0, 0, 0, 0, 0, 0, 0, 0, 0, 0, 0, 0, 0, 0, 0],
+        "0x0080000000000000000000000000000000",
+    ),
+    (
+        &[
+            0xff, 0x7f, 0xff, 0xff, 0xff, 0xff, 0xff, 0xff, 0xff, 0xff, 0xff, 0xff, 0xff, 0xff,
+            0xff, 0xff, 0xff,
+        ],
+        "0xff7fffffffffffffffffffffffffffffff",
+    ),
+    (
+        &[
+            0, 0xff, 0xff, 0xff, 0xff, 0xff, 0xff, 0xff, 0xff, 0xff, 0xff, 0xff, 0xff, 0xff, 0xff,
+            0xff, 0xff,
+        ],
+        "0x00ffffffffffffffffffffffffffffffff",
+    ),
+    (
+        &[1, 0, 0, 0, 0, 0, 0, 0, 0, 0, 0, 0, 0, 0, 0, 0, 0],
+        "0x0100000000000000000000000000000000",
+    ),
+];
+
+/// Octets of numbers, each less than the next.
+const ASCENDING: [&'static [u8]; 9] = [
+    &[0xfe, 0, 0, 0, 0, 0, 0, 0, 0, 0, 0, 0, 0, 0, 0, 0, 0, 0],
+    &[
+        0xff, 0x7f, 0xff, 0xff, 0xff, 0xff, 0xff, 0xff, 0xff, 0xff, 0xff, 0xff, 0xff, 0xff, 0xff,
+        0xff, 0xff,
+    ],
+    &[0x80, 0, 0, 0, 0, 0, 0, 0, 0, 0, 0, 0, 0, 0, 0, 0],
+    &[0xff],
+    &[0],
+    &[
+        0x7f, 0xff, 0xff, 0xff, 0xff, 0xff, 0xff, 0xff, 0xff, 0xff, 0xff, 0xff, 0xff, 0xff, 0xff,
+        0xff,
+    ],
+    &[0, 0x80, 0, 0, 0, 0, 0, 0, 0, 0, 0, 0, 0, 0, 0, 0, 0],
+    &[
+        0, 0xff, 0xff, 0xff, 0xff, 0xff, 0xff, 0xff, 0xff, 0xff, 0xff, 0xff, 0xff, 0xff, 0xff,
+        0xff, 0xff,
+    ],
+    &[1, 0, 0, 0, 0, 0, 0, 0, 0, 0, 0, 0, 0, 0, 0, 0, 0],
+];
+
+/// Octets of numbers without a sign, and the fewest of each.
+const PLAIN: [(&'static [u8], &'static [u8]); 5] = [
+    (&[1; 20], &[1; 20]),
+    (&[0x80; 20], &[0x80; 20]),
+    (
+        &[
+            0x7f, 0xff, 0xff, 0xff, 0xff, 0xff, 0xff, 0xff, 0xff, 0xff, 0xff, 0xff, 0xff, 0xff,
+            0xff, 0xff,
+        ],
+        &[
+            0x7f, 0xff, 0xff, 0xff, 0xff, 0xff, 0xff, 0xff, 0xff, 0xff, 0xff, 0xff, 0xff, 0xff,
+            0xff, 0xff,
+        ],
+    ),
+    (
+        &[1, 0, 0, 0, 0, 0, 0, 0, 0, 0, 0, 0, 0, 0, 0, 0, 0],
+        &[1, 0, 0, 0, 0, 0, 0, 0, 0, 0, 0, 0, 0, 0, 0, 0, 0],
+    ),
+    (
+        &[
+            0, 0xff, 0xff, 0xff, 0xff, 0xff, 0xff, 0xff, 0xff, 0xff, 0xff, 0xff, 0xff, 0xff, 0xff,
+            0xff, 0xff,
+        ],
+        &[0xff; 16],
+    ),
+];
+
+/// Whether the octets are those of a number of this text, read in each way, and copied.
+fn is_number(alloc: Global, octets: &[u8], text: &str) -> bool {
+    match Integer::from_signed_octets(alloc, octets) {
+        Ok(number) => {
+            has_octets(&number, octets) && is_told(alloc, &number, text) && has_copy(&number)
+        }
+        Err(_) => false,
+    }
+}
+
+/// Whether a number was read that has these octets without a sign.
+fn is_plain(answer: Result<Integer, IntegerError>, octets: &[u8]) -> bool {
+    match answer {
+        Ok(number) => has(&number.to_unsigned_bytes_be(), octets),
+        Err(_) => false,
+    }
+}
+
+/// Whether a number was read that has these octets, and is copied.
+fn is_whole(answer: Result<Integer, IntegerError>, octets: &[u8]) -> bool {
+    match answer {
+        Ok(number) => has_octets(&number, octets) && has_copy(&number),
+        Err(_) => false,
+    }
+}
+
+/// Whether the number was read, or this reason was given.
+fn is_this(answer: Result<Integer, IntegerError>, wanted: &Integer) -> bool {
+    match answer {
+        Ok(number) => number == *wanted,
+        Err(_) => false,
+    }
+}
+
+/// Whether the number of these octets is less than that of the others.
+fn are_ordered(alloc: Global, first: &[u8], second: &[u8]) -> bool {
+    match Integer::from_signed_octets(alloc, first) {
+        Ok(less) => match Integer::from_signed_octets(alloc, second) {
+            Ok(greater) => is_before(&less, &greater),
+            Err(_) => false,
+        },
+        Err(_) => false,
+    }
+}
+
+/// Whether no octets are no number, and octets that only repeat the sign are taken, and not kept.
+fn fewest_are_kept(alloc: Global) -> bool {
+    is_refused(
+        Integer::from_signed_octets(alloc, &[]),
+        &IntegerError::Empty,
+    ) && is_this(
+        Integer::from_signed_octets(alloc, &[0xff, 0xff, 0xff, 0x7f]),
+        &Integer::from(-129i16),
+    )
+}
+
+/// Whether the octets of twenty are read in each way, as numbers that have them.
+fn are_read(alloc: Global, octets: &[u8]) -> bool {
+    is_whole(Integer::try_from_bytes(alloc, octets), octets)
+        && is_whole(Integer::try_from_signed_bytes(alloc, octets), octets)
+        && is_whole(Integer::from_signed_octets(alloc, octets), octets)
+}
+
+#[test]
+fn integers_of_any_size(rt: HostRuntime) {
+    let alloc = rt.alloc();
+    for (octets, text) in &TEXTS {
+        assert!(rt; is_number(alloc, octets, text), "of {text}");
+    }
+    for (octets, fewest) in &PLAIN {
+        assert!(rt;
+            is_plain(Integer::from_unsigned_octets(alloc, octets), fewest)
+                && is_plain(Integer::try_from_unsigned_bytes(alloc, octets), fewest)
+        );
+    }
+    let mut last: &[u8] = &[];
+    for octets in &ASCENDING {
+        assert!(rt;
+            last.is_empty() || are_ordered(alloc, last, octets),
+            "of {octets:?}"
+        );
+        last = octets;
+    }
+    assert!(rt; fewest_are_kept(alloc));
+    assert!(rt; are_read(alloc, &[1; 20]) && are_read(alloc, &[0x80; 20]));
+}
+
+/// The octets of 256 to the 127, less 1.
+fn long_octets(alloc: Global) -> Result<Vec<u8>, AllocError> {
+    let mut octets = vec![in alloc; 0xff; 128]?;
+    if let Some(first) = octets.first_mut() {
+        *first = 0;
+    }
+    Ok(octets)
+}
+
+/// Whether that number has its octets, and is greater than each number of 128 bits.
+fn is_long(number: &Integer, octets: &[u8]) -> bool {
+    has(&number.to_signed_bytes_be(), octets)
+        && number.to_unsigned_bytes_be().len() == 127
+        && number.to_i128().is_none()
+        && *number > Integer::from(u128::MAX)
+        && !number.is_negative()
+        && number.checked_add(&Integer::ONE).is_none()
+        && has_copy(number)
+}
+
+/// Whether that number is read.
+fn is_long_read(alloc: Global) -> Result<bool, AllocError> {
+    let octets = long_octets(alloc)?;
+    match Integer::from_signed_octets(alloc, &octets) {
+        Ok(number) => Ok(is_long(&number, &octets)),
+        Err(_) => Ok(false),
+    }
+}
+
+/// Whether the number of octets that are given up is refused by a type of 8 bits, and the copy of the refusal gives the number back.
+fn is_given_back(alloc: Global, kept: Integer, octets: &[u8]) -> bool {
+    match u8::try_from(kept) {
+        Ok(_) => false,
+        Err(refusal) => match refusal.clone() {
+            Ok(copy) => is_this(
+                Integer::from_signed_octets(alloc, octets),
+                &copy.into_original(),
+            ),
+            Err(AllocError) => false,
+        },
+    }
+}
+
+/// Whether numbers of twenty octets that are given up are so.
+fn are_given_up(alloc: Global) -> Result<bool, AllocError> {
+    let low = Integer::from_fewest_octets(vec![in alloc; 1; 20]?);
+    let is_low = is_given_back(alloc, low, &[1; 20]);
+    let high = Integer::from_fewest_octets(vec![in alloc; 0x80; 20]?);
+    Ok(is_low && is_given_back(alloc, high, &[0x80; 20]))
+}
+
+/// Whether a number of one octet is that of the octet that is given up.
+fn is_short(alloc: Global) -> Result<bool, AllocError> {
+    let short = Integer::from_fewest_octets(vec![in alloc; 0x80; 1]?);
+    Ok(short == Integer::from(-128i16))
+}
+
+/// Whether zero and one are such, by each name.
+fn are_zero_and_one() -> bool {
+    Integer::default() == Integer::ZERO
+        && Integer::zero() == Integer::ZERO
+        && Integer::one() == Integer::ONE
+        && Integer::ONE > Integer::ZERO
+        && Integer::ZERO.is_signed()
+        && <Integer as IntegerType>::WIDTH == u32::MAX
+}
+
+/// Whether a number that is read is the same number that is made, and has its hash.
+fn is_greatest(answer: Result<Integer, IntegerError>) -> bool {
+    let made = Integer::from(u128::MAX);
+    match answer {
+        Ok(read) => read == made && hash_of(&read) == hash_of(&made) && has_copy(&read),
+        Err(_) => false,
+    }
+}
+
+/// Whether the greatest number of 128 bits is read, with a sign and without one, and is no number of 128 bits with a sign.
+fn is_greatest_read(alloc: Global) -> bool {
+    is_greatest(Integer::from_signed_octets(alloc, &GREATEST_UNSIGNED))
+        && is_greatest(Integer::from_unsigned_octets(alloc, &GREATEST_UNSIGNED))
+        && IntegerType::to_i128(&Integer::from(u128::MAX)).is_none()
+        && IntegerType::to_i128(&Integer::from_i128(i128::MIN)) == Some(i128::MIN)
+}
+
+#[test]
+fn long_and_short_integers(rt: HostRuntime) {
+    let alloc = rt.alloc();
+    assert!(rt; is_long_read(alloc) == Ok(true) && is_short(alloc) == Ok(true));
+    assert!(rt; are_given_up(alloc) == Ok(true) && are_zero_and_one() && is_greatest_read(alloc));
+}
+
+/// Whether this is the sum of two numbers, of which the second is without a sign, at 128 bits.
+fn is_wrapped(number: Integer, other: Integer, wanted: &Integer) -> bool {
+    IntegerType::wrapping_unsigned_add(number, other) == *wanted
+}
+
+fn is_minus_one(answer: Option<Integer>) -> bool {
+    match answer {
+        Some(number) => number == Integer::from(-1i8),
+        None => false,
+    }
+}
+
+/// Whether sums and differences outside 128 bits are none, or wrap.
+fn have_ends() -> bool {
+    let least = Integer::from_i128(i128::MIN);
+    let greatest = Integer::from_i128(i128::MAX);
+    greatest.checked_add(&Integer::ONE).is_none()
+        && least.checked_sub(&Integer::ONE).is_none()
+        && is_minus_one(greatest.checked_add(&least))
+        && is_minus_one(Integer::ZERO.checked_sub(&Integer::ONE))
+        && is_wrapped(greatest, Integer::ONE, &least)
+        && is_wrapped(
+            Integer::from(u128::MAX),
+            Integer::from(3u8),
+            &Integer::from(2u8),
+        )
+}
+
+/// Whether numbers are those of 64 bits, where these have room, and of 128.
+fn words_are_exact() -> bool {
+    Integer::from(-1i8).to_i64() == Some(-1)
+        && Integer::from(-1i8).to_u64().is_none()
+        && Integer::from(u64::MAX).to_u64() == Some(u64::MAX)
+        && Integer::from(u64::MAX).to_i64().is_none()
+        && <Integer as IntegerType>::from_i128(i128::MIN) == Some(Integer::from_i128(i128::MIN))
+}
+
+/// Whether the refusal to convert 256 to a type of 8 bits is shown, copied and gives the number back.
+fn is_refusal_of_256(alloc: Global, refusal: TryFromIntegerError) -> bool {
+    is_told(alloc, &refusal, "256 is outside the range of its type")
+        && is_shown(
+            alloc,
+            &refusal,
+            "TryFromIntegerError { original: Integer { kind: Primitive(256) } }",
+        )
+        && is_copied(&refusal) == Ok(true)
+        && refusal != TryFromIntegerError::new(255)
+        && refusal.into_original() == Integer::from(256u16)
+}
+
+/// Whether 256 is refused so.
+fn is_256_refused(alloc: Global) -> bool {
+    match u8::try_from(Integer::from(256u16)) {
+        Ok(_) => false,
+        Err(refusal) => is_refusal_of_256(alloc, refusal),
+    }
+}
+
+/// What each reason tells.
+const REASONS: [(IntegerError, &'static str); 3] = [
+    (IntegerError::Empty, "no octets"),
+    (
+        IntegerError::Overflow,
+        "the number is outside the range of its type",
+    ),
+    (IntegerError::Memory, "out of memory"),
+];
+
+#[test]
+fn sums_and_conversions(rt: HostRuntime) {
+    let alloc = rt.alloc();
+    assert!(rt; have_ends() && words_are_exact() && is_256_refused(alloc));
+    for (reason, text) in &REASONS {
+        assert!(rt; is_told(alloc, reason, text), "of {text}");
+    }
+    assert!(rt; is_shown(alloc, &IntegerError::Overflow, "Overflow"));
+}
+
+const LEAST: i64 = -5;
+
+type Small = ConstrainedInteger<LEAST, 5>;
+
+/// Whether numbers within a range are in order, and copied, and those beside it are none of it.
+fn are_within(least: &Small, greatest: &Small) -> bool {
+    greatest.to_i64() == Some(5)
+        && is_before(least, greatest)
+        && has_copy(least)
+        && has_copy(greatest)
+        && Small::try_from(-5i64).is_ok()
+        && Small::try_from(6isize).is_err()
+        && Small::try_from(-6i128).is_err()
+}
+
+#[test]
+fn constrained_integers(rt: HostRuntime) {
+    match (Small::try_from(-5i32), Small::try_from(5isize)) {
+        (Ok(least), Ok(greatest)) => assert!(rt; are_within(&least, &greatest)),
+        _ => assert!(rt; false),
+    }
+}
+
+/// Whether the refusal to convert the number to a type of 8 bits is copied, where there is memory for a copy.
+fn is_copied_in_refusal(number: Integer) -> bool {
+    match u8::try_from(number) {
+        Ok(_) => false,
+        Err(refusal) => is_copied(&refusal).unwrap_or(true),
+    }
+}
+
+/// Either the number of the octets was read, which is then copied alone and in a refusal, or memory is wanting, and nothing else. Whether
+/// it was not refused.
+fn is_read_or_refused(
+    rt: &impl Abort,
+    answer: Result<Integer, IntegerError>,
+    octets: &[u8],
+) -> bool {
+    let (is_granted, is_right) = match answer {
+        Ok(number) => {
+            let is_same = is_copied(&number).unwrap_or(true);
+            let is_read = has(&number.to_unsigned_bytes_be(), octets);
+            (true, is_copied_in_refusal(number) && is_read && is_same)
+        }
+        Err(error) => (false, error == IntegerError::Memory),
+    };
+    assert!(rt; is_right);
+    is_granted
+}
+
+/// Reads numbers of twenty octets in each way: each is whole, or memory is wanting. Whether none was refused. What takes no memory is
+/// always read.
+pub fn requests(rt: &impl Abort, alloc: Global) -> bool {
+    let octets = [1; 20];
+    let own = is_read_or_refused(rt, Integer::try_from_bytes(alloc, &octets), &octets);
+    let signed = is_read_or_refused(rt, Integer::try_from_signed_bytes(alloc, &octets), &octets);
+    let plain = is_read_or_refused(
+        rt,
+        Integer::try_from_unsigned_bytes(alloc, &octets),
+        &octets,
+    );
+    let whole = is_read_or_refused(rt, Integer::from_signed_octets(alloc, &octets), &octets);
+    let octets = [0x80; 20];
+    let natural = is_read_or_refused(rt, Integer::from_unsigned_octets(alloc, &octets), &octets);
+    assert!(rt; is_greatest_read(alloc));
+    own && signed && plain && whole && natural
+}

@@ -1,0 +1,266 @@
+//! Octets: that each call can succeed, what is shown, and what is answered when memory is refused.
+ghost use Rattle.std.specs.Prelude.{◌≡◌, slice_set};
+
+use crate::common::{has, hash_of, is_before, is_granted, is_of, is_refused, is_shown, is_told};
+use asn1_values::{FixedOctetString, OctetString, WrongLength};
+use bytes::Bytes;
+use std::alloc::{AllocError, Global};
+use std::cmp::Ordering;
+use std::process::Abort;
+
+const OCTETS: [u8; 3] = [0xFF, 0x00, 0x61];
+
+/// A string of these octets that takes no memory.
+fn lent() -> OctetString {
+    OctetString::from_static(&[0xFF, 0x00, 0x61])
+}
+
+/// A vector of these octets.
+fn vector(alloc: Global) -> Result<Vec<u8>, AllocError> {
+    OCTETS.to_vec(alloc)
+}
+
+/// Whether a string that is given up gives all its octets.
+fn is_given_up(alloc: Global, value: OctetString) -> bool {
+    is_of(value.into_vec(alloc), &OCTETS)
+}
+
+/// Whether vectors that are given up are strings, and one that is not empty gives its octets up.
+fn are_moved(alloc: Global) -> Result<bool, AllocError> {
+    let converted = is_of(OctetString::try_from(vector(alloc)?), &OCTETS);
+    match OctetString::from_vec(vector(alloc)?) {
+        Ok(value) => Ok(converted && !value.is_empty() && is_given_up(alloc, value)),
+        Err(_) => Ok(false),
+    }
+}
+
+/// Whether a string of three octets lends them, and a copy of it is equal, and gives them up: it shares them with its string, so that they are copied.
+fn lends(alloc: Global, value: &OctetString) -> Result<bool, AllocError> {
+    let copy = value.clone()?;
+    let is_equal = copy == *value;
+    Ok(
+        value.len() == 3
+            && has(value, &OCTETS)
+            && is_of(value.to_vec(alloc), &OCTETS)
+            && is_equal
+            && is_given_up(alloc, copy),
+    )
+}
+
+/// Whether a string without octets is empty.
+fn is_empty() -> bool {
+    OctetString::new() == OctetString::default() && OctetString::new().is_empty()
+}
+
+#[test]
+fn strings_are_made(rt: HostRuntime) {
+    let alloc = rt.alloc();
+    assert!(rt; is_of(OctetString::from_slice(alloc, &OCTETS), &OCTETS));
+    assert!(rt; is_of(OctetString::from_array(alloc, OCTETS), &OCTETS));
+    assert!(rt; are_moved(alloc) == Ok(true) && lends(alloc, &lent()) == Ok(true) && is_empty());
+}
+
+/// Whether bytes of these octets, lent and given up, are strings of them.
+fn is_taken_of_bytes(octets: Bytes) -> bool {
+    is_of(OctetString::try_from(&octets), &OCTETS)
+        && OctetString::from(octets).as_slice() == OCTETS.as_slice()
+}
+
+/// Whether strings of these octets, lent and given up, are bytes of them.
+fn is_given_as_bytes(value: OctetString) -> bool {
+    is_of(Bytes::try_from(&value), &OCTETS) && Bytes::from(value).as_slice() == OCTETS.as_slice()
+}
+
+/// Whether bytes are copied, and are strings.
+fn are_bytes(alloc: Global) -> Result<bool, AllocError> {
+    Ok(is_taken_of_bytes(Bytes::copy_from_slice(alloc, &OCTETS)?) && is_given_as_bytes(lent()))
+}
+
+/// Whether strings of these octets are in this order.
+fn are_ordered(first: &'static [u8], second: &'static [u8]) -> bool {
+    is_before(
+        &OctetString::from_static(first),
+        &OctetString::from_static(second),
+    )
+}
+
+/// Octets of which the first are before the second.
+const ORDERED: [(&'static [u8], &'static [u8]); 5] = [
+    (&[], &[0]),
+    (&[0], &[0, 255]),
+    (&[0, 255], &[1]),
+    (&[1, 0], &[255]),
+    (&[1], &[1, 0]),
+];
+
+/// Whether strings of as many octets are compared as lists, and each string is hashed as its octets.
+fn go_by_their_octets() -> bool {
+    let first = FixedOctetString::new([1, 0]);
+    let wanted = hash_of(&OCTETS.as_slice());
+    is_before(&first, &FixedOctetString::new([1, 1]))
+        && first.partial_cmp(&first) == Some(Ordering::Equal)
+        && hash_of(&lent()) == wanted
+        && hash_of(&FixedOctetString::new(OCTETS)) == wanted
+}
+
+#[test]
+fn strings_go_by_their_octets(rt: HostRuntime) {
+    for (first, second) in &ORDERED {
+        assert!(rt; are_ordered(first, second), "of {first:?}");
+    }
+    assert!(rt; go_by_their_octets());
+    assert!(rt; are_bytes(rt.alloc()) == Ok(true));
+}
+
+type Three = FixedOctetString<3>;
+
+/// Whether a string of three octets is made of three, in each form, and a slice of three is none of four.
+fn is_made_of_three(alloc: Global) -> Result<bool, AllocError> {
+    let wanted = WrongLength {
+        actual: 3,
+        expected: 4,
+    };
+    let refused = FixedOctetString::<4>::try_from(OCTETS.as_slice());
+    Ok(
+        is_refused(refused, &wanted)
+            && is_of(Three::try_from(OCTETS.as_slice()), &OCTETS)
+            && is_of(Three::try_from(vector(alloc)?), &OCTETS)
+            && is_of(Three::try_from(lent()), &OCTETS)
+            && is_told(alloc, &wanted, "3 octets in place of 4"),
+    )
+}
+
+/// Whether a string of three octets and a copy of it give them.
+fn gives_three(alloc: Global, value: Three) -> Result<bool, AllocError> {
+    let copy = value.clone()?;
+    Ok(
+        has(&value, &OCTETS)
+            && is_of(value.to_vec(alloc), &OCTETS)
+            && value == Three::from(OCTETS)
+            && value.into_array() == OCTETS
+            && <[u8; 3]>::from(copy) == OCTETS,
+    )
+}
+
+/// Whether strings hold zeros at first.
+fn are_zeros_at_first() -> bool {
+    has(&FixedOctetString::<2>::default(), &[0, 0]) && FixedOctetString::<0>::default().len() == 0
+}
+
+/// What a string is after a write through its slice, as the caller's contract.
+fn write_last(value: &mut Three, octet: u8)
+    ensures { value.new ≡ slice_set value.old 2 octet }
+{
+    let octets: &mut [u8] = value;
+    octets[2] = octet;
+}
+
+/// Whether the octets 1, 2, 3 are written in place.
+fn is_written(value: &mut Three) -> bool {
+    write_last(value, 9);
+    let is_last = has(value, &[1, 2, 9]);
+    value.set(1, 9);
+    let is_set = has(value, &[1, 9, 9]);
+    value.copy_from_slice(&[4, 5, 6]);
+    let is_copied = has(value, &[4, 5, 6]);
+    value.reverse();
+    is_last && is_set && is_copied && has(value, &[6, 5, 4])
+}
+
+#[test]
+fn strings_of_as_many_octets(rt: HostRuntime) {
+    let alloc = rt.alloc();
+    assert!(rt; is_made_of_three(alloc) == Ok(true));
+    assert!(rt; gives_three(alloc, Three::new(OCTETS)) == Ok(true));
+    assert!(rt; are_zeros_at_first() && is_written(&mut Three::new([1, 2, 3])));
+    let value = OctetString::from_static(&[0x61, 0x00]);
+    assert!(rt; is_shown(alloc, &value, "OctetString { octets: b\"a\\0\" }"));
+}
+
+/// Whether an octet string of an array is whole.
+fn is_made_of_an_array(alloc: Global) -> Result<bool, AllocError> {
+    let value = OctetString::from_array(alloc, OCTETS)?;
+    Ok(has(&value, &OCTETS))
+}
+
+/// Whether a vector of a string's octets is whole.
+fn is_listed(alloc: Global, value: &OctetString) -> Result<bool, AllocError> {
+    let vector = value.to_vec(alloc)?;
+    Ok(has(&vector, &OCTETS))
+}
+
+/// Whether a copy gives all the octets, which it shares with its string.
+fn is_copied_of_a_clone(alloc: Global, value: &OctetString) -> Result<bool, AllocError> {
+    let vector = value.clone()?.into_vec(alloc)?;
+    Ok(has(&vector, &OCTETS))
+}
+
+/// Whether a string that has gone through bytes is what it was.
+fn is_same_through_bytes(value: &OctetString) -> Result<bool, AllocError> {
+    let octets = Bytes::try_from(value)?;
+    Ok(OctetString::try_from(&octets)? == *value)
+}
+
+/// Whether a vector of the octets of a string of three is whole.
+fn is_listed_of_three(alloc: Global) -> Result<bool, AllocError> {
+    let vector = Three::new(OCTETS).to_vec(alloc)?;
+    Ok(has(&vector, &OCTETS))
+}
+
+/// The octet string of a slice; where its memory is refused, one that needs none, and then `granted` is false.
+fn of_slice(alloc: Global, granted: &mut bool) -> OctetString {
+    match OctetString::from_slice(alloc, &OCTETS) {
+        Ok(value) => value,
+        Err(AllocError) => {
+            *granted = false;
+            lent()
+        }
+    }
+}
+
+/// Makes octet strings of what is lent, copies them and takes their octets: each answer is whole, or refused. Whether none was refused.
+fn copies(rt: &impl Abort, alloc: Global) -> bool {
+    let mut granted = is_granted(rt, is_made_of_an_array(alloc));
+    let value = of_slice(alloc, &mut granted);
+    granted &= is_granted(rt, is_listed(alloc, &value));
+    granted &= is_granted(rt, is_copied_of_a_clone(alloc, &value));
+    granted &= is_granted(rt, is_same_through_bytes(&value));
+    assert!(rt; has(&value, &OCTETS));
+    granted & is_granted(rt, is_listed_of_three(alloc))
+}
+
+/// Whether a vector of a string that is given up is whole.
+fn is_moved_back(alloc: Global, value: OctetString) -> Result<bool, AllocError> {
+    let vector = value.into_vec(alloc)?;
+    Ok(has(&vector, &OCTETS))
+}
+
+/// Moves a vector into a string, and back out of it. A refused vector is handed back as it was. Whether memory was not refused.
+fn is_moved(rt: &impl Abort, alloc: Global, vector: Vec<u8>) -> bool {
+    match OctetString::from_vec(vector) {
+        Ok(moved) => is_granted(rt, is_moved_back(alloc, moved)),
+        Err(refused) => {
+            assert!(rt; has(&refused.value, &OCTETS));
+            false
+        }
+    }
+}
+
+/// Whether a string of two octets refuses a vector of three, and hands it back as it was.
+fn is_handed_back(alloc: Global) -> Result<bool, AllocError> {
+    match FixedOctetString::<2>::try_from(vector(alloc)?) {
+        Ok(_) => Ok(false),
+        Err(refused) => Ok(has(&refused, &OCTETS)),
+    }
+}
+
+/// Makes and moves strings, and asks for memory. A refused vector is handed back as it was. Whether no request was refused.
+pub fn requests(rt: &impl Abort, alloc: Global) -> bool {
+    let copied = copies(rt, alloc);
+    let moved = match vector(alloc) {
+        Ok(vector) => is_moved(rt, alloc, vector),
+        Err(AllocError) => false,
+    };
+    let kept = is_granted(rt, is_handed_back(alloc));
+    copied && moved && kept
+}

@@ -1,0 +1,24 @@
+//! Each request for memory, as it may be refused: what is answered, and what stands then.
+use crate::{bits, fields, identifiers, numbers, octets};
+use std::alloc::Global;
+use std::process::Abort;
+
+/// Makes values of each kind, and has them grow. Whether no request for memory was refused.
+fn requests(rt: &impl Abort, alloc: Global) -> bool {
+    let bits = bits::requests(rt, alloc);
+    let fields = fields::requests(rt, alloc);
+    let numbers = numbers::requests(rt, alloc);
+    let identifiers = identifiers::requests(rt, alloc);
+    let octets = octets::requests(rt, alloc);
+    bits && fields && numbers && identifiers && octets
+}
+
+#[test]
+fn refused_requests(rt: HostRuntime) {
+    let _granted = requests(&rt, rt.alloc());
+}
+
+#[test]
+fn ample_requests(rt: HostRuntime) {
+    assert!(rt; requests(&rt, rt.alloc()));
+}
