@@ -108,7 +108,14 @@ fn has_no_target<T: Encode + Decode>(
 ) -> Result<(), LineError> {
     for from in source.rules.iter() {
         for to in rules.iter() {
-            gives::<T>(alloc, limits, *from, source.octets.as_slice(), *to, Err(fault))?;
+            gives::<T>(
+                alloc,
+                limits,
+                *from,
+                source.octets.as_slice(),
+                *to,
+                Err(fault),
+            )?;
         }
     }
     Ok(())

@@ -144,7 +144,9 @@ fn read_characters(alloc: Global, text: &str) -> Result<Vec<u32>, LineError> {
     let quoted = inside(text, "\"", "\"").ok_or(LineError::Limits)?;
     let mut characters = Vec::new(alloc);
     for character in quoted.chars() {
-        characters.push(u32::from(character)).map_err(AllocError::from)?;
+        characters
+            .push(u32::from(character))
+            .map_err(AllocError::from)?;
     }
     Ok(characters)
 }
