@@ -300,6 +300,15 @@ fn begin_without_mark(encoder: &mut Encoder<'_>) -> Result<(), EncodeError> {
     encoder.begin_choice(Tag::EOC, &roots, false, &[context(2)], Chosen::addition(0))
 }
 
+/// Whether an encoder refuses that.
+fn refuses_without_mark(alloc: Global) -> bool {
+    let mut buffer = Vec::new(alloc);
+    let mut worker = Vec::new(alloc);
+    let options = EncoderOptions::coer();
+    let mut encoder = Encoder::from_buffer(alloc, options, &mut buffer, &mut worker);
+    begin_without_mark(&mut encoder) == Err(EncodeError::ValueConstraintNotSatisfied)
+}
+
 #[test]
 fn encoders_that_have_failed(rt: HostRuntime) -> Result<(), Fail> {
     let alloc = rt.alloc();
@@ -308,8 +317,6 @@ fn encoders_that_have_failed(rt: HostRuntime) -> Result<(), Fail> {
     let options = EncoderOptions::coer();
     let mut encoder = Encoder::from_buffer(alloc, options, &mut buffer, &mut worker);
     assert!(rt; fails_for_good(&mut encoder)?);
-    let mut other = Encoder::from_buffer(alloc, options, &mut buffer, &mut worker);
-    let refused = Err(EncodeError::ValueConstraintNotSatisfied);
-    assert!(rt; begin_without_mark(&mut other) == refused);
+    assert!(rt; refuses_without_mark(alloc));
     Ok(())
 }
