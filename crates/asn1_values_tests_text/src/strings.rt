@@ -275,13 +275,23 @@ fn is_whole<T: PartialEq, S: AsSlice<T> + Drop>(
     is_granted
 }
 
-/// Appends a character twenty times, which makes a string of these, and copies it. A refused one leaves the string as it was. Whether
-/// none was refused.
+/// Whether there are twenty items, all of them this one.
+fn are_twenty<T: PartialEq>(items: &[T], wanted: &T) -> bool {
+    for item in items {
+        if item != wanted {
+            return false;
+        }
+    }
+    items.len() == 20
+}
+
+/// Appends a character twenty times, which makes a string of as many items, and copies it. A refused one leaves the string as it was.
+/// Whether none was refused.
 fn appends<T: PartialEq, S: StaticPermittedAlphabet + Clone + AsSlice<T> + Drop>(
     rt: &impl Abort,
     string: &mut S,
     character: u32,
-    wanted: &[T],
+    item: &T,
 ) -> bool {
     let mut granted = true;
     for count in 0..20 {
@@ -290,9 +300,20 @@ fn appends<T: PartialEq, S: StaticPermittedAlphabet + Clone + AsSlice<T> + Drop>
             assert!(rt; string.char_count() == count && string.push_char(character).is_ok());
         }
     }
-    assert!(rt; string.as_slice() == wanted);
+    assert!(rt; are_twenty(string.as_slice(), item));
     let copied = string.clone().map_err(PermittedAlphabetError::Memory);
-    granted & is_whole(rt, copied, wanted)
+    granted & is_whole(rt, copied, string.as_slice())
+}
+
+/// Whether a call was granted its memory: then it has given forty octets.
+fn gives_forty(rt: &impl Abort, answer: Result<Vec<u8>, AllocError>) -> bool {
+    match answer {
+        Ok(octets) => {
+            assert!(rt; octets.len() == 40);
+            true
+        }
+        Err(AllocError) => false,
+    }
 }
 
 /// Takes the octets of an empty string, which is handed back where they are refused. Whether they were not.
@@ -308,24 +329,17 @@ fn gives_no_octets(rt: &impl Abort, alloc: Global) -> bool {
 /// Appends characters, copies the strings and takes octets. Whether no request for memory was refused.
 fn grows(rt: &impl Abort, alloc: Global) -> bool {
     let mut narrow = NumericString::new(alloc);
-    let mut granted = appends(rt, &mut narrow, 0x31, &[0x31; 20]);
+    let mut granted = appends(rt, &mut narrow, 0x31, &0x31);
     let octets = narrow
         .to_bytes(alloc)
         .map_err(PermittedAlphabetError::Memory);
     granted &= is_whole(rt, octets, narrow.as_bytes());
     let mut wide = BmpString::new(alloc);
-    granted &= appends(rt, &mut wide, 0x20AC, &[0x20AC; 20]);
-    let octets = wide.to_bytes(alloc).map_err(PermittedAlphabetError::Memory);
-    granted &= is_whole(rt, octets, WIDE.as_slice());
+    granted &= appends(rt, &mut wide, 0x20AC, &0x20AC);
+    granted &= gives_forty(rt, wide.to_bytes(alloc));
     granted &= gives_no_octets(rt, alloc);
     granted & is_whole(rt, octets_of(alloc), b"Jo")
 }
-
-const WIDE: [u8; 40] = [
-    0x20, 0xAC, 0x20, 0xAC, 0x20, 0xAC, 0x20, 0xAC, 0x20, 0xAC, 0x20, 0xAC, 0x20, 0xAC, 0x20, 0xAC,
-    0x20, 0xAC, 0x20, 0xAC, 0x20, 0xAC, 0x20, 0xAC, 0x20, 0xAC, 0x20, 0xAC, 0x20, 0xAC, 0x20, 0xAC,
-    0x20, 0xAC, 0x20, 0xAC, 0x20, 0xAC, 0x20, 0xAC,
-];
 
 /// Makes the strings and alphabets of all rows, and has strings grow. Whether no request for memory was refused.
 fn requests(rt: &impl Abort, alloc: Global) -> bool {
