@@ -92,12 +92,26 @@ fn are_given(first: Result<Vec<u8>, AllocError>, wanted: &[u8]) -> bool {
     }
 }
 
-/// Whether characters are these two, and no more.
-fn are_two<I: Iterator<Item = u32> + Drop>(mut characters: I, first: u32, second: u32) -> bool {
-    characters.next() == Some(first)
-        && characters.next() == Some(second)
-        && characters.next() == None
-        && characters.next() == None
+/// What a string of octets that is gone through gives at first.
+fn first_four(string: &PrintableString) -> [Option<u32>; 4] {
+    let mut characters = string.chars();
+    [
+        characters.next(),
+        characters.next(),
+        characters.next(),
+        characters.next(),
+    ]
+}
+
+/// What a BMPString that is gone through gives at first.
+fn first_four_pairs(string: &BmpString) -> [Option<u32>; 4] {
+    let mut characters = string.chars();
+    [
+        characters.next(),
+        characters.next(),
+        characters.next(),
+        characters.next(),
+    ]
 }
 
 /// Whether a string of octets has the characters 65 and 98, lent and given up.
@@ -105,7 +119,7 @@ fn has_two_octets(alloc: Global, string: PrintableString) -> bool {
     let is_lent = string.len() == 2
         && !string.is_empty()
         && string.as_bytes() == b"Ab".as_slice()
-        && are_two(string.chars(), 65, 98)
+        && first_four(&string) == [Some(65), Some(98), None, None]
         && lists(&string, &[65, 98])
         && are_given(string.to_bytes(alloc), b"Ab");
     let octets = string.into_vec();
@@ -116,7 +130,7 @@ fn has_two_octets(alloc: Global, string: PrintableString) -> bool {
 fn has_two_pairs(alloc: Global, string: BmpString) -> bool {
     let is_lent = string.len() == 2
         && string.as_units() == [0x41, 0x20AC].as_slice()
-        && are_two(string.chars(), 0x41, 0x20AC)
+        && first_four_pairs(&string) == [Some(0x41), Some(0x20AC), None, None]
         && lists(&string, &[0x41, 0x20AC])
         && are_given(string.to_bytes(alloc), &[0x00, 0x41, 0x20, 0xAC]);
     let units = string.into_vec();
