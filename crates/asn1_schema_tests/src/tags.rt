@@ -5,86 +5,125 @@ use std::alloc::{AllocError, Global};
 use std::cmp::Ordering;
 use std::ops::DerefSlice;
 
-/// The universal tags, and their numbers (X.680 8.4).
-const NUMBERS: [(Tag, u32); 35] = [
-    (Tag::EOC, 0),
-    (Tag::BOOL, 1),
-    (Tag::INTEGER, 2),
-    (Tag::BIT_STRING, 3),
-    (Tag::OCTET_STRING, 4),
-    (Tag::NULL, 5),
-    (Tag::OBJECT_IDENTIFIER, 6),
-    (Tag::OBJECT_DESCRIPTOR, 7),
-    (Tag::EXTERNAL, 8),
-    (Tag::REAL, 9),
-    (Tag::ENUMERATED, 10),
-    (Tag::EMBEDDED_PDV, 11),
-    (Tag::UTF8_STRING, 12),
-    (Tag::RELATIVE_OID, 13),
-    (Tag::TIME, 14),
-    (Tag::SEQUENCE, 16),
-    (Tag::SET, 17),
-    (Tag::NUMERIC_STRING, 18),
-    (Tag::PRINTABLE_STRING, 19),
-    (Tag::TELETEX_STRING, 20),
-    (Tag::VIDEOTEX_STRING, 21),
-    (Tag::IA5_STRING, 22),
-    (Tag::UTC_TIME, 23),
-    (Tag::GENERALIZED_TIME, 24),
-    (Tag::GRAPHIC_STRING, 25),
-    (Tag::VISIBLE_STRING, 26),
-    (Tag::GENERAL_STRING, 27),
-    (Tag::UNIVERSAL_STRING, 28),
-    (Tag::CHARACTER_STRING, 29),
-    (Tag::BMP_STRING, 30),
-    (Tag::DATE, 31),
-    (Tag::TIME_OF_DAY, 32),
-    (Tag::DATE_TIME, 33),
-    (Tag::DURATION, 34),
-    (Tag::CHOICE, 0),
+/// The universal tags (X.680 8.4), and last that of an untagged choice.
+const UNIVERSAL: [Tag; 35] = [
+    Tag::EOC,
+    Tag::BOOL,
+    Tag::INTEGER,
+    Tag::BIT_STRING,
+    Tag::OCTET_STRING,
+    Tag::NULL,
+    Tag::OBJECT_IDENTIFIER,
+    Tag::OBJECT_DESCRIPTOR,
+    Tag::EXTERNAL,
+    Tag::REAL,
+    Tag::ENUMERATED,
+    Tag::EMBEDDED_PDV,
+    Tag::UTF8_STRING,
+    Tag::RELATIVE_OID,
+    Tag::TIME,
+    Tag::SEQUENCE,
+    Tag::SET,
+    Tag::NUMERIC_STRING,
+    Tag::PRINTABLE_STRING,
+    Tag::TELETEX_STRING,
+    Tag::VIDEOTEX_STRING,
+    Tag::IA5_STRING,
+    Tag::UTC_TIME,
+    Tag::GENERALIZED_TIME,
+    Tag::GRAPHIC_STRING,
+    Tag::VISIBLE_STRING,
+    Tag::GENERAL_STRING,
+    Tag::UNIVERSAL_STRING,
+    Tag::CHARACTER_STRING,
+    Tag::BMP_STRING,
+    Tag::DATE,
+    Tag::TIME_OF_DAY,
+    Tag::DATE_TIME,
+    Tag::DURATION,
+    Tag::CHOICE,
 ];
 
-/// The types, and their names.
-const NAMES: [(Identifier, &'static str); 35] = [
-    (Identifier::BOOL, "BOOLEAN"),
-    (Identifier::INTEGER, "INTEGER"),
-    (Identifier::BIT_STRING, "BIT_STRING"),
-    (Identifier::OCTET_STRING, "OCTET_STRING"),
-    (Identifier::NULL, "NULL"),
-    (Identifier::OBJECT_IDENTIFIER, "OBJECT_IDENTIFIER"),
-    (Identifier::EXTERNAL, "EXTERNAL"),
-    (Identifier::ENUMERATED, "ENUMERATED"),
-    (Identifier::EMBEDDED_PDV, "EMBEDDED_PDV"),
-    (Identifier::UTF8_STRING, "UTF8String"),
-    (Identifier::RELATIVE_OID, "RELATIVE_OID"),
-    (Identifier::TIME, "TIME"),
-    (Identifier::SEQUENCE, "SEQUENCE"),
-    (Identifier::SET, "SET"),
-    (Identifier::NUMERIC_STRING, "NumericString"),
-    (Identifier::PRINTABLE_STRING, "PrintableString"),
-    (Identifier::TELETEX_STRING, "TeletexString"),
-    (Identifier::IA5_STRING, "IA5String"),
-    (Identifier::UTC_TIME, "UTCTime"),
-    (Identifier::GENERALIZED_TIME, "GeneralizedTime"),
-    (Identifier::GRAPHIC_STRING, "GraphicString"),
-    (Identifier::VISIBLE_STRING, "VisibleString"),
-    (Identifier::GENERAL_STRING, "GeneralString"),
-    (Identifier::BMP_STRING, "BMPString"),
-    (Identifier::DATE, "DATE"),
-    (Identifier::TIME_OF_DAY, "TIME_OF_DAY"),
-    (Identifier::DATE_TIME, "DATE_TIME"),
-    (Identifier::DURATION, "DURATION"),
-    (Identifier::CHOICE, "CHOICE"),
-    (Identifier::INSTANCE_OF, "INSTANCE_OF"),
-    (Identifier::IRI, "IRI"),
-    (Identifier::RELATIVE_IRI, "RELATIVE_IRI"),
-    (Identifier::SEQUENCE_OF, "SEQUENCE_OF"),
-    (Identifier::SET_OF, "SET_OF"),
-    (
-        Identifier::UNRESTRICTED_CHARACTER_STRING,
-        "UNRESTRICTED_CHARACTER_STRING",
-    ),
+/// Their numbers.
+const NUMBERS: &str =
+    "0 1 2 3 4 5 6 7 8 9 10 11 12 13 14 16 17 18 19 20 21 22 23 24 25 26 27 28 29 30 31 32 33 34 0";
+
+/// The types.
+const TYPES: [Identifier; 35] = [
+    Identifier::BOOL,
+    Identifier::INTEGER,
+    Identifier::BIT_STRING,
+    Identifier::OCTET_STRING,
+    Identifier::NULL,
+    Identifier::OBJECT_IDENTIFIER,
+    Identifier::EXTERNAL,
+    Identifier::ENUMERATED,
+    Identifier::EMBEDDED_PDV,
+    Identifier::UTF8_STRING,
+    Identifier::RELATIVE_OID,
+    Identifier::TIME,
+    Identifier::SEQUENCE,
+    Identifier::SET,
+    Identifier::NUMERIC_STRING,
+    Identifier::PRINTABLE_STRING,
+    Identifier::TELETEX_STRING,
+    Identifier::IA5_STRING,
+    Identifier::UTC_TIME,
+    Identifier::GENERALIZED_TIME,
+    Identifier::GRAPHIC_STRING,
+    Identifier::VISIBLE_STRING,
+    Identifier::GENERAL_STRING,
+    Identifier::BMP_STRING,
+    Identifier::DATE,
+    Identifier::TIME_OF_DAY,
+    Identifier::DATE_TIME,
+    Identifier::DURATION,
+    Identifier::CHOICE,
+    Identifier::INSTANCE_OF,
+    Identifier::IRI,
+    Identifier::RELATIVE_IRI,
+    Identifier::SEQUENCE_OF,
+    Identifier::SET_OF,
+    Identifier::UNRESTRICTED_CHARACTER_STRING,
 ];
+
+/// Their names.
+const NAMES: &str = "\
+BOOLEAN
+INTEGER
+BIT_STRING
+OCTET_STRING
+NULL
+OBJECT_IDENTIFIER
+EXTERNAL
+ENUMERATED
+EMBEDDED_PDV
+UTF8String
+RELATIVE_OID
+TIME
+SEQUENCE
+SET
+NumericString
+PrintableString
+TeletexString
+IA5String
+UTCTime
+GeneralizedTime
+GraphicString
+VisibleString
+GeneralString
+BMPString
+DATE
+TIME_OF_DAY
+DATE_TIME
+DURATION
+CHOICE
+INSTANCE_OF
+IRI
+RELATIVE_IRI
+SEQUENCE_OF
+SET_OF
+UNRESTRICTED_CHARACTER_STRING";
 
 /// Two tags, and their order: by class first.
 const ORDERED: [(Tag, Tag, Ordering); 6] = [
@@ -212,53 +251,51 @@ fn stand_in() -> bool {
         && Identifier::EMPTY.0 == None
 }
 
-/// Whether each marker has the tag of its name.
+/// The tags of the markers of universal tags, in their order.
+fn markers() -> [Tag; 34] {
+    [
+        tag::EOC::TAG,
+        tag::BOOL::TAG,
+        tag::INTEGER::TAG,
+        tag::BIT_STRING::TAG,
+        tag::OCTET_STRING::TAG,
+        tag::NULL::TAG,
+        tag::OBJECT_IDENTIFIER::TAG,
+        tag::OBJECT_DESCRIPTOR::TAG,
+        tag::EXTERNAL::TAG,
+        tag::REAL::TAG,
+        tag::ENUMERATED::TAG,
+        tag::EMBEDDED_PDV::TAG,
+        tag::UTF8_STRING::TAG,
+        tag::RELATIVE_OID::TAG,
+        tag::TIME::TAG,
+        tag::SEQUENCE::TAG,
+        tag::SET::TAG,
+        tag::NUMERIC_STRING::TAG,
+        tag::PRINTABLE_STRING::TAG,
+        tag::TELETEX_STRING::TAG,
+        tag::VIDEOTEX_STRING::TAG,
+        tag::IA5_STRING::TAG,
+        tag::UTC_TIME::TAG,
+        tag::GENERALIZED_TIME::TAG,
+        tag::GRAPHIC_STRING::TAG,
+        tag::VISIBLE_STRING::TAG,
+        tag::GENERAL_STRING::TAG,
+        tag::UNIVERSAL_STRING::TAG,
+        tag::CHARACTER_STRING::TAG,
+        tag::BMP_STRING::TAG,
+        tag::DATE::TAG,
+        tag::TIME_OF_DAY::TAG,
+        tag::DATE_TIME::TAG,
+        tag::DURATION::TAG,
+    ]
+}
+
+/// Whether each marker of another class has the tag of its name.
 fn markers_have_tags() -> bool {
-    let rows: [(Tag, Tag); 37] = [
-        (tag::EOC::TAG, Tag::EOC),
-        (tag::BOOL::TAG, Tag::BOOL),
-        (tag::INTEGER::TAG, Tag::INTEGER),
-        (tag::BIT_STRING::TAG, Tag::BIT_STRING),
-        (tag::OCTET_STRING::TAG, Tag::OCTET_STRING),
-        (tag::NULL::TAG, Tag::NULL),
-        (tag::OBJECT_IDENTIFIER::TAG, Tag::OBJECT_IDENTIFIER),
-        (tag::OBJECT_DESCRIPTOR::TAG, Tag::OBJECT_DESCRIPTOR),
-        (tag::EXTERNAL::TAG, Tag::EXTERNAL),
-        (tag::REAL::TAG, Tag::REAL),
-        (tag::ENUMERATED::TAG, Tag::ENUMERATED),
-        (tag::EMBEDDED_PDV::TAG, Tag::EMBEDDED_PDV),
-        (tag::UTF8_STRING::TAG, Tag::UTF8_STRING),
-        (tag::RELATIVE_OID::TAG, Tag::RELATIVE_OID),
-        (tag::TIME::TAG, Tag::TIME),
-        (tag::SEQUENCE::TAG, Tag::SEQUENCE),
-        (tag::SET::TAG, Tag::SET),
-        (tag::NUMERIC_STRING::TAG, Tag::NUMERIC_STRING),
-        (tag::PRINTABLE_STRING::TAG, Tag::PRINTABLE_STRING),
-        (tag::TELETEX_STRING::TAG, Tag::TELETEX_STRING),
-        (tag::VIDEOTEX_STRING::TAG, Tag::VIDEOTEX_STRING),
-        (tag::IA5_STRING::TAG, Tag::IA5_STRING),
-        (tag::UTC_TIME::TAG, Tag::UTC_TIME),
-        (tag::GENERALIZED_TIME::TAG, Tag::GENERALIZED_TIME),
-        (tag::GRAPHIC_STRING::TAG, Tag::GRAPHIC_STRING),
-        (tag::VISIBLE_STRING::TAG, Tag::VISIBLE_STRING),
-        (tag::GENERAL_STRING::TAG, Tag::GENERAL_STRING),
-        (tag::UNIVERSAL_STRING::TAG, Tag::UNIVERSAL_STRING),
-        (tag::CHARACTER_STRING::TAG, Tag::CHARACTER_STRING),
-        (tag::BMP_STRING::TAG, Tag::BMP_STRING),
-        (tag::DATE::TAG, Tag::DATE),
-        (tag::TIME_OF_DAY::TAG, Tag::TIME_OF_DAY),
-        (tag::DATE_TIME::TAG, Tag::DATE_TIME),
-        (tag::DURATION::TAG, Tag::DURATION),
-        (tag::Application::<9>::TAG, Tag::new_application(9)),
-        (tag::Context::<5>::TAG, Tag::new_context(5)),
-        (tag::Private::<0>::TAG, Tag::new_private(0)),
-    ];
-    for (found, wanted) in &rows {
-        if found != wanted {
-            return false;
-        }
-    }
-    true
+    tag::Application::<9>::TAG == Tag::new_application(9)
+        && tag::Context::<5>::TAG == Tag::new_context(5)
+        && tag::Private::<0>::TAG == Tag::new_private(0)
 }
 
 #[test]
@@ -266,11 +303,17 @@ fn tags_and_names(rt: HostRuntime) {
     for (one, other, wanted) in &ORDERED {
         assert!(rt; are_ordered(*one, *other, *wanted), "of {one} and {other}");
     }
-    for (found, number) in &NUMBERS {
-        assert!(rt; *found == Tag::new(Class::Universal, *number));
+    let markers = markers();
+    for (place, number) in NUMBERS.split(' ').enumerate() {
+        let found = Tag::new(Class::Universal, number.parse().unwrap_or(u32::MAX));
+        assert!(rt; UNIVERSAL.get(place) == Some(&found), "{number}");
+        assert!(rt;
+            place == 34 || markers.get(place) == Some(&found),
+            "{number}"
+        );
     }
-    for (identifier, name) in &NAMES {
-        assert!(rt; identifier.0 == Some(*name));
+    for (place, name) in NAMES.lines().enumerate() {
+        assert!(rt; TYPES.get(place) == Some(&Identifier(Some(name))), "{name}");
     }
     for (shown, text) in &SHOWN {
         assert!(rt; is_told(rt.alloc(), shown, text), "of {text}");

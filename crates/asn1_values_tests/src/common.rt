@@ -85,3 +85,44 @@ pub fn is_granted(rt: &impl Abort, answer: Result<bool, AllocError>) -> bool {
         Err(AllocError) => false,
     }
 }
+
+/// Up to twenty octets.
+#[derive(Clone, Copy)]
+pub struct Octets {
+    octets: [u8; 20],
+    len: usize,
+}
+
+impl Octets {
+    /// The octets of two hexadecimal digits each.
+    pub fn of(digits: &str) -> Octets {
+        let mut found = Octets {
+            octets: [0; 20],
+            len: 0,
+        };
+        let mut high: Option<u8> = None;
+        for digit in digits.chars() {
+            let value = u8::try_from(digit.to_digit(16).unwrap_or(0)).unwrap_or(0);
+            match high {
+                None => high = Some(value),
+                Some(first) => {
+                    if found.len < 20 {
+                        found.octets[found.len] = first.wrapping_mul(16) | value;
+                        found.len += 1;
+                    }
+                    high = None;
+                }
+            }
+        }
+        found
+    }
+
+    /// All of them.
+    pub fn all(&self) -> &[u8] {
+        if self.len <= 20 {
+            &self.octets[..self.len]
+        } else {
+            &[]
+        }
+    }
+}

@@ -1,5 +1,7 @@
 //! Object identifiers: rows of octets, what is shown, and what is answered when memory is refused.
-use crate::common::{has, has_copy, hash_of, is_before, is_of, is_refused, is_told};
+use crate::common::{
+    Octets, has, has_copy, hash_of, is_before, is_of, is_refused, is_shown, is_told,
+};
 use asn1_values::{IdentifierError, ObjectIdentifier, Oid, oid_from_octets, oid_octets};
 use std::alloc::{AllocError, Global};
 use std::borrow::CowSlice;
@@ -15,28 +17,15 @@ const WRITTEN: [(&'static [u32], &'static [u8]); 5] = [
 ];
 
 /// Octets that are no identifier, and why.
-const FAULTS: [(&'static [u8], IdentifierError); 8] = [
-    (
-        &[0x90, 0x80, 0x80, 0x80, 0x50],
-        IdentifierError::ArcTooLarge,
-    ),
-    (&[0x80, 0x01], IdentifierError::Padded),
-    (&[0x2A, 0x80, 0x01], IdentifierError::Padded),
-    (&[0x81], IdentifierError::Truncated),
-    (&[], IdentifierError::Truncated),
-    (
-        &[0x2A, 0x90, 0x80, 0x80, 0x80, 0x00],
-        IdentifierError::ArcTooLarge,
-    ),
-    (
-        &[0x2A, 0x90, 0x80, 0x80, 0x80, 0x80],
-        IdentifierError::Truncated,
-    ),
-    (
-        &[0x2A, 0x90, 0x80, 0x80, 0x80, 0x00, 0x80],
-        IdentifierError::ArcTooLarge,
-    ),
-];
+const FAULTS: &str = "\
+9080808050 ArcTooLarge
+8001 Padded
+2A8001 Padded
+81 Truncated
+ Truncated
+2A9080808000 ArcTooLarge
+2A9080808080 Truncated
+2A908080800080 ArcTooLarge";
 
 /// Arcs, and whether they are those of an identifier.
 const JUDGED: [(&'static [u32], bool); 8] = [
@@ -60,6 +49,15 @@ fn are_written_and_read(alloc: Global, arcs: &[u32], octets: &[u8]) -> bool {
     }
 }
 
+/// Whether octets are no identifier, as their row says.
+fn is_fault(alloc: Global, row: &str) -> bool {
+    let (digits, reason) = row.split_once(' ').unwrap_or(("", ""));
+    match oid_from_octets(alloc, Octets::of(digits).all()) {
+        Ok(_) => false,
+        Err(error) => is_shown(alloc, &error, reason),
+    }
+}
+
 /// Whether an identifier of one arc is valid, and has no octets.
 fn one_arc_is_not_written(alloc: Global) -> bool {
     match Oid::new(&[2]) {
@@ -79,11 +77,8 @@ fn identifiers_are_written_and_read(rt: HostRuntime) {
     for (arcs, octets) in &WRITTEN {
         assert!(rt; are_written_and_read(alloc, arcs, octets), "of {arcs:?}");
     }
-    for (octets, wanted) in &FAULTS {
-        assert!(rt;
-            is_refused(oid_from_octets(alloc, octets), wanted),
-            "of {octets:?}"
-        );
+    for row in FAULTS.lines() {
+        assert!(rt; is_fault(alloc, row), "{row}");
     }
     assert!(rt; one_arc_is_not_written(alloc));
     for (arcs, wanted) in &JUDGED {

@@ -1,5 +1,6 @@
-//! The native integer types, each by one row: its ends, octets, sums, conversions and texts; and the common ground of their numbers.
-use crate::common::{has, is_refused};
+//! The native integer types, each by the claims of a text: its ends, octets, sums, conversions and what is shown; and the common ground of
+//! their numbers. Numbers are told as octets of two's complement.
+use crate::common::{Octets, has, is_refused};
 use asn1_values::{
     Integer, IntegerBytes, IntegerError, IntegerType, NativeInteger, TryFromIntegerError, Wide,
 };
@@ -9,113 +10,111 @@ use asn1_values_natives::octets::{
 };
 use std::alloc::{AllocError, Global};
 
-/// A number in a table: whether it is below zero, and how far it is from zero, or from -1 where it is below zero.
-type Row = (bool, u128);
+fn natural(magnitude: u128) -> Wide {
+    Wide {
+        negative: false,
+        magnitude,
+    }
+}
 
-fn wide(row: Row) -> Wide {
-    let (negative, magnitude) = row;
+/// The number below zero that is so far below -1.
+fn below(magnitude: u128) -> Wide {
+    Wide {
+        negative: true,
+        magnitude,
+    }
+}
+
+/// The number of octets.
+fn wide(octets: &[u8]) -> Wide {
+    let negative = match octets {
+        [first, ..] => *first >= 128,
+        [] => false,
+    };
+    let mut magnitude: u128 = 0;
+    for octet in octets {
+        let digit = if negative { !*octet } else { *octet };
+        magnitude = magnitude.wrapping_mul(256) | u128::from(digit);
+    }
     Wide {
         negative,
         magnitude,
     }
 }
 
-fn natural(magnitude: u128) -> Wide {
-    wide((false, magnitude))
-}
-
-/// The number below zero that is so far below -1.
-fn below(magnitude: u128) -> Wide {
-    wide((true, magnitude))
-}
-
-/// A way to read octets as a number: with the sign that the type has, with a sign, or without one.
-#[derive(Clone, Copy)]
-enum Reading {
-    Own,
-    Signed,
-    Plain,
-}
-
-/// What is to be of a native type.
-struct Native<'s> {
-    bits: u32,
-    /// Its least and its greatest number, and their octets.
-    ends: [Row; 2],
-    octets: [&'s [u8]; 2],
-    /// The octets of the numbers beside these.
-    beside: [&'s [u8]; 2],
-    /// Numbers, what is added to them, and their sums.
-    sums: &'s [(Row, u128, Row)],
-    /// Numbers, and whether the type holds them.
-    held: &'s [(i128, bool)],
-    /// Octets, how they are read, and the number, or none where it is outside the type.
-    read: &'s [(Reading, &'s [u8], Option<Row>)],
-    /// Numbers, and their octets without a sign.
-    plain: &'s [(Row, &'s [u8])],
-    /// Numbers, and what is shown of them: twice, whether they are above the default, and zero.
-    texts: &'s [(Row, &'s str)],
-}
-
-impl Native<'_> {
-    fn is_signed(&self) -> bool {
-        let [(is_signed, _), _] = self.ends;
-        is_signed
+/// The number that octets in hexadecimal digits are; none where a hyphen stands for them.
+fn number_of(word: &str) -> Option<Wide> {
+    if word == "-" {
+        None
+    } else {
+        Some(wide(Octets::of(word).all()))
     }
+}
 
-    fn has(&self, number: Wide) -> bool {
-        let [(is_signed, least), (_, greatest)] = self.ends;
-        if number.negative {
-            is_signed && number.magnitude <= least
-        } else {
-            number.magnitude <= greatest
-        }
+/// The number, if 128 bits of two's complement hold it.
+fn whole(number: Wide) -> Option<i128> {
+    match i128::try_from(number.magnitude) {
+        Ok(magnitude) if number.negative => Some(-1 - magnitude),
+        Ok(magnitude) => Some(magnitude),
+        Err(_) => None,
+    }
+}
+
+/// Whether a type with these ends holds a number.
+fn is_between(number: Wide, (least, greatest): (Wide, Wide)) -> bool {
+    if number.negative {
+        least.negative && number.magnitude <= least.magnitude
+    } else {
+        number.magnitude <= greatest.magnitude
     }
 }
 
 /// Whether the type holds the number, whose value is the number again.
 fn is_held<T: NativeInteger>(number: Wide) -> bool {
-    T::from_wide(number).is_some_and(|value| value.to_wide() == number)
+    match T::from_wide(number) {
+        Some(value) => value.to_wide() == number,
+        None => false,
+    }
 }
 
 /// Whether the type holds its ends, and no number beside them.
-fn has_ends<T: NativeInteger>(row: &Native<'_>) -> bool {
-    let [(is_signed, least), (_, greatest)] = row.ends;
-    let first = wide((is_signed, least));
-    let lower = if is_signed {
-        least.saturating_add(1)
+fn has_ends<T: NativeInteger>(least: Wide, greatest: Wide) -> bool {
+    let lower = if least.negative {
+        below(least.magnitude.saturating_add(1))
     } else {
-        0
+        below(0)
     };
-    let has_none_above = match greatest.checked_add(1) {
+    let has_none_above = match greatest.magnitude.checked_add(1) {
         Some(above) => T::from_wide(natural(above)).is_none(),
         None => true,
     };
-    is_held::<T>(first)
-        && is_held::<T>(natural(greatest))
-        && T::from_wide(first) < T::from_wide(natural(greatest))
-        && T::from_wide(below(lower)).is_none()
+    is_held::<T>(least)
+        && is_held::<T>(greatest)
+        && T::from_wide(least) < T::from_wide(greatest)
+        && T::from_wide(lower).is_none()
         && has_none_above
+        && T::SIGNED == least.negative
+        && T::BITS as usize == bit_count(greatest.magnitude) + usize::from(T::SIGNED)
 }
 
-/// Whether the type has so many bits, a sign where numbers are below zero, and zero.
-fn has_width<T: NativeInteger + IntegerType>(row: &Native<'_>) -> bool {
-    let [_, (_, greatest)] = row.ends;
-    T::SIGNED == row.is_signed()
-        && T::BITS == row.bits
-        && T::BITS as usize == bit_count(greatest) + usize::from(T::SIGNED)
-        && <T as IntegerType>::WIDTH == row.bits
-        && <T as IntegerType>::BYTE_WIDTH == row.bits as usize / 8
+/// Whether the type has so many octets, a sign where it has numbers below zero, and zero.
+fn has_width<T: NativeInteger + IntegerType>(octets: usize) -> bool {
+    T::BITS as usize / 8 == octets
+        && <T as IntegerType>::WIDTH == T::BITS
+        && <T as IntegerType>::BYTE_WIDTH == octets
         && <T as NativeInteger>::ZERO == T::default()
         && <T as NativeInteger>::ZERO.to_wide() == natural(0)
         && !<T as IntegerType>::ZERO.is_negative()
-        && <T as IntegerType>::ZERO.is_signed() == row.is_signed()
+        && <T as IntegerType>::ZERO.is_signed() == T::SIGNED
 }
 
 /// Whether a number has these octets, and the sign that the first of them says.
 pub fn has_octets<T: IntegerType>(value: &T, octets: &[u8]) -> bool {
-    has(&value.to_signed_bytes_be(), octets)
-        && value.is_negative() == octets.first().is_some_and(|first| *first >= 128)
+    let is_signed = match octets {
+        [first, ..] => *first >= 128,
+        [] => false,
+    };
+    has(&value.to_signed_bytes_be(), octets) && value.is_negative() == is_signed
 }
 
 /// Whether the octets are those of a number of the type, and of the same number of any size.
@@ -130,70 +129,50 @@ fn is_kept<T: IntegerType + Drop>(alloc: Global, octets: &[u8]) -> bool {
     }
 }
 
-/// Whether a type holds its least and its greatest number, and none of those beside them, all as octets.
-fn has_range<T: IntegerType + Drop>(alloc: Global, row: &Native<'_>) -> bool {
-    let [least, greatest] = row.octets;
-    let [lower, above] = row.beside;
-    is_kept::<T>(alloc, least)
-        && is_kept::<T>(alloc, greatest)
-        && is_refused(
-            T::try_from_signed_bytes(alloc, lower),
-            &IntegerError::Overflow,
-        )
-        && is_refused(
-            T::try_from_signed_bytes(alloc, above),
-            &IntegerError::Overflow,
-        )
-        && is_refused(T::try_from_signed_bytes(alloc, &[]), &IntegerError::Empty)
+/// Whether no octets are no number of a type, in each way to read them.
+fn refuses_nothing<T: IntegerType + Drop>(alloc: Global) -> bool {
+    is_refused(T::try_from_signed_bytes(alloc, &[]), &IntegerError::Empty)
         && is_refused(T::try_from_unsigned_bytes(alloc, &[]), &IntegerError::Empty)
         && is_refused(T::try_from_bytes(alloc, &[]), &IntegerError::Empty)
 }
 
 /// Whether this is the sum of two numbers, by each name of the sum.
 fn is_sum<T: NativeInteger<Unsigned = U> + IntegerType<UnsignedPair = U>, U: NativeInteger>(
-    (number, other, sum): (Row, u128, Row),
+    number: Wide,
+    other: Wide,
+    sum: Wide,
 ) -> bool {
-    match (T::from_wide(wide(number)), U::from_wide(natural(other))) {
+    match (T::from_wide(number), U::from_wide(other)) {
         (Some(value), Some(added)) => {
-            NativeInteger::wrapping_unsigned_add(value, added).to_wide() == wide(sum)
-                && IntegerType::wrapping_unsigned_add(value, added).to_wide() == wide(sum)
+            NativeInteger::wrapping_unsigned_add(value, added).to_wide() == sum
+                && IntegerType::wrapping_unsigned_add(value, added).to_wide() == sum
         }
         _ => false,
     }
 }
 
 /// Whether the type holds a number of 128 bits, as itself, where it is to.
-fn is_held_as<T: IntegerType + Drop>(number: i128, is_held: bool) -> bool {
-    match T::from_i128(number) {
-        Some(value) => is_held && value.to_i128() == Some(number),
-        None => !is_held,
+fn is_held_as<T: IntegerType + Drop>(number: Wide, is_held: bool) -> bool {
+    match whole(number) {
+        Some(number) => match T::from_i128(number) {
+            Some(value) => is_held && value.to_i128() == Some(number),
+            None => !is_held,
+        },
+        None => false,
     }
 }
 
-/// The number that octets are read as.
-fn read<T: IntegerType>(alloc: Global, reading: Reading, octets: &[u8]) -> Result<T, IntegerError> {
-    match reading {
-        Reading::Own => T::try_from_bytes(alloc, octets),
-        Reading::Signed => T::try_from_signed_bytes(alloc, octets),
-        Reading::Plain => T::try_from_unsigned_bytes(alloc, octets),
-    }
-}
-
-/// Whether octets are read as this number, or are an overflow where there is none.
-fn is_read<T: NativeInteger + IntegerType + Drop>(
-    alloc: Global,
-    (reading, octets, number): (Reading, &[u8], Option<Row>),
-) -> bool {
-    match (read::<T>(alloc, reading, octets), number) {
-        (Ok(value), Some(number)) => value.to_wide() == wide(number),
-        (Err(error), None) => error == IntegerError::Overflow,
-        _ => false,
+/// Whether a number was read, and is this one.
+fn is_read<T: NativeInteger>(answer: Result<T, IntegerError>, number: Wide) -> bool {
+    match answer {
+        Ok(value) => value.to_wide() == number,
+        Err(_) => false,
     }
 }
 
 /// Whether a number has these octets without a sign.
-fn is_plain<T: NativeInteger + IntegerType>(number: Row, octets: &[u8]) -> bool {
-    match T::from_wide(wide(number)) {
+fn is_plain<T: NativeInteger + IntegerType>(number: Wide, octets: &[u8]) -> bool {
+    match T::from_wide(number) {
         Some(value) => has(&value.to_unsigned_bytes_be(), octets),
         None => false,
     }
@@ -209,14 +188,68 @@ fn text_of<T: NativeInteger>(alloc: Global, number: T) -> Result<String, AllocEr
 }
 
 /// Whether that is this text.
-fn is_described<T: NativeInteger + Drop>(alloc: Global, number: Row, text: &str) -> bool {
-    match T::from_wide(wide(number)) {
+fn is_described<T: NativeInteger>(alloc: Global, number: Wide, text: &str) -> bool {
+    match T::from_wide(number) {
         Some(value) => match text_of(alloc, value) {
             Ok(shown) => shown.as_str() == text,
             Err(AllocError) => false,
         },
         None => false,
     }
+}
+
+/// Whether what octets say of a type is so: of a sum, what is added is told without a sign.
+fn is_so<T: NativeInteger<Unsigned = U> + IntegerType<UnsignedPair = U> + Drop, U: NativeInteger>(
+    alloc: Global,
+    name: &str,
+    [first, second, third]: [&[u8]; 3],
+) -> bool {
+    match name {
+        "octets" => has_width::<T>(first.len()) && refuses_nothing::<T>(alloc),
+        "ends" => {
+            has_ends::<T>(wide(first), wide(second))
+                && is_kept::<T>(alloc, first)
+                && is_kept::<T>(alloc, second)
+        }
+        "sum" => is_sum::<T, U>(wide(first), wide(second), wide(third)),
+        "holds" => is_held_as::<T>(wide(first), true),
+        "lacks" => is_held_as::<T>(wide(first), false),
+        "own" => is_read(T::try_from_bytes(alloc, first), wide(second)),
+        "signed" => is_read(T::try_from_signed_bytes(alloc, first), wide(second)),
+        "unsigned" => is_read(T::try_from_unsigned_bytes(alloc, first), wide(second)),
+        "beside" => is_refused(
+            T::try_from_signed_bytes(alloc, first),
+            &IntegerError::Overflow,
+        ),
+        "above" => is_refused(
+            T::try_from_unsigned_bytes(alloc, first),
+            &IntegerError::Overflow,
+        ),
+        "plain" => is_plain::<T>(wide(first), second),
+        _ => false,
+    }
+}
+
+/// Whether a claim is so.
+fn is_claim<
+    T: NativeInteger<Unsigned = U> + IntegerType<UnsignedPair = U> + Drop,
+    U: NativeInteger,
+>(alloc: Global, claim: &str) -> bool {
+    let (name, parts) = claim.split_once(' ').unwrap_or(("", ""));
+    if name == "text" {
+        let (digits, text) = parts.split_once(' ').unwrap_or(("", ""));
+        return is_described::<T>(alloc, wide(Octets::of(digits).all()), text);
+    }
+    let (first, second, third) = words_of(parts);
+    is_so::<T, U>(
+        alloc,
+        name,
+        [
+            Octets::of(first).all(),
+            Octets::of(second).all(),
+            Octets::of(third).all(),
+        ],
+    )
 }
 
 /// Whether the number is one of the type, lent and given up, where the type is to hold it, and is then given back; else it is refused, and
@@ -243,61 +276,15 @@ fn is_converted<
     }
 }
 
-/// Whether each number is converted to the type, where the type holds it.
-fn are_converted<
-    'a,
-    T: NativeInteger
-        + TryFrom<&'a Integer, Error = IntegerError>
-        + TryFrom<Integer, Error = TryFromIntegerError>,
->(row: &Native<'_>, numbers: &'a [Integer]) -> bool {
-    for lent in numbers {
-        match lent.to_wide() {
-            Some(number) if is_converted::<T>(lent, number, row.has(number)) => {}
-            _ => return false,
-        }
-    }
-    true
+/// The ends of a type, which the first of its claims tells.
+fn ends_of(claims: &str) -> (Wide, Wide) {
+    let mut words = claims.lines().next().unwrap_or("").split(' ').skip(1);
+    let least = Octets::of(words.next().unwrap_or(""));
+    let greatest = Octets::of(words.next().unwrap_or(""));
+    (wide(least.all()), wide(greatest.all()))
 }
 
-/// Whether sums wrap, and numbers of 128 bits are held, as the row says.
-fn has_sums<
-    T: NativeInteger<Unsigned = U> + IntegerType<UnsignedPair = U> + Drop,
-    U: NativeInteger,
->(row: &Native<'_>) -> bool {
-    for sum in row.sums {
-        if !is_sum::<T, U>(*sum) {
-            return false;
-        }
-    }
-    for (number, is_held) in row.held {
-        if !is_held_as::<T>(*number, *is_held) {
-            return false;
-        }
-    }
-    true
-}
-
-/// Whether octets are read, numbers written without a sign, and shown, as the row says.
-fn has_rows<T: NativeInteger + IntegerType + Drop>(alloc: Global, row: &Native<'_>) -> bool {
-    for reading in row.read {
-        if !is_read::<T>(alloc, *reading) {
-            return false;
-        }
-    }
-    for (number, octets) in row.plain {
-        if !is_plain::<T>(*number, octets) {
-            return false;
-        }
-    }
-    for (number, text) in row.texts {
-        if !is_described::<T>(alloc, *number, text) {
-            return false;
-        }
-    }
-    true
-}
-
-/// Whether a type is as its row says, and converts these numbers.
+/// Whether all claims on a type are so, and it converts these numbers as its ends say.
 fn is_native<
     'a,
     T: NativeInteger<Unsigned = U>
@@ -306,272 +293,143 @@ fn is_native<
         + TryFrom<Integer, Error = TryFromIntegerError>
         + Drop,
     U: NativeInteger,
->(alloc: Global, row: &Native<'_>, numbers: &'a [Integer]) -> bool {
-    has_ends::<T>(row)
-        && has_width::<T>(row)
-        && has_range::<T>(alloc, row)
-        && has_sums::<T, U>(row)
-        && has_rows::<T>(alloc, row)
-        && are_converted::<T>(row, numbers)
+>(alloc: Global, claims: &str, numbers: &'a [Integer]) -> bool {
+    for claim in claims.lines() {
+        if !is_claim::<T, U>(alloc, claim) {
+            return false;
+        }
+    }
+    let ends = ends_of(claims);
+    for lent in numbers {
+        match lent.to_wide() {
+            Some(number) if is_converted::<T>(lent, number, is_between(number, ends)) => {}
+            _ => return false,
+        }
+    }
+    true
 }
 
-const U8: Native<'static> = Native {
-    bits: 8,
-    ends: [(false, 0x0), (false, 0xff)],
-    octets: [&[0x0], &[0x0, 0xff]],
-    beside: [&[0xff], &[0x1, 0x0]],
-    sums: &[
-        ((false, 0xff), 0x1, (false, 0x0)),
-        ((false, 0xff), 0x2, (false, 0x1)),
-    ],
-    held: &[(255, true), (256, false), (-1, false)],
-    read: &[
-        (Reading::Own, &[0, 200], Some((false, 0xc8))),
-        (Reading::Plain, &[0x80], Some((false, 0x80))),
-    ],
-    plain: &[((false, 0xc8), &[200])],
-    texts: &[],
-};
+const U8: &str = "\
+ends 00 00FF
+octets 00
+beside FF
+beside 0100
+sum 00FF 01 00
+sum 00FF 02 01
+holds 00FF
+lacks 0100
+lacks FF
+own 00C8 00C8
+unsigned 80 0080
+plain 00C8 C8";
 
-const U16: Native<'static> = Native {
-    bits: 16,
-    ends: [(false, 0x0), (false, 0xffff)],
-    octets: [&[0x0], &[0x0, 0xff, 0xff]],
-    beside: [&[0xff], &[0x1, 0x0, 0x0]],
-    sums: &[((false, 0xffff), 0x2, (false, 0x1))],
-    held: &[],
-    read: &[],
-    plain: &[],
-    texts: &[],
-};
+const U16: &str = "\
+ends 00 00FFFF
+octets 0000
+beside FF
+beside 010000
+sum 00FFFF 02 01";
 
-const U32: Native<'static> = Native {
-    bits: 32,
-    ends: [(false, 0x0), (false, 0xffffffff)],
-    octets: [&[0x0], &[0x0, 0xff, 0xff, 0xff, 0xff]],
-    beside: [&[0xff], &[0x1, 0x0, 0x0, 0x0, 0x0]],
-    sums: &[((false, 0xffffffff), 0xffffffff, (false, 0xfffffffe))],
-    held: &[],
-    read: &[],
-    plain: &[],
-    texts: &[],
-};
+const U32: &str = "\
+ends 00 00FFFFFFFF
+octets 00000000
+beside FF
+beside 0100000000
+sum 00FFFFFFFF 00FFFFFFFF 00FFFFFFFE";
 
-const U64: Native<'static> = Native {
-    bits: 64,
-    ends: [(false, 0x0), (false, 0xffffffffffffffff)],
-    octets: [
-        &[0x0],
-        &[0x0, 0xff, 0xff, 0xff, 0xff, 0xff, 0xff, 0xff, 0xff],
-    ],
-    beside: [&[0xff], &[0x1, 0x0, 0x0, 0x0, 0x0, 0x0, 0x0, 0x0, 0x0]],
-    sums: &[((false, 0xffffffffffffffff), 0x3, (false, 0x2))],
-    held: &[(18446744073709551615, true)],
-    read: &[(Reading::Own, &[0, 0, 7], Some((false, 0x7)))],
-    plain: &[((false, 0x0), &[0])],
-    texts: &[],
-};
+const U64: &str = "\
+ends 00 00FFFFFFFFFFFFFFFF
+octets 0000000000000000
+beside FF
+beside 010000000000000000
+sum 00FFFFFFFFFFFFFFFF 03 02
+holds 00FFFFFFFFFFFFFFFF
+own 000007 07
+plain 00 00";
 
-const U128: Native<'static> = Native {
-    bits: 128,
-    ends: [(false, 0x0), (false, 0xffffffffffffffffffffffffffffffff)],
-    octets: [
-        &[0x0],
-        &[
-            0x0, 0xff, 0xff, 0xff, 0xff, 0xff, 0xff, 0xff, 0xff, 0xff, 0xff, 0xff, 0xff, 0xff,
-            0xff, 0xff, 0xff,
-        ],
-    ],
-    beside: [
-        &[0xff],
-        &[
-            0x1, 0x0, 0x0, 0x0, 0x0, 0x0, 0x0, 0x0, 0x0, 0x0, 0x0, 0x0, 0x0, 0x0, 0x0, 0x0, 0x0,
-        ],
-    ],
-    sums: &[
-        (
-            (false, 0xffffffffffffffffffffffffffffffff),
-            0x5,
-            (false, 0x4),
-        ),
-        (
-            (false, 0xffffffffffffffffffffffffffffffff),
-            0x1,
-            (false, 0x0),
-        ),
-    ],
-    held: &[(i128::MAX, true), (-1, false)],
-    read: &[],
-    plain: &[((false, 0xffffffffffffffffffffffffffffffff), &[0xff; 16])],
-    texts: &[(
-        (false, 0xffffffffffffffffffffffffffffffff),
-        "340282366920938463463374607431768211455 340282366920938463463374607431768211455 true 0",
-    )],
-};
+const U128: &str = "\
+ends 00 00FFFFFFFFFFFFFFFFFFFFFFFFFFFFFFFF
+octets 00000000000000000000000000000000
+beside FF
+beside 0100000000000000000000000000000000
+sum 00FFFFFFFFFFFFFFFFFFFFFFFFFFFFFFFF 05 04
+sum 00FFFFFFFFFFFFFFFFFFFFFFFFFFFFFFFF 01 00
+holds 7FFFFFFFFFFFFFFFFFFFFFFFFFFFFFFF
+lacks FF
+plain 00FFFFFFFFFFFFFFFFFFFFFFFFFFFFFFFF FFFFFFFFFFFFFFFFFFFFFFFFFFFFFFFF
+text 00FFFFFFFFFFFFFFFFFFFFFFFFFFFFFFFF 340282366920938463463374607431768211455 340282366920938463463374607431768211455 true 0";
 
-const USIZE: Native<'static> = Native {
-    bits: 64,
-    ends: [(false, 0x0), (false, 0xffffffffffffffff)],
-    octets: [
-        &[0x0],
-        &[0x0, 0xff, 0xff, 0xff, 0xff, 0xff, 0xff, 0xff, 0xff],
-    ],
-    beside: [&[0xff], &[0x1, 0x0, 0x0, 0x0, 0x0, 0x0, 0x0, 0x0, 0x0]],
-    sums: &[((false, 0xffffffffffffffff), 0x1, (false, 0x0))],
-    held: &[],
-    read: &[],
-    plain: &[],
-    texts: &[],
-};
+const USIZE: &str = "\
+ends 00 00FFFFFFFFFFFFFFFF
+octets 0000000000000000
+beside FF
+beside 010000000000000000
+sum 00FFFFFFFFFFFFFFFF 01 00";
 
-const I8: Native<'static> = Native {
-    bits: 8,
-    ends: [(true, 0x7f), (false, 0x7f)],
-    octets: [&[0x80], &[0x7f]],
-    beside: [&[0xff, 0x7f], &[0x0, 0x80]],
-    sums: &[
-        ((false, 0x7f), 0x1, (true, 0x7f)),
-        ((true, 0x0), 0x1, (false, 0x0)),
-        ((true, 0x7f), 0xff, (false, 0x7f)),
-        ((false, 0x64), 0x64, (true, 0x37)),
-    ],
-    held: &[(-128, true), (128, false)],
-    read: &[
-        (Reading::Own, &[200], Some((true, 0x37))),
-        (Reading::Plain, &[200], None),
-        (Reading::Signed, &[0x80], Some((true, 0x7f))),
-    ],
-    plain: &[],
-    texts: &[((true, 0x2), "-3 -3 false 0")],
-};
+const I8: &str = "\
+ends 80 7F
+octets 00
+beside FF7F
+beside 0080
+sum 7F 01 80
+sum FF 01 00
+sum 80 00FF 7F
+sum 64 64 C8
+holds 80
+lacks 0080
+own C8 C8
+above C8
+signed 80 80
+text FD -3 -3 false 0";
 
-const I16: Native<'static> = Native {
-    bits: 16,
-    ends: [(true, 0x7fff), (false, 0x7fff)],
-    octets: [&[0x80, 0x0], &[0x7f, 0xff]],
-    beside: [&[0xff, 0x7f, 0xff], &[0x0, 0x80, 0x0]],
-    sums: &[((true, 0x0), 0x8001, (true, 0x7fff))],
-    held: &[],
-    read: &[(Reading::Plain, &[200], Some((false, 0xc8)))],
-    plain: &[],
-    texts: &[],
-};
+const I16: &str = "\
+ends 8000 7FFF
+octets 0000
+beside FF7FFF
+beside 008000
+sum FF 008001 8000
+unsigned C8 00C8";
 
-const I32: Native<'static> = Native {
-    bits: 32,
-    ends: [(true, 0x7fffffff), (false, 0x7fffffff)],
-    octets: [&[0x80, 0x0, 0x0, 0x0], &[0x7f, 0xff, 0xff, 0xff]],
-    beside: [&[0xff, 0x7f, 0xff, 0xff, 0xff], &[0x0, 0x80, 0x0, 0x0, 0x0]],
-    sums: &[((false, 0x7), 0x9, (false, 0x10))],
-    held: &[],
-    read: &[],
-    plain: &[((false, 0x100), &[1, 0])],
-    texts: &[],
-};
+const I32: &str = "\
+ends 80000000 7FFFFFFF
+octets 00000000
+beside FF7FFFFFFF
+beside 0080000000
+sum 07 09 10
+plain 0100 0100";
 
-const I64: Native<'static> = Native {
-    bits: 64,
-    ends: [(true, 0x7fffffffffffffff), (false, 0x7fffffffffffffff)],
-    octets: [
-        &[0x80, 0x0, 0x0, 0x0, 0x0, 0x0, 0x0, 0x0],
-        &[0x7f, 0xff, 0xff, 0xff, 0xff, 0xff, 0xff, 0xff],
-    ],
-    beside: [
-        &[0xff, 0x7f, 0xff, 0xff, 0xff, 0xff, 0xff, 0xff, 0xff],
-        &[0x0, 0x80, 0x0, 0x0, 0x0, 0x0, 0x0, 0x0, 0x0],
-    ],
-    sums: &[
-        ((false, 0x7fffffffffffffff), 0x1, (true, 0x7fffffffffffffff)),
-        (
-            (true, 0x7fffffffffffffff),
-            0xffffffffffffffff,
-            (false, 0x7fffffffffffffff),
-        ),
-    ],
-    held: &[],
-    read: &[],
-    plain: &[],
-    texts: &[],
-};
+const I64: &str = "\
+ends 8000000000000000 7FFFFFFFFFFFFFFF
+octets 0000000000000000
+beside FF7FFFFFFFFFFFFFFF
+beside 008000000000000000
+sum 7FFFFFFFFFFFFFFF 01 8000000000000000
+sum 8000000000000000 00FFFFFFFFFFFFFFFF 7FFFFFFFFFFFFFFF";
 
-const I128: Native<'static> = Native {
-    bits: 128,
-    ends: [
-        (true, 0x7fffffffffffffffffffffffffffffff),
-        (false, 0x7fffffffffffffffffffffffffffffff),
-    ],
-    octets: [
-        &[
-            0x80, 0x0, 0x0, 0x0, 0x0, 0x0, 0x0, 0x0, 0x0, 0x0, 0x0, 0x0, 0x0, 0x0, 0x0, 0x0,
-        ],
-        &[
-            0x7f, 0xff, 0xff, 0xff, 0xff, 0xff, 0xff, 0xff, 0xff, 0xff, 0xff, 0xff, 0xff, 0xff,
-            0xff, 0xff,
-        ],
-    ],
-    beside: [
-        &[
-            0xff, 0x7f, 0xff, 0xff, 0xff, 0xff, 0xff, 0xff, 0xff, 0xff, 0xff, 0xff, 0xff, 0xff,
-            0xff, 0xff, 0xff,
-        ],
-        &[
-            0x0, 0x80, 0x0, 0x0, 0x0, 0x0, 0x0, 0x0, 0x0, 0x0, 0x0, 0x0, 0x0, 0x0, 0x0, 0x0, 0x0,
-        ],
-    ],
-    sums: &[(
-        (false, 0x7fffffffffffffffffffffffffffffff),
-        0x1,
-        (true, 0x7fffffffffffffffffffffffffffffff),
-    )],
-    held: &[(i128::MIN, true)],
-    read: &[],
-    plain: &[],
-    texts: &[],
-};
+const I128: &str = "\
+ends 80000000000000000000000000000000 7FFFFFFFFFFFFFFFFFFFFFFFFFFFFFFF
+octets 00000000000000000000000000000000
+beside FF7FFFFFFFFFFFFFFFFFFFFFFFFFFFFFFF
+beside 0080000000000000000000000000000000
+sum 7FFFFFFFFFFFFFFFFFFFFFFFFFFFFFFF 01 80000000000000000000000000000000
+holds 80000000000000000000000000000000";
 
-const ISIZE: Native<'static> = Native {
-    bits: 64,
-    ends: [(true, 0x7fffffffffffffff), (false, 0x7fffffffffffffff)],
-    octets: [
-        &[0x80, 0x0, 0x0, 0x0, 0x0, 0x0, 0x0, 0x0],
-        &[0x7f, 0xff, 0xff, 0xff, 0xff, 0xff, 0xff, 0xff],
-    ],
-    beside: [
-        &[0xff, 0x7f, 0xff, 0xff, 0xff, 0xff, 0xff, 0xff, 0xff],
-        &[0x0, 0x80, 0x0, 0x0, 0x0, 0x0, 0x0, 0x0, 0x0],
-    ],
-    sums: &[(
-        (true, 0x7fffffffffffffff),
-        0xffffffffffffffff,
-        (false, 0x7fffffffffffffff),
-    )],
-    held: &[],
-    read: &[],
-    plain: &[],
-    texts: &[],
-};
+const ISIZE: &str = "\
+ends 8000000000000000 7FFFFFFFFFFFFFFF
+octets 0000000000000000
+beside FF7FFFFFFFFFFFFFFF
+beside 008000000000000000
+sum 8000000000000000 00FFFFFFFFFFFFFFFF 7FFFFFFFFFFFFFFF";
 
 /// Numbers that are converted to each type, where the type holds them: 255, 65536, 7, -7, the greatest of 128 bits, 9, -129, the least of
 /// 64 bits, 3, 200, 256 and -1.
-const NUMBERS: [Row; 12] = [
-    (false, 255),
-    (false, 65536),
-    (false, 7),
-    (true, 6),
-    (false, u128::MAX),
-    (false, 9),
-    (true, 128),
-    (true, 0x7fff_ffff_ffff_ffff),
-    (false, 3),
-    (false, 200),
-    (false, 256),
-    (true, 0),
-];
+const NUMBERS: &str =
+    "00FF 010000 07 F9 00FFFFFFFFFFFFFFFFFFFFFFFFFFFFFFFF 09 FF7F 8000000000000000 03 00C8 0100 FF";
 
 fn numbers(alloc: Global) -> Result<Vec<Integer>, AllocError> {
     let mut all = Vec::new(alloc);
-    for number in &NUMBERS {
-        all.push(Integer::from_wide(wide(*number)))?;
+    for word in NUMBERS.split(' ') {
+        all.push(Integer::from_wide(wide(Octets::of(word).all())))?;
     }
     Ok(all)
 }
@@ -606,88 +464,92 @@ fn native_types(rt: HostRuntime) {
     assert!(rt; IntegerType::to_i128(&u128::MAX).is_none());
 }
 
-/// Octets, and their numbers with a sign and without one.
-const OCTETS: [(&'static [u8], Option<Row>, Option<Row>); 7] = [
-    (&[0xff; 17], Some((true, 0)), None),
-    (
-        &[
-            0, 0xff, 0xff, 0xff, 0xff, 0xff, 0xff, 0xff, 0xff, 0xff, 0xff, 0xff, 0xff, 0xff, 0xff,
-            0xff, 0xff,
-        ],
-        Some((false, u128::MAX)),
-        Some((false, u128::MAX)),
-    ),
-    (
-        &[
-            0xfe, 0xff, 0xff, 0xff, 0xff, 0xff, 0xff, 0xff, 0xff, 0xff, 0xff, 0xff, 0xff, 0xff,
-            0xff, 0xff, 0xff,
-        ],
-        None,
-        None,
-    ),
-    (
-        &[0xff, 0, 0, 0, 0, 0, 0, 0, 0, 0, 0, 0, 0, 0, 0, 0, 0],
-        Some((true, u128::MAX)),
-        None,
-    ),
-    (
-        &[1, 0, 0, 0, 0, 0, 0, 0, 0, 0, 0, 0, 0, 0, 0, 0, 0],
-        None,
-        None,
-    ),
-    (&[], Some((false, 0)), Some((false, 0))),
-    (&[0xff, 0x7f], Some((true, 128)), Some((false, 0xff7f))),
-];
+/// Octets, and their numbers with a sign and without one, or a hyphen where they are outside the common ground.
+const WIDE: &str = "\
+FFFFFFFFFFFFFFFFFFFFFFFFFFFFFFFFFF FF -
+00FFFFFFFFFFFFFFFFFFFFFFFFFFFFFFFF 00FFFFFFFFFFFFFFFFFFFFFFFFFFFFFFFF 00FFFFFFFFFFFFFFFFFFFFFFFFFFFFFFFF
+FEFFFFFFFFFFFFFFFFFFFFFFFFFFFFFFFF - -
+FF00000000000000000000000000000000 FF00000000000000000000000000000000 -
+0100000000000000000000000000000000 - -
+ 00 00
+FF7F FF7F 00FF7F";
 
-/// Numbers, and what they are where the greatest is 7, without a sign and with one.
-const BOUNDED: [(Row, Option<u128>, Option<i128>); 5] = [
-    ((false, 7), Some(7), Some(7)),
-    ((false, 8), None, None),
-    ((true, 0), None, Some(-1)),
-    ((true, 7), None, Some(-8)),
-    ((true, 8), None, None),
-];
+/// Numbers, and what they are where the greatest is 7, without a sign and with one, or a hyphen where they are outside.
+const BOUNDED: &str = "\
+07 07 07
+08 - -
+FF - FF
+F8 - F8
+F7 - -";
 
-/// Numbers, and their fewest octets with a sign and without one.
-const FEWEST: [(Row, &'static [u8], &'static [u8]); 10] = [
-    ((false, 0), &[0], &[0]),
-    ((false, 127), &[0x7f], &[0x7f]),
-    ((false, 128), &[0, 0x80], &[0x80]),
-    ((false, 256), &[1, 0], &[1, 0]),
-    ((true, 0), &[0xff], &[0xff]),
-    ((true, 127), &[0x80], &[0x80]),
-    ((true, 128), &[0xff, 0x7f], &[0xff, 0x7f]),
-    ((true, 32768), &[0xff, 0x7f, 0xff], &[0xff, 0x7f, 0xff]),
-    (
-        (true, u128::MAX),
-        &[0xff, 0, 0, 0, 0, 0, 0, 0, 0, 0, 0, 0, 0, 0, 0, 0, 0],
-        &[0xff, 0, 0, 0, 0, 0, 0, 0, 0, 0, 0, 0, 0, 0, 0, 0, 0],
-    ),
-    (
-        (false, u128::MAX),
-        &[
-            0, 0xff, 0xff, 0xff, 0xff, 0xff, 0xff, 0xff, 0xff, 0xff, 0xff, 0xff, 0xff, 0xff, 0xff,
-            0xff, 0xff,
-        ],
-        &[0xff; 16],
-    ),
-];
+/// Numbers as their fewest octets with a sign, and those without one.
+const FEWEST: &str = "\
+00 00
+7F 7F
+0080 80
+0100 0100
+FF FF
+80 80
+FF7F FF7F
+FF7FFF FF7FFF
+FF00000000000000000000000000000000 FF00000000000000000000000000000000
+00FFFFFFFFFFFFFFFFFFFFFFFFFFFFFFFF FFFFFFFFFFFFFFFFFFFFFFFFFFFFFFFF";
 
-/// Whether the number that was read is this one, or none was read where there is none.
-fn is_wide(found: Option<Wide>, wanted: Option<Row>) -> bool {
-    match (found, wanted) {
-        (Some(found), Some(wanted)) => found == wide(wanted),
-        (None, None) => true,
-        _ => false,
+/// Octets, and what they are without those at the front that only repeat the sign.
+const PADDED: &str = "\
+007F 7F
+FF80 80
+0080 0080
+FF7F FF7F
+00 00
+00000080 0080
+FFFF FF";
+
+/// Three words of a row.
+fn words_of(row: &str) -> (&str, &str, &str) {
+    let mut words = row.split(' ');
+    let first = words.next().unwrap_or("");
+    let second = words.next().unwrap_or("");
+    (first, second, words.next().unwrap_or(""))
+}
+
+/// Whether octets have the numbers of a row.
+fn are_wide(row: &str) -> bool {
+    let (octets, signed, unsigned) = words_of(row);
+    let octets = Octets::of(octets);
+    Wide::from_signed_octets(octets.all()) == number_of(signed)
+        && Wide::from_unsigned_octets(octets.all()) == number_of(unsigned)
+}
+
+/// Whether a number is within bounds as its row says.
+fn are_bounded(row: &str) -> bool {
+    let (number, unsigned, signed) = words_of(row);
+    match number_of(number) {
+        Some(number) => {
+            number.to_natural(7) == number_of(unsigned).map(|found| found.magnitude)
+                && number.to_whole(7) == number_of(signed).and_then(whole)
+        }
+        None => false,
     }
 }
 
-/// Whether a number has these octets with a sign, and these without one.
-fn has_fewest(number: Wide, signed: &[u8], unsigned: &[u8]) -> bool {
+/// Whether a number has the octets of a row.
+fn are_fewest(row: &str) -> bool {
+    let (signed, unsigned, _) = words_of(row);
+    let (signed, unsigned) = (Octets::of(signed), Octets::of(unsigned));
+    let number = wide(signed.all());
     let octets = IntegerBytes::signed(number);
-    octets.len() == signed.len()
-        && has(&octets, signed)
-        && has(&IntegerBytes::unsigned(number), unsigned)
+    octets.len() == signed.all().len()
+        && has(&octets, signed.all())
+        && has(&IntegerBytes::unsigned(number), unsigned.all())
+}
+
+/// Whether padding is found, and left out.
+fn is_padding(row: &str) -> bool {
+    let (padded, rest, _) = words_of(row);
+    let (padded, rest) = (Octets::of(padded), Octets::of(rest));
+    let (octets, fewest) = (padded.all(), rest.all());
+    has_padding(octets) == (fewest.len() < octets.len()) && without_padding(octets) == fewest
 }
 
 /// Whether octets that are lent are these octets, and numbers are in the common ground.
@@ -699,38 +561,6 @@ fn are_lent_and_wide() -> bool {
         && Wide::from_natural(7, 7) == natural(7)
         && Wide::from_whole(-8, 7) == below(7)
 }
-
-#[test]
-fn numbers_and_octets(rt: HostRuntime) {
-    for (octets, signed, unsigned) in &OCTETS {
-        assert!(rt;
-            is_wide(Wide::from_signed_octets(octets), *signed)
-                && is_wide(Wide::from_unsigned_octets(octets), *unsigned)
-        );
-    }
-    for (number, unsigned, signed) in &BOUNDED {
-        let number = wide(*number);
-        assert!(rt; number.to_natural(7) == *unsigned && number.to_whole(7) == *signed);
-    }
-    for (number, signed, unsigned) in &FEWEST {
-        assert!(rt;
-            has_fewest(wide(*number), signed, unsigned),
-            "of {number:?}"
-        );
-    }
-    assert!(rt; are_lent_and_wide());
-}
-
-/// Octets that only repeat the sign at first, or not, and what they are without those.
-const PADDED: [(&'static [u8], bool, &'static [u8]); 7] = [
-    (&[0, 0x7f], true, &[0x7f]),
-    (&[0xff, 0x80], true, &[0x80]),
-    (&[0, 0x80], false, &[0, 0x80]),
-    (&[0xff, 0x7f], false, &[0xff, 0x7f]),
-    (&[0], false, &[0]),
-    (&[0, 0, 0, 0x80], true, &[0, 0x80]),
-    (&[0xff, 0xff], true, &[0xff]),
-];
 
 /// Whether the sign is found, and left out of an octet, and leading octets of the sign alone are found, and left out.
 fn signs_are_found() -> bool {
@@ -767,15 +597,19 @@ fn magnitudes_are_counted() -> bool {
         && last_octets(true, 0x03_0102, 2) == ending_in([0xfe, 0xfd])
 }
 
-/// Whether padding is found, and left out.
-fn is_padding(octets: &[u8], is_padded: bool, rest: &[u8]) -> bool {
-    !octets.is_empty() && has_padding(octets) == is_padded && without_padding(octets) == rest
-}
-
 #[test]
-fn octets_of_the_sign(rt: HostRuntime) {
-    for (octets, is_padded, rest) in &PADDED {
-        assert!(rt; is_padding(octets, *is_padded, rest), "of {octets:?}");
+fn numbers_and_octets(rt: HostRuntime) {
+    for row in WIDE.lines() {
+        assert!(rt; are_wide(row), "{row}");
     }
-    assert!(rt; signs_are_found() && magnitudes_are_counted());
+    for row in BOUNDED.lines() {
+        assert!(rt; are_bounded(row), "{row}");
+    }
+    for row in FEWEST.lines() {
+        assert!(rt; are_fewest(row), "{row}");
+    }
+    for row in PADDED.lines() {
+        assert!(rt; is_padding(row), "{row}");
+    }
+    assert!(rt; are_lent_and_wide() && signs_are_found() && magnitudes_are_counted());
 }

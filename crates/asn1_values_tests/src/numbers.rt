@@ -1,113 +1,68 @@
 //! Whole numbers of any size: their ends, texts, sums and conversions, those within a range, and what is answered when memory is refused.
-use crate::common::{has, has_copy, hash_of, is_before, is_copied, is_refused, is_shown, is_told};
+use crate::common::{
+    Octets, has, has_copy, hash_of, is_before, is_copied, is_refused, is_shown, is_told,
+};
 use crate::natives::has_octets;
 use asn1_values::{Integer, IntegerError, IntegerType, TryFromIntegerError};
 use asn1_values_constrained::ConstrainedInteger;
 use std::alloc::{AllocError, Global};
 use std::process::Abort;
 
-const GREATEST_UNSIGNED: [u8; 17] = [
-    0, 0xff, 0xff, 0xff, 0xff, 0xff, 0xff, 0xff, 0xff, 0xff, 0xff, 0xff, 0xff, 0xff, 0xff, 0xff,
-    0xff,
-];
-
 /// Octets, and the text of their number.
-const TEXTS: [(&'static [u8], &'static str); 9] = [
-    (&[0], "0"),
-    (&[0, 0x80], "128"),
-    (&[0x80], "-128"),
-    (
-        &[0x80, 0, 0, 0, 0, 0, 0, 0, 0, 0, 0, 0, 0, 0, 0, 0],
-        "-170141183460469231731687303715884105728",
-    ),
-    (
-        &[
-            0x7f, 0xff, 0xff, 0xff, 0xff, 0xff, 0xff, 0xff, 0xff, 0xff, 0xff, 0xff, 0xff, 0xff,
-            0xff, 0xff,
-        ],
-        "170141183460469231731687303715884105727",
-    ),
-    (
-        &[0, 0x80, 0, 0, 0, 0, 0, 0, 0, 0, 0, 0, 0, 0, 0, 0, 0],
-        "0x0080000000000000000000000000000000",
-    ),
-    (
-        &[
-            0xff, 0x7f, 0xff, 0xff, 0xff, 0xff, 0xff, 0xff, 0xff, 0xff, 0xff, 0xff, 0xff, 0xff,
-            0xff, 0xff, 0xff,
-        ],
-        "0xff7fffffffffffffffffffffffffffffff",
-    ),
-    (
-        &[
-            0, 0xff, 0xff, 0xff, 0xff, 0xff, 0xff, 0xff, 0xff, 0xff, 0xff, 0xff, 0xff, 0xff, 0xff,
-            0xff, 0xff,
-        ],
-        "0x00ffffffffffffffffffffffffffffffff",
-    ),
-    (
-        &[1, 0, 0, 0, 0, 0, 0, 0, 0, 0, 0, 0, 0, 0, 0, 0, 0],
-        "0x0100000000000000000000000000000000",
-    ),
-];
+const TEXTS: &str = "\
+00 0
+0080 128
+80 -128
+80000000000000000000000000000000 -170141183460469231731687303715884105728
+7FFFFFFFFFFFFFFFFFFFFFFFFFFFFFFF 170141183460469231731687303715884105727
+0080000000000000000000000000000000 0x0080000000000000000000000000000000
+FF7FFFFFFFFFFFFFFFFFFFFFFFFFFFFFFF 0xff7fffffffffffffffffffffffffffffff
+00FFFFFFFFFFFFFFFFFFFFFFFFFFFFFFFF 0x00ffffffffffffffffffffffffffffffff
+0100000000000000000000000000000000 0x0100000000000000000000000000000000";
 
 /// Octets of numbers, each less than the next.
-const ASCENDING: [&'static [u8]; 9] = [
-    &[0xfe, 0, 0, 0, 0, 0, 0, 0, 0, 0, 0, 0, 0, 0, 0, 0, 0, 0],
-    &[
-        0xff, 0x7f, 0xff, 0xff, 0xff, 0xff, 0xff, 0xff, 0xff, 0xff, 0xff, 0xff, 0xff, 0xff, 0xff,
-        0xff, 0xff,
-    ],
-    &[0x80, 0, 0, 0, 0, 0, 0, 0, 0, 0, 0, 0, 0, 0, 0, 0],
-    &[0xff],
-    &[0],
-    &[
-        0x7f, 0xff, 0xff, 0xff, 0xff, 0xff, 0xff, 0xff, 0xff, 0xff, 0xff, 0xff, 0xff, 0xff, 0xff,
-        0xff,
-    ],
-    &[0, 0x80, 0, 0, 0, 0, 0, 0, 0, 0, 0, 0, 0, 0, 0, 0, 0],
-    &[
-        0, 0xff, 0xff, 0xff, 0xff, 0xff, 0xff, 0xff, 0xff, 0xff, 0xff, 0xff, 0xff, 0xff, 0xff,
-        0xff, 0xff,
-    ],
-    &[1, 0, 0, 0, 0, 0, 0, 0, 0, 0, 0, 0, 0, 0, 0, 0, 0],
-];
+const ASCENDING: &str = "\
+FE0000000000000000000000000000000000
+FF7FFFFFFFFFFFFFFFFFFFFFFFFFFFFFFF
+80000000000000000000000000000000
+FF
+00
+7FFFFFFFFFFFFFFFFFFFFFFFFFFFFFFF
+0080000000000000000000000000000000
+00FFFFFFFFFFFFFFFFFFFFFFFFFFFFFFFF
+0100000000000000000000000000000000";
 
 /// Octets of numbers without a sign, and the fewest of each.
-const PLAIN: [(&'static [u8], &'static [u8]); 5] = [
-    (&[1; 20], &[1; 20]),
-    (&[0x80; 20], &[0x80; 20]),
-    (
-        &[
-            0x7f, 0xff, 0xff, 0xff, 0xff, 0xff, 0xff, 0xff, 0xff, 0xff, 0xff, 0xff, 0xff, 0xff,
-            0xff, 0xff,
-        ],
-        &[
-            0x7f, 0xff, 0xff, 0xff, 0xff, 0xff, 0xff, 0xff, 0xff, 0xff, 0xff, 0xff, 0xff, 0xff,
-            0xff, 0xff,
-        ],
-    ),
-    (
-        &[1, 0, 0, 0, 0, 0, 0, 0, 0, 0, 0, 0, 0, 0, 0, 0, 0],
-        &[1, 0, 0, 0, 0, 0, 0, 0, 0, 0, 0, 0, 0, 0, 0, 0, 0],
-    ),
-    (
-        &[
-            0, 0xff, 0xff, 0xff, 0xff, 0xff, 0xff, 0xff, 0xff, 0xff, 0xff, 0xff, 0xff, 0xff, 0xff,
-            0xff, 0xff,
-        ],
-        &[0xff; 16],
-    ),
-];
+const PLAIN: &str = "\
+0101010101010101010101010101010101010101 0101010101010101010101010101010101010101
+8080808080808080808080808080808080808080 8080808080808080808080808080808080808080
+7FFFFFFFFFFFFFFFFFFFFFFFFFFFFFFF 7FFFFFFFFFFFFFFFFFFFFFFFFFFFFFFF
+0100000000000000000000000000000000 0100000000000000000000000000000000
+00FFFFFFFFFFFFFFFFFFFFFFFFFFFFFFFF FFFFFFFFFFFFFFFFFFFFFFFFFFFFFFFF";
 
-/// Whether the octets are those of a number of this text, read in each way, and copied.
-fn is_number(alloc: Global, octets: &[u8], text: &str) -> bool {
-    match Integer::from_signed_octets(alloc, octets) {
+/// Whether the octets of a row are those of a number of its text, read in each way, and copied.
+fn is_number(alloc: Global, row: &str) -> bool {
+    let (digits, text) = row.split_once(' ').unwrap_or(("", ""));
+    let octets = Octets::of(digits);
+    match Integer::from_signed_octets(alloc, octets.all()) {
         Ok(number) => {
-            has_octets(&number, octets) && is_told(alloc, &number, text) && has_copy(&number)
+            has_octets(&number, octets.all()) && is_told(alloc, &number, text) && has_copy(&number)
         }
         Err(_) => false,
     }
+}
+
+/// Whether the octets of a row are those of a number without a sign, which has the fewest of the row.
+fn is_natural(alloc: Global, row: &str) -> bool {
+    let (digits, fewest) = row.split_once(' ').unwrap_or(("", ""));
+    let (octets, fewest) = (Octets::of(digits), Octets::of(fewest));
+    is_plain(
+        Integer::from_unsigned_octets(alloc, octets.all()),
+        fewest.all(),
+    ) && is_plain(
+        Integer::try_from_unsigned_bytes(alloc, octets.all()),
+        fewest.all(),
+    )
 }
 
 /// Whether a number was read that has these octets without a sign.
@@ -135,9 +90,9 @@ fn is_this(answer: Result<Integer, IntegerError>, wanted: &Integer) -> bool {
 }
 
 /// Whether the number of these octets is less than that of the others.
-fn are_ordered(alloc: Global, first: &[u8], second: &[u8]) -> bool {
-    match Integer::from_signed_octets(alloc, first) {
-        Ok(less) => match Integer::from_signed_octets(alloc, second) {
+fn are_ordered(alloc: Global, first: &str, second: &str) -> bool {
+    match Integer::from_signed_octets(alloc, Octets::of(first).all()) {
+        Ok(less) => match Integer::from_signed_octets(alloc, Octets::of(second).all()) {
             Ok(greater) => is_before(&less, &greater),
             Err(_) => false,
         },
@@ -166,22 +121,16 @@ fn are_read(alloc: Global, octets: &[u8]) -> bool {
 #[test]
 fn integers_of_any_size(rt: HostRuntime) {
     let alloc = rt.alloc();
-    for (octets, text) in &TEXTS {
-        assert!(rt; is_number(alloc, octets, text), "of {text}");
+    for row in TEXTS.lines() {
+        assert!(rt; is_number(alloc, row), "{row}");
     }
-    for (octets, fewest) in &PLAIN {
-        assert!(rt;
-            is_plain(Integer::from_unsigned_octets(alloc, octets), fewest)
-                && is_plain(Integer::try_from_unsigned_bytes(alloc, octets), fewest)
-        );
+    for row in PLAIN.lines() {
+        assert!(rt; is_natural(alloc, row), "{row}");
     }
-    let mut last: &[u8] = &[];
-    for octets in &ASCENDING {
-        assert!(rt;
-            last.is_empty() || are_ordered(alloc, last, octets),
-            "of {octets:?}"
-        );
-        last = octets;
+    let mut last = "";
+    for row in ASCENDING.lines() {
+        assert!(rt; last.is_empty() || are_ordered(alloc, last, row), "{row}");
+        last = row;
     }
     assert!(rt; fewest_are_kept(alloc));
     assert!(rt; are_read(alloc, &[1; 20]) && are_read(alloc, &[0x80; 20]));
@@ -265,8 +214,9 @@ fn is_greatest(answer: Result<Integer, IntegerError>) -> bool {
 
 /// Whether the greatest number of 128 bits is read, with a sign and without one, and is no number of 128 bits with a sign.
 fn is_greatest_read(alloc: Global) -> bool {
-    is_greatest(Integer::from_signed_octets(alloc, &GREATEST_UNSIGNED))
-        && is_greatest(Integer::from_unsigned_octets(alloc, &GREATEST_UNSIGNED))
+    let octets = Octets::of("00FFFFFFFFFFFFFFFFFFFFFFFFFFFFFFFF");
+    is_greatest(Integer::from_signed_octets(alloc, octets.all()))
+        && is_greatest(Integer::from_unsigned_octets(alloc, octets.all()))
         && IntegerType::to_i128(&Integer::from(u128::MAX)).is_none()
         && IntegerType::to_i128(&Integer::from_i128(i128::MIN)) == Some(i128::MIN)
 }

@@ -1,172 +1,51 @@
 //! Rows of widths and codes, and what errors tell.
-use crate::rows::{KINDS, refusal};
+use crate::rows::{KINDS, number_of, numbers_of, refusal};
 use asn1_values::{
     CharacterAlphabet, InvalidBmpString, InvalidPrintableString, PermittedAlphabetError,
 };
 use std::alloc::{AllocError, Global};
 use std::process::Abort;
 
-const NUMERIC: [u32; 11] = [32, 48, 49, 50, 51, 52, 53, 54, 55, 56, 57];
-
-/// The characters of an alphabet: these, or those from one to another.
-#[derive(Clone, Copy)]
-enum Listed {
-    These(&'static [u32]),
-    FromTo(u32, u32),
-}
-
-/// Characters, whether the width of their codes is raised, this width, characters with their codes, and a character and a code that the
-/// alphabet lacks.
-type Row = (Listed, bool, u32, &'static [(u32, u32)], Option<(u32, u32)>);
-
-/// The alphabets of NumericString; of 0 to 3, which take two bits, and so do 0, 1 and 3, where no character has the code 2; of one
-/// character, where 97 does not fit a code of no bits, and 0 does, and both have the code 0; of VisibleString, IA5String and BMPString, whose
-/// codes are the characters' own numbers; and of so many characters from 1000 on, whose codes are their places, and whose width is raised
-/// to 1, 2, 4, 8, 16 or 32 bits.
-const ROWS: [Row; 34] = [
-    (
-        Listed::These(&NUMERIC),
-        false,
-        4,
-        &[(49, 2), (50, 3), (51, 4), (32, 0), (57, 10)],
-        Some((65, 11)),
-    ),
-    (
-        Listed::These(&[0, 1, 3]),
-        false,
-        2,
-        &[(0, 0), (1, 1), (3, 3)],
-        Some((2, 2)),
-    ),
-    (Listed::These(&[]), true, 0, &[], None),
-    (Listed::These(&[97]), true, 0, &[(97, 0)], None),
-    (Listed::These(&[0]), true, 0, &[(0, 0)], None),
-    (Listed::These(&[97, 98]), true, 1, &[], None),
-    (Listed::These(&[97, 98, 99, 100, 101]), false, 3, &[], None),
-    (Listed::These(&[97, 98, 99, 100, 101]), true, 4, &[], None),
-    (Listed::These(&NUMERIC), true, 4, &[], None),
-    (
-        Listed::These(&[7, u32::MAX]),
-        false,
-        1,
-        &[(7, 0), (u32::MAX, 1)],
-        None,
-    ),
-    (
-        Listed::These(&[49, 50, 51]),
-        false,
-        2,
-        &[(49, 0), (50, 1), (51, 2)],
-        None,
-    ),
-    (
-        Listed::These(&[49, 50, 51]),
-        true,
-        2,
-        &[(49, 0), (50, 1), (51, 2)],
-        None,
-    ),
-    (
-        Listed::FromTo(32, 126),
-        false,
-        7,
-        &[(32, 32), (126, 126)],
-        None,
-    ),
-    (
-        Listed::FromTo(32, 126),
-        true,
-        8,
-        &[(32, 32), (126, 126)],
-        None,
-    ),
-    (
-        Listed::FromTo(0, 127),
-        false,
-        7,
-        &[(0, 0), (127, 127)],
-        None,
-    ),
-    (Listed::FromTo(0, 127), true, 8, &[(0, 0), (127, 127)], None),
-    (
-        Listed::FromTo(0, 65535),
-        false,
-        16,
-        &[(0, 0), (65535, 65535)],
-        None,
-    ),
-    (
-        Listed::FromTo(0, 65535),
-        true,
-        16,
-        &[(0, 0), (65535, 65535)],
-        None,
-    ),
-    (
-        Listed::FromTo(1000, 1001),
-        false,
-        1,
-        &[(1000, 0), (1001, 1)],
-        None,
-    ),
-    (Listed::FromTo(1000, 1001), true, 1, &[], None),
-    (
-        Listed::FromTo(1000, 1002),
-        false,
-        2,
-        &[(1000, 0), (1002, 2)],
-        None,
-    ),
-    (Listed::FromTo(1000, 1002), true, 2, &[], None),
-    (
-        Listed::FromTo(1000, 1003),
-        false,
-        2,
-        &[(1000, 0), (1003, 3)],
-        None,
-    ),
-    (Listed::FromTo(1000, 1003), true, 2, &[], None),
-    (
-        Listed::FromTo(1000, 1004),
-        false,
-        3,
-        &[(1000, 0), (1004, 4)],
-        None,
-    ),
-    (Listed::FromTo(1000, 1004), true, 4, &[], None),
-    (
-        Listed::FromTo(1000, 1015),
-        false,
-        4,
-        &[(1000, 0), (1015, 15)],
-        None,
-    ),
-    (Listed::FromTo(1000, 1015), true, 4, &[], None),
-    (
-        Listed::FromTo(1000, 1016),
-        false,
-        5,
-        &[(1000, 0), (1016, 16)],
-        None,
-    ),
-    (Listed::FromTo(1000, 1016), true, 8, &[], None),
-    (
-        Listed::FromTo(1000, 1255),
-        false,
-        8,
-        &[(1000, 0), (1255, 255)],
-        None,
-    ),
-    (Listed::FromTo(1000, 1255), true, 8, &[], None),
-    (
-        Listed::FromTo(1000, 1256),
-        false,
-        9,
-        &[(1000, 0), (1256, 256)],
-        None,
-    ),
-    (Listed::FromTo(1000, 1256), true, 16, &[], None),
-];
+/// The alphabets: their characters, or the first and the last of them; whether the width of their codes is raised to 1, 2, 4, 8, 16 or 32 bits;
+/// this width; characters with their codes; and a character and a code that the alphabet lacks. All numbers are in hexadecimal digits. They
+/// are that of NumericString; those of 0 to 3, which take two bits, and so do 0, 1 and 3, where no character has the code 2; those of one
+/// character, where 61 does not fit a code of no bits, and 0 does, and both have the code 0; those of VisibleString, IA5String and BMPString,
+/// whose codes are the characters' own numbers; and those of so many characters from 3E8 on, whose codes are their places.
+const ROWS: &str = "\
+of 20 30 31 32 33 34 35 36 37 38 39;plain;4;31:2 32:3 33:4 20:0 39:A;41 B
+of 0 1 3;plain;2;0:0 1:1 3:3;2 2
+of;raised;0;;
+of 61;raised;0;61:0;
+of 0;raised;0;0:0;
+of 61 62;raised;1;;
+of 61 62 63 64 65;plain;3;;
+of 61 62 63 64 65;raised;4;;
+of 20 30 31 32 33 34 35 36 37 38 39;raised;4;;
+of 7 FFFFFFFF;plain;1;7:0 FFFFFFFF:1;
+of 31 32 33;plain;2;31:0 32:1 33:2;
+of 31 32 33;raised;2;31:0 32:1 33:2;
+from 20 7E;plain;7;20:20 7E:7E;
+from 20 7E;raised;8;20:20 7E:7E;
+from 0 7F;plain;7;0:0 7F:7F;
+from 0 7F;raised;8;0:0 7F:7F;
+from 0 FFFF;plain;10;0:0 FFFF:FFFF;
+from 0 FFFF;raised;10;0:0 FFFF:FFFF;
+from 3E8 3E9;plain;1;3E8:0 3E9:1;
+from 3E8 3E9;raised;1;;
+from 3E8 3EA;plain;2;3E8:0 3EA:2;
+from 3E8 3EA;raised;2;;
+from 3E8 3EB;plain;2;3E8:0 3EB:3;
+from 3E8 3EB;raised;2;;
+from 3E8 3EC;plain;3;3E8:0 3EC:4;
+from 3E8 3EC;raised;4;;
+from 3E8 3F7;plain;4;3E8:0 3F7:F;
+from 3E8 3F7;raised;4;;
+from 3E8 3F8;plain;5;3E8:0 3F8:10;
+from 3E8 3F8;raised;8;;
+from 3E8 4E7;plain;8;3E8:0 4E7:FF;
+from 3E8 4E7;raised;8;;
+from 3E8 4E8;plain;9;3E8:0 4E8:100;
+from 3E8 4E8;raised;10;;";
 
 /// The characters from one to another.
 fn characters_from_to(alloc: Global, first: u32, last: u32) -> Result<Vec<u32>, AllocError> {
@@ -177,35 +56,37 @@ fn characters_from_to(alloc: Global, first: u32, last: u32) -> Result<Vec<u32>, 
     Ok(characters)
 }
 
-/// The alphabet of characters.
-fn made(
-    alloc: Global,
-    listed: Listed,
-    raised: bool,
-) -> Result<CharacterAlphabet, PermittedAlphabetError> {
-    match listed {
-        Listed::These(characters) => CharacterAlphabet::new(alloc, characters, raised),
-        Listed::FromTo(first, last) => {
-            let characters = characters_from_to(alloc, first, last)?;
-            CharacterAlphabet::new(alloc, &characters, raised)
-        }
+/// The characters of a row.
+fn listed(alloc: Global, words: &str) -> Result<Vec<u32>, AllocError> {
+    match words.split_once(' ') {
+        Some(("from", ends)) => match ends.split_once(' ') {
+            Some((first, last)) => characters_from_to(alloc, number_of(first), number_of(last)),
+            None => Ok(Vec::new(alloc)),
+        },
+        Some((_, characters)) => numbers_of(alloc, characters),
+        None => Ok(Vec::new(alloc)),
     }
 }
 
+/// Whether a character has this code, and the code stands for the character.
+fn has_code(alphabet: &CharacterAlphabet, character: u32, code: u32) -> bool {
+    alphabet.encode(character).ok() == Some(code) && alphabet.decode(code).ok() == Some(character)
+}
+
 /// Whether each character has its code among these, and each code stands for its character.
-fn has_codes(alphabet: &CharacterAlphabet, rows: &[(u32, u32)]) -> bool {
-    for (character, code) in rows {
-        if alphabet.encode(*character).ok() != Some(*code)
-            || alphabet.decode(*code).ok() != Some(*character)
-        {
-            return false;
+fn has_codes(alphabet: &CharacterAlphabet, rows: &str) -> bool {
+    for row in rows.split_whitespace() {
+        match row.split_once(':') {
+            Some((character, code)) if has_code(alphabet, number_of(character), number_of(code)) =>
+                {}
+            _ => return false,
         }
     }
     true
 }
 
 /// Whether an alphabet tells that it lacks this character and this code.
-fn lacks(alphabet: &CharacterAlphabet, (missing, unused): (u32, u32)) -> bool {
+fn lacks(alphabet: &CharacterAlphabet, missing: u32, unused: u32) -> bool {
     matches!(
         alphabet.encode(missing),
         Err(PermittedAlphabetError::CharacterNotFound { character }) if character == missing
@@ -215,26 +96,28 @@ fn lacks(alphabet: &CharacterAlphabet, (missing, unused): (u32, u32)) -> bool {
     )
 }
 
-/// Whether an alphabet is as its row says.
-fn is_as_said(alphabet: &CharacterAlphabet, row: &Row) -> bool {
-    let (_, _, width, codes, lacking) = row;
-    alphabet.width() == *width
+/// Whether an alphabet has codes of this width, these among them, and lacks a character and a code, if there are any here.
+fn is_as_said(alphabet: &CharacterAlphabet, width: &str, codes: &str, lacking: &str) -> bool {
+    alphabet.width() == number_of(width)
         && has_codes(alphabet, codes)
-        && match lacking {
-            Some(missing) => lacks(alphabet, *missing),
+        && match lacking.split_once(' ') {
+            Some((missing, unused)) => lacks(alphabet, number_of(missing), number_of(unused)),
             None => true,
         }
 }
 
-/// Whether the alphabet of a row is made as the row says, or memory is wanting, and then `granted` is false.
-fn is_made(alloc: Global, row: &Row, granted: &mut bool) -> bool {
-    let (listed, raised, ..) = row;
-    match made(alloc, *listed, *raised) {
-        Ok(alphabet) => is_as_said(&alphabet, row),
-        Err(error) => {
-            *granted = false;
-            matches!(error, PermittedAlphabetError::Memory(_))
-        }
+/// Whether the alphabet of a row is made as the row says; want of memory is answered as such.
+fn is_row(alloc: Global, row: &str) -> Result<bool, AllocError> {
+    let mut parts = row.split(';');
+    let characters = listed(alloc, parts.next().unwrap_or(""))?;
+    let is_raised = parts.next() == Some("raised");
+    let width = parts.next().unwrap_or("");
+    let codes = parts.next().unwrap_or("");
+    let lacking = parts.next().unwrap_or("");
+    match CharacterAlphabet::new(alloc, &characters, is_raised) {
+        Ok(alphabet) => Ok(is_as_said(&alphabet, width, codes, lacking)),
+        Err(PermittedAlphabetError::Memory(refused)) => Err(refused),
+        Err(_) => Ok(false),
     }
 }
 
@@ -249,8 +132,10 @@ fn is_no_list(alloc: Global, characters: &[u32]) -> bool {
 /// Makes each alphabet: the answer is the whole one, or wants memory. Whether none was refused.
 pub fn requests(rt: &impl Abort, alloc: Global) -> bool {
     let mut granted = true;
-    for row in &ROWS {
-        assert!(rt; is_made(alloc, row, &mut granted));
+    for row in ROWS.lines() {
+        let answer = is_row(alloc, row);
+        assert!(rt; answer != Ok(false), "{row}");
+        granted &= answer.is_ok();
     }
     assert!(rt; is_no_list(alloc, &[49, 49]) && is_no_list(alloc, &[50, 49]));
     granted

@@ -115,18 +115,26 @@ fn alphabets(rt: HostRuntime) {
     }
 }
 
-/// What a string is made of: of octets, a text or characters that are lent, of a value of these that is given up, or of so many zero bits.
+/// What a string is made of: of octets, a text or a character that are lent, of octets or a text in a value that is given up, or of so many
+/// zero bits.
 #[derive(Clone, Copy)]
 enum Source {
-    Octets(&'static [u8]),
-    Text(&'static str),
-    OwnedText(&'static str),
-    OctetString(&'static [u8]),
-    StaticOctets(&'static [u8]),
-    BitString(&'static [u8]),
-    Vector(&'static [u8]),
-    Zeros(usize),
-    Pushed(u32),
+    Octets,
+    Text,
+    OwnedText,
+    OctetString,
+    BitString,
+    Vector,
+    Zeros,
+    Character,
+}
+
+/// That text, the octets for which its digits stand, and the number for which they do.
+#[derive(Drop)]
+struct Parts<'a> {
+    text: &'a str,
+    octets: Vec<u8>,
+    number: u32,
 }
 
 /// The string of a text that is given up.
@@ -184,46 +192,47 @@ fn of_character<S: StaticPermittedAlphabet + Drop>(
 fn made<K: CharacterKind>(
     alloc: Global,
     source: Source,
+    parts: &Parts<'_>,
 ) -> Result<RestrictedString<K>, PermittedAlphabetError> {
     match source {
-        Source::Octets(octets) => RestrictedString::from_bytes(alloc, octets),
-        Source::Text(text) => RestrictedString::from_text(alloc, text),
-        Source::OwnedText(text) => of_string(alloc, text),
-        Source::OctetString(octets) => {
-            RestrictedString::from_octet_string(alloc, OctetString::from_slice(alloc, octets)?)
-        }
-        Source::StaticOctets(octets) => {
-            RestrictedString::from_octet_string(alloc, OctetString::from_static(octets))
-        }
-        Source::BitString(octets) => of_bits(alloc, octets),
-        Source::Vector(octets) => of_vector(alloc, octets),
-        Source::Zeros(len) => of_zeros(alloc, len),
-        Source::Pushed(character) => of_character(alloc, character),
+        Source::Octets => RestrictedString::from_bytes(alloc, &parts.octets),
+        Source::Text => RestrictedString::from_text(alloc, parts.text),
+        Source::OwnedText => of_string(alloc, parts.text),
+        Source::OctetString => RestrictedString::from_octet_string(
+            alloc,
+            OctetString::from_slice(alloc, &parts.octets)?,
+        ),
+        Source::BitString => of_bits(alloc, &parts.octets),
+        Source::Vector => of_vector(alloc, &parts.octets),
+        Source::Zeros => of_zeros(alloc, parts.number as usize),
+        Source::Character => of_character(alloc, parts.number),
     }
 }
 
 /// What one call makes of characters of two octets.
-fn made_wide(alloc: Global, source: Source) -> Result<BmpString, PermittedAlphabetError> {
+fn made_wide(
+    alloc: Global,
+    source: Source,
+    parts: &Parts<'_>,
+) -> Result<BmpString, PermittedAlphabetError> {
     match source {
-        Source::Octets(octets) => BmpString::from_bytes(alloc, octets),
-        Source::Text(text) => BmpString::from_text(alloc, text),
-        Source::OwnedText(text) => of_string(alloc, text),
-        Source::OctetString(octets) => {
-            BmpString::from_octet_string(alloc, OctetString::from_slice(alloc, octets)?)
+        Source::Octets => BmpString::from_bytes(alloc, &parts.octets),
+        Source::Text => BmpString::from_text(alloc, parts.text),
+        Source::OwnedText => of_string(alloc, parts.text),
+        Source::OctetString => {
+            BmpString::from_octet_string(alloc, OctetString::from_slice(alloc, &parts.octets)?)
         }
-        Source::StaticOctets(octets) => {
-            BmpString::from_octet_string(alloc, OctetString::from_static(octets))
-        }
-        Source::BitString(octets) => of_bits(alloc, octets),
-        Source::Vector(octets) => of_vector(alloc, octets),
-        Source::Zeros(len) => of_zeros(alloc, len),
-        Source::Pushed(character) => of_character(alloc, character),
+        Source::BitString => of_bits(alloc, &parts.octets),
+        Source::Vector => of_vector(alloc, &parts.octets),
+        Source::Zeros => of_zeros(alloc, parts.number as usize),
+        Source::Character => of_character(alloc, parts.number),
     }
 }
 
 /// What is to be made: a string of these characters, or none, by a character outside the alphabet, or since there are no whole characters.
+#[derive(Drop)]
 enum Wanted {
-    Characters(&'static [u32]),
+    Characters(Vec<u32>),
     Outside(u32),
     NoData,
 }
@@ -274,6 +283,19 @@ fn judged_error(kind: Kind, error: PermittedAlphabetError, wanted: &Wanted) -> A
     }
 }
 
+/// What was answered, where a string of these characters is wanted.
+fn judged_slice<T: Copy + Into<u32>, S: StaticPermittedAlphabet + AsSlice<T> + Drop>(
+    kind: Kind,
+    answer: Result<S, PermittedAlphabetError>,
+    wanted: &[u32],
+) -> Answer {
+    match answer {
+        Ok(string) if lists(&string, wanted) => Answer::Right,
+        Ok(_) => Answer::Wrong,
+        Err(error) => judged_error(kind, error, &Wanted::NoData),
+    }
+}
+
 /// What was answered.
 fn judged<T: Copy + Into<u32>, S: StaticPermittedAlphabet + AsSlice<T> + Drop>(
     kind: Kind,
@@ -290,283 +312,222 @@ fn judged<T: Copy + Into<u32>, S: StaticPermittedAlphabet + AsSlice<T> + Drop>(
 }
 
 /// What is answered to a call.
-fn answer_to(alloc: Global, (kind, source, wanted): &(Kind, Source, Wanted)) -> Answer {
+fn answer_to(
+    alloc: Global,
+    (kind, source): (Kind, Source),
+    parts: &Parts<'_>,
+    wanted: &Wanted,
+) -> Answer {
     match kind {
-        Kind::Numeric => judged(*kind, made::<Numeric>(alloc, *source), wanted),
-        Kind::Printable => judged(*kind, made::<Printable>(alloc, *source), wanted),
-        Kind::Visible => judged(*kind, made::<Visible>(alloc, *source), wanted),
-        Kind::Ia5 => judged(*kind, made::<Ia5>(alloc, *source), wanted),
-        Kind::General => judged(*kind, made::<General>(alloc, *source), wanted),
-        Kind::Graphic => judged(*kind, made::<Graphic>(alloc, *source), wanted),
-        Kind::Teletex => judged(*kind, made::<Teletex>(alloc, *source), wanted),
-        Kind::Bmp => judged(*kind, made_wide(alloc, *source), wanted),
+        Kind::Numeric => judged(kind, made::<Numeric>(alloc, source, parts), wanted),
+        Kind::Printable => judged(kind, made::<Printable>(alloc, source, parts), wanted),
+        Kind::Visible => judged(kind, made::<Visible>(alloc, source, parts), wanted),
+        Kind::Ia5 => judged(kind, made::<Ia5>(alloc, source, parts), wanted),
+        Kind::General => judged(kind, made::<General>(alloc, source, parts), wanted),
+        Kind::Graphic => judged(kind, made::<Graphic>(alloc, source, parts), wanted),
+        Kind::Teletex => judged(kind, made::<Teletex>(alloc, source, parts), wanted),
+        Kind::Bmp => judged(kind, made_wide(alloc, source, parts), wanted),
     }
+}
+
+/// The kind of this name.
+fn kind_of(name: &str) -> Option<Kind> {
+    match name {
+        "numeric" => Some(Kind::Numeric),
+        "printable" => Some(Kind::Printable),
+        "visible" => Some(Kind::Visible),
+        "ia5" => Some(Kind::Ia5),
+        "general" => Some(Kind::General),
+        "graphic" => Some(Kind::Graphic),
+        "teletex" => Some(Kind::Teletex),
+        "bmp" => Some(Kind::Bmp),
+        _ => None,
+    }
+}
+
+/// The source of this name.
+fn source_of(name: &str) -> Option<Source> {
+    match name {
+        "octets" => Some(Source::Octets),
+        "text" => Some(Source::Text),
+        "owned" => Some(Source::OwnedText),
+        "shared" => Some(Source::OctetString),
+        "bits" => Some(Source::BitString),
+        "vector" => Some(Source::Vector),
+        "zeros" => Some(Source::Zeros),
+        "character" => Some(Source::Character),
+        _ => None,
+    }
+}
+
+/// The number of hexadecimal digits; of other words 0.
+pub fn number_of(digits: &str) -> u32 {
+    u32::from_str_radix(digits, 16).unwrap_or(0)
+}
+
+/// The numbers of words of hexadecimal digits.
+pub fn numbers_of(alloc: Global, words: &str) -> Result<Vec<u32>, AllocError> {
+    let mut numbers = Vec::new(alloc);
+    for word in words.split_whitespace() {
+        numbers.push(number_of(word))?;
+    }
+    Ok(numbers)
+}
+
+/// The octets of two hexadecimal digits each, with a full stop between two of them.
+fn octets_of(alloc: Global, digits: &str) -> Result<Vec<u8>, AllocError> {
+    let mut octets = Vec::new(alloc);
+    for word in digits.split('.') {
+        octets.push(u8::from_str_radix(word, 16).unwrap_or(0))?;
+    }
+    Ok(octets)
+}
+
+/// What is to be made, as a sign and numbers say: `=` characters, `!` a character outside the alphabet, `?` no whole characters.
+fn wanted_of(alloc: Global, sign: &str, numbers: &str) -> Result<Wanted, AllocError> {
+    Ok(match sign {
+        "=" => Wanted::Characters(numbers_of(alloc, numbers)?),
+        "!" => Wanted::Outside(number_of(numbers)),
+        _ => Wanted::NoData,
+    })
+}
+
+/// What is answered to the call of a row.
+fn answer_to_row(
+    alloc: Global,
+    (kind, source, text): (&str, &str, &str),
+    wanted: &Wanted,
+) -> Result<Answer, AllocError> {
+    let parts = Parts {
+        text,
+        octets: octets_of(alloc, text)?,
+        number: number_of(text),
+    };
+    match (kind_of(kind), source_of(source)) {
+        (Some(kind), Some(source)) => Ok(answer_to(alloc, (kind, source), &parts, wanted)),
+        _ => Ok(Answer::Wrong),
+    }
+}
+
+/// Whether the answer to the call of a row is right; want of memory is answered as such.
+fn is_row(alloc: Global, row: &str) -> Result<bool, AllocError> {
+    let mut words = row.splitn(5, ' ');
+    let kind = words.next().unwrap_or("");
+    let source = words.next().unwrap_or("");
+    let text = words.next().unwrap_or("");
+    let sign = words.next().unwrap_or("");
+    let wanted = wanted_of(alloc, sign, words.next().unwrap_or(""))?;
+    match answer_to_row(alloc, (kind, source, text), &wanted)? {
+        Answer::Right => Ok(true),
+        Answer::Memory => Err(AllocError),
+        Answer::Wrong => Ok(false),
+    }
+}
+
+/// Strings of octets that stand for as long as the program runs.
+fn of_static_octets(alloc: Global) -> [Answer; 2] {
+    let narrow = RestrictedString::<Numeric>::from_octet_string(
+        alloc,
+        OctetString::from_static(b"12"),
+    );
+    let wide = BmpString::from_octet_string(alloc, OctetString::from_static(&[0x20, 0xAC]));
+    [
+        judged_slice(Kind::Numeric, narrow, &[0x31, 0x32]),
+        judged_slice(Kind::Bmp, wide, &[0x20AC]),
+    ]
 }
 
 /// Makes each string of the rows: the answer is right, or wants memory. Whether none was refused.
 pub fn requests(rt: &impl Abort, alloc: Global) -> bool {
     let mut granted = true;
-    for row in &ROWS {
-        let found = answer_to(alloc, row);
-        assert!(rt; found != Answer::Wrong, "of {:?}", row.0);
-        granted &= found == Answer::Right;
+    for row in ROWS.lines() {
+        let answer = is_row(alloc, row);
+        assert!(rt; answer != Ok(false), "{row}");
+        granted &= answer.is_ok();
+    }
+    for answer in of_static_octets(alloc) {
+        assert!(rt; answer != Answer::Wrong);
+        granted &= answer == Answer::Right;
     }
     granted
 }
 
-/// The rows: a kind, what a string is made of, and what is to be made.
-const ROWS: [(Kind, Source, Wanted); 75] = [
-    // Octets of each alphabet, and those refused by the first one outside it.
-    (
-        Kind::Numeric,
-        Source::Octets(b"123"),
-        Wanted::Characters(&[49, 50, 51]),
-    ),
-    (
-        Kind::Printable,
-        Source::Octets(b"Jo (1)?"),
-        Wanted::Characters(&[74, 111, 32, 40, 49, 41, 63]),
-    ),
-    (
-        Kind::Visible,
-        Source::Octets(b"a~b"),
-        Wanted::Characters(&[97, 126, 98]),
-    ),
-    (
-        Kind::Ia5,
-        Source::Octets(&[0, 127]),
-        Wanted::Characters(&[0, 127]),
-    ),
-    (
-        Kind::General,
-        Source::Octets(&[0, 255]),
-        Wanted::Characters(&[0, 255]),
-    ),
-    (
-        Kind::Graphic,
-        Source::Octets(&[0, 255]),
-        Wanted::Characters(&[0, 255]),
-    ),
-    (
-        Kind::Teletex,
-        Source::Octets(&[0, 255]),
-        Wanted::Characters(&[0, 255]),
-    ),
-    (Kind::Numeric, Source::Octets(b"12a3b"), Wanted::Outside(97)),
-    (Kind::Printable, Source::Octets(b"a*"), Wanted::Outside(42)),
-    (Kind::Visible, Source::Octets(&[0x80]), Wanted::Outside(128)),
-    (Kind::Ia5, Source::Octets(&[127, 128]), Wanted::Outside(128)),
-    // The first and the last characters of each alphabet, and those next to them.
-    (
-        Kind::Numeric,
-        Source::Octets(&[32, 57]),
-        Wanted::Characters(&[32, 57]),
-    ),
-    (Kind::Numeric, Source::Pushed(31), Wanted::Outside(31)),
-    (Kind::Numeric, Source::Pushed(33), Wanted::Outside(33)),
-    (Kind::Numeric, Source::Pushed(47), Wanted::Outside(47)),
-    (Kind::Numeric, Source::Pushed(58), Wanted::Outside(58)),
-    (
-        Kind::Printable,
-        Source::Octets(&[32, 122]),
-        Wanted::Characters(&[32, 122]),
-    ),
-    (Kind::Printable, Source::Pushed(31), Wanted::Outside(31)),
-    (Kind::Printable, Source::Pushed(33), Wanted::Outside(33)),
-    (Kind::Printable, Source::Pushed(42), Wanted::Outside(42)),
-    (Kind::Printable, Source::Pushed(64), Wanted::Outside(64)),
-    (Kind::Printable, Source::Pushed(91), Wanted::Outside(91)),
-    (Kind::Printable, Source::Pushed(96), Wanted::Outside(96)),
-    (Kind::Printable, Source::Pushed(123), Wanted::Outside(123)),
-    (
-        Kind::Visible,
-        Source::Octets(&[32, 126]),
-        Wanted::Characters(&[32, 126]),
-    ),
-    (Kind::Visible, Source::Pushed(31), Wanted::Outside(31)),
-    (Kind::Visible, Source::Pushed(127), Wanted::Outside(127)),
-    (
-        Kind::Ia5,
-        Source::Octets(&[0, 127]),
-        Wanted::Characters(&[0, 127]),
-    ),
-    (Kind::Ia5, Source::Pushed(128), Wanted::Outside(128)),
-    (
-        Kind::General,
-        Source::Octets(&[0, 255]),
-        Wanted::Characters(&[0, 255]),
-    ),
-    (Kind::General, Source::Pushed(256), Wanted::Outside(256)),
-    (
-        Kind::Graphic,
-        Source::Octets(&[0, 255]),
-        Wanted::Characters(&[0, 255]),
-    ),
-    (Kind::Graphic, Source::Pushed(256), Wanted::Outside(256)),
-    (
-        Kind::Teletex,
-        Source::Octets(&[0, 255]),
-        Wanted::Characters(&[0, 255]),
-    ),
-    (Kind::Teletex, Source::Pushed(256), Wanted::Outside(256)),
-    (Kind::Bmp, Source::Pushed(0x10000), Wanted::Outside(0x10000)),
-    (
-        Kind::Bmp,
-        Source::Pushed(u32::MAX),
-        Wanted::Outside(u32::MAX),
-    ),
-    // Texts that are lent: 233 is one octet of a TeletexString, and two of the text.
-    (
-        Kind::Ia5,
-        Source::Text("Jo"),
-        Wanted::Characters(&[74, 111]),
-    ),
-    (
-        Kind::Teletex,
-        Source::Text("\u{E9}"),
-        Wanted::Characters(&[233]),
-    ),
-    (
-        Kind::Visible,
-        Source::Text("a\u{E9}b\u{FF}"),
-        Wanted::Outside(233),
-    ),
-    (
-        Kind::General,
-        Source::Text("a\u{100}"),
-        Wanted::Outside(256),
-    ),
-    (
-        Kind::Bmp,
-        Source::Text("A\u{20AC}"),
-        Wanted::Characters(&[65, 8364]),
-    ),
-    (
-        Kind::Bmp,
-        Source::Text("A\u{1F600}\u{1F601}"),
-        Wanted::Outside(0x1f600),
-    ),
-    // Texts that are given up.
-    (
-        Kind::Printable,
-        Source::OwnedText("Jo"),
-        Wanted::Characters(&[74, 111]),
-    ),
-    (
-        Kind::Graphic,
-        Source::OwnedText("a\u{E9}"),
-        Wanted::Characters(&[97, 233]),
-    ),
-    (Kind::Numeric, Source::OwnedText("1a"), Wanted::Outside(97)),
-    (
-        Kind::Ia5,
-        Source::OwnedText("1\u{E9}"),
-        Wanted::Outside(233),
-    ),
-    (
-        Kind::Graphic,
-        Source::OwnedText("\u{E9}a"),
-        Wanted::Characters(&[233, 97]),
-    ),
-    (
-        Kind::Graphic,
-        Source::OwnedText("a"),
-        Wanted::Characters(&[97]),
-    ),
-    (
-        Kind::Bmp,
-        Source::OwnedText("\u{20AC}B"),
-        Wanted::Characters(&[8364, 66]),
-    ),
-    (
-        Kind::Bmp,
-        Source::OwnedText("\u{10000}"),
-        Wanted::Outside(0x10000),
-    ),
-    (
-        Kind::Bmp,
-        Source::OwnedText("\u{20AC}"),
-        Wanted::Characters(&[8364]),
-    ),
-    // Octets in each other form.
-    (
-        Kind::Numeric,
-        Source::OctetString(b"42"),
-        Wanted::Characters(&[52, 50]),
-    ),
-    (
-        Kind::Numeric,
-        Source::BitString(b"42"),
-        Wanted::Characters(&[52, 50]),
-    ),
-    (
-        Kind::Numeric,
-        Source::Vector(b"42"),
-        Wanted::Characters(&[52, 50]),
-    ),
-    (
-        Kind::Numeric,
-        Source::OctetString(b"4x"),
-        Wanted::Outside(120),
-    ),
-    (
-        Kind::Numeric,
-        Source::BitString(b"4x"),
-        Wanted::Outside(120),
-    ),
-    (Kind::Numeric, Source::Vector(b"4x"), Wanted::Outside(120)),
-    (
-        Kind::Numeric,
-        Source::StaticOctets(b"12"),
-        Wanted::Characters(&[49, 50]),
-    ),
-    (
-        Kind::Numeric,
-        Source::Octets(b"12"),
-        Wanted::Characters(&[49, 50]),
-    ),
-    (
-        Kind::Bmp,
-        Source::Octets(&[0x00, 0x41, 0x20, 0xAC]),
-        Wanted::Characters(&[65, 8364]),
-    ),
-    (
-        Kind::Bmp,
-        Source::Octets(&[0x00, 0x41, 0x20]),
-        Wanted::NoData,
-    ),
-    (
-        Kind::Bmp,
-        Source::Octets(&[0x20, 0xAC]),
-        Wanted::Characters(&[8364]),
-    ),
-    (
-        Kind::Bmp,
-        Source::OctetString(&[0x20, 0xAC]),
-        Wanted::Characters(&[8364]),
-    ),
-    (
-        Kind::Bmp,
-        Source::BitString(&[0x20, 0xAC]),
-        Wanted::Characters(&[8364]),
-    ),
-    (
-        Kind::Bmp,
-        Source::Vector(&[0x20, 0xAC]),
-        Wanted::Characters(&[8364]),
-    ),
-    (
-        Kind::Bmp,
-        Source::StaticOctets(&[0x20, 0xAC]),
-        Wanted::Characters(&[8364]),
-    ),
-    (Kind::Bmp, Source::OctetString(&[0x41]), Wanted::NoData),
-    (Kind::Bmp, Source::BitString(&[0x41]), Wanted::NoData),
-    (Kind::Bmp, Source::Vector(&[0x41]), Wanted::NoData),
-    // Zero bits, which are whole characters or none.
-    (Kind::Ia5, Source::Zeros(9), Wanted::NoData),
-    (Kind::Ia5, Source::Zeros(16), Wanted::Characters(&[0, 0])),
-    (Kind::Ia5, Source::Zeros(8), Wanted::Characters(&[0])),
-    (Kind::Bmp, Source::Zeros(24), Wanted::NoData),
-    (Kind::Bmp, Source::Zeros(16), Wanted::Characters(&[0])),
-];
+/// The rows: a kind, what a string is made of, and what is to be made, with numbers in hexadecimal digits. First octets of each alphabet, and
+/// those refused by the first one outside it; then the first and the last characters of each alphabet, and those next to them; texts that are
+/// lent, where E9 is one octet of a TeletexString, and two of the text, and texts that are given up; octets in each other form; and zero bits,
+/// which are whole characters or none.
+const ROWS: &str = "\
+numeric octets 31.32.33 = 31 32 33
+printable octets 4A.6F.20.28.31.29.3F = 4A 6F 20 28 31 29 3F
+visible octets 61.7E.62 = 61 7E 62
+ia5 octets 00.7F = 00 7F
+general octets 00.FF = 00 FF
+graphic octets 00.FF = 00 FF
+teletex octets 00.FF = 00 FF
+numeric octets 31.32.61.33.62 ! 61
+printable octets 61.2A ! 2A
+visible octets 80 ! 80
+ia5 octets 7F.80 ! 80
+numeric octets 20.39 = 20 39
+numeric character 1F ! 1F
+numeric character 21 ! 21
+numeric character 2F ! 2F
+numeric character 3A ! 3A
+printable octets 20.7A = 20 7A
+printable character 1F ! 1F
+printable character 21 ! 21
+printable character 2A ! 2A
+printable character 40 ! 40
+printable character 5B ! 5B
+printable character 60 ! 60
+printable character 7B ! 7B
+visible octets 20.7E = 20 7E
+visible character 1F ! 1F
+visible character 7F ! 7F
+ia5 octets 00.7F = 00 7F
+ia5 character 80 ! 80
+general octets 00.FF = 00 FF
+general character 100 ! 100
+graphic octets 00.FF = 00 FF
+graphic character 100 ! 100
+teletex octets 00.FF = 00 FF
+teletex character 100 ! 100
+bmp character 10000 ! 10000
+bmp character FFFFFFFF ! FFFFFFFF
+ia5 text Jo = 4A 6F
+teletex text \u{E9} = E9
+visible text a\u{E9}b\u{FF} ! E9
+general text a\u{100} ! 100
+bmp text A\u{20AC} = 41 20AC
+bmp text A\u{1F600}\u{1F601} ! 1F600
+bmp text \u{20AC} = 20AC
+printable owned Jo = 4A 6F
+graphic owned a\u{E9} = 61 E9
+numeric owned 1a ! 61
+ia5 owned 1\u{E9} ! E9
+graphic owned \u{E9}a = E9 61
+graphic owned a = 61
+bmp owned \u{20AC}B = 20AC 42
+bmp owned \u{10000} ! 10000
+bmp owned \u{20AC} = 20AC
+numeric shared 34.32 = 34 32
+numeric bits 34.32 = 34 32
+numeric vector 34.32 = 34 32
+numeric shared 34.78 ! 78
+numeric bits 34.78 ! 78
+numeric vector 34.78 ! 78
+numeric octets 31.32 = 31 32
+bmp octets 00.41.20.AC = 41 20AC
+bmp octets 00.41.20 ?
+bmp octets 20.AC = 20AC
+bmp shared 20.AC = 20AC
+bmp bits 20.AC = 20AC
+bmp vector 20.AC = 20AC
+bmp shared 41 ?
+bmp bits 41 ?
+bmp vector 41 ?
+ia5 zeros 9 ?
+ia5 zeros 10 = 00 00
+ia5 zeros 8 = 00
+bmp zeros 18 ?
+bmp zeros 10 = 00";

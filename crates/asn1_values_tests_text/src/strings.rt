@@ -92,12 +92,26 @@ fn are_given(first: Result<Vec<u8>, AllocError>, wanted: &[u8]) -> bool {
     }
 }
 
-/// Whether characters are these two, and no more.
-fn are_two<I: Iterator<Item = u32> + Drop>(mut characters: I, first: u32, second: u32) -> bool {
-    characters.next() == Some(first)
-        && characters.next() == Some(second)
-        && characters.next() == None
-        && characters.next() == None
+/// What a string of octets that is gone through gives at first.
+fn first_four(string: &PrintableString) -> [Option<u32>; 4] {
+    let mut characters = string.chars();
+    [
+        characters.next(),
+        characters.next(),
+        characters.next(),
+        characters.next(),
+    ]
+}
+
+/// What a BMPString that is gone through gives at first.
+fn first_four_pairs(string: &BmpString) -> [Option<u32>; 4] {
+    let mut characters = string.chars();
+    [
+        characters.next(),
+        characters.next(),
+        characters.next(),
+        characters.next(),
+    ]
 }
 
 /// Whether a string of octets has the characters 65 and 98, lent and given up.
@@ -105,7 +119,7 @@ fn has_two_octets(alloc: Global, string: PrintableString) -> bool {
     let is_lent = string.len() == 2
         && !string.is_empty()
         && string.as_bytes() == b"Ab".as_slice()
-        && are_two(string.chars(), 65, 98)
+        && first_four(&string) == [Some(65), Some(98), None, None]
         && lists(&string, &[65, 98])
         && are_given(string.to_bytes(alloc), b"Ab");
     let octets = string.into_vec();
@@ -116,7 +130,7 @@ fn has_two_octets(alloc: Global, string: PrintableString) -> bool {
 fn has_two_pairs(alloc: Global, string: BmpString) -> bool {
     let is_lent = string.len() == 2
         && string.as_units() == [0x41, 0x20AC].as_slice()
-        && are_two(string.chars(), 0x41, 0x20AC)
+        && first_four_pairs(&string) == [Some(0x41), Some(0x20AC), None, None]
         && lists(&string, &[0x41, 0x20AC])
         && are_given(string.to_bytes(alloc), &[0x00, 0x41, 0x20, 0xAC]);
     let units = string.into_vec();
@@ -275,13 +289,23 @@ fn is_whole<T: PartialEq, S: AsSlice<T> + Drop>(
     is_granted
 }
 
-/// Appends a character twenty times, which makes a string of these, and copies it. A refused one leaves the string as it was. Whether
-/// none was refused.
+/// Whether there are twenty items, all of them this one.
+fn are_twenty<T: PartialEq>(items: &[T], wanted: &T) -> bool {
+    for item in items {
+        if item != wanted {
+            return false;
+        }
+    }
+    items.len() == 20
+}
+
+/// Appends a character twenty times, which makes a string of as many items, and copies it. A refused one leaves the string as it was.
+/// Whether none was refused.
 fn appends<T: PartialEq, S: StaticPermittedAlphabet + Clone + AsSlice<T> + Drop>(
     rt: &impl Abort,
     string: &mut S,
     character: u32,
-    wanted: &[T],
+    item: &T,
 ) -> bool {
     let mut granted = true;
     for count in 0..20 {
@@ -290,9 +314,20 @@ fn appends<T: PartialEq, S: StaticPermittedAlphabet + Clone + AsSlice<T> + Drop>
             assert!(rt; string.char_count() == count && string.push_char(character).is_ok());
         }
     }
-    assert!(rt; string.as_slice() == wanted);
+    assert!(rt; are_twenty(string.as_slice(), item));
     let copied = string.clone().map_err(PermittedAlphabetError::Memory);
-    granted & is_whole(rt, copied, wanted)
+    granted & is_whole(rt, copied, string.as_slice())
+}
+
+/// Whether a call was granted its memory: then it has given forty octets.
+fn gives_forty(rt: &impl Abort, answer: Result<Vec<u8>, AllocError>) -> bool {
+    match answer {
+        Ok(octets) => {
+            assert!(rt; octets.len() == 40);
+            true
+        }
+        Err(AllocError) => false,
+    }
 }
 
 /// Takes the octets of an empty string, which is handed back where they are refused. Whether they were not.
@@ -308,24 +343,17 @@ fn gives_no_octets(rt: &impl Abort, alloc: Global) -> bool {
 /// Appends characters, copies the strings and takes octets. Whether no request for memory was refused.
 fn grows(rt: &impl Abort, alloc: Global) -> bool {
     let mut narrow = NumericString::new(alloc);
-    let mut granted = appends(rt, &mut narrow, 0x31, &[0x31; 20]);
+    let mut granted = appends(rt, &mut narrow, 0x31, &0x31);
     let octets = narrow
         .to_bytes(alloc)
         .map_err(PermittedAlphabetError::Memory);
     granted &= is_whole(rt, octets, narrow.as_bytes());
     let mut wide = BmpString::new(alloc);
-    granted &= appends(rt, &mut wide, 0x20AC, &[0x20AC; 20]);
-    let octets = wide.to_bytes(alloc).map_err(PermittedAlphabetError::Memory);
-    granted &= is_whole(rt, octets, WIDE.as_slice());
+    granted &= appends(rt, &mut wide, 0x20AC, &0x20AC);
+    granted &= gives_forty(rt, wide.to_bytes(alloc));
     granted &= gives_no_octets(rt, alloc);
     granted & is_whole(rt, octets_of(alloc), b"Jo")
 }
-
-const WIDE: [u8; 40] = [
-    0x20, 0xAC, 0x20, 0xAC, 0x20, 0xAC, 0x20, 0xAC, 0x20, 0xAC, 0x20, 0xAC, 0x20, 0xAC, 0x20, 0xAC,
-    0x20, 0xAC, 0x20, 0xAC, 0x20, 0xAC, 0x20, 0xAC, 0x20, 0xAC, 0x20, 0xAC, 0x20, 0xAC, 0x20, 0xAC,
-    0x20, 0xAC, 0x20, 0xAC, 0x20, 0xAC, 0x20, 0xAC,
-];
 
 /// Makes the strings and alphabets of all rows, and has strings grow. Whether no request for memory was refused.
 fn requests(rt: &impl Abort, alloc: Global) -> bool {
