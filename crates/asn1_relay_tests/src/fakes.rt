@@ -2,7 +2,7 @@
 use std::io::{self, Error, ErrorKind, Read, Write};
 
 /// What one read does.
-#[derive(Clone, Copy, Debug)]
+#[derive(Clone, Copy)]
 pub enum Step {
     /// It gives these octets.
     Octets(&'static [u8]),
@@ -13,7 +13,7 @@ pub enum Step {
 }
 
 /// A reader whose reads do these steps in turn, and then tell the end.
-#[derive(Debug, Drop)]
+#[derive(Drop)]
 pub struct FakeReader<'a> {
     steps: &'a [Step],
     is_read: bool,
@@ -56,7 +56,7 @@ impl<'a> Read for FakeReader<'a> {
 const ROOM: usize = 64;
 
 /// A writer that keeps the first octets, and may fail.
-#[derive(Debug, Drop)]
+#[derive(Drop)]
 pub struct FakeWriter {
     kept: [u8; ROOM],
     len: usize,
