@@ -6,7 +6,6 @@ use asn1_schema_encode::Encode;
 use asn1_schema_faults::{DecodeError, EncodeError};
 use asn1_values_bit_strings::BitString;
 use asn1_values_bits::BitStr;
-use asn1_values_numbers::Integer;
 use asn1_values_octets::OctetString;
 use oer_codec::reading::{decode_with_constraints, decode_with_remainder};
 use oer_codec::{coer, oer, writing};
@@ -50,83 +49,6 @@ fn buffers(rt: HostRuntime) -> Result<(), Fail> {
     let mut buffer = vec![in alloc; 0xAAu8]?;
     assert!(rt; four_are_refused(alloc, &mut buffer)?);
     assert!(rt; adds_true(alloc, &mut buffer)?);
-    Ok(())
-}
-
-/// A number between two bounds, or without any, and its canonical octets.
-#[derive(Clone, Copy)]
-struct Row {
-    bounds: Bounded<i128>,
-    number: i128,
-    octets: &'static [u8],
-}
-
-/// Numbers of few octets and of more.
-const NUMBERS: [Row; 6] = [
-    Row {
-        bounds: Bounded::None,
-        number: -255,
-        octets: &[0x02, 0xFF, 0x01],
-    },
-    Row {
-        bounds: Bounded::None,
-        number: -1234567,
-        octets: &[0x03, 0xED, 0x29, 0x79],
-    },
-    Row {
-        bounds: Bounded::Range {
-            start: Some(0),
-            end: Some(65535),
-        },
-        number: 255,
-        octets: &[0x00, 0xFF],
-    },
-    Row {
-        bounds: Bounded::Range {
-            start: Some(0),
-            end: Some(i128::MAX),
-        },
-        number: 18446744073709551616,
-        octets: &[0x09, 0x01, 0x00, 0x00, 0x00, 0x00, 0x00, 0x00, 0x00, 0x00],
-    },
-    Row {
-        bounds: Bounded::Range {
-            start: Some(-32768),
-            end: Some(32767),
-        },
-        number: -128,
-        octets: &[0xFF, 0x80],
-    },
-    Row {
-        bounds: Bounded::Range {
-            start: Some(256),
-            end: Some(1234567),
-        },
-        number: 1234567,
-        octets: &[0x00, 0x12, 0xD6, 0x87],
-    },
-];
-
-/// Whether a number is read from its octets by both sets of rules, and written in them.
-fn stands_under(alloc: Global, constraints: Constraints<'_>, row: &Row) -> Result<bool, Fail> {
-    let written = coer::encode_with_constraints(alloc, constraints, &row.number)?;
-    let basic: i128 = oer::decode_with_constraints(alloc, constraints, row.octets)?;
-    let canonical: i128 = coer::decode_with_constraints(alloc, constraints, row.octets)?;
-    Ok(written.as_slice() == row.octets && basic == row.number && canonical == row.number)
-}
-
-/// What a line of vectors does not say: which number its octets are.
-#[test]
-fn numbers(rt: HostRuntime) -> Result<(), Fail> {
-    let alloc = rt.alloc();
-    for row in &NUMBERS {
-        let bounds = Constraint::Value(Extensible::new(Value::new(row.bounds)));
-        assert!(rt;
-            stands_under(alloc, Constraints::new(&[bounds]), row)?,
-            "{}",
-            row.number
-        );
-    }
     Ok(())
 }
 
@@ -183,8 +105,8 @@ fn is_seven_under(
     input: &[u8],
 ) -> Result<bool, DecodeError> {
     let rules = EncodingRules::Coer;
-    let number = decode_with_constraints::<Integer>(alloc, constraints, input, rules)?;
-    Ok(number == Integer::from(7))
+    let number = decode_with_constraints::<i32>(alloc, constraints, input, rules)?;
+    Ok(number == 7)
 }
 
 /// What stands behind a value is lent, or passed over; given constraints stand in place of those of the type.

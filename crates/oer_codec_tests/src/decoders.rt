@@ -5,7 +5,6 @@ use asn1_schema_decode::{Decode, Decoder as Reading};
 use asn1_schema_faults::DecodeError;
 use asn1_schema_tags::{Class, Tag};
 use asn1_schema_variants::Chosen;
-use asn1_values_numbers::Integer;
 use oer_codec::coer::{Decoder, DecoderOptions};
 use std::alloc::Global;
 use std::test::Fail;
@@ -111,9 +110,9 @@ fn choices(rt: HostRuntime) {
 }
 
 /// Whether INTEGER of this number is next.
-fn is_number(alloc: Global, decoder: &mut Decoder<'_>, number: i64) -> Result<bool, DecodeError> {
-    let found = Integer::decode(alloc, decoder)?;
-    Ok(found == Integer::from(number))
+fn is_number(alloc: Global, decoder: &mut Decoder<'_>, number: i32) -> Result<bool, DecodeError> {
+    let found: i32 = decoder.decode_integer(alloc, Tag::INTEGER, Constraints::NONE)?;
+    Ok(found == number)
 }
 
 /// Whether SEQUENCE {INTEGER, SEQUENCE {INTEGER DEFAULT 0, BOOLEAN OPTIONAL}} 5, 7, true is next.
@@ -145,12 +144,16 @@ fn are_both(alloc: Global, decoder: &mut Decoder<'_>) -> Result<bool, DecodeErro
     Ok(nested && set && decoder.remaining().is_empty())
 }
 
+/// Whether these octets are both, one behind the other.
+fn hold_both(alloc: Global, octets: &[u8]) -> Result<bool, DecodeError> {
+    let mut decoder = Decoder::new(alloc, octets, DecoderOptions::coer());
+    are_both(alloc, &mut decoder)
+}
+
 #[test]
 fn one_value_behind_another(rt: HostRuntime) -> Result<(), Fail> {
-    let alloc = rt.alloc();
     let octets = [0x01, 0x05, 0xC0, 0x01, 0x07, 0xFF, 0x80, 0xFF];
-    let mut decoder = Decoder::new(alloc, &octets, DecoderOptions::coer());
-    assert!(rt; are_both(alloc, &mut decoder)?);
+    assert!(rt; hold_both(rt.alloc(), &octets)?);
     Ok(())
 }
 
@@ -174,34 +177,39 @@ fn a_decoder_that_has_failed(rt: HostRuntime) {
     assert!(rt; is_true_before(&mut basic, 0xFF));
 }
 
-/// Whether this is SEQUENCE {..., and 65 additions INTEGER (0..255) OPTIONAL} with 7 in the last addition, and no other.
-fn has_the_last_of_65(alloc: Global, decoder: &mut Decoder<'_>) -> Result<bool, DecodeError> {
+/// Reads SEQUENCE {..., and 65 additions INTEGER (0..255) OPTIONAL}: how many additions are absent, and the last one, which is there.
+fn read_last_of_65(alloc: Global, decoder: &mut Decoder<'_>) -> Result<(u8, u8), DecodeError> {
     decoder.begin_sequence(Tag::SEQUENCE, true, 0)?;
     decoder.begin_additions(65)?;
-    for _ in 0..64u8 {
-        if decoder.get_addition()? {
-            return Ok(false);
+    let mut absent = 0u8;
+    for _ in 0..65u8 {
+        if !decoder.get_addition()? {
+            absent = absent.saturating_add(1);
         }
-    }
-    if !decoder.get_addition()? {
-        return Ok(false);
     }
     let value = u8::decode(alloc, decoder)?;
     decoder.end_addition()?;
     decoder.end()?;
-    Ok(value == 7)
+    Ok((absent, value))
+}
+
+/// What is read of such a value by these rules.
+fn last_of_65(
+    alloc: Global,
+    octets: &[u8],
+    options: DecoderOptions,
+) -> Result<(u8, u8), DecodeError> {
+    let mut decoder = Decoder::new(alloc, octets, options);
+    read_last_of_65(alloc, &mut decoder)
 }
 
 /// A bitmap of 65 bits has nine octets, of which the last has seven unused bits (X.696 16.4).
 #[test]
-fn an_addition_behind_64_others(rt: HostRuntime) -> Result<(), DecodeError> {
+fn an_addition_behind_64_others(rt: HostRuntime) {
     let alloc = rt.alloc();
     let octets = [0x80, 0x0A, 0x07, 0, 0, 0, 0, 0, 0, 0, 0, 0x80, 0x01, 0x07];
-    for options in [DecoderOptions::coer(), DecoderOptions::oer()] {
-        let mut decoder = Decoder::new(alloc, &octets, options);
-        assert!(rt; has_the_last_of_65(alloc, &mut decoder)?);
-    }
-    Ok(())
+    assert!(rt; last_of_65(alloc, &octets, DecoderOptions::coer()) == Ok((64, 7)));
+    assert!(rt; last_of_65(alloc, &octets, DecoderOptions::oer()) == Ok((64, 7)));
 }
 
 /// Begins a list.
@@ -237,12 +245,21 @@ fn is_full_of_sequences(decoder: &mut Decoder<'_>) -> Result<bool, DecodeError> 
     )
 }
 
+/// Whether the list past 128 levels of these octets is refused.
+fn are_full_of_lists(alloc: Global, octets: &[u8]) -> Result<bool, DecodeError> {
+    let mut decoder = Decoder::new(alloc, octets, DecoderOptions::coer());
+    is_full_of_lists(&mut decoder)
+}
+
+/// Whether the sequence past 128 levels of no octets is refused.
+fn none_are_full_of_sequences(alloc: Global) -> Result<bool, DecodeError> {
+    let mut decoder = Decoder::new(alloc, &[], DecoderOptions::coer());
+    is_full_of_sequences(&mut decoder)
+}
+
 #[test]
-fn the_level_past_128(rt: HostRuntime) -> Result<(), Fail> {
+fn the_level_past_128(rt: HostRuntime) {
     let alloc = rt.alloc();
-    let mut lists = Decoder::new(alloc, &[0x01; 258], DecoderOptions::coer());
-    assert!(rt; is_full_of_lists(&mut lists)?);
-    let mut sequences = Decoder::new(alloc, &[], DecoderOptions::coer());
-    assert!(rt; is_full_of_sequences(&mut sequences)?);
-    Ok(())
+    assert!(rt; are_full_of_lists(alloc, &[0x01; 258]) == Ok(true));
+    assert!(rt; none_are_full_of_sequences(alloc) == Ok(true));
 }

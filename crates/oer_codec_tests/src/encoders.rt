@@ -189,6 +189,11 @@ const BITMAPS: [(usize, Around); 8] = [
     ),
 ];
 
+/// Whether such a sequence stands in these octets.
+fn last_stands_in(alloc: Global, row: &(usize, Around)) -> Result<bool, EncodeError> {
+    stands_in(alloc, Message::LastOf(row.0), &row.1)
+}
+
 /// A bitmap stands behind its length, which counts the octet of the unused bits too (X.696 16.4).
 #[test]
 fn bitmaps(rt: HostRuntime) -> Result<(), Fail> {
@@ -270,28 +275,34 @@ fn one_worker_for_more_messages(rt: HostRuntime) -> Result<(), Fail> {
     Ok(())
 }
 
-/// Writes CHOICE {[0] .., [444] BOOLEAN}: [444] true.
-fn write_444(encoder: &mut Encoder<'_>) -> Result<(), EncodeError> {
-    let roots = [context(0), context(444)];
-    encoder.begin_choice(Tag::EOC, &roots, false, &[], Chosen::root(1))?;
+/// Writes true: whether it alone is put out.
+fn puts_out_true(encoder: &mut Encoder<'_>) -> Result<bool, EncodeError> {
     true.encode(encoder)?;
-    encoder.end()
+    Ok(encoder.output().as_slice() == [0xFF].as_slice())
 }
 
-/// Whether values that are written one after the other are each put out alone, and the end of nothing is then refused, and what follows.
-fn fails_for_good(encoder: &mut Encoder<'_>) -> Result<bool, EncodeError> {
-    write_444(encoder)?;
-    let first = encoder.output();
-    true.encode(encoder)?;
-    let second = encoder.output();
-    Ok(
-        first.as_slice() == [0xBF, 0x83, 0x3C, 0xFF].as_slice()
-            && second.as_slice() == [0xFF].as_slice()
-            && encoder.end() == Err(EncodeError::SizeConstraintNotSatisfied)
-            && encoder.put_mark(true) == Err(EncodeError::AlreadyFailed)
-            && encoder.encode_bool(Tag::BOOL, true, Identifier::EMPTY)
-                == Err(EncodeError::AlreadyFailed),
-    )
+/// Whether the end of nothing is refused, and what follows.
+fn fails_for_good(encoder: &mut Encoder<'_>) -> bool {
+    encoder.end() == Err(EncodeError::SizeConstraintNotSatisfied)
+        && encoder.put_mark(true) == Err(EncodeError::AlreadyFailed)
+        && encoder.encode_bool(Tag::BOOL, true, Identifier::EMPTY)
+            == Err(EncodeError::AlreadyFailed)
+}
+
+/// Whether values that are written one after the other are each put out alone, until the encoder fails.
+fn puts_out_two(encoder: &mut Encoder<'_>) -> Result<bool, EncodeError> {
+    let first = puts_out_true(encoder)?;
+    let second = puts_out_true(encoder)?;
+    Ok(first && second && fails_for_good(encoder))
+}
+
+/// Whether an encoder does that.
+fn two_are_put_out(alloc: Global) -> Result<bool, EncodeError> {
+    let mut buffer = Vec::new(alloc);
+    let mut worker = Vec::new(alloc);
+    let options = EncoderOptions::coer();
+    let mut encoder = Encoder::from_buffer(alloc, options, &mut buffer, &mut worker);
+    puts_out_two(&mut encoder)
 }
 
 /// Begins an addition of a choice that is not extensible, and so has none.
@@ -310,13 +321,8 @@ fn refuses_without_mark(alloc: Global) -> bool {
 }
 
 #[test]
-fn encoders_that_have_failed(rt: HostRuntime) -> Result<(), Fail> {
+fn encoders_that_have_failed(rt: HostRuntime) {
     let alloc = rt.alloc();
-    let mut buffer = Vec::new(alloc);
-    let mut worker = Vec::new(alloc);
-    let options = EncoderOptions::coer();
-    let mut encoder = Encoder::from_buffer(alloc, options, &mut buffer, &mut worker);
-    assert!(rt; fails_for_good(&mut encoder)?);
+    assert!(rt; two_are_put_out(alloc) == Ok(true));
     assert!(rt; refuses_without_mark(alloc));
-    Ok(())
 }
