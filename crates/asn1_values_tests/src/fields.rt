@@ -141,51 +141,54 @@ const FIELDS_OF_OCTETS: [Wanted; 2] = [
     Wanted::Whole(&[2; 20]),
 ];
 
-/// The alphabet of digits and the whole numbers of the rows; a request for memory that was refused is made once more, and then `granted`
-/// is false.
-fn parts_of(alloc: Global, granted: &mut bool) -> Result<Parts, FieldFault> {
-    let wanting = FieldFault {
-        field: 0,
-        kind: FieldFaultKind::Memory,
-    };
-    let minus_one = Integer::from_i128(-1);
-    if let Ok(digits) = CharacterAlphabet::new(alloc, &NUMERIC, false)
-        && let Ok(long) = Integer::from_signed_octets(alloc, &[1; 20])
-    {
-        return Ok(Parts {
-            digits,
-            minus_one,
-            long,
-        });
+/// The alphabet of digits, at the second time where a request for memory was refused, and then `granted` is false.
+fn digits_of(alloc: Global, granted: &mut bool) -> Option<CharacterAlphabet> {
+    match CharacterAlphabet::new(alloc, &NUMERIC, false) {
+        Ok(digits) => Some(digits),
+        Err(_) => {
+            *granted = false;
+            CharacterAlphabet::new(alloc, &NUMERIC, false).ok()
+        }
     }
-    *granted = false;
-    let Ok(digits) = CharacterAlphabet::new(alloc, &NUMERIC, false) else {
-        return Err(wanting);
-    };
+}
+
+/// The whole number of twenty octets 01, in the same way.
+fn long_of(alloc: Global, granted: &mut bool) -> Option<Integer> {
     match Integer::from_signed_octets(alloc, &[1; 20]) {
-        Ok(long) => Ok(Parts {
+        Ok(long) => Some(long),
+        Err(_) => {
+            *granted = false;
+            Integer::from_signed_octets(alloc, &[1; 20]).ok()
+        }
+    }
+}
+
+/// The alphabet of digits and the whole numbers of the rows.
+fn parts_of(alloc: Global, granted: &mut bool) -> Option<Parts> {
+    let digits = digits_of(alloc, granted)?;
+    match long_of(alloc, granted) {
+        Some(long) => Some(Parts {
             digits,
-            minus_one,
+            minus_one: Integer::from_i128(-1),
             long,
         }),
-        Err(_) => Err(wanting),
+        None => None,
     }
 }
 
 /// Whether the fields of both rows are written as their octets, and the digits "123" by their codes.
-fn are_written(alloc: Global, parts: &Parts) -> Result<bool, FieldFault> {
-    let mut buffer = BitBuffer::new(alloc);
-    write_row(&mut buffer, parts)?;
+fn are_written(buffer: &mut BitBuffer, parts: &Parts) -> Result<bool, FieldFault> {
+    write_row(buffer, parts)?;
     let is_short = buffer.len() == 20 && buffer.as_bytes() == ROW.as_slice();
     buffer.clear();
-    write_each(&mut buffer, parts)?;
+    write_each(buffer, parts)?;
     let is_long = buffer.len() == 183 && buffer.as_bytes() == ROW_OF_EACH.as_slice();
     buffer.clear();
     let field = FieldBits::Characters {
         alphabet: &parts.digits,
         characters: &[49, 50, 51],
     };
-    write_fields(&mut buffer, &[field])?;
+    write_fields(buffer, &[field])?;
     Ok(is_short && is_long && buffer.as_bytes() == [0x23, 0x40].as_slice())
 }
 
@@ -229,13 +232,12 @@ fn are_compared(alloc: Global) -> Result<bool, FieldFault> {
 }
 
 /// Whether each row is written as its octets, and these are read as its fields.
-fn are_rows(alloc: Global) -> Result<bool, FieldFault> {
-    let parts = parts_of(alloc, &mut true)?;
+fn are_rows(alloc: Global, parts: &Parts) -> Result<bool, FieldFault> {
     Ok(
-        are_written(alloc, &parts)?
+        are_written(&mut BitBuffer::new(alloc), parts)?
             && is_row_read(alloc)?
             && are_octets_read(alloc)?
-            && is_each_read(alloc, &parts, &mut true)?
+            && is_each_read(alloc, parts, &mut true)?
             && are_compared(alloc)?,
     )
 }
@@ -305,10 +307,11 @@ fn is_left_alone(buffer: &mut BitBuffer) -> bool {
 #[test]
 fn fields_are_written_and_read(rt: HostRuntime) {
     let alloc = rt.alloc();
-    assert!(rt; are_rows(alloc) == Ok(true));
-    match CharacterAlphabet::new(alloc, &NUMERIC, false) {
-        Ok(digits) => assert!(rt; are_refused(alloc, &digits)),
-        Err(_) => assert!(rt; false),
+    match parts_of(alloc, &mut true) {
+        Some(parts) => {
+            assert!(rt; are_rows(alloc, &parts) == Ok(true) && are_refused(alloc, &parts.digits));
+        }
+        None => assert!(rt; false),
     }
     assert!(rt; is_left_alone(&mut BitBuffer::new(alloc)));
     let fault = FieldFault {
@@ -382,14 +385,19 @@ fn are_written_behind(alloc: Global, parts: &Parts, granted: &mut bool) -> bool 
 }
 
 /// Writes the long row and reads it, each time once more where it was refused. Whether it was right at last.
-fn are_right_at_last(alloc: Global, granted: &mut bool) -> Result<bool, FieldFault> {
-    let parts = parts_of(alloc, granted)?;
-    Ok(are_written_behind(alloc, &parts, granted) && is_each_read(alloc, &parts, granted)?)
+fn are_right_at_last(alloc: Global, granted: &mut bool) -> bool {
+    match parts_of(alloc, granted) {
+        Some(parts) => {
+            are_written_behind(alloc, &parts, granted)
+                && is_each_read(alloc, &parts, granted) == Ok(true)
+        }
+        None => false,
+    }
 }
 
 /// Writes and reads fields, each time once more where a request for memory was refused. Whether none was.
 pub fn requests(rt: &impl Abort, alloc: Global) -> bool {
     let mut granted = true;
-    assert!(rt; are_right_at_last(alloc, &mut granted) == Ok(true));
+    assert!(rt; are_right_at_last(alloc, &mut granted));
     granted
 }
