@@ -55,4 +55,4 @@ RelaysPieces source target s limit unread [] number out rest why = (number ≡ 0
 RelaysPieces source target s limit unread (p ∷ ps) number out rest why =
     (Relays source target s limit (unread ++ p) number out rest why × (why ≢ None))
     ⊎ ((n : ℕ) × (o : List ℕ) × (r : List ℕ) × Relays source target s limit (unread ++ p) n o r None
-        × (k : ℕ) × (q : List ℕ) × RelaysPieces source target s limit r ps k q rest why × (n + k ≡ number) × (o ++ q ≡ out))
+    × (k : ℕ) × (q : List ℕ) × RelaysPieces source target s limit r ps k q rest why × (n + k ≡ number) × (o ++ q ≡ out))
