@@ -10,7 +10,7 @@ use Rattle.asn1_laws_fronts_packed.proofs.Forms.{one_front_uper, one_front_aper,
 use Rattle.asn1_laws_fronts_octets.proofs.Forms.{one_front_oer, one_front_coer}
 use Rattle.asn1_laws_streams.specs.Streams.{Message, IsMessage, Divides, AreSame}
 
-one_front : (r : Rules) → OneFrontIn r
+pub one_front : (r : Rules) → OneFrontIn r
 one_front uper = one_front_uper
 one_front aper = one_front_aper
 one_front uper_strict = one_front_uper_strict
@@ -25,7 +25,7 @@ module _ (r : Rules) (s : Schema) (limit : ℕ) where
 
   module _ (lawful : IsLawful s) where
     -- the first messages of equal octets
-    first_same : (m n : Message) (x y : List ℕ) → IsMessage r s limit m → IsMessage r s limit n → m.octets ++ x ≡ n.octets ++ y → (m.octets ≡ n.octets) × (same m.value n.value ≡ true) × (x ≡ y)
+    pub first_same : (m n : Message) (x y : List ℕ) → IsMessage r s limit m → IsMessage r s limit n → m.octets ++ x ≡ n.octets ++ y → (m.octets ≡ n.octets) × (same m.value n.value ≡ true) × (x ≡ y)
     first_same m n x y h k e =
         let q = one_front r s m.value n.value m.octets n.octets x y lawful h.is_encoding k.is_encoding e in
         (q.0, q.1, append_cancel_left m.octets x y (e ∙ ap (λ l. l ++ y) (sym q.0)))

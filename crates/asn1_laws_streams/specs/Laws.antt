@@ -1,9 +1,11 @@
 -- Laws of streams.
-use Rattle.std.specs.Prelude.{◌≡◌, ℕ, List, ◌++◌}
+use Rattle.std.specs.Prelude.{◌≡◌, ℕ, ◌+◌, List, ◌++◌, Option, Some, None}
 use Rattle.asn1_model.specs.Schema.{Schema}
 use Rattle.asn1_model.specs.Lawful.{IsLawful}
 use Rattle.asn1_model.specs.Rules.{Rules}
+use Rattle.std.specs.List.{concat}
 use Rattle.asn1_laws_streams.specs.Streams.{Message, Divides, AreSame}
+use Rattle.asn1_laws_streams.specs.Relayed.{Stop, StopsAt, Relays, RelaysPieces}
 
 -- Octets divide into messages and a rest in one way at most.
 abbrev pub DividedOnce : Type 0
@@ -16,3 +18,27 @@ GoesOnAlike = (r : Rules) (s : Schema) (limit : ℕ) (ms ns : List Message) (res
 -- And however they divide then, they begin with the messages so far, and the rest and the further octets divide into the others.
 abbrev pub BeginsAlike : Type 0
 BeginsAlike = (r : Rules) (s : Schema) (limit : ℕ) (ms all : List Message) (rest other w x : List ℕ) → IsLawful s → Divides r s limit ms rest w → Divides r s limit all other (w ++ x) → (ls : List Message) × (ns : List Message) × (ls ++ ns ≡ all) × AreSame ms ls × Divides r s limit ns other (rest ++ x)
+
+-- ---- what a relay does
+
+-- A relay does one thing at most to octets.
+abbrev pub RelayedOnce : Type 0
+RelayedOnce = (source target : Rules) (s : Schema) (limit : ℕ) (w : List ℕ) (n k : ℕ) (o q rest other : List ℕ) (why cause : Option Stop) → IsLawful s
+    → Relays source target s limit w n o rest why → Relays source target s limit w k q other cause → (n ≡ k) × (o ≡ q) × (rest ≡ other) × (why ≡ cause)
+
+-- Where it waits, and more octets come, it goes on with those that are unread.
+abbrev pub RelayGoesOn : Type 0
+RelayGoesOn = (source target : Rules) (s : Schema) (limit : ℕ) (w x : List ℕ) (n k : ℕ) (o q rest other : List ℕ) (why : Option Stop)
+    → Relays source target s limit w n o rest None → Relays source target s limit (rest ++ x) k q other why → Relays source target s limit (w ++ x) (n + k) (o ++ q) other why
+
+-- Where it stops, it stops there for the same reason whatever comes behind.
+abbrev pub RelayStopsForGood : Type 0
+RelayStopsForGood = (source target : Rules) (s : Schema) (limit : ℕ) (w x : List ℕ) (n : ℕ) (o rest : List ℕ) (why : Stop)
+    → Relays source target s limit w n o rest (Some why) → Relays source target s limit (w ++ x) n o (rest ++ x) (Some why)
+
+-- Of pieces only the joined octets count, wherever they are cut: what calls write, one behind the other, and the message at which they stop, are those of
+-- the joined octets at once.
+abbrev pub PiecesAreJoined : Type 0
+PiecesAreJoined = (source target : Rules) (s : Schema) (limit : ℕ) (unread : List ℕ) (pieces : List (List ℕ)) (n : ℕ) (o rest : List ℕ) (why : Option Stop)
+    → StopsAt source target s limit unread None → RelaysPieces source target s limit unread pieces n o rest why
+    → (other : List ℕ) × Relays source target s limit (unread ++ concat pieces) n o other why × (why ≡ None → other ≡ rest)

@@ -1,7 +1,7 @@
-//! How octets divide into messages and a rest.
+//! How octets divide into messages and a rest, and what a relay does to octets that come in pieces.
 #![tactic(auto)]
 
-ghost use Rattle.asn1_laws_streams.specs.Laws.{DividedOnce, GoesOnAlike, BeginsAlike};
+ghost use Rattle.asn1_laws_streams.specs.Laws.{DividedOnce, GoesOnAlike, BeginsAlike, RelayedOnce, RelayGoesOn, RelayStopsForGood, PiecesAreJoined};
 
 /// Octets divide into messages and a rest in one way at most.
 pub fn divided_once()
@@ -16,4 +16,24 @@ pub fn goes_on_alike()
 /// And however they divide then, they begin with the messages so far, and the rest and the further octets divide into the others.
 pub fn begins_alike()
     ensures { BeginsAlike }
+{}
+
+/// A relay does one thing at most to octets.
+pub fn relayed_once()
+    ensures { RelayedOnce }
+{}
+
+/// Where a relay waits, and more octets come, it goes on with those that are unread.
+pub fn relay_goes_on()
+    ensures { RelayGoesOn }
+{}
+
+/// Where a relay stops, it stops there for the same reason whatever comes behind.
+pub fn relay_stops_for_good()
+    ensures { RelayStopsForGood }
+{}
+
+/// Of pieces only the joined octets count, wherever they are cut.
+pub fn pieces_are_joined()
+    ensures { PiecesAreJoined }
 {}

@@ -29,7 +29,7 @@ module _ (source target : Rules) (schema : ℕ → Schema) (v : Value) (input re
   unfolding canonical
   written_as i = ap (λ u. option_and_then of_moderate_length (encoding target (schema 128) u)) (t.means ∙ sym (i.normal 128))
 
-  of_raw : (w : Option (List ℕ)) → IsValue schema v → IsWritten target schema v w → canonical target (schema 128) t.raw ≡ w
+  pub of_raw : (w : Option (List ℕ)) → IsValue schema v → IsWritten target schema v w → canonical target (schema 128) t.raw ≡ w
   of_raw w i h = written_as i ∙ h 128 (i.fits 128 not_deeper)
 
   all_of_it : rest ≡ [] → IsMessage source (schema 128) t.raw input

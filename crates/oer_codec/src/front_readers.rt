@@ -1,0 +1,36 @@
+//! Readers of the message in front of octets, by each set of rules.
+
+use asn1_schema_decode::Decode;
+use asn1_schema_faults::DecodeError;
+use asn1_schema_iter::FrontReader;
+use std::alloc::Global;
+
+/// Reads the message in front of octets by the basic octet encoding rules (X.696).
+#[derive(Clone, Copy, Debug, PartialEq, Eq)]
+pub struct OerFront;
+
+impl<T: Decode> FrontReader<T> for OerFront {
+    ghost use Rattle.asn1_model.specs.Rules.{oer};
+
+    ghost rules = { oer };
+
+    fn read_front(&self, alloc: Global, input: &[u8]) -> Result<(T, usize), DecodeError> {
+        let (value, rest): (T, &[u8]) = crate::oer::decode_with_remainder(alloc, input)?;
+        Ok((value, input.len() - rest.len()))
+    }
+}
+
+/// Reads the message in front of octets by the canonical octet encoding rules (X.696).
+#[derive(Clone, Copy, Debug, PartialEq, Eq)]
+pub struct CoerFront;
+
+impl<T: Decode> FrontReader<T> for CoerFront {
+    ghost use Rattle.asn1_model.specs.Rules.{coer};
+
+    ghost rules = { coer };
+
+    fn read_front(&self, alloc: Global, input: &[u8]) -> Result<(T, usize), DecodeError> {
+        let (value, rest): (T, &[u8]) = crate::coer::decode_with_remainder(alloc, input)?;
+        Ok((value, input.len() - rest.len()))
+    }
+}

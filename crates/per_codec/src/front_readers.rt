@@ -1,0 +1,36 @@
+//! Readers of the message in front of octets, by each set of rules.
+
+use asn1_schema_decode::Decode;
+use asn1_schema_faults::DecodeError;
+use asn1_schema_iter::FrontReader;
+use std::alloc::Global;
+
+/// Reads the message in front of octets by the unaligned packed encoding rules (X.691).
+#[derive(Clone, Copy, Debug, PartialEq, Eq)]
+pub struct UperFront;
+
+impl<T: Decode> FrontReader<T> for UperFront {
+    ghost use Rattle.asn1_model.specs.Rules.{uper};
+
+    ghost rules = { uper };
+
+    fn read_front(&self, alloc: Global, input: &[u8]) -> Result<(T, usize), DecodeError> {
+        let (value, rest): (T, &[u8]) = crate::uper::decode_with_remainder(alloc, input)?;
+        Ok((value, input.len() - rest.len()))
+    }
+}
+
+/// Reads the message in front of octets by the aligned packed encoding rules (X.691).
+#[derive(Clone, Copy, Debug, PartialEq, Eq)]
+pub struct AperFront;
+
+impl<T: Decode> FrontReader<T> for AperFront {
+    ghost use Rattle.asn1_model.specs.Rules.{aper};
+
+    ghost rules = { aper };
+
+    fn read_front(&self, alloc: Global, input: &[u8]) -> Result<(T, usize), DecodeError> {
+        let (value, rest): (T, &[u8]) = crate::aper::decode_with_remainder(alloc, input)?;
+        Ok((value, input.len() - rest.len()))
+    }
+}
