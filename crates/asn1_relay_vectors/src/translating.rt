@@ -13,6 +13,7 @@ use std::alloc::Global;
 /// # Errors
 ///
 /// Those of `recode`.
+#[inline(never)]
 pub fn translate<T: Encode + Decode>(
     alloc: Global,
     limits: &Limits,
@@ -32,6 +33,7 @@ pub fn translate<T: Encode + Decode>(
 /// # Errors
 ///
 /// Those of the codecs' readers.
+#[inline(never)]
 pub fn read<T: Decode>(
     alloc: Global,
     limits: &Limits,
