@@ -105,7 +105,7 @@ fn is_seven_under(
     input: &[u8],
 ) -> Result<bool, DecodeError> {
     let rules = EncodingRules::Coer;
-    let number = decode_with_constraints::<i32>(alloc, constraints, input, rules)?;
+    let number = decode_with_constraints::<u8>(alloc, constraints, input, rules)?;
     Ok(number == 7)
 }
 

@@ -110,8 +110,8 @@ fn choices(rt: HostRuntime) {
 }
 
 /// Whether INTEGER of this number is next.
-fn is_number(alloc: Global, decoder: &mut Decoder<'_>, number: i32) -> Result<bool, DecodeError> {
-    let found: i32 = decoder.decode_integer(alloc, Tag::INTEGER, Constraints::NONE)?;
+fn is_number(alloc: Global, decoder: &mut Decoder<'_>, number: u8) -> Result<bool, DecodeError> {
+    let found: u8 = decoder.decode_integer(alloc, Tag::INTEGER, Constraints::NONE)?;
     Ok(found == number)
 }
 
