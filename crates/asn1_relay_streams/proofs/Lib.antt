@@ -1,2 +1,3 @@
 pub mod Trying
 pub mod Feeding
+pub mod Blocks

@@ -1,2 +1,4 @@
 pub mod Relaying
 pub mod Fronts
+pub mod Ends
+pub mod Running
