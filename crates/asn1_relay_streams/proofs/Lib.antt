@@ -1,3 +1,4 @@
 pub mod Trying
 pub mod Feeding
 pub mod Blocks
+pub mod Gives

@@ -1,0 +1,130 @@
+//! Readers and writers of memory, one of whose calls may be made to fail.
+ghost use Rattle.std.specs.Prelude.{◌≡◌, ◌+◌, ◌<◌, ◌≤◌, Some, if◌then◌else◌, length};
+
+use crate::ends::{ReadFailed, Sink, Source, WriteFailed};
+use std::alloc::Global;
+
+/// Gives the octets of a vector. Of its calls, numbered from 0 on, the one of a given number fails, and no other. It may give one octet more than it has,
+/// so that it can tell its end.
+#[derive(Debug, Drop)]
+pub struct MemorySource {
+    octets: Vec<u8>,
+    given: usize,
+    calls: Calls,
+    ghost within: { given ≤ length octets.items },
+}
+
+impl MemorySource {
+    /// A reader of these octets, whose call of the number `fail_at` fails.
+    pub fn new(octets: Vec<u8>, fail_at: Option<u64>) -> MemorySource {
+        MemorySource {
+            octets,
+            given: 0,
+            calls: Calls::new(fail_at),
+        }
+    }
+}
+
+impl Source for MemorySource {
+    ghost use Rattle.std.specs.Prelude.{◌-◌, drop};
+
+    ghost failures = { λ s. s.calls.failed };
+
+    ghost budget = { λ s. length s.octets.items - s.given + 1 };
+
+    ghost coming = { λ s. Some (drop s.given s.octets.items) };
+
+    fn read(&mut self, room: &mut [u8]) -> Result<usize, ReadFailed> {
+        if self.calls.fails() {
+            return Err(ReadFailed);
+        }
+        let rest = &self.octets[self.given..];
+        let count = rest.len().min(room.len());
+        room[..count].copy_from_slice(&rest[..count]);
+        self.given += count;
+        Ok(count)
+    }
+}
+
+/// Keeps the octets that it takes. Of its calls, numbered from 0 on, the one of a given number fails, and each that finds no memory.
+#[derive(Debug, Drop)]
+pub struct MemorySink {
+    octets: Vec<u8>,
+    calls: Calls,
+}
+
+impl MemorySink {
+    /// A writer that has taken nothing, whose call of the number `fail_at` fails.
+    pub fn new(alloc: Global, fail_at: Option<u64>) -> MemorySink {
+        MemorySink {
+            octets: Vec::new(alloc),
+            calls: Calls::new(fail_at),
+        }
+    }
+
+    /// The octets that it has taken.
+    pub fn octets(&self) -> &[u8] {
+        self.octets.as_slice()
+    }
+}
+
+impl Sink for MemorySink {
+    ghost failures = { λ s. s.calls.failed };
+
+    ghost taken = { λ s. Some s.octets.items };
+
+    fn write(&mut self, octets: &[u8]) -> Result<(), WriteFailed> {
+        if self.calls.fails() {
+            return Err(WriteFailed);
+        }
+        if self.octets.extend_from_slice(octets).is_err() {
+            self.calls.failed += 1;
+            return Err(WriteFailed);
+        }
+        Ok(())
+    }
+
+    fn flush(&mut self) -> Result<(), WriteFailed> {
+        if self.calls.fails() {
+            return Err(WriteFailed);
+        }
+        Ok(())
+    }
+}
+
+/// How many calls come before the one that fails, if there is one, and how many have failed.
+#[derive(Clone, Copy, Debug)]
+struct Calls {
+    before: Option<u64>,
+    failed: u64,
+}
+
+impl Calls {
+    fn new(fail_at: Option<u64>) -> Calls
+        ensures { result ≡ record { before = fail_at; failed = 0 } }
+    {
+        Calls {
+            before: fail_at,
+            failed: 0,
+        }
+    }
+
+    /// Counts a call, and tells whether it is the one that fails.
+    fn fails(&mut self) -> bool
+        requires { self.old.failed < 18446744073709551615 }
+        ensures { self.new.failed ≡ (if result then self.old.failed + 1 else self.old.failed) }
+    {
+        match self.before {
+            Some(0) => {
+                self.before = None;
+                self.failed += 1;
+                true
+            }
+            Some(count) => {
+                self.before = Some(count - 1);
+                false
+            }
+            None => false,
+        }
+    }
+}
