@@ -1,4 +1,6 @@
 //! What readers and a decoder leave, lend and refuse.
+ghost use Rattle.std.specs.Prelude.{◌<◌};
+
 use asn1_schema_bounds::Bounded;
 use asn1_schema_constraints::Constraints;
 use asn1_schema_decode::Decoder as _;
@@ -39,7 +41,9 @@ fn bits_that_are_left(rt: HostRuntime) -> Result<(), Fail> {
 }
 
 /// Whether a length stands behind so many bits, right behind them in the unaligned variant, and at the next octet in the aligned one.
-fn is_length_behind(used: u32) -> Result<bool, DecodeError> {
+fn is_length_behind(used: u32) -> Result<bool, DecodeError>
+    requires { used < 8 }
+{
     let mut unaligned = Cursor::new(&[0x00, 0x05]);
     unaligned.take(used as usize)?;
     let near = read_length(&mut unaligned, Variant::Unaligned)?;
