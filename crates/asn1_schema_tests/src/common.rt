@@ -161,6 +161,14 @@ pub fn is_written<T: Encode>(alloc: Global, value: &T, wanted: &[Wanted]) -> boo
     is_written_under(alloc, value, None, wanted)
 }
 
+/// Whether a record is this number between these bounds.
+fn is_integer(item: &Item, low: Option<i128>, high: Option<i128>, number: &Integer) -> bool {
+    match item {
+        Item::Integer(limits, found) => are_limits(limits, low, high) && found == number,
+        _ => false,
+    }
+}
+
 /// Whether the one record of a value is this number between these bounds.
 pub fn is_number<T: Encode>(
     alloc: Global,
@@ -170,7 +178,7 @@ pub fn is_number<T: Encode>(
 ) -> bool {
     match records_of(alloc, value, None, CodecKind::Coer) {
         Some(items) => match items.as_slice() {
-            [Item::Integer(limits, found)] => are_limits(limits, low, high) && found == number,
+            [item] => is_integer(item, low, high, number),
             _ => false,
         },
         None => false,

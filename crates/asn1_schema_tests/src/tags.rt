@@ -333,8 +333,6 @@ const THIRD: Tag = Tag {
 
 const INNER: [TagTree<'static>; 2] = [TagTree::Leaf(THIRD), TagTree::Leaf(Tag::NULL)];
 
-const TURNED: [TagTree<'static>; 2] = [TagTree::Leaf(Tag::NULL), TagTree::Leaf(THIRD)];
-
 const OUTER: [TagTree<'static>; 3] = [
     TagTree::Leaf(FIRST),
     TagTree::Choice(&INNER),
@@ -420,13 +418,23 @@ fn is_tree() -> bool {
         && !TagTree::Choice(&APART).is_unique()
 }
 
-/// Whether trees are compared by their leaves, and a leaf is no choice.
+/// Whether trees are compared by their leaves, in their order.
 fn are_compared() -> bool {
-    let leaves = [TagTree::Leaf(Tag::NULL)];
+    let inner = [TagTree::Leaf(THIRD), TagTree::Leaf(Tag::NULL)];
     let same = [TagTree::Leaf(THIRD), TagTree::Leaf(Tag::NULL)];
-    TagTree::Choice(&INNER) == TagTree::Choice(&same)
-        && TagTree::Choice(&INNER) != TagTree::Choice(&TURNED)
-        && TagTree::Leaf(Tag::NULL) != TagTree::Choice(&leaves)
+    let turned = [TagTree::Leaf(Tag::NULL), TagTree::Leaf(THIRD)];
+    let tree = TagTree::Choice(&inner);
+    let equal = TagTree::Choice(&same);
+    let other = TagTree::Choice(&turned);
+    tree == equal && tree != other
+}
+
+/// Whether a leaf is no choice of that leaf.
+fn is_no_choice() -> bool {
+    let leaves = [TagTree::Leaf(Tag::NULL)];
+    let choice = TagTree::Choice(&leaves);
+    let leaf = TagTree::Leaf(Tag::NULL);
+    leaf != choice
 }
 
 /// Whether alternatives are lists of trees, lent, held or none.
@@ -444,6 +452,6 @@ fn are_lists(alloc: Global) -> Result<bool, AllocError> {
 
 #[test]
 fn trees_of_tags(rt: HostRuntime) {
-    assert!(rt; is_tree() && are_compared());
+    assert!(rt; is_tree() && are_compared() && is_no_choice());
     assert!(rt; are_lists(rt.alloc()) == Ok(true));
 }
