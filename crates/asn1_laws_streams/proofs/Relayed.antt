@@ -1,14 +1,13 @@
 -- What a relay does to octets that come in pieces.
-use Rattle.std.proofs.Common.{◌≡◌, ◌≢◌, ◌⊎◌, inl, inr, ℕ, suc, ◌+◌, ◌≤◌, ◌<◌, true, List, [], ◌∷◌, ◌++◌, length, take, drop, Option, Some, None, refl, ap, sym, ◌∙◌, subst, append_assoc, arith}
+use Rattle.std.proofs.Common.{◌≡◌, ◌≢◌, ◌⊎◌, inl, inr, ℕ, suc, ◌+◌, ◌≤◌, ◌<◌, List, [], ◌∷◌, ◌++◌, length, take, drop, Option, Some, None, refl, ap, sym, ◌∙◌, subst, append_assoc, arith}
 use Rattle.std.specs.List.{concat}
-use Rattle.std.proofs.lemmas.List.{append-nil, length-append, take-append-le, take-append-drop}
+use Rattle.std.proofs.lemmas.List.{append-nil, length-append, length-take, take-append-le, take-append-drop}
 use Rattle.std.proofs.Math.Seq.{take-append_seam}
-use Rattle.asn1_model.specs.Value.{same}
 use Rattle.asn1_model.specs.Schema.{Schema}
 use Rattle.asn1_model.specs.Lawful.{IsLawful}
-use Rattle.asn1_model.specs.Rules.{Rules, canonical}
+use Rattle.asn1_model.specs.Rules.{Rules}
 use Rattle.asn1_laws_order.proofs.Canonical.{same_written}
-use Rattle.asn1_laws_streams.specs.Streams.{Message, IsMessage, HasNoMessage}
+use Rattle.asn1_laws_streams.specs.Streams.{Message, HasNoMessage}
 use Rattle.asn1_laws_streams.specs.Relayed.{Stop, no_target, empty_message, none_within_limit, RelaysFront, BeginsWith, HasEmptyMessage, StopsAt, Relays, RelaysPieces}
 use Rattle.asn1_laws_streams.proofs.Streams.{first_same, one_front}
 
@@ -26,6 +25,13 @@ begins_with m y r x e h =
 pub some_before : {A : Type 0} (r x : List A) → r ≢ [] → r ++ x ≢ []
 some_before [] x n = absurd (n refl)
 some_before (a ∷ r) x n = λ e. cc
+
+-- what begins octets and is no longer than a limit is no longer than the first of them
+length_of_first : (m x w : List ℕ) (limit : ℕ) → m ++ x ≡ w → length m ≤ limit → length m ≤ length (take limit w)
+length_of_first m x w limit e h =
+    let a = length-take limit w in
+    let b : length m + length x ≡ length w = sym (length-append m x) ∙ ap length e in
+    omega (arith, a)
 
 module _ (source target : Rules) (s : Schema) (limit : ℕ) where
   abbrev Front : List Message → List ℕ → List ℕ → List ℕ → Type 0
@@ -55,7 +61,7 @@ module _ (source target : Rules) (s : Schema) (limit : ℕ) where
   begins_longer : (t : Option (List ℕ)) (w x : List ℕ) → BeginsWith source target s limit t w → BeginsWith source target s limit t (w ++ x)
   begins_longer t w x b = (b.0, b.1 ++ x, sym (append_assoc b.0.octets b.1 x) ∙ ap (λ l. l ++ x) b.2, b.3, b.4)
 
-  pub none_longer : (w x : List ℕ) → HasNoMessage source s limit w → limit < length w → HasNoMessage source s limit (w ++ x)
+  pub none_longer : (w x : List ℕ) → HasNoMessage source s limit w → limit ≤ length w → HasNoMessage source s limit (w ++ x)
   none_longer w x h l = λ m y e i.
       let b = i.is_short in
       let k : length m.octets ≤ length w = omega arith in
@@ -68,7 +74,8 @@ module _ (source target : Rules) (s : Schema) (limit : ℕ) where
   stop_lasts w x none_within_limit h =
       let l = length-append w x in
       let k = h.2 in
-      (none_longer w x h.0 h.2, h.1, omega arith)
+      let j : limit ≤ length w = omega arith in
+      (none_longer w x h.0 j, h.1, omega arith)
 
   pub stops_for_good : (w x : List ℕ) (n : ℕ) (o rest : List ℕ) (why : Stop) → Relays source target s limit w n o rest (Some why) → Relays source target s limit (w ++ x) n o (rest ++ x) (Some why)
   stops_for_good w x n o rest why h = record { messages = h.messages; counted = h.counted; front = longer h.messages o rest w x h.front; stops = stop_lasts rest x why h.stops }
@@ -180,3 +187,25 @@ module _ (source target : Rules) (s : Schema) (limit : ℕ) where
     relayed_once w n k o q rest other why cause h g =
         let f = once_fronts h.messages g.messages o q rest other w why cause h.front h.stops g.front g.stops in
         (sym h.counted ∙ (f.0 ∙ g.counted), f.1, f.2, f.3)
+
+-- ---- the limit
+
+module _ (r : Rules) (s : Schema) (limit : ℕ) where
+  -- no message in front of octets, and so none in front of the first of them
+  pub without : (w : List ℕ) → HasNoMessage r s limit w → HasNoMessage r s limit (take limit w)
+  without w h = λ m x e i. h m (x ++ drop limit w) (sym (append_assoc m.octets x (drop limit w)) ∙ (ap (λ l. l ++ drop limit w) e ∙ take-append-drop limit w)) i
+
+  -- and the other way round, as a message is no longer
+  pub within : (w : List ℕ) → HasNoMessage r s limit (take limit w) → HasNoMessage r s limit w
+  within w h = λ m x e i.
+      let l = i.is_short in
+      let k = length-take limit w in
+      let n : length m.octets ≤ length (take limit w) = length_of_first m.octets x w limit e l in
+      h m (drop (length m.octets) (take limit w)) (begins_with m.octets x (take limit w) (drop limit w) (e ∙ sym (take-append-drop limit w)) n) i
+
+  pub alone : IsLawful s → (w : List ℕ) → HasEmptyMessage r s → HasNoMessage r s limit w
+  alone lawful w h = λ m x e i.
+      let q = (one_front r s h.0 m.value [] m.octets w x lawful h.1 i.is_encoding (sym e)).0 in
+      let l : 0 ≡ length m.octets = ap length q in
+      let k = i.is_some in
+      omega arith

@@ -2,6 +2,8 @@
 #![tactic(auto)]
 
 ghost use Rattle.asn1_laws_streams.specs.Laws.{DividedOnce, GoesOnAlike, BeginsAlike, RelayedOnce, RelayGoesOn, RelayStopsForGood, PiecesAreJoined};
+ghost use Rattle.asn1_laws_streams.specs.Laws.{WithinTheLimit, NoneWithinIsNone, EmptyIsAlone};
+ghost use Rattle.asn1_laws_streams.specs.Rows.{RelayRows};
 
 /// Octets divide into messages and a rest in one way at most.
 pub fn divided_once()
@@ -36,4 +38,24 @@ pub fn relay_stops_for_good()
 /// Of pieces only the joined octets count, wherever they are cut.
 pub fn pieces_are_joined()
     ensures { PiecesAreJoined }
+{}
+
+/// What begins octets and is no longer than the limit begins the first of them, so many as the limit says.
+pub fn within_the_limit()
+    ensures { WithinTheLimit }
+{}
+
+/// No message in front of as many octets as a message may have, or of more, means none however many follow.
+pub fn none_within_is_none()
+    ensures { NoneWithinIsNone }
+{}
+
+/// Where no octets are an encoding, no others are one, so that no message has one.
+pub fn empty_is_alone()
+    ensures { EmptyIsAlone }
+{}
+
+/// What a relay does to some octets.
+pub fn relay_rows()
+    ensures { RelayRows }
 {}
