@@ -1,11 +1,11 @@
 -- Laws of streams.
-use Rattle.std.specs.Prelude.{◌≡◌, ℕ, ◌+◌, List, ◌++◌, Option, Some, None}
+use Rattle.std.specs.Prelude.{◌≡◌, ℕ, ◌+◌, List, ◌++◌, length, Option, Some, None}
 use Rattle.asn1_model.specs.Schema.{Schema}
 use Rattle.asn1_model.specs.Lawful.{IsLawful}
 use Rattle.asn1_model.specs.Rules.{Rules}
 use Rattle.std.specs.List.{concat}
 use Rattle.asn1_laws_streams.specs.Streams.{Message, Divides, AreSame}
-use Rattle.asn1_laws_streams.specs.Relayed.{Stop, StopsAt, Relays, RelaysPieces}
+use Rattle.asn1_laws_streams.specs.Relayed.{Stop, StopsAt, Relays, RelaysPieces, Translates, EndsBefore}
 
 -- Octets divide into messages and a rest in one way at most.
 abbrev pub DividedOnce : Type 0
@@ -42,3 +42,16 @@ abbrev pub PiecesAreJoined : Type 0
 PiecesAreJoined = (source target : Rules) (s : Schema) (limit : ℕ) (unread : List ℕ) (pieces : List (List ℕ)) (n : ℕ) (o rest : List ℕ) (why : Option Stop)
     → StopsAt source target s limit unread None → RelaysPieces source target s limit unread pieces n o rest why
     → (other : List ℕ) × Relays source target s limit (unread ++ concat pieces) n o other why × (why ≡ None → other ≡ rest)
+
+-- The messages that a relay relays are the first of those into which the octets divide: all of them, and the rest is unread; or it stops at the next one,
+-- which has no encoding in the target rules, or an empty one.
+abbrev pub RelaysTheFirst : Type 0
+RelaysTheFirst = (source target : Rules) (s : Schema) (limit : ℕ) (w rest out unread : List ℕ) (ms : List Message) (n : ℕ) (why : Option Stop)
+    → IsLawful s → Divides source s limit ms rest w → (h : Relays source target s limit w n out unread why)
+    → (front : List Message) × (behind : List Message) × (front ++ behind ≡ ms) × AreSame h.messages front × EndsBefore target s behind rest unread why
+
+-- Where each has such an encoding that is not empty, all are relayed: what is written are these encodings, joined, and the rest is unread.
+abbrev pub RelaysAll : Type 0
+RelaysAll = (source target : Rules) (s : Schema) (limit : ℕ) (w rest joined out unread : List ℕ) (ms : List Message) (n : ℕ) (why : Option Stop)
+    → IsLawful s → Divides source s limit ms rest w → Translates target s ms joined → (h : Relays source target s limit w n out unread why)
+    → AreSame h.messages ms × (n ≡ length ms) × (out ≡ joined) × (unread ≡ rest)
