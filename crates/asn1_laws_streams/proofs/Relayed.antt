@@ -5,10 +5,10 @@ use Rattle.std.proofs.lemmas.List.{append-nil, length-append, length-take, take-
 use Rattle.std.proofs.Math.Seq.{take-append_seam}
 use Rattle.asn1_model.specs.Schema.{Schema}
 use Rattle.asn1_model.specs.Lawful.{IsLawful}
-use Rattle.asn1_model.specs.Rules.{Rules}
+use Rattle.asn1_model.specs.Rules.{Rules, canonical}
 use Rattle.asn1_laws_order.proofs.Canonical.{same_written}
-use Rattle.asn1_laws_streams.specs.Streams.{Message, HasNoMessage}
-use Rattle.asn1_laws_streams.specs.Relayed.{Stop, no_target, empty_message, none_within_limit, RelaysFront, BeginsWith, HasEmptyMessage, StopsAt, Relays, RelaysPieces}
+use Rattle.asn1_laws_streams.specs.Streams.{Message, HasNoMessage, IsMessage, Divides, AreSame}
+use Rattle.asn1_laws_streams.specs.Relayed.{Stop, no_target, empty_message, none_within_limit, RelaysFront, BeginsWith, HasEmptyMessage, StopsAt, Relays, RelaysPieces, Translates, EndsBefore}
 use Rattle.asn1_laws_streams.proofs.Streams.{first_same, one_front}
 
 -- ---- lists
@@ -187,6 +187,40 @@ module _ (source target : Rules) (s : Schema) (limit : ℕ) where
     relayed_once w n k o q rest other why cause h g =
         let f = once_fronts h.messages g.messages o q rest other w why cause h.front h.stops g.front g.stops in
         (sym h.counted ∙ (f.0 ∙ g.counted), f.1, f.2, f.3)
+
+    -- ---- the messages into which octets divide
+
+    -- what stops a relay in front of a message is that it has no translation
+    stopped_for : (m : Message) (ms : List Message) (x w rest unread : List ℕ) (why : Option Stop) → m.octets ++ x ≡ w → IsMessage source s limit m → StopsAt source target s limit w why → EndsBefore target s (m ∷ ms) rest unread why
+    stopped_for m ms x w rest unread None e i h = absurd (h.0 m x e i)
+    stopped_for m ms x w rest unread (Some no_target) e i h = inl (targets_agree (canonical target s m.value) None w (m, x, e, i, refl) h, refl)
+    stopped_for m ms x w rest unread (Some empty_message) e i (inl h) = inr (targets_agree (canonical target s m.value) (Some []) w (m, x, e, i, refl) h, refl)
+    stopped_for m ms x w rest unread (Some empty_message) e i (inr h) = absurd (no_empty (canonical target s m.value) w h.1 (m, x, e, i, refl))
+    stopped_for m ms x w rest unread (Some none_within_limit) e i h = absurd (h.0 m x e i)
+
+    pub first_of : (ls ms : List Message) (o unread rest w : List ℕ) (why : Option Stop) → Front ls o unread w → StopsAt source target s limit unread why → Divides source s limit ms rest w
+        → (front : List Message) × (behind : List Message) × (front ++ behind ≡ ms) × AreSame ls front × EndsBefore target s behind rest unread why
+    first_of [] [] o unread rest w why h y k = ([], [], refl, tt, h.1 ∙ sym k.0)
+    first_of [] (m ∷ ms) o unread rest w why h y k =
+        ([], m ∷ ms, refl, tt, stopped_for m ms k.1 w rest unread why k.2 k.0 (subst (λ l. StopsAt source target s limit l why) h.1 y))
+    first_of (l ∷ ls) [] o unread rest w why h y k = absurd (k.1 l h.1 (h.2 ∙ sym k.0) h.0)
+    first_of (l ∷ ls) (m ∷ ms) o unread rest w why h y k =
+        let f = first_same source s limit lawful l m h.1 k.1 h.0 k.0 (h.2 ∙ sym k.2) in
+        let i = first_of ls ms h.6 unread rest h.1 why h.8 y (subst (λ x. Divides source s limit ms rest x) (sym f.2) k.3) in
+        (m ∷ i.0, i.1, ap (λ x. m ∷ x) i.2, (f.0, f.1, i.3), i.4)
+
+    pub all_of : (ls ms : List Message) (o joined unread rest w : List ℕ) (why : Option Stop) → Front ls o unread w → StopsAt source target s limit unread why → Divides source s limit ms rest w → Translates target s ms joined
+        → AreSame ls ms × (length ls ≡ length ms) × (o ≡ joined) × (unread ≡ rest)
+    all_of [] [] o joined unread rest w why h y k t = (tt, refl, h.0 ∙ sym t, h.1 ∙ sym k.0)
+    all_of [] (m ∷ ms) o joined unread rest w why h y k t =
+        absurd (relayed_on t.0 w why t.2 (m, k.1, k.2, k.0, t.1) (subst (λ l. StopsAt source target s limit l why) h.1 y))
+    all_of (l ∷ ls) [] o joined unread rest w why h y k t = absurd (k.1 l h.1 (h.2 ∙ sym k.0) h.0)
+    all_of (l ∷ ls) (m ∷ ms) o joined unread rest w why h y k t =
+        let f = first_same source s limit lawful l m h.1 k.1 h.0 k.0 (h.2 ∙ sym k.2) in
+        let e : Some h.3 ≡ Some t.0 = targets_agree (Some h.3) (Some t.0) w (in_front l ls o unread w h) (m, k.1, k.2, k.0, t.1) in
+        let u : h.3 ≡ t.0 = cc e in
+        let i = all_of ls ms h.6 t.3 unread rest h.1 why h.8 y (subst (λ x. Divides source s limit ms rest x) (sym f.2) k.3) t.5 in
+        ((f.0, f.1, i.0), ap suc i.1, sym h.7 ∙ (ap (λ x. x ++ h.6) u ∙ (ap (λ x. t.0 ++ x) i.2 ∙ t.4)), i.3)
 
 -- ---- the limit
 

@@ -5,7 +5,7 @@ use Rattle.asn1_model.specs.Lawful.{IsLawful}
 use Rattle.asn1_model.specs.Rules.{Rules}
 use Rattle.std.specs.List.{concat}
 use Rattle.asn1_laws_streams.specs.Streams.{Message, HasNoMessage, Divides, AreSame}
-use Rattle.asn1_laws_streams.specs.Relayed.{Stop, HasEmptyMessage, StopsAt, Relays, RelaysPieces}
+use Rattle.asn1_laws_streams.specs.Relayed.{Stop, HasEmptyMessage, StopsAt, Relays, RelaysPieces, Translates, EndsBefore}
 
 -- Octets divide into messages and a rest in one way at most.
 abbrev pub DividedOnce : Type 0
@@ -43,16 +43,33 @@ PiecesAreJoined = (source target : Rules) (s : Schema) (limit : ℕ) (unread : L
     → StopsAt source target s limit unread None → RelaysPieces source target s limit unread pieces n o rest why
     → (other : List ℕ) × Relays source target s limit (unread ++ concat pieces) n o other why × (why ≡ None → other ≡ rest)
 
+-- The messages that a relay relays are the first of those into which the octets divide: all of them, and the rest is unread; or it stops at the next one,
+-- which has no encoding in the target rules, or an empty one.
+abbrev pub RelaysTheFirst : Type 0
+RelaysTheFirst = (source target : Rules) (s : Schema) (limit : ℕ) (w rest out unread : List ℕ) (ms : List Message) (n : ℕ) (why : Option Stop)
+    → IsLawful s → Divides source s limit ms rest w → (h : Relays source target s limit w n out unread why)
+    → (front : List Message) × (behind : List Message) × (front ++ behind ≡ ms) × AreSame h.messages front × EndsBefore target s behind rest unread why
+
+-- Where each has such an encoding that is not empty, all are relayed: what is written are these encodings, joined, and the rest is unread.
+abbrev pub RelaysAll : Type 0
+RelaysAll = (source target : Rules) (s : Schema) (limit : ℕ) (w rest joined out unread : List ℕ) (ms : List Message) (n : ℕ) (why : Option Stop)
+    → IsLawful s → Divides source s limit ms rest w → Translates target s ms joined → (h : Relays source target s limit w n out unread why)
+    → AreSame h.messages ms × (n ≡ length ms) × (out ≡ joined) × (unread ≡ rest)
+
 -- ---- the limit
 
 -- What begins octets and is no longer than the limit begins the first of them, so many as the limit says.
 abbrev pub WithinTheLimit : Type 0
-WithinTheLimit = (r : Rules) (s : Schema) (limit : ℕ) (w : List ℕ) → (HasNoMessage r s limit w → HasNoMessage r s limit (take limit w)) × (HasNoMessage r s limit (take limit w) → HasNoMessage r s limit w)
+WithinTheLimit = (r : Rules) (s : Schema) (limit : ℕ) (w : List ℕ)
+    → (HasNoMessage r s limit w → HasNoMessage r s limit (take limit w))
+    × (HasNoMessage r s limit (take limit w) → HasNoMessage r s limit w)
 
 -- No message in front of as many octets as a message may have, or of more, means none however many follow.
 abbrev pub NoneWithinIsNone : Type 0
-NoneWithinIsNone = (r : Rules) (s : Schema) (limit : ℕ) (w x : List ℕ) → limit ≤ length w → HasNoMessage r s limit w → HasNoMessage r s limit (w ++ x)
+NoneWithinIsNone = (r : Rules) (s : Schema) (limit : ℕ) (w x : List ℕ)
+    → limit ≤ length w → HasNoMessage r s limit w → HasNoMessage r s limit (w ++ x)
 
 -- Where no octets are an encoding, no others are one, so that no message has one.
 abbrev pub EmptyIsAlone : Type 0
-EmptyIsAlone = (r : Rules) (s : Schema) (limit : ℕ) (w : List ℕ) → IsLawful s → HasEmptyMessage r s → HasNoMessage r s limit w
+EmptyIsAlone = (r : Rules) (s : Schema) (limit : ℕ) (w : List ℕ)
+    → IsLawful s → HasEmptyMessage r s → HasNoMessage r s limit w

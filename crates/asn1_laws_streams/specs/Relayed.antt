@@ -48,6 +48,22 @@ pub record Relays (source target : Rules) (s : Schema) (limit : ℕ) (w : List �
   pub front : RelaysFront source target s limit messages out rest w
   pub stops : StopsAt source target s limit rest why
 
+-- The values of these messages have encodings in the target rules, of which none is empty, and joined they are these octets.
+abbrev pub Translates : Rules → Schema → List Message → List ℕ → Type 0
+Translates target s [] joined = joined ≡ []
+Translates target s (m ∷ ms) joined =
+    (t : List ℕ) × (canonical target s m.value ≡ Some t) × (t ≢ [])
+    × (others : List ℕ) × (t ++ others ≡ joined)
+    × Translates target s ms others
+
+-- Behind the messages that are relayed come none, and what is unread is the rest behind them all; or the value of the next one has no encoding in the
+-- target rules, or an empty one, and the relay stops there for that.
+abbrev pub EndsBefore : Rules → Schema → List Message → List ℕ → List ℕ → Option Stop → Type 0
+EndsBefore target s [] rest unread why = unread ≡ rest
+EndsBefore target s (m ∷ ms) rest unread why =
+    ((canonical target s m.value ≡ None) × (why ≡ Some no_target))
+    ⊎ ((canonical target s m.value ≡ Some []) × (why ≡ Some empty_message))
+
 -- What calls do that hand over pieces of octets one after the other, behind octets that are unread: each goes on with what the one before left
 -- unread, and behind a stop none writes anything.
 abbrev pub RelaysPieces : Rules → Rules → Schema → ℕ → List ℕ → List (List ℕ) → ℕ → List ℕ → List ℕ → Option Stop → Type 0

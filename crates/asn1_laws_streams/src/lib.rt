@@ -1,8 +1,9 @@
 //! How octets divide into messages and a rest, and what a relay does to octets that come in pieces.
 #![tactic(auto)]
 
-ghost use Rattle.asn1_laws_streams.specs.Laws.{DividedOnce, GoesOnAlike, BeginsAlike, RelayedOnce, RelayGoesOn, RelayStopsForGood, PiecesAreJoined};
-ghost use Rattle.asn1_laws_streams.specs.Laws.{WithinTheLimit, NoneWithinIsNone, EmptyIsAlone};
+ghost use Rattle.asn1_laws_streams.specs.Laws.{DividedOnce, GoesOnAlike, BeginsAlike};
+ghost use Rattle.asn1_laws_streams.specs.Laws.{RelayedOnce, RelayGoesOn, RelayStopsForGood, PiecesAreJoined};
+ghost use Rattle.asn1_laws_streams.specs.Laws.{RelaysTheFirst, RelaysAll, WithinTheLimit, NoneWithinIsNone, EmptyIsAlone};
 ghost use Rattle.asn1_laws_streams.specs.Rows.{RelayRows};
 
 /// Octets divide into messages and a rest in one way at most.
@@ -38,6 +39,17 @@ pub fn relay_stops_for_good()
 /// Of pieces only the joined octets count, wherever they are cut.
 pub fn pieces_are_joined()
     ensures { PiecesAreJoined }
+{}
+
+/// The messages that a relay relays are the first of those into which octets divide: all of them, and the rest is unread, or those in front of the first
+/// one that has no encoding in the target rules, or an empty one.
+pub fn relays_the_first()
+    ensures { RelaysTheFirst }
+{}
+
+/// Where each of these messages has an encoding in the target rules that is not empty, all are relayed, and the rest is unread.
+pub fn relays_all()
+    ensures { RelaysAll }
 {}
 
 /// What begins octets and is no longer than the limit begins the first of them, so many as the limit says.
