@@ -84,20 +84,25 @@ BeginsAlike = (r : Rules) (s : Schema) (limit : ℕ) (ms all : List Message) (re
 
 -- A relay does one thing at most to octets.
 abbrev pub RelayedOnce : Type 0
-RelayedOnce = (source target : Rules) (s : Schema) (limit : ℕ) (w : List ℕ) (n k : ℕ) (o q rest other : List ℕ) (why cause : Option Stop) → IsDeclared s
-    → Relays source target s limit w n o rest why → Relays source target s limit w k q other cause → (n ≡ k) × (o ≡ q) × (rest ≡ other) × (why ≡ cause)
+RelayedOnce = (source target : Rules) (s : Schema) (limit : ℕ) (w : List ℕ) (n k : ℕ) (o q rest other : List ℕ)
+    → (why cause : Option Stop) → IsDeclared s → Relays source target s limit w n o rest why
+    → Relays source target s limit w k q other cause → (n ≡ k) × (o ≡ q) × (rest ≡ other) × (why ≡ cause)
 
--- The messages that it relays are the first of those into which the octets divide: all of them, and the rest is unread; or it stops at the next one,
--- which has no encoding in the target rules, or an empty one.
+-- The messages that it relays are the first of those into which the octets divide: all of them, and the rest is unread;
+-- or it stops at the next one, which has no encoding in the target rules, or an empty one.
 abbrev pub RelaysTheFirst : Type 0
-RelaysTheFirst = (source target : Rules) (s : Schema) (limit : ℕ) (w rest out unread : List ℕ) (ms : List Message) (n : ℕ) (why : Option Stop)
-    → IsDeclared s → Divides source s limit ms rest w → (h : Relays source target s limit w n out unread why)
-    → (front : List Message) × (behind : List Message) × (front ++ behind ≡ ms) × AreSame h.messages front × EndsBefore target s behind rest unread why
+RelaysTheFirst = (source target : Rules) (s : Schema) (limit : ℕ) (w rest out unread : List ℕ) (ms : List Message)
+    → (n : ℕ) (why : Option Stop) → IsDeclared s → Divides source s limit ms rest w
+    → (h : Relays source target s limit w n out unread why)
+    → (front : List Message) × (behind : List Message) × (front ++ behind ≡ ms)
+    × AreSame h.messages front × EndsBefore target s behind rest unread why
 
--- Where each has such an encoding that is not empty, all are relayed: what is written are these encodings, joined, and the rest is unread.
+-- Where each has such an encoding that is not empty, all are relayed: what is written are these encodings, joined, and
+-- the rest is unread.
 abbrev pub RelaysAll : Type 0
-RelaysAll = (source target : Rules) (s : Schema) (limit : ℕ) (w rest joined out unread : List ℕ) (ms : List Message) (n : ℕ) (why : Option Stop)
-    → IsDeclared s → Divides source s limit ms rest w → Translates target s ms joined → (h : Relays source target s limit w n out unread why)
+RelaysAll = (source target : Rules) (s : Schema) (limit : ℕ) (w rest joined out unread : List ℕ) (ms : List Message)
+    → (n : ℕ) (why : Option Stop) → IsDeclared s → Divides source s limit ms rest w → Translates target s ms joined
+    → (h : Relays source target s limit w n out unread why)
     → AreSame h.messages ms × (n ≡ length ms) × (out ≡ joined) × (unread ≡ rest)
 
 -- What the older version reads of what the newer one writes is the value without what it lacks, and nothing else.
