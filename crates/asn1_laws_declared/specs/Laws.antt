@@ -1,5 +1,5 @@
 -- The laws of lawful types, of all types that are lawful as declared: a default in them may spell out what is at a default of its own.
-use Rattle.std.specs.Prelude.{◌≡◌, ℕ, ltb, Bool, true, IsTrue, List, ◌++◌, Some, None}
+use Rattle.std.specs.Prelude.{◌≡◌, ℕ, ltb, Bool, true, IsTrue, List, ◌++◌, length, Option, Some, None}
 use Rattle.asn1_model.specs.Value.{Value, bag, Values, each, same}
 use Rattle.asn1_model.specs.Schema.{Counts, Size, Schema, set_of}
 use Rattle.asn1_model.specs.Form.{arranged, ascending, stands_before, written}
@@ -12,6 +12,7 @@ use Rattle.asn1_model.specs.Typed.{is_of}
 use Rattle.asn1_model.specs.Versions.{Extends, drop, grow, IsClash}
 use Rattle.asn1_laws_across.specs.Strictly.{ReadsAsWritten, IsEncodingAsWritten}
 use Rattle.asn1_laws_streams.specs.Streams.{Message, Divides, AreSame}
+use Rattle.asn1_laws_streams.specs.Relayed.{Stop, Relays, Translates, EndsBefore}
 use Rattle.asn1_laws_unfolding.specs.Declared.{is_lawful_as_declared}
 use Rattle.asn1_laws_versions_refused.specs.Laws.{IsLeft, IsGrown}
 
@@ -80,6 +81,29 @@ DividedOnce = (r : Rules) (s : Schema) (limit : ℕ) (ms ns : List Message) (res
 -- Where more octets come, they begin with the messages so far, and the rest and the further octets divide into the others.
 abbrev pub BeginsAlike : Type 0
 BeginsAlike = (r : Rules) (s : Schema) (limit : ℕ) (ms all : List Message) (rest other w x : List ℕ) → IsDeclared s → Divides r s limit ms rest w → Divides r s limit all other (w ++ x) → (ls : List Message) × (ns : List Message) × (ls ++ ns ≡ all) × AreSame ms ls × Divides r s limit ns other (rest ++ x)
+
+-- A relay does one thing at most to octets.
+abbrev pub RelayedOnce : Type 0
+RelayedOnce = (source target : Rules) (s : Schema) (limit : ℕ) (w : List ℕ) (n k : ℕ) (o q rest other : List ℕ)
+    → (why cause : Option Stop) → IsDeclared s → Relays source target s limit w n o rest why
+    → Relays source target s limit w k q other cause → (n ≡ k) × (o ≡ q) × (rest ≡ other) × (why ≡ cause)
+
+-- The messages that it relays are the first of those into which the octets divide: all of them, and the rest is unread;
+-- or it stops at the next one, which has no encoding in the target rules, or an empty one.
+abbrev pub RelaysTheFirst : Type 0
+RelaysTheFirst = (source target : Rules) (s : Schema) (limit : ℕ) (w rest out unread : List ℕ) (ms : List Message)
+    → (n : ℕ) (why : Option Stop) → IsDeclared s → Divides source s limit ms rest w
+    → (h : Relays source target s limit w n out unread why)
+    → (front : List Message) × (behind : List Message) × (front ++ behind ≡ ms)
+    × AreSame h.messages front × EndsBefore target s behind rest unread why
+
+-- Where each has such an encoding that is not empty, all are relayed: what is written are these encodings, joined, and
+-- the rest is unread.
+abbrev pub RelaysAll : Type 0
+RelaysAll = (source target : Rules) (s : Schema) (limit : ℕ) (w rest joined out unread : List ℕ) (ms : List Message)
+    → (n : ℕ) (why : Option Stop) → IsDeclared s → Divides source s limit ms rest w → Translates target s ms joined
+    → (h : Relays source target s limit w n out unread why)
+    → AreSame h.messages ms × (n ≡ length ms) × (out ≡ joined) × (unread ≡ rest)
 
 -- What the older version reads of what the newer one writes is the value without what it lacks, and nothing else.
 abbrev pub OlderReadsTheDrop : Type 0

@@ -5,7 +5,7 @@ ghost use Rattle.asn1_laws_declared.specs.Laws.{NormalKeepsTheType, ExtendsItsel
 ghost use Rattle.asn1_laws_declared.specs.Laws.{OneMeaning, EncodingsTellNormalForms, EqualAcross, DetoursChangeNothing, RecodedStays};
 ghost use Rattle.asn1_laws_declared.specs.Laws.{StrictIsCanonicalOfAll, AscendingBags, OlderReadsTheDrop, OlderRefusesAClash, NewerReadsTheGrowth};
 ghost use Rattle.asn1_laws_declared.specs.Laws.{DividedOnce, BeginsAlike, OlderRefusesTheUnknown, NewerRefusesTheMissing};
-ghost use Rattle.asn1_laws_declared.specs.Laws.{OlderReadsExactly, NewerReadsExactly};
+ghost use Rattle.asn1_laws_declared.specs.Laws.{OlderReadsExactly, NewerReadsExactly, RelayedOnce, RelaysTheFirst, RelaysAll};
 
 /// The normal form of a value of the type is a value of it.
 pub fn normal_keeps_the_type()
@@ -81,6 +81,22 @@ pub fn divided_once()
 /// Where more octets come, they begin with the messages so far, and the rest and the further octets divide into the others.
 pub fn begins_alike()
     ensures { BeginsAlike }
+{}
+
+/// A relay does one thing at most to octets.
+pub fn relayed_once()
+    ensures { RelayedOnce }
+{}
+
+/// The messages that it relays are the first of those into which the octets divide: all of them, or those in front of the first one that has no encoding
+/// in the target rules, or an empty one.
+pub fn relays_the_first()
+    ensures { RelaysTheFirst }
+{}
+
+/// Where each of these messages has an encoding in the target rules that is not empty, all are relayed, and the rest is unread.
+pub fn relays_all()
+    ensures { RelaysAll }
 {}
 
 /// What the older version reads of what the newer one writes is the value without what it lacks, and nothing else.

@@ -43,17 +43,21 @@ PiecesAreJoined = (source target : Rules) (s : Schema) (limit : ℕ) (unread : L
     → StopsAt source target s limit unread None → RelaysPieces source target s limit unread pieces n o rest why
     → (other : List ℕ) × Relays source target s limit (unread ++ concat pieces) n o other why × (why ≡ None → other ≡ rest)
 
--- The messages that a relay relays are the first of those into which the octets divide: all of them, and the rest is unread; or it stops at the next one,
--- which has no encoding in the target rules, or an empty one.
+-- The messages that a relay relays are the first of those into which the octets divide: all of them, and the rest is
+-- unread; or it stops at the next one, which has no encoding in the target rules, or an empty one.
 abbrev pub RelaysTheFirst : Type 0
-RelaysTheFirst = (source target : Rules) (s : Schema) (limit : ℕ) (w rest out unread : List ℕ) (ms : List Message) (n : ℕ) (why : Option Stop)
-    → IsLawful s → Divides source s limit ms rest w → (h : Relays source target s limit w n out unread why)
-    → (front : List Message) × (behind : List Message) × (front ++ behind ≡ ms) × AreSame h.messages front × EndsBefore target s behind rest unread why
+RelaysTheFirst = (source target : Rules) (s : Schema) (limit : ℕ) (w rest out unread : List ℕ) (ms : List Message)
+    → (n : ℕ) (why : Option Stop) → IsLawful s → Divides source s limit ms rest w
+    → (h : Relays source target s limit w n out unread why)
+    → (front : List Message) × (behind : List Message) × (front ++ behind ≡ ms)
+    × AreSame h.messages front × EndsBefore target s behind rest unread why
 
--- Where each has such an encoding that is not empty, all are relayed: what is written are these encodings, joined, and the rest is unread.
+-- Where each has such an encoding that is not empty, all are relayed: what is written are these encodings, joined, and
+-- the rest is unread.
 abbrev pub RelaysAll : Type 0
-RelaysAll = (source target : Rules) (s : Schema) (limit : ℕ) (w rest joined out unread : List ℕ) (ms : List Message) (n : ℕ) (why : Option Stop)
-    → IsLawful s → Divides source s limit ms rest w → Translates target s ms joined → (h : Relays source target s limit w n out unread why)
+RelaysAll = (source target : Rules) (s : Schema) (limit : ℕ) (w rest joined out unread : List ℕ) (ms : List Message)
+    → (n : ℕ) (why : Option Stop) → IsLawful s → Divides source s limit ms rest w → Translates target s ms joined
+    → (h : Relays source target s limit w n out unread why)
     → AreSame h.messages ms × (n ≡ length ms) × (out ≡ joined) × (unread ≡ rest)
 
 -- ---- the limit

@@ -48,7 +48,8 @@ pub record Relays (source target : Rules) (s : Schema) (limit : ℕ) (w : List �
   pub front : RelaysFront source target s limit messages out rest w
   pub stops : StopsAt source target s limit rest why
 
--- The values of these messages have encodings in the target rules, of which none is empty, and joined they are these octets.
+-- The values of these messages have encodings in the target rules, of which none is empty, and joined they are
+-- these octets.
 abbrev pub Translates : Rules → Schema → List Message → List ℕ → Type 0
 Translates target s [] joined = joined ≡ []
 Translates target s (m ∷ ms) joined =
@@ -56,8 +57,8 @@ Translates target s (m ∷ ms) joined =
     × (others : List ℕ) × (t ++ others ≡ joined)
     × Translates target s ms others
 
--- Behind the messages that are relayed come none, and what is unread is the rest behind them all; or the value of the next one has no encoding in the
--- target rules, or an empty one, and the relay stops there for that.
+-- Behind the messages that are relayed come none, and what is unread is the rest behind them all; or the value of the
+-- next one has no encoding in the target rules, or an empty one, and the relay stops there for that.
 abbrev pub EndsBefore : Rules → Schema → List Message → List ℕ → List ℕ → Option Stop → Type 0
 EndsBefore target s [] rest unread why = unread ≡ rest
 EndsBefore target s (m ∷ ms) rest unread why =
