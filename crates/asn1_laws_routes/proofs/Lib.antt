@@ -1,2 +1,4 @@
 pub mod Growing
 pub mod Dropping
+pub mod Answers
+pub mod Hops

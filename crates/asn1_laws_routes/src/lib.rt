@@ -1,7 +1,7 @@
 //! Messages that go from hop to hop, each of which knows the older or the newer version of their type.
 #![tactic(auto)]
 
-ghost use Rattle.asn1_laws_routes.specs.Laws.{GrowingIsOfNormalForms, DroppingNestsNoDeeper};
+ghost use Rattle.asn1_laws_routes.specs.Laws.{GrowingIsOfNormalForms, DroppingNestsNoDeeper, OneAnswerIsRight, EachHopAnswers};
 
 /// A value of the older version can be carried over to the newer one exactly if its normal form can, and then to the same
 /// normal form.
@@ -12,4 +12,14 @@ pub fn growing_is_of_normal_forms()
 /// A value without what the older version lacks nests no deeper than its normal form.
 pub fn dropping_nests_no_deeper()
     ensures { DroppingNestsNoDeeper }
+{}
+
+/// No two answers to some octets are right.
+pub fn one_answer_is_right()
+    ensures { OneAnswerIsRight }
+{}
+
+/// A hop hands on the canonical encoding of the value that it writes, if no cause holds at it, and else refuses as the cause says.
+pub fn each_hop_answers()
+    ensures { EachHopAnswers }
 {}
