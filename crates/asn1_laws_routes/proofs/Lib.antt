@@ -2,3 +2,4 @@ pub mod Growing
 pub mod Dropping
 pub mod Answers
 pub mod Hops
+pub mod Routes

@@ -49,6 +49,16 @@ EachHopAnswers =
     → (HasNoCause old new p h v → HandsOn old new p h v w)
     × ((a : Answer) → HasCause old new p h v a → HopAnswers old new p.from h w a)
 
+-- ---- routes of any octets
+
+-- A route does one thing at most to octets: they arrive as others, or one hop refuses them in one way.
+abbrev pub RouteDoesOneThing : Type 0
+RouteDoesOneThing =
+    (old new : Schema) (from : Rules) (hops : List Hop) (w : List ℕ) → IsLawful old → IsLawful new
+    → ((x y : List ℕ) → Arrives old new from hops w x → Arrives old new from hops w y → x ≡ y)
+    × ((i j : ℕ) (a b : Answer) → RefusesAt old new from hops w i a → RefusesAt old new from hops w j b → (i ≡ j) × (a ≡ b))
+    × ((x : List ℕ) (i : ℕ) (a : Answer) → Arrives old new from hops w x → RefusesAt old new from hops w i a → ⊥)
+
 -- ---- routes of the canonical encoding of a value of the newer version, over hops of which there is one at least
 
 -- What holds of any such encoding.
@@ -58,30 +68,32 @@ OfCanonical P =
     → IsLawful old → IsLawful new → Extends old new → hops ≢ [] → canonical from new v ≡ Some w
     → P old new from hops v w
 
--- No cause holds at any of the hops.
-abbrev pub IsFree : Schema → Schema → Rules → List Hop → Value → Type 0
-IsFree old new from hops v = GoesThrough old new (at_first from) hops v
-
 -- It arrives exactly if no cause holds at any hop, and as the canonical encoding, in the rules of the last hop, of the
 -- value that this writes.
+abbrev pub ArrivesExactly : Schema → Schema → Rules → List Hop → Value → List ℕ → Type 0
+ArrivesExactly old new from hops v w =
+    (GoesThrough old new (at_first from) hops v → (out : List ℕ) × Arrives old new from hops w out)
+    × ((out : List ℕ) → Arrives old new from hops w out → GoesThrough old new (at_first from) hops v)
+    × ((out : List ℕ) → Arrives old new from hops w out → IsLastWritten old new (at_first from) hops v out)
+
 abbrev pub RouteArrivesExactly : Type 0
-RouteArrivesExactly =
-    OfCanonical (λ old new from hops v w. IsFree old new from hops v → (out : List ℕ) × Arrives old new from hops w out)
-    × OfCanonical (λ old new from hops v w. (out : List ℕ) → Arrives old new from hops w out → IsFree old new from hops v)
-    × OfCanonical (λ old new from hops v w.
-    (out : List ℕ) → Arrives old new from hops w out → IsLastWritten old new (at_first from) hops v out)
+RouteArrivesExactly = OfCanonical ArrivesExactly
 
 -- It is refused at the first hop at which a cause holds, and at no other: as no message where a cause of reading holds
 -- there, and else as a value that has no encoding in the target rules.
-abbrev pub RouteRefusesExactly : Type 0
-RouteRefusesExactly = OfCanonical (λ old new from hops v w. (i : ℕ) (a : Answer)
+abbrev pub RefusedExactly : Schema → Schema → Rules → List Hop → Value → List ℕ → Type 0
+RefusedExactly old new from hops v w =
+    (i : ℕ) (a : Answer)
     → (FailsAt old new (at_first from) hops v i a → RefusesAt old new from hops w i a)
-    × (RefusesAt old new from hops w i a → FailsAt old new (at_first from) hops v i a))
+    × (RefusesAt old new from hops w i a → FailsAt old new (at_first from) hops v i a)
 
--- It arrives or is refused at some hop, and never both.
+abbrev pub RouteRefusesExactly : Type 0
+RouteRefusesExactly = OfCanonical RefusedExactly
+
+-- It arrives, or a hop refuses it.
+abbrev pub Ends : Schema → Schema → Rules → List Hop → Value → List ℕ → Type 0
+Ends old new from hops v w =
+    ((out : List ℕ) × Arrives old new from hops w out) ⊎ ((i : ℕ) × (a : Answer) × RefusesAt old new from hops w i a)
+
 abbrev pub RouteEnds : Type 0
-RouteEnds =
-    OfCanonical (λ old new from hops v w.
-    ((out : List ℕ) × Arrives old new from hops w out) ⊎ ((i : ℕ) × (a : Answer) × RefusesAt old new from hops w i a))
-    × OfCanonical (λ old new from hops v w. (out : List ℕ) (i : ℕ) (a : Answer)
-    → Arrives old new from hops w out → RefusesAt old new from hops w i a → ⊥)
+RouteEnds = OfCanonical Ends

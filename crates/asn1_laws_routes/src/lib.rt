@@ -2,6 +2,7 @@
 #![tactic(auto)]
 
 ghost use Rattle.asn1_laws_routes.specs.Laws.{GrowingIsOfNormalForms, DroppingNestsNoDeeper, OneAnswerIsRight, EachHopAnswers};
+ghost use Rattle.asn1_laws_routes.specs.Laws.{RouteDoesOneThing, RouteArrivesExactly, RouteRefusesExactly, RouteEnds};
 
 /// A value of the older version can be carried over to the newer one exactly if its normal form can, and then to the same
 /// normal form.
@@ -22,4 +23,25 @@ pub fn one_answer_is_right()
 /// A hop hands on the canonical encoding of the value that it writes, if no cause holds at it, and else refuses as the cause says.
 pub fn each_hop_answers()
     ensures { EachHopAnswers }
+{}
+
+/// A route does one thing at most to octets: they arrive as others, or one hop refuses them in one way.
+pub fn route_does_one_thing()
+    ensures { RouteDoesOneThing }
+{}
+
+/// The canonical encoding of a value of the newer version arrives exactly if no cause holds at any hop, and as the canonical encoding,
+/// in the rules of the last hop, of the value that this writes.
+pub fn route_arrives_exactly()
+    ensures { RouteArrivesExactly }
+{}
+
+/// It is refused at the first hop at which a cause holds, and at no other, and as the cause says.
+pub fn route_refuses_exactly()
+    ensures { RouteRefusesExactly }
+{}
+
+/// It arrives, or a hop refuses it.
+pub fn route_ends()
+    ensures { RouteEnds }
 {}
