@@ -22,7 +22,7 @@ use Rattle.asn1_laws_versions_extending.proofs.Levels.{same_depth, grown_depth}
 use Rattle.asn1_laws_versions_refused.specs.Laws.{is_strict, MayBeRead, IsLeft}
 use Rattle.asn1_laws_versions_refused.proofs.Exactly.{older_refuses, newer_refuses, older_reads_exactly, newer_reads_exactly}
 use Rattle.asn1_laws_routes.specs.Answers.{IsMessage, Answer, answered, not_an_encoding, surplus, no_target, IsAnswer}
-use Rattle.asn1_laws_routes.specs.Routes.{Version, older, newer, Hop, schema_of, HopAnswers, Passed, no_hop, newer_alone, an_older, Stage, and_one, Cause, unknown, too_deep, clash, missing, unwritable, answer_to, value_written, Writes, Holds, HasNoCause, HasCause, IsWritten, IsSeen}
+use Rattle.asn1_laws_routes.specs.Routes.{Version, older, newer, Hop, schema_of, HopAnswers, Passed, no_hop, newer_alone, an_older, Stage, at_first, and_one, Cause, unknown, too_deep, clash, missing, unwritable, answer_to, value_written, Writes, Holds, HasNoCause, HasCause, IsWritten, IsSeen}
 use Rattle.asn1_laws_routes.specs.Laws.{HandsOn}
 use Rattle.asn1_laws_routes.proofs.Answers.{whole}
 use Rattle.asn1_laws_routes.proofs.Growing.{normal_growth}
@@ -43,6 +43,21 @@ pub normal_written : (r : Rules) (s : Schema) (v : Value) → canonical r s (nor
 unfolding canonical
 normal_written r s v = ap (λ x. option_and_then of_moderate_length (encoding r s x)) (normal_again s v)
 
+-- no beginning is a message, whatever stands behind
+abbrev pub Unread : Rules → Schema → List ℕ → Type 0
+Unread r s w = (front behind further : List ℕ) (x : Value) → IsMessage r s x front → front ++ behind ≡ w ++ further → ⊥
+
+unread_answer : (r t : Rules) (s : Schema) (w : List ℕ) → Unread r s w → IsAnswer r t s w not_an_encoding
+unread_answer r t s w u = λ front behind x e m. u front behind [] x m (e ∙ sym (whole w))
+
+-- a hop that refuses does so in one of two ways
+pub either_answer : (c : Cause) → (answer_to c ≡ not_an_encoding) ⊎ (answer_to c ≡ no_target)
+either_answer unknown = inl refl
+either_answer too_deep = inl refl
+either_answer clash = inl refl
+either_answer missing = inl refl
+either_answer unwritable = inr refl
+
 -- ---- what is read in the type in which it was written
 pub own_message : (r : Rules) (s : Schema) (v : Value) (w : List ℕ) → canonical r s v ≡ Some w → depth (normal s v) ≤ 128 → IsMessage r s (normal s v) w
 own_message r s v w e d = (canonical_is_read r s v w e, d)
@@ -56,28 +71,39 @@ own_too_deep r t s v w l e d = λ front behind x q m.
 
 module _ (old new : Schema) (lo : IsLawful old) (ln : IsLawful new) (ext : Extends old new) where
   -- ---- what the older version reads of what the newer one wrote
-  pub unknown_refused : (r t : Rules) (v : Value) (w : List ℕ) → drop old new v ≡ None → canonical r new v ≡ Some w → IsAnswer r t old w not_an_encoding
-  unknown_refused r t v w d e = λ front behind x q m. older_refuses r old new v x w front behind [] lo ln ext d e m.0 (q ∙ sym (whole w))
+  unknown_unread : (r : Rules) (v : Value) (w : List ℕ) → drop old new v ≡ None → canonical r new v ≡ Some w → Unread r old w
+  unknown_unread r v w d e = λ front behind further x m q. older_refuses r old new v x w front behind further lo ln ext d e m.0 q
 
   -- what is read is what is left
-  left_of : (r : Rules) (v x u : Value) (w front behind : List ℕ) → canonical r new v ≡ Some w → drop old new v ≡ Some u → IsMessage r old x front → front ++ behind ≡ w → (same x u ≡ true) × MayBeRead r old x
-  left_of r v x u w front behind e d m q =
-      let t = ((older_reads_exactly r old new v x w lo ln ext e).1 front behind [] m.0 (q ∙ sym (whole w))).1 in
+  left_of : (r : Rules) (v x u : Value) (w front behind further : List ℕ) → canonical r new v ≡ Some w → drop old new v ≡ Some u → IsMessage r old x front → front ++ behind ≡ w ++ further → (same x u ≡ true) × MayBeRead r old x
+  left_of r v x u w front behind further e d m q =
+      let t = ((older_reads_exactly r old new v x w lo ln ext e).1 front behind further m.0 q).1 in
       (subst (λ u. same x u ≡ true) (some_parts (sym t.1 ∙ d)) t.2, t.3)
 
-  pub clash_refused : (r t : Rules) (v : Value) (w : List ℕ) → is_strict r ≡ true → IsClash old new v → canonical r new v ≡ Some w → IsAnswer r t old w not_an_encoding
-  clash_refused r t v w s c e = λ front behind x q m.
-      let f = left_of r v x c.0 w front behind e c.1 m q in
+  clash_unread : (r : Rules) (v : Value) (w : List ℕ) → is_strict r ≡ true → IsClash old new v → canonical r new v ≡ Some w → Unread r old w
+  clash_unread r v w s c e = λ front behind further x m q.
+      let f = left_of r v x c.0 w front behind further e c.1 m q in
       let n = stays_normal old x c.0 f.0 (f.1 s) in
       let b : false ≡ true = sym c.2 ∙ n in
       cc
 
-  pub left_too_deep : (r t : Rules) (v u : Value) (w : List ℕ) → drop old new v ≡ Some u → 128 < depth u → canonical r new v ≡ Some w → IsAnswer r t old w not_an_encoding
-  left_too_deep r t v u w d k e = λ front behind x q m.
-      let f = left_of r v x u w front behind e d m q in
+  deep_unread : (r : Rules) (v u : Value) (w : List ℕ) → drop old new v ≡ Some u → 128 < depth u → canonical r new v ≡ Some w → Unread r old w
+  deep_unread r v u w d k e = λ front behind further x m q.
+      let f = left_of r v x u w front behind further e d m q in
       let n = same_depth x u f.0 in
       let i = m.1 in
       omega arith
+
+  -- where a cause of reading holds at a first hop of the older version
+  pub cause_unread : (r t : Rules) (v : Value) (w : List ℕ) → canonical r new v ≡ Some w → HasCause old new (at_first r) (record { version = older; to = t }) v not_an_encoding → Unread r old w
+  cause_unread r t v w e c = by_cause c.0 c.1 c.2
+    where
+      by_cause : (c : Cause) → Holds old new (at_first r) (record { version = older; to = t }) v c → answer_to c ≡ not_an_encoding → Unread r old w
+      by_cause unknown k a = unknown_unread r v w k.1 e
+      by_cause too_deep k a = deep_unread r v k.1.0 w k.1.1 k.1.2 e
+      by_cause clash k a = clash_unread r v w k.1 k.2 e
+      by_cause missing k a = let f : older ≡ newer = k.0.0 in cc
+      by_cause unwritable k a = cc
 
   pub left_message : (r : Rules) (v u : Value) (w : List ℕ) → drop old new v ≡ Some u → MayBeRead r old u → depth u ≤ 128 → canonical r new v ≡ Some w → IsMessage r old u w
   left_message r v u w d n k e = ((older_reads_exactly r old new v u w lo ln ext e).0 (u, d, same_self u, n), k)
@@ -193,16 +219,16 @@ module _ (old new : Schema) (lo : IsLawful old) (ln : IsLawful new) (ext : Exten
         reads unwritable a k = cc
 
     by_clash : (u : Value) → drop old new v ≡ Some u → depth u ≤ 128 → (s n : Bool) → is_strict from ≡ s → is_normal old u ≡ n → Here
-    by_clash u f d true false g i = refuses _ _ v w clash refl ((refl, first), g, (u, f, i)) (clash_refused from to v w g (u, f, i) e)
+    by_clash u f d true false g i = refuses _ _ v w clash refl ((refl, first), g, (u, f, i)) (unread_answer from to old w (clash_unread from v w g (u, f, i) e))
     by_clash u f d true true g i = left u f d (λ t. i)
     by_clash u f d false n g i = left u f d (λ t. let j : false ≡ true = sym g ∙ t in cc)
 
     by_depth : ((u : Value) → drop old new v ≡ Some u → 128 < depth u → p ≡ no_hop) → (u : Value) → drop old new v ≡ Some u → (128 < depth u) ⊎ (depth u ≤ 128) → Here
-    by_depth at u f (inl d) = refuses _ _ v w too_deep refl (at u f d, (u, f, d)) (left_too_deep from to v u w f d e)
+    by_depth at u f (inl d) = refuses _ _ v w too_deep refl (at u f d, (u, f, d)) (unread_answer from to old w (deep_unread from v u w f d e))
     by_depth at u f (inr d) = by_clash u f d (is_strict from) (is_normal old u) refl refl
 
     by_drop : ((u : Value) → drop old new v ≡ Some u → 128 < depth u → p ≡ no_hop) → (o : Option Value) → drop old new v ≡ o → Here
-    by_drop at None f = refuses _ _ v w unknown refl ((refl, first), f) (unknown_refused from to v w f e)
+    by_drop at None f = refuses _ _ v w unknown refl ((refl, first), f) (unread_answer from to old w (unknown_unread from v w f e))
     by_drop at (Some u) f = by_depth at u f (cases_lt 128 (depth u))
 
   -- a hop behind one of the older version
@@ -225,7 +251,7 @@ module _ (old new : Schema) (lo : IsLawful old) (ln : IsLawful new) (ext : Exten
         alone (inr c) = let f : None ≡ Some c.0 = sym e ∙ c.1 in cc
 
     by_growth : (x : Option Value) → grow old new u ≡ x → Step (record { passed = an_older; from = from }) (record { version = newer; to = to }) v w
-    by_growth None e = refuses _ _ v w missing refl ((refl, refl), ap (option_and_then (grow old new)) d ∙ e) (missing_refused from to u w o e (seen_alone e))
+    by_growth None e = refuses _ _ v w missing refl ((refl, refl), (u, d, e)) (missing_refused from to u w o e (seen_alone e))
     by_growth (Some g) e = writes _ _ v (normal new g) g w reads value (newer_again from u g w o k e seen) (λ t. normal_written t new g) (λ t f. (u, d, o, k, inr (g, e, f)))
       where
         value : value_written old new an_older newer v ≡ Some g
@@ -235,7 +261,10 @@ module _ (old new : Schema) (lo : IsLawful old) (ln : IsLawful new) (ext : Exten
         reads unknown a i = let f : newer ≡ older = i.0.0 in cc
         reads too_deep a i = let f : an_older ≡ no_hop = i.0 in cc
         reads clash a i = let f : newer ≡ older = i.0.0 in cc
-        reads missing a i = let f : None ≡ Some g = sym i.1 ∙ value in cc
+        reads missing a i =
+            let f : i.1.0 ≡ u = some_parts (sym i.1.1 ∙ d) in
+            let n : None ≡ Some g = sym i.1.2 ∙ ap (grow old new) f ∙ e in
+            cc
         reads unwritable a i = cc
 
   by_levels : (from to : Rules) (v : Value) (w : List ℕ) → canonical from new v ≡ Some w → (128 < depth (normal new v)) ⊎ (depth (normal new v) ≤ 128) → Step (record { passed = no_hop; from = from }) (record { version = newer; to = to }) v w
@@ -261,15 +290,8 @@ module _ (old new : Schema) (lo : IsLawful old) (ln : IsLawful new) (ext : Exten
 
   -- what a hop answers where a cause holds is one thing alone
   pub one_cause : (p : Stage) (h : Hop) (v : Value) (a b : Answer) → HasCause old new p h v a → HasCause old new p h v b → a ≡ b
-  one_cause p h v a b x y = by_answers (answer_to x.0) (answer_to y.0) (two x.0) (two y.0) refl refl
+  one_cause p h v a b x y = by_answers (answer_to x.0) (answer_to y.0) (either_answer x.0) (either_answer y.0) refl refl
     where
-      two : (c : Cause) → (answer_to c ≡ not_an_encoding) ⊎ (answer_to c ≡ no_target)
-      two unknown = inl refl
-      two too_deep = inl refl
-      two clash = inl refl
-      two missing = inl refl
-      two unwritable = inr refl
-
       by_answers : (m n : Answer) → (m ≡ not_an_encoding) ⊎ (m ≡ no_target) → (n ≡ not_an_encoding) ⊎ (n ≡ no_target) → answer_to x.0 ≡ m → answer_to y.0 ≡ n → a ≡ b
       by_answers m n (inl e) (inl f) i j = sym x.2 ∙ i ∙ e ∙ sym f ∙ sym j ∙ y.2
       by_answers m n (inr e) (inr f) i j = sym x.2 ∙ i ∙ e ∙ sym f ∙ sym j ∙ y.2

@@ -3,3 +3,4 @@ pub mod Dropping
 pub mod Answers
 pub mod Hops
 pub mod Routes
+pub mod Relays

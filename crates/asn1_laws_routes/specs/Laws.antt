@@ -1,5 +1,5 @@
 -- Laws of routes.
-use Rattle.std.specs.Prelude.{◌≡◌, ◌≢◌, ◌⊎◌, ℕ, ◌≤◌, IsTrue, List, [], Some, option_map}
+use Rattle.std.specs.Prelude.{◌≡◌, ◌≢◌, ◌⊎◌, ℕ, ◌≤◌, IsTrue, List, [], Option, Some, option_map}
 use Rattle.asn1_model.specs.Value.{Value, depth}
 use Rattle.asn1_model.specs.Schema.{Schema}
 use Rattle.asn1_model.specs.Lawful.{IsLawful}
@@ -10,6 +10,8 @@ use Rattle.asn1_model.specs.Versions.{Extends, drop, grow}
 use Rattle.asn1_laws_routes.specs.Answers.{Answer, answered, IsAnswer}
 use Rattle.asn1_laws_routes.specs.Routes.{Hop, HopAnswers, Arrives, RefusesAt, Stage, at_first, and_one}
 use Rattle.asn1_laws_routes.specs.Routes.{Writes, HasNoCause, HasCause, GoesThrough, FailsAt, IsLastWritten, IsWritten}
+use Rattle.asn1_laws_routes.specs.Relays.{AreJoined, Halt, RelaysOlder, IsEnd}
+use Rattle.asn1_laws_streams.specs.Relayed.{Stop, Relays}
 
 -- ---- versions
 
@@ -97,3 +99,22 @@ Ends old new from hops v w =
 
 abbrev pub RouteEnds : Type 0
 RouteEnds = OfCanonical Ends
+
+-- ---- relays of the older version, of joined canonical encodings of values of the newer one
+
+-- The joined messages are relayed up to some first one, to which the relay goes no further, or all of them.
+abbrev pub OlderRelayGoes : Type 0
+OlderRelayGoes =
+    (source target : Rules) (old new : Schema) (limit : ℕ) (vs : List Value) (w : List ℕ)
+    → IsLawful old → IsLawful new → Extends old new → AreJoined source new vs w
+    → (number : ℕ) × (out : List ℕ) × (rest : List ℕ) × (halt : Option Halt)
+    × RelaysOlder source target old new limit vs w number out rest halt
+
+-- That is what a relay does that knows the older version alone.
+abbrev pub OlderRelayDoes : Type 0
+OlderRelayDoes =
+    (source target : Rules) (old new : Schema) (limit : ℕ) (vs : List Value) (w : List ℕ) (number n : ℕ)
+    (out o rest r : List ℕ) (halt : Option Halt) (why : Option Stop)
+    → IsLawful old → IsLawful new → Extends old new
+    → RelaysOlder source target old new limit vs w number out rest halt → Relays source target old limit w n o r why
+    → (n ≡ number) × (o ≡ out) × (r ≡ rest) × IsEnd source target old new limit rest halt why

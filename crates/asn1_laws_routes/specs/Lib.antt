@@ -1,3 +1,4 @@
 pub mod Answers
 pub mod Routes
+pub mod Relays
 pub mod Laws

@@ -124,12 +124,16 @@ module _ (old new : Schema) where
   NestsTooDeep older v = (u : Value) × (drop old new v ≡ Some u) × (128 < depth u)
   NestsTooDeep newer v = 128 < depth (normal new v)
 
+  -- What the older version sees of the value cannot be carried over again.
+  abbrev pub Lacks : Value → Type 0
+  Lacks v = (u : Value) × (drop old new v ≡ Some u) × (grow old new u ≡ None)
+
   -- A cause holds at a hop.
   abbrev pub Holds : Stage → Hop → Value → Cause → Type 0
   Holds p h v unknown = IsFirstOlder p h × (drop old new v ≡ None)
   Holds p h v too_deep = (p.passed ≡ no_hop) × NestsTooDeep h.version v
   Holds p h v clash = IsFirstOlder p h × (is_strict p.from ≡ true) × IsClash old new v
-  Holds p h v missing = IsNewerAgain p h × (value_written p.passed h.version v ≡ None)
+  Holds p h v missing = IsNewerAgain p h × Lacks v
   Holds p h v unwritable = Writes p.passed h v None
 
   -- No cause holds at a hop.

@@ -3,6 +3,7 @@
 
 ghost use Rattle.asn1_laws_routes.specs.Laws.{GrowingIsOfNormalForms, DroppingNestsNoDeeper, OneAnswerIsRight, EachHopAnswers};
 ghost use Rattle.asn1_laws_routes.specs.Laws.{RouteDoesOneThing, RouteArrivesExactly, RouteRefusesExactly, RouteEnds};
+ghost use Rattle.asn1_laws_routes.specs.Laws.{OlderRelayGoes, OlderRelayDoes};
 
 /// A value of the older version can be carried over to the newer one exactly if its normal form can, and then to the same
 /// normal form.
@@ -44,4 +45,15 @@ pub fn route_refuses_exactly()
 /// It arrives, or a hop refuses it.
 pub fn route_ends()
     ensures { RouteEnds }
+{}
+
+/// The joined canonical encodings of values of the newer version are relayed by the older one up to the first at which a cause holds, or
+/// that is over the limit, or whose translation is empty.
+pub fn older_relay_goes()
+    ensures { OlderRelayGoes }
+{}
+
+/// That is what a relay does that knows the older version alone.
+pub fn older_relay_does()
+    ensures { OlderRelayDoes }
 {}
