@@ -1,6 +1,6 @@
 -- A value without what the older version lacks nests no deeper.
-use Rattle.std.proofs.Common.{◌≡◌, ℕ, zero, suc, ◌+◌, ◌≤◌, max, Bool, true, false, cond, ◌||◌, Option, Some, None, option_map, refl, ap, sym, subst, arith}
-use Rattle.asn1_model.specs.Value.{Value, item, members, bag, fields, chosen, Values, no_more, member, Parts, end, absent, present, depth, depth_of_members, depth_of_parts}
+use Rattle.std.proofs.Common.{◌≡◌, ℕ, zero, suc, ◌≤◌, Bool, true, false, cond, Option, Some, None, option_map, ap, sym, subst, arith}
+use Rattle.asn1_model.specs.Value.{Value, item, members, bag, fields, chosen, Values, no_more, member, Parts, absent, present, depth, depth_of_members, depth_of_parts}
 use Rattle.asn1_model.specs.Schema.{Schema, enumerated, sequence_of, set_of, sequence, set, group, choice, Components, no_component, component, Alternatives, alternative}
 use Rattle.asn1_model.specs.Versions.{lessen, lessen_parts, lessen_alternative, map_each}
 use Rattle.asn1_model.proofs.Forms.{chain_parts, map_parts}

@@ -11,18 +11,18 @@ use Rattle.asn1_model.specs.Versions.{Extends, drop, grow, lessen, IsClash}
 use Rattle.asn1_laws.proofs.Messages.{canonical_is_read, some_parts}
 use Rattle.asn1_laws.proofs.Normals.{normal_again, normal_normal}
 use Rattle.asn1_laws_values.proofs.IsNormal.{stays_normal}
-use Rattle.asn1_laws_values.proofs.Normal.{normal_depth, normal_stays}
-use Rattle.asn1_laws_values.proofs.Same.{same_self, same_turned}
+use Rattle.asn1_laws_values.proofs.Normal.{normal_depth}
+use Rattle.asn1_laws_values.proofs.Same.{same_self}
 use Rattle.asn1_laws_streams.proofs.Streams.{one_front}
 use Rattle.asn1_laws_typed.proofs.PerTyped.{message_of}
 use Rattle.asn1_laws_typed.proofs.OerTyped.{octets_are_of}
 use Rattle.asn1_laws_typed.proofs.Typed.{normal_is_of}
 use Rattle.asn1_laws_versions_extending.proofs.Back.{dropped_back}
 use Rattle.asn1_laws_versions_extending.proofs.Levels.{same_depth, grown_depth}
-use Rattle.asn1_laws_versions_refused.specs.Laws.{is_strict, MayBeRead, IsLeft}
+use Rattle.asn1_laws_versions_refused.specs.Laws.{is_strict, MayBeRead}
 use Rattle.asn1_laws_versions_refused.proofs.Exactly.{older_refuses, newer_refuses, older_reads_exactly, newer_reads_exactly}
-use Rattle.asn1_laws_routes.specs.Answers.{IsMessage, Answer, answered, not_an_encoding, surplus, no_target, IsAnswer}
-use Rattle.asn1_laws_routes.specs.Routes.{Version, older, newer, Hop, schema_of, HopAnswers, Passed, no_hop, newer_alone, an_older, Stage, at_first, and_one, Cause, unknown, too_deep, clash, missing, unwritable, answer_to, value_written, Writes, Holds, HasNoCause, HasCause, IsWritten, IsSeen}
+use Rattle.asn1_laws_routes.specs.Answers.{IsMessage, Answer, not_an_encoding, no_target, IsAnswer}
+use Rattle.asn1_laws_routes.specs.Routes.{Version, older, newer, Hop, schema_of, HopAnswers, Passed, no_hop, newer_alone, an_older, Stage, at_first, and_one, Cause, unknown, too_deep, clash, missing, unwritable, answer_to, value_written, Holds, HasNoCause, HasCause, IsWritten, IsSeen}
 use Rattle.asn1_laws_routes.specs.Laws.{HandsOn}
 use Rattle.asn1_laws_routes.proofs.Answers.{whole}
 use Rattle.asn1_laws_routes.proofs.Growing.{normal_growth}

@@ -4,3 +4,4 @@ pub mod Answers
 pub mod Hops
 pub mod Routes
 pub mod Relays
+pub mod Deciding

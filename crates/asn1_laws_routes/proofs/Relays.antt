@@ -1,24 +1,22 @@
 -- What a relay of the older version does to messages of the newer one.
-use Rattle.std.proofs.Common.{◌≡◌, ◌≢◌, ◌⊎◌, inl, inr, ℕ, zero, suc, ◌≤◌, ◌<◌, true, List, [], ◌∷◌, ◌++◌, length, Option, Some, None, refl, ap, sym, ◌∙◌, subst, arith}
+use Rattle.std.proofs.Common.{◌≡◌, ◌≢◌, ◌⊎◌, inl, inr, ℕ, suc, ◌≤◌, ◌<◌, List, [], ◌∷◌, ◌++◌, length, Option, Some, None, refl, ap, sym, ◌∙◌, subst, arith}
 use Rattle.std.proofs.lemmas.Bool.{cases_lt}
 use Rattle.std.proofs.lemmas.List.{append_cancel_left, length-append}
-use Rattle.asn1_model.specs.Value.{Value, same}
+use Rattle.asn1_model.specs.Value.{Value}
 use Rattle.asn1_model.specs.Schema.{Schema}
 use Rattle.asn1_model.specs.Lawful.{IsLawful}
-use Rattle.asn1_model.specs.Rules.{Rules, canonical, IsEncoding}
+use Rattle.asn1_model.specs.Rules.{Rules, canonical}
 use Rattle.asn1_model.specs.Versions.{Extends}
 use Rattle.asn1_laws.proofs.Messages.{some_parts}
-use Rattle.asn1_laws_order.proofs.Canonical.{same_written}
 use Rattle.asn1_laws_streams.specs.Streams.{Message, HasNoMessage}
 use Rattle.asn1_laws_streams.specs.Streams as streams
 use Rattle.asn1_laws_streams.specs.Relayed.{Stop, RelaysFront, BeginsWith, HasEmptyMessage, StopsAt, Relays}
 use Rattle.asn1_laws_streams.specs.Relayed as stop
-use Rattle.asn1_laws_streams.proofs.Streams.{first_same}
 use Rattle.asn1_laws_streams.proofs.Relayed.{some_before, targets_agree, one_stop, relayed_on}
 use Rattle.asn1_laws_versions_refused.proofs.Exactly.{older_reads_exactly}
-use Rattle.asn1_laws_routes.specs.Answers.{IsMessage, Answer, answered, not_an_encoding, no_target}
-use Rattle.asn1_laws_routes.specs.Routes.{older, Hop, no_hop, at_first, answer_to, Writes, HasNoCause, HasCause}
-use Rattle.asn1_laws_routes.specs.Relays.{AreJoined, Halt, unread, untranslated, emptied, older_to, IsRelayed, HaltsAt, RelaysOlder, IsEnd}
+use Rattle.asn1_laws_routes.specs.Answers.{IsMessage, Answer, not_an_encoding, no_target}
+use Rattle.asn1_laws_routes.specs.Routes.{no_hop, at_first, answer_to, Writes, HasNoCause, HasCause}
+use Rattle.asn1_laws_routes.specs.Relays.{AreJoined, Halt, unread, untranslated, emptied, older_to, HaltsAt, RelaysOlder, IsEnd}
 use Rattle.asn1_laws_routes.proofs.Hops.{Step, step, Unread, either_answer, cause_unread, hands_on, answers_by_cause}
 
 not_empty : {A : Type 0} (x : List A) → x ≢ [] → 1 ≤ length x

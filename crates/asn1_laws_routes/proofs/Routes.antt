@@ -5,9 +5,8 @@ use Rattle.asn1_model.specs.Schema.{Schema}
 use Rattle.asn1_model.specs.Lawful.{IsLawful}
 use Rattle.asn1_model.specs.Rules.{Rules, canonical}
 use Rattle.asn1_model.specs.Versions.{Extends}
-use Rattle.asn1_laws_routes.specs.Answers.{Answer, answered, not_an_encoding, surplus, no_target}
+use Rattle.asn1_laws_routes.specs.Answers.{Answer, answered}
 use Rattle.asn1_laws_routes.specs.Routes.{Version, older, newer, Hop, schema_of, IsRefusal, HopAnswers, Arrives, RefusesAt, Stage, at_first, behind, Cause, unknown, too_deep, clash, missing, unwritable, answer_to, Writes, HasCause, GoesThrough, FailsAt, IsLastWritten, IsWritten}
-use Rattle.asn1_laws_routes.specs.Laws.{HandsOn}
 use Rattle.asn1_laws_routes.proofs.Answers.{one_answer}
 use Rattle.asn1_laws_routes.proofs.Hops.{Step, step, hands_on, answers_by_cause}
 

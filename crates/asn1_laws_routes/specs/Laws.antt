@@ -58,7 +58,8 @@ abbrev pub RouteDoesOneThing : Type 0
 RouteDoesOneThing =
     (old new : Schema) (from : Rules) (hops : List Hop) (w : List ℕ) → IsLawful old → IsLawful new
     → ((x y : List ℕ) → Arrives old new from hops w x → Arrives old new from hops w y → x ≡ y)
-    × ((i j : ℕ) (a b : Answer) → RefusesAt old new from hops w i a → RefusesAt old new from hops w j b → (i ≡ j) × (a ≡ b))
+    × ((i j : ℕ) (a b : Answer)
+    → RefusesAt old new from hops w i a → RefusesAt old new from hops w j b → (i ≡ j) × (a ≡ b))
     × ((x : List ℕ) (i : ℕ) (a : Answer) → Arrives old new from hops w x → RefusesAt old new from hops w i a → ⊥)
 
 -- ---- routes of the canonical encoding of a value of the newer version, over hops of which there is one at least

@@ -2,3 +2,4 @@ pub mod Answers
 pub mod Routes
 pub mod Relays
 pub mod Laws
+pub mod RouteRows

@@ -1,5 +1,5 @@
 -- What a relay of the older version of a type does to messages of the newer one.
-use Rattle.std.specs.Prelude.{◌≡◌, ◌≢◌, ◌⊎◌, ℕ, zero, suc, ◌≤◌, ◌<◌, List, [], ◌∷◌, ◌++◌, length, Option, Some, None}
+use Rattle.std.specs.Prelude.{◌≡◌, ◌≢◌, ◌⊎◌, ℕ, suc, ◌≤◌, ◌<◌, List, [], ◌∷◌, ◌++◌, length, Option, Some, None}
 use Rattle.asn1_model.specs.Schema.{Schema}
 use Rattle.asn1_model.specs.Value.{Value}
 use Rattle.asn1_model.specs.Rules.{Rules, canonical}
@@ -13,7 +13,8 @@ use Rattle.asn1_laws_routes.specs.Routes.{older, Hop, no_hop, at_first, Writes, 
 abbrev pub AreJoined : Rules → Schema → List Value → List ℕ → Type 0
 AreJoined r s [] w = w ≡ []
 AreJoined r s (v ∷ vs) w =
-    (x : List ℕ) × (others : List ℕ) × (canonical r s v ≡ Some x) × (x ≢ []) × (x ++ others ≡ w) × AreJoined r s vs others
+    (x : List ℕ) × (others : List ℕ) × (canonical r s v ≡ Some x) × (x ≢ []) × (x ++ others ≡ w)
+    × AreJoined r s vs others
 
 -- Why a relay goes no further.
 pub data Halt : Type 0 where
@@ -43,8 +44,8 @@ module _ (source target : Rules) (old new : Schema) (limit : ℕ) where
       HasNoCause old new (at_first source) (older_to target) v × (length x ≤ limit)
       × Writes old new no_hop (older_to target) v (Some [])
 
-  -- Of the joined messages of these values so many are relayed, and become what is written; the rest begins with the one
-  -- to which the relay goes no further, if there is such a one.
+  -- Of the joined messages of these values so many are relayed, and become what is written; the rest begins with the
+  -- first that is not, if there is one, and this is why.
   abbrev pub RelaysOlder : List Value → List ℕ → ℕ → List ℕ → List ℕ → Option Halt → Type 0
   RelaysOlder [] w number out rest halt = (w ≡ []) × (number ≡ 0) × (out ≡ []) × (rest ≡ w) × (halt ≡ None)
   RelaysOlder (v ∷ vs) w number out rest halt =
@@ -53,8 +54,8 @@ module _ (source target : Rules) (old new : Schema) (limit : ℕ) where
       ⊎ ((n : ℕ) × (t : List ℕ) × (further : List ℕ) × IsRelayed v x t × (number ≡ suc n) × (out ≡ t ++ further)
       × RelaysOlder vs others n further rest halt))
 
-  -- What the end of it is to a relay that knows the older version alone. Where it reads nothing, it waits for more octets
-  -- within the limit, and stops behind it; if octets are an empty message to it, it stops at that.
+  -- What this end is to a relay that knows the older version alone. Where it reads nothing, it waits for more octets
+  -- within the limit, and stops behind it; where no octets are a message to it, it stops at that one.
   abbrev pub IsEnd : List ℕ → Option Halt → Option Stop → Type 0
   IsEnd rest None why = why ≡ None
   IsEnd rest (Some untranslated) why = why ≡ Some stop.no_target

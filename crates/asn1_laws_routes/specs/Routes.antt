@@ -35,11 +35,12 @@ IsRefusal (answered x) = ⊥
 IsRefusal a = Unit {0}
 
 module _ (old new : Schema) where
-  -- What a hop answers to octets that it reads by these rules: all of them are one message in the type of its version.
+  -- What a hop answers to octets that it reads by these rules, as one message in the type of its version.
   abbrev pub HopAnswers : Rules → Hop → List ℕ → Answer → Type 0
   HopAnswers from h w a = IsAnswer from h.to (schema_of old new h.version) w a
 
-  -- Each hop answers, the next one reads its answer, and this is what the last one answers. With no hop the octets stay.
+  -- Each hop answers, the next one reads its answer, and this is what the last one answers. Where there is no hop, the
+  -- octets stay.
   abbrev pub Arrives : Rules → List Hop → List ℕ → List ℕ → Type 0
   Arrives from [] w out = w ≡ out
   Arrives from (h ∷ hops) w out = (x : List ℕ) × HopAnswers from h w (answered x) × Arrives h.to hops x out

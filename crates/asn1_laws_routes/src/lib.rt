@@ -1,12 +1,14 @@
 //! Messages that go from hop to hop, each of which knows the older or the newer version of their type.
 #![tactic(auto)]
 
-ghost use Rattle.asn1_laws_routes.specs.Laws.{GrowingIsOfNormalForms, DroppingNestsNoDeeper, OneAnswerIsRight, EachHopAnswers};
+ghost use Rattle.asn1_laws_routes.specs.Laws.{GrowingIsOfNormalForms, DroppingNestsNoDeeper};
+ghost use Rattle.asn1_laws_routes.specs.Laws.{OneAnswerIsRight, EachHopAnswers};
 ghost use Rattle.asn1_laws_routes.specs.Laws.{RouteDoesOneThing, RouteArrivesExactly, RouteRefusesExactly, RouteEnds};
 ghost use Rattle.asn1_laws_routes.specs.Laws.{OlderRelayGoes, OlderRelayDoes};
+ghost use Rattle.asn1_laws_routes.specs.RouteRows.{RouteRows};
 
-/// A value of the older version can be carried over to the newer one exactly if its normal form can, and then to the same
-/// normal form.
+/// A value of the older version can be carried over to the newer one exactly if its normal form can, and then to the
+/// same normal form.
 pub fn growing_is_of_normal_forms()
     ensures { GrowingIsOfNormalForms }
 {}
@@ -21,7 +23,8 @@ pub fn one_answer_is_right()
     ensures { OneAnswerIsRight }
 {}
 
-/// A hop hands on the canonical encoding of the value that it writes, if no cause holds at it, and else refuses as the cause says.
+/// A hop hands on the canonical encoding of the value that it writes, if no cause holds at it, and else refuses as the
+/// cause says.
 pub fn each_hop_answers()
     ensures { EachHopAnswers }
 {}
@@ -31,8 +34,8 @@ pub fn route_does_one_thing()
     ensures { RouteDoesOneThing }
 {}
 
-/// The canonical encoding of a value of the newer version arrives exactly if no cause holds at any hop, and as the canonical encoding,
-/// in the rules of the last hop, of the value that this writes.
+/// The canonical encoding of a value of the newer version arrives exactly if no cause holds at any hop, and as the
+/// canonical encoding, in the rules of the last hop, of the value that this writes.
 pub fn route_arrives_exactly()
     ensures { RouteArrivesExactly }
 {}
@@ -47,8 +50,8 @@ pub fn route_ends()
     ensures { RouteEnds }
 {}
 
-/// The joined canonical encodings of values of the newer version are relayed by the older one up to the first at which a cause holds, or
-/// that is over the limit, or whose translation is empty.
+/// The joined canonical encodings of values of the newer version are relayed by the older one up to the first at which
+/// a cause holds, or that is over the limit, or whose translation is empty.
 pub fn older_relay_goes()
     ensures { OlderRelayGoes }
 {}
@@ -56,4 +59,9 @@ pub fn older_relay_goes()
 /// That is what a relay does that knows the older version alone.
 pub fn older_relay_does()
     ensures { OlderRelayDoes }
+{}
+
+/// Routes and relays of worked values.
+pub fn route_rows()
+    ensures { RouteRows }
 {}
