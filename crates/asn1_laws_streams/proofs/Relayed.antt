@@ -110,7 +110,7 @@ module _ (source target : Rules) (s : Schema) (limit : ℕ) where
   in_front m ms o rest w h = (m, h.1, h.2, h.0, h.4)
 
   module _ (lawful : IsLawful s) where
-    targets_agree : (t u : Option (List ℕ)) (w : List ℕ) → BeginsWith source target s limit t w → BeginsWith source target s limit u w → t ≡ u
+    pub targets_agree : (t u : Option (List ℕ)) (w : List ℕ) → BeginsWith source target s limit t w → BeginsWith source target s limit u w → t ≡ u
     targets_agree t u w b c =
         let q = first_same source s limit lawful b.0 c.0 b.1 c.1 b.3 c.3 (b.2 ∙ sym c.2) in
         sym b.4 ∙ (same_written target s b.0.value c.0.value lawful q.1 ∙ c.4)
@@ -143,7 +143,7 @@ module _ (source target : Rules) (s : Schema) (limit : ℕ) where
     not_past w h (inl k) = none_begins (Some []) w h.0 k
     not_past w h (inr k) = h.1 k.1
 
-    one_stop : (w : List ℕ) (why cause : Option Stop) → StopsAt source target s limit w why → StopsAt source target s limit w cause → why ≡ cause
+    pub one_stop : (w : List ℕ) (why cause : Option Stop) → StopsAt source target s limit w why → StopsAt source target s limit w cause → why ≡ cause
     one_stop w None None h k = refl
     one_stop w None (Some no_target) h k = absurd (none_begins None w h.0 k)
     one_stop w None (Some empty_message) h k = absurd (not_waiting w h k)
@@ -162,7 +162,7 @@ module _ (source target : Rules) (s : Schema) (limit : ℕ) where
     one_stop w (Some none_within_limit) (Some none_within_limit) h k = refl
 
     -- a relayed message is in front of no stop
-    relayed_on : (t w : List ℕ) (why : Option Stop) → t ≢ [] → BeginsWith source target s limit (Some t) w → StopsAt source target s limit w why → ⊥
+    pub relayed_on : (t w : List ℕ) (why : Option Stop) → t ≢ [] → BeginsWith source target s limit (Some t) w → StopsAt source target s limit w why → ⊥
     relayed_on t w None n b h = none_begins (Some t) w h.0 b
     relayed_on t w (Some no_target) n b h = let e : Some t ≡ None = targets_agree (Some t) None w b h in cc
     relayed_on t w (Some empty_message) n b (inl h) = let e : Some t ≡ Some [] = targets_agree (Some t) (Some []) w b h in n (cc)

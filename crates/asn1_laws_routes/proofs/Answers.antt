@@ -4,40 +4,29 @@ use Rattle.std.proofs.lemmas.List.{append_cancel_left, append-nil}
 use Rattle.asn1_model.specs.Schema.{Schema}
 use Rattle.asn1_model.specs.Value.{Value}
 use Rattle.asn1_model.specs.Lawful.{IsLawful}
-use Rattle.asn1_model.specs.Rules.{canonical}
-use Rattle.asn1_laws_fronts.specs.Laws.{OneFrontIn}
-use Rattle.asn1_laws_fronts_octets.proofs.Forms.{one_front_oer, one_front_coer}
-use Rattle.asn1_laws_fronts_packed.proofs.Forms.{one_front_uper, one_front_aper}
+use Rattle.asn1_model.specs.Rules.{Rules, canonical}
 use Rattle.asn1_laws_order.proofs.Canonical.{same_written}
-use Rattle.asn1_relay_core.specs.declared.codec.Codec.{Codec}
-use Rattle.asn1_relay_core.specs.declared.codec.Codec.TheVariants.{Uper, Aper, Oer, Coer}
-use Rattle.asn1_relay_core.specs.Coding.{rules_of}
-use Rattle.asn1_relay_core.specs.Recoding.{IsMessage, Answer, answered, not_an_encoding, surplus, no_target, IsAnswer}
-
-pub one_front : (c : Codec) → OneFrontIn (rules_of c)
-one_front Uper = one_front_uper
-one_front Aper = one_front_aper
-one_front Oer = one_front_oer
-one_front Coer = one_front_coer
+use Rattle.asn1_laws_streams.proofs.Streams.{one_front}
+use Rattle.asn1_laws_routes.specs.Answers.{IsMessage, Answer, answered, not_an_encoding, surplus, no_target, IsAnswer}
 
 pub whole : (w : List ℕ) → w ++ [] ≡ w
 whole w = append-nil w
 
-module _ (from to : Codec) (s : Schema) (w : List ℕ) (lawful : IsLawful s) where
+module _ (source target : Rules) (s : Schema) (w : List ℕ) (lawful : IsLawful s) where
   abbrev Message : Value → List ℕ → Type 0
-  Message v x = IsMessage (rules_of from) s v x
+  Message v x = IsMessage source s v x
 
   -- two messages that are all of the octets are written alike
-  pub alike : (v u : Value) → Message v w → Message u w → canonical (rules_of to) s v ≡ canonical (rules_of to) s u
-  alike v u p q = same_written (rules_of to) s v u lawful (one_front from s v u w w [] [] lawful p.0 q.0 refl).1
+  pub alike : (v u : Value) → Message v w → Message u w → canonical target s v ≡ canonical target s u
+  alike v u p q = same_written target s v u lawful (one_front source s v u w w [] [] lawful p.0 q.0 refl).1
 
   -- none stands behind a message that is all of them
   pub none_behind : (v u : Value) (front behind : List ℕ) → Message v w → Message u front → front ++ behind ≡ w → behind ≡ []
   none_behind v u front behind p q e =
-      let f = (one_front from s u v front w behind [] lawful q.0 p.0 (e ∙ sym (whole w))).0 in
+      let f = (one_front source s u v front w behind [] lawful q.0 p.0 (e ∙ sym (whole w))).0 in
       append_cancel_left front behind [] (e ∙ sym f ∙ sym (whole front))
 
-  pub one_answer : (x y : Answer) → IsAnswer (rules_of from) (rules_of to) s w x → IsAnswer (rules_of from) (rules_of to) s w y → x ≡ y
+  pub one_answer : (x y : Answer) → IsAnswer source target s w x → IsAnswer source target s w y → x ≡ y
   one_answer (answered a) (answered b) p q = let e = sym p.2 ∙ (alike p.0 q.0 p.1 q.1 ∙ q.2) in ap answered (cc e)
   one_answer (answered a) not_an_encoding p q = absurd (q w [] p.0 (whole w) p.1)
   one_answer (answered a) surplus p q = absurd (q.4 (none_behind p.0 q.2 q.0 q.1 p.1 q.5 q.3))
