@@ -54,13 +54,17 @@ EachHopAnswers =
 -- ---- routes of any octets
 
 -- A route does one thing at most to octets: they arrive as others, or one hop refuses them in one way.
-abbrev pub RouteDoesOneThing : Type 0
-RouteDoesOneThing =
-    (old new : Schema) (from : Rules) (hops : List Hop) (w : List ℕ) → IsLawful old → IsLawful new
-    → ((x y : List ℕ) → Arrives old new from hops w x → Arrives old new from hops w y → x ≡ y)
+abbrev pub DoesOneThing : Schema → Schema → Rules → List Hop → List ℕ → Type 0
+DoesOneThing old new from hops w =
+    ((x y : List ℕ) → Arrives old new from hops w x → Arrives old new from hops w y → x ≡ y)
     × ((i j : ℕ) (a b : Answer)
     → RefusesAt old new from hops w i a → RefusesAt old new from hops w j b → (i ≡ j) × (a ≡ b))
     × ((x : List ℕ) (i : ℕ) (a : Answer) → Arrives old new from hops w x → RefusesAt old new from hops w i a → ⊥)
+
+abbrev pub RouteDoesOneThing : Type 0
+RouteDoesOneThing =
+    (old new : Schema) (from : Rules) (hops : List Hop) (w : List ℕ)
+    → IsLawful old → IsLawful new → DoesOneThing old new from hops w
 
 -- ---- routes of the canonical encoding of a value of the newer version, over hops of which there is one at least
 
