@@ -1,0 +1,11 @@
+//! Routes: messages that go from hop to hop, each of which knows the older or the newer version of their type.
+#![tactic(auto)]
+
+mod fault;
+mod hop;
+mod routing;
+
+pub use asn1_schema_versions::Extends;
+pub use fault::{RouteFault, RouteFaultKind};
+pub use hop::{Hop, Version};
+pub use routing::route;
