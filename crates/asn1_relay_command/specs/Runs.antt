@@ -1,27 +1,34 @@
 -- What a run of the command does with its reader, whose octets are those that it still gives, and its writer, whose octets are those
 -- that it holds, where these are known.
-use Rattle.std.specs.Prelude.{◌≡◌, ◌⊎◌, ℕ, List, take, Option, Some, None}
+use Rattle.std.specs.Prelude.{◌≡◌, ◌⊎◌, ℕ, List, Option, Some, None}
 use Rattle.std.specs.Io.KnownBytes.{Appends, Consumes, IsAtEnd, Keeps}
 use Rattle.asn1_model.specs.Schema.{Schema}
+use Rattle.asn1_relay_core.specs.declared.codec.Codec.{Codec}
 use Rattle.asn1_relay_core.specs.Coding.{rules_of}
 use Rattle.asn1_relay_core.specs.Recoding.{Answer, IsAnswer, answered, not_an_encoding, surplus, no_target}
 use Rattle.asn1_relay_core.specs.declared.translation.RecodeFault.{RecodeFault}
 use Rattle.asn1_relay_core.specs.declared.translation.RecodeFault.TheVariants as recode_fault
+use Rattle.asn1_relay_streams.specs.Ends.{BeginsToAppend}
+use Rattle.asn1_relay_streams.specs.Running.{IsDone, RunFaultOf, ends}
+use Rattle.asn1_relay_streams.specs.declared.running.RunFault.{RunFault}
+use Rattle.asn1_relay_streams.specs.declared.running.RunFault.TheVariants as run_fault
 use Rattle.asn1_relay_command.specs.Lines.{line_of}
 use Rattle.asn1_relay_command.specs.Kinds.{schema_named}
 use Rattle.asn1_relay_command.specs.declared.fault.Fault.{Fault}
 use Rattle.asn1_relay_command.specs.declared.fault.Fault.TheVariants as fault
 use Rattle.asn1_relay_command.specs.declared.order.Order.{Order}
+use Rattle.asn1_relay_command.specs.declared.order.Order.TheVariants as order
+use Rattle.asn1_relay_command.specs.declared.order.Translation.{Translation}
 
 -- ---- translating
 
 -- what a message of a type becomes, by the rules that were asked for
-abbrev pub BecomesAs : Schema → Order → List ℕ → Answer → Type 0
-BecomesAs s order message answer = IsAnswer (rules_of order.from) (rules_of order.to) s message answer
+abbrev pub BecomesAs : Schema → Translation → List ℕ → Answer → Type 0
+BecomesAs s t message answer = IsAnswer (rules_of t.from) (rules_of t.to) s message answer
 
 -- what it becomes, by what was asked for
-abbrev pub Becomes : Order → List ℕ → Answer → Type 0
-Becomes order message answer = BecomesAs (schema_named order.kind) order message answer
+abbrev pub Becomes : Translation → List ℕ → Answer → Type 0
+Becomes t message answer = BecomesAs (schema_named t.kind) t message answer
 
 abbrev pub fault_named : RecodeFault → Fault
 fault_named (recode_fault.NotAnEncoding e) = fault.NotAnEncoding
@@ -30,24 +37,18 @@ fault_named (recode_fault.NoTarget e) = fault.NoTargetEncoding
 fault_named recode_fault.Memory = fault.OutOfMemory
 
 -- a fault of translating a message of a type is what becomes of it, or want of memory
-abbrev pub IsRefusedAs : Schema → Order → List ℕ → Fault → Type 0
-IsRefusedAs s order message fault.NotAnEncoding = BecomesAs s order message not_an_encoding
-IsRefusedAs s order message fault.SurplusOctets = BecomesAs s order message surplus
-IsRefusedAs s order message fault.NoTargetEncoding = BecomesAs s order message no_target
-IsRefusedAs s order message fault.OutOfMemory = Unit {0}
-IsRefusedAs s order message fault.ReadFailed = ⊥
-IsRefusedAs s order message fault.WriteFailed = ⊥
+abbrev pub IsRefusedAs : Schema → Translation → List ℕ → Fault → Type 0
+IsRefusedAs s t message fault.NotAnEncoding = BecomesAs s t message not_an_encoding
+IsRefusedAs s t message fault.SurplusOctets = BecomesAs s t message surplus
+IsRefusedAs s t message fault.NoTargetEncoding = BecomesAs s t message no_target
+IsRefusedAs s t message fault.OutOfMemory = Unit {0}
+IsRefusedAs s t message _ = ⊥
 
 -- the same of what was asked for
-abbrev pub IsRefusedBy : Order → List ℕ → Fault → Type 0
-IsRefusedBy order message f = IsRefusedAs (schema_named order.kind) order message f
+abbrev pub IsRefusedBy : Translation → List ℕ → Fault → Type 0
+IsRefusedBy t message f = IsRefusedAs (schema_named t.kind) t message f
 
--- ---- reading and writing
-
--- a writer took a beginning of the octets: all of them, unless it failed
-pub record Begins (held held' : Option (List ℕ)) (octets : List ℕ) : Type 0 where
-  pub count : ℕ
-  pub took : Appends held held' (take count octets)
+-- ---- one message
 
 -- a reader gave all its octets
 pub record IsAllRead (old new : Option (List ℕ)) (message : List ℕ) : Type 0 where
@@ -55,31 +56,74 @@ pub record IsAllRead (old new : Option (List ℕ)) (message : List ℕ) : Type 0
   pub ended : IsAtEnd new
 
 -- all was read, and this became of it
-pub record IsAnswered (order : Order) (old new : Option (List ℕ)) (answer : Answer) : Type 0 where
+pub record IsAnswered (t : Translation) (old new : Option (List ℕ)) (answer : Answer) : Type 0 where
   pub message : List ℕ
   pub read : IsAllRead old new message
-  pub answers : Becomes order message answer
+  pub answers : Becomes t message answer
 
 -- all was read and translated, and the answer was written
-pub record IsDone (order : Order) (unread unread' held held' : Option (List ℕ)) : Type 0 where
+pub record DoesOnce (t : Translation) (unread unread' held held' : Option (List ℕ)) : Type 0 where
   pub octets : List ℕ
-  pub right : IsAnswered order unread unread' (answered octets)
+  pub right : IsAnswered t unread unread' (answered octets)
   pub wrote : Appends held held' octets
 
 -- all was read and translated, but the writer failed behind a beginning of the answer
-pub record IsCutOff (order : Order) (unread unread' held held' : Option (List ℕ)) : Type 0 where
+pub record IsCutOff (t : Translation) (unread unread' held held' : Option (List ℕ)) : Type 0 where
   pub octets : List ℕ
-  pub right : IsAnswered order unread unread' (answered octets)
-  pub began : Begins held held' octets
+  pub right : IsAnswered t unread unread' (answered octets)
+  pub began : BeginsToAppend held held' octets
 
 -- a fault before there is an answer leaves the writer as it was
+abbrev pub StopsOnceBy : Translation → Option (List ℕ) → Option (List ℕ) → Option (List ℕ) → Option (List ℕ) → Fault → Type 0
+StopsOnceBy t unread unread' held held' fault.NotAnEncoding = IsAnswered t unread unread' not_an_encoding × Keeps held held'
+StopsOnceBy t unread unread' held held' fault.SurplusOctets = IsAnswered t unread unread' surplus × Keeps held held'
+StopsOnceBy t unread unread' held held' fault.NoTargetEncoding = IsAnswered t unread unread' no_target × Keeps held held'
+StopsOnceBy t unread unread' held held' fault.OutOfMemory = Keeps held held'
+StopsOnceBy t unread unread' held held' fault.ReadFailed = Keeps held held'
+StopsOnceBy t unread unread' held held' fault.WriteFailed = IsCutOff t unread unread' held held'
+StopsOnceBy t unread unread' held held' (fault.AtMessage at) = ⊥
+
+-- ---- a stream of messages
+
+-- all was read, to its end, and relayed to its end, by messages of a type; no call failed
+abbrev pub DoesStreamAs : Schema → Codec → Codec → ℕ → Option (List ℕ) → Option (List ℕ) → Option (List ℕ) → Option (List ℕ) → Type 0
+DoesStreamAs s from to limit unread unread' held held' = IsDone (rules_of from) (rules_of to) s limit (ends unread held 0 0) (ends unread' held' 0 0)
+
+-- the same by what was asked for
+abbrev pub DoesStream : Translation → ℕ → Option (List ℕ) → Option (List ℕ) → Option (List ℕ) → Option (List ℕ) → Type 0
+DoesStream t limit unread unread' held held' = DoesStreamAs (schema_named t.kind) t.from t.to limit unread unread' held held'
+
+-- a fault stops it; so many calls failed
+pub record StopsStreamAs (s : Schema) (from to : Codec) (limit : ℕ) (unread unread' held held' : Option (List ℕ)) (reason : RunFault) : Type 0 where
+  pub reads : ℕ
+  pub writes : ℕ
+  pub stops : RunFaultOf (rules_of from) (rules_of to) s limit (ends unread held 0 0) (ends unread' held' reads writes) reason
+
+-- the same by what was asked for
+abbrev pub StopsStreamBy : Translation → ℕ → Option (List ℕ) → Option (List ℕ) → Option (List ℕ) → Option (List ℕ) → RunFault → Type 0
+StopsStreamBy t limit unread unread' held held' = StopsStreamAs (schema_named t.kind) t.from t.to limit unread unread' held held'
+
+abbrev pub run_fault_named : RunFault → Fault
+run_fault_named run_fault.Read = fault.ReadFailed
+run_fault_named run_fault.Write = fault.WriteFailed
+run_fault_named (run_fault.Relay at) = fault.AtMessage at
+run_fault_named run_fault.Memory = fault.OutOfMemory
+
+-- a fault of the run stops it, under the command's name for it
+pub record IsRunFault (t : Translation) (limit : ℕ) (unread unread' held held' : Option (List ℕ)) (f : Fault) : Type 0 where
+  pub reason : RunFault
+  pub is : f ≡ run_fault_named reason
+  pub stops : StopsStreamBy t limit unread unread' held held' reason
+
+-- ---- what was asked for
+
+abbrev pub Does : Order → Option (List ℕ) → Option (List ℕ) → Option (List ℕ) → Option (List ℕ) → Type 0
+Does (order.Once t) unread unread' held held' = DoesOnce t unread unread' held held'
+Does (order.Stream t limit) unread unread' held held' = DoesStream t limit unread unread' held held'
+
 abbrev pub StopsBy : Order → Option (List ℕ) → Option (List ℕ) → Option (List ℕ) → Option (List ℕ) → Fault → Type 0
-StopsBy order unread unread' held held' fault.NotAnEncoding = IsAnswered order unread unread' not_an_encoding × Keeps held held'
-StopsBy order unread unread' held held' fault.SurplusOctets = IsAnswered order unread unread' surplus × Keeps held held'
-StopsBy order unread unread' held held' fault.NoTargetEncoding = IsAnswered order unread unread' no_target × Keeps held held'
-StopsBy order unread unread' held held' fault.OutOfMemory = Keeps held held'
-StopsBy order unread unread' held held' fault.ReadFailed = Keeps held held'
-StopsBy order unread unread' held held' fault.WriteFailed = IsCutOff order unread unread' held held'
+StopsBy (order.Once t) unread unread' held held' f = StopsOnceBy t unread unread' held held' f
+StopsBy (order.Stream t limit) unread unread' held held' f = IsRunFault t limit unread unread' held held' f
 
 -- ---- statuses
 
@@ -87,7 +131,7 @@ StopsBy order unread unread' held held' fault.WriteFailed = IsCutOff order unrea
 pub record HasDone (asked : Option Order) (unread unread' held held' : Option (List ℕ)) : Type 0 where
   pub order : Order
   pub asks : asked ≡ Some order
-  pub done : IsDone order unread unread' held held'
+  pub done : Does order unread unread' held held'
 
 -- the command line asks for something, a fault stops it, and its line is written
 pub record IsStopped (asked : Option Order) (unread unread' held held' said said' : Option (List ℕ)) : Type 0 where
@@ -95,7 +139,7 @@ pub record IsStopped (asked : Option Order) (unread unread' held held' said said
   pub asks : asked ≡ Some order
   pub reason : Fault
   pub stops : StopsBy order unread unread' held held' reason
-  pub says : Begins said said' (line_of reason)
+  pub says : BeginsToAppend said said' (line_of reason)
 
 -- nothing was read, and nothing written
 pub record IsUntouched (unread unread' held held' : Option (List ℕ)) : Type 0 where
@@ -105,7 +149,7 @@ pub record IsUntouched (unread unread' held held' : Option (List ℕ)) : Type 0 
 -- no memory was left to read the command line
 pub record IsUnasked (unread unread' held held' said said' : Option (List ℕ)) : Type 0 where
   pub untouched : IsUntouched unread unread' held held'
-  pub says : Begins said said' (line_of fault.OutOfMemory)
+  pub says : BeginsToAppend said said' (line_of fault.OutOfMemory)
 
 -- status 1: no memory was left to read the command line, or a fault stopped the run; the errors' writer took the line of it
 abbrev pub HasFailed : Option Order → Option (List ℕ) → Option (List ℕ) → Option (List ℕ) → Option (List ℕ) → Option (List ℕ) → Option (List ℕ) → Type 0

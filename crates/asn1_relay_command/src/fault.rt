@@ -1,9 +1,14 @@
-//! Why a message was not translated.
-ghost use Rattle.std.specs.Prelude.{◌≡◌};
-ghost use Rattle.asn1_relay_command.specs.Lines.{line_of};
+//! Why the program stops, and what it says of it.
+ghost use Rattle.std.specs.Prelude.{◌≡◌, OnOk};
+ghost use Rattle.std.specs.Io.KnownBytes.{Appends};
+ghost use Rattle.asn1_relay_streams.specs.Ends.{BeginsToAppend};
+ghost use Rattle.asn1_relay_command.specs.Lines.{joined, line_of, message_of, text_at_message, text_of};
 
 use asn1_relay_core::RecodeFault;
+use asn1_relay_streams::{RelayFault, RelayFaultKind, RunFault, write_octets};
+use itoa::Buffer;
 use std::alloc::AllocError;
+use std::io::{self, Write};
 use thiserror::Error;
 
 /// Why the input was not translated, or the answer not written. Its text is what the program says of it.
@@ -27,22 +32,87 @@ pub enum Fault {
     /// The answer could not be written, or not be flushed.
     #[error("write failed")]
     WriteFailed,
+    /// A stream stops at a message.
+    #[error("{0}")]
+    AtMessage(RelayFault),
 }
 
 impl Fault {
-    /// The line that the program writes of it to standard error.
-    pub fn line(self) -> &'static str
-        ensures { result.now ≡ line_of self }
+    /// Writes its line: the program's name, the message where it is at one, and what is wrong.
+    ///
+    /// # Errors
+    ///
+    /// Where the writer fails. Then it has taken a beginning of the line.
+    pub fn write_line<E: Write>(self, errors: &mut E) -> io::Result<()>
+        ensures all { OnOk result (Appends (E.contents errors.old) (E.contents errors.new) (line_of self)) }
+        ensures begins { BeginsToAppend (E.contents errors.old) (E.contents errors.new) (line_of self) }
     {
-        match self {
-            Fault::NotAnEncoding => "asn1_relay: not an encoding\n",
-            Fault::SurplusOctets => "asn1_relay: surplus octets\n",
-            Fault::NoTargetEncoding => "asn1_relay: no target encoding\n",
-            Fault::OutOfMemory => "asn1_relay: out of memory\n",
-            Fault::ReadFailed => "asn1_relay: read failed\n",
-            Fault::WriteFailed => "asn1_relay: write failed\n",
+        match self.message() {
+            Some(number) => {
+                let mut digits = Buffer::new();
+                let parts = [
+                    "asn1_relay: ",
+                    "message ",
+                    digits.format(number),
+                    ": ",
+                    self.text(),
+                    "\n",
+                ];
+                write_parts(parts.as_slice(), errors)
+            }
+            None => write_parts(["asn1_relay: ", self.text(), "\n"].as_slice(), errors),
         }
     }
+
+    /// The number of the message at which it is, if it is at one.
+    fn message(self) -> Option<u64>
+        ensures { result ≡ message_of self }
+    {
+        match self {
+            Fault::AtMessage(at) => Some(at.number),
+            _ => None,
+        }
+    }
+
+    /// What is wrong.
+    fn text(self) -> &'static str
+        ensures { result.now ≡ text_of self }
+    {
+        match self {
+            Fault::NotAnEncoding => "not an encoding",
+            Fault::SurplusOctets => "surplus octets",
+            Fault::NoTargetEncoding => "no target encoding",
+            Fault::OutOfMemory => "out of memory",
+            Fault::ReadFailed => "read failed",
+            Fault::WriteFailed => "write failed",
+            Fault::AtMessage(at) => text_at_message(at.kind),
+        }
+    }
+}
+
+/// What is wrong at a message of a stream.
+fn text_at_message(kind: RelayFaultKind) -> &'static str
+    ensures { result.now ≡ text_at_message kind }
+{
+    match kind {
+        RelayFaultKind::NoneWithinLimit => "none within the limit",
+        RelayFaultKind::EmptyMessage => "empty message",
+        RelayFaultKind::NoTarget => "no target encoding",
+        RelayFaultKind::Memory => "out of memory",
+        RelayFaultKind::NoForm => "no form",
+        RelayFaultKind::AlreadyFailed => "stopped before",
+    }
+}
+
+/// Writes texts, one behind the other. Where that fails, the writer took a beginning of them.
+fn write_parts<W: Write>(parts: &[&str], writer: &mut W) -> io::Result<()>
+    ensures all { OnOk result (Appends (W.contents writer.old) (W.contents writer.new) (joined parts.now)) }
+    ensures begins { BeginsToAppend (W.contents writer.old) (W.contents writer.new) (joined parts.now) }
+{
+    for part in parts {
+        write_octets(part.as_bytes(), writer)?;
+    }
+    Ok(())
 }
 
 impl From<RecodeFault> for Fault {
@@ -56,6 +126,21 @@ impl From<RecodeFault> for Fault {
             RecodeFault::Surplus => Fault::SurplusOctets,
             RecodeFault::NoTarget(_) => Fault::NoTargetEncoding,
             RecodeFault::Memory => Fault::OutOfMemory,
+        }
+    }
+}
+
+impl From<RunFault> for Fault {
+    ghost use Rattle.asn1_relay_command.specs.Runs.{run_fault_named};
+
+    ghost from_gives = { λ r f. f ≡ run_fault_named r };
+
+    fn from(fault: RunFault) -> Fault {
+        match fault {
+            RunFault::Read => Fault::ReadFailed,
+            RunFault::Write => Fault::WriteFailed,
+            RunFault::Relay(at) => Fault::AtMessage(at),
+            RunFault::Memory => Fault::OutOfMemory,
         }
     }
 }

@@ -6,5 +6,5 @@ mod order;
 mod program;
 
 pub use fault::Fault;
-pub use order::{Kind, Order, read_order};
+pub use order::{Kind, Order, Translation, read_order};
 pub use program::{command, refuse_arguments, translate_all};

@@ -1,11 +1,11 @@
 //! What a command line asks for.
-ghost use Rattle.std.specs.Prelude.{◌≡◌, ◌⊎◌, None, Some, IfErr, IfOk, codes, false, map};
-ghost use Rattle.clap.specs.Words.{app_of, first_value, found_of, kind_of, rule_of, subcommand_rows_of};
-ghost use Rattle.asn1_relay_command.specs.Orders.{codec_by_name, kind_by_name, option_rule, order_by_names, order_in_command, order_of, program_app};
+ghost use Rattle.std.specs.Prelude.{◌≡◌, ◌⊎◌, ◌≤◌, None, Some, IfErr, IfOk, IfSome, codes, false, map, option_and_then};
+ghost use Rattle.clap.specs.Words.{app_of, first_value, found_of, kind_of, one_text, rows_of, rule_of, subcommand_rows_of};
+ghost use Rattle.asn1_relay_command.specs.Orders.{HasLimit, codec_by_name, kind_by_name, limit_by_text, limit_rule, option_rule, once_in_rows, order_in_command, order_of, program_app, stream_in_rows, translating_app, translation_by_names};
 
 use asn1_relay_core::Codec;
 use clap::error::ErrorKind;
-use clap::{Arg, ArgMatches, Command, Error};
+use clap::{Arg, ArgMatches, Command, Error, value_parser};
 use std::alloc::{AllocError, Global};
 use std::convert::AsStr;
 
@@ -44,15 +44,29 @@ pub enum Kind {
     Group,
 }
 
-/// What to do: one message of this type becomes, from the one set of rules, that in the other.
+/// How messages of a type are translated, from the one set of rules to the other.
 #[derive(Clone, Copy, Debug, PartialEq, Eq)]
-pub struct Order {
+pub struct Translation {
     /// The rules of the input.
     pub from: Codec,
     /// The rules of the output.
     pub to: Codec,
-    /// The type of the message.
+    /// The type of the messages.
     pub kind: Kind,
+}
+
+/// What to do.
+#[derive(Clone, Copy, Debug, PartialEq, Eq)]
+pub enum Order {
+    /// Translate one message, which is all of the input.
+    Once(Translation),
+    /// Translate messages that are strung together.
+    Stream {
+        /// How each message is translated.
+        translation: Translation,
+        /// How many octets a message may have, 1 or more.
+        limit: u32,
+    },
 }
 
 /// The rules of this name.
@@ -100,12 +114,12 @@ fn option<'a>(alloc: Global, name: &'a str, help: &'a str) -> Arg<'a>
     Arg::new(alloc, name).long(name).required(true).help(help)
 }
 
-/// The words that the program knows.
-fn grammar<'a>(alloc: Global) -> Result<Command<'a>, AllocError>
-    ensures { IfOk result (λ g. app_of g ≡ program_app) }
+/// A command that translates: its options name both sets of rules, and the type.
+fn translating<'a>(alloc: Global, name: &'a str, about: &'a str) -> Result<Command<'a>, AllocError>
+    ensures { IfOk result (λ c. app_of c ≡ translating_app name.entry.now) }
 {
-    let once = Command::new(alloc, "once")
-        .about("Translates the message that is all of standard input")
+    Command::new(alloc, name)
+        .about(about)
         .arg(option(
             alloc,
             "from",
@@ -119,35 +133,95 @@ fn grammar<'a>(alloc: Global) -> Result<Command<'a>, AllocError>
         .arg(option(
             alloc,
             "type",
-            "the type of the message: bool, small, pair, integer, bits, octets, visible, null, nulls, set, bag, nest, new, old or group",
-        ))?;
+            "the type of a message: bool, small, pair, integer, bits, octets, visible, null, nulls, set, bag, nest, new, old or group",
+        ))
+}
+
+/// The option of the limit.
+fn limit_option<'a>(alloc: Global) -> Arg<'a>
+    ensures rule { rule_of result ≡ limit_rule }
+    ensures local { result.global ≡ false }
+{
+    option(
+        alloc,
+        "limit",
+        "how many octets a message may have, from 1 to 4294967295",
+    )
+    .value_parser(value_parser!(u32).range(1..))
+}
+
+/// The words that the program knows.
+fn grammar<'a>(alloc: Global) -> Result<Command<'a>, AllocError>
+    ensures { IfOk result (λ g. app_of g ≡ program_app) }
+{
+    let once = translating(
+        alloc,
+        "once",
+        "Translates the message that is all of standard input",
+    )?;
+    let stream = translating(
+        alloc,
+        "stream",
+        "Translates the messages that are strung together in standard input",
+    )?
+    .arg(limit_option(alloc))?;
     Command::new(alloc, "asn1_relay")
         .about("Translates messages between encoding rules of ASN.1")
         .subcommand_required(true)
-        .subcommand(once)
+        .subcommand(once)?
+        .subcommand(stream)
+}
+
+/// The translation that the options ask for, if each of them names something.
+fn translation_in(options: &ArgMatches<'_>) -> Option<Translation>
+    ensures { result ≡ translation_by_names (first_value (found_of options.now) (codes "from")) (first_value (found_of options.now) (codes "to"))
+        (first_value (found_of options.now) (codes "type")) }
+{
+    Some(Translation {
+        from: codec_named(options.get_str("from")?)?,
+        to: codec_named(options.get_str("to")?)?,
+        kind: kind_named(options.get_str("type")?)?,
+    })
+}
+
+/// The limit that the options ask for, if there is one.
+fn limit_in(options: &ArgMatches<'_>) -> Option<u32>
+    ensures limit { result ≡ option_and_then limit_by_text (one_text (found_of options.now) (codes "limit")) }
+    ensures some { IfSome result (λ n. 1 ≤ n) }
+{
+    let limit = options.get_one::<u32>("limit")?;
+    if limit >= 1 { Some(limit) } else { None }
 }
 
 /// What the options of `once` ask for, if each of them names something.
-fn order_in_options(once: &ArgMatches<'_>) -> Option<Order>
-    ensures { result ≡ order_by_names (first_value (found_of once.now) (codes "from")) (first_value (found_of once.now) (codes "to"))
-        (first_value (found_of once.now) (codes "type")) }
+fn once_in(options: &ArgMatches<'_>) -> Option<Order>
+    ensures order { result ≡ once_in_rows (rows_of (found_of options.now)) }
+    ensures limit { IfSome result HasLimit }
 {
-    Some(Order {
-        from: codec_named(once.get_str("from")?)?,
-        to: codec_named(once.get_str("to")?)?,
-        kind: kind_named(once.get_str("type")?)?,
-    })
+    let translation = translation_in(options)?;
+    Some(Order::Once(translation))
+}
+
+/// What the options of `stream` ask for, if each of them names something.
+fn stream_in(options: &ArgMatches<'_>) -> Option<Order>
+    ensures order { result ≡ stream_in_rows (rows_of (found_of options.now)) }
+    ensures limit { IfSome result HasLimit }
+{
+    let translation = translation_in(options)?;
+    let limit = limit_in(options)?;
+    Some(Order::Stream { translation, limit })
 }
 
 /// What words that follow the grammar ask for, if each of them names something.
 fn order_in(matches: &ArgMatches<'_>) -> Option<Order>
-    ensures { result ≡ order_in_command (subcommand_rows_of matches.now) }
+    ensures order { result ≡ order_in_command (subcommand_rows_of matches.now) }
+    ensures limit { IfSome result HasLimit }
 {
     let (name, options) = matches.subcommand()?;
-    if name == "once" {
-        order_in_options(options)
-    } else {
-        None
+    match name {
+        "once" => once_in(options),
+        "stream" => stream_in(options),
+        _ => None,
     }
 }
 
@@ -159,6 +233,7 @@ fn order_in(matches: &ArgMatches<'_>) -> Option<Order>
 /// Where the line asks for nothing that the program does, for the help text too, or for want of memory, of the kind `OutOfMemory`.
 pub fn read_order<S: AsStr>(alloc: Global, words: &[S]) -> Result<Order, Error>
     ensures ok { IfOk result (λ order. order_of (map S.text words.now) ≡ Some order) }
+    ensures limit { IfOk result HasLimit }
     ensures bad { IfErr result (λ e. (order_of (map S.text words.now) ≡ None) ⊎ (kind_of e ≡ ErrorKind.OutOfMemory)) }
 {
     let mut grammar = grammar(alloc)?;
