@@ -1,6 +1,7 @@
 -- That what is written block by block is what becomes of all that is read.
-use Rattle.std.proofs.Common.{◌≡◌, ◌≢◌, inl, ℕ, ◌+◌, ◌≤◌, false, List, [], ◌++◌, length, Option, Some, None, refl, ap, sym, ◌∙◌, subst, append_assoc, arith}
+use Rattle.std.proofs.Common.{◌≡◌, ◌≢◌, inl, ℕ, ◌+◌, ◌≤◌, false, List, [], ◌++◌, length, Some, None, refl, ap, sym, ◌∙◌, subst, append_assoc, arith}
 use Rattle.std.specs.Io.KnownBytes.{Appends, Consumes, Keeps, IsAtEnd}
+use Rattle.std.proofs.KnownBytes.{Appends-nil, Appends-trans, Consumes-nil, Consumes-trans}
 use Rattle.std.proofs.lemmas.List.{append-nil}
 use Rattle.asn1_model.specs.Schema.{Schema}
 use Rattle.asn1_model.specs.Rules.{Rules}
@@ -14,38 +15,7 @@ use Rattle.asn1_relay_streams.specs.declared.running.RunFault.TheVariants as run
 use Rattle.asn1_relay_streams.specs.Relaying.{Relaying, capped, kind_of_stop, onwards, end_fault}
 use Rattle.asn1_relay_streams.specs.Running.{Ends, Moves, Fails, block, RelaysBlock, BlockFaultOf, IsDone, IsReadFailed, IsLeftUnread, IsWriteFailed, RunFaultOf}
 use Rattle.asn1_relay_streams.proofs.Feeding.{none_of_none}
-
--- ---- octets that readers give and writers take
-
-no_bytes : (c : Option (List ℕ)) → Consumes c c []
-no_bytes None = tt
-no_bytes (Some xs) = refl
-
-none_added : (t : Option (List ℕ)) → Appends t t []
-none_added None = tt
-none_added (Some xs) = sym (append-nil xs)
-
-both_read : (a b c : Option (List ℕ)) (p q : List ℕ) → Consumes a b p → Consumes b c q → Consumes a c (p ++ q)
-both_read None b c p q h k = tt
-both_read (Some x) None c p q h k = absurd h
-both_read (Some x) (Some y) None p q h k = absurd k
-both_read (Some x) (Some y) (Some z) p q h k = h ∙ (ap (λ l. p ++ l) k ∙ sym (append_assoc p q z))
-
-both_added : (a b c : Option (List ℕ)) (p q : List ℕ) → Appends a b p → Appends b c q → Appends a c (p ++ q)
-both_added None b c p q h k = tt
-both_added (Some x) None c p q h k = absurd h
-both_added (Some x) (Some y) None p q h k = absurd k
-both_added (Some x) (Some y) (Some z) p q h k = k ∙ (ap (λ l. l ++ q) h ∙ append_assoc x p q)
-
-kept_read : (a b : Option (List ℕ)) → Keeps a b → Consumes a b []
-kept_read None b h = tt
-kept_read (Some x) None h = absurd h
-kept_read (Some x) (Some y) h = sym h
-
-kept_added : (a b : Option (List ℕ)) → Keeps a b → Appends a b []
-kept_added None b h = tt
-kept_added (Some x) None h = absurd h
-kept_added (Some x) (Some y) h = h ∙ sym (append-nil x)
+use Rattle.asn1_relay_streams.proofs.Known.{kept_added, kept_read}
 
 -- ---- one block after the other
 
@@ -70,7 +40,7 @@ module _ (from to : Codec) (s : Schema) (limit : ℕ) where
   run_begun old relay e =
       let u : relay.unread ≡ [] = ap (λ r. r.unread) e in
       let r : Relays source target s limit [] 0 [] [] None = record { messages = []; counted = refl; front = (refl, refl); stops = (none_of_none source s limit, inl refl) } in
-      record { got = []; put = []; number = 0; moves = record { reads = no_bytes old.coming; writes = none_added old.taken }; relays = subst (λ w. Relays source target s limit [] 0 [] w None) (sym u) r; is = e ∙ ap (λ w. record { from = from; to = to; limit = limit; unread = w; number = 0; failed = false }) (sym u); fails = record { of_reader = omega arith; of_writer = omega arith } }
+      record { got = []; put = []; number = 0; moves = record { reads = Consumes-nil old.coming; writes = Appends-nil old.taken }; relays = subst (λ w. Relays source target s limit [] 0 [] w None) (sym u) r; is = e ∙ ap (λ w. record { from = from; to = to; limit = limit; unread = w; number = 0; failed = false }) (sym u); fails = record { of_reader = omega arith; of_writer = omega arith } }
 
   module _ (old now : Ends) (relay : Relaying) (h : RunSoFar from to s limit old now relay) where
     abbrev Here : (Rules → Rules → ℕ → Type 0) → Relaying → Type 0
@@ -84,10 +54,10 @@ module _ (from to : Codec) (s : Schema) (limit : ℕ) where
 
     -- a further block is read
     reads_more : (next : Ends) (octets : List ℕ) → Consumes now.coming next.coming octets → Consumes old.coming next.coming (h.got ++ octets)
-    reads_more next octets c = both_read old.coming now.coming next.coming h.got octets h.moves.reads c
+    reads_more next octets c = Consumes-trans old.coming now.coming next.coming h.got octets h.moves.reads c
 
     writes_more : (next : Ends) (put : List ℕ) → Appends now.taken next.taken put → Appends old.taken next.taken (h.put ++ put)
-    writes_more next put a = both_added old.taken now.taken next.taken h.put put h.moves.writes a
+    writes_more next put a = Appends-trans old.taken now.taken next.taken h.put put h.moves.writes a
 
     pub run_further : (next : Ends) (after : Relaying) (octets : List ℕ) → Consumes now.coming next.coming octets → RelaysBlock s relay after octets now.taken next.taken → next.reads_failed ≡ now.reads_failed → next.writes_failed ≡ now.writes_failed → RunSoFar from to s limit old next after
     run_further next after octets c b f w =

@@ -1,4 +1,5 @@
 pub mod Relaying
 pub mod Fronts
 pub mod Ends
+pub mod Memory
 pub mod Running

@@ -21,6 +21,10 @@ pub record Ends : Type 0 where
   pub reads_failed : ℕ
   pub writes_failed : ℕ
 
+-- A reader and a writer that tell these octets, and of which so many calls have failed.
+abbrev pub ends : Option (List ℕ) → Option (List ℕ) → ℕ → ℕ → Ends
+ends coming taken reads writes = record { coming = coming; taken = taken; reads_failed = reads; writes_failed = writes }
+
 -- These octets were read, and those were written.
 pub record Moves (old new : Ends) (got put : List ℕ) : Type 0 where
   pub reads : Consumes old.coming new.coming got

@@ -1,5 +1,6 @@
 //! Where octets come from, and where they go.
 ghost use Rattle.std.specs.Prelude.{◌≡◌, ◌+◌, ◌<◌, ◌≤◌, ℕ, List, Option, IfOk, IsErr, OnErr, OnOk, MatchResult, length};
+ghost use Rattle.std.specs.Borrow.{GName};
 ghost use Rattle.std.specs.Io.KnownBytes.{Appends, Keeps, ReadConsumes};
 ghost use Rattle.asn1_relay_streams.specs.Ends.{BeginsToAppend, counted};
 
@@ -26,6 +27,9 @@ pub trait Source {
     /// The octets that are still to come, where it tells them.
     ghost coming: { Self → Option (List ℕ) };
 
+    /// The borrow that it reads through, where it holds one.
+    ghost lender: { Self → Option GName };
+
     /// Fills the front of the room, and answers how many octets it has given. With room, none means that none is to come.
     ///
     /// # Errors
@@ -38,7 +42,8 @@ pub trait Source {
         ensures spends { IfOk result (λ n. budget self.new + n ≡ budget self.old) }
         ensures keeps { OnErr result (budget self.new ≡ budget self.old) }
         ensures spent { budget self.old ≡ 0 → IsErr result }
-        ensures counts { failures self.new ≡ counted result (failures self.old) };
+        ensures counts { failures self.new ≡ counted result (failures self.old) }
+        ensures stays { lender self.new ≡ lender self.old };
 }
 
 /// A writer that tells of its failed calls how many there were.
@@ -49,6 +54,9 @@ pub trait Sink {
     /// The octets that it has taken, where it tells them.
     ghost taken: { Self → Option (List ℕ) };
 
+    /// The borrow that it writes through, where it holds one.
+    ghost lender: { Self → Option GName };
+
     /// Takes all octets.
     ///
     /// # Errors
@@ -58,7 +66,8 @@ pub trait Sink {
         requires { failures self.old < 18446744073709551615 }
         ensures all { OnOk result (Appends (taken self.old) (taken self.new) octets.now) }
         ensures begins { OnErr result (BeginsToAppend (taken self.old) (taken self.new) octets.now) }
-        ensures counts { failures self.new ≡ counted result (failures self.old) };
+        ensures counts { failures self.new ≡ counted result (failures self.old) }
+        ensures stays { lender self.new ≡ lender self.old };
 
     /// Hands on what it has taken.
     ///
@@ -68,5 +77,6 @@ pub trait Sink {
     fn flush(&mut self) -> Result<(), WriteFailed>
         requires { failures self.old < 18446744073709551615 }
         ensures keeps { Keeps (taken self.old) (taken self.new) }
-        ensures counts { failures self.new ≡ counted result (failures self.old) };
+        ensures counts { failures self.new ≡ counted result (failures self.old) }
+        ensures stays { lender self.new ≡ lender self.old };
 }

@@ -14,4 +14,4 @@ pub use fault::{RelayFault, RelayFaultKind};
 pub use memory::{MemorySink, MemorySource};
 pub use relay::Relay;
 pub use running::{RunFault, run};
-pub use standard::{StdSink, StdSource};
+pub use standard::{StdSink, StdSource, write_octets};

@@ -1,8 +1,9 @@
 //! Readers and writers of memory, one of whose calls may be made to fail.
-ghost use Rattle.std.specs.Prelude.{◌≡◌, ◌+◌, ◌<◌, ◌≤◌, Some, if◌then◌else◌, length};
+ghost use Rattle.std.specs.Prelude.{◌≡◌, ◌+◌, ◌<◌, Some, None, [], if◌then◌else◌, length};
 
 use crate::ends::{ReadFailed, Sink, Source, WriteFailed};
 use std::alloc::Global;
+use std::marker::Model;
 
 /// Gives the octets of a vector. Of its calls, numbered from 0 on, the one of a given number fails, and no other. It may give one octet more than it has,
 /// so that it can tell its end.
@@ -11,12 +12,24 @@ pub struct MemorySource {
     octets: Vec<u8>,
     given: usize,
     calls: Calls,
-    ghost within: { given ≤ length octets.items },
+}
+
+impl Model for MemorySource {
+    ghost use Rattle.std.specs.Prelude.{◌≤◌, drop, length};
+    ghost use Rattle.asn1_relay_streams.specs.Memory.{Giving};
+
+    ghost Value = { Giving };
+
+    ghost view = { λ s. record { coming = drop s.given s.octets.items; fails_in = s.calls.before; failed = s.calls.failed } };
+
+    ghost invariant = { λ s. s.given ≤ length s.octets.items };
 }
 
 impl MemorySource {
     /// A reader of these octets, whose call of the number `fail_at` fails.
-    pub fn new(octets: Vec<u8>, fail_at: Option<u64>) -> MemorySource {
+    pub fn new(octets: Vec<u8>, fail_at: Option<u64>) -> MemorySource
+        ensures { result ≡ record { coming = octets.items; fails_in = fail_at; failed = 0 } }
+    {
         MemorySource {
             octets,
             given: 0,
@@ -26,13 +39,13 @@ impl MemorySource {
 }
 
 impl Source for MemorySource {
-    ghost use Rattle.std.specs.Prelude.{◌-◌, drop};
+    ghost failures = { λ s. s.failed };
 
-    ghost failures = { λ s. s.calls.failed };
+    ghost budget = { λ s. length s.coming + 1 };
 
-    ghost budget = { λ s. length s.octets.items - s.given + 1 };
+    ghost coming = { λ s. Some s.coming };
 
-    ghost coming = { λ s. Some (drop s.given s.octets.items) };
+    ghost lender = { λ _. None };
 
     fn read(&mut self, room: &mut [u8]) -> Result<usize, ReadFailed> {
         if self.calls.fails() {
@@ -53,9 +66,19 @@ pub struct MemorySink {
     calls: Calls,
 }
 
+impl Model for MemorySink {
+    ghost use Rattle.asn1_relay_streams.specs.Memory.{Taking};
+
+    ghost Value = { Taking };
+
+    ghost view = { λ s. record { taken = s.octets.items; fails_in = s.calls.before; failed = s.calls.failed } };
+}
+
 impl MemorySink {
     /// A writer that has taken nothing, whose call of the number `fail_at` fails.
-    pub fn new(alloc: Global, fail_at: Option<u64>) -> MemorySink {
+    pub fn new(alloc: Global, fail_at: Option<u64>) -> MemorySink
+        ensures { result ≡ record { taken = []; fails_in = fail_at; failed = 0 } }
+    {
         MemorySink {
             octets: Vec::new(alloc),
             calls: Calls::new(fail_at),
@@ -63,15 +86,19 @@ impl MemorySink {
     }
 
     /// The octets that it has taken.
-    pub fn octets(&self) -> &[u8] {
+    pub fn octets(&self) -> &[u8]
+        ensures { result.now ≡ self.now.taken }
+    {
         self.octets.as_slice()
     }
 }
 
 impl Sink for MemorySink {
-    ghost failures = { λ s. s.calls.failed };
+    ghost failures = { λ s. s.failed };
 
-    ghost taken = { λ s. Some s.octets.items };
+    ghost taken = { λ s. Some s.taken };
+
+    ghost lender = { λ _. None };
 
     fn write(&mut self, octets: &[u8]) -> Result<(), WriteFailed> {
         if self.calls.fails() {

@@ -1,7 +1,7 @@
 //! A run from a reader to a writer.
 ghost use Rattle.std.specs.Prelude.{◌≡◌, ◌<◌, ◌≤◌, IfErr, OnOk, false};
 ghost use Rattle.asn1_relay_core.specs.Coding.{rules_of};
-ghost use Rattle.asn1_relay_streams.specs.Running.{BlockFaultOf, IsDone, RelaysBlock, RunFaultOf, run_fault_of};
+ghost use Rattle.asn1_relay_streams.specs.Running.{BlockFaultOf, IsDone, RelaysBlock, RunFaultOf, ends, run_fault_of};
 
 use crate::ends::{Sink, Source};
 use crate::fault::{RelayFault, RelayFaultKind};
@@ -48,11 +48,13 @@ pub fn run<T: Encode + Decode, R: Source, W: Sink>(
     requires reads { R.failures reader.old < 18446744073709551615 }
     requires writes { W.failures writer.old < 18446744073709551615 }
     ensures done { OnOk result (IsDone (rules_of from) (rules_of to) (T.schema 128) limit
-        (record { coming = R.coming reader.old; taken = W.taken writer.old; reads_failed = R.failures reader.old; writes_failed = W.failures writer.old })
-        (record { coming = R.coming reader.new; taken = W.taken writer.new; reads_failed = R.failures reader.new; writes_failed = W.failures writer.new })) }
+        (ends (R.coming reader.old) (W.taken writer.old) (R.failures reader.old) (W.failures writer.old))
+        (ends (R.coming reader.new) (W.taken writer.new) (R.failures reader.new) (W.failures writer.new))) }
     ensures only { IfErr result (RunFaultOf (rules_of from) (rules_of to) (T.schema 128) limit
-        (record { coming = R.coming reader.old; taken = W.taken writer.old; reads_failed = R.failures reader.old; writes_failed = W.failures writer.old })
-        (record { coming = R.coming reader.new; taken = W.taken writer.new; reads_failed = R.failures reader.new; writes_failed = W.failures writer.new })) }
+        (ends (R.coming reader.old) (W.taken writer.old) (R.failures reader.old) (W.failures writer.old))
+        (ends (R.coming reader.new) (W.taken writer.new) (R.failures reader.new) (W.failures writer.new))) }
+    ensures reader_stays { R.lender reader.new ≡ R.lender reader.old }
+    ensures writer_stays { W.lender writer.new ≡ W.lender writer.old }
 {
     let mut relay = Relay::<T>::new(alloc, from, to, limit);
     let mut out = Vec::new(alloc);
@@ -85,6 +87,7 @@ fn relay_block<T: Encode + Decode, W: Sink>(
     ensures ok { OnOk result (RelaysBlock (T.schema 128) relay.old relay.new octets.now (W.taken writer.old) (W.taken writer.new)) }
     ensures counts { OnOk result (W.failures writer.new ≡ W.failures writer.old) }
     ensures only { IfErr result (BlockFaultOf (T.schema 128) relay.old octets.now (W.taken writer.old) (W.taken writer.new) (W.failures writer.old) (W.failures writer.new)) }
+    ensures stays { W.lender writer.new ≡ W.lender writer.old }
 {
     out.clear();
     let fed = relay.feed(octets, out);
