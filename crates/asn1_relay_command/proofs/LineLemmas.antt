@@ -6,8 +6,10 @@ use Rattle.std.proofs.KnownBytes.{Appends-trans}
 use Rattle.std.proofs.lemmas.List.{append-nil}
 use Rattle.asn1_relay_streams.specs.Ends.{BeginsToAppend}
 use Rattle.std.specs.Prelude.{decimal}
-use Rattle.asn1_relay_command.specs.Lines.{behind_message, joined, line_of, message_of, text_of}
+use Rattle.asn1_relay_command.specs.Lines.{behind_place, joined, line_of, place_of, text_of}
 use Rattle.asn1_relay_command.specs.declared.fault.Fault.{Fault}
+use Rattle.asn1_relay_command.specs.declared.fault.Place.{Place}
+use Rattle.asn1_relay_command.specs.declared.fault.Place.TheVariants as place
 
 abbrev Texts : Type 0
 Texts = List (Bor (List ℕ))
@@ -41,21 +43,21 @@ module _ (a b c : Option (List ℕ)) (ps : Texts) (n : ℕ) (d : Bor (List ℕ))
 
 -- ---- the line of a fault
 
-begun : Option ℕ → List ℕ → List ℕ
-begun m text = codes "asn1_relay: " ++ behind_message m (text ++ (10 ∷ []))
+begun : Option Place → List ℕ → List ℕ
+begun p text = codes "asn1_relay: " ++ behind_place p (text ++ (10 ∷ []))
 
-begun_at : List ℕ → List ℕ → List ℕ
-begun_at digits rest = codes "asn1_relay: " ++ (codes "message " ++ (digits ++ (codes ": " ++ rest)))
+begun_at : List ℕ → List ℕ → List ℕ → List ℕ
+begun_at part digits text = codes "asn1_relay: " ++ (part ++ (digits ++ (codes ": " ++ (text ++ (10 ∷ [])))))
 
-begun_some : (n : ℕ) (text : List ℕ) → begun_at (decimal n) (text ++ (10 ∷ [])) ≡ begun (Some n) text
-unfolding begun begun_at
-begun_some n text = refl
+module _ (f : Fault) (n : ℕ) (digits text : List ℕ) (d : digits ≡ decimal n) (t : text ≡ text_of f) where
+  pub line_at_message : (p : Place) → p ≡ place.Message n → Some p ≡ place_of f → codes "asn1_relay: " ++ (codes "message " ++ (digits ++ (codes ": " ++ (text ++ (10 ∷ []))))) ≡ line_of f
+  unfolding begun begun_at
+  line_at_message p is m = ap (λ l. begun_at (codes "message ") l text) d ∙ ap₂ begun (subst (λ x. Some x ≡ place_of f) is m) t
 
-pub line_at_message : (f : Fault) (n : ℕ) (digits text : List ℕ) → Some n ≡ message_of f → digits ≡ decimal n → text ≡ text_of f
-    → codes "asn1_relay: " ++ (codes "message " ++ (digits ++ (codes ": " ++ (text ++ (10 ∷ []))))) ≡ line_of f
-unfolding begun begun_at
-line_at_message f n digits text m d t = ap (λ l. begun_at l (text ++ (10 ∷ []))) d ∙ begun_some n text ∙ ap₂ begun m t
+  pub line_at_hop : (p : Place) → p ≡ place.Hop n → Some p ≡ place_of f → codes "asn1_relay: " ++ (codes "hop " ++ (digits ++ (codes ": " ++ (text ++ (10 ∷ []))))) ≡ line_of f
+  unfolding begun begun_at
+  line_at_hop p is m = ap (λ l. begun_at (codes "hop ") l text) d ∙ ap₂ begun (subst (λ x. Some x ≡ place_of f) is m) t
 
-pub line_without : (f : Fault) (text : List ℕ) → None ≡ message_of f → text ≡ text_of f → codes "asn1_relay: " ++ (text ++ (10 ∷ [])) ≡ line_of f
+pub line_without : (f : Fault) (text : List ℕ) → None ≡ place_of f → text ≡ text_of f → codes "asn1_relay: " ++ (text ++ (10 ∷ [])) ≡ line_of f
 unfolding begun
 line_without f text m t = ap₂ begun m t

@@ -1,5 +1,8 @@
 -- What a command line asks for, from what a parse gives.
-use Rattle.std.proofs.Common.{◌≡◌, ◌∙◌, ◌⊎◌, ◌<◌, ◌≤◌, inl, inr, arith, subst, ℕ, Bool, not, true, false, List, [], ◌∷◌, Option, Some, None, option_map, option_and_then, refl, sym, ap, ap₂, codes, if◌then◌else◌}
+use Rattle.std.proofs.Common.{◌≡◌, ◌∙◌, ◌⊎◌, ◌<◌, ◌≤◌, inl, inr, arith, subst, ℕ, Bool, not, true, false, List, [], ◌∷◌, Option, Some, None, option_map, option_and_then, refl, sym, ap, ap₂, codes, if◌then◌else◌, ◌++◌, ◌+◌, zero, suc, length, slice_index_or, add-one, append_assoc, drop}
+use Rattle.std.specs.Borrow.{Bor}
+use Rattle.clap.specs.Walk.{texts}
+use Rattle.std.proofs.lemmas.List.{append-nil}
 use Rattle.std.specs.Prelude.{Ok, Err, Result}
 use Rattle.std.specs.Str.Parse.{ParsesUnsigned, digits_value, without_leading_plus}
 use Rattle.clap.specs.Words.{App, Text, Kinds, first_of, first_value, rows_of, HasKind, HasMatchesOf, IsAmong, fault_of, is_simple, is_simple_and_free, kind_of, subcommand_of, subcommand_rows_of}
@@ -17,11 +20,11 @@ use Rattle.clap.specs.declared.builder.value_parser.ValueParser.TheVariants as v
 use Rattle.clap.proofs.ValueTestLemmas.{Accepts-accepts, accepts-Accepts}
 use Rattle.clap.specs.declared.builder.command.Command.{Command}
 use Rattle.clap.specs.declared.builder.command.Command.TheViews.{out-Command}
-use Rattle.clap.proofs.WalkLemmas.{both, first_value-rows, one_text-rows}
+use Rattle.clap.proofs.WalkLemmas.{both, first_value-rows, one_text-rows, raw_values-rows}
+use Rattle.clap.specs.Matches.{matched_of, raw_values}
 use Rattle.clap.proofs.OnLiterals.{clap_on_literals}
-use Rattle.asn1_relay_command.specs.Orders.{limit_by_text, limit_in_rows, once_in_rows, order_of, order_in_command, program_app, stream_in_rows, translation_by_names, translation_in_rows, unless_fault}
-use Rattle.asn1_relay_command.specs.declared.order.Order.{Order}
-use Rattle.asn1_relay_command.specs.declared.order.Order.TheVariants as order
+use Rattle.asn1_relay_command.specs.Orders.{limit_by_text, limit_in_rows, once_in_rows, asked_by, task_in_command, program_app, stream_in_rows, translation_by_names, translation_in_rows, unless_fault, Task, once, stream, route_by_names, route_in_rows, hop_by_name, hops_by_names, hops_in_rows}
+use Rattle.asn1_relay_routes.specs.declared.hop.Hop.{Hop}
 use Rattle.asn1_relay_command.specs.declared.order.Translation.{Translation}
 
 simple : is_simple program_app ≡ true
@@ -32,30 +35,30 @@ simple_and_free : is_simple_and_free program_app ≡ true
 unfolding clap_on_literals
 simple_and_free = refl
 
-refused_by : (k : ErrorKind) (faults : Kinds) (order : Option Order) → IsAmong k faults → unless_fault faults order ≡ None
-refused_by k [] order among = absurd among
-refused_by k (fault ∷ faults) order among = refl
+refused_by : (k : ErrorKind) (faults : Kinds) (task : Option Task) → IsAmong k faults → unless_fault faults task ≡ None
+refused_by k [] task among = absurd among
+refused_by k (fault ∷ faults) task among = refl
 
 nothing_asked : (faults : Kinds) → unless_fault faults None ≡ None
 nothing_asked [] = refl
 nothing_asked (fault ∷ faults) = refl
 
 -- an error that is no want of memory shows that the words ask for nothing
-pub bad_words : (a : App) (words : List Text) (e : Error) → a ≡ program_app → (is_simple_and_free a ≡ true → HasKind (fault_of a words) e) → (order_of words ≡ None) ⊎ (kind_of e ≡ OutOfMemory)
-unfolding order_of
+pub bad_words : (a : App) (words : List Text) (e : Error) → a ≡ program_app → (is_simple_and_free a ≡ true → HasKind (fault_of a words) e) → (asked_by words ≡ None) ⊎ (kind_of e ≡ OutOfMemory)
+unfolding asked_by
 bad_words a words e same kinds =
     elim (kinds (ap is_simple_and_free same ∙ simple_and_free)) [
       | inl memory ↦ inr memory
-      | inr among ↦ inl (ap (λ (b : App). unless_fault (fault_of b words) (order_in_command (subcommand_of program_app words))) (sym same) ∙ refused_by _ (fault_of a words) _ among)
+      | inr among ↦ inl (ap (λ (b : App). unless_fault (fault_of b words) (task_in_command (subcommand_of program_app words))) (sym same) ∙ refused_by _ (fault_of a words) _ among)
     ]
 
 -- matches tell what the words ask for
-pub words_ask : (a : App) (words : List Text) (m : ArgMatches) (order : Option Order) → a ≡ program_app → HasMatchesOf a words m → (is_simple_and_free a ≡ true → fault_of a words ≡ []) → order ≡ order_in_command (subcommand_rows_of m) → order_of words ≡ order
-unfolding order_of
-words_ask a words m order same matches kinds asked =
+pub words_ask : (a : App) (words : List Text) (m : ArgMatches) (task : Option Task) → a ≡ program_app → HasMatchesOf a words m → (is_simple_and_free a ≡ true → fault_of a words ≡ []) → task ≡ task_in_command (subcommand_rows_of m) → asked_by words ≡ task
+unfolding asked_by
+words_ask a words m task same matches kinds asked =
     let faultless : fault_of program_app words ≡ [] = ap (λ (b : App). fault_of b words) (sym same) ∙ kinds (ap is_simple_and_free same ∙ simple_and_free) in
     let entered : subcommand_rows_of m ≡ subcommand_of program_app words = (matches (ap is_simple same ∙ simple)).1 ∙ ap (λ (b : App). subcommand_of b words) same in
-    ap₂ unless_fault faultless (ap order_in_command (sym entered)) ∙ sym asked
+    ap₂ unless_fault faultless (ap task_in_command (sym entered)) ∙ sym asked
 
 -- what the options ask for, by the rows of what was found
 pub translation_rows : (f : Found) → translation_by_names (first_value f (codes "from")) (first_value f (codes "to")) (first_value f (codes "type")) ≡ translation_in_rows (rows_of f)
@@ -68,16 +71,88 @@ translation_rows f =
 pub limit_rows : (f : Found) → option_and_then limit_by_text (one_text f (codes "limit")) ≡ limit_in_rows (rows_of f)
 limit_rows f = ap (option_and_then limit_by_text) (one_text-rows f (codes "limit"))
 
-pub once_rows : (f : Found) (t : Option Translation) → t ≡ translation_by_names (first_value f (codes "from")) (first_value f (codes "to")) (first_value f (codes "type")) → option_map order.Once t ≡ once_in_rows (rows_of f)
-once_rows f t e = ap (option_map order.Once) (e ∙ translation_rows f)
+pub once_rows : (f : Found) (t : Option Translation) → t ≡ translation_by_names (first_value f (codes "from")) (first_value f (codes "to")) (first_value f (codes "type")) → option_map once t ≡ once_in_rows (rows_of f)
+once_rows f t e = ap (option_map once) (e ∙ translation_rows f)
 
-with_limit : Option Translation → Option ℕ → Option Order
-with_limit t n = option_and_then (λ x. option_map (order.Stream x) n) t
+with_limit : Option Translation → Option ℕ → Option Task
+with_limit t n = option_and_then (λ x. option_map (stream x) n) t
 
 pub stream_rows : (f : Found) (t : Option Translation) (n : Option ℕ) → t ≡ translation_by_names (first_value f (codes "from")) (first_value f (codes "to")) (first_value f (codes "type"))
-    → n ≡ option_and_then limit_by_text (one_text f (codes "limit")) → option_and_then (λ x. option_map (order.Stream x) n) t ≡ stream_in_rows (rows_of f)
+    → n ≡ option_and_then limit_by_text (one_text f (codes "limit")) → option_and_then (λ x. option_map (stream x) n) t ≡ stream_in_rows (rows_of f)
 unfolding with_limit
 stream_rows f t n e k = ap₂ with_limit (e ∙ translation_rows f) (k ∙ limit_rows f)
+
+pub hops_rows : (f : Found) (names : Option (List Text)) → names ≡ option_map raw_values (matched_of f (codes "hop")) → option_and_then hops_by_names names ≡ hops_in_rows (rows_of f)
+hops_rows f names e = ap (option_and_then hops_by_names) (e ∙ raw_values-rows f (codes "hop"))
+
+pub route_rows : (f : Found) (hops : Option (List Hop)) → hops ≡ hops_in_rows (rows_of f)
+    → route_by_names (first_value f (codes "from")) (first_value f (codes "pair")) hops ≡ route_in_rows (rows_of f)
+route_rows f hops e =
+    ap (λ t. route_by_names t (first_value f (codes "pair")) hops) (first_value-rows f (codes "from"))
+    ∙ ap (λ t. route_by_names (first_of (codes "from") (rows_of f)) t hops) (first_value-rows f (codes "pair"))
+    ∙ ap (route_by_names (first_of (codes "from") (rows_of f)) (first_of (codes "pair") (rows_of f))) e
+
+-- ---- hops
+
+-- the hops of the names so far, and of those that are left
+pub followed_by : List Hop → Option (List Hop) → Option (List Hop)
+followed_by done left = option_map (λ hs. done ++ hs) left
+
+pub hops_start : (names : List Text) (done : List Hop) → done ≡ [] → hops_by_names names ≡ followed_by done (hops_by_names names)
+unfolding followed_by
+hops_start names done e = go (hops_by_names names) ∙ ap (λ l. option_map (λ hs. l ++ hs) (hops_by_names names)) (sym e)
+  where
+    go : (o : Option (List Hop)) → o ≡ option_map (λ hs. [] ++ hs) o
+    go None = refl
+    go (Some hs) = refl
+
+one_then : List Hop → Option Hop → Option (List Hop) → Option (List Hop)
+one_then done h left = followed_by done (option_and_then (λ x. option_map (λ hs. x ∷ hs) left) h)
+
+then_more : (done : List Hop) (h : Hop) (left : Option (List Hop)) → one_then done (Some h) left ≡ followed_by (done ++ h ∷ []) left
+unfolding one_then followed_by
+then_more done h None = refl
+then_more done h (Some hs) = ap some_hops (sym (append_assoc done (h ∷ []) hs))
+  where
+    some_hops : List Hop → Option (List Hop)
+    some_hops l = Some l
+
+texts_left : (names : List (Bor Text)) (i : ℕ) (d : Bor Text) → i < length names → drop i (texts names) ≡ (slice_index_or names i d).now ∷ drop (suc i) (texts names)
+texts_left [] i d h = absurd (omega (arith, h))
+texts_left (name ∷ names) zero d h = refl
+texts_left (name ∷ names) (suc i) d h = texts_left names i d (omega (arith, h))
+
+texts_end : (names : List (Bor Text)) (i : ℕ) → length names ≤ i → drop i (texts names) ≡ []
+texts_end [] zero h = refl
+texts_end [] (suc i) h = refl
+texts_end (name ∷ names) zero h = absurd (omega (arith, h))
+texts_end (name ∷ names) (suc i) h = texts_end names i (omega (arith, h))
+
+module _ (names : List (Bor Text)) (i : ℕ) (done : List Hop) (whole : hops_by_names (texts names) ≡ followed_by done (hops_by_names (drop i (texts names)))) where
+  module _ (d : Bor Text) (within : i < length names) where
+    met : hops_by_names (texts names) ≡ one_then done (hop_by_name (slice_index_or names i d).now) (hops_by_names (drop (suc i) (texts names)))
+    unfolding one_then
+    met = whole ∙ ap (λ l. followed_by done (hops_by_names l)) (texts_left names i d within)
+
+    met_as : (o : Option Hop) → o ≡ hop_by_name (slice_index_or names i d).now → hops_by_names (texts names) ≡ one_then done o (hops_by_names (drop (suc i) (texts names)))
+    met_as o e = met ∙ ap (λ x. one_then done x (hops_by_names (drop (suc i) (texts names)))) (sym e)
+
+    pub one_more_hop : (h : Hop) (longer : List Hop) → Some h ≡ hop_by_name (slice_index_or names i d).now → longer ≡ done ++ h ∷ []
+        → hops_by_names (texts names) ≡ followed_by longer (hops_by_names (drop (i + 1) (texts names)))
+    one_more_hop h longer e l =
+        met_as (Some h) e ∙ then_more done h (hops_by_names (drop (suc i) (texts names)))
+        ∙ ap₂ (λ x k. followed_by x (hops_by_names (drop k (texts names)))) (sym l) (sym (add-one i))
+
+    pub no_hop : None ≡ hop_by_name (slice_index_or names i d).now → None ≡ hops_by_names (texts names)
+    unfolding one_then followed_by
+    no_hop e = sym (met_as None e)
+
+  pub all_hops : length names ≤ i → Some done ≡ hops_by_names (texts names)
+  unfolding followed_by
+  all_hops h = sym (whole ∙ ap (λ l. followed_by done (hops_by_names l)) (texts_end names i h) ∙ ap some_hops (append-nil done))
+    where
+      some_hops : List Hop → Option (List Hop)
+      some_hops l = Some l
 
 -- a command that is like these has no option that holds for others
 pub local_of : (c : Command) (a : App) → app_of c ≡ a → a.top.is_plain ≡ true → (out-Command c).has_globals ≡ false

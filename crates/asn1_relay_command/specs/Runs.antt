@@ -13,11 +13,17 @@ use Rattle.asn1_relay_streams.specs.Running.{IsDone, RunFaultOf, ends}
 use Rattle.asn1_relay_streams.specs.declared.running.RunFault.{RunFault}
 use Rattle.asn1_relay_streams.specs.declared.running.RunFault.TheVariants as run_fault
 use Rattle.asn1_relay_command.specs.Lines.{line_of}
-use Rattle.asn1_relay_command.specs.Kinds.{schema_named}
+use Rattle.asn1_relay_command.specs.Kinds.{newer_named, older_named, schema_named}
+use Rattle.asn1_relay_command.specs.Orders.{Route, Task, once, stream, route}
+use Rattle.asn1_relay_routes.specs.Routing.{IsOutcome, Outcome, Reaches, arrived, refused, hops_of}
+use Rattle.asn1_relay_routes.specs.declared.fault.RouteFault.{RouteFault}
+use Rattle.asn1_relay_routes.specs.declared.fault.RouteFaultKind.{RouteFaultKind}
+use Rattle.asn1_relay_routes.specs.declared.fault.RouteFaultKind.TheVariants as route_fault
+use Rattle.asn1_relay_routes.specs.declared.hop.Hop.{Hop}
 use Rattle.asn1_relay_command.specs.declared.fault.Fault.{Fault}
 use Rattle.asn1_relay_command.specs.declared.fault.Fault.TheVariants as fault
-use Rattle.asn1_relay_command.specs.declared.order.Order.{Order}
-use Rattle.asn1_relay_command.specs.declared.order.Order.TheVariants as order
+use Rattle.asn1_relay_command.specs.declared.fault.HopFault.{HopFault}
+use Rattle.asn1_relay_command.specs.declared.fault.HopFault.TheVariants as hop
 use Rattle.asn1_relay_command.specs.declared.order.Translation.{Translation}
 
 -- ---- translating
@@ -61,17 +67,25 @@ pub record IsAnswered (t : Translation) (old new : Option (List ℕ)) (answer : 
   pub read : IsAllRead old new message
   pub answers : Becomes t message answer
 
--- all was read and translated, and the answer was written
-pub record DoesOnce (t : Translation) (unread unread' held held' : Option (List ℕ)) : Type 0 where
+-- octets that are right were written
+pub record IsWritten (IsRight : List ℕ → Type 0) (held held' : Option (List ℕ)) : Type 0 where
   pub octets : List ℕ
-  pub right : IsAnswered t unread unread' (answered octets)
+  pub right : IsRight octets
   pub wrote : Appends held held' octets
 
--- all was read and translated, but the writer failed behind a beginning of the answer
-pub record IsCutOff (t : Translation) (unread unread' held held' : Option (List ℕ)) : Type 0 where
+-- of octets that are right a beginning was written, and then the writer failed
+pub record IsCutOff (IsRight : List ℕ → Type 0) (held held' : Option (List ℕ)) : Type 0 where
   pub octets : List ℕ
-  pub right : IsAnswered t unread unread' (answered octets)
+  pub right : IsRight octets
   pub began : BeginsToAppend held held' octets
+
+-- all was read, and this is the translation of it
+abbrev pub IsTranslated : Translation → Option (List ℕ) → Option (List ℕ) → List ℕ → Type 0
+IsTranslated t unread unread' octets = IsAnswered t unread unread' (answered octets)
+
+-- all was read and translated, and the answer was written
+abbrev pub DoesOnce : Translation → Option (List ℕ) → Option (List ℕ) → Option (List ℕ) → Option (List ℕ) → Type 0
+DoesOnce t unread unread' held held' = IsWritten (IsTranslated t unread unread') held held'
 
 -- a fault before there is an answer leaves the writer as it was
 abbrev pub StopsOnceBy : Translation → Option (List ℕ) → Option (List ℕ) → Option (List ℕ) → Option (List ℕ) → Fault → Type 0
@@ -80,8 +94,8 @@ StopsOnceBy t unread unread' held held' fault.SurplusOctets = IsAnswered t unrea
 StopsOnceBy t unread unread' held held' fault.NoTargetEncoding = IsAnswered t unread unread' no_target × Keeps held held'
 StopsOnceBy t unread unread' held held' fault.OutOfMemory = Keeps held held'
 StopsOnceBy t unread unread' held held' fault.ReadFailed = Keeps held held'
-StopsOnceBy t unread unread' held held' fault.WriteFailed = IsCutOff t unread unread' held held'
-StopsOnceBy t unread unread' held held' (fault.AtMessage at) = ⊥
+StopsOnceBy t unread unread' held held' fault.WriteFailed = IsCutOff (IsTranslated t unread unread') held held'
+StopsOnceBy t unread unread' held held' _ = ⊥
 
 -- ---- a stream of messages
 
@@ -115,30 +129,90 @@ pub record IsRunFault (t : Translation) (limit : ℕ) (unread unread' held held'
   pub is : f ≡ run_fault_named reason
   pub stops : StopsStreamBy t limit unread unread' held held' reason
 
+-- ---- one message along a route
+
+-- what comes of a message on a route
+abbrev pub ComesAs : Schema → Schema → Codec → List Hop → List ℕ → Outcome → Type 0
+ComesAs old new from hops message outcome = IsOutcome old new (rules_of from) (hops_of hops) message outcome
+
+-- there is such a hop, and those in front of it answer
+abbrev pub ReachesAs : Schema → Schema → Codec → List Hop → List ℕ → ℕ → Type 0
+ReachesAs old new from hops message i = Reaches old new (rules_of from) (hops_of hops) message i
+
+abbrev pub hop_fault_named : RouteFaultKind → HopFault
+hop_fault_named (route_fault.Read e) = hop.NotAnEncoding
+hop_fault_named route_fault.Surplus = hop.SurplusOctets
+hop_fault_named (route_fault.NoTarget e) = hop.NoTargetEncoding
+hop_fault_named route_fault.Memory = hop.OutOfMemory
+
+abbrev pub route_fault_named : RouteFault → Fault
+route_fault_named f = fault.AtHop f.hop (hop_fault_named f.kind)
+
+-- a fault at a hop is what comes of the message, or want of memory at a hop that it reaches
+abbrev pub IsTurnedBackAs : Schema → Schema → Codec → List Hop → List ℕ → Fault → Type 0
+IsTurnedBackAs old new from hops message (fault.AtHop i hop.NotAnEncoding) = ComesAs old new from hops message (refused i not_an_encoding)
+IsTurnedBackAs old new from hops message (fault.AtHop i hop.SurplusOctets) = ComesAs old new from hops message (refused i surplus)
+IsTurnedBackAs old new from hops message (fault.AtHop i hop.NoTargetEncoding) = ComesAs old new from hops message (refused i no_target)
+IsTurnedBackAs old new from hops message (fault.AtHop i hop.OutOfMemory) = ReachesAs old new from hops message i
+IsTurnedBackAs old new from hops message _ = ⊥
+
+-- the same by what was asked for
+abbrev pub ComesBy : Route → List ℕ → Outcome → Type 0
+ComesBy r message outcome = ComesAs (older_named r.pair) (newer_named r.pair) r.from r.hops message outcome
+
+abbrev pub IsTurnedBackBy : Route → List ℕ → Fault → Type 0
+IsTurnedBackBy r message f = IsTurnedBackAs (older_named r.pair) (newer_named r.pair) r.from r.hops message f
+
+-- all was read, and these octets come of it
+pub record IsSent (r : Route) (unread unread' : Option (List ℕ)) (octets : List ℕ) : Type 0 where
+  pub message : List ℕ
+  pub read : IsAllRead unread unread' message
+  pub arrives : ComesBy r message (arrived octets)
+
+-- all was read and sent, and what arrived was written
+abbrev pub DoesRoute : Route → Option (List ℕ) → Option (List ℕ) → Option (List ℕ) → Option (List ℕ) → Type 0
+DoesRoute r unread unread' held held' = IsWritten (IsSent r unread unread') held held'
+
+-- all was read, and a hop turned it back
+pub record IsTurnedBack (r : Route) (unread unread' : Option (List ℕ)) (f : Fault) : Type 0 where
+  pub message : List ℕ
+  pub read : IsAllRead unread unread' message
+  pub refuses : IsTurnedBackBy r message f
+
+-- a fault before the message has arrived leaves the writer as it was
+abbrev pub StopsRouteBy : Route → Option (List ℕ) → Option (List ℕ) → Option (List ℕ) → Option (List ℕ) → Fault → Type 0
+StopsRouteBy r unread unread' held held' (fault.AtHop i kind) = IsTurnedBack r unread unread' (fault.AtHop i kind) × Keeps held held'
+StopsRouteBy r unread unread' held held' fault.OutOfMemory = Keeps held held'
+StopsRouteBy r unread unread' held held' fault.ReadFailed = Keeps held held'
+StopsRouteBy r unread unread' held held' fault.WriteFailed = IsCutOff (IsSent r unread unread') held held'
+StopsRouteBy r unread unread' held held' _ = ⊥
+
 -- ---- what was asked for
 
-abbrev pub Does : Order → Option (List ℕ) → Option (List ℕ) → Option (List ℕ) → Option (List ℕ) → Type 0
-Does (order.Once t) unread unread' held held' = DoesOnce t unread unread' held held'
-Does (order.Stream t limit) unread unread' held held' = DoesStream t limit unread unread' held held'
+abbrev pub Does : Task → Option (List ℕ) → Option (List ℕ) → Option (List ℕ) → Option (List ℕ) → Type 0
+Does (once t) unread unread' held held' = DoesOnce t unread unread' held held'
+Does (stream t limit) unread unread' held held' = DoesStream t limit unread unread' held held'
+Does (route r) unread unread' held held' = DoesRoute r unread unread' held held'
 
-abbrev pub StopsBy : Order → Option (List ℕ) → Option (List ℕ) → Option (List ℕ) → Option (List ℕ) → Fault → Type 0
-StopsBy (order.Once t) unread unread' held held' f = StopsOnceBy t unread unread' held held' f
-StopsBy (order.Stream t limit) unread unread' held held' f = IsRunFault t limit unread unread' held held' f
+abbrev pub StopsBy : Task → Option (List ℕ) → Option (List ℕ) → Option (List ℕ) → Option (List ℕ) → Fault → Type 0
+StopsBy (once t) unread unread' held held' f = StopsOnceBy t unread unread' held held' f
+StopsBy (stream t limit) unread unread' held held' f = IsRunFault t limit unread unread' held held' f
+StopsBy (route r) unread unread' held held' f = StopsRouteBy r unread unread' held held' f
 
 -- ---- statuses
 
 -- status 0: the command line asks for something, and that is done
-pub record HasDone (asked : Option Order) (unread unread' held held' : Option (List ℕ)) : Type 0 where
-  pub order : Order
-  pub asks : asked ≡ Some order
-  pub done : Does order unread unread' held held'
+pub record HasDone (asked : Option Task) (unread unread' held held' : Option (List ℕ)) : Type 0 where
+  pub task : Task
+  pub asks : asked ≡ Some task
+  pub done : Does task unread unread' held held'
 
 -- the command line asks for something, a fault stops it, and its line is written
-pub record IsStopped (asked : Option Order) (unread unread' held held' said said' : Option (List ℕ)) : Type 0 where
-  pub order : Order
-  pub asks : asked ≡ Some order
+pub record IsStopped (asked : Option Task) (unread unread' held held' said said' : Option (List ℕ)) : Type 0 where
+  pub task : Task
+  pub asks : asked ≡ Some task
   pub reason : Fault
-  pub stops : StopsBy order unread unread' held held' reason
+  pub stops : StopsBy task unread unread' held held' reason
   pub says : BeginsToAppend said said' (line_of reason)
 
 -- nothing was read, and nothing written
@@ -152,10 +226,10 @@ pub record IsUnasked (unread unread' held held' said said' : Option (List ℕ)) 
   pub says : BeginsToAppend said said' (line_of fault.OutOfMemory)
 
 -- status 1: no memory was left to read the command line, or a fault stopped the run; the errors' writer took the line of it
-abbrev pub HasFailed : Option Order → Option (List ℕ) → Option (List ℕ) → Option (List ℕ) → Option (List ℕ) → Option (List ℕ) → Option (List ℕ) → Type 0
+abbrev pub HasFailed : Option Task → Option (List ℕ) → Option (List ℕ) → Option (List ℕ) → Option (List ℕ) → Option (List ℕ) → Option (List ℕ) → Type 0
 HasFailed asked unread unread' held held' said said' = IsUnasked unread unread' held held' said said' ⊎ IsStopped asked unread unread' held held' said said'
 
 -- status 2: the command line asks for nothing
-pub record HasRefused (asked : Option Order) (unread unread' held held' : Option (List ℕ)) : Type 0 where
+pub record HasRefused (asked : Option Task) (unread unread' held held' : Option (List ℕ)) : Type 0 where
   pub bad : asked ≡ None
   pub untouched : IsUntouched unread unread' held held'

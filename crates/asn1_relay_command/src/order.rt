@@ -1,11 +1,12 @@
 //! What a command line asks for.
-ghost use Rattle.std.specs.Prelude.{◌≡◌, ◌⊎◌, ◌≤◌, None, Some, IfErr, IfOk, IfSome, codes, false, map, option_and_then};
+ghost use Rattle.std.specs.Prelude.{◌≡◌, ◌≢◌, ◌⊎◌, ◌≤◌, [], None, Some, IfErr, IfOk, IfSome, codes, false, map, option_and_then, option_map};
 ghost use Rattle.clap.specs.Words.{app_of, first_value, found_of, kind_of, one_text, rows_of, rule_of, subcommand_rows_of};
-ghost use Rattle.asn1_relay_command.specs.Orders.{HasLimit, codec_by_name, kind_by_name, limit_by_text, limit_rule, option_rule, once_in_rows, order_in_command, order_of, program_app, stream_in_rows, translating_app, translation_by_names};
+ghost use Rattle.asn1_relay_command.specs.Orders.{CanBeDone, asked_by, codec_by_name, hop_by_name, hop_rule, hops_by_names, hops_in_rows, kind_by_name, limit_by_text, limit_rule, once_in_rows, option_rule, pair_by_name, program_app, route_app, route_by_names, route_in_rows, stream_in_rows, task_in_command, task_of, translating_app, translation_by_names};
 
 use asn1_relay_core::Codec;
+use asn1_relay_routes::{Hop, Version};
 use clap::error::ErrorKind;
-use clap::{Arg, ArgMatches, Command, Error, value_parser};
+use clap::{Arg, ArgAction, ArgMatches, Command, Error, value_parser};
 use std::alloc::{AllocError, Global};
 use std::convert::AsStr;
 
@@ -44,6 +45,19 @@ pub enum Kind {
     Group,
 }
 
+/// A type of message in two versions.
+#[derive(Clone, Copy, Debug, PartialEq, Eq)]
+pub enum Pair {
+    /// `old` and `new` of the types of message.
+    Plain,
+    /// SEQUENCE {s S DEFAULT {a TRUE}}, where S is `old` or `new`.
+    Default,
+    /// SEQUENCE {a BOOLEAN, ...}, and with an addition that stays required: r [1] BOOLEAN.
+    Required,
+    /// ENUMERATED {red, ...} and ENUMERATED {red, ..., blue}.
+    Colour,
+}
+
 /// How messages of a type are translated, from the one set of rules to the other.
 #[derive(Clone, Copy, Debug, PartialEq, Eq)]
 pub struct Translation {
@@ -56,7 +70,7 @@ pub struct Translation {
 }
 
 /// What to do.
-#[derive(Clone, Copy, Debug, PartialEq, Eq)]
+#[derive(Debug, Drop, PartialEq, Eq)]
 pub enum Order {
     /// Translate one message, which is all of the input.
     Once(Translation),
@@ -66,6 +80,15 @@ pub enum Order {
         translation: Translation,
         /// How many octets a message may have, 1 or more.
         limit: u32,
+    },
+    /// Send one message, which is all of the input, along a route.
+    Route {
+        /// The rules of the input.
+        from: Codec,
+        /// The versions of its type.
+        pair: Pair,
+        /// The hops, one or more.
+        hops: Vec<Hop>,
     },
 }
 
@@ -104,6 +127,57 @@ fn kind_named(name: &str) -> Option<Kind>
         "group" => Some(Kind::Group),
         _ => None,
     }
+}
+
+/// The pair of versions of this name.
+fn pair_named(name: &str) -> Option<Pair>
+    ensures { result ≡ pair_by_name name.now }
+{
+    match name {
+        "plain" => Some(Pair::Plain),
+        "default" => Some(Pair::Default),
+        "required" => Some(Pair::Required),
+        "colour" => Some(Pair::Colour),
+        _ => None,
+    }
+}
+
+/// A hop of this version that writes by these rules.
+fn hop(version: Version, to: Codec) -> Option<Hop>
+    ensures { result ≡ Some (record { version = version; to = to }) }
+{
+    Some(Hop { version, to })
+}
+
+/// The hop of this name: a version, and the rules in which it writes.
+fn hop_named(name: &str) -> Option<Hop>
+    ensures { result ≡ hop_by_name name.now }
+{
+    match name {
+        "old:uper" => hop(Version::Old, Codec::Uper),
+        "old:aper" => hop(Version::Old, Codec::Aper),
+        "old:oer" => hop(Version::Old, Codec::Oer),
+        "old:coer" => hop(Version::Old, Codec::Coer),
+        "new:uper" => hop(Version::New, Codec::Uper),
+        "new:aper" => hop(Version::New, Codec::Aper),
+        "new:oer" => hop(Version::New, Codec::Oer),
+        "new:coer" => hop(Version::New, Codec::Coer),
+        _ => None,
+    }
+}
+
+/// The hops of these names, in turn, if each names one.
+fn hops_named(alloc: Global, names: &[&str]) -> Result<Option<Vec<Hop>>, AllocError>
+    ensures { IfOk result (λ hops. option_map (λ v. v.items) hops ≡ hops_by_names (map (λ s. s.now) names.now)) }
+{
+    let mut hops = Vec::new(alloc);
+    for name in names {
+        match hop_named(name) {
+            Some(hop) => hops.push(hop)?,
+            None => return Ok(None),
+        }
+    }
+    Ok(Some(hops))
 }
 
 /// An option that takes one word and has to be there.
@@ -150,6 +224,40 @@ fn limit_option<'a>(alloc: Global) -> Arg<'a>
     .value_parser(value_parser!(u32).range(1..))
 }
 
+/// The option of a hop, which is there once or more.
+fn hop_option<'a>(alloc: Global) -> Arg<'a>
+    ensures rule { rule_of result ≡ hop_rule }
+    ensures local { result.global ≡ false }
+{
+    option(
+        alloc,
+        "hop",
+        "a version and the rules in which the hop writes: old or new, a colon, and uper, aper, oer or coer; once or more",
+    )
+    .action(ArgAction::Append)
+}
+
+/// The command that sends a message along a route.
+fn routing<'a>(alloc: Global) -> Result<Command<'a>, AllocError>
+    ensures { IfOk result (λ c. app_of c ≡ route_app) }
+{
+    Command::new(alloc, "route")
+        .about(
+            "Sends the message that is all of standard input from hop to hop, each of which knows a version of its type",
+        )
+        .arg(option(
+            alloc,
+            "from",
+            "the rules of the input: uper, aper, oer or coer",
+        ))?
+        .arg(option(
+            alloc,
+            "pair",
+            "the versions of the type: plain, default, required or colour",
+        ))?
+        .arg(hop_option(alloc))
+}
+
 /// The words that the program knows.
 fn grammar<'a>(alloc: Global) -> Result<Command<'a>, AllocError>
     ensures { IfOk result (λ g. app_of g ≡ program_app) }
@@ -165,11 +273,13 @@ fn grammar<'a>(alloc: Global) -> Result<Command<'a>, AllocError>
         "Translates the messages that are strung together in standard input",
     )?
     .arg(limit_option(alloc))?;
+    let route = routing(alloc)?;
     Command::new(alloc, "asn1_relay")
         .about("Translates messages between encoding rules of ASN.1")
         .subcommand_required(true)
         .subcommand(once)?
-        .subcommand(stream)
+        .subcommand(stream)?
+        .subcommand(route)
 }
 
 /// The translation that the options ask for, if each of them names something.
@@ -195,8 +305,8 @@ fn limit_in(options: &ArgMatches<'_>) -> Option<u32>
 
 /// What the options of `once` ask for, if each of them names something.
 fn once_in(options: &ArgMatches<'_>) -> Option<Order>
-    ensures order { result ≡ once_in_rows (rows_of (found_of options.now)) }
-    ensures limit { IfSome result HasLimit }
+    ensures task { option_map task_of result ≡ once_in_rows (rows_of (found_of options.now)) }
+    ensures sound { IfSome result (λ order. CanBeDone (task_of order)) }
 {
     let translation = translation_in(options)?;
     Some(Order::Once(translation))
@@ -204,24 +314,61 @@ fn once_in(options: &ArgMatches<'_>) -> Option<Order>
 
 /// What the options of `stream` ask for, if each of them names something.
 fn stream_in(options: &ArgMatches<'_>) -> Option<Order>
-    ensures order { result ≡ stream_in_rows (rows_of (found_of options.now)) }
-    ensures limit { IfSome result HasLimit }
+    ensures task { option_map task_of result ≡ stream_in_rows (rows_of (found_of options.now)) }
+    ensures sound { IfSome result (λ order. CanBeDone (task_of order)) }
 {
     let translation = translation_in(options)?;
     let limit = limit_in(options)?;
     Some(Order::Stream { translation, limit })
 }
 
-/// What words that follow the grammar ask for, if each of them names something.
-fn order_in(matches: &ArgMatches<'_>) -> Option<Order>
-    ensures order { result ≡ order_in_command (subcommand_rows_of matches.now) }
-    ensures limit { IfSome result HasLimit }
+/// The hops that the options ask for, if each of them names one.
+fn hops_in(alloc: Global, options: &ArgMatches<'_>) -> Result<Option<Vec<Hop>>, AllocError>
+    ensures { IfOk result (λ hops. option_map (λ v. v.items) hops ≡ hops_in_rows (rows_of (found_of options.now))) }
 {
-    let (name, options) = matches.subcommand()?;
-    match name {
-        "once" => once_in(options),
-        "stream" => stream_in(options),
-        _ => None,
+    match options.get_strs("hop") {
+        Some(names) => hops_named(alloc, names),
+        None => Ok(None),
+    }
+}
+
+/// What the options of `route` ask for beside these hops, if each of them names something, and there is a hop.
+fn route_by(options: &ArgMatches<'_>, hops: Option<Vec<Hop>>) -> Option<Order>
+    ensures task { option_map task_of result ≡ route_by_names (first_value (found_of options.now) (codes "from"))
+        (first_value (found_of options.now) (codes "pair")) (option_map (λ v. v.items) hops) }
+    ensures sound { IfSome result (λ order. CanBeDone (task_of order)) }
+{
+    let from = codec_named(options.get_str("from")?)?;
+    let pair = pair_named(options.get_str("pair")?)?;
+    let hops = hops?;
+    if hops.is_empty() {
+        return None;
+    }
+    Some(Order::Route { from, pair, hops })
+}
+
+/// What the options of `route` ask for, if each of them names something.
+fn route_in(alloc: Global, options: &ArgMatches<'_>) -> Result<Option<Order>, AllocError>
+    ensures task { IfOk result (λ order. option_map task_of order ≡ route_in_rows (rows_of (found_of options.now))) }
+    ensures sound { IfOk result (λ order. IfSome order (λ o. CanBeDone (task_of o))) }
+{
+    let hops = hops_in(alloc, options)?;
+    Ok(route_by(options, hops))
+}
+
+/// What words that follow the grammar ask for, if each of them names something.
+fn order_in(alloc: Global, matches: &ArgMatches<'_>) -> Result<Option<Order>, AllocError>
+    ensures task { IfOk result (λ order. option_map task_of order ≡ task_in_command (subcommand_rows_of matches.now)) }
+    ensures sound { IfOk result (λ order. IfSome order (λ o. CanBeDone (task_of o))) }
+{
+    match matches.subcommand() {
+        Some((name, options)) => match name {
+            "once" => Ok(once_in(options)),
+            "stream" => Ok(stream_in(options)),
+            "route" => route_in(alloc, options),
+            _ => Ok(None),
+        },
+        None => Ok(None),
     }
 }
 
@@ -232,17 +379,18 @@ fn order_in(matches: &ArgMatches<'_>) -> Option<Order>
 ///
 /// Where the line asks for nothing that the program does, for the help text too, or for want of memory, of the kind `OutOfMemory`.
 pub fn read_order<S: AsStr>(alloc: Global, words: &[S]) -> Result<Order, Error>
-    ensures ok { IfOk result (λ order. order_of (map S.text words.now) ≡ Some order) }
-    ensures limit { IfOk result HasLimit }
-    ensures bad { IfErr result (λ e. (order_of (map S.text words.now) ≡ None) ⊎ (kind_of e ≡ ErrorKind.OutOfMemory)) }
+    ensures ok { IfOk result (λ order. asked_by (map S.text words.now) ≡ Some (task_of order)) }
+    ensures sound { IfOk result (λ order. CanBeDone (task_of order)) }
+    ensures bad { IfErr result (λ e. (asked_by (map S.text words.now) ≡ None) ⊎ (kind_of e ≡ ErrorKind.OutOfMemory)) }
 {
     let mut grammar = grammar(alloc)?;
     let matches = grammar.try_get_matches_from_mut(words)?;
-    match order_in(&matches) {
+    let order = order_in(alloc, &matches)?;
+    match order {
         Some(order) => Ok(order),
         None => Err(grammar.error(
             ErrorKind::InvalidValue,
-            "rules are uper, aper, oer or coer, and types bool, small, pair, integer, bits, octets, visible, null, nulls, set, bag, nest, new, old or group",
+            "rules are uper, aper, oer or coer, types bool, small, pair, integer, bits, octets, visible, null, nulls, set, bag, nest, new, old or group, pairs plain, default, required or colour, and hops old or new, a colon and rules",
         )?),
     }
 }

@@ -1,19 +1,24 @@
 //! The command of the program.
-ghost use Rattle.std.specs.Prelude.{◌≡◌, ◌≢◌, ◌⊎◌, ◌≤◌, IfErr, IfOk, MatchResult, OnOk, map};
+ghost use Rattle.std.specs.Prelude.{◌≡◌, ◌≢◌, ◌⊎◌, ◌≤◌, [], IfErr, IfOk, MatchResult, OnOk, map};
 ghost use Rattle.std.specs.Io.KnownBytes.{Appends, Keeps};
 ghost use Rattle.std.specs.IoError.{error_kind};
 ghost use Rattle.clap.specs.Words.{kind_of};
 ghost use Rattle.asn1_relay_core.specs.Recoding.{answered};
 ghost use Rattle.asn1_relay_streams.specs.Ends.{BeginsToAppend};
 ghost use Rattle.asn1_relay_command.specs.Lines.{line_of};
-ghost use Rattle.asn1_relay_command.specs.Orders.{HasLimit, order_of};
-ghost use Rattle.asn1_relay_command.specs.Runs.{Becomes, BecomesAs, Does, DoesOnce, DoesStream, DoesStreamAs, HasDone, HasFailed, HasRefused, IsAllRead, IsRefusedAs, IsRefusedBy, StopsBy, StopsOnceBy, StopsStreamAs, StopsStreamBy};
+ghost use Rattle.asn1_relay_routes.specs.Routing.{arrived};
+ghost use Rattle.asn1_relay_command.specs.Orders.{CanBeDone, asked_by, task_of};
+ghost use Rattle.asn1_relay_command.specs.Runs.{Becomes, BecomesAs, ComesAs, ComesBy, Does, DoesOnce, DoesRoute, DoesStream, DoesStreamAs, HasDone, HasFailed, HasRefused, IsAllRead, IsRefusedAs, IsRefusedBy, IsTurnedBackAs, IsTurnedBackBy, StopsBy, StopsOnceBy, StopsRouteBy, StopsStreamAs, StopsStreamBy};
 
 use crate::fault::Fault;
-use crate::order::{Kind, Order, Translation, read_order};
-use asn1_relay_core::recode;
+use crate::order::{Kind, Order, Pair, Translation, read_order};
+use asn1_relay_core::{Codec, recode};
+use asn1_relay_routes::{Extends, Hop, route};
 use asn1_relay_streams::{RunFault, StdSink, StdSource, run, write_octets};
-use asn1_relay_types::{Bag, Group, Nest, New, Octets, Old, Pair, Set, Small};
+use asn1_relay_types::{
+    self as types, Bag, Group, Nest, New, NewColour, NewDefault, NewRequired, Octets, Old,
+    OldColour, OldDefault, Set, Small,
+};
 use asn1_schema_decode::Decode;
 use asn1_schema_encode::Encode;
 use asn1_values_bit_strings::BitString;
@@ -35,12 +40,12 @@ pub fn command<S: AsStr, R: Read, W: Write, E: Write>(
     errors: &mut E,
 ) -> u8
     ensures status { result ≤ 2 }
-    ensures done { result ≡ 0 → HasDone (order_of (map S.text words.now)) (R.remaining input.old) (R.remaining input.new)
+    ensures done { result ≡ 0 → HasDone (asked_by (map S.text words.now)) (R.remaining input.old) (R.remaining input.new)
         (W.contents output.old) (W.contents output.new) }
     ensures quiet { result ≡ 0 → Keeps (E.contents errors.old) (E.contents errors.new) }
-    ensures failed { result ≡ 1 → HasFailed (order_of (map S.text words.now)) (R.remaining input.old) (R.remaining input.new)
+    ensures failed { result ≡ 1 → HasFailed (asked_by (map S.text words.now)) (R.remaining input.old) (R.remaining input.new)
         (W.contents output.old) (W.contents output.new) (E.contents errors.old) (E.contents errors.new) }
-    ensures bad { result ≡ 2 → HasRefused (order_of (map S.text words.now)) (R.remaining input.old) (R.remaining input.new)
+    ensures bad { result ≡ 2 → HasRefused (asked_by (map S.text words.now)) (R.remaining input.old) (R.remaining input.new)
         (W.contents output.old) (W.contents output.new) }
 {
     let order = match read_order(alloc, words) {
@@ -60,16 +65,19 @@ fn follow<R: Read, W: Write>(
     input: &mut R,
     output: &mut W,
 ) -> Result<(), Fault>
-    requires { HasLimit order }
+    requires { CanBeDone (task_of order) }
     ensures { MatchResult result
-        (λ _. Does order (R.remaining input.old) (R.remaining input.new) (W.contents output.old) (W.contents output.new))
-        (StopsBy order (R.remaining input.old) (R.remaining input.new) (W.contents output.old) (W.contents output.new)) }
+        (λ _. Does (task_of order) (R.remaining input.old) (R.remaining input.new) (W.contents output.old) (W.contents output.new))
+        (StopsBy (task_of order) (R.remaining input.old) (R.remaining input.new) (W.contents output.old) (W.contents output.new)) }
 {
     match order {
         Order::Once(translation) => once(alloc, translation, input, output),
         Order::Stream { translation, limit } => {
             stream(alloc, translation, limit, input, output)?;
             Ok(())
+        }
+        Order::Route { from, pair, hops } => {
+            send(alloc, from, pair, hops.as_slice(), input, output)
         }
     }
 }
@@ -149,7 +157,7 @@ macro_rules! at_kind {
         match $kind {
             Kind::Bool => $call::<bool $(, $other)*>($($argument),*),
             Kind::Small => $call::<Small $(, $other)*>($($argument),*),
-            Kind::Pair => $call::<Pair $(, $other)*>($($argument),*),
+            Kind::Pair => $call::<types::Pair $(, $other)*>($($argument),*),
             Kind::Integer => $call::<Integer $(, $other)*>($($argument),*),
             Kind::Bits => $call::<BitString $(, $other)*>($($argument),*),
             Kind::Octets => $call::<Octets $(, $other)*>($($argument),*),
@@ -238,6 +246,64 @@ fn stream<R: Read, W: Write>(
         translation.kind,
         stream_of::<T, R, W>(alloc, translation, limit, input, output)
     )
+}
+
+/// Sends a message of a type from hop to hop, each of which knows the older or the newer version of it.
+fn send_as<Older: Encode + Decode, Newer: Encode + Decode + Extends<Older>>(
+    alloc: Global,
+    from: Codec,
+    hops: &[Hop],
+    message: &[u8],
+) -> Result<Vec<u8>, Fault>
+    requires { hops.now ≢ [] }
+    ensures { MatchResult result
+        (λ v. ComesAs (Older.schema 128) (Newer.schema 128) from hops.now message.now (arrived v.items))
+        (IsTurnedBackAs (Older.schema 128) (Newer.schema 128) from hops.now message.now) }
+{
+    let octets = route::<Older, Newer>(alloc, hops, from, message)?;
+    Ok(octets)
+}
+
+/// Sends a message from hop to hop.
+fn send_all(
+    alloc: Global,
+    from: Codec,
+    pair: Pair,
+    hops: &[Hop],
+    message: &[u8],
+) -> Result<Vec<u8>, Fault>
+    requires { hops.now ≢ [] }
+    ensures { MatchResult result
+        (λ v. ComesBy (record { from = from; pair = pair; hops = hops.now }) message.now (arrived v.items))
+        (IsTurnedBackBy (record { from = from; pair = pair; hops = hops.now }) message.now) }
+{
+    match pair {
+        Pair::Plain => send_as::<Old, New>(alloc, from, hops, message),
+        Pair::Default => send_as::<OldDefault, NewDefault>(alloc, from, hops, message),
+        Pair::Required => send_as::<Old, NewRequired>(alloc, from, hops, message),
+        Pair::Colour => send_as::<OldColour, NewColour>(alloc, from, hops, message),
+    }
+}
+
+/// Sends the message that is all of the input from hop to hop. Nothing is written before it has arrived.
+fn send<R: Read, W: Write>(
+    alloc: Global,
+    from: Codec,
+    pair: Pair,
+    hops: &[Hop],
+    input: &mut R,
+    output: &mut W,
+) -> Result<(), Fault>
+    requires { hops.now ≢ [] }
+    ensures { MatchResult result
+        (λ _. DoesRoute (record { from = from; pair = pair; hops = hops.now })
+        (R.remaining input.old) (R.remaining input.new) (W.contents output.old) (W.contents output.new))
+        (StopsRouteBy (record { from = from; pair = pair; hops = hops.now })
+        (R.remaining input.old) (R.remaining input.new) (W.contents output.old) (W.contents output.new)) }
+{
+    let message = read_all(alloc, input)?;
+    let answer = send_all(alloc, from, pair, hops, message.as_slice())?;
+    write_all(answer.as_slice(), output)
 }
 
 /// Writes all octets, and flushes.

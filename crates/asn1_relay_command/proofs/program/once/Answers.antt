@@ -2,8 +2,8 @@ use Rattle.std.proofs.Common.{OnOk, subst}
 use Rattle.std.specs.Io.KnownBytes.{Appends}
 use Rattle.asn1_relay_core.specs.Recoding.{answered}
 use Rattle.asn1_relay_streams.specs.Ends.{BeginsToAppend}
-use Rattle.asn1_relay_command.specs.Runs.{Becomes, IsAnswered}
-use Rattle.asn1_relay_command.proofs.Answered.{once_written}
+use Rattle.asn1_relay_command.specs.Runs.{Becomes, IsAnswered, IsTranslated, StopsOnceBy}
+use Rattle.asn1_relay_command.proofs.Answered.{answer_written}
 use Rattle.asn1_relay_command.proofs.program.once.Goals as goal
 
 pub returns : goal.returns
@@ -18,4 +18,4 @@ returns g c =
     let right : IsAnswered c.args.translation unread unread' (answered octets) = record { message = message; read = c.in_ok-message.ensures.ok; answers = answers } in
     let ok = subst (λ l. OnOk c.write_all.result (Appends held held' l)) c.as_slice-2.ensures.value c.write_all.ensures.ok in
     let begun = subst (BeginsToAppend held held') c.as_slice-2.ensures.value c.write_all.ensures.begins in
-    once_written c.args.translation unread unread' held held' octets c.write_all.result right ok c.write_all.ensures.err begun
+    answer_written (IsTranslated c.args.translation unread unread') (StopsOnceBy c.args.translation unread unread' held held') held held' octets c.write_all.result right ok c.write_all.ensures.err begun (λ cut. cut)
