@@ -103,12 +103,12 @@ DoesStream t limit unread unread' held held' =
     DoesStreamAs (schema_named t.kind) t.from t.to limit unread unread' held held'
 
 -- a fault stops it; so many calls failed
-pub record StopsStreamAs (s : Schema) (from to : Codec) (limit : ℕ) (unread unread' held held' : Known) (reason : RunFault)
-    : Type 0 where
+pub record StopsStreamAs (s : Schema) (from to : Codec) (limit : ℕ) (unread unread' held held' : Known)
+    (reason : RunFault) : Type 0 where
   pub reads : ℕ
   pub writes : ℕ
-  pub stops : RunFaultOf (rules_of from) (rules_of to) s limit (ends unread held 0 0) (ends unread' held' reads writes)
-      reason
+  pub stops : RunFaultOf (rules_of from) (rules_of to) s limit
+      (ends unread held 0 0) (ends unread' held' reads writes) reason
 
 -- the same by what was asked for
 abbrev pub StopsStreamBy : Translation → ℕ → Known → Known → Known → Known → RunFault → Type 0
@@ -163,7 +163,8 @@ pub record IsUnasked (unread unread' held held' said said' : Known) : Type 0 whe
   pub untouched : IsUntouched unread unread' held held'
   pub says : BeginsToAppend said said' (line_of fault.OutOfMemory)
 
--- status 1: no memory was left to read the command line, or a fault stopped the run; the errors' writer took the line of it
+-- status 1: no memory was left to read the command line, or a fault stopped the run; the errors' writer took the line
+-- of it
 abbrev pub HasFailed : Option Order → Known → Known → Known → Known → Known → Known → Type 0
 HasFailed asked unread unread' held held' said said' =
     IsUnasked unread unread' held held' said said'
