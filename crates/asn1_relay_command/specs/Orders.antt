@@ -21,7 +21,9 @@ option_rule name = record (new_rule name) { long = Some name; required = true }
 
 -- NAME --from RULES --to RULES --type TYPE
 abbrev pub translating_app : Text → App
-translating_app name = with_rule (with_rule (with_rule (new_app name) (option_rule (codes "from"))) (option_rule (codes "to"))) (option_rule (codes "type"))
+translating_app name =
+    with_rule (with_rule (with_rule (new_app name) (option_rule (codes "from"))) (option_rule (codes "to")))
+    (option_rule (codes "type"))
 
 -- --limit NUMBER, a whole number from 1 to 4294967295
 abbrev pub limit_rule : Rule
@@ -73,7 +75,8 @@ kind_by_name name =
 
 -- a whole number from 1 to 4294967295, in decimal digits
 abbrev pub limit_by_text : Text → Option ℕ
-limit_by_text text = if is_unsigned_in 1 4294967295 text then Some (digits_value 10 (without_leading_plus text)) else None
+limit_by_text text =
+    if is_unsigned_in 1 4294967295 text then Some (digits_value 10 (without_leading_plus text)) else None
 
 -- ---- the order
 
@@ -85,7 +88,8 @@ translation_by_names from to type =
 
 -- what the options of a command say
 abbrev pub translation_in_rows : List Row → Option Translation
-translation_in_rows rows = translation_by_names (first_of (codes "from") rows) (first_of (codes "to") rows) (first_of (codes "type") rows)
+translation_in_rows rows =
+    translation_by_names (first_of (codes "from") rows) (first_of (codes "to") rows) (first_of (codes "type") rows)
 
 abbrev pub limit_in_rows : List Row → Option ℕ
 limit_in_rows rows = option_and_then limit_by_text (one_of (codes "limit") rows)
@@ -94,7 +98,8 @@ abbrev pub once_in_rows : List Row → Option Order
 once_in_rows rows = option_map order.Once (translation_in_rows rows)
 
 abbrev pub stream_in_rows : List Row → Option Order
-stream_in_rows rows = option_and_then (λ t. option_map (order.Stream t) (limit_in_rows rows)) (translation_in_rows rows)
+stream_in_rows rows =
+    option_and_then (λ t. option_map (order.Stream t) (limit_in_rows rows)) (translation_in_rows rows)
 
 -- the command is one of the program's, and its options say something
 abbrev pub order_in_command : Option (Text × List Row) → Option Order

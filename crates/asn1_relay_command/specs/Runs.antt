@@ -1,5 +1,5 @@
--- What a run of the command does with its reader, whose octets are those that it still gives, and its writer, whose octets are those
--- that it holds, where these are known.
+-- What a run of the command does with its reader, whose octets are those that it still gives, and its writer, whose
+-- octets are those that it holds, where these are known.
 use Rattle.std.specs.Prelude.{◌≡◌, ◌⊎◌, ℕ, List, Option, Some, None}
 use Rattle.std.specs.Io.KnownBytes.{Appends, Consumes, IsAtEnd, Keeps}
 use Rattle.asn1_model.specs.Schema.{Schema}
@@ -19,6 +19,10 @@ use Rattle.asn1_relay_command.specs.declared.fault.Fault.TheVariants as fault
 use Rattle.asn1_relay_command.specs.declared.order.Order.{Order}
 use Rattle.asn1_relay_command.specs.declared.order.Order.TheVariants as order
 use Rattle.asn1_relay_command.specs.declared.order.Translation.{Translation}
+
+-- octets, where they are known
+abbrev pub Known : Type 0
+Known = Option (List ℕ)
 
 -- ---- translating
 
@@ -51,33 +55,36 @@ IsRefusedBy t message f = IsRefusedAs (schema_named t.kind) t message f
 -- ---- one message
 
 -- a reader gave all its octets
-pub record IsAllRead (old new : Option (List ℕ)) (message : List ℕ) : Type 0 where
+pub record IsAllRead (old new : Known) (message : List ℕ) : Type 0 where
   pub read : Consumes old new message
   pub ended : IsAtEnd new
 
 -- all was read, and this became of it
-pub record IsAnswered (t : Translation) (old new : Option (List ℕ)) (answer : Answer) : Type 0 where
+pub record IsAnswered (t : Translation) (old new : Known) (answer : Answer) : Type 0 where
   pub message : List ℕ
   pub read : IsAllRead old new message
   pub answers : Becomes t message answer
 
 -- all was read and translated, and the answer was written
-pub record DoesOnce (t : Translation) (unread unread' held held' : Option (List ℕ)) : Type 0 where
+pub record DoesOnce (t : Translation) (unread unread' held held' : Known) : Type 0 where
   pub octets : List ℕ
   pub right : IsAnswered t unread unread' (answered octets)
   pub wrote : Appends held held' octets
 
 -- all was read and translated, but the writer failed behind a beginning of the answer
-pub record IsCutOff (t : Translation) (unread unread' held held' : Option (List ℕ)) : Type 0 where
+pub record IsCutOff (t : Translation) (unread unread' held held' : Known) : Type 0 where
   pub octets : List ℕ
   pub right : IsAnswered t unread unread' (answered octets)
   pub began : BeginsToAppend held held' octets
 
 -- a fault before there is an answer leaves the writer as it was
-abbrev pub StopsOnceBy : Translation → Option (List ℕ) → Option (List ℕ) → Option (List ℕ) → Option (List ℕ) → Fault → Type 0
-StopsOnceBy t unread unread' held held' fault.NotAnEncoding = IsAnswered t unread unread' not_an_encoding × Keeps held held'
-StopsOnceBy t unread unread' held held' fault.SurplusOctets = IsAnswered t unread unread' surplus × Keeps held held'
-StopsOnceBy t unread unread' held held' fault.NoTargetEncoding = IsAnswered t unread unread' no_target × Keeps held held'
+abbrev pub StopsOnceBy : Translation → Known → Known → Known → Known → Fault → Type 0
+StopsOnceBy t unread unread' held held' fault.NotAnEncoding =
+    IsAnswered t unread unread' not_an_encoding × Keeps held held'
+StopsOnceBy t unread unread' held held' fault.SurplusOctets =
+    IsAnswered t unread unread' surplus × Keeps held held'
+StopsOnceBy t unread unread' held held' fault.NoTargetEncoding =
+    IsAnswered t unread unread' no_target × Keeps held held'
 StopsOnceBy t unread unread' held held' fault.OutOfMemory = Keeps held held'
 StopsOnceBy t unread unread' held held' fault.ReadFailed = Keeps held held'
 StopsOnceBy t unread unread' held held' fault.WriteFailed = IsCutOff t unread unread' held held'
@@ -86,22 +93,27 @@ StopsOnceBy t unread unread' held held' (fault.AtMessage at) = ⊥
 -- ---- a stream of messages
 
 -- all was read, to its end, and relayed to its end, by messages of a type; no call failed
-abbrev pub DoesStreamAs : Schema → Codec → Codec → ℕ → Option (List ℕ) → Option (List ℕ) → Option (List ℕ) → Option (List ℕ) → Type 0
-DoesStreamAs s from to limit unread unread' held held' = IsDone (rules_of from) (rules_of to) s limit (ends unread held 0 0) (ends unread' held' 0 0)
+abbrev pub DoesStreamAs : Schema → Codec → Codec → ℕ → Known → Known → Known → Known → Type 0
+DoesStreamAs s from to limit unread unread' held held' =
+    IsDone (rules_of from) (rules_of to) s limit (ends unread held 0 0) (ends unread' held' 0 0)
 
 -- the same by what was asked for
-abbrev pub DoesStream : Translation → ℕ → Option (List ℕ) → Option (List ℕ) → Option (List ℕ) → Option (List ℕ) → Type 0
-DoesStream t limit unread unread' held held' = DoesStreamAs (schema_named t.kind) t.from t.to limit unread unread' held held'
+abbrev pub DoesStream : Translation → ℕ → Known → Known → Known → Known → Type 0
+DoesStream t limit unread unread' held held' =
+    DoesStreamAs (schema_named t.kind) t.from t.to limit unread unread' held held'
 
 -- a fault stops it; so many calls failed
-pub record StopsStreamAs (s : Schema) (from to : Codec) (limit : ℕ) (unread unread' held held' : Option (List ℕ)) (reason : RunFault) : Type 0 where
+pub record StopsStreamAs (s : Schema) (from to : Codec) (limit : ℕ) (unread unread' held held' : Known)
+    (reason : RunFault) : Type 0 where
   pub reads : ℕ
   pub writes : ℕ
-  pub stops : RunFaultOf (rules_of from) (rules_of to) s limit (ends unread held 0 0) (ends unread' held' reads writes) reason
+  pub stops : RunFaultOf (rules_of from) (rules_of to) s limit
+      (ends unread held 0 0) (ends unread' held' reads writes) reason
 
 -- the same by what was asked for
-abbrev pub StopsStreamBy : Translation → ℕ → Option (List ℕ) → Option (List ℕ) → Option (List ℕ) → Option (List ℕ) → RunFault → Type 0
-StopsStreamBy t limit unread unread' held held' = StopsStreamAs (schema_named t.kind) t.from t.to limit unread unread' held held'
+abbrev pub StopsStreamBy : Translation → ℕ → Known → Known → Known → Known → RunFault → Type 0
+StopsStreamBy t limit unread unread' held held' =
+    StopsStreamAs (schema_named t.kind) t.from t.to limit unread unread' held held'
 
 abbrev pub run_fault_named : RunFault → Fault
 run_fault_named run_fault.Read = fault.ReadFailed
@@ -110,31 +122,31 @@ run_fault_named (run_fault.Relay at) = fault.AtMessage at
 run_fault_named run_fault.Memory = fault.OutOfMemory
 
 -- a fault of the run stops it, under the command's name for it
-pub record IsRunFault (t : Translation) (limit : ℕ) (unread unread' held held' : Option (List ℕ)) (f : Fault) : Type 0 where
+pub record IsRunFault (t : Translation) (limit : ℕ) (unread unread' held held' : Known) (f : Fault) : Type 0 where
   pub reason : RunFault
   pub is : f ≡ run_fault_named reason
   pub stops : StopsStreamBy t limit unread unread' held held' reason
 
 -- ---- what was asked for
 
-abbrev pub Does : Order → Option (List ℕ) → Option (List ℕ) → Option (List ℕ) → Option (List ℕ) → Type 0
+abbrev pub Does : Order → Known → Known → Known → Known → Type 0
 Does (order.Once t) unread unread' held held' = DoesOnce t unread unread' held held'
 Does (order.Stream t limit) unread unread' held held' = DoesStream t limit unread unread' held held'
 
-abbrev pub StopsBy : Order → Option (List ℕ) → Option (List ℕ) → Option (List ℕ) → Option (List ℕ) → Fault → Type 0
+abbrev pub StopsBy : Order → Known → Known → Known → Known → Fault → Type 0
 StopsBy (order.Once t) unread unread' held held' f = StopsOnceBy t unread unread' held held' f
 StopsBy (order.Stream t limit) unread unread' held held' f = IsRunFault t limit unread unread' held held' f
 
 -- ---- statuses
 
 -- status 0: the command line asks for something, and that is done
-pub record HasDone (asked : Option Order) (unread unread' held held' : Option (List ℕ)) : Type 0 where
+pub record HasDone (asked : Option Order) (unread unread' held held' : Known) : Type 0 where
   pub order : Order
   pub asks : asked ≡ Some order
   pub done : Does order unread unread' held held'
 
 -- the command line asks for something, a fault stops it, and its line is written
-pub record IsStopped (asked : Option Order) (unread unread' held held' said said' : Option (List ℕ)) : Type 0 where
+pub record IsStopped (asked : Option Order) (unread unread' held held' said said' : Known) : Type 0 where
   pub order : Order
   pub asks : asked ≡ Some order
   pub reason : Fault
@@ -142,20 +154,23 @@ pub record IsStopped (asked : Option Order) (unread unread' held held' said said
   pub says : BeginsToAppend said said' (line_of reason)
 
 -- nothing was read, and nothing written
-pub record IsUntouched (unread unread' held held' : Option (List ℕ)) : Type 0 where
+pub record IsUntouched (unread unread' held held' : Known) : Type 0 where
   pub unread_still : Keeps unread unread'
   pub held_still : Keeps held held'
 
 -- no memory was left to read the command line
-pub record IsUnasked (unread unread' held held' said said' : Option (List ℕ)) : Type 0 where
+pub record IsUnasked (unread unread' held held' said said' : Known) : Type 0 where
   pub untouched : IsUntouched unread unread' held held'
   pub says : BeginsToAppend said said' (line_of fault.OutOfMemory)
 
--- status 1: no memory was left to read the command line, or a fault stopped the run; the errors' writer took the line of it
-abbrev pub HasFailed : Option Order → Option (List ℕ) → Option (List ℕ) → Option (List ℕ) → Option (List ℕ) → Option (List ℕ) → Option (List ℕ) → Type 0
-HasFailed asked unread unread' held held' said said' = IsUnasked unread unread' held held' said said' ⊎ IsStopped asked unread unread' held held' said said'
+-- status 1: no memory was left to read the command line, or a fault stopped the run; the errors' writer took the line
+-- of it
+abbrev pub HasFailed : Option Order → Known → Known → Known → Known → Known → Known → Type 0
+HasFailed asked unread unread' held held' said said' =
+    IsUnasked unread unread' held held' said said'
+    ⊎ IsStopped asked unread unread' held held' said said'
 
 -- status 2: the command line asks for nothing
-pub record HasRefused (asked : Option Order) (unread unread' held held' : Option (List ℕ)) : Type 0 where
+pub record HasRefused (asked : Option Order) (unread unread' held held' : Known) : Type 0 where
   pub bad : asked ≡ None
   pub untouched : IsUntouched unread unread' held held'

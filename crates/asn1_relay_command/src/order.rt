@@ -174,8 +174,8 @@ fn grammar<'a>(alloc: Global) -> Result<Command<'a>, AllocError>
 
 /// The translation that the options ask for, if each of them names something.
 fn translation_in(options: &ArgMatches<'_>) -> Option<Translation>
-    ensures { result ≡ translation_by_names (first_value (found_of options.now) (codes "from")) (first_value (found_of options.now) (codes "to"))
-        (first_value (found_of options.now) (codes "type")) }
+    ensures { result ≡ translation_by_names (first_value (found_of options.now) (codes "from"))
+        (first_value (found_of options.now) (codes "to")) (first_value (found_of options.now) (codes "type")) }
 {
     Some(Translation {
         from: codec_named(options.get_str("from")?)?,

@@ -24,9 +24,10 @@ use std::alloc::Global;
 use std::convert::AsStr;
 use std::io::{self, ErrorKind, Read, Write};
 
-/// Runs the program on a command line, whose first word is the program's name, and answers its exit status: 0 when the answer was
-/// written and flushed, 1 when the input could not be read or translated, the answer not written, or no memory was left (not even to read
-/// the command line), and 2 for a bad command line. At status 1 the line of the fault is written to `errors`, one line; at 2 a text.
+/// Runs the program on a command line, whose first word is the program's name, and answers its exit status: 0 when all
+/// was read and the answer written and flushed, 1 when the input could not be read or translated, the answer not
+/// written, or no memory was left (not even to read the command line), and 2 for a bad command line. At status 1 the
+/// line of the fault is written to `errors`, one line; at 2 a text.
 pub fn command<S: AsStr, R: Read, W: Write, E: Write>(
     alloc: Global,
     words: &[S],
@@ -35,13 +36,14 @@ pub fn command<S: AsStr, R: Read, W: Write, E: Write>(
     errors: &mut E,
 ) -> u8
     ensures status { result ≤ 2 }
-    ensures done { result ≡ 0 → HasDone (order_of (map S.text words.now)) (R.remaining input.old) (R.remaining input.new)
-        (W.contents output.old) (W.contents output.new) }
+    ensures done { result ≡ 0 → HasDone (order_of (map S.text words.now))
+        (R.remaining input.old) (R.remaining input.new) (W.contents output.old) (W.contents output.new) }
     ensures quiet { result ≡ 0 → Keeps (E.contents errors.old) (E.contents errors.new) }
-    ensures failed { result ≡ 1 → HasFailed (order_of (map S.text words.now)) (R.remaining input.old) (R.remaining input.new)
-        (W.contents output.old) (W.contents output.new) (E.contents errors.old) (E.contents errors.new) }
-    ensures bad { result ≡ 2 → HasRefused (order_of (map S.text words.now)) (R.remaining input.old) (R.remaining input.new)
-        (W.contents output.old) (W.contents output.new) }
+    ensures failed { result ≡ 1 → HasFailed (order_of (map S.text words.now))
+        (R.remaining input.old) (R.remaining input.new) (W.contents output.old) (W.contents output.new)
+        (E.contents errors.old) (E.contents errors.new) }
+    ensures bad { result ≡ 2 → HasRefused (order_of (map S.text words.now))
+        (R.remaining input.old) (R.remaining input.new) (W.contents output.old) (W.contents output.new) }
 {
     let order = match read_order(alloc, words) {
         Ok(order) => order,
@@ -62,8 +64,10 @@ fn follow<R: Read, W: Write>(
 ) -> Result<(), Fault>
     requires { HasLimit order }
     ensures { MatchResult result
-        (λ _. Does order (R.remaining input.old) (R.remaining input.new) (W.contents output.old) (W.contents output.new))
-        (StopsBy order (R.remaining input.old) (R.remaining input.new) (W.contents output.old) (W.contents output.new)) }
+        (λ _. Does order
+        (R.remaining input.old) (R.remaining input.new) (W.contents output.old) (W.contents output.new))
+        (StopsBy order
+        (R.remaining input.old) (R.remaining input.new) (W.contents output.old) (W.contents output.new)) }
 {
     match order {
         Order::Once(translation) => once(alloc, translation, input, output),
@@ -77,7 +81,8 @@ fn follow<R: Read, W: Write>(
 /// Says that the program's arguments cannot be had, and answers the exit status: 1 when no memory was left for them, and 2 when one
 /// of them is no text.
 pub fn refuse_arguments<E: Write>(error: &io::Error, errors: &mut E) -> u8
-    ensures memory { error_kind error.now ≡ ErrorKind.OutOfMemory → (result ≡ 1) × BeginsToAppend (E.contents errors.old) (E.contents errors.new) (line_of Fault.OutOfMemory) }
+    ensures memory { error_kind error.now ≡ ErrorKind.OutOfMemory → (result ≡ 1)
+        × BeginsToAppend (E.contents errors.old) (E.contents errors.new) (line_of Fault.OutOfMemory) }
     ensures text { error_kind error.now ≢ ErrorKind.OutOfMemory → result ≡ 2 }
 {
     if error.kind() == ErrorKind::OutOfMemory {
@@ -89,7 +94,8 @@ pub fn refuse_arguments<E: Write>(error: &io::Error, errors: &mut E) -> u8
 
 /// Says what is wrong with a command line, and answers the exit status.
 fn refuse<E: Write>(error: &clap::Error, errors: &mut E) -> u8
-    ensures memory { kind_of error.now ≡ ParseErrorKind.OutOfMemory → (result ≡ 1) × BeginsToAppend (E.contents errors.old) (E.contents errors.new) (line_of Fault.OutOfMemory) }
+    ensures memory { kind_of error.now ≡ ParseErrorKind.OutOfMemory → (result ≡ 1)
+        × BeginsToAppend (E.contents errors.old) (E.contents errors.new) (line_of Fault.OutOfMemory) }
     ensures mistake { kind_of error.now ≢ ParseErrorKind.OutOfMemory → result ≡ 2 }
 {
     if error.kind() == ParseErrorKind::OutOfMemory {
@@ -116,8 +122,10 @@ fn once<R: Read, W: Write>(
     output: &mut W,
 ) -> Result<(), Fault>
     ensures { MatchResult result
-        (λ _. DoesOnce translation (R.remaining input.old) (R.remaining input.new) (W.contents output.old) (W.contents output.new))
-        (StopsOnceBy translation (R.remaining input.old) (R.remaining input.new) (W.contents output.old) (W.contents output.new)) }
+        (λ _. DoesOnce translation
+        (R.remaining input.old) (R.remaining input.new) (W.contents output.old) (W.contents output.new))
+        (StopsOnceBy translation
+        (R.remaining input.old) (R.remaining input.new) (W.contents output.old) (W.contents output.new)) }
 {
     let message = read_all(alloc, input)?;
     let answer = translate_all(alloc, translation, message.as_slice())?;
@@ -172,7 +180,8 @@ fn translate<T: Encode + Decode>(
     translation: Translation,
     message: &[u8],
 ) -> Result<Vec<u8>, Fault>
-    ensures { MatchResult result (λ v. BecomesAs (T.schema 128) translation message.now (answered v.items)) (IsRefusedAs (T.schema 128) translation message.now) }
+    ensures { MatchResult result (λ v. BecomesAs (T.schema 128) translation message.now (answered v.items))
+        (IsRefusedAs (T.schema 128) translation message.now) }
 {
     let octets = recode::<T>(alloc, translation.from, translation.to, message)?;
     Ok(octets)
@@ -188,7 +197,8 @@ pub fn translate_all(
     translation: Translation,
     message: &[u8],
 ) -> Result<Vec<u8>, Fault>
-    ensures { MatchResult result (λ v. Becomes translation message.now (answered v.items)) (IsRefusedBy translation message.now) }
+    ensures { MatchResult result (λ v. Becomes translation message.now (answered v.items))
+        (IsRefusedBy translation message.now) }
 {
     at_kind!(
         translation.kind,
@@ -206,8 +216,10 @@ fn stream_of<T: Encode + Decode, R: Read, W: Write>(
 ) -> Result<(), RunFault>
     requires { 1 ≤ limit }
     ensures { MatchResult result
-        (λ _. DoesStreamAs (T.schema 128) translation.from translation.to limit (R.remaining input.old) (R.remaining input.new) (W.contents output.old) (W.contents output.new))
-        (StopsStreamAs (T.schema 128) translation.from translation.to limit (R.remaining input.old) (R.remaining input.new) (W.contents output.old) (W.contents output.new)) }
+        (λ _. DoesStreamAs (T.schema 128) translation.from translation.to limit
+        (R.remaining input.old) (R.remaining input.new) (W.contents output.old) (W.contents output.new))
+        (StopsStreamAs (T.schema 128) translation.from translation.to limit
+        (R.remaining input.old) (R.remaining input.new) (W.contents output.old) (W.contents output.new)) }
 {
     let mut source = StdSource::new(input, u64::MAX);
     let mut sink = StdSink::new(output);
@@ -231,8 +243,10 @@ fn stream<R: Read, W: Write>(
 ) -> Result<(), RunFault>
     requires { 1 ≤ limit }
     ensures { MatchResult result
-        (λ _. DoesStream translation limit (R.remaining input.old) (R.remaining input.new) (W.contents output.old) (W.contents output.new))
-        (StopsStreamBy translation limit (R.remaining input.old) (R.remaining input.new) (W.contents output.old) (W.contents output.new)) }
+        (λ _. DoesStream translation limit
+        (R.remaining input.old) (R.remaining input.new) (W.contents output.old) (W.contents output.new))
+        (StopsStreamBy translation limit
+        (R.remaining input.old) (R.remaining input.new) (W.contents output.old) (W.contents output.new)) }
 {
     at_kind!(
         translation.kind,
