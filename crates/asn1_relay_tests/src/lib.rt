@@ -1,4 +1,4 @@
-//! Tests of the program's command, with readers and writers that fail, and of values of types of a program's own.
+//! Tests of the program's command and of streams, with readers and writers that fail, and of values of types of a program's own.
 #![tactic(auto)]
 
 #[cfg(test)]
@@ -13,6 +13,8 @@ mod many_alternatives;
 mod records;
 #[cfg(test)]
 mod rows;
+#[cfg(test)]
+mod streams;
 #[cfg(test)]
 mod tables;
 #[cfg(test)]
