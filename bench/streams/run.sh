@@ -15,7 +15,7 @@ prove streams_bench
 : > "$work/times"
 for round in 1 2 3 4 5; do
     timed plain "$work/plain"
-    timed proved "$work/crates/streams_bench/out/streams_bench" memory
+    timed proved "$work/crates/streams_bench/out/streams_bench" memory all
 done
 awk -f "$here/streams/table.awk" "$work/times"
 "$work/plain" make coer 1400000 > "$work/messages.coer"

@@ -1,8 +1,10 @@
 -- What a command line asks for. Words are taken apart as clap does it, and then mean what their names say.
-use Rattle.std.specs.Prelude.{true, ⊤, ◌≢◌, ◌≤◌, ℕ, pos, List, [], ◌∷◌, Option, Some, None, option_map, option_and_then, if◌then◌else◌, codes}
+use Rattle.std.specs.Prelude.{true, ⊤, ◌≢◌, ◌≤◌, ℕ, pos, List, [], ◌∷◌, Option, Some, None, option_map}
+use Rattle.std.specs.Prelude.{option_and_then, if◌then◌else◌, codes}
 use Rattle.std.specs.Str.{bytes_eq}
 use Rattle.std.specs.Str.Parse.{digits_value, without_leading_plus}
-use Rattle.clap.specs.Words.{App, Rule, Row, Text, Kinds, all_of, first_of, fault_of, new_app, new_rule, one_of, subcommand_of, with_rule, with_subcommand}
+use Rattle.clap.specs.Words.{App, Rule, Row, Text, Kinds, all_of, first_of, fault_of, new_app, new_rule, one_of}
+use Rattle.clap.specs.Words.{subcommand_of, with_rule, with_subcommand}
 use Rattle.clap.specs.ValueTests.{is_unsigned_in}
 use Rattle.clap.specs.declared.builder.action.ArgAction.TheVariants.{Append}
 use Rattle.clap.specs.declared.builder.value_parser.ValueParser.TheVariants as vp
@@ -27,7 +29,9 @@ option_rule name = record (new_rule name) { long = Some name; required = true }
 
 -- NAME --from RULES --to RULES --type TYPE
 abbrev pub translating_app : Text → App
-translating_app name = with_rule (with_rule (with_rule (new_app name) (option_rule (codes "from"))) (option_rule (codes "to"))) (option_rule (codes "type"))
+translating_app name =
+    with_rule (with_rule (with_rule (new_app name) (option_rule (codes "from"))) (option_rule (codes "to")))
+    (option_rule (codes "type"))
 
 -- --limit NUMBER, a whole number from 1 to 4294967295
 abbrev pub limit_rule : Rule
@@ -46,7 +50,9 @@ hop_rule = record (option_rule (codes "hop")) { action = Some Append }
 
 -- route --from RULES --pair PAIR --hop VERSION:RULES ..
 abbrev pub route_app : App
-route_app = with_rule (with_rule (with_rule (new_app (codes "route")) (option_rule (codes "from"))) (option_rule (codes "pair"))) hop_rule
+route_app =
+    with_rule (with_rule (with_rule (new_app (codes "route")) (option_rule (codes "from"))) (option_rule (codes "pair")))
+    hop_rule
 
 -- the program's name
 abbrev pub name_app : App
@@ -111,11 +117,13 @@ hop_by_name name =
 -- the hops of these names, in turn, if each names one
 abbrev pub hops_by_names : List Text → Option (List Hop)
 hops_by_names [] = Some []
-hops_by_names (name ∷ names) = option_and_then (λ h. option_map (λ hs. h ∷ hs) (hops_by_names names)) (hop_by_name name)
+hops_by_names (name ∷ names) =
+    option_and_then (λ h. option_map (λ hs. h ∷ hs) (hops_by_names names)) (hop_by_name name)
 
 -- a whole number from 1 to 4294967295, in decimal digits
 abbrev pub limit_by_text : Text → Option ℕ
-limit_by_text text = if is_unsigned_in 1 4294967295 text then Some (digits_value 10 (without_leading_plus text)) else None
+limit_by_text text =
+    if is_unsigned_in 1 4294967295 text then Some (digits_value 10 (without_leading_plus text)) else None
 
 -- ---- the order
 
@@ -147,7 +155,8 @@ translation_by_names from to type =
 
 -- what the options of a command say
 abbrev pub translation_in_rows : List Row → Option Translation
-translation_in_rows rows = translation_by_names (first_of (codes "from") rows) (first_of (codes "to") rows) (first_of (codes "type") rows)
+translation_in_rows rows =
+    translation_by_names (first_of (codes "from") rows) (first_of (codes "to") rows) (first_of (codes "type") rows)
 
 abbrev pub limit_in_rows : List Row → Option ℕ
 limit_in_rows rows = option_and_then limit_by_text (one_of (codes "limit") rows)
@@ -159,7 +168,8 @@ abbrev pub once_in_rows : List Row → Option Task
 once_in_rows rows = option_map once (translation_in_rows rows)
 
 abbrev pub stream_in_rows : List Row → Option Task
-stream_in_rows rows = option_and_then (λ t. option_map (stream t) (limit_in_rows rows)) (translation_in_rows rows)
+stream_in_rows rows =
+    option_and_then (λ t. option_map (stream t) (limit_in_rows rows)) (translation_in_rows rows)
 
 -- a route has a hop
 abbrev pub route_by : Codec → Pair → List Hop → Option Task
@@ -169,10 +179,12 @@ route_by from pair (h ∷ hs) = Some (route (record { from = from; pair = pair; 
 -- the options are all there, and each names something
 abbrev pub route_by_names : Option Text → Option Text → Option (List Hop) → Option Task
 route_by_names from pair hops =
-    option_and_then (λ f. option_and_then (λ p. option_and_then (route_by f p) hops) (option_and_then pair_by_name pair)) (option_and_then codec_by_name from)
+    option_and_then (λ f. option_and_then (λ p. option_and_then (route_by f p) hops)
+    (option_and_then pair_by_name pair)) (option_and_then codec_by_name from)
 
 abbrev pub route_in_rows : List Row → Option Task
-route_in_rows rows = route_by_names (first_of (codes "from") rows) (first_of (codes "pair") rows) (hops_in_rows rows)
+route_in_rows rows =
+    route_by_names (first_of (codes "from") rows) (first_of (codes "pair") rows) (hops_in_rows rows)
 
 -- the command is one of the program's, and its options say something
 abbrev pub task_in_command : Option (Text × List Row) → Option Task

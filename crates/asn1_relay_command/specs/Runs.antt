@@ -1,5 +1,5 @@
--- What a run of the command does with its reader, whose octets are those that it still gives, and its writer, whose octets are those
--- that it holds, where these are known.
+-- What a run of the command does with its reader, whose octets are those that it still gives, and its writer, whose
+-- octets are those that it holds, where these are known.
 use Rattle.std.specs.Prelude.{◌≡◌, ◌⊎◌, ℕ, List, Option, Some, None}
 use Rattle.std.specs.Io.KnownBytes.{Appends, Consumes, IsAtEnd, Keeps}
 use Rattle.asn1_model.specs.Schema.{Schema}
@@ -25,6 +25,10 @@ use Rattle.asn1_relay_command.specs.declared.fault.Fault.TheVariants as fault
 use Rattle.asn1_relay_command.specs.declared.fault.HopFault.{HopFault}
 use Rattle.asn1_relay_command.specs.declared.fault.HopFault.TheVariants as hop
 use Rattle.asn1_relay_command.specs.declared.order.Translation.{Translation}
+
+-- octets, where they are known
+abbrev pub Known : Type 0
+Known = Option (List ℕ)
 
 -- ---- translating
 
@@ -57,41 +61,44 @@ IsRefusedBy t message f = IsRefusedAs (schema_named t.kind) t message f
 -- ---- one message
 
 -- a reader gave all its octets
-pub record IsAllRead (old new : Option (List ℕ)) (message : List ℕ) : Type 0 where
+pub record IsAllRead (old new : Known) (message : List ℕ) : Type 0 where
   pub read : Consumes old new message
   pub ended : IsAtEnd new
 
 -- all was read, and this became of it
-pub record IsAnswered (t : Translation) (old new : Option (List ℕ)) (answer : Answer) : Type 0 where
+pub record IsAnswered (t : Translation) (old new : Known) (answer : Answer) : Type 0 where
   pub message : List ℕ
   pub read : IsAllRead old new message
   pub answers : Becomes t message answer
 
 -- octets that are right were written
-pub record IsWritten (IsRight : List ℕ → Type 0) (held held' : Option (List ℕ)) : Type 0 where
+pub record IsWritten (IsRight : List ℕ → Type 0) (held held' : Known) : Type 0 where
   pub octets : List ℕ
   pub right : IsRight octets
   pub wrote : Appends held held' octets
 
 -- of octets that are right a beginning was written, and then the writer failed
-pub record IsCutOff (IsRight : List ℕ → Type 0) (held held' : Option (List ℕ)) : Type 0 where
+pub record IsCutOff (IsRight : List ℕ → Type 0) (held held' : Known) : Type 0 where
   pub octets : List ℕ
   pub right : IsRight octets
   pub began : BeginsToAppend held held' octets
 
 -- all was read, and this is the translation of it
-abbrev pub IsTranslated : Translation → Option (List ℕ) → Option (List ℕ) → List ℕ → Type 0
+abbrev pub IsTranslated : Translation → Known → Known → List ℕ → Type 0
 IsTranslated t unread unread' octets = IsAnswered t unread unread' (answered octets)
 
 -- all was read and translated, and the answer was written
-abbrev pub DoesOnce : Translation → Option (List ℕ) → Option (List ℕ) → Option (List ℕ) → Option (List ℕ) → Type 0
+abbrev pub DoesOnce : Translation → Known → Known → Known → Known → Type 0
 DoesOnce t unread unread' held held' = IsWritten (IsTranslated t unread unread') held held'
 
 -- a fault before there is an answer leaves the writer as it was
-abbrev pub StopsOnceBy : Translation → Option (List ℕ) → Option (List ℕ) → Option (List ℕ) → Option (List ℕ) → Fault → Type 0
-StopsOnceBy t unread unread' held held' fault.NotAnEncoding = IsAnswered t unread unread' not_an_encoding × Keeps held held'
-StopsOnceBy t unread unread' held held' fault.SurplusOctets = IsAnswered t unread unread' surplus × Keeps held held'
-StopsOnceBy t unread unread' held held' fault.NoTargetEncoding = IsAnswered t unread unread' no_target × Keeps held held'
+abbrev pub StopsOnceBy : Translation → Known → Known → Known → Known → Fault → Type 0
+StopsOnceBy t unread unread' held held' fault.NotAnEncoding =
+    IsAnswered t unread unread' not_an_encoding × Keeps held held'
+StopsOnceBy t unread unread' held held' fault.SurplusOctets =
+    IsAnswered t unread unread' surplus × Keeps held held'
+StopsOnceBy t unread unread' held held' fault.NoTargetEncoding =
+    IsAnswered t unread unread' no_target × Keeps held held'
 StopsOnceBy t unread unread' held held' fault.OutOfMemory = Keeps held held'
 StopsOnceBy t unread unread' held held' fault.ReadFailed = Keeps held held'
 StopsOnceBy t unread unread' held held' fault.WriteFailed = IsCutOff (IsTranslated t unread unread') held held'
@@ -100,22 +107,27 @@ StopsOnceBy t unread unread' held held' _ = ⊥
 -- ---- a stream of messages
 
 -- all was read, to its end, and relayed to its end, by messages of a type; no call failed
-abbrev pub DoesStreamAs : Schema → Codec → Codec → ℕ → Option (List ℕ) → Option (List ℕ) → Option (List ℕ) → Option (List ℕ) → Type 0
-DoesStreamAs s from to limit unread unread' held held' = IsDone (rules_of from) (rules_of to) s limit (ends unread held 0 0) (ends unread' held' 0 0)
+abbrev pub DoesStreamAs : Schema → Codec → Codec → ℕ → Known → Known → Known → Known → Type 0
+DoesStreamAs s from to limit unread unread' held held' =
+    IsDone (rules_of from) (rules_of to) s limit (ends unread held 0 0) (ends unread' held' 0 0)
 
 -- the same by what was asked for
-abbrev pub DoesStream : Translation → ℕ → Option (List ℕ) → Option (List ℕ) → Option (List ℕ) → Option (List ℕ) → Type 0
-DoesStream t limit unread unread' held held' = DoesStreamAs (schema_named t.kind) t.from t.to limit unread unread' held held'
+abbrev pub DoesStream : Translation → ℕ → Known → Known → Known → Known → Type 0
+DoesStream t limit unread unread' held held' =
+    DoesStreamAs (schema_named t.kind) t.from t.to limit unread unread' held held'
 
 -- a fault stops it; so many calls failed
-pub record StopsStreamAs (s : Schema) (from to : Codec) (limit : ℕ) (unread unread' held held' : Option (List ℕ)) (reason : RunFault) : Type 0 where
+pub record StopsStreamAs (s : Schema) (from to : Codec) (limit : ℕ) (unread unread' held held' : Known)
+    (reason : RunFault) : Type 0 where
   pub reads : ℕ
   pub writes : ℕ
-  pub stops : RunFaultOf (rules_of from) (rules_of to) s limit (ends unread held 0 0) (ends unread' held' reads writes) reason
+  pub stops : RunFaultOf (rules_of from) (rules_of to) s limit
+      (ends unread held 0 0) (ends unread' held' reads writes) reason
 
 -- the same by what was asked for
-abbrev pub StopsStreamBy : Translation → ℕ → Option (List ℕ) → Option (List ℕ) → Option (List ℕ) → Option (List ℕ) → RunFault → Type 0
-StopsStreamBy t limit unread unread' held held' = StopsStreamAs (schema_named t.kind) t.from t.to limit unread unread' held held'
+abbrev pub StopsStreamBy : Translation → ℕ → Known → Known → Known → Known → RunFault → Type 0
+StopsStreamBy t limit unread unread' held held' =
+    StopsStreamAs (schema_named t.kind) t.from t.to limit unread unread' held held'
 
 abbrev pub run_fault_named : RunFault → Fault
 run_fault_named run_fault.Read = fault.ReadFailed
@@ -124,7 +136,7 @@ run_fault_named (run_fault.Relay at) = fault.AtMessage at
 run_fault_named run_fault.Memory = fault.OutOfMemory
 
 -- a fault of the run stops it, under the command's name for it
-pub record IsRunFault (t : Translation) (limit : ℕ) (unread unread' held held' : Option (List ℕ)) (f : Fault) : Type 0 where
+pub record IsRunFault (t : Translation) (limit : ℕ) (unread unread' held held' : Known) (f : Fault) : Type 0 where
   pub reason : RunFault
   pub is : f ≡ run_fault_named reason
   pub stops : StopsStreamBy t limit unread unread' held held' reason
@@ -150,9 +162,12 @@ route_fault_named f = fault.AtHop f.hop (hop_fault_named f.kind)
 
 -- a fault at a hop is what comes of the message, or want of memory at a hop that it reaches
 abbrev pub IsTurnedBackAs : Schema → Schema → Codec → List Hop → List ℕ → Fault → Type 0
-IsTurnedBackAs old new from hops message (fault.AtHop i hop.NotAnEncoding) = ComesAs old new from hops message (refused i not_an_encoding)
-IsTurnedBackAs old new from hops message (fault.AtHop i hop.SurplusOctets) = ComesAs old new from hops message (refused i surplus)
-IsTurnedBackAs old new from hops message (fault.AtHop i hop.NoTargetEncoding) = ComesAs old new from hops message (refused i no_target)
+IsTurnedBackAs old new from hops message (fault.AtHop i hop.NotAnEncoding) =
+    ComesAs old new from hops message (refused i not_an_encoding)
+IsTurnedBackAs old new from hops message (fault.AtHop i hop.SurplusOctets) =
+    ComesAs old new from hops message (refused i surplus)
+IsTurnedBackAs old new from hops message (fault.AtHop i hop.NoTargetEncoding) =
+    ComesAs old new from hops message (refused i no_target)
 IsTurnedBackAs old new from hops message (fault.AtHop i hop.OutOfMemory) = ReachesAs old new from hops message i
 IsTurnedBackAs old new from hops message _ = ⊥
 
@@ -164,24 +179,25 @@ abbrev pub IsTurnedBackBy : Route → List ℕ → Fault → Type 0
 IsTurnedBackBy r message f = IsTurnedBackAs (older_named r.pair) (newer_named r.pair) r.from r.hops message f
 
 -- all was read, and these octets come of it
-pub record IsSent (r : Route) (unread unread' : Option (List ℕ)) (octets : List ℕ) : Type 0 where
+pub record IsSent (r : Route) (unread unread' : Known) (octets : List ℕ) : Type 0 where
   pub message : List ℕ
   pub read : IsAllRead unread unread' message
   pub arrives : ComesBy r message (arrived octets)
 
 -- all was read and sent, and what arrived was written
-abbrev pub DoesRoute : Route → Option (List ℕ) → Option (List ℕ) → Option (List ℕ) → Option (List ℕ) → Type 0
+abbrev pub DoesRoute : Route → Known → Known → Known → Known → Type 0
 DoesRoute r unread unread' held held' = IsWritten (IsSent r unread unread') held held'
 
 -- all was read, and a hop turned it back
-pub record IsTurnedBack (r : Route) (unread unread' : Option (List ℕ)) (f : Fault) : Type 0 where
+pub record IsTurnedBack (r : Route) (unread unread' : Known) (f : Fault) : Type 0 where
   pub message : List ℕ
   pub read : IsAllRead unread unread' message
   pub refuses : IsTurnedBackBy r message f
 
 -- a fault before the message has arrived leaves the writer as it was
-abbrev pub StopsRouteBy : Route → Option (List ℕ) → Option (List ℕ) → Option (List ℕ) → Option (List ℕ) → Fault → Type 0
-StopsRouteBy r unread unread' held held' (fault.AtHop i kind) = IsTurnedBack r unread unread' (fault.AtHop i kind) × Keeps held held'
+abbrev pub StopsRouteBy : Route → Known → Known → Known → Known → Fault → Type 0
+StopsRouteBy r unread unread' held held' (fault.AtHop i kind) =
+    IsTurnedBack r unread unread' (fault.AtHop i kind) × Keeps held held'
 StopsRouteBy r unread unread' held held' fault.OutOfMemory = Keeps held held'
 StopsRouteBy r unread unread' held held' fault.ReadFailed = Keeps held held'
 StopsRouteBy r unread unread' held held' fault.WriteFailed = IsCutOff (IsSent r unread unread') held held'
@@ -189,12 +205,12 @@ StopsRouteBy r unread unread' held held' _ = ⊥
 
 -- ---- what was asked for
 
-abbrev pub Does : Task → Option (List ℕ) → Option (List ℕ) → Option (List ℕ) → Option (List ℕ) → Type 0
+abbrev pub Does : Task → Known → Known → Known → Known → Type 0
 Does (once t) unread unread' held held' = DoesOnce t unread unread' held held'
 Does (stream t limit) unread unread' held held' = DoesStream t limit unread unread' held held'
 Does (route r) unread unread' held held' = DoesRoute r unread unread' held held'
 
-abbrev pub StopsBy : Task → Option (List ℕ) → Option (List ℕ) → Option (List ℕ) → Option (List ℕ) → Fault → Type 0
+abbrev pub StopsBy : Task → Known → Known → Known → Known → Fault → Type 0
 StopsBy (once t) unread unread' held held' f = StopsOnceBy t unread unread' held held' f
 StopsBy (stream t limit) unread unread' held held' f = IsRunFault t limit unread unread' held held' f
 StopsBy (route r) unread unread' held held' f = StopsRouteBy r unread unread' held held' f
@@ -202,13 +218,13 @@ StopsBy (route r) unread unread' held held' f = StopsRouteBy r unread unread' he
 -- ---- statuses
 
 -- status 0: the command line asks for something, and that is done
-pub record HasDone (asked : Option Task) (unread unread' held held' : Option (List ℕ)) : Type 0 where
+pub record HasDone (asked : Option Task) (unread unread' held held' : Known) : Type 0 where
   pub task : Task
   pub asks : asked ≡ Some task
   pub done : Does task unread unread' held held'
 
 -- the command line asks for something, a fault stops it, and its line is written
-pub record IsStopped (asked : Option Task) (unread unread' held held' said said' : Option (List ℕ)) : Type 0 where
+pub record IsStopped (asked : Option Task) (unread unread' held held' said said' : Known) : Type 0 where
   pub task : Task
   pub asks : asked ≡ Some task
   pub reason : Fault
@@ -216,20 +232,23 @@ pub record IsStopped (asked : Option Task) (unread unread' held held' said said'
   pub says : BeginsToAppend said said' (line_of reason)
 
 -- nothing was read, and nothing written
-pub record IsUntouched (unread unread' held held' : Option (List ℕ)) : Type 0 where
+pub record IsUntouched (unread unread' held held' : Known) : Type 0 where
   pub unread_still : Keeps unread unread'
   pub held_still : Keeps held held'
 
 -- no memory was left to read the command line
-pub record IsUnasked (unread unread' held held' said said' : Option (List ℕ)) : Type 0 where
+pub record IsUnasked (unread unread' held held' said said' : Known) : Type 0 where
   pub untouched : IsUntouched unread unread' held held'
   pub says : BeginsToAppend said said' (line_of fault.OutOfMemory)
 
--- status 1: no memory was left to read the command line, or a fault stopped the run; the errors' writer took the line of it
-abbrev pub HasFailed : Option Task → Option (List ℕ) → Option (List ℕ) → Option (List ℕ) → Option (List ℕ) → Option (List ℕ) → Option (List ℕ) → Type 0
-HasFailed asked unread unread' held held' said said' = IsUnasked unread unread' held held' said said' ⊎ IsStopped asked unread unread' held held' said said'
+-- status 1: no memory was left to read the command line, or a fault stopped the run; the errors' writer took the line
+-- of it
+abbrev pub HasFailed : Option Task → Known → Known → Known → Known → Known → Known → Type 0
+HasFailed asked unread unread' held held' said said' =
+    IsUnasked unread unread' held held' said said'
+    ⊎ IsStopped asked unread unread' held held' said said'
 
 -- status 2: the command line asks for nothing
-pub record HasRefused (asked : Option Task) (unread unread' held held' : Option (List ℕ)) : Type 0 where
+pub record HasRefused (asked : Option Task) (unread unread' held held' : Known) : Type 0 where
   pub bad : asked ≡ None
   pub untouched : IsUntouched unread unread' held held'

@@ -1,7 +1,13 @@
 //! What a command line asks for.
-ghost use Rattle.std.specs.Prelude.{◌≡◌, ◌≢◌, ◌⊎◌, ◌≤◌, [], None, Some, IfErr, IfOk, IfSome, codes, false, map, option_and_then, option_map};
-ghost use Rattle.clap.specs.Words.{app_of, first_value, found_of, kind_of, one_text, rows_of, rule_of, subcommand_rows_of};
-ghost use Rattle.asn1_relay_command.specs.Orders.{CanBeDone, asked_by, codec_by_name, hop_by_name, hop_rule, hops_by_names, hops_in_rows, kind_by_name, limit_by_text, limit_rule, once_in_rows, option_rule, pair_by_name, program_app, route_app, route_by_names, route_in_rows, stream_in_rows, task_in_command, task_of, translating_app, translation_by_names};
+ghost use Rattle.std.specs.Prelude.{◌≡◌, ◌≢◌, ◌⊎◌, ◌≤◌, [], None, Some, IfErr, IfOk, IfSome, codes, false, map};
+ghost use Rattle.std.specs.Prelude.{option_and_then, option_map};
+ghost use Rattle.clap.specs.Words.{app_of, first_value, found_of, kind_of, one_text, rows_of, rule_of};
+ghost use Rattle.clap.specs.Words.{subcommand_rows_of};
+ghost use Rattle.asn1_relay_command.specs.Orders.{CanBeDone, asked_by, codec_by_name, hop_by_name, hop_rule};
+ghost use Rattle.asn1_relay_command.specs.Orders.{hops_by_names, hops_in_rows, kind_by_name, limit_by_text};
+ghost use Rattle.asn1_relay_command.specs.Orders.{limit_rule, once_in_rows, option_rule, pair_by_name, program_app};
+ghost use Rattle.asn1_relay_command.specs.Orders.{route_app, route_by_names, route_in_rows, stream_in_rows};
+ghost use Rattle.asn1_relay_command.specs.Orders.{task_in_command, task_of, translating_app, translation_by_names};
 
 use asn1_relay_core::Codec;
 use asn1_relay_routes::{Hop, Version};
@@ -284,8 +290,8 @@ fn grammar<'a>(alloc: Global) -> Result<Command<'a>, AllocError>
 
 /// The translation that the options ask for, if each of them names something.
 fn translation_in(options: &ArgMatches<'_>) -> Option<Translation>
-    ensures { result ≡ translation_by_names (first_value (found_of options.now) (codes "from")) (first_value (found_of options.now) (codes "to"))
-        (first_value (found_of options.now) (codes "type")) }
+    ensures { result ≡ translation_by_names (first_value (found_of options.now) (codes "from"))
+        (first_value (found_of options.now) (codes "to")) (first_value (found_of options.now) (codes "type")) }
 {
     Some(Translation {
         from: codec_named(options.get_str("from")?)?,

@@ -8,7 +8,10 @@ ghost use Rattle.asn1_relay_streams.specs.Ends.{BeginsToAppend};
 ghost use Rattle.asn1_relay_command.specs.Lines.{line_of};
 ghost use Rattle.asn1_relay_routes.specs.Routing.{arrived};
 ghost use Rattle.asn1_relay_command.specs.Orders.{CanBeDone, asked_by, task_of};
-ghost use Rattle.asn1_relay_command.specs.Runs.{Becomes, BecomesAs, ComesAs, ComesBy, Does, DoesOnce, DoesRoute, DoesStream, DoesStreamAs, HasDone, HasFailed, HasRefused, IsAllRead, IsRefusedAs, IsRefusedBy, IsTurnedBackAs, IsTurnedBackBy, StopsBy, StopsOnceBy, StopsRouteBy, StopsStreamAs, StopsStreamBy};
+ghost use Rattle.asn1_relay_command.specs.Runs.{Becomes, BecomesAs, ComesAs, ComesBy, Does, DoesOnce, DoesRoute};
+ghost use Rattle.asn1_relay_command.specs.Runs.{DoesStream, DoesStreamAs, HasDone, HasFailed, HasRefused, IsAllRead};
+ghost use Rattle.asn1_relay_command.specs.Runs.{IsRefusedAs, IsRefusedBy, IsTurnedBackAs, IsTurnedBackBy, StopsBy};
+ghost use Rattle.asn1_relay_command.specs.Runs.{StopsOnceBy, StopsRouteBy, StopsStreamAs, StopsStreamBy};
 
 use crate::fault::Fault;
 use crate::order::{Kind, Order, Pair, Translation, read_order};
@@ -29,9 +32,10 @@ use std::alloc::Global;
 use std::convert::AsStr;
 use std::io::{self, ErrorKind, Read, Write};
 
-/// Runs the program on a command line, whose first word is the program's name, and answers its exit status: 0 when the answer was
-/// written and flushed, 1 when the input could not be read or translated, the answer not written, or no memory was left (not even to read
-/// the command line), and 2 for a bad command line. At status 1 the line of the fault is written to `errors`, one line; at 2 a text.
+/// Runs the program on a command line, whose first word is the program's name, and answers its exit status: 0 when all
+/// was read and the answer written and flushed, 1 when the input could not be read or translated, the answer not
+/// written, or no memory was left (not even to read the command line), and 2 for a bad command line. At status 1 the
+/// line of the fault is written to `errors`, one line; at 2 a text.
 pub fn command<S: AsStr, R: Read, W: Write, E: Write>(
     alloc: Global,
     words: &[S],
@@ -40,13 +44,14 @@ pub fn command<S: AsStr, R: Read, W: Write, E: Write>(
     errors: &mut E,
 ) -> u8
     ensures status { result ≤ 2 }
-    ensures done { result ≡ 0 → HasDone (asked_by (map S.text words.now)) (R.remaining input.old) (R.remaining input.new)
-        (W.contents output.old) (W.contents output.new) }
+    ensures done { result ≡ 0 → HasDone (asked_by (map S.text words.now))
+        (R.remaining input.old) (R.remaining input.new) (W.contents output.old) (W.contents output.new) }
     ensures quiet { result ≡ 0 → Keeps (E.contents errors.old) (E.contents errors.new) }
-    ensures failed { result ≡ 1 → HasFailed (asked_by (map S.text words.now)) (R.remaining input.old) (R.remaining input.new)
-        (W.contents output.old) (W.contents output.new) (E.contents errors.old) (E.contents errors.new) }
-    ensures bad { result ≡ 2 → HasRefused (asked_by (map S.text words.now)) (R.remaining input.old) (R.remaining input.new)
-        (W.contents output.old) (W.contents output.new) }
+    ensures failed { result ≡ 1 → HasFailed (asked_by (map S.text words.now))
+        (R.remaining input.old) (R.remaining input.new) (W.contents output.old) (W.contents output.new)
+        (E.contents errors.old) (E.contents errors.new) }
+    ensures bad { result ≡ 2 → HasRefused (asked_by (map S.text words.now))
+        (R.remaining input.old) (R.remaining input.new) (W.contents output.old) (W.contents output.new) }
 {
     let order = match read_order(alloc, words) {
         Ok(order) => order,
@@ -67,8 +72,10 @@ fn follow<R: Read, W: Write>(
 ) -> Result<(), Fault>
     requires { CanBeDone (task_of order) }
     ensures { MatchResult result
-        (λ _. Does (task_of order) (R.remaining input.old) (R.remaining input.new) (W.contents output.old) (W.contents output.new))
-        (StopsBy (task_of order) (R.remaining input.old) (R.remaining input.new) (W.contents output.old) (W.contents output.new)) }
+        (λ _. Does (task_of order)
+        (R.remaining input.old) (R.remaining input.new) (W.contents output.old) (W.contents output.new))
+        (StopsBy (task_of order)
+        (R.remaining input.old) (R.remaining input.new) (W.contents output.old) (W.contents output.new)) }
 {
     match order {
         Order::Once(translation) => once(alloc, translation, input, output),
@@ -85,7 +92,8 @@ fn follow<R: Read, W: Write>(
 /// Says that the program's arguments cannot be had, and answers the exit status: 1 when no memory was left for them, and 2 when one
 /// of them is no text.
 pub fn refuse_arguments<E: Write>(error: &io::Error, errors: &mut E) -> u8
-    ensures memory { error_kind error.now ≡ ErrorKind.OutOfMemory → (result ≡ 1) × BeginsToAppend (E.contents errors.old) (E.contents errors.new) (line_of Fault.OutOfMemory) }
+    ensures memory { error_kind error.now ≡ ErrorKind.OutOfMemory → (result ≡ 1)
+        × BeginsToAppend (E.contents errors.old) (E.contents errors.new) (line_of Fault.OutOfMemory) }
     ensures text { error_kind error.now ≢ ErrorKind.OutOfMemory → result ≡ 2 }
 {
     if error.kind() == ErrorKind::OutOfMemory {
@@ -97,7 +105,8 @@ pub fn refuse_arguments<E: Write>(error: &io::Error, errors: &mut E) -> u8
 
 /// Says what is wrong with a command line, and answers the exit status.
 fn refuse<E: Write>(error: &clap::Error, errors: &mut E) -> u8
-    ensures memory { kind_of error.now ≡ ParseErrorKind.OutOfMemory → (result ≡ 1) × BeginsToAppend (E.contents errors.old) (E.contents errors.new) (line_of Fault.OutOfMemory) }
+    ensures memory { kind_of error.now ≡ ParseErrorKind.OutOfMemory → (result ≡ 1)
+        × BeginsToAppend (E.contents errors.old) (E.contents errors.new) (line_of Fault.OutOfMemory) }
     ensures mistake { kind_of error.now ≢ ParseErrorKind.OutOfMemory → result ≡ 2 }
 {
     if error.kind() == ParseErrorKind::OutOfMemory {
@@ -124,8 +133,10 @@ fn once<R: Read, W: Write>(
     output: &mut W,
 ) -> Result<(), Fault>
     ensures { MatchResult result
-        (λ _. DoesOnce translation (R.remaining input.old) (R.remaining input.new) (W.contents output.old) (W.contents output.new))
-        (StopsOnceBy translation (R.remaining input.old) (R.remaining input.new) (W.contents output.old) (W.contents output.new)) }
+        (λ _. DoesOnce translation
+        (R.remaining input.old) (R.remaining input.new) (W.contents output.old) (W.contents output.new))
+        (StopsOnceBy translation
+        (R.remaining input.old) (R.remaining input.new) (W.contents output.old) (W.contents output.new)) }
 {
     let message = read_all(alloc, input)?;
     let answer = translate_all(alloc, translation, message.as_slice())?;
@@ -180,7 +191,8 @@ fn translate<T: Encode + Decode>(
     translation: Translation,
     message: &[u8],
 ) -> Result<Vec<u8>, Fault>
-    ensures { MatchResult result (λ v. BecomesAs (T.schema 128) translation message.now (answered v.items)) (IsRefusedAs (T.schema 128) translation message.now) }
+    ensures { MatchResult result (λ v. BecomesAs (T.schema 128) translation message.now (answered v.items))
+        (IsRefusedAs (T.schema 128) translation message.now) }
 {
     let octets = recode::<T>(alloc, translation.from, translation.to, message)?;
     Ok(octets)
@@ -196,7 +208,8 @@ pub fn translate_all(
     translation: Translation,
     message: &[u8],
 ) -> Result<Vec<u8>, Fault>
-    ensures { MatchResult result (λ v. Becomes translation message.now (answered v.items)) (IsRefusedBy translation message.now) }
+    ensures { MatchResult result (λ v. Becomes translation message.now (answered v.items))
+        (IsRefusedBy translation message.now) }
 {
     at_kind!(
         translation.kind,
@@ -214,8 +227,10 @@ fn stream_of<T: Encode + Decode, R: Read, W: Write>(
 ) -> Result<(), RunFault>
     requires { 1 ≤ limit }
     ensures { MatchResult result
-        (λ _. DoesStreamAs (T.schema 128) translation.from translation.to limit (R.remaining input.old) (R.remaining input.new) (W.contents output.old) (W.contents output.new))
-        (StopsStreamAs (T.schema 128) translation.from translation.to limit (R.remaining input.old) (R.remaining input.new) (W.contents output.old) (W.contents output.new)) }
+        (λ _. DoesStreamAs (T.schema 128) translation.from translation.to limit
+        (R.remaining input.old) (R.remaining input.new) (W.contents output.old) (W.contents output.new))
+        (StopsStreamAs (T.schema 128) translation.from translation.to limit
+        (R.remaining input.old) (R.remaining input.new) (W.contents output.old) (W.contents output.new)) }
 {
     let mut source = StdSource::new(input, u64::MAX);
     let mut sink = StdSink::new(output);
@@ -239,8 +254,10 @@ fn stream<R: Read, W: Write>(
 ) -> Result<(), RunFault>
     requires { 1 ≤ limit }
     ensures { MatchResult result
-        (λ _. DoesStream translation limit (R.remaining input.old) (R.remaining input.new) (W.contents output.old) (W.contents output.new))
-        (StopsStreamBy translation limit (R.remaining input.old) (R.remaining input.new) (W.contents output.old) (W.contents output.new)) }
+        (λ _. DoesStream translation limit
+        (R.remaining input.old) (R.remaining input.new) (W.contents output.old) (W.contents output.new))
+        (StopsStreamBy translation limit
+        (R.remaining input.old) (R.remaining input.new) (W.contents output.old) (W.contents output.new)) }
 {
     at_kind!(
         translation.kind,

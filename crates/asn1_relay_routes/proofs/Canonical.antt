@@ -1,15 +1,17 @@
 -- What comes of the canonical encoding of a value of the newer version, whatever depth its type is unfolded to.
-use Rattle.std.proofs.Common.{◌≡◌, ◌≢◌, ◌⊎◌, inl, inr, ℕ, zero, suc, ◌≤◌, List, [], ◌∷◌, Option, Some, None, IfSome, refl, sym, ◌∙◌, ap, subst}
+use Rattle.std.proofs.Common.{◌≡◌, ◌≢◌, ◌⊎◌, inl, inr, ℕ, zero, suc, ◌≤◌, List, [], ◌∷◌, Option, Some, None, IfSome, arith, refl, sym, ◌∙◌, ap, subst}
 use Rattle.asn1_model.specs.Schema.{Schema}
 use Rattle.asn1_model.specs.Value.{Value, depth}
 use Rattle.asn1_model.specs.Lawful.{IsLawful}
 use Rattle.asn1_model.specs.Rules.{Rules, canonical}
+use Rattle.asn1_model.specs.Versions.{Extends}
+use Rattle.asn1_schema_versions.specs.Versions.{ExtendsFrom, Unfolds}
 use Rattle.asn1_laws_unfolding.specs.Unfolding.{AgreesTo}
 use Rattle.asn1_laws_unfolding.proofs.Unfolding.{means_the_same}
 use Rattle.asn1_laws_routes.specs.Answers.{IsMessage, Answer, answered, not_an_encoding, surplus, no_target, IsAnswer}
 use Rattle.asn1_laws_routes.specs.Routes.{Version, older, newer, Hop, schema_of, Arrives, RefusesAt, Passed, Stage, at_first, behind, Writes, IsLastWritten}
 use Rattle.asn1_laws_routes.proofs.Routes.{free_arrives, arrives_free, arrives_last, fails_refuses, refuses_fails}
-use Rattle.asn1_relay_routes.specs.Routing.{Outcome, arrived, refused, IsOutcome, IsCanonicalOf, IsTold}
+use Rattle.asn1_relay_routes.specs.Routing.{Outcome, arrived, refused, IsOutcome, IsTold}
 use Rattle.asn1_relay_routes.proofs.Outcomes.{one_outcome}
 
 some_is : {X : Type 0} {x y : X} → Some x ≡ Some y → x ≡ y
@@ -60,7 +62,17 @@ module _ (old new : Schema) (v : Value) where
   last_once p (h ∷ []) x y a b = written_once p.passed h x y a b
   last_once p (h ∷ g ∷ hops) x y a b = last_once (behind p h) (g ∷ hops) x y a b
 
-module _ (old new : Schema) (k : IsLawful old) (l : IsLawful new) (from : Rules) (hops : List Hop) (w : List ℕ) (some : hops ≢ []) (s t : Schema) (v : Value) (c : IsCanonicalOf old new from w s t v) where
+-- The octets are the canonical encoding of a value of the newer version. Both types are unfolded as deep as is wanted for it, and agree with those of the
+-- hops in what these read.
+record IsUnfolded (old new : Schema) (from : Rules) (w : List ℕ) (s t : Schema) (v : Value) : Type 0 where
+  is_lawful_older : IsLawful s
+  is_lawful_newer : IsLawful t
+  extends : Extends s t
+  agrees_older : AgreesTo 128 old s
+  agrees_newer : AgreesTo 128 new t
+  is_encoding : canonical from t v ≡ Some w
+
+module _ (old new : Schema) (k : IsLawful old) (l : IsLawful new) (from : Rules) (hops : List Hop) (w : List ℕ) (some : hops ≢ []) (s t : Schema) (v : Value) (c : IsUnfolded old new from w s t v) where
   -- what comes of the octets is what the value tells
   told_of : (o : Outcome) → IsOutcome s t from hops w o → IsTold s t from hops v o
   told_of (arrived out) p = (arrives_free s t c.is_lawful_older c.is_lawful_newer c.extends v from hops w c.is_encoding out p, arrives_last s t c.is_lawful_older c.is_lawful_newer c.extends v from hops w c.is_encoding some out p)
@@ -77,10 +89,29 @@ module _ (old new : Schema) (k : IsLawful old) (l : IsLawful new) (from : Rules)
   alike : (o : Outcome) → IsOutcome old new from hops w o → IsOutcome s t from hops w o
   alike o p = outcome_alike old new s t k l c.is_lawful_older c.is_lawful_newer c.agrees_older c.agrees_newer from hops w o p
 
-  pub is_told : (x : Option Outcome) → IfSome x (IsOutcome old new from hops w) → IfSome x (IsTold s t from hops v)
-  is_told None r = tt
-  is_told (Some o) r = told_of o (alike o r)
+  told_unfolded : (x : Option Outcome) → IfSome x (IsOutcome old new from hops w) → IfSome x (IsTold s t from hops v)
+  told_unfolded None r = tt
+  told_unfolded (Some o) r = told_of o (alike o r)
 
-  pub only_told : (x : Option Outcome) → IfSome x (IsOutcome old new from hops w) → (o : Outcome) → IsTold s t from hops v o → (x ≡ None) ⊎ (x ≡ Some o)
-  only_told None r o p = inl refl
-  only_told (Some x) r o p = inr (ap Some (one_outcome s t c.is_lawful_older c.is_lawful_newer from hops w x o (alike x r) (of_told o p)))
+  only_unfolded : (x : Option Outcome) → IfSome x (IsOutcome old new from hops w) → (o : Outcome) → IsTold s t from hops v o → (x ≡ None) ⊎ (x ≡ Some o)
+  only_unfolded None r o p = inl refl
+  only_unfolded (Some x) r o p = inr (ap Some (one_outcome s t c.is_lawful_older c.is_lawful_newer from hops w x o (alike x r) (of_told o p)))
+
+module _ (old new : ℕ → Schema) (k : (n : ℕ) → IsLawful (old n)) (l : (n : ℕ) → IsLawful (new n)) (x : ExtendsFrom 128 old new) (y : Unfolds old) (z : Unfolds new) (from : Rules) (hops : List Hop) (w : List ℕ) (some : hops ≢ []) (n : ℕ) (v : Value) (c : (128 ≤ n) × (canonical from (new n) v ≡ Some w)) where
+  unfolded : IsUnfolded (old 128) (new 128) from w (old n) (new n) v
+  unfolded =
+      let h : 128 ≤ 128 = omega arith in
+      record {
+        is_lawful_older = k n;
+        is_lawful_newer = l n;
+        extends = x.unfolded n c.0;
+        agrees_older = y.alike 128 128 n h c.0;
+        agrees_newer = z.alike 128 128 n h c.0;
+        is_encoding = c.1;
+      }
+
+  pub is_told : (o : Option Outcome) → IfSome o (IsOutcome (old 128) (new 128) from hops w) → IfSome o (IsTold (old n) (new n) from hops v)
+  is_told o r = told_unfolded (old 128) (new 128) (k 128) (l 128) from hops w some (old n) (new n) v unfolded o r
+
+  pub only_told : (o : Option Outcome) → IfSome o (IsOutcome (old 128) (new 128) from hops w) → (q : Outcome) → IsTold (old n) (new n) from hops v q → (o ≡ None) ⊎ (o ≡ Some q)
+  only_told o r q p = only_unfolded (old 128) (new 128) (k 128) (l 128) from hops w some (old n) (new n) v unfolded o r q p

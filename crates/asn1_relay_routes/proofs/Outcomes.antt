@@ -84,8 +84,8 @@ module _ (old new : Schema) (from : Codec) (hops : List Hop) (input : List ℕ) 
   PassedBy rules octets i = HasPassed old new (rules_of from) (hops_of hops) input (rules_of rules) (hops_of (drop i hops)) octets i
 
   -- What comes of the input.
-  abbrev pub Comes : Outcome → Type 0
-  Comes o = IsOutcome old new (rules_of from) (hops_of hops) input o
+  abbrev pub ComesOf : Outcome → Type 0
+  ComesOf o = IsOutcome old new (rules_of from) (hops_of hops) input o
 
   -- the hop that is next
   abbrev at_place : ℕ → Hop
@@ -119,19 +119,19 @@ module _ (old new : Schema) (from : Codec) (hops : List Hop) (input : List ℕ) 
         let q' : HopAnswers old new (rules_of rules) (hop_of (at_place i)) octets a = subst (λ w. HopAnswers old new (rules_of rules) (hop_of (at_place i)) w a) is_read q in
         subst (λ n. RefusesAt old new (rules_of from) (hops_of hops) input n a) (let z : i + 0 ≡ i = omega arith in z) ((next_is rules octets i l p).outcome (refused 0 a) (r, q'))
 
-    told : (k : RouteFaultKind) → IfSome (answer_of_kind k) Answers → IfSome (option_map (λ a. refused i a) (answer_of_kind k)) Comes
+    told : (k : RouteFaultKind) → IfSome (answer_of_kind k) Answers → IfSome (option_map (λ a. refused i a) (answer_of_kind k)) ComesOf
     told (Read x) q = stops not_an_encoding tt q
     told Surplus q = stops surplus tt q
     told (NoTarget x) q = stops no_target tt q
     told Memory q = tt
 
-    pub refused_there : {X : Type 0} (r : Result (Vec ℕ X) RouteFault) (f : RouteFault) → IsErrAnd r (λ y. y ≡ f) → f.hop ≡ i → IfSome (answer_of_kind f.kind) Answers → IfSome (outcome_of r) Comes
-    refused_there r f e n q = as_err Comes r f e (subst (λ m. IfSome (option_map (λ a. refused m a) (answer_of_kind f.kind)) Comes) (sym n) (told f.kind q))
+    pub refused_there : {X : Type 0} (r : Result (Vec ℕ X) RouteFault) (f : RouteFault) → IsErrAnd r (λ y. y ≡ f) → f.hop ≡ i → IfSome (answer_of_kind f.kind) Answers → IfSome (outcome_of r) ComesOf
+    refused_there r f e n q = as_err ComesOf r f e (subst (λ m. IfSome (option_map (λ a. refused m a) (answer_of_kind f.kind)) ComesOf) (sym n) (told f.kind q))
 
     pub is_reached : (f : RouteFault) → f.hop ≡ i → Reaches old new (rules_of from) (hops_of hops) input f.hop
     is_reached f n = subst (λ m. Reaches old new (rules_of from) (hops_of hops) input m) (let z : i + 0 ≡ f.hop = omega arith in z) ((next_is rules octets i l p).reaches 0 tt)
 
   -- what is right is the only outcome
-  pub only_outcome : IsLawful old → IsLawful new → (x : Option Outcome) → IfSome x Comes → (o : Outcome) → Comes o → (x ≡ None) ⊎ (x ≡ Some o)
+  pub only_outcome : IsLawful old → IsLawful new → (x : Option Outcome) → IfSome x ComesOf → (o : Outcome) → ComesOf o → (x ≡ None) ⊎ (x ≡ Some o)
   only_outcome k l None r o q = inl refl
   only_outcome k l (Some x) r o q = inr (ap Some (one_outcome old new k l (rules_of from) (hops_of hops) input x o r q))

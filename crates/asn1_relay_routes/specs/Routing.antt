@@ -1,16 +1,16 @@
 -- What comes of a message on a route.
-use Rattle.std.specs.Prelude.{◌≡◌, ℕ, zero, suc, List, [], ◌∷◌, map, Option, Some, None, option_map, Result, Ok, Err, Vec}
+use Rattle.std.specs.Prelude.{◌≡◌, ◌⊎◌, ◌≤◌, ℕ, zero, suc, List, [], ◌∷◌, map}
+use Rattle.std.specs.Prelude.{Option, Some, None, option_map, Result, Ok, Err, Vec}
 use Rattle.asn1_model.specs.Schema.{Schema}
-use Rattle.asn1_model.specs.Lawful.{IsLawful}
 use Rattle.asn1_model.specs.Rules.{Rules, canonical}
 use Rattle.asn1_model.specs.Value.{Value}
-use Rattle.asn1_model.specs.Versions.{Extends}
 use Rattle.asn1_schema_faults.specs.declared.DecodeError.TheVariants as Decoding
 use Rattle.asn1_schema_faults.specs.declared.EncodeError.TheVariants as Encoding
 use Rattle.asn1_laws_routes.specs.Answers.{Answer, answered, not_an_encoding, surplus, no_target}
 use Rattle.asn1_laws_routes.specs.Routes as Model
-use Rattle.asn1_laws_routes.specs.Routes.{HopAnswers, Arrives, RefusesAt, at_first, GoesThrough, FailsAt, IsLastWritten}
-use Rattle.asn1_laws_unfolding.specs.Unfolding.{AgreesTo}
+use Rattle.asn1_laws_routes.specs.Routes.{HopAnswers, Arrives, RefusesAt}
+use Rattle.asn1_laws_routes.specs.Routes.{at_first, GoesThrough, FailsAt, IsLastWritten}
+use Rattle.asn1_relay_core.specs.declared.codec.Codec.{Codec}
 use Rattle.asn1_relay_core.specs.declared.translation.RecodeFault.{RecodeFault}
 use Rattle.asn1_relay_core.specs.declared.translation.RecodeFault.TheVariants as recoding
 use Rattle.asn1_relay_core.specs.Coding.{rules_of}
@@ -54,6 +54,20 @@ Reaches old new from (h ∷ hops) w zero = Unit {0}
 Reaches old new from (h ∷ hops) w (suc i) =
     (x : List ℕ) × HopAnswers old new from h w (answered x) × Reaches old new h.to hops x i
 
+-- ---- the same in the terms of the program: of two types, at the 128 levels that a hop reads
+
+-- What a hop answers to octets.
+abbrev pub Answers : (ℕ → Schema) → (ℕ → Schema) → Codec → Hop → List ℕ → Answer → Type 0
+Answers old new from hop w a = HopAnswers (old 128) (new 128) (rules_of from) (hop_of hop) w a
+
+-- What comes of octets.
+abbrev pub Comes : (ℕ → Schema) → (ℕ → Schema) → Codec → List Hop → List ℕ → Outcome → Type 0
+Comes old new from hops w o = IsOutcome (old 128) (new 128) (rules_of from) (hops_of hops) w o
+
+-- There is a hop at this place, and all in front of it answer.
+abbrev pub IsReached : (ℕ → Schema) → (ℕ → Schema) → Codec → List Hop → List ℕ → ℕ → Type 0
+IsReached old new from hops w i = Reaches (old 128) (new 128) (rules_of from) (hops_of hops) w i
+
 -- ---- what was answered, where memory was left
 
 -- Why a hop refuses.
@@ -73,6 +87,10 @@ abbrev pub outcome_of : {Z : Type 0} → Result (Vec ℕ Z) RouteFault → Optio
 outcome_of (Ok octets) = Some (arrived octets.items)
 outcome_of (Err fault) = option_map (λ a. refused fault.hop a) (answer_of_kind fault.kind)
 
+-- This came of it, or memory was wanting.
+abbrev pub IsOrLacksMemory : Option Outcome → Outcome → Type 0
+IsOrLacksMemory came o = (came ≡ None) ⊎ (came ≡ Some o)
+
 -- Want of memory is a kind of its own, and stands within no other.
 abbrev pub NamesMemoryAlone : RouteFaultKind → Type 0
 NamesMemoryAlone (Read Decoding.OutOfMemory) = ⊥
@@ -88,19 +106,19 @@ kind_of_fault recoding.Memory = Memory
 
 -- ---- what comes of a canonical encoding
 
--- The octets are the canonical encoding of a value of the newer version. Both types are unfolded as deep as is wanted for it: in what nests at
--- most 128 levels, which is what hops read, they agree with those of the hops.
-pub record IsCanonicalOf (old new : Schema) (from : Rules) (w : List ℕ) (older newer : Schema) (v : Value) : Type 0 where
-  pub is_lawful_older : IsLawful older
-  pub is_lawful_newer : IsLawful newer
-  pub extends : Extends older newer
-  pub agrees_older : AgreesTo 128 old older
-  pub agrees_newer : AgreesTo 128 new newer
-  pub is_encoding : canonical from newer v ≡ Some w
+-- The octets are the canonical encoding of a value of a type, unfolded to so many levels, those that a hop reads or
+-- more.
+abbrev pub IsCanonicalOf : Codec → (ℕ → Schema) → ℕ → Value → List ℕ → Type 0
+IsCanonicalOf from schema n v w = (128 ≤ n) × (canonical (rules_of from) (schema n) v ≡ Some w)
 
--- What comes of it, as the value tells: it arrives where no cause holds at any hop, as the canonical encoding, in the rules of the last hop, of the
--- value that this writes; and else the first hop at which a cause holds refuses it, as the cause says.
+-- What comes of the canonical encoding of a value of the newer version, as the value tells: it arrives where no cause
+-- holds at any hop, as the canonical encoding, in the rules of the last hop, of the value that this writes; and else
+-- the first hop at which a cause holds refuses it, as the cause says.
 abbrev pub IsTold : Schema → Schema → Rules → List Model.Hop → Value → Outcome → Type 0
 IsTold old new from hops v (arrived out) =
     GoesThrough old new (at_first from) hops v × IsLastWritten old new (at_first from) hops v out
 IsTold old new from hops v (refused i a) = FailsAt old new (at_first from) hops v i a
+
+-- The same of the types of the program, unfolded to so many levels.
+abbrev pub IsToldBy : (ℕ → Schema) → (ℕ → Schema) → Codec → List Hop → ℕ → Value → Outcome → Type 0
+IsToldBy old new from hops n v o = IsTold (old n) (new n) (rules_of from) (hops_of hops) v o

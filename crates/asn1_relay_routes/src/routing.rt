@@ -1,10 +1,8 @@
 //! Messages that go from hop to hop.
-ghost use Rattle.std.specs.Prelude.{◌≡◌, ◌≢◌, ◌⊎◌, [], None, Some, IfErr, IfSome};
-ghost use Rattle.asn1_model.specs.Schema.{Schema};
+ghost use Rattle.std.specs.Prelude.{◌≡◌, ◌≢◌, ℕ, [], IfErr, IfSome};
 ghost use Rattle.asn1_model.specs.Value.{Value};
-ghost use Rattle.asn1_laws_routes.specs.Routes.{HopAnswers};
-ghost use Rattle.asn1_relay_core.specs.Coding.{rules_of};
-ghost use Rattle.asn1_relay_routes.specs.Routing.{Outcome, IsCanonicalOf, IsOutcome, IsTold, Reaches, NamesMemoryAlone, answer_of_hop, hop_of, hops_of, outcome_of};
+ghost use Rattle.asn1_relay_routes.specs.Routing.{Outcome, Answers, Comes, IsReached, IsCanonicalOf, IsToldBy};
+ghost use Rattle.asn1_relay_routes.specs.Routing.{IsOrLacksMemory, NamesMemoryAlone, answer_of_hop, outcome_of};
 
 use crate::fault::{RouteFault, RouteFaultKind};
 use crate::hop::{Hop, Version};
@@ -14,23 +12,26 @@ use asn1_schema_encode::Encode;
 use asn1_schema_versions::Extends;
 use std::alloc::Global;
 
-/// Sends a message from hop to hop: the first hop reads it by the rules `from`, each further one reads what the hop in front of it wrote, and
-/// each writes the canonical encoding of what it has read by its own rules. A hop reads and writes the type of its version, `Old` or `New`: it is
-/// a translation by `recode`, and the route is the chain of these translations.
+/// Sends a message from hop to hop: the first hop reads it by the rules `from`, each further one reads what the hop in
+/// front of it wrote, and each writes the canonical encoding of what it has read by its own rules. A hop reads and
+/// writes the type of its version, `Old` or `New`: it is a translation by `recode`, and the route is the chain of
+/// these.
 ///
-/// The outcome is the right one, and the only one, so each fault comes exactly where it should, and names the first hop that refuses; only want of
-/// memory may come in place of what would have followed, always as `RouteFaultKind::Memory`.
+/// The outcome is the right one, and the only one, so each fault comes exactly where it should, and names the first
+/// hop that refuses; only want of memory may come in place of what would have followed, always as
+/// `RouteFaultKind::Memory`.
 ///
-/// The canonical encoding of a value of the newer version arrives as that, by the rules of the last hop, of the value without what an older hop on
-/// the way did not know. It is refused at a hop for five causes alone: the first older hop lacks an alternative or an item that stands outside what
-/// it leaves out; what the first hop of all reads nests over 128 levels; the first older hop reads COER, and by the loss a part is at its default; a
-/// newer hop behind an older one requires a part that was lost; or what a hop writes has no encoding in its rules.
+/// The canonical encoding of a value of the newer version arrives as that, by the rules of the last hop, of the value
+/// without what an older hop on the way did not know. It is refused at a hop for five causes alone: the first older
+/// hop lacks an alternative or an item that stands outside what it leaves out; what the first hop of all reads nests
+/// over 128 levels; the first older hop reads COER, and by the loss a part is at its default; a newer hop behind an
+/// older one requires a part that was lost; or what a hop writes has no encoding in its rules.
 ///
 /// # Errors
 ///
-/// `Read` where no octets in front of what the hop reads are an encoding of a value of its version that nests at most 128 levels, `Surplus` where
-/// octets stand behind one, `NoTarget` where the value has no encoding in the rules of the hop, and `Memory` for want of memory. All hops in front
-/// of the fault's one have answered.
+/// `Read` where no octets in front of what the hop reads are an encoding of a value of its version that nests at most
+/// 128 levels, `Surplus` where octets stand behind one, `NoTarget` where the value has no encoding in the rules of the
+/// hop, and `Memory` for want of memory. All hops in front of the fault's one have answered.
 pub fn route<Old: Encode + Decode, New: Encode + Decode + Extends<Old>>(
     alloc: Global,
     hops: &[Hop],
@@ -38,15 +39,15 @@ pub fn route<Old: Encode + Decode, New: Encode + Decode + Extends<Old>>(
     input: &[u8],
 ) -> Result<Vec<u8>, RouteFault>
     requires { hops.now ≢ [] }
-    ensures right { IfSome (outcome_of result) (IsOutcome (Old.schema 128) (New.schema 128) (rules_of from) (hops_of hops.now) input.now) }
-    ensures exact { (o : Outcome) → IsOutcome (Old.schema 128) (New.schema 128) (rules_of from) (hops_of hops.now) input.now o
-        → (outcome_of result ≡ None) ⊎ (outcome_of result ≡ Some o) }
-    ensures told { (older newer : Schema) (v : Value) → IsCanonicalOf (Old.schema 128) (New.schema 128) (rules_of from) input.now older newer v
-        → IfSome (outcome_of result) (IsTold older newer (rules_of from) (hops_of hops.now) v) }
-    ensures only_told { (older newer : Schema) (v : Value) (o : Outcome) → IsCanonicalOf (Old.schema 128) (New.schema 128) (rules_of from) input.now older newer v
-        → IsTold older newer (rules_of from) (hops_of hops.now) v o → (outcome_of result ≡ None) ⊎ (outcome_of result ≡ Some o) }
+    ensures right { IfSome (outcome_of result) (Comes Old.schema New.schema from hops.now input.now) }
+    ensures exact { (o : Outcome) → Comes Old.schema New.schema from hops.now input.now o
+        → IsOrLacksMemory (outcome_of result) o }
+    ensures told { (n : ℕ) (v : Value) → IsCanonicalOf from New.schema n v input.now
+        → IfSome (outcome_of result) (IsToldBy Old.schema New.schema from hops.now n v) }
+    ensures only_told { (n : ℕ) (v : Value) (o : Outcome) → IsCanonicalOf from New.schema n v input.now
+        → IsToldBy Old.schema New.schema from hops.now n v o → IsOrLacksMemory (outcome_of result) o }
     ensures memory { IfErr result (λ fault. NamesMemoryAlone fault.kind) }
-    ensures reached { IfErr result (λ fault. Reaches (Old.schema 128) (New.schema 128) (rules_of from) (hops_of hops.now) input.now fault.hop) }
+    ensures reached { IfErr result (λ fault. IsReached Old.schema New.schema from hops.now input.now fault.hop) }
 {
     let mut octets = pass::<Old, New>(alloc, 0, from, hops[0], input)?;
     let mut rules = hops[0].to;
@@ -66,7 +67,7 @@ fn pass<Old: Encode + Decode, New: Encode + Decode>(
     hop: Hop,
     input: &[u8],
 ) -> Result<Vec<u8>, RouteFault>
-    ensures right { IfSome (answer_of_hop result) (HopAnswers (Old.schema 128) (New.schema 128) (rules_of from) (hop_of hop) input.now) }
+    ensures right { IfSome (answer_of_hop result) (Answers Old.schema New.schema from hop input.now) }
     ensures memory { IfErr result (λ fault. NamesMemoryAlone fault.kind) }
     ensures named { IfErr result (λ fault. fault.hop ≡ place) }
 {

@@ -1,4 +1,4 @@
-//! Tests of the program's command, with readers and writers that fail, and of values of types of a program's own.
+//! Tests of the program's command and of streams, with readers and writers that fail, and of values of types of a program's own.
 #![tactic(auto)]
 
 #[cfg(test)]
@@ -12,7 +12,11 @@ mod many_alternatives;
 #[cfg(test)]
 mod records;
 #[cfg(test)]
+mod routes;
+#[cfg(test)]
 mod rows;
+#[cfg(test)]
+mod streams;
 #[cfg(test)]
 mod tables;
 #[cfg(test)]

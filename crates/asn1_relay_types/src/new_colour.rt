@@ -132,6 +132,11 @@ impl Decode for NewColour {
 /// What the other version has, and blue behind its mark.
 impl Extends<OldColour> for NewColour {
     ghost use Rattle.asn1_schema_versions.proofs.Fields.{gains_items};
+    ghost use Rattle.asn1_schema_versions.proofs.Unfolding.{constant_unfolds};
 
     ghost extends = { gains_items (pos 1 ∷ []) };
+
+    ghost old_unfolds = { constant_unfolds };
+
+    ghost unfolds = { constant_unfolds };
 }

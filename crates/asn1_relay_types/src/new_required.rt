@@ -165,6 +165,11 @@ impl Decode for NewRequired {
 /// What the other version has, and `r` behind its mark.
 impl Extends<Old> for NewRequired {
     ghost use Rattle.asn1_schema_versions.proofs.Fields.{gains_additions};
+    ghost use Rattle.asn1_schema_versions.proofs.Unfolding.{constant_unfolds, field_unfolds, no_fields_unfold, sequence_unfolds};
 
     ghost extends = { gains_additions _ ⟦<Additions as AdditionsOf>⟧.additions ⟦<Old as Described>⟧.typed.lawful refl };
+
+    ghost old_unfolds = { sequence_unfolds _ (field_unfolds constant_unfolds no_fields_unfold) no_fields_unfold };
+
+    ghost unfolds = { sequence_unfolds _ (field_unfolds constant_unfolds no_fields_unfold) (field_unfolds constant_unfolds no_fields_unfold) };
 }
