@@ -126,6 +126,14 @@ fn put_alternative<E: Writer>(
     encoder.end()
 }
 
+/// Writes a truth value, true, or none.
+fn put_flag<E: Writer>(encoder: &mut E, has_flag: bool) -> Result<(), EncodeError> {
+    if has_flag {
+        return true.encode(encoder);
+    }
+    Ok(())
+}
+
 /// Writes a sequence whose one addition is a string, with a truth value in front of it or without.
 fn put_string<E: Writer>(
     encoder: &mut E,
@@ -134,9 +142,7 @@ fn put_string<E: Writer>(
     string: &[u8],
 ) -> Result<(), EncodeError> {
     encoder.begin_sequence(Tag::SEQUENCE, true, 0)?;
-    if has_flag {
-        true.encode(encoder)?;
-    }
+    put_flag(encoder, has_flag)?;
     encoder.begin_additions(1)?;
     encoder.put_addition(true)?;
     let tag = Tag::OCTET_STRING;
@@ -160,6 +166,16 @@ fn put<E: Writer>(
     }
 }
 
+/// Whether so many additions are absent.
+fn are_absent<D: Reader>(decoder: &mut D, count: usize) -> Result<bool, DecodeError> {
+    for _ in 0..count {
+        if decoder.get_addition()? {
+            return Ok(false);
+        }
+    }
+    Ok(true)
+}
+
 /// Whether this is `Message::LastOf`.
 fn is_last_of<D: Reader>(
     alloc: Global,
@@ -169,16 +185,12 @@ fn is_last_of<D: Reader>(
     decoder.begin_sequence(Tag::SEQUENCE, true, 0)?;
     let flag = bool::decode(alloc, decoder)?;
     decoder.begin_additions(count)?;
-    for _ in 1..count {
-        if decoder.get_addition()? {
-            return Ok(false);
-        }
-    }
+    let are_absent = are_absent(decoder, count.saturating_sub(1))?;
     let there = decoder.get_addition()?;
     let value = u8::decode(alloc, decoder)?;
     decoder.end_addition()?;
     decoder.end()?;
-    Ok(flag && there && value == 7)
+    Ok(flag && are_absent && there && value == 7)
 }
 
 /// Which alternative is chosen, and its value.
@@ -194,6 +206,30 @@ fn get_alternative<D: Reader>(
     Ok((chosen, value))
 }
 
+/// A truth value, if there is one.
+fn get_flag<D: Reader>(
+    alloc: Global,
+    decoder: &mut D,
+    has_flag: bool,
+) -> Result<bool, DecodeError> {
+    if has_flag {
+        return bool::decode(alloc, decoder);
+    }
+    Ok(true)
+}
+
+/// Whether this string stands here.
+fn is_string<D: Reader>(
+    alloc: Global,
+    decoder: &mut D,
+    constraints: Constraints<'_>,
+    string: &[u8],
+) -> Result<bool, DecodeError> {
+    let tag = Tag::OCTET_STRING;
+    let found = decoder.decode_octet_string(alloc, tag, constraints, Bounded::None)?;
+    Ok(found.octets() == string)
+}
+
 /// Whether this is such a sequence with this string.
 fn has_string<D: Reader>(
     alloc: Global,
@@ -203,12 +239,10 @@ fn has_string<D: Reader>(
     string: &[u8],
 ) -> Result<bool, DecodeError> {
     decoder.begin_sequence(Tag::SEQUENCE, true, 0)?;
-    let flag = !has_flag || bool::decode(alloc, decoder)?;
+    let flag = get_flag(alloc, decoder, has_flag)?;
     decoder.begin_additions(1)?;
     let there = decoder.get_addition()?;
-    let tag = Tag::OCTET_STRING;
-    let found = decoder.decode_octet_string(alloc, tag, constraints, Bounded::None)?;
-    let is_found = found.octets() == string;
+    let is_found = is_string(alloc, decoder, constraints, string)?;
     decoder.end_addition()?;
     decoder.end()?;
     Ok(flag && there && is_found)
@@ -249,17 +283,39 @@ fn written(
     encoder.output()
 }
 
-/// Whether a message, and nothing behind it, is read from octets.
+/// Whether a message, and nothing behind it, is read.
 fn is_read(
+    alloc: Global,
+    decoder: &mut Decoder<'_>,
+    (message, tags, string): (Message, &[Tag], &[u8]),
+) -> Result<bool, DecodeError> {
+    let is_message = is_message(alloc, decoder, message, tags, string)?;
+    decoder.finish()?;
+    Ok(is_message && decoder.input().is_empty())
+}
+
+/// Whether a message is written in these octets.
+fn is_written(
     alloc: Global,
     variant: Variant,
     (message, tags, string): (Message, &[Tag], &[u8]),
     octets: &[u8],
-) -> Result<bool, DecodeError> {
+) -> Result<bool, EncodeError> {
+    let written = written(alloc, variant, message, tags, string)?;
+    Ok(written.as_slice() == octets)
+}
+
+/// Whether a message is written in these octets, and read from them.
+fn stands_in(
+    alloc: Global,
+    variant: Variant,
+    message: (Message, &[Tag], &[u8]),
+    octets: &[u8],
+) -> Result<bool, Fail> {
+    let is_written = is_written(alloc, variant, message, octets)?;
     let mut decoder = Decoder::new(alloc, octets, DecoderOptions { variant });
-    let is_message = is_message(alloc, &mut decoder, message, tags, string)?;
-    decoder.finish()?;
-    Ok(is_message && decoder.input().is_empty())
+    let is_read = is_read(alloc, &mut decoder, message);
+    Ok(is_written && is_read == Ok(true))
 }
 
 /// Whether a message is written in the octets of its row, and read from them.
@@ -271,35 +327,43 @@ fn is_right(
     let tags = added_tags(alloc)?;
     let string = string_of(alloc, message)?;
     let octets = octets(alloc, spelled)?;
-    let written = written(alloc, variant, message, &tags, &string)?;
-    let is_written = written.as_slice() == octets.as_slice();
-    Ok(is_written && is_read(alloc, variant, (message, &tags, &string), &octets)?)
+    stands_in(alloc, variant, (message, &tags, &string), &octets)
+}
+
+/// The place of the first row that is wrong in a variant, if one is.
+fn wrong_row(
+    alloc: Global,
+    variant: Variant,
+    rows: &[(Message, &str)],
+) -> Result<Option<usize>, Fail> {
+    for (place, row) in rows.iter().enumerate() {
+        if !is_right(alloc, variant, *row)? {
+            return Ok(Some(place));
+        }
+    }
+    Ok(None)
 }
 
 #[test]
 fn messages(rt: HostRuntime) -> Result<(), Fail> {
-    for (place, row) in UNALIGNED.iter().enumerate() {
-        assert!(rt;
-            is_right(rt.alloc(), Variant::Unaligned, *row)?,
-            "row {place}"
-        );
-    }
-    for (place, row) in ALIGNED.iter().enumerate() {
-        assert!(rt;
-            is_right(rt.alloc(), Variant::Aligned, *row)?,
-            "aligned row {place}"
-        );
-    }
+    let unaligned = wrong_row(rt.alloc(), Variant::Unaligned, &UNALIGNED)?;
+    assert!(rt; unaligned == None, "{unaligned:?}");
+    let aligned = wrong_row(rt.alloc(), Variant::Aligned, &ALIGNED)?;
+    assert!(rt; aligned == None, "{aligned:?}");
     Ok(())
 }
 
 /// Whether the place of an alternative is refused.
+fn refuses(alloc: Global, decoder: &mut Decoder<'_>, tags: &[Tag]) -> bool {
+    get_alternative(alloc, decoder, tags) == Err(DecodeError::InvalidTagVariantOnChoice)
+}
+
+/// Whether the place of an alternative is refused in these octets.
 fn is_no_alternative(alloc: Global, variant: Variant, spelled: &str) -> Result<bool, Fail> {
     let tags = added_tags(alloc)?;
     let octets = octets(alloc, spelled)?;
     let mut decoder = Decoder::new(alloc, &octets, DecoderOptions { variant });
-    let answer = get_alternative(alloc, &mut decoder, &tags);
-    Ok(answer == Err(DecodeError::InvalidTagVariantOnChoice))
+    Ok(refuses(alloc, &mut decoder, &tags))
 }
 
 /// The last of 300 alternatives has the place 299.

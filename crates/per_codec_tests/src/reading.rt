@@ -96,16 +96,47 @@ fn nests_128_levels(decoder: &mut Decoder<'_>) -> Result<bool, DecodeError> {
     )
 }
 
+/// What a decoder is to do.
+#[derive(Clone, Copy, Debug)]
+enum Duty {
+    /// Fail where a bit is lacking.
+    Bit,
+    /// Fail where an alternative is none of three.
+    Alternative,
+    /// Take 128 levels, and not one more.
+    Levels,
+    /// Tell by which rules it reads.
+    Rules,
+}
+
+/// Whether a decoder does it.
+fn does(decoder: &mut Decoder<'_>, duty: Duty) -> bool {
+    match duty {
+        Duty::Bit => fails_for_good(decoder),
+        Duty::Alternative => lacks_an_alternative(decoder),
+        Duty::Levels => nests_128_levels(decoder) == Ok(true),
+        Duty::Rules => decoder.codec() == CodecKind::Aper,
+    }
+}
+
+/// Whether a decoder of these octets does it.
+fn is_done(alloc: Global, variant: Variant, octets: &[u8], duty: Duty) -> bool {
+    let mut decoder = Decoder::new(alloc, octets, DecoderOptions { variant });
+    does(&mut decoder, duty)
+}
+
 #[test]
-fn decoders_that_have_failed(rt: HostRuntime) -> Result<(), Fail> {
+fn decoders_that_have_failed(rt: HostRuntime) {
     let alloc = rt.alloc();
-    let unaligned = DecoderOptions::unaligned();
-    let aligned = DecoderOptions::aligned();
-    assert!(rt; fails_for_good(&mut Decoder::new(alloc, &[], unaligned)));
-    assert!(rt; lacks_an_alternative(&mut Decoder::new(alloc, &[0xC0], unaligned)));
-    assert!(rt; nests_128_levels(&mut Decoder::new(alloc, &[0x00], aligned))?);
-    assert!(rt; Decoder::new(alloc, &[], aligned).codec() == CodecKind::Aper);
-    Ok(())
+    let rows: [(Variant, &[u8], Duty); 4] = [
+        (Variant::Unaligned, &[], Duty::Bit),
+        (Variant::Unaligned, &[0xC0], Duty::Alternative),
+        (Variant::Aligned, &[0x00], Duty::Levels),
+        (Variant::Aligned, &[], Duty::Rules),
+    ];
+    for (variant, octets, duty) in rows {
+        assert!(rt; is_done(alloc, variant, octets, duty), "{duty:?}");
+    }
 }
 
 /// Whether the string of octets behind the first bit is lent by the message, and is these octets.
@@ -122,7 +153,8 @@ fn lends(alloc: Global, decoder: &mut Decoder<'_>, octets: &[u8]) -> Result<bool
 fn an_aligned_message_lends_its_octets(rt: HostRuntime) -> Result<(), Fail> {
     let alloc = rt.alloc();
     let input = [0x80, 0x03, 0x01, 0x02, 0x03];
-    let mut decoder = Decoder::new(alloc, &input, DecoderOptions::aligned());
-    assert!(rt; lends(alloc, &mut decoder, &[1, 2, 3])?);
+    let aligned = DecoderOptions::aligned();
+    let lent = lends(alloc, &mut Decoder::new(alloc, &input, aligned), &[1, 2, 3]);
+    assert!(rt; lent == Ok(true));
     Ok(())
 }
