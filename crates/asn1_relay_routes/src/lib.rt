@@ -3,9 +3,11 @@
 
 mod fault;
 mod hop;
+mod older_relay;
 mod routing;
 
 pub use asn1_schema_versions::Extends;
 pub use fault::{RouteFault, RouteFaultKind};
 pub use hop::{Hop, Version};
+pub use older_relay::older_relay_is_told;
 pub use routing::route;
