@@ -106,7 +106,8 @@ StopsOnceBy t unread unread' held held' _ = ⊥
 
 -- ---- a stream of messages
 
--- all was read, to its end, and relayed to its end, by messages of a type; no call failed
+-- all was read, to its end, and relayed to its end, by messages of a type. Std's readers and writers count no failed
+-- calls: those of the run are counted from 0 on, here and below
 abbrev pub DoesStreamAs : Schema → Codec → Codec → ℕ → Known → Known → Known → Known → Type 0
 DoesStreamAs s from to limit unread unread' held held' =
     IsDone (rules_of from) (rules_of to) s limit (ends unread held 0 0) (ends unread' held' 0 0)
@@ -116,7 +117,7 @@ abbrev pub DoesStream : Translation → ℕ → Known → Known → Known → Kn
 DoesStream t limit unread unread' held held' =
     DoesStreamAs (schema_named t.kind) t.from t.to limit unread unread' held held'
 
--- a fault stops it; so many calls failed
+-- a fault stops it
 pub record StopsStreamAs (s : Schema) (from to : Codec) (limit : ℕ) (unread unread' held held' : Known)
     (reason : RunFault) : Type 0 where
   pub reads : ℕ
