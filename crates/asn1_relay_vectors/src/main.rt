@@ -2,13 +2,13 @@
 //! that is wrong, and then how many there were; its status is 1 where one is wrong. docs/VECTORS.md has the form of a line.
 #![tactic(auto)]
 
+mod judged;
 mod judging;
 mod limits;
 mod line;
 mod named;
 mod octets;
-mod translating;
-mod types;
+mod streams;
 
 use crate::line::{Line, LineError};
 use crate::named::judge_named;

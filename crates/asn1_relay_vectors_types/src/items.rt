@@ -23,7 +23,7 @@ pub enum Tint {
 }
 
 impl Described for Tint {
-    ghost use Rattle.asn1_relay_vectors.specs.declared.types.items.Tint.TheVariants.{Red, Blue};
+    ghost use Rattle.asn1_relay_vectors_types.specs.declared.items.Tint.TheVariants.{Red, Blue};
 
     ghost tags = { record { class = 0; number = 10 } ∷ [] };
 
@@ -57,7 +57,7 @@ impl AsnType for Tint {
 }
 
 impl Enumerated for Tint {
-    ghost use Rattle.asn1_relay_vectors.specs.declared.types.items.Tint.TheVariants.{Red, Blue};
+    ghost use Rattle.asn1_relay_vectors_types.specs.declared.items.Tint.TheVariants.{Red, Blue};
 
     ghost roots = { pos 0 ∷ [] };
 
@@ -94,7 +94,7 @@ impl Enumerated for Tint {
 }
 
 impl EnumeratedType for Tint {
-    ghost use Rattle.asn1_relay_vectors.specs.declared.types.items.Tint.TheVariants.{Red, Blue};
+    ghost use Rattle.asn1_relay_vectors_types.specs.declared.items.Tint.TheVariants.{Red, Blue};
 
     ghost is_of = { λ _. refl };
 
@@ -136,7 +136,7 @@ pub enum Scale {
 }
 
 impl Described for Scale {
-    ghost use Rattle.asn1_relay_vectors.specs.declared.types.items.Scale.TheVariants.{Lowest, Below, Least, Zero, Most, Above, Highest};
+    ghost use Rattle.asn1_relay_vectors_types.specs.declared.items.Scale.TheVariants.{Lowest, Below, Least, Zero, Most, Above, Highest};
 
     ghost tags = { record { class = 0; number = 10 } ∷ [] };
 
@@ -170,7 +170,7 @@ impl AsnType for Scale {
 }
 
 impl Enumerated for Scale {
-    ghost use Rattle.asn1_relay_vectors.specs.declared.types.items.Scale.TheVariants.{Lowest, Below, Least, Zero, Most, Above, Highest};
+    ghost use Rattle.asn1_relay_vectors_types.specs.declared.items.Scale.TheVariants.{Lowest, Below, Least, Zero, Most, Above, Highest};
 
     ghost roots = { negsuc 2147483647 ∷ negsuc 128 ∷ negsuc 127 ∷ pos 0 ∷ pos 127 ∷ pos 128 ∷ pos 2147483647 ∷ [] };
 
@@ -220,7 +220,7 @@ impl Enumerated for Scale {
 }
 
 impl EnumeratedType for Scale {
-    ghost use Rattle.asn1_relay_vectors.specs.declared.types.items.Scale.TheVariants.{Lowest, Below, Least, Zero, Most, Above, Highest};
+    ghost use Rattle.asn1_relay_vectors_types.specs.declared.items.Scale.TheVariants.{Lowest, Below, Least, Zero, Most, Above, Highest};
 
     ghost is_of = { λ _. refl };
 

@@ -45,7 +45,7 @@ pub enum Spaced {
 }
 
 impl Described for Spaced {
-    ghost use Rattle.asn1_relay_vectors.specs.declared.types.choices.Spaced.TheVariants.{Near, Far};
+    ghost use Rattle.asn1_relay_vectors_types.specs.declared.choices.Spaced.TheVariants.{Near, Far};
 
     ghost tags = { context 0 ∷ context 444 ∷ [] };
 
@@ -99,7 +99,7 @@ impl Alternatives for Spaced {
 }
 
 impl Choice for Spaced {
-    ghost use Rattle.asn1_relay_vectors.specs.declared.types.choices.Spaced.TheVariants.{Near, Far};
+    ghost use Rattle.asn1_relay_vectors_types.specs.declared.choices.Spaced.TheVariants.{Near, Far};
 
     ghost place = { elim [ Near x ↦ record { added = false; place = 0 } | Far x ↦ record { added = false; place = 1 } ] };
 
@@ -167,7 +167,7 @@ pub enum Distant {
 }
 
 impl Described for Distant {
-    ghost use Rattle.asn1_relay_vectors.specs.declared.types.choices.Distant.TheVariants.{First, Second, Last};
+    ghost use Rattle.asn1_relay_vectors_types.specs.declared.choices.Distant.TheVariants.{First, Second, Last};
 
     ghost tags = { context 0 ∷ context 1 ∷ context 4294967295 ∷ [] };
 
@@ -222,7 +222,7 @@ impl Alternatives for Distant {
 }
 
 impl Choice for Distant {
-    ghost use Rattle.asn1_relay_vectors.specs.declared.types.choices.Distant.TheVariants.{First, Second, Last};
+    ghost use Rattle.asn1_relay_vectors_types.specs.declared.choices.Distant.TheVariants.{First, Second, Last};
 
     ghost place = { elim [ First x ↦ record { added = false; place = 0 } | Second x ↦ record { added = false; place = 1 } | Last x ↦ record { added = false; place = 2 } ] };
 
@@ -305,7 +305,7 @@ pub enum Versioned {
 }
 
 impl Described for Versioned {
-    ghost use Rattle.asn1_relay_vectors.specs.declared.types.choices.Versioned.TheVariants.{A, B, C};
+    ghost use Rattle.asn1_relay_vectors_types.specs.declared.choices.Versioned.TheVariants.{A, B, C};
 
     ghost tags = { context 0 ∷ context 1 ∷ context 2 ∷ [] };
 
@@ -360,7 +360,7 @@ impl Alternatives for Versioned {
 }
 
 impl Choice for Versioned {
-    ghost use Rattle.asn1_relay_vectors.specs.declared.types.choices.Versioned.TheVariants.{A, B, C};
+    ghost use Rattle.asn1_relay_vectors_types.specs.declared.choices.Versioned.TheVariants.{A, B, C};
 
     ghost place = { elim [ A x ↦ record { added = false; place = 0 } | B x ↦ record { added = false; place = 1 } | C x ↦ record { added = true; place = 0 } ] };
 
@@ -431,7 +431,7 @@ pub enum Around {
 }
 
 impl Described for Around {
-    ghost use Rattle.asn1_relay_vectors.specs.declared.types.choices.Around.TheVariants.{A, C, B};
+    ghost use Rattle.asn1_relay_vectors_types.specs.declared.choices.Around.TheVariants.{A, C, B};
 
     ghost tags = { context 0 ∷ context 2 ∷ context 1 ∷ [] };
 
@@ -486,7 +486,7 @@ impl Alternatives for Around {
 }
 
 impl Choice for Around {
-    ghost use Rattle.asn1_relay_vectors.specs.declared.types.choices.Around.TheVariants.{A, C, B};
+    ghost use Rattle.asn1_relay_vectors_types.specs.declared.choices.Around.TheVariants.{A, C, B};
 
     ghost place = { elim [ A x ↦ record { added = false; place = 0 } | C x ↦ record { added = false; place = 1 } | B x ↦ record { added = true; place = 0 } ] };
 

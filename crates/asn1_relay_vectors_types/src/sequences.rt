@@ -4,8 +4,8 @@ ghost use Rattle.asn1_model.specs.Value.{fields, number};
 ghost use Rattle.asn1_schema_presented.proofs.Defaults.{integer_default};
 ghost use Rattle.asn1_schema_presented.proofs.Values.{type_sequence, value_sequence};
 
-use crate::types::listed::{Listed, Sequence};
-use crate::types::sizes::{ListOfOneOrTwo, ThreeOctets};
+use crate::listed::{Listed, Sequence};
+use crate::sizes::{ListOfOneOrTwo, ThreeOctets};
 use asn1_schema_components::{
     ComponentsOf, DefaultOf, Defaulted, DefaultedComponent, End, EqualByMeaning, Optional,
     OptionalComponent, Required, RequiredComponent,

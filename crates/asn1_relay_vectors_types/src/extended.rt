@@ -4,8 +4,8 @@ ghost use Rattle.std.proofs.Common.{rules, arith};
 ghost use Rattle.asn1_model.specs.Value.{fields};
 ghost use Rattle.asn1_schema_presented.proofs.Values.{type_sequence, value_sequence};
 
-use crate::types::listed::{Listed, Sequence};
-use crate::types::sequences::Tagged;
+use crate::listed::{Listed, Sequence};
+use crate::sequences::Tagged;
 use asn1_schema_additions::{
     AddedOptional, AddedOptionalComponent, AddedRequired, AddedRequiredComponent, AdditionsOf,
     CountOf, DecodeExtension, EncodeExtension, Marked, MarkedComponents, NoMore,

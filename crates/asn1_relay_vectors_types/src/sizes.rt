@@ -1,19 +1,14 @@
 //! Strings and lists of a size of their own.
-ghost use Rattle.std.specs.Prelude.{◌≡◌, refl, Some, None, false};
+ghost use Rattle.std.specs.Prelude.{refl, Some, None, false};
 ghost use Rattle.asn1_schema_bounds.specs.declared.bounds.Bounded.{Bounded};
-ghost use Rattle.asn1_schema_presented.proofs.TypesByKind.{bit_string_type, octet_string_type, character_string_type, type_list};
+ghost use Rattle.asn1_schema_presented.proofs.TypesByKind.{octet_string_type, type_list};
 ghost use Rattle.asn1_schema_types.specs.Counts.{fixed_to};
 
 use asn1_schema_bounds::Bounded;
 use asn1_schema_constraints::{Constraints, Extensible, Size};
 use asn1_schema_types::Described;
 use asn1_schema_wrapped::{Constrained, ConstraintsOf};
-use asn1_values_bit_strings::BitString;
 use asn1_values_octets::OctetString;
-
-/// SIZE (14).
-#[derive(Clone, Copy, Debug, PartialEq, Eq)]
-pub struct Fourteen;
 
 /// SIZE (3).
 #[derive(Clone, Copy, Debug, PartialEq, Eq)]
@@ -23,47 +18,11 @@ pub struct Three;
 #[derive(Clone, Copy, Debug, PartialEq, Eq)]
 pub struct OneOrTwo;
 
-/// BIT STRING (SIZE (14)).
-pub type FourteenBits = Constrained<Fourteen, BitString>;
-
 /// OCTET STRING (SIZE (3)).
 pub type ThreeOctets = Constrained<Three, OctetString>;
 
-/// UTF8String (SIZE (3)).
-pub type ThreeCharacters = Constrained<Three, String>;
-
 /// SEQUENCE (SIZE (1..2)) OF.
 pub type ListOfOneOrTwo<T> = Constrained<OneOrTwo, Vec<T>>;
-
-/// One size.
-fn fixed(size: usize) -> Constraints<'static>
-    ensures { result ≡ fixed_to size }
-{
-    Constraints {
-        size: Some(Extensible::new(Size::fixed(size))),
-        ..Constraints::NONE
-    }
-}
-
-impl ConstraintsOf<BitString> for Fourteen {
-    ghost terms = { fixed_to 14 };
-
-    ghost under = { ⟦<BitString as Described>⟧.under };
-
-    ghost meaning = { ⟦<BitString as Described>⟧.meaning };
-
-    ghost lawful = { λ ts e. bit_string_type _ _ e refl };
-
-    ghost valued = { ⟦<BitString as Described>⟧.valued_under };
-
-    fn constraints() -> Constraints<'static> {
-        fixed(14)
-    }
-
-    ghost same_under = { λ _. refl };
-
-    ghost same_meaning = { λ _. refl };
-}
 
 impl ConstraintsOf<OctetString> for Three {
     ghost terms = { fixed_to 3 };
@@ -77,27 +36,10 @@ impl ConstraintsOf<OctetString> for Three {
     ghost valued = { ⟦<OctetString as Described>⟧.valued_under };
 
     fn constraints() -> Constraints<'static> {
-        fixed(3)
-    }
-
-    ghost same_under = { λ _. refl };
-
-    ghost same_meaning = { λ _. refl };
-}
-
-impl ConstraintsOf<String> for Three {
-    ghost terms = { fixed_to 3 };
-
-    ghost under = { ⟦<String as Described>⟧.under };
-
-    ghost meaning = { ⟦<String as Described>⟧.meaning };
-
-    ghost lawful = { λ ts e. character_string_type _ _ _ _ e refl refl };
-
-    ghost valued = { ⟦<String as Described>⟧.valued_under };
-
-    fn constraints() -> Constraints<'static> {
-        fixed(3)
+        Constraints {
+            size: Some(Extensible::new(Size::fixed(3))),
+            ..Constraints::NONE
+        }
     }
 
     ghost same_under = { λ _. refl };
