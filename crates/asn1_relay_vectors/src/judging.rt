@@ -8,7 +8,7 @@ use asn1_relay_core::{Codec, DecodeError, RecodeFault};
 use std::alloc::{AllocError, Global};
 
 /// The four sets of rules.
-const CODECS: [Codec; 4] = [Codec::Uper, Codec::Aper, Codec::Oer, Codec::Coer];
+pub const CODECS: [Codec; 4] = [Codec::Uper, Codec::Aper, Codec::Oer, Codec::Coer];
 
 /// Octets are cut at each place if they are no more than twice so many, and else within so many of the first and of the last.
 const CUTS: usize = 512;

@@ -62,6 +62,20 @@ pub enum LineError {
         /// What came of it.
         found: String,
     },
+    /// No pair of versions has this name.
+    #[error("there is no such pair of versions")]
+    NoPair,
+    /// Of a pair of versions there are no values to send.
+    #[error("there are no samples of this pair of versions")]
+    NoSample,
+    /// What came of a message on a route is not what the line says, or what its value foretells.
+    #[error("{route} gives {found}")]
+    Routed {
+        /// The message and its hops.
+        route: String,
+        /// What came of it.
+        found: String,
+    },
     /// No memory was left.
     #[error("out of memory")]
     Memory,
@@ -208,7 +222,7 @@ fn is_reason(word: &str) -> bool {
 }
 
 /// Why octets may be refused.
-const READING_ERRORS: [DecodeError; 23] = [
+pub const READING_ERRORS: [DecodeError; 23] = [
     DecodeError::Incomplete,
     DecodeError::SurplusOctets,
     DecodeError::SizeConstraintNotSatisfied,
@@ -235,7 +249,7 @@ const READING_ERRORS: [DecodeError; 23] = [
 ];
 
 /// Why a value may have no encoding.
-const WRITING_ERRORS: [EncodeError; 4] = [
+pub const WRITING_ERRORS: [EncodeError; 4] = [
     EncodeError::ValueConstraintNotSatisfied,
     EncodeError::SizeConstraintNotSatisfied,
     EncodeError::AlphabetConstraintNotSatisfied,
@@ -251,7 +265,7 @@ const STREAM_FAULTS: [RelayFaultKind; 4] = [
 ];
 
 /// The one of these that has this name.
-fn named<T: Copy + Debug>(alloc: Global, name: &str, all: &[T]) -> Result<T, LineError> {
+pub fn named<T: Copy + Debug>(alloc: Global, name: &str, all: &[T]) -> Result<T, LineError> {
     for one in all {
         if format!(in alloc; "{one:?}")?.as_str() == name {
             return Ok(*one);
@@ -272,7 +286,7 @@ fn read_spelled(alloc: Global, text: &str) -> Result<Spelled, LineError> {
 }
 
 /// Reads names of rules with a comma between two of them.
-fn read_rules(alloc: Global, text: &str) -> Result<Vec<Codec>, LineError> {
+pub fn read_rules(alloc: Global, text: &str) -> Result<Vec<Codec>, LineError> {
     let mut rules = Vec::new(alloc);
     for name in text.split(',') {
         let codec = match name {

@@ -8,10 +8,12 @@ mod limits;
 mod line;
 mod named;
 mod octets;
+mod routes;
 mod streams;
 
 use crate::line::{Line, LineError};
 use crate::named::judge_named;
+use crate::routes::judge_routes;
 use std::alloc::Global;
 use std::io::{self, BufRead, BufReader};
 use std::process::ExitCode;
@@ -56,6 +58,9 @@ fn judge_line(rt: &impl Print, alloc: Global, text: &str, count: &mut Count) -> 
 
 /// Judges what a line says.
 fn judge(alloc: Global, said: &str) -> Result<(), LineError> {
+    if let Some(judged) = judge_routes(alloc, said) {
+        return judged;
+    }
     let line = Line::read(alloc, said)?;
     judge_named(alloc, &line)
 }

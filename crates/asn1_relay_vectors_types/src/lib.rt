@@ -7,9 +7,11 @@ mod items;
 mod listed;
 mod sequences;
 mod sizes;
+mod versions;
 
 pub use choices::{Around, Distant, Spaced, Versioned};
 pub use extended::{Demand, Noted, Schedule};
 pub use items::{Scale, Tint};
 pub use sequences::{Blocks, Nothing, Offset, Outer, Person, Twelve};
 pub use sizes::ListOfOneOrTwo;
+pub use versions::{Nested, NewBag, NewList, Newest, OldBag, OldList};
