@@ -4,10 +4,12 @@ use Rattle.std.specs.Prelude.{leb}
 use Rattle.std.proofs.lemmas.Bool.{and_parts, leb-true}
 use Rattle.std.proofs.lemmas.List.Elements.{All-contains_itself}
 use Rattle.asn1_model.specs.Schema.{Tag, Presence, Schema, enumerated}
-use Rattle.asn1_model.specs.Lawful.{is_lawful, are_lawful}
-use Rattle.asn1_model.specs.Versions.{KeepsTags, KeepsPresence, Extends, ExtendsEach}
-use Rattle.asn1_laws_typed.proofs.Itself.{each_itself}
+use Rattle.asn1_model.specs.Lawful.{is_lawful, are_lawful, are_lawful_alternatives}
+use Rattle.asn1_model.specs.Versions.{KeepsTags, KeepsPresence, Extends, ExtendsEach, ExtendsAlternatives}
+use Rattle.asn1_laws_typed.proofs.Itself.{each_itself, alternatives_itself}
 use Rattle.asn1_schema_presented.specs.Tables.{Fields, no_field, field, Table, components_at, scope, sequence_type}
+use Rattle.asn1_schema_constructed.specs.Sets.{set_type}
+use Rattle.asn1_schema_constructed.specs.Tables.{Variants, no_variant, variant, alternatives_at, Choices, choice_type}
 use Rattle.asn1_schema_versions.specs.Versions.{ExtendsFrom}
 
 -- ---- tables that have grown
@@ -70,20 +72,74 @@ lawful_sequence : (t : Table) (n : ℕ) → is_lawful (sequence_type t (suc n)) 
 unfolding sequence_type scope is_lawful
 lawful_sequence t n l = let p = and_parts _ (are_lawful (components_at n t.additions)) l in ((and_parts _ (are_lawful (components_at n t.root)) p.0).1, p.1)
 
+lawful_set : (t : Table) (n : ℕ) → is_lawful (set_type t (suc n)) ≡ true → (are_lawful (components_at n t.root) ≡ true) × (are_lawful (components_at n t.additions) ≡ true)
+unfolding scope is_lawful
+lawful_set t n l = let p = and_parts _ (are_lawful (components_at n t.additions)) l in ((and_parts _ (are_lawful (components_at n t.root)) p.0).1, p.1)
+
+lawful_choice : (t : Choices) (n : ℕ) → is_lawful (choice_type t (suc n)) ≡ true → (are_lawful_alternatives (alternatives_at n t.root) ≡ true) × (are_lawful_alternatives (alternatives_at n t.additions) ≡ true)
+unfolding choice_type scope is_lawful
+lawful_choice t n l = let p = and_parts _ (are_lawful_alternatives (alternatives_at n t.additions)) l in ((and_parts _ (are_lawful_alternatives (alternatives_at n t.root)) p.0).1, p.1)
+
+-- Further additions, where there is a mark.
+behind_mark : (n : ℕ) (b : Bool) (fs gs : Fields) → b ≡ true → ExtendsEach true (components_at n fs) (components_at n fs) → ExtendsEach b (components_at n fs) (components_at n (joined fs gs))
+behind_mark n true fs gs e h = appended n fs gs h
+behind_mark n false fs gs e h = absurd (let z : false ≡ true = e in cc)
+
 -- A sequence with a mark, and further additions behind its own.
 pub gains_additions : {k : ℕ} (t : Table) (gs : Fields) → ((n : ℕ) → is_lawful (sequence_type t n) ≡ true) → t.extensible ≡ true → ExtendsFrom k (sequence_type t) (sequence_type (with_additions gs t))
 unfolding sequence_type scope Extends
 gains_additions {k} t gs l e = record { unfolded = λ n h. at n }
   where
-    more : (n : ℕ) (b : Bool) → b ≡ true → ExtendsEach true (components_at n t.additions) (components_at n t.additions) → ExtendsEach b (components_at n t.additions) (components_at n (joined t.additions gs))
-    more n true e h = appended n t.additions gs h
-    more n false e h = absurd (let z : false ≡ true = e in cc)
-
     at : (n : ℕ) → Extends (sequence_type t n) (sequence_type (with_additions gs t) n)
     at zero = tt
     at (suc n) =
         let p = lawful_sequence t n (l (suc n)) in
-        (each_itself false (components_at n t.root) p.0, refl, more n t.extensible e (each_itself true (components_at n t.additions) p.1))
+        (each_itself false (components_at n t.root) p.0, refl, behind_mark n t.extensible t.additions gs e (each_itself true (components_at n t.additions) p.1))
+
+-- ---- sets
+
+-- The same of a set.
+pub set_gains_additions : {k : ℕ} (t : Table) (gs : Fields) → ((n : ℕ) → is_lawful (set_type t n) ≡ true) → t.extensible ≡ true → ExtendsFrom k (set_type t) (set_type (with_additions gs t))
+unfolding scope Extends
+set_gains_additions {k} t gs l e = record { unfolded = λ n h. at n }
+  where
+    at : (n : ℕ) → Extends (set_type t n) (set_type (with_additions gs t) n)
+    at zero = tt
+    at (suc n) =
+        let p = lawful_set t n (l (suc n)) in
+        (each_itself false (components_at n t.root) p.0, refl, behind_mark n t.extensible t.additions gs e (each_itself true (components_at n t.additions) p.1))
+
+-- ---- choices
+
+-- Alternatives, and others behind them.
+abbrev pub joined_variants : Variants → Variants → Variants
+joined_variants no_variant ws = ws
+joined_variants (variant t s vs) ws = variant t s (joined_variants vs ws)
+
+-- A choice with further alternatives behind its own.
+abbrev pub with_alternatives : Variants → Choices → Choices
+with_alternatives vs t = record { root = t.root; extensible = t.extensible; additions = joined_variants t.additions vs }
+
+appended_variants : (n : ℕ) (vs ws : Variants) → ExtendsAlternatives true (alternatives_at n vs) (alternatives_at n vs) → ExtendsAlternatives true (alternatives_at n vs) (alternatives_at n (joined_variants vs ws))
+unfolding alternatives_at ExtendsAlternatives
+appended_variants n no_variant no_variant h = tt
+appended_variants n no_variant (variant t s ws) h = tt
+appended_variants n (variant t s vs) ws h = (h.0, h.1, appended_variants n vs ws h.2)
+
+-- A choice with a mark, and further alternatives behind its own.
+pub gains_alternatives : {k : ℕ} (t : Choices) (vs : Variants) → ((n : ℕ) → is_lawful (choice_type t n) ≡ true) → t.extensible ≡ true → ExtendsFrom k (choice_type t) (choice_type (with_alternatives vs t))
+unfolding choice_type scope Extends
+gains_alternatives {k} t vs l e = record { unfolded = λ n h. at n }
+  where
+    more : (n : ℕ) (b : Bool) → b ≡ true → ExtendsAlternatives true (alternatives_at n t.additions) (alternatives_at n t.additions) → ExtendsAlternatives b (alternatives_at n t.additions) (alternatives_at n (joined_variants t.additions vs))
+    more n true e h = appended_variants n t.additions vs h
+    more n false e h = absurd (let z : false ≡ true = e in cc)
+
+    at : (n : ℕ) → Extends (choice_type t n) (choice_type (with_alternatives vs t) n)
+    at zero = tt
+    at (suc n) =
+        let p = lawful_choice t n (l (suc n)) in
+        (alternatives_itself false (alternatives_at n t.root) p.0, refl, more n t.extensible e (alternatives_itself true (alternatives_at n t.additions) p.1))
 
 -- ---- enumerations
 
