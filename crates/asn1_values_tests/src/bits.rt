@@ -193,13 +193,37 @@ fn is_added_behind(alloc: Global, buffer: &BitBuffer) -> Result<bool, AllocError
     Ok(was_empty && has(&other.into_vec(), &[0xa4, 0xa1, 0xfc]))
 }
 
+/// Clears a buffer. Whether it is empty then.
+fn is_cleared(buffer: &mut BitBuffer) -> bool {
+    buffer.clear();
+    buffer.len() == 0
+}
+
 /// Whether sixteen bits are resized, changed, added to others, and cleared.
 fn are_changed(alloc: Global, buffer: &mut BitBuffer) -> Result<bool, AllocError> {
-    let is_right = is_resized(buffer)?
-        && clears_two_bits(buffer)
-        && is_added_behind(alloc, buffer)?;
-    buffer.clear();
-    Ok(is_right && buffer.len() == 0)
+    Ok(
+        is_resized(buffer)?
+            && clears_two_bits(buffer)
+            && is_added_behind(alloc, buffer)?
+            && is_cleared(buffer),
+    )
+}
+
+/// Whether a vector of such bits is.
+fn is_vector_changed(alloc: Global) -> bool {
+    match [0xa5, 0x0f].to_vec(alloc) {
+        Ok(octets) => {
+            let mut buffer = BitBuffer::from_vec(octets);
+            are_changed(alloc, &mut buffer) == Ok(true)
+        }
+        Err(AllocError) => false,
+    }
+}
+
+/// Whether rows are written into a new buffer.
+fn is_written_to(alloc: Global, fourteen: BitStr<'_>) -> bool {
+    let mut buffer = BitBuffer::new(alloc);
+    are_rows_written(&mut buffer, fourteen) == Ok(true)
 }
 
 #[test]
@@ -207,14 +231,8 @@ fn buffers(rt: HostRuntime) {
     let alloc = rt.alloc();
     let octets = [0xff, 0x40];
     let (fourteen, _) = BitStr::from_slice(&octets).split_at(14);
-    assert!(rt; are_rows_written(&mut BitBuffer::new(alloc), fourteen) == Ok(true));
+    assert!(rt; is_written_to(alloc, fourteen) && is_vector_changed(alloc));
     assert!(rt; is_of_fourteen(BitString::from_bitslice(alloc, fourteen)));
-    match [0xa5, 0x0f].to_vec(alloc) {
-        Ok(octets) => {
-            assert!(rt; are_changed(alloc, &mut BitBuffer::from_vec(octets)) == Ok(true));
-        }
-        Err(AllocError) => assert!(rt; false),
-    }
 }
 
 /// Whether 24 bits are unread, of which the first is a one bit, stands first in an octet and all whole octets are lent.

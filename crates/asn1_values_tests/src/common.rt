@@ -6,6 +6,11 @@ use std::fmt::{Debug, Display};
 use std::hash::{DefaultHasher, Hash, Hasher};
 use std::process::Abort;
 
+/// Ends the test, and shows what is wrong, unless nothing is: proved here once, and not again with each call.
+pub fn assert_none<T: Debug>(rt: &impl Abort, wrong: &Option<T>) {
+    assert!(rt; wrong.is_none(), "{wrong:?}");
+}
+
 /// What a hasher makes of a value.
 pub fn hash_of<T: Hash>(value: &T) -> u64 {
     let mut state = DefaultHasher::new();

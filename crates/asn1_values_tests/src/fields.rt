@@ -176,14 +176,19 @@ fn parts_of(alloc: Global, granted: &mut bool) -> Option<Parts> {
     }
 }
 
+/// Whether a buffer has so many bits in these octets. It is empty then.
+fn is_emptied_of(buffer: &mut BitBuffer, len: usize, octets: &[u8]) -> bool {
+    let is_right = buffer.len() == len && buffer.as_bytes() == octets;
+    buffer.clear();
+    is_right
+}
+
 /// Whether the fields of both rows are written as their octets, and the digits "123" by their codes.
 fn are_written(buffer: &mut BitBuffer, parts: &Parts) -> Result<bool, FieldFault> {
     write_row(buffer, parts)?;
-    let is_short = buffer.len() == 20 && buffer.as_bytes() == ROW.as_slice();
-    buffer.clear();
+    let is_short = is_emptied_of(buffer, 20, &ROW);
     write_each(buffer, parts)?;
-    let is_long = buffer.len() == 183 && buffer.as_bytes() == ROW_OF_EACH.as_slice();
-    buffer.clear();
+    let is_long = is_emptied_of(buffer, 183, &ROW_OF_EACH);
     let field = FieldBits::Characters {
         alphabet: &parts.digits,
         characters: &[49, 50, 51],
@@ -304,16 +309,24 @@ fn is_left_alone(buffer: &mut BitBuffer) -> bool {
         && buffer.as_bytes() == [0xA0].as_slice()
 }
 
+/// Whether a new buffer is left alone so.
+fn is_refused_alone(alloc: Global) -> bool {
+    let mut buffer = BitBuffer::new(alloc);
+    is_left_alone(&mut buffer)
+}
+
+/// Whether rows are written and read, and what is no field is refused.
+fn are_parts_right(alloc: Global) -> bool {
+    match parts_of(alloc, &mut true) {
+        Some(parts) => are_rows(alloc, &parts) == Ok(true) && are_refused(alloc, &parts.digits),
+        None => false,
+    }
+}
+
 #[test]
 fn fields_are_written_and_read(rt: HostRuntime) {
     let alloc = rt.alloc();
-    match parts_of(alloc, &mut true) {
-        Some(parts) => {
-            assert!(rt; are_rows(alloc, &parts) == Ok(true) && are_refused(alloc, &parts.digits));
-        }
-        None => assert!(rt; false),
-    }
-    assert!(rt; is_left_alone(&mut BitBuffer::new(alloc)));
+    assert!(rt; are_parts_right(alloc) && is_refused_alone(alloc));
     let fault = FieldFault {
         field: 2,
         kind: FieldFaultKind::Short,

@@ -1,6 +1,6 @@
 //! Object identifiers: rows of octets, what is shown, and what is answered when memory is refused.
 use crate::common::{
-    Octets, has, has_copy, hash_of, is_before, is_of, is_refused, is_shown, is_told,
+    Octets, assert_none, has, has_copy, hash_of, is_before, is_of, is_refused, is_shown, is_told,
 };
 use asn1_values::{IdentifierError, ObjectIdentifier, Oid, oid_from_octets, oid_octets};
 use std::alloc::{AllocError, Global};
@@ -71,19 +71,43 @@ fn are_judged(arcs: &'static [u32], wanted: bool) -> bool {
     Oid::new(arcs).is_some() == wanted && ObjectIdentifier::new(arcs.into()).is_some() == wanted
 }
 
+/// The arcs that are not written and read as their row says, if there are such.
+fn wrong_octets(alloc: Global) -> Option<&'static [u32]> {
+    for (arcs, octets) in &WRITTEN {
+        if !are_written_and_read(alloc, arcs, octets) {
+            return Some(*arcs);
+        }
+    }
+    None
+}
+
+/// The octets that are not refused as their row says, if there are such.
+fn wrong_fault(alloc: Global) -> Option<&'static str> {
+    for row in FAULTS.lines() {
+        if !is_fault(alloc, row) {
+            return Some(row);
+        }
+    }
+    None
+}
+
+/// The arcs that are not judged as their row says, if there are such.
+fn wrong_judgement() -> Option<&'static [u32]> {
+    for (arcs, wanted) in &JUDGED {
+        if !are_judged(arcs, *wanted) {
+            return Some(*arcs);
+        }
+    }
+    None
+}
+
 #[test]
 fn identifiers_are_written_and_read(rt: HostRuntime) {
     let alloc = rt.alloc();
-    for (arcs, octets) in &WRITTEN {
-        assert!(rt; are_written_and_read(alloc, arcs, octets), "of {arcs:?}");
-    }
-    for row in FAULTS.lines() {
-        assert!(rt; is_fault(alloc, row), "{row}");
-    }
+    assert_none(&rt, &wrong_octets(alloc));
+    assert_none(&rt, &wrong_fault(alloc));
+    assert_none(&rt, &wrong_judgement());
     assert!(rt; one_arc_is_not_written(alloc));
-    for (arcs, wanted) in &JUDGED {
-        assert!(rt; are_judged(arcs, *wanted), "of {arcs:?}");
-    }
 }
 
 /// Whether an identifier that is lent and its copy that is kept are the same, with the same three arcs.
@@ -115,20 +139,29 @@ const TOLD: [(IdentifierError, &'static str); 4] = [
     (IdentifierError::Memory, "out of memory"),
 ];
 
-#[test]
-fn identifiers_are_shown_and_compared(rt: HostRuntime) {
-    let alloc = rt.alloc();
+/// Whether 1.2.3321 is kept, compared and shown.
+fn is_kept(alloc: Global) -> bool {
     let first = Oid::new_unchecked(&[1, 2, 3321]);
     match ObjectIdentifier::from_oid(alloc, &first) {
-        Ok(kept) => {
-            assert!(rt; kept[2] == 3321);
-            assert!(rt; are_the_same(&first, &kept) && are_in_order(alloc, &kept));
-        }
-        Err(_) => assert!(rt; false),
+        Ok(kept) => kept[2] == 3321 && are_the_same(&first, &kept) && are_in_order(alloc, &kept),
+        Err(_) => false,
     }
+}
+
+/// The text that is not told of its fault, if there is one.
+fn wrong_text(alloc: Global) -> Option<&'static str> {
     for (error, text) in &TOLD {
-        assert!(rt; is_told(alloc, error, text), "of {text}");
+        if !is_told(alloc, error, text) {
+            return Some(*text);
+        }
     }
+    None
+}
+
+#[test]
+fn identifiers_are_shown_and_compared(rt: HostRuntime) {
+    assert!(rt; is_kept(rt.alloc()));
+    assert_none(&rt, &wrong_text(rt.alloc()));
 }
 
 /// Whether the identifier is written as these octets.

@@ -1,6 +1,6 @@
 //! The native integer types, each by the claims of a text: its ends, octets, sums, conversions and what is shown; and the common ground of
 //! their numbers. Numbers are told as octets of two's complement.
-use crate::common::{Octets, has, is_refused};
+use crate::common::{Octets, assert_none, has, is_refused};
 use asn1_values::{
     Integer, IntegerBytes, IntegerError, IntegerType, NativeInteger, TryFromIntegerError, Wide,
 };
@@ -284,6 +284,35 @@ fn ends_of(claims: &str) -> (Wide, Wide) {
     (wide(least.all()), wide(greatest.all()))
 }
 
+/// Whether all claims on a type are so.
+fn are_claims<
+    T: NativeInteger<Unsigned = U> + IntegerType<UnsignedPair = U> + Drop,
+    U: NativeInteger,
+>(alloc: Global, claims: &str) -> bool {
+    for claim in claims.lines() {
+        if !is_claim::<T, U>(alloc, claim) {
+            return false;
+        }
+    }
+    true
+}
+
+/// Whether a type with these ends converts these numbers as its ends say.
+fn are_converted<
+    'a,
+    T: NativeInteger
+        + TryFrom<&'a Integer, Error = IntegerError>
+        + TryFrom<Integer, Error = TryFromIntegerError>,
+>(ends: (Wide, Wide), numbers: &'a [Integer]) -> bool {
+    for lent in numbers {
+        match lent.to_wide() {
+            Some(number) if is_converted::<T>(lent, number, is_between(number, ends)) => {}
+            _ => return false,
+        }
+    }
+    true
+}
+
 /// Whether all claims on a type are so, and it converts these numbers as its ends say.
 fn is_native<
     'a,
@@ -294,19 +323,7 @@ fn is_native<
         + Drop,
     U: NativeInteger,
 >(alloc: Global, claims: &str, numbers: &'a [Integer]) -> bool {
-    for claim in claims.lines() {
-        if !is_claim::<T, U>(alloc, claim) {
-            return false;
-        }
-    }
-    let ends = ends_of(claims);
-    for lent in numbers {
-        match lent.to_wide() {
-            Some(number) if is_converted::<T>(lent, number, is_between(number, ends)) => {}
-            _ => return false,
-        }
-    }
-    true
+    are_claims::<T, U>(alloc, claims) && are_converted::<T>(ends_of(claims), numbers)
 }
 
 const U8: &str = "\
@@ -597,19 +614,51 @@ fn magnitudes_are_counted() -> bool {
         && last_octets(true, 0x03_0102, 2) == ending_in([0xfe, 0xfd])
 }
 
+/// The octets that do not have the numbers of their row, if there are such.
+fn wrong_number() -> Option<&'static str> {
+    for row in WIDE.lines() {
+        if !are_wide(row) {
+            return Some(row);
+        }
+    }
+    None
+}
+
+/// The number that is not within bounds as its row says, if there is one.
+fn wrong_bounds() -> Option<&'static str> {
+    for row in BOUNDED.lines() {
+        if !are_bounded(row) {
+            return Some(row);
+        }
+    }
+    None
+}
+
+/// The number that has not the octets of its row, if there is one.
+fn wrong_fewest() -> Option<&'static str> {
+    for row in FEWEST.lines() {
+        if !are_fewest(row) {
+            return Some(row);
+        }
+    }
+    None
+}
+
+/// The octets whose padding is not found, if there are such.
+fn wrong_padding() -> Option<&'static str> {
+    for row in PADDED.lines() {
+        if !is_padding(row) {
+            return Some(row);
+        }
+    }
+    None
+}
+
 #[test]
 fn numbers_and_octets(rt: HostRuntime) {
-    for row in WIDE.lines() {
-        assert!(rt; are_wide(row), "{row}");
-    }
-    for row in BOUNDED.lines() {
-        assert!(rt; are_bounded(row), "{row}");
-    }
-    for row in FEWEST.lines() {
-        assert!(rt; are_fewest(row), "{row}");
-    }
-    for row in PADDED.lines() {
-        assert!(rt; is_padding(row), "{row}");
-    }
+    assert_none(&rt, &wrong_number());
+    assert_none(&rt, &wrong_bounds());
+    assert_none(&rt, &wrong_fewest());
+    assert_none(&rt, &wrong_padding());
     assert!(rt; are_lent_and_wide() && signs_are_found() && magnitudes_are_counted());
 }

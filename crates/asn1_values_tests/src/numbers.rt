@@ -1,6 +1,7 @@
 //! Whole numbers of any size: their ends, texts, sums and conversions, those within a range, and what is answered when memory is refused.
 use crate::common::{
-    Octets, has, has_copy, hash_of, is_before, is_copied, is_refused, is_shown, is_told,
+    Octets, assert_none, has, has_copy, hash_of, is_before, is_copied, is_refused, is_shown,
+    is_told,
 };
 use crate::natives::has_octets;
 use asn1_values::{Integer, IntegerError, IntegerType, TryFromIntegerError};
@@ -118,18 +119,42 @@ fn are_read(alloc: Global, octets: &[u8]) -> bool {
         && is_whole(Integer::from_signed_octets(alloc, octets), octets)
 }
 
+/// The number that is not as its row says, if there is one.
+fn wrong_number(alloc: Global) -> Option<&'static str> {
+    for row in TEXTS.lines() {
+        if !is_number(alloc, row) {
+            return Some(row);
+        }
+    }
+    None
+}
+
+/// The number without a sign that is not as its row says, if there is one.
+fn wrong_natural(alloc: Global) -> Option<&'static str> {
+    for row in PLAIN.lines() {
+        if !is_natural(alloc, row) {
+            return Some(row);
+        }
+    }
+    None
+}
+
+/// The numbers that are not in the order of their row, if there are such.
+fn wrong_order(alloc: Global) -> Option<&'static str> {
+    for row in ASCENDING.lines() {
+        if !are_ordered(alloc, row) {
+            return Some(row);
+        }
+    }
+    None
+}
+
 #[test]
 fn integers_of_any_size(rt: HostRuntime) {
     let alloc = rt.alloc();
-    for row in TEXTS.lines() {
-        assert!(rt; is_number(alloc, row), "{row}");
-    }
-    for row in PLAIN.lines() {
-        assert!(rt; is_natural(alloc, row), "{row}");
-    }
-    for row in ASCENDING.lines() {
-        assert!(rt; are_ordered(alloc, row), "{row}");
-    }
+    assert_none(&rt, &wrong_number(alloc));
+    assert_none(&rt, &wrong_natural(alloc));
+    assert_none(&rt, &wrong_order(alloc));
     assert!(rt; fewest_are_kept(alloc));
     assert!(rt; are_read(alloc, &[1; 20]) && are_read(alloc, &[0x80; 20]));
 }
@@ -238,20 +263,25 @@ fn is_minus_one(answer: Option<Integer>) -> bool {
     }
 }
 
-/// Whether sums and differences outside 128 bits are none, or wrap.
-fn have_ends() -> bool {
-    let least = Integer::from_i128(i128::MIN);
-    let greatest = Integer::from_i128(i128::MAX);
+/// Whether sums and differences outside 128 bits, of which these are the ends, are none.
+fn are_ends(least: &Integer, greatest: &Integer) -> bool {
     greatest.checked_add(&Integer::ONE).is_none()
         && least.checked_sub(&Integer::ONE).is_none()
-        && is_minus_one(greatest.checked_add(&least))
+        && is_minus_one(greatest.checked_add(least))
         && is_minus_one(Integer::ZERO.checked_sub(&Integer::ONE))
-        && is_wrapped(greatest, Integer::ONE, &least)
-        && is_wrapped(
-            Integer::from(u128::MAX),
-            Integer::from(3u8),
-            &Integer::from(2u8),
-        )
+}
+
+/// Whether these two are the ends, and the sums of them and of a number without a sign wrap.
+fn have_ends() -> bool {
+    let (least, greatest) = (Integer::from_i128(i128::MIN), Integer::from_i128(i128::MAX));
+    let are_ends = are_ends(&least, &greatest);
+    let is_least = is_wrapped(greatest, Integer::ONE, &least);
+    let is_two = is_wrapped(
+        Integer::from(u128::MAX),
+        Integer::from(3u8),
+        &Integer::from(2u8),
+    );
+    are_ends && is_least && is_two
 }
 
 /// Whether numbers are those of 64 bits, where these have room, and of 128.
@@ -294,13 +324,21 @@ const REASONS: [(IntegerError, &'static str); 3] = [
     (IntegerError::Memory, "out of memory"),
 ];
 
+/// The text that is not told of its reason, if there is one.
+fn wrong_text(alloc: Global) -> Option<&'static str> {
+    for (reason, text) in &REASONS {
+        if !is_told(alloc, reason, text) {
+            return Some(*text);
+        }
+    }
+    None
+}
+
 #[test]
 fn sums_and_conversions(rt: HostRuntime) {
     let alloc = rt.alloc();
     assert!(rt; have_ends() && words_are_exact() && is_256_refused(alloc));
-    for (reason, text) in &REASONS {
-        assert!(rt; is_told(alloc, reason, text), "of {text}");
-    }
+    assert_none(&rt, &wrong_text(alloc));
     assert!(rt; is_shown(alloc, &IntegerError::Overflow, "Overflow"));
 }
 

@@ -1,7 +1,9 @@
 //! Octets: that each call can succeed, what is shown, and what is answered when memory is refused.
 ghost use Rattle.std.specs.Prelude.{◌≡◌, slice_set};
 
-use crate::common::{has, hash_of, is_before, is_granted, is_of, is_refused, is_shown, is_told};
+use crate::common::{
+    assert_none, has, hash_of, is_before, is_granted, is_of, is_refused, is_shown, is_told,
+};
 use asn1_values::{FixedOctetString, OctetString, WrongLength};
 use bytes::Bytes;
 use std::alloc::{AllocError, Global};
@@ -103,11 +105,19 @@ fn go_by_their_octets() -> bool {
         && hash_of(&FixedOctetString::new(OCTETS)) == wanted
 }
 
+/// The octets that are not ordered as their row says, if there are such.
+fn wrong_order() -> Option<&'static [u8]> {
+    for (first, second) in &ORDERED {
+        if !are_ordered(first, second) {
+            return Some(*first);
+        }
+    }
+    None
+}
+
 #[test]
 fn strings_go_by_their_octets(rt: HostRuntime) {
-    for (first, second) in &ORDERED {
-        assert!(rt; are_ordered(first, second), "of {first:?}");
-    }
+    assert_none(&rt, &wrong_order());
     assert!(rt; go_by_their_octets());
     assert!(rt; are_bytes(rt.alloc()) == Ok(true));
 }

@@ -1,5 +1,6 @@
 //! Rows of widths and codes, and what errors tell.
-use crate::rows::{KINDS, number_of, numbers_of, refusal};
+use crate::common::assert_none;
+use crate::rows::{KINDS, Kind, number_of, numbers_of, refusal};
 use asn1_values::{
     CharacterAlphabet, InvalidBmpString, InvalidPrintableString, PermittedAlphabetError,
 };
@@ -129,14 +130,22 @@ fn is_no_list(alloc: Global, characters: &[u32]) -> bool {
     )
 }
 
+/// The row whose alphabet is not made as it says, if there is one. Where memory is refused, `granted` is false.
+fn wrong_row(alloc: Global, granted: &mut bool) -> Option<&'static str> {
+    for row in ROWS.lines() {
+        match is_row(alloc, row) {
+            Ok(true) => {}
+            Ok(false) => return Some(row),
+            Err(AllocError) => *granted = false,
+        }
+    }
+    None
+}
+
 /// Makes each alphabet: the answer is the whole one, or wants memory. Whether none was refused.
 pub fn requests(rt: &impl Abort, alloc: Global) -> bool {
     let mut granted = true;
-    for row in ROWS.lines() {
-        let answer = is_row(alloc, row);
-        assert!(rt; answer != Ok(false), "{row}");
-        granted &= answer.is_ok();
-    }
+    assert_none(rt, &wrong_row(alloc, &mut granted));
     assert!(rt; is_no_list(alloc, &[49, 49]) && is_no_list(alloc, &[50, 49]));
     granted
 }
@@ -189,20 +198,42 @@ fn tells(alloc: Global, error: &PermittedAlphabetError, wanted: &str) -> bool {
     }
 }
 
-#[test]
-fn errors_are_told(rt: HostRuntime) {
+/// The text that is not told of its error, if there is one.
+fn wrong_text(alloc: Global) -> Option<&'static str> {
     for (error, wanted) in &TOLD {
-        assert!(rt; tells(rt.alloc(), error, wanted), "of {wanted}");
-    }
-    for (place, wanted) in REFUSED.iter().enumerate() {
-        match KINDS.get(place) {
-            Some(kind) => {
-                let error = PermittedAlphabetError::from(refusal(*kind, 65));
-                assert!(rt; tells(rt.alloc(), &error, wanted), "of {wanted}");
-            }
-            None => assert!(rt; false),
+        if !tells(alloc, error, wanted) {
+            return Some(*wanted);
         }
     }
+    None
+}
+
+/// Whether a kind of string tells this of its refusal of the character 65.
+fn tells_of_65(alloc: Global, kind: Option<&Kind>, wanted: &str) -> bool {
+    match kind {
+        Some(kind) => tells(
+            alloc,
+            &PermittedAlphabetError::from(refusal(*kind, 65)),
+            wanted,
+        ),
+        None => false,
+    }
+}
+
+/// The text that is not told of its refusal, if there is one.
+fn wrong_refusal(alloc: Global) -> Option<&'static str> {
+    for (place, wanted) in REFUSED.iter().enumerate() {
+        if !tells_of_65(alloc, KINDS.get(place), wanted) {
+            return Some(*wanted);
+        }
+    }
+    None
+}
+
+#[test]
+fn errors_are_told(rt: HostRuntime) {
+    assert_none(&rt, &wrong_text(rt.alloc()));
+    assert_none(&rt, &wrong_refusal(rt.alloc()));
     assert!(rt;
         InvalidBmpString { character: 65536 } == InvalidBmpString { character: 65536 }
             && InvalidPrintableString { character: 42 } != InvalidPrintableString { character: 43 }

@@ -4,6 +4,8 @@
 #[cfg(test)]
 mod alphabets;
 #[cfg(test)]
+mod common;
+#[cfg(test)]
 mod rows;
 #[cfg(test)]
 mod strings;

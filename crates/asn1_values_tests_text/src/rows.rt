@@ -1,4 +1,5 @@
 //! Rows of strings of each kind: what they are made of, and their characters, or why there is none.
+use crate::common::assert_none;
 use asn1_values::{
     BitString, BmpString, CharacterKind, General, Graphic, Ia5, InvalidBmpString,
     InvalidGeneralString, InvalidGraphicString, InvalidIA5String, InvalidNumericString,
@@ -108,11 +109,19 @@ fn permits_exactly(kind: Kind, alphabet: &Alphabet) -> bool {
         && permits(kind, u32::MAX) == alphabet.has(u32::MAX)
 }
 
+/// The kind that does not permit exactly its alphabet, if there is one.
+fn wrong_kind() -> Option<Kind> {
+    for (kind, alphabet) in &ALPHABETS {
+        if !permits_exactly(*kind, alphabet) {
+            return Some(*kind);
+        }
+    }
+    None
+}
+
 #[test]
 fn alphabets(rt: HostRuntime) {
-    for (kind, alphabet) in &ALPHABETS {
-        assert!(rt; permits_exactly(*kind, alphabet), "of {kind:?}");
-    }
+    assert_none(&rt, &wrong_kind());
 }
 
 /// What a string is made of: of octets, a text or a character that are lent, of octets or a text in a value that is given up, or of so many
@@ -437,14 +446,22 @@ fn of_static_octets(alloc: Global) -> [Answer; 2] {
     ]
 }
 
+/// The row whose string is not made as it says, if there is one. Where memory is refused, `granted` is false.
+fn wrong_row(alloc: Global, granted: &mut bool) -> Option<&'static str> {
+    for row in ROWS.lines() {
+        match is_row(alloc, row) {
+            Ok(true) => {}
+            Ok(false) => return Some(row),
+            Err(AllocError) => *granted = false,
+        }
+    }
+    None
+}
+
 /// Makes each string of the rows: the answer is right, or wants memory. Whether none was refused.
 pub fn requests(rt: &impl Abort, alloc: Global) -> bool {
     let mut granted = true;
-    for row in ROWS.lines() {
-        let answer = is_row(alloc, row);
-        assert!(rt; answer != Ok(false), "{row}");
-        granted &= answer.is_ok();
-    }
+    assert_none(rt, &wrong_row(alloc, &mut granted));
     for answer in of_static_octets(alloc) {
         assert!(rt; answer != Answer::Wrong);
         granted &= answer == Answer::Right;

@@ -72,6 +72,18 @@ fn are_made_empty<T, S: StaticPermittedAlphabet + MadeWith<Global> + PartialEq +
     empty.char_count() == 0 && empty.as_slice().is_empty() && made == empty && is_empty_with_room
 }
 
+/// Whether a new string of octets has no characters.
+fn is_empty_of_octets(alloc: Global) -> bool {
+    let string = GeneralString::new(alloc);
+    string.is_empty() && string.chars().next() == None
+}
+
+/// Whether a new BMPString has none.
+fn is_empty_of_pairs(alloc: Global) -> bool {
+    let string = BmpString::new(alloc);
+    string.is_empty()
+}
+
 #[test]
 fn appended_characters(rt: HostRuntime) {
     let alloc = rt.alloc();
@@ -79,9 +91,8 @@ fn appended_characters(rt: HostRuntime) {
     assert!(rt; takes::<u8, NumericString>(alloc, &digits, &[0x31, 0x32]));
     let pairs = [(0xFFFF, true), (0x10000, false), (0, true)];
     assert!(rt; takes::<u16, BmpString>(alloc, &pairs, &[0xFFFF, 0]));
-    assert!(rt; are_made_empty::<u8, GeneralString>(alloc) && GeneralString::new(alloc).is_empty());
-    assert!(rt; are_made_empty::<u16, BmpString>(alloc) && BmpString::new(alloc).is_empty());
-    assert!(rt; GeneralString::new(alloc).chars().next() == None);
+    assert!(rt; are_made_empty::<u8, GeneralString>(alloc) && is_empty_of_octets(alloc));
+    assert!(rt; are_made_empty::<u16, BmpString>(alloc) && is_empty_of_pairs(alloc));
 }
 
 /// The octets that a call gives, at the second time where there was no memory at first.
