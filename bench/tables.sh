@@ -19,3 +19,9 @@ for rules in coer oer uper aper recode recode_aligned; do
     echo
     "$here/kinds/run.sh" $rules "$work"
 done
+for name in streams routes; do
+    echo
+    echo "## $name"
+    echo
+    "$here/$name/run.sh" "$work"
+done

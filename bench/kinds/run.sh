@@ -23,7 +23,7 @@ types="$types asn1_schema_types asn1_schema_variants asn1_schema_wrapped asn1_va
 take_packages $types $codecs asn1_relay_core
 make_package bench_common '' lib=common.in
 make_package bench_rules "$codecs" lib=rules.in
-make_package kinds_types "$types bench_common" lib=kinds/types.in grown=kinds/grown.in made=kinds/made.in pick=kinds/pick.in
+make_package kinds_types "$types bench_common" lib=kinds/types.in added=kinds/added.in grown=kinds/grown.in made=kinds/made.in pick=kinds/pick.in
 make_package kinds_bench "kinds_types bench_common bench_rules asn1_schema_decode asn1_schema_encode asn1_schema_faults anyhow" main=kinds/main.in
 make_package kinds_recode "kinds_types bench_common asn1_relay_core asn1_schema_decode asn1_schema_encode anyhow" main=kinds/recode.in
 prove $program

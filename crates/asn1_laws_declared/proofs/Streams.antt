@@ -13,13 +13,13 @@ use Rattle.asn1_laws_unfolding.proofs.Declared.{tidied_is_lawful}
 use Rattle.asn1_laws_declared.proofs.Declared.{tidy_canonical, tidy_encoding, declared_encoding}
 
 -- what is an encoding of one type is one of the other
-abbrev Alike : Rules → Schema → Schema → Type 0
+abbrev pub Alike : Rules → Schema → Schema → Type 0
 Alike r s t = (v : Value) (w : List ℕ) → IsEncoding r s v w → IsEncoding r t v w
 
-message_still : (r : Rules) (s t : Schema) (limit : ℕ) (m : Message) → Alike r s t → IsMessage r s limit m → IsMessage r t limit m
+pub message_still : (r : Rules) (s t : Schema) (limit : ℕ) (m : Message) → Alike r s t → IsMessage r s limit m → IsMessage r t limit m
 message_still r s t limit m h k = record { is_encoding = h m.value m.octets k.is_encoding; is_shallow = k.is_shallow; is_some = k.is_some; is_short = k.is_short }
 
-none_still : (r : Rules) (s t : Schema) (limit : ℕ) (w : List ℕ) → Alike r t s → HasNoMessage r s limit w → HasNoMessage r t limit w
+pub none_still : (r : Rules) (s t : Schema) (limit : ℕ) (w : List ℕ) → Alike r t s → HasNoMessage r s limit w → HasNoMessage r t limit w
 none_still r s t limit w h k m x e i = k m x e (message_still r t s limit m h i)
 
 divides_still : (r : Rules) (s t : Schema) (limit : ℕ) (ms : List Message) (rest w : List ℕ) → Alike r s t → Alike r t s → Divides r s limit ms rest w → Divides r t limit ms rest w

@@ -23,10 +23,10 @@ tidy_grows old new u = ap (grow (tidied old) (tidied new)) (tidied_normal old u)
 grown_still : (old new : Schema) (u x : Value) → IsGrown (tidied old) (tidied new) u x ≡ IsGrown old new u x
 grown_still old new u x = λ i. (v : Value) × (tidy_grows old new u i ≡ Some v) × (same x v ≡ true)
 
-to : {X Y : Type 0} → X ≡ Y → X → Y
+pub to : {X Y : Type 0} → X ≡ Y → X → Y
 to e x = subst (λ z. z) e x
 
-tidy_extends : (old new : Schema) → Extends old new → Extends (tidied old) (tidied new)
+pub tidy_extends : (old new : Schema) → Extends old new → Extends (tidied old) (tidied new)
 tidy_extends old new h = to (sym (tidied_extends old new)) h
 
 pub reads_the_drop_still : (r : Rules) (old new : Schema) (v u x : Value) (w : List ℕ) → is_lawful_as_declared old ≡ true → Extends old new → drop old new v ≡ Some u → canonical r new v ≡ Some w → IsEncoding r old x w → same x u ≡ true

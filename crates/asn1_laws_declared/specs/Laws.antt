@@ -1,5 +1,5 @@
 -- The laws of lawful types, of all types that are lawful as declared: a default in them may spell out what is at a default of its own.
-use Rattle.std.specs.Prelude.{◌≡◌, ℕ, ltb, Bool, true, IsTrue, List, ◌++◌, length, Option, Some, None}
+use Rattle.std.specs.Prelude.{◌≡◌, ◌≢◌, ℕ, ltb, Bool, true, IsTrue, List, [], ◌++◌, length, Option, Some, None}
 use Rattle.asn1_model.specs.Value.{Value, bag, Values, each, same}
 use Rattle.asn1_model.specs.Schema.{Counts, Size, Schema, set_of}
 use Rattle.asn1_model.specs.Form.{arranged, ascending, stands_before, written}
@@ -13,6 +13,10 @@ use Rattle.asn1_model.specs.Versions.{Extends, drop, grow, IsClash}
 use Rattle.asn1_laws_across.specs.Strictly.{ReadsAsWritten, IsEncodingAsWritten}
 use Rattle.asn1_laws_streams.specs.Streams.{Message, Divides, AreSame}
 use Rattle.asn1_laws_streams.specs.Relayed.{Stop, Relays, Translates, EndsBefore}
+use Rattle.asn1_laws_routes.specs.Answers.{Answer, IsAnswer}
+use Rattle.asn1_laws_routes.specs.Routes.{Hop, HopAnswers, Stage, HasNoCause, HasCause, IsWritten}
+use Rattle.asn1_laws_routes.specs.Relays.{AreJoined, Halt, RelaysOlder, IsEnd}
+use Rattle.asn1_laws_routes.specs.Laws.{HandsOn, DoesOneThing, ArrivesExactly, RefusedExactly, Ends}
 use Rattle.asn1_laws_unfolding.specs.Declared.{is_lawful_as_declared}
 use Rattle.asn1_laws_versions_refused.specs.Laws.{IsLeft, IsGrown}
 
@@ -137,3 +141,59 @@ OlderReadsExactly = (r : Rules) (old new : Schema) (v x : Value) (w : List ℕ) 
 -- of it, and no other beginning.
 abbrev pub NewerReadsExactly : Type 0
 NewerReadsExactly = (r : Rules) (old new : Schema) (u x : Value) (w : List ℕ) → IsDeclared old → IsDeclared new → Extends old new → canonical r old u ≡ Some w → (IsGrown old new u x → IsEncoding r new x w) × ((a y z : List ℕ) → IsEncoding r new x a → a ++ y ≡ w ++ z → (a ≡ w) × IsGrown old new u x)
+
+-- No two answers to some octets are right.
+abbrev pub OneAnswerIsRight : Type 0
+OneAnswerIsRight =
+    (source target : Rules) (s : Schema) (w : List ℕ) (x y : Answer)
+    → IsDeclared s → IsAnswer source target s w x → IsAnswer source target s w y → x ≡ y
+
+-- Of what stands written in front of a hop, it hands on what it writes, if no cause holds at it, and refuses it as the
+-- cause says, where one holds.
+abbrev pub EachHopAnswers : Type 0
+EachHopAnswers =
+    (old new : Schema) (p : Stage) (h : Hop) (v : Value) (w : List ℕ)
+    → IsDeclared old → IsDeclared new → Extends old new → IsWritten old new p.passed p.from v w
+    → (HasNoCause old new p h v → HandsOn old new p h v w)
+    × ((a : Answer) → HasCause old new p h v a → HopAnswers old new p.from h w a)
+
+-- A route does one thing at most to octets.
+abbrev pub RouteDoesOneThing : Type 0
+RouteDoesOneThing =
+    (old new : Schema) (from : Rules) (hops : List Hop) (w : List ℕ)
+    → IsDeclared old → IsDeclared new → DoesOneThing old new from hops w
+
+-- What holds of the canonical encoding of any value of the newer version.
+abbrev pub OfCanonical : (Schema → Schema → Rules → List Hop → Value → List ℕ → Type 0) → Type 0
+OfCanonical P =
+    (old new : Schema) (from : Rules) (hops : List Hop) (v : Value) (w : List ℕ)
+    → IsDeclared old → IsDeclared new → Extends old new → hops ≢ [] → canonical from new v ≡ Some w
+    → P old new from hops v w
+
+-- It arrives exactly if no cause holds at any hop, and is refused at the first hop at which one holds, and at no
+-- other; and it arrives or is refused.
+abbrev pub RouteArrivesExactly : Type 0
+RouteArrivesExactly = OfCanonical ArrivesExactly
+
+abbrev pub RouteRefusesExactly : Type 0
+RouteRefusesExactly = OfCanonical RefusedExactly
+
+abbrev pub RouteEnds : Type 0
+RouteEnds = OfCanonical Ends
+
+-- The joined messages of the newer version are relayed by the older one up to some first one, or all of them.
+abbrev pub OlderRelayGoes : Type 0
+OlderRelayGoes =
+    (source target : Rules) (old new : Schema) (limit : ℕ) (vs : List Value) (w : List ℕ)
+    → IsDeclared old → IsDeclared new → Extends old new → AreJoined source new vs w
+    → (number : ℕ) × (out : List ℕ) × (rest : List ℕ) × (halt : Option Halt)
+    × RelaysOlder source target old new limit vs w number out rest halt
+
+-- That is what a relay does that knows the older version alone.
+abbrev pub OlderRelayDoes : Type 0
+OlderRelayDoes =
+    (source target : Rules) (old new : Schema) (limit : ℕ) (vs : List Value) (w : List ℕ) (number n : ℕ)
+    (out o rest r : List ℕ) (halt : Option Halt) (why : Option Stop)
+    → IsDeclared old → IsDeclared new → Extends old new
+    → RelaysOlder source target old new limit vs w number out rest halt → Relays source target old limit w n o r why
+    → (n ≡ number) × (o ≡ out) × (r ≡ rest) × IsEnd source target old new limit rest halt why

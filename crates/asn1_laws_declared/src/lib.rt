@@ -6,6 +6,9 @@ ghost use Rattle.asn1_laws_declared.specs.Laws.{OneMeaning, EncodingsTellNormalF
 ghost use Rattle.asn1_laws_declared.specs.Laws.{StrictIsCanonicalOfAll, AscendingBags, OlderReadsTheDrop, OlderRefusesAClash, NewerReadsTheGrowth};
 ghost use Rattle.asn1_laws_declared.specs.Laws.{DividedOnce, BeginsAlike, OlderRefusesTheUnknown, NewerRefusesTheMissing};
 ghost use Rattle.asn1_laws_declared.specs.Laws.{OlderReadsExactly, NewerReadsExactly, RelayedOnce, RelaysTheFirst, RelaysAll};
+ghost use Rattle.asn1_laws_declared.specs.Laws.{OneAnswerIsRight, EachHopAnswers, RouteDoesOneThing};
+ghost use Rattle.asn1_laws_declared.specs.Laws.{RouteArrivesExactly, RouteRefusesExactly, RouteEnds, OlderRelayGoes};
+ghost use Rattle.asn1_laws_declared.specs.Laws.{OlderRelayDoes};
 
 /// The normal form of a value of the type is a value of it.
 pub fn normal_keeps_the_type()
@@ -134,4 +137,47 @@ pub fn older_reads_exactly()
 /// absent: all of it, and no other beginning.
 pub fn newer_reads_exactly()
     ensures { NewerReadsExactly }
+{}
+
+/// No two answers to some octets are right.
+pub fn one_answer_is_right()
+    ensures { OneAnswerIsRight }
+{}
+
+/// A hop hands on the canonical encoding of the value that it writes, if no cause holds at it, and else refuses as the
+/// cause says.
+pub fn each_hop_answers()
+    ensures { EachHopAnswers }
+{}
+
+/// A route does one thing at most to octets: they arrive as others, or one hop refuses them in one way.
+pub fn route_does_one_thing()
+    ensures { RouteDoesOneThing }
+{}
+
+/// The canonical encoding of a value of the newer version arrives exactly if no cause holds at any hop, and as the
+/// canonical encoding, in the rules of the last hop, of the value that this writes.
+pub fn route_arrives_exactly()
+    ensures { RouteArrivesExactly }
+{}
+
+/// It is refused at the first hop at which a cause holds, and at no other, and as the cause says.
+pub fn route_refuses_exactly()
+    ensures { RouteRefusesExactly }
+{}
+
+/// It arrives, or a hop refuses it.
+pub fn route_ends()
+    ensures { RouteEnds }
+{}
+
+/// The joined canonical encodings of values of the newer version are relayed by the older one up to the first at which
+/// a cause holds, or that is over the limit, or whose translation is empty.
+pub fn older_relay_goes()
+    ensures { OlderRelayGoes }
+{}
+
+/// That is what a relay does that knows the older version alone.
+pub fn older_relay_does()
+    ensures { OlderRelayDoes }
 {}

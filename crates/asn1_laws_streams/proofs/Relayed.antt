@@ -1,13 +1,13 @@
 -- What a relay does to octets that come in pieces.
 use Rattle.std.proofs.Common.{◌≡◌, ◌≢◌, ◌⊎◌, inl, inr, ℕ, suc, ◌+◌, ◌≤◌, ◌<◌, List, [], ◌∷◌, ◌++◌, length, take, drop, Option, Some, None, refl, ap, sym, ◌∙◌, subst, append_assoc, arith}
 use Rattle.std.specs.List.{concat}
-use Rattle.std.proofs.lemmas.List.{append-nil, length-append, take-append-le, take-append-drop}
+use Rattle.std.proofs.lemmas.List.{append-nil, length-append, length-take, take-append-le, take-append-drop}
 use Rattle.std.proofs.Math.Seq.{take-append_seam}
 use Rattle.asn1_model.specs.Schema.{Schema}
 use Rattle.asn1_model.specs.Lawful.{IsLawful}
 use Rattle.asn1_model.specs.Rules.{Rules, canonical}
 use Rattle.asn1_laws_order.proofs.Canonical.{same_written}
-use Rattle.asn1_laws_streams.specs.Streams.{Message, IsMessage, HasNoMessage, Divides, AreSame}
+use Rattle.asn1_laws_streams.specs.Streams.{Message, HasNoMessage, IsMessage, Divides, AreSame}
 use Rattle.asn1_laws_streams.specs.Relayed.{Stop, no_target, empty_message, none_within_limit, RelaysFront, BeginsWith, HasEmptyMessage, StopsAt, Relays, RelaysPieces, Translates, EndsBefore}
 use Rattle.asn1_laws_streams.proofs.Streams.{first_same, one_front}
 
@@ -25,6 +25,13 @@ begins_with m y r x e h =
 pub some_before : {A : Type 0} (r x : List A) → r ≢ [] → r ++ x ≢ []
 some_before [] x n = absurd (n refl)
 some_before (a ∷ r) x n = λ e. cc
+
+-- what begins octets and is no longer than a limit is no longer than the first of them
+length_of_first : (m x w : List ℕ) (limit : ℕ) → m ++ x ≡ w → length m ≤ limit → length m ≤ length (take limit w)
+length_of_first m x w limit e h =
+    let a = length-take limit w in
+    let b : length m + length x ≡ length w = sym (length-append m x) ∙ ap length e in
+    omega (arith, a)
 
 module _ (source target : Rules) (s : Schema) (limit : ℕ) where
   abbrev Front : List Message → List ℕ → List ℕ → List ℕ → Type 0
@@ -54,7 +61,7 @@ module _ (source target : Rules) (s : Schema) (limit : ℕ) where
   begins_longer : (t : Option (List ℕ)) (w x : List ℕ) → BeginsWith source target s limit t w → BeginsWith source target s limit t (w ++ x)
   begins_longer t w x b = (b.0, b.1 ++ x, sym (append_assoc b.0.octets b.1 x) ∙ ap (λ l. l ++ x) b.2, b.3, b.4)
 
-  pub none_longer : (w x : List ℕ) → HasNoMessage source s limit w → limit < length w → HasNoMessage source s limit (w ++ x)
+  pub none_longer : (w x : List ℕ) → HasNoMessage source s limit w → limit ≤ length w → HasNoMessage source s limit (w ++ x)
   none_longer w x h l = λ m y e i.
       let b = i.is_short in
       let k : length m.octets ≤ length w = omega arith in
@@ -67,7 +74,8 @@ module _ (source target : Rules) (s : Schema) (limit : ℕ) where
   stop_lasts w x none_within_limit h =
       let l = length-append w x in
       let k = h.2 in
-      (none_longer w x h.0 h.2, h.1, omega arith)
+      let j : limit ≤ length w = omega arith in
+      (none_longer w x h.0 j, h.1, omega arith)
 
   pub stops_for_good : (w x : List ℕ) (n : ℕ) (o rest : List ℕ) (why : Stop) → Relays source target s limit w n o rest (Some why) → Relays source target s limit (w ++ x) n o (rest ++ x) (Some why)
   stops_for_good w x n o rest why h = record { messages = h.messages; counted = h.counted; front = longer h.messages o rest w x h.front; stops = stop_lasts rest x why h.stops }
@@ -102,7 +110,7 @@ module _ (source target : Rules) (s : Schema) (limit : ℕ) where
   in_front m ms o rest w h = (m, h.1, h.2, h.0, h.4)
 
   module _ (lawful : IsLawful s) where
-    targets_agree : (t u : Option (List ℕ)) (w : List ℕ) → BeginsWith source target s limit t w → BeginsWith source target s limit u w → t ≡ u
+    pub targets_agree : (t u : Option (List ℕ)) (w : List ℕ) → BeginsWith source target s limit t w → BeginsWith source target s limit u w → t ≡ u
     targets_agree t u w b c =
         let q = first_same source s limit lawful b.0 c.0 b.1 c.1 b.3 c.3 (b.2 ∙ sym c.2) in
         sym b.4 ∙ (same_written target s b.0.value c.0.value lawful q.1 ∙ c.4)
@@ -135,7 +143,7 @@ module _ (source target : Rules) (s : Schema) (limit : ℕ) where
     not_past w h (inl k) = none_begins (Some []) w h.0 k
     not_past w h (inr k) = h.1 k.1
 
-    one_stop : (w : List ℕ) (why cause : Option Stop) → StopsAt source target s limit w why → StopsAt source target s limit w cause → why ≡ cause
+    pub one_stop : (w : List ℕ) (why cause : Option Stop) → StopsAt source target s limit w why → StopsAt source target s limit w cause → why ≡ cause
     one_stop w None None h k = refl
     one_stop w None (Some no_target) h k = absurd (none_begins None w h.0 k)
     one_stop w None (Some empty_message) h k = absurd (not_waiting w h k)
@@ -154,7 +162,7 @@ module _ (source target : Rules) (s : Schema) (limit : ℕ) where
     one_stop w (Some none_within_limit) (Some none_within_limit) h k = refl
 
     -- a relayed message is in front of no stop
-    relayed_on : (t w : List ℕ) (why : Option Stop) → t ≢ [] → BeginsWith source target s limit (Some t) w → StopsAt source target s limit w why → ⊥
+    pub relayed_on : (t w : List ℕ) (why : Option Stop) → t ≢ [] → BeginsWith source target s limit (Some t) w → StopsAt source target s limit w why → ⊥
     relayed_on t w None n b h = none_begins (Some t) w h.0 b
     relayed_on t w (Some no_target) n b h = let e : Some t ≡ None = targets_agree (Some t) None w b h in cc
     relayed_on t w (Some empty_message) n b (inl h) = let e : Some t ≡ Some [] = targets_agree (Some t) (Some []) w b h in n (cc)
@@ -213,3 +221,25 @@ module _ (source target : Rules) (s : Schema) (limit : ℕ) where
         let u : h.3 ≡ t.0 = cc e in
         let i = all_of ls ms h.6 t.3 unread rest h.1 why h.8 y (subst (λ x. Divides source s limit ms rest x) (sym f.2) k.3) t.5 in
         ((f.0, f.1, i.0), ap suc i.1, sym h.7 ∙ (ap (λ x. x ++ h.6) u ∙ (ap (λ x. t.0 ++ x) i.2 ∙ t.4)), i.3)
+
+-- ---- the limit
+
+module _ (r : Rules) (s : Schema) (limit : ℕ) where
+  -- no message in front of octets, and so none in front of the first of them
+  pub without : (w : List ℕ) → HasNoMessage r s limit w → HasNoMessage r s limit (take limit w)
+  without w h = λ m x e i. h m (x ++ drop limit w) (sym (append_assoc m.octets x (drop limit w)) ∙ (ap (λ l. l ++ drop limit w) e ∙ take-append-drop limit w)) i
+
+  -- and the other way round, as a message is no longer
+  pub within : (w : List ℕ) → HasNoMessage r s limit (take limit w) → HasNoMessage r s limit w
+  within w h = λ m x e i.
+      let l = i.is_short in
+      let k = length-take limit w in
+      let n : length m.octets ≤ length (take limit w) = length_of_first m.octets x w limit e l in
+      h m (drop (length m.octets) (take limit w)) (begins_with m.octets x (take limit w) (drop limit w) (e ∙ sym (take-append-drop limit w)) n) i
+
+  pub alone : IsLawful s → (w : List ℕ) → HasEmptyMessage r s → HasNoMessage r s limit w
+  alone lawful w h = λ m x e i.
+      let q = (one_front r s h.0 m.value [] m.octets w x lawful h.1 i.is_encoding (sym e)).0 in
+      let l : 0 ≡ length m.octets = ap length q in
+      let k = i.is_some in
+      omega arith

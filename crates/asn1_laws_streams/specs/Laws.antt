@@ -1,11 +1,11 @@
 -- Laws of streams.
-use Rattle.std.specs.Prelude.{◌≡◌, ℕ, ◌+◌, List, ◌++◌, length, Option, Some, None}
+use Rattle.std.specs.Prelude.{◌≡◌, ℕ, ◌+◌, ◌≤◌, List, ◌++◌, length, take, Option, Some, None}
 use Rattle.asn1_model.specs.Schema.{Schema}
 use Rattle.asn1_model.specs.Lawful.{IsLawful}
 use Rattle.asn1_model.specs.Rules.{Rules}
 use Rattle.std.specs.List.{concat}
-use Rattle.asn1_laws_streams.specs.Streams.{Message, Divides, AreSame}
-use Rattle.asn1_laws_streams.specs.Relayed.{Stop, StopsAt, Relays, RelaysPieces, Translates, EndsBefore}
+use Rattle.asn1_laws_streams.specs.Streams.{Message, HasNoMessage, Divides, AreSame}
+use Rattle.asn1_laws_streams.specs.Relayed.{Stop, HasEmptyMessage, StopsAt, Relays, RelaysPieces, Translates, EndsBefore}
 
 -- Octets divide into messages and a rest in one way at most.
 abbrev pub DividedOnce : Type 0
@@ -59,3 +59,21 @@ RelaysAll = (source target : Rules) (s : Schema) (limit : ℕ) (w rest joined ou
     → (n : ℕ) (why : Option Stop) → IsLawful s → Divides source s limit ms rest w → Translates target s ms joined
     → (h : Relays source target s limit w n out unread why)
     → AreSame h.messages ms × (n ≡ length ms) × (out ≡ joined) × (unread ≡ rest)
+
+-- ---- the limit
+
+-- What begins octets and is no longer than the limit begins the first of them, so many as the limit says.
+abbrev pub WithinTheLimit : Type 0
+WithinTheLimit = (r : Rules) (s : Schema) (limit : ℕ) (w : List ℕ)
+    → (HasNoMessage r s limit w → HasNoMessage r s limit (take limit w))
+    × (HasNoMessage r s limit (take limit w) → HasNoMessage r s limit w)
+
+-- No message in front of as many octets as a message may have, or of more, means none however many follow.
+abbrev pub NoneWithinIsNone : Type 0
+NoneWithinIsNone = (r : Rules) (s : Schema) (limit : ℕ) (w x : List ℕ)
+    → limit ≤ length w → HasNoMessage r s limit w → HasNoMessage r s limit (w ++ x)
+
+-- Where no octets are an encoding, no others are one, so that no message has one.
+abbrev pub EmptyIsAlone : Type 0
+EmptyIsAlone = (r : Rules) (s : Schema) (limit : ℕ) (w : List ℕ)
+    → IsLawful s → HasEmptyMessage r s → HasNoMessage r s limit w

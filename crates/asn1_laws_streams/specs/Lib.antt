@@ -1,3 +1,4 @@
 pub mod Streams
 pub mod Relayed
 pub mod Laws
+pub mod Rows

@@ -1,7 +1,10 @@
 //! How octets divide into messages and a rest, and what a relay does to octets that come in pieces.
 #![tactic(auto)]
 
-ghost use Rattle.asn1_laws_streams.specs.Laws.{DividedOnce, GoesOnAlike, BeginsAlike, RelayedOnce, RelayGoesOn, RelayStopsForGood, PiecesAreJoined, RelaysTheFirst, RelaysAll};
+ghost use Rattle.asn1_laws_streams.specs.Laws.{DividedOnce, GoesOnAlike, BeginsAlike};
+ghost use Rattle.asn1_laws_streams.specs.Laws.{RelayedOnce, RelayGoesOn, RelayStopsForGood, PiecesAreJoined};
+ghost use Rattle.asn1_laws_streams.specs.Laws.{RelaysTheFirst, RelaysAll, WithinTheLimit, NoneWithinIsNone, EmptyIsAlone};
+ghost use Rattle.asn1_laws_streams.specs.Rows.{RelayRows};
 
 /// Octets divide into messages and a rest in one way at most.
 pub fn divided_once()
@@ -47,4 +50,24 @@ pub fn relays_the_first()
 /// Where each of these messages has an encoding in the target rules that is not empty, all are relayed, and the rest is unread.
 pub fn relays_all()
     ensures { RelaysAll }
+{}
+
+/// What begins octets and is no longer than the limit begins the first of them, so many as the limit says.
+pub fn within_the_limit()
+    ensures { WithinTheLimit }
+{}
+
+/// No message in front of as many octets as a message may have, or of more, means none however many follow.
+pub fn none_within_is_none()
+    ensures { NoneWithinIsNone }
+{}
+
+/// Where no octets are an encoding, no others are one, so that no message has one.
+pub fn empty_is_alone()
+    ensures { EmptyIsAlone }
+{}
+
+/// What a relay does to some octets.
+pub fn relay_rows()
+    ensures { RelayRows }
 {}

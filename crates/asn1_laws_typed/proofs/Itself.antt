@@ -25,7 +25,8 @@ each_stays f test h (member v vs) e =
 mutual
   unfolding grow grow_parts grow_alternative is_of are_of is_of_alternative
 
-  grows : (s : Schema) (v : Value) → is_of s v ≡ true → grow s s v ≡ Some v
+  -- a value of a type is carried over to the type itself as it is
+  pub grows : (s : Schema) (v : Value) → is_of s v ≡ true → grow s s v ≡ Some v
   grows (sequence_of z h s) (members vs) e = ap (option_map members) (each_stays (λ v. grow s s v) (λ v. is_of s v) (λ v f. grows s v f) vs ((and_parts (is_count_within h (member_count vs)) (are_all (λ v. is_of s v) vs) e).1))
   grows (sequence_of z h s) v e = refl
   grows (set_of z h s) (bag vs) e = ap (option_map bag) (each_stays (λ v. grow s s v) (λ v. is_of s v) (λ v f. grows s v f) vs ((and_parts (is_count_within h (member_count vs)) (are_all (λ v. is_of s v) vs) e).1))
@@ -41,7 +42,7 @@ mutual
   grows (choice roots e adds) v f = refl
   grows s v e = refl
 
-  parts_grow : (cs : Components) (ps : Parts) → are_of cs ps ≡ true → grow_parts cs cs ps ≡ Some ps
+  pub parts_grow : (cs : Components) (ps : Parts) → are_of cs ps ≡ true → grow_parts cs cs ps ≡ Some ps
   parts_grow no_component end e = refl
   parts_grow no_component ps e = cc
   parts_grow (component t o s cs) (present v ps) e =
@@ -85,10 +86,10 @@ mutual
   extends_itself (group cs) l = each_itself false cs ((and_parts _ _ l).1)
   extends_itself (choice roots e adds) l = (alternatives_itself false roots ((and_parts _ _ ((and_parts _ _ l).0)).1), refl, alternatives_itself e adds ((and_parts _ _ l).1))
 
-  each_itself : (more : Bool) (cs : Components) → are_lawful cs ≡ true → ExtendsEach more cs cs
+  pub each_itself : (more : Bool) (cs : Components) → are_lawful cs ≡ true → ExtendsEach more cs cs
   each_itself more no_component l = tt
   each_itself more (component t o s cs) l = (All-contains_itself t, keeps_itself s o ((and_parts _ _ ((and_parts _ _ l).0)).1) ((and_parts _ _ ((and_parts _ _ ((and_parts _ _ ((and_parts _ _ l).0)).0)).0)).1), extends_itself s ((and_parts _ _ ((and_parts _ _ l).0)).1), each_itself more cs ((and_parts _ _ l).1))
 
-  alternatives_itself : (more : Bool) (others : Alternatives) → are_lawful_alternatives others ≡ true → ExtendsAlternatives more others others
+  pub alternatives_itself : (more : Bool) (others : Alternatives) → are_lawful_alternatives others ≡ true → ExtendsAlternatives more others others
   alternatives_itself more no_alternative l = tt
   alternatives_itself more (alternative t s others) l = (refl, extends_itself s ((and_parts _ _ ((and_parts _ _ l).0)).1), alternatives_itself more others ((and_parts _ _ l).1))

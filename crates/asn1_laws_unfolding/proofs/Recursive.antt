@@ -47,6 +47,28 @@ mutual
   fewer_alternatives n (alternative t s os) no_alternative h = absurd h
   fewer_alternatives n (alternative t s os) (alternative t' s' os') h = (h.0, fewer n s s' h.1, fewer_alternatives n os os' h.2)
 
+-- ---- a type agrees with itself
+mutual
+  unfolding AgreesTo AgreesEach AgreesAlternatives
+
+  pub agrees_with_itself : (n : ℕ) (s : Schema) → AgreesTo n s s
+  agrees_with_itself zero s = inr refl
+  agrees_with_itself (suc n) (sequence_of z c s) = (refl, refl, agrees_with_itself n s)
+  agrees_with_itself (suc n) (set_of z c s) = (refl, refl, agrees_with_itself n s)
+  agrees_with_itself (suc n) (sequence cs e adds) = (each_agrees_with_itself n cs, refl, each_agrees_with_itself n adds)
+  agrees_with_itself (suc n) (set cs e adds) = (each_agrees_with_itself n cs, refl, each_agrees_with_itself n adds)
+  agrees_with_itself (suc n) (group cs) = each_agrees_with_itself n cs
+  agrees_with_itself (suc n) (choice roots e adds) = (alternatives_agree_with_themselves n roots, refl, alternatives_agree_with_themselves n adds)
+  agrees_with_itself (suc n) s = refl
+
+  each_agrees_with_itself : (n : ℕ) (cs : Components) → AgreesEach n cs cs
+  each_agrees_with_itself n no_component = tt
+  each_agrees_with_itself n (component t o s cs) = (refl, refl, agrees_with_itself n s, each_agrees_with_itself n cs)
+
+  alternatives_agree_with_themselves : (n : ℕ) (os : Alternatives) → AgreesAlternatives n os os
+  alternatives_agree_with_themselves n no_alternative = tt
+  alternatives_agree_with_themselves n (alternative t s os) = (refl, agrees_with_itself n s, alternatives_agree_with_themselves n os)
+
 null_agrees : (n : ℕ) → AgreesTo n null null
 unfolding AgreesTo
 null_agrees zero = inr refl

@@ -20,6 +20,10 @@ MeansTheSame = (r : Rules) (n : ℕ) (s s' : Schema) (v : Value) (w : List ℕ) 
 abbrev pub NormalDefaultsAgree : Type 0
 NormalDefaultsAgree = (s s' : Schema) (d : Value) → is_normal s d ≡ true → is_normal s' d ≡ true → normal s d ≡ normal s' d
 
+-- Any type agrees with itself for any number of levels.
+abbrev pub AgreesWithItself : Type 0
+AgreesWithItself = (n : ℕ) (s : Schema) → AgreesTo n s s
+
 -- Two unfoldings of one of the types that stand in one another, each to so many levels or more, agree for so many levels.
 abbrev pub UnfoldingsAgree : Type 0 → Type 0
 UnfoldingsAgree K = (step : K → (K → Schema) → Schema) (k : K) (n i j : ℕ) → AreRecursive step → n ≤ i → n ≤ j → AgreesTo n (unfolded step i k) (unfolded step j k)

@@ -1,7 +1,7 @@
 //! A recursive type means the same however far it is unfolded, and any type the same with each default in its normal form.
 #![tactic(auto)]
 
-ghost use Rattle.asn1_laws_unfolding.specs.Laws.{MeansTheSame, NormalDefaultsAgree, NormalDefaultsLoseNothing, UnfoldingsAgree, UnfoldingsMeanTheSame};
+ghost use Rattle.asn1_laws_unfolding.specs.Laws.{AgreesWithItself, MeansTheSame, NormalDefaultsAgree, NormalDefaultsLoseNothing, UnfoldingsAgree, UnfoldingsMeanTheSame};
 ghost use Rattle.asn1_laws_unfolding.specs.Laws.{LawfulIfTidy, TidiedIsLawful, TidiedKeepsValues, TidiedKeepsVersions, TidiedCarriesAlike};
 ghost use Rattle.asn1_laws_unfolding.specs.Declared.{AsDeclaredRows};
 ghost use Rattle.asn1_laws_unfolding.specs.Unfolding.{LevelRows, RecursiveRows};
@@ -15,6 +15,11 @@ pub fn means_the_same()
 /// A default that is normal in both has one normal form in both.
 pub fn normal_defaults_agree()
     ensures { NormalDefaultsAgree }
+{}
+
+/// Any type agrees with itself for any number of levels.
+pub fn agrees_with_itself()
+    ensures { AgreesWithItself }
 {}
 
 /// Two unfoldings of one of the types that stand in one another under names, which are the values of any type, each to so many levels

@@ -1,2 +1,3 @@
+pub mod Answered
+pub mod LineLemmas
 pub mod OrderLemmas
-pub mod Written

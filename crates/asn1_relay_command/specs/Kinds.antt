@@ -1,9 +1,16 @@
 -- The types of message, as types of the model.
-use Rattle.std.specs.Prelude.{None, false}
-use Rattle.asn1_model.specs.Schema.{Schema, boolean, null, bit_string, character_string, visible, sequence_of}
-use Rattle.asn1_relay_types.specs.Schemas.{any_size, any_number_held, integer_schema, small_schema, octets_schema, pair_schema, set_schema, bag_schema, nest_schema, new_schema, old_schema, group_schema}
+use Rattle.std.specs.Prelude.{pos, [], ◌∷◌, None, true, false}
+use Rattle.asn1_model.specs.Schema.{Schema, by_default, required, boolean, null, enumerated, bit_string}
+use Rattle.asn1_model.specs.Schema.{character_string, visible, sequence_of, sequence, no_component}
+use Rattle.asn1_model.specs.Value.{Value, absent, end}
+use Rattle.asn1_relay_types.specs.Defaults.{true_and}
+use Rattle.asn1_relay_types.specs.Schemas.{behind_flag, context, one_more, universal, any_size, any_number_held}
+use Rattle.asn1_relay_types.specs.Schemas.{integer_schema, small_schema, octets_schema, pair_schema, set_schema}
+use Rattle.asn1_relay_types.specs.Schemas.{bag_schema, nest_schema, new_schema, old_schema, group_schema}
 use Rattle.asn1_relay_command.specs.declared.order.Kind.{Kind}
 use Rattle.asn1_relay_command.specs.declared.order.Kind.TheVariants as kind
+use Rattle.asn1_relay_command.specs.declared.order.Pair.{Pair}
+use Rattle.asn1_relay_command.specs.declared.order.Pair.TheVariants as pair
 
 -- The type of a name, where it leads back to itself unfolded to 128 nested levels.
 abbrev pub schema_named : Kind → Schema
@@ -22,3 +29,23 @@ schema_named kind.Nest = nest_schema 128
 schema_named kind.New = new_schema
 schema_named kind.Old = old_schema
 schema_named kind.Group = group_schema
+
+-- ---- pairs of versions
+
+-- SEQUENCE {s S DEFAULT value}
+abbrev pub defaulted : Schema → Value → Schema
+defaulted s value = sequence (one_more (universal 16) (by_default value) s no_component) false no_component
+
+-- The older version of a pair,
+abbrev pub older_named : Pair → Schema
+older_named pair.Plain = old_schema
+older_named pair.Default = defaulted old_schema (true_and end)
+older_named pair.Required = old_schema
+older_named pair.Colour = enumerated (pos 0 ∷ []) true []
+
+-- and the newer one.
+abbrev pub newer_named : Pair → Schema
+newer_named pair.Plain = new_schema
+newer_named pair.Default = defaulted new_schema (true_and (absent end))
+newer_named pair.Required = behind_flag (one_more (context 1) required boolean no_component)
+newer_named pair.Colour = enumerated (pos 0 ∷ []) true (pos 1 ∷ [])

@@ -1,27 +1,44 @@
--- What a run of the command does with its reader, whose octets are those that it still gives, and its writer, whose octets are those
--- that it holds, where these are known.
-use Rattle.std.specs.Prelude.{◌≡◌, ◌⊎◌, ℕ, List, take, Option, Some, None}
+-- What a run of the command does with its reader, whose octets are those that it still gives, and its writer, whose
+-- octets are those that it holds, where these are known.
+use Rattle.std.specs.Prelude.{◌≡◌, ◌⊎◌, ℕ, List, Option, Some, None}
 use Rattle.std.specs.Io.KnownBytes.{Appends, Consumes, IsAtEnd, Keeps}
 use Rattle.asn1_model.specs.Schema.{Schema}
+use Rattle.asn1_relay_core.specs.declared.codec.Codec.{Codec}
 use Rattle.asn1_relay_core.specs.Coding.{rules_of}
 use Rattle.asn1_relay_core.specs.Recoding.{Answer, IsAnswer, answered, not_an_encoding, surplus, no_target}
 use Rattle.asn1_relay_core.specs.declared.translation.RecodeFault.{RecodeFault}
 use Rattle.asn1_relay_core.specs.declared.translation.RecodeFault.TheVariants as recode_fault
+use Rattle.asn1_relay_streams.specs.Ends.{BeginsToAppend}
+use Rattle.asn1_relay_streams.specs.Running.{IsDone, RunFaultOf, ends}
+use Rattle.asn1_relay_streams.specs.declared.running.RunFault.{RunFault}
+use Rattle.asn1_relay_streams.specs.declared.running.RunFault.TheVariants as run_fault
 use Rattle.asn1_relay_command.specs.Lines.{line_of}
-use Rattle.asn1_relay_command.specs.Kinds.{schema_named}
+use Rattle.asn1_relay_command.specs.Kinds.{newer_named, older_named, schema_named}
+use Rattle.asn1_relay_command.specs.Orders.{Route, Task, once, stream, route}
+use Rattle.asn1_relay_routes.specs.Routing.{IsOutcome, Outcome, Reaches, arrived, refused, hops_of}
+use Rattle.asn1_relay_routes.specs.declared.fault.RouteFault.{RouteFault}
+use Rattle.asn1_relay_routes.specs.declared.fault.RouteFaultKind.{RouteFaultKind}
+use Rattle.asn1_relay_routes.specs.declared.fault.RouteFaultKind.TheVariants as route_fault
+use Rattle.asn1_relay_routes.specs.declared.hop.Hop.{Hop}
 use Rattle.asn1_relay_command.specs.declared.fault.Fault.{Fault}
 use Rattle.asn1_relay_command.specs.declared.fault.Fault.TheVariants as fault
-use Rattle.asn1_relay_command.specs.declared.order.Order.{Order}
+use Rattle.asn1_relay_command.specs.declared.fault.HopFault.{HopFault}
+use Rattle.asn1_relay_command.specs.declared.fault.HopFault.TheVariants as hop
+use Rattle.asn1_relay_command.specs.declared.order.Translation.{Translation}
+
+-- octets, where they are known
+abbrev pub Known : Type 0
+Known = Option (List ℕ)
 
 -- ---- translating
 
 -- what a message of a type becomes, by the rules that were asked for
-abbrev pub BecomesAs : Schema → Order → List ℕ → Answer → Type 0
-BecomesAs s order message answer = IsAnswer (rules_of order.from) (rules_of order.to) s message answer
+abbrev pub BecomesAs : Schema → Translation → List ℕ → Answer → Type 0
+BecomesAs s t message answer = IsAnswer (rules_of t.from) (rules_of t.to) s message answer
 
 -- what it becomes, by what was asked for
-abbrev pub Becomes : Order → List ℕ → Answer → Type 0
-Becomes order message answer = BecomesAs (schema_named order.kind) order message answer
+abbrev pub Becomes : Translation → List ℕ → Answer → Type 0
+Becomes t message answer = BecomesAs (schema_named t.kind) t message answer
 
 abbrev pub fault_named : RecodeFault → Fault
 fault_named (recode_fault.NotAnEncoding e) = fault.NotAnEncoding
@@ -30,88 +47,209 @@ fault_named (recode_fault.NoTarget e) = fault.NoTargetEncoding
 fault_named recode_fault.Memory = fault.OutOfMemory
 
 -- a fault of translating a message of a type is what becomes of it, or want of memory
-abbrev pub IsRefusedAs : Schema → Order → List ℕ → Fault → Type 0
-IsRefusedAs s order message fault.NotAnEncoding = BecomesAs s order message not_an_encoding
-IsRefusedAs s order message fault.SurplusOctets = BecomesAs s order message surplus
-IsRefusedAs s order message fault.NoTargetEncoding = BecomesAs s order message no_target
-IsRefusedAs s order message fault.OutOfMemory = Unit {0}
-IsRefusedAs s order message fault.ReadFailed = ⊥
-IsRefusedAs s order message fault.WriteFailed = ⊥
+abbrev pub IsRefusedAs : Schema → Translation → List ℕ → Fault → Type 0
+IsRefusedAs s t message fault.NotAnEncoding = BecomesAs s t message not_an_encoding
+IsRefusedAs s t message fault.SurplusOctets = BecomesAs s t message surplus
+IsRefusedAs s t message fault.NoTargetEncoding = BecomesAs s t message no_target
+IsRefusedAs s t message fault.OutOfMemory = Unit {0}
+IsRefusedAs s t message _ = ⊥
 
 -- the same of what was asked for
-abbrev pub IsRefusedBy : Order → List ℕ → Fault → Type 0
-IsRefusedBy order message f = IsRefusedAs (schema_named order.kind) order message f
+abbrev pub IsRefusedBy : Translation → List ℕ → Fault → Type 0
+IsRefusedBy t message f = IsRefusedAs (schema_named t.kind) t message f
 
--- ---- reading and writing
-
--- a writer took a beginning of the octets: all of them, unless it failed
-pub record Begins (held held' : Option (List ℕ)) (octets : List ℕ) : Type 0 where
-  pub count : ℕ
-  pub took : Appends held held' (take count octets)
+-- ---- one message
 
 -- a reader gave all its octets
-pub record IsAllRead (old new : Option (List ℕ)) (message : List ℕ) : Type 0 where
+pub record IsAllRead (old new : Known) (message : List ℕ) : Type 0 where
   pub read : Consumes old new message
   pub ended : IsAtEnd new
 
 -- all was read, and this became of it
-pub record IsAnswered (order : Order) (old new : Option (List ℕ)) (answer : Answer) : Type 0 where
+pub record IsAnswered (t : Translation) (old new : Known) (answer : Answer) : Type 0 where
   pub message : List ℕ
   pub read : IsAllRead old new message
-  pub answers : Becomes order message answer
+  pub answers : Becomes t message answer
 
--- all was read and translated, and the answer was written
-pub record IsDone (order : Order) (unread unread' held held' : Option (List ℕ)) : Type 0 where
+-- octets that are right were written
+pub record IsWritten (IsRight : List ℕ → Type 0) (held held' : Known) : Type 0 where
   pub octets : List ℕ
-  pub right : IsAnswered order unread unread' (answered octets)
+  pub right : IsRight octets
   pub wrote : Appends held held' octets
 
--- all was read and translated, but the writer failed behind a beginning of the answer
-pub record IsCutOff (order : Order) (unread unread' held held' : Option (List ℕ)) : Type 0 where
+-- of octets that are right a beginning was written, and then the writer failed
+pub record IsCutOff (IsRight : List ℕ → Type 0) (held held' : Known) : Type 0 where
   pub octets : List ℕ
-  pub right : IsAnswered order unread unread' (answered octets)
-  pub began : Begins held held' octets
+  pub right : IsRight octets
+  pub began : BeginsToAppend held held' octets
+
+-- all was read, and this is the translation of it
+abbrev pub IsTranslated : Translation → Known → Known → List ℕ → Type 0
+IsTranslated t unread unread' octets = IsAnswered t unread unread' (answered octets)
+
+-- all was read and translated, and the answer was written
+abbrev pub DoesOnce : Translation → Known → Known → Known → Known → Type 0
+DoesOnce t unread unread' held held' = IsWritten (IsTranslated t unread unread') held held'
 
 -- a fault before there is an answer leaves the writer as it was
-abbrev pub StopsBy : Order → Option (List ℕ) → Option (List ℕ) → Option (List ℕ) → Option (List ℕ) → Fault → Type 0
-StopsBy order unread unread' held held' fault.NotAnEncoding = IsAnswered order unread unread' not_an_encoding × Keeps held held'
-StopsBy order unread unread' held held' fault.SurplusOctets = IsAnswered order unread unread' surplus × Keeps held held'
-StopsBy order unread unread' held held' fault.NoTargetEncoding = IsAnswered order unread unread' no_target × Keeps held held'
-StopsBy order unread unread' held held' fault.OutOfMemory = Keeps held held'
-StopsBy order unread unread' held held' fault.ReadFailed = Keeps held held'
-StopsBy order unread unread' held held' fault.WriteFailed = IsCutOff order unread unread' held held'
+abbrev pub StopsOnceBy : Translation → Known → Known → Known → Known → Fault → Type 0
+StopsOnceBy t unread unread' held held' fault.NotAnEncoding =
+    IsAnswered t unread unread' not_an_encoding × Keeps held held'
+StopsOnceBy t unread unread' held held' fault.SurplusOctets =
+    IsAnswered t unread unread' surplus × Keeps held held'
+StopsOnceBy t unread unread' held held' fault.NoTargetEncoding =
+    IsAnswered t unread unread' no_target × Keeps held held'
+StopsOnceBy t unread unread' held held' fault.OutOfMemory = Keeps held held'
+StopsOnceBy t unread unread' held held' fault.ReadFailed = Keeps held held'
+StopsOnceBy t unread unread' held held' fault.WriteFailed = IsCutOff (IsTranslated t unread unread') held held'
+StopsOnceBy t unread unread' held held' _ = ⊥
+
+-- ---- a stream of messages
+
+-- all was read, to its end, and relayed to its end, by messages of a type. Std's readers and writers count no failed
+-- calls: those of the run are counted from 0 on, here and below
+abbrev pub DoesStreamAs : Schema → Codec → Codec → ℕ → Known → Known → Known → Known → Type 0
+DoesStreamAs s from to limit unread unread' held held' =
+    IsDone (rules_of from) (rules_of to) s limit (ends unread held 0 0) (ends unread' held' 0 0)
+
+-- the same by what was asked for
+abbrev pub DoesStream : Translation → ℕ → Known → Known → Known → Known → Type 0
+DoesStream t limit unread unread' held held' =
+    DoesStreamAs (schema_named t.kind) t.from t.to limit unread unread' held held'
+
+-- a fault stops it
+pub record StopsStreamAs (s : Schema) (from to : Codec) (limit : ℕ) (unread unread' held held' : Known)
+    (reason : RunFault) : Type 0 where
+  pub reads : ℕ
+  pub writes : ℕ
+  pub stops : RunFaultOf (rules_of from) (rules_of to) s limit
+      (ends unread held 0 0) (ends unread' held' reads writes) reason
+
+-- the same by what was asked for
+abbrev pub StopsStreamBy : Translation → ℕ → Known → Known → Known → Known → RunFault → Type 0
+StopsStreamBy t limit unread unread' held held' =
+    StopsStreamAs (schema_named t.kind) t.from t.to limit unread unread' held held'
+
+abbrev pub run_fault_named : RunFault → Fault
+run_fault_named run_fault.Read = fault.ReadFailed
+run_fault_named run_fault.Write = fault.WriteFailed
+run_fault_named (run_fault.Relay at) = fault.AtMessage at
+run_fault_named run_fault.Memory = fault.OutOfMemory
+
+-- a fault of the run stops it, under the command's name for it
+pub record IsRunFault (t : Translation) (limit : ℕ) (unread unread' held held' : Known) (f : Fault) : Type 0 where
+  pub reason : RunFault
+  pub is : f ≡ run_fault_named reason
+  pub stops : StopsStreamBy t limit unread unread' held held' reason
+
+-- ---- one message along a route
+
+-- what comes of a message on a route
+abbrev pub ComesAs : Schema → Schema → Codec → List Hop → List ℕ → Outcome → Type 0
+ComesAs old new from hops message outcome = IsOutcome old new (rules_of from) (hops_of hops) message outcome
+
+-- there is such a hop, and those in front of it answer
+abbrev pub ReachesAs : Schema → Schema → Codec → List Hop → List ℕ → ℕ → Type 0
+ReachesAs old new from hops message i = Reaches old new (rules_of from) (hops_of hops) message i
+
+abbrev pub hop_fault_named : RouteFaultKind → HopFault
+hop_fault_named (route_fault.Read e) = hop.NotAnEncoding
+hop_fault_named route_fault.Surplus = hop.SurplusOctets
+hop_fault_named (route_fault.NoTarget e) = hop.NoTargetEncoding
+hop_fault_named route_fault.Memory = hop.OutOfMemory
+
+abbrev pub route_fault_named : RouteFault → Fault
+route_fault_named f = fault.AtHop f.hop (hop_fault_named f.kind)
+
+-- a fault at a hop is what comes of the message, or want of memory at a hop that it reaches
+abbrev pub IsTurnedBackAs : Schema → Schema → Codec → List Hop → List ℕ → Fault → Type 0
+IsTurnedBackAs old new from hops message (fault.AtHop i hop.NotAnEncoding) =
+    ComesAs old new from hops message (refused i not_an_encoding)
+IsTurnedBackAs old new from hops message (fault.AtHop i hop.SurplusOctets) =
+    ComesAs old new from hops message (refused i surplus)
+IsTurnedBackAs old new from hops message (fault.AtHop i hop.NoTargetEncoding) =
+    ComesAs old new from hops message (refused i no_target)
+IsTurnedBackAs old new from hops message (fault.AtHop i hop.OutOfMemory) = ReachesAs old new from hops message i
+IsTurnedBackAs old new from hops message _ = ⊥
+
+-- the same by what was asked for
+abbrev pub ComesBy : Route → List ℕ → Outcome → Type 0
+ComesBy r message outcome = ComesAs (older_named r.pair) (newer_named r.pair) r.from r.hops message outcome
+
+abbrev pub IsTurnedBackBy : Route → List ℕ → Fault → Type 0
+IsTurnedBackBy r message f = IsTurnedBackAs (older_named r.pair) (newer_named r.pair) r.from r.hops message f
+
+-- all was read, and these octets come of it
+pub record IsSent (r : Route) (unread unread' : Known) (octets : List ℕ) : Type 0 where
+  pub message : List ℕ
+  pub read : IsAllRead unread unread' message
+  pub arrives : ComesBy r message (arrived octets)
+
+-- all was read and sent, and what arrived was written
+abbrev pub DoesRoute : Route → Known → Known → Known → Known → Type 0
+DoesRoute r unread unread' held held' = IsWritten (IsSent r unread unread') held held'
+
+-- all was read, and a hop turned it back
+pub record IsTurnedBack (r : Route) (unread unread' : Known) (f : Fault) : Type 0 where
+  pub message : List ℕ
+  pub read : IsAllRead unread unread' message
+  pub refuses : IsTurnedBackBy r message f
+
+-- a fault before the message has arrived leaves the writer as it was
+abbrev pub StopsRouteBy : Route → Known → Known → Known → Known → Fault → Type 0
+StopsRouteBy r unread unread' held held' (fault.AtHop i kind) =
+    IsTurnedBack r unread unread' (fault.AtHop i kind) × Keeps held held'
+StopsRouteBy r unread unread' held held' fault.OutOfMemory = Keeps held held'
+StopsRouteBy r unread unread' held held' fault.ReadFailed = Keeps held held'
+StopsRouteBy r unread unread' held held' fault.WriteFailed = IsCutOff (IsSent r unread unread') held held'
+StopsRouteBy r unread unread' held held' _ = ⊥
+
+-- ---- what was asked for
+
+abbrev pub Does : Task → Known → Known → Known → Known → Type 0
+Does (once t) unread unread' held held' = DoesOnce t unread unread' held held'
+Does (stream t limit) unread unread' held held' = DoesStream t limit unread unread' held held'
+Does (route r) unread unread' held held' = DoesRoute r unread unread' held held'
+
+abbrev pub StopsBy : Task → Known → Known → Known → Known → Fault → Type 0
+StopsBy (once t) unread unread' held held' f = StopsOnceBy t unread unread' held held' f
+StopsBy (stream t limit) unread unread' held held' f = IsRunFault t limit unread unread' held held' f
+StopsBy (route r) unread unread' held held' f = StopsRouteBy r unread unread' held held' f
 
 -- ---- statuses
 
 -- status 0: the command line asks for something, and that is done
-pub record HasDone (asked : Option Order) (unread unread' held held' : Option (List ℕ)) : Type 0 where
-  pub order : Order
-  pub asks : asked ≡ Some order
-  pub done : IsDone order unread unread' held held'
+pub record HasDone (asked : Option Task) (unread unread' held held' : Known) : Type 0 where
+  pub task : Task
+  pub asks : asked ≡ Some task
+  pub done : Does task unread unread' held held'
 
 -- the command line asks for something, a fault stops it, and its line is written
-pub record IsStopped (asked : Option Order) (unread unread' held held' said said' : Option (List ℕ)) : Type 0 where
-  pub order : Order
-  pub asks : asked ≡ Some order
+pub record IsStopped (asked : Option Task) (unread unread' held held' said said' : Known) : Type 0 where
+  pub task : Task
+  pub asks : asked ≡ Some task
   pub reason : Fault
-  pub stops : StopsBy order unread unread' held held' reason
-  pub says : Begins said said' (line_of reason)
+  pub stops : StopsBy task unread unread' held held' reason
+  pub says : BeginsToAppend said said' (line_of reason)
 
 -- nothing was read, and nothing written
-pub record IsUntouched (unread unread' held held' : Option (List ℕ)) : Type 0 where
+pub record IsUntouched (unread unread' held held' : Known) : Type 0 where
   pub unread_still : Keeps unread unread'
   pub held_still : Keeps held held'
 
 -- no memory was left to read the command line
-pub record IsUnasked (unread unread' held held' said said' : Option (List ℕ)) : Type 0 where
+pub record IsUnasked (unread unread' held held' said said' : Known) : Type 0 where
   pub untouched : IsUntouched unread unread' held held'
-  pub says : Begins said said' (line_of fault.OutOfMemory)
+  pub says : BeginsToAppend said said' (line_of fault.OutOfMemory)
 
--- status 1: no memory was left to read the command line, or a fault stopped the run; the errors' writer took the line of it
-abbrev pub HasFailed : Option Order → Option (List ℕ) → Option (List ℕ) → Option (List ℕ) → Option (List ℕ) → Option (List ℕ) → Option (List ℕ) → Type 0
-HasFailed asked unread unread' held held' said said' = IsUnasked unread unread' held held' said said' ⊎ IsStopped asked unread unread' held held' said said'
+-- status 1: no memory was left to read the command line, or a fault stopped the run; the errors' writer took the line
+-- of it
+abbrev pub HasFailed : Option Task → Known → Known → Known → Known → Known → Known → Type 0
+HasFailed asked unread unread' held held' said said' =
+    IsUnasked unread unread' held held' said said'
+    ⊎ IsStopped asked unread unread' held held' said said'
 
 -- status 2: the command line asks for nothing
-pub record HasRefused (asked : Option Order) (unread unread' held held' : Option (List ℕ)) : Type 0 where
+pub record HasRefused (asked : Option Task) (unread unread' held held' : Known) : Type 0 where
   pub bad : asked ≡ None
   pub untouched : IsUntouched unread unread' held held'

@@ -5,6 +5,6 @@ mod fault;
 mod order;
 mod program;
 
-pub use fault::Fault;
-pub use order::{Kind, Order, read_order};
+pub use fault::{Fault, HopFault};
+pub use order::{Kind, Order, Pair, Translation, read_order};
 pub use program::{command, refuse_arguments, translate_all};

@@ -1,11 +1,18 @@
 //! What a command line asks for.
-ghost use Rattle.std.specs.Prelude.{◌≡◌, ◌⊎◌, None, Some, IfErr, IfOk, codes, false, map};
-ghost use Rattle.clap.specs.Words.{app_of, first_value, found_of, kind_of, rule_of, subcommand_rows_of};
-ghost use Rattle.asn1_relay_command.specs.Orders.{codec_by_name, kind_by_name, option_rule, order_by_names, order_in_command, order_of, program_app};
+ghost use Rattle.std.specs.Prelude.{◌≡◌, ◌≢◌, ◌⊎◌, ◌≤◌, [], None, Some, IfErr, IfOk, IfSome, codes, false, map};
+ghost use Rattle.std.specs.Prelude.{option_and_then, option_map};
+ghost use Rattle.clap.specs.Words.{app_of, first_value, found_of, kind_of, one_text, rows_of, rule_of};
+ghost use Rattle.clap.specs.Words.{subcommand_rows_of};
+ghost use Rattle.asn1_relay_command.specs.Orders.{CanBeDone, asked_by, codec_by_name, hop_by_name, hop_rule};
+ghost use Rattle.asn1_relay_command.specs.Orders.{hops_by_names, hops_in_rows, kind_by_name, limit_by_text};
+ghost use Rattle.asn1_relay_command.specs.Orders.{limit_rule, once_in_rows, option_rule, pair_by_name, program_app};
+ghost use Rattle.asn1_relay_command.specs.Orders.{route_app, route_by_names, route_in_rows, stream_in_rows};
+ghost use Rattle.asn1_relay_command.specs.Orders.{task_in_command, task_of, translating_app, translation_by_names};
 
 use asn1_relay_core::Codec;
+use asn1_relay_routes::{Hop, Version};
 use clap::error::ErrorKind;
-use clap::{Arg, ArgMatches, Command, Error};
+use clap::{Arg, ArgAction, ArgMatches, Command, Error, value_parser};
 use std::alloc::{AllocError, Global};
 use std::convert::AsStr;
 
@@ -44,15 +51,51 @@ pub enum Kind {
     Group,
 }
 
-/// What to do: one message of this type becomes, from the one set of rules, that in the other.
+/// A type of message in two versions.
 #[derive(Clone, Copy, Debug, PartialEq, Eq)]
-pub struct Order {
+pub enum Pair {
+    /// `old` and `new` of the types of message.
+    Plain,
+    /// SEQUENCE {s S DEFAULT {a TRUE}}, where S is `old` or `new`.
+    Default,
+    /// SEQUENCE {a BOOLEAN, ...}, and with an addition that stays required: r [1] BOOLEAN.
+    Required,
+    /// ENUMERATED {red, ...} and ENUMERATED {red, ..., blue}.
+    Colour,
+}
+
+/// How messages of a type are translated, from the one set of rules to the other.
+#[derive(Clone, Copy, Debug, PartialEq, Eq)]
+pub struct Translation {
     /// The rules of the input.
     pub from: Codec,
     /// The rules of the output.
     pub to: Codec,
-    /// The type of the message.
+    /// The type of the messages.
     pub kind: Kind,
+}
+
+/// What to do.
+#[derive(Debug, Drop, PartialEq, Eq)]
+pub enum Order {
+    /// Translate one message, which is all of the input.
+    Once(Translation),
+    /// Translate messages that are strung together.
+    Stream {
+        /// How each message is translated.
+        translation: Translation,
+        /// How many octets a message may have, 1 or more.
+        limit: u32,
+    },
+    /// Send one message, which is all of the input, along a route.
+    Route {
+        /// The rules of the input.
+        from: Codec,
+        /// The versions of its type.
+        pair: Pair,
+        /// The hops, one or more.
+        hops: Vec<Hop>,
+    },
 }
 
 /// The rules of this name.
@@ -92,6 +135,57 @@ fn kind_named(name: &str) -> Option<Kind>
     }
 }
 
+/// The pair of versions of this name.
+fn pair_named(name: &str) -> Option<Pair>
+    ensures { result ≡ pair_by_name name.now }
+{
+    match name {
+        "plain" => Some(Pair::Plain),
+        "default" => Some(Pair::Default),
+        "required" => Some(Pair::Required),
+        "colour" => Some(Pair::Colour),
+        _ => None,
+    }
+}
+
+/// A hop of this version that writes by these rules.
+fn hop(version: Version, to: Codec) -> Option<Hop>
+    ensures { result ≡ Some (record { version = version; to = to }) }
+{
+    Some(Hop { version, to })
+}
+
+/// The hop of this name: a version, and the rules in which it writes.
+fn hop_named(name: &str) -> Option<Hop>
+    ensures { result ≡ hop_by_name name.now }
+{
+    match name {
+        "old:uper" => hop(Version::Old, Codec::Uper),
+        "old:aper" => hop(Version::Old, Codec::Aper),
+        "old:oer" => hop(Version::Old, Codec::Oer),
+        "old:coer" => hop(Version::Old, Codec::Coer),
+        "new:uper" => hop(Version::New, Codec::Uper),
+        "new:aper" => hop(Version::New, Codec::Aper),
+        "new:oer" => hop(Version::New, Codec::Oer),
+        "new:coer" => hop(Version::New, Codec::Coer),
+        _ => None,
+    }
+}
+
+/// The hops of these names, in turn, if each names one.
+fn hops_named(alloc: Global, names: &[&str]) -> Result<Option<Vec<Hop>>, AllocError>
+    ensures { IfOk result (λ hops. option_map (λ v. v.items) hops ≡ hops_by_names (map (λ s. s.now) names.now)) }
+{
+    let mut hops = Vec::new(alloc);
+    for name in names {
+        match hop_named(name) {
+            Some(hop) => hops.push(hop)?,
+            None => return Ok(None),
+        }
+    }
+    Ok(Some(hops))
+}
+
 /// An option that takes one word and has to be there.
 fn option<'a>(alloc: Global, name: &'a str, help: &'a str) -> Arg<'a>
     ensures rule { rule_of result ≡ option_rule name.entry.now }
@@ -100,12 +194,12 @@ fn option<'a>(alloc: Global, name: &'a str, help: &'a str) -> Arg<'a>
     Arg::new(alloc, name).long(name).required(true).help(help)
 }
 
-/// The words that the program knows.
-fn grammar<'a>(alloc: Global) -> Result<Command<'a>, AllocError>
-    ensures { IfOk result (λ g. app_of g ≡ program_app) }
+/// A command that translates: its options name both sets of rules, and the type.
+fn translating<'a>(alloc: Global, name: &'a str, about: &'a str) -> Result<Command<'a>, AllocError>
+    ensures { IfOk result (λ c. app_of c ≡ translating_app name.entry.now) }
 {
-    let once = Command::new(alloc, "once")
-        .about("Translates the message that is all of standard input")
+    Command::new(alloc, name)
+        .about(about)
         .arg(option(
             alloc,
             "from",
@@ -119,35 +213,168 @@ fn grammar<'a>(alloc: Global) -> Result<Command<'a>, AllocError>
         .arg(option(
             alloc,
             "type",
-            "the type of the message: bool, small, pair, integer, bits, octets, visible, null, nulls, set, bag, nest, new, old or group",
-        ))?;
+            "the type of a message: bool, small, pair, integer, bits, octets, visible, null, nulls, set, bag, nest, new, old or group",
+        ))
+}
+
+/// The option of the limit.
+fn limit_option<'a>(alloc: Global) -> Arg<'a>
+    ensures rule { rule_of result ≡ limit_rule }
+    ensures local { result.global ≡ false }
+{
+    option(
+        alloc,
+        "limit",
+        "how many octets a message may have, from 1 to 4294967295",
+    )
+    .value_parser(value_parser!(u32).range(1..))
+}
+
+/// The option of a hop, which is there once or more.
+fn hop_option<'a>(alloc: Global) -> Arg<'a>
+    ensures rule { rule_of result ≡ hop_rule }
+    ensures local { result.global ≡ false }
+{
+    option(
+        alloc,
+        "hop",
+        "a version and the rules in which the hop writes: old or new, a colon, and uper, aper, oer or coer; once or more",
+    )
+    .action(ArgAction::Append)
+}
+
+/// The command that sends a message along a route.
+fn routing<'a>(alloc: Global) -> Result<Command<'a>, AllocError>
+    ensures { IfOk result (λ c. app_of c ≡ route_app) }
+{
+    Command::new(alloc, "route")
+        .about(
+            "Sends the message that is all of standard input from hop to hop, each of which knows a version of its type",
+        )
+        .arg(option(
+            alloc,
+            "from",
+            "the rules of the input: uper, aper, oer or coer",
+        ))?
+        .arg(option(
+            alloc,
+            "pair",
+            "the versions of the type: plain, default, required or colour",
+        ))?
+        .arg(hop_option(alloc))
+}
+
+/// The words that the program knows.
+fn grammar<'a>(alloc: Global) -> Result<Command<'a>, AllocError>
+    ensures { IfOk result (λ g. app_of g ≡ program_app) }
+{
+    let once = translating(
+        alloc,
+        "once",
+        "Translates the message that is all of standard input",
+    )?;
+    let stream = translating(
+        alloc,
+        "stream",
+        "Translates the messages that are strung together in standard input",
+    )?
+    .arg(limit_option(alloc))?;
+    let route = routing(alloc)?;
     Command::new(alloc, "asn1_relay")
         .about("Translates messages between encoding rules of ASN.1")
         .subcommand_required(true)
-        .subcommand(once)
+        .subcommand(once)?
+        .subcommand(stream)?
+        .subcommand(route)
 }
 
-/// What the options of `once` ask for, if each of them names something.
-fn order_in_options(once: &ArgMatches<'_>) -> Option<Order>
-    ensures { result ≡ order_by_names (first_value (found_of once.now) (codes "from")) (first_value (found_of once.now) (codes "to"))
-        (first_value (found_of once.now) (codes "type")) }
+/// The translation that the options ask for, if each of them names something.
+fn translation_in(options: &ArgMatches<'_>) -> Option<Translation>
+    ensures { result ≡ translation_by_names (first_value (found_of options.now) (codes "from"))
+        (first_value (found_of options.now) (codes "to")) (first_value (found_of options.now) (codes "type")) }
 {
-    Some(Order {
-        from: codec_named(once.get_str("from")?)?,
-        to: codec_named(once.get_str("to")?)?,
-        kind: kind_named(once.get_str("type")?)?,
+    Some(Translation {
+        from: codec_named(options.get_str("from")?)?,
+        to: codec_named(options.get_str("to")?)?,
+        kind: kind_named(options.get_str("type")?)?,
     })
 }
 
-/// What words that follow the grammar ask for, if each of them names something.
-fn order_in(matches: &ArgMatches<'_>) -> Option<Order>
-    ensures { result ≡ order_in_command (subcommand_rows_of matches.now) }
+/// The limit that the options ask for, if there is one.
+fn limit_in(options: &ArgMatches<'_>) -> Option<u32>
+    ensures limit { result ≡ option_and_then limit_by_text (one_text (found_of options.now) (codes "limit")) }
+    ensures some { IfSome result (λ n. 1 ≤ n) }
 {
-    let (name, options) = matches.subcommand()?;
-    if name == "once" {
-        order_in_options(options)
-    } else {
-        None
+    let limit = options.get_one::<u32>("limit")?;
+    if limit >= 1 { Some(limit) } else { None }
+}
+
+/// What the options of `once` ask for, if each of them names something.
+fn once_in(options: &ArgMatches<'_>) -> Option<Order>
+    ensures task { option_map task_of result ≡ once_in_rows (rows_of (found_of options.now)) }
+    ensures sound { IfSome result (λ order. CanBeDone (task_of order)) }
+{
+    let translation = translation_in(options)?;
+    Some(Order::Once(translation))
+}
+
+/// What the options of `stream` ask for, if each of them names something.
+fn stream_in(options: &ArgMatches<'_>) -> Option<Order>
+    ensures task { option_map task_of result ≡ stream_in_rows (rows_of (found_of options.now)) }
+    ensures sound { IfSome result (λ order. CanBeDone (task_of order)) }
+{
+    let translation = translation_in(options)?;
+    let limit = limit_in(options)?;
+    Some(Order::Stream { translation, limit })
+}
+
+/// The hops that the options ask for, if each of them names one.
+fn hops_in(alloc: Global, options: &ArgMatches<'_>) -> Result<Option<Vec<Hop>>, AllocError>
+    ensures { IfOk result (λ hops. option_map (λ v. v.items) hops ≡ hops_in_rows (rows_of (found_of options.now))) }
+{
+    match options.get_strs("hop") {
+        Some(names) => hops_named(alloc, names),
+        None => Ok(None),
+    }
+}
+
+/// What the options of `route` ask for beside these hops, if each of them names something, and there is a hop.
+fn route_by(options: &ArgMatches<'_>, hops: Option<Vec<Hop>>) -> Option<Order>
+    ensures task { option_map task_of result ≡ route_by_names (first_value (found_of options.now) (codes "from"))
+        (first_value (found_of options.now) (codes "pair")) (option_map (λ v. v.items) hops) }
+    ensures sound { IfSome result (λ order. CanBeDone (task_of order)) }
+{
+    let from = codec_named(options.get_str("from")?)?;
+    let pair = pair_named(options.get_str("pair")?)?;
+    let hops = hops?;
+    if hops.is_empty() {
+        return None;
+    }
+    Some(Order::Route { from, pair, hops })
+}
+
+/// What the options of `route` ask for, if each of them names something.
+fn route_in(alloc: Global, options: &ArgMatches<'_>) -> Result<Option<Order>, AllocError>
+    ensures task { IfOk result (λ order. option_map task_of order ≡ route_in_rows (rows_of (found_of options.now))) }
+    ensures sound { IfOk result (λ order. IfSome order (λ o. CanBeDone (task_of o))) }
+{
+    let hops = hops_in(alloc, options)?;
+    Ok(route_by(options, hops))
+}
+
+/// What words that follow the grammar ask for, if each of them names something.
+fn order_in(alloc: Global, matches: &ArgMatches<'_>) -> Result<Option<Order>, AllocError>
+    ensures task { IfOk result (λ order. option_map task_of order ≡ task_in_command (subcommand_rows_of matches.now)) }
+    ensures sound { IfOk result (λ order. IfSome order (λ o. CanBeDone (task_of o))) }
+{
+    match matches.subcommand() {
+        Some((name, options)) => match name {
+            "once" => Ok(once_in(options)),
+            "stream" => Ok(stream_in(options)),
+            "route" => route_in(alloc, options),
+            _ => Ok(None),
+        },
+        None => Ok(None),
     }
 }
 
@@ -158,16 +385,18 @@ fn order_in(matches: &ArgMatches<'_>) -> Option<Order>
 ///
 /// Where the line asks for nothing that the program does, for the help text too, or for want of memory, of the kind `OutOfMemory`.
 pub fn read_order<S: AsStr>(alloc: Global, words: &[S]) -> Result<Order, Error>
-    ensures ok { IfOk result (λ order. order_of (map S.text words.now) ≡ Some order) }
-    ensures bad { IfErr result (λ e. (order_of (map S.text words.now) ≡ None) ⊎ (kind_of e ≡ ErrorKind.OutOfMemory)) }
+    ensures ok { IfOk result (λ order. asked_by (map S.text words.now) ≡ Some (task_of order)) }
+    ensures sound { IfOk result (λ order. CanBeDone (task_of order)) }
+    ensures bad { IfErr result (λ e. (asked_by (map S.text words.now) ≡ None) ⊎ (kind_of e ≡ ErrorKind.OutOfMemory)) }
 {
     let mut grammar = grammar(alloc)?;
     let matches = grammar.try_get_matches_from_mut(words)?;
-    match order_in(&matches) {
+    let order = order_in(alloc, &matches)?;
+    match order {
         Some(order) => Ok(order),
         None => Err(grammar.error(
             ErrorKind::InvalidValue,
-            "rules are uper, aper, oer or coer, and types bool, small, pair, integer, bits, octets, visible, null, nulls, set, bag, nest, new, old or group",
+            "rules are uper, aper, oer or coer, types bool, small, pair, integer, bits, octets, visible, null, nulls, set, bag, nest, new, old or group, pairs plain, default, required or colour, and hops old or new, a colon and rules",
         )?),
     }
 }

@@ -1,17 +1,27 @@
 //! The command of the program.
-ghost use Rattle.std.specs.Prelude.{◌≡◌, ◌≢◌, ◌⊎◌, ◌≤◌, IfErr, IfOk, MatchResult, OnErr, OnOk, map};
+ghost use Rattle.std.specs.Prelude.{◌≡◌, ◌≢◌, ◌⊎◌, ◌≤◌, [], IfErr, IfOk, MatchResult, OnOk, map};
 ghost use Rattle.std.specs.Io.KnownBytes.{Appends, Keeps};
 ghost use Rattle.std.specs.IoError.{error_kind};
 ghost use Rattle.clap.specs.Words.{kind_of};
 ghost use Rattle.asn1_relay_core.specs.Recoding.{answered};
+ghost use Rattle.asn1_relay_streams.specs.Ends.{BeginsToAppend};
 ghost use Rattle.asn1_relay_command.specs.Lines.{line_of};
-ghost use Rattle.asn1_relay_command.specs.Orders.{order_of};
-ghost use Rattle.asn1_relay_command.specs.Runs.{Becomes, BecomesAs, Begins, HasDone, HasFailed, HasRefused, IsAllRead, IsDone, IsRefusedAs, IsRefusedBy, StopsBy};
+ghost use Rattle.asn1_relay_routes.specs.Routing.{arrived};
+ghost use Rattle.asn1_relay_command.specs.Orders.{CanBeDone, asked_by, task_of};
+ghost use Rattle.asn1_relay_command.specs.Runs.{Becomes, BecomesAs, ComesAs, ComesBy, Does, DoesOnce, DoesRoute};
+ghost use Rattle.asn1_relay_command.specs.Runs.{DoesStream, DoesStreamAs, HasDone, HasFailed, HasRefused, IsAllRead};
+ghost use Rattle.asn1_relay_command.specs.Runs.{IsRefusedAs, IsRefusedBy, IsTurnedBackAs, IsTurnedBackBy, StopsBy};
+ghost use Rattle.asn1_relay_command.specs.Runs.{StopsOnceBy, StopsRouteBy, StopsStreamAs, StopsStreamBy};
 
 use crate::fault::Fault;
-use crate::order::{Kind, Order, read_order};
-use asn1_relay_core::recode;
-use asn1_relay_types::{Bag, Group, Nest, New, Octets, Old, Pair, Set, Small};
+use crate::order::{Kind, Order, Pair, Translation, read_order};
+use asn1_relay_core::{Codec, recode};
+use asn1_relay_routes::{Extends, Hop, route};
+use asn1_relay_streams::{RunFault, StdSink, StdSource, run, write_octets};
+use asn1_relay_types::{
+    self as types, Bag, Group, Nest, New, NewColour, NewDefault, NewRequired, Octets, Old,
+    OldColour, OldDefault, Set, Small,
+};
 use asn1_schema_decode::Decode;
 use asn1_schema_encode::Encode;
 use asn1_values_bit_strings::BitString;
@@ -22,9 +32,10 @@ use std::alloc::Global;
 use std::convert::AsStr;
 use std::io::{self, ErrorKind, Read, Write};
 
-/// Runs the program on a command line, whose first word is the program's name, and answers its exit status: 0 when the answer was
-/// written and flushed, 1 when the input could not be read or translated, the answer not written, or no memory was left (not even to read
-/// the command line), and 2 for a bad command line. At status 1 the line of the fault is written to `errors`, one line; at 2 a text.
+/// Runs the program on a command line, whose first word is the program's name, and answers its exit status: 0 when all
+/// was read and the answer written and flushed, 1 when the input could not be read or translated, the answer not
+/// written, or no memory was left (not even to read the command line), and 2 for a bad command line. At status 1 the
+/// line of the fault is written to `errors`, one line; at 2 a text.
 pub fn command<S: AsStr, R: Read, W: Write, E: Write>(
     alloc: Global,
     words: &[S],
@@ -33,28 +44,56 @@ pub fn command<S: AsStr, R: Read, W: Write, E: Write>(
     errors: &mut E,
 ) -> u8
     ensures status { result ≤ 2 }
-    ensures done { result ≡ 0 → HasDone (order_of (map S.text words.now)) (R.remaining input.old) (R.remaining input.new)
-        (W.contents output.old) (W.contents output.new) }
+    ensures done { result ≡ 0 → HasDone (asked_by (map S.text words.now))
+        (R.remaining input.old) (R.remaining input.new) (W.contents output.old) (W.contents output.new) }
     ensures quiet { result ≡ 0 → Keeps (E.contents errors.old) (E.contents errors.new) }
-    ensures failed { result ≡ 1 → HasFailed (order_of (map S.text words.now)) (R.remaining input.old) (R.remaining input.new)
-        (W.contents output.old) (W.contents output.new) (E.contents errors.old) (E.contents errors.new) }
-    ensures bad { result ≡ 2 → HasRefused (order_of (map S.text words.now)) (R.remaining input.old) (R.remaining input.new)
-        (W.contents output.old) (W.contents output.new) }
+    ensures failed { result ≡ 1 → HasFailed (asked_by (map S.text words.now))
+        (R.remaining input.old) (R.remaining input.new) (W.contents output.old) (W.contents output.new)
+        (E.contents errors.old) (E.contents errors.new) }
+    ensures bad { result ≡ 2 → HasRefused (asked_by (map S.text words.now))
+        (R.remaining input.old) (R.remaining input.new) (W.contents output.old) (W.contents output.new) }
 {
     let order = match read_order(alloc, words) {
         Ok(order) => order,
         Err(error) => return refuse(&error, errors),
     };
-    match once(alloc, order, input, output) {
+    match follow(alloc, order, input, output) {
         Ok(()) => 0,
         Err(fault) => report(fault, errors),
+    }
+}
+
+/// Does what is asked for.
+fn follow<R: Read, W: Write>(
+    alloc: Global,
+    order: Order,
+    input: &mut R,
+    output: &mut W,
+) -> Result<(), Fault>
+    requires { CanBeDone (task_of order) }
+    ensures { MatchResult result
+        (λ _. Does (task_of order)
+        (R.remaining input.old) (R.remaining input.new) (W.contents output.old) (W.contents output.new))
+        (StopsBy (task_of order)
+        (R.remaining input.old) (R.remaining input.new) (W.contents output.old) (W.contents output.new)) }
+{
+    match order {
+        Order::Once(translation) => once(alloc, translation, input, output),
+        Order::Stream { translation, limit } => {
+            stream(alloc, translation, limit, input, output)?;
+            Ok(())
+        }
+        Order::Route { from, pair, hops } => {
+            send(alloc, from, pair, hops.as_slice(), input, output)
+        }
     }
 }
 
 /// Says that the program's arguments cannot be had, and answers the exit status: 1 when no memory was left for them, and 2 when one
 /// of them is no text.
 pub fn refuse_arguments<E: Write>(error: &io::Error, errors: &mut E) -> u8
-    ensures memory { error_kind error.now ≡ ErrorKind.OutOfMemory → (result ≡ 1) × Begins (E.contents errors.old) (E.contents errors.new) (line_of Fault.OutOfMemory) }
+    ensures memory { error_kind error.now ≡ ErrorKind.OutOfMemory → (result ≡ 1)
+        × BeginsToAppend (E.contents errors.old) (E.contents errors.new) (line_of Fault.OutOfMemory) }
     ensures text { error_kind error.now ≢ ErrorKind.OutOfMemory → result ≡ 2 }
 {
     if error.kind() == ErrorKind::OutOfMemory {
@@ -66,7 +105,8 @@ pub fn refuse_arguments<E: Write>(error: &io::Error, errors: &mut E) -> u8
 
 /// Says what is wrong with a command line, and answers the exit status.
 fn refuse<E: Write>(error: &clap::Error, errors: &mut E) -> u8
-    ensures memory { kind_of error.now ≡ ParseErrorKind.OutOfMemory → (result ≡ 1) × Begins (E.contents errors.old) (E.contents errors.new) (line_of Fault.OutOfMemory) }
+    ensures memory { kind_of error.now ≡ ParseErrorKind.OutOfMemory → (result ≡ 1)
+        × BeginsToAppend (E.contents errors.old) (E.contents errors.new) (line_of Fault.OutOfMemory) }
     ensures mistake { kind_of error.now ≢ ParseErrorKind.OutOfMemory → result ≡ 2 }
 {
     if error.kind() == ParseErrorKind::OutOfMemory {
@@ -79,25 +119,27 @@ fn refuse<E: Write>(error: &clap::Error, errors: &mut E) -> u8
 /// Says what went wrong, and answers the exit status. That the line cannot be written changes nothing.
 fn report<E: Write>(fault: Fault, errors: &mut E) -> u8
     ensures status { result ≡ 1 }
-    ensures says { Begins (E.contents errors.old) (E.contents errors.new) (line_of fault) }
+    ensures says { BeginsToAppend (E.contents errors.old) (E.contents errors.new) (line_of fault) }
 {
-    let _ = write_octets(fault.line().as_bytes(), errors);
+    let _ = fault.write_line(errors);
     1
 }
 
 /// Translates the message that is all of the input. Nothing is written before all of it is translated.
 fn once<R: Read, W: Write>(
     alloc: Global,
-    order: Order,
+    translation: Translation,
     input: &mut R,
     output: &mut W,
 ) -> Result<(), Fault>
     ensures { MatchResult result
-        (λ _. IsDone order (R.remaining input.old) (R.remaining input.new) (W.contents output.old) (W.contents output.new))
-        (StopsBy order (R.remaining input.old) (R.remaining input.new) (W.contents output.old) (W.contents output.new)) }
+        (λ _. DoesOnce translation
+        (R.remaining input.old) (R.remaining input.new) (W.contents output.old) (W.contents output.new))
+        (StopsOnceBy translation
+        (R.remaining input.old) (R.remaining input.new) (W.contents output.old) (W.contents output.new)) }
 {
     let message = read_all(alloc, input)?;
-    let answer = translate_all(alloc, order, message.as_slice())?;
+    let answer = translate_all(alloc, translation, message.as_slice())?;
     write_all(answer.as_slice(), output)
 }
 
@@ -120,15 +162,39 @@ fn read_all<R: Read>(alloc: Global, input: &mut R) -> Result<Vec<u8>, Fault>
     Err(Fault::ReadFailed)
 }
 
+/// A call at the type of a message that a kind names.
+macro_rules! at_kind {
+    ($kind:expr, $call:ident::<T $(, $other:ty)*>($($argument:expr),*)) => {
+        match $kind {
+            Kind::Bool => $call::<bool $(, $other)*>($($argument),*),
+            Kind::Small => $call::<Small $(, $other)*>($($argument),*),
+            Kind::Pair => $call::<types::Pair $(, $other)*>($($argument),*),
+            Kind::Integer => $call::<Integer $(, $other)*>($($argument),*),
+            Kind::Bits => $call::<BitString $(, $other)*>($($argument),*),
+            Kind::Octets => $call::<Octets $(, $other)*>($($argument),*),
+            Kind::Visible => $call::<VisibleString $(, $other)*>($($argument),*),
+            Kind::Null => $call::<() $(, $other)*>($($argument),*),
+            Kind::Nulls => $call::<Vec<()> $(, $other)*>($($argument),*),
+            Kind::Set => $call::<Set $(, $other)*>($($argument),*),
+            Kind::Bag => $call::<Bag $(, $other)*>($($argument),*),
+            Kind::Nest => $call::<Nest $(, $other)*>($($argument),*),
+            Kind::New => $call::<New $(, $other)*>($($argument),*),
+            Kind::Old => $call::<Old $(, $other)*>($($argument),*),
+            Kind::Group => $call::<Group $(, $other)*>($($argument),*),
+        }
+    };
+}
+
 /// Translates one message of the type `T`.
 fn translate<T: Encode + Decode>(
     alloc: Global,
-    order: Order,
+    translation: Translation,
     message: &[u8],
 ) -> Result<Vec<u8>, Fault>
-    ensures { MatchResult result (λ v. BecomesAs (T.schema 128) order message.now (answered v.items)) (IsRefusedAs (T.schema 128) order message.now) }
+    ensures { MatchResult result (λ v. BecomesAs (T.schema 128) translation message.now (answered v.items))
+        (IsRefusedAs (T.schema 128) translation message.now) }
 {
-    let octets = recode::<T>(alloc, order.from, order.to, message)?;
+    let octets = recode::<T>(alloc, translation.from, translation.to, message)?;
     Ok(octets)
 }
 
@@ -136,55 +202,132 @@ fn translate<T: Encode + Decode>(
 ///
 /// # Errors
 ///
-/// That of `recode` for the type, the rules of the input and those of the output that the order names.
-pub fn translate_all(alloc: Global, order: Order, message: &[u8]) -> Result<Vec<u8>, Fault>
-    ensures { MatchResult result (λ v. Becomes order message.now (answered v.items)) (IsRefusedBy order message.now) }
+/// That of `recode` for the type, the rules of the input and those of the output.
+pub fn translate_all(
+    alloc: Global,
+    translation: Translation,
+    message: &[u8],
+) -> Result<Vec<u8>, Fault>
+    ensures { MatchResult result (λ v. Becomes translation message.now (answered v.items))
+        (IsRefusedBy translation message.now) }
 {
-    match order.kind {
-        Kind::Bool => translate::<bool>(alloc, order, message),
-        Kind::Small => translate::<Small>(alloc, order, message),
-        Kind::Pair => translate::<Pair>(alloc, order, message),
-        Kind::Integer => translate::<Integer>(alloc, order, message),
-        Kind::Bits => translate::<BitString>(alloc, order, message),
-        Kind::Octets => translate::<Octets>(alloc, order, message),
-        Kind::Visible => translate::<VisibleString>(alloc, order, message),
-        Kind::Null => translate::<()>(alloc, order, message),
-        Kind::Nulls => translate::<Vec<()>>(alloc, order, message),
-        Kind::Set => translate::<Set>(alloc, order, message),
-        Kind::Bag => translate::<Bag>(alloc, order, message),
-        Kind::Nest => translate::<Nest>(alloc, order, message),
-        Kind::New => translate::<New>(alloc, order, message),
-        Kind::Old => translate::<Old>(alloc, order, message),
-        Kind::Group => translate::<Group>(alloc, order, message),
+    at_kind!(
+        translation.kind,
+        translate::<T>(alloc, translation, message)
+    )
+}
+
+/// Translates messages of the type `T` that are strung together, and writes each as it comes.
+fn stream_of<T: Encode + Decode, R: Read, W: Write>(
+    alloc: Global,
+    translation: Translation,
+    limit: u32,
+    input: &mut R,
+    output: &mut W,
+) -> Result<(), RunFault>
+    requires { 1 ≤ limit }
+    ensures { MatchResult result
+        (λ _. DoesStreamAs (T.schema 128) translation.from translation.to limit
+        (R.remaining input.old) (R.remaining input.new) (W.contents output.old) (W.contents output.new))
+        (StopsStreamAs (T.schema 128) translation.from translation.to limit
+        (R.remaining input.old) (R.remaining input.new) (W.contents output.old) (W.contents output.new)) }
+{
+    let mut source = StdSource::new(input, u64::MAX);
+    let mut sink = StdSink::new(output);
+    run::<T, _, _>(
+        alloc,
+        &mut source,
+        &mut sink,
+        translation.from,
+        translation.to,
+        limit as usize,
+    )
+}
+
+/// Translates messages that are strung together, and writes each as it comes.
+fn stream<R: Read, W: Write>(
+    alloc: Global,
+    translation: Translation,
+    limit: u32,
+    input: &mut R,
+    output: &mut W,
+) -> Result<(), RunFault>
+    requires { 1 ≤ limit }
+    ensures { MatchResult result
+        (λ _. DoesStream translation limit
+        (R.remaining input.old) (R.remaining input.new) (W.contents output.old) (W.contents output.new))
+        (StopsStreamBy translation limit
+        (R.remaining input.old) (R.remaining input.new) (W.contents output.old) (W.contents output.new)) }
+{
+    at_kind!(
+        translation.kind,
+        stream_of::<T, R, W>(alloc, translation, limit, input, output)
+    )
+}
+
+/// Sends a message of a type from hop to hop, each of which knows the older or the newer version of it.
+fn send_as<Older: Encode + Decode, Newer: Encode + Decode + Extends<Older>>(
+    alloc: Global,
+    from: Codec,
+    hops: &[Hop],
+    message: &[u8],
+) -> Result<Vec<u8>, Fault>
+    requires { hops.now ≢ [] }
+    ensures { MatchResult result
+        (λ v. ComesAs (Older.schema 128) (Newer.schema 128) from hops.now message.now (arrived v.items))
+        (IsTurnedBackAs (Older.schema 128) (Newer.schema 128) from hops.now message.now) }
+{
+    let octets = route::<Older, Newer>(alloc, hops, from, message)?;
+    Ok(octets)
+}
+
+/// Sends a message from hop to hop.
+fn send_all(
+    alloc: Global,
+    from: Codec,
+    pair: Pair,
+    hops: &[Hop],
+    message: &[u8],
+) -> Result<Vec<u8>, Fault>
+    requires { hops.now ≢ [] }
+    ensures { MatchResult result
+        (λ v. ComesBy (record { from = from; pair = pair; hops = hops.now }) message.now (arrived v.items))
+        (IsTurnedBackBy (record { from = from; pair = pair; hops = hops.now }) message.now) }
+{
+    match pair {
+        Pair::Plain => send_as::<Old, New>(alloc, from, hops, message),
+        Pair::Default => send_as::<OldDefault, NewDefault>(alloc, from, hops, message),
+        Pair::Required => send_as::<Old, NewRequired>(alloc, from, hops, message),
+        Pair::Colour => send_as::<OldColour, NewColour>(alloc, from, hops, message),
     }
 }
 
-/// Writes all octets. Where it fails, the writer took a beginning of them.
-fn write_octets<W: Write>(octets: &[u8], writer: &mut W) -> io::Result<()>
-    ensures all { OnOk result (Appends (W.contents writer.old) (W.contents writer.new) octets.now) }
-    ensures begins { Begins (W.contents writer.old) (W.contents writer.new) octets.now }
+/// Sends the message that is all of the input from hop to hop. Nothing is written before it has arrived.
+fn send<R: Read, W: Write>(
+    alloc: Global,
+    from: Codec,
+    pair: Pair,
+    hops: &[Hop],
+    input: &mut R,
+    output: &mut W,
+) -> Result<(), Fault>
+    requires { hops.now ≢ [] }
+    ensures { MatchResult result
+        (λ _. DoesRoute (record { from = from; pair = pair; hops = hops.now })
+        (R.remaining input.old) (R.remaining input.new) (W.contents output.old) (W.contents output.new))
+        (StopsRouteBy (record { from = from; pair = pair; hops = hops.now })
+        (R.remaining input.old) (R.remaining input.new) (W.contents output.old) (W.contents output.new)) }
 {
-    let mut count = 0;
-    // A turn takes an octet, of which there are fewer than 2^64, or is an interruption; so many of those count as a failure.
-    for _ in 0..u64::MAX {
-        if count == octets.len() {
-            return Ok(());
-        }
-        match writer.write(&octets[count..]) {
-            Ok(0) => return Err(io::Error::from(ErrorKind::WriteZero)),
-            Ok(more) => count += more,
-            Err(error) if error.kind() == ErrorKind::Interrupted => {}
-            Err(error) => return Err(error),
-        }
-    }
-    Err(io::Error::from(ErrorKind::Interrupted))
+    let message = read_all(alloc, input)?;
+    let answer = send_all(alloc, from, pair, hops, message.as_slice())?;
+    write_all(answer.as_slice(), output)
 }
 
 /// Writes all octets, and flushes.
 fn write_all<W: Write>(octets: &[u8], output: &mut W) -> Result<(), Fault>
     ensures ok { OnOk result (Appends (W.contents output.old) (W.contents output.new) octets.now) }
     ensures err { IfErr result (λ f. f ≡ Fault.WriteFailed) }
-    ensures begins { Begins (W.contents output.old) (W.contents output.new) octets.now }
+    ensures begins { BeginsToAppend (W.contents output.old) (W.contents output.new) octets.now }
 {
     match write_octets(octets, output) {
         Ok(()) => {}

@@ -18,7 +18,7 @@ use Rattle.asn1_relay_core.specs.declared.translation.RecodeFault.{RecodeFault}
 use Rattle.asn1_relay_core.specs.declared.translation.RecodeFault.TheVariants.{NotAnEncoding, Surplus, NoTarget, Memory}
 use Rattle.asn1_relay_core.specs.Coding.{rules_of, IsWritten, NotWritten}
 use Rattle.asn1_relay_core.specs.Recoding.{IsMessage, Answer, answered, not_an_encoding, surplus, no_target, IsAnswer, NamesMemoryAlone, answer_of, source_fault_of, target_fault_of}
-use Rattle.asn1_relay_core.proofs.Answers.{one_answer}
+use Rattle.asn1_laws_routes.proofs.Answers.{one_answer}
 
 module _ (source target : Rules) (schema : ℕ → Schema) (v : Value) (input rest : List ℕ) (t : Tells source schema v input rest) where
   -- the value nests no deeper than what was read
@@ -61,7 +61,7 @@ module _ (c d : Codec) (schema : ℕ → Schema) (w : List ℕ) (lawful : IsLawf
   Rights x = IsRight c d (schema 128) w x
 
   only_right : (x y : Answer) → IsAnswer (rules_of c) (rules_of d) (schema 128) w x → IsAnswer (rules_of c) (rules_of d) (schema 128) w y → (Some x ≡ None) ⊎ (Some x ≡ Some y)
-  only_right x y p q = inr (ap Some (one_answer c d (schema 128) w lawful x y p q))
+  only_right x y p q = inr (ap Some (one_answer (rules_of c) (rules_of d) (schema 128) w lawful x y p q))
 
   no_memory : Rights (Err Memory)
   no_memory = record { right = tt; exact = λ a q. inl refl }

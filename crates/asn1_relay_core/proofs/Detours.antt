@@ -11,7 +11,7 @@ use Rattle.asn1_laws_values.proofs.Normal.{normal_depth}
 use Rattle.asn1_relay_core.specs.declared.codec.Codec.{Codec}
 use Rattle.asn1_relay_core.specs.Coding.{rules_of}
 use Rattle.asn1_relay_core.specs.Recoding.{IsMessage, Answer, answered, not_an_encoding, surplus, no_target, IsAnswer}
-use Rattle.asn1_relay_core.proofs.Answers.{whole, alike, none_behind}
+use Rattle.asn1_laws_routes.proofs.Answers.{whole, alike, none_behind}
 
 module _ (from via : Codec) (s : Schema) (w octets : List ℕ) (lawful : IsLawful s) (first : IsAnswer (rules_of from) (rules_of via) s w (answered octets)) where
   -- the octets on the way are a message of the normal form
@@ -28,14 +28,14 @@ module _ (from via : Codec) (s : Schema) (w octets : List ℕ) (lawful : IsLawfu
   pub behind_a_detour : (to : Codec) (x : Answer) → IsAnswer (rules_of via) (rules_of to) s octets x → IsAnswer (rules_of from) (rules_of to) s w x
   behind_a_detour to (answered b) p = (first.0, first.1, sym (kept to p.0 p.1) ∙ p.2)
   behind_a_detour to not_an_encoding p = absurd (p octets [] (normal s first.0) (whole octets) between)
-  behind_a_detour to surplus p = absurd (p.4 (none_behind via to s octets lawful (normal s first.0) p.2 p.0 p.1 between p.5 p.3))
+  behind_a_detour to surplus p = absurd (p.4 (none_behind (rules_of via) (rules_of to) s octets lawful (normal s first.0) p.2 p.0 p.1 between p.5 p.3))
   behind_a_detour to no_target p = (first.0, first.1, sym (kept to p.0 p.1) ∙ p.2)
 
   pub through_a_detour : (to : Codec) (x : Answer) → IsAnswer (rules_of from) (rules_of to) s w x → IsAnswer (rules_of via) (rules_of to) s octets x
-  through_a_detour to (answered b) p = (normal s first.0, between, kept to (normal s first.0) between ∙ (alike from to s w lawful first.0 p.0 first.1 p.1 ∙ p.2))
+  through_a_detour to (answered b) p = (normal s first.0, between, kept to (normal s first.0) between ∙ (alike (rules_of from) (rules_of to) s w lawful first.0 p.0 first.1 p.1 ∙ p.2))
   through_a_detour to not_an_encoding p = absurd (p w [] first.0 (whole w) first.1)
-  through_a_detour to surplus p = absurd (p.4 (none_behind from to s w lawful first.0 p.2 p.0 p.1 first.1 p.5 p.3))
-  through_a_detour to no_target p = (normal s first.0, between, kept to (normal s first.0) between ∙ (alike from to s w lawful first.0 p.0 first.1 p.1 ∙ p.2))
+  through_a_detour to surplus p = absurd (p.4 (none_behind (rules_of from) (rules_of to) s w lawful first.0 p.2 p.0 p.1 first.1 p.5 p.3))
+  through_a_detour to no_target p = (normal s first.0, between, kept to (normal s first.0) between ∙ (alike (rules_of from) (rules_of to) s w lawful first.0 p.0 first.1 p.1 ∙ p.2))
 
   pub again : IsAnswer (rules_of via) (rules_of via) s octets (answered octets)
   again = through_a_detour via (answered octets) first

@@ -1,9 +1,9 @@
 -- What the translation of a message is.
-use Rattle.std.specs.Prelude.{◌≡◌, ◌≢◌, ℕ, ◌≤◌, List, [], ◌++◌, Option, Some, None, Result, Ok, Err, Vec}
+use Rattle.std.specs.Prelude.{◌≡◌, ℕ, List, Option, Some, None, Result, Ok, Err, Vec}
 use Rattle.asn1_model.specs.Schema.{Schema}
-use Rattle.asn1_model.specs.Value.{Value, depth}
 use Rattle.asn1_model.specs.Lawful.{IsLawful}
-use Rattle.asn1_model.specs.Rules.{Rules, canonical, IsEncoding}
+pub use Rattle.asn1_laws_routes.specs.Answers.{IsMessage, IsAnswer}
+pub use Rattle.asn1_laws_routes.specs.Answers.{Answer, answered, not_an_encoding, surplus, no_target}
 use Rattle.asn1_schema_faults.specs.declared.DecodeError.{DecodeError}
 use Rattle.asn1_schema_faults.specs.declared.DecodeError.TheVariants as Decoding
 use Rattle.asn1_schema_faults.specs.declared.EncodeError.{EncodeError}
@@ -12,28 +12,6 @@ use Rattle.asn1_relay_core.specs.declared.codec.Codec.{Codec}
 use Rattle.asn1_relay_core.specs.declared.translation.RecodeFault.{RecodeFault}
 use Rattle.asn1_relay_core.specs.declared.translation.RecodeFault.TheVariants.{NotAnEncoding, Surplus, NoTarget, Memory}
 use Rattle.asn1_relay_core.specs.Coding.{rules_of}
-
--- The octets are one encoding of the value, which nests at most 128 levels.
-abbrev pub IsMessage : Rules → Schema → Value → List ℕ → Type 0
-IsMessage r s v w = IsEncoding r s v w × (depth v ≤ 128)
-
--- What there is to answer.
-pub data Answer : Type 0 where
-  -- these octets
-  answered : List ℕ → Answer
-  -- that no octets in front are a message
-  not_an_encoding : Answer
-  -- that a message stands in front, and octets behind it
-  surplus : Answer
-  -- that the value of the message has no encoding in the target rules
-  no_target : Answer
-
--- The answer to some octets, from one set of rules to another.
-abbrev pub IsAnswer : Rules → Rules → Schema → List ℕ → Answer → Type 0
-IsAnswer source target s w (answered octets) = (v : Value) × IsMessage source s v w × (canonical target s v ≡ Some octets)
-IsAnswer source target s w not_an_encoding = (front behind : List ℕ) (v : Value) → front ++ behind ≡ w → IsMessage source s v front → ⊥
-IsAnswer source target s w surplus = (front : List ℕ) × (behind : List ℕ) × (v : Value) × (front ++ behind ≡ w) × (behind ≢ []) × IsMessage source s v front
-IsAnswer source target s w no_target = (v : Value) × IsMessage source s v w × (canonical target s v ≡ None)
 
 -- What was answered, where memory was left.
 abbrev pub answer_of : {Z : Type 0} → Result (Vec ℕ Z) RecodeFault → Option Answer

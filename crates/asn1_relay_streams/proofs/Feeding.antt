@@ -75,10 +75,10 @@ module _ (s : Schema) (old : Relaying) (piece before : List ℕ) where
 
     -- ---- the ends of a call
 
-    pub fed : StopsAt (rules_of now.from) (rules_of now.to) s now.limit now.unread None → IsFed s old now piece before after
-    fed given =
+    pub fed : old.failed ≡ false → StopsAt (rules_of now.from) (rules_of now.to) s now.limit now.unread None → IsFed s old now piece before after
+    fed had given =
         let w : StopsAt (rules_of old.from) (rules_of old.to) s old.limit now.unread None = here (λ a b l. StopsAt a b s l now.unread None) given in
-        record { count = length h.messages; written = h.written; relays = record { messages = h.messages; counted = refl; front = h.front; stops = w }; grows = h.grows; goes_on = h.is; within = few w.1 }
+        record { had_not = had; count = length h.messages; written = h.written; relays = record { messages = h.messages; counted = refl; front = h.front; stops = w }; grows = h.grows; goes_on = h.is; within = few w.1 }
       where
         few : (now.unread ≡ []) ⊎ (¬ (HasEmptyMessage (rules_of old.from) s) × (length now.unread ≤ old.limit)) → length now.unread ≤ old.limit
         few (inl e) = let l = ap length e in omega arith

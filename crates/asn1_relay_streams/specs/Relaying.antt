@@ -40,8 +40,9 @@ onwards r unread number failed = record { from = r.from; to = r.to; limit = r.li
 abbrev pub RelaysAll : Schema → Relaying → List ℕ → ℕ → List ℕ → List ℕ → Option Stop → Type 0
 RelaysAll s r piece n out rest why = Relays (rules_of r.from) (rules_of r.to) s r.limit (r.unread ++ piece) n out rest why
 
--- All messages of the octets up to a stop are relayed, and no more octets are unread than a message may have.
+-- The relay had not stopped. All messages of the octets up to a stop are relayed, and no more octets are unread than a message may have.
 pub record IsFed (s : Schema) (old new : Relaying) (piece before after : List ℕ) : Type 0 where
+  pub had_not : old.failed ≡ false
   pub count : ℕ
   pub written : List ℕ
   pub relays : RelaysAll s old piece count written new.unread None

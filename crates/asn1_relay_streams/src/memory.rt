@@ -1,5 +1,8 @@
 //! Readers and writers of memory, one of whose calls may be made to fail.
-ghost use Rattle.std.specs.Prelude.{◌≡◌, ◌+◌, ◌<◌, Some, None, [], if◌then◌else◌, length};
+ghost use Rattle.std.specs.Prelude.{◌≡◌, ◌↔◌, ◌+◌, ◌<◌, ◌≤◌, Some, None, IfOk, IsErr, OnErr, OnOk, [], if◌then◌else◌, length, min, true};
+ghost use Rattle.std.specs.Io.KnownBytes.{Appends, Keeps, ReadConsumes};
+ghost use Rattle.asn1_relay_streams.specs.Ends.{BeginsToAppend, counted};
+ghost use Rattle.asn1_relay_streams.specs.Memory.{no_lender, one_call_on};
 
 use crate::ends::{ReadFailed, Sink, Source, WriteFailed};
 use std::alloc::Global;
@@ -45,9 +48,22 @@ impl Source for MemorySource {
 
     ghost coming = { λ s. Some s.coming };
 
-    ghost lender = { λ _. None };
+    ghost lender = { λ _. no_lender };
 
-    fn read(&mut self, room: &mut [u8]) -> Result<usize, ReadFailed> {
+    /// Fills the room as far as octets are left, and fails where it is to fail.
+    fn read(&mut self, room: &mut [u8]) -> Result<usize, ReadFailed>
+        requires { self.old.failed < 18446744073709551615 }
+        ensures fails { IsErr result ↔ (self.old.fails_in ≡ Some 0) }
+        ensures goes_on { self.new.fails_in ≡ one_call_on self.old.fails_in }
+        ensures fills { IfOk result (λ n. n ≡ min (length self.old.coming) (length room.new)) }
+        ensures bound { IfOk result (λ n. n ≤ length room.new) }
+        ensures octets { ReadConsumes (Some self.old.coming) (Some self.new.coming) result room.new }
+        ensures spends { IfOk result (λ n. length self.new.coming + 1 + n ≡ length self.old.coming + 1) }
+        ensures keeps { OnErr result (length self.new.coming + 1 ≡ length self.old.coming + 1) }
+        ensures spent { length self.old.coming + 1 ≡ 0 → IsErr result }
+        ensures counts { self.new.failed ≡ counted result self.old.failed }
+        ensures stays { no_lender ≡ no_lender }
+    {
         if self.calls.fails() {
             return Err(ReadFailed);
         }
@@ -98,9 +114,19 @@ impl Sink for MemorySink {
 
     ghost taken = { λ s. Some s.taken };
 
-    ghost lender = { λ _. None };
+    ghost lender = { λ _. no_lender };
 
-    fn write(&mut self, octets: &[u8]) -> Result<(), WriteFailed> {
+    /// Takes all octets or none: it fails where it is to fail, or finds no memory.
+    fn write(&mut self, octets: &[u8]) -> Result<(), WriteFailed>
+        requires { self.old.failed < 18446744073709551615 }
+        ensures fails { self.old.fails_in ≡ Some 0 → IsErr result }
+        ensures goes_on { self.new.fails_in ≡ one_call_on self.old.fails_in }
+        ensures none { OnErr result (self.new.taken ≡ self.old.taken) }
+        ensures all { OnOk result (Appends (Some self.old.taken) (Some self.new.taken) octets.now) }
+        ensures begins { OnErr result (BeginsToAppend (Some self.old.taken) (Some self.new.taken) octets.now) }
+        ensures counts { self.new.failed ≡ counted result self.old.failed }
+        ensures stays { no_lender ≡ no_lender }
+    {
         if self.calls.fails() {
             return Err(WriteFailed);
         }
@@ -111,7 +137,15 @@ impl Sink for MemorySink {
         Ok(())
     }
 
-    fn flush(&mut self) -> Result<(), WriteFailed> {
+    /// Fails where it is to fail.
+    fn flush(&mut self) -> Result<(), WriteFailed>
+        requires { self.old.failed < 18446744073709551615 }
+        ensures fails { IsErr result ↔ (self.old.fails_in ≡ Some 0) }
+        ensures goes_on { self.new.fails_in ≡ one_call_on self.old.fails_in }
+        ensures keeps { Keeps (Some self.old.taken) (Some self.new.taken) }
+        ensures counts { self.new.failed ≡ counted result self.old.failed }
+        ensures stays { no_lender ≡ no_lender }
+    {
         if self.calls.fails() {
             return Err(WriteFailed);
         }
@@ -139,7 +173,9 @@ impl Calls {
     /// Counts a call, and tells whether it is the one that fails.
     fn fails(&mut self) -> bool
         requires { self.old.failed < 18446744073709551615 }
-        ensures { self.new.failed ≡ (if result then self.old.failed + 1 else self.old.failed) }
+        ensures fails { (result ≡ true) ↔ (self.old.before ≡ Some 0) }
+        ensures goes_on { self.new.before ≡ one_call_on self.old.before }
+        ensures counts { self.new.failed ≡ (if result then self.old.failed + 1 else self.old.failed) }
     {
         match self.before {
             Some(0) => {

@@ -131,7 +131,8 @@ pub fn write_octets<W: Write>(octets: &[u8], writer: &mut W) -> io::Result<()>
     ensures begins { BeginsToAppend (W.contents writer.old) (W.contents writer.new) octets.now }
 {
     let mut count = 0;
-    // A turn takes an octet, of which there are fewer than 2^64, or is an interruption; so many of those count as a failure.
+    // A turn takes an octet, of which there are fewer than 2^64, or is an interruption; so many of those count as a
+    // failure.
     for _ in 0..u64::MAX {
         if count == octets.len() {
             return Ok(());

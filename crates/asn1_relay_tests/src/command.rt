@@ -2,27 +2,32 @@
 use crate::assertions::assert_same;
 use crate::fakes::{FakeReader, FakeWriter, Step};
 use asn1_relay_command::{
-    Fault, Kind, Order, command, read_order, refuse_arguments, translate_all,
+    Fault, Kind, Order, Translation, command, read_order, refuse_arguments, translate_all,
 };
 use asn1_relay_core::{Codec, DecodeError, EncodeError, RecodeFault};
+use asn1_relay_streams::{RelayFault, RelayFaultKind, RunFault};
+use std::alloc::Global;
 use std::io::{Error, ErrorKind, Write};
 use std::process::Abort;
+use std::str;
 
 /// One run of the command, and what comes of it.
 #[derive(Clone, Copy)]
-struct Run {
-    words: &'static [&'static str],
-    steps: &'static [Step],
+pub struct Run {
+    pub words: &'static [&'static str],
+    pub steps: &'static [Step],
     /// How many octets one write of the output takes at most.
-    write_size: usize,
+    pub write_size: usize,
     /// How many writes of the output succeed.
-    writes: u32,
-    can_flush: bool,
-    /// How many writes of an error succeed, of seven octets each.
-    error_writes: u32,
-    status: u8,
-    output: &'static [u8],
-    line: &'static str,
+    pub writes: u32,
+    pub can_flush: bool,
+    /// How many writes of an error succeed, of one octet each.
+    pub error_writes: u32,
+    pub status: u8,
+    pub output: &'static [u8],
+    /// Whether a beginning of the output may be written before memory is refused.
+    pub may_begin: bool,
+    pub line: &'static str,
 }
 
 const NOT_AN_ENCODING: &str = "asn1_relay: not an encoding\n";
@@ -31,9 +36,17 @@ const SURPLUS_OCTETS: &str = "asn1_relay: surplus octets\n";
 
 const OUT_OF_MEMORY: &str = "asn1_relay: out of memory\n";
 
-const READ_FAILED: &str = "asn1_relay: read failed\n";
+/// What is said where no memory was left: by the program, and by each hop of a route.
+const NO_MEMORY: [&str; 4] = [
+    OUT_OF_MEMORY,
+    "asn1_relay: hop 0: out of memory\n",
+    "asn1_relay: hop 1: out of memory\n",
+    "asn1_relay: hop 2: out of memory\n",
+];
 
-const WRITE_FAILED: &str = "asn1_relay: write failed\n";
+pub const READ_FAILED: &str = "asn1_relay: read failed\n";
+
+pub const WRITE_FAILED: &str = "asn1_relay: write failed\n";
 
 /// The words that ask for a message of a type to be translated.
 macro_rules! once {
@@ -52,7 +65,7 @@ macro_rules! once {
 }
 
 /// No message, with a reader and writers that do not fail.
-const BARE: Run = Run {
+pub const BARE: Run = Run {
     words: &[],
     steps: &[],
     write_size: 64,
@@ -61,6 +74,7 @@ const BARE: Run = Run {
     error_writes: u32::MAX,
     status: 0,
     output: &[],
+    may_begin: false,
     line: "",
 };
 
@@ -117,6 +131,68 @@ macro_rules! writing {
             output: $output,
             line: WRITE_FAILED,
             ..BARE
+        }
+    };
+}
+
+/// The words that ask for a stream of messages of a type to be translated.
+macro_rules! stream {
+    ($kind:literal, $from:literal, $to:literal, $limit:literal) => {
+        &[
+            "asn1_relay",
+            "stream",
+            "--from",
+            $from,
+            "--to",
+            $to,
+            "--type",
+            $kind,
+            "--limit",
+            $limit,
+        ]
+    };
+}
+
+/// A stream that is read by these steps, and translated to its end.
+macro_rules! streamed {
+    ($kind:literal, $from:literal, $to:literal, $limit:literal, $steps:expr, $output:expr) => {
+        Run {
+            words: stream!($kind, $from, $to, $limit),
+            steps: $steps,
+            output: $output,
+            may_begin: true,
+            ..BARE
+        }
+    };
+}
+
+/// A stream that is read by these steps, and stops with this line.
+macro_rules! stopped {
+    ($kind:literal, $from:literal, $to:literal, $limit:literal, $steps:expr, $output:expr, $line:expr) => {
+        Run {
+            status: 1,
+            line: $line,
+            ..streamed!($kind, $from, $to, $limit, $steps, $output)
+        }
+    };
+}
+
+/// A stream of two integers of which so much is written before a write or a flush fails.
+macro_rules! stream_writing {
+    ($writes:literal, $can_flush:literal, $output:expr) => {
+        Run {
+            write_size: 1,
+            writes: $writes,
+            can_flush: $can_flush,
+            ..stopped!(
+                "integer",
+                "oer",
+                "uper",
+                "2",
+                &[Step::Octets(&[0x01, 0x07]), Step::Octets(&[0x01, 0x08])],
+                $output,
+                WRITE_FAILED
+            )
         }
     };
 }
@@ -219,13 +295,153 @@ const FAULTS: [Run; 14] = [
         ..refused!("pair", "coer", "uper", &[0x01, 0xFC], NOT_AN_ENCODING)
     },
     Run {
-        error_writes: 2,
+        error_writes: 14,
         ..reading!(&[Step::Failure], 1, &[], READ_FAILED)
     },
 ];
 
+/// Streams to their end, and each fault of a message, of a reader and of a writer.
+const STREAMS: [Run; 18] = [
+    stopped!(
+        "integer",
+        "oer",
+        "uper",
+        "2",
+        &[Step::Octets(&[0x01, 0x07, 0x02])],
+        &[0x01, 0x07],
+        "asn1_relay: message 1: no form\n"
+    ),
+    streamed!("integer", "oer", "uper", "2", &[], &[]),
+    streamed!(
+        "small",
+        "coer",
+        "uper",
+        "1",
+        &[Step::Octets(&[0xFC, 0x05])],
+        &[0x10, 0xA0]
+    ),
+    // the greatest limit, an octet at a time, and an interruption
+    streamed!(
+        "new",
+        "uper",
+        "aper",
+        "4294967295",
+        &[
+            Step::Octets(&[0xC0]),
+            Step::Octets(&[0x40]),
+            Step::Interrupted,
+            Step::Octets(&[0x41]),
+            Step::Octets(&[0xC0]),
+            Step::Octets(&[0x40]),
+        ],
+        &[0xC0, 0x40, 0x01, 0x07, 0x40]
+    ),
+    stopped!(
+        "bool",
+        "coer",
+        "uper",
+        "1",
+        &[Step::Octets(&[0xFF]), Step::Octets(&[0x00, 0x05])],
+        &[0x80, 0x00],
+        "asn1_relay: message 2: no form\n"
+    ),
+    stopped!(
+        "integer",
+        "oer",
+        "uper",
+        "2",
+        &[Step::Octets(&[0x01, 0x07, 0x03, 0x01, 0x02, 0x03])],
+        &[0x01, 0x07],
+        "asn1_relay: message 1: none within the limit\n"
+    ),
+    // the fault is found before the reader fails
+    stopped!(
+        "bool",
+        "coer",
+        "uper",
+        "1",
+        &[Step::Octets(&[0x05, 0xFF]), Step::Failure],
+        &[],
+        "asn1_relay: message 0: none within the limit\n"
+    ),
+    stopped!(
+        "null",
+        "uper",
+        "oer",
+        "1",
+        &[Step::Octets(&[0x00])],
+        &[],
+        "asn1_relay: message 0: empty message\n"
+    ),
+    stopped!(
+        "integer",
+        "oer",
+        "uper",
+        "2",
+        &[Step::Failure],
+        &[],
+        READ_FAILED
+    ),
+    stopped!(
+        "integer",
+        "oer",
+        "uper",
+        "2",
+        &[Step::Octets(&[0x01, 0x07, 0x01]), Step::Failure],
+        &[0x01, 0x07],
+        READ_FAILED
+    ),
+    stream_writing!(0, true, &[]),
+    stream_writing!(1, true, &[0x01]),
+    stream_writing!(3, true, &[0x01, 0x07, 0x01]),
+    stream_writing!(4, false, &[0x01, 0x07, 0x01, 0x08]),
+    // the beginning of a line alone can be written
+    Run {
+        error_writes: 0,
+        ..stopped!(
+            "integer",
+            "oer",
+            "uper",
+            "2",
+            &[Step::Failure],
+            &[],
+            READ_FAILED
+        )
+    },
+    Run {
+        error_writes: 21,
+        ..stopped!(
+            "integer",
+            "oer",
+            "uper",
+            "2",
+            &[Step::Octets(&[0x01, 0x07, 0x02])],
+            &[0x01, 0x07],
+            "asn1_relay: message 1: no form\n"
+        )
+    },
+    // a leading plus is part of a number
+    streamed!(
+        "integer",
+        "oer",
+        "uper",
+        "+2",
+        &[Step::Octets(&[0x01, 0x07])],
+        &[0x01, 0x07]
+    ),
+    // two messages of one octet each
+    streamed!(
+        "null",
+        "uper",
+        "uper",
+        "1",
+        &[Step::Octets(&[0x00, 0x00])],
+        &[0x00, 0x00]
+    ),
+];
+
 /// Words that are no order.
-const ORDERS: [Run; 19] = [
+const ORDERS: [Run; 25] = [
     bad!(&[]),
     bad!(&["asn1_relay"]),
     bad!(&["asn1_relay", "--help"]),
@@ -287,14 +503,28 @@ const ORDERS: [Run; 19] = [
         error_writes: 0,
         ..bad!(&["asn1_relay", "twice"])
     },
+    bad!(&["asn1_relay", "stream", "--help"]),
+    bad!(stream!("bool", "coer", "uper", "0")),
+    bad!(stream!("bool", "coer", "uper", "4294967296")),
+    bad!(stream!("bool", "coer", "uper", "-1")),
+    bad!(stream!("bool", "coer", "uper", "x")),
+    bad!(stream!("bool", "coer", "uper", "")),
 ];
 
 /// Whether an error is this line, or as much of it as can be written.
 fn holds_line(errors: &FakeWriter, run: &Run, line: &str) -> bool {
-    let written = line
-        .len()
-        .min(7usize.saturating_mul(run.error_writes as usize));
+    let written = line.len().min(run.error_writes as usize);
     errors.holds(&line.as_bytes()[..written])
+}
+
+/// Whether an error is a line that memory was wanting, or as much of it as can be written.
+fn lacks_memory(errors: &FakeWriter, run: &Run) -> bool {
+    for line in NO_MEMORY {
+        if holds_line(errors, run, line) {
+            return true;
+        }
+    }
+    false
 }
 
 /// Whether what is written of an error is as a run says. The usage of the program may be any text.
@@ -313,11 +543,12 @@ fn is_refused_memory(rt: &(impl Abort + AllocGlobal), run: &Run) -> bool {
     output.writes_left = run.writes;
     output.can_flush = run.can_flush;
     let mut errors = FakeWriter::new();
-    errors.write_size = 7;
+    errors.write_size = 1;
     errors.writes_left = run.error_writes;
     let status = command(rt.alloc(), run.words, &mut input, &mut output, &mut errors);
-    if status == 1 && holds_line(&errors, run, OUT_OF_MEMORY) {
-        assert!(rt; output.holds(&[]));
+    if status == 1 && lacks_memory(&errors, run) {
+        let is_begun = run.may_begin && output.holds_beginning(run.output);
+        assert!(rt; is_begun || output.holds(&[]));
         return run.error_writes != 0 || run.status != 1;
     }
     let is_flushed = status != 0 || output.is_flushed;
@@ -332,7 +563,7 @@ fn is_refused_memory(rt: &(impl Abort + AllocGlobal), run: &Run) -> bool {
 }
 
 /// Each run has its answer, at the second try at the latest: one request for memory at most is refused.
-fn check_runs(rt: &(impl Abort + AllocGlobal), runs: &[Run]) {
+pub fn check_runs(rt: &(impl Abort + AllocGlobal), runs: &[Run]) {
     for run in runs {
         let is_refused = is_refused_memory(rt, run);
         assert!(rt; !is_refused || !is_refused_memory(rt, run));
@@ -343,6 +574,7 @@ fn check_runs(rt: &(impl Abort + AllocGlobal), runs: &[Run]) {
 fn runs(rt: HostRuntime) {
     check_runs(&rt, &MESSAGES);
     check_runs(&rt, &FAULTS);
+    check_runs(&rt, &STREAMS);
     check_runs(&rt, &ORDERS);
 }
 
@@ -358,11 +590,42 @@ fn arguments_that_cannot_be_had(rt: HostRuntime) {
     assert!(rt; is_text && !errors.holds(&[]));
 }
 
+/// Whether the help text of the program names a command.
+fn help_names(alloc: Global, name: &str) -> bool {
+    let mut input = FakeReader::new(&[]);
+    let mut output = FakeWriter::new();
+    let mut errors = Vec::new(alloc);
+    let words = ["asn1_relay", "--help"];
+    let status = command(alloc, &words, &mut input, &mut output, &mut errors);
+    match str::from_utf8(errors.as_slice()) {
+        Ok(text) => status == 2 && text.contains(name),
+        Err(_) => false,
+    }
+}
+
+#[test]
+fn help(rt: HostRuntime) {
+    for name in ["once", "stream", "route"] {
+        // one request at most is refused
+        assert!(rt;
+            help_names(rt.alloc(), name) || help_names(rt.alloc(), name),
+            "{name}"
+        );
+    }
+}
+
 /// Whether the line of a fault is its text behind the program's name.
 fn is_shown(fault: Fault) -> bool {
+    let mut shown = FakeWriter::new();
     let mut written = FakeWriter::new();
-    let shown = writeln!(written, "asn1_relay: {fault}");
-    shown.is_ok() && written.holds(fault.line().as_bytes())
+    let is_shown = writeln!(shown, "asn1_relay: {fault}").is_ok();
+    let is_written = fault.write_line(&mut written).is_ok();
+    is_shown && is_written && written.holds(shown.octets())
+}
+
+/// The fault of a stream at a message.
+fn at_message(number: u64, kind: RelayFaultKind) -> Fault {
+    Fault::AtMessage(RelayFault { number, kind })
 }
 
 #[test]
@@ -374,12 +637,21 @@ fn lines(rt: HostRuntime) {
         Fault::OutOfMemory,
         Fault::ReadFailed,
         Fault::WriteFailed,
+        at_message(u64::MAX, RelayFaultKind::NoneWithinLimit),
+        at_message(0, RelayFaultKind::EmptyMessage),
+        at_message(10, RelayFaultKind::NoTarget),
+        at_message(1, RelayFaultKind::Memory),
+        at_message(2, RelayFaultKind::NoForm),
+        at_message(3, RelayFaultKind::AlreadyFailed),
     ];
     for fault in faults {
         assert!(rt; is_shown(fault), "{fault}");
     }
-    let line = Fault::NoTargetEncoding.line();
-    assert!(rt; line == "asn1_relay: no target encoding\n");
+    let mut written = FakeWriter::new();
+    let is_written = at_message(10, RelayFaultKind::NoTarget)
+        .write_line(&mut written)
+        .is_ok();
+    assert!(rt; is_written && written.holds(b"asn1_relay: message 10: no target encoding\n"));
 }
 
 #[test]
@@ -402,20 +674,50 @@ fn faults_of_translations(rt: HostRuntime) {
 }
 
 #[test]
+fn faults_of_streams(rt: HostRuntime) {
+    let at = RelayFault {
+        number: 1,
+        kind: RelayFaultKind::NoForm,
+    };
+    let faults = [
+        (RunFault::Read, Fault::ReadFailed),
+        (RunFault::Write, Fault::WriteFailed),
+        (RunFault::Relay(at), Fault::AtMessage(at)),
+        (RunFault::Memory, Fault::OutOfMemory),
+    ];
+    for (fault, wanted) in faults {
+        assert!(rt; Fault::from(fault) == wanted, "{wanted}");
+    }
+}
+
+#[test]
 fn orders(rt: HostRuntime) {
-    let words = ["relay", "once", "--type=bool", "--to=coer", "--from=uper"];
-    let order = Order {
+    let once = ["relay", "once", "--type=bool", "--to=coer", "--from=uper"];
+    let stream = [
+        "relay",
+        "stream",
+        "--type=bool",
+        "--to=coer",
+        "--from=uper",
+        "--limit=4294967295",
+    ];
+    let translation = Translation {
         from: Codec::Uper,
         to: Codec::Coer,
         kind: Kind::Bool,
     };
+    let limit = u32::MAX;
     let mut answers = 0u32;
     for _ in 0..3 {
-        if let Ok(read) = read_order(rt.alloc(), &words) {
-            assert_same(&rt, &read, &order);
+        if let Ok(read) = read_order(rt.alloc(), &once) {
+            assert_same(&rt, &read, &Order::Once(translation));
             answers = answers.saturating_add(1);
         }
-        match translate_all(rt.alloc(), order, &[0x80]) {
+        if let Ok(read) = read_order(rt.alloc(), &stream) {
+            assert_same(&rt, &read, &Order::Stream { translation, limit });
+            answers = answers.saturating_add(1);
+        }
+        match translate_all(rt.alloc(), translation, &[0x80]) {
             Ok(octets) => {
                 assert!(rt; octets.as_slice() == [0xFF].as_slice());
                 answers = answers.saturating_add(1);
@@ -424,5 +726,5 @@ fn orders(rt: HostRuntime) {
         }
     }
     // one request at most is refused
-    assert!(rt; 5 <= answers);
+    assert!(rt; 8 <= answers);
 }

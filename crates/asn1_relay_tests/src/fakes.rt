@@ -83,9 +83,19 @@ impl FakeWriter {
         }
     }
 
+    /// The first octets that were written, as many as it keeps.
+    pub fn octets(&self) -> &[u8] {
+        &self.kept[..self.len.min(ROOM)]
+    }
+
     /// Whether these octets were written, and no others.
     pub fn holds(&self, octets: &[u8]) -> bool {
-        self.len == octets.len() && self.kept.iter().zip(octets).all(|(a, b)| *a == *b)
+        self.octets() == octets
+    }
+
+    /// Whether a beginning of these octets was written, and no others.
+    pub fn holds_beginning(&self, octets: &[u8]) -> bool {
+        octets.starts_with(self.octets())
     }
 }
 

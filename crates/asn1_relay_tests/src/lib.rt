@@ -12,6 +12,8 @@ mod many_alternatives;
 #[cfg(test)]
 mod records;
 #[cfg(test)]
+mod routes;
+#[cfg(test)]
 mod rows;
 #[cfg(test)]
 mod streams;

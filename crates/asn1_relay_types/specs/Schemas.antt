@@ -1,5 +1,5 @@
 -- The types of the program, as types of the model. Types that lead back to themselves are unfolded to a number of nested levels.
-use Rattle.std.specs.Prelude.{ℕ, zero, suc, ◌-◌, ◌^◌, pos, negsuc, Bool, true, false, List, [], ◌∷◌, Some, None}
+use Rattle.std.specs.Prelude.{ℕ, zero, suc, ◌-◌, ◌^◌, pos, negsuc, true, false, [], ◌∷◌, Some, None}
 use Rattle.asn1_model.specs.Schema.{Tag, Range, Counts, Size, Presence, required, optional, Schema, cut, boolean, null, integer, octet_string, set_of, sequence, set, group, choice}
 use Rattle.asn1_model.specs.Schema.{Components, no_component, component, no_alternative, alternative}
 

@@ -7,8 +7,9 @@ ghost use Rattle.asn1_schema_constructed.specs.Constructed.{sequence_form};
 ghost use Rattle.asn1_schema_presented.specs.Tables.{sequence_type};
 ghost use Rattle.asn1_schema_presented.proofs.Values.{type_sequence, value_sequence};
 
+use crate::old::Old;
 use asn1_schema_additions::{
-    AddedOptional, AddedOptionalComponent, CountOf, Marked, MarkedComponents, NoMore,
+    AddedOptional, AddedOptionalComponent, AdditionsOf, CountOf, Marked, MarkedComponents, NoMore,
 };
 use asn1_schema_components::{ComponentsOf, Required, RequiredComponent};
 use asn1_schema_constraints::Constraints;
@@ -20,6 +21,7 @@ use asn1_schema_encode::{Encode, EncodeComponents, Encoder};
 use asn1_schema_faults::{DecodeError, EncodeError};
 use asn1_schema_tags::{Identifier, Tag, TagTree};
 use asn1_schema_types::{AsnType, Described};
+use asn1_schema_versions::Extends;
 use std::alloc::Global;
 
 /// A type that has grown by `b`.
@@ -151,4 +153,16 @@ impl Decode for New {
     ) -> Result<Self, DecodeError> {
         decoder.decode_fields_of(alloc, tag)
     }
+}
+
+/// What the other version has, and `b` behind its mark.
+impl Extends<Old> for New {
+    ghost use Rattle.asn1_schema_versions.proofs.Fields.{gains_additions};
+    ghost use Rattle.asn1_schema_versions.proofs.Unfolding.{constant_unfolds, field_unfolds, no_fields_unfold, sequence_unfolds};
+
+    ghost extends = { gains_additions _ ⟦<Additions as AdditionsOf>⟧.additions ⟦<Old as Described>⟧.typed.lawful refl };
+
+    ghost old_unfolds = { sequence_unfolds _ (field_unfolds constant_unfolds no_fields_unfold) no_fields_unfold };
+
+    ghost unfolds = { sequence_unfolds _ (field_unfolds constant_unfolds no_fields_unfold) (field_unfolds constant_unfolds no_fields_unfold) };
 }

@@ -1,8 +1,11 @@
 //! What a line says.
 use crate::limits::Limits;
 use crate::octets::push_octets;
+use crate::streams::Limit;
 use asn1_relay_core::{Codec, DecodeError, EncodeError, RecodeFault};
+use asn1_relay_streams::{RelayFault, RelayFaultKind};
 use std::alloc::{AllocError, Global};
+use std::fmt::Debug;
 use thiserror::Error;
 
 /// Why a line is wrong.
@@ -20,7 +23,10 @@ pub enum LineError {
     /// What stands behind the name of a type is no constraint.
     #[error("constraints are (0..255), (SIZE(1..3)) and (FROM(\"01\")), each with ,... at its end for a mark")]
     Limits,
-    /// A word is the name of no error.
+    /// A word is no limit of a stream.
+    #[error("a limit is a number of octets, at least 1")]
+    Limit,
+    /// A word is the name of no error, or of none that stands there.
     #[error("there is no such error")]
     NoError,
     /// No type has this name.
@@ -43,6 +49,30 @@ pub enum LineError {
         from: Codec,
         /// How many octets were read.
         length: usize,
+        /// What came of it.
+        found: String,
+    },
+    /// What came of a stream is not what the line says.
+    #[error("a stream from {from:?} to {to:?}: {found}")]
+    Streamed {
+        /// The rules of the input.
+        from: Codec,
+        /// The rules of the output.
+        to: Codec,
+        /// What came of it.
+        found: String,
+    },
+    /// No pair of versions has this name.
+    #[error("there is no such pair of versions")]
+    NoPair,
+    /// Of a pair of versions there are no values to send.
+    #[error("there are no samples of this pair of versions")]
+    NoSample,
+    /// What came of a message on a route is not what the line says, or what its value foretells.
+    #[error("{route} gives {found}")]
+    Routed {
+        /// The message and its hops.
+        route: String,
         /// What came of it.
         found: String,
     },
@@ -77,6 +107,10 @@ pub enum Claim {
     Refused(Spelled, RecodeFault),
     /// The octets are an encoding of a value that has none by these rules, for this reason.
     NoTarget(Spelled, Vec<Codec>, RecodeFault),
+    /// All of these are streams of the canonical encodings of the same values, each of no more octets than the limit.
+    Streams(Limit, Vec<Spelled>),
+    /// The former, as a stream, is translated to the latter, up to where it stops, if it does.
+    Stream(Limit, Spelled, Spelled, Result<(), RelayFault>),
 }
 
 /// A type, and what is said of it.
@@ -95,9 +129,17 @@ impl<'a> Line<'a> {
     ///
     /// # Errors
     ///
-    /// `Form`, `Rules` or `Octets` where it has not the form of a line, and `Memory` for want of memory.
+    /// `Form`, `Rules`, `Octets`, `Limits`, `Limit` or `NoError` where it has not the form of a line, and `Memory` for want of memory.
     pub fn read(alloc: Global, said: &'a str) -> Result<Line<'a>, LineError> {
         let (kind, text) = said.split_once(' ').ok_or(LineError::Form)?;
+        if kind == "stream" {
+            let (kind, text) = text.split_once(' ').ok_or(LineError::Form)?;
+            return Ok(Line {
+                kind,
+                limits: Limits::NONE,
+                claim: read_stream(alloc, text)?,
+            });
+        }
         let (kind, limits) = match kind.find('(') {
             Some(place) => (&kind[..place], Limits::read(alloc, &kind[place..])?),
             None => (kind, Limits::NONE),
@@ -130,16 +172,44 @@ fn read_answer(alloc: Global, source: &str, answer: &str) -> Result<Claim, LineE
     let source = read_spelled(alloc, source)?;
     let answer = answer.trim();
     match answer.split_once(' ') {
-        None if is_reason(answer) => Ok(Claim::Refused(
-            source,
-            read_fault(alloc, answer, &SOURCE_FAULTS)?,
-        )),
+        None if answer == "Surplus" => Ok(Claim::Refused(source, RecodeFault::Surplus)),
+        None if is_reason(answer) => {
+            let error = named(alloc, answer, &READING_ERRORS)?;
+            Ok(Claim::Refused(source, RecodeFault::NotAnEncoding(error)))
+        }
         Some((rules, reason)) if is_reason(reason) => {
-            let fault = read_fault(alloc, reason, &TARGET_FAULTS)?;
-            Ok(Claim::NoTarget(source, read_rules(alloc, rules)?, fault))
+            let error = named(alloc, reason, &WRITING_ERRORS)?;
+            let rules = read_rules(alloc, rules)?;
+            Ok(Claim::NoTarget(source, rules, RecodeFault::NoTarget(error)))
         }
         _ => Ok(Claim::Becomes(source, read_spelled(alloc, answer)?)),
     }
+}
+
+/// Reads a limit, and what streams are said to become.
+fn read_stream(alloc: Global, text: &str) -> Result<Claim, LineError> {
+    let (limit, text) = text.split_once(' ').ok_or(LineError::Form)?;
+    let limit = limit.parse::<usize>().ok().and_then(Limit::new);
+    let limit = limit.ok_or(LineError::Limit)?;
+    let Some((source, answer)) = text.split_once("->") else {
+        return Ok(Claim::Streams(limit, read_all(alloc, text)?));
+    };
+    let (target, answer) = match answer.split_once(';') {
+        Some((target, stop)) => (target, Err(read_stop(alloc, stop.trim())?)),
+        None => (answer, Ok(())),
+    };
+    let source = read_spelled(alloc, source)?;
+    let target = read_spelled(alloc, target)?;
+    Ok(Claim::Stream(limit, source, target, answer))
+}
+
+/// Reads why a stream stops, and at which message.
+fn read_stop(alloc: Global, text: &str) -> Result<RelayFault, LineError> {
+    let (name, number) = text.split_once(' ').ok_or(LineError::Form)?;
+    Ok(RelayFault {
+        number: number.parse::<u64>().map_err(|_| LineError::Form)?,
+        kind: named(alloc, name, &STREAM_FAULTS)?,
+    })
 }
 
 /// Whether a word may be the name of an error: letters alone, more than there are in an octet, and the first of them a capital.
@@ -152,51 +222,53 @@ fn is_reason(word: &str) -> bool {
 }
 
 /// Why octets may be refused.
-const SOURCE_FAULTS: [RecodeFault; 24] = [
-    RecodeFault::Surplus,
-    RecodeFault::NotAnEncoding(DecodeError::Incomplete),
-    RecodeFault::NotAnEncoding(DecodeError::SurplusOctets),
-    RecodeFault::NotAnEncoding(DecodeError::SizeConstraintNotSatisfied),
-    RecodeFault::NotAnEncoding(DecodeError::ValueConstraintNotSatisfied),
-    RecodeFault::NotAnEncoding(DecodeError::PermittedAlphabet),
-    RecodeFault::NotAnEncoding(DecodeError::StringConversionFailed),
-    RecodeFault::NotAnEncoding(DecodeError::DiscriminantValueNotFound),
-    RecodeFault::NotAnEncoding(DecodeError::InvalidTagVariantOnChoice),
-    RecodeFault::NotAnEncoding(DecodeError::InvalidTagNumberOnChoice),
-    RecodeFault::NotAnEncoding(DecodeError::ZeroLengthOfLength),
-    RecodeFault::NotAnEncoding(DecodeError::LengthExceedsPlatformWidth),
-    RecodeFault::NotAnEncoding(DecodeError::IntegerOverflow),
-    RecodeFault::NotAnEncoding(DecodeError::InvalidBool),
-    RecodeFault::NotAnEncoding(DecodeError::InvalidBitString),
-    RecodeFault::NotAnEncoding(DecodeError::InvalidPreamble),
-    RecodeFault::NotAnEncoding(DecodeError::InvalidExtensionHeader),
-    RecodeFault::NotAnEncoding(DecodeError::RequiredExtensionNotPresent),
-    RecodeFault::NotAnEncoding(DecodeError::NotValidCanonicalEncoding),
-    RecodeFault::NotAnEncoding(DecodeError::InvalidObjectIdentifier),
-    RecodeFault::NotAnEncoding(DecodeError::InvalidPadding),
-    RecodeFault::NotAnEncoding(DecodeError::ExceedsMaxParseDepth),
-    RecodeFault::NotAnEncoding(DecodeError::MissingTagClassOrValue),
-    RecodeFault::NotAnEncoding(DecodeError::TypeNotExtensible),
+pub const READING_ERRORS: [DecodeError; 23] = [
+    DecodeError::Incomplete,
+    DecodeError::SurplusOctets,
+    DecodeError::SizeConstraintNotSatisfied,
+    DecodeError::ValueConstraintNotSatisfied,
+    DecodeError::PermittedAlphabet,
+    DecodeError::StringConversionFailed,
+    DecodeError::DiscriminantValueNotFound,
+    DecodeError::InvalidTagVariantOnChoice,
+    DecodeError::InvalidTagNumberOnChoice,
+    DecodeError::ZeroLengthOfLength,
+    DecodeError::LengthExceedsPlatformWidth,
+    DecodeError::IntegerOverflow,
+    DecodeError::InvalidBool,
+    DecodeError::InvalidBitString,
+    DecodeError::InvalidPreamble,
+    DecodeError::InvalidExtensionHeader,
+    DecodeError::RequiredExtensionNotPresent,
+    DecodeError::NotValidCanonicalEncoding,
+    DecodeError::InvalidObjectIdentifier,
+    DecodeError::InvalidPadding,
+    DecodeError::ExceedsMaxParseDepth,
+    DecodeError::MissingTagClassOrValue,
+    DecodeError::TypeNotExtensible,
 ];
 
 /// Why a value may have no encoding.
-const TARGET_FAULTS: [RecodeFault; 4] = [
-    RecodeFault::NoTarget(EncodeError::ValueConstraintNotSatisfied),
-    RecodeFault::NoTarget(EncodeError::SizeConstraintNotSatisfied),
-    RecodeFault::NoTarget(EncodeError::AlphabetConstraintNotSatisfied),
-    RecodeFault::NoTarget(EncodeError::TooLongValue),
+pub const WRITING_ERRORS: [EncodeError; 4] = [
+    EncodeError::ValueConstraintNotSatisfied,
+    EncodeError::SizeConstraintNotSatisfied,
+    EncodeError::AlphabetConstraintNotSatisfied,
+    EncodeError::TooLongValue,
 ];
 
-/// Reads the name of a fault out of these. That of a reader or of a writer stands without `NotAnEncoding` and `NoTarget` around it.
-fn read_fault(alloc: Global, name: &str, faults: &[RecodeFault]) -> Result<RecodeFault, LineError> {
-    for fault in faults {
-        let text = match fault {
-            RecodeFault::NotAnEncoding(error) => format!(in alloc; "{error:?}")?,
-            RecodeFault::NoTarget(error) => format!(in alloc; "{error:?}")?,
-            RecodeFault::Surplus | RecodeFault::Memory => format!(in alloc; "{fault:?}")?,
-        };
-        if text.as_str() == name {
-            return Ok(*fault);
+/// Why a stream may stop.
+const STREAM_FAULTS: [RelayFaultKind; 4] = [
+    RelayFaultKind::NoneWithinLimit,
+    RelayFaultKind::EmptyMessage,
+    RelayFaultKind::NoTarget,
+    RelayFaultKind::NoForm,
+];
+
+/// The one of these that has this name.
+pub fn named<T: Copy + Debug>(alloc: Global, name: &str, all: &[T]) -> Result<T, LineError> {
+    for one in all {
+        if format!(in alloc; "{one:?}")?.as_str() == name {
+            return Ok(*one);
         }
     }
     Err(LineError::NoError)
@@ -214,7 +286,7 @@ fn read_spelled(alloc: Global, text: &str) -> Result<Spelled, LineError> {
 }
 
 /// Reads names of rules with a comma between two of them.
-fn read_rules(alloc: Global, text: &str) -> Result<Vec<Codec>, LineError> {
+pub fn read_rules(alloc: Global, text: &str) -> Result<Vec<Codec>, LineError> {
     let mut rules = Vec::new(alloc);
     for name in text.split(',') {
         let codec = match name {

@@ -2,16 +2,18 @@
 //! that is wrong, and then how many there were; its status is 1 where one is wrong. docs/VECTORS.md has the form of a line.
 #![tactic(auto)]
 
+mod judged;
 mod judging;
 mod limits;
 mod line;
 mod named;
 mod octets;
-mod translating;
-mod types;
+mod routes;
+mod streams;
 
 use crate::line::{Line, LineError};
 use crate::named::judge_named;
+use crate::routes::judge_routes;
 use std::alloc::Global;
 use std::io::{self, BufRead, BufReader};
 use std::process::ExitCode;
@@ -56,6 +58,9 @@ fn judge_line(rt: &impl Print, alloc: Global, text: &str, count: &mut Count) -> 
 
 /// Judges what a line says.
 fn judge(alloc: Global, said: &str) -> Result<(), LineError> {
+    if let Some(judged) = judge_routes(alloc, said) {
+        return judged;
+    }
     let line = Line::read(alloc, said)?;
     judge_named(alloc, &line)
 }

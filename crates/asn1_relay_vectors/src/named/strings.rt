@@ -1,4 +1,5 @@
 //! Character strings.
+use crate::judged::Of;
 use crate::judging::judge;
 use crate::line::{Line, LineError};
 use asn1_values_strings::{
@@ -7,19 +8,20 @@ use asn1_values_strings::{
 };
 use asn1_values_strings_wide::BmpString;
 use std::alloc::Global;
+use std::marker::PhantomData;
 
 /// Judges a line of such a type; none where the line's type is another.
 pub fn judge_string(alloc: Global, line: &Line<'_>) -> Option<Result<(), LineError>> {
     match line.kind {
-        "utf8" => Some(judge::<String>(alloc, line)),
-        "numeric" => Some(judge::<NumericString>(alloc, line)),
-        "printable" => Some(judge::<PrintableString>(alloc, line)),
-        "visible" => Some(judge::<VisibleString>(alloc, line)),
-        "ia5" => Some(judge::<Ia5String>(alloc, line)),
-        "general" => Some(judge::<GeneralString>(alloc, line)),
-        "graphic" => Some(judge::<GraphicString>(alloc, line)),
-        "teletex" => Some(judge::<TeletexString>(alloc, line)),
-        "bmp" => Some(judge::<BmpString>(alloc, line)),
+        "utf8" => Some(judge(alloc, &Of::<String>(PhantomData), line)),
+        "numeric" => Some(judge(alloc, &Of::<NumericString>(PhantomData), line)),
+        "printable" => Some(judge(alloc, &Of::<PrintableString>(PhantomData), line)),
+        "visible" => Some(judge(alloc, &Of::<VisibleString>(PhantomData), line)),
+        "ia5" => Some(judge(alloc, &Of::<Ia5String>(PhantomData), line)),
+        "general" => Some(judge(alloc, &Of::<GeneralString>(PhantomData), line)),
+        "graphic" => Some(judge(alloc, &Of::<GraphicString>(PhantomData), line)),
+        "teletex" => Some(judge(alloc, &Of::<TeletexString>(PhantomData), line)),
+        "bmp" => Some(judge(alloc, &Of::<BmpString>(PhantomData), line)),
         _ => None,
     }
 }

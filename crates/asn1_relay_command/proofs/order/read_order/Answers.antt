@@ -1,6 +1,7 @@
-use Rattle.std.proofs.Common.{inl, map}
+use Rattle.std.proofs.Common.{◌∙◌, ap, inl, map, option_map, sym}
 use Rattle.std.proofs.lemmas.Result.{err_from_is_err_and}
 use Rattle.clap.specs.Words.{app_of}
+use Rattle.asn1_relay_command.specs.Orders.{task_of}
 use Rattle.asn1_relay_command.proofs.OrderLemmas.{bad_words, words_ask}
 use Rattle.asn1_relay_command.proofs.order.read_order.Goals as goal
 
@@ -12,8 +13,8 @@ returns-in_err-matches-clause-bad g c =
 
 pub returns-in-Some-clause-ok : goal.returns-in-Some-clause-ok
 returns-in-Some-clause-ok g c =
-    words_ask (app_of c.in_ok-grammar.grammar) (map g.S.AsStr.text c.args.words.now) c.in_ok-matches.matches _ c.in_ok-grammar.ensures (c.in_ok-matches.ensures.ok).2 c.in_ok-matches.ensures.kinds c.in-Some.ensures
+    words_ask (app_of c.in_ok-grammar.grammar) (map g.S.AsStr.text c.args.words.now) c.in_ok-matches.matches _ c.in_ok-grammar.ensures (c.in_ok-matches.ensures.ok).2 c.in_ok-matches.ensures.kinds (ap (option_map task_of) (sym c.in-Some.is) ∙ c.in_ok-order.ensures.task)
 
 pub returns-clause-bad : goal.returns-clause-bad
 returns-clause-bad g c =
-    inl (words_ask (app_of c.in_ok-grammar.grammar) (map g.S.AsStr.text c.args.words.now) c.in_ok-matches.matches _ c.in_ok-grammar.ensures (c.in_ok-matches.ensures.ok).2 c.in_ok-matches.ensures.kinds c.in-None.ensures)
+    inl (words_ask (app_of c.in_ok-grammar.grammar) (map g.S.AsStr.text c.args.words.now) c.in_ok-matches.matches _ c.in_ok-grammar.ensures (c.in_ok-matches.ensures.ok).2 c.in_ok-matches.ensures.kinds (ap (option_map task_of) (sym c.in-None.is) ∙ c.in_ok-order.ensures.task))

@@ -1,0 +1,44 @@
+#!/bin/sh
+# bench/streams/run.sh [FOLDER]: times a relay over 10^6 messages that are strung together, from COER to UPER and back, in pieces of several lengths, beside
+# `recode` of the same messages one by one and the same work in C; then a run over a file of 64 MiB of such messages. The rest as in bench/run.sh.
+here=$(cd "$(dirname "$0")/.." && pwd)
+work=${1:-$(mktemp -d)}
+. "$here/shared.sh"
+compile "$here/streams/plain.c"
+codecs='asn1_schema_decode asn1_schema_encode asn1_schema_faults'
+types='asn1_model asn1_schema_components asn1_schema_constraints asn1_schema_decode asn1_schema_encode asn1_schema_faults asn1_schema_presented'
+types="$types asn1_schema_tags asn1_schema_types asn1_schema_wrapped asn1_values_octets"
+take_packages $types asn1_relay_core asn1_relay_streams
+make_package bench_common '' lib=common.in
+make_package streams_bench "$types bench_common asn1_relay_core asn1_relay_streams anyhow" main=streams/main.in sample=types/sample.in
+prove streams_bench
+: > "$work/times"
+for round in 1 2 3 4 5; do
+    timed plain "$work/plain"
+    timed proved "$work/crates/streams_bench/out/streams_bench" memory all
+done
+awk -f "$here/streams/table.awk" "$work/times"
+"$work/plain" make coer 1400000 > "$work/messages.coer"
+"$work/plain" run coer uper < "$work/messages.coer" > "$work/messages.uper"
+# run_file WHO FROM TO PROGRAM: translates the file, and says how many of its octets a second.
+run_file() {
+    best=
+    for round in 1 2 3 4 5; do
+        before=$(date +%s%N)
+        $RUN "$4" run "$2" "$3" < "$work/messages.$2" > "$work/answer"
+        after=$(date +%s%N)
+        cmp "$work/answer" "$work/messages.$3"
+        taken=$((after - before))
+        [ -n "$best" ] && [ "$best" -le "$taken" ] || best=$taken
+    done
+    size=$(wc -c < "$work/messages.$2")
+    echo "| $1, $2 to $3 | $((size * 1000 / best)) |"
+}
+echo
+echo "| A file of 64 MiB | MB/s |"
+echo "|---|---|"
+for way in 'coer uper' 'uper coer'; do
+    set -- $way
+    run_file C "$1" "$2" "$work/plain"
+    run_file here "$1" "$2" "$work/crates/streams_bench/out/streams_bench"
+done

@@ -1,0 +1,5 @@
+pub mod Answers
+pub mod Routes
+pub mod Relays
+pub mod Laws
+pub mod RouteRows

@@ -1,0 +1,125 @@
+//! ENUMERATED {red, ...}.
+ghost use Rattle.std.specs.Prelude.{◌∷◌, [], refl, pos, true, false};
+ghost use Rattle.asn1_model.specs.Schema.{enumerated};
+ghost use Rattle.asn1_model.specs.Value.{item};
+ghost use Rattle.asn1_schema_constraints.specs.Sets.{no_constraint};
+ghost use Rattle.asn1_schema_constructed.proofs.Types.{type_enumerated, value_enumerated};
+
+use asn1_schema_constraints::Constraints;
+use asn1_schema_constructed::{DecodeItems, EncodeItems, EnumeratedType};
+use asn1_schema_decode::{Decode, Decoder};
+use asn1_schema_encode::{Encode, Encoder};
+use asn1_schema_faults::{DecodeError, EncodeError};
+use asn1_schema_tags::{Identifier, Tag, TagTree};
+use asn1_schema_types::{AsnType, Described};
+use asn1_schema_variants::Enumerated;
+use std::alloc::Global;
+
+/// A colour.
+#[derive(Clone, Copy, Debug, PartialEq, Eq)]
+pub enum OldColour {
+    /// Red.
+    Red,
+}
+
+impl Described for OldColour {
+    ghost use Rattle.asn1_relay_types.specs.declared.old_colour.OldColour.TheVariants.{Red};
+
+    ghost tags = { record { class = 0; number = 10 } ∷ [] };
+
+    ghost own = { no_constraint };
+
+    ghost under = { λ _ _. enumerated (pos 0 ∷ []) true [] };
+
+    ghost schema = { λ _. enumerated (pos 0 ∷ []) true [] };
+
+    ghost is_own = { λ _. refl };
+
+    ghost meaning = { elim [ Red ↦ item (pos 0) ] };
+
+    ghost typed = { type_enumerated _ _ _ refl refl };
+
+    ghost valued = { elim [ Red ↦ value_enumerated _ _ _ _ ] };
+
+    ghost valued_under = { λ _. elim [ Red ↦ value_enumerated _ _ _ _ ] };
+}
+
+impl AsnType for OldColour {
+    const TAG: Tag = Tag::ENUMERATED;
+
+    const IDENTIFIER: Identifier = Identifier(Some("OldColour"));
+
+    fn tag_tree() -> TagTree<'static> {
+        TagTree::of(Self::TAG)
+    }
+
+    fn constraints() -> Constraints<'static> {
+        Constraints::NONE
+    }
+}
+
+impl Enumerated for OldColour {
+    ghost use Rattle.asn1_relay_types.specs.declared.old_colour.OldColour.TheVariants.{Red};
+
+    ghost roots = { pos 0 ∷ [] };
+
+    ghost extensible = { true };
+
+    ghost additions = { [] };
+
+    ghost number = { elim [ Red ↦ pos 0 ] };
+
+    fn variants<'a>() -> &'a [Self]
+    where
+        Self: 'a,
+    {
+        &[OldColour::Red]
+    }
+
+    fn extended_variants<'a>() -> Option<&'a [Self]>
+    where
+        Self: 'a,
+    {
+        Some(&[])
+    }
+
+    fn discriminant(&self) -> isize {
+        match self {
+            OldColour::Red => 0,
+        }
+    }
+
+    ghost distinct = { refl };
+
+    ghost listed = { elim [ Red ↦ (false, 0, refl) ] };
+}
+
+impl EnumeratedType for OldColour {
+    ghost use Rattle.asn1_relay_types.specs.declared.old_colour.OldColour.TheVariants.{Red};
+
+    ghost is_of = { λ _. refl };
+
+    ghost means = { elim [ Red ↦ refl ] };
+}
+
+impl Encode for OldColour {
+    fn encode_with_tag_and_constraints<E: Encoder>(
+        &self,
+        encoder: &mut E,
+        tag: Tag,
+        _constraints: Constraints,
+    ) -> Result<(), EncodeError> {
+        encoder.encode_item(tag, self)
+    }
+}
+
+impl Decode for OldColour {
+    fn decode_with_tag_and_constraints<D: Decoder>(
+        _alloc: Global,
+        decoder: &mut D,
+        tag: Tag,
+        _constraints: Constraints,
+    ) -> Result<Self, DecodeError> {
+        decoder.decode_item(tag)
+    }
+}

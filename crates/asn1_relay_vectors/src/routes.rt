@@ -1,0 +1,159 @@
+//! Whether messages arrive by routes, or are refused at a hop, as a line says.
+mod every;
+mod foretold;
+mod pairs;
+
+use crate::line::{LineError, READING_ERRORS, Spelled, WRITING_ERRORS, named, read_rules};
+use crate::octets::{push_octets, shown};
+use crate::routes::foretold::Versions;
+use asn1_relay_core::Codec;
+use asn1_relay_routes::{Hop, RouteFault, RouteFaultKind, Version};
+use std::alloc::{AllocError, Global};
+use std::fmt::Write;
+
+/// What a line says of a pair of versions.
+#[derive(Debug, Drop)]
+pub enum Claim {
+    /// A message that goes by these hops arrives as these octets, or is refused.
+    One(Spelled, Vec<Hop>, Result<Vec<u8>, RouteFault>),
+    /// Messages go by every short list of hops as their values foretell.
+    Every,
+}
+
+/// Judges a line of routes, which begins with `route` or `routes`; none where it begins with another word.
+pub fn judge_routes(alloc: Global, said: &str) -> Option<Result<(), LineError>> {
+    match said.split_once(' ') {
+        Some(("route", text)) => Some(judge_one(alloc, text)),
+        Some(("routes", name)) => Some(pairs::judge_pair(alloc, name, &Claim::Every)),
+        _ => None,
+    }
+}
+
+/// Judges what is said of one route.
+fn judge_one(alloc: Global, text: &str) -> Result<(), LineError> {
+    let (name, text) = text.split_once(' ').ok_or(LineError::Form)?;
+    let (sent, arrival) = text.split_once("->").ok_or(LineError::Form)?;
+    let (source, hops) = read_sent(alloc, sent)?;
+    let arrival = read_arrival(alloc, arrival.trim())?;
+    pairs::judge_pair(alloc, name, &Claim::One(source, hops, arrival))
+}
+
+/// Judges what is said of a pair of versions.
+///
+/// # Errors
+///
+/// `Routed` where the library does not do what is said, `Form` where a route has no hop, and `Memory` for want of memory.
+fn judge(alloc: Global, of: &dyn Versions, claim: &Claim) -> Result<(), LineError> {
+    match claim {
+        Claim::One(source, hops, arrival) => {
+            for from in source.rules.iter() {
+                let octets = source.octets.as_slice();
+                arrives(alloc, of, *from, octets, hops.as_slice(), arrival)?;
+            }
+            Ok(())
+        }
+        Claim::Every => every::judge_every(alloc, of),
+    }
+}
+
+/// A message that goes by hops arrives as what is wanted, or is refused where and as it is to be.
+fn arrives(
+    alloc: Global,
+    of: &dyn Versions,
+    from: Codec,
+    octets: &[u8],
+    hops: &[Hop],
+    wanted: &Result<Vec<u8>, RouteFault>,
+) -> Result<(), LineError> {
+    let found = of.send(alloc, hops, from, octets).ok_or(LineError::Form)?;
+    let is_wanted = match (&found, wanted) {
+        (Ok(found), Ok(wanted)) => found.as_slice() == wanted.as_slice(),
+        (Err(found), Err(wanted)) => *found == *wanted,
+        _ => false,
+    };
+    if is_wanted {
+        return Ok(());
+    }
+    let found = match &found {
+        Ok(octets) => shown(alloc, octets.as_slice())?,
+        Err(fault) => format!(in alloc; "{fault:?}")?,
+    };
+    let route = route_shown(alloc, from, octets, hops)?;
+    Err(LineError::Routed { route, found })
+}
+
+/// A message and its route, in the form of a line.
+fn route_shown(
+    alloc: Global,
+    from: Codec,
+    octets: &[u8],
+    hops: &[Hop],
+) -> Result<String, LineError> {
+    let octets = shown(alloc, octets)?;
+    let mut text = format!(in alloc; "{from:?} {octets}")?;
+    for hop in hops {
+        write!(text, " {:?}:{:?}", hop.version, hop.to)?;
+    }
+    Ok(text)
+}
+
+/// Reads rules, octets and hops.
+fn read_sent(alloc: Global, text: &str) -> Result<(Spelled, Vec<Hop>), LineError> {
+    let mut words = text.split_whitespace();
+    let rules = read_rules(alloc, words.next().ok_or(LineError::Form)?)?;
+    let mut octets = Vec::new(alloc);
+    let mut hops = Vec::new(alloc);
+    for word in words {
+        match word.split_once(':') {
+            Some((version, to)) => {
+                let hop = read_hop(alloc, version, to)?;
+                hops.push(hop).map_err(AllocError::from)?;
+            }
+            None if hops.is_empty() => push_octets(&mut octets, word)?,
+            None => return Err(LineError::Form),
+        }
+    }
+    Ok((Spelled { rules, octets }, hops))
+}
+
+/// Reads a hop: a version, and rules.
+fn read_hop(alloc: Global, version: &str, to: &str) -> Result<Hop, LineError> {
+    let version = match version {
+        "old" => Version::Old,
+        "new" => Version::New,
+        _ => return Err(LineError::Form),
+    };
+    match read_rules(alloc, to)?.as_slice() {
+        [to] => Ok(Hop { version, to: *to }),
+        _ => Err(LineError::Rules),
+    }
+}
+
+/// Reads what arrives, or where a message is refused and why.
+fn read_arrival(alloc: Global, text: &str) -> Result<Result<Vec<u8>, RouteFault>, LineError> {
+    if let Some(fault) = text.strip_prefix("hop ") {
+        return Ok(Err(read_fault(alloc, fault)?));
+    }
+    let mut octets = Vec::new(alloc);
+    for word in text.split_whitespace() {
+        push_octets(&mut octets, word)?;
+    }
+    Ok(Ok(octets))
+}
+
+/// Reads the number of a hop, and why it refuses.
+fn read_fault(alloc: Global, text: &str) -> Result<RouteFault, LineError> {
+    let (hop, reason) = text.split_once(' ').ok_or(LineError::Form)?;
+    let kind = match reason.split_once(' ') {
+        Some(("NoTarget", error)) => {
+            RouteFaultKind::NoTarget(named(alloc, error, &WRITING_ERRORS)?)
+        }
+        Some(_) => return Err(LineError::Form),
+        None if reason == "Surplus" => RouteFaultKind::Surplus,
+        None => RouteFaultKind::Read(named(alloc, reason, &READING_ERRORS)?),
+    };
+    Ok(RouteFault {
+        hop: hop.parse::<usize>().map_err(|_| LineError::Form)?,
+        kind,
+    })
+}

@@ -1,0 +1,67 @@
+//! Every list of up to three hops.
+use crate::judging::CODECS;
+use crate::line::LineError;
+use crate::routes::arrives;
+use crate::routes::foretold::Versions;
+use asn1_relay_routes::{Hop, Version};
+use std::alloc::{AllocError, Global};
+
+/// How many samples of a pair are sent.
+const SAMPLES: usize = 4;
+
+/// How many hops a list has, and how many such lists there are.
+const LISTS: [(usize, usize); 3] = [(1, 8), (2, 64), (3, 512)];
+
+/// How many hops there are: one for each version and each set of rules.
+const KINDS: usize = 8;
+
+/// The samples of a pair, from each set of rules, arrive by every list of hops as their values foretell.
+///
+/// # Errors
+///
+/// `Routed` where they do not, `NoSample` where the pair has none, and `Memory` for want of memory.
+pub fn judge_every(alloc: Global, of: &dyn Versions) -> Result<(), LineError> {
+    for place in 0..SAMPLES {
+        for from in CODECS {
+            let Some(sent) = of.foretell(alloc, place, from, &[]) else {
+                return if place == 0 {
+                    Err(LineError::NoSample)
+                } else {
+                    Ok(())
+                };
+            };
+            let octets = sent.map_err(|_| LineError::Form)?;
+            for (count, lists) in LISTS {
+                for number in 0..lists {
+                    let hops = hops_of(alloc, count, number)?;
+                    let hops = hops.as_slice();
+                    let wanted = of
+                        .foretell(alloc, place, from, hops)
+                        .ok_or(LineError::Form)?;
+                    arrives(alloc, of, from, octets.as_slice(), hops, &wanted)?;
+                }
+            }
+        }
+    }
+    Ok(())
+}
+
+/// So many hops, of which the digits of a number tell the kinds.
+fn hops_of(alloc: Global, count: usize, number: usize) -> Result<Vec<Hop>, LineError> {
+    let mut hops = Vec::new(alloc);
+    let mut rest = number;
+    for _ in 0..count {
+        let version = if rest / CODECS.len() % 2 == 0 {
+            Version::Old
+        } else {
+            Version::New
+        };
+        let hop = Hop {
+            version,
+            to: CODECS[rest % CODECS.len()],
+        };
+        hops.push(hop).map_err(AllocError::from)?;
+        rest /= KINDS;
+    }
+    Ok(hops)
+}

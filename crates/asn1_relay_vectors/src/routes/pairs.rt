@@ -1,0 +1,174 @@
+//! Pairs of versions, by their names.
+use crate::line::LineError;
+use crate::routes::foretold::{Between, Grown, Unforetold};
+use crate::routes::{Claim, judge};
+use asn1_relay_core::DecodeError;
+use asn1_relay_types::{New, NewColour, NewDefault, NewRequired, Old, OldColour, OldDefault};
+use asn1_relay_vectors_types::{Nested, NewBag, NewList, Newest, OldBag, OldList};
+use asn1_schema_wrapped::Implicit;
+use std::alloc::Global;
+use std::marker::PhantomData;
+
+/// Judges what is said of the pair of this name.
+///
+/// # Errors
+///
+/// `NoPair` where there is no such pair, and those of `judge`.
+pub fn judge_pair(alloc: Global, name: &str, claim: &Claim) -> Result<(), LineError> {
+    match name {
+        "plain" => judge(alloc, &Between::<Old, New>(PhantomData, PhantomData), claim),
+        "default" => judge(
+            alloc,
+            &Between::<OldDefault, NewDefault>(PhantomData, PhantomData),
+            claim,
+        ),
+        "required" => judge(
+            alloc,
+            &Between::<Old, NewRequired>(PhantomData, PhantomData),
+            claim,
+        ),
+        "colour" => judge(
+            alloc,
+            &Between::<OldColour, NewColour>(PhantomData, PhantomData),
+            claim,
+        ),
+        "nested" => judge(
+            alloc,
+            &Unforetold::<Old, Nested>(PhantomData, PhantomData),
+            claim,
+        ),
+        "list" => judge(
+            alloc,
+            &Unforetold::<OldList, NewList>(PhantomData, PhantomData),
+            claim,
+        ),
+        "bag" => judge(
+            alloc,
+            &Unforetold::<OldBag, NewBag>(PhantomData, PhantomData),
+            claim,
+        ),
+        "later" => judge(
+            alloc,
+            &Unforetold::<New, Newest>(PhantomData, PhantomData),
+            claim,
+        ),
+        "leap" => judge(
+            alloc,
+            &Unforetold::<Old, Newest>(PhantomData, PhantomData),
+            claim,
+        ),
+        _ => Err(LineError::NoPair),
+    }
+}
+
+impl Grown<Old> for New {
+    fn sample(place: usize) -> Option<New> {
+        match place {
+            0 => Some(New {
+                a: true,
+                b: Some(7),
+            }),
+            1 => Some(New { a: false, b: None }),
+            2 => Some(New {
+                a: false,
+                b: Some(255),
+            }),
+            _ => None,
+        }
+    }
+
+    fn lessened(&self) -> Result<Old, DecodeError> {
+        Ok(Old { a: self.a })
+    }
+
+    fn grown(older: &Old) -> Result<New, DecodeError> {
+        Ok(New {
+            a: older.a,
+            b: None,
+        })
+    }
+
+    fn clashes(&self) -> bool {
+        false
+    }
+}
+
+impl Grown<OldDefault> for NewDefault {
+    fn sample(place: usize) -> Option<NewDefault> {
+        let (a, b) = match place {
+            0 => (true, Some(7)),
+            1 => (true, None),
+            2 => (false, Some(7)),
+            3 => (false, None),
+            _ => return None,
+        };
+        Some(NewDefault { s: New { a, b } })
+    }
+
+    fn lessened(&self) -> Result<OldDefault, DecodeError> {
+        Ok(OldDefault {
+            s: self.s.lessened()?,
+        })
+    }
+
+    fn grown(older: &OldDefault) -> Result<NewDefault, DecodeError> {
+        Ok(NewDefault {
+            s: New::grown(&older.s)?,
+        })
+    }
+
+    fn clashes(&self) -> bool {
+        self.s.a && self.s.b.is_some()
+    }
+}
+
+impl Grown<Old> for NewRequired {
+    fn sample(place: usize) -> Option<NewRequired> {
+        let (a, r) = match place {
+            0 => (true, false),
+            1 => (false, true),
+            _ => return None,
+        };
+        Some(NewRequired {
+            a,
+            r: Implicit::new(r),
+        })
+    }
+
+    fn lessened(&self) -> Result<Old, DecodeError> {
+        Ok(Old { a: self.a })
+    }
+
+    fn grown(_older: &Old) -> Result<NewRequired, DecodeError> {
+        Err(DecodeError::RequiredExtensionNotPresent)
+    }
+
+    fn clashes(&self) -> bool {
+        false
+    }
+}
+
+impl Grown<OldColour> for NewColour {
+    fn sample(place: usize) -> Option<NewColour> {
+        match place {
+            0 => Some(NewColour::Red),
+            1 => Some(NewColour::Blue),
+            _ => None,
+        }
+    }
+
+    fn lessened(&self) -> Result<OldColour, DecodeError> {
+        match self {
+            NewColour::Red => Ok(OldColour::Red),
+            NewColour::Blue => Err(DecodeError::DiscriminantValueNotFound),
+        }
+    }
+
+    fn grown(_older: &OldColour) -> Result<NewColour, DecodeError> {
+        Ok(NewColour::Red)
+    }
+
+    fn clashes(&self) -> bool {
+        false
+    }
+}

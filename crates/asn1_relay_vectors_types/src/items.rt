@@ -1,0 +1,250 @@
+//! Enumerations.
+ghost use Rattle.std.specs.Prelude.{◌∷◌, [], refl, pos, negsuc, true, false};
+ghost use Rattle.asn1_model.specs.Schema.{enumerated};
+ghost use Rattle.asn1_model.specs.Value.{item};
+ghost use Rattle.asn1_schema_constraints.specs.Sets.{no_constraint};
+ghost use Rattle.asn1_schema_constructed.proofs.Types.{type_enumerated, value_enumerated};
+
+use asn1_schema_constraints::Constraints;
+use asn1_schema_constructed::{DecodeItems, EncodeItems, EnumeratedType};
+use asn1_schema_decode::{Decode, Decoder};
+use asn1_schema_encode::{Encode, Encoder};
+use asn1_schema_faults::{DecodeError, EncodeError};
+use asn1_schema_tags::{Tag, TagTree};
+use asn1_schema_types::{AsnType, Described};
+use asn1_schema_variants::Enumerated;
+use std::alloc::Global;
+
+/// ENUMERATED {red, ..., blue}.
+#[derive(Clone, Copy, Debug, PartialEq, Eq)]
+pub enum Tint {
+    Red,
+    Blue,
+}
+
+impl Described for Tint {
+    ghost use Rattle.asn1_relay_vectors_types.specs.declared.items.Tint.TheVariants.{Red, Blue};
+
+    ghost tags = { record { class = 0; number = 10 } ∷ [] };
+
+    ghost own = { no_constraint };
+
+    ghost under = { λ _ _. enumerated (pos 0 ∷ []) true (pos 1 ∷ []) };
+
+    ghost schema = { λ _. enumerated (pos 0 ∷ []) true (pos 1 ∷ []) };
+
+    ghost is_own = { λ _. refl };
+
+    ghost meaning = { elim [ Red ↦ item (pos 0) | Blue ↦ item (pos 1) ] };
+
+    ghost typed = { type_enumerated _ _ _ refl refl };
+
+    ghost valued = { elim [ Red ↦ value_enumerated _ _ _ _ | Blue ↦ value_enumerated _ _ _ _ ] };
+
+    ghost valued_under = { λ _. elim [ Red ↦ value_enumerated _ _ _ _ | Blue ↦ value_enumerated _ _ _ _ ] };
+}
+
+impl AsnType for Tint {
+    const TAG: Tag = Tag::ENUMERATED;
+
+    fn tag_tree() -> TagTree<'static> {
+        TagTree::of(Self::TAG)
+    }
+
+    fn constraints() -> Constraints<'static> {
+        Constraints::NONE
+    }
+}
+
+impl Enumerated for Tint {
+    ghost use Rattle.asn1_relay_vectors_types.specs.declared.items.Tint.TheVariants.{Red, Blue};
+
+    ghost roots = { pos 0 ∷ [] };
+
+    ghost extensible = { true };
+
+    ghost additions = { pos 1 ∷ [] };
+
+    ghost number = { elim [ Red ↦ pos 0 | Blue ↦ pos 1 ] };
+
+    fn variants<'a>() -> &'a [Self]
+    where
+        Self: 'a,
+    {
+        &[Tint::Red]
+    }
+
+    fn extended_variants<'a>() -> Option<&'a [Self]>
+    where
+        Self: 'a,
+    {
+        Some(&[Tint::Blue])
+    }
+
+    fn discriminant(&self) -> isize {
+        match self {
+            Tint::Red => 0,
+            Tint::Blue => 1,
+        }
+    }
+
+    ghost distinct = { refl };
+
+    ghost listed = { elim [ Red ↦ (false, 0, refl) | Blue ↦ (true, 0, (refl, refl, refl)) ] };
+}
+
+impl EnumeratedType for Tint {
+    ghost use Rattle.asn1_relay_vectors_types.specs.declared.items.Tint.TheVariants.{Red, Blue};
+
+    ghost is_of = { λ _. refl };
+
+    ghost means = { elim [ Red ↦ refl | Blue ↦ refl ] };
+}
+
+impl Encode for Tint {
+    fn encode_with_tag_and_constraints<E: Encoder>(
+        &self,
+        encoder: &mut E,
+        tag: Tag,
+        _constraints: Constraints,
+    ) -> Result<(), EncodeError> {
+        encoder.encode_item(tag, self)
+    }
+}
+
+impl Decode for Tint {
+    fn decode_with_tag_and_constraints<D: Decoder>(
+        _alloc: Global,
+        decoder: &mut D,
+        tag: Tag,
+        _constraints: Constraints,
+    ) -> Result<Self, DecodeError> {
+        decoder.decode_item(tag)
+    }
+}
+
+/// ENUMERATED {lowest (-2147483648), below (-129), least (-128), zero (0), most (127), above (128), highest (2147483647)}.
+#[derive(Clone, Copy, Debug, PartialEq, Eq)]
+pub enum Scale {
+    Lowest,
+    Below,
+    Least,
+    Zero,
+    Most,
+    Above,
+    Highest,
+}
+
+impl Described for Scale {
+    ghost use Rattle.asn1_relay_vectors_types.specs.declared.items.Scale.TheVariants.{Lowest, Below, Least, Zero, Most, Above, Highest};
+
+    ghost tags = { record { class = 0; number = 10 } ∷ [] };
+
+    ghost own = { no_constraint };
+
+    ghost under = { λ _ _. enumerated (negsuc 2147483647 ∷ negsuc 128 ∷ negsuc 127 ∷ pos 0 ∷ pos 127 ∷ pos 128 ∷ pos 2147483647 ∷ []) false [] };
+
+    ghost schema = { λ _. enumerated (negsuc 2147483647 ∷ negsuc 128 ∷ negsuc 127 ∷ pos 0 ∷ pos 127 ∷ pos 128 ∷ pos 2147483647 ∷ []) false [] };
+
+    ghost is_own = { λ _. refl };
+
+    ghost meaning = { elim [ Lowest ↦ item (negsuc 2147483647) | Below ↦ item (negsuc 128) | Least ↦ item (negsuc 127) | Zero ↦ item (pos 0) | Most ↦ item (pos 127) | Above ↦ item (pos 128) | Highest ↦ item (pos 2147483647) ] };
+
+    ghost typed = { type_enumerated _ _ _ refl refl };
+
+    ghost valued = { elim [ Lowest ↦ value_enumerated _ _ _ _ | Below ↦ value_enumerated _ _ _ _ | Least ↦ value_enumerated _ _ _ _ | Zero ↦ value_enumerated _ _ _ _ | Most ↦ value_enumerated _ _ _ _ | Above ↦ value_enumerated _ _ _ _ | Highest ↦ value_enumerated _ _ _ _ ] };
+
+    ghost valued_under = { λ _. elim [ Lowest ↦ value_enumerated _ _ _ _ | Below ↦ value_enumerated _ _ _ _ | Least ↦ value_enumerated _ _ _ _ | Zero ↦ value_enumerated _ _ _ _ | Most ↦ value_enumerated _ _ _ _ | Above ↦ value_enumerated _ _ _ _ | Highest ↦ value_enumerated _ _ _ _ ] };
+}
+
+impl AsnType for Scale {
+    const TAG: Tag = Tag::ENUMERATED;
+
+    fn tag_tree() -> TagTree<'static> {
+        TagTree::of(Self::TAG)
+    }
+
+    fn constraints() -> Constraints<'static> {
+        Constraints::NONE
+    }
+}
+
+impl Enumerated for Scale {
+    ghost use Rattle.asn1_relay_vectors_types.specs.declared.items.Scale.TheVariants.{Lowest, Below, Least, Zero, Most, Above, Highest};
+
+    ghost roots = { negsuc 2147483647 ∷ negsuc 128 ∷ negsuc 127 ∷ pos 0 ∷ pos 127 ∷ pos 128 ∷ pos 2147483647 ∷ [] };
+
+    ghost extensible = { false };
+
+    ghost additions = { [] };
+
+    ghost number = { elim [ Lowest ↦ negsuc 2147483647 | Below ↦ negsuc 128 | Least ↦ negsuc 127 | Zero ↦ pos 0 | Most ↦ pos 127 | Above ↦ pos 128 | Highest ↦ pos 2147483647 ] };
+
+    fn variants<'a>() -> &'a [Self]
+    where
+        Self: 'a,
+    {
+        &[
+            Scale::Lowest,
+            Scale::Below,
+            Scale::Least,
+            Scale::Zero,
+            Scale::Most,
+            Scale::Above,
+            Scale::Highest,
+        ]
+    }
+
+    fn extended_variants<'a>() -> Option<&'a [Self]>
+    where
+        Self: 'a,
+    {
+        None
+    }
+
+    fn discriminant(&self) -> isize {
+        match self {
+            Scale::Lowest => -2147483648,
+            Scale::Below => -129,
+            Scale::Least => -128,
+            Scale::Zero => 0,
+            Scale::Most => 127,
+            Scale::Above => 128,
+            Scale::Highest => 2147483647,
+        }
+    }
+
+    ghost distinct = { refl };
+
+    ghost listed = { elim [ Lowest ↦ (false, 0, refl) | Below ↦ (false, 1, refl) | Least ↦ (false, 2, refl) | Zero ↦ (false, 3, refl) | Most ↦ (false, 4, refl) | Above ↦ (false, 5, refl) | Highest ↦ (false, 6, refl) ] };
+}
+
+impl EnumeratedType for Scale {
+    ghost use Rattle.asn1_relay_vectors_types.specs.declared.items.Scale.TheVariants.{Lowest, Below, Least, Zero, Most, Above, Highest};
+
+    ghost is_of = { λ _. refl };
+
+    ghost means = { elim [ Lowest ↦ refl | Below ↦ refl | Least ↦ refl | Zero ↦ refl | Most ↦ refl | Above ↦ refl | Highest ↦ refl ] };
+}
+
+impl Encode for Scale {
+    fn encode_with_tag_and_constraints<E: Encoder>(
+        &self,
+        encoder: &mut E,
+        tag: Tag,
+        _constraints: Constraints,
+    ) -> Result<(), EncodeError> {
+        encoder.encode_item(tag, self)
+    }
+}
+
+impl Decode for Scale {
+    fn decode_with_tag_and_constraints<D: Decoder>(
+        _alloc: Global,
+        decoder: &mut D,
+        tag: Tag,
+        _constraints: Constraints,
+    ) -> Result<Self, DecodeError> {
+        decoder.decode_item(tag)
+    }
+}

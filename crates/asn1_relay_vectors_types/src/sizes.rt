@@ -1,0 +1,71 @@
+//! Strings and lists of a size of their own.
+ghost use Rattle.std.specs.Prelude.{refl, Some, None, false};
+ghost use Rattle.asn1_schema_bounds.specs.declared.bounds.Bounded.{Bounded};
+ghost use Rattle.asn1_schema_presented.proofs.TypesByKind.{octet_string_type, type_list};
+ghost use Rattle.asn1_schema_types.specs.Counts.{fixed_to};
+
+use asn1_schema_bounds::Bounded;
+use asn1_schema_constraints::{Constraints, Extensible, Size};
+use asn1_schema_types::Described;
+use asn1_schema_wrapped::{Constrained, ConstraintsOf};
+use asn1_values_octets::OctetString;
+
+/// SIZE (3).
+#[derive(Clone, Copy, Debug, PartialEq, Eq)]
+pub struct Three;
+
+/// SIZE (1..2).
+#[derive(Clone, Copy, Debug, PartialEq, Eq)]
+pub struct OneOrTwo;
+
+/// OCTET STRING (SIZE (3)).
+pub type ThreeOctets = Constrained<Three, OctetString>;
+
+/// SEQUENCE (SIZE (1..2)) OF.
+pub type ListOfOneOrTwo<T> = Constrained<OneOrTwo, Vec<T>>;
+
+impl ConstraintsOf<OctetString> for Three {
+    ghost terms = { fixed_to 3 };
+
+    ghost under = { ⟦<OctetString as Described>⟧.under };
+
+    ghost meaning = { ⟦<OctetString as Described>⟧.meaning };
+
+    ghost lawful = { λ ts e. octet_string_type _ _ e refl };
+
+    ghost valued = { ⟦<OctetString as Described>⟧.valued_under };
+
+    fn constraints() -> Constraints<'static> {
+        Constraints {
+            size: Some(Extensible::new(Size::fixed(3))),
+            ..Constraints::NONE
+        }
+    }
+
+    ghost same_under = { λ _. refl };
+
+    ghost same_meaning = { λ _. refl };
+}
+
+impl<T: Described> ConstraintsOf<Vec<T>> for OneOrTwo {
+    ghost terms = { record { value = None; size = Some (record { constraint = record { range = Bounded.Range (Some 1) (Some 2) }; extensible = None }); permitted_alphabet = None; is_marked = false } };
+
+    ghost under = { ⟦<Vec<T> as Described>⟧.under };
+
+    ghost meaning = { ⟦<Vec<T> as Described>⟧.meaning };
+
+    ghost lawful = { λ ts e. type_list _ _ e refl T.typed };
+
+    ghost valued = { ⟦<Vec<T> as Described>⟧.valued_under };
+
+    fn constraints() -> Constraints<'static> {
+        Constraints {
+            size: Some(Extensible::new(Size::new(Bounded::const_new(1, 2)))),
+            ..Constraints::NONE
+        }
+    }
+
+    ghost same_under = { λ _. refl };
+
+    ghost same_meaning = { λ _. refl };
+}
