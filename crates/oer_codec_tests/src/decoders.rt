@@ -1,4 +1,5 @@
 //! Decoders, call by call.
+use crate::common::assert_none;
 use asn1_schema_bounds::Bounded;
 use asn1_schema_constraints::Constraints;
 use asn1_schema_decode::{Decode, Decoder as Reading};
@@ -101,12 +102,19 @@ fn is_right(alloc: Global, row: &Row) -> bool {
         && choice(alloc, DecoderOptions::coer(), row.octets) == row.canonical
 }
 
+/// The octets that are not read as their row says, if there are such.
+fn wrong_choice(alloc: Global) -> Option<&'static [u8]> {
+    for row in &CHOICES {
+        if !is_right(alloc, row) {
+            return Some(row.octets);
+        }
+    }
+    None
+}
+
 #[test]
 fn choices(rt: HostRuntime) {
-    let alloc = rt.alloc();
-    for row in &CHOICES {
-        assert!(rt; is_right(alloc, row), "{:?}", row.octets);
-    }
+    assert_none(&rt, &wrong_choice(rt.alloc()));
 }
 
 /// Whether INTEGER of this number is next.
@@ -115,15 +123,22 @@ fn is_number(alloc: Global, decoder: &mut Decoder<'_>, number: u8) -> Result<boo
     Ok(found == number)
 }
 
+/// Whether the components 7 and true are next, behind their marks.
+fn are_there(alloc: Global, decoder: &mut Decoder<'_>) -> Result<bool, DecodeError> {
+    Ok(
+        decoder.get_mark()?
+            && is_number(alloc, decoder, 7)?
+            && decoder.get_mark()?
+            && decoder.decode_bool(Tag::BOOL)?,
+    )
+}
+
 /// Whether SEQUENCE {INTEGER, SEQUENCE {INTEGER DEFAULT 0, BOOLEAN OPTIONAL}} 5, 7, true is next.
 fn is_nested(alloc: Global, decoder: &mut Decoder<'_>) -> Result<bool, DecodeError> {
     decoder.begin_sequence(Tag::SEQUENCE, false, 0)?;
     let outer = is_number(alloc, decoder, 5)?;
     decoder.begin_sequence(Tag::SEQUENCE, false, 2)?;
-    let inner = decoder.get_mark()?
-        && is_number(alloc, decoder, 7)?
-        && decoder.get_mark()?
-        && decoder.decode_bool(Tag::BOOL)?;
+    let inner = are_there(alloc, decoder)?;
     decoder.end()?;
     decoder.end()?;
     Ok(outer && inner)
@@ -168,13 +183,23 @@ fn is_true_before(decoder: &mut Decoder<'_>, octet: u8) -> bool {
     decoder.decode_bool(Tag::BOOL) == Ok(true) && *decoder.remaining() == *[octet].as_slice()
 }
 
+/// Whether the canonical rules refuse an octet for good.
+fn canonical_rules_refuse(alloc: Global, octets: &[u8]) -> bool {
+    let mut decoder = Decoder::new(alloc, octets, DecoderOptions::coer());
+    fails_for_good(&mut decoder)
+}
+
+/// Whether the basic rules take it.
+fn basic_rules_take(alloc: Global, octets: &[u8]) -> bool {
+    let mut decoder = Decoder::new(alloc, octets, DecoderOptions::oer());
+    is_true_before(&mut decoder, 0xFF)
+}
+
 #[test]
 fn a_decoder_that_has_failed(rt: HostRuntime) {
     let alloc = rt.alloc();
-    let mut canonical = Decoder::new(alloc, &[0x05, 0xFF], DecoderOptions::coer());
-    assert!(rt; fails_for_good(&mut canonical));
-    let mut basic = Decoder::new(alloc, &[0x05, 0xFF], DecoderOptions::oer());
-    assert!(rt; is_true_before(&mut basic, 0xFF));
+    assert!(rt; canonical_rules_refuse(alloc, &[0x05, 0xFF]));
+    assert!(rt; basic_rules_take(alloc, &[0x05, 0xFF]));
 }
 
 /// Reads SEQUENCE {..., and 65 additions INTEGER (0..255) OPTIONAL}: how many additions are absent, and the last one, which is there.

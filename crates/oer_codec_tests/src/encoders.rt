@@ -1,4 +1,5 @@
 //! Encoders, call by call.
+use crate::common::assert_none;
 use asn1_schema_encode::{Encode, Encoder as Writing};
 use asn1_schema_faults::EncodeError;
 use asn1_schema_tags::{Class, Identifier, Tag};
@@ -189,21 +190,20 @@ const BITMAPS: [(usize, Around); 8] = [
     ),
 ];
 
-/// Whether such a sequence stands in these octets.
-fn last_stands_in(alloc: Global, row: &(usize, Around)) -> Result<bool, EncodeError> {
-    stands_in(alloc, Message::LastOf(row.0), &row.1)
+/// How many additions a sequence has that does not stand in its octets, if there is one.
+fn wrong_bitmap(alloc: Global) -> Result<Option<usize>, EncodeError> {
+    for (count, around) in &BITMAPS {
+        if !stands_in(alloc, Message::LastOf(*count), around)? {
+            return Ok(Some(*count));
+        }
+    }
+    Ok(None)
 }
 
 /// A bitmap stands behind its length, which counts the octet of the unused bits too (X.696 16.4).
 #[test]
 fn bitmaps(rt: HostRuntime) -> Result<(), Fail> {
-    let alloc = rt.alloc();
-    for (count, around) in &BITMAPS {
-        assert!(rt;
-            stands_in(alloc, Message::LastOf(*count), around)?,
-            "{count}"
-        );
-    }
+    assert_none(&rt, &wrong_bitmap(rt.alloc())?);
     Ok(())
 }
 
@@ -232,9 +232,8 @@ fn alternative_stands_in(alloc: Global, around: &Around) -> Result<bool, EncodeE
 /// An open type stands behind its length however long it is, here of 16384 octets and of 16385.
 #[test]
 fn long_open_types(rt: HostRuntime) -> Result<(), Fail> {
-    let alloc = rt.alloc();
     for around in &ALTERNATIVES {
-        assert!(rt; alternative_stands_in(alloc, around)?, "{}", around.count);
+        assert!(rt; alternative_stands_in(rt.alloc(), around)?);
     }
     Ok(())
 }
@@ -246,7 +245,13 @@ fn used_worker(alloc: Global) -> Result<Vec<u8>, AllocError> {
     Ok(worker)
 }
 
-/// Adds three messages with one worker: whether it has the room that it had.
+/// Three messages, one behind the other.
+const THREE: [u8; 21] = [
+    0x82, 0x04, 0x03, 0x01, 0x02, 0x03, 0x82, 0x02, 0x01, 0x04, 0x80, 0x02, 0x07, 0x80, 0x06, 0x80,
+    0x02, 0x07, 0x80, 0x01, 0xFF,
+];
+
+/// Adds three messages with one worker: whether they stand so, and it has the room that it had.
 fn keeps_room(
     alloc: Global,
     buffer: &mut Vec<u8>,
@@ -257,21 +262,21 @@ fn keeps_room(
     add_message(alloc, buffer, worker, Message::Added(&[0x04]))?;
     let between = worker.capacity();
     add_message(alloc, buffer, worker, Message::Nested)?;
-    Ok(between == room && worker.capacity() == room)
+    Ok(between == room && worker.capacity() == room && buffer.as_slice() == THREE.as_slice())
+}
+
+/// Whether a worker that holds something is used again and again.
+fn is_used_again(alloc: Global) -> Result<bool, EncodeError> {
+    let mut worker = used_worker(alloc)?;
+    let mut buffer = Vec::new(alloc);
+    keeps_room(alloc, &mut buffer, &mut worker)
 }
 
 /// What a worker holds does not matter, and it keeps its room from message to message, also where the outermost of two additions had it.
 #[test]
 fn one_worker_for_more_messages(rt: HostRuntime) -> Result<(), Fail> {
     let alloc = rt.alloc();
-    let mut worker = used_worker(alloc)?;
-    let mut buffer = Vec::new(alloc);
-    assert!(rt; keeps_room(alloc, &mut buffer, &mut worker)?);
-    let octets = [
-        0x82, 0x04, 0x03, 0x01, 0x02, 0x03, 0x82, 0x02, 0x01, 0x04, 0x80, 0x02, 0x07, 0x80, 0x06,
-        0x80, 0x02, 0x07, 0x80, 0x01, 0xFF,
-    ];
-    assert!(rt; buffer.as_slice() == octets.as_slice());
+    assert!(rt; is_used_again(alloc)?);
     Ok(())
 }
 

@@ -5,6 +5,8 @@
 #[cfg(test)]
 mod calls;
 #[cfg(test)]
+mod common;
+#[cfg(test)]
 mod decoders;
 #[cfg(test)]
 mod encoders;

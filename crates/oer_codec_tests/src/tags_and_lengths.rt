@@ -1,4 +1,5 @@
 //! Readers and writers of tags, lengths and what has no octets.
+use crate::common::assert_none;
 use asn1_schema_faults::{DecodeError, EncodeError};
 use asn1_schema_tags::{Class, Tag};
 use oer_codec_reading::lengths::{read_counted, read_length};
@@ -78,11 +79,19 @@ fn greatest_of_one_octet(alloc: Global) -> Result<bool, EncodeError> {
     Ok(octets.as_slice() == [0xBE, 0xBF, 0x3F].as_slice())
 }
 
+/// The octets whose tag is not found as their row says, if there are such.
+fn wrong_tag() -> Option<&'static [u8]> {
+    for row in &TAGS {
+        if !is_right(row) {
+            return Some(row.octets);
+        }
+    }
+    None
+}
+
 #[test]
 fn tags(rt: HostRuntime) -> Result<(), Fail> {
-    for row in &TAGS {
-        assert!(rt; is_right(row), "{:?}", row.octets);
-    }
+    assert_none(&rt, &wrong_tag());
     assert!(rt; greatest_of_one_octet(rt.alloc())?);
     Ok(())
 }
