@@ -18,7 +18,8 @@ pub type Ran = (Result<(), RunFault>, MemorySink);
 
 /// A type of vectors.
 pub trait Judged {
-    /// Translates octets from one set of rules to another. Where there are constraints, octets behind a message are passed over.
+    /// Translates octets from one set of rules to another. Where there are constraints, octets behind a message are
+    /// passed over.
     fn translate(
         &self,
         alloc: Global,

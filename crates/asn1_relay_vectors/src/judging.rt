@@ -10,7 +10,8 @@ use std::alloc::{AllocError, Global};
 /// The four sets of rules.
 pub const CODECS: [Codec; 4] = [Codec::Uper, Codec::Aper, Codec::Oer, Codec::Coer];
 
-/// Octets are cut at each place if they are no more than twice so many, and else within so many of the first and of the last.
+/// Octets are cut at each place if they are no more than twice so many, and else within so many of the first and of
+/// the last.
 const CUTS: usize = 512;
 
 /// Judges what is said of octets of a type.
@@ -70,7 +71,8 @@ fn is_streamed(
     Ok(())
 }
 
-/// Octets become others in each set of rules that is named, by any way, and are refused cut or with an octet behind them.
+/// Octets become others in each set of rules that is named, by any way, and are refused cut or with an octet behind
+/// them.
 fn becomes(
     alloc: Global,
     of: &dyn Judged,

@@ -5,7 +5,7 @@ use asn1_schema_constraints::{Constraints, Extensible, PermittedAlphabet, Size, 
 use std::alloc::{AllocError, Global};
 
 /// What a line's type is constrained to, as in `octet-string(SIZE(1..3,...))` (X.680 51).
-#[derive(Debug, Drop)]
+#[derive(Drop)]
 pub struct Limits {
     value: Option<Extensible<'static, Value>>,
     size: Option<Extensible<'static, Size>>,
@@ -13,7 +13,7 @@ pub struct Limits {
 }
 
 /// Permitted characters, by their numbers, and whether a mark stands behind them.
-#[derive(Debug, Drop)]
+#[derive(Drop)]
 struct Alphabet {
     characters: Vec<u32>,
     extensible: bool,
@@ -27,13 +27,16 @@ impl Limits {
         alphabet: None,
     };
 
-    /// Reads constraints, each in parentheses: `(0..255,...)`, `(SIZE(5))`, `(FROM("01"))`.
+    /// Reads constraints, each in parentheses, if there are any: `(0..255,...)`, `(SIZE(5))`, `(FROM("01"))`.
     ///
     /// # Errors
     ///
     /// `Limits` where one has not that form, and `Memory` for want of memory.
     pub fn read(alloc: Global, text: &str) -> Result<Limits, LineError> {
         let mut limits = Limits::NONE;
+        if text.is_empty() {
+            return Ok(limits);
+        }
         let inner = text
             .strip_prefix('(')
             .and_then(|text| text.strip_suffix(')'))

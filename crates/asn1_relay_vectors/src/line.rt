@@ -88,7 +88,7 @@ impl From<AllocError> for LineError {
 }
 
 /// Octets, and the rules of which they are said.
-#[derive(Debug, Drop)]
+#[derive(Drop)]
 pub struct Spelled {
     /// The rules.
     pub rules: Vec<Codec>,
@@ -97,7 +97,7 @@ pub struct Spelled {
 }
 
 /// What a line says of its type.
-#[derive(Debug, Drop)]
+#[derive(Drop)]
 pub enum Claim {
     /// All of these are the canonical encodings of one value.
     Same(Vec<Spelled>),
@@ -114,7 +114,7 @@ pub enum Claim {
 }
 
 /// A type, and what is said of it.
-#[derive(Debug, Drop)]
+#[derive(Drop)]
 pub struct Line<'a> {
     /// The name of the type.
     pub kind: &'a str,
@@ -129,30 +129,38 @@ impl<'a> Line<'a> {
     ///
     /// # Errors
     ///
-    /// `Form`, `Rules`, `Octets`, `Limits`, `Limit` or `NoError` where it has not the form of a line, and `Memory` for want of memory.
+    /// `Form`, `Rules`, `Octets`, `Limits`, `Limit` or `NoError` where it has not the form of a line, and `Memory` for
+    /// want of memory.
     pub fn read(alloc: Global, said: &'a str) -> Result<Line<'a>, LineError> {
         let (kind, text) = said.split_once(' ').ok_or(LineError::Form)?;
         if kind == "stream" {
             let (kind, text) = text.split_once(' ').ok_or(LineError::Form)?;
+            let claim = read_stream(alloc, text)?;
             return Ok(Line {
                 kind,
                 limits: Limits::NONE,
-                claim: read_stream(alloc, text)?,
+                claim,
             });
         }
-        let (kind, limits) = match kind.find('(') {
-            Some(place) => (&kind[..place], Limits::read(alloc, &kind[place..])?),
-            None => (kind, Limits::NONE),
+        let (kind, constraints) = match kind.find('(') {
+            Some(place) => kind.split_at(place),
+            None => (kind, ""),
         };
-        let claim = match text.split_once("->") {
-            Some((source, answer)) => read_answer(alloc, source, answer)?,
-            None => Claim::Same(read_all(alloc, text)?),
-        };
+        let limits = Limits::read(alloc, constraints)?;
+        let claim = read_claim(alloc, text)?;
         Ok(Line {
             kind,
             limits,
             claim,
         })
+    }
+}
+
+/// Reads what is said of a type.
+fn read_claim(alloc: Global, text: &str) -> Result<Claim, LineError> {
+    match text.split_once("->") {
+        Some((source, answer)) => read_answer(alloc, source, answer),
+        None => Ok(Claim::Same(read_all(alloc, text)?)),
     }
 }
 
@@ -212,7 +220,8 @@ fn read_stop(alloc: Global, text: &str) -> Result<RelayFault, LineError> {
     })
 }
 
-/// Whether a word may be the name of an error: letters alone, more than there are in an octet, and the first of them a capital.
+/// Whether a word may be the name of an error: letters alone, more than there are in an octet, and the first of them
+/// a capital.
 fn is_reason(word: &str) -> bool {
     let is_capital = word
         .bytes()

@@ -1,5 +1,6 @@
-//! Judges vectors: lines on standard input that say what octets of a type stand for, by four sets of ASN.1 encoding rules. It says each line
-//! that is wrong, and then how many there were; its status is 1 where one is wrong. docs/VECTORS.md has the form of a line.
+//! Judges vectors: lines on standard input that say what octets of a type stand for, by four sets of ASN.1 encoding
+//! rules, and what becomes of streams of them. It says each line that is wrong, and then how many there were; its
+//! status is 1 where one is wrong. docs/VECTORS.md has the form of a line.
 #![tactic(auto)]
 
 mod judged;
@@ -19,7 +20,7 @@ use std::io::{self, BufRead, BufReader};
 use std::process::ExitCode;
 
 /// How many lines were judged, and how many of them are wrong.
-#[derive(Clone, Copy, Debug)]
+#[derive(Clone, Copy)]
 struct Count {
     lines: u64,
     wrong: u64,

@@ -3,7 +3,8 @@ use crate::line::LineError;
 use std::alloc::{AllocError, Global};
 use std::fmt::Write;
 
-/// Adds the octets of a word to others: two hexadecimal digits are one octet, and `61*16384` is the octet 61 so many times.
+/// Adds the octets of a word to others: two hexadecimal digits are one octet, and `61*16384` is the octet 61 so many
+/// times.
 ///
 /// # Errors
 ///

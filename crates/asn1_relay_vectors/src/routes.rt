@@ -12,7 +12,7 @@ use std::alloc::{AllocError, Global};
 use std::fmt::Write;
 
 /// What a line says of a pair of versions.
-#[derive(Debug, Drop)]
+#[derive(Drop)]
 pub enum Claim {
     /// A message that goes by these hops arrives as these octets, or is refused.
     One(Spelled, Vec<Hop>, Result<Vec<u8>, RouteFault>),

@@ -15,7 +15,7 @@ const ALL_CUTTINGS: usize = 12;
 const LONG: usize = 2048;
 
 /// How many octets a message may have: one or more.
-#[derive(Clone, Copy, Debug)]
+#[derive(Clone, Copy)]
 pub struct Limit {
     /// So many.
     pub octets: usize,
@@ -33,7 +33,7 @@ impl Limit {
 }
 
 /// How a stream is translated.
-#[derive(Clone, Copy, Debug)]
+#[derive(Clone, Copy)]
 pub struct Way {
     /// The rules of the input.
     pub from: Codec,
@@ -93,7 +93,7 @@ impl Cutting {
 }
 
 /// What a stream is to become.
-#[derive(Clone, Copy, Debug)]
+#[derive(Clone, Copy)]
 struct Wanted<'a> {
     octets: &'a [u8],
     answer: Result<(), RelayFault>,
@@ -131,7 +131,8 @@ pub fn judge_stream(
     Ok(())
 }
 
-/// An encoding twice over becomes its translation twice over, wherever it is cut. Where a message may have an octet less, none is in front.
+/// An encoding twice over becomes its translation twice over, wherever it is cut. Where a message may have an octet
+/// less, none is in front.
 ///
 /// # Errors
 ///

@@ -6,17 +6,17 @@ use asn1_relay_types::{Group, Nest, New, Octets, Old, Pair, Set, Small};
 use std::alloc::Global;
 use std::marker::PhantomData;
 
-/// Judges a line of such a type; none where the line's type is another.
-pub fn judge_program(alloc: Global, line: &Line<'_>) -> Option<Result<(), LineError>> {
+/// Judges a line of such a type; there are no others.
+pub fn judge_program(alloc: Global, line: &Line<'_>) -> Result<(), LineError> {
     match line.kind {
-        "small" => Some(judge(alloc, &Of::<Small>(PhantomData), line)),
-        "octets" => Some(judge(alloc, &Of::<Octets>(PhantomData), line)),
-        "nest" => Some(judge(alloc, &Of::<Nest>(PhantomData), line)),
-        "pair" => Some(judge(alloc, &Of::<Pair>(PhantomData), line)),
-        "set" => Some(judge(alloc, &Of::<Set>(PhantomData), line)),
-        "new" => Some(judge(alloc, &Of::<New>(PhantomData), line)),
-        "old" => Some(judge(alloc, &Of::<Old>(PhantomData), line)),
-        "group" => Some(judge(alloc, &Of::<Group>(PhantomData), line)),
-        _ => None,
+        "small" => judge(alloc, &Of::<Small>(PhantomData), line),
+        "octets" => judge(alloc, &Of::<Octets>(PhantomData), line),
+        "nest" => judge(alloc, &Of::<Nest>(PhantomData), line),
+        "pair" => judge(alloc, &Of::<Pair>(PhantomData), line),
+        "set" => judge(alloc, &Of::<Set>(PhantomData), line),
+        "new" => judge(alloc, &Of::<New>(PhantomData), line),
+        "old" => judge(alloc, &Of::<Old>(PhantomData), line),
+        "group" => judge(alloc, &Of::<Group>(PhantomData), line),
+        _ => Err(LineError::NoType),
     }
 }

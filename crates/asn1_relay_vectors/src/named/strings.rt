@@ -2,6 +2,7 @@
 use crate::judged::Of;
 use crate::judging::judge;
 use crate::line::{Line, LineError};
+use crate::named::lists::judge_list;
 use asn1_values_strings::{
     GeneralString, GraphicString, Ia5String, NumericString, PrintableString, TeletexString,
     VisibleString,
@@ -10,18 +11,18 @@ use asn1_values_strings_wide::BmpString;
 use std::alloc::Global;
 use std::marker::PhantomData;
 
-/// Judges a line of such a type; none where the line's type is another.
-pub fn judge_string(alloc: Global, line: &Line<'_>) -> Option<Result<(), LineError>> {
+/// Judges a line of such a type, or of one of those behind them.
+pub fn judge_string(alloc: Global, line: &Line<'_>) -> Result<(), LineError> {
     match line.kind {
-        "utf8" => Some(judge(alloc, &Of::<String>(PhantomData), line)),
-        "numeric" => Some(judge(alloc, &Of::<NumericString>(PhantomData), line)),
-        "printable" => Some(judge(alloc, &Of::<PrintableString>(PhantomData), line)),
-        "visible" => Some(judge(alloc, &Of::<VisibleString>(PhantomData), line)),
-        "ia5" => Some(judge(alloc, &Of::<Ia5String>(PhantomData), line)),
-        "general" => Some(judge(alloc, &Of::<GeneralString>(PhantomData), line)),
-        "graphic" => Some(judge(alloc, &Of::<GraphicString>(PhantomData), line)),
-        "teletex" => Some(judge(alloc, &Of::<TeletexString>(PhantomData), line)),
-        "bmp" => Some(judge(alloc, &Of::<BmpString>(PhantomData), line)),
-        _ => None,
+        "utf8" => judge(alloc, &Of::<String>(PhantomData), line),
+        "numeric" => judge(alloc, &Of::<NumericString>(PhantomData), line),
+        "printable" => judge(alloc, &Of::<PrintableString>(PhantomData), line),
+        "visible" => judge(alloc, &Of::<VisibleString>(PhantomData), line),
+        "ia5" => judge(alloc, &Of::<Ia5String>(PhantomData), line),
+        "general" => judge(alloc, &Of::<GeneralString>(PhantomData), line),
+        "graphic" => judge(alloc, &Of::<GraphicString>(PhantomData), line),
+        "teletex" => judge(alloc, &Of::<TeletexString>(PhantomData), line),
+        "bmp" => judge(alloc, &Of::<BmpString>(PhantomData), line),
+        _ => judge_list(alloc, line),
     }
 }
