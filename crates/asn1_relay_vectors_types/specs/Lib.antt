@@ -1,1 +1,2 @@
 pub mod Bags
+pub mod Unfolding

@@ -4,6 +4,8 @@ ghost use Rattle.std.proofs.Common.{rules, arith};
 ghost use Rattle.asn1_model.specs.Value.{fields};
 ghost use Rattle.asn1_schema_presented.proofs.Values.{type_sequence, value_sequence};
 ghost use Rattle.asn1_schema_versions.proofs.Fields.{gains_additions};
+ghost use Rattle.asn1_schema_versions.proofs.Unfolding.{constant_unfolds, field_unfolds, no_fields_unfold, sequence_unfolds};
+ghost use Rattle.asn1_relay_vectors_types.specs.Unfolding.{bag_unfolds, list_unfolds, nest_unfolds};
 
 use crate::extended::One;
 use crate::listed::{Listed, Sequence};
@@ -72,6 +74,10 @@ impl Listed for NestedForm {
 /// A truth value, and what was added.
 impl Extends<Old> for Nested {
     ghost extends = { gains_additions _ ⟦<Nests as AdditionsOf>⟧.additions ⟦<Old as Described>⟧.typed.lawful refl };
+
+    ghost old_unfolds = { sequence_unfolds _ (field_unfolds constant_unfolds no_fields_unfold) no_fields_unfold };
+
+    ghost unfolds = { sequence_unfolds _ (field_unfolds constant_unfolds no_fields_unfold) (field_unfolds nest_unfolds no_fields_unfold) };
 }
 
 /// SEQUENCE {a BOOLEAN, ..., b INTEGER (0..255) OPTIONAL, c [1] OCTET STRING OPTIONAL}.
@@ -111,11 +117,19 @@ impl Listed for NewestForm {
 /// What the version in front of it has, and `c`.
 impl Extends<New> for Newest {
     ghost extends = { gains_additions _ ⟦<Third as AdditionsOf>⟧.additions ⟦<New as Described>⟧.typed.lawful refl };
+
+    ghost old_unfolds = { sequence_unfolds _ (field_unfolds constant_unfolds no_fields_unfold) (field_unfolds constant_unfolds no_fields_unfold) };
+
+    ghost unfolds = { sequence_unfolds _ (field_unfolds constant_unfolds no_fields_unfold) (field_unfolds constant_unfolds (field_unfolds constant_unfolds no_fields_unfold)) };
 }
 
 /// What the first version has, and `b` and `c`.
 impl Extends<Old> for Newest {
     ghost extends = { gains_additions _ ⟦<SecondAndThird as AdditionsOf>⟧.additions ⟦<Old as Described>⟧.typed.lawful refl };
+
+    ghost old_unfolds = { sequence_unfolds _ (field_unfolds constant_unfolds no_fields_unfold) no_fields_unfold };
+
+    ghost unfolds = { sequence_unfolds _ (field_unfolds constant_unfolds no_fields_unfold) (field_unfolds constant_unfolds (field_unfolds constant_unfolds no_fields_unfold)) };
 }
 
 /// SEQUENCE {l SEQUENCE (SIZE (1..2)) OF BOOLEAN, ...}.
@@ -176,6 +190,10 @@ impl Listed for NewListForm {
 /// What the other version has, and `b` behind its mark.
 impl Extends<OldList> for NewList {
     ghost extends = { gains_additions _ ⟦<Numbers as AdditionsOf>⟧.additions ⟦<OldList as Described>⟧.typed.lawful refl };
+
+    ghost old_unfolds = { sequence_unfolds _ (field_unfolds (list_unfolds _ _ constant_unfolds) no_fields_unfold) no_fields_unfold };
+
+    ghost unfolds = { sequence_unfolds _ (field_unfolds (list_unfolds _ _ constant_unfolds) no_fields_unfold) (field_unfolds constant_unfolds no_fields_unfold) };
 }
 
 /// SEQUENCE {m SET OF SEQUENCE {a BOOLEAN, ...}}.
@@ -234,4 +252,8 @@ impl Extends<OldBag> for NewBag {
     ghost use Rattle.asn1_relay_vectors_types.specs.Bags.{bag_extends, required_stays};
 
     ghost extends = { sequence_extends (grown_field (same_tags ⟦<SetOf<Old> as Described>⟧.tags) required_stays (bag_extends _ _ (gains_additions _ ⟦<Second as AdditionsOf>⟧.additions ⟦<Old as Described>⟧.typed.lawful refl)) no_fields) refl no_fields };
+
+    ghost old_unfolds = { sequence_unfolds _ (field_unfolds (bag_unfolds _ _ (sequence_unfolds _ (field_unfolds constant_unfolds no_fields_unfold) no_fields_unfold)) no_fields_unfold) no_fields_unfold };
+
+    ghost unfolds = { sequence_unfolds _ (field_unfolds (bag_unfolds _ _ (sequence_unfolds _ (field_unfolds constant_unfolds no_fields_unfold) (field_unfolds constant_unfolds no_fields_unfold))) no_fields_unfold) no_fields_unfold };
 }
