@@ -5,13 +5,13 @@ use Rattle.asn1_model.specs.Schema.{Schema}
 use Rattle.asn1_model.specs.Lawful.{is_lawful}
 use Rattle.asn1_model.specs.Normal.{normal}
 use Rattle.asn1_model.specs.Rules.{Rules, uper, aper, uper_strict, aper_strict, oer, coer, canonical, IsEncoding}
-use Rattle.asn1_laws.proofs.Messages.{canonical_is_read}
-use Rattle.asn1_laws.proofs.Normals.{normal_again}
+use Rattle.asn1_laws_values.proofs.Messages.{canonical_is_read}
+use Rattle.asn1_laws_values.proofs.Normals.{normal_again}
 use Rattle.asn1_laws_values.proofs.Normal.{normal_same}
 use Rattle.asn1_laws_fronts.specs.Laws.{OneFrontIn}
-use Rattle.asn1_laws_fronts_packed.proofs.Forms.{one_front_uper, one_front_aper, one_front_uper_strict, one_front_aper_strict}
-use Rattle.asn1_laws_fronts_octets.proofs.Forms.{one_front_oer, one_front_coer}
-use Rattle.asn1_laws_order.proofs.Canonical.{canonical_same, same_written}
+use Rattle.asn1_laws_fronts.proofs.Forms.{one_front_uper, one_front_aper, one_front_uper_strict, one_front_aper_strict}
+use Rattle.asn1_laws_fronts.proofs.OctetsForms.{one_front_oer, one_front_coer}
+use Rattle.asn1_laws_across.proofs.Canonical.{canonical_same, same_written}
 
 one_front : (r : Rules) → OneFrontIn r
 one_front uper = one_front_uper

@@ -12,11 +12,11 @@ use Rattle.asn1_model.specs.Types.{any_size, any_count, num}
 use Rattle.asn1_model.specs.Types.{whole as integers}
 use Rattle.asn1_model.proofs.Forms.{reads_written}
 use Rattle.asn1_model.proofs.OnValues.{on_values}
-use Rattle.asn1_laws.proofs.Listed.{listed, listed_again, each_is_map, order_map}
+use Rattle.asn1_laws_values.proofs.Listed.{listed, listed_again, each_is_map, order_map}
 use Rattle.asn1_laws_values.proofs.Bags.{arranged_same}
 use Rattle.asn1_laws_values.proofs.Same.{same_turned}
-use Rattle.asn1_laws_order.proofs.OerGives as octets
-use Rattle.asn1_laws_order.proofs.PerGives as packed
+use Rattle.asn1_laws_across.proofs.OerGives as octets
+use Rattle.asn1_laws_across.proofs.PerGives as packed
 use Rattle.asn1_laws_across.specs.Strictly.{ReadsAsWritten, IsEncodingAsWritten, AsWrittenRows}
 use Rattle.asn1_laws_across.proofs.Strictly.{as_written, written_as}
 

@@ -14,7 +14,7 @@ use Rattle.asn1_model.specs.Rules.{Rules, uper, aper, uper_strict, aper_strict, 
 use Rattle.asn1_model.specs.Per
 use Rattle.asn1_model.specs.Oer
 use Rattle.asn1_model.proofs.Forms.{reads_written}
-use Rattle.asn1_laws.proofs.Messages.{per_text, octet_text}
+use Rattle.asn1_laws_values.proofs.Messages.{per_text, octet_text}
 use Rattle.asn1_laws_across.specs.InOrder.{ReadsWith, BitsInOrder, OctetsInOrder, IsEncodingInOrder, InOrderRows}
 use Rattle.asn1_laws_across.specs.Strictly.{ReadsAsWritten, IsEncodingAsWritten}
 use Rattle.asn1_laws_across.proofs.Strictly.{strictly}

@@ -6,3 +6,12 @@ pub mod PerRigid
 pub mod OerRigid
 pub mod OfRigid
 pub mod InOrder
+pub mod Orders
+pub mod Gives
+pub mod Bags
+pub mod PerGives
+pub mod OerGives
+pub mod Canonical
+pub mod Streams
+pub mod Relayed
+pub mod Rows

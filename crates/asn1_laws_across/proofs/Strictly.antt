@@ -12,10 +12,10 @@ use Rattle.asn1_model.specs.Strings.{each_is, is_octet}
 use Rattle.asn1_model.specs.Per
 use Rattle.asn1_model.specs.Oer
 use Rattle.asn1_model.proofs.Forms.{widens, reads_written}
-use Rattle.asn1_laws.proofs.Messages.{per_text, octet_text}
-use Rattle.asn1_laws.proofs.PerStrict.{message_normal}
-use Rattle.asn1_laws.proofs.OerStrict.{octets_normal}
-use Rattle.asn1_laws.proofs.Octets.{packed_back, packed_octets}
+use Rattle.asn1_laws_values.proofs.Messages.{per_text, octet_text}
+use Rattle.asn1_laws_values.proofs.PerStrict.{message_normal}
+use Rattle.asn1_laws_values.proofs.OerStrict.{octets_normal}
+use Rattle.asn1_laws_values.proofs.Octets.{packed_back, packed_octets}
 use Rattle.asn1_laws_values.proofs.Normal.{normal_stays}
 use Rattle.asn1_laws_fronts.proofs.PerNumbers.{binary_equal}
 use Rattle.asn1_laws_fronts.proofs.Complete.{bits_length}

@@ -2,3 +2,8 @@ pub mod Strictly
 pub mod Rigid
 pub mod InOrder
 pub mod Laws
+pub mod OrderLaws
+pub mod Streams
+pub mod Relayed
+pub mod StreamsLaws
+pub mod Rows

@@ -8,7 +8,7 @@ use Rattle.asn1_model.specs.Form.{Form, refused, both, nothing_more, only_if, gi
 use Rattle.asn1_model.specs.Tables.{marks, is_required, mark_unless}
 use Rattle.asn1_model.proofs.Forms.{map_parts}
 use Rattle.asn1_laws_fronts.proofs.Fronts.{Agree, agree_refused, agree_with_refused, agree_map, agree_both, agree_both_apart, agree_given, agree_if, agree_if_left, agree_if_right, agree_nothing}
-use Rattle.asn1_laws.proofs.Listed.{EachComponent}
+use Rattle.asn1_laws_values.proofs.Listed.{EachComponent}
 
 pub unless_equal : (r m n : Bool) (ms ns : List Bool) → mark_unless r m ms ≡ mark_unless r n ns → (ms ≡ ns) × ((r ≡ true) ⊎ (m ≡ n))
 unless_equal true m n ms ns e = (e, inl refl)

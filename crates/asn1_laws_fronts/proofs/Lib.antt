@@ -8,3 +8,10 @@ pub mod Plain
 pub mod Sevens
 pub mod Members
 pub mod Additions
+pub mod Units
+pub mod Strings
+pub mod Forms
+pub mod OctetsUnits
+pub mod Tags
+pub mod Choices
+pub mod OctetsForms

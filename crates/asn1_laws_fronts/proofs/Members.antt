@@ -2,7 +2,7 @@
 use Rattle.std.proofs.Common.{◌≡◌, true, refl}
 use Rattle.std.proofs.lemmas.Bool.{and_from}
 use Rattle.asn1_model.specs.Value.{Values, no_more, member, same, same_members}
-use Rattle.asn1_laws.proofs.Listed.{listed}
+use Rattle.asn1_laws_values.proofs.Listed.{listed}
 use Rattle.asn1_laws_fronts.proofs.Fronts.{Pairwise}
 
 pub members_same : (vs ws : Values) → Pairwise (λ v w. same v w ≡ true) (listed vs) (listed ws) → same_members vs ws ≡ true

@@ -6,7 +6,7 @@ use Rattle.asn1_model.specs.Numbers.{missing}
 use Rattle.asn1_model.specs.Form.{exactly}
 use Rattle.asn1_model.specs.Rules.{octet_bits}
 use Rattle.asn1_model.specs.Oer
-use Rattle.asn1_laws.proofs.Octets.{packed_back}
+use Rattle.asn1_laws_values.proofs.Octets.{packed_back}
 use Rattle.asn1_laws_fronts.proofs.Fronts.{fronts_equal, agree_exactly, agree_map, agree_both, agree_varied, agree_if, agree_first, agree_nothing}
 use Rattle.asn1_laws_fronts.proofs.OerNumbers.{OctetsAlike, length_alike}
 use Rattle.asn1_laws_fronts.proofs.Complete.{bits_length}

@@ -8,7 +8,7 @@ use Rattle.asn1_model.specs.Form.{exactly, only_if}
 use Rattle.asn1_model.specs.Tables.{is_bounded}
 use Rattle.asn1_model.specs.Strings.{each_is, is_octet}
 use Rattle.asn1_model.specs.Oer
-use Rattle.asn1_laws.proofs.Numbers.{FitsIn, length-digits, length-complement, digits_equal, complement_equal, octets_hold, signed_hold, at_most_pos, at_most_negsuc, not_below}
+use Rattle.asn1_laws_values.proofs.Numbers.{FitsIn, length-digits, length-complement, digits_equal, complement_equal, octets_hold, signed_hold, at_most_pos, at_most_negsuc, not_below}
 use Rattle.asn1_laws_fronts.proofs.Fronts.{Agree, agree_exactly, agree_refused, agree_with_refused, agree_map, agree_both, agree_varied, agree_if, agree_if_left, agree_if_right, agree_first, agree_nothing}
 
 abbrev pub OctetsAlike : (Oer.Freedom → Bool) → Oer.OctetForm → Oer.OctetForm → Type 0 → Type 0

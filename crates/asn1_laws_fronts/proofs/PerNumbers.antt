@@ -11,8 +11,8 @@ use Rattle.asn1_model.specs.Form.{exactly, both, varied, only_if, joined}
 use Rattle.asn1_model.specs.Tables.{is_bounded}
 use Rattle.asn1_model.specs.Strings.{each_is, is_octet}
 use Rattle.asn1_model.specs.Per
-use Rattle.asn1_laws.proofs.Places.{places_hold}
-use Rattle.asn1_laws.proofs.Numbers.{length-digits, length-complement, digits_equal, complement_equal, least_hold, signed_hold, above_equal}
+use Rattle.asn1_laws_values.proofs.Places.{places_hold}
+use Rattle.asn1_laws_values.proofs.Numbers.{length-digits, length-complement, digits_equal, complement_equal, least_hold, signed_hold, above_equal}
 use Rattle.asn1_laws_fronts.proofs.Fronts.{Agree, Pairwise, fronts_equal, agree_exactly, agree_refused, agree_map, agree_both, agree_both_apart, agree_placed, agree_varied, agree_varied_left, agree_varied_right, agree_if, agree_if_left, agree_if_right, agree_given, agree_first, agree_nothing}
 
 -- ---- numbers of so many bits

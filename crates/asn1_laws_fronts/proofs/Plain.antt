@@ -9,7 +9,7 @@ use Rattle.asn1_model.specs.Strings.{is_octet}
 use Rattle.asn1_model.specs.Tables.{marks}
 use Rattle.asn1_model.specs.Per
 use Rattle.asn1_model.specs.Oer
-use Rattle.asn1_laws.specs.Plain.{is_plain, are_plain}
+use Rattle.asn1_laws_values.specs.Plain.{is_plain, are_plain}
 use Rattle.asn1_laws_fronts.proofs.Fronts.{agree_exactly, agree_refused, agree_with_refused, agree_map, agree_both, agree_apart, agree_varied, agree_varied_left, agree_varied_right, agree_if, agree_if_left, agree_if_right, agree_first, agree_nothing}
 use Rattle.asn1_laws_fronts.proofs.PerNumbers as packed
 use Rattle.asn1_laws_fronts.proofs.PerNumbers.{Alike}

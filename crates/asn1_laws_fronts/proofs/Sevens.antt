@@ -5,8 +5,8 @@ use Rattle.std.proofs.lemmas.Bool.{ltb-true, leb-true, eqb-true, and_parts, or_c
 use Rattle.std.proofs.Math.Nat.{pow-le-pow_right}
 use Rattle.asn1_model.specs.Numbers.{digits, places}
 use Rattle.asn1_model.specs.Strings.{with_top_bits, groups_of_seven, identifier_octets, is_identifier}
-use Rattle.asn1_laws.proofs.Places.{places_hold}
-use Rattle.asn1_laws.proofs.Numbers.{length-digits, digits_equal}
+use Rattle.asn1_laws_values.proofs.Places.{places_hold}
+use Rattle.asn1_laws_values.proofs.Numbers.{length-digits, digits_equal}
 
 abbrev EachSmall : List ℕ → Type 0
 EachSmall [] = Unit {0}

@@ -4,7 +4,7 @@ use Rattle.asn1_model.specs.Value.{Value, same}
 use Rattle.asn1_model.specs.Schema.{Schema}
 use Rattle.asn1_model.specs.Lawful.{IsLawful}
 use Rattle.asn1_model.specs.Rules.{Rules, IsEncoding}
-use Rattle.asn1_laws.specs.Plain.{is_plain}
+use Rattle.asn1_laws_values.specs.Plain.{is_plain}
 
 -- Of all beginnings of some octets one at most is an encoding of a plain type, and of one value.
 abbrev pub OnePlainFront : Type 0

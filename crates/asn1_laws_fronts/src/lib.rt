@@ -1,9 +1,8 @@
 //! Of all beginnings of some octets one at most is an encoding of a type, and it says what the value is.
+//! Of all beginnings of some octets one at most is an encoding in the packed rules, and it says what the value is.
+//! Of all beginnings of some octets one at most is an encoding in the octet rules, and it says what the value is.
 #![tactic(auto)]
 
-ghost use Rattle.asn1_laws_fronts.specs.Laws.{OnePlainFront};
-
-/// Of all beginnings of some octets one at most is an encoding of a plain type, and of one value.
-pub fn one_plain_front()
-    ensures { OnePlainFront }
-{}
+pub mod octets;
+pub mod packed;
+pub mod plain;

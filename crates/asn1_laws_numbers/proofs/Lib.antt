@@ -3,3 +3,5 @@ pub mod Utf8
 pub mod Padded
 pub mod Ordered
 pub mod Ranges
+pub mod OerOctets
+pub mod Written

@@ -6,9 +6,9 @@ use Rattle.std.proofs.lemmas.Nat.{mod_below}
 use Rattle.std.proofs.Math.Nat.{mod-eq_of_lt, pow-suc}
 use Rattle.asn1_model.specs.Numbers.{digits, number_after, places, width, octet_width, least_octets, signed_octets, complement, binary, packed, octet_bits}
 use Rattle.asn1_model.specs.Strings.{each_is, is_octet}
-use Rattle.asn1_laws.proofs.Places.{places_hold, places_fewest}
-use Rattle.asn1_laws.proofs.Numbers.{number_of_digits, length-digits, length-complement, least_hold, signed_hold, octets_are_bits}
-use Rattle.asn1_laws.proofs.Octets.{packed_back, packed_octets}
+use Rattle.asn1_laws_values.proofs.Places.{places_hold, places_fewest}
+use Rattle.asn1_laws_values.proofs.Numbers.{number_of_digits, length-digits, length-complement, least_hold, signed_hold, octets_are_bits}
+use Rattle.asn1_laws_values.proofs.Octets.{packed_back, packed_octets}
 use Rattle.asn1_laws_fronts.proofs.PerNumbers.{binary_equal}
 use Rattle.asn1_laws_fronts.proofs.Complete.{bits_length}
 

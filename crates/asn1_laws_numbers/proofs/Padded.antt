@@ -8,7 +8,7 @@ use Rattle.asn1_model.specs.Strings.{each_is, is_octet}
 use Rattle.asn1_model.specs.Form.{Form, Reads, only_if}
 use Rattle.asn1_model.specs.Per
 use Rattle.asn1_model.specs.Oer
-use Rattle.asn1_laws.proofs.Numbers.{length-complement, least_hold, signed_hold}
+use Rattle.asn1_laws_values.proofs.Numbers.{length-complement, least_hold, signed_hold}
 use Rattle.asn1_laws_numbers.specs.Padded.{StandsFor, IsReadAsAny}
 use Rattle.asn1_laws_numbers.proofs.Numbers.{digits_sum, complement_sum, fewest_octets}
 

@@ -6,8 +6,8 @@ use Rattle.asn1_model.specs.Numbers.{digits, binary, width, number_after, octet_
 use Rattle.asn1_model.specs.Strings.{each_is, is_octet}
 use Rattle.asn1_model.specs.Form.{Reads, exactly, both, varied, only_if}
 use Rattle.asn1_model.specs.Per
-use Rattle.asn1_laws.proofs.Places.{places_fewest}
-use Rattle.asn1_laws.proofs.Numbers.{least_hold}
+use Rattle.asn1_laws_values.proofs.Places.{places_fewest}
+use Rattle.asn1_laws_values.proofs.Numbers.{least_hold}
 use Rattle.asn1_laws_numbers.specs.Padded.{IsReadAsAny, behind_their_number}
 use Rattle.asn1_laws_numbers.proofs.Numbers.{digits_sum, fewest_octets}
 use Rattle.asn1_laws_numbers.proofs.Padded.{digits_back, read_if, if_read}

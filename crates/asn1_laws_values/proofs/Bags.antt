@@ -3,8 +3,8 @@ use Rattle.std.proofs.Common.{◌≡◌, ℕ, zero, suc, ◌+◌, max, Bool, tru
 use Rattle.asn1_model.specs.Value.{Value, bag, Values, no_more, member, values_of, same, same_bag, taken_out, depth, depth_of_members}
 use Rattle.asn1_model.specs.Form.{pick, arranged}
 use Rattle.asn1_model.proofs.Forms.{map_parts}
-use Rattle.asn1_laws.proofs.Arranged.{arranged_parts}
-use Rattle.asn1_laws.proofs.Listed.{listed}
+use Rattle.asn1_laws_values.proofs.Arranged.{arranged_parts}
+use Rattle.asn1_laws_values.proofs.Listed.{listed}
 use Rattle.asn1_laws_values.proofs.Counts.{one_if, count, alike_counted, tests_alike, rest_parts}
 use Rattle.asn1_laws_values.proofs.Same.{same_self, below}
 

@@ -6,8 +6,8 @@ use Rattle.asn1_model.specs.Schema.{Schema, sequence_of, set_of, sequence, set, 
 use Rattle.asn1_model.specs.Normal.{normal, is_normal, are_normal, is_normal_alternative, are_all, is_at_default, is_group_left_out}
 use Rattle.asn1_model.specs.Form.{pick, arranged}
 use Rattle.asn1_model.proofs.Forms.{map_parts}
-use Rattle.asn1_laws.proofs.Arranged.{arranged_parts}
-use Rattle.asn1_laws.proofs.Listed.{listed}
+use Rattle.asn1_laws_values.proofs.Arranged.{arranged_parts}
+use Rattle.asn1_laws_values.proofs.Listed.{listed}
 use Rattle.asn1_laws_values.proofs.Bags.{EachSame, bag_matched}
 use Rattle.asn1_laws_values.proofs.Normal.{normal_same, default_tests, group_tests}
 

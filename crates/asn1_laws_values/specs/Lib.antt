@@ -1,1 +1,12 @@
 pub mod Laws
+pub mod MessagesLaws
+pub mod Versions
+pub mod Plain
+pub mod Places
+pub mod PlainLaws
+pub mod Equal
+pub mod TypedLaws
+pub mod Unfolding
+pub mod Tidied
+pub mod Declared
+pub mod UnfoldingLaws

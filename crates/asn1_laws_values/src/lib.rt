@@ -1,34 +1,15 @@
 //! Equality of values, in which a bag has no order.
+//! The laws of the model: what makes translation between encoding rules possible at all, proved over the definitions alone.
+//! Laws of tags: how they are ordered, the smallest of some, and lists in which none occurs twice. The
+//! functions do nothing: their contracts are the laws.
+//! Plain types: all rules encode the same values of them.
+//! The values of a type: normal forms are such values, and tell when two of them are equal.
+//! A recursive type means the same however far it is unfolded, and any type the same with each default in its normal form.
 #![tactic(auto)]
 
-ghost use Rattle.asn1_laws_values.specs.Laws.{SameIsEquivalence, BagsHaveNoOrder, NormalRespectsSame, NormalNestsNoDeeper, NormalStays, SameIsAsNormal};
-
-/// Equality of values is reflexive, symmetric and transitive.
-pub fn same_is_equivalence()
-    ensures { SameIsEquivalence }
-{}
-
-/// A bag is the bag of its members in any order.
-pub fn bags_have_no_order()
-    ensures { BagsHaveNoOrder }
-{}
-
-/// What is the same has the same normal form.
-pub fn normal_respects_same()
-    ensures { NormalRespectsSame }
-{}
-
-/// A normal form nests no deeper than the value.
-pub fn normal_nests_no_deeper()
-    ensures { NormalNestsNoDeeper }
-{}
-
-/// What is normal is its own normal form.
-pub fn normal_stays()
-    ensures { NormalStays }
-{}
-
-/// What is the same as something normal is normal.
-pub fn same_is_as_normal()
-    ensures { SameIsAsNormal }
-{}
+pub mod messages;
+pub mod plain;
+pub mod tags;
+pub mod typed;
+pub mod unfolding;
+pub mod values;

@@ -13,10 +13,10 @@ use Rattle.asn1_model.specs.Oer.{packed}
 use Rattle.asn1_model.specs.Per
 use Rattle.asn1_model.specs.Versions.{grow, grow_parts, grow_alternative, all_absent, lessen, lessen_parts, lessen_alternative, map_each, both_parts, Begins, KeepsPresence, Extends, ExtendsEach, ExtendsAlternatives}
 use Rattle.asn1_model.proofs.Forms.{chain_parts, map_parts}
-use Rattle.asn1_laws.proofs.Covers.{Covers, CoversEach, covers_same, covers_eq, covers_refused, covers_both, covers_varied, covers_within, covers_if, covers_cond, covers_joined, each_length, each_take, each_drop}
-use Rattle.asn1_laws.proofs.Messages.{IsWhole, complete_whole, some_parts}
-use Rattle.asn1_laws.proofs.Octets.{eights_units, packed_octets}
-use Rattle.asn1_laws.proofs.Arranged.{ascending_code, covers_arranged}
+use Rattle.asn1_laws_values.proofs.Covers.{Covers, CoversEach, covers_same, covers_eq, covers_refused, covers_both, covers_varied, covers_within, covers_if, covers_cond, covers_joined, each_length, each_take, each_drop}
+use Rattle.asn1_laws_values.proofs.Messages.{IsWhole, complete_whole, some_parts}
+use Rattle.asn1_laws_values.proofs.Octets.{eights_units, packed_octets}
+use Rattle.asn1_laws_values.proofs.Arranged.{ascending_code, covers_arranged}
 
 module _ (free : Per.Freedom → Bool) (wide : IsTrue (free Per.other_bitmap)) (mixed : IsTrue (free Per.other_order)) where
   abbrev Sim : Per.BitForm → Per.BitForm → Type 0

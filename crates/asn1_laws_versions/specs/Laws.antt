@@ -1,6 +1,6 @@
 -- Laws of two versions of a type in the packed rules.
 use Rattle.asn1_model.specs.Rules.{uper, aper, uper_strict, aper_strict}
-use Rattle.asn1_laws.specs.Versions.{OlderReads, OlderReadsNormal, NewerReads, NewerReadsNormal}
+use Rattle.asn1_laws_values.specs.Versions.{OlderReads, OlderReadsNormal, NewerReads, NewerReadsNormal}
 
 -- What the newer version of a type writes, the older one reads as the value without what it lacks; in the strict rules where
 -- the loss has left nothing at its default.

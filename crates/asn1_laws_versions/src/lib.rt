@@ -1,15 +1,16 @@
 //! What two versions of a type read of one another in the packed rules.
+//! What two versions of a type read of one another in the octet rules.
+//! What one version of a type reads of what the other writes, exactly.
+//! When a type is a newer version of another, and what a value of the older version is in the newer one: laws of an order.
+//! What one version of a type refuses of what the other writes, and what it reads exactly.
+//! Messages that go from hop to hop, each of which knows the older or the newer version of their type.
+//! The laws of lawful types, of all types that are lawful as declared: a default in them may spell out what is at a default of its own.
 #![tactic(auto)]
 
-ghost use Rattle.asn1_laws_versions.specs.Laws.{OlderVersionReads, NewerVersionReads};
-
-/// What the newer version of a type writes, the older one reads as the value without what it lacks; in the strict rules where the
-/// loss has left nothing at its default.
-pub fn older_version_reads()
-    ensures { OlderVersionReads }
-{}
-
-/// What the older version of a type writes, the newer one reads as the same value, with what only it has absent.
-pub fn newer_version_reads()
-    ensures { NewerVersionReads }
-{}
+pub mod declared;
+pub mod exact;
+pub mod extending;
+pub mod octets;
+pub mod packed;
+pub mod refused;
+pub mod routes;

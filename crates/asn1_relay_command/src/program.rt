@@ -25,7 +25,7 @@ use asn1_relay_types::{
 use asn1_schema_decode::Decode;
 use asn1_schema_encode::Encode;
 use asn1_values_bit_strings::BitString;
-use asn1_values_numbers::Integer;
+use asn1_values_integers::Integer;
 use asn1_values_strings::VisibleString;
 use clap::error::ErrorKind as ParseErrorKind;
 use std::alloc::Global;

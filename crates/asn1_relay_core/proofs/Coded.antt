@@ -12,13 +12,13 @@ use Rattle.asn1_schema_faults.specs.declared.DecodeError.TheVariants as Decoding
 use Rattle.asn1_schema_faults.specs.declared.EncodeError.{EncodeError}
 use Rattle.asn1_schema_faults.specs.declared.EncodeError.TheVariants as Encoding
 use Rattle.asn1_schema_presented.specs.Tables.{IsValue}
-use Rattle.asn1_schema_messages.specs.Messages.{HasMessage, Tells, NoMessage}
+use Rattle.asn1_schema_decode.specs.Messages.{HasMessage, Tells, NoMessage}
 use Rattle.asn1_relay_core.specs.declared.codec.Codec.{Codec}
 use Rattle.asn1_relay_core.specs.declared.translation.RecodeFault.{RecodeFault}
 use Rattle.asn1_relay_core.specs.declared.translation.RecodeFault.TheVariants.{NotAnEncoding, Surplus, NoTarget, Memory}
 use Rattle.asn1_relay_core.specs.Coding.{rules_of, IsWritten, NotWritten}
 use Rattle.asn1_relay_core.specs.Recoding.{IsMessage, Answer, answered, not_an_encoding, surplus, no_target, IsAnswer, NamesMemoryAlone, answer_of, source_fault_of, target_fault_of}
-use Rattle.asn1_laws_routes.proofs.Answers.{one_answer}
+use Rattle.asn1_laws_versions.proofs.Answers.{one_answer}
 
 module _ (source target : Rules) (schema : ℕ → Schema) (v : Value) (input rest : List ℕ) (t : Tells source schema v input rest) where
   -- the value nests no deeper than what was read

@@ -5,13 +5,13 @@ use Rattle.asn1_model.specs.Value.{Value}
 use Rattle.asn1_model.specs.Lawful.{IsLawful}
 use Rattle.asn1_model.specs.Normal.{normal}
 use Rattle.asn1_model.specs.Rules.{canonical}
-use Rattle.asn1_laws.proofs.Messages.{canonical_is_read}
+use Rattle.asn1_laws_values.proofs.Messages.{canonical_is_read}
 use Rattle.asn1_laws_across.proofs.Across.{detours}
 use Rattle.asn1_laws_values.proofs.Normal.{normal_depth}
 use Rattle.asn1_relay_core.specs.declared.codec.Codec.{Codec}
 use Rattle.asn1_relay_core.specs.Coding.{rules_of}
 use Rattle.asn1_relay_core.specs.Recoding.{IsMessage, Answer, answered, not_an_encoding, surplus, no_target, IsAnswer}
-use Rattle.asn1_laws_routes.proofs.Answers.{whole, alike, none_behind}
+use Rattle.asn1_laws_versions.proofs.Answers.{whole, alike, none_behind}
 
 module _ (from via : Codec) (s : Schema) (w octets : List ℕ) (lawful : IsLawful s) (first : IsAnswer (rules_of from) (rules_of via) s w (answered octets)) where
   -- the octets on the way are a message of the normal form

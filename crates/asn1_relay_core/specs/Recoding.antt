@@ -2,8 +2,8 @@
 use Rattle.std.specs.Prelude.{◌≡◌, ℕ, List, Option, Some, None, Result, Ok, Err, Vec}
 use Rattle.asn1_model.specs.Schema.{Schema}
 use Rattle.asn1_model.specs.Lawful.{IsLawful}
-pub use Rattle.asn1_laws_routes.specs.Answers.{IsMessage, IsAnswer}
-pub use Rattle.asn1_laws_routes.specs.Answers.{Answer, answered, not_an_encoding, surplus, no_target}
+pub use Rattle.asn1_laws_versions.specs.Answers.{IsMessage, IsAnswer}
+pub use Rattle.asn1_laws_versions.specs.Answers.{Answer, answered, not_an_encoding, surplus, no_target}
 use Rattle.asn1_schema_faults.specs.declared.DecodeError.{DecodeError}
 use Rattle.asn1_schema_faults.specs.declared.DecodeError.TheVariants as Decoding
 use Rattle.asn1_schema_faults.specs.declared.EncodeError.{EncodeError}

@@ -1,6 +1,6 @@
 //! The sets of encoding rules.
 ghost use Rattle.std.specs.Prelude.{◌≡◌, List, ℕ, Some, IfOk, IfErr};
-ghost use Rattle.asn1_schema_messages.specs.Messages.{NoMessage, Tells};
+ghost use Rattle.asn1_schema_decode.specs.Messages.{NoMessage, Tells};
 ghost use Rattle.asn1_relay_core.specs.Coding.{rules_of, kind_of, IsWritten, NotWritten};
 
 use asn1_schema_decode::Decode;

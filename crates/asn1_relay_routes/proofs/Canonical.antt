@@ -6,11 +6,11 @@ use Rattle.asn1_model.specs.Lawful.{IsLawful}
 use Rattle.asn1_model.specs.Rules.{Rules, canonical}
 use Rattle.asn1_model.specs.Versions.{Extends}
 use Rattle.asn1_schema_versions.specs.Versions.{ExtendsFrom, Unfolds}
-use Rattle.asn1_laws_unfolding.specs.Unfolding.{AgreesTo}
-use Rattle.asn1_laws_unfolding.proofs.Unfolding.{means_the_same}
-use Rattle.asn1_laws_routes.specs.Answers.{IsMessage, Answer, answered, not_an_encoding, surplus, no_target, IsAnswer}
-use Rattle.asn1_laws_routes.specs.Routes.{Version, older, newer, Hop, schema_of, Arrives, RefusesAt, Passed, Stage, at_first, behind, Writes, IsLastWritten}
-use Rattle.asn1_laws_routes.proofs.Routes.{free_arrives, arrives_free, arrives_last, fails_refuses, refuses_fails}
+use Rattle.asn1_laws_values.specs.Unfolding.{AgreesTo}
+use Rattle.asn1_laws_values.proofs.Unfolding.{means_the_same}
+use Rattle.asn1_laws_versions.specs.Answers.{IsMessage, Answer, answered, not_an_encoding, surplus, no_target, IsAnswer}
+use Rattle.asn1_laws_versions.specs.Routes.{Version, older, newer, Hop, schema_of, Arrives, RefusesAt, Passed, Stage, at_first, behind, Writes, IsLastWritten}
+use Rattle.asn1_laws_versions.proofs.Routes.{free_arrives, arrives_free, arrives_last, fails_refuses, refuses_fails}
 use Rattle.asn1_relay_routes.specs.Routing.{Outcome, arrived, refused, IsOutcome, IsTold}
 use Rattle.asn1_relay_routes.proofs.Outcomes.{one_outcome}
 

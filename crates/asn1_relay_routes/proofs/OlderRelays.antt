@@ -4,12 +4,12 @@ use Rattle.asn1_model.specs.Schema.{Schema}
 use Rattle.asn1_model.specs.Value.{Value}
 use Rattle.asn1_model.specs.Lawful.{IsLawful}
 use Rattle.asn1_model.specs.Rules.{Rules, canonical}
-use Rattle.asn1_laws_unfolding.specs.Unfolding.{AgreesTo}
-use Rattle.asn1_laws_unfolding.proofs.Unfolding.{means_the_same}
-use Rattle.asn1_laws_streams.specs.Streams.{Message, IsMessage, HasNoMessage}
-use Rattle.asn1_laws_streams.specs.Relayed.{Stop, no_target, empty_message, none_within_limit, RelaysFront, BeginsWith, HasEmptyMessage, StopsAt, Relays}
-use Rattle.asn1_laws_routes.specs.Relays.{AreJoined, Halt, RelaysOlder, IsEnd}
-use Rattle.asn1_laws_routes.proofs.Relays.{goes, does}
+use Rattle.asn1_laws_values.specs.Unfolding.{AgreesTo}
+use Rattle.asn1_laws_values.proofs.Unfolding.{means_the_same}
+use Rattle.asn1_laws_across.specs.Streams.{Message, IsMessage, HasNoMessage}
+use Rattle.asn1_laws_across.specs.Relayed.{Stop, no_target, empty_message, none_within_limit, RelaysFront, BeginsWith, HasEmptyMessage, StopsAt, Relays}
+use Rattle.asn1_laws_versions.specs.Relays.{AreJoined, Halt, RelaysOlder, IsEnd}
+use Rattle.asn1_laws_versions.proofs.Relays.{goes, does}
 use Rattle.asn1_schema_versions.specs.Versions.{ExtendsFrom, Unfolds}
 
 -- ---- types that agree in what a relay reads

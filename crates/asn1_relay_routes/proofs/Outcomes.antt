@@ -4,13 +4,13 @@ use Rattle.std.proofs.lemmas.List.{drop_all}
 use Rattle.asn1_model.specs.Schema.{Schema}
 use Rattle.asn1_model.specs.Lawful.{IsLawful}
 use Rattle.asn1_model.specs.Rules.{Rules}
-use Rattle.asn1_laws_routes.specs.Answers.{Answer, answered, not_an_encoding, surplus, no_target}
-use Rattle.asn1_laws_routes.specs.Routes as Model
-use Rattle.asn1_laws_routes.specs.Routes.{HopAnswers, Arrives, RefusesAt, IsRefusal}
+use Rattle.asn1_laws_versions.specs.Answers.{Answer, answered, not_an_encoding, surplus, no_target}
+use Rattle.asn1_laws_versions.specs.Routes as Model
+use Rattle.asn1_laws_versions.specs.Routes.{HopAnswers, Arrives, RefusesAt, IsRefusal}
 use Rattle.asn1_relay_core.specs.declared.codec.Codec.{Codec}
 use Rattle.asn1_relay_core.specs.declared.codec.Codec.TheVariants.{Uper}
 use Rattle.asn1_relay_core.specs.Coding.{rules_of}
-use Rattle.asn1_laws_routes.proofs.Routes.{arrives_once, refused_once, not_both}
+use Rattle.asn1_laws_versions.proofs.Routes.{arrives_once, refused_once, not_both}
 use Rattle.asn1_relay_routes.specs.declared.fault.RouteFault.{RouteFault}
 use Rattle.asn1_relay_routes.specs.declared.fault.RouteFaultKind.{RouteFaultKind}
 use Rattle.asn1_relay_routes.specs.declared.fault.RouteFaultKind.TheVariants.{Read, Surplus, NoTarget, Memory}

@@ -3,8 +3,8 @@ use Rattle.std.specs.Prelude.{ℕ, ◌≤◌, List, Option}
 use Rattle.asn1_model.specs.Schema.{Schema}
 use Rattle.asn1_model.specs.Value.{Value}
 use Rattle.asn1_model.specs.Rules.{Rules}
-use Rattle.asn1_laws_streams.specs.Relayed.{Stop, Relays}
-use Rattle.asn1_laws_routes.specs.Relays.{AreJoined, Halt, RelaysOlder, IsEnd}
+use Rattle.asn1_laws_across.specs.Relayed.{Stop, Relays}
+use Rattle.asn1_laws_versions.specs.Relays.{AreJoined, Halt, RelaysOlder, IsEnd}
 
 -- What a relay of the older version does to joined messages of the newer one is what the values tell, in whatever depth
 -- these nest: both types are unfolded to so many levels, the 128 that a relay reads or more.

@@ -6,10 +6,10 @@ use Rattle.asn1_model.specs.Rules.{Rules, canonical}
 use Rattle.asn1_model.specs.Value.{Value}
 use Rattle.asn1_schema_faults.specs.declared.DecodeError.TheVariants as Decoding
 use Rattle.asn1_schema_faults.specs.declared.EncodeError.TheVariants as Encoding
-use Rattle.asn1_laws_routes.specs.Answers.{Answer, answered, not_an_encoding, surplus, no_target}
-use Rattle.asn1_laws_routes.specs.Routes as Model
-use Rattle.asn1_laws_routes.specs.Routes.{HopAnswers, Arrives, RefusesAt}
-use Rattle.asn1_laws_routes.specs.Routes.{at_first, GoesThrough, FailsAt, IsLastWritten}
+use Rattle.asn1_laws_versions.specs.Answers.{Answer, answered, not_an_encoding, surplus, no_target}
+use Rattle.asn1_laws_versions.specs.Routes as Model
+use Rattle.asn1_laws_versions.specs.Routes.{HopAnswers, Arrives, RefusesAt}
+use Rattle.asn1_laws_versions.specs.Routes.{at_first, GoesThrough, FailsAt, IsLastWritten}
 use Rattle.asn1_relay_core.specs.declared.codec.Codec.{Codec}
 use Rattle.asn1_relay_core.specs.declared.translation.RecodeFault.{RecodeFault}
 use Rattle.asn1_relay_core.specs.declared.translation.RecodeFault.TheVariants as recoding

@@ -5,8 +5,8 @@ use Rattle.std.proofs.KnownBytes.{Appends-nil, Appends-trans, Consumes-nil, Cons
 use Rattle.std.proofs.lemmas.List.{append-nil}
 use Rattle.asn1_model.specs.Schema.{Schema}
 use Rattle.asn1_model.specs.Rules.{Rules}
-use Rattle.asn1_laws_streams.specs.Relayed.{RelaysFront, Relays}
-use Rattle.asn1_laws_streams.proofs.Relayed.{goes_on, joins, longer}
+use Rattle.asn1_laws_across.specs.Relayed.{RelaysFront, Relays}
+use Rattle.asn1_laws_across.proofs.Relayed.{goes_on, joins, longer}
 use Rattle.asn1_relay_core.specs.declared.codec.Codec.{Codec}
 use Rattle.asn1_relay_core.specs.Coding.{rules_of}
 use Rattle.asn1_relay_streams.specs.declared.fault.RelayFault.{RelayFault}

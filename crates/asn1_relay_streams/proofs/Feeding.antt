@@ -4,9 +4,9 @@ use Rattle.std.proofs.Math.Seq.{drop-append_seam}
 use Rattle.std.proofs.lemmas.List.{length-append, append-nil}
 use Rattle.asn1_model.specs.Schema.{Schema}
 use Rattle.asn1_model.specs.Rules.{Rules}
-use Rattle.asn1_laws_streams.specs.Streams.{Message, HasNoMessage}
-use Rattle.asn1_laws_streams.specs.Relayed.{Stop, RelaysFront, HasEmptyMessage, StopsAt}
-use Rattle.asn1_laws_streams.proofs.Relayed.{joins}
+use Rattle.asn1_laws_across.specs.Streams.{Message, HasNoMessage}
+use Rattle.asn1_laws_across.specs.Relayed.{Stop, RelaysFront, HasEmptyMessage, StopsAt}
+use Rattle.asn1_laws_across.proofs.Relayed.{joins}
 use Rattle.asn1_relay_core.specs.Coding.{rules_of}
 use Rattle.asn1_relay_streams.specs.declared.fault.RelayFault.{RelayFault}
 use Rattle.asn1_relay_streams.specs.declared.fault.RelayFaultKind.{RelayFaultKind}

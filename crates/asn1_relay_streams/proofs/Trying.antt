@@ -9,10 +9,10 @@ use Rattle.asn1_model.specs.Rules.{Rules, IsEncoding}
 use Rattle.asn1_schema_presented.specs.Tables.{IsValue}
 use Rattle.asn1_schema_faults.specs.declared.DecodeError.{DecodeError}
 use Rattle.asn1_schema_faults.specs.declared.DecodeError.TheVariants as Decoding
-use Rattle.asn1_schema_messages.specs.Messages.{HasMessage, Tells, NoMessage}
-use Rattle.asn1_laws_streams.specs.Streams.{Message, IsMessage, HasNoMessage}
-use Rattle.asn1_laws_streams.specs.Relayed.{Stop, no_target, empty_message, none_within_limit, HasEmptyMessage, BeginsWith, StopsAt}
-use Rattle.asn1_laws_streams.proofs.Relayed.{begins_with}
+use Rattle.asn1_schema_decode.specs.Messages.{HasMessage, Tells, NoMessage}
+use Rattle.asn1_laws_across.specs.Streams.{Message, IsMessage, HasNoMessage}
+use Rattle.asn1_laws_across.specs.Relayed.{Stop, no_target, empty_message, none_within_limit, HasEmptyMessage, BeginsWith, StopsAt}
+use Rattle.asn1_laws_across.proofs.Relayed.{begins_with}
 use Rattle.asn1_relay_core.specs.Coding.{IsWritten}
 use Rattle.asn1_relay_core.proofs.Coded.{of_raw}
 use Rattle.asn1_relay_streams.specs.declared.fault.RelayFaultKind.{RelayFaultKind}

@@ -3,10 +3,10 @@ use Rattle.std.specs.Prelude.{◌≡◌, ◌≢◌, ◌⊎◌, ℕ, Bool, List, 
 use Rattle.asn1_model.specs.Schema.{Schema}
 use Rattle.asn1_model.specs.Value.{Value}
 use Rattle.asn1_model.specs.Rules.{Rules, canonical}
-use Rattle.asn1_laws_streams.specs.Streams.{Message, IsMessage}
+use Rattle.asn1_laws_across.specs.Streams.{Message, IsMessage}
 use Rattle.asn1_schema_faults.specs.declared.DecodeError.{DecodeError}
 use Rattle.asn1_schema_faults.specs.declared.DecodeError.TheVariants as Decoding
-use Rattle.asn1_laws_streams.specs.Relayed.{Stop, StopsAt}
+use Rattle.asn1_laws_across.specs.Relayed.{Stop, StopsAt}
 use Rattle.asn1_relay_streams.specs.declared.fault.RelayFaultKind.{RelayFaultKind}
 use Rattle.asn1_relay_streams.specs.declared.fault.RelayFaultKind.TheVariants as kind
 use Rattle.asn1_relay_streams.specs.declared.front.Front.{Front}

@@ -1,8 +1,8 @@
 -- What a relay holds, and what its calls do.
 use Rattle.std.specs.Prelude.{◌≡◌, ◌⊎◌, ℕ, min, ◌+◌, ◌≤◌, Bool, true, false, List, ◌++◌, length, if◌then◌else◌, Option, Some, None}
 use Rattle.asn1_model.specs.Schema.{Schema}
-use Rattle.asn1_laws_streams.specs.Streams.{Message}
-use Rattle.asn1_laws_streams.specs.Relayed.{Stop, no_target, empty_message, none_within_limit, RelaysFront, Relays}
+use Rattle.asn1_laws_across.specs.Streams.{Message}
+use Rattle.asn1_laws_across.specs.Relayed.{Stop, no_target, empty_message, none_within_limit, RelaysFront, Relays}
 use Rattle.asn1_relay_core.specs.declared.codec.Codec.{Codec}
 use Rattle.asn1_relay_core.specs.Coding.{rules_of}
 use Rattle.asn1_relay_streams.specs.declared.fault.RelayFault.{RelayFault}

@@ -3,8 +3,8 @@ use Rattle.std.specs.Prelude.{◌≡◌, ◌≢◌, ◌⊎◌, ℕ, ◌+◌, ◌
 use Rattle.std.specs.Io.KnownBytes.{Appends, Consumes, IsAtEnd}
 use Rattle.asn1_model.specs.Schema.{Schema}
 use Rattle.asn1_model.specs.Rules.{Rules}
-use Rattle.asn1_laws_streams.specs.Streams.{Message}
-use Rattle.asn1_laws_streams.specs.Relayed.{Stop, RelaysFront, Relays}
+use Rattle.asn1_laws_across.specs.Streams.{Message}
+use Rattle.asn1_laws_across.specs.Relayed.{Stop, RelaysFront, Relays}
 use Rattle.asn1_relay_streams.specs.declared.fault.RelayFault.{RelayFault}
 use Rattle.asn1_relay_streams.specs.declared.fault.RelayFaultKind.{RelayFaultKind}
 use Rattle.asn1_relay_streams.specs.declared.fault.RelayFaultKind.TheVariants as kind

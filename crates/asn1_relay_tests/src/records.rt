@@ -6,7 +6,7 @@ use asn1_schema_example::measure::Measure;
 use asn1_schema_example::setting::Setting;
 use asn1_schema_faults::{CodecKind, DecodeError, EncodeError};
 use asn1_schema_records::{Item, RecordDecoder, RecordEncoder};
-use asn1_values_numbers::Integer;
+use asn1_values_integers::Integer;
 use std::alloc::Global;
 use std::test::Fail;
 

@@ -1,6 +1,6 @@
 //! Streams: runs whose reader or writer fails at each call in turn, a relay behind its faults, long streams, and values one behind the other.
 ghost use Rattle.std.specs.Prelude.{refl, Some, None, false};
-ghost use Rattle.asn1_schema_bounds.specs.declared.bounds.Bounded.{Bounded};
+ghost use Rattle.asn1_schema_constraints.specs.declared.bounds.Bounded.{Bounded};
 ghost use Rattle.asn1_schema_presented.proofs.TypesByKind.{type_list};
 
 use asn1_relay_core::{Codec, DecodeError};
@@ -8,15 +8,13 @@ use asn1_relay_streams::{
     MemorySink, MemorySource, Relay, RelayFault, RelayFaultKind, RunFault, run,
 };
 use asn1_relay_types::Small;
-use asn1_schema_bounds::Bounded;
-use asn1_schema_constraints::{Constraints, Extensible, Size};
-use asn1_schema_decode::Decode;
+use asn1_schema_constraints::{Bounded, Constraints, Extensible, Size};
+use asn1_schema_decode::making::iter;
+use asn1_schema_decode::{Decode, FrontReader, Iter};
 use asn1_schema_encode::Encode;
-use asn1_schema_iter::making::iter;
-use asn1_schema_iter::{FrontReader, Iter};
 use asn1_schema_types::Described;
 use asn1_schema_wrapped::{Constrained, ConstraintsOf};
-use asn1_values_numbers::Integer;
+use asn1_values_integers::Integer;
 use asn1_values_octets::OctetString;
 use oer_codec::{CoerFront, OerFront};
 use per_codec::{AperFront, UperFront};

@@ -2,7 +2,6 @@
 use crate::assertions::assert_same;
 use asn1_relay_types::{Extra, New, Set};
 use asn1_schema_additions::Group;
-use asn1_schema_components::DefaultOf;
 use asn1_schema_constructed::{Alternatives, Choice, Constructed, Fields, NamedItems};
 use asn1_schema_example::control::Control;
 use asn1_schema_example::gauge::Gauge;
@@ -12,9 +11,9 @@ use asn1_schema_example::power::Power;
 use asn1_schema_example_choices::answer::Answer;
 use asn1_schema_example_choices::colour::Colour;
 use asn1_schema_tags::Tag;
-use asn1_schema_types::AsnType;
+use asn1_schema_types::{AsnType, DefaultOf};
 use asn1_schema_variants::{Chosen, Enumerated};
-use asn1_values_numbers::Integer;
+use asn1_values_integers::Integer;
 use std::test::Fail;
 
 /// The name of the first field in a table.

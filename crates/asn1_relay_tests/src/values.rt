@@ -8,7 +8,7 @@ use asn1_schema_example::measure::Measure;
 use asn1_schema_example::power::Power;
 use asn1_schema_example_choices::message::Message;
 use asn1_schema_wrapped::Implicit;
-use asn1_values_numbers::Integer;
+use asn1_values_integers::Integer;
 use std::alloc::{AllocError, Global};
 use std::test::Fail;
 

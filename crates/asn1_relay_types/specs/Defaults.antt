@@ -8,10 +8,10 @@ use Rattle.asn1_schema_presented.specs.Typed.{IsDefault, IsPart, AreValues}
 use Rattle.asn1_schema_presented.proofs.TypesByKind.{boolean_type, boolean_value}
 use Rattle.asn1_schema_presented.proofs.Values.{more_values, part_required}
 use Rattle.asn1_schema_presented.proofs.Defaults.{boolean_default}
-use Rattle.asn1_schema_components.proofs.SequenceDefaults.{AreDefaultParts, no_default_parts, more_default_parts}
-use Rattle.asn1_schema_components.proofs.SequenceDefaults.{sequence_default}
-use Rattle.asn1_schema_extensions.specs.Additions.{AreAdditionValues}
-use Rattle.asn1_schema_extensions.proofs.Additions.{no_addition_values, more_addition_values, marked_values}
+use Rattle.asn1_schema_types.proofs.SequenceDefaults.{AreDefaultParts, no_default_parts, more_default_parts}
+use Rattle.asn1_schema_types.proofs.SequenceDefaults.{sequence_default}
+use Rattle.asn1_schema_presented.specs.Additions.{AreAdditionValues}
+use Rattle.asn1_schema_presented.proofs.Additions.{no_addition_values, more_addition_values, marked_values}
 use Rattle.asn1_relay_types.specs.Schemas.{universal}
 
 -- The tag of the BOOLEAN, and that of an addition.

@@ -7,14 +7,13 @@ ghost use Rattle.asn1_schema_presented.specs.Tables.{sequence_type};
 ghost use Rattle.asn1_schema_presented.proofs.Values.{type_sequence, value_sequence};
 
 use asn1_schema_additions::Group;
-use asn1_schema_components::{ComponentsOf, End, Optional, OptionalComponent};
 use asn1_schema_constraints::Constraints;
 use asn1_schema_constructed::{Constructed, Field, FieldPresence, Fields};
 use asn1_schema_decode::{DecodeComponents, Decoder};
 use asn1_schema_encode::{EncodeComponents, Encoder};
 use asn1_schema_faults::{DecodeError, EncodeError};
 use asn1_schema_tags::{Identifier, Tag, TagTree};
-use asn1_schema_types::{AsnType, Described};
+use asn1_schema_types::{AsnType, ComponentsOf, Described, End, Optional, OptionalComponent};
 use std::alloc::Global;
 
 /// What was added together.

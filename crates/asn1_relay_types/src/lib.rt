@@ -16,7 +16,7 @@ mod pair;
 mod set;
 mod small;
 
-use asn1_schema_bags::SetOf;
+use asn1_schema_constructed::SetOf;
 pub use asn1_schema_example_choices::nest::Nest;
 pub use extra::Extra;
 pub use group::Group;

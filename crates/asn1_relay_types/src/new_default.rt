@@ -10,7 +10,6 @@ ghost use Rattle.asn1_relay_types.specs.Defaults.{true_and, new_true_stands};
 use crate::new::New;
 use crate::old::Old;
 use crate::old_default::OldDefault;
-use asn1_schema_components::{ComponentsOf, DefaultOf, Defaulted, DefaultedComponent, End};
 use asn1_schema_constraints::Constraints;
 use asn1_schema_constructed::{
     Constructed, DecodeConstructed, EncodeConstructed, Field, FieldPresence, Fields,
@@ -19,7 +18,9 @@ use asn1_schema_decode::{Decode, DecodeComponents, Decoder};
 use asn1_schema_encode::{Encode, EncodeComponents, Encoder};
 use asn1_schema_faults::{DecodeError, EncodeError};
 use asn1_schema_tags::{Identifier, Tag, TagTree};
-use asn1_schema_types::{AsnType, Described};
+use asn1_schema_types::{
+    AsnType, ComponentsOf, DefaultOf, Defaulted, DefaultedComponent, Described, End,
+};
 use asn1_schema_versions::Extends;
 use std::alloc::{AllocError, Global};
 use std::marker::PhantomData;

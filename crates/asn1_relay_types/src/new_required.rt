@@ -11,7 +11,6 @@ use crate::old::Old;
 use asn1_schema_additions::{
     AddedRequired, AddedRequiredComponent, AdditionsOf, CountOf, Marked, MarkedComponents, NoMore,
 };
-use asn1_schema_components::{ComponentsOf, Required, RequiredComponent};
 use asn1_schema_constraints::Constraints;
 use asn1_schema_constructed::{
     Constructed, DecodeConstructed, EncodeConstructed, Field, FieldPresence, Fields,
@@ -20,7 +19,7 @@ use asn1_schema_decode::{Decode, DecodeComponents, Decoder};
 use asn1_schema_encode::{Encode, EncodeComponents, Encoder};
 use asn1_schema_faults::{DecodeError, EncodeError};
 use asn1_schema_tags::{Class, Identifier, Tag, TagTree};
-use asn1_schema_types::{AsnType, Described};
+use asn1_schema_types::{AsnType, ComponentsOf, Described, Required, RequiredComponent};
 use asn1_schema_versions::Extends;
 use asn1_schema_wrapped::{Implicit, tag};
 use std::alloc::Global;

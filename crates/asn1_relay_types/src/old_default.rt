@@ -8,7 +8,6 @@ ghost use Rattle.asn1_schema_presented.proofs.Values.{type_sequence, value_seque
 ghost use Rattle.asn1_relay_types.specs.Defaults.{true_and, old_true_stands};
 
 use crate::old::Old;
-use asn1_schema_components::{ComponentsOf, DefaultOf, Defaulted, DefaultedComponent, End};
 use asn1_schema_constraints::Constraints;
 use asn1_schema_constructed::{
     Constructed, DecodeConstructed, EncodeConstructed, Field, FieldPresence, Fields,
@@ -17,7 +16,9 @@ use asn1_schema_decode::{Decode, DecodeComponents, Decoder};
 use asn1_schema_encode::{Encode, EncodeComponents, Encoder};
 use asn1_schema_faults::{DecodeError, EncodeError};
 use asn1_schema_tags::{Identifier, Tag, TagTree};
-use asn1_schema_types::{AsnType, Described};
+use asn1_schema_types::{
+    AsnType, ComponentsOf, DefaultOf, Defaulted, DefaultedComponent, Described, End,
+};
 use std::alloc::{AllocError, Global};
 use std::marker::PhantomData;
 

@@ -7,7 +7,6 @@ ghost use Rattle.asn1_schema_presented.specs.Tables.{sequence_type};
 ghost use Rattle.asn1_schema_presented.proofs.Values.{type_sequence, value_sequence};
 
 use crate::small::Small;
-use asn1_schema_components::{ComponentsOf, End, Required, RequiredComponent};
 use asn1_schema_constraints::Constraints;
 use asn1_schema_constructed::{
     Constructed, DecodeConstructed, EncodeConstructed, Field, FieldPresence, Fields,
@@ -16,7 +15,7 @@ use asn1_schema_decode::{Decode, DecodeComponents, Decoder};
 use asn1_schema_encode::{Encode, EncodeComponents, Encoder};
 use asn1_schema_faults::{DecodeError, EncodeError};
 use asn1_schema_tags::{Identifier, Tag, TagTree};
-use asn1_schema_types::{AsnType, Described};
+use asn1_schema_types::{AsnType, ComponentsOf, Described, End, Required, RequiredComponent};
 use std::alloc::Global;
 
 /// A truth value and a whole number from -5 to 5: SEQUENCE {a BOOLEAN, b INTEGER (-5..5)} (X.680 25).

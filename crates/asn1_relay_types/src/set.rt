@@ -7,16 +7,15 @@ ghost use Rattle.asn1_schema_constructed.specs.Constructed.{set_form};
 ghost use Rattle.asn1_schema_constructed.specs.Sets.{set_type};
 ghost use Rattle.asn1_schema_constructed.proofs.SetValues.{type_set, value_set};
 
-use asn1_schema_components::{ComponentsOf, End, Optional, OptionalComponent};
 use asn1_schema_constraints::Constraints;
 use asn1_schema_constructed::{Constructed, DecodeSet, EncodeSet, Field, FieldPresence, Fields};
 use asn1_schema_decode::{Decode, DecodeComponents, Decoder};
 use asn1_schema_encode::{Encode, EncodeComponents, Encoder};
 use asn1_schema_faults::{DecodeError, EncodeError};
 use asn1_schema_tags::{Class, Identifier, Tag, TagTree};
-use asn1_schema_types::{AsnType, Described};
+use asn1_schema_types::{AsnType, ComponentsOf, Described, End, Optional, OptionalComponent};
 use asn1_schema_wrapped::{Implicit, tag};
-use asn1_values_numbers::Integer;
+use asn1_values_integers::Integer;
 use std::alloc::Global;
 
 /// Three numbers under tags of their own.

@@ -1,7 +1,6 @@
 //! Constraints that stand behind the name of a type.
 use crate::line::LineError;
-use asn1_schema_bounds::Bounded;
-use asn1_schema_constraints::{Constraints, Extensible, PermittedAlphabet, Size, Value};
+use asn1_schema_constraints::{Bounded, Constraints, Extensible, PermittedAlphabet, Size, Value};
 use std::alloc::{AllocError, Global};
 
 /// What a line's type is constrained to, as in `octet-string(SIZE(1..3,...))` (X.680 51).

@@ -1,7 +1,7 @@
 -- Types that mean the same in whatever depth they are unfolded: lists, bags, and a choice that leads back to itself.
 use Rattle.std.proofs.Common.{◌≤◌, ℕ, zero, suc, refl, inl, inr, arith}
 use Rattle.asn1_model.specs.Schema.{Counts, Size, Schema, null}
-use Rattle.asn1_laws_unfolding.specs.Unfolding.{AgreesTo, AgreesAlternatives}
+use Rattle.asn1_laws_values.specs.Unfolding.{AgreesTo, AgreesAlternatives}
 use Rattle.asn1_schema_constructed.specs.Bags.{bag_type}
 use Rattle.asn1_schema_constructed.specs.Recursive.{recursive_choice}
 use Rattle.asn1_schema_constructed.specs.Tables.{alternatives_at, choice_type}

@@ -16,7 +16,7 @@ use asn1_schema_faults::{DecodeError, EncodeError};
 use asn1_schema_tags::{Class, Tag, TagTree};
 use asn1_schema_types::{AsnType, Described};
 use asn1_schema_variants::Chosen;
-use asn1_values_numbers::Integer;
+use asn1_values_integers::Integer;
 use std::alloc::Global;
 
 /// A tag of the context (X.680 8.1).

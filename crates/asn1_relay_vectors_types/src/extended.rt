@@ -10,14 +10,12 @@ use asn1_schema_additions::{
     AddedOptional, AddedOptionalComponent, AddedRequired, AddedRequiredComponent, AdditionsOf,
     CountOf, DecodeExtension, EncodeExtension, Marked, MarkedComponents, NoMore,
 };
-use asn1_schema_components::{
-    ComponentsOf, Optional, OptionalComponent, Required, RequiredComponent,
-};
 use asn1_schema_decode::Decoder;
 use asn1_schema_encode::Encoder;
 use asn1_schema_faults::{DecodeError, EncodeError};
 use asn1_schema_tags::Tag;
-use asn1_values_numbers::Integer;
+use asn1_schema_types::{ComponentsOf, Optional, OptionalComponent, Required, RequiredComponent};
+use asn1_values_integers::Integer;
 use asn1_values_octets::OctetString;
 use std::alloc::Global;
 

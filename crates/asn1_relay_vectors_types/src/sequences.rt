@@ -6,16 +6,16 @@ ghost use Rattle.asn1_schema_presented.proofs.Values.{type_sequence, value_seque
 
 use crate::listed::{Listed, Sequence};
 use crate::sizes::{ListOfOneOrTwo, ThreeOctets};
-use asn1_schema_components::{
-    ComponentsOf, DefaultOf, Defaulted, DefaultedComponent, End, EqualByMeaning, Optional,
-    OptionalComponent, Required, RequiredComponent,
-};
 use asn1_schema_decode::{DecodeSequence, Decoder};
 use asn1_schema_encode::{EncodeSequence, Encoder};
 use asn1_schema_faults::{DecodeError, EncodeError};
 use asn1_schema_tags::Tag;
+use asn1_schema_types::{
+    ComponentsOf, DefaultOf, Defaulted, DefaultedComponent, End, EqualByMeaning, Optional,
+    OptionalComponent, Required, RequiredComponent,
+};
 use asn1_schema_wrapped::{Implicit, tag};
-use asn1_values_numbers::Integer;
+use asn1_values_integers::Integer;
 use std::alloc::{AllocError, Global};
 use std::marker::PhantomData;
 

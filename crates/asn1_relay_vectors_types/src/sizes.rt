@@ -1,11 +1,10 @@
 //! Strings and lists of a size of their own.
 ghost use Rattle.std.specs.Prelude.{refl, Some, None, false};
-ghost use Rattle.asn1_schema_bounds.specs.declared.bounds.Bounded.{Bounded};
+ghost use Rattle.asn1_schema_constraints.specs.declared.bounds.Bounded.{Bounded};
 ghost use Rattle.asn1_schema_presented.proofs.TypesByKind.{octet_string_type, type_list};
 ghost use Rattle.asn1_schema_types.specs.Counts.{fixed_to};
 
-use asn1_schema_bounds::Bounded;
-use asn1_schema_constraints::{Constraints, Extensible, Size};
+use asn1_schema_constraints::{Bounded, Constraints, Extensible, Size};
 use asn1_schema_types::Described;
 use asn1_schema_wrapped::{Constrained, ConstraintsOf};
 use asn1_values_octets::OctetString;

@@ -12,29 +12,26 @@ pub use asn1_schema_additions::{
     DecodeAdditions, DecodeExtension, EncodeAdditions, EncodeExtension, Group, Marked,
     MarkedComponents, NoMore,
 };
-pub use asn1_schema_bags::SetOf;
-pub use asn1_schema_bounds::{Bounded, Effective};
-pub use asn1_schema_components::{
-    ComponentsOf, DefaultOf, Defaulted, DefaultedComponent, End, EqualByMeaning, Optional,
-    OptionalComponent, Required, RequiredComponent,
-};
 pub use asn1_schema_constraints::{
-    Constraint, ConstraintDiscriminant, Constraints, Extensible, PermittedAlphabet, Size, Value,
+    Bounded, Constraint, ConstraintDiscriminant, Constraints, Effective, Extensible,
+    PermittedAlphabet, Size, Value,
 };
 pub use asn1_schema_constructed::{
     Alternatives, Choice, Constructed, DecodeAlternatives, DecodeBag, DecodeChoice,
     DecodeConstructed, DecodeItems, DecodeSet, EncodeBag, EncodeChoice, EncodeConstructed,
     EncodeItems, EncodeSet, EnumeratedType, Field, FieldPresence, Fields, NamedItems,
-    OptionalAndDefaultFields, alternative_of,
+    OptionalAndDefaultFields, SetOf, alternative_of,
 };
 pub use asn1_schema_decode::{
     Decode, DecodeComponents, DecodeList, DecodeSequence, Decoder, ReadOctets,
 };
 pub use asn1_schema_encode::{Encode, EncodeComponents, EncodeList, EncodeSequence, Encoder};
 pub use asn1_schema_faults::{CodecKind, DecodeError, EncodeError};
-pub use asn1_schema_kinds::TaggedKind;
 pub use asn1_schema_tags::{Class, Identifier, Tag, TagTree, Variants};
-pub use asn1_schema_types::{AsnType, Described};
+pub use asn1_schema_types::{
+    AsnType, ComponentsOf, DefaultOf, Defaulted, DefaultedComponent, Described, End,
+    EqualByMeaning, Optional, OptionalComponent, Required, RequiredComponent, TaggedKind,
+};
 pub use asn1_schema_variants::{Chosen, Enumerated};
 pub use asn1_schema_wrapped::{
     Any, Constrained, ConstraintsOf, DecodeNamed, EncodeNamed, Explicit, Implicit,

@@ -6,7 +6,7 @@ use Rattle.asn1_schema_presented.specs.Records.{Record, addition, addition_ends,
 use Rattle.asn1_schema_presented.specs.Presents.{Part, left_out, there, with_part, presents, noted, component_count, root_records, addition_records, added_records, Fits, PartFits, PartsFit}
 use Rattle.asn1_schema_presented.specs.Tables.{Fields, no_field, field, Table, components_at}
 use Rattle.asn1_schema_presented.specs.Parts.{tail_records, TailFits}
-use Rattle.asn1_schema_extensions.specs.Additions.{addition_count, IsGroup}
+use Rattle.asn1_schema_presented.specs.Additions.{addition_count, IsGroup}
 
 pub count_at : (n : ℕ) (fs : Fields) → component_count (components_at n fs) ≡ addition_count fs
 unfolding components_at

@@ -11,8 +11,8 @@ use Rattle.asn1_schema_presented.specs.Parts.{part_unless, tail_records, TailFit
 use Rattle.asn1_schema_presented.specs.Chains.{Chain, OneRecord}
 use Rattle.asn1_schema_presented.proofs.Joined.{marks_at}
 use Rattle.asn1_schema_decode.specs.Reads.{NoRecord, NoLevel, Reads, Unread, ReadsTail, UnreadTail}
-use Rattle.asn1_schema_extensions.specs.Additions.{group_type, IsGroup}
-use Rattle.asn1_schema_extensions.proofs.Groups.{no_part}
+use Rattle.asn1_schema_presented.specs.Additions.{group_type, IsGroup}
+use Rattle.asn1_schema_presented.proofs.Groups.{no_part}
 use Rattle.asn1_schema_additions.specs.Reads.{ReadsEnclosed, ReadsAddition, UnreadAddition}
 use Rattle.asn1_schema_additions.proofs.Extending.{group_tail, group_fits}
 use Rattle.asn1_schema_additions.proofs.Reading.{reads_addition, reads_empty, reads_enclosed, unread_empty}

@@ -12,7 +12,7 @@ use Rattle.asn1_schema_presented.specs.Typed.{IsPart}
 use Rattle.asn1_schema_presented.specs.Chains.{Chain, OneAfter}
 use Rattle.asn1_schema_presented.proofs.Joined.{marks_at}
 use Rattle.asn1_schema_encode.specs.Writes.{Refused, Writes, CannotWrite, WritesTail, CannotWriteTail}
-use Rattle.asn1_schema_extensions.specs.Additions.{group_type, IsGroup}
+use Rattle.asn1_schema_presented.specs.Additions.{group_type, IsGroup}
 use Rattle.asn1_schema_additions.specs.Writes.{WritesEnclosed, CannotWriteEnclosed, WritesAddition, CannotWriteAddition}
 use Rattle.asn1_schema_additions.proofs.Extending.{group_tail, group_fits}
 use Rattle.asn1_schema_additions.proofs.Writing.{writes_addition, cannot_addition}

@@ -18,7 +18,7 @@ use Rattle.asn1_schema_presented.proofs.Joined.{nothing_noted}
 use Rattle.asn1_schema_presented.proofs.Same.{same_self}
 use Rattle.asn1_schema_decode.specs.Reads.{NoRecord, Reads, Unread, ReadsTail, UnreadTail}
 use Rattle.asn1_schema_decode.proofs.Reading.{reads_as}
-use Rattle.asn1_schema_extensions.specs.Additions.{addition_count, marked_table}
+use Rattle.asn1_schema_presented.specs.Additions.{addition_count, marked_table}
 use Rattle.asn1_schema_additions.specs.Reads.{ReadsEnclosed, ReadsExtension, UnreadExtension, ReadsExtensionDefault, omitted, spelled_out, other_value, UnreadExtensionDefault, ReadsAddition, UnreadAddition, ReadsAdded, UnreadAdded}
 use Rattle.asn1_schema_additions.proofs.Extending.{count_at, enclosed_records, more_records, more_fit}
 

@@ -14,7 +14,7 @@ use Rattle.asn1_schema_presented.proofs.Chains.{chain_append, chain_split, chain
 use Rattle.asn1_schema_presented.proofs.Values.{not_empty}
 use Rattle.asn1_schema_presented.proofs.Joined.{marks_at, nothing_noted}
 use Rattle.asn1_schema_encode.specs.Writes.{Refused, Writes, CannotWrite, WritesTail, CannotWriteTail}
-use Rattle.asn1_schema_extensions.specs.Additions.{addition_count, marked_table, group_type}
+use Rattle.asn1_schema_presented.specs.Additions.{addition_count, marked_table, group_type}
 use Rattle.asn1_schema_additions.specs.Writes.{WritesEnclosed, CannotWriteEnclosed, WritesAddition, CannotWriteAddition, WritesAdded, CannotWriteAdded}
 use Rattle.asn1_schema_additions.proofs.Extending.{count_at, enclosed_records, more_records, more_fit}
 

@@ -7,13 +7,12 @@ ghost use Rattle.asn1_schema_presented.specs.Tables.{Fields, no_field, field, fi
 ghost use Rattle.asn1_schema_presented.specs.Parts.{part_of, part_unless};
 ghost use Rattle.asn1_schema_presented.proofs.Values.{part_required, part_optional, part_default};
 ghost use Rattle.asn1_schema_presented.proofs.Defaults.{has_default};
-ghost use Rattle.asn1_schema_extensions.specs.Additions.{HaveDefaults, AreAdditionTypes, AreAdditionValues, addition_count, marked_table, group_type, group_part};
-ghost use Rattle.asn1_schema_extensions.proofs.Additions.{as_addition, no_addition_types, more_addition_types, marked_types, no_addition_values, more_addition_values, marked_values};
-ghost use Rattle.asn1_schema_extensions.proofs.Groups.{group_addition, group_valued};
+ghost use Rattle.asn1_schema_presented.specs.Additions.{HaveDefaults, AreAdditionTypes, AreAdditionValues, addition_count, marked_table, group_type, group_part};
+ghost use Rattle.asn1_schema_presented.proofs.Additions.{as_addition, no_addition_types, more_addition_types, marked_types, no_addition_values, more_addition_values, marked_values};
+ghost use Rattle.asn1_schema_presented.proofs.Groups.{group_addition, group_valued};
 
 use crate::group::Group;
-use asn1_schema_components::{ComponentsOf, DefaultOf};
-use asn1_schema_types::Described;
+use asn1_schema_types::{ComponentsOf, DefaultOf, Described};
 use std::marker::PhantomData;
 
 /// Additions: what they are in ASN.1, and what they mean.

@@ -6,7 +6,7 @@ ghost use Rattle.asn1_schema_presented.specs.Presents.{there};
 ghost use Rattle.asn1_schema_presented.specs.Tables.{marks, sequence_type};
 ghost use Rattle.asn1_schema_presented.specs.Parts.{part_of, part_unless};
 ghost use Rattle.asn1_schema_decode.specs.Reads.{Reads, Unread};
-ghost use Rattle.asn1_schema_extensions.specs.Additions.{group_type, group_part};
+ghost use Rattle.asn1_schema_presented.specs.Additions.{group_type, group_part};
 ghost use Rattle.asn1_schema_additions.specs.Reads.{ReadsExtension, UnreadExtension, ReadsExtensionDefault, UnreadExtensionDefault, ReadsAddition, UnreadAddition, ReadsAdded, UnreadAdded};
 
 use crate::additions::{
@@ -14,11 +14,11 @@ use crate::additions::{
     AdditionsOf, CountOf, MarkedComponents, NoMore,
 };
 use crate::group::Group;
-use asn1_schema_components::DefaultOf;
 use asn1_schema_constraints::Constraints;
 use asn1_schema_decode::{Decode, DecodeComponents, Decoder};
 use asn1_schema_faults::DecodeError;
 use asn1_schema_tags::Tag;
+use asn1_schema_types::DefaultOf;
 use std::alloc::Global;
 use std::marker::PhantomData;
 

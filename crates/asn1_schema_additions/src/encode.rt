@@ -6,17 +6,17 @@ ghost use Rattle.asn1_schema_presented.specs.Presents.{there};
 ghost use Rattle.asn1_schema_presented.specs.Tables.{marks, sequence_type};
 ghost use Rattle.asn1_schema_presented.specs.Parts.{part_of, part_unless};
 ghost use Rattle.asn1_schema_encode.specs.Writes.{Writes, CannotWrite};
-ghost use Rattle.asn1_schema_extensions.specs.Additions.{group_type, group_part};
+ghost use Rattle.asn1_schema_presented.specs.Additions.{group_type, group_part};
 ghost use Rattle.asn1_schema_additions.specs.Writes.{WritesEnclosed, CannotWriteEnclosed, WritesAddition, CannotWriteAddition, WritesAdded, CannotWriteAdded};
 
 use crate::additions::{AdditionsOf, NoMore};
 use crate::group::Group;
 use crate::written::{AddedDefaulted, AddedGroup, AddedOptional, AddedRequired, Marked};
-use asn1_schema_components::DefaultOf;
 use asn1_schema_constraints::Constraints;
 use asn1_schema_encode::{Encode, EncodeComponents, Encoder};
 use asn1_schema_faults::EncodeError;
 use asn1_schema_tags::Tag;
+use asn1_schema_types::DefaultOf;
 
 /// Additions that are written.
 pub trait EncodeAdditions: AdditionsOf {

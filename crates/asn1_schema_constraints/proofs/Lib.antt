@@ -1,1 +1,5 @@
 pub mod SetLaws
+pub mod Orders
+pub mod Meets
+pub mod Common
+pub mod WidthLaws

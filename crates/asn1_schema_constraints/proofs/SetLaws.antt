@@ -9,10 +9,10 @@ use Rattle.asn1_schema_constraints.specs.declared.extensions.PermittedAlphabet.{
 use Rattle.asn1_schema_constraints.specs.declared.lists.Constraint.{Constraint}
 use Rattle.asn1_schema_constraints.specs.declared.lists.Constraint.TheVariants.{Value as OfValue, Size as OfSize, PermittedAlphabet as OfAlphabet, Extensible as Mark}
 use Rattle.asn1_schema_constraints.specs.declared.lists.Constraints.{Constraints}
-use Rattle.asn1_schema_bounds.specs.Bounds.{admits_number, admits_count}
+use Rattle.asn1_schema_constraints.specs.Bounds.{admits_number, admits_count}
 use Rattle.asn1_schema_constraints.specs.Sets.{no_constraint, alone, both_parts, later_mark, met_values, met_sizes, later_alphabet, both, all_of, root_passes, admit_number, admit_count}
-use Rattle.asn1_schema_bounds.proofs.Meets.{meet_groups}
-use Rattle.asn1_schema_bounds.proofs.Common.{number_order, count_order, number_meet_admits, count_meet_admits}
+use Rattle.asn1_schema_constraints.proofs.Meets.{meet_groups}
+use Rattle.asn1_schema_constraints.proofs.Common.{number_order, count_order, number_meet_admits, count_meet_admits}
 
 -- ---- three constraints may be grouped either way
 

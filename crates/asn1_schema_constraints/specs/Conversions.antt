@@ -2,9 +2,9 @@
 use Rattle.std.specs.Prelude.{◌≡◌, ℕ, ℤ, pos, Bool, true, ltb, ◌^◌, ◌&&◌, Option, Some, None, option_map, Result}
 use Rattle.std.specs.Result.{OkIff}
 use Rattle.std.specs.declared.num.TryFromIntError.{TryFromIntError}
-use Rattle.asn1_schema_bounds.specs.Bounds.{lower, upper}
-use Rattle.asn1_schema_bounds.specs.declared.bounds.Bounded.{Bounded}
-use Rattle.asn1_schema_bounds.specs.declared.bounds.Bounded.TheVariants.{None as Unbounded, Single, Range as Between}
+use Rattle.asn1_schema_constraints.specs.Bounds.{lower, upper}
+use Rattle.asn1_schema_constraints.specs.declared.bounds.Bounded.{Bounded}
+use Rattle.asn1_schema_constraints.specs.declared.bounds.Bounded.TheVariants.{None as Unbounded, Single, Range as Between}
 use Rattle.asn1_schema_constraints.specs.declared.parts.Value.{Value}
 
 -- The same bounds, of numbers that may be negative.

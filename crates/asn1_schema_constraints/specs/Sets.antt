@@ -1,7 +1,7 @@
 -- What lists of constraints come to.
 use Rattle.std.specs.Prelude.{ℕ, ℤ, leb, Bool, true, false, ◌||◌, List, fold, map, Option, Some, None, is_some}
 use Rattle.asn1_model.specs.Numbers.{is_at_most}
-use Rattle.asn1_schema_bounds.specs.Bounds.{meet, admits_number, admits_count}
+use Rattle.asn1_schema_constraints.specs.Bounds.{meet, admits_number, admits_count}
 use Rattle.asn1_schema_constraints.specs.declared.parts.Value.{Value}
 use Rattle.asn1_schema_constraints.specs.declared.parts.Size.{Size}
 use Rattle.asn1_schema_constraints.specs.declared.extensions.Extensible.{Extensible}

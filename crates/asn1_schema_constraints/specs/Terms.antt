@@ -2,7 +2,7 @@
 use Rattle.std.specs.Prelude.{◌-◌, ◌^◌, pos, negsuc, false, Option, Some, None}
 use Rattle.asn1_model.specs.Schema.{Range, Bounds, Counts, Size as SizeTerm, Alphabet, StringKind, Schema, integer, bit_string, octet_string, character_string, sequence_of, set_of}
 use Rattle.asn1_model.specs.Numbers.{is_at_most}
-use Rattle.asn1_schema_bounds.specs.Bounds.{later, earlier, range_of, counts_of}
+use Rattle.asn1_schema_constraints.specs.Bounds.{later, earlier, range_of, counts_of}
 use Rattle.asn1_schema_constraints.specs.Sets.{has_additions}
 use Rattle.asn1_schema_constraints.specs.declared.parts.Value.{Value}
 use Rattle.asn1_schema_constraints.specs.declared.parts.Size.{Size}

@@ -2,8 +2,8 @@
 ghost use Rattle.std.specs.Prelude.{◌≡◌, ℕ, leb, ℤ, ◌&&◌};
 ghost use Rattle.std.specs.Borrow.{Lends, sem, usize as count};
 ghost use Rattle.asn1_model.specs.Numbers.{is_at_most};
-ghost use Rattle.asn1_schema_bounds.specs.Bounds.{lower, upper, meet, admits_number, admits_count, is_one_size, is_size_range};
-ghost use Rattle.asn1_schema_bounds.specs.Widths.{has_sign, fixed_width};
+ghost use Rattle.asn1_schema_constraints.specs.Bounds.{lower, upper, meet, admits_number, admits_count, is_one_size, is_size_range};
+ghost use Rattle.asn1_schema_constraints.specs.Widths.{has_sign, fixed_width};
 
 use crate::Bounded;
 use std::ops::{Deref, DerefMut};
@@ -127,7 +127,7 @@ impl Deref for Size {
 
 /// Once the bounds are given back, the constraint is to what was left in them.
 impl DerefMut for Size {
-    ghost use Rattle.asn1_schema_bounds.specs.contracts.bounds.Bounded.{the_row as bounds_row};
+    ghost use Rattle.asn1_schema_constraints.specs.contracts.bounds.Bounded.{the_row as bounds_row};
     ghost use Rattle.asn1_schema_constraints.specs.contracts.parts.Size.{the_row};
 
     ghost deref_mut_gives = { λ s bounds. bounds ≡ s.range };

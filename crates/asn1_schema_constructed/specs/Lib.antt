@@ -7,3 +7,5 @@ pub mod Recursive
 pub mod Chosen
 pub mod Tagged
 pub mod Named
+pub mod Equality
+pub mod Meaning

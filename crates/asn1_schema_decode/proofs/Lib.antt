@@ -3,3 +3,5 @@ pub mod SingleRecords
 pub mod Listing
 pub mod Ranges
 pub mod Marking
+pub mod Nesting
+pub mod Once

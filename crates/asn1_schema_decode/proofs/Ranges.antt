@@ -3,8 +3,8 @@ use Rattle.std.proofs.Common.{◌≡◌, ◌∙◌, sym, subst, ℕ, ℤ, pos, n
 use Rattle.std.proofs.lemmas.Bool.{false≢true}
 use Rattle.asn1_model.specs.Numbers.{is_at_most, is_within}
 use Rattle.asn1_model.specs.Value.{number}
-use Rattle.asn1_schema_bounds.specs.Bounds.{range_of, admits_number}
-use Rattle.asn1_schema_bounds.proofs.Common.{number_meet_admits}
+use Rattle.asn1_schema_constraints.specs.Bounds.{range_of, admits_number}
+use Rattle.asn1_schema_constraints.proofs.Common.{number_meet_admits}
 use Rattle.asn1_schema_constraints.specs.Terms.{bounds_of, held_of}
 use Rattle.asn1_schema_constraints.specs.declared.parts.Value.{Value}
 use Rattle.asn1_schema_constraints.specs.declared.extensions.Extensible.{Extensible}

@@ -7,12 +7,12 @@ ghost use Rattle.asn1_schema_presented.specs.Parts.{part_of, part_unless};
 ghost use Rattle.asn1_schema_decode.specs.Reads.{Reads, Unread, ReadsPart, UnreadPart, ReadsOptional, UnreadOptional, ReadsDefault, UnreadDefault, ReadsTail, UnreadTail};
 
 use crate::decode::{Decode, Decoder};
-use asn1_schema_components::{
-    ComponentsOf, DefaultOf, DefaultedComponent, End, OptionalComponent, RequiredComponent,
-};
 use asn1_schema_constraints::Constraints;
 use asn1_schema_faults::DecodeError;
 use asn1_schema_tags::Tag;
+use asn1_schema_types::{
+    ComponentsOf, DefaultOf, DefaultedComponent, End, OptionalComponent, RequiredComponent,
+};
 use std::alloc::Global;
 use std::marker::PhantomData;
 

@@ -1,14 +1,14 @@
 //! INTEGER within a range of the type's own (X.680 19 and 51.4), as it is read.
 ghost use Rattle.std.specs.Prelude.{◌≡◌, true};
 ghost use Rattle.asn1_model.specs.Numbers.{is_within};
-ghost use Rattle.asn1_values_constrained.specs.Constrained.{between, constrained_number};
+ghost use Rattle.asn1_values_integers.specs.Constrained.{between, constrained_number};
 
 use crate::decode::{Decode, Decoder};
 use asn1_schema_constraints::Constraints;
 use asn1_schema_faults::DecodeError;
 use asn1_schema_tags::Tag;
 use asn1_schema_types::constrained::{no_number, within_range};
-use asn1_values_constrained::{Ends, RangedInteger};
+use asn1_values_integers::{Ends, RangedInteger};
 use std::alloc::Global;
 
 impl<R: Ends> Decode for RangedInteger<R> {

@@ -9,13 +9,12 @@ ghost use Rattle.asn1_schema_presented.specs.Records.{group_begins, mark, is_def
 ghost use Rattle.asn1_schema_presented.specs.Records.{asks_flag, asks_nil, asks_whole, asks_one_of, asks_bits, asks_octets, asks_characters, asks_identifier, asks_list, asks_bag, asks_further, asks_sequence};
 ghost use Rattle.asn1_schema_presented.specs.Records.{asks_set, asks_group, asks_mark, asks_default, asks_empty, asks_additions, asks_addition, asks_addition_end, asks_choice, asks_end};
 ghost use Rattle.asn1_model.specs.Numbers.{is_within, is_count_within};
-ghost use Rattle.asn1_schema_bounds.specs.Bounds.{counts_of, members_of};
+ghost use Rattle.asn1_schema_constraints.specs.Bounds.{counts_of, members_of};
 ghost use Rattle.asn1_schema_constraints.specs.Terms.{bounds_of, held_of, sizes_of, alphabet_of};
 ghost use Rattle.asn1_schema_tags.specs.Tags.{tag_of};
 ghost use Rattle.asn1_schema_decode.specs.Reads.{NoRecord, NoLevel, Reads, Unread};
 
-use asn1_schema_bounds::Bounded;
-use asn1_schema_constraints::Constraints;
+use asn1_schema_constraints::{Bounded, Constraints};
 use asn1_schema_faults::{CodecKind, DecodeError};
 use asn1_schema_tags::Tag;
 use asn1_schema_types::AsnType;
@@ -23,7 +22,7 @@ use asn1_schema_variants::{Chosen, Enumerated};
 use asn1_values_alphabets::StaticPermittedAlphabet;
 use asn1_values_bit_strings::BitString;
 use asn1_values_identifiers::ObjectIdentifier;
-use asn1_values_integer_types::IntegerType;
+use asn1_values_integers::IntegerType;
 use std::alloc::{AllocError, Global};
 use std::borrow::CowSlice;
 

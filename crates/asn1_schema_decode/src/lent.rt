@@ -1,8 +1,7 @@
 //! Values that are lent until they have to be owned, as they are read.
 use crate::decode::{Decode, Decoder};
 use crate::lists::DecodeList;
-use asn1_schema_bounds::Bounded;
-use asn1_schema_constraints::Constraints;
+use asn1_schema_constraints::{Bounded, Constraints};
 use asn1_schema_faults::DecodeError;
 use asn1_schema_tags::Tag;
 use std::alloc::Global;

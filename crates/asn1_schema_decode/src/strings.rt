@@ -2,8 +2,7 @@
 ghost use Rattle.std.specs.Prelude.{◌≡◌, IfOk, IfErr};
 
 use crate::decode::{Decode, Decoder, ReadOctets};
-use asn1_schema_bounds::Bounded;
-use asn1_schema_constraints::Constraints;
+use asn1_schema_constraints::{Bounded, Constraints};
 use asn1_schema_faults::DecodeError;
 use asn1_schema_tags::Tag;
 use asn1_values_bit_strings::BitString;

@@ -3,7 +3,7 @@ use crate::encode::{Encode, Encoder};
 use asn1_schema_constraints::Constraints;
 use asn1_schema_faults::EncodeError;
 use asn1_schema_tags::{Identifier, Tag};
-use asn1_values_strings_wide::BmpString;
+use asn1_values_strings::BmpString;
 
 impl Encode for BmpString {
     fn encode_with_tag_and_constraints<E: Encoder>(

@@ -2,8 +2,8 @@
 use crate::encode::{Encode, Encoder};
 use asn1_schema_constraints::Constraints;
 use asn1_schema_faults::EncodeError;
-use asn1_schema_kinds::TaggedKind;
 use asn1_schema_tags::Tag;
+use asn1_schema_types::TaggedKind;
 use asn1_values_strings::RestrictedString;
 
 impl<K: TaggedKind> Encode for RestrictedString<K> {

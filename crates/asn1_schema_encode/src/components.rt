@@ -8,10 +8,10 @@ ghost use Rattle.asn1_schema_presented.specs.Parts.{part_of, part_unless};
 ghost use Rattle.asn1_schema_encode.specs.Writes.{Writes, CannotWrite, WritesPart, CannotWritePart, WritesMarked, CannotWriteMarked, WritesUnless, CannotWriteUnless, WritesTail, CannotWriteTail};
 
 use crate::encode::{Encode, Encoder};
-use asn1_schema_components::{ComponentsOf, DefaultOf, Defaulted, End, Optional, Required};
 use asn1_schema_constraints::Constraints;
 use asn1_schema_faults::EncodeError;
 use asn1_schema_tags::Tag;
+use asn1_schema_types::{ComponentsOf, DefaultOf, Defaulted, End, Optional, Required};
 
 /// Components that are written.
 pub trait EncodeComponents: ComponentsOf {

@@ -5,8 +5,7 @@ use asn1_schema_constraints::Constraints;
 use asn1_schema_faults::EncodeError;
 use asn1_schema_tags::{Identifier, Tag};
 use asn1_schema_types::constrained::within_range;
-use asn1_values_constrained::{Ends, RangedInteger};
-use asn1_values_numbers::Integer;
+use asn1_values_integers::{Ends, Integer, RangedInteger};
 
 impl<R: Ends> Encode for RangedInteger<R> {
     fn encode_with_tag_and_constraints<E: Encoder>(

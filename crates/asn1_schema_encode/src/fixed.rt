@@ -1,7 +1,6 @@
 //! BIT STRING and OCTET STRING of a fixed size (X.680 22 and 23), as they are written.
 use crate::encode::{Encode, Encoder};
-use asn1_schema_bounds::Bounded;
-use asn1_schema_constraints::Constraints;
+use asn1_schema_constraints::{Bounded, Constraints};
 use asn1_schema_faults::EncodeError;
 use asn1_schema_tags::{Identifier, Tag};
 use asn1_values_bit_strings::FixedBitString;

@@ -4,7 +4,7 @@ use crate::encode::{Encode, Encoder};
 use asn1_schema_constraints::Constraints;
 use asn1_schema_faults::EncodeError;
 use asn1_schema_tags::{Identifier, Tag};
-use asn1_values_numbers::Integer;
+use asn1_values_integers::Integer;
 
 impl Encode for Integer {
     #[inline(always)]

@@ -1,8 +1,7 @@
 //! Values that are lent, or lent until they have to be owned, as they are written.
 use crate::encode::{Encode, Encoder};
 use crate::lists::EncodeList;
-use asn1_schema_bounds::Bounded;
-use asn1_schema_constraints::Constraints;
+use asn1_schema_constraints::{Bounded, Constraints};
 use asn1_schema_faults::EncodeError;
 use asn1_schema_tags::{Identifier, Tag};
 use std::alloc::Global;

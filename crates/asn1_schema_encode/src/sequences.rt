@@ -1,8 +1,7 @@
 //! SEQUENCE OF (X.680 26) as it is written: vectors, arrays and slices.
 use crate::encode::{Encode, Encoder};
 use crate::lists::EncodeList;
-use asn1_schema_bounds::Bounded;
-use asn1_schema_constraints::Constraints;
+use asn1_schema_constraints::{Bounded, Constraints};
 use asn1_schema_faults::EncodeError;
 use asn1_schema_tags::Tag;
 

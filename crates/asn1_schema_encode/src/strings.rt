@@ -1,7 +1,6 @@
 //! BIT STRING, OCTET STRING, UTF8String and OBJECT IDENTIFIER (X.680 22, 23, 41 and 32), as they are written.
 use crate::encode::{Encode, Encoder};
-use asn1_schema_bounds::Bounded;
-use asn1_schema_constraints::Constraints;
+use asn1_schema_constraints::{Bounded, Constraints};
 use asn1_schema_faults::EncodeError;
 use asn1_schema_tags::{Identifier, Tag};
 use asn1_values_bit_strings::BitString;

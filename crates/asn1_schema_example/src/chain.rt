@@ -11,7 +11,7 @@ use asn1_schema_encode::{Encode, EncodeSequence, Encoder};
 use asn1_schema_faults::{DecodeError, EncodeError};
 use asn1_schema_tags::{Identifier, Tag, TagTree};
 use asn1_schema_types::{AsnType, Described};
-use asn1_values_numbers::Integer;
+use asn1_values_integers::Integer;
 use std::alloc::Global;
 
 /// A number, and perhaps others behind it.

@@ -8,14 +8,13 @@ ghost use Rattle.asn1_schema_constructed.specs.Sets.{set_type};
 ghost use Rattle.asn1_schema_constructed.proofs.SetValues.{type_set, value_set};
 
 use crate::power::Power;
-use asn1_schema_components::{ComponentsOf, End, Required, RequiredComponent};
 use asn1_schema_constraints::Constraints;
 use asn1_schema_constructed::{Constructed, DecodeSet, EncodeSet, Field, FieldPresence, Fields};
 use asn1_schema_decode::{Decode, DecodeComponents, Decoder};
 use asn1_schema_encode::{Encode, EncodeComponents, Encoder};
 use asn1_schema_faults::{DecodeError, EncodeError};
 use asn1_schema_tags::{Class, Identifier, Tag, TagTree};
-use asn1_schema_types::{AsnType, Described};
+use asn1_schema_types::{AsnType, ComponentsOf, Described, End, Required, RequiredComponent};
 use asn1_schema_wrapped::{Implicit, tag};
 use std::alloc::Global;
 

@@ -11,16 +11,15 @@ ghost use Rattle.asn1_schema_constructed.proofs.SetValues.{type_set, value_set};
 use asn1_schema_additions::{
     AddedOptional, AddedOptionalComponent, CountOf, Marked, MarkedComponents, NoMore,
 };
-use asn1_schema_components::{
-    ComponentsOf, Optional, OptionalComponent, Required, RequiredComponent,
-};
 use asn1_schema_constraints::Constraints;
 use asn1_schema_constructed::{Constructed, DecodeSet, EncodeSet, Field, FieldPresence, Fields};
 use asn1_schema_decode::{Decode, DecodeComponents, Decoder};
 use asn1_schema_encode::{Encode, EncodeComponents, Encoder};
 use asn1_schema_faults::{DecodeError, EncodeError};
 use asn1_schema_tags::{Class, Identifier, Tag, TagTree};
-use asn1_schema_types::{AsnType, Described};
+use asn1_schema_types::{
+    AsnType, ComponentsOf, Described, Optional, OptionalComponent, Required, RequiredComponent,
+};
 use asn1_schema_wrapped::{Implicit, tag};
 use std::alloc::Global;
 

@@ -7,10 +7,6 @@ ghost use Rattle.asn1_schema_presented.specs.Tables.{sequence_type};
 ghost use Rattle.asn1_schema_presented.proofs.Values.{type_sequence, value_sequence};
 ghost use Rattle.asn1_schema_presented.proofs.Defaults.{integer_default};
 
-use asn1_schema_components::{
-    ComponentsOf, DefaultOf, Defaulted, DefaultedComponent, End, EqualByMeaning, Optional,
-    OptionalComponent,
-};
 use asn1_schema_constraints::Constraints;
 use asn1_schema_constructed::{
     Constructed, DecodeConstructed, EncodeConstructed, Field, FieldPresence, Fields,
@@ -19,8 +15,11 @@ use asn1_schema_decode::{Decode, DecodeComponents, Decoder};
 use asn1_schema_encode::{Encode, EncodeComponents, Encoder};
 use asn1_schema_faults::{DecodeError, EncodeError};
 use asn1_schema_tags::{Identifier, Tag, TagTree};
-use asn1_schema_types::{AsnType, Described};
-use asn1_values_numbers::Integer;
+use asn1_schema_types::{
+    AsnType, ComponentsOf, DefaultOf, Defaulted, DefaultedComponent, Described, End,
+    EqualByMeaning, Optional, OptionalComponent,
+};
+use asn1_values_integers::Integer;
 use std::alloc::{AllocError, Global};
 use std::marker::PhantomData;
 

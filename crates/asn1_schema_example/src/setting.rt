@@ -6,9 +6,6 @@ ghost use Rattle.asn1_schema_constructed.specs.Constructed.{sequence_form};
 ghost use Rattle.asn1_schema_presented.specs.Tables.{sequence_type};
 ghost use Rattle.asn1_schema_presented.proofs.Values.{type_sequence, value_sequence};
 
-use asn1_schema_components::{
-    ComponentsOf, End, Optional, OptionalComponent, Required, RequiredComponent,
-};
 use asn1_schema_constraints::Constraints;
 use asn1_schema_constructed::{
     Constructed, DecodeConstructed, EncodeConstructed, Field, FieldPresence, Fields,
@@ -17,7 +14,9 @@ use asn1_schema_decode::{Decode, DecodeComponents, Decoder};
 use asn1_schema_encode::{Encode, EncodeComponents, Encoder};
 use asn1_schema_faults::{DecodeError, EncodeError};
 use asn1_schema_tags::{Identifier, Tag, TagTree};
-use asn1_schema_types::{AsnType, Described};
+use asn1_schema_types::{
+    AsnType, ComponentsOf, Described, End, Optional, OptionalComponent, Required, RequiredComponent,
+};
 use std::alloc::Global;
 
 /// A setting.

@@ -6,3 +6,6 @@ pub mod Defaults
 pub mod TypesByKind
 pub mod Joined
 pub mod Recursive
+pub mod Levels
+pub mod Additions
+pub mod Groups

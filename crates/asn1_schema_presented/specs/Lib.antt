@@ -7,3 +7,6 @@ pub mod Typed
 pub mod Recursive
 pub mod Laws
 pub mod Rows
+pub mod Levels
+pub mod Additions
+pub mod ExtensionsLaws

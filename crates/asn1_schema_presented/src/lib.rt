@@ -1,37 +1,11 @@
 //! What a codec is told of a value, one record a call: definitions over the model, rows that they are computed to give, and the law that
 //! records tell a value.
+//! How many levels nest in the records of a value: a decoder takes one level inside each list, bag, sequence, set, group and choice. Each
+//! function does nothing; its contract is a law.
+//! What stands behind a mark of extensibility, and groups of additions (X.680 25): definitions, and the laws by which types and values
+//! of additions are put together.
 #![tactic(auto)]
 
-ghost use Rattle.asn1_schema_presented.specs.Chains.{OneRecord};
-ghost use Rattle.asn1_schema_presented.specs.Laws.{OneValue};
-ghost use Rattle.asn1_schema_presented.specs.Records.{Record};
-ghost use Rattle.asn1_schema_presented.specs.Rows.{AdditionRows, ComponentRows, MemberRows};
-
-/// The records of components that are there, left out, missing, or at a default (X.680 25 and 27).
-pub fn component_rows()
-    ensures { ComponentRows }
-{}
-
-/// The records of lists, bags and choices (X.680 26, 28 and 29).
-pub fn member_rows()
-    ensures { MemberRows }
-{}
-
-/// The records of additions and of groups of them (X.680 25).
-pub fn addition_rows()
-    ensures { AdditionRows }
-{}
-
-/// The states of a decoder, as far as they are known.
-pub trait States {
-    /// The state before a record, the record, and the state behind it.
-    ghost step: { Self → Record → Self → Type 0 };
-
-    /// Of the records that answer a question one at most is next, as far as the decoder is told, and one state stands behind it.
-    ghost one_record: { OneRecord step };
-}
-
-/// From one state of such a decoder the records of one value of a type at most are next, and one state stands behind them.
-pub fn one_value<S: States>()
-    ensures { OneValue S.step }
-{}
+pub mod extensions;
+pub mod levels;
+pub mod presented;

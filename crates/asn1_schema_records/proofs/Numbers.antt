@@ -4,8 +4,8 @@ use Rattle.std.specs.Prelude.{IfErr}
 use Rattle.asn1_model.specs.Numbers.{signed_octets}
 use Rattle.asn1_values_natives.proofs.TwosComplement.{length-complement, signed-back}
 use Rattle.asn1_values_natives.specs.Octets.{plain, signed_number, signed_octets_of}
-use Rattle.asn1_values_numbers.specs.declared.error.IntegerError.{IntegerError}
-use Rattle.asn1_values_numbers.specs.declared.error.IntegerError.TheVariants.{Empty, Overflow, Memory}
+use Rattle.asn1_values_integers.specs.declared.error.IntegerError.{IntegerError}
+use Rattle.asn1_values_integers.specs.declared.error.IntegerError.TheVariants.{Empty, Overflow, Memory}
 
 pub some_octets : (z : ℤ) → 0 < length (signed_octets_of z)
 some_octets (pos n) = omega (arith, length-complement (signed_octets (pos n)) (pos n))

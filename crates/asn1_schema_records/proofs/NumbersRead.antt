@@ -2,16 +2,16 @@
 use Rattle.std.proofs.Common.{◌≡◌, ◌∙◌, refl, sym, ap, subst, ℕ, ◌<◌, ◌≤◌, ◌^◌, ℤ, List, length, arith, Result, Err, Bool, true, false, ◌&&◌, ◌||◌, Option, Some, None}
 use Rattle.asn1_model.specs.Schema.{Range}
 use Rattle.asn1_model.specs.Numbers.{is_at_most, is_from, is_to, is_within}
-use Rattle.asn1_schema_bounds.proofs.Common.{number_order}
-use Rattle.asn1_schema_bounds.proofs.Meets.{is_above, is_below, later_admits, earlier_admits}
-use Rattle.asn1_schema_bounds.specs.Bounds.{later, earlier}
+use Rattle.asn1_schema_constraints.proofs.Common.{number_order}
+use Rattle.asn1_schema_constraints.proofs.Meets.{is_above, is_below, later_admits, earlier_admits}
+use Rattle.asn1_schema_constraints.specs.Bounds.{later, earlier}
 use Rattle.asn1_schema_constraints.specs.Terms.{bounds_of, held_of}
 use Rattle.asn1_schema_records.proofs.Numbers.{some_octets}
 use Rattle.asn1_schema_records.specs.Taken.{wide_range, is_admitted}
 use Rattle.asn1_values_natives.proofs.TwosComplement.{signed-back}
 use Rattle.asn1_values_natives.specs.Octets.{plain, signed_number, signed_octets_of}
-use Rattle.asn1_values_numbers.specs.declared.error.IntegerError.{IntegerError}
-use Rattle.asn1_values_numbers.specs.declared.error.IntegerError.TheVariants.{Overflow, Memory}
+use Rattle.asn1_values_integers.specs.declared.error.IntegerError.{IntegerError}
+use Rattle.asn1_values_integers.specs.declared.error.IntegerError.TheVariants.{Overflow, Memory}
 use Rattle.asn1_schema_constraints.specs.declared.extensions.Extensible.{Extensible}
 use Rattle.asn1_schema_constraints.specs.declared.parts.Value.{Value}
 

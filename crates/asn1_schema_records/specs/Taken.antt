@@ -6,7 +6,7 @@ use Rattle.asn1_model.specs.Strings.{may_hold}
 use Rattle.asn1_schema_faults.specs.declared.CodecKind.{CodecKind}
 use Rattle.asn1_schema_faults.specs.declared.DecodeError.{DecodeError}
 use Rattle.asn1_schema_faults.specs.declared.DecodeError.TheVariants.{Incomplete, NotValidCanonicalEncoding, SizeConstraintNotSatisfied, ExceedsMaxParseDepth, IntegerOverflow, PermittedAlphabet, ValueConstraintNotSatisfied, DiscriminantValueNotFound, InvalidTagVariantOnChoice, OutOfMemory as NoRoom, AlreadyFailed as HadFailed}
-use Rattle.asn1_schema_bounds.specs.Bounds.{range_of}
+use Rattle.asn1_schema_constraints.specs.Bounds.{range_of}
 use Rattle.asn1_schema_constraints.specs.Sets.{has_additions}
 use Rattle.asn1_schema_constraints.specs.Terms.{bounds_of}
 use Rattle.asn1_schema_constraints.specs.declared.extensions.Extensible.{Extensible}

@@ -3,7 +3,7 @@ ghost use Rattle.std.specs.Prelude.{◌≡◌, ◌+◌, ◌≤◌, ◌<◌, ◌|
 ghost use Rattle.asn1_model.specs.Schema.{utf8};
 ghost use Rattle.asn1_model.specs.Types.{any_count};
 ghost use Rattle.asn1_model.specs.Numbers.{is_within, is_count_within};
-ghost use Rattle.asn1_schema_bounds.specs.Bounds.{counts_of, members_of};
+ghost use Rattle.asn1_schema_constraints.specs.Bounds.{counts_of, members_of};
 ghost use Rattle.asn1_schema_constraints.specs.Terms.{bounds_of, held_of, sizes_of, alphabet_of};
 ghost use Rattle.asn1_schema_decode.specs.Reads.{NoRecord, NoLevel};
 ghost use Rattle.asn1_schema_presented.specs.Records.{flag, nil, whole, one_of, bits, octets, characters, identifier as object_identifier, list_begins, bag_begins, further, sequence_begins, set_begins};
@@ -17,8 +17,7 @@ ghost use Rattle.asn1_schema_tags.specs.Tags.{tag_of};
 ghost use Rattle.asn1_values_alphabets.specs.Permitted.{permits_all};
 
 use crate::{Item, Sizes, is_extensible};
-use asn1_schema_bounds::Bounded;
-use asn1_schema_constraints::Constraints;
+use asn1_schema_constraints::{Bounded, Constraints};
 use asn1_schema_decode::Decoder;
 use asn1_schema_faults::{CodecKind, DecodeError};
 use asn1_schema_tags::Tag;
@@ -26,8 +25,7 @@ use asn1_schema_variants::{Chosen, Enumerated};
 use asn1_values_alphabets::StaticPermittedAlphabet;
 use asn1_values_bit_strings::BitString;
 use asn1_values_identifiers::ObjectIdentifier;
-use asn1_values_integer_types::IntegerType;
-use asn1_values_numbers::{Integer, IntegerError};
+use asn1_values_integers::{Integer, IntegerError, IntegerType};
 use std::alloc::Global;
 use std::marker::Model;
 use std::vec::IntoIter;

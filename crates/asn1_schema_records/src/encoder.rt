@@ -6,8 +6,7 @@ ghost use Rattle.asn1_schema_records.specs.Kept.{record_of, Puts, Refusal};
 ghost use Rattle.asn1_values_natives.specs.Octets.{plain};
 
 use crate::items::{Item, Limits, Sizes, is_extensible};
-use asn1_schema_bounds::Bounded;
-use asn1_schema_constraints::Constraints;
+use asn1_schema_constraints::{Bounded, Constraints};
 use asn1_schema_encode::Encoder;
 use asn1_schema_faults::{CodecKind, EncodeError};
 use asn1_schema_tags::{Identifier, Tag};
@@ -16,8 +15,7 @@ use asn1_values_alphabets::StaticPermittedAlphabet;
 use asn1_values_bit_strings::BitString;
 use asn1_values_bits::BitStr;
 use asn1_values_identifiers::{ObjectIdentifier, Oid};
-use asn1_values_integer_types::IntegerType;
-use asn1_values_numbers::{Integer, IntegerError};
+use asn1_values_integers::{Integer, IntegerError, IntegerType};
 use std::alloc::{AllocError, Global};
 use std::marker::Model;
 

@@ -10,7 +10,7 @@ use asn1_schema_constraints::Constraints;
 use asn1_schema_variants::{Chosen, Enumerated};
 use asn1_values_bit_strings::BitString;
 use asn1_values_identifiers::ObjectIdentifier;
-use asn1_values_numbers::Integer;
+use asn1_values_integers::Integer;
 
 /// A value constraint (X.680 51.4), and whether a mark of extensibility follows it.
 #[derive(Clone, Copy, Debug, PartialEq, Eq)]

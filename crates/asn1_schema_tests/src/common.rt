@@ -3,7 +3,7 @@ use asn1_schema::records::{Item, Limits, RecordDecoder, RecordEncoder, Sizes};
 use asn1_schema::{
     Chosen, CodecKind, Constraints, Decode, DecodeError, Decoder, Encode, EncodeError, Encoder,
 };
-use asn1_values_numbers::Integer;
+use asn1_values_integers::Integer;
 use std::alloc::{AllocError, Global};
 use std::fmt::{Debug, Display};
 

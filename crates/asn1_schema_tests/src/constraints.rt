@@ -4,7 +4,7 @@ use asn1_schema::{
     Bounded, Constraint, ConstraintDiscriminant, Constraints, Effective, Extensible,
     PermittedAlphabet, Size, Value,
 };
-use asn1_values_numbers::Integer;
+use asn1_values_integers::Integer;
 use std::alloc::Global;
 
 /// Bounds of numbers, whether these have a sign, and in how many octets they are told, if that is fixed.

@@ -4,8 +4,8 @@ use asn1_schema::{
     Any, CodecKind, EqualByMeaning, Explicit, Implicit, InnerSubtypeConstraint,
     InnerSubtypeConstraintError, InstanceOf, Open, SequenceOf, UniversalString,
 };
-use asn1_values_constrained::ConstrainedInteger;
 use asn1_values_identifiers::ObjectIdentifier;
+use asn1_values_integers::ConstrainedInteger;
 use std::alloc::{AllocError, Global};
 use std::borrow::{Cow, CowSlice, CowStr};
 use std::marker::PhantomData;

@@ -11,12 +11,11 @@ use asn1_schema::{
     Encode, EncodeError, EncodeNamed, EncodeSequence, EqualByMeaning, Identifier, Tag,
 };
 use asn1_values_alphabets::{PermittedAlphabetError, StaticPermittedAlphabet};
-use asn1_values_numbers::Integer;
+use asn1_values_integers::Integer;
 use asn1_values_strings::{
-    GeneralString, GraphicString, Ia5String, NumericString, PrintableString, TeletexString,
-    VisibleString,
+    BmpString, GeneralString, GraphicString, Ia5String, NumericString, PrintableString,
+    TeletexString, VisibleString,
 };
-use asn1_values_strings_wide::BmpString;
 use std::alloc::{AllocError, Global};
 
 /// A type of strings with calls of its name.

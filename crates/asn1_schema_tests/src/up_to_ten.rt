@@ -1,10 +1,9 @@
 //! INTEGER (0..10), held in a `u8`.
 ghost use Rattle.std.specs.Prelude.{refl, Some, None, false, pos};
-ghost use Rattle.asn1_schema_bounds.specs.declared.bounds.Bounded.{Bounded};
+ghost use Rattle.asn1_schema_constraints.specs.declared.bounds.Bounded.{Bounded};
 ghost use Rattle.asn1_schema_presented.proofs.TypesByKind.{integer_type};
 
-use asn1_schema_bounds::Bounded;
-use asn1_schema_constraints::{Constraints, Extensible, Value};
+use asn1_schema_constraints::{Bounded, Constraints, Extensible, Value};
 use asn1_schema_types::Described;
 use asn1_schema_wrapped::ConstraintsOf;
 

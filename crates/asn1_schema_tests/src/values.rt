@@ -12,12 +12,10 @@ use asn1_schema::{
 };
 use asn1_schema_example::chain::Chain;
 use asn1_values_bit_strings::{BitString, FixedBitString};
-use asn1_values_constrained::ConstrainedInteger;
 use asn1_values_identifiers::{ObjectIdentifier, Oid};
-use asn1_values_numbers::Integer;
+use asn1_values_integers::{ConstrainedInteger, Integer};
 use asn1_values_octets::{FixedOctetString, OctetString};
-use asn1_values_strings::VisibleString;
-use asn1_values_strings_wide::BmpString;
+use asn1_values_strings::{BmpString, VisibleString};
 use std::alloc::{AllocError, Global};
 use std::borrow::{Cow, CowSlice, CowStr};
 use std::marker::PhantomData;

@@ -1,0 +1,2 @@
+pub mod ListDefaults
+pub mod SequenceDefaults

@@ -4,10 +4,10 @@ use Rattle.asn1_model.specs.Value.{Value as ModelValue, number}
 use Rattle.asn1_model.specs.Schema.{Tag, Schema}
 use Rattle.asn1_model.specs.Numbers.{is_at_most}
 use Rattle.asn1_model.specs.Lawful.{are_ordered, is_range}
-use Rattle.asn1_schema_bounds.specs.Bounds.{upper, later, earlier, between, range_of}
-use Rattle.asn1_schema_bounds.specs.declared.bounds.Bounded.TheVariants.{Range as Between}
-use Rattle.asn1_schema_bounds.proofs.Common.{number_order}
-use Rattle.asn1_schema_bounds.proofs.Meets.{lower_between, upper_between}
+use Rattle.asn1_schema_constraints.specs.Bounds.{upper, later, earlier, between, range_of}
+use Rattle.asn1_schema_constraints.specs.declared.bounds.Bounded.TheVariants.{Range as Between}
+use Rattle.asn1_schema_constraints.proofs.Common.{number_order}
+use Rattle.asn1_schema_constraints.proofs.Meets.{lower_between, upper_between}
 use Rattle.asn1_schema_constraints.specs.Sets.{met_values}
 use Rattle.asn1_schema_constraints.specs.Terms.{integer_under}
 use Rattle.asn1_schema_constraints.specs.declared.parts.Value.{Value}

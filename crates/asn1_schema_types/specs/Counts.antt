@@ -3,7 +3,7 @@ use Rattle.std.proofs.Common.{◌≡◌, ℕ, ◌≤◌, ◌-◌, ◌^◌, true,
 use Rattle.std.proofs.lemmas.Bool.{le-leb}
 use Rattle.asn1_model.specs.Schema.{Counts}
 use Rattle.asn1_model.specs.Lawful.{is_size}
-use Rattle.asn1_schema_bounds.specs.declared.bounds.Bounded.{Bounded}
+use Rattle.asn1_schema_constraints.specs.declared.bounds.Bounded.{Bounded}
 use Rattle.asn1_schema_constraints.specs.declared.lists.Constraints.{Constraints}
 
 -- any number of them that 64 bits count

@@ -1,2 +1,3 @@
 pub mod Constrained
 pub mod Counts
+pub mod Lists

@@ -9,7 +9,7 @@ ghost use Rattle.asn1_schema_presented.proofs.TypesByKind.{character_string_type
 use crate::described::{AsnType, Described};
 use asn1_schema_constraints::Constraints;
 use asn1_schema_tags::{Identifier, Tag, TagTree};
-use asn1_values_strings_wide::BmpString;
+use asn1_values_strings::BmpString;
 
 impl Described for BmpString {
     ghost tags = { record { class = 0; number = 30 } ∷ [] };

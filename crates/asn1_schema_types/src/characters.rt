@@ -5,9 +5,9 @@ ghost use Rattle.asn1_schema_constraints.specs.Sets.{no_constraint};
 ghost use Rattle.asn1_schema_constraints.specs.Terms.{character_string_under};
 ghost use Rattle.asn1_schema_presented.proofs.TypesByKind.{character_string_type, character_string_value};
 
+use crate::TaggedKind;
 use crate::described::{AsnType, Described};
 use asn1_schema_constraints::Constraints;
-use asn1_schema_kinds::TaggedKind;
 use asn1_schema_tags::{Identifier, Tag, TagTree};
 use asn1_values_strings::RestrictedString;
 

@@ -2,14 +2,13 @@
 ghost use Rattle.std.specs.Prelude.{◌≡◌, refl, [], ◌∷◌, negsuc};
 ghost use Rattle.asn1_schema_types.specs.Constrained.{to_root, root_between, within_range, constrained_type, constrained_is_type, constrained_is_value};
 ghost use Rattle.asn1_model.specs.Value.{number};
-ghost use Rattle.asn1_values_constrained.specs.Constrained.{constrained_number};
+ghost use Rattle.asn1_values_integers.specs.Constrained.{constrained_number};
 
 use crate::described::{AsnType, Described};
 use crate::integers::between;
-use asn1_schema_bounds::Bounded;
-use asn1_schema_constraints::{Constraints, Extensible, Value};
+use asn1_schema_constraints::{Bounded, Constraints, Extensible, Value};
 use asn1_schema_tags::{Identifier, Tag, TagTree};
-use asn1_values_constrained::{Ends, RangedInteger};
+use asn1_values_integers::{Ends, RangedInteger};
 
 /// Constraints, and then the range from `start` to `end`: what both admit. The mark of an earlier constraint is no mark of a
 /// later one (X.680 50.8), so there is none.

@@ -4,15 +4,14 @@ ghost use Rattle.asn1_model.specs.Value.{number};
 ghost use Rattle.asn1_model.specs.Schema.{integer};
 ghost use Rattle.asn1_schema_constraints.specs.Sets.{no_constraint};
 ghost use Rattle.asn1_schema_constraints.specs.Terms.{integer_under, bounds_of, held_of};
-ghost use Rattle.asn1_schema_bounds.specs.declared.bounds.Bounded.{Bounded};
+ghost use Rattle.asn1_schema_constraints.specs.declared.bounds.Bounded.{Bounded};
 ghost use Rattle.asn1_schema_presented.proofs.TypesByKind.{integer_type, integer_value};
 ghost use Rattle.asn1_values_natives.specs.Ranges.{natural_range, whole_range};
 
 use crate::described::{AsnType, Described};
-use asn1_schema_bounds::Bounded;
-use asn1_schema_constraints::{Constraints, Extensible, Value};
+use asn1_schema_constraints::{Bounded, Constraints, Extensible, Value};
 use asn1_schema_tags::{Identifier, Tag, TagTree};
-use asn1_values_numbers::Integer;
+use asn1_values_integers::Integer;
 
 // The constraint to the numbers between two.
 pub(crate) fn between(low: i128, high: i128) -> Constraints<'static>

@@ -1,12 +1,18 @@
 //! Types of the program: what each is in ASN.1, and what its values mean.
+//! The kinds of character strings, with their tags and their names.
+//! The components of sequences, and their defaults.
 #![tactic(auto)]
 
 pub mod bmp;
 pub mod characters;
+pub mod components;
 pub mod constrained;
+pub mod defaults;
 pub mod described;
+pub mod equality;
 pub mod fixed;
 pub mod integers;
+pub mod kinds;
 pub mod lent;
 pub mod lists;
 pub mod markers;
@@ -16,4 +22,11 @@ pub mod scalars;
 pub mod strings;
 pub mod wide;
 
+pub use components::{
+    ComponentsOf, Defaulted, DefaultedComponent, End, Optional, OptionalComponent, Required,
+    RequiredComponent,
+};
+pub use defaults::DefaultOf;
 pub use described::{AsnType, Described};
+pub use equality::EqualByMeaning;
+pub use kinds::TaggedKind;

@@ -2,7 +2,7 @@
 ghost use Rattle.std.specs.Prelude.{refl, [], ◌∷◌, Some, None, false, pos, negsuc, ◌^◌, ◌-◌};
 ghost use Rattle.asn1_model.specs.Value.{number};
 ghost use Rattle.asn1_schema_constraints.specs.Terms.{integer_under};
-ghost use Rattle.asn1_schema_bounds.specs.declared.bounds.Bounded.{Bounded};
+ghost use Rattle.asn1_schema_constraints.specs.declared.bounds.Bounded.{Bounded};
 ghost use Rattle.asn1_schema_presented.proofs.TypesByKind.{integer_type, integer_value};
 ghost use Rattle.asn1_values_natives.specs.Ranges.{natural_range, whole_range};
 

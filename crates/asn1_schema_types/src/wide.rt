@@ -3,14 +3,13 @@
 ghost use Rattle.std.specs.Prelude.{refl, [], ◌∷◌, Some, None, false, pos, negsuc, ◌^◌, ◌-◌};
 ghost use Rattle.asn1_model.specs.Value.{number};
 ghost use Rattle.asn1_schema_constraints.specs.Terms.{integer_under};
-ghost use Rattle.asn1_schema_bounds.specs.declared.bounds.Bounded.{Bounded};
+ghost use Rattle.asn1_schema_constraints.specs.declared.bounds.Bounded.{Bounded};
 ghost use Rattle.asn1_schema_presented.proofs.TypesByKind.{integer_type, integer_value};
 ghost use Rattle.asn1_values_natives.specs.Ranges.{natural_range, whole_range};
 
 use crate::described::{AsnType, Described};
 use crate::integers::between;
-use asn1_schema_bounds::Bounded;
-use asn1_schema_constraints::{Constraints, Extensible, Value};
+use asn1_schema_constraints::{Bounded, Constraints, Extensible, Value};
 use asn1_schema_tags::{Identifier, Tag, TagTree};
 
 impl Described for i128 {

@@ -6,7 +6,7 @@ use Rattle.asn1_model.specs.Schema.{required, optional, by_default, Schema}
 use Rattle.asn1_model.specs.Typed.{is_of, are_of}
 use Rattle.asn1_model.specs.Versions.{KeepsPresence, grow, grow_parts, all_absent}
 use Rattle.asn1_laws_values.proofs.Same.{same_self}
-use Rattle.asn1_laws_typed.proofs.Itself.{grows, parts_grow}
+use Rattle.asn1_laws_values.proofs.Itself.{grows, parts_grow}
 use Rattle.asn1_schema_presented.specs.Tables.{Fields, no_field, field, Table, components_at, scope, sequence_type}
 use Rattle.asn1_schema_presented.specs.Typed.{IsDefault}
 use Rattle.asn1_schema_versions.proofs.Fields.{joined, with_additions, KeepsPresenceFrom}

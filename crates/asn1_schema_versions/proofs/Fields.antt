@@ -6,7 +6,7 @@ use Rattle.std.proofs.lemmas.List.Elements.{All-contains_itself}
 use Rattle.asn1_model.specs.Schema.{Tag, Presence, Schema, enumerated}
 use Rattle.asn1_model.specs.Lawful.{is_lawful, are_lawful, are_lawful_alternatives}
 use Rattle.asn1_model.specs.Versions.{KeepsTags, KeepsPresence, Extends, ExtendsEach, ExtendsAlternatives}
-use Rattle.asn1_laws_typed.proofs.Itself.{each_itself, alternatives_itself}
+use Rattle.asn1_laws_values.proofs.Itself.{each_itself, alternatives_itself}
 use Rattle.asn1_schema_presented.specs.Tables.{Fields, no_field, field, Table, components_at, scope, sequence_type}
 use Rattle.asn1_schema_constructed.specs.Sets.{set_type}
 use Rattle.asn1_schema_constructed.specs.Tables.{Variants, no_variant, variant, alternatives_at, Choices, choice_type}

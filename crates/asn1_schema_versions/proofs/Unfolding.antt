@@ -1,8 +1,8 @@
 -- Types that mean the same in whatever depth they are unfolded, by their tables.
 use Rattle.std.proofs.Common.{◌≤◌, ℕ, zero, suc, List, refl, inl, inr, arith}
 use Rattle.asn1_model.specs.Schema.{Tag, Presence, Schema}
-use Rattle.asn1_laws_unfolding.specs.Unfolding.{AgreesTo, AgreesEach, AgreesAlternatives}
-use Rattle.asn1_laws_unfolding.proofs.Recursive.{agrees_with_itself}
+use Rattle.asn1_laws_values.specs.Unfolding.{AgreesTo, AgreesEach, AgreesAlternatives}
+use Rattle.asn1_laws_values.proofs.Recursive.{agrees_with_itself}
 use Rattle.asn1_schema_presented.specs.Tables.{Fields, no_field, field, Table, components_at, scope, sequence_type}
 use Rattle.asn1_schema_constructed.specs.Sets.{set_type}
 use Rattle.asn1_schema_constructed.specs.Tables.{Variants, no_variant, variant, alternatives_at, Choices, choice_type}

@@ -2,7 +2,7 @@
 use Rattle.std.specs.Prelude.{ℕ, ◌≤◌}
 use Rattle.asn1_model.specs.Schema.{Schema}
 use Rattle.asn1_model.specs.Versions.{Extends}
-use Rattle.asn1_laws_unfolding.specs.Unfolding.{AgreesTo}
+use Rattle.asn1_laws_values.specs.Unfolding.{AgreesTo}
 
 -- The second type is a newer version of the first, both unfolded to so many levels, whichever number from this one on.
 pub record ExtendsFrom (levels : ℕ) (old new : ℕ → Schema) : Type 0 where

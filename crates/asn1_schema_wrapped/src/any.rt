@@ -8,14 +8,12 @@ ghost use Rattle.asn1_schema_constraints.specs.Terms.{octet_string_under};
 ghost use Rattle.asn1_schema_presented.proofs.Same.{octets_agree};
 ghost use Rattle.asn1_schema_presented.proofs.TypesByKind.{octet_string_type, octet_string_value};
 
-use asn1_schema_bounds::Bounded;
-use asn1_schema_components::EqualByMeaning;
-use asn1_schema_constraints::Constraints;
+use asn1_schema_constraints::{Bounded, Constraints};
 use asn1_schema_decode::{Decode, Decoder, ReadOctets};
 use asn1_schema_encode::{Encode, Encoder};
 use asn1_schema_faults::{DecodeError, EncodeError};
 use asn1_schema_tags::{Identifier, Tag, TagTree};
-use asn1_schema_types::{AsnType, Described};
+use asn1_schema_types::{AsnType, Described, EqualByMeaning};
 use std::alloc::{AllocError, Global};
 use std::marker::Model;
 

@@ -8,13 +8,12 @@ ghost use Rattle.asn1_model.specs.Schema.{Schema, Tag as ModelTag};
 ghost use Rattle.asn1_model.specs.Value.{Value, same};
 ghost use Rattle.asn1_schema_presented.specs.Tables.{are_tags, IsType, IsValue};
 
-use asn1_schema_components::EqualByMeaning;
 use asn1_schema_constraints::Constraints;
 use asn1_schema_decode::{Decode, Decoder};
 use asn1_schema_encode::{Encode, Encoder};
 use asn1_schema_faults::{DecodeError, EncodeError};
 use asn1_schema_tags::{Identifier, Tag, TagTree};
-use asn1_schema_types::{AsnType, Described};
+use asn1_schema_types::{AsnType, Described, EqualByMeaning};
 use std::alloc::Global;
 use std::marker::PhantomData;
 use std::ops::{Deref, DerefMut};

@@ -9,13 +9,14 @@ ghost use Rattle.asn1_schema_wrapped.specs.Instances.{instances_agree};
 
 use crate::tag::Context;
 use crate::tagged::Explicit;
-use asn1_schema_components::{ComponentsOf, End, EqualByMeaning, Required, RequiredComponent};
 use asn1_schema_constraints::Constraints;
 use asn1_schema_decode::{Decode, DecodeSequence, Decoder};
 use asn1_schema_encode::{Encode, EncodeSequence, Encoder};
 use asn1_schema_faults::{DecodeError, EncodeError};
 use asn1_schema_tags::{Identifier, Tag, TagTree};
-use asn1_schema_types::{AsnType, Described};
+use asn1_schema_types::{
+    AsnType, ComponentsOf, Described, End, EqualByMeaning, Required, RequiredComponent,
+};
 use asn1_values_identifiers::ObjectIdentifier;
 use std::alloc::Global;
 

@@ -7,16 +7,14 @@ ghost use Rattle.asn1_schema_decode.specs.Reads.{NoRecord, Reads, Unread};
 ghost use Rattle.asn1_schema_presented.specs.Records.{octets, characters, asks_octets, asks_characters};
 
 use crate::Any;
-use asn1_schema_bounds::Bounded;
-use asn1_schema_constraints::Constraints;
+use asn1_schema_constraints::{Bounded, Constraints};
 use asn1_schema_decode::{Decode, Decoder, ReadOctets};
 use asn1_schema_faults::DecodeError;
 use asn1_schema_tags::Tag;
 use asn1_values_strings::{
-    GeneralString, GraphicString, Ia5String, NumericString, PrintableString, TeletexString,
-    VisibleString,
+    BmpString, GeneralString, GraphicString, Ia5String, NumericString, PrintableString,
+    TeletexString, VisibleString,
 };
-use asn1_values_strings_wide::BmpString;
 use std::alloc::Global;
 
 /// What a decoder reads, by the names of types.

@@ -7,16 +7,14 @@ ghost use Rattle.asn1_schema_encode.specs.Writes.{Refused, Writes, CannotWrite};
 ghost use Rattle.asn1_schema_presented.specs.Records.{octets, characters};
 
 use crate::Any;
-use asn1_schema_bounds::Bounded;
-use asn1_schema_constraints::Constraints;
+use asn1_schema_constraints::{Bounded, Constraints};
 use asn1_schema_encode::{Encode, Encoder};
 use asn1_schema_faults::EncodeError;
 use asn1_schema_tags::{Identifier, Tag};
 use asn1_values_strings::{
-    GeneralString, GraphicString, Ia5String, NumericString, PrintableString, TeletexString,
-    VisibleString,
+    BmpString, GeneralString, GraphicString, Ia5String, NumericString, PrintableString,
+    TeletexString, VisibleString,
 };
-use asn1_values_strings_wide::BmpString;
 
 /// What an encoder writes, by the names of types.
 pub trait EncodeNamed: Encoder {

@@ -3,7 +3,7 @@ use crate::UniversalString;
 use crate::instances::InstanceOf;
 use asn1_values_bit_strings::BitString;
 use asn1_values_identifiers::ObjectIdentifier;
-use asn1_values_numbers::Integer;
+use asn1_values_integers::Integer;
 use asn1_values_octets::OctetString;
 use asn1_values_strings::VisibleString;
 

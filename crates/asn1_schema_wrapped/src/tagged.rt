@@ -4,13 +4,12 @@ ghost use Rattle.std.proofs.Common.{◌∙◌};
 ghost use Rattle.std.proofs.Math.Bool.{and-true};
 ghost use Rattle.std.specs.Borrow.{Lends, sem};
 
-use asn1_schema_components::EqualByMeaning;
 use asn1_schema_constraints::Constraints;
 use asn1_schema_decode::{Decode, Decoder};
 use asn1_schema_encode::{Encode, Encoder};
 use asn1_schema_faults::{DecodeError, EncodeError};
 use asn1_schema_tags::{Identifier, Tag, TagTree};
-use asn1_schema_types::{AsnType, Described};
+use asn1_schema_types::{AsnType, Described, EqualByMeaning};
 use std::alloc::Global;
 use std::marker::PhantomData;
 use std::ops::{Deref, DerefMut};

@@ -10,7 +10,6 @@ pub use asn1_values_alphabets::{
 };
 pub use asn1_values_bit_strings::{BitString, FixedBitString};
 pub use asn1_values_bits::{BitAppender, BitBuffer, BitReader, BitStr, bits};
-pub use asn1_values_constrained::{Between, ConstrainedInteger, Ends, RangedInteger};
 pub use asn1_values_fields::{
     FieldBits, FieldFault, FieldFaultKind, FieldShape, FieldValue, read_fields, write_fields,
     written_fields_are_read,
@@ -18,13 +17,14 @@ pub use asn1_values_fields::{
 pub use asn1_values_identifiers::{
     IdentifierError, ObjectIdentifier, Oid, oid_from_octets, oid_octets,
 };
-pub use asn1_values_integer_types::IntegerType;
+pub use asn1_values_integers::{
+    Between, ConstrainedInteger, Ends, Integer, IntegerError, IntegerType, RangedInteger,
+    TryFromIntegerError,
+};
 pub use asn1_values_natives::{IntegerBytes, NativeInteger, Wide};
-pub use asn1_values_numbers::{Integer, IntegerError, TryFromIntegerError};
 pub use asn1_values_octets::{FixedOctetString, OctetString, WrongLength};
 pub use asn1_values_strings::{
-    CharacterKind, Characters, General, GeneralString, Graphic, GraphicString, Ia5, Ia5String,
-    Numeric, NumericString, Printable, PrintableString, RestrictedString, Teletex, TeletexString,
-    TextKind, Visible, VisibleString,
+    BmpCharacters, BmpString, CharacterKind, Characters, General, GeneralString, Graphic,
+    GraphicString, Ia5, Ia5String, Numeric, NumericString, Printable, PrintableString,
+    RestrictedString, Teletex, TeletexString, TextKind, Visible, VisibleString,
 };
-pub use asn1_values_strings_wide::{BmpCharacters, BmpString};

@@ -5,7 +5,7 @@ use Rattle.std.proofs.lemmas.Nat.Bits.{bit_at_set_same, bit_at_set_other, bit_at
 use Rattle.std.proofs.lemmas.List.{same_lists, get_or-set_same, get_or-set_other, set-append_left, set-append_right}
 use Rattle.std.proofs.lemmas.Bool.{cases_eq}
 use Rattle.asn1_model.specs.Numbers.{binary, octet_bits, missing}
-use Rattle.asn1_values_bit_views.proofs.Binary.{length-binary, length-octet_bits}
+use Rattle.asn1_values_bits.proofs.Binary.{length-binary, length-octet_bits}
 
 get_or-binary : (w n i : ℕ) (d : Bool) → i < w → get_or (binary w n) i d ≡ (bit_at n (w - 1 - i) == 1)
 get_or-binary zero n i d h = absurd (omega arith)

@@ -1,8 +1,8 @@
 -- The octets of bits that are kept.
 use Rattle.std.proofs.Common.{◌≡◌, ℕ, ◌<◌, Bool, List, length, take, get_or, ap, sym, ◌∙◌}
 use Rattle.asn1_model.specs.Numbers.{octet_bits, packed}
-use Rattle.asn1_values_bit_views.specs.Octets.{filled_up}
-use Rattle.asn1_values_bit_views.proofs.Packed.{packed-octet_bits}
+use Rattle.asn1_values_bits.specs.Octets.{filled_up}
+use Rattle.asn1_values_bits.proofs.Packed.{packed-octet_bits}
 use Rattle.asn1_values_bits.specs.Kept.{IsKept}
 use Rattle.asn1_values_bits.proofs.Kept.{kept_filled}
 

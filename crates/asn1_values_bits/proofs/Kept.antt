@@ -4,9 +4,9 @@ use Rattle.std.proofs.lemmas.Nat.{shr_split, or_shifted, pow-add, shl-shr, shl_w
 use Rattle.std.proofs.Math.Nat.{mul_assoc}
 use Rattle.std.proofs.lemmas.List.{take_at, drop_at, append-nil, length-replicate, set_at, take_more, take_all, take-append-drop, take-take, take-append-le, length-take-le, length-take}
 use Rattle.asn1_model.specs.Numbers.{binary, octet_bits, missing}
-use Rattle.asn1_values_bit_views.specs.Octets.{filled_up}
+use Rattle.asn1_values_bits.specs.Octets.{filled_up}
 use Rattle.asn1_values_bits.specs.Kept.{IsKept}
-use Rattle.asn1_values_bit_views.proofs.Binary.{length-binary, binary_split, binary_cut, binary_low, binary_shifted, binary_join, low_zeros, same_fronts, same_backs, length-octet_bits, octet_bits_push, octet_bits-take}
+use Rattle.asn1_values_bits.proofs.Binary.{length-binary, binary_split, binary_cut, binary_low, binary_shifted, binary_join, low_zeros, same_fronts, same_backs, length-octet_bits, octet_bits_push, octet_bits-take}
 
 -- what the octets of a kept list are
 pub kept_bits : (len : ℕ) (os : List ℕ) (v : List Bool) → IsKept len os → take len (octet_bits os) ≡ v → octet_bits os ≡ v ++ replicate (missing len) false

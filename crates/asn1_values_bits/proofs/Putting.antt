@@ -3,8 +3,8 @@ use Rattle.std.proofs.Common.{◌≡◌, ℕ, ◌+◌, ◌-◌, ◌*◌, ◌/◌
 use Rattle.std.proofs.lemmas.Nat.{shr_below, pow_pos, mod_below, or_shifted, shl_whole, pow-add, mul-add-lt}
 use Rattle.std.proofs.lemmas.List.{drop-drop, take_at, drop_at, set_at, length-take-le, length-drop, take-append-drop, take-append-le, drop-append-le, drop_more}
 use Rattle.asn1_model.specs.Numbers.{binary, octet_bits, missing}
-use Rattle.asn1_values_bit_views.proofs.Binary.{length-binary, binary_split, binary_join, binary_low, length-octet_bits, octet_bits-append}
-use Rattle.asn1_values_bit_views.proofs.Reading.{joined_digits, joined_small}
+use Rattle.asn1_values_bits.proofs.Binary.{length-binary, binary_split, binary_join, binary_low, length-octet_bits, octet_bits-append}
+use Rattle.asn1_values_bits.proofs.Reading.{joined_digits, joined_small}
 
 -- an octet with some of its bits changed
 pub mixed : (x v offset count past : ℕ) → offset + (count + past) ≡ 8 → v < 2 ^ count → binary 8 ((x / 2 ^ (count + past) * 2 ^ count + v) * 2 ^ past + x % 2 ^ past) ≡ binary offset (x / 2 ^ (count + past)) ++ (binary count v ++ binary past x)

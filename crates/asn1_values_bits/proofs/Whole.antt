@@ -4,8 +4,8 @@ use Rattle.std.specs.Int.{bytes_high_first}
 use Rattle.std.proofs.Math.Pow.{mod-mod-pow}
 use Rattle.std.proofs.lemmas.List.{replicate-append-replicate, take_at, length-replicate}
 use Rattle.asn1_model.specs.Numbers.{binary, octet_bits, missing}
-use Rattle.asn1_values_bit_views.proofs.Binary.{length-binary, binary_low, binary_shifted, octet_bits-append, octet_bits-take}
-use Rattle.asn1_values_bit_views.proofs.Whole.{high_first}
+use Rattle.asn1_values_bits.proofs.Binary.{length-binary, binary_low, binary_shifted, octet_bits-append, octet_bits-take}
+use Rattle.asn1_values_bits.proofs.BitViewsWhole.{high_first}
 
 length-bytes : (k n : ℕ) → length (bytes_high_first k n) ≡ k
 length-bytes zero n = refl

@@ -1,9 +1,9 @@
 //! Bits that grow at their end, in whole octets of which the last is filled with zero bits.
 ghost use Rattle.std.specs.Prelude.{◌≡◌, ℕ, ◌+◌, ◌-◌, ◌*◌, ◌/◌, ◌%◌, ◌^◌, ◌<◌, ◌≤◌, Bool, List, [], ◌∷◌, ◌++◌, length, set, take, drop, replicate, false, IsTrue, ◌↔◌, IfOk, OnOk, OnErr, vec_len, slice_set};
 ghost use Rattle.asn1_model.specs.Numbers.{binary, missing, octet_bits, packed};
-ghost use Rattle.asn1_values_bit_views.specs.Octets.{filled_up};
+ghost use Rattle.asn1_values_bits.specs.Octets.{filled_up};
 
-use asn1_values_bit_views::BitStr;
+use crate::BitStr;
 use std::alloc::{AllocError, Global};
 use std::default::MadeWith;
 use std::marker::Model;
@@ -35,7 +35,7 @@ impl Model for BitBuffer {
 }
 
 impl BitBuffer {
-    ghost use Rattle.asn1_values_bit_views.specs.BitStr.{bits_of, offset_of};
+    ghost use Rattle.asn1_values_bits.specs.BitStr.{bits_of, offset_of};
 
     /// No bits. It takes no memory, and what it holds later comes from `alloc`.
     pub fn new(alloc: Global) -> Self

@@ -2,10 +2,10 @@
 ghost use Rattle.std.specs.Prelude.{◌≡◌, ◌+◌, ◌*◌, ◌%◌, ◌^◌, ◌<◌, ◌≤◌, [], ◌∷◌, length, take, drop, IsTrue, ◌↔◌, IsSome, IfSome, IfOk, IfErr, IsOk, OnErr, IsOkAnd};
 ghost use Rattle.std.specs.Cow.{cow_slice_items, IsBorrowedSlice};
 ghost use Rattle.asn1_model.specs.Numbers.{binary, octet_bits};
-ghost use Rattle.asn1_values_bit_views.specs.Octets.{filled_up};
+ghost use Rattle.asn1_values_bits.specs.Octets.{filled_up};
 
+use crate::BitStr;
 use crate::bit_buffer::BitBuffer;
-use asn1_values_bit_views::BitStr;
 use std::alloc::{AllocError, Global};
 use std::borrow::CowSlice;
 use std::marker::Model;
@@ -18,7 +18,7 @@ pub struct BitReader<'a> {
 
 impl<'a> Model for BitReader<'a> {
     ghost use Rattle.asn1_values_bits.specs.Unread.{Unread};
-    ghost use Rattle.asn1_values_bit_views.specs.BitStr.{bits_of, offset_of};
+    ghost use Rattle.asn1_values_bits.specs.BitStr.{bits_of, offset_of};
 
     ghost Value = { Unread };
 
@@ -26,7 +26,7 @@ impl<'a> Model for BitReader<'a> {
 }
 
 impl<'a> BitReader<'a> {
-    ghost use Rattle.asn1_values_bit_views.specs.BitStr.{bits_of, offset_of};
+    ghost use Rattle.asn1_values_bits.specs.BitStr.{bits_of, offset_of};
 
     /// Reads the bits of a view.
     pub fn new(bits: BitStr<'a>) -> Self

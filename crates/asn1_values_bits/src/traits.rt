@@ -4,7 +4,7 @@ ghost use mathlib.Core.Bool.{beq};
 ghost use Rattle.std.specs.Ordering.{bool_cmp, on};
 ghost use Rattle.std.specs.Cmp.{partial_equiv_from_equiv, on_equiv, on_po, on_total};
 ghost use Rattle.std.specs.Cmp.Lexicographic.{pointwise, slice_cmp};
-ghost use Rattle.asn1_values_bit_views.specs.BitOrder.{bits_equiv, bits_po, bits_total, bits_ties, bits_fed, bits_fed_alike};
+ghost use Rattle.asn1_values_bits.specs.BitOrder.{bits_equiv, bits_po, bits_total, bits_ties, bits_fed, bits_fed_alike};
 
 use crate::bit_buffer::BitBuffer;
 use std::cmp::Ordering;

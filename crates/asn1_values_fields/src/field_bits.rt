@@ -6,7 +6,7 @@ ghost use Rattle.asn1_values_fields.specs.Written.{codes_of, digits_of, bits_of_
 use crate::fault::{FieldFault, FieldFaultKind};
 use asn1_values_alphabets::CharacterAlphabet;
 use asn1_values_bits::{BitBuffer, BitStr};
-use asn1_values_numbers::Integer;
+use asn1_values_integers::Integer;
 
 /// A field that is to be written.
 #[derive(Clone, Copy, Debug)]

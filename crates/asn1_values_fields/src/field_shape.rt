@@ -1,7 +1,7 @@
 //! Fields that are read.
 use asn1_values_alphabets::CharacterAlphabet;
 use asn1_values_bit_strings::BitString;
-use asn1_values_numbers::Integer;
+use asn1_values_integers::Integer;
 
 /// What a field that is to be read looks like.
 #[derive(Clone, Copy, Debug)]

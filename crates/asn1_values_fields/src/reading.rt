@@ -11,8 +11,8 @@ use crate::field_shape::{FieldShape, FieldValue};
 use asn1_values_alphabets::CharacterAlphabet;
 use asn1_values_bit_strings::BitString;
 use asn1_values_bits::BitReader;
+use asn1_values_integers::Integer;
 use asn1_values_natives::octets::has_padding;
-use asn1_values_numbers::Integer;
 use std::alloc::Global;
 use std::borrow::CowSlice;
 

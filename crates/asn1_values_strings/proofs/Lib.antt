@@ -1,0 +1,3 @@
+pub mod Bits
+pub mod Units
+pub mod Utf8

@@ -1,16 +1,23 @@
 //! The restricted character strings whose characters are octets (X.680 41).
+//! The restricted character string whose characters are two octets wide, the BMPString (X.680 41).
+//! Octets as the texts that a UTF8String holds (ISO/IEC 10646 annex D).
 #![tactic(auto)]
 
+pub mod bmp;
 pub mod characters;
 pub mod kinds;
 pub mod restricted;
 mod text;
+pub mod utf8;
+pub mod wide_characters;
 
+pub use bmp::BmpString;
 pub use characters::Characters;
 pub use kinds::{
     CharacterKind, General, Graphic, Ia5, Numeric, Printable, Teletex, TextKind, Visible,
 };
 pub use restricted::RestrictedString;
+pub use wide_characters::BmpCharacters;
 
 /// A NumericString: digits and the space (X.680 41.2).
 pub type NumericString = RestrictedString<Numeric>;

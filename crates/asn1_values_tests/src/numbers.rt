@@ -5,7 +5,7 @@ use crate::common::{
 };
 use crate::natives::has_octets;
 use asn1_values::{Integer, IntegerError, IntegerType, TryFromIntegerError};
-use asn1_values_constrained::ConstrainedInteger;
+use asn1_values_integers::ConstrainedInteger;
 use std::alloc::{AllocError, Global};
 use std::process::Abort;
 

@@ -13,9 +13,9 @@ use Rattle.asn1_schema_presented.specs.Presents.{presents, Fits}
 use Rattle.asn1_schema_presented.specs.Chains.{Chain}
 use Rattle.asn1_schema_presented.specs.Tables.{IsValue}
 use Rattle.oer_codec_encoder.specs.Stepping.{Written, Puts}
-use Rattle.oer_codec_steps.specs.Steps.{State, Step}
-use Rattle.oer_codec_steps.specs.Written.{IsWriter, HasOctets}
-use Rattle.oer_codec_steps.proofs.Written.{written_by_records, refused_by_records, writes_the_octets, refuses_only_none}
+use Rattle.oer_codec_encoder.specs.Steps.{State, Step}
+use Rattle.oer_codec_encoder.specs.Written.{IsWriter, HasOctets}
+use Rattle.oer_codec_encoder.proofs.Written.{written_by_records, refused_by_records, writes_the_octets, refuses_only_none}
 use Rattle.oer_codec.specs.Encoded.{IsEncoded, HasText, NotEncoded}
 
 -- the encoder is a writer

@@ -2,7 +2,7 @@
 use Rattle.std.proofs.Common.{◌≡◌, ℕ, Bool, false, List, [], ◌∷◌, refl, ap, sym, ◌∙◌, subst}
 use Rattle.asn1_schema_presented.specs.Records.{Record}
 use Rattle.asn1_schema_presented.specs.Chains.{Chain}
-use Rattle.asn1_schema_levels.specs.Levels.{Level}
+use Rattle.asn1_schema_presented.specs.Levels.{Level}
 use Rattle.oer_codec_reading.specs.Fronts.{freedoms}
 use Rattle.oer_codec_fronts.specs.Takes.{State, Takes}
 use Rattle.oer_codec_decoder.specs.Held.{Held, Finds, state_of}

@@ -10,7 +10,7 @@ use Rattle.asn1_model.specs.Oer
 use Rattle.asn1_model.specs.Rules.{IsEncoding}
 use Rattle.asn1_schema_decode.specs.Reads.{Reads as ReadsValue, Unread}
 use Rattle.asn1_schema_faults.specs.declared.DecodeError.{DecodeError}
-use Rattle.asn1_schema_levels.proofs.Levels.{nests}
+use Rattle.asn1_schema_presented.proofs.Levels.{nests}
 use Rattle.asn1_schema_presented.specs.Chains.{Chain}
 use Rattle.asn1_schema_presented.specs.Presents.{presents, Fits}
 use Rattle.oer_codec_decoder.specs.Held.{Held, Finds}
@@ -20,8 +20,8 @@ use Rattle.oer_codec_fronts.proofs.Fitting.{records_fit}
 use Rattle.oer_codec_reading.specs.Fronts.{freedoms}
 use Rattle.oer_codec_reading_lengths.specs.declared.rules.EncodingRules.{EncodingRules}
 use Rattle.oer_codec_reading_lengths.specs.declared.rules.EncodingRules.TheVariants.{Oer as OerRules, Coer as CoerRules}
-use Rattle.asn1_schema_messages.specs.Messages.{HasMessage, Tells, NoMessage}
-use Rattle.asn1_schema_messages.proofs.Nesting.{no_deeper}
+use Rattle.asn1_schema_decode.specs.Messages.{HasMessage, Tells, NoMessage}
+use Rattle.asn1_schema_decode.proofs.Nesting.{no_deeper}
 use Rattle.oer_codec.specs.Messages.{rules_of}
 use Rattle.oer_codec.proofs.Lifting.{held_at, octets_taken, levels_taken, both_found}
 

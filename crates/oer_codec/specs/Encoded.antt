@@ -7,7 +7,7 @@ use Rattle.asn1_model.specs.Rules.{oer, coer, encoding}
 use Rattle.asn1_schema_faults.specs.declared.EncodeError.{EncodeError}
 use Rattle.asn1_schema_faults.specs.declared.EncodeError.TheVariants.{TooLongValue, OutOfMemory}
 use Rattle.asn1_schema_presented.specs.Presents.{Fits}
-use Rattle.oer_codec_steps.specs.Written.{HasOctets}
+use Rattle.oer_codec_encoder.specs.Written.{HasOctets}
 
 -- These octets are the canonical encoding of the value (X.696), in OER as in COER, in whatever depth its type is unfolded.
 abbrev pub IsEncoded : (ℕ → Schema) → Value → List ℕ → Type 0

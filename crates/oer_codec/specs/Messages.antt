@@ -1,6 +1,6 @@
 -- The rules of the calls, and that what they tell is one value.
 use Rattle.asn1_model.specs.Rules.{Rules, oer, coer}
-use Rattle.asn1_schema_messages.specs.Messages.{OneMessageIn}
+use Rattle.asn1_schema_decode.specs.Messages.{OneMessageIn}
 use Rattle.oer_codec_reading_lengths.specs.declared.rules.EncodingRules.{EncodingRules}
 use Rattle.oer_codec_reading_lengths.specs.declared.rules.EncodingRules.TheVariants.{Oer, Coer}
 

@@ -1,8 +1,7 @@
 //! Readers of the message in front of octets, by each set of rules.
 
-use asn1_schema_decode::Decode;
+use asn1_schema_decode::{Decode, FrontReader};
 use asn1_schema_faults::DecodeError;
-use asn1_schema_iter::FrontReader;
 use std::alloc::Global;
 
 /// Reads the message in front of octets by the basic octet encoding rules (X.696).

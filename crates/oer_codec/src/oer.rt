@@ -2,7 +2,7 @@
 ghost use Rattle.std.specs.Prelude.{◌≡◌, ◌++◌, ℕ, List, OnOk, OnErr, IfOk, IfErr};
 ghost use Rattle.asn1_model.specs.Lawful.{IsLawful};
 ghost use Rattle.asn1_model.specs.Rules.{oer};
-ghost use Rattle.asn1_schema_messages.specs.Messages.{NoMessage, Tells};
+ghost use Rattle.asn1_schema_decode.specs.Messages.{NoMessage, Tells};
 ghost use Rattle.oer_codec.specs.Encoded.{IsEncoded, NotEncoded};
 
 use asn1_schema_constraints::Constraints;

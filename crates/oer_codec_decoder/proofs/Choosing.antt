@@ -1,6 +1,6 @@
 -- Choices in front.
 use Rattle.std.proofs.Common.{◌≡◌, ℕ, Bool, true, false, List, Some, None, refl, sym, ◌∙◌, subst}
-use Rattle.asn1_laws_fronts_octets.proofs.Tags.{tags_alike}
+use Rattle.asn1_laws_fronts.proofs.Tags.{tags_alike}
 use Rattle.asn1_model.specs.Oer
 use Rattle.asn1_model.specs.Schema.{Tag}
 use Rattle.asn1_model.specs.Strings.{each_is}

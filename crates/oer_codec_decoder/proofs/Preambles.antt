@@ -2,7 +2,7 @@
 use Rattle.std.proofs.Common.{◌≡◌, ℕ, suc, ◌+◌, ◌*◌, ◌/◌, ◌<◌, Bool, false, cond, List, [], ◌∷◌, ◌++◌, length, replicate, Option, Some, None, refl, sym, ◌∙◌, ap, subst, arith}
 use Rattle.std.proofs.lemmas.List.{length-append, length-replicate}
 use Rattle.std.specs.List.{AllByRecursion}
-use Rattle.asn1_laws.proofs.Octets.{packed_back}
+use Rattle.asn1_laws_values.proofs.Octets.{packed_back}
 use Rattle.asn1_model.specs.Numbers.{octet_bits, packed, missing}
 use Rattle.asn1_model.specs.Form.{is_present}
 use Rattle.asn1_values_bits.proofs.Binary.{length-octet_bits}

@@ -3,7 +3,7 @@ use Rattle.std.specs.Prelude.{◌≡◌, ℕ, Bool, true, false, List, Some}
 use Rattle.asn1_schema_faults.specs.declared.CodecKind.{CodecKind}
 use Rattle.asn1_schema_faults.specs.declared.CodecKind.TheVariants.{Oer as OerKind, Coer as CoerKind}
 use Rattle.asn1_schema_presented.specs.Records.{Record}
-use Rattle.asn1_schema_levels.specs.Levels.{level}
+use Rattle.asn1_schema_presented.specs.Levels.{level}
 use Rattle.oer_codec_reading.specs.Fronts.{freedoms}
 use Rattle.oer_codec_reading_lengths.specs.declared.rules.EncodingRules.{EncodingRules}
 use Rattle.oer_codec_reading_lengths.specs.declared.rules.EncodingRules.TheVariants.{Oer, Coer}

@@ -3,7 +3,7 @@ use Rattle.std.proofs.Common.{◌≡◌, ℕ, Bool, true, false, Option, Some, r
 use Rattle.asn1_model.specs.Schema.{Size, Counts}
 use Rattle.asn1_model.specs.Numbers.{is_count_within}
 use Rattle.asn1_schema_presented.specs.Records.{Record, Question, question, told, flag, list_begins, bag_begins, asks_list, asks_bag, asks_sequence, asks_set, asks_group, asks_choice, asks_end}
-use Rattle.asn1_schema_levels.specs.Levels.{level, inside, outside}
+use Rattle.asn1_schema_presented.specs.Levels.{level, inside, outside}
 use Rattle.oer_codec_fronts.specs.Takes.{State}
 use Rattle.oer_codec_fronts.proofs.Next.{one_taken}
 use Rattle.oer_codec_reading.specs.Fronts.{freedoms}

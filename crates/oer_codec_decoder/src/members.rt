@@ -1,12 +1,12 @@
 //! How many members a list has (X.696 17).
 ghost use Rattle.std.specs.Prelude.{◌≡◌, Some, IfOk, IfErr};
-ghost use Rattle.asn1_schema_bounds.specs.Bounds.{members_of};
+ghost use Rattle.asn1_schema_constraints.specs.Bounds.{members_of};
 ghost use Rattle.oer_codec_reading.specs.Fronts.{freedoms};
 ghost use Rattle.oer_codec_decoder.specs.Members.{HasMembers, NoMembers};
 ghost use Rattle.oer_codec_decoder.specs.Scopes.{scope_of};
 
 use crate::frames::Frame;
-use asn1_schema_bounds::Bounded;
+use asn1_schema_constraints::Bounded;
 use asn1_schema_faults::DecodeError;
 use oer_codec_reading::numbers::read_count;
 use oer_codec_reading::{Cursor, EncodingRules};

@@ -8,7 +8,7 @@ use Rattle.asn1_model.specs.Schema.{Size, Counts}
 use Rattle.asn1_schema_order.specs.declared.encodings.Entry.{Entry}
 use Rattle.asn1_schema_order.specs.Entries.{octets_of, ArePlaced, AreInOrder}
 use Rattle.asn1_schema_presented.specs.Records.{bag_begins, further, ends}
-use Rattle.oer_codec_steps.specs.Steps.{bag_members, with_open, State, run, adds_text}
+use Rattle.oer_codec_encoder.specs.Steps.{bag_members, with_open, State, run, adds_text}
 use Rattle.oer_codec_encoder.specs.declared.frame.Bag.{Bag as BagFrame}
 use Rattle.oer_codec_encoder.specs.declared.frame.Frame.{Frame}
 use Rattle.oer_codec_encoder.specs.declared.frame.Frame.TheVariants.{Bag}

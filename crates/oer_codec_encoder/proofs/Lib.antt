@@ -8,3 +8,12 @@ pub mod Going
 pub mod Refusals
 pub mod RoomTexts
 pub mod SlotTexts
+pub mod Still
+pub mod Bridge
+pub mod Additions
+pub mod Lists
+pub mod Bags
+pub mod Choices
+pub mod Types
+pub mod Chains
+pub mod Written

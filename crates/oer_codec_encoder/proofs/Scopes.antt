@@ -12,7 +12,7 @@ use Rattle.asn1_schema_presented.specs.Records.{Record, sequence_begins, mark, e
 use Rattle.asn1_model.specs.Form.{written, exactly, only_if}
 use Rattle.asn1_model.specs.Oer
 use Rattle.asn1_model.specs.Schema.{Size, Counts}
-use Rattle.oer_codec_steps.specs.Steps.{Scope, components, added, open_type, members, bag_members, alternative, State, run, adds_text}
+use Rattle.oer_codec_encoder.specs.Steps.{Scope, components, added, open_type, members, bag_members, alternative, State, run, adds_text}
 use Rattle.oer_codec_encoder.specs.declared.frame.Frame.{Frame}
 use Rattle.oer_codec_encoder.specs.declared.frame.Frame.TheVariants.{Components, Added, OpenType, Members, Bag, Alternative}
 use Rattle.oer_codec_encoder.specs.declared.frame.Preamble.{Preamble}

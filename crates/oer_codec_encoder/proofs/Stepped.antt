@@ -4,7 +4,7 @@ use Rattle.asn1_schema_faults.specs.declared.EncodeError.{EncodeError}
 use Rattle.asn1_schema_faults.specs.declared.EncodeError.TheVariants.{ValueConstraintNotSatisfied, SizeConstraintNotSatisfied, AlphabetConstraintNotSatisfied, TooLongValue, LengthExceedsPlatformSize, OutOfMemory, AlreadyFailed}
 use Rattle.asn1_schema_encode.specs.Writes.{Refused}
 use Rattle.asn1_schema_presented.specs.Records.{Record}
-use Rattle.oer_codec_steps.specs.Steps.{State, run, adds_text}
+use Rattle.oer_codec_encoder.specs.Steps.{State, run, adds_text}
 use Rattle.oer_codec_encoder.specs.declared.frame.Frame.{Frame}
 use Rattle.oer_codec_encoder.specs.Holding.{shown, Holds, AreSound, Does, Cannot}
 use Rattle.oer_codec_encoder.specs.Stepping.{Written, Puts}

@@ -5,7 +5,7 @@ use Rattle.asn1_values_bits.specs.Octets.{filled_up}
 use Rattle.asn1_schema_faults.specs.declared.EncodeError.{EncodeError}
 use Rattle.asn1_schema_faults.specs.declared.EncodeError.TheVariants.{OutOfMemory}
 use Rattle.asn1_schema_presented.specs.Records.{Record}
-use Rattle.oer_codec_steps.specs.Steps.{components, added, open_type, members, bag_members, alternative, with_open, is_any_set, State, run}
+use Rattle.oer_codec_encoder.specs.Steps.{components, added, open_type, members, bag_members, alternative, with_open, is_any_set, State, run}
 use Rattle.oer_codec_encoder.specs.declared.frame.Bag.{Bag as BagFrame}
 use Rattle.oer_codec_encoder.specs.declared.frame.Frame.{Frame}
 use Rattle.oer_codec_encoder.specs.declared.frame.Frame.TheVariants.{Components, Added, OpenType, Members, Bag, Alternative}

@@ -2,7 +2,7 @@
 use Rattle.std.proofs.Common.{◌≡◌, Bool, true, false, Some, refl, sym, ◌∙◌, ap}
 use Rattle.asn1_schema_faults.specs.declared.CodecKind.TheVariants.{Coer}
 use Rattle.asn1_schema_presented.specs.Records.{Record}
-use Rattle.oer_codec_steps.specs.Steps.{State}
+use Rattle.oer_codec_encoder.specs.Steps.{State}
 use Rattle.oer_codec_encoder.specs.Stepping.{Written, Puts}
 
 same_written : (b c : Written) → b.state ≡ c.state → b.failed ≡ c.failed → b ≡ c

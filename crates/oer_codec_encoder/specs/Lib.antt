@@ -3,3 +3,6 @@ pub mod Laws
 pub mod Frames
 pub mod Holding
 pub mod Slots
+pub mod Steps
+pub mod Ties
+pub mod Written

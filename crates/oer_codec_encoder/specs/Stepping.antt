@@ -1,7 +1,7 @@
 -- What an encoder holds, and how records change it.
 use Rattle.std.specs.Prelude.{◌≡◌, Bool, false, Some}
 use Rattle.asn1_schema_presented.specs.Records.{Record}
-use Rattle.oer_codec_steps.specs.Steps.{State, run}
+use Rattle.oer_codec_encoder.specs.Steps.{State, run}
 
 -- What an encoder holds: what a writer does, and whether an earlier call was refused.
 pub record Written : Type 0 where

@@ -3,7 +3,7 @@ ghost use Rattle.std.specs.Prelude.{◌≡◌, map, option_map, MatchResult};
 ghost use Rattle.asn1_schema_presented.specs.Records.{choice_begins};
 ghost use Rattle.asn1_schema_tags.specs.Tags.{tag_of};
 ghost use Rattle.oer_codec_encoder.specs.Holding.{Does, Cannot};
-ghost use Rattle.oer_codec_steps.specs.Steps.{tag_at, tags_among};
+ghost use Rattle.oer_codec_encoder.specs.Steps.{tag_at, tags_among};
 
 use crate::frames::{Enclosing, Frames};
 use crate::open_types::open_in_place;

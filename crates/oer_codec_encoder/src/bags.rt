@@ -3,7 +3,7 @@ ghost use Rattle.std.specs.Prelude.{◌≡◌, ◌++◌, [], ◌∷◌, map, OnO
 ghost use Rattle.asn1_model.specs.Form.{written, exactly, joined};
 ghost use Rattle.asn1_model.specs.Oer.{in_any_order};
 ghost use Rattle.asn1_schema_presented.specs.Records.{bag_begins};
-ghost use Rattle.asn1_schema_bounds.specs.Bounds.{members_of};
+ghost use Rattle.asn1_schema_constraints.specs.Bounds.{members_of};
 ghost use Rattle.asn1_schema_constraints.specs.Terms.{sizes_of};
 ghost use Rattle.asn1_schema_order.specs.Entries.{octets_of};
 ghost use Rattle.oer_codec_encoder.specs.Frames.{NoMember};
@@ -14,8 +14,7 @@ ghost use Rattle.oer_codec_writing.specs.Writing.{Adds};
 use crate::frame::{Bag, Frame};
 use crate::frames::Frames;
 use crate::sequences::count_member;
-use asn1_schema_bounds::Bounded;
-use asn1_schema_constraints::Constraints;
+use asn1_schema_constraints::{Bounded, Constraints};
 use asn1_schema_faults::EncodeError;
 use asn1_schema_order::{Encodings, Entry};
 use oer_codec_writing::push_count;

@@ -11,15 +11,14 @@ use crate::ends::end_scope;
 use crate::frames::Frames;
 use crate::options::EncoderOptions;
 use crate::sequences::{begin_components, begin_members, put_mark};
-use asn1_schema_bounds::Bounded;
-use asn1_schema_constraints::Constraints;
+use asn1_schema_constraints::{Bounded, Constraints};
 use asn1_schema_faults::{CodecKind, EncodeError};
 use asn1_schema_tags::{Identifier, Tag};
 use asn1_schema_variants::{Chosen, Enumerated};
 use asn1_values_alphabets::StaticPermittedAlphabet;
 use asn1_values_bits::BitStr;
 use asn1_values_identifiers::Oid;
-use asn1_values_integer_types::IntegerType;
+use asn1_values_integers::IntegerType;
 use oer_codec_writing::{
     push_bit_string, push_boolean, push_characters, push_enumerated, push_identifier, push_integer,
     push_octet_string, push_utf8,

@@ -2,15 +2,14 @@
 ghost use Rattle.std.specs.Prelude.{◌≡◌, ℕ, List, ltb, ◌-◌, ◌+◌, ◌*◌, ◌/◌, ◌%◌, ◌<◌, ◌++◌, ◌∷◌, [], cond, replicate, MatchResult, vec_len, true, slice_set, slice_index};
 ghost use Rattle.asn1_model.specs.Numbers.{binary, missing};
 ghost use Rattle.asn1_schema_presented.specs.Records.{sequence_begins, mark, list_begins};
-ghost use Rattle.asn1_schema_bounds.specs.Bounds.{members_of};
+ghost use Rattle.asn1_schema_constraints.specs.Bounds.{members_of};
 ghost use Rattle.asn1_schema_constraints.specs.Terms.{sizes_of};
 ghost use Rattle.oer_codec_encoder.specs.Frames.{NoMember};
 ghost use Rattle.oer_codec_encoder.specs.Holding.{AreSound, Does, Cannot};
 
 use crate::frame::{Frame, Preamble};
 use crate::frames::Frames;
-use asn1_schema_bounds::Bounded;
-use asn1_schema_constraints::Constraints;
+use asn1_schema_constraints::{Bounded, Constraints};
 use asn1_schema_faults::EncodeError;
 use oer_codec_writing::push_count;
 

@@ -9,7 +9,7 @@ use Rattle.asn1_model.specs.Form.{exactly, refused, both, varied, within, Reads,
 use Rattle.asn1_model.specs.Tables.{is_required, marks}
 use Rattle.asn1_model.specs.Strings.{is_octet, each_is}
 use Rattle.asn1_model.specs.Oer
-use Rattle.asn1_laws.proofs.Listed.{listed, each_is_map, order_map}
+use Rattle.asn1_laws_values.proofs.Listed.{listed, each_is_map, order_map}
 
 -- a form that is read in the same way at every position
 pub record Anywhere (free : Oer.Freedom → Bool) (x : Oer.OctetForm) : Type 0 where

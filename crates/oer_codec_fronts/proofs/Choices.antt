@@ -7,8 +7,8 @@ use Rattle.asn1_model.specs.Lawful.{tag_same, are_distinct, alternative_tags}
 use Rattle.asn1_model.specs.Strings.{each_is}
 use Rattle.asn1_model.specs.Form.{both}
 use Rattle.asn1_model.specs.Oer
-use Rattle.asn1_laws.proofs.Listed.{EachAlternative}
-use Rattle.asn1_laws_fronts_octets.proofs.Choices.{distinct_before, distinct_behind}
+use Rattle.asn1_laws_values.proofs.Listed.{EachAlternative}
+use Rattle.asn1_laws_fronts.proofs.Choices.{distinct_before, distinct_behind}
 use Rattle.asn1_schema_presented.specs.Records.{ends}
 use Rattle.asn1_schema_presented.specs.Presents.{presents, chosen_records}
 use Rattle.asn1_schema_presented.specs.Chains.{Chain}

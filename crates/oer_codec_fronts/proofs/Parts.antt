@@ -8,7 +8,7 @@ use Rattle.asn1_model.specs.Numbers.{is_count_within}
 use Rattle.asn1_model.specs.Tables.{is_required, mark_unless, marks}
 use Rattle.asn1_model.specs.Form.{refused, both, given, joined, exactly, in_order, arranged, ascending, stands_before, written}
 use Rattle.asn1_model.specs.Oer
-use Rattle.asn1_laws.proofs.Listed.{EachComponent, listed, listed_again, each_is_map, order_map}
+use Rattle.asn1_laws_values.proofs.Listed.{EachComponent, listed, listed_again, each_is_map, order_map}
 use Rattle.asn1_laws_values.proofs.Same.{same_self}
 use Rattle.asn1_laws_values.proofs.Bags.{EachSame, bags_same}
 use Rattle.asn1_schema_presented.specs.Records.{Record, flag, nil, whole, one_of, bits, octets, characters, identifier, mark, ends, mismatch}

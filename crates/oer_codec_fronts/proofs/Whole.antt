@@ -9,7 +9,7 @@ use Rattle.asn1_model.specs.Lawful.{is_lawful, are_lawful, are_lawful_alternativ
 use Rattle.asn1_model.specs.Tables.{marks}
 use Rattle.asn1_model.specs.Oer
 use Rattle.asn1_model.specs.Rules.{oer, coer, lenient, strict_oer, IsEncoding}
-use Rattle.asn1_laws.proofs.Listed.{EachAlternative}
+use Rattle.asn1_laws_values.proofs.Listed.{EachAlternative}
 use Rattle.asn1_schema_presented.specs.Records.{Record, additions_begin, mismatch}
 use Rattle.asn1_schema_presented.specs.Presents.{presents, root_records, added_records, behind_root, optional_count, component_count}
 use Rattle.asn1_schema_presented.specs.Chains.{Chain}

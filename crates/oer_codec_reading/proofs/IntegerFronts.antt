@@ -13,11 +13,11 @@ use Rattle.asn1_model.specs.Oer.{Freedom, form, integer_form, fixed_octets, boun
 use Rattle.asn1_values_natives.specs.Octets.{plain}
 use Rattle.asn1_values_natives.proofs.RangeLaws.{not_at_most}
 use Rattle.asn1_values_natives.proofs.Widths.{width-bits, bits-least, signed_octets-plain, signed_octets-le}
-use Rattle.asn1_schema_bounds.specs.Bounds.{later, earlier}
-use Rattle.asn1_schema_bounds.specs.Widths.{has_sign, fixed_width}
-use Rattle.asn1_schema_bounds.proofs.Common.{number_order}
-use Rattle.asn1_schema_bounds.proofs.Meets.{is_above, is_below, later_admits, earlier_admits}
-use Rattle.asn1_schema_bounds.proofs.WidthLaws.{form_told}
+use Rattle.asn1_schema_constraints.specs.Bounds.{later, earlier}
+use Rattle.asn1_schema_constraints.specs.Widths.{has_sign, fixed_width}
+use Rattle.asn1_schema_constraints.proofs.Common.{number_order}
+use Rattle.asn1_schema_constraints.proofs.Meets.{is_above, is_below, later_admits, earlier_admits}
+use Rattle.asn1_schema_constraints.proofs.WidthLaws.{form_told}
 use Rattle.asn1_schema_constraints.specs.Terms.{bounds_of, held_of}
 use Rattle.asn1_schema_constraints.specs.declared.extensions.Extensible.{Extensible}
 use Rattle.asn1_schema_constraints.specs.declared.parts.Value as Constraint

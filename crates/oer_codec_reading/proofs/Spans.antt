@@ -7,7 +7,7 @@ use Rattle.asn1_model.specs.Numbers.{octet_width, signed_octets, width}
 use Rattle.asn1_model.specs.Oer.{fixed_octets}
 use Rattle.asn1_values_natives.specs.Octets.{plain}
 use Rattle.asn1_values_natives.proofs.Widths.{width-bits, bits-least, signed_octets-plain}
-use Rattle.asn1_schema_bounds.specs.Widths.{fixed_width}
+use Rattle.asn1_schema_constraints.specs.Widths.{fixed_width}
 use Rattle.oer_codec_reading_lengths.proofs.LengthFronts.{octets_hold}
 
 -- ---- the least of 1, 2, 4 and 8

@@ -8,7 +8,7 @@ use Rattle.asn1_model.specs.Oer.{Freedom, signed, unsigned, counted, longer_numb
 use Rattle.asn1_values_natives.specs.Octets.{unsigned_number, signed_number, own_number, is_padded}
 use Rattle.asn1_values_natives.proofs.OctetLaws.{AreOctets, unsigned-lt, length-digits, octets-digits, unsigned-digits, digits-unsigned}
 use Rattle.asn1_values_natives.proofs.TwosComplement.{signed_octets-least, signed_octets-fewest, complement-signed, signed-complement, plain-fits, octets-complement, length-complement, written-fewest}
-use Rattle.asn1_values_numbers.proofs.KindLaws.{unsigned-written}
+use Rattle.asn1_values_integers.proofs.KindLaws.{unsigned-written}
 use Rattle.asn1_values_natives.proofs.Widths.{octets-least, octet_width-octets, signed_octets-plain}
 use Rattle.oer_codec_reading_lengths.specs.declared.rules.EncodingRules.{EncodingRules}
 use Rattle.oer_codec_reading_lengths.specs.Fronts.{freedoms, is_basic, Stands, NoneStands}

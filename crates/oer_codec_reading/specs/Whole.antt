@@ -5,11 +5,11 @@ use Rattle.asn1_model.specs.Numbers.{octet_width, signed_octets, is_within}
 use Rattle.asn1_model.specs.Form.{only_if}
 use Rattle.asn1_model.specs.Oer.{OctetForm, natural_form, signed_form, unsigned}
 use Rattle.asn1_values_natives.specs.Octets.{is_padded, plain}
-use Rattle.asn1_schema_bounds.specs.Bounds.{range_of}
+use Rattle.asn1_schema_constraints.specs.Bounds.{range_of}
 use Rattle.asn1_schema_constraints.specs.Sets.{has_additions}
 use Rattle.asn1_schema_constraints.specs.declared.extensions.Extensible.{Extensible}
 use Rattle.asn1_schema_constraints.specs.declared.parts.Value.{Value}
-use Rattle.asn1_schema_bounds.specs.Widths.{has_sign, fixed_width}
+use Rattle.asn1_schema_constraints.specs.Widths.{has_sign, fixed_width}
 
 -- Whether so many octets, with a sign or without, hold a number; any number stands behind how many they are.
 abbrev pub holds : Bool → Option ℕ → ℤ → Bool

@@ -13,9 +13,8 @@ use crate::widths::form_within;
 use crate::{Cursor, EncodingRules};
 use asn1_schema_constraints::Constraints;
 use asn1_schema_faults::DecodeError;
-use asn1_values_integer_types::IntegerType;
+use asn1_values_integers::{IntegerError, IntegerType};
 use asn1_values_natives::Wide;
-use asn1_values_numbers::IntegerError;
 use oer_codec_reading_lengths::magnitudes::short_number;
 use std::alloc::Global;
 

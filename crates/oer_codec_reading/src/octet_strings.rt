@@ -2,7 +2,7 @@
 ghost use Rattle.std.specs.Prelude.{IfOk, IfErr};
 ghost use Rattle.asn1_model.specs.Schema as Asn1;
 ghost use Rattle.asn1_model.specs.Value as Asn1Value;
-ghost use Rattle.asn1_schema_bounds.specs.Bounds.{counts_of};
+ghost use Rattle.asn1_schema_constraints.specs.Bounds.{counts_of};
 ghost use Rattle.asn1_schema_constraints.specs.Terms.{sizes_of};
 ghost use Rattle.oer_codec_reading_lengths.specs.Fronts.{freedoms, Front, Misses, NoFront, Stands};
 ghost use Rattle.oer_codec_reading.specs.Sized.{sized};
@@ -10,8 +10,7 @@ ghost use Rattle.oer_codec_reading.specs.Sized.{sized};
 use crate::lengths::read_counted;
 use crate::sizes::{fixed_size, is_admitted};
 use crate::{Cursor, EncodingRules};
-use asn1_schema_bounds::Bounded;
-use asn1_schema_constraints::Constraints;
+use asn1_schema_constraints::{Bounded, Constraints};
 use asn1_schema_faults::DecodeError;
 
 /// Reads octets of one size, or behind their number if there is not one size alone, and lends them.

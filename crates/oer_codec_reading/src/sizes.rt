@@ -1,12 +1,11 @@
 //! Sizes of strings.
 ghost use Rattle.std.specs.Prelude.{◌≡◌};
 ghost use Rattle.asn1_model.specs.Oer.{admits};
-ghost use Rattle.asn1_schema_bounds.specs.Bounds.{counts_of};
+ghost use Rattle.asn1_schema_constraints.specs.Bounds.{counts_of};
 ghost use Rattle.asn1_schema_constraints.specs.Terms.{sizes_of};
 ghost use Rattle.oer_codec_reading.specs.Sized.{one_size};
 
-use asn1_schema_bounds::Bounded;
-use asn1_schema_constraints::Constraints;
+use asn1_schema_constraints::{Bounded, Constraints};
 
 /// The one size, if there is one and no mark of extensibility follows it: such a string has no length (X.696 13, 14 and 27).
 #[inline(always)]

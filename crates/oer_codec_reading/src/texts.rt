@@ -8,10 +8,9 @@ ghost use Rattle.oer_codec_reading.specs.Fronts.{freedoms, Front, NoFront};
 
 use crate::octet_strings::read_octet_string;
 use crate::{Cursor, EncodingRules};
-use asn1_schema_bounds::Bounded;
-use asn1_schema_constraints::Constraints;
+use asn1_schema_constraints::{Bounded, Constraints};
 use asn1_schema_faults::DecodeError;
-use asn1_values_utf8::text_of;
+use asn1_values_strings::utf8::text_of;
 use std::alloc::Global;
 
 /// Reads a UTF8String (X.696 27) under a size constraint, which counts its octets.

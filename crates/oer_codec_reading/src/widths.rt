@@ -2,11 +2,11 @@
 ghost use Rattle.std.specs.Prelude.{◌≡◌, ◌≤◌, Some, pos, IfSome};
 ghost use Rattle.asn1_model.specs.Numbers.{octet_width, signed_octets};
 ghost use Rattle.asn1_model.specs.Oer.{fixed_octets};
-ghost use Rattle.asn1_schema_bounds.specs.Bounds.{lower, upper};
-ghost use Rattle.asn1_schema_bounds.specs.Widths.{fixed_width, has_sign};
+ghost use Rattle.asn1_schema_constraints.specs.Bounds.{lower, upper};
+ghost use Rattle.asn1_schema_constraints.specs.Widths.{fixed_width, has_sign};
 ghost use Rattle.asn1_values_natives.specs.Octets.{plain};
 
-use asn1_schema_bounds::Bounded;
+use asn1_schema_constraints::Bounded;
 
 /// The least of 1, 2, 4 and 8 octets that hold a number without a sign.
 #[inline(always)]

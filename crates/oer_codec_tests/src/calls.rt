@@ -1,7 +1,6 @@
 //! The calls that write and read.
 use crate::five::FiveOctets;
-use asn1_schema_bounds::Bounded;
-use asn1_schema_constraints::{Constraint, Constraints, Extensible, Size, Value};
+use asn1_schema_constraints::{Bounded, Constraint, Constraints, Extensible, Size, Value};
 use asn1_schema_encode::Encode;
 use asn1_schema_faults::{DecodeError, EncodeError};
 use asn1_values_bit_strings::BitString;

@@ -1,7 +1,6 @@
 //! Decoders, call by call.
 use crate::common::assert_none;
-use asn1_schema_bounds::Bounded;
-use asn1_schema_constraints::Constraints;
+use asn1_schema_constraints::{Bounded, Constraints};
 use asn1_schema_decode::{Decode, Decoder as Reading};
 use asn1_schema_faults::DecodeError;
 use asn1_schema_tags::{Class, Tag};

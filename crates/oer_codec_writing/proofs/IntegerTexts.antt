@@ -11,11 +11,11 @@ use Rattle.asn1_model.specs.Schema.{Range}
 use Rattle.asn1_model.specs.Numbers.{digits, width, octet_width, least_octets, signed_octets, complement, is_at_most, is_from, is_to, is_within, fits_128}
 use Rattle.asn1_model.specs.Oer
 use Rattle.asn1_model.specs.Tables.{is_bounded}
-use Rattle.asn1_schema_bounds.proofs.Common.{number_order}
-use Rattle.asn1_schema_bounds.proofs.WidthLaws.{width_natural}
-use Rattle.asn1_schema_bounds.proofs.Meets.{is_above, is_below, later_admits, earlier_admits}
-use Rattle.asn1_schema_bounds.specs.Bounds.{lower, upper, later, earlier}
-use Rattle.asn1_schema_bounds.specs.Widths.{has_sign, fixed_width}
+use Rattle.asn1_schema_constraints.proofs.Common.{number_order}
+use Rattle.asn1_schema_constraints.proofs.WidthLaws.{width_natural}
+use Rattle.asn1_schema_constraints.proofs.Meets.{is_above, is_below, later_admits, earlier_admits}
+use Rattle.asn1_schema_constraints.specs.Bounds.{lower, upper, later, earlier}
+use Rattle.asn1_schema_constraints.specs.Widths.{has_sign, fixed_width}
 use Rattle.asn1_schema_constraints.specs.Terms.{bounds_of, held_of}
 use Rattle.asn1_schema_constraints.specs.declared.extensions.Extensible.{Extensible}
 use Rattle.asn1_schema_constraints.specs.declared.parts.Value.{Value}

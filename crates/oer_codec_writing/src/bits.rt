@@ -5,7 +5,7 @@ ghost use Rattle.asn1_model.specs.Numbers.{missing, packed};
 ghost use Rattle.asn1_model.specs.Oer.{bit_string_form, form};
 ghost use Rattle.asn1_model.specs.Schema.{bit_string};
 ghost use Rattle.asn1_model.specs.Value.{bit_list};
-ghost use Rattle.asn1_schema_bounds.specs.Bounds.{counts_of};
+ghost use Rattle.asn1_schema_constraints.specs.Bounds.{counts_of};
 ghost use Rattle.asn1_schema_constraints.specs.Terms.{sizes_of};
 ghost use Rattle.asn1_values_bits.specs.BitStr.{bits_of};
 ghost use Rattle.asn1_values_bits.specs.Octets.{filled_up};
@@ -13,8 +13,7 @@ ghost use Rattle.oer_codec_writing.specs.Writing.{Adds, Refuses};
 
 use crate::lengths::push_length;
 use crate::sizes::{admits, is_fixed};
-use asn1_schema_bounds::Bounded;
-use asn1_schema_constraints::Constraints;
+use asn1_schema_constraints::{Bounded, Constraints};
 use asn1_schema_faults::EncodeError;
 use asn1_values_bits::BitStr;
 

@@ -1,11 +1,11 @@
 //! The forms of whole numbers between bounds (X.696 10).
 ghost use Rattle.std.specs.Prelude.{◌≡◌, ℤ, cond};
 ghost use Rattle.asn1_model.specs.Oer.{fixed_octets, bounded, natural_form, signed_form};
-ghost use Rattle.asn1_schema_bounds.specs.Bounds.{lower, upper};
-ghost use Rattle.asn1_schema_bounds.specs.Widths.{has_sign, fixed_width};
+ghost use Rattle.asn1_schema_constraints.specs.Bounds.{lower, upper};
+ghost use Rattle.asn1_schema_constraints.specs.Widths.{has_sign, fixed_width};
 
 use crate::digits::{natural_len, signed_len};
-use asn1_schema_bounds::Bounded;
+use asn1_schema_constraints::Bounded;
 
 /// In which form INTEGER is written under these bounds (X.696 10): whether it has a sign, and in how many octets, 1, 2, 4 or 8, if their
 /// number is always the same.
@@ -43,7 +43,7 @@ fn octets_of_range(start: Option<i128>, end: Option<i128>) -> Option<u8>
 
 /// How many octets the fixed form of the numbers between two bounds has.
 #[inline]
-#[tactic(auto, using(asn1_schema_bounds::proofs::WidthLaws::width_signed, asn1_schema_bounds::proofs::WidthLaws::width_crossed))]
+#[tactic(auto, using(asn1_schema_constraints::proofs::WidthLaws::width_signed, asn1_schema_constraints::proofs::WidthLaws::width_crossed))]
 fn octets_between(low: i128, high: i128) -> Option<u8>
     ensures { result ≡ fixed_width (Some low) (Some high) }
 {

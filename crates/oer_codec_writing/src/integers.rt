@@ -4,7 +4,7 @@ ghost use Rattle.asn1_model.specs.Form.{written};
 ghost use Rattle.asn1_model.specs.Numbers.{is_within, signed_octets};
 ghost use Rattle.asn1_model.specs.Oer.{bounded, integer_form, natural_form, signed_form};
 ghost use Rattle.asn1_model.specs.Schema.{Range};
-ghost use Rattle.asn1_schema_bounds.specs.Bounds.{admits_number, lower, upper};
+ghost use Rattle.asn1_schema_constraints.specs.Bounds.{admits_number, lower, upper};
 ghost use Rattle.asn1_schema_constraints.specs.Terms.{bounds_of, held_of};
 ghost use Rattle.asn1_values_natives.specs.Octets.{is_below_zero};
 ghost use Rattle.oer_codec_writing.specs.Writing.{Adds, Refuses};
@@ -12,10 +12,9 @@ ghost use Rattle.oer_codec_writing.specs.Writing.{Adds, Refuses};
 use crate::digits::{natural_len, push_counted_digits, push_digits, signed_len};
 use crate::forms::form_under;
 use crate::lengths::push_counted;
-use asn1_schema_bounds::Bounded;
-use asn1_schema_constraints::{Constraints, Extensible, Value};
+use asn1_schema_constraints::{Bounded, Constraints, Extensible, Value};
 use asn1_schema_faults::EncodeError;
-use asn1_values_integer_types::IntegerType;
+use asn1_values_integers::IntegerType;
 
 /// Adds a number with a sign, in so many octets or in its fewest behind their number (X.696 10).
 #[inline]

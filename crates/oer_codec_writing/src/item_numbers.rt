@@ -4,7 +4,7 @@ ghost use Rattle.asn1_model.specs.Form.{written};
 ghost use Rattle.asn1_model.specs.Oer.{item_form};
 
 use asn1_schema_faults::EncodeError;
-use asn1_values_integer_types::IntegerType;
+use asn1_values_integers::IntegerType;
 
 /// Adds the number of an item (X.696 11): one octet for 0 to 127, else the fewest octets of two's complement behind
 /// 0x80 and how many they are.

@@ -4,13 +4,12 @@ ghost use Rattle.asn1_model.specs.Form.{written};
 ghost use Rattle.asn1_model.specs.Oer.{admits as admits_count, is_fixed as has_one_size, octets_form, form};
 ghost use Rattle.asn1_model.specs.Schema.{octet_string};
 ghost use Rattle.asn1_model.specs.Value.{octet_list};
-ghost use Rattle.asn1_schema_bounds.specs.Bounds.{counts_of};
+ghost use Rattle.asn1_schema_constraints.specs.Bounds.{counts_of};
 ghost use Rattle.asn1_schema_constraints.specs.Terms.{sizes_of};
 ghost use Rattle.oer_codec_writing.specs.Writing.{Adds, Refuses};
 
 use crate::lengths::push_counted;
-use asn1_schema_bounds::Bounded;
-use asn1_schema_constraints::Constraints;
+use asn1_schema_constraints::{Bounded, Constraints};
 use asn1_schema_faults::EncodeError;
 
 /// Whether the program's type holds so many, and a size constraint without a mark admits them.

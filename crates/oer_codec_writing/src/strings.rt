@@ -12,8 +12,7 @@ ghost use Rattle.oer_codec_writing.specs.Writing.{Adds, Refuses};
 
 use crate::lengths::push_length;
 use crate::sizes::{admits, is_fixed, push_sized};
-use asn1_schema_bounds::Bounded;
-use asn1_schema_constraints::Constraints;
+use asn1_schema_constraints::{Bounded, Constraints};
 use asn1_schema_faults::EncodeError;
 use asn1_values_alphabets::StaticPermittedAlphabet;
 

@@ -13,11 +13,11 @@ use Rattle.asn1_schema_presented.specs.Presents.{presents, Fits}
 use Rattle.asn1_schema_presented.specs.Chains.{Chain}
 use Rattle.asn1_schema_presented.specs.Tables.{IsValue}
 use Rattle.per_codec_encoder.specs.Stepping.{Written, Puts}
-use Rattle.per_codec_steps.specs.Steps.{State, run, runs}
-use Rattle.per_codec_steps.specs.Ties.{octets_of}
-use Rattle.per_codec_steps.specs.Written.{IsWriter, HasOctets}
-use Rattle.per_codec_steps.proofs.Chains.{messages}
-use Rattle.per_codec_steps.proofs.Written.{writes_the_octets, refuses_only_none}
+use Rattle.per_codec_encoder.specs.Steps.{State, run, runs}
+use Rattle.per_codec_encoder.specs.Ties.{octets_of}
+use Rattle.per_codec_encoder.specs.Written.{IsWriter, HasOctets}
+use Rattle.per_codec_encoder.proofs.Chains.{messages}
+use Rattle.per_codec_encoder.proofs.Written.{writes_the_octets, refuses_only_none}
 use Rattle.per_codec.specs.Encoded.{IsEncoded, HasText, NotEncoded}
 
 -- the encoder is a writer

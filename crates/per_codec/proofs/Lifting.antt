@@ -2,7 +2,7 @@
 use Rattle.std.proofs.Common.{◌≡◌, ℕ, Bool, false, List, [], ◌∷◌, refl, ap, sym, ◌∙◌, subst}
 use Rattle.asn1_schema_presented.specs.Records.{Record}
 use Rattle.asn1_schema_presented.specs.Chains.{Chain}
-use Rattle.asn1_schema_levels.specs.Levels.{Level}
+use Rattle.asn1_schema_presented.specs.Levels.{Level}
 use Rattle.per_codec_reading.specs.Fronts.{freedoms, is_aligned}
 use Rattle.per_codec_fronts.specs.Takes.{State, Takes}
 use Rattle.per_codec_decoder.specs.Held.{Held, Finds, kept, state_of}

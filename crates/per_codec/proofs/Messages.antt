@@ -9,12 +9,12 @@ use Rattle.asn1_model.specs.Form.{Reads}
 use Rattle.asn1_model.specs.Numbers.{octet_bits}
 use Rattle.asn1_model.specs.Per
 use Rattle.asn1_model.specs.Rules.{IsEncoding}
-use Rattle.asn1_laws_fronts_packed.proofs.Units.{complete_whole}
+use Rattle.asn1_laws_fronts.proofs.Units.{complete_whole}
 use Rattle.asn1_schema_decode.specs.Reads.{Reads as ReadsValue, Unread}
 use Rattle.asn1_schema_faults.specs.declared.DecodeError.{DecodeError}
-use Rattle.asn1_schema_levels.proofs.Levels.{nests}
-use Rattle.asn1_schema_messages.specs.Messages.{HasMessage, Tells, NoMessage}
-use Rattle.asn1_schema_messages.proofs.Nesting.{no_deeper}
+use Rattle.asn1_schema_presented.proofs.Levels.{nests}
+use Rattle.asn1_schema_decode.specs.Messages.{HasMessage, Tells, NoMessage}
+use Rattle.asn1_schema_decode.proofs.Nesting.{no_deeper}
 use Rattle.asn1_schema_presented.specs.Chains.{Chain}
 use Rattle.asn1_schema_presented.specs.Presents.{presents, Fits}
 use Rattle.asn1_schema_presented.proofs.OneValue.{one_value}

@@ -1,6 +1,6 @@
 -- Of all beginnings of some octets one at most is an encoding.
 use Rattle.asn1_laws_fronts.specs.Laws.{OneFrontIn}
-use Rattle.asn1_laws_fronts_packed.proofs.Forms.{one_front_uper, one_front_aper}
+use Rattle.asn1_laws_fronts.proofs.Forms.{one_front_uper, one_front_aper}
 use Rattle.per_codec_reading.specs.declared.variant.Variant.{Variant}
 use Rattle.per_codec_reading.specs.declared.variant.Variant.TheVariants.{Unaligned, Aligned}
 use Rattle.per_codec.specs.Messages.{rules_of}

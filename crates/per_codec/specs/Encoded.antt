@@ -7,7 +7,7 @@ use Rattle.asn1_model.specs.Rules.{uper, aper, uper_strict, aper_strict, encodin
 use Rattle.asn1_schema_faults.specs.declared.EncodeError.{EncodeError}
 use Rattle.asn1_schema_faults.specs.declared.EncodeError.TheVariants.{TooLongValue, OutOfMemory}
 use Rattle.asn1_schema_presented.specs.Presents.{Fits}
-use Rattle.per_codec_steps.specs.Written.{HasOctets}
+use Rattle.per_codec_encoder.specs.Written.{HasOctets}
 
 -- These octets are the canonical encoding of the value (X.691), in the aligned variant or in the other, in whatever depth its type is unfolded.
 abbrev pub IsEncoded : Bool → (ℕ → Schema) → Value → List ℕ → Type 0

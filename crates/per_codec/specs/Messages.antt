@@ -1,6 +1,6 @@
 -- The rules of the calls, and that what they tell is one value.
 use Rattle.asn1_model.specs.Rules.{Rules, uper, aper}
-use Rattle.asn1_schema_messages.specs.Messages.{OneMessageIn}
+use Rattle.asn1_schema_decode.specs.Messages.{OneMessageIn}
 use Rattle.per_codec_reading.specs.declared.variant.Variant.{Variant}
 use Rattle.per_codec_reading.specs.declared.variant.Variant.TheVariants.{Unaligned, Aligned}
 

@@ -1,7 +1,7 @@
 //! A value is read from the front of octets.
 ghost use Rattle.std.specs.Prelude.{ℕ, List, IfOk, IfErr};
 ghost use Rattle.asn1_model.specs.Lawful.{IsLawful};
-ghost use Rattle.asn1_schema_messages.specs.Messages.{Tells, NoMessage};
+ghost use Rattle.asn1_schema_decode.specs.Messages.{Tells, NoMessage};
 ghost use Rattle.per_codec.specs.Messages.{rules_of};
 
 use asn1_schema_constraints::Constraints;

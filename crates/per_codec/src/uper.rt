@@ -2,7 +2,7 @@
 ghost use Rattle.std.specs.Prelude.{◌≡◌, [], ℕ, List, OnOk, OnErr, IfOk, IfErr, false};
 ghost use Rattle.asn1_model.specs.Lawful.{IsLawful};
 ghost use Rattle.asn1_model.specs.Rules.{uper};
-ghost use Rattle.asn1_schema_messages.specs.Messages.{NoMessage, Tells};
+ghost use Rattle.asn1_schema_decode.specs.Messages.{NoMessage, Tells};
 ghost use Rattle.per_codec.specs.Encoded.{IsEncoded, NotEncoded};
 
 use asn1_schema_constraints::Constraints;

@@ -2,7 +2,7 @@
 use Rattle.std.proofs.Common.{◌≡◌, ℕ, zero, suc, ◌+◌, ◌<◌, ◌==◌, ◌*◌, ◌/◌, ◌%◌, ◌^◌, Bool, true, false, IsTrue, inr, List, [], ◌∷◌, length, replicate, refl, sym, ◌∙◌, ap, subst, length-append, arith}
 use Rattle.std.proofs.lemmas.Bool.{eq-eqb, eqb-true}
 use Rattle.asn1_model.specs.Numbers.{binary, missing, octet_bits, packed}
-use Rattle.asn1_laws.proofs.Octets.{packed_back, packed_octets}
+use Rattle.asn1_laws_values.proofs.Octets.{packed_back, packed_octets}
 use Rattle.asn1_model.specs.Form.{Reads, exactly, only_if}
 use Rattle.asn1_model.specs.Per
 use Rattle.per_codec_fronts.specs.Takes.{Place, Scope, State, Front, Closes, completion}
@@ -12,7 +12,7 @@ use Rattle.asn1_values_bits.proofs.Binary.{low_zeros, binary_zero}
 use Rattle.std.proofs.Math.Nat.{mod-eq_of_lt}
 use Rattle.per_codec_decoder.specs.Held.{Held}
 use Rattle.per_codec_decoder.specs.Endings.{IsClosed}
-use Rattle.per_codec_decoder_scopes.proofs.Leading.{front_of, leads_of, too_many, left_behind}
+use Rattle.per_codec_decoder.proofs.Leading.{front_of, leads_of, too_many, left_behind}
 
 -- ---- the end of a message
 filled_to : (free : Per.Freedom → Bool) (w : List Bool) (n : ℕ) (a b : Place) → IsTrue (free Per.any_filling) → length w ≡ missing (suc n) → Leads w a b → Front free (completion (suc n)) a b

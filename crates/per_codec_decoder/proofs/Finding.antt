@@ -1,7 +1,7 @@
 -- How a record that is asked for is found in front, and why none is.
 use Rattle.std.proofs.Common.{◌≡◌, ℕ, ℤ, suc, ◌+◌, Bool, true, false, ◌||◌, ◌&&◌, List, ◌∷◌, length, Some, Result, Ok, Err, refl, sym, ◌∙◌, ap, subst, arith}
 use Rattle.std.specs.Prelude.{OnOk, not}
-use Rattle.asn1_schema_levels.specs.Levels.{level}
+use Rattle.asn1_schema_presented.specs.Levels.{level}
 use Rattle.asn1_model.specs.Value.{Value, truth, nothing, number, item, bit_list, octet_list, text, arcs}
 use Rattle.asn1_model.specs.Schema.{Range, Bounds, Counts, Size, Alphabet, StringKind, Schema, boolean, null, integer, enumerated, bit_string, octet_string, character_string, object_identifier}
 use Rattle.asn1_model.specs.Lawful.{is_alphabet}
@@ -17,9 +17,9 @@ use Rattle.per_codec_fronts.specs.Takes.{Place, Scope, components, State, Front,
 use Rattle.per_codec_fronts.proofs.Fronts.{if_out}
 use Rattle.per_codec_reading.specs.Fronts.{freedoms, is_aligned, Misses}
 use Rattle.per_codec_decoder.specs.Held.{Held, state_of, kept, Finds, IsReady}
-use Rattle.per_codec_decoder_scopes.specs.Members.{NoFurther}
-use Rattle.per_codec_decoder_scopes.specs.Preamble.{HasPreamble}
-use Rattle.per_codec_decoder_scopes.proofs.Counting.{missed}
+use Rattle.per_codec_decoder.specs.Members.{NoFurther}
+use Rattle.per_codec_decoder.specs.Preamble.{HasPreamble}
+use Rattle.per_codec_decoder.proofs.Counting.{missed}
 
 -- ---- scalars
 module _ (al : Bool) (free : Per.Freedom → Bool) (a b : State) where

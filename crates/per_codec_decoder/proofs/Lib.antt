@@ -3,3 +3,5 @@ pub mod Ascending
 pub mod Finding
 pub mod Settling
 pub mod Opening
+pub mod Leading
+pub mod Counting

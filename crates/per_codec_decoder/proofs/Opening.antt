@@ -2,7 +2,7 @@
 use Rattle.std.proofs.Common.{◌≡◌, ℕ, zero, suc, ◌+◌, ◌-◌, ◌/◌, ◌<◌, ◌≤◌, ltb, cond, Bool, true, false, IsTrue, inr, List, [], ◌∷◌, length, drop, Some, None, Result, Ok, Err, IfErr, refl, sym, ◌∙◌, ap, subst, arith}
 use Rattle.std.specs.Prelude.{OnOk, not, ◌&&◌}
 use Rattle.std.proofs.lemmas.Bool.{ltb-true, lt-ltb}
-use Rattle.asn1_schema_levels.specs.Levels.{level}
+use Rattle.asn1_schema_presented.specs.Levels.{level}
 use Rattle.asn1_model.specs.Schema.{Counts, Size, Tag}
 use Rattle.asn1_model.specs.Numbers.{octet_bits, is_count_within}
 use Rattle.asn1_model.specs.Per
@@ -17,24 +17,24 @@ use Rattle.per_codec_reading.specs.Fronts.{freedoms, is_aligned, Leads, Misses}
 use Rattle.per_codec_reading.specs.declared.variant.Variant.{Variant}
 use Rattle.per_codec_reading.specs.declared.variant.Variant.TheVariants.{Unaligned, Aligned}
 use Rattle.per_codec_decoder.specs.Held.{Held, state_of, kept, kept_outside, lends_behind, Finds, IsReady, Moves, Enters, EntersMembers, EntersComponents, NotMembers, NotComponents, HasOpened, NoOpening, HasPassed}
-use Rattle.per_codec_decoder_scopes.specs.Preamble.{HasBitmap, NoBitmap}
-use Rattle.per_codec_decoder_scopes.specs.Scopes.{NoAdditions, Flags, NoFlag, Leaves, NoEnd, LeavesAddition, NoAdditionEnd}
+use Rattle.per_codec_decoder.specs.Preamble.{HasBitmap, NoBitmap}
+use Rattle.per_codec_decoder.specs.Scopes.{NoAdditions, Flags, NoFlag, Leaves, NoEnd, LeavesAddition, NoAdditionEnd}
 use Rattle.per_codec_decoder.specs.Endings.{IsClosed, Passes, NotPassed}
-use Rattle.per_codec_decoder_scopes.specs.declared.frames.Ending.{Ending}
-use Rattle.per_codec_decoder_scopes.specs.declared.frames.Ending.TheVariants.{Nothing, Unknown, OpenType as Filled}
+use Rattle.per_codec_decoder.specs.declared.frames.Ending.{Ending}
+use Rattle.per_codec_decoder.specs.declared.frames.Ending.TheVariants.{Nothing, Unknown, OpenType as Filled}
 use Rattle.asn1_schema_variants.specs.declared.chosen.Chosen.{Chosen}
 use Rattle.per_codec_fronts.proofs.Next.{place_same, state_same, same_fronts}
 use Rattle.asn1_laws_fronts.proofs.PerNumbers.{constrained_alike}
-use Rattle.asn1_laws_fronts_packed.proofs.Units.{small_alike}
+use Rattle.asn1_laws_fronts.proofs.Units.{small_alike}
 use Rattle.per_codec_fronts.proofs.Fronts.{split, if_out}
-use Rattle.per_codec_reading_units.specs.Sizes.{size_mark}
-use Rattle.per_codec_reading_units.proofs.SizedFronts.{mark_one}
+use Rattle.per_codec_reading.specs.Sizes.{size_mark}
+use Rattle.per_codec_reading.proofs.SizedFronts.{mark_one}
 use Rattle.per_codec_reading_values.specs.Places.{place_form, added_form, root_form}
 use Rattle.per_codec_reading_values.proofs.PlaceFronts.{root_told, added_told, root_is, added_is}
 use Rattle.per_codec_reading_values.specs.Fields.{octets_form}
 use Rattle.per_codec_reading_values.specs.Stretches.{Stretched}
 use Rattle.per_codec_reading_values.proofs.FieldFronts.{octets_of, octets_read, units_told}
-use Rattle.per_codec_decoder_scopes.proofs.Counting.{missed}
+use Rattle.per_codec_decoder.proofs.Counting.{missed}
 use Rattle.per_codec_decoder.proofs.Finding.{begins}
 use Rattle.per_codec_decoder.proofs.Settling.{steps, moves_there}
 

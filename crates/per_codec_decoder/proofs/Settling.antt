@@ -1,7 +1,7 @@
 -- How a decoder goes on behind what a reader found, and fails as it did.
 use Rattle.std.proofs.Common.{◌≡◌, ℕ, zero, suc, ◌+◌, ltb, Bool, true, false, IsTrue, inl, inr, List, [], ◌∷◌, ◌++◌, Option, Some, None, Result, Ok, Err, IfOk, IfErr, refl, sym, ◌∙◌, ap, subst, arith}
 use Rattle.std.specs.Prelude.{OnOk}
-use Rattle.asn1_schema_levels.specs.Levels.{level}
+use Rattle.asn1_schema_presented.specs.Levels.{level}
 use Rattle.asn1_model.specs.Schema.{Counts, Size, Alphabet, StringKind, Schema, character_string}
 use Rattle.asn1_model.specs.Lawful.{is_alphabet}
 use Rattle.asn1_model.specs.Per
@@ -12,8 +12,8 @@ use Rattle.per_codec_fronts.specs.Takes.{Place, Scope, members, State, Tally, Fr
 use Rattle.per_codec_reading.specs.Fronts.{freedoms, is_aligned, Leads, Misses}
 use Rattle.per_codec_reading.proofs.Fronts.{leads_join}
 use Rattle.per_codec_decoder.specs.Held.{Held, state_of, kept, Finds, IsReady, Stays, Moves, EntersMembers, EntersComponents}
-use Rattle.per_codec_decoder_scopes.specs.Preamble.{HasPreamble}
-use Rattle.per_codec_decoder_scopes.specs.Members.{HasMembers}
+use Rattle.per_codec_decoder.specs.Preamble.{HasPreamble}
+use Rattle.per_codec_decoder.specs.Members.{HasMembers}
 use Rattle.per_codec_decoder.proofs.Finding.{OfType, none_found, none_of_alphabet}
 
 -- a record is found

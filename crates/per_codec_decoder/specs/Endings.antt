@@ -4,8 +4,8 @@ use Rattle.asn1_model.specs.Per
 use Rattle.asn1_schema_faults.specs.declared.DecodeError.{DecodeError}
 use Rattle.asn1_schema_faults.specs.declared.DecodeError.TheVariants.{OutOfMemory}
 use Rattle.per_codec_fronts.specs.Takes.{Place, State, Scope, Closes, Skips}
-use Rattle.per_codec_decoder_scopes.specs.declared.frames.Ending.{Ending}
-use Rattle.per_codec_decoder_scopes.specs.declared.frames.Ending.TheVariants.{Nothing, Unknown, OpenType as Filled}
+use Rattle.per_codec_decoder.specs.declared.frames.Ending.{Ending}
+use Rattle.per_codec_decoder.specs.declared.frames.Ending.TheVariants.{Nothing, Unknown, OpenType as Filled}
 
 -- What stands in an open type behind its value, up to its end, may stand there: a reader with the freedoms takes it.
 abbrev pub IsClosed : Place → Type 0

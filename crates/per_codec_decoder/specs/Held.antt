@@ -6,15 +6,15 @@ use Rattle.asn1_schema_faults.specs.declared.CodecKind.TheVariants.{Uper, Aper}
 use Rattle.asn1_schema_faults.specs.declared.DecodeError.{DecodeError}
 use Rattle.asn1_schema_faults.specs.declared.DecodeError.TheVariants.{OutOfMemory}
 use Rattle.asn1_schema_presented.specs.Records.{Record, addition, addition_ends, choice_begins, ends}
-use Rattle.asn1_schema_levels.specs.Levels.{level}
+use Rattle.asn1_schema_presented.specs.Levels.{level}
 use Rattle.per_codec_reading.specs.Fronts.{freedoms, is_aligned, Leads}
 use Rattle.per_codec_reading.specs.declared.variant.Variant.{Variant}
 use Rattle.per_codec_reading.specs.declared.variant.Variant.TheVariants.{Unaligned, Aligned}
 use Rattle.per_codec_fronts.specs.Takes.{Place, Scope, State, Tally, members, open_type, Opens, Takes}
-use Rattle.per_codec_decoder_scopes.specs.Members.{HasMembers, NoMembers}
-use Rattle.per_codec_decoder_scopes.specs.Preamble.{HasPreamble, NoPreamble}
-use Rattle.per_codec_decoder_scopes.specs.declared.frames.Ending.{Ending}
-use Rattle.per_codec_decoder_scopes.specs.declared.frames.Ending.TheVariants.{Nothing, Unknown, OpenType as Filled}
+use Rattle.per_codec_decoder.specs.Members.{HasMembers, NoMembers}
+use Rattle.per_codec_decoder.specs.Preamble.{HasPreamble, NoPreamble}
+use Rattle.per_codec_decoder.specs.declared.frames.Ending.{Ending}
+use Rattle.per_codec_decoder.specs.declared.frames.Ending.TheVariants.{Nothing, Unknown, OpenType as Filled}
 
 -- What is held: the place in the message and the bits that are left, the open scopes, how many more levels may be nested, how many were so at
 -- the beginning, whether the decoder has failed, the variant that it reads, and whether the input is known to lend the bits, of which the

@@ -3,12 +3,12 @@ ghost use Rattle.std.specs.Cow.{cow_slice_items, IsBorrowedSlice};
 ghost use Rattle.std.specs.Prelude.{◌≡◌, ◌+◌, ◌-◌, ◌%◌, ◌<◌, ◌≤◌, ◌^◌, [], ◌∷◌, true, false, length, take, OnOk, OnErr, IfErr, IfOk};
 ghost use Rattle.per_codec_decoder.specs.Held.{Held, Finds, HasFailed, kind_of, IsReady, Stays, Moves, Enters, HasOpened, HasPassed, NoOpening, EntersMembers, EntersComponents, NotMembers, NotComponents};
 ghost use Rattle.per_codec_decoder.specs.Endings.{Passes, NotPassed};
-ghost use Rattle.per_codec_decoder_scopes.specs.Scopes.{scope_of, scope_around};
-ghost use Rattle.asn1_schema_bounds.specs.Bounds.{counts_of, members_of};
+ghost use Rattle.per_codec_decoder.specs.Scopes.{scope_of, scope_around};
+ghost use Rattle.asn1_schema_constraints.specs.Bounds.{counts_of, members_of};
 ghost use Rattle.asn1_schema_decode.specs.Reads.{NoRecord};
 ghost use Rattle.asn1_schema_presented.specs.Records.{octets, asks_octets};
-ghost use Rattle.per_codec_reading_units.specs.Runs.{InOneRun, StandsIn};
-ghost use Rattle.per_codec_reading_units.specs.Sizes.{surely_told};
+ghost use Rattle.per_codec_reading.specs.Runs.{InOneRun, StandsIn};
+ghost use Rattle.per_codec_reading.specs.Sizes.{surely_told};
 ghost use Rattle.asn1_schema_constraints.specs.Terms.{sizes_of};
 ghost use Rattle.asn1_model.specs.Numbers.{octet_bits, is_count_within};
 ghost use Rattle.asn1_values_bits.specs.BitStr.{bits_of};
@@ -19,8 +19,10 @@ use crate::alphabets::is_alphabet;
 use crate::completion::{read_completion, read_to_end};
 use crate::octets::read_held_octets;
 use crate::options::DecoderOptions;
-use asn1_schema_bounds::Bounded;
-use asn1_schema_constraints::Constraints;
+use crate::{
+    Additions, Enclosing, Ending, Frame, Scopes, read_bitmap, read_members, read_preamble,
+};
+use asn1_schema_constraints::{Bounded, Constraints};
 use asn1_schema_faults::{CodecKind, DecodeError};
 use asn1_schema_tags::Tag;
 use asn1_schema_variants::{Chosen, Enumerated};
@@ -28,14 +30,10 @@ use asn1_values_alphabets::StaticPermittedAlphabet;
 use asn1_values_bit_strings::BitString;
 use asn1_values_bits::BitStr;
 use asn1_values_identifiers::ObjectIdentifier;
-use asn1_values_integer_types::IntegerType;
-use per_codec_decoder_scopes::{
-    Additions, Enclosing, Ending, Frame, Scopes, read_bitmap, read_members, read_preamble,
-};
-use per_codec_reading::Variant;
+use asn1_values_integers::IntegerType;
 use per_codec_reading::units::{read_boolean, read_null};
-use per_codec_reading_units::{
-    read_bit_string, read_object_identifier, read_octet_string_in, read_utf8_string,
+use per_codec_reading::{
+    Variant, read_bit_string, read_object_identifier, read_octet_string_in, read_utf8_string,
 };
 use per_codec_reading_values::{
     Field, Stretch, read_characters, read_integer, read_item, read_place_of_alternative,

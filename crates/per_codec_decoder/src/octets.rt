@@ -4,16 +4,14 @@ ghost use Rattle.std.specs.Cow.{cow_slice_items};
 ghost use Rattle.asn1_model.specs.Per as Per;
 ghost use Rattle.asn1_model.specs.Schema as Asn1;
 ghost use Rattle.asn1_model.specs.Value as Asn1Value;
-ghost use Rattle.asn1_schema_bounds.specs.Bounds.{counts_of};
+ghost use Rattle.asn1_schema_constraints.specs.Bounds.{counts_of};
 ghost use Rattle.asn1_schema_constraints.specs.Terms.{sizes_of};
 ghost use Rattle.per_codec_fronts.specs.Takes.{Front};
 ghost use Rattle.per_codec_reading.specs.Fronts.{freedoms, is_aligned, Misses};
 
-use asn1_schema_bounds::Bounded;
-use asn1_schema_constraints::Constraints;
+use asn1_schema_constraints::{Bounded, Constraints};
 use asn1_schema_faults::DecodeError;
-use per_codec_reading::{Cursor, Variant};
-use per_codec_reading_units::read_octet_string;
+use per_codec_reading::{Cursor, Variant, read_octet_string};
 use std::alloc::Global;
 
 /// Reads a string of octets (X.691 17) as [`read_octet_string`] does, and copies those that are lent.

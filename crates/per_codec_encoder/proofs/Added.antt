@@ -2,9 +2,9 @@
 use Rattle.std.proofs.Common.{◌≡◌, ℕ, zero, suc, ◌-◌, ◌<◌, Bool, true, false, cond, List, [], ◌∷◌, ◌++◌, length, reverse, Option, Some, None, option_map, Vec, Global, refl, ap, subst, sym, ◌∙◌, arith}
 use Rattle.std.proofs.lemmas.List.{append-nil}
 use Rattle.asn1_schema_presented.specs.Records.{additions_begin, addition, addition_ends}
-use Rattle.per_codec_texts.specs.Texts.{Text, as_text, plain}
+use Rattle.per_codec_packing.specs.Texts.{Text, as_text, plain}
 use Rattle.per_codec_packing.specs.Packed.{Packed, solid}
-use Rattle.per_codec_steps.specs.Steps.{components, added, open_type, State, added_one, run}
+use Rattle.per_codec_encoder.specs.Steps.{components, added, open_type, State, added_one, run}
 use Rattle.per_codec_encoder.specs.declared.frame.Additions.{Additions}
 use Rattle.per_codec_encoder.specs.declared.frame.Frame.{Frame}
 use Rattle.per_codec_encoder.specs.declared.frame.Place.{Place}

@@ -3,15 +3,15 @@ use Rattle.std.proofs.Common.{◌≡◌, ℕ, ◌≤◌, Bool, false, List, [], 
 use Rattle.std.proofs.lemmas.List.{take_at}
 use Rattle.asn1_model.specs.Per
 use Rattle.asn1_model.specs.Schema.{Size, Counts}
-use Rattle.asn1_schema_bounds.specs.Bounds.{members_of}
-use Rattle.asn1_schema_bounds.specs.declared.bounds.Bounded.{Bounded}
+use Rattle.asn1_schema_constraints.specs.Bounds.{members_of}
+use Rattle.asn1_schema_constraints.specs.declared.bounds.Bounded.{Bounded}
 use Rattle.asn1_schema_faults.specs.declared.EncodeError.{EncodeError}
 use Rattle.asn1_schema_faults.specs.declared.EncodeError.TheVariants.{ValueConstraintNotSatisfied, SizeConstraintNotSatisfied, AlphabetConstraintNotSatisfied, TooLongValue, LengthExceedsPlatformSize, OutOfMemory, AlreadyFailed}
 use Rattle.asn1_schema_presented.specs.Records.{bag_begins, further, ends}
-use Rattle.per_codec_texts.specs.Texts.{Text, text_at}
+use Rattle.per_codec_packing.specs.Texts.{Text, text_at}
 use Rattle.per_codec_packing.specs.Packed.{Packed, place, plus, solid}
 use Rattle.per_codec_packing.proofs.Adding.{added}
-use Rattle.per_codec_steps.specs.Steps.{Scope, bag_members, State, list_heading, with_open, bag_opened, closed_bag, adds_text, run}
+use Rattle.per_codec_encoder.specs.Steps.{Scope, bag_members, State, list_heading, with_open, bag_opened, closed_bag, adds_text, run}
 use Rattle.per_codec_writing.specs.Writing.{Adds, Refuses}
 use Rattle.per_codec_encoder.specs.declared.frame.Bag.{Bag as BagFrame}
 use Rattle.per_codec_encoder.specs.declared.frame.Frame.{Frame}

@@ -6,10 +6,10 @@ use Rattle.asn1_model.specs.Schema.{Tag}
 use Rattle.asn1_schema_faults.specs.declared.EncodeError.{EncodeError}
 use Rattle.asn1_schema_faults.specs.declared.EncodeError.TheVariants.{ValueConstraintNotSatisfied, SizeConstraintNotSatisfied, AlphabetConstraintNotSatisfied, TooLongValue, LengthExceedsPlatformSize, OutOfMemory, AlreadyFailed}
 use Rattle.asn1_schema_presented.specs.Records.{choice_begins}
-use Rattle.per_codec_texts.specs.Texts.{Text, text_at}
+use Rattle.per_codec_packing.specs.Texts.{Text, text_at}
 use Rattle.per_codec_packing.specs.Packed.{Packed, place, plus}
 use Rattle.per_codec_packing.proofs.Adding.{added as text_added}
-use Rattle.per_codec_steps.specs.Steps.{open_type, alternative, position, State, chosen_on, run}
+use Rattle.per_codec_encoder.specs.Steps.{open_type, alternative, position, State, chosen_on, run}
 use Rattle.per_codec_writing.specs.Writing.{Adds, Refuses}
 use Rattle.per_codec_writing.specs.Places.{place_form}
 use Rattle.per_codec_encoder.specs.declared.frame.Frame.{Frame}

@@ -4,12 +4,12 @@ use Rattle.std.proofs.lemmas.List.{append-nil}
 use Rattle.asn1_model.specs.Form.{exactly, is_any_present}
 use Rattle.asn1_model.specs.Per
 use Rattle.asn1_schema_presented.specs.Records.{ends}
-use Rattle.per_codec_texts.specs.Texts.{Text, bit, fill, as_text, plain, on, text_at}
-use Rattle.per_codec_texts.proofs.Texts.{length-text}
+use Rattle.per_codec_packing.specs.Texts.{Text, bit, fill, as_text, plain, on, text_at}
+use Rattle.per_codec_packing.proofs.Texts.{length-text}
 use Rattle.per_codec_packing.specs.Packed.{Packed, Adds, place, plus, solid, with_bit}
 use Rattle.per_codec_packing.proofs.Adding.{added as text_added}
 use Rattle.per_codec_packing.proofs.Bits.{solid-append, changed_behind}
-use Rattle.per_codec_steps.specs.Steps.{added, members, position, State, adds_text, extended_text, run}
+use Rattle.per_codec_encoder.specs.Steps.{added, members, position, State, adds_text, extended_text, run}
 use Rattle.per_codec_writing.specs.Additions.{as_open_types}
 use Rattle.per_codec_writing.proofs.AdditionTexts.{from_here}
 use Rattle.per_codec_encoder.specs.declared.frame.Additions.{Additions}

@@ -7,10 +7,10 @@ use Rattle.asn1_model.specs.Form.{exactly, only_if}
 use Rattle.asn1_model.specs.Per
 use Rattle.asn1_schema_faults.specs.declared.EncodeError.{EncodeError}
 use Rattle.asn1_schema_faults.specs.declared.EncodeError.TheVariants.{ValueConstraintNotSatisfied, SizeConstraintNotSatisfied, AlphabetConstraintNotSatisfied, TooLongValue, LengthExceedsPlatformSize, OutOfMemory, AlreadyFailed}
-use Rattle.per_codec_texts.specs.Texts.{Text, text_at}
+use Rattle.per_codec_packing.specs.Texts.{Text, text_at}
 use Rattle.per_codec_packing.specs.Packed.{Packed, place}
 use Rattle.per_codec_packing.proofs.Adding.{added}
-use Rattle.per_codec_steps.specs.Steps.{Heading, before_all, next_header, general, sized_count}
+use Rattle.per_codec_encoder.specs.Steps.{Heading, before_all, next_header, general, sized_count}
 use Rattle.per_codec_writing.specs.Writing.{Adds, Refuses}
 use Rattle.per_codec_encoder.specs.declared.headings.Due.{Due}
 use Rattle.per_codec_encoder.specs.Headings.{heading_of, Heads, NoHeading}

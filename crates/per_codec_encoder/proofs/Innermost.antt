@@ -5,7 +5,7 @@ use Rattle.asn1_schema_faults.specs.declared.EncodeError.{EncodeError}
 use Rattle.asn1_schema_faults.specs.declared.EncodeError.TheVariants.{OutOfMemory}
 use Rattle.asn1_schema_presented.specs.Records.{Record, further, ends}
 use Rattle.per_codec_packing.specs.Packed.{Packed}
-use Rattle.per_codec_steps.specs.Steps.{State, run}
+use Rattle.per_codec_encoder.specs.Steps.{State, run}
 use Rattle.per_codec_encoder.specs.declared.frame.Frame.{Frame}
 use Rattle.per_codec_encoder.specs.Holding.{Holds, Does, Cannot}
 

@@ -8,3 +8,13 @@ pub mod Ending
 pub mod Choosing
 pub mod Bagging
 pub mod Innermost
+pub mod Bridge
+pub mod Lists
+pub mod Sequences
+pub mod Additions
+pub mod Choices
+pub mod Fills
+pub mod Bags
+pub mod Types
+pub mod Chains
+pub mod Written

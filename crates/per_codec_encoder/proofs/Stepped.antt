@@ -8,12 +8,12 @@ use Rattle.asn1_schema_faults.specs.declared.EncodeError.{EncodeError}
 use Rattle.asn1_schema_faults.specs.declared.EncodeError.TheVariants.{ValueConstraintNotSatisfied, SizeConstraintNotSatisfied, AlphabetConstraintNotSatisfied, TooLongValue, LengthExceedsPlatformSize, OutOfMemory, AlreadyFailed}
 use Rattle.asn1_schema_encode.specs.Writes.{Refused}
 use Rattle.asn1_schema_presented.specs.Records.{Record, nil, sequence_begins, set_begins, group_begins}
-use Rattle.per_codec_texts.specs.Texts.{Text, as_text, plain, text_at}
-use Rattle.per_codec_texts.proofs.Texts.{plain_text}
+use Rattle.per_codec_packing.specs.Texts.{Text, as_text, plain, text_at}
+use Rattle.per_codec_packing.proofs.Texts.{plain_text}
 use Rattle.per_codec_packing.specs.Packed.{Packed, place, plus}
 use Rattle.per_codec_packing.proofs.Adding.{added}
-use Rattle.per_codec_steps.specs.Steps.{State, run, adds_text, adds_form}
-use Rattle.per_codec_steps.specs.Ties.{octets_of}
+use Rattle.per_codec_encoder.specs.Steps.{State, run, adds_text, adds_form}
+use Rattle.per_codec_encoder.specs.Ties.{octets_of}
 use Rattle.per_codec_writing.specs.Writing.{Adds, Refuses}
 use Rattle.per_codec_encoder.specs.declared.frame.Frame.{Frame}
 use Rattle.per_codec_encoder.specs.Holding.{shown, Holds, AreSound, Does, Cannot}

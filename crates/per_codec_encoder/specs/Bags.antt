@@ -2,13 +2,13 @@
 use Rattle.std.specs.Prelude.{◌≡◌, ℕ, Bool, false, List, ◌∷◌, map, Option, Some, None}
 use Rattle.asn1_model.specs.Per
 use Rattle.asn1_model.specs.Schema.{Size}
-use Rattle.asn1_schema_bounds.specs.Bounds.{counts_of, members_of}
-use Rattle.asn1_schema_bounds.specs.declared.bounds.Bounded.{Bounded}
+use Rattle.asn1_schema_constraints.specs.Bounds.{counts_of, members_of}
+use Rattle.asn1_schema_constraints.specs.declared.bounds.Bounded.{Bounded}
 use Rattle.asn1_schema_faults.specs.declared.EncodeError.{EncodeError}
 use Rattle.asn1_schema_faults.specs.declared.EncodeError.TheVariants.{OutOfMemory}
-use Rattle.per_codec_texts.specs.Texts.{Text, as_form}
+use Rattle.per_codec_packing.specs.Texts.{Text, as_form}
 use Rattle.per_codec_packing.specs.Packed.{Packed}
-use Rattle.per_codec_steps.specs.Steps.{Scope, bag_members, counted_in}
+use Rattle.per_codec_encoder.specs.Steps.{Scope, bag_members, counted_in}
 use Rattle.per_codec_encoder.specs.declared.frame.Bag.{Bag}
 
 -- A size of so many, with or without a mark of extensibility.

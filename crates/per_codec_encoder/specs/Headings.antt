@@ -3,9 +3,9 @@ use Rattle.std.specs.Prelude.{◌≡◌, ℕ, Bool, List, ◌∷◌, ◌++◌, O
 use Rattle.asn1_model.specs.Per.{largest_first}
 use Rattle.asn1_schema_faults.specs.declared.EncodeError.{EncodeError}
 use Rattle.asn1_schema_faults.specs.declared.EncodeError.TheVariants.{OutOfMemory}
-use Rattle.per_codec_texts.specs.Texts.{Text}
+use Rattle.per_codec_packing.specs.Texts.{Text}
 use Rattle.per_codec_packing.specs.Packed.{Packed, place, plus}
-use Rattle.per_codec_steps.specs.Steps.{Headers, Scope, members, position, Heading, goes_on_in, counted_on}
+use Rattle.per_codec_encoder.specs.Steps.{Headers, Scope, members, position, Heading, goes_on_in, counted_on}
 use Rattle.per_codec_encoder.specs.declared.headings.Due.{Due}
 
 -- The headers to come in front of so many members, the largest fragments first (X.691 11.9.3.8).

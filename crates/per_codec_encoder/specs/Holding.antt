@@ -4,9 +4,9 @@ use Rattle.std.specs.Prelude.{◌≡◌, ℕ, ◌+◌, ◌^◌, ◌<◌, Bool, t
 use Rattle.asn1_schema_faults.specs.declared.EncodeError.{EncodeError}
 use Rattle.asn1_schema_faults.specs.declared.EncodeError.TheVariants.{OutOfMemory}
 use Rattle.asn1_schema_presented.specs.Records.{Record}
-use Rattle.per_codec_texts.specs.Texts.{Text, as_text}
+use Rattle.per_codec_packing.specs.Texts.{Text, as_text}
 use Rattle.per_codec_packing.specs.Packed.{Packed, solid}
-use Rattle.per_codec_steps.specs.Steps.{components, added, open_type, members, alternative, mark_width, State, run}
+use Rattle.per_codec_encoder.specs.Steps.{components, added, open_type, members, alternative, mark_width, State, run}
 use Rattle.per_codec_encoder.specs.declared.frame.Frame.{Frame}
 use Rattle.per_codec_encoder.specs.declared.frame.Frame.TheVariants.{Components, Added, OpenType, Members, Bag, Alternative}
 use Rattle.per_codec_encoder.specs.declared.frame.Place.{Place}

@@ -1,7 +1,7 @@
 -- The laws of the encoder.
 use Rattle.std.proofs.Common.{◌≡◌, Bool, true, false, Some, sym, ◌∙◌, ap}
 use Rattle.asn1_schema_presented.specs.Records.{Record}
-use Rattle.per_codec_steps.specs.Steps.{State}
+use Rattle.per_codec_encoder.specs.Steps.{State}
 use Rattle.per_codec_encoder.specs.Stepping.{Written, Puts, rules_of}
 
 same_written : (b c : Written) → b.state ≡ c.state → b.aligned ≡ c.aligned → b.failed ≡ c.failed → b ≡ c

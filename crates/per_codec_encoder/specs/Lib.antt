@@ -4,3 +4,7 @@ pub mod Headings
 pub mod Bags
 pub mod Holding
 pub mod Frames
+pub mod Steps
+pub mod Ties
+pub mod Written
+pub mod Rows

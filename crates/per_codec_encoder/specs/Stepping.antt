@@ -3,7 +3,7 @@ use Rattle.std.specs.Prelude.{◌≡◌, Bool, true, false, Some}
 use Rattle.asn1_schema_faults.specs.declared.CodecKind.{CodecKind}
 use Rattle.asn1_schema_faults.specs.declared.CodecKind.TheVariants.{Uper, Aper}
 use Rattle.asn1_schema_presented.specs.Records.{Record}
-use Rattle.per_codec_steps.specs.Steps.{State, run}
+use Rattle.per_codec_encoder.specs.Steps.{State, run}
 use Rattle.per_codec_encoder.specs.declared.options.EncoderOptions.{EncoderOptions}
 
 -- Whether the aligned variant is written.

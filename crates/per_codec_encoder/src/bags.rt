@@ -1,11 +1,11 @@
 //! Bags, whose members are kept until they end.
 ghost use Rattle.std.specs.Prelude.{◌≡◌, MatchResult, IfOk};
 ghost use Rattle.asn1_schema_presented.specs.Records.{bag_begins};
-ghost use Rattle.asn1_schema_bounds.specs.Bounds.{counts_of, members_of};
+ghost use Rattle.asn1_schema_constraints.specs.Bounds.{counts_of, members_of};
 ghost use Rattle.asn1_schema_constraints.specs.Terms.{sizes_of};
 ghost use Rattle.per_codec_packing.specs.Packed.{Adds, place};
-ghost use Rattle.per_codec_steps.specs.Steps.{with_open};
-ghost use Rattle.per_codec_texts.specs.Texts.{text_at};
+ghost use Rattle.per_codec_encoder.specs.Steps.{with_open};
+ghost use Rattle.per_codec_packing.specs.Texts.{text_at};
 ghost use Rattle.per_codec_writing.specs.Writing.{Refuses};
 ghost use Rattle.per_codec_encoder.specs.Bags.{size_of, form_of, GoesOnInBag, NoFurther};
 ghost use Rattle.per_codec_encoder.specs.Holding.{Does, Cannot};
@@ -13,8 +13,7 @@ ghost use Rattle.per_codec_encoder.specs.Holding.{Does, Cannot};
 use crate::frame::{Bag, Frame, Place};
 use crate::frames::Frames;
 use crate::headings::push_heading;
-use asn1_schema_bounds::Bounded;
-use asn1_schema_constraints::{Constraints, Extensible, Size};
+use asn1_schema_constraints::{Bounded, Constraints, Extensible, Size};
 use asn1_schema_faults::EncodeError;
 use per_codec_packing::{Packing, Texts};
 use per_codec_writing::push_bag;

@@ -2,8 +2,8 @@
 ghost use Rattle.std.specs.Prelude.{◌≡◌, OnOk, OnErr, IfOk, IfErr, MatchResult, [], Some, true, false};
 ghost use Rattle.asn1_schema_encode.specs.Writes.{Refused};
 ghost use Rattle.asn1_schema_presented.specs.Records.{one_of};
-ghost use Rattle.per_codec_texts.specs.Texts.{as_text};
-ghost use Rattle.per_codec_steps.specs.Ties.{octets_of};
+ghost use Rattle.per_codec_packing.specs.Texts.{as_text};
+ghost use Rattle.per_codec_encoder.specs.Ties.{octets_of};
 ghost use Rattle.per_codec_encoder.specs.Stepping.{Puts, is_aligned};
 
 use crate::additions::{begin_additions, end_addition, put_addition};
@@ -13,15 +13,14 @@ use crate::ends::end_scope;
 use crate::frames::Frames;
 use crate::options::EncoderOptions;
 use crate::sequences::{begin_components, begin_members, put_further, put_mark};
-use asn1_schema_bounds::Bounded;
-use asn1_schema_constraints::Constraints;
+use asn1_schema_constraints::{Bounded, Constraints};
 use asn1_schema_faults::{CodecKind, EncodeError};
 use asn1_schema_tags::{Identifier, Tag};
 use asn1_schema_variants::{Chosen, Enumerated};
 use asn1_values_alphabets::StaticPermittedAlphabet;
 use asn1_values_bits::{BitBuffer, BitStr};
 use asn1_values_identifiers::Oid;
-use asn1_values_integer_types::IntegerType;
+use asn1_values_integers::IntegerType;
 use per_codec_packing::Packing;
 use per_codec_writing::{
     push_bit_string, push_boolean, push_characters, push_enumerated, push_identifier, push_integer,

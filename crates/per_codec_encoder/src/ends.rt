@@ -4,7 +4,7 @@ ghost use Rattle.asn1_model.specs.Form.{is_any_present};
 ghost use Rattle.asn1_model.specs.Per.{additions};
 ghost use Rattle.asn1_schema_presented.specs.Records.{ends};
 ghost use Rattle.per_codec_packing.specs.Packed.{Adds, place, solid, with_bit};
-ghost use Rattle.per_codec_texts.specs.Texts.{text_at};
+ghost use Rattle.per_codec_packing.specs.Texts.{text_at};
 ghost use Rattle.per_codec_writing.specs.Additions.{as_open_types};
 ghost use Rattle.per_codec_encoder.specs.declared.frame.Frame.{Frame};
 ghost use Rattle.per_codec_encoder.specs.Holding.{AreSound, Does, Cannot};

@@ -3,7 +3,7 @@ ghost use Rattle.std.specs.Prelude.{◌≡◌, ◌+◌, length};
 ghost use Rattle.per_codec_packing.specs.Packed.{solid};
 
 use crate::headings::Due;
-use asn1_schema_bounds::Bounded;
+use asn1_schema_constraints::Bounded;
 use asn1_values_bits::BitBuffer;
 use per_codec_packing::{Packing, Texts};
 

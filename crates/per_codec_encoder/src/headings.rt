@@ -1,15 +1,14 @@
 //! What stands in front of the members of a list: their number, or the headers of fragments of them (X.691 11.9 and 20).
 ghost use Rattle.std.specs.Prelude.{◌≡◌, ℕ, Some, None, length, true, IfOk, IfErr, MatchResult};
 ghost use Rattle.asn1_model.specs.Numbers.{is_count_within};
-ghost use Rattle.asn1_schema_bounds.specs.Bounds.{counts_of, members_of, upper};
+ghost use Rattle.asn1_schema_constraints.specs.Bounds.{counts_of, members_of, upper};
 ghost use Rattle.asn1_schema_constraints.specs.Sets.{has_additions};
 ghost use Rattle.asn1_schema_constraints.specs.Terms.{sizes_of};
 ghost use Rattle.per_codec_packing.specs.Packed.{place};
-ghost use Rattle.per_codec_steps.specs.Steps.{general, sized_count, marked_count, list_heading};
+ghost use Rattle.per_codec_encoder.specs.Steps.{general, sized_count, marked_count, list_heading};
 ghost use Rattle.per_codec_encoder.specs.Headings.{Heads, NoHeading, GoesOn};
 
-use asn1_schema_bounds::Bounded;
-use asn1_schema_constraints::{Constraints, Extensible, Size};
+use asn1_schema_constraints::{Bounded, Constraints, Extensible, Size};
 use asn1_schema_faults::EncodeError;
 use per_codec_packing::Packing;
 use per_codec_writing::{push_constrained, push_fragment_length, push_short_length};

@@ -1,5 +1,7 @@
 //! The encoder of the packed encoding rules (X.691), and what is open in it: sequences, sets and groups, lists, bags, additions and
 //! alternatives.
+//! What a writer of the packed encoding rules (X.691), aligned or not, holds from record to record, and that the records of a value add just its
+//! canonical bits. Each function does nothing; its contract is a law.
 #![tactic(auto)]
 
 mod additions;
@@ -12,6 +14,7 @@ mod frames;
 mod headings;
 mod options;
 mod sequences;
+pub mod steps;
 
 pub use encoder::Encoder;
 pub use options::EncoderOptions;

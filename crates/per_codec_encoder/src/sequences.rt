@@ -1,7 +1,7 @@
 //! Sequences, sets and groups, with the places of their preambles, and lists.
 ghost use Rattle.std.specs.Prelude.{◌≡◌, Bool, List, [], ◌∷◌, ◌++◌, ◌+◌, ◌≤◌, ◌^◌, cond, MatchOption, MatchResult};
 ghost use Rattle.asn1_schema_presented.specs.Records.{sequence_begins, mark, further, list_begins};
-ghost use Rattle.asn1_schema_bounds.specs.Bounds.{members_of};
+ghost use Rattle.asn1_schema_constraints.specs.Bounds.{members_of};
 ghost use Rattle.asn1_schema_constraints.specs.Terms.{sizes_of};
 ghost use Rattle.per_codec_encoder.specs.declared.frame.Frame.{Frame};
 ghost use Rattle.per_codec_encoder.specs.Headings.{GoesOnInList, NoMember};
@@ -11,8 +11,7 @@ use crate::bags::next_of_bag;
 use crate::frame::{Frame, Place};
 use crate::frames::Frames;
 use crate::headings::{Due, push_heading, push_next_header};
-use asn1_schema_bounds::Bounded;
-use asn1_schema_constraints::Constraints;
+use asn1_schema_constraints::{Bounded, Constraints};
 use asn1_schema_faults::EncodeError;
 use per_codec_packing::Packing;
 use std::alloc::Global;

@@ -5,7 +5,7 @@ use Rattle.asn1_model.specs.Value.{Value, members as in_list, bag, fields, chose
 use Rattle.asn1_model.specs.Schema.{Tag, Presence, Schema, Components, component}
 use Rattle.asn1_model.specs.Normal.{normal, is_at_default, is_group_left_out}
 use Rattle.asn1_model.specs.Form.{arranged, ascending, in_order}
-use Rattle.asn1_laws.proofs.Listed.{listed, listed_again, each_is_map, order_map}
+use Rattle.asn1_laws_values.proofs.Listed.{listed, listed_again, each_is_map, order_map}
 use Rattle.asn1_laws_values.proofs.Same.{same_self}
 use Rattle.asn1_laws_values.proofs.Bags.{EachSame, bags_same}
 use Rattle.asn1_laws_values.proofs.Normal.{normal_same, default_tests, group_tests}

@@ -8,7 +8,7 @@ use Rattle.asn1_model.specs.Numbers.{octet_bits}
 use Rattle.asn1_model.specs.Tables.{alternative_count}
 use Rattle.asn1_model.specs.Form.{exactly, both}
 use Rattle.asn1_model.specs.Per
-use Rattle.asn1_laws.proofs.Listed.{EachAlternative}
+use Rattle.asn1_laws_values.proofs.Listed.{EachAlternative}
 use Rattle.asn1_schema_presented.specs.Records.{ends}
 use Rattle.asn1_schema_presented.specs.Presents.{presents, chosen_records}
 use Rattle.asn1_schema_presented.specs.Chains.{Chain}

@@ -10,7 +10,7 @@ use Rattle.asn1_model.specs.Lawful.{is_lawful}
 use Rattle.asn1_model.specs.Numbers.{binary, octet_bits}
 use Rattle.asn1_model.specs.Per
 use Rattle.asn1_model.specs.Rules.{uper, aper, uper_strict, aper_strict, lenient, strict_per, IsEncoding}
-use Rattle.asn1_laws_fronts_packed.proofs.Units.{complete_whole, joined_long}
+use Rattle.asn1_laws_fronts.proofs.Units.{complete_whole, joined_long}
 use Rattle.asn1_schema_presented.specs.Presents.{presents, Fits}
 use Rattle.asn1_schema_presented.specs.Chains.{Chain}
 use Rattle.asn1_schema_presented.proofs.OneValue.{one_value}

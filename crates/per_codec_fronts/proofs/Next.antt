@@ -14,8 +14,8 @@ use Rattle.asn1_laws_fronts.proofs.Fronts.{agree_exactly, agree_nothing, agree_f
 use Rattle.asn1_laws_fronts.proofs.PerNumbers.{Alike, pairs_equal, at_octet_alike, binary_alike, bits_apart, short_length_alike, counted_octets_alike, constrained_alike, integer_alike, same_bits, octets_again}
 use Rattle.asn1_laws_fronts.proofs.Sevens.{identifiers_equal}
 use Rattle.asn1_laws_fronts.proofs.Additions as adding
-use Rattle.asn1_laws_fronts_packed.proofs.Units.{sized_alike, small_alike, bitmap_alike, items_alike, behind_mark, added_or_root}
-use Rattle.asn1_laws_fronts_packed.proofs.Strings.{string_alike}
+use Rattle.asn1_laws_fronts.proofs.Units.{sized_alike, small_alike, bitmap_alike, items_alike, behind_mark, added_or_root}
+use Rattle.asn1_laws_fronts.proofs.Strings.{string_alike}
 use Rattle.oer_codec_fronts.specs.Takes.{preamble_bits, first_bits}
 use Rattle.per_codec_fronts.specs.Takes.{Place, Tally, Scope, components, added, open_type, members, alternative, State, Front, Found, with_fragment, Header, Headed, Numbered, ByHighest, Counted, SizeMark, ListBegins, MemberDue, NextMember, Begins, NextMark, AdditionsBegin, Opens, NextAddition, AdditionEnds, Skips, Chooses, Ends, Takes}
 

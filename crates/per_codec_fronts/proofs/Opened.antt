@@ -4,8 +4,8 @@ use Rattle.asn1_model.specs.Numbers.{binary, octet_bits, packed}
 use Rattle.asn1_model.specs.Form.{exactly, only_if, Reads}
 use Rattle.asn1_model.specs.Strings.{each_is, is_octet}
 use Rattle.asn1_model.specs.Per
-use Rattle.asn1_laws.proofs.Octets.{packed_back, packed_octets, eights_units}
-use Rattle.asn1_laws_fronts_packed.proofs.Units.{complete_whole, joined_long}
+use Rattle.asn1_laws_values.proofs.Octets.{packed_back, packed_octets, eights_units}
+use Rattle.asn1_laws_fronts.proofs.Units.{complete_whole, joined_long}
 use Rattle.per_codec_fronts.specs.Takes.{Place, State, Scope, Front, completion, Closes}
 use Rattle.per_codec_fronts.proofs.Fronts.{if_in, if_out}
 

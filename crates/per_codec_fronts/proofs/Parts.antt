@@ -7,7 +7,7 @@ use Rattle.asn1_model.specs.Lawful.{is_alphabet}
 use Rattle.asn1_model.specs.Tables.{is_required, mark_unless, marks}
 use Rattle.asn1_model.specs.Form.{refused, both}
 use Rattle.asn1_model.specs.Per
-use Rattle.asn1_laws.proofs.Listed.{EachComponent}
+use Rattle.asn1_laws_values.proofs.Listed.{EachComponent}
 use Rattle.asn1_schema_presented.specs.Records.{Record, flag, nil, whole, one_of, bits, octets, characters, identifier, mark, mismatch}
 use Rattle.asn1_schema_presented.specs.Presents.{presents, root_records, marked}
 use Rattle.asn1_schema_presented.specs.Chains.{Chain}

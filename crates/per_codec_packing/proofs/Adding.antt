@@ -4,8 +4,8 @@ use Rattle.std.proofs.lemmas.List.{length-replicate}
 use Rattle.asn1_model.specs.Numbers.{missing}
 use Rattle.asn1_model.specs.Form.{exactly, only_if, both, placed}
 use Rattle.asn1_model.specs.Per
-use Rattle.per_codec_texts.specs.Texts.{Text, fill, as_text, on, text_at, as_form}
-use Rattle.per_codec_texts.proofs.Forms.{as_form-append, form_of_bits}
+use Rattle.per_codec_packing.specs.Texts.{Text, fill, as_text, on, text_at, as_form}
+use Rattle.per_codec_packing.proofs.Forms.{as_form-append, form_of_bits}
 use Rattle.per_codec_packing.specs.Packed.{Packed, Adds, place, plus, filling_at}
 
 pub adds_text : (o : Option Text) (w : Text) (old new : Packed) → o ≡ Some w → new ≡ plus old w → Adds o old new

@@ -1,7 +1,7 @@
 -- A text is added piece by piece.
 use Rattle.std.proofs.Common.{◌≡◌, ℕ, ◌+◌, ◌-◌, ◌<◌, ◌≤◌, Bool, List, ◌∷◌, length, take, drop, get_or, ap, subst, sym, ◌∙◌, arith}
 use Rattle.std.proofs.lemmas.List.{drop-drop, drop-take, drop_more}
-use Rattle.per_codec_texts.specs.Texts.{fill, as_text, text_at, as_form}
+use Rattle.per_codec_packing.specs.Texts.{fill, as_text, text_at, as_form}
 use Rattle.per_codec_packing.specs.Packed.{Packed, Adds, place, plus, filling_at}
 use Rattle.per_codec_packing.specs.Spread.{spread, Ascend}
 use Rattle.per_codec_packing.proofs.Adding.{adds_form_bits, adds_forms, adds_form_fill}

@@ -1,6 +1,6 @@
 -- The bits of a text, and one of them changed.
 use Rattle.std.proofs.Common.{◌≡◌, ℕ, zero, suc, ◌+◌, ◌<◌, Bool, List, [], ◌∷◌, ◌++◌, length, set, refl, ap, ◌∙◌, arith}
-use Rattle.per_codec_texts.specs.Texts.{Text, bit, fill, as_text}
+use Rattle.per_codec_packing.specs.Texts.{Text, bit, fill, as_text}
 use Rattle.per_codec_packing.specs.Packed.{solid, with_bit}
 
 pub solid-append : (s t : Text) → solid (s ++ t) ≡ solid s ++ solid t

@@ -2,8 +2,8 @@
 use Rattle.std.proofs.Common.{◌≡◌, Bool, List, ◌++◌, length, Option, Some, None, option_map, refl, ap, sym, ◌∙◌}
 use Rattle.asn1_model.specs.Form.{written}
 use Rattle.asn1_model.specs.Per
-use Rattle.per_codec_texts.specs.Texts.{Text, as_text, text_at}
-use Rattle.per_codec_texts.proofs.Texts.{known, length-text, as_text-append}
+use Rattle.per_codec_packing.specs.Texts.{Text, as_text, text_at}
+use Rattle.per_codec_packing.proofs.Texts.{known, length-text, as_text-append}
 use Rattle.per_codec_packing.specs.Packed.{Packed, Adds, from_start, place, plus}
 use Rattle.per_codec_packing.proofs.Adding.{added}
 

@@ -2,7 +2,7 @@
 use Rattle.std.proofs.Common.{◌≡◌, ℕ, zero, suc, ◌+◌, ◌-◌, ◌<◌, ◌≤◌, Bool, List, [], ◌∷◌, ◌++◌, length, take, drop, get_or, refl, ap, subst, sym, ◌∙◌, length-append, arith}
 use Rattle.std.proofs.lemmas.List.{length-map, length-drop, take_all, take-append-le, drop-append-le, drop-take, map-append, get_or-map}
 use Rattle.std.proofs.Math.Seq.{drop-append_seam}
-use Rattle.per_codec_texts.specs.Texts.{Text}
+use Rattle.per_codec_packing.specs.Texts.{Text}
 use Rattle.per_codec_packing.specs.Spread.{spread, Ascend}
 use Rattle.per_codec_packing.specs.Parts.{cut, text_in, texts_in, IsPart, AreParts}
 use Rattle.per_codec_packing.specs.declared.texts.Span.{Span}

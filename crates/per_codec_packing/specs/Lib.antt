@@ -2,3 +2,5 @@ pub mod Packed
 pub mod Spread
 pub mod Viewed
 pub mod Parts
+pub mod Texts
+pub mod Laws

@@ -1,7 +1,7 @@
 -- What is put together: a text, at a known place or not.
 use Rattle.std.specs.Prelude.{◌≡◌, ℕ, zero, suc, Bool, true, false, cond, List, [], ◌∷◌, ◌++◌, length, replicate, Option, Some, None, option_map}
 use Rattle.asn1_model.specs.Numbers.{missing}
-use Rattle.per_codec_texts.specs.Texts.{Text, bit, fill, as_text}
+use Rattle.per_codec_packing.specs.Texts.{Text, bit, fill, as_text}
 
 -- A text, and whether its place is known: it then begins where its message or open type does.
 pub record Packed : Type 0 where

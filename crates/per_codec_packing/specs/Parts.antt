@@ -1,7 +1,7 @@
 -- Texts that share memory.
 use Rattle.std.specs.Prelude.{ℕ, ◌≤◌, ⊤, Bool, List, [], ◌∷◌, length, map}
 use Rattle.std.specs.List.{slice_range}
-use Rattle.per_codec_texts.specs.Texts.{Text}
+use Rattle.per_codec_packing.specs.Texts.{Text}
 use Rattle.per_codec_packing.specs.Spread.{spread, Ascend}
 use Rattle.per_codec_packing.specs.declared.texts.Span.{Span}
 use Rattle.per_codec_packing.specs.declared.texts.Part.{Part}

@@ -1,7 +1,7 @@
 -- How a text is kept: its bits, and how many of them stand in front of each filling that is left open.
 use Rattle.std.specs.Prelude.{◌≡◌, ℕ, ◌-◌, ◌≤◌, Bool, true, List, [], ◌∷◌, ◌++◌, length, take, drop}
 use Rattle.std.specs.Coded.{×_prop, le_prop}
-use Rattle.per_codec_texts.specs.Texts.{Text, fill, as_text}
+use Rattle.per_codec_packing.specs.Texts.{Text, fill, as_text}
 use Rattle.per_codec_packing.specs.Packed.{Packed}
 
 -- The text of the bits from one on, with filling behind so many.

@@ -1,6 +1,6 @@
 -- The text of a view.
 use Rattle.asn1_values_bits.specs.BitStr.{bits_of}
-use Rattle.per_codec_texts.specs.Texts.{Text}
+use Rattle.per_codec_packing.specs.Texts.{Text}
 use Rattle.per_codec_packing.specs.Spread.{spread}
 use Rattle.per_codec_packing.specs.declared.text_view.TextView.{TextView}
 

@@ -3,7 +3,7 @@ ghost use Rattle.std.specs.Prelude.{◌≡◌, Some, IfOk};
 ghost use Rattle.asn1_model.specs.Form.{written};
 ghost use Rattle.asn1_model.specs.Numbers.{octet_bits};
 ghost use Rattle.asn1_model.specs.Per.{complete};
-ghost use Rattle.per_codec_texts.specs.Texts.{as_form};
+ghost use Rattle.per_codec_packing.specs.Texts.{as_form};
 ghost use Rattle.per_codec_packing.specs.Viewed.{text_of};
 
 use crate::packing::Packing;

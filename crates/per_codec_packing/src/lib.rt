@@ -1,8 +1,11 @@
 //! Putting the text of a value together in the packed encoding rules (X.691): bits, and filling up to octets, which is left open where the
 //! position is not known yet.
+//! Texts of the forms of the packed encoding rules (X.691): bits, and filling up to octets where the position is not known yet. Each function
+//! does nothing; its contract is a law.
 #![tactic(auto)]
 
 mod completion;
+pub mod forms;
 mod packing;
 mod text_view;
 mod texts;

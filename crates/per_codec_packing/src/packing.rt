@@ -2,7 +2,7 @@
 ghost use Rattle.std.specs.Prelude.{◌≡◌, ◌+◌, ◌-◌, ◌<◌, ◌≤◌, [], ◌∷◌, true, false, length, take, replicate, Some, OnOk, OnErr, IsTrue, ◌↔◌};
 ghost use Rattle.asn1_model.specs.Numbers.{binary, octet_bits};
 ghost use Rattle.asn1_values_bits.specs.BitStr.{bits_of};
-ghost use Rattle.per_codec_texts.specs.Texts.{as_text, plain, text_at, as_form};
+ghost use Rattle.per_codec_packing.specs.Texts.{as_text, plain, text_at, as_form};
 ghost use Rattle.per_codec_packing.specs.Packed.{Adds, filling_at, place, plus, solid, with_bit};
 ghost use Rattle.per_codec_packing.specs.Viewed.{text_of};
 

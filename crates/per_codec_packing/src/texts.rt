@@ -35,7 +35,7 @@ pub struct Texts {
 
 impl Model for Texts {
     ghost use Rattle.std.specs.Prelude.{List};
-    ghost use Rattle.per_codec_texts.specs.Texts.{Text};
+    ghost use Rattle.per_codec_packing.specs.Texts.{Text};
 
     ghost Value = { List Text };
 

@@ -1,3 +1,12 @@
 pub mod Fronts
 pub mod LengthFronts
 pub mod NumberFronts
+pub mod UnitFronts
+pub mod RunFronts
+pub mod Loops
+pub mod OctetFronts
+pub mod RunsOne
+pub mod SizedFronts
+pub mod ToldFronts
+pub mod StringFronts
+pub mod LastFronts

@@ -1,2 +1,5 @@
 pub mod Fronts
 pub mod Lengths
+pub mod Units
+pub mod Runs
+pub mod Sizes

@@ -3,15 +3,31 @@
 //!
 //! Each reader answers a value just where its form stands in front, and takes its bits; it refuses, but for want of memory, just where none
 //! does. Nothing is said of the cursor after a refusal.
+//! Readers of units of one width behind their number, and of strings of them, in the packed encoding rules (X.691).
+//!
+//! Each reader answers a value just where its form stands in front, and takes its bits; it refuses, but for want of memory, just where none
+//! does. Nothing is said of the cursor after a refusal. What stands in one piece is lent; fragments are joined.
 #![tactic(auto)]
 
 pub mod cursor;
 pub mod filling;
+pub mod identifiers;
 pub mod lengths;
 pub mod numbers;
+pub mod octets;
+pub mod runs;
+pub mod sizes;
+pub mod strings;
+pub mod texts;
 pub mod units;
 pub mod variant;
 
 pub use cursor::Cursor;
+pub use identifiers::read_object_identifier;
 pub use lengths::Length;
+pub use octets::read_counted_octets;
+pub use runs::{Run, RunBits, read_counted};
+pub use sizes::{Contents, read_sized};
+pub use strings::{read_bit_string, read_octet_string, read_octet_string_in};
+pub use texts::read_utf8_string;
 pub use variant::Variant;

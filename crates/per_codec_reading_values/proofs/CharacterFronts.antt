@@ -12,11 +12,11 @@ use Rattle.asn1_model.specs.Form.{exactly, given, only_if}
 use Rattle.asn1_model.specs.Strings.{Run, how_many, largest, place_of, permitted, is_of_octets, may_hold, each_is}
 use Rattle.asn1_model.specs.Per
 use Rattle.asn1_model.proofs.Forms.{map_parts}
-use Rattle.asn1_laws.proofs.Places.{places_fewest}
+use Rattle.asn1_laws_values.proofs.Places.{places_fewest}
 use Rattle.asn1_laws_fronts.proofs.Fronts.{Pairwise, agree_exactly, agree_map, agree_given}
 use Rattle.asn1_laws_fronts.proofs.PerNumbers.{Alike, binary_alike, length-binary}
-use Rattle.asn1_laws_fronts_packed.proofs.Strings.{Orderly, place_top, place_fits}
-use Rattle.asn1_laws_fronts_packed.proofs.Units.{sized_alike}
+use Rattle.asn1_laws_fronts.proofs.Strings.{Orderly, place_top, place_fits}
+use Rattle.asn1_laws_fronts.proofs.Units.{sized_alike}
 use Rattle.asn1_values_alphabets.specs.Permitted.{permits_all}
 use Rattle.per_codec_alphabets.specs.Codes.{Coded, SameCharacters, code_of}
 use Rattle.per_codec_fronts.specs.Takes.{Place, Front}
@@ -26,10 +26,10 @@ use Rattle.asn1_schema_faults.specs.declared.DecodeError.{DecodeError}
 use Rattle.asn1_schema_faults.specs.declared.DecodeError.TheVariants.{OutOfMemory}
 use Rattle.per_codec_reading.specs.Fronts.{NoneStands, Misses}
 use Rattle.per_codec_reading.proofs.Fronts.{none_misses}
-use Rattle.per_codec_reading_units.specs.Units.{Units, pieces, units_of}
-use Rattle.per_codec_reading_units.specs.Sizes.{pads_of, sized_units}
-use Rattle.per_codec_reading_units.specs.declared.sizes.Contents.TheVariants.{Characters}
-use Rattle.per_codec_reading_units.proofs.UnitFronts.{length-pieces}
+use Rattle.per_codec_reading.specs.Units.{Units, pieces, units_of}
+use Rattle.per_codec_reading.specs.Sizes.{pads_of, sized_units}
+use Rattle.per_codec_reading.specs.declared.sizes.Contents.TheVariants.{Characters}
+use Rattle.per_codec_reading.proofs.UnitFronts.{length-pieces}
 use Rattle.per_codec_reading_values.specs.Spelled.{has_code, text_of, Spells, Stuck, IsFitting}
 use Rattle.per_codec_reading_values.proofs.Steps.{front, split_bits}
 

@@ -5,7 +5,7 @@ use Rattle.asn1_model.specs.Numbers.{binary, octet_bits, packed}
 use Rattle.asn1_model.specs.Strings.{each_is, is_octet}
 use Rattle.asn1_model.specs.Form.{exactly, both, only_if, joined}
 use Rattle.asn1_model.specs.Per
-use Rattle.asn1_laws.proofs.Octets.{packed_back, packed_octets}
+use Rattle.asn1_laws_values.proofs.Octets.{packed_back, packed_octets}
 use Rattle.asn1_laws_fronts.proofs.PerNumbers.{length_of_map, binary_equal}
 use Rattle.per_codec_fronts.specs.Takes.{Place, Front}
 use Rattle.per_codec_fronts.proofs.Fronts.{split, join, if_in, if_out, varied_in, varied_out}
@@ -13,10 +13,10 @@ use Rattle.per_codec_reading.specs.Fronts.{Leads, NoneStands}
 use Rattle.per_codec_reading.specs.Lengths.{one_bit, number_within}
 use Rattle.per_codec_reading.proofs.Fronts.{exactly_in, exactly_out, too_short, leads_join}
 use Rattle.per_codec_reading.proofs.NumberFronts.{within_out}
-use Rattle.per_codec_reading_units.specs.Units.{Units, units_of, counted_units}
-use Rattle.per_codec_reading_units.proofs.OctetFronts.{counted_size, octets_front, length-octet_bits, octet_pieces}
-use Rattle.per_codec_reading_units.proofs.RunFronts.{leads_one}
-use Rattle.per_codec_reading_units.proofs.UnitFronts.{units_in, units_out}
+use Rattle.per_codec_reading.specs.Units.{Units, units_of, counted_units}
+use Rattle.per_codec_reading.proofs.OctetFronts.{counted_size, octets_front, length-octet_bits, octet_pieces}
+use Rattle.per_codec_reading.proofs.RunFronts.{leads_one}
+use Rattle.per_codec_reading.proofs.UnitFronts.{units_in, units_out}
 use Rattle.per_codec_reading_values.specs.Fields.{bits_form, few_form, octets_form}
 
 bit_pieces : (bs : List Bool) → units_of 1 (length bs) bs ≡ Per.bit_units bs

@@ -7,12 +7,12 @@ use Rattle.asn1_model.specs.Value.{Value, number}
 use Rattle.asn1_model.specs.Numbers.{signed_octets, is_at_most, is_from, is_to, is_within, fits_128}
 use Rattle.asn1_model.specs.Tables.{is_bounded}
 use Rattle.asn1_model.specs.Per
-use Rattle.asn1_laws.proofs.Numbers.{at_most_pos, at_most_negsuc}
+use Rattle.asn1_laws_values.proofs.Numbers.{at_most_pos, at_most_negsuc}
 use Rattle.asn1_values_natives.specs.Octets.{signed_number}
 use Rattle.asn1_values_natives.proofs.Widths.{signed_octets-le}
-use Rattle.asn1_schema_bounds.specs.Bounds.{later, earlier}
-use Rattle.asn1_schema_bounds.proofs.Common.{number_order}
-use Rattle.asn1_schema_bounds.proofs.Meets.{is_above, is_below, later_admits, earlier_admits}
+use Rattle.asn1_schema_constraints.specs.Bounds.{later, earlier}
+use Rattle.asn1_schema_constraints.proofs.Common.{number_order}
+use Rattle.asn1_schema_constraints.proofs.Meets.{is_above, is_below, later_admits, earlier_admits}
 use Rattle.asn1_schema_constraints.specs.Terms.{bounds_of, held_of}
 use Rattle.asn1_schema_constraints.specs.declared.extensions.Extensible.{Extensible}
 use Rattle.asn1_schema_constraints.specs.declared.parts.Value as Constraint

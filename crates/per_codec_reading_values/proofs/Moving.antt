@@ -7,7 +7,7 @@ use Rattle.asn1_model.specs.Per
 use Rattle.per_codec_fronts.specs.Takes.{Place, Front}
 use Rattle.per_codec_fronts.proofs.Next.{place_same}
 use Rattle.per_codec_reading.specs.Fronts.{Leads}
-use Rattle.per_codec_reading_units.specs.Runs.{StandsIn}
+use Rattle.per_codec_reading.specs.Runs.{StandsIn}
 
 -- behind bits that stand in front
 pub behind : (w bs : List Bool) (n : ℕ) (b : Place) → Leads w (n, drop n bs) b → (n + length w, drop (n + length w) bs) ≡ b

@@ -11,8 +11,8 @@ use Rattle.per_codec_fronts.proofs.Fronts.{split, join, nothing_front}
 use Rattle.per_codec_fronts.proofs.Next.{same_fronts}
 use Rattle.per_codec_reading.specs.Fronts.{NoneStands, Misses}
 use Rattle.per_codec_reading.specs.declared.lengths.Length.TheVariants.{Short, Fragment}
-use Rattle.per_codec_reading_units.specs.Units.{Units, counted_units, piece_form}
-use Rattle.per_codec_reading_units.proofs.Loops.{Joins, joins_none, joins_more, joins_last, joins_stop, fragment_shortens}
+use Rattle.per_codec_reading.specs.Units.{Units, counted_units, piece_form}
+use Rattle.per_codec_reading.proofs.Loops.{Joins, joins_none, joins_more, joins_last, joins_stop, fragment_shortens}
 use Rattle.per_codec_reading_values.specs.Fields.{HasPiece, HasUnits, NoSkip}
 use Rattle.per_codec_reading_values.proofs.FieldFronts.{octets_of, units_told}
 

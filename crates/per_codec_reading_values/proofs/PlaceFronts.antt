@@ -13,8 +13,8 @@ use Rattle.per_codec_fronts.specs.Takes.{Place, Front}
 use Rattle.per_codec_fronts.proofs.Fronts.{split, join, if_in, if_out, nothing_front, of_refused}
 use Rattle.per_codec_reading.specs.Fronts.{NoneStands}
 use Rattle.per_codec_reading.specs.Lengths.{one_bit}
-use Rattle.per_codec_reading_units.specs.Sizes.{size_mark}
-use Rattle.per_codec_reading_units.proofs.SizedFronts.{mark_one}
+use Rattle.per_codec_reading.specs.Sizes.{size_mark}
+use Rattle.per_codec_reading.proofs.SizedFronts.{mark_one}
 use Rattle.per_codec_reading_values.specs.Places.{root_form, added_form, place_form, NoItem}
 
 -- ---- tables of items

@@ -5,7 +5,7 @@ use Rattle.std.proofs.Math.Nat.{pow-le-pow_right}
 use Rattle.asn1_model.specs.Numbers.{binary}
 use Rattle.asn1_model.specs.Form.{exactly, both, only_if}
 use Rattle.asn1_model.specs.Per
-use Rattle.asn1_laws_fronts_packed.proofs.Units.{small_alike}
+use Rattle.asn1_laws_fronts.proofs.Units.{small_alike}
 use Rattle.per_codec_fronts.specs.Takes.{Place, Front}
 use Rattle.per_codec_fronts.proofs.Fronts.{split, join, if_in, if_out, varied_in, varied_out}
 use Rattle.per_codec_fronts.proofs.Next.{same_fronts}
@@ -13,7 +13,7 @@ use Rattle.per_codec_reading.specs.Fronts.{NoneStands}
 use Rattle.per_codec_reading.specs.Lengths.{one_bit, number_within}
 use Rattle.per_codec_reading.proofs.Fronts.{exactly_in, exactly_out, leads_join}
 use Rattle.per_codec_reading_values.specs.Whole.{offset_form, is_offset}
-use Rattle.per_codec_reading_units.proofs.RunFronts.{leads_one}
+use Rattle.per_codec_reading.proofs.RunFronts.{leads_one}
 use Rattle.per_codec_reading_values.specs.Places.{small_form, added_form}
 
 small_fits : (n : ℕ) → n < 64 → is_offset n ≡ true

@@ -8,8 +8,8 @@ use Rattle.asn1_model.specs.Numbers.{natural, above, is_at_most, is_from, is_to,
 use Rattle.asn1_model.specs.Form.{exactly, both, only_if, given}
 use Rattle.asn1_model.specs.Per
 use Rattle.asn1_values_natives.proofs.RangeLaws.{at_most, not_at_most}
-use Rattle.asn1_schema_bounds.specs.Bounds.{lower, upper, range_of}
-use Rattle.asn1_schema_bounds.specs.declared.bounds.Bounded.{Bounded}
+use Rattle.asn1_schema_constraints.specs.Bounds.{lower, upper, range_of}
+use Rattle.asn1_schema_constraints.specs.declared.bounds.Bounded.{Bounded}
 use Rattle.asn1_schema_constraints.specs.Sets.{has_additions}
 use Rattle.asn1_schema_constraints.specs.declared.extensions.Extensible.{Extensible}
 use Rattle.asn1_schema_constraints.specs.declared.parts.Value as Constraint

@@ -6,7 +6,7 @@ use Rattle.asn1_schema_faults.specs.declared.DecodeError.{DecodeError}
 use Rattle.asn1_schema_faults.specs.declared.DecodeError.TheVariants.{OutOfMemory}
 use Rattle.per_codec_fronts.specs.Takes.{Place, Front, Skips}
 use Rattle.per_codec_reading.specs.declared.lengths.Length.{Length}
-use Rattle.per_codec_reading_units.specs.Units.{Units, counted_units, piece_form}
+use Rattle.per_codec_reading.specs.Units.{Units, counted_units, piece_form}
 use Rattle.per_codec_reading_values.specs.declared.fields.Field.{Field}
 use Rattle.per_codec_reading_values.specs.declared.fields.Field.TheVariants.{Bits, Bitmap, OpenType}
 

@@ -4,7 +4,7 @@ use Rattle.asn1_model.specs.Form.{both, only_if}
 use Rattle.asn1_model.specs.Per.{BitForm, constrained, normally_small}
 use Rattle.asn1_schema_variants.specs.declared.chosen.Chosen.{Chosen}
 use Rattle.per_codec_reading_values.specs.Whole.{is_offset}
-use Rattle.per_codec_reading_units.specs.Sizes.{size_mark}
+use Rattle.per_codec_reading.specs.Sizes.{size_mark}
 
 -- A normally small number, if 128 bits hold it (X.691 11.6).
 abbrev pub small_form : Bool → ℕ → BitForm

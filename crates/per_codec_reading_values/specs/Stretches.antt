@@ -2,8 +2,8 @@
 use Rattle.std.specs.Prelude.{◌==◌, Bool, false}
 use Rattle.asn1_values_bits.specs.BitStr.{offset_of}
 use Rattle.per_codec_fronts.specs.Takes.{Place}
-use Rattle.per_codec_reading_units.specs.declared.runs.RunBits.{RunBits}
-use Rattle.per_codec_reading_units.specs.declared.runs.RunBits.TheVariants.{Lent, Joined}
+use Rattle.per_codec_reading.specs.declared.runs.RunBits.{RunBits}
+use Rattle.per_codec_reading.specs.declared.runs.RunBits.TheVariants.{Lent, Joined}
 
 -- The place that is reached, and whether the bits are lent and begin at an octet of what lends them.
 pub record Stretched : Type 0 where

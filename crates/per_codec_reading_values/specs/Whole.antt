@@ -4,8 +4,8 @@ use Rattle.asn1_model.specs.Schema.{Range}
 use Rattle.asn1_model.specs.Numbers.{is_within}
 use Rattle.asn1_model.specs.Form.{only_if}
 use Rattle.asn1_model.specs.Per.{BitForm, counted_octets, semi_constrained, unconstrained, whole_number, marked}
-use Rattle.asn1_schema_bounds.specs.Bounds.{range_of, lower, upper}
-use Rattle.asn1_schema_bounds.specs.declared.bounds.Bounded.{Bounded}
+use Rattle.asn1_schema_constraints.specs.Bounds.{range_of, lower, upper}
+use Rattle.asn1_schema_constraints.specs.declared.bounds.Bounded.{Bounded}
 use Rattle.asn1_schema_constraints.specs.Sets.{has_additions}
 use Rattle.asn1_schema_constraints.specs.declared.extensions.Extensible.{Extensible}
 use Rattle.asn1_schema_constraints.specs.declared.parts.Value.{Value}

@@ -2,15 +2,14 @@
 ghost use Rattle.std.specs.Prelude.{◌≡◌, ◌+ℤ◌, pos, true, false, Some, None, IfOk, OnOk, IfErr, OnErr};
 ghost use Rattle.asn1_model.specs.Numbers.{is_within};
 ghost use Rattle.asn1_model.specs.Per as Per;
-ghost use Rattle.asn1_schema_bounds.specs.Bounds.{lower, upper};
+ghost use Rattle.asn1_schema_constraints.specs.Bounds.{lower, upper};
 ghost use Rattle.per_codec_fronts.specs.Takes.{Front};
 ghost use Rattle.per_codec_reading.specs.Fronts as fronts;
 ghost use Rattle.per_codec_reading.specs.Fronts.{freedoms, Misses};
 ghost use Rattle.per_codec_reading_values.specs.Whole.{behind_mark, in_128_bits, under_constraint, wide_range};
 
 use crate::octets::{read_semi_constrained, read_unconstrained};
-use asn1_schema_bounds::Bounded;
-use asn1_schema_constraints::{Extensible, Value};
+use asn1_schema_constraints::{Bounded, Extensible, Value};
 use asn1_schema_faults::DecodeError;
 use per_codec_reading::numbers::read_constrained;
 use per_codec_reading::units::read_bit;

@@ -3,14 +3,13 @@ ghost use Rattle.std.specs.Prelude.{IfOk, IfErr};
 ghost use Rattle.per_codec_fronts.specs.Takes.{Front};
 ghost use Rattle.per_codec_reading.specs.Fronts as fronts;
 ghost use Rattle.per_codec_reading.specs.Fronts.{freedoms, Misses};
-ghost use Rattle.per_codec_reading_units.specs.Runs.{bits_in};
+ghost use Rattle.per_codec_reading.specs.Runs.{bits_in};
 ghost use Rattle.per_codec_reading_values.specs.Fields.{field_form, few_form, bits_form, octets_form};
 
 use asn1_schema_faults::DecodeError;
 use per_codec_reading::numbers::read_number_within;
 use per_codec_reading::units::read_bit;
-use per_codec_reading::{Cursor, Variant};
-use per_codec_reading_units::{RunBits, read_counted};
+use per_codec_reading::{Cursor, RunBits, Variant, read_counted};
 use std::alloc::Global;
 
 /// What is taken as a whole.

@@ -14,8 +14,7 @@ use crate::bounded::read_bounded;
 use crate::octets::read_number_octets;
 use asn1_schema_constraints::Constraints;
 use asn1_schema_faults::DecodeError;
-use asn1_values_integer_types::IntegerType;
-use asn1_values_numbers::IntegerError;
+use asn1_values_integers::{IntegerError, IntegerType};
 use per_codec_reading::{Cursor, Variant};
 use std::alloc::Global;
 

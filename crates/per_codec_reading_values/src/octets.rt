@@ -11,8 +11,7 @@ ghost use Rattle.per_codec_reading_values.specs.Whole.{in_128_bits, number_octet
 
 use asn1_schema_faults::DecodeError;
 use asn1_values_natives::Wide;
-use per_codec_reading::{Cursor, Variant};
-use per_codec_reading_units::read_counted_octets;
+use per_codec_reading::{Cursor, Variant, read_counted_octets};
 use std::alloc::Global;
 use std::borrow::CowSlice;
 

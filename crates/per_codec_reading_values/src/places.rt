@@ -4,7 +4,7 @@ ghost use Rattle.asn1_model.specs.Per as Per;
 ghost use Rattle.per_codec_fronts.specs.Takes.{Front};
 ghost use Rattle.per_codec_reading.specs.Fronts as fronts;
 ghost use Rattle.per_codec_reading.specs.Fronts.{freedoms, Misses};
-ghost use Rattle.per_codec_reading_units.specs.Sizes.{size_mark};
+ghost use Rattle.per_codec_reading.specs.Sizes.{size_mark};
 ghost use Rattle.per_codec_reading_values.specs.Places.{root_form, added_form, place_form};
 
 use crate::small::read_normally_small;

@@ -4,7 +4,7 @@ ghost use Rattle.per_codec_fronts.specs.Takes.{Front, Skips};
 ghost use Rattle.per_codec_reading.specs.Fronts as fronts;
 ghost use Rattle.per_codec_reading.specs.Fronts.{freedoms, Misses};
 ghost use Rattle.per_codec_reading.specs.Lengths.{IsLength};
-ghost use Rattle.per_codec_reading_units.specs.Units.{count_of, counted_units, piece_form};
+ghost use Rattle.per_codec_reading.specs.Units.{count_of, counted_units, piece_form};
 ghost use Rattle.per_codec_reading_values.specs.Fields.{HasPiece, HasUnits, NoSkip};
 
 use crate::stretches::Stretch;

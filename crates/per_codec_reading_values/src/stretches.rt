@@ -5,15 +5,14 @@ ghost use Rattle.asn1_values_bits.specs.BitStr as bit_strs;
 ghost use Rattle.per_codec_fronts.specs.Takes.{Place, Front};
 ghost use Rattle.per_codec_reading.specs.Fronts as fronts;
 ghost use Rattle.per_codec_reading.specs.Fronts.{freedoms, Leads, Misses};
-ghost use Rattle.per_codec_reading_units.specs.Runs.{bits_in, StandsIn};
+ghost use Rattle.per_codec_reading.specs.Runs.{bits_in, StandsIn};
 ghost use Rattle.per_codec_reading_values.specs.Fields.{field_form, HasField};
 ghost use Rattle.per_codec_reading_values.specs.Stretches.{lends_octets};
 
 use crate::fields::{Field, read_field};
 use asn1_schema_faults::DecodeError;
 use asn1_values_bits::{BitBuffer, BitReader, BitStr};
-use per_codec_reading::{Cursor, Variant};
-use per_codec_reading_units::RunBits;
+use per_codec_reading::{Cursor, RunBits, Variant};
 use std::alloc::{AllocError, Global};
 use std::marker::Model;
 
@@ -29,7 +28,7 @@ pub struct Stretch<'input> {
 
 impl<'input> Model for Stretch<'input> {
     ghost use Rattle.std.specs.Prelude.{◌≤◌, length, drop};
-    ghost use Rattle.per_codec_reading_units.specs.Runs.{bits_in};
+    ghost use Rattle.per_codec_reading.specs.Runs.{bits_in};
     ghost use Rattle.per_codec_reading_values.specs.Stretches.{Stretched, lends_octets};
 
     ghost Value = { Stretched };

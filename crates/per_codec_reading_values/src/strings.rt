@@ -12,16 +12,14 @@ ghost use Rattle.per_codec_fronts.specs.Takes.{Front};
 ghost use Rattle.per_codec_reading.specs.Fronts.{freedoms, Misses};
 ghost use Rattle.per_codec_reading.specs.Fronts as fronts;
 ghost use Rattle.per_codec_reading_values.specs.Spelled.{Spells, Stuck, IsFitting};
-ghost use Rattle.per_codec_reading_units.specs.Runs.{bits_in};
+ghost use Rattle.per_codec_reading.specs.Runs.{bits_in};
 
 use crate::codes::string_of;
-use asn1_schema_bounds::Bounded;
-use asn1_schema_constraints::Constraints;
+use asn1_schema_constraints::{Bounded, Constraints};
 use asn1_schema_faults::DecodeError;
 use asn1_values_alphabets::StaticPermittedAlphabet;
 use per_codec_alphabets::{EffectiveAlphabet, is_of_octets};
-use per_codec_reading::{Cursor, Variant};
-use per_codec_reading_units::{Contents, Run, RunBits, read_counted_octets, read_sized};
+use per_codec_reading::{Contents, Cursor, Run, RunBits, Variant, read_counted_octets, read_sized};
 use std::alloc::Global;
 
 /// The string of these octets, each of which is a character.

@@ -1,7 +1,6 @@
 //! Many additions, added alternatives with high numbers, and long open types (X.691 11.2, 11.6, 11.9, 19.7 to 19.9 and 23.8).
 use crate::spelled::octets;
-use asn1_schema_bounds::Bounded;
-use asn1_schema_constraints::{Constraints, Extensible, Size};
+use asn1_schema_constraints::{Bounded, Constraints, Extensible, Size};
 use asn1_schema_decode::{Decode, Decoder as Reader, ReadOctets};
 use asn1_schema_encode::{Encode, Encoder as Writer};
 use asn1_schema_faults::{DecodeError, EncodeError};

@@ -1,22 +1,19 @@
 //! Each kind without components, and lists, behind 0 to 7 bits, unaligned and aligned.
 use crate::spelled::push_spelled;
-use asn1_schema_bounds::Bounded;
-use asn1_schema_constraints::{Constraints, Extensible, Size};
+use asn1_schema_constraints::{Bounded, Constraints, Extensible, Size};
 use asn1_schema_decode::{Decode, Decoder as _};
 use asn1_schema_encode::{Encode, Encoder as _};
 use asn1_schema_faults::{DecodeError, EncodeError};
 use asn1_schema_tags::{Identifier, Tag};
 use asn1_values_bit_strings::BitString;
 use asn1_values_bits::BitBuffer;
-use asn1_values_constrained::ConstrainedInteger;
 use asn1_values_identifiers::{ObjectIdentifier, Oid};
-use asn1_values_numbers::Integer;
+use asn1_values_integers::{ConstrainedInteger, Integer};
 use asn1_values_octets::OctetString;
 use asn1_values_strings::{
-    GeneralString, GraphicString, Ia5String, NumericString, PrintableString, TeletexString,
-    VisibleString,
+    BmpString, GeneralString, GraphicString, Ia5String, NumericString, PrintableString,
+    TeletexString, VisibleString,
 };
-use asn1_values_strings_wide::BmpString;
 use per_codec::uper::{Decoder, DecoderOptions, Encoder, EncoderOptions};
 use per_codec_reading::Variant;
 use std::alloc::{AllocError, Global};

@@ -1,7 +1,6 @@
 //! Widths and codes of characters under constraints (X.691 30.5).
 use asn1_schema_constraints::{Extensible, PermittedAlphabet};
-use asn1_values_strings::{Ia5String, NumericString, PrintableString, VisibleString};
-use asn1_values_strings_wide::BmpString;
+use asn1_values_strings::{BmpString, Ia5String, NumericString, PrintableString, VisibleString};
 use per_codec_alphabets::EffectiveAlphabet;
 use std::alloc::{AllocError, Global};
 use std::test::Fail;

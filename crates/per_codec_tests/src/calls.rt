@@ -1,10 +1,9 @@
 //! What the calls leave in a buffer, what they lend, and which values they do not write.
-use asn1_schema_bounds::Bounded;
-use asn1_schema_constraints::{Constraint, Constraints, Extensible, Size, Value};
+use asn1_schema_constraints::{Bounded, Constraint, Constraints, Extensible, Size, Value};
 use asn1_schema_encode::Encode;
 use asn1_schema_faults::{DecodeError, EncodeError};
 use asn1_values_identifiers::Oid;
-use asn1_values_numbers::Integer;
+use asn1_values_integers::Integer;
 use asn1_values_octets::OctetString;
 use asn1_values_strings::VisibleString;
 use per_codec::reading::decode_with_remainder;

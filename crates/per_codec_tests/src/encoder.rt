@@ -1,6 +1,5 @@
 //! Values that are written by one call after another of an encoder.
-use asn1_schema_bounds::Bounded;
-use asn1_schema_constraints::{Constraint, Constraints, Extensible, Size};
+use asn1_schema_constraints::{Bounded, Constraint, Constraints, Extensible, Size};
 use asn1_schema_encode::{Encode, Encoder as Writer};
 use asn1_schema_faults::EncodeError;
 use asn1_schema_tags::Tag;

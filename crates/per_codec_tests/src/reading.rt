@@ -1,8 +1,7 @@
 //! What readers and a decoder leave, lend and refuse.
 ghost use Rattle.std.specs.Prelude.{◌<◌};
 
-use asn1_schema_bounds::Bounded;
-use asn1_schema_constraints::Constraints;
+use asn1_schema_constraints::{Bounded, Constraints};
 use asn1_schema_decode::Decoder as _;
 use asn1_schema_faults::{CodecKind, DecodeError};
 use asn1_schema_tags::Tag;

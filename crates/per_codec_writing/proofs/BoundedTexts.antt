@@ -9,9 +9,9 @@ use Rattle.asn1_model.specs.Value.{number}
 use Rattle.asn1_model.specs.Numbers.{signed_octets, is_at_most, is_from, is_to, is_within, fits_128}
 use Rattle.asn1_model.specs.Tables.{is_bounded}
 use Rattle.asn1_model.specs.Per
-use Rattle.asn1_schema_bounds.proofs.Common.{number_order}
-use Rattle.asn1_schema_bounds.proofs.Meets.{is_above, is_below, later_admits, earlier_admits}
-use Rattle.asn1_schema_bounds.specs.Bounds.{lower, upper, later, earlier}
+use Rattle.asn1_schema_constraints.proofs.Common.{number_order}
+use Rattle.asn1_schema_constraints.proofs.Meets.{is_above, is_below, later_admits, earlier_admits}
+use Rattle.asn1_schema_constraints.specs.Bounds.{lower, upper, later, earlier}
 use Rattle.asn1_schema_constraints.specs.Terms.{bounds_of, held_of}
 use Rattle.asn1_schema_constraints.specs.declared.extensions.Extensible.{Extensible}
 use Rattle.asn1_schema_constraints.specs.declared.parts.Value.{Value}
@@ -19,7 +19,7 @@ use Rattle.asn1_schema_faults.specs.declared.EncodeError.{EncodeError}
 use Rattle.asn1_values_natives.specs.Octets.{plain}
 use Rattle.asn1_values_natives.specs.Ranges.{whole_range}
 use Rattle.asn1_values_natives.proofs.Widths.{signed_octets-le}
-use Rattle.per_codec_texts.specs.Texts.{as_text, text_at}
+use Rattle.per_codec_packing.specs.Texts.{as_text, text_at}
 use Rattle.per_codec_writing.specs.Writing.{Packed, Adds, place, plus}
 use Rattle.per_codec_writing.proofs.FillingTexts.{adds_text, adds_same, adds_both, if_true, if_false}
 use Rattle.per_codec_writing.proofs.NumberTexts.{Did, did_same, did_behind, is_at_most_le}

@@ -9,7 +9,7 @@ use Rattle.asn1_model.specs.Types.{any_count}
 use Rattle.asn1_model.specs.Value.{text}
 use Rattle.asn1_model.specs.Per
 use Rattle.per_codec_alphabets.specs.Codes.{Coded, SameCharacters}
-use Rattle.per_codec_texts.specs.Texts.{text_at}
+use Rattle.per_codec_packing.specs.Texts.{text_at}
 use Rattle.per_codec_writing.proofs.FillingTexts.{if_true, cond_true, cond_false}
 use Rattle.per_codec_writing.specs.Units.{forms_of}
 use Rattle.per_codec_writing.proofs.Sizes.{sized_padded}

@@ -6,7 +6,7 @@ use Rattle.asn1_model.specs.Numbers.{binary, digits, width, octet_width, least_o
 use Rattle.asn1_model.specs.Per
 use Rattle.asn1_values_bits.proofs.Binary.{binary_split, binary_low}
 use Rattle.asn1_values_natives.proofs.Widths.{octet_width-octets, octets-least, pow256}
-use Rattle.per_codec_texts.specs.Texts.{as_text, text_at}
+use Rattle.per_codec_packing.specs.Texts.{as_text, text_at}
 use Rattle.per_codec_writing.specs.Writing.{Packed, Adds, place, plus, fill_at}
 use Rattle.per_codec_writing.proofs.FillingTexts.{adds_text, adds_same, if_true, if_false, cond_true, cond_false, adds_both, adds_bits_at_octet}
 

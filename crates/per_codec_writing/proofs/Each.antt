@@ -2,7 +2,7 @@
 use Rattle.std.proofs.Common.{◌≡◌, ℕ, ◌+◌, ◌<◌, ◌≤◌, List, [], ◌∷◌, length, get_or, drop, Some, ap, subst, sym, ◌∙◌}
 use Rattle.std.proofs.lemmas.List.{append-nil, drop_more}
 use Rattle.asn1_model.specs.Form.{joined}
-use Rattle.per_codec_texts.specs.Texts.{text_at, as_form}
+use Rattle.per_codec_packing.specs.Texts.{text_at, as_form}
 use Rattle.per_codec_packing.proofs.Spread.{none_left}
 use Rattle.per_codec_writing.specs.Writing.{Packed, Adds, place}
 use Rattle.per_codec_writing.proofs.FillingTexts.{adds_both}

@@ -4,7 +4,7 @@ use Rattle.std.proofs.lemmas.List.{append-nil}
 use Rattle.asn1_model.specs.Numbers.{missing}
 use Rattle.asn1_model.specs.Form.{exactly, placed, only_if}
 use Rattle.asn1_model.specs.Per
-use Rattle.per_codec_texts.specs.Texts.{as_text, text_at}
+use Rattle.per_codec_packing.specs.Texts.{as_text, text_at}
 use Rattle.per_codec_packing.proofs.Adding.{adds_bits, adds_filling}
 pub use Rattle.per_codec_packing.proofs.Adding.{adds_text, adds_same, adds_both, none_first, none_second}
 use Rattle.per_codec_writing.specs.Writing.{Packed, Adds, place, plus, fill_at}

@@ -9,7 +9,7 @@ use Rattle.asn1_model.specs.Strings.{each_is, is_octet}
 use Rattle.asn1_model.specs.Per
 use Rattle.asn1_values_natives.proofs.OctetLaws.{AreOctets}
 use Rattle.asn1_values_natives.proofs.TwosComplement.{octets-all}
-use Rattle.per_codec_texts.specs.Texts.{as_text, text_at}
+use Rattle.per_codec_packing.specs.Texts.{as_text, text_at}
 use Rattle.per_codec_writing.specs.Writing.{Packed, Adds, place, plus}
 use Rattle.per_codec_writing.specs.Units.{together, forms_of}
 use Rattle.per_codec_writing.proofs.FillingTexts.{adds_both, adds_same, if_true}

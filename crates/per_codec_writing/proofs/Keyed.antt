@@ -1,7 +1,7 @@
 -- Texts beside their complete encodings, one after another.
 use Rattle.std.proofs.Common.{◌≡◌, ℕ, ◌+◌, ◌<◌, List, [], ◌∷◌, ◌++◌, length, take, get_or, ap, subst, sym, ◌∙◌}
 use Rattle.std.proofs.lemmas.List.{take_more}
-use Rattle.per_codec_texts.specs.Texts.{Text}
+use Rattle.per_codec_packing.specs.Texts.{Text}
 use Rattle.per_codec_writing.specs.Keys.{IsKeyed, AreKeyed}
 
 one_behind : (ts : List Text) (ws : List (List ℕ)) (t : Text) (w : List ℕ) → AreKeyed ts ws → IsKeyed t w → AreKeyed (ts ++ t ∷ []) (ws ++ w ∷ [])

@@ -5,7 +5,7 @@ use Rattle.asn1_model.specs.Form.{exactly}
 use Rattle.asn1_model.specs.Numbers.{binary}
 use Rattle.asn1_model.specs.Per
 use Rattle.asn1_values_bits.proofs.Binary.{binary_join}
-use Rattle.per_codec_texts.specs.Texts.{as_text, text_at}
+use Rattle.per_codec_packing.specs.Texts.{as_text, text_at}
 use Rattle.per_codec_writing.specs.Writing.{Packed, Adds, place, plus, fill_at}
 use Rattle.per_codec_writing.proofs.FillingTexts.{adds_text, if_true, cond_true, cond_false, adds_at_octet, adds_bits_at_octet}
 

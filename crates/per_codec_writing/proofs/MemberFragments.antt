@@ -5,7 +5,7 @@ use Rattle.std.proofs.lemmas.List.{length-drop, drop-drop, take_all, take-map, d
 use Rattle.asn1_model.specs.Form.{exactly, both, joined}
 use Rattle.asn1_model.specs.Numbers.{binary}
 use Rattle.asn1_model.specs.Per
-use Rattle.per_codec_texts.specs.Texts.{text_at, as_form}
+use Rattle.per_codec_packing.specs.Texts.{text_at, as_form}
 use Rattle.per_codec_writing.specs.Writing.{Packed, Adds, place}
 use Rattle.per_codec_writing.proofs.FillingTexts.{adds_both, adds_same, if_true}
 use Rattle.per_codec_writing.proofs.Fragments.{first_of_them, none_of_them}

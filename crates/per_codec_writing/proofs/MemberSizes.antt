@@ -5,12 +5,12 @@ use Rattle.asn1_model.specs.Form.{only_if, both, joined}
 use Rattle.asn1_model.specs.Numbers.{is_count_within}
 use Rattle.asn1_model.specs.Schema.{Size, Counts}
 use Rattle.asn1_model.specs.Per
-use Rattle.asn1_schema_bounds.specs.Bounds.{counts_of, upper}
+use Rattle.asn1_schema_constraints.specs.Bounds.{counts_of, upper}
 use Rattle.asn1_schema_constraints.specs.Sets.{has_additions}
 use Rattle.asn1_schema_constraints.specs.Terms.{sizes_of}
 use Rattle.asn1_schema_constraints.specs.declared.extensions.Extensible.{Extensible}
 use Rattle.asn1_schema_constraints.specs.declared.parts.Size.{Size as SizeRange}
-use Rattle.per_codec_texts.specs.Texts.{text_at}
+use Rattle.per_codec_packing.specs.Texts.{text_at}
 use Rattle.per_codec_writing.specs.Writing.{Packed, Adds, place}
 use Rattle.per_codec_writing.proofs.FillingTexts.{if_true, if_false, cond_true, cond_false, adds_both}
 use Rattle.per_codec_writing.proofs.Sizes.{unmarked_text, any_number}

@@ -11,7 +11,7 @@ use Rattle.asn1_model.specs.Per
 use Rattle.asn1_schema_faults.specs.declared.EncodeError.{EncodeError}
 use Rattle.asn1_schema_faults.specs.declared.EncodeError.TheVariants as Fault
 use Rattle.asn1_values_bits.proofs.Binary.{binary_join}
-use Rattle.per_codec_texts.specs.Texts.{Text, as_text, text_at}
+use Rattle.per_codec_packing.specs.Texts.{Text, as_text, text_at}
 use Rattle.per_codec_writing.specs.Writing.{Packed, Adds, Refuses, place, plus}
 use Rattle.per_codec_writing.proofs.FillingTexts.{adds_text, adds_same, adds_both, none_second, if_true, cond_true, cond_false}
 

@@ -10,7 +10,7 @@ use Rattle.asn1_model.specs.Strings.{Run, run, characters_of, is_among, is_octet
 use Rattle.asn1_model.specs.Per
 use Rattle.asn1_values_alphabets.specs.Permitted.{permits_all}
 use Rattle.per_codec_alphabets.specs.Codes.{Coded, SameCharacters}
-use Rattle.per_codec_texts.specs.Texts.{text_at}
+use Rattle.per_codec_packing.specs.Texts.{text_at}
 use Rattle.per_codec_writing.specs.Writing.{Packed, Adds, place}
 use Rattle.per_codec_writing.proofs.FillingTexts.{adds_same, if_true}
 use Rattle.per_codec_writing.specs.Units.{forms_of}

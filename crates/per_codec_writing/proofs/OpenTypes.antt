@@ -6,9 +6,9 @@ use Rattle.asn1_model.specs.Form.{exactly, only_if, written}
 use Rattle.asn1_model.specs.Numbers.{missing, packed}
 use Rattle.asn1_model.specs.Per
 use Rattle.asn1_model.specs.Strings.{each_is, is_octet}
-use Rattle.asn1_laws.proofs.Octets.{eights_units, packed_octets}
+use Rattle.asn1_laws_values.proofs.Octets.{eights_units, packed_octets}
 use Rattle.asn1_values_bits.specs.Octets.{filled_up}
-use Rattle.per_codec_texts.specs.Texts.{text_at}
+use Rattle.per_codec_packing.specs.Texts.{text_at}
 use Rattle.per_codec_writing.specs.Writing.{Packed, Adds, place}
 use Rattle.per_codec_writing.proofs.FillingTexts.{adds_same, if_true}
 

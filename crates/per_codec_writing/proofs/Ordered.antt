@@ -9,7 +9,7 @@ use Rattle.asn1_model.specs.Per
 use Rattle.asn1_laws_numbers.proofs.Ordered.{ordered_as_bits}
 use Rattle.asn1_schema_order.specs.Entries.{octets_of, ArePlaced, AreInOrder}
 use Rattle.asn1_schema_order.specs.declared.encodings.Entry.{Entry}
-use Rattle.per_codec_texts.specs.Texts.{Text, text_at, as_form}
+use Rattle.per_codec_packing.specs.Texts.{Text, text_at, as_form}
 use Rattle.per_codec_packing.specs.Viewed.{text_of}
 use Rattle.per_codec_packing.specs.declared.text_view.TextView.{TextView}
 use Rattle.per_codec_writing.specs.Keys.{AreKeyed}

@@ -7,7 +7,7 @@ use Rattle.asn1_model.specs.Numbers.{binary}
 use Rattle.asn1_model.specs.Schema.{Size, Counts}
 use Rattle.asn1_model.specs.Strings.{each_is}
 use Rattle.asn1_model.specs.Per
-use Rattle.per_codec_texts.specs.Texts.{Text, on, text_at}
+use Rattle.per_codec_packing.specs.Texts.{Text, on, text_at}
 
 -- no text at any position
 abbrev Never : Per.BitForm → Type 0

@@ -7,7 +7,7 @@ use Rattle.asn1_model.specs.Strings.{each_is, is_octet, is_utf8_after, is_identi
 use Rattle.asn1_model.specs.Types.{any_count}
 use Rattle.asn1_model.specs.Value.{bit_list, octet_list, text, arcs}
 use Rattle.asn1_model.specs.Per
-use Rattle.per_codec_texts.specs.Texts.{text_at}
+use Rattle.per_codec_packing.specs.Texts.{text_at}
 use Rattle.per_codec_writing.proofs.FillingTexts.{if_true}
 use Rattle.per_codec_writing.specs.Units.{forms_of}
 use Rattle.per_codec_writing.proofs.Fragments.{forms_of_octets}

@@ -4,7 +4,7 @@ use Rattle.asn1_model.specs.Form.{written}
 use Rattle.asn1_model.specs.Numbers.{octet_bits}
 use Rattle.asn1_model.specs.Strings.{each_is, is_octet}
 use Rattle.asn1_model.specs.Per.{complete}
-use Rattle.per_codec_texts.specs.Texts.{Text, as_form}
+use Rattle.per_codec_packing.specs.Texts.{Text, as_form}
 
 -- The octets are the complete encoding of the text (X.691 11.1).
 pub record IsKeyed (t : Text) (w : List ℕ) : Type 0 where

@@ -1,7 +1,7 @@
 -- The members of a bag.
 use Rattle.std.specs.Prelude.{List, map}
 use Rattle.asn1_model.specs.Per
-use Rattle.per_codec_texts.specs.Texts.{Text, as_form}
+use Rattle.per_codec_packing.specs.Texts.{Text, as_form}
 use Rattle.per_codec_packing.specs.Viewed.{text_of}
 use Rattle.per_codec_packing.specs.declared.text_view.TextView.{TextView}
 

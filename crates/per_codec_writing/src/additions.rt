@@ -2,7 +2,7 @@
 ghost use Rattle.std.specs.Prelude.{◌≡◌, map, MatchResult, IfOk, IfErr};
 ghost use Rattle.asn1_model.specs.Form.{is_present, joined, present_ones};
 ghost use Rattle.asn1_model.specs.Per.{additions, normally_few, bit_units};
-ghost use Rattle.per_codec_texts.specs.Texts.{text_at};
+ghost use Rattle.per_codec_packing.specs.Texts.{text_at};
 ghost use Rattle.per_codec_writing.specs.Writing.{Adds, place};
 ghost use Rattle.per_codec_writing.specs.Additions.{as_open_types};
 

@@ -3,7 +3,7 @@ ghost use Rattle.std.specs.Prelude.{◌≡◌, MatchResult};
 ghost use Rattle.asn1_model.specs.Per.{form};
 ghost use Rattle.asn1_model.specs.Schema.{boolean};
 ghost use Rattle.asn1_model.specs.Value.{truth};
-ghost use Rattle.per_codec_texts.specs.Texts.{text_at};
+ghost use Rattle.per_codec_packing.specs.Texts.{text_at};
 ghost use Rattle.per_codec_writing.specs.Writing.{Adds, place};
 
 use asn1_schema_faults::EncodeError;

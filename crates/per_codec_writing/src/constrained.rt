@@ -2,7 +2,7 @@
 ghost use Rattle.std.specs.Prelude.{◌≡◌, ◌≤◌, true, MatchResult};
 ghost use Rattle.asn1_model.specs.Numbers.{octet_width as octet_width_of};
 ghost use Rattle.asn1_model.specs.Per.{constrained};
-ghost use Rattle.per_codec_texts.specs.Texts.{text_at};
+ghost use Rattle.per_codec_packing.specs.Texts.{text_at};
 ghost use Rattle.per_codec_writing.specs.Writing.{Adds, Refuses, place};
 
 use asn1_schema_faults::EncodeError;

@@ -4,16 +4,15 @@ ghost use Rattle.asn1_model.specs.Numbers.{is_within};
 ghost use Rattle.asn1_model.specs.Per.{form, marked, semi_constrained, unconstrained, whole_number as number_form};
 ghost use Rattle.asn1_model.specs.Schema.{integer};
 ghost use Rattle.asn1_model.specs.Value.{number as number_value};
-ghost use Rattle.asn1_schema_bounds.specs.Bounds.{admits_number, lower, upper};
+ghost use Rattle.asn1_schema_constraints.specs.Bounds.{admits_number, lower, upper};
 ghost use Rattle.asn1_schema_constraints.specs.Terms.{bounds_of, held_of};
-ghost use Rattle.per_codec_texts.specs.Texts.{text_at};
+ghost use Rattle.per_codec_packing.specs.Texts.{text_at};
 ghost use Rattle.per_codec_writing.specs.Writing.{Adds, Refuses, place};
 
 use crate::{push_constrained, push_counted_octets};
-use asn1_schema_bounds::Bounded;
-use asn1_schema_constraints::Constraints;
+use asn1_schema_constraints::{Bounded, Constraints};
 use asn1_schema_faults::EncodeError;
-use asn1_values_integer_types::IntegerType;
+use asn1_values_integers::IntegerType;
 use per_codec_packing::Packing;
 
 /// Adds a number without a lower bound, in its fewest octets of two's complement behind their number (X.691 11.8 and 13.2.4). The only

@@ -3,7 +3,7 @@ ghost use Rattle.std.specs.Prelude.{◌≡◌, true, Some, MatchResult, IfOk};
 ghost use Rattle.asn1_model.specs.Form.{ascending, joined, stands_before, written};
 ghost use Rattle.asn1_model.specs.Per.{bit_less, complete};
 ghost use Rattle.asn1_model.specs.Strings.{each_is, is_octet};
-ghost use Rattle.per_codec_texts.specs.Texts.{text_at};
+ghost use Rattle.per_codec_packing.specs.Texts.{text_at};
 ghost use Rattle.per_codec_writing.specs.Writing.{Adds, place};
 ghost use Rattle.per_codec_writing.specs.Keys.{AreKeyed};
 ghost use Rattle.per_codec_writing.specs.Members.{forms, forms_of};

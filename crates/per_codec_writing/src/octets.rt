@@ -3,14 +3,13 @@ ghost use Rattle.std.specs.Prelude.{MatchResult};
 ghost use Rattle.asn1_model.specs.Per.{form};
 ghost use Rattle.asn1_model.specs.Schema.{octet_string};
 ghost use Rattle.asn1_model.specs.Value.{octet_list};
-ghost use Rattle.asn1_schema_bounds.specs.Bounds.{counts_of};
+ghost use Rattle.asn1_schema_constraints.specs.Bounds.{counts_of};
 ghost use Rattle.asn1_schema_constraints.specs.Terms.{sizes_of};
-ghost use Rattle.per_codec_texts.specs.Texts.{text_at};
+ghost use Rattle.per_codec_packing.specs.Texts.{text_at};
 ghost use Rattle.per_codec_writing.specs.Writing.{Adds, Refuses, place};
 
 use crate::{pads_string, push_sized};
-use asn1_schema_bounds::Bounded;
-use asn1_schema_constraints::Constraints;
+use asn1_schema_constraints::{Bounded, Constraints};
 use asn1_schema_faults::EncodeError;
 use per_codec_packing::Packing;
 

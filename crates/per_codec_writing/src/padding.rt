@@ -1,12 +1,11 @@
 //! Filling in front of units of a constrained number, in the aligned variant (X.691 16, 17 and 30).
 ghost use Rattle.std.specs.Prelude.{◌≡◌};
 ghost use Rattle.asn1_model.specs.Per.{fixed_bits as fixed_bits_of, pads_string as string_is_padded, pads_characters as characters_are_padded};
-ghost use Rattle.asn1_schema_bounds.specs.Bounds.{counts_of};
+ghost use Rattle.asn1_schema_constraints.specs.Bounds.{counts_of};
 ghost use Rattle.asn1_schema_constraints.specs.Terms.{sizes_of};
 ghost use Rattle.per_codec_writing.specs.Padding.{is_padded};
 
-use asn1_schema_bounds::Bounded;
-use asn1_schema_constraints::Constraints;
+use asn1_schema_constraints::{Bounded, Constraints};
 
 /// Whether a string of so many units, each of so many bits, stands at an octet: one of no bits does not, nor does one of a fixed size of at
 /// most 16 bits (X.691 16.9 to 16.11 and 17.6 to 17.8).

@@ -3,7 +3,7 @@ ghost use Rattle.std.specs.Prelude.{◌≡◌, MatchResult};
 ghost use Rattle.asn1_model.specs.Per.{form, mark_of};
 ghost use Rattle.asn1_model.specs.Schema.{enumerated};
 ghost use Rattle.asn1_model.specs.Value.{item};
-ghost use Rattle.per_codec_texts.specs.Texts.{text_at};
+ghost use Rattle.per_codec_packing.specs.Texts.{text_at};
 ghost use Rattle.per_codec_writing.specs.Writing.{Adds, Refuses, place};
 ghost use Rattle.per_codec_writing.specs.Places.{place_form};
 

@@ -3,15 +3,14 @@ ghost use Rattle.std.specs.Prelude.{◌≡◌, ◌-◌, ◌≤◌, ◌&&◌, tru
 ghost use Rattle.asn1_model.specs.Form.{both, joined};
 ghost use Rattle.asn1_model.specs.Numbers.{is_count_within};
 ghost use Rattle.asn1_model.specs.Per.{at_octet, constrained, counted, marked, sized, sized_root};
-ghost use Rattle.asn1_schema_bounds.specs.Bounds.{counts_of, upper};
+ghost use Rattle.asn1_schema_constraints.specs.Bounds.{counts_of, upper};
 ghost use Rattle.asn1_schema_constraints.specs.Terms.{sizes_of};
-ghost use Rattle.per_codec_texts.specs.Texts.{text_at};
+ghost use Rattle.per_codec_packing.specs.Texts.{text_at};
 ghost use Rattle.per_codec_writing.specs.Writing.{Adds, Refuses, place};
 ghost use Rattle.per_codec_writing.specs.Units.{forms_of};
 
 use crate::{Units, align, push_constrained, push_counted};
-use asn1_schema_bounds::Bounded;
-use asn1_schema_constraints::Constraints;
+use asn1_schema_constraints::{Bounded, Constraints};
 use asn1_schema_faults::EncodeError;
 use per_codec_packing::Packing;
 

@@ -3,17 +3,16 @@ ghost use Rattle.std.specs.Prelude.{◌≡◌, ◌-◌, ◌≤◌, true, false, 
 ghost use Rattle.asn1_model.specs.Form.{both, joined};
 ghost use Rattle.asn1_model.specs.Numbers.{is_count_within};
 ghost use Rattle.asn1_model.specs.Per.{constrained, counted, marked, never, sized, sized_root};
-ghost use Rattle.asn1_schema_bounds.specs.Bounds.{counts_of, members_of, upper};
+ghost use Rattle.asn1_schema_constraints.specs.Bounds.{counts_of, members_of, upper};
 ghost use Rattle.asn1_schema_constraints.specs.Terms.{sizes_of};
-ghost use Rattle.per_codec_texts.specs.Texts.{text_at};
+ghost use Rattle.per_codec_packing.specs.Texts.{text_at};
 ghost use Rattle.per_codec_writing.specs.Writing.{Adds, Refuses, place};
 ghost use Rattle.per_codec_writing.specs.Members.{forms_of};
 
 use crate::counted_members::push_counted;
 use crate::members::push_each;
 use crate::push_constrained;
-use asn1_schema_bounds::Bounded;
-use asn1_schema_constraints::Constraints;
+use asn1_schema_constraints::{Bounded, Constraints};
 use asn1_schema_faults::EncodeError;
 use per_codec_packing::{Packing, TextView};
 

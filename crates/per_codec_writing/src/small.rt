@@ -1,7 +1,7 @@
 //! Normally small whole numbers (X.691 11.6).
 ghost use Rattle.std.specs.Prelude.{◌≡◌, MatchResult};
 ghost use Rattle.asn1_model.specs.Per.{normally_small};
-ghost use Rattle.per_codec_texts.specs.Texts.{text_at};
+ghost use Rattle.per_codec_packing.specs.Texts.{text_at};
 ghost use Rattle.per_codec_writing.specs.Writing.{Adds, place};
 
 use crate::integers::push_semi_constrained;

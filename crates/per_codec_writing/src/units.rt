@@ -2,7 +2,7 @@
 ghost use Rattle.std.specs.Prelude.{◌≡◌, ◌≤◌, ◌∷◌, [], Bool, List, length, map, slice_range, MatchResult};
 ghost use Rattle.asn1_model.specs.Numbers.{binary};
 ghost use Rattle.asn1_values_bits.specs.BitStr.{bits_of};
-ghost use Rattle.per_codec_texts.specs.Texts.{as_text};
+ghost use Rattle.per_codec_packing.specs.Texts.{as_text};
 ghost use Rattle.per_codec_writing.specs.Writing.{plus};
 ghost use Rattle.per_codec_writing.specs.Units.{together};
 

@@ -4,7 +4,7 @@ use crate::judging::judge;
 use crate::line::{Line, LineError};
 use crate::named::strings::judge_string;
 use asn1_values_bit_strings::BitString;
-use asn1_values_numbers::Integer;
+use asn1_values_integers::Integer;
 use asn1_values_octets::OctetString;
 use std::alloc::Global;
 use std::marker::PhantomData;

@@ -4,10 +4,9 @@ use crate::judging::judge;
 use crate::line::{Line, LineError};
 use crate::named::lists::judge_list;
 use asn1_values_strings::{
-    GeneralString, GraphicString, Ia5String, NumericString, PrintableString, TeletexString,
-    VisibleString,
+    BmpString, GeneralString, GraphicString, Ia5String, NumericString, PrintableString,
+    TeletexString, VisibleString,
 };
-use asn1_values_strings_wide::BmpString;
 use std::alloc::Global;
 use std::marker::PhantomData;
 

@@ -1,5 +1,5 @@
 use Rattle.asn1_relay_core.specs.Coding.{rules_of}
-use Rattle.asn1_laws_routes.proofs.Answers.{one_answer}
+use Rattle.asn1_laws_versions.proofs.Answers.{one_answer}
 use Rattle.asn1_relay_core.proofs.translation.one_answer_is_right.Goals as goal
 
 pub returns : goal.returns

@@ -1,5 +1,5 @@
 use Rattle.std.proofs.Common.{◌-◌, length, take, ltb, refl, ap, sym, subst, arith}
-use Rattle.asn1_schema_messages.specs.Messages.{NoMessage, Tells}
+use Rattle.asn1_schema_decode.specs.Messages.{NoMessage, Tells}
 use Rattle.asn1_relay_core.specs.Coding.{rules_of}
 use Rattle.asn1_relay_streams.specs.Fronts.{Tries}
 use Rattle.asn1_relay_streams.proofs.Trying.{tried_none, tried_relayed, tried_nothing}

@@ -1,6 +1,6 @@
 use Rattle.std.proofs.Common.{leb, ap}
-use Rattle.asn1_schema_bounds.proofs.Meets.{meet_commutes}
-use Rattle.asn1_schema_bounds.proofs.Common.{count_order}
+use Rattle.asn1_schema_constraints.proofs.Meets.{meet_commutes}
+use Rattle.asn1_schema_constraints.proofs.Common.{count_order}
 use Rattle.asn1_schema_constraints.proofs.SetLaws.{sizes_group}
 use Rattle.asn1_schema_constraints.proofs.laws.sizes_intersect.Goals as goal
 

@@ -1,7 +1,7 @@
 use Rattle.std.proofs.Common.{ap}
 use Rattle.asn1_model.specs.Numbers.{is_at_most}
-use Rattle.asn1_schema_bounds.proofs.Meets.{meet_commutes}
-use Rattle.asn1_schema_bounds.proofs.Common.{number_order}
+use Rattle.asn1_schema_constraints.proofs.Meets.{meet_commutes}
+use Rattle.asn1_schema_constraints.proofs.Common.{number_order}
 use Rattle.asn1_schema_constraints.proofs.SetLaws.{values_group}
 use Rattle.asn1_schema_constraints.proofs.laws.values_intersect.Goals as goal
 

@@ -1,5 +1,5 @@
 use Rattle.std.proofs.Common.{ap, sym, ◌∙◌}
-use Rattle.asn1_schema_bounds.specs.Bounds.{members_of}
+use Rattle.asn1_schema_constraints.specs.Bounds.{members_of}
 use Rattle.asn1_schema_constraints.specs.Terms.{sizes_of}
 use Rattle.oer_codec_encoder.proofs.BagScopes.{does_begin_bag, no_begin_bag}
 use Rattle.oer_codec_encoder.proofs.bags.begin_bag.Goals as goal

@@ -1,5 +1,5 @@
 use Rattle.std.proofs.Common.{sym, ◌∙◌}
-use Rattle.asn1_schema_bounds.specs.Bounds.{members_of}
+use Rattle.asn1_schema_constraints.specs.Bounds.{members_of}
 use Rattle.asn1_schema_constraints.specs.Terms.{sizes_of}
 use Rattle.oer_codec_encoder.proofs.Scopes.{does_begin_members, no_begin_members}
 use Rattle.oer_codec_encoder.proofs.sequences.begin_members.Goals as goal

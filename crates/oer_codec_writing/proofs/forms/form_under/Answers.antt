@@ -1,8 +1,8 @@
 use Rattle.std.proofs.Common.{◌≡◌, ◌∙◌, ap, sym, cond, rules}
 use Rattle.asn1_model.specs.Oer.{signed_form, natural_form}
-use Rattle.asn1_schema_bounds.specs.Bounds.{lower, upper}
-use Rattle.asn1_schema_bounds.specs.Widths.{has_sign, fixed_width}
-use Rattle.asn1_schema_bounds.proofs.WidthLaws.{form_told}
+use Rattle.asn1_schema_constraints.specs.Bounds.{lower, upper}
+use Rattle.asn1_schema_constraints.specs.Widths.{has_sign, fixed_width}
+use Rattle.asn1_schema_constraints.proofs.WidthLaws.{form_told}
 use Rattle.oer_codec_writing.proofs.forms.form_under.Goals as goal
 
 pub returns-clause-form : goal.returns-clause-form

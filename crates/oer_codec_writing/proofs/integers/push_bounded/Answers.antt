@@ -1,6 +1,6 @@
 use Rattle.std.proofs.Common.{◌≤◌, ℤ, IfSome, to_z-of_z, ap, subst, sym, ◌∙◌}
 use Rattle.asn1_model.specs.Numbers.{signed_octets}
-use Rattle.asn1_schema_bounds.specs.Bounds.{lower, upper}
+use Rattle.asn1_schema_constraints.specs.Bounds.{lower, upper}
 use Rattle.asn1_values_natives.specs.Octets.{is_below_zero}
 use Rattle.oer_codec_writing.proofs.IntegerTexts.{if_some, signed_width, width_few, natural_sign}
 use Rattle.oer_codec_writing.proofs.integers.push_bounded.Goals as goal

@@ -1,7 +1,7 @@
 use Rattle.std.proofs.Common.{◌≡◌, ℤ, true, false, Option, None, to_z-of_z, subst, sym, ◌∙◌}
 use Rattle.asn1_model.specs.Form.{written}
 use Rattle.asn1_model.specs.Oer
-use Rattle.asn1_schema_bounds.specs.Bounds.{admits_number, lower, upper}
+use Rattle.asn1_schema_constraints.specs.Bounds.{admits_number, lower, upper}
 use Rattle.asn1_schema_constraints.specs.Terms.{bounds_of, held_of}
 use Rattle.asn1_schema_constraints.specs.declared.extensions.Extensible.{Extensible}
 use Rattle.asn1_schema_constraints.specs.declared.parts.Value.{Value}

@@ -1,5 +1,5 @@
 use Rattle.std.proofs.Common.{◌≤◌, ◌-◌, ◌/◌, length, drop, ap, sym, subst, ◌∙◌}
-use Rattle.asn1_schema_messages.specs.Messages.{Tells}
+use Rattle.asn1_schema_decode.specs.Messages.{Tells}
 use Rattle.asn1_schema_presented.proofs.Joined.{raised}
 use Rattle.per_codec.specs.Messages.{rules_of}
 use Rattle.per_codec.proofs.Messages.{left_within, told_from, none_told_from, none_finished_from}

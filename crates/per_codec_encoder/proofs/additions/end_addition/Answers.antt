@@ -1,6 +1,6 @@
 use Rattle.std.proofs.Common.{◌≡◌, Bool, true, Some, subst, sym}
 use Rattle.asn1_schema_presented.specs.Records.{addition_ends}
-use Rattle.per_codec_texts.specs.Texts.{plain}
+use Rattle.per_codec_packing.specs.Texts.{plain}
 use Rattle.per_codec_packing.specs.Packed.{Packed}
 use Rattle.per_codec_encoder.specs.declared.frame.Frame.TheVariants.{OpenType}
 use Rattle.per_codec_encoder.specs.Holding.{Cannot}

@@ -1,5 +1,5 @@
 use Rattle.std.proofs.Common.{◌+◌, ◌∙◌}
-use Rattle.asn1_schema_bounds.specs.Bounds.{members_of}
+use Rattle.asn1_schema_constraints.specs.Bounds.{members_of}
 use Rattle.asn1_schema_constraints.specs.Terms.{sizes_of}
 use Rattle.per_codec_encoder.proofs.HeadingTexts.{raised_on}
 use Rattle.per_codec_encoder.proofs.Bagging.{cut_back, cut_within, cut_place, does_begin_bag, cannot_begin_bag}

@@ -1,5 +1,5 @@
 use Rattle.std.proofs.Common.{◌≡◌, ◌++◌, ◌∷◌, [], true, Some, refl, subst}
-use Rattle.per_codec_texts.specs.Texts.{plain}
+use Rattle.per_codec_packing.specs.Texts.{plain}
 use Rattle.per_codec_packing.specs.Packed.{Packed}
 use Rattle.per_codec_encoder.specs.declared.frame.Frame.TheVariants.{OpenType}
 use Rattle.per_codec_encoder.proofs.Ending.{does_end_open}

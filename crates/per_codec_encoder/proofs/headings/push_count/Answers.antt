@@ -1,5 +1,5 @@
 use Rattle.std.proofs.Common.{◌-◌, ◌^◌, unwrap_or, refl, ap, arith, ◌∙◌}
-use Rattle.asn1_schema_bounds.specs.Bounds.{counts_of, upper}
+use Rattle.asn1_schema_constraints.specs.Bounds.{counts_of, upper}
 use Rattle.per_codec_encoder.proofs.HeadingTexts.{narrow_heads, narrow_none, raised_on}
 use Rattle.per_codec_encoder.proofs.headings.push_count.Goals as goal
 

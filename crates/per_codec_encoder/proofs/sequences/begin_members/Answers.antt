@@ -1,4 +1,4 @@
-use Rattle.asn1_schema_bounds.specs.Bounds.{members_of}
+use Rattle.asn1_schema_constraints.specs.Bounds.{members_of}
 use Rattle.asn1_schema_constraints.specs.Terms.{sizes_of}
 use Rattle.per_codec_encoder.proofs.HeadingTexts.{raised_on}
 use Rattle.per_codec_encoder.proofs.Opening.{does_begin_members, cannot_begin}

@@ -1,6 +1,6 @@
 use Rattle.std.proofs.Common.{◌≡◌, true, false, Some, ap, sym, ◌∙◌}
 use Rattle.asn1_model.specs.Form.{written}
-use Rattle.per_codec_texts.specs.Texts.{as_form}
+use Rattle.per_codec_packing.specs.Texts.{as_form}
 use Rattle.per_codec_packing.specs.Viewed.{text_of}
 use Rattle.per_codec_packing.proofs.Complete.{alone, of_none, of_some}
 use Rattle.per_codec_packing.proofs.completion.complete_in.Goals as goal

@@ -1,6 +1,6 @@
 use Rattle.std.proofs.lemmas.Result.{err_from_is_err_and}
 use Rattle.asn1_model.specs.Per
-use Rattle.asn1_schema_bounds.specs.Bounds.{lower, upper}
+use Rattle.asn1_schema_constraints.specs.Bounds.{lower, upper}
 use Rattle.per_codec_reading.specs.Fronts.{freedoms, is_aligned}
 use Rattle.per_codec_reading.specs.Lengths.{one_bit}
 use Rattle.per_codec_reading.proofs.Fronts.{misses_also, ok_also, err_also, root_marked_outside_is_free}

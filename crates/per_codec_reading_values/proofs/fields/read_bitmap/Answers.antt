@@ -5,8 +5,8 @@ use Rattle.per_codec_reading.specs.Fronts.{freedoms, is_aligned}
 use Rattle.per_codec_reading.proofs.Fronts.{misses_also, none_misses, long_small_number_is_free}
 use Rattle.asn1_values_bits.specs.BitStr.{bits_of}
 use Rattle.per_codec_reading.specs.Lengths.{one_bit, number_within}
-use Rattle.per_codec_reading_units.specs.Units.{counted_units}
-use Rattle.per_codec_reading_units.specs.Runs.{units_in}
+use Rattle.per_codec_reading.specs.Units.{counted_units}
+use Rattle.per_codec_reading.specs.Runs.{units_in}
 use Rattle.per_codec_reading_values.specs.Fields.{few_form}
 use Rattle.per_codec_reading_values.proofs.FieldFronts.{no_bitmap_bit, no_long_bitmap, long_bitmap, no_short_number, short_of_bits, short_bitmap}
 use Rattle.per_codec_reading_values.proofs.fields.read_bitmap.Goals as goal

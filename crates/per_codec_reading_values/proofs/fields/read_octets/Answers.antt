@@ -1,8 +1,8 @@
 use Rattle.asn1_schema_presented.proofs.Joined.{raised}
 use Rattle.per_codec_reading.specs.Fronts.{freedoms, is_aligned}
 use Rattle.per_codec_reading.proofs.Fronts.{misses_also}
-use Rattle.per_codec_reading_units.specs.Units.{counted_units}
-use Rattle.per_codec_reading_units.specs.Runs.{units_in}
+use Rattle.per_codec_reading.specs.Units.{counted_units}
+use Rattle.per_codec_reading.specs.Runs.{units_in}
 use Rattle.per_codec_reading_values.specs.Fields.{octets_form}
 use Rattle.per_codec_reading_values.proofs.FieldFronts.{octets_read, no_octets_form}
 use Rattle.per_codec_reading_values.proofs.fields.read_octets.Goals as goal

@@ -2,7 +2,7 @@ use Rattle.asn1_schema_presented.proofs.Joined.{raised}
 use Rattle.per_codec_reading.specs.Fronts.{freedoms}
 use Rattle.per_codec_reading.specs.Lengths.{one_bit}
 use Rattle.per_codec_reading.proofs.Fronts.{misses_also}
-use Rattle.per_codec_reading_units.specs.Sizes.{size_mark}
+use Rattle.per_codec_reading.specs.Sizes.{size_mark}
 use Rattle.per_codec_reading_values.proofs.PlaceFronts.{mark_read, no_mark_bit, unmarked}
 use Rattle.per_codec_reading_values.proofs.places.read_mark.Goals as goal
 

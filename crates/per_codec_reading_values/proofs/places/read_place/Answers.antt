@@ -1,7 +1,7 @@
 use Rattle.asn1_schema_presented.proofs.Joined.{raised}
 use Rattle.per_codec_reading.specs.Fronts.{freedoms, is_aligned}
 use Rattle.per_codec_reading.proofs.Fronts.{misses_also}
-use Rattle.per_codec_reading_units.specs.Sizes.{size_mark}
+use Rattle.per_codec_reading.specs.Sizes.{size_mark}
 use Rattle.per_codec_reading_values.specs.Places.{root_form, added_form, place_form}
 use Rattle.per_codec_reading_values.proofs.PlaceFronts.{added_place, root_place, no_place_mark, no_added_place, no_root_place}
 use Rattle.per_codec_reading_values.proofs.places.read_place.Goals as goal

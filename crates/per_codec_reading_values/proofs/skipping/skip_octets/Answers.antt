@@ -2,7 +2,7 @@ use Rattle.std.proofs.Common.{subst}
 use Rattle.asn1_schema_presented.proofs.Joined.{raised}
 use Rattle.per_codec_reading.specs.Fronts.{freedoms, is_aligned}
 use Rattle.per_codec_reading.proofs.Fronts.{misses_also, other_fragments_are_free}
-use Rattle.per_codec_reading_units.specs.Units.{counted_units, piece_form}
+use Rattle.per_codec_reading.specs.Units.{counted_units, piece_form}
 use Rattle.per_codec_reading_values.specs.Fields.{HasPiece}
 use Rattle.per_codec_reading_values.proofs.Passing.{passed_none, passed_more, passed_last, passed_stop, piece_shortens}
 use Rattle.per_codec_reading_values.proofs.skipping.skip_octets.Goals as goal

@@ -4,8 +4,8 @@ use Rattle.per_codec_reading.specs.Fronts.{freedoms, is_aligned}
 use Rattle.per_codec_reading.proofs.Fronts.{misses_also, none_misses}
 use Rattle.asn1_values_bits.specs.BitStr.{bits_of}
 use Rattle.per_codec_reading.specs.Lengths.{length_form}
-use Rattle.per_codec_reading_units.specs.Units.{piece_form}
-use Rattle.per_codec_reading_units.proofs.RunFronts.{piece_in, no_length, too_few}
+use Rattle.per_codec_reading.specs.Units.{piece_form}
+use Rattle.per_codec_reading.proofs.RunFronts.{piece_in, no_length, too_few}
 use Rattle.per_codec_reading_values.proofs.skipping.skip_piece.Goals as goal
 
 pub returns-in_err-length-clause-only : goal.returns-in_err-length-clause-only

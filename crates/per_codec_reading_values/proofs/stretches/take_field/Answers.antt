@@ -2,9 +2,9 @@ use Rattle.std.proofs.Common.{◌∙◌, ap, sym, drop}
 use Rattle.asn1_schema_presented.proofs.Joined.{raised}
 use Rattle.per_codec_fronts.specs.Takes.{Place}
 use Rattle.per_codec_reading.specs.Fronts.{freedoms, is_aligned}
-use Rattle.per_codec_reading_units.specs.Runs.{bits_in}
+use Rattle.per_codec_reading.specs.Runs.{bits_in}
 use Rattle.std.proofs.Common.{Bool, List}
-use Rattle.per_codec_reading_units.specs.declared.runs.RunBits.{RunBits}
+use Rattle.per_codec_reading.specs.declared.runs.RunBits.{RunBits}
 use Rattle.per_codec_reading_values.specs.Fields.{field_form}
 use Rattle.per_codec_reading_values.proofs.Passing.{misses_at}
 use Rattle.per_codec_reading_values.proofs.stretches.take_field.Goals as goal

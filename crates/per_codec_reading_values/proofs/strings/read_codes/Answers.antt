@@ -5,14 +5,14 @@ use Rattle.asn1_model.specs.Schema.{character_string}
 use Rattle.asn1_model.specs.Strings.{permitted}
 use Rattle.asn1_model.specs.Types.{any_count}
 use Rattle.asn1_schema_constraints.specs.Terms.{alphabet_of, sizes_of}
-use Rattle.asn1_laws_fronts_packed.proofs.Strings.{permitted_orderly}
+use Rattle.asn1_laws_fronts.proofs.Strings.{permitted_orderly}
 use Rattle.per_codec_fronts.specs.Takes.{Front}
 use Rattle.per_codec_reading.specs.Fronts.{freedoms, is_aligned, NoneStands}
 use Rattle.per_codec_reading.proofs.Fronts.{misses_also}
-use Rattle.per_codec_reading_units.specs.Runs.{units_in}
-use Rattle.per_codec_reading_units.specs.Sizes.{pads_of, sized_units}
-use Rattle.per_codec_reading_units.specs.declared.sizes.Contents.TheVariants.{Characters}
-use Rattle.per_codec_reading_units.proofs.StringFronts.{sized_size}
+use Rattle.per_codec_reading.specs.Runs.{units_in}
+use Rattle.per_codec_reading.specs.Sizes.{pads_of, sized_units}
+use Rattle.per_codec_reading.specs.declared.sizes.Contents.TheVariants.{Characters}
+use Rattle.per_codec_reading.proofs.StringFronts.{sized_size}
 use Rattle.per_codec_reading_values.proofs.CharacterFronts.{fitting, few_bits, codes_stand, no_codes, no_characters, refused_codes}
 use Rattle.per_codec_reading_values.proofs.strings.read_codes.Goals as goal
 

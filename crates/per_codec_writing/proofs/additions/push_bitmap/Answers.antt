@@ -1,6 +1,6 @@
 use Rattle.std.proofs.Common.{◌≤◌, ◌<◌, ◌∙◌, subst, ap, arith}
 use Rattle.asn1_model.specs.Per.{counted}
-use Rattle.per_codec_texts.specs.Texts.{as_text, text_at}
+use Rattle.per_codec_packing.specs.Texts.{as_text, text_at}
 use Rattle.per_codec_writing.specs.Writing.{Adds, place, plus}
 use Rattle.per_codec_writing.specs.Units.{forms_of}
 use Rattle.per_codec_writing.proofs.AdditionTexts.{alone, adds_few, adds_many}

@@ -1,7 +1,7 @@
 use Rattle.std.proofs.Common.{◌∙◌, length, map, ap, sym, arith}
 use Rattle.std.proofs.lemmas.List.{length-map, take_all}
 use Rattle.asn1_model.specs.Form.{is_present}
-use Rattle.per_codec_texts.specs.Texts.{as_text}
+use Rattle.per_codec_packing.specs.Texts.{as_text}
 use Rattle.per_codec_writing.specs.Writing.{plus}
 use Rattle.per_codec_writing.proofs.AdditionTexts.{adds_few}
 use Rattle.per_codec_writing.proofs.additions.push_presence.Goals as goal

@@ -1,6 +1,6 @@
 use Rattle.std.proofs.Common.{List, Some, ap, sym, ◌∙◌}
 use Rattle.asn1_model.specs.Per
-use Rattle.asn1_schema_bounds.specs.Bounds.{members_of}
+use Rattle.asn1_schema_constraints.specs.Bounds.{members_of}
 use Rattle.asn1_schema_constraints.specs.Terms.{sizes_of}
 use Rattle.per_codec_writing.specs.Writing.{place}
 use Rattle.per_codec_writing.specs.Members.{forms_of}

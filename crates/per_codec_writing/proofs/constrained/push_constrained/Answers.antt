@@ -1,6 +1,6 @@
 use Rattle.std.proofs.Common.{◌≡◌, true, not, ltb, ◌||◌, ap, ◌∙◌, arith}
 use Rattle.asn1_model.specs.Numbers.{binary, width}
-use Rattle.per_codec_texts.specs.Texts.{as_text}
+use Rattle.per_codec_packing.specs.Texts.{as_text}
 use Rattle.per_codec_writing.specs.Writing.{place, plus}
 use Rattle.per_codec_writing.proofs.FillingTexts.{adds_text}
 use Rattle.per_codec_writing.proofs.ConstrainedTexts.{outside, constrained_bits, in_bits_alone, in_bits_below}

@@ -1,6 +1,6 @@
 use Rattle.std.proofs.Common.{◌≡◌, ◌-◌, ◌*◌, ap, ◌∙◌, arith}
 use Rattle.asn1_model.specs.Numbers.{binary, width, octet_width, least_octets}
-use Rattle.per_codec_texts.specs.Texts.{as_text}
+use Rattle.per_codec_packing.specs.Texts.{as_text}
 use Rattle.per_codec_writing.specs.Writing.{plus}
 use Rattle.per_codec_writing.proofs.ConstrainedTexts.{octets_of_span, adds_fewest}
 use Rattle.per_codec_writing.proofs.constrained.push_fewest_octets.Goals as goal

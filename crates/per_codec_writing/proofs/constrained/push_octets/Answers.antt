@@ -1,6 +1,6 @@
 use Rattle.std.proofs.Common.{ap, ◌∙◌, arith}
 use Rattle.asn1_model.specs.Numbers.{binary}
-use Rattle.per_codec_texts.specs.Texts.{as_text}
+use Rattle.per_codec_packing.specs.Texts.{as_text}
 use Rattle.per_codec_writing.specs.Writing.{plus}
 use Rattle.per_codec_writing.proofs.ConstrainedTexts.{adds_octet, adds_two_octets}
 use Rattle.per_codec_writing.proofs.constrained.push_octets.Goals as goal

@@ -1,8 +1,8 @@
 use Rattle.std.proofs.Common.{sym, ◌∙◌, not, ap, ◌∷◌, []}
 use Rattle.std.proofs.lemmas.Int.{to_z-of_z}
 use Rattle.asn1_model.specs.Per
-use Rattle.asn1_schema_bounds.specs.Bounds.{admits_number, lower, upper}
-use Rattle.per_codec_texts.specs.Texts.{as_text}
+use Rattle.asn1_schema_constraints.specs.Bounds.{admits_number, lower, upper}
+use Rattle.per_codec_packing.specs.Texts.{as_text}
 use Rattle.per_codec_writing.specs.Writing.{place, plus}
 use Rattle.per_codec_writing.proofs.NumberTexts.{did_same}
 use Rattle.per_codec_writing.proofs.BoundedTexts.{unmarked_text, unmarked_none, did_inside, adds_outside}

@@ -6,12 +6,12 @@ use Rattle.asn1_model.specs.Numbers.{is_within}
 use Rattle.asn1_model.specs.Per
 use Rattle.asn1_model.specs.Schema.{integer}
 use Rattle.asn1_model.specs.Value.{number as number_value}
-use Rattle.asn1_schema_bounds.specs.Bounds.{admits_number, lower, upper}
+use Rattle.asn1_schema_constraints.specs.Bounds.{admits_number, lower, upper}
 use Rattle.asn1_schema_constraints.specs.Terms.{bounds_of, held_of}
 use Rattle.asn1_schema_constraints.specs.declared.extensions.Extensible.{Extensible}
 use Rattle.asn1_schema_constraints.specs.declared.parts.Value.{Value}
 use Rattle.asn1_values_natives.specs.Ranges.{whole_range}
-use Rattle.per_codec_texts.specs.Texts.{text_at}
+use Rattle.per_codec_packing.specs.Texts.{text_at}
 use Rattle.per_codec_writing.specs.Writing.{Adds, place}
 use Rattle.per_codec_writing.proofs.FillingTexts.{adds_same}
 use Rattle.per_codec_writing.proofs.NumberTexts.{Did, did_same}

@@ -2,7 +2,7 @@ use mir.Syntax.{w128}
 use mir.Val.{SFits}
 use Rattle.std.proofs.Common.{rules, sym, ◌∙◌}
 use Rattle.std.proofs.lemmas.Int.{to_z-of_z}
-use Rattle.asn1_schema_bounds.specs.Bounds.{lower, upper}
+use Rattle.asn1_schema_constraints.specs.Bounds.{lower, upper}
 use Rattle.per_codec_writing.specs.Writing.{place}
 use Rattle.per_codec_writing.proofs.FillingTexts.{adds_same}
 use Rattle.per_codec_writing.proofs.NumberTexts.{did_same, between_at, from_at, up_to_at}

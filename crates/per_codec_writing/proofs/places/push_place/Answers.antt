@@ -1,5 +1,5 @@
 use Rattle.std.proofs.Common.{subst}
-use Rattle.per_codec_texts.specs.Texts.{text_at}
+use Rattle.per_codec_packing.specs.Texts.{text_at}
 use Rattle.asn1_model.specs.Per.{constrained}
 use Rattle.per_codec_writing.specs.Writing.{place}
 use Rattle.per_codec_writing.proofs.NumberTexts.{Did}

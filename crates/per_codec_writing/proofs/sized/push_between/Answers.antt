@@ -1,7 +1,7 @@
 use Rattle.std.proofs.Common.{◌≡◌, ℕ, ◌-◌, ◌&&◌, length, ap, sym, subst, ◌∙◌}
 use Rattle.asn1_model.specs.Form.{joined}
 use Rattle.asn1_model.specs.Per
-use Rattle.per_codec_texts.specs.Texts.{text_at}
+use Rattle.per_codec_packing.specs.Texts.{text_at}
 use Rattle.per_codec_writing.specs.Writing.{Refuses, place, plus, fill_at}
 use Rattle.per_codec_writing.proofs.FillingTexts.{none_first}
 use Rattle.per_codec_writing.specs.Units.{forms_of}

@@ -2,8 +2,8 @@ use Rattle.std.proofs.Common.{◌-◌, ◌<◌, ◌&&◌, Bool, length, sym, sub
 use Rattle.asn1_model.specs.Form.{both, joined}
 use Rattle.asn1_model.specs.Schema.{Counts}
 use Rattle.asn1_model.specs.Per
-use Rattle.asn1_schema_bounds.specs.Bounds.{counts_of, upper}
-use Rattle.per_codec_texts.specs.Texts.{text_at}
+use Rattle.asn1_schema_constraints.specs.Bounds.{counts_of, upper}
+use Rattle.per_codec_packing.specs.Texts.{text_at}
 use Rattle.per_codec_writing.specs.Writing.{Adds, Refuses, place}
 use Rattle.per_codec_writing.proofs.FillingTexts.{adds_same}
 use Rattle.per_codec_writing.specs.Units.{forms_of}

@@ -1,7 +1,7 @@
 use Rattle.std.proofs.Common.{Bool, true, false, ap, sym, ◌∙◌}
 use Rattle.asn1_model.specs.Numbers.{is_count_within}
 use Rattle.asn1_model.specs.Schema.{Counts}
-use Rattle.asn1_schema_bounds.specs.Bounds.{counts_of}
+use Rattle.asn1_schema_constraints.specs.Bounds.{counts_of}
 use Rattle.asn1_schema_constraints.specs.Sets.{has_additions}
 use Rattle.asn1_schema_constraints.specs.declared.extensions.Extensible.{Extensible}
 use Rattle.asn1_schema_constraints.specs.declared.parts.Size.{Size as SizeRange}

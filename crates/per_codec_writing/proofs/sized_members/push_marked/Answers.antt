@@ -1,6 +1,6 @@
 use Rattle.std.proofs.Common.{not, ap, sym, ◌∙◌}
 use Rattle.asn1_model.specs.Per
-use Rattle.asn1_schema_bounds.specs.Bounds.{counts_of, upper}
+use Rattle.asn1_schema_constraints.specs.Bounds.{counts_of, upper}
 use Rattle.per_codec_writing.specs.Members.{forms_of}
 use Rattle.per_codec_writing.proofs.Adding.{raised}
 use Rattle.per_codec_writing.proofs.Sizes.{inside_added, inside_none, outside_added}

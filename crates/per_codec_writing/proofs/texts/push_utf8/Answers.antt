@@ -1,8 +1,8 @@
 use Rattle.std.proofs.Common.{subst}
 use Rattle.asn1_model.specs.Per
 use Rattle.asn1_schema_constraints.specs.Terms.{sizes_of, alphabet_of}
-use Rattle.asn1_values_utf8.proofs.Utf8.{utf8_is_text}
-use Rattle.per_codec_texts.specs.Texts.{text_at}
+use Rattle.asn1_values_strings.proofs.Utf8.{utf8_is_text}
+use Rattle.per_codec_packing.specs.Texts.{text_at}
 use Rattle.per_codec_writing.specs.Writing.{Adds, place}
 use Rattle.per_codec_writing.proofs.FillingTexts.{adds_same}
 use Rattle.per_codec_writing.proofs.StringTexts.{utf8_text}

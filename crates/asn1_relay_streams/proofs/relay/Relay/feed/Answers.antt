@@ -1,5 +1,5 @@
 use Rattle.std.proofs.Common.{◌≡◌, ◌⊎◌, ℕ, List, sym, subst, Some}
-use Rattle.asn1_laws_streams.specs.Relayed.{Stop, StopsAt}
+use Rattle.asn1_laws_across.specs.Relayed.{Stop, StopsAt}
 use Rattle.asn1_relay_core.specs.Coding.{rules_of}
 use Rattle.asn1_relay_streams.specs.declared.fault.RelayFaultKind.TheVariants as kind
 use Rattle.asn1_relay_core.specs.declared.codec.Codec.{Codec}

@@ -1,5 +1,5 @@
 use Rattle.std.proofs.Common.{◌∙◌, ap}
-use Rattle.asn1_schema_bounds.specs.Bounds.{admits_number, admits_count}
+use Rattle.asn1_schema_constraints.specs.Bounds.{admits_number, admits_count}
 use Rattle.asn1_schema_constraints.specs.Sets.{root_passes}
 use Rattle.asn1_schema_constraints.proofs.SetLaws.{both_admit_number, both_admit_count}
 use Rattle.asn1_schema_constraints.proofs.lists.Constraints.intersect.Goals as goal

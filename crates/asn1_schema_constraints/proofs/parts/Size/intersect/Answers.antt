@@ -1,6 +1,6 @@
 use Rattle.std.proofs.Common.{◌∙◌, ap}
-use Rattle.asn1_schema_bounds.specs.Bounds.{admits_count}
-use Rattle.asn1_schema_bounds.proofs.Common.{count_meet_admits}
+use Rattle.asn1_schema_constraints.specs.Bounds.{admits_count}
+use Rattle.asn1_schema_constraints.proofs.Common.{count_meet_admits}
 use Rattle.asn1_schema_constraints.proofs.parts.Size.intersect.Goals as goal
 
 pub returns-clause-admits : goal.returns-clause-admits

@@ -2,7 +2,7 @@ use Rattle.std.proofs.Common.{◌∙◌, arith, rules, w64, ◌<ℤ◌, ◌≤�
 use Rattle.std.proofs.lemmas.Int.{ints, to_z-of_z}
 use mir.Syntax.{w128}
 use mir.Val.{SFits}
-use Rattle.asn1_schema_bounds.proofs.Orders.{at_most, not_at_most}
+use Rattle.asn1_schema_constraints.proofs.Orders.{at_most, not_at_most}
 use Rattle.asn1_schema_presented.proofs.Joined.{raised}
 use Rattle.asn1_schema_decode.proofs.Ranges.{reads_ranged, unread_ranged, unread_unranged, met_within}
 use Rattle.asn1_schema_decode.proofs.constrained.RangedIntegerDecode.decode_with_tag_and_constraints.Goals as goal

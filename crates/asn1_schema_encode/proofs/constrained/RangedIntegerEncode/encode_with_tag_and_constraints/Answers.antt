@@ -3,7 +3,7 @@ use Rattle.std.proofs.lemmas.Int.{to_z-of_z}
 use mir.Val.{SFits}
 use Rattle.asn1_schema_presented.proofs.Joined.{raised}
 use Rattle.asn1_schema_encode.proofs.Ranges.{writes_ranged, cannot_ranged}
-use Rattle.asn1_values_constrained.specs.Constrained.{constrained_number}
+use Rattle.asn1_values_integers.specs.Constrained.{constrained_number}
 use Rattle.asn1_schema_encode.proofs.constrained.RangedIntegerEncode.encode_with_tag_and_constraints.Goals as goal
 
 pub returns-in_err-encode_integer-clause-only : goal.returns-in_err-encode_integer-clause-only

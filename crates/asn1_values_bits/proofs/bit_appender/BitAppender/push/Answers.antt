@@ -1,7 +1,7 @@
 use Rattle.std.proofs.Common.{◌≤◌, arith}
 use Rattle.asn1_model.specs.Numbers.{binary}
 use Rattle.asn1_values_bits.specs.Appending.{appended, room_of}
-use Rattle.asn1_values_bit_views.proofs.Binary.{length-binary}
+use Rattle.asn1_values_bits.proofs.Binary.{length-binary}
 use Rattle.asn1_values_bits.proofs.Putting.{written_up_to, written_length}
 use Rattle.asn1_values_bits.proofs.bit_appender.BitAppender.push.Goals as goal
 

@@ -1,7 +1,7 @@
 use Rattle.std.proofs.Common.{arith, ap, ◌∙◌, ◌++◌}
 use Rattle.std.proofs.lemmas.List.{take_all}
 use Rattle.asn1_model.specs.Numbers.{octet_bits}
-use Rattle.asn1_values_bit_views.proofs.Binary.{length-octet_bits}
+use Rattle.asn1_values_bits.proofs.Binary.{length-octet_bits}
 use Rattle.asn1_values_bits.proofs.Kept.{kept_length}
 use Rattle.asn1_values_bits.proofs.bit_buffer.BitBuffer.extend_from_bytes.Goals as goal
 

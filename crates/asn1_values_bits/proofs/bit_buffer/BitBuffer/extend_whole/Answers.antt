@@ -1,6 +1,6 @@
 use Rattle.std.proofs.Common.{◌≡◌, ℕ, ◌*◌, ◌+◌, ◌%◌, ◌≤◌, ◌<◌, ◌++◌, length, ap, ◌∙◌, take, drop, refl, arith, length-append}
 use Rattle.std.proofs.lemmas.List.{length-drop, length-take-le}
-use Rattle.asn1_values_bit_views.specs.BitStr.{bits_of}
+use Rattle.asn1_values_bits.specs.BitStr.{bits_of}
 use Rattle.asn1_values_bits.proofs.Kept.{first_of, moved}
 use Rattle.asn1_values_bits.proofs.Refused.{though_refused}
 use Rattle.asn1_values_bits.proofs.bit_buffer.BitBuffer.extend_whole.Goals as goal

@@ -1,5 +1,5 @@
 use Rattle.std.proofs.Common.{◌≡◌, ◌≤◌, ◌++◌, ◌<◌, ◌%◌, length}
-use Rattle.asn1_values_bit_views.specs.BitStr.{bits_of}
+use Rattle.asn1_values_bits.specs.BitStr.{bits_of}
 use Rattle.asn1_values_bits.proofs.bit_buffer.BitBuffer.extend_whole.Given as goal
 
 abbrev pub invariant-loop-block : goal.invariant-loop-block

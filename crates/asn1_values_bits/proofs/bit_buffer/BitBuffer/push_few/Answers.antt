@@ -1,7 +1,7 @@
 use Rattle.std.proofs.Common.{◌≡◌, ◌*◌, ◌-◌, ◌+◌, ◌^◌, ◌%◌, ◌/◌, ◌<◌, ℕ, bit_or, List, [], ◌∷◌, Bool, refl, arith, sym, ap, ◌∙◌, length, ◌++◌, replicate, false, set, get_or, length-append}
 use Rattle.std.proofs.lemmas.List.{get_or_append_left, set-append_left}
 use Rattle.asn1_model.specs.Numbers.{octet_bits, missing, binary}
-use Rattle.asn1_values_bit_views.proofs.Binary.{length-binary}
+use Rattle.asn1_values_bits.proofs.Binary.{length-binary}
 use Rattle.asn1_values_bits.proofs.Kept.{keeps, kept_view, kept_bits, kept_length, with_high, with_low, with_all, wide_is, high_fits, or_last_set}
 use Rattle.asn1_values_bits.proofs.bit_buffer.BitBuffer.push_few.Goals as goal
 use Rattle.asn1_values_bits.proofs.bit_buffer.BitBuffer.push_few.Goals.{then-count-free+in_ok-push, else-count-free, then-free-gt0, else-free-gt0}

@@ -1,7 +1,7 @@
 use Rattle.std.proofs.Common.{ap, ◌∙◌, take}
 use Rattle.std.proofs.lemmas.Result.{on_err_weaker}
 use Rattle.asn1_model.specs.Numbers.{binary}
-use Rattle.asn1_values_bit_views.proofs.Binary.{length-binary}
+use Rattle.asn1_values_bits.proofs.Binary.{length-binary}
 use Rattle.asn1_values_bits.proofs.Kept.{first_of}
 use Rattle.asn1_values_bits.proofs.Refused.{cut_off}
 use Rattle.asn1_values_bits.proofs.bit_buffer.BitBuffer.push_many.Goals as goal

@@ -1,7 +1,7 @@
 use Rattle.std.proofs.Common.{◌≡◌, ◌+◌, ◌/◌, refl, take, arith, ap, ◌∙◌, length, ◌++◌, replicate, false, length-append}
 use Rattle.std.proofs.lemmas.List.{append-nil}
 use Rattle.asn1_model.specs.Numbers.{binary, octet_bits, missing}
-use Rattle.asn1_values_bit_views.proofs.Binary.{length-binary}
+use Rattle.asn1_values_bits.proofs.Binary.{length-binary}
 use Rattle.asn1_values_bits.proofs.Kept.{keeps, kept_view, kept_bits, kept_length}
 use Rattle.asn1_values_bits.proofs.Whole.{word_written}
 use Rattle.asn1_values_bits.proofs.bit_buffer.BitBuffer.push_word.Goals as goal

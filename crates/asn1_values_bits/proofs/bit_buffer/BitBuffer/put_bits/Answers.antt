@@ -2,7 +2,7 @@ use Rattle.std.proofs.Common.{◌≡◌, ◌+◌, ◌-◌, ◌*◌, ◌/◌, ◌
 use Rattle.std.proofs.lemmas.List.{length-take-le, length-drop}
 use Rattle.std.proofs.lemmas.Nat.{one_shl, and_mask}
 use Rattle.asn1_model.specs.Numbers.{binary}
-use Rattle.asn1_values_bit_views.proofs.Binary.{length-binary, binary_low}
+use Rattle.asn1_values_bits.proofs.Binary.{length-binary, binary_low}
 use Rattle.asn1_values_bits.proofs.Putting.{put_on}
 use Rattle.asn1_values_bits.proofs.bit_buffer.BitBuffer.put_bits.Goals as goal
 

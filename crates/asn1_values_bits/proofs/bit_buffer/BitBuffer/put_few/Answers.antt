@@ -1,7 +1,7 @@
 use Rattle.std.proofs.Common.{◌≡◌, ◌+◌, ◌-◌, ◌*◌, ◌/◌, ◌%◌, ◌^◌, ◌<◌, ◌++◌, ℕ, bit_or, bit_and, length, replicate, false, take, drop, set, ap, ◌∙◌, arith, length-append}
 use Rattle.std.proofs.lemmas.List.{length-take-le, length-drop}
 use Rattle.asn1_model.specs.Numbers.{binary, octet_bits, missing}
-use Rattle.asn1_values_bit_views.proofs.Binary.{length-binary}
+use Rattle.asn1_values_bits.proofs.Binary.{length-binary}
 use Rattle.asn1_values_bits.proofs.Kept.{kept_bits, kept_length, keeps, kept_view}
 use Rattle.asn1_values_bits.proofs.Putting.{mixed, mixed_is, mixed_small, octet_put, kept_put}
 use Rattle.asn1_values_bits.proofs.bit_buffer.BitBuffer.put_few.Goals as goal

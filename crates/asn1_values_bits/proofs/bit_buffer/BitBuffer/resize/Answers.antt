@@ -2,7 +2,7 @@ use Rattle.std.proofs.Common.{◌≡◌, ◌≤◌, ◌-◌, ◌^◌, ◌++◌, 
 use Rattle.std.proofs.lemmas.List.{length-replicate}
 use Rattle.std.proofs.lemmas.Result.{IfOk-at_ok, IfErr-at_err}
 use Rattle.asn1_model.specs.Numbers.{binary}
-use Rattle.asn1_values_bit_views.proofs.Binary.{binary_same, same_next}
+use Rattle.asn1_values_bits.proofs.Binary.{binary_same, same_next}
 use Rattle.asn1_values_bits.proofs.Kept.{first_of}
 use Rattle.asn1_values_bits.proofs.Refused.{though_refused}
 use Rattle.asn1_values_bits.proofs.bit_buffer.BitBuffer.resize.Goals as goal

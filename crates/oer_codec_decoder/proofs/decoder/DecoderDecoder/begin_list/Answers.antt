@@ -1,5 +1,5 @@
 use Rattle.std.proofs.Common.{◌∙◌, refl}
-use Rattle.asn1_schema_bounds.specs.Bounds.{members_of}
+use Rattle.asn1_schema_constraints.specs.Bounds.{members_of}
 use Rattle.asn1_schema_constraints.specs.Terms.{sizes_of}
 use Rattle.asn1_schema_presented.specs.Records.{list_begins}
 use Rattle.oer_codec_reading.specs.Fronts.{freedoms}

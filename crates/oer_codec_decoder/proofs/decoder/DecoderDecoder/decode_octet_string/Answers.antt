@@ -1,6 +1,6 @@
 use Rattle.std.proofs.Common.{◌∙◌}
 use Rattle.asn1_model.specs.Schema.{octet_string}
-use Rattle.asn1_schema_bounds.specs.Bounds.{counts_of}
+use Rattle.asn1_schema_constraints.specs.Bounds.{counts_of}
 use Rattle.asn1_schema_constraints.specs.Terms.{sizes_of}
 use Rattle.oer_codec_reading.specs.Fronts.{freedoms}
 use Rattle.oer_codec_decoder.proofs.Finding.{none_found, asked_octets, octets_within}

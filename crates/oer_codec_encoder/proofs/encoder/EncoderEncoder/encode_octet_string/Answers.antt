@@ -1,5 +1,5 @@
 use Rattle.std.proofs.Common.{refl}
-use Rattle.asn1_schema_bounds.specs.Bounds.{counts_of}
+use Rattle.asn1_schema_constraints.specs.Bounds.{counts_of}
 use Rattle.asn1_schema_constraints.specs.Terms.{sizes_of}
 use Rattle.asn1_schema_presented.specs.Records.{octets}
 use Rattle.oer_codec_encoder.proofs.Stepped.{adds_sound, adds_puts}

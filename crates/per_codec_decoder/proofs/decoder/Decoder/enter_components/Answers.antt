@@ -1,7 +1,7 @@
 use Rattle.std.specs.Prelude.{◌&&◌}
 use Rattle.std.proofs.Common.{◌∙◌, ap}
 use Rattle.asn1_schema_presented.proofs.Joined.{raised}
-use Rattle.per_codec_decoder_scopes.specs.Scopes.{scope_of}
+use Rattle.per_codec_decoder.specs.Scopes.{scope_of}
 use Rattle.per_codec_decoder.proofs.Settling.{components_enter}
 use Rattle.per_codec_decoder.proofs.decoder.Decoder.enter_components.Goals as goal
 

@@ -1,10 +1,10 @@
 use Rattle.std.proofs.Common.{◌∙◌, ap, subst}
 use Rattle.asn1_schema_presented.proofs.Joined.{raised}
-use Rattle.asn1_schema_bounds.specs.Bounds.{members_of}
+use Rattle.asn1_schema_constraints.specs.Bounds.{members_of}
 use Rattle.asn1_schema_constraints.specs.Terms.{sizes_of}
 use Rattle.per_codec_reading.specs.Fronts.{freedoms, is_aligned}
 use Rattle.per_codec_decoder.specs.Held.{Held}
-use Rattle.per_codec_decoder_scopes.specs.Members.{Due, HasMembers}
+use Rattle.per_codec_decoder.specs.Members.{Due, HasMembers}
 use Rattle.per_codec_decoder.proofs.Settling.{members_settle, ok_of}
 use Rattle.per_codec_decoder.proofs.decoder.Decoder.enter_members.Goals as goal
 

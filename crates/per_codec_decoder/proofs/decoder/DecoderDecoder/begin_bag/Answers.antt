@@ -1,4 +1,4 @@
-use Rattle.asn1_schema_bounds.specs.Bounds.{members_of}
+use Rattle.asn1_schema_constraints.specs.Bounds.{members_of}
 use Rattle.asn1_schema_constraints.specs.Terms.{sizes_of}
 use Rattle.per_codec_decoder.proofs.Opening.{on_err, no_bag}
 use Rattle.per_codec_decoder.proofs.decoder.DecoderDecoder.begin_bag.Goals as goal

@@ -1,5 +1,5 @@
 use Rattle.std.proofs.Common.{◌≡◌, true, Some, subst}
-use Rattle.per_codec_texts.specs.Texts.{plain}
+use Rattle.per_codec_packing.specs.Texts.{plain}
 use Rattle.per_codec_packing.specs.Packed.{Packed}
 use Rattle.per_codec_encoder.proofs.Stepped.{taken_out}
 use Rattle.per_codec_encoder.proofs.encoder.Encoder.output.Goals as goal

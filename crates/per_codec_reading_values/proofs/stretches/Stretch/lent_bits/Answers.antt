@@ -1,9 +1,9 @@
 use Rattle.std.proofs.Common.{ap, subst}
 use Rattle.per_codec_fronts.specs.Takes.{Place}
-use Rattle.per_codec_reading_units.specs.Runs.{bits_in, StandsIn}
+use Rattle.per_codec_reading.specs.Runs.{bits_in, StandsIn}
 use Rattle.per_codec_reading_values.specs.Stretches.{Stretched}
 use Rattle.per_codec_reading_values.proofs.Moving.{stands}
-use Rattle.per_codec_reading_units.specs.declared.runs.RunBits.{RunBits}
+use Rattle.per_codec_reading.specs.declared.runs.RunBits.{RunBits}
 use Rattle.per_codec_reading_values.proofs.stretches.Stretch.lent_bits.Goals as goal
 
 pub returns-in-Lent-clause-stands : goal.returns-in-Lent-clause-stands

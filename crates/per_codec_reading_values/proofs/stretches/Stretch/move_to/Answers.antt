@@ -1,7 +1,7 @@
 use Rattle.std.proofs.Common.{◌∙◌, ap, sym, subst, refl, length, arith}
 use Rattle.per_codec_fronts.specs.Takes.{Place}
 use Rattle.per_codec_reading.specs.Fronts.{Leads}
-use Rattle.per_codec_reading_units.specs.Runs.{bits_in}
+use Rattle.per_codec_reading.specs.Runs.{bits_in}
 use Rattle.per_codec_reading_values.specs.Stretches.{Stretched}
 use Rattle.per_codec_reading_values.proofs.Moving.{within, moved}
 use Rattle.per_codec_reading_values.proofs.stretches.Stretch.move_to.Goals as goal

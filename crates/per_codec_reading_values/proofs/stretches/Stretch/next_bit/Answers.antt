@@ -1,5 +1,5 @@
 use Rattle.std.proofs.Common.{◌∙◌, ap, sym, take, drop}
-use Rattle.per_codec_reading_units.specs.Runs.{bits_in}
+use Rattle.per_codec_reading.specs.Runs.{bits_in}
 use Rattle.per_codec_reading_values.specs.Stretches.{Stretched}
 use Rattle.per_codec_reading_values.proofs.Moving.{next_bits}
 use Rattle.per_codec_reading_values.proofs.stretches.Stretch.next_bit.Goals as goal

@@ -1,7 +1,7 @@
 use Rattle.std.proofs.Common.{◌≡◌, ◌<◌, length, ap, ◌∙◌, arith}
 use Rattle.std.specs.Prelude.{unwrap_or}
 use Rattle.asn1_model.specs.Numbers.{binary}
-use Rattle.per_codec_texts.specs.Texts.{as_text}
+use Rattle.per_codec_packing.specs.Texts.{as_text}
 use Rattle.per_codec_writing.specs.Writing.{plus}
 use Rattle.per_codec_writing.specs.Characters.{text_of}
 use Rattle.per_codec_writing.proofs.CharacterTexts.{length-texts, one_more}

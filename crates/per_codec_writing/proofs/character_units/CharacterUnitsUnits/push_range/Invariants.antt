@@ -1,5 +1,5 @@
 use Rattle.std.proofs.Common.{◌≡◌, slice_range}
-use Rattle.per_codec_texts.specs.Texts.{as_text}
+use Rattle.per_codec_packing.specs.Texts.{as_text}
 use Rattle.per_codec_writing.specs.Writing.{plus}
 use Rattle.per_codec_writing.specs.Units.{together}
 use Rattle.per_codec_writing.specs.Characters.{texts_of}

@@ -1,7 +1,7 @@
 use Rattle.std.proofs.Common.{◌≡◌, ◌+◌, ◌-◌, ap, sym, ◌∙◌, arith, drop, take}
 use Rattle.std.proofs.lemmas.List.{drop-take}
 use Rattle.asn1_values_bits.specs.BitStr.{bits_of}
-use Rattle.per_codec_texts.specs.Texts.{as_text}
+use Rattle.per_codec_packing.specs.Texts.{as_text}
 use Rattle.per_codec_writing.specs.Writing.{plus}
 use Rattle.per_codec_writing.proofs.UnitTexts.{bits_between}
 use Rattle.per_codec_writing.proofs.units.BitStrUnits.push_range.Goals as goal

@@ -1,0 +1,8 @@
+//! Of all beginnings of some octets one at most is an encoding of a type, and it says what the value is.
+
+ghost use Rattle.asn1_laws_fronts.specs.Laws.{OnePlainFront};
+
+/// Of all beginnings of some octets one at most is an encoding of a plain type, and of one value.
+pub fn one_plain_front()
+    ensures { OnePlainFront }
+{}

@@ -1,4 +1,0 @@
-pub mod Units
-pub mod Tags
-pub mod Choices
-pub mod Forms

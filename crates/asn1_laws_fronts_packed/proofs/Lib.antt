@@ -1,3 +1,0 @@
-pub mod Units
-pub mod Strings
-pub mod Forms

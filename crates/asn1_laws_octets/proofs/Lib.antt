@@ -1,2 +1,0 @@
-pub mod OerOctets
-pub mod Written

@@ -1,4 +1,0 @@
-pub mod Streams
-pub mod Relayed
-pub mod Laws
-pub mod Rows

@@ -1,6 +1,0 @@
-pub mod Equal
-pub mod Typed
-pub mod Lengths
-pub mod PerTyped
-pub mod OerTyped
-pub mod Itself

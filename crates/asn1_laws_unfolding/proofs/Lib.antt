@@ -1,5 +1,0 @@
-pub mod Unfolding
-pub mod Recursive
-pub mod Tidied
-pub mod Carried
-pub mod Declared

@@ -1,5 +1,0 @@
-use Rattle.asn1_laws_unfolding.proofs.Declared.{lawful_if_tidy}
-use Rattle.asn1_laws_unfolding.proofs.lawful_if_tidy.Goals as goal
-
-pub returns : goal.returns
-returns c = λ s. lawful_if_tidy s

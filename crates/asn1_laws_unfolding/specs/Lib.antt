@@ -1,4 +1,0 @@
-pub mod Unfolding
-pub mod Tidied
-pub mod Declared
-pub mod Laws

@@ -1,8 +1,0 @@
-pub mod Extending
-pub mod Grown
-pub mod Alike
-pub mod Transitive
-pub mod Normals
-pub mod Lifted
-pub mod Levels
-pub mod Back

@@ -1,6 +1,0 @@
-pub mod Taken
-pub mod Parts
-pub mod Members
-pub mod Packed
-pub mod Octets
-pub mod Exactly

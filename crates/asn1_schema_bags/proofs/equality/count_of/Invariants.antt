@@ -1,6 +1,0 @@
-use Rattle.std.proofs.Common.{◌≡◌, ◌+◌, ◌≤◌, drop}
-use Rattle.asn1_schema_bags.specs.Equality.{times}
-use Rattle.asn1_schema_bags.proofs.equality.count_of.Given as goal
-
-abbrev pub invariant-loop-item : goal.invariant-loop-item
-invariant-loop-item g l = (l.count + times g.T.PartialEq.eq l.wanted (drop l.item-index l.items) ≡ times g.T.PartialEq.eq l.wanted l.items) × (l.count ≤ l.item-index)

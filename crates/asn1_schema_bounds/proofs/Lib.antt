@@ -1,4 +1,0 @@
-pub mod Orders
-pub mod Meets
-pub mod Common
-pub mod WidthLaws

@@ -1,2 +1,0 @@
-pub mod ListDefaults
-pub mod SequenceDefaults

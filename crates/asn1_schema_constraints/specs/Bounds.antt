@@ -1,0 +1,119 @@
+-- What bounds mean: their ends, what they admit, and what two of them admit together.
+use Rattle.std.specs.Prelude.{ℕ, ◌+◌, ◌-◌, ◌^◌, ltb, leb, ℤ, pos, ◌+ℤ◌, ◌-ℤ◌, ◌≤ℤ◌, ◌≤◌, FitsSigned, ◌≡◌, Bool, false, not, cond, ◌&&◌, ◌||◌, Option, Some, None, unwrap_or, is_some}
+use Rattle.std.specs.Option.{SomeIff}
+use Rattle.std.specs.Int.{w128}
+use Rattle.asn1_model.specs.Schema.{Range, Counts}
+use Rattle.asn1_model.specs.Numbers.{is_within, is_count_within}
+use Rattle.asn1_model.specs.Oer.{is_fixed_at}
+use Rattle.asn1_schema_constraints.specs.declared.bounds.Bounded.{Bounded}
+use Rattle.asn1_schema_constraints.specs.declared.bounds.Effective.{Effective}
+use Rattle.asn1_schema_constraints.specs.declared.bounds.Effective.TheVariants.{Offset, Plain}
+use Rattle.asn1_schema_constraints.specs.declared.bounds.Bounded.TheVariants.{None as Unbounded, Single, Range as Between}
+
+-- The least value, where there is one (X.680 51.4).
+abbrev pub lower : {X : Type 0} → Bounded X → Option X
+lower Unbounded = None
+lower (Single v) = Some v
+lower (Between start end) = start
+
+-- The greatest value, where there is one (X.680 51.4).
+abbrev pub upper : {X : Type 0} → Bounded X → Option X
+upper Unbounded = None
+upper (Single v) = Some v
+upper (Between start end) = end
+
+-- Bounds of numbers as the model has them (X.680 51.4).
+abbrev pub range_of : Bounded ℤ → Range
+range_of b = record { low = lower b; high = upper b }
+
+-- Bounds of counts as the model has them (X.680 51.5).
+abbrev pub counts_of : Bounded ℕ → Counts
+counts_of b = record { low = unwrap_or (lower b) 0; high = upper b }
+
+-- How many members a type of the program holds: where no bound is given, as many as 64 bits count.
+abbrev pub members_of : Bounded ℕ → Counts
+members_of b = record { low = unwrap_or (lower b) 0; high = Some (unwrap_or (upper b) (2 ^ 64 - 1)) }
+
+-- There is one size alone: the greatest is the least, which is 0 where none is given (X.680 51.5).
+abbrev pub is_one_size : Bounded ℕ → Bool
+is_one_size b = is_fixed_at (counts_of b) (upper b)
+
+-- A least or a greatest size is given, and there is not one size alone.
+abbrev pub is_size_range : Bounded ℕ → Bool
+is_size_range b = (is_some (lower b) || is_some (upper b)) && not (is_one_size b)
+
+-- An answer is how many numbers there are from one to another, exactly where both are there and 128 bits of two's complement hold that number.
+abbrev pub IsSpan : Option ℤ → Option ℤ → Option ℤ → Type 0
+IsSpan (Some low) (Some high) answer = SomeIff answer (FitsSigned w128 ((high -ℤ low) +ℤ pos 1)) ((high -ℤ low) +ℤ pos 1)
+IsSpan low high answer = answer ≡ None
+
+-- How many counts there are from one to another, where both are there and 64 bits hold that number.
+abbrev pub counted : Option ℕ → Option ℕ → Option ℕ
+counted (Some low) (Some high) = cond (leb low (high + 1) && ltb ((high + 1) - low) (2 ^ 64)) (Some ((high + 1) - low)) None
+counted low high = None
+
+-- The later of two lower bounds, where there are any.
+abbrev pub later : {X : Type 0} → (X → X → Bool) → Option X → Option X → Option X
+later le (Some a) (Some b) = Some (cond (le a b) b a)
+later le (Some a) None = Some a
+later le None o = o
+
+-- The earlier of two upper bounds, where there are any.
+abbrev pub earlier : {X : Type 0} → (X → X → Bool) → Option X → Option X → Option X
+earlier le (Some a) (Some b) = Some (cond (le a b) a b)
+earlier le (Some a) None = Some a
+earlier le None o = o
+
+-- The bounds with these ends: equal ends are one value, no ends are no bounds.
+abbrev pub between : {X : Type 0} → (X → X → Bool) → Option X → Option X → Bounded X
+between le (Some a) (Some b) = cond (le a b && le b a) (Single a) (Between (Some a) (Some b))
+between le (Some a) None = Between (Some a) None
+between le None (Some b) = Between None (Some b)
+between le None None = Unbounded
+
+-- What two bounds admit together (X.680 50): from the later of the lower bounds to the earlier of the upper ones.
+abbrev pub meet : {X : Type 0} → (X → X → Bool) → Bounded X → Bounded X → Bounded X
+meet le a b = between le (later le (lower a) (lower b)) (earlier le (upper a) (upper b))
+
+-- Both ends are there, and the lower one is above the upper one: no value is admitted.
+abbrev pub is_inverted : {X : Type 0} → (X → X → Bool) → Option X → Option X → Bool
+is_inverted le (Some a) (Some b) = not (le a b)
+is_inverted le low high = false
+
+-- What two bounds admit together, if they admit a value together.
+abbrev pub common : {X : Type 0} → (X → X → Bool) → Bounded X → Bounded X → Option (Bounded X)
+common le a b =
+    cond (is_inverted le (later le (lower a) (lower b)) (earlier le (upper a) (upper b))) None (Some (meet le a b))
+
+-- The number less the start of a range that has one fits, and is not negative.
+abbrev pub CanOffset : Bounded ℤ → ℤ → Type 0
+CanOffset (Between (Some start) end) v = (start ≤ℤ v) × FitsSigned w128 (v -ℤ start)
+CanOffset b v = Unit {0}
+
+-- A number as it is written under bounds: less the start of a range that has one, else as it is.
+abbrev pub effective : Bounded ℤ → ℤ → Effective ℤ
+effective (Between (Some start) end) v = Offset (v -ℤ start)
+effective b v = Plain v
+
+-- Whether bounds admit a number (X.680 51.4).
+abbrev pub admits_number : Bounded ℤ → ℤ → Bool
+admits_number b v = is_within (range_of b) v
+
+-- Whether bounds admit a count (X.680 51.5).
+abbrev pub admits_count : Bounded ℕ → ℕ → Bool
+admits_count b n = is_count_within (counts_of b) n
+
+-- Whether there are bounds that admit a value.
+abbrev pub are_admitting : {X : Type 0} → (Bounded X → X → Bool) → Option (Bounded X) → X → Bool
+are_admitting admits None v = false
+are_admitting admits (Some b) v = admits b v
+
+-- The count is not below the start of a range that has one.
+abbrev pub CanOffsetCount : Bounded ℕ → ℕ → Type 0
+CanOffsetCount (Between (Some start) end) n = start ≤ n
+CanOffsetCount b n = Unit {0}
+
+-- A count as it is written under bounds: less the start of a range that has one, else as it is.
+abbrev pub effective_count : Bounded ℕ → ℕ → Effective ℕ
+effective_count (Between (Some start) end) n = Offset (n - start)
+effective_count b n = Plain n

@@ -1,0 +1,77 @@
+//! SET OF (X.680 28) as a type, and how it is written and read.
+ghost use Rattle.std.specs.Prelude.{refl, [], ◌∷◌};
+ghost use Rattle.asn1_model.specs.Value.{bag};
+ghost use Rattle.asn1_schema_constraints.specs.Sets.{no_constraint};
+ghost use Rattle.asn1_schema_constraints.specs.Terms.{sizes_of};
+ghost use Rattle.asn1_schema_presented.specs.Parts.{values_of};
+ghost use Rattle.asn1_schema_constructed.specs.Bags.{bag_type};
+ghost use Rattle.asn1_schema_constructed.proofs.Bags.{type_bag, value_bag};
+ghost use Rattle.asn1_schema_types.specs.Counts.{any_number};
+
+use crate::set_of::SetOf;
+use crate::{DecodeBag, EncodeBag};
+use asn1_schema_constraints::{Bounded, Constraints};
+use asn1_schema_decode::{Decode, Decoder};
+use asn1_schema_encode::{Encode, Encoder};
+use asn1_schema_faults::{DecodeError, EncodeError};
+use asn1_schema_tags::{Identifier, Tag, TagTree};
+use asn1_schema_types::{AsnType, Described};
+use std::alloc::Global;
+
+impl<T: Described> Described for SetOf<T> {
+    ghost tags = { record { class = 0; number = 17 } ∷ [] };
+
+    ghost own = { no_constraint };
+
+    ghost under = { λ c. bag_type (sizes_of c.size) any_number T.schema };
+
+    ghost schema = { bag_type (sizes_of (no_constraint.size)) any_number T.schema };
+
+    ghost is_own = { λ _. refl };
+
+    ghost meaning = { λ s. bag (values_of T.meaning s.items.items) };
+
+    ghost typed = { type_bag _ _ refl refl T.typed };
+
+    ghost valued = { λ s. value_bag _ _ T.schema T.meaning s.items.items T.valued };
+
+    ghost valued_under = { λ c s. value_bag _ _ T.schema T.meaning s.items.items T.valued };
+}
+
+impl<T: AsnType> AsnType for SetOf<T> {
+    const TAG: Tag = Tag::SET;
+
+    const IDENTIFIER: Identifier = Identifier::SET_OF;
+
+    fn tag_tree() -> TagTree<'static> {
+        TagTree::of(Tag::SET)
+    }
+
+    fn constraints() -> Constraints<'static> {
+        Constraints::NONE
+    }
+}
+
+/// The members are handed over as they stand; the encoder puts them in the order that its rules ask for.
+impl<T: Encode> Encode for SetOf<T> {
+    fn encode_with_tag_and_constraints<E: Encoder>(
+        &self,
+        encoder: &mut E,
+        tag: Tag,
+        constraints: Constraints,
+    ) -> Result<(), EncodeError> {
+        encoder.encode_set_of(tag, self.as_slice(), constraints, Bounded::None)
+    }
+}
+
+impl<T: Decode> Decode for SetOf<T> {
+    fn decode_with_tag_and_constraints<D: Decoder>(
+        alloc: Global,
+        decoder: &mut D,
+        tag: Tag,
+        constraints: Constraints,
+    ) -> Result<Self, DecodeError> {
+        let items = decoder.decode_set_of(alloc, tag, constraints, Bounded::None)?;
+        Ok(SetOf::from_vec(items))
+    }
+}

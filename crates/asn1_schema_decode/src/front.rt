@@ -1,0 +1,24 @@
+//! Readers of the message in front of octets.
+ghost use Rattle.std.specs.Prelude.{◌≤◌, IfErr, IfOk, drop, length};
+ghost use Rattle.asn1_model.specs.Rules.{Rules};
+ghost use Rattle.asn1_schema_decode.specs.Messages.{NoMessage, Tells};
+
+use crate::Decode;
+use asn1_schema_faults::DecodeError;
+use std::alloc::Global;
+
+/// Reads the value whose encoding stands in front of octets, by one set of rules.
+pub trait FrontReader<T: Decode> {
+    /// The rules.
+    ghost rules: { Rules };
+
+    /// The value whose encoding stands in front, and how many octets it took.
+    ///
+    /// # Errors
+    ///
+    /// Want of memory aside, only where no octets in front, fewer than 2 to 60, are an encoding of a value that nests at most 128 levels.
+    fn read_front(&self, alloc: Global, input: &[u8]) -> Result<(T, usize), DecodeError>
+        ensures within { IfOk result (λ x. x.1 ≤ length input.now) }
+        ensures ok { IfOk result (λ x. Tells rules T.schema (T.meaning x.0) input.now (drop x.1 input.now)) }
+        ensures only { IfErr result (NoMessage rules T.schema input.now) };
+}

@@ -1,0 +1,22 @@
+//! The call that makes them.
+ghost use Rattle.std.specs.Prelude.{◌≡◌, IfOk};
+
+use crate::Decode;
+use crate::front::FrontReader;
+use crate::values::Iter;
+use std::alloc::{AllocError, Global};
+
+/// The values of messages in front of octets, by a reader.
+///
+/// # Errors
+///
+/// Only where memory is refused.
+pub fn iter<T: Decode, R: FrontReader<T> + Drop>(
+    alloc: Global,
+    reader: R,
+    input: &[u8],
+) -> Result<Iter<T, R>, AllocError>
+    ensures { IfOk result (λ values. values ≡ input.now) }
+{
+    Iter::new(alloc, reader, input)
+}

@@ -1,0 +1,27 @@
+use Rattle.std.proofs.Common.{refl, ◌∙◌}
+use Rattle.asn1_schema_presented.proofs.Joined.{raised}
+use Rattle.asn1_schema_encode.proofs.Writing.{writes_required, writes_end, writes_field, writes_this, writes_as, cannot_as, cannot_required, cannot_end, cannot_field, cannot_field_here, cannot_this, cannot_this_here}
+use Rattle.asn1_schema_constructed.proofs.Counting.{count_marks}
+use Rattle.asn1_schema_example.specs.Tree.{tree_table, tree_is, branches_schema, branches_are, tree_opens, number_typed, branches_typed}
+use Rattle.asn1_schema_example.proofs.tree.+writing.Goals as goal
+
+pub TreeConstructed::write_fields-returns-in_err-encode-clause-only : goal.TreeConstructed::write_fields-returns-in_err-encode-clause-only
+TreeConstructed::write_fields-returns-in_err-encode-clause-only g t c = raised _ _ _ c.from_residual.ensures.1 (cannot_field_here _ _ _ _ (cannot_required number_typed c.in_err-encode.ensures.only))
+
+pub TreeConstructed::write_fields-returns-in_err-encode-2-clause-only : goal.TreeConstructed::write_fields-returns-in_err-encode-2-clause-only
+TreeConstructed::write_fields-returns-in_err-encode-2-clause-only g t c = let one = g.met.E.Encoder.one_after in raised _ _ _ c.from_residual-in_err-encode-2.ensures.1 (cannot_field one _ (writes_required number_typed c.in_ok-encode.ensures.ok) (cannot_field_here _ _ _ _ (cannot_required branches_typed (cannot_as _ _ branches_are c.in_err-encode-2.ensures.only))))
+
+pub TreeConstructed::write_fields-returns-in_err-end-clause-only : goal.TreeConstructed::write_fields-returns-in_err-end-clause-only
+TreeConstructed::write_fields-returns-in_err-end-clause-only g t c = let one = g.met.E.Encoder.one_after in raised _ _ _ c.from_residual-in_err-end.ensures.1 (cannot_field one _ (writes_required number_typed c.in_ok-encode.ensures.ok) (cannot_field one _ (writes_required branches_typed (writes_as _ _ branches_are c.in_ok-encode-2.ensures.ok)) (cannot_end c.in_err-end.ensures.only)))
+
+pub TreeConstructed::write_fields-returns-clause-ok : goal.TreeConstructed::write_fields-returns-clause-ok
+TreeConstructed::write_fields-returns-clause-ok g t c = writes_field _ (writes_required number_typed c.in_ok-encode.ensures.ok) (writes_field _ (writes_required branches_typed (writes_as _ _ branches_are c.in_ok-encode-2.ensures.ok)) (writes_end c.in_ok-end.ensures.ok))
+
+pub TreeEncode::encode_with_tag_and_constraints-returns-in_err-begin_sequence-clause-only : goal.TreeEncode::encode_with_tag_and_constraints-returns-in_err-begin_sequence-clause-only
+TreeEncode::encode_with_tag_and_constraints-returns-in_err-begin_sequence-clause-only g t c = raised _ _ _ c.from_residual.ensures.1 (rw tree_opens (cannot_as _ _ tree_is (cannot_this_here _ (tree_table branches_schema) (c.number_of_optional_and_default_fields-optional.ensures ∙ count_marks _ _ c.fields.ensures) refl _ _ c.in_err-begin_sequence.ensures.only)))
+
+pub TreeEncode::encode_with_tag_and_constraints-returns-in_err-write_fields-clause-only : goal.TreeEncode::encode_with_tag_and_constraints-returns-in_err-write_fields-clause-only
+TreeEncode::encode_with_tag_and_constraints-returns-in_err-write_fields-clause-only g t c = let one = g.met.E.Encoder.one_after in raised _ _ _ c.from_residual-in_err-write_fields.ensures.1 (rw tree_opens (cannot_as _ _ tree_is (cannot_this _ (tree_table branches_schema) (c.number_of_optional_and_default_fields-optional.ensures ∙ count_marks _ _ c.fields.ensures) refl one c.in_ok-begin_sequence.ensures.ok c.in_err-write_fields.ensures.only)))
+
+pub TreeEncode::encode_with_tag_and_constraints-returns-clause-ok : goal.TreeEncode::encode_with_tag_and_constraints-returns-clause-ok
+TreeEncode::encode_with_tag_and_constraints-returns-clause-ok g t c = rw tree_opens (writes_as _ _ tree_is (writes_this _ (tree_table branches_schema) (c.number_of_optional_and_default_fields-optional.ensures ∙ count_marks _ _ c.fields.ensures) refl c.in_ok-begin_sequence.ensures.ok c.in_ok-write_fields.ensures.ok))

@@ -1,0 +1,178 @@
+//! Tree ::= SEQUENCE {value INTEGER, branches SEQUENCE OF Tree}, a type that leads back to itself through a list.
+ghost use Rattle.std.specs.Prelude.{◌≡◌, [], ◌∷◌, refl, OnOk, OnErr, IfOk, IfErr};
+ghost use Rattle.asn1_model.specs.Value.{end, members};
+ghost use Rattle.asn1_schema_constraints.specs.Sets.{no_constraint};
+ghost use Rattle.asn1_schema_constructed.specs.Constructed.{sequence_form};
+ghost use Rattle.asn1_schema_decode.specs.Reads.{Reads, Unread};
+ghost use Rattle.asn1_schema_presented.specs.Parts.{values_of};
+ghost use Rattle.asn1_schema_example.specs.Tree.{branches_schema, tree_meaning};
+
+use asn1_schema_constraints::{Bounded, Constraints};
+use asn1_schema_constructed::{Constructed, Field, FieldPresence, Fields};
+use asn1_schema_decode::{Decode, Decoder};
+use asn1_schema_encode::{Encode, Encoder};
+use asn1_schema_faults::{DecodeError, EncodeError};
+use asn1_schema_tags::{Identifier, Tag, TagTree};
+use asn1_schema_types::{AsnType, Described};
+use asn1_values_integers::Integer;
+use std::alloc::Global;
+
+/// A number, and the trees that branch off.
+#[derive(Drop)]
+pub struct Tree {
+    /// The number.
+    pub value: Integer,
+    /// The trees that branch off.
+    pub branches: Vec<Tree>,
+}
+
+impl Described for Tree {
+    ghost use Rattle.asn1_schema_example.specs.Tree.{tree_schema, tree_meaning, tree_typed, tree_valued};
+
+    ghost tags = { record { class = 0; number = 16 } ∷ [] };
+
+    ghost own = { no_constraint };
+
+    ghost under = { λ _. tree_schema };
+
+    ghost schema = { tree_schema };
+
+    ghost is_own = { λ _. refl };
+
+    ghost meaning = { tree_meaning };
+
+    ghost typed = { tree_typed };
+
+    ghost valued = { tree_valued };
+
+    ghost valued_under = { λ _ x. tree_valued x };
+}
+
+impl AsnType for Tree {
+    const TAG: Tag = Tag::SEQUENCE;
+
+    const IDENTIFIER: Identifier = Identifier(Some("Tree"));
+
+    fn tag_tree() -> TagTree<'static> {
+        TagTree::of(Self::TAG)
+    }
+
+    fn constraints() -> Constraints<'static> {
+        Constraints::NONE
+    }
+}
+
+impl Constructed for Tree {
+    ghost use Rattle.asn1_schema_example.specs.Tree.{tree_table, branches_schema, tree_root, tree_opens, tree_is};
+
+    ghost form = { sequence_form };
+
+    ghost table = { tree_table branches_schema };
+
+    ghost root = { tree_root };
+
+    ghost added = { λ _. end };
+
+    fn fields() -> Fields<'static> {
+        const FIELDS: &'static [Field<'static>] = &[
+            Field {
+                index: 0,
+                tag: Tag::INTEGER,
+                tag_tree: TagTree::Leaf(Tag::INTEGER),
+                presence: FieldPresence::Required,
+                name: "value",
+            },
+            Field {
+                index: 1,
+                tag: Tag::SEQUENCE,
+                tag_tree: TagTree::Leaf(Tag::SEQUENCE),
+                presence: FieldPresence::Required,
+                name: "branches",
+            },
+        ];
+        Fields::from_static(FIELDS)
+    }
+
+    fn extended_fields() -> Option<Fields<'static>> {
+        None
+    }
+
+    fn is_extensible() -> bool {
+        false
+    }
+
+    #[cycle(writing)]
+    fn write_fields<E: Encoder>(&self, encoder: &mut E) -> Result<(), EncodeError> {
+        self.value.encode(encoder)?;
+        self.branches.encode(encoder)?;
+        encoder.end()?;
+        Ok(())
+    }
+
+    #[cycle(reading)]
+    fn read_fields<D: Decoder>(alloc: Global, decoder: &mut D) -> Result<Self, DecodeError> {
+        let value = Integer::decode(alloc, decoder)?;
+        let branches = read_branches(alloc, decoder)?;
+        decoder.end()?;
+        Ok(Tree { value, branches })
+    }
+
+    ghost means = { tree_opens };
+
+    ghost is_of = { λ _. tree_is };
+}
+
+// The list of the trees that branch off. Each is read by a direct call, which the levels that are left bound.
+#[cycle(reading)]
+fn read_branches<D: Decoder>(alloc: Global, decoder: &mut D) -> Result<Vec<Tree>, DecodeError>
+    ensures ok { IfOk result (λ x. Reads D.step branches_schema (D.levels decoder.old) (members (values_of tree_meaning x.items)) decoder.old decoder.new) }
+    ensures level { OnOk result (D.levels decoder.new ≡ D.levels decoder.old) }
+    ensures only { IfErr result (Unread D.step branches_schema (D.levels decoder.old) decoder.old) }
+    ensures failed { OnErr result (D.has_failed decoder.new) }
+{
+    decoder.begin_list(Tag::SEQUENCE, Constraints::NONE, Bounded::None)?;
+    let mut branches = Vec::new(alloc);
+    while decoder.get_further()? {
+        let branch = Tree::decode_with_tag_and_constraints(
+            alloc,
+            decoder,
+            Tag::SEQUENCE,
+            Constraints::NONE,
+        )?;
+        let Ok(()) = branches.push(branch) else {
+            return Err(decoder.refuse(DecodeError::OutOfMemory));
+        };
+    }
+    decoder.end()?;
+    Ok(branches)
+}
+
+impl Encode for Tree {
+    #[cycle(writing)]
+    fn encode_with_tag_and_constraints<E: Encoder>(
+        &self,
+        encoder: &mut E,
+        tag: Tag,
+        _constraints: Constraints,
+    ) -> Result<(), EncodeError> {
+        let optional = Tree::fields().number_of_optional_and_default_fields();
+        encoder.begin_sequence(tag, false, optional)?;
+        self.write_fields(encoder)?;
+        Ok(())
+    }
+}
+
+impl Decode for Tree {
+    #[cycle(reading)]
+    fn decode_with_tag_and_constraints<D: Decoder>(
+        alloc: Global,
+        decoder: &mut D,
+        tag: Tag,
+        _constraints: Constraints,
+    ) -> Result<Self, DecodeError> {
+        let optional = Tree::fields().number_of_optional_and_default_fields();
+        decoder.begin_sequence(tag, false, optional)?;
+        let tree = Tree::read_fields(alloc, decoder)?;
+        Ok(tree)
+    }
+}

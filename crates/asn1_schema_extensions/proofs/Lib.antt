@@ -1,2 +1,0 @@
-pub mod Additions
-pub mod Groups

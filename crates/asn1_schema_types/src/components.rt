@@ -1,0 +1,146 @@
+//! The components of a sequence, one inside another, so that a type hands them over in one call.
+ghost use Rattle.std.specs.Prelude.{refl};
+ghost use Rattle.asn1_model.specs.Value.{Parts, end, same};
+ghost use Rattle.asn1_model.specs.Schema.{required, optional, by_default};
+ghost use Rattle.asn1_schema_presented.specs.Presents.{there, with_part};
+ghost use Rattle.asn1_schema_presented.specs.Tables.{Table, no_table, with_field};
+ghost use Rattle.asn1_schema_presented.specs.Parts.{part_of, part_unless};
+ghost use Rattle.asn1_schema_presented.specs.Typed.{AreDefaults, AreTypes, AreValues};
+ghost use Rattle.asn1_schema_presented.proofs.Values.{no_types, more_types, no_values, more_values, part_required, part_optional, part_default};
+ghost use Rattle.asn1_schema_presented.proofs.Defaults.{has_default};
+
+use crate::Described;
+use crate::defaults::DefaultOf;
+use std::marker::PhantomData;
+
+/// Components of a sequence: what they are in ASN.1, and what they mean.
+pub trait ComponentsOf {
+    /// The table of the components.
+    ghost table: { Table };
+
+    /// The root components.
+    ghost root: { Self → Parts };
+
+    /// The additions.
+    ghost added: { Self → Parts };
+
+    /// The types of the components are lawful, if each default may stand there.
+    ghost typed: { AreDefaults table → AreTypes table };
+
+    /// The parts are of these types.
+    ghost valued: { AreDefaults table → (x : Self) → AreValues table (root x) (added x) };
+
+    fn described(&self) {}
+}
+
+/// The end of a sequence without a mark of extensibility.
+#[derive(Drop)]
+pub struct End;
+
+/// A component that is always there, and those behind it.
+#[derive(Drop)]
+pub struct Required<'a, T, R>(pub &'a T, pub R);
+
+impl ComponentsOf for End {
+    ghost table = { no_table };
+
+    ghost root = { λ _. end };
+
+    ghost added = { λ _. end };
+
+    ghost typed = { λ _. no_types };
+
+    ghost valued = { λ _ _. no_values };
+}
+
+impl<'a, T: Described, R: ComponentsOf> ComponentsOf for Required<'a, T, R> {
+    ghost table = { with_field T.tags required T.schema R.table };
+
+    ghost root = { λ x. with_part (there (T.meaning x.0.now)) (R.root x.1) };
+
+    ghost added = { λ x. R.added x.1 };
+
+    ghost typed = { λ d. more_types T.tags required (λ _. refl) T.typed (R.typed d) };
+
+    ghost valued = { λ d x. more_values T.tags (part_required T.typed (T.valued x.0.now)) (R.valued d x.1) };
+}
+
+/// A component that may be absent, and those behind it.
+#[derive(Drop)]
+pub struct Optional<'a, T, R>(pub &'a Option<T>, pub R);
+
+impl<'a, T: Described, R: ComponentsOf> ComponentsOf for Optional<'a, T, R> {
+    ghost table = { with_field T.tags optional T.schema R.table };
+
+    ghost root = { λ x. with_part (part_of T.meaning x.0.now) (R.root x.1) };
+
+    ghost added = { λ x. R.added x.1 };
+
+    ghost typed = { λ d. more_types T.tags optional (λ _. refl) T.typed (R.typed d) };
+
+    ghost valued = { λ d x. more_values T.tags (part_optional T.meaning x.0.now T.typed T.valued) (R.valued d x.1) };
+}
+
+/// A component that is always there, and those behind it, as they are read.
+#[derive(Drop)]
+pub struct RequiredComponent<T, R>(pub T, pub R);
+
+impl<T: Described, R: ComponentsOf> ComponentsOf for RequiredComponent<T, R> {
+    ghost table = { with_field T.tags required T.schema R.table };
+
+    ghost root = { λ x. with_part (there (T.meaning x.0)) (R.root x.1) };
+
+    ghost added = { λ x. R.added x.1 };
+
+    ghost typed = { λ d. more_types T.tags required (λ _. refl) T.typed (R.typed d) };
+
+    ghost valued = { λ d x. more_values T.tags (part_required T.typed (T.valued x.0)) (R.valued d x.1) };
+}
+
+/// A component that may be absent, and those behind it, as they are read.
+#[derive(Drop)]
+pub struct OptionalComponent<T, R>(pub Option<T>, pub R);
+
+impl<T: Described, R: ComponentsOf> ComponentsOf for OptionalComponent<T, R> {
+    ghost table = { with_field T.tags optional T.schema R.table };
+
+    ghost root = { λ x. with_part (part_of T.meaning x.0) (R.root x.1) };
+
+    ghost added = { λ x. R.added x.1 };
+
+    ghost typed = { λ d. more_types T.tags optional (λ _. refl) T.typed (R.typed d) };
+
+    ghost valued = { λ d x. more_values T.tags (part_optional T.meaning x.0 T.typed T.valued) (R.valued d x.1) };
+}
+
+/// A component with a default, of which the marker says which one, and those behind it.
+#[derive(Drop)]
+pub struct Defaulted<'a, V, T, R>(pub &'a T, pub PhantomData<V>, pub R);
+
+impl<'a, V: DefaultOf<T>, T: Described, R: ComponentsOf> ComponentsOf for Defaulted<'a, V, T, R> {
+    ghost table = { with_field T.tags (by_default V.value) T.schema R.table };
+
+    ghost root = { λ x. with_part (part_unless (same (T.meaning x.0.now) V.value) (T.meaning x.0.now)) (R.root x.2) };
+
+    ghost added = { λ x. R.added x.2 };
+
+    ghost typed = { λ d. more_types T.tags (by_default V.value) (has_default d.0) T.typed (R.typed d.1) };
+
+    ghost valued = { λ d x. more_values T.tags (part_default (same (T.meaning x.0.now) V.value) T.typed (T.valued x.0.now) d.0.is_value refl) (R.valued d.1 x.2) };
+}
+
+/// A component with a default, of which the marker says which one, and those behind it, as they are read.
+#[derive(Drop)]
+pub struct DefaultedComponent<V, T, R>(pub T, pub PhantomData<V>, pub R);
+
+impl<V: DefaultOf<T>, T: Described, R: ComponentsOf> ComponentsOf for DefaultedComponent<V, T, R> {
+    ghost table = { with_field T.tags (by_default V.value) T.schema R.table };
+
+    ghost root = { λ x. with_part (part_unless (same (T.meaning x.0) V.value) (T.meaning x.0)) (R.root x.2) };
+
+    ghost added = { λ x. R.added x.2 };
+
+    ghost typed = { λ d. more_types T.tags (by_default V.value) (has_default d.0) T.typed (R.typed d.1) };
+
+    ghost valued = { λ d x. more_values T.tags (part_default (same (T.meaning x.0) V.value) T.typed (T.valued x.0) d.0.is_value refl) (R.valued d.1 x.2) };
+}

@@ -1,6 +1,0 @@
-use Rattle.std.proofs.Common.{sym}
-use Rattle.asn1_values_bit_views.proofs.Views.{length-bits_of}
-use Rattle.asn1_values_bit_views.proofs.bit_str.BitStr.len.Goals as goal
-
-pub returns : goal.returns
-returns c = sym (length-bits_of c.args.self.now)

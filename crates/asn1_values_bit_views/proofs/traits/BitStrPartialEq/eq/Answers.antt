@@ -1,8 +1,0 @@
-use Rattle.std.proofs.Common.{◌∙◌, sym, ap}
-use Rattle.std.specs.Ordering.{is_eq}
-use Rattle.asn1_values_bit_views.specs.BitStr.{bits_of}
-use Rattle.asn1_values_bit_views.specs.BitOrder.{bits_ties}
-use Rattle.asn1_values_bit_views.proofs.traits.BitStrPartialEq.eq.Goals as goal
-
-pub returns : goal.returns
-returns c = c.is_eq.ensures ∙ ap is_eq c.compare.ensures ∙ sym (bits_ties (bits_of c.args.self.now) (bits_of c.args.other.now))

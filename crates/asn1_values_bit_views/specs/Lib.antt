@@ -1,3 +1,0 @@
-pub mod Octets
-pub mod BitStr
-pub mod BitOrder

@@ -1,0 +1,140 @@
+//! Numbers in the bits of octets.
+ghost use Rattle.std.specs.Prelude.{◌≡◌, ◌+◌, ◌-◌, ◌*◌, ◌/◌, ◌^◌, ◌<◌, ◌≤◌, ◌++◌, length, take, drop, IsTrue, ◌↔◌, pos, Any};
+ghost use Rattle.asn1_model.specs.Numbers.{binary, octet_bits};
+ghost use Rattle.asn1_values_bits.specs.Octets.{ored, placed};
+
+/// The number whose binary digits are `count` bits of the octets from bit `position` on.
+pub fn read_bits(octets: &[u8], position: usize, count: u32) -> u64
+    requires narrow { count ≤ 64 }
+    requires within { position + count ≤ length octets.now * 8 }
+    requires short { position + count < 2 ^ 64 }
+    ensures digits { binary count result ≡ take count (drop position (octet_bits octets.now)) }
+    ensures fits { result < 2 ^ count }
+{
+    let octet = position / 8;
+    if octet < octets.len() && octets.len() - octet > 8 {
+        return read_of_nine(octets, position, count);
+    }
+    read_by_octets(octets, position, count)
+}
+
+// The number of eight octets, the first one highest.
+fn eight_octets(octets: &[u8], start: usize) -> u64
+    requires { start + 8 ≤ length octets.now }
+    ensures { binary 64 result ≡ take 64 (drop (start * 8) (octet_bits octets.now)) }
+{
+    u64::from_be_bytes([
+        octets[start],
+        octets[start + 1],
+        octets[start + 2],
+        octets[start + 3],
+        octets[start + 4],
+        octets[start + 5],
+        octets[start + 6],
+        octets[start + 7],
+    ])
+}
+
+// The same as `read_bits`, where nine octets stand from the first bit's octet on.
+fn read_of_nine(octets: &[u8], position: usize, count: u32) -> u64
+    requires narrow { count ≤ 64 }
+    requires nine { position / 8 + 9 ≤ length octets.now }
+    ensures digits { binary count result ≡ take count (drop position (octet_bits octets.now)) }
+    ensures fits { result < 2 ^ count }
+{
+    let start = position / 8;
+    let offset = (position % 8) as u32;
+    let eight = eight_octets(octets, start);
+    let nine = (eight as u128) << 8 | octets[start + 8] as u128;
+    let bits = (nine >> (72 - offset - count)) & ((1u128 << count) - 1);
+    bits as u64
+}
+
+// The same as `read_bits`, an octet at a time.
+fn read_by_octets(octets: &[u8], position: usize, count: u32) -> u64
+    requires narrow { count ≤ 64 }
+    requires within { position + count ≤ length octets.now * 8 }
+    requires short { position + count < 2 ^ 64 }
+    ensures digits { binary count result ≡ take count (drop position (octet_bits octets.now)) }
+    ensures fits { result < 2 ^ count }
+{
+    let mut value = 0;
+    let mut place = position;
+    let mut left = count;
+    while left > 0 {
+        let offset = (place % 8) as u32;
+        let few = left.min(8 - offset);
+        let octet = octets[place / 8];
+        let bits = (octet as u64 >> (8 - offset - few)) & ((1 << few) - 1);
+        value = value << few | bits;
+        place += few as usize;
+        left -= few;
+    }
+    value
+}
+
+/// The number whose binary digits are `count` bits of the octets from bit `position` on.
+#[inline(always)]
+pub fn read_wide(octets: &[u8], position: usize, count: u32) -> u128
+    requires wide { count ≤ 128 }
+    requires within { position + count ≤ length octets.now * 8 }
+    requires short { position + count < 2 ^ 64 }
+    ensures digits { binary count result ≡ take count (drop position (octet_bits octets.now)) }
+    ensures fits { result < 2 ^ count }
+{
+    if count <= 64 {
+        return read_bits(octets, position, count) as u128;
+    }
+    let high = read_bits(octets, position, count - 64);
+    let low = read_bits(octets, position + (count - 64) as usize, 64);
+    (high as u128) << 64 | low as u128
+}
+
+// Copies the octets that begin at a bit within the first octet of the source, of which one more stands there.
+pub(crate) fn shift_octets(target: &mut [u8], source: &[u8], offset: u32)
+    requires one_more { length source.now ≡ length target.old + 1 }
+    requires some { 0 < offset }
+    requires within { offset < 8 }
+    ensures { octet_bits target.new ≡ take (length target.old * 8) (drop offset (octet_bits source.now)) }
+{
+    for i in 0..target.len() {
+        target[i] = source[i] << offset | source[i + 1] >> (8 - offset);
+    }
+}
+
+/// ORs the first `count` bits of the source into the target, from its bit `position` on. The target's other bits stay.
+pub fn or_bits(target: &mut [u8], position: usize, source: &[u8], count: usize)
+    requires target_room { position + count ≤ length target.old * 8 }
+    requires source_room { count ≤ length source.now * 8 }
+    requires short { position + count < 2 ^ 64 }
+    ensures { octet_bits target.new ≡ ored (octet_bits target.old) (placed position (take count (octet_bits source.now)) (length target.old * 8)) }
+{
+    let mut done = 0;
+    while done < count {
+        let place = position + done;
+        let offset = place % 8;
+        let few = (count - done).min(8 - offset);
+        let bits = read_bits(source, done, few as u32);
+        target[place / 8] |= (bits << (8 - offset - few)) as u8;
+        done += few;
+    }
+}
+
+/// One less than two to a number of bits: the largest number that they hold.
+pub fn range_from_len(bit_length: u32) -> i128
+    requires { bit_length ≤ 126 }
+    ensures { result ≡ pos (2 ^ bit_length - 1) }
+{
+    ((1u128 << bit_length) - 1) as i128
+}
+
+/// Whether codes of `width` bits have to be places in the set: its largest character is at least two to the width. Of no character
+/// it is false (X.691, 30.5.4).
+pub fn should_be_indexed(width: u32, character_set: &[u32]) -> bool
+    requires { width ≤ 31 }
+    ensures { IsTrue result ↔ Any (λ character. 2 ^ width ≤ character) character_set.now }
+{
+    character_set
+        .iter()
+        .any(|character| *character >= 1 << width)
+}

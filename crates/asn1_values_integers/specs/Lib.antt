@@ -1,0 +1,5 @@
+pub mod Kinds
+pub mod Hashes
+pub mod Conversions
+pub mod Texts
+pub mod Constrained

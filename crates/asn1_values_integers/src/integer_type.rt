@@ -1,0 +1,337 @@
+//! A trait of the types of whole numbers.
+ghost use Rattle.std.specs.Prelude.{◌≡◌, ℕ, ◌<◌, ◌≤◌, ◌^◌, ◌↔◌, ℤ, pos, ◌+ℤ◌, Bool, false, true, length, IfOk, IfSome, is_some, IsErrOf, ◌/◌, ◌-◌, None, refl};
+ghost use Rattle.asn1_model.specs.Schema.{Range};
+ghost use Rattle.asn1_model.specs.Numbers.{is_within};
+ghost use Rattle.asn1_values_natives.specs.Octets.{signed_number, unsigned_number, signed_octets_of, unsigned_octets_of, own_number, is_below_zero, plain};
+ghost use Rattle.asn1_values_natives.specs.Ranges.{range_of, range_of_width, whole_range, wrapped};
+ghost use Rattle.asn1_values_natives.proofs.RangeLaws.{width_range};
+
+use crate::{Integer, IntegerError};
+use asn1_values_natives::{IntegerBytes, NativeInteger, Wide};
+use std::alloc::Global;
+
+/// A type of whole numbers: the native integer types and `Integer`.
+pub trait IntegerType: Sized {
+    /// How many bits it has; `u32::MAX` where nothing limits them.
+    const WIDTH: u32;
+
+    /// How many octets it has.
+    const BYTE_WIDTH: usize;
+
+    /// The number zero.
+    const ZERO: Self;
+
+    /// The type of as many bits without a sign.
+    type UnsignedPair;
+
+    /// The type of as many bits with a sign.
+    type SignedPair;
+
+    // The constants' values.
+    ghost WIDTH: { ℕ };
+
+    ghost BYTE_WIDTH: { ℕ };
+
+    ghost ZERO: { Self };
+
+    // The whole number that a value is.
+    ghost value: { Self → ℤ };
+
+    // The whole number that a value of the type without a sign is.
+    ghost unsigned_value: { Self.UnsignedPair → ℤ };
+
+    // Whether it holds numbers below zero.
+    ghost signed: { Bool };
+
+    // The numbers that it holds.
+    ghost held: { Range };
+
+    // The greatest number of the range in which it adds.
+    ghost greatest: { ℕ };
+
+    /// The number that octets stand for, with a sign if the type has one (X.690 8.3).
+    /// Refuses no octets and numbers that the type does not hold; only `Integer` takes memory.
+    fn try_from_bytes(alloc: Global, input: &[u8]) -> Result<Self, IntegerError>
+        ensures number { IfOk result (λ x. value x ≡ own_number signed input.now) }
+        ensures empty { IsErrOf result IntegerError.Empty ↔ (length input.now ≡ 0) }
+        ensures overflow { IsErrOf result IntegerError.Overflow ↔ ((0 < length input.now) × (is_within held (own_number signed input.now) ≡ false)) }
+        ensures memory { IsErrOf result IntegerError.Memory → 2 ^ 128 ≤ plain (own_number signed input.now) };
+
+    /// The number that octets of two's complement stand for (X.690 8.3.3). Octets that only
+    /// repeat the sign are taken. Refuses no octets and numbers that the type does not hold.
+    fn try_from_signed_bytes(alloc: Global, input: &[u8]) -> Result<Self, IntegerError>
+        ensures number { IfOk result (λ x. value x ≡ signed_number input.now) }
+        ensures empty { IsErrOf result IntegerError.Empty ↔ (length input.now ≡ 0) }
+        ensures overflow { IsErrOf result IntegerError.Overflow ↔ ((0 < length input.now) × (is_within held (signed_number input.now) ≡ false)) }
+        ensures memory { IsErrOf result IntegerError.Memory → 2 ^ 128 ≤ plain (signed_number input.now) };
+
+    /// The number that octets without a sign stand for. Leading zeros are taken. Refuses no
+    /// octets and numbers that the type does not hold.
+    fn try_from_unsigned_bytes(alloc: Global, input: &[u8]) -> Result<Self, IntegerError>
+        ensures number { IfOk result (λ x. value x ≡ pos (unsigned_number input.now)) }
+        ensures empty { IsErrOf result IntegerError.Empty ↔ (length input.now ≡ 0) }
+        ensures overflow { IsErrOf result IntegerError.Overflow ↔ ((0 < length input.now) × (is_within held (pos (unsigned_number input.now)) ≡ false)) }
+        ensures memory { IsErrOf result IntegerError.Memory → 2 ^ 128 ≤ unsigned_number input.now };
+
+    /// The fewest octets of two's complement (X.690 8.3).
+    fn to_signed_bytes_be(&self) -> IntegerBytes<'_>
+        ensures octets { result ≡ signed_octets_of (value self.now) }
+        ensures within { is_within held (value self.now) ≡ true };
+
+    /// The fewest octets without a sign, at least one; of a number below zero those of two's
+    /// complement.
+    fn to_unsigned_bytes_be(&self) -> IntegerBytes<'_>
+        ensures octets { result ≡ unsigned_octets_of (value self.now) }
+        ensures within { is_within held (value self.now) ≡ true };
+
+    /// The sum, or what differs from it by a multiple of two to the type's bits; an `Integer`
+    /// adds in 128 bits.
+    fn wrapping_unsigned_add(self, other: Self::UnsignedPair) -> Self
+        ensures { value result ≡ wrapped signed greatest (value self +ℤ unsigned_value other) };
+
+    /// Whether the number is below zero.
+    fn is_negative(&self) -> bool
+        ensures number { result ≡ is_below_zero (value self.now) }
+        ensures within { is_within held (value self.now) ≡ true };
+
+    /// Whether the type holds numbers below zero.
+    fn is_signed(&self) -> bool
+        ensures { result ≡ signed };
+
+    /// The same number.
+    fn to_integer(self) -> Integer
+        ensures number { result ≡ value self }
+        ensures within { is_within held (value self) ≡ true };
+
+    /// The number, if 128 bits of two's complement hold it.
+    fn to_i128(&self) -> Option<i128>
+        ensures number { IfSome result (λ z. z ≡ value self.now) }
+        ensures fits { is_some result ≡ is_within (whole_range (2 ^ 127 - 1)) (value self.now) }
+        ensures within { is_within held (value self.now) ≡ true };
+
+    /// The number, if the type holds it.
+    fn from_i128(number: i128) -> Option<Self>
+        ensures number { IfSome result (λ x. value x ≡ number) }
+        ensures fits { is_some result ≡ is_within held number };
+
+    // Values of one number are one value.
+    ghost injective: { (x y : Self) → value x ≡ value y → x ≡ y };
+
+    // Zero is zero.
+    ghost nothing: { value ZERO ≡ pos 0 };
+
+    // Its octets are those of its bits.
+    ghost octets: { BYTE_WIDTH ≡ WIDTH / 8 };
+
+    // It holds the numbers of its bits, and all numbers where nothing limits them.
+    ghost width: { held ≡ range_of_width signed WIDTH };
+}
+
+/// The native integer types: `i8` to `i128`, `isize`, `u8` to `u128` and `usize`.
+pub trait NativeIntegerType: NativeInteger {}
+
+impl NativeIntegerType for u8 {}
+
+impl NativeIntegerType for u16 {}
+
+impl NativeIntegerType for u32 {}
+
+impl NativeIntegerType for u64 {}
+
+impl NativeIntegerType for u128 {}
+
+impl NativeIntegerType for usize {}
+
+impl NativeIntegerType for i8 {}
+
+impl NativeIntegerType for i16 {}
+
+impl NativeIntegerType for i32 {}
+
+impl NativeIntegerType for i64 {}
+
+impl NativeIntegerType for i128 {}
+
+impl NativeIntegerType for isize {}
+
+impl<T: NativeIntegerType> IntegerType for T {
+    const WIDTH: u32 = T::BITS;
+
+    const BYTE_WIDTH: usize = T::BITS as usize / 8;
+
+    const ZERO: T = T::ZERO;
+
+    type UnsignedPair = T::Unsigned;
+
+    type SignedPair = T::Signed;
+
+    ghost WIDTH = { T.BITS };
+
+    ghost BYTE_WIDTH = { T.BITS / 8 };
+
+    ghost ZERO = { T.ZERO };
+
+    ghost value = { T.number };
+
+    ghost unsigned_value = { T.unsigned_number };
+
+    ghost signed = { T.SIGNED };
+
+    ghost held = { range_of T.SIGNED T.greatest };
+
+    ghost greatest = { T.greatest };
+
+    ghost injective = { T.injective };
+
+    ghost nothing = { T.nothing };
+
+    ghost octets = { refl };
+
+    ghost width = { width_range T.SIGNED T.BITS T.greatest T.short T.width };
+
+    fn try_from_bytes(alloc: Global, input: &[u8]) -> Result<T, IntegerError> {
+        if T::SIGNED {
+            T::try_from_signed_bytes(alloc, input)
+        } else {
+            T::try_from_unsigned_bytes(alloc, input)
+        }
+    }
+
+    fn try_from_signed_bytes(_alloc: Global, input: &[u8]) -> Result<T, IntegerError> {
+        if input.is_empty() {
+            return Err(IntegerError::Empty);
+        }
+        let Some(wide) = Wide::from_signed_octets(input) else {
+            return Err(IntegerError::Overflow);
+        };
+        match T::from_wide(wide) {
+            Some(value) => Ok(value),
+            None => Err(IntegerError::Overflow),
+        }
+    }
+
+    fn try_from_unsigned_bytes(_alloc: Global, input: &[u8]) -> Result<T, IntegerError> {
+        if input.is_empty() {
+            return Err(IntegerError::Empty);
+        }
+        let Some(wide) = Wide::from_unsigned_octets(input) else {
+            return Err(IntegerError::Overflow);
+        };
+        match T::from_wide(wide) {
+            Some(value) => Ok(value),
+            None => Err(IntegerError::Overflow),
+        }
+    }
+
+    fn to_signed_bytes_be(&self) -> IntegerBytes<'_> {
+        IntegerBytes::signed(self.to_wide())
+    }
+
+    fn to_unsigned_bytes_be(&self) -> IntegerBytes<'_> {
+        IntegerBytes::unsigned(self.to_wide())
+    }
+
+    fn wrapping_unsigned_add(self, other: T::Unsigned) -> T {
+        NativeInteger::wrapping_unsigned_add(self, other)
+    }
+
+    fn is_negative(&self) -> bool {
+        self.to_wide().negative
+    }
+
+    fn is_signed(&self) -> bool {
+        T::SIGNED
+    }
+
+    fn to_integer(self) -> Integer {
+        Integer::from_wide(self.to_wide())
+    }
+
+    fn to_i128(&self) -> Option<i128> {
+        self.to_wide().to_whole(i128::MAX)
+    }
+
+    fn from_i128(number: i128) -> Option<T> {
+        T::from_wide(Wide::from_i128(number))
+    }
+}
+
+impl IntegerType for Integer {
+    const WIDTH: u32 = u32::MAX;
+
+    const BYTE_WIDTH: usize = u32::MAX as usize / 8;
+
+    const ZERO: Integer = Integer::ZERO;
+
+    type UnsignedPair = Integer;
+
+    type SignedPair = Integer;
+
+    ghost WIDTH = { 2 ^ 32 - 1 };
+
+    ghost BYTE_WIDTH = { (2 ^ 32 - 1) / 8 };
+
+    ghost ZERO = { pos 0 };
+
+    ghost value = { λ z. z };
+
+    ghost unsigned_value = { λ z. z };
+
+    ghost signed = { true };
+
+    ghost held = { record { low = None; high = None } };
+
+    ghost greatest = { 2 ^ 127 - 1 };
+
+    ghost injective = { λ x y e. e };
+
+    ghost nothing = { refl };
+
+    ghost octets = { refl };
+
+    ghost width = { refl };
+
+    fn try_from_bytes(alloc: Global, input: &[u8]) -> Result<Integer, IntegerError> {
+        Integer::from_signed_octets(alloc, input)
+    }
+
+    fn try_from_signed_bytes(alloc: Global, input: &[u8]) -> Result<Integer, IntegerError> {
+        Integer::from_signed_octets(alloc, input)
+    }
+
+    fn try_from_unsigned_bytes(alloc: Global, input: &[u8]) -> Result<Integer, IntegerError> {
+        Integer::from_unsigned_octets(alloc, input)
+    }
+
+    fn to_signed_bytes_be(&self) -> IntegerBytes<'_> {
+        Integer::to_signed_bytes_be(self)
+    }
+
+    fn to_unsigned_bytes_be(&self) -> IntegerBytes<'_> {
+        Integer::to_unsigned_bytes_be(self)
+    }
+
+    fn wrapping_unsigned_add(self, other: Integer) -> Integer {
+        self.wrapping_add(&other)
+    }
+
+    fn is_negative(&self) -> bool {
+        Integer::is_negative(self)
+    }
+
+    fn is_signed(&self) -> bool {
+        true
+    }
+
+    fn to_integer(self) -> Integer {
+        self
+    }
+
+    fn to_i128(&self) -> Option<i128> {
+        Integer::to_i128(self)
+    }
+
+    fn from_i128(number: i128) -> Option<Integer> {
+        Some(Integer::from_i128(number))
+    }
+}

@@ -1,4 +1,0 @@
-pub mod Kinds
-pub mod Hashes
-pub mod Conversions
-pub mod Texts

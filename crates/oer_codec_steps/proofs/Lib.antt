@@ -1,9 +1,0 @@
-pub mod Still
-pub mod Bridge
-pub mod Additions
-pub mod Lists
-pub mod Bags
-pub mod Choices
-pub mod Types
-pub mod Chains
-pub mod Written

@@ -1,0 +1,16 @@
+-- The additions of a sequence or set that are still to come (X.691 19.7).
+use Rattle.std.specs.Prelude.{◌≡◌, Bool, List, ◌∷◌, drop}
+use Rattle.oer_codec_fronts.specs.Takes.{first_bits}
+use Rattle.per_codec_decoder.specs.declared.additions.Additions.{Additions}
+
+-- The presence bits of the type's own additions: those past the bitmap are absent.
+abbrev pub own_marks : Additions → List Bool
+own_marks a = first_bits a.left a.bitmap.place.1
+
+-- The presence bits of unknown ones.
+abbrev pub unknown_marks : Additions → List Bool
+unknown_marks a = drop a.left a.bitmap.place.1
+
+-- This is the next presence bit.
+abbrev pub TellsOf : Bool → Additions → Additions → Type 0
+TellsOf v old new = (own_marks old ≡ v ∷ own_marks new) × (unknown_marks new ≡ unknown_marks old)

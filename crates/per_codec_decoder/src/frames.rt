@@ -1,0 +1,349 @@
+//! Open scopes.
+ghost use Rattle.std.specs.Prelude.{◌≡◌, ◌∷◌, [], OnOk, IfOk, IfErr, IfSome, IfNone, MatchBool};
+ghost use Rattle.per_codec_fronts.specs.Takes.{NextMark, NextMember, open_type};
+ghost use Rattle.per_codec_reading.specs.Fronts.{freedoms, is_aligned};
+ghost use Rattle.per_codec_decoder.specs.Members.{NoFurther};
+ghost use Rattle.per_codec_decoder.specs.Scopes.{scope_of, scope_around, scopes_in, scopes_of, HasMark, NoAdditions, Flags, NoFlag, Leaves, NoEnd, LeavesAddition, NoAdditionEnd, IsAdded};
+
+use crate::additions::Additions;
+use crate::members::Part;
+use asn1_schema_faults::DecodeError;
+use per_codec_reading::{Cursor, Variant};
+use per_codec_reading_values::Stretch;
+use std::alloc::{AllocError, Global};
+use std::marker::Model;
+use std::mem::replace;
+
+/// What has begun and has not ended.
+#[derive(Drop)]
+pub enum Frame<'input> {
+    /// The components of a sequence, set or group (X.691 19): the bit of its mark of extensibility, if it has a mark, and the presence bits
+    /// that are still to come.
+    Components(Option<bool>, Stretch<'input>),
+    /// The additions of a sequence or set (X.691 19.7) that are still to come.
+    Added(Additions<'input>),
+    /// An addition, or an added alternative (X.691 11.2): the place behind its open type.
+    OpenType(Stretch<'input>),
+    /// The members of a list (X.691 20): those that are due.
+    Members(Part),
+    /// An alternative of the root of a choice (X.691 23).
+    Alternative,
+}
+
+/// What encloses one value alone.
+#[derive(Drop)]
+pub enum Enclosing<'input> {
+    /// An addition, or an added alternative (X.691 11.2): the place behind its open type.
+    OpenType(Stretch<'input>),
+    /// An alternative of the root of a choice (X.691 23).
+    Alternative,
+}
+
+/// What is left to pass over where a scope ends.
+#[derive(Drop)]
+pub enum Ending<'input> {
+    /// Nothing.
+    Nothing,
+    /// The unknown additions that these presence bits tell of (X.691 19.8).
+    Unknown(Stretch<'input>),
+    /// What fills up an open type, behind which is this place (X.691 11.2).
+    OpenType(Stretch<'input>),
+}
+
+impl<'input> Enclosing<'input> {
+    /// The frame of the same scope.
+    #[inline(always)]
+    fn frame(self) -> Frame<'input>
+        ensures { scope_of result ≡ scope_around self.entry }
+    {
+        match self {
+            Enclosing::OpenType(behind) => Frame::OpenType(behind),
+            Enclosing::Alternative => Frame::Alternative,
+        }
+    }
+
+    /// What is left to pass over where it ends.
+    #[inline(always)]
+    fn ending(self) -> Ending<'input>
+        ensures { (k : _) → Leaves result (scope_around self.entry ∷ k) k }
+    {
+        match self {
+            Enclosing::OpenType(behind) => Ending::OpenType(behind),
+            Enclosing::Alternative => Ending::Nothing,
+        }
+    }
+}
+
+/// Opens a scope inside those of the frames.
+#[inline(always)]
+fn put<'input>(
+    innermost: &mut Option<Frame<'input>>,
+    outer: &mut Vec<Frame<'input>>,
+    frame: Frame<'input>,
+) -> Result<(), AllocError>
+    ensures { OnOk result (scopes_in innermost.new outer.new.items ≡ scope_of frame.entry ∷ scopes_in innermost.old outer.old.items) }
+{
+    match innermost.take() {
+        Some(around) => outer.push(around)?,
+        None => outer.clear(),
+    }
+    *innermost = Some(frame);
+    Ok(())
+}
+
+/// Opens what encloses one value alone as a frame inside the others. It is seldom called: where something begins in an open type or in an
+/// alternative.
+#[cold]
+fn put_enclosing<'input>(
+    innermost: &mut Option<Frame<'input>>,
+    outer: &mut Vec<Frame<'input>>,
+    enclosing: Enclosing<'input>,
+) -> Result<(), AllocError>
+    ensures { OnOk result (scopes_in innermost.new outer.new.items ≡ scope_around enclosing.entry ∷ scopes_in innermost.old outer.old.items) }
+{
+    put(innermost, outer, enclosing.frame())
+}
+
+/// Moves what encloses one value alone to the frames: the scopes stay the same.
+#[inline(always)]
+fn settle<'input>(
+    enclosing: &mut Option<Enclosing<'input>>,
+    innermost: &mut Option<Frame<'input>>,
+    outer: &mut Vec<Frame<'input>>,
+) -> Result<(), AllocError>
+    ensures moved { OnOk result (enclosing.new ≡ None) }
+    ensures same { OnOk result (scopes_in innermost.new outer.new.items ≡ scopes_of enclosing.old innermost.old outer.old.items) }
+{
+    if let Some(around) = enclosing.take() {
+        put_enclosing(innermost, outer, around)?;
+    }
+    Ok(())
+}
+
+/// All that has begun and has not ended: what encloses one value alone, which stands innermost of all if it is there, the innermost frame,
+/// and the frames around it.
+#[derive(Drop)]
+pub struct Scopes<'input> {
+    enclosing: Option<Enclosing<'input>>,
+    innermost: Option<Frame<'input>>,
+    outer: Vec<Frame<'input>>,
+}
+
+impl<'input> Model for Scopes<'input> {
+    ghost use Rattle.std.specs.Prelude.{List};
+    ghost use Rattle.per_codec_fronts.specs.Takes.{Scope};
+    ghost use Rattle.per_codec_decoder.specs.Scopes.{scopes_of};
+
+    ghost Value = { List Scope };
+
+    ghost view = { λ s. scopes_of s.enclosing s.innermost s.outer.items };
+}
+
+impl<'input> Scopes<'input> {
+    /// Nothing is open.
+    #[inline(always)]
+    pub fn new(alloc: Global) -> Self
+        ensures { result ≡ [] }
+    {
+        Scopes {
+            enclosing: None,
+            innermost: None,
+            outer: Vec::new(alloc),
+        }
+    }
+
+    /// Where the memory comes from.
+    pub fn allocator(&self) -> Global {
+        *self.outer.allocator()
+    }
+
+    /// Opens a scope inside all others.
+    ///
+    /// # Errors
+    ///
+    /// Want of memory; the scopes are then of no more use.
+    #[inline(always)]
+    pub fn open(&mut self, frame: Frame<'input>) -> Result<(), AllocError>
+        ensures { OnOk result (self.new ≡ scope_of frame.entry ∷ self.old) }
+    {
+        settle(&mut self.enclosing, &mut self.innermost, &mut self.outer)?;
+        put(&mut self.innermost, &mut self.outer, frame)
+    }
+
+    /// Opens a scope inside all others that encloses one value alone.
+    ///
+    /// # Errors
+    ///
+    /// Want of memory; the scopes are then of no more use.
+    #[inline(always)]
+    pub fn enclose(&mut self, enclosing: Enclosing<'input>) -> Result<(), AllocError>
+        ensures { OnOk result (self.new ≡ scope_around enclosing.entry ∷ self.old) }
+    {
+        settle(&mut self.enclosing, &mut self.innermost, &mut self.outer)?;
+        self.enclosing = Some(enclosing);
+        Ok(())
+    }
+
+    /// The next presence bit of the innermost sequence, set or group, if one is due.
+    #[inline(always)]
+    pub fn next_mark(&mut self) -> Option<bool>
+        ensures some { IfSome result (λ present. (p : _) → NextMark present p self.old (p, self.new)) }
+        ensures none { IfNone result ((present : _) (p : _) (b : _) → NextMark present p self.old b → ⊥) }
+    {
+        if self.enclosing.is_some() {
+            return None;
+        }
+        match &mut self.innermost {
+            Some(Frame::Components(_, presence)) => presence.next_bit(),
+            _ => None,
+        }
+    }
+
+    /// The bit of the mark of extensibility of the innermost sequence or set, all of whose root components have passed.
+    pub fn mark(&self) -> Option<bool>
+        ensures some { IfSome result (λ mark. HasMark mark self.now) }
+        ensures none { IfNone result (NoAdditions self.now) }
+    {
+        if self.enclosing.is_some() {
+            return None;
+        }
+        match &self.innermost {
+            Some(Frame::Components(mark, presence)) if presence.is_empty() => *mark,
+            _ => None,
+        }
+    }
+
+    /// The innermost sequence or set, all of whose root components have passed, gives place to another scope.
+    pub fn replace(&mut self, frame: Frame<'input>)
+        requires { (mark : _) × HasMark mark self.old }
+        ensures { (s : _) (k : _) → self.old ≡ s ∷ k → self.new ≡ scope_of frame.entry ∷ k }
+    {
+        self.innermost = Some(frame);
+    }
+
+    /// Whether the next addition of the innermost sequence or set is there, if one is due. Those past the bits of the bitmap are not.
+    pub fn next_addition(&mut self) -> Option<bool>
+        ensures some { IfSome result (λ is_there. Flags is_there self.old self.new) }
+        ensures none { IfNone result (NoFlag self.old) }
+    {
+        if self.enclosing.is_some() {
+            return None;
+        }
+        match &mut self.innermost {
+            Some(Frame::Added(additions)) => additions.next(),
+            _ => None,
+        }
+    }
+
+    /// Takes the innermost scope off.
+    #[inline(always)]
+    fn pop(&mut self) -> Option<Frame<'input>>
+        ensures some { IfSome result (λ frame. self.old ≡ scope_of frame ∷ self.new) }
+        ensures none { IfNone result (self.old ≡ []) }
+    {
+        if let Some(enclosing) = self.enclosing.take() {
+            return Some(enclosing.frame());
+        }
+        if self.outer.is_empty() {
+            return self.innermost.take();
+        }
+        replace(&mut self.innermost, self.outer.pop())
+    }
+
+    /// Whether the innermost scope is that of additions.
+    fn is_in_additions(&self) -> bool
+        ensures { MatchBool result (IsAdded self.now) (IsAdded self.now → ⊥) }
+    {
+        match &self.innermost {
+            Some(Frame::Added(_)) => self.enclosing.is_none(),
+            _ => false,
+        }
+    }
+
+    /// Takes the innermost scope off, if it is an open type: the place behind it.
+    #[inline(always)]
+    fn take_open_type(&mut self) -> Option<Stretch<'input>>
+        ensures some { IfSome result (λ behind. self.old ≡ open_type behind.place ∷ self.new) }
+        ensures none { IfNone result ((p : _) (k : _) → self.old ≡ open_type p ∷ k → ⊥) }
+    {
+        if let Some(enclosing) = self.enclosing.take() {
+            return match enclosing {
+                Enclosing::OpenType(place) => Some(place),
+                Enclosing::Alternative => None,
+            };
+        }
+        match self.pop() {
+            Some(Frame::OpenType(place)) => Some(place),
+            _ => None,
+        }
+    }
+
+    /// Closes the innermost scope, if it is an addition: the place behind its open type. Where it is none, the scopes are of no more use.
+    pub fn leave_addition(&mut self) -> Option<Stretch<'input>>
+        ensures some { IfSome result (λ behind. LeavesAddition behind.place self.old self.new) }
+        ensures none { IfNone result (NoAdditionEnd self.old) }
+    {
+        let place = self.take_open_type()?;
+        if !self.is_in_additions() {
+            return None;
+        }
+        Some(place)
+    }
+
+    /// Whether a member of the innermost list is still to come, behind the next header where none is due before it.
+    ///
+    /// # Errors
+    ///
+    /// Those of a header, and `SizeConstraintNotSatisfied` if all members are not as many as there may be.
+    #[inline(always)]
+    pub fn next_member(
+        &mut self,
+        cursor: &mut Cursor<'_>,
+        variant: Variant,
+    ) -> Result<bool, DecodeError>
+        ensures ok { IfOk result (λ more. NextMember (is_aligned variant) (freedoms variant) more cursor.old self.old (cursor.new, self.new)) }
+        ensures only { IfErr result (NoFurther (is_aligned variant) (freedoms variant) cursor.old self.old) }
+    {
+        if self.enclosing.is_some() {
+            return Err(DecodeError::NotValidCanonicalEncoding);
+        }
+        match &mut self.innermost {
+            Some(Frame::Members(part)) => part.next(cursor, variant),
+            _ => Err(DecodeError::NotValidCanonicalEncoding),
+        }
+    }
+
+    /// Closes the innermost scope, if nothing of it is still to come but what it leaves. Where more is, the scopes are of no more use.
+    #[inline(always)]
+    pub fn leave(&mut self) -> Option<Ending<'input>>
+        ensures some { IfSome result (λ ending. Leaves ending self.old self.new) }
+        ensures none { IfNone result (NoEnd self.old) }
+    {
+        if let Some(enclosing) = self.enclosing.take() {
+            return Some(enclosing.ending());
+        }
+        match self.pop() {
+            Some(Frame::Components(None, presence)) => {
+                if !presence.is_empty() {
+                    return None;
+                }
+                Some(Ending::Nothing)
+            }
+            Some(Frame::Added(additions)) => {
+                if additions.left > 0 {
+                    return None;
+                }
+                Some(Ending::Unknown(additions.bitmap))
+            }
+            Some(Frame::OpenType(place)) => Some(Ending::OpenType(place)),
+            Some(Frame::Members(part)) => {
+                if !part.is_last() {
+                    return None;
+                }
+                Some(Ending::Nothing)
+            }
+            Some(Frame::Alternative) => Some(Ending::Nothing),
+            _ => None,
+        }
+    }
+}

@@ -1,0 +1,94 @@
+//! The preamble of a sequence, set or group (X.691 19.1 to 19.3).
+ghost use Rattle.std.specs.Prelude.{◌≡◌, [], ◌∷◌, true, OnOk, IfOk, IfErr};
+ghost use Rattle.asn1_model.specs.Form.{is_present};
+ghost use Rattle.oer_codec_fronts.specs.Takes.{preamble_bits};
+ghost use Rattle.per_codec_reading.specs.Fronts.{freedoms, is_aligned, Leads};
+ghost use Rattle.per_codec_decoder.specs.Preamble.{HasBitmap, HasPreamble, NoBitmap, NoPreamble};
+ghost use Rattle.per_codec_decoder.specs.Scopes.{scope_of};
+
+use crate::frames::Frame;
+use asn1_schema_faults::DecodeError;
+use asn1_values_bits::{BitReader, BitStr};
+use per_codec_reading::{Cursor, RunBits, Variant};
+use per_codec_reading_values::{Field, Stretch};
+use std::alloc::Global;
+
+/// Takes one bit.
+///
+/// # Errors
+///
+/// `Incomplete` if there is none.
+pub(crate) fn read_bit(cursor: &mut Cursor<'_>) -> Result<bool, DecodeError>
+    ensures ok { IfOk result (λ bit. Leads (bit ∷ []) cursor.old cursor.new) }
+    ensures only { IfErr result (λ _. cursor.old.1 ≡ []) }
+{
+    let bits = cursor.take(1)?;
+    Ok(BitReader::new(bits).first_bit())
+}
+
+/// Reads the bit of a mark of extensibility, if there is one.
+///
+/// # Errors
+///
+/// `Incomplete` if there is no bit.
+#[inline(always)]
+fn read_mark(place: &mut Stretch<'_>, extensible: bool) -> Result<Option<bool>, DecodeError>
+    ensures mark { IfOk result (λ mark. is_present mark ≡ extensible) }
+    ensures bits { IfOk result (λ mark. Leads (preamble_bits mark []) place.old.place place.new.place) }
+    ensures lends { OnOk result (place.new.lends ≡ place.old.lends) }
+    ensures only { IfErr result (λ _. (extensible ≡ true) × (place.old.place.1 ≡ [])) }
+{
+    if !extensible {
+        return Ok(None);
+    }
+    let mut cursor = place.cursor();
+    let bit = read_bit(&mut cursor)?;
+    let position = cursor.position();
+    place.move_to(position);
+    Ok(Some(bit))
+}
+
+/// Reads the preamble of a sequence, set or group, with or without a mark of extensibility, of which so many components may be absent: the
+/// bit of the mark, if there is one, and the presence bits.
+///
+/// # Errors
+///
+/// `Incomplete` if the bits end early, and `OutOfMemory`.
+#[inline(always)]
+pub fn read_preamble<'input>(
+    alloc: Global,
+    place: &mut Stretch<'input>,
+    variant: Variant,
+    extensible: bool,
+    optional: usize,
+) -> Result<Frame<'input>, DecodeError>
+    ensures ok { IfOk result (λ frame. HasPreamble (freedoms variant) extensible optional (scope_of frame) place.old.place place.new.place) }
+    ensures lends { OnOk result (place.new.lends ≡ place.old.lends) }
+    ensures only { IfErr result (NoPreamble (freedoms variant) extensible optional place.old.place) }
+{
+    let mark = read_mark(place, extensible)?;
+    let presence = place.take_field(alloc, variant, Field::Bits(optional))?;
+    Ok(Frame::Components(mark, presence))
+}
+
+/// Reads the bitmap of the additions of a sequence or set (X.691 19.7), if the mark of extensibility tells that there is one.
+///
+/// # Errors
+///
+/// `Incomplete` if the bits end early, the errors of a length, and `OutOfMemory`.
+pub fn read_bitmap<'input>(
+    alloc: Global,
+    place: &mut Stretch<'input>,
+    variant: Variant,
+    mark: bool,
+) -> Result<Stretch<'input>, DecodeError>
+    ensures ok { IfOk result (λ bitmap. HasBitmap (freedoms variant) (is_aligned variant) mark bitmap.place.1 place.old.place place.new.place) }
+    ensures lends { OnOk result (place.new.lends ≡ place.old.lends) }
+    ensures only { IfErr result (NoBitmap (freedoms variant) (is_aligned variant) mark place.old.place) }
+{
+    if !mark {
+        return Ok(Stretch::new(RunBits::Lent(BitStr::new())));
+    }
+    let bitmap = place.take_field(alloc, variant, Field::Bitmap)?;
+    Ok(bitmap)
+}

@@ -1,4 +1,0 @@
-pub mod Additions
-pub mod Members
-pub mod Scopes
-pub mod Preamble

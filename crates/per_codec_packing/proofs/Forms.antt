@@ -1,0 +1,39 @@
+-- Texts as forms.
+use Rattle.std.proofs.Common.{◌≡◌, ℕ, Bool, List, [], ◌∷◌, ◌++◌, Option, Some, None, option_map, refl, ap, sym, ◌∙◌}
+use Rattle.asn1_model.specs.Form.{exactly, both, placed}
+use Rattle.asn1_model.specs.Per
+use Rattle.per_codec_packing.specs.Texts.{Text, bit, fill, as_text, plain, moved, on, text_at, as_form}
+use Rattle.per_codec_packing.proofs.Texts.{chain_same, behind_nothing, both_assoc}
+
+-- one text behind another, as forms
+pub as_form-append : (a b : Text) (q : Option ℕ) → text_at (as_form (a ++ b)) q ≡ text_at (both (as_form a) (as_form b)) q
+unfolding text_at
+as_form-append [] b q = same (text_at (as_form b) q) ∙ ap (λ p. option_map (λ c. c) (text_at (as_form b) p)) (behind_nothing q)
+  where
+    same : (o : Option Text) → o ≡ option_map (λ c. c) o
+    same None = refl
+    same (Some w) = refl
+as_form-append (bit c ∷ a) b q = ap (option_map (λ d. bit c ∷ d)) (as_form-append a b (moved q 1)) ∙ sym (both_assoc (exactly (c ∷ [])) (as_form a) (as_form b) q)
+as_form-append (fill ∷ a) b q = chain_same (text_at (placed (λ p. Per.filling (Per.missing p))) q) (λ d. option_map (λ e. d ++ e) (text_at (as_form (a ++ b)) (on q d))) (λ d. option_map (λ e. d ++ e) (text_at (both (as_form a) (as_form b)) (on q d))) (λ d. ap (option_map (λ e. d ++ e)) (as_form-append a b (on q d))) ∙ sym (both_assoc (placed (λ p. Per.filling (Per.missing p))) (as_form a) (as_form b) q)
+
+pub form_of_bits : (l : List Bool) (q : Option ℕ) → Some (as_text l) ≡ text_at (as_form (as_text l)) q
+unfolding text_at
+form_of_bits [] q = refl
+form_of_bits (b ∷ l) q = ap (option_map (λ t. bit b ∷ t)) (form_of_bits l (moved q 1))
+
+-- where the position is not known, a text stands as it is
+pub own_text : (t : Text) → text_at (as_form t) None ≡ Some t
+unfolding text_at
+own_text [] = refl
+own_text (bit b ∷ t) = ap (option_map (λ u. bit b ∷ u)) (own_text t)
+own_text (fill ∷ t) = ap (option_map (λ u. fill ∷ u)) (own_text t)
+
+-- a text in which nothing is left open is its bits
+pub text_of_plain : (t : Text) (w : List Bool) → plain t ≡ Some w → t ≡ as_text w
+text_of_plain [] w e = let f : [] ≡ w = cc in ap as_text f
+text_of_plain (bit b ∷ t) w e = go (plain t) e (λ l f. text_of_plain t l f)
+  where
+    go : (o : Option (List Bool)) → option_map (λ l. b ∷ l) o ≡ Some w → ((l : List Bool) → o ≡ Some l → t ≡ as_text l) → bit b ∷ t ≡ as_text w
+    go None f h = cc
+    go (Some l) f h = let g : b ∷ l ≡ w = cc in ap (λ u. bit b ∷ u) (h l refl) ∙ ap as_text g
+text_of_plain (fill ∷ t) w e = cc

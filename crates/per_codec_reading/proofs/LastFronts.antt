@@ -1,0 +1,44 @@
+-- The last of the bits that were taken.
+use Rattle.std.proofs.Common.{◌≡◌, ℕ, ◌<◌, ltb, Bool, true, false, cond, List, ◌++◌, Option, Some, None, refl, sym, subst}
+use Rattle.asn1_model.specs.Form.{nothing_more}
+use Rattle.asn1_model.specs.Per
+use Rattle.asn1_values_bits.specs.BitStr.{bits_of}
+use Rattle.per_codec_fronts.specs.Takes.{Place, Front}
+use Rattle.per_codec_fronts.proofs.Fronts.{if_out}
+use Rattle.per_codec_reading.specs.Fronts.{Leads}
+use Rattle.per_codec_reading.proofs.Fronts.{leads_join}
+use Rattle.std.proofs.lemmas.List.{append_assoc}
+use Rattle.per_codec_reading.specs.Runs.{InOneRun, EndsWith, EndsWithLent, IsLent, StandsIn, StandsBefore}
+use Rattle.per_codec_reading.specs.Sizes.{size_mark, told_highest}
+use Rattle.per_codec_reading.specs.declared.runs.RunBits.{RunBits}
+use Rattle.per_codec_reading.specs.declared.runs.RunBits.TheVariants.{Lent, Joined}
+
+module _ (free : Per.Freedom → Bool) where
+  -- bits behind a form
+  pub last_behind : (x : Per.BitForm) (bs : List Bool) (a m b : Place) → Front free x a m → Leads bs m b → EndsWith bs a b
+  last_behind x bs a m b f l = (f.text, leads_join f.text bs a m b (f.in_front, f.moved) l)
+
+  -- the last bits behind a form, and what is before them
+  pub ends_behind : (x : Per.BitForm) (bs : List Bool) (a m b : Place) → Front free x a m → EndsWith bs m b → EndsWith bs a b
+  ends_behind x bs a m b f e = (f.text ++ e.0, subst (λ t. Leads t a b) (sym (append_assoc f.text e.0 bs)) (leads_join f.text (e.0 ++ bs) a m b (f.in_front, f.moved) e.1))
+
+  pub lent_behind : (x : Per.BitForm) (bits : RunBits) (a m b : Place) → Front free x a m → EndsWithLent bits m b → EndsWithLent bits a b
+  lent_behind x (Lent bits) a m b f e = ends_behind x (bits_of bits) a m b f e
+  lent_behind x (Joined bits) a m b f e = tt
+
+  -- behind a mark, where there is one, units in one run are lent
+  in_one_run : (t : Bool) (high n : ℕ) → n < 16384 → InOneRun (cond t (Some high) None) n
+  in_one_run true high n l = tt
+  in_one_run false high n l = l
+
+  pub lent_marked : (e o : Bool) (h : Option ℕ) (n : ℕ) (bits : RunBits) (a b : Place) → Front free (size_mark e o) a b → (InOneRun (told_highest h o) n → IsLent bits) → InOneRun (told_highest h e) n → IsLent bits
+  lent_marked false false h n bits a b f k l = k l
+  lent_marked false true h n bits a b f k l = let e : false ≡ true = (if_out free false nothing_more a b f).0 in cc
+  lent_marked true true h n bits a b f k l = k l
+  lent_marked true false None n bits a b f k l = k l
+  lent_marked true false (Some high) n bits a b f k l = k (in_one_run (ltb high 65536) high n l)
+
+-- lent units before a position of the input
+pub stands_before : (bits : RunBits) (all : List Bool) (a b : Place) → StandsIn all a → EndsWithLent bits a b → StandsBefore bits all b.0
+stands_before (Joined bits) all a b s e = tt
+stands_before (Lent bits) all a b s e = (b, refl, (s.0 ++ e.0, subst (λ t. Leads t (0, all) b) (sym (append_assoc s.0 e.0 (bits_of bits))) (leads_join s.0 (e.0 ++ bits_of bits) (0, all) a b s.1 e.1)))

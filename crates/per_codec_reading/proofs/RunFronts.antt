@@ -1,0 +1,166 @@
+-- Units of one width behind their number, by what stands in front: a length and as many units, and what is behind a fragment.
+use Rattle.std.proofs.Common.{◌≡◌, ◌⊎◌, inl, inr, ℕ, ◌+◌, ◌*◌, ◌<◌, ◌≤◌, ◌==◌, leb, ltb, cond, ◌&&◌, Bool, true, false, IsTrue, List, [], ◌∷◌, ◌++◌, length, ap, sym, ◌∙◌, subst, arith, length-append}
+use Rattle.std.proofs.lemmas.List.{append_cancel_left}
+use Rattle.std.proofs.lemmas.Bool.{leb-true, eqb-true, eq-eqb, and_parts}
+use Rattle.asn1_model.specs.Numbers.{binary}
+use Rattle.asn1_model.specs.Form.{exactly, only_if}
+use Rattle.asn1_model.specs.Per
+use Rattle.asn1_laws_fronts.proofs.Fronts.{agree_exactly, agree_first, agree_if_right, agree_varied_right}
+use Rattle.asn1_laws_fronts.proofs.PerNumbers.{Alike, at_octet_alike, binary_alike, bits_apart, short_length_alike}
+use Rattle.per_codec_fronts.specs.Takes.{Place, Front}
+use Rattle.per_codec_fronts.proofs.Fronts.{split, join, if_in, if_out, varied_in, varied_out}
+use Rattle.per_codec_fronts.proofs.Next.{place_same}
+use Rattle.per_codec_reading.specs.Fronts.{Leads}
+use Rattle.per_codec_reading.specs.Lengths.{length_form}
+use Rattle.per_codec_reading.specs.declared.lengths.Length.{Length}
+use Rattle.per_codec_reading.specs.declared.lengths.Length.TheVariants.{Short, Fragment}
+use Rattle.per_codec_reading.proofs.Fronts.{exactly_in, exactly_out}
+use Rattle.per_codec_reading.specs.Units.{units_of, counted_units, count_of, Piece, piece_form}
+use Rattle.per_codec_reading.proofs.UnitFronts.{Divided, last_in, last_out, more_in, more_out}
+
+module _ (free : Per.Freedom → Bool) where
+  -- ---- one front
+  pub one : {x y : Per.BitForm} {P : Type 0} (a b c : Place) → Alike free x y P → Front free x a b → Front free y a c → P × (b ≡ c)
+  one a b c h f g =
+      let q = h.fronts a.0 f.text g.text b.1 c.1 f.has_form g.has_form (f.in_front ∙ sym g.in_front) in
+      let l : length f.text ≡ length g.text = ap length q.0 in
+      let m : a.0 + length f.text ≡ b.0 = f.moved in
+      let n : a.0 + length g.text ≡ c.0 = g.moved in
+      let r : f.text ++ b.1 ≡ f.text ++ c.1 = f.in_front ∙ sym g.in_front ∙ ap (λ t. t ++ c.1) (sym q.0) in
+      (q.1, place_same b c (omega arith) (append_cancel_left f.text b.1 c.1 r))
+
+  -- bits in front that are equally many
+  pub leads_one : (xs ys : List Bool) (a b c : Place) → length xs ≡ length ys → Leads xs a b → Leads ys a c → (xs ≡ ys) × (b ≡ c)
+  leads_one xs ys a b c e l m = one a b c (agree_exactly free xs ys e) (exactly_in free xs a b l) (exactly_in free ys a c m)
+
+  -- ---- lengths
+  abbrev head : ℕ → Per.BitForm
+  head m = exactly (true ∷ true ∷ binary 6 m)
+
+  abbrev last : Bool → ℕ → Per.BitForm
+  last long n = cond long (only_if (ltb n 16384) (exactly (true ∷ false ∷ binary 14 n))) (only_if (ltb n 128) (exactly (false ∷ binary 7 n)))
+
+  head_apart : (m n : ℕ) (b : Bool) → Alike free (head m) (last b n) ⊥
+  head_apart m n true = agree_if_right free (ltb n 16384) {x = head m} {y = exactly (true ∷ false ∷ binary 14 n)} (λ h. agree_first free (λ e. bits_apart free))
+  head_apart m n false = agree_if_right free (ltb n 128) {x = head m} {y = exactly (false ∷ binary 7 n)} (λ h. bits_apart free)
+
+  head_or_last : (al : Bool) (m n : ℕ) → Alike free (Per.at_octet al (head m)) (Per.short_length al n) ⊥
+  unfolding Per.short_length
+  head_or_last al m n = at_octet_alike free al (agree_varied_right free (λ b. head_apart m n b))
+
+  heads_alike : (al : Bool) (m n : ℕ) → m ≤ 4 → n ≤ 4 → Alike free (Per.at_octet al (head m)) (Per.at_octet al (head n)) (m ≡ n)
+  heads_alike al m n h k = at_octet_alike free al (agree_first free (λ e. agree_first free (λ f. binary_alike free 6 m n (omega arith) (omega arith))))
+
+  header_out : (al : Bool) (m : ℕ) (a b : Place) → Front free (length_form al (Fragment m)) a b → (m ≤ 4) × Front free (Per.at_octet al (head m)) a b
+  header_out al m a b f = let i = if_out free (leb 1 m && leb m 4) _ a b f in (leb-true _ _ ((and_parts _ _ i.0).1), i.1)
+
+  -- One length at most stands in front.
+  pub length_one : (al : Bool) (l k : Length) (a b c : Place) → Front free (length_form al l) a b → Front free (length_form al k) a c → (l ≡ k) × (b ≡ c)
+  length_one al (Short n) (Short m) a b c f g = let q = one a b c (short_length_alike free al n m) f g in (ap Short q.0, q.1)
+  length_one al (Short n) (Fragment m) a b c f g = absurd ((one a c b (head_or_last al m n) (header_out al m a c g).1 f).0)
+  length_one al (Fragment m) (Short n) a b c f g = absurd ((one a b c (head_or_last al m n) (header_out al m a b f).1 g).0)
+  length_one al (Fragment m) (Fragment n) a b c f g =
+      let i = header_out al m a b f in
+      let j = header_out al n a c g in
+      let q = one a b c (heads_alike al m n i.0 j.0) i.1 j.1 in
+      (ap Fragment q.0, q.1)
+
+  -- ---- pieces
+  pub piece_in : (al : Bool) (w : ℕ) (l : Length) (bs : List Bool) (a mid b : Place) → Front free (length_form al l) a mid → Leads bs mid b → length bs ≡ count_of l * w → Front free (piece_form al w (l, bs)) a b
+  piece_in al w l bs a mid b f h e = if_in free (length bs == count_of l * w) _ a b (eq-eqb _ _ e) (join free (length_form al l) (exactly bs) a mid b f (exactly_in free bs mid b h))
+
+  pub piece_out : (al : Bool) (w : ℕ) (l : Length) (bs : List Bool) (a b : Place) → Front free (piece_form al w (l, bs)) a b → (length bs ≡ count_of l * w) × (mid : Place) × Front free (length_form al l) a mid × Leads bs mid b
+  piece_out al w l bs a b f =
+      let i = if_out free (length bs == count_of l * w) _ a b f in
+      let s = split free (length_form al l) (exactly bs) a b i.1 in
+      (eqb-true _ _ i.0, s.0, s.1, exactly_out free bs s.0 b s.2)
+
+  pub piece_one : (al : Bool) (w : ℕ) (l k : Length) (xs ys : List Bool) (a b c : Place) → Front free (piece_form al w (l, xs)) a b → Front free (piece_form al w (k, ys)) a c → (l ≡ k) × (xs ≡ ys) × (b ≡ c)
+  piece_one al w l k xs ys a b c f g =
+      let p = piece_out al w l xs a b f in
+      let q = piece_out al w k ys a c g in
+      let o = length_one al l k a p.1 q.1 p.2 q.2 in
+      let m : Leads ys p.1 c = subst (λ x. Leads ys x c) (sym o.1) q.3 in
+      let e = leads_one xs ys p.1 b c (p.0 ∙ ap (λ x. count_of x * w) o.0 ∙ sym q.0) p.3 m in
+      (o.0, e.0, e.1)
+
+  pub no_length : (al : Bool) (w : ℕ) (a : Place) → ((l : Length) (b : Place) → Front free (length_form al l) a b → ⊥) → (x : Piece) (b : Place) → Front free (piece_form al w x) a b → ⊥
+  no_length al w a n x b f = let p = piece_out al w x.0 x.1 a b f in n x.0 p.1 p.2
+
+  pub too_few : (al : Bool) (w : ℕ) (l : Length) (a mid : Place) → Front free (length_form al l) a mid → length mid.1 < count_of l * w → (x : Piece) (b : Place) → Front free (piece_form al w x) a b → ⊥
+  too_few al w l a mid h few x b f =
+      let p = piece_out al w x.0 x.1 a b f in
+      let o = length_one al l x.0 a mid p.1 h p.2 in
+      let e : length x.1 ≡ count_of l * w = p.0 ∙ ap (λ k. count_of k * w) (sym o.0) in
+      let i : x.1 ++ b.1 ≡ mid.1 = p.3.0 ∙ ap (λ m. m.1) (sym o.1) in
+      let k = length-append x.1 b.1 in
+      let j = ap length i in
+      omega arith
+
+  -- ---- all units
+  -- so many units stand in front behind their number, in any fragments
+  pub record Run (al : Bool) (w n : ℕ) (bs : List Bool) (a b : Place) : Type 0 where
+    pub sizes : List ℕ
+    pub divided : Divided free al w sizes n bs a b
+
+  pub run_last : (al : Bool) (w n : ℕ) (bs : List Bool) (a b : Place) → Front free (piece_form al w (Short n, bs)) a b → Run al w n bs a b
+  run_last al w n bs a b f = let p = piece_out al w (Short n) bs a b f in record { sizes = []; divided = last_in free al w n bs a p.1 b p.0 p.2 p.3 }
+
+  pub run_more : (al : Bool) (w m n : ℕ) (xs ys : List Bool) (a mid b : Place) → Front free (piece_form al w (Fragment m, xs)) a mid → Run al w n ys mid b → Run al w (m * 16384 + n) (xs ++ ys) a b
+  run_more al w m n xs ys a mid b f r =
+      let p = piece_out al w (Fragment m) xs a mid f in
+      record { sizes = m ∷ r.sizes; divided = more_in free al w m n r.sizes xs ys a p.1 mid b p.2 p.0 p.3 r.divided }
+
+  -- a fragment in front, and the units behind it
+  pub record Further (al : Bool) (w n : ℕ) (bs : List Bool) (a b : Place) : Type 0 where
+    pub size : ℕ
+    pub rest : ℕ
+    pub first : List Bool
+    pub further : List Bool
+    pub mid : Place
+    pub count : n ≡ size * 16384 + rest
+    pub bits : bs ≡ first ++ further
+    pub piece : Front free (piece_form al w (Fragment size, first)) a mid
+    pub behind : Run al w rest further mid b
+
+  pub run_cases : (al : Bool) (w n : ℕ) (bs : List Bool) (a b : Place) → Run al w n bs a b → Front free (piece_form al w (Short n, bs)) a b ⊎ Further al w n bs a b
+  run_cases al w n bs a b r = go r.sizes r.divided
+    where
+      go : (ms : List ℕ) → Divided free al w ms n bs a b → Front free (piece_form al w (Short n, bs)) a b ⊎ Further al w n bs a b
+      go [] d = let l = last_out free al w n bs a b d in inl (piece_in al w (Short n) bs a l.0 b l.1 l.2 d.size)
+      go (m ∷ ms) d =
+          let x = more_out free al w m n ms bs a b d in
+          inr (record {
+            size = m;
+            rest = x.rest;
+            first = x.first;
+            further = x.further;
+            mid = x.next;
+            count = x.count;
+            bits = x.bits;
+            piece = piece_in al w (Fragment m) x.first a x.mid x.next x.head x.leads x.size;
+            behind = record { sizes = ms; divided = x.behind };
+          })
+
+  abbrev pub NoRun : Bool → ℕ → Place → Type 0
+  NoRun al w a = (n : ℕ) (bs : List Bool) (b : Place) → Run al w n bs a b → ⊥
+
+  pub no_piece : (al : Bool) (w : ℕ) (a : Place) → ((x : Piece) (b : Place) → Front free (piece_form al w x) a b → ⊥) → NoRun al w a
+  no_piece al w a h n bs b r = elim (run_cases al w n bs a b r) [ inl p ↦ h (Short n, bs) b p | inr f ↦ h (Fragment f.size, f.first) f.mid f.piece ]
+
+  pub none_behind : (al : Bool) (w m : ℕ) (xs : List Bool) (a mid : Place) → Front free (piece_form al w (Fragment m, xs)) a mid → NoRun al w mid → NoRun al w a
+  none_behind al w m xs a mid p h n bs b r = elim (run_cases al w n bs a b r) [
+    | inl q ↦ let o = piece_one al w (Fragment m) (Short n) xs bs a mid b p q in let e : Fragment m ≡ Short n = o.0 in cc
+    | inr f ↦ let o = piece_one al w (Fragment m) (Fragment f.size) xs f.first a mid f.mid p f.piece in h f.rest f.further b (subst (λ c. Run al w f.rest f.further c b) (sym o.2) f.behind)
+  ]
+
+  pub run_in : (al : Bool) (w n : ℕ) (bs : List Bool) (a b : Place) → IsTrue (free Per.other_fragments) → Run al w n bs a b → Front free (counted_units al w (n, bs)) a b
+  unfolding Per.counted
+  run_in al w n bs a b t r = if_in free (length bs == n * w) _ a b (eq-eqb _ _ r.divided.size) (varied_in free (λ ms. Per.fragments al ms (units_of w n bs)) r.sizes (inr t) a b r.divided.front)
+
+  pub run_out : (al : Bool) (w n : ℕ) (bs : List Bool) (a b : Place) → Front free (counted_units al w (n, bs)) a b → Run al w n bs a b
+  unfolding Per.counted
+  run_out al w n bs a b f =
+      let i = if_out free (length bs == n * w) _ a b f in
+      let v = varied_out free (λ ms. Per.fragments al ms (units_of w n bs)) a b i.1 in
+      record { sizes = v.0; divided = record { size = eqb-true _ _ i.0; front = v.2 } }

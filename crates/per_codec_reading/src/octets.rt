@@ -1,0 +1,116 @@
+//! Octets behind their number (X.691 11.9).
+ghost use Rattle.std.specs.Prelude.{◌≡◌, ◌%◌, true, length, IfOk, IfErr, IsOkAnd};
+ghost use Rattle.std.specs.Cow.{cow_slice_items, IsBorrowedSlice};
+ghost use Rattle.asn1_model.specs.Numbers.{octet_bits};
+ghost use Rattle.asn1_model.specs.Per as Per;
+ghost use Rattle.asn1_model.specs.Strings.{each_is, is_octet};
+ghost use Rattle.asn1_values_bits.specs.BitStr.{bits_of, offset_of};
+ghost use Rattle.per_codec_fronts.specs.Takes.{Front};
+ghost use Rattle.per_codec_reading.specs.Fronts.{freedoms, Misses};
+ghost use Rattle.per_codec_reading.specs.Fronts as fronts;
+ghost use Rattle.per_codec_reading.specs.Runs.{bits_in, IsLentAtOctet};
+
+use crate::runs::{Run, RunBits, read_counted};
+use crate::{Cursor, Variant};
+use asn1_schema_faults::DecodeError;
+use asn1_values_bits::{BitBuffer, BitStr};
+use std::alloc::{AllocError, Global};
+use std::borrow::CowSlice;
+
+/// The octets, lent.
+fn borrowed(octets: &[u8]) -> CowSlice<'_, u8>
+    ensures octets { cow_slice_items result ≡ octets.now }
+    ensures small { each_is is_octet octets.now ≡ true }
+    ensures lent { IsBorrowedSlice result }
+{
+    CowSlice::Borrowed(octets)
+}
+
+/// Up to so many bits are copied in numbers, and more of them in blocks.
+const FEW_BITS: usize = 2048;
+
+/// A copy of the bits.
+fn copied_bits(alloc: Global, bits: BitStr<'_>) -> Result<BitBuffer, AllocError>
+    ensures { IfOk result (λ copy. copy ≡ bits_of bits.entry) }
+{
+    let mut copy = BitBuffer::new(alloc);
+    if bits.len() > FEW_BITS {
+        copy.extend_from_bitslice(bits)?;
+        return Ok(copy);
+    }
+    copy.reserve_bytes(bits.len() / 8)?;
+    let mut rest = bits;
+    'numbers: while rest.len() > 128 {
+        copy.push_bits(rest.first_number(128), 128)?;
+        rest = rest.split_at(128).1;
+    }
+    let left = rest.len() as u32;
+    copy.push_bits(rest.first_number(left), left)?;
+    Ok(copy)
+}
+
+/// The octets that bits of the input are. Where the bits begin at an octet of the input they are lent, and no memory is taken.
+#[inline(always)]
+fn lent_octets<'input>(
+    alloc: Global,
+    bits: BitStr<'input>,
+) -> Result<CowSlice<'input, u8>, AllocError>
+    requires { length (bits_of bits) % 8 ≡ 0 }
+    ensures octets { IfOk result (λ octets. octet_bits (cow_slice_items octets) ≡ bits_of bits.entry) }
+    ensures small { IfOk result (λ octets. each_is is_octet (cow_slice_items octets) ≡ true) }
+    ensures lent { offset_of bits.entry ≡ 0 → IsOkAnd result IsBorrowedSlice }
+{
+    if let Some(octets) = bits.aligned_octets() {
+        return Ok(borrowed(octets));
+    }
+    let copy = copied_bits(alloc, bits)?;
+    Ok(CowSlice::Owned(joined_octets(copy)))
+}
+
+/// The octets that joined bits are.
+fn joined_octets(bits: BitBuffer) -> Vec<u8>
+    requires { length bits % 8 ≡ 0 }
+    ensures octets { octet_bits result.items ≡ bits }
+    ensures small { each_is is_octet result.items ≡ true }
+{
+    bits.into_vec()
+}
+
+impl<'input> Run<'input> {
+    /// The octets that the units are. Where their bits stand in one piece of the input that begins at an octet they are lent, and no memory
+    /// is taken.
+    #[inline(always)]
+    pub fn into_octets(self, alloc: Global) -> Result<CowSlice<'input, u8>, AllocError>
+        requires { length (bits_in self.bits) % 8 ≡ 0 }
+        ensures octets { IfOk result (λ octets. octet_bits (cow_slice_items octets) ≡ bits_in self.entry.bits) }
+        ensures small { IfOk result (λ octets. each_is is_octet (cow_slice_items octets) ≡ true) }
+        ensures lent { IsLentAtOctet self.entry.bits → IsOkAnd result IsBorrowedSlice }
+    {
+        match self.bits {
+            RunBits::Lent(bits) => {
+                let octets = lent_octets(alloc, bits)?;
+                Ok(octets)
+            }
+            RunBits::Joined(bits) => Ok(CowSlice::Owned(joined_octets(bits))),
+        }
+    }
+}
+
+/// Reads octets behind their number (X.691 11.9). Where up to 16383 of them stand in one piece that begins at an octet of the input they are
+/// lent, and no memory is taken.
+///
+/// # Errors
+///
+/// `Incomplete` if the bits end early, the errors of a length, and `OutOfMemory`.
+pub fn read_counted_octets<'input>(
+    alloc: Global,
+    cursor: &mut Cursor<'input>,
+    variant: Variant,
+) -> Result<CowSlice<'input, u8>, DecodeError>
+    ensures ok { IfOk result (λ octets. Front (freedoms variant) (Per.counted_octets (fronts.is_aligned variant) (cow_slice_items octets)) cursor.old cursor.new) }
+    ensures only { IfErr result (Misses (freedoms variant) (Per.counted_octets (fronts.is_aligned variant)) cursor.old) }
+{
+    let units = read_counted(alloc, cursor, variant, 8)?;
+    let octets = units.into_octets(alloc)?;
+    Ok(octets)
+}
