@@ -10,7 +10,7 @@ use Rattle.asn1_laws_values.proofs.Normals.{normal_again}
 use Rattle.asn1_laws_values.proofs.Normal.{normal_same}
 use Rattle.asn1_laws_fronts.specs.Laws.{OneFrontIn}
 use Rattle.asn1_laws_fronts.proofs.Forms.{one_front_uper, one_front_aper, one_front_uper_strict, one_front_aper_strict}
-use Rattle.asn1_laws_fronts.proofs.OctetsForms.{one_front_oer, one_front_coer}
+use Rattle.asn1_laws_fronts.proofs.OctetForms.{one_front_oer, one_front_coer}
 use Rattle.asn1_laws_across.proofs.Canonical.{canonical_same, same_written}
 
 one_front : (r : Rules) → OneFrontIn r

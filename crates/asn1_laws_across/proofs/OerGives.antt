@@ -16,7 +16,7 @@ use Rattle.asn1_laws_values.proofs.Bags.{EachSame, bag_matched}
 use Rattle.asn1_laws_values.proofs.Normal.{normal_same, default_tests, group_tests}
 use Rattle.asn1_laws_fronts.proofs.OerNumbers.{OctetsAlike, counted_alike}
 use Rattle.asn1_laws_fronts.proofs.Additions as adding
-use Rattle.asn1_laws_fronts.proofs.OctetsForms.{one_way}
+use Rattle.asn1_laws_fronts.proofs.OctetForms.{one_way}
 use Rattle.asn1_laws_across.proofs.Orders.{lists_ordered, numbers_ordered, sorted, HaveKeys, EachAlike, sorted_alike, arranged_sorted}
 use Rattle.asn1_laws_across.proofs.Bags.{arranged_keys}
 use Rattle.asn1_laws_across.proofs.Gives as giving

@@ -7,7 +7,7 @@ use Rattle.asn1_model.specs.Lawful.{IsLawful}
 use Rattle.asn1_model.specs.Rules.{Rules, uper, aper, uper_strict, aper_strict, oer, coer}
 use Rattle.asn1_laws_fronts.specs.Laws.{OneFrontIn}
 use Rattle.asn1_laws_fronts.proofs.Forms.{one_front_uper, one_front_aper, one_front_uper_strict, one_front_aper_strict}
-use Rattle.asn1_laws_fronts.proofs.OctetsForms.{one_front_oer, one_front_coer}
+use Rattle.asn1_laws_fronts.proofs.OctetForms.{one_front_oer, one_front_coer}
 use Rattle.asn1_laws_across.specs.Streams.{Message, IsMessage, Divides, AreSame}
 
 pub one_front : (r : Rules) → OneFrontIn r

@@ -5,5 +5,5 @@ pub mod Laws
 pub mod OrderLaws
 pub mod Streams
 pub mod Relayed
-pub mod StreamsLaws
+pub mod StreamLaws
 pub mod Rows

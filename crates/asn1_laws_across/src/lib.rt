@@ -3,6 +3,6 @@
 //! How octets divide into messages and a rest, and what a relay does to octets that come in pieces.
 #![tactic(auto)]
 
-pub mod across;
-pub mod order;
-pub mod streams;
+pub mod meaning_laws;
+pub mod order_laws;
+pub mod stream_laws;

@@ -10,7 +10,7 @@ use Rattle.asn1_model.specs.Oer
 use Rattle.asn1_laws_fronts.proofs.Fronts.{agree_refused, agree_with_refused, agree_map, agree_both, agree_both_apart, agree_turned}
 use Rattle.asn1_laws_values.proofs.Listed.{EachAlternative}
 use Rattle.asn1_laws_fronts.proofs.OerNumbers.{OctetsAlike}
-use Rattle.asn1_laws_fronts.proofs.OctetsUnits.{open_alike}
+use Rattle.asn1_laws_fronts.proofs.OctetUnits.{open_alike}
 use Rattle.asn1_laws_fronts.proofs.Tags.{tags_alike}
 
 each_behind : {X : Type 0} (test : X → Bool) (xs ys : List X) → each_is test (xs ++ ys) ≡ true → each_is test ys ≡ true

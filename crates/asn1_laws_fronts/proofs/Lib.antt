@@ -11,7 +11,7 @@ pub mod Additions
 pub mod Units
 pub mod Strings
 pub mod Forms
-pub mod OctetsUnits
+pub mod OctetUnits
 pub mod Tags
 pub mod Choices
-pub mod OctetsForms
+pub mod OctetForms

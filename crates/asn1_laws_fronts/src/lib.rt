@@ -3,6 +3,6 @@
 //! Of all beginnings of some octets one at most is an encoding in the octet rules, and it says what the value is.
 #![tactic(auto)]
 
-pub mod octets;
-pub mod packed;
-pub mod plain;
+pub mod octet_fronts;
+pub mod packed_fronts;
+pub mod plain_fronts;

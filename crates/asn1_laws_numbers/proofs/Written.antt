@@ -15,7 +15,7 @@ use Rattle.asn1_model.proofs.Forms.{chain_parts, map_parts, reads_written, write
 use Rattle.asn1_laws_values.proofs.Messages.{per_text, octet_text, complete_whole}
 use Rattle.asn1_laws_values.proofs.Octets.{packed_octets}
 use Rattle.asn1_laws_numbers.proofs.Numbers.{octets_and_bits}
-use Rattle.asn1_laws_numbers.specs.OctetsLaws.{IsEncodingWithNoFreedom}
+use Rattle.asn1_laws_numbers.specs.OctetLaws.{IsEncodingWithNoFreedom}
 use Rattle.asn1_laws_numbers.proofs.OerOctets.{oer_octets}
 
 moderate : (w : List ℕ) → length w < 2 ^ 60 → of_moderate_length w ≡ Some w

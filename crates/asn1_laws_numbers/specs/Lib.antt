@@ -1,3 +1,3 @@
 pub mod Laws
 pub mod Padded
-pub mod OctetsLaws
+pub mod OctetLaws

@@ -2,5 +2,5 @@
 //! What is written are octets, and just those that a reader with no freedom takes.
 #![tactic(auto)]
 
-pub mod numbers;
-pub mod octets;
+pub mod number_laws;
+pub mod octet_laws;

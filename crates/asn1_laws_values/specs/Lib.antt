@@ -1,5 +1,5 @@
 pub mod Laws
-pub mod MessagesLaws
+pub mod MessageLaws
 pub mod Versions
 pub mod Plain
 pub mod Places

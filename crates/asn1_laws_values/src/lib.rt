@@ -7,9 +7,9 @@
 //! A recursive type means the same however far it is unfolded, and any type the same with each default in its normal form.
 #![tactic(auto)]
 
-pub mod messages;
-pub mod plain;
-pub mod tags;
-pub mod typed;
-pub mod unfolding;
-pub mod values;
+pub mod message_laws;
+pub mod plain_laws;
+pub mod tag_laws;
+pub mod typed_laws;
+pub mod unfolding_laws;
+pub mod value_laws;

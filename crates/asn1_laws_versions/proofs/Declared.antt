@@ -16,7 +16,7 @@ use Rattle.asn1_laws_values.proofs.Itself.{extends_itself}
 use Rattle.asn1_laws_numbers.proofs.Written.{written_are_octets, read_are_octets}
 use Rattle.asn1_laws_fronts.specs.Laws.{OneFrontIn}
 use Rattle.asn1_laws_fronts.proofs.Forms.{one_front_uper, one_front_aper, one_front_uper_strict, one_front_aper_strict}
-use Rattle.asn1_laws_fronts.proofs.OctetsForms.{one_front_oer, one_front_coer}
+use Rattle.asn1_laws_fronts.proofs.OctetForms.{one_front_oer, one_front_coer}
 use Rattle.asn1_laws_across.proofs.Canonical.{same_written}
 use Rattle.asn1_laws_across.proofs.Across.{one_meaning, tell_normal, equal_across, detours}
 use Rattle.asn1_laws_across.specs.Strictly.{ReadsAsWritten, IsEncodingAsWritten}

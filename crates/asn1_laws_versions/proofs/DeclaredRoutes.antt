@@ -9,7 +9,7 @@ use Rattle.asn1_laws_across.specs.Relayed.{Stop, Relays}
 use Rattle.asn1_laws_versions.specs.Answers.{Answer, answered, not_an_encoding, no_target, IsAnswer}
 use Rattle.asn1_laws_versions.specs.Routes.{Version, older, newer, Hop, schema_of, HopAnswers, Arrives, RefusesAt, Passed, no_hop, newer_alone, an_older, Stage, at_first, and_one, behind, IsFirstOlder, IsNewerAgain, Cause, unknown, too_deep, clash, missing, unwritable, answer_to, value_written, Writes, NestsTooDeep, Holds, HasNoCause, HasCause, GoesThrough, FailsAt, IsLastWritten, IsSeen, IsWritten}
 use Rattle.asn1_laws_versions.specs.Relays.{AreJoined, Halt, unread, untranslated, emptied, older_to, IsRelayed, HaltsAt, RelaysOlder, IsEnd}
-use Rattle.asn1_laws_versions.specs.RoutesLaws.{HandsOn, ArrivesExactly, RefusedExactly, Ends}
+use Rattle.asn1_laws_versions.specs.RouteLaws.{HandsOn, ArrivesExactly, RefusedExactly, Ends}
 use Rattle.asn1_laws_versions.proofs.Hops.{hands_on, answers_by_cause}
 use Rattle.asn1_laws_versions.proofs.Routes.{arrives_once, refused_once, not_both, free_arrives, arrives_free, arrives_last, fails_refuses, refuses_fails, arrives_or_refuses}
 use Rattle.asn1_laws_versions.proofs.Relays.{goes, does}

@@ -11,7 +11,7 @@ use Rattle.asn1_laws_values.proofs.PerStrict.{message_normal}
 use Rattle.asn1_laws_values.proofs.OerStrict.{octets_normal}
 use Rattle.asn1_laws_values.proofs.IsNormal.{stays_normal}
 use Rattle.asn1_laws_fronts.proofs.Forms.{one_front_uper, one_front_aper}
-use Rattle.asn1_laws_fronts.proofs.OctetsForms.{one_front_oer}
+use Rattle.asn1_laws_fronts.proofs.OctetForms.{one_front_oer}
 use Rattle.asn1_laws_versions.proofs.Messages.{older_reads_uper, older_reads_aper, newer_reads_uper, newer_reads_aper}
 use Rattle.asn1_laws_versions.proofs.OerVersions.{older_reads_oer, newer_reads_oer}
 

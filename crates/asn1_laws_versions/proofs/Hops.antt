@@ -23,7 +23,7 @@ use Rattle.asn1_laws_versions.specs.RefusedLaws.{is_strict, MayBeRead}
 use Rattle.asn1_laws_versions.proofs.Exactly.{older_refuses, newer_refuses, older_reads_exactly, newer_reads_exactly}
 use Rattle.asn1_laws_versions.specs.Answers.{IsMessage, Answer, not_an_encoding, no_target, IsAnswer}
 use Rattle.asn1_laws_versions.specs.Routes.{Version, older, newer, Hop, schema_of, HopAnswers, Passed, no_hop, newer_alone, an_older, Stage, at_first, and_one, Cause, unknown, too_deep, clash, missing, unwritable, answer_to, value_written, Holds, HasNoCause, HasCause, IsWritten, IsSeen}
-use Rattle.asn1_laws_versions.specs.RoutesLaws.{HandsOn}
+use Rattle.asn1_laws_versions.specs.RouteLaws.{HandsOn}
 use Rattle.asn1_laws_versions.proofs.Answers.{whole}
 use Rattle.asn1_laws_versions.proofs.Growing.{normal_growth}
 use Rattle.asn1_laws_versions.proofs.Dropping.{lessened_depth}

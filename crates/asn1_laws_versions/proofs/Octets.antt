@@ -16,10 +16,10 @@ use Rattle.asn1_laws_values.proofs.Listed.{listed, each_is_map, order_map}
 use Rattle.asn1_laws_fronts.proofs.Fronts.{Pairwise, agree_with_refused, agree_map, agree_varied_right, agree_if_right, agree_turned}
 use Rattle.asn1_laws_fronts.proofs.OerNumbers.{OctetsAlike, counted_alike}
 use Rattle.asn1_laws_fronts.proofs.OerBits.{preamble_alike}
-use Rattle.asn1_laws_fronts.proofs.OctetsUnits.{items_alike, members_alike, open_alike}
+use Rattle.asn1_laws_fronts.proofs.OctetUnits.{items_alike, members_alike, open_alike}
 use Rattle.asn1_laws_fronts.proofs.Tags.{tags_alike}
 use Rattle.asn1_laws_fronts.proofs.Choices.{apart_from, each_before, two_tables, distinct_before, distinct_behind}
-use Rattle.asn1_laws_fronts.proofs.OctetsForms as filing
+use Rattle.asn1_laws_fronts.proofs.OctetForms as filing
 use Rattle.asn1_laws_versions.proofs.OerVersions as versions
 use Rattle.asn1_laws_versions.proofs.Taken.{as_written, taken, covers_written, agree_written, taken_same, taken_both, taken_refused, taken_if, taken_given, taken_varied, right_given}
 use Rattle.asn1_laws_versions.proofs.Parts as parts

@@ -16,7 +16,7 @@ use Rattle.asn1_laws_across.specs.Relayed.{Stop, Relays, Translates, EndsBefore}
 use Rattle.asn1_laws_versions.specs.Answers.{Answer, IsAnswer}
 use Rattle.asn1_laws_versions.specs.Routes.{Hop, HopAnswers, Stage, HasNoCause, HasCause, IsWritten}
 use Rattle.asn1_laws_versions.specs.Relays.{AreJoined, Halt, RelaysOlder, IsEnd}
-use Rattle.asn1_laws_versions.specs.RoutesLaws.{HandsOn, DoesOneThing, ArrivesExactly, RefusedExactly, Ends}
+use Rattle.asn1_laws_versions.specs.RouteLaws.{HandsOn, DoesOneThing, ArrivesExactly, RefusedExactly, Ends}
 use Rattle.asn1_laws_values.specs.Declared.{is_lawful_as_declared}
 use Rattle.asn1_laws_versions.specs.RefusedLaws.{IsLeft, IsGrown}
 

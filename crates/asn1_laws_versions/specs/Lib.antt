@@ -1,11 +1,11 @@
 pub mod Laws
-pub mod OctetsLaws
+pub mod OctetLaws
 pub mod ExactLaws
 pub mod ExtendingLaws
 pub mod RefusedLaws
 pub mod Answers
 pub mod Routes
 pub mod Relays
-pub mod RoutesLaws
+pub mod RouteLaws
 pub mod RouteRows
 pub mod DeclaredLaws

@@ -7,10 +7,10 @@
 //! The laws of lawful types, of all types that are lawful as declared: a default in them may spell out what is at a default of its own.
 #![tactic(auto)]
 
-pub mod declared;
-pub mod exact;
-pub mod extending;
-pub mod octets;
-pub mod packed;
-pub mod refused;
-pub mod routes;
+pub mod declared_laws;
+pub mod exact_laws;
+pub mod extending_laws;
+pub mod octet_versions;
+pub mod packed_versions;
+pub mod refused_laws;
+pub mod route_laws;

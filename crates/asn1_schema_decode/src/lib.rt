@@ -16,7 +16,7 @@ pub mod lent;
 pub mod lists;
 pub mod making;
 pub mod markers;
-pub mod messages;
+pub mod message_laws;
 pub mod natives;
 pub mod pointers;
 pub mod scalars;

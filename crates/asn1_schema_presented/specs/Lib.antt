@@ -9,4 +9,4 @@ pub mod Laws
 pub mod Rows
 pub mod Levels
 pub mod Additions
-pub mod ExtensionsLaws
+pub mod AdditionLaws

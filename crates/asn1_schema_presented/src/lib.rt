@@ -6,6 +6,6 @@
 //! of additions are put together.
 #![tactic(auto)]
 
-pub mod extensions;
-pub mod levels;
-pub mod presented;
+pub mod addition_laws;
+pub mod level_laws;
+pub mod record_laws;

@@ -8,7 +8,7 @@ pub mod characters;
 pub mod kinds;
 pub mod restricted;
 mod text;
-pub mod utf8;
+pub mod utf8_texts;
 pub mod wide_characters;
 
 pub use bmp::BmpString;

@@ -1,6 +1,6 @@
 -- Of all beginnings of some octets one at most is an encoding.
 use Rattle.asn1_laws_fronts.specs.Laws.{OneFrontIn}
-use Rattle.asn1_laws_fronts.proofs.OctetsForms.{one_front_oer, one_front_coer}
+use Rattle.asn1_laws_fronts.proofs.OctetForms.{one_front_oer, one_front_coer}
 use Rattle.oer_codec_reading_lengths.specs.declared.rules.EncodingRules.{EncodingRules}
 use Rattle.oer_codec_reading_lengths.specs.declared.rules.EncodingRules.TheVariants.{Oer, Coer}
 use Rattle.oer_codec.specs.Messages.{rules_of}

@@ -10,9 +10,9 @@ pub mod RoomTexts
 pub mod SlotTexts
 pub mod Still
 pub mod Bridge
-pub mod Additions
+pub mod StepAdditions
 pub mod Lists
-pub mod Bags
+pub mod StepBags
 pub mod Choices
 pub mod Types
 pub mod Chains

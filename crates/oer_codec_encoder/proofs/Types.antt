@@ -6,9 +6,9 @@ use Rattle.asn1_model.specs.Oer
 use Rattle.asn1_schema_presented.specs.Presents.{presents}
 use Rattle.oer_codec_encoder.specs.Ties.{Bridges}
 use Rattle.oer_codec_encoder.proofs.Bridge.{boolean_bridges, null_bridges, integer_bridges, enumerated_bridges, bit_string_bridges, octet_string_bridges, string_bridges, identifier_bridges, EachBridges, groups}
-use Rattle.oer_codec_encoder.proofs.Additions.{sequences, sets}
+use Rattle.oer_codec_encoder.proofs.StepAdditions.{sequences, sets}
 use Rattle.oer_codec_encoder.proofs.Lists.{lists}
-use Rattle.oer_codec_encoder.proofs.Bags.{bags}
+use Rattle.oer_codec_encoder.proofs.StepBags.{bags}
 use Rattle.oer_codec_encoder.proofs.Choices.{EachAlternative, choices}
 
 -- below the levels of a recursive type there is no value

@@ -16,7 +16,7 @@ mod open_types;
 mod options;
 mod room;
 mod sequences;
-pub mod steps;
+pub mod step_laws;
 
 pub use encoder::Encoder;
 pub use options::EncoderOptions;

@@ -16,7 +16,7 @@ use Rattle.asn1_laws_fronts.proofs.OerBits.{preamble_alike, counted_bits_alike}
 use Rattle.asn1_laws_fronts.proofs.Plain.{truths_alike}
 use Rattle.asn1_laws_fronts.proofs.Sevens.{identifiers_equal}
 use Rattle.asn1_laws_fronts.proofs.Additions as adding
-use Rattle.asn1_laws_fronts.proofs.OctetsUnits.{items_alike, bit_strings_alike, octets_alike, one_length, characters_equal, characters_long}
+use Rattle.asn1_laws_fronts.proofs.OctetUnits.{items_alike, bit_strings_alike, octets_alike, one_length, characters_equal, characters_long}
 use Rattle.asn1_laws_fronts.proofs.Tags.{tags_alike}
 use Rattle.oer_codec_fronts.specs.Takes.{Scope, components, added, open_type, members, alternative, State, Front, Found, Counted, NextMember, preamble_bits, Begins, NextMark, first_bits, AdditionsBegin, Opens, NextAddition, AdditionEnds, Skips, IsPlace, Enters, Chooses, Ends, Takes}
 

@@ -1,7 +1,7 @@
 -- What stands in front where an enumeration does.
 use Rattle.std.proofs.Common.{◌≡◌, ℕ, ℤ, Bool, true, false, ◌&&◌, ◌||◌, inl, inr, List, Option, Some, None, refl, sym, subst}
 use Rattle.std.proofs.lemmas.Bool.{and_parts, or_cases}
-use Rattle.asn1_laws_fronts.proofs.OctetsUnits.{items_alike}
+use Rattle.asn1_laws_fronts.proofs.OctetUnits.{items_alike}
 use Rattle.asn1_model.specs.Form.{Reads, is_present}
 use Rattle.asn1_model.specs.Oer.{Freedom, form, item_form}
 use Rattle.asn1_model.specs.Schema.{enumerated}

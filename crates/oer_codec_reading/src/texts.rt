@@ -10,7 +10,7 @@ use crate::octet_strings::read_octet_string;
 use crate::{Cursor, EncodingRules};
 use asn1_schema_constraints::{Bounded, Constraints};
 use asn1_schema_faults::DecodeError;
-use asn1_values_strings::utf8::text_of;
+use asn1_values_strings::utf8_texts::text_of;
 use std::alloc::Global;
 
 /// Reads a UTF8String (X.696 27) under a size constraint, which counts its octets.

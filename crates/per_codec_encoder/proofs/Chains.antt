@@ -13,7 +13,7 @@ use Rattle.asn1_schema_presented.specs.Chains.{Chain}
 use Rattle.per_codec_packing.specs.Texts.{Text, as_text, text_at}
 use Rattle.per_codec_encoder.specs.Steps.{Scope, State, Step, position, run, runs}
 use Rattle.per_codec_encoder.specs.Ties.{octets_of}
-use Rattle.per_codec_packing.proofs.Texts.{known, plain_text}
+use Rattle.per_codec_packing.proofs.Formed.{known, plain_text}
 use Rattle.per_codec_encoder.proofs.Types.{every_type}
 
 chain_runs : (al : Bool) (rs : List Record) (a b : State) → Chain (Step al) rs a b → runs al rs a ≡ Some b

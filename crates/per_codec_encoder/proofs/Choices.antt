@@ -11,9 +11,9 @@ use Rattle.asn1_schema_presented.specs.Presents.{presents, chosen_records}
 use Rattle.per_codec_packing.specs.Texts.{Text, as_text, on, text_at}
 use Rattle.per_codec_encoder.specs.Steps.{Scope, alternative, open_type, State, adds_form, offset, position, runs}
 use Rattle.per_codec_encoder.specs.Ties.{Bridges}
-use Rattle.per_codec_packing.proofs.Texts.{in_turn, two_texts, behind, both_assoc, known, plain_text}
+use Rattle.per_codec_packing.proofs.Formed.{in_turn, two_texts, behind, both_assoc, known, plain_text}
 use Rattle.per_codec_encoder.proofs.Bridge.{one_text}
-use Rattle.per_codec_encoder.proofs.Additions.{open_text}
+use Rattle.per_codec_encoder.proofs.StepAdditions.{open_text}
 
 tag_count : (others : Alternatives) → length (alternative_tags others) ≡ alternative_count others
 tag_count no_alternative = refl

@@ -5,7 +5,7 @@ use Rattle.asn1_model.specs.Form.{exactly, is_any_present}
 use Rattle.asn1_model.specs.Per
 use Rattle.asn1_schema_presented.specs.Records.{ends}
 use Rattle.per_codec_packing.specs.Texts.{Text, bit, fill, as_text, plain, on, text_at}
-use Rattle.per_codec_packing.proofs.Texts.{length-text}
+use Rattle.per_codec_packing.proofs.Formed.{length-text}
 use Rattle.per_codec_packing.specs.Packed.{Packed, Adds, place, plus, solid, with_bit}
 use Rattle.per_codec_packing.proofs.Adding.{added as text_added}
 use Rattle.per_codec_packing.proofs.Bits.{solid-append, changed_behind}

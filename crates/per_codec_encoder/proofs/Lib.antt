@@ -10,11 +10,11 @@ pub mod Bagging
 pub mod Innermost
 pub mod Bridge
 pub mod Lists
-pub mod Sequences
-pub mod Additions
+pub mod StepSequences
+pub mod StepAdditions
 pub mod Choices
 pub mod Fills
-pub mod Bags
+pub mod StepBags
 pub mod Types
 pub mod Chains
 pub mod Written

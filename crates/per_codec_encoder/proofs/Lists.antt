@@ -12,7 +12,7 @@ use Rattle.asn1_schema_presented.specs.Presents.{presents, member_records, membe
 use Rattle.per_codec_packing.specs.Texts.{Text, bit, moved, on, text_at}
 use Rattle.per_codec_encoder.specs.Steps.{Headers, Scope, members, offset, position, Heading, before_all, next_header, general, sized_count, behind_bit, marked_count, list_heading, headed, counted_on, runs}
 use Rattle.per_codec_encoder.specs.Ties.{BridgesAt, Bridges}
-use Rattle.per_codec_packing.proofs.Texts.{chain_same, two_texts, behind, behind_nothing, both_assoc}
+use Rattle.per_codec_packing.proofs.Formed.{chain_same, two_texts, behind, behind_nothing, both_assoc}
 
 -- the form of members where so many are due before these headers
 abbrev pub text_due : Bool → ℕ → Headers → List Per.BitForm → Per.BitForm

@@ -7,7 +7,7 @@ use Rattle.asn1_model.specs.Per
 use Rattle.asn1_values_bits.specs.Octets.{filled_up}
 use Rattle.per_codec_packing.specs.Texts.{as_text}
 use Rattle.per_codec_encoder.specs.Ties.{octets_of}
-use Rattle.per_codec_packing.proofs.Texts.{plain_text}
+use Rattle.per_codec_packing.proofs.Formed.{plain_text}
 
 filling_written : (n p : ℕ) → written (Per.filling n) p ≡ Some (replicate n false)
 unfolding Per.filling written

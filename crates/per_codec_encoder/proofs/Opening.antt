@@ -9,7 +9,7 @@ use Rattle.asn1_schema_faults.specs.declared.EncodeError.{EncodeError}
 use Rattle.asn1_schema_faults.specs.declared.EncodeError.TheVariants.{ValueConstraintNotSatisfied, SizeConstraintNotSatisfied, AlphabetConstraintNotSatisfied, TooLongValue, LengthExceedsPlatformSize, OutOfMemory, AlreadyFailed}
 use Rattle.asn1_schema_presented.specs.Records.{sequence_begins, mark, further, list_begins}
 use Rattle.per_codec_packing.specs.Texts.{Text, bit, as_text}
-use Rattle.per_codec_packing.proofs.Texts.{as_text-append}
+use Rattle.per_codec_packing.proofs.Formed.{as_text-append}
 use Rattle.per_codec_packing.specs.Packed.{Packed, place, plus, solid, with_bit}
 use Rattle.per_codec_packing.proofs.Bits.{solid-append, solid-bits, changed_behind}
 use Rattle.per_codec_encoder.specs.Steps.{Headers, Scope, components, members, mark_width, State, position, list_heading, headed, goes_on_in, counted_on, run}

@@ -2,7 +2,7 @@
 use Rattle.std.proofs.Common.{◌≡◌, ℕ, ◌+◌, Bool, true, false, cond, List, [], ◌∷◌, ◌++◌, length, take, drop, replicate, reverse, Option, Some, None, refl, ap, subst, sym, ◌∙◌, arith, append_assoc, length-append}
 use Rattle.std.proofs.lemmas.List.{reverse-append, take_at, drop_at, length-replicate}
 use Rattle.per_codec_packing.specs.Texts.{Text, bit, as_text, moved}
-use Rattle.per_codec_packing.proofs.Texts.{length-text, as_text-append}
+use Rattle.per_codec_packing.proofs.Formed.{length-text, as_text-append}
 use Rattle.per_codec_packing.specs.Packed.{Packed, place, plus, solid}
 use Rattle.per_codec_packing.proofs.Bits.{solid-bits}
 use Rattle.per_codec_encoder.specs.Steps.{components, added, open_type, members, alternative, mark_width, offset, position, State}

@@ -9,7 +9,7 @@ use Rattle.asn1_schema_faults.specs.declared.EncodeError.TheVariants.{ValueConst
 use Rattle.asn1_schema_encode.specs.Writes.{Refused}
 use Rattle.asn1_schema_presented.specs.Records.{Record, nil, sequence_begins, set_begins, group_begins}
 use Rattle.per_codec_packing.specs.Texts.{Text, as_text, plain, text_at}
-use Rattle.per_codec_packing.proofs.Texts.{plain_text}
+use Rattle.per_codec_packing.proofs.Formed.{plain_text}
 use Rattle.per_codec_packing.specs.Packed.{Packed, place, plus}
 use Rattle.per_codec_packing.proofs.Adding.{added}
 use Rattle.per_codec_encoder.specs.Steps.{State, run, adds_text, adds_form}

@@ -7,10 +7,10 @@ use Rattle.per_codec_packing.specs.Texts.{text_at}
 use Rattle.per_codec_encoder.specs.Ties.{Bridges}
 use Rattle.per_codec_encoder.proofs.Bridge.{boolean_bridges, null_bridges, integer_bridges, enumerated_bridges, bit_string_bridges, octet_string_bridges, string_bridges, identifier_bridges}
 use Rattle.per_codec_encoder.proofs.Lists.{lists}
-use Rattle.per_codec_encoder.proofs.Sequences.{EachBridges, groups}
-use Rattle.per_codec_encoder.proofs.Additions.{sequences, sets}
+use Rattle.per_codec_encoder.proofs.StepSequences.{EachBridges, groups}
+use Rattle.per_codec_encoder.proofs.StepAdditions.{sequences, sets}
 use Rattle.per_codec_encoder.proofs.Choices.{EachAlternative, choices}
-use Rattle.per_codec_encoder.proofs.Bags.{bags}
+use Rattle.per_codec_encoder.proofs.StepBags.{bags}
 
 -- below the levels of a recursive type there is no value
 cut_bridges : Bridges cut

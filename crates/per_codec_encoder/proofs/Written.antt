@@ -15,7 +15,7 @@ use Rattle.per_codec_packing.specs.Texts.{Text, as_text, plain, text_at}
 use Rattle.per_codec_encoder.specs.Steps.{State, Step}
 use Rattle.per_codec_encoder.specs.Ties.{octets_of}
 use Rattle.per_codec_encoder.specs.Written.{bits_of, WrittenByRecords, RefusedByRecords, IsWriter, HasOctets, WritesTheOctets, RefusesOnlyNone}
-use Rattle.per_codec_packing.proofs.Texts.{known, plain_text}
+use Rattle.per_codec_packing.proofs.Formed.{known, plain_text}
 use Rattle.per_codec_encoder.proofs.Chains.{added}
 
 -- the bits of a value that is in its normal form

@@ -14,7 +14,7 @@ mod frames;
 mod headings;
 mod options;
 mod sequences;
-pub mod steps;
+pub mod step_laws;
 
 pub use encoder::Encoder;
 pub use options::EncoderOptions;

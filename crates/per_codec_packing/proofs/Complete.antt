@@ -6,7 +6,7 @@ use Rattle.asn1_model.specs.Numbers.{binary, missing, octet_bits}
 use Rattle.asn1_model.specs.Per
 use Rattle.asn1_values_bits.specs.Octets.{filled_up}
 use Rattle.per_codec_packing.specs.Texts.{Text, as_text, text_at, as_form}
-use Rattle.per_codec_packing.proofs.Texts.{known}
+use Rattle.per_codec_packing.proofs.Formed.{known}
 use Rattle.per_codec_packing.specs.Packed.{Packed, Adds, place, solid}
 use Rattle.per_codec_packing.proofs.Adding.{added}
 use Rattle.per_codec_packing.proofs.Bits.{solid-bits}

@@ -4,7 +4,7 @@ use Rattle.std.proofs.lemmas.Bool.{cases_lt}
 use Rattle.std.proofs.lemmas.List.{length-drop, length-take, length-take-le, take-append-le, take-take, take-map, drop-take}
 use Rattle.std.proofs.Math.Seq.{take-append-add}
 use Rattle.per_codec_packing.specs.Texts.{Text, bit, fill, as_text}
-use Rattle.per_codec_packing.proofs.Texts.{length-text}
+use Rattle.per_codec_packing.proofs.Formed.{length-text}
 use Rattle.per_codec_packing.specs.Packed.{Packed, solid}
 use Rattle.per_codec_packing.specs.Spread.{spread, shown, Ascend, AreFills}
 use Rattle.per_codec_packing.proofs.Bits.{solid-append, solid-bits}

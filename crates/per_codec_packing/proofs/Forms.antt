@@ -3,7 +3,7 @@ use Rattle.std.proofs.Common.{◌≡◌, ℕ, Bool, List, [], ◌∷◌, ◌++�
 use Rattle.asn1_model.specs.Form.{exactly, both, placed}
 use Rattle.asn1_model.specs.Per
 use Rattle.per_codec_packing.specs.Texts.{Text, bit, fill, as_text, plain, moved, on, text_at, as_form}
-use Rattle.per_codec_packing.proofs.Texts.{chain_same, behind_nothing, both_assoc}
+use Rattle.per_codec_packing.proofs.Formed.{chain_same, behind_nothing, both_assoc}
 
 -- one text behind another, as forms
 pub as_form-append : (a b : Text) (q : Option ℕ) → text_at (as_form (a ++ b)) q ≡ text_at (both (as_form a) (as_form b)) q

@@ -2,7 +2,7 @@
 use Rattle.std.proofs.Common.{◌≡◌, ℕ, ◌+◌, ◌-◌, ◌≤◌, Bool, true, false, cond, List, [], ◌∷◌, ◌++◌, length, take, replicate, set, Some, None, refl, ap, sym, subst, ◌∙◌, length-append, length-set, arith}
 use Rattle.asn1_model.specs.Numbers.{binary, missing}
 use Rattle.per_codec_packing.specs.Texts.{Text, fill, as_text, plain}
-use Rattle.per_codec_packing.proofs.Texts.{plain_text, length-text}
+use Rattle.per_codec_packing.proofs.Formed.{plain_text, length-text}
 use Rattle.per_codec_packing.specs.Packed.{Packed, place, plus, filling_at, solid, with_bit}
 use Rattle.per_codec_packing.specs.Spread.{spread, shown, Ascend, AreFills}
 use Rattle.per_codec_packing.proofs.Spread.{up_to, one_place, all_taken, spread-bits, spread-fill, spread-set, solid-spread}

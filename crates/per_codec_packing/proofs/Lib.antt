@@ -7,5 +7,5 @@ pub mod Complete
 pub mod Placed
 pub mod Cutting
 pub mod Sharing
-pub mod Texts
+pub mod Formed
 pub mod Forms

@@ -3,7 +3,7 @@ use Rattle.std.proofs.Common.{◌≡◌, Bool, List, ◌++◌, length, Option, S
 use Rattle.asn1_model.specs.Form.{written}
 use Rattle.asn1_model.specs.Per
 use Rattle.per_codec_packing.specs.Texts.{Text, as_text, text_at}
-use Rattle.per_codec_packing.proofs.Texts.{known, length-text, as_text-append}
+use Rattle.per_codec_packing.proofs.Formed.{known, length-text, as_text-append}
 use Rattle.per_codec_packing.specs.Packed.{Packed, Adds, from_start, place, plus}
 use Rattle.per_codec_packing.proofs.Adding.{added}
 

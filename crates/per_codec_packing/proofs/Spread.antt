@@ -4,7 +4,7 @@ use Rattle.std.proofs.lemmas.Bool.{cases_lt}
 use Rattle.std.proofs.lemmas.List.{length-drop, length-take-le, take-append-drop, take-append-le, drop-append-le, drop-set-lt, drop-set-add, take-set-le}
 use Rattle.std.proofs.Math.Seq.{take-set-lt}
 use Rattle.per_codec_packing.specs.Texts.{fill, as_text}
-use Rattle.per_codec_packing.proofs.Texts.{as_text-append}
+use Rattle.per_codec_packing.proofs.Formed.{as_text-append}
 use Rattle.per_codec_packing.specs.Packed.{solid, with_bit}
 use Rattle.per_codec_packing.proofs.Bits.{solid-append, solid-bits, changed_bits, changed_front, changed_behind}
 use Rattle.per_codec_packing.specs.Spread.{spread, Ascend}

@@ -5,8 +5,8 @@
 #![tactic(auto)]
 
 mod completion;
-pub mod forms;
 mod packing;
+pub mod text_laws;
 mod text_view;
 mod texts;
 mod views;

@@ -13,7 +13,7 @@ use crate::octets::read_counted_octets;
 use crate::{Cursor, Variant};
 use asn1_schema_constraints::Constraints;
 use asn1_schema_faults::DecodeError;
-use asn1_values_strings::utf8::text_of;
+use asn1_values_strings::utf8_texts::text_of;
 use std::alloc::Global;
 
 /// Reads a UTF8String (X.691 30), for which size and alphabet count for nothing: its octets behind their number.

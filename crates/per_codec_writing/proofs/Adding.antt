@@ -5,7 +5,7 @@ use Rattle.asn1_model.specs.Form.{joined}
 use Rattle.asn1_schema_faults.specs.declared.EncodeError.{EncodeError}
 use Rattle.asn1_schema_faults.specs.declared.EncodeError.TheVariants.{OutOfMemory}
 use Rattle.per_codec_packing.specs.Texts.{Text, as_text, on, text_at}
-use Rattle.per_codec_packing.proofs.Texts.{as_text-append}
+use Rattle.per_codec_packing.proofs.Formed.{as_text-append}
 use Rattle.per_codec_writing.specs.Writing.{Packed, Adds, Refuses, place, plus}
 use Rattle.per_codec_writing.proofs.FillingTexts.{adds_text}
 use Rattle.per_codec_writing.specs.Units.{together, forms_of}

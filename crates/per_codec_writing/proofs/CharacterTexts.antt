@@ -9,7 +9,7 @@ use Rattle.asn1_model.specs.Per
 use Rattle.asn1_model.specs.Strings.{Run, largest, place_of, each_is}
 use Rattle.per_codec_alphabets.specs.Codes.{Coded, SameCharacters}
 use Rattle.per_codec_packing.specs.Texts.{as_text, text_at}
-use Rattle.per_codec_packing.proofs.Texts.{as_text-append}
+use Rattle.per_codec_packing.proofs.Formed.{as_text-append}
 use Rattle.per_codec_packing.proofs.Adding.{plus_both}
 use Rattle.per_codec_writing.specs.Writing.{Packed, plus}
 use Rattle.per_codec_writing.specs.Units.{together, forms_of}

@@ -1,5 +1,0 @@
-use Rattle.asn1_laws_across.proofs.InOrder.{in_order_rows}
-use Rattle.asn1_laws_across.proofs.across.in_order_rows.Goals as goal
-
-pub returns : goal.returns
-returns c = in_order_rows

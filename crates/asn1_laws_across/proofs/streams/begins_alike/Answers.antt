@@ -1,5 +1,0 @@
-use Rattle.asn1_laws_across.proofs.Streams.{begins}
-use Rattle.asn1_laws_across.proofs.streams.begins_alike.Goals as goal
-
-pub returns : goal.returns
-returns c = λ r s limit ms all rest other w x h f g. begins r s limit h ms all rest other w x f g

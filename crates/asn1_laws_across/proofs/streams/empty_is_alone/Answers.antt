@@ -1,5 +1,0 @@
-use Rattle.asn1_laws_across.proofs.Relayed.{alone}
-use Rattle.asn1_laws_across.proofs.streams.empty_is_alone.Goals as goal
-
-pub returns : goal.returns
-returns c = λ r s limit w lawful h. alone r s limit lawful w h

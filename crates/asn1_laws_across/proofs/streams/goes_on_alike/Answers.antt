@@ -1,5 +1,0 @@
-use Rattle.asn1_laws_across.proofs.Streams.{goes_on}
-use Rattle.asn1_laws_across.proofs.streams.goes_on_alike.Goals as goal
-
-pub returns : goal.returns
-returns c = λ r s limit ms ns rest other w x f g. goes_on r s limit ms ns rest other w x f g

@@ -1,5 +1,0 @@
-use Rattle.asn1_laws_across.proofs.Relayed.{stops_for_good}
-use Rattle.asn1_laws_across.proofs.streams.relay_stops_for_good.Goals as goal
-
-pub returns : goal.returns
-returns c = λ source target s limit w x n o rest why. stops_for_good source target s limit w x n o rest why

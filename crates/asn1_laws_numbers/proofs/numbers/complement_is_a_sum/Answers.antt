@@ -1,5 +1,0 @@
-use Rattle.asn1_laws_numbers.proofs.Numbers.{complement_sum}
-use Rattle.asn1_laws_numbers.proofs.numbers.complement_is_a_sum.Goals as goal
-
-pub returns : goal.returns
-returns c = complement_sum

@@ -1,5 +1,0 @@
-use Rattle.asn1_laws_numbers.proofs.Numbers.{digits_sum}
-use Rattle.asn1_laws_numbers.proofs.numbers.digits_are_a_sum.Goals as goal
-
-pub returns : goal.returns
-returns c = digits_sum

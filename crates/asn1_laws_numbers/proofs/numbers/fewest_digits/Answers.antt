@@ -1,5 +1,0 @@
-use Rattle.asn1_laws_numbers.proofs.Numbers.{fewest_digits}
-use Rattle.asn1_laws_numbers.proofs.numbers.fewest_digits.Goals as goal
-
-pub returns : goal.returns
-returns c = fewest_digits

@@ -1,5 +1,0 @@
-use Rattle.asn1_laws_numbers.proofs.Numbers.{fewest_octets}
-use Rattle.asn1_laws_numbers.proofs.numbers.fewest_octets.Goals as goal
-
-pub returns : goal.returns
-returns c = fewest_octets

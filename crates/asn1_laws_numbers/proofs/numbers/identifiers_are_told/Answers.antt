@@ -1,5 +1,0 @@
-use Rattle.asn1_laws_fronts.proofs.Sevens.{identifiers_equal}
-use Rattle.asn1_laws_numbers.proofs.numbers.identifiers_are_told.Goals as goal
-
-pub returns : goal.returns
-returns c = identifiers_equal

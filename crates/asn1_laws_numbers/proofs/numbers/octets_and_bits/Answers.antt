@@ -1,5 +1,0 @@
-use Rattle.asn1_laws_numbers.proofs.Numbers.{octets_and_bits}
-use Rattle.asn1_laws_numbers.proofs.numbers.octets_and_bits.Goals as goal
-
-pub returns : goal.returns
-returns c = octets_and_bits

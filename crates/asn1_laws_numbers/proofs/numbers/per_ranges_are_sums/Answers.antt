@@ -1,5 +1,0 @@
-use Rattle.asn1_laws_numbers.proofs.Ranges.{per_ranges}
-use Rattle.asn1_laws_numbers.proofs.numbers.per_ranges_are_sums.Goals as goal
-
-pub returns : goal.returns
-returns c = per_ranges

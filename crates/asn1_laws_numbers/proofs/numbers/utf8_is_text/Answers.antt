@@ -1,5 +1,0 @@
-use Rattle.asn1_laws_numbers.proofs.Utf8.{utf8_is_text}
-use Rattle.asn1_laws_numbers.proofs.numbers.utf8_is_text.Goals as goal
-
-pub returns : goal.returns
-returns c = utf8_is_text

@@ -1,5 +1,0 @@
-use Rattle.asn1_laws_numbers.proofs.Written.{written_are_octets}
-use Rattle.asn1_laws_numbers.proofs.octets.written_are_octets.Goals as goal
-
-pub returns : goal.returns
-returns c = written_are_octets

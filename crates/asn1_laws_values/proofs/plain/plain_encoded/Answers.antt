@@ -1,5 +1,0 @@
-use Rattle.asn1_laws_values.proofs.Plain.{plain_encoded}
-use Rattle.asn1_laws_values.proofs.plain.plain_encoded.Goals as goal
-
-pub returns : goal.returns
-returns c = λ r s v h. plain_encoded r s v h

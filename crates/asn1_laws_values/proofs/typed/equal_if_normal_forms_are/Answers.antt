@@ -1,5 +1,0 @@
-use Rattle.asn1_laws_values.proofs.Equal.{equal_is}
-use Rattle.asn1_laws_values.proofs.typed.equal_if_normal_forms_are.Goals as goal
-
-pub returns : goal.returns
-returns c = equal_is

@@ -1,5 +1,0 @@
-use Rattle.asn1_laws_values.proofs.Itself.{extends_itself}
-use Rattle.asn1_laws_values.proofs.typed.lawful_extends_itself.Goals as goal
-
-pub returns : goal.returns
-returns c = extends_itself

@@ -1,5 +1,0 @@
-use Rattle.asn1_laws_values.proofs.Tidied.{nothing_lost}
-use Rattle.asn1_laws_values.proofs.unfolding.normal_defaults_lose_nothing.Goals as goal
-
-pub returns : goal.returns
-returns c = nothing_lost

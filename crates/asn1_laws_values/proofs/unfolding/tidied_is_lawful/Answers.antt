@@ -1,5 +1,0 @@
-use Rattle.asn1_laws_values.proofs.Declared.{tidied_is_lawful}
-use Rattle.asn1_laws_values.proofs.unfolding.tidied_is_lawful.Goals as goal
-
-pub returns : goal.returns
-returns c = λ s l. tidied_is_lawful s l

@@ -1,0 +1,12 @@
+use Rattle.std.proofs.Common.{refl}
+use Rattle.asn1_model.specs.Value.{same, same_members, same_bag, same_parts}
+use Rattle.asn1_model.specs.Normal.{normal, normal_parts, normal_alternative, is_normal, are_normal, is_normal_alternative}
+use Rattle.asn1_model.specs.Typed.{is_of, are_of, is_of_alternative}
+use Rattle.asn1_model.specs.Lawful.{is_lawful, are_lawful, are_lawful_alternatives}
+use Rattle.asn1_laws_values.specs.Tidied.{tidied, tidied_each, tidied_alternatives}
+use Rattle.asn1_laws_values.specs.Declared.{is_lawful_as_declared, are_lawful_as_declared, alternatives_lawful_as_declared}
+use Rattle.asn1_laws_values.proofs.unfolding_laws.as_declared_rows.Goals as goal
+
+pub returns : goal.returns
+unfolding is_of are_of is_of_alternative is_lawful are_lawful are_lawful_alternatives normal normal_parts normal_alternative is_normal are_normal is_normal_alternative same same_members same_bag same_parts tidied tidied_each tidied_alternatives is_lawful_as_declared are_lawful_as_declared alternatives_lawful_as_declared
+returns c = (refl, refl, refl, refl, refl, refl, refl, refl, refl)

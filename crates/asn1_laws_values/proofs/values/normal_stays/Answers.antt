@@ -1,5 +1,0 @@
-use Rattle.asn1_laws_values.proofs.Normal.{normal_stays}
-use Rattle.asn1_laws_values.proofs.values.normal_stays.Goals as goal
-
-pub returns : goal.returns
-returns c = normal_stays

@@ -1,5 +1,0 @@
-use Rattle.asn1_laws_values.proofs.IsNormal.{stays_normal}
-use Rattle.asn1_laws_values.proofs.values.same_is_as_normal.Goals as goal
-
-pub returns : goal.returns
-returns c = stays_normal

@@ -1,5 +1,0 @@
-use Rattle.asn1_laws_values.proofs.Same.{same_self, same_turned, same_chained}
-use Rattle.asn1_laws_values.proofs.values.same_is_equivalence.Goals as goal
-
-pub returns : goal.returns
-returns c = (same_self, same_turned, same_chained)

@@ -1,5 +1,0 @@
-use Rattle.asn1_laws_versions.proofs.Back.{dropped_back}
-use Rattle.asn1_laws_versions.proofs.extending.dropping_undoes_growing.Goals as goal
-
-pub returns : goal.returns
-returns c = dropped_back

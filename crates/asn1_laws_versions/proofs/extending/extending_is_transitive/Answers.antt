@@ -1,5 +1,0 @@
-use Rattle.asn1_laws_versions.proofs.Transitive.{extends_twice}
-use Rattle.asn1_laws_versions.proofs.extending.extending_is_transitive.Goals as goal
-
-pub returns : goal.returns
-returns c = λ s t u h k. extends_twice s t u h k

@@ -1,5 +1,0 @@
-use Rattle.asn1_laws_versions.proofs.Levels.{same_depth}
-use Rattle.asn1_laws_versions.proofs.extending.same_nests_alike.Goals as goal
-
-pub returns : goal.returns
-returns c = same_depth

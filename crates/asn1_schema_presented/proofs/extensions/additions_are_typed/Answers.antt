@@ -1,5 +1,0 @@
-use Rattle.asn1_schema_presented.proofs.Additions.{marked_types}
-use Rattle.asn1_schema_presented.proofs.extensions.additions_are_typed.Goals as goal
-
-pub returns : goal.returns
-returns c = λ fs h. marked_types h

@@ -1,5 +1,0 @@
-use Rattle.asn1_schema_presented.proofs.Additions.{marked_values}
-use Rattle.asn1_schema_presented.proofs.extensions.additions_are_valued.Goals as goal
-
-pub returns : goal.returns
-returns c = λ fs qs h. marked_values h

@@ -1,5 +1,0 @@
-use Rattle.oer_codec_encoder.proofs.Types as Types
-use Rattle.oer_codec_encoder.proofs.steps.every_type_bridges.Goals as goal
-
-pub returns : goal.returns
-returns c = Types.every_type

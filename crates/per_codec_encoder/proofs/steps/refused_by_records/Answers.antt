@@ -1,5 +1,0 @@
-use Rattle.per_codec_encoder.proofs.Written as Written
-use Rattle.per_codec_encoder.proofs.steps.refused_by_records.Goals as goal
-
-pub returns : goal.returns
-returns c = Written.refused_by_records

@@ -1,5 +1,0 @@
-use Rattle.per_codec_encoder.proofs.Written as Written
-use Rattle.per_codec_encoder.proofs.steps.refuses_only_none.Goals as goal
-
-pub returns : goal.returns
-returns g c = Written.refuses_only_none g.W.Writer.is_writer

@@ -1,7 +1,0 @@
-use Rattle.asn1_model.specs.Per
-use Rattle.per_codec_packing.proofs.Texts as Texts
-use Rattle.per_codec_encoder.proofs.Fills as Fills
-use Rattle.per_codec_encoder.proofs.steps.texts_are_written.Goals as goal
-
-pub returns : goal.returns
-returns c = λ al s v p. (Texts.known (Per.form al s v) p, Fills.told_bits (Fills.form_fills al s v) p)

@@ -1,5 +1,0 @@
-use Rattle.per_codec_encoder.proofs.Written as Written
-use Rattle.per_codec_encoder.proofs.steps.writes_the_octets.Goals as goal
-
-pub returns : goal.returns
-returns g c = Written.writes_the_octets g.W.Writer.is_writer
