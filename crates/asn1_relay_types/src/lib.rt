@@ -16,8 +16,8 @@ mod pair;
 mod set;
 mod small;
 
-use asn1_schema_constructed::SetOf;
 pub use asn1_schema_example_choices::nest::Nest;
+use asn1_schema_wrapped::SetOf;
 pub use extra::Extra;
 pub use group::Group;
 pub use new::New;

@@ -16,13 +16,13 @@ use asn1_schema_additions::{
     AddedOptional, AddedOptionalComponent, AdditionsOf, CountOf, DecodeExtension, EncodeExtension,
     Marked, MarkedComponents, NoMore,
 };
-use asn1_schema_constructed::SetOf;
 use asn1_schema_decode::{DecodeSequence, Decoder};
 use asn1_schema_encode::{EncodeSequence, Encoder};
 use asn1_schema_faults::{DecodeError, EncodeError};
 use asn1_schema_tags::Tag;
 use asn1_schema_types::{ComponentsOf, Described, End, Required, RequiredComponent};
 use asn1_schema_versions::Extends;
+use asn1_schema_wrapped::SetOf;
 use asn1_values_integers::Integer;
 use asn1_values_octets::OctetString;
 use std::alloc::Global;

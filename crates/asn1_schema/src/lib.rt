@@ -20,7 +20,7 @@ pub use asn1_schema_constructed::{
     Alternatives, Choice, Constructed, DecodeAlternatives, DecodeBag, DecodeChoice,
     DecodeConstructed, DecodeItems, DecodeSet, EncodeBag, EncodeChoice, EncodeConstructed,
     EncodeItems, EncodeSet, EnumeratedType, Field, FieldPresence, Fields, NamedItems,
-    OptionalAndDefaultFields, SetOf, alternative_of,
+    OptionalAndDefaultFields, alternative_of,
 };
 pub use asn1_schema_decode::{
     Decode, DecodeComponents, DecodeList, DecodeSequence, Decoder, ReadOctets,
@@ -35,6 +35,6 @@ pub use asn1_schema_types::{
 pub use asn1_schema_variants::{Chosen, Enumerated};
 pub use asn1_schema_wrapped::{
     Any, Constrained, ConstraintsOf, DecodeNamed, EncodeNamed, Explicit, Implicit,
-    InnerSubtypeConstraint, InnerSubtypeConstraintError, InstanceOf, Open, SequenceOf,
+    InnerSubtypeConstraint, InnerSubtypeConstraintError, InstanceOf, Open, SequenceOf, SetOf,
     UniversalString, Utf8String, tag,
 };

@@ -7,5 +7,3 @@ pub mod Recursive
 pub mod Chosen
 pub mod Tagged
 pub mod Named
-pub mod Equality
-pub mod Meaning

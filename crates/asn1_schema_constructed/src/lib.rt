@@ -1,6 +1,5 @@
 //! Types with components, sequences and sets (X.680 clauses 25 and 27), with their tables of fields; bags (X.680 28), as they are written and
 //! read; choices and enumerations above the calls of codecs (X.680 clauses 20 and 29).
-//! SET OF (X.680 28): bags of members.
 #![tactic(auto)]
 
 pub mod alternatives;
@@ -8,12 +7,9 @@ pub mod bags_read;
 pub mod bags_written;
 pub mod choices_read;
 pub mod choices_written;
-pub mod coding;
 pub mod constructed;
-pub mod equality;
 pub mod items;
 pub mod names;
-pub mod set_of;
 pub mod sets_read;
 pub mod sets_written;
 pub mod tables;
@@ -26,7 +22,6 @@ pub use choices_written::EncodeChoice;
 pub use constructed::{Constructed, DecodeConstructed, EncodeConstructed};
 pub use items::{DecodeItems, EncodeItems, EnumeratedType};
 pub use names::NamedItems;
-pub use set_of::SetOf;
 pub use sets_read::DecodeSet;
 pub use sets_written::EncodeSet;
 pub use tables::{Field, FieldPresence, Fields, OptionalAndDefaultFields};

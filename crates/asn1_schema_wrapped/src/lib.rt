@@ -1,14 +1,18 @@
 //! Types around others: with another tag, under constraints of a component's own, of a type that is named beside the value, and any
 //! value as octets; and the calls of encoders and decoders by the names of types.
+//! SET OF (X.680 28): bags of members.
 #![tactic(auto)]
 
 pub mod any;
+pub mod coding;
 pub mod constrained;
+pub mod equality;
 pub mod inner;
 pub mod instances;
 pub mod named_read;
 pub mod named_written;
 pub mod open;
+pub mod set_of;
 pub mod tag;
 pub mod tagged;
 
@@ -19,6 +23,7 @@ pub use instances::InstanceOf;
 pub use named_read::DecodeNamed;
 pub use named_written::EncodeNamed;
 pub use open::Open;
+pub use set_of::SetOf;
 pub use tagged::{Explicit, Implicit};
 
 /// A list of values of one type (X.680 26).

@@ -4,7 +4,7 @@ use crate::judging::judge;
 use crate::line::{Line, LineError};
 use crate::named::choices::judge_choice;
 use asn1_relay_types::{Bag, Small};
-use asn1_schema_constructed::SetOf;
+use asn1_schema_wrapped::SetOf;
 use asn1_values_integers::Integer;
 use asn1_values_octets::OctetString;
 use std::alloc::Global;

@@ -9,8 +9,8 @@ ghost use Rattle.asn1_schema_constructed.proofs.Bags.{type_bag, value_bag};
 ghost use Rattle.asn1_schema_types.specs.Counts.{any_number};
 
 use crate::set_of::SetOf;
-use crate::{DecodeBag, EncodeBag};
 use asn1_schema_constraints::{Bounded, Constraints};
+use asn1_schema_constructed::{DecodeBag, EncodeBag};
 use asn1_schema_decode::{Decode, Decoder};
 use asn1_schema_encode::{Encode, Encoder};
 use asn1_schema_faults::{DecodeError, EncodeError};

@@ -4,7 +4,7 @@ use Rattle.std.specs.Cmp.{IsPartialEquivalence, per_alike}
 use Rattle.asn1_model.specs.Value.{Value, bag, Values, no_more, member, same, same_bag, taken_out, with_rest}
 use Rattle.asn1_schema_presented.specs.Parts.{values_of}
 use Rattle.asn1_schema_presented.proofs.Same.{same_self}
-use Rattle.asn1_schema_constructed.specs.Equality.{times, same_items, same_length, all_alike, same_by_counts}
+use Rattle.asn1_schema_wrapped.specs.Equality.{times, same_items, same_length, all_alike, same_by_counts}
 
 -- A list without the first element that is equal to this one, if one is.
 abbrev pub without : {A : Type 0} → (A → A → Bool) → A → List A → Option (List A)
