@@ -17,7 +17,7 @@ case $rules in
     *) echo "no such rules" >&2; exit 2 ;;
 esac
 codecs='asn1_schema_decode asn1_schema_encode asn1_schema_faults oer_codec per_codec'
-types='asn1_model asn1_schema_additions asn1_schema_bags asn1_schema_components asn1_schema_constraints asn1_schema_constructed'
+types='asn1_model asn1_schema_additions asn1_schema_constraints asn1_schema_constructed'
 types="$types asn1_schema_decode asn1_schema_encode asn1_schema_faults asn1_schema_presented asn1_schema_tags"
 types="$types asn1_schema_types asn1_schema_variants asn1_schema_wrapped asn1_values_octets"
 take_packages $types $codecs asn1_relay_core

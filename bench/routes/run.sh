@@ -4,7 +4,7 @@
 here=$(cd "$(dirname "$0")/.." && pwd)
 work=${1:-$(mktemp -d)}
 . "$here/shared.sh"
-types='asn1_model asn1_schema_additions asn1_schema_bags asn1_schema_components asn1_schema_constraints asn1_schema_constructed'
+types='asn1_model asn1_schema_additions asn1_schema_constraints asn1_schema_constructed'
 types="$types asn1_schema_decode asn1_schema_encode asn1_schema_faults asn1_schema_presented asn1_schema_tags"
 types="$types asn1_schema_types asn1_schema_variants asn1_schema_wrapped asn1_values_octets asn1_schema_versions asn1_relay_types"
 take_packages $types asn1_relay_core asn1_relay_routes

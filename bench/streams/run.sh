@@ -6,7 +6,7 @@ work=${1:-$(mktemp -d)}
 . "$here/shared.sh"
 compile "$here/streams/plain.c"
 codecs='asn1_schema_decode asn1_schema_encode asn1_schema_faults'
-types='asn1_model asn1_schema_components asn1_schema_constraints asn1_schema_decode asn1_schema_encode asn1_schema_faults asn1_schema_presented'
+types='asn1_model asn1_schema_constraints asn1_schema_decode asn1_schema_encode asn1_schema_faults asn1_schema_presented'
 types="$types asn1_schema_tags asn1_schema_types asn1_schema_wrapped asn1_values_octets"
 take_packages $types asn1_relay_core asn1_relay_streams
 make_package bench_common '' lib=common.in

@@ -1,4 +1,5 @@
-//! The order of a bag's members, and that the canonical text does not depend on the order in which they are handed in.
+//! The order of a bag's members (X.691 22 and X.696 19), and that the canonical text does not depend on the order in
+//! which they are handed in.
 
 ghost use Rattle.asn1_laws_across.specs.OrderLaws.{EncodingsAreOrdered, SameIsWrittenAlike};
 

@@ -1,4 +1,5 @@
-//! Of all beginnings of some octets one at most is an encoding of a type, and it says what the value is.
+//! One front at most of a plain type, in any of the rules: of all beginnings of some octets one at most is an encoding
+//! of it, and it tells the value.
 
 ghost use Rattle.asn1_laws_fronts.specs.Laws.{OnePlainFront};
 

@@ -1,4 +1,5 @@
-//! Numbers as digits, octets and bits: positional sums, and the fewest of them.
+//! Numbers as digits, octets and bits (X.691 11.3 and 11.4, X.696 10): positional sums, and the fewest digits that
+//! hold a number. Object identifiers and texts by their octets.
 
 ghost use Rattle.asn1_laws_numbers.specs.Laws.{DigitsAreASum, FewestDigits, ComplementIsASum, FewestOctets, BitsAreDigits, OctetsAndBits, IdentifiersAreTold};
 ghost use Rattle.asn1_laws_numbers.specs.Laws.{OctetsStandAsBits, Utf8IsText};

@@ -1,10 +1,6 @@
-//! Equality of values, in which a bag has no order.
-//! The laws of the model: what makes translation between encoding rules possible at all, proved over the definitions alone.
-//! Laws of tags: how they are ordered, the smallest of some, and lists in which none occurs twice. The
-//! functions do nothing: their contracts are the laws.
-//! Plain types: all rules encode the same values of them.
-//! The values of a type: normal forms are such values, and tell when two of them are equal.
-//! A recursive type means the same however far it is unfolded, and any type the same with each default in its normal form.
+//! Laws of values and of one message, over the definitions alone: equality of values and normal forms, the order of
+//! tags (X.680 8.6), the values of a type, plain types, unfoldings of recursive types, and what readers with more or
+//! with fewer freedoms take (X.691, X.696). Each function does nothing: its contract is a law.
 #![tactic(auto)]
 
 pub mod message_laws;

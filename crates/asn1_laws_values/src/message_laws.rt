@@ -1,4 +1,5 @@
-//! The laws of the model: what makes translation between encoding rules possible at all, proved over the definitions alone.
+//! What readers with more or with fewer freedoms take of one message (X.691, X.696), and that what is written is read:
+//! what makes translation between encoding rules possible at all.
 
 ghost use Rattle.asn1_laws_values.specs.MessageLaws.{PerWidens, OerWidens, PerCanonical, OerCanonical, StrictIsLenient, CanonicalIsRead, NormalForms, StrictReadsNormal};
 

@@ -1,5 +1,4 @@
-//! Laws of tags: how they are ordered, the smallest of some, and lists in which none occurs twice. The
-//! functions do nothing: their contracts are the laws.
+//! Tags: how they are ordered (X.680 8.6), the smallest of some, and lists in which none occurs twice.
 
 ghost use Rattle.std.specs.Prelude.{◌≡◌, ◌⊎◌, ℕ, List, Some, true, false, slice_get};
 ghost use Rattle.asn1_model.specs.Schema.{Tag};

@@ -1,4 +1,5 @@
-//! A recursive type means the same however far it is unfolded, and any type the same with each default in its normal form.
+//! A recursive type means the same however far it is unfolded, and any type the same with each default in its normal
+//! form.
 
 ghost use Rattle.asn1_laws_values.specs.UnfoldingLaws.{AgreesWithItself, MeansTheSame, NormalDefaultsAgree, NormalDefaultsLoseNothing, UnfoldingsAgree, UnfoldingsMeanTheSame};
 ghost use Rattle.asn1_laws_values.specs.UnfoldingLaws.{LawfulIfTidy, TidiedIsLawful, TidiedKeepsValues, TidiedKeepsVersions, TidiedCarriesAlike};

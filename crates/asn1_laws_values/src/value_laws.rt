@@ -1,4 +1,4 @@
-//! Equality of values, in which a bag has no order.
+//! Equality of values, in which a bag has no order, and normal forms.
 
 ghost use Rattle.asn1_laws_values.specs.Laws.{SameIsEquivalence, BagsHaveNoOrder, NormalRespectsSame, NormalNestsNoDeeper, NormalStays, SameIsAsNormal};
 

@@ -1,4 +1,5 @@
-//! The laws of lawful types, of all types that are lawful as declared: a default in them may spell out what is at a default of its own.
+//! The laws of lawful types, of all types that are lawful as declared: a default in them may spell out what is at a
+//! default of its own.
 
 ghost use Rattle.asn1_laws_versions.specs.DeclaredLaws.{NormalKeepsTheType, ExtendsItself, WrittenAreOctets, ReadAreOctets, OneFront, SameIsWrittenAlike};
 ghost use Rattle.asn1_laws_versions.specs.DeclaredLaws.{OneMeaning, EncodingsTellNormalForms, EqualAcross, DetoursChangeNothing, RecodedStays};

@@ -1,4 +1,4 @@
-//! What one version of a type reads of what the other writes, exactly.
+//! What one version of a type reads of what the other writes: that value and no other.
 
 ghost use Rattle.asn1_laws_versions.specs.ExactLaws.{OlderReadsTheDrop, OlderRefusesAClash, NewerReadsTheGrowth};
 

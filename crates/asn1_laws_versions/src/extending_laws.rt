@@ -1,4 +1,5 @@
-//! When a type is a newer version of another, and what a value of the older version is in the newer one: laws of an order.
+//! When a type is a newer version of another (X.680 52), and what a value of the older version is in the newer one:
+//! laws of an order.
 
 ghost use Rattle.asn1_laws_versions.specs.ExtendingLaws.{ExtendingIsTransitive, GrowingTwiceIsGrowing, GrowingKeepsValuesApart};
 ghost use Rattle.asn1_laws_versions.specs.ExtendingLaws.{GrowingKeepsNormalForms, SameIsCarriedAlike, SameNestsAlike, GrowingKeepsLevels};

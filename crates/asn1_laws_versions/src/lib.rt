@@ -1,10 +1,6 @@
-//! What two versions of a type read of one another in the packed rules.
-//! What two versions of a type read of one another in the octet rules.
-//! What one version of a type reads of what the other writes, exactly.
-//! When a type is a newer version of another, and what a value of the older version is in the newer one: laws of an order.
-//! What one version of a type refuses of what the other writes, and what it reads exactly.
-//! Messages that go from hop to hop, each of which knows the older or the newer version of their type.
-//! The laws of lawful types, of all types that are lawful as declared: a default in them may spell out what is at a default of its own.
+//! Two versions of a type (X.680 52): what each reads of what the other writes and what it refuses, newer versions of
+//! newer ones, and messages that go from hop to hop through both. The laws of lawful types once more, of types that
+//! are lawful as declared. Each function does nothing: its contract is a law, or rows of it.
 #![tactic(auto)]
 
 pub mod declared_laws;

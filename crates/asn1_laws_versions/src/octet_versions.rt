@@ -1,4 +1,4 @@
-//! What two versions of a type read of one another in the octet rules.
+//! What two versions of a type read of one another in the octet encoding rules (X.696).
 
 ghost use Rattle.asn1_laws_versions.specs.OctetLaws.{OlderVersionReads, NewerVersionReads};
 

@@ -1,4 +1,4 @@
-//! What two versions of a type read of one another in the packed rules.
+//! What two versions of a type read of one another in the packed encoding rules (X.691).
 
 ghost use Rattle.asn1_laws_versions.specs.Laws.{OlderVersionReads, NewerVersionReads};
 

@@ -1,4 +1,5 @@
-//! What one version of a type refuses of what the other writes, and what it reads exactly.
+//! What one version of a type refuses of what the other writes, and which beginning of it is read: all of it, and no
+//! other.
 
 ghost use Rattle.asn1_laws_versions.specs.RefusedLaws.{OlderRefusesTheUnknown, NewerRefusesTheMissing, OlderReadsExactly, NewerReadsExactly};
 

@@ -1,5 +1,5 @@
-//! Constraints on values and sizes (X.680 clauses 50 to 52).
-//! Bounds of numbers and of counts (X.680 51.4 and 51.5).
+//! Constraints on values, sizes and alphabets (X.680 clauses 50 to 52), their bounds (X.680 51.4 and 51.5), and what a
+//! list of them comes to.
 #![tactic(auto)]
 
 pub mod bounds;

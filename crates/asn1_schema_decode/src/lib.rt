@@ -1,7 +1,6 @@
-//! The traits of types that are read and of decoders, and what each keeps.
-//! Values of messages that are strung together, one after the other.
-//! Which message stands in front of an input, and what it tells: by these definitions the calls that read a value are specified, whatever the
-//! encoding rules are. The function does nothing; its contract is a law.
+//! The traits of types that are read and of decoders, and what each keeps; readers of messages that are strung
+//! together, one after the other; and which message stands in front of an input, by which the calls that read are
+//! specified in all encoding rules.
 #![tactic(auto)]
 
 pub mod bmp;

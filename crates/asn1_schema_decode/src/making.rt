@@ -1,4 +1,4 @@
-//! The call that makes them.
+//! The call that makes an `Iter`.
 ghost use Rattle.std.specs.Prelude.{◌≡◌, IfOk};
 
 use crate::Decode;

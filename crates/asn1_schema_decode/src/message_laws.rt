@@ -1,5 +1,5 @@
-//! Which message stands in front of an input, and what it tells: by these definitions the calls that read a value are specified, whatever the
-//! encoding rules are. The function does nothing; its contract is a law.
+//! Which message stands in front of an input, and what it tells: by these definitions the calls that read a value are
+//! specified, whatever the encoding rules are. The function does nothing: its contract is a law.
 
 ghost use Rattle.asn1_model.specs.Rules.{Rules};
 ghost use Rattle.asn1_laws_fronts.specs.Laws.{OneFrontIn};

@@ -1,5 +1,6 @@
-//! Types of a program's own, as their author writes them: sequences, and sets, with a choice that has no tag of its own, and with additions.
-//! A type of a program's own that leads back to itself through a list, as its author writes it.
+//! Types of a program's own, as their author writes them: sequences, one with a default, one that leads back to itself
+//! and one that does so through a list (X.680 25 and 26); a choice; sets in which it stands without a tag of its own,
+//! and one with additions (X.680 27 and 29).
 #![tactic(auto)]
 
 pub mod chain;

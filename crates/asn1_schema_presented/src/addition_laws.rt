@@ -1,4 +1,4 @@
-//! What stands behind a mark of extensibility, and groups of additions (X.680 25): definitions, and the laws by which types and values
+//! What stands behind a mark of extensibility, and groups of additions (X.680 25): the laws by which types and values
 //! of additions are put together.
 
 ghost use Rattle.asn1_schema_presented.specs.AdditionLaws.{AdditionsAreTyped, AdditionsAreValued, GroupsAreTyped, GroupsAreValued};

@@ -1,5 +1,5 @@
-//! How many levels nest in the records of a value: a decoder takes one level inside each list, bag, sequence, set, group and choice. Each
-//! function does nothing; its contract is a law.
+//! How many levels nest in the records of a value: a decoder takes one level inside each list, bag, sequence, set,
+//! group and choice.
 
 ghost use Rattle.asn1_schema_presented.specs.Levels.{Lowers, Nests};
 

@@ -1,5 +1,4 @@
-//! What a codec is told of a value, one record a call: definitions over the model, rows that they are computed to give, and the law that
-//! records tell a value.
+//! The records of a value: rows of them, and the law that the records of one value of a type at most are next.
 
 ghost use Rattle.asn1_schema_presented.specs.Chains.{OneRecord};
 ghost use Rattle.asn1_schema_presented.specs.Laws.{OneValue};

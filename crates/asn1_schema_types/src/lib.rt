@@ -1,6 +1,5 @@
-//! Types of the program: what each is in ASN.1, and what its values mean.
-//! The kinds of character strings, with their tags and their names.
-//! The components of sequences, and their defaults.
+//! Types of the program: what each is in ASN.1, and what its values mean. The kinds of character strings with their
+//! tags and names (X.680 41), and the components of sequences with their defaults (X.680 25).
 #![tactic(auto)]
 
 pub mod bmp;

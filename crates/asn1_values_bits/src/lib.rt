@@ -1,5 +1,5 @@
-//! Bits: a growing buffer of them, views of them in octets, and a reader.
-//! Bits in octets: views of them, and the numbers that they make.
+//! Bits in octets: views of them, a buffer that grows at its end, a reader that takes them from the front, and the
+//! numbers that they make. All of these are lists of truth values.
 #![tactic(auto)]
 
 mod bit_appender;

@@ -1,6 +1,5 @@
-//! Whole numbers of any size.
-//! What the native integer types and `Integer` have in common.
-//! Whole numbers within a range.
+//! The values of the type INTEGER (X.680 19): `Integer`, a whole number of any size; `ConstrainedInteger`, one within
+//! a range of its own (X.680 51.4); and `IntegerType`, what `Integer` and the native integer types have in common.
 #![tactic(auto)]
 
 mod compare;

@@ -1,6 +1,5 @@
-//! The restricted character strings whose characters are octets (X.680 41).
-//! The restricted character string whose characters are two octets wide, the BMPString (X.680 41).
-//! Octets as the texts that a UTF8String holds (ISO/IEC 10646 annex D).
+//! The values of the character string types (X.680 41): strings whose characters are octets, the BMPString, whose
+//! characters are two octets wide, and octets as the text that a UTF8String holds (ISO/IEC 10646 annex D).
 #![tactic(auto)]
 
 pub mod bmp;

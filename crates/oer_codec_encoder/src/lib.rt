@@ -1,7 +1,6 @@
-//! The encoder of the octet encoding rules (X.696), which have one canonical writer: OER and COER; and what is open in it: sequences, sets
-//! and groups, lists, bags, additions and alternatives.
-//! What a writer of the octet encoding rules (X.696) holds from record to record, and that the records of a value add just its canonical
-//! octets. Each function does nothing; its contract is a law.
+//! The encoder of the octet encoding rules (X.696), one for OER and COER, and what is open in it: sequences, sets and
+//! groups, lists, bags, additions and alternatives. What a writer of these rules holds from record to record
+//! (`steps`).
 #![tactic(auto)]
 
 mod additions;

@@ -1,5 +1,5 @@
-//! What a writer of the octet encoding rules (X.696) holds from record to record, and that the records of a value add just its canonical
-//! octets. Each function does nothing; its contract is a law.
+//! What a writer of the octet encoding rules (X.696) holds from record to record, and that the records of a value add
+//! just its canonical octets. Each function does nothing: its contract is a law.
 
 ghost use Rattle.asn1_schema_presented.specs.Records.{Record};
 ghost use Rattle.oer_codec_encoder.specs.Steps.{State};

@@ -1,5 +1,5 @@
-//! The decoder of the packed encoding rules (X.691), unaligned and aligned: what begins and ends, and the scalar types between.
-//! What is open in the decoder of the packed encoding rules (X.691), unaligned and aligned, and what stands in front of it: the preambles of
+//! The decoder of the packed encoding rules (X.691), unaligned and aligned, and what is open in it: what begins and
+//! ends, the scalar types between, and what stands in front of components, additions and members: the preambles of
 //! sequences, sets and groups, the bitmaps of additions, and the numbers of members.
 #![tactic(auto)]
 

@@ -1,7 +1,6 @@
-//! The encoder of the packed encoding rules (X.691), and what is open in it: sequences, sets and groups, lists, bags, additions and
-//! alternatives.
-//! What a writer of the packed encoding rules (X.691), aligned or not, holds from record to record, and that the records of a value add just its
-//! canonical bits. Each function does nothing; its contract is a law.
+//! The encoder of the packed encoding rules (X.691), unaligned and aligned, and what is open in it: sequences, sets
+//! and groups, lists, bags, additions and alternatives. What a writer of these rules holds from record to record
+//! (`steps`).
 #![tactic(auto)]
 
 mod additions;

@@ -1,5 +1,5 @@
-//! What a writer of the packed encoding rules (X.691), aligned or not, holds from record to record, and that the records of a value add just its
-//! canonical bits. Each function does nothing; its contract is a law.
+//! What a writer of the packed encoding rules (X.691), aligned or not, holds from record to record, and that the
+//! records of a value add just its canonical bits. Each function does nothing: its contract is a law.
 
 ghost use Rattle.std.specs.Prelude.{Bool};
 ghost use Rattle.asn1_schema_presented.specs.Records.{Record};

@@ -1,7 +1,5 @@
-//! Putting the text of a value together in the packed encoding rules (X.691): bits, and filling up to octets, which is left open where the
-//! position is not known yet.
-//! Texts of the forms of the packed encoding rules (X.691): bits, and filling up to octets where the position is not known yet. Each function
-//! does nothing; its contract is a law.
+//! Texts of the packed encoding rules (X.691): bits, and filling up to octets, which is left open where the position
+//! in a message is not known yet. What such texts are, and how they are put together.
 #![tactic(auto)]
 
 mod completion;

@@ -1,12 +1,8 @@
-//! Readers of the parts that the packed encoding rules (X.691) put values together from, unaligned and aligned: a cursor over the input,
-//! filling, lengths, constrained whole numbers, BOOLEAN and NULL.
-//!
-//! Each reader answers a value just where its form stands in front, and takes its bits; it refuses, but for want of memory, just where none
-//! does. Nothing is said of the cursor after a refusal.
-//! Readers of units of one width behind their number, and of strings of them, in the packed encoding rules (X.691).
-//!
-//! Each reader answers a value just where its form stands in front, and takes its bits; it refuses, but for want of memory, just where none
-//! does. Nothing is said of the cursor after a refusal. What stands in one piece is lent; fragments are joined.
+//! Readers of the parts that the packed encoding rules (X.691) put values together from, unaligned and aligned: a
+//! cursor over the input, filling, lengths, constrained whole numbers, BOOLEAN and NULL, and units of one width behind
+//! their number, with the strings that are made of them. Each reader answers a value just where its form stands in
+//! front, and takes its bits; it refuses, but for want of memory, just where none does. Nothing is said of the cursor
+//! after a refusal. Units that stand in one piece are lent; fragments are joined.
 #![tactic(auto)]
 
 pub mod cursor;
