@@ -8,7 +8,7 @@
 # first N at which all of its ample_* tests pass, or where it has none, with the first at which all of its tests do. Each run
 # builds the tests anew, which takes some seconds. Nothing is proved.
 here=$(cd "$(dirname "$0")/.." && pwd)
-[ $# -gt 0 ] || set -- $(sed -n 's/^\(asn1_values_tests_[a-z]*\)[ :].*/\1/p' "$here/crates.txt")
+[ $# -gt 0 ] || set -- $(sed -n 's/^\(asn1_values_tests[a-z_]*\)[ :].*/\1/p' "$here/crates.txt")
 [ $# -gt 0 ] || { echo "no package of tests of values in crates.txt" >&2; exit 2; }
 log=$(mktemp)
 trap 'rm -f "$log"' EXIT
