@@ -1,6 +1,6 @@
 //! Types around others: under another tag, under constraints of a component's own, SET OF as a type of its members
-//! (X.680 28), a type that is named beside the value, and any value as octets; and the calls of encoders and decoders by
-//! the names of types.
+//! (X.680 28), a type that is named beside the value, and any value as octets; and the calls of encoders and decoders
+//! by the names of types.
 #![tactic(auto)]
 
 pub mod any;

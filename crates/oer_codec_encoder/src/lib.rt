@@ -1,6 +1,6 @@
 //! The encoder of the octet encoding rules (X.696), one for OER and COER, and what is open in it: sequences, sets and
 //! groups, lists, bags, additions and alternatives. What a writer of these rules holds from record to record
-//! (`steps`).
+//! (`step_laws`).
 #![tactic(auto)]
 
 mod additions;
