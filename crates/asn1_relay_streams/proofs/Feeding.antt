@@ -102,3 +102,10 @@ module _ (s : Schema) (old : Relaying) (piece before : List ℕ) where
       stopped had (inr y) =
           let w : StopsAt (rules_of old.from) (rules_of old.to) s old.limit now.unread (Some y.0) = here (λ a b l. StopsAt a b s l now.unread (Some y.0)) y.2 in
           inr (inl (had, y.0, record { count = length h.messages; written = h.written; rest = now.unread; relays = record { messages = h.messages; counted = refl; front = h.front; stops = w }; grows = h.grows; is = fault_as (kind_of_stop y.0) y.1; stops = stopped_as }))
+
+-- a relay that holds nothing is fed nothing
+pub nothing_fed : (s : Schema) (old : Relaying) (piece before : List ℕ) → old.failed ≡ false → old.unread ≡ [] → piece ≡ [] → old.number ≤ most → IsFed s old old piece before before
+nothing_fed s old piece before had u p n =
+    let w : old.unread ≡ old.unread ++ piece = subst (λ l. old.unread ≡ old.unread ++ l) (sym p) (sym (append-nil old.unread)) in
+    let e : old ≡ onwards old (old.unread ++ piece) old.number false = ap (λ l. onwards old l old.number old.failed) w ∙ ap (λ b. onwards old (old.unread ++ piece) old.number b) had in
+    fed s old piece before old before (begun s old piece before old before e n refl) had (waits_at_end (rules_of old.from) (rules_of old.to) s old.limit old.unread u)
