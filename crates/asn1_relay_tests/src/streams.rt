@@ -304,7 +304,7 @@ fn is_right<T: Encode + Decode>(alloc: Global, row: &Row) -> Result<bool, AllocE
     Ok(answers::<T>(alloc, row, octets, &wanted))
 }
 
-/// The place of the first row whose run is not right, at the second try at the latest: one request for memory at most is refused.
+/// The place of the first row whose run is not right. Each has a second try: one request for memory at most is refused.
 fn first_wrong<T: Encode + Decode>(alloc: Global, rows: &[Row]) -> Option<usize> {
     for (place, row) in rows.iter().enumerate() {
         if is_right::<T>(alloc, row) != Ok(true) && is_right::<T>(alloc, row) != Ok(true) {
