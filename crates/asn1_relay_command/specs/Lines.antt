@@ -55,6 +55,10 @@ behind_place (Some (place.Hop n)) text = behind_number (codes "hop ") n text
 abbrev pub line_of : Fault → List ℕ
 line_of f = codes "asn1_relay: " ++ behind_place (place_of f) (text_of f ++ (10 ∷ []))
 
+-- the line of an argument that is no text
+abbrev pub not_text_line : List ℕ
+not_text_line = codes "error: an argument is not text" ++ (10 ∷ [])
+
 -- texts, one behind the other
 abbrev pub joined : List (Bor (List ℕ)) → List ℕ
 joined [] = []

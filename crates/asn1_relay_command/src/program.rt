@@ -5,7 +5,7 @@ ghost use Rattle.std.specs.IoError.{error_kind};
 ghost use Rattle.clap.specs.Words.{kind_of};
 ghost use Rattle.asn1_relay_core.specs.Recoding.{answered};
 ghost use Rattle.asn1_relay_streams.specs.Ends.{BeginsToAppend};
-ghost use Rattle.asn1_relay_command.specs.Lines.{line_of};
+ghost use Rattle.asn1_relay_command.specs.Lines.{line_of, not_text_line};
 ghost use Rattle.asn1_relay_routes.specs.Routing.{arrived};
 ghost use Rattle.asn1_relay_command.specs.Orders.{CanBeDone, asked_by, task_of};
 ghost use Rattle.asn1_relay_command.specs.Runs.{Becomes, BecomesAs, ComesAs, ComesBy, Does, DoesOnce, DoesRoute};
@@ -94,12 +94,13 @@ fn follow<R: Read, W: Write>(
 pub fn refuse_arguments<E: Write>(error: &io::Error, errors: &mut E) -> u8
     ensures memory { error_kind error.now ≡ ErrorKind.OutOfMemory → (result ≡ 1)
         × BeginsToAppend (E.contents errors.old) (E.contents errors.new) (line_of Fault.OutOfMemory) }
-    ensures text { error_kind error.now ≢ ErrorKind.OutOfMemory → result ≡ 2 }
+    ensures text { error_kind error.now ≢ ErrorKind.OutOfMemory → (result ≡ 2)
+        × BeginsToAppend (E.contents errors.old) (E.contents errors.new) not_text_line }
 {
     if error.kind() == ErrorKind::OutOfMemory {
         return report(Fault::OutOfMemory, errors);
     }
-    let _ = writeln!(errors, "error: an argument is not text");
+    let _ = write_octets("error: an argument is not text\n".as_bytes(), errors);
     2
 }
 

@@ -690,6 +690,19 @@ fn faults_of_streams(rt: HostRuntime) {
     }
 }
 
+/// Whether words ask for this.
+fn asks(alloc: Global, words: &[&str], wanted: &Order) -> bool {
+    match read_order(alloc, words) {
+        Ok(order) => order == *wanted,
+        Err(_) => false,
+    }
+}
+
+/// Whether words ask for this, at the second try at the latest: one request for memory at most is refused.
+fn asks_for(alloc: Global, words: &[&str], wanted: &Order) -> bool {
+    asks(alloc, words, wanted) || asks(alloc, words, wanted)
+}
+
 #[test]
 fn orders(rt: HostRuntime) {
     let once = ["relay", "once", "--type=bool", "--to=coer", "--from=uper"];
@@ -701,30 +714,38 @@ fn orders(rt: HostRuntime) {
         "--from=uper",
         "--limit=4294967295",
     ];
-    let translation = Translation {
-        from: Codec::Uper,
-        to: Codec::Coer,
-        kind: Kind::Bool,
-    };
     let limit = u32::MAX;
-    let mut answers = 0u32;
-    for _ in 0..3 {
-        if let Ok(read) = read_order(rt.alloc(), &once) {
-            assert_same(&rt, &read, &Order::Once(translation));
-            answers = answers.saturating_add(1);
-        }
-        if let Ok(read) = read_order(rt.alloc(), &stream) {
-            assert_same(&rt, &read, &Order::Stream { translation, limit });
-            answers = answers.saturating_add(1);
-        }
-        match translate_all(rt.alloc(), translation, &[0x80]) {
-            Ok(octets) => {
-                assert!(rt; octets.as_slice() == [0xFF].as_slice());
-                answers = answers.saturating_add(1);
-            }
-            Err(fault) => assert_same(&rt, &fault, &Fault::OutOfMemory),
-        }
-    }
+    let is_once = asks_for(rt.alloc(), &once, &Order::Once(TRUTHS));
+    let is_stream = asks_for(
+        rt.alloc(),
+        &stream,
+        &Order::Stream {
+            translation: TRUTHS,
+            limit,
+        },
+    );
+    assert!(rt; is_once && is_stream);
+}
+
+/// Of booleans, from the unaligned packed encoding rules to the canonical octet ones.
+const TRUTHS: Translation = Translation {
+    from: Codec::Uper,
+    to: Codec::Coer,
+    kind: Kind::Bool,
+};
+
+/// Whether TRUE is translated.
+fn is_true_translated(alloc: Global) -> Result<bool, Fault> {
+    let octets = translate_all(alloc, TRUTHS, &[0x80])?;
+    Ok(octets.as_slice() == [0xFF].as_slice())
+}
+
+#[test]
+fn a_translation(rt: HostRuntime) {
+    let mut answer = is_true_translated(rt.alloc());
     // one request at most is refused
-    assert!(rt; 8 <= answers);
+    if answer == Err(Fault::OutOfMemory) {
+        answer = is_true_translated(rt.alloc());
+    }
+    assert_same(&rt, &answer, &Ok(true));
 }

@@ -36,15 +36,19 @@ fn is_read_back(alloc: Global, level: Option<u8>) -> Result<bool, Fail> {
     Ok(is_setting && end == Err(DecodeError::Incomplete))
 }
 
+/// Whether an encoder tells its rules, and keeps each record of a setting.
+fn is_named_and_kept(alloc: Global) -> Result<bool, EncodeError> {
+    let codec = RecordEncoder::new(alloc, CodecKind::Uper).codec();
+    Ok(setting_records(alloc, Some(7))?.len() == 6 && codec == CodecKind::Uper)
+}
+
 #[test]
 fn a_setting_is_read_back(rt: HostRuntime) -> Result<(), Fail> {
     let alloc = rt.alloc();
     for level in [Some(7), None] {
         assert!(rt; is_read_back(alloc, level)?, "{level:?}");
     }
-    let encoder = RecordEncoder::new(alloc, CodecKind::Uper);
-    assert!(rt; encoder.codec() == CodecKind::Uper);
-    assert!(rt; setting_records(alloc, Some(7))?.len() == 6);
+    assert!(rt; is_named_and_kept(alloc)?);
     Ok(())
 }
 

@@ -3,11 +3,12 @@ ghost use Rattle.std.specs.Prelude.{refl, Some, None, false};
 ghost use Rattle.asn1_schema_constraints.specs.declared.bounds.Bounded.{Bounded};
 ghost use Rattle.asn1_schema_presented.proofs.TypesByKind.{type_list};
 
+use crate::assertions::assert_same;
 use asn1_relay_core::{Codec, DecodeError};
 use asn1_relay_streams::{
     MemorySink, MemorySource, Relay, RelayFault, RelayFaultKind, RunFault, run,
 };
-use asn1_relay_types::Small;
+use asn1_relay_types::{New, Small};
 use asn1_schema_constraints::{Bounded, Constraints, Extensible, Size};
 use asn1_schema_decode::making::iter;
 use asn1_schema_decode::{Decode, FrontReader, Iter};
@@ -30,30 +31,37 @@ macro_rules! fault {
     };
 }
 
-/// A run over a number from -5 to 5 in each message, from the canonical octet encoding rules to the unaligned packed ones.
+/// A run from the canonical octet encoding rules to the unaligned packed ones.
 #[derive(Clone, Copy)]
 struct Row {
+    /// How many messages {a TRUE, b 7} of `New` come in front of the octets.
+    whole: usize,
     octets: &'static [u8],
     limit: usize,
     /// Which call of the reader fails.
     read: Option<u64>,
     /// Which call of the writer fails.
     write: Option<u64>,
+    /// How many of the messages in front are written.
+    relayed: usize,
+    /// What is written behind them.
     written: &'static [u8],
     answer: Result<(), RunFault>,
 }
 
-/// Two messages: a block is read and then the end, and a block is written and then flushed.
+/// Two numbers from -5 to 5, each a message: a block is read and then the end, and a block is written and then flushed.
 const TWO: Row = Row {
+    whole: 0,
     octets: &[0xFC, 0x05],
     limit: 1,
     read: None,
     write: None,
+    relayed: 0,
     written: &[0x10, 0xA0],
     answer: Ok(()),
 };
 
-/// A message, and an octet that is none, with others behind it.
+/// A message, and an octet that is none, with another behind it.
 const STOPPED: Row = Row {
     octets: &[0xFC, 0x06, 0x05],
     written: &[0x10],
@@ -142,11 +150,142 @@ const ROWS: [Row; 19] = [
     writing!(NONE, 0, &[]),
 ];
 
-/// Whether a run answers as its row says, and has written that.
-fn is_right(alloc: Global, row: &Row) -> Result<bool, AllocError> {
-    let mut reader = MemorySource::new(Vec::from_slice(alloc, row.octets)?, row.read);
+/// Messages of 7 octets, of which one straddles the first block of 4096 octets and the second, and ends that.
+const STRADDLING: Row = Row {
+    whole: 586,
+    octets: &[],
+    limit: 7,
+    relayed: 586,
+    written: &[],
+    ..TWO
+};
+
+/// Four messages {a FALSE} of `New`.
+const FOUR: &[u8] = &[0x00, 0x00, 0x00, 0x00];
+
+/// A block that is full, of messages of 7 and of 2 octets, at the end of which one ends.
+const FULL: Row = Row {
+    whole: 584,
+    octets: &[0x00, 0x00, 0x00, 0x00, 0x00, 0x00, 0x00, 0x00],
+    relayed: 584,
+    written: FOUR,
+    ..STRADDLING
+};
+
+/// Octets of which no beginning is a message of `New`: 5 is no boolean.
+const NO_MESSAGE: &[u8] = &[0x00, 0x05, 0x00, 0x00, 0x00, 0x00, 0x00, 0x00];
+
+/// Octets that are no message, of which the first alone is in the first block.
+const STOPPED_ACROSS: Row = Row {
+    whole: 585,
+    octets: NO_MESSAGE,
+    relayed: 585,
+    answer: Err(RunFault::Relay(fault!(585, NoneWithinLimit))),
+    ..STRADDLING
+};
+
+/// Octets that are no message, in the second block behind the one that straddles.
+const STOPPED_BEHIND: Row = Row {
+    octets: NO_MESSAGE,
+    answer: Err(RunFault::Relay(fault!(586, NoneWithinLimit))),
+    ..STRADDLING
+};
+
+/// The beginning of a message, at the end.
+const LEFT_BEHIND: Row = Row {
+    octets: &[0x80, 0xFF, 0x02, 0x07],
+    answer: Err(RunFault::Relay(fault!(586, NoForm))),
+    ..STRADDLING
+};
+
+/// A run that fails in reading, at this call and with so many messages written.
+macro_rules! reading_on {
+    ($row:expr, $call:literal, $relayed:literal) => {
+        Row {
+            relayed: $relayed,
+            ..reading!($row, $call, &[])
+        }
+    };
+}
+
+/// A run that fails in writing, at this call and with so many messages written.
+macro_rules! writing_on {
+    ($row:expr, $call:literal, $relayed:literal) => {
+        Row {
+            relayed: $relayed,
+            ..writing!($row, $call, &[])
+        }
+    };
+}
+
+/// Runs over more than a block, with each call behind the first failing in turn, to the call that never comes.
+const LONG_ROWS: [Row; 24] = [
+    STRADDLING,
+    reading_on!(STRADDLING, 1, 585),
+    reading_on!(STRADDLING, 2, 586),
+    Row {
+        read: Some(3),
+        ..STRADDLING
+    },
+    writing_on!(STRADDLING, 0, 0),
+    writing_on!(STRADDLING, 1, 585),
+    writing_on!(STRADDLING, 2, 586),
+    Row {
+        write: Some(3),
+        ..STRADDLING
+    },
+    // the third block is of 5 octets, behind 2 of the same message
+    Row {
+        whole: 1171,
+        relayed: 1171,
+        ..STRADDLING
+    },
+    Row {
+        whole: 1171,
+        ..writing_on!(STRADDLING, 2, 1170)
+    },
+    FULL,
+    reading!(FULL, 1, FOUR),
+    writing!(FULL, 1, FOUR),
+    Row {
+        write: Some(2),
+        ..FULL
+    },
+    STOPPED_ACROSS,
+    reading_on!(STOPPED_ACROSS, 1, 585),
+    writing_on!(STOPPED_ACROSS, 1, 585),
+    STOPPED_BEHIND,
+    Row {
+        read: Some(2),
+        ..STOPPED_BEHIND
+    },
+    writing_on!(STOPPED_BEHIND, 1, 585),
+    Row {
+        write: Some(2),
+        ..STOPPED_BEHIND
+    },
+    LEFT_BEHIND,
+    reading_on!(LEFT_BEHIND, 2, 586),
+    writing_on!(LEFT_BEHIND, 1, 585),
+];
+
+/// A message so many times, and octets behind it.
+fn repeated(
+    alloc: Global,
+    message: &[u8],
+    times: usize,
+    behind: &[u8],
+) -> Result<Vec<u8>, AllocError> {
+    let mut octets = message.repeat(alloc, times)?;
+    octets.extend_from_slice(behind)?;
+    Ok(octets)
+}
+
+/// Whether a run over octets answers as its row says, and has written those that are wanted.
+fn answers<T: Encode + Decode>(alloc: Global, row: &Row, octets: Vec<u8>, wanted: &[u8]) -> bool {
+    let mut reader = MemorySource::new(octets, row.read);
     let mut writer = MemorySink::new(alloc, row.write);
-    let answer = run::<Small, MemorySource, MemorySink>(
+    let answer = run::<T, MemorySource, MemorySink>(
         alloc,
         &mut reader,
         &mut writer,
@@ -154,19 +293,32 @@ fn is_right(alloc: Global, row: &Row) -> Result<bool, AllocError> {
         Codec::Uper,
         row.limit.max(1),
     );
-    Ok(answer == row.answer && writer.octets() == row.written)
+    answer == row.answer && writer.octets() == wanted
+}
+
+/// Whether the run of a row over messages of the type `T` answers as it says, and has written that.
+fn is_right<T: Encode + Decode>(alloc: Global, row: &Row) -> Result<bool, AllocError> {
+    let message = [0x80, 0xFF, 0x02, 0x07, 0x80, 0x01, 0x07];
+    let wanted = repeated(alloc, &[0xC0, 0x40, 0x41, 0xC0], row.relayed, row.written)?;
+    let octets = repeated(alloc, &message, row.whole, row.octets)?;
+    Ok(answers::<T>(alloc, row, octets, &wanted))
+}
+
+/// The place of the first row whose run is not right. Each has a second try: one request for memory at most is refused.
+fn first_wrong<T: Encode + Decode>(alloc: Global, rows: &[Row]) -> Option<usize> {
+    for (place, row) in rows.iter().enumerate() {
+        if is_right::<T>(alloc, row) != Ok(true) && is_right::<T>(alloc, row) != Ok(true) {
+            return Some(place);
+        }
+    }
+    None
 }
 
 #[test]
 fn runs_whose_calls_fail_in_turn(rt: HostRuntime) {
     let alloc = rt.alloc();
-    for (place, row) in ROWS.iter().enumerate() {
-        // one request for memory at most is refused
-        assert!(rt;
-            is_right(alloc, row) == Ok(true) || is_right(alloc, row) == Ok(true),
-            "run {place}"
-        );
-    }
+    assert_same(&rt, &first_wrong::<Small>(alloc, &ROWS), &None);
+    assert_same(&rt, &first_wrong::<New>(alloc, &LONG_ROWS), &None);
 }
 
 /// SIZE (1..2).

@@ -160,30 +160,42 @@ fn measure_is_read(alloc: Global, codec: Codec) -> Result<bool, DecodeError> {
     Ok(measure.offset == Integer::from(0) && measure.exact.is_none())
 }
 
+/// Whether these rules write each value as its row says.
+fn are_written(alloc: Global, codec: Codec) -> Result<bool, Fail> {
+    Ok(
+        set_is_written(alloc, codec)?
+            && control_is_written(alloc, codec)?
+            && new_is_written(alloc, codec)?
+            && group_is_written(alloc, codec)?
+            && message_is_written(alloc, codec)?
+            && measure_is_written(alloc, codec)?,
+    )
+}
+
 #[test]
 fn values_are_written(rt: HostRuntime) -> Result<(), Fail> {
-    let alloc = rt.alloc();
     for codec in CODECS {
-        assert!(rt; set_is_written(alloc, codec)?);
-        assert!(rt; control_is_written(alloc, codec)?);
-        assert!(rt; new_is_written(alloc, codec)?);
-        assert!(rt; group_is_written(alloc, codec)?);
-        assert!(rt; message_is_written(alloc, codec)?);
-        assert!(rt; measure_is_written(alloc, codec)?);
+        assert!(rt; are_written(rt.alloc(), codec)?, "{codec:?}");
     }
     Ok(())
 }
 
+/// Whether these rules read each value as its row says.
+fn are_read(alloc: Global, codec: Codec) -> Result<bool, DecodeError> {
+    Ok(
+        set_is_read(alloc, codec)?
+            && control_is_read(alloc, codec)?
+            && new_is_read(alloc, codec)?
+            && group_is_read(alloc, codec)?
+            && message_is_read(alloc, codec)?
+            && measure_is_read(alloc, codec)?,
+    )
+}
+
 #[test]
 fn values_are_read(rt: HostRuntime) -> Result<(), Fail> {
-    let alloc = rt.alloc();
     for codec in CODECS {
-        assert!(rt; set_is_read(alloc, codec)?);
-        assert!(rt; control_is_read(alloc, codec)?);
-        assert!(rt; new_is_read(alloc, codec)?);
-        assert!(rt; group_is_read(alloc, codec)?);
-        assert!(rt; message_is_read(alloc, codec)?);
-        assert!(rt; measure_is_read(alloc, codec)?);
+        assert!(rt; are_read(rt.alloc(), codec)?, "{codec:?}");
     }
     Ok(())
 }
@@ -200,14 +212,21 @@ fn bag_of(alloc: Global, numbers: &[u8]) -> Result<Bag, AllocError> {
     Ok(Bag::from_vec(Vec::from_slice(alloc, numbers)?))
 }
 
+/// Whether each set of rules writes a bag as {1, 2, 3}.
+fn is_written_in_order(alloc: Global, bag: &Bag) -> Result<bool, EncodeError> {
+    for codec in CODECS {
+        if !is_written(alloc, codec, bag, &BAG)? {
+            return Ok(false);
+        }
+    }
+    Ok(true)
+}
+
 /// Whether a bag of these numbers is the same as {1, 2, 3}, and is written so by each set of rules.
 fn is_bag(alloc: Global, numbers: &[u8]) -> Result<bool, Fail> {
     let bag = bag_of(alloc, numbers)?;
-    let mut is_right = bag == bag_of(alloc, &[1, 2, 3])?;
-    for codec in CODECS {
-        is_right = is_right && is_written(alloc, codec, &bag, &BAG)?;
-    }
-    Ok(is_right)
+    let is_same = bag == bag_of(alloc, &[1, 2, 3])?;
+    Ok(is_written_in_order(alloc, &bag)? && is_same)
 }
 
 /// Members are handed in in any order, and written in that of their encodings.
@@ -275,21 +294,31 @@ fn becomes(
     Ok(translated.as_slice() == output)
 }
 
-/// Whether a bag of 100000 members is put in order by each set of rules, and carried on from each to another.
+/// Whether a bag is put in order by each set of rules, and carried on from each to another.
+fn are_put_in_order(
+    alloc: Global,
+    input: &[u8],
+    octets: &[u8],
+    packed: &[u8],
+) -> Result<bool, RecodeFault> {
+    Ok(
+        becomes(alloc, Codec::Oer, input, Codec::Uper, packed)?
+            && becomes(alloc, Codec::Oer, input, Codec::Aper, packed)?
+            && becomes(alloc, Codec::Oer, input, Codec::Oer, octets)?
+            && becomes(alloc, Codec::Oer, input, Codec::Coer, octets)?
+            && becomes(alloc, Codec::Coer, octets, Codec::Uper, packed)?
+            && becomes(alloc, Codec::Uper, packed, Codec::Aper, packed)?
+            && becomes(alloc, Codec::Aper, packed, Codec::Oer, octets)?,
+    )
+}
+
+/// Whether a bag of 100000 members is put in order.
 fn is_put_in_order(alloc: Global) -> Result<bool, Fail> {
     let ordered = in_order(alloc)?;
     let input = with_its_count(alloc, &in_turn(alloc)?)?;
     let octets = with_its_count(alloc, &ordered)?;
     let packed = in_fragments(alloc, &ordered)?;
-    Ok(
-        becomes(alloc, Codec::Oer, &input, Codec::Uper, &packed)?
-            && becomes(alloc, Codec::Oer, &input, Codec::Aper, &packed)?
-            && becomes(alloc, Codec::Oer, &input, Codec::Oer, &octets)?
-            && becomes(alloc, Codec::Oer, &input, Codec::Coer, &octets)?
-            && becomes(alloc, Codec::Coer, &octets, Codec::Uper, &packed)?
-            && becomes(alloc, Codec::Uper, &packed, Codec::Aper, &packed)?
-            && becomes(alloc, Codec::Aper, &packed, Codec::Oer, &octets)?,
-    )
+    Ok(are_put_in_order(alloc, &input, &octets, &packed)?)
 }
 
 #[test]
