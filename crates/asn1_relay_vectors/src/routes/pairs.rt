@@ -40,8 +40,8 @@ pub fn judge_pair(alloc: Global, name: &str, claim: &Claim) -> Result<(), LineEr
     }
 }
 
-/// Judges what is said of a pair whose values have grown inside a component, or of one of those behind it; none of
-/// these has samples.
+/// Judges what is said of a pair that has no samples: of components that have grown, and of lists; or of one of those
+/// behind it.
 fn judge_grown(alloc: Global, name: &str, claim: &Claim) -> Result<(), LineError> {
     match name {
         "list" => judge(
