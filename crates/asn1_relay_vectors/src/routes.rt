@@ -42,7 +42,8 @@ fn judge_one(alloc: Global, text: &str) -> Result<(), LineError> {
 ///
 /// # Errors
 ///
-/// `Routed` where the library does not do what is said, `Form` where a route has no hop, and `Memory` for want of memory.
+/// `Routed` where the library does not do what is said, `Form` where a route has no hop, and `Memory` for want of
+/// memory.
 fn judge(alloc: Global, of: &dyn Versions, claim: &Claim) -> Result<(), LineError> {
     match claim {
         Claim::One(source, hops, arrival) => {

@@ -1,2 +1,2 @@
-pub mod Bags
+pub mod Growing
 pub mod Unfolding

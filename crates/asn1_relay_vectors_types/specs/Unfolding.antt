@@ -1,4 +1,4 @@
--- Types that mean the same in whatever depth they are unfolded: lists, bags, and a choice that leads back to itself.
+-- Types that mean the same in whatever depth they are unfolded: lists, bags, groups, and a choice that leads back to itself.
 use Rattle.std.proofs.Common.{◌≤◌, ℕ, zero, suc, refl, inl, inr, arith}
 use Rattle.asn1_model.specs.Schema.{Counts, Size, Schema, null}
 use Rattle.asn1_laws_values.specs.Unfolding.{AgreesTo, AgreesAlternatives}
@@ -6,9 +6,10 @@ use Rattle.asn1_schema_constructed.specs.Bags.{bag_type}
 use Rattle.asn1_schema_constructed.specs.Recursive.{recursive_choice}
 use Rattle.asn1_schema_constructed.specs.Tables.{alternatives_at, choice_type}
 use Rattle.asn1_schema_example_choices.specs.Nest.{nest_schema}
-use Rattle.asn1_schema_presented.specs.Tables.{scope, list_type}
+use Rattle.asn1_schema_presented.specs.Additions.{group_type}
+use Rattle.asn1_schema_presented.specs.Tables.{Table, scope, list_type}
 use Rattle.asn1_schema_versions.specs.Versions.{Unfolds}
-use Rattle.asn1_schema_versions.proofs.Unfolding.{constant_unfolds}
+use Rattle.asn1_schema_versions.proofs.Unfolding.{FieldsUnfold, constant_unfolds}
 
 -- A list whose members do.
 pub list_unfolds : (z : Size) (c : Counts) {s : ℕ → Schema} → Unfolds s → Unfolds (list_type z c s)
@@ -43,6 +44,23 @@ bag_unfolds z c {s} h = record { alike = at }
         let a' : k ≤ i = omega arith in
         let b' : k ≤ j = omega arith in
         (refl, refl, h.alike k i j a' b')
+
+-- A group whose components do.
+pub group_unfolds : (t : Table) → FieldsUnfold t.root → Unfolds (group_type t)
+unfolding group_type scope AgreesTo
+group_unfolds t r = record { alike = at }
+  where
+    at : (k i j : ℕ) → k ≤ i → k ≤ j → AgreesTo k (group_type t i) (group_type t j)
+    at zero zero zero a b = inr refl
+    at zero zero (suc j) a b = inl refl
+    at zero (suc i) zero a b = inl refl
+    at zero (suc i) (suc j) a b = inl refl
+    at (suc k) zero j a b = absurd (omega arith)
+    at (suc k) (suc i) zero a b = absurd (omega arith)
+    at (suc k) (suc i) (suc j) a b =
+        let a' : k ≤ i = omega arith in
+        let b' : k ≤ j = omega arith in
+        r.alike k i j a' b'
 
 -- CHOICE {leaf [0] NULL, more [1] Nest}
 nests_agree : (k i j : ℕ) → k ≤ i → k ≤ j → AgreesTo k (nest_schema i) (nest_schema j)

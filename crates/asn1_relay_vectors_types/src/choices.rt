@@ -16,6 +16,7 @@ use asn1_schema_faults::{DecodeError, EncodeError};
 use asn1_schema_tags::{Class, Tag, TagTree};
 use asn1_schema_types::{AsnType, Described};
 use asn1_schema_variants::Chosen;
+use asn1_schema_versions::Extends;
 use asn1_values_integers::Integer;
 use std::alloc::Global;
 
@@ -296,6 +297,135 @@ impl Decode for Distant {
     }
 }
 
+/// CHOICE {a [0] INTEGER, b [1] INTEGER, ...}.
+#[derive(Drop)]
+pub enum OldVersioned {
+    A(Integer),
+    B(Integer),
+}
+
+impl Described for OldVersioned {
+    ghost use Rattle.asn1_relay_vectors_types.specs.declared.choices.OldVersioned.TheVariants.{A, B};
+
+    ghost tags = { context 0 ∷ context 1 ∷ [] };
+
+    ghost own = { no_constraint };
+
+    ghost under = { λ _. choice_type (record { root = variant (context 0) ⟦<Integer as Described>⟧.schema (variant (context 1) ⟦<Integer as Described>⟧.schema no_variant); extensible = true; additions = no_variant }) };
+
+    ghost schema = { choice_type (record { root = variant (context 0) ⟦<Integer as Described>⟧.schema (variant (context 1) ⟦<Integer as Described>⟧.schema no_variant); extensible = true; additions = no_variant }) };
+
+    ghost is_own = { λ _. refl };
+
+    ghost meaning = { elim [ A x ↦ chosen_value (record { added = false; place = 0 }) (⟦<Integer as Described>⟧.meaning x) | B x ↦ chosen_value (record { added = false; place = 1 }) (⟦<Integer as Described>⟧.meaning x) ] };
+
+    ghost typed = { type_choice _ refl (more_variants _ refl ⟦<Integer as Described>⟧.typed (more_variants _ refl ⟦<Integer as Described>⟧.typed no_variants)) no_variants refl };
+
+    ghost valued = { elim [ A x ↦ value_choice _ false 0 (⟦<Integer as Described>⟧.valued x) | B x ↦ value_choice _ false 1 (⟦<Integer as Described>⟧.valued x) ] };
+
+    ghost valued_under = { λ _. elim [ A x ↦ value_choice _ false 0 (⟦<Integer as Described>⟧.valued x) | B x ↦ value_choice _ false 1 (⟦<Integer as Described>⟧.valued x) ] };
+}
+
+impl AsnType for OldVersioned {
+    const TAG: Tag = Tag::CHOICE;
+
+    const IS_CHOICE: bool = true;
+
+    fn tag_tree() -> TagTree<'static> {
+        const TREES: &'static [TagTree<'static>] = &[
+            TagTree::Leaf(context!(0)),
+            TagTree::Leaf(context!(1)),
+        ];
+        TagTree::Choice(TREES)
+    }
+
+    fn constraints() -> Constraints<'static> {
+        Constraints::NONE
+    }
+}
+
+impl Alternatives for OldVersioned {
+    ghost table = { record { root = variant (context 0) ⟦<Integer as Described>⟧.schema (variant (context 1) ⟦<Integer as Described>⟧.schema no_variant); extensible = true; additions = no_variant } };
+
+    fn variants() -> &'static [Tag] {
+        &[context!(0), context!(1)]
+    }
+
+    fn extended_variants() -> Option<&'static [Tag]> {
+        Some(&[])
+    }
+
+    ghost is_of = { λ _ _. refl };
+}
+
+impl Choice for OldVersioned {
+    ghost use Rattle.asn1_relay_vectors_types.specs.declared.choices.OldVersioned.TheVariants.{A, B};
+
+    ghost place = { elim [ A x ↦ record { added = false; place = 0 } | B x ↦ record { added = false; place = 1 } ] };
+
+    ghost inner = { elim [ A x ↦ ⟦<Integer as Described>⟧.meaning x | B x ↦ ⟦<Integer as Described>⟧.meaning x ] };
+
+    fn chosen(&self) -> Chosen {
+        match self {
+            OldVersioned::A(_) => Chosen::root(0),
+            OldVersioned::B(_) => Chosen::root(1),
+        }
+    }
+
+    fn write_chosen<E: Encoder>(&self, encoder: &mut E) -> Result<Tag, EncodeError> {
+        match self {
+            OldVersioned::A(value) => put!(encoder, value, context!(0)),
+            OldVersioned::B(value) => put!(encoder, value, context!(1)),
+        }
+    }
+
+    ghost means = { elim [ A x ↦ refl | B x ↦ refl ] };
+}
+
+impl DecodeChoice for OldVersioned {
+    fn from_chosen<D: Decoder>(
+        alloc: Global,
+        decoder: &mut D,
+        chosen: Chosen,
+    ) -> Result<Self, DecodeError> {
+        match (chosen.added, chosen.place) {
+            (false, 0) => Ok(OldVersioned::A(Integer::decode_with_tag(
+                alloc,
+                decoder,
+                context!(0),
+            )?)),
+            (false, 1) => Ok(OldVersioned::B(Integer::decode_with_tag(
+                alloc,
+                decoder,
+                context!(1),
+            )?)),
+            _ => unreachable!(),
+        }
+    }
+}
+
+impl Encode for OldVersioned {
+    fn encode_with_tag_and_constraints<E: Encoder>(
+        &self,
+        encoder: &mut E,
+        tag: Tag,
+        constraints: Constraints,
+    ) -> Result<(), EncodeError> {
+        encoder.encode_choice(tag, constraints, self)
+    }
+}
+
+impl Decode for OldVersioned {
+    fn decode_with_tag_and_constraints<D: Decoder>(
+        alloc: Global,
+        decoder: &mut D,
+        tag: Tag,
+        constraints: Constraints,
+    ) -> Result<Self, DecodeError> {
+        decoder.decode_choice(alloc, tag, constraints)
+    }
+}
+
 /// CHOICE {a [0] INTEGER, b [1] INTEGER, ..., c [2] INTEGER}.
 #[derive(Drop)]
 pub enum Versioned {
@@ -420,6 +550,18 @@ impl Decode for Versioned {
     ) -> Result<Self, DecodeError> {
         decoder.decode_choice(alloc, tag, constraints)
     }
+}
+
+/// What the other version has, and `c` behind its mark.
+impl Extends<OldVersioned> for Versioned {
+    ghost use Rattle.asn1_schema_versions.proofs.Fields.{gains_alternatives};
+    ghost use Rattle.asn1_schema_versions.proofs.Unfolding.{choice_unfolds, constant_unfolds, no_variants_unfold, variant_unfolds};
+
+    ghost extends = { gains_alternatives ⟦<OldVersioned as Alternatives>⟧.table (variant (context 2) ⟦<Integer as Described>⟧.schema no_variant) ⟦<OldVersioned as Described>⟧.typed.lawful refl };
+
+    ghost old_unfolds = { choice_unfolds ⟦<OldVersioned as Alternatives>⟧.table (variant_unfolds constant_unfolds (variant_unfolds constant_unfolds no_variants_unfold)) no_variants_unfold };
+
+    ghost unfolds = { choice_unfolds ⟦<Versioned as Alternatives>⟧.table (variant_unfolds constant_unfolds (variant_unfolds constant_unfolds no_variants_unfold)) (variant_unfolds constant_unfolds no_variants_unfold) };
 }
 
 /// CHOICE {a [0] BOOLEAN, c [2] CHOICE {a [0] INTEGER, b [1] INTEGER, ..., c [2] INTEGER}, ..., b [1] BOOLEAN}.

@@ -1,27 +1,24 @@
 //! Sequences with a mark of extensibility.
 ghost use Rattle.std.specs.Prelude.{refl, [], ◌∷◌};
-ghost use Rattle.std.proofs.Common.{rules, arith};
 ghost use Rattle.asn1_model.specs.Value.{fields};
 ghost use Rattle.asn1_schema_presented.proofs.Values.{type_sequence, value_sequence};
 
+use crate::counts::One;
 use crate::listed::{Listed, Sequence};
 use crate::sequences::Tagged;
+use crate::written::Lent;
 use asn1_schema_additions::{
-    AddedOptional, AddedOptionalComponent, AddedRequired, AddedRequiredComponent, AdditionsOf,
-    CountOf, DecodeExtension, EncodeExtension, Marked, MarkedComponents, NoMore,
+    AddedOptionalComponent, AddedRequiredComponent, DecodeExtension, EncodeExtension,
+    MarkedComponents, NoMore,
 };
 use asn1_schema_decode::Decoder;
 use asn1_schema_encode::Encoder;
 use asn1_schema_faults::{DecodeError, EncodeError};
 use asn1_schema_tags::Tag;
-use asn1_schema_types::{ComponentsOf, Optional, OptionalComponent, Required, RequiredComponent};
+use asn1_schema_types::{ComponentsOf, OptionalComponent, RequiredComponent};
 use asn1_values_integers::Integer;
 use asn1_values_octets::OctetString;
 use std::alloc::Global;
-
-/// One addition.
-#[derive(Drop)]
-pub struct One;
 
 /// SEQUENCE {a OCTET STRING OPTIONAL, ..., n NULL OPTIONAL}.
 pub type Noted = Sequence<NotedForm>;
@@ -29,10 +26,6 @@ pub type Noted = Sequence<NotedForm>;
 type Note = AddedOptionalComponent<(), NoMore>;
 
 type NotedForm = OptionalComponent<OctetString, MarkedComponents<One, Note>>;
-
-impl CountOf<Note> for One {
-    ghost countable = { Prim.omega arith };
-}
 
 impl Listed for NotedForm {
     ghost form = { ⟦<NotedForm as ComponentsOf>⟧.table };
@@ -44,44 +37,11 @@ impl Listed for NotedForm {
     ghost each = { λ x. value_sequence _ (⟦<NotedForm as ComponentsOf>⟧.valued tt x) };
 
     fn write<E: Encoder>(&self, encoder: &mut E, tag: Tag) -> Result<(), EncodeError> {
-        let OptionalComponent(a, MarkedComponents(AddedOptionalComponent(n, NoMore), _)) = self;
-        let additions = AddedOptional(n, NoMore);
-        encoder.encode_extensible_sequence(tag, 1, &Optional(a, Marked { additions }))
+        encoder.encode_extensible_sequence(tag, 1, &Lent(self))
     }
 
     fn read<D: Decoder>(alloc: Global, decoder: &mut D, tag: Tag) -> Result<Self, DecodeError> {
         decoder.decode_extensible_sequence(alloc, tag, 1)
-    }
-}
-
-/// SEQUENCE {a [0] BOOLEAN, ..., r [1] BOOLEAN}.
-pub type Demand = Sequence<DemandForm>;
-
-type Demanded = AddedRequiredComponent<Tagged<1, bool>, NoMore>;
-
-type DemandForm = RequiredComponent<Tagged<0, bool>, MarkedComponents<One, Demanded>>;
-
-impl CountOf<Demanded> for One {
-    ghost countable = { Prim.omega arith };
-}
-
-impl Listed for DemandForm {
-    ghost form = { ⟦<DemandForm as ComponentsOf>⟧.table };
-
-    ghost value = { λ x. fields (⟦<DemandForm as ComponentsOf>⟧.root x) (⟦<DemandForm as ComponentsOf>⟧.added x) };
-
-    ghost lawful = { type_sequence _ refl (⟦<DemandForm as ComponentsOf>⟧.typed tt) refl };
-
-    ghost each = { λ x. value_sequence _ (⟦<DemandForm as ComponentsOf>⟧.valued tt x) };
-
-    fn write<E: Encoder>(&self, encoder: &mut E, tag: Tag) -> Result<(), EncodeError> {
-        let RequiredComponent(a, MarkedComponents(AddedRequiredComponent(r, NoMore), _)) = self;
-        let additions = AddedRequired(r, NoMore);
-        encoder.encode_extensible_sequence(tag, 0, &Required(a, Marked { additions }))
-    }
-
-    fn read<D: Decoder>(alloc: Global, decoder: &mut D, tag: Tag) -> Result<Self, DecodeError> {
-        decoder.decode_extensible_sequence(alloc, tag, 0)
     }
 }
 
@@ -97,10 +57,6 @@ type ScheduleForm = RequiredComponent<
     OptionalComponent<Tagged<1, OctetString>, Late>,
 >;
 
-impl CountOf<Today> for One {
-    ghost countable = { Prim.omega arith };
-}
-
 impl Listed for ScheduleForm {
     ghost form = { ⟦<ScheduleForm as ComponentsOf>⟧.table };
 
@@ -111,12 +67,7 @@ impl Listed for ScheduleForm {
     ghost each = { λ x. value_sequence _ (⟦<ScheduleForm as ComponentsOf>⟧.valued tt x) };
 
     fn write<E: Encoder>(&self, encoder: &mut E, tag: Tag) -> Result<(), EncodeError> {
-        let RequiredComponent(it, OptionalComponent(is, form)) = self;
-        let OptionalComponent(late, MarkedComponents(additions, _)) = form;
-        let AddedRequiredComponent(today, NoMore) = additions;
-        let additions = AddedRequired(today, NoMore);
-        let components = Optional(is, Optional(late, Marked { additions }));
-        encoder.encode_extensible_sequence(tag, 2, &Required(it, components))
+        encoder.encode_extensible_sequence(tag, 2, &Lent(self))
     }
 
     fn read<D: Decoder>(alloc: Global, decoder: &mut D, tag: Tag) -> Result<Self, DecodeError> {

@@ -1,5 +1,5 @@
 //! Enumerations.
-ghost use Rattle.std.specs.Prelude.{◌∷◌, [], refl, pos, negsuc, true, false};
+ghost use Rattle.std.specs.Prelude.{◌∷◌, [], refl, pos, negsuc, false};
 ghost use Rattle.asn1_model.specs.Schema.{enumerated};
 ghost use Rattle.asn1_model.specs.Value.{item};
 ghost use Rattle.asn1_schema_constraints.specs.Sets.{no_constraint};
@@ -15,115 +15,8 @@ use asn1_schema_types::{AsnType, Described};
 use asn1_schema_variants::Enumerated;
 use std::alloc::Global;
 
-/// ENUMERATED {red, ..., blue}.
-#[derive(Clone, Copy, Debug, PartialEq, Eq)]
-pub enum Tint {
-    Red,
-    Blue,
-}
-
-impl Described for Tint {
-    ghost use Rattle.asn1_relay_vectors_types.specs.declared.items.Tint.TheVariants.{Red, Blue};
-
-    ghost tags = { record { class = 0; number = 10 } ∷ [] };
-
-    ghost own = { no_constraint };
-
-    ghost under = { λ _ _. enumerated (pos 0 ∷ []) true (pos 1 ∷ []) };
-
-    ghost schema = { λ _. enumerated (pos 0 ∷ []) true (pos 1 ∷ []) };
-
-    ghost is_own = { λ _. refl };
-
-    ghost meaning = { elim [ Red ↦ item (pos 0) | Blue ↦ item (pos 1) ] };
-
-    ghost typed = { type_enumerated _ _ _ refl refl };
-
-    ghost valued = { elim [ Red ↦ value_enumerated _ _ _ _ | Blue ↦ value_enumerated _ _ _ _ ] };
-
-    ghost valued_under = { λ _. elim [ Red ↦ value_enumerated _ _ _ _ | Blue ↦ value_enumerated _ _ _ _ ] };
-}
-
-impl AsnType for Tint {
-    const TAG: Tag = Tag::ENUMERATED;
-
-    fn tag_tree() -> TagTree<'static> {
-        TagTree::of(Self::TAG)
-    }
-
-    fn constraints() -> Constraints<'static> {
-        Constraints::NONE
-    }
-}
-
-impl Enumerated for Tint {
-    ghost use Rattle.asn1_relay_vectors_types.specs.declared.items.Tint.TheVariants.{Red, Blue};
-
-    ghost roots = { pos 0 ∷ [] };
-
-    ghost extensible = { true };
-
-    ghost additions = { pos 1 ∷ [] };
-
-    ghost number = { elim [ Red ↦ pos 0 | Blue ↦ pos 1 ] };
-
-    fn variants<'a>() -> &'a [Self]
-    where
-        Self: 'a,
-    {
-        &[Tint::Red]
-    }
-
-    fn extended_variants<'a>() -> Option<&'a [Self]>
-    where
-        Self: 'a,
-    {
-        Some(&[Tint::Blue])
-    }
-
-    fn discriminant(&self) -> isize {
-        match self {
-            Tint::Red => 0,
-            Tint::Blue => 1,
-        }
-    }
-
-    ghost distinct = { refl };
-
-    ghost listed = { elim [ Red ↦ (false, 0, refl) | Blue ↦ (true, 0, (refl, refl, refl)) ] };
-}
-
-impl EnumeratedType for Tint {
-    ghost use Rattle.asn1_relay_vectors_types.specs.declared.items.Tint.TheVariants.{Red, Blue};
-
-    ghost is_of = { λ _. refl };
-
-    ghost means = { elim [ Red ↦ refl | Blue ↦ refl ] };
-}
-
-impl Encode for Tint {
-    fn encode_with_tag_and_constraints<E: Encoder>(
-        &self,
-        encoder: &mut E,
-        tag: Tag,
-        _constraints: Constraints,
-    ) -> Result<(), EncodeError> {
-        encoder.encode_item(tag, self)
-    }
-}
-
-impl Decode for Tint {
-    fn decode_with_tag_and_constraints<D: Decoder>(
-        _alloc: Global,
-        decoder: &mut D,
-        tag: Tag,
-        _constraints: Constraints,
-    ) -> Result<Self, DecodeError> {
-        decoder.decode_item(tag)
-    }
-}
-
-/// ENUMERATED {lowest (-2147483648), below (-129), least (-128), zero (0), most (127), above (128), highest (2147483647)}.
+/// ENUMERATED {lowest (-2147483648), below (-129), least (-128), zero (0), most (127), above (128), highest
+/// (2147483647)}.
 #[derive(Clone, Copy, Debug, PartialEq, Eq)]
 pub enum Scale {
     Lowest,

@@ -1,17 +1,24 @@
-//! Types of the vectors that no other package has: choices, enumerations and sequences that the octets of a standard or of a test are of.
+//! Types of the vectors that no other package has: choices, enumerations, sequences and sets that the octets of a standard
+//! or of a test are of, and newer versions of some.
 #![tactic(auto)]
 
 mod choices;
+mod counts;
 mod extended;
+mod grouped;
 mod items;
 mod listed;
 mod sequences;
 mod sizes;
 mod versions;
+mod written;
 
-pub use choices::{Around, Distant, Spaced, Versioned};
-pub use extended::{Demand, Noted, Schedule};
-pub use items::{Scale, Tint};
+pub use choices::{Around, Distant, OldVersioned, Spaced, Versioned};
+pub use extended::{Noted, Schedule};
+pub use items::Scale;
 pub use sequences::{Blocks, Nothing, Offset, Outer, Person, Twelve};
 pub use sizes::ListOfOneOrTwo;
-pub use versions::{Nested, NewBag, NewList, Newest, OldBag, OldList};
+pub use versions::{
+    Nested, NewBag, NewBracket, NewHolder, NewList, Newest, OldBag, OldBracket, OldGrown,
+    OldHolder, OldList,
+};

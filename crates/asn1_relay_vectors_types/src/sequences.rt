@@ -6,18 +6,18 @@ ghost use Rattle.asn1_schema_presented.proofs.Values.{type_sequence, value_seque
 
 use crate::listed::{Listed, Sequence};
 use crate::sizes::{ListOfOneOrTwo, ThreeOctets};
+use crate::written::Lent;
 use asn1_schema_decode::{DecodeSequence, Decoder};
 use asn1_schema_encode::{EncodeSequence, Encoder};
 use asn1_schema_faults::{DecodeError, EncodeError};
 use asn1_schema_tags::Tag;
 use asn1_schema_types::{
-    ComponentsOf, DefaultOf, Defaulted, DefaultedComponent, End, EqualByMeaning, Optional,
-    OptionalComponent, Required, RequiredComponent,
+    ComponentsOf, DefaultOf, DefaultedComponent, End, EqualByMeaning, OptionalComponent,
+    RequiredComponent,
 };
 use asn1_schema_wrapped::{Implicit, tag};
 use asn1_values_integers::Integer;
 use std::alloc::{AllocError, Global};
-use std::marker::PhantomData;
 
 /// A type under a tag of its own.
 pub type Tagged<const NUMBER: u32, T> = Implicit<tag::Context<NUMBER>, T>;
@@ -37,8 +37,7 @@ impl Listed for PersonForm {
     ghost each = { λ x. value_sequence _ (⟦<PersonForm as ComponentsOf>⟧.valued tt x) };
 
     fn write<E: Encoder>(&self, encoder: &mut E, tag: Tag) -> Result<(), EncodeError> {
-        let RequiredComponent(age, RequiredComponent(name, End)) = self;
-        encoder.encode_sequence(tag, 0, &Required(age, Required(name, End)))
+        encoder.encode_sequence(tag, 0, &Lent(self))
     }
 
     fn read<D: Decoder>(alloc: Global, decoder: &mut D, tag: Tag) -> Result<Self, DecodeError> {
@@ -59,7 +58,7 @@ impl Listed for End {
     ghost each = { λ x. value_sequence _ (⟦<End as ComponentsOf>⟧.valued tt x) };
 
     fn write<E: Encoder>(&self, encoder: &mut E, tag: Tag) -> Result<(), EncodeError> {
-        encoder.encode_sequence(tag, 0, &End)
+        encoder.encode_sequence(tag, 0, &Lent(self))
     }
 
     fn read<D: Decoder>(alloc: Global, decoder: &mut D, tag: Tag) -> Result<Self, DecodeError> {
@@ -104,9 +103,7 @@ impl Listed for OffsetForm {
     ghost each = { λ x. value_sequence _ (⟦<OffsetForm as ComponentsOf>⟧.valued (integer_default _ _ _ refl, tt) x) };
 
     fn write<E: Encoder>(&self, encoder: &mut E, tag: Tag) -> Result<(), EncodeError> {
-        let DefaultedComponent(a, _, OptionalComponent(b, End)) = self;
-        let components = Defaulted(a, PhantomData::<Zero>, Optional(b, End));
-        encoder.encode_sequence(tag, 2, &components)
+        encoder.encode_sequence(tag, 2, &Lent(self))
     }
 
     fn read<D: Decoder>(alloc: Global, decoder: &mut D, tag: Tag) -> Result<Self, DecodeError> {
@@ -114,7 +111,8 @@ impl Listed for OffsetForm {
     }
 }
 
-/// SEQUENCE {number INTEGER, middle SEQUENCE {number INTEGER, inner SEQUENCE {number INTEGER, last [0] INTEGER OPTIONAL} OPTIONAL}}.
+/// SEQUENCE {number INTEGER, middle SEQUENCE {number INTEGER, inner SEQUENCE {number INTEGER, last [0] INTEGER OPTIONAL}
+/// OPTIONAL}}.
 pub type Outer = Sequence<OuterForm>;
 
 type OuterForm = RequiredComponent<Integer, RequiredComponent<Sequence<MiddleForm>, End>>;
@@ -129,8 +127,7 @@ impl Listed for OuterForm {
     ghost each = { λ x. value_sequence _ (⟦<OuterForm as ComponentsOf>⟧.valued tt x) };
 
     fn write<E: Encoder>(&self, encoder: &mut E, tag: Tag) -> Result<(), EncodeError> {
-        let RequiredComponent(number, RequiredComponent(middle, End)) = self;
-        encoder.encode_sequence(tag, 0, &Required(number, Required(middle, End)))
+        encoder.encode_sequence(tag, 0, &Lent(self))
     }
 
     fn read<D: Decoder>(alloc: Global, decoder: &mut D, tag: Tag) -> Result<Self, DecodeError> {
@@ -150,8 +147,7 @@ impl Listed for MiddleForm {
     ghost each = { λ x. value_sequence _ (⟦<MiddleForm as ComponentsOf>⟧.valued tt x) };
 
     fn write<E: Encoder>(&self, encoder: &mut E, tag: Tag) -> Result<(), EncodeError> {
-        let RequiredComponent(number, OptionalComponent(inner, End)) = self;
-        encoder.encode_sequence(tag, 1, &Required(number, Optional(inner, End)))
+        encoder.encode_sequence(tag, 1, &Lent(self))
     }
 
     fn read<D: Decoder>(alloc: Global, decoder: &mut D, tag: Tag) -> Result<Self, DecodeError> {
@@ -171,8 +167,7 @@ impl Listed for InnerForm {
     ghost each = { λ x. value_sequence _ (⟦<InnerForm as ComponentsOf>⟧.valued tt x) };
 
     fn write<E: Encoder>(&self, encoder: &mut E, tag: Tag) -> Result<(), EncodeError> {
-        let RequiredComponent(number, OptionalComponent(last, End)) = self;
-        encoder.encode_sequence(tag, 1, &Required(number, Optional(last, End)))
+        encoder.encode_sequence(tag, 1, &Lent(self))
     }
 
     fn read<D: Decoder>(alloc: Global, decoder: &mut D, tag: Tag) -> Result<Self, DecodeError> {
@@ -180,7 +175,8 @@ impl Listed for InnerForm {
     }
 }
 
-/// SEQUENCE {required INTEGER, first [0] INTEGER OPTIONAL, second [1] INTEGER OPTIONAL, and so on to twelfth [11] INTEGER OPTIONAL}.
+/// SEQUENCE {required INTEGER, first [0] INTEGER OPTIONAL, second [1] INTEGER OPTIONAL, and so on to twelfth [11] INTEGER
+/// OPTIONAL}.
 pub type Twelve = Sequence<TwelveForm>;
 
 type Maybe<const NUMBER: u32, R> = OptionalComponent<Tagged<NUMBER, Integer>, R>;
@@ -203,28 +199,7 @@ impl Listed for TwelveForm {
     ghost each = { λ x. value_sequence _ (⟦<TwelveForm as ComponentsOf>⟧.valued tt x) };
 
     fn write<E: Encoder>(&self, encoder: &mut E, tag: Tag) -> Result<(), EncodeError> {
-        let RequiredComponent(required, form) = self;
-        let OptionalComponent(first, form) = form;
-        let OptionalComponent(second, form) = form;
-        let OptionalComponent(third, form) = form;
-        let OptionalComponent(fourth, form) = form;
-        let OptionalComponent(fifth, form) = form;
-        let OptionalComponent(sixth, form) = form;
-        let OptionalComponent(seventh, form) = form;
-        let OptionalComponent(eighth, form) = form;
-        let OptionalComponent(ninth, form) = form;
-        let OptionalComponent(tenth, form) = form;
-        let OptionalComponent(eleventh, form) = form;
-        let OptionalComponent(twelfth, End) = form;
-        let components = Optional(
-            ninth,
-            Optional(tenth, Optional(eleventh, Optional(twelfth, End))),
-        );
-        let components = Optional(seventh, Optional(eighth, components));
-        let components = Optional(fifth, Optional(sixth, components));
-        let components = Optional(third, Optional(fourth, components));
-        let components = Optional(first, Optional(second, components));
-        encoder.encode_sequence(tag, 12, &Required(required, components))
+        encoder.encode_sequence(tag, 12, &Lent(self))
     }
 
     fn read<D: Decoder>(alloc: Global, decoder: &mut D, tag: Tag) -> Result<Self, DecodeError> {
@@ -232,8 +207,8 @@ impl Listed for TwelveForm {
     }
 }
 
-/// SEQUENCE {flag BOOLEAN, fixed [0] SEQUENCE (SIZE (2)) OF OCTET STRING (SIZE (3)), ranged [1] SEQUENCE (SIZE (1..2)) OF OCTET STRING (SIZE (3)),
-/// trailer INTEGER (0..255)}.
+/// SEQUENCE {flag BOOLEAN, fixed [0] SEQUENCE (SIZE (2)) OF OCTET STRING (SIZE (3)), ranged [1] SEQUENCE (SIZE (1..2)) OF
+/// OCTET STRING (SIZE (3)), trailer INTEGER (0..255)}.
 pub type Blocks = Sequence<BlocksForm>;
 
 type RangedForm = RequiredComponent<
@@ -256,10 +231,7 @@ impl Listed for BlocksForm {
     ghost each = { λ x. value_sequence _ (⟦<BlocksForm as ComponentsOf>⟧.valued tt x) };
 
     fn write<E: Encoder>(&self, encoder: &mut E, tag: Tag) -> Result<(), EncodeError> {
-        let RequiredComponent(flag, RequiredComponent(fixed, form)) = self;
-        let RequiredComponent(ranged, RequiredComponent(trailer, End)) = form;
-        let components = Required(ranged, Required(trailer, End));
-        encoder.encode_sequence(tag, 0, &Required(flag, Required(fixed, components)))
+        encoder.encode_sequence(tag, 0, &Lent(self))
     }
 
     fn read<D: Decoder>(alloc: Global, decoder: &mut D, tag: Tag) -> Result<Self, DecodeError> {

@@ -1,54 +1,54 @@
-//! Sequences that are newer versions of others.
+//! Sequences and sets that are newer versions of others.
 ghost use Rattle.std.specs.Prelude.{refl, [], ◌∷◌};
-ghost use Rattle.std.proofs.Common.{rules, arith};
 ghost use Rattle.asn1_model.specs.Value.{fields};
+ghost use Rattle.asn1_schema_constraints.specs.Sets.{no_constraint};
+ghost use Rattle.asn1_schema_constructed.specs.Sets.{set_type};
+ghost use Rattle.asn1_schema_constructed.proofs.SetValues.{type_set, value_set};
+ghost use Rattle.asn1_schema_presented.specs.Tables.{no_field};
 ghost use Rattle.asn1_schema_presented.proofs.Values.{type_sequence, value_sequence};
-ghost use Rattle.asn1_schema_versions.proofs.Fields.{gains_additions};
-ghost use Rattle.asn1_schema_versions.proofs.Unfolding.{constant_unfolds, field_unfolds, no_fields_unfold, sequence_unfolds};
-ghost use Rattle.asn1_relay_vectors_types.specs.Unfolding.{bag_unfolds, list_unfolds, nest_unfolds};
+ghost use Rattle.asn1_schema_versions.proofs.Defaults.{default_gains};
+ghost use Rattle.asn1_schema_versions.proofs.Fields.{gains_additions, grown_field, no_fields, same_tags, sequence_extends, set_gains_additions};
+ghost use Rattle.asn1_schema_versions.proofs.Unfolding.{constant_unfolds, field_unfolds, no_fields_unfold, sequence_unfolds, set_unfolds};
+ghost use Rattle.asn1_relay_types.specs.Defaults.{flag_table, new_true_stands, old_true_stands, one_optional};
+ghost use Rattle.asn1_relay_vectors_types.specs.Growing.{bag_extends, boolean_stays, group_extends, optional_stays, required_stays};
+ghost use Rattle.asn1_relay_vectors_types.specs.Unfolding.{bag_unfolds, group_unfolds, list_unfolds, nest_unfolds};
 
-use crate::extended::One;
+use crate::counts::{One, Two, Zero};
+use crate::grouped::Grouped;
 use crate::listed::{Listed, Sequence};
 use crate::sequences::Tagged;
 use crate::sizes::ListOfOneOrTwo;
-use asn1_relay_types::{Nest, New, Old};
+use crate::written::Lent;
+use asn1_relay_types::{Nest, New, NewDefault, Old, OldDefault};
 use asn1_schema_additions::{
-    AddedOptional, AddedOptionalComponent, AdditionsOf, CountOf, DecodeExtension, EncodeExtension,
-    Marked, MarkedComponents, NoMore,
+    AddedGroupComponent, AddedOptionalComponent, AddedRequiredComponent, AdditionsOf,
+    DecodeExtension, EncodeExtension, MarkedComponents, NoMore,
 };
-use asn1_schema_decode::{DecodeSequence, Decoder};
-use asn1_schema_encode::{EncodeSequence, Encoder};
+use asn1_schema_constraints::Constraints;
+use asn1_schema_constructed::{DecodeSet, EncodeSet};
+use asn1_schema_decode::{Decode, DecodeSequence, Decoder};
+use asn1_schema_encode::{Encode, EncodeSequence, Encoder};
+use asn1_schema_example::grown::Grown;
 use asn1_schema_faults::{DecodeError, EncodeError};
-use asn1_schema_tags::Tag;
-use asn1_schema_types::{ComponentsOf, Described, End, Required, RequiredComponent};
+use asn1_schema_tags::{Tag, TagTree};
+use asn1_schema_types::{
+    AsnType, ComponentsOf, Described, End, OptionalComponent, RequiredComponent,
+};
 use asn1_schema_versions::Extends;
 use asn1_schema_wrapped::SetOf;
 use asn1_values_integers::Integer;
 use asn1_values_octets::OctetString;
 use std::alloc::Global;
 
-/// No addition.
-#[derive(Drop)]
-pub struct Zero;
-
-impl CountOf<NoMore> for Zero {
-    ghost countable = { Prim.omega arith };
-}
-
-/// Two additions.
-#[derive(Drop)]
-pub struct Two;
+/// A BOOLEAN, and behind a mark these additions.
+type Flagged<M, A> = RequiredComponent<bool, MarkedComponents<M, A>>;
 
 /// SEQUENCE {a BOOLEAN, ..., n Nest OPTIONAL}.
 pub type Nested = Sequence<NestedForm>;
 
 type Nests = AddedOptionalComponent<Nest, NoMore>;
 
-type NestedForm = RequiredComponent<bool, MarkedComponents<One, Nests>>;
-
-impl CountOf<Nests> for One {
-    ghost countable = { Prim.omega arith };
-}
+type NestedForm = Flagged<One, Nests>;
 
 impl Listed for NestedForm {
     ghost form = { ⟦<NestedForm as ComponentsOf>⟧.table };
@@ -60,9 +60,7 @@ impl Listed for NestedForm {
     ghost each = { λ x. value_sequence _ (⟦<NestedForm as ComponentsOf>⟧.valued tt x) };
 
     fn write<E: Encoder>(&self, encoder: &mut E, tag: Tag) -> Result<(), EncodeError> {
-        let RequiredComponent(a, MarkedComponents(AddedOptionalComponent(n, NoMore), _)) = self;
-        let additions = AddedOptional(n, NoMore);
-        encoder.encode_extensible_sequence(tag, 0, &Required(a, Marked { additions }))
+        encoder.encode_extensible_sequence(tag, 0, &Lent(self))
     }
 
     fn read<D: Decoder>(alloc: Global, decoder: &mut D, tag: Tag) -> Result<Self, DecodeError> {
@@ -86,11 +84,7 @@ type Third = AddedOptionalComponent<Tagged<1, OctetString>, NoMore>;
 
 type SecondAndThird = AddedOptionalComponent<u8, Third>;
 
-type NewestForm = RequiredComponent<bool, MarkedComponents<Two, SecondAndThird>>;
-
-impl CountOf<SecondAndThird> for Two {
-    ghost countable = { Prim.omega arith };
-}
+type NewestForm = Flagged<Two, SecondAndThird>;
 
 impl Listed for NewestForm {
     ghost form = { ⟦<NewestForm as ComponentsOf>⟧.table };
@@ -102,10 +96,7 @@ impl Listed for NewestForm {
     ghost each = { λ x. value_sequence _ (⟦<NewestForm as ComponentsOf>⟧.valued tt x) };
 
     fn write<E: Encoder>(&self, encoder: &mut E, tag: Tag) -> Result<(), EncodeError> {
-        let RequiredComponent(a, MarkedComponents(AddedOptionalComponent(b, rest), _)) = self;
-        let AddedOptionalComponent(c, NoMore) = rest;
-        let additions = AddedOptional(b, AddedOptional(c, NoMore));
-        encoder.encode_extensible_sequence(tag, 0, &Required(a, Marked { additions }))
+        encoder.encode_extensible_sequence(tag, 0, &Lent(self))
     }
 
     fn read<D: Decoder>(alloc: Global, decoder: &mut D, tag: Tag) -> Result<Self, DecodeError> {
@@ -146,8 +137,7 @@ impl Listed for OldListForm {
     ghost each = { λ x. value_sequence _ (⟦<OldListForm as ComponentsOf>⟧.valued tt x) };
 
     fn write<E: Encoder>(&self, encoder: &mut E, tag: Tag) -> Result<(), EncodeError> {
-        let RequiredComponent(l, MarkedComponents(NoMore, _)) = self;
-        encoder.encode_extensible_sequence(tag, 0, &Required(l, Marked { additions: NoMore }))
+        encoder.encode_extensible_sequence(tag, 0, &Lent(self))
     }
 
     fn read<D: Decoder>(alloc: Global, decoder: &mut D, tag: Tag) -> Result<Self, DecodeError> {
@@ -162,10 +152,6 @@ type Numbers = AddedOptionalComponent<Integer, NoMore>;
 
 type NewListForm = RequiredComponent<ListOfOneOrTwo<bool>, MarkedComponents<One, Numbers>>;
 
-impl CountOf<Numbers> for One {
-    ghost countable = { Prim.omega arith };
-}
-
 impl Listed for NewListForm {
     ghost form = { ⟦<NewListForm as ComponentsOf>⟧.table };
 
@@ -176,9 +162,7 @@ impl Listed for NewListForm {
     ghost each = { λ x. value_sequence _ (⟦<NewListForm as ComponentsOf>⟧.valued tt x) };
 
     fn write<E: Encoder>(&self, encoder: &mut E, tag: Tag) -> Result<(), EncodeError> {
-        let RequiredComponent(l, MarkedComponents(AddedOptionalComponent(b, NoMore), _)) = self;
-        let additions = AddedOptional(b, NoMore);
-        encoder.encode_extensible_sequence(tag, 0, &Required(l, Marked { additions }))
+        encoder.encode_extensible_sequence(tag, 0, &Lent(self))
     }
 
     fn read<D: Decoder>(alloc: Global, decoder: &mut D, tag: Tag) -> Result<Self, DecodeError> {
@@ -210,8 +194,7 @@ impl Listed for OldBagForm {
     ghost each = { λ x. value_sequence _ (⟦<OldBagForm as ComponentsOf>⟧.valued tt x) };
 
     fn write<E: Encoder>(&self, encoder: &mut E, tag: Tag) -> Result<(), EncodeError> {
-        let RequiredComponent(m, End) = self;
-        encoder.encode_sequence(tag, 0, &Required(m, End))
+        encoder.encode_sequence(tag, 0, &Lent(self))
     }
 
     fn read<D: Decoder>(alloc: Global, decoder: &mut D, tag: Tag) -> Result<Self, DecodeError> {
@@ -222,9 +205,9 @@ impl Listed for OldBagForm {
 /// SEQUENCE {m SET OF SEQUENCE {a BOOLEAN, ..., b INTEGER (0..255) OPTIONAL}}.
 pub type NewBag = Sequence<NewBagForm>;
 
-type NewBagForm = RequiredComponent<SetOf<New>, End>;
-
 type Second = AddedOptionalComponent<u8, NoMore>;
+
+type NewBagForm = RequiredComponent<SetOf<New>, End>;
 
 impl Listed for NewBagForm {
     ghost form = { ⟦<NewBagForm as ComponentsOf>⟧.table };
@@ -236,8 +219,7 @@ impl Listed for NewBagForm {
     ghost each = { λ x. value_sequence _ (⟦<NewBagForm as ComponentsOf>⟧.valued tt x) };
 
     fn write<E: Encoder>(&self, encoder: &mut E, tag: Tag) -> Result<(), EncodeError> {
-        let RequiredComponent(m, End) = self;
-        encoder.encode_sequence(tag, 0, &Required(m, End))
+        encoder.encode_sequence(tag, 0, &Lent(self))
     }
 
     fn read<D: Decoder>(alloc: Global, decoder: &mut D, tag: Tag) -> Result<Self, DecodeError> {
@@ -247,12 +229,198 @@ impl Listed for NewBagForm {
 
 /// The same bag, whose members have grown.
 impl Extends<OldBag> for NewBag {
-    ghost use Rattle.asn1_schema_versions.proofs.Fields.{grown_field, no_fields, same_tags, sequence_extends};
-    ghost use Rattle.asn1_relay_vectors_types.specs.Bags.{bag_extends, required_stays};
-
     ghost extends = { sequence_extends (grown_field (same_tags ⟦<SetOf<Old> as Described>⟧.tags) required_stays (bag_extends _ _ (gains_additions _ ⟦<Second as AdditionsOf>⟧.additions ⟦<Old as Described>⟧.typed.lawful refl)) no_fields) refl no_fields };
 
     ghost old_unfolds = { sequence_unfolds _ (field_unfolds (bag_unfolds _ _ (sequence_unfolds _ (field_unfolds constant_unfolds no_fields_unfold) no_fields_unfold)) no_fields_unfold) no_fields_unfold };
 
     ghost unfolds = { sequence_unfolds _ (field_unfolds (bag_unfolds _ _ (sequence_unfolds _ (field_unfolds constant_unfolds no_fields_unfold) (field_unfolds constant_unfolds no_fields_unfold))) no_fields_unfold) no_fields_unfold };
+}
+
+/// SEQUENCE {a BOOLEAN, ..., s SEQUENCE {a BOOLEAN, ...}}.
+pub type OldHolder = Sequence<OldHolderForm>;
+
+type OldHolderForm = Flagged<One, AddedRequiredComponent<Old, NoMore>>;
+
+impl Listed for OldHolderForm {
+    ghost form = { ⟦<OldHolderForm as ComponentsOf>⟧.table };
+
+    ghost value = { λ x. fields (⟦<OldHolderForm as ComponentsOf>⟧.root x) (⟦<OldHolderForm as ComponentsOf>⟧.added x) };
+
+    ghost lawful = { type_sequence _ refl (⟦<OldHolderForm as ComponentsOf>⟧.typed tt) refl };
+
+    ghost each = { λ x. value_sequence _ (⟦<OldHolderForm as ComponentsOf>⟧.valued tt x) };
+
+    fn write<E: Encoder>(&self, encoder: &mut E, tag: Tag) -> Result<(), EncodeError> {
+        encoder.encode_extensible_sequence(tag, 0, &Lent(self))
+    }
+
+    fn read<D: Decoder>(alloc: Global, decoder: &mut D, tag: Tag) -> Result<Self, DecodeError> {
+        decoder.decode_extensible_sequence(alloc, tag, 0)
+    }
+}
+
+/// SEQUENCE {a BOOLEAN, ..., s SEQUENCE {a BOOLEAN, ..., b INTEGER (0..255) OPTIONAL}}.
+pub type NewHolder = Sequence<NewHolderForm>;
+
+type NewHolderForm = Flagged<One, AddedRequiredComponent<New, NoMore>>;
+
+impl Listed for NewHolderForm {
+    ghost form = { ⟦<NewHolderForm as ComponentsOf>⟧.table };
+
+    ghost value = { λ x. fields (⟦<NewHolderForm as ComponentsOf>⟧.root x) (⟦<NewHolderForm as ComponentsOf>⟧.added x) };
+
+    ghost lawful = { type_sequence _ refl (⟦<NewHolderForm as ComponentsOf>⟧.typed tt) refl };
+
+    ghost each = { λ x. value_sequence _ (⟦<NewHolderForm as ComponentsOf>⟧.valued tt x) };
+
+    fn write<E: Encoder>(&self, encoder: &mut E, tag: Tag) -> Result<(), EncodeError> {
+        encoder.encode_extensible_sequence(tag, 0, &Lent(self))
+    }
+
+    fn read<D: Decoder>(alloc: Global, decoder: &mut D, tag: Tag) -> Result<Self, DecodeError> {
+        decoder.decode_extensible_sequence(alloc, tag, 0)
+    }
+}
+
+/// The same addition, whose type has grown.
+impl Extends<OldHolder> for NewHolder {
+    ghost extends = { sequence_extends (grown_field (same_tags ⟦<bool as Described>⟧.tags) required_stays boolean_stays no_fields) refl (grown_field (same_tags ⟦<Old as Described>⟧.tags) required_stays (gains_additions _ ⟦<Second as AdditionsOf>⟧.additions ⟦<Old as Described>⟧.typed.lawful refl) no_fields) };
+
+    ghost old_unfolds = { sequence_unfolds _ (field_unfolds constant_unfolds no_fields_unfold) (field_unfolds (sequence_unfolds _ (field_unfolds constant_unfolds no_fields_unfold) no_fields_unfold) no_fields_unfold) };
+
+    ghost unfolds = { sequence_unfolds _ (field_unfolds constant_unfolds no_fields_unfold) (field_unfolds (sequence_unfolds _ (field_unfolds constant_unfolds no_fields_unfold) (field_unfolds constant_unfolds no_fields_unfold)) no_fields_unfold) };
+}
+
+/// SEQUENCE {a BOOLEAN, ..., [[s SEQUENCE {a BOOLEAN, ...} DEFAULT {a TRUE}]]}.
+pub type OldBracket = Sequence<OldBracketForm>;
+
+type OldBracketForm = Flagged<One, AddedGroupComponent<Grouped<OldDefault>, NoMore>>;
+
+impl Listed for OldBracketForm {
+    ghost form = { ⟦<OldBracketForm as ComponentsOf>⟧.table };
+
+    ghost value = { λ x. fields (⟦<OldBracketForm as ComponentsOf>⟧.root x) (⟦<OldBracketForm as ComponentsOf>⟧.added x) };
+
+    ghost lawful = { type_sequence _ refl (⟦<OldBracketForm as ComponentsOf>⟧.typed tt) refl };
+
+    ghost each = { λ x. value_sequence _ (⟦<OldBracketForm as ComponentsOf>⟧.valued tt x) };
+
+    fn write<E: Encoder>(&self, encoder: &mut E, tag: Tag) -> Result<(), EncodeError> {
+        encoder.encode_extensible_sequence(tag, 0, &Lent(self))
+    }
+
+    fn read<D: Decoder>(alloc: Global, decoder: &mut D, tag: Tag) -> Result<Self, DecodeError> {
+        decoder.decode_extensible_sequence(alloc, tag, 0)
+    }
+}
+
+/// SEQUENCE {a BOOLEAN, ..., [[s SEQUENCE {a BOOLEAN, ..., b INTEGER (0..255) OPTIONAL} DEFAULT {a TRUE}]]}.
+pub type NewBracket = Sequence<NewBracketForm>;
+
+type NewBracketForm = Flagged<One, AddedGroupComponent<Grouped<NewDefault>, NoMore>>;
+
+impl Listed for NewBracketForm {
+    ghost form = { ⟦<NewBracketForm as ComponentsOf>⟧.table };
+
+    ghost value = { λ x. fields (⟦<NewBracketForm as ComponentsOf>⟧.root x) (⟦<NewBracketForm as ComponentsOf>⟧.added x) };
+
+    ghost lawful = { type_sequence _ refl (⟦<NewBracketForm as ComponentsOf>⟧.typed tt) refl };
+
+    ghost each = { λ x. value_sequence _ (⟦<NewBracketForm as ComponentsOf>⟧.valued tt x) };
+
+    fn write<E: Encoder>(&self, encoder: &mut E, tag: Tag) -> Result<(), EncodeError> {
+        encoder.encode_extensible_sequence(tag, 0, &Lent(self))
+    }
+
+    fn read<D: Decoder>(alloc: Global, decoder: &mut D, tag: Tag) -> Result<Self, DecodeError> {
+        decoder.decode_extensible_sequence(alloc, tag, 0)
+    }
+}
+
+/// The same group, whose component has grown.
+impl Extends<OldBracket> for NewBracket {
+    ghost extends = { sequence_extends (grown_field (same_tags ⟦<bool as Described>⟧.tags) required_stays boolean_stays no_fields) refl (grown_field (same_tags ⟦<Old as Described>⟧.tags) optional_stays (group_extends _ _ (grown_field (same_tags ⟦<Old as Described>⟧.tags) (default_gains (flag_table no_field) (one_optional _) old_true_stands (new_true_stands _)) (gains_additions (flag_table no_field) (one_optional _) ⟦<Old as Described>⟧.typed.lawful refl) no_fields)) no_fields) };
+
+    ghost old_unfolds = { sequence_unfolds _ (field_unfolds constant_unfolds no_fields_unfold) (field_unfolds (group_unfolds _ (field_unfolds (sequence_unfolds (flag_table no_field) (field_unfolds constant_unfolds no_fields_unfold) no_fields_unfold) no_fields_unfold)) no_fields_unfold) };
+
+    ghost unfolds = { sequence_unfolds _ (field_unfolds constant_unfolds no_fields_unfold) (field_unfolds (group_unfolds _ (field_unfolds (sequence_unfolds (flag_table (one_optional _)) (field_unfolds constant_unfolds no_fields_unfold) (field_unfolds constant_unfolds no_fields_unfold)) no_fields_unfold)) no_fields_unfold) };
+}
+
+/// SET {ready [1] BOOLEAN, level [0] INTEGER (0..255) OPTIONAL, ..., done [9] NULL OPTIONAL}.
+#[derive(Drop)]
+pub struct OldGrown {
+    components: OldGrownForm,
+}
+
+type Done = AddedOptionalComponent<Tagged<9, ()>, NoMore>;
+
+type OldGrownForm = OptionalComponent<
+    Tagged<0, u8>,
+    RequiredComponent<Tagged<1, bool>, MarkedComponents<One, Done>>,
+>;
+
+impl Described for OldGrown {
+    ghost tags = { record { class = 0; number = 17 } ∷ [] };
+
+    ghost own = { no_constraint };
+
+    ghost under = { λ _. set_type ⟦<OldGrownForm as ComponentsOf>⟧.table };
+
+    ghost schema = { set_type ⟦<OldGrownForm as ComponentsOf>⟧.table };
+
+    ghost is_own = { λ _. refl };
+
+    ghost meaning = { λ x. fields (⟦<OldGrownForm as ComponentsOf>⟧.root x.components) (⟦<OldGrownForm as ComponentsOf>⟧.added x.components) };
+
+    ghost typed = { type_set _ refl (⟦<OldGrownForm as ComponentsOf>⟧.typed tt) refl refl };
+
+    ghost valued = { λ x. value_set _ (⟦<OldGrownForm as ComponentsOf>⟧.valued tt x.components) };
+
+    ghost valued_under = { λ _ x. value_set _ (⟦<OldGrownForm as ComponentsOf>⟧.valued tt x.components) };
+}
+
+impl AsnType for OldGrown {
+    const TAG: Tag = Tag::SET;
+
+    fn tag_tree() -> TagTree<'static> {
+        TagTree::of(Tag::SET)
+    }
+
+    fn constraints() -> Constraints<'static> {
+        Constraints::NONE
+    }
+}
+
+impl Encode for OldGrown {
+    fn encode_with_tag_and_constraints<E: Encoder>(
+        &self,
+        encoder: &mut E,
+        tag: Tag,
+        _constraints: Constraints,
+    ) -> Result<(), EncodeError> {
+        encoder.encode_set(tag, true, 1, &Lent(&self.components))
+    }
+}
+
+impl Decode for OldGrown {
+    fn decode_with_tag_and_constraints<D: Decoder>(
+        alloc: Global,
+        decoder: &mut D,
+        tag: Tag,
+        _constraints: Constraints,
+    ) -> Result<Self, DecodeError> {
+        let components = decoder.decode_set(alloc, tag, true, 1)?;
+        Ok(OldGrown { components })
+    }
+}
+
+type Next = AddedOptionalComponent<Tagged<2, u8>, NoMore>;
+
+/// What the other version has, and `next [2] INTEGER (0..255) OPTIONAL` behind it.
+impl Extends<OldGrown> for Grown {
+    ghost extends = { set_gains_additions ⟦<OldGrownForm as ComponentsOf>⟧.table ⟦<Next as AdditionsOf>⟧.additions ⟦<OldGrown as Described>⟧.typed.lawful refl };
+
+    ghost old_unfolds = { set_unfolds ⟦<OldGrownForm as ComponentsOf>⟧.table (field_unfolds constant_unfolds (field_unfolds constant_unfolds no_fields_unfold)) (field_unfolds constant_unfolds no_fields_unfold) };
+
+    ghost unfolds = { set_unfolds _ (field_unfolds constant_unfolds (field_unfolds constant_unfolds no_fields_unfold)) (field_unfolds constant_unfolds (field_unfolds constant_unfolds no_fields_unfold)) };
 }

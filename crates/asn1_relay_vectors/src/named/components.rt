@@ -3,8 +3,9 @@ use crate::judged::{Of, OfBlocks};
 use crate::judging::judge;
 use crate::line::{Line, LineError};
 use crate::named::program::judge_program;
+use asn1_relay_types::NewRequired;
 use asn1_relay_vectors_types::{
-    Demand, ListOfOneOrTwo, Noted, Nothing, Offset, Outer, Person, Schedule, Twelve,
+    ListOfOneOrTwo, Noted, Nothing, Offset, Outer, Person, Schedule, Twelve,
 };
 use asn1_schema_example::control::Control;
 use asn1_schema_example::gauge::Gauge;
@@ -34,7 +35,7 @@ pub fn judge_components(alloc: Global, line: &Line<'_>) -> Result<(), LineError>
         "gauge" => judge(alloc, &Of::<Gauge>(PhantomData), line),
         "grown" => judge(alloc, &Of::<Grown>(PhantomData), line),
         "noted" => judge(alloc, &Of::<Noted>(PhantomData), line),
-        "demand" => judge(alloc, &Of::<Demand>(PhantomData), line),
+        "demand" => judge(alloc, &Of::<NewRequired>(PhantomData), line),
         "schedule" => judge(alloc, &Of::<Schedule>(PhantomData), line),
         _ => judge_program(alloc, line),
     }

@@ -40,8 +40,8 @@ pub trait Versions {
         octets: &[u8],
     ) -> Option<Result<Vec<u8>, RouteFault>>;
 
-    /// What is to come of the encoding of the sample at a place, sent by hops. Where there is no hop, it is this encoding. None if there is no
-    /// such sample.
+    /// What is to come of the encoding of the sample at a place, sent by hops. Where there is no hop, it is this
+    /// encoding. None if there is no such sample.
     fn foretell(
         &self,
         alloc: Global,

@@ -4,7 +4,11 @@ use crate::routes::foretold::{Between, Grown, Unforetold};
 use crate::routes::{Claim, judge};
 use asn1_relay_core::DecodeError;
 use asn1_relay_types::{New, NewColour, NewDefault, NewRequired, Old, OldColour, OldDefault};
-use asn1_relay_vectors_types::{Nested, NewBag, NewList, Newest, OldBag, OldList};
+use asn1_relay_vectors_types::{
+    Nested, NewBag, NewBracket, NewHolder, NewList, Newest, OldBag, OldBracket, OldGrown,
+    OldHolder, OldList, OldVersioned, Versioned,
+};
+use asn1_schema_example::grown;
 use asn1_schema_wrapped::Implicit;
 use std::alloc::Global;
 use std::marker::PhantomData;
@@ -32,11 +36,14 @@ pub fn judge_pair(alloc: Global, name: &str, claim: &Claim) -> Result<(), LineEr
             &Between::<OldColour, NewColour>(PhantomData, PhantomData),
             claim,
         ),
-        "nested" => judge(
-            alloc,
-            &Unforetold::<Old, Nested>(PhantomData, PhantomData),
-            claim,
-        ),
+        _ => judge_grown(alloc, name, claim),
+    }
+}
+
+/// Judges what is said of a pair that has no samples: of components that have grown, and of lists; or of one of those
+/// behind it.
+fn judge_grown(alloc: Global, name: &str, claim: &Claim) -> Result<(), LineError> {
+    match name {
         "list" => judge(
             alloc,
             &Unforetold::<OldList, NewList>(PhantomData, PhantomData),
@@ -45,6 +52,38 @@ pub fn judge_pair(alloc: Global, name: &str, claim: &Claim) -> Result<(), LineEr
         "bag" => judge(
             alloc,
             &Unforetold::<OldBag, NewBag>(PhantomData, PhantomData),
+            claim,
+        ),
+        "within" => judge(
+            alloc,
+            &Unforetold::<OldHolder, NewHolder>(PhantomData, PhantomData),
+            claim,
+        ),
+        "group" => judge(
+            alloc,
+            &Unforetold::<OldBracket, NewBracket>(PhantomData, PhantomData),
+            claim,
+        ),
+        _ => judge_longer(alloc, name, claim),
+    }
+}
+
+/// Judges what is said of a pair whose newer version has a further addition or alternative.
+fn judge_longer(alloc: Global, name: &str, claim: &Claim) -> Result<(), LineError> {
+    match name {
+        "nested" => judge(
+            alloc,
+            &Unforetold::<Old, Nested>(PhantomData, PhantomData),
+            claim,
+        ),
+        "choice" => judge(
+            alloc,
+            &Unforetold::<OldVersioned, Versioned>(PhantomData, PhantomData),
+            claim,
+        ),
+        "set" => judge(
+            alloc,
+            &Unforetold::<OldGrown, grown::Grown>(PhantomData, PhantomData),
             claim,
         ),
         "later" => judge(

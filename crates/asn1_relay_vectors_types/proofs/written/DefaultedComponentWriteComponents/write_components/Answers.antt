@@ -1,0 +1,12 @@
+use Rattle.asn1_schema_presented.proofs.Joined.{raised}
+use Rattle.asn1_schema_encode.proofs.Writing.{writes_field, cannot_field, cannot_field_here}
+use Rattle.asn1_relay_vectors_types.proofs.written.DefaultedComponentWriteComponents.write_components.Goals as goal
+
+pub returns-in_err-encode_default-clause-only : goal.returns-in_err-encode_default-clause-only
+returns-in_err-encode_default-clause-only g c = raised _ _ _ c.from_residual.ensures.1 (cannot_field_here _ _ _ _ c.in_err-encode_default.ensures.only)
+
+pub returns-in_err-write_components-clause-only : goal.returns-in_err-write_components-clause-only
+returns-in_err-write_components-clause-only g c = let one = g.met.E.Encoder.one_after in raised _ _ _ c.from_residual-in_err-write_components.ensures.1 (cannot_field one _ c.in_ok-encode_default.ensures.ok c.in_err-write_components.ensures.only)
+
+pub returns-clause-ok : goal.returns-clause-ok
+returns-clause-ok g c = writes_field _ c.in_ok-encode_default.ensures.ok c.in_ok-write_components.ensures.ok
