@@ -111,8 +111,8 @@ impl Listed for OffsetForm {
     }
 }
 
-/// SEQUENCE {number INTEGER, middle SEQUENCE {number INTEGER, inner SEQUENCE {number INTEGER, last [0] INTEGER OPTIONAL}
-/// OPTIONAL}}.
+/// SEQUENCE {number INTEGER, middle SEQUENCE {number INTEGER, inner SEQUENCE {number INTEGER,
+/// last [0] INTEGER OPTIONAL} OPTIONAL}}.
 pub type Outer = Sequence<OuterForm>;
 
 type OuterForm = RequiredComponent<Integer, RequiredComponent<Sequence<MiddleForm>, End>>;
@@ -175,8 +175,8 @@ impl Listed for InnerForm {
     }
 }
 
-/// SEQUENCE {required INTEGER, first [0] INTEGER OPTIONAL, second [1] INTEGER OPTIONAL, and so on to twelfth [11] INTEGER
-/// OPTIONAL}.
+/// SEQUENCE {required INTEGER, first [0] INTEGER OPTIONAL, second [1] INTEGER OPTIONAL, and so on to
+/// twelfth [11] INTEGER OPTIONAL}.
 pub type Twelve = Sequence<TwelveForm>;
 
 type Maybe<const NUMBER: u32, R> = OptionalComponent<Tagged<NUMBER, Integer>, R>;
@@ -194,9 +194,9 @@ impl Listed for TwelveForm {
 
     ghost value = { λ x. fields (⟦<TwelveForm as ComponentsOf>⟧.root x) (⟦<TwelveForm as ComponentsOf>⟧.added x) };
 
-    ghost lawful = { type_sequence _ refl (⟦<TwelveForm as ComponentsOf>⟧.typed tt) refl };
+    ghost lawful = { type_sequence ⟦<TwelveForm as ComponentsOf>⟧.table refl (⟦<TwelveForm as ComponentsOf>⟧.typed tt) refl };
 
-    ghost each = { λ x. value_sequence _ (⟦<TwelveForm as ComponentsOf>⟧.valued tt x) };
+    ghost each = { λ x. value_sequence ⟦<TwelveForm as ComponentsOf>⟧.table (⟦<TwelveForm as ComponentsOf>⟧.valued tt x) };
 
     fn write<E: Encoder>(&self, encoder: &mut E, tag: Tag) -> Result<(), EncodeError> {
         encoder.encode_sequence(tag, 12, &Lent(self))
@@ -207,8 +207,8 @@ impl Listed for TwelveForm {
     }
 }
 
-/// SEQUENCE {flag BOOLEAN, fixed [0] SEQUENCE (SIZE (2)) OF OCTET STRING (SIZE (3)), ranged [1] SEQUENCE (SIZE (1..2)) OF
-/// OCTET STRING (SIZE (3)), trailer INTEGER (0..255)}.
+/// SEQUENCE {flag BOOLEAN, fixed [0] SEQUENCE (SIZE (2)) OF OCTET STRING (SIZE (3)), ranged [1]
+/// SEQUENCE (SIZE (1..2)) OF OCTET STRING (SIZE (3)), trailer INTEGER (0..255)}.
 pub type Blocks = Sequence<BlocksForm>;
 
 type RangedForm = RequiredComponent<
