@@ -1,7 +1,7 @@
 -- What a run did that answered one message.
 use Rattle.std.proofs.Common.{OnOk, IfErr, MatchResult, ◌≡◌, ℕ, List, Option, Result, Ok, Err, sym, subst}
 use Rattle.std.specs.Io.KnownBytes.{Appends}
-use Rattle.asn1_relay_streams.specs.Ends.{BeginsToAppend}
+use Rattle.asn1_relay_core.specs.Ends.{BeginsToAppend}
 use Rattle.asn1_relay_command.specs.Runs.{IsCutOff, IsWritten}
 use Rattle.asn1_relay_command.specs.declared.fault.Fault.{Fault}
 use Rattle.asn1_relay_command.specs.declared.fault.Fault.TheVariants as fault

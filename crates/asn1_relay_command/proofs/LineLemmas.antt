@@ -4,7 +4,7 @@ use Rattle.std.specs.Borrow.{Bor}
 use Rattle.std.specs.Io.KnownBytes.{Appends}
 use Rattle.std.proofs.KnownBytes.{Appends-trans}
 use Rattle.std.proofs.lemmas.List.{append-nil}
-use Rattle.asn1_relay_streams.specs.Ends.{BeginsToAppend}
+use Rattle.asn1_relay_core.specs.Ends.{BeginsToAppend}
 use Rattle.std.specs.Prelude.{decimal}
 use Rattle.asn1_relay_command.specs.Lines.{behind_place, joined, line_of, place_of, text_of}
 use Rattle.asn1_relay_command.specs.declared.fault.Fault.{Fault}

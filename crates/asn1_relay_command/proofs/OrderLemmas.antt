@@ -24,7 +24,7 @@ use Rattle.clap.proofs.WalkLemmas.{both, first_value-rows, one_text-rows, raw_va
 use Rattle.clap.specs.Matches.{matched_of, raw_values}
 use Rattle.clap.proofs.OnLiterals.{clap_on_literals}
 use Rattle.asn1_relay_command.specs.Orders.{limit_by_text, limit_in_rows, once_in_rows, asked_by, task_in_command, program_app, stream_in_rows, translation_by_names, translation_in_rows, unless_fault, Task, once, stream, route_by_names, route_in_rows, hop_by_name, hops_by_names, hops_in_rows}
-use Rattle.asn1_relay_routes.specs.declared.hop.Hop.{Hop}
+use Rattle.asn1_relay_core.specs.declared.hop.Hop.{Hop}
 use Rattle.asn1_relay_command.specs.declared.order.Translation.{Translation}
 
 simple : is_simple program_app ≡ true

@@ -1,8 +1,8 @@
 -- What the program says on standard error of a fault that stops it.
 use Rattle.std.specs.Prelude.{ℕ, List, [], ◌∷◌, ◌++◌, Option, Some, None, codes, decimal}
 use Rattle.std.specs.Borrow.{Bor}
-use Rattle.asn1_relay_streams.specs.declared.fault.RelayFaultKind.{RelayFaultKind}
-use Rattle.asn1_relay_streams.specs.declared.fault.RelayFaultKind.TheVariants as kind
+use Rattle.asn1_relay_core.specs.declared.fault.RelayFaultKind.{RelayFaultKind}
+use Rattle.asn1_relay_core.specs.declared.fault.RelayFaultKind.TheVariants as kind
 use Rattle.asn1_relay_command.specs.declared.fault.Fault.{Fault}
 use Rattle.asn1_relay_command.specs.declared.fault.Fault.TheVariants as fault
 use Rattle.asn1_relay_command.specs.declared.fault.HopFault.{HopFault}

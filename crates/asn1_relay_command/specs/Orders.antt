@@ -16,9 +16,9 @@ use Rattle.asn1_relay_command.specs.declared.order.Order.{Order}
 use Rattle.asn1_relay_command.specs.declared.order.Order.TheVariants as order
 use Rattle.asn1_relay_command.specs.declared.order.Pair.{Pair}
 use Rattle.asn1_relay_command.specs.declared.order.Pair.TheVariants as pair
-use Rattle.asn1_relay_routes.specs.declared.hop.Hop.{Hop}
-use Rattle.asn1_relay_routes.specs.declared.hop.Version.{Version}
-use Rattle.asn1_relay_routes.specs.declared.hop.Version.TheVariants.{Old, New}
+use Rattle.asn1_relay_core.specs.declared.hop.Hop.{Hop}
+use Rattle.asn1_relay_core.specs.declared.hop.Version.{Version}
+use Rattle.asn1_relay_core.specs.declared.hop.Version.TheVariants.{Old, New}
 use Rattle.asn1_relay_command.specs.declared.order.Translation.{Translation}
 
 -- ---- the grammar

@@ -8,18 +8,18 @@ use Rattle.asn1_relay_core.specs.Coding.{rules_of}
 use Rattle.asn1_relay_core.specs.Recoding.{Answer, IsAnswer, answered, not_an_encoding, surplus, no_target}
 use Rattle.asn1_relay_core.specs.declared.translation.RecodeFault.{RecodeFault}
 use Rattle.asn1_relay_core.specs.declared.translation.RecodeFault.TheVariants as recode_fault
-use Rattle.asn1_relay_streams.specs.Ends.{BeginsToAppend}
-use Rattle.asn1_relay_streams.specs.Running.{IsDone, RunFaultOf, ends}
-use Rattle.asn1_relay_streams.specs.declared.running.RunFault.{RunFault}
-use Rattle.asn1_relay_streams.specs.declared.running.RunFault.TheVariants as run_fault
+use Rattle.asn1_relay_core.specs.Ends.{BeginsToAppend}
+use Rattle.asn1_relay_core.specs.Running.{IsDone, RunFaultOf, ends}
+use Rattle.asn1_relay_core.specs.declared.running.RunFault.{RunFault}
+use Rattle.asn1_relay_core.specs.declared.running.RunFault.TheVariants as run_fault
 use Rattle.asn1_relay_command.specs.Lines.{line_of}
 use Rattle.asn1_relay_command.specs.Kinds.{newer_named, older_named, schema_named}
 use Rattle.asn1_relay_command.specs.Orders.{Route, Task, once, stream, route}
-use Rattle.asn1_relay_routes.specs.Routing.{IsOutcome, Outcome, Reaches, arrived, refused, hops_of}
-use Rattle.asn1_relay_routes.specs.declared.fault.RouteFault.{RouteFault}
-use Rattle.asn1_relay_routes.specs.declared.fault.RouteFaultKind.{RouteFaultKind}
-use Rattle.asn1_relay_routes.specs.declared.fault.RouteFaultKind.TheVariants as route_fault
-use Rattle.asn1_relay_routes.specs.declared.hop.Hop.{Hop}
+use Rattle.asn1_relay_core.specs.Routing.{IsOutcome, Outcome, Reaches, arrived, refused, hops_of}
+use Rattle.asn1_relay_core.specs.declared.route_fault.RouteFault.{RouteFault}
+use Rattle.asn1_relay_core.specs.declared.route_fault.RouteFaultKind.{RouteFaultKind}
+use Rattle.asn1_relay_core.specs.declared.route_fault.RouteFaultKind.TheVariants as route_fault
+use Rattle.asn1_relay_core.specs.declared.hop.Hop.{Hop}
 use Rattle.asn1_relay_command.specs.declared.fault.Fault.{Fault}
 use Rattle.asn1_relay_command.specs.declared.fault.Fault.TheVariants as fault
 use Rattle.asn1_relay_command.specs.declared.fault.HopFault.{HopFault}

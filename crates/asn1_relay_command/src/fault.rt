@@ -1,12 +1,12 @@
 //! Why the program stops, and what it says of it.
 ghost use Rattle.std.specs.Prelude.{◌≡◌, OnOk};
 ghost use Rattle.std.specs.Io.KnownBytes.{Appends};
-ghost use Rattle.asn1_relay_streams.specs.Ends.{BeginsToAppend};
+ghost use Rattle.asn1_relay_core.specs.Ends.{BeginsToAppend};
 ghost use Rattle.asn1_relay_command.specs.Lines.{joined, line_of, place_of, text_at_hop, text_at_message, text_of};
 
-use asn1_relay_core::RecodeFault;
-use asn1_relay_routes::{RouteFault, RouteFaultKind};
-use asn1_relay_streams::{RelayFault, RelayFaultKind, RunFault, write_octets};
+use asn1_relay_core::{
+    RecodeFault, RelayFault, RelayFaultKind, RouteFault, RouteFaultKind, RunFault, write_octets,
+};
 use itoa::Buffer;
 use std::alloc::AllocError;
 use std::io::{self, Write};

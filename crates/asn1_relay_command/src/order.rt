@@ -9,8 +9,7 @@ ghost use Rattle.asn1_relay_command.specs.Orders.{limit_rule, once_in_rows, opti
 ghost use Rattle.asn1_relay_command.specs.Orders.{route_app, route_by_names, route_in_rows, stream_in_rows};
 ghost use Rattle.asn1_relay_command.specs.Orders.{task_in_command, task_of, translating_app, translation_by_names};
 
-use asn1_relay_core::Codec;
-use asn1_relay_routes::{Hop, Version};
+use asn1_relay_core::{Codec, Hop, Version};
 use clap::error::ErrorKind;
 use clap::{Arg, ArgAction, ArgMatches, Command, Error, value_parser};
 use std::alloc::{AllocError, Global};

@@ -4,9 +4,9 @@ ghost use Rattle.std.specs.Io.KnownBytes.{Appends, Keeps};
 ghost use Rattle.std.specs.IoError.{error_kind};
 ghost use Rattle.clap.specs.Words.{kind_of};
 ghost use Rattle.asn1_relay_core.specs.Recoding.{answered};
-ghost use Rattle.asn1_relay_streams.specs.Ends.{BeginsToAppend};
+ghost use Rattle.asn1_relay_core.specs.Ends.{BeginsToAppend};
 ghost use Rattle.asn1_relay_command.specs.Lines.{line_of, not_text_line};
-ghost use Rattle.asn1_relay_routes.specs.Routing.{arrived};
+ghost use Rattle.asn1_relay_core.specs.Routing.{arrived};
 ghost use Rattle.asn1_relay_command.specs.Orders.{CanBeDone, asked_by, task_of};
 ghost use Rattle.asn1_relay_command.specs.Runs.{Becomes, BecomesAs, ComesAs, ComesBy, Does, DoesOnce, DoesRoute};
 ghost use Rattle.asn1_relay_command.specs.Runs.{DoesStream, DoesStreamAs, HasDone, HasFailed, HasRefused, IsAllRead};
@@ -15,9 +15,9 @@ ghost use Rattle.asn1_relay_command.specs.Runs.{StopsOnceBy, StopsRouteBy, Stops
 
 use crate::fault::Fault;
 use crate::order::{Kind, Order, Pair, Translation, read_order};
-use asn1_relay_core::{Codec, recode};
-use asn1_relay_routes::{Extends, Hop, route};
-use asn1_relay_streams::{RunFault, StdSink, StdSource, run, write_octets};
+use asn1_relay_core::{
+    Codec, Extends, Hop, RunFault, StdSink, StdSource, recode, route, run, write_octets,
+};
 use asn1_relay_types::{
     self as types, Bag, Group, Nest, New, NewColour, NewDefault, NewRequired, Octets, Old,
     OldColour, OldDefault, Set, Small,

@@ -1,2 +1,9 @@
 pub mod Coding
 pub mod Recoding
+pub mod Relaying
+pub mod Fronts
+pub mod Ends
+pub mod Memory
+pub mod Running
+pub mod Routing
+pub mod OlderRelays

@@ -4,8 +4,9 @@ use crate::fakes::{FakeReader, FakeWriter, Step};
 use asn1_relay_command::{
     Fault, Kind, Order, Translation, command, read_order, refuse_arguments, translate_all,
 };
-use asn1_relay_core::{Codec, DecodeError, EncodeError, RecodeFault};
-use asn1_relay_streams::{RelayFault, RelayFaultKind, RunFault};
+use asn1_relay_core::{
+    Codec, DecodeError, EncodeError, RecodeFault, RelayFault, RelayFaultKind, RunFault,
+};
 use std::alloc::Global;
 use std::io::{Error, ErrorKind, Write};
 use std::process::Abort;

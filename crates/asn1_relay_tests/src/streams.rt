@@ -4,9 +4,8 @@ ghost use Rattle.asn1_schema_constraints.specs.declared.bounds.Bounded.{Bounded}
 ghost use Rattle.asn1_schema_presented.proofs.TypesByKind.{type_list};
 
 use crate::assertions::assert_same;
-use asn1_relay_core::{Codec, DecodeError};
-use asn1_relay_streams::{
-    MemorySink, MemorySource, Relay, RelayFault, RelayFaultKind, RunFault, run,
+use asn1_relay_core::{
+    Codec, DecodeError, MemorySink, MemorySource, Relay, RelayFault, RelayFaultKind, RunFault, run,
 };
 use asn1_relay_types::{New, Small};
 use asn1_schema_constraints::{Bounded, Constraints, Extensible, Size};

@@ -1,8 +1,10 @@
 //! What is done with octets of a type, whichever it is.
 use crate::limits::Limits;
 use crate::streams::{Relayed, Way};
-use asn1_relay_core::{Codec, DecodeError, EncodeError, RecodeFault, recode};
-use asn1_relay_streams::{MemorySink, MemorySource, Relay, RunFault, run};
+use asn1_relay_core::{
+    Codec, DecodeError, EncodeError, MemorySink, MemorySource, RecodeFault, Relay, RunFault,
+    recode, run,
+};
 use asn1_relay_vectors_types::Blocks;
 use asn1_schema_constraints::Constraints;
 use asn1_schema_decode::Decode;

@@ -2,8 +2,7 @@
 use crate::limits::Limits;
 use crate::octets::push_octets;
 use crate::streams::Limit;
-use asn1_relay_core::{Codec, DecodeError, EncodeError, RecodeFault};
-use asn1_relay_streams::{RelayFault, RelayFaultKind};
+use asn1_relay_core::{Codec, DecodeError, EncodeError, RecodeFault, RelayFault, RelayFaultKind};
 use std::alloc::{AllocError, Global};
 use std::fmt::Debug;
 use thiserror::Error;

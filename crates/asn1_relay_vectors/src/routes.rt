@@ -6,8 +6,7 @@ mod pairs;
 use crate::line::{LineError, READING_ERRORS, Spelled, WRITING_ERRORS, named, read_rules};
 use crate::octets::{push_octets, shown};
 use crate::routes::foretold::Versions;
-use asn1_relay_core::Codec;
-use asn1_relay_routes::{Hop, RouteFault, RouteFaultKind, Version};
+use asn1_relay_core::{Codec, Hop, RouteFault, RouteFaultKind, Version};
 use std::alloc::{AllocError, Global};
 use std::fmt::Write;
 

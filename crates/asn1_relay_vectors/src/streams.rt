@@ -4,8 +4,7 @@ ghost use Rattle.std.specs.Prelude.{◌≤◌};
 use crate::judged::Judged;
 use crate::line::{LineError, Spelled};
 use crate::octets::shown;
-use asn1_relay_core::Codec;
-use asn1_relay_streams::{RelayFault, RelayFaultKind, RunFault};
+use asn1_relay_core::{Codec, RelayFault, RelayFaultKind, RunFault};
 use std::alloc::{AllocError, Global};
 
 /// Streams of no more octets are cut in every way, and others at one place alone, or at each.

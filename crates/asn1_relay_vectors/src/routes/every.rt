@@ -3,7 +3,7 @@ use crate::judging::CODECS;
 use crate::line::LineError;
 use crate::routes::arrives;
 use crate::routes::foretold::Versions;
-use asn1_relay_routes::{Hop, Version};
+use asn1_relay_core::{Hop, Version};
 use std::alloc::{AllocError, Global};
 
 /// How many samples of a pair are sent.

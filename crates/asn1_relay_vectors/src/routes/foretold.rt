@@ -1,6 +1,7 @@
 //! What comes of a message on a route, told from its value: no hop reads what the hop in front of it wrote.
-use asn1_relay_core::{Codec, DecodeError};
-use asn1_relay_routes::{Extends, Hop, RouteFault, RouteFaultKind, Version, route};
+use asn1_relay_core::{
+    Codec, DecodeError, Extends, Hop, RouteFault, RouteFaultKind, Version, route,
+};
 use asn1_schema_decode::Decode;
 use asn1_schema_encode::Encode;
 use std::alloc::Global;

@@ -1,7 +1,7 @@
 use Rattle.std.proofs.Common.{OnOk, subst}
 use Rattle.std.specs.Io.KnownBytes.{Appends}
 use Rattle.asn1_relay_core.specs.Recoding.{answered}
-use Rattle.asn1_relay_streams.specs.Ends.{BeginsToAppend}
+use Rattle.asn1_relay_core.specs.Ends.{BeginsToAppend}
 use Rattle.asn1_relay_command.specs.Runs.{Becomes, IsAnswered, IsTranslated, StopsOnceBy}
 use Rattle.asn1_relay_command.proofs.Answered.{answer_written}
 use Rattle.asn1_relay_command.proofs.program.once.Goals as goal

@@ -1,7 +1,7 @@
 use Rattle.std.proofs.Common.{OnOk, subst}
 use Rattle.std.specs.Io.KnownBytes.{Appends}
-use Rattle.asn1_relay_routes.specs.Routing.{arrived}
-use Rattle.asn1_relay_streams.specs.Ends.{BeginsToAppend}
+use Rattle.asn1_relay_core.specs.Routing.{arrived}
+use Rattle.asn1_relay_core.specs.Ends.{BeginsToAppend}
 use Rattle.asn1_relay_command.specs.Orders.{Route}
 use Rattle.asn1_relay_command.specs.Runs.{ComesBy, IsSent, StopsRouteBy}
 use Rattle.asn1_relay_command.proofs.Answered.{answer_written}

@@ -1,6 +1,6 @@
 use Rattle.std.proofs.Common.{OnOk, ap, ◌∙◌, subst}
 use Rattle.std.specs.Io.KnownBytes.{Appends}
-use Rattle.asn1_relay_streams.specs.Ends.{BeginsToAppend}
+use Rattle.asn1_relay_core.specs.Ends.{BeginsToAppend}
 use Rattle.asn1_relay_command.specs.Lines.{joined}
 use Rattle.asn1_relay_command.proofs.LineLemmas.{line_at_hop, line_at_message, line_without}
 use Rattle.asn1_relay_command.proofs.fault.Fault.write_line.Goals as goal

@@ -1,0 +1,39 @@
+use Rattle.std.proofs.Common.{◌≡◌, ◌⊎◌, ◌∙◌, ◌≤◌, ℕ, eqb, eqb-true, length, List, [], true, false, sym, ap, subst, Some, arith}
+use Rattle.std.proofs.lemmas.List.{nil_from_length}
+use Rattle.asn1_laws_across.specs.Relayed.{Stop, StopsAt}
+use Rattle.asn1_relay_core.specs.Coding.{rules_of}
+use Rattle.asn1_relay_core.specs.declared.fault.RelayFaultKind.TheVariants as kind
+use Rattle.asn1_relay_core.specs.declared.codec.Codec.{Codec}
+use Rattle.asn1_relay_core.specs.Relaying.{Relaying, kind_of_stop}
+use Rattle.asn1_relay_core.specs.Fronts.{RelaysOne}
+use Rattle.asn1_relay_core.proofs.Feeding.{SoFar, one_more, stopped, grown_alike, nothing_fed}
+use Rattle.asn1_relay_core.proofs.relay.Relay.feed.Goals as goal
+
+pub loop-self-preserved : goal.loop-self-preserved
+loop-self-preserved g c =
+    let s = g.T.Described.schema 128 in
+    let way = c.self-in-loop-self.inside.way in
+    let h = subst (λ r. SoFar s c.args.self.now r c.args.piece.now c.args.out.now.items c.loop-self.out.items) (sym c.self-in-loop-self.view_is) c.loop-self.invariant.1 in
+    let one = subst (λ u. RelaysOne (rules_of way.from) (rules_of way.to) s way.limit u c.loop-self.out.items c.relay_front.new.out.items c.in-Relayed.count) c.as_slice.ensures c.in-Relayed.ensures in
+    (c.loop-self.invariant.0, one_more s c.args.self.now c.args.piece.now c.args.out.now.items _ c.loop-self.out.items h _ c.relay_front.new.out.items c.in-Relayed.count one (cc (c.advance.ensures.items, c.saturating_add-self-inside.ensures)))
+
+pub returns-in-Stops-clause-only : goal.returns-in-Stops-clause-only
+returns-in-Stops-clause-only g c =
+    let s = g.T.Described.schema 128 in
+    let way = c.self-in-loop-self.inside.way in
+    let Cause : Codec → Codec → ℕ → List ℕ → Type 0 = λ a b l u. (c.in-Stops.kind ≡ kind.Memory) ⊎ ((why : Stop) × (c.in-Stops.kind ≡ kind_of_stop why) × StopsAt (rules_of a) (rules_of b) s l u (Some why)) in
+    let cause : Cause way.from way.to way.limit c.self-in-loop-self.inside.unread.items = subst (Cause way.from way.to way.limit) c.as_slice.ensures c.in-Stops.ensures.1 in
+    let here : Cause c.loop-self.self.from c.loop-self.self.to c.loop-self.self.limit c.loop-self.self.unread = subst (λ (r : Relaying). Cause r.from r.to r.limit r.unread) c.self-in-loop-self.view_is cause in
+    stopped s c.args.self.now c.args.piece.now c.args.out.now.items c.loop-self.self c.relay_front.new.out.items (grown_alike s c.args.self.now c.args.piece.now c.args.out.now.items c.loop-self.self c.loop-self.out.items c.relay_front.new.out.items c.loop-self.invariant.1 c.in-Stops.ensures.0) _ _ c.in-Stops.kind c.stop-in-Stops.ensures.stops c.stop-in-Stops.ensures.fault c.loop-self.invariant.0 here
+
+pub returns-then-is_empty-2-clause-ok : goal.returns-then-is_empty-2-clause-ok
+returns-then-is_empty-2-clause-ok g c =
+    let had : c.args.self.now.failed ≡ false = sym (ap (λ (r : Relaying). r.failed) c.self.view_is) ∙ c.if-self.false in
+    let number : c.args.self.now.number ≡ c.self.inside.number = sym (ap (λ (r : Relaying). r.number) c.self.view_is) in
+    let ranges = c.self.ranges in
+    let most : c.args.self.now.number ≤ 18446744073709551615 = omega arith in
+    let t : eqb (length c.args.piece.now) 0 ≡ true = cc in
+    let e : eqb (length c.self.inside.unread.items) 0 ≡ true = cc in
+    let p : c.args.piece.now ≡ [] = nil_from_length c.args.piece.now (eqb-true (length c.args.piece.now) 0 t) in
+    let u : c.args.self.now.unread ≡ [] = sym (ap (λ (r : Relaying). r.unread) c.self.view_is) ∙ nil_from_length c.self.inside.unread.items (eqb-true (length c.self.inside.unread.items) 0 e) in
+    nothing_fed (g.T.Described.schema 128) c.args.self.now c.args.piece.now c.args.out.now.items had u p most

@@ -1,0 +1,50 @@
+-- What a relay does to the message in front of its unread octets.
+use Rattle.std.specs.Prelude.{◌≡◌, ◌≢◌, ◌⊎◌, ℕ, Bool, List, [], ◌++◌, length, Some, None, if◌then◌else◌}
+use Rattle.asn1_model.specs.Schema.{Schema}
+use Rattle.asn1_model.specs.Value.{Value}
+use Rattle.asn1_model.specs.Rules.{Rules, canonical}
+use Rattle.asn1_laws_across.specs.Streams.{Message, IsMessage}
+use Rattle.asn1_schema_faults.specs.declared.DecodeError.{DecodeError}
+use Rattle.asn1_schema_faults.specs.declared.DecodeError.TheVariants as Decoding
+use Rattle.asn1_laws_across.specs.Relayed.{Stop, StopsAt}
+use Rattle.asn1_relay_core.specs.declared.fault.RelayFaultKind.{RelayFaultKind}
+use Rattle.asn1_relay_core.specs.declared.fault.RelayFaultKind.TheVariants as kind
+use Rattle.asn1_relay_core.specs.declared.front.Front.{Front}
+use Rattle.asn1_relay_core.specs.declared.front.Front.TheVariants as front
+use Rattle.asn1_relay_core.specs.Coding.{IsWritten}
+use Rattle.asn1_relay_core.specs.Relaying.{kind_of_stop}
+
+-- The message of so many octets is in front, and its translation, which is not empty, was written.
+pub record RelaysOne (source target : Rules) (s : Schema) (limit : ℕ) (w before after : List ℕ) (count : ℕ) : Type 0 where
+  pub message : Message
+  pub is_message : IsMessage source s limit message
+  pub rest : List ℕ
+  pub in_front : message.octets ++ rest ≡ w
+  pub written : List ℕ
+  pub translated : canonical target s message.value ≡ Some written
+  pub is_some : written ≢ []
+  pub counted : length message.octets ≡ count
+  pub grows : after ≡ before ++ written
+
+-- The canonical encoding of a value is written, and is not empty.
+pub record AddsText (target : Rules) (schema : ℕ → Schema) (v : Value) (before after : List ℕ) : Type 0 where
+  pub text : List ℕ
+  pub written : IsWritten target schema v (Some text)
+  pub is_some : text ≢ []
+  pub grows : after ≡ before ++ text
+
+-- Nothing is written: for want of memory, as there is no canonical encoding, or as it is empty.
+pub record AddsNothing (target : Rules) (schema : ℕ → Schema) (v : Value) (before after : List ℕ) (k : RelayFaultKind) : Type 0 where
+  pub same : after ≡ before
+  pub why : (k ≡ kind.Memory) ⊎ ((k ≡ kind.NoTarget) × IsWritten target schema v None) ⊎ ((k ≡ kind.EmptyMessage) × IsWritten target schema v (Some []))
+
+-- What comes of octets in front of which no message is read.
+abbrev pub unread_front : DecodeError → Bool → Front
+unread_front Decoding.OutOfMemory past = front.Stops kind.Memory
+unread_front e past = if past then front.Stops kind.NoneWithinLimit else front.Waits
+
+-- What came of a try: nothing is written but by the first kind, and each of the others comes at its cause alone.
+abbrev pub Tries : Rules → Rules → Schema → ℕ → List ℕ → List ℕ → List ℕ → Front → Type 0
+Tries source target s limit w before after (front.Relayed count) = RelaysOne source target s limit w before after count
+Tries source target s limit w before after front.Waits = (after ≡ before) × StopsAt source target s limit w None
+Tries source target s limit w before after (front.Stops k) = (after ≡ before) × ((k ≡ kind.Memory) ⊎ ((why : Stop) × (k ≡ kind_of_stop why) × StopsAt source target s limit w (Some why)))

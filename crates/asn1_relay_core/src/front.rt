@@ -1,0 +1,92 @@
+//! The message in front of unread octets.
+ghost use Rattle.std.specs.Prelude.{◌≡◌, ◌≢◌, [], IfErr, OnOk};
+ghost use Rattle.asn1_relay_core.specs.Coding.{rules_of};
+ghost use Rattle.asn1_relay_core.specs.Fronts.{AddsNothing, AddsText, Tries, unread_front};
+
+use crate::fault::RelayFaultKind;
+use crate::{Codec, DecodeError, EncodeError};
+use asn1_schema_decode::Decode;
+use asn1_schema_encode::Encode;
+use std::alloc::Global;
+
+/// What came of a try at the message in front.
+#[derive(Clone, Copy, Debug, PartialEq, Eq)]
+pub enum Front {
+    /// It had so many octets, and its translation is written.
+    Relayed(usize),
+    /// More octets are needed to tell whether there is one.
+    Waits,
+    /// The relay stops there.
+    Stops(RelayFaultKind),
+}
+
+/// How a stream is translated.
+#[derive(Clone, Copy, Debug)]
+pub struct Way {
+    /// The rules of the input.
+    pub from: Codec,
+    /// The rules of the output.
+    pub to: Codec,
+    /// How many octets a message may have.
+    pub limit: usize,
+}
+
+/// Translates the message in front of octets, which is sought in the first ones of the limit, and adds its translation.
+pub fn relay_front<T: Encode + Decode>(
+    alloc: Global,
+    way: Way,
+    unread: &[u8],
+    out: &mut Vec<u8>,
+) -> Front
+    requires { unread.now ≢ [] }
+    ensures { Tries (rules_of way.from) (rules_of way.to) (T.schema 128) way.limit unread.now out.old.items out.new.items result }
+{
+    let window = &unread[..way.limit.min(unread.len())];
+    let (value, rest): (T, &[u8]) = match way.from.read_front(alloc, window) {
+        Ok(front) => front,
+        Err(error) => return without_message(error, unread.len() > way.limit),
+    };
+    let count = window.len() - rest.len();
+    if count == 0 {
+        return Front::Stops(RelayFaultKind::EmptyMessage);
+    }
+    match write(alloc, way.to, &value, out) {
+        Ok(()) => Front::Relayed(count),
+        Err(kind) => Front::Stops(kind),
+    }
+}
+
+/// What comes of octets in front of which no message is read, and which may be more than one may have.
+fn without_message(error: DecodeError, is_past_limit: bool) -> Front
+    ensures { result ≡ unread_front error is_past_limit }
+{
+    match error {
+        DecodeError::OutOfMemory => Front::Stops(RelayFaultKind::Memory),
+        _ if is_past_limit => Front::Stops(RelayFaultKind::NoneWithinLimit),
+        _ => Front::Waits,
+    }
+}
+
+/// Adds the canonical encoding of a value, unless it is empty.
+fn write<T: Encode>(
+    alloc: Global,
+    to: Codec,
+    value: &T,
+    out: &mut Vec<u8>,
+) -> Result<(), RelayFaultKind>
+    ensures ok { OnOk result (AddsText (rules_of to) T.schema (T.meaning value.now) out.old.items out.new.items) }
+    ensures only { IfErr result (AddsNothing (rules_of to) T.schema (T.meaning value.now) out.old.items out.new.items) }
+{
+    let octets = match to.encode(alloc, value) {
+        Ok(octets) => octets,
+        Err(EncodeError::OutOfMemory) => return Err(RelayFaultKind::Memory),
+        Err(_) => return Err(RelayFaultKind::NoTarget),
+    };
+    if octets.is_empty() {
+        return Err(RelayFaultKind::EmptyMessage);
+    }
+    match out.extend_from_slice(octets.as_slice()) {
+        Ok(()) => Ok(()),
+        Err(_) => Err(RelayFaultKind::Memory),
+    }
+}

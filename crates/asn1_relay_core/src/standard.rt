@@ -1,0 +1,148 @@
+//! The readers and writers of std.
+ghost use Rattle.std.specs.Prelude.{◌≡◌, Some, OnOk, MatchOption};
+ghost use Rattle.std.specs.Io.KnownBytes.{Appends, Keeps};
+ghost use Rattle.asn1_relay_core.specs.Ends.{BeginsToAppend, Gives};
+
+use crate::ends::{ReadFailed, Sink, Source, WriteFailed};
+use std::io::{self, ErrorKind, Read, Write};
+
+/// A reader of std that may give so many octets. It tells the octets to come that the reader tells.
+#[derive(Debug, Drop)]
+pub struct StdSource<'a, R> {
+    reader: &'a mut R,
+    budget: u64,
+    failed: u64,
+}
+
+impl<'a, R: Read> StdSource<'a, R> {
+    /// This reader, which may give so many octets.
+    pub fn new(reader: &'a mut R, budget: u64) -> StdSource<'a, R>
+        ensures failures { ⟦<StdSource<'a, R> as Source>⟧.failures result ≡ 0 }
+        ensures budget { ⟦<StdSource<'a, R> as Source>⟧.budget result ≡ budget }
+        ensures coming { ⟦<StdSource<'a, R> as Source>⟧.coming result ≡ R.remaining reader.old }
+        ensures lender { ⟦<StdSource<'a, R> as Source>⟧.lender result ≡ Some reader.entry.ghost_name }
+    {
+        StdSource {
+            reader,
+            budget,
+            failed: 0,
+        }
+    }
+}
+
+impl<'a, R: Read> Source for StdSource<'a, R> {
+    ghost failures = { λ s. s.failed };
+
+    ghost budget = { λ s. s.budget };
+
+    ghost coming = { λ s. R.remaining s.reader.now };
+
+    ghost lender = { λ s. Some s.reader.ghost_name };
+
+    fn read(&mut self, room: &mut [u8]) -> Result<usize, ReadFailed> {
+        if self.budget == 0 {
+            self.failed += 1;
+            return Err(ReadFailed);
+        }
+        // It is asked for no more than it may give, so that no octet is lost.
+        let most = room.len().min(self.budget as usize);
+        match read_some(self.reader, &mut room[..most]) {
+            Some(count) => {
+                self.budget -= count as u64;
+                Ok(count)
+            }
+            None => {
+                self.failed += 1;
+                Err(ReadFailed)
+            }
+        }
+    }
+}
+
+/// Reads once, again where it is interrupted: how many octets were given, unless the reader fails.
+fn read_some<R: Read>(reader: &mut R, room: &mut [u8]) -> Option<usize>
+    ensures { MatchOption result (Keeps (R.remaining reader.old) (R.remaining reader.new))
+        (Gives (R.remaining reader.old) (R.remaining reader.new) room.new) }
+{
+    // So many interruptions count as a failure.
+    for _ in 0..u64::MAX {
+        match reader.read(room) {
+            Ok(count) => return Some(count),
+            Err(error) if error.kind() == ErrorKind::Interrupted => {}
+            Err(_) => return None,
+        }
+    }
+    None
+}
+
+/// A writer of std. It tells the octets taken that the writer tells.
+#[derive(Debug, Drop)]
+pub struct StdSink<'a, W> {
+    writer: &'a mut W,
+    failed: u64,
+}
+
+impl<'a, W: Write> StdSink<'a, W> {
+    /// This writer.
+    pub fn new(writer: &'a mut W) -> StdSink<'a, W>
+        ensures failures { ⟦<StdSink<'a, W> as Sink>⟧.failures result ≡ 0 }
+        ensures taken { ⟦<StdSink<'a, W> as Sink>⟧.taken result ≡ W.contents writer.old }
+        ensures lender { ⟦<StdSink<'a, W> as Sink>⟧.lender result ≡ Some writer.entry.ghost_name }
+    {
+        StdSink { writer, failed: 0 }
+    }
+}
+
+impl<'a, W: Write> Sink for StdSink<'a, W> {
+    ghost failures = { λ s. s.failed };
+
+    ghost taken = { λ s. W.contents s.writer.now };
+
+    ghost lender = { λ s. Some s.writer.ghost_name };
+
+    fn write(&mut self, octets: &[u8]) -> Result<(), WriteFailed> {
+        match write_octets(octets, self.writer) {
+            Ok(()) => Ok(()),
+            Err(_) => {
+                self.failed += 1;
+                Err(WriteFailed)
+            }
+        }
+    }
+
+    fn flush(&mut self) -> Result<(), WriteFailed> {
+        match self.writer.flush() {
+            Ok(()) => Ok(()),
+            Err(_) => {
+                self.failed += 1;
+                Err(WriteFailed)
+            }
+        }
+    }
+}
+
+/// Writes all octets.
+///
+/// # Errors
+///
+/// Where the writer fails, or takes none. Then it has taken a beginning of them.
+pub fn write_octets<W: Write>(octets: &[u8], writer: &mut W) -> io::Result<()>
+    ensures all { OnOk result (Appends (W.contents writer.old) (W.contents writer.new) octets.now) }
+    ensures begins { BeginsToAppend (W.contents writer.old) (W.contents writer.new) octets.now }
+{
+    let mut count = 0;
+    // A turn takes an octet, of which there are fewer than 2^64, or is an interruption; so many of those count as a
+    // failure.
+    for _ in 0..u64::MAX {
+        if count == octets.len() {
+            return Ok(());
+        }
+        match writer.write(&octets[count..]) {
+            Ok(0) => return Err(io::Error::from(ErrorKind::WriteZero)),
+            Ok(more) => count += more,
+            Err(error) if error.kind() == ErrorKind::Interrupted => {}
+            Err(error) => return Err(error),
+        }
+    }
+    Err(io::Error::from(ErrorKind::Interrupted))
+}

@@ -1,2 +1,0 @@
-pub mod Routing
-pub mod OlderRelays
