@@ -24,5 +24,5 @@ awk '
         if (wrong) { print "the sums differ"; exit 1 }
         print "| 10^6 messages | `recode`, hop by hop | `route` | ratio |\n|---|---|---|---|"
         for (n = 1; n <= 3; n++)
-            printf "| %d hop%s | %.0f | %.0f | %.2f |\n", n, n > 1 ? "s" : "", best["recode_" n] / 1000, best["route_" n] / 1000, best["route_" n] / best["recode_" n]
+            printf "| %d hop%s | %.0f | %.0f | %.2f |\n", n, (n > 1 ? "s" : ""), best["recode_" n] / 1000, best["route_" n] / 1000, best["route_" n] / best["recode_" n]
     }' "$work/times"
