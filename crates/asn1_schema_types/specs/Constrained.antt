@@ -1,11 +1,16 @@
 -- Whole numbers within a range, as types of the model (X.680 51.4).
-use Rattle.std.proofs.Common.{◌≡◌, ◌∙◌, refl, ap, ℤ, negsuc, Bool, true, false, cond, List, Some, None}
+use Rattle.std.proofs.Common.{◌≡◌, ◌∙◌, refl, ap, ℤ, negsuc, Bool, true, false, cond, List, Option, Some, None}
 use Rattle.asn1_model.specs.Value.{number}
 use Rattle.asn1_model.specs.Schema.{Tag, Range, Schema}
 use Rattle.asn1_model.specs.Numbers.{is_at_most}
 use Rattle.asn1_model.specs.Lawful.{is_range}
 use Rattle.asn1_schema_constraints.specs.Bounds.{later, earlier}
-use Rattle.asn1_schema_constraints.specs.Terms.{Meant, from_to, bounded_by, integer_under}
+use Rattle.asn1_schema_constraints.specs.Sets.{met_values, unconstrained}
+use Rattle.asn1_schema_constraints.specs.Terms.{Meant, no_constraint, from_to, integer_under}
+use Rattle.asn1_schema_constraints.specs.declared.bounds.Bounded.TheVariants.{Range as Between}
+use Rattle.asn1_schema_constraints.specs.declared.parts.Value.{Value}
+use Rattle.asn1_schema_constraints.specs.declared.extensions.Extensible.{Extensible}
+use Rattle.asn1_schema_constraints.specs.declared.lists.Constraints.{Constraints}
 use Rattle.asn1_schema_presented.specs.Tables.{are_tags, IsType, IsValue}
 use Rattle.asn1_schema_presented.proofs.TypesByKind.{integer_type, integer_value}
 use Rattle.asn1_values_natives.specs.Ranges.{natural_range}
@@ -20,7 +25,10 @@ met_range r low high = record {
 -- Constraints, and then a range that the type has of its own: what both admit. The mark of the earlier constraint is
 -- no mark of the later one (X.680 50.8).
 abbrev pub within_range : ℤ → ℤ → Meant → Meant
-within_range low high c = let r = met_range c.bounds.range low high in bounded_by r.low r.high false
+within_range low high c = record no_constraint {
+  bounds = record { range = met_range c.bounds.range low high; extensible = false };
+  is_bounded = true;
+}
 
 -- Every number: what a type of the program without a range of its own holds.
 abbrev pub every_number : Range
@@ -32,7 +40,21 @@ no_integer = integer_under (from_to (negsuc 0) (negsuc 0)) (natural_range 255)
 
 -- INTEGER under constraints and within a range. One whose ends are the wrong way round has no number.
 abbrev pub constrained_type : ℤ → ℤ → Meant → Schema
-constrained_type low high c = cond (is_at_most low high) (integer_under (within_range low high c) every_number) no_integer
+constrained_type low high c =
+    cond (is_at_most low high) (integer_under (within_range low high c) every_number) no_integer
+
+-- The constraints of the program to a root, without a mark.
+abbrev pub to_root : Value → Constraints
+to_root root = record unconstrained { value = Some (record { constraint = root; extensible = None }) }
+
+-- The value constraint to the numbers from one to another.
+abbrev pub root_between : ℤ → ℤ → Value
+root_between low high = record { value = Between (Some low) (Some high) }
+
+-- A value constraint, where there is one, and then another: what both roots admit.
+abbrev pub met_root : Option (Extensible Value) → Value → Value
+met_root None root = root
+met_root (Some c) root = met_values c.constraint root
 
 -- Either way the same.
 either : {A : Type 0} (b : Bool) (x : A) → cond b x x ≡ x
@@ -40,7 +62,8 @@ either true x = refl
 either false x = refl
 
 -- A range met with itself has its ends the right way round.
-met_ordered : (low high : ℤ) → is_at_most low high ≡ true → is_range (met_range (from_to low high).bounds.range low high) ≡ true
+met_ordered : (low high : ℤ) → is_at_most low high ≡ true
+    → is_range (met_range (from_to low high).bounds.range low high) ≡ true
 met_ordered low high e =
     ap (λ (z : ℤ). is_at_most z (cond (is_at_most high high) high high)) (either (is_at_most low low) low)
     ∙ (ap (λ (z : ℤ). is_at_most low z) (either (is_at_most high high) high) ∙ e)
