@@ -1,6 +1,6 @@
--- What a codec is told of a value under constraints of the program, in one record, and what a decoder is asked for.
+-- What a codec is told of a value under constraints of the program, and what a decoder is asked for.
 use Rattle.std.specs.Prelude.{ℕ, ℤ, Bool, List}
-use Rattle.asn1_model.specs.Schema.{Range, StringKind}
+use Rattle.asn1_model.specs.Schema.{Range, StringKind, Schema}
 use Rattle.asn1_model.specs.Types.{any_count}
 use Rattle.asn1_schema_constraints.specs.Bounds.{counts_of, members_of}
 use Rattle.asn1_schema_constraints.specs.Terms.{bounds_of, held_of, sizes_of, alphabet_of}
@@ -9,6 +9,7 @@ use Rattle.asn1_schema_constraints.specs.declared.lists.Constraints.{Constraints
 use Rattle.asn1_schema_presented.specs.Records.{Record, whole, bits, octets, characters, list_begins, bag_begins}
 use Rattle.asn1_schema_presented.specs.Records.{Question, asks_whole, asks_bits, asks_octets, asks_characters}
 use Rattle.asn1_schema_presented.specs.Records.{asks_list, asks_bag}
+use Rattle.asn1_schema_presented.specs.Tables.{list_type}
 
 -- A number, in a type of the program that holds these numbers (X.680 19).
 abbrev pub whole_under : Constraints → Range → ℤ → Record
@@ -50,3 +51,7 @@ bag_begins_under c held n = bag_begins (sizes_of c.size) (members_of held) n
 
 abbrev pub asks_bag_under : Constraints → Bounded ℕ → Question
 asks_bag_under c held = asks_bag (sizes_of c.size) (members_of held)
+
+-- SEQUENCE OF a type under constraints of the program, in a type that holds so many members (X.680 26).
+abbrev pub list_under : Constraints → Bounded ℕ → (ℕ → Schema) → ℕ → Schema
+list_under c held s = list_type (sizes_of c.size) (members_of held) s
