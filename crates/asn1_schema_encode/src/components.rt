@@ -5,6 +5,7 @@ ghost use Rattle.asn1_model.specs.Schema.{optional, by_default};
 ghost use Rattle.asn1_schema_presented.specs.Presents.{there, left_out};
 ghost use Rattle.asn1_schema_presented.specs.Tables.{marks, sequence_type};
 ghost use Rattle.asn1_schema_presented.specs.Parts.{part_of, part_unless};
+ghost use Rattle.asn1_schema_constraints.specs.Terms.{meant};
 ghost use Rattle.asn1_schema_encode.specs.Writes.{Writes, CannotWrite, WritesPart, CannotWritePart, WritesMarked, CannotWriteMarked, WritesUnless, CannotWriteUnless, WritesTail, CannotWriteTail};
 
 use crate::encode::{Encode, Encoder};
@@ -20,7 +21,8 @@ pub trait EncodeComponents: ComponentsOf {
         ensures ok { OnOk result (WritesTail E.step Self.table (Self.root self.now) (Self.added self.now) encoder.old encoder.new) }
         ensures only { IfErr result (CannotWriteTail E.step Self.table (Self.root self.now) (Self.added self.now) encoder.old) }
         ensures failed { OnErr result (E.has_failed encoder.new) }
-        ensures already { E.has_failed encoder.old → result ≡ Err EncodeError.AlreadyFailed };
+        ensures already { E.has_failed encoder.old → result ≡ Err EncodeError.AlreadyFailed }
+        ensures after { result ≡ Err EncodeError.AlreadyFailed → E.has_failed encoder.old };
 }
 
 impl EncodeComponents for End {
@@ -65,6 +67,7 @@ pub trait EncodeSequence: Encoder {
         ensures only { IfErr result (CannotWritePart Self.step optional T.schema (there (T.meaning value.now)) self.old) }
         ensures failed { OnErr result (Self.has_failed self.new) }
         ensures already { Self.has_failed self.old → result ≡ Err EncodeError.AlreadyFailed }
+        ensures after { result ≡ Err EncodeError.AlreadyFailed → Self.has_failed self.old }
     {
         self.encode_some_with_tag(T::TAG, value)
     }
@@ -81,6 +84,7 @@ pub trait EncodeSequence: Encoder {
         ensures only { IfErr result (CannotWritePart Self.step optional T.schema (there (T.meaning value.now)) self.old) }
         ensures failed { OnErr result (Self.has_failed self.new) }
         ensures already { Self.has_failed self.old → result ≡ Err EncodeError.AlreadyFailed }
+        ensures after { result ≡ Err EncodeError.AlreadyFailed → Self.has_failed self.old }
     {
         self.encode_some_with_tag_and_constraints(tag, value, T::constraints())?;
         Ok(())
@@ -95,10 +99,11 @@ pub trait EncodeSequence: Encoder {
     ) -> Result<(), EncodeError>
     where
         Self: Sized,
-        ensures ok { OnOk result (WritesMarked Self.step (T.under constraints.entry) (T.meaning value.now) self.old self.new) }
-        ensures only { IfErr result (CannotWriteMarked Self.step (T.under constraints.entry) (T.meaning value.now) self.old) }
+        ensures ok { OnOk result (WritesMarked Self.step (T.under (meant constraints.entry)) (T.meaning value.now) self.old self.new) }
+        ensures only { IfErr result (CannotWriteMarked Self.step (T.under (meant constraints.entry)) (T.meaning value.now) self.old) }
         ensures failed { OnErr result (Self.has_failed self.new) }
         ensures already { Self.has_failed self.old → result ≡ Err EncodeError.AlreadyFailed }
+        ensures after { result ≡ Err EncodeError.AlreadyFailed → Self.has_failed self.old }
     {
         self.put_mark(true)?;
         value.encode_with_tag_and_constraints(self, tag, constraints)?;
@@ -113,6 +118,7 @@ pub trait EncodeSequence: Encoder {
         ensures only { IfErr result (CannotWritePart Self.step optional T.schema left_out self.old) }
         ensures failed { OnErr result (Self.has_failed self.new) }
         ensures already { Self.has_failed self.old → result ≡ Err EncodeError.AlreadyFailed }
+        ensures after { result ≡ Err EncodeError.AlreadyFailed → Self.has_failed self.old }
     {
         self.encode_none_with_tag::<T>(T::TAG)
     }
@@ -125,6 +131,7 @@ pub trait EncodeSequence: Encoder {
         ensures only { IfErr result (CannotWritePart Self.step optional T.schema left_out self.old) }
         ensures failed { OnErr result (Self.has_failed self.new) }
         ensures already { Self.has_failed self.old → result ≡ Err EncodeError.AlreadyFailed }
+        ensures after { result ≡ Err EncodeError.AlreadyFailed → Self.has_failed self.old }
     {
         self.put_mark(false)?;
         Ok(())
@@ -138,6 +145,7 @@ pub trait EncodeSequence: Encoder {
         ensures only { IfErr result (CannotWritePart Self.step optional T.schema (part_of T.meaning value.now) self.old) }
         ensures failed { OnErr result (Self.has_failed self.new) }
         ensures already { Self.has_failed self.old → result ≡ Err EncodeError.AlreadyFailed }
+        ensures after { result ≡ Err EncodeError.AlreadyFailed → Self.has_failed self.old }
     {
         match value {
             None => self.encode_none::<T>(),
@@ -157,6 +165,7 @@ pub trait EncodeSequence: Encoder {
         ensures only { IfErr result (CannotWritePart Self.step (by_default V.value) T.schema (part_unless (same (T.meaning value.now) V.value) (T.meaning value.now)) self.old) }
         ensures failed { OnErr result (Self.has_failed self.new) }
         ensures already { Self.has_failed self.old → result ≡ Err EncodeError.AlreadyFailed }
+        ensures after { result ≡ Err EncodeError.AlreadyFailed → Self.has_failed self.old }
     {
         self.encode_default_with_tag::<V, T>(T::TAG, value)
     }
@@ -173,6 +182,7 @@ pub trait EncodeSequence: Encoder {
         ensures only { IfErr result (CannotWritePart Self.step (by_default V.value) T.schema (part_unless (same (T.meaning value.now) V.value) (T.meaning value.now)) self.old) }
         ensures failed { OnErr result (Self.has_failed self.new) }
         ensures already { Self.has_failed self.old → result ≡ Err EncodeError.AlreadyFailed }
+        ensures after { result ≡ Err EncodeError.AlreadyFailed → Self.has_failed self.old }
     {
         self.encode_default_with_tag_and_constraints::<V, T>(tag, value, T::constraints())?;
         Ok(())
@@ -186,10 +196,11 @@ pub trait EncodeSequence: Encoder {
     ) -> Result<(), EncodeError>
     where
         Self: Sized,
-        ensures ok { OnOk result (WritesUnless (same (T.meaning value.now) V.value) Self.step (T.under constraints.entry) (T.meaning value.now) self.old self.new) }
-        ensures only { IfErr result (CannotWriteUnless (same (T.meaning value.now) V.value) Self.step (T.under constraints.entry) (T.meaning value.now) self.old) }
+        ensures ok { OnOk result (WritesUnless (same (T.meaning value.now) V.value) Self.step (T.under (meant constraints.entry)) (T.meaning value.now) self.old self.new) }
+        ensures only { IfErr result (CannotWriteUnless (same (T.meaning value.now) V.value) Self.step (T.under (meant constraints.entry)) (T.meaning value.now) self.old) }
         ensures failed { OnErr result (Self.has_failed self.new) }
         ensures already { Self.has_failed self.old → result ≡ Err EncodeError.AlreadyFailed }
+        ensures after { result ≡ Err EncodeError.AlreadyFailed → Self.has_failed self.old }
     {
         self.encode_default_with_tag_and_constraints::<V, T>(T::TAG, value, constraints)
     }
@@ -203,10 +214,11 @@ pub trait EncodeSequence: Encoder {
     ) -> Result<(), EncodeError>
     where
         Self: Sized,
-        ensures ok { OnOk result (WritesUnless (same (T.meaning value.now) V.value) Self.step (T.under constraints.entry) (T.meaning value.now) self.old self.new) }
-        ensures only { IfErr result (CannotWriteUnless (same (T.meaning value.now) V.value) Self.step (T.under constraints.entry) (T.meaning value.now) self.old) }
+        ensures ok { OnOk result (WritesUnless (same (T.meaning value.now) V.value) Self.step (T.under (meant constraints.entry)) (T.meaning value.now) self.old self.new) }
+        ensures only { IfErr result (CannotWriteUnless (same (T.meaning value.now) V.value) Self.step (T.under (meant constraints.entry)) (T.meaning value.now) self.old) }
         ensures failed { OnErr result (Self.has_failed self.new) }
         ensures already { Self.has_failed self.old → result ≡ Err EncodeError.AlreadyFailed }
+        ensures after { result ≡ Err EncodeError.AlreadyFailed → Self.has_failed self.old }
     {
         if V::is_default(value) {
             self.put_mark(false)?;
@@ -232,6 +244,7 @@ pub trait EncodeSequence: Encoder {
         ensures only { IfErr result (CannotWrite Self.step (sequence_type C.table) (fields (C.root components.now) (C.added components.now)) self.old) }
         ensures failed { OnErr result (Self.has_failed self.new) }
         ensures already { Self.has_failed self.old → result ≡ Err EncodeError.AlreadyFailed }
+        ensures after { result ≡ Err EncodeError.AlreadyFailed → Self.has_failed self.old }
     {
         self.begin_sequence(tag, false, optional)?;
         components.encode_components(self)?;

@@ -29,6 +29,7 @@ pub trait EncodeList: Encoder {
         ensures only { IfErr result (CannotWrite Self.step (list_type (sizes_of constraints.entry.size) (members_of held) T.schema) (members (values_of T.meaning items.now)) self.old) }
         ensures failed { OnErr result (Self.has_failed self.new) }
         ensures already { Self.has_failed self.old → result ≡ Err EncodeError.AlreadyFailed }
+        ensures after { result ≡ Err EncodeError.AlreadyFailed → Self.has_failed self.old }
     {
         self.begin_list(tag, constraints, held, items.len())?;
         for item in items {
