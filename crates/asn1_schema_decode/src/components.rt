@@ -2,6 +2,7 @@
 ghost use Rattle.std.specs.Prelude.{◌≡◌, ◌+◌, false, OnOk, OnErr, IfErr, IfOk};
 ghost use Rattle.asn1_model.specs.Value.{fields, same};
 ghost use Rattle.asn1_model.specs.Schema.{optional, by_default};
+ghost use Rattle.asn1_schema_constraints.specs.Terms.{meant};
 ghost use Rattle.asn1_schema_presented.specs.Tables.{marks, sequence_type};
 ghost use Rattle.asn1_schema_presented.specs.Parts.{part_of, part_unless};
 ghost use Rattle.asn1_schema_decode.specs.Reads.{Reads, Unread, ReadsPart, UnreadPart, ReadsOptional, UnreadOptional};
@@ -23,7 +24,7 @@ pub trait DecodeComponents: ComponentsOf + Drop {
     fn decode_components<D: Decoder>(alloc: Global, decoder: &mut D) -> Result<Self, DecodeError>
         ensures ok { IfOk result
             (λ x. ReadsTail D.step Self.table (D.levels decoder.old) (Self.root x) (Self.added x)
-                decoder.old decoder.new) }
+            decoder.old decoder.new) }
         ensures level { OnOk result (D.levels decoder.new ≡ D.levels decoder.old + 1) }
         ensures only { IfErr result (UnreadTail D.step Self.table (D.levels decoder.old) decoder.old) }
         ensures failed { OnErr result (D.has_failed decoder.new) }
@@ -71,7 +72,7 @@ pub trait DecodeSequence: Decoder {
         Self: Sized,
         ensures ok { IfOk result
             (λ x. ReadsPart Self.step optional T.schema (Self.levels self.old) (part_of T.meaning x)
-                self.old self.new) }
+            self.old self.new) }
         ensures level { OnOk result (Self.levels self.new ≡ Self.levels self.old) }
         ensures only { IfErr result (UnreadPart Self.step optional T.schema (Self.levels self.old) self.old) }
         ensures failed { OnErr result (Self.has_failed self.new) }
@@ -91,7 +92,7 @@ pub trait DecodeSequence: Decoder {
         Self: Sized,
         ensures ok { IfOk result
             (λ x. ReadsPart Self.step optional T.schema (Self.levels self.old) (part_of T.meaning x)
-                self.old self.new) }
+            self.old self.new) }
         ensures level { OnOk result (Self.levels self.new ≡ Self.levels self.old) }
         ensures only { IfErr result (UnreadPart Self.step optional T.schema (Self.levels self.old) self.old) }
         ensures failed { OnErr result (Self.has_failed self.new) }
@@ -111,11 +112,11 @@ pub trait DecodeSequence: Decoder {
     where
         Self: Sized,
         ensures ok { IfOk result
-            (λ x. ReadsOptional Self.step (T.under constraints.entry) (Self.levels self.old) (part_of T.meaning x)
-                self.old self.new) }
+            (λ x. ReadsOptional Self.step (T.under (meant constraints.entry)) (Self.levels self.old)
+            (part_of T.meaning x) self.old self.new) }
         ensures level { OnOk result (Self.levels self.new ≡ Self.levels self.old) }
         ensures only { IfErr result
-            (UnreadOptional Self.step (T.under constraints.entry) (Self.levels self.old) self.old) }
+            (UnreadOptional Self.step (T.under (meant constraints.entry)) (Self.levels self.old) self.old) }
         ensures failed { OnErr result (Self.has_failed self.new) }
         ensures already { Self.has_failed self.old → result ≡ Err DecodeError.AlreadyFailed }
         ensures after { result ≡ Err DecodeError.AlreadyFailed → Self.has_failed self.old }
@@ -133,11 +134,11 @@ pub trait DecodeSequence: Decoder {
     where
         Self: Sized,
         ensures ok { IfOk result
-            (λ x. ReadsOptional Self.step (T.under constraints.entry) (Self.levels self.old) (part_of T.meaning x)
-                self.old self.new) }
+            (λ x. ReadsOptional Self.step (T.under (meant constraints.entry)) (Self.levels self.old)
+            (part_of T.meaning x) self.old self.new) }
         ensures level { OnOk result (Self.levels self.new ≡ Self.levels self.old) }
         ensures only { IfErr result
-            (UnreadOptional Self.step (T.under constraints.entry) (Self.levels self.old) self.old) }
+            (UnreadOptional Self.step (T.under (meant constraints.entry)) (Self.levels self.old) self.old) }
         ensures failed { OnErr result (Self.has_failed self.new) }
         ensures already { Self.has_failed self.old → result ≡ Err DecodeError.AlreadyFailed }
         ensures after { result ≡ Err DecodeError.AlreadyFailed → Self.has_failed self.old }
@@ -161,7 +162,7 @@ pub trait DecodeSequence: Decoder {
         Self: Sized,
         ensures ok { IfOk result
             (λ x. ReadsPart Self.step optional T.schema (Self.levels self.old) (part_of T.meaning x)
-                self.old self.new) }
+            self.old self.new) }
         ensures level { OnOk result (Self.levels self.new ≡ Self.levels self.old) }
         ensures only { IfErr result (UnreadPart Self.step optional T.schema (Self.levels self.old) self.old) }
         ensures failed { OnErr result (Self.has_failed self.new) }
@@ -182,7 +183,7 @@ pub trait DecodeSequence: Decoder {
         Self: Sized,
         ensures ok { IfOk result
             (λ x. ReadsPart Self.step (by_default V.value) T.schema (Self.levels self.old)
-                (part_unless (same (T.meaning x) V.value) (T.meaning x)) self.old self.new) }
+            (part_unless (same (T.meaning x) V.value) (T.meaning x)) self.old self.new) }
         ensures level { OnOk result (Self.levels self.new ≡ Self.levels self.old) }
         ensures only { IfErr result
             (UnreadPart Self.step (by_default V.value) T.schema (Self.levels self.old) self.old) }
@@ -203,7 +204,7 @@ pub trait DecodeSequence: Decoder {
         Self: Sized,
         ensures ok { IfOk result
             (λ x. ReadsPart Self.step (by_default V.value) T.schema (Self.levels self.old)
-                (part_unless (same (T.meaning x) V.value) (T.meaning x)) self.old self.new) }
+            (part_unless (same (T.meaning x) V.value) (T.meaning x)) self.old self.new) }
         ensures level { OnOk result (Self.levels self.new ≡ Self.levels self.old) }
         ensures only { IfErr result
             (UnreadPart Self.step (by_default V.value) T.schema (Self.levels self.old) self.old) }
@@ -228,11 +229,11 @@ pub trait DecodeSequence: Decoder {
     where
         Self: Sized,
         ensures ok { IfOk result
-            (λ x. ReadsDefault Self.step (T.under constraints.entry) (Self.levels self.old) V.value (T.meaning x)
-                self.old self.new) }
+            (λ x. ReadsDefault Self.step (T.under (meant constraints.entry)) (Self.levels self.old) V.value
+            (T.meaning x) self.old self.new) }
         ensures level { OnOk result (Self.levels self.new ≡ Self.levels self.old) }
         ensures only { IfErr result
-            (UnreadDefault Self.step (T.under constraints.entry) (Self.levels self.old) V.value self.old) }
+            (UnreadDefault Self.step (T.under (meant constraints.entry)) (Self.levels self.old) V.value self.old) }
         ensures failed { OnErr result (Self.has_failed self.new) }
         ensures already { Self.has_failed self.old → result ≡ Err DecodeError.AlreadyFailed }
         ensures after { result ≡ Err DecodeError.AlreadyFailed → Self.has_failed self.old }
@@ -250,11 +251,11 @@ pub trait DecodeSequence: Decoder {
     where
         Self: Sized,
         ensures ok { IfOk result
-            (λ x. ReadsDefault Self.step (T.under constraints.entry) (Self.levels self.old) V.value (T.meaning x)
-                self.old self.new) }
+            (λ x. ReadsDefault Self.step (T.under (meant constraints.entry)) (Self.levels self.old) V.value
+            (T.meaning x) self.old self.new) }
         ensures level { OnOk result (Self.levels self.new ≡ Self.levels self.old) }
         ensures only { IfErr result
-            (UnreadDefault Self.step (T.under constraints.entry) (Self.levels self.old) V.value self.old) }
+            (UnreadDefault Self.step (T.under (meant constraints.entry)) (Self.levels self.old) V.value self.old) }
         ensures failed { OnErr result (Self.has_failed self.new) }
         ensures already { Self.has_failed self.old → result ≡ Err DecodeError.AlreadyFailed }
         ensures after { result ≡ Err DecodeError.AlreadyFailed → Self.has_failed self.old }
@@ -287,7 +288,7 @@ pub trait DecodeSequence: Decoder {
         requires plain { C.table.extensible ≡ false }
         ensures ok { IfOk result
             (λ x. Reads Self.step (sequence_type C.table) (Self.levels self.old) (fields (C.root x) (C.added x))
-                self.old self.new) }
+            self.old self.new) }
         ensures level { OnOk result (Self.levels self.new ≡ Self.levels self.old) }
         ensures only { IfErr result (Unread Self.step (sequence_type C.table) (Self.levels self.old) self.old) }
         ensures failed { OnErr result (Self.has_failed self.new) }

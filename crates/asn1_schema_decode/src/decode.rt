@@ -14,6 +14,7 @@ ghost use Rattle.asn1_schema_presented.specs.Records.{asks_sequence, asks_set, a
 ghost use Rattle.asn1_schema_presented.specs.Records.{asks_empty, asks_additions, asks_addition, asks_addition_end};
 ghost use Rattle.asn1_schema_presented.specs.Records.{asks_choice, asks_end};
 ghost use Rattle.asn1_schema_constraints.specs.Bounds.{counts_of};
+ghost use Rattle.asn1_schema_constraints.specs.Terms.{meant};
 ghost use Rattle.asn1_schema_types.specs.Told.{whole_under, bits_under, octets_under, characters_under};
 ghost use Rattle.asn1_schema_types.specs.Told.{asks_whole_under, asks_bits_under, asks_octets_under};
 ghost use Rattle.asn1_schema_types.specs.Told.{asks_characters_under, list_begins_under, bag_begins_under};
@@ -192,11 +193,12 @@ pub trait Decoder {
         constraints: Constraints,
         held: Bounded<usize>,
     ) -> Result<Self::Octets, DecodeError>
-        ensures ok { IfOk result (λ x. step self.old (octets_under constraints.entry held (Self.Octets.items x)) self.new) }
+        ensures ok { IfOk result
+            (λ x. step self.old (octets_under constraints.entry held (Self.Octets.items x)) self.new) }
         ensures held { IfOk result (λ x. is_count_within (counts_of held) (length (Self.Octets.items x)) ≡ true) }
         ensures lent { IfOk result
             (λ x. lends self.old (octets_under constraints.entry held (Self.Octets.items x)) self.new
-                → Self.Octets.is_lent x) }
+            → Self.Octets.is_lent x) }
         ensures level { OnOk result (levels self.new ≡ levels self.old) }
         ensures only { IfErr result (NoRecord step (asks_octets_under constraints.entry held) self.old) }
         ensures failed { OnErr result (has_failed self.new) }
@@ -210,7 +212,8 @@ pub trait Decoder {
         tag: Tag,
         constraints: Constraints,
     ) -> Result<String, DecodeError>
-        ensures ok { IfOk result (λ x. step self.old (characters_under utf8 constraints.entry (string_bytes x)) self.new) }
+        ensures ok { IfOk result
+            (λ x. step self.old (characters_under utf8 constraints.entry (string_bytes x)) self.new) }
         ensures level { OnOk result (levels self.new ≡ levels self.old) }
         ensures only { IfErr result (NoRecord step (asks_characters_under utf8 constraints.entry) self.old) }
         ensures failed { OnErr result (has_failed self.new) }
@@ -225,7 +228,8 @@ pub trait Decoder {
         tag: Tag,
         constraints: Constraints,
     ) -> Result<S, DecodeError>
-        ensures ok { IfOk result (λ x. step self.old (characters_under S.kind constraints.entry (S.characters x)) self.new) }
+        ensures ok { IfOk result
+            (λ x. step self.old (characters_under S.kind constraints.entry (S.characters x)) self.new) }
         ensures level { OnOk result (levels self.new ≡ levels self.old) }
         ensures only { IfErr result (NoRecord step (asks_characters_under S.kind constraints.entry) self.old) }
         ensures failed { OnErr result (has_failed self.new) }
@@ -391,7 +395,7 @@ pub trait Decoder {
         ensures level { OnOk result (levels self.old ≡ levels self.new + 1) }
         ensures only { IfErr result
             (NoLevel step (asks_choice (map tag_of roots.now) extensible (map tag_of additions.now))
-                (levels self.old) self.old) }
+            (levels self.old) self.old) }
         ensures failed { OnErr result (has_failed self.new) }
         ensures already { has_failed self.old → result ≡ Err DecodeError.AlreadyFailed }
         ensures after { result ≡ Err DecodeError.AlreadyFailed → has_failed self.old };
@@ -443,10 +447,11 @@ pub trait Decode: AsnType + Drop {
         constraints: Constraints,
     ) -> Result<Self, DecodeError>
         ensures ok { IfOk result
-            (λ x. Reads D.step (Self.under constraints.entry) (D.levels decoder.old) (Self.meaning x)
-                decoder.old decoder.new) }
+            (λ x. Reads D.step (Self.under (meant constraints.entry)) (D.levels decoder.old) (Self.meaning x)
+            decoder.old decoder.new) }
         ensures level { OnOk result (D.levels decoder.new ≡ D.levels decoder.old) }
-        ensures only { IfErr result (Unread D.step (Self.under constraints.entry) (D.levels decoder.old) decoder.old) }
+        ensures only { IfErr result
+            (Unread D.step (Self.under (meant constraints.entry)) (D.levels decoder.old) decoder.old) }
         ensures failed { OnErr result (D.has_failed decoder.new) }
         ensures already { D.has_failed decoder.old → result ≡ Err DecodeError.AlreadyFailed }
         ensures after { result ≡ Err DecodeError.AlreadyFailed → D.has_failed decoder.old };
@@ -504,10 +509,11 @@ pub trait Decode: AsnType + Drop {
     where
         Self: Sized,
         ensures ok { IfOk result
-            (λ x. Reads D.step (Self.under constraints.entry) (D.levels decoder.old) (Self.meaning x)
-                decoder.old decoder.new) }
+            (λ x. Reads D.step (Self.under (meant constraints.entry)) (D.levels decoder.old) (Self.meaning x)
+            decoder.old decoder.new) }
         ensures level { OnOk result (D.levels decoder.new ≡ D.levels decoder.old) }
-        ensures only { IfErr result (Unread D.step (Self.under constraints.entry) (D.levels decoder.old) decoder.old) }
+        ensures only { IfErr result
+            (Unread D.step (Self.under (meant constraints.entry)) (D.levels decoder.old) decoder.old) }
         ensures failed { OnErr result (D.has_failed decoder.new) }
         ensures already { D.has_failed decoder.old → result ≡ Err DecodeError.AlreadyFailed }
         ensures after { result ≡ Err DecodeError.AlreadyFailed → D.has_failed decoder.old }

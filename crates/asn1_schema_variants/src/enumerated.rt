@@ -1,5 +1,6 @@
 //! Enumerations.
-ghost use Rattle.std.specs.Prelude.{◌≡◌, ℕ, ℤ, Bool, true, false, cond, List, ◌++◌, length, map, min, ◌+◌, ◌≤◌, Some, MatchOption};
+ghost use Rattle.std.specs.Prelude.{◌≡◌, ℕ, ℤ, Bool, true, false, cond, List};
+ghost use Rattle.std.specs.Prelude.{◌++◌, length, map, min, ◌+◌, ◌≤◌, Some, MatchOption};
 ghost use Rattle.asn1_model.specs.Lawful.{are_distinct};
 ghost use Rattle.asn1_model.specs.Tables.{item_place};
 ghost use Rattle.asn1_model.specs.Value.{same_number};
