@@ -1,8 +1,7 @@
 //! Octets, of which there are one to three, or behind a mark any number.
 ghost use Rattle.std.specs.Prelude.{◌≡◌, refl, [], ◌∷◌};
 ghost use Rattle.asn1_model.specs.Value.{octet_list};
-ghost use Rattle.asn1_schema_constraints.specs.Sets.{no_constraint};
-ghost use Rattle.asn1_schema_constraints.specs.Terms.{sizes_of};
+ghost use Rattle.asn1_schema_constraints.specs.Terms.{no_constraint, sizes_of};
 ghost use Rattle.asn1_schema_presented.proofs.TypesByKind.{octet_string_type, octet_string_value};
 ghost use Rattle.asn1_relay_types.specs.Schemas.{one_to_three, octets_schema};
 
