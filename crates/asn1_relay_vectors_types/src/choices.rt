@@ -96,6 +96,8 @@ impl Alternatives for Spaced {
         None
     }
 
+    ghost tagged = { refl };
+
     ghost is_of = { λ _ _. refl };
 }
 
@@ -218,6 +220,8 @@ impl Alternatives for Distant {
     fn extended_variants() -> Option<&'static [Tag]> {
         None
     }
+
+    ghost tagged = { refl };
 
     ghost is_of = { λ _ _. refl };
 }
@@ -355,6 +359,8 @@ impl Alternatives for OldVersioned {
         Some(&[])
     }
 
+    ghost tagged = { refl };
+
     ghost is_of = { λ _ _. refl };
 }
 
@@ -485,6 +491,8 @@ impl Alternatives for Versioned {
     fn extended_variants() -> Option<&'static [Tag]> {
         Some(&[context!(2)])
     }
+
+    ghost tagged = { refl };
 
     ghost is_of = { λ _ _. refl };
 }
@@ -623,6 +631,8 @@ impl Alternatives for Around {
     fn extended_variants() -> Option<&'static [Tag]> {
         Some(&[context!(1)])
     }
+
+    ghost tagged = { refl };
 
     ghost is_of = { λ _ _. refl };
 }

@@ -89,6 +89,8 @@ impl Alternatives for Power {
         None
     }
 
+    ghost tagged = { refl };
+
     ghost is_of = { λ _ _. refl };
 }
 

@@ -99,6 +99,8 @@ impl Alternatives for Message {
         Some(&[NAME])
     }
 
+    ghost tagged = { refl };
+
     ghost is_of = { λ _ _. refl };
 }
 

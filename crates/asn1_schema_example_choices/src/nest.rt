@@ -84,6 +84,8 @@ impl Alternatives for Nest {
         None
     }
 
+    ghost tagged = { refl };
+
     ghost is_of = { λ _. nest_is };
 }
 
