@@ -2,7 +2,7 @@
 ghost use Rattle.std.specs.Prelude.{◌∷◌, [], refl, pos, negsuc, false};
 ghost use Rattle.asn1_model.specs.Schema.{enumerated};
 ghost use Rattle.asn1_model.specs.Value.{item};
-ghost use Rattle.asn1_schema_constraints.specs.Sets.{no_constraint};
+ghost use Rattle.asn1_schema_constraints.specs.Terms.{no_constraint};
 ghost use Rattle.asn1_schema_constructed.proofs.Types.{type_enumerated, value_enumerated};
 ghost use Rattle.asn1_schema_variants.proofs.Distinct.{one_number_of};
 

@@ -2,7 +2,8 @@
 ghost use Rattle.std.specs.Prelude.{◌≡◌, OnOk, OnErr, IfErr};
 ghost use Rattle.asn1_model.specs.Schema.{utf8};
 ghost use Rattle.asn1_schema_faults.specs.declared.CodecKind.{CodecKind};
-ghost use Rattle.asn1_schema_presented.specs.Records.{Record, flag, nil, one_of, identifier as object_identifier, further};
+ghost use Rattle.asn1_schema_presented.specs.Records.{Record, flag, nil, one_of, identifier as object_identifier};
+ghost use Rattle.asn1_schema_presented.specs.Records.{further};
 ghost use Rattle.asn1_schema_presented.specs.Records.{sequence_begins, set_begins, group_begins, mark};
 ghost use Rattle.asn1_schema_presented.specs.Records.{additions_begin, addition, addition_ends, ends};
 ghost use Rattle.asn1_schema_constraints.specs.Terms.{meant};
@@ -81,8 +82,10 @@ pub trait Encoder {
         value: &T,
         identifier: Identifier,
     ) -> Result<(), EncodeError>
-        ensures ok { OnOk result (step self.old (one_of T.roots T.extensible T.additions (T.number value.now)) self.new) }
-        ensures only { IfErr result (Refused step (one_of T.roots T.extensible T.additions (T.number value.now)) self.old) }
+        ensures ok { OnOk result
+            (step self.old (one_of T.roots T.extensible T.additions (T.number value.now)) self.new) }
+        ensures only { IfErr result
+            (Refused step (one_of T.roots T.extensible T.additions (T.number value.now)) self.old) }
         ensures failed { OnErr result (has_failed self.new) }
         ensures already { has_failed self.old → result ≡ Err EncodeError.AlreadyFailed }
         ensures after { result ≡ Err EncodeError.AlreadyFailed → has_failed self.old };
@@ -131,7 +134,8 @@ pub trait Encoder {
         ensures already { has_failed self.old → result ≡ Err EncodeError.AlreadyFailed }
         ensures after { result ≡ Err EncodeError.AlreadyFailed → has_failed self.old };
 
-    /// A restricted character string (X.680 41) of one of the kinds with an alphabet of their own, under a size and an alphabet constraint.
+    /// A restricted character string (X.680 41) of one of the kinds with an alphabet of their own, under a size and an
+    /// alphabet constraint.
     fn encode_characters<S: StaticPermittedAlphabet>(
         &mut self,
         tag: Tag,
@@ -139,8 +143,10 @@ pub trait Encoder {
         value: &S,
         identifier: Identifier,
     ) -> Result<(), EncodeError>
-        ensures ok { OnOk result (step self.old (characters_under S.kind constraints.entry (S.characters value.now)) self.new) }
-        ensures only { IfErr result (Refused step (characters_under S.kind constraints.entry (S.characters value.now)) self.old) }
+        ensures ok { OnOk result
+            (step self.old (characters_under S.kind constraints.entry (S.characters value.now)) self.new) }
+        ensures only { IfErr result
+            (Refused step (characters_under S.kind constraints.entry (S.characters value.now)) self.old) }
         ensures failed { OnErr result (has_failed self.new) }
         ensures already { has_failed self.old → result ≡ Err EncodeError.AlreadyFailed }
         ensures after { result ≡ Err EncodeError.AlreadyFailed → has_failed self.old };
@@ -307,8 +313,10 @@ pub trait Encode: AsnType {
         tag: Tag,
         constraints: Constraints,
     ) -> Result<(), EncodeError>
-        ensures ok { OnOk result (Writes E.step (Self.under (meant constraints.entry)) (Self.meaning self.now) encoder.old encoder.new) }
-        ensures only { IfErr result (CannotWrite E.step (Self.under (meant constraints.entry)) (Self.meaning self.now) encoder.old) }
+        ensures ok { OnOk result
+            (Writes E.step (Self.under (meant constraints.entry)) (Self.meaning self.now) encoder.old encoder.new) }
+        ensures only { IfErr result
+            (CannotWrite E.step (Self.under (meant constraints.entry)) (Self.meaning self.now) encoder.old) }
         ensures failed { OnErr result (E.has_failed encoder.new) }
         ensures already { E.has_failed encoder.old → result ≡ Err EncodeError.AlreadyFailed }
         ensures after { result ≡ Err EncodeError.AlreadyFailed → E.has_failed encoder.old };
@@ -355,8 +363,10 @@ pub trait Encode: AsnType {
     ) -> Result<(), EncodeError>
     where
         Self: Sized,
-        ensures ok { OnOk result (Writes E.step (Self.under (meant constraints.entry)) (Self.meaning self.now) encoder.old encoder.new) }
-        ensures only { IfErr result (CannotWrite E.step (Self.under (meant constraints.entry)) (Self.meaning self.now) encoder.old) }
+        ensures ok { OnOk result
+            (Writes E.step (Self.under (meant constraints.entry)) (Self.meaning self.now) encoder.old encoder.new) }
+        ensures only { IfErr result
+            (CannotWrite E.step (Self.under (meant constraints.entry)) (Self.meaning self.now) encoder.old) }
         ensures failed { OnErr result (E.has_failed encoder.new) }
         ensures already { E.has_failed encoder.old → result ≡ Err EncodeError.AlreadyFailed }
         ensures after { result ≡ Err EncodeError.AlreadyFailed → E.has_failed encoder.old }
