@@ -91,6 +91,7 @@ impl<'input> Decoder<'input> {
     fn begin_record(&mut self) -> Result<(), DecodeError>
         ensures ok { OnOk result (IsReady self.old × (self.new ≡ self.old)) }
         ensures only { IfErr result (λ _. IsReady self.old → ⊥) }
+        ensures after { IfErr result (λ e. (e ≡ DecodeError.AlreadyFailed) × HasFailed self.old) }
         ensures failed { OnErr result (self.new.failed ≡ true) }
         ensures already { self.old.failed ≡ true → result ≡ Err DecodeError.AlreadyFailed }
     {
