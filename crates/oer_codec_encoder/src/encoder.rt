@@ -102,7 +102,7 @@ impl<'buffer> Encoder<'buffer> {
 }
 
 impl<'buffer> asn1_schema_encode::Encoder for Encoder<'buffer> {
-    ghost use Rattle.oer_codec_encoder.specs.Laws.{puts_one, puts_none, puts_same};
+    ghost use Rattle.oer_codec_encoder.specs.Laws.{puts_one, puts_none, puts_on, puts_same};
     ghost use Rattle.asn1_schema_faults.specs.declared.CodecKind.TheVariants.{Coer};
 
     ghost step = { Puts };
@@ -156,10 +156,13 @@ impl<'buffer> asn1_schema_encode::Encoder for Encoder<'buffer> {
         value: &T,
         _identifier: Identifier,
     ) -> Result<(), EncodeError>
-        ensures ok { OnOk result (Puts self.old (one_of T.roots T.extensible T.additions (T.number value.now)) self.new) }
-        ensures only { IfErr result (Refused Puts (one_of T.roots T.extensible T.additions (T.number value.now)) self.old) }
+        ensures ok { OnOk result
+            (Puts self.old (one_of T.roots T.extensible T.additions (T.number value.now)) self.new) }
+        ensures only { IfErr result
+            (Refused Puts (one_of T.roots T.extensible T.additions (T.number value.now)) self.old) }
         ensures failed { OnErr result (self.new.failed ≡ true) }
         ensures already { self.old.failed ≡ true → result ≡ Err EncodeError.AlreadyFailed }
+        ensures after { result ≡ Err EncodeError.AlreadyFailed → self.old.failed ≡ true }
     {
         begin_record(&mut self.failed)?;
         push_enumerated(self.output, value)?;
@@ -382,6 +385,8 @@ impl<'buffer> asn1_schema_encode::Encoder for Encoder<'buffer> {
     ghost one_after = { puts_one };
 
     ghost none_after = { puts_none };
+
+    ghost goes_on = { puts_on };
 
     ghost same_rules = { puts_same };
 }
