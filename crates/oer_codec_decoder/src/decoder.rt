@@ -154,7 +154,8 @@ impl<'input> Decoder<'input> {
 }
 
 impl<'input> asn1_schema_decode::Decoder for Decoder<'input> {
-    ghost use Rattle.oer_codec_decoder.specs.Laws.{finds_one, finds_held, finds_bag_held, finds_none, finds_same};
+    ghost use Rattle.oer_codec_decoder.specs.Laws.{finds_one, finds_held, finds_bag_held, finds_none, finds_on, finds_same};
+    ghost use Rattle.std.specs.Prelude.{⊤};
 
     type Octets = &'input [u8];
 
@@ -163,6 +164,8 @@ impl<'input> asn1_schema_decode::Decoder for Decoder<'input> {
     ghost has_failed = { HasFailed };
 
     ghost levels = { λ d. d.levels };
+
+    ghost lends = { λ _ _ _. ⊤ };
 
     ghost rules = { λ d. kind_of d.rules };
 
@@ -214,11 +217,13 @@ impl<'input> asn1_schema_decode::Decoder for Decoder<'input> {
     }
 
     fn decode_enumerated<T: Enumerated>(&mut self, _tag: Tag) -> Result<T, DecodeError>
-        ensures ok { IfOk result (λ x. Finds self.old (one_of T.roots T.extensible T.additions (T.number x)) self.new) }
+        ensures ok { IfOk result
+            (λ x. Finds self.old (one_of T.roots T.extensible T.additions (T.number x)) self.new) }
         ensures level { OnOk result (self.new.levels ≡ self.old.levels) }
         ensures only { IfErr result (NoRecord Finds (asks_one_of T.roots T.extensible T.additions) self.old) }
         ensures failed { OnErr result (HasFailed self.new) }
         ensures already { HasFailed self.old → result ≡ Err DecodeError.AlreadyFailed }
+        ensures after { result ≡ Err DecodeError.AlreadyFailed → HasFailed self.old }
     {
         self.begin_record()?;
         match read_enumerated(&mut self.cursor, self.rules) {
@@ -241,6 +246,7 @@ impl<'input> asn1_schema_decode::Decoder for Decoder<'input> {
         }
     }
 
+    /// The octets stand in the input as they are (X.696 14), and are lent.
     #[inline(always)]
     fn decode_octet_string(
         &mut self,
@@ -485,6 +491,8 @@ impl<'input> asn1_schema_decode::Decoder for Decoder<'input> {
     ghost list_held = { finds_held };
 
     ghost bag_held = { finds_bag_held };
+
+    ghost goes_on = { finds_on };
 
     ghost none_after = { finds_none };
 
