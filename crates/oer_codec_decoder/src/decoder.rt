@@ -101,6 +101,23 @@ impl<'input> Decoder<'input> {
         Ok(())
     }
 
+    // Goes on, unless the decoder has failed or no level is left.
+    #[inline(always)]
+    fn begin_level(&mut self) -> Result<(), DecodeError>
+        ensures ok { OnOk result (IsReady self.old × (self.new ≡ self.old)) }
+        ensures level { OnOk result (0 < self.old.levels) }
+        ensures only { IfErr result (λ _. 0 < self.old.levels → IsReady self.old → ⊥) }
+        ensures after { IfErr result (λ e. e ≡ DecodeError.AlreadyFailed → HasFailed self.old) }
+        ensures failed { OnErr result (self.new.failed ≡ true) }
+        ensures already { self.old.failed ≡ true → result ≡ Err DecodeError.AlreadyFailed }
+    {
+        self.begin_record()?;
+        if self.levels == 0 {
+            return Err(self.fail(DecodeError::ExceedsMaxParseDepth));
+        }
+        Ok(())
+    }
+
     // Opens a scope, and takes a level for it.
     #[inline(always)]
     fn enter(&mut self, frame: Frame<'input>) -> Result<(), DecodeError>
@@ -307,10 +324,7 @@ impl<'input> asn1_schema_decode::Decoder for Decoder<'input> {
         _constraints: Constraints,
         held: Bounded<usize>,
     ) -> Result<(), DecodeError> {
-        self.begin_record()?;
-        if self.levels == 0 {
-            return Err(self.fail(DecodeError::ExceedsMaxParseDepth));
-        }
+        self.begin_level()?;
         match read_members(&mut self.cursor, self.rules, held) {
             Ok(frame) => self.enter(frame),
             Err(error) => Err(self.fail(error)),
@@ -324,10 +338,7 @@ impl<'input> asn1_schema_decode::Decoder for Decoder<'input> {
         _constraints: Constraints,
         held: Bounded<usize>,
     ) -> Result<(), DecodeError> {
-        self.begin_record()?;
-        if self.levels == 0 {
-            return Err(self.fail(DecodeError::ExceedsMaxParseDepth));
-        }
+        self.begin_level()?;
         match read_members(&mut self.cursor, self.rules, held) {
             Ok(frame) => self.enter(frame),
             Err(error) => Err(self.fail(error)),
@@ -350,10 +361,7 @@ impl<'input> asn1_schema_decode::Decoder for Decoder<'input> {
         extensible: bool,
         optional: usize,
     ) -> Result<(), DecodeError> {
-        self.begin_record()?;
-        if self.levels == 0 {
-            return Err(self.fail(DecodeError::ExceedsMaxParseDepth));
-        }
+        self.begin_level()?;
         match read_preamble(&mut self.cursor, extensible, optional) {
             Ok(frame) => self.enter(frame),
             Err(error) => Err(self.fail(error)),
@@ -367,10 +375,7 @@ impl<'input> asn1_schema_decode::Decoder for Decoder<'input> {
         extensible: bool,
         optional: usize,
     ) -> Result<(), DecodeError> {
-        self.begin_record()?;
-        if self.levels == 0 {
-            return Err(self.fail(DecodeError::ExceedsMaxParseDepth));
-        }
+        self.begin_level()?;
         match read_preamble(&mut self.cursor, extensible, optional) {
             Ok(frame) => self.enter(frame),
             Err(error) => Err(self.fail(error)),
@@ -379,10 +384,7 @@ impl<'input> asn1_schema_decode::Decoder for Decoder<'input> {
 
     #[inline(always)]
     fn begin_group(&mut self, optional: usize) -> Result<(), DecodeError> {
-        self.begin_record()?;
-        if self.levels == 0 {
-            return Err(self.fail(DecodeError::ExceedsMaxParseDepth));
-        }
+        self.begin_level()?;
         match read_preamble(&mut self.cursor, false, optional) {
             Ok(frame) => self.enter(frame),
             Err(error) => Err(self.fail(error)),
@@ -458,10 +460,7 @@ impl<'input> asn1_schema_decode::Decoder for Decoder<'input> {
         extensible: bool,
         additions: &[Tag],
     ) -> Result<Chosen, DecodeError> {
-        self.begin_record()?;
-        if self.levels == 0 {
-            return Err(self.fail(DecodeError::ExceedsMaxParseDepth));
-        }
+        self.begin_level()?;
         match read_choice(&mut self.cursor, self.rules, roots, extensible, additions) {
             Ok((chosen, enclosing)) => {
                 self.enter_enclosing(enclosing)?;
