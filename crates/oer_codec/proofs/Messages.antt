@@ -16,7 +16,7 @@ use Rattle.asn1_schema_presented.specs.Presents.{presents, Fits}
 use Rattle.oer_codec_decoder.specs.Held.{Held, Finds}
 use Rattle.oer_codec_fronts.specs.Takes.{State, Front}
 use Rattle.oer_codec_fronts.proofs.Whole.{records_read, forms_show}
-use Rattle.oer_codec_fronts.proofs.Fitting.{records_fit}
+use Rattle.asn1_schema_finding.proofs.Fitting.{records_fit}
 use Rattle.oer_codec_reading.specs.Fronts.{freedoms}
 use Rattle.oer_codec_reading_lengths.specs.declared.rules.EncodingRules.{EncodingRules}
 use Rattle.oer_codec_reading_lengths.specs.declared.rules.EncodingRules.TheVariants.{Oer as OerRules, Coer as CoerRules}

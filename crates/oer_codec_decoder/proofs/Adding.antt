@@ -4,8 +4,10 @@ use Rattle.asn1_model.specs.Oer
 use Rattle.asn1_schema_faults.specs.declared.DecodeError.{DecodeError}
 use Rattle.oer_codec_reading.specs.Fronts.{Misses}
 use Rattle.oer_codec_reading.specs.Skipping.{SkipsNone}
-use Rattle.oer_codec_reading.proofs.Skipping.{missed, as_stands}
-use Rattle.oer_codec_fronts.specs.Takes.{Scope, added, State, first_bits, Opens, NextAddition}
+use Rattle.oer_codec_reading.proofs.Fronts.{missed, not_before}
+use Rattle.oer_codec_reading.proofs.Skipping.{as_stands}
+use Rattle.oer_codec_fronts.specs.Takes.{Scope, added, State, Opens, NextAddition}
+use Rattle.asn1_schema_finding.specs.Marks.{first_bits}
 use Rattle.oer_codec_decoder.specs.Refusals.{NoAdditions, NotFinished, NotOpened}
 use Rattle.oer_codec_decoder.specs.Scopes.{NextPresent}
 
@@ -38,11 +40,11 @@ front_empty (x ∷ a) b e = cc e
 -- ---- their beginning
 pub no_bitmap : (free : Oer.Freedom → Bool) (n : ℕ) (os : List ℕ) (m : Bool) (e : DecodeError) → m ≡ true → Misses free Oer.counted_bits os e → NoAdditions free m n os e
 no_bitmap free n os false e f h = cc f
-no_bitmap free n os true e f h = record { none = λ i k b t. missed free Oer.counted_bits os e h i t.0 b.0 (as_stands free (Oer.counted_bits t.0) os b.0 t.2) }
+no_bitmap free n os true e f h = record { none = λ i k b t. missed free Oer.counted_bits os e h i t.0 b.0 (as_stands free (Oer.counted_bits t.0) os b.0 t.2); fresh = not_before free Oer.counted_bits os e h }
 
 -- ---- open types
 pub not_opened : (free : Oer.Freedom → Bool) (os : List ℕ) (e : DecodeError) → Misses free Oer.counted os e → NotOpened free os e
-not_opened free os e h = record { none = λ i k b t. missed free Oer.counted os e h i b.0 t.0 (as_stands free (Oer.counted b.0) os t.0 t.1) }
+not_opened free os e h = record { none = λ i k b t. missed free Oer.counted os e h i b.0 t.0 (as_stands free (Oer.counted b.0) os t.0 t.1); fresh = not_before free Oer.counted os e h }
 
 -- ---- the next addition
 
@@ -61,5 +63,5 @@ none_opened free v w os (s ∷ k) after b e n none t = absurd n
 
 -- ---- the end
 pub added_not_skipped : (free : Oer.Freedom → Bool) (ms us : List Bool) (os : List ℕ) (e : DecodeError) → SkipsNone free us os e → NotFinished free (added ms us) os e
-added_not_skipped free [] us os e h = record { none = λ i k b t. h.none i b.0 t.0 }
-added_not_skipped free (m ∷ ms) us os e h = record { none = λ i k b t. t }
+added_not_skipped free [] us os e h = record { none = λ i k b t. h.none i b.0 t.0; fresh = h.fresh }
+added_not_skipped free (m ∷ ms) us os e h = record { none = λ i k b t. t; fresh = h.fresh }

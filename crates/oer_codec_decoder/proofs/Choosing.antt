@@ -5,11 +5,12 @@ use Rattle.asn1_model.specs.Oer
 use Rattle.asn1_model.specs.Schema.{Tag}
 use Rattle.asn1_model.specs.Strings.{each_is}
 use Rattle.asn1_schema_faults.specs.declared.DecodeError.{DecodeError}
+use Rattle.asn1_schema_faults.specs.declared.DecodeError.TheVariants.{AlreadyFailed}
 use Rattle.oer_codec_fronts.specs.Takes.{IsPlace, Enters}
 use Rattle.oer_codec_fronts.proofs.Next.{same_fronts, same_tag}
 use Rattle.oer_codec_reading.specs.Fronts.{Stands, Misses}
-use Rattle.oer_codec_reading.proofs.Fronts.{if_stands}
-use Rattle.oer_codec_reading.proofs.Skipping.{missed, as_front, as_stands}
+use Rattle.oer_codec_reading.proofs.Fronts.{if_stands, missed, not_before}
+use Rattle.oer_codec_reading.proofs.Skipping.{as_front, as_stands}
 use Rattle.oer_codec_reading.specs.Tags.{is_in_32_bits, tag_in}
 use Rattle.oer_codec_reading.proofs.Places.{place_fits}
 use Rattle.oer_codec_decoder.specs.Refusals.{NoTag, NoEntry, NoChoice}
@@ -30,17 +31,18 @@ module _ (roots : List Tag) (e : Bool) (others : List Tag) (t : Tag) where
 pub no_tag : (free : Oer.Freedom → Bool) (roots others : List Tag) (os : List ℕ) (e : DecodeError) → each_is is_in_32_bits roots ≡ true → each_is is_in_32_bits others ≡ true → Misses free tag_in os e → NoTag free roots others os e
 no_tag free roots others os e a b m = record {
   none = λ i x t plus j rest p s. missed free tag_in os e m i t rest (if_stands free (is_in_32_bits t) (Oer.tag_form t) os rest (fits roots x others t a b plus j p) s);
+  fresh = not_before free tag_in os e m;
 }
 
 -- ---- alternatives
 pub not_entered : (free : Oer.Freedom → Bool) (plus : Bool) (os : List ℕ) (e : DecodeError) → plus ≡ true → Misses free Oer.counted os e → NoEntry free plus os e
-not_entered free true os e p m = record { none = λ i k b t. (not_opened free os e m).none i k b t }
+not_entered free true os e p m = record { none = λ i k b t. (not_opened free os e m).none i k b t; fresh = (not_opened free os e m).fresh }
 not_entered free false os e p m = cc p
 
 -- ---- the choice
 module _ (free : Oer.Freedom → Bool) (roots : List Tag) (x : Bool) (others : List Tag) where
   pub no_choice : (os : List ℕ) (e : DecodeError) → NoTag free roots others os e → NoChoice free roots x others os e
-  no_choice os e h = record { none = λ i plus j k b c. h.none i x c.0 plus j c.1 c.2 (as_stands free (Oer.tag_form c.0) os c.1 c.3) }
+  no_choice os e h = record { none = λ i plus j k b c. h.none i x c.0 plus j c.1 c.2 (as_stands free (Oer.tag_form c.0) os c.1 c.3); fresh = h.fresh }
 
   -- one tag at most stands in front
   one_tag : (t u : Tag) (os r s : List ℕ) → Stands free (Oer.tag_form t) os r → Stands free (Oer.tag_form u) os s → (t ≡ u) × (r ≡ s)
@@ -48,8 +50,9 @@ module _ (free : Oer.Freedom → Bool) (roots : List Tag) (x : Bool) (others : L
       let q = same_fronts free (tags_alike free t u) os r s (as_front free (Oer.tag_form t) os r h) (as_front free (Oer.tag_form u) os s g) in
       (same_tag t u q.0, q.1)
 
-  pub no_alternative : (t : Tag) (os mid : List ℕ) (e : DecodeError) → Stands free (Oer.tag_form t) os mid → ((plus : Bool) (i : ℕ) → IsPlace roots x others t plus i → ⊥) → NoChoice free roots x others os e
-  no_alternative t os mid e h none = record {
+  pub no_alternative : (t : Tag) (os mid : List ℕ) (e : DecodeError) → ¬ (e ≡ AlreadyFailed) → Stands free (Oer.tag_form t) os mid → ((plus : Bool) (i : ℕ) → IsPlace roots x others t plus i → ⊥) → NoChoice free roots x others os e
+  no_alternative t os mid e n h none = record {
+    fresh = n;
     none = λ i plus j k b c.
         let q = one_tag c.0 t os c.1 mid (as_stands free (Oer.tag_form c.0) os c.1 c.3) h in
         none plus j (subst (λ u. IsPlace roots x others u plus j) q.0 c.2);
@@ -57,6 +60,7 @@ module _ (free : Oer.Freedom → Bool) (roots : List Tag) (x : Bool) (others : L
 
   pub no_entry : (t : Tag) (p : Bool) (n : ℕ) (os mid : List ℕ) (e : DecodeError) → Stands free (Oer.tag_form t) os mid → IsPlace roots x others t p n → NoEntry free p mid e → NoChoice free roots x others os e
   no_entry t p n os mid e h place entry = record {
+    fresh = entry.fresh;
     none = λ i plus j k b c.
         let q = one_tag c.0 t os c.1 mid (as_stands free (Oer.tag_form c.0) os c.1 c.3) h in
         let s : plus ≡ p = same_side roots x others t plus p j n (subst (λ u. IsPlace roots x others u plus j) q.0 c.2) place in

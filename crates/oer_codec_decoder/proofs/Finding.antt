@@ -12,9 +12,10 @@ use Rattle.asn1_model.specs.Oer
 use Rattle.asn1_laws_fronts.proofs.OerNumbers.{unsigned_alike}
 use Rattle.asn1_schema_decode.specs.Reads.{NoRecord, NoLevel}
 use Rattle.asn1_schema_faults.specs.declared.DecodeError.{DecodeError}
-use Rattle.asn1_schema_faults.specs.declared.DecodeError.TheVariants.{OutOfMemory, Incomplete}
+use Rattle.asn1_schema_faults.specs.declared.DecodeError.TheVariants.{AlreadyFailed, OutOfMemory}
 use Rattle.asn1_schema_presented.specs.Records.{Record, Question, question, flag, nil, whole, bits, octets, characters, identifier, list_begins, sequence_begins, asks_flag, asks_nil, asks_whole, asks_bits, asks_octets, asks_characters, asks_identifier, asks_list, asks_sequence}
-use Rattle.oer_codec_reading.specs.Fronts.{freedoms, Stands, NoneStands, Misses, NoFront, Front as FrontOf}
+use Rattle.oer_codec_reading.specs.Fronts.{freedoms, Stands, Misses, NoFront, Front as FrontOf}
+use Rattle.oer_codec_reading.proofs.Fronts.{missed, not_before}
 use Rattle.oer_codec_reading.specs.Whole.{count_in}
 use Rattle.oer_codec_fronts.specs.Takes.{Scope, components, members, State, Front, Found, Counted, Begins, Takes}
 use Rattle.oer_codec_fronts.proofs.Next.{same_fronts}
@@ -37,12 +38,6 @@ first_taken (y ∷ l) x e = let f : y ≡ x = cc in ap (λ t. t ∷ []) f
 pub first_there : (l : List Bool) → slice_get l 0 ≡ None → 0 < length l → ⊥
 first_there [] e h = omega (arith, h)
 first_there (y ∷ l) e h = cc
-
--- want of memory aside, what is missed does not stand in front
-missed : {X : Type 0} (free : Oer.Freedom → Bool) (f : X → Oer.OctetForm) (os : List ℕ) (e : DecodeError) → Misses free f os e → ¬ (e ≡ OutOfMemory) → NoneStands free f os
-missed free f os OutOfMemory m n = absurd (n refl)
-missed free f os Incomplete m n = m
-missed free f os e m n = m
 
 stands : {free : Oer.Freedom → Bool} {x : Oer.OctetForm} {os rest : List ℕ} → Front free x os rest → Stands free x os rest
 stands f = (f.text, f.in_front, f.has_form)
@@ -182,8 +177,8 @@ pub between : (h : Counts) (most n : ℕ) → h.high ≡ Some most → is_count_
 between h most n top e = let p = and_parts _ _ e in (leb-true h.low n p.0, leb-true n most (subst (λ t. is_count_to t n ≡ true) top p.1))
 
 -- no other number of members is in front
-pub other_count : (free : Oer.Freedom → Bool) (h : Counts) (n : ℕ) (os rest : List ℕ) (e : DecodeError) → Stands free (Oer.unsigned n) os rest → (is_count_within h n ≡ true → ⊥) → NoMembers free h os e
-other_count free h n os rest e f w = record { none = λ i s more g. go s more g }
+pub other_count : (free : Oer.Freedom → Bool) (h : Counts) (n : ℕ) (os rest : List ℕ) (e : DecodeError) → ¬ (e ≡ AlreadyFailed) → Stands free (Oer.unsigned n) os rest → (is_count_within h n ≡ true → ⊥) → NoMembers free h os e
+other_count free h n os rest e q f w = record { none = λ i s more g. go s more g; fresh = q }
   where
     go : (s : Scope) (more : List ℕ) → HasMembers free h s os more → ⊥
     go (members m) more g =
@@ -196,7 +191,7 @@ other_count free h n os rest e f w = record { none = λ i s more g. go s more g 
 
 -- nor any that 64 bits count, where none of those is
 pub no_count : (free : Oer.Freedom → Bool) (h : Counts) (most : ℕ) (os : List ℕ) (e : DecodeError) → h.high ≡ Some most → most < 2 ^ 64 → Misses free count_in os e → NoMembers free h os e
-no_count free h most os e top small m = record { none = λ i s rest g. go i s rest g }
+no_count free h most os e top small m = record { none = λ i s rest g. go i s rest g; fresh = not_before free count_in os e m }
   where
     go : ¬ (e ≡ OutOfMemory) → (s : Scope) (rest : List ℕ) → HasMembers free h s os rest → ⊥
     go i (members n) rest g =

@@ -53,5 +53,8 @@ finds_bag_held a z h n b p = let t = p.taken in t.1
 pub finds_none : (a : Held) (r : Record) (b : Held) → a.failed ≡ true → Finds a r b → ⊥
 finds_none a r b h p = let e : true ≡ false = sym h ∙ p.ready in cc
 
+pub finds_on : (a : Held) (r : Record) (b : Held) → Finds a r b → b.failed ≡ true → ⊥
+finds_on a r b p h = let e : true ≡ false = sym h ∙ p.ready_still in cc
+
 pub finds_same : (a : Held) (r : Record) (b : Held) → Finds a r b → kind_of b.rules ≡ kind_of a.rules
 finds_same a r b p = ap kind_of p.rules

@@ -4,7 +4,7 @@ use Rattle.asn1_model.specs.Schema.{Counts}
 use Rattle.asn1_model.specs.Numbers.{is_count_within}
 use Rattle.asn1_model.specs.Oer
 use Rattle.asn1_schema_faults.specs.declared.DecodeError.{DecodeError}
-use Rattle.asn1_schema_faults.specs.declared.DecodeError.TheVariants.{OutOfMemory}
+use Rattle.asn1_schema_faults.specs.declared.DecodeError.TheVariants.{AlreadyFailed, OutOfMemory}
 use Rattle.oer_codec_reading.specs.Fronts.{Stands}
 use Rattle.oer_codec_fronts.specs.Takes.{Scope, members}
 
@@ -13,6 +13,7 @@ abbrev pub HasMembers : (Oer.Freedom → Bool) → Counts → Scope → List ℕ
 HasMembers free h (members n) os rest = (is_count_within h n ≡ true) × Stands free (Oer.unsigned n) os rest
 HasMembers free h s os rest = ⊥
 
--- Why there is none: want of memory, or no such number is in front.
+-- Why there is none: want of memory, or no such number is in front. What looks for it knows of no earlier refusal.
 pub record NoMembers (free : Oer.Freedom → Bool) (h : Counts) (os : List ℕ) (e : DecodeError) : Type 0 where
   pub none : ¬ (e ≡ OutOfMemory) → (s : Scope) (rest : List ℕ) → HasMembers free h s os rest → ⊥
+  pub fresh : ¬ (e ≡ AlreadyFailed)

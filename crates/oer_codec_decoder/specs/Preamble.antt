@@ -2,7 +2,8 @@
 use Rattle.std.specs.Prelude.{◌≡◌, ℕ, Bool, false, List, ◌++◌, length, replicate}
 use Rattle.asn1_model.specs.Numbers.{packed, missing}
 use Rattle.asn1_model.specs.Form.{is_present}
-use Rattle.oer_codec_fronts.specs.Takes.{Scope, components, preamble_bits}
+use Rattle.oer_codec_fronts.specs.Takes.{Scope, components}
+use Rattle.asn1_schema_finding.specs.Marks.{preamble_bits}
 
 -- Bits, filled up with zeros to octets, stand in front.
 abbrev pub FilledBits : List Bool → List ℕ → List ℕ → Type 0

@@ -91,11 +91,29 @@ impl<'input> Decoder<'input> {
     fn begin_record(&mut self) -> Result<(), DecodeError>
         ensures ok { OnOk result (IsReady self.old × (self.new ≡ self.old)) }
         ensures only { IfErr result (λ _. IsReady self.old → ⊥) }
+        ensures after { IfErr result (λ e. (e ≡ DecodeError.AlreadyFailed) × HasFailed self.old) }
         ensures failed { OnErr result (self.new.failed ≡ true) }
         ensures already { self.old.failed ≡ true → result ≡ Err DecodeError.AlreadyFailed }
     {
         if self.failed {
             return Err(DecodeError::AlreadyFailed);
+        }
+        Ok(())
+    }
+
+    // Goes on, unless the decoder has failed or no level is left.
+    #[inline(always)]
+    fn begin_level(&mut self) -> Result<(), DecodeError>
+        ensures ok { OnOk result (IsReady self.old × (self.new ≡ self.old)) }
+        ensures level { OnOk result (0 < self.old.levels) }
+        ensures only { IfErr result (λ _. 0 < self.old.levels → IsReady self.old → ⊥) }
+        ensures after { IfErr result (λ e. e ≡ DecodeError.AlreadyFailed → HasFailed self.old) }
+        ensures failed { OnErr result (self.new.failed ≡ true) }
+        ensures already { self.old.failed ≡ true → result ≡ Err DecodeError.AlreadyFailed }
+    {
+        self.begin_record()?;
+        if self.levels == 0 {
+            return Err(self.fail(DecodeError::ExceedsMaxParseDepth));
         }
         Ok(())
     }
@@ -153,7 +171,8 @@ impl<'input> Decoder<'input> {
 }
 
 impl<'input> asn1_schema_decode::Decoder for Decoder<'input> {
-    ghost use Rattle.oer_codec_decoder.specs.Laws.{finds_one, finds_held, finds_bag_held, finds_none, finds_same};
+    ghost use Rattle.oer_codec_decoder.specs.Laws.{finds_one, finds_held, finds_bag_held, finds_none, finds_on, finds_same};
+    ghost use Rattle.std.specs.Prelude.{⊤};
 
     type Octets = &'input [u8];
 
@@ -162,6 +181,8 @@ impl<'input> asn1_schema_decode::Decoder for Decoder<'input> {
     ghost has_failed = { HasFailed };
 
     ghost levels = { λ d. d.levels };
+
+    ghost lends = { λ _ _ _. ⊤ };
 
     ghost rules = { λ d. kind_of d.rules };
 
@@ -213,11 +234,13 @@ impl<'input> asn1_schema_decode::Decoder for Decoder<'input> {
     }
 
     fn decode_enumerated<T: Enumerated>(&mut self, _tag: Tag) -> Result<T, DecodeError>
-        ensures ok { IfOk result (λ x. Finds self.old (one_of T.roots T.extensible T.additions (T.number x)) self.new) }
+        ensures ok { IfOk result
+            (λ x. Finds self.old (one_of T.roots T.extensible T.additions (T.number x)) self.new) }
         ensures level { OnOk result (self.new.levels ≡ self.old.levels) }
         ensures only { IfErr result (NoRecord Finds (asks_one_of T.roots T.extensible T.additions) self.old) }
         ensures failed { OnErr result (HasFailed self.new) }
         ensures already { HasFailed self.old → result ≡ Err DecodeError.AlreadyFailed }
+        ensures after { result ≡ Err DecodeError.AlreadyFailed → HasFailed self.old }
     {
         self.begin_record()?;
         match read_enumerated(&mut self.cursor, self.rules) {
@@ -240,6 +263,7 @@ impl<'input> asn1_schema_decode::Decoder for Decoder<'input> {
         }
     }
 
+    /// The octets stand in the input as they are (X.696 14), and are lent.
     #[inline(always)]
     fn decode_octet_string(
         &mut self,
@@ -300,10 +324,7 @@ impl<'input> asn1_schema_decode::Decoder for Decoder<'input> {
         _constraints: Constraints,
         held: Bounded<usize>,
     ) -> Result<(), DecodeError> {
-        self.begin_record()?;
-        if self.levels == 0 {
-            return Err(self.fail(DecodeError::ExceedsMaxParseDepth));
-        }
+        self.begin_level()?;
         match read_members(&mut self.cursor, self.rules, held) {
             Ok(frame) => self.enter(frame),
             Err(error) => Err(self.fail(error)),
@@ -317,10 +338,7 @@ impl<'input> asn1_schema_decode::Decoder for Decoder<'input> {
         _constraints: Constraints,
         held: Bounded<usize>,
     ) -> Result<(), DecodeError> {
-        self.begin_record()?;
-        if self.levels == 0 {
-            return Err(self.fail(DecodeError::ExceedsMaxParseDepth));
-        }
+        self.begin_level()?;
         match read_members(&mut self.cursor, self.rules, held) {
             Ok(frame) => self.enter(frame),
             Err(error) => Err(self.fail(error)),
@@ -343,10 +361,7 @@ impl<'input> asn1_schema_decode::Decoder for Decoder<'input> {
         extensible: bool,
         optional: usize,
     ) -> Result<(), DecodeError> {
-        self.begin_record()?;
-        if self.levels == 0 {
-            return Err(self.fail(DecodeError::ExceedsMaxParseDepth));
-        }
+        self.begin_level()?;
         match read_preamble(&mut self.cursor, extensible, optional) {
             Ok(frame) => self.enter(frame),
             Err(error) => Err(self.fail(error)),
@@ -360,10 +375,7 @@ impl<'input> asn1_schema_decode::Decoder for Decoder<'input> {
         extensible: bool,
         optional: usize,
     ) -> Result<(), DecodeError> {
-        self.begin_record()?;
-        if self.levels == 0 {
-            return Err(self.fail(DecodeError::ExceedsMaxParseDepth));
-        }
+        self.begin_level()?;
         match read_preamble(&mut self.cursor, extensible, optional) {
             Ok(frame) => self.enter(frame),
             Err(error) => Err(self.fail(error)),
@@ -372,10 +384,7 @@ impl<'input> asn1_schema_decode::Decoder for Decoder<'input> {
 
     #[inline(always)]
     fn begin_group(&mut self, optional: usize) -> Result<(), DecodeError> {
-        self.begin_record()?;
-        if self.levels == 0 {
-            return Err(self.fail(DecodeError::ExceedsMaxParseDepth));
-        }
+        self.begin_level()?;
         match read_preamble(&mut self.cursor, false, optional) {
             Ok(frame) => self.enter(frame),
             Err(error) => Err(self.fail(error)),
@@ -451,10 +460,7 @@ impl<'input> asn1_schema_decode::Decoder for Decoder<'input> {
         extensible: bool,
         additions: &[Tag],
     ) -> Result<Chosen, DecodeError> {
-        self.begin_record()?;
-        if self.levels == 0 {
-            return Err(self.fail(DecodeError::ExceedsMaxParseDepth));
-        }
+        self.begin_level()?;
         match read_choice(&mut self.cursor, self.rules, roots, extensible, additions) {
             Ok((chosen, enclosing)) => {
                 self.enter_enclosing(enclosing)?;
@@ -484,6 +490,8 @@ impl<'input> asn1_schema_decode::Decoder for Decoder<'input> {
     ghost list_held = { finds_held };
 
     ghost bag_held = { finds_bag_held };
+
+    ghost goes_on = { finds_on };
 
     ghost none_after = { finds_none };
 

@@ -15,6 +15,7 @@ use oer_codec_reading::{Cursor, EncodingRules, leave_open_type, skip_additions};
 fn at_end(is_at_end: bool) -> Result<(), DecodeError>
     ensures ok { OnOk result (is_at_end ≡ true) }
     ensures only { IfErr result (λ _. is_at_end ≡ false) }
+    ensures fresh { IfErr result (λ e. e ≡ DecodeError.AlreadyFailed → ⊥) }
 {
     if is_at_end {
         return Ok(());

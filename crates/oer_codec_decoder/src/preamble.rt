@@ -54,6 +54,7 @@ pub(crate) fn read_preamble<'input>(
 ) -> Result<Frame<'input>, DecodeError>
     ensures ok { IfOk result (λ frame. HasPreamble extensible optional (scope_of frame) cursor.old cursor.new) }
     ensures only { IfErr result (λ _. (s : _) (rest : _) → HasPreamble extensible optional s cursor.old rest → ⊥) }
+    ensures fresh { IfErr result (λ e. e ≡ DecodeError.AlreadyFailed → ⊥) }
 {
     let count = preamble_len(extensible, optional);
     if count > cursor.len() {

@@ -16,4 +16,4 @@ none_encloses e i f fs a b = ap (λ x. frames_of x i fs) a ∙ ap (λ x. others_
 
 pub bag_goes_on : (more : Bool) (fs rest gs : List Frame) (b c : BagFrame) (o p : List ℕ) (r : Result (Unit {0}) EncodeError) → fs ≡ Bag b ∷ rest → MatchResult r (λ _. NextOfBag more b o c p) (NoMember more b.due) → gs ≡ Bag c ∷ rest → MatchResult r (λ _. Does (further more) fs o gs p) (Cannot (further more) fs o)
 bag_goes_on more fs rest gs b c o p (Ok u) a m d = does_next fs rest gs b c o p more a m d
-bag_goes_on more fs rest gs b c o p (Err e) a m d = cannot (further more) fs o e (λ n. no_member_of_bag fs rest b o more a (m n))
+bag_goes_on more fs rest gs b c o p (Err e) a m d = cannot (further more) fs o e m.0 (λ n. no_member_of_bag fs rest b o more a (m.1 n))

@@ -22,14 +22,14 @@ passed_on P Q x (Err y) n h p = subst Q (sym h) p
 apart : {b : Bool} → true ≡ b → b ≡ false → ⊥
 apart h k = let x : true ≡ false = h ∙ k in cc
 
-pub cannot : (r : Record) (fs : List Frame) (o : List ℕ) (e : EncodeError) → (¬ (e ≡ OutOfMemory) → (s : State) → Holds fs o s → run r s ≡ None) → Cannot r fs o e
-cannot r fs o OutOfMemory h = tt
-cannot r fs o ValueConstraintNotSatisfied h = h (λ e. cc)
-cannot r fs o SizeConstraintNotSatisfied h = h (λ e. cc)
-cannot r fs o AlphabetConstraintNotSatisfied h = h (λ e. cc)
-cannot r fs o TooLongValue h = h (λ e. cc)
-cannot r fs o LengthExceedsPlatformSize h = h (λ e. cc)
-cannot r fs o AlreadyFailed h = h (λ e. cc)
+pub cannot : (r : Record) (fs : List Frame) (o : List ℕ) (e : EncodeError) → ¬ (e ≡ AlreadyFailed) → (¬ (e ≡ OutOfMemory) → (s : State) → Holds fs o s → run r s ≡ None) → Cannot r fs o e
+cannot r fs o OutOfMemory n h = tt
+cannot r fs o ValueConstraintNotSatisfied n h = h (λ e. cc)
+cannot r fs o SizeConstraintNotSatisfied n h = h (λ e. cc)
+cannot r fs o AlphabetConstraintNotSatisfied n h = h (λ e. cc)
+cannot r fs o TooLongValue n h = h (λ e. cc)
+cannot r fs o LengthExceedsPlatformSize n h = h (λ e. cc)
+cannot r fs o AlreadyFailed n h = absurd (n refl)
 
 pub no_addition_due : (fs rest : List Frame) (a : Additions) (o : List ℕ) (present : Bool) → fs ≡ Added a ∷ rest → a.due ≡ 0 → (s : State) → Holds fs o s → run (addition present) s ≡ None
 no_addition_due fs rest a o present e n s h =

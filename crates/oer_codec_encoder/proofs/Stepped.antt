@@ -40,7 +40,7 @@ is_refused r fs o w SizeConstraintNotSatisfied q h c = no_step r w _ (ap (run r)
 is_refused r fs o w AlphabetConstraintNotSatisfied q h c = no_step r w _ (ap (run r) (sym q) ∙ c (now fs o) h)
 is_refused r fs o w TooLongValue q h c = no_step r w _ (ap (run r) (sym q) ∙ c (now fs o) h)
 is_refused r fs o w LengthExceedsPlatformSize q h c = no_step r w _ (ap (run r) (sym q) ∙ c (now fs o) h)
-is_refused r fs o w AlreadyFailed q h c = no_step r w _ (ap (run r) (sym q) ∙ c (now fs o) h)
+is_refused r fs o w AlreadyFailed q h c = absurd c
 
 pub has_failed_before : (r : Record) (w : Written) (e : EncodeError) → w.failed ≡ true → Refused Puts r w e
 has_failed_before r w e h = record { none = λ n b p. let x : true ≡ false = sym h ∙ p.0 in cc }
@@ -66,7 +66,7 @@ refuses_none r x fs o SizeConstraintNotSatisfied q h = λ s _. q s ∙ ap (λ y.
 refuses_none r x fs o AlphabetConstraintNotSatisfied q h = λ s _. q s ∙ ap (λ y. adds_text y s) h
 refuses_none r x fs o TooLongValue q h = λ s _. q s ∙ ap (λ y. adds_text y s) h
 refuses_none r x fs o LengthExceedsPlatformSize q h = λ s _. q s ∙ ap (λ y. adds_text y s) h
-refuses_none r x fs o AlreadyFailed q h = λ s _. q s ∙ ap (λ y. adds_text y s) h
+refuses_none r x fs o AlreadyFailed q h = absurd h
 
 pub adds_sound : (r : Record) (x : Option (List ℕ)) (fs : List Frame) (o p : List ℕ) → ((s : State) → run r s ≡ adds_text x s) → Sound fs o → Adds x o p → Sound fs p
 adds_sound r x fs o p e h a = stays_sound r fs fs o p h (does_add r x fs o p e a)

@@ -1,7 +1,7 @@
 -- The frames of an encoder, and how they go on.
 use Rattle.std.specs.Prelude.{◌≡◌, ℕ, ◌+◌, ◌-◌, ◌<◌, Bool, ◌||◌, List, [], ◌∷◌, ◌++◌, reverse, not, ltb, Option, Some, None}
 use Rattle.asn1_schema_faults.specs.declared.EncodeError.{EncodeError}
-use Rattle.asn1_schema_faults.specs.declared.EncodeError.TheVariants.{OutOfMemory}
+use Rattle.asn1_schema_faults.specs.declared.EncodeError.TheVariants.{AlreadyFailed, OutOfMemory}
 use Rattle.oer_codec_encoder.specs.declared.frame.Additions.{Additions}
 use Rattle.oer_codec_encoder.specs.declared.frame.Frame.{Frame}
 use Rattle.oer_codec_encoder.specs.declared.frame.Frame.TheVariants.{Added, OpenType, Alternative}
@@ -42,6 +42,10 @@ abbrev pub CountsAddition : Bool → List Frame → List Frame → Type 0
 CountsAddition present (Added a ∷ k) after = (b : Additions) × Next present a b × (after ≡ Added b ∷ k)
 CountsAddition present k after = ⊥
 
+-- Why no addition comes where so many are due: memory was refused, or none is due.
+abbrev pub NoAddition : ℕ → EncodeError → Type 0
+NoAddition due e = ¬ (e ≡ AlreadyFailed) × (¬ (e ≡ OutOfMemory) → due ≡ 0)
+
 -- Why no member, or no end of the members, comes where so many are due: memory was refused, or it is not what is due.
 abbrev pub NoMember : Bool → ℕ → EncodeError → Type 0
-NoMember more due e = ¬ (e ≡ OutOfMemory) → more ≡ not (ltb 0 due)
+NoMember more due e = ¬ (e ≡ AlreadyFailed) × (¬ (e ≡ OutOfMemory) → more ≡ not (ltb 0 due))

@@ -3,7 +3,7 @@ use Rattle.std.specs.Prelude.{◌≡◌, ℕ, ◌+◌, ◌-◌, ◌^◌, ◌<◌
 use Rattle.asn1_model.specs.Numbers.{octet_bits}
 use Rattle.asn1_values_bits.specs.Octets.{filled_up}
 use Rattle.asn1_schema_faults.specs.declared.EncodeError.{EncodeError}
-use Rattle.asn1_schema_faults.specs.declared.EncodeError.TheVariants.{OutOfMemory}
+use Rattle.asn1_schema_faults.specs.declared.EncodeError.TheVariants.{AlreadyFailed, OutOfMemory}
 use Rattle.asn1_schema_presented.specs.Records.{Record}
 use Rattle.oer_codec_encoder.specs.Steps.{components, added, open_type, members, bag_members, alternative, with_open, is_any_set, State, run}
 use Rattle.oer_codec_encoder.specs.declared.frame.Bag.{Bag as BagFrame}
@@ -88,9 +88,10 @@ pub record AreSound (fs : List Frame) (o : List ℕ) : Type 0 where
 pub record Does (r : Record) (fs : List Frame) (o : List ℕ) (gs : List Frame) (p : List ℕ) : Type 0 where
   pub after : (s : State) → Holds fs o s → (t : State) × (run r s ≡ Some t) × Holds gs p t
 
--- Why a record was refused: memory was, or there is no step.
+-- Why a record was refused: memory was, or there is no step. What writes it knows of no earlier refusal.
 abbrev pub Cannot : Record → List Frame → List ℕ → EncodeError → Type 0
 Cannot r fs o OutOfMemory = Unit {0}
+Cannot r fs o AlreadyFailed = ⊥
 Cannot r fs o e = (s : State) → Holds fs o s → run r s ≡ None
 
 -- A bag behind the octets of a member that begins, or as it was.

@@ -1,7 +1,7 @@
 //! Additions of sequences and of sets, each an open type (X.696 16 and 30).
 ghost use Rattle.std.specs.Prelude.{◌≡◌, MatchResult};
 ghost use Rattle.asn1_schema_presented.specs.Records.{additions_begin, addition, addition_ends};
-ghost use Rattle.oer_codec_encoder.specs.Frames.{Next};
+ghost use Rattle.oer_codec_encoder.specs.Frames.{Next, NoAddition};
 ghost use Rattle.oer_codec_encoder.specs.Holding.{AreSound, Does, Cannot};
 
 use crate::frame::{Additions, Frame};
@@ -47,7 +47,7 @@ pub(crate) fn begin_additions(
 /// Counts the next addition, and keeps whether it is there.
 #[inline(always)]
 pub(crate) fn count_addition(additions: &mut Additions, present: bool) -> Result<(), EncodeError>
-    ensures { MatchResult result (λ _. Next present additions.old additions.new) (λ e. ¬ (e ≡ EncodeError.OutOfMemory) → additions.old.due ≡ 0) }
+    ensures { MatchResult result (λ _. Next present additions.old additions.new) (NoAddition additions.old.due) }
 {
     if additions.due == 0 {
         return Err(EncodeError::SizeConstraintNotSatisfied);

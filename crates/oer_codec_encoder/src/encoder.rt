@@ -53,6 +53,20 @@ impl<'buffer> Model for Encoder<'buffer> {
     ghost invariant = { λ e. e.failed ≡ false → Holds e.frames e.output.now.items (shown e.frames e.output.now.items) };
 }
 
+/// Begins a record, unless an earlier call was refused. The encoder counts as failed until the record is written.
+#[inline(always)]
+fn begin_record(failed: &mut bool) -> Result<(), EncodeError>
+    ensures ok { OnOk result (failed.old ≡ false) }
+    ensures only { IfErr result (λ e. (e ≡ EncodeError.AlreadyFailed) × (failed.old ≡ true)) }
+    ensures failed { failed.new ≡ true }
+{
+    if *failed {
+        return Err(EncodeError::AlreadyFailed);
+    }
+    *failed = true;
+    Ok(())
+}
+
 impl<'buffer> Encoder<'buffer> {
     /// An encoder that writes behind what stands in the buffer. It takes no memory.
     ///
@@ -88,7 +102,7 @@ impl<'buffer> Encoder<'buffer> {
 }
 
 impl<'buffer> asn1_schema_encode::Encoder for Encoder<'buffer> {
-    ghost use Rattle.oer_codec_encoder.specs.Laws.{puts_one, puts_none, puts_same};
+    ghost use Rattle.oer_codec_encoder.specs.Laws.{puts_one, puts_none, puts_on, puts_same};
     ghost use Rattle.asn1_schema_faults.specs.declared.CodecKind.TheVariants.{Coer};
 
     ghost step = { Puts };
@@ -108,10 +122,7 @@ impl<'buffer> asn1_schema_encode::Encoder for Encoder<'buffer> {
         value: bool,
         _identifier: Identifier,
     ) -> Result<(), EncodeError> {
-        if self.failed {
-            return Err(EncodeError::AlreadyFailed);
-        }
-        self.failed = true;
+        begin_record(&mut self.failed)?;
         push_boolean(self.output, value)?;
         self.failed = false;
         Ok(())
@@ -133,10 +144,7 @@ impl<'buffer> asn1_schema_encode::Encoder for Encoder<'buffer> {
         value: &I,
         _identifier: Identifier,
     ) -> Result<(), EncodeError> {
-        if self.failed {
-            return Err(EncodeError::AlreadyFailed);
-        }
-        self.failed = true;
+        begin_record(&mut self.failed)?;
         push_integer(self.output, constraints, value)?;
         self.failed = false;
         Ok(())
@@ -148,15 +156,15 @@ impl<'buffer> asn1_schema_encode::Encoder for Encoder<'buffer> {
         value: &T,
         _identifier: Identifier,
     ) -> Result<(), EncodeError>
-        ensures ok { OnOk result (Puts self.old (one_of T.roots T.extensible T.additions (T.number value.now)) self.new) }
-        ensures only { IfErr result (Refused Puts (one_of T.roots T.extensible T.additions (T.number value.now)) self.old) }
+        ensures ok { OnOk result
+            (Puts self.old (one_of T.roots T.extensible T.additions (T.number value.now)) self.new) }
+        ensures only { IfErr result
+            (Refused Puts (one_of T.roots T.extensible T.additions (T.number value.now)) self.old) }
         ensures failed { OnErr result (self.new.failed ≡ true) }
         ensures already { self.old.failed ≡ true → result ≡ Err EncodeError.AlreadyFailed }
+        ensures after { result ≡ Err EncodeError.AlreadyFailed → self.old.failed ≡ true }
     {
-        if self.failed {
-            return Err(EncodeError::AlreadyFailed);
-        }
-        self.failed = true;
+        begin_record(&mut self.failed)?;
         push_enumerated(self.output, value)?;
         self.failed = false;
         Ok(())
@@ -170,10 +178,7 @@ impl<'buffer> asn1_schema_encode::Encoder for Encoder<'buffer> {
         value: BitStr,
         _identifier: Identifier,
     ) -> Result<(), EncodeError> {
-        if self.failed {
-            return Err(EncodeError::AlreadyFailed);
-        }
-        self.failed = true;
+        begin_record(&mut self.failed)?;
         push_bit_string(self.output, constraints, held, value)?;
         self.failed = false;
         Ok(())
@@ -188,10 +193,7 @@ impl<'buffer> asn1_schema_encode::Encoder for Encoder<'buffer> {
         value: &[u8],
         _identifier: Identifier,
     ) -> Result<(), EncodeError> {
-        if self.failed {
-            return Err(EncodeError::AlreadyFailed);
-        }
-        self.failed = true;
+        begin_record(&mut self.failed)?;
         push_octet_string(self.output, constraints, held, value)?;
         self.failed = false;
         Ok(())
@@ -204,10 +206,7 @@ impl<'buffer> asn1_schema_encode::Encoder for Encoder<'buffer> {
         value: &str,
         _identifier: Identifier,
     ) -> Result<(), EncodeError> {
-        if self.failed {
-            return Err(EncodeError::AlreadyFailed);
-        }
-        self.failed = true;
+        begin_record(&mut self.failed)?;
         push_utf8(self.output, constraints, value)?;
         self.failed = false;
         Ok(())
@@ -220,10 +219,7 @@ impl<'buffer> asn1_schema_encode::Encoder for Encoder<'buffer> {
         value: &S,
         _identifier: Identifier,
     ) -> Result<(), EncodeError> {
-        if self.failed {
-            return Err(EncodeError::AlreadyFailed);
-        }
-        self.failed = true;
+        begin_record(&mut self.failed)?;
         push_characters(self.output, constraints, value)?;
         self.failed = false;
         Ok(())
@@ -235,10 +231,7 @@ impl<'buffer> asn1_schema_encode::Encoder for Encoder<'buffer> {
         value: Oid,
         _identifier: Identifier,
     ) -> Result<(), EncodeError> {
-        if self.failed {
-            return Err(EncodeError::AlreadyFailed);
-        }
-        self.failed = true;
+        begin_record(&mut self.failed)?;
         push_identifier(self.output, self.alloc, &value)?;
         self.failed = false;
         Ok(())
@@ -252,10 +245,7 @@ impl<'buffer> asn1_schema_encode::Encoder for Encoder<'buffer> {
         held: Bounded<usize>,
         count: usize,
     ) -> Result<(), EncodeError> {
-        if self.failed {
-            return Err(EncodeError::AlreadyFailed);
-        }
-        self.failed = true;
+        begin_record(&mut self.failed)?;
         begin_members(self.output, &mut self.frames, constraints, held, count)?;
         self.failed = false;
         Ok(())
@@ -269,10 +259,7 @@ impl<'buffer> asn1_schema_encode::Encoder for Encoder<'buffer> {
         held: Bounded<usize>,
         count: usize,
     ) -> Result<(), EncodeError> {
-        if self.failed {
-            return Err(EncodeError::AlreadyFailed);
-        }
-        self.failed = true;
+        begin_record(&mut self.failed)?;
         begin_bag(
             self.output,
             &mut self.frames,
@@ -287,10 +274,7 @@ impl<'buffer> asn1_schema_encode::Encoder for Encoder<'buffer> {
 
     #[inline(always)]
     fn put_further(&mut self, more: bool) -> Result<(), EncodeError> {
-        if self.failed {
-            return Err(EncodeError::AlreadyFailed);
-        }
-        self.failed = true;
+        begin_record(&mut self.failed)?;
         self.frames.put_further(self.output, self.alloc, more)?;
         self.failed = false;
         Ok(())
@@ -303,10 +287,7 @@ impl<'buffer> asn1_schema_encode::Encoder for Encoder<'buffer> {
         extensible: bool,
         optional: usize,
     ) -> Result<(), EncodeError> {
-        if self.failed {
-            return Err(EncodeError::AlreadyFailed);
-        }
-        self.failed = true;
+        begin_record(&mut self.failed)?;
         begin_components(self.output, &mut self.frames, extensible, optional)?;
         self.failed = false;
         Ok(())
@@ -319,10 +300,7 @@ impl<'buffer> asn1_schema_encode::Encoder for Encoder<'buffer> {
         extensible: bool,
         optional: usize,
     ) -> Result<(), EncodeError> {
-        if self.failed {
-            return Err(EncodeError::AlreadyFailed);
-        }
-        self.failed = true;
+        begin_record(&mut self.failed)?;
         begin_components(self.output, &mut self.frames, extensible, optional)?;
         self.failed = false;
         Ok(())
@@ -330,10 +308,7 @@ impl<'buffer> asn1_schema_encode::Encoder for Encoder<'buffer> {
 
     #[inline(always)]
     fn begin_group(&mut self, optional: usize) -> Result<(), EncodeError> {
-        if self.failed {
-            return Err(EncodeError::AlreadyFailed);
-        }
-        self.failed = true;
+        begin_record(&mut self.failed)?;
         begin_components(self.output, &mut self.frames, false, optional)?;
         self.failed = false;
         Ok(())
@@ -341,10 +316,7 @@ impl<'buffer> asn1_schema_encode::Encoder for Encoder<'buffer> {
 
     #[inline(always)]
     fn put_mark(&mut self, present: bool) -> Result<(), EncodeError> {
-        if self.failed {
-            return Err(EncodeError::AlreadyFailed);
-        }
-        self.failed = true;
+        begin_record(&mut self.failed)?;
         put_mark(self.output, &mut self.frames, present)?;
         self.failed = false;
         Ok(())
@@ -352,10 +324,7 @@ impl<'buffer> asn1_schema_encode::Encoder for Encoder<'buffer> {
 
     #[inline(always)]
     fn begin_additions(&mut self, count: usize) -> Result<(), EncodeError> {
-        if self.failed {
-            return Err(EncodeError::AlreadyFailed);
-        }
-        self.failed = true;
+        begin_record(&mut self.failed)?;
         begin_additions(
             self.output,
             self.worker,
@@ -369,10 +338,7 @@ impl<'buffer> asn1_schema_encode::Encoder for Encoder<'buffer> {
 
     #[inline(always)]
     fn put_addition(&mut self, present: bool) -> Result<(), EncodeError> {
-        if self.failed {
-            return Err(EncodeError::AlreadyFailed);
-        }
-        self.failed = true;
+        begin_record(&mut self.failed)?;
         put_addition(self.output, &mut self.frames, present)?;
         self.failed = false;
         Ok(())
@@ -380,10 +346,7 @@ impl<'buffer> asn1_schema_encode::Encoder for Encoder<'buffer> {
 
     #[inline(always)]
     fn end_addition(&mut self) -> Result<(), EncodeError> {
-        if self.failed {
-            return Err(EncodeError::AlreadyFailed);
-        }
-        self.failed = true;
+        begin_record(&mut self.failed)?;
         end_addition(self.output, &mut self.frames, self.alloc)?;
         self.failed = false;
         Ok(())
@@ -398,10 +361,7 @@ impl<'buffer> asn1_schema_encode::Encoder for Encoder<'buffer> {
         additions: &[Tag],
         chosen: Chosen,
     ) -> Result<(), EncodeError> {
-        if self.failed {
-            return Err(EncodeError::AlreadyFailed);
-        }
-        self.failed = true;
+        begin_record(&mut self.failed)?;
         begin_choice(
             self.output,
             &mut self.frames,
@@ -416,10 +376,7 @@ impl<'buffer> asn1_schema_encode::Encoder for Encoder<'buffer> {
 
     #[inline(always)]
     fn end(&mut self) -> Result<(), EncodeError> {
-        if self.failed {
-            return Err(EncodeError::AlreadyFailed);
-        }
-        self.failed = true;
+        begin_record(&mut self.failed)?;
         end_scope(self.output, self.worker, &mut self.frames, self.alloc)?;
         self.failed = false;
         Ok(())
@@ -428,6 +385,8 @@ impl<'buffer> asn1_schema_encode::Encoder for Encoder<'buffer> {
     ghost one_after = { puts_one };
 
     ghost none_after = { puts_none };
+
+    ghost goes_on = { puts_on };
 
     ghost same_rules = { puts_same };
 }

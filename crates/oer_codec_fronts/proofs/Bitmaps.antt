@@ -13,7 +13,8 @@ use Rattle.asn1_laws_fronts.proofs.Additions as adding
 use Rattle.asn1_schema_presented.specs.Records.{additions_begin}
 use Rattle.asn1_schema_presented.specs.Presents.{root_records, added_records, optional_count, component_count}
 use Rattle.asn1_schema_presented.specs.Chains.{Chain}
-use Rattle.oer_codec_fronts.specs.Takes.{State, Scope, components, added, Front, Found, preamble_bits, Begins, first_bits, has_set, unknown_forms, Skips}
+use Rattle.oer_codec_fronts.specs.Takes.{State, Scope, components, added, Front, Found, Begins, unknown_forms, Skips}
+use Rattle.asn1_schema_finding.specs.Marks.{preamble_bits, first_bits, has_set}
 use Rattle.oer_codec_fronts.proofs.Anywhere.{Moves, EachMoves, AllMove, moves_both, components_move, additions_move, joined_moves, each_unknown_moves, counted_bits_move}
 use Rattle.oer_codec_fronts.proofs.Fronts.{Step, nothing_front, of_nothing, split, join, varied_in, varied_out, given_in, given_out, if_in, if_out, let_through, from_state, from_scopes}
 use Rattle.oer_codec_fronts.proofs.Parts.{EachFinds, EachShows, LikeParts}

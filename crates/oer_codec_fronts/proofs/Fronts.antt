@@ -12,7 +12,8 @@ use Rattle.asn1_schema_presented.specs.Presents.{presents}
 use Rattle.asn1_schema_presented.specs.Chains.{Chain}
 use Rattle.asn1_schema_presented.proofs.Chains.{chain_split, chain_append}
 use Rattle.oer_codec_fronts.specs.Takes.{State, Scope, Front, Found, Takes}
-use Rattle.oer_codec_fronts.specs.Ties.{Bridges, has_no_bag}
+use Rattle.oer_codec_fronts.specs.Ties.{Bridges}
+use Rattle.asn1_schema_finding.specs.Bags.{has_no_bag}
 use Rattle.oer_codec_fronts.proofs.Next.{state_same}
 use Rattle.oer_codec_fronts.proofs.Anywhere.{Moves}
 

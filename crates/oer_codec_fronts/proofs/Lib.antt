@@ -6,4 +6,3 @@ pub mod Sequences
 pub mod Bitmaps
 pub mod Choices
 pub mod Whole
-pub mod Fitting

@@ -18,7 +18,8 @@ use Rattle.asn1_laws_fronts.proofs.Sevens.{identifiers_equal}
 use Rattle.asn1_laws_fronts.proofs.Additions as adding
 use Rattle.asn1_laws_fronts.proofs.OctetUnits.{items_alike, bit_strings_alike, octets_alike, one_length, characters_equal, characters_long}
 use Rattle.asn1_laws_fronts.proofs.Tags.{tags_alike}
-use Rattle.oer_codec_fronts.specs.Takes.{Scope, components, added, open_type, members, alternative, State, Front, Found, Counted, NextMember, preamble_bits, Begins, NextMark, first_bits, AdditionsBegin, Opens, NextAddition, AdditionEnds, Skips, IsPlace, Enters, Chooses, Ends, Takes}
+use Rattle.oer_codec_fronts.specs.Takes.{Scope, components, added, open_type, members, alternative, State, Front, Found, Counted, NextMember, Begins, NextMark, AdditionsBegin, Opens, NextAddition, AdditionEnds, Skips, IsPlace, Enters, Chooses, Ends, Takes}
+use Rattle.asn1_schema_finding.specs.Marks.{preamble_bits, first_bits}
 
 pub state_same : (b c : State) → b.0 ≡ c.0 → b.1 ≡ c.1 → b ≡ c
 state_same b c e f =

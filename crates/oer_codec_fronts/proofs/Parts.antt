@@ -16,7 +16,8 @@ use Rattle.asn1_schema_presented.specs.Presents.{presents, member_records, membe
 use Rattle.asn1_schema_presented.specs.Chains.{Chain}
 use Rattle.asn1_schema_presented.proofs.Chains.{chain_split, chain_append}
 use Rattle.oer_codec_fronts.specs.Takes.{State, Scope, components, members, Front, Found, Counted}
-use Rattle.oer_codec_fronts.specs.Ties.{Bridges, has_no_bag, have_no_bag}
+use Rattle.oer_codec_fronts.specs.Ties.{Bridges}
+use Rattle.asn1_schema_finding.specs.Bags.{has_no_bag, have_no_bag}
 use Rattle.oer_codec_fronts.proofs.Next.{state_same}
 use Rattle.oer_codec_fronts.proofs.Anywhere.{Moves, form_moves, components_move, all_move}
 use Rattle.oer_codec_fronts.proofs.Fronts.{Like, Finds, Shows, Step, nothing_front, of_nothing, of_refused, split, join, varied_in, varied_out, given_in, given_out, if_out, single, none, from_state, from_scopes, noted_by, spelled_by, there_in, there_out}

@@ -8,26 +8,17 @@ use Rattle.asn1_model.specs.Tables.{is_required, mark_unless, marks}
 use Rattle.asn1_model.specs.Form.{exactly, both, joined, is_present, present_ones, Reads}
 use Rattle.asn1_model.specs.Oer
 use Rattle.asn1_model.proofs.Forms.{map_parts}
+use Rattle.asn1_schema_finding.proofs.Marks.{marks_count}
 use Rattle.asn1_schema_presented.specs.Records.{Record, addition, addition_ends, ends, mismatch}
 use Rattle.asn1_schema_presented.specs.Presents.{presents, root_records, added_records, optional_count}
 use Rattle.asn1_schema_presented.specs.Chains.{Chain}
 use Rattle.asn1_schema_presented.proofs.Chains.{chain_split, chain_append}
-use Rattle.oer_codec_fronts.specs.Takes.{State, Scope, components, added, open_type, Front, Found, preamble_bits, Begins, Opens, Closes, AdditionEnds, Skips}
+use Rattle.oer_codec_fronts.specs.Takes.{State, Scope, components, added, open_type, Front, Found, Begins, Opens, Closes, AdditionEnds, Skips}
+use Rattle.asn1_schema_finding.specs.Marks.{preamble_bits}
 use Rattle.oer_codec_fronts.proofs.Next.{state_same}
 use Rattle.oer_codec_fronts.proofs.Anywhere.{Moves, AllMove, components_move, additions_move, joined_moves}
 use Rattle.oer_codec_fronts.proofs.Fronts.{Like, Finds, Shows, Step, nothing_front, of_nothing, split, join, from_state, from_scopes, noted_by, spelled_by, noted_in, noted_out, noted_same}
 use Rattle.oer_codec_fronts.proofs.Parts.{EachFinds, EachShows, LikeParts, parts_self, like_present, like_absent, root_in, root_out}
-
-unless_count : (q t : Bool) (ms : List Bool) (n : ℕ) → length ms ≡ n → length (mark_unless q t ms) ≡ cond q n (suc n)
-unless_count true t ms n e = e
-unless_count false t ms n e = ap suc e
-
--- as many presence bits as components that may be absent
-pub marks_count : (cs : Components) (ps : Parts) → length (marks cs ps) ≡ optional_count cs
-marks_count no_component ps = refl
-marks_count (component t o s cs) (present v ps) = unless_count (is_required o) true _ _ (marks_count cs ps)
-marks_count (component t o s cs) (absent ps) = unless_count (is_required o) false _ _ (marks_count cs ps)
-marks_count (component t o s cs) end = unless_count (is_required o) false _ _ (marks_count cs end)
 
 module _ (free : Oer.Freedom → Bool) where
   -- ---- the preamble and the root

@@ -14,7 +14,8 @@ use Rattle.asn1_schema_presented.specs.Records.{Record, additions_begin, mismatc
 use Rattle.asn1_schema_presented.specs.Presents.{presents, root_records, added_records, behind_root, optional_count, component_count}
 use Rattle.asn1_schema_presented.specs.Chains.{Chain}
 use Rattle.oer_codec_fronts.specs.Takes.{State, components, Front, Found, Begins, Takes}
-use Rattle.oer_codec_fronts.specs.Ties.{Bridges, FindsIn, has_no_bag, have_no_bag}
+use Rattle.oer_codec_fronts.specs.Ties.{Bridges, FindsIn}
+use Rattle.asn1_schema_finding.specs.Bags.{has_no_bag, have_no_bag}
 use Rattle.oer_codec_fronts.proofs.Fronts.{Finds, Shows, by_itself, Step, of_refused, given_out, none}
 use Rattle.oer_codec_fronts.proofs.Parts.{EachFinds, EachShows, LikeParts, parts_self, booleans, nulls, integers, items, bit_strings, octet_strings, strings, identifiers, list_finds, list_shows, bag_finds, bag_shows}
 use Rattle.oer_codec_fronts.proofs.Sequences.{begun_in, plain_in, plain_out}

@@ -1,12 +1,14 @@
 -- What a reader of the octet encoding rules (X.696) holds: the octets that are left in the innermost open scope, and the open scopes. Each record
 -- takes octets in front, of a form that the reader's freedoms allow.
-use Rattle.std.specs.Prelude.{◌≡◌, ◌⊎◌, ℕ, zero, suc, Bool, true, false, cond, ◌||◌, IsTrue, List, [], ◌∷◌, ◌++◌, length, drop, map, Option, Some, None, option_map}
+use Rattle.std.specs.Prelude.{◌≡◌, ◌⊎◌, ℕ, zero, suc, Bool, true, false, cond, IsTrue}
+use Rattle.std.specs.Prelude.{List, [], ◌∷◌, ◌++◌, length, drop, map, Option, Some, None, option_map}
 use Rattle.asn1_model.specs.Value.{truth, nothing, number, item, bit_list, octet_list, text, arcs}
 use Rattle.asn1_model.specs.Schema.{Tag, Counts, boolean, null, integer, enumerated, bit_string, octet_string, character_string, object_identifier}
 use Rattle.asn1_model.specs.Lawful.{tag_same}
 use Rattle.asn1_model.specs.Numbers.{is_count_within}
 use Rattle.asn1_model.specs.Form.{Reads, joined, is_present, present_ones}
 use Rattle.asn1_model.specs.Oer
+use Rattle.asn1_schema_finding.specs.Marks.{preamble_bits, first_bits, has_set}
 use Rattle.asn1_schema_presented.specs.Records.{Record, flag, nil, whole, one_of, bits, octets, characters, identifier, list_begins, bag_begins, further, sequence_begins, set_begins, group_begins, mark, is_default, is_empty, additions_begin, addition, addition_ends, choice_begins, ends, mismatch}
 
 -- An open scope.
@@ -50,11 +52,6 @@ NextMember v os k b = ⊥
 
 -- ---- components
 
--- The bits of a preamble: that of the mark, if there is one, and the presence bits (X.696 16.2).
-abbrev pub preamble_bits : Option Bool → List Bool → List Bool
-preamble_bits None ms = ms
-preamble_bits (Some x) ms = x ∷ ms
-
 -- A preamble with or without the bit of a mark, and with so many presence bits.
 abbrev pub Begins : (Oer.Freedom → Bool) → Bool → ℕ → State → State → Type 0
 Begins free e n a b = (x : Option Bool) × (ms : List Bool) × (is_present x ≡ e) × (length ms ≡ n) × Front free (Oer.preamble (preamble_bits x ms)) a.0 b.0 × (b.1 ≡ components x ms ∷ a.1)
@@ -65,17 +62,6 @@ NextMark v os (components x (m ∷ ms) ∷ k) b = (v ≡ m) × (b ≡ (os, compo
 NextMark v os k b = ⊥
 
 -- ---- additions
-
--- So many bits, those that are wanting being 0.
-abbrev pub first_bits : ℕ → List Bool → List Bool
-first_bits zero bs = []
-first_bits (suc n) [] = false ∷ first_bits n []
-first_bits (suc n) (b ∷ bs) = b ∷ first_bits n bs
-
--- Whether a bit is set.
-abbrev pub has_set : List Bool → Bool
-has_set [] = false
-has_set (b ∷ bs) = b || has_set bs
 
 -- Behind the root components: without the mark's bit no addition is there, and with it a bitmap tells which are. Those past its width are
 -- absent, and what stands past the type's own is unknown (X.696 16.4).

@@ -1,11 +1,12 @@
 -- What ties the records that a reader finds to the forms of values.
-use Rattle.std.specs.Prelude.{◌≡◌, ◌↔◌, ℕ, ◌^◌, ◌<◌, Bool, true, false, ◌&&◌, IsTrue, List, [], length}
-use Rattle.asn1_model.specs.Schema.{Counts, Size, Schema, sequence_of, set_of, sequence, set, group, choice, Components, no_component, component, Alternatives, no_alternative, alternative}
+use Rattle.std.specs.Prelude.{◌≡◌, ◌↔◌, ℕ, ◌^◌, ◌<◌, Bool, true, IsTrue, List, [], length}
+use Rattle.asn1_model.specs.Schema.{Counts, Size, Schema}
 use Rattle.asn1_model.specs.Value.{Value, same}
 use Rattle.asn1_model.specs.Lawful.{IsLawful}
 use Rattle.asn1_model.specs.Numbers.{is_count_within}
 use Rattle.asn1_model.specs.Oer
 use Rattle.asn1_model.specs.Rules.{Rules, oer, coer, lenient, strict_oer, IsEncoding}
+use Rattle.asn1_schema_finding.specs.Bags.{has_no_bag}
 use Rattle.asn1_schema_presented.specs.Records.{list_begins}
 use Rattle.asn1_schema_presented.specs.Presents.{presents, Fits}
 use Rattle.asn1_schema_presented.specs.Chains.{Chain, OneRecord}
@@ -27,27 +28,6 @@ RecordsRead = (free : Oer.Freedom → Bool) (s : Schema) (v : Value) (a b : Stat
 -- Where the octets in front have the form of a value of a lawful type, the records of one that is the same up to the order of bags are next.
 abbrev pub FormsShow : Type 0
 FormsShow = (free : Oer.Freedom → Bool) (s : Schema) (v : Value) (a b : State) → IsTrue (free Oer.other_bitmap) → IsLawful s → Found free (Oer.form s v) a b → (w : Value) × (same v w ≡ true) × Chain (Takes free) (presents s w) a b
-
-abbrev mutual
-  -- Whether no SET OF stands in a type.
-  pub has_no_bag : Schema → Bool
-  has_no_bag (sequence_of z h s) = has_no_bag s
-  has_no_bag (set_of z h s) = false
-  has_no_bag (sequence cs e adds) = have_no_bag cs && have_no_bag adds
-  has_no_bag (set cs e adds) = have_no_bag cs && have_no_bag adds
-  has_no_bag (group cs) = have_no_bag cs
-  has_no_bag (choice roots e adds) = are_no_bags roots && are_no_bags adds
-  has_no_bag s = true
-
-  -- The same of components.
-  pub have_no_bag : Components → Bool
-  have_no_bag no_component = true
-  have_no_bag (component t o s cs) = has_no_bag s && have_no_bag cs
-
-  -- The same of alternatives.
-  pub are_no_bags : Alternatives → Bool
-  are_no_bags no_alternative = true
-  are_no_bags (alternative t s others) = has_no_bag s && are_no_bags others
 
 -- The records of a value are next exactly where the octets in front have its form.
 abbrev pub Bridges : (Oer.Freedom → Bool) → Schema → Value → Type 0

@@ -1,12 +1,12 @@
 -- What stands in front where a presence bitmap does.
-use Rattle.std.proofs.Common.{◌≡◌, ℕ, ◌+◌, ◌*◌, ◌/◌, ◌%◌, ◌^◌, ◌<◌, ◌==◌, Bool, false, inl, List, [], ◌∷◌, ◌++◌, length, drop, replicate, Result, Ok, Err, IfOk, IfErr, refl, sym, ap, ◌∙◌, subst, arith, append_assoc, length-drop}
+use Rattle.std.proofs.Common.{◌≡◌, ℕ, ◌+◌, ◌/◌, ◌%◌, ◌^◌, ◌<◌, ◌==◌, Bool, false, inl, List, [], ◌∷◌, ◌++◌, length, replicate, refl, sym, ap, ◌∙◌, subst, arith, append_assoc}
 use Rattle.std.proofs.Math.Nat.{mod-eq_of_lt}
 use Rattle.std.proofs.lemmas.Bool.{eqb-true}
 use Rattle.asn1_model.specs.Form.{Reads}
-use Rattle.asn1_model.specs.Numbers.{binary, missing, octet_bits}
+use Rattle.asn1_model.specs.Numbers.{binary, missing}
 use Rattle.asn1_model.specs.Oer.{Freedom, any_filling, bit_string_form, bits_form, counted_bits, empty_bit_string, length_form}
 use Rattle.asn1_schema_faults.specs.declared.DecodeError.{DecodeError}
-use Rattle.asn1_values_bits.proofs.Binary.{low_zeros, length-octet_bits}
+use Rattle.asn1_values_bits.proofs.Binary.{low_zeros}
 use Rattle.oer_codec_fronts.proofs.Anywhere.{Anywhere, moves_exactly, moves_if, moves_varied}
 use Rattle.oer_codec_reading_lengths.specs.declared.rules.EncodingRules.{EncodingRules}
 use Rattle.oer_codec_reading.specs.Bits.{bits_in}
@@ -18,16 +18,6 @@ use Rattle.oer_codec_reading.proofs.BitStringFronts.{wrong_bits}
 -- a number of no set bit
 pub zero_bits : (w n : ℕ) (bs : List Bool) → n < 2 ^ w → binary w n ≡ bs → bs ≡ replicate w false → n ≡ 0
 zero_bits w n bs h e f = let z : n % 2 ^ w ≡ 0 = low_zeros w n (e ∙ f) in sym (mod-eq_of_lt h) ∙ z
-
--- the bits that fill octets behind others
-pub dropped_length : (n : ℕ) (os : List ℕ) → length os * 8 ≡ n + missing n → length (drop n (octet_bits os)) ≡ missing n
-dropped_length n os l = let x = length-drop n (octet_bits os) in let y = length-octet_bits os in omega (arith, x, y, l)
-
-pub zero_rest : (n : ℕ) (os : List ℕ) (r : List Bool) → length os * 8 ≡ n + missing n → r ≡ drop n (octet_bits os) → r ≡ replicate (length r) false → drop n (octet_bits os) ≡ replicate (missing n) false
-zero_rest n os r l e z = sym e ∙ z ∙ ap (λ k. replicate k false) (ap length e ∙ dropped_length n os l)
-
-pub rest_zero : (n : ℕ) (os : List ℕ) (r : List Bool) → length os * 8 ≡ n + missing n → r ≡ drop n (octet_bits os) → drop n (octet_bits os) ≡ replicate (missing n) false → r ≡ replicate (length r) false
-rest_zero n os r l e z = e ∙ z ∙ ap (λ k. replicate k false) (sym (ap length e ∙ dropped_length n os l))
 
 -- how many octets bits take behind their length
 abbrev octets_of : ℕ → ℕ
@@ -75,10 +65,8 @@ module _ (r : EncodingRules) where
       let b : u ≡ missing (length bs) = sym f ∙ ap missing (sym l) in
       counted_stands (freedoms r) bs w mid rest (subst (λ x. Stands (freedoms r) (length_form x) w (missing (length bs) ∷ mid)) a (subst (λ x. Stands (freedoms r) (length_form n) w (x ∷ mid)) b h)) i.1
 
-  pub bitmap_read : {X : Type 0} (e : Result X DecodeError) (bits : X → List Bool) (w mid new rest : List ℕ) (n u k : ℕ) → mid ≡ u ∷ new → (k + 7) / 8 + 1 ≡ n → missing k ≡ u → Stands (freedoms r) (length_form n) w mid → IfOk e (λ x. Stands (freedoms r) (bits_in k (bits x)) new rest) → IfOk e (λ x. Stands (freedoms r) (counted_bits (bits x)) w rest)
-  bitmap_read (Ok x) bits w mid new rest n u k e f g h s = some_bits w new rest n u k (bits x) (subst (λ m. Stands (freedoms r) (length_form n) w m) e h) f g s
-  bitmap_read (Err x) bits w mid new rest n u k e f g h s = tt
+  pub bitmap_read : (bs cs : List Bool) (w mid new rest : List ℕ) (n u k : ℕ) → cs ≡ bs → mid ≡ u ∷ new → (k + 7) / 8 + 1 ≡ n → missing k ≡ u → Stands (freedoms r) (length_form n) w mid → Stands (freedoms r) (bits_in k bs) new rest → Stands (freedoms r) (counted_bits cs) w rest
+  bitmap_read bs cs w mid new rest n u k d e f g h s = subst (λ b. Stands (freedoms r) (counted_bits b) w rest) (sym d) (some_bits w new rest n u k bs (subst (λ m. Stands (freedoms r) (length_form n) w m) e h) f g s)
 
-  pub bitmap_refused : {X : Type 0} (x : Result X DecodeError) (w mid new : List ℕ) (n u k : ℕ) → (n ≡ 0 → ⊥) → mid ≡ u ∷ new → (k + 7) / 8 + 1 ≡ n → missing k ≡ u → Stands (freedoms r) (length_form n) w mid → IfErr x (Misses (freedoms r) (bits_in k) new) → IfErr x (Misses (freedoms r) counted_bits w)
-  bitmap_refused (Ok x) w mid new n u k z e f g h m = tt
-  bitmap_refused (Err x) w mid new n u k z e f g h m = misses_also (freedoms r) (bits_in k) counted_bits new w x (λ none. no_bitmap w (wrong_bits r w mid new n u k z e f g h none)) m
+  pub bitmap_refused : (x : DecodeError) (w mid new : List ℕ) (n u k : ℕ) → (n ≡ 0 → ⊥) → mid ≡ u ∷ new → (k + 7) / 8 + 1 ≡ n → missing k ≡ u → Stands (freedoms r) (length_form n) w mid → Misses (freedoms r) (bits_in k) new x → Misses (freedoms r) counted_bits w x
+  bitmap_refused x w mid new n u k z e f g h m = misses_also (freedoms r) (bits_in k) counted_bits new w x (λ none. no_bitmap w (wrong_bits r w mid new n u k z e f g h none)) m

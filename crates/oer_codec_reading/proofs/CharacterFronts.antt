@@ -7,7 +7,7 @@ use Rattle.asn1_model.specs.Schema.{Size, Counts, Alphabet, StringKind, characte
 use Rattle.asn1_model.specs.Strings.{may_hold}
 use Rattle.asn1_model.specs.Value.{Value, text}
 use Rattle.asn1_schema_faults.specs.declared.DecodeError.{DecodeError}
-use Rattle.asn1_schema_faults.specs.declared.DecodeError.TheVariants.{OutOfMemory}
+use Rattle.asn1_schema_faults.specs.declared.DecodeError.TheVariants.{AlreadyFailed, OutOfMemory}
 use Rattle.asn1_values_alphabets.specs.Permitted.{permits, permits_all}
 use Rattle.oer_codec_reading.specs.Fronts.{Stands, Front, NoneStands, NoFront, Misses}
 use Rattle.oer_codec_reading.specs.Sized.{one_size, sized}
@@ -98,6 +98,6 @@ module _ (free : Freedom → Bool) (k : StringKind) (law : (cs : List ℕ) → m
     not_permitted : (os w mid : List ℕ) → permits_all k (characters_in wide os) ≡ false → Stands free (sized (octet_size wide size) os) w mid → NoneStands free (form (character_string k z a h)) w
     not_permitted os w mid n f = no_string os w mid f (λ cs m p e. false≢true (sym n ∙ ap (λ x. permits_all k (characters_in wide x)) e ∙ ap (permits_all k) (characters-spelled k wide cs is p) ∙ p))
 
-    pub not_spelled : (os w mid : List ℕ) (e : DecodeError) → (e ≡ OutOfMemory) ⊎ (permits_all k (characters_in wide os) ≡ false) → Stands free (sized (octet_size wide size) os) w mid → NoFront free (character_string k z a h) w e
-    not_spelled os w mid e (inl m) f = subst (NoFront free (character_string k z a h) w) (sym m) tt
-    not_spelled os w mid e (inr n) f = none_misses free (form (character_string k z a h)) w e (not_permitted os w mid n f)
+    pub not_spelled : (os w mid : List ℕ) (e : DecodeError) → ¬ (e ≡ AlreadyFailed) → (e ≡ OutOfMemory) ⊎ (permits_all k (characters_in wide os) ≡ false) → Stands free (sized (octet_size wide size) os) w mid → NoFront free (character_string k z a h) w e
+    not_spelled os w mid e q (inl m) f = subst (NoFront free (character_string k z a h) w) (sym m) tt
+    not_spelled os w mid e q (inr n) f = none_misses free (form (character_string k z a h)) w e q (not_permitted os w mid n f)

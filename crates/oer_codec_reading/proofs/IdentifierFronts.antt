@@ -6,7 +6,7 @@ use Rattle.asn1_model.specs.Form.{Reads}
 use Rattle.asn1_model.specs.Strings.{is_identifier, identifier_octets}
 use Rattle.asn1_model.specs.Oer.{Freedom, form, counted}
 use Rattle.asn1_schema_faults.specs.declared.DecodeError.{DecodeError}
-use Rattle.asn1_schema_faults.specs.declared.DecodeError.TheVariants.{OutOfMemory}
+use Rattle.asn1_schema_faults.specs.declared.DecodeError.TheVariants.{AlreadyFailed, OutOfMemory}
 use Rattle.asn1_values_identifiers.specs.Identifiers.{arcs_of}
 use Rattle.asn1_values_identifiers.specs.declared.fault.IdentifierError.{IdentifierError}
 use Rattle.asn1_values_identifiers.specs.declared.fault.IdentifierError.TheVariants.{Memory}
@@ -36,6 +36,6 @@ module _ (free : Freedom → Bool) where
       let x : Err e ≡ Ok f.0 = sym n ∙ k in
       cc
 
-  pub no_identifier : (os w mid : List ℕ) (e : IdentifierError) (x : DecodeError) → (e ≡ Memory) ⊎ (arcs_of os ≡ Err e) → (e ≡ Memory → x ≡ OutOfMemory) → Stands free (counted os) w mid → NoFront free object_identifier w x
-  no_identifier os w mid e x (inl m) f h = subst (NoFront free object_identifier w) (sym (f m)) tt
-  no_identifier os w mid e x (inr n) f h = none_misses free (form object_identifier) w x (no_arcs os w mid e n h)
+  pub no_identifier : (os w mid : List ℕ) (e : IdentifierError) (x : DecodeError) → (e ≡ Memory) ⊎ (arcs_of os ≡ Err e) → (e ≡ Memory → x ≡ OutOfMemory) → ¬ (x ≡ AlreadyFailed) → Stands free (counted os) w mid → NoFront free object_identifier w x
+  no_identifier os w mid e x (inl m) f q h = subst (NoFront free object_identifier w) (sym (f m)) tt
+  no_identifier os w mid e x (inr n) f q h = none_misses free (form object_identifier) w x q (no_arcs os w mid e n h)

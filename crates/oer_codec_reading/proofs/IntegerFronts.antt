@@ -22,7 +22,7 @@ use Rattle.asn1_schema_constraints.specs.Terms.{bounds_of, held_of}
 use Rattle.asn1_schema_constraints.specs.declared.extensions.Extensible.{Extensible}
 use Rattle.asn1_schema_constraints.specs.declared.parts.Value as Constraint
 use Rattle.asn1_schema_faults.specs.declared.DecodeError.{DecodeError}
-use Rattle.asn1_schema_faults.specs.declared.DecodeError.TheVariants.{OutOfMemory}
+use Rattle.asn1_schema_faults.specs.declared.DecodeError.TheVariants.{AlreadyFailed, OutOfMemory}
 use Rattle.oer_codec_reading_lengths.specs.Fronts.{Stands, Front, NoneStands, NoFront}
 use Rattle.oer_codec_reading.specs.Whole.{holds, number_in, sign_under, width_under, wide_range, admits_whole}
 use Rattle.oer_codec_reading_lengths.proofs.Freedoms.{and_true}
@@ -194,8 +194,8 @@ module _ (free : Freedom → Bool) where
   value_read (Err e) value c h sign width v w rest d f n i a s = tt
 
   pub value_refused : {X : Type 0} (r : Result X DecodeError) (c : Option (Extensible Constraint.Value)) (h : Range) (sign : Bool) (width : Option ℕ) (v : ℤ) (w rest : List ℕ) → sign ≡ sign_under (bounds_of c) → width ≡ width_under (bounds_of c)
-      → IfErr r (λ e. (e ≡ OutOfMemory) ⊎ ((admits_whole c v ≡ false) ⊎ (is_within h v ≡ false))) → Stands free (number_in sign width v) w rest → IfErr r (NoFront free (integer (bounds_of c) (held_of c h)) w)
-  value_refused (Ok x) c h sign width v w rest e f n s = tt
-  value_refused (Err x) c h sign width v w rest e f (inl m) s = subst (NoFront free (integer (bounds_of c) (held_of c h)) w) (sym m) tt
-  value_refused (Err x) c h sign width v w rest e f (inr (inl m)) s = none_misses free (form (integer (bounds_of c) (held_of c h))) w x (not_admitted c h v w rest m (same_form c sign width v w rest e f s))
-  value_refused (Err x) c h sign width v w rest e f (inr (inr m)) s = none_misses free (form (integer (bounds_of c) (held_of c h))) w x (not_held c h v w rest m (same_form c sign width v w rest e f s))
+      → IfErr r (λ e. ¬ (e ≡ AlreadyFailed)) → IfErr r (λ e. (e ≡ OutOfMemory) ⊎ ((admits_whole c v ≡ false) ⊎ (is_within h v ≡ false))) → Stands free (number_in sign width v) w rest → IfErr r (NoFront free (integer (bounds_of c) (held_of c h)) w)
+  value_refused (Ok x) c h sign width v w rest e f q n s = tt
+  value_refused (Err x) c h sign width v w rest e f q (inl m) s = subst (NoFront free (integer (bounds_of c) (held_of c h)) w) (sym m) tt
+  value_refused (Err x) c h sign width v w rest e f q (inr (inl m)) s = none_misses free (form (integer (bounds_of c) (held_of c h))) w x q (not_admitted c h v w rest m (same_form c sign width v w rest e f s))
+  value_refused (Err x) c h sign width v w rest e f q (inr (inr m)) s = none_misses free (form (integer (bounds_of c) (held_of c h))) w x q (not_held c h v w rest m (same_form c sign width v w rest e f s))

@@ -4,19 +4,13 @@ use Rattle.asn1_laws_fronts.proofs.OerNumbers.{counted_alike}
 use Rattle.asn1_model.specs.Form.{joined, present_ones}
 use Rattle.asn1_model.specs.Oer
 use Rattle.asn1_schema_faults.specs.declared.DecodeError.{DecodeError}
-use Rattle.asn1_schema_faults.specs.declared.DecodeError.TheVariants.{OutOfMemory, Incomplete}
 use Rattle.oer_codec_fronts.specs.Takes.{Front, Skips, unknown_forms}
 use Rattle.oer_codec_fronts.proofs.Anywhere.{joined_moves, each_unknown_moves}
 use Rattle.oer_codec_fronts.proofs.Fronts.{nothing_front, split, join}
 use Rattle.oer_codec_fronts.proofs.Next.{same_fronts}
-use Rattle.oer_codec_reading.specs.Fronts.{Stands, NoneStands, Misses}
+use Rattle.oer_codec_reading.specs.Fronts.{Stands, Misses}
+use Rattle.oer_codec_reading.proofs.Fronts.{missed, not_before}
 use Rattle.oer_codec_reading.specs.Skipping.{SkipsNone}
-
--- want of memory aside, what is missed does not stand in front
-pub missed : {X : Type 0} (free : Oer.Freedom → Bool) (f : X → Oer.OctetForm) (os : List ℕ) (e : DecodeError) → Misses free f os e → ¬ (e ≡ OutOfMemory) → NoneStands free f os
-missed free f os OutOfMemory m n = absurd (n refl)
-missed free f os Incomplete m n = m
-missed free f os e m n = m
 
 pub as_front : (free : Oer.Freedom → Bool) (x : Oer.OctetForm) (os rest : List ℕ) → Stands free x os rest → Front free x os rest
 as_front free x os rest h = record { text = h.0; has_form = h.2; in_front = h.1 }
@@ -55,7 +49,7 @@ module _ (free : Oer.Freedom → Bool) where
       subst (λ m. Skips free us m rest) q p.3
 
   pub none_present : (us : List Bool) (os : List ℕ) (e : DecodeError) → Misses free Oer.counted os e → SkipsNone free (true ∷ us) os e
-  none_present us os e m = record { none = λ i rest s. let p = present_first us os rest s in missed free Oer.counted os e m i p.0 p.1 (as_stands free (Oer.counted p.0) os p.1 p.2) }
+  none_present us os e m = record { none = λ i rest s. let p = present_first us os rest s in missed free Oer.counted os e m i p.0 p.1 (as_stands free (Oer.counted p.0) os p.1 p.2); fresh = not_before free Oer.counted os e m }
 
 pub all_taken : (l : List ℕ) → length l < 2 ^ 60 → take (2 ^ 60 - 1) l ≡ l
 all_taken l h = take_all (2 ^ 60 - 1) l (omega (arith, h))

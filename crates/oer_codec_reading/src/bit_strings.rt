@@ -48,7 +48,8 @@ fn is_taken(rules: EncodingRules, octets: &[u8], count: usize) -> bool
 /// # Errors
 ///
 /// `Incomplete` if the octets end early, and `NotValidCanonicalEncoding` if a filling bit is set in the canonical rules.
-fn read_filled<'input>(
+#[inline(always)]
+pub(crate) fn read_filled<'input>(
     cursor: &mut Cursor<'input>,
     rules: EncodingRules,
     count: usize,
@@ -63,8 +64,9 @@ fn read_filled<'input>(
     Ok(BitStr::front_of(octets, count))
 }
 
-/// How many bits a string has behind a length, by the number of its unused bits (X.696 13), if there is such a string.
-fn bit_count(length: usize, unused: u8) -> Option<usize>
+/// How many bits there are behind a length, by the number of its unused bits (X.696 13), if there are so many at all.
+#[inline(always)]
+pub(crate) fn bit_count(length: usize, unused: u8) -> Option<usize>
     requires some { 1 ≤ length }
     requires most { length ≤ 2 ^ 60 }
     ensures some { IfSome result (λ n. ((n + 7) / 8 + 1 ≡ length) × (missing n ≡ unused)) }

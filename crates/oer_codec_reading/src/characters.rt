@@ -70,6 +70,7 @@ fn string_of<S: StaticPermittedAlphabet>(
     ensures characters { IfOk result (λ s. S.characters s ≡ Characters.characters_in wide octets.now) }
     ensures permitted { OnOk result (permits_all S.kind (Characters.characters_in wide octets.now) ≡ true) }
     ensures refused { IfErr result (λ e. (e ≡ DecodeError.OutOfMemory) ⊎ (permits_all S.kind (Characters.characters_in wide octets.now) ≡ false)) }
+    ensures fresh { IfErr result (λ e. e ≡ DecodeError.AlreadyFailed → ⊥) }
 {
     let count = octets.len() / octets_each(wide);
     let Ok(mut string) = S::with_capacity(alloc, count) else {

@@ -12,7 +12,8 @@ use std::alloc::Global;
 
 /// Why octets are not read as an identifier.
 fn fault_of(error: IdentifierError) -> DecodeError
-    ensures { error ≡ IdentifierError.Memory → result ≡ DecodeError.OutOfMemory }
+    ensures memory { error ≡ IdentifierError.Memory → result ≡ DecodeError.OutOfMemory }
+    ensures fresh { result ≡ DecodeError.AlreadyFailed → ⊥ }
 {
     match error {
         IdentifierError::Memory => DecodeError::OutOfMemory,

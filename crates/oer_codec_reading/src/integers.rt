@@ -75,6 +75,7 @@ fn value_of<I: IntegerType>(alloc: Global, signed: bool, octets: &[u8]) -> Resul
     ensures value { IfOk result (λ x. I.value x ≡ own_number signed octets.now) }
     ensures held { OnOk result (is_within I.held (own_number signed octets.now) ≡ true) }
     ensures refused { IfErr result (λ e. (e ≡ DecodeError.OutOfMemory) ⊎ (is_within I.held (own_number signed octets.now) ≡ false)) }
+    ensures fresh { IfErr result (λ e. e ≡ DecodeError.AlreadyFailed → ⊥) }
 {
     if signed {
         return match I::try_from_signed_bytes(alloc, octets) {
@@ -90,7 +91,8 @@ fn value_of<I: IntegerType>(alloc: Global, signed: bool, octets: &[u8]) -> Resul
 
 /// Why a number is not read in a type of the program.
 fn fault_of(error: IntegerError) -> DecodeError
-    ensures { error ≡ IntegerError.Memory → result ≡ DecodeError.OutOfMemory }
+    ensures memory { error ≡ IntegerError.Memory → result ≡ DecodeError.OutOfMemory }
+    ensures fresh { result ≡ DecodeError.AlreadyFailed → ⊥ }
 {
     match error {
         IntegerError::Memory => DecodeError::OutOfMemory,
@@ -112,6 +114,7 @@ fn value_past<I: IntegerType>(
     ensures admitted { OnOk result (admits_whole constraints.entry.value (own_number signed octets.now) ≡ true) }
     ensures held { OnOk result (is_within I.held (own_number signed octets.now) ≡ true) }
     ensures refused { IfErr result (λ e. (e ≡ DecodeError.OutOfMemory) ⊎ ((admits_whole constraints.entry.value (own_number signed octets.now) ≡ false) ⊎ (is_within I.held (own_number signed octets.now) ≡ false))) }
+    ensures fresh { IfErr result (λ e. e ≡ DecodeError.AlreadyFailed → ⊥) }
 {
     if constraints.value.is_some() {
         return Err(DecodeError::ValueConstraintNotSatisfied);
@@ -132,6 +135,7 @@ fn admitted_value<I: IntegerType>(
     ensures admitted { OnOk result (admits_whole constraints.entry.value (own_number signed octets.now) ≡ true) }
     ensures held { OnOk result (is_within I.held (own_number signed octets.now) ≡ true) }
     ensures refused { IfErr result (λ e. (e ≡ DecodeError.OutOfMemory) ⊎ ((admits_whole constraints.entry.value (own_number signed octets.now) ≡ false) ⊎ (is_within I.held (own_number signed octets.now) ≡ false))) }
+    ensures fresh { IfErr result (λ e. e ≡ DecodeError.AlreadyFailed → ⊥) }
 {
     let Some(number) = whole_number(signed, octets) else {
         return value_past(alloc, constraints, signed, octets);

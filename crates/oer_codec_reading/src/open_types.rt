@@ -42,6 +42,7 @@ pub fn leave_open_type<'input>(
 ) -> Result<(), DecodeError>
     ensures ok { OnOk result (((cursor.old ≡ []) ⊎ IsTrue (freedoms rules octets_behind)) × (cursor.new ≡ behind.entry)) }
     ensures only { IfErr result (λ _. ((cursor.old ≡ []) ⊎ IsTrue (freedoms rules octets_behind)) → ⊥) }
+    ensures fresh { IfErr result (λ e. e ≡ DecodeError.AlreadyFailed → ⊥) }
 {
     if rules.is_coer() && !cursor.is_empty() {
         return Err(DecodeError::SurplusOctets);

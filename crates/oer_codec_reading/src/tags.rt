@@ -19,6 +19,7 @@ const LIMIT: u32 = 1 << 25;
 fn read_groups(cursor: &mut Cursor<'_>, begun: u32) -> Result<u32, DecodeError>
     ensures ok { IfOk result (λ n. number_behind begun cursor.old ≡ Some (n, cursor.new)) }
     ensures only { IfErr result (λ _. number_behind begun cursor.old ≡ None) }
+    ensures fresh { IfErr result (λ e. e ≡ DecodeError.AlreadyFailed → ⊥) }
 {
     let octet = cursor.take_octet()?;
     let group = u32::from(octet % 128);

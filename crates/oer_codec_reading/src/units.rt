@@ -34,6 +34,7 @@ fn truth_of(octet: u8) -> bool
 pub fn read_boolean(cursor: &mut Cursor<'_>, rules: EncodingRules) -> Result<bool, DecodeError>
     ensures ok { IfOk result (λ b. Front (freedoms rules) Asn1.boolean (Asn1Value.truth b) cursor.old cursor.new) }
     ensures only { IfErr result (NoFront (freedoms rules) Asn1.boolean cursor.old) }
+    ensures no_memory { IfErr result (λ e. e ≡ DecodeError.OutOfMemory → ⊥) }
 {
     let octet = cursor.take_octet()?;
     if !is_taken(rules, octet) {
@@ -47,6 +48,7 @@ pub fn read_boolean(cursor: &mut Cursor<'_>, rules: EncodingRules) -> Result<boo
 pub fn read_null(cursor: &mut Cursor<'_>, rules: EncodingRules) -> Result<(), DecodeError>
     ensures ok { OnOk result (Front (freedoms rules) Asn1.null Asn1Value.nothing cursor.old cursor.new) }
     ensures only { IfErr result (NoFront (freedoms rules) Asn1.null cursor.old) }
+    ensures no_memory { IfErr result (λ e. e ≡ DecodeError.OutOfMemory → ⊥) }
 {
     Ok(())
 }

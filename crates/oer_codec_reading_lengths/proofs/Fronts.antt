@@ -1,10 +1,10 @@
 -- Parts of forms that stand in front.
-use Rattle.std.proofs.Common.{◌≡◌, ℕ, Bool, true, false, IsTrue, ◌⊎◌, List, [], ◌∷◌, ◌++◌, length, refl, ap, sym, ◌∙◌, append_assoc, arith}
+use Rattle.std.proofs.Common.{◌≡◌, ℕ, Bool, true, false, IsTrue, ◌⊎◌, List, [], ◌∷◌, ◌++◌, length, refl, ap, sym, subst, ◌∙◌, append_assoc, arith}
 use Rattle.std.proofs.lemmas.Bool.{false≢true}
 use Rattle.asn1_model.specs.Form.{Reads, exactly, both, varied, only_if}
 use Rattle.asn1_model.specs.Oer.{Freedom, Detail, OctetForm}
 use Rattle.asn1_schema_faults.specs.declared.DecodeError.{DecodeError}
-use Rattle.asn1_schema_faults.specs.declared.DecodeError.TheVariants.{OutOfMemory}
+use Rattle.asn1_schema_faults.specs.declared.DecodeError.TheVariants.{AlreadyFailed, OutOfMemory}
 use Rattle.oer_codec_reading_lengths.specs.Fronts.{Stands, NoneStands, Misses}
 
 -- Fronts of equal length are equal, and so is what is behind them.
@@ -22,12 +22,24 @@ fronts_equal (x ∷ a) (y ∷ b) r s l e =
 -- One form is missed where another is, if none of the one stands where none of the other does.
 pub misses_also : {X Y : Type 0} (free : Freedom → Bool) (f : X → OctetForm) (g : Y → OctetForm) (os ps : List ℕ) (e : DecodeError) → (NoneStands free f os → NoneStands free g ps) → Misses free f os e → Misses free g ps e
 misses_also free f g os ps OutOfMemory h m = tt
+misses_also free f g os ps AlreadyFailed h m = absurd m
 misses_also free f g os ps e h m = h m
 
--- Where none stands, each reason is one.
-pub none_misses : {X : Type 0} (free : Freedom → Bool) (f : X → OctetForm) (os : List ℕ) (e : DecodeError) → NoneStands free f os → Misses free f os e
-none_misses free f os OutOfMemory h = tt
-none_misses free f os e h = h
+-- Where none stands, each reason but an earlier refusal is one.
+pub none_misses : {X : Type 0} (free : Freedom → Bool) (f : X → OctetForm) (os : List ℕ) (e : DecodeError) → ¬ (e ≡ AlreadyFailed) → NoneStands free f os → Misses free f os e
+none_misses free f os OutOfMemory n h = tt
+none_misses free f os AlreadyFailed n h = absurd (n refl)
+none_misses free f os e n h = h
+
+-- Want of memory aside, what is missed does not stand in front.
+pub missed : {X : Type 0} (free : Freedom → Bool) (f : X → OctetForm) (os : List ℕ) (e : DecodeError) → Misses free f os e → ¬ (e ≡ OutOfMemory) → NoneStands free f os
+missed free f os OutOfMemory m n = absurd (n refl)
+missed free f os AlreadyFailed m n = absurd m
+missed free f os e m n = m
+
+-- A reader does not refuse because of an earlier refusal.
+pub not_before : {X : Type 0} (free : Freedom → Bool) (f : X → OctetForm) (os : List ℕ) (e : DecodeError) → Misses free f os e → ¬ (e ≡ AlreadyFailed)
+not_before free f os e m h = subst (Misses free f os) h m
 
 module _ (free : Freedom → Bool) where
   pub exactly_stands : (l os rest : List ℕ) → l ++ rest ≡ os → Stands free (exactly l) os rest

@@ -6,7 +6,7 @@ use Rattle.asn1_model.specs.Form.{Reads}
 use Rattle.asn1_model.specs.Oer.{Freedom, OctetForm, form}
 use Rattle.asn1_model.specs.Rules.{lenient, strict_oer}
 use Rattle.asn1_schema_faults.specs.declared.DecodeError.{DecodeError}
-use Rattle.asn1_schema_faults.specs.declared.DecodeError.TheVariants.{OutOfMemory}
+use Rattle.asn1_schema_faults.specs.declared.DecodeError.TheVariants.{AlreadyFailed, OutOfMemory}
 use Rattle.oer_codec_reading_lengths.specs.declared.rules.EncodingRules.{EncodingRules}
 use Rattle.oer_codec_reading_lengths.specs.declared.rules.EncodingRules.TheVariants.{Oer, Coer}
 
@@ -32,9 +32,10 @@ Front free s v os rest = Stands free (form s v) os rest
 abbrev pub NoneStands : {X : Type 0} → (Freedom → Bool) → (X → OctetForm) → List ℕ → Type 0
 NoneStands {X} free f os = (x : X) (rest : List ℕ) → Stands free (f x) os rest → ⊥
 
--- Why a reader of some forms refuses: no memory is left, or none of them stands in front.
+-- Why a reader of some forms refuses: no memory is left, or none of them stands in front. It knows of no earlier refusal.
 abbrev pub Misses : {X : Type 0} → (Freedom → Bool) → (X → OctetForm) → List ℕ → DecodeError → Type 0
 Misses free f os OutOfMemory = Unit {0}
+Misses free f os AlreadyFailed = ⊥
 Misses free f os e = NoneStands free f os
 
 -- Why a reader of a type refuses: no memory is left, or no encoding of a value of the type stands in front.

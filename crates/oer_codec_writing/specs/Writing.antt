@@ -1,13 +1,14 @@
 -- What a writer of octets did: it added a text behind what stood there, or there is no text, or memory was refused.
 use Rattle.std.specs.Prelude.{◌≡◌, ℕ, List, ◌++◌, Option, Some, None, option_map}
 use Rattle.asn1_schema_faults.specs.declared.EncodeError.{EncodeError}
-use Rattle.asn1_schema_faults.specs.declared.EncodeError.TheVariants.{OutOfMemory}
+use Rattle.asn1_schema_faults.specs.declared.EncodeError.TheVariants.{AlreadyFailed, OutOfMemory}
 
 -- The text stands behind what stood there before.
 abbrev pub Adds : Option (List ℕ) → List ℕ → List ℕ → Type 0
 Adds text old new = option_map (λ w. old ++ w) text ≡ Some new
 
--- Why no text was added: memory was refused, or there is none.
+-- Why no text was added: memory was refused, or there is none. A writer knows of no earlier refusal.
 abbrev pub Refuses : Option (List ℕ) → EncodeError → Type 0
 Refuses text OutOfMemory = Unit {0}
+Refuses text AlreadyFailed = ⊥
 Refuses text e = text ≡ None

@@ -19,7 +19,7 @@ use Rattle.asn1_schema_presented.specs.Chains.{Chain}
 use Rattle.asn1_schema_presented.specs.Presents.{presents, Fits}
 use Rattle.asn1_schema_presented.proofs.OneValue.{one_value}
 use Rattle.asn1_values_bits.proofs.Binary.{octet_bits-append, octet_bits-take, length-octet_bits}
-use Rattle.oer_codec_fronts.proofs.Fitting.{records_fit}
+use Rattle.asn1_schema_finding.proofs.Fitting.{records_fit}
 use Rattle.per_codec_decoder.specs.Held.{Held, Finds, IsReady}
 use Rattle.per_codec_decoder.specs.Laws.{finds_one}
 use Rattle.per_codec_fronts.specs.Takes.{Place, Front, completion}

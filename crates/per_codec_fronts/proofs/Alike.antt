@@ -10,7 +10,7 @@ use Rattle.asn1_laws_values.proofs.Same.{same_self}
 use Rattle.asn1_laws_values.proofs.Bags.{EachSame, bags_same}
 use Rattle.asn1_laws_values.proofs.Normal.{normal_same, default_tests, group_tests}
 use Rattle.asn1_schema_presented.specs.Records.{Record, is_default, is_empty}
-use Rattle.oer_codec_fronts.specs.Ties.{has_no_bag, have_no_bag}
+use Rattle.asn1_schema_finding.specs.Bags.{has_no_bag, have_no_bag}
 
 -- another value that is the same up to the order of bags, so itself where the type has no bag
 abbrev pub Like : Schema → Value → Value → Type 0

@@ -13,7 +13,7 @@ use Rattle.asn1_laws_fronts.proofs.Additions as adding
 use Rattle.asn1_schema_presented.specs.Records.{additions_begin}
 use Rattle.asn1_schema_presented.specs.Presents.{root_records, added_records, optional_count, component_count}
 use Rattle.asn1_schema_presented.specs.Chains.{Chain}
-use Rattle.oer_codec_fronts.specs.Takes.{preamble_bits, first_bits, has_set}
+use Rattle.asn1_schema_finding.specs.Marks.{preamble_bits, first_bits, has_set}
 use Rattle.per_codec_fronts.specs.Takes.{Place, State, Scope, components, added, Front, Found, Begins, unknown_forms, Skips}
 use Rattle.per_codec_fronts.proofs.Alike.{LikeParts}
 use Rattle.per_codec_fronts.proofs.Next.{flag_units}

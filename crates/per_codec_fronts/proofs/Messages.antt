@@ -14,7 +14,7 @@ use Rattle.asn1_laws_fronts.proofs.Units.{complete_whole, joined_long}
 use Rattle.asn1_schema_presented.specs.Presents.{presents, Fits}
 use Rattle.asn1_schema_presented.specs.Chains.{Chain}
 use Rattle.asn1_schema_presented.proofs.OneValue.{one_value}
-use Rattle.oer_codec_fronts.proofs.Fitting.{records_fit}
+use Rattle.asn1_schema_finding.proofs.Fitting.{records_fit}
 use Rattle.per_codec_fronts.specs.Takes.{Place, State, Front, completion, Takes}
 use Rattle.per_codec_fronts.specs.Ties.{FindsIn, FoundFirst}
 use Rattle.per_codec_fronts.proofs.Next.{place_same, one_taken}

@@ -16,7 +16,7 @@ use Rattle.asn1_laws_fronts.proofs.Sevens.{identifiers_equal}
 use Rattle.asn1_laws_fronts.proofs.Additions as adding
 use Rattle.asn1_laws_fronts.proofs.Units.{sized_alike, small_alike, bitmap_alike, items_alike, behind_mark, added_or_root}
 use Rattle.asn1_laws_fronts.proofs.Strings.{string_alike}
-use Rattle.oer_codec_fronts.specs.Takes.{preamble_bits, first_bits}
+use Rattle.asn1_schema_finding.specs.Marks.{preamble_bits, first_bits}
 use Rattle.per_codec_fronts.specs.Takes.{Place, Tally, Scope, components, added, open_type, members, alternative, State, Front, Found, with_fragment, Header, Headed, Numbered, ByHighest, Counted, SizeMark, ListBegins, MemberDue, NextMember, Begins, NextMark, AdditionsBegin, Opens, NextAddition, AdditionEnds, Skips, Chooses, Ends, Takes}
 
 pub place_same : (b c : Place) → b.0 ≡ c.0 → b.1 ≡ c.1 → b ≡ c

@@ -13,8 +13,8 @@ use Rattle.asn1_schema_presented.specs.Records.{Record, addition, addition_ends,
 use Rattle.asn1_schema_presented.specs.Presents.{presents, root_records, added_records, optional_count}
 use Rattle.asn1_schema_presented.specs.Chains.{Chain}
 use Rattle.asn1_schema_presented.proofs.Chains.{chain_split, chain_append}
-use Rattle.oer_codec_fronts.specs.Takes.{preamble_bits}
-use Rattle.oer_codec_fronts.proofs.Sequences.{marks_count}
+use Rattle.asn1_schema_finding.specs.Marks.{preamble_bits}
+use Rattle.asn1_schema_finding.proofs.Marks.{marks_count}
 use Rattle.per_codec_fronts.specs.Takes.{Place, State, Scope, components, added, open_type, Front, Found, Begins, Opens, Closes, AdditionEnds, Skips}
 use Rattle.per_codec_fronts.proofs.Alike.{Like, LikeParts, parts_self, like_present, like_absent, noted_by, noted_same}
 use Rattle.per_codec_fronts.proofs.Next.{state_same}

@@ -11,7 +11,7 @@ use Rattle.asn1_laws_values.proofs.Listed.{EachAlternative}
 use Rattle.asn1_schema_presented.specs.Records.{Record, additions_begin, mismatch}
 use Rattle.asn1_schema_presented.specs.Presents.{presents, root_records, added_records, behind_root, optional_count, component_count}
 use Rattle.asn1_schema_presented.specs.Chains.{Chain}
-use Rattle.oer_codec_fronts.specs.Ties.{has_no_bag}
+use Rattle.asn1_schema_finding.specs.Bags.{has_no_bag}
 use Rattle.per_codec_fronts.specs.Takes.{Place, State, components, Front, Found, Begins, Takes}
 use Rattle.per_codec_fronts.specs.Ties.{Bridges}
 use Rattle.per_codec_fronts.proofs.Alike.{LikeParts, parts_self, both_same, like_fields}

@@ -9,7 +9,7 @@ use Rattle.asn1_model.specs.Strings.{each_is, is_octet}
 use Rattle.asn1_model.specs.Form.{Reads, exactly, both, joined, is_present, present_ones}
 use Rattle.asn1_model.specs.Per
 use Rattle.asn1_schema_presented.specs.Records.{Record, flag, nil, whole, one_of, bits, octets, characters, identifier, list_begins, bag_begins, further, sequence_begins, set_begins, group_begins, mark, is_default, is_empty, additions_begin, addition, addition_ends, choice_begins, ends, mismatch}
-use Rattle.oer_codec_fronts.specs.Takes.{preamble_bits, first_bits, has_set}
+use Rattle.asn1_schema_finding.specs.Marks.{preamble_bits, first_bits, has_set}
 
 -- How many bits stand in front since the beginning of the message or open type, and the bits that are left of it.
 abbrev pub Place : Type 0

@@ -10,7 +10,7 @@ use Rattle.asn1_model.specs.Rules.{Rules, uper, aper, uper_strict, aper_strict, 
 use Rattle.asn1_schema_presented.specs.Records.{list_begins}
 use Rattle.asn1_schema_presented.specs.Presents.{presents, Fits}
 use Rattle.asn1_schema_presented.specs.Chains.{Chain, OneRecord}
-use Rattle.oer_codec_fronts.specs.Ties.{has_no_bag}
+use Rattle.asn1_schema_finding.specs.Bags.{has_no_bag}
 use Rattle.per_codec_fronts.specs.Takes.{Place, State, Front, Found, completion, Takes}
 
 -- Of the records that answer a question one at most is next, as far as a reader is told, and one state stands after it, whatever the freedoms.

@@ -1,4 +1,4 @@
-use Rattle.oer_codec_fronts.proofs.Fitting as Fitting
+use Rattle.asn1_schema_finding.proofs.Fitting as Fitting
 use Rattle.per_codec_fronts.proofs.records_fit.Goals as goal
 
 pub returns : goal.returns

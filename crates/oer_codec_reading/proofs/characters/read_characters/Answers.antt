@@ -37,7 +37,7 @@ pub returns-in_err-string-clause-only : goal.returns-in_err-string-clause-only
 returns-in_err-string-clause-only g c =
     let p = err_from_is_err_and c.from_residual-in_err-string.result c.from_residual-in_err-string.ensures.1 in
     rw (p.1, p.2) (not_spelled (freedoms c.args.rules) g.S.StaticPermittedAlphabet.kind g.met.S.StaticPermittedAlphabet.holds c.contains_char-wide.result (sym c.contains_char-wide.ensures) (sizes_of c.args.constraints.size) (alphabet_of c.args.constraints.permitted_alphabet) any_count c.fixed_size.result c.fixed_size.ensures
-    c.in_ok-octets.octets.now c.args.cursor.now c.read_spelled.new.cursor _ c.in_err-string.ensures.refused c.in_ok-octets.ensures.ok)
+    c.in_ok-octets.octets.now c.args.cursor.now c.read_spelled.new.cursor _ c.in_err-string.ensures.fresh c.in_err-string.ensures.refused c.in_ok-octets.ensures.ok)
 
 pub returns-clause-ok : goal.returns-clause-ok
 returns-clause-ok g c =

@@ -24,4 +24,4 @@ returns-clause-ok g c =
 pub returns-clause-only : goal.returns-clause-only
 returns-clause-only g c =
     let f = c.form_under-signed in
-    value_refused (freedoms c.args.rules) c.admitted_value.result c.args.constraints.value g.I.IntegerType.held f.result.0 f.result.1 (own_number f.result.0 c.in_ok-octets.octets.now) c.args.cursor.now c.read_number.new.cursor f.ensures.sign f.ensures.width c.admitted_value.ensures.refused c.in_ok-octets.ensures.ok
+    value_refused (freedoms c.args.rules) c.admitted_value.result c.args.constraints.value g.I.IntegerType.held f.result.0 f.result.1 (own_number f.result.0 c.in_ok-octets.octets.now) c.args.cursor.now c.read_number.new.cursor f.ensures.sign f.ensures.width c.admitted_value.ensures.fresh c.admitted_value.ensures.refused c.in_ok-octets.ensures.ok

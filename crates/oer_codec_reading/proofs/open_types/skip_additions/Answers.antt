@@ -9,7 +9,7 @@ use Rattle.oer_codec_reading.proofs.open_types.skip_additions.Goals.{then-first_
 pub returns-in_err-_passed_over-clause-only : goal.returns-in_err-_passed_over-clause-only
 returns-in_err-_passed_over-clause-only c =
     let m = first_missed (freedoms c.args.rules) c.unknown.presence.bits c.first_bit.result c.unknown.cursor _ c.first_bit.ensures c.if-first_bit.true c.in_err-_passed_over.ensures.only in
-    raised _ _ _ c.from_residual.ensures.1 (record { none = λ i rest s. m.none i rest (c.unknown.invariant.left rest s) })
+    raised _ _ _ c.from_residual.ensures.1 (record { none = λ i rest s. m.none i rest (c.unknown.invariant.left rest s); fresh = m.fresh })
 
 pub unknown-preserved : goal.unknown-preserved
 unknown-preserved c =

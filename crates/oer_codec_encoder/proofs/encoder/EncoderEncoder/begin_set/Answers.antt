@@ -5,7 +5,7 @@ use Rattle.oer_codec_encoder.proofs.Stepped.{stays_sound, puts}
 use Rattle.oer_codec_encoder.proofs.encoder.EncoderEncoder.begin_set.Goals as goal
 
 pub invariant_of-self-2 : goal.invariant_of-self-2
-invariant_of-self-2 c _ = stays_sound _ c.self.inside.frames c.begin_components.new.frames c.self.inside.output.now.items c.begin_components.new.octets.items (c.self.invariant c.if-self.false) (does_same (sequence_begins c.args.extensible c.args.optional) (set_begins c.args.extensible c.args.optional) c.self.inside.frames c.begin_components.new.frames c.self.inside.output.now.items c.begin_components.new.octets.items (λ s. refl) c.in_ok-begin_components.ensures)
+invariant_of-self-2 c _ = stays_sound _ c.self.inside.frames c.begin_components.new.frames c.self.inside.output.now.items c.begin_components.new.octets.items (c.self.invariant c.in_ok-begin_record.ensures.ok) (does_same (sequence_begins c.args.extensible c.args.optional) (set_begins c.args.extensible c.args.optional) c.self.inside.frames c.begin_components.new.frames c.self.inside.output.now.items c.begin_components.new.octets.items (λ s. refl) c.in_ok-begin_components.ensures)
 
 pub returns-clause-ok : goal.returns-clause-ok
-returns-clause-ok c = puts _ c.self.inside.frames c.begin_components.new.frames c.self.inside.output.now.items c.begin_components.new.octets.items c.self.inside.failed c.args.self.now c.self.view_is c.if-self.false (c.self.invariant c.if-self.false) (does_same (sequence_begins c.args.extensible c.args.optional) (set_begins c.args.extensible c.args.optional) c.self.inside.frames c.begin_components.new.frames c.self.inside.output.now.items c.begin_components.new.octets.items (λ s. refl) c.in_ok-begin_components.ensures)
+returns-clause-ok c = puts _ c.self.inside.frames c.begin_components.new.frames c.self.inside.output.now.items c.begin_components.new.octets.items c.self.inside.failed c.args.self.now c.self.view_is c.in_ok-begin_record.ensures.ok (c.self.invariant c.in_ok-begin_record.ensures.ok) (does_same (sequence_begins c.args.extensible c.args.optional) (set_begins c.args.extensible c.args.optional) c.self.inside.frames c.begin_components.new.frames c.self.inside.output.now.items c.begin_components.new.octets.items (λ s. refl) c.in_ok-begin_components.ensures)

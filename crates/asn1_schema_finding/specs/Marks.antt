@@ -1,0 +1,18 @@
+-- The bits of preambles and of presence bitmaps (X.691 19 and X.696 16).
+use Rattle.std.specs.Prelude.{ℕ, zero, suc, Bool, false, ◌||◌, List, [], ◌∷◌, Option, Some, None}
+
+-- The bits of a preamble: that of the mark, if there is one, and the presence bits (X.691 19.1 and 19.2, X.696 16.2).
+abbrev pub preamble_bits : Option Bool → List Bool → List Bool
+preamble_bits None ms = ms
+preamble_bits (Some x) ms = x ∷ ms
+
+-- So many bits, those that are wanting being 0.
+abbrev pub first_bits : ℕ → List Bool → List Bool
+first_bits zero bs = []
+first_bits (suc n) [] = false ∷ first_bits n []
+first_bits (suc n) (b ∷ bs) = b ∷ first_bits n bs
+
+-- Whether a bit is set.
+abbrev pub has_set : List Bool → Bool
+has_set [] = false
+has_set (b ∷ bs) = b || has_set bs
