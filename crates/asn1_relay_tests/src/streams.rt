@@ -1,6 +1,6 @@
 //! Streams: runs whose reader or writer fails at each call in turn, a relay behind its faults, long streams, and values one behind the other.
 ghost use Rattle.std.specs.Prelude.{refl, Some, None, false};
-ghost use Rattle.asn1_schema_constraints.specs.declared.bounds.Bounded.{Bounded};
+ghost use Rattle.asn1_schema_constraints.specs.Terms.{sized};
 ghost use Rattle.asn1_schema_presented.proofs.TypesByKind.{type_list};
 
 use crate::assertions::assert_same;
@@ -325,7 +325,7 @@ fn runs_whose_calls_fail_in_turn(rt: HostRuntime) {
 struct OneOrTwo;
 
 impl<T: Described> ConstraintsOf<Vec<T>> for OneOrTwo {
-    ghost terms = { record { value = None; size = Some (record { constraint = record { range = Bounded.Range (Some 1) (Some 2) }; extensible = None }); permitted_alphabet = None; is_marked = false } };
+    ghost terms = { sized 1 (Some 2) false };
 
     ghost under = { ⟦<Vec<T> as Described>⟧.under };
 

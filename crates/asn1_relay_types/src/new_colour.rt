@@ -2,8 +2,9 @@
 ghost use Rattle.std.specs.Prelude.{◌∷◌, [], refl, pos, true, false};
 ghost use Rattle.asn1_model.specs.Schema.{enumerated};
 ghost use Rattle.asn1_model.specs.Value.{item};
-ghost use Rattle.asn1_schema_constraints.specs.Sets.{no_constraint};
+ghost use Rattle.asn1_schema_constraints.specs.Terms.{no_constraint};
 ghost use Rattle.asn1_schema_constructed.proofs.Types.{type_enumerated, value_enumerated};
+ghost use Rattle.asn1_schema_variants.proofs.Distinct.{one_number_of};
 
 use crate::old_colour::OldColour;
 use asn1_schema_constraints::Constraints;
@@ -95,6 +96,8 @@ impl Enumerated for NewColour {
     }
 
     ghost distinct = { refl };
+
+    ghost one_number = { one_number_of _ (Red ∷ Blue ∷ []) (elim [ Red ↦ (0, refl) | Blue ↦ (1, refl) ]) refl };
 
     ghost listed = { elim [ Red ↦ (false, 0, refl) | Blue ↦ (true, 0, (refl, refl, refl)) ] };
 }

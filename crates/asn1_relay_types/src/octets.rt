@@ -1,10 +1,10 @@
 //! Octets, of which there are one to three, or behind a mark any number.
-ghost use Rattle.std.specs.Prelude.{◌≡◌, refl, [], ◌∷◌};
+ghost use Rattle.std.specs.Prelude.{refl, [], ◌∷◌, Some, true};
+ghost use Rattle.asn1_model.specs.Types.{any_count};
 ghost use Rattle.asn1_model.specs.Value.{octet_list};
-ghost use Rattle.asn1_schema_constraints.specs.Sets.{no_constraint};
-ghost use Rattle.asn1_schema_constraints.specs.Terms.{sizes_of};
+ghost use Rattle.asn1_schema_constraints.specs.Terms.{sized, octet_string_under};
 ghost use Rattle.asn1_schema_presented.proofs.TypesByKind.{octet_string_type, octet_string_value};
-ghost use Rattle.asn1_relay_types.specs.Schemas.{one_to_three, octets_schema};
+ghost use Rattle.asn1_relay_types.specs.Schemas.{octets_schema};
 
 use asn1_schema_constraints::{Bounded, Constraints, Extensible, Size};
 use asn1_schema_decode::{Decode, Decoder};
@@ -22,23 +22,12 @@ pub struct Octets {
     pub octets: OctetString,
 }
 
-/// The constraint to one to three octets, with a mark of extensibility. It stands in place of all others.
-fn one_to_three() -> Constraints<'static>
-    ensures { sizes_of result.size ≡ one_to_three }
-{
-    let size = Extensible::new(Size::new(Bounded::const_new(1, 3)));
-    Constraints {
-        size: Some(size.set_extensible(true)),
-        ..Constraints::NONE
-    }
-}
-
 impl Described for Octets {
     ghost tags = { record { class = 0; number = 4 } ∷ [] };
 
-    ghost own = { no_constraint };
+    ghost own = { sized 1 (Some 3) true };
 
-    ghost under = { λ _. octets_schema };
+    ghost under = { λ c _. octet_string_under c any_count };
 
     ghost schema = { octets_schema };
 
@@ -63,7 +52,11 @@ impl AsnType for Octets {
     }
 
     fn constraints() -> Constraints<'static> {
-        Constraints::NONE
+        let size = Extensible::new(Size::new(Bounded::const_new(1, 3)));
+        Constraints {
+            size: Some(size.set_extensible(true)),
+            ..Constraints::NONE
+        }
     }
 }
 
@@ -72,11 +65,10 @@ impl Encode for Octets {
         &self,
         encoder: &mut E,
         tag: Tag,
-        _constraints: Constraints,
+        constraints: Constraints,
     ) -> Result<(), EncodeError> {
         self.octets
-            .encode_with_tag_and_constraints(encoder, tag, one_to_three())?;
-        Ok(())
+            .encode_with_tag_and_constraints(encoder, tag, constraints)
     }
 }
 
@@ -85,14 +77,10 @@ impl Decode for Octets {
         alloc: Global,
         decoder: &mut D,
         tag: Tag,
-        _constraints: Constraints,
+        constraints: Constraints,
     ) -> Result<Self, DecodeError> {
-        let octets = OctetString::decode_with_tag_and_constraints(
-            alloc,
-            decoder,
-            tag,
-            one_to_three(),
-        )?;
+        let octets =
+            OctetString::decode_with_tag_and_constraints(alloc, decoder, tag, constraints)?;
         Ok(Octets { octets })
     }
 }

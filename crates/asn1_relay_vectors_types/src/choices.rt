@@ -1,7 +1,7 @@
 //! Choices.
 ghost use Rattle.std.specs.Prelude.{◌∷◌, [], refl, true, false};
 ghost use Rattle.asn1_model.specs.Types.{context};
-ghost use Rattle.asn1_schema_constraints.specs.Sets.{no_constraint};
+ghost use Rattle.asn1_schema_constraints.specs.Terms.{no_constraint};
 ghost use Rattle.asn1_schema_constructed.specs.Tables.{variant, no_variant, choice_type};
 ghost use Rattle.asn1_schema_constructed.specs.Chosen.{chosen_value};
 ghost use Rattle.asn1_schema_constructed.proofs.Types.{type_choice, more_variants, no_variants, value_choice};
@@ -95,6 +95,8 @@ impl Alternatives for Spaced {
     fn extended_variants() -> Option<&'static [Tag]> {
         None
     }
+
+    ghost tagged = { refl };
 
     ghost is_of = { λ _ _. refl };
 }
@@ -218,6 +220,8 @@ impl Alternatives for Distant {
     fn extended_variants() -> Option<&'static [Tag]> {
         None
     }
+
+    ghost tagged = { refl };
 
     ghost is_of = { λ _ _. refl };
 }
@@ -355,6 +359,8 @@ impl Alternatives for OldVersioned {
         Some(&[])
     }
 
+    ghost tagged = { refl };
+
     ghost is_of = { λ _ _. refl };
 }
 
@@ -485,6 +491,8 @@ impl Alternatives for Versioned {
     fn extended_variants() -> Option<&'static [Tag]> {
         Some(&[context!(2)])
     }
+
+    ghost tagged = { refl };
 
     ghost is_of = { λ _ _. refl };
 }
@@ -623,6 +631,8 @@ impl Alternatives for Around {
     fn extended_variants() -> Option<&'static [Tag]> {
         Some(&[context!(1)])
     }
+
+    ghost tagged = { refl };
 
     ghost is_of = { λ _ _. refl };
 }

@@ -2,8 +2,9 @@
 ghost use Rattle.std.specs.Prelude.{◌∷◌, [], refl, pos, negsuc, false};
 ghost use Rattle.asn1_model.specs.Schema.{enumerated};
 ghost use Rattle.asn1_model.specs.Value.{item};
-ghost use Rattle.asn1_schema_constraints.specs.Sets.{no_constraint};
+ghost use Rattle.asn1_schema_constraints.specs.Terms.{no_constraint};
 ghost use Rattle.asn1_schema_constructed.proofs.Types.{type_enumerated, value_enumerated};
+ghost use Rattle.asn1_schema_variants.proofs.Distinct.{one_number_of};
 
 use asn1_schema_constraints::Constraints;
 use asn1_schema_constructed::{DecodeItems, EncodeItems, EnumeratedType};
@@ -108,6 +109,8 @@ impl Enumerated for Scale {
     }
 
     ghost distinct = { refl };
+
+    ghost one_number = { one_number_of _ (Lowest ∷ Below ∷ Least ∷ Zero ∷ Most ∷ Above ∷ Highest ∷ []) (elim [ Lowest ↦ (0, refl) | Below ↦ (1, refl) | Least ↦ (2, refl) | Zero ↦ (3, refl) | Most ↦ (4, refl) | Above ↦ (5, refl) | Highest ↦ (6, refl) ]) refl };
 
     ghost listed = { elim [ Lowest ↦ (false, 0, refl) | Below ↦ (false, 1, refl) | Least ↦ (false, 2, refl) | Zero ↦ (false, 3, refl) | Most ↦ (false, 4, refl) | Above ↦ (false, 5, refl) | Highest ↦ (false, 6, refl) ] };
 }

@@ -1,7 +1,7 @@
 //! Sequences that consist of their components as they are read, without names.
 ghost use Rattle.std.specs.Prelude.{◌≡◌, refl, [], ◌∷◌, OnOk, OnErr, IfOk, IfErr};
 ghost use Rattle.asn1_model.specs.Value.{Value};
-ghost use Rattle.asn1_schema_constraints.specs.Sets.{no_constraint};
+ghost use Rattle.asn1_schema_constraints.specs.Terms.{no_constraint};
 ghost use Rattle.asn1_schema_decode.specs.Reads.{Reads, Unread};
 ghost use Rattle.asn1_schema_encode.specs.Writes.{CannotWrite, Writes};
 ghost use Rattle.asn1_schema_presented.specs.Tables.{IsType, IsValue, Table, sequence_type};

@@ -1,6 +1,6 @@
 //! Strings and lists of a size of their own.
-ghost use Rattle.std.specs.Prelude.{refl, Some, None, false};
-ghost use Rattle.asn1_schema_constraints.specs.declared.bounds.Bounded.{Bounded};
+ghost use Rattle.std.specs.Prelude.{refl, Some, false};
+ghost use Rattle.asn1_schema_constraints.specs.Terms.{sized};
 ghost use Rattle.asn1_schema_presented.proofs.TypesByKind.{octet_string_type, type_list};
 ghost use Rattle.asn1_schema_types.specs.Counts.{fixed_to};
 
@@ -47,7 +47,7 @@ impl ConstraintsOf<OctetString> for Three {
 }
 
 impl<T: Described> ConstraintsOf<Vec<T>> for OneOrTwo {
-    ghost terms = { record { value = None; size = Some (record { constraint = record { range = Bounded.Range (Some 1) (Some 2) }; extensible = None }); permitted_alphabet = None; is_marked = false } };
+    ghost terms = { sized 1 (Some 2) false };
 
     ghost under = { ⟦<Vec<T> as Described>⟧.under };
 

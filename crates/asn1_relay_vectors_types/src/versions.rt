@@ -1,7 +1,7 @@
 //! Sequences and sets that are newer versions of others.
 ghost use Rattle.std.specs.Prelude.{refl, [], ◌∷◌};
 ghost use Rattle.asn1_model.specs.Value.{fields};
-ghost use Rattle.asn1_schema_constraints.specs.Sets.{no_constraint};
+ghost use Rattle.asn1_schema_constraints.specs.Terms.{no_constraint};
 ghost use Rattle.asn1_schema_constructed.specs.Sets.{set_type};
 ghost use Rattle.asn1_schema_constructed.proofs.SetValues.{type_set, value_set};
 ghost use Rattle.asn1_schema_presented.specs.Tables.{no_field};

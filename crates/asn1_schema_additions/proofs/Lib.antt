@@ -3,3 +3,4 @@ pub mod Writing
 pub mod GroupWriting
 pub mod Reading
 pub mod GroupReading
+pub mod Going

@@ -5,9 +5,11 @@ ghost use Rattle.asn1_model.specs.Schema.{required, optional, by_default};
 ghost use Rattle.asn1_schema_presented.specs.Presents.{there};
 ghost use Rattle.asn1_schema_presented.specs.Tables.{marks, sequence_type};
 ghost use Rattle.asn1_schema_presented.specs.Parts.{part_of, part_unless};
+ghost use Rattle.asn1_schema_constraints.specs.Terms.{meant};
 ghost use Rattle.asn1_schema_encode.specs.Writes.{Writes, CannotWrite};
 ghost use Rattle.asn1_schema_presented.specs.Additions.{group_type, group_part};
-ghost use Rattle.asn1_schema_additions.specs.Writes.{WritesEnclosed, CannotWriteEnclosed, WritesAddition, CannotWriteAddition, WritesAdded, CannotWriteAdded};
+ghost use Rattle.asn1_schema_additions.specs.Writes.{WritesEnclosed, CannotWriteEnclosed, WritesAddition};
+ghost use Rattle.asn1_schema_additions.specs.Writes.{CannotWriteAddition, WritesAdded, CannotWriteAdded};
 
 use crate::additions::{AdditionsOf, NoMore};
 use crate::group::Group;
@@ -25,7 +27,8 @@ pub trait EncodeAdditions: AdditionsOf {
         ensures ok { OnOk result (WritesAdded E.step Self.additions (Self.parts self.now) encoder.old encoder.new) }
         ensures only { IfErr result (CannotWriteAdded E.step Self.additions (Self.parts self.now) encoder.old) }
         ensures failed { OnErr result (E.has_failed encoder.new) }
-        ensures already { E.has_failed encoder.old → result ≡ Err EncodeError.AlreadyFailed };
+        ensures already { E.has_failed encoder.old → result ≡ Err EncodeError.AlreadyFailed }
+        ensures after { result ≡ Err EncodeError.AlreadyFailed → E.has_failed encoder.old };
 }
 
 impl EncodeAdditions for NoMore {
@@ -86,10 +89,13 @@ pub trait EncodeExtension: Encoder {
     ) -> Result<(), EncodeError>
     where
         Self: Sized,
-        ensures ok { OnOk result (WritesAddition Self.step required T.schema (there (T.meaning value.now)) self.old self.new) }
-        ensures only { IfErr result (CannotWriteAddition Self.step required T.schema (there (T.meaning value.now)) self.old) }
+        ensures ok { OnOk result
+            (WritesAddition Self.step required T.schema (there (T.meaning value.now)) self.old self.new) }
+        ensures only { IfErr result
+            (CannotWriteAddition Self.step required T.schema (there (T.meaning value.now)) self.old) }
         ensures failed { OnErr result (Self.has_failed self.new) }
         ensures already { Self.has_failed self.old → result ≡ Err EncodeError.AlreadyFailed }
+        ensures after { result ≡ Err EncodeError.AlreadyFailed → Self.has_failed self.old }
     {
         self.encode_present_addition(T::TAG, value, T::constraints())?;
         Ok(())
@@ -104,10 +110,13 @@ pub trait EncodeExtension: Encoder {
     ) -> Result<(), EncodeError>
     where
         Self: Sized,
-        ensures ok { OnOk result (WritesEnclosed Self.step (T.under constraints.entry) (T.meaning value.now) self.old self.new) }
-        ensures only { IfErr result (CannotWriteEnclosed Self.step (T.under constraints.entry) (T.meaning value.now) self.old) }
+        ensures ok { OnOk result
+            (WritesEnclosed Self.step (T.under (meant constraints.entry)) (T.meaning value.now) self.old self.new) }
+        ensures only { IfErr result
+            (CannotWriteEnclosed Self.step (T.under (meant constraints.entry)) (T.meaning value.now) self.old) }
         ensures failed { OnErr result (Self.has_failed self.new) }
         ensures already { Self.has_failed self.old → result ≡ Err EncodeError.AlreadyFailed }
+        ensures after { result ≡ Err EncodeError.AlreadyFailed → Self.has_failed self.old }
     {
         self.put_addition(true)?;
         value.encode_with_tag_and_constraints(self, tag, constraints)?;
@@ -122,10 +131,13 @@ pub trait EncodeExtension: Encoder {
     ) -> Result<(), EncodeError>
     where
         Self: Sized,
-        ensures ok { OnOk result (WritesAddition Self.step optional T.schema (part_of T.meaning value.now) self.old self.new) }
-        ensures only { IfErr result (CannotWriteAddition Self.step optional T.schema (part_of T.meaning value.now) self.old) }
+        ensures ok { OnOk result
+            (WritesAddition Self.step optional T.schema (part_of T.meaning value.now) self.old self.new) }
+        ensures only { IfErr result
+            (CannotWriteAddition Self.step optional T.schema (part_of T.meaning value.now) self.old) }
         ensures failed { OnErr result (Self.has_failed self.new) }
         ensures already { Self.has_failed self.old → result ≡ Err EncodeError.AlreadyFailed }
+        ensures after { result ≡ Err EncodeError.AlreadyFailed → Self.has_failed self.old }
     {
         let Some(inner) = value else {
             self.put_addition(false)?;
@@ -135,18 +147,23 @@ pub trait EncodeExtension: Encoder {
         Ok(())
     }
 
-    /// An addition with a default: left out where it means what the default is, so a default is never spelled out (X.691 19.5 and
-    /// X.696 16 in their canonical forms). Takes no memory of its own.
+    /// An addition with a default: left out where it means what the default is, so a default is never spelled out
+    /// (X.691 19.5 and X.696 16 in their canonical forms). Takes no memory of its own.
     final fn encode_extension_addition_with_default<V: DefaultOf<T>, T: Encode>(
         &mut self,
         value: &T,
     ) -> Result<(), EncodeError>
     where
         Self: Sized,
-        ensures ok { OnOk result (WritesAddition Self.step (by_default V.value) T.schema (part_unless (same (T.meaning value.now) V.value) (T.meaning value.now)) self.old self.new) }
-        ensures only { IfErr result (CannotWriteAddition Self.step (by_default V.value) T.schema (part_unless (same (T.meaning value.now) V.value) (T.meaning value.now)) self.old) }
+        ensures ok { OnOk result
+            (WritesAddition Self.step (by_default V.value) T.schema
+            (part_unless (same (T.meaning value.now) V.value) (T.meaning value.now)) self.old self.new) }
+        ensures only { IfErr result
+            (CannotWriteAddition Self.step (by_default V.value) T.schema
+            (part_unless (same (T.meaning value.now) V.value) (T.meaning value.now)) self.old) }
         ensures failed { OnErr result (Self.has_failed self.new) }
         ensures already { Self.has_failed self.old → result ≡ Err EncodeError.AlreadyFailed }
+        ensures after { result ≡ Err EncodeError.AlreadyFailed → Self.has_failed self.old }
     {
         if V::is_default(value) {
             self.put_addition(false)?;
@@ -160,10 +177,13 @@ pub trait EncodeExtension: Encoder {
     final fn encode_group<G: Group>(&mut self, group: &G) -> Result<(), EncodeError>
     where
         Self: Sized,
-        ensures ok { OnOk result (Writes Self.step (group_type G.components) (fields (G.parts group.now) end) self.old self.new) }
-        ensures only { IfErr result (CannotWrite Self.step (group_type G.components) (fields (G.parts group.now) end) self.old) }
+        ensures ok { OnOk result
+            (Writes Self.step (group_type G.components) (fields (G.parts group.now) end) self.old self.new) }
+        ensures only { IfErr result
+            (CannotWrite Self.step (group_type G.components) (fields (G.parts group.now) end) self.old) }
         ensures failed { OnErr result (Self.has_failed self.new) }
         ensures already { Self.has_failed self.old → result ≡ Err EncodeError.AlreadyFailed }
+        ensures after { result ≡ Err EncodeError.AlreadyFailed → Self.has_failed self.old }
     {
         let optional = G::fields().number_of_optional_and_default_fields();
         self.begin_group(optional)?;
@@ -175,10 +195,13 @@ pub trait EncodeExtension: Encoder {
     final fn encode_present_group<G: Group>(&mut self, group: &G) -> Result<(), EncodeError>
     where
         Self: Sized,
-        ensures ok { OnOk result (WritesEnclosed Self.step (group_type G.components) (fields (G.parts group.now) end) self.old self.new) }
-        ensures only { IfErr result (CannotWriteEnclosed Self.step (group_type G.components) (fields (G.parts group.now) end) self.old) }
+        ensures ok { OnOk result
+            (WritesEnclosed Self.step (group_type G.components) (fields (G.parts group.now) end) self.old self.new) }
+        ensures only { IfErr result
+            (CannotWriteEnclosed Self.step (group_type G.components) (fields (G.parts group.now) end) self.old) }
         ensures failed { OnErr result (Self.has_failed self.new) }
         ensures already { Self.has_failed self.old → result ≡ Err EncodeError.AlreadyFailed }
+        ensures after { result ≡ Err EncodeError.AlreadyFailed → Self.has_failed self.old }
     {
         self.put_addition(true)?;
         self.encode_group(group)?;
@@ -193,10 +216,14 @@ pub trait EncodeExtension: Encoder {
     ) -> Result<(), EncodeError>
     where
         Self: Sized,
-        ensures ok { OnOk result (WritesAddition Self.step optional (group_type G.components) (group_part G.parts value.now) self.old self.new) }
-        ensures only { IfErr result (CannotWriteAddition Self.step optional (group_type G.components) (group_part G.parts value.now) self.old) }
+        ensures ok { OnOk result
+            (WritesAddition Self.step optional (group_type G.components) (group_part G.parts value.now) self.old
+            self.new) }
+        ensures only { IfErr result
+            (CannotWriteAddition Self.step optional (group_type G.components) (group_part G.parts value.now) self.old) }
         ensures failed { OnErr result (Self.has_failed self.new) }
         ensures already { Self.has_failed self.old → result ≡ Err EncodeError.AlreadyFailed }
+        ensures after { result ≡ Err EncodeError.AlreadyFailed → Self.has_failed self.old }
     {
         let Some(group) = value else {
             self.put_addition(false)?;
@@ -210,7 +237,8 @@ pub trait EncodeExtension: Encoder {
         Ok(())
     }
 
-    /// SEQUENCE (X.680 25) of these components with a mark of extensibility, of whose root components so many may be absent.
+    /// SEQUENCE (X.680 25) of these components with a mark of extensibility, of whose root components so many may be
+    /// absent.
     final fn encode_extensible_sequence<C: EncodeComponents>(
         &mut self,
         tag: Tag,
@@ -221,10 +249,15 @@ pub trait EncodeExtension: Encoder {
         Self: Sized,
         requires marks { optional ≡ marks C.table.root }
         requires extensible { C.table.extensible ≡ true }
-        ensures ok { OnOk result (Writes Self.step (sequence_type C.table) (fields (C.root components.now) (C.added components.now)) self.old self.new) }
-        ensures only { IfErr result (CannotWrite Self.step (sequence_type C.table) (fields (C.root components.now) (C.added components.now)) self.old) }
+        ensures ok { OnOk result
+            (Writes Self.step (sequence_type C.table) (fields (C.root components.now) (C.added components.now))
+            self.old self.new) }
+        ensures only { IfErr result
+            (CannotWrite Self.step (sequence_type C.table) (fields (C.root components.now) (C.added components.now))
+            self.old) }
         ensures failed { OnErr result (Self.has_failed self.new) }
         ensures already { Self.has_failed self.old → result ≡ Err EncodeError.AlreadyFailed }
+        ensures after { result ≡ Err EncodeError.AlreadyFailed → Self.has_failed self.old }
     {
         self.begin_sequence(tag, true, optional)?;
         components.encode_components(self)?;

@@ -10,7 +10,7 @@ use Rattle.asn1_schema_constraints.specs.declared.lists.Constraint.{Constraint}
 use Rattle.asn1_schema_constraints.specs.declared.lists.Constraint.TheVariants.{Value as OfValue, Size as OfSize, PermittedAlphabet as OfAlphabet, Extensible as Mark}
 use Rattle.asn1_schema_constraints.specs.declared.lists.Constraints.{Constraints}
 use Rattle.asn1_schema_constraints.specs.Bounds.{admits_number, admits_count}
-use Rattle.asn1_schema_constraints.specs.Sets.{no_constraint, alone, both_parts, later_mark, met_values, met_sizes, later_alphabet, both, all_of, root_passes, admit_number, admit_count}
+use Rattle.asn1_schema_constraints.specs.Sets.{unconstrained, alone, both_parts, later_mark, met_values, met_sizes, later_alphabet, both, all_of, root_passes, admit_number, admit_count}
 use Rattle.asn1_schema_constraints.proofs.Meets.{meet_groups}
 use Rattle.asn1_schema_constraints.proofs.Common.{number_order, count_order, number_meet_admits, count_meet_admits}
 
@@ -70,7 +70,7 @@ mark_and_none : (m : Bool) → (m || false) ≡ m
 mark_and_none true = refl
 mark_and_none false = refl
 
-pub both_none : (a : Constraints) → both a no_constraint ≡ a
+pub both_none : (a : Constraints) → both a unconstrained ≡ a
 both_none a = by_kinds (part_and_none met_values a.value) (part_and_none met_sizes a.size) (part_and_none later_alphabet a.permitted_alphabet) (mark_and_none a.is_marked)
 
 -- ---- lists joined
@@ -82,7 +82,7 @@ one_by_one a (c ∷ cs) = one_by_one (both a (alone c)) cs ∙ (both_groups a (a
 
 -- a list followed by another comes to what both come to, applied in turn
 pub all_of_joined : (cs ds : List Constraint) → all_of (cs ++ ds) ≡ both (all_of cs) (all_of ds)
-all_of_joined cs ds = go no_constraint cs ∙ one_by_one (all_of cs) ds where
+all_of_joined cs ds = go unconstrained cs ∙ one_by_one (all_of cs) ds where
   go : (a : Constraints) (xs : List Constraint) → fold both a (map alone (xs ++ ds)) ≡ fold both (fold both a (map alone xs)) (map alone ds)
   go a [] = refl
   go a (x ∷ xs) = go (both a (alone x)) xs
@@ -120,8 +120,8 @@ each_alone test h a (c ∷ cs) = each_alone test h (both a (alone c)) cs
 
 -- a list admits a number exactly if each of its constraints does
 pub all_admit_number : (cs : List Constraint) (v : ℤ) → admit_number (all_of cs) v ≡ each_is (λ c. admit_number (alone c) v) cs
-all_admit_number cs v = each_alone (λ c. admit_number c v) (λ a b. both_admit_number a b v) no_constraint cs
+all_admit_number cs v = each_alone (λ c. admit_number c v) (λ a b. both_admit_number a b v) unconstrained cs
 
 -- a list admits a size exactly if each of its constraints does
 pub all_admit_count : (cs : List Constraint) (n : ℕ) → admit_count (all_of cs) n ≡ each_is (λ c. admit_count (alone c) n) cs
-all_admit_count cs n = each_alone (λ c. admit_count c n) (λ a b. both_admit_count a b n) no_constraint cs
+all_admit_count cs n = each_alone (λ c. admit_count c n) (λ a b. both_admit_count a b n) unconstrained cs

@@ -61,16 +61,16 @@ is_extended (Some c) = has_additions c
 abbrev pub is_marked : Constraints → Bool
 is_marked c = c.is_marked || (is_extended c.value || (is_extended c.size || is_extended c.permitted_alphabet))
 
--- No constraint.
-abbrev pub no_constraint : Constraints
-no_constraint = record { value = None; size = None; permitted_alphabet = None; is_marked = false }
+-- The constraints of the program where there are none.
+abbrev pub unconstrained : Constraints
+unconstrained = record { value = None; size = None; permitted_alphabet = None; is_marked = false }
 
 -- One constraint.
 abbrev pub alone : Constraint → Constraints
-alone (OfValue c) = record no_constraint { value = Some c }
-alone (OfSize c) = record no_constraint { size = Some c }
-alone (OfAlphabet c) = record no_constraint { permitted_alphabet = Some c }
-alone Mark = record no_constraint { is_marked = true }
+alone (OfValue c) = record unconstrained { value = Some c }
+alone (OfSize c) = record unconstrained { size = Some c }
+alone (OfAlphabet c) = record unconstrained { permitted_alphabet = Some c }
+alone Mark = record unconstrained { is_marked = true }
 
 -- What is behind the later mark, or else behind the earlier one.
 abbrev pub later_mark : {X : Type 0} → Option X → Option X → Option X
@@ -110,7 +110,7 @@ both a b = record {
 
 -- What some constraints come to, applied in turn.
 abbrev pub all_of : List Constraint → Constraints
-all_of cs = fold both no_constraint (map alone cs)
+all_of cs = fold both unconstrained (map alone cs)
 
 -- Whether the root of a constraint, where there is one, passes a test.
 abbrev pub root_passes : {X : Type 0} → (X → Bool) → Option (Extensible X) → Bool

@@ -1,6 +1,7 @@
--- The types of the model under some constraints.
-use Rattle.std.specs.Prelude.{◌-◌, ◌^◌, pos, negsuc, false, Option, Some, None}
-use Rattle.asn1_model.specs.Schema.{Range, Bounds, Counts, Size as SizeTerm, Alphabet, StringKind, Schema, integer, bit_string, octet_string, character_string, sequence_of, set_of}
+-- What constraints mean for a type, and the types of the model under some.
+use Rattle.std.specs.Prelude.{ℕ, ◌-◌, ◌^◌, ℤ, pos, negsuc, Bool, true, false, Option, Some, None, is_some}
+use Rattle.asn1_model.specs.Schema.{Range, Bounds, Counts, Size as SizeTerm, Alphabet, StringKind, Schema}
+use Rattle.asn1_model.specs.Schema.{integer, bit_string, octet_string, character_string, sequence_of, set_of}
 use Rattle.asn1_model.specs.Numbers.{is_at_most}
 use Rattle.asn1_schema_constraints.specs.Bounds.{later, earlier, range_of, counts_of}
 use Rattle.asn1_schema_constraints.specs.Sets.{has_additions}
@@ -10,18 +11,30 @@ use Rattle.asn1_schema_constraints.specs.declared.extensions.Extensible.{Extensi
 use Rattle.asn1_schema_constraints.specs.declared.extensions.PermittedAlphabet.{PermittedAlphabet}
 use Rattle.asn1_schema_constraints.specs.declared.lists.Constraints.{Constraints}
 
+-- What constraints mean for a type: the bounds of its numbers, whether there is a value constraint at all, its sizes,
+-- and its permitted alphabet, each with its mark of extensibility (X.680 51 and 52).
+pub record Meant : Type 0 where
+  pub bounds : Bounds
+  pub is_bounded : Bool
+  pub size : SizeTerm
+  pub alphabet : Alphabet
+
 -- The bounds of a value constraint, where there is one, and whether a mark follows them (X.680 51.4 and 52).
 abbrev pub bounds_of : Option (Extensible Value) → Bounds
 bounds_of None = record { range = record { low = None; high = None }; extensible = false }
 bounds_of (Some c) = record { range = range_of c.constraint.value; extensible = has_additions c }
 
--- The numbers that a program's type holds, under a value constraint those of 128 bits of two's complement among them (the project's choice).
-abbrev pub held_of : Option (Extensible Value) → Range → Range
-held_of None held = held
-held_of (Some c) held = record {
+-- The numbers that a program's type holds: under a value constraint those of 128 bits of two's complement among them
+-- (the project's choice).
+abbrev pub held_where : Bool → Range → Range
+held_where false held = held
+held_where true held = record {
   low = later is_at_most held.low (Some (negsuc (2 ^ 127 - 1)));
   high = earlier is_at_most held.high (Some (pos (2 ^ 127 - 1)));
 }
+
+abbrev pub held_of : Option (Extensible Value) → Range → Range
+held_of c held = held_where (is_some c) held
 
 -- The sizes of a size constraint, where there is one, and whether a mark follows them (X.680 51.5 and 52).
 abbrev pub sizes_of : Option (Extensible Size) → SizeTerm
@@ -33,26 +46,62 @@ abbrev pub alphabet_of : Option (Extensible PermittedAlphabet) → Alphabet
 alphabet_of None = record { characters = None; extensible = false }
 alphabet_of (Some c) = record { characters = Some c.constraint.characters.now; extensible = has_additions c }
 
+-- What the constraints of the program mean.
+abbrev pub meant : Constraints → Meant
+meant c = record {
+  bounds = bounds_of c.value;
+  is_bounded = is_some c.value;
+  size = sizes_of c.size;
+  alphabet = alphabet_of c.permitted_alphabet;
+}
+
+-- No constraint.
+abbrev pub no_constraint : Meant
+no_constraint = record {
+  bounds = record { range = record { low = None; high = None }; extensible = false };
+  is_bounded = false;
+  size = record { counts = record { low = 0; high = None }; extensible = false };
+  alphabet = record { characters = None; extensible = false };
+}
+
+-- A value constraint: the least and the greatest number, where they are given, and whether a mark follows
+-- (X.680 51.4 and 52).
+abbrev pub bounded_by : Option ℤ → Option ℤ → Bool → Meant
+bounded_by low high mark = record no_constraint {
+  bounds = record { range = record { low = low; high = high }; extensible = mark };
+  is_bounded = true;
+}
+
+-- The numbers from one to another, without a mark.
+abbrev pub from_to : ℤ → ℤ → Meant
+from_to low high = bounded_by (Some low) (Some high) false
+
+-- A size constraint: the least size, the greatest where it is given, and whether a mark follows (X.680 51.5 and 52).
+abbrev pub sized : ℕ → Option ℕ → Bool → Meant
+sized low high mark = record no_constraint {
+  size = record { counts = record { low = low; high = high }; extensible = mark };
+}
+
 -- INTEGER under constraints, held in a type of the program that holds these numbers (X.680 19).
-abbrev pub integer_under : Constraints → Range → Schema
-integer_under c held = integer (bounds_of c.value) (held_of c.value held)
+abbrev pub integer_under : Meant → Range → Schema
+integer_under c held = integer c.bounds (held_where c.is_bounded held)
 
 -- BIT STRING under constraints, held in a type that holds so many bits (X.680 22).
-abbrev pub bit_string_under : Constraints → Counts → Schema
-bit_string_under c held = bit_string (sizes_of c.size) held
+abbrev pub bit_string_under : Meant → Counts → Schema
+bit_string_under c held = bit_string c.size held
 
 -- OCTET STRING under constraints, held in a type that holds so many octets (X.680 23).
-abbrev pub octet_string_under : Constraints → Counts → Schema
-octet_string_under c held = octet_string (sizes_of c.size) held
+abbrev pub octet_string_under : Meant → Counts → Schema
+octet_string_under c held = octet_string c.size held
 
 -- A restricted character string under constraints, held in a type that holds so many characters (X.680 41).
-abbrev pub character_string_under : StringKind → Constraints → Counts → Schema
-character_string_under k c held = character_string k (sizes_of c.size) (alphabet_of c.permitted_alphabet) held
+abbrev pub character_string_under : StringKind → Meant → Counts → Schema
+character_string_under k c held = character_string k c.size c.alphabet held
 
 -- SEQUENCE OF a type under constraints, held in a type that holds so many members (X.680 26).
-abbrev pub sequence_of_under : Constraints → Counts → Schema → Schema
-sequence_of_under c held s = sequence_of (sizes_of c.size) held s
+abbrev pub sequence_of_under : Meant → Counts → Schema → Schema
+sequence_of_under c held s = sequence_of c.size held s
 
 -- SET OF a type under constraints, held in a type that holds so many members (X.680 28).
-abbrev pub set_of_under : Constraints → Counts → Schema → Schema
-set_of_under c held s = set_of (sizes_of c.size) held s
+abbrev pub set_of_under : Meant → Counts → Schema → Schema
+set_of_under c held s = set_of c.size held s

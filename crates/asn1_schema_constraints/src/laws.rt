@@ -5,7 +5,7 @@ ghost use Rattle.asn1_schema_constraints.specs.declared.parts.Value.{Value};
 ghost use Rattle.asn1_schema_constraints.specs.declared.parts.Size.{Size};
 ghost use Rattle.asn1_schema_constraints.specs.declared.lists.Constraint.{Constraint};
 ghost use Rattle.asn1_schema_constraints.specs.declared.lists.Constraints.{Constraints};
-ghost use Rattle.asn1_schema_constraints.specs.Sets.{no_constraint, met_values, met_sizes, both, all_of};
+ghost use Rattle.asn1_schema_constraints.specs.Sets.{unconstrained, met_values, met_sizes, both, all_of};
 
 /// What `Value::intersect` answers commutes and associates.
 pub fn values_intersect()
@@ -23,7 +23,7 @@ pub fn sizes_intersect()
 /// constraints followed by another comes to what both come to, intersected.
 pub fn lists_join()
     ensures associate { (a b c : Constraints) → both (both a b) c ≡ both a (both b c) }
-    ensures before { (a : Constraints) → both no_constraint a ≡ a }
-    ensures behind { (a : Constraints) → both a no_constraint ≡ a }
+    ensures before { (a : Constraints) → both unconstrained a ≡ a }
+    ensures behind { (a : Constraints) → both a unconstrained ≡ a }
     ensures joined { (cs ds : List Constraint) → all_of (cs ++ ds) ≡ both (all_of cs) (all_of ds) }
 {}

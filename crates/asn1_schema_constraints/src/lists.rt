@@ -2,7 +2,7 @@
 ghost use Rattle.std.specs.Prelude.{◌≡◌, ℕ, ℤ, ◌&&◌, Some, None, false, pos};
 ghost use Rattle.asn1_model.specs.Strings.{each_is};
 ghost use Rattle.std.specs.Option.{option_copied};
-ghost use Rattle.asn1_schema_constraints.specs.Sets.{alone, kind_of, kind_number, value_part, size_part, alphabet_part, has_mark, no_constraint, both_parts, met_values, met_sizes, later_alphabet, both, all_of, is_marked, admit_number, admit_count};
+ghost use Rattle.asn1_schema_constraints.specs.Sets.{alone, kind_of, kind_number, value_part, size_part, alphabet_part, has_mark, unconstrained, both_parts, met_values, met_sizes, later_alphabet, both, all_of, is_marked, admit_number, admit_count};
 ghost use Rattle.asn1_schema_constraints.specs.declared.lists.Constraint.TheVariants.{Value as OfValue, Size as OfSize, PermittedAlphabet as OfAlphabet};
 
 use crate::{Extensible, PermittedAlphabet, Size, Value};
@@ -293,7 +293,7 @@ impl<'a> Constraints<'a> {
 }
 
 impl Default for Constraints<'_> {
-    ghost is_default = { λ c. c ≡ no_constraint };
+    ghost is_default = { λ c. c ≡ unconstrained };
 
     fn default() -> Self {
         Constraints::NONE

@@ -1,13 +1,13 @@
 -- How a choice is written.
-use Rattle.std.proofs.Common.{◌≡◌, ℕ, zero, suc, Bool, [], ◌∷◌, ◌++◌, refl, subst, sym}
-use Rattle.asn1_model.specs.Value.{Value, chosen}
+use Rattle.std.proofs.Common.{◌≡◌, ℕ, ◌≤◌, zero, suc, Bool, [], ◌∷◌, ◌++◌, refl, subst, sym, arith}
+use Rattle.asn1_model.specs.Value.{Value, chosen, depth}
 use Rattle.asn1_model.specs.Schema.{Schema, choice}
 use Rattle.asn1_schema_faults.specs.declared.EncodeError.{EncodeError}
 use Rattle.asn1_schema_presented.specs.Records.{Record, ends}
 use Rattle.asn1_schema_presented.specs.Presents.{presents, Fits}
-use Rattle.asn1_schema_presented.specs.Tables.{scope}
-use Rattle.asn1_schema_presented.specs.Chains.{Chain, OneAfter}
-use Rattle.asn1_schema_presented.proofs.Chains.{chain_append, chain_split, chain_rest}
+use Rattle.asn1_schema_presented.specs.Tables.{scope, IsValue}
+use Rattle.asn1_schema_presented.specs.Chains.{Chain, OneAfter, GoesOn}
+use Rattle.asn1_schema_presented.proofs.Chains.{chain_append, chain_split, chain_rest, failed_before}
 use Rattle.asn1_schema_encode.specs.Writes.{Refused, Writes, CannotWrite}
 use Rattle.asn1_schema_encode.proofs.Writing.{writes_as, cannot_as}
 use Rattle.asn1_schema_variants.specs.declared.chosen.Chosen.{Chosen}
@@ -76,3 +76,13 @@ module _ {S : Type 0} (step : S → Record → S → Type 0) (t : Choices) {s : 
 
   pub cannot_begun_end : OneAfter step → {a m q : S} {y : EncodeError} → step a (begins t p.added p.place) m → Writes step (chosen_type t p) u m q → Refused step ends q y → CannotWrite step s v a y
   cannot_begun_end one k w z = not_meant (cannot_choice_end step t p.added p.place one k w z)
+
+-- What has failed behind the value of the chosen alternative had failed in front of it.
+pub failed_before_chosen : {S : Type 0} {step : S → Record → S → Type 0} {has_failed : S → Type 0} → GoesOn step has_failed → (t : Choices) {s : ℕ → Schema} → ((n : ℕ) → s n ≡ choice_type t n) → (p : Chosen) {v u : Value} → v ≡ chosen_value p u → IsValue s v → {a b : S} → Writes step (chosen_type t p) u a b → has_failed b → has_failed a
+unfolding choice_type scope
+failed_before_chosen law t {s} is p {v} {u} means i {a} {b} w f =
+    let m : ℕ = depth v in
+    let le : depth v ≤ suc m = omega arith in
+    let g : Fits (choice_type t (suc m)) v = subst (λ (x : Schema). Fits x v) (is (suc m)) (i.fits (suc m) le) in
+    let h : Fits (choice (alternatives_at m t.root) t.extensible (alternatives_at m t.additions)) (chosen p.added p.place u) = subst (λ (w : Value). Fits (choice_type t (suc m)) w) means g in
+    failed_before law (presents (chosen_type t p m) u) a b (w.chain m (chosen_fits t p.added p.place m u h)) f

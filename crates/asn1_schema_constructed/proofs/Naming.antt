@@ -4,8 +4,8 @@ use Rattle.std.proofs.lemmas.Option.{slice_get-map}
 use Rattle.std.proofs.lemmas.List.{drop_more}
 use Rattle.std.specs.Str.{bytes_eq}
 use Rattle.asn1_model.specs.Tables.{item_place}
-use Rattle.asn1_schema_variants.specs.Items.{IsPlaced, IsNone}
-use Rattle.asn1_schema_variants.proofs.Places.{place_back, nowhere}
+use Rattle.asn1_schema_variants.specs.Items.{IsPlaced}
+use Rattle.asn1_schema_variants.proofs.Places.{place_back}
 use Rattle.asn1_schema_constructed.specs.Named.{IsUnnamed}
 use Rattle.asn1_schema_constructed.proofs.Distinct.{octets_self}
 
@@ -38,15 +38,10 @@ module _ {A : Type 0} (number : A → ℤ) (one : (x y : A) → number x ≡ num
   none_named name w roots e others false i x p xs m u k h = unnamed_at name w xs i x u (item_at xs roots x i m p) h
   none_named name w roots e others true i x p xs m u k h = let d = k p.1 in unnamed_at name w d.0 i x d.2 (item_at d.0 others x i d.1 p.2) h
 
-  pub number_again : (roots : List ℤ) (e : Bool) (others : List ℤ) (b : Bool) (i : ℕ) (x : A) → IsPlaced roots e others (number x) b i → (m : ℤ) → m ≡ number x → (o : Option A) → MatchOption o (IsNone roots e others m) (λ y. number y ≡ m) → o ≡ Some x
-  number_again roots e others b i x p m h None k =
-      let n : IsNone roots e others (number x) = subst (λ z. IsNone roots e others z) h k in
-      absurd (nowhere roots e others (number x) b i p n.0 n.1)
-  number_again roots e others b i x p m h (Some y) k = ap (λ (z : A). Some z) (one y x (k ∙ h))
-
-pub name_again : {A : Type 0} (name : A → List ℕ) → ((x y : A) → name x ≡ name y → x ≡ y) → (x : A) (w : List ℕ) → w ≡ name x → (o : Option A) → MatchOption o ((y : A) → name y ≡ w → ⊥) (λ y. name y ≡ w) → o ≡ Some x
-name_again name one x w h None k = absurd (k x (sym h))
-name_again name one x w h (Some y) k = ap (λ (z : _). Some z) (one y x (k ∙ h))
+-- where no two have one name, what is found by the name of one is that one
+pub name_again : {A : Type 0} (name : A → List ℕ) → ((x y : A) → name x ≡ name y → x ≡ y) → (w : List ℕ) (o : Option A) → MatchOption o ((y : A) → name y ≡ w → ⊥) (λ y. name y ≡ w) → (x : A) → name x ≡ w → o ≡ Some x
+name_again name one w None k x h = absurd (k x h)
+name_again name one w (Some y) k x h = ap (λ (z : _). Some z) (one y x (k ∙ sym h))
 
 -- what is said where there is no value
 pub none_so : {A P : Type 0} (Q : A → Type 0) (o : Option A) → o ≡ None → P → MatchOption o P Q

@@ -1,11 +1,11 @@
 //! Choices by the tables of their alternatives.
 ghost use Rattle.std.specs.Prelude.{◌≡◌, ℕ, List, [], true, false, map, MatchOption, IfOk, IfErr, OnErr};
 ghost use Rattle.asn1_model.specs.Value.{Value};
-ghost use Rattle.asn1_schema_constraints.specs.declared.lists.Constraints.{Constraints};
+ghost use Rattle.asn1_schema_constraints.specs.Terms.{Meant};
 ghost use Rattle.asn1_schema_tags.specs.Tags.{tag_of};
 ghost use Rattle.asn1_schema_variants.specs.declared.chosen.Chosen.{Chosen};
 ghost use Rattle.asn1_schema_encode.specs.Writes.{Writes, CannotWrite};
-ghost use Rattle.asn1_schema_constructed.specs.Tables.{Choices, tags_of, choice_type};
+ghost use Rattle.asn1_schema_constructed.specs.Tables.{Choices, tags_of, all_tags, choice_type};
 ghost use Rattle.asn1_schema_constructed.specs.Chosen.{chosen_type, chosen_value, IsTag, AreTold, of_tag};
 ghost use Rattle.asn1_schema_tags.specs.Trees.{place_of};
 
@@ -26,10 +26,14 @@ pub trait Alternatives: AsnType {
 
     /// The tags of the added alternatives in their order, or `None` where there is no mark of extensibility.
     fn extended_variants() -> Option<&'static [Tag]>
-        ensures { MatchOption result ((false ≡ table.extensible) × ([] ≡ tags_of table.additions)) (λ tags. (true ≡ table.extensible) × (map tag_of tags.now ≡ tags_of table.additions)) };
+        ensures { MatchOption result ((false ≡ table.extensible) × ([] ≡ tags_of table.additions))
+            (λ tags. (true ≡ table.extensible) × (map tag_of tags.now ≡ tags_of table.additions)) };
+
+    /// The tags with which an encoding may begin are those of the alternatives (X.680 29).
+    ghost tagged: { Self.tags ≡ all_tags table };
 
     /// The type is that of the alternatives, whatever constraints it has.
-    ghost is_of: { (c : Constraints) (n : ℕ) → Self.under c n ≡ choice_type table n };
+    ghost is_of: { (c : Meant) (n : ℕ) → Self.under c n ≡ choice_type table n };
 }
 
 /// The values of a CHOICE: which alternative each is, and how that is written.
@@ -46,11 +50,14 @@ pub trait Choice: Alternatives {
 
     /// Hands over the records of the chosen alternative's value, each once, and answers the tag of the alternative.
     fn write_chosen<E: Encoder>(&self, encoder: &mut E) -> Result<Tag, EncodeError>
-        ensures ok { IfOk result (λ _. Writes E.step (chosen_type Self.table (place self.now)) (inner self.now) encoder.old encoder.new) }
+        ensures ok { IfOk result
+            (λ _. Writes E.step (chosen_type Self.table (place self.now)) (inner self.now) encoder.old encoder.new) }
         ensures tag { IfOk result (λ tag. IsTag Self.table (place self.now) (tag_of tag)) }
-        ensures only { IfErr result (CannotWrite E.step (chosen_type Self.table (place self.now)) (inner self.now) encoder.old) }
+        ensures only { IfErr result
+            (CannotWrite E.step (chosen_type Self.table (place self.now)) (inner self.now) encoder.old) }
         ensures failed { OnErr result (E.has_failed encoder.new) }
-        ensures already { E.has_failed encoder.old → result ≡ Err EncodeError.AlreadyFailed };
+        ensures already { E.has_failed encoder.old → result ≡ Err EncodeError.AlreadyFailed }
+        ensures after { result ≡ Err EncodeError.AlreadyFailed → E.has_failed encoder.old };
 
     /// A value means that of its alternative.
     ghost means: { (x : Self) → Self.meaning x ≡ chosen_value (place x) (inner x) };

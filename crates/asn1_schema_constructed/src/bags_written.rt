@@ -1,10 +1,8 @@
 //! Bags, as they are written.
 ghost use Rattle.std.specs.Prelude.{◌≡◌, OnOk, OnErr, IfErr};
 ghost use Rattle.asn1_model.specs.Value.{bag};
-ghost use Rattle.asn1_schema_constraints.specs.Bounds.{members_of};
-ghost use Rattle.asn1_schema_constraints.specs.Terms.{sizes_of};
 ghost use Rattle.asn1_schema_presented.specs.Parts.{values_of};
-ghost use Rattle.asn1_schema_constructed.specs.Bags.{bag_type};
+ghost use Rattle.asn1_schema_constructed.specs.Bags.{bag_under};
 ghost use Rattle.asn1_schema_encode.specs.Writes.{Writes, CannotWrite};
 
 use asn1_schema_constraints::{Bounded, Constraints};
@@ -25,10 +23,15 @@ pub trait EncodeBag: Encoder {
     ) -> Result<(), EncodeError>
     where
         Self: Sized,
-        ensures ok { OnOk result (Writes Self.step (bag_type (sizes_of constraints.entry.size) (members_of held) T.schema) (bag (values_of T.meaning items.now)) self.old self.new) }
-        ensures only { IfErr result (CannotWrite Self.step (bag_type (sizes_of constraints.entry.size) (members_of held) T.schema) (bag (values_of T.meaning items.now)) self.old) }
+        ensures ok { OnOk result
+            (Writes Self.step (bag_under constraints.entry held T.schema) (bag (values_of T.meaning items.now))
+            self.old self.new) }
+        ensures only { IfErr result
+            (CannotWrite Self.step (bag_under constraints.entry held T.schema) (bag (values_of T.meaning items.now))
+            self.old) }
         ensures failed { OnErr result (Self.has_failed self.new) }
         ensures already { Self.has_failed self.old → result ≡ Err EncodeError.AlreadyFailed }
+        ensures after { result ≡ Err EncodeError.AlreadyFailed → Self.has_failed self.old }
     {
         self.begin_bag(tag, constraints, held, items.len())?;
         for item in items {

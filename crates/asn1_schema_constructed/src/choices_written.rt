@@ -1,5 +1,6 @@
 //! How choices are written.
 ghost use Rattle.std.specs.Prelude.{◌≡◌, OnOk, OnErr, IfErr};
+ghost use Rattle.asn1_schema_constraints.specs.Terms.{meant};
 ghost use Rattle.asn1_schema_encode.specs.Writes.{Refused, Writes, CannotWrite};
 ghost use Rattle.asn1_schema_constructed.specs.Chosen.{begins};
 
@@ -21,10 +22,13 @@ pub trait EncodeChoice: Encoder {
     ) -> Result<(), EncodeError>
     where
         Self: Sized,
-        ensures ok { OnOk result (Writes Self.step (T.under constraints.entry) (T.meaning value.now) self.old self.new) }
-        ensures only { IfErr result (CannotWrite Self.step (T.under constraints.entry) (T.meaning value.now) self.old) }
+        ensures ok { OnOk result
+            (Writes Self.step (T.under (meant constraints.entry)) (T.meaning value.now) self.old self.new) }
+        ensures only { IfErr result
+            (CannotWrite Self.step (T.under (meant constraints.entry)) (T.meaning value.now) self.old) }
         ensures failed { OnErr result (Self.has_failed self.new) }
         ensures already { Self.has_failed self.old → result ≡ Err EncodeError.AlreadyFailed }
+        ensures after { result ≡ Err EncodeError.AlreadyFailed → Self.has_failed self.old }
     {
         self.begin_alternative::<T>(tag, value.chosen())?;
         value.write_chosen(self)?;
@@ -44,6 +48,7 @@ pub trait EncodeChoice: Encoder {
         ensures only { IfErr result (Refused Self.step (begins C.table chosen.added chosen.place) self.old) }
         ensures failed { OnErr result (Self.has_failed self.new) }
         ensures already { Self.has_failed self.old → result ≡ Err EncodeError.AlreadyFailed }
+        ensures after { result ≡ Err EncodeError.AlreadyFailed → Self.has_failed self.old }
     {
         let tables = tag_tables_of::<C>();
         self.begin_choice(

@@ -1,7 +1,7 @@
 //! Types with components, by their tables of fields.
 ghost use Rattle.std.specs.Prelude.{◌≡◌, ◌+◌, ℕ, OnOk, OnErr, IfOk, IfErr};
 ghost use Rattle.asn1_model.specs.Value.{Parts, fields};
-ghost use Rattle.asn1_schema_constraints.specs.declared.lists.Constraints.{Constraints};
+ghost use Rattle.asn1_schema_constraints.specs.Terms.{Meant};
 ghost use Rattle.asn1_schema_presented.specs.Tables.{Table, sequence_type};
 ghost use Rattle.asn1_schema_encode.specs.Writes.{Writes, CannotWrite, WritesTail, CannotWriteTail};
 ghost use Rattle.asn1_schema_decode.specs.Reads.{Reads, Unread, ReadsTail, UnreadTail};
@@ -46,21 +46,24 @@ pub trait Constructed: AsnType + Drop {
         ensures ok { OnOk result (WritesTail E.step table (root self.now) (added self.now) encoder.old encoder.new) }
         ensures only { IfErr result (CannotWriteTail E.step table (root self.now) (added self.now) encoder.old) }
         ensures failed { OnErr result (E.has_failed encoder.new) }
-        ensures already { E.has_failed encoder.old → result ≡ Err EncodeError.AlreadyFailed };
+        ensures already { E.has_failed encoder.old → result ≡ Err EncodeError.AlreadyFailed }
+        ensures after { result ≡ Err EncodeError.AlreadyFailed → E.has_failed encoder.old };
 
     /// Reads the components, and the end.
     fn read_fields<D: Decoder>(alloc: Global, decoder: &mut D) -> Result<Self, DecodeError>
-        ensures ok { IfOk result (λ x. ReadsTail D.step table (D.levels decoder.old) (root x) (added x) decoder.old decoder.new) }
+        ensures ok { IfOk result
+            (λ x. ReadsTail D.step table (D.levels decoder.old) (root x) (added x) decoder.old decoder.new) }
         ensures level { OnOk result (D.levels decoder.new ≡ D.levels decoder.old + 1) }
         ensures only { IfErr result (UnreadTail D.step table (D.levels decoder.old) decoder.old) }
         ensures failed { OnErr result (D.has_failed decoder.new) }
-        ensures already { D.has_failed decoder.old → result ≡ Err DecodeError.AlreadyFailed };
+        ensures already { D.has_failed decoder.old → result ≡ Err DecodeError.AlreadyFailed }
+        ensures after { result ≡ Err DecodeError.AlreadyFailed → D.has_failed decoder.old };
 
     /// A value means its components.
     ghost means: { (x : Self) → Self.meaning x ≡ fields (root x) (added x) };
 
     /// The type is that of the components, whatever constraints it has.
-    ghost is_of: { (c : Constraints) (n : ℕ) → Self.under c n ≡ constructed_type form table n };
+    ghost is_of: { (c : Meant) (n : ℕ) → Self.under c n ≡ constructed_type form table n };
 }
 
 /// How types with components are written.
@@ -73,10 +76,14 @@ pub trait EncodeConstructed: Encoder {
     ) -> Result<(), EncodeError>
     where
         Self: Sized,
-        ensures ok { OnOk result (Writes Self.step (sequence_type T.table) (fields (T.root value.now) (T.added value.now)) self.old self.new) }
-        ensures only { IfErr result (CannotWrite Self.step (sequence_type T.table) (fields (T.root value.now) (T.added value.now)) self.old) }
+        ensures ok { OnOk result
+            (Writes Self.step (sequence_type T.table) (fields (T.root value.now) (T.added value.now)) self.old
+            self.new) }
+        ensures only { IfErr result
+            (CannotWrite Self.step (sequence_type T.table) (fields (T.root value.now) (T.added value.now)) self.old) }
         ensures failed { OnErr result (Self.has_failed self.new) }
         ensures already { Self.has_failed self.old → result ≡ Err EncodeError.AlreadyFailed }
+        ensures after { result ≡ Err EncodeError.AlreadyFailed → Self.has_failed self.old }
     {
         let optional = T::fields().number_of_optional_and_default_fields();
         let extensible = T::is_extensible();
@@ -98,11 +105,14 @@ pub trait DecodeConstructed: Decoder {
     ) -> Result<T, DecodeError>
     where
         Self: Sized,
-        ensures ok { IfOk result (λ x. Reads Self.step (sequence_type T.table) (Self.levels self.old) (fields (T.root x) (T.added x)) self.old self.new) }
+        ensures ok { IfOk result
+            (λ x. Reads Self.step (sequence_type T.table) (Self.levels self.old) (fields (T.root x) (T.added x))
+            self.old self.new) }
         ensures level { OnOk result (Self.levels self.new ≡ Self.levels self.old) }
         ensures only { IfErr result (Unread Self.step (sequence_type T.table) (Self.levels self.old) self.old) }
         ensures failed { OnErr result (Self.has_failed self.new) }
         ensures already { Self.has_failed self.old → result ≡ Err DecodeError.AlreadyFailed }
+        ensures after { result ≡ Err DecodeError.AlreadyFailed → Self.has_failed self.old }
     {
         let optional = T::fields().number_of_optional_and_default_fields();
         let extensible = T::is_extensible();

@@ -35,6 +35,7 @@ pub trait EncodeItems: Encoder {
         ensures only { IfErr result (CannotWrite Self.step T.schema (T.meaning value.now) self.old) }
         ensures failed { OnErr result (Self.has_failed self.new) }
         ensures already { Self.has_failed self.old → result ≡ Err EncodeError.AlreadyFailed }
+        ensures after { result ≡ Err EncodeError.AlreadyFailed → Self.has_failed self.old }
     {
         self.encode_enumerated(tag, value, Identifier::ENUMERATED)?;
         Ok(())
@@ -49,11 +50,13 @@ pub trait DecodeItems: Decoder {
     final fn decode_item<T: EnumeratedType>(&mut self, tag: Tag) -> Result<T, DecodeError>
     where
         Self: Sized,
-        ensures ok { IfOk result (λ x. Reads Self.step T.schema (Self.levels self.old) (T.meaning x) self.old self.new) }
+        ensures ok { IfOk result
+            (λ x. Reads Self.step T.schema (Self.levels self.old) (T.meaning x) self.old self.new) }
         ensures level { OnOk result (Self.levels self.new ≡ Self.levels self.old) }
         ensures only { IfErr result (Unread Self.step T.schema (Self.levels self.old) self.old) }
         ensures failed { OnErr result (Self.has_failed self.new) }
         ensures already { Self.has_failed self.old → result ≡ Err DecodeError.AlreadyFailed }
+        ensures after { result ≡ Err DecodeError.AlreadyFailed → Self.has_failed self.old }
     {
         let value = self.decode_enumerated(tag)?;
         Ok(value)

@@ -13,40 +13,20 @@ pub trait NamedItems: Enumerated {
     fn identifier(&self) -> &'static str
         ensures { result.now ≡ name self.now };
 
-    /// No two items have one number.
-    ghost one_number: { (x y : Self) → Self.number x ≡ Self.number y → x ≡ y };
-
     /// No two items have one name.
     ghost one_name: { (x y : Self) → name x ≡ name y → x ≡ y };
 
-    /// The item of a name, if there is one.
+    /// The item of a name, if there is one. So an item's name gives that item back.
     final fn from_identifier(wanted: &str) -> Option<Self>
     where
         Self: Sized,
-        ensures { MatchOption result ((x : Self) → name x ≡ wanted.now → ⊥) (λ x. name x ≡ wanted.now) }
+        ensures found { MatchOption result ((x : Self) → name x ≡ wanted.now → ⊥) (λ x. name x ≡ wanted.now) }
+        ensures back { (x : Self) → name x ≡ wanted.now → result ≡ Some x }
     {
         if let Some(item) = named(Self::variants(), wanted) {
             return Some(item);
         }
         named(Self::extended_variants()?, wanted)
-    }
-
-    /// The item of an item's number is that item.
-    final fn of_discriminant(&self) -> Option<Self>
-    where
-        Self: Sized,
-        ensures { result ≡ Some self.now }
-    {
-        Self::from_discriminant(self.discriminant())
-    }
-
-    /// The item of an item's name is that item.
-    final fn of_identifier(&self) -> Option<Self>
-    where
-        Self: Sized,
-        ensures { result ≡ Some self.now }
-    {
-        Self::from_identifier(self.identifier())
     }
 }
 

@@ -12,7 +12,8 @@ use asn1_schema_tags::Tag;
 
 /// How sets are written.
 pub trait EncodeSet: Encoder {
-    /// SET (X.680 27) of these components, with or without a mark of extensibility, of whose root components so many may be absent.
+    /// SET (X.680 27) of these components, with or without a mark of extensibility, of whose root components so many may
+    /// be absent.
     final fn encode_set<C: EncodeComponents>(
         &mut self,
         tag: Tag,
@@ -24,10 +25,15 @@ pub trait EncodeSet: Encoder {
         Self: Sized,
         requires marks { optional ≡ marks C.table.root }
         requires mark { C.table.extensible ≡ extensible }
-        ensures ok { OnOk result (Writes Self.step (set_type C.table) (fields (C.root components.now) (C.added components.now)) self.old self.new) }
-        ensures only { IfErr result (CannotWrite Self.step (set_type C.table) (fields (C.root components.now) (C.added components.now)) self.old) }
+        ensures ok { OnOk result
+            (Writes Self.step (set_type C.table) (fields (C.root components.now) (C.added components.now)) self.old
+            self.new) }
+        ensures only { IfErr result
+            (CannotWrite Self.step (set_type C.table) (fields (C.root components.now) (C.added components.now))
+            self.old) }
         ensures failed { OnErr result (Self.has_failed self.new) }
         ensures already { Self.has_failed self.old → result ≡ Err EncodeError.AlreadyFailed }
+        ensures after { result ≡ Err EncodeError.AlreadyFailed → Self.has_failed self.old }
     {
         self.begin_set(tag, extensible, optional)?;
         components.encode_components(self)?;
@@ -42,10 +48,13 @@ pub trait EncodeSet: Encoder {
     ) -> Result<(), EncodeError>
     where
         Self: Sized,
-        ensures ok { OnOk result (Writes Self.step (set_type T.table) (fields (T.root value.now) (T.added value.now)) self.old self.new) }
-        ensures only { IfErr result (CannotWrite Self.step (set_type T.table) (fields (T.root value.now) (T.added value.now)) self.old) }
+        ensures ok { OnOk result
+            (Writes Self.step (set_type T.table) (fields (T.root value.now) (T.added value.now)) self.old self.new) }
+        ensures only { IfErr result
+            (CannotWrite Self.step (set_type T.table) (fields (T.root value.now) (T.added value.now)) self.old) }
         ensures failed { OnErr result (Self.has_failed self.new) }
         ensures already { Self.has_failed self.old → result ≡ Err EncodeError.AlreadyFailed }
+        ensures after { result ≡ Err EncodeError.AlreadyFailed → Self.has_failed self.old }
     {
         let optional = T::fields().number_of_optional_and_default_fields();
         let extensible = T::is_extensible();

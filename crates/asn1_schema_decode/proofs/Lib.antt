@@ -5,3 +5,4 @@ pub mod Ranges
 pub mod Marking
 pub mod Nesting
 pub mod Once
+pub mod Failing

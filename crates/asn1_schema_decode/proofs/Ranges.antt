@@ -1,41 +1,66 @@
 -- Numbers within a range, as they are read.
-use Rattle.std.proofs.Common.{◌≡◌, ◌∙◌, sym, subst, ℕ, ℤ, pos, negsuc, Bool, true, false, ◌&&◌, Option, Some, None}
-use Rattle.std.proofs.lemmas.Bool.{false≢true}
-use Rattle.asn1_model.specs.Numbers.{is_at_most, is_within}
+use Rattle.std.proofs.Common.{◌≡◌, sym, subst, ℕ, ℤ, pos, negsuc, Bool, true, false, cond, ◌||◌, Option, Some, None, refl}
+use Rattle.std.proofs.lemmas.Bool.{and_parts}
+use Rattle.asn1_model.specs.Numbers.{is_at_most, is_from, is_to, is_within}
+use Rattle.asn1_model.specs.Schema.{Range}
 use Rattle.asn1_model.specs.Value.{number}
-use Rattle.asn1_schema_constraints.specs.Bounds.{range_of, admits_number}
-use Rattle.asn1_schema_constraints.proofs.Common.{number_meet_admits}
-use Rattle.asn1_schema_constraints.specs.Terms.{bounds_of, held_of}
-use Rattle.asn1_schema_constraints.specs.declared.parts.Value.{Value}
-use Rattle.asn1_schema_constraints.specs.declared.extensions.Extensible.{Extensible}
+use Rattle.asn1_schema_constraints.specs.Bounds.{later, earlier}
+use Rattle.asn1_schema_constraints.proofs.Common.{number_order}
+use Rattle.asn1_schema_constraints.specs.Terms.{Meant, meant, held_where, from_to}
 use Rattle.asn1_schema_constraints.specs.declared.lists.Constraints.{Constraints}
 use Rattle.asn1_schema_faults.specs.declared.DecodeError.{DecodeError}
 use Rattle.asn1_schema_presented.specs.Records.{Record, whole, asks_whole}
-use Rattle.asn1_schema_types.specs.Constrained.{to_root, root_between, met_root, within_range, constrained_type}
+use Rattle.asn1_schema_types.specs.Constrained.{met_range, within_range, every_number, constrained_type}
+use Rattle.asn1_schema_types.specs.Told.{whole_under, asks_whole_under}
+use Rattle.asn1_schema_decode.specs.Answers.{is_admitted}
 use Rattle.asn1_schema_decode.specs.Reads.{NoRecord, Reads, Unread}
 use Rattle.asn1_schema_decode.proofs.SingleRecords.{reads_integer, unread_integer}
 
-module _ {S : Type 0} {step : S → Record → S → Type 0} (low high : ℤ) (c : Constraints) (n : ℕ) where
-  pub reads_ranged : is_at_most low high ≡ true → {y z : ℤ} {a b : S} → y ≡ z → step a (whole (bounds_of (within_range low high c).value) (held_of (within_range low high c).value (record { low = None; high = None })) z) b
+-- the numbers of an octet without a sign
+abbrev octet : Range
+octet = record { low = Some (pos 0); high = Some (pos 255) }
+
+module _ {S : Type 0} {step : S → Record → S → Type 0} (low high : ℤ) (c : Meant) (n : ℕ) (r : Constraints) where
+  -- in a type that holds all numbers of 128 bits
+  pub reads_ranged : (held : Range) → held_where true held ≡ held_where true every_number → is_at_most low high ≡ true
+      → meant r ≡ within_range low high c → {y z : ℤ} {a b : S} → y ≡ z → step a (whole_under r held z) b
       → Reads step (λ _. constrained_type low high c) n (number y) a b
-  reads_ranged e {y} {z} {a} {b} same k = rw e (reads_integer _ _ n (subst (λ (v : ℤ). step a (whole (bounds_of (within_range low high c).value) (held_of (within_range low high c).value (record { low = None; high = None })) v) b) (sym same) k))
+  reads_ranged held q e m {y} {z} {a} {b} same k =
+      let k' = subst (λ (v : ℤ). step a (whole_under r held v) b) (sym same) k in
+      let m' = subst (λ (w : Meant). step a (whole w.bounds (held_where w.is_bounded held) y) b) m k' in
+      rw e (reads_integer _ _ n (subst (λ (h : Range). step a (whole (within_range low high c).bounds h y) b) q m'))
 
-  pub unread_ranged : is_at_most low high ≡ true → {a : S} {x : DecodeError} → NoRecord step (asks_whole (bounds_of (within_range low high c).value) (held_of (within_range low high c).value (record { low = None; high = None }))) a x
+  pub unread_ranged : (held : Range) → held_where true held ≡ held_where true every_number → is_at_most low high ≡ true
+      → meant r ≡ within_range low high c → {a : S} {x : DecodeError} → NoRecord step (asks_whole_under r held) a x
       → Unread step (λ _. constrained_type low high c) n a x
-  unread_ranged e k = rw e (unread_integer _ _ n k)
+  unread_ranged held q e m {a} {x} k =
+      let m' = subst (λ (w : Meant). NoRecord step (asks_whole w.bounds (held_where w.is_bounded held)) a x) m k in
+      rw e (unread_integer _ _ n (subst (λ (h : Range). NoRecord step (asks_whole (within_range low high c).bounds h) a x) q m'))
 
-  pub unread_unranged : is_at_most low high ≡ false → {a : S} {x : DecodeError} → NoRecord step (asks_whole (bounds_of (to_root (root_between (negsuc 0) (negsuc 0))).value) (held_of (to_root (root_between (negsuc 0) (negsuc 0))).value (record { low = Some (pos 0); high = Some (pos 255) }))) a x
-      → Unread step (λ _. constrained_type low high c) n a x
-  unread_unranged e k = rw e (unread_integer _ _ n k)
+  pub unread_unranged : is_at_most low high ≡ false → meant r ≡ from_to (negsuc 0) (negsuc 0) → {a : S} {x : DecodeError}
+      → NoRecord step (asks_whole_under r octet) a x → Unread step (λ _. constrained_type low high c) n a x
+  unread_unranged e m {a} {x} k = rw e (unread_integer _ _ n (subst (λ (w : Meant). NoRecord step (asks_whole w.bounds (held_where w.is_bounded octet)) a x) m k))
 
--- the second of two truth values that are both true
-second : (p q : Bool) → (p && q) ≡ true → q ≡ true
-second true q e = e
-second false q e = absurd (false≢true e)
+-- what is from the later of two numbers on, is from the second on
+from_later : (o : Option ℤ) (low v : ℤ) → is_from (later is_at_most o (Some low)) v ≡ true → is_at_most low v ≡ true
+from_later None low v h = h
+from_later (Some a) low v h = go (is_at_most a low) refl h where
+  go : (b : Bool) → is_at_most a low ≡ b → is_at_most (cond b low a) v ≡ true → is_at_most low v ≡ true
+  go true e h = h
+  go false e h = number_order.chained low a v (number_order.total a low e) h
 
--- what the roots admit together the last one admits
-pub met_within : (o : Option (Extensible Value)) (low high v : ℤ) → is_within (range_of (met_root o (root_between low high)).value) v ≡ true → is_within (record { low = Some low; high = Some high }) v ≡ true
-met_within None low high v h = h
-met_within (Some k) low high v h =
-    let root = (root_between low high).value in
-    second (admits_number k.constraint.value v) (admits_number root v) (sym (number_meet_admits k.constraint.value root v) ∙ h)
+-- what is up to the earlier of two numbers, is up to the second
+to_earlier : (o : Option ℤ) (high v : ℤ) → is_to (earlier is_at_most o (Some high)) v ≡ true → is_at_most v high ≡ true
+to_earlier None high v h = h
+to_earlier (Some a) high v h = go (is_at_most a high) refl h where
+  go : (b : Bool) → is_at_most a high ≡ b → is_at_most v (cond b a high) ≡ true → is_at_most v high ≡ true
+  go true e h = number_order.chained v a high h e
+  go false e h = h
+
+-- what a range and another admit together the last one admits
+pub met_within : (low high : ℤ) (c : Meant) (r : Constraints) → meant r ≡ within_range low high c → (v : ℤ) → is_admitted r v ≡ true
+    → is_within (record { low = Some low; high = Some high }) v ≡ true
+met_within low high c r m v h =
+    let h' : is_within (met_range c.bounds.range low high) v ≡ true = subst (λ (w : Meant). (w.bounds.extensible || is_within w.bounds.range v) ≡ true) m h in
+    let p = and_parts _ _ h' in
+    rw (from_later c.bounds.range.low low v p.0, to_earlier c.bounds.range.high high v p.1) refl

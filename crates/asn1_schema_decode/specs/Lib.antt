@@ -1,3 +1,4 @@
 pub mod Reads
 pub mod Steps
 pub mod Messages
+pub mod Answers

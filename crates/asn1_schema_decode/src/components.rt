@@ -2,9 +2,11 @@
 ghost use Rattle.std.specs.Prelude.{◌≡◌, ◌+◌, false, OnOk, OnErr, IfErr, IfOk};
 ghost use Rattle.asn1_model.specs.Value.{fields, same};
 ghost use Rattle.asn1_model.specs.Schema.{optional, by_default};
+ghost use Rattle.asn1_schema_constraints.specs.Terms.{meant};
 ghost use Rattle.asn1_schema_presented.specs.Tables.{marks, sequence_type};
 ghost use Rattle.asn1_schema_presented.specs.Parts.{part_of, part_unless};
-ghost use Rattle.asn1_schema_decode.specs.Reads.{Reads, Unread, ReadsPart, UnreadPart, ReadsOptional, UnreadOptional, ReadsDefault, UnreadDefault, ReadsTail, UnreadTail};
+ghost use Rattle.asn1_schema_decode.specs.Reads.{Reads, Unread, ReadsPart, UnreadPart, ReadsOptional, UnreadOptional};
+ghost use Rattle.asn1_schema_decode.specs.Reads.{ReadsDefault, UnreadDefault, ReadsTail, UnreadTail};
 
 use crate::decode::{Decode, Decoder};
 use asn1_schema_constraints::Constraints;
@@ -20,11 +22,14 @@ use std::marker::PhantomData;
 pub trait DecodeComponents: ComponentsOf + Drop {
     /// Reads the components, and the end of the sequence.
     fn decode_components<D: Decoder>(alloc: Global, decoder: &mut D) -> Result<Self, DecodeError>
-        ensures ok { IfOk result (λ x. ReadsTail D.step Self.table (D.levels decoder.old) (Self.root x) (Self.added x) decoder.old decoder.new) }
+        ensures ok { IfOk result
+            (λ x. ReadsTail D.step Self.table (D.levels decoder.old) (Self.root x) (Self.added x)
+            decoder.old decoder.new) }
         ensures level { OnOk result (D.levels decoder.new ≡ D.levels decoder.old + 1) }
         ensures only { IfErr result (UnreadTail D.step Self.table (D.levels decoder.old) decoder.old) }
         ensures failed { OnErr result (D.has_failed decoder.new) }
-        ensures already { D.has_failed decoder.old → result ≡ Err DecodeError.AlreadyFailed };
+        ensures already { D.has_failed decoder.old → result ≡ Err DecodeError.AlreadyFailed }
+        ensures after { result ≡ Err DecodeError.AlreadyFailed → D.has_failed decoder.old };
 }
 
 impl DecodeComponents for End {
@@ -65,11 +70,14 @@ pub trait DecodeSequence: Decoder {
     final fn decode_optional<T: Decode>(&mut self, alloc: Global) -> Result<Option<T>, DecodeError>
     where
         Self: Sized,
-        ensures ok { IfOk result (λ x. ReadsPart Self.step optional T.schema (Self.levels self.old) (part_of T.meaning x) self.old self.new) }
+        ensures ok { IfOk result
+            (λ x. ReadsPart Self.step optional T.schema (Self.levels self.old) (part_of T.meaning x)
+            self.old self.new) }
         ensures level { OnOk result (Self.levels self.new ≡ Self.levels self.old) }
         ensures only { IfErr result (UnreadPart Self.step optional T.schema (Self.levels self.old) self.old) }
         ensures failed { OnErr result (Self.has_failed self.new) }
         ensures already { Self.has_failed self.old → result ≡ Err DecodeError.AlreadyFailed }
+        ensures after { result ≡ Err DecodeError.AlreadyFailed → Self.has_failed self.old }
     {
         self.decode_optional_with_tag(alloc, T::TAG)
     }
@@ -82,11 +90,14 @@ pub trait DecodeSequence: Decoder {
     ) -> Result<Option<T>, DecodeError>
     where
         Self: Sized,
-        ensures ok { IfOk result (λ x. ReadsPart Self.step optional T.schema (Self.levels self.old) (part_of T.meaning x) self.old self.new) }
+        ensures ok { IfOk result
+            (λ x. ReadsPart Self.step optional T.schema (Self.levels self.old) (part_of T.meaning x)
+            self.old self.new) }
         ensures level { OnOk result (Self.levels self.new ≡ Self.levels self.old) }
         ensures only { IfErr result (UnreadPart Self.step optional T.schema (Self.levels self.old) self.old) }
         ensures failed { OnErr result (Self.has_failed self.new) }
         ensures already { Self.has_failed self.old → result ≡ Err DecodeError.AlreadyFailed }
+        ensures after { result ≡ Err DecodeError.AlreadyFailed → Self.has_failed self.old }
     {
         let value = self.decode_optional_with_tag_and_constraints(alloc, tag, T::constraints())?;
         Ok(value)
@@ -100,11 +111,15 @@ pub trait DecodeSequence: Decoder {
     ) -> Result<Option<T>, DecodeError>
     where
         Self: Sized,
-        ensures ok { IfOk result (λ x. ReadsOptional Self.step (T.under constraints.entry) (Self.levels self.old) (part_of T.meaning x) self.old self.new) }
+        ensures ok { IfOk result
+            (λ x. ReadsOptional Self.step (T.under (meant constraints.entry)) (Self.levels self.old)
+            (part_of T.meaning x) self.old self.new) }
         ensures level { OnOk result (Self.levels self.new ≡ Self.levels self.old) }
-        ensures only { IfErr result (UnreadOptional Self.step (T.under constraints.entry) (Self.levels self.old) self.old) }
+        ensures only { IfErr result
+            (UnreadOptional Self.step (T.under (meant constraints.entry)) (Self.levels self.old) self.old) }
         ensures failed { OnErr result (Self.has_failed self.new) }
         ensures already { Self.has_failed self.old → result ≡ Err DecodeError.AlreadyFailed }
+        ensures after { result ≡ Err DecodeError.AlreadyFailed → Self.has_failed self.old }
     {
         self.decode_optional_with_tag_and_constraints(alloc, T::TAG, constraints)
     }
@@ -118,11 +133,15 @@ pub trait DecodeSequence: Decoder {
     ) -> Result<Option<T>, DecodeError>
     where
         Self: Sized,
-        ensures ok { IfOk result (λ x. ReadsOptional Self.step (T.under constraints.entry) (Self.levels self.old) (part_of T.meaning x) self.old self.new) }
+        ensures ok { IfOk result
+            (λ x. ReadsOptional Self.step (T.under (meant constraints.entry)) (Self.levels self.old)
+            (part_of T.meaning x) self.old self.new) }
         ensures level { OnOk result (Self.levels self.new ≡ Self.levels self.old) }
-        ensures only { IfErr result (UnreadOptional Self.step (T.under constraints.entry) (Self.levels self.old) self.old) }
+        ensures only { IfErr result
+            (UnreadOptional Self.step (T.under (meant constraints.entry)) (Self.levels self.old) self.old) }
         ensures failed { OnErr result (Self.has_failed self.new) }
         ensures already { Self.has_failed self.old → result ≡ Err DecodeError.AlreadyFailed }
+        ensures after { result ≡ Err DecodeError.AlreadyFailed → Self.has_failed self.old }
     {
         let present = self.get_mark()?;
         if !present {
@@ -141,11 +160,14 @@ pub trait DecodeSequence: Decoder {
     ) -> Result<Option<T>, DecodeError>
     where
         Self: Sized,
-        ensures ok { IfOk result (λ x. ReadsPart Self.step optional T.schema (Self.levels self.old) (part_of T.meaning x) self.old self.new) }
+        ensures ok { IfOk result
+            (λ x. ReadsPart Self.step optional T.schema (Self.levels self.old) (part_of T.meaning x)
+            self.old self.new) }
         ensures level { OnOk result (Self.levels self.new ≡ Self.levels self.old) }
         ensures only { IfErr result (UnreadPart Self.step optional T.schema (Self.levels self.old) self.old) }
         ensures failed { OnErr result (Self.has_failed self.new) }
         ensures already { Self.has_failed self.old → result ≡ Err DecodeError.AlreadyFailed }
+        ensures after { result ≡ Err DecodeError.AlreadyFailed → Self.has_failed self.old }
     {
         self.decode_optional(alloc)
     }
@@ -159,11 +181,15 @@ pub trait DecodeSequence: Decoder {
     ) -> Result<T, DecodeError>
     where
         Self: Sized,
-        ensures ok { IfOk result (λ x. ReadsPart Self.step (by_default V.value) T.schema (Self.levels self.old) (part_unless (same (T.meaning x) V.value) (T.meaning x)) self.old self.new) }
+        ensures ok { IfOk result
+            (λ x. ReadsPart Self.step (by_default V.value) T.schema (Self.levels self.old)
+            (part_unless (same (T.meaning x) V.value) (T.meaning x)) self.old self.new) }
         ensures level { OnOk result (Self.levels self.new ≡ Self.levels self.old) }
-        ensures only { IfErr result (UnreadPart Self.step (by_default V.value) T.schema (Self.levels self.old) self.old) }
+        ensures only { IfErr result
+            (UnreadPart Self.step (by_default V.value) T.schema (Self.levels self.old) self.old) }
         ensures failed { OnErr result (Self.has_failed self.new) }
         ensures already { Self.has_failed self.old → result ≡ Err DecodeError.AlreadyFailed }
+        ensures after { result ≡ Err DecodeError.AlreadyFailed → Self.has_failed self.old }
     {
         self.decode_default_with_tag::<V, T>(alloc, T::TAG)
     }
@@ -176,11 +202,15 @@ pub trait DecodeSequence: Decoder {
     ) -> Result<T, DecodeError>
     where
         Self: Sized,
-        ensures ok { IfOk result (λ x. ReadsPart Self.step (by_default V.value) T.schema (Self.levels self.old) (part_unless (same (T.meaning x) V.value) (T.meaning x)) self.old self.new) }
+        ensures ok { IfOk result
+            (λ x. ReadsPart Self.step (by_default V.value) T.schema (Self.levels self.old)
+            (part_unless (same (T.meaning x) V.value) (T.meaning x)) self.old self.new) }
         ensures level { OnOk result (Self.levels self.new ≡ Self.levels self.old) }
-        ensures only { IfErr result (UnreadPart Self.step (by_default V.value) T.schema (Self.levels self.old) self.old) }
+        ensures only { IfErr result
+            (UnreadPart Self.step (by_default V.value) T.schema (Self.levels self.old) self.old) }
         ensures failed { OnErr result (Self.has_failed self.new) }
         ensures already { Self.has_failed self.old → result ≡ Err DecodeError.AlreadyFailed }
+        ensures after { result ≡ Err DecodeError.AlreadyFailed → Self.has_failed self.old }
     {
         let value = self.decode_default_with_tag_and_constraints::<V, T>(
             alloc,
@@ -198,11 +228,15 @@ pub trait DecodeSequence: Decoder {
     ) -> Result<T, DecodeError>
     where
         Self: Sized,
-        ensures ok { IfOk result (λ x. ReadsDefault Self.step (T.under constraints.entry) (Self.levels self.old) V.value (T.meaning x) self.old self.new) }
+        ensures ok { IfOk result
+            (λ x. ReadsDefault Self.step (T.under (meant constraints.entry)) (Self.levels self.old) V.value
+            (T.meaning x) self.old self.new) }
         ensures level { OnOk result (Self.levels self.new ≡ Self.levels self.old) }
-        ensures only { IfErr result (UnreadDefault Self.step (T.under constraints.entry) (Self.levels self.old) V.value self.old) }
+        ensures only { IfErr result
+            (UnreadDefault Self.step (T.under (meant constraints.entry)) (Self.levels self.old) V.value self.old) }
         ensures failed { OnErr result (Self.has_failed self.new) }
         ensures already { Self.has_failed self.old → result ≡ Err DecodeError.AlreadyFailed }
+        ensures after { result ≡ Err DecodeError.AlreadyFailed → Self.has_failed self.old }
     {
         self.decode_default_with_tag_and_constraints::<V, T>(alloc, T::TAG, constraints)
     }
@@ -216,11 +250,15 @@ pub trait DecodeSequence: Decoder {
     ) -> Result<T, DecodeError>
     where
         Self: Sized,
-        ensures ok { IfOk result (λ x. ReadsDefault Self.step (T.under constraints.entry) (Self.levels self.old) V.value (T.meaning x) self.old self.new) }
+        ensures ok { IfOk result
+            (λ x. ReadsDefault Self.step (T.under (meant constraints.entry)) (Self.levels self.old) V.value
+            (T.meaning x) self.old self.new) }
         ensures level { OnOk result (Self.levels self.new ≡ Self.levels self.old) }
-        ensures only { IfErr result (UnreadDefault Self.step (T.under constraints.entry) (Self.levels self.old) V.value self.old) }
+        ensures only { IfErr result
+            (UnreadDefault Self.step (T.under (meant constraints.entry)) (Self.levels self.old) V.value self.old) }
         ensures failed { OnErr result (Self.has_failed self.new) }
         ensures already { Self.has_failed self.old → result ≡ Err DecodeError.AlreadyFailed }
+        ensures after { result ≡ Err DecodeError.AlreadyFailed → Self.has_failed self.old }
     {
         let is_there = self.get_mark()?;
         if !is_there {
@@ -248,11 +286,14 @@ pub trait DecodeSequence: Decoder {
         Self: Sized,
         requires marks { optional ≡ marks C.table.root }
         requires plain { C.table.extensible ≡ false }
-        ensures ok { IfOk result (λ x. Reads Self.step (sequence_type C.table) (Self.levels self.old) (fields (C.root x) (C.added x)) self.old self.new) }
+        ensures ok { IfOk result
+            (λ x. Reads Self.step (sequence_type C.table) (Self.levels self.old) (fields (C.root x) (C.added x))
+            self.old self.new) }
         ensures level { OnOk result (Self.levels self.new ≡ Self.levels self.old) }
         ensures only { IfErr result (Unread Self.step (sequence_type C.table) (Self.levels self.old) self.old) }
         ensures failed { OnErr result (Self.has_failed self.new) }
         ensures already { Self.has_failed self.old → result ≡ Err DecodeError.AlreadyFailed }
+        ensures after { result ≡ Err DecodeError.AlreadyFailed → Self.has_failed self.old }
     {
         self.begin_sequence(tag, false, optional)?;
         let components = C::decode_components(alloc, self)?;

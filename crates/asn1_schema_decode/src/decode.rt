@@ -1,18 +1,27 @@
 //! What reads the values of types.
-ghost use Rattle.std.specs.Prelude.{◌≡◌, ◌+◌, ◌<◌, ◌||◌, true, ℕ, List, length, IfOk, OnOk, OnErr, IfErr, cond, map, string_bytes};
-ghost use Rattle.std.specs.Cow.{cow_slice_items};
+ghost use Rattle.std.specs.Prelude.{◌≡◌, ◌+◌, ◌<◌, true, ⊤, ℕ, List, length};
+ghost use Rattle.std.specs.Prelude.{IfOk, OnOk, OnErr, IfErr, cond, map, string_bytes};
+ghost use Rattle.std.specs.Cow.{IsBorrowedSlice, cow_slice_items};
 ghost use Rattle.asn1_model.specs.Schema.{Size, Counts, utf8};
-ghost use Rattle.asn1_model.specs.Types.{any_count};
+ghost use Rattle.asn1_model.specs.Numbers.{is_count_within};
 ghost use Rattle.asn1_schema_faults.specs.declared.CodecKind.{CodecKind};
-ghost use Rattle.asn1_schema_presented.specs.Records.{Record, question, told, flag, nil, whole, one_of, bits, octets, characters, identifier, list_begins, bag_begins, further, sequence_begins, set_begins};
-ghost use Rattle.asn1_schema_presented.specs.Records.{group_begins, mark, is_default, is_empty, additions_begin, addition, addition_ends, choice_begins, ends};
-ghost use Rattle.asn1_schema_presented.specs.Records.{asks_flag, asks_nil, asks_whole, asks_one_of, asks_bits, asks_octets, asks_characters, asks_identifier, asks_list, asks_bag, asks_further, asks_sequence};
-ghost use Rattle.asn1_schema_presented.specs.Records.{asks_set, asks_group, asks_mark, asks_default, asks_empty, asks_additions, asks_addition, asks_addition_end, asks_choice, asks_end};
-ghost use Rattle.asn1_model.specs.Numbers.{is_within, is_count_within};
-ghost use Rattle.asn1_schema_constraints.specs.Bounds.{counts_of, members_of};
-ghost use Rattle.asn1_schema_constraints.specs.Terms.{bounds_of, held_of, sizes_of, alphabet_of};
+ghost use Rattle.asn1_schema_presented.specs.Records.{Record, question, told, flag, nil, one_of, identifier};
+ghost use Rattle.asn1_schema_presented.specs.Records.{list_begins, bag_begins, further, sequence_begins, set_begins};
+ghost use Rattle.asn1_schema_presented.specs.Records.{group_begins, mark, is_default, is_empty, additions_begin};
+ghost use Rattle.asn1_schema_presented.specs.Records.{addition, addition_ends, choice_begins, ends};
+ghost use Rattle.asn1_schema_presented.specs.Records.{asks_flag, asks_nil, asks_one_of, asks_identifier, asks_further};
+ghost use Rattle.asn1_schema_presented.specs.Records.{asks_sequence, asks_set, asks_group, asks_mark, asks_default};
+ghost use Rattle.asn1_schema_presented.specs.Records.{asks_empty, asks_additions, asks_addition, asks_addition_end};
+ghost use Rattle.asn1_schema_presented.specs.Records.{asks_choice, asks_end};
+ghost use Rattle.asn1_schema_constraints.specs.Bounds.{counts_of};
+ghost use Rattle.asn1_schema_constraints.specs.Terms.{meant};
+ghost use Rattle.asn1_schema_types.specs.Told.{whole_under, bits_under, octets_under, characters_under};
+ghost use Rattle.asn1_schema_types.specs.Told.{asks_whole_under, asks_bits_under, asks_octets_under};
+ghost use Rattle.asn1_schema_types.specs.Told.{asks_characters_under, list_begins_under, bag_begins_under};
+ghost use Rattle.asn1_schema_types.specs.Told.{asks_list_under, asks_bag_under};
 ghost use Rattle.asn1_schema_tags.specs.Tags.{tag_of};
 ghost use Rattle.asn1_schema_decode.specs.Reads.{NoRecord, NoLevel, Reads, Unread};
+ghost use Rattle.asn1_schema_decode.specs.Answers.{Begins, is_admitted};
 
 use asn1_schema_constraints::{Bounded, Constraints};
 use asn1_schema_faults::{CodecKind, DecodeError};
@@ -28,7 +37,11 @@ use std::borrow::CowSlice;
 
 /// Octets that were read: lent by the input, or held.
 pub trait ReadOctets: Drop {
+    /// The octets.
     ghost items: { Self → List ℕ };
+
+    /// The octets are lent.
+    ghost is_lent: { Self → Type 0 };
 
     /// The octets.
     fn octets(&self) -> &[u8]
@@ -42,6 +55,8 @@ pub trait ReadOctets: Drop {
 impl ReadOctets for Vec<u8> {
     ghost items = { λ v. v.items };
 
+    ghost is_lent = { λ _. ⊥ };
+
     fn octets(&self) -> &[u8] {
         self.as_slice()
     }
@@ -53,6 +68,8 @@ impl ReadOctets for Vec<u8> {
 
 impl<'input> ReadOctets for &'input [u8] {
     ghost items = { λ octets. octets.now };
+
+    ghost is_lent = { λ _. ⊤ };
 
     fn octets(&self) -> &[u8] {
         *self
@@ -66,6 +83,8 @@ impl<'input> ReadOctets for &'input [u8] {
 impl<'a> ReadOctets for CowSlice<'a, u8> {
     ghost items = { cow_slice_items };
 
+    ghost is_lent = { IsBorrowedSlice };
+
     fn octets(&self) -> &[u8] {
         self.as_slice()
     }
@@ -77,7 +96,7 @@ impl<'a> ReadOctets for CowSlice<'a, u8> {
 
 /// What finds the records of a value, one a call. A call answers `Ok` exactly where a record that it asks for
 /// is next, within the levels that are left, unless memory is wanting; after an error each call answers
-/// `AlreadyFailed`. Tags play no part.
+/// `AlreadyFailed`, and none answers that before. Tags play no part.
 pub trait Decoder {
     /// How it answers octets: lent, where they can be.
     type Octets: ReadOctets;
@@ -91,6 +110,9 @@ pub trait Decoder {
     /// How many more levels may be nested.
     ghost levels: { Self → ℕ };
 
+    /// The octets of this record stand in the input as they are, so that it lends them.
+    ghost lends: { Self → Record → Self → Type 0 };
+
     /// The rules that are followed.
     ghost rules: { Self → CodecKind };
 
@@ -102,21 +124,25 @@ pub trait Decoder {
     fn levels_left(&self) -> usize
         ensures { result ≡ levels self.now };
 
-    /// BOOLEAN (X.680 18).
+    /// BOOLEAN (X.680 18). No memory is taken.
     fn decode_bool(&mut self, tag: Tag) -> Result<bool, DecodeError>
         ensures ok { IfOk result (λ x. step self.old (flag x) self.new) }
         ensures level { OnOk result (levels self.new ≡ levels self.old) }
         ensures only { IfErr result (NoRecord step asks_flag self.old) }
+        ensures no_memory { IfErr result (λ e. e ≡ DecodeError.OutOfMemory → ⊥) }
         ensures failed { OnErr result (has_failed self.new) }
-        ensures already { has_failed self.old → result ≡ Err DecodeError.AlreadyFailed };
+        ensures already { has_failed self.old → result ≡ Err DecodeError.AlreadyFailed }
+        ensures after { result ≡ Err DecodeError.AlreadyFailed → has_failed self.old };
 
-    /// NULL (X.680 24).
+    /// NULL (X.680 24). No memory is taken.
     fn decode_null(&mut self, tag: Tag) -> Result<(), DecodeError>
         ensures ok { OnOk result (step self.old nil self.new) }
         ensures level { OnOk result (levels self.new ≡ levels self.old) }
         ensures only { IfErr result (NoRecord step asks_nil self.old) }
+        ensures no_memory { IfErr result (λ e. e ≡ DecodeError.OutOfMemory → ⊥) }
         ensures failed { OnErr result (has_failed self.new) }
-        ensures already { has_failed self.old → result ≡ Err DecodeError.AlreadyFailed };
+        ensures already { has_failed self.old → result ≡ Err DecodeError.AlreadyFailed }
+        ensures after { result ≡ Err DecodeError.AlreadyFailed → has_failed self.old };
 
     /// INTEGER (X.680 19) under a value constraint: a number within it, if that has no mark of extensibility.
     fn decode_integer<I: IntegerType>(
@@ -125,12 +151,13 @@ pub trait Decoder {
         tag: Tag,
         constraints: Constraints,
     ) -> Result<I, DecodeError>
-        ensures ok { IfOk result (λ x. step self.old (whole (bounds_of constraints.entry.value) (held_of constraints.entry.value I.held) (I.value x)) self.new) }
-        ensures within { IfOk result (λ x. ((bounds_of constraints.entry.value).extensible || is_within ((bounds_of constraints.entry.value).range) (I.value x)) ≡ true) }
+        ensures ok { IfOk result (λ x. step self.old (whole_under constraints.entry I.held (I.value x)) self.new) }
+        ensures within { IfOk result (λ x. is_admitted constraints.entry (I.value x) ≡ true) }
         ensures level { OnOk result (levels self.new ≡ levels self.old) }
-        ensures only { IfErr result (NoRecord step (asks_whole (bounds_of constraints.entry.value) (held_of constraints.entry.value I.held)) self.old) }
+        ensures only { IfErr result (NoRecord step (asks_whole_under constraints.entry I.held) self.old) }
         ensures failed { OnErr result (has_failed self.new) }
-        ensures already { has_failed self.old → result ≡ Err DecodeError.AlreadyFailed };
+        ensures already { has_failed self.old → result ≡ Err DecodeError.AlreadyFailed }
+        ensures after { result ≡ Err DecodeError.AlreadyFailed → has_failed self.old };
 
     /// ENUMERATED (X.680 20): an item of the type.
     fn decode_enumerated<T: Enumerated>(&mut self, tag: Tag) -> Result<T, DecodeError>
@@ -138,7 +165,8 @@ pub trait Decoder {
         ensures level { OnOk result (levels self.new ≡ levels self.old) }
         ensures only { IfErr result (NoRecord step (asks_one_of T.roots T.extensible T.additions) self.old) }
         ensures failed { OnErr result (has_failed self.new) }
-        ensures already { has_failed self.old → result ≡ Err DecodeError.AlreadyFailed };
+        ensures already { has_failed self.old → result ≡ Err DecodeError.AlreadyFailed }
+        ensures after { result ≡ Err DecodeError.AlreadyFailed → has_failed self.old };
 
     /// BIT STRING (X.680 22) under a size constraint, in a type of the program that holds so many bits.
     fn decode_bit_string(
@@ -148,15 +176,16 @@ pub trait Decoder {
         constraints: Constraints,
         held: Bounded<usize>,
     ) -> Result<BitString, DecodeError>
-        ensures ok { IfOk result (λ x. step self.old (bits (sizes_of constraints.entry.size) (counts_of held) x) self.new) }
+        ensures ok { IfOk result (λ x. step self.old (bits_under constraints.entry held x) self.new) }
         ensures held { IfOk result (λ x. is_count_within (counts_of held) (length x) ≡ true) }
         ensures level { OnOk result (levels self.new ≡ levels self.old) }
-        ensures only { IfErr result (NoRecord step (asks_bits (sizes_of constraints.entry.size) (counts_of held)) self.old) }
+        ensures only { IfErr result (NoRecord step (asks_bits_under constraints.entry held) self.old) }
         ensures failed { OnErr result (has_failed self.new) }
-        ensures already { has_failed self.old → result ≡ Err DecodeError.AlreadyFailed };
+        ensures already { has_failed self.old → result ≡ Err DecodeError.AlreadyFailed }
+        ensures after { result ≡ Err DecodeError.AlreadyFailed → has_failed self.old };
 
-    /// OCTET STRING (X.680 23) under a size constraint, in a type of the program that holds so many octets. The octets are
-    /// lent where they stand in the input as they are.
+    /// OCTET STRING (X.680 23) under a size constraint, in a type of the program that holds so many octets. The
+    /// octets are lent where they stand in the input as they are.
     fn decode_octet_string(
         &mut self,
         alloc: Global,
@@ -164,12 +193,17 @@ pub trait Decoder {
         constraints: Constraints,
         held: Bounded<usize>,
     ) -> Result<Self::Octets, DecodeError>
-        ensures ok { IfOk result (λ x. step self.old (octets (sizes_of constraints.entry.size) (counts_of held) (Self.Octets.items x)) self.new) }
+        ensures ok { IfOk result
+            (λ x. step self.old (octets_under constraints.entry held (Self.Octets.items x)) self.new) }
         ensures held { IfOk result (λ x. is_count_within (counts_of held) (length (Self.Octets.items x)) ≡ true) }
+        ensures lent { IfOk result
+            (λ x. lends self.old (octets_under constraints.entry held (Self.Octets.items x)) self.new
+            → Self.Octets.is_lent x) }
         ensures level { OnOk result (levels self.new ≡ levels self.old) }
-        ensures only { IfErr result (NoRecord step (asks_octets (sizes_of constraints.entry.size) (counts_of held)) self.old) }
+        ensures only { IfErr result (NoRecord step (asks_octets_under constraints.entry held) self.old) }
         ensures failed { OnErr result (has_failed self.new) }
-        ensures already { has_failed self.old → result ≡ Err DecodeError.AlreadyFailed };
+        ensures already { has_failed self.old → result ≡ Err DecodeError.AlreadyFailed }
+        ensures after { result ≡ Err DecodeError.AlreadyFailed → has_failed self.old };
 
     /// UTF8String (X.680 41) under a size constraint.
     fn decode_utf8_string(
@@ -178,25 +212,29 @@ pub trait Decoder {
         tag: Tag,
         constraints: Constraints,
     ) -> Result<String, DecodeError>
-        ensures ok { IfOk result (λ x. step self.old (characters utf8 (sizes_of constraints.entry.size) (alphabet_of constraints.entry.permitted_alphabet) any_count (string_bytes x)) self.new) }
+        ensures ok { IfOk result
+            (λ x. step self.old (characters_under utf8 constraints.entry (string_bytes x)) self.new) }
         ensures level { OnOk result (levels self.new ≡ levels self.old) }
-        ensures only { IfErr result (NoRecord step (asks_characters utf8 (sizes_of constraints.entry.size) (alphabet_of constraints.entry.permitted_alphabet) any_count) self.old) }
+        ensures only { IfErr result (NoRecord step (asks_characters_under utf8 constraints.entry) self.old) }
         ensures failed { OnErr result (has_failed self.new) }
-        ensures already { has_failed self.old → result ≡ Err DecodeError.AlreadyFailed };
+        ensures already { has_failed self.old → result ≡ Err DecodeError.AlreadyFailed }
+        ensures after { result ≡ Err DecodeError.AlreadyFailed → has_failed self.old };
 
-    /// A restricted character string (X.680 41) of one of the kinds with an alphabet of their own, under a size and an alphabet
-    /// constraint.
+    /// A restricted character string (X.680 41) of one of the kinds with an alphabet of their own, under a size and an
+    /// alphabet constraint.
     fn decode_characters<S: StaticPermittedAlphabet>(
         &mut self,
         alloc: Global,
         tag: Tag,
         constraints: Constraints,
     ) -> Result<S, DecodeError>
-        ensures ok { IfOk result (λ x. step self.old (characters S.kind (sizes_of constraints.entry.size) (alphabet_of constraints.entry.permitted_alphabet) any_count (S.characters x)) self.new) }
+        ensures ok { IfOk result
+            (λ x. step self.old (characters_under S.kind constraints.entry (S.characters x)) self.new) }
         ensures level { OnOk result (levels self.new ≡ levels self.old) }
-        ensures only { IfErr result (NoRecord step (asks_characters S.kind (sizes_of constraints.entry.size) (alphabet_of constraints.entry.permitted_alphabet) any_count) self.old) }
+        ensures only { IfErr result (NoRecord step (asks_characters_under S.kind constraints.entry) self.old) }
         ensures failed { OnErr result (has_failed self.new) }
-        ensures already { has_failed self.old → result ≡ Err DecodeError.AlreadyFailed };
+        ensures already { has_failed self.old → result ≡ Err DecodeError.AlreadyFailed }
+        ensures after { result ≡ Err DecodeError.AlreadyFailed → has_failed self.old };
 
     /// OBJECT IDENTIFIER (X.680 32).
     fn decode_object_identifier(
@@ -208,7 +246,8 @@ pub trait Decoder {
         ensures level { OnOk result (levels self.new ≡ levels self.old) }
         ensures only { IfErr result (NoRecord step (asks_identifier) self.old) }
         ensures failed { OnErr result (has_failed self.new) }
-        ensures already { has_failed self.old → result ≡ Err DecodeError.AlreadyFailed };
+        ensures already { has_failed self.old → result ≡ Err DecodeError.AlreadyFailed }
+        ensures after { result ≡ Err DecodeError.AlreadyFailed → has_failed self.old };
 
     /// A SEQUENCE OF begins (X.680 26) under a size constraint, in a type of the program that holds so many
     /// members. How many members there are may be known at its end alone.
@@ -218,11 +257,13 @@ pub trait Decoder {
         constraints: Constraints,
         held: Bounded<usize>,
     ) -> Result<(), DecodeError>
-        ensures ok { OnOk result ((n : ℕ) → is_count_within (members_of held) n ≡ true → step self.old (list_begins (sizes_of constraints.entry.size) (members_of held) n) self.new) }
+        ensures ok { OnOk result (Begins step held (list_begins_under constraints.entry held) self.old self.new) }
+        ensures begun { OnOk result (has_failed self.new → ⊥) }
         ensures level { OnOk result (levels self.old ≡ levels self.new + 1) }
-        ensures only { IfErr result (NoLevel step (asks_list (sizes_of constraints.entry.size) (members_of held)) (levels self.old) self.old) }
+        ensures only { IfErr result (NoLevel step (asks_list_under constraints.entry held) (levels self.old) self.old) }
         ensures failed { OnErr result (has_failed self.new) }
-        ensures already { has_failed self.old → result ≡ Err DecodeError.AlreadyFailed };
+        ensures already { has_failed self.old → result ≡ Err DecodeError.AlreadyFailed }
+        ensures after { result ≡ Err DecodeError.AlreadyFailed → has_failed self.old };
 
     /// A SET OF begins (X.680 28) under a size constraint, in a type of the program that holds so many members. Its
     /// members come in any order. How many there are may be known at its end alone.
@@ -232,11 +273,13 @@ pub trait Decoder {
         constraints: Constraints,
         held: Bounded<usize>,
     ) -> Result<(), DecodeError>
-        ensures ok { OnOk result ((n : ℕ) → is_count_within (members_of held) n ≡ true → step self.old (bag_begins (sizes_of constraints.entry.size) (members_of held) n) self.new) }
+        ensures ok { OnOk result (Begins step held (bag_begins_under constraints.entry held) self.old self.new) }
+        ensures begun { OnOk result (has_failed self.new → ⊥) }
         ensures level { OnOk result (levels self.old ≡ levels self.new + 1) }
-        ensures only { IfErr result (NoLevel step (asks_bag (sizes_of constraints.entry.size) (members_of held)) (levels self.old) self.old) }
+        ensures only { IfErr result (NoLevel step (asks_bag_under constraints.entry held) (levels self.old) self.old) }
         ensures failed { OnErr result (has_failed self.new) }
-        ensures already { has_failed self.old → result ≡ Err DecodeError.AlreadyFailed };
+        ensures already { has_failed self.old → result ≡ Err DecodeError.AlreadyFailed }
+        ensures after { result ≡ Err DecodeError.AlreadyFailed → has_failed self.old };
 
     /// Whether a further member comes.
     fn get_further(&mut self) -> Result<bool, DecodeError>
@@ -244,7 +287,8 @@ pub trait Decoder {
         ensures level { OnOk result (levels self.new ≡ levels self.old) }
         ensures only { IfErr result (NoRecord step asks_further self.old) }
         ensures failed { OnErr result (has_failed self.new) }
-        ensures already { has_failed self.old → result ≡ Err DecodeError.AlreadyFailed };
+        ensures already { has_failed self.old → result ≡ Err DecodeError.AlreadyFailed }
+        ensures after { result ≡ Err DecodeError.AlreadyFailed → has_failed self.old };
 
     /// A SEQUENCE begins (X.680 25), with or without a mark of extensibility, of whose root components so
     /// many may be absent.
@@ -258,7 +302,8 @@ pub trait Decoder {
         ensures level { OnOk result (levels self.old ≡ levels self.new + 1) }
         ensures only { IfErr result (NoLevel step (asks_sequence extensible optional) (levels self.old) self.old) }
         ensures failed { OnErr result (has_failed self.new) }
-        ensures already { has_failed self.old → result ≡ Err DecodeError.AlreadyFailed };
+        ensures already { has_failed self.old → result ≡ Err DecodeError.AlreadyFailed }
+        ensures after { result ≡ Err DecodeError.AlreadyFailed → has_failed self.old };
 
     /// A SET begins (X.680 27), with or without a mark of extensibility, of whose root components so many may be
     /// absent. They come in the ascending order of their tags.
@@ -267,7 +312,8 @@ pub trait Decoder {
         ensures level { OnOk result (levels self.old ≡ levels self.new + 1) }
         ensures only { IfErr result (NoLevel step (asks_set extensible optional) (levels self.old) self.old) }
         ensures failed { OnErr result (has_failed self.new) }
-        ensures already { has_failed self.old → result ≡ Err DecodeError.AlreadyFailed };
+        ensures already { has_failed self.old → result ≡ Err DecodeError.AlreadyFailed }
+        ensures after { result ≡ Err DecodeError.AlreadyFailed → has_failed self.old };
 
     /// A group of additions begins (X.680 25.1), of whose components so many may be absent.
     fn begin_group(&mut self, optional: usize) -> Result<(), DecodeError>
@@ -275,7 +321,8 @@ pub trait Decoder {
         ensures level { OnOk result (levels self.old ≡ levels self.new + 1) }
         ensures only { IfErr result (NoLevel step (asks_group optional) (levels self.old) self.old) }
         ensures failed { OnErr result (has_failed self.new) }
-        ensures already { has_failed self.old → result ≡ Err DecodeError.AlreadyFailed };
+        ensures already { has_failed self.old → result ≡ Err DecodeError.AlreadyFailed }
+        ensures after { result ≡ Err DecodeError.AlreadyFailed → has_failed self.old };
 
     /// Whether the next component is there, of those that may be absent.
     fn get_mark(&mut self) -> Result<bool, DecodeError>
@@ -283,7 +330,8 @@ pub trait Decoder {
         ensures level { OnOk result (levels self.new ≡ levels self.old) }
         ensures only { IfErr result (NoRecord step asks_mark self.old) }
         ensures failed { OnErr result (has_failed self.new) }
-        ensures already { has_failed self.old → result ≡ Err DecodeError.AlreadyFailed };
+        ensures already { has_failed self.old → result ≡ Err DecodeError.AlreadyFailed }
+        ensures after { result ≡ Err DecodeError.AlreadyFailed → has_failed self.old };
 
     /// The component that was read last is equal to its default: refused by rules that have one encoding.
     fn note_default(&mut self) -> Result<(), DecodeError>
@@ -291,7 +339,8 @@ pub trait Decoder {
         ensures level { OnOk result (levels self.new ≡ levels self.old) }
         ensures only { IfErr result (NoRecord step asks_default self.old) }
         ensures failed { OnErr result (has_failed self.new) }
-        ensures already { has_failed self.old → result ≡ Err DecodeError.AlreadyFailed };
+        ensures already { has_failed self.old → result ≡ Err DecodeError.AlreadyFailed }
+        ensures after { result ≡ Err DecodeError.AlreadyFailed → has_failed self.old };
 
     /// The group that was read last has no component: refused by rules that have one encoding.
     fn note_empty(&mut self) -> Result<(), DecodeError>
@@ -299,7 +348,8 @@ pub trait Decoder {
         ensures level { OnOk result (levels self.new ≡ levels self.old) }
         ensures only { IfErr result (NoRecord step asks_empty self.old) }
         ensures failed { OnErr result (has_failed self.new) }
-        ensures already { has_failed self.old → result ≡ Err DecodeError.AlreadyFailed };
+        ensures already { has_failed self.old → result ≡ Err DecodeError.AlreadyFailed }
+        ensures after { result ≡ Err DecodeError.AlreadyFailed → has_failed self.old };
 
     /// Behind the root components of a type with a mark of extensibility come its additions (X.680 25 and 27), so
     /// many. Those that the input has besides are skipped at the end.
@@ -308,7 +358,8 @@ pub trait Decoder {
         ensures level { OnOk result (levels self.new ≡ levels self.old) }
         ensures only { IfErr result (NoRecord step (asks_additions count) self.old) }
         ensures failed { OnErr result (has_failed self.new) }
-        ensures already { has_failed self.old → result ≡ Err DecodeError.AlreadyFailed };
+        ensures already { has_failed self.old → result ≡ Err DecodeError.AlreadyFailed }
+        ensures after { result ≡ Err DecodeError.AlreadyFailed → has_failed self.old };
 
     /// Whether the next addition is there.
     fn get_addition(&mut self) -> Result<bool, DecodeError>
@@ -316,7 +367,8 @@ pub trait Decoder {
         ensures level { OnOk result (levels self.new ≡ levels self.old) }
         ensures only { IfErr result (NoRecord step asks_addition self.old) }
         ensures failed { OnErr result (has_failed self.new) }
-        ensures already { has_failed self.old → result ≡ Err DecodeError.AlreadyFailed };
+        ensures already { has_failed self.old → result ≡ Err DecodeError.AlreadyFailed }
+        ensures after { result ≡ Err DecodeError.AlreadyFailed → has_failed self.old };
 
     /// The end of an addition that is there.
     fn end_addition(&mut self) -> Result<(), DecodeError>
@@ -324,7 +376,8 @@ pub trait Decoder {
         ensures level { OnOk result (levels self.new ≡ levels self.old) }
         ensures only { IfErr result (NoRecord step asks_addition_end self.old) }
         ensures failed { OnErr result (has_failed self.new) }
-        ensures already { has_failed self.old → result ≡ Err DecodeError.AlreadyFailed };
+        ensures already { has_failed self.old → result ≡ Err DecodeError.AlreadyFailed }
+        ensures after { result ≡ Err DecodeError.AlreadyFailed → has_failed self.old };
 
     /// A CHOICE begins (X.680 29), with the tags of its root alternatives, whether it has a mark of extensibility, and
     /// the tags of its added alternatives: which one is chosen. Its end is called behind the value of the alternative.
@@ -335,12 +388,17 @@ pub trait Decoder {
         extensible: bool,
         additions: &[Tag],
     ) -> Result<Chosen, DecodeError>
-        ensures ok { IfOk result (λ x. step self.old (choice_begins (map tag_of roots.now) extensible (map tag_of additions.now) x.added x.place) self.new) }
-        ensures within { IfOk result (λ x. x.place < length (cond x.added (map tag_of additions.now) (map tag_of roots.now))) }
+        ensures ok { IfOk result (λ x. step self.old
+            (choice_begins (map tag_of roots.now) extensible (map tag_of additions.now) x.added x.place) self.new) }
+        ensures within { IfOk result
+            (λ x. x.place < length (cond x.added (map tag_of additions.now) (map tag_of roots.now))) }
         ensures level { OnOk result (levels self.old ≡ levels self.new + 1) }
-        ensures only { IfErr result (NoLevel step (asks_choice (map tag_of roots.now) extensible (map tag_of additions.now)) (levels self.old) self.old) }
+        ensures only { IfErr result
+            (NoLevel step (asks_choice (map tag_of roots.now) extensible (map tag_of additions.now))
+            (levels self.old) self.old) }
         ensures failed { OnErr result (has_failed self.new) }
-        ensures already { has_failed self.old → result ≡ Err DecodeError.AlreadyFailed };
+        ensures already { has_failed self.old → result ≡ Err DecodeError.AlreadyFailed }
+        ensures after { result ≡ Err DecodeError.AlreadyFailed → has_failed self.old };
 
     /// The end of what began last and has not ended.
     fn end(&mut self) -> Result<(), DecodeError>
@@ -348,7 +406,8 @@ pub trait Decoder {
         ensures level { OnOk result (levels self.new ≡ levels self.old + 1) }
         ensures only { IfErr result (NoRecord step asks_end self.old) }
         ensures failed { OnErr result (has_failed self.new) }
-        ensures already { has_failed self.old → result ≡ Err DecodeError.AlreadyFailed };
+        ensures already { has_failed self.old → result ≡ Err DecodeError.AlreadyFailed }
+        ensures after { result ≡ Err DecodeError.AlreadyFailed → has_failed self.old };
 
     /// The decoder fails for this reason: what it has found does not stand in the program's type.
     fn refuse(&mut self, error: DecodeError) -> DecodeError
@@ -356,13 +415,19 @@ pub trait Decoder {
         ensures failed { has_failed self.new };
 
     /// Of the records that answer a question one at most is next, and at most one state stands after it.
-    ghost one_record: { (a : Self) (r s : Record) (b c : Self) → question r ≡ question s → step a r b → step a s c → (told r ≡ told s) × (b ≡ c) };
+    ghost one_record: { (a : Self) (r s : Record) (b c : Self)
+        → question r ≡ question s → step a r b → step a s c → (told r ≡ told s) × (b ≡ c) };
 
     /// A list has as many members as the program's type holds.
-    ghost list_held: { (a : Self) (z : Size) (h : Counts) (n : ℕ) (b : Self) → step a (list_begins z h n) b → is_count_within h n ≡ true };
+    ghost list_held: { (a : Self) (z : Size) (h : Counts) (n : ℕ) (b : Self)
+        → step a (list_begins z h n) b → is_count_within h n ≡ true };
 
     /// So has a bag.
-    ghost bag_held: { (a : Self) (z : Size) (h : Counts) (n : ℕ) (b : Self) → step a (bag_begins z h n) b → is_count_within h n ≡ true };
+    ghost bag_held: { (a : Self) (z : Size) (h : Counts) (n : ℕ) (b : Self)
+        → step a (bag_begins z h n) b → is_count_within h n ≡ true };
+
+    /// What stands after a record has not failed.
+    ghost goes_on: { (a : Self) (r : Record) (b : Self) → step a r b → has_failed b → ⊥ };
 
     /// None stands after one that has failed.
     ghost none_after: { (a : Self) (r : Record) (b : Self) → has_failed a → step a r b → ⊥ };
@@ -381,11 +446,15 @@ pub trait Decode: AsnType + Drop {
         tag: Tag,
         constraints: Constraints,
     ) -> Result<Self, DecodeError>
-        ensures ok { IfOk result (λ x. Reads D.step (Self.under constraints.entry) (D.levels decoder.old) (Self.meaning x) decoder.old decoder.new) }
+        ensures ok { IfOk result
+            (λ x. Reads D.step (Self.under (meant constraints.entry)) (D.levels decoder.old) (Self.meaning x)
+            decoder.old decoder.new) }
         ensures level { OnOk result (D.levels decoder.new ≡ D.levels decoder.old) }
-        ensures only { IfErr result (Unread D.step (Self.under constraints.entry) (D.levels decoder.old) decoder.old) }
+        ensures only { IfErr result
+            (Unread D.step (Self.under (meant constraints.entry)) (D.levels decoder.old) decoder.old) }
         ensures failed { OnErr result (D.has_failed decoder.new) }
-        ensures already { D.has_failed decoder.old → result ≡ Err DecodeError.AlreadyFailed };
+        ensures already { D.has_failed decoder.old → result ≡ Err DecodeError.AlreadyFailed }
+        ensures after { result ≡ Err DecodeError.AlreadyFailed → D.has_failed decoder.old };
 
     /// Reads a value of the type whose records are next, and gives the value of the program that means its
     /// normal form.
@@ -393,11 +462,13 @@ pub trait Decode: AsnType + Drop {
     final fn decode<D: Decoder>(alloc: Global, decoder: &mut D) -> Result<Self, DecodeError>
     where
         Self: Sized,
-        ensures ok { IfOk result (λ x. Reads D.step Self.schema (D.levels decoder.old) (Self.meaning x) decoder.old decoder.new) }
+        ensures ok { IfOk result
+            (λ x. Reads D.step Self.schema (D.levels decoder.old) (Self.meaning x) decoder.old decoder.new) }
         ensures level { OnOk result (D.levels decoder.new ≡ D.levels decoder.old) }
         ensures only { IfErr result (Unread D.step Self.schema (D.levels decoder.old) decoder.old) }
         ensures failed { OnErr result (D.has_failed decoder.new) }
         ensures already { D.has_failed decoder.old → result ≡ Err DecodeError.AlreadyFailed }
+        ensures after { result ≡ Err DecodeError.AlreadyFailed → D.has_failed decoder.old }
     {
         Self::decode_with_tag(alloc, decoder, Self::TAG)
     }
@@ -411,11 +482,13 @@ pub trait Decode: AsnType + Drop {
     ) -> Result<Self, DecodeError>
     where
         Self: Sized,
-        ensures ok { IfOk result (λ x. Reads D.step Self.schema (D.levels decoder.old) (Self.meaning x) decoder.old decoder.new) }
+        ensures ok { IfOk result
+            (λ x. Reads D.step Self.schema (D.levels decoder.old) (Self.meaning x) decoder.old decoder.new) }
         ensures level { OnOk result (D.levels decoder.new ≡ D.levels decoder.old) }
         ensures only { IfErr result (Unread D.step Self.schema (D.levels decoder.old) decoder.old) }
         ensures failed { OnErr result (D.has_failed decoder.new) }
         ensures already { D.has_failed decoder.old → result ≡ Err DecodeError.AlreadyFailed }
+        ensures after { result ≡ Err DecodeError.AlreadyFailed → D.has_failed decoder.old }
     {
         let value = Self::decode_with_tag_and_constraints(
             alloc,
@@ -435,11 +508,15 @@ pub trait Decode: AsnType + Drop {
     ) -> Result<Self, DecodeError>
     where
         Self: Sized,
-        ensures ok { IfOk result (λ x. Reads D.step (Self.under constraints.entry) (D.levels decoder.old) (Self.meaning x) decoder.old decoder.new) }
+        ensures ok { IfOk result
+            (λ x. Reads D.step (Self.under (meant constraints.entry)) (D.levels decoder.old) (Self.meaning x)
+            decoder.old decoder.new) }
         ensures level { OnOk result (D.levels decoder.new ≡ D.levels decoder.old) }
-        ensures only { IfErr result (Unread D.step (Self.under constraints.entry) (D.levels decoder.old) decoder.old) }
+        ensures only { IfErr result
+            (Unread D.step (Self.under (meant constraints.entry)) (D.levels decoder.old) decoder.old) }
         ensures failed { OnErr result (D.has_failed decoder.new) }
         ensures already { D.has_failed decoder.old → result ≡ Err DecodeError.AlreadyFailed }
+        ensures after { result ≡ Err DecodeError.AlreadyFailed → D.has_failed decoder.old }
     {
         Self::decode_with_tag_and_constraints(alloc, decoder, Self::TAG, constraints)
     }

@@ -16,7 +16,8 @@ pub trait FrontReader<T: Decode> {
     ///
     /// # Errors
     ///
-    /// Want of memory aside, only where no octets in front, fewer than 2 to 60, are an encoding of a value that nests at most 128 levels.
+    /// Want of memory aside, only where no octets in front, fewer than 2 to 60, are an encoding of a value that nests
+    /// at most 128 levels.
     fn read_front(&self, alloc: Global, input: &[u8]) -> Result<(T, usize), DecodeError>
         ensures within { IfOk result (λ x. x.1 ≤ length input.now) }
         ensures ok { IfOk result (λ x. Tells rules T.schema (T.meaning x.0) input.now (drop x.1 input.now)) }

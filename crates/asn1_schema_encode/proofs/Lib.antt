@@ -2,3 +2,4 @@ pub mod Writing
 pub mod Listing
 pub mod SingleRecords
 pub mod Ranges
+pub mod Going

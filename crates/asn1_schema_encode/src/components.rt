@@ -5,7 +5,10 @@ ghost use Rattle.asn1_model.specs.Schema.{optional, by_default};
 ghost use Rattle.asn1_schema_presented.specs.Presents.{there, left_out};
 ghost use Rattle.asn1_schema_presented.specs.Tables.{marks, sequence_type};
 ghost use Rattle.asn1_schema_presented.specs.Parts.{part_of, part_unless};
-ghost use Rattle.asn1_schema_encode.specs.Writes.{Writes, CannotWrite, WritesPart, CannotWritePart, WritesMarked, CannotWriteMarked, WritesUnless, CannotWriteUnless, WritesTail, CannotWriteTail};
+ghost use Rattle.asn1_schema_constraints.specs.Terms.{meant};
+ghost use Rattle.asn1_schema_encode.specs.Writes.{Writes, CannotWrite, WritesPart, CannotWritePart, WritesMarked};
+ghost use Rattle.asn1_schema_encode.specs.Writes.{CannotWriteMarked, WritesUnless, CannotWriteUnless, WritesTail};
+ghost use Rattle.asn1_schema_encode.specs.Writes.{CannotWriteTail};
 
 use crate::encode::{Encode, Encoder};
 use asn1_schema_constraints::Constraints;
@@ -17,10 +20,13 @@ use asn1_schema_types::{ComponentsOf, DefaultOf, Defaulted, End, Optional, Requi
 pub trait EncodeComponents: ComponentsOf {
     /// Hands over the records of the components, and the end of the sequence.
     fn encode_components<E: Encoder>(&self, encoder: &mut E) -> Result<(), EncodeError>
-        ensures ok { OnOk result (WritesTail E.step Self.table (Self.root self.now) (Self.added self.now) encoder.old encoder.new) }
-        ensures only { IfErr result (CannotWriteTail E.step Self.table (Self.root self.now) (Self.added self.now) encoder.old) }
+        ensures ok { OnOk result
+            (WritesTail E.step Self.table (Self.root self.now) (Self.added self.now) encoder.old encoder.new) }
+        ensures only { IfErr result
+            (CannotWriteTail E.step Self.table (Self.root self.now) (Self.added self.now) encoder.old) }
         ensures failed { OnErr result (E.has_failed encoder.new) }
-        ensures already { E.has_failed encoder.old → result ≡ Err EncodeError.AlreadyFailed };
+        ensures already { E.has_failed encoder.old → result ≡ Err EncodeError.AlreadyFailed }
+        ensures after { result ≡ Err EncodeError.AlreadyFailed → E.has_failed encoder.old };
 }
 
 impl EncodeComponents for End {
@@ -61,10 +67,13 @@ pub trait EncodeSequence: Encoder {
     final fn encode_some<T: Encode>(&mut self, value: &T) -> Result<(), EncodeError>
     where
         Self: Sized,
-        ensures ok { OnOk result (WritesPart Self.step optional T.schema (there (T.meaning value.now)) self.old self.new) }
-        ensures only { IfErr result (CannotWritePart Self.step optional T.schema (there (T.meaning value.now)) self.old) }
+        ensures ok { OnOk result
+            (WritesPart Self.step optional T.schema (there (T.meaning value.now)) self.old self.new) }
+        ensures only { IfErr result
+            (CannotWritePart Self.step optional T.schema (there (T.meaning value.now)) self.old) }
         ensures failed { OnErr result (Self.has_failed self.new) }
         ensures already { Self.has_failed self.old → result ≡ Err EncodeError.AlreadyFailed }
+        ensures after { result ≡ Err EncodeError.AlreadyFailed → Self.has_failed self.old }
     {
         self.encode_some_with_tag(T::TAG, value)
     }
@@ -77,10 +86,13 @@ pub trait EncodeSequence: Encoder {
     ) -> Result<(), EncodeError>
     where
         Self: Sized,
-        ensures ok { OnOk result (WritesPart Self.step optional T.schema (there (T.meaning value.now)) self.old self.new) }
-        ensures only { IfErr result (CannotWritePart Self.step optional T.schema (there (T.meaning value.now)) self.old) }
+        ensures ok { OnOk result
+            (WritesPart Self.step optional T.schema (there (T.meaning value.now)) self.old self.new) }
+        ensures only { IfErr result
+            (CannotWritePart Self.step optional T.schema (there (T.meaning value.now)) self.old) }
         ensures failed { OnErr result (Self.has_failed self.new) }
         ensures already { Self.has_failed self.old → result ≡ Err EncodeError.AlreadyFailed }
+        ensures after { result ≡ Err EncodeError.AlreadyFailed → Self.has_failed self.old }
     {
         self.encode_some_with_tag_and_constraints(tag, value, T::constraints())?;
         Ok(())
@@ -95,10 +107,13 @@ pub trait EncodeSequence: Encoder {
     ) -> Result<(), EncodeError>
     where
         Self: Sized,
-        ensures ok { OnOk result (WritesMarked Self.step (T.under constraints.entry) (T.meaning value.now) self.old self.new) }
-        ensures only { IfErr result (CannotWriteMarked Self.step (T.under constraints.entry) (T.meaning value.now) self.old) }
+        ensures ok { OnOk result
+            (WritesMarked Self.step (T.under (meant constraints.entry)) (T.meaning value.now) self.old self.new) }
+        ensures only { IfErr result
+            (CannotWriteMarked Self.step (T.under (meant constraints.entry)) (T.meaning value.now) self.old) }
         ensures failed { OnErr result (Self.has_failed self.new) }
         ensures already { Self.has_failed self.old → result ≡ Err EncodeError.AlreadyFailed }
+        ensures after { result ≡ Err EncodeError.AlreadyFailed → Self.has_failed self.old }
     {
         self.put_mark(true)?;
         value.encode_with_tag_and_constraints(self, tag, constraints)?;
@@ -113,6 +128,7 @@ pub trait EncodeSequence: Encoder {
         ensures only { IfErr result (CannotWritePart Self.step optional T.schema left_out self.old) }
         ensures failed { OnErr result (Self.has_failed self.new) }
         ensures already { Self.has_failed self.old → result ≡ Err EncodeError.AlreadyFailed }
+        ensures after { result ≡ Err EncodeError.AlreadyFailed → Self.has_failed self.old }
     {
         self.encode_none_with_tag::<T>(T::TAG)
     }
@@ -125,6 +141,7 @@ pub trait EncodeSequence: Encoder {
         ensures only { IfErr result (CannotWritePart Self.step optional T.schema left_out self.old) }
         ensures failed { OnErr result (Self.has_failed self.new) }
         ensures already { Self.has_failed self.old → result ≡ Err EncodeError.AlreadyFailed }
+        ensures after { result ≡ Err EncodeError.AlreadyFailed → Self.has_failed self.old }
     {
         self.put_mark(false)?;
         Ok(())
@@ -134,10 +151,13 @@ pub trait EncodeSequence: Encoder {
     final fn encode_optional<T: Encode>(&mut self, value: &Option<T>) -> Result<(), EncodeError>
     where
         Self: Sized,
-        ensures ok { OnOk result (WritesPart Self.step optional T.schema (part_of T.meaning value.now) self.old self.new) }
-        ensures only { IfErr result (CannotWritePart Self.step optional T.schema (part_of T.meaning value.now) self.old) }
+        ensures ok { OnOk result
+            (WritesPart Self.step optional T.schema (part_of T.meaning value.now) self.old self.new) }
+        ensures only { IfErr result
+            (CannotWritePart Self.step optional T.schema (part_of T.meaning value.now) self.old) }
         ensures failed { OnErr result (Self.has_failed self.new) }
         ensures already { Self.has_failed self.old → result ≡ Err EncodeError.AlreadyFailed }
+        ensures after { result ≡ Err EncodeError.AlreadyFailed → Self.has_failed self.old }
     {
         match value {
             None => self.encode_none::<T>(),
@@ -153,10 +173,15 @@ pub trait EncodeSequence: Encoder {
     ) -> Result<(), EncodeError>
     where
         Self: Sized,
-        ensures ok { OnOk result (WritesPart Self.step (by_default V.value) T.schema (part_unless (same (T.meaning value.now) V.value) (T.meaning value.now)) self.old self.new) }
-        ensures only { IfErr result (CannotWritePart Self.step (by_default V.value) T.schema (part_unless (same (T.meaning value.now) V.value) (T.meaning value.now)) self.old) }
+        ensures ok { OnOk result
+            (WritesPart Self.step (by_default V.value) T.schema
+            (part_unless (same (T.meaning value.now) V.value) (T.meaning value.now)) self.old self.new) }
+        ensures only { IfErr result
+            (CannotWritePart Self.step (by_default V.value) T.schema
+            (part_unless (same (T.meaning value.now) V.value) (T.meaning value.now)) self.old) }
         ensures failed { OnErr result (Self.has_failed self.new) }
         ensures already { Self.has_failed self.old → result ≡ Err EncodeError.AlreadyFailed }
+        ensures after { result ≡ Err EncodeError.AlreadyFailed → Self.has_failed self.old }
     {
         self.encode_default_with_tag::<V, T>(T::TAG, value)
     }
@@ -169,10 +194,15 @@ pub trait EncodeSequence: Encoder {
     ) -> Result<(), EncodeError>
     where
         Self: Sized,
-        ensures ok { OnOk result (WritesPart Self.step (by_default V.value) T.schema (part_unless (same (T.meaning value.now) V.value) (T.meaning value.now)) self.old self.new) }
-        ensures only { IfErr result (CannotWritePart Self.step (by_default V.value) T.schema (part_unless (same (T.meaning value.now) V.value) (T.meaning value.now)) self.old) }
+        ensures ok { OnOk result
+            (WritesPart Self.step (by_default V.value) T.schema
+            (part_unless (same (T.meaning value.now) V.value) (T.meaning value.now)) self.old self.new) }
+        ensures only { IfErr result
+            (CannotWritePart Self.step (by_default V.value) T.schema
+            (part_unless (same (T.meaning value.now) V.value) (T.meaning value.now)) self.old) }
         ensures failed { OnErr result (Self.has_failed self.new) }
         ensures already { Self.has_failed self.old → result ≡ Err EncodeError.AlreadyFailed }
+        ensures after { result ≡ Err EncodeError.AlreadyFailed → Self.has_failed self.old }
     {
         self.encode_default_with_tag_and_constraints::<V, T>(tag, value, T::constraints())?;
         Ok(())
@@ -186,10 +216,15 @@ pub trait EncodeSequence: Encoder {
     ) -> Result<(), EncodeError>
     where
         Self: Sized,
-        ensures ok { OnOk result (WritesUnless (same (T.meaning value.now) V.value) Self.step (T.under constraints.entry) (T.meaning value.now) self.old self.new) }
-        ensures only { IfErr result (CannotWriteUnless (same (T.meaning value.now) V.value) Self.step (T.under constraints.entry) (T.meaning value.now) self.old) }
+        ensures ok { OnOk result
+            (WritesUnless (same (T.meaning value.now) V.value) Self.step (T.under (meant constraints.entry))
+            (T.meaning value.now) self.old self.new) }
+        ensures only { IfErr result
+            (CannotWriteUnless (same (T.meaning value.now) V.value) Self.step (T.under (meant constraints.entry))
+            (T.meaning value.now) self.old) }
         ensures failed { OnErr result (Self.has_failed self.new) }
         ensures already { Self.has_failed self.old → result ≡ Err EncodeError.AlreadyFailed }
+        ensures after { result ≡ Err EncodeError.AlreadyFailed → Self.has_failed self.old }
     {
         self.encode_default_with_tag_and_constraints::<V, T>(T::TAG, value, constraints)
     }
@@ -203,10 +238,15 @@ pub trait EncodeSequence: Encoder {
     ) -> Result<(), EncodeError>
     where
         Self: Sized,
-        ensures ok { OnOk result (WritesUnless (same (T.meaning value.now) V.value) Self.step (T.under constraints.entry) (T.meaning value.now) self.old self.new) }
-        ensures only { IfErr result (CannotWriteUnless (same (T.meaning value.now) V.value) Self.step (T.under constraints.entry) (T.meaning value.now) self.old) }
+        ensures ok { OnOk result
+            (WritesUnless (same (T.meaning value.now) V.value) Self.step (T.under (meant constraints.entry))
+            (T.meaning value.now) self.old self.new) }
+        ensures only { IfErr result
+            (CannotWriteUnless (same (T.meaning value.now) V.value) Self.step (T.under (meant constraints.entry))
+            (T.meaning value.now) self.old) }
         ensures failed { OnErr result (Self.has_failed self.new) }
         ensures already { Self.has_failed self.old → result ≡ Err EncodeError.AlreadyFailed }
+        ensures after { result ≡ Err EncodeError.AlreadyFailed → Self.has_failed self.old }
     {
         if V::is_default(value) {
             self.put_mark(false)?;
@@ -228,10 +268,15 @@ pub trait EncodeSequence: Encoder {
         Self: Sized,
         requires marks { optional ≡ marks C.table.root }
         requires plain { C.table.extensible ≡ false }
-        ensures ok { OnOk result (Writes Self.step (sequence_type C.table) (fields (C.root components.now) (C.added components.now)) self.old self.new) }
-        ensures only { IfErr result (CannotWrite Self.step (sequence_type C.table) (fields (C.root components.now) (C.added components.now)) self.old) }
+        ensures ok { OnOk result
+            (Writes Self.step (sequence_type C.table) (fields (C.root components.now) (C.added components.now))
+            self.old self.new) }
+        ensures only { IfErr result
+            (CannotWrite Self.step (sequence_type C.table) (fields (C.root components.now) (C.added components.now))
+            self.old) }
         ensures failed { OnErr result (Self.has_failed self.new) }
         ensures already { Self.has_failed self.old → result ≡ Err EncodeError.AlreadyFailed }
+        ensures after { result ≡ Err EncodeError.AlreadyFailed → Self.has_failed self.old }
     {
         self.begin_sequence(tag, false, optional)?;
         components.encode_components(self)?;

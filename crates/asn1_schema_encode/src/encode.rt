@@ -1,14 +1,16 @@
 //! What writes the values of types.
-ghost use Rattle.std.specs.Prelude.{◌≡◌, OnOk, OnErr, IfErr, map};
+ghost use Rattle.std.specs.Prelude.{◌≡◌, OnOk, OnErr, IfErr};
 ghost use Rattle.asn1_model.specs.Schema.{utf8};
-ghost use Rattle.asn1_model.specs.Types.{any_count};
 ghost use Rattle.asn1_schema_faults.specs.declared.CodecKind.{CodecKind};
-ghost use Rattle.asn1_schema_presented.specs.Records.{Record, flag, nil, whole, one_of, bits, octets, characters, identifier as object_identifier, list_begins, bag_begins, further, sequence_begins, set_begins};
-ghost use Rattle.asn1_schema_presented.specs.Records.{group_begins, mark, additions_begin, addition, addition_ends, choice_begins, ends};
-ghost use Rattle.asn1_schema_constraints.specs.Bounds.{counts_of, members_of};
-ghost use Rattle.asn1_schema_constraints.specs.Terms.{bounds_of, held_of, sizes_of, alphabet_of};
-ghost use Rattle.asn1_schema_tags.specs.Tags.{tag_of};
+ghost use Rattle.asn1_schema_presented.specs.Records.{Record, flag, nil, one_of, identifier as object_identifier};
+ghost use Rattle.asn1_schema_presented.specs.Records.{further};
+ghost use Rattle.asn1_schema_presented.specs.Records.{sequence_begins, set_begins, group_begins, mark};
+ghost use Rattle.asn1_schema_presented.specs.Records.{additions_begin, addition, addition_ends, ends};
+ghost use Rattle.asn1_schema_constraints.specs.Terms.{meant};
+ghost use Rattle.asn1_schema_types.specs.Told.{whole_under, bits_under, octets_under, characters_under};
+ghost use Rattle.asn1_schema_types.specs.Told.{list_begins_under, bag_begins_under};
 ghost use Rattle.asn1_schema_encode.specs.Writes.{Refused, Writes, CannotWrite};
+ghost use Rattle.asn1_schema_encode.specs.Told.{chosen_of};
 ghost use Rattle.asn1_values_bits.specs.BitStr.{bits_of};
 
 use asn1_schema_constraints::{Bounded, Constraints};
@@ -22,8 +24,8 @@ use asn1_values_identifiers::Oid;
 use asn1_values_integers::IntegerType;
 
 /// What takes the records of a value, one a call. An error other than want of memory comes only where nothing
-/// can stand after the record, and after an error each call answers `AlreadyFailed`. Tags and names of
-/// types leave no trace.
+/// can stand after the record. After an error each call answers `AlreadyFailed`, and no call does before. Tags and
+/// names of types leave no trace.
 pub trait Encoder {
     /// How what is held before a record and what is held after it go together.
     ghost step: { Self → Record → Self → Type 0 };
@@ -48,14 +50,16 @@ pub trait Encoder {
         ensures ok { OnOk result (step self.old (flag value) self.new) }
         ensures only { IfErr result (Refused step (flag value) self.old) }
         ensures failed { OnErr result (has_failed self.new) }
-        ensures already { has_failed self.old → result ≡ Err EncodeError.AlreadyFailed };
+        ensures already { has_failed self.old → result ≡ Err EncodeError.AlreadyFailed }
+        ensures after { result ≡ Err EncodeError.AlreadyFailed → has_failed self.old };
 
     /// NULL (X.680 24).
     fn encode_null(&mut self, tag: Tag, identifier: Identifier) -> Result<(), EncodeError>
         ensures ok { OnOk result (step self.old nil self.new) }
         ensures only { IfErr result (Refused step nil self.old) }
         ensures failed { OnErr result (has_failed self.new) }
-        ensures already { has_failed self.old → result ≡ Err EncodeError.AlreadyFailed };
+        ensures already { has_failed self.old → result ≡ Err EncodeError.AlreadyFailed }
+        ensures after { result ≡ Err EncodeError.AlreadyFailed → has_failed self.old };
 
     /// INTEGER (X.680 19) under a value constraint.
     fn encode_integer<I: IntegerType>(
@@ -65,10 +69,11 @@ pub trait Encoder {
         value: &I,
         identifier: Identifier,
     ) -> Result<(), EncodeError>
-        ensures ok { OnOk result (step self.old (whole (bounds_of constraints.entry.value) (held_of constraints.entry.value I.held) (I.value value.now)) self.new) }
-        ensures only { IfErr result (Refused step (whole (bounds_of constraints.entry.value) (held_of constraints.entry.value I.held) (I.value value.now)) self.old) }
+        ensures ok { OnOk result (step self.old (whole_under constraints.entry I.held (I.value value.now)) self.new) }
+        ensures only { IfErr result (Refused step (whole_under constraints.entry I.held (I.value value.now)) self.old) }
         ensures failed { OnErr result (has_failed self.new) }
-        ensures already { has_failed self.old → result ≡ Err EncodeError.AlreadyFailed };
+        ensures already { has_failed self.old → result ≡ Err EncodeError.AlreadyFailed }
+        ensures after { result ≡ Err EncodeError.AlreadyFailed → has_failed self.old };
 
     /// ENUMERATED (X.680 20): an item, by its number and by its place among the items of its table.
     fn encode_enumerated<T: Enumerated>(
@@ -77,10 +82,13 @@ pub trait Encoder {
         value: &T,
         identifier: Identifier,
     ) -> Result<(), EncodeError>
-        ensures ok { OnOk result (step self.old (one_of T.roots T.extensible T.additions (T.number value.now)) self.new) }
-        ensures only { IfErr result (Refused step (one_of T.roots T.extensible T.additions (T.number value.now)) self.old) }
+        ensures ok { OnOk result
+            (step self.old (one_of T.roots T.extensible T.additions (T.number value.now)) self.new) }
+        ensures only { IfErr result
+            (Refused step (one_of T.roots T.extensible T.additions (T.number value.now)) self.old) }
         ensures failed { OnErr result (has_failed self.new) }
-        ensures already { has_failed self.old → result ≡ Err EncodeError.AlreadyFailed };
+        ensures already { has_failed self.old → result ≡ Err EncodeError.AlreadyFailed }
+        ensures after { result ≡ Err EncodeError.AlreadyFailed → has_failed self.old };
 
     /// BIT STRING (X.680 22) under a size constraint, in a type of the program that holds so many bits.
     fn encode_bit_string(
@@ -91,10 +99,11 @@ pub trait Encoder {
         value: BitStr,
         identifier: Identifier,
     ) -> Result<(), EncodeError>
-        ensures ok { OnOk result (step self.old (bits (sizes_of constraints.entry.size) (counts_of held) (bits_of value.entry)) self.new) }
-        ensures only { IfErr result (Refused step (bits (sizes_of constraints.entry.size) (counts_of held) (bits_of value.entry)) self.old) }
+        ensures ok { OnOk result (step self.old (bits_under constraints.entry held (bits_of value.entry)) self.new) }
+        ensures only { IfErr result (Refused step (bits_under constraints.entry held (bits_of value.entry)) self.old) }
         ensures failed { OnErr result (has_failed self.new) }
-        ensures already { has_failed self.old → result ≡ Err EncodeError.AlreadyFailed };
+        ensures already { has_failed self.old → result ≡ Err EncodeError.AlreadyFailed }
+        ensures after { result ≡ Err EncodeError.AlreadyFailed → has_failed self.old };
 
     /// OCTET STRING (X.680 23) under a size constraint, in a type of the program that holds so many octets.
     fn encode_octet_string(
@@ -105,10 +114,11 @@ pub trait Encoder {
         value: &[u8],
         identifier: Identifier,
     ) -> Result<(), EncodeError>
-        ensures ok { OnOk result (step self.old (octets (sizes_of constraints.entry.size) (counts_of held) value.now) self.new) }
-        ensures only { IfErr result (Refused step (octets (sizes_of constraints.entry.size) (counts_of held) value.now) self.old) }
+        ensures ok { OnOk result (step self.old (octets_under constraints.entry held value.now) self.new) }
+        ensures only { IfErr result (Refused step (octets_under constraints.entry held value.now) self.old) }
         ensures failed { OnErr result (has_failed self.new) }
-        ensures already { has_failed self.old → result ≡ Err EncodeError.AlreadyFailed };
+        ensures already { has_failed self.old → result ≡ Err EncodeError.AlreadyFailed }
+        ensures after { result ≡ Err EncodeError.AlreadyFailed → has_failed self.old };
 
     /// UTF8String (X.680 41) under a size constraint.
     fn encode_utf8_string(
@@ -118,12 +128,14 @@ pub trait Encoder {
         value: &str,
         identifier: Identifier,
     ) -> Result<(), EncodeError>
-        ensures ok { OnOk result (step self.old (characters utf8 (sizes_of constraints.entry.size) (alphabet_of constraints.entry.permitted_alphabet) any_count value.now) self.new) }
-        ensures only { IfErr result (Refused step (characters utf8 (sizes_of constraints.entry.size) (alphabet_of constraints.entry.permitted_alphabet) any_count value.now) self.old) }
+        ensures ok { OnOk result (step self.old (characters_under utf8 constraints.entry value.now) self.new) }
+        ensures only { IfErr result (Refused step (characters_under utf8 constraints.entry value.now) self.old) }
         ensures failed { OnErr result (has_failed self.new) }
-        ensures already { has_failed self.old → result ≡ Err EncodeError.AlreadyFailed };
+        ensures already { has_failed self.old → result ≡ Err EncodeError.AlreadyFailed }
+        ensures after { result ≡ Err EncodeError.AlreadyFailed → has_failed self.old };
 
-    /// A restricted character string (X.680 41) of one of the kinds with an alphabet of their own, under a size and an alphabet constraint.
+    /// A restricted character string (X.680 41) of one of the kinds with an alphabet of their own, under a size and an
+    /// alphabet constraint.
     fn encode_characters<S: StaticPermittedAlphabet>(
         &mut self,
         tag: Tag,
@@ -131,10 +143,13 @@ pub trait Encoder {
         value: &S,
         identifier: Identifier,
     ) -> Result<(), EncodeError>
-        ensures ok { OnOk result (step self.old (characters S.kind (sizes_of constraints.entry.size) (alphabet_of constraints.entry.permitted_alphabet) any_count (S.characters value.now)) self.new) }
-        ensures only { IfErr result (Refused step (characters S.kind (sizes_of constraints.entry.size) (alphabet_of constraints.entry.permitted_alphabet) any_count (S.characters value.now)) self.old) }
+        ensures ok { OnOk result
+            (step self.old (characters_under S.kind constraints.entry (S.characters value.now)) self.new) }
+        ensures only { IfErr result
+            (Refused step (characters_under S.kind constraints.entry (S.characters value.now)) self.old) }
         ensures failed { OnErr result (has_failed self.new) }
-        ensures already { has_failed self.old → result ≡ Err EncodeError.AlreadyFailed };
+        ensures already { has_failed self.old → result ≡ Err EncodeError.AlreadyFailed }
+        ensures after { result ≡ Err EncodeError.AlreadyFailed → has_failed self.old };
 
     /// OBJECT IDENTIFIER (X.680 32).
     fn encode_object_identifier(
@@ -146,7 +161,8 @@ pub trait Encoder {
         ensures ok { OnOk result (step self.old (object_identifier value.entry) self.new) }
         ensures only { IfErr result (Refused step (object_identifier value.entry) self.old) }
         ensures failed { OnErr result (has_failed self.new) }
-        ensures already { has_failed self.old → result ≡ Err EncodeError.AlreadyFailed };
+        ensures already { has_failed self.old → result ≡ Err EncodeError.AlreadyFailed }
+        ensures after { result ≡ Err EncodeError.AlreadyFailed → has_failed self.old };
 
     /// A SEQUENCE OF begins (X.680 26) under a size constraint, in a type of the program that holds so many
     /// members, with so many members.
@@ -157,10 +173,11 @@ pub trait Encoder {
         held: Bounded<usize>,
         count: usize,
     ) -> Result<(), EncodeError>
-        ensures ok { OnOk result (step self.old (list_begins (sizes_of constraints.entry.size) (members_of held) count) self.new) }
-        ensures only { IfErr result (Refused step (list_begins (sizes_of constraints.entry.size) (members_of held) count) self.old) }
+        ensures ok { OnOk result (step self.old (list_begins_under constraints.entry held count) self.new) }
+        ensures only { IfErr result (Refused step (list_begins_under constraints.entry held count) self.old) }
         ensures failed { OnErr result (has_failed self.new) }
-        ensures already { has_failed self.old → result ≡ Err EncodeError.AlreadyFailed };
+        ensures already { has_failed self.old → result ≡ Err EncodeError.AlreadyFailed }
+        ensures after { result ≡ Err EncodeError.AlreadyFailed → has_failed self.old };
 
     /// A SET OF begins (X.680 28) under a size constraint, in a type of the program that holds so many members,
     /// with so many members. They are handed over in any order; the encoder puts them in the order that its rules
@@ -172,17 +189,19 @@ pub trait Encoder {
         held: Bounded<usize>,
         count: usize,
     ) -> Result<(), EncodeError>
-        ensures ok { OnOk result (step self.old (bag_begins (sizes_of constraints.entry.size) (members_of held) count) self.new) }
-        ensures only { IfErr result (Refused step (bag_begins (sizes_of constraints.entry.size) (members_of held) count) self.old) }
+        ensures ok { OnOk result (step self.old (bag_begins_under constraints.entry held count) self.new) }
+        ensures only { IfErr result (Refused step (bag_begins_under constraints.entry held count) self.old) }
         ensures failed { OnErr result (has_failed self.new) }
-        ensures already { has_failed self.old → result ≡ Err EncodeError.AlreadyFailed };
+        ensures already { has_failed self.old → result ≡ Err EncodeError.AlreadyFailed }
+        ensures after { result ≡ Err EncodeError.AlreadyFailed → has_failed self.old };
 
     /// Whether a further member comes.
     fn put_further(&mut self, more: bool) -> Result<(), EncodeError>
         ensures ok { OnOk result (step self.old (further more) self.new) }
         ensures only { IfErr result (Refused step (further more) self.old) }
         ensures failed { OnErr result (has_failed self.new) }
-        ensures already { has_failed self.old → result ≡ Err EncodeError.AlreadyFailed };
+        ensures already { has_failed self.old → result ≡ Err EncodeError.AlreadyFailed }
+        ensures after { result ≡ Err EncodeError.AlreadyFailed → has_failed self.old };
 
     /// A SEQUENCE begins (X.680 25), with or without a mark of extensibility, of whose root components so
     /// many may be absent.
@@ -195,7 +214,8 @@ pub trait Encoder {
         ensures ok { OnOk result (step self.old (sequence_begins extensible optional) self.new) }
         ensures only { IfErr result (Refused step (sequence_begins extensible optional) self.old) }
         ensures failed { OnErr result (has_failed self.new) }
-        ensures already { has_failed self.old → result ≡ Err EncodeError.AlreadyFailed };
+        ensures already { has_failed self.old → result ≡ Err EncodeError.AlreadyFailed }
+        ensures after { result ≡ Err EncodeError.AlreadyFailed → has_failed self.old };
 
     /// A SET begins (X.680 27), with or without a mark of extensibility, of whose root components so many may be
     /// absent. They are handed over in the ascending order of their tags.
@@ -203,21 +223,24 @@ pub trait Encoder {
         ensures ok { OnOk result (step self.old (set_begins extensible optional) self.new) }
         ensures only { IfErr result (Refused step (set_begins extensible optional) self.old) }
         ensures failed { OnErr result (has_failed self.new) }
-        ensures already { has_failed self.old → result ≡ Err EncodeError.AlreadyFailed };
+        ensures already { has_failed self.old → result ≡ Err EncodeError.AlreadyFailed }
+        ensures after { result ≡ Err EncodeError.AlreadyFailed → has_failed self.old };
 
     /// A group of additions begins (X.680 25.1), of whose components so many may be absent.
     fn begin_group(&mut self, optional: usize) -> Result<(), EncodeError>
         ensures ok { OnOk result (step self.old (group_begins optional) self.new) }
         ensures only { IfErr result (Refused step (group_begins optional) self.old) }
         ensures failed { OnErr result (has_failed self.new) }
-        ensures already { has_failed self.old → result ≡ Err EncodeError.AlreadyFailed };
+        ensures already { has_failed self.old → result ≡ Err EncodeError.AlreadyFailed }
+        ensures after { result ≡ Err EncodeError.AlreadyFailed → has_failed self.old };
 
     /// Whether the next component is there, of those that may be absent.
     fn put_mark(&mut self, present: bool) -> Result<(), EncodeError>
         ensures ok { OnOk result (step self.old (mark present) self.new) }
         ensures only { IfErr result (Refused step (mark present) self.old) }
         ensures failed { OnErr result (has_failed self.new) }
-        ensures already { has_failed self.old → result ≡ Err EncodeError.AlreadyFailed };
+        ensures already { has_failed self.old → result ≡ Err EncodeError.AlreadyFailed }
+        ensures after { result ≡ Err EncodeError.AlreadyFailed → has_failed self.old };
 
     /// Behind the root components of a type with a mark of extensibility come its additions (X.680 25 and 27), so
     /// many.
@@ -225,21 +248,24 @@ pub trait Encoder {
         ensures ok { OnOk result (step self.old (additions_begin count) self.new) }
         ensures only { IfErr result (Refused step (additions_begin count) self.old) }
         ensures failed { OnErr result (has_failed self.new) }
-        ensures already { has_failed self.old → result ≡ Err EncodeError.AlreadyFailed };
+        ensures already { has_failed self.old → result ≡ Err EncodeError.AlreadyFailed }
+        ensures after { result ≡ Err EncodeError.AlreadyFailed → has_failed self.old };
 
     /// Whether the next addition is there.
     fn put_addition(&mut self, present: bool) -> Result<(), EncodeError>
         ensures ok { OnOk result (step self.old (addition present) self.new) }
         ensures only { IfErr result (Refused step (addition present) self.old) }
         ensures failed { OnErr result (has_failed self.new) }
-        ensures already { has_failed self.old → result ≡ Err EncodeError.AlreadyFailed };
+        ensures already { has_failed self.old → result ≡ Err EncodeError.AlreadyFailed }
+        ensures after { result ≡ Err EncodeError.AlreadyFailed → has_failed self.old };
 
     /// The end of an addition that is there.
     fn end_addition(&mut self) -> Result<(), EncodeError>
-        ensures ok { OnOk result (step self.old (addition_ends) self.new) }
-        ensures only { IfErr result (Refused step (addition_ends) self.old) }
+        ensures ok { OnOk result (step self.old addition_ends self.new) }
+        ensures only { IfErr result (Refused step addition_ends self.old) }
         ensures failed { OnErr result (has_failed self.new) }
-        ensures already { has_failed self.old → result ≡ Err EncodeError.AlreadyFailed };
+        ensures already { has_failed self.old → result ≡ Err EncodeError.AlreadyFailed }
+        ensures after { result ≡ Err EncodeError.AlreadyFailed → has_failed self.old };
 
     /// A CHOICE begins (X.680 29), with the tags of its root alternatives, whether it has a mark of extensibility,
     /// the tags of its added alternatives, and the chosen one. Its end is called behind the value of the alternative.
@@ -251,23 +277,28 @@ pub trait Encoder {
         additions: &[Tag],
         chosen: Chosen,
     ) -> Result<(), EncodeError>
-        ensures ok { OnOk result (step self.old (choice_begins (map tag_of roots.now) extensible (map tag_of additions.now) chosen.added chosen.place) self.new) }
-        ensures only { IfErr result (Refused step (choice_begins (map tag_of roots.now) extensible (map tag_of additions.now) chosen.added chosen.place) self.old) }
+        ensures ok { OnOk result (step self.old (chosen_of roots.now extensible additions.now chosen) self.new) }
+        ensures only { IfErr result (Refused step (chosen_of roots.now extensible additions.now chosen) self.old) }
         ensures failed { OnErr result (has_failed self.new) }
-        ensures already { has_failed self.old → result ≡ Err EncodeError.AlreadyFailed };
+        ensures already { has_failed self.old → result ≡ Err EncodeError.AlreadyFailed }
+        ensures after { result ≡ Err EncodeError.AlreadyFailed → has_failed self.old };
 
     /// The end of what began last and has not ended.
     fn end(&mut self) -> Result<(), EncodeError>
         ensures ok { OnOk result (step self.old ends self.new) }
         ensures only { IfErr result (Refused step ends self.old) }
         ensures failed { OnErr result (has_failed self.new) }
-        ensures already { has_failed self.old → result ≡ Err EncodeError.AlreadyFailed };
+        ensures already { has_failed self.old → result ≡ Err EncodeError.AlreadyFailed }
+        ensures after { result ≡ Err EncodeError.AlreadyFailed → has_failed self.old };
 
     /// At most one state stands after a record.
     ghost one_after: { (a : Self) (r : Record) (b c : Self) → step a r b → step a r c → b ≡ c };
 
     /// None stands after one that has failed.
     ghost none_after: { (a : Self) (r : Record) (b : Self) → has_failed a → step a r b → ⊥ };
+
+    /// What stands after a record has not failed.
+    ghost goes_on: { (a : Self) (r : Record) (b : Self) → step a r b → has_failed b → ⊥ };
 
     /// No record changes the rules.
     ghost same_rules: { (a : Self) (r : Record) (b : Self) → step a r b → rules b ≡ rules a };
@@ -282,10 +313,13 @@ pub trait Encode: AsnType {
         tag: Tag,
         constraints: Constraints,
     ) -> Result<(), EncodeError>
-        ensures ok { OnOk result (Writes E.step (Self.under constraints.entry) (Self.meaning self.now) encoder.old encoder.new) }
-        ensures only { IfErr result (CannotWrite E.step (Self.under constraints.entry) (Self.meaning self.now) encoder.old) }
+        ensures ok { OnOk result
+            (Writes E.step (Self.under (meant constraints.entry)) (Self.meaning self.now) encoder.old encoder.new) }
+        ensures only { IfErr result
+            (CannotWrite E.step (Self.under (meant constraints.entry)) (Self.meaning self.now) encoder.old) }
         ensures failed { OnErr result (E.has_failed encoder.new) }
-        ensures already { E.has_failed encoder.old → result ≡ Err EncodeError.AlreadyFailed };
+        ensures already { E.has_failed encoder.old → result ≡ Err EncodeError.AlreadyFailed }
+        ensures after { result ≡ Err EncodeError.AlreadyFailed → E.has_failed encoder.old };
 
     /// Hands over the records of the value by its type, each once.
     #[inline(always)]
@@ -296,6 +330,7 @@ pub trait Encode: AsnType {
         ensures only { IfErr result (CannotWrite E.step Self.schema (Self.meaning self.now) encoder.old) }
         ensures failed { OnErr result (E.has_failed encoder.new) }
         ensures already { E.has_failed encoder.old → result ≡ Err EncodeError.AlreadyFailed }
+        ensures after { result ≡ Err EncodeError.AlreadyFailed → E.has_failed encoder.old }
     {
         self.encode_with_tag(encoder, Self::TAG)
     }
@@ -313,6 +348,7 @@ pub trait Encode: AsnType {
         ensures only { IfErr result (CannotWrite E.step Self.schema (Self.meaning self.now) encoder.old) }
         ensures failed { OnErr result (E.has_failed encoder.new) }
         ensures already { E.has_failed encoder.old → result ≡ Err EncodeError.AlreadyFailed }
+        ensures after { result ≡ Err EncodeError.AlreadyFailed → E.has_failed encoder.old }
     {
         self.encode_with_tag_and_constraints(encoder, tag, Self::constraints())?;
         Ok(())
@@ -327,10 +363,13 @@ pub trait Encode: AsnType {
     ) -> Result<(), EncodeError>
     where
         Self: Sized,
-        ensures ok { OnOk result (Writes E.step (Self.under constraints.entry) (Self.meaning self.now) encoder.old encoder.new) }
-        ensures only { IfErr result (CannotWrite E.step (Self.under constraints.entry) (Self.meaning self.now) encoder.old) }
+        ensures ok { OnOk result
+            (Writes E.step (Self.under (meant constraints.entry)) (Self.meaning self.now) encoder.old encoder.new) }
+        ensures only { IfErr result
+            (CannotWrite E.step (Self.under (meant constraints.entry)) (Self.meaning self.now) encoder.old) }
         ensures failed { OnErr result (E.has_failed encoder.new) }
         ensures already { E.has_failed encoder.old → result ≡ Err EncodeError.AlreadyFailed }
+        ensures after { result ≡ Err EncodeError.AlreadyFailed → E.has_failed encoder.old }
     {
         self.encode_with_tag_and_constraints(encoder, Self::TAG, constraints)
     }

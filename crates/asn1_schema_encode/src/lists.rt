@@ -2,10 +2,8 @@
 
 ghost use Rattle.std.specs.Prelude.{◌≡◌, OnOk, OnErr, IfErr};
 ghost use Rattle.asn1_model.specs.Value.{members};
-ghost use Rattle.asn1_schema_constraints.specs.Bounds.{members_of};
-ghost use Rattle.asn1_schema_constraints.specs.Terms.{sizes_of};
 ghost use Rattle.asn1_schema_presented.specs.Parts.{values_of};
-ghost use Rattle.asn1_schema_presented.specs.Tables.{list_type};
+ghost use Rattle.asn1_schema_types.specs.Told.{list_under};
 ghost use Rattle.asn1_schema_encode.specs.Writes.{Writes, CannotWrite};
 
 use crate::encode::{Encode, Encoder};
@@ -25,10 +23,13 @@ pub trait EncodeList: Encoder {
     ) -> Result<(), EncodeError>
     where
         Self: Sized,
-        ensures ok { OnOk result (Writes Self.step (list_type (sizes_of constraints.entry.size) (members_of held) T.schema) (members (values_of T.meaning items.now)) self.old self.new) }
-        ensures only { IfErr result (CannotWrite Self.step (list_type (sizes_of constraints.entry.size) (members_of held) T.schema) (members (values_of T.meaning items.now)) self.old) }
+        ensures ok { OnOk result (Writes Self.step (list_under constraints.entry held T.schema)
+            (members (values_of T.meaning items.now)) self.old self.new) }
+        ensures only { IfErr result (CannotWrite Self.step (list_under constraints.entry held T.schema)
+            (members (values_of T.meaning items.now)) self.old) }
         ensures failed { OnErr result (Self.has_failed self.new) }
         ensures already { Self.has_failed self.old → result ≡ Err EncodeError.AlreadyFailed }
+        ensures after { result ≡ Err EncodeError.AlreadyFailed → Self.has_failed self.old }
     {
         self.begin_list(tag, constraints, held, items.len())?;
         for item in items {

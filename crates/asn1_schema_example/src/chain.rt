@@ -1,7 +1,7 @@
 //! Chain ::= SEQUENCE {value INTEGER, next Chain OPTIONAL}, a type that leads back to itself.
 ghost use Rattle.std.specs.Prelude.{[], ◌∷◌, refl};
 ghost use Rattle.asn1_model.specs.Value.{end};
-ghost use Rattle.asn1_schema_constraints.specs.Sets.{no_constraint};
+ghost use Rattle.asn1_schema_constraints.specs.Terms.{no_constraint};
 ghost use Rattle.asn1_schema_constructed.specs.Constructed.{sequence_form};
 
 use asn1_schema_constraints::Constraints;

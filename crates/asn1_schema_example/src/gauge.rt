@@ -2,7 +2,7 @@
 //! the number.
 ghost use Rattle.std.specs.Prelude.{refl, [], ◌∷◌};
 ghost use Rattle.asn1_model.specs.Value.{fields};
-ghost use Rattle.asn1_schema_constraints.specs.Sets.{no_constraint};
+ghost use Rattle.asn1_schema_constraints.specs.Terms.{no_constraint};
 ghost use Rattle.asn1_schema_constructed.specs.Constructed.{set_form};
 ghost use Rattle.asn1_schema_constructed.specs.Sets.{set_type};
 ghost use Rattle.asn1_schema_constructed.proofs.SetValues.{type_set, value_set};

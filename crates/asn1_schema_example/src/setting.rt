@@ -1,7 +1,7 @@
 //! SEQUENCE {on BOOLEAN, level INTEGER (0..255) OPTIONAL, step NULL}.
 ghost use Rattle.std.specs.Prelude.{refl, [], ◌∷◌};
 ghost use Rattle.asn1_model.specs.Value.{fields};
-ghost use Rattle.asn1_schema_constraints.specs.Sets.{no_constraint};
+ghost use Rattle.asn1_schema_constraints.specs.Terms.{no_constraint};
 ghost use Rattle.asn1_schema_constructed.specs.Constructed.{sequence_form};
 ghost use Rattle.asn1_schema_presented.specs.Tables.{sequence_type};
 ghost use Rattle.asn1_schema_presented.proofs.Values.{type_sequence, value_sequence};

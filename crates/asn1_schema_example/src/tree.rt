@@ -1,7 +1,7 @@
 //! Tree ::= SEQUENCE {value INTEGER, branches SEQUENCE OF Tree}, a type that leads back to itself through a list.
 ghost use Rattle.std.specs.Prelude.{◌≡◌, [], ◌∷◌, refl, OnOk, OnErr, IfOk, IfErr};
 ghost use Rattle.asn1_model.specs.Value.{end, members};
-ghost use Rattle.asn1_schema_constraints.specs.Sets.{no_constraint};
+ghost use Rattle.asn1_schema_constraints.specs.Terms.{no_constraint};
 ghost use Rattle.asn1_schema_constructed.specs.Constructed.{sequence_form};
 ghost use Rattle.asn1_schema_decode.specs.Reads.{Reads, Unread};
 ghost use Rattle.asn1_schema_presented.specs.Parts.{values_of};

@@ -2,8 +2,9 @@
 ghost use Rattle.std.specs.Prelude.{◌∷◌, [], refl, pos, negsuc, false};
 ghost use Rattle.asn1_model.specs.Schema.{enumerated};
 ghost use Rattle.asn1_model.specs.Value.{item};
-ghost use Rattle.asn1_schema_constraints.specs.Sets.{no_constraint};
+ghost use Rattle.asn1_schema_constraints.specs.Terms.{no_constraint};
 ghost use Rattle.asn1_schema_constructed.proofs.Types.{type_enumerated, value_enumerated};
+ghost use Rattle.asn1_schema_variants.proofs.Distinct.{one_number_of};
 
 use asn1_schema_constraints::Constraints;
 use asn1_schema_constructed::{DecodeItems, EncodeItems, EnumeratedType};
@@ -91,6 +92,8 @@ impl Enumerated for Answer {
     }
 
     ghost distinct = { refl };
+
+    ghost one_number = { one_number_of _ (No ∷ Yes ∷ []) (elim [ Yes ↦ (1, refl) | No ↦ (0, refl) ]) refl };
 
     ghost listed = { elim [ Yes ↦ (false, 1, refl) | No ↦ (false, 0, refl) ] };
 }

@@ -2,9 +2,10 @@
 ghost use Rattle.std.specs.Prelude.{◌∷◌, [], refl, pos, true, false, codes};
 ghost use Rattle.asn1_model.specs.Schema.{enumerated};
 ghost use Rattle.asn1_model.specs.Value.{item};
-ghost use Rattle.asn1_schema_constraints.specs.Sets.{no_constraint};
+ghost use Rattle.asn1_schema_constraints.specs.Terms.{no_constraint};
 ghost use Rattle.asn1_schema_constructed.proofs.Types.{type_enumerated, value_enumerated};
-ghost use Rattle.asn1_schema_constructed.proofs.Distinct.{one_number_of, one_name_of};
+ghost use Rattle.asn1_schema_constructed.proofs.Distinct.{one_name_of};
+ghost use Rattle.asn1_schema_variants.proofs.Distinct.{one_number_of};
 
 use asn1_schema_constraints::Constraints;
 use asn1_schema_constructed::{DecodeItems, EncodeItems, EnumeratedType, NamedItems};
@@ -95,6 +96,8 @@ impl Enumerated for Colour {
 
     ghost distinct = { refl };
 
+    ghost one_number = { one_number_of _ (Red ∷ Green ∷ Blue ∷ []) (elim [ Red ↦ (0, refl) | Green ↦ (1, refl) | Blue ↦ (2, refl) ]) refl };
+
     ghost listed = { elim [ Red ↦ (false, 0, refl) | Green ↦ (false, 1, refl) | Blue ↦ (true, 0, (refl, refl, refl)) ] };
 }
 
@@ -118,8 +121,6 @@ impl NamedItems for Colour {
             Colour::Blue => "blue",
         }
     }
-
-    ghost one_number = { one_number_of _ (Red ∷ Green ∷ Blue ∷ []) (elim [ Red ↦ (0, refl) | Green ↦ (1, refl) | Blue ↦ (2, refl) ]) refl };
 
     ghost one_name = { one_name_of _ (Red ∷ Green ∷ Blue ∷ []) (elim [ Red ↦ (0, refl) | Green ↦ (1, refl) | Blue ↦ (2, refl) ]) refl };
 }

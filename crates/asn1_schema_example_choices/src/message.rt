@@ -1,7 +1,7 @@
 //! CHOICE {flag [0] BOOLEAN, count [1] INTEGER, ..., name [2] UTF8String}.
 ghost use Rattle.std.specs.Prelude.{◌∷◌, [], refl, true, false};
 ghost use Rattle.asn1_model.specs.Types.{context};
-ghost use Rattle.asn1_schema_constraints.specs.Sets.{no_constraint};
+ghost use Rattle.asn1_schema_constraints.specs.Terms.{no_constraint};
 ghost use Rattle.asn1_schema_constructed.specs.Tables.{variant, no_variant, choice_type};
 ghost use Rattle.asn1_schema_constructed.specs.Chosen.{chosen_value};
 ghost use Rattle.asn1_schema_constructed.proofs.Types.{type_choice, more_variants, no_variants, value_choice};
@@ -98,6 +98,8 @@ impl Alternatives for Message {
     fn extended_variants() -> Option<&'static [Tag]> {
         Some(&[NAME])
     }
+
+    ghost tagged = { refl };
 
     ghost is_of = { λ _ _. refl };
 }

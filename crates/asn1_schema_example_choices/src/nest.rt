@@ -1,7 +1,7 @@
 //! Nest ::= CHOICE {leaf [0] NULL, more [1] Nest}, a type that leads back to itself.
 ghost use Rattle.std.specs.Prelude.{[], ◌∷◌, refl};
 ghost use Rattle.asn1_model.specs.Types.{context};
-ghost use Rattle.asn1_schema_constraints.specs.Sets.{no_constraint};
+ghost use Rattle.asn1_schema_constraints.specs.Terms.{no_constraint};
 
 use asn1_schema_constraints::Constraints;
 use asn1_schema_constructed::{Alternatives, Choice, DecodeAlternatives, EncodeChoice};
@@ -83,6 +83,8 @@ impl Alternatives for Nest {
     fn extended_variants() -> Option<&'static [Tag]> {
         None
     }
+
+    ghost tagged = { refl };
 
     ghost is_of = { λ _. nest_is };
 }

@@ -1,7 +1,7 @@
 -- Chains over joined lists.
 use Rattle.std.proofs.Common.{◌≡◌, List, [], ◌∷◌, ◌++◌, refl, subst, sym, ◌∙◌}
 use Rattle.asn1_schema_presented.specs.Records.{Record}
-use Rattle.asn1_schema_presented.specs.Chains.{Chain, OneAfter}
+use Rattle.asn1_schema_presented.specs.Chains.{Chain, OneAfter, GoesOn}
 
 pub chain_append : {S : Type 0} (step : S → Record → S → Type 0) (xs ys : List Record) (a b c : S) → Chain step xs a b → Chain step ys b c → Chain step (xs ++ ys) a c
 chain_append step [] ys a b c p q = let P : _ → Type 0 = λ s. Chain step ys s c in subst P p q
@@ -24,3 +24,8 @@ chain_rest step one xs ys a b c p q =
     let t = chain_split step xs ys a c q in
     let P : _ → Type 0 = λ s. Chain step ys s c in
     subst P (chain_one step one xs a t.0 b t.1 p) t.2
+
+-- where none has failed that stands after a record, what has failed behind records had failed in front of them
+pub failed_before : {S : Type 0} {step : S → Record → S → Type 0} {has_failed : S → Type 0} → GoesOn step has_failed → (rs : List Record) (a b : S) → Chain step rs a b → has_failed b → has_failed a
+failed_before {has_failed} law [] a b p f = subst has_failed p f
+failed_before law (r ∷ rs) a b p f = absurd (law a r p.0 p.1 (failed_before law rs p.0 b p.2 f))

@@ -11,3 +11,6 @@ puts_none a r b h p = let e : true ≡ false = sym h ∙ p.0 in cc
 
 pub puts_same : (a : Written) (r : Record) (b : Written) → Puts a r b → b.rules ≡ a.rules
 puts_same a r b p = ap (λ (w : Written). w.rules) p.1
+
+pub puts_on : (a : Written) (r : Record) (b : Written) → Puts a r b → b.failed ≡ true → ⊥
+puts_on a r b p f = let e : true ≡ false = sym f ∙ ap (λ (w : Written). w.failed) p.1 in cc

@@ -65,6 +65,7 @@ impl RecordEncoder {
         ensures failed { OnErr result (self.new.failed ≡ true) }
         ensures unchanged { OnErr result ((self.new.records ≡ self.old.records) × (self.new.rules ≡ self.old.rules)) }
         ensures already { self.old.failed ≡ true → result ≡ Err EncodeError.AlreadyFailed }
+        ensures after { result ≡ Err EncodeError.AlreadyFailed → self.old.failed ≡ true }
     {
         if self.failed {
             return Err(EncodeError::AlreadyFailed);
@@ -80,6 +81,7 @@ impl RecordEncoder {
         ensures failed { OnErr result (self.new.failed ≡ true) }
         ensures unchanged { OnErr result ((self.new.records ≡ self.old.records) × (self.new.rules ≡ self.old.rules)) }
         ensures already { self.old.failed ≡ true → result ≡ Err EncodeError.AlreadyFailed }
+        ensures after { result ≡ Err EncodeError.AlreadyFailed → self.old.failed ≡ true }
     {
         if self.failed {
             return Err(EncodeError::AlreadyFailed);
@@ -92,7 +94,7 @@ impl RecordEncoder {
 }
 
 impl Encoder for RecordEncoder {
-    ghost use Rattle.asn1_schema_records.specs.Laws.{puts_one, puts_none, puts_same};
+    ghost use Rattle.asn1_schema_records.specs.Laws.{puts_one, puts_none, puts_on, puts_same};
 
     ghost step = { Puts };
 
@@ -140,6 +142,7 @@ impl Encoder for RecordEncoder {
         ensures only { IfErr result (Refused Puts (one_of T.roots T.extensible T.additions (T.number value.now)) self.old) }
         ensures failed { OnErr result (self.new.failed ≡ true) }
         ensures already { self.old.failed ≡ true → result ≡ Err EncodeError.AlreadyFailed }
+        ensures after { result ≡ Err EncodeError.AlreadyFailed → self.old.failed ≡ true }
     {
         self.put(Item::OneOf(is_extensible::<T>(), value.discriminant()))
     }
@@ -290,6 +293,8 @@ impl Encoder for RecordEncoder {
     ghost one_after = { puts_one };
 
     ghost none_after = { puts_none };
+
+    ghost goes_on = { puts_on };
 
     ghost same_rules = { puts_same };
 }

@@ -1,5 +1,6 @@
 //! ENUMERATED {red(0), blue(2), ..., green(1)}, which no type of the program stands under.
 ghost use Rattle.std.specs.Prelude.{◌∷◌, [], refl, pos, true, false};
+ghost use Rattle.asn1_schema_variants.proofs.Distinct.{one_number_of};
 
 use asn1_schema::Enumerated;
 
@@ -48,6 +49,8 @@ impl Enumerated for Colour {
     }
 
     ghost distinct = { refl };
+
+    ghost one_number = { one_number_of _ (Red ∷ Blue ∷ Green ∷ []) (elim [ Red ↦ (0, refl) | Blue ↦ (1, refl) | Green ↦ (2, refl) ]) refl };
 
     ghost listed = { elim [ Red ↦ (false, 0, refl) | Blue ↦ (false, 1, refl) | Green ↦ (true, 0, (refl, refl, refl)) ] };
 }

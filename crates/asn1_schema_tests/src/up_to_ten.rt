@@ -1,6 +1,6 @@
 //! INTEGER (0..10), held in a `u8`.
-ghost use Rattle.std.specs.Prelude.{refl, Some, None, false, pos};
-ghost use Rattle.asn1_schema_constraints.specs.declared.bounds.Bounded.{Bounded};
+ghost use Rattle.std.specs.Prelude.{refl, pos};
+ghost use Rattle.asn1_schema_constraints.specs.Terms.{from_to};
 ghost use Rattle.asn1_schema_presented.proofs.TypesByKind.{integer_type};
 
 use asn1_schema_constraints::{Bounded, Constraints, Extensible, Value};
@@ -12,7 +12,7 @@ use asn1_schema_wrapped::ConstraintsOf;
 pub struct UpToTen;
 
 impl ConstraintsOf<u8> for UpToTen {
-    ghost terms = { record { value = Some (record { constraint = record { value = Bounded.Range (Some (pos 0)) (Some (pos 10)) }; extensible = None }); size = None; permitted_alphabet = None; is_marked = false } };
+    ghost terms = { from_to (pos 0) (pos 10) };
 
     ghost under = { ⟦<u8 as Described>⟧.under };
 

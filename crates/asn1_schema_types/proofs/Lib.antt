@@ -1,2 +1,3 @@
 pub mod ListDefaults
+pub mod Ranges
 pub mod SequenceDefaults

@@ -1,10 +1,9 @@
 -- How many members a list of the program holds.
-use Rattle.std.proofs.Common.{◌≡◌, ℕ, ◌≤◌, ◌-◌, ◌^◌, true, false, Some, None, refl, arith}
+use Rattle.std.proofs.Common.{◌≡◌, ℕ, ◌≤◌, ◌-◌, ◌^◌, true, false, Some, refl, arith}
 use Rattle.std.proofs.lemmas.Bool.{le-leb}
 use Rattle.asn1_model.specs.Schema.{Counts}
 use Rattle.asn1_model.specs.Lawful.{is_size}
-use Rattle.asn1_schema_constraints.specs.declared.bounds.Bounded.{Bounded}
-use Rattle.asn1_schema_constraints.specs.declared.lists.Constraints.{Constraints}
+use Rattle.asn1_schema_constraints.specs.Terms.{Meant, sized}
 
 -- any number of them that 64 bits count
 abbrev pub any_number : Counts
@@ -15,8 +14,8 @@ abbrev pub exactly : ℕ → Counts
 exactly n = record { low = n; high = Some n }
 
 -- SIZE (n) (X.680 51.5).
-abbrev pub fixed_to : ℕ → Constraints
-fixed_to n = record { value = None; size = Some (record { constraint = record { range = Bounded.Single n }; extensible = None }); permitted_alphabet = None; is_marked = false }
+abbrev pub fixed_to : ℕ → Meant
+fixed_to n = sized n (Some n) false
 
 -- one number is a size of a lawful type
 pub exactly_is_size : (n : ℕ) → is_size (record { counts = exactly n; extensible = false }) (exactly n) ≡ true

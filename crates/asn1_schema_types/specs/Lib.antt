@@ -1,3 +1,4 @@
 pub mod Constrained
 pub mod Counts
 pub mod Lists
+pub mod Told

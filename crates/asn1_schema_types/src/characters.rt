@@ -1,8 +1,7 @@
 //! The restricted character strings whose characters are octets (X.680 41).
 ghost use Rattle.std.specs.Prelude.{refl, [], ◌∷◌, None};
 ghost use Rattle.asn1_model.specs.Value.{text};
-ghost use Rattle.asn1_schema_constraints.specs.Sets.{no_constraint};
-ghost use Rattle.asn1_schema_constraints.specs.Terms.{character_string_under};
+ghost use Rattle.asn1_schema_constraints.specs.Terms.{no_constraint, character_string_under};
 ghost use Rattle.asn1_schema_presented.proofs.TypesByKind.{character_string_type, character_string_value};
 
 use crate::TaggedKind;

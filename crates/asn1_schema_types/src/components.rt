@@ -6,7 +6,8 @@ ghost use Rattle.asn1_schema_presented.specs.Presents.{there, with_part};
 ghost use Rattle.asn1_schema_presented.specs.Tables.{Table, no_table, with_field};
 ghost use Rattle.asn1_schema_presented.specs.Parts.{part_of, part_unless};
 ghost use Rattle.asn1_schema_presented.specs.Typed.{AreDefaults, AreTypes, AreValues};
-ghost use Rattle.asn1_schema_presented.proofs.Values.{no_types, more_types, no_values, more_values, part_required, part_optional, part_default};
+ghost use Rattle.asn1_schema_presented.proofs.Values.{no_types, more_types, no_values, more_values, part_required};
+ghost use Rattle.asn1_schema_presented.proofs.Values.{part_optional, part_default};
 ghost use Rattle.asn1_schema_presented.proofs.Defaults.{has_default};
 
 use crate::Described;

@@ -1,6 +1,8 @@
 //! INTEGER within a range of the type's own (X.680 19 and 51.4).
 ghost use Rattle.std.specs.Prelude.{◌≡◌, refl, [], ◌∷◌, negsuc};
-ghost use Rattle.asn1_schema_types.specs.Constrained.{to_root, root_between, within_range, constrained_type, constrained_is_type, constrained_is_value};
+ghost use Rattle.asn1_schema_constraints.specs.Terms.{meant, from_to};
+ghost use Rattle.asn1_schema_types.specs.Constrained.{to_root, root_between, met_root, within_range};
+ghost use Rattle.asn1_schema_types.specs.Constrained.{constrained_type, constrained_is_type, constrained_is_value};
 ghost use Rattle.asn1_model.specs.Value.{number};
 ghost use Rattle.asn1_values_integers.specs.Constrained.{constrained_number};
 
@@ -10,10 +12,9 @@ use asn1_schema_constraints::{Bounded, Constraints, Extensible, Value};
 use asn1_schema_tags::{Identifier, Tag, TagTree};
 use asn1_values_integers::{Ends, RangedInteger};
 
-/// Constraints, and then the range from `start` to `end`: what both admit. The mark of an earlier constraint is no mark of a
-/// later one (X.680 50.8), so there is none.
-pub fn within_range(constraints: Constraints, start: i64, end: i64) -> Constraints<'static>
-    ensures { result ≡ within_range start end constraints.entry }
+// The constraint to what the root of a value constraint, where there is one, and the range from `start` to `end` admit.
+fn limited(constraints: Constraints, start: i64, end: i64) -> Constraints<'static>
+    ensures { result ≡ to_root (met_root constraints.entry.value (root_between start end)) }
 {
     let range = Value::new(Bounded::const_new(start as i128, end as i128));
     let root = match constraints.value {
@@ -26,9 +27,18 @@ pub fn within_range(constraints: Constraints, start: i64, end: i64) -> Constrain
     }
 }
 
+/// Constraints, and then the range from `start` to `end`: what both admit. The mark of an earlier constraint is no mark
+/// of a later one (X.680 50.8), so there is none.
+#[tactic(auto, using(crate::proofs::Ranges::range_meant))]
+pub fn within_range(constraints: Constraints, start: i64, end: i64) -> Constraints<'static>
+    ensures { meant result ≡ within_range start end (meant constraints.entry) }
+{
+    limited(constraints, start, end)
+}
+
 /// The numbers from -1 to -1, of which an octet without a sign holds none.
 pub fn no_number() -> Constraints<'static>
-    ensures { result ≡ to_root (root_between (negsuc 0) (negsuc 0)) }
+    ensures { meant result ≡ from_to (negsuc 0) (negsuc 0) }
 {
     between(-1, -1)
 }
@@ -37,11 +47,11 @@ pub fn no_number() -> Constraints<'static>
 impl<R: Ends> Described for RangedInteger<R> {
     ghost tags = { record { class = 0; number = 2 } ∷ [] };
 
-    ghost own = { to_root (root_between R.START R.END) };
+    ghost own = { from_to R.START R.END };
 
     ghost under = { λ c _. constrained_type R.START R.END c };
 
-    ghost schema = { λ _. constrained_type R.START R.END (to_root (root_between R.START R.END)) };
+    ghost schema = { λ _. constrained_type R.START R.END (from_to R.START R.END) };
 
     ghost is_own = { λ _. refl };
 
@@ -49,7 +59,7 @@ impl<R: Ends> Described for RangedInteger<R> {
 
     ghost typed = { constrained_is_type R.START R.END refl };
 
-    ghost valued = { λ x. constrained_is_value R.START R.END (to_root (root_between R.START R.END)) _ };
+    ghost valued = { λ x. constrained_is_value R.START R.END (from_to R.START R.END) _ };
 
     ghost valued_under = { λ c x. constrained_is_value R.START R.END c _ };
 }

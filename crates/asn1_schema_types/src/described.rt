@@ -2,7 +2,7 @@
 ghost use Rattle.std.specs.Prelude.{◌≡◌, ℕ, List, true};
 ghost use Rattle.asn1_model.specs.Value.{Value};
 ghost use Rattle.asn1_model.specs.Schema.{Schema, Tag as ModelTag};
-ghost use Rattle.asn1_schema_constraints.specs.declared.lists.Constraints.{Constraints};
+ghost use Rattle.asn1_schema_constraints.specs.Terms.{Meant, meant};
 ghost use Rattle.asn1_schema_tags.specs.Trees.{leaves};
 ghost use Rattle.asn1_schema_presented.specs.Tables.{IsType, IsValue};
 
@@ -14,11 +14,11 @@ pub trait Described {
     /// The tags with which an encoding may begin.
     ghost tags: { List ModelTag };
 
-    /// The constraints that the type has of its own.
-    ghost own: { Constraints };
+    /// What the constraints mean that the type has of its own.
+    ghost own: { Meant };
 
     /// The type under constraints, unfolded to this many nested levels.
-    ghost under: { Constraints → ℕ → Schema };
+    ghost under: { Meant → ℕ → Schema };
 
     /// The type itself.
     ghost schema: { ℕ → Schema };
@@ -35,7 +35,7 @@ pub trait Described {
     /// Each value is one of the type, whatever constraints it has.
     ghost valued: { (x : Self) → IsValue schema (meaning x) };
 
-    ghost valued_under: { (c : Constraints) (x : Self) → IsValue (under c) (meaning x) };
+    ghost valued_under: { (c : Meant) (x : Self) → IsValue (under c) (meaning x) };
 
     fn described(&self) {}
 }
@@ -57,7 +57,7 @@ pub trait AsnType: Described {
 
     /// The constraints that it has of its own.
     fn constraints() -> Constraints<'static>
-        ensures { result ≡ Self.own };
+        ensures { meant result ≡ Self.own };
 
     /// Whether a value stands here. A value of a type always does: what may be absent is an `Option`, which is a component and no type.
     final fn is_present(&self) -> bool

@@ -2,9 +2,7 @@
 ghost use Rattle.std.specs.Prelude.{◌≡◌, refl, [], ◌∷◌, Some, None, false, pos, negsuc, ◌^◌, ◌-◌};
 ghost use Rattle.asn1_model.specs.Value.{number};
 ghost use Rattle.asn1_model.specs.Schema.{integer};
-ghost use Rattle.asn1_schema_constraints.specs.Sets.{no_constraint};
-ghost use Rattle.asn1_schema_constraints.specs.Terms.{integer_under, bounds_of, held_of};
-ghost use Rattle.asn1_schema_constraints.specs.declared.bounds.Bounded.{Bounded};
+ghost use Rattle.asn1_schema_constraints.specs.Terms.{no_constraint, meant, from_to, integer_under};
 ghost use Rattle.asn1_schema_presented.proofs.TypesByKind.{integer_type, integer_value};
 ghost use Rattle.asn1_values_natives.specs.Ranges.{natural_range, whole_range};
 
@@ -15,7 +13,7 @@ use asn1_values_integers::Integer;
 
 // The constraint to the numbers between two.
 pub(crate) fn between(low: i128, high: i128) -> Constraints<'static>
-    ensures { result ≡ record { value = Some (record { constraint = record { value = Bounded.Range (Some low) (Some high) }; extensible = None }); size = None; permitted_alphabet = None; is_marked = false } }
+    ensures { meant result ≡ from_to low high }
 {
     Constraints {
         value: Some(Extensible::new(Value::new(Bounded::const_new(low, high)))),
@@ -30,7 +28,7 @@ impl Described for Integer {
 
     ghost under = { λ c _. integer_under c (record { low = None; high = None }) };
 
-    ghost schema = { λ _. integer_under (no_constraint) (record { low = None; high = None }) };
+    ghost schema = { λ _. integer_under no_constraint (record { low = None; high = None }) };
 
     ghost is_own = { λ _. refl };
 
@@ -60,11 +58,11 @@ impl AsnType for Integer {
 impl Described for u8 {
     ghost tags = { record { class = 0; number = 2 } ∷ [] };
 
-    ghost own = { record { value = Some (record { constraint = record { value = Bounded.Range (Some (pos 0)) (Some (pos 255)) }; extensible = None }); size = None; permitted_alphabet = None; is_marked = false } };
+    ghost own = { from_to (pos 0) (pos 255) };
 
     ghost under = { λ c _. integer_under c (natural_range (2 ^ 8 - 1)) };
 
-    ghost schema = { λ _. integer_under (record { value = Some (record { constraint = record { value = Bounded.Range (Some (pos 0)) (Some (pos 255)) }; extensible = None }); size = None; permitted_alphabet = None; is_marked = false }) (natural_range (2 ^ 8 - 1)) };
+    ghost schema = { λ _. integer_under (from_to (pos 0) (pos 255)) (natural_range (2 ^ 8 - 1)) };
 
     ghost is_own = { λ _. refl };
 

@@ -3,11 +3,11 @@ ghost use Rattle.std.specs.Prelude.{◌≡◌, refl, [], ◌∷◌, None};
 ghost use Rattle.std.specs.Cow.{cow_value, cow_slice_items, cow_str_bytes};
 ghost use Rattle.asn1_model.specs.Value.{members, text};
 ghost use Rattle.asn1_model.specs.Schema.{utf8};
-ghost use Rattle.asn1_schema_constraints.specs.Sets.{no_constraint};
-ghost use Rattle.asn1_schema_constraints.specs.Terms.{sizes_of, character_string_under};
+ghost use Rattle.asn1_schema_constraints.specs.Terms.{no_constraint, meant, character_string_under};
 ghost use Rattle.asn1_schema_presented.specs.Parts.{values_of};
 ghost use Rattle.asn1_schema_presented.specs.Tables.{list_type};
-ghost use Rattle.asn1_schema_presented.proofs.TypesByKind.{type_list, value_list, character_string_type, character_string_value};
+ghost use Rattle.asn1_schema_presented.proofs.TypesByKind.{type_list, value_list, character_string_type};
+ghost use Rattle.asn1_schema_presented.proofs.TypesByKind.{character_string_value};
 ghost use Rattle.asn1_schema_tags.specs.Trees.{leaves};
 ghost use Rattle.asn1_schema_types.specs.Counts.{any_number};
 
@@ -85,7 +85,7 @@ impl AsnType for &str {
     }
 
     fn constraints() -> Constraints<'static>
-        ensures { result ≡ no_constraint }
+        ensures { meant result ≡ no_constraint }
     {
         Constraints::NONE
     }
@@ -132,9 +132,9 @@ impl<'a, T: Described> Described for CowSlice<'a, T, Global> {
 
     ghost own = { no_constraint };
 
-    ghost under = { λ c. list_type (sizes_of c.size) any_number T.schema };
+    ghost under = { λ c. list_type c.size any_number T.schema };
 
-    ghost schema = { list_type (sizes_of (no_constraint.size)) any_number T.schema };
+    ghost schema = { list_type no_constraint.size any_number T.schema };
 
     ghost is_own = { λ _. refl };
 
@@ -193,7 +193,7 @@ impl<'a> AsnType for CowStr<'a, Global> {
     }
 
     fn constraints() -> Constraints<'static>
-        ensures { result ≡ no_constraint }
+        ensures { meant result ≡ no_constraint }
     {
         Constraints::NONE
     }

@@ -1,8 +1,7 @@
 //! SEQUENCE OF (X.680 26).
 ghost use Rattle.std.specs.Prelude.{refl, [], ◌∷◌};
 ghost use Rattle.asn1_model.specs.Value.{members};
-ghost use Rattle.asn1_schema_constraints.specs.Sets.{no_constraint};
-ghost use Rattle.asn1_schema_constraints.specs.Terms.{sizes_of};
+ghost use Rattle.asn1_schema_constraints.specs.Terms.{no_constraint};
 ghost use Rattle.asn1_schema_presented.specs.Parts.{values_of};
 ghost use Rattle.asn1_schema_presented.specs.Tables.{list_type};
 ghost use Rattle.asn1_schema_presented.proofs.TypesByKind.{type_list, value_list};
@@ -17,9 +16,9 @@ impl<T: Described> Described for Vec<T> {
 
     ghost own = { no_constraint };
 
-    ghost under = { λ c. list_type (sizes_of c.size) any_number T.schema };
+    ghost under = { λ c. list_type c.size any_number T.schema };
 
-    ghost schema = { list_type (sizes_of (no_constraint.size)) any_number T.schema };
+    ghost schema = { list_type no_constraint.size any_number T.schema };
 
     ghost is_own = { λ _. refl };
 
@@ -51,9 +50,9 @@ impl<T: Described, const N: usize> Described for [T; N] {
 
     ghost own = { fixed_to N };
 
-    ghost under = { λ c. list_type (sizes_of c.size) (exactly N) T.schema };
+    ghost under = { λ c. list_type c.size (exactly N) T.schema };
 
-    ghost schema = { list_type (sizes_of ((fixed_to N).size)) (exactly N) T.schema };
+    ghost schema = { list_type ((fixed_to N).size) (exactly N) T.schema };
 
     ghost is_own = { λ _. refl };
 
@@ -90,9 +89,9 @@ impl<T: Described> Described for &[T] {
 
     ghost own = { no_constraint };
 
-    ghost under = { λ c. list_type (sizes_of c.size) any_number T.schema };
+    ghost under = { λ c. list_type c.size any_number T.schema };
 
-    ghost schema = { list_type (sizes_of (no_constraint.size)) any_number T.schema };
+    ghost schema = { list_type no_constraint.size any_number T.schema };
 
     ghost is_own = { λ _. refl };
 

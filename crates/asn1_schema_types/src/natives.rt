@@ -1,8 +1,7 @@
 //! INTEGER (X.680 19) in the native types, each with its own range.
 ghost use Rattle.std.specs.Prelude.{refl, [], ◌∷◌, Some, None, false, pos, negsuc, ◌^◌, ◌-◌};
 ghost use Rattle.asn1_model.specs.Value.{number};
-ghost use Rattle.asn1_schema_constraints.specs.Terms.{integer_under};
-ghost use Rattle.asn1_schema_constraints.specs.declared.bounds.Bounded.{Bounded};
+ghost use Rattle.asn1_schema_constraints.specs.Terms.{from_to, integer_under};
 ghost use Rattle.asn1_schema_presented.proofs.TypesByKind.{integer_type, integer_value};
 ghost use Rattle.asn1_values_natives.specs.Ranges.{natural_range, whole_range};
 
@@ -14,11 +13,11 @@ use asn1_schema_tags::{Identifier, Tag, TagTree};
 impl Described for i8 {
     ghost tags = { record { class = 0; number = 2 } ∷ [] };
 
-    ghost own = { record { value = Some (record { constraint = record { value = Bounded.Range (Some (negsuc 127)) (Some (pos 127)) }; extensible = None }); size = None; permitted_alphabet = None; is_marked = false } };
+    ghost own = { from_to (negsuc 127) (pos 127) };
 
     ghost under = { λ c _. integer_under c (whole_range (2 ^ 7 - 1)) };
 
-    ghost schema = { λ _. integer_under (record { value = Some (record { constraint = record { value = Bounded.Range (Some (negsuc 127)) (Some (pos 127)) }; extensible = None }); size = None; permitted_alphabet = None; is_marked = false }) (whole_range (2 ^ 7 - 1)) };
+    ghost schema = { λ _. integer_under (from_to (negsuc 127) (pos 127)) (whole_range (2 ^ 7 - 1)) };
 
     ghost is_own = { λ _. refl };
 
@@ -48,11 +47,11 @@ impl AsnType for i8 {
 impl Described for i16 {
     ghost tags = { record { class = 0; number = 2 } ∷ [] };
 
-    ghost own = { record { value = Some (record { constraint = record { value = Bounded.Range (Some (negsuc 32767)) (Some (pos 32767)) }; extensible = None }); size = None; permitted_alphabet = None; is_marked = false } };
+    ghost own = { from_to (negsuc 32767) (pos 32767) };
 
     ghost under = { λ c _. integer_under c (whole_range (2 ^ 15 - 1)) };
 
-    ghost schema = { λ _. integer_under (record { value = Some (record { constraint = record { value = Bounded.Range (Some (negsuc 32767)) (Some (pos 32767)) }; extensible = None }); size = None; permitted_alphabet = None; is_marked = false }) (whole_range (2 ^ 15 - 1)) };
+    ghost schema = { λ _. integer_under (from_to (negsuc 32767) (pos 32767)) (whole_range (2 ^ 15 - 1)) };
 
     ghost is_own = { λ _. refl };
 
@@ -82,11 +81,11 @@ impl AsnType for i16 {
 impl Described for i32 {
     ghost tags = { record { class = 0; number = 2 } ∷ [] };
 
-    ghost own = { record { value = Some (record { constraint = record { value = Bounded.Range (Some (negsuc 2147483647)) (Some (pos 2147483647)) }; extensible = None }); size = None; permitted_alphabet = None; is_marked = false } };
+    ghost own = { from_to (negsuc 2147483647) (pos 2147483647) };
 
     ghost under = { λ c _. integer_under c (whole_range (2 ^ 31 - 1)) };
 
-    ghost schema = { λ _. integer_under (record { value = Some (record { constraint = record { value = Bounded.Range (Some (negsuc 2147483647)) (Some (pos 2147483647)) }; extensible = None }); size = None; permitted_alphabet = None; is_marked = false }) (whole_range (2 ^ 31 - 1)) };
+    ghost schema = { λ _. integer_under (from_to (negsuc 2147483647) (pos 2147483647)) (whole_range (2 ^ 31 - 1)) };
 
     ghost is_own = { λ _. refl };
 
@@ -116,11 +115,12 @@ impl AsnType for i32 {
 impl Described for i64 {
     ghost tags = { record { class = 0; number = 2 } ∷ [] };
 
-    ghost own = { record { value = Some (record { constraint = record { value = Bounded.Range (Some (negsuc 9223372036854775807)) (Some (pos 9223372036854775807)) }; extensible = None }); size = None; permitted_alphabet = None; is_marked = false } };
+    ghost own = { from_to (negsuc 9223372036854775807) (pos 9223372036854775807) };
 
     ghost under = { λ c _. integer_under c (whole_range (2 ^ 63 - 1)) };
 
-    ghost schema = { λ _. integer_under (record { value = Some (record { constraint = record { value = Bounded.Range (Some (negsuc 9223372036854775807)) (Some (pos 9223372036854775807)) }; extensible = None }); size = None; permitted_alphabet = None; is_marked = false }) (whole_range (2 ^ 63 - 1)) };
+    ghost schema = { λ _. integer_under (from_to (negsuc 9223372036854775807) (pos 9223372036854775807))
+        (whole_range (2 ^ 63 - 1)) };
 
     ghost is_own = { λ _. refl };
 
@@ -150,11 +150,11 @@ impl AsnType for i64 {
 impl Described for u16 {
     ghost tags = { record { class = 0; number = 2 } ∷ [] };
 
-    ghost own = { record { value = Some (record { constraint = record { value = Bounded.Range (Some (pos 0)) (Some (pos 65535)) }; extensible = None }); size = None; permitted_alphabet = None; is_marked = false } };
+    ghost own = { from_to (pos 0) (pos 65535) };
 
     ghost under = { λ c _. integer_under c (natural_range (2 ^ 16 - 1)) };
 
-    ghost schema = { λ _. integer_under (record { value = Some (record { constraint = record { value = Bounded.Range (Some (pos 0)) (Some (pos 65535)) }; extensible = None }); size = None; permitted_alphabet = None; is_marked = false }) (natural_range (2 ^ 16 - 1)) };
+    ghost schema = { λ _. integer_under (from_to (pos 0) (pos 65535)) (natural_range (2 ^ 16 - 1)) };
 
     ghost is_own = { λ _. refl };
 
@@ -184,11 +184,11 @@ impl AsnType for u16 {
 impl Described for u32 {
     ghost tags = { record { class = 0; number = 2 } ∷ [] };
 
-    ghost own = { record { value = Some (record { constraint = record { value = Bounded.Range (Some (pos 0)) (Some (pos 4294967295)) }; extensible = None }); size = None; permitted_alphabet = None; is_marked = false } };
+    ghost own = { from_to (pos 0) (pos 4294967295) };
 
     ghost under = { λ c _. integer_under c (natural_range (2 ^ 32 - 1)) };
 
-    ghost schema = { λ _. integer_under (record { value = Some (record { constraint = record { value = Bounded.Range (Some (pos 0)) (Some (pos 4294967295)) }; extensible = None }); size = None; permitted_alphabet = None; is_marked = false }) (natural_range (2 ^ 32 - 1)) };
+    ghost schema = { λ _. integer_under (from_to (pos 0) (pos 4294967295)) (natural_range (2 ^ 32 - 1)) };
 
     ghost is_own = { λ _. refl };
 
@@ -218,11 +218,11 @@ impl AsnType for u32 {
 impl Described for u64 {
     ghost tags = { record { class = 0; number = 2 } ∷ [] };
 
-    ghost own = { record { value = Some (record { constraint = record { value = Bounded.Range (Some (pos 0)) (Some (pos 18446744073709551615)) }; extensible = None }); size = None; permitted_alphabet = None; is_marked = false } };
+    ghost own = { from_to (pos 0) (pos 18446744073709551615) };
 
     ghost under = { λ c _. integer_under c (natural_range (2 ^ 64 - 1)) };
 
-    ghost schema = { λ _. integer_under (record { value = Some (record { constraint = record { value = Bounded.Range (Some (pos 0)) (Some (pos 18446744073709551615)) }; extensible = None }); size = None; permitted_alphabet = None; is_marked = false }) (natural_range (2 ^ 64 - 1)) };
+    ghost schema = { λ _. integer_under (from_to (pos 0) (pos 18446744073709551615)) (natural_range (2 ^ 64 - 1)) };
 
     ghost is_own = { λ _. refl };
 

@@ -2,8 +2,7 @@
 //! number and no greatest one: bounds have 128 bits and a sign.
 ghost use Rattle.std.specs.Prelude.{refl, [], ◌∷◌, Some, None, false, pos, negsuc, ◌^◌, ◌-◌};
 ghost use Rattle.asn1_model.specs.Value.{number};
-ghost use Rattle.asn1_schema_constraints.specs.Terms.{integer_under};
-ghost use Rattle.asn1_schema_constraints.specs.declared.bounds.Bounded.{Bounded};
+ghost use Rattle.asn1_schema_constraints.specs.Terms.{from_to, bounded_by, integer_under};
 ghost use Rattle.asn1_schema_presented.proofs.TypesByKind.{integer_type, integer_value};
 ghost use Rattle.asn1_values_natives.specs.Ranges.{natural_range, whole_range};
 
@@ -15,11 +14,14 @@ use asn1_schema_tags::{Identifier, Tag, TagTree};
 impl Described for i128 {
     ghost tags = { record { class = 0; number = 2 } ∷ [] };
 
-    ghost own = { record { value = Some (record { constraint = record { value = Bounded.Range (Some (negsuc 170141183460469231731687303715884105727)) (Some (pos 170141183460469231731687303715884105727)) }; extensible = None }); size = None; permitted_alphabet = None; is_marked = false } };
+    ghost own = { from_to (negsuc 170141183460469231731687303715884105727)
+        (pos 170141183460469231731687303715884105727) };
 
     ghost under = { λ c _. integer_under c (whole_range (2 ^ 127 - 1)) };
 
-    ghost schema = { λ _. integer_under (record { value = Some (record { constraint = record { value = Bounded.Range (Some (negsuc 170141183460469231731687303715884105727)) (Some (pos 170141183460469231731687303715884105727)) }; extensible = None }); size = None; permitted_alphabet = None; is_marked = false }) (whole_range (2 ^ 127 - 1)) };
+    ghost schema = { λ _. integer_under
+        (from_to (negsuc 170141183460469231731687303715884105727) (pos 170141183460469231731687303715884105727))
+        (whole_range (2 ^ 127 - 1)) };
 
     ghost is_own = { λ _. refl };
 
@@ -49,11 +51,11 @@ impl AsnType for i128 {
 impl Described for u128 {
     ghost tags = { record { class = 0; number = 2 } ∷ [] };
 
-    ghost own = { record { value = Some (record { constraint = record { value = Bounded.Range (Some (pos 0)) None }; extensible = None }); size = None; permitted_alphabet = None; is_marked = false } };
+    ghost own = { bounded_by (Some (pos 0)) None false };
 
     ghost under = { λ c _. integer_under c (natural_range (2 ^ 128 - 1)) };
 
-    ghost schema = { λ _. integer_under (record { value = Some (record { constraint = record { value = Bounded.Range (Some (pos 0)) None }; extensible = None }); size = None; permitted_alphabet = None; is_marked = false }) (natural_range (2 ^ 128 - 1)) };
+    ghost schema = { λ _. integer_under (bounded_by (Some (pos 0)) None false) (natural_range (2 ^ 128 - 1)) };
 
     ghost is_own = { λ _. refl };
 
@@ -86,11 +88,12 @@ impl AsnType for u128 {
 impl Described for isize {
     ghost tags = { record { class = 0; number = 2 } ∷ [] };
 
-    ghost own = { record { value = Some (record { constraint = record { value = Bounded.Range (Some (negsuc 9223372036854775807)) (Some (pos 9223372036854775807)) }; extensible = None }); size = None; permitted_alphabet = None; is_marked = false } };
+    ghost own = { from_to (negsuc 9223372036854775807) (pos 9223372036854775807) };
 
     ghost under = { λ c _. integer_under c (whole_range (2 ^ 63 - 1)) };
 
-    ghost schema = { λ _. integer_under (record { value = Some (record { constraint = record { value = Bounded.Range (Some (negsuc 9223372036854775807)) (Some (pos 9223372036854775807)) }; extensible = None }); size = None; permitted_alphabet = None; is_marked = false }) (whole_range (2 ^ 63 - 1)) };
+    ghost schema = { λ _. integer_under (from_to (negsuc 9223372036854775807) (pos 9223372036854775807))
+        (whole_range (2 ^ 63 - 1)) };
 
     ghost is_own = { λ _. refl };
 
@@ -120,11 +123,11 @@ impl AsnType for isize {
 impl Described for usize {
     ghost tags = { record { class = 0; number = 2 } ∷ [] };
 
-    ghost own = { record { value = Some (record { constraint = record { value = Bounded.Range (Some (pos 0)) (Some (pos 18446744073709551615)) }; extensible = None }); size = None; permitted_alphabet = None; is_marked = false } };
+    ghost own = { from_to (pos 0) (pos 18446744073709551615) };
 
     ghost under = { λ c _. integer_under c (natural_range (2 ^ 64 - 1)) };
 
-    ghost schema = { λ _. integer_under (record { value = Some (record { constraint = record { value = Bounded.Range (Some (pos 0)) (Some (pos 18446744073709551615)) }; extensible = None }); size = None; permitted_alphabet = None; is_marked = false }) (natural_range (2 ^ 64 - 1)) };
+    ghost schema = { λ _. integer_under (from_to (pos 0) (pos 18446744073709551615)) (natural_range (2 ^ 64 - 1)) };
 
     ghost is_own = { λ _. refl };
 

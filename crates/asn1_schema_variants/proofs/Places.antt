@@ -125,6 +125,11 @@ module _ {A : Type 0} (f : A → ℤ) (xs : List A) where
   in_others roots e others i None h d k = λ t. past others i h.1 k
   in_others roots e others i (Some x) h d k = (not_before (f x) roots others i d (there others i x h.1 k), h.0, place_at (f x) others i (distinct_behind roots others d) (there others i x h.1 k))
 
+-- where no two have one number, what is found by the number of one is that one
+pub number_again : {A : Type 0} (f : A → ℤ) → ((x y : A) → f x ≡ f y → x ≡ y) → (v : ℤ) (o : Option A) → MatchOption o ⊥ (λ y. f y ≡ v) → (x : A) → f x ≡ v → o ≡ Some x
+number_again f one v None k x h = absurd k
+number_again f one v (Some y) k x h = ap (λ (z : _). Some z) (one y x (k ∙ sym h))
+
 -- ---- a search by steps
 module _ {A : Type 0} (f : A → ℤ) (v : ℤ) (xs : List A) where
   none_raised : (o : Option ℕ) → option_map (λ k. 0 + k) o ≡ o

@@ -1,5 +1,6 @@
 //! Enumerations.
-ghost use Rattle.std.specs.Prelude.{◌≡◌, ℕ, ℤ, Bool, true, false, cond, List, ◌++◌, length, map, min, ◌+◌, ◌≤◌, MatchOption};
+ghost use Rattle.std.specs.Prelude.{◌≡◌, ℕ, ℤ, Bool, true, false, cond, List};
+ghost use Rattle.std.specs.Prelude.{◌++◌, length, map, min, ◌+◌, ◌≤◌, Some, MatchOption};
 ghost use Rattle.asn1_model.specs.Lawful.{are_distinct};
 ghost use Rattle.asn1_model.specs.Tables.{item_place};
 ghost use Rattle.asn1_model.specs.Value.{same_number};
@@ -39,6 +40,9 @@ pub trait Enumerated: Copy {
 
     /// No number occurs twice (X.680 20.6).
     ghost distinct: { are_distinct same_number (roots ++ additions) ≡ true };
+
+    /// No two items have one number.
+    ghost one_number: { (x y : Self) → number x ≡ number y → x ≡ y };
 
     /// Each value is an item of the type.
     ghost listed: { (x : Self) → (added : Bool) × (i : ℕ) × IsPlaced roots extensible additions (number x) added i };
@@ -128,11 +132,12 @@ pub trait Enumerated: Copy {
         Self::extended_variants()?.get(index).copied()
     }
 
-    /// The item of a number, if there is one.
+    /// The item of a number, if there is one. So an item's number gives that item back.
     final fn from_discriminant(wanted: isize) -> Option<Self>
     where
         Self: Sized,
-        ensures { MatchOption result (IsNone roots extensible additions wanted) (λ x. number x ≡ wanted) }
+        ensures found { MatchOption result (IsNone roots extensible additions wanted) (λ x. number x ≡ wanted) }
+        ensures back { (x : Self) → number x ≡ wanted → result ≡ Some x }
     {
         if let Some(place) = place_of(Self::variants(), wanted) {
             return Self::variants().get(place).copied();

@@ -3,8 +3,7 @@ ghost use Rattle.std.specs.Prelude.{◌≡◌, nat_eq, refl, [], ◌∷◌, None
 ghost use Rattle.std.specs.Cmp.Lexicographic.{pointwise, nat_list_eq_equiv};
 ghost use Rattle.std.specs.Cmp.{partial_equiv_from_equiv};
 ghost use Rattle.asn1_model.specs.Value.{octet_list};
-ghost use Rattle.asn1_schema_constraints.specs.Sets.{no_constraint};
-ghost use Rattle.asn1_schema_constraints.specs.Terms.{octet_string_under};
+ghost use Rattle.asn1_schema_constraints.specs.Terms.{no_constraint, octet_string_under};
 ghost use Rattle.asn1_schema_presented.proofs.Same.{octets_agree};
 ghost use Rattle.asn1_schema_presented.proofs.TypesByKind.{octet_string_type, octet_string_value};
 

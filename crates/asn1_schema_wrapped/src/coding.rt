@@ -1,8 +1,7 @@
 //! SET OF (X.680 28) as a type, and how it is written and read.
 ghost use Rattle.std.specs.Prelude.{refl, [], ◌∷◌};
 ghost use Rattle.asn1_model.specs.Value.{bag};
-ghost use Rattle.asn1_schema_constraints.specs.Sets.{no_constraint};
-ghost use Rattle.asn1_schema_constraints.specs.Terms.{sizes_of};
+ghost use Rattle.asn1_schema_constraints.specs.Terms.{no_constraint};
 ghost use Rattle.asn1_schema_presented.specs.Parts.{values_of};
 ghost use Rattle.asn1_schema_constructed.specs.Bags.{bag_type};
 ghost use Rattle.asn1_schema_constructed.proofs.Bags.{type_bag, value_bag};
@@ -23,9 +22,9 @@ impl<T: Described> Described for SetOf<T> {
 
     ghost own = { no_constraint };
 
-    ghost under = { λ c. bag_type (sizes_of c.size) any_number T.schema };
+    ghost under = { λ c. bag_type c.size any_number T.schema };
 
-    ghost schema = { bag_type (sizes_of (no_constraint.size)) any_number T.schema };
+    ghost schema = { bag_type no_constraint.size any_number T.schema };
 
     ghost is_own = { λ _. refl };
 

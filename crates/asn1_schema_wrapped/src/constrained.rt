@@ -3,7 +3,7 @@ ghost use Rattle.std.specs.Prelude.{◌≡◌, ℕ, List, true, refl};
 ghost use Rattle.std.specs.Borrow.{Lends, sem};
 ghost use Rattle.std.proofs.Common.{ap, ◌∙◌};
 ghost use Rattle.std.proofs.Math.Bool.{and-true};
-ghost use Rattle.asn1_schema_constraints.specs.declared.lists.Constraints.{Constraints as Terms};
+ghost use Rattle.asn1_schema_constraints.specs.Terms.{Meant, meant};
 ghost use Rattle.asn1_model.specs.Schema.{Schema, Tag as ModelTag};
 ghost use Rattle.asn1_model.specs.Value.{Value, same};
 ghost use Rattle.asn1_schema_presented.specs.Tables.{are_tags, IsType, IsValue};
@@ -21,11 +21,11 @@ use std::ops::{Deref, DerefMut};
 /// Constraints that stand in place of those that the type `T` has of its own. What `T` is under constraints is said here once more, as
 /// it stands in its `Described`.
 pub trait ConstraintsOf<T: Described> {
-    /// The constraints.
-    ghost terms: { Terms };
+    /// What the constraints mean.
+    ghost terms: { Meant };
 
     /// The type under constraints, unfolded to this many nested levels.
-    ghost under: { Terms → ℕ → Schema };
+    ghost under: { Meant → ℕ → Schema };
 
     /// The value that a value of the program means.
     ghost meaning: { T → Value };
@@ -34,14 +34,14 @@ pub trait ConstraintsOf<T: Described> {
     ghost lawful: { (ts : List ModelTag) → are_tags ts ≡ true → IsType ts (under terms) };
 
     /// Each value is one of the type, whatever constraints it has.
-    ghost valued: { (c : Terms) (x : T) → IsValue (under c) (meaning x) };
+    ghost valued: { (c : Meant) (x : T) → IsValue (under c) (meaning x) };
 
     /// The constraints.
     fn constraints() -> Constraints<'static>
-        ensures { result ≡ terms };
+        ensures { meant result ≡ terms };
 
     /// This is what the type is.
-    ghost same_under: { (c : Terms) → T.under c ≡ under c };
+    ghost same_under: { (c : Meant) → T.under c ≡ under c };
 
     ghost same_meaning: { (x : T) → T.meaning x ≡ meaning x };
 }
@@ -121,7 +121,8 @@ impl<C: ConstraintsOf<V>, V: Described> Described for Constrained<C, V> {
 
 /// Values under constraints are equal exactly if what they mean is.
 impl<C: ConstraintsOf<V>, V: EqualByMeaning> EqualByMeaning for Constrained<C, V> {
-    ghost agrees = { λ x y. and-true _ ∙ V.agrees x.value y.value ∙ ap (λ m. same m (V.Described.meaning y.value)) (C.same_meaning x.value) ∙ ap (λ m. same (C.meaning x.value) m) (C.same_meaning y.value) };
+    ghost agrees = { λ x y. and-true _ ∙ V.agrees x.value y.value ∙ ap (λ m. same m (V.Described.meaning y.value))
+        (C.same_meaning x.value) ∙ ap (λ m. same (C.meaning x.value) m) (C.same_meaning y.value) };
 }
 
 impl<C: ConstraintsOf<V>, V: AsnType> AsnType for Constrained<C, V> {

@@ -2,9 +2,9 @@
 ghost use Rattle.std.specs.Prelude.{◌≡◌, OnOk, OnErr, IfErr};
 ghost use Rattle.asn1_model.specs.Schema.{visible, ia5, printable, numeric, general, graphic, teletex, bmp};
 ghost use Rattle.asn1_model.specs.Types.{any_count, any_size};
-ghost use Rattle.asn1_schema_constraints.specs.Terms.{sizes_of, alphabet_of};
 ghost use Rattle.asn1_schema_encode.specs.Writes.{Refused, Writes, CannotWrite};
-ghost use Rattle.asn1_schema_presented.specs.Records.{octets, characters};
+ghost use Rattle.asn1_schema_presented.specs.Records.{octets};
+ghost use Rattle.asn1_schema_types.specs.Told.{characters_under};
 
 use crate::Any;
 use asn1_schema_constraints::{Bounded, Constraints};
@@ -31,6 +31,7 @@ pub trait EncodeNamed: Encoder {
         ensures only { IfErr result (Refused Self.step (octets any_size any_count value.now) self.old) }
         ensures failed { OnErr result (Self.has_failed self.new) }
         ensures already { Self.has_failed self.old → result ≡ Err EncodeError.AlreadyFailed }
+        ensures after { result ≡ Err EncodeError.AlreadyFailed → Self.has_failed self.old }
     {
         self.encode_octet_string(
             tag,
@@ -55,6 +56,7 @@ pub trait EncodeNamed: Encoder {
         ensures only { IfErr result (CannotWrite Self.step T.schema (T.meaning value.now) self.old) }
         ensures failed { OnErr result (Self.has_failed self.new) }
         ensures already { Self.has_failed self.old → result ≡ Err EncodeError.AlreadyFailed }
+        ensures after { result ≡ Err EncodeError.AlreadyFailed → Self.has_failed self.old }
     {
         value.encode(self)
     }
@@ -69,10 +71,12 @@ pub trait EncodeNamed: Encoder {
     ) -> Result<(), EncodeError>
     where
         Self: Sized,
-        ensures ok { OnOk result (Self.step self.old (characters visible (sizes_of constraints.entry.size) (alphabet_of constraints.entry.permitted_alphabet) any_count value.now) self.new) }
-        ensures only { IfErr result (Refused Self.step (characters visible (sizes_of constraints.entry.size) (alphabet_of constraints.entry.permitted_alphabet) any_count value.now) self.old) }
+        ensures ok { OnOk result (Self.step self.old (characters_under visible constraints.entry value.now) self.new) }
+        ensures only { IfErr result
+            (Refused Self.step (characters_under visible constraints.entry value.now) self.old) }
         ensures failed { OnErr result (Self.has_failed self.new) }
         ensures already { Self.has_failed self.old → result ≡ Err EncodeError.AlreadyFailed }
+        ensures after { result ≡ Err EncodeError.AlreadyFailed → Self.has_failed self.old }
     {
         self.encode_characters(tag, constraints, value, identifier)
     }
@@ -87,10 +91,11 @@ pub trait EncodeNamed: Encoder {
     ) -> Result<(), EncodeError>
     where
         Self: Sized,
-        ensures ok { OnOk result (Self.step self.old (characters ia5 (sizes_of constraints.entry.size) (alphabet_of constraints.entry.permitted_alphabet) any_count value.now) self.new) }
-        ensures only { IfErr result (Refused Self.step (characters ia5 (sizes_of constraints.entry.size) (alphabet_of constraints.entry.permitted_alphabet) any_count value.now) self.old) }
+        ensures ok { OnOk result (Self.step self.old (characters_under ia5 constraints.entry value.now) self.new) }
+        ensures only { IfErr result (Refused Self.step (characters_under ia5 constraints.entry value.now) self.old) }
         ensures failed { OnErr result (Self.has_failed self.new) }
         ensures already { Self.has_failed self.old → result ≡ Err EncodeError.AlreadyFailed }
+        ensures after { result ≡ Err EncodeError.AlreadyFailed → Self.has_failed self.old }
     {
         self.encode_characters(tag, constraints, value, identifier)
     }
@@ -105,10 +110,13 @@ pub trait EncodeNamed: Encoder {
     ) -> Result<(), EncodeError>
     where
         Self: Sized,
-        ensures ok { OnOk result (Self.step self.old (characters printable (sizes_of constraints.entry.size) (alphabet_of constraints.entry.permitted_alphabet) any_count value.now) self.new) }
-        ensures only { IfErr result (Refused Self.step (characters printable (sizes_of constraints.entry.size) (alphabet_of constraints.entry.permitted_alphabet) any_count value.now) self.old) }
+        ensures ok { OnOk result
+            (Self.step self.old (characters_under printable constraints.entry value.now) self.new) }
+        ensures only { IfErr result
+            (Refused Self.step (characters_under printable constraints.entry value.now) self.old) }
         ensures failed { OnErr result (Self.has_failed self.new) }
         ensures already { Self.has_failed self.old → result ≡ Err EncodeError.AlreadyFailed }
+        ensures after { result ≡ Err EncodeError.AlreadyFailed → Self.has_failed self.old }
     {
         self.encode_characters(tag, constraints, value, identifier)
     }
@@ -123,10 +131,12 @@ pub trait EncodeNamed: Encoder {
     ) -> Result<(), EncodeError>
     where
         Self: Sized,
-        ensures ok { OnOk result (Self.step self.old (characters numeric (sizes_of constraints.entry.size) (alphabet_of constraints.entry.permitted_alphabet) any_count value.now) self.new) }
-        ensures only { IfErr result (Refused Self.step (characters numeric (sizes_of constraints.entry.size) (alphabet_of constraints.entry.permitted_alphabet) any_count value.now) self.old) }
+        ensures ok { OnOk result (Self.step self.old (characters_under numeric constraints.entry value.now) self.new) }
+        ensures only { IfErr result
+            (Refused Self.step (characters_under numeric constraints.entry value.now) self.old) }
         ensures failed { OnErr result (Self.has_failed self.new) }
         ensures already { Self.has_failed self.old → result ≡ Err EncodeError.AlreadyFailed }
+        ensures after { result ≡ Err EncodeError.AlreadyFailed → Self.has_failed self.old }
     {
         self.encode_characters(tag, constraints, value, identifier)
     }
@@ -141,10 +151,12 @@ pub trait EncodeNamed: Encoder {
     ) -> Result<(), EncodeError>
     where
         Self: Sized,
-        ensures ok { OnOk result (Self.step self.old (characters general (sizes_of constraints.entry.size) (alphabet_of constraints.entry.permitted_alphabet) any_count value.now) self.new) }
-        ensures only { IfErr result (Refused Self.step (characters general (sizes_of constraints.entry.size) (alphabet_of constraints.entry.permitted_alphabet) any_count value.now) self.old) }
+        ensures ok { OnOk result (Self.step self.old (characters_under general constraints.entry value.now) self.new) }
+        ensures only { IfErr result
+            (Refused Self.step (characters_under general constraints.entry value.now) self.old) }
         ensures failed { OnErr result (Self.has_failed self.new) }
         ensures already { Self.has_failed self.old → result ≡ Err EncodeError.AlreadyFailed }
+        ensures after { result ≡ Err EncodeError.AlreadyFailed → Self.has_failed self.old }
     {
         self.encode_characters(tag, constraints, value, identifier)
     }
@@ -159,10 +171,12 @@ pub trait EncodeNamed: Encoder {
     ) -> Result<(), EncodeError>
     where
         Self: Sized,
-        ensures ok { OnOk result (Self.step self.old (characters graphic (sizes_of constraints.entry.size) (alphabet_of constraints.entry.permitted_alphabet) any_count value.now) self.new) }
-        ensures only { IfErr result (Refused Self.step (characters graphic (sizes_of constraints.entry.size) (alphabet_of constraints.entry.permitted_alphabet) any_count value.now) self.old) }
+        ensures ok { OnOk result (Self.step self.old (characters_under graphic constraints.entry value.now) self.new) }
+        ensures only { IfErr result
+            (Refused Self.step (characters_under graphic constraints.entry value.now) self.old) }
         ensures failed { OnErr result (Self.has_failed self.new) }
         ensures already { Self.has_failed self.old → result ≡ Err EncodeError.AlreadyFailed }
+        ensures after { result ≡ Err EncodeError.AlreadyFailed → Self.has_failed self.old }
     {
         self.encode_characters(tag, constraints, value, identifier)
     }
@@ -177,10 +191,12 @@ pub trait EncodeNamed: Encoder {
     ) -> Result<(), EncodeError>
     where
         Self: Sized,
-        ensures ok { OnOk result (Self.step self.old (characters teletex (sizes_of constraints.entry.size) (alphabet_of constraints.entry.permitted_alphabet) any_count value.now) self.new) }
-        ensures only { IfErr result (Refused Self.step (characters teletex (sizes_of constraints.entry.size) (alphabet_of constraints.entry.permitted_alphabet) any_count value.now) self.old) }
+        ensures ok { OnOk result (Self.step self.old (characters_under teletex constraints.entry value.now) self.new) }
+        ensures only { IfErr result
+            (Refused Self.step (characters_under teletex constraints.entry value.now) self.old) }
         ensures failed { OnErr result (Self.has_failed self.new) }
         ensures already { Self.has_failed self.old → result ≡ Err EncodeError.AlreadyFailed }
+        ensures after { result ≡ Err EncodeError.AlreadyFailed → Self.has_failed self.old }
     {
         self.encode_characters(tag, constraints, value, identifier)
     }
@@ -195,10 +211,11 @@ pub trait EncodeNamed: Encoder {
     ) -> Result<(), EncodeError>
     where
         Self: Sized,
-        ensures ok { OnOk result (Self.step self.old (characters bmp (sizes_of constraints.entry.size) (alphabet_of constraints.entry.permitted_alphabet) any_count value.now) self.new) }
-        ensures only { IfErr result (Refused Self.step (characters bmp (sizes_of constraints.entry.size) (alphabet_of constraints.entry.permitted_alphabet) any_count value.now) self.old) }
+        ensures ok { OnOk result (Self.step self.old (characters_under bmp constraints.entry value.now) self.new) }
+        ensures only { IfErr result (Refused Self.step (characters_under bmp constraints.entry value.now) self.old) }
         ensures failed { OnErr result (Self.has_failed self.new) }
         ensures already { Self.has_failed self.old → result ≡ Err EncodeError.AlreadyFailed }
+        ensures after { result ≡ Err EncodeError.AlreadyFailed → Self.has_failed self.old }
     {
         self.encode_characters(tag, constraints, value, identifier)
     }

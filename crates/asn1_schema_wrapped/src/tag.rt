@@ -4,7 +4,7 @@
 ghost use Rattle.std.specs.Prelude.{refl, [], ◌∷◌};
 ghost use Rattle.asn1_model.specs.Value.{nothing};
 ghost use Rattle.asn1_model.specs.Schema.{null};
-ghost use Rattle.asn1_schema_constraints.specs.Sets.{no_constraint};
+ghost use Rattle.asn1_schema_constraints.specs.Terms.{no_constraint};
 ghost use Rattle.asn1_schema_presented.proofs.TypesByKind.{null_type, null_value};
 
 use asn1_schema_constraints::Constraints;

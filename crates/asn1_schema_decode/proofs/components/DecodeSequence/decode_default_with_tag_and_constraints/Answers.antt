@@ -1,8 +1,9 @@
 use Rattle.asn1_schema_presented.proofs.Joined.{raised}
 use Rattle.asn1_schema_decode.specs.Reads.{omitted, spelled_out, other_value}
 use Rattle.asn1_schema_decode.proofs.Marking.{reads_marked, unread_default_here, unread_default, unread_noted}
-use Rattle.std.proofs.Common.{sym, ◌∙◌}
+use Rattle.std.proofs.Common.{sym, ◌∙◌, ap, Err}
 use Rattle.asn1_schema_decode.proofs.components.DecodeSequence.decode_default_with_tag_and_constraints.Goals as goal
+use Rattle.asn1_schema_decode.proofs.Failing.{passed_on, failed_reads}
 use Rattle.asn1_schema_decode.proofs.components.DecodeSequence.decode_default_with_tag_and_constraints.Goals.{then-is_default+in_ok-note_default, else-is_default}
 
 pub returns-in_err-is_there-clause-only : goal.returns-in_err-is_there-clause-only
@@ -27,3 +28,8 @@ returns-clause-ok g c =
       | then-is_default+in_ok-note_default w ↦ rw w.self-is (spelled_out (sym c.is_default-is_default.ensures ∙ w.if-is_default.true) _ (reads_marked marked read) w.in_ok-note_default.ensures.ok)
       | else-is_default w ↦ rw w.self-is (other_value (sym c.is_default-is_default.ensures ∙ w.if-is_default.false) (reads_marked marked read))
     ]
+
+pub returns-in_err-note_default-clause-after : goal.returns-in_err-note_default-clause-after
+returns-in_err-note_default-clause-after g c =
+    let law = g.met.Self.Decoder.goes_on in
+    passed_on _ c.from_residual-in_err-note_default.ensures.1 (λ h. absurd (law _ _ _ c.in_ok-is_there.ensures.ok (failed_reads law c.in_ok-value.ensures.ok (c.in_err-note_default.ensures.after (ap (λ z. Err z) h)))))

@@ -1,0 +1,31 @@
+-- What stands after what was written has not failed.
+use Rattle.std.proofs.Common.{◌≡◌, ℕ, ◌≤◌, Option, Result, Err, IsErrAnd, subst, sym, ap, arith}
+use Rattle.asn1_model.specs.Value.{Value, depth, same}
+use Rattle.asn1_model.specs.Schema.{Tag, Presence, required, optional, by_default, Schema}
+use Rattle.asn1_schema_presented.specs.Records.{Record}
+use Rattle.asn1_schema_presented.specs.Presents.{Part, there}
+use Rattle.asn1_schema_presented.specs.Parts.{part_of, part_unless}
+use Rattle.asn1_schema_presented.specs.Tables.{IsType, IsValue}
+use Rattle.asn1_schema_presented.specs.Typed.{IsPart, part_depth}
+use Rattle.asn1_schema_presented.specs.Chains.{Chain, GoesOn}
+use Rattle.asn1_schema_presented.proofs.Chains.{failed_before}
+use Rattle.asn1_schema_encode.specs.Writes.{Writes, WritesPart}
+
+-- what follows of the error that a `?` passes on
+pub passed : {T U E P : Type 0} {x e : E} {r : Result T E} → IsErrAnd r (λ y. y ≡ x) → ((let s : Result U E = Err x in s) ≡ Err e → P) → r ≡ Err e → P
+passed {U = U} {E = E} {x = x} {e = e} h f q =
+    let k : e ≡ x = rw q at h in
+    f (ap (λ (y : E). let s : Result U E = Err y in s) (sym k))
+
+module _ {S : Type 0} {step : S → Record → S → Type 0} {has_failed : S → Type 0} (law : GoesOn step has_failed) where
+  -- what has failed behind a value had failed in front of it
+  pub failed_before_value : {s : ℕ → Schema} {v : Value} {a b : S} → IsValue s v → Writes step s v a b → has_failed b → has_failed a
+  failed_before_value {s} {v} {a} {b} i w f =
+      let le : depth v ≤ depth v = omega arith in
+      failed_before law _ a b (w.chain (depth v) (i.fits (depth v) le)) f
+
+  -- and so with a component
+  pub failed_before_part : {o : Presence} {s : ℕ → Schema} {x : Part} {a b : S} → IsPart o s x → WritesPart step o s x a b → has_failed b → has_failed a
+  failed_before_part {o} {s} {x} {a} {b} i w f =
+      let le : part_depth x ≤ part_depth x = omega arith in
+      failed_before law _ a b (w.chain (part_depth x) (i.fits (part_depth x) le)) f
