@@ -8,5 +8,4 @@ pub mod Equal
 pub mod TypedLaws
 pub mod Unfolding
 pub mod Tidied
-pub mod Declared
 pub mod UnfoldingLaws
