@@ -1,6 +1,5 @@
 pub mod Laws
 pub mod MessageLaws
-pub mod Versions
 pub mod Plain
 pub mod Places
 pub mod PlainLaws

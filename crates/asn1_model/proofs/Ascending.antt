@@ -1,5 +1,5 @@
 -- Numbers in ascending order, each once.
-use Rattle.std.proofs.Common.{◌≡◌, ◌⊎◌, ℕ, zero, suc, ◌+◌, ◌<◌, ◌≤◌, ltb, ◌==◌, Bool, true, false, cond, ◌&&◌, List, [], ◌∷◌, ◌++◌, filter, refl, ap, sym, ◌∙◌, inl, inr, arith, subst}
+use Rattle.std.proofs.Common.{◌≡◌, ◌⊎◌, ℕ, zero, suc, ◌<◌, ltb, ◌==◌, Bool, true, false, cond, List, [], ◌∷◌, refl, ap, sym, ◌∙◌, inl, inr, arith, subst}
 use Rattle.std.specs.List.{Contains}
 use Rattle.std.proofs.lemmas.Bool.{ltb-true, ltb-false, lt-ltb, eqb-true, eqb-false, and_parts, and_from}
 use Rattle.std.proofs.lemmas.List.Elements.{Contains-append_right, Contains-append_cases}
@@ -13,7 +13,7 @@ at_front c cs = (0, omega arith, refl)
 pub behind_front : (d : ℕ) (cs : List ℕ) (c : ℕ) → Contains cs c → Contains (d ∷ cs) c
 behind_front d cs c h = Contains-append_right (d ∷ []) cs c h
 
-none_in : {X : Type 0} (c : ℕ) → Contains [] c → X
+pub none_in : {X : Type 0} (c : ℕ) → Contains [] c → X
 none_in c h = let a = h.1 in absurd (omega arith)
 
 alone : (d c : ℕ) → Contains (d ∷ []) c → c ≡ d
@@ -83,9 +83,6 @@ put_has c d [] (inl e) = subst (λ x. Contains (c ∷ []) x) (sym e) (at_front c
 put_has c d [] (inr e) = none_in d e
 put_has c d (x ∷ ds) h = step (ltb c x) (c == x) refl h (put_has c d ds)
   where
-    behind_x : (Contains (put_in c ds) d) → (d ≡ c) ⊎ Contains (x ∷ ds) d → ((d ≡ c) ⊎ Contains ds d → Contains (put_in c ds) d) → Contains (x ∷ put_in c ds) d
-    behind_x a h k = behind_front x (put_in c ds) d a
-
     step : (t u : Bool) → (c == x) ≡ u → (d ≡ c) ⊎ Contains (x ∷ ds) d → ((d ≡ c) ⊎ Contains ds d → Contains (put_in c ds) d) → Contains (cond t (c ∷ x ∷ ds) (cond u (x ∷ ds) (x ∷ put_in c ds))) d
     step true u e (inl p) k = subst (λ y. Contains (c ∷ x ∷ ds) y) (sym p) (at_front c (x ∷ ds))
     step true u e (inr p) k = behind_front c (x ∷ ds) d p

@@ -1,11 +1,11 @@
 -- Which types are lawful: tables ascend, tags and items are distinct, bounds are ordered, additions stand behind a mark, defaults are values of
 -- their types.
-use Rattle.std.specs.Prelude.{ℕ, ◌==◌, ltb, leb, ℤ, Bool, true, false, cond, not, ◌&&◌, ◌||◌, IsTrue, List, [], ◌∷◌, ◌++◌, Option, Some, None}
+use Rattle.std.specs.Prelude.{◌==◌, ltb, leb, ℤ, Bool, true, false, cond, not, ◌&&◌, ◌||◌, IsTrue, List, [], ◌∷◌, ◌++◌, Option, Some}
 use Rattle.asn1_model.specs.Value.{same_number}
 use Rattle.asn1_model.specs.Schema.{Tag, Range, Counts, Size, Presence, optional, by_default, Schema, integer, enumerated, bit_string, octet_string}
 use Rattle.asn1_model.specs.Schema.{character_string, sequence_of, set_of, sequence, set, group, choice, Components, no_component, component}
 use Rattle.asn1_model.specs.Schema.{Alternatives, no_alternative, alternative}
-use Rattle.asn1_model.specs.Numbers.{is_at_most}
+use Rattle.asn1_model.specs.Numbers.{is_at_most, is_count_to}
 use Rattle.asn1_model.specs.Strings.{each_is}
 use Rattle.asn1_model.specs.Typed.{is_of}
 
@@ -77,18 +77,13 @@ abbrev pub are_ordered : Option ℤ → Option ℤ → Bool
 are_ordered (Some a) (Some b) = is_at_most a b
 are_ordered a b = true
 
--- The same of counts.
-abbrev pub are_counts_ordered : ℕ → Option ℕ → Bool
-are_counts_ordered a (Some b) = leb a b
-are_counts_ordered a None = true
-
 -- Ordered bounds.
 abbrev pub is_range : Range → Bool
 is_range r = are_ordered r.low r.high
 
 -- Ordered sizes, of the constraint and of the program's type.
 abbrev pub is_size : Size → Counts → Bool
-is_size z held = are_counts_ordered z.counts.low z.counts.high && are_counts_ordered held.low held.high
+is_size z held = is_count_to z.counts.high z.counts.low && is_count_to held.high held.low
 
 -- The order of whole numbers.
 abbrev pub int_less : ℤ → ℤ → Bool

@@ -1,14 +1,18 @@
 -- Rows: lawful types, and two versions of a type.
-use Rattle.std.specs.Prelude.{◌≡◌, ℕ, zero, suc, pos, true, false, List, [], ◌∷◌, ◌++◌, Some, None}
-use Rattle.asn1_model.specs.Value.{Value, item, chosen, absent, present, end}
+use Rattle.std.specs.Prelude.{◌≡◌, ℕ, zero, suc, pos, true, false, List, [], ◌∷◌, ◌++◌, Option, Some, None, option_map}
+use Rattle.asn1_model.specs.Value.{Value, depth, item, chosen, absent, present, end}
 use Rattle.asn1_model.specs.Schema.{Tag, Schema, cut, numeric, utf8, boolean, null, enumerated, character_string, sequence, set, group, choice, no_component}
 use Rattle.asn1_model.specs.Schema.{component, required, optional, Alternatives, no_alternative}
 use Rattle.asn1_model.specs.Lawful.{is_lawful}
-use Rattle.asn1_model.specs.Versions.{Extends, drop, grow, seen, IsClash}
+use Rattle.asn1_model.specs.Versions.{Extends, drop, grow, IsClash}
 use Rattle.asn1_model.specs.Types.{minus, any_count, any_size, sizes, letters, between, octet_text, list, context, needs, may_have, closed}
 use Rattle.asn1_model.specs.Types.{open_behind, or_tagged, one_of, num, roots, colour_old, colour_new, defaulted, marked_choice, new_type, old_type}
 use Rattle.asn1_model.specs.Types.{required_new, default_old, default_new, grouped, nest, nest_added, nested, yes_with, yes_without, yes_alone}
 use Rattle.asn1_model.specs.Types.{null_alternatives, bag_of, bag_with, set_of_three, set_with_choice, whole, has_default, only_tagged, yes}
+
+-- The levels that the older version reads.
+abbrev pub seen : Schema → Schema → Value → Option ℕ
+seen old new v = option_map depth (drop old new v)
 
 -- CHOICE {a [0] INTEGER, b [1] INTEGER, ...}
 abbrev pub choice_old : Schema
