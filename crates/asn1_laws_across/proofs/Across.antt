@@ -8,18 +8,8 @@ use Rattle.asn1_model.specs.Rules.{Rules, uper, aper, uper_strict, aper_strict, 
 use Rattle.asn1_laws_values.proofs.Messages.{canonical_is_read}
 use Rattle.asn1_laws_values.proofs.Normals.{normal_again}
 use Rattle.asn1_laws_values.proofs.Normal.{normal_same}
-use Rattle.asn1_laws_fronts.specs.Laws.{OneFrontIn}
-use Rattle.asn1_laws_fronts.proofs.Forms.{one_front_uper, one_front_aper, one_front_uper_strict, one_front_aper_strict}
-use Rattle.asn1_laws_fronts.proofs.OctetForms.{one_front_oer, one_front_coer}
+use Rattle.asn1_laws_fronts.proofs.Every.{one_front}
 use Rattle.asn1_laws_across.proofs.Canonical.{canonical_same, same_written}
-
-one_front : (r : Rules) → OneFrontIn r
-one_front uper = one_front_uper
-one_front aper = one_front_aper
-one_front uper_strict = one_front_uper_strict
-one_front aper_strict = one_front_aper_strict
-one_front oer = one_front_oer
-one_front coer = one_front_coer
 
 -- what is read of the same octets is the same
 read_same : (r : Rules) (s : Schema) (v u : Value) (w : List ℕ) → is_lawful s ≡ true → IsEncoding r s v w → IsEncoding r s u w → same v u ≡ true

@@ -1,4 +1,4 @@
--- What is read with bitmaps of the types' own widths and ascending bags is read as it is written.
+-- What is read with ascending bags is read as it is written.
 use Rattle.std.proofs.Common.{◌≡◌, ℕ, ◌+◌, ◌^◌, ◌<◌, Bool, true, false, IsTrue, List, [], ◌∷◌, map, length, Some, refl, sym, subst, inl, inr, ◌⊎◌, option_and_then}
 use Rattle.std.proofs.lemmas.Bool.{ltb-true}
 use Rattle.asn1_model.specs.Value.{Value, values_of}
@@ -15,10 +15,10 @@ use Rattle.asn1_model.specs.Per
 use Rattle.asn1_model.specs.Oer
 use Rattle.asn1_model.proofs.Forms.{reads_written}
 use Rattle.asn1_laws_values.proofs.Messages.{per_text, octet_text}
-use Rattle.asn1_laws_across.specs.InOrder.{ReadsWith, BitsInOrder, OctetsInOrder, IsEncodingInOrder, InOrderRows}
-use Rattle.asn1_laws_across.specs.Strictly.{ReadsAsWritten, IsEncodingAsWritten}
+use Rattle.asn1_laws_across.specs.InOrder.{ReadsWith, HasAscendingBag, HasAscendingOctetBag, IsEncodingInOrder, InOrderRows}
+use Rattle.asn1_laws_across.proofs.AsWritten.{ReadsAsWritten, IsEncodingAsWritten}
 use Rattle.asn1_laws_across.proofs.Strictly.{strictly}
-use Rattle.asn1_laws_across.proofs.Ascending.{packed_bitmaps, packed_bags, octets_bitmaps, octets_bags}
+use Rattle.asn1_laws_across.proofs.Ascending.{packed_bags, octets_bags}
 
 module _ {F : Type 0} {D : F → Type 0} {A : Type 0} (free : F → Bool) (may : Form F D A → Form F D A → Type 0) where
   -- where what may stand for a form is read as it is written, all is
@@ -49,19 +49,17 @@ module _ {F : Type 0} {D : F → Type 0} {A : Type 0} (free : F → Bool) (may :
       met (inr i) = let e : false ≡ true = i in cc
   written_with (within x f) p w r = (r.0, written_with x 0 r.0 r.1, written_with (f r.0) p w r.2)
 
-bits_step : (al : Bool) (x y : Per.BitForm) (p : ℕ) (w : List Bool) → BitsInOrder al x y → ReadsAsWritten strict_per y p w → ReadsAsWritten strict_per x p w
-bits_step al x y p w (inl (ms, root, xs, all, b, e, f, c, l, a)) r = subst (λ t. ReadsAsWritten strict_per t p w) (sym e) (packed_bitmaps strict_per al ms root xs all b p w c l a (subst (λ t. ReadsAsWritten strict_per t p w) f r))
-bits_step al x y p w (inr (z, held, s, vs, is, ys, l, e, f, c, a)) r = subst (λ t. ReadsAsWritten strict_per t p w) (sym e) (packed_bags strict_per al z held s vs is ys p w refl l c a (subst (λ t. ReadsAsWritten strict_per t p w) f r))
+bits_step : (al : Bool) (x y : Per.BitForm) (p : ℕ) (w : List Bool) → HasAscendingBag al x y → ReadsAsWritten strict_per y p w → ReadsAsWritten strict_per x p w
+bits_step al x y p w (z, held, s, vs, is, ys, l, e, f, c, a) r = subst (λ t. ReadsAsWritten strict_per t p w) (sym e) (packed_bags strict_per al z held s vs is ys p w refl l c a (subst (λ t. ReadsAsWritten strict_per t p w) f r))
 
-octets_step : (x y : Oer.OctetForm) (p : ℕ) (w : List ℕ) → OctetsInOrder x y → ReadsAsWritten strict_oer y p w → ReadsAsWritten strict_oer x p w
-octets_step x y p w (inl (ms, root, xs, all, b, e, f, c, l, a)) r = subst (λ t. ReadsAsWritten strict_oer t p w) (sym e) (octets_bitmaps strict_oer ms root xs all b p w c l a (subst (λ t. ReadsAsWritten strict_oer t p w) f r))
-octets_step x y p w (inr (z, held, s, vs, is, ys, l, e, f, c, a)) r = subst (λ t. ReadsAsWritten strict_oer t p w) (sym e) (octets_bags strict_oer z held s vs is ys p w refl l c a (subst (λ t. ReadsAsWritten strict_oer t p w) f r))
+octets_step : (x y : Oer.OctetForm) (p : ℕ) (w : List ℕ) → HasAscendingOctetBag x y → ReadsAsWritten strict_oer y p w → ReadsAsWritten strict_oer x p w
+octets_step x y p w (z, held, s, vs, is, ys, l, e, f, c, a) r = subst (λ t. ReadsAsWritten strict_oer t p w) (sym e) (octets_bags strict_oer z held s vs is ys p w refl l c a (subst (λ t. ReadsAsWritten strict_oer t p w) f r))
 
-bits_as_written : (al : Bool) (x : Per.BitForm) (p : ℕ) (w : List Bool) → ReadsWith (BitsInOrder al) x p w → ReadsAsWritten strict_per x p w
-bits_as_written al x p w r = each_as_written strict_per (BitsInOrder al) (bits_step al) x p w r
+bits_as_written : (al : Bool) (x : Per.BitForm) (p : ℕ) (w : List Bool) → ReadsWith (HasAscendingBag al) x p w → ReadsAsWritten strict_per x p w
+bits_as_written al x p w r = each_as_written strict_per (HasAscendingBag al) (bits_step al) x p w r
 
-octets_as_written : (x : Oer.OctetForm) (p : ℕ) (w : List ℕ) → ReadsWith OctetsInOrder x p w → ReadsAsWritten strict_oer x p w
-octets_as_written x p w r = each_as_written strict_oer OctetsInOrder octets_step x p w r
+octets_as_written : (x : Oer.OctetForm) (p : ℕ) (w : List ℕ) → ReadsWith HasAscendingOctetBag x p w → ReadsAsWritten strict_oer x p w
+octets_as_written x p w r = each_as_written strict_oer HasAscendingOctetBag octets_step x p w r
 
 pub in_order_as_written : (r : Rules) (s : Schema) (v : Value) (w : List ℕ) → IsEncodingInOrder r s v w → IsEncodingAsWritten r s v w
 unfolding IsEncodingInOrder IsEncodingAsWritten
@@ -76,11 +74,11 @@ pub in_order : (r : Rules) (s : Schema) (v : Value) (w : List ℕ) → each_is i
 in_order r s v w o h = strictly r s v w o (in_order_as_written r s v w h)
 
 -- what is canonical is in order
-packed_in : (al : Bool) (s : Schema) (v : Value) (w : List ℕ) → option_and_then of_moderate_length (per al s v) ≡ Some w → (length w < 2 ^ 60) × ReadsWith (BitsInOrder al) (Per.message al s v) 0 (octet_bits w)
-packed_in al s v w e = let t = per_text al s v w e in (t.0, written_with strict_per (BitsInOrder al) (Per.message al s v) 0 (octet_bits w) (reads_written (Per.message al s v) 0 (octet_bits w) t.1))
+packed_in : (al : Bool) (s : Schema) (v : Value) (w : List ℕ) → option_and_then of_moderate_length (per al s v) ≡ Some w → (length w < 2 ^ 60) × ReadsWith (HasAscendingBag al) (Per.message al s v) 0 (octet_bits w)
+packed_in al s v w e = let t = per_text al s v w e in (t.0, written_with strict_per (HasAscendingBag al) (Per.message al s v) 0 (octet_bits w) (reads_written (Per.message al s v) 0 (octet_bits w) t.1))
 
-octets_in : (s : Schema) (v : Value) (w : List ℕ) → option_and_then of_moderate_length (octet_encoding s v) ≡ Some w → (length w < 2 ^ 60) × ReadsWith OctetsInOrder (Oer.form s v) 0 w
-octets_in s v w e = let t = octet_text s v w e in (t.0, written_with strict_oer OctetsInOrder (Oer.form s v) 0 w (reads_written (Oer.form s v) 0 w t.1))
+octets_in : (s : Schema) (v : Value) (w : List ℕ) → option_and_then of_moderate_length (octet_encoding s v) ≡ Some w → (length w < 2 ^ 60) × ReadsWith HasAscendingOctetBag (Oer.form s v) 0 w
+octets_in s v w e = let t = octet_text s v w e in (t.0, written_with strict_oer HasAscendingOctetBag (Oer.form s v) 0 w (reads_written (Oer.form s v) 0 w t.1))
 
 pub canonical_in : (r : Rules) (s : Schema) (v : Value) (w : List ℕ) → canonical r s v ≡ Some w → IsEncodingInOrder r s (normal s v) w
 unfolding canonical encoding IsEncodingInOrder
@@ -98,5 +96,5 @@ in_order_here = map (λ v. Oer.form integers v) (num 1 ∷ num 2 ∷ num 3 ∷ [
 pub in_order_rows : InOrderRows
 unfolding IsEncodingInOrder ReadsWith on_values is_lawful in_order_here
 in_order_rows =
-    let m : OctetsInOrder (Oer.form (bag_of integers) (bag_with (num 3 ∷ num 1 ∷ num 2 ∷ []))) (Oer.members_form any_count in_order_here) = inr (any_size, any_count, integers, values_of (num 3 ∷ num 1 ∷ num 2 ∷ []), 1 ∷ 1 ∷ 0 ∷ [], in_order_here, refl, refl, refl, refl, refl) in
-    (ltb-true _ _ refl, (Some (1 ∷ 1 ∷ 0 ∷ []), inr m, written_with strict_oer OctetsInOrder (Oer.members_form any_count in_order_here) 0 _ (reads_written (Oer.members_form any_count in_order_here) 0 _ refl)))
+    let m : HasAscendingOctetBag (Oer.form (bag_of integers) (bag_with (num 3 ∷ num 1 ∷ num 2 ∷ []))) (Oer.members_form any_count in_order_here) = (any_size, any_count, integers, values_of (num 3 ∷ num 1 ∷ num 2 ∷ []), 1 ∷ 1 ∷ 0 ∷ [], in_order_here, refl, refl, refl, refl, refl) in
+    (ltb-true _ _ refl, (Some (1 ∷ 1 ∷ 0 ∷ []), inr m, written_with strict_oer HasAscendingOctetBag (Oer.members_form any_count in_order_here) 0 _ (reads_written (Oer.members_form any_count in_order_here) 0 _ refl)))

@@ -1,4 +1,5 @@
 pub mod Across
+pub mod AsWritten
 pub mod Strictly
 pub mod Ascending
 pub mod Rigid

@@ -9,7 +9,7 @@ use Rattle.asn1_model.specs.Per
 use Rattle.asn1_model.specs.Oer
 use Rattle.asn1_model.proofs.Forms.{reads_written}
 use Rattle.asn1_laws_across.specs.Rigid.{is_rigid}
-use Rattle.asn1_laws_across.specs.Strictly.{IsEncodingAsWritten, ReadsAsWritten}
+use Rattle.asn1_laws_across.proofs.AsWritten.{IsEncodingAsWritten, ReadsAsWritten}
 use Rattle.asn1_laws_across.proofs.PerRigid.{message_rigid}
 use Rattle.asn1_laws_across.proofs.OerRigid.{form_rigid}
 use Rattle.asn1_laws_across.proofs.Strictly.{strictly, written_as}

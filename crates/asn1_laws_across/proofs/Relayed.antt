@@ -9,7 +9,8 @@ use Rattle.asn1_model.specs.Rules.{Rules, canonical}
 use Rattle.asn1_laws_across.proofs.Canonical.{same_written}
 use Rattle.asn1_laws_across.specs.Streams.{Message, HasNoMessage, IsMessage, Divides, AreSame}
 use Rattle.asn1_laws_across.specs.Relayed.{Stop, no_target, empty_message, none_within_limit, RelaysFront, BeginsWith, HasEmptyMessage, StopsAt, Relays, RelaysPieces, Translates, EndsBefore}
-use Rattle.asn1_laws_across.proofs.Streams.{first_same, one_front}
+use Rattle.asn1_laws_fronts.proofs.Every.{one_front}
+use Rattle.asn1_laws_across.proofs.Streams.{first_same}
 
 -- ---- lists
 

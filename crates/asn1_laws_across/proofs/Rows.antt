@@ -14,7 +14,7 @@ use Rattle.asn1_model_rows.proofs.Plain.{is_plain, octets_not_read}
 use Rattle.asn1_laws_values.proofs.Messages.{canonical_is_read}
 use Rattle.asn1_laws_across.specs.Streams.{IsMessage, HasNoMessage}
 use Rattle.asn1_laws_across.specs.Relayed.{HasEmptyMessage}
-use Rattle.asn1_laws_across.proofs.Streams.{one_front}
+use Rattle.asn1_laws_fronts.proofs.Every.{one_front}
 
 -- octets that are an encoding, and are too long: no message is in front of them
 pub too_long : (r : Rules) (s : Schema) (limit : ℕ) (v : Value) (w : List ℕ) → IsLawful s → IsEncoding r s v w → limit < length w → HasNoMessage r s limit w

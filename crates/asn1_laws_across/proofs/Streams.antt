@@ -5,18 +5,8 @@ use Rattle.asn1_model.specs.Value.{same}
 use Rattle.asn1_model.specs.Schema.{Schema}
 use Rattle.asn1_model.specs.Lawful.{IsLawful}
 use Rattle.asn1_model.specs.Rules.{Rules, uper, aper, uper_strict, aper_strict, oer, coer}
-use Rattle.asn1_laws_fronts.specs.Laws.{OneFrontIn}
-use Rattle.asn1_laws_fronts.proofs.Forms.{one_front_uper, one_front_aper, one_front_uper_strict, one_front_aper_strict}
-use Rattle.asn1_laws_fronts.proofs.OctetForms.{one_front_oer, one_front_coer}
+use Rattle.asn1_laws_fronts.proofs.Every.{one_front}
 use Rattle.asn1_laws_across.specs.Streams.{Message, IsMessage, Divides, AreSame}
-
-pub one_front : (r : Rules) → OneFrontIn r
-one_front uper = one_front_uper
-one_front aper = one_front_aper
-one_front uper_strict = one_front_uper_strict
-one_front aper_strict = one_front_aper_strict
-one_front oer = one_front_oer
-one_front coer = one_front_coer
 
 module _ (r : Rules) (s : Schema) (limit : ℕ) where
   pub goes_on : (ms ns : List Message) (rest other w x : List ℕ) → Divides r s limit ms rest w → Divides r s limit ns other (rest ++ x) → Divides r s limit (ms ++ ns) other (w ++ x)

@@ -19,7 +19,7 @@ use Rattle.asn1_laws_values.proofs.Octets.{packed_back, packed_octets}
 use Rattle.asn1_laws_values.proofs.Normal.{normal_stays}
 use Rattle.asn1_laws_fronts.proofs.PerNumbers.{binary_equal}
 use Rattle.asn1_laws_fronts.proofs.Complete.{bits_length}
-use Rattle.asn1_laws_across.specs.Strictly.{ReadsAsWritten, IsEncodingAsWritten}
+use Rattle.asn1_laws_across.proofs.AsWritten.{ReadsAsWritten, IsEncodingAsWritten}
 use Rattle.asn1_laws_across.proofs.Across.{one_meaning}
 
 -- what is read as it is written is read, and is what is written
@@ -122,22 +122,3 @@ is_encoding uper_strict s v w h = (h.0, as_read strict_per _ 0 _ h.1)
 is_encoding aper_strict s v w h = (h.0, as_read strict_per _ 0 _ h.1)
 is_encoding oer s v w h = (h.0, widens strict_oer lenient _ 0 _ (λ c k. refl) (as_read strict_oer _ 0 _ h.1))
 is_encoding coer s v w h = (h.0, as_read strict_oer _ 0 _ h.1)
-
-pub of_all : (r : Rules) (s : Schema) (v u : Value) (w : List ℕ) → is_lawful s ≡ true → each_is is_octet w ≡ true → IsEncodingAsWritten r s v w → IsEncoding r s u w → canonical r s u ≡ Some w
-of_all r s v u w l o h k = (one_meaning r r s u v w l k (is_encoding r s v w h)).2 ∙ strictly r s v w o h
-
--- what is canonical is read as it is written
-packed_as : (al : Bool) (s : Schema) (v : Value) (w : List ℕ) → option_and_then of_moderate_length (per al s v) ≡ Some w → (length w < 2 ^ 60) × ReadsAsWritten strict_per (Per.message al s v) 0 (octet_bits w)
-packed_as al s v w e = let t = per_text al s v w e in (t.0, written_as strict_per (Per.message al s v) 0 (octet_bits w) (reads_written (Per.message al s v) 0 (octet_bits w) t.1))
-
-octets_as : (s : Schema) (v : Value) (w : List ℕ) → option_and_then of_moderate_length (octet_encoding s v) ≡ Some w → (length w < 2 ^ 60) × ReadsAsWritten strict_oer (Oer.form s v) 0 w
-octets_as s v w e = let t = octet_text s v w e in (t.0, written_as strict_oer (Oer.form s v) 0 w (reads_written (Oer.form s v) 0 w t.1))
-
-pub canonical_as : (r : Rules) (s : Schema) (v : Value) (w : List ℕ) → canonical r s v ≡ Some w → IsEncodingAsWritten r s (normal s v) w
-unfolding canonical encoding IsEncodingAsWritten
-canonical_as uper s v w e = packed_as false s (normal s v) w e
-canonical_as uper_strict s v w e = packed_as false s (normal s v) w e
-canonical_as aper s v w e = packed_as true s (normal s v) w e
-canonical_as aper_strict s v w e = packed_as true s (normal s v) w e
-canonical_as oer s v w e = octets_as s (normal s v) w e
-canonical_as coer s v w e = octets_as s (normal s v) w e

@@ -1,8 +1,8 @@
--- Texts in which each bitmap has its type's own width and a bit set, and the members of each bag ascend.
-use Rattle.std.specs.Prelude.{◌≡◌, ◌⊎◌, ℕ, ◌+◌, ◌^◌, ◌<◌, ltb, Bool, true, false, IsTrue, List, [], ◌∷◌, ◌++◌, length, Option, Some}
+-- Texts in which the members of each bag ascend.
+use Rattle.std.specs.Prelude.{◌≡◌, ◌⊎◌, ℕ, ◌+◌, ◌^◌, ◌<◌, ltb, Bool, true, false, IsTrue, List, [], ◌∷◌, ◌++◌, length, Some}
 use Rattle.asn1_model.specs.Value.{Value, bag, Values, each}
 use Rattle.asn1_model.specs.Schema.{Counts, Size, Schema, set_of}
-use Rattle.asn1_model.specs.Form.{Form, exactly, refused, both, placed, varied, within, written, Bitmap, arranged, ascending, covered_by, is_any_present}
+use Rattle.asn1_model.specs.Form.{Form, exactly, refused, both, placed, varied, within, written, arranged, ascending}
 use Rattle.asn1_model.specs.Form.{stands_before}
 use Rattle.asn1_model.specs.Lawful.{IsLawful}
 use Rattle.asn1_model.specs.Rules.{Rules, uper, aper, uper_strict, aper_strict, coer, octet_bits}
@@ -21,12 +21,6 @@ ReadsWith {A = A} may (within x f) p w = (a : List A) × (ReadsWith may x 0 a) �
 
 -- ---- the packed rules
 
--- A sequence or set with a mark, and what stands where its bitmap has as many bits as the type has additions, one of them set.
-abbrev pub HasOwnBitmap : Bool → Per.BitForm → Per.BitForm → Type 0
-HasOwnBitmap al x y = (ms : List Bool) × (root : Per.BitForm) × (xs : List (Option Per.BitForm)) × (all : List (Option Per.BitForm)) × (b : Bitmap)
-    × (x ≡ Per.sequence_form al true ms root xs) × (y ≡ Per.with_additions al ms root all)
-    × (covered_by (λ os. Per.counted_octets al os) b xs ≡ Some all) × (length all ≡ length xs) × IsTrue (is_any_present all)
-
 -- A bag of a lawful type, and what stands where its members ascend by their complete encodings.
 abbrev pub HasAscendingBag : Bool → Per.BitForm → Per.BitForm → Type 0
 HasAscendingBag al x y = (z : Size) × (held : Counts) × (s : Schema) × (vs : Values) × (is : List ℕ) × (ys : List Per.BitForm)
@@ -34,17 +28,7 @@ HasAscendingBag al x y = (z : Size) × (held : Counts) × (s : Schema) × (vs : 
     × (arranged is (each (λ v. Per.form al s v) vs) ≡ Some ys)
     × (ascending (λ x. written (Per.complete x) 0) (stands_before Per.bit_less) ys ≡ Some ys)
 
--- Either of them.
-abbrev pub BitsInOrder : Bool → Per.BitForm → Per.BitForm → Type 0
-BitsInOrder al x y = HasOwnBitmap al x y ⊎ HasAscendingBag al x y
-
 -- ---- the octet rules
-
--- The same of a sequence or set with a mark.
-abbrev pub HasOwnOctetBitmap : Oer.OctetForm → Oer.OctetForm → Type 0
-HasOwnOctetBitmap x y = (ms : List Bool) × (root : Oer.OctetForm) × (xs : List (Option Oer.OctetForm)) × (all : List (Option Oer.OctetForm)) × (b : Bitmap)
-    × (x ≡ Oer.sequence_form true ms root xs) × (y ≡ Oer.with_additions ms root all) × (covered_by Oer.counted b xs ≡ Some all)
-    × (length all ≡ length xs) × IsTrue (is_any_present all)
 
 -- The same of a bag of a lawful type.
 abbrev pub HasAscendingOctetBag : Oer.OctetForm → Oer.OctetForm → Type 0
@@ -52,18 +36,13 @@ HasAscendingOctetBag x y = (z : Size) × (held : Counts) × (s : Schema) × (vs 
     × IsLawful (set_of z held s) × (x ≡ Oer.form (set_of z held s) (bag vs)) × (y ≡ Oer.members_form held ys)
     × (arranged is (each (λ v. Oer.form s v) vs) ≡ Some ys) × (ascending (λ x. written x 0) (stands_before ltb) ys ≡ Some ys)
 
--- Either of them.
-abbrev pub OctetsInOrder : Oer.OctetForm → Oer.OctetForm → Type 0
-OctetsInOrder x y = HasOwnOctetBitmap x y ⊎ HasAscendingOctetBag x y
-
--- All of the octets are one encoding of the value, canonical but for the bitmaps and the order of the bags, where each bitmap has its type's own
--- width and a bit set, and the members of each bag ascend.
+-- All of the octets are one encoding of the value, canonical but for the order of the bags, where the members of each bag ascend.
 unfoldable pub IsEncodingInOrder : Rules → Schema → Value → List ℕ → Type 0
-IsEncodingInOrder uper s v w = (length w < 2 ^ 60) × ReadsWith (BitsInOrder false) (Per.message false s v) 0 (octet_bits w)
-IsEncodingInOrder uper_strict s v w = (length w < 2 ^ 60) × ReadsWith (BitsInOrder false) (Per.message false s v) 0 (octet_bits w)
-IsEncodingInOrder aper s v w = (length w < 2 ^ 60) × ReadsWith (BitsInOrder true) (Per.message true s v) 0 (octet_bits w)
-IsEncodingInOrder aper_strict s v w = (length w < 2 ^ 60) × ReadsWith (BitsInOrder true) (Per.message true s v) 0 (octet_bits w)
-IsEncodingInOrder r s v w = (length w < 2 ^ 60) × ReadsWith OctetsInOrder (Oer.form s v) 0 w
+IsEncodingInOrder uper s v w = (length w < 2 ^ 60) × ReadsWith (HasAscendingBag false) (Per.message false s v) 0 (octet_bits w)
+IsEncodingInOrder uper_strict s v w = (length w < 2 ^ 60) × ReadsWith (HasAscendingBag false) (Per.message false s v) 0 (octet_bits w)
+IsEncodingInOrder aper s v w = (length w < 2 ^ 60) × ReadsWith (HasAscendingBag true) (Per.message true s v) 0 (octet_bits w)
+IsEncodingInOrder aper_strict s v w = (length w < 2 ^ 60) × ReadsWith (HasAscendingBag true) (Per.message true s v) 0 (octet_bits w)
+IsEncodingInOrder r s v w = (length w < 2 ^ 60) × ReadsWith HasAscendingOctetBag (Oer.form s v) 0 w
 
 -- The bag of 3, 1 and 2 stands in ascending order.
 abbrev pub InOrderRows : Type 0

@@ -1,4 +1,3 @@
-pub mod Strictly
 pub mod Rigid
 pub mod InOrder
 pub mod Laws

@@ -1,9 +1,7 @@
 //! Translation between rules: what is equal in one is equal in the others, and a detour changes no octet.
 
 ghost use Rattle.asn1_laws_across.specs.Laws.{OneMeaning, EncodingsTellNormalForms, EqualAcross, DetoursChangeNothing, RecodedStays};
-ghost use Rattle.asn1_laws_across.specs.Laws.{StrictIsCanonical, CanonicalIsAsWritten, StrictIsCanonicalOfAll, InOrderIsCanonical, RigidIsCanonical, OwnBitmaps};
-ghost use Rattle.asn1_laws_across.specs.Laws.{AscendingBags};
-ghost use Rattle.asn1_laws_across.specs.Strictly.{AsWrittenRows};
+ghost use Rattle.asn1_laws_across.specs.Laws.{InOrderIsCanonical, RigidIsCanonical};
 ghost use Rattle.asn1_laws_across.specs.InOrder.{InOrderRows};
 
 /// All values of which some octets are an encoding are the same, and so have the same normal form, up to the order of bags, and one
@@ -32,23 +30,8 @@ pub fn recoded_stays()
     ensures { RecodedStays }
 {}
 
-/// What a strict reader takes is canonical, where each detail that it meets writes what the canonical one writes.
-pub fn strict_is_canonical()
-    ensures { StrictIsCanonical }
-{}
-
-/// What is canonical is read so, as the normal form.
-pub fn canonical_is_as_written()
-    ensures { CanonicalIsAsWritten }
-{}
-
-/// What a strict reader takes so is the canonical encoding of all values of which it is an encoding.
-pub fn strict_is_canonical_of_all()
-    ensures { StrictIsCanonicalOfAll }
-{}
-
-/// Octets that are canonical but for the bitmaps and the order of the bags, where each bitmap has its type's own width and a bit set and the
-/// members of each bag ascend, are the canonical encoding of the value; and the canonical encoding is such octets.
+/// Octets that are canonical but for the order of the bags, where the members of each bag ascend, are the canonical encoding of the value; and
+/// the canonical encoding is such octets.
 pub fn in_order_is_canonical()
     ensures { InOrderIsCanonical }
 {}
@@ -57,21 +40,6 @@ pub fn in_order_is_canonical()
 /// the value.
 pub fn rigid_is_canonical()
     ensures { RigidIsCanonical }
-{}
-
-/// A bitmap of the type's own width with a bit set, whatever it covers, writes what the type's own does.
-pub fn own_bitmaps()
-    ensures { OwnBitmaps }
-{}
-
-/// The members of a bag in whatever order, where they ascend in it, write what the canonical order does.
-pub fn ascending_bags()
-    ensures { AscendingBags }
-{}
-
-/// The bag of 3, 1 and 2 stands in ascending order.
-pub fn as_written_rows()
-    ensures { AsWrittenRows }
 {}
 
 /// The bag of 3, 1 and 2, written 1, 2, 3, is in order.

@@ -234,7 +234,7 @@ module _ (free : Per.Freedom → Bool) (al : Bool) where
     one_way (octet_string z held) h (octet_list v) (octet_list w) = leaf octet_list (agree_if free (each_is is_octet v) (each_is is_octet w) _ _ (λ i j. octets_alike z held v w i j))
     one_way (octet_string z held) h (octet_list v) w = agree_with_refused free _ _
     one_way (octet_string z held) h v w = agree_refused free _ _
-    one_way (character_string k z a held) h (text v) (text w) = leaf text (string_alike free al k z a held v w ((and_parts _ _ h).1))
+    one_way (character_string k z a held) h (text v) (text w) = leaf text (string_alike free al k z a held v w)
     one_way (character_string k z a held) h (text v) w = agree_with_refused free _ _
     one_way (character_string k z a held) h v w = agree_refused free _ _
     one_way object_identifier h (arcs v) (arcs w) = leaf arcs (agree_if free (is_identifier v) (is_identifier w) _ _ (λ i j. agree_map free (λ e. identifiers_equal v w i j e) (counted_octets_alike free al (identifier_octets v) (identifier_octets w))))

@@ -4,7 +4,6 @@ pub mod OerNumbers
 pub mod Complete
 pub mod OerBits
 pub mod Spelled
-pub mod Plain
 pub mod Sevens
 pub mod Members
 pub mod Additions
@@ -14,4 +13,6 @@ pub mod Forms
 pub mod OctetUnits
 pub mod Tags
 pub mod Choices
+pub mod Truths
 pub mod OctetForms
+pub mod Every

@@ -15,7 +15,7 @@ use Rattle.asn1_laws_fronts.specs.Laws.{OneFrontIn}
 use Rattle.asn1_laws_fronts.proofs.Fronts.{Pairwise, agree_refused, agree_with_refused, agree_map, agree_both, agree_varied, agree_varied_left, agree_varied_right, agree_if, agree_if_left, agree_if_right, agree_given, agree_nothing, agree_turned}
 use Rattle.asn1_laws_fronts.proofs.OerNumbers.{OctetsAlike, integer_alike, counted_alike}
 use Rattle.asn1_laws_fronts.proofs.OerBits.{preamble_alike, counted_bits_alike}
-use Rattle.asn1_laws_fronts.proofs.Plain.{truths_alike}
+use Rattle.asn1_laws_fronts.proofs.Truths.{truths_alike}
 use Rattle.asn1_laws_fronts.proofs.Sevens.{identifiers_equal}
 use Rattle.asn1_laws_fronts.proofs.Spelled.{octets_spelled_alike, marks_long}
 use Rattle.asn1_laws_values.proofs.Listed.{EachComponent, EachAlternative, component_map, listed, each_is_map, listed_again, order_map}

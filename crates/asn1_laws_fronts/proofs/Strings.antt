@@ -1,14 +1,15 @@
 -- Fronts of character strings of the packed rules: a character is told by its number, or by its place among those permitted.
-use Rattle.std.proofs.Common.{◌≡◌, ℕ, ◌+◌, ◌-◌, ◌^◌, ◌<◌, ◌≤◌, leb, ltb, lit<, Bool, true, false, cond, ◌&&◌, List, [], ◌∷◌, length, map, Option, Some, None, option_map, filter, refl, ap, sym, ◌∙◌, inl, inr, ◌⊎◌, arith}
+use Rattle.std.proofs.Common.{◌≡◌, ℕ, ◌+◌, ◌-◌, ◌^◌, ◌<◌, ◌≤◌, leb, ltb, ◌==◌, lit<, Bool, true, false, cond, ◌&&◌, List, [], ◌∷◌, length, map, Option, Some, None, option_map, filter, refl, ap, sym, ◌∙◌, inl, inr, ◌⊎◌, arith}
 use Rattle.std.proofs.lemmas.Bool.{ltb-true, leb-true, le-leb, lt-ltb, and_parts, and_from, or_cases}
 use Rattle.std.proofs.Math.Nat.{pow-le-pow_right}
 use Rattle.asn1_model.specs.Schema.{Alphabet, Counts, Size, StringKind, numeric, printable, visible, ia5, bmp, general, graphic, teletex, utf8}
-use Rattle.asn1_model.specs.Lawful.{are_ascending, is_alphabet}
+use Rattle.asn1_model.specs.Lawful.{are_ascending}
 use Rattle.asn1_model.specs.Numbers.{binary, width, is_count_within}
 use Rattle.asn1_model.specs.Form.{exactly, only_if}
-use Rattle.asn1_model.specs.Strings.{Run, run, is_in_run, characters_of, how_many, largest, place_of, is_among, permitted_in, permitted, is_of_octets, may_hold, each_is}
+use Rattle.asn1_model.specs.Strings.{Run, run, is_in_run, characters_of, how_many, largest, place_of, is_among, put_in, sorted, permitted_in, permitted, is_of_octets, may_hold, each_is}
 use Rattle.asn1_model.specs.Per
 use Rattle.asn1_model.proofs.Forms.{map_parts}
+use Rattle.asn1_model.proofs.Ascending.{order_ascends}
 use Rattle.asn1_laws_values.proofs.Places.{places_hold, places_fewest}
 use Rattle.asn1_laws_fronts.proofs.Fronts.{agree_map, agree_if, agree_given}
 use Rattle.asn1_laws_fronts.proofs.PerNumbers.{Alike, binary_alike, pairs_equal, counted_octets_alike}
@@ -146,36 +147,7 @@ own_orderly graphic h = cc
 own_orderly teletex h = cc
 own_orderly utf8 h = cc
 
--- ---- what a test leaves of ascending numbers
-without_second : (c d : ℕ) (cs : List ℕ) → are_ascending ltb (c ∷ d ∷ cs) ≡ true → are_ascending ltb (c ∷ cs) ≡ true
-without_second c d [] h = refl
-without_second c d (e ∷ cs) h =
-    let p = and_parts _ _ h in
-    let q = and_parts _ _ p.1 in
-    let a = ltb-true c d p.0 in
-    let b = ltb-true d e q.0 in
-    and_from _ _ (lt-ltb c e (omega arith)) q.1
-
-behind_ascends : (test : ℕ → Bool) (c : ℕ) (cs : List ℕ) → are_ascending ltb (c ∷ cs) ≡ true → are_ascending ltb (c ∷ filter test cs) ≡ true
-behind_ascends test c [] h = refl
-behind_ascends test c (d ∷ cs) h = step (test d) (behind_ascends test c cs (without_second c d cs h)) (behind_ascends test d cs ((and_parts _ _ h).1))
-  where
-    step : (b : Bool) → are_ascending ltb (c ∷ filter test cs) ≡ true → are_ascending ltb (d ∷ filter test cs) ≡ true → are_ascending ltb (c ∷ cond b (d ∷ filter test cs) (filter test cs)) ≡ true
-    step true k l = and_from _ _ ((and_parts _ _ h).0) l
-    step false k l = k
-
-rest_ascends : (c : ℕ) (cs : List ℕ) → are_ascending ltb (c ∷ cs) ≡ true → are_ascending ltb cs ≡ true
-rest_ascends c [] h = refl
-rest_ascends c (d ∷ cs) h = (and_parts _ _ h).1
-
-left_ascends : (test : ℕ → Bool) (cs : List ℕ) → are_ascending ltb cs ≡ true → are_ascending ltb (filter test cs) ≡ true
-left_ascends test [] h = refl
-left_ascends test (c ∷ cs) h = step (test c) (behind_ascends test c cs h) (left_ascends test cs (rest_ascends c cs h))
-  where
-    step : (b : Bool) → are_ascending ltb (c ∷ filter test cs) ≡ true → are_ascending ltb (filter test cs) ≡ true → are_ascending ltb (cond b (c ∷ filter test cs) (filter test cs)) ≡ true
-    step true k l = k
-    step false k l = l
-
+-- ---- what a test leaves of numbers, and in ascending order
 left_passes : (test : ℕ → Bool) (cs : List ℕ) → each_is test (filter test cs) ≡ true
 left_passes test [] = refl
 left_passes test (c ∷ cs) = step (test c) refl (left_passes test cs)
@@ -184,31 +156,39 @@ left_passes test (c ∷ cs) = step (test c) refl (left_passes test cs)
     step true e k = and_from _ _ e k
     step false e k = k
 
-own_left : (k : StringKind) (cs : List ℕ) → tops (characters_of k) ≡ true → largest (characters_of k) ≤ 65535 → are_ascending ltb cs ≡ true → Orderly (singles (filter (is_among (characters_of k)) cs))
-own_left k cs h i e = singles_few (characters_of k) (filter (is_among (characters_of k)) cs) h i (left_ascends (is_among (characters_of k)) cs e) (left_passes (is_among (characters_of k)) cs)
-
-own_singles : (k : StringKind) (cs : List ℕ) → is_of_octets k ≡ false → are_ascending ltb cs ≡ true → Orderly (singles (filter (is_among (characters_of k)) cs))
-own_singles numeric cs h e = own_left numeric cs refl (omega arith) e
-own_singles printable cs h e = own_left printable cs refl (omega arith) e
-own_singles visible cs h e = own_left visible cs refl (omega arith) e
-own_singles ia5 cs h e = own_left ia5 cs refl (omega arith) e
-own_singles bmp cs h e = own_left bmp cs refl (omega arith) e
-own_singles general cs h e = cc
-own_singles graphic cs h e = cc
-own_singles teletex cs h e = cc
-own_singles utf8 cs h e = cc
-
-alphabet_ascends : (k : StringKind) (cs : List ℕ) → is_of_octets k ≡ false → is_alphabet k (Some cs) ≡ true → are_ascending ltb cs ≡ true
-alphabet_ascends k cs h e = go (or_cases _ _ e)
+put_passes : (test : ℕ → Bool) (c : ℕ) (ds : List ℕ) → test c ≡ true → each_is test ds ≡ true → each_is test (put_in c ds) ≡ true
+put_passes test c [] h k = and_from _ _ h k
+put_passes test c (d ∷ ds) h k = step (ltb c d) (c == d) (put_passes test c ds h ((and_parts _ _ k).1))
   where
-    go : (is_of_octets k ≡ true) ⊎ (are_ascending ltb cs ≡ true) → are_ascending ltb cs ≡ true
-    go (inl p) = cc
-    go (inr p) = p
+    step : (t u : Bool) → each_is test (put_in c ds) ≡ true → each_is test (cond t (c ∷ d ∷ ds) (cond u (d ∷ ds) (d ∷ put_in c ds))) ≡ true
+    step true u i = and_from _ _ h k
+    step false true i = k
+    step false false i = and_from _ _ ((and_parts _ _ k).0) i
 
-pub permitted_orderly : (k : StringKind) (extensible : Bool) (cs : Option (List ℕ)) → is_of_octets k ≡ false → is_alphabet k cs ≡ true → Orderly (permitted_in k extensible cs)
-permitted_orderly k false (Some cs) h e = own_singles k cs h (alphabet_ascends k cs h e)
-permitted_orderly k false None h e = own_orderly k h
-permitted_orderly k true cs h e = own_orderly k h
+sorted_passes : (test : ℕ → Bool) (cs : List ℕ) → each_is test cs ≡ true → each_is test (sorted cs) ≡ true
+sorted_passes test [] h = refl
+sorted_passes test (c ∷ cs) h = let p = and_parts _ _ h in put_passes test c (sorted cs) p.0 (sorted_passes test cs p.1)
+
+own_left : (k : StringKind) (cs : List ℕ) → tops (characters_of k) ≡ true → largest (characters_of k) ≤ 65535 → Orderly (singles (sorted (filter (is_among (characters_of k)) cs)))
+own_left k cs h i =
+    let test = is_among (characters_of k) in
+    singles_few (characters_of k) (sorted (filter test cs)) h i (order_ascends (filter test cs)) (sorted_passes test (filter test cs) (left_passes test cs))
+
+own_singles : (k : StringKind) (cs : List ℕ) → is_of_octets k ≡ false → Orderly (singles (sorted (filter (is_among (characters_of k)) cs)))
+own_singles numeric cs h = own_left numeric cs refl (omega arith)
+own_singles printable cs h = own_left printable cs refl (omega arith)
+own_singles visible cs h = own_left visible cs refl (omega arith)
+own_singles ia5 cs h = own_left ia5 cs refl (omega arith)
+own_singles bmp cs h = own_left bmp cs refl (omega arith)
+own_singles general cs h = cc
+own_singles graphic cs h = cc
+own_singles teletex cs h = cc
+own_singles utf8 cs h = cc
+
+pub permitted_orderly : (k : StringKind) (extensible : Bool) (cs : Option (List ℕ)) → is_of_octets k ≡ false → Orderly (permitted_in k extensible cs)
+permitted_orderly k false (Some cs) h = own_singles k cs h
+permitted_orderly k false None h = own_orderly k h
+permitted_orderly k true cs h = own_orderly k h
 
 -- ---- codes
 raised_holds : (b : ℕ) (s t u : Bool) → leb b 2 ≡ s → leb b 4 ≡ t → leb b 8 ≡ u → b ≤ 16 → b ≤ cond s b (cond t 4 (cond u 8 16))
@@ -248,10 +228,10 @@ module _ (free : Per.Freedom → Bool) where
   unfolding Per.characters
   characters_alike al z held rs cs ds o = agree_map free (λ h. pairs_equal cs ds h) (sized_alike free ℕ (λ c d. c ≡ d) (Per.character (Per.character_bits al rs) rs) (character_alike al rs o) al z held (Per.pads_characters (Per.character_bits al rs) (length cs)) (Per.pads_characters (Per.character_bits al rs) (length ds)) cs ds (λ l. ap (λ n. Per.pads_characters (Per.character_bits al rs) n z.counts) l))
 
-  kind_cases : (t : Bool) (al : Bool) (k : StringKind) (z : Size) (a : Alphabet) (held : Counts) (cs ds : List ℕ) → is_of_octets k ≡ t → is_alphabet k a.characters ≡ true → Alike free (cond t (only_if (is_count_within held (length cs)) (Per.counted_octets al cs)) (Per.characters al z held (permitted k a) cs)) (cond t (only_if (is_count_within held (length ds)) (Per.counted_octets al ds)) (Per.characters al z held (permitted k a) ds)) (cs ≡ ds)
-  kind_cases true al k z a held cs ds e h = agree_if free (is_count_within held (length cs)) (is_count_within held (length ds)) _ _ (λ i j. counted_octets_alike free al cs ds)
-  kind_cases false al k z a held cs ds e h = characters_alike al z held (permitted k a) cs ds (permitted_orderly k a.extensible a.characters e h)
+  kind_cases : (t : Bool) (al : Bool) (k : StringKind) (z : Size) (a : Alphabet) (held : Counts) (cs ds : List ℕ) → is_of_octets k ≡ t → Alike free (cond t (only_if (is_count_within held (length cs)) (Per.counted_octets al cs)) (Per.characters al z held (permitted k a) cs)) (cond t (only_if (is_count_within held (length ds)) (Per.counted_octets al ds)) (Per.characters al z held (permitted k a) ds)) (cs ≡ ds)
+  kind_cases true al k z a held cs ds e = agree_if free (is_count_within held (length cs)) (is_count_within held (length ds)) _ _ (λ i j. counted_octets_alike free al cs ds)
+  kind_cases false al k z a held cs ds e = characters_alike al z held (permitted k a) cs ds (permitted_orderly k a.extensible a.characters e)
 
-  pub string_alike : (al : Bool) (k : StringKind) (z : Size) (a : Alphabet) (held : Counts) (cs ds : List ℕ) → is_alphabet k a.characters ≡ true → Alike free (Per.string_form al k z a held cs) (Per.string_form al k z a held ds) (cs ≡ ds)
+  pub string_alike : (al : Bool) (k : StringKind) (z : Size) (a : Alphabet) (held : Counts) (cs ds : List ℕ) → Alike free (Per.string_form al k z a held cs) (Per.string_form al k z a held ds) (cs ≡ ds)
   unfolding Per.string_form
-  string_alike al k z a held cs ds h = agree_if free (may_hold k cs) (may_hold k ds) _ _ (λ i j. kind_cases (is_of_octets k) al k z a held cs ds refl h)
+  string_alike al k z a held cs ds = agree_if free (may_hold k cs) (may_hold k ds) _ _ (λ i j. kind_cases (is_of_octets k) al k z a held cs ds refl)

@@ -5,7 +5,7 @@ use Rattle.asn1_model.specs.Schema.{Presence, required, optional, by_default, Sc
 use Rattle.asn1_model.specs.Normal.{normal}
 use Rattle.asn1_model.specs.Versions.{map_each, both_parts, all_absent, grow, grow_parts, grow_alternative, lessen, lessen_parts, lessen_alternative, drop, KeepsTags, KeepsPresence, Extends, ExtendsEach, ExtendsAlternatives}
 use Rattle.asn1_laws_values.proofs.Normals.{normal_again}
-use Rattle.asn1_laws_values.specs.Tidied.{with_default, tidied, tidied_each, tidied_alternatives}
+use Rattle.asn1_laws_values.specs.Tidied.{changed_default, tidied, tidied_each, tidied_alternatives}
 use Rattle.asn1_laws_values.proofs.Tidied.{tidied_alike}
 
 -- ---- values
@@ -74,7 +74,7 @@ tidied_drops s s' v = ap (lessen (tidied s) (tidied s')) (tidied_normal s' v) �
 default_again : (s : Schema) (d : Value) → normal (tidied s) (normal s d) ≡ normal s d
 default_again s d = tidied_normal s (normal s d) ∙ normal_again s d
 
-tidied_presence : (s s' : Schema) (o o' : Presence) → KeepsPresence (tidied s) (tidied s') (with_default (λ d. normal s d) o) (with_default (λ d. normal s' d) o') ≡ KeepsPresence s s' o o'
+tidied_presence : (s s' : Schema) (o o' : Presence) → KeepsPresence (tidied s) (tidied s') (changed_default (λ d. normal s d) o) (changed_default (λ d. normal s' d) o') ≡ KeepsPresence s s' o o'
 tidied_presence s s' (by_default d) (by_default d') =
     let g : grow (tidied s) (tidied s') (normal (tidied s) (normal s d)) ≡ grow s s' (normal s d) = ap (grow (tidied s) (tidied s')) (default_again s d) ∙ tidied_grows s s' (normal s d) in
     let n = default_again s' d' in

@@ -88,7 +88,7 @@ mutual
 
   pub each_itself : (more : Bool) (cs : Components) → are_lawful cs ≡ true → ExtendsEach more cs cs
   each_itself more no_component l = tt
-  each_itself more (component t o s cs) l = (All-contains_itself t, keeps_itself s o ((and_parts _ _ ((and_parts _ _ l).0)).1) ((and_parts _ _ ((and_parts _ _ ((and_parts _ _ ((and_parts _ _ l).0)).0)).0)).1), extends_itself s ((and_parts _ _ ((and_parts _ _ l).0)).1), each_itself more cs ((and_parts _ _ l).1))
+  each_itself more (component t o s cs) l = (All-contains_itself t, keeps_itself s o ((and_parts _ _ ((and_parts _ _ l).0)).1) ((and_parts _ _ ((and_parts _ _ ((and_parts _ _ l).0)).0)).1), extends_itself s ((and_parts _ _ ((and_parts _ _ l).0)).1), each_itself more cs ((and_parts _ _ l).1))
 
   pub alternatives_itself : (more : Bool) (others : Alternatives) → are_lawful_alternatives others ≡ true → ExtendsAlternatives more others others
   alternatives_itself more no_alternative l = tt

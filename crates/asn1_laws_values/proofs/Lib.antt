@@ -30,4 +30,4 @@ pub mod Unfolding
 pub mod Recursive
 pub mod Tidied
 pub mod Carried
-pub mod Declared
+pub mod TidiedLawful

@@ -3,12 +3,12 @@ use Rattle.std.proofs.Common.{◌≡◌, ℕ, zero, suc, true, ◌&&◌, List, r
 use Rattle.std.proofs.lemmas.Bool.{and_from}
 use Rattle.asn1_model.specs.Value.{Value, depth}
 use Rattle.asn1_model.specs.Schema.{Presence, required, optional, by_default, Schema, sequence_of, set_of, sequence, set, group, choice, Components, no_component, component, Alternatives, no_alternative, alternative}
-use Rattle.asn1_model.specs.Normal.{normal, is_normal}
-use Rattle.asn1_model.specs.Lawful.{has_normal_default}
-use Rattle.asn1_model.specs.Rules.{Rules, canonical, IsEncoding}
+use Rattle.asn1_model.specs.Normal.{normal, is_normal, has_normal_default, is_tidy, are_tidy, are_tidy_alternatives}
+use Rattle.asn1_model.specs.Rules.{Rules}
 use Rattle.asn1_laws_values.proofs.Normals.{normal_again, normal_normal}
 use Rattle.asn1_laws_values.specs.Unfolding.{is_constructed}
-use Rattle.asn1_laws_values.specs.Tidied.{with_default, tidied, tidied_each, tidied_alternatives, is_tidy, are_tidy, are_tidy_alternatives}
+use Rattle.asn1_laws_values.specs.UnfoldingLaws.{IsOneIn}
+use Rattle.asn1_laws_values.specs.Tidied.{changed_default, tidied, tidied_each, tidied_alternatives}
 use Rattle.asn1_laws_values.proofs.Unfolding.{AlikeTo, EachAlikeTo, AlternativesAlikeTo, SameDefault, list_alike, bag_alike, component_alike, none_alike, sequence_alike, set_alike, group_alike, alternative_alike, no_alternative_alike, choice_alike, zero_alike, equal_alike, alike_means_the_same}
 
 at_the_cut : (s : Schema) → ((is_constructed s && is_constructed (tidied s)) ≡ true) ⊎ (s ≡ tidied s)
@@ -22,7 +22,7 @@ at_the_cut (choice roots e adds) = inl refl
 at_the_cut s = inr refl
 
 -- a default and its normal form, where the normal forms of both types are alike
-tidied_default : (s : Schema) (o : Presence) → ((n : ℕ) → AlikeTo n s (tidied s)) → SameDefault s (tidied s) o (with_default (λ d. normal s d) o)
+tidied_default : (s : Schema) (o : Presence) → ((n : ℕ) → AlikeTo n s (tidied s)) → SameDefault s (tidied s) o (changed_default (λ d. normal s d) o)
 tidied_default s required a = tt
 tidied_default s optional a = tt
 tidied_default s (by_default d) a = sym (normal_again s d) ∙ (a (depth (normal s d))).normal_is (normal s d) (omega arith)
@@ -42,14 +42,14 @@ mutual
 
   tidied_alike_each : (n : ℕ) (cs : Components) → EachAlikeTo n cs (tidied_each cs)
   tidied_alike_each n no_component = none_alike n
-  tidied_alike_each n (component t o s cs) = component_alike n t o (with_default (λ d. normal s d) o) s (tidied s) cs (tidied_each cs) (tidied_default s o (λ m. tidied_alike m s)) (tidied_alike n s) (tidied_alike_each n cs)
+  tidied_alike_each n (component t o s cs) = component_alike n t o (changed_default (λ d. normal s d) o) s (tidied s) cs (tidied_each cs) (tidied_default s o (λ m. tidied_alike m s)) (tidied_alike n s) (tidied_alike_each n cs)
 
   tidied_alike_alternatives : (n : ℕ) (os : Alternatives) → AlternativesAlikeTo n os (tidied_alternatives os)
   tidied_alike_alternatives n no_alternative = no_alternative_alike n
   tidied_alike_alternatives n (alternative t s os) = alternative_alike n t s (tidied s) os (tidied_alternatives os) (tidied_alike n s) (tidied_alike_alternatives n os)
 
 -- ---- each default is in normal form
-default_normal : (s : Schema) (o : Presence) → has_normal_default (tidied s) (with_default (λ d. normal s d) o) ≡ true
+default_normal : (s : Schema) (o : Presence) → has_normal_default (tidied s) (changed_default (λ d. normal s d) o) ≡ true
 default_normal s required = refl
 default_normal s optional = refl
 default_normal s (by_default d) =
@@ -76,7 +76,5 @@ mutual
   tidied_alternatives_are_tidy no_alternative = refl
   tidied_alternatives_are_tidy (alternative t s os) = and_from _ _ (tidied_is_tidy s) (tidied_alternatives_are_tidy os)
 
-pub nothing_lost : (r : Rules) (s : Schema) (v : Value) (w : List ℕ) → (is_tidy (tidied s) ≡ true) × (normal s v ≡ normal (tidied s) v) × (canonical r s v ≡ canonical r (tidied s) v) × (IsEncoding r s v w → IsEncoding r (tidied s) v w) × (IsEncoding r (tidied s) v w → IsEncoding r s v w)
-nothing_lost r s v w =
-    let m = alike_means_the_same r (depth v) s (tidied s) v w (tidied_alike (depth v) s) (omega arith) in
-    (tidied_is_tidy s, m.0, m.1, m.2, m.3)
+pub nothing_lost : (r : Rules) (s : Schema) (v : Value) (w : List ℕ) → (is_tidy (tidied s) ≡ true) × IsOneIn r s (tidied s) v w
+nothing_lost r s v w = (tidied_is_tidy s, alike_means_the_same r (depth v) s (tidied s) v w (tidied_alike (depth v) s) (omega arith))

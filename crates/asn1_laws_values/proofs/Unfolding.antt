@@ -4,7 +4,7 @@ use Rattle.std.proofs.lemmas.Bool.{and_parts}
 use Rattle.asn1_model.specs.Value.{Value, members, bag, fields, chosen, Values, no_more, member, Parts, end, absent, present, each, map_members, depth, depth_of_members, depth_of_parts}
 use Rattle.asn1_model.specs.Schema.{Tag, Size, Counts, Presence, required, optional, by_default, Schema, cut, sequence_of, set_of, sequence, set, group, choice, Components, no_component, component, Alternatives, no_alternative, alternative}
 use Rattle.asn1_model.specs.Normal.{normal, normal_parts, normal_alternative, is_empty_group, is_default_by, is_at_default, is_group_left_out}
-use Rattle.asn1_model.specs.Lawful.{is_lawful, are_lawful, are_lawful_alternatives, has_normal_default}
+use Rattle.asn1_model.specs.Normal.{has_normal_default, is_tidy, are_tidy, are_tidy_alternatives}
 use Rattle.asn1_model.specs.Form.{refused, both, given}
 use Rattle.asn1_model.specs.Tables.{marks, is_required, alternative_count}
 use Rattle.asn1_model.specs.Rules.{Rules, uper, aper, uper_strict, aper_strict, oer, coer, canonical, encoding, per, octet_encoding, IsEncoding}
@@ -158,10 +158,10 @@ SameDefault s s' optional optional = Unit {0}
 SameDefault s s' (by_default d) (by_default e) = normal s d ≡ normal s' e
 SameDefault s s' o o' = ⊥
 
-lawful_default : (s s' : Schema) (o : Presence) → has_normal_default s o ≡ true → has_normal_default s' o ≡ true → SameDefault s s' o o
-lawful_default s s' required h k = tt
-lawful_default s s' optional h k = tt
-lawful_default s s' (by_default d) h k = normal_stays s d h ∙ sym (normal_stays s' d k)
+tidy_default : (s s' : Schema) (o : Presence) → has_normal_default s o ≡ true → has_normal_default s' o ≡ true → SameDefault s s' o o
+tidy_default s s' required h k = tt
+tidy_default s s' optional h k = tt
+tidy_default s s' (by_default d) h k = normal_stays s d h ∙ sym (normal_stays s' d k)
 
 default_alike : (s s' : Schema) (o o' : Presence) (v w : Value) → SameDefault s s' o o' → v ≡ w → is_default_by (λ d. normal s d) o v ≡ is_default_by (λ d. normal s' d) o' w
 default_alike s s' required required v w h e = refl
@@ -380,33 +380,33 @@ zero_alike s s' (inl c) = let p = and_parts _ _ c in constructed_alike s s' p.0 
 zero_alike s s' (inr e) = equal_alike 0 s s' e
 
 mutual
-  unfolding AgreesTo AgreesEach AgreesAlternatives is_lawful are_lawful are_lawful_alternatives
+  unfolding AgreesTo AgreesEach AgreesAlternatives is_tidy are_tidy are_tidy_alternatives
 
-  pub agree : (n : ℕ) (s s' : Schema) → is_lawful s ≡ true → is_lawful s' ≡ true → AgreesTo n s s' → AlikeTo n s s'
+  pub agree : (n : ℕ) (s s' : Schema) → is_tidy s ≡ true → is_tidy s' ≡ true → AgreesTo n s s' → AlikeTo n s s'
   agree zero s s' l l' h = zero_alike s s' h
-  agree (suc n) (sequence_of z c s) (sequence_of z' c' s') l l' h = subst (λ x. AlikeTo (suc n) (sequence_of z c s) (sequence_of x c' s')) h.0 (subst (λ x. AlikeTo (suc n) (sequence_of z c s) (sequence_of z x s')) h.1 (list_alike n z c s s' (agree n s s' ((and_parts _ _ l).1) ((and_parts _ _ l').1) h.2)))
-  agree (suc n) (set_of z c s) (set_of z' c' s') l l' h = subst (λ x. AlikeTo (suc n) (set_of z c s) (set_of x c' s')) h.0 (subst (λ x. AlikeTo (suc n) (set_of z c s) (set_of z x s')) h.1 (bag_alike n z c s s' (agree n s s' ((and_parts _ _ l).1) ((and_parts _ _ l').1) h.2)))
-  agree (suc n) (sequence cs e adds) (sequence cs' e' adds') l l' h = subst (λ x. AlikeTo (suc n) (sequence cs e adds) (sequence cs' x adds')) h.1 (sequence_alike n cs cs' e adds adds' (agree_each n cs cs' ((and_parts _ _ ((and_parts _ _ l).0)).1) ((and_parts _ _ ((and_parts _ _ l').0)).1) h.0) (agree_each n adds adds' ((and_parts _ _ l).1) ((and_parts _ _ l').1) h.2))
-  agree (suc n) (set cs e adds) (set cs' e' adds') l l' h = subst (λ x. AlikeTo (suc n) (set cs e adds) (set cs' x adds')) h.1 (set_alike n cs cs' e adds adds' (agree_each n cs cs' ((and_parts _ _ ((and_parts _ _ l).0)).1) ((and_parts _ _ ((and_parts _ _ l').0)).1) h.0) (agree_each n adds adds' ((and_parts _ _ l).1) ((and_parts _ _ l').1) h.2))
-  agree (suc n) (group cs) (group cs') l l' h = group_alike n cs cs' (agree_each n cs cs' ((and_parts _ _ l).1) ((and_parts _ _ l').1) h)
-  agree (suc n) (choice roots e adds) (choice roots' e' adds') l l' h = subst (λ x. AlikeTo (suc n) (choice roots e adds) (choice roots' x adds')) h.1 (choice_alike n roots roots' e adds adds' (agree_alternatives n roots roots' ((and_parts _ _ ((and_parts _ _ l).0)).1) ((and_parts _ _ ((and_parts _ _ l').0)).1) h.0) (agree_alternatives n adds adds' ((and_parts _ _ l).1) ((and_parts _ _ l').1) h.2))
+  agree (suc n) (sequence_of z c s) (sequence_of z' c' s') l l' h = subst (λ x. AlikeTo (suc n) (sequence_of z c s) (sequence_of x c' s')) h.0 (subst (λ x. AlikeTo (suc n) (sequence_of z c s) (sequence_of z x s')) h.1 (list_alike n z c s s' (agree n s s' l l' h.2)))
+  agree (suc n) (set_of z c s) (set_of z' c' s') l l' h = subst (λ x. AlikeTo (suc n) (set_of z c s) (set_of x c' s')) h.0 (subst (λ x. AlikeTo (suc n) (set_of z c s) (set_of z x s')) h.1 (bag_alike n z c s s' (agree n s s' l l' h.2)))
+  agree (suc n) (sequence cs e adds) (sequence cs' e' adds') l l' h = subst (λ x. AlikeTo (suc n) (sequence cs e adds) (sequence cs' x adds')) h.1 (sequence_alike n cs cs' e adds adds' (agree_each n cs cs' ((and_parts _ _ l).0) ((and_parts _ _ l').0) h.0) (agree_each n adds adds' ((and_parts _ _ l).1) ((and_parts _ _ l').1) h.2))
+  agree (suc n) (set cs e adds) (set cs' e' adds') l l' h = subst (λ x. AlikeTo (suc n) (set cs e adds) (set cs' x adds')) h.1 (set_alike n cs cs' e adds adds' (agree_each n cs cs' ((and_parts _ _ l).0) ((and_parts _ _ l').0) h.0) (agree_each n adds adds' ((and_parts _ _ l).1) ((and_parts _ _ l').1) h.2))
+  agree (suc n) (group cs) (group cs') l l' h = group_alike n cs cs' (agree_each n cs cs' l l' h)
+  agree (suc n) (choice roots e adds) (choice roots' e' adds') l l' h = subst (λ x. AlikeTo (suc n) (choice roots e adds) (choice roots' x adds')) h.1 (choice_alike n roots roots' e adds adds' (agree_alternatives n roots roots' ((and_parts _ _ l).0) ((and_parts _ _ l').0) h.0) (agree_alternatives n adds adds' ((and_parts _ _ l).1) ((and_parts _ _ l').1) h.2))
   agree (suc n) s s' l l' h = equal_alike (suc n) s s' h
 
-  agree_each : (n : ℕ) (cs cs' : Components) → are_lawful cs ≡ true → are_lawful cs' ≡ true → AgreesEach n cs cs' → EachAlikeTo n cs cs'
+  agree_each : (n : ℕ) (cs cs' : Components) → are_tidy cs ≡ true → are_tidy cs' ≡ true → AgreesEach n cs cs' → EachAlikeTo n cs cs'
   agree_each n no_component no_component l l' h = none_alike n
   agree_each n no_component (component t' o' s' cs') l l' h = absurd h
   agree_each n (component t o s cs) no_component l l' h = absurd h
   agree_each n (component t o s cs) (component t' o' s' cs') l l' h =
-      let k = lawful_default s s' o ((and_parts _ _ ((and_parts _ _ ((and_parts _ _ l).0)).0)).1) (subst (λ x. has_normal_default s' x ≡ true) (sym h.1) ((and_parts _ _ ((and_parts _ _ ((and_parts _ _ l').0)).0)).1)) in
+      let k = tidy_default s s' o ((and_parts _ _ ((and_parts _ _ l).0)).0) (subst (λ x. has_normal_default s' x ≡ true) (sym h.1) ((and_parts _ _ ((and_parts _ _ l').0)).0)) in
       let x = agree n s s' ((and_parts _ _ ((and_parts _ _ l).0)).1) ((and_parts _ _ ((and_parts _ _ l').0)).1) h.2 in
       let y = agree_each n cs cs' ((and_parts _ _ l).1) ((and_parts _ _ l').1) h.3 in
       subst (λ x. EachAlikeTo n (component t o s cs) (component x o' s' cs')) h.0 (subst (λ x. EachAlikeTo n (component t o s cs) (component t x s' cs')) h.1 (component_alike n t o o s s' cs cs' k x y))
 
-  agree_alternatives : (n : ℕ) (os os' : Alternatives) → are_lawful_alternatives os ≡ true → are_lawful_alternatives os' ≡ true → AgreesAlternatives n os os' → AlternativesAlikeTo n os os'
+  agree_alternatives : (n : ℕ) (os os' : Alternatives) → are_tidy_alternatives os ≡ true → are_tidy_alternatives os' ≡ true → AgreesAlternatives n os os' → AlternativesAlikeTo n os os'
   agree_alternatives n no_alternative no_alternative l l' h = no_alternative_alike n
   agree_alternatives n no_alternative (alternative t' s' os') l l' h = absurd h
   agree_alternatives n (alternative t s os) no_alternative l l' h = absurd h
-  agree_alternatives n (alternative t s os) (alternative t' s' os') l l' h = subst (λ x. AlternativesAlikeTo n (alternative t s os) (alternative x s' os')) h.0 (alternative_alike n t s s' os os' (agree n s s' ((and_parts _ _ ((and_parts _ _ l).0)).1) ((and_parts _ _ ((and_parts _ _ l').0)).1) h.1) (agree_alternatives n os os' ((and_parts _ _ l).1) ((and_parts _ _ l').1) h.2))
+  agree_alternatives n (alternative t s os) (alternative t' s' os') l l' h = subst (λ x. AlternativesAlikeTo n (alternative t s os) (alternative x s' os')) h.0 (alternative_alike n t s s' os os' (agree n s s' ((and_parts _ _ l).0) ((and_parts _ _ l').0) h.1) (agree_alternatives n os os' ((and_parts _ _ l).1) ((and_parts _ _ l').1) h.2))
 
 -- ---- encodings
 messages_are : (al : Bool) (n : ℕ) (s s' : Schema) (v : Value) → AlikeTo n s s' → depth v ≤ n → Per.message al s v ≡ Per.message al s' v
@@ -444,5 +444,5 @@ alike_means_the_same r n s s' v w h d =
     let e = reading_is r n s s' v w h d in
     (h.normal_is v d, canonical_is r n s s' v h d, λ x. subst (λ (T : Type 0). T) e x, λ x. subst (λ (T : Type 0). T) (sym e) x)
 
-pub means_the_same : (r : Rules) (n : ℕ) (s s' : Schema) (v : Value) (w : List ℕ) → is_lawful s ≡ true → is_lawful s' ≡ true → AgreesTo n s s' → depth v ≤ n → (normal s v ≡ normal s' v) × (canonical r s v ≡ canonical r s' v) × (IsEncoding r s v w → IsEncoding r s' v w) × (IsEncoding r s' v w → IsEncoding r s v w)
+pub means_the_same : (r : Rules) (n : ℕ) (s s' : Schema) (v : Value) (w : List ℕ) → is_tidy s ≡ true → is_tidy s' ≡ true → AgreesTo n s s' → depth v ≤ n → (normal s v ≡ normal s' v) × (canonical r s v ≡ canonical r s' v) × (IsEncoding r s v w → IsEncoding r s' v w) × (IsEncoding r s' v w → IsEncoding r s v w)
 means_the_same r n s s' v w l l' h d = alike_means_the_same r n s s' v w (agree n s s' l l' h) d

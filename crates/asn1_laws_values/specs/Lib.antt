@@ -1,6 +1,5 @@
 pub mod Laws
 pub mod MessageLaws
-pub mod Versions
 pub mod Plain
 pub mod Places
 pub mod PlainLaws
@@ -8,5 +7,4 @@ pub mod Equal
 pub mod TypedLaws
 pub mod Unfolding
 pub mod Tidied
-pub mod Declared
 pub mod UnfoldingLaws

@@ -2,12 +2,12 @@
 //! form.
 
 ghost use Rattle.asn1_laws_values.specs.UnfoldingLaws.{AgreesWithItself, MeansTheSame, NormalDefaultsAgree, NormalDefaultsLoseNothing, UnfoldingsAgree, UnfoldingsMeanTheSame};
-ghost use Rattle.asn1_laws_values.specs.UnfoldingLaws.{LawfulIfTidy, TidiedIsLawful, TidiedKeepsValues, TidiedKeepsVersions, TidiedCarriesAlike};
-ghost use Rattle.asn1_laws_values.specs.Declared.{AsDeclaredRows};
+ghost use Rattle.asn1_laws_values.specs.UnfoldingLaws.{TidiedIsLawful, TidiedKeepsValues, TidiedKeepsVersions, TidiedCarriesAlike};
+ghost use Rattle.asn1_laws_values.specs.Tidied.{TidyRows};
 ghost use Rattle.asn1_laws_values.specs.Unfolding.{LevelRows, RecursiveRows};
 
-/// A value that nests at most so many levels has one normal form, the same encodings and one canonical encoding in lawful types that
-/// agree for so many levels, as two unfoldings of one recursive type do (X.680 25 and 29).
+/// A value that nests at most so many levels has one normal form, the same encodings and one canonical encoding in types that agree for
+/// so many levels, as two unfoldings of one recursive type do, and whose defaults are in normal form (X.680 25 and 29).
 pub fn means_the_same()
     ensures { MeansTheSame }
 {}
@@ -28,7 +28,7 @@ pub fn unfoldings_agree<Name>()
     ensures { UnfoldingsAgree Name }
 {}
 
-/// A value that nests at most so many levels means the same in every lawful unfolding of such a type to so many levels or more.
+/// A value that nests at most so many levels means the same in every unfolding of such a type to so many levels or more.
 pub fn unfoldings_mean_the_same<Name>()
     ensures { UnfoldingsMeanTheSame Name }
 {}
@@ -44,17 +44,12 @@ pub fn level_rows()
     ensures { LevelRows }
 {}
 
-/// Any type is, in all rules, the same as one whose defaults are in normal form, so that lawful types lose nothing by it.
+/// Any type is, in all rules, the same as one whose defaults are in normal form.
 pub fn normal_defaults_lose_nothing()
     ensures { NormalDefaultsLoseNothing }
 {}
 
-/// A type is lawful exactly if it is as its author declared it and each default in it is in normal form.
-pub fn lawful_if_tidy()
-    ensures { LawfulIfTidy }
-{}
-
-/// A type that is lawful as its author declared it is lawful with each default in its normal form (X.680 25).
+/// A lawful type is lawful with each default in its normal form (X.680 25).
 pub fn tidied_is_lawful()
     ensures { TidiedIsLawful }
 {}
@@ -74,7 +69,7 @@ pub fn tidied_carries_alike()
     ensures { TidiedCarriesAlike }
 {}
 
-/// Types that are lawful as declared, with a default that spells out what is at a default of its own.
-pub fn as_declared_rows()
-    ensures { AsDeclaredRows }
+/// A default that spells out what is at a default of its own, and its normal form.
+pub fn tidy_rows()
+    ensures { TidyRows }
 {}

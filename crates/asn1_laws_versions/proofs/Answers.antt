@@ -6,7 +6,7 @@ use Rattle.asn1_model.specs.Value.{Value}
 use Rattle.asn1_model.specs.Lawful.{IsLawful}
 use Rattle.asn1_model.specs.Rules.{Rules, canonical}
 use Rattle.asn1_laws_across.proofs.Canonical.{same_written}
-use Rattle.asn1_laws_across.proofs.Streams.{one_front}
+use Rattle.asn1_laws_fronts.proofs.Every.{one_front}
 use Rattle.asn1_laws_versions.specs.Answers.{IsMessage, Answer, answered, not_an_encoding, surplus, no_target, IsAnswer}
 
 pub whole : (w : List ℕ) → w ++ [] ≡ w

@@ -7,7 +7,7 @@ use Rattle.asn1_model.specs.Normal.{normal, is_normal}
 use Rattle.asn1_model.specs.Rules.{canonical}
 use Rattle.asn1_model.specs.Versions.{drop, grow}
 use Rattle.asn1_laws_values.proofs.Messages.{some_parts}
-use Rattle.asn1_laws_versions.specs.RefusedLaws.{is_strict}
+use Rattle.asn1_laws_versions.specs.ExactLaws.{is_strict}
 use Rattle.asn1_laws_versions.specs.Answers.{Answer, not_an_encoding, no_target}
 use Rattle.asn1_laws_versions.specs.Routes.{Version, older, newer, Hop, schema_of, Passed, no_hop, newer_alone, an_older, Stage, behind, Cause, unknown, too_deep, clash, missing, unwritable, answer_to, value_written, NestsTooDeep, Holds, HasNoCause, HasCause, GoesThrough, FailsAt}
 

@@ -72,16 +72,6 @@ reads_the_drop r old new v u x w l h d e f = one_meaning r old x u w l (reads_al
 pub reads_the_growth : (r : Rules) (old new : Schema) (u v x : Value) (w : List ℕ) → is_lawful new ≡ true → Extends old new → grow old new (normal old u) ≡ Some v → canonical r old u ≡ Some w → IsEncoding r new x w → same x v ≡ true
 reads_the_growth r old new u v x w l h g e f = one_meaning r new x v w l (reads_alike r new x w f) (newer_reads r old new u v w h g (sym (writes_alike r old u) ∙ e))
 
-clash_refused : (r : Rules) → ((s : Schema) (v : Value) (w : List ℕ) → IsEncoding r s v w → is_normal s v ≡ true) → (old new : Schema) (v x : Value) (w : List ℕ) → is_lawful old ≡ true → Extends old new → IsClash old new v → canonical r new v ≡ Some w → IsEncoding r old x w → ⊥
-clash_refused r strict old new v x w l h c e f =
-    let s = reads_the_drop r old new v c.0 x w l h c.1 e f in
-    let n : is_normal old c.0 ≡ true = stays_normal old x c.0 s (strict old x w f) in
-    let m = c.2 in
-    apart (sym n ∙ m)
-  where
-    apart : true ≡ false → ⊥
-    apart q = cc
-
 pub strict_uper : (s : Schema) (v : Value) (w : List ℕ) → IsEncoding uper_strict s v w → is_normal s v ≡ true
 unfolding IsEncoding
 strict_uper s v w h = message_normal false s v _ h.1
@@ -93,12 +83,3 @@ strict_aper s v w h = message_normal true s v _ h.1
 pub strict_octets : (s : Schema) (v : Value) (w : List ℕ) → IsEncoding coer s v w → is_normal s v ≡ true
 unfolding IsEncoding
 strict_octets s v w h = octets_normal s v w h.1
-
-pub clash_uper : (old new : Schema) (v x : Value) (w : List ℕ) → is_lawful old ≡ true → Extends old new → IsClash old new v → canonical uper_strict new v ≡ Some w → IsEncoding uper_strict old x w → ⊥
-clash_uper = clash_refused uper_strict strict_uper
-
-pub clash_aper : (old new : Schema) (v x : Value) (w : List ℕ) → is_lawful old ≡ true → Extends old new → IsClash old new v → canonical aper_strict new v ≡ Some w → IsEncoding aper_strict old x w → ⊥
-clash_aper = clash_refused aper_strict strict_aper
-
-pub clash_octets : (old new : Schema) (v x : Value) (w : List ℕ) → is_lawful old ≡ true → Extends old new → IsClash old new v → canonical coer new v ≡ Some w → IsEncoding coer old x w → ⊥
-clash_octets = clash_refused coer strict_octets

@@ -22,7 +22,7 @@ use Rattle.asn1_laws_versions.proofs.Messages as packed
 use Rattle.asn1_laws_versions.proofs.OerVersions as octets
 use Rattle.asn1_laws_versions.proofs.Exact.{lenient_of, writes_alike, reads_alike, reads_the_drop, reads_the_growth, strict_uper, strict_aper, strict_octets}
 use Rattle.asn1_laws_versions.proofs.Normals.{grown_is_normal}
-use Rattle.asn1_laws_versions.specs.RefusedLaws.{MayBeRead, IsLeft, IsGrown}
+use Rattle.asn1_laws_versions.specs.ExactLaws.{MayBeRead, IsLeft, IsGrown}
 use Rattle.asn1_laws_versions.proofs.Taken.{as_written, covers_written, of_text}
 use Rattle.asn1_laws_versions.proofs.Parts.{There}
 use Rattle.asn1_laws_versions.proofs.Packed as packing

@@ -13,13 +13,13 @@ use Rattle.asn1_laws_values.proofs.Normals.{normal_again, normal_normal}
 use Rattle.asn1_laws_values.proofs.IsNormal.{stays_normal}
 use Rattle.asn1_laws_values.proofs.Normal.{normal_depth}
 use Rattle.asn1_laws_values.proofs.Same.{same_self}
-use Rattle.asn1_laws_across.proofs.Streams.{one_front}
+use Rattle.asn1_laws_fronts.proofs.Every.{one_front}
 use Rattle.asn1_laws_values.proofs.PerTyped.{message_of}
 use Rattle.asn1_laws_values.proofs.OerTyped.{octets_are_of}
 use Rattle.asn1_laws_values.proofs.Typed.{normal_is_of}
 use Rattle.asn1_laws_versions.proofs.Back.{dropped_back}
 use Rattle.asn1_laws_versions.proofs.Levels.{same_depth, grown_depth}
-use Rattle.asn1_laws_versions.specs.RefusedLaws.{is_strict, MayBeRead}
+use Rattle.asn1_laws_versions.specs.ExactLaws.{is_strict, MayBeRead}
 use Rattle.asn1_laws_versions.proofs.Exactly.{older_refuses, newer_refuses, older_reads_exactly, newer_reads_exactly}
 use Rattle.asn1_laws_versions.specs.Answers.{IsMessage, Answer, not_an_encoding, no_target, IsAnswer}
 use Rattle.asn1_laws_versions.specs.Routes.{Version, older, newer, Hop, schema_of, HopAnswers, Passed, no_hop, newer_alone, an_older, Stage, at_first, and_one, Cause, unknown, too_deep, clash, missing, unwritable, answer_to, value_written, Holds, HasNoCause, HasCause, IsWritten, IsSeen}

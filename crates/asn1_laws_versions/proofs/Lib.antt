@@ -1,3 +1,4 @@
+pub mod Between
 pub mod PerVersions
 pub mod Messages
 pub mod OerVersions
@@ -23,9 +24,3 @@ pub mod Hops
 pub mod Routes
 pub mod Relays
 pub mod Deciding
-pub mod Declared
-pub mod Bags
-pub mod Streams
-pub mod Versions
-pub mod DeclaredAlike
-pub mod DeclaredRoutes

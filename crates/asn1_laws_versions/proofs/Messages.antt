@@ -5,7 +5,7 @@ use Rattle.asn1_model.specs.Schema.{Schema}
 use Rattle.asn1_model.specs.Normal.{normal, is_normal}
 use Rattle.asn1_model.specs.Form.{Reads}
 use Rattle.asn1_model.specs.Rules.{lenient, strict_per, uper, aper, uper_strict, aper_strict, canonical, encoding, per, octet_bits, of_moderate_length, IsEncoding}
-use Rattle.asn1_laws_values.specs.Versions.{OlderReads, OlderReadsNormal, NewerReads, NewerReadsNormal}
+use Rattle.asn1_laws_versions.proofs.Between.{OlderReads, OlderReadsNormal, NewerReads, NewerReadsNormal}
 use Rattle.asn1_model.specs.Per
 use Rattle.asn1_model.specs.Versions.{grow, lessen, Extends}
 use Rattle.asn1_laws_values.proofs.Covers.{Covers, covers_same, covers_within}

@@ -10,7 +10,7 @@ use Rattle.asn1_model.specs.Numbers.{is_count_within}
 use Rattle.asn1_model.specs.Tables.{marks, mark_unless, is_required, item_place}
 use Rattle.asn1_model.specs.Form.{refused, both, varied, written, Reads, only_if, given, joined, ascending, arranged, Bitmap, is_present, is_any_present, present_ones, covered_by, own_bitmap, stands_before}
 use Rattle.asn1_model.specs.Rules.{lenient, strict_oer, oer, coer, canonical, encoding, octet_encoding, of_moderate_length, IsEncoding}
-use Rattle.asn1_laws_values.specs.Versions.{OlderReads, OlderReadsNormal, NewerReads, NewerReadsNormal}
+use Rattle.asn1_laws_versions.proofs.Between.{OlderReads, OlderReadsNormal, NewerReads, NewerReadsNormal}
 use Rattle.asn1_model.specs.Oer
 use Rattle.asn1_model.specs.Versions.{grow, grow_parts, grow_alternative, all_absent, lessen, lessen_parts, lessen_alternative, map_each, both_parts, Begins, KeepsPresence, Extends, ExtendsEach, ExtendsAlternatives}
 use Rattle.asn1_model.proofs.Forms.{chain_parts, map_parts}

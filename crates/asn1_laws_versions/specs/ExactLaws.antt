@@ -1,23 +1,47 @@
--- Laws of what one version of a type reads of what the other writes.
-use Rattle.std.specs.Prelude.{◌≡◌, ℕ, true, List, Some}
+-- Laws of what one version of a type reads of what the other writes, and of what it refuses.
+use Rattle.std.specs.Prelude.{◌≡◌, ℕ, Bool, true, false, List, ◌++◌, Some}
 use Rattle.asn1_model.specs.Value.{Value, same}
 use Rattle.asn1_model.specs.Schema.{Schema}
 use Rattle.asn1_model.specs.Lawful.{IsLawful}
-use Rattle.asn1_model.specs.Normal.{normal}
-use Rattle.asn1_model.specs.Rules.{Rules, uper_strict, aper_strict, coer, canonical, IsEncoding}
-use Rattle.asn1_model.specs.Versions.{Extends, drop, grow, IsClash}
+use Rattle.asn1_model.specs.Normal.{normal, is_normal}
+use Rattle.asn1_model.specs.Rules.{Rules, uper, aper, uper_strict, aper_strict, oer, coer, canonical, IsEncoding}
+use Rattle.asn1_model.specs.Versions.{Extends, drop, grow}
 
--- What the older version reads of what the newer one writes is the value without what it lacks, and nothing else.
-abbrev pub OlderReadsTheDrop : Type 0
-OlderReadsTheDrop = (r : Rules) (old new : Schema) (v u x : Value) (w : List ℕ) → IsLawful old → Extends old new → drop old new v ≡ Some u → canonical r new v ≡ Some w → IsEncoding r old x w → same x u ≡ true
+-- Whether the reader of these rules takes normal values alone.
+abbrev pub is_strict : Rules → Bool
+is_strict uper = false
+is_strict aper = false
+is_strict oer = false
+is_strict uper_strict = true
+is_strict aper_strict = true
+is_strict coer = true
 
--- In the strict rules it refuses what the loss has left with a part at its default.
-abbrev pub RefusesAClash : Rules → Type 0
-RefusesAClash r = (old new : Schema) (v x : Value) (w : List ℕ) → IsLawful old → Extends old new → IsClash old new v → canonical r new v ≡ Some w → IsEncoding r old x w → ⊥
+-- In the strict rules the value is normal.
+abbrev pub MayBeRead : Rules → Schema → Value → Type 0
+MayBeRead r s v = is_strict r ≡ true → is_normal s v ≡ true
 
-abbrev pub OlderRefusesAClash : Type 0
-OlderRefusesAClash = RefusesAClash uper_strict × RefusesAClash aper_strict × RefusesAClash coer
+-- A value is what the older version can see of one of the newer, up to the order of bags, and in the strict rules it is normal.
+abbrev pub IsLeft : Rules → Schema → Schema → Value → Value → Type 0
+IsLeft r old new v x = (u : Value) × (drop old new v ≡ Some u) × (same x u ≡ true) × MayBeRead r old x
 
--- What the newer version reads of what the older one writes is the same value, with what only it has absent, and nothing else.
-abbrev pub NewerReadsTheGrowth : Type 0
-NewerReadsTheGrowth = (r : Rules) (old new : Schema) (u v x : Value) (w : List ℕ) → IsLawful new → Extends old new → grow old new (normal old u) ≡ Some v → canonical r old u ≡ Some w → IsEncoding r new x w → same x v ≡ true
+-- A value is one of the older version as one of the newer, up to the order of bags.
+abbrev pub IsGrown : Schema → Schema → Value → Value → Type 0
+IsGrown old new u x = (v : Value) × (grow old new (normal old u) ≡ Some v) × (same x v ≡ true)
+
+-- What the newer version writes, the older one reads as a value exactly if this is the one without what the older version lacks, and in the
+-- strict rules normal: it reads all of it, and no other beginning, whatever stands behind.
+abbrev pub OlderReadsExactly : Type 0
+OlderReadsExactly =
+    (r : Rules) (old new : Schema) (v x : Value) (w : List ℕ)
+    → IsLawful old → IsLawful new → Extends old new → canonical r new v ≡ Some w
+    → (IsLeft r old new v x → IsEncoding r old x w)
+    × ((a y z : List ℕ) → IsEncoding r old x a → a ++ y ≡ w ++ z → (a ≡ w) × IsLeft r old new v x)
+
+-- What the older version writes, the newer one reads as a value exactly if this is the same one, with what only the newer version has absent:
+-- it reads all of it, and no other beginning, whatever stands behind.
+abbrev pub NewerReadsExactly : Type 0
+NewerReadsExactly =
+    (r : Rules) (old new : Schema) (u x : Value) (w : List ℕ)
+    → IsLawful old → IsLawful new → Extends old new → canonical r old u ≡ Some w
+    → (IsGrown old new u x → IsEncoding r new x w)
+    × ((a y z : List ℕ) → IsEncoding r new x a → a ++ y ≡ w ++ z → (a ≡ w) × IsGrown old new u x)

@@ -1,11 +1,7 @@
-pub mod Laws
-pub mod OctetLaws
 pub mod ExactLaws
 pub mod ExtendingLaws
-pub mod RefusedLaws
 pub mod Answers
 pub mod Routes
 pub mod Relays
 pub mod RouteLaws
 pub mod RouteRows
-pub mod DeclaredLaws

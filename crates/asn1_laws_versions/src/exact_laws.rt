@@ -1,18 +1,15 @@
-//! What one version of a type reads of what the other writes: that value and no other.
+//! What one version of a type reads of what the other writes: that value and no other, and all of it.
 
-ghost use Rattle.asn1_laws_versions.specs.ExactLaws.{OlderReadsTheDrop, OlderRefusesAClash, NewerReadsTheGrowth};
+ghost use Rattle.asn1_laws_versions.specs.ExactLaws.{OlderReadsExactly, NewerReadsExactly};
 
-/// What the older version reads of what the newer one writes is the value without what it lacks, and nothing else.
-pub fn older_reads_the_drop()
-    ensures { OlderReadsTheDrop }
+/// What the newer version writes, the older one reads as a value exactly if this is the one without what the older version lacks, and in
+/// the strict rules normal: it reads all of it, and no other beginning, whatever stands behind.
+pub fn older_reads_exactly()
+    ensures { OlderReadsExactly }
 {}
 
-/// In the strict rules the older version refuses what the loss has left with a part at its default.
-pub fn older_refuses_a_clash()
-    ensures { OlderRefusesAClash }
-{}
-
-/// What the newer version reads of what the older one writes is the same value, with what only it has absent, and nothing else.
-pub fn newer_reads_the_growth()
-    ensures { NewerReadsTheGrowth }
+/// What the older version writes, the newer one reads as a value exactly if this is the same one, with what only the newer version has
+/// absent: it reads all of it, and no other beginning, whatever stands behind.
+pub fn newer_reads_exactly()
+    ensures { NewerReadsExactly }
 {}

@@ -2,7 +2,7 @@
 use Rattle.std.specs.Prelude.{unwrap_or}
 use Rattle.std.proofs.Common.{◌≡◌, ℕ, ◌+◌, Bool, true, false, IsTrue, List, ◌++◌, length, Option, Some, None, option_map, option_and_then, refl, ap}
 use Rattle.std.proofs.Common.{inl, inr, subst, ◌⊎◌}
-use Rattle.asn1_model.specs.Form.{Form, exactly, refused, both, placed, varied, within, written, written_by, Reads, canonically}
+use Rattle.asn1_model.specs.Form.{Form, exactly, refused, both, placed, varied, within, written, Reads, canonically}
 
 wider : {P Q : Type 0} (E : Type 0) → E ⊎ P → (P → Q) → E ⊎ Q
 wider E (inl e) h = inl e
@@ -57,6 +57,15 @@ reads_written (within x f) p w e =
 by_choice : {X : Type 0} {P : Type 0} (o : Option X) (d : X) → ((e : X) → o ≡ Some e → P) → (unwrap_or o d ≡ d) ⊎ P
 by_choice None d h = inl refl
 by_choice (Some e) d h = inr (h e refl)
+
+-- A text that a reader may meet: the choice tells the detail at each freedom and position, where it is not the canonical one.
+unfoldable pub written_by : {F : Type 0} {D : F → Type 0} {A : Type 0} → ((c : F) → ℕ → Option (D c)) → Form F D A → ℕ → Option (List A)
+written_by choice (exactly l) p = Some l
+written_by choice refused p = None
+written_by choice (both x y) p = option_and_then (λ a. option_map (λ b. a ++ b) (written_by choice y (p + length a))) (written_by choice x p)
+written_by choice (placed f) p = written_by choice (f p) p
+written_by choice (varied c d f) p = written_by choice (f (unwrap_or (choice c p) d)) p
+written_by choice (within x f) p = option_and_then (λ w. written_by choice (f w) p) (written_by choice x 0)
 
 -- what is written by choices that a reader is free to meet, it reads
 pub reads_written_by : {F : Type 0} {D : F → Type 0} {A : Type 0} (free : F → Bool) (choice : (c : F) → ℕ → Option (D c)) (x : Form F D A) (p : ℕ) (w : List A) → ((c : F) (p : ℕ) (d : D c) → choice c p ≡ Some d → IsTrue (free c)) → written_by choice x p ≡ Some w → Reads free x p w

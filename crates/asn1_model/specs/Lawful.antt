@@ -1,13 +1,12 @@
 -- Which types are lawful: tables ascend, tags and items are distinct, bounds are ordered, additions stand behind a mark, defaults are values of
--- their types and in normal form.
-use Rattle.std.specs.Prelude.{ℕ, ◌==◌, ltb, leb, ℤ, Bool, true, false, cond, not, ◌&&◌, ◌||◌, IsTrue, List, [], ◌∷◌, ◌++◌, Option, Some, None}
+-- their types.
+use Rattle.std.specs.Prelude.{◌==◌, ltb, leb, ℤ, Bool, true, false, cond, not, ◌&&◌, ◌||◌, IsTrue, List, [], ◌∷◌, ◌++◌, Option, Some}
 use Rattle.asn1_model.specs.Value.{same_number}
-use Rattle.asn1_model.specs.Schema.{Tag, Range, Counts, Size, StringKind, Presence, optional, by_default, Schema, integer, enumerated, bit_string, octet_string}
+use Rattle.asn1_model.specs.Schema.{Tag, Range, Counts, Size, Presence, optional, by_default, Schema, integer, enumerated, bit_string, octet_string}
 use Rattle.asn1_model.specs.Schema.{character_string, sequence_of, set_of, sequence, set, group, choice, Components, no_component, component}
 use Rattle.asn1_model.specs.Schema.{Alternatives, no_alternative, alternative}
-use Rattle.asn1_model.specs.Numbers.{is_at_most}
-use Rattle.asn1_model.specs.Strings.{each_is, is_of_octets}
-use Rattle.asn1_model.specs.Normal.{is_normal}
+use Rattle.asn1_model.specs.Numbers.{is_at_most, is_count_to}
+use Rattle.asn1_model.specs.Strings.{each_is}
 use Rattle.asn1_model.specs.Typed.{is_of}
 
 -- ---- tags (X.680 8.6): by class, and then by number
@@ -78,23 +77,13 @@ abbrev pub are_ordered : Option ℤ → Option ℤ → Bool
 are_ordered (Some a) (Some b) = is_at_most a b
 are_ordered a b = true
 
--- The same of counts.
-abbrev pub are_counts_ordered : ℕ → Option ℕ → Bool
-are_counts_ordered a (Some b) = leb a b
-are_counts_ordered a None = true
-
 -- Ordered bounds.
 abbrev pub is_range : Range → Bool
 is_range r = are_ordered r.low r.high
 
 -- Ordered sizes, of the constraint and of the program's type.
 abbrev pub is_size : Size → Counts → Bool
-is_size z held = are_counts_ordered z.counts.low z.counts.high && are_counts_ordered held.low held.high
-
--- An alphabet ascends, where it may count; it may go past the type's own.
-abbrev pub is_alphabet : StringKind → Option (List ℕ) → Bool
-is_alphabet k None = true
-is_alphabet k (Some cs) = is_of_octets k || are_ascending ltb cs
+is_size z held = is_count_to z.counts.high z.counts.low && is_count_to held.high held.low
 
 -- The order of whole numbers.
 abbrev pub int_less : ℤ → ℤ → Bool
@@ -132,12 +121,6 @@ abbrev pub has_typed_default : Schema → Presence → Bool
 has_typed_default s (by_default d) = is_of s d
 has_typed_default s o = true
 
--- Whether a default is in normal form. It is one abstract value however it is written (X.680 25): one that spells out what is at its own
--- default means the same as one without it, so no type is lost. Without this, two unfoldings of a recursive type could differ.
-abbrev pub has_normal_default : Schema → Presence → Bool
-has_normal_default s (by_default d) = is_normal s d
-has_normal_default s o = true
-
 unfoldable mutual
   -- Whether a type is lawful (X.680 20, 25 to 29).
   pub is_lawful : Schema → Bool
@@ -146,7 +129,7 @@ unfoldable mutual
       not (is_empty roots) && (e || is_empty adds) && are_ascending int_less roots && are_ascending int_less adds && are_distinct same_number (roots ++ adds)
   is_lawful (bit_string z held) = is_size z held
   is_lawful (octet_string z held) = is_size z held
-  is_lawful (character_string k z a held) = is_size z held && is_alphabet k a.characters
+  is_lawful (character_string k z a held) = is_size z held
   is_lawful (sequence_of z held s) = is_size z held && not (is_group s) && is_lawful s
   is_lawful (set_of z held s) = is_size z held && not (is_group s) && is_lawful s
   is_lawful (sequence cs e adds) = is_sequence_table cs e adds && are_lawful cs && are_lawful adds
@@ -157,10 +140,10 @@ unfoldable mutual
       && are_distinct tag_same (alternative_tags roots ++ alternative_tags adds) && are_lawful_alternatives roots && are_lawful_alternatives adds
   is_lawful s = true
 
-  -- Whether the types of all components are, and their defaults are values of them, in normal form.
+  -- Whether the types of all components are, and their defaults are values of them, in normal form or not (X.680 25).
   pub are_lawful : Components → Bool
   are_lawful no_component = true
-  are_lawful (component t o s cs) = not (is_empty t) && each_is is_tag t && has_typed_default s o && has_normal_default s o && is_lawful s && are_lawful cs
+  are_lawful (component t o s cs) = not (is_empty t) && each_is is_tag t && has_typed_default s o && is_lawful s && are_lawful cs
 
   -- Whether the types of all alternatives are.
   pub are_lawful_alternatives : Alternatives → Bool

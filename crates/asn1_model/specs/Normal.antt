@@ -1,9 +1,9 @@
 -- The normal form of a value: what is equal to its default is absent (X.691 19.5 and X.696 16 in their canonical forms), and so is, by the
 -- project's choice, a group of additions that are all absent.
-use Rattle.std.specs.Prelude.{ℕ, zero, suc, Bool, true, false, ◌||◌, ◌&&◌, not}
+use Rattle.std.specs.Prelude.{ℕ, zero, suc, Bool, true, false, ◌||◌, ◌&&◌, not, IsTrue}
 use Rattle.asn1_model.specs.Value.{Value, Values, no_more, member, members, bag, fields, chosen, Parts, absent, present, same, are_absent}
 use Rattle.asn1_model.specs.Value.{map_members}
-use Rattle.asn1_model.specs.Schema.{Presence, by_default, Schema, sequence_of, set_of, sequence, set, group, choice, Components, component}
+use Rattle.asn1_model.specs.Schema.{Presence, by_default, Schema, sequence_of, set_of, sequence, set, group, choice, Components, no_component, component}
 use Rattle.asn1_model.specs.Schema.{Alternatives, no_alternative, alternative}
 
 -- A group none of whose components is there.
@@ -83,3 +83,33 @@ unfoldable mutual
   is_normal_alternative (alternative t s others) zero v = is_normal s v
   is_normal_alternative (alternative t s others) (suc i) v = is_normal_alternative others i v
   is_normal_alternative no_alternative i v = true
+
+-- Whether a default is in normal form. It is one abstract value however it is written (X.680 25), so that no type is lost by it.
+abbrev pub has_normal_default : Schema → Presence → Bool
+has_normal_default s (by_default d) = is_normal s d
+has_normal_default s o = true
+
+unfoldable mutual
+  -- Whether each default in a type is in normal form. Where one is not, two unfoldings of a recursive type may differ.
+  pub is_tidy : Schema → Bool
+  is_tidy (sequence_of z h s) = is_tidy s
+  is_tidy (set_of z h s) = is_tidy s
+  is_tidy (sequence cs e adds) = are_tidy cs && are_tidy adds
+  is_tidy (set cs e adds) = are_tidy cs && are_tidy adds
+  is_tidy (group cs) = are_tidy cs
+  is_tidy (choice roots e adds) = are_tidy_alternatives roots && are_tidy_alternatives adds
+  is_tidy s = true
+
+  -- The same of components.
+  pub are_tidy : Components → Bool
+  are_tidy no_component = true
+  are_tidy (component t o s cs) = has_normal_default s o && is_tidy s && are_tidy cs
+
+  -- The same of alternatives.
+  pub are_tidy_alternatives : Alternatives → Bool
+  are_tidy_alternatives no_alternative = true
+  are_tidy_alternatives (alternative t s others) = is_tidy s && are_tidy_alternatives others
+
+-- The same as a proposition.
+abbrev pub IsTidy : Schema → Type 0
+IsTidy s = IsTrue (is_tidy s)

@@ -1,12 +1,12 @@
 -- Rows: the canonical octets of types and values, worked out by hand from the rules and computed here from the definitions.
 use Rattle.std.specs.Prelude.{◌+◌, ◌-◌, ◌^◌, pos, true, false, [], ◌∷◌, ◌++◌, replicate, Some}
-use Rattle.asn1_model.specs.Value.{nothing, item, text, arcs, chosen}
+use Rattle.asn1_model.specs.Value.{nothing, item, arcs, chosen}
 use Rattle.asn1_model.specs.Schema.{boolean, null, integer, enumerated}
 use Rattle.asn1_model.specs.Schema.{object_identifier, sequence_of, choice}
 use Rattle.asn1_model.specs.Rules.{uper, aper, coer}
 use Rattle.asn1_model.specs.Types.{Writes, WritesNothing, minus, from_to, any_size, sizes, sizes_or_more, whole, between}
-use Rattle.asn1_model.specs.Types.{at_least, small, bit_text, octet_text, list, context}
-use Rattle.asn1_model.specs.Types.{one_of, yes, no, num, below, set_bits, bits_of, signed_items, octet_number, marked_number}
+use Rattle.asn1_model.specs.Types.{at_least, bit_text, octet_text, list, context}
+use Rattle.asn1_model.specs.Types.{one_of, yes, num, below, set_bits, bits_of, signed_items, octet_number, marked_number}
 use Rattle.asn1_model.specs.Types.{word_number, from_zero, at_most_5, min_to_max, marked_min_to_max, colour_old}
 use Rattle.asn1_model.specs.Types.{numbers_from, any_bits, marked_octets, flagged}
 use Rattle.asn1_model.specs.Types.{one_or_two, only_tagged, marked_choice}

@@ -55,10 +55,20 @@ abbrev pub is_among : List Run → ℕ → Bool
 is_among [] c = false
 is_among (r ∷ rs) c = is_in_run c r || is_among rs c
 
--- The characters that a constraint leaves of the type's own (X.680 51.7, X.691 30.5). A constraint with a mark of extensibility counts for
--- nothing, by the project's choice.
+-- A character put among others that ascend, unless it is one of them.
+abbrev pub put_in : ℕ → List ℕ → List ℕ
+put_in c [] = c ∷ []
+put_in c (d ∷ ds) = cond (ltb c d) (c ∷ d ∷ ds) (cond (c == d) (d ∷ ds) (d ∷ put_in c ds))
+
+-- Characters in ascending order, each once.
+abbrev pub sorted : List ℕ → List ℕ
+sorted [] = []
+sorted (c ∷ cs) = put_in c (sorted cs)
+
+-- The characters that a constraint leaves of the type's own, in whatever order it lists them (X.680 51.7, X.691 30.5). A constraint with a
+-- mark of extensibility counts for nothing, by the project's choice.
 abbrev pub permitted_in : StringKind → Bool → Option (List ℕ) → List Run
-permitted_in k false (Some cs) = map (λ c. run c c) (filter (is_among (characters_of k)) cs)
+permitted_in k false (Some cs) = map (λ c. run c c) (sorted (filter (is_among (characters_of k)) cs))
 permitted_in k e cs = characters_of k
 
 -- The same, of an alphabet.

@@ -1,14 +1,18 @@
 -- Rows: lawful types, and two versions of a type.
-use Rattle.std.specs.Prelude.{◌≡◌, ℕ, zero, suc, pos, true, false, List, [], ◌∷◌, ◌++◌, Some, None}
-use Rattle.asn1_model.specs.Value.{Value, item, chosen, absent, present, end}
+use Rattle.std.specs.Prelude.{◌≡◌, ℕ, zero, suc, pos, true, false, List, [], ◌∷◌, ◌++◌, Option, Some, None, option_map}
+use Rattle.asn1_model.specs.Value.{Value, depth, item, chosen, absent, present, end}
 use Rattle.asn1_model.specs.Schema.{Tag, Schema, cut, numeric, utf8, boolean, null, enumerated, character_string, sequence, set, group, choice, no_component}
 use Rattle.asn1_model.specs.Schema.{component, required, optional, Alternatives, no_alternative}
 use Rattle.asn1_model.specs.Lawful.{is_lawful}
-use Rattle.asn1_model.specs.Versions.{Extends, drop, grow, seen, IsClash}
+use Rattle.asn1_model.specs.Versions.{Extends, drop, grow, IsClash}
 use Rattle.asn1_model.specs.Types.{minus, any_count, any_size, sizes, letters, between, octet_text, list, context, needs, may_have, closed}
 use Rattle.asn1_model.specs.Types.{open_behind, or_tagged, one_of, num, roots, colour_old, colour_new, defaulted, marked_choice, new_type, old_type}
 use Rattle.asn1_model.specs.Types.{required_new, default_old, default_new, grouped, nest, nest_added, nested, yes_with, yes_without, yes_alone}
 use Rattle.asn1_model.specs.Types.{null_alternatives, bag_of, bag_with, set_of_three, set_with_choice, whole, has_default, only_tagged, yes}
+
+-- The levels that the older version reads.
+abbrev pub seen : Schema → Schema → Value → Option ℕ
+seen old new v = option_map depth (drop old new v)
 
 -- CHOICE {a [0] INTEGER, b [1] INTEGER, ...}
 abbrev pub choice_old : Schema
@@ -28,8 +32,8 @@ abbrev pub spelled : Value
 spelled = roots (present (roots (absent end)) end)
 
 -- SEQUENCE {t T DEFAULT the value}
-abbrev pub with_default : ℕ → Value → Schema
-with_default n d = closed (has_default 0 (unfolded n) d no_component)
+abbrev pub sequence_default : ℕ → Value → Schema
+sequence_default n d = closed (has_default 0 (unfolded n) d no_component)
 
 -- SEQUENCE {a SET OF INTEGER DEFAULT {.., ..}, ...}
 abbrev pub bag_default : ℕ → ℕ → Schema
@@ -67,10 +71,10 @@ LawfulRows =
     × (is_lawful (enumerated [] true (pos 0 ∷ [])) ≡ false)
     × (is_lawful (sequence (needs 0 boolean no_component) false (needs 1 boolean no_component)) ≡ false)
     × (is_lawful (open_behind no_component (needs 1 (group (needs 0 boolean no_component)) no_component)) ≡ false)
-    -- an alphabet may go past the type's own, and counts for nothing where octets stand; its characters ascend
+    -- an alphabet may go past the type's own, and lists its characters in any order
     × (is_lawful (character_string numeric any_size (letters (0x30 ∷ 0x61 ∷ [])) any_count) ≡ true)
     × (is_lawful (character_string utf8 any_size (letters (0xE9 ∷ [])) any_count) ≡ true)
-    × (is_lawful (character_string numeric any_size (letters (0x31 ∷ 0x30 ∷ [])) any_count) ≡ false)
+    × (is_lawful (character_string numeric any_size (letters (0x31 ∷ 0x30 ∷ 0x31 ∷ [])) any_count) ≡ true)
     -- groups: with parts, with tags that differ, and among additions alone
     × (is_lawful (open_behind no_component (may_have 1 (group (needs 0 boolean (needs 0 boolean no_component))) no_component)) ≡ false)
     × (is_lawful (open_behind no_component (may_have 1 (group no_component) no_component)) ≡ false)
@@ -90,15 +94,15 @@ LawfulRows =
     × (is_lawful (octet_text (sizes 5 4)) ≡ false)
     × (is_lawful (enumerated (pos 0 ∷ []) false (pos 1 ∷ [])) ≡ false)
     × (is_lawful (enumerated (pos 0 ∷ minus 1 ∷ []) false []) ≡ false)
-    -- a default spells out nothing that is at its own default, and no empty group; T as above, then DEFAULT {a 0} and {a TRUE, [[]]}
+    -- a default may spell out what is at its own default, or an empty group; T as above, then DEFAULT {a 0} and {a TRUE, [[]]}
     × (is_lawful (unfolded 3) ≡ true)
-    × (is_lawful (with_default 3 (roots (present spelled end))) ≡ false)
-    × (is_lawful (with_default 3 spelled) ≡ false)
-    × (is_lawful (with_default 3 (roots (absent end))) ≡ true)
-    × (is_lawful (closed (has_default 0 defaulted (roots (present (num 0) (absent end))) no_component)) ≡ false)
+    × (is_lawful (sequence_default 3 (roots (present spelled end))) ≡ true)
+    × (is_lawful (sequence_default 3 spelled) ≡ true)
+    × (is_lawful (sequence_default 3 (roots (absent end))) ≡ true)
+    × (is_lawful (closed (has_default 0 defaulted (roots (present (num 0) (absent end))) no_component)) ≡ true)
     × (is_lawful (closed (has_default 0 defaulted (roots (absent (absent end))) no_component)) ≡ true)
     × (is_lawful (closed (has_default 0 defaulted (roots (present (num 1) (absent end))) no_component)) ≡ true)
-    × (is_lawful (closed (has_default 0 grouped (yes_with (roots (absent end))) no_component)) ≡ false)
+    × (is_lawful (closed (has_default 0 grouped (yes_with (roots (absent end))) no_component)) ≡ true)
     × (is_lawful (closed (has_default 0 grouped yes_without no_component)) ≡ true)
     × (is_lawful default_old ≡ true)
     × (is_lawful default_new ≡ true)

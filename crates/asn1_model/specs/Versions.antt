@@ -1,6 +1,6 @@
 -- Two versions of a type: the newer has further additions, alternatives and items behind its marks, and is as the older one else (X.680 52).
 use Rattle.std.specs.Prelude.{◌≡◌, ℕ, zero, suc, Bool, true, false, cond, ◌||◌, List, ◌++◌, All, Contains, Option, Some, None, option_map, option_and_then}
-use Rattle.asn1_model.specs.Value.{Value, item, members, bag, fields, chosen, Values, no_more, member, Parts, end, absent, present, same, depth}
+use Rattle.asn1_model.specs.Value.{Value, item, members, bag, fields, chosen, Values, no_more, member, Parts, end, absent, present, same}
 use Rattle.asn1_model.specs.Schema.{Tag, Presence, required, optional, by_default, Schema, cut, boolean, null, integer, enumerated, bit_string}
 use Rattle.asn1_model.specs.Schema.{octet_string, character_string, object_identifier, sequence_of, set_of, sequence, set, group, choice, Components}
 use Rattle.asn1_model.specs.Schema.{no_component, component, Alternatives, no_alternative, alternative}
@@ -88,10 +88,6 @@ unfoldable mutual
 -- The normal form of a value of the newer version, without the parts that the older one lacks.
 abbrev pub drop : Schema → Schema → Value → Option Value
 drop old new v = lessen old new (normal new v)
-
--- The levels that the older version reads.
-abbrev pub seen : Schema → Schema → Value → Option ℕ
-seen old new v = option_map depth (drop old new v)
 
 -- By the loss a part that the older version knows has become its default, or a group has become empty, so that what is left is not normal.
 abbrev pub IsClash : Schema → Schema → Value → Type 0

@@ -1,4 +1,4 @@
-use Rattle.asn1_laws_values.proofs.Declared.{tidied_is_lawful}
+use Rattle.asn1_laws_values.proofs.TidiedLawful.{tidied_is_lawful}
 use Rattle.asn1_laws_values.proofs.unfolding_laws.tidied_is_lawful.Goals as goal
 
 pub returns : goal.returns

@@ -1,7 +1,0 @@
--- Of all beginnings of some octets one at most is an encoding in the packed rules.
-use Rattle.asn1_model.specs.Rules.{uper, aper, uper_strict, aper_strict}
-use Rattle.asn1_laws_fronts.specs.Laws.{OneFrontIn}
-
--- Of all beginnings of some octets one at most is an encoding of a lawful type, and of one value, up to the order of bags.
-abbrev pub OneFront : Type 0
-OneFront = OneFrontIn uper × OneFrontIn aper × OneFrontIn uper_strict × OneFrontIn aper_strict

@@ -1,5 +1,0 @@
-use Rattle.asn1_laws_versions.proofs.DeclaredRoutes.{refused_exactly}
-use Rattle.asn1_laws_versions.proofs.declared_laws.route_refuses_exactly.Goals as goal
-
-pub returns : goal.returns
-returns c = λ old new from hops v w lo ln ext n e. refused_exactly old new lo ln ext from hops v w e

@@ -1,5 +1,0 @@
-use Rattle.asn1_laws_versions.proofs.Exactly.{older_reads_exactly}
-use Rattle.asn1_laws_versions.proofs.refused_laws.older_reads_exactly.Goals as goal
-
-pub returns : goal.returns
-returns c = λ r old new v x w l k h e. older_reads_exactly r old new v x w l k h e
