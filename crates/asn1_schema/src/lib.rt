@@ -20,7 +20,7 @@ pub use asn1_schema_constructed::{
     Alternatives, Choice, Constructed, DecodeAlternatives, DecodeBag, DecodeChoice,
     DecodeConstructed, DecodeItems, DecodeSet, EncodeBag, EncodeChoice, EncodeConstructed,
     EncodeItems, EncodeSet, EnumeratedType, Field, FieldPresence, Fields, NamedItems,
-    OptionalAndDefaultFields, alternative_of,
+    OptionalAndDefaultFields, Sequence, SequenceFields, alternative_of,
 };
 pub use asn1_schema_decode::{
     Decode, DecodeComponents, DecodeList, DecodeSequence, Decoder, ReadOctets,

@@ -1,6 +1,6 @@
 -- What a table of fields tells of the components of a type.
 use Rattle.std.specs.Prelude.{◌≡◌, ℕ, true, false, List, [], ◌∷◌, Option, Some, None}
-use Rattle.asn1_model.specs.Schema.{Presence, required, optional, by_default, Schema, set}
+use Rattle.asn1_model.specs.Schema.{Tag, Presence, required, optional, by_default, Schema, set}
 use Rattle.asn1_schema_tags.specs.Trees.{leaves}
 use Rattle.asn1_schema_constructed.specs.declared.tables.FieldPresence.{FieldPresence}
 use Rattle.asn1_schema_constructed.specs.declared.tables.FieldPresence.TheVariants.{Required, Optional, Default}
@@ -24,6 +24,10 @@ AreFields fs rest = ⊥
 abbrev pub AreAdditions : Option Fields → Table → Type 0
 AreAdditions None t = t.extensible ≡ false
 AreAdditions (Some fs) t = (t.extensible ≡ true) × AreFields fs.fields.now t.additions
+
+-- The tag of SEQUENCE (X.680 8.4).
+abbrev pub sequence_tags : List Tag
+sequence_tags = record { class = 0; number = 16 } ∷ []
 
 -- Which type the components make.
 pub data Form : Type 0 where
