@@ -79,8 +79,12 @@ impl Decode for Octets {
         tag: Tag,
         constraints: Constraints,
     ) -> Result<Self, DecodeError> {
-        let octets =
-            OctetString::decode_with_tag_and_constraints(alloc, decoder, tag, constraints)?;
+        let octets = OctetString::decode_with_tag_and_constraints(
+            alloc,
+            decoder,
+            tag,
+            constraints,
+        )?;
         Ok(Octets { octets })
     }
 }

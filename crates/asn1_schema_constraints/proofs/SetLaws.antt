@@ -7,7 +7,6 @@ use Rattle.asn1_schema_constraints.specs.declared.parts.Size.{Size}
 use Rattle.asn1_schema_constraints.specs.declared.extensions.Extensible.{Extensible}
 use Rattle.asn1_schema_constraints.specs.declared.extensions.PermittedAlphabet.{PermittedAlphabet}
 use Rattle.asn1_schema_constraints.specs.declared.lists.Constraint.{Constraint}
-use Rattle.asn1_schema_constraints.specs.declared.lists.Constraint.TheVariants.{Value as OfValue, Size as OfSize, PermittedAlphabet as OfAlphabet, Extensible as Mark}
 use Rattle.asn1_schema_constraints.specs.declared.lists.Constraints.{Constraints}
 use Rattle.asn1_schema_constraints.specs.Bounds.{admits_number, admits_count}
 use Rattle.asn1_schema_constraints.specs.Sets.{unconstrained, alone, both_parts, later_mark, met_values, met_sizes, later_alphabet, both, all_of, root_passes, admit_number, admit_count}

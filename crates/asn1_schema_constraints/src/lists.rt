@@ -2,8 +2,12 @@
 ghost use Rattle.std.specs.Prelude.{◌≡◌, ℕ, ℤ, ◌&&◌, Some, None, false, pos};
 ghost use Rattle.asn1_model.specs.Strings.{each_is};
 ghost use Rattle.std.specs.Option.{option_copied};
-ghost use Rattle.asn1_schema_constraints.specs.Sets.{alone, kind_of, kind_number, value_part, size_part, alphabet_part, has_mark, unconstrained, both_parts, met_values, met_sizes, later_alphabet, both, all_of, is_marked, admit_number, admit_count};
-ghost use Rattle.asn1_schema_constraints.specs.declared.lists.Constraint.TheVariants.{Value as OfValue, Size as OfSize, PermittedAlphabet as OfAlphabet};
+ghost use Rattle.asn1_schema_constraints.specs.Sets.{alone, kind_of, kind_number, value_part, size_part, alphabet_part};
+ghost use Rattle.asn1_schema_constraints.specs.Sets.{has_mark, unconstrained, both_parts, met_values, met_sizes};
+ghost use Rattle.asn1_schema_constraints.specs.Sets.{later_alphabet, both, all_of, is_marked, admit_number};
+ghost use Rattle.asn1_schema_constraints.specs.Sets.{admit_count};
+ghost use Rattle.asn1_schema_constraints.specs.declared.lists.Constraint.TheVariants.{Value as OfValue, Size as OfSize};
+ghost use Rattle.asn1_schema_constraints.specs.declared.lists.Constraint.TheVariants.{PermittedAlphabet as OfAlphabet};
 
 use crate::{Extensible, PermittedAlphabet, Size, Value};
 

@@ -1,13 +1,12 @@
 -- What stands after what was written has not failed.
-use Rattle.std.proofs.Common.{◌≡◌, ℕ, ◌≤◌, Option, Result, Err, IsErrAnd, subst, sym, ap, arith}
-use Rattle.asn1_model.specs.Value.{Value, depth, same}
-use Rattle.asn1_model.specs.Schema.{Tag, Presence, required, optional, by_default, Schema}
+use Rattle.std.proofs.Common.{◌≡◌, ℕ, ◌≤◌, Result, Err, IsErrAnd, sym, ap, arith}
+use Rattle.asn1_model.specs.Value.{Value, depth}
+use Rattle.asn1_model.specs.Schema.{Presence, Schema}
 use Rattle.asn1_schema_presented.specs.Records.{Record}
-use Rattle.asn1_schema_presented.specs.Presents.{Part, there}
-use Rattle.asn1_schema_presented.specs.Parts.{part_of, part_unless}
-use Rattle.asn1_schema_presented.specs.Tables.{IsType, IsValue}
+use Rattle.asn1_schema_presented.specs.Presents.{Part}
+use Rattle.asn1_schema_presented.specs.Tables.{IsValue}
 use Rattle.asn1_schema_presented.specs.Typed.{IsPart, part_depth}
-use Rattle.asn1_schema_presented.specs.Chains.{Chain, GoesOn}
+use Rattle.asn1_schema_presented.specs.Chains.{GoesOn}
 use Rattle.asn1_schema_presented.proofs.Chains.{failed_before}
 use Rattle.asn1_schema_encode.specs.Writes.{Writes, WritesPart}
 

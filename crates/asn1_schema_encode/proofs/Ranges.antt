@@ -1,5 +1,5 @@
 -- Numbers within a range, as they are written.
-use Rattle.std.proofs.Common.{◌≡◌, ℤ, true, None, subst}
+use Rattle.std.proofs.Common.{◌≡◌, ℤ, true, subst}
 use Rattle.asn1_model.specs.Numbers.{is_at_most}
 use Rattle.asn1_model.specs.Value.{number}
 use Rattle.asn1_schema_constraints.specs.Terms.{Meant, meant, held_where}

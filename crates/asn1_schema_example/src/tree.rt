@@ -125,10 +125,12 @@ impl Constructed for Tree {
 // The list of the trees that branch off. Each is read by a direct call, which the levels that are left bound.
 #[cycle(reading)]
 fn read_branches<D: Decoder>(alloc: Global, decoder: &mut D) -> Result<Vec<Tree>, DecodeError>
-    ensures ok { IfOk result (λ x. Reads D.step branches_schema (D.levels decoder.old) (members (values_of tree_meaning x.items)) decoder.old decoder.new) }
+    ensures ok { IfOk result (λ x. Reads D.step branches_schema (D.levels decoder.old)
+        (members (values_of tree_meaning x.items)) decoder.old decoder.new) }
     ensures level { OnOk result (D.levels decoder.new ≡ D.levels decoder.old) }
     ensures only { IfErr result (Unread D.step branches_schema (D.levels decoder.old) decoder.old) }
     ensures failed { OnErr result (D.has_failed decoder.new) }
+    ensures after { result ≡ Err DecodeError.AlreadyFailed → D.has_failed decoder.old }
 {
     decoder.begin_list(Tag::SEQUENCE, Constraints::NONE, Bounded::None)?;
     let mut branches = Vec::new(alloc);

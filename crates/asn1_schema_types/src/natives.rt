@@ -1,5 +1,5 @@
 //! INTEGER (X.680 19) in the native types, each with its own range.
-ghost use Rattle.std.specs.Prelude.{refl, [], ◌∷◌, Some, None, false, pos, negsuc, ◌^◌, ◌-◌};
+ghost use Rattle.std.specs.Prelude.{refl, [], ◌∷◌, pos, negsuc, ◌^◌, ◌-◌};
 ghost use Rattle.asn1_model.specs.Value.{number};
 ghost use Rattle.asn1_schema_constraints.specs.Terms.{from_to, integer_under};
 ghost use Rattle.asn1_schema_presented.proofs.TypesByKind.{integer_type, integer_value};
