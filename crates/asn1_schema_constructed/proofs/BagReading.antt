@@ -1,5 +1,5 @@
 -- How the records of a bag that a decoder finds are put together.
-use Rattle.std.proofs.Common.{◌≡◌, ℕ, ◌+◌, ◌<◌, zero, suc, true, false, List, [], ◌∷◌, refl, subst, sym, ◌∙◌, ap, arith, length}
+use Rattle.std.proofs.Common.{◌≡◌, ℕ, ◌+◌, ◌<◌, zero, suc, true, List, [], ◌∷◌, refl, subst, sym, ◌∙◌, ap, arith, length}
 use Rattle.asn1_model.specs.Value.{Value, Values, no_more, member, bag, map_members}
 use Rattle.asn1_model.specs.Schema.{Schema, Size, Counts, set_of}
 use Rattle.asn1_model.specs.Normal.{normal}

@@ -1,6 +1,6 @@
 -- How the records of a bag that an encoder takes are put together.
-use Rattle.std.proofs.Common.{◌≡◌, ℕ, zero, suc, refl, subst}
-use Rattle.asn1_model.specs.Value.{Value, Values, bag}
+use Rattle.std.proofs.Common.{ℕ, zero, suc, subst}
+use Rattle.asn1_model.specs.Value.{Values, bag}
 use Rattle.asn1_model.specs.Schema.{Schema, Size, Counts, set_of}
 use Rattle.asn1_schema_faults.specs.declared.EncodeError.{EncodeError}
 use Rattle.asn1_schema_presented.specs.Records.{Record, bag_begins}

@@ -1,5 +1,5 @@
 -- As many fields may be absent as components.
-use Rattle.std.proofs.Common.{◌≡◌, ℕ, suc, Bool, true, false, cond, not, List, [], ◌∷◌, filter, length, refl, sym, ap, ◌∙◌}
+use Rattle.std.proofs.Common.{◌≡◌, ℕ, suc, cond, not, List, [], ◌∷◌, filter, length, refl, ap, ◌∙◌}
 use Rattle.asn1_model.specs.Schema.{Presence, required, optional, by_default}
 use Rattle.asn1_model.specs.Tables.{is_required}
 use Rattle.asn1_schema_constructed.specs.declared.tables.Field.{Field}

@@ -1,5 +1,5 @@
 -- The order of fields behind one that was looked at.
-use Rattle.std.proofs.Common.{◌≡◌, List, [], ◌∷◌, Bool, Option, Some, None, map}
+use Rattle.std.proofs.Common.{List, ◌∷◌, Bool, Option, Some, None, map}
 use Rattle.asn1_model.specs.Schema.{Tag as ModelTag}
 use Rattle.asn1_model.specs.Lawful.{tag_less, are_ascending}
 use Rattle.asn1_schema_constructed.specs.declared.tables.Field.{Field}

@@ -1,7 +1,7 @@
 -- How the records of a set that a decoder finds are put together.
-use Rattle.std.proofs.Common.{◌≡◌, ℕ, ◌+◌, ◌<◌, zero, suc, Bool, refl, subst, sym, ◌∙◌, ap, arith}
-use Rattle.asn1_model.specs.Value.{Value, fields, Parts}
-use Rattle.asn1_model.specs.Schema.{Schema, set}
+use Rattle.std.proofs.Common.{◌≡◌, ℕ, ◌+◌, ◌<◌, zero, suc, Bool, subst, sym, ◌∙◌, ap, arith}
+use Rattle.asn1_model.specs.Value.{fields, Parts}
+use Rattle.asn1_model.specs.Schema.{set}
 use Rattle.asn1_model.specs.Normal.{normal, normal_parts}
 use Rattle.asn1_schema_faults.specs.declared.DecodeError.{DecodeError}
 use Rattle.asn1_schema_presented.specs.Records.{Record, set_begins, asks_set}

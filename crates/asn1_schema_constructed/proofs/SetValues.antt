@@ -2,8 +2,8 @@
 use Rattle.std.proofs.Common.{◌≡◌, ℕ, ◌≤◌, ◌+◌, zero, suc, true, false, List, [], ◌∷◌, ◌++◌, refl, ◌∙◌, ap, arith}
 use Rattle.std.specs.Prelude.{max}
 use Rattle.std.proofs.Math.Nat.{le-max_left, le-max_right}
-use Rattle.asn1_model.specs.Value.{Value, fields, Parts, depth, depth_of_parts}
-use Rattle.asn1_model.specs.Schema.{Tag, Schema, set}
+use Rattle.asn1_model.specs.Value.{fields, Parts, depth, depth_of_parts}
+use Rattle.asn1_model.specs.Schema.{Tag, set}
 use Rattle.asn1_model.specs.Normal.{normal, normal_parts}
 use Rattle.asn1_model.specs.Lawful.{is_lawful, is_group, are_distinct, are_ascending, tag_same, tag_less, smallest, component_places}
 use Rattle.asn1_schema_presented.specs.Presents.{Fits}

@@ -1,7 +1,7 @@
 -- How the records of a set that an encoder takes are put together.
-use Rattle.std.proofs.Common.{◌≡◌, ℕ, zero, suc, Bool, refl, subst, sym, ◌∙◌}
-use Rattle.asn1_model.specs.Value.{Value, fields, Parts}
-use Rattle.asn1_model.specs.Schema.{Schema, set}
+use Rattle.std.proofs.Common.{◌≡◌, ℕ, zero, suc, Bool, subst, sym, ◌∙◌}
+use Rattle.asn1_model.specs.Value.{fields, Parts}
+use Rattle.asn1_model.specs.Schema.{set}
 use Rattle.asn1_schema_faults.specs.declared.EncodeError.{EncodeError}
 use Rattle.asn1_schema_presented.specs.Records.{Record, set_begins}
 use Rattle.asn1_schema_presented.specs.Presents.{presents, optional_count, Fits}

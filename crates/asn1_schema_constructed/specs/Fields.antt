@@ -1,5 +1,5 @@
 -- What is asked of tables of fields.
-use Rattle.std.specs.Prelude.{Bool, true, false, not, List, map, filter}
+use Rattle.std.specs.Prelude.{Bool, true, false, List, map, filter}
 use Rattle.asn1_model.specs.Schema.{Tag as ModelTag}
 use Rattle.asn1_model.specs.Lawful.{tag_less, smallest, are_ascending}
 use Rattle.asn1_schema_tags.specs.Trees.{leaves, greatest_tag}

@@ -3,9 +3,8 @@ ghost use Rattle.std.specs.Prelude.{◌≡◌, ◌+◌, length, true, not, OnOk,
 ghost use Rattle.asn1_model.specs.Numbers.{is_count_to, is_count_within};
 ghost use Rattle.asn1_model.specs.Value.{bag};
 ghost use Rattle.asn1_schema_constraints.specs.Bounds.{members_of};
-ghost use Rattle.asn1_schema_constraints.specs.Terms.{sizes_of};
 ghost use Rattle.asn1_schema_presented.specs.Parts.{values_of};
-ghost use Rattle.asn1_schema_constructed.specs.Bags.{bag_type};
+ghost use Rattle.asn1_schema_constructed.specs.Bags.{bag_under};
 ghost use Rattle.asn1_schema_decode.specs.Reads.{Reads, Unread, ReadsMembers, UnreadMembers};
 
 use asn1_schema_constraints::{Bounded, Constraints};
@@ -27,12 +26,16 @@ pub trait DecodeBag: Decoder {
     ) -> Result<Vec<T>, DecodeError>
     where
         Self: Sized,
-        ensures ok { IfOk result (λ x. Reads Self.step (bag_type (sizes_of constraints.entry.size) (members_of held) T.schema) (Self.levels self.old) (bag (values_of T.meaning x.items)) self.old self.new) }
+        ensures ok { IfOk result
+            (λ x. Reads Self.step (bag_under constraints.entry held T.schema) (Self.levels self.old)
+            (bag (values_of T.meaning x.items)) self.old self.new) }
         ensures held { IfOk result (λ x. is_count_within (members_of held) (length x.items) ≡ true) }
         ensures level { OnOk result (Self.levels self.new ≡ Self.levels self.old) }
-        ensures only { IfErr result (Unread Self.step (bag_type (sizes_of constraints.entry.size) (members_of held) T.schema) (Self.levels self.old) self.old) }
+        ensures only { IfErr result
+            (Unread Self.step (bag_under constraints.entry held T.schema) (Self.levels self.old) self.old) }
         ensures failed { OnErr result (Self.has_failed self.new) }
         ensures already { Self.has_failed self.old → result ≡ Err DecodeError.AlreadyFailed }
+        ensures after { result ≡ Err DecodeError.AlreadyFailed → Self.has_failed self.old }
     {
         self.begin_bag(tag, constraints, held)?;
         let items = members_within(alloc, self, held)?;
@@ -48,11 +51,14 @@ fn members_within<T: Decode, D: Decoder>(
     decoder: &mut D,
     held: Bounded<usize>,
 ) -> Result<Vec<T>, DecodeError>
-    ensures ok { IfOk result (λ x. ReadsMembers D.step T.schema (D.levels decoder.old) (values_of T.meaning x.items) decoder.old decoder.new) }
+    ensures ok { IfOk result
+        (λ x. ReadsMembers D.step T.schema (D.levels decoder.old) (values_of T.meaning x.items)
+        decoder.old decoder.new) }
     ensures held { IfOk result (λ x. is_count_within (members_of held) (length x.items) ≡ true) }
     ensures level { OnOk result (D.levels decoder.new ≡ D.levels decoder.old + 1) }
     ensures only { IfErr result (UnreadMembers D.step T.schema (D.levels decoder.old) (members_of held) decoder.old) }
     ensures failed { OnErr result (D.has_failed decoder.new) }
+    ensures after { result ≡ Err DecodeError.AlreadyFailed → D.has_failed decoder.old }
 {
     let mut items = Vec::new(alloc);
     while decoder.get_further()? {

@@ -1,6 +1,7 @@
 //! How choices are read.
 ghost use Rattle.std.specs.Prelude.{◌≡◌, ◌+◌, Some, None, OnOk, OnErr, IfOk, IfErr};
 ghost use Rattle.asn1_schema_decode.specs.Reads.{Reads, Unread, NoLevel};
+ghost use Rattle.asn1_schema_constraints.specs.Terms.{meant};
 ghost use Rattle.asn1_schema_tags.specs.Tags.{tag_of};
 ghost use Rattle.asn1_schema_constructed.specs.Tagged.{ReadsTagged, UnreadTagged};
 ghost use Rattle.asn1_schema_constructed.specs.Chosen.{chosen_type, begins, asks, IsAmong, of_tag};
@@ -24,11 +25,14 @@ pub trait DecodeChoice: Choice + Drop {
     ) -> Result<Self, DecodeError>
         requires { IsAmong Self.table chosen }
         ensures place { IfOk result (λ x. Self.place x ≡ chosen) }
-        ensures ok { IfOk result (λ x. Reads D.step (chosen_type Self.table chosen) (D.levels decoder.old) (Self.inner x) decoder.old decoder.new) }
+        ensures ok { IfOk result
+            (λ x. Reads D.step (chosen_type Self.table chosen) (D.levels decoder.old) (Self.inner x)
+            decoder.old decoder.new) }
         ensures level { OnOk result (D.levels decoder.new ≡ D.levels decoder.old) }
         ensures only { IfErr result (Unread D.step (chosen_type Self.table chosen) (D.levels decoder.old) decoder.old) }
         ensures failed { OnErr result (D.has_failed decoder.new) }
-        ensures already { D.has_failed decoder.old → result ≡ Err DecodeError.AlreadyFailed };
+        ensures already { D.has_failed decoder.old → result ≡ Err DecodeError.AlreadyFailed }
+        ensures after { result ≡ Err DecodeError.AlreadyFailed → D.has_failed decoder.old };
 
     /// Reads the value of the alternative of a tag. A tag that no alternative has is `InvalidTagVariantOnChoice`.
     final fn from_tag<D: Decoder>(
@@ -38,12 +42,16 @@ pub trait DecodeChoice: Choice + Drop {
     ) -> Result<Self, DecodeError>
     where
         Self: Sized,
-        ensures ok { IfOk result (λ x. ReadsTagged D.step Self.table (tag_of tag) (D.levels decoder.old) (Self.place x) (Self.inner x) decoder.old decoder.new) }
+        ensures ok { IfOk result
+            (λ x. ReadsTagged D.step Self.table (tag_of tag) (D.levels decoder.old) (Self.place x) (Self.inner x)
+            decoder.old decoder.new) }
         ensures level { OnOk result (D.levels decoder.new ≡ D.levels decoder.old) }
         ensures only { IfErr result (UnreadTagged D.step Self.table (tag_of tag) (D.levels decoder.old) decoder.old) }
         ensures failed { OnErr result (D.has_failed decoder.new) }
         ensures unknown { of_tag Self.table (tag_of tag) ≡ None → result ≡ Err DecodeError.InvalidTagVariantOnChoice }
-        ensures already { D.has_failed decoder.old → (c : Chosen) → of_tag Self.table (tag_of tag) ≡ Some c → result ≡ Err DecodeError.AlreadyFailed }
+        ensures already { D.has_failed decoder.old → (c : Chosen) → of_tag Self.table (tag_of tag) ≡ Some c
+            → result ≡ Err DecodeError.AlreadyFailed }
+        ensures after { result ≡ Err DecodeError.AlreadyFailed → D.has_failed decoder.old }
     {
         let Some(chosen) = alternative_of::<Self>(tag) else {
             return Err(decoder.refuse(DecodeError::InvalidTagVariantOnChoice));
@@ -64,11 +72,15 @@ pub trait DecodeAlternatives: Decoder {
     ) -> Result<T, DecodeError>
     where
         Self: Sized,
-        ensures ok { IfOk result (λ x. Reads Self.step (T.under constraints.entry) (Self.levels self.old) (T.meaning x) self.old self.new) }
+        ensures ok { IfOk result
+            (λ x. Reads Self.step (T.under (meant constraints.entry)) (Self.levels self.old) (T.meaning x)
+            self.old self.new) }
         ensures level { OnOk result (Self.levels self.new ≡ Self.levels self.old) }
-        ensures only { IfErr result (Unread Self.step (T.under constraints.entry) (Self.levels self.old) self.old) }
+        ensures only { IfErr result
+            (Unread Self.step (T.under (meant constraints.entry)) (Self.levels self.old) self.old) }
         ensures failed { OnErr result (Self.has_failed self.new) }
         ensures already { Self.has_failed self.old → result ≡ Err DecodeError.AlreadyFailed }
+        ensures after { result ≡ Err DecodeError.AlreadyFailed → Self.has_failed self.old }
     {
         let chosen = self.begin_alternatives::<T>(tag)?;
         let value = T::from_chosen(alloc, self, chosen)?;
@@ -86,6 +98,7 @@ pub trait DecodeAlternatives: Decoder {
         ensures only { IfErr result (NoLevel Self.step (asks C.table) (Self.levels self.old) self.old) }
         ensures failed { OnErr result (Self.has_failed self.new) }
         ensures already { Self.has_failed self.old → result ≡ Err DecodeError.AlreadyFailed }
+        ensures after { result ≡ Err DecodeError.AlreadyFailed → Self.has_failed self.old }
     {
         let tables = tag_tables_of::<C>();
         let chosen = self.begin_choice(tag, tables.roots, tables.extensible, tables.additions)?;

@@ -13,7 +13,8 @@ use std::alloc::Global;
 
 /// How sets are read.
 pub trait DecodeSet: Decoder {
-    /// SET (X.680 27) of these components, with or without a mark of extensibility, of whose root components so many may be absent.
+    /// SET (X.680 27) of these components, with or without a mark of extensibility, of whose root components so many
+    /// may be absent.
     final fn decode_set<C: DecodeComponents>(
         &mut self,
         alloc: Global,
@@ -25,11 +26,14 @@ pub trait DecodeSet: Decoder {
         Self: Sized,
         requires marks { optional ≡ marks C.table.root }
         requires mark { C.table.extensible ≡ extensible }
-        ensures ok { IfOk result (λ x. Reads Self.step (set_type C.table) (Self.levels self.old) (fields (C.root x) (C.added x)) self.old self.new) }
+        ensures ok { IfOk result
+            (λ x. Reads Self.step (set_type C.table) (Self.levels self.old) (fields (C.root x) (C.added x))
+            self.old self.new) }
         ensures level { OnOk result (Self.levels self.new ≡ Self.levels self.old) }
         ensures only { IfErr result (Unread Self.step (set_type C.table) (Self.levels self.old) self.old) }
         ensures failed { OnErr result (Self.has_failed self.new) }
         ensures already { Self.has_failed self.old → result ≡ Err DecodeError.AlreadyFailed }
+        ensures after { result ≡ Err DecodeError.AlreadyFailed → Self.has_failed self.old }
     {
         self.begin_set(tag, extensible, optional)?;
         let components = C::decode_components(alloc, self)?;
@@ -44,11 +48,14 @@ pub trait DecodeSet: Decoder {
     ) -> Result<T, DecodeError>
     where
         Self: Sized,
-        ensures ok { IfOk result (λ x. Reads Self.step (set_type T.table) (Self.levels self.old) (fields (T.root x) (T.added x)) self.old self.new) }
+        ensures ok { IfOk result
+            (λ x. Reads Self.step (set_type T.table) (Self.levels self.old) (fields (T.root x) (T.added x))
+            self.old self.new) }
         ensures level { OnOk result (Self.levels self.new ≡ Self.levels self.old) }
         ensures only { IfErr result (Unread Self.step (set_type T.table) (Self.levels self.old) self.old) }
         ensures failed { OnErr result (Self.has_failed self.new) }
         ensures already { Self.has_failed self.old → result ≡ Err DecodeError.AlreadyFailed }
+        ensures after { result ≡ Err DecodeError.AlreadyFailed → Self.has_failed self.old }
     {
         let optional = T::fields().number_of_optional_and_default_fields();
         let extensible = T::is_extensible();

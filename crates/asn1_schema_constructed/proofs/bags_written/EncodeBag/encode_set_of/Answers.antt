@@ -20,8 +20,7 @@ returns-in_err-encode-clause-only g c = let one = g.met.Self.Encoder.one_after i
 pub loop-item-preserved : goal.loop-item-preserved
 loop-item-preserved g c =
     let one = g.met.Self.Encoder.one_after in
-    let law = g.met.Self.Encoder.goes_on in
-    (
+    let law = g.met.Self.Encoder.goes_on in (
       from_next one (omega arith) c.item-item.is c.loop-item.invariant.0 c.in_ok-put_further.ensures.ok c.in_ok-encode.ensures.ok,
       λ f. law _ _ _ c.in_ok-put_further.ensures.ok (failed_before_value law (g.T.Described.valued _) c.in_ok-encode.ensures.ok f),
     )

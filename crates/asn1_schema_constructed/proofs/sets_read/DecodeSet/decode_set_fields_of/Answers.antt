@@ -1,4 +1,4 @@
-use Rattle.std.proofs.Common.{refl, ◌∙◌, sym}
+use Rattle.std.proofs.Common.{◌∙◌, sym}
 use Rattle.asn1_schema_presented.proofs.Joined.{raised}
 use Rattle.asn1_schema_constructed.proofs.SetReading.{reads_set, unread_set, unread_set_here}
 use Rattle.asn1_schema_constructed.proofs.Counting.{count_marks}

@@ -1,4 +1,4 @@
-use Rattle.std.proofs.Common.{refl, ◌∙◌, sym}
+use Rattle.std.proofs.Common.{◌∙◌, sym}
 use Rattle.asn1_schema_presented.proofs.Joined.{raised}
 use Rattle.asn1_schema_constructed.proofs.SetWriting.{writes_set, cannot_set, cannot_set_here}
 use Rattle.asn1_schema_constructed.proofs.Counting.{count_marks}
