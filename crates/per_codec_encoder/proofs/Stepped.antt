@@ -56,7 +56,7 @@ is_refused al r fs o f w e q h c = subst (λ (v : Written). Refused Puts r v e) 
     go AlphabetConstraintNotSatisfied c = no_step r _ _ (c (now fs o) h)
     go TooLongValue c = no_step r _ _ (c (now fs o) h)
     go LengthExceedsPlatformSize c = no_step r _ _ (c (now fs o) h)
-    go AlreadyFailed c = no_step r _ _ (c (now fs o) h)
+    go AlreadyFailed c = absurd c
 
 pub puts : (al : Bool) (r : Record) (fs gs : List Frame) (o p : Packed) (f : Bool) (w : Written) → made fs o al f ≡ w → f ≡ false → Sound fs o → Does al r fs o gs p → Puts w r (made gs p al false)
 puts al r fs gs o p f w e g h d = subst (λ (v : Written). Puts v r (made gs p al false)) e (g, refl, refl, takes_step al r fs gs o p h d)
@@ -82,7 +82,7 @@ refuses_none al r x fs o e q h = by_error e h
     by_error AlphabetConstraintNotSatisfied h = none h
     by_error TooLongValue h = none h
     by_error LengthExceedsPlatformSize h = none h
-    by_error AlreadyFailed h = none h
+    by_error AlreadyFailed h = h
 
 pub adds_sound : (al : Bool) (r : Record) (x : Per.BitForm) (fs : List Frame) (o p : Packed) → ((s : State) → run al r s ≡ adds_form x s) → Sound fs o → Adds (text_at x (place o)) o p → Sound fs p
 adds_sound al r x fs o p e h a = stays_sound al r fs fs o p h (does_add al r x fs o p e a)
