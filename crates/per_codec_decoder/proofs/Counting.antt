@@ -8,7 +8,7 @@ use Rattle.asn1_model.specs.Per
 use Rattle.asn1_laws_fronts.proofs.Fronts.{agree_first, agree_map, agree_nothing, agree_if_right, agree_varied_right}
 use Rattle.asn1_laws_fronts.proofs.PerNumbers.{Alike, at_octet_alike, bits_apart, short_length_alike, constrained_alike}
 use Rattle.asn1_schema_faults.specs.declared.DecodeError.{DecodeError}
-use Rattle.asn1_schema_faults.specs.declared.DecodeError.TheVariants.{OutOfMemory, Incomplete}
+use Rattle.asn1_schema_faults.specs.declared.DecodeError.TheVariants.{OutOfMemory, AlreadyFailed}
 use Rattle.per_codec_fronts.specs.Takes.{Place, Tally, Scope, members, State, Front, InPlace, Admits, in_all, with_fragment, Header, Headed, Numbered, ByHighest, Counted, SizeMark, MemberDue, NextMember}
 use Rattle.per_codec_fronts.proofs.Fronts.{if_in, if_out}
 use Rattle.per_codec_fronts.proofs.Next.{same_fronts}
@@ -20,7 +20,7 @@ use Rattle.per_codec_decoder.specs.Members.{IsHeaded, HasMembers, HasNumber, NoM
 -- want of memory aside, what is missed does not stand in front
 pub missed : {X : Type 0} (free : Per.Freedom → Bool) (f : X → Per.BitForm) (a : Place) (e : DecodeError) → Misses free f a e → ¬ (e ≡ OutOfMemory) → NoneStands free f a
 missed free f a OutOfMemory m n = absurd (n refl)
-missed free f a Incomplete m n = m
+missed free f a AlreadyFailed m n = absurd m
 missed free f a e m n = m
 
 -- what a number of members is between

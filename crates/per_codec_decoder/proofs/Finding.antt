@@ -91,7 +91,7 @@ pub both_ok : {A E : Type 0} {P Q R : Type 0} (r : Result A E) → OnOk r P → 
 both_ok (Ok x) p q f = f p q
 both_ok (Err e) p q f = tt
 
-pub opens : (old now new : Held) (s : Scope) (rest : Place) (r : Record) → now ≡ old → IsReady old → Takes (is_aligned now.variant) (freedoms now.variant) (state_of now) r (rest, s ∷ now.scopes) → ((most l : ℕ) → level most r (suc l) ≡ Some l) → old.lends ≡ kept old r → now.levels ≡ new.levels + 1 → new ≡ record { place = rest; scopes = s ∷ now.scopes; levels = new.levels; most = now.most; failed = now.failed; variant = now.variant; lends = now.lends } → Finds old r new
+pub opens : (old now new : Held) (s : Scope) (rest : Place) (r : Record) → now ≡ old → IsReady old → Takes (is_aligned now.variant) (freedoms now.variant) (state_of now) r (rest, s ∷ now.scopes) → ((most l : ℕ) → level most r (suc l) ≡ Some l) → old.stands ≡ kept old r new.place new.scopes → now.levels ≡ new.levels + 1 → new ≡ record { place = rest; scopes = s ∷ now.scopes; levels = new.levels; most = now.most; failed = now.failed; variant = now.variant; stands = now.stands } → Finds old r new
 opens old now new s rest r same ready t lower u e f =
     let g : Takes (is_aligned old.variant) (freedoms old.variant) (state_of old) r (rest, s ∷ old.scopes) = subst (λ (h : Held). Takes (is_aligned h.variant) (freedoms h.variant) (state_of h) r (rest, s ∷ h.scopes)) same t in
     let k : (rest, s ∷ old.scopes) ≡ state_of new = ap (λ (h : Held). (rest, s ∷ h.scopes)) (sym same) ∙ sym (ap state_of f) in
@@ -103,7 +103,7 @@ opens old now new s rest r same ready t lower u e f =
       most = ap (λ (h : Held). h.most) f ∙ ap (λ (h : Held). h.most) same;
       ready_still = ap (λ (h : Held). h.failed) f ∙ ap (λ (h : Held). h.failed) same ∙ ready;
       variant = ap (λ (h : Held). h.variant) f ∙ ap (λ (h : Held). h.variant) same;
-      lends = ap (λ (h : Held). h.lends) f ∙ ap (λ (h : Held). h.lends) same ∙ u;
+      stands = ap (λ (h : Held). h.stands) f ∙ ap (λ (h : Held). h.stands) same ∙ u;
     }
 
 -- ---- sequences

@@ -5,3 +5,4 @@ pub mod Settling
 pub mod Opening
 pub mod Leading
 pub mod Counting
+pub mod Due

@@ -1,6 +1,6 @@
 -- How scopes are opened and left, and why none is.
 use Rattle.std.proofs.Common.{◌≡◌, ℕ, zero, suc, ◌+◌, ◌-◌, ◌/◌, ◌<◌, ◌≤◌, ltb, cond, Bool, true, false, IsTrue, inr, List, [], ◌∷◌, length, drop, Some, None, Result, Ok, Err, IfErr, refl, sym, ◌∙◌, ap, subst, arith}
-use Rattle.std.specs.Prelude.{OnOk, not, ◌&&◌}
+use Rattle.std.specs.Prelude.{OnOk}
 use Rattle.std.proofs.lemmas.Bool.{ltb-true, lt-ltb}
 use Rattle.asn1_schema_presented.specs.Levels.{level}
 use Rattle.asn1_model.specs.Schema.{Counts, Size, Tag}
@@ -16,9 +16,9 @@ use Rattle.per_codec_fronts.specs.Takes.{Place, Scope, State, components, added,
 use Rattle.per_codec_reading.specs.Fronts.{freedoms, is_aligned, Leads, Misses}
 use Rattle.per_codec_reading.specs.declared.variant.Variant.{Variant}
 use Rattle.per_codec_reading.specs.declared.variant.Variant.TheVariants.{Unaligned, Aligned}
-use Rattle.per_codec_decoder.specs.Held.{Held, state_of, kept, kept_outside, lends_behind, Finds, IsReady, Moves, Enters, EntersMembers, EntersComponents, NotMembers, NotComponents, HasOpened, NoOpening, HasPassed}
+use Rattle.per_codec_decoder.specs.Held.{Held, state_of, kept, innermost, opened_in, stands_within, stands_outside, stands_behind, Finds, IsReady, Moves, Enters, EntersMembers, EntersComponents, NotMembers, NotComponents, HasOpened, NoOpening, HasPassed}
 use Rattle.per_codec_decoder.specs.Preamble.{HasBitmap, NoBitmap}
-use Rattle.per_codec_decoder.specs.Scopes.{NoAdditions, Flags, NoFlag, Leaves, NoEnd, LeavesAddition, NoAdditionEnd}
+use Rattle.per_codec_decoder.specs.Scopes.{NoAdditions, Flags, NoFlag, Leaves, LeavesBehind, NoEnd, LeavesAddition, NoAdditionEnd}
 use Rattle.per_codec_decoder.specs.Endings.{IsClosed, Passes, NotPassed}
 use Rattle.per_codec_decoder.specs.declared.frames.Ending.{Ending}
 use Rattle.per_codec_decoder.specs.declared.frames.Ending.TheVariants.{Nothing, Unknown, OpenType as Filled}
@@ -27,6 +27,7 @@ use Rattle.per_codec_fronts.proofs.Next.{place_same, state_same, same_fronts}
 use Rattle.asn1_laws_fronts.proofs.PerNumbers.{constrained_alike}
 use Rattle.asn1_laws_fronts.proofs.Units.{small_alike}
 use Rattle.per_codec_fronts.proofs.Fronts.{split, if_out}
+use Rattle.per_codec_reading.specs.Runs.{Storage, storage_inside}
 use Rattle.per_codec_reading.specs.Sizes.{size_mark}
 use Rattle.per_codec_reading.proofs.SizedFronts.{mark_one}
 use Rattle.per_codec_reading_values.specs.Places.{place_form, added_form, root_form}
@@ -55,8 +56,8 @@ empty_groups_are_free Unaligned = refl
 empty_groups_are_free Aligned = refl
 
 -- a scope inside all others
-pub entered : (old new : Held) (s : Scope) (r : Record) → Enters old s new → Takes (is_aligned old.variant) (freedoms old.variant) (state_of old) r (new.place, s ∷ old.scopes) → ((most l : ℕ) → level most r (suc l) ≡ Some l) → old.lends ≡ kept old r → Finds old r new
-entered old new s r e t v u = steps old old new new.place (s ∷ old.scopes) new.levels r old.lends refl e.0 t (ap (λ l. level old.most r l) e.1 ∙ v old.most new.levels) u e.2
+pub entered : (old new : Held) (s : Scope) (r : Record) → Enters old s new → Takes (is_aligned old.variant) (freedoms old.variant) (state_of old) r (new.place, s ∷ old.scopes) → ((most l : ℕ) → level most r (suc l) ≡ Some l) → old.stands ≡ kept old r new.place (s ∷ old.scopes) → Finds old r new
+entered old new s r e t v u = steps old old new new.place (s ∷ old.scopes) new.levels r old.stands refl e.0 t (ap (λ l. level old.most r l) e.1 ∙ v old.most new.levels) u e.2
 
 pub on_ok : {A : Type 0} {P Q : Type 0} (r : Result A DecodeError) → OnOk r P → (P → Q) → OnOk r Q
 on_ok (Ok x) p f = f p
@@ -96,8 +97,8 @@ no_bag old z h x m = record {
 }
 
 -- ---- sequences, sets and groups
-pub components_entered : (old new : Held) (e : Bool) (n : ℕ) (r : Record) → ((a b : State) → Begins (freedoms old.variant) e n a b → Takes (is_aligned old.variant) (freedoms old.variant) a r b) → ((most l : ℕ) → level most r (suc l) ≡ Some l) → old.lends ≡ kept old r → EntersComponents old e n new → Finds old r new
-components_entered old new e n r t v u g = entered old new g.0 r g.1 (t (state_of old) (new.place, g.0 ∷ old.scopes) (begins (freedoms old.variant) e n g.0 old.place new.place old.scopes g.2)) v u
+pub components_entered : (old new : Held) (e : Bool) (n : ℕ) (r : Record) → ((a b : State) → Begins (freedoms old.variant) e n a b → Takes (is_aligned old.variant) (freedoms old.variant) a r b) → ((most l : ℕ) → level most r (suc l) ≡ Some l) → ((p : Place) (k : List Scope) → old.stands ≡ kept old r p k) → EntersComponents old e n new → Finds old r new
+components_entered old new e n r t v u g = entered old new g.0 r g.1 (t (state_of old) (new.place, g.0 ∷ old.scopes) (begins (freedoms old.variant) e n g.0 old.place new.place old.scopes g.2)) v (u new.place (g.0 ∷ old.scopes))
 
 asked_sequence : (al : Bool) (free : Per.Freedom → Bool) (e : Bool) (n : ℕ) (a b : State) (r : Record) → question r ≡ asks_sequence e n → Takes al free a r b → Begins free e n a b
 asked_sequence al free e n a b (sequence_begins d m) k t = let p : sequence_begins d m ≡ sequence_begins e n = cc k in subst (λ r. Takes al free a r b) p t
@@ -146,8 +147,8 @@ additions_are al v n true bs a b s k e h =
     let f : AdditionsBegin al (freedoms v) n a (components (Some true) [] ∷ k) (at b (first_bits n bs) (drop n bs) k) = (bs, inr (empty_bitmaps_are_free v), h, refl) in
     subst (λ (l : List Scope). AdditionsBegin al (freedoms v) n a l (at b (first_bits n bs) (drop n bs) k)) (sym e) f
 
-pub additions_begun : (old now new : Held) (n : ℕ) (m : Bool) (bs : List Bool) (k : List Scope) (b : Place) → now ≡ old → IsReady old → now.scopes ≡ components (Some m) [] ∷ k → HasBitmap (freedoms now.variant) (is_aligned now.variant) m bs now.place b → new ≡ record { place = b; scopes = added (first_bits n bs) (drop n bs) ∷ k; levels = now.levels; most = now.most; failed = now.failed; variant = now.variant; lends = now.lends } → Finds old (additions_begin n) new
-additions_begun old now new n m bs k b same ready e h f = steps old now new b (added (first_bits n bs) (drop n bs) ∷ k) now.levels (additions_begin n) now.lends same ready (additions_are (is_aligned now.variant) now.variant n m bs now.place b now.scopes k e h) refl refl f
+pub additions_begun : (old now new : Held) (n : ℕ) (m : Bool) (bs : List Bool) (k : List Scope) (b : Place) → now ≡ old → IsReady old → now.scopes ≡ components (Some m) [] ∷ k → HasBitmap (freedoms now.variant) (is_aligned now.variant) m bs now.place b → new ≡ record { place = b; scopes = added (first_bits n bs) (drop n bs) ∷ k; levels = now.levels; most = now.most; failed = now.failed; variant = now.variant; stands = now.stands } → Finds old (additions_begin n) new
+additions_begun old now new n m bs k b same ready e h f = steps old now new b (added (first_bits n bs) (drop n bs) ∷ k) now.levels (additions_begin n) now.stands same ready (additions_are (is_aligned now.variant) now.variant n m bs now.place b now.scopes k e h) refl refl f
 
 asked_additions : (al : Bool) (free : Per.Freedom → Bool) (n : ℕ) (a b : State) (r : Record) → question r ≡ asks_additions n → Takes al free a r b → AdditionsBegin al free n a.0 a.1 b
 asked_additions al free n a b (additions_begin m) k t = let p : additions_begin m ≡ additions_begin n = cc k in subst (λ r. Takes al free a r b) p t
@@ -187,28 +188,28 @@ no_addition_due old now x same none = record {
 }
 
 -- one that is not there
-pub addition_absent : (old now new : Held) (v : Bool) (k : List Scope) → now ≡ old → IsReady old → v ≡ false → Flags v now.scopes k → new ≡ record { place = now.place; scopes = k; levels = now.levels; most = now.most; failed = now.failed; variant = now.variant; lends = now.lends } → Finds old (addition v) new
+pub addition_absent : (old now new : Held) (v : Bool) (k : List Scope) → now ≡ old → IsReady old → v ≡ false → Flags v now.scopes k → new ≡ record { place = now.place; scopes = k; levels = now.levels; most = now.most; failed = now.failed; variant = now.variant; stands = now.stands } → Finds old (addition v) new
 addition_absent old now new true k same ready e g f = cc
 addition_absent old now new false k same ready e g f =
     let t : NextAddition (is_aligned now.variant) (freedoms now.variant) false now.place (added (false ∷ g.0) g.1 ∷ g.2) (now.place, k) = (refl, ap (λ (l : List Scope). (now.place, l)) g.4) in
-    steps old now new now.place k now.levels (addition false) now.lends same ready (subst (λ (l : List Scope). NextAddition (is_aligned now.variant) (freedoms now.variant) false now.place l (now.place, k)) (sym g.3) t) refl refl f
+    steps old now new now.place k now.levels (addition false) now.stands same ready (subst (λ (l : List Scope). NextAddition (is_aligned now.variant) (freedoms now.variant) false now.place l (now.place, k)) (sym g.3) t) refl refl f
 
 -- one that is there
-pub addition_there : (old now mid new : Held) (v : Bool) (k : List Scope) → now ≡ old → IsReady old → v ≡ true → Flags v now.scopes k → mid ≡ record { place = now.place; scopes = k; levels = now.levels; most = now.most; failed = now.failed; variant = now.variant; lends = now.lends } → HasOpened mid new → Finds old (addition v) new
+pub addition_there : (old now mid new : Held) (v : Bool) (k : List Scope) → now ≡ old → IsReady old → v ≡ true → Flags v now.scopes k → mid ≡ record { place = now.place; scopes = k; levels = now.levels; most = now.most; failed = now.failed; variant = now.variant; stands = now.stands } → HasOpened mid new → Finds old (addition v) new
 addition_there old now mid new false k same ready e g z f = cc
 addition_there old now mid new true k same ready e g z f =
-    let own : Held = record { place = now.place; scopes = k; levels = now.levels; most = now.most; failed = now.failed; variant = now.variant; lends = now.lends } in
+    let own : Held = record { place = now.place; scopes = k; levels = now.levels; most = now.most; failed = now.failed; variant = now.variant; stands = now.stands } in
     let w : HasOpened own new = subst (λ (h : Held). HasOpened h new) z f in
     let o : Opens (is_aligned now.variant) (freedoms now.variant) now.place (added g.0 g.1 ∷ g.2) (state_of new) = subst (λ (l : List Scope). Opens (is_aligned now.variant) (freedoms now.variant) now.place l (state_of new)) g.4 w.0 in
-    steps old now new new.place new.scopes now.levels (addition true) false same ready (subst (λ (l : List Scope). NextAddition (is_aligned now.variant) (freedoms now.variant) true now.place l (state_of new)) (sym g.3) (refl, o)) refl refl w.1
+    steps old now new new.place new.scopes now.levels (addition true) (stands_within true now.stands new.place new.scopes) same ready (subst (λ (l : List Scope). NextAddition (is_aligned now.variant) (freedoms now.variant) true now.place l (state_of new)) (sym g.3) (refl, o)) refl refl w.1
 
 flagged : (al : Bool) (free : Per.Freedom → Bool) (u : Bool) (a : Place) (ms us : List Bool) (k : List Scope) (b : State) → NextAddition al free u a (added (true ∷ ms) us ∷ k) b → Opens al free a (added ms us ∷ k) b
 flagged al free u a ms us k b t = t.1
 
-pub no_addition_opens : (old now mid : Held) (v : Bool) (k : List Scope) (e x : DecodeError) → now ≡ old → x ≡ e → v ≡ true → Flags v now.scopes k → mid ≡ record { place = now.place; scopes = k; levels = now.levels; most = now.most; failed = now.failed; variant = now.variant; lends = now.lends } → NoOpening mid e → NoRecord Finds asks_addition old x
+pub no_addition_opens : (old now mid : Held) (v : Bool) (k : List Scope) (e x : DecodeError) → now ≡ old → x ≡ e → v ≡ true → Flags v now.scopes k → mid ≡ record { place = now.place; scopes = k; levels = now.levels; most = now.most; failed = now.failed; variant = now.variant; stands = now.stands } → NoOpening mid e → NoRecord Finds asks_addition old x
 no_addition_opens old now mid false k e x same faults t g z none = cc
 no_addition_opens old now mid true k e x same faults t g z none =
-    let own : Held = record { place = now.place; scopes = k; levels = now.levels; most = now.most; failed = now.failed; variant = now.variant; lends = now.lends } in
+    let own : Held = record { place = now.place; scopes = k; levels = now.levels; most = now.most; failed = now.failed; variant = now.variant; stands = now.stands } in
     let w : NoOpening own e = subst (λ (h : Held). NoOpening h e) z none in
     let here : NoRecord Finds asks_addition now x = record {
       none = λ i r new q p.
@@ -229,8 +230,12 @@ no_addition_ends old now x same none = record {
       none (freedoms old.variant) old.place (state_of new) (subst (λ (h : Held). AdditionEnds (freedoms old.variant) old.place h.scopes (state_of new)) (sym same) t);
 }
 
-passed_to : (now mid new : Held) (w : Ending) (k : List Scope) → mid ≡ record { place = now.place; scopes = k; levels = now.levels; most = now.most; failed = now.failed; variant = now.variant; lends = now.lends } → HasPassed w mid new → new ≡ record { place = new.place; scopes = k; levels = now.levels; most = now.most; failed = now.failed; variant = now.variant; lends = lends_behind w now.lends }
-passed_to now mid new w k z f = f ∙ ap (λ (q : Held). let t : Held = record { place = new.place; scopes = q.scopes; levels = q.levels; most = q.most; failed = q.failed; variant = q.variant; lends = lends_behind w q.lends } in t) z
+-- the innermost scope is left
+abbrev pub left : Held → List Scope → List Storage → Held
+left now k l = record { place = now.place; scopes = k; levels = now.levels; most = now.most; failed = now.failed; variant = now.variant; stands = l }
+
+passed_to : (now mid new : Held) (w : Ending) (k : List Scope) (l : List Storage) → mid ≡ left now k l → HasPassed w mid new → new ≡ record { place = new.place; scopes = k; levels = now.levels; most = now.most; failed = now.failed; variant = now.variant; stands = stands_behind w l }
+passed_to now mid new w k l z f = f ∙ ap (λ (q : Held). let t : Held = record { place = new.place; scopes = q.scopes; levels = q.levels; most = q.most; failed = q.failed; variant = q.variant; stands = stands_behind w q.stands } in t) z
 
 abbrev PassesAt : Held → Ending → Held → Type 0
 PassesAt mid w new = Passes (is_aligned mid.variant) (freedoms mid.variant) w mid.place new.place
@@ -238,22 +243,17 @@ PassesAt mid w new = Passes (is_aligned mid.variant) (freedoms mid.variant) w mi
 abbrev NotPassedAt : Held → Ending → DecodeError → Type 0
 NotPassedAt mid w e = NotPassed (is_aligned mid.variant) (freedoms mid.variant) w mid.place e
 
-left : Held → List Scope → Held
-left now k = record { place = now.place; scopes = k; levels = now.levels; most = now.most; failed = now.failed; variant = now.variant; lends = now.lends }
-
-pub addition_ended : (old now mid new : Held) (behind : Stretched) (k : List Scope) → now ≡ old → IsReady old → LeavesAddition behind.place now.scopes k → mid ≡ record { place = now.place; scopes = k; levels = now.levels; most = now.most; failed = now.failed; variant = now.variant; lends = now.lends } → HasPassed (Filled behind) mid new → Passes (is_aligned mid.variant) (freedoms mid.variant) (Filled behind) mid.place new.place → Finds old addition_ends new
-unfolding left
-addition_ended old now mid new behind k same ready g z f c =
-    let d : PassesAt (left now k) (Filled behind) new = subst (λ (h : Held). PassesAt h (Filled behind) new) z c in
+pub addition_ended : (old now mid new : Held) (behind : Stretched) (k : List Scope) (s : Storage) (l l' : List Storage) → now ≡ old → IsReady old → LeavesAddition behind.place now.scopes k → now.stands ≡ s ∷ l → l ≡ behind.storage ∷ l' → mid ≡ left now k (s ∷ l') → HasPassed (Filled behind) mid new → Passes (is_aligned mid.variant) (freedoms mid.variant) (Filled behind) mid.place new.place → Finds old addition_ends new
+addition_ended old now mid new behind k s l l' same ready g v w z f c =
+    let d : PassesAt (left now k (s ∷ l')) (Filled behind) new = subst (λ (h : Held). PassesAt h (Filled behind) new) z c in
     let t : Closes (freedoms now.variant) now.place behind.place k (new.place, k) = subst (λ (p : Place). Closes (freedoms now.variant) now.place behind.place k (p, k)) (sym d.1) (d.0 (freedoms now.variant) behind.place k (filling_is_free now.variant) (octets_behind_are_free now.variant)) in
-    let s : now.scopes ≡ open_type behind.place ∷ added g.1.0 g.1.1 ∷ g.1.2 = g.0 ∙ ap (λ (l : List Scope). open_type behind.place ∷ l) g.1.3 in
+    let i : now.scopes ≡ open_type behind.place ∷ added g.1.0 g.1.1 ∷ g.1.2 = g.0 ∙ ap (λ (l : List Scope). open_type behind.place ∷ l) g.1.3 in
     let u : Closes (freedoms now.variant) now.place behind.place (added g.1.0 g.1.1 ∷ g.1.2) (new.place, k) = subst (λ (l : List Scope). Closes (freedoms now.variant) now.place behind.place l (new.place, k)) g.1.3 t in
-    steps old now new new.place k now.levels addition_ends false same ready (subst (λ (l : List Scope). AdditionEnds (freedoms now.variant) now.place l (new.place, k)) (sym s) u) refl refl (passed_to now mid new (Filled behind) k z f)
+    steps old now new new.place k now.levels addition_ends (behind.storage ∷ l') same ready (subst (λ (l : List Scope). AdditionEnds (freedoms now.variant) now.place l (new.place, k)) (sym i) u) refl (sym w ∙ ap (drop 1) (sym v)) (passed_to now mid new (Filled behind) k (s ∷ l') z f)
 
-pub addition_open : (old now mid : Held) (behind : Stretched) (k : List Scope) (e x : DecodeError) → now ≡ old → LeavesAddition behind.place now.scopes k → mid ≡ record { place = now.place; scopes = k; levels = now.levels; most = now.most; failed = now.failed; variant = now.variant; lends = now.lends } → NotPassed (is_aligned mid.variant) (freedoms mid.variant) (Filled behind) mid.place e → NoRecord Finds asks_addition_end old x
-unfolding left
-addition_open old now mid behind k e x same g z c =
-    let d : NotPassedAt (left now k) (Filled behind) e = subst (λ (h : Held). NotPassedAt h (Filled behind) e) z c in
+pub addition_open : (old now mid : Held) (behind : Stretched) (k : List Scope) (l : List Storage) (e x : DecodeError) → now ≡ old → LeavesAddition behind.place now.scopes k → mid ≡ left now k l → NotPassed (is_aligned mid.variant) (freedoms mid.variant) (Filled behind) mid.place e → NoRecord Finds asks_addition_end old x
+addition_open old now mid behind k l e x same g z c =
+    let d : NotPassedAt (left now k l) (Filled behind) e = subst (λ (h : Held). NotPassedAt h (Filled behind) e) z c in
     let s : now.scopes ≡ open_type behind.place ∷ added g.1.0 g.1.1 ∷ g.1.2 = g.0 ∙ ap (λ (l : List Scope). open_type behind.place ∷ l) g.1.3 in
     let here : NoRecord Finds asks_addition_end now x = record {
       none = λ i r new q p.
@@ -292,18 +292,17 @@ no_type_left p s k l =
     let n : suc p.0 ≡ p.0 = ap (λ (x : State). x.0.0) e in
     omega (arith, n)
 
-kept_behind : (w : Ending) (s k : List Scope) (l : Bool) → Leaves w s k → lends_behind w l ≡ kept_outside s l
-kept_behind Nothing (open_type p ∷ s) k l g = absurd (no_type_left p s k g)
-kept_behind Nothing s k l g = refl
-kept_behind (Unknown r) s k l g = ap (λ t. kept_outside t l) (sym g)
-kept_behind (Filled p) s k l g = ap (λ t. kept_outside t l) (sym g)
+kept_behind : (w : Ending) (s k : List Scope) (o : Storage) (l l' : List Storage) → Leaves w s k → LeavesBehind w l l' → stands_behind w (o ∷ l') ≡ stands_outside s (o ∷ l)
+kept_behind Nothing (open_type p ∷ s) k o l l' g h = absurd (no_type_left p s k g)
+kept_behind Nothing s k o l l' g h = ap (λ t. o ∷ t) (sym h)
+kept_behind (Unknown r) s k o l l' g h = ap (λ t. o ∷ t) (sym h) ∙ ap (λ t. stands_outside t (o ∷ l)) (sym g)
+kept_behind (Filled p) s k o l l' g h = sym h ∙ ap (λ t. stands_outside t (o ∷ l)) (sym g)
 
-pub ended : (old now mid new : Held) (w : Ending) (k : List Scope) (b : Place) → now ≡ old → IsReady old → now.levels < now.most → Leaves w now.scopes k → mid ≡ record { place = now.place; scopes = k; levels = now.levels; most = now.most; failed = now.failed; variant = now.variant; lends = now.lends } → Passes (is_aligned mid.variant) (freedoms mid.variant) w mid.place b → new ≡ record { place = b; scopes = k; levels = now.levels + 1; most = now.most; failed = now.failed; variant = now.variant; lends = lends_behind w now.lends } → Finds old ends new
-unfolding left
-ended old now mid new w k b same ready l g z p f =
+pub ended : (old now mid new : Held) (w : Ending) (k : List Scope) (b : Place) (o : Storage) (l l' : List Storage) → now ≡ old → IsReady old → now.levels < now.most → Leaves w now.scopes k → now.stands ≡ o ∷ l → LeavesBehind w l l' → mid ≡ left now k (o ∷ l') → Passes (is_aligned mid.variant) (freedoms mid.variant) w mid.place b → new ≡ record { place = b; scopes = k; levels = now.levels + 1; most = now.most; failed = now.failed; variant = now.variant; stands = stands_behind w (o ∷ l') } → Finds old ends new
+ended old now mid new w k b o l l' same ready m g v h z p f =
     let q : Passes (is_aligned now.variant) (freedoms now.variant) w now.place b = subst (λ (h : Held). Passes (is_aligned h.variant) (freedoms h.variant) w h.place b) z p in
-    let v : level now.most ends now.levels ≡ Some (now.levels + 1) = ap (λ c. cond c (Some (suc now.levels)) None) (lt-ltb now.levels now.most l) ∙ ap (λ (n : ℕ). Some n) (omega arith) in
-    steps old now new b k (now.levels + 1) ends (lends_behind w now.lends) same ready (end_in (is_aligned now.variant) now.variant w now.scopes k now.place b g q) v (kept_behind w now.scopes k now.lends g) f
+    let u : level now.most ends now.levels ≡ Some (now.levels + 1) = ap (λ c. cond c (Some (suc now.levels)) None) (lt-ltb now.levels now.most m) ∙ ap (λ (n : ℕ). Some n) (omega arith) in
+    steps old now new b k (now.levels + 1) ends (stands_behind w (o ∷ l')) same ready (end_in (is_aligned now.variant) now.variant w now.scopes k now.place b g q) u (kept_behind w now.scopes k o l l' g h ∙ ap (stands_outside now.scopes) (sym v)) f
 
 pub no_end : (old now : Held) (x : DecodeError) → now ≡ old → NoEnd now.scopes → NoRecord Finds asks_end old x
 no_end old now x same none = record {
@@ -326,8 +325,8 @@ no_level_outside old now x same l =
     } in
     subst (λ (h : Held). NoRecord Finds asks_end h x) same here
 
-pub not_ended : (old now mid : Held) (w : Ending) (k : List Scope) (e x : DecodeError) → now ≡ old → x ≡ e → Leaves w now.scopes k → mid ≡ record { place = now.place; scopes = k; levels = now.levels; most = now.most; failed = now.failed; variant = now.variant; lends = now.lends } → NotPassed (is_aligned mid.variant) (freedoms mid.variant) w mid.place e → NoRecord Finds asks_end old x
-not_ended old now mid w k e x same faults g z c =
+pub not_ended : (old now mid : Held) (w : Ending) (k : List Scope) (l : List Storage) (e x : DecodeError) → now ≡ old → x ≡ e → Leaves w now.scopes k → mid ≡ left now k l → NotPassed (is_aligned mid.variant) (freedoms mid.variant) w mid.place e → NoRecord Finds asks_end old x
+not_ended old now mid w k l e x same faults g z c =
     let d : NotPassed (is_aligned now.variant) (freedoms now.variant) w now.place e = subst (λ (h : Held). NotPassed (is_aligned h.variant) (freedoms h.variant) w h.place e) z c in
     let here : NoRecord Finds asks_end now x = record {
       none = λ i r new q p.
@@ -337,9 +336,9 @@ not_ended old now mid w k e x same faults g z c =
     subst (λ (h : Held). NoRecord Finds asks_end h x) same here
 
 -- ---- what is left where a scope ends
-pub passed_on : (old now new : Held) (w : Ending) (m : Bool) → now ≡ old → m ≡ lends_behind w now.lends → new ≡ record { place = new.place; scopes = now.scopes; levels = now.levels; most = now.most; failed = now.failed; variant = now.variant; lends = m } → Passes (is_aligned now.variant) (freedoms now.variant) w now.place new.place → HasPassed w old new × Passes (is_aligned old.variant) (freedoms old.variant) w old.place new.place
+pub passed_on : (old now new : Held) (w : Ending) (m : List Storage) → now ≡ old → m ≡ stands_behind w now.stands → new ≡ record { place = new.place; scopes = now.scopes; levels = now.levels; most = now.most; failed = now.failed; variant = now.variant; stands = m } → Passes (is_aligned now.variant) (freedoms now.variant) w now.place new.place → HasPassed w old new × Passes (is_aligned old.variant) (freedoms old.variant) w old.place new.place
 passed_on old now new w m same e f p =
-    let g : HasPassed w now new = f ∙ ap (λ (b : Bool). let h : Held = record { place = new.place; scopes = now.scopes; levels = now.levels; most = now.most; failed = now.failed; variant = now.variant; lends = b } in h) e in
+    let g : HasPassed w now new = f ∙ ap (λ (b : List Storage). let h : Held = record { place = new.place; scopes = now.scopes; levels = now.levels; most = now.most; failed = now.failed; variant = now.variant; stands = b } in h) e in
     subst (λ (h : Held). HasPassed w h new × Passes (is_aligned h.variant) (freedoms h.variant) w h.place new.place) same (g, p)
 
 pub not_passed_on : (old now : Held) (w : Ending) (e : DecodeError) → now ≡ old → NotPassed (is_aligned now.variant) (freedoms now.variant) w now.place e → NotPassed (is_aligned old.variant) (freedoms old.variant) w old.place e
@@ -374,15 +373,20 @@ not_opened old now e x same faults m =
     in
     subst (λ (h : Held). NoOpening h x) same here
 
-pub opened : (old now new : Held) (inside behind there : Place) (k : List Scope) → now ≡ old → inside.0 ≡ 0 → Front (freedoms now.variant) (octets_form (is_aligned now.variant) inside.1) now.place there → behind ≡ there → k ≡ open_type behind ∷ now.scopes → new ≡ record { place = inside; scopes = k; levels = now.levels; most = now.most; failed = now.failed; variant = now.variant; lends = false } → HasOpened old new
-opened old now new inside behind there k same z f q s e =
+pub opened : (old now new : Held) (inside behind there : Place) (k : List Scope) (s : Storage) (l : List Storage) → now ≡ old → inside.0 ≡ 0 → Front (freedoms now.variant) (octets_form (is_aligned now.variant) inside.1) now.place there → behind ≡ there → k ≡ open_type behind ∷ now.scopes → s ≡ storage_inside (innermost now.stands) (length inside.1) there.0 → l ≡ now.stands → new ≡ record { place = inside; scopes = k; levels = now.levels; most = now.most; failed = now.failed; variant = now.variant; stands = s ∷ l } → HasOpened old new
+opened old now new inside behind there k s l same z f q u w v d =
+    let e : new ≡ record { place = inside; scopes = k; levels = now.levels; most = now.most; failed = now.failed; variant = now.variant; stands = s ∷ now.stands } = d ∙ ap (λ (x : List Storage). let h : Held = record { place = inside; scopes = k; levels = now.levels; most = now.most; failed = now.failed; variant = now.variant; stands = s ∷ x } in h) v in
     let o = octets_of (freedoms now.variant) (is_aligned now.variant) (length inside.1 / 8, inside.1) now.place there f in
     let own : inside ≡ (0, octet_bits o.0) = place_same inside (0, octet_bits o.0) z (sym o.1) in
-    let t : k ≡ open_type there ∷ now.scopes = s ∙ ap (λ (p : Place). open_type p ∷ now.scopes) q in
+    let t : k ≡ open_type there ∷ now.scopes = u ∙ ap (λ (p : Place). open_type p ∷ now.scopes) q in
     let st : state_of new ≡ ((0, octet_bits o.0), open_type there ∷ now.scopes) = ap state_of e ∙ state_same (inside, k) ((0, octet_bits o.0), open_type there ∷ now.scopes) own t in
     let p : new.place ≡ inside = ap (λ (h : Held). h.place) e in
     let c : new.scopes ≡ k = ap (λ (h : Held). h.scopes) e in
-    let r : new ≡ record { place = new.place; scopes = new.scopes; levels = now.levels; most = now.most; failed = now.failed; variant = now.variant; lends = false } = e ∙ ap (λ (x : Place). let h : Held = record { place = x; scopes = k; levels = now.levels; most = now.most; failed = now.failed; variant = now.variant; lends = false } in h) (sym p) ∙ ap (λ (l : List Scope). let h : Held = record { place = new.place; scopes = l; levels = now.levels; most = now.most; failed = now.failed; variant = now.variant; lends = false } in h) (sym c) in
+    let i : s ≡ opened_in (innermost now.stands) new.place new.scopes = w ∙ ap (λ (l : List Scope). opened_in (innermost now.stands) inside l) (sym t ∙ sym c) ∙ ap (λ (x : Place). opened_in (innermost now.stands) x new.scopes) (sym p) in
+    let r : new ≡ record { place = new.place; scopes = new.scopes; levels = now.levels; most = now.most; failed = now.failed; variant = now.variant; stands = opened_in (innermost now.stands) new.place new.scopes ∷ now.stands } =
+    e ∙ ap (λ (x : Place). let h : Held = record { place = x; scopes = k; levels = now.levels; most = now.most; failed = now.failed; variant = now.variant; stands = s ∷ now.stands } in h) (sym p)
+    ∙ ap (λ (l : List Scope). let h : Held = record { place = new.place; scopes = l; levels = now.levels; most = now.most; failed = now.failed; variant = now.variant; stands = s ∷ now.stands } in h) (sym c)
+    ∙ ap (λ (x : Storage). let h : Held = record { place = new.place; scopes = new.scopes; levels = now.levels; most = now.most; failed = now.failed; variant = now.variant; stands = x ∷ now.stands } in h) i in
     let here : HasOpened now new = ((o.0, there, o.2, st), r) in
     subst (λ (h : Held). HasOpened h new) same here
 
@@ -407,16 +411,16 @@ chosen_front al free n false others true i a b t = let h = t.0 in cc
 chosen_front al free n true others true i a b t = (t.2, added_is free al n others i a.0 t.2 (ltb-true i others t.1) t.3, λ h. t.4)
 
 -- a choice whose alternative is one of the root
-pub root_begun : (old now new : Held) (roots others : List Tag) (e : Bool) (c : Chosen) (there : Place) → now ≡ old → IsReady old → c.added ≡ false → Front (freedoms now.variant) (place_form (is_aligned now.variant) (length roots) e (length others) c) now.place there → now.levels ≡ suc new.levels → new ≡ record { place = there; scopes = alternative ∷ now.scopes; levels = new.levels; most = now.most; failed = now.failed; variant = now.variant; lends = now.lends } → Finds old (choice_begins roots e others c.added c.place) new
-root_begun old now new roots others e c there same ready t f l g = steps old now new there (alternative ∷ now.scopes) new.levels (choice_begins roots e others c.added c.place) now.lends same ready (root_chosen (is_aligned now.variant) (freedoms now.variant) (length roots) e (length others) c now.place there now.scopes t f) (ap (λ n. level now.most (choice_begins roots e others c.added c.place) n) l) (ap (λ b. not b && now.lends) (sym t)) g
+pub root_begun : (old now new : Held) (roots others : List Tag) (e : Bool) (c : Chosen) (there : Place) → now ≡ old → IsReady old → c.added ≡ false → Front (freedoms now.variant) (place_form (is_aligned now.variant) (length roots) e (length others) c) now.place there → now.levels ≡ suc new.levels → new ≡ record { place = there; scopes = alternative ∷ now.scopes; levels = new.levels; most = now.most; failed = now.failed; variant = now.variant; stands = now.stands } → Finds old (choice_begins roots e others c.added c.place) new
+root_begun old now new roots others e c there same ready t f l g = steps old now new there (alternative ∷ now.scopes) new.levels (choice_begins roots e others c.added c.place) now.stands same ready (root_chosen (is_aligned now.variant) (freedoms now.variant) (length roots) e (length others) c now.place there now.scopes t f) (ap (λ n. level now.most (choice_begins roots e others c.added c.place) n) l) (ap (λ b. stands_within b now.stands there (alternative ∷ now.scopes)) (sym t)) g
 
 -- or an added one
-pub added_begun : (old now mid new : Held) (roots others : List Tag) (e : Bool) (c : Chosen) (there : Place) → now ≡ old → IsReady old → c.added ≡ true → Front (freedoms now.variant) (place_form (is_aligned now.variant) (length roots) e (length others) c) now.place there → Opens (is_aligned now.variant) (freedoms now.variant) there now.scopes (state_of mid) → now.levels ≡ suc new.levels → new ≡ record { place = mid.place; scopes = mid.scopes; levels = new.levels; most = now.most; failed = now.failed; variant = now.variant; lends = false } → Finds old (choice_begins roots e others c.added c.place) new
-added_begun old now mid new roots others e c there same ready t f o l g = steps old now new mid.place mid.scopes new.levels (choice_begins roots e others c.added c.place) false same ready (added_chosen (is_aligned now.variant) (freedoms now.variant) (length roots) e (length others) c now.place there now.scopes (state_of mid) t f o) (ap (λ n. level now.most (choice_begins roots e others c.added c.place) n) l) (ap (λ b. not b && now.lends) (sym t)) g
+pub added_begun : (old now mid new : Held) (roots others : List Tag) (e : Bool) (c : Chosen) (there : Place) → now ≡ old → IsReady old → c.added ≡ true → Front (freedoms now.variant) (place_form (is_aligned now.variant) (length roots) e (length others) c) now.place there → Opens (is_aligned now.variant) (freedoms now.variant) there now.scopes (state_of mid) → now.levels ≡ suc new.levels → new ≡ record { place = mid.place; scopes = mid.scopes; levels = new.levels; most = now.most; failed = now.failed; variant = now.variant; stands = stands_within true now.stands mid.place mid.scopes } → Finds old (choice_begins roots e others c.added c.place) new
+added_begun old now mid new roots others e c there same ready t f o l g = steps old now new mid.place mid.scopes new.levels (choice_begins roots e others c.added c.place) (stands_within true now.stands mid.place mid.scopes) same ready (added_chosen (is_aligned now.variant) (freedoms now.variant) (length roots) e (length others) c now.place there now.scopes (state_of mid) t f o) (ap (λ n. level now.most (choice_begins roots e others c.added c.place) n) l) (ap (λ b. stands_within b now.stands mid.place mid.scopes) (sym t)) g
 
 -- one level more is left
 abbrev pub further_out : Held → Held
-further_out h = record { place = h.place; scopes = h.scopes; levels = h.levels + 1; most = h.most; failed = h.failed; variant = h.variant; lends = h.lends }
+further_out h = record { place = h.place; scopes = h.scopes; levels = h.levels + 1; most = h.most; failed = h.failed; variant = h.variant; stands = h.stands }
 
 -- one place at most stands in front
 behind_one : (free : Per.Freedom → Bool) (al : Bool) (n m : ℕ) (v w : Bool) (i j : ℕ) (p b c : Place) → v ≡ w → Front free (cond v (added_form al m i) (root_form al n i)) p b → Front free (cond w (added_form al m j) (root_form al n j)) p c → b ≡ c
@@ -454,12 +458,11 @@ no_place old now xs e ys n m here x same p q h none =
     } in
     subst (λ (g : Held). NoLevel Finds (asks_choice xs e ys) g.levels g x) same lost
 
-pub no_chosen_type : (old now mid : Held) (xs : List Tag) (e : Bool) (ys : List Tag) (n m : ℕ) (c : Chosen) (here there : Place) (x : DecodeError) → now ≡ old → n ≡ length xs → m ≡ length ys → here ≡ now.place → c.added ≡ true → Front (freedoms now.variant) (place_form (is_aligned now.variant) n e m c) here there → mid ≡ record { place = there; scopes = now.scopes; levels = now.levels; most = now.most; failed = now.failed; variant = now.variant; lends = now.lends } → NoOpening mid x → NoLevel Finds (asks_choice xs e ys) old.levels old x
-unfolding left
+pub no_chosen_type : (old now mid : Held) (xs : List Tag) (e : Bool) (ys : List Tag) (n m : ℕ) (c : Chosen) (here there : Place) (x : DecodeError) → now ≡ old → n ≡ length xs → m ≡ length ys → here ≡ now.place → c.added ≡ true → Front (freedoms now.variant) (place_form (is_aligned now.variant) n e m c) here there → mid ≡ record { place = there; scopes = now.scopes; levels = now.levels; most = now.most; failed = now.failed; variant = now.variant; stands = now.stands } → NoOpening mid x → NoLevel Finds (asks_choice xs e ys) old.levels old x
 no_chosen_type old now mid xs e ys n m c here there x same p q h t fr z none =
     let f = freedoms now.variant in
     let al = is_aligned now.variant in
-    let own : Held = record { place = there; scopes = now.scopes; levels = now.levels; most = now.most; failed = now.failed; variant = now.variant; lends = now.lends } in
+    let own : Held = record { place = there; scopes = now.scopes; levels = now.levels; most = now.most; failed = now.failed; variant = now.variant; stands = now.stands } in
     let w : NoOpening own x = subst (λ (g : Held). NoOpening g x) z none in
     let a : Front f (place_form al (length xs) e (length ys) c) now.place there = subst (λ (y : Place). Front f (place_form al (length xs) e (length ys) c) y there) h (subst (λ j. Front f (place_form al j e (length ys) c) here there) p (subst (λ j. Front f (place_form al n e j c) here there) q fr)) in
     let lost : NoLevel Finds (asks_choice xs e ys) now.levels now x = record {
@@ -475,20 +478,20 @@ no_chosen_type old now mid xs e ys n m c here there x same p q h t fr z none =
 counted_place : (free : Per.Freedom → Bool) (al : Bool) (xs : List Tag) (e : Bool) (ys : List Tag) (n m : ℕ) (c : Chosen) (here place there : Place) → n ≡ length xs → m ≡ length ys → here ≡ place → Front free (place_form al n e m c) here there → Front free (place_form al (length xs) e (length ys) c) place there
 counted_place free al xs e ys n m c here place there p q h f = subst (λ (y : Place). Front free (place_form al (length xs) e (length ys) c) y there) h (subst (λ j. Front free (place_form al j e (length ys) c) here there) p (subst (λ j. Front free (place_form al n e j c) here there) q f))
 
-pub type_begun : (old now settled mid new : Held) (xs : List Tag) (e : Bool) (ys : List Tag) (n m : ℕ) (c : Chosen) (here there : Place) (k : ℕ) → now ≡ old → IsReady old → n ≡ length xs → m ≡ length ys → here ≡ now.place → k ≡ there.0 → c.added ≡ true → Front (freedoms now.variant) (place_form (is_aligned now.variant) n e m c) here there → Moves now k settled → HasOpened settled mid → mid.levels ≡ new.levels + 1 → new ≡ record { place = mid.place; scopes = mid.scopes; levels = new.levels; most = mid.most; failed = mid.failed; variant = mid.variant; lends = mid.lends } → Finds old (choice_begins xs e ys c.added c.place) new
+pub type_begun : (old now settled mid new : Held) (xs : List Tag) (e : Bool) (ys : List Tag) (n m : ℕ) (c : Chosen) (here there : Place) (k : ℕ) → now ≡ old → IsReady old → n ≡ length xs → m ≡ length ys → here ≡ now.place → k ≡ there.0 → c.added ≡ true → Front (freedoms now.variant) (place_form (is_aligned now.variant) n e m c) here there → Moves now k settled → HasOpened settled mid → mid.levels ≡ new.levels + 1 → new ≡ record { place = mid.place; scopes = mid.scopes; levels = new.levels; most = mid.most; failed = mid.failed; variant = mid.variant; stands = mid.stands } → Finds old (choice_begins xs e ys c.added c.place) new
 type_begun old now settled mid new xs e ys n m c here there k same ready p q h r t f v o l g =
     let s = moves_there now settled (freedoms now.variant) (place_form (is_aligned now.variant) n e m c) here there k h r f v in
     let w : Opens (is_aligned now.variant) (freedoms now.variant) there now.scopes (state_of mid) = subst (λ (x : Held). Opens (is_aligned x.variant) (freedoms x.variant) x.place x.scopes (state_of mid)) s o.0 in
-    let z : mid ≡ record { place = mid.place; scopes = mid.scopes; levels = now.levels; most = now.most; failed = now.failed; variant = now.variant; lends = false } = o.1 ∙ ap (λ (x : Held). let y : Held = record { place = mid.place; scopes = mid.scopes; levels = x.levels; most = x.most; failed = x.failed; variant = x.variant; lends = false } in y) s in
+    let z : mid ≡ record { place = mid.place; scopes = mid.scopes; levels = now.levels; most = now.most; failed = now.failed; variant = now.variant; stands = stands_within true now.stands mid.place mid.scopes } = o.1 ∙ ap (λ (x : Held). let y : Held = record { place = mid.place; scopes = mid.scopes; levels = x.levels; most = x.most; failed = x.failed; variant = x.variant; stands = stands_within true x.stands mid.place mid.scopes } in y) s in
     let i : mid.levels ≡ now.levels = ap (λ (x : Held). x.levels) z in
-    let j : new ≡ record { place = mid.place; scopes = mid.scopes; levels = new.levels; most = now.most; failed = now.failed; variant = now.variant; lends = false } = g ∙ ap (λ (x : Held). let y : Held = record { place = mid.place; scopes = mid.scopes; levels = new.levels; most = x.most; failed = x.failed; variant = x.variant; lends = x.lends } in y) z in
+    let j : new ≡ record { place = mid.place; scopes = mid.scopes; levels = new.levels; most = now.most; failed = now.failed; variant = now.variant; stands = stands_within true now.stands mid.place mid.scopes } = g ∙ ap (λ (x : Held). let y : Held = record { place = mid.place; scopes = mid.scopes; levels = new.levels; most = x.most; failed = x.failed; variant = x.variant; stands = x.stands } in y) z in
     added_begun old now mid new xs ys e c there same ready t (counted_place (freedoms now.variant) (is_aligned now.variant) xs e ys n m c here now.place there p q h f) w (omega (arith, i, l)) j
 
-pub alternative_begun : (old now settled new : Held) (xs : List Tag) (e : Bool) (ys : List Tag) (n m : ℕ) (c : Chosen) (here there : Place) (k : ℕ) → now ≡ old → IsReady old → n ≡ length xs → m ≡ length ys → here ≡ now.place → k ≡ there.0 → c.added ≡ false → Front (freedoms now.variant) (place_form (is_aligned now.variant) n e m c) here there → Moves now k settled → settled.levels ≡ new.levels + 1 → new ≡ record { place = settled.place; scopes = alternative ∷ settled.scopes; levels = new.levels; most = settled.most; failed = settled.failed; variant = settled.variant; lends = settled.lends } → Finds old (choice_begins xs e ys c.added c.place) new
+pub alternative_begun : (old now settled new : Held) (xs : List Tag) (e : Bool) (ys : List Tag) (n m : ℕ) (c : Chosen) (here there : Place) (k : ℕ) → now ≡ old → IsReady old → n ≡ length xs → m ≡ length ys → here ≡ now.place → k ≡ there.0 → c.added ≡ false → Front (freedoms now.variant) (place_form (is_aligned now.variant) n e m c) here there → Moves now k settled → settled.levels ≡ new.levels + 1 → new ≡ record { place = settled.place; scopes = alternative ∷ settled.scopes; levels = new.levels; most = settled.most; failed = settled.failed; variant = settled.variant; stands = settled.stands } → Finds old (choice_begins xs e ys c.added c.place) new
 alternative_begun old now settled new xs e ys n m c here there k same ready p q h r t f v l g =
     let s = moves_there now settled (freedoms now.variant) (place_form (is_aligned now.variant) n e m c) here there k h r f v in
     let i : settled.levels ≡ now.levels = ap (λ (x : Held). x.levels) s in
-    let j : new ≡ record { place = there; scopes = alternative ∷ now.scopes; levels = new.levels; most = now.most; failed = now.failed; variant = now.variant; lends = now.lends } = g ∙ ap (λ (x : Held). let y : Held = record { place = x.place; scopes = alternative ∷ x.scopes; levels = new.levels; most = x.most; failed = x.failed; variant = x.variant; lends = x.lends } in y) s in
+    let j : new ≡ record { place = there; scopes = alternative ∷ now.scopes; levels = new.levels; most = now.most; failed = now.failed; variant = now.variant; stands = now.stands } = g ∙ ap (λ (x : Held). let y : Held = record { place = x.place; scopes = alternative ∷ x.scopes; levels = new.levels; most = x.most; failed = x.failed; variant = x.variant; stands = x.stands } in y) s in
     root_begun old now new xs ys e c there same ready t (counted_place (freedoms now.variant) (is_aligned now.variant) xs e ys n m c here now.place there p q h f) (omega (arith, i, l)) j
 
 pub place_within : (free : Per.Freedom → Bool) (al : Bool) (xs : List Tag) (e : Bool) (ys : List Tag) (n m : ℕ) (c : Chosen) (a b : Place) → n ≡ length xs → m ≡ length ys → Front free (place_form al n e m c) a b → c.place < length (cond c.added ys xs)

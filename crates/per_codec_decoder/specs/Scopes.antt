@@ -2,6 +2,7 @@
 use Rattle.std.specs.Prelude.{◌≡◌, ℕ, Bool, List, [], ◌∷◌, map, reverse, Option, Some, None}
 use Rattle.asn1_model.specs.Per
 use Rattle.per_codec_fronts.specs.Takes.{Place, State, Scope, components, added, open_type, members, alternative, AdditionsBegin, NextAddition, AdditionEnds, Ends}
+use Rattle.per_codec_reading.specs.Runs.{Storage}
 use Rattle.per_codec_decoder.specs.Additions.{own_marks, unknown_marks}
 use Rattle.per_codec_decoder.specs.declared.frames.Frame.{Frame}
 use Rattle.per_codec_decoder.specs.declared.frames.Frame.TheVariants.{Components, Added, OpenType, Members, Alternative}
@@ -33,6 +34,41 @@ abbrev pub scopes_of : Option Enclosing → Option Frame → List Frame → List
 scopes_of None f fs = scopes_in f fs
 scopes_of (Some e) f fs = scope_around e ∷ scopes_in f fs
 
+-- Behind each open type among the frames stand bits, the innermost first.
+abbrev pub behind_frame : Frame → List Storage → List Storage
+behind_frame (OpenType p) k = p.storage ∷ k
+behind_frame f k = k
+
+abbrev pub behind_around : Enclosing → List Storage → List Storage
+behind_around (Opened p) k = p.storage ∷ k
+behind_around Chosen k = k
+
+abbrev pub behind_frames : List Frame → List Storage
+behind_frames [] = []
+behind_frames (f ∷ fs) = behind_frame f (behind_frames fs)
+
+abbrev pub behind_in : Option Frame → List Frame → List Storage
+behind_in None fs = []
+behind_in (Some f) fs = behind_frame f (behind_frames (reverse fs))
+
+abbrev pub behind_of : Option Enclosing → Option Frame → List Frame → List Storage
+behind_of None f fs = behind_in f fs
+behind_of (Some e) f fs = behind_around e (behind_in f fs)
+
+-- What is open: the scopes, and where the bits stand behind each open type among them.
+pub record Open : Type 0 where
+  pub scopes : List Scope
+  pub behind : List Storage
+
+-- A scope is opened where bits stand so.
+abbrev pub beneath : Storage → List Storage → List Storage
+beneath s [] = []
+beneath s (t ∷ k) = t ∷ s ∷ k
+
+abbrev pub stands_in : Frame → List Storage → List Storage
+stands_in (OpenType p) l = beneath p.storage l
+stands_in f l = l
+
 -- All root components of the innermost sequence or set have passed, and this is the bit of its mark.
 abbrev pub HasMark : Bool → List Scope → Type 0
 HasMark m s = (k : List Scope) × (s ≡ components (Some m) [] ∷ k)
@@ -54,6 +90,12 @@ abbrev pub Leaves : Ending → List Scope → List Scope → Type 0
 Leaves Nothing old new = (al : Bool) (free : Per.Freedom → Bool) (a : Place) → Ends al free a old (a, new)
 Leaves (Unknown r) old new = old ≡ added [] r.place.1 ∷ new
 Leaves (Filled p) old new = old ≡ open_type p.place ∷ new
+
+-- And bits stand so behind the open types that are left, if it was one.
+abbrev pub LeavesBehind : Ending → List Storage → List Storage → Type 0
+LeavesBehind Nothing old new = old ≡ new
+LeavesBehind (Unknown r) old new = old ≡ new
+LeavesBehind (Filled p) old new = old ≡ p.storage ∷ new
 
 -- No end comes here.
 abbrev pub NoEnd : List Scope → Type 0

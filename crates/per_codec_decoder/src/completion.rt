@@ -2,6 +2,7 @@
 ghost use Rattle.std.specs.Prelude.{OnOk, IfErr, IsTrue};
 ghost use Rattle.asn1_model.specs.Per;
 ghost use Rattle.per_codec_fronts.specs.Takes.{Front, completion, Closes};
+ghost use Rattle.per_codec_reading.specs.Fronts.{IsFresh};
 ghost use Rattle.per_codec_decoder.specs.Endings.{IsClosed};
 
 use asn1_schema_faults::DecodeError;
@@ -16,6 +17,7 @@ use per_codec_reading::Cursor;
 pub(crate) fn read_completion(cursor: &mut Cursor<'_>) -> Result<(), DecodeError>
     ensures ok { OnOk result ((free : _) → IsTrue (free Per.any_filling) → Front free (completion cursor.old.0) cursor.old cursor.new) }
     ensures only { IfErr result (λ _. (free : _) (b : _) → Front free (completion cursor.old.0) cursor.old b → ⊥) }
+    ensures fresh { IfErr result IsFresh }
 {
     if cursor.position() == 0 {
         if cursor.take_number(8)? != 0 {
@@ -35,6 +37,7 @@ pub(crate) fn read_completion(cursor: &mut Cursor<'_>) -> Result<(), DecodeError
 pub(crate) fn read_to_end(cursor: &mut Cursor<'_>) -> Result<(), DecodeError>
     ensures ok { OnOk result (IsClosed cursor.old) }
     ensures only { IfErr result (λ _. (free : _) (rest : _) (k : _) (b : _) → Closes free cursor.old rest k b → ⊥) }
+    ensures fresh { IfErr result IsFresh }
 {
     read_completion(cursor)?;
     if cursor.len() % 8 != 0 {

@@ -1,19 +1,17 @@
 //! What finds the records of a value in bits.
 ghost use Rattle.std.specs.Cow.{cow_slice_items, IsBorrowedSlice};
-ghost use Rattle.std.specs.Prelude.{◌≡◌, ◌+◌, ◌-◌, ◌%◌, ◌<◌, ◌≤◌, ◌^◌, [], ◌∷◌, true, false, length, take, OnOk, OnErr, IfErr, IfOk};
-ghost use Rattle.per_codec_decoder.specs.Held.{Held, Finds, HasFailed, kind_of, IsReady, Stays, Moves, Enters, HasOpened, HasPassed, NoOpening, EntersMembers, EntersComponents, NotMembers, NotComponents};
+ghost use Rattle.std.specs.Prelude.{◌≡◌, ◌+◌, ◌-◌, ◌<◌, ◌≤◌, ◌^◌, [], ◌∷◌, true, false, Some, length, take, OnOk, OnErr, IfErr, IfOk};
+ghost use Rattle.per_codec_decoder.specs.Held.{Held, Finds, Lends, HasFailed, kind_of, IsReady, Stays, Moves, Enters, HasOpened, HasPassed, NoOpening, EntersMembers, EntersComponents, NotMembers, NotComponents};
 ghost use Rattle.per_codec_decoder.specs.Endings.{Passes, NotPassed};
-ghost use Rattle.per_codec_decoder.specs.Scopes.{scope_of, scope_around};
+ghost use Rattle.per_codec_decoder.specs.Scopes.{scope_of, stands_in};
 ghost use Rattle.asn1_schema_constraints.specs.Bounds.{counts_of, members_of};
 ghost use Rattle.asn1_schema_decode.specs.Reads.{NoRecord};
 ghost use Rattle.asn1_schema_presented.specs.Records.{octets, asks_octets};
-ghost use Rattle.per_codec_reading.specs.Runs.{InOneRun, StandsIn};
-ghost use Rattle.per_codec_reading.specs.Sizes.{surely_told};
 ghost use Rattle.asn1_schema_constraints.specs.Terms.{sizes_of};
 ghost use Rattle.asn1_model.specs.Numbers.{octet_bits, is_count_within};
 ghost use Rattle.asn1_values_bits.specs.BitStr.{bits_of};
-ghost use Rattle.per_codec_fronts.specs.Takes.{Front, completion};
-ghost use Rattle.per_codec_reading.specs.Fronts.{freedoms, is_aligned};
+ghost use Rattle.per_codec_fronts.specs.Takes.{alternative, Front, completion};
+ghost use Rattle.per_codec_reading.specs.Fronts.{freedoms, is_aligned, IsFresh};
 
 use crate::alphabets::is_alphabet;
 use crate::completion::{read_completion, read_to_end};
@@ -36,8 +34,7 @@ use per_codec_reading::{
     Variant, read_bit_string, read_object_identifier, read_octet_string_in, read_utf8_string,
 };
 use per_codec_reading_values::{
-    Field, Stretch, read_characters, read_integer, read_item, read_place_of_alternative,
-    skip_unknown,
+    Stretch, read_characters, read_integer, read_item, read_place_of_alternative, skip_unknown,
 };
 use std::alloc::Global;
 use std::borrow::CowSlice;
@@ -53,17 +50,15 @@ pub struct Decoder<'input> {
     most: usize,
     failed: bool,
     variant: Variant,
-    // whether no open type has begun
-    lends: bool,
 }
 
 impl<'input> Model for Decoder<'input> {
-    ghost use Rattle.std.specs.Prelude.{◌&&◌};
+    ghost use Rattle.std.specs.Prelude.{◌∷◌};
     ghost use Rattle.per_codec_decoder.specs.Held.{Held};
 
     ghost Value = { Held };
 
-    ghost view = { λ d. record { place = d.place.place; scopes = d.scopes; levels = d.levels; most = d.most; failed = d.failed; variant = d.variant; lends = d.lends && d.place.lends } };
+    ghost view = { λ d. record { place = d.place.place; scopes = d.scopes.scopes; levels = d.levels; most = d.most; failed = d.failed; variant = d.variant; stands = d.place.storage ∷ d.scopes.behind } };
 }
 
 impl<'input> Decoder<'input> {
@@ -71,7 +66,7 @@ impl<'input> Decoder<'input> {
     /// many.
     #[inline(always)]
     pub fn new(alloc: Global, input: &'input [u8], options: DecoderOptions) -> Self
-        ensures { result ≡ record { place = (0, octet_bits (take (2 ^ 60 - 1) input.entry.now)); scopes = []; levels = 128; most = 128; failed = false; variant = options.variant; lends = true } }
+        ensures { result ≡ record { place = (0, octet_bits (take (2 ^ 60 - 1) input.entry.now)); scopes = []; levels = 128; most = 128; failed = false; variant = options.variant; stands = Some 0 ∷ [] } }
     {
         Decoder {
             place: Stretch::from_octets(input),
@@ -80,7 +75,6 @@ impl<'input> Decoder<'input> {
             most: 128,
             failed: false,
             variant: options.variant,
-            lends: true,
         }
     }
 
@@ -105,6 +99,7 @@ impl<'input> Decoder<'input> {
         ensures only { IfErr result (λ _. IsReady self.old → (b : _) → Front (freedoms self.old.variant) (completion self.old.place.0) self.old.place b → ⊥) }
         ensures failed { OnErr result (HasFailed self.new) }
         ensures already { HasFailed self.old → result ≡ Err DecodeError.AlreadyFailed }
+        ensures after { result ≡ Err DecodeError.AlreadyFailed → HasFailed self.old }
     {
         self.begin_record()?;
         let mut cursor = self.place.cursor();
@@ -113,29 +108,23 @@ impl<'input> Decoder<'input> {
         self.settle(position, answer)
     }
 
-    /// OCTET STRING (X.680 23) under a size constraint, in a type of the program that holds so many octets. Before an open type (X.691 11.2)
-    /// begins the input is known to lend the octets, and no memory is taken, where they stand in one run (X.691 11.9.4) that ends at an octet
-    /// of it.
-    ///
-    /// # Errors
-    ///
-    /// `AlreadyFailed` after a refusal, `SizeConstraintNotSatisfied` if the size or the program's type does not admit as many, `Incomplete` if
-    /// the bits end early, the errors of a number and of a length, and `OutOfMemory`.
+    // The octets of a string (X.680 23) under a size constraint, in a type of the program that holds so many. Where they stand in the input as
+    // they are, in one run (X.691 11.9.4) that begins at an octet of it, they are lent, and no memory is taken.
     #[inline(always)]
-    pub fn decode_octet_string(
+    fn find_octets(
         &mut self,
         alloc: Global,
-        _tag: Tag,
         constraints: Constraints,
         held: Bounded<usize>,
     ) -> Result<CowSlice<'input, u8>, DecodeError>
         ensures ok { IfOk result (λ x. Finds self.old (octets (sizes_of constraints.entry.size) (counts_of held) (cow_slice_items x)) self.new) }
         ensures held { IfOk result (λ x. is_count_within (counts_of held) (length (cow_slice_items x)) ≡ true) }
-        ensures lent { IfOk result (λ x. self.old.lends ≡ true → InOneRun (surely_told (sizes_of constraints.entry.size)) (length (cow_slice_items x)) → self.new.place.0 % 8 ≡ 0 → IsBorrowedSlice x) }
+        ensures lent { IfOk result (λ x. Lends self.old (octets (sizes_of constraints.entry.size) (counts_of held) (cow_slice_items x)) self.new → IsBorrowedSlice x) }
         ensures level { OnOk result (self.new.levels ≡ self.old.levels) }
         ensures only { IfErr result (NoRecord Finds (asks_octets (sizes_of constraints.entry.size) (counts_of held)) self.old) }
         ensures failed { OnErr result (HasFailed self.new) }
         ensures already { HasFailed self.old → result ≡ Err DecodeError.AlreadyFailed }
+        ensures after { result ≡ Err DecodeError.AlreadyFailed → HasFailed self.old }
     {
         self.begin_record()?;
         let mut cursor = self.place.cursor();
@@ -157,45 +146,6 @@ impl<'input> Decoder<'input> {
         Ok(CowSlice::Owned(octets))
     }
 
-    /// OCTET STRING (X.680 23) as `decode_octet_string` reads it, where the input is handed over once more, of which the unread bits of the
-    /// message are the last. Where the octets stand in one run (X.691 11.9.4) that begins at an octet of the input, as it does where it ends at
-    /// one, the input lends them, and no memory is taken.
-    ///
-    /// # Errors
-    ///
-    /// Those of `decode_octet_string`.
-    #[inline(always)]
-    pub fn decode_octet_string_in<'a>(
-        &mut self,
-        alloc: Global,
-        input: &'a [u8],
-        constraints: Constraints,
-        held: Bounded<usize>,
-    ) -> Result<CowSlice<'a, u8>, DecodeError>
-        requires few { length input.now < 2 ^ 60 }
-        requires stands { StandsIn (octet_bits input.now) self.old.place }
-        ensures ok { IfOk result (λ x. Finds self.old (octets (sizes_of constraints.entry.size) (counts_of held) (cow_slice_items x)) self.new) }
-        ensures lent { IfOk result (λ x. InOneRun (surely_told (sizes_of constraints.entry.size)) (length (cow_slice_items x)) → self.new.place.0 % 8 ≡ 0 → IsBorrowedSlice x) }
-        ensures level { OnOk result (self.new.levels ≡ self.old.levels) }
-        ensures only { IfErr result (NoRecord Finds (asks_octets (sizes_of constraints.entry.size) (counts_of held)) self.old) }
-        ensures failed { OnErr result (HasFailed self.new) }
-        ensures already { HasFailed self.old → result ≡ Err DecodeError.AlreadyFailed }
-    {
-        self.begin_record()?;
-        let bits = BitStr::from_slice(input);
-        let mut cursor = self.place.cursor();
-        let answer = read_octet_string_in(
-            alloc,
-            bits,
-            &mut cursor,
-            self.variant,
-            constraints,
-            held,
-        );
-        let position = cursor.position();
-        self.settle(position, answer)
-    }
-
     // Fails for this reason, from now on.
     fn fail(&mut self, error: DecodeError) -> DecodeError
         ensures refused { result ≡ error }
@@ -212,6 +162,7 @@ impl<'input> Decoder<'input> {
         ensures only { IfErr result (λ _. IsReady self.old → ⊥) }
         ensures failed { OnErr result (self.new.failed ≡ true) }
         ensures already { self.old.failed ≡ true → result ≡ Err DecodeError.AlreadyFailed }
+        ensures after { OnErr result (self.old.failed ≡ true) }
     {
         if self.failed {
             return Err(DecodeError::AlreadyFailed);
@@ -245,7 +196,7 @@ impl<'input> Decoder<'input> {
     fn enter(&mut self, frame: Frame<'input>) -> Result<(), DecodeError>
         requires { 0 < self.old.levels }
         ensures levels { OnOk result (self.old.levels ≡ self.new.levels + 1) }
-        ensures scopes { OnOk result (self.new ≡ record { place = self.old.place; scopes = scope_of frame.entry ∷ self.old.scopes; levels = self.new.levels; most = self.old.most; failed = self.old.failed; variant = self.old.variant; lends = self.old.lends }) }
+        ensures scopes { OnOk result (self.new ≡ record { place = self.old.place; scopes = scope_of frame.entry ∷ self.old.scopes; levels = self.new.levels; most = self.old.most; failed = self.old.failed; variant = self.old.variant; stands = stands_in frame.entry self.old.stands }) }
         ensures only { IfErr result (λ error. error ≡ DecodeError.OutOfMemory) }
         ensures failed { OnErr result (self.new.failed ≡ true) }
     {
@@ -256,16 +207,16 @@ impl<'input> Decoder<'input> {
         Ok(())
     }
 
-    // Opens a scope that encloses one value alone, and takes a level for it.
+    // Opens the scope of an alternative of the root, and takes a level for it.
     #[inline(always)]
-    fn enter_enclosing(&mut self, enclosing: Enclosing<'input>) -> Result<(), DecodeError>
+    fn enter_alternative(&mut self) -> Result<(), DecodeError>
         requires { 0 < self.old.levels }
         ensures levels { OnOk result (self.old.levels ≡ self.new.levels + 1) }
-        ensures scopes { OnOk result (self.new ≡ record { place = self.old.place; scopes = scope_around enclosing.entry ∷ self.old.scopes; levels = self.new.levels; most = self.old.most; failed = self.old.failed; variant = self.old.variant; lends = self.old.lends }) }
+        ensures scopes { OnOk result (self.new ≡ record { place = self.old.place; scopes = alternative ∷ self.old.scopes; levels = self.new.levels; most = self.old.most; failed = self.old.failed; variant = self.old.variant; stands = self.old.stands }) }
         ensures only { IfErr result (λ error. error ≡ DecodeError.OutOfMemory) }
         ensures failed { OnErr result (self.new.failed ≡ true) }
     {
-        let Ok(()) = self.scopes.enclose(enclosing) else {
+        let Ok(()) = self.scopes.enclose(Enclosing::Alternative) else {
             return Err(self.fail(DecodeError::OutOfMemory));
         };
         self.descend();
@@ -277,7 +228,7 @@ impl<'input> Decoder<'input> {
     fn descend(&mut self)
         requires { 0 < self.old.levels }
         ensures levels { self.old.levels ≡ self.new.levels + 1 }
-        ensures same { self.new ≡ record { place = self.old.place; scopes = self.old.scopes; levels = self.new.levels; most = self.old.most; failed = self.old.failed; variant = self.old.variant; lends = self.old.lends } }
+        ensures same { self.new ≡ record { place = self.old.place; scopes = self.old.scopes; levels = self.new.levels; most = self.old.most; failed = self.old.failed; variant = self.old.variant; stands = self.old.stands } }
     {
         self.levels -= 1;
     }
@@ -292,6 +243,7 @@ impl<'input> Decoder<'input> {
         ensures only { IfErr result (NotMembers self.old (sizes_of constraints.entry.size) (members_of held)) }
         ensures failed { OnErr result (self.new.failed ≡ true) }
         ensures already { self.old.failed ≡ true → result ≡ Err DecodeError.AlreadyFailed }
+        ensures after { result ≡ Err DecodeError.AlreadyFailed → self.old.failed ≡ true }
     {
         self.begin_record()?;
         if self.levels == 0 {
@@ -312,6 +264,7 @@ impl<'input> Decoder<'input> {
         ensures only { IfErr result (NotComponents self.old extensible optional) }
         ensures failed { OnErr result (self.new.failed ≡ true) }
         ensures already { self.old.failed ≡ true → result ≡ Err DecodeError.AlreadyFailed }
+        ensures after { result ≡ Err DecodeError.AlreadyFailed → self.old.failed ≡ true }
     {
         self.begin_record()?;
         if self.levels == 0 {
@@ -328,14 +281,14 @@ impl<'input> Decoder<'input> {
     fn open_type(&mut self) -> Result<(), DecodeError>
         ensures ok { OnOk result (HasOpened self.old self.new) }
         ensures only { IfErr result (NoOpening self.old) }
+        ensures fresh { IfErr result IsFresh }
         ensures failed { OnErr result (self.new.failed ≡ true) }
     {
         let alloc = self.scopes.allocator();
-        let inside = match self.place.take_field(alloc, self.variant, Field::OpenType) {
+        let inside = match self.place.take_open_type(alloc, self.variant) {
             Ok(inside) => inside,
             Err(error) => return Err(self.fail(error)),
         };
-        self.lends = false;
         let behind = replace(&mut self.place, inside);
         let Ok(()) = self.scopes.enclose(Enclosing::OpenType(behind)) else {
             return Err(self.fail(DecodeError::OutOfMemory));
@@ -348,6 +301,7 @@ impl<'input> Decoder<'input> {
     fn pass_over(&mut self, ending: Ending<'input>) -> Result<(), DecodeError>
         ensures ok { OnOk result (HasPassed ending.entry self.old self.new × Passes (is_aligned self.old.variant) (freedoms self.old.variant) ending.entry self.old.place self.new.place) }
         ensures only { IfErr result (NotPassed (is_aligned self.old.variant) (freedoms self.old.variant) ending.entry self.old.place) }
+        ensures fresh { IfErr result IsFresh }
     {
         match ending {
             Ending::Nothing => Ok(()),
@@ -360,7 +314,6 @@ impl<'input> Decoder<'input> {
             }
             Ending::OpenType(behind) => {
                 read_to_end(&mut self.place.cursor())?;
-                self.lends = false;
                 self.place = behind;
                 Ok(())
             }
@@ -369,7 +322,7 @@ impl<'input> Decoder<'input> {
 }
 
 impl<'input> asn1_schema_decode::Decoder for Decoder<'input> {
-    ghost use Rattle.per_codec_decoder.specs.Laws.{finds_one, finds_held, finds_bag_held, finds_none, finds_same};
+    ghost use Rattle.per_codec_decoder.specs.Laws.{finds_one, finds_held, finds_bag_held, finds_none, finds_on, finds_same};
 
     type Octets = CowSlice<'input, u8>;
 
@@ -378,6 +331,8 @@ impl<'input> asn1_schema_decode::Decoder for Decoder<'input> {
     ghost has_failed = { HasFailed };
 
     ghost levels = { λ d. d.levels };
+
+    ghost lends = { Lends };
 
     ghost rules = { λ d. kind_of d.variant };
 
@@ -454,11 +409,11 @@ impl<'input> asn1_schema_decode::Decoder for Decoder<'input> {
     fn decode_octet_string(
         &mut self,
         alloc: Global,
-        tag: Tag,
+        _tag: Tag,
         constraints: Constraints,
         held: Bounded<usize>,
     ) -> Result<CowSlice<'input, u8>, DecodeError> {
-        self.decode_octet_string(alloc, tag, constraints, held)
+        self.find_octets(alloc, constraints, held)
     }
 
     fn decode_utf8_string(
@@ -640,7 +595,7 @@ impl<'input> asn1_schema_decode::Decoder for Decoder<'input> {
             self.descend();
             return Ok(chosen);
         }
-        self.enter_enclosing(Enclosing::Alternative)?;
+        self.enter_alternative()?;
         Ok(chosen)
     }
 
@@ -667,6 +622,8 @@ impl<'input> asn1_schema_decode::Decoder for Decoder<'input> {
     ghost list_held = { finds_held };
 
     ghost bag_held = { finds_bag_held };
+
+    ghost goes_on = { finds_on };
 
     ghost none_after = { finds_none };
 

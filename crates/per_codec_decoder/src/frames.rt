@@ -1,9 +1,10 @@
 //! Open scopes.
 ghost use Rattle.std.specs.Prelude.{◌≡◌, ◌∷◌, [], OnOk, IfOk, IfErr, IfSome, IfNone, MatchBool};
 ghost use Rattle.per_codec_fronts.specs.Takes.{NextMark, NextMember, open_type};
-ghost use Rattle.per_codec_reading.specs.Fronts.{freedoms, is_aligned};
+ghost use Rattle.per_codec_reading.specs.Fronts.{freedoms, is_aligned, IsFresh};
 ghost use Rattle.per_codec_decoder.specs.Members.{NoFurther};
-ghost use Rattle.per_codec_decoder.specs.Scopes.{scope_of, scope_around, scopes_in, scopes_of, HasMark, NoAdditions, Flags, NoFlag, Leaves, NoEnd, LeavesAddition, NoAdditionEnd, IsAdded};
+ghost use Rattle.per_codec_decoder.specs.Scopes.{behind_around, behind_frame, behind_in, behind_of, scope_of, scope_around, scopes_in, scopes_of};
+ghost use Rattle.per_codec_decoder.specs.Scopes.{HasMark, NoAdditions, Flags, NoFlag, Leaves, LeavesBehind, NoEnd, LeavesAddition, NoAdditionEnd, IsAdded};
 
 use crate::additions::Additions;
 use crate::members::Part;
@@ -54,7 +55,8 @@ impl<'input> Enclosing<'input> {
     /// The frame of the same scope.
     #[inline(always)]
     fn frame(self) -> Frame<'input>
-        ensures { scope_of result ≡ scope_around self.entry }
+        ensures scope { scope_of result ≡ scope_around self.entry }
+        ensures behind { (k : _) → behind_frame result k ≡ behind_around self.entry k }
     {
         match self {
             Enclosing::OpenType(behind) => Frame::OpenType(behind),
@@ -65,7 +67,8 @@ impl<'input> Enclosing<'input> {
     /// What is left to pass over where it ends.
     #[inline(always)]
     fn ending(self) -> Ending<'input>
-        ensures { (k : _) → Leaves result (scope_around self.entry ∷ k) k }
+        ensures scope { (k : _) → Leaves result (scope_around self.entry ∷ k) k }
+        ensures behind { (k : _) → LeavesBehind result (behind_around self.entry k) k }
     {
         match self {
             Enclosing::OpenType(behind) => Ending::OpenType(behind),
@@ -81,7 +84,8 @@ fn put<'input>(
     outer: &mut Vec<Frame<'input>>,
     frame: Frame<'input>,
 ) -> Result<(), AllocError>
-    ensures { OnOk result (scopes_in innermost.new outer.new.items ≡ scope_of frame.entry ∷ scopes_in innermost.old outer.old.items) }
+    ensures scopes { OnOk result (scopes_in innermost.new outer.new.items ≡ scope_of frame.entry ∷ scopes_in innermost.old outer.old.items) }
+    ensures behind { OnOk result (behind_in innermost.new outer.new.items ≡ behind_frame frame.entry (behind_in innermost.old outer.old.items)) }
 {
     match innermost.take() {
         Some(around) => outer.push(around)?,
@@ -99,7 +103,8 @@ fn put_enclosing<'input>(
     outer: &mut Vec<Frame<'input>>,
     enclosing: Enclosing<'input>,
 ) -> Result<(), AllocError>
-    ensures { OnOk result (scopes_in innermost.new outer.new.items ≡ scope_around enclosing.entry ∷ scopes_in innermost.old outer.old.items) }
+    ensures scopes { OnOk result (scopes_in innermost.new outer.new.items ≡ scope_around enclosing.entry ∷ scopes_in innermost.old outer.old.items) }
+    ensures behind { OnOk result (behind_in innermost.new outer.new.items ≡ behind_around enclosing.entry (behind_in innermost.old outer.old.items)) }
 {
     put(innermost, outer, enclosing.frame())
 }
@@ -112,7 +117,8 @@ fn settle<'input>(
     outer: &mut Vec<Frame<'input>>,
 ) -> Result<(), AllocError>
     ensures moved { OnOk result (enclosing.new ≡ None) }
-    ensures same { OnOk result (scopes_in innermost.new outer.new.items ≡ scopes_of enclosing.old innermost.old outer.old.items) }
+    ensures scopes { OnOk result (scopes_in innermost.new outer.new.items ≡ scopes_of enclosing.old innermost.old outer.old.items) }
+    ensures behind { OnOk result (behind_in innermost.new outer.new.items ≡ behind_of enclosing.old innermost.old outer.old.items) }
 {
     if let Some(around) = enclosing.take() {
         put_enclosing(innermost, outer, around)?;
@@ -130,20 +136,18 @@ pub struct Scopes<'input> {
 }
 
 impl<'input> Model for Scopes<'input> {
-    ghost use Rattle.std.specs.Prelude.{List};
-    ghost use Rattle.per_codec_fronts.specs.Takes.{Scope};
-    ghost use Rattle.per_codec_decoder.specs.Scopes.{scopes_of};
+    ghost use Rattle.per_codec_decoder.specs.Scopes.{Open, scopes_of, behind_of};
 
-    ghost Value = { List Scope };
+    ghost Value = { Open };
 
-    ghost view = { λ s. scopes_of s.enclosing s.innermost s.outer.items };
+    ghost view = { λ s. record { scopes = scopes_of s.enclosing s.innermost s.outer.items; behind = behind_of s.enclosing s.innermost s.outer.items } };
 }
 
 impl<'input> Scopes<'input> {
     /// Nothing is open.
     #[inline(always)]
     pub fn new(alloc: Global) -> Self
-        ensures { result ≡ [] }
+        ensures { result ≡ record { scopes = []; behind = [] } }
     {
         Scopes {
             enclosing: None,
@@ -164,7 +168,8 @@ impl<'input> Scopes<'input> {
     /// Want of memory; the scopes are then of no more use.
     #[inline(always)]
     pub fn open(&mut self, frame: Frame<'input>) -> Result<(), AllocError>
-        ensures { OnOk result (self.new ≡ scope_of frame.entry ∷ self.old) }
+        ensures scopes { OnOk result (self.new.scopes ≡ scope_of frame.entry ∷ self.old.scopes) }
+        ensures behind { OnOk result (self.new.behind ≡ behind_frame frame.entry self.old.behind) }
     {
         settle(&mut self.enclosing, &mut self.innermost, &mut self.outer)?;
         put(&mut self.innermost, &mut self.outer, frame)
@@ -177,7 +182,8 @@ impl<'input> Scopes<'input> {
     /// Want of memory; the scopes are then of no more use.
     #[inline(always)]
     pub fn enclose(&mut self, enclosing: Enclosing<'input>) -> Result<(), AllocError>
-        ensures { OnOk result (self.new ≡ scope_around enclosing.entry ∷ self.old) }
+        ensures scopes { OnOk result (self.new.scopes ≡ scope_around enclosing.entry ∷ self.old.scopes) }
+        ensures behind { OnOk result (self.new.behind ≡ behind_around enclosing.entry self.old.behind) }
     {
         settle(&mut self.enclosing, &mut self.innermost, &mut self.outer)?;
         self.enclosing = Some(enclosing);
@@ -187,8 +193,9 @@ impl<'input> Scopes<'input> {
     /// The next presence bit of the innermost sequence, set or group, if one is due.
     #[inline(always)]
     pub fn next_mark(&mut self) -> Option<bool>
-        ensures some { IfSome result (λ present. (p : _) → NextMark present p self.old (p, self.new)) }
-        ensures none { IfNone result ((present : _) (p : _) (b : _) → NextMark present p self.old b → ⊥) }
+        ensures some { IfSome result (λ present. (p : _) → NextMark present p self.old.scopes (p, self.new.scopes)) }
+        ensures behind { self.new.behind ≡ self.old.behind }
+        ensures none { IfNone result ((present : _) (p : _) (b : _) → NextMark present p self.old.scopes b → ⊥) }
     {
         if self.enclosing.is_some() {
             return None;
@@ -201,8 +208,8 @@ impl<'input> Scopes<'input> {
 
     /// The bit of the mark of extensibility of the innermost sequence or set, all of whose root components have passed.
     pub fn mark(&self) -> Option<bool>
-        ensures some { IfSome result (λ mark. HasMark mark self.now) }
-        ensures none { IfNone result (NoAdditions self.now) }
+        ensures some { IfSome result (λ mark. HasMark mark self.now.scopes) }
+        ensures none { IfNone result (NoAdditions self.now.scopes) }
     {
         if self.enclosing.is_some() {
             return None;
@@ -215,16 +222,18 @@ impl<'input> Scopes<'input> {
 
     /// The innermost sequence or set, all of whose root components have passed, gives place to another scope.
     pub fn replace(&mut self, frame: Frame<'input>)
-        requires { (mark : _) × HasMark mark self.old }
-        ensures { (s : _) (k : _) → self.old ≡ s ∷ k → self.new ≡ scope_of frame.entry ∷ k }
+        requires { (mark : _) × HasMark mark self.old.scopes }
+        ensures scopes { (s : _) (k : _) → self.old.scopes ≡ s ∷ k → self.new.scopes ≡ scope_of frame.entry ∷ k }
+        ensures behind { self.new.behind ≡ behind_frame frame.entry self.old.behind }
     {
         self.innermost = Some(frame);
     }
 
     /// Whether the next addition of the innermost sequence or set is there, if one is due. Those past the bits of the bitmap are not.
     pub fn next_addition(&mut self) -> Option<bool>
-        ensures some { IfSome result (λ is_there. Flags is_there self.old self.new) }
-        ensures none { IfNone result (NoFlag self.old) }
+        ensures some { IfSome result (λ is_there. Flags is_there self.old.scopes self.new.scopes) }
+        ensures behind { self.new.behind ≡ self.old.behind }
+        ensures none { IfNone result (NoFlag self.old.scopes) }
     {
         if self.enclosing.is_some() {
             return None;
@@ -238,8 +247,9 @@ impl<'input> Scopes<'input> {
     /// Takes the innermost scope off.
     #[inline(always)]
     fn pop(&mut self) -> Option<Frame<'input>>
-        ensures some { IfSome result (λ frame. self.old ≡ scope_of frame ∷ self.new) }
-        ensures none { IfNone result (self.old ≡ []) }
+        ensures some { IfSome result (λ frame. self.old.scopes ≡ scope_of frame ∷ self.new.scopes) }
+        ensures behind { IfSome result (λ frame. self.old.behind ≡ behind_frame frame self.new.behind) }
+        ensures none { IfNone result (self.old.scopes ≡ []) }
     {
         if let Some(enclosing) = self.enclosing.take() {
             return Some(enclosing.frame());
@@ -252,7 +262,7 @@ impl<'input> Scopes<'input> {
 
     /// Whether the innermost scope is that of additions.
     fn is_in_additions(&self) -> bool
-        ensures { MatchBool result (IsAdded self.now) (IsAdded self.now → ⊥) }
+        ensures { MatchBool result (IsAdded self.now.scopes) (IsAdded self.now.scopes → ⊥) }
     {
         match &self.innermost {
             Some(Frame::Added(_)) => self.enclosing.is_none(),
@@ -263,8 +273,9 @@ impl<'input> Scopes<'input> {
     /// Takes the innermost scope off, if it is an open type: the place behind it.
     #[inline(always)]
     fn take_open_type(&mut self) -> Option<Stretch<'input>>
-        ensures some { IfSome result (λ behind. self.old ≡ open_type behind.place ∷ self.new) }
-        ensures none { IfNone result ((p : _) (k : _) → self.old ≡ open_type p ∷ k → ⊥) }
+        ensures some { IfSome result (λ behind. self.old.scopes ≡ open_type behind.place ∷ self.new.scopes) }
+        ensures behind { IfSome result (λ behind. self.old.behind ≡ behind.storage ∷ self.new.behind) }
+        ensures none { IfNone result ((p : _) (k : _) → self.old.scopes ≡ open_type p ∷ k → ⊥) }
     {
         if let Some(enclosing) = self.enclosing.take() {
             return match enclosing {
@@ -280,8 +291,9 @@ impl<'input> Scopes<'input> {
 
     /// Closes the innermost scope, if it is an addition: the place behind its open type. Where it is none, the scopes are of no more use.
     pub fn leave_addition(&mut self) -> Option<Stretch<'input>>
-        ensures some { IfSome result (λ behind. LeavesAddition behind.place self.old self.new) }
-        ensures none { IfNone result (NoAdditionEnd self.old) }
+        ensures some { IfSome result (λ behind. LeavesAddition behind.place self.old.scopes self.new.scopes) }
+        ensures behind { IfSome result (λ behind. self.old.behind ≡ behind.storage ∷ self.new.behind) }
+        ensures none { IfNone result (NoAdditionEnd self.old.scopes) }
     {
         let place = self.take_open_type()?;
         if !self.is_in_additions() {
@@ -301,8 +313,10 @@ impl<'input> Scopes<'input> {
         cursor: &mut Cursor<'_>,
         variant: Variant,
     ) -> Result<bool, DecodeError>
-        ensures ok { IfOk result (λ more. NextMember (is_aligned variant) (freedoms variant) more cursor.old self.old (cursor.new, self.new)) }
-        ensures only { IfErr result (NoFurther (is_aligned variant) (freedoms variant) cursor.old self.old) }
+        ensures ok { IfOk result (λ more. NextMember (is_aligned variant) (freedoms variant) more cursor.old self.old.scopes (cursor.new, self.new.scopes)) }
+        ensures behind { OnOk result (self.new.behind ≡ self.old.behind) }
+        ensures only { IfErr result (NoFurther (is_aligned variant) (freedoms variant) cursor.old self.old.scopes) }
+        ensures fresh { IfErr result IsFresh }
     {
         if self.enclosing.is_some() {
             return Err(DecodeError::NotValidCanonicalEncoding);
@@ -316,8 +330,9 @@ impl<'input> Scopes<'input> {
     /// Closes the innermost scope, if nothing of it is still to come but what it leaves. Where more is, the scopes are of no more use.
     #[inline(always)]
     pub fn leave(&mut self) -> Option<Ending<'input>>
-        ensures some { IfSome result (λ ending. Leaves ending self.old self.new) }
-        ensures none { IfNone result (NoEnd self.old) }
+        ensures some { IfSome result (λ ending. Leaves ending self.old.scopes self.new.scopes) }
+        ensures behind { IfSome result (λ ending. LeavesBehind ending self.old.behind self.new.behind) }
+        ensures none { IfNone result (NoEnd self.old.scopes) }
     {
         if let Some(enclosing) = self.enclosing.take() {
             return Some(enclosing.ending());

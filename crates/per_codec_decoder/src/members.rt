@@ -4,7 +4,7 @@ ghost use Rattle.asn1_model.specs.Numbers.{is_count_within};
 ghost use Rattle.asn1_schema_constraints.specs.Bounds.{counts_of, members_of};
 ghost use Rattle.asn1_schema_constraints.specs.Terms.{sizes_of};
 ghost use Rattle.per_codec_fronts.specs.Takes.{Header, MemberDue, NextMember, SizeMark, members, in_all};
-ghost use Rattle.per_codec_reading.specs.Fronts.{freedoms, is_aligned};
+ghost use Rattle.per_codec_reading.specs.Fronts.{freedoms, is_aligned, IsFresh};
 ghost use Rattle.per_codec_decoder.specs.Members.{IsHeaded, HasMembers, HasNumber, NoFurther, NoHeader, NoMembers, NoNumber};
 
 use crate::preamble::read_bit;
@@ -75,6 +75,7 @@ impl Tally {
     fn next_part(mut self, cursor: &mut Cursor<'_>, variant: Variant) -> Result<Part, DecodeError>
         ensures ok { IfOk result (λ part. Header (is_aligned variant) (freedoms variant) self cursor.old cursor.new part.due part.tally) }
         ensures only { IfErr result (NoHeader (is_aligned variant) (freedoms variant) self cursor.old) }
+        ensures fresh { IfErr result IsFresh }
     {
         match read_length(cursor, variant)? {
             Length::Fragment(multiple) => {
@@ -119,6 +120,7 @@ impl Part {
     ) -> Result<bool, DecodeError>
         ensures ok { IfOk result (λ more. (k : _) → NextMember (is_aligned variant) (freedoms variant) more cursor.old (members self.old.due self.old.tally ∷ k) (cursor.new, members self.new.due self.new.tally ∷ k)) }
         ensures only { IfErr result (λ e. (k : _) → NoFurther (is_aligned variant) (freedoms variant) cursor.old (members self.old.due self.old.tally ∷ k) e) }
+        ensures fresh { IfErr result IsFresh }
     {
         if self.due > 0 {
             self.due -= 1;
@@ -198,6 +200,7 @@ fn number_under(size: Bounded<usize>, outside: bool) -> Option<usize>
 fn read_mark(cursor: &mut Cursor<'_>, extensible: bool) -> Result<bool, DecodeError>
     ensures ok { IfOk result (λ outside. (free : _) → SizeMark free extensible outside cursor.old cursor.new) }
     ensures only { IfErr result (λ _. (free : _) (outside : _) (b : _) → SizeMark free extensible outside cursor.old b → ⊥) }
+    ensures fresh { IfErr result IsFresh }
 {
     if !extensible {
         return Ok(false);
@@ -221,6 +224,7 @@ fn read_number(
     requires { (counts_of size).high ≡ Some high }
     ensures ok { IfOk result (λ n. HasNumber (is_aligned variant) (freedoms variant) (counts_of size) (members_of held) high n cursor.old cursor.new) }
     ensures only { IfErr result (NoNumber (is_aligned variant) (freedoms variant) (counts_of size) (members_of held) high cursor.old) }
+    ensures fresh { IfErr result IsFresh }
 {
     let low = size.minimum();
     if low > high {
@@ -249,6 +253,7 @@ pub fn read_members(
 ) -> Result<Part, DecodeError>
     ensures ok { IfOk result (λ part. HasMembers (is_aligned variant) (freedoms variant) (sizes_of constraints.entry.size) (members_of held) part.due part.tally cursor.old cursor.new) }
     ensures only { IfErr result (NoMembers (is_aligned variant) (freedoms variant) (sizes_of constraints.entry.size) (members_of held) cursor.old) }
+    ensures fresh { IfErr result IsFresh }
 {
     let (size, extensible) = size_under(constraints);
     let outside = read_mark(cursor, extensible)?;

@@ -2,9 +2,9 @@
 ghost use Rattle.std.specs.Prelude.{◌≡◌, [], ◌∷◌, true, OnOk, IfOk, IfErr};
 ghost use Rattle.asn1_model.specs.Form.{is_present};
 ghost use Rattle.asn1_schema_finding.specs.Marks.{preamble_bits};
-ghost use Rattle.per_codec_reading.specs.Fronts.{freedoms, is_aligned, Leads};
+ghost use Rattle.per_codec_reading.specs.Fronts.{freedoms, is_aligned, IsFresh, Leads};
 ghost use Rattle.per_codec_decoder.specs.Preamble.{HasBitmap, HasPreamble, NoBitmap, NoPreamble};
-ghost use Rattle.per_codec_decoder.specs.Scopes.{scope_of};
+ghost use Rattle.per_codec_decoder.specs.Scopes.{scope_of, stands_in};
 
 use crate::frames::Frame;
 use asn1_schema_faults::DecodeError;
@@ -21,6 +21,7 @@ use std::alloc::Global;
 pub(crate) fn read_bit(cursor: &mut Cursor<'_>) -> Result<bool, DecodeError>
     ensures ok { IfOk result (λ bit. Leads (bit ∷ []) cursor.old cursor.new) }
     ensures only { IfErr result (λ _. cursor.old.1 ≡ []) }
+    ensures fresh { IfErr result IsFresh }
 {
     let bits = cursor.take(1)?;
     Ok(BitReader::new(bits).first_bit())
@@ -35,8 +36,9 @@ pub(crate) fn read_bit(cursor: &mut Cursor<'_>) -> Result<bool, DecodeError>
 fn read_mark(place: &mut Stretch<'_>, extensible: bool) -> Result<Option<bool>, DecodeError>
     ensures mark { IfOk result (λ mark. is_present mark ≡ extensible) }
     ensures bits { IfOk result (λ mark. Leads (preamble_bits mark []) place.old.place place.new.place) }
-    ensures lends { OnOk result (place.new.lends ≡ place.old.lends) }
+    ensures storage { OnOk result (place.new.storage ≡ place.old.storage) }
     ensures only { IfErr result (λ _. (extensible ≡ true) × (place.old.place.1 ≡ [])) }
+    ensures fresh { IfErr result IsFresh }
 {
     if !extensible {
         return Ok(None);
@@ -63,8 +65,10 @@ pub fn read_preamble<'input>(
     optional: usize,
 ) -> Result<Frame<'input>, DecodeError>
     ensures ok { IfOk result (λ frame. HasPreamble (freedoms variant) extensible optional (scope_of frame) place.old.place place.new.place) }
-    ensures lends { OnOk result (place.new.lends ≡ place.old.lends) }
+    ensures storage { OnOk result (place.new.storage ≡ place.old.storage) }
+    ensures inner { IfOk result (λ frame. (k : _) → stands_in frame k ≡ k) }
     ensures only { IfErr result (NoPreamble (freedoms variant) extensible optional place.old.place) }
+    ensures fresh { IfErr result IsFresh }
 {
     let mark = read_mark(place, extensible)?;
     let presence = place.take_field(alloc, variant, Field::Bits(optional))?;
@@ -83,8 +87,9 @@ pub fn read_bitmap<'input>(
     mark: bool,
 ) -> Result<Stretch<'input>, DecodeError>
     ensures ok { IfOk result (λ bitmap. HasBitmap (freedoms variant) (is_aligned variant) mark bitmap.place.1 place.old.place place.new.place) }
-    ensures lends { OnOk result (place.new.lends ≡ place.old.lends) }
+    ensures storage { OnOk result (place.new.storage ≡ place.old.storage) }
     ensures only { IfErr result (NoBitmap (freedoms variant) (is_aligned variant) mark place.old.place) }
+    ensures fresh { IfErr result IsFresh }
 {
     if !mark {
         return Ok(Stretch::new(RunBits::Lent(BitStr::new())));

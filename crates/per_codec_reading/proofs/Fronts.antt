@@ -4,7 +4,7 @@ use Rattle.std.proofs.lemmas.Bool.{eq-eqb, eqb-true}
 use Rattle.asn1_model.specs.Form.{Reads, exactly, only_if, nothing_more}
 use Rattle.asn1_model.specs.Per
 use Rattle.asn1_schema_faults.specs.declared.DecodeError.{DecodeError}
-use Rattle.asn1_schema_faults.specs.declared.DecodeError.TheVariants.{OutOfMemory}
+use Rattle.asn1_schema_faults.specs.declared.DecodeError.TheVariants.{Incomplete, OutOfMemory, AlreadyFailed}
 use Rattle.asn1_laws_fronts.proofs.Fronts.{agree_placed}
 use Rattle.asn1_laws_fronts.proofs.PerNumbers.{filling_alike}
 use Rattle.per_codec_fronts.specs.Takes.{Place, Front}
@@ -12,7 +12,7 @@ use Rattle.per_codec_fronts.proofs.Fronts.{of_nothing, nothing_front, split, joi
 use Rattle.per_codec_fronts.proofs.Next.{same_fronts}
 use Rattle.per_codec_reading.specs.declared.variant.Variant.{Variant}
 use Rattle.per_codec_reading.specs.declared.variant.Variant.TheVariants.{Unaligned, Aligned}
-use Rattle.per_codec_reading.specs.Fronts.{freedoms, Leads, NoneStands, Misses, to_octet}
+use Rattle.per_codec_reading.specs.Fronts.{freedoms, Leads, NoneStands, IsFresh, Misses, to_octet}
 
 -- ---- the freedoms that both variants leave to a reader
 pub any_filling_is_free : (v : Variant) → IsTrue (freedoms v Per.any_filling)
@@ -43,12 +43,20 @@ long_small_number_is_free Aligned = refl
 -- One form is missed where another is, if none of the one stands where none of the other does.
 pub misses_also : {X Y : Type 0} (free : Per.Freedom → Bool) (f : X → Per.BitForm) (g : Y → Per.BitForm) (a b : Place) (e : DecodeError) → (NoneStands free f a → NoneStands free g b) → Misses free f a e → Misses free g b e
 misses_also free f g a b OutOfMemory h m = tt
+misses_also free f g a b AlreadyFailed h m = m
 misses_also free f g a b e h m = h m
 
--- Where none stands, each reason is one.
-pub none_misses : {X : Type 0} (free : Per.Freedom → Bool) (f : X → Per.BitForm) (a : Place) (e : DecodeError) → NoneStands free f a → Misses free f a e
-none_misses free f a OutOfMemory h = tt
-none_misses free f a e h = h
+-- Where none stands, each reason of a reader's own is one.
+pub none_misses : {X : Type 0} (free : Per.Freedom → Bool) (f : X → Per.BitForm) (a : Place) (e : DecodeError) → IsFresh e → NoneStands free f a → Misses free f a e
+none_misses free f a OutOfMemory n h = tt
+none_misses free f a AlreadyFailed n h = n refl
+none_misses free f a e n h = h
+
+pub ends_early : {e : DecodeError} → e ≡ Incomplete → IsFresh e
+ends_early {e} p q = let r : Incomplete ≡ AlreadyFailed = sym p ∙ q in cc
+
+pub misses_fresh : {X : Type 0} (free : Per.Freedom → Bool) (f : X → Per.BitForm) (a : Place) (e : DecodeError) → Misses free f a e → IsFresh e
+misses_fresh free f a e m q = subst (λ x. Misses free f a x) q m
 
 -- ---- answers
 pub ok_also : {X : Type 0} {P Q : X → Type 0} (r : Result X DecodeError) → ((x : X) → P x → Q x) → IfOk r P → IfOk r Q

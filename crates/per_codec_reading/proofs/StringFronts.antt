@@ -17,7 +17,7 @@ use Rattle.asn1_values_identifiers.specs.declared.fault.IdentifierError.TheVaria
 use Rattle.asn1_values_identifiers.proofs.Whole.{identifier_read}
 use Rattle.per_codec_fronts.specs.Takes.{Place, Front}
 use Rattle.per_codec_fronts.proofs.Fronts.{if_in, if_out, of_refused}
-use Rattle.per_codec_reading.specs.Fronts.{NoneStands, Misses}
+use Rattle.per_codec_reading.specs.Fronts.{NoneStands, IsFresh, Misses}
 use Rattle.per_codec_reading.proofs.Fronts.{none_misses}
 use Rattle.per_codec_reading.specs.Units.{Units, units_of}
 use Rattle.per_codec_reading.specs.Sizes.{pads_of, sized_units}
@@ -113,6 +113,6 @@ module _ (free : Per.Freedom → Bool) (al : Bool) where
       let x : Err e ≡ Ok i.0 = sym n ∙ k in
       cc
 
-  pub no_identifier : (os : List ℕ) (a c : Place) (e : IdentifierError) (x : DecodeError) → (e ≡ Memory) ⊎ (arcs_of os ≡ Err e) → (e ≡ Memory → x ≡ OutOfMemory) → Front free (Per.counted_octets al os) a c → Misses free (Per.form al object_identifier) a x
-  no_identifier os a c e x (inl m) h f = subst (Misses free (Per.form al object_identifier) a) (sym (h m)) tt
-  no_identifier os a c e x (inr n) h f = none_misses free (Per.form al object_identifier) a x (no_arcs os a c e n f)
+  pub no_identifier : (os : List ℕ) (a c : Place) (e : IdentifierError) (x : DecodeError) → (e ≡ Memory) ⊎ (arcs_of os ≡ Err e) → (e ≡ Memory → x ≡ OutOfMemory) → IsFresh x → Front free (Per.counted_octets al os) a c → Misses free (Per.form al object_identifier) a x
+  no_identifier os a c e x (inl m) h r f = subst (Misses free (Per.form al object_identifier) a) (sym (h m)) tt
+  no_identifier os a c e x (inr n) h r f = none_misses free (Per.form al object_identifier) a x r (no_arcs os a c e n f)

@@ -4,7 +4,7 @@ use Rattle.asn1_model.specs.Form.{placed}
 use Rattle.asn1_model.specs.Per.{Freedom, BitForm, filling, missing}
 use Rattle.asn1_model.specs.Rules.{lenient}
 use Rattle.asn1_schema_faults.specs.declared.DecodeError.{DecodeError}
-use Rattle.asn1_schema_faults.specs.declared.DecodeError.TheVariants.{OutOfMemory}
+use Rattle.asn1_schema_faults.specs.declared.DecodeError.TheVariants.{OutOfMemory, AlreadyFailed}
 use Rattle.per_codec_fronts.specs.Takes.{Place, Front}
 use Rattle.per_codec_reading.specs.declared.variant.Variant.{Variant}
 use Rattle.per_codec_reading.specs.declared.variant.Variant.TheVariants.{Unaligned, Aligned}
@@ -27,9 +27,14 @@ Leads w old new = (w ++ new.1 ≡ old.1) × (old.0 + length w ≡ new.0)
 abbrev pub NoneStands : {X : Type 0} → (Freedom → Bool) → (X → BitForm) → Place → Type 0
 NoneStands {X} free f old = (x : X) (new : Place) → Front free (f x) old new → ⊥
 
--- Why a reader of some forms refuses: no memory is left, or none of them stands in front.
+-- A reason of a reader's own: it does not say that an earlier call was refused.
+abbrev pub IsFresh : DecodeError → Type 0
+IsFresh e = ¬ (e ≡ AlreadyFailed)
+
+-- Why a reader of some forms refuses: no memory is left, or none of them stands in front. That an earlier call was refused is no reason.
 abbrev pub Misses : {X : Type 0} → (Freedom → Bool) → (X → BitForm) → Place → DecodeError → Type 0
 Misses free f old OutOfMemory = Unit {0}
+Misses free f old AlreadyFailed = ⊥
 Misses free f old e = NoneStands free f old
 
 -- The bits that fill up to the next octet (X.691 11.1).

@@ -1,5 +1,5 @@
 -- Units that were read, lent or joined.
-use Rattle.std.specs.Prelude.{◌≡◌, ℕ, ◌+◌, ◌<◌, Bool, List, ◌++◌, Option, Some, None}
+use Rattle.std.specs.Prelude.{◌≡◌, ℕ, ◌+◌, ◌*◌, ◌%◌, ◌<◌, ltb, cond, Bool, List, ◌++◌, Option, Some, None}
 use Rattle.asn1_model.specs.Per
 use Rattle.asn1_values_bits.specs.BitStr.{bits_of, offset_of}
 use Rattle.per_codec_fronts.specs.Takes.{Place, Front}
@@ -23,10 +23,25 @@ abbrev pub IsLent : RunBits → Type 0
 IsLent (Lent bits) = Unit {0}
 IsLent (Joined bits) = ⊥
 
--- The bits are those of the input, and begin at an octet of it.
-abbrev pub IsLentAtOctet : RunBits → Type 0
-IsLentAtOctet (Lent bits) = offset_of bits ≡ 0
-IsLentAtOctet (Joined bits) = ⊥
+-- Where bits stand: in the input, from this bit of an octet of it on, or in memory of the reader's own.
+abbrev pub Storage : Type 0
+Storage = Option ℕ
+
+-- Where the bits of units stand.
+abbrev pub storage_of : RunBits → Storage
+storage_of (Lent bits) = Some (offset_of bits)
+storage_of (Joined bits) = None
+
+-- Bits that stand there end at this position of them, and so at an octet of the input.
+abbrev pub EndsAtOctet : Storage → ℕ → Type 0
+EndsAtOctet None n = ⊥
+EndsAtOctet (Some o) n = (o + n) % 8 ≡ 0
+
+-- Where octets behind their number stand, so many bits of which end at this position of bits that stand there: in one run they stand there too
+-- (X.691 11.9.3.5 to 11.9.3.7), from fragments they are joined.
+abbrev pub storage_inside : Storage → ℕ → ℕ → Storage
+storage_inside None n end = None
+storage_inside (Some o) n end = cond (ltb n (8 * 16384)) (Some ((o + end) % 8)) None
 
 -- So many units stand in one run: there are fewer than 16384, or a highest number below 65536 tells the form of theirs (X.691 11.9.4.1).
 abbrev pub InOneRun : Option ℕ → ℕ → Type 0

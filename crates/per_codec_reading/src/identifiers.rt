@@ -4,7 +4,7 @@ ghost use Rattle.asn1_model.specs.Per as Per;
 ghost use Rattle.asn1_model.specs.Schema as Asn1;
 ghost use Rattle.asn1_model.specs.Value as Asn1Value;
 ghost use Rattle.per_codec_fronts.specs.Takes.{Front};
-ghost use Rattle.per_codec_reading.specs.Fronts.{freedoms, Misses};
+ghost use Rattle.per_codec_reading.specs.Fronts.{freedoms, IsFresh, Misses};
 ghost use Rattle.per_codec_reading.specs.Fronts as fronts;
 
 use crate::octets::read_counted_octets;
@@ -15,7 +15,8 @@ use std::alloc::Global;
 
 /// Why octets are not read as an identifier.
 fn fault_of(error: IdentifierError) -> DecodeError
-    ensures { error ≡ IdentifierError.Memory → result ≡ DecodeError.OutOfMemory }
+    ensures memory { error ≡ IdentifierError.Memory → result ≡ DecodeError.OutOfMemory }
+    ensures fresh { IsFresh result }
 {
     match error {
         IdentifierError::Memory => DecodeError::OutOfMemory,

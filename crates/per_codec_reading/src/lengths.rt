@@ -1,6 +1,5 @@
 //! Lengths (X.691 11.9.3).
 ghost use Rattle.std.specs.Prelude.{◌≡◌, ◌≤◌, ◌<◌, false, IfOk, IfErr};
-ghost use Rattle.asn1_model.specs.Per as Per;
 ghost use Rattle.per_codec_fronts.specs.Takes.{Front};
 ghost use Rattle.per_codec_reading.specs.Fronts.{freedoms, Misses};
 ghost use Rattle.per_codec_reading.specs.Fronts as fronts;
@@ -55,21 +54,4 @@ pub fn read_length(cursor: &mut Cursor<'_>, variant: Variant) -> Result<Length, 
 {
     align(cursor, variant)?;
     read_header(cursor, variant)
-}
-
-/// Reads a length below 16384 (X.691 11.9.3.5 to 11.9.3.7).
-///
-/// # Errors
-///
-/// `Incomplete` if the bits end early, and `LengthExceedsPlatformWidth` at the length of a fragment.
-pub fn read_short_length(cursor: &mut Cursor<'_>, variant: Variant) -> Result<usize, DecodeError>
-    ensures ok { IfOk result (λ n. Front (freedoms variant) (Per.short_length (fronts.is_aligned variant) n) cursor.old cursor.new) }
-    ensures bound { IfOk result (λ n. n < 16384) }
-    ensures only { IfErr result (Misses (freedoms variant) (Per.short_length (fronts.is_aligned variant)) cursor.old) }
-{
-    let length = read_length(cursor, variant)?;
-    match length {
-        Length::Short(count) => Ok(count),
-        Length::Fragment(_) => Err(DecodeError::LengthExceedsPlatformWidth),
-    }
 }

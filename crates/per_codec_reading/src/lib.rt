@@ -24,6 +24,6 @@ pub use lengths::Length;
 pub use octets::read_counted_octets;
 pub use runs::{Run, RunBits, read_counted};
 pub use sizes::{Contents, read_sized};
-pub use strings::{read_bit_string, read_octet_string, read_octet_string_in};
+pub use strings::{lent_by, read_bit_string, read_octet_string, read_octet_string_in};
 pub use texts::read_utf8_string;
 pub use variant::Variant;

@@ -1,5 +1,5 @@
 //! Octets behind their number (X.691 11.9).
-ghost use Rattle.std.specs.Prelude.{◌≡◌, ◌%◌, true, length, IfOk, IfErr, IsOkAnd};
+ghost use Rattle.std.specs.Prelude.{◌≡◌, ◌%◌, true, length, IfOk, IfErr, IsOkAnd, Some};
 ghost use Rattle.std.specs.Cow.{cow_slice_items, IsBorrowedSlice};
 ghost use Rattle.asn1_model.specs.Numbers.{octet_bits};
 ghost use Rattle.asn1_model.specs.Per as Per;
@@ -8,7 +8,7 @@ ghost use Rattle.asn1_values_bits.specs.BitStr.{bits_of, offset_of};
 ghost use Rattle.per_codec_fronts.specs.Takes.{Front};
 ghost use Rattle.per_codec_reading.specs.Fronts.{freedoms, Misses};
 ghost use Rattle.per_codec_reading.specs.Fronts as fronts;
-ghost use Rattle.per_codec_reading.specs.Runs.{bits_in, IsLentAtOctet};
+ghost use Rattle.per_codec_reading.specs.Runs.{bits_in, storage_of};
 
 use crate::runs::{Run, RunBits, read_counted};
 use crate::{Cursor, Variant};
@@ -84,7 +84,7 @@ impl<'input> Run<'input> {
         requires { length (bits_in self.bits) % 8 ≡ 0 }
         ensures octets { IfOk result (λ octets. octet_bits (cow_slice_items octets) ≡ bits_in self.entry.bits) }
         ensures small { IfOk result (λ octets. each_is is_octet (cow_slice_items octets) ≡ true) }
-        ensures lent { IsLentAtOctet self.entry.bits → IsOkAnd result IsBorrowedSlice }
+        ensures lent { storage_of self.entry.bits ≡ Some 0 → IsOkAnd result IsBorrowedSlice }
     {
         match self.bits {
             RunBits::Lent(bits) => {

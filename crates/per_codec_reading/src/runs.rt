@@ -115,6 +115,7 @@ pub fn read_counted<'input>(
 ) -> Result<Run<'input>, DecodeError>
     ensures ok { IfOk result (λ run. Front (freedoms variant) (counted_units (fronts.is_aligned variant) width (units_in run)) cursor.old cursor.new) }
     ensures lent { IfOk result (λ run. run.count < 16384 → IsLent run.bits) }
+    ensures joined { IfOk result (λ run. IsLent run.bits → run.count < 16384) }
     ensures last { IfOk result (λ run. EndsWithLent run.bits cursor.old cursor.new) }
     ensures only { IfErr result (Misses (freedoms variant) (counted_units (fronts.is_aligned variant) width) cursor.old) }
 {

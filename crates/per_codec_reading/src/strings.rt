@@ -1,5 +1,5 @@
 //! BIT STRING and OCTET STRING (X.691 16 and 17).
-ghost use Rattle.std.specs.Prelude.{◌≡◌, ◌+◌, ◌*◌, ◌%◌, length, IfOk, IfErr};
+ghost use Rattle.std.specs.Prelude.{◌≡◌, ◌+◌, ◌*◌, ◌%◌, length, IfOk, IfErr, Some, None};
 ghost use Rattle.std.specs.Cow.{cow_slice_items, IsBorrowedSlice};
 ghost use Rattle.asn1_model.specs.Per as Per;
 ghost use Rattle.asn1_model.specs.Schema as Asn1;
@@ -10,7 +10,7 @@ ghost use Rattle.asn1_values_bits.specs.BitStr.{bits_of, offset_of};
 ghost use Rattle.per_codec_fronts.specs.Takes.{Front};
 ghost use Rattle.per_codec_reading.specs.Fronts.{freedoms, Misses};
 ghost use Rattle.per_codec_reading.specs.Fronts as fronts;
-ghost use Rattle.per_codec_reading.specs.Runs.{bits_in, units_in, InOneRun, IsLent, IsLentAtOctet, StandsBefore, StandsIn};
+ghost use Rattle.per_codec_reading.specs.Runs.{bits_in, EndsAtOctet, InOneRun, IsLent, StandsBefore, StandsIn, storage_of};
 ghost use Rattle.per_codec_reading.specs.Sizes.{surely_told};
 
 use crate::runs::{Run, RunBits};
@@ -54,27 +54,21 @@ pub fn read_octet_string<'input>(
     Ok(octets)
 }
 
-/// The same units, whose bits, where they are lent, are lent by this input, in which they end at this position.
+/// The same bits, of which those that are lent are lent by this input, in which they end at this position.
 #[inline(always)]
-fn lent_by<'input>(input: BitStr<'input>, end: usize, units: Run<'_>) -> Run<'input>
-    requires { StandsBefore units.bits (bits_of input) end }
-    ensures same { units_in result ≡ units_in units.entry }
-    ensures lent { IsLent units.entry.bits → length (bits_in units.entry.bits) % 8 ≡ 0 → (offset_of input.entry + end) % 8 ≡ 0 → IsLentAtOctet result.bits }
+pub fn lent_by<'input>(input: BitStr<'input>, end: usize, bits: RunBits<'_>) -> RunBits<'input>
+    requires { StandsBefore bits (bits_of input) end }
+    ensures same { bits_in result ≡ bits_in bits.entry }
+    ensures lent { IsLent bits.entry → length (bits_in bits.entry) % 8 ≡ 0 → storage_of result ≡ Some ((offset_of input.entry + end) % 8) }
+    ensures joined { (IsLent bits.entry → ⊥) → storage_of result ≡ None }
 {
-    let count = units.count;
-    match units.bits {
+    match bits {
         RunBits::Lent(bits) => {
             let (_before, rest) = input.split_at(end - bits.len());
             let (own, _behind) = rest.split_at(bits.len());
-            Run {
-                count,
-                bits: RunBits::Lent(own),
-            }
+            RunBits::Lent(own)
         }
-        RunBits::Joined(bits) => Run {
-            count,
-            bits: RunBits::Joined(bits),
-        },
+        RunBits::Joined(bits) => RunBits::Joined(bits),
     }
 }
 
@@ -95,7 +89,7 @@ pub fn read_octet_string_in<'input>(
 ) -> Result<CowSlice<'input, u8>, DecodeError>
     requires { StandsIn (bits_of input) cursor.old }
     ensures ok { IfOk result (λ octets. Front (freedoms variant) (Per.form (fronts.is_aligned variant) (Asn1.octet_string (sizes_of constraints.entry.size) (counts_of held)) (Asn1Value.octet_list (cow_slice_items octets))) cursor.old cursor.new) }
-    ensures lent { IfOk result (λ octets. InOneRun (surely_told (sizes_of constraints.entry.size)) (length (cow_slice_items octets)) → (offset_of input.entry + cursor.new.0) % 8 ≡ 0 → IsBorrowedSlice octets) }
+    ensures lent { IfOk result (λ octets. InOneRun (surely_told (sizes_of constraints.entry.size)) (length (cow_slice_items octets)) → EndsAtOctet (Some (offset_of input.entry)) cursor.new.0 → IsBorrowedSlice octets) }
     ensures only { IfErr result (Misses (freedoms variant) (Per.form (fronts.is_aligned variant) (Asn1.octet_string (sizes_of constraints.entry.size) (counts_of held))) cursor.old) }
 {
     let units = read_sized(
@@ -107,7 +101,10 @@ pub fn read_octet_string_in<'input>(
         8,
         Contents::Strings,
     )?;
-    let units = lent_by(input, cursor.position(), units);
+    let units = Run {
+        count: units.count,
+        bits: lent_by(input, cursor.position(), units.bits),
+    };
     let octets = units.into_octets(alloc)?;
     Ok(octets)
 }

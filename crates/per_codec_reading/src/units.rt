@@ -1,5 +1,5 @@
-//! Single bits, BOOLEAN and NULL (X.691 12 and 24).
-ghost use Rattle.std.specs.Prelude.{[], ◌∷◌, IfOk, IfErr, OnOk};
+//! Single bits, BOOLEAN and NULL (X.691 12 and 18).
+ghost use Rattle.std.specs.Prelude.{◌≡◌, [], ◌∷◌, IfOk, IfErr, OnOk};
 ghost use Rattle.asn1_model.specs.Per as Per;
 ghost use Rattle.asn1_model.specs.Schema as Asn1;
 ghost use Rattle.asn1_model.specs.Value as Asn1Value;
@@ -20,6 +20,7 @@ use asn1_schema_faults::DecodeError;
 pub fn read_bit(cursor: &mut Cursor<'_>, variant: Variant) -> Result<bool, DecodeError>
     ensures ok { IfOk result (λ bit. Front (freedoms variant) (one_bit bit) cursor.old cursor.new) }
     ensures only { IfErr result (Misses (freedoms variant) one_bit cursor.old) }
+    ensures short { IfErr result (λ e. e ≡ DecodeError.Incomplete) }
 {
     let number = cursor.take_number(1)?;
     Ok(number == 1)
@@ -34,15 +35,17 @@ pub fn read_bit(cursor: &mut Cursor<'_>, variant: Variant) -> Result<bool, Decod
 pub fn read_boolean(cursor: &mut Cursor<'_>, variant: Variant) -> Result<bool, DecodeError>
     ensures ok { IfOk result (λ b. Front (freedoms variant) (Per.form (fronts.is_aligned variant) Asn1.boolean (Asn1Value.truth b)) cursor.old cursor.new) }
     ensures only { IfErr result (Misses (freedoms variant) (Per.form (fronts.is_aligned variant) Asn1.boolean) cursor.old) }
+    ensures short { IfErr result (λ e. e ≡ DecodeError.Incomplete) }
 {
     read_bit(cursor, variant)
 }
 
-/// Reads the value of NULL (X.691 24), which has no bits.
+/// Reads the value of NULL (X.691 18), which has no bits.
 #[inline(always)]
 pub fn read_null(cursor: &mut Cursor<'_>, variant: Variant) -> Result<(), DecodeError>
     ensures ok { OnOk result (Front (freedoms variant) (Per.form (fronts.is_aligned variant) Asn1.null Asn1Value.nothing) cursor.old cursor.new) }
     ensures only { IfErr result (Misses (freedoms variant) (Per.form (fronts.is_aligned variant) Asn1.null) cursor.old) }
+    ensures always { IfErr result (λ _. ⊥) }
 {
     Ok(())
 }

@@ -24,7 +24,7 @@ use Rattle.per_codec_fronts.proofs.Fronts.{if_in, if_out, of_refused}
 use Rattle.per_codec_fronts.proofs.Next.{same_fronts}
 use Rattle.asn1_schema_faults.specs.declared.DecodeError.{DecodeError}
 use Rattle.asn1_schema_faults.specs.declared.DecodeError.TheVariants.{OutOfMemory}
-use Rattle.per_codec_reading.specs.Fronts.{NoneStands, Misses}
+use Rattle.per_codec_reading.specs.Fronts.{NoneStands, IsFresh, Misses}
 use Rattle.per_codec_reading.proofs.Fronts.{none_misses}
 use Rattle.per_codec_reading.specs.Units.{Units, pieces, units_of}
 use Rattle.per_codec_reading.specs.Sizes.{pads_of, sized_units}
@@ -235,6 +235,6 @@ module _ (free : Per.Freedom → Bool) (al : Bool) (k : StringKind) (z : Size) (
       t x.told r.0 (record { permitted = d.permitted; coded = d.coded; spelled = r.1 })
 
 -- Codes of no characters are refused, or memory is wanting.
-pub refused_codes : (free : Per.Freedom → Bool) (x : Value → Per.BitForm) (k : StringKind) (a : Coded) (us : Units) (p : Place) (e : DecodeError) → IsFitting a → (Stuck k a us.0 us.1 → NoneStands free x p) → (e ≡ OutOfMemory) ⊎ (IsFitting a → Stuck k a us.0 us.1) → Misses free x p e
-refused_codes free x k a us p e f h (inl m) = subst (Misses free x p) (sym m) tt
-refused_codes free x k a us p e f h (inr s) = none_misses free x p e (h (s f))
+pub refused_codes : (free : Per.Freedom → Bool) (x : Value → Per.BitForm) (k : StringKind) (a : Coded) (us : Units) (p : Place) (e : DecodeError) → IsFitting a → (Stuck k a us.0 us.1 → NoneStands free x p) → (e ≡ OutOfMemory) ⊎ (IsFitting a → Stuck k a us.0 us.1) → IsFresh e → Misses free x p e
+refused_codes free x k a us p e f h (inl m) n = subst (Misses free x p) (sym m) tt
+refused_codes free x k a us p e f h (inr s) n = none_misses free x p e n (h (s f))

@@ -22,7 +22,7 @@ use Rattle.asn1_laws_fronts.proofs.PerNumbers.{integer_alike}
 use Rattle.per_codec_fronts.specs.Takes.{Place, Front}
 use Rattle.per_codec_fronts.proofs.Fronts.{if_in, if_out, of_refused}
 use Rattle.per_codec_fronts.proofs.Next.{same_fronts}
-use Rattle.per_codec_reading.specs.Fronts.{NoneStands, Misses}
+use Rattle.per_codec_reading.specs.Fronts.{NoneStands, IsFresh, Misses}
 use Rattle.per_codec_reading.proofs.Fronts.{none_misses}
 use Rattle.per_codec_reading_values.specs.Whole.{number_octets, in_128_bits, under_constraint, wide_range}
 use Rattle.per_codec_reading_values.proofs.OctetFronts.{number_read, none_signed, signed_same}
@@ -88,10 +88,10 @@ module _ (free : Per.Freedom → Bool) (al : Bool) where
       let p = plain_out h u a c g in
       false≢true (sym w ∙ ap (is_within h) (sym (signed_same free al p.0 os a b c f p.2)) ∙ p.1)
 
-  pub plain_refused : {X : Type 0} (r : Result X DecodeError) (h : Range) (os : List ℕ) (a b : Place) → IfErr r (λ e. (e ≡ OutOfMemory) ⊎ (is_within h (signed_number os) ≡ false)) → Front free (number_octets al os) a b → IfErr r (Misses free (Integer None h) a)
-  plain_refused (Ok x) h os a b n f = tt
-  plain_refused (Err e) h os a b (inl m) f = subst (Misses free (Integer None h) a) (sym m) tt
-  plain_refused (Err e) h os a b (inr m) f = none_misses free (Integer None h) a e (plain_outside h os a b m f)
+  pub plain_refused : {X : Type 0} (r : Result X DecodeError) (h : Range) (os : List ℕ) (a b : Place) → IfErr r (λ e. (e ≡ OutOfMemory) ⊎ (is_within h (signed_number os) ≡ false)) → IfErr r IsFresh → Front free (number_octets al os) a b → IfErr r (Misses free (Integer None h) a)
+  plain_refused (Ok x) h os a b n k f = tt
+  plain_refused (Err e) h os a b (inl m) k f = subst (Misses free (Integer None h) a) (sym m) tt
+  plain_refused (Err e) h os a b (inr m) k f = none_misses free (Integer None h) a e k (plain_outside h os a b m f)
 
   -- ---- under a constraint
   module _ (c : Extensible Constraint.Value) where
@@ -132,7 +132,7 @@ module _ (free : Per.Freedom → Bool) (al : Bool) where
         let p = bounded_out h u a d g in
         false≢true (sym w ∙ ap (is_within h) (same_number v p.0 a b d f p.2) ∙ p.1)
 
-    pub bounded_refused : {X : Type 0} (r : Result X DecodeError) (h : Range) (v z : ℤ) (a b : Place) → z ≡ v → IfErr r (λ e. (e ≡ OutOfMemory) ⊎ (is_within h z ≡ false)) → Front free (in_128_bits (under_constraint al c) v) a b → IfErr r (Misses free (Integer (Some c) h) a)
-    bounded_refused (Ok x) h v z a b q n f = tt
-    bounded_refused (Err e) h v z a b q (inl m) f = subst (Misses free (Integer (Some c) h) a) (sym m) tt
-    bounded_refused (Err e) h v z a b q (inr m) f = none_misses free (Integer (Some c) h) a e (bounded_outside h v a b (ap (is_within h) (sym q) ∙ m) f)
+    pub bounded_refused : {X : Type 0} (r : Result X DecodeError) (h : Range) (v z : ℤ) (a b : Place) → z ≡ v → IfErr r (λ e. (e ≡ OutOfMemory) ⊎ (is_within h z ≡ false)) → IfErr r IsFresh → Front free (in_128_bits (under_constraint al c) v) a b → IfErr r (Misses free (Integer (Some c) h) a)
+    bounded_refused (Ok x) h v z a b q n k f = tt
+    bounded_refused (Err e) h v z a b q (inl m) k f = subst (Misses free (Integer (Some c) h) a) (sym m) tt
+    bounded_refused (Err e) h v z a b q (inr m) k f = none_misses free (Integer (Some c) h) a e k (bounded_outside h v a b (ap (is_within h) (sym q) ∙ m) f)

@@ -9,3 +9,4 @@ pub mod Passing
 pub mod Steps
 pub mod CharacterFronts
 pub mod CharacterOctetFronts
+pub mod Inside

@@ -5,7 +5,7 @@ use Rattle.asn1_model.specs.Form.{joined, present_ones, is_present}
 use Rattle.asn1_model.specs.Per
 use Rattle.asn1_laws_fronts.proofs.PerNumbers.{counted_octets_alike}
 use Rattle.asn1_schema_faults.specs.declared.DecodeError.{DecodeError}
-use Rattle.asn1_schema_faults.specs.declared.DecodeError.TheVariants.{OutOfMemory}
+use Rattle.asn1_schema_faults.specs.declared.DecodeError.TheVariants.{OutOfMemory, AlreadyFailed}
 use Rattle.per_codec_fronts.specs.Takes.{Place, Front, Skips, unknown_forms}
 use Rattle.per_codec_fronts.proofs.Fronts.{split, join, nothing_front}
 use Rattle.per_codec_fronts.proofs.Next.{same_fronts}
@@ -19,6 +19,7 @@ use Rattle.per_codec_reading_values.proofs.FieldFronts.{octets_of, units_told}
 -- want of memory aside, what is missed does not stand in front
 pub missed : {X : Type 0} (free : Per.Freedom → Bool) (f : X → Per.BitForm) (a : Place) (e : DecodeError) → Misses free f a e → ¬ (e ≡ OutOfMemory) → NoneStands free f a
 missed free f a OutOfMemory m n = absurd (n refl)
+missed free f a AlreadyFailed m n = absurd m
 missed free f a e m n = m
 
 -- the same of a place that is known by its equal

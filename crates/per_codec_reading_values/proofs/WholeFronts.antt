@@ -19,7 +19,7 @@ use Rattle.asn1_laws_fronts.proofs.PerNumbers.{constrained_alike, semi_alike, un
 use Rattle.per_codec_fronts.specs.Takes.{Place, Front}
 use Rattle.per_codec_fronts.proofs.Fronts.{split, join, varied_in, varied_out, given_in, given_out, if_in, if_out}
 use Rattle.per_codec_fronts.proofs.Next.{same_fronts}
-use Rattle.per_codec_reading.specs.Fronts.{NoneStands, Misses}
+use Rattle.per_codec_reading.specs.Fronts.{NoneStands, IsFresh, Misses}
 use Rattle.per_codec_reading.specs.Lengths.{one_bit}
 use Rattle.per_codec_reading.proofs.Fronts.{none_misses}
 use Rattle.per_codec_reading_values.specs.Whole.{offset_form, is_offset, in_128_bits, behind_mark, under_constraint, wide_range}
@@ -107,10 +107,10 @@ module _ (free : Per.Freedom → Bool) where
   between_answer al (Ok v) low low' high span d a b q e f w g = between_read al low high v span d a b e (f ∙ ap (λ z. z +ℤ pos d) q) (ap (is_within wide_range) f ∙ w) g
   between_answer al (Err x) low low' high span d a b q e f w g = tt
 
-  pub between_refused : (al : Bool) (r : Result ℤ DecodeError) (low low' high : ℤ) (span d : ℕ) (a b : Place) → low' ≡ low → high ≡ low +ℤ pos span → OnErr r (is_within wide_range (low' +ℤ pos d) ≡ false) → Front free (Per.constrained al span d) a b
+  pub between_refused : (al : Bool) (r : Result ℤ DecodeError) (low low' high : ℤ) (span d : ℕ) (a b : Place) → low' ≡ low → high ≡ low +ℤ pos span → OnErr r (is_within wide_range (low' +ℤ pos d) ≡ false) → IfErr r IsFresh → Front free (Per.constrained al span d) a b
       → IfErr r (Misses free (in_128_bits (Per.whole_number al (Some low) (Some high))) a)
-  between_refused al (Ok v) low low' high span d a b q e w g = tt
-  between_refused al (Err x) low low' high span d a b q e w g = none_misses free (in_128_bits (Per.whole_number al (Some low) (Some high))) a x (between_outside al low high span d a b e (ap (λ z. is_within wide_range (z +ℤ pos d)) (sym q) ∙ w) g)
+  between_refused al (Ok v) low low' high span d a b q e w h g = tt
+  between_refused al (Err x) low low' high span d a b q e w h g = none_misses free (in_128_bits (Per.whole_number al (Some low) (Some high))) a x h (between_outside al low high span d a b e (ap (λ z. is_within wide_range (z +ℤ pos d)) (sym q) ∙ w) g)
 
   -- ---- from a lower bound on
   pub from_read : (al : Bool) (low v : ℤ) (d : ℕ) (a b : Place) → v ≡ low +ℤ pos d → is_within wide_range v ≡ true → Front free (offset_form al d) a b → Front free (in_128_bits (Per.whole_number al (Some low) None) v) a b
@@ -143,9 +143,9 @@ module _ (free : Per.Freedom → Bool) where
   from_answer al (Ok v) low low' d a b q f w g = from_read al low v d a b (f ∙ ap (λ z. z +ℤ pos d) q) (ap (is_within wide_range) f ∙ w) g
   from_answer al (Err x) low low' d a b q f w g = tt
 
-  pub from_refused : (al : Bool) (r : Result ℤ DecodeError) (low low' : ℤ) (d : ℕ) (a b : Place) → low' ≡ low → OnErr r (is_within wide_range (low' +ℤ pos d) ≡ false) → Front free (offset_form al d) a b → IfErr r (Misses free (in_128_bits (Per.whole_number al (Some low) None)) a)
-  from_refused al (Ok v) low low' d a b q w g = tt
-  from_refused al (Err x) low low' d a b q w g = none_misses free (in_128_bits (Per.whole_number al (Some low) None)) a x (from_outside al low d a b (ap (λ z. is_within wide_range (z +ℤ pos d)) (sym q) ∙ w) g)
+  pub from_refused : (al : Bool) (r : Result ℤ DecodeError) (low low' : ℤ) (d : ℕ) (a b : Place) → low' ≡ low → OnErr r (is_within wide_range (low' +ℤ pos d) ≡ false) → IfErr r IsFresh → Front free (offset_form al d) a b → IfErr r (Misses free (in_128_bits (Per.whole_number al (Some low) None)) a)
+  from_refused al (Ok v) low low' d a b q w h g = tt
+  from_refused al (Err x) low low' d a b q w h g = none_misses free (in_128_bits (Per.whole_number al (Some low) None)) a x h (from_outside al low d a b (ap (λ z. is_within wide_range (z +ℤ pos d)) (sym q) ∙ w) g)
 
   -- ---- up to an upper bound
   pub up_to_read : (al : Bool) (high v : ℤ) (a b : Place) → v ≤ℤ high → Front free (in_128_bits (Per.unconstrained al) v) a b → Front free (in_128_bits (Per.whole_number al None (Some high)) v) a b

@@ -1,14 +1,16 @@
 -- Bits that are taken as a whole, and octets that are passed over.
-use Rattle.std.specs.Prelude.{◌≡◌, ℕ, ◌/◌, ◌==◌, Bool, List, length}
+use Rattle.std.specs.Prelude.{◌≡◌, ◌↔◌, ℕ, ◌*◌, ◌<◌, ◌/◌, ◌==◌, Bool, List, length}
 use Rattle.asn1_model.specs.Form.{exactly, only_if}
 use Rattle.asn1_model.specs.Per
 use Rattle.asn1_schema_faults.specs.declared.DecodeError.{DecodeError}
 use Rattle.asn1_schema_faults.specs.declared.DecodeError.TheVariants.{OutOfMemory}
 use Rattle.per_codec_fronts.specs.Takes.{Place, Front, Skips}
 use Rattle.per_codec_reading.specs.declared.lengths.Length.{Length}
+use Rattle.per_codec_reading.specs.Runs.{bits_in, IsLent}
+use Rattle.per_codec_reading.specs.declared.runs.RunBits.{RunBits}
 use Rattle.per_codec_reading.specs.Units.{Units, counted_units, piece_form}
 use Rattle.per_codec_reading_values.specs.declared.fields.Field.{Field}
-use Rattle.per_codec_reading_values.specs.declared.fields.Field.TheVariants.{Bits, Bitmap, OpenType}
+use Rattle.per_codec_reading_values.specs.declared.fields.Field.TheVariants.{Bits, Bitmap}
 
 -- So many bits.
 abbrev pub bits_form : ℕ → List Bool → Per.BitForm
@@ -26,11 +28,14 @@ octets_form al bs = counted_units al 8 (length bs / 8, bs)
 abbrev pub field_form : Bool → Field → List Bool → Per.BitForm
 field_form al (Bits n) bs = bits_form n bs
 field_form al Bitmap bs = few_form al bs
-field_form al OpenType bs = octets_form al bs
 
--- They stand in front, and behind them is this position.
-abbrev pub HasField : (Per.Freedom → Bool) → Bool → Field → Place → List Bool → ℕ → Type 0
-HasField free al field a bs n = (b : Place) × (b.0 ≡ n) × Front free (field_form al field bs) a b
+-- Bits of a form stand in front, and behind them is this position.
+abbrev pub EndsAt : (Per.Freedom → Bool) → Per.BitForm → Place → ℕ → Type 0
+EndsAt free x a n = (b : Place) × (b.0 ≡ n) × Front free x a b
+
+-- The bits of octets are lent just where the octets stand in one run (X.691 11.9.3.5 to 11.9.3.7).
+abbrev pub LentInOneRun : RunBits → Type 0
+LentInOneRun bits = IsLent bits ↔ (length (bits_in bits) < 8 * 16384)
 
 -- Octets stand in front behind this length.
 abbrev pub HasPiece : (Per.Freedom → Bool) → Bool → Length → Place → Place → Type 0

@@ -1,16 +1,8 @@
--- How far a stretch of bits is read, and what lends them.
-use Rattle.std.specs.Prelude.{◌==◌, Bool, false}
-use Rattle.asn1_values_bits.specs.BitStr.{offset_of}
+-- How far a stretch of bits is read, and where it stands.
 use Rattle.per_codec_fronts.specs.Takes.{Place}
-use Rattle.per_codec_reading.specs.declared.runs.RunBits.{RunBits}
-use Rattle.per_codec_reading.specs.declared.runs.RunBits.TheVariants.{Lent, Joined}
+use Rattle.per_codec_reading.specs.Runs.{Storage}
 
--- The place that is reached, and whether the bits are lent and begin at an octet of what lends them.
+-- The place that is reached, and where the bits stand of which it is one.
 pub record Stretched : Type 0 where
   pub place : Place
-  pub lends : Bool
-
--- Bits are lent, and begin at an octet of what lends them.
-abbrev pub lends_octets : RunBits → Bool
-lends_octets (Lent bits) = offset_of bits == 0
-lends_octets (Joined bits) = false
+  pub storage : Storage

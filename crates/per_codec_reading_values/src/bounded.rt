@@ -5,7 +5,7 @@ ghost use Rattle.asn1_model.specs.Per as Per;
 ghost use Rattle.asn1_schema_constraints.specs.Bounds.{lower, upper};
 ghost use Rattle.per_codec_fronts.specs.Takes.{Front};
 ghost use Rattle.per_codec_reading.specs.Fronts as fronts;
-ghost use Rattle.per_codec_reading.specs.Fronts.{freedoms, Misses};
+ghost use Rattle.per_codec_reading.specs.Fronts.{freedoms, IsFresh, Misses};
 ghost use Rattle.per_codec_reading_values.specs.Whole.{behind_mark, in_128_bits, under_constraint, wide_range};
 
 use crate::octets::{read_semi_constrained, read_unconstrained};
@@ -22,6 +22,7 @@ fn number_above(low: i128, above: u128) -> Result<i128, DecodeError>
     ensures number { IfOk result (λ number. number ≡ low +ℤ pos above) }
     ensures held { OnOk result (is_within wide_range (low +ℤ pos above) ≡ true) }
     ensures refused { OnErr result (is_within wide_range (low +ℤ pos above) ≡ false) }
+    ensures fresh { IfErr result IsFresh }
 {
     match low.checked_add_unsigned(above) {
         Some(number) => Ok(number),

@@ -1,6 +1,7 @@
 //! Characters from their codes.
 ghost use Rattle.std.specs.Prelude.{◌≡◌, ◌*◌, ◌≤◌, ◌⊎◌, length, IfOk, IfErr};
 ghost use Rattle.asn1_values_bits.specs.BitStr.{bits_of};
+ghost use Rattle.per_codec_reading.specs.Fronts.{IsFresh};
 ghost use Rattle.per_codec_reading_values.specs.Spelled.{Spells, Stuck, IsFitting};
 
 use asn1_schema_faults::DecodeError;
@@ -25,6 +26,7 @@ pub fn string_of<S: StaticPermittedAlphabet>(
     ensures count { IfOk result (λ s. length (S.characters s) ≡ count) }
     ensures codes { IfOk result (λ s. Spells S.kind alphabet.now (S.characters s) (bits_of codes.entry)) }
     ensures refused { IfErr result (λ e. (e ≡ DecodeError.OutOfMemory) ⊎ (IsFitting alphabet.now → Stuck S.kind alphabet.now count (bits_of codes.entry))) }
+    ensures fresh { IfErr result IsFresh }
 {
     let width = alphabet.width();
     let Ok(mut string) = S::with_capacity(alloc, count) else {

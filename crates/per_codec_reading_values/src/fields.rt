@@ -1,10 +1,10 @@
 //! Bits that are taken as a whole: presence bits, bitmaps, and the octets of open types.
-ghost use Rattle.std.specs.Prelude.{IfOk, IfErr};
+ghost use Rattle.std.specs.Prelude.{◌≡◌, ◌%◌, length, IfOk, IfErr};
 ghost use Rattle.per_codec_fronts.specs.Takes.{Front};
 ghost use Rattle.per_codec_reading.specs.Fronts as fronts;
 ghost use Rattle.per_codec_reading.specs.Fronts.{freedoms, Misses};
-ghost use Rattle.per_codec_reading.specs.Runs.{bits_in};
-ghost use Rattle.per_codec_reading_values.specs.Fields.{field_form, few_form, bits_form, octets_form};
+ghost use Rattle.per_codec_reading.specs.Runs.{bits_in, EndsWithLent};
+ghost use Rattle.per_codec_reading_values.specs.Fields.{field_form, few_form, bits_form, octets_form, LentInOneRun};
 
 use asn1_schema_faults::DecodeError;
 use per_codec_reading::numbers::read_number_within;
@@ -19,8 +19,6 @@ pub enum Field {
     Bits(usize),
     /// A bitmap behind its normally small length (X.691 19.7 and 19.8).
     Bitmap,
-    /// The octets of an open type behind their number (X.691 11.2).
-    OpenType,
 }
 
 /// Takes so many bits.
@@ -56,13 +54,20 @@ fn read_bitmap<'input>(
     Ok(RunBits::Lent(bits))
 }
 
-/// Reads the octets of an open type behind their number.
-fn read_octets<'input>(
+/// Reads the octets of an open type behind their number (X.691 11.2). Those in one run are lent.
+///
+/// # Errors
+///
+/// `Incomplete` if the bits end early, the errors of a length, and `OutOfMemory`.
+pub(crate) fn read_octets<'input>(
     alloc: Global,
     cursor: &mut Cursor<'input>,
     variant: Variant,
 ) -> Result<RunBits<'input>, DecodeError>
     ensures ok { IfOk result (λ bits. Front (freedoms variant) (octets_form (fronts.is_aligned variant) (bits_in bits)) cursor.old cursor.new) }
+    ensures whole { IfOk result (λ bits. length (bits_in bits) % 8 ≡ 0) }
+    ensures lent { IfOk result LentInOneRun }
+    ensures last { IfOk result (λ bits. EndsWithLent bits cursor.old cursor.new) }
     ensures only { IfErr result (Misses (freedoms variant) (octets_form (fronts.is_aligned variant)) cursor.old) }
 {
     let run = read_counted(alloc, cursor, variant, 8)?;
@@ -87,6 +92,5 @@ pub(crate) fn read_field<'input>(
     match field {
         Field::Bits(count) => read_bits(cursor, variant, count),
         Field::Bitmap => read_bitmap(alloc, cursor, variant),
-        Field::OpenType => read_octets(alloc, cursor, variant),
     }
 }

@@ -8,7 +8,7 @@ ghost use Rattle.asn1_schema_constraints.specs.Terms.{bounds_of, held_of};
 ghost use Rattle.asn1_values_natives.specs.Octets.{signed_number};
 ghost use Rattle.per_codec_fronts.specs.Takes.{Front};
 ghost use Rattle.per_codec_reading.specs.Fronts as fronts;
-ghost use Rattle.per_codec_reading.specs.Fronts.{freedoms, Misses};
+ghost use Rattle.per_codec_reading.specs.Fronts.{freedoms, IsFresh, Misses};
 
 use crate::bounded::read_bounded;
 use crate::octets::read_number_octets;
@@ -20,7 +20,8 @@ use std::alloc::Global;
 
 /// Why a number is not read in a type of the program.
 fn fault_of(error: IntegerError) -> DecodeError
-    ensures { error ≡ IntegerError.Memory → result ≡ DecodeError.OutOfMemory }
+    ensures memory { error ≡ IntegerError.Memory → result ≡ DecodeError.OutOfMemory }
+    ensures fresh { IsFresh result }
 {
     match error {
         IntegerError::Memory => DecodeError::OutOfMemory,
@@ -34,6 +35,7 @@ fn value_of<I: IntegerType>(alloc: Global, octets: &[u8]) -> Result<I, DecodeErr
     ensures value { IfOk result (λ x. I.value x ≡ signed_number octets.now) }
     ensures held { OnOk result (is_within I.held (signed_number octets.now) ≡ true) }
     ensures refused { IfErr result (λ e. (e ≡ DecodeError.OutOfMemory) ⊎ (is_within I.held (signed_number octets.now) ≡ false)) }
+    ensures fresh { IfErr result IsFresh }
 {
     match I::try_from_signed_bytes(alloc, octets) {
         Ok(value) => Ok(value),
@@ -47,6 +49,7 @@ fn held_number<I: IntegerType>(number: i128) -> Result<I, DecodeError>
     ensures value { IfOk result (λ x. I.value x ≡ number) }
     ensures held { OnOk result (is_within I.held number ≡ true) }
     ensures refused { IfErr result (λ e. (e ≡ DecodeError.OutOfMemory) ⊎ (is_within I.held number ≡ false)) }
+    ensures fresh { IfErr result IsFresh }
 {
     match I::from_i128(number) {
         Some(value) => Ok(value),

@@ -2,7 +2,7 @@
 ghost use Rattle.std.specs.Prelude.{◌≡◌, ◌*◌, ◌≤◌, IfOk, OnOk, IfErr};
 ghost use Rattle.per_codec_fronts.specs.Takes.{Front, Skips};
 ghost use Rattle.per_codec_reading.specs.Fronts as fronts;
-ghost use Rattle.per_codec_reading.specs.Fronts.{freedoms, Misses};
+ghost use Rattle.per_codec_reading.specs.Fronts.{freedoms, IsFresh, Misses};
 ghost use Rattle.per_codec_reading.specs.Lengths.{IsLength};
 ghost use Rattle.per_codec_reading.specs.Units.{count_of, counted_units, piece_form};
 ghost use Rattle.per_codec_reading_values.specs.Fields.{HasPiece, HasUnits, NoSkip};
@@ -59,6 +59,7 @@ pub fn skip_unknown(
 ) -> Result<(), DecodeError>
     ensures ok { OnOk result (Skips (fronts.is_aligned variant) (freedoms variant) marks.entry.place.1 cursor.old cursor.new) }
     ensures only { IfErr result (NoSkip (freedoms variant) (fronts.is_aligned variant) marks.entry.place.1 cursor.old) }
+    ensures fresh { IfErr result IsFresh }
 {
     while let Some(is_there) = marks.next_bit() {
         if is_there {

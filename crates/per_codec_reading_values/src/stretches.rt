@@ -1,18 +1,17 @@
 //! A stretch of bits, and how far it is read.
-ghost use Rattle.std.specs.Prelude.{◌≡◌, ◌≤◌, ◌-◌, ◌^◌, ◌∷◌, [], true, length, take, drop, IsTrue, ◌↔◌, OnOk, IfOk, IfErr, IfSome, IfNone, IsSomeAnd};
+ghost use Rattle.std.specs.Prelude.{◌≡◌, ◌≤◌, ◌-◌, ◌^◌, ◌∷◌, [], length, take, drop, Some, None, IsTrue, ◌↔◌, OnOk, IfOk, IfErr, IfSome, IfNone};
 ghost use Rattle.asn1_model.specs.Numbers.{octet_bits};
 ghost use Rattle.asn1_values_bits.specs.BitStr as bit_strs;
 ghost use Rattle.per_codec_fronts.specs.Takes.{Place, Front};
 ghost use Rattle.per_codec_reading.specs.Fronts as fronts;
 ghost use Rattle.per_codec_reading.specs.Fronts.{freedoms, Leads, Misses};
-ghost use Rattle.per_codec_reading.specs.Runs.{bits_in, StandsIn};
-ghost use Rattle.per_codec_reading_values.specs.Fields.{field_form, HasField};
-ghost use Rattle.per_codec_reading_values.specs.Stretches.{lends_octets};
+ghost use Rattle.per_codec_reading.specs.Runs.{bits_in, StandsIn, storage_inside, storage_of};
+ghost use Rattle.per_codec_reading_values.specs.Fields.{EndsAt, field_form, octets_form};
 
-use crate::fields::{Field, read_field};
+use crate::fields::{Field, read_field, read_octets};
 use asn1_schema_faults::DecodeError;
 use asn1_values_bits::{BitBuffer, BitReader, BitStr};
-use per_codec_reading::{Cursor, RunBits, Variant};
+use per_codec_reading::{Cursor, RunBits, Variant, lent_by};
 use std::alloc::{AllocError, Global};
 use std::marker::Model;
 
@@ -28,12 +27,12 @@ pub struct Stretch<'input> {
 
 impl<'input> Model for Stretch<'input> {
     ghost use Rattle.std.specs.Prelude.{◌≤◌, length, drop};
-    ghost use Rattle.per_codec_reading.specs.Runs.{bits_in};
-    ghost use Rattle.per_codec_reading_values.specs.Stretches.{Stretched, lends_octets};
+    ghost use Rattle.per_codec_reading.specs.Runs.{bits_in, storage_of};
+    ghost use Rattle.per_codec_reading_values.specs.Stretches.{Stretched};
 
     ghost Value = { Stretched };
 
-    ghost view = { λ stretch. record { place = (stretch.position, drop stretch.position (bits_in stretch.bits)); lends = lends_octets stretch.bits } };
+    ghost view = { λ stretch. record { place = (stretch.position, drop stretch.position (bits_in stretch.bits)); storage = storage_of stretch.bits } };
 
     ghost invariant = { λ stretch. stretch.position ≤ length (bits_in stretch.bits) };
 }
@@ -86,7 +85,7 @@ fn take_field<'input>(
     field: Field,
 ) -> Result<(RunBits<'input>, usize), DecodeError>
     requires { position ≤ length (bits_in bits.now) }
-    ensures ok { IfOk result (λ taken. HasField (freedoms variant) (fronts.is_aligned variant) field (position, drop position (bits_in bits.now)) (bits_in taken.0) taken.1) }
+    ensures ok { IfOk result (λ taken. EndsAt (freedoms variant) (field_form (fronts.is_aligned variant) field (bits_in taken.0)) (position, drop position (bits_in bits.now)) taken.1) }
     ensures only { IfErr result (Misses (freedoms variant) (field_form (fronts.is_aligned variant) field) (position, drop position (bits_in bits.now))) }
 {
     match bits {
@@ -104,11 +103,67 @@ fn take_field<'input>(
     }
 }
 
+/// Takes octets behind their number, behind so many lent bits, and tells the position behind them. In one run the same octets lend them.
+fn take_lent_octets<'input>(
+    alloc: Global,
+    bits: BitStr<'input>,
+    position: usize,
+    variant: Variant,
+) -> Result<(RunBits<'input>, usize), DecodeError>
+    requires { position ≤ length (bit_strs.bits_of bits) }
+    ensures ok { IfOk result (λ taken. EndsAt (freedoms variant) (octets_form (fronts.is_aligned variant) (bits_in taken.0)) (position, drop position (bit_strs.bits_of bits.entry)) taken.1) }
+    ensures storage { IfOk result (λ taken. storage_of taken.0 ≡ storage_inside (Some (bit_strs.offset_of bits.entry)) (length (bits_in taken.0)) taken.1) }
+    ensures only { IfErr result (Misses (freedoms variant) (octets_form (fronts.is_aligned variant)) (position, drop position (bit_strs.bits_of bits.entry))) }
+{
+    let mut cursor = cursor_at(bits, position);
+    let octets = read_octets(alloc, &mut cursor, variant)?;
+    let end = cursor.position();
+    Ok((lent_by(bits, end, octets), end))
+}
+
+/// Takes octets behind their number, behind so many held bits, and tells the position behind them. They are held.
+fn take_held_octets(
+    alloc: Global,
+    bits: &BitBuffer,
+    position: usize,
+    variant: Variant,
+) -> Result<(BitBuffer, usize), DecodeError>
+    requires { position ≤ length bits.now }
+    ensures ok { IfOk result (λ taken. EndsAt (freedoms variant) (octets_form (fronts.is_aligned variant) taken.0) (position, drop position bits.now) taken.1) }
+    ensures only { IfErr result (Misses (freedoms variant) (octets_form (fronts.is_aligned variant)) (position, drop position bits.now)) }
+{
+    let mut cursor = cursor_at(bits.as_bitslice(), position);
+    let octets = read_octets(alloc, &mut cursor, variant)?;
+    let buffer = held(alloc, octets)?;
+    Ok((buffer, cursor.position()))
+}
+
+/// Takes octets behind their number, behind so many of the bits, and tells the position behind them.
+fn take_octets<'input>(
+    alloc: Global,
+    bits: &RunBits<'input>,
+    position: usize,
+    variant: Variant,
+) -> Result<(RunBits<'input>, usize), DecodeError>
+    requires { position ≤ length (bits_in bits.now) }
+    ensures ok { IfOk result (λ taken. EndsAt (freedoms variant) (octets_form (fronts.is_aligned variant) (bits_in taken.0)) (position, drop position (bits_in bits.now)) taken.1) }
+    ensures storage { IfOk result (λ taken. storage_of taken.0 ≡ storage_inside (storage_of bits.now) (length (bits_in taken.0)) taken.1) }
+    ensures only { IfErr result (Misses (freedoms variant) (octets_form (fronts.is_aligned variant)) (position, drop position (bits_in bits.now))) }
+{
+    match bits {
+        RunBits::Lent(bits) => take_lent_octets(alloc, *bits, position, variant),
+        RunBits::Joined(bits) => {
+            let (buffer, end) = take_held_octets(alloc, bits, position, variant)?;
+            Ok((RunBits::Joined(buffer), end))
+        }
+    }
+}
+
 impl<'input> Stretch<'input> {
     /// Before these bits.
     #[inline(always)]
     pub fn new(bits: RunBits<'input>) -> Self
-        ensures { result ≡ record { place = (0, bits_in bits.entry); lends = lends_octets bits.entry } }
+        ensures { result ≡ record { place = (0, bits_in bits.entry); storage = storage_of bits.entry } }
     {
         Stretch { bits, position: 0 }
     }
@@ -117,7 +172,7 @@ impl<'input> Stretch<'input> {
     #[inline(always)]
     pub fn from_octets(input: &'input [u8]) -> Self
         ensures place { result.place ≡ (0, octet_bits (take (2 ^ 60 - 1) input.entry.now)) }
-        ensures lends { result.lends ≡ true }
+        ensures storage { result.storage ≡ Some 0 }
     {
         let count = input.len().min(MOST_OCTETS);
         Stretch::new(RunBits::Lent(BitStr::from_slice(&input[..count])))
@@ -135,7 +190,8 @@ impl<'input> Stretch<'input> {
     #[inline(always)]
     pub fn lent_bits(&self) -> Option<BitStr<'input>>
         ensures stands { IfSome result (λ bits. StandsIn (bit_strs.bits_of bits) self.now.place) }
-        ensures lent { self.now.lends ≡ true → IsSomeAnd result (λ bits. bit_strs.offset_of bits ≡ 0) }
+        ensures lent { IfSome result (λ bits. self.now.storage ≡ Some (bit_strs.offset_of bits)) }
+        ensures joined { IfNone result (self.now.storage ≡ None) }
     {
         match &self.bits {
             RunBits::Lent(bits) => Some(*bits),
@@ -156,7 +212,7 @@ impl<'input> Stretch<'input> {
     #[inline(always)]
     pub fn move_to(&mut self, position: usize)
         ensures place { (w : _) (b : Place) → b.0 ≡ position → Leads w self.old.place b → self.new.place ≡ b }
-        ensures lends { self.new.lends ≡ self.old.lends }
+        ensures storage { self.new.storage ≡ self.old.storage }
     {
         if position > lent(&self.bits).len() {
             return;
@@ -169,7 +225,7 @@ impl<'input> Stretch<'input> {
     pub fn next_bit(&mut self) -> Option<bool>
         ensures some { IfSome result (λ bit. self.old.place.1 ≡ bit ∷ self.new.place.1) }
         ensures none { IfNone result (self.old.place.1 ≡ []) }
-        ensures lends { self.new.lends ≡ self.old.lends }
+        ensures storage { self.new.storage ≡ self.old.storage }
     {
         let bits = lent(&self.bits);
         if self.position >= bits.len() {
@@ -203,10 +259,31 @@ impl<'input> Stretch<'input> {
     ) -> Result<Stretch<'input>, DecodeError>
         ensures start { IfOk result (λ taken. taken.place.0 ≡ 0) }
         ensures ok { IfOk result (λ taken. Front (freedoms variant) (field_form (fronts.is_aligned variant) field taken.place.1) self.old.place self.new.place) }
-        ensures lends { OnOk result (self.new.lends ≡ self.old.lends) }
+        ensures storage { OnOk result (self.new.storage ≡ self.old.storage) }
         ensures only { IfErr result (Misses (freedoms variant) (field_form (fronts.is_aligned variant) field) self.old.place) }
     {
         let (bits, position) = take_field(alloc, &self.bits, self.position, variant, field)?;
+        self.move_to(position);
+        Ok(Stretch::new(bits))
+    }
+    /// Takes the octets of an open type behind their number (X.691 11.2). In one run they are lent where the bits are; those in fragments are
+    /// joined.
+    ///
+    /// # Errors
+    ///
+    /// `Incomplete` if the bits end early, the errors of a length, and `OutOfMemory`.
+    pub fn take_open_type(
+        &mut self,
+        alloc: Global,
+        variant: Variant,
+    ) -> Result<Stretch<'input>, DecodeError>
+        ensures start { IfOk result (λ inside. inside.place.0 ≡ 0) }
+        ensures ok { IfOk result (λ inside. Front (freedoms variant) (octets_form (fronts.is_aligned variant) inside.place.1) self.old.place self.new.place) }
+        ensures inside { IfOk result (λ inside. inside.storage ≡ storage_inside self.old.storage (length inside.place.1) self.new.place.0) }
+        ensures storage { OnOk result (self.new.storage ≡ self.old.storage) }
+        ensures only { IfErr result (Misses (freedoms variant) (octets_form (fronts.is_aligned variant)) self.old.place) }
+    {
+        let (bits, position) = take_octets(alloc, &self.bits, self.position, variant)?;
         self.move_to(position);
         Ok(Stretch::new(bits))
     }

@@ -9,7 +9,7 @@ ghost use Rattle.asn1_model.specs.Types.{any_count};
 ghost use Rattle.asn1_model.specs.Value as Asn1Value;
 ghost use Rattle.asn1_schema_constraints.specs.Terms.{alphabet_of, sizes_of};
 ghost use Rattle.per_codec_fronts.specs.Takes.{Front};
-ghost use Rattle.per_codec_reading.specs.Fronts.{freedoms, Misses};
+ghost use Rattle.per_codec_reading.specs.Fronts.{freedoms, IsFresh, Misses};
 ghost use Rattle.per_codec_reading.specs.Fronts as fronts;
 ghost use Rattle.per_codec_reading_values.specs.Spelled.{Spells, Stuck, IsFitting};
 ghost use Rattle.per_codec_reading.specs.Runs.{bits_in};
@@ -70,6 +70,7 @@ fn string_of_run<S: StaticPermittedAlphabet>(
     ensures count { IfOk result (λ s. length (S.characters s) ≡ run.now.count) }
     ensures codes { IfOk result (λ s. Spells S.kind alphabet.now (S.characters s) (bits_in run.now.bits)) }
     ensures refused { IfErr result (λ e. (e ≡ DecodeError.OutOfMemory) ⊎ (IsFitting alphabet.now → Stuck S.kind alphabet.now run.now.count (bits_in run.now.bits))) }
+    ensures fresh { IfErr result IsFresh }
 {
     let codes = match &run.bits {
         RunBits::Lent(bits) => *bits,
@@ -88,6 +89,7 @@ fn read_codes<S: StaticPermittedAlphabet>(
     requires kind { holds_octets S.kind ≡ false }
     ensures ok { IfOk result (λ s. Front (freedoms variant) (Per.form (fronts.is_aligned variant) (Asn1.character_string S.kind (sizes_of constraints.entry.size) (alphabet_of constraints.entry.permitted_alphabet) any_count) (Asn1Value.text (S.characters s))) cursor.old cursor.new) }
     ensures only { IfErr result (λ e. is_alphabet S.kind (alphabet_of constraints.entry.permitted_alphabet).characters ≡ true → Misses (freedoms variant) (Per.form (fronts.is_aligned variant) (Asn1.character_string S.kind (sizes_of constraints.entry.size) (alphabet_of constraints.entry.permitted_alphabet) any_count)) cursor.old e) }
+    ensures fresh { IfErr result IsFresh }
 {
     let alphabet = EffectiveAlphabet::new::<S>(
         alloc,
@@ -129,6 +131,7 @@ pub fn read_characters<S: StaticPermittedAlphabet>(
 ) -> Result<S, DecodeError>
     ensures ok { IfOk result (λ s. Front (freedoms variant) (Per.form (fronts.is_aligned variant) (Asn1.character_string S.kind (sizes_of constraints.entry.size) (alphabet_of constraints.entry.permitted_alphabet) any_count) (Asn1Value.text (S.characters s))) cursor.old cursor.new) }
     ensures only { IfErr result (λ e. is_alphabet S.kind (alphabet_of constraints.entry.permitted_alphabet).characters ≡ true → Misses (freedoms variant) (Per.form (fronts.is_aligned variant) (Asn1.character_string S.kind (sizes_of constraints.entry.size) (alphabet_of constraints.entry.permitted_alphabet) any_count)) cursor.old e) }
+    ensures fresh { IfErr result IsFresh }
 {
     if is_of_octets::<S>() {
         return read_octets(alloc, cursor, variant, constraints);

@@ -1,4 +1,4 @@
-use Rattle.std.proofs.Common.{◌≡◌, ◌+◌, ◌%◌, length, ap, sym, ◌∙◌, subst, arith}
+use Rattle.std.proofs.Common.{◌≡◌, ◌+◌, ◌%◌, Some, length, ap, sym, ◌∙◌, subst, arith}
 use Rattle.std.proofs.lemmas.Result.{err_from_is_err_and}
 use Rattle.std.specs.Cow.{cow_slice_items}
 use Rattle.asn1_model.specs.Per
@@ -11,7 +11,6 @@ use Rattle.per_codec_reading.specs.Fronts.{freedoms, is_aligned}
 use Rattle.per_codec_reading.proofs.Fronts.{misses_also}
 use Rattle.per_codec_reading.specs.Runs.{bits_in, units_in, InOneRun, StandsBefore}
 use Rattle.per_codec_reading.specs.Sizes.{pads_of, sized_units, surely_told}
-use Rattle.per_codec_reading.specs.Units.{Units}
 use Rattle.per_codec_reading.specs.declared.sizes.Contents.TheVariants.{Strings}
 use Rattle.per_codec_reading.proofs.LastFronts.{stands_before}
 use Rattle.per_codec_reading.proofs.StringFronts.{sized_size, octet_string_stands, no_octet_string}
@@ -27,8 +26,8 @@ returns-in_err-units-clause-only c =
     let a = c.args.cursor.now in
     rw (p.1, p.2) (misses_also f (sized_units al z h 8 (pads_of Strings 8)) (Per.form al (octet_string z h)) a a _ (no_octet_string f al z h a) c.in_err-units.ensures.only)
 
-pub lent_by-units-requires : goal.lent_by-units-requires
-lent_by-units-requires c =
+pub lent_by-requires : goal.lent_by-requires
+lent_by-requires c =
     let bits = c.in_ok-units.units.bits in
     let all = bits_of c.args.input in
     let b = c.read_sized.new.cursor in
@@ -38,13 +37,13 @@ pub into_octets-requires : goal.into_octets-requires
 into_octets-requires c =
     let us = units_in c.in_ok-units.units in
     let n = sized_size (freedoms c.args.variant) (is_aligned c.args.variant) (sizes_of c.args.constraints.size) (counts_of c.args.held) 8 (pads_of Strings 8) us c.args.cursor.now c.read_sized.new.cursor c.in_ok-units.ensures.ok in
-    let l : length (bits_in c.lent_by-units.result.bits) ≡ length us.1 = ap (λ (u : Units). length u.1) c.lent_by-units.ensures.same in
+    let l : length (bits_in c.lent_by.result) ≡ length us.1 = ap length c.lent_by.ensures.same in
     omega (arith, n, l)
 
 pub returns-clause-ok : goal.returns-clause-ok
 returns-clause-ok c =
     let us = units_in c.in_ok-units.units in
-    octet_string_stands (freedoms c.args.variant) (is_aligned c.args.variant) (sizes_of c.args.constraints.size) (counts_of c.args.held) us (cow_slice_items c.in_ok-octets.octets) c.args.cursor.now c.read_sized.new.cursor c.in_ok-units.ensures.ok c.in_ok-octets.ensures.small (c.in_ok-octets.ensures.octets ∙ ap (λ (u : Units). u.1) c.lent_by-units.ensures.same)
+    octet_string_stands (freedoms c.args.variant) (is_aligned c.args.variant) (sizes_of c.args.constraints.size) (counts_of c.args.held) us (cow_slice_items c.in_ok-octets.octets) c.args.cursor.now c.read_sized.new.cursor c.in_ok-units.ensures.ok c.in_ok-octets.ensures.small (c.in_ok-octets.ensures.octets ∙ c.lent_by.ensures.same)
 
 pub returns-clause-lent : goal.returns-clause-lent
 returns-clause-lent c = λ one end.
@@ -52,10 +51,10 @@ returns-clause-lent c = λ one end.
     let os = cow_slice_items c.in_ok-octets.octets in
     let n = sized_size (freedoms c.args.variant) (is_aligned c.args.variant) (sizes_of c.args.constraints.size) (counts_of c.args.held) 8 (pads_of Strings 8) us c.args.cursor.now c.read_sized.new.cursor c.in_ok-units.ensures.ok in
     let l = length-octet_bits os in
-    let m : length (bits_in c.lent_by-units.result.bits) ≡ length us.1 = ap (λ (u : Units). length u.1) c.lent_by-units.ensures.same in
+    let m : length (bits_in c.lent_by.result) ≡ length us.1 = ap length c.lent_by.ensures.same in
     let o = ap length c.in_ok-octets.ensures.octets in
     let k : length os ≡ us.0 = omega (arith, n, l, m, o) in
     let lent = c.in_ok-units.ensures.lent (subst (λ j. InOneRun (surely_told (sizes_of c.args.constraints.size)) j) k one) in
     let whole : length us.1 % 8 ≡ 0 = omega (arith, n) in
     let e : (offset_of c.args.input + c.position.result) % 8 ≡ 0 = subst (λ j. (offset_of c.args.input + j) % 8 ≡ 0) (sym c.position.ensures) end in
-    c.in_ok-octets.ensures.lent (c.lent_by-units.ensures.lent lent whole e)
+    c.in_ok-octets.ensures.lent (c.lent_by.ensures.lent lent whole ∙ ap Some e)

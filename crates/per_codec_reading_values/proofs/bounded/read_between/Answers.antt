@@ -46,4 +46,4 @@ returns-clause-only c =
     let n : c.args.low ≤ℤ c.args.high = grind (arith, ints, c.if-high-low.false) in
     let s = simp to_z-of_z at c.abs_diff.ensures in
     let e = span_told c.args.low c.args.high c.abs_diff.result n s in
-    between_refused (freedoms c.args.variant) (is_aligned c.args.variant) c.number_above.result c.args.low _ c.args.high c.abs_diff.result c.in_ok-above.above c.args.cursor.now c.read_constrained.new.cursor (to_z-of_z w128 c.args.low c.ranges.low) e c.number_above.ensures.refused c.in_ok-above.ensures.ok
+    between_refused (freedoms c.args.variant) (is_aligned c.args.variant) c.number_above.result c.args.low _ c.args.high c.abs_diff.result c.in_ok-above.above c.args.cursor.now c.read_constrained.new.cursor (to_z-of_z w128 c.args.low c.ranges.low) e c.number_above.ensures.refused c.number_above.ensures.fresh c.in_ok-above.ensures.ok

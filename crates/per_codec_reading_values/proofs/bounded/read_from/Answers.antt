@@ -21,4 +21,4 @@ pub returns-clause-ok : goal.returns-clause-ok
 returns-clause-ok c = from_answer (freedoms c.args.variant) (is_aligned c.args.variant) c.number_above.result c.args.low _ c.in_ok-above.above c.args.cursor.now c.read_semi_constrained.new.cursor (to_z-of_z w128 c.args.low c.ranges.low) c.number_above.ensures.number c.number_above.ensures.held c.in_ok-above.ensures.ok
 
 pub returns-clause-only : goal.returns-clause-only
-returns-clause-only c = from_refused (freedoms c.args.variant) (is_aligned c.args.variant) c.number_above.result c.args.low _ c.in_ok-above.above c.args.cursor.now c.read_semi_constrained.new.cursor (to_z-of_z w128 c.args.low c.ranges.low) c.number_above.ensures.refused c.in_ok-above.ensures.ok
+returns-clause-only c = from_refused (freedoms c.args.variant) (is_aligned c.args.variant) c.number_above.result c.args.low _ c.in_ok-above.above c.args.cursor.now c.read_semi_constrained.new.cursor (to_z-of_z w128 c.args.low c.ranges.low) c.number_above.ensures.refused c.number_above.ensures.fresh c.in_ok-above.ensures.ok

@@ -2,7 +2,7 @@ use Rattle.std.proofs.Common.{subst}
 use Rattle.asn1_schema_presented.proofs.Joined.{raised}
 use Rattle.per_codec_fronts.specs.Takes.{Front}
 use Rattle.per_codec_reading.specs.Fronts.{freedoms, is_aligned}
-use Rattle.per_codec_reading.proofs.Fronts.{misses_also, none_misses, long_small_number_is_free}
+use Rattle.per_codec_reading.proofs.Fronts.{misses_also, none_misses, ends_early, long_small_number_is_free}
 use Rattle.asn1_values_bits.specs.BitStr.{bits_of}
 use Rattle.per_codec_reading.specs.Lengths.{one_bit, number_within}
 use Rattle.per_codec_reading.specs.Units.{counted_units}
@@ -24,7 +24,7 @@ pub returns-in_err-further-clause-only : goal.returns-in_err-further-clause-only
 returns-in_err-further-clause-only c = raised _ _ _ c.from_residual-in_err-further.ensures.1 (misses_also (freedoms c.args.variant) (number_within 6 63) (few_form (is_aligned c.args.variant)) c.read_bit.new.cursor c.args.cursor.now _ (no_short_number (freedoms c.args.variant) (is_aligned c.args.variant) c.args.cursor.now c.read_bit.new.cursor (subst (λ v. Front (freedoms c.args.variant) (one_bit v) c.args.cursor.now c.read_bit.new.cursor) c.if-is_long.false c.in_ok-is_long.ensures.ok)) c.in_err-further.ensures.only)
 
 pub returns-in_err-bits-clause-only : goal.returns-in_err-bits-clause-only
-returns-in_err-bits-clause-only c = raised _ _ _ c.from_residual-in_err-bits.ensures.1 (none_misses (freedoms c.args.variant) (few_form (is_aligned c.args.variant)) c.args.cursor.now _ (short_of_bits (freedoms c.args.variant) (is_aligned c.args.variant) c.in_ok-further.further c.args.cursor.now c.read_bit.new.cursor c.read_number_within.new.cursor (subst (λ v. Front (freedoms c.args.variant) (one_bit v) c.args.cursor.now c.read_bit.new.cursor) c.if-is_long.false c.in_ok-is_long.ensures.ok) c.in_ok-further.ensures.ok c.in_err-bits.ensures.short.1))
+returns-in_err-bits-clause-only c = raised _ _ _ c.from_residual-in_err-bits.ensures.1 (none_misses (freedoms c.args.variant) (few_form (is_aligned c.args.variant)) c.args.cursor.now _ (ends_early c.in_err-bits.ensures.short.0) (short_of_bits (freedoms c.args.variant) (is_aligned c.args.variant) c.in_ok-further.further c.args.cursor.now c.read_bit.new.cursor c.read_number_within.new.cursor (subst (λ v. Front (freedoms c.args.variant) (one_bit v) c.args.cursor.now c.read_bit.new.cursor) c.if-is_long.false c.in_ok-is_long.ensures.ok) c.in_ok-further.ensures.ok c.in_err-bits.ensures.short.1))
 
 pub returns-clause-ok : goal.returns-clause-ok
 returns-clause-ok c = short_bitmap (freedoms c.args.variant) (is_aligned c.args.variant) c.in_ok-further.further (bits_of c.in_ok-bits.bits) c.args.cursor.now c.read_bit.new.cursor c.read_number_within.new.cursor c.take.new.self (long_small_number_is_free c.args.variant) (subst (λ v. Front (freedoms c.args.variant) (one_bit v) c.args.cursor.now c.read_bit.new.cursor) c.if-is_long.false c.in_ok-is_long.ensures.ok) c.in_ok-further.ensures.ok c.in_ok-bits.ensures.count c.in_ok-bits.ensures.bits

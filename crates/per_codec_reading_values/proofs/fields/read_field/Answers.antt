@@ -8,6 +8,3 @@ returns-in-Bits-clause-only c = subst (λ d. IfErr c.read_bits.result (Misses (f
 
 pub returns-in-Bitmap-clause-only : goal.returns-in-Bitmap-clause-only
 returns-in-Bitmap-clause-only c = subst (λ d. IfErr c.read_bitmap.result (Misses (freedoms c.args.variant) (field_form (is_aligned c.args.variant) d) c.args.cursor.now)) (sym c.in-Bitmap.is) c.read_bitmap.ensures.only
-
-pub returns-in-OpenType-clause-only : goal.returns-in-OpenType-clause-only
-returns-in-OpenType-clause-only c = subst (λ d. IfErr c.read_octets.result (Misses (freedoms c.args.variant) (field_form (is_aligned c.args.variant) d) c.args.cursor.now)) (sym c.in-OpenType.is) c.read_octets.ensures.only

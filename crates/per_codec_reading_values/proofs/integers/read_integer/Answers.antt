@@ -34,7 +34,7 @@ returns-in_default-clause-only g c =
     let a = c.args.cursor.now in
     let h = g.I.IntegerType.held in
     let v = c.as_slice.ensures.value in
-    rw c.in_default.is (plain_refused f al c.value_of.result h c.as_slice.result.now a c.read_number_octets.new.cursor c.value_of.ensures.refused (rw v c.in_ok-octets.ensures.ok))
+    rw c.in_default.is (plain_refused f al c.value_of.result h c.as_slice.result.now a c.read_number_octets.new.cursor c.value_of.ensures.refused c.value_of.ensures.fresh (rw v c.in_ok-octets.ensures.ok))
 
 pub returns-in_err-number-clause-only : goal.returns-in_err-number-clause-only
 returns-in_err-number-clause-only g c =
@@ -64,4 +64,4 @@ returns-clause-only g c =
     let k = c.in-Some.constraint in
     let b = c.read_bounded.new.cursor in
     let q = to_z-of_z w128 c.in_ok-number.number (wide_in_front f (under_constraint al k) c.in_ok-number.number a b c.in_ok-number.ensures.ok) in
-    rw c.in-Some.is (bounded_refused f al k c.held_number.result g.I.IntegerType.held c.in_ok-number.number _ a b q c.held_number.ensures.refused c.in_ok-number.ensures.ok)
+    rw c.in-Some.is (bounded_refused f al k c.held_number.result g.I.IntegerType.held c.in_ok-number.number _ a b q c.held_number.ensures.refused c.held_number.ensures.fresh c.in_ok-number.ensures.ok)

@@ -25,7 +25,7 @@ pub returns-then-chosen-clause-within : goal.returns-then-chosen-clause-within
 returns-then-chosen-clause-within c = place_within (freedoms c.self.inside.variant) (is_aligned c.self.inside.variant) (map tag_of c.args.roots.now) c.args.extensible (map tag_of c.args.additions.now) (length c.args.roots.now) (length c.args.additions.now) c.in_ok-chosen.chosen c.cursor-cursor.result c.read_place_of_alternative-answer.new.cursor (sym (length_of_map tag_of c.args.roots.now)) (sym (length_of_map tag_of c.args.additions.now)) (ok_of (λ (p : Chosen). Front (freedoms c.self.inside.variant) (place_form (is_aligned c.self.inside.variant) (length c.args.roots.now) c.args.extensible (length c.args.additions.now) p) c.cursor-cursor.result c.read_place_of_alternative-answer.new.cursor) c.read_place_of_alternative-answer.result c.in_ok-chosen.chosen c.in_ok-chosen.ensures.same c.read_place_of_alternative-answer.ensures.ok)
 
 pub returns-clause-ok : goal.returns-clause-ok
-returns-clause-ok c = alternative_begun _ c.begin_record.new.self c.settle.new.self _ (map tag_of c.args.roots.now) c.args.extensible (map tag_of c.args.additions.now) (length c.args.roots.now) (length c.args.additions.now) c.in_ok-chosen.chosen c.cursor-cursor.result c.read_place_of_alternative-answer.new.cursor c.position-position.result c.in_ok-begin_record.ensures.ok.1 c.in_ok-begin_record.ensures.ok.0 (sym (length_of_map tag_of c.args.roots.now)) (sym (length_of_map tag_of c.args.additions.now)) (c.cursor-cursor.ensures ∙ ap (λ (h : Held). h.place) c.self.view_is) c.position-position.ensures c.if-chosen.false (subst (λ (h : Held). Front (freedoms h.variant) (place_form (is_aligned h.variant) (length c.args.roots.now) c.args.extensible (length c.args.additions.now) c.in_ok-chosen.chosen) c.cursor-cursor.result c.read_place_of_alternative-answer.new.cursor) c.self.view_is (ok_of (λ (p : Chosen). Front (freedoms c.self.inside.variant) (place_form (is_aligned c.self.inside.variant) (length c.args.roots.now) c.args.extensible (length c.args.additions.now) p) c.cursor-cursor.result c.read_place_of_alternative-answer.new.cursor) c.read_place_of_alternative-answer.result c.in_ok-chosen.chosen c.in_ok-chosen.ensures.same c.read_place_of_alternative-answer.ensures.ok)) c.in_ok-chosen.ensures.moved c.in_ok-enter_enclosing.ensures.levels c.in_ok-enter_enclosing.ensures.scopes
+returns-clause-ok c = alternative_begun _ c.begin_record.new.self c.settle.new.self _ (map tag_of c.args.roots.now) c.args.extensible (map tag_of c.args.additions.now) (length c.args.roots.now) (length c.args.additions.now) c.in_ok-chosen.chosen c.cursor-cursor.result c.read_place_of_alternative-answer.new.cursor c.position-position.result c.in_ok-begin_record.ensures.ok.1 c.in_ok-begin_record.ensures.ok.0 (sym (length_of_map tag_of c.args.roots.now)) (sym (length_of_map tag_of c.args.additions.now)) (c.cursor-cursor.ensures ∙ ap (λ (h : Held). h.place) c.self.view_is) c.position-position.ensures c.if-chosen.false (subst (λ (h : Held). Front (freedoms h.variant) (place_form (is_aligned h.variant) (length c.args.roots.now) c.args.extensible (length c.args.additions.now) c.in_ok-chosen.chosen) c.cursor-cursor.result c.read_place_of_alternative-answer.new.cursor) c.self.view_is (ok_of (λ (p : Chosen). Front (freedoms c.self.inside.variant) (place_form (is_aligned c.self.inside.variant) (length c.args.roots.now) c.args.extensible (length c.args.additions.now) p) c.cursor-cursor.result c.read_place_of_alternative-answer.new.cursor) c.read_place_of_alternative-answer.result c.in_ok-chosen.chosen c.in_ok-chosen.ensures.same c.read_place_of_alternative-answer.ensures.ok)) c.in_ok-chosen.ensures.moved c.in_ok-enter_alternative.ensures.levels c.in_ok-enter_alternative.ensures.scopes
 
 pub returns-clause-within : goal.returns-clause-within
 returns-clause-within c = place_within (freedoms c.self.inside.variant) (is_aligned c.self.inside.variant) (map tag_of c.args.roots.now) c.args.extensible (map tag_of c.args.additions.now) (length c.args.roots.now) (length c.args.additions.now) c.in_ok-chosen.chosen c.cursor-cursor.result c.read_place_of_alternative-answer.new.cursor (sym (length_of_map tag_of c.args.roots.now)) (sym (length_of_map tag_of c.args.additions.now)) (ok_of (λ (p : Chosen). Front (freedoms c.self.inside.variant) (place_form (is_aligned c.self.inside.variant) (length c.args.roots.now) c.args.extensible (length c.args.additions.now) p) c.cursor-cursor.result c.read_place_of_alternative-answer.new.cursor) c.read_place_of_alternative-answer.result c.in_ok-chosen.chosen c.in_ok-chosen.ensures.same c.read_place_of_alternative-answer.ensures.ok)

@@ -9,7 +9,7 @@ use Rattle.per_codec_decoder.proofs.Settling.{unfound, also}
 use Rattle.asn1_model.specs.Schema.{octet_string}
 use Rattle.asn1_schema_presented.specs.Records.{asks_octets}
 use Rattle.per_codec_decoder.proofs.Finding.{asked_octets, octets_within}
-use Rattle.per_codec_decoder.proofs.decoder.Decoder.decode_octet_string.Goals as goal
+use Rattle.per_codec_decoder.proofs.decoder.Decoder.find_octets.Goals as goal
 
 pub returns-in-Some-clause-held : goal.returns-in-Some-clause-held
 returns-in-Some-clause-held c = also c.read_octet_string_in-lent.result c.settle.result _ _ c.settle.ensures.same c.read_octet_string_in-lent.ensures.ok (λ x f. octets_within (freedoms c.self.inside.variant) (is_aligned c.self.inside.variant) _ _ (sizes_of c.args.constraints.size) (counts_of c.args.held) _ f)

@@ -1,0 +1,14 @@
+-- Additions that are still to come where their sequence ends.
+use Rattle.std.proofs.Common.{◌≡◌, ℕ, zero, suc, ◌<◌, Bool, List, [], ◌∷◌, subst, arith}
+use Rattle.asn1_model.specs.Per
+use Rattle.asn1_schema_finding.specs.Marks.{first_bits}
+use Rattle.per_codec_fronts.specs.Takes.{Place, Scope, State, added, Ends}
+
+module _ (al : Bool) (free : Per.Freedom → Bool) (a : Place) (b : State) where
+  due_ends : (n : ℕ) (bs us : List Bool) (k : List Scope) → 0 < n → Ends al free a (added (first_bits n bs) us ∷ k) b → ⊥
+  due_ends zero bs us k l t = absurd (omega (arith, l))
+  due_ends (suc n) [] us k l t = t
+  due_ends (suc n) (v ∷ bs) us k l t = t
+
+pub no_end_due : (n : ℕ) (bs us : List Bool) (s k : List Scope) → 0 < n → s ≡ added (first_bits n bs) us ∷ k → (al : Bool) (free : Per.Freedom → Bool) (a : Place) (b : State) → Ends al free a s b → ⊥
+no_end_due n bs us s k l e al free a b t = due_ends al free a b n bs us k l (subst (λ (x : List Scope). Ends al free a x b) e t)
