@@ -1,5 +1,5 @@
 //! Readers of the message in front of octets.
-ghost use Rattle.std.specs.Prelude.{◌≤◌, IfErr, IfOk, drop, length};
+ghost use Rattle.std.specs.Prelude.{◌≡◌, ◌≤◌, IfErr, IfOk, drop, length};
 ghost use Rattle.asn1_model.specs.Rules.{Rules};
 ghost use Rattle.asn1_schema_decode.specs.Messages.{NoMessage, Tells};
 
@@ -17,9 +17,10 @@ pub trait FrontReader<T: Decode> {
     /// # Errors
     ///
     /// Want of memory aside, only where no octets in front, fewer than 2 to 60, are an encoding of a value that nests
-    /// at most 128 levels.
+    /// at most 128 levels. Each call begins anew, and none answers `AlreadyFailed`.
     fn read_front(&self, alloc: Global, input: &[u8]) -> Result<(T, usize), DecodeError>
         ensures within { IfOk result (λ x. x.1 ≤ length input.now) }
         ensures ok { IfOk result (λ x. Tells rules T.schema (T.meaning x.0) input.now (drop x.1 input.now)) }
-        ensures only { IfErr result (NoMessage rules T.schema input.now) };
+        ensures only { IfErr result (NoMessage rules T.schema input.now) }
+        ensures fresh { IfErr result (λ e. e ≡ DecodeError.AlreadyFailed → ⊥) };
 }

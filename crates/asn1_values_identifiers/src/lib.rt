@@ -5,11 +5,13 @@
 #![tactic(auto)]
 
 pub mod fault;
+pub mod groups;
 pub mod object_identifier;
 pub mod octets;
 pub mod oid;
 
 pub use fault::IdentifierError;
+pub use groups::push_groups;
 pub use object_identifier::ObjectIdentifier;
 pub use octets::{oid_from_octets, oid_octets};
 pub use oid::Oid;

@@ -2,8 +2,8 @@
 ghost use Rattle.std.specs.Prelude.{◌≡◌, ℕ, ◌<◌, ◌≤◌, ◌+◌, ◌^◌, ◌++◌, [], ◌∷◌, map, length, OnOk, IfOk, IfErr, None, Some, IsTrue, IsErrOf, flat_map, ◌↔◌, ◌⊎◌};
 ghost use Rattle.asn1_model.specs.Strings.{groups_of_seven, identifier_octets, is_identifier};
 ghost use Rattle.asn1_values_identifiers.specs.Identifiers.{is_valid, subidentifiers, in_front, joined, arcs_of};
-ghost use Rattle.asn1_values_identifiers.specs.Groups.{leading};
 
+use crate::groups::push_groups;
 use crate::{IdentifierError, ObjectIdentifier, Oid};
 use std::alloc::{AllocError, Global};
 use std::borrow::CowSlice;
@@ -13,33 +13,6 @@ const LIMIT: u64 = 1 << 32;
 
 /// The first subidentifier is below this: 40 times 2 and an arc.
 const FIRST_LIMIT: u64 = LIMIT + 80;
-
-/// Appends the octets of a number above 0 with the top bit set on all of them.
-fn push_leading(octets: &mut Vec<u8>, number: u64) -> Result<(), AllocError>
-    requires { 0 < number }
-    ensures { OnOk result (octets.new.items ≡ octets.old.items ++ leading number) }
-{
-    if number < 128 {
-        octets.push(128 + number as u8)?;
-        return Ok(());
-    }
-    push_leading(octets, number / 128)?;
-    octets.push(128 + (number % 128) as u8)?;
-    Ok(())
-}
-
-/// Appends a subidentifier (X.690 8.19.2).
-fn push_subidentifier(octets: &mut Vec<u8>, number: u64) -> Result<(), AllocError>
-    ensures { OnOk result (octets.new.items ≡ octets.old.items ++ groups_of_seven number) }
-{
-    if number < 128 {
-        octets.push(number as u8)?;
-        return Ok(());
-    }
-    push_leading(octets, number / 128)?;
-    octets.push((number % 128) as u8)?;
-    Ok(())
-}
 
 /// The subidentifier that octets begin with, and the octets behind it (X.690 8.19.2). Padding is not looked for.
 fn unpadded_subidentifier(octets: &[u8], limit: u64) -> Result<(u64, &[u8]), IdentifierError>
@@ -83,7 +56,7 @@ fn push_arcs(octets: &mut Vec<u8>, arcs: &[u32]) -> Result<(), AllocError>
     ensures { OnOk result (octets.new.items ≡ octets.old.items ++ flat_map groups_of_seven arcs.now) }
 {
     for arc in arcs {
-        push_subidentifier(octets, u64::from(*arc))?;
+        push_groups(octets, u64::from(*arc))?;
     }
     Ok(())
 }
@@ -100,7 +73,7 @@ fn contents(alloc: Global, arcs: &[u32]) -> Result<Vec<u8>, IdentifierError>
         return Err(IdentifierError::Truncated);
     }
     let mut octets = Vec::new(alloc);
-    push_subidentifier(&mut octets, u64::from(arcs[0]) * 40 + u64::from(arcs[1]))?;
+    push_groups(&mut octets, u64::from(arcs[0]) * 40 + u64::from(arcs[1]))?;
     push_arcs(&mut octets, &arcs[2..])?;
     Ok(octets)
 }

@@ -43,6 +43,9 @@ nothing_held = record { state = ([], []); failed = false }
 begins : (start : Written) (os : List ℕ) → start ≡ record { state = (os, []); failed = false } → os ≡ [] → start ≡ nothing_held
 begins start os e f = e ∙ ap (λ (l : List ℕ). let w : Written = record { state = (l, []); failed = false } in w) f
 
+pub not_failed : {start : Written} {os : List ℕ} → start ≡ record { state = (os, []); failed = false } → start.failed ≡ true → ⊥
+not_failed e h = let f : true ≡ false = sym h ∙ ap (λ (w : Written). w.failed) e in cc f
+
 -- ---- before any bound on the length
 
 -- what the encoder takes, a writer takes, and the other way round

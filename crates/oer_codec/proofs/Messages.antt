@@ -1,5 +1,5 @@
 -- Which message a decoder has found, and why none stands in front where it has not.
-use Rattle.std.proofs.Common.{◌≡◌, ℕ, ◌+◌, ◌-◌, ◌<◌, ◌≤◌, ◌^◌, false, IsTrue, List, [], ◌++◌, length, take, drop, refl, ap, sym, ◌∙◌, subst, append_assoc, arith, length-append}
+use Rattle.std.proofs.Common.{◌≡◌, ℕ, ◌+◌, ◌-◌, ◌<◌, ◌≤◌, ◌^◌, true, false, IsTrue, List, [], ◌++◌, length, take, drop, refl, ap, sym, ◌∙◌, subst, append_assoc, arith, length-append}
 use Rattle.std.proofs.lemmas.List.{length-take, take-append-drop}
 use Rattle.std.proofs.Math.Seq.{take-append-add, drop-append_seam}
 use Rattle.asn1_model.specs.Value.{Value, depth}
@@ -50,6 +50,9 @@ first input = take (2 ^ 60 - 1) input
 
 abbrev pub begun : EncodingRules → List ℕ → Held
 begun r input = record { octets = first input; scopes = []; levels = 128; most = 128; failed = false; rules = r }
+
+pub not_failed : (r : EncodingRules) (input : List ℕ) {old : Held} → old ≡ begun r input → old.failed ≡ true → ⊥
+not_failed r input e h = let f : true ≡ false = sym h ∙ ap (λ (o : Held). o.failed) e in cc f
 
 -- ---- what is found
 in_input : (text rest input : List ℕ) → text ++ rest ≡ first input → text ++ (rest ++ drop (2 ^ 60 - 1) input) ≡ input

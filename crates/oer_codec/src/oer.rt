@@ -2,6 +2,7 @@
 ghost use Rattle.std.specs.Prelude.{◌≡◌, ◌++◌, ℕ, List, OnOk, OnErr, IfOk, IfErr};
 ghost use Rattle.asn1_model.specs.Lawful.{IsLawful};
 ghost use Rattle.asn1_model.specs.Rules.{oer};
+ghost use Rattle.asn1_schema_constraints.specs.Terms.{meant};
 ghost use Rattle.asn1_schema_decode.specs.Messages.{NoMessage, Tells};
 ghost use Rattle.oer_codec.specs.Encoded.{IsEncoded, NotEncoded};
 
@@ -23,6 +24,7 @@ use std::alloc::Global;
 pub fn encode<T: Encode>(alloc: Global, value: &T) -> Result<Vec<u8>, EncodeError>
     ensures ok { IfOk result (λ octets. IsEncoded T.schema (T.meaning value.now) octets.items) }
     ensures only { IfErr result (NotEncoded T.schema (T.meaning value.now)) }
+    ensures fresh { IfErr result (λ e. e ≡ EncodeError.AlreadyFailed → ⊥) }
 {
     let octets = crate::writing::encode(alloc, value)?;
     Ok(octets)
@@ -39,8 +41,11 @@ pub fn encode_buf<T: Encode>(
     value: &T,
     buffer: &mut Vec<u8>,
 ) -> Result<(), EncodeError>
-    ensures ok { OnOk result ((octets : List ℕ) × IsEncoded T.schema (T.meaning value.now) octets × (buffer.new.items ≡ buffer.old.items ++ octets)) }
+    ensures ok { OnOk result
+        ((octets : List ℕ)
+        × IsEncoded T.schema (T.meaning value.now) octets × (buffer.new.items ≡ buffer.old.items ++ octets)) }
     ensures only { IfErr result (NotEncoded T.schema (T.meaning value.now)) }
+    ensures fresh { IfErr result (λ e. e ≡ EncodeError.AlreadyFailed → ⊥) }
     ensures same { OnErr result (buffer.new.items ≡ buffer.old.items) }
 {
     crate::writing::encode_buf(alloc, value, buffer)?;
@@ -57,8 +62,10 @@ pub fn encode_with_constraints<T: Encode>(
     constraints: Constraints,
     value: &T,
 ) -> Result<Vec<u8>, EncodeError>
-    ensures ok { IfOk result (λ octets. IsEncoded (T.under constraints.entry) (T.meaning value.now) octets.items) }
-    ensures only { IfErr result (NotEncoded (T.under constraints.entry) (T.meaning value.now)) }
+    ensures ok { IfOk result
+        (λ octets. IsEncoded (T.under (meant constraints.entry)) (T.meaning value.now) octets.items) }
+    ensures only { IfErr result (NotEncoded (T.under (meant constraints.entry)) (T.meaning value.now)) }
+    ensures fresh { IfErr result (λ e. e ≡ EncodeError.AlreadyFailed → ⊥) }
 {
     let octets = crate::writing::encode_with_constraints(alloc, constraints, value)?;
     Ok(octets)
@@ -72,6 +79,7 @@ pub fn encode_with_constraints<T: Encode>(
 pub fn decode<T: Decode>(alloc: Global, input: &[u8]) -> Result<T, DecodeError>
     ensures ok { IfOk result (λ x. (rest : List ℕ) × Tells oer T.schema (T.meaning x) input.now rest) }
     ensures only { IfErr result (NoMessage oer T.schema input.now) }
+    ensures fresh { IfErr result (λ e. e ≡ DecodeError.AlreadyFailed → ⊥) }
 {
     let value = crate::reading::decode(alloc, input, EncodingRules::Oer)?;
     Ok(value)
@@ -88,6 +96,7 @@ pub fn decode_with_remainder<'input, T: Decode>(
 ) -> Result<(T, &'input [u8]), DecodeError>
     ensures ok { IfOk result (λ x. Tells oer T.schema (T.meaning x.0) input.now x.1.now) }
     ensures only { IfErr result (NoMessage oer T.schema input.now) }
+    ensures fresh { IfErr result (λ e. e ≡ DecodeError.AlreadyFailed → ⊥) }
 {
     let (value, rest) = crate::reading::decode_with_remainder(alloc, input, EncodingRules::Oer)?;
     Ok((value, rest))
@@ -103,8 +112,12 @@ pub fn decode_with_constraints<T: Decode>(
     constraints: Constraints,
     input: &[u8],
 ) -> Result<T, DecodeError>
-    ensures ok { IfOk result (λ x. (rest : List ℕ) × Tells oer (T.under constraints.entry) (T.meaning x) input.now rest) }
-    ensures only { IfErr result (λ error. IsLawful (T.under constraints.entry 128) → NoMessage oer (T.under constraints.entry) input.now error) }
+    ensures ok { IfOk result
+        (λ x. (rest : List ℕ) × Tells oer (T.under (meant constraints.entry)) (T.meaning x) input.now rest) }
+    ensures only { IfErr result
+        (λ error. IsLawful (T.under (meant constraints.entry) 128)
+        → NoMessage oer (T.under (meant constraints.entry)) input.now error) }
+    ensures fresh { IfErr result (λ e. e ≡ DecodeError.AlreadyFailed → ⊥) }
 {
     let value = crate::reading::decode_with_constraints(
         alloc,

@@ -1,6 +1,7 @@
 //! A value is read from the front of octets.
-ghost use Rattle.std.specs.Prelude.{ℕ, List, IfOk, IfErr};
+ghost use Rattle.std.specs.Prelude.{◌≡◌, ℕ, List, IfOk, IfErr};
 ghost use Rattle.asn1_model.specs.Lawful.{IsLawful};
+ghost use Rattle.asn1_schema_constraints.specs.Terms.{meant};
 ghost use Rattle.asn1_schema_decode.specs.Messages.{Tells, NoMessage};
 ghost use Rattle.oer_codec.specs.Messages.{rules_of};
 
@@ -24,6 +25,7 @@ pub fn decode<T: Decode>(
 ) -> Result<T, DecodeError>
     ensures ok { IfOk result (λ x. (rest : List ℕ) × Tells (rules_of rules) T.schema (T.meaning x) input.now rest) }
     ensures only { IfErr result (NoMessage (rules_of rules) T.schema input.now) }
+    ensures fresh { IfErr result (λ e. e ≡ DecodeError.AlreadyFailed → ⊥) }
 {
     let (value, _rest) = decode_with_remainder(alloc, input, rules)?;
     Ok(value)
@@ -41,6 +43,7 @@ pub fn decode_with_remainder<'input, T: Decode>(
 ) -> Result<(T, &'input [u8]), DecodeError>
     ensures ok { IfOk result (λ x. Tells (rules_of rules) T.schema (T.meaning x.0) input.now x.1.now) }
     ensures only { IfErr result (NoMessage (rules_of rules) T.schema input.now) }
+    ensures fresh { IfErr result (λ e. e ≡ DecodeError.AlreadyFailed → ⊥) }
 {
     let mut decoder = Decoder::new(alloc, input, DecoderOptions { rules });
     let looked_at = decoder.remaining().len();
@@ -63,8 +66,13 @@ pub fn decode_with_constraints<T: Decode>(
     input: &[u8],
     rules: EncodingRules,
 ) -> Result<T, DecodeError>
-    ensures ok { IfOk result (λ x. (rest : List ℕ) × Tells (rules_of rules) (T.under constraints.entry) (T.meaning x) input.now rest) }
-    ensures only { IfErr result (λ error. IsLawful (T.under constraints.entry 128) → NoMessage (rules_of rules) (T.under constraints.entry) input.now error) }
+    ensures ok { IfOk result
+        (λ x. (rest : List ℕ)
+        × Tells (rules_of rules) (T.under (meant constraints.entry)) (T.meaning x) input.now rest) }
+    ensures only { IfErr result
+        (λ error. IsLawful (T.under (meant constraints.entry) 128)
+        → NoMessage (rules_of rules) (T.under (meant constraints.entry)) input.now error) }
+    ensures fresh { IfErr result (λ e. e ≡ DecodeError.AlreadyFailed → ⊥) }
 {
     let mut decoder = Decoder::new(alloc, input, DecoderOptions { rules });
     let value = T::decode_with_constraints(alloc, &mut decoder, constraints)?;

@@ -1,5 +1,6 @@
 //! A value is written.
 ghost use Rattle.std.specs.Prelude.{◌≡◌, ◌++◌, [], List, ℕ, length, OnOk, OnErr, IfOk, IfErr, MatchResult, ◌<◌, ◌≤◌, ◌^◌};
+ghost use Rattle.asn1_schema_constraints.specs.Terms.{meant};
 ghost use Rattle.oer_codec.specs.Encoded.{IsEncoded, NotEncoded};
 
 use asn1_schema_constraints::Constraints;
@@ -26,7 +27,9 @@ fn with_room(mut octets: Vec<u8>) -> Result<Vec<u8>, EncodeError>
 
 /// The octets, if they are not too many for an encoding.
 fn within_limit(octets: Vec<u8>) -> Result<Vec<u8>, EncodeError>
-    ensures { MatchResult result (λ kept. (kept.items ≡ octets.items) × (length octets.items < 2 ^ 60)) (λ e. (e ≡ EncodeError.TooLongValue) × (2 ^ 60 ≤ length octets.items)) }
+    ensures { MatchResult result
+        (λ kept. (kept.items ≡ octets.items) × (length octets.items < 2 ^ 60))
+        (λ e. (e ≡ EncodeError.TooLongValue) × (2 ^ 60 ≤ length octets.items)) }
 {
     if octets.len() >= LENGTH_LIMIT {
         return Err(EncodeError::TooLongValue);
@@ -39,6 +42,7 @@ fn within_limit(octets: Vec<u8>) -> Result<Vec<u8>, EncodeError>
 fn refusal(error: EncodeError) -> EncodeError
     ensures length { error ≡ EncodeError.TooLongValue → result ≡ EncodeError.SizeConstraintNotSatisfied }
     ensures others { ¬ (error ≡ EncodeError.TooLongValue) → result ≡ error }
+    ensures fresh { result ≡ EncodeError.AlreadyFailed → error ≡ EncodeError.AlreadyFailed }
 {
     match error {
         EncodeError::TooLongValue => EncodeError::SizeConstraintNotSatisfied,
@@ -55,6 +59,7 @@ fn refusal(error: EncodeError) -> EncodeError
 pub fn encode<T: Encode>(alloc: Global, value: &T) -> Result<Vec<u8>, EncodeError>
     ensures ok { IfOk result (λ octets. IsEncoded T.schema (T.meaning value.now) octets.items) }
     ensures only { IfErr result (NotEncoded T.schema (T.meaning value.now)) }
+    ensures fresh { IfErr result (λ e. e ≡ EncodeError.AlreadyFailed → ⊥) }
 {
     encode_into(alloc, value, Vec::new(alloc))
 }
@@ -63,6 +68,7 @@ pub fn encode<T: Encode>(alloc: Global, value: &T) -> Result<Vec<u8>, EncodeErro
 fn encode_into<T: Encode>(alloc: Global, value: &T, room: Vec<u8>) -> Result<Vec<u8>, EncodeError>
     ensures ok { IfOk result (λ octets. IsEncoded T.schema (T.meaning value.now) octets.items) }
     ensures only { IfErr result (NotEncoded T.schema (T.meaning value.now)) }
+    ensures fresh { IfErr result (λ e. e ≡ EncodeError.AlreadyFailed → ⊥) }
 {
     let mut output = with_room(room)?;
     let mut worker = Vec::new(alloc);
@@ -84,8 +90,10 @@ pub fn encode_with_constraints<T: Encode>(
     constraints: Constraints,
     value: &T,
 ) -> Result<Vec<u8>, EncodeError>
-    ensures ok { IfOk result (λ octets. IsEncoded (T.under constraints.entry) (T.meaning value.now) octets.items) }
-    ensures only { IfErr result (NotEncoded (T.under constraints.entry) (T.meaning value.now)) }
+    ensures ok { IfOk result
+        (λ octets. IsEncoded (T.under (meant constraints.entry)) (T.meaning value.now) octets.items) }
+    ensures only { IfErr result (NotEncoded (T.under (meant constraints.entry)) (T.meaning value.now)) }
+    ensures fresh { IfErr result (λ e. e ≡ EncodeError.AlreadyFailed → ⊥) }
 {
     let mut output = with_room(Vec::new(alloc))?;
     let mut worker = Vec::new(alloc);
@@ -107,8 +115,11 @@ pub fn encode_buf<T: Encode>(
     value: &T,
     buffer: &mut Vec<u8>,
 ) -> Result<(), EncodeError>
-    ensures ok { OnOk result ((octets : List ℕ) × IsEncoded T.schema (T.meaning value.now) octets × (buffer.new.items ≡ buffer.old.items ++ octets)) }
+    ensures ok { OnOk result
+        ((octets : List ℕ)
+        × IsEncoded T.schema (T.meaning value.now) octets × (buffer.new.items ≡ buffer.old.items ++ octets)) }
     ensures only { IfErr result (NotEncoded T.schema (T.meaning value.now)) }
+    ensures fresh { IfErr result (λ e. e ≡ EncodeError.AlreadyFailed → ⊥) }
     ensures same { OnErr result (buffer.new.items ≡ buffer.old.items) }
 {
     if buffer.is_empty() {

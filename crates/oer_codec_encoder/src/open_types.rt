@@ -7,7 +7,7 @@ ghost use Rattle.oer_codec_writing.specs.Writing.{Adds};
 
 use crate::frames::{Enclosing, Frames};
 use asn1_schema_faults::EncodeError;
-use oer_codec_writing::push_counted;
+use oer_codec_writing::{push_counted, short_length};
 use std::alloc::{AllocError, Global};
 
 /// Opens an open type behind the octets, with room for one octet of their number.
@@ -42,10 +42,9 @@ pub(crate) fn put_length(
     ensures { MatchResult result (λ _. Adds (written (counted (drop (start + 1) octets.old.items)) 0) (take start octets.old.items) octets.new.items) (λ e. e ≡ EncodeError.OutOfMemory) }
 {
     let length = octets.len() - start - 1;
-    if length < 0x80 {
-        put_octet(octets, start, length as u8);
-    } else {
-        put_long_length(octets, alloc, start)?;
+    match short_length(length) {
+        Some(octet) => put_octet(octets, start, octet),
+        None => put_long_length(octets, alloc, start)?,
     }
     Ok(())
 }

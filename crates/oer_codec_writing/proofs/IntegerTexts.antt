@@ -1,9 +1,7 @@
 -- The texts of whole numbers, and what their writers added.
-use Rattle.std.proofs.Common.{◌≡◌, ℕ, zero, suc, ◌+◌, ◌-◌, ◌*◌, ◌/◌, ◌%◌, ◌^◌, ◌<◌, ◌≤◌, ℤ, pos, negsuc, ◌-ℤ◌, ◌≤ℤ◌, Bool, true, false, cond, not, leb, max, ◌&&◌, ◌||◌, List, [], ◌∷◌, ◌++◌, length, map, replicate, Option, Some, None, of_z, FitsSigned, refl, ap, subst, sym, ◌∙◌, arith, inl, inr, pow-suc}
+use Rattle.std.proofs.Common.{◌≡◌, ℕ, zero, suc, ◌+◌, ◌-◌, ◌*◌, ◌^◌, ◌<◌, ◌≤◌, ℤ, pos, negsuc, ◌-ℤ◌, ◌≤ℤ◌, Bool, true, false, cond, not, leb, max, ◌&&◌, ◌||◌, List, ◌++◌, Option, Some, None, of_z, FitsSigned, refl, ap, subst, sym, ◌∙◌, arith, inl, inr, pow-suc}
 use Rattle.std.specs.Prelude.{IfSome}
 use Rattle.std.specs.Int.{w128}
-use Rattle.std.proofs.Math.Nat.{pow-le-pow_right, div-eq_of_lt}
-use Rattle.std.proofs.lemmas.List.{replicate_more}
 use Rattle.std.proofs.lemmas.Int.{ints}
 use Rattle.std.proofs.lemmas.Bool.{le-leb, leb-true, cases_lt}
 use Rattle.asn1_model.specs.Form.{written, only_if}
@@ -19,11 +17,11 @@ use Rattle.asn1_schema_constraints.specs.Widths.{has_sign, fixed_width}
 use Rattle.asn1_schema_constraints.specs.Terms.{bounds_of, held_of}
 use Rattle.asn1_schema_constraints.specs.declared.extensions.Extensible.{Extensible}
 use Rattle.asn1_schema_constraints.specs.declared.parts.Value.{Value}
-use Rattle.asn1_values_natives.specs.Octets.{plain, sign_free, is_below_zero, signed_octets_of, unsigned_octets_of}
-use Rattle.asn1_values_natives.proofs.OctetLaws.{digits-turned, length-digits}
+use Rattle.asn1_values_natives.specs.Octets.{plain, is_below_zero, signed_octets_of, unsigned_octets_of}
+use Rattle.asn1_values_natives.proofs.OctetLaws.{length-digits}
 use Rattle.asn1_values_natives.proofs.RangeLaws.{not_at_most, at_most}
-use Rattle.asn1_values_natives.proofs.TwosComplement.{plain-fits, length-complement}
-use Rattle.asn1_values_natives.proofs.Widths.{signed_octets-le, width-bits, bits-least, octet_width-octets, octets-least}
+use Rattle.asn1_values_natives.proofs.TwosComplement.{plain-fits}
+use Rattle.asn1_values_natives.proofs.Widths.{signed_octets-le, width-bits, bits-least}
 use Rattle.oer_codec_writing.specs.Writing.{Adds}
 use Rattle.oer_codec_writing.proofs.DigitTexts.{complement_digits}
 use Rattle.oer_codec_writing.proofs.ScalarTexts.{if_true, if_false}

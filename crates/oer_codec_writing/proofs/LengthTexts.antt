@@ -58,6 +58,12 @@ pub short_length : (n : ℕ) → n < 128 → written (Oer.length_form n) 0 ≡ S
 unfolding Oer.length_form
 short_length n h = in_one_octet (ltb n (2 ^ 64)) (ltb n 128) n (octet_width n) (lt-ltb _ _ (omega arith)) (lt-ltb _ _ h)
 
+pub short_added : (n : ℕ) (old new : List ℕ) → n < 128 → Adds (written (Oer.length_form n) 0) old new → new ≡ old ++ n ∷ []
+short_added n old new h a =
+    let e : Some (old ++ n ∷ []) ≡ Some new = sym (ap (option_map (λ w. old ++ w)) (short_length n h)) ∙ a in
+    let f : old ++ n ∷ [] ≡ new = cc e in
+    sym f
+
 all_of : (a b c : Bool) → a ≡ true → b ≡ true → c ≡ true → (a && b && c) ≡ true
 all_of true true true x y z = refl
 all_of false b c x y z = x

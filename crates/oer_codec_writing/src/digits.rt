@@ -1,9 +1,6 @@
 //! The low octets of numbers, and how many octets numbers have at the fewest.
 ghost use Rattle.std.specs.Prelude.{◌≡◌, ◌≤◌, ◌++◌, MatchResult};
-ghost use Rattle.asn1_model.specs.Form.{written};
 ghost use Rattle.asn1_model.specs.Numbers.{digits, least_octets, signed_octets};
-ghost use Rattle.asn1_model.specs.Oer.{counted};
-ghost use Rattle.oer_codec_writing.specs.Writing.{Adds};
 
 use asn1_schema_faults::EncodeError;
 use asn1_values_natives::Wide;
@@ -26,20 +23,6 @@ pub(crate) fn push_digits(
         8 => octets.extend_from_slice(&((number % 0x1_0000_0000_0000_0000) as u64).to_be_bytes())?,
         _ => octets.extend_from_slice(&number.to_be_bytes()[16 - count..])?,
     }
-    Ok(())
-}
-
-/// Adds the low octets of a number behind how many they are (X.696 8.6 and 10).
-pub(crate) fn push_counted_digits(
-    octets: &mut Vec<u8>,
-    number: u128,
-    count: usize,
-) -> Result<(), EncodeError>
-    requires { count ≤ 16 }
-    ensures { MatchResult result (λ _. Adds (written (counted (digits 256 count number)) 0) octets.old.items octets.new.items) (λ e. e ≡ EncodeError.OutOfMemory) }
-{
-    octets.push(count as u8)?;
-    push_digits(octets, number, count)?;
     Ok(())
 }
 

@@ -9,9 +9,9 @@ ghost use Rattle.asn1_schema_constraints.specs.Terms.{bounds_of, held_of};
 ghost use Rattle.asn1_values_natives.specs.Octets.{is_below_zero};
 ghost use Rattle.oer_codec_writing.specs.Writing.{Adds, Refuses};
 
-use crate::digits::{natural_len, push_counted_digits, push_digits, signed_len};
+use crate::digits::{natural_len, push_digits, signed_len};
 use crate::forms::form_under;
-use crate::lengths::push_counted;
+use crate::lengths::{push_counted, push_counted_digits};
 use asn1_schema_constraints::{Bounded, Constraints, Extensible, Value};
 use asn1_schema_faults::EncodeError;
 use asn1_values_integers::IntegerType;

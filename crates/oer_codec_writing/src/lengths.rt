@@ -1,11 +1,11 @@
 //! Lengths, counts, and octets behind their number (X.696 8.6 and 17).
-ghost use Rattle.std.specs.Prelude.{◌≡◌, ◌≤◌, MatchResult};
+ghost use Rattle.std.specs.Prelude.{◌≡◌, ◌<◌, IfSome, IfNone, ◌≤◌, MatchResult};
 ghost use Rattle.asn1_model.specs.Form.{written};
-ghost use Rattle.asn1_model.specs.Numbers.{octet_width as octet_width_of};
+ghost use Rattle.asn1_model.specs.Numbers.{digits, octet_width as octet_width_of};
 ghost use Rattle.asn1_model.specs.Oer.{length_form, counted, unsigned};
 ghost use Rattle.oer_codec_writing.specs.Writing.{Adds};
 
-use crate::digits::{natural_len, push_counted_digits, push_digits};
+use crate::digits::{natural_len, push_digits};
 use asn1_schema_faults::EncodeError;
 
 /// How many octets hold a number; zero needs none.
@@ -16,18 +16,50 @@ fn octet_width(number: usize) -> usize
     (64 - number.leading_zeros() as usize + 7) / 8
 }
 
+/// A length below 128 as its one octet (X.696 8.6).
+#[inline(always)]
+pub fn short_length(length: usize) -> Option<u8>
+    ensures some { IfSome result (λ octet. (octet ≡ length) × (length < 128)) }
+    ensures none { IfNone result (128 ≤ length) }
+{
+    if length < 0x80 {
+        Some(length as u8)
+    } else {
+        None
+    }
+}
+
 /// Adds a length (X.696 8.6): below 128 one octet, else the fewest behind their number.
 #[inline(always)]
 pub(crate) fn push_length(octets: &mut Vec<u8>, length: usize) -> Result<(), EncodeError>
-    ensures { MatchResult result (λ _. Adds (written (length_form length) 0) octets.old.items octets.new.items) (λ e. e ≡ EncodeError.OutOfMemory) }
+    ensures { MatchResult result
+        (λ _. Adds (written (length_form length) 0) octets.old.items octets.new.items)
+        (λ e. e ≡ EncodeError.OutOfMemory) }
 {
-    if length < 0x80 {
-        octets.push(length as u8)?;
+    if let Some(octet) = short_length(length) {
+        octets.push(octet)?;
         return Ok(());
     }
     let count = octet_width(length);
     octets.push(0x80 + count as u8)?;
     push_digits(octets, length as u128, count)?;
+    Ok(())
+}
+
+/// Adds the low octets of a number behind how many they are (X.696 8.6 and 10).
+#[inline]
+pub(crate) fn push_counted_digits(
+    octets: &mut Vec<u8>,
+    number: u128,
+    count: usize,
+) -> Result<(), EncodeError>
+    requires { count ≤ 16 }
+    ensures { MatchResult result
+        (λ _. Adds (written (counted (digits 256 count number)) 0) octets.old.items octets.new.items)
+        (λ e. e ≡ EncodeError.OutOfMemory) }
+{
+    push_length(octets, count)?;
+    push_digits(octets, number, count)?;
     Ok(())
 }
 
@@ -38,7 +70,9 @@ pub(crate) fn push_length(octets: &mut Vec<u8>, length: usize) -> Result<(), Enc
 /// `OutOfMemory`, and no other.
 #[inline(always)]
 pub fn push_counted(octets: &mut Vec<u8>, contents: &[u8]) -> Result<(), EncodeError>
-    ensures { MatchResult result (λ _. Adds (written (counted contents.now) 0) octets.old.items octets.new.items) (λ e. e ≡ EncodeError.OutOfMemory) }
+    ensures { MatchResult result
+        (λ _. Adds (written (counted contents.now) 0) octets.old.items octets.new.items)
+        (λ e. e ≡ EncodeError.OutOfMemory) }
 {
     push_length(octets, contents.len())?;
     octets.extend_from_slice(contents)?;
@@ -51,7 +85,9 @@ pub fn push_counted(octets: &mut Vec<u8>, contents: &[u8]) -> Result<(), EncodeE
 ///
 /// `OutOfMemory`, and no other.
 pub fn push_count(octets: &mut Vec<u8>, count: usize) -> Result<(), EncodeError>
-    ensures { MatchResult result (λ _. Adds (written (unsigned count) 0) octets.old.items octets.new.items) (λ e. e ≡ EncodeError.OutOfMemory) }
+    ensures { MatchResult result
+        (λ _. Adds (written (unsigned count) 0) octets.old.items octets.new.items)
+        (λ e. e ≡ EncodeError.OutOfMemory) }
 {
     let number = count as u128;
     push_counted_digits(octets, number, natural_len(number))?;

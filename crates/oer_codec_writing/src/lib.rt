@@ -19,7 +19,7 @@ pub use identifiers::push_identifier;
 pub use integers::push_integer;
 pub use item_numbers::push_item;
 pub use items::push_enumerated;
-pub use lengths::{push_count, push_counted};
+pub use lengths::{push_count, push_counted, short_length};
 pub use scalars::push_boolean;
 pub use sizes::push_octet_string;
 pub use strings::{push_characters, push_utf8};

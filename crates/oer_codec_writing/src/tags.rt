@@ -1,14 +1,12 @@
 //! Tags (X.696 8.7).
-ghost use Rattle.std.specs.Prelude.{◌≡◌, ◌<◌, ◌*◌, ◌++◌, Some, option_map, OnOk, MatchResult};
+ghost use Rattle.std.specs.Prelude.{◌≡◌, ◌*◌, ◌++◌, Some, option_map, MatchResult};
 ghost use Rattle.asn1_model.specs.Form.{written};
 ghost use Rattle.asn1_model.specs.Oer.{tag_form};
-ghost use Rattle.asn1_model.specs.Strings.{groups_of_seven};
 ghost use Rattle.asn1_schema_tags.specs.Tags.{class_number, tag_of};
-ghost use Rattle.asn1_values_identifiers.specs.Groups.{leading};
 
 use asn1_schema_faults::EncodeError;
 use asn1_schema_tags::{Class, Tag};
-use std::alloc::AllocError;
+use asn1_values_identifiers::push_groups;
 
 /// The number that a tag in the long form has in place of its own in the first octet.
 const LONG: u8 = 63;
@@ -25,33 +23,6 @@ fn class_bits(class: Class) -> u8
     }
 }
 
-/// Adds the groups of seven bits of a number above 0, each with the top bit set.
-fn push_leading(octets: &mut Vec<u8>, number: u32) -> Result<(), AllocError>
-    requires { 0 < number }
-    ensures { OnOk result (octets.new.items ≡ octets.old.items ++ leading number) }
-{
-    if number < 128 {
-        octets.push(128 + number as u8)?;
-        return Ok(());
-    }
-    push_leading(octets, number / 128)?;
-    octets.push(128 + (number % 128) as u8)?;
-    Ok(())
-}
-
-/// Adds a number in groups of seven bits, the top bit set on all but the last.
-fn push_groups(octets: &mut Vec<u8>, number: u32) -> Result<(), AllocError>
-    ensures { OnOk result (octets.new.items ≡ octets.old.items ++ groups_of_seven number) }
-{
-    if number < 128 {
-        octets.push(number as u8)?;
-        return Ok(());
-    }
-    push_leading(octets, number / 128)?;
-    octets.push((number % 128) as u8)?;
-    Ok(())
-}
-
 /// Adds a tag (X.696 8.7): two bits of class, and a number below 63 in six bits, else six one bits and the number in
 /// groups of seven bits.
 ///
@@ -59,13 +30,15 @@ fn push_groups(octets: &mut Vec<u8>, number: u32) -> Result<(), AllocError>
 ///
 /// `OutOfMemory`, and no other.
 pub fn push_tag(octets: &mut Vec<u8>, tag: Tag) -> Result<(), EncodeError>
-    ensures { MatchResult result (λ _. option_map (λ w. octets.old.items ++ w) (written (tag_form (tag_of tag)) 0) ≡ Some octets.new.items) (λ e. e ≡ EncodeError.OutOfMemory) }
+    ensures { MatchResult result
+        (λ _. option_map (λ w. octets.old.items ++ w) (written (tag_form (tag_of tag)) 0) ≡ Some octets.new.items)
+        (λ e. e ≡ EncodeError.OutOfMemory) }
 {
     if tag.value < u32::from(LONG) {
         octets.push(class_bits(tag.class) + tag.value as u8)?;
         return Ok(());
     }
     octets.push(class_bits(tag.class) + LONG)?;
-    push_groups(octets, tag.value)?;
+    push_groups(octets, u64::from(tag.value))?;
     Ok(())
 }

@@ -4,6 +4,7 @@ use Rattle.asn1_schema_presented.specs.Records.{Record}
 use Rattle.asn1_schema_presented.specs.Chains.{Chain}
 use Rattle.asn1_schema_presented.specs.Levels.{Level}
 use Rattle.per_codec_reading.specs.Fronts.{freedoms, is_aligned}
+use Rattle.per_codec_reading.specs.Runs.{Storage}
 use Rattle.per_codec_fronts.specs.Takes.{State, Takes}
 use Rattle.per_codec_decoder.specs.Held.{Held, Finds, kept, state_of}
 
@@ -19,21 +20,21 @@ levels_taken (r ∷ rs) a b c =
     let p = c.1 in
     (c.0.levels, p.levels, subst (λ x. Chain (Level x) rs c.0.levels b.levels) p.most (levels_taken rs c.0 b c.2))
 
--- a decoder in this state, with so many levels left, whether its input is known to lend the bits
-abbrev pub held_at : Held → State → ℕ → Bool → Held
-held_at a s l m = record { place = s.0; scopes = s.1; levels = l; most = a.most; failed = false; variant = a.variant; lends = m }
+-- a decoder in this state, with so many levels left, whose bits stand so
+abbrev pub held_at : Held → State → ℕ → List Storage → Held
+held_at a s l m = record { place = s.0; scopes = s.1; levels = l; most = a.most; failed = false; variant = a.variant; stands = m }
 
-nothing_taken : (a : Held) (s : State) (l : ℕ) → a.failed ≡ false → s ≡ state_of a → l ≡ a.levels → held_at a s l a.lends ≡ a
+nothing_taken : (a : Held) (s : State) (l : ℕ) → a.failed ≡ false → s ≡ state_of a → l ≡ a.levels → held_at a s l a.stands ≡ a
 nothing_taken a s l h e f =
-    ap (λ (t : State). held_at a t l a.lends) e
-    ∙ (ap (λ (t : ℕ). held_at a (state_of a) t a.lends) f
-    ∙ ap (λ (t : Bool). let x : Held = record { place = a.place; scopes = a.scopes; levels = a.levels; most = a.most; failed = t; variant = a.variant; lends = a.lends } in x) (sym h))
+    ap (λ (t : State). held_at a t l a.stands) e
+    ∙ (ap (λ (t : ℕ). held_at a (state_of a) t a.stands) f
+    ∙ ap (λ (t : Bool). let x : Held = record { place = a.place; scopes = a.scopes; levels = a.levels; most = a.most; failed = t; variant = a.variant; stands = a.stands } in x) (sym h))
 
-pub both_found : (rs : List Record) (a : Held) (s : State) (l : ℕ) → a.failed ≡ false → Chain (Takes (is_aligned a.variant) (freedoms a.variant)) rs (state_of a) s → Chain (Level a.most) rs a.levels l → (m : Bool) × Chain Finds rs a (held_at a s l m)
-both_found [] a s l h c d = (a.lends, nothing_taken a s l h c d)
+pub both_found : (rs : List Record) (a : Held) (s : State) (l : ℕ) → a.failed ≡ false → Chain (Takes (is_aligned a.variant) (freedoms a.variant)) rs (state_of a) s → Chain (Level a.most) rs a.levels l → (m : List Storage) × Chain Finds rs a (held_at a s l m)
+both_found [] a s l h c d = (a.stands, nothing_taken a s l h c d)
 both_found (r ∷ rs) a s l h c d =
-    let next : Held = held_at a c.0 d.0 (kept a r) in
-    let p : Finds a r next = record { ready = h; taken = c.1; levels = d.1; most = refl; ready_still = refl; variant = refl; lends = refl } in
+    let next : Held = held_at a c.0 d.0 (kept a r c.0.0 c.0.1) in
+    let p : Finds a r next = record { ready = h; taken = c.1; levels = d.1; most = refl; ready_still = refl; variant = refl; stands = refl } in
     let q = both_found rs next s l refl c.2 d.2 in
     (q.0, (next, p, q.1))
 

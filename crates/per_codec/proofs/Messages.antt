@@ -1,5 +1,5 @@
 -- Which message a decoder has found, and why none stands in front where it has not.
-use Rattle.std.proofs.Common.{◌≡◌, ℕ, ◌+◌, ◌-◌, ◌*◌, ◌/◌, ◌<◌, ◌≤◌, ◌^◌, Bool, true, false, IsTrue, List, [], ◌++◌, length, take, drop, refl, ap, sym, ◌∙◌, subst, append_assoc, arith, length-append}
+use Rattle.std.proofs.Common.{◌≡◌, ℕ, ◌+◌, ◌-◌, ◌*◌, ◌/◌, ◌<◌, ◌≤◌, ◌^◌, Bool, true, false, IsTrue, Some, List, [], ◌∷◌, ◌++◌, length, take, drop, refl, ap, sym, ◌∙◌, subst, append_assoc, arith, length-append}
 use Rattle.std.proofs.lemmas.List.{length-take, take-append-drop}
 use Rattle.std.proofs.Math.Seq.{take-append-add, take-append_seam, drop-append_seam}
 use Rattle.asn1_model.specs.Value.{Value, depth}
@@ -26,6 +26,7 @@ use Rattle.per_codec_fronts.specs.Takes.{Place, Front, completion}
 use Rattle.per_codec_fronts.proofs.Opened.{filled_in, filled_out}
 use Rattle.per_codec_fronts.proofs.Whole.{records_read, forms_show}
 use Rattle.per_codec_reading.specs.Fronts.{freedoms, is_aligned}
+use Rattle.per_codec_reading.specs.Runs.{Storage}
 use Rattle.per_codec_reading.specs.declared.variant.Variant.{Variant}
 use Rattle.per_codec_reading.specs.declared.variant.Variant.TheVariants.{Unaligned, Aligned}
 use Rattle.per_codec.specs.Messages.{rules_of}
@@ -55,7 +56,7 @@ abbrev pub first : List ℕ → List ℕ
 first input = take (2 ^ 60 - 1) input
 
 abbrev pub begun : Variant → List ℕ → Held
-begun r input = record { place = (0, octet_bits (first input)); scopes = []; levels = 128; most = 128; failed = false; variant = r; lends = true }
+begun r input = record { place = (0, octet_bits (first input)); scopes = []; levels = 128; most = 128; failed = false; variant = r; stands = Some 0 ∷ [] }
 
 -- ---- what is found
 -- so many octets of those that are looked at, and the input's others behind them
@@ -156,9 +157,9 @@ module _ (r : Variant) (schema : ℕ → Schema) (input : List ℕ) (lawful : Is
     value : Value
     left : Place
     after : Place
-    lends : Bool
+    stands : List Storage
     fits : Fits (schema 128) value
-    chain : Chain Finds (presents (schema 128) value) (begun r input) (held_at (begun r input) (left, []) 128 lends)
+    chain : Chain Finds (presents (schema 128) value) (begun r input) (held_at (begun r input) (left, []) 128 stands)
     filled : Front (freedoms r) (completion left.0) left after
 
   found_again : (v : Value) (rest : List ℕ) → HasMessage (rules_of r) (schema 128) v input rest → Again
@@ -185,20 +186,20 @@ module _ (r : Variant) (schema : ℕ → Schema) (input : List ℕ) (lawful : Is
         value = w.0;
         left = (length bits, z.0 ++ others);
         after = (length bits + length z.0, others);
-        lends = chain.0;
+        stands = chain.0;
         fits = fits;
         chain = chain.1;
         filled = g;
       }
 
   pub none_told : (e : DecodeError) → Unread Finds schema 128 (begun r input) e → NoMessage (rules_of r) schema input e
-  none_told e u = record { none = λ n v rest m. let f = found_again v rest m in u.none n f.value (held_at (begun r input) (f.left, []) 128 f.lends) f.fits f.chain }
+  none_told e u = record { none = λ n v rest m. let f = found_again v rest m in u.none n f.value (held_at (begun r input) (f.left, []) 128 f.stands) f.fits f.chain }
 
   pub none_finished : (e : DecodeError) (x : Value) (new : Held) → ReadsValue Finds schema 128 x (begun r input) new → ((b : Place) → Front (freedoms r) (completion new.place.0) new.place b → ⊥) → NoMessage (rules_of r) schema input e
   none_finished e x new t none = record {
     none = λ n v rest m.
         let f = found_again v rest m in
-        let k = one_value finds_one (schema 128) t.raw f.value (begun r input) new (held_at (begun r input) (f.left, []) 128 f.lends) t.fits f.fits t.chain f.chain in
+        let k = one_value finds_one (schema 128) t.raw f.value (begun r input) new (held_at (begun r input) (f.left, []) 128 f.stands) t.fits f.fits t.chain f.chain in
         none f.after (subst (λ (h : Held). Front (freedoms r) (completion h.place.0) h.place f.after) (sym k.1) f.filled);
   }
 
@@ -211,3 +212,14 @@ none_finished_from r schema input x old new e lawful q t none =
     let k : new.variant ≡ r = variant_still (presents (schema 128) u.raw) (begun r input) new u.chain in
     let i : IsReady new = ready_still (presents (schema 128) u.raw) (begun r input) new refl u.chain in
     none_finished r schema input lawful e x new u (λ b f. none i b (subst (λ (y : Variant). Front (freedoms y) (completion new.place.0) new.place b) (sym k) f))
+
+-- ---- what has not failed
+pub not_failed : (r : Variant) (schema : ℕ → Schema) (input : List ℕ) (x : Value) (old new : Held) → old ≡ begun r input → ReadsValue Finds schema old.levels x old new → new.failed ≡ true → ⊥
+not_failed r schema input x old new q t h =
+    let u : ReadsValue Finds schema 128 x (begun r input) new = subst (λ (h : Held). ReadsValue Finds schema h.levels x h new) q t in
+    let i : new.failed ≡ false = ready_still (presents (schema 128) u.raw) (begun r input) new refl u.chain in
+    let e : true ≡ false = sym h ∙ i in
+    cc
+
+pub begun_ready : (r : Variant) (input : List ℕ) (old : Held) → old ≡ begun r input → old.failed ≡ true → ⊥
+begun_ready r input old q h = let e : true ≡ false = sym h ∙ ap (λ (x : Held). x.failed) q in cc

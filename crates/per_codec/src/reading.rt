@@ -1,6 +1,7 @@
 //! A value is read from the front of octets.
-ghost use Rattle.std.specs.Prelude.{ℕ, List, IfOk, IfErr};
+ghost use Rattle.std.specs.Prelude.{◌≡◌, ℕ, List, IfOk, IfErr};
 ghost use Rattle.asn1_model.specs.Lawful.{IsLawful};
+ghost use Rattle.asn1_schema_constraints.specs.Terms.{meant};
 ghost use Rattle.asn1_schema_decode.specs.Messages.{Tells, NoMessage};
 ghost use Rattle.per_codec.specs.Messages.{rules_of};
 
@@ -20,6 +21,7 @@ use std::alloc::Global;
 pub fn decode<T: Decode>(alloc: Global, input: &[u8], variant: Variant) -> Result<T, DecodeError>
     ensures ok { IfOk result (λ x. (rest : List ℕ) × Tells (rules_of variant) T.schema (T.meaning x) input.now rest) }
     ensures only { IfErr result (NoMessage (rules_of variant) T.schema input.now) }
+    ensures fresh { IfErr result (λ e. e ≡ DecodeError.AlreadyFailed → ⊥) }
 {
     let (value, _rest) = decode_with_remainder(alloc, input, variant)?;
     Ok(value)
@@ -38,6 +40,7 @@ pub fn decode_with_remainder<'input, T: Decode>(
 ) -> Result<(T, &'input [u8]), DecodeError>
     ensures ok { IfOk result (λ x. Tells (rules_of variant) T.schema (T.meaning x.0) input.now x.1.now) }
     ensures only { IfErr result (NoMessage (rules_of variant) T.schema input.now) }
+    ensures fresh { IfErr result (λ e. e ≡ DecodeError.AlreadyFailed → ⊥) }
 {
     let mut decoder = Decoder::new(alloc, input, DecoderOptions { variant });
     let looked_at = decoder.input().len();
@@ -61,8 +64,13 @@ pub fn decode_with_constraints<T: Decode>(
     input: &[u8],
     variant: Variant,
 ) -> Result<T, DecodeError>
-    ensures ok { IfOk result (λ x. (rest : List ℕ) × Tells (rules_of variant) (T.under constraints.entry) (T.meaning x) input.now rest) }
-    ensures only { IfErr result (λ error. IsLawful (T.under constraints.entry 128) → NoMessage (rules_of variant) (T.under constraints.entry) input.now error) }
+    ensures ok { IfOk result
+        (λ x. (rest : List ℕ)
+        × Tells (rules_of variant) (T.under (meant constraints.entry)) (T.meaning x) input.now rest) }
+    ensures only { IfErr result
+        (λ error. IsLawful (T.under (meant constraints.entry) 128)
+        → NoMessage (rules_of variant) (T.under (meant constraints.entry)) input.now error) }
+    ensures fresh { IfErr result (λ e. e ≡ DecodeError.AlreadyFailed → ⊥) }
 {
     let mut decoder = Decoder::new(alloc, input, DecoderOptions { variant });
     let value = T::decode_with_constraints(alloc, &mut decoder, constraints)?;

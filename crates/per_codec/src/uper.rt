@@ -2,6 +2,7 @@
 ghost use Rattle.std.specs.Prelude.{◌≡◌, [], ℕ, List, OnOk, OnErr, IfOk, IfErr, false};
 ghost use Rattle.asn1_model.specs.Lawful.{IsLawful};
 ghost use Rattle.asn1_model.specs.Rules.{uper};
+ghost use Rattle.asn1_schema_constraints.specs.Terms.{meant};
 ghost use Rattle.asn1_schema_decode.specs.Messages.{NoMessage, Tells};
 ghost use Rattle.per_codec.specs.Encoded.{IsEncoded, NotEncoded};
 
@@ -23,6 +24,7 @@ use std::alloc::Global;
 pub fn encode<T: Encode>(alloc: Global, value: &T) -> Result<Vec<u8>, EncodeError>
     ensures ok { IfOk result (λ octets. IsEncoded false T.schema (T.meaning value.now) octets.items) }
     ensures only { IfErr result (NotEncoded false T.schema (T.meaning value.now)) }
+    ensures fresh { IfErr result (λ e. e ≡ EncodeError.AlreadyFailed → ⊥) }
 {
     let octets = crate::writing::encode(alloc, EncoderOptions::unaligned(), value)?;
     Ok(octets)
@@ -40,6 +42,7 @@ pub fn encode_buf<T: Encode>(
 ) -> Result<(), EncodeError>
     ensures ok { OnOk result (IsEncoded false T.schema (T.meaning value.now) buffer.new.items) }
     ensures only { IfErr result (NotEncoded false T.schema (T.meaning value.now)) }
+    ensures fresh { IfErr result (λ e. e ≡ EncodeError.AlreadyFailed → ⊥) }
     ensures empty { OnErr result (buffer.new.items ≡ []) }
 {
     crate::writing::encode_buf(alloc, EncoderOptions::unaligned(), value, buffer)?;
@@ -56,8 +59,10 @@ pub fn encode_with_constraints<T: Encode>(
     constraints: Constraints,
     value: &T,
 ) -> Result<Vec<u8>, EncodeError>
-    ensures ok { IfOk result (λ octets. IsEncoded false (T.under constraints.entry) (T.meaning value.now) octets.items) }
-    ensures only { IfErr result (NotEncoded false (T.under constraints.entry) (T.meaning value.now)) }
+    ensures ok { IfOk result
+        (λ octets. IsEncoded false (T.under (meant constraints.entry)) (T.meaning value.now) octets.items) }
+    ensures only { IfErr result (NotEncoded false (T.under (meant constraints.entry)) (T.meaning value.now)) }
+    ensures fresh { IfErr result (λ e. e ≡ EncodeError.AlreadyFailed → ⊥) }
 {
     let options = EncoderOptions::unaligned();
     let octets = crate::writing::encode_with_constraints(alloc, options, constraints, value)?;
@@ -72,6 +77,7 @@ pub fn encode_with_constraints<T: Encode>(
 pub fn decode<T: Decode>(alloc: Global, input: &[u8]) -> Result<T, DecodeError>
     ensures ok { IfOk result (λ x. (rest : List ℕ) × Tells uper T.schema (T.meaning x) input.now rest) }
     ensures only { IfErr result (NoMessage uper T.schema input.now) }
+    ensures fresh { IfErr result (λ e. e ≡ DecodeError.AlreadyFailed → ⊥) }
 {
     let value = crate::reading::decode(alloc, input, Variant::Unaligned)?;
     Ok(value)
@@ -88,6 +94,7 @@ pub fn decode_with_remainder<'input, T: Decode>(
 ) -> Result<(T, &'input [u8]), DecodeError>
     ensures ok { IfOk result (λ x. Tells uper T.schema (T.meaning x.0) input.now x.1.now) }
     ensures only { IfErr result (NoMessage uper T.schema input.now) }
+    ensures fresh { IfErr result (λ e. e ≡ DecodeError.AlreadyFailed → ⊥) }
 {
     let (value, rest) = crate::reading::decode_with_remainder(alloc, input, Variant::Unaligned)?;
     Ok((value, rest))
@@ -103,8 +110,12 @@ pub fn decode_with_constraints<T: Decode>(
     constraints: Constraints,
     input: &[u8],
 ) -> Result<T, DecodeError>
-    ensures ok { IfOk result (λ x. (rest : List ℕ) × Tells uper (T.under constraints.entry) (T.meaning x) input.now rest) }
-    ensures only { IfErr result (λ error. IsLawful (T.under constraints.entry 128) → NoMessage uper (T.under constraints.entry) input.now error) }
+    ensures ok { IfOk result
+        (λ x. (rest : List ℕ) × Tells uper (T.under (meant constraints.entry)) (T.meaning x) input.now rest) }
+    ensures only { IfErr result
+        (λ error. IsLawful (T.under (meant constraints.entry) 128)
+        → NoMessage uper (T.under (meant constraints.entry)) input.now error) }
+    ensures fresh { IfErr result (λ e. e ≡ DecodeError.AlreadyFailed → ⊥) }
 {
     let value = crate::reading::decode_with_constraints(
         alloc,

@@ -1,6 +1,7 @@
 //! A value is written.
 ghost use Rattle.std.specs.Prelude.{◌≡◌, [], length, OnOk, OnErr, IfOk, IfErr, MatchResult, ◌<◌, ◌≤◌, ◌^◌};
 ghost use Rattle.per_codec_encoder.specs.Stepping.{is_aligned};
+ghost use Rattle.asn1_schema_constraints.specs.Terms.{meant};
 ghost use Rattle.per_codec.specs.Encoded.{IsEncoded, NotEncoded};
 
 use asn1_schema_constraints::Constraints;
@@ -26,7 +27,9 @@ fn with_room(alloc: Global) -> Result<Vec<u8>, EncodeError>
 
 /// The octets, if they are not too many for an encoding.
 fn within_limit(octets: Vec<u8>) -> Result<Vec<u8>, EncodeError>
-    ensures { MatchResult result (λ kept. (kept.items ≡ octets.items) × (length octets.items < 2 ^ 60)) (λ e. (e ≡ EncodeError.TooLongValue) × (2 ^ 60 ≤ length octets.items)) }
+    ensures { MatchResult result
+        (λ kept. (kept.items ≡ octets.items) × (length octets.items < 2 ^ 60))
+        (λ e. (e ≡ EncodeError.TooLongValue) × (2 ^ 60 ≤ length octets.items)) }
 {
     if octets.len() >= LENGTH_LIMIT {
         return Err(EncodeError::TooLongValue);
@@ -39,6 +42,7 @@ fn within_limit(octets: Vec<u8>) -> Result<Vec<u8>, EncodeError>
 fn refusal(error: EncodeError) -> EncodeError
     ensures length { error ≡ EncodeError.TooLongValue → result ≡ EncodeError.SizeConstraintNotSatisfied }
     ensures others { ¬ (error ≡ EncodeError.TooLongValue) → result ≡ error }
+    ensures fresh { ¬ (error ≡ EncodeError.AlreadyFailed) → ¬ (result ≡ EncodeError.AlreadyFailed) }
 {
     match error {
         EncodeError::TooLongValue => EncodeError::SizeConstraintNotSatisfied,
@@ -59,6 +63,7 @@ pub fn encode<T: Encode>(
 ) -> Result<Vec<u8>, EncodeError>
     ensures ok { IfOk result (λ octets. IsEncoded (is_aligned options) T.schema (T.meaning value.now) octets.items) }
     ensures only { IfErr result (NotEncoded (is_aligned options) T.schema (T.meaning value.now)) }
+    ensures fresh { IfErr result (λ e. e ≡ EncodeError.AlreadyFailed → ⊥) }
 {
     let room = with_room(alloc)?;
     encode_into(alloc, options, value, room)
@@ -73,6 +78,7 @@ fn encode_into<T: Encode>(
 ) -> Result<Vec<u8>, EncodeError>
     ensures ok { IfOk result (λ octets. IsEncoded (is_aligned options) T.schema (T.meaning value.now) octets.items) }
     ensures only { IfErr result (NotEncoded (is_aligned options) T.schema (T.meaning value.now)) }
+    ensures fresh { IfErr result (λ e. e ≡ EncodeError.AlreadyFailed → ⊥) }
 {
     let mut encoder = Encoder::new_with_output(alloc, options, room);
     match value.encode(&mut encoder) {
@@ -95,8 +101,12 @@ pub fn encode_with_constraints<T: Encode>(
     constraints: Constraints,
     value: &T,
 ) -> Result<Vec<u8>, EncodeError>
-    ensures ok { IfOk result (λ octets. IsEncoded (is_aligned options) (T.under constraints.entry) (T.meaning value.now) octets.items) }
-    ensures only { IfErr result (NotEncoded (is_aligned options) (T.under constraints.entry) (T.meaning value.now)) }
+    ensures ok { IfOk result
+        (λ octets. IsEncoded (is_aligned options) (T.under (meant constraints.entry))
+        (T.meaning value.now) octets.items) }
+    ensures only { IfErr result
+        (NotEncoded (is_aligned options) (T.under (meant constraints.entry)) (T.meaning value.now)) }
+    ensures fresh { IfErr result (λ e. e ≡ EncodeError.AlreadyFailed → ⊥) }
 {
     let room = with_room(alloc)?;
     let mut encoder = Encoder::new_with_output(alloc, options, room);
@@ -122,6 +132,7 @@ pub fn encode_buf<T: Encode>(
 ) -> Result<(), EncodeError>
     ensures ok { OnOk result (IsEncoded (is_aligned options) T.schema (T.meaning value.now) buffer.new.items) }
     ensures only { IfErr result (NotEncoded (is_aligned options) T.schema (T.meaning value.now)) }
+    ensures fresh { IfErr result (λ e. e ≡ EncodeError.AlreadyFailed → ⊥) }
     ensures none { OnErr result (buffer.new.items ≡ []) }
 {
     let room = mem::replace(buffer, Vec::new(alloc));

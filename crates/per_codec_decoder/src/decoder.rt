@@ -332,6 +332,8 @@ impl<'input> asn1_schema_decode::Decoder for Decoder<'input> {
 
     ghost levels = { λ d. d.levels };
 
+    ghost lends = { Lends };
+
     ghost rules = { λ d. kind_of d.variant };
 
     fn codec(&self) -> CodecKind {
@@ -620,6 +622,8 @@ impl<'input> asn1_schema_decode::Decoder for Decoder<'input> {
     ghost list_held = { finds_held };
 
     ghost bag_held = { finds_bag_held };
+
+    ghost goes_on = { finds_on };
 
     ghost none_after = { finds_none };
 

@@ -66,7 +66,7 @@ cannot_begin_bag al fs o z h n e x = go e x
     go AlphabetConstraintNotSatisfied x = none x
     go TooLongValue x = none x
     go LengthExceedsPlatformSize x = none x
-    go AlreadyFailed x = none x
+    go AlreadyFailed x = x
 
 -- ---- a further member
 
@@ -95,7 +95,7 @@ module _ (al : Bool) (fs rest : List Frame) (f : Frame) (boxed : Box BagFrame Gl
       go AlphabetConstraintNotSatisfied x = none x
       go TooLongValue x = none x
       go LengthExceedsPlatformSize x = none x
-      go AlreadyFailed x = none x
+      go AlreadyFailed x = x
 
   -- ---- a bag ends
 
@@ -129,7 +129,7 @@ module _ (al : Bool) (fs rest : List Frame) (f : Frame) (boxed : Box BagFrame Gl
       go AlphabetConstraintNotSatisfied r = none r
       go TooLongValue r = none r
       go LengthExceedsPlatformSize r = none r
-      go AlreadyFailed r = none r
+      go AlreadyFailed r = r
 
   -- the same by the bag that was in the box
   module _ (bag : BagFrame) (v : bag ≡ boxed.value) (n : bag.due ≡ 0) where

@@ -66,4 +66,4 @@ module _ (al : Bool) (fs : List Frame) (o p : Packed) (n : ℕ) (e added : Bool)
       go AlphabetConstraintNotSatisfied r = none r
       go TooLongValue r = none r
       go LengthExceedsPlatformSize r = none r
-      go AlreadyFailed r = none r
+      go AlreadyFailed r = r

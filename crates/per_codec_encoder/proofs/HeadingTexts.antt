@@ -105,7 +105,7 @@ refused_so t u f SizeConstraintNotSatisfied h = f h
 refused_so t u f AlphabetConstraintNotSatisfied h = f h
 refused_so t u f TooLongValue h = f h
 refused_so t u f LengthExceedsPlatformSize h = f h
-refused_so t u f AlreadyFailed h = f h
+refused_so t u f AlreadyFailed h = h
 
 pub narrow_none : (al : Bool) (c : Counts) (o : Option ℕ) (n h low : ℕ) (old : Packed) → h ≡ unwrap_or o (2 ^ 64 - 1) → h < 65536 → low ≡ c.low → (e : EncodeError) → Refuses (text_at (Per.constrained al (h - low) (n - low)) (place old)) e → NoHeading (sized_count al c o n (place old)) e
 narrow_none al c o n h low old a b l e x = refused_so _ _ (λ q. narrow_count al c o n h (place old) a b ∙ ap (option_map (λ w. before_all n w)) q) e (subst (λ j. Refuses (text_at (Per.constrained al (h - j) (n - j)) (place old)) e) l x)

@@ -146,7 +146,7 @@ cannot_begin al fs o z h n e x = go e x
     go AlphabetConstraintNotSatisfied x = none x
     go TooLongValue x = none x
     go LengthExceedsPlatformSize x = none x
-    go AlreadyFailed x = none x
+    go AlreadyFailed x = x
 
 agree_true : (x : Bool) → not (beq true x) ≡ false → x ≡ true
 agree_true true h = refl
@@ -224,7 +224,7 @@ module _ (al : Bool) (f : Frame) (d : Due) (o : Packed) (b : f ≡ Members d) (r
       go AlphabetConstraintNotSatisfied x = none x
       go TooLongValue x = none x
       go LengthExceedsPlatformSize x = none x
-      go AlreadyFailed x = none x
+      go AlreadyFailed x = x
 
 pub member_asked : (al : Bool) (f : Frame) (d : Due) (o : Packed) (b : f ≡ Members d) (g : Frame) (p : Packed) (next : Due) (more : Bool) (r : Result (Unit {0}) EncodeError) → g ≡ Members next → MatchResult r (λ _. GoesOnInList al more d o next p) (NoMember al more d o) → MatchResult r (λ _. (fs : List Frame) → Does al (further more) (fs ++ f ∷ []) o (fs ++ g ∷ []) p) (λ e. (fs : List Frame) → Cannot al (further more) (fs ++ f ∷ []) o e)
 member_asked al f d o b g p next more (Ok x) c m = λ fs. does_further al f d o b fs g p next more c m

@@ -1,5 +1,6 @@
 -- What the encoder's calls did, by what they did to the bits and the frames.
 use Rattle.std.proofs.Common.{◌≡◌, ℕ, Bool, true, false, List, [], ◌++◌, reverse, Some, None, option_map, option_and_then, Result, Ok, Err, Vec, Global, IfOk, MatchResult, refl, ap, subst, sym, ◌∙◌}
+use Rattle.std.specs.Prelude.{IsErrAnd}
 use Rattle.std.proofs.lemmas.List.{append-nil}
 use Rattle.asn1_model.specs.Form.{written}
 use Rattle.asn1_model.specs.Numbers.{packed}
@@ -56,7 +57,12 @@ is_refused al r fs o f w e q h c = subst (λ (v : Written). Refused Puts r v e) 
     go AlphabetConstraintNotSatisfied c = no_step r _ _ (c (now fs o) h)
     go TooLongValue c = no_step r _ _ (c (now fs o) h)
     go LengthExceedsPlatformSize c = no_step r _ _ (c (now fs o) h)
-    go AlreadyFailed c = no_step r _ _ (c (now fs o) h)
+    go AlreadyFailed c = absurd c
+
+-- what is refused so is not what an earlier refusal answers
+pub never_after : {Q : Type 0} (al : Bool) (r : Record) (fs : List Frame) (o : Packed) (x : EncodeError) (q : Result (Unit {0}) EncodeError) → IsErrAnd q (λ y. y ≡ x) → Cannot al r fs o x → q ≡ Err AlreadyFailed → Q
+never_after al r fs o x (Ok v) h c e = cc
+never_after al r fs o x (Err y) h c e = let k : y ≡ AlreadyFailed = cc in absurd (subst (Cannot al r fs o) (sym h ∙ k) c)
 
 pub puts : (al : Bool) (r : Record) (fs gs : List Frame) (o p : Packed) (f : Bool) (w : Written) → made fs o al f ≡ w → f ≡ false → Sound fs o → Does al r fs o gs p → Puts w r (made gs p al false)
 puts al r fs gs o p f w e g h d = subst (λ (v : Written). Puts v r (made gs p al false)) e (g, refl, refl, takes_step al r fs gs o p h d)
@@ -82,7 +88,7 @@ refuses_none al r x fs o e q h = by_error e h
     by_error AlphabetConstraintNotSatisfied h = none h
     by_error TooLongValue h = none h
     by_error LengthExceedsPlatformSize h = none h
-    by_error AlreadyFailed h = none h
+    by_error AlreadyFailed h = h
 
 pub adds_sound : (al : Bool) (r : Record) (x : Per.BitForm) (fs : List Frame) (o p : Packed) → ((s : State) → run al r s ≡ adds_form x s) → Sound fs o → Adds (text_at x (place o)) o p → Sound fs p
 adds_sound al r x fs o p e h a = stays_sound al r fs fs o p h (does_add al r x fs o p e a)

@@ -5,7 +5,7 @@ use Rattle.asn1_model.specs.Schema.{Size}
 use Rattle.asn1_schema_constraints.specs.Bounds.{counts_of, members_of}
 use Rattle.asn1_schema_constraints.specs.declared.bounds.Bounded.{Bounded}
 use Rattle.asn1_schema_faults.specs.declared.EncodeError.{EncodeError}
-use Rattle.asn1_schema_faults.specs.declared.EncodeError.TheVariants.{OutOfMemory}
+use Rattle.asn1_schema_faults.specs.declared.EncodeError.TheVariants.{OutOfMemory, AlreadyFailed}
 use Rattle.per_codec_packing.specs.Texts.{Text, as_form}
 use Rattle.per_codec_packing.specs.Packed.{Packed}
 use Rattle.per_codec_encoder.specs.Steps.{Scope, bag_members, counted_in}
@@ -36,4 +36,5 @@ pub record GoesOnInBag (more : Bool) (b : Bag) (o : Packed) (next : Bag) (p : Pa
 -- Why nothing comes next: memory was refused, or there is no step.
 abbrev pub NoFurther : Bool → Bag → Packed → EncodeError → Type 0
 NoFurther more b o OutOfMemory = Unit {0}
+NoFurther more b o AlreadyFailed = ⊥
 NoFurther more b o e = (front : Text) (k : List Scope) → further_in more b o.text front k ≡ None

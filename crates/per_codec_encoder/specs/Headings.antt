@@ -2,7 +2,7 @@
 use Rattle.std.specs.Prelude.{◌≡◌, ℕ, Bool, List, ◌∷◌, ◌++◌, Option, Some, None}
 use Rattle.asn1_model.specs.Per.{largest_first}
 use Rattle.asn1_schema_faults.specs.declared.EncodeError.{EncodeError}
-use Rattle.asn1_schema_faults.specs.declared.EncodeError.TheVariants.{OutOfMemory}
+use Rattle.asn1_schema_faults.specs.declared.EncodeError.TheVariants.{OutOfMemory, AlreadyFailed}
 use Rattle.per_codec_packing.specs.Texts.{Text}
 use Rattle.per_codec_packing.specs.Packed.{Packed, place, plus}
 use Rattle.per_codec_encoder.specs.Steps.{Headers, Scope, members, position, Heading, goes_on_in, counted_on}
@@ -26,6 +26,7 @@ pub record Heads (o : Option Heading) (old : Packed) (d : Due) (new : Packed) : 
 -- Why there is no heading: memory was refused, or nothing can stand there.
 abbrev pub NoHeading : Option Heading → EncodeError → Type 0
 NoHeading o OutOfMemory = Unit {0}
+NoHeading o AlreadyFailed = ⊥
 NoHeading o e = o ≡ None
 
 -- Where a member or the end comes next, the header stands in front of it, if one is to come, and behind it so many are due.
@@ -44,4 +45,5 @@ pub record GoesOnInList (al more : Bool) (d : Due) (old : Packed) (next : Due) (
 -- Why nothing comes next in a list: memory was refused, or there is no step.
 abbrev pub NoMember : Bool → Bool → Due → Packed → EncodeError → Type 0
 NoMember al more d old OutOfMemory = Unit {0}
+NoMember al more d old AlreadyFailed = ⊥
 NoMember al more d old e = (os : Text) (k : List Scope) → position (os, k) ≡ place old → goes_on_in al d.members (headers_of d.behind) os k more ≡ None

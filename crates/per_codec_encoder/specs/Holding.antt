@@ -2,7 +2,7 @@
 -- innermost message, open type or member of a bag.
 use Rattle.std.specs.Prelude.{◌≡◌, ℕ, ◌+◌, ◌^◌, ◌<◌, Bool, true, false, List, [], ◌∷◌, ◌++◌, length, take, drop, replicate, reverse, Option, Some, None}
 use Rattle.asn1_schema_faults.specs.declared.EncodeError.{EncodeError}
-use Rattle.asn1_schema_faults.specs.declared.EncodeError.TheVariants.{OutOfMemory}
+use Rattle.asn1_schema_faults.specs.declared.EncodeError.TheVariants.{OutOfMemory, AlreadyFailed}
 use Rattle.asn1_schema_presented.specs.Records.{Record}
 use Rattle.per_codec_packing.specs.Texts.{Text, as_text}
 use Rattle.per_codec_packing.specs.Packed.{Packed, solid}
@@ -100,4 +100,5 @@ pub record Does (al : Bool) (r : Record) (fs : List Frame) (o : Packed) (gs : Li
 -- Why a record was refused: memory was, or there is no step.
 abbrev pub Cannot : Bool → Record → List Frame → Packed → EncodeError → Type 0
 Cannot al r fs o OutOfMemory = Unit {0}
+Cannot al r fs o AlreadyFailed = ⊥
 Cannot al r fs o e = (s : State) → Holds (reverse fs) o s → run al r s ≡ None

@@ -19,5 +19,8 @@ puts_one a r b c p q =
 pub puts_none : (a : Written) (r : Record) (b : Written) → a.failed ≡ true → Puts a r b → ⊥
 puts_none a r b h p = let e : true ≡ false = sym h ∙ p.0 in cc
 
+pub puts_on : (a : Written) (r : Record) (b : Written) → Puts a r b → b.failed ≡ true → ⊥
+puts_on a r b p h = let e : true ≡ false = sym h ∙ p.1 in cc
+
 pub puts_same : (a : Written) (r : Record) (b : Written) → Puts a r b → rules_of b.aligned ≡ rules_of a.aligned
 puts_same a r b p = ap rules_of p.2

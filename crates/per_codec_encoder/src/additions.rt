@@ -1,5 +1,5 @@
 //! Additions of sequences and sets, which are kept until these end.
-ghost use Rattle.std.specs.Prelude.{◌≡◌, Bool, MatchResult};
+ghost use Rattle.std.specs.Prelude.{◌≡◌, ◌⊎◌, Bool, MatchResult};
 ghost use Rattle.asn1_schema_presented.specs.Records.{additions_begin, addition, addition_ends};
 ghost use Rattle.per_codec_encoder.specs.Frames.{Next};
 ghost use Rattle.per_codec_encoder.specs.Holding.{Does, Cannot};
@@ -53,7 +53,9 @@ pub(crate) fn begin_additions(
 /// Counts the next addition, and keeps the place of one that is not there.
 #[inline(always)]
 pub(crate) fn count_addition(additions: &mut Additions, present: bool) -> Result<(), EncodeError>
-    ensures { MatchResult result (λ _. Next present additions.old additions.new) (λ e. ¬ (e ≡ EncodeError.OutOfMemory) → additions.old.due ≡ 0) }
+    ensures { MatchResult result (λ _. Next present additions.old additions.new)
+        (λ e. (e ≡ EncodeError.OutOfMemory)
+        ⊎ ((e ≡ EncodeError.SizeConstraintNotSatisfied) × (additions.old.due ≡ 0))) }
 {
     if additions.due == 0 {
         return Err(EncodeError::SizeConstraintNotSatisfied);

@@ -123,7 +123,7 @@ impl Encoder {
 }
 
 impl asn1_schema_encode::Encoder for Encoder {
-    ghost use Rattle.per_codec_encoder.specs.Laws.{puts_one, puts_none, puts_same};
+    ghost use Rattle.per_codec_encoder.specs.Laws.{puts_none, puts_on, puts_one, puts_same};
     ghost use Rattle.per_codec_encoder.specs.Stepping.{rules_of};
 
     ghost step = { Puts };
@@ -191,6 +191,7 @@ impl asn1_schema_encode::Encoder for Encoder {
         ensures only { IfErr result (Refused Puts (one_of T.roots T.extensible T.additions (T.number value.now)) self.old) }
         ensures failed { OnErr result (self.new.failed ≡ true) }
         ensures already { self.old.failed ≡ true → result ≡ Err EncodeError.AlreadyFailed }
+        ensures after { result ≡ Err EncodeError.AlreadyFailed → self.old.failed ≡ true }
     {
         if self.failed {
             return Err(EncodeError::AlreadyFailed);
@@ -482,6 +483,8 @@ impl asn1_schema_encode::Encoder for Encoder {
     ghost one_after = { puts_one };
 
     ghost none_after = { puts_none };
+
+    ghost goes_on = { puts_on };
 
     ghost same_rules = { puts_same };
 }

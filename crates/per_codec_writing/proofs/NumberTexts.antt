@@ -31,7 +31,7 @@ refused_so x y Fault.AlphabetConstraintNotSatisfied f h = f h
 refused_so x y Fault.TooLongValue f h = f h
 refused_so x y Fault.LengthExceedsPlatformSize f h = f h
 refused_so x y Fault.OutOfMemory f h = tt
-refused_so x y Fault.AlreadyFailed f h = f h
+refused_so x y Fault.AlreadyFailed f h = h
 
 -- .. behind another text
 pub did_behind : {T : Type 0} (r : Result T EncodeError) (x y : Per.BitForm) (old mid new : Packed) → Adds (text_at x (place old)) old mid → Did r (text_at y (place mid)) mid new → Did r (text_at (both x y) (place old)) old new

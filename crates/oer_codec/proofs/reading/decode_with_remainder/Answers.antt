@@ -1,7 +1,7 @@
-use Rattle.std.proofs.Common.{◌^◌, ◌-◌, length, ap, ◌∙◌, arith}
+use Rattle.std.proofs.Common.{Err, ◌^◌, ◌-◌, length, ap, ◌∙◌, arith}
 use Rattle.std.proofs.lemmas.List.{length-take}
 use Rattle.asn1_schema_presented.proofs.Joined.{raised}
-use Rattle.oer_codec.proofs.Messages.{left_within, told_from, none_told_from}
+use Rattle.oer_codec.proofs.Messages.{left_within, told_from, none_told_from, not_failed}
 use Rattle.oer_codec.proofs.reading.decode_with_remainder.Goals as goal
 
 pub returns-in_err-value-clause-only : goal.returns-in_err-value-clause-only
@@ -19,3 +19,6 @@ split_at-requires g c =
 
 pub returns-clause-ok : goal.returns-clause-ok
 returns-clause-ok g c = rw c.split_at.ensures.back (rw c.remaining-looked_at.ensures (rw c.remaining.ensures (told_from c.args.rules g.T.Described.schema _ c.args.input.now c.new-decoder.result c.decode.new.decoder c.new-decoder.ensures c.in_ok-value.ensures.ok)))
+
+pub returns-in_err-value-clause-fresh : goal.returns-in_err-value-clause-fresh
+returns-in_err-value-clause-fresh g c = raised _ _ _ c.from_residual.ensures.1 (λ h. not_failed c.args.rules c.args.input.now c.new-decoder.ensures (c.in_err-value.ensures.after (ap Err h)))

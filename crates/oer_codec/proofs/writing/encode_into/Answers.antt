@@ -1,4 +1,5 @@
-use Rattle.oer_codec.proofs.Encoding.{written_all, refused_all, encoded, not_encoded}
+use Rattle.std.proofs.Common.{Err, ap}
+use Rattle.oer_codec.proofs.Encoding.{not_failed, written_all, refused_all, encoded, not_encoded}
 use Rattle.oer_codec.proofs.writing.encode_into.Goals as goal
 
 pub returns-clause-only : goal.returns-clause-only
@@ -13,3 +14,6 @@ pub returns-in-Ok-clause-only : goal.returns-in-Ok-clause-only
 returns-in-Ok-clause-only g c =
     let w = written_all g.T.Described.schema (g.T.Described.meaning c.args.value.now) c.from_buffer-encoder.result c.encode.new.encoder _ c.from_buffer-encoder.ensures c.in_ok-output.ensures (g.T.Described.valued c.args.value.now) c.in-Ok.ensures.ok in
     not_encoded g.T.Described.schema (g.T.Described.meaning c.args.value.now) c.encode.new.encoder.state.0 c.output.result.items c.within_limit.result w.2 w.3 (c.output.ensures.octets w.0 w.1) c.within_limit.ensures
+
+pub returns-clause-fresh : goal.returns-clause-fresh
+returns-clause-fresh g c h = not_failed c.from_buffer-encoder.ensures (c.in-Err.ensures.after (ap Err (c.refusal.ensures.fresh h)))

@@ -1,4 +1,4 @@
-use Rattle.std.proofs.Common.{◌≡◌, ◌+◌, ◌/◌, sym, ◌∙◌, arith}
+use Rattle.std.proofs.Common.{arith}
 use Rattle.asn1_values_natives.proofs.Widths.{octet_width-width}
 use Rattle.oer_codec_writing.proofs.digits.natural_len.Goals as goal
 

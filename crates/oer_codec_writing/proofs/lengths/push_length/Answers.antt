@@ -3,12 +3,12 @@ use Rattle.asn1_model.specs.Numbers.{digits}
 use Rattle.oer_codec_writing.proofs.LengthTexts.{short_length, long_length, adds_text}
 use Rattle.oer_codec_writing.proofs.lengths.push_length.Goals as goal
 
-pub returns-then-length-lt128 : goal.returns-then-length-lt128
-returns-then-length-lt128 c = adds_text _ _ c.args.octets.now.items c.push.new.self.items (short_length c.args.length c.if-length-lt128.true) c.in_ok-push.ensures.items
+pub returns-in-Some : goal.returns-in-Some
+returns-in-Some c = adds_text _ _ c.args.octets.now.items c.push.new.self.items (short_length c.args.length c.in-Some.ensures.some.1) (c.in_ok-push.ensures.items ∙ ap (λ n. c.args.octets.now.items ++ n ∷ []) c.in-Some.ensures.some.0)
 
 pub returns : goal.returns
 returns c =
     let w = c.octet_width-count.result in
     adds_text _ ((128 + w) ∷ digits 256 w c.args.length) c.args.octets.now.items c.push_digits.new.octets.items
-    (long_length c.args.length c.if-length-lt128.false c.ranges.length.fits ∙ sym (ap (λ k. Some ((128 + k) ∷ digits 256 k c.args.length)) c.octet_width-count.ensures.width))
+    (long_length c.args.length c.in_default.ensures.none c.ranges.length.fits ∙ sym (ap (λ k. Some ((128 + k) ∷ digits 256 k c.args.length)) c.octet_width-count.ensures.width))
     (c.in_ok-push_digits.ensures ∙ ap (λ l. l ++ digits 256 w c.args.length) c.in_ok-push-2.ensures.items ∙ append_assoc c.args.octets.now.items ((128 + w) ∷ []) (digits 256 w c.args.length))

@@ -1,8 +1,8 @@
-use Rattle.std.proofs.Common.{◌≤◌, ◌-◌, ◌/◌, length, drop, ap, sym, subst, ◌∙◌}
+use Rattle.std.proofs.Common.{Err, ◌≤◌, ◌-◌, ◌/◌, length, drop, ap, sym, subst, ◌∙◌}
 use Rattle.asn1_schema_decode.specs.Messages.{Tells}
 use Rattle.asn1_schema_presented.proofs.Joined.{raised}
 use Rattle.per_codec.specs.Messages.{rules_of}
-use Rattle.per_codec.proofs.Messages.{left_within, told_from, none_told_from, none_finished_from}
+use Rattle.per_codec.proofs.Messages.{left_within, told_from, none_told_from, none_finished_from, not_failed, begun_ready}
 use Rattle.per_codec.proofs.reading.decode_with_remainder.Goals as goal
 
 pub returns-in_err-value-clause-only : goal.returns-in_err-value-clause-only
@@ -19,3 +19,9 @@ returns-clause-ok g c = rw c.split_at.ensures.back (subst (λ n. Tells (rules_of
 
 pub overflow_sub-taken : goal.overflow_sub-taken
 overflow_sub-taken g c = subst (λ n. c.len.result ≤ n) (sym (c.len-looked_at.ensures ∙ ap length c.input.ensures)) (subst (λ m. m ≤ length c.new-decoder.result.place.1) (sym (c.len.ensures ∙ ap length c.input-2.ensures)) (left_within c.args.variant g.T.Described.schema _ c.args.input.now c.new-decoder.result c.decode.new.decoder c.finish.new.self.place c.new-decoder.ensures c.in_ok-value.ensures.ok c.in_ok-finish.ensures.ok.1).0)
+
+pub returns-in_err-value-clause-fresh : goal.returns-in_err-value-clause-fresh
+returns-in_err-value-clause-fresh g c = raised _ _ _ c.from_residual.ensures.1 (λ q. begun_ready c.args.variant c.args.input.now c.new-decoder.result c.new-decoder.ensures (c.in_err-value.ensures.after (ap Err q)))
+
+pub returns-in_err-finish-clause-fresh : goal.returns-in_err-finish-clause-fresh
+returns-in_err-finish-clause-fresh g c = raised _ _ _ c.from_residual-in_err-finish.ensures.1 (λ q. not_failed c.args.variant g.T.Described.schema c.args.input.now _ c.new-decoder.result c.decode.new.decoder c.new-decoder.ensures c.in_ok-value.ensures.ok (c.in_err-finish.ensures.after (ap Err q)))

@@ -1,6 +1,6 @@
 use Rattle.asn1_schema_presented.proofs.Joined.{raised}
 use Rattle.asn1_schema_presented.specs.Records.{additions_begin}
-use Rattle.per_codec_encoder.proofs.Stepped.{stays_sound, puts, is_refused}
+use Rattle.per_codec_encoder.proofs.Stepped.{stays_sound, puts, is_refused, never_after}
 use Rattle.per_codec_encoder.proofs.encoder.EncoderEncoder.begin_additions.Goals as goal
 
 pub invariant_of-self-2 : goal.invariant_of-self-2
@@ -11,3 +11,6 @@ returns-clause-ok c = puts c.self.inside.aligned (additions_begin c.args.count) 
 
 pub returns-in_err-begin_additions-clause-only : goal.returns-in_err-begin_additions-clause-only
 returns-in_err-begin_additions-clause-only c = raised _ _ _ c.from_residual.ensures.1 (is_refused c.self.inside.aligned (additions_begin c.args.count) c.self.inside.frames c.self.inside.output c.self.inside.failed c.args.self.now _ c.self.view_is (c.self.invariant c.if-self.false) (c.in_err-begin_additions.ensures c.self.inside.aligned))
+
+pub returns-in_err-begin_additions-clause-after : goal.returns-in_err-begin_additions-clause-after
+returns-in_err-begin_additions-clause-after c = never_after c.self.inside.aligned (additions_begin c.args.count) c.self.inside.frames c.self.inside.output _ c.from_residual.result c.from_residual.ensures.1 (c.in_err-begin_additions.ensures c.self.inside.aligned)

@@ -1,6 +1,6 @@
 use Rattle.asn1_schema_presented.proofs.Joined.{raised}
 use Rattle.asn1_schema_presented.specs.Records.{addition_ends}
-use Rattle.per_codec_encoder.proofs.Stepped.{stays_sound, puts, is_refused}
+use Rattle.per_codec_encoder.proofs.Stepped.{stays_sound, puts, is_refused, never_after}
 use Rattle.per_codec_encoder.proofs.encoder.EncoderEncoder.end_addition.Goals as goal
 
 pub invariant_of-self-2 : goal.invariant_of-self-2
@@ -11,3 +11,6 @@ returns-clause-ok c = puts c.self.inside.aligned addition_ends c.self.inside.fra
 
 pub returns-in_err-end_addition-clause-only : goal.returns-in_err-end_addition-clause-only
 returns-in_err-end_addition-clause-only c = raised _ _ _ c.from_residual.ensures.1 (is_refused c.self.inside.aligned addition_ends c.self.inside.frames c.self.inside.output c.self.inside.failed c.args.self.now _ c.self.view_is (c.self.invariant c.if-self.false) (c.in_err-end_addition.ensures c.self.inside.aligned))
+
+pub returns-in_err-end_addition-clause-after : goal.returns-in_err-end_addition-clause-after
+returns-in_err-end_addition-clause-after c = never_after c.self.inside.aligned addition_ends c.self.inside.frames c.self.inside.output _ c.from_residual.result c.from_residual.ensures.1 (c.in_err-end_addition.ensures c.self.inside.aligned)

@@ -1,6 +1,6 @@
 use Rattle.asn1_schema_presented.proofs.Joined.{raised}
 use Rattle.asn1_schema_presented.specs.Records.{mark}
-use Rattle.per_codec_encoder.proofs.Stepped.{stays_sound, puts, is_refused}
+use Rattle.per_codec_encoder.proofs.Stepped.{stays_sound, puts, is_refused, never_after}
 use Rattle.per_codec_encoder.proofs.encoder.EncoderEncoder.put_mark.Goals as goal
 
 pub invariant_of-self-2 : goal.invariant_of-self-2
@@ -11,3 +11,6 @@ returns-clause-ok c = puts c.self.inside.aligned _ c.self.inside.frames c.put_ma
 
 pub returns-in_err-put_mark-clause-only : goal.returns-in_err-put_mark-clause-only
 returns-in_err-put_mark-clause-only c = raised _ _ _ c.from_residual.ensures.1 (is_refused c.self.inside.aligned (mark c.args.present) c.self.inside.frames c.self.inside.output c.self.inside.failed c.args.self.now _ c.self.view_is (c.self.invariant c.if-self.false) (c.in_err-put_mark.ensures c.self.inside.aligned))
+
+pub returns-in_err-put_mark-clause-after : goal.returns-in_err-put_mark-clause-after
+returns-in_err-put_mark-clause-after c = never_after c.self.inside.aligned (mark c.args.present) c.self.inside.frames c.self.inside.output _ c.from_residual.result c.from_residual.ensures.1 (c.in_err-put_mark.ensures c.self.inside.aligned)

@@ -1,5 +1,5 @@
 use Rattle.asn1_values_identifiers.proofs.Sevens.{leading_begun, leading_pushed}
-use Rattle.oer_codec_writing.proofs.tags.+push_leading.Goals as goal
+use Rattle.asn1_values_identifiers.proofs.groups.+push_leading.Goals as goal
 
 pub returns-then-number-lt128 : goal.returns-then-number-lt128
 returns-then-number-lt128 t c = leading_begun _ _ c.args.number c.requires c.if-number-lt128.true c.in_ok-push.ensures.items

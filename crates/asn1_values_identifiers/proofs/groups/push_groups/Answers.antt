@@ -1,5 +1,5 @@
 use Rattle.asn1_values_identifiers.proofs.Sevens.{group_alone, group_pushed}
-use Rattle.asn1_values_identifiers.proofs.octets.push_subidentifier.Goals as goal
+use Rattle.asn1_values_identifiers.proofs.groups.push_groups.Goals as goal
 
 pub returns-then-number-lt128 : goal.returns-then-number-lt128
 returns-then-number-lt128 c = group_alone _ _ c.args.number c.if-number-lt128.true c.in_ok-push.ensures.items

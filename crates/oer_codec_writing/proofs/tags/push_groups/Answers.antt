@@ -1,8 +1,0 @@
-use Rattle.asn1_values_identifiers.proofs.Sevens.{group_alone, group_pushed}
-use Rattle.oer_codec_writing.proofs.tags.push_groups.Goals as goal
-
-pub returns-then-number-lt128 : goal.returns-then-number-lt128
-returns-then-number-lt128 c = group_alone _ _ c.args.number c.if-number-lt128.true c.in_ok-push.ensures.items
-
-pub returns : goal.returns
-returns c = group_pushed _ _ _ c.args.number c.if-number-lt128.false c.in_ok-push_leading.ensures c.in_ok-push-2.ensures.items
