@@ -136,22 +136,45 @@ fn decoders_that_have_failed(rt: HostRuntime) {
     }
 }
 
-/// Whether the string of octets behind the first bit is lent by the message, and is these octets.
+/// Whether the string of octets that comes next is lent by the message, and is these octets.
 fn lends(alloc: Global, decoder: &mut Decoder<'_>, octets: &[u8]) -> Result<bool, DecodeError> {
-    let first = decoder.decode_bool(Tag::BOOL)?;
     let tag = Tag::OCTET_STRING;
     match decoder.decode_octet_string(alloc, tag, Constraints::NONE, Bounded::None)? {
-        CowSlice::Borrowed(found) => Ok(first && found == octets),
+        CowSlice::Borrowed(found) => Ok(found == octets),
         CowSlice::Owned(_) => Ok(false),
     }
+}
+
+/// Whether a string of octets is lent behind one bit.
+fn lends_behind_a_bit(alloc: Global, input: &[u8], octets: &[u8]) -> Result<bool, DecodeError> {
+    let mut decoder = Decoder::new(alloc, input, DecoderOptions::aligned());
+    let first = decoder.decode_bool(Tag::BOOL)?;
+    Ok(first && lends(alloc, &mut decoder, octets)?)
+}
+
+/// Whether a string of octets is lent in the open type of an added alternative, and another one behind it.
+fn lends_in_an_open_type(
+    alloc: Global,
+    input: &[u8],
+    inside: &[u8],
+    behind: &[u8],
+) -> Result<bool, DecodeError> {
+    let mut decoder = Decoder::new(alloc, input, DecoderOptions::aligned());
+    let tags = [Tag::new_context(0), Tag::new_context(1)];
+    decoder.begin_choice(Tag::EOC, &tags[..1], true, &tags[1..])?;
+    let first = lends(alloc, &mut decoder, inside)?;
+    decoder.end()?;
+    let second = lends(alloc, &mut decoder, behind)?;
+    Ok(first && second)
 }
 
 #[test]
 fn an_aligned_message_lends_its_octets(rt: HostRuntime) -> Result<(), Fail> {
     let alloc = rt.alloc();
-    let input = [0x80, 0x03, 0x01, 0x02, 0x03];
-    let aligned = DecoderOptions::aligned();
-    let lent = lends(alloc, &mut Decoder::new(alloc, &input, aligned), &[1, 2, 3]);
+    let lent = lends_behind_a_bit(alloc, &[0x80, 0x03, 0x01, 0x02, 0x03], &[1, 2, 3]);
+    assert!(rt; lent == Ok(true));
+    let input = [0x80, 0x04, 0x03, 0x01, 0x02, 0x03, 0x02, 0x04, 0x05];
+    let lent = lends_in_an_open_type(alloc, &input, &[1, 2, 3], &[4, 5]);
     assert!(rt; lent == Ok(true));
     Ok(())
 }
