@@ -9,35 +9,52 @@ use Rattle.asn1_model.specs.Strings.{each_is, is_octet}
 use Rattle.asn1_laws_across.specs.InOrder.{IsEncodingInOrder}
 use Rattle.asn1_laws_across.specs.Rigid.{is_rigid}
 
--- All values of which some octets are an encoding are the same, and so have the same normal form, up to the order of bags,
--- and one canonical encoding in all rules.
+-- All values of which some octets are an encoding are the same, and so have the same normal form, up to the order of
+-- bags, and one canonical encoding in all rules.
 abbrev pub OneMeaning : Type 0
-OneMeaning = (q r : Rules) (s : Schema) (v u : Value) (w : List ℕ) → IsLawful s → IsEncoding q s v w → IsEncoding q s u w → (same v u ≡ true) × (same (normal s v) (normal s u) ≡ true) × (canonical r s v ≡ canonical r s u)
+OneMeaning =
+    (q r : Rules) (s : Schema) (v u : Value) (w : List ℕ) → IsLawful s → IsEncoding q s v w → IsEncoding q s u w
+    → (same v u ≡ true) × (same (normal s v) (normal s u) ≡ true) × (canonical r s v ≡ canonical r s u)
 
 -- The canonical encodings of two values are equal exactly if their normal forms are the same.
 abbrev pub EncodingsTellNormalForms : Type 0
-EncodingsTellNormalForms = (r : Rules) (s : Schema) (v u : Value) (a b : List ℕ) → IsLawful s → canonical r s v ≡ Some a → canonical r s u ≡ Some b → (a ≡ b → same (normal s v) (normal s u) ≡ true) × (same (normal s v) (normal s u) ≡ true → a ≡ b)
+EncodingsTellNormalForms =
+    (r : Rules) (s : Schema) (v u : Value) (a b : List ℕ) → IsLawful s → canonical r s v ≡ Some a
+    → canonical r s u ≡ Some b → (a ≡ b → same (normal s v) (normal s u) ≡ true)
+    × (same (normal s v) (normal s u) ≡ true → a ≡ b)
 
--- Where two values have canonical encodings in two sets of rules, these are equal in one exactly if they are in the other.
+-- Where two values have canonical encodings in two sets of rules, these are equal in one exactly if they are in the
+-- other.
 abbrev pub EqualAcross : Type 0
-EqualAcross = (q r : Rules) (s : Schema) (v u : Value) (a b c d : List ℕ) → IsLawful s → canonical q s v ≡ Some a → canonical q s u ≡ Some b → canonical r s v ≡ Some c → canonical r s u ≡ Some d → (a ≡ b → c ≡ d) × (c ≡ d → a ≡ b)
+EqualAcross =
+    (q r : Rules) (s : Schema) (v u : Value) (a b c d : List ℕ) → IsLawful s → canonical q s v ≡ Some a
+    → canonical q s u ≡ Some b → canonical r s v ≡ Some c → canonical r s u ≡ Some d → (a ≡ b → c ≡ d) × (c ≡ d → a ≡ b)
 
 -- A detour changes no octet: what is written of what was read in between is what is written of what was read first.
 abbrev pub DetoursChangeNothing : Type 0
-DetoursChangeNothing = (p r : Rules) (s : Schema) (v u : Value) (b : List ℕ) → IsLawful s → canonical r s v ≡ Some b → IsEncoding r s u b → canonical p s u ≡ canonical p s v
+DetoursChangeNothing =
+    (p r : Rules) (s : Schema) (v u : Value) (b : List ℕ) → IsLawful s → canonical r s v ≡ Some b → IsEncoding r s u b
+    → canonical p s u ≡ canonical p s v
 
 -- What was recoded once is recoded to itself.
 abbrev pub RecodedStays : Type 0
-RecodedStays = (r : Rules) (s : Schema) (v u : Value) (b : List ℕ) → IsLawful s → canonical r s v ≡ Some b → IsEncoding r s u b → canonical r s u ≡ Some b
+RecodedStays =
+    (r : Rules) (s : Schema) (v u : Value) (b : List ℕ) → IsLawful s → canonical r s v ≡ Some b → IsEncoding r s u b
+    → canonical r s u ≡ Some b
 
--- What is canonical but for the order of the bags, where the members of each bag ascend, is an encoding and the canonical one; and what is
--- canonical is so.
+-- What is canonical but for the order of the bags, where the members of each bag ascend, is an encoding and the
+-- canonical one; and what is canonical is so.
 abbrev pub InOrderIsCanonical : Type 0
-InOrderIsCanonical = (r : Rules) (s : Schema) (v : Value) (w : List ℕ) → (IsEncodingInOrder r s v w → IsEncoding r s v w) × (IsTrue (each_is is_octet w) → IsEncodingInOrder r s v w → canonical r s v ≡ Some w) × (canonical r s v ≡ Some w → IsEncodingInOrder r s (normal s v) w)
+InOrderIsCanonical =
+    (r : Rules) (s : Schema) (v : Value) (w : List ℕ) → (IsEncodingInOrder r s v w → IsEncoding r s v w)
+    × (IsTrue (each_is is_octet w) → IsEncodingInOrder r s v w → canonical r s v ≡ Some w)
+    × (canonical r s v ≡ Some w → IsEncodingInOrder r s (normal s v) w)
 
 -- What a strict reader takes of a rigid type is the canonical encoding of the value.
 abbrev pub RigidIsCanonicalIn : Rules → Type 0
-RigidIsCanonicalIn r = (s : Schema) (v : Value) (w : List ℕ) → IsTrue (is_rigid s) → IsTrue (each_is is_octet w) → IsEncoding r s v w → canonical r s v ≡ Some w
+RigidIsCanonicalIn r =
+    (s : Schema) (v : Value) (w : List ℕ) → IsTrue (is_rigid s) → IsTrue (each_is is_octet w) → IsEncoding r s v w
+    → canonical r s v ≡ Some w
 
 abbrev pub RigidIsCanonical : Type 0
 RigidIsCanonical = RigidIsCanonicalIn uper_strict × RigidIsCanonicalIn aper_strict × RigidIsCanonicalIn coer

@@ -14,8 +14,8 @@ pub data Stop : Type 0 where
   -- more octets are unread than a message may have, and no message is in front
   none_within_limit : Stop
 
--- Octets are these messages and a rest. The value of each message has an encoding in the target rules that is not empty, and joined these
--- encodings are what is written.
+-- Octets are these messages and a rest. The value of each message has an encoding in the target rules that is not
+-- empty, and joined these encodings are what is written.
 abbrev pub RelaysFront : Rules → Rules → Schema → ℕ → List Message → List ℕ → List ℕ → List ℕ → Type 0
 RelaysFront source target s limit [] out rest w = (out ≡ []) × (rest ≡ w)
 RelaysFront source target s limit (m ∷ ms) out rest w =
@@ -27,22 +27,29 @@ RelaysFront source target s limit (m ∷ ms) out rest w =
 
 -- A message stands in front, and this is what its value has in the target rules.
 abbrev pub BeginsWith : Rules → Rules → Schema → ℕ → Option (List ℕ) → List ℕ → Type 0
-BeginsWith source target s limit t w = (m : Message) × (x : List ℕ) × (m.octets ++ x ≡ w) × IsMessage source s limit m × (canonical target s m.value ≡ t)
+BeginsWith source target s limit t w =
+    (m : Message) × (x : List ℕ) × (m.octets ++ x ≡ w) × IsMessage source s limit m × (canonical target s m.value ≡ t)
 
 -- No octets are an encoding, so that an empty message stands in front of any octets, and no other one.
 abbrev pub HasEmptyMessage : Rules → Schema → Type 0
 HasEmptyMessage r s = (v : Value) × IsEncoding r s v [] × (depth v ≤ most_levels)
 
--- What stops a relay in front of these octets; nothing where none are left, or where they may still become a message with others behind them.
+-- What stops a relay in front of these octets; nothing where none are left, or where they may still become a message
+-- with others behind them.
 abbrev pub StopsAt : Rules → Rules → Schema → ℕ → List ℕ → Option Stop → Type 0
-StopsAt source target s limit w None = HasNoMessage source s limit w × ((w ≡ []) ⊎ (¬ (HasEmptyMessage source s) × (length w ≤ limit)))
+StopsAt source target s limit w None =
+    HasNoMessage source s limit w × ((w ≡ []) ⊎ (¬ (HasEmptyMessage source s) × (length w ≤ limit)))
 StopsAt source target s limit w (Some no_target) = BeginsWith source target s limit None w
-StopsAt source target s limit w (Some empty_message) = BeginsWith source target s limit (Some []) w ⊎ ((w ≢ []) × HasEmptyMessage source s)
-StopsAt source target s limit w (Some none_within_limit) = HasNoMessage source s limit w × ¬ (HasEmptyMessage source s) × (limit < length w)
+StopsAt source target s limit w (Some empty_message) =
+    BeginsWith source target s limit (Some []) w ⊎ ((w ≢ []) × HasEmptyMessage source s)
+StopsAt source target s limit w (Some none_within_limit) =
+    HasNoMessage source s limit w × ¬ (HasEmptyMessage source s) × (limit < length w)
 
--- What a relay does to octets: so many messages in front are relayed, and become what is written, and it stops in front of the rest, or waits for
--- more octets. The number of the messages is that of the message at which it stops, counted from 0 on.
-pub record Relays (source target : Rules) (s : Schema) (limit : ℕ) (w : List ℕ) (number : ℕ) (out rest : List ℕ) (why : Option Stop) : Type 0 where
+-- What a relay does to octets: so many messages in front are relayed, and become what is written, and it stops in front
+-- of the rest, or waits for more octets. The number of the messages is that of the message at which it stops, counted
+-- from 0 on.
+pub record Relays (source target : Rules) (s : Schema) (limit : ℕ) (w : List ℕ) (number : ℕ) (out rest : List ℕ)
+    (why : Option Stop) : Type 0 where
   pub messages : List Message
   pub counted : length messages ≡ number
   pub front : RelaysFront source target s limit messages out rest w
@@ -65,10 +72,12 @@ EndsBefore target s (m ∷ ms) rest unread why =
     ((canonical target s m.value ≡ None) × (why ≡ Some no_target))
     ⊎ ((canonical target s m.value ≡ Some []) × (why ≡ Some empty_message))
 
--- What calls do that hand over pieces of octets one after the other, behind octets that are unread: each goes on with what the one before left
--- unread, and behind a stop none writes anything.
-abbrev pub RelaysPieces : Rules → Rules → Schema → ℕ → List ℕ → List (List ℕ) → ℕ → List ℕ → List ℕ → Option Stop → Type 0
-RelaysPieces source target s limit unread [] number out rest why = (number ≡ 0) × (out ≡ []) × (rest ≡ unread) × (why ≡ None)
+-- What calls do that hand over pieces of octets one after the other, behind octets that are unread: each goes on with
+-- what the one before left unread, and behind a stop none writes anything.
+abbrev pub RelaysPieces : Rules → Rules → Schema → ℕ → List ℕ → List (List ℕ) → ℕ → List ℕ → List ℕ → Option Stop
+    → Type 0
+RelaysPieces source target s limit unread [] number out rest why =
+    (number ≡ 0) × (out ≡ []) × (rest ≡ unread) × (why ≡ None)
 RelaysPieces source target s limit unread (p ∷ ps) number out rest why =
     (Relays source target s limit (unread ++ p) number out rest why × (why ≢ None))
     ⊎ ((n : ℕ) × (o : List ℕ) × (r : List ℕ) × Relays source target s limit (unread ++ p) n o r None

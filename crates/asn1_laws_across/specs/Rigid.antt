@@ -1,7 +1,7 @@
 -- Types in which nothing leaves a strict reader a freedom.
 use Rattle.std.specs.Prelude.{Bool, true, false, not, ◌&&◌}
-use Rattle.asn1_model.specs.Schema.{Schema, sequence_of, set_of, sequence, set, group, choice, Components, no_component, component}
-use Rattle.asn1_model.specs.Schema.{Alternatives, no_alternative, alternative}
+use Rattle.asn1_model.specs.Schema.{Schema, sequence_of, set_of, sequence, set, group, choice, Components, no_component}
+use Rattle.asn1_model.specs.Schema.{component, Alternatives, no_alternative, alternative}
 
 unfoldable mutual
   -- Whether no bag stands in a type, at any depth, and no sequence or set with a mark.

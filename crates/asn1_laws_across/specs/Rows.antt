@@ -7,7 +7,8 @@ use Rattle.asn1_laws_across.specs.Relayed.{no_target, empty_message, none_within
 
 abbrev pub RelayRows : Type 0
 RelayRows =
-    -- BOOLEAN: the third octet may not be, and then waits; in front it stops the relay once more than a message may have are there
+    -- BOOLEAN: the third octet may not be, and then waits; in front it stops the relay once more than a message may
+    -- have are there
     Relays coer uper boolean 1 (0xFF ∷ 0x00 ∷ 0x05 ∷ []) 2 (0x80 ∷ 0x00 ∷ []) (0x05 ∷ []) None
     × Relays coer uper boolean 1 (0x05 ∷ []) 0 [] (0x05 ∷ []) None
     × Relays coer uper boolean 1 (0x05 ∷ 0xFF ∷ []) 0 [] (0x05 ∷ 0xFF ∷ []) (Some none_within_limit)

@@ -9,39 +9,58 @@ use Rattle.asn1_laws_across.specs.Relayed.{Stop, HasEmptyMessage, StopsAt, Relay
 
 -- Octets divide into messages and a rest in one way at most.
 abbrev pub DividedOnce : Type 0
-DividedOnce = (r : Rules) (s : Schema) (limit : ℕ) (ms ns : List Message) (rest other w : List ℕ) → IsLawful s → Divides r s limit ms rest w → Divides r s limit ns other w → (rest ≡ other) × AreSame ms ns
+DividedOnce =
+    (r : Rules) (s : Schema) (limit : ℕ) (ms ns : List Message) (rest other w : List ℕ) → IsLawful s
+    → Divides r s limit ms rest w → Divides r s limit ns other w → (rest ≡ other) × AreSame ms ns
 
 -- Where more octets come, the messages so far are followed by those into which the rest and the further octets divide.
 abbrev pub GoesOnAlike : Type 0
-GoesOnAlike = (r : Rules) (s : Schema) (limit : ℕ) (ms ns : List Message) (rest other w x : List ℕ) → Divides r s limit ms rest w → Divides r s limit ns other (rest ++ x) → Divides r s limit (ms ++ ns) other (w ++ x)
+GoesOnAlike =
+    (r : Rules) (s : Schema) (limit : ℕ) (ms ns : List Message) (rest other w x : List ℕ) → Divides r s limit ms rest w
+    → Divides r s limit ns other (rest ++ x) → Divides r s limit (ms ++ ns) other (w ++ x)
 
--- And however they divide then, they begin with the messages so far, and the rest and the further octets divide into the others.
+-- And however they divide then, they begin with the messages so far, and the rest and the further octets divide into
+-- the others.
 abbrev pub BeginsAlike : Type 0
-BeginsAlike = (r : Rules) (s : Schema) (limit : ℕ) (ms all : List Message) (rest other w x : List ℕ) → IsLawful s → Divides r s limit ms rest w → Divides r s limit all other (w ++ x) → (ls : List Message) × (ns : List Message) × (ls ++ ns ≡ all) × AreSame ms ls × Divides r s limit ns other (rest ++ x)
+BeginsAlike =
+    (r : Rules) (s : Schema) (limit : ℕ) (ms all : List Message) (rest other w x : List ℕ) → IsLawful s
+    → Divides r s limit ms rest w → Divides r s limit all other (w ++ x) → (ls : List Message) × (ns : List Message)
+    × (ls ++ ns ≡ all) × AreSame ms ls × Divides r s limit ns other (rest ++ x)
 
 -- ---- what a relay does
 
 -- A relay does one thing at most to octets.
 abbrev pub RelayedOnce : Type 0
-RelayedOnce = (source target : Rules) (s : Schema) (limit : ℕ) (w : List ℕ) (n k : ℕ) (o q rest other : List ℕ) (why cause : Option Stop) → IsLawful s
-    → Relays source target s limit w n o rest why → Relays source target s limit w k q other cause → (n ≡ k) × (o ≡ q) × (rest ≡ other) × (why ≡ cause)
+RelayedOnce =
+    (source target : Rules) (s : Schema) (limit : ℕ) (w : List ℕ) (n k : ℕ) (o q rest other : List ℕ)
+    (why cause : Option Stop) → IsLawful s
+    → Relays source target s limit w n o rest why → Relays source target s limit w k q other cause → (n ≡ k) × (o ≡ q)
+    × (rest ≡ other) × (why ≡ cause)
 
 -- Where it waits, and more octets come, it goes on with those that are unread.
 abbrev pub RelayGoesOn : Type 0
-RelayGoesOn = (source target : Rules) (s : Schema) (limit : ℕ) (w x : List ℕ) (n k : ℕ) (o q rest other : List ℕ) (why : Option Stop)
-    → Relays source target s limit w n o rest None → Relays source target s limit (rest ++ x) k q other why → Relays source target s limit (w ++ x) (n + k) (o ++ q) other why
+RelayGoesOn =
+    (source target : Rules) (s : Schema) (limit : ℕ) (w x : List ℕ) (n k : ℕ) (o q rest other : List ℕ)
+    (why : Option Stop)
+    → Relays source target s limit w n o rest None → Relays source target s limit (rest ++ x) k q other why
+    → Relays source target s limit (w ++ x) (n + k) (o ++ q) other why
 
 -- Where it stops, it stops there for the same reason whatever comes behind.
 abbrev pub RelayStopsForGood : Type 0
-RelayStopsForGood = (source target : Rules) (s : Schema) (limit : ℕ) (w x : List ℕ) (n : ℕ) (o rest : List ℕ) (why : Stop)
-    → Relays source target s limit w n o rest (Some why) → Relays source target s limit (w ++ x) n o (rest ++ x) (Some why)
+RelayStopsForGood =
+    (source target : Rules) (s : Schema) (limit : ℕ) (w x : List ℕ) (n : ℕ) (o rest : List ℕ) (why : Stop)
+    → Relays source target s limit w n o rest (Some why)
+    → Relays source target s limit (w ++ x) n o (rest ++ x) (Some why)
 
--- Of pieces only the joined octets count, wherever they are cut: what calls write, one behind the other, and the message at which they stop, are those of
--- the joined octets at once.
+-- Of pieces only the joined octets count, wherever they are cut: what calls write, one behind the other, and the
+-- message at which they stop, are those of the joined octets at once.
 abbrev pub PiecesAreJoined : Type 0
-PiecesAreJoined = (source target : Rules) (s : Schema) (limit : ℕ) (unread : List ℕ) (pieces : List (List ℕ)) (n : ℕ) (o rest : List ℕ) (why : Option Stop)
+PiecesAreJoined =
+    (source target : Rules) (s : Schema) (limit : ℕ) (unread : List ℕ) (pieces : List (List ℕ)) (n : ℕ)
+    (o rest : List ℕ) (why : Option Stop)
     → StopsAt source target s limit unread None → RelaysPieces source target s limit unread pieces n o rest why
-    → (other : List ℕ) × Relays source target s limit (unread ++ concat pieces) n o other why × (why ≡ None → other ≡ rest)
+    → (other : List ℕ) × Relays source target s limit (unread ++ concat pieces) n o other why
+    × (why ≡ None → other ≡ rest)
 
 -- The messages that a relay relays are the first of those into which the octets divide: all of them, and the rest is
 -- unread; or it stops at the next one, which has no encoding in the target rules, or an empty one.

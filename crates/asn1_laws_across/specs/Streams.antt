@@ -27,7 +27,8 @@ HasNoMessage r s limit w = (m : Message) (x : List ℕ) → m.octets ++ x ≡ w 
 -- octets divide into these messages, and a rest of which no beginning is one
 abbrev pub Divides : Rules → Schema → ℕ → List Message → List ℕ → List ℕ → Type 0
 Divides r s limit [] rest w = (rest ≡ w) × HasNoMessage r s limit rest
-Divides r s limit (m ∷ ms) rest w = IsMessage r s limit m × (x : List ℕ) × (m.octets ++ x ≡ w) × Divides r s limit ms rest x
+Divides r s limit (m ∷ ms) rest w =
+    IsMessage r s limit m × (x : List ℕ) × (m.octets ++ x ≡ w) × Divides r s limit ms rest x
 
 -- the same octets in each place, of values that are the same
 abbrev pub AreSame : List Message → List Message → Type 0

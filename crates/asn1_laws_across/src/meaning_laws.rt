@@ -1,11 +1,12 @@
 //! Translation between rules: what is equal in one is equal in the others, and a detour changes no octet.
 
-ghost use Rattle.asn1_laws_across.specs.Laws.{OneMeaning, EncodingsTellNormalForms, EqualAcross, DetoursChangeNothing, RecodedStays};
+ghost use Rattle.asn1_laws_across.specs.Laws.{OneMeaning, EncodingsTellNormalForms, EqualAcross, DetoursChangeNothing};
+ghost use Rattle.asn1_laws_across.specs.Laws.{RecodedStays};
 ghost use Rattle.asn1_laws_across.specs.Laws.{InOrderIsCanonical, RigidIsCanonical};
 ghost use Rattle.asn1_laws_across.specs.InOrder.{InOrderRows};
 
-/// All values of which some octets are an encoding are the same, and so have the same normal form, up to the order of bags, and one
-/// canonical encoding in all rules.
+/// All values of which some octets are an encoding are the same, and so have the same normal form, up to the order of
+/// bags, and one canonical encoding in all rules.
 pub fn one_meaning()
     ensures { OneMeaning }
 {}
@@ -15,7 +16,8 @@ pub fn encodings_tell_normal_forms()
     ensures { EncodingsTellNormalForms }
 {}
 
-/// Where two values have canonical encodings in two sets of rules, these are equal in one exactly if they are in the other.
+/// Where two values have canonical encodings in two sets of rules, these are equal in one exactly if they are in the
+/// other.
 pub fn equal_across()
     ensures { EqualAcross }
 {}
@@ -30,14 +32,14 @@ pub fn recoded_stays()
     ensures { RecodedStays }
 {}
 
-/// Octets that are canonical but for the order of the bags, where the members of each bag ascend, are the canonical encoding of the value; and
-/// the canonical encoding is such octets.
+/// Octets that are canonical but for the order of the bags, where the members of each bag ascend, are the canonical
+/// encoding of the value; and the canonical encoding is such octets.
 pub fn in_order_is_canonical()
     ensures { InOrderIsCanonical }
 {}
 
-/// What a strict reader takes of a type without bags, and without marks on its sequences and sets at any depth, is the canonical encoding of
-/// the value.
+/// What a strict reader takes of a type without bags, and without marks on its sequences and sets at any depth, is the
+/// canonical encoding of the value.
 pub fn rigid_is_canonical()
     ensures { RigidIsCanonical }
 {}

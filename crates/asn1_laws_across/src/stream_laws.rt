@@ -2,7 +2,8 @@
 
 ghost use Rattle.asn1_laws_across.specs.StreamLaws.{DividedOnce, GoesOnAlike, BeginsAlike};
 ghost use Rattle.asn1_laws_across.specs.StreamLaws.{RelayedOnce, RelayGoesOn, RelayStopsForGood, PiecesAreJoined};
-ghost use Rattle.asn1_laws_across.specs.StreamLaws.{RelaysTheFirst, RelaysAll, WithinTheLimit, NoneWithinIsNone, EmptyIsAlone};
+ghost use Rattle.asn1_laws_across.specs.StreamLaws.{RelaysTheFirst, RelaysAll, WithinTheLimit, NoneWithinIsNone};
+ghost use Rattle.asn1_laws_across.specs.StreamLaws.{EmptyIsAlone};
 ghost use Rattle.asn1_laws_across.specs.Rows.{RelayRows};
 
 /// Octets divide into messages and a rest in one way at most.
@@ -15,7 +16,8 @@ pub fn goes_on_alike()
     ensures { GoesOnAlike }
 {}
 
-/// And however they divide then, they begin with the messages so far, and the rest and the further octets divide into the others.
+/// And however they divide then, they begin with the messages so far, and the rest and the further octets divide into
+/// the others.
 pub fn begins_alike()
     ensures { BeginsAlike }
 {}
@@ -40,13 +42,14 @@ pub fn pieces_are_joined()
     ensures { PiecesAreJoined }
 {}
 
-/// The messages that a relay relays are the first of those into which octets divide: all of them, and the rest is unread, or those in front of the first
-/// one that has no encoding in the target rules, or an empty one.
+/// The messages that a relay relays are the first of those into which octets divide: all of them, and the rest is
+/// unread, or those in front of the first one that has no encoding in the target rules, or an empty one.
 pub fn relays_the_first()
     ensures { RelaysTheFirst }
 {}
 
-/// Where each of these messages has an encoding in the target rules that is not empty, all are relayed, and the rest is unread.
+/// Where each of these messages has an encoding in the target rules that is not empty, all are relayed, and the rest is
+/// unread.
 pub fn relays_all()
     ensures { RelaysAll }
 {}

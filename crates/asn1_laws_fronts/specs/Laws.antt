@@ -5,7 +5,8 @@ use Rattle.asn1_model.specs.Schema.{Schema}
 use Rattle.asn1_model.specs.Lawful.{IsLawful}
 use Rattle.asn1_model.specs.Rules.{Rules, IsEncoding}
 
--- Of all beginnings of some octets one at most is an encoding of a lawful type, and of one value, up to the order of bags.
+-- Of all beginnings of some octets one at most is an encoding of a lawful type, and of one value, up to the order of
+-- bags.
 abbrev pub OneFrontIn : Rules → Type 0
 OneFrontIn r =
     (s : Schema) (v u : Value) (a b x y : List ℕ)

@@ -3,7 +3,8 @@
 
 ghost use Rattle.asn1_laws_fronts.specs.Laws.{OneFront};
 
-/// Of all beginnings of some octets one at most is an encoding of a lawful type, and of one value, up to the order of bags.
+/// Of all beginnings of some octets one at most is an encoding of a lawful type, and of one value, up to the order of
+/// bags.
 pub fn one_front()
     ensures { OneFront }
 {}

@@ -1,6 +1,8 @@
 -- Laws of numbers as digits, octets and bits.
-use Rattle.std.specs.Prelude.{◌≡◌, ℕ, ◌+◌, ◌-◌, ◌*◌, ◌^◌, ◌==◌, ◌<◌, ◌≤◌, ltb, pos, negsuc, Bool, IsTrue, List, length, map}
-use Rattle.asn1_model.specs.Numbers.{digits, number_after, places, least_octets, signed_octets, complement, binary, packed, octet_bits}
+use Rattle.std.specs.Prelude.{◌≡◌, ℕ, ◌+◌, ◌-◌, ◌*◌, ◌^◌, ◌==◌, ◌<◌, ◌≤◌, ltb, pos, negsuc, Bool, IsTrue, List, length}
+use Rattle.std.specs.Prelude.{map}
+use Rattle.asn1_model.specs.Numbers.{digits, number_after, places, least_octets, signed_octets, complement, binary}
+use Rattle.asn1_model.specs.Numbers.{packed, octet_bits}
 use Rattle.std.specs.Str.{IsUtf8}
 use Rattle.asn1_model.specs.Schema.{utf8}
 use Rattle.asn1_model.specs.Strings.{may_hold, each_is, is_octet, identifier_octets, is_identifier}
@@ -9,19 +11,28 @@ use Rattle.asn1_model.specs.Per.{bit_less}
 
 -- So many digits of a number that has no more are a positional sum: they stand for it, and each is below the base.
 abbrev pub DigitsAreASum : Type 0
-DigitsAreASum = (base w n : ℕ) → 0 < base → n < base ^ w → (number_after base 0 (digits base w n) ≡ n) × (length (digits base w n) ≡ w) × IsTrue (each_is (λ d. ltb d base) (digits base w n))
+DigitsAreASum =
+    (base w n : ℕ) → 0 < base → n < base ^ w → (number_after base 0 (digits base w n) ≡ n)
+    × (length (digits base w n) ≡ w) × IsTrue (each_is (λ d. ltb d base) (digits base w n))
 
 -- The number of its digits holds a number, and no lower one does.
 abbrev pub FewestDigits : Type 0
 FewestDigits = (base n : ℕ) → 1 < base → (n < base ^ places base n) × ((k : ℕ) → n < base ^ k → places base n ≤ k)
 
--- Octets of two's complement are a positional sum: of the number, or of the number and the power of 256 that they leave out.
+-- Octets of two's complement are a positional sum: of the number, or of the number and the power of 256 that they leave
+-- out.
 abbrev pub ComplementIsASum : Type 0
-ComplementIsASum = (k n : ℕ) → 0 < k → n < 2 ^ (8 * k - 1) → (number_after 256 0 (complement k (pos n)) ≡ n) × (number_after 256 0 (complement k (negsuc n)) + (n + 1) ≡ 256 ^ k) × (length (complement k (pos n)) ≡ k) × (length (complement k (negsuc n)) ≡ k)
+ComplementIsASum =
+    (k n : ℕ) → 0 < k → n < 2 ^ (8 * k - 1) → (number_after 256 0 (complement k (pos n)) ≡ n)
+    × (number_after 256 0 (complement k (negsuc n)) + (n + 1) ≡ 256 ^ k) × (length (complement k (pos n)) ≡ k)
+    × (length (complement k (negsuc n)) ≡ k)
 
 -- The octets of a number, and those of two's complement, are the fewest that hold it, and at least one.
 abbrev pub FewestOctets : Type 0
-FewestOctets = (n k : ℕ) → 0 < k → ((least_octets n ≤ k → n < 256 ^ k) × (n < 256 ^ k → least_octets n ≤ k)) × ((signed_octets (pos n) ≤ k → n < 2 ^ (8 * k - 1)) × (n < 2 ^ (8 * k - 1) → signed_octets (pos n) ≤ k)) × ((signed_octets (negsuc n) ≤ k → n < 2 ^ (8 * k - 1)) × (n < 2 ^ (8 * k - 1) → signed_octets (negsuc n) ≤ k))
+FewestOctets =
+    (n k : ℕ) → 0 < k → ((least_octets n ≤ k → n < 256 ^ k) × (n < 256 ^ k → least_octets n ≤ k))
+    × ((signed_octets (pos n) ≤ k → n < 2 ^ (8 * k - 1)) × (n < 2 ^ (8 * k - 1) → signed_octets (pos n) ≤ k))
+    × ((signed_octets (negsuc n) ≤ k → n < 2 ^ (8 * k - 1)) × (n < 2 ^ (8 * k - 1) → signed_octets (negsuc n) ≤ k))
 
 -- The bits of a number are its digits to base 2.
 abbrev pub BitsAreDigits : Type 0
@@ -29,11 +40,16 @@ BitsAreDigits = (w n : ℕ) → binary w n ≡ map (λ d. d == 1) (digits 2 w n)
 
 -- Octets are told by their bits, and whole octets of bits by their octets.
 abbrev pub OctetsAndBits : Type 0
-OctetsAndBits = ((os : List ℕ) → IsTrue (each_is is_octet os) → packed (octet_bits os) ≡ os) × ((k : ℕ) (bs : List Bool) → length bs ≡ 8 * k → (octet_bits (packed bs) ≡ bs) × (length (packed bs) ≡ k) × IsTrue (each_is is_octet (packed bs)))
+OctetsAndBits =
+    ((os : List ℕ) → IsTrue (each_is is_octet os) → packed (octet_bits os) ≡ os)
+    × ((k : ℕ) (bs : List Bool) → length bs ≡ 8 * k → (octet_bits (packed bs) ≡ bs) × (length (packed bs) ≡ k)
+    × IsTrue (each_is is_octet (packed bs)))
 
 -- An object identifier is told by its octets.
 abbrev pub IdentifiersAreTold : Type 0
-IdentifiersAreTold = (ns ms : List ℕ) → IsTrue (is_identifier ns) → IsTrue (is_identifier ms) → identifier_octets ns ≡ identifier_octets ms → ns ≡ ms
+IdentifiersAreTold =
+    (ns ms : List ℕ) → IsTrue (is_identifier ns) → IsTrue (is_identifier ms)
+    → identifier_octets ns ≡ identifier_octets ms → ns ≡ ms
 
 -- What a UTF8String may hold is what the text of std is: the octets of some characters.
 abbrev pub Utf8IsText : Type 0
@@ -41,4 +57,6 @@ Utf8IsText = (os : List ℕ) → (IsTrue (may_hold utf8 os) → IsUtf8 os) × (I
 
 -- Octets stand in the order of their bits.
 abbrev pub OctetsStandAsBits : Type 0
-OctetsStandAsBits = (os ps : List ℕ) → IsTrue (each_is is_octet os) → IsTrue (each_is is_octet ps) → stands_before bit_less (octet_bits os) (octet_bits ps) ≡ stands_before ltb os ps
+OctetsStandAsBits =
+    (os ps : List ℕ) → IsTrue (each_is is_octet os) → IsTrue (each_is is_octet ps)
+    → stands_before bit_less (octet_bits os) (octet_bits ps) ≡ stands_before ltb os ps

@@ -6,26 +6,36 @@ use Rattle.asn1_model.specs.Normal.{normal}
 use Rattle.asn1_model.specs.Strings.{each_is, is_octet}
 use Rattle.asn1_model.specs.Form.{Reads, canonically}
 use Rattle.asn1_model.specs.Lawful.{IsLawful}
-use Rattle.asn1_model.specs.Rules.{Rules, uper, aper, uper_strict, aper_strict, oer, coer, octet_bits, canonical, IsEncoding}
+use Rattle.asn1_model.specs.Rules.{Rules, uper, aper, uper_strict, aper_strict, oer, coer, octet_bits, canonical}
+use Rattle.asn1_model.specs.Rules.{IsEncoding}
 use Rattle.asn1_model.specs.Per
 use Rattle.asn1_model.specs.Oer
 
 -- All that is written are octets.
 abbrev pub WrittenAreOctets : Type 0
-WrittenAreOctets = (r : Rules) (s : Schema) (v : Value) (w : List ℕ) → IsLawful s → canonical r s v ≡ Some w → IsTrue (each_is is_octet w)
+WrittenAreOctets =
+    (r : Rules) (s : Schema) (v : Value) (w : List ℕ) → IsLawful s → canonical r s v ≡ Some w
+    → IsTrue (each_is is_octet w)
 
 -- All that a reader of OER or COER takes are octets.
 abbrev pub ReadAreOctets : Type 0
-ReadAreOctets = (s : Schema) (v : Value) (w : List ℕ) → IsLawful s → (IsEncoding oer s v w → IsTrue (each_is is_octet w)) × (IsEncoding coer s v w → IsTrue (each_is is_octet w))
+ReadAreOctets =
+    (s : Schema) (v : Value) (w : List ℕ) → IsLawful s → (IsEncoding oer s v w → IsTrue (each_is is_octet w))
+    × (IsEncoding coer s v w → IsTrue (each_is is_octet w))
 
 -- Fewer than 2 ^ 60 octets that a reader with no freedom at all takes as the value.
 unfoldable pub IsEncodingWithNoFreedom : Rules → Schema → Value → List ℕ → Type 0
 IsEncodingWithNoFreedom uper s v w = (length w < 2 ^ 60) × Reads canonically (Per.message false s v) 0 (octet_bits w)
-IsEncodingWithNoFreedom uper_strict s v w = (length w < 2 ^ 60) × Reads canonically (Per.message false s v) 0 (octet_bits w)
+IsEncodingWithNoFreedom uper_strict s v w =
+    (length w < 2 ^ 60) × Reads canonically (Per.message false s v) 0 (octet_bits w)
 IsEncodingWithNoFreedom aper s v w = (length w < 2 ^ 60) × Reads canonically (Per.message true s v) 0 (octet_bits w)
-IsEncodingWithNoFreedom aper_strict s v w = (length w < 2 ^ 60) × Reads canonically (Per.message true s v) 0 (octet_bits w)
+IsEncodingWithNoFreedom aper_strict s v w =
+    (length w < 2 ^ 60) × Reads canonically (Per.message true s v) 0 (octet_bits w)
 IsEncodingWithNoFreedom r s v w = (length w < 2 ^ 60) × Reads canonically (Oer.form s v) 0 w
 
 -- The octets that are written are those that a reader with no freedom takes as the normal form, and no others.
 abbrev pub WrittenIsReadWithNoFreedom : Type 0
-WrittenIsReadWithNoFreedom = (r : Rules) (s : Schema) (v : Value) (w : List ℕ) → (canonical r s v ≡ Some w → IsEncodingWithNoFreedom r s (normal s v) w) × (IsTrue (each_is is_octet w) → IsEncodingWithNoFreedom r s (normal s v) w → canonical r s v ≡ Some w)
+WrittenIsReadWithNoFreedom =
+    (r : Rules) (s : Schema) (v : Value) (w : List ℕ)
+    → (canonical r s v ≡ Some w → IsEncodingWithNoFreedom r s (normal s v) w)
+    × (IsTrue (each_is is_octet w) → IsEncodingWithNoFreedom r s (normal s v) w → canonical r s v ≡ Some w)

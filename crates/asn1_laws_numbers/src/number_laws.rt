@@ -1,7 +1,8 @@
 //! Numbers as digits, octets and bits (X.691 11.3 and 11.4, X.696 10): positional sums, and the fewest digits that
 //! hold a number. Object identifiers and texts by their octets.
 
-ghost use Rattle.asn1_laws_numbers.specs.Laws.{DigitsAreASum, FewestDigits, ComplementIsASum, FewestOctets, BitsAreDigits, OctetsAndBits, IdentifiersAreTold};
+ghost use Rattle.asn1_laws_numbers.specs.Laws.{DigitsAreASum, FewestDigits, ComplementIsASum, FewestOctets};
+ghost use Rattle.asn1_laws_numbers.specs.Laws.{BitsAreDigits, OctetsAndBits, IdentifiersAreTold};
 ghost use Rattle.asn1_laws_numbers.specs.Laws.{OctetsStandAsBits, Utf8IsText};
 ghost use Rattle.asn1_laws_numbers.specs.Padded.{OerNumbersAreSums, PerNumbersAreSums, PerRangesAreSums};
 
@@ -15,7 +16,8 @@ pub fn fewest_digits()
     ensures { FewestDigits }
 {}
 
-/// Octets of two's complement are a positional sum: of the number, or of the number and the power of 256 that they leave out.
+/// Octets of two's complement are a positional sum: of the number, or of the number and the power of 256 that they
+/// leave out.
 pub fn complement_is_a_sum()
     ensures { ComplementIsASum }
 {}
@@ -45,8 +47,8 @@ pub fn utf8_is_text()
     ensures { Utf8IsText }
 {}
 
-/// A reader who takes numbers in more octets than they need takes, in OER, any octets whose positional sum is the number, in two's
-/// complement where there is a sign, and no others (X.696 10).
+/// A reader who takes numbers in more octets than they need takes, in OER, any octets whose positional sum is the
+/// number, in two's complement where there is a sign, and no others (X.696 10).
 pub fn oer_numbers_are_sums()
     ensures { OerNumbersAreSums }
 {}
@@ -56,8 +58,8 @@ pub fn per_numbers_are_sums()
     ensures { PerNumbersAreSums }
 {}
 
-/// And of a range of more than 65536 numbers in the aligned variant, behind the number of the octets, which is a constrained whole number
-/// of its own (X.691 11.5.7.4 and 13.2.6).
+/// And of a range of more than 65536 numbers in the aligned variant, behind the number of the octets, which is a
+/// constrained whole number of its own (X.691 11.5.7.4 and 13.2.6).
 pub fn per_ranges_are_sums()
     ensures { PerRangesAreSums }
 {}

@@ -12,7 +12,8 @@ pub fn read_are_octets()
     ensures { ReadAreOctets }
 {}
 
-/// The octets that are written are those that a reader with no freedom takes as the normal form of the value, and no others.
+/// The octets that are written are those that a reader with no freedom takes as the normal form of the value, and no
+/// others.
 pub fn written_is_read_with_no_freedom()
     ensures { WrittenIsReadWithNoFreedom }
 {}

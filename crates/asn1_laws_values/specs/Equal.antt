@@ -1,10 +1,10 @@
--- When two values of a type are equal: a component that is absent is equal to one with its default (X.680 25), a group of additions that is
--- absent to one in which nothing is there, and the order of a bag means nothing (X.680 28).
+-- When two values of a type are equal: a component that is absent is equal to one with its default (X.680 25), a group
+-- of additions that is absent to one in which nothing is there, and the order of a bag means nothing (X.680 28).
 use Rattle.std.specs.Prelude.{ℕ, zero, suc, ◌==◌, Bool, true, false, ◌&&◌, ◌||◌}
-use Rattle.asn1_model.specs.Value.{Value, members, bag, fields, chosen, Values, no_more, member, Parts, absent, present, same, same_parts, are_absent}
-use Rattle.asn1_model.specs.Value.{with_rest, taken_out}
-use Rattle.asn1_model.specs.Schema.{Presence, by_default, Schema, sequence_of, set_of, sequence, set, group, choice, Components}
-use Rattle.asn1_model.specs.Schema.{component, Alternatives, no_alternative, alternative}
+use Rattle.asn1_model.specs.Value.{Value, members, bag, fields, chosen, Values, no_more, member, Parts, absent, present}
+use Rattle.asn1_model.specs.Value.{same, same_parts, are_absent, with_rest, taken_out}
+use Rattle.asn1_model.specs.Schema.{Presence, by_default, Schema, sequence_of, set_of, sequence, set, group, choice}
+use Rattle.asn1_model.specs.Schema.{Components, component, Alternatives, no_alternative, alternative}
 
 -- Equal lists, by what makes their members equal.
 abbrev pub equal_members : (Value → Value → Bool) → Values → Values → Bool
@@ -38,10 +38,13 @@ unfoldable mutual
   -- Equal parts: equal values, or absent, or what means as much as that it is absent.
   pub equal_parts : Components → Parts → Parts → Bool
   equal_parts (component t o s cs) (present v ps) (present w qs) =
-      (are_equal s v w || ((is_the_default (λ a b. are_equal s a b) o v || has_nothing s v) && (is_the_default (λ a b. are_equal s a b) o w || has_nothing s w)))
+      (are_equal s v w || ((is_the_default (λ a b. are_equal s a b) o v || has_nothing s v)
+      && (is_the_default (λ a b. are_equal s a b) o w || has_nothing s w)))
       && equal_parts cs ps qs
-  equal_parts (component t o s cs) (present v ps) (absent qs) = (is_the_default (λ a b. are_equal s a b) o v || has_nothing s v) && equal_parts cs ps qs
-  equal_parts (component t o s cs) (absent ps) (present w qs) = (is_the_default (λ a b. are_equal s a b) o w || has_nothing s w) && equal_parts cs ps qs
+  equal_parts (component t o s cs) (present v ps) (absent qs) =
+      (is_the_default (λ a b. are_equal s a b) o v || has_nothing s v) && equal_parts cs ps qs
+  equal_parts (component t o s cs) (absent ps) (present w qs) =
+      (is_the_default (λ a b. are_equal s a b) o w || has_nothing s w) && equal_parts cs ps qs
   equal_parts (component t o s cs) (absent ps) (absent qs) = equal_parts cs ps qs
   equal_parts cs ps qs = same_parts ps qs
 
@@ -58,6 +61,7 @@ unfoldable mutual
 
   -- Parts that are absent, or mean as much.
   pub are_nothing : Components → Parts → Bool
-  are_nothing (component t o s cs) (present v ps) = (is_the_default (λ a b. are_equal s a b) o v || has_nothing s v) && are_nothing cs ps
+  are_nothing (component t o s cs) (present v ps) =
+      (is_the_default (λ a b. are_equal s a b) o v || has_nothing s v) && are_nothing cs ps
   are_nothing (component t o s cs) (absent ps) = are_nothing cs ps
   are_nothing cs ps = are_absent ps

@@ -7,11 +7,15 @@ use Rattle.asn1_model.specs.Form.{arranged}
 
 -- Equality of values is reflexive, symmetric and transitive.
 abbrev pub SameIsEquivalence : Type 0
-SameIsEquivalence = ((v : Value) → same v v ≡ true) × ((v w : Value) → same v w ≡ true → same w v ≡ true) × ((u v w : Value) → same u v ≡ true → same v w ≡ true → same u w ≡ true)
+SameIsEquivalence =
+    ((v : Value) → same v v ≡ true) × ((v w : Value) → same v w ≡ true → same w v ≡ true)
+    × ((u v w : Value) → same u v ≡ true → same v w ≡ true → same u w ≡ true)
 
 -- A bag is the bag of its members in any order.
 abbrev pub BagsHaveNoOrder : Type 0
-BagsHaveNoOrder = (is : List ℕ) (vs ws : List Value) → arranged is vs ≡ Some ws → same (bag (values_of vs)) (bag (values_of ws)) ≡ true
+BagsHaveNoOrder =
+    (is : List ℕ) (vs ws : List Value) → arranged is vs ≡ Some ws
+    → same (bag (values_of vs)) (bag (values_of ws)) ≡ true
 
 -- What is the same has the same normal form.
 abbrev pub NormalRespectsSame : Type 0

@@ -14,26 +14,39 @@ NormalForms = (s : Schema) (v : Value) → (normal s (normal s v) ≡ normal s v
 
 -- What a reader takes, a reader with more freedoms takes as the same value.
 abbrev pub PerWidens : Type 0
-PerWidens = (few more : Per.Freedom → Bool) (x : Per.BitForm) (p : ℕ) (w : List Bool) → ((c : Per.Freedom) → IsTrue (few c) → IsTrue (more c)) → Reads few x p w → Reads more x p w
+PerWidens =
+    (few more : Per.Freedom → Bool) (x : Per.BitForm) (p : ℕ) (w : List Bool)
+    → ((c : Per.Freedom) → IsTrue (few c) → IsTrue (more c)) → Reads few x p w → Reads more x p w
 
 abbrev pub OerWidens : Type 0
-OerWidens = (few more : Oer.Freedom → Bool) (x : Oer.OctetForm) (p : ℕ) (w : List ℕ) → ((c : Oer.Freedom) → IsTrue (few c) → IsTrue (more c)) → Reads few x p w → Reads more x p w
+OerWidens =
+    (few more : Oer.Freedom → Bool) (x : Oer.OctetForm) (p : ℕ) (w : List ℕ)
+    → ((c : Oer.Freedom) → IsTrue (few c) → IsTrue (more c)) → Reads few x p w → Reads more x p w
 
 -- A reader with no freedom takes the canonical text and no other.
 abbrev pub PerCanonical : Type 0
-PerCanonical = (x : Per.BitForm) (p : ℕ) (w : List Bool) → (written x p ≡ Some w → Reads canonically x p w) × (Reads canonically x p w → written x p ≡ Some w)
+PerCanonical =
+    (x : Per.BitForm) (p : ℕ) (w : List Bool) → (written x p ≡ Some w → Reads canonically x p w)
+    × (Reads canonically x p w → written x p ≡ Some w)
 
 abbrev pub OerCanonical : Type 0
-OerCanonical = (x : Oer.OctetForm) (p : ℕ) (w : List ℕ) → (written x p ≡ Some w → Reads canonically x p w) × (Reads canonically x p w → written x p ≡ Some w)
+OerCanonical =
+    (x : Oer.OctetForm) (p : ℕ) (w : List ℕ) → (written x p ≡ Some w → Reads canonically x p w)
+    × (Reads canonically x p w → written x p ≡ Some w)
 
 -- A strict reader takes nothing that the lenient one does not.
 abbrev pub StrictIsLenient : Type 0
-StrictIsLenient = (s : Schema) (v : Value) (w : List ℕ) → (IsEncoding uper_strict s v w → IsEncoding uper s v w) × (IsEncoding aper_strict s v w → IsEncoding aper s v w) × (IsEncoding coer s v w → IsEncoding oer s v w)
+StrictIsLenient =
+    (s : Schema) (v : Value) (w : List ℕ) → (IsEncoding uper_strict s v w → IsEncoding uper s v w)
+    × (IsEncoding aper_strict s v w → IsEncoding aper s v w) × (IsEncoding coer s v w → IsEncoding oer s v w)
 
 -- What a strict reader takes is normal: nothing at its default is spelled out, and no group is empty.
 abbrev pub StrictReadsNormal : Type 0
-StrictReadsNormal = (s : Schema) (v : Value) (w : List ℕ) → (IsEncoding uper_strict s v w → is_normal s v ≡ true) × (IsEncoding aper_strict s v w → is_normal s v ≡ true) × (IsEncoding coer s v w → is_normal s v ≡ true)
+StrictReadsNormal =
+    (s : Schema) (v : Value) (w : List ℕ) → (IsEncoding uper_strict s v w → is_normal s v ≡ true)
+    × (IsEncoding aper_strict s v w → is_normal s v ≡ true) × (IsEncoding coer s v w → is_normal s v ≡ true)
 
 -- What is written is read, in the same rules, as the normal form of the value.
 abbrev pub CanonicalIsRead : Type 0
-CanonicalIsRead = (r : Rules) (s : Schema) (v : Value) (w : List ℕ) → canonical r s v ≡ Some w → IsEncoding r s (normal s v) w
+CanonicalIsRead =
+    (r : Rules) (s : Schema) (v : Value) (w : List ℕ) → canonical r s v ≡ Some w → IsEncoding r s (normal s v) w

@@ -17,4 +17,6 @@ PlainEncoded = (r : Rules) (s : Schema) (v : Value) → IsTrue (is_plain s) → 
 
 -- What is written in some rules is written in any others, or has an encoding of 2 ^ 60 octets or more there.
 abbrev pub SamePlainValues : Type 0
-SamePlainValues = (q r : Rules) (s : Schema) (v : Value) (a : List ℕ) → IsTrue (is_plain s) → canonical q s v ≡ Some a → (b : List ℕ) × (encoding r s v ≡ Some b) × ((canonical r s v ≡ Some b) ⊎ (2 ^ 60 ≤ length b))
+SamePlainValues =
+    (q r : Rules) (s : Schema) (v : Value) (a : List ℕ) → IsTrue (is_plain s) → canonical q s v ≡ Some a → (b : List ℕ)
+    × (encoding r s v ≡ Some b) × ((canonical r s v ≡ Some b) ⊎ (2 ^ 60 ≤ length b))

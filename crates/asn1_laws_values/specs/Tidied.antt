@@ -1,7 +1,7 @@
 -- A type whose defaults are written in normal form.
 use Rattle.std.specs.Prelude.{◌≡◌, true, false}
-use Rattle.asn1_model.specs.Schema.{Presence, by_default, Schema, sequence_of, set_of, sequence, set, group, choice, Components, no_component, component}
-use Rattle.asn1_model.specs.Schema.{Alternatives, no_alternative, alternative}
+use Rattle.asn1_model.specs.Schema.{Presence, by_default, Schema, sequence_of, set_of, sequence, set, group, choice}
+use Rattle.asn1_model.specs.Schema.{Components, no_component, component, Alternatives, no_alternative, alternative}
 use Rattle.asn1_model.specs.Value.{Value, absent, present, end}
 use Rattle.asn1_model.specs.Normal.{normal, is_tidy}
 use Rattle.asn1_model.specs.Types.{roots}
@@ -35,7 +35,8 @@ unfoldable mutual
 
 -- ---- rows
 
--- T ::= SEQUENCE {n T DEFAULT {}} and SEQUENCE {t T DEFAULT {n {n {}}}}: in normal form this default is {n {}}, and {n {}} is {}.
+-- T ::= SEQUENCE {n T DEFAULT {}} and SEQUENCE {t T DEFAULT {n {n {}}}}: in normal form this default is {n {}}, and {n
+-- {}} is {}.
 abbrev pub TidyRows : Type 0
 TidyRows =
     (is_tidy (sequence_default 3 (roots (present spelled end))) ≡ false)

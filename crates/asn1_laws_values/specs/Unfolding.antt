@@ -2,7 +2,8 @@
 use Rattle.std.specs.Prelude.{◌≡◌, ◌⊎◌, ℕ, zero, suc, Bool, true, false, ◌&&◌, IsTrue}
 use Rattle.asn1_model.specs.Value.{absent, end}
 use Rattle.asn1_model.specs.Types.{one_of, or_tagged, closed, has_default, needs, may_have, list, any_size, roots}
-use Rattle.asn1_model.specs.Schema.{Schema, cut, null, sequence_of, set_of, sequence, set, group, choice, Components, no_component, component, Alternatives, no_alternative, alternative}
+use Rattle.asn1_model.specs.Schema.{Schema, cut, null, sequence_of, set_of, sequence, set, group, choice, Components}
+use Rattle.asn1_model.specs.Schema.{no_component, component, Alternatives, no_alternative, alternative}
 
 -- what nests, and a cut, below which it would
 abbrev pub is_constructed : Schema → Bool
@@ -21,27 +22,33 @@ unfoldable mutual
   AgreesTo zero s s' = IsTrue (is_constructed s && is_constructed s') ⊎ (s ≡ s')
   AgreesTo (suc n) (sequence_of z h s) (sequence_of z' h' s') = (z ≡ z') × (h ≡ h') × AgreesTo n s s'
   AgreesTo (suc n) (set_of z h s) (set_of z' h' s') = (z ≡ z') × (h ≡ h') × AgreesTo n s s'
-  AgreesTo (suc n) (sequence cs e adds) (sequence cs' e' adds') = AgreesEach n cs cs' × (e ≡ e') × AgreesEach n adds adds'
+  AgreesTo (suc n) (sequence cs e adds) (sequence cs' e' adds') =
+      AgreesEach n cs cs' × (e ≡ e') × AgreesEach n adds adds'
   AgreesTo (suc n) (set cs e adds) (set cs' e' adds') = AgreesEach n cs cs' × (e ≡ e') × AgreesEach n adds adds'
   AgreesTo (suc n) (group cs) (group cs') = AgreesEach n cs cs'
-  AgreesTo (suc n) (choice roots e adds) (choice roots' e' adds') = AgreesAlternatives n roots roots' × (e ≡ e') × AgreesAlternatives n adds adds'
+  AgreesTo (suc n) (choice roots e adds) (choice roots' e' adds') =
+      AgreesAlternatives n roots roots' × (e ≡ e') × AgreesAlternatives n adds adds'
   AgreesTo (suc n) s s' = s ≡ s'
 
   pub AgreesEach : ℕ → Components → Components → Type 0
   AgreesEach n no_component no_component = Unit {0}
-  AgreesEach n (component t o s cs) (component t' o' s' cs') = (t ≡ t') × (o ≡ o') × AgreesTo n s s' × AgreesEach n cs cs'
+  AgreesEach n (component t o s cs) (component t' o' s' cs') =
+      (t ≡ t') × (o ≡ o') × AgreesTo n s s' × AgreesEach n cs cs'
   AgreesEach n cs cs' = ⊥
 
   pub AgreesAlternatives : ℕ → Alternatives → Alternatives → Type 0
   AgreesAlternatives n no_alternative no_alternative = Unit {0}
-  AgreesAlternatives n (alternative t s others) (alternative t' s' others') = (t ≡ t') × AgreesTo n s s' × AgreesAlternatives n others others'
+  AgreesAlternatives n (alternative t s others) (alternative t' s' others') =
+      (t ≡ t') × AgreesTo n s s' × AgreesAlternatives n others others'
   AgreesAlternatives n others others' = ⊥
 
--- Types with names that stand in one another, each as what it puts round the types under the names: each nests, and makes of types that agree for so
--- many levels a type that agrees for one more. A list or a sequence that stands in a type may have a name of its own, so that it takes a level.
+-- Types with names that stand in one another, each as what it puts round the types under the names: each nests, and
+-- makes of types that agree for so many levels a type that agrees for one more. A list or a sequence that stands in a
+-- type may have a name of its own, so that it takes a level.
 pub record AreRecursive {K : Type 0} (step : K → (K → Schema) → Schema) : Type 0 where
   pub nests : (k : K) (types : K → Schema) → IsTrue (is_constructed (step k types))
-  pub keeps : (n : ℕ) (types others : K → Schema) → ((k : K) → AgreesTo n (types k) (others k)) → (k : K) → AgreesTo (suc n) (step k types) (step k others)
+  pub keeps : (n : ℕ) (types others : K → Schema) → ((k : K) → AgreesTo n (types k) (others k)) → (k : K)
+      → AgreesTo (suc n) (step k types) (step k others)
 
 -- Such types unfolded to so many levels, and cut below.
 abbrev pub unfolded : {K : Type 0} → (K → (K → Schema) → Schema) → ℕ → K → Schema
@@ -56,7 +63,8 @@ nest_step k types = one_of (or_tagged 0 null (or_tagged 1 (types tt) no_alternat
 
 -- T ::= SEQUENCE {n T DEFAULT {}, l SEQUENCE OF T}, the list in the same level
 abbrev pub default_step : Unit {0} → (Unit {0} → Schema) → Schema
-default_step k types = closed (has_default 0 (types tt) (roots (absent end)) (needs 1 (list any_size (types tt)) no_component))
+default_step k types =
+    closed (has_default 0 (types tt) (roots (absent end)) (needs 1 (list any_size (types tt)) no_component))
 
 -- T ::= SEQUENCE {l SEQUENCE OF T}, its list under a name of its own
 pub data TreeName : Type 0 where
@@ -67,7 +75,8 @@ abbrev pub tree_step : TreeName → (TreeName → Schema) → Schema
 tree_step tree types = closed (needs 0 (types branches) no_component)
 tree_step branches types = list any_size (types tree)
 
--- A ::= SEQUENCE {b B OPTIONAL}, B ::= CHOICE {leaf [0] NULL, a [1] A}, P ::= SEQUENCE {a A}: two that hold one another, and one that holds them
+-- A ::= SEQUENCE {b B OPTIONAL}, B ::= CHOICE {leaf [0] NULL, a [1] A}, P ::= SEQUENCE {a A}: two that hold one
+-- another, and one that holds them
 pub data MutualName : Type 0 where
   first : MutualName
   second : MutualName
@@ -89,4 +98,6 @@ LevelRows =
     × (unfolded tree_step 2 tree ≡ closed (needs 0 (list any_size cut) no_component))
     × (unfolded tree_step 3 tree ≡ closed (needs 0 (list any_size (closed (needs 0 cut no_component))) no_component))
     × (unfolded mutual_step 1 holder ≡ closed (needs 0 cut no_component))
-    × (unfolded mutual_step 3 holder ≡ closed (needs 0 (closed (may_have 0 (one_of (or_tagged 0 null (or_tagged 1 cut no_alternative))) no_component)) no_component))
+    × (unfolded mutual_step 3 holder ≡ closed
+    (needs 0 (closed (may_have 0
+    (one_of (or_tagged 0 null (or_tagged 1 cut no_alternative))) no_component)) no_component))

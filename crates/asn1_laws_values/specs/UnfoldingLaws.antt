@@ -24,13 +24,15 @@ MeansTheSame =
 
 -- A default that is normal in both has one normal form in both.
 abbrev pub NormalDefaultsAgree : Type 0
-NormalDefaultsAgree = (s s' : Schema) (d : Value) → is_normal s d ≡ true → is_normal s' d ≡ true → normal s d ≡ normal s' d
+NormalDefaultsAgree =
+    (s s' : Schema) (d : Value) → is_normal s d ≡ true → is_normal s' d ≡ true → normal s d ≡ normal s' d
 
 -- Any type agrees with itself for any number of levels.
 abbrev pub AgreesWithItself : Type 0
 AgreesWithItself = (n : ℕ) (s : Schema) → AgreesTo n s s
 
--- Two unfoldings of one of the types that stand in one another, each to so many levels or more, agree for so many levels.
+-- Two unfoldings of one of the types that stand in one another, each to so many levels or more, agree for so many
+-- levels.
 abbrev pub UnfoldingsAgree : Type 0 → Type 0
 UnfoldingsAgree K =
     (step : K → (K → Schema) → Schema) (k : K) (n i j : ℕ)
@@ -58,8 +60,11 @@ TidiedKeepsValues = (s : Schema) (v : Value) → is_of (tidied s) v ≡ is_of s 
 
 -- One type is a newer version of another exactly if it is with all defaults in normal form.
 abbrev pub TidiedKeepsVersions : Type 0
-TidiedKeepsVersions = (s t : Schema) → (Extends s t → Extends (tidied s) (tidied t)) × (Extends (tidied s) (tidied t) → Extends s t)
+TidiedKeepsVersions =
+    (s t : Schema) → (Extends s t → Extends (tidied s) (tidied t)) × (Extends (tidied s) (tidied t) → Extends s t)
 
 -- A value of one version is the same in the other, and what is left out of it is, with all defaults in normal form.
 abbrev pub TidiedCarriesAlike : Type 0
-TidiedCarriesAlike = (s t : Schema) (v : Value) → (grow (tidied s) (tidied t) v ≡ grow s t v) × (drop (tidied s) (tidied t) v ≡ drop s t v)
+TidiedCarriesAlike =
+    (s t : Schema) (v : Value) → (grow (tidied s) (tidied t) v ≡ grow s t v)
+    × (drop (tidied s) (tidied t) v ≡ drop s t v)

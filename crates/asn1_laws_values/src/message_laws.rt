@@ -1,7 +1,8 @@
 //! What readers with more or with fewer freedoms take of one message (X.691, X.696), and that what is written is read:
 //! what makes translation between encoding rules possible at all.
 
-ghost use Rattle.asn1_laws_values.specs.MessageLaws.{PerWidens, OerWidens, PerCanonical, OerCanonical, StrictIsLenient, CanonicalIsRead, NormalForms, StrictReadsNormal};
+ghost use Rattle.asn1_laws_values.specs.MessageLaws.{PerWidens, OerWidens, PerCanonical, OerCanonical, StrictIsLenient};
+ghost use Rattle.asn1_laws_values.specs.MessageLaws.{CanonicalIsRead, NormalForms, StrictReadsNormal};
 
 /// What a reader takes, a reader with more freedoms takes as the same value.
 pub fn per_widens()

@@ -1,6 +1,7 @@
 //! Equality of values, in which a bag has no order, and normal forms.
 
-ghost use Rattle.asn1_laws_values.specs.Laws.{SameIsEquivalence, BagsHaveNoOrder, NormalRespectsSame, NormalNestsNoDeeper, NormalStays, SameIsAsNormal};
+ghost use Rattle.asn1_laws_values.specs.Laws.{SameIsEquivalence, BagsHaveNoOrder, NormalRespectsSame};
+ghost use Rattle.asn1_laws_values.specs.Laws.{NormalNestsNoDeeper, NormalStays, SameIsAsNormal};
 
 /// Equality of values is reflexive, symmetric and transitive.
 pub fn same_is_equivalence()

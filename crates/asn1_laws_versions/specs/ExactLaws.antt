@@ -20,7 +20,8 @@ is_strict coer = true
 abbrev pub MayBeRead : Rules → Schema → Value → Type 0
 MayBeRead r s v = is_strict r ≡ true → is_normal s v ≡ true
 
--- A value is what the older version can see of one of the newer, up to the order of bags, and in the strict rules it is normal.
+-- A value is what the older version can see of one of the newer, up to the order of bags, and in the strict rules it is
+-- normal.
 abbrev pub IsLeft : Rules → Schema → Schema → Value → Value → Type 0
 IsLeft r old new v x = (u : Value) × (drop old new v ≡ Some u) × (same x u ≡ true) × MayBeRead r old x
 
@@ -28,8 +29,8 @@ IsLeft r old new v x = (u : Value) × (drop old new v ≡ Some u) × (same x u �
 abbrev pub IsGrown : Schema → Schema → Value → Value → Type 0
 IsGrown old new u x = (v : Value) × (grow old new (normal old u) ≡ Some v) × (same x v ≡ true)
 
--- What the newer version writes, the older one reads as a value exactly if this is the one without what the older version lacks, and in the
--- strict rules normal: it reads all of it, and no other beginning, whatever stands behind.
+-- What the newer version writes, the older one reads as a value exactly if this is the one without what the older
+-- version lacks, and in the strict rules normal: it reads all of it, and no other beginning, whatever stands behind.
 abbrev pub OlderReadsExactly : Type 0
 OlderReadsExactly =
     (r : Rules) (old new : Schema) (v x : Value) (w : List ℕ)
@@ -37,8 +38,8 @@ OlderReadsExactly =
     → (IsLeft r old new v x → IsEncoding r old x w)
     × ((a y z : List ℕ) → IsEncoding r old x a → a ++ y ≡ w ++ z → (a ≡ w) × IsLeft r old new v x)
 
--- What the older version writes, the newer one reads as a value exactly if this is the same one, with what only the newer version has absent:
--- it reads all of it, and no other beginning, whatever stands behind.
+-- What the older version writes, the newer one reads as a value exactly if this is the same one, with what only the
+-- newer version has absent: it reads all of it, and no other beginning, whatever stands behind.
 abbrev pub NewerReadsExactly : Type 0
 NewerReadsExactly =
     (r : Rules) (old new : Schema) (u x : Value) (w : List ℕ)

@@ -8,8 +8,8 @@ use Rattle.asn1_model.specs.Rules.{Rules, canonical}
 use Rattle.asn1_model.specs.Typed.{is_of}
 use Rattle.asn1_model.specs.Versions.{Extends, drop, grow}
 use Rattle.asn1_laws_versions.specs.Answers.{Answer, answered, IsAnswer}
-use Rattle.asn1_laws_versions.specs.Routes.{Hop, HopAnswers, Arrives, RefusesAt, Stage, at_first, and_one}
-use Rattle.asn1_laws_versions.specs.Routes.{Writes, HasNoCause, HasCause, GoesThrough, FailsAt, IsLastWritten, IsWritten}
+use Rattle.asn1_laws_versions.specs.Routes.{Hop, HopAnswers, Arrives, RefusesAt, Stage, at_first, and_one, Writes}
+use Rattle.asn1_laws_versions.specs.Routes.{HasNoCause, HasCause, GoesThrough, FailsAt, IsLastWritten, IsWritten}
 use Rattle.asn1_laws_versions.specs.Relays.{AreJoined, Halt, RelaysOlder, IsEnd}
 use Rattle.asn1_laws_across.specs.Relayed.{Stop, Relays}
 

@@ -1,8 +1,10 @@
 //! When a type is a newer version of another (X.680 52), and what a value of the older version is in the newer one:
 //! laws of an order.
 
-ghost use Rattle.asn1_laws_versions.specs.ExtendingLaws.{ExtendingIsTransitive, GrowingTwiceIsGrowing, GrowingKeepsValuesApart};
-ghost use Rattle.asn1_laws_versions.specs.ExtendingLaws.{GrowingKeepsNormalForms, SameIsCarriedAlike, SameNestsAlike, GrowingKeepsLevels};
+ghost use Rattle.asn1_laws_versions.specs.ExtendingLaws.{ExtendingIsTransitive, GrowingTwiceIsGrowing};
+ghost use Rattle.asn1_laws_versions.specs.ExtendingLaws.{GrowingKeepsValuesApart};
+ghost use Rattle.asn1_laws_versions.specs.ExtendingLaws.{GrowingKeepsNormalForms, SameIsCarriedAlike, SameNestsAlike};
+ghost use Rattle.asn1_laws_versions.specs.ExtendingLaws.{GrowingKeepsLevels};
 ghost use Rattle.asn1_laws_versions.specs.ExtendingLaws.{DroppingUndoesGrowing};
 
 /// A newer version of a newer version is one.
@@ -25,8 +27,8 @@ pub fn same_is_carried_alike()
     ensures { SameIsCarriedAlike }
 {}
 
-/// The normal form of a value is carried over as the normal form of what the value is carried over as, and what is normal as something
-/// normal.
+/// The normal form of a value is carried over as the normal form of what the value is carried over as, and what is
+/// normal as something normal.
 pub fn growing_keeps_normal_forms()
     ensures { GrowingKeepsNormalForms }
 {}
@@ -41,8 +43,8 @@ pub fn growing_keeps_levels()
     ensures { GrowingKeepsLevels }
 {}
 
-/// A normal value of the older version that is carried over to the newer one, and then without what the older one lacks, is itself
-/// again.
+/// A normal value of the older version that is carried over to the newer one, and then without what the older one
+/// lacks, is itself again.
 pub fn dropping_undoes_growing()
     ensures { DroppingUndoesGrowing }
 {}

@@ -2,7 +2,8 @@
 
 ghost use Rattle.asn1_laws_versions.specs.RouteLaws.{GrowingIsOfNormalForms, DroppingNestsNoDeeper};
 ghost use Rattle.asn1_laws_versions.specs.RouteLaws.{OneAnswerIsRight, EachHopAnswers};
-ghost use Rattle.asn1_laws_versions.specs.RouteLaws.{RouteDoesOneThing, RouteArrivesExactly, RouteRefusesExactly, RouteEnds};
+ghost use Rattle.asn1_laws_versions.specs.RouteLaws.{RouteDoesOneThing, RouteArrivesExactly, RouteRefusesExactly};
+ghost use Rattle.asn1_laws_versions.specs.RouteLaws.{RouteEnds};
 ghost use Rattle.asn1_laws_versions.specs.RouteLaws.{OlderRelayGoes, OlderRelayDoes};
 ghost use Rattle.asn1_laws_versions.specs.RouteRows.{RouteRows};
 

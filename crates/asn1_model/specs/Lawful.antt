@@ -1,21 +1,20 @@
--- Which types are lawful: tables ascend, tags and items are distinct, bounds are ordered, additions stand behind a mark, defaults are values of
--- their types.
-use Rattle.std.specs.Prelude.{◌==◌, ltb, leb, ℤ, Bool, true, false, cond, not, ◌&&◌, ◌||◌, IsTrue, List, [], ◌∷◌, ◌++◌, Option, Some}
+-- Which types are lawful: tables ascend, tags and items are distinct, bounds are ordered, additions stand behind a
+-- mark, defaults are values of their types.
+use Rattle.std.specs.Prelude.{◌==◌, ltb, leb, ℤ, Bool, true, false, cond, not, ◌&&◌, ◌||◌, IsTrue, List, [], ◌∷◌, ◌++◌}
+use Rattle.std.specs.Prelude.{Option, Some}
 use Rattle.asn1_model.specs.Value.{same_number}
-use Rattle.asn1_model.specs.Schema.{Tag, Range, Counts, Size, Presence, optional, by_default, Schema, integer, enumerated, bit_string, octet_string}
-use Rattle.asn1_model.specs.Schema.{character_string, sequence_of, set_of, sequence, set, group, choice, Components, no_component, component}
-use Rattle.asn1_model.specs.Schema.{Alternatives, no_alternative, alternative}
+use Rattle.asn1_model.specs.Schema.{Tag, Range, Counts, Size, Presence, optional, by_default, Schema, integer}
+use Rattle.asn1_model.specs.Schema.{enumerated, bit_string, octet_string, character_string, sequence_of, set_of}
+use Rattle.asn1_model.specs.Schema.{sequence, set, group, choice, Components, no_component, component, Alternatives}
+use Rattle.asn1_model.specs.Schema.{no_alternative, alternative}
 use Rattle.asn1_model.specs.Numbers.{is_at_most, is_count_to}
 use Rattle.asn1_model.specs.Strings.{each_is}
 use Rattle.asn1_model.specs.Typed.{is_of}
-
--- ---- tags (X.680 8.6): by class, and then by number
 
 -- The order of tags: by class, and then by number (X.680 8.6).
 abbrev pub tag_less : Tag → Tag → Bool
 tag_less t u = ltb t.class u.class || ((t.class == u.class) && ltb t.number u.number)
 
--- Equal tags.
 abbrev pub tag_same : Tag → Tag → Bool
 tag_same t u = (t.class == u.class) && (t.number == u.number)
 
@@ -28,7 +27,6 @@ abbrev pub smallest : Tag → List Tag → Tag
 smallest t [] = t
 smallest t (u ∷ us) = cond (tag_less u t) (smallest u us) (smallest t us)
 
--- No element occurs twice.
 abbrev pub are_distinct : {X : Type 0} → (X → X → Bool) → List X → Bool
 are_distinct e [] = true
 are_distinct e (x ∷ xs) = each_is (λ y. not (e x y)) xs && are_distinct e xs
@@ -39,7 +37,6 @@ are_ascending less [] = true
 are_ascending less (x ∷ []) = true
 are_ascending less (x ∷ y ∷ xs) = less x y && are_ascending less (y ∷ xs)
 
--- The tags of all components.
 abbrev pub component_tags : Components → List Tag
 component_tags no_component = []
 component_tags (component ts o s cs) = ts ++ component_tags cs
@@ -50,34 +47,27 @@ component_places no_component = []
 component_places (component [] o s cs) = component_places cs
 component_places (component (t ∷ ts) o s cs) = smallest t ts ∷ component_places cs
 
--- The tags of all alternatives.
 abbrev pub alternative_tags : Alternatives → List Tag
 alternative_tags no_alternative = []
 alternative_tags (alternative t s others) = t ∷ alternative_tags others
 
--- There is none.
 abbrev pub are_no_components : Components → Bool
 are_no_components no_component = true
 are_no_components cs = false
 
--- There is none.
 abbrev pub are_no_alternatives : Alternatives → Bool
 are_no_alternatives no_alternative = true
 are_no_alternatives others = false
 
--- There is none.
 abbrev pub is_empty : {X : Type 0} → List X → Bool
 is_empty [] = true
 is_empty (x ∷ xs) = false
-
--- ---- constraints
 
 -- The low one of two bounds is not above the high one, where both are there.
 abbrev pub are_ordered : Option ℤ → Option ℤ → Bool
 are_ordered (Some a) (Some b) = is_at_most a b
 are_ordered a b = true
 
--- Ordered bounds.
 abbrev pub is_range : Range → Bool
 is_range r = are_ordered r.low r.high
 
@@ -85,18 +75,13 @@ is_range r = are_ordered r.low r.high
 abbrev pub is_size : Size → Counts → Bool
 is_size z held = is_count_to z.counts.high z.counts.low && is_count_to held.high held.low
 
--- The order of whole numbers.
 abbrev pub int_less : ℤ → ℤ → Bool
 int_less a b = is_at_most a b && not (same_number a b)
 
--- ---- types
-
--- Whether a component is OPTIONAL.
 abbrev pub is_optional : Presence → Bool
 is_optional optional = true
 is_optional o = false
 
--- Whether a type is an extension addition group.
 abbrev pub is_group : Schema → Bool
 is_group (group cs) = true
 is_group s = false
@@ -114,7 +99,8 @@ has_optional_groups (component t o s cs) = (not (is_group s) || is_optional o) &
 -- Additions stand behind a mark, all tags differ (X.680 25 and 27), and groups stand where they may.
 abbrev pub is_sequence_table : Components → Bool → Components → Bool
 is_sequence_table cs e adds =
-    (e || are_no_components adds) && are_distinct tag_same (component_tags cs ++ component_tags adds) && has_no_group cs && has_optional_groups adds
+    (e || are_no_components adds) && are_distinct tag_same (component_tags cs ++ component_tags adds) && has_no_group cs
+    && has_optional_groups adds
 
 -- Whether a default is a value of its component's type (X.680 25).
 abbrev pub has_typed_default : Schema → Presence → Bool
@@ -126,29 +112,36 @@ unfoldable mutual
   pub is_lawful : Schema → Bool
   is_lawful (integer b held) = is_range b.range && is_range held
   is_lawful (enumerated roots e adds) =
-      not (is_empty roots) && (e || is_empty adds) && are_ascending int_less roots && are_ascending int_less adds && are_distinct same_number (roots ++ adds)
+      not (is_empty roots) && (e || is_empty adds) && are_ascending int_less roots && are_ascending int_less adds
+      && are_distinct same_number (roots ++ adds)
   is_lawful (bit_string z held) = is_size z held
   is_lawful (octet_string z held) = is_size z held
   is_lawful (character_string k z a held) = is_size z held
   is_lawful (sequence_of z held s) = is_size z held && not (is_group s) && is_lawful s
   is_lawful (set_of z held s) = is_size z held && not (is_group s) && is_lawful s
   is_lawful (sequence cs e adds) = is_sequence_table cs e adds && are_lawful cs && are_lawful adds
-  is_lawful (set cs e adds) = is_sequence_table cs e adds && are_ascending tag_less (component_places cs) && are_lawful cs && are_lawful adds
-  is_lawful (group cs) = not (are_no_components cs) && are_distinct tag_same (component_tags cs) && has_no_group cs && are_lawful cs
+  is_lawful (set cs e adds) =
+      is_sequence_table cs e adds && are_ascending tag_less (component_places cs) && are_lawful cs && are_lawful adds
+  is_lawful (group cs) =
+      not (are_no_components cs) && are_distinct tag_same (component_tags cs) && has_no_group cs && are_lawful cs
   is_lawful (choice roots e adds) =
-      not (are_no_alternatives roots) && (e || are_no_alternatives adds) && are_ascending tag_less (alternative_tags roots)
-      && are_distinct tag_same (alternative_tags roots ++ alternative_tags adds) && are_lawful_alternatives roots && are_lawful_alternatives adds
+      not (are_no_alternatives roots) && (e || are_no_alternatives adds)
+      && are_ascending tag_less (alternative_tags roots)
+      && are_distinct tag_same (alternative_tags roots ++ alternative_tags adds) && are_lawful_alternatives roots
+      && are_lawful_alternatives adds
   is_lawful s = true
 
-  -- Whether the types of all components are, and their defaults are values of them, in normal form or not (X.680 25).
+  -- Whether the types of all components are, and their defaults are values of them (X.680 25).
   pub are_lawful : Components → Bool
   are_lawful no_component = true
-  are_lawful (component t o s cs) = not (is_empty t) && each_is is_tag t && has_typed_default s o && is_lawful s && are_lawful cs
+  are_lawful (component t o s cs) =
+      not (is_empty t) && each_is is_tag t && has_typed_default s o && is_lawful s && are_lawful cs
 
   -- Whether the types of all alternatives are.
   pub are_lawful_alternatives : Alternatives → Bool
   are_lawful_alternatives no_alternative = true
-  are_lawful_alternatives (alternative t s others) = is_tag t && not (is_group s) && is_lawful s && are_lawful_alternatives others
+  are_lawful_alternatives (alternative t s others) =
+      is_tag t && not (is_group s) && is_lawful s && are_lawful_alternatives others
 
 -- The same as a proposition.
 abbrev pub IsLawful : Schema → Type 0

@@ -1,10 +1,10 @@
--- The normal form of a value: what is equal to its default is absent (X.691 19.5 and X.696 16 in their canonical forms), and so is, by the
--- project's choice, a group of additions that are all absent.
+-- The normal form of a value: what is equal to its default is absent (X.691 19.5 and X.696 16 in their canonical
+-- forms), and so is, by the project's choice, a group of additions that are all absent.
 use Rattle.std.specs.Prelude.{ℕ, zero, suc, Bool, true, false, ◌||◌, ◌&&◌, not, IsTrue}
-use Rattle.asn1_model.specs.Value.{Value, Values, no_more, member, members, bag, fields, chosen, Parts, absent, present, same, are_absent}
-use Rattle.asn1_model.specs.Value.{map_members}
-use Rattle.asn1_model.specs.Schema.{Presence, by_default, Schema, sequence_of, set_of, sequence, set, group, choice, Components, no_component, component}
-use Rattle.asn1_model.specs.Schema.{Alternatives, no_alternative, alternative}
+use Rattle.asn1_model.specs.Value.{Value, Values, no_more, member, members, bag, fields, chosen, Parts, absent, present}
+use Rattle.asn1_model.specs.Value.{same, are_absent, map_members}
+use Rattle.asn1_model.specs.Schema.{Presence, by_default, Schema, sequence_of, set_of, sequence, set, group, choice}
+use Rattle.asn1_model.specs.Schema.{Components, no_component, component, Alternatives, no_alternative, alternative}
 
 -- A group none of whose components is there.
 abbrev pub is_empty_group : Schema → Value → Bool
@@ -36,7 +36,8 @@ unfoldable mutual
   -- Each part in its normal form, left out if it is then its default or an empty group.
   pub normal_parts : Components → Parts → Parts
   normal_parts (component t o s cs) (present v ps) =
-      kept (is_default_by (λ d. normal s d) o (normal s v) || is_empty_group s (normal s v)) (normal s v) (normal_parts cs ps)
+      kept (is_default_by (λ d. normal s d) o (normal s v) || is_empty_group s (normal s v)) (normal s v)
+      (normal_parts cs ps)
   normal_parts (component t o s cs) (absent ps) = absent (normal_parts cs ps)
   normal_parts cs ps = ps
 
@@ -54,12 +55,10 @@ is_at_default o s v = is_default_by (λ d. normal s d) o (normal s v)
 abbrev pub is_group_left_out : Schema → Value → Bool
 is_group_left_out s v = is_empty_group s (normal s v)
 
--- Whether each member passes a test.
 abbrev pub are_all : (Value → Bool) → Values → Bool
 are_all test no_more = true
 are_all test (member v vs) = test v && are_all test vs
 
--- whether no such part stands in a value
 unfoldable mutual
   -- Whether nothing that the normal form leaves out stands in a value.
   pub is_normal : Schema → Value → Bool
@@ -72,19 +71,19 @@ unfoldable mutual
   is_normal (choice roots e adds) (chosen true i v) = is_normal_alternative adds i v
   is_normal s v = true
 
-  -- The same of parts.
   pub are_normal : Components → Parts → Bool
-  are_normal (component t o s cs) (present v ps) = not (is_at_default o s v) && not (is_group_left_out s v) && is_normal s v && are_normal cs ps
+  are_normal (component t o s cs) (present v ps) =
+      not (is_at_default o s v) && not (is_group_left_out s v) && is_normal s v && are_normal cs ps
   are_normal (component t o s cs) (absent ps) = are_normal cs ps
   are_normal cs ps = true
 
-  -- The same of the chosen alternative.
   pub is_normal_alternative : Alternatives → ℕ → Value → Bool
   is_normal_alternative (alternative t s others) zero v = is_normal s v
   is_normal_alternative (alternative t s others) (suc i) v = is_normal_alternative others i v
   is_normal_alternative no_alternative i v = true
 
--- Whether a default is in normal form. It is one abstract value however it is written (X.680 25), so that no type is lost by it.
+-- Whether a default is in normal form. It is one abstract value however it is written (X.680 25), so that no type is
+-- lost by it.
 abbrev pub has_normal_default : Schema → Presence → Bool
 has_normal_default s (by_default d) = is_normal s d
 has_normal_default s o = true
@@ -100,12 +99,10 @@ unfoldable mutual
   is_tidy (choice roots e adds) = are_tidy_alternatives roots && are_tidy_alternatives adds
   is_tidy s = true
 
-  -- The same of components.
   pub are_tidy : Components → Bool
   are_tidy no_component = true
   are_tidy (component t o s cs) = has_normal_default s o && is_tidy s && are_tidy cs
 
-  -- The same of alternatives.
   pub are_tidy_alternatives : Alternatives → Bool
   are_tidy_alternatives no_alternative = true
   are_tidy_alternatives (alternative t s others) = is_tidy s && are_tidy_alternatives others

@@ -1,6 +1,6 @@
 -- Numbers as digits, as octets of two's complement and as bits; and the order of whole numbers.
-use Rattle.std.specs.Prelude.{ℕ, zero, suc, ◌+◌, ◌-◌, ◌*◌, ◌/◌, ◌%◌, ◌^◌, ◌==◌, leb, max, ℤ, pos, negsuc, ◌-ℤ◌, Bool, true, false, cond, ◌&&◌, List}
-use Rattle.std.specs.Prelude.{[], ◌∷◌, map, flat_map, Option, Some, None}
+use Rattle.std.specs.Prelude.{ℕ, zero, suc, ◌+◌, ◌-◌, ◌*◌, ◌/◌, ◌%◌, ◌^◌, ◌==◌, leb, max, ℤ, pos, negsuc, ◌-ℤ◌, Bool}
+use Rattle.std.specs.Prelude.{true, false, cond, ◌&&◌, List, [], ◌∷◌, map, flat_map, Option, Some, None}
 use Rattle.asn1_model.specs.Schema.{Range, Counts}
 
 -- So many digits of a number to a base, the highest first.
@@ -26,7 +26,6 @@ places base n = places_up_to n base n
 abbrev pub width : ℕ → ℕ
 width n = places 2 n
 
--- How many octets hold the numbers up to n.
 abbrev pub octet_width : ℕ → ℕ
 octet_width n = places 256 n
 
@@ -49,8 +48,6 @@ abbrev pub complement : ℕ → ℤ → List ℕ
 complement k (pos m) = digits 256 k m
 complement k (negsuc m) = digits 256 k (256 ^ k - 1 - m)
 
--- ---- order of whole numbers
-
 -- A whole number that is not negative, as a natural one.
 abbrev pub natural : ℤ → Option ℕ
 natural (pos n) = Some n
@@ -64,12 +61,10 @@ above low v = natural (v -ℤ low)
 abbrev pub is_at_most : ℤ → ℤ → Bool
 is_at_most a b = elim (b -ℤ a) [ pos n ↦ true | negsuc n ↦ false ]
 
--- Whether a number is not below a bound, where there is one.
 abbrev pub is_from : Option ℤ → ℤ → Bool
 is_from None v = true
 is_from (Some low) v = is_at_most low v
 
--- Whether a number is not above a bound, where there is one.
 abbrev pub is_to : Option ℤ → ℤ → Bool
 is_to None v = true
 is_to (Some high) v = is_at_most v high
@@ -78,7 +73,6 @@ is_to (Some high) v = is_at_most v high
 abbrev pub is_within : Range → ℤ → Bool
 is_within r v = is_from r.low v && is_to r.high v
 
--- Whether a count is not above a highest one, where there is one.
 abbrev pub is_count_to : Option ℕ → ℕ → Bool
 is_count_to None n = true
 is_count_to (Some high) n = leb n high
@@ -87,11 +81,10 @@ is_count_to (Some high) n = leb n high
 abbrev pub is_count_within : Counts → ℕ → Bool
 is_count_within c n = leb c.low n && is_count_to c.high n
 
--- Whether 128 bits of two's complement hold it. That a number outside them is refused under any value constraint is the project's choice.
+-- Whether 128 bits of two's complement hold it. That a number outside them is refused under any value constraint is the
+-- project's choice.
 abbrev pub fits_128 : ℤ → Bool
 fits_128 v = leb (signed_octets v) 16
-
--- ---- octets of bits
 
 -- How many bits are missing to whole octets.
 abbrev pub missing : ℕ → ℕ
@@ -103,10 +96,10 @@ by_eights (a ∷ b ∷ c ∷ d ∷ e ∷ f ∷ g ∷ h ∷ rest) = (a ∷ b ∷ 
 by_eights [] = []
 by_eights bs = bs ∷ []
 
--- Bits as octets, the first bit the highest (X.691 11.1); a last octet of fewer than eight bits is the number that they are.
+-- Bits as octets, the first bit the highest (X.691 11.1); a last octet of fewer than eight bits is the number that they
+-- are.
 abbrev pub packed : List Bool → List ℕ
 packed bs = map (λ o. number_after 2 0 (map (λ b. cond b 1 0) o)) (by_eights bs)
 
--- Octets as bits, the highest first.
 abbrev pub octet_bits : List ℕ → List Bool
 octet_bits os = flat_map (binary 8) os

@@ -1,16 +1,20 @@
 -- The octet encoding rules (X.696): the form of a value of a type, in octets.
-use Rattle.std.specs.Prelude.{ℕ, zero, suc, ◌+◌, ◌*◌, ◌/◌, ◌^◌, ◌==◌, ltb, leb, not, max, ℤ, pos, negsuc, Bool, true, false, cond, ◌&&◌, ◌||◌, List}
-use Rattle.std.specs.Prelude.{[], ◌∷◌, ◌++◌, length, map, replicate, flat_map, Option, Some, None, option_map}
-use Rattle.asn1_model.specs.Value.{Value, truth, nothing, number, item, bit_list, octet_list, text, arcs, members, bag, fields, chosen, Parts, end}
-use Rattle.asn1_model.specs.Value.{absent, present, each}
-use Rattle.asn1_model.specs.Schema.{Tag, Range, Bounds, Counts, Size, StringKind, bmp, Presence, Schema, boolean, null, integer, enumerated}
-use Rattle.asn1_model.specs.Schema.{bit_string, octet_string, character_string, object_identifier, sequence_of, set_of, sequence, set, group, choice}
-use Rattle.asn1_model.specs.Schema.{Components, no_component, component, Alternatives, no_alternative, alternative}
+use Rattle.std.specs.Prelude.{ℕ, zero, suc, ◌+◌, ◌*◌, ◌/◌, ◌^◌, ◌==◌, ltb, leb, not, max, ℤ, pos, negsuc, Bool, true}
+use Rattle.std.specs.Prelude.{false, cond, ◌&&◌, ◌||◌, List, [], ◌∷◌, ◌++◌, length, map, replicate, flat_map, Option}
+use Rattle.std.specs.Prelude.{Some, None, option_map}
+use Rattle.asn1_model.specs.Value.{Value, truth, nothing, number, item, bit_list, octet_list, text, arcs, members, bag}
+use Rattle.asn1_model.specs.Value.{fields, chosen, Parts, end, absent, present, each}
+use Rattle.asn1_model.specs.Schema.{Tag, Range, Bounds, Counts, Size, StringKind, bmp, Presence, Schema, boolean, null}
+use Rattle.asn1_model.specs.Schema.{integer, enumerated, bit_string, octet_string, character_string, object_identifier}
+use Rattle.asn1_model.specs.Schema.{sequence_of, set_of, sequence, set, group, choice, Components, no_component}
+use Rattle.asn1_model.specs.Schema.{component, Alternatives, no_alternative, alternative}
 pub use Rattle.asn1_model.specs.Numbers.{packed}
-use Rattle.asn1_model.specs.Numbers.{missing, digits, octet_width, least_octets, signed_octets, complement, is_within, is_count_within, fits_128}
+use Rattle.asn1_model.specs.Numbers.{missing, digits, octet_width, least_octets, signed_octets, complement, is_within}
+use Rattle.asn1_model.specs.Numbers.{is_count_within, fits_128}
 use Rattle.asn1_model.specs.Normal.{is_at_default, is_group_left_out}
-use Rattle.asn1_model.specs.Form.{Form, exactly, refused, both, varied, within, written, nothing_more, only_if, given, joined, stands_before}
-use Rattle.asn1_model.specs.Form.{ascending, in_order, Bitmap, is_present, is_any_present, present_ones, covered_by, own_bitmap}
+use Rattle.asn1_model.specs.Form.{Form, exactly, refused, both, varied, within, written, nothing_more, only_if, given}
+use Rattle.asn1_model.specs.Form.{joined, stands_before, ascending, in_order, Bitmap, is_present, is_any_present}
+use Rattle.asn1_model.specs.Form.{present_ones, covered_by, own_bitmap}
 use Rattle.asn1_model.specs.Strings.{may_hold, identifier_octets, is_identifier, is_octet, each_is, groups_of_seven}
 use Rattle.asn1_model.specs.Tables.{is_bounded, item_place, is_required, marks}
 
@@ -59,17 +63,15 @@ Detail empty_bitmap = Bool
 Detail octets_behind = List ℕ
 Detail other_order = Option (List ℕ)
 
--- A form in octets.
 abbrev pub OctetForm : Type 0
 OctetForm = Form Freedom Detail ℕ
-
--- ---- lengths (X.696 8.6)
 
 -- A length in k octets, of which there are 1 to 127, behind their number (X.696 8.6).
 abbrev pub long_length : ℕ → ℕ → OctetForm
 long_length n k = only_if (leb 1 k && leb k 127 && leb (octet_width n) k) (exactly ((128 + k) ∷ digits 256 k n))
 
--- A length: below 128 one octet, else the fewest behind their number (X.696 8.6). That it fits 64 bits is the project's choice.
+-- A length: below 128 one octet, else the fewest behind their number (X.696 8.6). That it fits 64 bits is the project's
+-- choice.
 unfoldable pub length_form : ℕ → OctetForm
 length_form n = only_if (ltb n (2 ^ 64)) (varied longer_length (cond (ltb n 128) None (Some (octet_width n)))
     (λ o. elim o [ None ↦ only_if (ltb n 128) (exactly (n ∷ [])) | Some k ↦ long_length n k ]))
@@ -77,8 +79,6 @@ length_form n = only_if (ltb n (2 ^ 64)) (varied longer_length (cond (ltb n 128)
 -- Octets behind their number (X.696 8.6).
 unfoldable pub counted : List ℕ → OctetForm
 counted os = only_if (each_is is_octet os) (both (length_form (length os)) (exactly os))
-
--- ---- numbers (X.696 10): whole numbers without bounds, and those that are not negative
 
 -- A whole number in the fewest octets of two's complement, behind their number (X.696 10).
 unfoldable pub signed : ℤ → OctetForm
@@ -90,7 +90,8 @@ unsigned n = varied longer_number (least_octets n) (λ k. only_if (leb (least_oc
 
 -- The octets of a fixed form, of which there are 1, 2, 4 or 8 (X.696 10).
 abbrev pub fixed_octets : ℕ → Option ℕ
-fixed_octets k = cond (leb k 1) (Some 1) (cond (leb k 2) (Some 2) (cond (leb k 4) (Some 4) (cond (leb k 8) (Some 8) None)))
+fixed_octets k =
+    cond (leb k 1) (Some 1) (cond (leb k 2) (Some 2) (cond (leb k 4) (Some 4) (cond (leb k 8) (Some 8) None)))
 
 -- A number under a lower bound that is not negative (X.696 10).
 abbrev pub natural_form : Option ℕ → ℤ → OctetForm
@@ -107,16 +108,15 @@ signed_form None v = signed v
 unfoldable pub bounded : Option ℤ → Option ℤ → ℤ → OctetForm
 bounded (Some (pos low)) (Some (pos high)) v = natural_form (fixed_octets (octet_width high)) v
 bounded (Some (pos low)) high v = natural_form None v
-bounded (Some (negsuc low)) (Some high) v = signed_form (fixed_octets (max (signed_octets (negsuc low)) (signed_octets high))) v
+bounded (Some (negsuc low)) (Some high) v =
+    signed_form (fixed_octets (max (signed_octets (negsuc low)) (signed_octets high))) v
 bounded low high v = signed v
 
--- INTEGER (X.696 10): bounds with a mark count for nothing; the program's type holds the number, and under a value constraint 128 bits do, by
--- the project's choice.
+-- INTEGER (X.696 10): bounds with a mark count for nothing; the program's type holds the number, and under a value
+-- constraint 128 bits do, by the project's choice.
 unfoldable pub integer_form : Bounds → Range → ℤ → OctetForm
 integer_form b held v = only_if (is_within held v && (not (is_bounded b) || fits_128 v))
     (cond b.extensible (signed v) (only_if (is_within b.range v) (bounded b.range.low b.range.high v)))
-
--- ---- ENUMERATED (X.696 11)
 
 -- An item in k octets of two's complement behind their number (X.696 11).
 abbrev pub long_item : ℕ → ℤ → OctetForm
@@ -136,8 +136,6 @@ item_octets (negsuc n) = Some (signed_octets (negsuc n))
 unfoldable pub item_form : ℤ → OctetForm
 item_form v = varied longer_item (item_octets v) (λ o. elim o [ None ↦ short_item v | Some k ↦ long_item k v ])
 
--- ---- sizes: what has one size and no mark has no length
-
 -- Whether the highest count is the lowest.
 abbrev pub is_fixed_at : Counts → Option ℕ → Bool
 is_fixed_at c None = false
@@ -151,22 +149,22 @@ is_fixed z = not z.extensible && is_fixed_at z.counts z.counts.high
 abbrev pub admits : Size → Counts → ℕ → Bool
 admits z held n = is_count_within held n && (z.extensible || is_count_within z.counts n)
 
--- ---- BIT STRING (X.696 13)
-
 -- Bits as octets, the last filled with zero bits (X.696 13).
 unfoldable pub bits_form : List Bool → OctetForm
-bits_form bs = varied any_filling (replicate (missing (length bs)) false) (λ fill. only_if (length fill == missing (length bs)) (exactly (packed (bs ++ fill))))
+bits_form bs =
+    varied any_filling (replicate (missing (length bs)) false)
+    (λ fill. only_if (length fill == missing (length bs)) (exactly (packed (bs ++ fill))))
 
 -- The same behind a length and the number of unused bits (X.696 13).
 unfoldable pub counted_bits : List Bool → OctetForm
-counted_bits bs = both (length_form ((length bs + 7) / 8 + 1)) (both (exactly (missing (length bs) ∷ [])) (bits_form bs))
+counted_bits bs =
+    both (length_form ((length bs + 7) / 8 + 1)) (both (exactly (missing (length bs) ∷ [])) (bits_form bs))
 
 -- BIT STRING (X.696 13).
 unfoldable pub bit_string_form : Bool → List Bool → OctetForm
 bit_string_form true bs = bits_form bs
-bit_string_form false bs = varied empty_bit_string false (λ e. cond e (only_if (length bs == 0) (length_form 0)) (counted_bits bs))
-
--- ---- OCTET STRING, character strings (X.696 14 and 27)
+bit_string_form false bs =
+    varied empty_bit_string false (λ e. cond e (only_if (length bs == 0) (length_form 0)) (counted_bits bs))
 
 -- Octets, behind their number unless there is one size (X.696 14).
 unfoldable pub octets_form : Bool → List ℕ → OctetForm
@@ -178,23 +176,22 @@ abbrev pub string_octets : StringKind → List ℕ → List ℕ
 string_octets bmp cs = flat_map (digits 256 2) cs
 string_octets k cs = cs
 
--- ---- tags (X.696 8.7)
-
 -- A tag in the long form: six one bits, and the number in groups of seven bits with no leading zero group (X.696 8.7).
 abbrev pub long_tag_octets : Tag → OctetForm
 long_tag_octets t = only_if (leb 1 t.number) (exactly ((t.class * 64 + 63) ∷ groups_of_seven t.number))
 
 -- A tag: two bits of class, and a number below 63 in six bits, else the long form (X.696 8.7).
 unfoldable pub tag_form : Tag → OctetForm
-tag_form t = varied long_tag (leb 63 t.number) (λ long. cond long (long_tag_octets t) (only_if (ltb t.number 63) (exactly ((t.class * 64 + t.number) ∷ []))))
-
--- ---- open types, SEQUENCE, SET and groups (X.696 16, 18 and 30)
+tag_form t =
+    varied long_tag (leb 63 t.number)
+    (λ long. cond long (long_tag_octets t) (only_if (ltb t.number 63) (exactly ((t.class * 64 + t.number) ∷ []))))
 
 -- An open type: the encoding of a value behind its number of octets (X.696 30).
 unfoldable pub open_type : OctetForm → OctetForm
 open_type x = within x (λ w. varied octets_behind [] (λ more. counted (w ++ more)))
 
--- A component that is there, if it may be: what the normal form leaves out is spelled out only to a reader with the freedom (X.696 16).
+-- A component that is there, if it may be: what the normal form leaves out is spelled out only to a reader with the
+-- freedom (X.696 16).
 unfoldable pub spelled : Presence → Schema → Value → OctetForm → OctetForm
 spelled o s v x = cond (is_at_default o s v)
     (varied default_spelled_out false (λ b. only_if b x))
@@ -225,36 +222,38 @@ sequence_form false ms root [] = both (preamble ms) root
 sequence_form false ms root (a ∷ xs) = refused
 sequence_form true ms root xs = varied other_bitmap (own_bitmap xs) (λ b. bitmapped ms root xs b)
 
--- ---- SEQUENCE OF and SET OF (X.696 17 and 19): a bag stands in the order of its members' encodings
-
 -- SEQUENCE OF: the count, and the members (X.696 17).
 unfoldable pub members_form : Counts → List OctetForm → OctetForm
 members_form held xs = only_if (is_count_within held (length xs)) (both (unsigned (length xs)) (joined xs))
 
 -- SET OF, in ascending order of the members' encodings (X.696 19 for canonical OER).
 unfoldable pub in_any_order : List OctetForm → (List OctetForm → OctetForm) → OctetForm
-in_any_order xs f = varied other_order None (λ o. given (in_order (ascending (λ x. written x 0) (stands_before ltb) xs) o xs) f)
-
--- ---- the form of a value
+in_any_order xs f =
+    varied other_order None (λ o. given (in_order (ascending (λ x. written x 0) (stands_before ltb) xs) o xs) f)
 
 unfoldable mutual
-  -- The form of a value of a type: BOOLEAN (X.696 9), INTEGER (10), ENUMERATED (11), BIT STRING (13), OCTET STRING (14), NULL (15), SEQUENCE
-  -- (16), SEQUENCE OF (17), SET (18), SET OF (19), CHOICE (20), OBJECT IDENTIFIER (21), restricted character strings (27). That a string of
-  -- one size has no length, whatever its kind, is the project's choice.
+  -- The form of a value of a type: BOOLEAN (X.696 9), INTEGER (10), ENUMERATED (11), BIT STRING (13), OCTET STRING
+  -- (14), NULL (15), SEQUENCE (16), SEQUENCE OF (17), SET (18), SET OF (19), CHOICE (20), OBJECT IDENTIFIER (21),
+  -- restricted character strings (27). That a string of one size has no length, whatever its kind, is the project's
+  -- choice.
   pub form : Schema → Value → OctetForm
   form boolean (truth false) = exactly (0 ∷ [])
   form boolean (truth true) = varied any_truth 255 (λ o. only_if (leb 1 o && is_octet o) (exactly (o ∷ [])))
   form null nothing = nothing_more
   form (integer b held) (number v) = integer_form b held v
-  form (enumerated roots e adds) (item v) = only_if (is_present (item_place v roots) || (e && is_present (item_place v adds))) (item_form v)
+  form (enumerated roots e adds) (item v) =
+      only_if (is_present (item_place v roots) || (e && is_present (item_place v adds))) (item_form v)
   form (bit_string z held) (bit_list bs) = only_if (admits z held (length bs)) (bit_string_form (is_fixed z) bs)
   form (octet_string z held) (octet_list os) = only_if (admits z held (length os)) (octets_form (is_fixed z) os)
-  form (character_string k z a held) (text cs) = only_if (admits z held (length cs) && may_hold k cs) (octets_form (is_fixed z) (string_octets k cs))
+  form (character_string k z a held) (text cs) =
+      only_if (admits z held (length cs) && may_hold k cs) (octets_form (is_fixed z) (string_octets k cs))
   form object_identifier (arcs ns) = only_if (is_identifier ns) (counted (identifier_octets ns))
   form (sequence_of z held s) (members vs) = members_form held (each (λ v. form s v) vs)
   form (set_of z held s) (bag vs) = in_any_order (each (λ v. form s v) vs) (members_form held)
-  form (sequence cs e adds) (fields ps qs) = given (addition_forms adds qs) (sequence_form e (marks cs ps) (component_forms cs ps))
-  form (set cs e adds) (fields ps qs) = given (addition_forms adds qs) (sequence_form e (marks cs ps) (component_forms cs ps))
+  form (sequence cs e adds) (fields ps qs) =
+      given (addition_forms adds qs) (sequence_form e (marks cs ps) (component_forms cs ps))
+  form (set cs e adds) (fields ps qs) =
+      given (addition_forms adds qs) (sequence_form e (marks cs ps) (component_forms cs ps))
   form (group cs) (fields ps end) = both (preamble (marks cs ps)) (component_forms cs ps)
   form (choice roots e adds) (chosen false i v) = alternative_form false roots i v
   form (choice roots true adds) (chosen true i v) = alternative_form true adds i v
@@ -270,8 +269,10 @@ unfoldable mutual
   -- The additions, of which those that are required are there, by the project's choice.
   pub addition_forms : Components → Parts → Option (List (Option OctetForm))
   addition_forms no_component end = Some []
-  addition_forms (component t o s cs) (present v ps) = option_map (λ xs. Some (spelled o s v (open_type (form s v))) ∷ xs) (addition_forms cs ps)
-  addition_forms (component t o s cs) (absent ps) = cond (is_required o) None (option_map (λ xs. None ∷ xs) (addition_forms cs ps))
+  addition_forms (component t o s cs) (present v ps) =
+      option_map (λ xs. Some (spelled o s v (open_type (form s v))) ∷ xs) (addition_forms cs ps)
+  addition_forms (component t o s cs) (absent ps) =
+      cond (is_required o) None (option_map (λ xs. None ∷ xs) (addition_forms cs ps))
   addition_forms cs ps = None
 
   -- CHOICE: the tag, and the value, which stands as an open type in an added alternative (X.696 20).

@@ -1,21 +1,24 @@
--- The packed encoding rules (X.691), aligned and not: the form of a value of a type, in bits. Where the aligned variant fills up to an octet
--- is the project's own statement: before the fields that say so here, up to the next octet of the message or open type that holds them, and
--- never before a field of no bits.
-use Rattle.std.specs.Prelude.{ℕ, zero, suc, ◌-◌, ◌*◌, ◌/◌, ◌%◌, ◌^◌, ◌==◌, ltb, leb, not, ℤ, Bool, true, false, cond, ◌&&◌, ◌||◌, List, [], ◌∷◌, ◌++◌}
-use Rattle.std.specs.Prelude.{length, take, drop, map, replicate, flat_map, Option, Some, None, option_map, option_and_then}
-use Rattle.asn1_model.specs.Value.{Value, truth, nothing, number, item, bit_list, octet_list, text, arcs, members, bag, fields, chosen, Parts, end}
-use Rattle.asn1_model.specs.Value.{absent, present, each}
-use Rattle.asn1_model.specs.Schema.{Range, Bounds, Counts, Size, Alphabet, StringKind, Presence, Schema, boolean, null, integer, enumerated}
-use Rattle.asn1_model.specs.Schema.{bit_string, octet_string, character_string, object_identifier, sequence_of, set_of, sequence, set, group, choice}
-use Rattle.asn1_model.specs.Schema.{Components, no_component, component, Alternatives, no_alternative, alternative}
+-- The packed encoding rules (X.691), aligned and not: the form of a value of a type, in bits. Where the aligned variant
+-- fills up to an octet is the project's own statement: before the fields that say so here, up to the next octet of the
+-- message or open type that holds them, and never before a field of no bits.
+use Rattle.std.specs.Prelude.{ℕ, zero, suc, ◌-◌, ◌*◌, ◌/◌, ◌%◌, ◌^◌, ◌==◌, ltb, leb, not, ℤ, Bool, true, false, cond}
+use Rattle.std.specs.Prelude.{◌&&◌, ◌||◌, List, [], ◌∷◌, ◌++◌, length, take, drop, map, replicate, flat_map, Option}
+use Rattle.std.specs.Prelude.{Some, None, option_map, option_and_then}
+use Rattle.asn1_model.specs.Value.{Value, truth, nothing, number, item, bit_list, octet_list, text, arcs, members, bag}
+use Rattle.asn1_model.specs.Value.{fields, chosen, Parts, end, absent, present, each}
+use Rattle.asn1_model.specs.Schema.{Range, Bounds, Counts, Size, Alphabet, StringKind, Presence, Schema, boolean, null}
+use Rattle.asn1_model.specs.Schema.{integer, enumerated, bit_string, octet_string, character_string, object_identifier}
+use Rattle.asn1_model.specs.Schema.{sequence_of, set_of, sequence, set, group, choice, Components, no_component}
+use Rattle.asn1_model.specs.Schema.{component, Alternatives, no_alternative, alternative}
 pub use Rattle.asn1_model.specs.Numbers.{missing, by_eights}
-use Rattle.asn1_model.specs.Numbers.{digits, binary, width, octet_width, least_octets, signed_octets, complement, above, is_at_most, is_within}
-use Rattle.asn1_model.specs.Numbers.{is_count_within, fits_128}
+use Rattle.asn1_model.specs.Numbers.{digits, binary, width, octet_width, least_octets, signed_octets, complement, above}
+use Rattle.asn1_model.specs.Numbers.{is_at_most, is_within, is_count_within, fits_128}
 use Rattle.asn1_model.specs.Normal.{is_at_default, is_group_left_out}
-use Rattle.asn1_model.specs.Form.{Form, exactly, refused, both, placed, varied, within, written, nothing_more, only_if, given, joined, stands_before}
-use Rattle.asn1_model.specs.Form.{ascending, in_order, Bitmap, is_present, is_any_present, present_ones, covered_by, own_bitmap}
-use Rattle.asn1_model.specs.Strings.{Run, permitted, how_many, largest, place_of, may_hold, is_of_octets, identifier_octets, is_identifier, is_octet}
-use Rattle.asn1_model.specs.Strings.{each_is}
+use Rattle.asn1_model.specs.Form.{Form, exactly, refused, both, placed, varied, within, written, nothing_more, only_if}
+use Rattle.asn1_model.specs.Form.{given, joined, stands_before, ascending, in_order, Bitmap, is_present, is_any_present}
+use Rattle.asn1_model.specs.Form.{present_ones, covered_by, own_bitmap}
+use Rattle.asn1_model.specs.Strings.{Run, permitted, how_many, largest, place_of, may_hold, is_of_octets}
+use Rattle.asn1_model.specs.Strings.{identifier_octets, is_identifier, is_octet, each_is}
 use Rattle.asn1_model.specs.Tables.{is_bounded, item_place, is_required, marks, alternative_count}
 
 -- What a reader may take besides the canonical form (the project's choice).
@@ -60,11 +63,8 @@ Detail empty_bitmap = Bool
 Detail octets_behind = List ℕ
 Detail other_order = Option (List ℕ)
 
--- A form in bits.
 abbrev pub BitForm : Type 0
 BitForm = Form Freedom Detail Bool
-
--- ---- filling (X.691 11.1, 11.2)
 
 -- So many zero bits, which a reader may find to be others (X.691 11.1).
 unfoldable pub filling : ℕ → BitForm
@@ -75,16 +75,15 @@ unfoldable pub at_octet : Bool → BitForm → BitForm
 at_octet false x = x
 at_octet true x = both (placed (λ p. filling (missing p))) x
 
--- ---- numbers and lengths
-
--- A number of 0 to span in k octets behind their number, which is a constrained whole number, one of 1 to the octets of span (X.691 11.5.7.4 and
--- 13.2.6).
+-- A number of 0 to span in k octets behind their number, which is a constrained whole number, one of 1 to the octets of
+-- span (X.691 11.5.7.4 and 13.2.6).
 unfoldable pub in_octets_of : (ℕ → ℕ → BitForm) → Bool → ℕ → ℕ → ℕ → BitForm
 in_octets_of whole al span d k = only_if (leb (least_octets d) k && leb k (octet_width span))
     (both (whole (octet_width span - 1) (k - 1)) (at_octet al (exactly (flat_map (binary 8) (digits 256 k d)))))
 
--- A constrained whole number, one of 0 to span (X.691 11.5): not aligned, the bits that span has; aligned, the same up to 255 numbers, one
--- octet for 256, two for up to 65536, and more behind their number, which is such a number again. At most so many stand behind one another.
+-- A constrained whole number, one of 0 to span (X.691 11.5): not aligned, the bits that span has; aligned, the same up
+-- to 255 numbers, one octet for 256, two for up to 65536, and more behind their number, which is such a number again.
+-- At most so many stand behind one another.
 unfoldable pub constrained_in : ℕ → Bool → ℕ → ℕ → BitForm
 constrained_in zero al span d = refused
 constrained_in (suc most) al span d = only_if (leb d span)
@@ -93,8 +92,8 @@ constrained_in (suc most) al span d = only_if (leb d span)
     (cond (ltb span 65536) (at_octet al (exactly (binary 16 d)))
     (varied longer_number (least_octets d) (λ k. in_octets_of (λ s c. constrained_in most al s c) al span d k)))))
 
--- A constrained whole number (X.691 11.5): the octets of a number are fewer than the number, so that span bounds how many stand behind one
--- another.
+-- A constrained whole number (X.691 11.5): the octets of a number are fewer than the number, so that span bounds how
+-- many stand behind one another.
 unfoldable pub constrained : Bool → ℕ → ℕ → BitForm
 constrained al span d = constrained_in (suc span) al span d
 
@@ -104,14 +103,14 @@ short_length al n = at_octet al (varied longer_length (leb 128 n) (λ long. cond
     (only_if (ltb n 16384) (exactly (true ∷ false ∷ binary 14 n)))
     (only_if (ltb n 128) (exactly (false ∷ binary 7 n)))))
 
--- Units in fragments of so many times 16384, each behind its length, and the rest behind a short one (X.691 11.9.3.8). Each length stands at
--- an octet in the aligned variant.
+-- Units in fragments of so many times 16384, each behind its length, and the rest behind a short one (X.691 11.9.3.8).
+-- Each length stands at an octet in the aligned variant.
 unfoldable pub fragments : Bool → List ℕ → List BitForm → BitForm
 fragments al [] us = both (short_length al (length us)) (joined us)
-fragments al (m ∷ ms) us = only_if (leb 1 m && leb m 4 && leb (m * 16384) (length us)) (both (at_octet al (exactly (true ∷ true ∷ binary 6 m)))
+fragments al (m ∷ ms) us =
+    only_if (leb 1 m && leb m 4 && leb (m * 16384) (length us)) (both (at_octet al (exactly (true ∷ true ∷ binary 6 m)))
     (both (joined (take (m * 16384) us)) (fragments al ms (drop (m * 16384) us))))
 
--- A number, if it is not 0.
 abbrev pub unless_zero : ℕ → List ℕ
 unless_zero zero = []
 unless_zero (suc n) = suc n ∷ []
@@ -124,11 +123,9 @@ largest_first n = replicate (n / 65536) 4 ++ unless_zero (n / 16384 % 4)
 unfoldable pub counted : Bool → List BitForm → BitForm
 counted al us = varied other_fragments (largest_first (length us)) (λ ms. fragments al ms us)
 
--- Bits as units.
 abbrev pub bit_units : List Bool → List BitForm
 bit_units bs = map (λ b. exactly (b ∷ [])) bs
 
--- Octets as units.
 abbrev pub octet_units : List ℕ → List BitForm
 octet_units os = map (λ o. exactly (binary 8 o)) os
 
@@ -138,11 +135,13 @@ counted_octets al os = only_if (each_is is_octet os) (counted al (octet_units os
 
 -- A number with a lower bound alone, by how far it is above that, in the fewest octets (X.691 11.7 and 13.2.3).
 unfoldable pub semi_constrained : Bool → ℕ → BitForm
-semi_constrained al d = varied longer_number (least_octets d) (λ k. only_if (leb (least_octets d) k) (counted_octets al (digits 256 k d)))
+semi_constrained al d =
+    varied longer_number (least_octets d) (λ k. only_if (leb (least_octets d) k) (counted_octets al (digits 256 k d)))
 
 -- A number with no lower bound, in the fewest octets of two's complement (X.691 11.8 and 13.2.4).
 unfoldable pub unconstrained : Bool → ℤ → BitForm
-unconstrained al v = varied longer_number (signed_octets v) (λ k. only_if (leb (signed_octets v) k) (counted_octets al (complement k v)))
+unconstrained al v =
+    varied longer_number (signed_octets v) (λ k. only_if (leb (signed_octets v) k) (counted_octets al (complement k v)))
 
 -- A normally small number: up to 63 in six bits (X.691 11.6).
 unfoldable pub normally_small : Bool → ℕ → BitForm
@@ -154,18 +153,17 @@ normally_small al n = varied long_small_number (leb 64 n) (λ long. cond long
 abbrev pub is_from_1_to_64 : ℕ → Bool
 is_from_1_to_64 n = leb 1 n && leb n 64
 
--- Units behind a normally small length, up to 64 in six bits (X.691 11.9.3.4). That from 16384 on the units stand in fragments is the
--- project's choice.
+-- Units behind a normally small length, up to 64 in six bits (X.691 11.9.3.4). That from 16384 on the units stand in
+-- fragments is the project's choice.
 unfoldable pub normally_few : Bool → List BitForm → BitForm
 normally_few al us = varied long_small_number (not (is_from_1_to_64 (length us))) (λ long. cond long
     (both (exactly (true ∷ [])) (counted al us))
     (only_if (is_from_1_to_64 (length us)) (both (exactly (false ∷ binary 6 (length us - 1))) (joined us))))
 
--- ---- INTEGER (13)
-
 -- An INTEGER by its bounds (X.691 13.2).
 unfoldable pub whole_number : Bool → Option ℤ → Option ℤ → ℤ → BitForm
-whole_number al (Some low) (Some high) v = given (above low high) (λ span. given (above low v) (λ d. constrained al span d))
+whole_number al (Some low) (Some high) v =
+    given (above low high) (λ span. given (above low v) (λ d. constrained al span d))
 whole_number al (Some low) None v = given (above low v) (λ d. semi_constrained al d)
 whole_number al None (Some high) v = only_if (is_at_most v high) (unconstrained al v)
 whole_number al None None v = unconstrained al v
@@ -177,15 +175,14 @@ marked true in_root root outside = varied root_marked_outside (not in_root) (λ 
     (both (exactly (true ∷ [])) outside)
     (only_if in_root (both (exactly (false ∷ [])) root)))
 
--- INTEGER (X.691 13): the program's type holds the number, and under a value constraint 128 bits do, by the project's choice.
+-- INTEGER (X.691 13): the program's type holds the number, and under a value constraint 128 bits do, by the project's
+-- choice.
 unfoldable pub integer_form : Bool → Bounds → Range → ℤ → BitForm
 integer_form al b held v = only_if (is_within held v && (not (is_bounded b) || fits_128 v))
     (marked b.extensible (is_within b.range v) (whole_number al b.range.low b.range.high v) (unconstrained al v))
 
--- ---- units of a size (16, 17, 20 and 30): pads tells whether they stand at an octet where their number is constrained
-
--- Units of a size: behind their number by its bounds, if the highest is below 65536, else behind a general length (X.691 11.9.4, 16, 17, 20
--- and 30).
+-- Units of a size: behind their number by its bounds, if the highest is below 65536, else behind a general length
+-- (X.691 11.9.4, 16, 17, 20 and 30).
 unfoldable pub sized_root : Bool → Counts → Option ℕ → (Counts → Bool) → List BitForm → BitForm
 sized_root al c None pads us = counted al us
 sized_root al c (Some high) pads us = cond (ltb high 65536)
@@ -195,32 +192,30 @@ sized_root al c (Some high) pads us = cond (ltb high 65536)
 -- Units of a size that may have a mark (X.691 16.6, 17.3, 20.4 and 30.4).
 unfoldable pub sized : Bool → Size → Counts → (Counts → Bool) → List BitForm → BitForm
 sized al z held pads us = only_if (is_count_within held (length us))
-    (marked z.extensible (is_count_within z.counts (length us)) (sized_root al z.counts z.counts.high pads us) (counted al us))
+    (marked z.extensible (is_count_within z.counts (length us)) (sized_root al z.counts z.counts.high pads us)
+    (counted al us))
 
--- Units that stand where they are.
 abbrev pub never : Counts → Bool
 never c = false
 
--- The bits that all have, where the number of units is fixed.
-abbrev pub fixed_bits : ℕ → Counts → Option ℕ
-fixed_bits unit c = option_and_then (λ high. cond (high == c.low) (Some (high * unit)) None) c.high
-
 -- Contents of no bits take no filling, and nor do fixed ones of at most 16 bits (X.691 16.9 to 16.11, 17.6 to 17.8).
 abbrev pub pads_string : ℕ → ℕ → Counts → Bool
-pads_string unit n c = not (n * unit == 0) && elim (fixed_bits unit c) [ None ↦ true | Some all ↦ ltb 16 all ]
+pads_string unit n c =
+    not (n * unit == 0) && elim
+    (option_and_then (λ high. cond (high == c.low)
+    (Some (high * unit)) None) c.high) [ None ↦ true | Some all ↦ ltb 16 all ]
 
--- Characters also take none where as many as there may be have fewer than 16 bits (X.691 30.5.6 and 30.5.7). Where they take filling is the
--- project's choice.
+-- Characters also take none where as many as there may be have fewer than 16 bits (X.691 30.5.6 and 30.5.7). Where they
+-- take filling is the project's choice.
 abbrev pub pads_characters : ℕ → ℕ → Counts → Bool
 pads_characters unit n c = pads_string unit n c && elim (c.high) [ None ↦ true | Some high ↦ leb 16 (high * unit) ]
-
--- ---- character strings (30)
 
 -- The next of 0, 1, 2, 4, 8 and 16 (X.691 30.5.2).
 abbrev pub raised : ℕ → ℕ
 raised b = cond (leb b 2) b (cond (leb b 4) 4 (cond (leb b 8) 8 16))
 
--- The bits of each character: those that the number of permitted ones needs, raised in the aligned variant (X.691 30.5.2).
+-- The bits of each character: those that the number of permitted ones needs, raised in the aligned variant (X.691
+-- 30.5.2).
 abbrev pub character_bits : Bool → List Run → ℕ
 character_bits al rs = cond al (raised (width (how_many rs - 1))) (width (how_many rs - 1))
 
@@ -230,16 +225,15 @@ character b rs c = given (place_of c rs) (λ i. exactly (binary b (cond (ltb (la
 
 -- Characters behind their number (X.691 30.5).
 unfoldable pub characters : Bool → Size → Counts → List Run → List ℕ → BitForm
-characters al z held rs cs = sized al z held (pads_characters (character_bits al rs) (length cs)) (map (character (character_bits al rs) rs) cs)
+characters al z held rs cs =
+    sized al z held (pads_characters (character_bits al rs) (length cs)) (map (character (character_bits al rs) rs) cs)
 
--- A restricted character string (X.691 30). Sizes and alphabets of UTF8String, General-, Graphic- and TeletexString count for nothing, by the
--- project's choice.
+-- A restricted character string (X.691 30). Sizes and alphabets of UTF8String, General-, Graphic- and TeletexString
+-- count for nothing, by the project's choice.
 unfoldable pub string_form : Bool → StringKind → Size → Alphabet → Counts → List ℕ → BitForm
 string_form al k z a held cs = only_if (may_hold k cs) (cond (is_of_octets k)
     (only_if (is_count_within held (length cs)) (counted_octets al cs))
     (characters al z held (permitted k a) cs))
-
--- ---- ENUMERATED (14)
 
 -- The mark of extensibility, where the type has one.
 abbrev pub mark_of : Bool → Bool → BitForm
@@ -255,8 +249,6 @@ added_item al e j = refused
 unfoldable pub item_form : Bool → ℕ → Bool → Option ℕ → Option ℕ → BitForm
 item_form al roots e (Some i) j = both (mark_of e false) (constrained al (roots - 1) i)
 item_form al roots e None j = added_item al e j
-
--- ---- complete encodings and open types (11.1, 11.2)
 
 -- Filled up with zero bits to whole octets, and one zero octet in place of no bits (X.691 11.1).
 unfoldable pub filled_up : List Bool → BitForm
@@ -274,21 +266,21 @@ counted_eights al w = counted al (map (λ o. exactly o) (by_eights w))
 -- An open type: a complete encoding behind its number of octets (X.691 11.2).
 unfoldable pub open_type : Bool → BitForm → BitForm
 open_type al x = within (complete x) (λ w.
-    varied octets_behind [] (λ more. only_if (each_is is_octet more) (counted_eights al (w ++ flat_map (binary 8) more))))
+    varied octets_behind [] (λ more. only_if (each_is is_octet more)
+    (counted_eights al (w ++ flat_map (binary 8) more))))
 
--- ---- SEQUENCE, SET and groups (19, 21)
-
--- A component that is there, if it may be: what the normal form leaves out is spelled out only to a reader with the freedom (X.691 19.5).
+-- A component that is there, if it may be: what the normal form leaves out is spelled out only to a reader with the
+-- freedom (X.691 19.5).
 unfoldable pub spelled : Presence → Schema → Value → BitForm → BitForm
 spelled o s v x = cond (is_at_default o s v)
     (varied default_spelled_out false (λ b. only_if b x))
     (cond (is_group_left_out s v) (varied empty_group false (λ b. only_if b x)) x)
 
--- Whether an addition is there.
 abbrev pub flag : Option BitForm → BitForm
 flag a = exactly (is_present a ∷ [])
 
--- The number of additions that the bitmap has, its bits, and each addition that is there as an open type (X.691 19.7 to 19.9).
+-- The number of additions that the bitmap has, its bits, and each addition that is there as an open type (X.691 19.7 to
+-- 19.9).
 unfoldable pub additions : Bool → List (Option BitForm) → BitForm
 additions al xs = both (normally_few al (map flag xs)) (joined (present_ones xs))
 
@@ -299,7 +291,8 @@ with_additions al ms root xs = both (exactly (true ∷ ms)) (both root (addition
 -- With no bitmap, or with one; the additions that it tells of are then there (X.691 19.7).
 unfoldable pub bitmapped : Bool → List Bool → BitForm → List (Option BitForm) → Option Bitmap → BitForm
 bitmapped al ms root xs None = only_if (not (is_any_present xs)) (both (exactly (false ∷ ms)) root)
-bitmapped al ms root xs (Some b) = given (covered_by (λ os. counted_octets al os) b xs) (λ all. cond (is_any_present all)
+bitmapped al ms root xs (Some b) =
+    given (covered_by (λ os. counted_octets al os) b xs) (λ all. cond (is_any_present all)
     (with_additions al ms root all)
     (varied empty_bitmap false (λ e. only_if e (with_additions al ms root all))))
 
@@ -309,39 +302,42 @@ sequence_form al false ms root [] = both (exactly ms) root
 sequence_form al false ms root (a ∷ xs) = refused
 sequence_form al true ms root xs = varied other_bitmap (own_bitmap xs) (λ b. bitmapped al ms root xs b)
 
--- ---- SET OF (22): in the order of the members' complete encodings
-
 -- A bit of 0 before one of 1.
 abbrev pub bit_less : Bool → Bool → Bool
 bit_less a b = not a && b
 
--- SET OF, in ascending order of the members' complete encodings (X.691 22 for canonical PER; that each variant stands in its own order is the
--- project's choice). Whole octets are compared by their bits, which is the same.
+-- SET OF, in ascending order of the members' complete encodings (X.691 22 for canonical PER; that each variant stands
+-- in its own order is the project's choice). Whole octets are compared by their bits, which is the same.
 unfoldable pub in_any_order : List BitForm → (List BitForm → BitForm) → BitForm
-in_any_order xs f = varied other_order None (λ o. given (in_order (ascending (λ x. written (complete x) 0) (stands_before bit_less) xs) o xs) f)
-
--- ---- the form of a value; BOOLEAN (12), NULL (18), SEQUENCE OF (20), CHOICE (23), OBJECT IDENTIFIER (24)
+in_any_order xs f =
+    varied other_order None
+    (λ o. given (in_order (ascending (λ x. written (complete x) 0) (stands_before bit_less) xs) o xs) f)
 
 unfoldable mutual
-  -- The form of a value of a type: BOOLEAN (X.691 12), INTEGER (13), ENUMERATED (14), BIT STRING (16), OCTET STRING (17), NULL (18), SEQUENCE
-  -- (19), SEQUENCE OF (20), SET (21), SET OF (22), CHOICE (23), OBJECT IDENTIFIER (24), restricted character strings (30).
+  -- The form of a value of a type: BOOLEAN (X.691 12), INTEGER (13), ENUMERATED (14), BIT STRING (16), OCTET STRING
+  -- (17), NULL (18), SEQUENCE (19), SEQUENCE OF (20), SET (21), SET OF (22), CHOICE (23), OBJECT IDENTIFIER (24),
+  -- restricted character strings (30).
   pub form : Bool → Schema → Value → BitForm
   form al boolean (truth b) = exactly (b ∷ [])
   form al null nothing = nothing_more
   form al (integer b held) (number v) = integer_form al b held v
   form al (enumerated roots e adds) (item v) = item_form al (length roots) e (item_place v roots) (item_place v adds)
   form al (bit_string z held) (bit_list bs) = sized al z held (pads_string 1 (length bs)) (bit_units bs)
-  form al (octet_string z held) (octet_list os) = only_if (each_is is_octet os) (sized al z held (pads_string 8 (length os)) (octet_units os))
+  form al (octet_string z held) (octet_list os) =
+      only_if (each_is is_octet os) (sized al z held (pads_string 8 (length os)) (octet_units os))
   form al (character_string k z a held) (text cs) = string_form al k z a held cs
   form al object_identifier (arcs ns) = only_if (is_identifier ns) (counted_octets al (identifier_octets ns))
   form al (sequence_of z held s) (members vs) = sized al z held never (each (λ v. form al s v) vs)
   form al (set_of z held s) (bag vs) = in_any_order (each (λ v. form al s v) vs) (sized al z held never)
-  form al (sequence cs e adds) (fields ps qs) = given (addition_forms al adds qs) (sequence_form al e (marks cs ps) (component_forms al cs ps))
-  form al (set cs e adds) (fields ps qs) = given (addition_forms al adds qs) (sequence_form al e (marks cs ps) (component_forms al cs ps))
+  form al (sequence cs e adds) (fields ps qs) =
+      given (addition_forms al adds qs) (sequence_form al e (marks cs ps) (component_forms al cs ps))
+  form al (set cs e adds) (fields ps qs) =
+      given (addition_forms al adds qs) (sequence_form al e (marks cs ps) (component_forms al cs ps))
   form al (group cs) (fields ps end) = both (exactly (marks cs ps)) (component_forms al cs ps)
   form al (choice roots e adds) (chosen false i v) =
       both (mark_of e false) (both (constrained al (alternative_count roots - 1) i) (alternative_form al roots i v))
-  form al (choice roots true adds) (chosen true i v) = both (exactly (true ∷ [])) (both (normally_small al i) (open_type al (alternative_form al adds i v)))
+  form al (choice roots true adds) (chosen true i v) =
+      both (exactly (true ∷ [])) (both (normally_small al i) (open_type al (alternative_form al adds i v)))
   form al s v = refused
 
   -- One component after another (X.691 19.6).
@@ -354,8 +350,10 @@ unfoldable mutual
   -- The additions, of which those that are required are there, by the project's choice.
   pub addition_forms : Bool → Components → Parts → Option (List (Option BitForm))
   addition_forms al no_component end = Some []
-  addition_forms al (component t o s cs) (present v ps) = option_map (λ xs. Some (spelled o s v (open_type al (form al s v))) ∷ xs) (addition_forms al cs ps)
-  addition_forms al (component t o s cs) (absent ps) = cond (is_required o) None (option_map (λ xs. None ∷ xs) (addition_forms al cs ps))
+  addition_forms al (component t o s cs) (present v ps) =
+      option_map (λ xs. Some (spelled o s v (open_type al (form al s v))) ∷ xs) (addition_forms al cs ps)
+  addition_forms al (component t o s cs) (absent ps) =
+      cond (is_required o) None (option_map (λ xs. None ∷ xs) (addition_forms al cs ps))
   addition_forms al cs ps = None
 
   -- The value of the alternative at a place (X.691 23).

@@ -1,18 +1,15 @@
--- Rows: the canonical octets of types and values, worked out by hand from the rules and computed here from the definitions.
+-- Rows: the canonical octets of types and values, worked out by hand from the rules and computed here from the
+-- definitions.
 use Rattle.std.specs.Prelude.{◌+◌, ◌-◌, ◌^◌, pos, true, false, [], ◌∷◌, ◌++◌, replicate, Some}
 use Rattle.asn1_model.specs.Value.{nothing, item, arcs, chosen}
-use Rattle.asn1_model.specs.Schema.{boolean, null, integer, enumerated}
-use Rattle.asn1_model.specs.Schema.{object_identifier, sequence_of, choice}
+use Rattle.asn1_model.specs.Schema.{boolean, null, integer, enumerated, object_identifier, sequence_of, choice}
 use Rattle.asn1_model.specs.Rules.{uper, aper, coer}
-use Rattle.asn1_model.specs.Types.{Writes, WritesNothing, minus, from_to, any_size, sizes, sizes_or_more, whole, between}
-use Rattle.asn1_model.specs.Types.{at_least, bit_text, octet_text, list, context}
-use Rattle.asn1_model.specs.Types.{one_of, yes, num, below, set_bits, bits_of, signed_items, octet_number, marked_number}
-use Rattle.asn1_model.specs.Types.{word_number, from_zero, at_most_5, min_to_max, marked_min_to_max, colour_old}
-use Rattle.asn1_model.specs.Types.{numbers_from, any_bits, marked_octets, flagged}
-use Rattle.asn1_model.specs.Types.{one_or_two, only_tagged, marked_choice}
-use Rattle.asn1_model.specs.Types.{null_alternatives}
-use Rattle.asn1_model.specs.Types.{yes_and, list_of, null_list}
-use Rattle.asn1_model.specs.Types.{octets}
+use Rattle.asn1_model.specs.Types.{Writes, WritesNothing, minus, from_to, any_size, sizes, sizes_or_more, whole}
+use Rattle.asn1_model.specs.Types.{between, at_least, bit_text, octet_text, list, context, one_of, yes, num, below}
+use Rattle.asn1_model.specs.Types.{set_bits, bits_of, signed_items, octet_number, marked_number, word_number, from_zero}
+use Rattle.asn1_model.specs.Types.{at_most_5, min_to_max, marked_min_to_max, colour_old, numbers_from, any_bits}
+use Rattle.asn1_model.specs.Types.{marked_octets, flagged, one_or_two, only_tagged, marked_choice, null_alternatives}
+use Rattle.asn1_model.specs.Types.{yes_and, list_of, null_list, octets}
 
 -- bounds at which a form changes
 abbrev pub RangeRows : Type 0
@@ -49,8 +46,10 @@ RangeRows =
     × Writes aper (flagged (between (pos 0) (pos (256 ^ 254)))) (yes_and (num 256)) (0x80 ∷ 0x80 ∷ 0x01 ∷ 0x00 ∷ [])
     × Writes aper (flagged (between (pos 0) (pos (256 ^ 255)))) (yes_and (num 256)) (0x80 ∷ 0x01 ∷ 0x01 ∷ 0x00 ∷ [])
     × Writes aper (flagged (between (pos 0) (pos (256 ^ 255)))) (yes_and (num 0)) (0x80 ∷ 0x00 ∷ 0x00 ∷ [])
-    × Writes aper (flagged (between (minus (256 ^ 255)) (pos 0))) (yes_and (num 0)) (0x80 ∷ 0xFF ∷ 0x01 ∷ replicate 255 0x00)
-    × Writes aper (flagged (between (pos 0) (pos (256 ^ 256)))) (yes_and (num 256)) (0x80 ∷ 0x00 ∷ 0x01 ∷ 0x01 ∷ 0x00 ∷ [])
+    × Writes aper (flagged (between (minus (256 ^ 255)) (pos 0))) (yes_and (num 0))
+    (0x80 ∷ 0xFF ∷ 0x01 ∷ replicate 255 0x00)
+    × Writes aper (flagged (between (pos 0) (pos (256 ^ 256)))) (yes_and (num 256))
+    (0x80 ∷ 0x00 ∷ 0x01 ∷ 0x01 ∷ 0x00 ∷ [])
     × Writes uper (between (pos 0) (pos (256 ^ 255))) (num 256) (replicate 254 0x00 ++ 0x80 ∷ 0x00 ∷ [])
     × Writes coer (between (pos 0) (pos (256 ^ 255))) (num 256) (0x02 ∷ 0x01 ∷ 0x00 ∷ [])
     × WritesNothing aper (between (pos 0) (pos (256 ^ 255))) (num (2 ^ 127))
@@ -135,8 +134,10 @@ RangeRows =
     × Writes coer (between (minus (2 ^ 63 + 1)) (pos (2 ^ 63))) (num 127) (0x01 ∷ 0x7F ∷ [])
     × Writes coer (between (minus 1) (pos (2 ^ 63))) (num 128) (0x02 ∷ 0x00 ∷ 0x80 ∷ [])
     -- what the program's type holds: no text, whatever the constraint
-    × WritesNothing coer (integer (from_to (Some (pos 0)) (Some (pos 255)) true) (record { low = Some (pos 0); high = Some (pos 255) })) (num 300)
-    × WritesNothing uper (integer (from_to (Some (pos 0)) (Some (pos 255)) true) (record { low = Some (pos 0); high = Some (pos 255) })) (num 300)
+    × WritesNothing coer (integer (from_to (Some (pos 0)) (Some (pos 255)) true)
+    (record { low = Some (pos 0); high = Some (pos 255) })) (num 300)
+    × WritesNothing uper (integer (from_to (Some (pos 0)) (Some (pos 255)) true)
+    (record { low = Some (pos 0); high = Some (pos 255) })) (num 300)
 
 -- enumerations, identifiers and tags
 abbrev pub TableRows : Type 0
@@ -154,7 +155,8 @@ TableRows =
     × Writes uper (flagged (enumerated (numbers_from 0 256) false [])) (yes_and (item (pos 255))) (0xFF ∷ 0x80 ∷ [])
     × Writes aper (flagged (enumerated (numbers_from 0 256) false [])) (yes_and (item (pos 255))) (0x80 ∷ 0xFF ∷ [])
     × Writes aper (flagged (enumerated (numbers_from 0 255) false [])) (yes_and (item (pos 254))) (0xFF ∷ 0x00 ∷ [])
-    × Writes aper (flagged (enumerated (numbers_from 0 257) false [])) (yes_and (item (pos 256))) (0x80 ∷ 0x01 ∷ 0x00 ∷ [])
+    × Writes aper (flagged (enumerated (numbers_from 0 257) false [])) (yes_and (item (pos 256)))
+    (0x80 ∷ 0x01 ∷ 0x00 ∷ [])
     -- added items 63 and 64: normally small numbers in their short and in their long form
     × Writes uper (enumerated (pos 0 ∷ []) true (numbers_from 1 65)) (item (pos 64)) (0xBF ∷ [])
     × Writes aper (enumerated (pos 0 ∷ []) true (numbers_from 1 65)) (item (pos 64)) (0xBF ∷ [])
@@ -196,10 +198,14 @@ TableRows =
     -- root alternatives by their place, added ones 63 and 64
     × Writes uper (flagged (one_of (null_alternatives 0 3))) (yes_and (chosen false 2 nothing)) (0xC0 ∷ [])
     × Writes aper (flagged (one_of (null_alternatives 0 256))) (yes_and (chosen false 255 nothing)) (0x80 ∷ 0xFF ∷ [])
-    × Writes uper (choice (null_alternatives 0 1) true (null_alternatives 1 65)) (chosen true 63 nothing) (0xBF ∷ 0x01 ∷ 0x00 ∷ [])
-    × Writes uper (choice (null_alternatives 0 1) true (null_alternatives 1 65)) (chosen true 64 nothing) (0xC0 ∷ 0x50 ∷ 0x00 ∷ 0x40 ∷ 0x00 ∷ [])
-    × Writes aper (choice (null_alternatives 0 1) true (null_alternatives 1 65)) (chosen true 64 nothing) (0xC0 ∷ 0x01 ∷ 0x40 ∷ 0x01 ∷ 0x00 ∷ [])
-    × Writes coer (choice (null_alternatives 0 1) true (null_alternatives 1 65)) (chosen true 64 nothing) (0xBF ∷ 0x41 ∷ 0x00 ∷ [])
+    × Writes uper (choice (null_alternatives 0 1) true (null_alternatives 1 65)) (chosen true 63 nothing)
+    (0xBF ∷ 0x01 ∷ 0x00 ∷ [])
+    × Writes uper (choice (null_alternatives 0 1) true (null_alternatives 1 65)) (chosen true 64 nothing)
+    (0xC0 ∷ 0x50 ∷ 0x00 ∷ 0x40 ∷ 0x00 ∷ [])
+    × Writes aper (choice (null_alternatives 0 1) true (null_alternatives 1 65)) (chosen true 64 nothing)
+    (0xC0 ∷ 0x01 ∷ 0x40 ∷ 0x01 ∷ 0x00 ∷ [])
+    × Writes coer (choice (null_alternatives 0 1) true (null_alternatives 1 65)) (chosen true 64 nothing)
+    (0xBF ∷ 0x41 ∷ 0x00 ∷ [])
     × WritesNothing uper (one_of (null_alternatives 0 3)) (chosen false 3 nothing)
     × WritesNothing coer (one_of (null_alternatives 0 3)) (chosen false 3 nothing)
     × WritesNothing uper marked_choice (chosen true 1 (num 1))
@@ -217,18 +223,22 @@ SizeRows =
     × Writes aper (flagged (bit_text (sizes 17 17))) (yes_and (set_bits 17)) (0x80 ∷ 0xFF ∷ 0xFF ∷ 0x80 ∷ [])
     × Writes uper (flagged (octet_text (sizes 2 2))) (yes_and (octets (1 ∷ 2 ∷ []))) (0x80 ∷ 0x81 ∷ 0x00 ∷ [])
     × Writes aper (flagged (octet_text (sizes 2 2))) (yes_and (octets (1 ∷ 2 ∷ []))) (0x80 ∷ 0x81 ∷ 0x00 ∷ [])
-    × Writes uper (flagged (octet_text (sizes 3 3))) (yes_and (octets (1 ∷ 2 ∷ 3 ∷ []))) (0x80 ∷ 0x81 ∷ 0x01 ∷ 0x80 ∷ [])
-    × Writes aper (flagged (octet_text (sizes 3 3))) (yes_and (octets (1 ∷ 2 ∷ 3 ∷ []))) (0x80 ∷ 0x01 ∷ 0x02 ∷ 0x03 ∷ [])
+    × Writes uper (flagged (octet_text (sizes 3 3))) (yes_and (octets (1 ∷ 2 ∷ 3 ∷ [])))
+    (0x80 ∷ 0x81 ∷ 0x01 ∷ 0x80 ∷ [])
+    × Writes aper (flagged (octet_text (sizes 3 3))) (yes_and (octets (1 ∷ 2 ∷ 3 ∷ [])))
+    (0x80 ∷ 0x01 ∷ 0x02 ∷ 0x03 ∷ [])
     -- fixed with a mark, inside the root and outside
     × Writes uper (flagged (bit_text (sizes_or_more 16 16))) (yes_and (set_bits 16)) (0xBF ∷ 0xFF ∷ 0xC0 ∷ [])
     × Writes aper (flagged (bit_text (sizes_or_more 16 16))) (yes_and (set_bits 16)) (0xBF ∷ 0xFF ∷ 0xC0 ∷ [])
     × Writes uper (flagged (bit_text (sizes_or_more 16 16))) (yes_and (set_bits 17)) (0xC4 ∷ 0x7F ∷ 0xFF ∷ 0xE0 ∷ [])
-    × Writes aper (flagged (bit_text (sizes_or_more 16 16))) (yes_and (set_bits 17)) (0xC0 ∷ 0x11 ∷ 0xFF ∷ 0xFF ∷ 0x80 ∷ [])
+    × Writes aper (flagged (bit_text (sizes_or_more 16 16))) (yes_and (set_bits 17))
+    (0xC0 ∷ 0x11 ∷ 0xFF ∷ 0xFF ∷ 0x80 ∷ [])
     × Writes coer (bit_text (sizes_or_more 16 16)) (set_bits 16) (0x03 ∷ 0x00 ∷ 0xFF ∷ 0xFF ∷ [])
     × Writes coer (bit_text (sizes 16 16)) (set_bits 16) (0xFF ∷ 0xFF ∷ [])
     × Writes coer (octet_text (sizes_or_more 2 2)) (octets (1 ∷ 2 ∷ [])) (0x02 ∷ 0x01 ∷ 0x02 ∷ [])
     × Writes aper (flagged marked_octets) (yes_and (octets (1 ∷ []))) (0x80 ∷ 0x01 ∷ [])
-    × Writes aper (flagged marked_octets) (yes_and (octets (1 ∷ 2 ∷ 3 ∷ 4 ∷ []))) (0xC0 ∷ 0x04 ∷ 0x01 ∷ 0x02 ∷ 0x03 ∷ 0x04 ∷ [])
+    × Writes aper (flagged marked_octets) (yes_and (octets (1 ∷ 2 ∷ 3 ∷ 4 ∷ [])))
+    (0xC0 ∷ 0x04 ∷ 0x01 ∷ 0x02 ∷ 0x03 ∷ 0x04 ∷ [])
     × WritesNothing coer (bit_text (sizes 16 16)) (set_bits 17)
     × WritesNothing uper (bit_text (sizes 16 16)) (set_bits 17)
     -- a size of nothing, and contents of no bits, which take no filling
@@ -248,20 +258,25 @@ SizeRows =
     × Writes aper (flagged (octet_text (sizes 0 65536))) (yes_and (octets (1 ∷ []))) (0x80 ∷ 0x01 ∷ 0x01 ∷ [])
     × Writes uper (flagged (octet_text (sizes 5 65535))) (yes_and (octets (1 ∷ 2 ∷ 3 ∷ 4 ∷ 5 ∷ [])))
     (0x80 ∷ 0x00 ∷ 0x00 ∷ 0x81 ∷ 0x01 ∷ 0x82 ∷ 0x02 ∷ 0x80 ∷ [])
-    × Writes uper (flagged (octet_text (sizes 5 65536))) (yes_and (octets (1 ∷ 2 ∷ 3 ∷ 4 ∷ 5 ∷ []))) (0x82 ∷ 0x80 ∷ 0x81 ∷ 0x01 ∷ 0x82 ∷ 0x02 ∷ 0x80 ∷ [])
+    × Writes uper (flagged (octet_text (sizes 5 65536))) (yes_and (octets (1 ∷ 2 ∷ 3 ∷ 4 ∷ 5 ∷ [])))
+    (0x82 ∷ 0x80 ∷ 0x81 ∷ 0x01 ∷ 0x82 ∷ 0x02 ∷ 0x80 ∷ [])
     × Writes aper (flagged (list (sizes 0 254) null)) (yes_and (null_list 3)) (0x81 ∷ 0x80 ∷ [])
     × Writes aper (flagged (list (sizes 0 255) null)) (yes_and (null_list 3)) (0x80 ∷ 0x03 ∷ [])
     × Writes aper (flagged (list (sizes 0 256) null)) (yes_and (null_list 3)) (0x80 ∷ 0x00 ∷ 0x03 ∷ [])
-    × Writes aper (flagged (list (sizes_or_more 1 2) boolean)) (yes_and (list_of (yes ∷ yes ∷ yes ∷ []))) (0xC0 ∷ 0x03 ∷ 0xE0 ∷ [])
-    × Writes uper (flagged (list (sizes_or_more 1 2) boolean)) (yes_and (list_of (yes ∷ yes ∷ yes ∷ []))) (0xC0 ∷ 0xF8 ∷ [])
+    × Writes aper (flagged (list (sizes_or_more 1 2) boolean)) (yes_and (list_of (yes ∷ yes ∷ yes ∷ [])))
+    (0xC0 ∷ 0x03 ∷ 0xE0 ∷ [])
+    × Writes uper (flagged (list (sizes_or_more 1 2) boolean)) (yes_and (list_of (yes ∷ yes ∷ yes ∷ [])))
+    (0xC0 ∷ 0xF8 ∷ [])
     × Writes uper (flagged (list (sizes_or_more 1 2) boolean)) (yes_and (list_of (yes ∷ yes ∷ []))) (0xB8 ∷ [])
     -- sizes of lists don't count in OER, sizes of strings do
     × Writes coer one_or_two (list_of (yes ∷ yes ∷ yes ∷ [])) (0x01 ∷ 0x03 ∷ 0xFF ∷ 0xFF ∷ 0xFF ∷ [])
     × WritesNothing uper (octet_text (sizes 0 1)) (octets (1 ∷ 2 ∷ []))
     × WritesNothing aper (octet_text (sizes 0 1)) (octets (1 ∷ 2 ∷ []))
     × WritesNothing coer (octet_text (sizes 0 1)) (octets (1 ∷ 2 ∷ []))
-    × WritesNothing coer (sequence_of any_size (record { low = 2; high = Some 2 }) boolean) (list_of (yes ∷ yes ∷ yes ∷ []))
-    × WritesNothing uper (sequence_of any_size (record { low = 2; high = Some 2 }) boolean) (list_of (yes ∷ yes ∷ yes ∷ []))
+    × WritesNothing coer (sequence_of any_size (record { low = 2; high = Some 2 }) boolean)
+    (list_of (yes ∷ yes ∷ yes ∷ []))
+    × WritesNothing uper (sequence_of any_size (record { low = 2; high = Some 2 }) boolean)
+    (list_of (yes ∷ yes ∷ yes ∷ []))
     -- the unused bits of OER
     × Writes coer any_bits (set_bits 8) (0x02 ∷ 0x00 ∷ 0xFF ∷ [])
     × Writes coer any_bits (set_bits 9) (0x03 ∷ 0x07 ∷ 0xFF ∷ 0x80 ∷ [])

@@ -1,5 +1,6 @@
 -- Six sets of rules: what is written in each, and what each reads.
-use Rattle.std.specs.Prelude.{ℕ, ◌^◌, ◌<◌, ltb, Bool, true, false, cond, List, length, Option, Some, None, option_map, option_and_then}
+use Rattle.std.specs.Prelude.{ℕ, ◌^◌, ◌<◌, ltb, Bool, true, false, cond, List, length, Option, Some, None, option_map}
+use Rattle.std.specs.Prelude.{option_and_then}
 use Rattle.asn1_model.specs.Value.{Value}
 use Rattle.asn1_model.specs.Schema.{Schema}
 pub use Rattle.asn1_model.specs.Numbers.{octet_bits}
@@ -9,8 +10,8 @@ use Rattle.asn1_model.specs.Form.{written, Reads}
 use Rattle.asn1_model.specs.Per
 use Rattle.asn1_model.specs.Oer
 
--- The packed rules unaligned and aligned, each with a lenient and a strict reader (X.691), the octet rules, and the canonical octet rules
--- (X.696). OER is written as COER is.
+-- The packed rules unaligned and aligned, each with a lenient and a strict reader (X.691), the octet rules, and the
+-- canonical octet rules (X.696). OER is written as COER is.
 pub data Rules : Type 0 where
   uper : Rules
   aper : Rules
@@ -18,8 +19,6 @@ pub data Rules : Type 0 where
   aper_strict : Rules
   oer : Rules
   coer : Rules
-
--- ---- the freedoms of readers
 
 -- The freedoms of the readers of UPER, APER and OER: all of them, by the project's choice.
 abbrev pub lenient : {F : Type 0} → F → Bool
@@ -37,8 +36,6 @@ strict_oer Oer.other_bitmap = true
 strict_oer Oer.empty_bitmap = true
 strict_oer Oer.other_order = true
 strict_oer c = false
-
--- ---- messages, as octets
 
 -- The canonical PER message of a value as it is, in octets, before any bound on its length (X.691 11.1).
 unfoldable pub per : Bool → Schema → Value → Option (List ℕ)
@@ -64,8 +61,8 @@ of_moderate_length w = cond (ltb (length w) (2 ^ 60)) (Some w) None
 unfoldable pub canonical : Rules → Schema → Value → Option (List ℕ)
 canonical r s v = option_and_then of_moderate_length (encoding r s (normal s v))
 
--- All of the octets are one encoding of the value for the reader of these rules. The value's components are there just where they are spelled
--- out, so that it nests as many levels as are read.
+-- All of the octets are one encoding of the value for the reader of these rules. The value's components are there just
+-- where they are spelled out, so that it nests as many levels as are read.
 unfoldable pub IsEncoding : Rules → Schema → Value → List ℕ → Type 0
 IsEncoding uper s v w = (length w < 2 ^ 60) × Reads lenient (Per.message false s v) 0 (octet_bits w)
 IsEncoding aper s v w = (length w < 2 ^ 60) × Reads lenient (Per.message true s v) 0 (octet_bits w)

@@ -2,7 +2,8 @@
 use Rattle.std.specs.Prelude.{ℕ, ℤ, Bool, List, Option}
 use Rattle.asn1_model.specs.Value.{Value}
 
--- A tag: its class, which is 0 for universal, 1 for application, 2 for context-specific and 3 for private, and its number (X.680 8).
+-- A tag: its class, which is 0 for universal, 1 for application, 2 for context-specific and 3 for private, and its
+-- number (X.680 8).
 pub record Tag : Type 0 where
   pub class : ℕ
   pub number : ℕ
@@ -12,8 +13,9 @@ pub record Range : Type 0 where
   pub low : Option ℤ
   pub high : Option ℤ
 
--- A value constraint, and whether a mark of extensibility follows it (X.680 51.4 and 52). With neither bound nor mark there is no constraint;
--- INTEGER (MIN..MAX) without a mark is written as no bounds and a held range of 128 bits, since it is a constraint by the project's choice.
+-- A value constraint, and whether a mark of extensibility follows it (X.680 51.4 and 52). With neither bound nor mark
+-- there is no constraint; INTEGER (MIN..MAX) without a mark is written as no bounds and a held range of 128 bits, since
+-- it is a constraint by the project's choice.
 pub record Bounds : Type 0 where
   pub range : Range
   pub extensible : Bool
@@ -28,7 +30,7 @@ pub record Size : Type 0 where
   pub counts : Counts
   pub extensible : Bool
 
--- A permitted alphabet, where there is one: its characters in ascending order, and whether a mark follows it (X.680 51.7 and 52).
+-- A permitted alphabet, where there is one: its characters, and whether a mark follows it (X.680 51.7 and 52).
 pub record Alphabet : Type 0 where
   pub characters : Option (List ℕ)
   pub extensible : Bool
@@ -62,7 +64,8 @@ mutual
     null : Schema
     -- INTEGER (X.680 19): its constraint, and the numbers that the program's type holds
     integer : Bounds → Range → Schema
-    -- ENUMERATED (X.680 20): the numbers of the root items in ascending order, whether there is a mark, and the numbers of the added items
+    -- ENUMERATED (X.680 20): the numbers of the root items in ascending order, whether there is a mark, and the numbers
+    -- of the added items
     enumerated : List ℤ → Bool → List ℤ → Schema
     -- BIT STRING (X.680 22): its size in bits, and the lengths that the program's type holds
     bit_string : Size → Counts → Schema
@@ -76,19 +79,21 @@ mutual
     sequence_of : Size → Counts → Schema → Schema
     -- SET OF (X.680 28)
     set_of : Size → Counts → Schema → Schema
-    -- SEQUENCE (X.680 25): the root components, whether there is a mark, and the additions behind it in their declared order
+    -- SEQUENCE (X.680 25): the root components, whether there is a mark, and the additions behind it in their declared
+    -- order
     sequence : Components → Bool → Components → Schema
     -- SET (X.680 27): the same, the root components in the order of their tags
     set : Components → Bool → Components → Schema
     -- an extension addition group (X.680 25), which stands among additions as one of them
     group : Components → Schema
-    -- CHOICE (X.680 29): the root alternatives in the order of their tags, whether there is a mark, and the added ones in their declared order
+    -- CHOICE (X.680 29): the root alternatives in the order of their tags, whether there is a mark, and the added ones
+    -- in their declared order
     choice : Alternatives → Bool → Alternatives → Schema
 
   pub data Components : Type 0 where
     no_component : Components
-    -- the tags with which it may begin (of an untagged choice those of all its alternatives, of a group those of its components), whether it
-    -- may be absent, its type, and the further components
+    -- the tags with which it may begin (of an untagged choice those of all its alternatives, of a group those of its
+    -- components), whether it may be absent, its type, and the further components
     component : List Tag → Presence → Schema → Components → Components
 
   pub data Alternatives : Type 0 where

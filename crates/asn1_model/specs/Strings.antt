@@ -1,31 +1,27 @@
 -- Character strings and object identifiers: what may stand in them, and the octets of an identifier.
-use Rattle.std.specs.Prelude.{ℕ, ◌+◌, ◌-◌, ◌*◌, ◌^◌, ◌==◌, ltb, leb, max, Bool, true, false, cond, ◌&&◌, ◌||◌, List, [], ◌∷◌, ◌++◌, filter, map}
-use Rattle.std.specs.Prelude.{flat_map, Option, Some, None, option_map}
-use Rattle.asn1_model.specs.Schema.{Alphabet, StringKind, numeric, printable, visible, ia5, bmp, general, graphic, teletex, utf8}
+use Rattle.std.specs.Prelude.{ℕ, ◌+◌, ◌-◌, ◌*◌, ◌^◌, ◌==◌, ltb, leb, max, Bool, true, false, cond, ◌&&◌, ◌||◌, List, []}
+use Rattle.std.specs.Prelude.{◌∷◌, ◌++◌, filter, map, flat_map, Option, Some, None, option_map}
+use Rattle.asn1_model.specs.Schema.{Alphabet, StringKind, numeric, printable, visible, ia5, bmp, general, graphic}
+use Rattle.asn1_model.specs.Schema.{teletex, utf8}
 use Rattle.asn1_model.specs.Numbers.{digits, places}
 
--- Whether each element passes a test.
 abbrev pub each_is : {X : Type 0} → (X → Bool) → List X → Bool
 each_is test [] = true
 each_is test (x ∷ xs) = test x && each_is test xs
-
--- ---- characters in ascending order, as runs from one number to another (X.680 41 and 43)
 
 -- The characters from one number to another.
 pub record Run : Type 0 where
   pub first : ℕ
   pub last : ℕ
 
--- A run by its two ends.
 abbrev pub run : ℕ → ℕ → Run
 run a b = record { first = a; last = b }
 
--- Whether a character stands in a run.
 abbrev pub is_in_run : ℕ → Run → Bool
 is_in_run c r = leb r.first c && leb c r.last
 
--- The characters of each kind of string, in ascending order (X.680 41 and 43). That BMPString has all of 0 to 65535, and that General-,
--- Graphic- and TeletexString hold any octets, is the project's choice.
+-- The characters of each kind of string, in ascending order (X.680 41 and 43). That BMPString has all of 0 to 65535,
+-- and that General-, Graphic- and TeletexString hold any octets, is the project's choice.
 abbrev pub characters_of : StringKind → List Run
 characters_of numeric = run 32 32 ∷ run 48 57 ∷ []
 characters_of printable = run 32 32 ∷ run 39 41 ∷ run 43 58 ∷ run 61 61 ∷ run 63 63 ∷ run 65 90 ∷ run 97 122 ∷ []
@@ -34,12 +30,10 @@ characters_of ia5 = run 0 127 ∷ []
 characters_of bmp = run 0 65535 ∷ []
 characters_of k = run 0 255 ∷ []
 
--- How many characters there are.
 abbrev pub how_many : List Run → ℕ
 how_many [] = 0
 how_many (r ∷ rs) = r.last + 1 - r.first + how_many rs
 
--- The largest of them.
 abbrev pub largest : List Run → ℕ
 largest [] = 0
 largest (r ∷ []) = r.last
@@ -48,9 +42,9 @@ largest (r ∷ s ∷ rs) = largest (s ∷ rs)
 -- The place of a character among them, from 0 on.
 abbrev pub place_of : ℕ → List Run → Option ℕ
 place_of c [] = None
-place_of c (r ∷ rs) = cond (is_in_run c r) (Some (c - r.first)) (option_map (λ i. r.last + 1 - r.first + i) (place_of c rs))
+place_of c (r ∷ rs) =
+    cond (is_in_run c r) (Some (c - r.first)) (option_map (λ i. r.last + 1 - r.first + i) (place_of c rs))
 
--- Whether a character is one of them.
 abbrev pub is_among : List Run → ℕ → Bool
 is_among [] c = false
 is_among (r ∷ rs) c = is_in_run c r || is_among rs c
@@ -65,13 +59,12 @@ abbrev pub sorted : List ℕ → List ℕ
 sorted [] = []
 sorted (c ∷ cs) = put_in c (sorted cs)
 
--- The characters that a constraint leaves of the type's own, in whatever order it lists them (X.680 51.7, X.691 30.5). A constraint with a
--- mark of extensibility counts for nothing, by the project's choice.
+-- The characters that a constraint leaves of the type's own, in whatever order it lists them (X.680 51.7, X.691 30.5).
+-- A constraint with a mark of extensibility counts for nothing, by the project's choice.
 abbrev pub permitted_in : StringKind → Bool → Option (List ℕ) → List Run
 permitted_in k false (Some cs) = map (λ c. run c c) (sorted (filter (is_among (characters_of k)) cs))
 permitted_in k e cs = characters_of k
 
--- The same, of an alphabet.
 abbrev pub permitted : StringKind → Alphabet → List Run
 permitted k a = permitted_in k a.extensible a.characters
 
@@ -83,8 +76,7 @@ is_of_octets teletex = true
 is_of_octets utf8 = true
 is_of_octets k = false
 
--- ---- UTF-8 (ISO 10646 annex D): behind each first octet, the runs in which the next ones stand
--- What may follow each first octet of UTF-8 (ISO/IEC 10646): the runs in which the further octets of the character stand.
+-- Behind each first octet of UTF-8, the runs in which the next ones stand (ISO/IEC 10646 annex D).
 abbrev pub utf8_follows : ℕ → Option (List Run)
 utf8_follows o =
     let c = run 128 191 in
@@ -110,32 +102,27 @@ abbrev pub may_hold : StringKind → List ℕ → Bool
 may_hold utf8 os = is_utf8_after [] os
 may_hold k cs = each_is (is_among (characters_of k)) cs
 
--- ---- object identifiers (X.690 8.19): seven bits an octet, the top bit set on all but the last
-
--- The top bit set on all but the last (X.690 8.19).
 abbrev pub with_top_bits : List ℕ → List ℕ
 with_top_bits [] = []
 with_top_bits (o ∷ []) = o ∷ []
 with_top_bits (o ∷ p ∷ os) = (o + 128) ∷ with_top_bits (p ∷ os)
 
--- A number in the fewest groups of seven bits, the highest first, the top bit set on all but the last (X.690 8.19 and 8.1).
+-- A number in the fewest groups of seven bits, the highest first, the top bit set on all but the last (X.690 8.19 and
+-- 8.1).
 abbrev pub groups_of_seven : ℕ → List ℕ
 groups_of_seven n = with_top_bits (digits 128 (max 1 (places 128 n)) n)
 
--- The contents of an object identifier: the first two arcs share a number (X.690 8.19). An identifier of fewer arcs has none, by the project's
--- choice.
+-- The contents of an object identifier: the first two arcs share a number (X.690 8.19). An identifier of fewer arcs has
+-- none, by the project's choice.
 abbrev pub identifier_octets : List ℕ → List ℕ
 identifier_octets (a ∷ b ∷ rest) = groups_of_seven (40 * a + b) ++ flat_map groups_of_seven rest
 identifier_octets arcs = []
 
--- Whether arcs have contents: a first arc of at most 2, a second one below 40 unless the first is 2 (X.680 32), and each within 32 bits, by
--- the project's choice.
+-- Whether arcs have contents: a first arc of at most 2, a second one below 40 unless the first is 2 (X.680 32), and
+-- each within 32 bits, by the project's choice.
 abbrev pub is_identifier : List ℕ → Bool
 is_identifier (a ∷ b ∷ rest) = leb a 2 && (a == 2 || ltb b 40) && each_is (λ arc. ltb arc (2 ^ 32)) (b ∷ rest)
 is_identifier arcs = false
 
--- ---- places in tables
-
--- Whether a number is one of an octet.
 abbrev pub is_octet : ℕ → Bool
 is_octet o = ltb o 256

@@ -1,8 +1,10 @@
 -- What both rule sets use of a type's tables.
-use Rattle.std.specs.Prelude.{ℕ, zero, suc, ◌+◌, ℤ, Bool, true, false, cond, ◌||◌, List, [], ◌∷◌, Option, Some, None, option_map}
+use Rattle.std.specs.Prelude.{ℕ, zero, suc, ◌+◌, ℤ, Bool, true, false, cond, ◌||◌, List, [], ◌∷◌, Option, Some, None}
+use Rattle.std.specs.Prelude.{option_map}
 use Rattle.asn1_model.specs.Value.{Parts, end, absent, present, same_number}
 use Rattle.asn1_model.specs.Form.{is_present}
-use Rattle.asn1_model.specs.Schema.{Bounds, Presence, required, Components, no_component, component, Alternatives, no_alternative, alternative}
+use Rattle.asn1_model.specs.Schema.{Bounds, Presence, required, Components, no_component, component, Alternatives}
+use Rattle.asn1_model.specs.Schema.{no_alternative, alternative}
 
 -- The place of an item among the numbers of a table, from 0 on (X.691 14).
 abbrev pub item_place : ℤ → List ℤ → Option ℕ
@@ -13,7 +15,6 @@ item_place v (d ∷ ds) = cond (same_number v d) (Some zero) (option_map suc (it
 abbrev pub is_bounded : Bounds → Bool
 is_bounded b = is_present b.range.low || is_present b.range.high || b.extensible
 
--- Whether a component must be there.
 abbrev pub is_required : Presence → Bool
 is_required required = true
 is_required o = false
@@ -30,7 +31,6 @@ marks (component t o s cs) (present v ps) = mark_unless (is_required o) true (ma
 marks (component t o s cs) (absent ps) = mark_unless (is_required o) false (marks cs ps)
 marks (component t o s cs) end = mark_unless (is_required o) false (marks cs end)
 
--- How many alternatives there are.
 abbrev pub alternative_count : Alternatives → ℕ
 alternative_count no_alternative = 0
 alternative_count (alternative t s others) = alternative_count others + 1

@@ -1,11 +1,12 @@
--- Which values are those of a type: of its kind, with the components, alternatives and items of its tables, and within the constraints that
--- count in all sets of rules. What stands below the cut of a recursive type is not judged.
+-- Which values are those of a type: of its kind, with the components, alternatives and items of its tables, and within
+-- the constraints that count in all sets of rules. What stands below the cut of a recursive type is not judged.
 use Rattle.std.specs.Prelude.{ℕ, zero, suc, Bool, true, false, not, ◌&&◌, ◌||◌, length}
-use Rattle.asn1_model.specs.Value.{Value, truth, nothing, number, item, bit_list, octet_list, text, arcs, members, bag, fields, chosen, Values}
-use Rattle.asn1_model.specs.Value.{no_more, member, Parts, end, absent, present}
-use Rattle.asn1_model.specs.Schema.{Schema, cut, boolean, null, integer, enumerated, bit_string, octet_string, character_string, object_identifier}
-use Rattle.asn1_model.specs.Schema.{sequence_of, set_of, sequence, set, group, choice, Components, no_component, component, Alternatives}
-use Rattle.asn1_model.specs.Schema.{no_alternative, alternative}
+use Rattle.asn1_model.specs.Value.{Value, truth, nothing, number, item, bit_list, octet_list, text, arcs, members, bag}
+use Rattle.asn1_model.specs.Value.{fields, chosen, Values, no_more, member, Parts, end, absent, present}
+use Rattle.asn1_model.specs.Schema.{Schema, cut, boolean, null, integer, enumerated, bit_string, octet_string}
+use Rattle.asn1_model.specs.Schema.{character_string, object_identifier, sequence_of, set_of, sequence, set, group}
+use Rattle.asn1_model.specs.Schema.{choice, Components, no_component, component, Alternatives, no_alternative}
+use Rattle.asn1_model.specs.Schema.{alternative}
 use Rattle.asn1_model.specs.Normal.{are_all}
 use Rattle.asn1_model.specs.Numbers.{is_within, is_count_within}
 use Rattle.asn1_model.specs.Strings.{each_is, is_octet, may_hold, is_of_octets, is_identifier}
@@ -13,7 +14,6 @@ use Rattle.asn1_model.specs.Form.{is_present}
 use Rattle.asn1_model.specs.Tables.{item_place, is_required}
 use Rattle.asn1_model.specs.Oer.{admits}
 
--- How many members there are.
 abbrev pub member_count : Values → ℕ
 member_count no_more = 0
 member_count (member v vs) = suc (member_count vs)
@@ -27,7 +27,8 @@ unfoldable mutual
   is_of (enumerated roots e adds) (item v) = is_present (item_place v roots) || (e && is_present (item_place v adds))
   is_of (bit_string z held) (bit_list bs) = admits z held (length bs)
   is_of (octet_string z held) (octet_list os) = each_is is_octet os && admits z held (length os)
-  is_of (character_string k z a held) (text cs) = may_hold k cs && is_count_within held (length cs) && (is_of_octets k || admits z held (length cs))
+  is_of (character_string k z a held) (text cs) =
+      may_hold k cs && is_count_within held (length cs) && (is_of_octets k || admits z held (length cs))
   is_of object_identifier (arcs ns) = is_identifier ns
   is_of (sequence_of z held s) (members vs) = is_count_within held (member_count vs) && are_all (λ v. is_of s v) vs
   is_of (set_of z held s) (bag vs) = is_count_within held (member_count vs) && are_all (λ v. is_of s v) vs

@@ -1,10 +1,12 @@
 -- Types and values for rows, and short ways to write them.
-use Rattle.std.specs.Prelude.{◌≡◌, ℕ, zero, suc, ◌+◌, ◌-◌, ◌^◌, ℤ, pos, negsuc, Bool, true, false, List, [], ◌∷◌, map, replicate, Option, Some, None}
-use Rattle.asn1_model.specs.Value.{Value, truth, nothing, number, bit_list, octet_list, text, members, bag, fields, chosen, Values, no_more, member}
-use Rattle.asn1_model.specs.Value.{values_of, Parts, end, absent, present}
-use Rattle.asn1_model.specs.Schema.{Tag, Range, Bounds, Counts, Size, Alphabet, StringKind, visible, utf8, required, optional, by_default, Schema}
-use Rattle.asn1_model.specs.Schema.{cut, boolean, null, integer, enumerated, bit_string, octet_string, character_string, sequence_of, set_of}
-use Rattle.asn1_model.specs.Schema.{sequence, set, group, choice, Components, no_component, component, Alternatives, no_alternative, alternative}
+use Rattle.std.specs.Prelude.{◌≡◌, ℕ, zero, suc, ◌+◌, ◌-◌, ◌^◌, ℤ, pos, negsuc, Bool, true, false, List, [], ◌∷◌, map}
+use Rattle.std.specs.Prelude.{replicate, Option, Some, None}
+use Rattle.asn1_model.specs.Value.{Value, truth, nothing, number, bit_list, octet_list, text, members, bag, fields}
+use Rattle.asn1_model.specs.Value.{chosen, Values, no_more, member, values_of, Parts, end, absent, present}
+use Rattle.asn1_model.specs.Schema.{Tag, Range, Bounds, Counts, Size, Alphabet, StringKind, visible, utf8, required}
+use Rattle.asn1_model.specs.Schema.{optional, by_default, Schema, cut, boolean, null, integer, enumerated, bit_string}
+use Rattle.asn1_model.specs.Schema.{octet_string, character_string, sequence_of, set_of, sequence, set, group, choice}
+use Rattle.asn1_model.specs.Schema.{Components, no_component, component, Alternatives, no_alternative, alternative}
 use Rattle.asn1_model.specs.Rules.{Rules, canonical}
 
 -- what a row says: the canonical octets, or that there are none
@@ -150,7 +152,8 @@ at_most_5 = integer (from_to None (Some (pos 5)) false) any_number
 
 -- INTEGER (MIN..MAX): a value constraint, so 128 bits hold all of its numbers; and the same with a mark
 abbrev pub min_to_max : Schema
-min_to_max = integer (from_to None None false) (record { low = Some (minus (2 ^ 127)); high = Some (pos (2 ^ 127 - 1)) })
+min_to_max =
+    integer (from_to None None false) (record { low = Some (minus (2 ^ 127)); high = Some (pos (2 ^ 127 - 1)) })
 
 abbrev pub marked_min_to_max : Schema
 marked_min_to_max = integer (from_to None None true) any_number
@@ -199,7 +202,9 @@ defaulted = closed (has_default 0 whole (num 0) (may_have 1 whole no_component))
 
 -- SEQUENCE {a INTEGER, b SEQUENCE {a INTEGER, b SEQUENCE {a INTEGER, b INTEGER OPTIONAL} OPTIONAL}}
 abbrev pub chained : Schema
-chained = closed (needs 0 whole (needs 1 (closed (needs 0 whole (may_have 1 (closed (needs 0 whole (may_have 1 whole no_component))) no_component)))
+chained =
+    closed (needs 0 whole
+    (needs 1 (closed (needs 0 whole (may_have 1 (closed (needs 0 whole (may_have 1 whole no_component))) no_component)))
     no_component))
 
 -- so many optional numbers, and so many absent parts
@@ -215,10 +220,12 @@ absent_parts (suc n) ps = absent (absent_parts n ps)
 abbrev pub person : Schema
 person = closed (needs 0 whole (needs 1 (string utf8 any_size) no_component))
 
--- SEQUENCE {flag BOOLEAN, fixed SEQUENCE (SIZE (2)) OF OCTET STRING (SIZE (3)), ranged SEQUENCE (SIZE (1..2)) OF OCTET STRING (SIZE (3)),
--- trailer INTEGER (0..255)}
+-- SEQUENCE {flag BOOLEAN, fixed SEQUENCE (SIZE (2)) OF OCTET STRING (SIZE (3)), ranged SEQUENCE (SIZE (1..2)) OF OCTET
+-- STRING (SIZE (3)), trailer INTEGER (0..255)}
 abbrev pub two_lists : Schema
-two_lists = closed (needs 0 boolean (needs 1 (list (sizes 2 2) (octet_text (sizes 3 3))) (needs 2 (list (sizes 1 2) (octet_text (sizes 3 3)))
+two_lists =
+    closed (needs 0 boolean
+    (needs 1 (list (sizes 2 2) (octet_text (sizes 3 3))) (needs 2 (list (sizes 1 2) (octet_text (sizes 3 3)))
     (needs 3 octet_number no_component))))
 
 -- SEQUENCE (SIZE (1..2)) OF BOOLEAN
@@ -245,7 +252,8 @@ abbrev pub marked_choice : Schema
 marked_choice = choice (or_tagged 0 whole (or_tagged 1 whole no_alternative)) true (or_tagged 2 whole no_alternative)
 
 abbrev pub choice_of_choice : Schema
-choice_of_choice = choice (or_tagged 0 boolean (or_tagged 2 marked_choice no_alternative)) true (or_tagged 1 boolean no_alternative)
+choice_of_choice =
+    choice (or_tagged 0 boolean (or_tagged 2 marked_choice no_alternative)) true (or_tagged 1 boolean no_alternative)
 
 -- so many alternatives, each NULL
 abbrev pub null_alternatives : ℕ → ℕ → Alternatives
@@ -254,12 +262,16 @@ null_alternatives first (suc n) = or_tagged first null (null_alternatives (first
 
 -- SET {a [444] INTEGER OPTIONAL, b [5] INTEGER OPTIONAL, c [APPLICATION 9] INTEGER OPTIONAL}, in the order of the tags
 abbrev pub set_of_three : Schema
-set_of_three = set (component (record { class = 1; number = 9 } ∷ []) optional whole (may_have 5 whole (may_have 444 whole no_component))) false
+set_of_three =
+    set (component (record { class = 1; number = 9 } ∷ []) optional whole
+    (may_have 5 whole (may_have 444 whole no_component))) false
     no_component
 
 -- SET {x CHOICE {[7] BOOLEAN, [1] NULL}, y [3] INTEGER (0..255)}
 abbrev pub set_with_choice : Schema
-set_with_choice = set (component (context 1 ∷ context 7 ∷ []) required (one_of (or_tagged 1 null (or_tagged 7 boolean no_alternative)))
+set_with_choice =
+    set (component (context 1 ∷ context 7 ∷ []) required
+    (one_of (or_tagged 1 null (or_tagged 7 boolean no_alternative)))
     (needs 3 octet_number no_component)) false no_component
 
 -- SEQUENCE {a BOOLEAN, ..., b INTEGER (0..255) OPTIONAL}, and the same without b
@@ -294,14 +306,19 @@ default_new = closed (has_default 0 new_type (fields (present yes end) (absent e
 
 -- SEQUENCE {a BOOLEAN, ..., [[x INTEGER (0..255) OPTIONAL]]}, and the same with x INTEGER DEFAULT 5
 abbrev pub grouped : Schema
-grouped = open_behind (needs 0 boolean no_component) (may_have 1 (group (may_have 0 octet_number no_component)) no_component)
+grouped =
+    open_behind (needs 0 boolean no_component) (may_have 1 (group (may_have 0 octet_number no_component)) no_component)
 
 abbrev pub default_grouped : Schema
-default_grouped = open_behind (needs 0 boolean no_component) (may_have 1 (group (has_default 0 whole (num 5) no_component)) no_component)
+default_grouped =
+    open_behind (needs 0 boolean no_component)
+    (may_have 1 (group (has_default 0 whole (num 5) no_component)) no_component)
 
 -- SEQUENCE {it INTEGER, is OCTET STRING OPTIONAL, late INTEGER OPTIONAL, ..., today OCTET STRING}
 abbrev pub dated : Schema
-dated = open_behind (needs 0 whole (may_have 1 any_octets (may_have 2 whole no_component))) (needs 3 any_octets no_component)
+dated =
+    open_behind (needs 0 whole (may_have 1 any_octets (may_have 2 whole no_component)))
+    (needs 3 any_octets no_component)
 
 -- SEQUENCE {a OCTET STRING OPTIONAL, ..., n NULL OPTIONAL}
 abbrev pub octets_and_null : Schema
@@ -316,7 +333,8 @@ abbrev pub null_additions : ℕ → ℕ → Components
 null_additions first zero = no_component
 null_additions first (suc n) = may_have first null (null_additions (first + 1) n)
 
--- Nest ::= CHOICE {leaf [0] NULL, more [1] Nest}, unfolded to so many levels, and SEQUENCE {a BOOLEAN, ..., n Nest OPTIONAL}
+-- Nest ::= CHOICE {leaf [0] NULL, more [1] Nest}, unfolded to so many levels, and SEQUENCE {a BOOLEAN, ..., n Nest
+-- OPTIONAL}
 abbrev pub nest : ℕ → Schema
 nest zero = cut
 nest (suc n) = one_of (or_tagged 0 null (or_tagged 1 (nest n) no_alternative))

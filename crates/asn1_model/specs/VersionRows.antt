@@ -1,14 +1,17 @@
 -- Rows: lawful types, and two versions of a type.
 use Rattle.std.specs.Prelude.{◌≡◌, ℕ, zero, suc, pos, true, false, List, [], ◌∷◌, ◌++◌, Option, Some, None, option_map}
 use Rattle.asn1_model.specs.Value.{Value, depth, item, chosen, absent, present, end}
-use Rattle.asn1_model.specs.Schema.{Tag, Schema, cut, numeric, utf8, boolean, null, enumerated, character_string, sequence, set, group, choice, no_component}
-use Rattle.asn1_model.specs.Schema.{component, required, optional, Alternatives, no_alternative}
+use Rattle.asn1_model.specs.Schema.{Tag, Schema, cut, numeric, utf8, boolean, null, enumerated, character_string}
+use Rattle.asn1_model.specs.Schema.{sequence, set, group, choice, no_component, component, required, optional}
+use Rattle.asn1_model.specs.Schema.{Alternatives, no_alternative}
 use Rattle.asn1_model.specs.Lawful.{is_lawful}
 use Rattle.asn1_model.specs.Versions.{Extends, drop, grow, IsClash}
-use Rattle.asn1_model.specs.Types.{minus, any_count, any_size, sizes, letters, between, octet_text, list, context, needs, may_have, closed}
-use Rattle.asn1_model.specs.Types.{open_behind, or_tagged, one_of, num, roots, colour_old, colour_new, defaulted, marked_choice, new_type, old_type}
-use Rattle.asn1_model.specs.Types.{required_new, default_old, default_new, grouped, nest, nest_added, nested, yes_with, yes_without, yes_alone}
-use Rattle.asn1_model.specs.Types.{null_alternatives, bag_of, bag_with, set_of_three, set_with_choice, whole, has_default, only_tagged, yes}
+use Rattle.asn1_model.specs.Types.{minus, any_count, any_size, sizes, letters, between, octet_text, list, context}
+use Rattle.asn1_model.specs.Types.{needs, may_have, closed, open_behind, or_tagged, one_of, num, roots, colour_old}
+use Rattle.asn1_model.specs.Types.{colour_new, defaulted, marked_choice, new_type, old_type, required_new, default_old}
+use Rattle.asn1_model.specs.Types.{default_new, grouped, nest, nest_added, nested, yes_with, yes_without, yes_alone}
+use Rattle.asn1_model.specs.Types.{null_alternatives, bag_of, bag_with, set_of_three, set_with_choice, whole}
+use Rattle.asn1_model.specs.Types.{has_default, only_tagged, yes}
 
 -- The levels that the older version reads.
 abbrev pub seen : Schema → Schema → Value → Option ℕ
@@ -39,17 +42,22 @@ sequence_default n d = closed (has_default 0 (unfolded n) d no_component)
 abbrev pub bag_default : ℕ → ℕ → Schema
 bag_default m n = open_behind (has_default 0 (bag_of whole) (bag_with (num m ∷ num n ∷ [])) no_component) no_component
 
--- SEQUENCE {a SEQUENCE {b BOOLEAN, ...} DEFAULT {b TRUE}}, and with d INTEGER DEFAULT 3 behind the mark, DEFAULT {b TRUE, d ..}
+-- SEQUENCE {a SEQUENCE {b BOOLEAN, ...} DEFAULT {b TRUE}}, and with d INTEGER DEFAULT 3 behind the mark, DEFAULT {b
+-- TRUE, d ..}
 abbrev pub plain_default : Schema
 plain_default = closed (has_default 0 old_type yes_alone no_component)
 
 abbrev pub spelled_default : ℕ → Schema
-spelled_default n = closed (has_default 0 (open_behind (needs 0 boolean no_component) (has_default 1 whole (num 3) no_component)) (yes_with (num n)) no_component)
+spelled_default n =
+    closed (has_default 0 (open_behind (needs 0 boolean no_component) (has_default 1 whole (num 3) no_component))
+    (yes_with (num n)) no_component)
 
 -- SEQUENCE {..., [[c CHOICE {a [0] NULL, ..., the added alternatives}, z [9] NULL]]}, where these are the tags of c
 abbrev pub choice_in_group : List Tag → Alternatives → Schema
 choice_in_group ts adds =
-    open_behind no_component (component (ts ++ context 9 ∷ []) optional (group (component ts required (choice (or_tagged 0 null no_alternative) true adds) (needs 9 null no_component))) no_component)
+    open_behind no_component (component (ts ++ context 9 ∷ []) optional
+    (group (component ts required (choice (or_tagged 0 null no_alternative) true adds)
+    (needs 9 null no_component))) no_component)
 
 abbrev pub choice_in_group_old : Schema
 choice_in_group_old = choice_in_group (context 0 ∷ []) no_alternative
@@ -60,7 +68,8 @@ choice_in_group_new = choice_in_group (context 0 ∷ context 1 ∷ []) (or_tagge
 
 abbrev pub LawfulRows : Type 0
 LawfulRows =
-    (is_lawful new_type ≡ true) × (is_lawful grouped ≡ true) × (is_lawful (nest 128) ≡ true) × (is_lawful defaulted ≡ true)
+    (is_lawful new_type ≡ true) × (is_lawful grouped ≡ true) × (is_lawful (nest 128) ≡ true)
+    × (is_lawful defaulted ≡ true)
     × (is_lawful marked_choice ≡ true) × (is_lawful colour_new ≡ true)
     × (is_lawful (closed (needs 0 boolean (needs 0 boolean no_component))) ≡ false)
     × (is_lawful (one_of no_alternative) ≡ false)
@@ -76,7 +85,8 @@ LawfulRows =
     × (is_lawful (character_string utf8 any_size (letters (0xE9 ∷ [])) any_count) ≡ true)
     × (is_lawful (character_string numeric any_size (letters (0x31 ∷ 0x30 ∷ 0x31 ∷ [])) any_count) ≡ true)
     -- groups: with parts, with tags that differ, and among additions alone
-    × (is_lawful (open_behind no_component (may_have 1 (group (needs 0 boolean (needs 0 boolean no_component))) no_component)) ≡ false)
+    × (is_lawful (open_behind no_component
+    (may_have 1 (group (needs 0 boolean (needs 0 boolean no_component))) no_component)) ≡ false)
     × (is_lawful (open_behind no_component (may_have 1 (group no_component) no_component)) ≡ false)
     × (is_lawful (closed (may_have 1 (group (needs 0 boolean no_component)) no_component)) ≡ false)
     × (is_lawful (list any_size (group (needs 0 boolean no_component))) ≡ false)
@@ -84,7 +94,8 @@ LawfulRows =
     × (is_lawful set_of_three ≡ true)
     × (is_lawful set_with_choice ≡ true)
     × (is_lawful (set (needs 5 boolean (needs 3 boolean no_component)) false no_component) ≡ false)
-    × (is_lawful (set (needs 3 boolean (component (context 1 ∷ context 7 ∷ []) required boolean no_component)) false no_component) ≡ false)
+    × (is_lawful (set (needs 3 boolean
+    (component (context 1 ∷ context 7 ∷ []) required boolean no_component)) false no_component) ≡ false)
     × (is_lawful (open_behind (needs 0 boolean no_component) (needs 0 boolean no_component)) ≡ false)
     -- choices: an added alternative behind a mark alone, and no tag twice
     × (is_lawful (choice (null_alternatives 0 2) false (null_alternatives 2 1)) ≡ false)
@@ -94,7 +105,8 @@ LawfulRows =
     × (is_lawful (octet_text (sizes 5 4)) ≡ false)
     × (is_lawful (enumerated (pos 0 ∷ []) false (pos 1 ∷ [])) ≡ false)
     × (is_lawful (enumerated (pos 0 ∷ minus 1 ∷ []) false []) ≡ false)
-    -- a default may spell out what is at its own default, or an empty group; T as above, then DEFAULT {a 0} and {a TRUE, [[]]}
+    -- a default may spell out what is at its own default, or an empty group; T as above, then DEFAULT {a 0} and {a
+    -- TRUE, [[]]}
     × (is_lawful (unfolded 3) ≡ true)
     × (is_lawful (sequence_default 3 (roots (present spelled end))) ≡ true)
     × (is_lawful (sequence_default 3 spelled) ≡ true)
@@ -106,7 +118,8 @@ LawfulRows =
     × (is_lawful (closed (has_default 0 grouped yes_without no_component)) ≡ true)
     × (is_lawful default_old ≡ true)
     × (is_lawful default_new ≡ true)
-    -- a default is a value of its type: SEQUENCE {a INTEGER (0..4) DEFAULT 5}, DEFAULT TRUE, and {a} of a sequence of no components
+    -- a default is a value of its type: SEQUENCE {a INTEGER (0..4) DEFAULT 5}, DEFAULT TRUE, and {a} of a sequence of
+    -- no components
     × (is_lawful (closed (has_default 0 (between (pos 0) (pos 4)) (num 5) no_component)) ≡ false)
     × (is_lawful (closed (has_default 0 (between (pos 0) (pos 4)) (num 4) no_component)) ≡ true)
     × (is_lawful (closed (has_default 0 whole yes no_component)) ≡ false)
@@ -139,12 +152,15 @@ VersionRows =
     × (seen old_type nest_added (yes_with (nested 127)) ≡ Some 1)
     × (seen nest_added nest_added (yes_with (nested 127)) ≡ Some 129)
     -- a required addition counts only where its sequence is there
-    × (grow (closed (may_have 0 old_type no_component)) (closed (may_have 0 required_new no_component)) (roots (absent end)) ≡ Some (roots (absent end)))
-    × (grow (closed (may_have 0 old_type no_component)) (closed (may_have 0 required_new no_component)) (roots (present yes_alone end)) ≡ None)
+    × (grow (closed (may_have 0 old_type no_component)) (closed (may_have 0 required_new no_component))
+    (roots (absent end)) ≡ Some (roots (absent end)))
+    × (grow (closed (may_have 0 old_type no_component)) (closed (may_have 0 required_new no_component))
+    (roots (present yes_alone end)) ≡ None)
     -- an alternative that the older version lacks: none where it stands, and no matter inside what is lost
     × (drop choice_old marked_choice (chosen true 0 (num 1)) ≡ None)
     × (drop choice_old marked_choice (chosen false 0 (num 1)) ≡ Some (chosen false 0 (num 1)))
-    × (drop old_type (open_behind (needs 0 boolean no_component) (may_have 1 marked_choice no_component)) (yes_with (chosen true 0 (num 1))) ≡ Some yes_alone)
+    × (drop old_type (open_behind (needs 0 boolean no_component) (may_have 1 marked_choice no_component))
+    (yes_with (chosen true 0 (num 1))) ≡ Some yes_alone)
     -- a group that turns empty by the loss
     × IsClash (group_of default_old) (group_of default_new) (yes_with (roots (present (yes_with (num 7)) end)))
     -- what the newer version has at its default is lost without a clash
@@ -154,7 +170,8 @@ VersionRows =
     × (Extends new_type old_type → ⊥)
     × (Extends (between (pos 0) (pos 4)) (between (pos 0) (pos 5)) → ⊥)
     × (Extends old_type (closed (needs 0 boolean no_component)) → ⊥)
-    × (Extends (choice (null_alternatives 0 2) true no_alternative) (choice (null_alternatives 0 3) true no_alternative) → ⊥)
+    × (Extends (choice (null_alternatives 0 2) true no_alternative) (choice (null_alternatives 0 3) true no_alternative)
+    → ⊥)
     -- one default: in another order of a bag, and spelled out where it is at a default of its own; not another default
     × Extends (bag_default 1 2) (bag_default 2 1)
     × (Extends (bag_default 1 2) (bag_default 1 1) → ⊥)

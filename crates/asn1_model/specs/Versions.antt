@@ -1,16 +1,17 @@
--- Two versions of a type: the newer has further additions, alternatives and items behind its marks, and is as the older one else (X.680 52).
-use Rattle.std.specs.Prelude.{◌≡◌, ℕ, zero, suc, Bool, true, false, cond, ◌||◌, List, ◌++◌, All, Contains, Option, Some, None, option_map, option_and_then}
-use Rattle.asn1_model.specs.Value.{Value, item, members, bag, fields, chosen, Values, no_more, member, Parts, end, absent, present, same}
-use Rattle.asn1_model.specs.Schema.{Tag, Presence, required, optional, by_default, Schema, cut, boolean, null, integer, enumerated, bit_string}
-use Rattle.asn1_model.specs.Schema.{octet_string, character_string, object_identifier, sequence_of, set_of, sequence, set, group, choice, Components}
-use Rattle.asn1_model.specs.Schema.{no_component, component, Alternatives, no_alternative, alternative}
+-- Two versions of a type: the newer has further additions, alternatives and items behind its marks, and is as the older
+-- one else (X.680 52).
+use Rattle.std.specs.Prelude.{◌≡◌, ℕ, zero, suc, Bool, true, false, cond, ◌||◌, List, ◌++◌, All, Contains, Option, Some}
+use Rattle.std.specs.Prelude.{None, option_map, option_and_then}
+use Rattle.asn1_model.specs.Value.{Value, item, members, bag, fields, chosen, Values, no_more, member, Parts, end}
+use Rattle.asn1_model.specs.Value.{absent, present, same}
+use Rattle.asn1_model.specs.Schema.{Tag, Presence, required, optional, by_default, Schema, cut, boolean, null, integer}
+use Rattle.asn1_model.specs.Schema.{enumerated, bit_string, octet_string, character_string, object_identifier}
+use Rattle.asn1_model.specs.Schema.{sequence_of, set_of, sequence, set, group, choice, Components, no_component}
+use Rattle.asn1_model.specs.Schema.{component, Alternatives, no_alternative, alternative}
 use Rattle.asn1_model.specs.Normal.{normal, is_normal}
 use Rattle.asn1_model.specs.Form.{is_present}
 use Rattle.asn1_model.specs.Tables.{item_place}
 
--- ---- a value of the older version as one of the newer: the parts that only that has are absent
-
--- Each member changed, if each can be.
 abbrev pub map_each : (Value → Option Value) → Values → Option Values
 map_each f no_more = Some no_more
 map_each f (member v vs) = option_and_then (λ w. option_map (λ ws. member w ws) (map_each f vs)) (f v)
@@ -27,19 +28,21 @@ both_parts (Some ps) (Some qs) = Some (fields ps qs)
 both_parts ps qs = None
 
 unfoldable mutual
-  -- A value of the older version as one of the newer: the parts that only that has are absent. None where such a part is required in a
-  -- sequence or set that is there.
+  -- A value of the older version as one of the newer: the parts that only that has are absent. None where such a part
+  -- is required in a sequence or set that is there.
   pub grow : Schema → Schema → Value → Option Value
   grow (sequence_of z h s) (sequence_of z' h' s') (members vs) = option_map members (map_each (λ v. grow s s' v) vs)
   grow (set_of z h s) (set_of z' h' s') (bag vs) = option_map bag (map_each (λ v. grow s s' v) vs)
-  grow (sequence cs e adds) (sequence cs' e' adds') (fields ps qs) = both_parts (grow_parts cs cs' ps) (grow_parts adds adds' qs)
+  grow (sequence cs e adds) (sequence cs' e' adds') (fields ps qs) =
+      both_parts (grow_parts cs cs' ps) (grow_parts adds adds' qs)
   grow (set cs e adds) (set cs' e' adds') (fields ps qs) = both_parts (grow_parts cs cs' ps) (grow_parts adds adds' qs)
   grow (group cs) (group cs') (fields ps qs) = both_parts (grow_parts cs cs' ps) (Some qs)
-  grow (choice roots e adds) (choice roots' e' adds') (chosen false i v) = option_map (λ w. chosen false i w) (grow_alternative roots roots' i v)
-  grow (choice roots e adds) (choice roots' e' adds') (chosen true i v) = option_map (λ w. chosen true i w) (grow_alternative adds adds' i v)
+  grow (choice roots e adds) (choice roots' e' adds') (chosen false i v) =
+      option_map (λ w. chosen false i w) (grow_alternative roots roots' i v)
+  grow (choice roots e adds) (choice roots' e' adds') (chosen true i v) =
+      option_map (λ w. chosen true i w) (grow_alternative adds adds' i v)
   grow s s' v = Some v
 
-  -- The same of parts.
   pub grow_parts : Components → Components → Parts → Option Parts
   grow_parts (component t o s cs) (component t' o' s' cs') (present v ps) =
       option_and_then (λ w. option_map (λ qs. present w qs) (grow_parts cs cs' ps)) (grow s s' v)
@@ -47,31 +50,30 @@ unfoldable mutual
   grow_parts no_component cs' end = all_absent cs'
   grow_parts cs cs' ps = None
 
-  -- The same of the chosen alternative.
   pub grow_alternative : Alternatives → Alternatives → ℕ → Value → Option Value
   grow_alternative (alternative t s others) (alternative t' s' others') zero v = grow s s' v
   grow_alternative (alternative t s others) (alternative t' s' others') (suc i) v = grow_alternative others others' i v
   grow_alternative others others' i v = None
 
--- ---- a value of the newer version as one of the older, without the parts that this lacks; none where it lacks an alternative
--- or an item that stands elsewhere
-
 unfoldable mutual
-  -- A value of the newer version without the parts that the older one lacks. None where it lacks an alternative or an item that stands
-  -- elsewhere.
+  -- A value of the newer version without the parts that the older one lacks. None where it lacks an alternative or an
+  -- item that stands elsewhere.
   pub lessen : Schema → Schema → Value → Option Value
   lessen (enumerated roots e adds) (enumerated roots' e' adds') (item v) =
       cond (is_present (item_place v roots) || is_present (item_place v adds)) (Some (item v)) None
   lessen (sequence_of z h s) (sequence_of z' h' s') (members vs) = option_map members (map_each (λ v. lessen s s' v) vs)
   lessen (set_of z h s) (set_of z' h' s') (bag vs) = option_map bag (map_each (λ v. lessen s s' v) vs)
-  lessen (sequence cs e adds) (sequence cs' e' adds') (fields ps qs) = both_parts (lessen_parts cs cs' ps) (lessen_parts adds adds' qs)
-  lessen (set cs e adds) (set cs' e' adds') (fields ps qs) = both_parts (lessen_parts cs cs' ps) (lessen_parts adds adds' qs)
+  lessen (sequence cs e adds) (sequence cs' e' adds') (fields ps qs) =
+      both_parts (lessen_parts cs cs' ps) (lessen_parts adds adds' qs)
+  lessen (set cs e adds) (set cs' e' adds') (fields ps qs) =
+      both_parts (lessen_parts cs cs' ps) (lessen_parts adds adds' qs)
   lessen (group cs) (group cs') (fields ps qs) = both_parts (lessen_parts cs cs' ps) (Some qs)
-  lessen (choice roots e adds) (choice roots' e' adds') (chosen false i v) = option_map (λ w. chosen false i w) (lessen_alternative roots roots' i v)
-  lessen (choice roots e adds) (choice roots' e' adds') (chosen true i v) = option_map (λ w. chosen true i w) (lessen_alternative adds adds' i v)
+  lessen (choice roots e adds) (choice roots' e' adds') (chosen false i v) =
+      option_map (λ w. chosen false i w) (lessen_alternative roots roots' i v)
+  lessen (choice roots e adds) (choice roots' e' adds') (chosen true i v) =
+      option_map (λ w. chosen true i w) (lessen_alternative adds adds' i v)
   lessen s s' v = Some v
 
-  -- The same of parts.
   pub lessen_parts : Components → Components → Parts → Option Parts
   lessen_parts (component t o s cs) (component t' o' s' cs') (present v ps) =
       option_and_then (λ w. option_map (λ qs. present w qs) (lessen_parts cs cs' ps)) (lessen s s' v)
@@ -79,42 +81,43 @@ unfoldable mutual
   lessen_parts no_component cs' ps = Some end
   lessen_parts cs cs' ps = None
 
-  -- The same of the chosen alternative.
   pub lessen_alternative : Alternatives → Alternatives → ℕ → Value → Option Value
   lessen_alternative (alternative t s others) (alternative t' s' others') zero v = lessen s s' v
-  lessen_alternative (alternative t s others) (alternative t' s' others') (suc i) v = lessen_alternative others others' i v
+  lessen_alternative (alternative t s others) (alternative t' s' others') (suc i) v =
+      lessen_alternative others others' i v
   lessen_alternative others others' i v = None
 
 -- The normal form of a value of the newer version, without the parts that the older one lacks.
 abbrev pub drop : Schema → Schema → Value → Option Value
 drop old new v = lessen old new (normal new v)
 
--- By the loss a part that the older version knows has become its default, or a group has become empty, so that what is left is not normal.
+-- By the loss a part that the older version knows has become its default, or a group has become empty, so that what is
+-- left is not normal.
 abbrev pub IsClash : Schema → Schema → Value → Type 0
 IsClash old new v = (w : Value) × (drop old new v ≡ Some w) × (is_normal old w ≡ false)
-
--- ---- which types are two versions
 
 -- The elements of the first are the first of the second.
 abbrev pub Begins : {X : Type 0} → List X → List X → Type 0
 Begins {X} xs ys = (zs : List X) × (xs ++ zs ≡ ys)
 
--- Each tag of the older version is one of the newer. An untagged choice and a group gain the tags of what they gain, wherever it stands among
--- them; no addition takes a tag away (X.680 52).
+-- Each tag of the older version is one of the newer. An untagged choice and a group gain the tags of what they gain,
+-- wherever it stands among them; no addition takes a tag away (X.680 52).
 abbrev pub KeepsTags : List Tag → List Tag → Type 0
 KeepsTags ts ts' = All (Contains ts') ts
 
--- Both required, both optional, or both with one default: that of the older version, carried over, is the same value as that of the newer,
--- whatever order a bag in it has and whether or not it spells out what is at a default of its own (X.680 25).
+-- Both required, both optional, or both with one default: that of the older version, carried over, is the same value as
+-- that of the newer, whatever order a bag in it has and whether or not it spells out what is at a default of its own
+-- (X.680 25).
 abbrev pub KeepsPresence : Schema → Schema → Presence → Presence → Type 0
 KeepsPresence s s' required required = Unit {0}
 KeepsPresence s s' optional optional = Unit {0}
-KeepsPresence s s' (by_default d) (by_default d') = (w : Value) × (grow s s' (normal s d) ≡ Some w) × (same w (normal s' d') ≡ true)
+KeepsPresence s s' (by_default d) (by_default d') =
+    (w : Value) × (grow s s' (normal s d) ≡ Some w) × (same w (normal s' d') ≡ true)
 KeepsPresence s s' o o' = ⊥
 
 unfoldable mutual
-  -- The second type is a newer version of the first: the same kinds, bounds, sizes, alphabets, marks and root tables, with further additions,
-  -- items and alternatives behind marks alone.
+  -- The second type is a newer version of the first: the same kinds, bounds, sizes, alphabets, marks and root tables,
+  -- with further additions, items and alternatives behind marks alone.
   pub Extends : Schema → Schema → Type 0
   Extends cut cut = Unit {0}
   Extends boolean boolean = Unit {0}
@@ -130,19 +133,22 @@ unfoldable mutual
   Extends (sequence cs e adds) (sequence cs' e' adds') = ExtendsEach false cs cs' × (e ≡ e') × ExtendsEach e adds adds'
   Extends (set cs e adds) (set cs' e' adds') = ExtendsEach false cs cs' × (e ≡ e') × ExtendsEach e adds adds'
   Extends (group cs) (group cs') = ExtendsEach false cs cs'
-  Extends (choice roots e adds) (choice roots' e' adds') = ExtendsAlternatives false roots roots' × (e ≡ e') × ExtendsAlternatives e adds adds'
+  Extends (choice roots e adds) (choice roots' e' adds') =
+      ExtendsAlternatives false roots roots' × (e ≡ e') × ExtendsAlternatives e adds adds'
   Extends s s' = ⊥
 
   -- One by one, and behind them further ones if these may come.
   pub ExtendsEach : Bool → Components → Components → Type 0
   ExtendsEach more no_component no_component = Unit {0}
   ExtendsEach true no_component (component t' o' s' cs') = Unit {0}
-  ExtendsEach more (component t o s cs) (component t' o' s' cs') = KeepsTags t t' × KeepsPresence s s' o o' × Extends s s' × ExtendsEach more cs cs'
+  ExtendsEach more (component t o s cs) (component t' o' s' cs') =
+      KeepsTags t t' × KeepsPresence s s' o o' × Extends s s' × ExtendsEach more cs cs'
   ExtendsEach more cs cs' = ⊥
 
   -- The same of alternatives, whose tags are equal.
   pub ExtendsAlternatives : Bool → Alternatives → Alternatives → Type 0
   ExtendsAlternatives more no_alternative no_alternative = Unit {0}
   ExtendsAlternatives true no_alternative (alternative t' s' others') = Unit {0}
-  ExtendsAlternatives more (alternative t s others) (alternative t' s' others') = (t ≡ t') × Extends s s' × ExtendsAlternatives more others others'
+  ExtendsAlternatives more (alternative t s others) (alternative t' s' others') =
+      (t ≡ t') × Extends s s' × ExtendsAlternatives more others others'
   ExtendsAlternatives more others others' = ⊥

@@ -1,7 +1,8 @@
-//! The model of ASN.1 and of its encodings: types and values as mathematical data, and what octets are an encoding of which value.
+//! The model of ASN.1 and of its encodings: types and values as mathematical data, and what octets are an encoding of
+//! which value.
 //!
-//! All of it stands in `specs/`; docs/DEFINITIONS.md says in which order to read it. The functions here carry the rows: worked
-//! encodings that the definitions are computed to give.
+//! All of it stands in `specs/`; docs/DEFINITIONS.md says in which order to read it. The functions here carry the rows:
+//! worked encodings that the definitions are computed to give.
 #![tactic(auto)]
 
 ghost use Rattle.asn1_model.specs.Rows.{RangeRows, SizeRows, TableRows};

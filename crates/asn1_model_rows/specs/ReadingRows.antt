@@ -1,17 +1,20 @@
 -- Rows: octets that are an encoding of a value, many of which are not the canonical one, and octets that are none.
 use Rattle.std.specs.Prelude.{◌≡◌, ℕ, ◌+◌, ◌^◌, pos, Bool, true, false, List, [], ◌∷◌, ◌++◌, map, replicate, Some, None}
 use Rattle.asn1_model.specs.Value.{Value, nothing, item, text, arcs, fields, chosen, end, absent, present}
-use Rattle.asn1_model.specs.Schema.{visible, ia5, numeric, utf8, Schema, boolean, null, integer, enumerated, object_identifier, sequence_of}
-use Rattle.asn1_model.specs.Schema.{no_alternative}
+use Rattle.asn1_model.specs.Schema.{visible, ia5, numeric, utf8, Schema, boolean, null, integer, enumerated}
+use Rattle.asn1_model.specs.Schema.{object_identifier, sequence_of, no_alternative}
 use Rattle.asn1_model.specs.Form.{written, Reads, nothing_more, covered_by, arranged}
 use Rattle.asn1_model.specs.Per
 use Rattle.asn1_model.specs.Oer
-use Rattle.asn1_model.specs.Rules.{Rules, lenient, strict_per, strict_oer, IsEncoding, uper, aper, uper_strict, aper_strict, oer, coer}
-use Rattle.asn1_model.specs.Types.{minus, from_to, any_size, sizes, whole, between, small, bit_text, string, list, bag_of, context, or_tagged, one_of}
-use Rattle.asn1_model.specs.Types.{yes, no, num, below, roots, bits_of, set_bits, octet_number, marked_number, wide_number, from_zero, colour_old}
-use Rattle.asn1_model.specs.Types.{colour_new, any_bits, any_octets, marked_octets, flagged, defaulted, one_or_two, many_nulls, only_tagged}
-use Rattle.asn1_model.specs.Types.{marked_choice, new_type, old_type, required_new, default_added, null_added, two_added, default_old, grouped}
-use Rattle.asn1_model.specs.Types.{yes_and, yes_with, yes_without, yes_alone, list_of, bag_with, null_list, octets, foo}
+use Rattle.asn1_model.specs.Rules.{Rules, lenient, strict_per, strict_oer, IsEncoding, uper, aper, uper_strict}
+use Rattle.asn1_model.specs.Rules.{aper_strict, oer, coer}
+use Rattle.asn1_model.specs.Types.{minus, from_to, any_size, sizes, whole, between, small, bit_text, string, list}
+use Rattle.asn1_model.specs.Types.{bag_of, context, or_tagged, one_of, yes, no, num, below, roots, bits_of, set_bits}
+use Rattle.asn1_model.specs.Types.{octet_number, marked_number, wide_number, from_zero, colour_old, colour_new}
+use Rattle.asn1_model.specs.Types.{any_bits, any_octets, marked_octets, flagged, defaulted, one_or_two, many_nulls}
+use Rattle.asn1_model.specs.Types.{only_tagged, marked_choice, new_type, old_type, required_new, default_added}
+use Rattle.asn1_model.specs.Types.{null_added, two_added, default_old, grouped, yes_and, yes_with, yes_without}
+use Rattle.asn1_model.specs.Types.{yes_alone, list_of, bag_with, null_list, octets, foo}
 
 abbrev pub IsNoEncoding : Rules → Schema → Value → List ℕ → Type 0
 IsNoEncoding r s v w = IsEncoding r s v w → ⊥
@@ -34,7 +37,8 @@ ReadingRows =
     × IsEncoding oer any_bits (bits_of []) (0x00 ∷ [])
     × IsEncoding coer any_bits (bits_of []) (0x01 ∷ 0x00 ∷ [])
     × IsEncoding oer any_bits (bits_of (1 ∷ 1 ∷ 1 ∷ 1 ∷ [])) (0x02 ∷ 0x04 ∷ 0xFF ∷ [])
-    × IsEncoding oer (list any_size whole) (list_of (num 1 ∷ num 2 ∷ [])) (0x02 ∷ 0x00 ∷ 0x02 ∷ 0x01 ∷ 0x01 ∷ 0x01 ∷ 0x02 ∷ [])
+    × IsEncoding oer (list any_size whole) (list_of (num 1 ∷ num 2 ∷ []))
+    (0x02 ∷ 0x00 ∷ 0x02 ∷ 0x01 ∷ 0x01 ∷ 0x01 ∷ 0x02 ∷ [])
     × IsEncoding oer defaulted (roots (present (num 0) (absent end))) (0x80 ∷ 0x01 ∷ 0x00 ∷ [])
     × IsEncoding uper defaulted (roots (present (num 0) (absent end))) (0x80 ∷ 0x40 ∷ 0x00 ∷ [])
     × IsEncoding oer (enumerated (pos 5 ∷ []) false []) (item (pos 5)) (0x82 ∷ 0x00 ∷ 0x05 ∷ [])
@@ -47,8 +51,10 @@ ReadingRows =
     × IsEncoding oer old_type yes_alone (0x80 ∷ 0xFF ∷ 0x02 ∷ 0x06 ∷ 0xC0 ∷ 0x01 ∷ 0x07 ∷ 0x01 ∷ 0xAA ∷ [])
     × IsEncoding oer new_type yes_without (0x80 ∷ 0xFF ∷ 0x02 ∷ 0x07 ∷ 0x00 ∷ [])
     × IsEncoding oer new_type yes_without (0x80 ∷ 0xFF ∷ 0x01 ∷ 0x00 ∷ [])
-    × IsEncoding coer new_type (yes_with (num 7)) (0x80 ∷ 0xFF ∷ 0x21 ∷ 0x00 ∷ 0x80 ∷ replicate 31 0x00 ++ 0x01 ∷ 0x07 ∷ [])
-    × IsEncoding coer new_type (yes_with (num 7)) (0x80 ∷ 0xFF ∷ 0x82 ∷ 0x01 ∷ 0x01 ∷ 0x00 ∷ 0x80 ∷ replicate 255 0x00 ++ 0x01 ∷ 0x07 ∷ [])
+    × IsEncoding coer new_type (yes_with (num 7))
+    (0x80 ∷ 0xFF ∷ 0x21 ∷ 0x00 ∷ 0x80 ∷ replicate 31 0x00 ++ 0x01 ∷ 0x07 ∷ [])
+    × IsEncoding coer new_type (yes_with (num 7))
+    (0x80 ∷ 0xFF ∷ 0x82 ∷ 0x01 ∷ 0x01 ∷ 0x00 ∷ 0x80 ∷ replicate 255 0x00 ++ 0x01 ∷ 0x07 ∷ [])
     × IsEncoding oer new_type (yes_with (num 7)) (0x80 ∷ 0xFF ∷ 0x02 ∷ 0x07 ∷ 0xFF ∷ 0x01 ∷ 0x07 ∷ [])
     × IsEncoding oer new_type (yes_with (num 7)) (0x80 ∷ 0xFF ∷ 0x02 ∷ 0x07 ∷ 0x80 ∷ 0x02 ∷ 0x07 ∷ 0xAA ∷ [])
     × IsEncoding uper new_type (yes_with (num 7)) (0xC0 ∷ 0xE0 ∷ 0x20 ∷ 0xE0 ∷ 0x35 ∷ 0x40 ∷ [])
@@ -64,8 +70,10 @@ ReadingRows =
     × IsEncoding oer grouped (yes_with (roots (absent end))) (0x80 ∷ 0xFF ∷ 0x02 ∷ 0x07 ∷ 0x80 ∷ 0x01 ∷ 0x00 ∷ [])
     × IsEncoding uper marked_choice (chosen true 0 (num 333)) (0xC0 ∷ 0x40 ∷ 0x00 ∷ 0xC0 ∷ 0x80 ∷ 0x53 ∷ 0x40 ∷ [])
     × IsEncoding uper (bag_of octet_number) (bag_with (num 3 ∷ num 1 ∷ num 2 ∷ [])) (0x03 ∷ 0x01 ∷ 0x03 ∷ 0x02 ∷ [])
-    × IsEncoding aper_strict (bag_of octet_number) (bag_with (num 3 ∷ num 1 ∷ num 2 ∷ [])) (0x03 ∷ 0x01 ∷ 0x03 ∷ 0x02 ∷ [])
-    × IsEncoding coer (bag_of octet_number) (bag_with (num 3 ∷ num 1 ∷ num 2 ∷ [])) (0x01 ∷ 0x03 ∷ 0x01 ∷ 0x03 ∷ 0x02 ∷ [])
+    × IsEncoding aper_strict (bag_of octet_number) (bag_with (num 3 ∷ num 1 ∷ num 2 ∷ []))
+    (0x03 ∷ 0x01 ∷ 0x03 ∷ 0x02 ∷ [])
+    × IsEncoding coer (bag_of octet_number) (bag_with (num 3 ∷ num 1 ∷ num 2 ∷ []))
+    (0x01 ∷ 0x03 ∷ 0x01 ∷ 0x03 ∷ 0x02 ∷ [])
     × IsEncoding uper default_old (roots (present yes_alone end)) (0xE0 ∷ 0x20 ∷ 0x20 ∷ 0xE0 ∷ [])
     × IsEncoding uper new_type (yes_with (num 7)) (0xF0 ∷ 0x00 ∷ 0x30 ∷ 0x10 ∷ 0x70 ∷ [])
     × IsEncoding uper required_new (yes_with yes) (0xC0 ∷ 0x40 ∷ 0x7F ∷ 0xC0 ∷ [])
@@ -73,9 +81,12 @@ ReadingRows =
     × IsEncoding uper colour_new (item (pos 1)) (0xC0 ∷ 0x40 ∷ 0x00 ∷ [])
     × IsEncoding aper wide_number (num 256) (0x80 ∷ 0x00 ∷ 0x00 ∷ 0x00 ∷ [])
     × IsEncoding uper null_added (yes_with nothing) (0xC0 ∷ 0x40 ∷ 0x80 ∷ 0x2A ∷ 0x80 ∷ [])
-    × IsEncoding uper two_added (fields (present yes end) (present nothing (absent end))) (0xC0 ∷ 0x40 ∷ 0x40 ∷ 0x00 ∷ [])
-    × IsEncoding uper_strict two_added (fields (present yes end) (present nothing (absent end))) (0xC0 ∷ 0x40 ∷ 0x40 ∷ 0x00 ∷ [])
-    × IsEncoding coer two_added (fields (present yes end) (present nothing (absent end))) (0x80 ∷ 0xFF ∷ 0x02 ∷ 0x07 ∷ 0x80 ∷ 0x00 ∷ [])
+    × IsEncoding uper two_added (fields (present yes end) (present nothing (absent end)))
+    (0xC0 ∷ 0x40 ∷ 0x40 ∷ 0x00 ∷ [])
+    × IsEncoding uper_strict two_added (fields (present yes end) (present nothing (absent end)))
+    (0xC0 ∷ 0x40 ∷ 0x40 ∷ 0x00 ∷ [])
+    × IsEncoding coer two_added (fields (present yes end) (present nothing (absent end)))
+    (0x80 ∷ 0xFF ∷ 0x02 ∷ 0x07 ∷ 0x80 ∷ 0x00 ∷ [])
     × IsEncoding uper old_type yes_alone (0xC0 ∷ 0x40 ∷ 0x00 ∷ [])
     × IsEncoding uper_strict old_type yes_alone (0xC0 ∷ 0x40 ∷ 0x00 ∷ [])
     × IsEncoding coer old_type yes_alone (0x80 ∷ 0xFF ∷ 0x02 ∷ 0x07 ∷ 0x80 ∷ 0x00 ∷ [])
@@ -101,7 +112,8 @@ RefusedRows =
     × IsNoEncoding coer (string visible any_size) foo (0x81 ∷ 0x03 ∷ 0x66 ∷ 0x6F ∷ 0x6F ∷ [])
     × IsNoEncoding coer any_bits (bits_of []) (0x00 ∷ [])
     × IsNoEncoding coer any_bits (set_bits 4) (0x02 ∷ 0x04 ∷ 0xFF ∷ [])
-    × IsNoEncoding coer (list any_size whole) (list_of (num 1 ∷ num 2 ∷ [])) (0x02 ∷ 0x00 ∷ 0x02 ∷ 0x01 ∷ 0x01 ∷ 0x01 ∷ 0x02 ∷ [])
+    × IsNoEncoding coer (list any_size whole) (list_of (num 1 ∷ num 2 ∷ []))
+    (0x02 ∷ 0x00 ∷ 0x02 ∷ 0x01 ∷ 0x01 ∷ 0x01 ∷ 0x02 ∷ [])
     × IsNoEncoding coer defaulted (roots (present (num 0) (absent end))) (0x80 ∷ 0x01 ∷ 0x00 ∷ [])
     × IsNoEncoding coer (enumerated (pos 5 ∷ []) false []) (item (pos 5)) (0x82 ∷ 0x00 ∷ 0x05 ∷ [])
     × IsNoEncoding coer (one_of (or_tagged 5 boolean no_alternative)) (chosen false 0 yes) (0xBF ∷ 0x05 ∷ 0xFF ∷ [])
@@ -120,9 +132,11 @@ RefusedRows =
     × IsNoEncoding oer (string visible any_size) (text (0x80 ∷ [])) (0x01 ∷ 0x80 ∷ [])
     × IsNoEncoding oer (string utf8 any_size) (text (0xFF ∷ [])) (0x01 ∷ 0xFF ∷ [])
     × IsNoEncoding oer (string numeric (sizes 3 7)) (text (0x31 ∷ 0x32 ∷ [])) (0x02 ∷ 0x31 ∷ 0x32 ∷ [])
-    × IsNoEncoding oer (sequence_of any_size (record { low = 2; high = Some 2 }) boolean) (list_of (yes ∷ yes ∷ yes ∷ []))
+    × IsNoEncoding oer (sequence_of any_size (record { low = 2; high = Some 2 }) boolean)
+    (list_of (yes ∷ yes ∷ yes ∷ []))
     (0x01 ∷ 0x03 ∷ 0xFF ∷ 0xFF ∷ 0xFF ∷ [])
-    × IsNoEncoding oer (integer (from_to (Some (pos 0)) (Some (pos 255)) true) (record { low = Some (pos 0); high = Some (pos 255) })) (num 300)
+    × IsNoEncoding oer (integer (from_to (Some (pos 0)) (Some (pos 255)) true)
+    (record { low = Some (pos 0); high = Some (pos 255) })) (num 300)
     (0x02 ∷ 0x01 ∷ 0x2C ∷ [])
     × IsNoEncoding uper required_new yes_without (0x40 ∷ [])
     × IsNoEncoding oer required_new yes_without (0x00 ∷ 0xFF ∷ [])
@@ -143,11 +157,15 @@ RefusedRows =
 -- which freedoms the strict readers have: of thirteen in OER three, of twelve in PER two
 abbrev pub FreedomRows : Type 0
 FreedomRows =
-    (map strict_oer (Oer.longer_length ∷ Oer.longer_number ∷ Oer.any_truth ∷ Oer.longer_item ∷ Oer.empty_bit_string ∷ []) ≡ replicate 5 false)
-    × (map strict_oer (Oer.any_filling ∷ Oer.long_tag ∷ Oer.default_spelled_out ∷ Oer.empty_group ∷ Oer.octets_behind ∷ []) ≡ replicate 5 false)
+    (map strict_oer (Oer.longer_length ∷ Oer.longer_number ∷ Oer.any_truth ∷ Oer.longer_item ∷ Oer.empty_bit_string
+    ∷ []) ≡ replicate 5 false)
+    × (map strict_oer (Oer.any_filling ∷ Oer.long_tag ∷ Oer.default_spelled_out ∷ Oer.empty_group ∷ Oer.octets_behind
+    ∷ []) ≡ replicate 5 false)
     × (map strict_oer (Oer.other_bitmap ∷ Oer.empty_bitmap ∷ Oer.other_order ∷ []) ≡ replicate 3 true)
-    × (map strict_per (Per.any_filling ∷ Per.longer_length ∷ Per.other_fragments ∷ Per.longer_number ∷ Per.root_marked_outside ∷ []) ≡ replicate 5 false)
-    × (map strict_per (Per.long_small_number ∷ Per.default_spelled_out ∷ Per.empty_group ∷ Per.empty_bitmap ∷ Per.octets_behind ∷ []) ≡ replicate 5 false)
+    × (map strict_per (Per.any_filling ∷ Per.longer_length ∷ Per.other_fragments ∷ Per.longer_number
+    ∷ Per.root_marked_outside ∷ []) ≡ replicate 5 false)
+    × (map strict_per (Per.long_small_number ∷ Per.default_spelled_out ∷ Per.empty_group ∷ Per.empty_bitmap
+    ∷ Per.octets_behind ∷ []) ≡ replicate 5 false)
     × (map strict_per (Per.other_bitmap ∷ Per.other_order ∷ []) ≡ replicate 2 true)
 
 -- details that no freedom brings: there is no such text
@@ -185,7 +203,9 @@ FormRows =
 
 -- no PER reader takes what is outside the root behind a mark that says inside, whatever follows
 abbrev pub OutsideIsMarked : Type 0
-OutsideIsMarked = (root outside : Per.BitForm) (p : ℕ) (w : List Bool) → Reads lenient (Per.marked true false root outside) p (false ∷ w) → ⊥
+OutsideIsMarked =
+    (root outside : Per.BitForm) (p : ℕ) (w : List Bool)
+    → Reads lenient (Per.marked true false root outside) p (false ∷ w) → ⊥
 
 -- octets that are an encoding of no value at all
 abbrev pub NoValueRows : Type 0

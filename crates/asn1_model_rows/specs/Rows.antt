@@ -1,20 +1,23 @@
--- More rows: the canonical octets of types and values, worked out by hand from the rules and computed here from the definitions.
+-- More rows: the canonical octets of types and values, worked out by hand from the rules and computed here from the
+-- definitions.
 use Rattle.std.specs.Prelude.{◌≡◌, ◌+◌, ◌-◌, ◌^◌, pos, true, false, [], ◌∷◌, ◌++◌, replicate, Some}
-use Rattle.asn1_model.specs.Value.{nothing, item, octet_list, text, arcs, members, fields, chosen, end, absent, present, member, depth}
-use Rattle.asn1_model.specs.Schema.{numeric, printable, visible, ia5, bmp, utf8, general, graphic, teletex, boolean, null}
-use Rattle.asn1_model.specs.Schema.{character_string, object_identifier, no_component, no_alternative}
+use Rattle.asn1_model.specs.Value.{nothing, item, octet_list, text, arcs, members, fields, chosen, end, absent, present}
+use Rattle.asn1_model.specs.Value.{member, depth}
+use Rattle.asn1_model.specs.Schema.{numeric, printable, visible, ia5, bmp, utf8, general, graphic, teletex, boolean}
+use Rattle.asn1_model.specs.Schema.{null, character_string, object_identifier, no_component, no_alternative}
 use Rattle.asn1_model.specs.Rules.{uper, aper, uper_strict, oer, coer}
 use Rattle.asn1_model.specs.Per.{largest_first}
-use Rattle.asn1_model.specs.Types.{Writes, WritesNothing, minus, any_count, any_size, sizes, sizes_or_more, letters, whole, between}
-use Rattle.asn1_model.specs.Types.{small, bit_text, octet_text, string, list, bag_of, needs, has_default, closed, open_behind}
-use Rattle.asn1_model.specs.Types.{or_tagged, one_of, yes, no, num, below, roots, set_bits, bits_of, octet_number, marked_number}
-use Rattle.asn1_model.specs.Types.{word_number, wide_number, from_zero, yes_or_no, colour_new}
-use Rattle.asn1_model.specs.Types.{any_bits, any_octets, marked_octets, visible_of, flagged, defaulted, chained, optional_numbers}
-use Rattle.asn1_model.specs.Types.{absent_parts, person, two_lists, one_or_two, many_nulls, two_booleans, three_numbers, marked_choice}
-use Rattle.asn1_model.specs.Types.{choice_of_choice, set_of_three, set_with_choice, new_type, old_type, required_new}
-use Rattle.asn1_model.specs.Types.{default_added, null_added, default_new, grouped, default_grouped, dated, octets_and_null, listed, null_additions}
-use Rattle.asn1_model.specs.Types.{nest, nest_added, nested, yes_and, yes_with, yes_without, yes_alone, list_of, bag_with, copies, null_list, bits_14}
-use Rattle.asn1_model.specs.Types.{octets, foo, john}
+use Rattle.asn1_model.specs.Types.{Writes, WritesNothing, minus, any_count, any_size, sizes, sizes_or_more, letters}
+use Rattle.asn1_model.specs.Types.{whole, between, small, bit_text, octet_text, string, list, bag_of, needs}
+use Rattle.asn1_model.specs.Types.{has_default, closed, open_behind, or_tagged, one_of, yes, no, num, below, roots}
+use Rattle.asn1_model.specs.Types.{set_bits, bits_of, octet_number, marked_number, word_number, wide_number, from_zero}
+use Rattle.asn1_model.specs.Types.{yes_or_no, colour_new, any_bits, any_octets, marked_octets, visible_of, flagged}
+use Rattle.asn1_model.specs.Types.{defaulted, chained, optional_numbers, absent_parts, person, two_lists, one_or_two}
+use Rattle.asn1_model.specs.Types.{many_nulls, two_booleans, three_numbers, marked_choice, choice_of_choice}
+use Rattle.asn1_model.specs.Types.{set_of_three, set_with_choice, new_type, old_type, required_new, default_added}
+use Rattle.asn1_model.specs.Types.{null_added, default_new, grouped, default_grouped, dated, octets_and_null, listed}
+use Rattle.asn1_model.specs.Types.{null_additions, nest, nest_added, nested, yes_and, yes_with, yes_without, yes_alone}
+use Rattle.asn1_model.specs.Types.{list_of, bag_with, copies, null_list, bits_14, octets, foo, john}
 
 abbrev pub NumberRows : Type 0
 NumberRows =
@@ -55,13 +58,17 @@ NumberRows =
     × Writes coer whole (num 32768) (0x03 ∷ 0x00 ∷ 0x80 ∷ 0x00 ∷ [])
     × Writes coer whole (below 32769) (0x03 ∷ 0xFF ∷ 0x7F ∷ 0xFF ∷ [])
     × Writes coer whole (num (2 ^ 127))
-    (0x11 ∷ 0x00 ∷ 0x80 ∷ 0x00 ∷ 0x00 ∷ 0x00 ∷ 0x00 ∷ 0x00 ∷ 0x00 ∷ 0x00 ∷ 0x00 ∷ 0x00 ∷ 0x00 ∷ 0x00 ∷ 0x00 ∷ 0x00 ∷ 0x00 ∷ 0x00 ∷ [])
+    (0x11 ∷ 0x00 ∷ 0x80 ∷ 0x00 ∷ 0x00 ∷ 0x00 ∷ 0x00 ∷ 0x00 ∷ 0x00 ∷ 0x00 ∷ 0x00 ∷ 0x00 ∷ 0x00 ∷ 0x00 ∷ 0x00 ∷ 0x00
+    ∷ 0x00 ∷ 0x00 ∷ [])
     × Writes coer whole (below (2 ^ 127 + 1))
-    (0x11 ∷ 0xFF ∷ 0x7F ∷ 0xFF ∷ 0xFF ∷ 0xFF ∷ 0xFF ∷ 0xFF ∷ 0xFF ∷ 0xFF ∷ 0xFF ∷ 0xFF ∷ 0xFF ∷ 0xFF ∷ 0xFF ∷ 0xFF ∷ 0xFF ∷ 0xFF ∷ [])
+    (0x11 ∷ 0xFF ∷ 0x7F ∷ 0xFF ∷ 0xFF ∷ 0xFF ∷ 0xFF ∷ 0xFF ∷ 0xFF ∷ 0xFF ∷ 0xFF ∷ 0xFF ∷ 0xFF ∷ 0xFF ∷ 0xFF ∷ 0xFF
+    ∷ 0xFF ∷ 0xFF ∷ [])
     × Writes coer whole (num (256 ^ 127 - 1)) (0x81 ∷ 0x80 ∷ 0x00 ∷ replicate 127 0xFF)
     × Writes coer (between (pos 0) (pos 4294967295)) (num 65535) (0x00 ∷ 0x00 ∷ 0xFF ∷ 0xFF ∷ [])
-    × Writes coer (between (pos 0) (pos (2 ^ 64 - 1))) (num 4294967295) (0x00 ∷ 0x00 ∷ 0x00 ∷ 0x00 ∷ 0xFF ∷ 0xFF ∷ 0xFF ∷ 0xFF ∷ [])
-    × Writes coer (between (pos 0) (pos (2 ^ 127 - 1))) (num (2 ^ 64)) (0x09 ∷ 0x01 ∷ 0x00 ∷ 0x00 ∷ 0x00 ∷ 0x00 ∷ 0x00 ∷ 0x00 ∷ 0x00 ∷ 0x00 ∷ [])
+    × Writes coer (between (pos 0) (pos (2 ^ 64 - 1))) (num 4294967295)
+    (0x00 ∷ 0x00 ∷ 0x00 ∷ 0x00 ∷ 0xFF ∷ 0xFF ∷ 0xFF ∷ 0xFF ∷ [])
+    × Writes coer (between (pos 0) (pos (2 ^ 127 - 1))) (num (2 ^ 64))
+    (0x09 ∷ 0x01 ∷ 0x00 ∷ 0x00 ∷ 0x00 ∷ 0x00 ∷ 0x00 ∷ 0x00 ∷ 0x00 ∷ 0x00 ∷ [])
     × Writes coer (between (minus 128) (pos 127)) (below 128) (0x80 ∷ [])
     × Writes coer (between (minus 32768) (pos 32767)) (below 128) (0xFF ∷ 0x80 ∷ [])
     × Writes coer (between (pos 2) (pos 65535)) (num 2) (0x00 ∷ 0x02 ∷ [])
@@ -132,11 +139,13 @@ StringRows =
     × WritesNothing uper (visible_of (0x30 ∷ 0x31 ∷ [])) (text (0x32 ∷ []))
     × WritesNothing aper (visible_of (0x30 ∷ 0x31 ∷ [])) (text (0x32 ∷ []))
     × Writes coer (visible_of (0x30 ∷ 0x31 ∷ [])) (text (0x32 ∷ [])) (0x01 ∷ 0x32 ∷ [])
-    × Writes coer (octet_text (sizes 3 6)) (octets (1 ∷ 2 ∷ 3 ∷ 4 ∷ 5 ∷ [])) (0x05 ∷ 0x01 ∷ 0x02 ∷ 0x03 ∷ 0x04 ∷ 0x05 ∷ [])
+    × Writes coer (octet_text (sizes 3 6)) (octets (1 ∷ 2 ∷ 3 ∷ 4 ∷ 5 ∷ []))
+    (0x05 ∷ 0x01 ∷ 0x02 ∷ 0x03 ∷ 0x04 ∷ 0x05 ∷ [])
     × WritesNothing coer (octet_text (sizes 3 6)) (octets (1 ∷ 2 ∷ []))
     × WritesNothing coer (octet_text (sizes 3 6)) (octets (replicate 7 1))
     × WritesNothing coer (octet_text (sizes 5 5)) (octets (1 ∷ 2 ∷ 3 ∷ 4 ∷ []))
-    × Writes coer (string printable any_size) (text (0x20 ∷ 0x27 ∷ 0x28 ∷ 0x29 ∷ 0x2B ∷ 0x2C ∷ 0x2D ∷ 0x2E ∷ 0x2F ∷ 0x3A ∷ 0x3D ∷ 0x3F ∷ []))
+    × Writes coer (string printable any_size)
+    (text (0x20 ∷ 0x27 ∷ 0x28 ∷ 0x29 ∷ 0x2B ∷ 0x2C ∷ 0x2D ∷ 0x2E ∷ 0x2F ∷ 0x3A ∷ 0x3D ∷ 0x3F ∷ []))
     (0x0C ∷ 0x20 ∷ 0x27 ∷ 0x28 ∷ 0x29 ∷ 0x2B ∷ 0x2C ∷ 0x2D ∷ 0x2E ∷ 0x2F ∷ 0x3A ∷ 0x3D ∷ 0x3F ∷ [])
     × Writes coer (string utf8 any_size) (text (replicate 128 0x32)) (0x81 ∷ 0x80 ∷ replicate 128 0x32)
     × Writes coer (string bmp (sizes 2 2)) (text (0x61 ∷ 0x62 ∷ [])) (0x00 ∷ 0x61 ∷ 0x00 ∷ 0x62 ∷ [])
@@ -150,7 +159,8 @@ abbrev pub StructureRows : Type 0
 StructureRows =
     Writes coer defaulted (roots (present (num 1) (present (num 3) end))) (0xC0 ∷ 0x01 ∷ 0x01 ∷ 0x01 ∷ 0x03 ∷ [])
     × Writes uper defaulted (roots (present (num 1) (present (num 3) end))) (0xC0 ∷ 0x40 ∷ 0x40 ∷ 0x40 ∷ 0xC0 ∷ [])
-    × Writes uper_strict defaulted (roots (present (num 1) (present (num 3) end))) (0xC0 ∷ 0x40 ∷ 0x40 ∷ 0x40 ∷ 0xC0 ∷ [])
+    × Writes uper_strict defaulted (roots (present (num 1) (present (num 3) end)))
+    (0xC0 ∷ 0x40 ∷ 0x40 ∷ 0x40 ∷ 0xC0 ∷ [])
     × Writes coer defaulted (roots (present (num 0) (absent end))) (0x00 ∷ [])
     × Writes uper defaulted (roots (present (num 0) (absent end))) (0x00 ∷ [])
     × Writes coer defaulted (roots (absent (absent end))) (0x00 ∷ [])
@@ -163,17 +173,22 @@ StructureRows =
     × Writes coer (flagged small) (roots (present no (present (num 5) end))) (0x00 ∷ 0x05 ∷ [])
     × Writes coer two_booleans (chosen false 1 yes) (0xBF ∷ 0x83 ∷ 0x3C ∷ 0xFF ∷ [])
     × Writes uper two_booleans (chosen false 1 yes) (0xC0 ∷ [])
-    × Writes coer three_numbers (chosen false 2 (num 333)) (0xBF ∷ 0x8F ∷ 0xFF ∷ 0xFF ∷ 0xFF ∷ 0x7F ∷ 0x02 ∷ 0x01 ∷ 0x4D ∷ [])
+    × Writes coer three_numbers (chosen false 2 (num 333))
+    (0xBF ∷ 0x8F ∷ 0xFF ∷ 0xFF ∷ 0xFF ∷ 0x7F ∷ 0x02 ∷ 0x01 ∷ 0x4D ∷ [])
     × Writes uper three_numbers (chosen false 2 (num 333)) (0x80 ∷ 0x80 ∷ 0x53 ∷ 0x40 ∷ [])
-    × Writes coer set_of_three (roots (present (num 7) (present (num 6) (present (num 5) end)))) (0xE0 ∷ 0x01 ∷ 0x07 ∷ 0x01 ∷ 0x06 ∷ 0x01 ∷ 0x05 ∷ [])
-    × Writes uper set_of_three (roots (present (num 7) (present (num 6) (present (num 5) end)))) (0xE0 ∷ 0x20 ∷ 0xE0 ∷ 0x20 ∷ 0xC0 ∷ 0x20 ∷ 0xA0 ∷ [])
+    × Writes coer set_of_three (roots (present (num 7) (present (num 6) (present (num 5) end))))
+    (0xE0 ∷ 0x01 ∷ 0x07 ∷ 0x01 ∷ 0x06 ∷ 0x01 ∷ 0x05 ∷ [])
+    × Writes uper set_of_three (roots (present (num 7) (present (num 6) (present (num 5) end))))
+    (0xE0 ∷ 0x20 ∷ 0xE0 ∷ 0x20 ∷ 0xC0 ∷ 0x20 ∷ 0xA0 ∷ [])
     × Writes coer (bag_of octet_number) (bag_with (num 3 ∷ num 1 ∷ num 2 ∷ [])) (0x01 ∷ 0x03 ∷ 0x01 ∷ 0x02 ∷ 0x03 ∷ [])
     × Writes coer (bag_of octet_number) (bag_with (num 2 ∷ num 3 ∷ num 1 ∷ [])) (0x01 ∷ 0x03 ∷ 0x01 ∷ 0x02 ∷ 0x03 ∷ [])
     × Writes uper (bag_of octet_number) (bag_with (num 2 ∷ num 3 ∷ num 1 ∷ [])) (0x03 ∷ 0x01 ∷ 0x02 ∷ 0x03 ∷ [])
     × Writes coer (bag_of small) (bag_with (below 1 ∷ num 1 ∷ [])) (0x01 ∷ 0x02 ∷ 0x01 ∷ 0xFF ∷ [])
     × Writes uper (bag_of small) (bag_with (below 1 ∷ num 1 ∷ [])) (0x02 ∷ 0x46 ∷ [])
-    × Writes coer (bag_of whole) (bag_with (num 256 ∷ below 1 ∷ num 1 ∷ [])) (0x01 ∷ 0x03 ∷ 0x01 ∷ 0x01 ∷ 0x01 ∷ 0xFF ∷ 0x02 ∷ 0x01 ∷ 0x00 ∷ [])
-    × Writes uper (bag_of whole) (bag_with (num 256 ∷ below 1 ∷ num 1 ∷ [])) (0x03 ∷ 0x01 ∷ 0x01 ∷ 0x01 ∷ 0xFF ∷ 0x02 ∷ 0x01 ∷ 0x00 ∷ [])
+    × Writes coer (bag_of whole) (bag_with (num 256 ∷ below 1 ∷ num 1 ∷ []))
+    (0x01 ∷ 0x03 ∷ 0x01 ∷ 0x01 ∷ 0x01 ∷ 0xFF ∷ 0x02 ∷ 0x01 ∷ 0x00 ∷ [])
+    × Writes uper (bag_of whole) (bag_with (num 256 ∷ below 1 ∷ num 1 ∷ []))
+    (0x03 ∷ 0x01 ∷ 0x01 ∷ 0x01 ∷ 0xFF ∷ 0x02 ∷ 0x01 ∷ 0x00 ∷ [])
     × Writes coer set_with_choice (roots (present (chosen false 1 yes) (present (num 9) end))) (0x87 ∷ 0xFF ∷ 0x09 ∷ [])
     × Writes uper set_with_choice (roots (present (chosen false 1 yes) (present (num 9) end))) (0xC2 ∷ 0x40 ∷ [])
     × Writes uper (list any_size boolean) (list_of (yes ∷ no ∷ yes ∷ [])) (0x03 ∷ 0xA0 ∷ [])
@@ -183,20 +198,28 @@ StructureRows =
     × Writes coer one_or_two (list_of []) (0x01 ∷ 0x00 ∷ [])
     × WritesNothing uper one_or_two (list_of [])
     × WritesNothing aper one_or_two (list_of [])
-    × Writes coer chained (roots (present (num 1) (present (roots (present (num 2) (present (roots (present (num 3) (present (num 4) end))) end))) end)))
+    × Writes coer chained (roots
+    (present (num 1) (present
+    (roots (present (num 2) (present (roots (present (num 3) (present (num 4) end))) end))) end)))
     (0x01 ∷ 0x01 ∷ 0x80 ∷ 0x01 ∷ 0x02 ∷ 0x80 ∷ 0x01 ∷ 0x03 ∷ 0x01 ∷ 0x04 ∷ [])
     × Writes coer (closed (needs 0 whole (optional_numbers 1 12)))
-    (roots (present (num 1) (present (num 1) (absent_parts 3 (present (num 1) (absent_parts 3 (present (num 1) (absent_parts 3 end))))))))
+    (roots (present (num 1) (present (num 1)
+    (absent_parts 3 (present (num 1) (absent_parts 3 (present (num 1) (absent_parts 3 end))))))))
     (0x88 ∷ 0x80 ∷ 0x01 ∷ 0x01 ∷ 0x01 ∷ 0x01 ∷ 0x01 ∷ 0x01 ∷ 0x01 ∷ 0x01 ∷ [])
-    × Writes coer person (roots (present (num 7) (present (text (0x4A ∷ 0x6F ∷ [])) end))) (0x01 ∷ 0x07 ∷ 0x02 ∷ 0x4A ∷ 0x6F ∷ [])
-    × Writes uper person (roots (present (num 7) (present (text (0x4A ∷ 0x6F ∷ [])) end))) (0x01 ∷ 0x07 ∷ 0x02 ∷ 0x4A ∷ 0x6F ∷ [])
-    × Writes aper person (roots (present (num 7) (present (text (0x4A ∷ 0x6F ∷ [])) end))) (0x01 ∷ 0x07 ∷ 0x02 ∷ 0x4A ∷ 0x6F ∷ [])
+    × Writes coer person (roots (present (num 7) (present (text (0x4A ∷ 0x6F ∷ [])) end)))
+    (0x01 ∷ 0x07 ∷ 0x02 ∷ 0x4A ∷ 0x6F ∷ [])
+    × Writes uper person (roots (present (num 7) (present (text (0x4A ∷ 0x6F ∷ [])) end)))
+    (0x01 ∷ 0x07 ∷ 0x02 ∷ 0x4A ∷ 0x6F ∷ [])
+    × Writes aper person (roots (present (num 7) (present (text (0x4A ∷ 0x6F ∷ [])) end)))
+    (0x01 ∷ 0x07 ∷ 0x02 ∷ 0x4A ∷ 0x6F ∷ [])
     × Writes uper two_lists
-    (roots (present yes (present (list_of (octets (1 ∷ 2 ∷ 3 ∷ []) ∷ octet_list (4 ∷ 5 ∷ 6 ∷ []) ∷ [])) (present (list_of (octets (7 ∷ 8 ∷ 9 ∷ []) ∷
+    (roots (present yes (present (list_of (octets (1 ∷ 2 ∷ 3 ∷ []) ∷ octet_list (4 ∷ 5 ∷ 6 ∷ []) ∷ []))
+    (present (list_of (octets (7 ∷ 8 ∷ 9 ∷ []) ∷
     [])) (present (num 0xAB) end)))))
     (0x80 ∷ 0x81 ∷ 0x01 ∷ 0x82 ∷ 0x02 ∷ 0x83 ∷ 0x01 ∷ 0xC2 ∷ 0x02 ∷ 0x6A ∷ 0xC0 ∷ [])
     × Writes aper two_lists
-    (roots (present yes (present (list_of (octets (1 ∷ 2 ∷ 3 ∷ []) ∷ octet_list (4 ∷ 5 ∷ 6 ∷ []) ∷ [])) (present (list_of (octets (7 ∷ 8 ∷ 9 ∷ []) ∷
+    (roots (present yes (present (list_of (octets (1 ∷ 2 ∷ 3 ∷ []) ∷ octet_list (4 ∷ 5 ∷ 6 ∷ []) ∷ []))
+    (present (list_of (octets (7 ∷ 8 ∷ 9 ∷ []) ∷
     [])) (present (num 0xAB) end)))))
     (0x80 ∷ 0x01 ∷ 0x02 ∷ 0x03 ∷ 0x04 ∷ 0x05 ∷ 0x06 ∷ 0x00 ∷ 0x07 ∷ 0x08 ∷ 0x09 ∷ 0xAB ∷ [])
     × Writes coer (nest 128) (nested 127) (replicate 127 0x81 ++ 0x80 ∷ [])
@@ -218,23 +241,28 @@ AdditionRows =
     × Writes uper old_type yes_alone (0x40 ∷ [])
     × Writes uper default_new (roots (present (yes_with (num 7)) end)) (0xE0 ∷ 0x20 ∷ 0x20 ∷ 0xE0 ∷ [])
     × Writes uper_strict default_new (roots (present (yes_with (num 7)) end)) (0xE0 ∷ 0x20 ∷ 0x20 ∷ 0xE0 ∷ [])
-    × Writes coer default_new (roots (present (yes_with (num 7)) end)) (0x80 ∷ 0x80 ∷ 0xFF ∷ 0x02 ∷ 0x07 ∷ 0x80 ∷ 0x01 ∷ 0x07 ∷ [])
+    × Writes coer default_new (roots (present (yes_with (num 7)) end))
+    (0x80 ∷ 0x80 ∷ 0xFF ∷ 0x02 ∷ 0x07 ∷ 0x80 ∷ 0x01 ∷ 0x07 ∷ [])
     × Writes coer default_new (roots (present yes_without end)) (0x00 ∷ [])
     × Writes uper default_new (roots (present yes_without end)) (0x00 ∷ [])
     × Writes uper required_new (yes_with yes) (0xC0 ∷ 0x40 ∷ 0x60 ∷ 0x00 ∷ [])
     × WritesNothing uper required_new yes_without
     × WritesNothing coer required_new yes_without
-    × Writes coer grouped (yes_with (roots (present (num 7) end))) (0x80 ∷ 0xFF ∷ 0x02 ∷ 0x07 ∷ 0x80 ∷ 0x02 ∷ 0x80 ∷ 0x07 ∷ [])
+    × Writes coer grouped (yes_with (roots (present (num 7) end)))
+    (0x80 ∷ 0xFF ∷ 0x02 ∷ 0x07 ∷ 0x80 ∷ 0x02 ∷ 0x80 ∷ 0x07 ∷ [])
     × Writes uper grouped (yes_with (roots (present (num 7) end))) (0xC0 ∷ 0x40 ∷ 0xA0 ∷ 0xE0 ∷ 0x00 ∷ [])
     × Writes coer grouped (yes_with (roots (absent end))) (0x00 ∷ 0xFF ∷ [])
     × Writes uper grouped (yes_with (roots (absent end))) (0x40 ∷ [])
     × Writes coer choice_of_choice (chosen true 0 yes) (0x81 ∷ 0x01 ∷ 0xFF ∷ [])
     × Writes coer choice_of_choice (chosen false 1 (chosen false 0 (num 333))) (0x82 ∷ 0x80 ∷ 0x02 ∷ 0x01 ∷ 0x4D ∷ [])
-    × Writes coer dated (fields (present (num 1) (present (octets (2 ∷ 3 ∷ 4 ∷ [])) (absent end))) (present (octets (5 ∷ 6 ∷ 7 ∷ [])) end))
+    × Writes coer dated (fields (present (num 1) (present (octets (2 ∷ 3 ∷ 4 ∷ [])) (absent end)))
+    (present (octets (5 ∷ 6 ∷ 7 ∷ [])) end))
     (0xC0 ∷ 0x01 ∷ 0x01 ∷ 0x03 ∷ 0x02 ∷ 0x03 ∷ 0x04 ∷ 0x02 ∷ 0x07 ∷ 0x80 ∷ 0x04 ∷ 0x03 ∷ 0x05 ∷ 0x06 ∷ 0x07 ∷ [])
-    × Writes coer listed (fields (present (list_of (yes ∷ yes ∷ yes ∷ [])) end) end) (0x00 ∷ 0x01 ∷ 0x03 ∷ 0xFF ∷ 0xFF ∷ 0xFF ∷ [])
+    × Writes coer listed (fields (present (list_of (yes ∷ yes ∷ yes ∷ [])) end) end)
+    (0x00 ∷ 0x01 ∷ 0x03 ∷ 0xFF ∷ 0xFF ∷ 0xFF ∷ [])
     × WritesNothing uper listed (fields (present (list_of (yes ∷ yes ∷ yes ∷ [])) end) end)
-    × Writes coer nest_added (yes_with (nested 127)) (0x80 ∷ 0xFF ∷ 0x02 ∷ 0x07 ∷ 0x80 ∷ 0x81 ∷ 0x80 ∷ replicate 127 0x81 ++ 0x80 ∷ [])
+    × Writes coer nest_added (yes_with (nested 127))
+    (0x80 ∷ 0xFF ∷ 0x02 ∷ 0x07 ∷ 0x80 ∷ 0x81 ∷ 0x80 ∷ replicate 127 0x81 ++ 0x80 ∷ [])
 
 -- alphabets
 abbrev pub CharacterRows : Type 0
@@ -247,13 +275,18 @@ CharacterRows =
     × Writes coer (visible_of []) (text (0x30 ∷ [])) (0x01 ∷ 0x30 ∷ [])
     × Writes uper (visible_of (0x30 ∷ [])) (text (0x30 ∷ 0x30 ∷ 0x30 ∷ [])) (0x03 ∷ [])
     × Writes aper (visible_of (0x30 ∷ [])) (text (0x30 ∷ 0x30 ∷ 0x30 ∷ [])) (0x03 ∷ [])
-    × Writes aper (flagged (character_string visible (sizes 3 3) (letters (0x30 ∷ [])) any_count)) (yes_and (text (0x30 ∷ 0x30 ∷ 0x30 ∷ []))) (0x80 ∷ [])
+    × Writes aper (flagged (character_string visible (sizes 3 3) (letters (0x30 ∷ [])) any_count))
+    (yes_and (text (0x30 ∷ 0x30 ∷ 0x30 ∷ []))) (0x80 ∷ [])
     -- of three: places, or the characters' own numbers where all of these fit
-    × Writes uper (character_string ia5 any_size (letters (0 ∷ 1 ∷ 3 ∷ [])) any_count) (text (3 ∷ [])) (0x01 ∷ 0xC0 ∷ [])
-    × Writes uper (character_string ia5 any_size (letters (0 ∷ 1 ∷ 4 ∷ [])) any_count) (text (4 ∷ [])) (0x01 ∷ 0x80 ∷ [])
+    × Writes uper (character_string ia5 any_size (letters (0 ∷ 1 ∷ 3 ∷ [])) any_count) (text (3 ∷ []))
+    (0x01 ∷ 0xC0 ∷ [])
+    × Writes uper (character_string ia5 any_size (letters (0 ∷ 1 ∷ 4 ∷ [])) any_count) (text (4 ∷ []))
+    (0x01 ∷ 0x80 ∷ [])
     -- of five: three bits and places, but four bits and own numbers where widths are raised
-    × Writes uper (character_string ia5 any_size (letters (0 ∷ 1 ∷ 2 ∷ 3 ∷ 9 ∷ [])) any_count) (text (9 ∷ [])) (0x01 ∷ 0x80 ∷ [])
-    × Writes aper (character_string ia5 any_size (letters (0 ∷ 1 ∷ 2 ∷ 3 ∷ 9 ∷ [])) any_count) (text (9 ∷ [])) (0x01 ∷ 0x90 ∷ [])
+    × Writes uper (character_string ia5 any_size (letters (0 ∷ 1 ∷ 2 ∷ 3 ∷ 9 ∷ [])) any_count) (text (9 ∷ []))
+    (0x01 ∷ 0x80 ∷ [])
+    × Writes aper (character_string ia5 any_size (letters (0 ∷ 1 ∷ 2 ∷ 3 ∷ 9 ∷ [])) any_count) (text (9 ∷ []))
+    (0x01 ∷ 0x90 ∷ [])
     -- whole alphabets: 4, 7, 8 and 16 bits
     × Writes uper (string printable any_size) (text (0x48 ∷ 0x69 ∷ [])) (0x02 ∷ 0x91 ∷ 0xA4 ∷ [])
     × Writes aper (string printable any_size) (text (0x48 ∷ 0x69 ∷ [])) (0x02 ∷ 0x48 ∷ 0x69 ∷ [])
@@ -263,10 +296,14 @@ CharacterRows =
     × Writes aper (string bmp any_size) (text (0x61 ∷ 0xFFFF ∷ [])) (0x02 ∷ 0x00 ∷ 0x61 ∷ 0xFF ∷ 0xFF ∷ [])
     × Writes coer (string bmp any_size) (text (0x61 ∷ 0xFFFF ∷ [])) (0x04 ∷ 0x00 ∷ 0x61 ∷ 0xFF ∷ 0xFF ∷ [])
     -- filling before the characters: fixed sizes of 16 and of 20 bits, sizes up to 12 and up to 16 bits, and none
-    × Writes uper (flagged (string numeric (sizes 4 4))) (yes_and (text (0x31 ∷ 0x32 ∷ 0x33 ∷ 0x34 ∷ []))) (0x91 ∷ 0xA2 ∷ 0x80 ∷ [])
-    × Writes aper (flagged (string numeric (sizes 4 4))) (yes_and (text (0x31 ∷ 0x32 ∷ 0x33 ∷ 0x34 ∷ []))) (0x91 ∷ 0xA2 ∷ 0x80 ∷ [])
-    × Writes uper (flagged (string numeric (sizes 5 5))) (yes_and (text (0x31 ∷ 0x32 ∷ 0x33 ∷ 0x34 ∷ 0x35 ∷ []))) (0x91 ∷ 0xA2 ∷ 0xB0 ∷ [])
-    × Writes aper (flagged (string numeric (sizes 5 5))) (yes_and (text (0x31 ∷ 0x32 ∷ 0x33 ∷ 0x34 ∷ 0x35 ∷ []))) (0x80 ∷ 0x23 ∷ 0x45 ∷ 0x60 ∷ [])
+    × Writes uper (flagged (string numeric (sizes 4 4))) (yes_and (text (0x31 ∷ 0x32 ∷ 0x33 ∷ 0x34 ∷ [])))
+    (0x91 ∷ 0xA2 ∷ 0x80 ∷ [])
+    × Writes aper (flagged (string numeric (sizes 4 4))) (yes_and (text (0x31 ∷ 0x32 ∷ 0x33 ∷ 0x34 ∷ [])))
+    (0x91 ∷ 0xA2 ∷ 0x80 ∷ [])
+    × Writes uper (flagged (string numeric (sizes 5 5))) (yes_and (text (0x31 ∷ 0x32 ∷ 0x33 ∷ 0x34 ∷ 0x35 ∷ [])))
+    (0x91 ∷ 0xA2 ∷ 0xB0 ∷ [])
+    × Writes aper (flagged (string numeric (sizes 5 5))) (yes_and (text (0x31 ∷ 0x32 ∷ 0x33 ∷ 0x34 ∷ 0x35 ∷ [])))
+    (0x80 ∷ 0x23 ∷ 0x45 ∷ 0x60 ∷ [])
     × Writes uper (flagged (string numeric (sizes 0 3))) (yes_and (text (0x31 ∷ 0x32 ∷ []))) (0xC4 ∷ 0x60 ∷ [])
     × Writes aper (flagged (string numeric (sizes 0 3))) (yes_and (text (0x31 ∷ 0x32 ∷ []))) (0xC4 ∷ 0x60 ∷ [])
     × Writes uper (flagged (string numeric (sizes 0 4))) (yes_and (text (0x31 ∷ 0x32 ∷ []))) (0xA2 ∷ 0x30 ∷ [])
@@ -276,14 +313,19 @@ CharacterRows =
     × Writes aper (flagged (string bmp (sizes 1 1))) (yes_and (text (0x61 ∷ []))) (0x80 ∷ 0x30 ∷ 0x80 ∷ [])
     × Writes aper (flagged (string bmp (sizes 0 1))) (yes_and (text (0x61 ∷ []))) (0xC0 ∷ 0x00 ∷ 0x61 ∷ [])
     × Writes aper (flagged (string numeric (sizes_or_more 1 1))) (yes_and (text (0x31 ∷ []))) (0x88 ∷ [])
-    × Writes aper (flagged (string numeric (sizes_or_more 1 1))) (yes_and (text (0x31 ∷ 0x32 ∷ []))) (0xC0 ∷ 0x02 ∷ 0x23 ∷ [])
-    × Writes uper (flagged (string numeric (sizes_or_more 1 1))) (yes_and (text (0x31 ∷ 0x32 ∷ []))) (0xC0 ∷ 0x88 ∷ 0xC0 ∷ [])
+    × Writes aper (flagged (string numeric (sizes_or_more 1 1))) (yes_and (text (0x31 ∷ 0x32 ∷ [])))
+    (0xC0 ∷ 0x02 ∷ 0x23 ∷ [])
+    × Writes uper (flagged (string numeric (sizes_or_more 1 1))) (yes_and (text (0x31 ∷ 0x32 ∷ [])))
+    (0xC0 ∷ 0x88 ∷ 0xC0 ∷ [])
     -- an alphabet with a mark counts for nothing, and one in OER neither
-    × Writes uper (character_string visible any_size (record { characters = Some (0x30 ∷ 0x31 ∷ []); extensible = true }) any_count) (text (0x32 ∷ []))
+    × Writes uper (character_string visible any_size
+    (record { characters = Some (0x30 ∷ 0x31 ∷ []); extensible = true }) any_count) (text (0x32 ∷ []))
     (0x01 ∷ 0x64 ∷ [])
     -- an alphabet that goes past the type's own: the characters that both have, here one
-    × Writes uper (character_string numeric any_size (letters (0x30 ∷ 0x61 ∷ [])) any_count) (text (0x30 ∷ [])) (0x01 ∷ [])
-    × Writes aper (character_string numeric any_size (letters (0x30 ∷ 0x61 ∷ [])) any_count) (text (0x30 ∷ [])) (0x01 ∷ [])
+    × Writes uper (character_string numeric any_size (letters (0x30 ∷ 0x61 ∷ [])) any_count) (text (0x30 ∷ []))
+    (0x01 ∷ [])
+    × Writes aper (character_string numeric any_size (letters (0x30 ∷ 0x61 ∷ [])) any_count) (text (0x30 ∷ []))
+    (0x01 ∷ [])
     × WritesNothing uper (character_string numeric any_size (letters (0x30 ∷ 0x61 ∷ [])) any_count) (text (0x61 ∷ []))
     × WritesNothing aper (character_string numeric any_size (letters (0x30 ∷ 0x61 ∷ [])) any_count) (text (0x61 ∷ []))
     × WritesNothing coer (character_string numeric any_size (letters (0x30 ∷ 0x61 ∷ [])) any_count) (text (0x61 ∷ []))
@@ -353,7 +395,8 @@ OpenRows =
     × Writes uper default_added (yes_with (num 4)) (0xC0 ∷ 0x40 ∷ 0x80 ∷ 0x41 ∷ 0x00 ∷ [])
     × Writes uper default_grouped (yes_with (roots (present (num 5) end))) (0x40 ∷ [])
     × Writes coer default_grouped (yes_with (roots (present (num 5) end))) (0x00 ∷ 0xFF ∷ [])
-    × Writes coer default_grouped (yes_with (roots (present (num 6) end))) (0x80 ∷ 0xFF ∷ 0x02 ∷ 0x07 ∷ 0x80 ∷ 0x03 ∷ 0x80 ∷ 0x01 ∷ 0x06 ∷ [])
+    × Writes coer default_grouped (yes_with (roots (present (num 6) end)))
+    (0x80 ∷ 0xFF ∷ 0x02 ∷ 0x07 ∷ 0x80 ∷ 0x03 ∷ 0x80 ∷ 0x01 ∷ 0x06 ∷ [])
     -- an open type around a value of no bits
     × Writes uper null_added (yes_with nothing) (0xC0 ∷ 0x40 ∷ 0x40 ∷ 0x00 ∷ [])
     × Writes aper null_added (yes_with nothing) (0xC0 ∷ 0x40 ∷ 0x01 ∷ 0x00 ∷ [])
@@ -371,18 +414,25 @@ OpenRows =
     (0xC0 ∷ 0x41 ∷ replicate 8 0x00 ++ 0x80 ∷ 0x01 ∷ 0x00 ∷ [])
     × Writes coer (open_behind no_component (null_additions 0 65)) (fields end (absent_parts 64 (present nothing end)))
     (0x80 ∷ 0x0A ∷ 0x07 ∷ replicate 8 0x00 ++ 0x80 ∷ 0x00 ∷ [])
-    × Writes coer (open_behind no_component (null_additions 0 1008)) (fields end (absent_parts 1007 (present nothing end)))
+    × Writes coer (open_behind no_component (null_additions 0 1008))
+    (fields end (absent_parts 1007 (present nothing end)))
     (0x80 ∷ 0x7F ∷ 0x00 ∷ replicate 125 0x00 ++ 0x01 ∷ 0x00 ∷ [])
-    × Writes coer (open_behind no_component (null_additions 0 1009)) (fields end (absent_parts 1008 (present nothing end)))
+    × Writes coer (open_behind no_component (null_additions 0 1009))
+    (fields end (absent_parts 1008 (present nothing end)))
     (0x80 ∷ 0x81 ∷ 0x80 ∷ 0x07 ∷ replicate 126 0x00 ++ 0x80 ∷ 0x00 ∷ [])
     -- a preamble of eight bits and of nine
-    × Writes coer (open_behind (optional_numbers 0 7) no_component) (fields (absent_parts 6 (present (num 1) end)) end) (0x01 ∷ 0x01 ∷ 0x01 ∷ [])
-    × Writes coer (open_behind (optional_numbers 0 8) no_component) (fields (absent_parts 7 (present (num 1) end)) end) (0x00 ∷ 0x80 ∷ 0x01 ∷ 0x01 ∷ [])
-    × Writes uper (open_behind (optional_numbers 0 7) no_component) (fields (absent_parts 6 (present (num 1) end)) end) (0x01 ∷ 0x01 ∷ 0x01 ∷ [])
+    × Writes coer (open_behind (optional_numbers 0 7) no_component) (fields (absent_parts 6 (present (num 1) end)) end)
+    (0x01 ∷ 0x01 ∷ 0x01 ∷ [])
+    × Writes coer (open_behind (optional_numbers 0 8) no_component) (fields (absent_parts 7 (present (num 1) end)) end)
+    (0x00 ∷ 0x80 ∷ 0x01 ∷ 0x01 ∷ [])
+    × Writes uper (open_behind (optional_numbers 0 7) no_component) (fields (absent_parts 6 (present (num 1) end)) end)
+    (0x01 ∷ 0x01 ∷ 0x01 ∷ [])
     -- positions begin anew in an open type
-    × Writes aper (open_behind (needs 0 boolean no_component) (needs 1 (flagged octet_number) no_component)) (yes_with (yes_and (num 9)))
+    × Writes aper (open_behind (needs 0 boolean no_component) (needs 1 (flagged octet_number) no_component))
+    (yes_with (yes_and (num 9)))
     (0xC0 ∷ 0x40 ∷ 0x02 ∷ 0x80 ∷ 0x09 ∷ [])
-    × Writes uper (open_behind (needs 0 boolean no_component) (needs 1 (flagged octet_number) no_component)) (yes_with (yes_and (num 9)))
+    × Writes uper (open_behind (needs 0 boolean no_component) (needs 1 (flagged octet_number) no_component))
+    (yes_with (yes_and (num 9)))
     (0xC0 ∷ 0x40 ∷ 0xA1 ∷ 0x20 ∷ 0x00 ∷ [])
     -- required parts that are not there
     × WritesNothing uper (flagged boolean) (roots (present yes (absent end)))
@@ -391,7 +441,8 @@ OpenRows =
     × WritesNothing coer (flagged boolean) (roots (present yes end))
     -- a bag stands in the order of its complete encodings in the same rules, which ends in filling bits
     × Writes uper (bag_of boolean) (bag_with (yes ∷ no ∷ [])) (0x02 ∷ 0x40 ∷ [])
-    × Writes aper (bag_of (octet_text (sizes 0 2))) (bag_with (octets (1 ∷ 2 ∷ []) ∷ octets (3 ∷ []) ∷ [])) (0x02 ∷ 0x40 ∷ 0x03 ∷ 0x80 ∷ 0x01 ∷ 0x02 ∷ [])
+    × Writes aper (bag_of (octet_text (sizes 0 2))) (bag_with (octets (1 ∷ 2 ∷ []) ∷ octets (3 ∷ []) ∷ []))
+    (0x02 ∷ 0x40 ∷ 0x03 ∷ 0x80 ∷ 0x01 ∷ 0x02 ∷ [])
     × Writes coer (bag_of (octet_text (sizes 0 2))) (bag_with (octets (1 ∷ 2 ∷ []) ∷ octets (3 ∷ []) ∷ []))
     (0x01 ∷ 0x02 ∷ 0x01 ∷ 0x03 ∷ 0x02 ∷ 0x01 ∷ 0x02 ∷ [])
     × Writes uper (bag_of null) (bag_with []) (0x00 ∷ [])

@@ -1,7 +1,8 @@
 //! More rows of the model: worked encodings, and octets that are none, computed from the definitions.
 #![tactic(auto)]
 
-ghost use Rattle.asn1_model_rows.specs.ReadingRows.{FormRows, FreedomRows, NoValueRows, OutsideIsMarked, ReadingRows, RefusedRows};
+ghost use Rattle.asn1_model_rows.specs.ReadingRows.{FormRows, FreedomRows, NoValueRows, OutsideIsMarked, ReadingRows};
+ghost use Rattle.asn1_model_rows.specs.ReadingRows.{RefusedRows};
 ghost use Rattle.asn1_model_rows.specs.Rows.{NumberRows, StringRows, StructureRows, AdditionRows, LongRows};
 ghost use Rattle.asn1_model_rows.specs.Rows.{CharacterRows, OpenRows, LengthRows, FragmentRows, WholeSizeRows};
 

@@ -4,7 +4,7 @@ ghost use Rattle.std.specs.Prelude.{◌≡◌, Some, None, is_some, IfSome, []};
 use crate::{Size, Value};
 use std::ops::DerefSlice;
 
-/// A permitted alphabet (X.680 51.7): the characters that a string may hold, in ascending order.
+/// A permitted alphabet (X.680 51.7): the characters that a string may hold, in any order.
 #[derive(Clone, Copy, Debug, PartialEq, Eq)]
 pub struct PermittedAlphabet<'a> {
     /// The characters, by their numbers.

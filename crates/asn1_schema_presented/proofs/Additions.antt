@@ -5,8 +5,8 @@ use Rattle.std.proofs.lemmas.Bool.{and_parts}
 use Rattle.std.proofs.Math.Nat.{le-max_left, le-max_right}
 use Rattle.asn1_model.specs.Value.{Parts, end, depth, depth_of_parts}
 use Rattle.asn1_model.specs.Schema.{Tag, Presence, Schema}
-use Rattle.asn1_model.specs.Normal.{normal_parts}
-use Rattle.asn1_model.specs.Lawful.{are_lawful, has_typed_default, has_normal_default}
+use Rattle.asn1_model.specs.Normal.{normal_parts, has_normal_default, are_tidy}
+use Rattle.asn1_model.specs.Lawful.{are_lawful, has_typed_default}
 use Rattle.asn1_schema_presented.specs.Presents.{Part, left_out, there, with_part, PartsFit}
 use Rattle.asn1_schema_presented.specs.Tables.{Fields, no_field, field, components_at, IsType}
 use Rattle.asn1_schema_presented.specs.Typed.{AreTypes, AreValues, HasDefault, part_depth, IsPart}
@@ -17,22 +17,23 @@ use Rattle.asn1_schema_presented.specs.Additions.{marked_table, IsAddition, AreA
 
 -- a type that is no group may stand there, whatever its presence
 pub as_addition : {ts : List Tag} {s : ℕ → Schema} (o : Presence) → IsType ts s → IsAddition ts o s
-as_addition o h = record { tagged = h.tagged; lawful = h.lawful; optional_group = λ n. rw (h.no_group n) refl }
+as_addition o h = record { tagged = h.tagged; lawful = h.lawful; tidy = h.tidy; optional_group = λ n. rw (h.no_group n) refl }
 
 pub no_addition_types : AreAdditionTypes no_field
-unfolding components_at are_lawful
-no_addition_types = record { lawful = λ n. refl; optional_groups = λ n. refl }
+unfolding components_at are_lawful are_tidy
+no_addition_types = record { lawful = λ n. refl; tidy = λ n. refl; optional_groups = λ n. refl }
 
 pub more_addition_types : (ts : List Tag) (o : Presence) {s : ℕ → Schema} {fs : Fields} → HasDefault o s → IsAddition ts o s → AreAdditionTypes fs → AreAdditionTypes (field ts o s fs)
-unfolding components_at are_lawful
+unfolding components_at are_lawful are_tidy
 more_addition_types ts o {s} {fs} d h k = record {
-  lawful = λ n. let p = and_parts (has_typed_default (s n) o) (has_normal_default (s n) o) (d n) in rw (h.tagged, p.0, p.1, h.lawful n) (k.lawful n);
+  lawful = λ n. let p = and_parts (has_typed_default (s n) o) (has_normal_default (s n) o) (d n) in rw (h.tagged, p.0, h.lawful n) (k.lawful n);
+  tidy = λ n. let p = and_parts (has_typed_default (s n) o) (has_normal_default (s n) o) (d n) in rw (p.1, h.tidy n) (k.tidy n);
   optional_groups = λ n. rw (h.optional_group n) (k.optional_groups n);
 }
 
 pub marked_types : {fs : Fields} → AreAdditionTypes fs → AreTypes (marked_table fs)
-unfolding components_at are_lawful
-marked_types h = record { lawful = λ n. refl; no_group = λ n. refl; lawful_additions = h.lawful; optional_groups = h.optional_groups; marked = λ n. refl }
+unfolding components_at are_lawful are_tidy
+marked_types h = record { lawful = λ n. refl; tidy = λ n. refl; no_group = λ n. refl; lawful_additions = h.lawful; tidy_additions = h.tidy; optional_groups = h.optional_groups; marked = λ n. refl }
 
 -- ---- values
 

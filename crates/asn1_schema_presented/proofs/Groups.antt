@@ -4,7 +4,7 @@ use Rattle.std.specs.Prelude.{◌||◌, ◌&&◌, not, max}
 use Rattle.std.proofs.lemmas.Bool.{and_parts}
 use Rattle.asn1_model.specs.Value.{Value, fields, Parts, end, absent, present, are_absent, depth, depth_of_parts}
 use Rattle.asn1_model.specs.Schema.{Tag, optional, Schema, sequence, group, Components}
-use Rattle.asn1_model.specs.Normal.{normal, normal_parts}
+use Rattle.asn1_model.specs.Normal.{normal, normal_parts, is_tidy, are_tidy}
 use Rattle.asn1_model.specs.Lawful.{is_lawful, are_lawful, is_group, is_optional, has_optional_groups, are_no_components, are_distinct, tag_same, component_tags, has_no_group, is_sequence_table}
 use Rattle.asn1_schema_presented.specs.Presents.{left_out, there, Fits, PartsFit}
 use Rattle.asn1_schema_presented.specs.Tables.{Fields, no_field, field, Table, components_at, field_tags, are_tags, scope, sequence_type, IsType, IsValue}
@@ -47,11 +47,12 @@ lawful_group cs e adds some none h =
 
 module _ {t : Table} (g : IsGroup t) where
   -- the components of a sequence as an addition
-  pub group_addition : ((n : ℕ) → is_lawful (sequence_type t n) ≡ true) → IsAddition (field_tags t.root) optional (group_type t)
-  unfolding group_type sequence_type scope is_lawful
-  group_addition h = record {
+  pub group_addition : ((n : ℕ) → is_lawful (sequence_type t n) ≡ true) → ((n : ℕ) → is_tidy (sequence_type t n) ≡ true) → IsAddition (field_tags t.root) optional (group_type t)
+  unfolding group_type sequence_type scope is_lawful is_tidy
+  group_addition h k = record {
     tagged = g.tagged;
     lawful = λ n. elim n as (λ n. is_lawful (group_type t n) ≡ true) [ zero ↦ refl | suc m ↦ lawful_group (components_at m t.root) t.extensible (components_at m t.additions) (some_component m t.root g.tagged) (ap (λ fs. component_tags (components_at m fs)) g.no_additions ∙ no_tags m) (h (suc m)) ];
+    tidy = λ n. elim n as (λ n. is_tidy (group_type t n) ≡ true) [ zero ↦ refl | suc m ↦ (and_parts (are_tidy (components_at m t.root)) (are_tidy (components_at m t.additions)) (k (suc m))).0 ];
     optional_group = λ n. elim n as (λ n. (not (is_group (group_type t n)) || is_optional optional) ≡ true) [ zero ↦ refl | suc m ↦ refl ];
   }
 

@@ -4,73 +4,74 @@ use Rattle.std.specs.Prelude.{max}
 use Rattle.std.proofs.Math.Nat.{le-max_left, le-max_right}
 use Rattle.asn1_model.specs.Value.{Value, truth, nothing, number, bit_list, octet_list, text, arcs, members, member, depth, depth_of_members, map_members}
 use Rattle.asn1_model.specs.Schema.{Tag, Range, Bounds, Counts, Size, Schema, boolean, null, integer, bit_string, octet_string, character_string, object_identifier, StringKind, Alphabet, sequence_of}
-use Rattle.asn1_model.specs.Normal.{normal}
-use Rattle.asn1_model.specs.Lawful.{is_lawful, is_group, is_range, is_size, is_alphabet}
+use Rattle.asn1_model.specs.Normal.{normal, is_tidy}
+use Rattle.asn1_model.specs.Lawful.{is_lawful, is_group, is_range, is_size}
 use Rattle.asn1_schema_presented.specs.Presents.{Fits, AllFit}
 use Rattle.asn1_schema_presented.specs.Parts.{values_of}
 use Rattle.asn1_schema_presented.specs.Tables.{scope, list_type, are_tags, IsType, IsValue}
 
 pub boolean_type : {ts : List Tag} → are_tags ts ≡ true → IsType ts (λ _. boolean)
-unfolding is_lawful
-boolean_type e = record { tagged = e; lawful = λ n. refl; no_group = λ n. refl }
+unfolding is_lawful is_tidy
+boolean_type e = record { tagged = e; lawful = λ n. refl; tidy = λ n. refl; no_group = λ n. refl }
 
 pub boolean_value : (b : Bool) → IsValue (λ _. boolean) (truth b)
 unfolding Fits normal
 boolean_value b = record { fits = λ n le. tt; normal = λ n. refl }
 
 pub null_type : {ts : List Tag} → are_tags ts ≡ true → IsType ts (λ _. null)
-unfolding is_lawful
-null_type e = record { tagged = e; lawful = λ n. refl; no_group = λ n. refl }
+unfolding is_lawful is_tidy
+null_type e = record { tagged = e; lawful = λ n. refl; tidy = λ n. refl; no_group = λ n. refl }
 
 pub null_value : IsValue (λ _. null) nothing
 unfolding Fits normal
 null_value = record { fits = λ n le. tt; normal = λ n. refl }
 
 pub integer_type : {ts : List Tag} (b : Bounds) (h : Range) → are_tags ts ≡ true → is_range b.range ≡ true → is_range h ≡ true → IsType ts (λ _. integer b h)
-unfolding is_lawful
-integer_type b h e p q = record { tagged = e; lawful = λ n. rw (p, q) refl; no_group = λ n. refl }
+unfolding is_lawful is_tidy
+integer_type b h e p q = record { tagged = e; lawful = λ n. rw (p, q) refl; tidy = λ n. refl; no_group = λ n. refl }
 
 pub integer_value : (b : Bounds) (h : Range) (z : ℤ) → IsValue (λ _. integer b h) (number z)
 unfolding Fits normal
 integer_value b h z = record { fits = λ n le. tt; normal = λ n. refl }
 
 pub bit_string_type : {ts : List Tag} (z : Size) (h : Counts) → are_tags ts ≡ true → is_size z h ≡ true → IsType ts (λ _. bit_string z h)
-unfolding is_lawful
-bit_string_type z h e k = record { tagged = e; lawful = λ n. k; no_group = λ n. refl }
+unfolding is_lawful is_tidy
+bit_string_type z h e k = record { tagged = e; lawful = λ n. k; tidy = λ n. refl; no_group = λ n. refl }
 
 pub bit_string_value : (z : Size) (h : Counts) (xs : List Bool) → IsValue (λ _. bit_string z h) (bit_list xs)
 unfolding Fits normal
 bit_string_value z h xs = record { fits = λ n le. tt; normal = λ n. refl }
 
 pub octet_string_type : {ts : List Tag} (z : Size) (h : Counts) → are_tags ts ≡ true → is_size z h ≡ true → IsType ts (λ _. octet_string z h)
-unfolding is_lawful
-octet_string_type z h e k = record { tagged = e; lawful = λ n. k; no_group = λ n. refl }
+unfolding is_lawful is_tidy
+octet_string_type z h e k = record { tagged = e; lawful = λ n. k; tidy = λ n. refl; no_group = λ n. refl }
 
 pub octet_string_value : (z : Size) (h : Counts) (xs : List ℕ) → IsValue (λ _. octet_string z h) (octet_list xs)
 unfolding Fits normal
 octet_string_value z h xs = record { fits = λ n le. tt; normal = λ n. refl }
 
-pub character_string_type : {ts : List Tag} (c : StringKind) (z : Size) (a : Alphabet) (h : Counts) → are_tags ts ≡ true → is_size z h ≡ true → is_alphabet c a.characters ≡ true → IsType ts (λ _. character_string c z a h)
-unfolding is_lawful
-character_string_type c z a h e k l = record { tagged = e; lawful = λ n. rw (k, l) refl; no_group = λ n. refl }
+pub character_string_type : {ts : List Tag} (c : StringKind) (z : Size) (a : Alphabet) (h : Counts) → are_tags ts ≡ true → is_size z h ≡ true → IsType ts (λ _. character_string c z a h)
+unfolding is_lawful is_tidy
+character_string_type c z a h e k = record { tagged = e; lawful = λ n. k; tidy = λ n. refl; no_group = λ n. refl }
 
 pub character_string_value : (c : StringKind) (z : Size) (a : Alphabet) (h : Counts) (xs : List ℕ) → IsValue (λ _. character_string c z a h) (text xs)
 unfolding Fits normal
 character_string_value c z a h xs = record { fits = λ n le. tt; normal = λ n. refl }
 
 pub identifier_type : {ts : List Tag} → are_tags ts ≡ true → IsType ts (λ _. object_identifier)
-unfolding is_lawful
-identifier_type e = record { tagged = e; lawful = λ n. refl; no_group = λ n. refl }
+unfolding is_lawful is_tidy
+identifier_type e = record { tagged = e; lawful = λ n. refl; tidy = λ n. refl; no_group = λ n. refl }
 
 pub identifier_value : (ns : List ℕ) → IsValue (λ _. object_identifier) (arcs ns)
 unfolding Fits normal
 identifier_value ns = record { fits = λ n le. tt; normal = λ n. refl }
 
 pub type_list : {ts us : List Tag} (z : Size) (h : Counts) {s : ℕ → Schema} → are_tags ts ≡ true → is_size z h ≡ true → IsType us s → IsType ts (list_type z h s)
-unfolding list_type scope is_lawful
+unfolding list_type scope is_lawful is_tidy
 type_list z h {s} e k t = record {
   tagged = e;
   lawful = λ n. elim n as (λ n. is_lawful (scope n (λ m. sequence_of z h (s m))) ≡ true) [ zero ↦ refl | suc m ↦ rw (k, t.no_group m) (t.lawful m) ];
+  tidy = λ n. elim n as (λ n. is_tidy (scope n (λ m. sequence_of z h (s m))) ≡ true) [ zero ↦ refl | suc m ↦ t.tidy m ];
   no_group = λ n. elim n as (λ n. is_group (scope n (λ m. sequence_of z h (s m))) ≡ false) [ zero ↦ refl | suc m ↦ refl ];
 }
 

@@ -5,8 +5,8 @@ use Rattle.std.proofs.lemmas.Bool.{and_parts}
 use Rattle.std.proofs.Math.Nat.{le-max_left, le-max_right}
 use Rattle.asn1_model.specs.Value.{Value, fields, Parts, end, depth, depth_of_parts, same}
 use Rattle.asn1_model.specs.Schema.{Tag, Presence, required, optional, by_default, Schema, sequence, group, Components, component}
-use Rattle.asn1_model.specs.Normal.{normal, normal_parts, kept, is_empty_group, is_at_default, is_group_left_out}
-use Rattle.asn1_model.specs.Lawful.{is_lawful, are_lawful, has_typed_default, has_normal_default, is_group, are_distinct, tag_same, component_tags}
+use Rattle.asn1_model.specs.Normal.{normal, normal_parts, kept, is_empty_group, is_at_default, is_group_left_out, has_normal_default, is_tidy, are_tidy}
+use Rattle.asn1_model.specs.Lawful.{is_lawful, are_lawful, has_typed_default, is_group, are_distinct, tag_same, component_tags}
 use Rattle.asn1_schema_presented.specs.Presents.{Part, left_out, there, with_part, Fits, PartFits, PartsFit}
 use Rattle.asn1_schema_presented.specs.Tables.{Fields, no_field, field, Table, no_table, with_field, components_at, field_tags, scope, sequence_type, are_tags, IsType, IsValue}
 use Rattle.asn1_schema_presented.specs.Parts.{part_of, part_unless, normal_part}
@@ -17,15 +17,17 @@ not_empty (group cs) v e = absurd (let z : true ≡ false = e in cc)
 not_empty s v e = refl
 
 pub no_types : AreTypes no_table
-unfolding components_at are_lawful
-no_types = record { lawful = λ n. refl; no_group = λ n. refl; lawful_additions = λ n. refl; optional_groups = λ n. refl; marked = λ n. refl }
+unfolding components_at are_lawful are_tidy
+no_types = record { lawful = λ n. refl; tidy = λ n. refl; no_group = λ n. refl; lawful_additions = λ n. refl; tidy_additions = λ n. refl; optional_groups = λ n. refl; marked = λ n. refl }
 
 pub more_types : (ts : List Tag) (o : Presence) {s : ℕ → Schema} {t : Table} → HasDefault o s → IsType ts s → AreTypes t → AreTypes (with_field ts o s t)
-unfolding components_at are_lawful
+unfolding components_at are_lawful are_tidy
 more_types ts o {s} {t} d h k = record {
-  lawful = λ n. let p = and_parts (has_typed_default (s n) o) (has_normal_default (s n) o) (d n) in rw (h.tagged, p.0, p.1, h.lawful n) (k.lawful n);
+  lawful = λ n. let p = and_parts (has_typed_default (s n) o) (has_normal_default (s n) o) (d n) in rw (h.tagged, p.0, h.lawful n) (k.lawful n);
+  tidy = λ n. let p = and_parts (has_typed_default (s n) o) (has_normal_default (s n) o) (d n) in rw (p.1, h.tidy n) (k.tidy n);
   no_group = λ n. rw (h.no_group n) (k.no_group n);
   lawful_additions = k.lawful_additions;
+  tidy_additions = k.tidy_additions;
   optional_groups = k.optional_groups;
   marked = k.marked;
 }
@@ -91,10 +93,11 @@ tags_at n no_field = refl
 tags_at n (field t o s fs) = ap (λ us. t ++ us) (tags_at n fs)
 
 pub type_sequence : {ts : List Tag} (t : Table) → are_tags ts ≡ true → AreTypes t → are_distinct tag_same (field_tags t.root ++ field_tags t.additions) ≡ true → IsType ts (sequence_type t)
-unfolding sequence_type scope is_lawful
+unfolding sequence_type scope is_lawful is_tidy
 type_sequence {ts} t e h d = record {
   tagged = e;
   lawful = λ n. elim n as (λ n. is_lawful (scope n (λ m. sequence (components_at m t.root) t.extensible (components_at m t.additions))) ≡ true) [ zero ↦ refl | suc m ↦ rw (h.marked m, tags_at m t.root, tags_at m t.additions, d, h.no_group m, h.optional_groups m, h.lawful m) (h.lawful_additions m) ];
+  tidy = λ n. elim n as (λ n. is_tidy (scope n (λ m. sequence (components_at m t.root) t.extensible (components_at m t.additions))) ≡ true) [ zero ↦ refl | suc m ↦ rw (h.tidy m) (h.tidy_additions m) ];
   no_group = λ n. elim n as (λ n. is_group (scope n (λ m. sequence (components_at m t.root) t.extensible (components_at m t.additions))) ≡ false) [ zero ↦ refl | suc m ↦ refl ];
 }
 

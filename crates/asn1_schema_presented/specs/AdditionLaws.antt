@@ -3,6 +3,7 @@ use Rattle.std.specs.Prelude.{◌≡◌, ℕ, true, Some}
 use Rattle.asn1_model.specs.Value.{Parts, fields, end}
 use Rattle.asn1_model.specs.Schema.{Tag, optional}
 use Rattle.asn1_model.specs.Lawful.{is_lawful}
+use Rattle.asn1_model.specs.Normal.{is_tidy}
 use Rattle.asn1_schema_presented.specs.Tables.{Fields, Table, field_tags, sequence_type, IsValue}
 use Rattle.asn1_schema_presented.specs.Typed.{AreTypes, AreValues, IsPart}
 use Rattle.asn1_schema_presented.specs.Additions.{marked_table, AreAdditionTypes, AreAdditionValues, IsAddition, IsGroup, group_type, group_part}
@@ -15,9 +16,13 @@ AdditionsAreTyped = (fs : Fields) → AreAdditionTypes fs → AreTypes (marked_t
 abbrev pub AdditionsAreValued : Type 0
 AdditionsAreValued = (fs : Fields) (qs : Parts) → AreAdditionValues fs qs → AreValues (marked_table fs) end qs
 
--- The components of a lawful sequence without a mark, one or more, make a group that may stand among additions.
+-- The components of a lawful sequence without a mark, one or more, whose defaults are in normal form, make a group that may stand among
+-- additions.
 abbrev pub GroupsAreTyped : Type 0
-GroupsAreTyped = (t : Table) → IsGroup t → ((n : ℕ) → is_lawful (sequence_type t n) ≡ true) → IsAddition (field_tags t.root) optional (group_type t)
+GroupsAreTyped =
+    (t : Table) → IsGroup t
+    → ((n : ℕ) → is_lawful (sequence_type t n) ≡ true) → ((n : ℕ) → is_tidy (sequence_type t n) ≡ true)
+    → IsAddition (field_tags t.root) optional (group_type t)
 
 -- A value of such a sequence is one of the group, and is left out where none of its components is there.
 abbrev pub GroupsAreValued : Type 0

@@ -2,7 +2,7 @@
 use Rattle.std.specs.Prelude.{◌≡◌, ◌≤◌, ℕ, suc, true, false, not, ◌||◌, List, Option, Some, None}
 use Rattle.asn1_model.specs.Value.{Parts, fields, end, are_absent, depth_of_parts}
 use Rattle.asn1_model.specs.Schema.{Tag, Presence, Schema, group}
-use Rattle.asn1_model.specs.Normal.{normal_parts}
+use Rattle.asn1_model.specs.Normal.{normal_parts, is_tidy, are_tidy}
 use Rattle.asn1_model.specs.Lawful.{is_lawful, are_lawful, is_group, is_optional, has_optional_groups}
 use Rattle.asn1_schema_presented.specs.Presents.{Part, left_out, PartsFit}
 use Rattle.asn1_schema_presented.specs.Parts.{part_unless}
@@ -26,11 +26,13 @@ HaveDefaults fs = DefaultsThen fs (Unit {0})
 pub record IsAddition (tags : List Tag) (o : Presence) (schema : ℕ → Schema) : Type 0 where
   pub tagged : are_tags tags ≡ true
   pub lawful : (n : ℕ) → is_lawful (schema n) ≡ true
+  pub tidy : (n : ℕ) → is_tidy (schema n) ≡ true
   pub optional_group : (n : ℕ) → (not (is_group (schema n)) || is_optional o) ≡ true
 
 -- So may the types of all additions.
 pub record AreAdditionTypes (fs : Fields) : Type 0 where
   pub lawful : (n : ℕ) → are_lawful (components_at n fs) ≡ true
+  pub tidy : (n : ℕ) → are_tidy (components_at n fs) ≡ true
   pub optional_groups : (n : ℕ) → has_optional_groups (components_at n fs) ≡ true
 
 -- The parts are of these types, and in their normal form.

@@ -2,7 +2,7 @@
 use Rattle.std.specs.Prelude.{◌≡◌, ◌≤◌, ℕ, zero, suc, Bool, true, false, cond, not, ◌&&◌, List, [], ◌++◌}
 use Rattle.asn1_model.specs.Value.{Value, depth}
 use Rattle.asn1_model.specs.Schema.{Tag, Size, Counts, Presence, Schema, cut, sequence_of, sequence, Components, no_component, component}
-use Rattle.asn1_model.specs.Normal.{normal}
+use Rattle.asn1_model.specs.Normal.{normal, is_tidy}
 use Rattle.asn1_model.specs.Lawful.{is_lawful, is_group, is_empty, is_tag}
 use Rattle.asn1_model.specs.Strings.{each_is}
 use Rattle.asn1_model.specs.Tables.{is_required}
@@ -59,10 +59,11 @@ list_type z h s n = scope n (λ m. sequence_of z h (s m))
 abbrev pub are_tags : List Tag → Bool
 are_tags ts = not (is_empty ts) && each_is is_tag ts
 
--- A type has a tag, and what it is for each number of levels is lawful, and no group of additions.
+-- A type has a tag, and what it is for each number of levels is lawful, with defaults in normal form, and no group of additions.
 pub record IsType (tags : List Tag) (schema : ℕ → Schema) : Type 0 where
   pub tagged : are_tags tags ≡ true
   pub lawful : (n : ℕ) → is_lawful (schema n) ≡ true
+  pub tidy : (n : ℕ) → is_tidy (schema n) ≡ true
   pub no_group : (n : ℕ) → is_group (schema n) ≡ false
 
 -- A value is one of the type: it has its form wherever that is unfolded as deep as the value nests, and it is in its normal form.

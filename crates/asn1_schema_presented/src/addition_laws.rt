@@ -13,7 +13,8 @@ pub fn additions_are_valued()
     ensures { AdditionsAreValued }
 {}
 
-/// The components of a lawful sequence without a mark, one or more, make a group that may stand among additions.
+/// The components of a lawful sequence without a mark, one or more, whose defaults are in normal form, make a group that may stand among
+/// additions.
 pub fn groups_are_typed()
     ensures { GroupsAreTyped }
 {}

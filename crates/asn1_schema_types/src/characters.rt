@@ -23,7 +23,7 @@ impl<K: TaggedKind> Described for RestrictedString<K> {
 
     ghost meaning = { λ s. text s };
 
-    ghost typed = { character_string_type _ _ _ _ refl refl refl };
+    ghost typed = { character_string_type _ _ _ _ refl refl };
 
     ghost valued = { λ s. character_string_value _ _ _ _ _ };
 

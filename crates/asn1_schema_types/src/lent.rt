@@ -66,7 +66,7 @@ impl Described for &str {
 
     ghost meaning = { λ s. text s.now };
 
-    ghost typed = { character_string_type _ _ _ _ refl refl refl };
+    ghost typed = { character_string_type _ _ _ _ refl refl };
 
     ghost valued = { λ s. character_string_value _ _ _ _ _ };
 
@@ -174,7 +174,7 @@ impl<'a> Described for CowStr<'a, Global> {
 
     ghost meaning = { λ s. text (cow_str_bytes s) };
 
-    ghost typed = { character_string_type _ _ _ _ refl refl refl };
+    ghost typed = { character_string_type _ _ _ _ refl refl };
 
     ghost valued = { λ s. character_string_value _ _ _ _ _ };
 

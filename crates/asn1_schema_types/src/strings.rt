@@ -96,7 +96,7 @@ impl Described for String {
 
     ghost meaning = { λ s. text (string_bytes s) };
 
-    ghost typed = { character_string_type _ _ _ _ refl refl refl };
+    ghost typed = { character_string_type _ _ _ _ refl refl };
 
     ghost valued = { λ s. character_string_value _ _ _ _ _ };
 

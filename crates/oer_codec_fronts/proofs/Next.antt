@@ -13,7 +13,7 @@ use Rattle.asn1_schema_presented.specs.Records.{Record, flag, nil, whole, one_of
 use Rattle.asn1_laws_fronts.proofs.Fronts.{agree_map, agree_if, agree_nothing}
 use Rattle.asn1_laws_fronts.proofs.OerNumbers.{OctetsAlike, integer_alike, counted_alike, unsigned_alike}
 use Rattle.asn1_laws_fronts.proofs.OerBits.{preamble_alike, counted_bits_alike}
-use Rattle.asn1_laws_fronts.proofs.Plain.{truths_alike}
+use Rattle.asn1_laws_fronts.proofs.Truths.{truths_alike}
 use Rattle.asn1_laws_fronts.proofs.Sevens.{identifiers_equal}
 use Rattle.asn1_laws_fronts.proofs.Additions as adding
 use Rattle.asn1_laws_fronts.proofs.OctetUnits.{items_alike, bit_strings_alike, octets_alike, one_length, characters_equal, characters_long}

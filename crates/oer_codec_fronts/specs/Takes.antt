@@ -1,21 +1,27 @@
--- What a reader of the octet encoding rules (X.696) holds: the octets that are left in the innermost open scope, and the open scopes. Each record
--- takes octets in front, of a form that the reader's freedoms allow.
-use Rattle.std.specs.Prelude.{◌≡◌, ◌⊎◌, ℕ, zero, suc, Bool, true, false, cond, IsTrue}
-use Rattle.std.specs.Prelude.{List, [], ◌∷◌, ◌++◌, length, drop, map, Option, Some, None, option_map}
+-- What a reader of the octet encoding rules (X.696) holds: the octets that are left in the innermost open scope, and
+-- the open scopes. Each record takes octets in front, of a form that the reader's freedoms allow.
+use Rattle.std.specs.Prelude.{◌≡◌, ◌⊎◌, ℕ, zero, suc, Bool, true, false, cond, IsTrue, List, [], ◌∷◌, ◌++◌}
+use Rattle.std.specs.Prelude.{length, drop, map, Option, Some, None, option_map}
 use Rattle.asn1_model.specs.Value.{truth, nothing, number, item, bit_list, octet_list, text, arcs}
-use Rattle.asn1_model.specs.Schema.{Tag, Counts, boolean, null, integer, enumerated, bit_string, octet_string, character_string, object_identifier}
+use Rattle.asn1_model.specs.Schema.{Tag, Counts, boolean, null, integer, enumerated, bit_string, octet_string}
+use Rattle.asn1_model.specs.Schema.{character_string, object_identifier}
 use Rattle.asn1_model.specs.Lawful.{tag_same}
 use Rattle.asn1_model.specs.Numbers.{is_count_within}
 use Rattle.asn1_model.specs.Form.{Reads, joined, is_present, present_ones}
 use Rattle.asn1_model.specs.Oer
 use Rattle.asn1_schema_finding.specs.Marks.{preamble_bits, first_bits, has_set}
-use Rattle.asn1_schema_presented.specs.Records.{Record, flag, nil, whole, one_of, bits, octets, characters, identifier, list_begins, bag_begins, further, sequence_begins, set_begins, group_begins, mark, is_default, is_empty, additions_begin, addition, addition_ends, choice_begins, ends, mismatch}
+use Rattle.asn1_schema_presented.specs.Records.{Record, flag, nil, whole, one_of, bits, octets, characters, identifier}
+use Rattle.asn1_schema_presented.specs.Records.{list_begins, bag_begins, further, sequence_begins, set_begins}
+use Rattle.asn1_schema_presented.specs.Records.{group_begins, mark, is_default, is_empty, additions_begin, addition}
+use Rattle.asn1_schema_presented.specs.Records.{addition_ends, choice_begins, ends, mismatch}
 
 -- An open scope.
 pub data Scope : Type 0 where
-  -- a sequence, set or group: the bit of its mark of extensibility, if it has a mark, and the presence bits that are still to come
+  -- a sequence, set or group: the bit of its mark of extensibility, if it has a mark, and the presence bits that are
+  -- still to come
   components : Option Bool → List Bool → Scope
-  -- behind the root of such a type with a mark: the presence bits of its additions still to come, and of unknown ones behind all of them
+  -- behind the root of such a type with a mark: the presence bits of its additions still to come, and of unknown ones
+  -- behind all of them
   added : List Bool → List Bool → Scope
   -- an addition, or an added alternative: its octets stand alone, and those behind it are these
   open_type : List ℕ → Scope
@@ -39,10 +45,12 @@ Found free x a b = Front free x a.0 b.0 × (b.1 ≡ a.1)
 
 -- ---- lists and bags
 
--- The number of members, in front of them (X.696 17 and 19): one that the program's type holds, as is the number that the record tells. That the
--- two are the same is known at the end.
+-- The number of members, in front of them (X.696 17 and 19): one that the program's type holds, as is the number that
+-- the record tells. That the two are the same is known at the end.
 abbrev pub Counted : (Oer.Freedom → Bool) → Counts → ℕ → State → State → Type 0
-Counted free h n a b = (m : ℕ) × (is_count_within h n ≡ true) × (is_count_within h m ≡ true) × Front free (Oer.unsigned m) a.0 b.0 × (b.1 ≡ members m ∷ a.1)
+Counted free h n a b =
+    (m : ℕ) × (is_count_within h n ≡ true) × (is_count_within h m ≡ true) × Front free (Oer.unsigned m) a.0 b.0
+    × (b.1 ≡ members m ∷ a.1)
 
 -- Whether members are still to come.
 abbrev pub NextMember : Bool → List ℕ → List Scope → State → Type 0
@@ -54,7 +62,9 @@ NextMember v os k b = ⊥
 
 -- A preamble with or without the bit of a mark, and with so many presence bits.
 abbrev pub Begins : (Oer.Freedom → Bool) → Bool → ℕ → State → State → Type 0
-Begins free e n a b = (x : Option Bool) × (ms : List Bool) × (is_present x ≡ e) × (length ms ≡ n) × Front free (Oer.preamble (preamble_bits x ms)) a.0 b.0 × (b.1 ≡ components x ms ∷ a.1)
+Begins free e n a b =
+    (x : Option Bool) × (ms : List Bool) × (is_present x ≡ e) × (length ms ≡ n)
+    × Front free (Oer.preamble (preamble_bits x ms)) a.0 b.0 × (b.1 ≡ components x ms ∷ a.1)
 
 -- The next presence bit.
 abbrev pub NextMark : Bool → List ℕ → List Scope → State → Type 0
@@ -63,11 +73,13 @@ NextMark v os k b = ⊥
 
 -- ---- additions
 
--- Behind the root components: without the mark's bit no addition is there, and with it a bitmap tells which are. Those past its width are
--- absent, and what stands past the type's own is unknown (X.696 16.4).
+-- Behind the root components: without the mark's bit no addition is there, and with it a bitmap tells which are. Those
+-- past its width are absent, and what stands past the type's own is unknown (X.696 16.4).
 abbrev pub AdditionsBegin : (Oer.Freedom → Bool) → ℕ → List ℕ → List Scope → State → Type 0
 AdditionsBegin free n os (components (Some false) [] ∷ k) b = b ≡ (os, added (first_bits n []) [] ∷ k)
-AdditionsBegin free n os (components (Some true) [] ∷ k) b = (bs : List Bool) × ((has_set bs ≡ true) ⊎ IsTrue (free Oer.empty_bitmap)) × Front free (Oer.counted_bits bs) os b.0 × (b.1 ≡ added (first_bits n bs) (drop n bs) ∷ k)
+AdditionsBegin free n os (components (Some true) [] ∷ k) b =
+    (bs : List Bool) × ((has_set bs ≡ true) ⊎ IsTrue (free Oer.empty_bitmap)) × Front free (Oer.counted_bits bs) os b.0
+    × (b.1 ≡ added (first_bits n bs) (drop n bs) ∷ k)
 AdditionsBegin free n os k b = ⊥
 
 -- An open type begins: its octets stand behind their number (X.696 30).
@@ -94,7 +106,9 @@ unknown_forms xs = map (option_map (λ os. Oer.counted os)) xs
 
 -- Unknown additions are passed over by their lengths.
 abbrev pub Skips : (Oer.Freedom → Bool) → List Bool → List ℕ → List ℕ → Type 0
-Skips free us os rest = (xs : List (Option (List ℕ))) × (map (λ a. is_present a) (unknown_forms xs) ≡ us) × Front free (joined (present_ones (unknown_forms xs))) os rest
+Skips free us os rest =
+    (xs : List (Option (List ℕ))) × (map (λ a. is_present a) (unknown_forms xs) ≡ us)
+    × Front free (joined (present_ones (unknown_forms xs))) os rest
 
 -- ---- choices
 
@@ -115,7 +129,9 @@ Enters free true os k b = Opens free os k b
 
 -- The tag, and what it tells.
 abbrev pub Chooses : (Oer.Freedom → Bool) → List Tag → Bool → List Tag → Bool → ℕ → State → State → Type 0
-Chooses free roots e others plus i a b = (t : Tag) × (os : List ℕ) × IsPlace roots e others t plus i × Front free (Oer.tag_form t) a.0 os × Enters free plus os a.1 b
+Chooses free roots e others plus i a b =
+    (t : Tag) × (os : List ℕ) × IsPlace roots e others t plus i × Front free (Oer.tag_form t) a.0 os
+    × Enters free plus os a.1 b
 
 -- ---- the end
 

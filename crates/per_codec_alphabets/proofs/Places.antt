@@ -3,7 +3,7 @@ use Rattle.std.proofs.Common.{◌≡◌, ℕ, zero, suc, ◌+◌, ◌-◌, ◌^�
 use Rattle.std.proofs.lemmas.Bool.{leb-true, leb-false, lt-ltb, le-ltb}
 use Rattle.std.proofs.lemmas.List.{take_more}
 use Rattle.asn1_model.specs.Strings.{Run, run, how_many, largest, place_of, is_in_run}
-use Rattle.per_codec_alphabets.specs.Codes.{run_of, runs_of, character_at, Coded, code_of, SameCharacters}
+use Rattle.per_codec_alphabets.specs.Codes.{run_of, runs_of, singles, character_at, Coded, code_of, SameCharacters}
 use Rattle.per_codec_alphabets.specs.declared.runs.CharacterRun.{CharacterRun}
 
 -- ---- places
@@ -161,9 +161,6 @@ same_more rs ss ts r h k = record {
 }
 
 -- ---- characters that a test leaves
-abbrev singles : List ℕ → List Run
-singles cs = map (λ c. run c c) cs
-
 map_end : (cs : List ℕ) (c : ℕ) → singles (cs ++ c ∷ []) ≡ singles cs ++ run c c ∷ []
 map_end [] c = refl
 map_end (d ∷ cs) c = ap (λ rs. run d d ∷ rs) (map_end cs c)
@@ -177,6 +174,14 @@ filter_end test (d ∷ cs) c = ap (λ l. cond (test d) (d ∷ l) l) (filter_end 
     go true false = refl
     go false true = refl
     go false false = refl
+
+pub filter_more : (test : ℕ → Bool) (cs : List ℕ) (i c : ℕ) → i < length cs → c ≡ get_or cs i 0 → test c ≡ true → filter test (take (i + 1) cs) ≡ filter test (take i cs) ++ c ∷ []
+filter_more test cs i c h e t =
+    ap (filter test) (take_more cs i 0 h) ∙ filter_end test (take i cs) (get_or cs i 0) ∙ ap (λ d. cond (test d) (filter test (take i cs) ++ d ∷ []) (filter test (take i cs))) (sym e) ∙ ap (λ b. cond b (filter test (take i cs) ++ c ∷ []) (filter test (take i cs))) t
+
+pub filter_same : (test : ℕ → Bool) (cs : List ℕ) (i c : ℕ) → i < length cs → c ≡ get_or cs i 0 → test c ≡ false → filter test (take (i + 1) cs) ≡ filter test (take i cs)
+filter_same test cs i c h e t =
+    ap (filter test) (take_more cs i 0 h) ∙ filter_end test (take i cs) (get_or cs i 0) ∙ ap (λ d. cond (test d) (filter test (take i cs) ++ d ∷ []) (filter test (take i cs))) (sym e) ∙ ap (λ b. cond b (filter test (take i cs) ++ c ∷ []) (filter test (take i cs))) t
 
 left_end : (test : ℕ → Bool) (cs : List ℕ) (i d : ℕ) → i < length cs → singles (filter test (take (i + 1) cs)) ≡ cond (test (get_or cs i d)) (singles (filter test (take i cs)) ++ run (get_or cs i d) (get_or cs i d) ∷ []) (singles (filter test (take i cs)))
 left_end test cs i d h = ap (λ l. singles (filter test l)) (take_more cs i d h) ∙ ap singles (filter_end test (take i cs) (get_or cs i d)) ∙ go (test (get_or cs i d))

@@ -1,6 +1,8 @@
 -- Codes of the characters of strings in the packed encoding rules (X.691 30.5).
-use Rattle.std.specs.Prelude.{◌≡◌, ℕ, ◌+◌, ◌-◌, ◌^◌, ltb, cond, List, [], ◌∷◌, map, Option, Some, None, option_map}
-use Rattle.asn1_model.specs.Strings.{Run, how_many, largest, place_of}
+use Rattle.std.specs.Prelude.{◌≡◌, ℕ, ◌+◌, ◌-◌, ◌^◌, ltb, cond, List, [], ◌∷◌, ◌++◌, filter, map, Option, Some, None}
+use Rattle.std.specs.Prelude.{option_map}
+use Rattle.asn1_model.specs.Schema.{StringKind}
+use Rattle.asn1_model.specs.Strings.{Run, run, characters_of, is_among, how_many, largest, place_of, sorted}
 use Rattle.per_codec_alphabets.specs.declared.runs.CharacterRun.{CharacterRun}
 
 -- A run of the program as one of the model.
@@ -11,6 +13,14 @@ run_of r = record { first = r.first; last = r.last }
 abbrev pub runs_of : List CharacterRun → List Run
 runs_of rs = map run_of rs
 
+-- Each character as a run of its own.
+abbrev pub singles : List ℕ → List Run
+singles cs = map (λ c. run c c) cs
+
+-- Those of the characters that a kind of string has (X.680 41 and 43).
+abbrev pub kept : StringKind → List ℕ → List ℕ
+kept k cs = filter (is_among (characters_of k)) cs
+
 -- Runs of characters, and the bits of each character's code.
 pub record Coded : Type 0 where
   pub runs : List Run
@@ -19,7 +29,8 @@ pub record Coded : Type 0 where
 -- The character at a place, counted from 0.
 abbrev pub character_at : List Run → ℕ → Option ℕ
 character_at [] i = None
-character_at (r ∷ rs) i = cond (ltb i (r.last + 1 - r.first)) (Some (r.first + i)) (character_at rs (i - (r.last + 1 - r.first)))
+character_at (r ∷ rs) i =
+    cond (ltb i (r.last + 1 - r.first)) (Some (r.first + i)) (character_at rs (i - (r.last + 1 - r.first)))
 
 -- The code of a character: its own number if the largest fits in the bits, else its place (X.691 30.5.4).
 abbrev pub code_of : Coded → ℕ → Option ℕ
@@ -30,3 +41,11 @@ pub record SameCharacters (rs ss : List Run) : Type 0 where
   pub many : how_many rs ≡ how_many ss
   pub greatest : largest rs ≡ largest ss
   pub places : (c : ℕ) → place_of c rs ≡ place_of c ss
+
+-- They are these characters in ascending order, each once, of those that a kind of string has (X.691 30.5).
+abbrev pub AreKept : StringKind → List ℕ → List Run → Type 0
+AreKept k cs rs = SameCharacters rs (singles (sorted (kept k cs)))
+
+-- They are one character more than others have.
+abbrev pub HasOneMore : List Run → ℕ → List Run → Type 0
+HasOneMore rs c new = SameCharacters new (rs ++ run c c ∷ [])

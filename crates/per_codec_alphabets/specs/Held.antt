@@ -1,6 +1,10 @@
 -- What an effective permitted alphabet of the program holds.
-use Rattle.std.specs.Prelude.{◌≡◌, ◌<◌, ◌≤◌, ◌^◌, ℕ, Bool, ltb, List}
-use Rattle.asn1_model.specs.Strings.{Run, how_many, largest}
+use Rattle.std.specs.Prelude.{◌≡◌, ◌<◌, ◌≤◌, ◌^◌, ℕ, Bool, ltb, List, Option}
+use Rattle.asn1_model.specs.Schema.{StringKind}
+use Rattle.asn1_model.specs.Strings.{Run, how_many, largest, permitted}
+use Rattle.asn1_schema_constraints.specs.Terms.{alphabet_of}
+use Rattle.asn1_schema_constraints.specs.declared.extensions.Extensible.{Extensible}
+use Rattle.asn1_schema_constraints.specs.declared.extensions.PermittedAlphabet.{PermittedAlphabet}
 use Rattle.per_codec_alphabets.specs.Codes.{runs_of}
 use Rattle.per_codec_alphabets.specs.declared.alphabet.Runs.{Runs}
 use Rattle.per_codec_alphabets.specs.declared.alphabet.Runs.TheVariants.{Own, Kept}
@@ -9,6 +13,10 @@ use Rattle.per_codec_alphabets.specs.declared.alphabet.Runs.TheVariants.{Own, Ke
 abbrev pub held_runs : Runs → List Run
 held_runs (Own rs) = runs_of rs.now
 held_runs (Kept rs) = runs_of rs.items
+
+-- The characters that a constraint leaves of a kind of string (X.680 51.7).
+abbrev pub permitted_by : StringKind → Option (Extensible PermittedAlphabet) → List Run
+permitted_by k constraint = permitted k (alphabet_of constraint)
 
 -- Runs of fewer than 2 to the 64 characters, and codes of at most 64 bits.
 pub record IsCoded (runs : List Run) (code_bits : ℕ) (is_by_number : Bool) : Type 0 where

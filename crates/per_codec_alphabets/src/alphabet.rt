@@ -2,10 +2,9 @@
 ghost use Rattle.std.specs.Prelude.{◌≡◌, ◌≢◌, ◌^◌, ◌<◌, ◌≤◌, ◌-◌, ℕ, ltb, Some, None, IfOk, IfSome, nat_lt};
 ghost use Rattle.asn1_model.specs.Numbers.{width as bit_width};
 ghost use Rattle.asn1_model.specs.Per.{character_bits, raised};
-ghost use Rattle.asn1_model.specs.Strings.{permitted, how_many, largest};
-ghost use Rattle.asn1_schema_constraints.specs.Terms.{alphabet_of};
+ghost use Rattle.asn1_model.specs.Strings.{how_many, largest};
 ghost use Rattle.per_codec_alphabets.specs.Codes.{runs_of, code_of, SameCharacters};
-ghost use Rattle.per_codec_alphabets.specs.Held.{held_runs};
+ghost use Rattle.per_codec_alphabets.specs.Held.{held_runs, permitted_by};
 
 use crate::runs::{
     CharacterRun, character_at, count, kept_runs, last_character, own_runs, place_among,
@@ -24,7 +23,8 @@ enum Runs {
     Kept(Vec<CharacterRun>),
 }
 
-/// The characters that a permitted alphabet leaves of a type of strings (the effective permitted alphabet, X.691 30.5), and their codes.
+/// The characters that a permitted alphabet leaves of a type of strings (the effective permitted alphabet, X.691 30.5),
+/// and their codes.
 ///
 /// A code is the character's own number if the largest of them fits in the bits, else its place among them.
 #[derive(Debug, Drop)]
@@ -50,8 +50,8 @@ impl Model for EffectiveAlphabet {
 impl EffectiveAlphabet {
     /// The characters of the type `S` under a permitted alphabet, if there is one and it has no mark of extensibility.
     ///
-    /// Where `aligned` is true a code takes 1, 2, 4, 8 or 16 bits, or none (X.691 30.5.2). Memory is taken once, and only under a constraint
-    /// that counts.
+    /// Where `aligned` is true a code takes 1, 2, 4, 8 or 16 bits, or none (X.691 30.5.2). Memory is taken only under a
+    /// constraint that counts: once, and again to put characters that it does not list in ascending order into that.
     ///
     /// # Errors
     ///
@@ -61,8 +61,8 @@ impl EffectiveAlphabet {
         aligned: bool,
         constraint: Option<Extensible<PermittedAlphabet>>,
     ) -> Result<Self, AllocError>
-        ensures characters { IfOk result (λ a. SameCharacters a.runs (permitted S.kind (alphabet_of constraint.entry))) }
-        ensures width { IfOk result (λ a. a.code_bits ≡ character_bits aligned (permitted S.kind (alphabet_of constraint.entry))) }
+        ensures characters { IfOk result (λ a. SameCharacters a.runs (permitted_by S.kind constraint.entry)) }
+        ensures width { IfOk result (λ a. a.code_bits ≡ character_bits aligned (permitted_by S.kind constraint.entry)) }
     {
         let runs = permitted_runs::<S>(alloc, constraint)?;
         let width = bits_of_codes(runs.as_slice(), aligned);
@@ -135,7 +135,7 @@ fn permitted_runs<S: StaticPermittedAlphabet>(
     alloc: Global,
     constraint: Option<Extensible<PermittedAlphabet>>,
 ) -> Result<Runs, AllocError>
-    ensures characters { IfOk result (λ runs. SameCharacters (held_runs runs) (permitted S.kind (alphabet_of constraint.entry))) }
+    ensures characters { IfOk result (λ runs. SameCharacters (held_runs runs) (permitted_by S.kind constraint.entry)) }
     ensures few { IfOk result (λ runs. how_many (held_runs runs) < 2 ^ 64) }
 {
     match constraint {

@@ -1,4 +1,5 @@
-//! The characters that a constraint leaves of a type of strings, and their codes in the packed encoding rules (X.691 30.5).
+//! The characters that a constraint leaves of a type of strings, and their codes in the packed encoding rules (X.691
+//! 30.5).
 #![tactic(auto)]
 
 mod alphabet;

@@ -1,7 +1,10 @@
 //! Runs of characters in the order of their places.
-ghost use Rattle.std.specs.Prelude.{◌≡◌, ◌<◌, ◌^◌, ◌+◌, ◌-◌, ◌++◌, ◌∷◌, [], IfOk, OnOk, Some, None, cond, nat_lt, filter, map};
-ghost use Rattle.asn1_model.specs.Strings.{characters_of, how_many, largest, place_of, is_among, is_in_run, is_of_octets as holds_octets, run};
-ghost use Rattle.per_codec_alphabets.specs.Codes.{run_of, runs_of, character_at as nth_character, SameCharacters};
+ghost use Rattle.std.specs.Prelude.{◌≡◌, ◌<◌, ◌^◌, ◌+◌, ◌-◌, ◌++◌, ◌∷◌, [], IfOk, OnOk, Some, None, cond, nat_lt};
+ghost use Rattle.asn1_model.specs.Strings.{characters_of, how_many, largest, place_of, sorted, is_in_run};
+ghost use Rattle.asn1_model.specs.Strings.{is_of_octets as holds_octets};
+ghost use Rattle.per_codec_alphabets.specs.Codes.{SameCharacters, AreKept, HasOneMore};
+ghost use Rattle.per_codec_alphabets.specs.Codes.{run_of, runs_of, singles, kept, character_at as nth_character};
+ghost use Rattle.per_codec_alphabets.specs.Codes.{SameCharacters};
 
 use asn1_values_alphabets::StaticPermittedAlphabet;
 use std::alloc::{AllocError, Global};
@@ -186,7 +189,7 @@ pub fn character_at(runs: &[CharacterRun], place: u64) -> Option<u32>
 
 /// Adds a character behind the others, to the last run if it follows that.
 fn push_character(runs: &mut Vec<CharacterRun>, character: u32) -> Result<(), AllocError>
-    ensures { OnOk result (SameCharacters (runs_of runs.new.items) (runs_of runs.old.items ++ run character character ∷ [])) }
+    ensures { OnOk result (HasOneMore (runs_of runs.old.items) character (runs_of runs.new.items)) }
 {
     let single = CharacterRun {
         first: character,
@@ -209,6 +212,39 @@ fn push_character(runs: &mut Vec<CharacterRun>, character: u32) -> Result<(), Al
 }
 
 /// Those of the characters that a type of strings has, in the order given.
+fn listed_runs<S: StaticPermittedAlphabet>(
+    alloc: Global,
+    characters: &[u32],
+) -> Result<Vec<CharacterRun>, AllocError>
+    ensures few { IfOk result (λ runs. how_many (runs_of runs.items) < 2 ^ 64) }
+    ensures characters { IfOk result (λ v. SameCharacters (runs_of v.items) (singles (kept S.kind characters.now))) }
+{
+    let count = characters.len();
+    let mut runs = Vec::with_capacity(alloc, count)?;
+    for character in characters {
+        if S::contains_char(*character) {
+            push_character(&mut runs, *character)?;
+        }
+    }
+    Ok(runs)
+}
+
+/// Those of the characters that a type of strings has, put in ascending order, each once.
+fn sorted_runs<S: StaticPermittedAlphabet>(
+    alloc: Global,
+    characters: &[u32],
+) -> Result<Vec<CharacterRun>, AllocError>
+    ensures few { IfOk result (λ runs. how_many (runs_of runs.items) < 2 ^ 64) }
+    ensures characters { IfOk result (λ runs. AreKept S.kind characters.now (runs_of runs.items)) }
+{
+    let mut ascending = Vec::from_slice(alloc, characters)?;
+    ascending.sort_unstable();
+    ascending.dedup();
+    listed_runs::<S>(alloc, ascending.as_slice())
+}
+
+/// Those of the characters that a type of strings has, in ascending order, each once (X.691 30.5.2). Where they are
+/// listed so, no copy of them is made.
 ///
 /// # Errors
 ///
@@ -218,12 +254,17 @@ pub fn kept_runs<S: StaticPermittedAlphabet>(
     characters: &[u32],
 ) -> Result<Vec<CharacterRun>, AllocError>
     ensures few { IfOk result (λ runs. how_many (runs_of runs.items) < 2 ^ 64) }
-    ensures characters { IfOk result (λ runs. SameCharacters (runs_of runs.items) (map (λ c. run c c) (filter (is_among (characters_of S.kind)) characters.now))) }
+    ensures characters { IfOk result (λ runs. AreKept S.kind characters.now (runs_of runs.items)) }
 {
     let count = characters.len();
     let mut runs = Vec::with_capacity(alloc, count)?;
+    let mut next = 0;
     for character in characters {
         if S::contains_char(*character) {
+            if u64::from(*character) < next {
+                return sorted_runs::<S>(alloc, characters);
+            }
+            next = u64::from(*character) + 1;
             push_character(&mut runs, *character)?;
         }
     }

@@ -4,7 +4,6 @@ use Rattle.std.proofs.lemmas.List.{append_cancel_left}
 use Rattle.std.proofs.lemmas.Bool.{and_parts, leb-true}
 use Rattle.asn1_model.specs.Value.{truth, nothing, number, item, bit_list, octet_list, text, arcs}
 use Rattle.asn1_model.specs.Schema.{Counts, Size, StringKind, Alphabet, Bounds, Range, boolean, null, integer, enumerated, bit_string, octet_string, character_string, object_identifier}
-use Rattle.asn1_model.specs.Lawful.{is_alphabet}
 use Rattle.asn1_model.specs.Numbers.{binary, octet_bits}
 use Rattle.asn1_model.specs.Form.{exactly, both, only_if, is_present}
 use Rattle.asn1_model.specs.Strings.{each_is, is_octet, is_identifier, identifier_octets}
@@ -88,9 +87,9 @@ module _ (free : Per.Freedom → Bool) where
   unfolding Per.form
   octet_strings al z h v w = agree_if free (each_is is_octet v) (each_is is_octet w) _ _ (λ i j. agree_map free (λ q. octets_again v w i j q) (sized_alike free ℕ same_bits (λ o. exactly (binary 8 o)) (λ o p. agree_exactly free _ _ refl) al z h (Per.pads_string 8 (length v)) (Per.pads_string 8 (length w)) v w (λ l. ap (λ n. Per.pads_string 8 n z.counts) l)))
 
-  strings : (al : Bool) (k : StringKind) (z : Size) (l : Alphabet) (h : Counts) (v w : List ℕ) → is_alphabet k l.characters ≡ true → Alike free (Per.form al (character_string k z l h) (text v)) (Per.form al (character_string k z l h) (text w)) (v ≡ w)
+  strings : (al : Bool) (k : StringKind) (z : Size) (l : Alphabet) (h : Counts) (v w : List ℕ) → Alike free (Per.form al (character_string k z l h) (text v)) (Per.form al (character_string k z l h) (text w)) (v ≡ w)
   unfolding Per.form
-  strings al k z l h v w e = string_alike free al k z l h v w e
+  strings al k z l h v w = string_alike free al k z l h v w
 
   identifiers : (al : Bool) (v w : List ℕ) → Alike free (Per.form al object_identifier (arcs v)) (Per.form al object_identifier (arcs w)) (v ≡ w)
   unfolding Per.form
@@ -271,7 +270,7 @@ module _ (free : Per.Freedom → Bool) where
       (ap (octets z h) t.0 ∙ sym e, t.1)
   one_record al a (characters k z l h v) (characters j y m i w) b c q f g =
       let e : characters j y m i w ≡ characters k z l h w = cc q in
-      let t = same_found (strings al k z l h v w f.0) a b c f.1 ((as_record al a (characters j y m i w) (characters k z l h w) c e g).1) in
+      let t = same_found (strings al k z l h v w) a b c f (as_record al a (characters j y m i w) (characters k z l h w) c e g) in
       (ap (characters k z l h) t.0 ∙ sym e, t.1)
   one_record al a (identifier v) (identifier w) b c q f g = let t = same_found (identifiers al v w) a b c f g in (ap identifier t.0, t.1)
   one_record al a (list_begins z h n) (list_begins y i m) b c q f g =

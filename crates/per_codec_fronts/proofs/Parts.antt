@@ -3,7 +3,6 @@ use Rattle.std.proofs.Common.{◌≡◌, ℤ, Bool, true, false, cond, List, [],
 use Rattle.asn1_model.specs.Value.{Value, truth, nothing, number, item, bit_list, octet_list, text, arcs, Parts, end, absent, present}
 use Rattle.asn1_model.specs.Schema.{Range, Bounds, Counts, Size, StringKind, Alphabet, Schema, boolean, null, integer, enumerated, bit_string, octet_string, character_string, object_identifier, Components, no_component, component}
 use Rattle.asn1_model.specs.Normal.{is_at_default, is_group_left_out}
-use Rattle.asn1_model.specs.Lawful.{is_alphabet}
 use Rattle.asn1_model.specs.Tables.{is_required, mark_unless, marks}
 use Rattle.asn1_model.specs.Form.{refused, both}
 use Rattle.asn1_model.specs.Per
@@ -63,16 +62,10 @@ module _ (free : Per.Freedom → Bool) (al : Bool) where
   identifiers (arcs v) = single free al _ (identifier v) (λ a b t. t) (λ a b t. t)
   identifiers v = none free al
 
-  -- an alphabet is told in ascending order
-  pub string_finds : (k : StringKind) (z : Size) (l : Alphabet) (h : Counts) → Finds al free (character_string k z l h)
+  pub strings : (k : StringKind) (z : Size) (l : Alphabet) (h : Counts) → AllBridge al free (character_string k z l h)
   unfolding presents Per.form
-  string_finds k z l h (text v) a b c = (subst (λ m. Takes al free a (characters k z l h v) m) (sym c.2) c.1).1
-  string_finds k z l h v a b c = (none free al a b).0 c
-
-  pub string_shows : (k : StringKind) (z : Size) (l : Alphabet) (h : Counts) → is_alphabet k l.characters ≡ true → Shows al free (character_string k z l h)
-  unfolding presents Per.form
-  string_shows k z l h e (text v) a b f = (text v, like_itself (character_string k z l h) (text v), (b, (e, f), refl))
-  string_shows k z l h e v a b f = absurd (of_refused free a.0 b.0 f.0)
+  strings k z l h (text v) = single free al _ (characters k z l h v) (λ a b t. t) (λ a b t. t)
+  strings k z l h v = none free al
 
   -- ---- components
   -- what is read of root components: these presence bits, bits of this form, and then the records behind them

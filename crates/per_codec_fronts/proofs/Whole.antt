@@ -17,7 +17,7 @@ use Rattle.per_codec_fronts.specs.Ties.{Bridges}
 use Rattle.per_codec_fronts.proofs.Alike.{LikeParts, parts_self, both_same, like_fields}
 use Rattle.per_codec_fronts.proofs.Fronts.{Finds, Shows, by_itself, Step, of_refused, given_out, none}
 use Rattle.per_codec_fronts.proofs.Lists.{list_finds, list_shows, bag_finds, bag_shows}
-use Rattle.per_codec_fronts.proofs.Parts.{EachFinds, EachShows, booleans, nulls, integers, items, bit_strings, octet_strings, string_finds, string_shows, identifiers}
+use Rattle.per_codec_fronts.proofs.Parts.{EachFinds, EachShows, booleans, nulls, integers, items, bit_strings, octet_strings, strings, identifiers}
 use Rattle.per_codec_fronts.proofs.Sequences.{begun_in, plain_in, plain_out}
 use Rattle.per_codec_fronts.proofs.Bitmaps.{additions_long, extended_in, extended_out}
 use Rattle.per_codec_fronts.proofs.Choices.{choice_finds, choice_shows}
@@ -81,7 +81,7 @@ module _ (al : Bool) (free : Per.Freedom → Bool) (other : IsTrue (free Per.oth
       finds (enumerated roots e adds) v a b c = (items free al roots e adds v a b).0 c
       finds (bit_string z h) v a b c = (bit_strings free al z h v a b).0 c
       finds (octet_string z h) v a b c = (octet_strings free al z h v a b).0 c
-      finds (character_string k z l h) v a b c = string_finds free al k z l h v a b c
+      finds (character_string k z l h) v a b c = (strings free al k z l h v a b).0 c
       finds object_identifier v a b c = (identifiers free al v a b).0 c
       finds (sequence_of z h s) v a b c = list_finds free al z h s (finds s) v a b c
       finds (set_of z h s) v a b c = bag_finds free al order z h s (finds s) v a b c
@@ -112,7 +112,7 @@ module _ (al : Bool) (free : Per.Freedom → Bool) (other : IsTrue (free Per.oth
     shows (enumerated roots e adds) l v a b f = (by_itself al free (enumerated roots e adds) (items free al roots e adds)).1 v a b f
     shows (bit_string z h) l v a b f = (by_itself al free (bit_string z h) (bit_strings free al z h)).1 v a b f
     shows (octet_string z h) l v a b f = (by_itself al free (octet_string z h) (octet_strings free al z h)).1 v a b f
-    shows (character_string k z g h) l v a b f = string_shows free al k z g h ((and_parts _ _ l).1) v a b f
+    shows (character_string k z g h) l v a b f = (by_itself al free (character_string k z g h) (strings free al k z g h)).1 v a b f
     shows object_identifier l v a b f = (by_itself al free object_identifier (identifiers free al)).1 v a b f
     shows (sequence_of z h s) l v a b f = list_shows free al z h s (shows s ((and_parts _ _ l).1)) v a b f
     shows (set_of z h s) l v a b f = bag_shows free al z h s (shows s ((and_parts _ _ l).1)) v a b f

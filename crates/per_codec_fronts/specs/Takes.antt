@@ -1,22 +1,28 @@
--- What a reader of the packed encoding rules (X.691) holds: where it stands in the innermost message or open type, the bits that are left of
--- that, and the open scopes. Each record takes bits in front, of a form that the reader's freedoms allow at that position.
-use Rattle.std.specs.Prelude.{◌≡◌, ◌⊎◌, ℕ, zero, suc, ◌+◌, ◌-◌, ◌*◌, ltb, leb, ◌&&◌, Bool, true, false, IsTrue, List, [], ◌∷◌, ◌++◌, length, drop, map, replicate, Option, Some, None, option_map}
+-- What a reader of the packed encoding rules (X.691) holds: where it stands in the innermost message or open type, the
+-- bits that are left of that, and the open scopes. Each record takes bits in front, of a form that the reader's
+-- freedoms allow at that position.
+use Rattle.std.specs.Prelude.{◌≡◌, ◌⊎◌, ℕ, zero, suc, ◌+◌, ◌-◌, ◌*◌, ltb, leb, ◌&&◌, Bool, true, false, IsTrue, List}
+use Rattle.std.specs.Prelude.{[], ◌∷◌, ◌++◌, length, drop, map, replicate, Option, Some, None, option_map}
 use Rattle.asn1_model.specs.Value.{truth, nothing, number, item, bit_list, octet_list, text, arcs}
-use Rattle.asn1_model.specs.Schema.{Counts, Size, boolean, null, integer, enumerated, bit_string, octet_string, character_string, object_identifier}
-use Rattle.asn1_model.specs.Lawful.{is_alphabet}
+use Rattle.asn1_model.specs.Schema.{Counts, Size, boolean, null, integer, enumerated, bit_string, octet_string}
+use Rattle.asn1_model.specs.Schema.{character_string, object_identifier}
 use Rattle.asn1_model.specs.Numbers.{binary, missing, octet_bits, is_count_within}
 use Rattle.asn1_model.specs.Strings.{each_is, is_octet}
 use Rattle.asn1_model.specs.Form.{Reads, exactly, both, joined, is_present, present_ones}
 use Rattle.asn1_model.specs.Per
-use Rattle.asn1_schema_presented.specs.Records.{Record, flag, nil, whole, one_of, bits, octets, characters, identifier, list_begins, bag_begins, further, sequence_begins, set_begins, group_begins, mark, is_default, is_empty, additions_begin, addition, addition_ends, choice_begins, ends, mismatch}
+use Rattle.asn1_schema_presented.specs.Records.{Record, flag, nil, whole, one_of, bits, octets, characters, identifier}
+use Rattle.asn1_schema_presented.specs.Records.{list_begins, bag_begins, further, sequence_begins, set_begins}
+use Rattle.asn1_schema_presented.specs.Records.{group_begins, mark, is_default, is_empty, additions_begin, addition}
+use Rattle.asn1_schema_presented.specs.Records.{addition_ends, choice_begins, ends, mismatch}
 use Rattle.asn1_schema_finding.specs.Marks.{preamble_bits, first_bits, has_set}
 
 -- How many bits stand in front since the beginning of the message or open type, and the bits that are left of it.
 abbrev pub Place : Type 0
 Place = ℕ × List Bool
 
--- A list in fragments: its size, the counts that the program's type holds, whether the count is marked as outside the root, and how many times
--- 16384 members each fragment so far has (X.691 11.9.3.8). The number of members is judged at the end, where it is known.
+-- A list in fragments: its size, the counts that the program's type holds, whether the count is marked as outside the
+-- root, and how many times 16384 members each fragment so far has (X.691 11.9.3.8). The number of members is judged at
+-- the end, where it is known.
 pub record Tally : Type 0 where
   pub size : Size
   pub held : Counts
@@ -25,9 +31,11 @@ pub record Tally : Type 0 where
 
 -- An open scope.
 pub data Scope : Type 0 where
-  -- a sequence, set or group: the bit of its mark of extensibility, if it has a mark, and the presence bits that are still to come
+  -- a sequence, set or group: the bit of its mark of extensibility, if it has a mark, and the presence bits that are
+  -- still to come
   components : Option Bool → List Bool → Scope
-  -- behind the root of such a type with a mark: the presence bits of its additions still to come, and of unknown ones behind all of them
+  -- behind the root of such a type with a mark: the presence bits of its additions still to come, and of unknown ones
+  -- behind all of them
   added : List Bool → List Bool → Scope
   -- an addition, or an added alternative: its bits stand alone, and this is the place behind it
   open_type : Place → Scope
@@ -52,7 +60,8 @@ Found free x a b = Front free x a.0 b.0 × (b.1 ≡ a.1)
 
 -- ---- lists and bags (X.691 20 and 22)
 
--- A count in the root of a size, or marked as outside: only a reader with the freedom takes one of the root behind such a mark.
+-- A count in the root of a size, or marked as outside: only a reader with the freedom takes one of the root behind such
+-- a mark.
 abbrev pub InPlace : (Per.Freedom → Bool) → Bool → Bool → Type 0
 InPlace free false t = t ≡ true
 InPlace free true t = (t ≡ false) ⊎ IsTrue (free Per.root_marked_outside)
@@ -71,11 +80,16 @@ with_fragment m t = record { size = t.size; held = t.held; outside = t.outside; 
 
 -- The header of a further fragment (X.691 11.9.3.8).
 abbrev pub NextFragment : Bool → (Per.Freedom → Bool) → Tally → Place → Place → ℕ → Option Tally → Type 0
-NextFragment al free t a b due hs = (m : ℕ) × ((leb 1 m && leb m 4) ≡ true) × Front free (Per.at_octet al (exactly (true ∷ true ∷ binary 6 m))) a b × (due ≡ m * 16384) × (hs ≡ Some (with_fragment m t))
+NextFragment al free t a b due hs =
+    (m : ℕ) × ((leb 1 m && leb m 4) ≡ true) × Front free (Per.at_octet al (exactly (true ∷ true ∷ binary 6 m))) a b
+    × (due ≡ m * 16384) × (hs ≡ Some (with_fragment m t))
 
 -- The length behind all fragments, by which all members are counted (X.691 11.9.3.5 to 11.9.3.8).
 abbrev pub LastLength : Bool → (Per.Freedom → Bool) → Tally → Place → Place → ℕ → Option Tally → Type 0
-LastLength al free t a b due hs = Admits free t.size t.held t.outside (in_all t.sizes due) × ((t.sizes ≡ Per.largest_first (in_all t.sizes due)) ⊎ IsTrue (free Per.other_fragments)) × Front free (Per.short_length al due) a b × (hs ≡ None)
+LastLength al free t a b due hs =
+    Admits free t.size t.held t.outside (in_all t.sizes due)
+    × ((t.sizes ≡ Per.largest_first (in_all t.sizes due)) ⊎ IsTrue (free Per.other_fragments))
+    × Front free (Per.short_length al due) a b × (hs ≡ None)
 
 -- Either: so many members are due behind it, and then a header where something is known of the list.
 abbrev pub Header : Bool → (Per.Freedom → Bool) → Tally → Place → Place → ℕ → Option Tally → Type 0
@@ -83,11 +97,16 @@ Header al free t a b due hs = NextFragment al free t a b due hs ⊎ LastLength a
 
 -- A list whose members stand behind their first header (X.691 11.9).
 abbrev pub Headed : Bool → (Per.Freedom → Bool) → Size → Counts → Bool → Place → List Scope → State → Type 0
-Headed al free z h out a k b = (due : ℕ) × (hs : Option Tally) × Header al free (record { size = z; held = h; outside = out; sizes = [] }) a b.0 due hs × (b.1 ≡ members due hs ∷ k)
+Headed al free z h out a k b =
+    (due : ℕ) × (hs : Option Tally)
+    × Header al free (record { size = z; held = h; outside = out; sizes = [] }) a b.0 due hs
+    × (b.1 ≡ members due hs ∷ k)
 
 -- A list whose members stand behind their number, which the bounds of its size tell (X.691 11.9.4.1).
 abbrev pub Numbered : Bool → (Per.Freedom → Bool) → Size → Counts → ℕ → Place → List Scope → State → Type 0
-Numbered al free z h high a k b = (n : ℕ) × Admits free z h false n × Front free (Per.constrained al (high - z.counts.low) (n - z.counts.low)) a b.0 × (b.1 ≡ members n None ∷ k)
+Numbered al free z h high a k b =
+    (n : ℕ) × Admits free z h false n × Front free (Per.constrained al (high - z.counts.low) (n - z.counts.low)) a b.0
+    × (b.1 ≡ members n None ∷ k)
 
 -- By whether the highest count is below 65536.
 abbrev pub ByHighest : Bool → (Per.Freedom → Bool) → Size → Counts → Bool → ℕ → Place → List Scope → State → Type 0
@@ -104,9 +123,12 @@ abbrev pub SizeMark : (Per.Freedom → Bool) → Bool → Bool → Place → Pla
 SizeMark free false out a b = (out ≡ false) × (b ≡ a)
 SizeMark free true out a b = Front free (exactly (out ∷ [])) a b
 
--- What stands in front of members. The record's own count is one that the program's type holds; that it is the true one is known at the end.
+-- What stands in front of members. The record's own count is one that the program's type holds; that it is the true one
+-- is known at the end.
 abbrev pub ListBegins : Bool → (Per.Freedom → Bool) → Size → Counts → ℕ → State → State → Type 0
-ListBegins al free z h n a b = (is_count_within h n ≡ true) × (out : Bool) × (mid : Place) × SizeMark free z.extensible out a.0 mid × Counted al free z h out z.counts.high mid a.1 b
+ListBegins al free z h n a b =
+    (is_count_within h n ≡ true) × (out : Bool) × (mid : Place) × SizeMark free z.extensible out a.0 mid
+    × Counted al free z h out z.counts.high mid a.1 b
 
 -- Whether members are due, or this is the end.
 abbrev pub MemberDue : Bool → ℕ → Option Tally → Place → List Scope → State → Type 0
@@ -116,7 +138,8 @@ MemberDue v zero (Some t) a k b = ⊥
 
 -- Whether members are still to come, behind the next header where none is due before it.
 abbrev pub NextMember : Bool → (Per.Freedom → Bool) → Bool → Place → List Scope → State → Type 0
-NextMember al free v a (members zero (Some t) ∷ k) b = (due : ℕ) × (hs : Option Tally) × (mid : Place) × Header al free t a mid due hs × MemberDue v due hs mid k b
+NextMember al free v a (members zero (Some t) ∷ k) b =
+    (due : ℕ) × (hs : Option Tally) × (mid : Place) × Header al free t a mid due hs × MemberDue v due hs mid k b
 NextMember al free v a (members n hs ∷ k) b = MemberDue v n hs a k b
 NextMember al free v a k b = ⊥
 
@@ -124,7 +147,9 @@ NextMember al free v a k b = ⊥
 
 -- The bit of a mark, if there is one, and so many presence bits (X.691 19.1 to 19.3).
 abbrev pub Begins : (Per.Freedom → Bool) → Bool → ℕ → State → State → Type 0
-Begins free e n a b = (x : Option Bool) × (ms : List Bool) × (is_present x ≡ e) × (length ms ≡ n) × Front free (exactly (preamble_bits x ms)) a.0 b.0 × (b.1 ≡ components x ms ∷ a.1)
+Begins free e n a b =
+    (x : Option Bool) × (ms : List Bool) × (is_present x ≡ e) × (length ms ≡ n)
+    × Front free (exactly (preamble_bits x ms)) a.0 b.0 × (b.1 ≡ components x ms ∷ a.1)
 
 -- The next presence bit.
 abbrev pub NextMark : Bool → Place → List Scope → State → Type 0
@@ -133,16 +158,21 @@ NextMark v a k b = ⊥
 
 -- ---- additions
 
--- Behind the root components: without the mark's bit no addition is there, and with it a bitmap tells which are. Those past its width are
--- absent, and what stands past the type's own is unknown (X.691 19.7 and 19.8).
+-- Behind the root components: without the mark's bit no addition is there, and with it a bitmap tells which are. Those
+-- past its width are absent, and what stands past the type's own is unknown (X.691 19.7 and 19.8).
 abbrev pub AdditionsBegin : Bool → (Per.Freedom → Bool) → ℕ → Place → List Scope → State → Type 0
 AdditionsBegin al free n a (components (Some false) [] ∷ k) b = b ≡ (a, added (first_bits n []) [] ∷ k)
-AdditionsBegin al free n a (components (Some true) [] ∷ k) b = (bs : List Bool) × ((has_set bs ≡ true) ⊎ IsTrue (free Per.empty_bitmap)) × Front free (Per.normally_few al (Per.bit_units bs)) a b.0 × (b.1 ≡ added (first_bits n bs) (drop n bs) ∷ k)
+AdditionsBegin al free n a (components (Some true) [] ∷ k) b =
+    (bs : List Bool) × ((has_set bs ≡ true) ⊎ IsTrue (free Per.empty_bitmap))
+    × Front free (Per.normally_few al (Per.bit_units bs)) a b.0 × (b.1 ≡ added (first_bits n bs) (drop n bs) ∷ k)
 AdditionsBegin al free n a k b = ⊥
 
--- An open type begins: its octets stand behind their number, and positions are counted from their beginning (X.691 11.2).
+-- An open type begins: its octets stand behind their number, and positions are counted from their beginning (X.691
+-- 11.2).
 abbrev pub Opens : Bool → (Per.Freedom → Bool) → Place → List Scope → State → Type 0
-Opens al free a k b = (os : List ℕ) × (rest : Place) × Front free (Per.counted_octets al os) a rest × (b ≡ ((0, octet_bits os), open_type rest ∷ k))
+Opens al free a k b =
+    (os : List ℕ) × (rest : Place) × Front free (Per.counted_octets al os) a rest
+    × (b ≡ ((0, octet_bits os), open_type rest ∷ k))
 
 -- What fills up so many bits to a complete encoding (X.691 11.1).
 abbrev pub completion : ℕ → Per.BitForm
@@ -151,7 +181,9 @@ completion (suc n) = Per.filling (missing (suc n))
 
 -- It ends: the value's bits are filled up, and nothing is left behind them, or the reader takes octets there.
 abbrev pub Closes : (Per.Freedom → Bool) → Place → Place → List Scope → State → Type 0
-Closes free a rest k b = (mid : Place) × (more : List ℕ) × Front free (completion a.0) a mid × (each_is is_octet more ≡ true) × (mid.1 ≡ octet_bits more) × ((more ≡ []) ⊎ IsTrue (free Per.octets_behind)) × (b ≡ (rest, k))
+Closes free a rest k b =
+    (mid : Place) × (more : List ℕ) × Front free (completion a.0) a mid × (each_is is_octet more ≡ true)
+    × (mid.1 ≡ octet_bits more) × ((more ≡ []) ⊎ IsTrue (free Per.octets_behind)) × (b ≡ (rest, k))
 
 -- Whether the next addition is there.
 abbrev pub NextAddition : Bool → (Per.Freedom → Bool) → Bool → Place → List Scope → State → Type 0
@@ -169,14 +201,20 @@ unknown_forms al xs = map (option_map (λ os. Per.counted_octets al os)) xs
 
 -- Unknown additions are passed over by their lengths.
 abbrev pub Skips : Bool → (Per.Freedom → Bool) → List Bool → Place → Place → Type 0
-Skips al free us a b = (xs : List (Option (List ℕ))) × (map (λ a. is_present a) (unknown_forms al xs) ≡ us) × Front free (joined (present_ones (unknown_forms al xs))) a b
+Skips al free us a b =
+    (xs : List (Option (List ℕ))) × (map (λ a. is_present a) (unknown_forms al xs) ≡ us)
+    × Front free (joined (present_ones (unknown_forms al xs))) a b
 
 -- ---- choices (X.691 23)
 
 -- The place of one of so many alternatives of the root, or of an added one, which is an open type.
 abbrev pub Chooses : Bool → (Per.Freedom → Bool) → ℕ → Bool → ℕ → Bool → ℕ → State → State → Type 0
-Chooses al free roots e others false i a b = (ltb i roots ≡ true) × Front free (both (Per.mark_of e false) (Per.constrained al (roots - 1) i)) a.0 b.0 × (b.1 ≡ alternative ∷ a.1)
-Chooses al free roots e others true i a b = (e ≡ true) × (ltb i others ≡ true) × (mid : Place) × Front free (both (exactly (true ∷ [])) (Per.normally_small al i)) a.0 mid × Opens al free mid a.1 b
+Chooses al free roots e others false i a b =
+    (ltb i roots ≡ true) × Front free (both (Per.mark_of e false) (Per.constrained al (roots - 1) i)) a.0 b.0
+    × (b.1 ≡ alternative ∷ a.1)
+Chooses al free roots e others true i a b =
+    (e ≡ true) × (ltb i others ≡ true) × (mid : Place)
+    × Front free (both (exactly (true ∷ [])) (Per.normally_small al i)) a.0 mid × Opens al free mid a.1 b
 
 -- ---- the end
 
@@ -190,7 +228,7 @@ Ends al free a k b = ⊥
 
 -- ---- one record
 
--- One record, unaligned or aligned. A string's alphabet is in ascending order, as that of each lawful type is.
+-- One record, unaligned or aligned.
 abbrev pub Takes : Bool → (Per.Freedom → Bool) → State → Record → State → Type 0
 Takes al free a (flag v) b = Found free (Per.form al boolean (truth v)) a b
 Takes al free a nil b = Found free (Per.form al null nothing) a b
@@ -198,7 +236,7 @@ Takes al free a (whole z h v) b = Found free (Per.form al (integer z h) (number 
 Takes al free a (one_of roots e adds v) b = Found free (Per.form al (enumerated roots e adds) (item v)) a b
 Takes al free a (bits z h v) b = Found free (Per.form al (bit_string z h) (bit_list v)) a b
 Takes al free a (octets z h v) b = Found free (Per.form al (octet_string z h) (octet_list v)) a b
-Takes al free a (characters k z l h v) b = (is_alphabet k l.characters ≡ true) × Found free (Per.form al (character_string k z l h) (text v)) a b
+Takes al free a (characters k z l h v) b = Found free (Per.form al (character_string k z l h) (text v)) a b
 Takes al free a (identifier v) b = Found free (Per.form al object_identifier (arcs v)) a b
 Takes al free a (list_begins z h n) b = ListBegins al free z h n a b
 Takes al free a (bag_begins z h n) b = ListBegins al free z h n a b

@@ -13,53 +13,81 @@ use Rattle.asn1_schema_presented.specs.Chains.{Chain, OneRecord}
 use Rattle.asn1_schema_finding.specs.Bags.{has_no_bag}
 use Rattle.per_codec_fronts.specs.Takes.{Place, State, Front, Found, completion, Takes}
 
--- Of the records that answer a question one at most is next, as far as a reader is told, and one state stands after it, whatever the freedoms.
+-- Of the records that answer a question one at most is next, as far as a reader is told, and one state stands after it,
+-- whatever the freedoms.
 abbrev pub OneTaken : Type 0
 OneTaken = (al : Bool) (free : Per.Freedom → Bool) → OneRecord {S = State} (Takes al free)
 
 -- A list begins with a number of members that the program's type holds.
 abbrev pub CountHeld : Type 0
-CountHeld = (al : Bool) (free : Per.Freedom → Bool) (a : State) (z : Size) (h : Counts) (n : ℕ) (b : State) → Takes al free a (list_begins z h n) b → is_count_within h n ≡ true
+CountHeld =
+    (al : Bool) (free : Per.Freedom → Bool) (a : State) (z : Size) (h : Counts) (n : ℕ) (b : State)
+    → Takes al free a (list_begins z h n) b → is_count_within h n ≡ true
 
 -- The records of a value are next exactly where the bits in front have its form at their position.
 abbrev pub Bridges : Bool → (Per.Freedom → Bool) → Schema → Value → Type 0
 Bridges al free s v = (a b : State) → Chain (Takes al free) (presents s v) a b ↔ Found free (Per.form al s v) a b
 
--- Where the records of a value of any type are next, the bits in front have its form, and those behind it are then left, if the reader takes
--- bitmaps of other widths and bags in any order, as all readers of PER do.
+-- Where the records of a value of any type are next, the bits in front have its form, and those behind it are then
+-- left, if the reader takes bitmaps of other widths and bags in any order, as all readers of PER do.
 abbrev pub RecordsRead : Type 0
-RecordsRead = (al : Bool) (free : Per.Freedom → Bool) (s : Schema) (v : Value) (a b : State) → IsTrue (free Per.other_bitmap) → IsTrue (free Per.other_order) → Chain (Takes al free) (presents s v) a b → Found free (Per.form al s v) a b
+RecordsRead =
+    (al : Bool) (free : Per.Freedom → Bool) (s : Schema) (v : Value) (a b : State) → IsTrue (free Per.other_bitmap)
+    → IsTrue (free Per.other_order) → Chain (Takes al free) (presents s v) a b → Found free (Per.form al s v) a b
 
--- Where the bits in front have the form of a value of a lawful type at their position, the records of one that is the same up to the order of
--- bags are next.
+-- Where the bits in front have the form of a value of a lawful type at their position, the records of one that is the
+-- same up to the order of bags are next.
 abbrev pub FormsShow : Type 0
-FormsShow = (al : Bool) (free : Per.Freedom → Bool) (s : Schema) (v : Value) (a b : State) → IsTrue (free Per.other_bitmap) → IsLawful s → Found free (Per.form al s v) a b → (w : Value) × (same v w ≡ true) × Chain (Takes al free) (presents s w) a b
+FormsShow =
+    (al : Bool) (free : Per.Freedom → Bool) (s : Schema) (v : Value) (a b : State) → IsTrue (free Per.other_bitmap)
+    → IsLawful s → Found free (Per.form al s v) a b → (w : Value) × (same v w ≡ true)
+    × Chain (Takes al free) (presents s w) a b
 
 -- For a lawful type without SET OF the records are next exactly there.
 abbrev pub EachBridges : Type 0
-EachBridges = (al : Bool) (free : Per.Freedom → Bool) (s : Schema) (v : Value) → IsTrue (free Per.other_bitmap) → IsTrue (free Per.other_order) → IsLawful s → has_no_bag s ≡ true → Bridges al free s v
+EachBridges =
+    (al : Bool) (free : Per.Freedom → Bool) (s : Schema) (v : Value) → IsTrue (free Per.other_bitmap)
+    → IsTrue (free Per.other_order) → IsLawful s → has_no_bag s ≡ true → Bridges al free s v
 
 -- The records that a reader finds are those of a value that has the form of its type.
 abbrev pub RecordsFit : Type 0
-RecordsFit = (al : Bool) (free : Per.Freedom → Bool) (s : Schema) (v : Value) (a b : State) → Chain (Takes al free) (presents s v) a b → Fits s v
+RecordsFit =
+    (al : Bool) (free : Per.Freedom → Bool) (s : Schema) (v : Value) (a b : State)
+    → Chain (Takes al free) (presents s v) a b → Fits s v
 
--- The records of a value are found in the bits of octets from their beginning on, and what fills up a message behind them ends in front of the
--- rest.
+-- The records of a value are found in the bits of octets from their beginning on, and what fills up a message behind
+-- them ends in front of the rest.
 abbrev pub FoundFirst : Bool → (Per.Freedom → Bool) → Schema → Value → List ℕ → List ℕ → Type 0
-FoundFirst al free s v w rest = (left : Place) × Chain (Takes al free) (presents s v) ((0, octet_bits (w ++ rest)), []) (left, []) × Front free (completion left.0) left (8 * length w, octet_bits rest)
+FoundFirst al free s v w rest =
+    (left : Place) × Chain (Takes al free) (presents s v) ((0, octet_bits (w ++ rest)), []) (left, [])
+    × Front free (completion left.0) left (8 * length w, octet_bits rest)
 
--- So it is nowhere but where the octets in front are an encoding of the value; and in an encoding of a value of a lawful type the records are
--- found of one that is the same up to the order of bags.
+-- So it is nowhere but where the octets in front are an encoding of the value; and in an encoding of a value of a
+-- lawful type the records are found of one that is the same up to the order of bags.
 abbrev pub FindsIn : Rules → Bool → (Per.Freedom → Bool) → Type 0
-FindsIn r al free = (s : Schema) (v : Value) (w rest : List ℕ) → length w < 2 ^ 60 → (FoundFirst al free s v w rest → IsEncoding r s v w) × (IsLawful s → IsEncoding r s v w → (u : Value) × (same v u ≡ true) × FoundFirst al free s u w rest)
+FindsIn r al free =
+    (s : Schema) (v : Value) (w rest : List ℕ) → length w < 2 ^ 60
+    → (FoundFirst al free s v w rest → IsEncoding r s v w)
+    × (IsLawful s → IsEncoding r s v w → (u : Value) × (same v u ≡ true) × FoundFirst al free s u w rest)
 
 abbrev pub FindsEncodings : Type 0
-FindsEncodings = FindsIn uper false lenient × FindsIn aper true lenient × FindsIn uper_strict false strict_per × FindsIn aper_strict true strict_per
+FindsEncodings =
+    FindsIn uper false lenient × FindsIn aper true lenient × FindsIn uper_strict false strict_per
+    × FindsIn aper_strict true strict_per
 
 -- What fills up a message behind the records of a value ends where an octet does (X.691 11.1).
 abbrev pub EndsAtOctet : Type 0
-EndsAtOctet = (al : Bool) (free : Per.Freedom → Bool) (s : Schema) (v : Value) (os : List ℕ) (left after : Place) → IsTrue (free Per.other_bitmap) → IsTrue (free Per.other_order) → Chain (Takes al free) (presents s v) ((0, octet_bits os), []) (left, []) → Front free (completion left.0) left after → (w : List ℕ) × (rest : List ℕ) × (w ++ rest ≡ os) × (after ≡ (8 * length w, octet_bits rest))
+EndsAtOctet =
+    (al : Bool) (free : Per.Freedom → Bool) (s : Schema) (v : Value) (os : List ℕ) (left after : Place)
+    → IsTrue (free Per.other_bitmap) → IsTrue (free Per.other_order)
+    → Chain (Takes al free) (presents s v) ((0, octet_bits os), []) (left, [])
+    → Front free (completion left.0) left after → (w : List ℕ) × (rest : List ℕ) × (w ++ rest ≡ os)
+    × (after ≡ (8 * length w, octet_bits rest))
 
 -- Where a message of a lawful type stands in front, it is filled up behind the records of whichever value is found.
 abbrev pub FilledUp : Type 0
-FilledUp = (al : Bool) (free : Per.Freedom → Bool) (s : Schema) (u v : Value) (w rest : List ℕ) (left : Place) → IsTrue (free Per.other_bitmap) → IsLawful s → Reads free (Per.message al s v) 0 (octet_bits w) → Chain (Takes al free) (presents s u) ((0, octet_bits (w ++ rest)), []) (left, []) → Front free (completion left.0) left (8 * length w, octet_bits rest)
+FilledUp =
+    (al : Bool) (free : Per.Freedom → Bool) (s : Schema) (u v : Value) (w rest : List ℕ) (left : Place)
+    → IsTrue (free Per.other_bitmap) → IsLawful s → Reads free (Per.message al s v) 0 (octet_bits w)
+    → Chain (Takes al free) (presents s u) ((0, octet_bits (w ++ rest)), []) (left, [])
+    → Front free (completion left.0) left (8 * length w, octet_bits rest)

@@ -3,3 +3,4 @@ pub mod Places
 pub mod Fields
 pub mod Stretches
 pub mod Spelled
+pub mod Texts

@@ -1,8 +1,10 @@
 -- Characters whose codes are some bits (X.691 30.5).
-use Rattle.std.specs.Prelude.{◌≡◌, ℕ, ◌^◌, ◌<◌, Bool, true, List, length, flat_map, is_some, Some, unwrap_or}
+use Rattle.std.specs.Prelude.{◌≡◌, ◌⊎◌, ℕ, ◌^◌, ◌<◌, Bool, true, List, length, flat_map, is_some, Some, unwrap_or}
 use Rattle.asn1_model.specs.Numbers.{binary}
 use Rattle.asn1_model.specs.Schema.{StringKind}
 use Rattle.asn1_model.specs.Strings.{each_is}
+use Rattle.asn1_schema_faults.specs.declared.DecodeError.{DecodeError}
+use Rattle.asn1_schema_faults.specs.declared.DecodeError.TheVariants.{OutOfMemory}
 use Rattle.asn1_values_alphabets.specs.Permitted.{permits_all}
 use Rattle.per_codec_alphabets.specs.Codes.{Coded, code_of}
 
@@ -24,6 +26,10 @@ pub record Spells (k : StringKind) (a : Coded) (cs : List ℕ) (w : List Bool) :
 abbrev pub Stuck : StringKind → Coded → ℕ → List Bool → Type 0
 Stuck k a n w = (cs : List ℕ) → length cs ≡ n → Spells k a cs w → ⊥
 
--- Each code fits in its bits, as it does in alphabets that ascend.
+-- Each code fits in its bits.
 pub record IsFitting (a : Coded) : Type 0 where
   pub fits : (c code : ℕ) → code_of a c ≡ Some code → code < 2 ^ a.code_bits
+
+-- Why characters with these codes are refused: no memory is left, or there are none, where each code fits.
+abbrev pub IsRefused : StringKind → Coded → ℕ → List Bool → DecodeError → Type 0
+IsRefused k a n w e = (e ≡ OutOfMemory) ⊎ (IsFitting a → Stuck k a n w)

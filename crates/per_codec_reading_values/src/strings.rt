@@ -1,17 +1,10 @@
 //! Character strings (X.691 30).
 ghost use Rattle.std.specs.Prelude.{◌≡◌, ◌*◌, ◌≤◌, ◌⊎◌, true, false, length, IfOk, IfErr};
 ghost use Rattle.std.specs.Cow.{cow_slice_items};
-ghost use Rattle.asn1_model.specs.Lawful.{is_alphabet};
-ghost use Rattle.asn1_model.specs.Per as Per;
-ghost use Rattle.asn1_model.specs.Schema as Asn1;
 ghost use Rattle.asn1_model.specs.Strings.{is_of_octets as holds_octets};
-ghost use Rattle.asn1_model.specs.Types.{any_count};
-ghost use Rattle.asn1_model.specs.Value as Asn1Value;
-ghost use Rattle.asn1_schema_constraints.specs.Terms.{alphabet_of, sizes_of};
-ghost use Rattle.per_codec_fronts.specs.Takes.{Front};
-ghost use Rattle.per_codec_reading.specs.Fronts.{freedoms, IsFresh, Misses};
-ghost use Rattle.per_codec_reading.specs.Fronts as fronts;
-ghost use Rattle.per_codec_reading_values.specs.Spelled.{Spells, Stuck, IsFitting};
+ghost use Rattle.per_codec_reading_values.specs.Spelled.{Spells, IsRefused};
+ghost use Rattle.per_codec_reading_values.specs.Texts.{Stands, MissesString};
+ghost use Rattle.per_codec_reading.specs.Fronts.{IsFresh};
 ghost use Rattle.per_codec_reading.specs.Runs.{bits_in};
 
 use crate::codes::string_of;
@@ -49,8 +42,8 @@ fn read_octets<S: StaticPermittedAlphabet>(
     _constraints: Constraints,
 ) -> Result<S, DecodeError>
     requires kind { holds_octets S.kind ≡ true }
-    ensures ok { IfOk result (λ s. Front (freedoms variant) (Per.form (fronts.is_aligned variant) (Asn1.character_string S.kind (sizes_of _constraints.entry.size) (alphabet_of _constraints.entry.permitted_alphabet) any_count) (Asn1Value.text (S.characters s))) cursor.old cursor.new) }
-    ensures only { IfErr result (Misses (freedoms variant) (Per.form (fronts.is_aligned variant) (Asn1.character_string S.kind (sizes_of _constraints.entry.size) (alphabet_of _constraints.entry.permitted_alphabet) any_count)) cursor.old) }
+    ensures ok { IfOk result (λ s. Stands variant S.kind _constraints.entry (S.characters s) cursor.old cursor.new) }
+    ensures only { IfErr result (MissesString variant S.kind _constraints.entry cursor.old) }
 {
     let octets = read_counted_octets(alloc, cursor, variant)?;
     match string_of_octets(alloc, octets.as_slice()) {
@@ -69,7 +62,7 @@ fn string_of_run<S: StaticPermittedAlphabet>(
     requires whole { length (bits_in run.now.bits) ≡ run.now.count * alphabet.now.code_bits }
     ensures count { IfOk result (λ s. length (S.characters s) ≡ run.now.count) }
     ensures codes { IfOk result (λ s. Spells S.kind alphabet.now (S.characters s) (bits_in run.now.bits)) }
-    ensures refused { IfErr result (λ e. (e ≡ DecodeError.OutOfMemory) ⊎ (IsFitting alphabet.now → Stuck S.kind alphabet.now run.now.count (bits_in run.now.bits))) }
+    ensures refused { IfErr result (IsRefused S.kind alphabet.now run.now.count (bits_in run.now.bits)) }
     ensures fresh { IfErr result IsFresh }
 {
     let codes = match &run.bits {
@@ -87,8 +80,8 @@ fn read_codes<S: StaticPermittedAlphabet>(
     constraints: Constraints,
 ) -> Result<S, DecodeError>
     requires kind { holds_octets S.kind ≡ false }
-    ensures ok { IfOk result (λ s. Front (freedoms variant) (Per.form (fronts.is_aligned variant) (Asn1.character_string S.kind (sizes_of constraints.entry.size) (alphabet_of constraints.entry.permitted_alphabet) any_count) (Asn1Value.text (S.characters s))) cursor.old cursor.new) }
-    ensures only { IfErr result (λ e. is_alphabet S.kind (alphabet_of constraints.entry.permitted_alphabet).characters ≡ true → Misses (freedoms variant) (Per.form (fronts.is_aligned variant) (Asn1.character_string S.kind (sizes_of constraints.entry.size) (alphabet_of constraints.entry.permitted_alphabet) any_count)) cursor.old e) }
+    ensures ok { IfOk result (λ s. Stands variant S.kind constraints.entry (S.characters s) cursor.old cursor.new) }
+    ensures only { IfErr result (MissesString variant S.kind constraints.entry cursor.old) }
     ensures fresh { IfErr result IsFresh }
 {
     let alphabet = EffectiveAlphabet::new::<S>(
@@ -96,17 +89,13 @@ fn read_codes<S: StaticPermittedAlphabet>(
         variant.is_aligned(),
         constraints.permitted_alphabet,
     )?;
-    let width = alphabet.width();
-    if width > 16 {
-        return Err(DecodeError::PermittedAlphabet);
-    }
     let run = read_sized(
         alloc,
         cursor,
         variant,
         constraints,
         Bounded::None,
-        width,
+        alphabet.width(),
         Contents::Characters,
     )?;
     match string_of_run(alloc, &alphabet, &run) {
@@ -115,22 +104,21 @@ fn read_codes<S: StaticPermittedAlphabet>(
     }
 }
 
-/// Reads a character string of a kind with an alphabet of its own (X.691 30), under a size constraint, which counts its characters, and a
-/// permitted alphabet.
+/// Reads a character string of a kind with an alphabet of its own (X.691 30), under a size constraint, which counts its
+/// characters, and a permitted alphabet.
 ///
 /// # Errors
 ///
-/// `PermittedAlphabet` if a code stands for no permitted character, or if the constraint's characters do not ascend and their codes need
-/// more than 16 bits; `SizeConstraintNotSatisfied` if the size does not admit as many, `Incomplete` if the bits end early, the errors of a
-/// number and of a length, and `OutOfMemory`.
+/// `PermittedAlphabet` if a code stands for no permitted character; `SizeConstraintNotSatisfied` if the size does not
+/// admit as many, `Incomplete` if the bits end early, the errors of a number and of a length, and `OutOfMemory`.
 pub fn read_characters<S: StaticPermittedAlphabet>(
     alloc: Global,
     cursor: &mut Cursor<'_>,
     variant: Variant,
     constraints: Constraints,
 ) -> Result<S, DecodeError>
-    ensures ok { IfOk result (λ s. Front (freedoms variant) (Per.form (fronts.is_aligned variant) (Asn1.character_string S.kind (sizes_of constraints.entry.size) (alphabet_of constraints.entry.permitted_alphabet) any_count) (Asn1Value.text (S.characters s))) cursor.old cursor.new) }
-    ensures only { IfErr result (λ e. is_alphabet S.kind (alphabet_of constraints.entry.permitted_alphabet).characters ≡ true → Misses (freedoms variant) (Per.form (fronts.is_aligned variant) (Asn1.character_string S.kind (sizes_of constraints.entry.size) (alphabet_of constraints.entry.permitted_alphabet) any_count)) cursor.old e) }
+    ensures ok { IfOk result (λ s. Stands variant S.kind constraints.entry (S.characters s) cursor.old cursor.new) }
+    ensures only { IfErr result (MissesString variant S.kind constraints.entry cursor.old) }
     ensures fresh { IfErr result IsFresh }
 {
     if is_of_octets::<S>() {

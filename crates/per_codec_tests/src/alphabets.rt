@@ -22,7 +22,7 @@ type Alphabet = (Kind, bool, Option<(&'static [u32], bool)>);
 type Codes = (&'static [(u32, u32)], Option<u32>, Option<u32>);
 
 /// Alphabets, how wide their codes are, and some of these.
-const ROWS: [(Alphabet, u32, Codes); 13] = [
+const ROWS: [(Alphabet, u32, Codes); 14] = [
     (
         (Kind::Numeric, false, None),
         4,
@@ -58,6 +58,12 @@ const ROWS: [(Alphabet, u32, Codes); 13] = [
         ),
         4,
         (&[(32, 0), (49, 1), (51, 3), (57, 4)], Some(65), Some(5)),
+    ),
+    // Codes ascend with the characters, however these are listed.
+    (
+        (Kind::Visible, false, Some((&[49, 48, 49], false))),
+        1,
+        (&[(48, 0), (49, 1)], Some(50), None),
     ),
     // A mark makes a constraint count for nothing.
     (

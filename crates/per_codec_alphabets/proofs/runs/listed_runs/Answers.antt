@@ -2,8 +2,8 @@ use Rattle.std.proofs.Common.{◌≡◌, ◌<◌, ◌^◌, sym, refl, arith, tak
 use Rattle.asn1_model.specs.Strings.{characters_of, is_among}
 use Rattle.per_codec_alphabets.specs.Codes.{runs_of}
 use Rattle.per_codec_alphabets.proofs.Places.{one_kept, one_left, few_left, all_taken}
-use Rattle.per_codec_alphabets.proofs.runs.kept_runs.Goals.{then-contains_char+in_ok-push_character, else-contains_char}
-use Rattle.per_codec_alphabets.proofs.runs.kept_runs.Goals as goal
+use Rattle.per_codec_alphabets.proofs.runs.listed_runs.Goals.{then-contains_char+in_ok-push_character, else-contains_char}
+use Rattle.per_codec_alphabets.proofs.runs.listed_runs.Goals as goal
 
 pub loop-character-preserved : goal.loop-character-preserved
 loop-character-preserved g c =

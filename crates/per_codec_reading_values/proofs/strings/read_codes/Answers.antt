@@ -16,16 +16,14 @@ use Rattle.per_codec_reading.proofs.StringFronts.{sized_size}
 use Rattle.per_codec_reading_values.proofs.CharacterFronts.{fitting, few_bits, codes_stand, no_codes, no_characters, refused_codes}
 use Rattle.per_codec_reading_values.proofs.strings.read_codes.Goals as goal
 
-pub returns-then-width-gt16-clause-only : goal.returns-then-width-gt16-clause-only
-returns-then-width-gt16-clause-only g c = λ i.
+pub string_of_run-requires-clause-narrow : goal.string_of_run-requires-clause-narrow
+string_of_run-requires-clause-narrow g c =
     let l = alphabet_of c.args.constraints.permitted_alphabet in
     let rs = permitted g.S.StaticPermittedAlphabet.kind l in
-    let o = permitted_orderly g.S.StaticPermittedAlphabet.kind l.extensible l.characters c.requires.kind i in
+    let o = permitted_orderly g.S.StaticPermittedAlphabet.kind l.extensible l.characters c.requires.kind in
     let f = few_bits c.is_aligned.result rs o.1 in
-    let w = c.width-width.ensures.bits in
     let b = c.in_ok-alphabet.ensures.width in
-    let h = c.if-width-gt16.true in
-    absurd (omega arith)
+    omega arith
 
 pub returns-in_err-run-clause-only : goal.returns-in_err-run-clause-only
 returns-in_err-run-clause-only g c =
@@ -37,12 +35,12 @@ returns-in_err-run-clause-only g c =
     let l = alphabet_of c.args.constraints.permitted_alphabet in
     let b = c.in_ok-alphabet.ensures.width ∙ ap (λ x. Per.character_bits x (permitted S.kind l)) c.is_aligned.ensures in
     let a = c.args.cursor.now in
-    rw (p.1, p.2) (λ i. misses_also f (sized_units al z any_count c.width-width.result (pads_of Characters c.width-width.result)) (Per.form al (character_string S.kind z l any_count)) a a _ (λ n. no_codes f al S.kind z l c.in_ok-alphabet.alphabet c.in_ok-alphabet.ensures.characters b c.requires.kind g.met.S.StaticPermittedAlphabet.holds (permitted_orderly S.kind l.extensible l.characters c.requires.kind i) a (subst (λ w. NoneStands f (sized_units al z any_count w (pads_of Characters w)) a) c.width-width.ensures.bits n)) c.in_err-run.ensures.only)
+    rw (p.1, p.2) (misses_also f (sized_units al z any_count c.width.result (pads_of Characters c.width.result)) (Per.form al (character_string S.kind z l any_count)) a a _ (λ n. no_codes f al S.kind z l c.in_ok-alphabet.alphabet c.in_ok-alphabet.ensures.characters b c.requires.kind g.met.S.StaticPermittedAlphabet.holds (permitted_orderly S.kind l.extensible l.characters c.requires.kind) a (subst (λ w. NoneStands f (sized_units al z any_count w (pads_of Characters w)) a) c.width.ensures.bits n)) c.in_err-run.ensures.only)
 
 pub string_of_run-requires-clause-whole : goal.string_of_run-requires-clause-whole
 string_of_run-requires-clause-whole g c =
-    let n = sized_size (freedoms c.args.variant) (is_aligned c.args.variant) (sizes_of c.args.constraints.size) any_count c.width-width.result (pads_of Characters c.width-width.result) (units_in c.in_ok-run.run') c.args.cursor.now c.read_sized.new.cursor c.in_ok-run.ensures.ok in
-    n ∙ ap (λ w. c.in_ok-run.run'.count * w) c.width-width.ensures.bits
+    let n = sized_size (freedoms c.args.variant) (is_aligned c.args.variant) (sizes_of c.args.constraints.size) any_count c.width.result (pads_of Characters c.width.result) (units_in c.in_ok-run.run') c.args.cursor.now c.read_sized.new.cursor c.in_ok-run.ensures.ok in
+    n ∙ ap (λ w. c.in_ok-run.run'.count * w) c.width.ensures.bits
 
 pub returns-in-Ok-clause-ok : goal.returns-in-Ok-clause-ok
 returns-in-Ok-clause-ok g c =
@@ -53,18 +51,18 @@ returns-in-Ok-clause-ok g c =
     let l = alphabet_of c.args.constraints.permitted_alphabet in
     let b = c.in_ok-alphabet.ensures.width ∙ ap (λ x. Per.character_bits x (permitted S.kind l)) c.is_aligned.ensures in
     let us = units_in c.in_ok-run.run' in
-    let x = subst (λ w. Front f (sized_units al z any_count w (pads_of Characters w) us) c.args.cursor.now c.read_sized.new.cursor) c.width-width.ensures.bits c.in_ok-run.ensures.ok in
+    let x = subst (λ w. Front f (sized_units al z any_count w (pads_of Characters w) us) c.args.cursor.now c.read_sized.new.cursor) c.width.ensures.bits c.in_ok-run.ensures.ok in
     codes_stand f al S.kind z l c.in_ok-alphabet.alphabet c.in_ok-alphabet.ensures.characters b c.requires.kind g.met.S.StaticPermittedAlphabet.holds us (S.characters c.in-Ok.string) c.args.cursor.now c.read_sized.new.cursor x c.in-Ok.ensures.count c.in-Ok.ensures.codes
 
 pub returns-clause-only : goal.returns-clause-only
-returns-clause-only g c = λ i.
+returns-clause-only g c =
     let S = g.S.StaticPermittedAlphabet in
     let f = freedoms c.args.variant in
     let al = is_aligned c.args.variant in
     let z = sizes_of c.args.constraints.size in
     let l = alphabet_of c.args.constraints.permitted_alphabet in
     let b = c.in_ok-alphabet.ensures.width ∙ ap (λ x. Per.character_bits x (permitted S.kind l)) c.is_aligned.ensures in
-    let o = permitted_orderly S.kind l.extensible l.characters c.requires.kind i in
+    let o = permitted_orderly S.kind l.extensible l.characters c.requires.kind in
     let a = c.in_ok-alphabet.alphabet in
     let us = units_in c.in_ok-run.run' in
     let x = subst (λ w. Front f (sized_units al z any_count w (pads_of Characters w) us) c.args.cursor.now c.read_sized.new.cursor) c.width-width.ensures.bits c.in_ok-run.ensures.ok in
