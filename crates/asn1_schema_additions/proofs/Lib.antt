@@ -4,3 +4,4 @@ pub mod GroupWriting
 pub mod Reading
 pub mod GroupReading
 pub mod Going
+pub mod Failing

@@ -2,12 +2,15 @@
 ghost use Rattle.std.specs.Prelude.{◌≡◌, ◌+◌, true, OnOk, OnErr, IfErr, IfOk};
 ghost use Rattle.asn1_model.specs.Value.{fields, end, same};
 ghost use Rattle.asn1_model.specs.Schema.{required, optional, by_default};
+ghost use Rattle.asn1_schema_constraints.specs.Terms.{meant};
 ghost use Rattle.asn1_schema_presented.specs.Presents.{there};
 ghost use Rattle.asn1_schema_presented.specs.Tables.{marks, sequence_type};
 ghost use Rattle.asn1_schema_presented.specs.Parts.{part_of, part_unless};
 ghost use Rattle.asn1_schema_decode.specs.Reads.{Reads, Unread};
 ghost use Rattle.asn1_schema_presented.specs.Additions.{group_type, group_part};
-ghost use Rattle.asn1_schema_additions.specs.Reads.{ReadsExtension, UnreadExtension, ReadsExtensionDefault, UnreadExtensionDefault, ReadsAddition, UnreadAddition, ReadsAdded, UnreadAdded};
+ghost use Rattle.asn1_schema_additions.specs.Reads.{ReadsExtension, UnreadExtension, ReadsExtensionDefault};
+ghost use Rattle.asn1_schema_additions.specs.Reads.{UnreadExtensionDefault, ReadsAddition, UnreadAddition};
+ghost use Rattle.asn1_schema_additions.specs.Reads.{ReadsAdded, UnreadAdded};
 
 use crate::additions::{
     AddedDefaultedComponent, AddedGroupComponent, AddedOptionalComponent, AddedRequiredComponent,
@@ -26,11 +29,13 @@ use std::marker::PhantomData;
 pub trait DecodeAdditions: AdditionsOf + Drop {
     /// Reads the additions, and the end of the sequence or set.
     fn decode_additions<D: Decoder>(alloc: Global, decoder: &mut D) -> Result<Self, DecodeError>
-        ensures ok { IfOk result (λ x. ReadsAdded D.step Self.additions (D.levels decoder.old) (Self.parts x) decoder.old decoder.new) }
+        ensures ok { IfOk result
+            (λ x. ReadsAdded D.step Self.additions (D.levels decoder.old) (Self.parts x) decoder.old decoder.new) }
         ensures level { OnOk result (D.levels decoder.new ≡ D.levels decoder.old + 1) }
         ensures only { IfErr result (UnreadAdded D.step Self.additions (D.levels decoder.old) decoder.old) }
         ensures failed { OnErr result (D.has_failed decoder.new) }
-        ensures already { D.has_failed decoder.old → result ≡ Err DecodeError.AlreadyFailed };
+        ensures already { D.has_failed decoder.old → result ≡ Err DecodeError.AlreadyFailed }
+        ensures after { result ≡ Err DecodeError.AlreadyFailed → D.has_failed decoder.old };
 }
 
 impl DecodeAdditions for NoMore {
@@ -92,11 +97,14 @@ pub trait DecodeExtension: Decoder {
     ) -> Result<T, DecodeError>
     where
         Self: Sized,
-        ensures ok { IfOk result (λ x. ReadsAddition Self.step required T.schema (Self.levels self.old) (there (T.meaning x)) self.old self.new) }
+        ensures ok { IfOk result
+            (λ x. ReadsAddition Self.step required T.schema (Self.levels self.old) (there (T.meaning x))
+            self.old self.new) }
         ensures level { OnOk result (Self.levels self.new ≡ Self.levels self.old) }
         ensures only { IfErr result (UnreadAddition Self.step required T.schema (Self.levels self.old) self.old) }
         ensures failed { OnErr result (Self.has_failed self.new) }
         ensures already { Self.has_failed self.old → result ≡ Err DecodeError.AlreadyFailed }
+        ensures after { result ≡ Err DecodeError.AlreadyFailed → Self.has_failed self.old }
     {
         let present = self.get_addition()?;
         if !present {
@@ -114,11 +122,14 @@ pub trait DecodeExtension: Decoder {
     ) -> Result<Option<T>, DecodeError>
     where
         Self: Sized,
-        ensures ok { IfOk result (λ x. ReadsAddition Self.step optional T.schema (Self.levels self.old) (part_of T.meaning x) self.old self.new) }
+        ensures ok { IfOk result
+            (λ x. ReadsAddition Self.step optional T.schema (Self.levels self.old) (part_of T.meaning x)
+            self.old self.new) }
         ensures level { OnOk result (Self.levels self.new ≡ Self.levels self.old) }
         ensures only { IfErr result (UnreadAddition Self.step optional T.schema (Self.levels self.old) self.old) }
         ensures failed { OnErr result (Self.has_failed self.new) }
         ensures already { Self.has_failed self.old → result ≡ Err DecodeError.AlreadyFailed }
+        ensures after { result ≡ Err DecodeError.AlreadyFailed → Self.has_failed self.old }
     {
         self.decode_extension_addition_with_tag(alloc, T::TAG)
     }
@@ -131,11 +142,14 @@ pub trait DecodeExtension: Decoder {
     ) -> Result<Option<T>, DecodeError>
     where
         Self: Sized,
-        ensures ok { IfOk result (λ x. ReadsAddition Self.step optional T.schema (Self.levels self.old) (part_of T.meaning x) self.old self.new) }
+        ensures ok { IfOk result
+            (λ x. ReadsAddition Self.step optional T.schema (Self.levels self.old) (part_of T.meaning x)
+            self.old self.new) }
         ensures level { OnOk result (Self.levels self.new ≡ Self.levels self.old) }
         ensures only { IfErr result (UnreadAddition Self.step optional T.schema (Self.levels self.old) self.old) }
         ensures failed { OnErr result (Self.has_failed self.new) }
         ensures already { Self.has_failed self.old → result ≡ Err DecodeError.AlreadyFailed }
+        ensures after { result ≡ Err DecodeError.AlreadyFailed → Self.has_failed self.old }
     {
         let value = self.decode_extension_addition_with_tag_and_constraints(
             alloc,
@@ -153,17 +167,21 @@ pub trait DecodeExtension: Decoder {
     ) -> Result<Option<T>, DecodeError>
     where
         Self: Sized,
-        ensures ok { IfOk result (λ x. ReadsExtension Self.step (T.under constraints.entry) (Self.levels self.old) (part_of T.meaning x) self.old self.new) }
+        ensures ok { IfOk result
+            (λ x. ReadsExtension Self.step (T.under (meant constraints.entry)) (Self.levels self.old)
+            (part_of T.meaning x) self.old self.new) }
         ensures level { OnOk result (Self.levels self.new ≡ Self.levels self.old) }
-        ensures only { IfErr result (UnreadExtension Self.step (T.under constraints.entry) (Self.levels self.old) self.old) }
+        ensures only { IfErr result
+            (UnreadExtension Self.step (T.under (meant constraints.entry)) (Self.levels self.old) self.old) }
         ensures failed { OnErr result (Self.has_failed self.new) }
         ensures already { Self.has_failed self.old → result ≡ Err DecodeError.AlreadyFailed }
+        ensures after { result ≡ Err DecodeError.AlreadyFailed → Self.has_failed self.old }
     {
         self.decode_extension_addition_with_tag_and_constraints(alloc, T::TAG, constraints)
     }
 
-    /// The same with another tag around its own (X.680 31.2.8), which leaves no octet in the packed and the octet encoding
-    /// rules, under these constraints.
+    /// The same with another tag around its own (X.680 31.2.8), which leaves no octet in the packed and the octet
+    /// encoding rules, under these constraints.
     final fn decode_extension_addition_with_explicit_tag_and_constraints<T: Decode>(
         &mut self,
         alloc: Global,
@@ -172,11 +190,15 @@ pub trait DecodeExtension: Decoder {
     ) -> Result<Option<T>, DecodeError>
     where
         Self: Sized,
-        ensures ok { IfOk result (λ x. ReadsExtension Self.step (T.under constraints.entry) (Self.levels self.old) (part_of T.meaning x) self.old self.new) }
+        ensures ok { IfOk result
+            (λ x. ReadsExtension Self.step (T.under (meant constraints.entry)) (Self.levels self.old)
+            (part_of T.meaning x) self.old self.new) }
         ensures level { OnOk result (Self.levels self.new ≡ Self.levels self.old) }
-        ensures only { IfErr result (UnreadExtension Self.step (T.under constraints.entry) (Self.levels self.old) self.old) }
+        ensures only { IfErr result
+            (UnreadExtension Self.step (T.under (meant constraints.entry)) (Self.levels self.old) self.old) }
         ensures failed { OnErr result (Self.has_failed self.new) }
         ensures already { Self.has_failed self.old → result ≡ Err DecodeError.AlreadyFailed }
+        ensures after { result ≡ Err DecodeError.AlreadyFailed → Self.has_failed self.old }
     {
         self.decode_extension_addition_with_constraints(alloc, constraints)
     }
@@ -190,11 +212,15 @@ pub trait DecodeExtension: Decoder {
     ) -> Result<Option<T>, DecodeError>
     where
         Self: Sized,
-        ensures ok { IfOk result (λ x. ReadsExtension Self.step (T.under constraints.entry) (Self.levels self.old) (part_of T.meaning x) self.old self.new) }
+        ensures ok { IfOk result
+            (λ x. ReadsExtension Self.step (T.under (meant constraints.entry)) (Self.levels self.old)
+            (part_of T.meaning x) self.old self.new) }
         ensures level { OnOk result (Self.levels self.new ≡ Self.levels self.old) }
-        ensures only { IfErr result (UnreadExtension Self.step (T.under constraints.entry) (Self.levels self.old) self.old) }
+        ensures only { IfErr result
+            (UnreadExtension Self.step (T.under (meant constraints.entry)) (Self.levels self.old) self.old) }
         ensures failed { OnErr result (Self.has_failed self.new) }
         ensures already { Self.has_failed self.old → result ≡ Err DecodeError.AlreadyFailed }
+        ensures after { result ≡ Err DecodeError.AlreadyFailed → Self.has_failed self.old }
     {
         let present = self.get_addition()?;
         if !present {
@@ -205,20 +231,24 @@ pub trait DecodeExtension: Decoder {
         Ok(Some(value))
     }
 
-    /// An addition with a default, which stands for it where it is absent (X.680 25). One that is there and means what the
-    /// default is has a note behind it, which rules with one encoding refuse (X.691 19.5 and X.696 16 in their canonical
-    /// forms).
+    /// An addition with a default, which stands for it where it is absent (X.680 25). One that is there and means what
+    /// the default is has a note behind it, which rules with one encoding refuse (X.691 19.5 and X.696 16 in their
+    /// canonical forms).
     final fn decode_extension_addition_with_default<V: DefaultOf<T>, T: Decode>(
         &mut self,
         alloc: Global,
     ) -> Result<T, DecodeError>
     where
         Self: Sized,
-        ensures ok { IfOk result (λ x. ReadsAddition Self.step (by_default V.value) T.schema (Self.levels self.old) (part_unless (same (T.meaning x) V.value) (T.meaning x)) self.old self.new) }
+        ensures ok { IfOk result
+            (λ x. ReadsAddition Self.step (by_default V.value) T.schema (Self.levels self.old)
+            (part_unless (same (T.meaning x) V.value) (T.meaning x)) self.old self.new) }
         ensures level { OnOk result (Self.levels self.new ≡ Self.levels self.old) }
-        ensures only { IfErr result (UnreadAddition Self.step (by_default V.value) T.schema (Self.levels self.old) self.old) }
+        ensures only { IfErr result
+            (UnreadAddition Self.step (by_default V.value) T.schema (Self.levels self.old) self.old) }
         ensures failed { OnErr result (Self.has_failed self.new) }
         ensures already { Self.has_failed self.old → result ≡ Err DecodeError.AlreadyFailed }
+        ensures after { result ≡ Err DecodeError.AlreadyFailed → Self.has_failed self.old }
     {
         self.decode_extension_addition_with_default_and_tag::<V, T>(alloc, T::TAG)
     }
@@ -231,11 +261,15 @@ pub trait DecodeExtension: Decoder {
     ) -> Result<T, DecodeError>
     where
         Self: Sized,
-        ensures ok { IfOk result (λ x. ReadsAddition Self.step (by_default V.value) T.schema (Self.levels self.old) (part_unless (same (T.meaning x) V.value) (T.meaning x)) self.old self.new) }
+        ensures ok { IfOk result
+            (λ x. ReadsAddition Self.step (by_default V.value) T.schema (Self.levels self.old)
+            (part_unless (same (T.meaning x) V.value) (T.meaning x)) self.old self.new) }
         ensures level { OnOk result (Self.levels self.new ≡ Self.levels self.old) }
-        ensures only { IfErr result (UnreadAddition Self.step (by_default V.value) T.schema (Self.levels self.old) self.old) }
+        ensures only { IfErr result
+            (UnreadAddition Self.step (by_default V.value) T.schema (Self.levels self.old) self.old) }
         ensures failed { OnErr result (Self.has_failed self.new) }
         ensures already { Self.has_failed self.old → result ≡ Err DecodeError.AlreadyFailed }
+        ensures after { result ≡ Err DecodeError.AlreadyFailed → Self.has_failed self.old }
     {
         let value = self.decode_extension_addition_with_default_and_tag_and_constraints::<V, T>(
             alloc,
@@ -253,11 +287,16 @@ pub trait DecodeExtension: Decoder {
     ) -> Result<T, DecodeError>
     where
         Self: Sized,
-        ensures ok { IfOk result (λ x. ReadsExtensionDefault Self.step (T.under constraints.entry) (Self.levels self.old) V.value (T.meaning x) self.old self.new) }
+        ensures ok { IfOk result
+            (λ x. ReadsExtensionDefault Self.step (T.under (meant constraints.entry)) (Self.levels self.old)
+            V.value (T.meaning x) self.old self.new) }
         ensures level { OnOk result (Self.levels self.new ≡ Self.levels self.old) }
-        ensures only { IfErr result (UnreadExtensionDefault Self.step (T.under constraints.entry) (Self.levels self.old) V.value self.old) }
+        ensures only { IfErr result
+            (UnreadExtensionDefault Self.step (T.under (meant constraints.entry)) (Self.levels self.old) V.value
+            self.old) }
         ensures failed { OnErr result (Self.has_failed self.new) }
         ensures already { Self.has_failed self.old → result ≡ Err DecodeError.AlreadyFailed }
+        ensures after { result ≡ Err DecodeError.AlreadyFailed → Self.has_failed self.old }
     {
         self.decode_extension_addition_with_default_and_tag_and_constraints::<V, T>(
             alloc,
@@ -273,11 +312,16 @@ pub trait DecodeExtension: Decoder {
     >(&mut self, alloc: Global, tag: Tag, constraints: Constraints) -> Result<T, DecodeError>
     where
         Self: Sized,
-        ensures ok { IfOk result (λ x. ReadsExtensionDefault Self.step (T.under constraints.entry) (Self.levels self.old) V.value (T.meaning x) self.old self.new) }
+        ensures ok { IfOk result
+            (λ x. ReadsExtensionDefault Self.step (T.under (meant constraints.entry)) (Self.levels self.old)
+            V.value (T.meaning x) self.old self.new) }
         ensures level { OnOk result (Self.levels self.new ≡ Self.levels self.old) }
-        ensures only { IfErr result (UnreadExtensionDefault Self.step (T.under constraints.entry) (Self.levels self.old) V.value self.old) }
+        ensures only { IfErr result
+            (UnreadExtensionDefault Self.step (T.under (meant constraints.entry)) (Self.levels self.old) V.value
+            self.old) }
         ensures failed { OnErr result (Self.has_failed self.new) }
         ensures already { Self.has_failed self.old → result ≡ Err DecodeError.AlreadyFailed }
+        ensures after { result ≡ Err DecodeError.AlreadyFailed → Self.has_failed self.old }
     {
         let present = self.get_addition()?;
         if !present {
@@ -299,11 +343,14 @@ pub trait DecodeExtension: Decoder {
     final fn decode_group<G: Group>(&mut self, alloc: Global) -> Result<G, DecodeError>
     where
         Self: Sized,
-        ensures ok { IfOk result (λ x. Reads Self.step (group_type G.components) (Self.levels self.old) (fields (G.parts x) end) self.old self.new) }
+        ensures ok { IfOk result
+            (λ x. Reads Self.step (group_type G.components) (Self.levels self.old) (fields (G.parts x) end)
+            self.old self.new) }
         ensures level { OnOk result (Self.levels self.new ≡ Self.levels self.old) }
         ensures only { IfErr result (Unread Self.step (group_type G.components) (Self.levels self.old) self.old) }
         ensures failed { OnErr result (Self.has_failed self.new) }
         ensures already { Self.has_failed self.old → result ≡ Err DecodeError.AlreadyFailed }
+        ensures after { result ≡ Err DecodeError.AlreadyFailed → Self.has_failed self.old }
     {
         let optional = G::fields().number_of_optional_and_default_fields();
         self.begin_group(optional)?;
@@ -311,19 +358,23 @@ pub trait DecodeExtension: Decoder {
         Ok(group)
     }
 
-    /// A group of additions (X.680 25.1). One none of whose components is there is `None`, with a note behind it, which rules
-    /// with one encoding refuse.
+    /// A group of additions (X.680 25.1). One none of whose components is there is `None`, with a note behind it, which
+    /// rules with one encoding refuse.
     final fn decode_extension_addition_group<G: Group>(
         &mut self,
         alloc: Global,
     ) -> Result<Option<G>, DecodeError>
     where
         Self: Sized,
-        ensures ok { IfOk result (λ x. ReadsAddition Self.step optional (group_type G.components) (Self.levels self.old) (group_part G.parts x) self.old self.new) }
+        ensures ok { IfOk result
+            (λ x. ReadsAddition Self.step optional (group_type G.components) (Self.levels self.old)
+            (group_part G.parts x) self.old self.new) }
         ensures level { OnOk result (Self.levels self.new ≡ Self.levels self.old) }
-        ensures only { IfErr result (UnreadAddition Self.step optional (group_type G.components) (Self.levels self.old) self.old) }
+        ensures only { IfErr result
+            (UnreadAddition Self.step optional (group_type G.components) (Self.levels self.old) self.old) }
         ensures failed { OnErr result (Self.has_failed self.new) }
         ensures already { Self.has_failed self.old → result ≡ Err DecodeError.AlreadyFailed }
+        ensures after { result ≡ Err DecodeError.AlreadyFailed → Self.has_failed self.old }
     {
         let present = self.get_addition()?;
         if !present {
@@ -338,7 +389,8 @@ pub trait DecodeExtension: Decoder {
         Ok(Some(group))
     }
 
-    /// SEQUENCE (X.680 25) of these components with a mark of extensibility, of whose root components so many may be absent.
+    /// SEQUENCE (X.680 25) of these components with a mark of extensibility, of whose root components so many may be
+    /// absent.
     final fn decode_extensible_sequence<C: DecodeComponents>(
         &mut self,
         alloc: Global,
@@ -349,11 +401,14 @@ pub trait DecodeExtension: Decoder {
         Self: Sized,
         requires marks { optional ≡ marks C.table.root }
         requires extensible { C.table.extensible ≡ true }
-        ensures ok { IfOk result (λ x. Reads Self.step (sequence_type C.table) (Self.levels self.old) (fields (C.root x) (C.added x)) self.old self.new) }
+        ensures ok { IfOk result
+            (λ x. Reads Self.step (sequence_type C.table) (Self.levels self.old) (fields (C.root x) (C.added x))
+            self.old self.new) }
         ensures level { OnOk result (Self.levels self.new ≡ Self.levels self.old) }
         ensures only { IfErr result (Unread Self.step (sequence_type C.table) (Self.levels self.old) self.old) }
         ensures failed { OnErr result (Self.has_failed self.new) }
         ensures already { Self.has_failed self.old → result ≡ Err DecodeError.AlreadyFailed }
+        ensures after { result ≡ Err DecodeError.AlreadyFailed → Self.has_failed self.old }
     {
         self.begin_sequence(tag, true, optional)?;
         let components = C::decode_components(alloc, self)?;

@@ -69,3 +69,6 @@ takes_same a r b p = p.rules
 
 pub takes_none : (a : Left) (r : Record) (b : Left) → a.failed ≡ true → Takes a r b → ⊥
 takes_none a r b h p = let e : true ≡ false = sym h ∙ p.ready in cc
+
+pub takes_on : (a : Left) (r : Record) (b : Left) → Takes a r b → b.failed ≡ true → ⊥
+takes_on a r b p f = let e : true ≡ false = sym f ∙ p.ready_still in cc

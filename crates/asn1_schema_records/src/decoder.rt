@@ -1,17 +1,31 @@
 //! The decoder that reads kept records.
-ghost use Rattle.std.specs.Prelude.{◌≡◌, ◌+◌, ◌≤◌, ◌<◌, ◌||◌, ◌↔◌, ℕ, [], ◌∷◌, true, false, cond, length, map, string_bytes, IsTrue, MatchBool, OnOk, OnErr, IfErr, IfOk};
+ghost use Rattle.std.specs.Prelude.{◌≡◌, ◌+◌, ◌≤◌, ◌<◌, ◌||◌, ◌↔◌, ℕ, ◌∷◌, true, false, cond, length, map};
+ghost use Rattle.std.specs.Prelude.{string_bytes, IsTrue, MatchBool, OnOk, OnErr, IfErr, IfOk};
 ghost use Rattle.asn1_model.specs.Schema.{utf8};
 ghost use Rattle.asn1_model.specs.Types.{any_count};
 ghost use Rattle.asn1_model.specs.Numbers.{is_within, is_count_within};
 ghost use Rattle.asn1_schema_constraints.specs.Bounds.{counts_of, members_of};
-ghost use Rattle.asn1_schema_constraints.specs.Terms.{bounds_of, held_of, sizes_of, alphabet_of};
+ghost use Rattle.asn1_schema_constraints.specs.Terms.{bounds_of, sizes_of};
 ghost use Rattle.asn1_schema_decode.specs.Reads.{NoRecord, NoLevel};
-ghost use Rattle.asn1_schema_presented.specs.Records.{flag, nil, whole, one_of, bits, octets, characters, identifier as object_identifier, list_begins, bag_begins, further, sequence_begins, set_begins};
-ghost use Rattle.asn1_schema_presented.specs.Records.{group_begins, mark, is_default, is_empty, additions_begin, addition, addition_ends, choice_begins, ends};
-ghost use Rattle.asn1_schema_presented.specs.Records.{asks_flag, asks_nil, asks_whole, asks_one_of, asks_bits, asks_octets, asks_characters, asks_identifier, asks_list, asks_bag, asks_further, asks_sequence};
-ghost use Rattle.asn1_schema_presented.specs.Records.{asks_set, asks_group, asks_mark, asks_default, asks_empty, asks_additions, asks_addition, asks_addition_end, asks_choice, asks_end};
+ghost use Rattle.asn1_schema_types.specs.Told.{whole_under, bits_under, octets_under, characters_under};
+ghost use Rattle.asn1_schema_types.specs.Told.{list_begins_under, bag_begins_under};
+ghost use Rattle.asn1_schema_types.specs.Told.{asks_whole_under, asks_bits_under, asks_octets_under};
+ghost use Rattle.asn1_schema_types.specs.Told.{asks_characters_under, asks_list_under, asks_bag_under};
+ghost use Rattle.asn1_schema_presented.specs.Records.{flag, nil, one_of, bits, octets, characters};
+ghost use Rattle.asn1_schema_presented.specs.Records.{identifier as object_identifier, further, sequence_begins};
+ghost use Rattle.asn1_schema_presented.specs.Records.{set_begins};
+ghost use Rattle.asn1_schema_presented.specs.Records.{group_begins, mark, is_default, is_empty, additions_begin};
+ghost use Rattle.asn1_schema_presented.specs.Records.{addition, addition_ends, choice_begins, ends};
+ghost use Rattle.asn1_schema_presented.specs.Records.{asks_flag, asks_nil, asks_one_of, asks_identifier};
+ghost use Rattle.asn1_schema_presented.specs.Records.{asks_further, asks_sequence};
+ghost use Rattle.asn1_schema_presented.specs.Records.{asks_set, asks_group, asks_mark, asks_default, asks_empty};
+ghost use Rattle.asn1_schema_presented.specs.Records.{asks_additions, asks_addition, asks_addition_end};
+ghost use Rattle.asn1_schema_presented.specs.Records.{asks_choice, asks_end};
 ghost use Rattle.asn1_schema_records.specs.Kept.{record_of, sizes_in};
-ghost use Rattle.asn1_schema_records.specs.Taken.{Takes, Leaves, Begins, Fails, IsSpent, IsDeep, IsRefused, IsRefusedFirst, IsOtherThan, IsOtherKind, IsOtherEnd, IsMisfit, IsMisfitItem, IsMisfitChoice, IsMisfitText, IsMisfitNumber, IsUntaken, IsUnspelled, is_admitted};
+ghost use Rattle.asn1_schema_records.specs.Taken.{Takes, Leaves, Begins, Fails, IsSpent, IsDeep, IsRefused};
+ghost use Rattle.asn1_schema_records.specs.Taken.{IsRefusedFirst, IsOtherThan, IsOtherKind, IsOtherEnd, IsMisfit};
+ghost use Rattle.asn1_schema_records.specs.Taken.{IsMisfitItem, IsMisfitChoice, IsMisfitText, IsMisfitNumber};
+ghost use Rattle.asn1_schema_records.specs.Taken.{IsUntaken, IsUnspelled, is_admitted};
 ghost use Rattle.asn1_schema_records.specs.Taken.{kept_bits, kept_octets, kept_text, kept_list, kept_bag};
 ghost use Rattle.asn1_schema_tags.specs.Tags.{tag_of};
 ghost use Rattle.asn1_values_alphabets.specs.Permitted.{permits_all};
@@ -32,11 +46,12 @@ use std::vec::IntoIter;
 
 /// A decoder that reads kept records, from the first on.
 ///
-/// Refused are, besides what the trait says: `Incomplete` where no record is left; `NotValidCanonicalEncoding` a record of another kind
-/// than the one that is asked for, and the end of what has not begun; `ValueConstraintNotSatisfied` a number under other bounds, or
-/// outside bounds without a mark; `IntegerOverflow` a number that the program's type does not hold; `SizeConstraintNotSatisfied` a
-/// length or count under another size, or one that the type does not hold; `PermittedAlphabet` a character that the type does not
-/// hold; `DiscriminantValueNotFound` the number of no item; `InvalidTagVariantOnChoice` the place of no alternative;
+/// Refused are, besides what the trait says: `Incomplete` where no record is left; `NotValidCanonicalEncoding` a
+/// record of another kind than the one that is asked for, and the end of what has not begun;
+/// `ValueConstraintNotSatisfied` a number under other bounds, or outside bounds without a mark; `IntegerOverflow` a
+/// number that the program's type does not hold; `SizeConstraintNotSatisfied` a length or count under another size,
+/// or one that the type does not hold; `PermittedAlphabet` a character that the type does not hold;
+/// `DiscriminantValueNotFound` the number of no item; `InvalidTagVariantOnChoice` the place of no alternative;
 /// `ExceedsMaxParseDepth` one level more than may be nested.
 #[derive(Drop)]
 pub struct RecordDecoder {
@@ -55,20 +70,38 @@ impl Model for RecordDecoder {
 
     ghost Value = { Left };
 
-    ghost view = { λ d. record { records = map record_of (into_iter_items d.items); levels = d.levels; most = d.most; failed = d.failed; rules = d.kind } };
+    ghost view = { λ d. record {
+      records = map record_of (into_iter_items d.items);
+      levels = d.levels;
+      most = d.most;
+      failed = d.failed;
+      rules = d.kind;
+    } };
 }
 
 impl RecordDecoder {
     /// A decoder of these records within 128 nested levels, which answers that it follows these rules.
     pub fn new(items: Vec<Item>, kind: CodecKind) -> Self
-        ensures { result ≡ record { records = map record_of items.items; levels = 128; most = 128; failed = false; rules = kind } }
+        ensures { result ≡ record {
+          records = map record_of items.items;
+          levels = 128;
+          most = 128;
+          failed = false;
+          rules = kind;
+        } }
     {
         RecordDecoder::with_levels(items, kind, 128)
     }
 
     /// The same within so many nested levels.
     pub fn with_levels(items: Vec<Item>, kind: CodecKind, levels: usize) -> Self
-        ensures { result ≡ record { records = map record_of items.items; levels = levels; most = levels; failed = false; rules = kind } }
+        ensures { result ≡ record {
+          records = map record_of items.items;
+          levels = levels;
+          most = levels;
+          failed = false;
+          rules = kind;
+        } }
     {
         RecordDecoder {
             items: items.into_iter(),
@@ -86,6 +119,7 @@ impl RecordDecoder {
         ensures fails { OnErr result (Fails self.old self.new) }
         ensures failed { OnErr result (self.new.failed ≡ true) }
         ensures already { self.old.failed ≡ true → result ≡ Err DecodeError.AlreadyFailed }
+        ensures after { result ≡ Err DecodeError.AlreadyFailed → self.old.failed ≡ true }
     {
         if self.failed {
             return Err(DecodeError::AlreadyFailed);
@@ -103,6 +137,7 @@ impl RecordDecoder {
         ensures fails { OnErr result (Fails self.old self.new) }
         ensures failed { OnErr result (self.new.failed ≡ true) }
         ensures already { self.old.failed ≡ true → result ≡ Err DecodeError.AlreadyFailed }
+        ensures after { result ≡ Err DecodeError.AlreadyFailed → self.old.failed ≡ true }
     {
         if self.failed {
             return Err(DecodeError::AlreadyFailed);
@@ -121,7 +156,9 @@ impl RecordDecoder {
 
     // Gives a level back, if one is taken.
     fn give_back(&mut self) -> bool
-        ensures { MatchBool result ((self.old.levels < self.old.most) × (self.new ≡ record { records = self.old.records; levels = self.old.levels + 1; most = self.old.most; failed = self.old.failed; rules = self.old.rules })) ((self.old.most ≤ self.old.levels) × (self.new ≡ self.old)) }
+        ensures { MatchBool result
+            ((self.old.levels < self.old.most) × (self.new ≡ record self.old { levels = self.old.levels + 1 }))
+            ((self.old.most ≤ self.old.levels) × (self.new ≡ self.old)) }
     {
         if self.levels < self.most {
             self.levels += 1;
@@ -132,7 +169,8 @@ impl RecordDecoder {
 }
 
 impl Decoder for RecordDecoder {
-    ghost use Rattle.asn1_schema_records.specs.ReadingLaws.{takes_one, takes_held, takes_bag_held, takes_none, takes_same};
+    ghost use Rattle.asn1_schema_records.specs.ReadingLaws.{takes_one, takes_held, takes_bag_held, takes_none};
+    ghost use Rattle.asn1_schema_records.specs.ReadingLaws.{takes_on, takes_same};
 
     type Octets = Vec<u8>;
 
@@ -141,6 +179,8 @@ impl Decoder for RecordDecoder {
     ghost has_failed = { λ d. d.failed ≡ true };
 
     ghost levels = { λ d. d.levels };
+
+    ghost lends = { λ a r b. ⊥ };
 
     ghost rules = { λ d. d.rules };
 
@@ -156,8 +196,10 @@ impl Decoder for RecordDecoder {
         ensures ok { IfOk result (λ x. Takes self.old (flag x) self.new) }
         ensures level { OnOk result (self.new.levels ≡ self.old.levels) }
         ensures only { IfErr result (NoRecord Takes asks_flag self.old) }
+        ensures no_memory { IfErr result (λ e. e ≡ DecodeError.OutOfMemory → ⊥) }
         ensures failed { OnErr result (self.new.failed ≡ true) }
         ensures already { self.old.failed ≡ true → result ≡ Err DecodeError.AlreadyFailed }
+        ensures after { result ≡ Err DecodeError.AlreadyFailed → self.old.failed ≡ true }
         ensures kind { IfErr result (IsRefused self.old (IsOtherKind flag)) }
     {
         let item = self.take_next()?;
@@ -171,8 +213,10 @@ impl Decoder for RecordDecoder {
         ensures ok { OnOk result (Takes self.old nil self.new) }
         ensures level { OnOk result (self.new.levels ≡ self.old.levels) }
         ensures only { IfErr result (NoRecord Takes asks_nil self.old) }
+        ensures no_memory { IfErr result (λ e. e ≡ DecodeError.OutOfMemory → ⊥) }
         ensures failed { OnErr result (self.new.failed ≡ true) }
         ensures already { self.old.failed ≡ true → result ≡ Err DecodeError.AlreadyFailed }
+        ensures after { result ≡ Err DecodeError.AlreadyFailed → self.old.failed ≡ true }
         ensures kind { IfErr result (IsRefused self.old (IsOtherThan nil)) }
     {
         let item = self.take_next()?;
@@ -188,12 +232,14 @@ impl Decoder for RecordDecoder {
         _tag: Tag,
         constraints: Constraints,
     ) -> Result<I, DecodeError>
-        ensures ok { IfOk result (λ x. Takes self.old (whole (bounds_of constraints.entry.value) (held_of constraints.entry.value I.held) (I.value x)) self.new) }
-        ensures within { IfOk result (λ x. ((bounds_of constraints.entry.value).extensible || is_within ((bounds_of constraints.entry.value).range) (I.value x)) ≡ true) }
+        ensures ok { IfOk result (λ x. Takes self.old (whole_under constraints.entry I.held (I.value x)) self.new) }
+        ensures within { IfOk result (λ x. ((bounds_of constraints.entry.value).extensible
+            || is_within ((bounds_of constraints.entry.value).range) (I.value x)) ≡ true) }
         ensures level { OnOk result (self.new.levels ≡ self.old.levels) }
-        ensures only { IfErr result (NoRecord Takes (asks_whole (bounds_of constraints.entry.value) (held_of constraints.entry.value I.held)) self.old) }
+        ensures only { IfErr result (NoRecord Takes (asks_whole_under constraints.entry I.held) self.old) }
         ensures failed { OnErr result (self.new.failed ≡ true) }
         ensures already { self.old.failed ≡ true → result ≡ Err DecodeError.AlreadyFailed }
+        ensures after { result ≡ Err DecodeError.AlreadyFailed → self.old.failed ≡ true }
         ensures kind { IfErr result (IsRefused self.old (IsMisfitNumber constraints.entry.value I.held)) }
     {
         let item = self.take_next()?;
@@ -215,6 +261,7 @@ impl Decoder for RecordDecoder {
         ensures only { IfErr result (NoRecord Takes (asks_one_of T.roots T.extensible T.additions) self.old) }
         ensures failed { OnErr result (self.new.failed ≡ true) }
         ensures already { self.old.failed ≡ true → result ≡ Err DecodeError.AlreadyFailed }
+        ensures after { result ≡ Err DecodeError.AlreadyFailed → self.old.failed ≡ true }
         ensures kind { IfErr result (IsRefused self.old (IsMisfitItem T.roots T.extensible T.additions)) }
     {
         let item = self.take_next()?;
@@ -234,13 +281,15 @@ impl Decoder for RecordDecoder {
         constraints: Constraints,
         held: Bounded<usize>,
     ) -> Result<BitString, DecodeError>
-        ensures ok { IfOk result (λ x. Takes self.old (bits (sizes_of constraints.entry.size) (counts_of held) x) self.new) }
+        ensures ok { IfOk result (λ x. Takes self.old (bits_under constraints.entry held x) self.new) }
         ensures held { IfOk result (λ x. is_count_within (counts_of held) (length x) ≡ true) }
         ensures level { OnOk result (self.new.levels ≡ self.old.levels) }
-        ensures only { IfErr result (NoRecord Takes (asks_bits (sizes_of constraints.entry.size) (counts_of held)) self.old) }
+        ensures only { IfErr result (NoRecord Takes (asks_bits_under constraints.entry held) self.old) }
         ensures failed { OnErr result (self.new.failed ≡ true) }
         ensures already { self.old.failed ≡ true → result ≡ Err DecodeError.AlreadyFailed }
-        ensures kind { IfErr result (IsRefused self.old (IsMisfit kept_bits length (sizes_of constraints.entry.size) (counts_of held))) }
+        ensures after { result ≡ Err DecodeError.AlreadyFailed → self.old.failed ≡ true }
+        ensures kind { IfErr result
+            (IsRefused self.old (IsMisfit kept_bits length (sizes_of constraints.entry.size) (counts_of held))) }
     {
         let item = self.take_next()?;
         let Some((sizes, bits)) = item.into_bits() else {
@@ -259,13 +308,16 @@ impl Decoder for RecordDecoder {
         constraints: Constraints,
         held: Bounded<usize>,
     ) -> Result<Vec<u8>, DecodeError>
-        ensures ok { IfOk result (λ x. Takes self.old (octets (sizes_of constraints.entry.size) (counts_of held) (x.items)) self.new) }
-        ensures held { IfOk result (λ x. is_count_within (counts_of held) (length (x.items)) ≡ true) }
+        ensures ok { IfOk result (λ x. Takes self.old (octets_under constraints.entry held x.items) self.new) }
+        ensures held { IfOk result (λ x. is_count_within (counts_of held) (length x.items) ≡ true) }
+        ensures lent { IfOk result (λ x. ⊥ → ⊥) }
         ensures level { OnOk result (self.new.levels ≡ self.old.levels) }
-        ensures only { IfErr result (NoRecord Takes (asks_octets (sizes_of constraints.entry.size) (counts_of held)) self.old) }
+        ensures only { IfErr result (NoRecord Takes (asks_octets_under constraints.entry held) self.old) }
         ensures failed { OnErr result (self.new.failed ≡ true) }
         ensures already { self.old.failed ≡ true → result ≡ Err DecodeError.AlreadyFailed }
-        ensures kind { IfErr result (IsRefused self.old (IsMisfit kept_octets length (sizes_of constraints.entry.size) (counts_of held))) }
+        ensures after { result ≡ Err DecodeError.AlreadyFailed → self.old.failed ≡ true }
+        ensures kind { IfErr result
+            (IsRefused self.old (IsMisfit kept_octets length (sizes_of constraints.entry.size) (counts_of held))) }
     {
         let item = self.take_next()?;
         let Some((sizes, octets)) = item.into_octets() else {
@@ -283,12 +335,15 @@ impl Decoder for RecordDecoder {
         _tag: Tag,
         constraints: Constraints,
     ) -> Result<String, DecodeError>
-        ensures ok { IfOk result (λ x. Takes self.old (characters utf8 (sizes_of constraints.entry.size) (alphabet_of constraints.entry.permitted_alphabet) any_count (string_bytes x)) self.new) }
+        ensures ok { IfOk result
+            (λ x. Takes self.old (characters_under utf8 constraints.entry (string_bytes x)) self.new) }
         ensures level { OnOk result (self.new.levels ≡ self.old.levels) }
-        ensures only { IfErr result (NoRecord Takes (asks_characters utf8 (sizes_of constraints.entry.size) (alphabet_of constraints.entry.permitted_alphabet) any_count) self.old) }
+        ensures only { IfErr result (NoRecord Takes (asks_characters_under utf8 constraints.entry) self.old) }
         ensures failed { OnErr result (self.new.failed ≡ true) }
         ensures already { self.old.failed ≡ true → result ≡ Err DecodeError.AlreadyFailed }
-        ensures kind { IfErr result (IsRefused self.old (IsMisfit kept_text length (sizes_of constraints.entry.size) any_count)) }
+        ensures after { result ≡ Err DecodeError.AlreadyFailed → self.old.failed ≡ true }
+        ensures kind { IfErr result
+            (IsRefused self.old (IsMisfit kept_text length (sizes_of constraints.entry.size) any_count)) }
     {
         let item = self.take_next()?;
         let Some((sizes, text)) = item.into_text() else {
@@ -306,11 +361,13 @@ impl Decoder for RecordDecoder {
         _tag: Tag,
         constraints: Constraints,
     ) -> Result<S, DecodeError>
-        ensures ok { IfOk result (λ x. Takes self.old (characters S.kind (sizes_of constraints.entry.size) (alphabet_of constraints.entry.permitted_alphabet) any_count (S.characters x)) self.new) }
+        ensures ok { IfOk result
+            (λ x. Takes self.old (characters_under S.kind constraints.entry (S.characters x)) self.new) }
         ensures level { OnOk result (self.new.levels ≡ self.old.levels) }
-        ensures only { IfErr result (NoRecord Takes (asks_characters S.kind (sizes_of constraints.entry.size) (alphabet_of constraints.entry.permitted_alphabet) any_count) self.old) }
+        ensures only { IfErr result (NoRecord Takes (asks_characters_under S.kind constraints.entry) self.old) }
         ensures failed { OnErr result (self.new.failed ≡ true) }
         ensures already { self.old.failed ≡ true → result ≡ Err DecodeError.AlreadyFailed }
+        ensures after { result ≡ Err DecodeError.AlreadyFailed → self.old.failed ≡ true }
         ensures kind { IfErr result (IsRefused self.old (IsMisfitText S.kind (sizes_of constraints.entry.size))) }
     {
         let item = self.take_next()?;
@@ -336,6 +393,7 @@ impl Decoder for RecordDecoder {
         ensures only { IfErr result (NoRecord Takes (asks_identifier) self.old) }
         ensures failed { OnErr result (self.new.failed ≡ true) }
         ensures already { self.old.failed ≡ true → result ≡ Err DecodeError.AlreadyFailed }
+        ensures after { result ≡ Err DecodeError.AlreadyFailed → self.old.failed ≡ true }
         ensures kind { IfErr result (IsRefused self.old (IsOtherKind object_identifier)) }
     {
         let item = self.take_next()?;
@@ -351,12 +409,17 @@ impl Decoder for RecordDecoder {
         constraints: Constraints,
         held: Bounded<usize>,
     ) -> Result<(), DecodeError>
-        ensures ok { OnOk result ((n : ℕ) → is_count_within (members_of held) n ≡ true → Takes self.old (list_begins (sizes_of constraints.entry.size) (members_of held) n) self.new) }
+        ensures ok { OnOk result ((n : ℕ) → is_count_within (members_of held) n ≡ true
+            → Takes self.old (list_begins_under constraints.entry held n) self.new) }
+        ensures begun { OnOk result (self.new.failed ≡ true → ⊥) }
         ensures level { OnOk result (self.old.levels ≡ self.new.levels + 1) }
-        ensures only { IfErr result (NoLevel Takes (asks_list (sizes_of constraints.entry.size) (members_of held)) self.old.levels self.old) }
+        ensures only { IfErr result
+            (NoLevel Takes (asks_list_under constraints.entry held) self.old.levels self.old) }
         ensures failed { OnErr result (self.new.failed ≡ true) }
         ensures already { self.old.failed ≡ true → result ≡ Err DecodeError.AlreadyFailed }
-        ensures kind { IfErr result (IsRefusedFirst self.old (IsMisfit kept_list (λ n. n) (sizes_of constraints.entry.size) (members_of held))) }
+        ensures after { result ≡ Err DecodeError.AlreadyFailed → self.old.failed ≡ true }
+        ensures kind { IfErr result (IsRefusedFirst self.old
+            (IsMisfit kept_list (λ n. n) (sizes_of constraints.entry.size) (members_of held))) }
     {
         let item = self.take_first()?;
         let Some((sizes, count)) = item.into_list() else {
@@ -374,12 +437,17 @@ impl Decoder for RecordDecoder {
         constraints: Constraints,
         held: Bounded<usize>,
     ) -> Result<(), DecodeError>
-        ensures ok { OnOk result ((n : ℕ) → is_count_within (members_of held) n ≡ true → Takes self.old (bag_begins (sizes_of constraints.entry.size) (members_of held) n) self.new) }
+        ensures ok { OnOk result ((n : ℕ) → is_count_within (members_of held) n ≡ true
+            → Takes self.old (bag_begins_under constraints.entry held n) self.new) }
+        ensures begun { OnOk result (self.new.failed ≡ true → ⊥) }
         ensures level { OnOk result (self.old.levels ≡ self.new.levels + 1) }
-        ensures only { IfErr result (NoLevel Takes (asks_bag (sizes_of constraints.entry.size) (members_of held)) self.old.levels self.old) }
+        ensures only { IfErr result
+            (NoLevel Takes (asks_bag_under constraints.entry held) self.old.levels self.old) }
         ensures failed { OnErr result (self.new.failed ≡ true) }
         ensures already { self.old.failed ≡ true → result ≡ Err DecodeError.AlreadyFailed }
-        ensures kind { IfErr result (IsRefusedFirst self.old (IsMisfit kept_bag (λ n. n) (sizes_of constraints.entry.size) (members_of held))) }
+        ensures after { result ≡ Err DecodeError.AlreadyFailed → self.old.failed ≡ true }
+        ensures kind { IfErr result (IsRefusedFirst self.old
+            (IsMisfit kept_bag (λ n. n) (sizes_of constraints.entry.size) (members_of held))) }
     {
         let item = self.take_first()?;
         let Some((sizes, count)) = item.into_bag() else {
@@ -397,6 +465,7 @@ impl Decoder for RecordDecoder {
         ensures only { IfErr result (NoRecord Takes asks_further self.old) }
         ensures failed { OnErr result (self.new.failed ≡ true) }
         ensures already { self.old.failed ≡ true → result ≡ Err DecodeError.AlreadyFailed }
+        ensures after { result ≡ Err DecodeError.AlreadyFailed → self.old.failed ≡ true }
         ensures kind { IfErr result (IsRefused self.old (IsOtherKind further)) }
     {
         let item = self.take_next()?;
@@ -417,6 +486,7 @@ impl Decoder for RecordDecoder {
         ensures only { IfErr result (NoLevel Takes (asks_sequence extensible optional) self.old.levels self.old) }
         ensures failed { OnErr result (self.new.failed ≡ true) }
         ensures already { self.old.failed ≡ true → result ≡ Err DecodeError.AlreadyFailed }
+        ensures after { result ≡ Err DecodeError.AlreadyFailed → self.old.failed ≡ true }
         ensures kind { IfErr result (IsRefusedFirst self.old (IsOtherThan (sequence_begins extensible optional))) }
     {
         let item = self.take_first()?;
@@ -432,6 +502,7 @@ impl Decoder for RecordDecoder {
         ensures only { IfErr result (NoLevel Takes (asks_set extensible optional) self.old.levels self.old) }
         ensures failed { OnErr result (self.new.failed ≡ true) }
         ensures already { self.old.failed ≡ true → result ≡ Err DecodeError.AlreadyFailed }
+        ensures after { result ≡ Err DecodeError.AlreadyFailed → self.old.failed ≡ true }
         ensures kind { IfErr result (IsRefusedFirst self.old (IsOtherThan (set_begins extensible optional))) }
     {
         let item = self.take_first()?;
@@ -447,6 +518,7 @@ impl Decoder for RecordDecoder {
         ensures only { IfErr result (NoLevel Takes (asks_group optional) self.old.levels self.old) }
         ensures failed { OnErr result (self.new.failed ≡ true) }
         ensures already { self.old.failed ≡ true → result ≡ Err DecodeError.AlreadyFailed }
+        ensures after { result ≡ Err DecodeError.AlreadyFailed → self.old.failed ≡ true }
         ensures kind { IfErr result (IsRefusedFirst self.old (IsOtherThan (group_begins optional))) }
     {
         let item = self.take_first()?;
@@ -462,6 +534,7 @@ impl Decoder for RecordDecoder {
         ensures only { IfErr result (NoRecord Takes asks_mark self.old) }
         ensures failed { OnErr result (self.new.failed ≡ true) }
         ensures already { self.old.failed ≡ true → result ≡ Err DecodeError.AlreadyFailed }
+        ensures after { result ≡ Err DecodeError.AlreadyFailed → self.old.failed ≡ true }
         ensures kind { IfErr result (IsRefused self.old (IsOtherKind mark)) }
     {
         let item = self.take_next()?;
@@ -477,6 +550,7 @@ impl Decoder for RecordDecoder {
         ensures only { IfErr result (NoRecord Takes asks_default self.old) }
         ensures failed { OnErr result (self.new.failed ≡ true) }
         ensures already { self.old.failed ≡ true → result ≡ Err DecodeError.AlreadyFailed }
+        ensures after { result ≡ Err DecodeError.AlreadyFailed → self.old.failed ≡ true }
         ensures kind { IfErr result (IsRefused self.old (IsOtherThan is_default)) }
     {
         let item = self.take_next()?;
@@ -492,6 +566,7 @@ impl Decoder for RecordDecoder {
         ensures only { IfErr result (NoRecord Takes asks_empty self.old) }
         ensures failed { OnErr result (self.new.failed ≡ true) }
         ensures already { self.old.failed ≡ true → result ≡ Err DecodeError.AlreadyFailed }
+        ensures after { result ≡ Err DecodeError.AlreadyFailed → self.old.failed ≡ true }
         ensures kind { IfErr result (IsRefused self.old (IsOtherThan is_empty)) }
     {
         let item = self.take_next()?;
@@ -507,6 +582,7 @@ impl Decoder for RecordDecoder {
         ensures only { IfErr result (NoRecord Takes (asks_additions count) self.old) }
         ensures failed { OnErr result (self.new.failed ≡ true) }
         ensures already { self.old.failed ≡ true → result ≡ Err DecodeError.AlreadyFailed }
+        ensures after { result ≡ Err DecodeError.AlreadyFailed → self.old.failed ≡ true }
         ensures kind { IfErr result (IsRefused self.old (IsOtherThan (additions_begin count))) }
     {
         let item = self.take_next()?;
@@ -522,6 +598,7 @@ impl Decoder for RecordDecoder {
         ensures only { IfErr result (NoRecord Takes asks_addition self.old) }
         ensures failed { OnErr result (self.new.failed ≡ true) }
         ensures already { self.old.failed ≡ true → result ≡ Err DecodeError.AlreadyFailed }
+        ensures after { result ≡ Err DecodeError.AlreadyFailed → self.old.failed ≡ true }
         ensures kind { IfErr result (IsRefused self.old (IsOtherKind addition)) }
     {
         let item = self.take_next()?;
@@ -537,6 +614,7 @@ impl Decoder for RecordDecoder {
         ensures only { IfErr result (NoRecord Takes asks_addition_end self.old) }
         ensures failed { OnErr result (self.new.failed ≡ true) }
         ensures already { self.old.failed ≡ true → result ≡ Err DecodeError.AlreadyFailed }
+        ensures after { result ≡ Err DecodeError.AlreadyFailed → self.old.failed ≡ true }
         ensures kind { IfErr result (IsRefused self.old (IsOtherThan addition_ends)) }
     {
         let item = self.take_next()?;
@@ -553,13 +631,19 @@ impl Decoder for RecordDecoder {
         extensible: bool,
         additions: &[Tag],
     ) -> Result<Chosen, DecodeError>
-        ensures ok { IfOk result (λ x. Takes self.old (choice_begins (map tag_of roots.now) extensible (map tag_of additions.now) x.added x.place) self.new) }
-        ensures within { IfOk result (λ x. x.place < length (cond x.added (map tag_of additions.now) (map tag_of roots.now))) }
+        ensures ok { IfOk result (λ x. Takes self.old
+            (choice_begins (map tag_of roots.now) extensible (map tag_of additions.now) x.added x.place) self.new) }
+        ensures within { IfOk result
+            (λ x. x.place < length (cond x.added (map tag_of additions.now) (map tag_of roots.now))) }
         ensures level { OnOk result (self.old.levels ≡ self.new.levels + 1) }
-        ensures only { IfErr result (NoLevel Takes (asks_choice (map tag_of roots.now) extensible (map tag_of additions.now)) self.old.levels self.old) }
+        ensures only { IfErr result
+            (NoLevel Takes (asks_choice (map tag_of roots.now) extensible (map tag_of additions.now))
+            self.old.levels self.old) }
         ensures failed { OnErr result (self.new.failed ≡ true) }
         ensures already { self.old.failed ≡ true → result ≡ Err DecodeError.AlreadyFailed }
-        ensures kind { IfErr result (IsRefusedFirst self.old (IsMisfitChoice (map tag_of roots.now) extensible (map tag_of additions.now))) }
+        ensures after { result ≡ Err DecodeError.AlreadyFailed → self.old.failed ≡ true }
+        ensures kind { IfErr result (IsRefusedFirst self.old
+            (IsMisfitChoice (map tag_of roots.now) extensible (map tag_of additions.now))) }
     {
         let item = self.take_first()?;
         let Some(chosen) = item.into_choice(extensible) else {
@@ -577,6 +661,7 @@ impl Decoder for RecordDecoder {
         ensures only { IfErr result (NoRecord Takes asks_end self.old) }
         ensures failed { OnErr result (self.new.failed ≡ true) }
         ensures already { self.old.failed ≡ true → result ≡ Err DecodeError.AlreadyFailed }
+        ensures after { result ≡ Err DecodeError.AlreadyFailed → self.old.failed ≡ true }
         ensures kind { IfErr result (IsRefused self.old (IsOtherEnd self.old)) }
     {
         let item = self.take_next()?;
@@ -604,6 +689,8 @@ impl Decoder for RecordDecoder {
 
     ghost bag_held = { takes_bag_held };
 
+    ghost goes_on = { takes_on };
+
     ghost none_after = { takes_none };
 
     ghost same_rules = { takes_same };
@@ -611,14 +698,16 @@ impl Decoder for RecordDecoder {
 
 // Whether the constraints have just these sizes, and the program's type holds so many.
 fn are_sizes(sizes: Sizes, constraints: Constraints, held: Bounded<usize>, count: usize) -> bool
-    ensures { IsTrue result ↔ ((sizes_in sizes ≡ sizes_of constraints.entry.size) × (is_count_within (counts_of held) count ≡ true)) }
+    ensures { IsTrue result ↔ ((sizes_in sizes ≡ sizes_of constraints.entry.size)
+        × (is_count_within (counts_of held) count ≡ true)) }
 {
     sizes.are_among(constraints) && held.contains(&count)
 }
 
 // Whether a choice of these alternatives has this one.
 fn is_alternative(roots: &[Tag], additions: &[Tag], chosen: Chosen) -> bool
-    ensures { IsTrue result ↔ (chosen.place < length (cond chosen.added (map tag_of additions.now) (map tag_of roots.now))) }
+    ensures { IsTrue result
+        ↔ (chosen.place < length (cond chosen.added (map tag_of additions.now) (map tag_of roots.now))) }
 {
     let count = if chosen.added {
         additions.len()

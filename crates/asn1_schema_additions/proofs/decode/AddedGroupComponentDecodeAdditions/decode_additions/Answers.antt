@@ -1,5 +1,8 @@
 use Rattle.asn1_schema_presented.proofs.Joined.{raised}
 use Rattle.asn1_schema_additions.proofs.Reading.{reads_more, unread_more, unread_more_here}
+use Rattle.asn1_schema_additions.proofs.Failing.{failed_addition}
+use Rattle.asn1_schema_decode.proofs.Failing.{passed_on}
+use Rattle.std.proofs.Common.{ap, Err}
 use Rattle.asn1_schema_additions.proofs.decode.AddedGroupComponentDecodeAdditions.decode_additions.Goals as goal
 
 pub returns-in_err-value-clause-only : goal.returns-in_err-value-clause-only
@@ -10,3 +13,6 @@ returns-in_err-rest-clause-only g c = let one = g.met.D.Decoder.one_record in ra
 
 pub returns-clause-ok : goal.returns-clause-ok
 returns-clause-ok g c = reads_more _ c.in_ok-value.ensures.ok (rw c.in_ok-value.ensures.level at c.in_ok-rest.ensures.ok)
+
+pub returns-in_err-rest-clause-after : goal.returns-in_err-rest-clause-after
+returns-in_err-rest-clause-after g c = passed_on _ c.from_residual-in_err-rest.ensures.1 (λ h. failed_addition g.met.D.Decoder.goes_on c.in_ok-value.ensures.ok (c.in_err-rest.ensures.after (ap (λ z. Err z) h)))

@@ -1,7 +1,8 @@
-use Rattle.std.proofs.Common.{sym, ◌∙◌}
+use Rattle.std.proofs.Common.{sym, ◌∙◌, ap, Err}
 use Rattle.asn1_schema_presented.proofs.Joined.{raised}
 use Rattle.asn1_schema_additions.specs.Reads.{omitted, spelled_out, other_value}
 use Rattle.asn1_schema_additions.proofs.Reading.{reads_enclosed, unread_extension_default_here, unread_extension_default, unread_extension_default_end, unread_extension_noted}
+use Rattle.asn1_schema_decode.proofs.Failing.{passed_on, failed_reads}
 use Rattle.asn1_schema_additions.proofs.decode.DecodeExtension.decode_extension_addition_with_default_and_tag_and_constraints.Goals as goal
 use Rattle.asn1_schema_additions.proofs.decode.DecodeExtension.decode_extension_addition_with_default_and_tag_and_constraints.Goals.{then-is_default+in_ok-note_default, else-is_default}
 
@@ -29,3 +30,8 @@ returns-clause-ok g c =
       | then-is_default+in_ok-note_default w ↦ rw w.self-is (spelled_out (sym c.is_default-is_default.ensures ∙ w.if-is_default.true) _ read w.in_ok-note_default.ensures.ok)
       | else-is_default w ↦ rw w.self-is (other_value (sym c.is_default-is_default.ensures ∙ w.if-is_default.false) read)
     ]
+
+pub returns-in_err-end_addition-clause-after : goal.returns-in_err-end_addition-clause-after
+returns-in_err-end_addition-clause-after g c =
+    let law = g.met.Self.Decoder.goes_on in
+    passed_on _ c.from_residual-in_err-end_addition.ensures.1 (λ h. absurd (law _ _ _ c.in_ok-present.ensures.ok (failed_reads law c.in_ok-value.ensures.ok (c.in_err-end_addition.ensures.after (ap (λ z. Err z) h)))))
