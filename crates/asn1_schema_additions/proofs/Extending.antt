@@ -1,8 +1,8 @@
 -- How the records of additions are put together, for what writes and what reads them.
-use Rattle.std.proofs.Common.{◌≡◌, ℕ, zero, suc, Bool, true, false, List, [], ◌∷◌, ◌++◌, refl, subst, sym, ◌∙◌, ap}
+use Rattle.std.proofs.Common.{◌≡◌, ℕ, suc, true, List, [], ◌∷◌, ◌++◌, refl, ap}
 use Rattle.asn1_model.specs.Value.{Value, Parts, end}
 use Rattle.asn1_model.specs.Schema.{Tag, Presence, Schema}
-use Rattle.asn1_schema_presented.specs.Records.{Record, addition, addition_ends, ends}
+use Rattle.asn1_schema_presented.specs.Records.{addition, addition_ends, ends}
 use Rattle.asn1_schema_presented.specs.Presents.{Part, left_out, there, with_part, presents, noted, component_count, root_records, addition_records, added_records, Fits, PartFits, PartsFit}
 use Rattle.asn1_schema_presented.specs.Tables.{Fields, no_field, field, Table, components_at}
 use Rattle.asn1_schema_presented.specs.Parts.{tail_records, TailFits}

@@ -1,13 +1,13 @@
 -- How groups of additions that a decoder finds are put together.
-use Rattle.std.proofs.Common.{◌≡◌, ℕ, ◌+◌, ◌<◌, zero, suc, Bool, true, false, List, [], ◌∷◌, ◌++◌, refl, subst, sym, ◌∙◌, ap, arith}
+use Rattle.std.proofs.Common.{◌≡◌, ℕ, ◌+◌, ◌<◌, zero, suc, true, false, [], ◌∷◌, refl, subst, sym, ◌∙◌, ap, arith}
 use Rattle.asn1_model.specs.Value.{Value, fields, Parts, end, absent, present, are_absent}
-use Rattle.asn1_model.specs.Schema.{Tag, optional, Schema, group, Components}
-use Rattle.asn1_model.specs.Normal.{normal, normal_parts, is_group_left_out, is_empty_group}
+use Rattle.asn1_model.specs.Schema.{optional, group, Components}
+use Rattle.asn1_model.specs.Normal.{normal, is_group_left_out, is_empty_group}
 use Rattle.asn1_schema_faults.specs.declared.DecodeError.{DecodeError}
 use Rattle.asn1_schema_presented.specs.Records.{Record, group_begins, is_empty, addition, addition_ends, ends, asks_group, asks_empty}
-use Rattle.asn1_schema_presented.specs.Presents.{left_out, there, presents, optional_count, root_records, Fits, PartsFit}
+use Rattle.asn1_schema_presented.specs.Presents.{left_out, presents, optional_count, root_records, Fits, PartsFit}
 use Rattle.asn1_schema_presented.specs.Tables.{Fields, Table, components_at, marks, scope}
-use Rattle.asn1_schema_presented.specs.Parts.{part_unless, tail_records, TailFits}
+use Rattle.asn1_schema_presented.specs.Parts.{part_unless}
 use Rattle.asn1_schema_presented.specs.Chains.{Chain, OneRecord}
 use Rattle.asn1_schema_presented.proofs.Joined.{marks_at}
 use Rattle.asn1_schema_decode.specs.Reads.{NoRecord, NoLevel, Reads, Unread, ReadsTail, UnreadTail}
@@ -15,7 +15,7 @@ use Rattle.asn1_schema_presented.specs.Additions.{group_type, IsGroup}
 use Rattle.asn1_schema_presented.proofs.Groups.{no_part}
 use Rattle.asn1_schema_additions.specs.Reads.{ReadsEnclosed, ReadsAddition, UnreadAddition}
 use Rattle.asn1_schema_additions.proofs.Extending.{group_tail, group_fits}
-use Rattle.asn1_schema_additions.proofs.Reading.{reads_addition, reads_empty, reads_enclosed, unread_empty}
+use Rattle.asn1_schema_additions.proofs.Reading.{reads_addition, reads_empty, unread_empty}
 
 -- the records of a group, and what they are made of
 of_group : {S : Type 0} (step : S → Record → S → Type 0) (cs : Components) (v : Value) (a c : S) → Fits (group cs) v → Chain step (presents (group cs) v) a c → (ps : Parts) × (b : S) × PartsFit cs ps × step a (group_begins (optional_count cs)) b × Chain step (root_records cs ps (ends ∷ [])) b c

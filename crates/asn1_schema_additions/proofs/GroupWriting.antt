@@ -1,13 +1,13 @@
 -- How groups of additions that an encoder takes are put together.
-use Rattle.std.proofs.Common.{◌≡◌, ℕ, zero, suc, Bool, true, false, List, [], ◌∷◌, ◌++◌, refl, subst, sym, ◌∙◌, ap}
-use Rattle.asn1_model.specs.Value.{Value, fields, Parts, end, are_absent}
-use Rattle.asn1_model.specs.Schema.{Tag, optional, Schema, group}
-use Rattle.asn1_model.specs.Normal.{normal, is_group_left_out}
+use Rattle.std.proofs.Common.{◌≡◌, ℕ, zero, suc, Bool, true, false, [], ◌∷◌, refl, subst, sym, ◌∙◌}
+use Rattle.asn1_model.specs.Value.{Value, fields, Parts, end}
+use Rattle.asn1_model.specs.Schema.{optional, Schema, group}
+use Rattle.asn1_model.specs.Normal.{is_group_left_out}
 use Rattle.asn1_schema_faults.specs.declared.EncodeError.{EncodeError}
 use Rattle.asn1_schema_presented.specs.Records.{Record, group_begins, ends}
-use Rattle.asn1_schema_presented.specs.Presents.{left_out, there, presents, optional_count, noted, root_records, added_records, Fits, PartFits, PartsFit}
-use Rattle.asn1_schema_presented.specs.Tables.{Fields, Table, components_at, marks, scope}
-use Rattle.asn1_schema_presented.specs.Parts.{normal_part, part_unless, tail_records, TailFits}
+use Rattle.asn1_schema_presented.specs.Presents.{left_out, there, presents, noted, root_records, Fits}
+use Rattle.asn1_schema_presented.specs.Tables.{Table, components_at, marks, scope}
+use Rattle.asn1_schema_presented.specs.Parts.{normal_part, part_unless}
 use Rattle.asn1_schema_presented.specs.Typed.{IsPart}
 use Rattle.asn1_schema_presented.specs.Chains.{Chain, OneAfter}
 use Rattle.asn1_schema_presented.proofs.Joined.{marks_at}

@@ -1,5 +1,5 @@
 -- How the additions that a decoder finds are put together.
-use Rattle.std.proofs.Common.{◌≡◌, ℕ, ◌+◌, ◌<◌, zero, suc, Bool, true, false, List, [], ◌∷◌, ◌++◌, refl, subst, sym, ◌∙◌, ap, arith}
+use Rattle.std.proofs.Common.{◌≡◌, ℕ, Bool, true, false, List, [], ◌∷◌, refl, subst, sym, ◌∙◌, ap}
 use Rattle.asn1_model.specs.Value.{Value, Parts, end, absent, present, same}
 use Rattle.asn1_model.specs.Schema.{Tag, Presence, required, optional, by_default, Schema}
 use Rattle.asn1_model.specs.Normal.{normal, normal_parts, is_at_default, is_group_left_out}
@@ -8,8 +8,8 @@ use Rattle.asn1_schema_faults.specs.declared.DecodeError.{DecodeError}
 use Rattle.asn1_schema_faults.specs.declared.DecodeError.TheVariants.{OutOfMemory}
 use Rattle.asn1_schema_presented.specs.Records.{Record, is_default, is_empty, additions_begin, addition, addition_ends, ends, asks_additions, asks_addition, asks_addition_end, asks_default, asks_empty, asks_end}
 use Rattle.asn1_schema_presented.specs.Presents.{Part, left_out, there, with_part, presents, noted, component_count, root_records, addition_records, added_records, Fits, PartFits, PartsFit}
-use Rattle.asn1_schema_presented.specs.Tables.{Fields, no_field, field, Table, components_at, IsType, IsValue}
-use Rattle.asn1_schema_presented.specs.Parts.{normal_part, part_unless}
+use Rattle.asn1_schema_presented.specs.Tables.{Fields, no_field, field, components_at, IsType, IsValue}
+use Rattle.asn1_schema_presented.specs.Parts.{part_unless}
 use Rattle.asn1_schema_presented.specs.Chains.{Chain, OneAfter, OneRecord}
 use Rattle.asn1_schema_presented.proofs.Chains.{chain_append, chain_split, chain_one}
 use Rattle.asn1_schema_presented.proofs.OneValue.{one_value}
@@ -20,7 +20,7 @@ use Rattle.asn1_schema_decode.specs.Reads.{NoRecord, Reads, Unread, ReadsTail, U
 use Rattle.asn1_schema_decode.proofs.Reading.{reads_as}
 use Rattle.asn1_schema_presented.specs.Additions.{addition_count, marked_table}
 use Rattle.asn1_schema_additions.specs.Reads.{ReadsEnclosed, ReadsExtension, UnreadExtension, ReadsExtensionDefault, omitted, spelled_out, other_value, UnreadExtensionDefault, ReadsAddition, UnreadAddition, ReadsAdded, UnreadAdded}
-use Rattle.asn1_schema_additions.proofs.Extending.{count_at, enclosed_records, more_records, more_fit}
+use Rattle.asn1_schema_additions.proofs.Extending.{count_at, enclosed_records, more_records}
 
 -- the end of additions, and their beginning, in front
 not_at_end : {S : Type 0} (step : S → Record → S → Type 0) (n : ℕ) (qs : Parts) (a b : S) → PartsFit (components_at n no_field) qs → Chain step (added_records (components_at n no_field) qs) a b → (c : S) × step a ends c

@@ -1,20 +1,20 @@
 -- How the additions that an encoder takes are put together.
-use Rattle.std.proofs.Common.{◌≡◌, ℕ, zero, suc, Bool, true, false, cond, List, [], ◌∷◌, ◌++◌, refl, subst, sym, ◌∙◌, ap}
-use Rattle.asn1_model.specs.Value.{Value, fields, Parts, end, same}
-use Rattle.asn1_model.specs.Schema.{Tag, Presence, required, optional, by_default, Schema, group}
+use Rattle.std.proofs.Common.{◌≡◌, ℕ, true, false, List, [], ◌∷◌, refl, subst, sym, ◌∙◌}
+use Rattle.asn1_model.specs.Value.{Value, Parts, end, same}
+use Rattle.asn1_model.specs.Schema.{Tag, Presence, by_default, Schema}
 use Rattle.asn1_model.specs.Normal.{normal, is_at_default}
 use Rattle.asn1_model.specs.Tables.{is_required}
 use Rattle.asn1_schema_faults.specs.declared.EncodeError.{EncodeError}
-use Rattle.asn1_schema_presented.specs.Records.{Record, group_begins, additions_begin, addition, addition_ends, ends}
-use Rattle.asn1_schema_presented.specs.Presents.{Part, left_out, there, with_part, presents, noted, component_count, root_records, addition_records, added_records, Fits, PartFits, PartsFit}
-use Rattle.asn1_schema_presented.specs.Tables.{Fields, no_field, field, Table, components_at, marks, scope, IsType, IsValue}
+use Rattle.asn1_schema_presented.specs.Records.{Record, additions_begin, addition, addition_ends, ends}
+use Rattle.asn1_schema_presented.specs.Presents.{Part, left_out, there, with_part, presents, noted, root_records, addition_records, added_records, Fits}
+use Rattle.asn1_schema_presented.specs.Tables.{Fields, no_field, field, components_at, IsType, IsValue}
 use Rattle.asn1_schema_presented.specs.Parts.{part_unless}
 use Rattle.asn1_schema_presented.specs.Chains.{Chain, OneAfter}
 use Rattle.asn1_schema_presented.proofs.Chains.{chain_append, chain_split, chain_one, chain_rest}
 use Rattle.asn1_schema_presented.proofs.Values.{not_empty}
-use Rattle.asn1_schema_presented.proofs.Joined.{marks_at, nothing_noted}
+use Rattle.asn1_schema_presented.proofs.Joined.{nothing_noted}
 use Rattle.asn1_schema_encode.specs.Writes.{Refused, Writes, CannotWrite, WritesTail, CannotWriteTail}
-use Rattle.asn1_schema_presented.specs.Additions.{addition_count, marked_table, group_type}
+use Rattle.asn1_schema_presented.specs.Additions.{addition_count, marked_table}
 use Rattle.asn1_schema_additions.specs.Writes.{WritesEnclosed, CannotWriteEnclosed, WritesAddition, CannotWriteAddition, WritesAdded, CannotWriteAdded}
 use Rattle.asn1_schema_additions.proofs.Extending.{count_at, enclosed_records, more_records, more_fit}
 

@@ -1,5 +1,5 @@
 -- How the states of a decoder go by additions (X.680 25).
-use Rattle.std.specs.Prelude.{◌≡◌, ℕ, Bool, true, false}
+use Rattle.std.specs.Prelude.{◌≡◌, ℕ, true, false}
 use Rattle.asn1_model.specs.Value.{Value, Parts, same}
 use Rattle.asn1_model.specs.Schema.{Presence, Schema}
 use Rattle.asn1_model.specs.Normal.{normal_parts}

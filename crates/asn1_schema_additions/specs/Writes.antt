@@ -1,5 +1,5 @@
 -- How the states of an encoder go by additions (X.680 25).
-use Rattle.std.specs.Prelude.{◌≡◌, ℕ, Bool, true, false}
+use Rattle.std.specs.Prelude.{◌≡◌, ℕ, true}
 use Rattle.asn1_model.specs.Value.{Value, Parts}
 use Rattle.asn1_model.specs.Schema.{Presence, Schema}
 use Rattle.asn1_schema_faults.specs.declared.EncodeError.{EncodeError}

@@ -123,6 +123,7 @@ fn read_branches<D: Decoder>(alloc: Global, decoder: &mut D) -> Result<Vec<Tree>
     ensures level { OnOk result (D.levels decoder.new ≡ D.levels decoder.old) }
     ensures only { IfErr result (Unread D.step branches_schema (D.levels decoder.old) decoder.old) }
     ensures failed { OnErr result (D.has_failed decoder.new) }
+    ensures after { result ≡ Err DecodeError.AlreadyFailed → D.has_failed decoder.old }
 {
     decoder.begin_list(Tag::SEQUENCE, Constraints::NONE, Bounded::None)?;
     let mut branches = Vec::new(alloc);

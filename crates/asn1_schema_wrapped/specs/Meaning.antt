@@ -1,7 +1,7 @@
 -- Bags are equal exactly if what they mean is.
-use Rattle.std.proofs.Common.{◌≡◌, ◌+◌, ℕ, suc, Bool, true, false, cond, List, [], ◌∷◌, length, Option, Some, None, option_map, refl, sym, ap, ◌∙◌, arith}
+use Rattle.std.proofs.Common.{◌≡◌, ℕ, suc, Bool, true, false, cond, List, [], ◌∷◌, length, Option, Some, None, option_map, refl, sym, ap, ◌∙◌, arith}
 use Rattle.std.specs.Cmp.{IsPartialEquivalence, per_alike}
-use Rattle.asn1_model.specs.Value.{Value, bag, Values, no_more, member, same, same_bag, taken_out, with_rest}
+use Rattle.asn1_model.specs.Value.{Value, bag, member, same, same_bag, taken_out, with_rest}
 use Rattle.asn1_schema_presented.specs.Parts.{values_of}
 use Rattle.asn1_schema_presented.proofs.Same.{same_self}
 use Rattle.asn1_schema_wrapped.specs.Equality.{times, same_items, same_length, all_alike, same_by_counts}

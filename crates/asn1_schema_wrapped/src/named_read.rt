@@ -2,9 +2,9 @@
 ghost use Rattle.std.specs.Prelude.{◌≡◌, OnOk, OnErr, IfOk, IfErr};
 ghost use Rattle.asn1_model.specs.Schema.{visible, ia5, printable, numeric, general, graphic, teletex, bmp};
 ghost use Rattle.asn1_model.specs.Types.{any_count, any_size};
-ghost use Rattle.asn1_schema_constraints.specs.Terms.{sizes_of, alphabet_of};
+ghost use Rattle.asn1_schema_types.specs.Told.{characters_under, asks_characters_under};
 ghost use Rattle.asn1_schema_decode.specs.Reads.{NoRecord, Reads, Unread};
-ghost use Rattle.asn1_schema_presented.specs.Records.{octets, characters, asks_octets, asks_characters};
+ghost use Rattle.asn1_schema_presented.specs.Records.{octets, asks_octets};
 
 use crate::Any;
 use asn1_schema_constraints::{Bounded, Constraints};
@@ -29,6 +29,7 @@ pub trait DecodeNamed: Decoder {
         ensures only { IfErr result (NoRecord Self.step (asks_octets any_size any_count) self.old) }
         ensures failed { OnErr result (Self.has_failed self.new) }
         ensures already { Self.has_failed self.old → result ≡ Err DecodeError.AlreadyFailed }
+        ensures after { result ≡ Err DecodeError.AlreadyFailed → Self.has_failed self.old }
     {
         let octets = self.decode_octet_string(alloc, tag, Constraints::NONE, Bounded::None)?;
         let Ok(owned) = octets.into_vec(alloc) else {
@@ -37,8 +38,8 @@ pub trait DecodeNamed: Decoder {
         Ok(Any::new(owned))
     }
 
-    /// A value with another tag around its own (X.680 31.2.8), which leaves no octet in the packed and the octet encoding
-    /// rules. After an error the decoder has failed.
+    /// A value with another tag around its own (X.680 31.2.8), which leaves no octet in the packed and the octet
+    /// encoding rules. After an error the decoder has failed.
     final fn decode_explicit_prefix<T: Decode>(
         &mut self,
         alloc: Global,
@@ -46,11 +47,13 @@ pub trait DecodeNamed: Decoder {
     ) -> Result<T, DecodeError>
     where
         Self: Sized,
-        ensures ok { IfOk result (λ x. Reads Self.step T.schema (Self.levels self.old) (T.meaning x) self.old self.new) }
+        ensures ok { IfOk result
+            (λ x. Reads Self.step T.schema (Self.levels self.old) (T.meaning x) self.old self.new) }
         ensures level { OnOk result (Self.levels self.new ≡ Self.levels self.old) }
         ensures only { IfErr result (Unread Self.step T.schema (Self.levels self.old) self.old) }
         ensures failed { OnErr result (Self.has_failed self.new) }
         ensures already { Self.has_failed self.old → result ≡ Err DecodeError.AlreadyFailed }
+        ensures after { result ≡ Err DecodeError.AlreadyFailed → Self.has_failed self.old }
     {
         T::decode(alloc, self)
     }
@@ -64,11 +67,12 @@ pub trait DecodeNamed: Decoder {
     ) -> Result<VisibleString, DecodeError>
     where
         Self: Sized,
-        ensures ok { IfOk result (λ x. Self.step self.old (characters visible (sizes_of constraints.entry.size) (alphabet_of constraints.entry.permitted_alphabet) any_count x) self.new) }
+        ensures ok { IfOk result (λ x. Self.step self.old (characters_under visible constraints.entry x) self.new) }
         ensures level { OnOk result (Self.levels self.new ≡ Self.levels self.old) }
-        ensures only { IfErr result (NoRecord Self.step (asks_characters visible (sizes_of constraints.entry.size) (alphabet_of constraints.entry.permitted_alphabet) any_count) self.old) }
+        ensures only { IfErr result (NoRecord Self.step (asks_characters_under visible constraints.entry) self.old) }
         ensures failed { OnErr result (Self.has_failed self.new) }
         ensures already { Self.has_failed self.old → result ≡ Err DecodeError.AlreadyFailed }
+        ensures after { result ≡ Err DecodeError.AlreadyFailed → Self.has_failed self.old }
     {
         self.decode_characters(alloc, tag, constraints)
     }
@@ -82,11 +86,12 @@ pub trait DecodeNamed: Decoder {
     ) -> Result<Ia5String, DecodeError>
     where
         Self: Sized,
-        ensures ok { IfOk result (λ x. Self.step self.old (characters ia5 (sizes_of constraints.entry.size) (alphabet_of constraints.entry.permitted_alphabet) any_count x) self.new) }
+        ensures ok { IfOk result (λ x. Self.step self.old (characters_under ia5 constraints.entry x) self.new) }
         ensures level { OnOk result (Self.levels self.new ≡ Self.levels self.old) }
-        ensures only { IfErr result (NoRecord Self.step (asks_characters ia5 (sizes_of constraints.entry.size) (alphabet_of constraints.entry.permitted_alphabet) any_count) self.old) }
+        ensures only { IfErr result (NoRecord Self.step (asks_characters_under ia5 constraints.entry) self.old) }
         ensures failed { OnErr result (Self.has_failed self.new) }
         ensures already { Self.has_failed self.old → result ≡ Err DecodeError.AlreadyFailed }
+        ensures after { result ≡ Err DecodeError.AlreadyFailed → Self.has_failed self.old }
     {
         self.decode_characters(alloc, tag, constraints)
     }
@@ -100,11 +105,12 @@ pub trait DecodeNamed: Decoder {
     ) -> Result<PrintableString, DecodeError>
     where
         Self: Sized,
-        ensures ok { IfOk result (λ x. Self.step self.old (characters printable (sizes_of constraints.entry.size) (alphabet_of constraints.entry.permitted_alphabet) any_count x) self.new) }
+        ensures ok { IfOk result (λ x. Self.step self.old (characters_under printable constraints.entry x) self.new) }
         ensures level { OnOk result (Self.levels self.new ≡ Self.levels self.old) }
-        ensures only { IfErr result (NoRecord Self.step (asks_characters printable (sizes_of constraints.entry.size) (alphabet_of constraints.entry.permitted_alphabet) any_count) self.old) }
+        ensures only { IfErr result (NoRecord Self.step (asks_characters_under printable constraints.entry) self.old) }
         ensures failed { OnErr result (Self.has_failed self.new) }
         ensures already { Self.has_failed self.old → result ≡ Err DecodeError.AlreadyFailed }
+        ensures after { result ≡ Err DecodeError.AlreadyFailed → Self.has_failed self.old }
     {
         self.decode_characters(alloc, tag, constraints)
     }
@@ -118,11 +124,12 @@ pub trait DecodeNamed: Decoder {
     ) -> Result<NumericString, DecodeError>
     where
         Self: Sized,
-        ensures ok { IfOk result (λ x. Self.step self.old (characters numeric (sizes_of constraints.entry.size) (alphabet_of constraints.entry.permitted_alphabet) any_count x) self.new) }
+        ensures ok { IfOk result (λ x. Self.step self.old (characters_under numeric constraints.entry x) self.new) }
         ensures level { OnOk result (Self.levels self.new ≡ Self.levels self.old) }
-        ensures only { IfErr result (NoRecord Self.step (asks_characters numeric (sizes_of constraints.entry.size) (alphabet_of constraints.entry.permitted_alphabet) any_count) self.old) }
+        ensures only { IfErr result (NoRecord Self.step (asks_characters_under numeric constraints.entry) self.old) }
         ensures failed { OnErr result (Self.has_failed self.new) }
         ensures already { Self.has_failed self.old → result ≡ Err DecodeError.AlreadyFailed }
+        ensures after { result ≡ Err DecodeError.AlreadyFailed → Self.has_failed self.old }
     {
         self.decode_characters(alloc, tag, constraints)
     }
@@ -136,11 +143,12 @@ pub trait DecodeNamed: Decoder {
     ) -> Result<GeneralString, DecodeError>
     where
         Self: Sized,
-        ensures ok { IfOk result (λ x. Self.step self.old (characters general (sizes_of constraints.entry.size) (alphabet_of constraints.entry.permitted_alphabet) any_count x) self.new) }
+        ensures ok { IfOk result (λ x. Self.step self.old (characters_under general constraints.entry x) self.new) }
         ensures level { OnOk result (Self.levels self.new ≡ Self.levels self.old) }
-        ensures only { IfErr result (NoRecord Self.step (asks_characters general (sizes_of constraints.entry.size) (alphabet_of constraints.entry.permitted_alphabet) any_count) self.old) }
+        ensures only { IfErr result (NoRecord Self.step (asks_characters_under general constraints.entry) self.old) }
         ensures failed { OnErr result (Self.has_failed self.new) }
         ensures already { Self.has_failed self.old → result ≡ Err DecodeError.AlreadyFailed }
+        ensures after { result ≡ Err DecodeError.AlreadyFailed → Self.has_failed self.old }
     {
         self.decode_characters(alloc, tag, constraints)
     }
@@ -154,11 +162,12 @@ pub trait DecodeNamed: Decoder {
     ) -> Result<GraphicString, DecodeError>
     where
         Self: Sized,
-        ensures ok { IfOk result (λ x. Self.step self.old (characters graphic (sizes_of constraints.entry.size) (alphabet_of constraints.entry.permitted_alphabet) any_count x) self.new) }
+        ensures ok { IfOk result (λ x. Self.step self.old (characters_under graphic constraints.entry x) self.new) }
         ensures level { OnOk result (Self.levels self.new ≡ Self.levels self.old) }
-        ensures only { IfErr result (NoRecord Self.step (asks_characters graphic (sizes_of constraints.entry.size) (alphabet_of constraints.entry.permitted_alphabet) any_count) self.old) }
+        ensures only { IfErr result (NoRecord Self.step (asks_characters_under graphic constraints.entry) self.old) }
         ensures failed { OnErr result (Self.has_failed self.new) }
         ensures already { Self.has_failed self.old → result ≡ Err DecodeError.AlreadyFailed }
+        ensures after { result ≡ Err DecodeError.AlreadyFailed → Self.has_failed self.old }
     {
         self.decode_characters(alloc, tag, constraints)
     }
@@ -172,11 +181,12 @@ pub trait DecodeNamed: Decoder {
     ) -> Result<TeletexString, DecodeError>
     where
         Self: Sized,
-        ensures ok { IfOk result (λ x. Self.step self.old (characters teletex (sizes_of constraints.entry.size) (alphabet_of constraints.entry.permitted_alphabet) any_count x) self.new) }
+        ensures ok { IfOk result (λ x. Self.step self.old (characters_under teletex constraints.entry x) self.new) }
         ensures level { OnOk result (Self.levels self.new ≡ Self.levels self.old) }
-        ensures only { IfErr result (NoRecord Self.step (asks_characters teletex (sizes_of constraints.entry.size) (alphabet_of constraints.entry.permitted_alphabet) any_count) self.old) }
+        ensures only { IfErr result (NoRecord Self.step (asks_characters_under teletex constraints.entry) self.old) }
         ensures failed { OnErr result (Self.has_failed self.new) }
         ensures already { Self.has_failed self.old → result ≡ Err DecodeError.AlreadyFailed }
+        ensures after { result ≡ Err DecodeError.AlreadyFailed → Self.has_failed self.old }
     {
         self.decode_characters(alloc, tag, constraints)
     }
@@ -190,11 +200,12 @@ pub trait DecodeNamed: Decoder {
     ) -> Result<BmpString, DecodeError>
     where
         Self: Sized,
-        ensures ok { IfOk result (λ x. Self.step self.old (characters bmp (sizes_of constraints.entry.size) (alphabet_of constraints.entry.permitted_alphabet) any_count x) self.new) }
+        ensures ok { IfOk result (λ x. Self.step self.old (characters_under bmp constraints.entry x) self.new) }
         ensures level { OnOk result (Self.levels self.new ≡ Self.levels self.old) }
-        ensures only { IfErr result (NoRecord Self.step (asks_characters bmp (sizes_of constraints.entry.size) (alphabet_of constraints.entry.permitted_alphabet) any_count) self.old) }
+        ensures only { IfErr result (NoRecord Self.step (asks_characters_under bmp constraints.entry) self.old) }
         ensures failed { OnErr result (Self.has_failed self.new) }
         ensures already { Self.has_failed self.old → result ≡ Err DecodeError.AlreadyFailed }
+        ensures after { result ≡ Err DecodeError.AlreadyFailed → Self.has_failed self.old }
     {
         self.decode_characters(alloc, tag, constraints)
     }

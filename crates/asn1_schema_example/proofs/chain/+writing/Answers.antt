@@ -1,8 +1,9 @@
 use Rattle.std.proofs.Common.{refl, ◌∙◌}
 use Rattle.asn1_schema.proofs.Author.{raised, writes_required, writes_end, writes_field, writes_this, writes_as}
 use Rattle.asn1_schema.proofs.Author.{cannot_as, cannot_required, cannot_end, cannot_field, cannot_field_here}
-use Rattle.asn1_schema.proofs.Author.{cannot_this, cannot_this_here, count_marks}
-use Rattle.asn1_schema_example.specs.Chain.{chain_table, chain_schema, chain_is, chain_opens, number_typed}
+use Rattle.asn1_schema.proofs.Author.{cannot_this, cannot_this_here, count_marks, integer_value, part_optional}
+use Rattle.asn1_schema.proofs.Author.{passed, failed_before_value, failed_before_part}
+use Rattle.asn1_schema_example.specs.Chain.{chain_table, chain_schema, chain_is, chain_opens, chain_meaning, chain_typed, chain_valued, number_typed}
 use Rattle.asn1_schema_example.proofs.chain.+writing.Goals as goal
 
 pub ChainConstructed::write_fields-returns-in_err-encode-clause-only : goal.ChainConstructed::write_fields-returns-in_err-encode-clause-only
@@ -25,3 +26,13 @@ ChainEncode::encode_with_tag_and_constraints-returns-in_err-write_fields-clause-
 
 pub ChainEncode::encode_with_tag_and_constraints-returns-clause-ok : goal.ChainEncode::encode_with_tag_and_constraints-returns-clause-ok
 ChainEncode::encode_with_tag_and_constraints-returns-clause-ok g t c = rw chain_opens (writes_as _ _ chain_is (writes_this _ (chain_table chain_schema) (c.number_of_optional_and_default_fields-optional.ensures ∙ count_marks _ _ c.fields.ensures) refl c.in_ok-begin_sequence.ensures.ok c.in_ok-write_fields.ensures.ok))
+
+pub ChainConstructed::write_fields-returns-in_err-encode_optional-clause-after : goal.ChainConstructed::write_fields-returns-in_err-encode_optional-clause-after
+ChainConstructed::write_fields-returns-in_err-encode_optional-clause-after g t c =
+    let law = g.met.E.Encoder.goes_on in
+    passed c.from_residual-in_err-encode_optional.ensures.1 (λ e. failed_before_value law (integer_value _ _ _) c.in_ok-encode.ensures.ok (c.in_err-encode_optional.ensures.after e))
+
+pub ChainConstructed::write_fields-returns-in_err-end-clause-after : goal.ChainConstructed::write_fields-returns-in_err-end-clause-after
+ChainConstructed::write_fields-returns-in_err-end-clause-after g t c =
+    let law = g.met.E.Encoder.goes_on in
+    passed c.from_residual-in_err-end.ensures.1 (λ e. failed_before_value law (integer_value _ _ _) c.in_ok-encode.ensures.ok (failed_before_part law (part_optional (λ b. chain_meaning b.value) _ chain_typed (λ b. chain_valued b.value)) c.in_ok-encode_optional.ensures.ok (c.in_err-end.ensures.after e)))

@@ -1,9 +1,9 @@
-use Rattle.std.proofs.Common.{refl, ◌∙◌, arith}
+use Rattle.std.proofs.Common.{refl, ◌∙◌, arith, ap, Err}
 use Rattle.asn1_schema.proofs.Author.{raised, reads_list, unread_list, unread_list_here, from_start, from_next}
 use Rattle.asn1_schema.proofs.Author.{from_further, from_stuck, from_close, from_end, reads_as, unread_as}
 use Rattle.asn1_schema.proofs.Author.{reads_required, reads_end, reads_field, reads_sequence, unread_required}
 use Rattle.asn1_schema.proofs.Author.{unread_end, unread_field, unread_field_here, unread_sequence}
-use Rattle.asn1_schema.proofs.Author.{unread_sequence_here, count_marks}
+use Rattle.asn1_schema.proofs.Author.{unread_sequence_here, passed_on, failed_reads, count_marks}
 use Rattle.asn1_schema_example.specs.Tree.{tree_table, tree_is, branches_schema, branches_are, tree_opens, tree_made, number_typed, branches_typed}
 use Rattle.asn1_schema_example.proofs.Held.{is_held}
 use Rattle.asn1_schema_example.proofs.tree.+reading.Goals as goal
@@ -39,7 +39,7 @@ pub read_branches-returns-in_err-begin_list-clause-only : goal.read_branches-ret
 read_branches-returns-in_err-begin_list-clause-only g t c = raised _ _ _ c.from_residual.ensures.1 (unread_as _ _ branches_are (unread_list_here _ _ _ _ c.in_err-begin_list.ensures.only))
 
 pub read_branches-loop-branches-init : goal.read_branches-loop-branches-init
-read_branches-loop-branches-init g t c = (rw c.new-branches.ensures.items (from_start _), refl)
+read_branches-loop-branches-init g t c = (rw c.new-branches.ensures.items (from_start _), refl, g.met.D.Decoder.goes_on _ _ _ (c.in_ok-begin_list.ensures.ok 0 refl))
 
 pub read_branches-returns-in_err-get_further-clause-only : goal.read_branches-returns-in_err-get_further-clause-only
 read_branches-returns-in_err-get_further-clause-only g t c = raised _ _ _ c.from_residual-in_err-get_further.ensures.1 (unread_as _ _ branches_are (unread_list _ _ _ g.met.D.Decoder.one_record g.met.D.Decoder.list_held c.in_ok-begin_list.ensures.level c.in_ok-begin_list.ensures.ok (from_further _ c.loop-branches.invariant.0 c.in_err-get_further.ensures.only)))
@@ -53,7 +53,11 @@ read_branches-returns-in_err-branch-clause-only g t c = let one = g.met.D.Decode
 pub read_branches-loop-branches-preserved : goal.read_branches-loop-branches-preserved
 read_branches-loop-branches-preserved g t c =
     let e = c.in_ok-get_further.ensures.level ∙ c.loop-branches.invariant.1 in
-    (rw c.in-Ok.ensures.items (from_next g.met.D.Decoder.one_record c.loop-branches.invariant.0 (rw c.if-branch.true at c.in_ok-get_further.ensures.ok) (rw e at c.in_ok-branch.ensures.ok)), c.in_ok-branch.ensures.level ∙ e)
+    let law = g.met.D.Decoder.goes_on in (
+      rw c.in-Ok.ensures.items (from_next g.met.D.Decoder.one_record c.loop-branches.invariant.0 (rw c.if-branch.true at c.in_ok-get_further.ensures.ok) (rw e at c.in_ok-branch.ensures.ok)),
+      c.in_ok-branch.ensures.level ∙ e,
+      λ f. law _ _ _ c.in_ok-get_further.ensures.ok (failed_reads law c.in_ok-branch.ensures.ok f),
+    )
 
 pub read_branches-returns-in_err-end-clause-only : goal.read_branches-returns-in_err-end-clause-only
 read_branches-returns-in_err-end-clause-only g t c = let one = g.met.D.Decoder.one_record in raised _ _ _ c.from_residual-in_err-end.ensures.1 (unread_as _ _ branches_are (unread_list _ _ _ one g.met.D.Decoder.list_held c.in_ok-begin_list.ensures.level c.in_ok-begin_list.ensures.ok (from_close one _ c.loop-branches.invariant.0 (rw c.if-branch.false at c.in_ok-get_further.ensures.ok) c.in_err-end.ensures.only)))
@@ -63,3 +67,16 @@ read_branches-returns-clause-ok g t c = reads_as _ _ branches_are (reads_list _ 
 
 pub read_branches-returns-clause-level : goal.read_branches-returns-clause-level
 read_branches-returns-clause-level g t c = omega (arith, c.in_ok-end.ensures.level, c.in_ok-get_further.ensures.level, c.loop-branches.invariant.1, c.in_ok-begin_list.ensures.level)
+
+pub TreeConstructed::read_fields-returns-in_err-branches-clause-after : goal.TreeConstructed::read_fields-returns-in_err-branches-clause-after
+TreeConstructed::read_fields-returns-in_err-branches-clause-after g t c =
+    let law = g.met.D.Decoder.goes_on in
+    passed_on _ c.from_residual-in_err-branches.ensures.1 (λ h. failed_reads law c.in_ok-value.ensures.ok (c.in_err-branches.ensures.after (ap (λ z. Err z) h)))
+
+pub TreeConstructed::read_fields-returns-in_err-end-clause-after : goal.TreeConstructed::read_fields-returns-in_err-end-clause-after
+TreeConstructed::read_fields-returns-in_err-end-clause-after g t c =
+    let law = g.met.D.Decoder.goes_on in
+    passed_on _ c.from_residual-in_err-end.ensures.1 (λ h. failed_reads law c.in_ok-value.ensures.ok (failed_reads law c.in_ok-branches.ensures.ok (c.in_err-end.ensures.after (ap (λ z. Err z) h))))
+
+pub read_branches-returns-in_err-get_further-clause-after : goal.read_branches-returns-in_err-get_further-clause-after
+read_branches-returns-in_err-get_further-clause-after g t c = passed_on _ c.from_residual-in_err-get_further.ensures.1 (λ h. absurd (c.loop-branches.invariant.2 (c.in_err-get_further.ensures.after (ap (λ z. Err z) h))))

@@ -1,8 +1,9 @@
 use Rattle.std.proofs.Common.{refl, ◌∙◌}
 use Rattle.asn1_schema.proofs.Author.{raised, writes_required, writes_end, writes_field, writes_this, writes_as}
 use Rattle.asn1_schema.proofs.Author.{cannot_as, cannot_required, cannot_end, cannot_field, cannot_field_here}
-use Rattle.asn1_schema.proofs.Author.{cannot_this, cannot_this_here, count_marks}
-use Rattle.asn1_schema_example.specs.Tree.{tree_table, tree_is, branches_schema, branches_are, tree_opens, number_typed, branches_typed}
+use Rattle.asn1_schema.proofs.Author.{cannot_this, cannot_this_here, count_marks, integer_value, value_list, passed}
+use Rattle.asn1_schema.proofs.Author.{failed_before_value}
+use Rattle.asn1_schema_example.specs.Tree.{tree_table, tree_schema, tree_meaning, tree_valued, tree_is, branches_schema, branches_are, tree_opens, number_typed, branches_typed}
 use Rattle.asn1_schema_example.proofs.tree.+writing.Goals as goal
 
 pub TreeConstructed::write_fields-returns-in_err-encode-clause-only : goal.TreeConstructed::write_fields-returns-in_err-encode-clause-only
@@ -25,3 +26,13 @@ TreeEncode::encode_with_tag_and_constraints-returns-in_err-write_fields-clause-o
 
 pub TreeEncode::encode_with_tag_and_constraints-returns-clause-ok : goal.TreeEncode::encode_with_tag_and_constraints-returns-clause-ok
 TreeEncode::encode_with_tag_and_constraints-returns-clause-ok g t c = rw tree_opens (writes_as _ _ tree_is (writes_this _ (tree_table branches_schema) (c.number_of_optional_and_default_fields-optional.ensures ∙ count_marks _ _ c.fields.ensures) refl c.in_ok-begin_sequence.ensures.ok c.in_ok-write_fields.ensures.ok))
+
+pub TreeConstructed::write_fields-returns-in_err-encode-2-clause-after : goal.TreeConstructed::write_fields-returns-in_err-encode-2-clause-after
+TreeConstructed::write_fields-returns-in_err-encode-2-clause-after g t c =
+    let law = g.met.E.Encoder.goes_on in
+    passed c.from_residual-in_err-encode-2.ensures.1 (λ e. failed_before_value law (integer_value _ _ _) c.in_ok-encode.ensures.ok (c.in_err-encode-2.ensures.after e))
+
+pub TreeConstructed::write_fields-returns-in_err-end-clause-after : goal.TreeConstructed::write_fields-returns-in_err-end-clause-after
+TreeConstructed::write_fields-returns-in_err-end-clause-after g t c =
+    let law = g.met.E.Encoder.goes_on in
+    passed c.from_residual-in_err-end.ensures.1 (λ e. failed_before_value law (integer_value _ _ _) c.in_ok-encode.ensures.ok (failed_before_value law (value_list _ _ tree_schema tree_meaning _ tree_valued) c.in_ok-encode-2.ensures.ok (c.in_err-end.ensures.after e)))

@@ -1,9 +1,9 @@
-use Rattle.std.proofs.Common.{refl, ◌∙◌}
+use Rattle.std.proofs.Common.{refl, ◌∙◌, ap, Err}
 use Rattle.asn1_schema.specs.Author.{optional}
 use Rattle.asn1_schema.proofs.Author.{raised, reads_as, unread_as, reads_required, reads_left_out, reads_there}
 use Rattle.asn1_schema.proofs.Author.{reads_end, reads_field, reads_sequence, unread_required, unread_mark}
 use Rattle.asn1_schema.proofs.Author.{unread_marked, unread_end, unread_field, unread_field_here, unread_sequence}
-use Rattle.asn1_schema.proofs.Author.{unread_sequence_here, count_marks}
+use Rattle.asn1_schema.proofs.Author.{unread_sequence_here, failed_before, passed_on, failed_reads, count_marks}
 use Rattle.asn1_schema_example.specs.Chain.{chain_table, chain_schema, chain_is, chain_opens, chain_made, chain_typed, number_typed}
 use Rattle.asn1_schema_example.proofs.chain.ChainConstructed.+read_fields.Goals as goal
 
@@ -30,3 +30,13 @@ returns-in_err-end-2-clause-only g t c = let one = g.met.D.Decoder.one_record in
 
 pub returns-clause-ok : goal.returns-clause-ok
 returns-clause-ok g t c = rw chain_made (reads_field _ (reads_required number_typed c.in_ok-value.ensures.ok) (reads_field _ (reads_there optional refl chain_typed (rw c.if-not-is_there.false at c.in_ok-is_there.ensures.ok) (rw (c.in-Ok.ensures.ok, chain_opens) (reads_as _ _ chain_is (reads_sequence (chain_table chain_schema) (c.number_of_optional_and_default_fields-optional.ensures ∙ count_marks _ _ c.fields.ensures) refl (rw (c.in_ok-is_there.ensures.level, c.in_ok-value.ensures.level) at c.in_ok-begin_sequence.ensures.level) c.in_ok-begin_sequence.ensures.ok c.in_ok-inner.ensures.ok))) refl) (reads_end _ c.in_ok-end-2.ensures.ok)))
+
+pub returns-in_err-is_there-clause-after : goal.returns-in_err-is_there-clause-after
+returns-in_err-is_there-clause-after g t c =
+    let law = g.met.D.Decoder.goes_on in
+    passed_on _ c.from_residual-in_err-is_there.ensures.1 (λ h. failed_reads law c.in_ok-value.ensures.ok (c.in_err-is_there.ensures.after (ap (λ z. Err z) h)))
+
+pub returns-in_err-end-2-clause-after : goal.returns-in_err-end-2-clause-after
+returns-in_err-end-2-clause-after g t c =
+    let law = g.met.D.Decoder.goes_on in
+    passed_on _ c.from_residual-in_err-end-2.ensures.1 (λ h. absurd (law _ _ _ c.in_ok-begin_sequence.ensures.ok (failed_before law _ _ _ c.in_ok-inner.ensures.ok.chain (c.in_err-end-2.ensures.after (ap (λ z. Err z) h)))))

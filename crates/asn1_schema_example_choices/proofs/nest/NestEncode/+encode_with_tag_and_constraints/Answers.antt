@@ -1,7 +1,9 @@
 use Rattle.std.proofs.Common.{ap, false}
 use Rattle.asn1_schema_presented.proofs.Joined.{raised}
+use Rattle.asn1_schema_presented.proofs.TypesByKind.{null_value}
+use Rattle.asn1_schema_encode.proofs.Going.{passed, failed_before_value}
 use Rattle.asn1_schema_constructed.proofs.ChoiceWriting.{writes_begun, cannot_begun, cannot_begun_here, cannot_begun_end}
-use Rattle.asn1_schema_example_choices.specs.Nest.{nest_table, nest_schema, nest_is, nest_meaning}
+use Rattle.asn1_schema_example_choices.specs.Nest.{nest_table, nest_schema, nest_is, nest_meaning, nest_valued}
 use Rattle.asn1_schema_example_choices.proofs.nest.NestEncode.+encode_with_tag_and_constraints.Goals as goal
 
 pub returns-in_err-begin_alternative-in-Leaf-clause-only : goal.returns-in_err-begin_alternative-in-Leaf-clause-only
@@ -27,3 +29,13 @@ returns-in_ok-end-in-Leaf-clause-ok g t c = writes_begun _ (nest_table nest_sche
 
 pub returns-in_ok-end-in-More-clause-ok : goal.returns-in_ok-end-in-More-clause-ok
 returns-in_ok-end-in-More-clause-ok g t c = writes_begun _ (nest_table nest_schema) nest_is (record { added = false; place = 1 }) (ap nest_meaning c.in-More.is) (rw c.root-in-More.ensures at c.in_ok-begin_alternative-in-More.ensures.ok) c.in_ok-encode_with_tag-in-More.ensures.ok c.in_ok-end-in-More.ensures.ok
+
+pub returns-in_err-end-in-Leaf-clause-after : goal.returns-in_err-end-in-Leaf-clause-after
+returns-in_err-end-in-Leaf-clause-after g t c =
+    let law = g.met.E.Encoder.goes_on in
+    passed c.from_residual-in_err-end-in-Leaf.ensures.1 (λ e. absurd (law _ _ _ c.in_ok-begin_alternative-in-Leaf.ensures.ok (failed_before_value law null_value c.in_ok-encode_with_tag-in-Leaf.ensures.ok (c.in_err-end-in-Leaf.ensures.after e))))
+
+pub returns-in_err-end-in-More-clause-after : goal.returns-in_err-end-in-More-clause-after
+returns-in_err-end-in-More-clause-after g t c =
+    let law = g.met.E.Encoder.goes_on in
+    passed c.from_residual-in_err-end-in-More.ensures.1 (λ e. absurd (law _ _ _ c.in_ok-begin_alternative-in-More.ensures.ok (failed_before_value law (nest_valued _) c.in_ok-encode_with_tag-in-More.ensures.ok (c.in_err-end-in-More.ensures.after e))))
