@@ -1,6 +1,34 @@
--- What shows that types are lawful, and that values are of their types, as the author of a type names it.
-pub use Rattle.asn1_schema_presented.proofs.Values.{type_sequence, value_sequence}
-pub use Rattle.asn1_schema_presented.proofs.Defaults.{integer_default}
+-- What shows that a type is lawful, that values are of it, and that they are written and read as its author says.
+use Rattle.std.proofs.Common.{◌≡◌, refl, [], ◌∷◌}
+use Rattle.asn1_schema_tags.specs.Tags.{tag_of}
+use Rattle.asn1_schema_tags.specs.Trees.{leaves_of}
+use Rattle.asn1_schema_tags.specs.declared.tags.Tag.{Tag}
+use Rattle.asn1_schema_tags.specs.declared.trees.TagTree.TheVariants.{Leaf}
+use Rattle.asn1_schema_tags.proofs.TreeLaws.{leaves_leaf}
+pub use Rattle.asn1_schema_constructed.proofs.Counting.{count_marks}
 pub use Rattle.asn1_schema_constructed.proofs.SetValues.{type_set, value_set}
-pub use Rattle.asn1_schema_constructed.proofs.Types.{type_enumerated, value_enumerated, type_choice, more_variants}
-pub use Rattle.asn1_schema_constructed.proofs.Types.{no_variants, value_choice}
+pub use Rattle.asn1_schema_constructed.proofs.Types.{more_variants, no_variants, type_choice, value_choice}
+pub use Rattle.asn1_schema_decode.proofs.Failing.{failed_reads, passed_on}
+pub use Rattle.asn1_schema_decode.proofs.Listing.{ReadsFrom, from_close, from_end, from_further, from_next}
+pub use Rattle.asn1_schema_decode.proofs.Listing.{from_start, from_stuck, reads_list, unread_list, unread_list_here}
+pub use Rattle.asn1_schema_decode.proofs.Reading.{reads_as, reads_end, reads_field, reads_left_out, reads_required}
+pub use Rattle.asn1_schema_decode.proofs.Reading.{reads_sequence, reads_there, unread_as, unread_end, unread_field}
+pub use Rattle.asn1_schema_decode.proofs.Reading.{unread_field_here, unread_mark, unread_marked, unread_required}
+pub use Rattle.asn1_schema_decode.proofs.Reading.{unread_sequence, unread_sequence_here}
+pub use Rattle.asn1_schema_encode.proofs.Going.{failed_before_part, failed_before_value, passed}
+pub use Rattle.asn1_schema_encode.proofs.Writing.{cannot_as, cannot_end, cannot_field, cannot_field_here}
+pub use Rattle.asn1_schema_encode.proofs.Writing.{cannot_required, cannot_this, cannot_this_here, writes_as}
+pub use Rattle.asn1_schema_encode.proofs.Writing.{writes_end, writes_field, writes_required, writes_this}
+pub use Rattle.asn1_schema_presented.proofs.Chains.{failed_before}
+pub use Rattle.asn1_schema_presented.proofs.Defaults.{integer_default}
+pub use Rattle.asn1_schema_presented.proofs.Joined.{raised}
+pub use Rattle.asn1_schema_presented.proofs.Recursive.{part_absent, part_there, recursive_type, value_as}
+pub use Rattle.asn1_schema_presented.proofs.TypesByKind.{integer_type, integer_value, null_value, type_list}
+pub use Rattle.asn1_schema_presented.proofs.TypesByKind.{value_list}
+pub use Rattle.asn1_schema_presented.proofs.Values.{more_types, more_values, no_types, no_values, part_optional}
+pub use Rattle.asn1_schema_presented.proofs.Values.{part_required, type_sequence, value_sequence}
+pub use Rattle.asn1_schema_tags.proofs.TreeLaws.{leaves_choice, leaves_leaf}
+
+-- The leaves of a tree of two tags, as that of a choice of two alternatives is.
+pub two_leaves : (a b : Tag) → leaves_of (Leaf a ∷ Leaf b ∷ []) ≡ tag_of a ∷ tag_of b ∷ []
+two_leaves a b = rw (leaves_leaf a, leaves_leaf b) refl

@@ -1,15 +1,21 @@
--- What the author of a type names in its impls: values, tables and types of the model, and what constraints mean.
-pub use Rattle.std.specs.Prelude.{◌≡◌, ℕ, ℤ, pos, negsuc, true, false, List, [], ◌∷◌, Some, None, refl, codes}
-pub use Rattle.asn1_model.specs.Value.{Value, truth, nothing, number, item, bit_list, octet_list, text, arcs, members}
-pub use Rattle.asn1_model.specs.Value.{bag, fields, chosen, Parts, end, absent, present}
-pub use Rattle.asn1_model.specs.Schema.{Tag, Schema, enumerated, utf8}
-pub use Rattle.asn1_model.specs.Types.{context}
-pub use Rattle.asn1_schema_constraints.specs.Terms.{Meant, meant, no_constraint, bounded_by, sized_by}
-pub use Rattle.asn1_schema_presented.specs.Tables.{Table, no_field}
-unfoldable pub use Rattle.asn1_schema_presented.specs.Tables.{sequence_type, list_type}
-unfoldable pub use Rattle.asn1_schema_presented.specs.Recursive.{recursive_sequence}
-pub use Rattle.asn1_schema_constructed.specs.Constructed.{sequence_form, set_form, sequence_tags}
-pub use Rattle.asn1_schema_constructed.specs.Sets.{set_type}
-pub use Rattle.asn1_schema_constructed.specs.Tables.{Choices, variant, no_variant}
-unfoldable pub use Rattle.asn1_schema_constructed.specs.Tables.{choice_type}
+-- What the author of a type names: values and types of the model, tables, what constraints mean, and what of a
+-- type's values a codec is told. It stands in the packages behind this one.
+unfoldable pub use Rattle.asn1_model.specs.Lawful.{is_lawful}
+pub use Rattle.asn1_model.specs.Numbers.{is_count_within}
+pub use Rattle.asn1_model.specs.Schema.{Schema, Tag, cut, integer, optional, required}
+pub use Rattle.asn1_model.specs.Types.{any_size, context}
+pub use Rattle.asn1_model.specs.Value.{Parts, Value, Values, end, fields, member, members, no_more, nothing, number}
+pub use Rattle.asn1_schema_constraints.specs.Terms.{no_constraint}
 pub use Rattle.asn1_schema_constructed.specs.Chosen.{chosen_value}
+pub use Rattle.asn1_schema_constructed.specs.Constructed.{fields_of, sequence_form, sequence_tags, set_form}
+pub use Rattle.asn1_schema_constructed.specs.Sets.{set_type}
+pub use Rattle.asn1_schema_constructed.specs.Tables.{no_variant, variant}
+unfoldable pub use Rattle.asn1_schema_constructed.specs.Tables.{choice_type}
+pub use Rattle.asn1_schema_decode.specs.Reads.{Reads, Unread}
+pub use Rattle.asn1_schema_presented.specs.Parts.{part_of, values_of}
+pub use Rattle.asn1_schema_presented.specs.Presents.{Part, left_out, there, with_part}
+unfoldable pub use Rattle.asn1_schema_presented.specs.Recursive.{recursive_sequence}
+pub use Rattle.asn1_schema_presented.specs.Tables.{IsType, IsValue, Table, no_table, with_field}
+unfoldable pub use Rattle.asn1_schema_presented.specs.Tables.{components_at, list_type, scope, sequence_type}
+pub use Rattle.asn1_schema_presented.specs.Typed.{IsPart}
+pub use Rattle.asn1_schema_types.specs.Counts.{any_number}

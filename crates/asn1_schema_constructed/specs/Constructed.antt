@@ -1,6 +1,7 @@
 -- What a table of fields tells of the components of a type.
 use Rattle.std.specs.Prelude.{◌≡◌, ℕ, true, false, List, [], ◌∷◌, Option, Some, None}
 use Rattle.asn1_model.specs.Schema.{Tag, Presence, required, optional, by_default, Schema, set}
+use Rattle.asn1_model.specs.Value.{Value, Parts, fields}
 use Rattle.asn1_schema_tags.specs.Trees.{leaves}
 use Rattle.asn1_schema_constructed.specs.declared.tables.FieldPresence.{FieldPresence}
 use Rattle.asn1_schema_constructed.specs.declared.tables.FieldPresence.TheVariants.{Required, Optional, Default}
@@ -28,6 +29,10 @@ AreAdditions (Some fs) t = (t.extensible ≡ true) × AreFields fs.fields.now t.
 -- The tag of SEQUENCE (X.680 8.4).
 abbrev pub sequence_tags : List Tag
 sequence_tags = record { class = 0; number = 16 } ∷ []
+
+-- A value of some components, by what these mean: those of the root, and the additions.
+abbrev pub fields_of : {F : Type 0} → (F → Parts) → (F → Parts) → F → Value
+fields_of root added form = fields (root form) (added form)
 
 -- Which type the components make.
 pub data Form : Type 0 where

@@ -1,16 +1,13 @@
 -- T ::= SEQUENCE {value INTEGER, next T OPTIONAL}: the type and its values.
 use Rattle.std.specs.Prelude.{◌≡◌, ℕ, ℤ, zero, suc, refl, false, List, [], ◌∷◌, Option, Some, None}
 use Rattle.std.proofs.Common.{Box, Global}
-use Rattle.asn1_model.specs.Value.{Value, Parts, number, fields, end}
-use Rattle.asn1_model.specs.Schema.{Schema, Tag, required, optional, integer}
-use Rattle.asn1_schema_presented.specs.Presents.{Part, left_out, there, with_part}
-use Rattle.asn1_schema_presented.specs.Parts.{part_of}
-use Rattle.asn1_schema_presented.specs.Tables.{Table, no_table, with_field, components_at, scope, sequence_type, IsType, IsValue}
-use Rattle.asn1_schema_presented.specs.Typed.{IsPart}
-use Rattle.asn1_schema_presented.specs.Recursive.{recursive_sequence}
-use Rattle.asn1_schema_presented.proofs.TypesByKind.{integer_type, integer_value}
-use Rattle.asn1_schema_presented.proofs.Values.{no_types, more_types, no_values, more_values, part_required, value_sequence}
-use Rattle.asn1_schema_presented.proofs.Recursive.{recursive_type, value_as, part_absent, part_there}
+use Rattle.asn1_schema.specs.Author.{Value, Parts, number, fields, end, Schema, Tag, required, optional, integer}
+use Rattle.asn1_schema.specs.Author.{Part, left_out, there, with_part, part_of, Table, no_table, with_field}
+use Rattle.asn1_schema.specs.Author.{components_at, scope, sequence_type, IsType, IsValue, IsPart}
+use Rattle.asn1_schema.specs.Author.{recursive_sequence}
+use Rattle.asn1_schema.proofs.Author.{integer_type, integer_value, no_types, more_types, no_values, more_values}
+use Rattle.asn1_schema.proofs.Author.{part_required, value_sequence, recursive_type, value_as, part_absent}
+use Rattle.asn1_schema.proofs.Author.{part_there}
 use Rattle.asn1_schema_example.specs.declared.chain.Chain.{Chain, Chain', Held-Chain-next, None', Some'}
 use Rattle.asn1_schema_example.specs.declared.chain.Chain.TheViews.{out-Chain, roll-Chain}
 use denote.Hole.Carrier.{out, roll}

@@ -1,17 +1,12 @@
 //! Chain ::= SEQUENCE {value INTEGER, next Chain OPTIONAL}, a type that leads back to itself.
 ghost use Rattle.std.specs.Prelude.{[], ◌∷◌, refl};
-ghost use Rattle.asn1_model.specs.Value.{end};
-ghost use Rattle.asn1_schema_constraints.specs.Terms.{no_constraint};
-ghost use Rattle.asn1_schema_constructed.specs.Constructed.{sequence_form};
+ghost use Rattle.asn1_schema.specs.Author.{end, no_constraint, sequence_form};
 
-use asn1_schema_constraints::Constraints;
-use asn1_schema_constructed::{Constructed, Field, FieldPresence, Fields};
-use asn1_schema_decode::{Decode, Decoder};
-use asn1_schema_encode::{Encode, EncodeSequence, Encoder};
-use asn1_schema_faults::{DecodeError, EncodeError};
-use asn1_schema_tags::{Identifier, Tag, TagTree};
-use asn1_schema_types::{AsnType, Described};
-use asn1_values_integers::Integer;
+use asn1_schema::{
+    AsnType, Constraints, Constructed, Decode, DecodeError, Decoder, Described, Encode,
+    EncodeError, EncodeSequence, Encoder, Field, FieldPresence, Fields, Identifier, Tag, TagTree,
+};
+use asn1_values::Integer;
 use std::alloc::Global;
 
 /// A number, and perhaps others behind it.

@@ -1,21 +1,16 @@
-//! SET {power CHOICE {on [7] BOOLEAN, off [1] NULL}, level [3] INTEGER (0..255)}: the choice stands by its smallest tag, [1], and so
-//! before the number.
+//! SET {power CHOICE {on [7] BOOLEAN, off [1] NULL}, level [3] INTEGER (0..255)}: the choice stands by its smallest
+//! tag, [1], and so before the number.
 ghost use Rattle.std.specs.Prelude.{refl, [], ◌∷◌};
-ghost use Rattle.asn1_model.specs.Value.{fields};
-ghost use Rattle.asn1_schema_constraints.specs.Terms.{no_constraint};
-ghost use Rattle.asn1_schema_constructed.specs.Constructed.{set_form};
-ghost use Rattle.asn1_schema_constructed.specs.Sets.{set_type};
-ghost use Rattle.asn1_schema_constructed.proofs.SetValues.{type_set, value_set};
+ghost use Rattle.asn1_schema.specs.Author.{fields, no_constraint, set_form, set_type};
+ghost use Rattle.asn1_schema.proofs.Author.{type_set, value_set};
 
 use crate::power::Power;
-use asn1_schema_constraints::Constraints;
-use asn1_schema_constructed::{Constructed, DecodeSet, EncodeSet, Field, FieldPresence, Fields};
-use asn1_schema_decode::{Decode, DecodeComponents, Decoder};
-use asn1_schema_encode::{Encode, EncodeComponents, Encoder};
-use asn1_schema_faults::{DecodeError, EncodeError};
-use asn1_schema_tags::{Class, Identifier, Tag, TagTree};
-use asn1_schema_types::{AsnType, ComponentsOf, Described, End, Required, RequiredComponent};
-use asn1_schema_wrapped::{Implicit, tag};
+use asn1_schema::{
+    AsnType, Class, ComponentsOf, Constraints, Constructed, Decode, DecodeComponents, DecodeError,
+    DecodeSet, Decoder, Described, Encode, EncodeComponents, EncodeError, EncodeSet, Encoder, End,
+    Field, FieldPresence, Fields, Identifier, Implicit, Required, RequiredComponent, Tag, TagTree,
+    tag,
+};
 use std::alloc::Global;
 
 /// A choice without a tag of its own, and a number behind it.
@@ -40,13 +35,17 @@ impl Described for Control {
 
     ghost is_own = { λ _. refl };
 
-    ghost meaning = { λ x. fields (⟦<Form as ComponentsOf>⟧.root (record { 0 = x.power; 1 = record { 0 = x.level; 1 = record {} } })) (⟦<Form as ComponentsOf>⟧.added (record { 0 = x.power; 1 = record { 0 = x.level; 1 = record {} } })) };
+    ghost meaning = { λ x. fields (⟦<Form as ComponentsOf>⟧.root
+        (record { 0 = x.power; 1 = record { 0 = x.level; 1 = record {} } }))
+        (⟦<Form as ComponentsOf>⟧.added (record { 0 = x.power; 1 = record { 0 = x.level; 1 = record {} } })) };
 
     ghost typed = { type_set _ refl (⟦<Form as ComponentsOf>⟧.typed tt) refl refl };
 
-    ghost valued = { λ x. value_set _ (⟦<Form as ComponentsOf>⟧.valued tt (record { 0 = x.power; 1 = record { 0 = x.level; 1 = record {} } })) };
+    ghost valued = { λ x. value_set _ (⟦<Form as ComponentsOf>⟧.valued tt
+        (record { 0 = x.power; 1 = record { 0 = x.level; 1 = record {} } })) };
 
-    ghost valued_under = { λ _ x. value_set _ (⟦<Form as ComponentsOf>⟧.valued tt (record { 0 = x.power; 1 = record { 0 = x.level; 1 = record {} } })) };
+    ghost valued_under = { λ _ x. value_set _ (⟦<Form as ComponentsOf>⟧.valued tt
+        (record { 0 = x.power; 1 = record { 0 = x.level; 1 = record {} } })) };
 }
 
 impl AsnType for Control {
@@ -68,9 +67,11 @@ impl Constructed for Control {
 
     ghost table = { ⟦<Form as ComponentsOf>⟧.table };
 
-    ghost root = { λ x. ⟦<Form as ComponentsOf>⟧.root (record { 0 = x.power; 1 = record { 0 = x.level; 1 = record {} } }) };
+    ghost root = { λ x. ⟦<Form as ComponentsOf>⟧.root
+        (record { 0 = x.power; 1 = record { 0 = x.level; 1 = record {} } }) };
 
-    ghost added = { λ x. ⟦<Form as ComponentsOf>⟧.added (record { 0 = x.power; 1 = record { 0 = x.level; 1 = record {} } }) };
+    ghost added = { λ x. ⟦<Form as ComponentsOf>⟧.added
+        (record { 0 = x.power; 1 = record { 0 = x.level; 1 = record {} } }) };
 
     fn fields() -> Fields<'static> {
         const FIELDS: &'static [Field<'static>] = &[

@@ -1,26 +1,18 @@
-//! SET {ready [1] BOOLEAN, level [0] INTEGER (0..255) OPTIONAL, ..., done [9] NULL OPTIONAL, next [2] INTEGER (0..255) OPTIONAL}: the root
-//! components stand in the order of their tags, the additions in that in which they are declared.
+//! SET {ready [1] BOOLEAN, level [0] INTEGER (0..255) OPTIONAL, ..., done [9] NULL OPTIONAL, next [2] INTEGER
+//! (0..255) OPTIONAL}: the root components stand in the order of their tags, the additions in that in which they are
+//! declared.
 ghost use Rattle.std.specs.Prelude.{refl, [], ◌∷◌};
 ghost use Rattle.std.proofs.Common.{rules, arith};
-ghost use Rattle.asn1_model.specs.Value.{fields};
-ghost use Rattle.asn1_schema_constraints.specs.Terms.{no_constraint};
-ghost use Rattle.asn1_schema_constructed.specs.Constructed.{set_form};
-ghost use Rattle.asn1_schema_constructed.specs.Sets.{set_type};
-ghost use Rattle.asn1_schema_constructed.proofs.SetValues.{type_set, value_set};
+ghost use Rattle.asn1_schema.specs.Author.{fields, no_constraint, set_form, set_type};
+ghost use Rattle.asn1_schema.proofs.Author.{type_set, value_set};
 
-use asn1_schema_additions::{
-    AddedOptional, AddedOptionalComponent, CountOf, Marked, MarkedComponents, NoMore,
+use asn1_schema::{
+    AddedOptional, AddedOptionalComponent, AsnType, Class, ComponentsOf, Constraints, Constructed,
+    CountOf, Decode, DecodeComponents, DecodeError, DecodeSet, Decoder, Described, Encode,
+    EncodeComponents, EncodeError, EncodeSet, Encoder, Field, FieldPresence, Fields, Identifier,
+    Implicit, Marked, MarkedComponents, NoMore, Optional, OptionalComponent, Required,
+    RequiredComponent, Tag, TagTree, tag,
 };
-use asn1_schema_constraints::Constraints;
-use asn1_schema_constructed::{Constructed, DecodeSet, EncodeSet, Field, FieldPresence, Fields};
-use asn1_schema_decode::{Decode, DecodeComponents, Decoder};
-use asn1_schema_encode::{Encode, EncodeComponents, Encoder};
-use asn1_schema_faults::{DecodeError, EncodeError};
-use asn1_schema_tags::{Class, Identifier, Tag, TagTree};
-use asn1_schema_types::{
-    AsnType, ComponentsOf, Described, Optional, OptionalComponent, Required, RequiredComponent,
-};
-use asn1_schema_wrapped::{Implicit, tag};
 use std::alloc::Global;
 
 /// A set that has grown by two components.
@@ -65,13 +57,22 @@ impl Described for Grown {
 
     ghost is_own = { λ _. refl };
 
-    ghost meaning = { λ x. fields (⟦<Form as ComponentsOf>⟧.root (record { 0 = x.level; 1 = record { 0 = x.ready; 1 = record { 0 = record { 0 = x.done; 1 = record { 0 = x.next; 1 = record {} } }; 1 = record {} } } })) (⟦<Form as ComponentsOf>⟧.added (record { 0 = x.level; 1 = record { 0 = x.ready; 1 = record { 0 = record { 0 = x.done; 1 = record { 0 = x.next; 1 = record {} } }; 1 = record {} } } })) };
+    ghost meaning = { λ x. fields (⟦<Form as ComponentsOf>⟧.root
+        (record { 0 = x.level; 1 = record { 0 = x.ready; 1 =
+        record { 0 = record { 0 = x.done; 1 = record { 0 = x.next; 1 = record {} } }; 1 = record {} } } }))
+        (⟦<Form as ComponentsOf>⟧.added
+        (record { 0 = x.level; 1 = record { 0 = x.ready; 1 =
+        record { 0 = record { 0 = x.done; 1 = record { 0 = x.next; 1 = record {} } }; 1 = record {} } } })) };
 
     ghost typed = { type_set _ refl (⟦<Form as ComponentsOf>⟧.typed tt) refl refl };
 
-    ghost valued = { λ x. value_set _ (⟦<Form as ComponentsOf>⟧.valued tt (record { 0 = x.level; 1 = record { 0 = x.ready; 1 = record { 0 = record { 0 = x.done; 1 = record { 0 = x.next; 1 = record {} } }; 1 = record {} } } })) };
+    ghost valued = { λ x. value_set _ (⟦<Form as ComponentsOf>⟧.valued tt
+        (record { 0 = x.level; 1 = record { 0 = x.ready; 1 =
+        record { 0 = record { 0 = x.done; 1 = record { 0 = x.next; 1 = record {} } }; 1 = record {} } } })) };
 
-    ghost valued_under = { λ _ x. value_set _ (⟦<Form as ComponentsOf>⟧.valued tt (record { 0 = x.level; 1 = record { 0 = x.ready; 1 = record { 0 = record { 0 = x.done; 1 = record { 0 = x.next; 1 = record {} } }; 1 = record {} } } })) };
+    ghost valued_under = { λ _ x. value_set _ (⟦<Form as ComponentsOf>⟧.valued tt
+        (record { 0 = x.level; 1 = record { 0 = x.ready; 1 =
+        record { 0 = record { 0 = x.done; 1 = record { 0 = x.next; 1 = record {} } }; 1 = record {} } } })) };
 }
 
 impl AsnType for Grown {
@@ -93,9 +94,13 @@ impl Constructed for Grown {
 
     ghost table = { ⟦<Form as ComponentsOf>⟧.table };
 
-    ghost root = { λ x. ⟦<Form as ComponentsOf>⟧.root (record { 0 = x.level; 1 = record { 0 = x.ready; 1 = record { 0 = record { 0 = x.done; 1 = record { 0 = x.next; 1 = record {} } }; 1 = record {} } } }) };
+    ghost root = { λ x. ⟦<Form as ComponentsOf>⟧.root
+        (record { 0 = x.level; 1 = record { 0 = x.ready; 1 =
+        record { 0 = record { 0 = x.done; 1 = record { 0 = x.next; 1 = record {} } }; 1 = record {} } } }) };
 
-    ghost added = { λ x. ⟦<Form as ComponentsOf>⟧.added (record { 0 = x.level; 1 = record { 0 = x.ready; 1 = record { 0 = record { 0 = x.done; 1 = record { 0 = x.next; 1 = record {} } }; 1 = record {} } } }) };
+    ghost added = { λ x. ⟦<Form as ComponentsOf>⟧.added
+        (record { 0 = x.level; 1 = record { 0 = x.ready; 1 =
+        record { 0 = record { 0 = x.done; 1 = record { 0 = x.next; 1 = record {} } }; 1 = record {} } } }) };
 
     fn fields() -> Fields<'static> {
         const FIELDS: &'static [Field<'static>] = &[

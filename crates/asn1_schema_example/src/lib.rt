@@ -10,4 +10,5 @@ pub mod grown;
 pub mod measure;
 pub mod power;
 pub mod setting;
+pub mod station;
 pub mod tree;

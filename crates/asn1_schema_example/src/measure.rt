@@ -1,25 +1,15 @@
 //! SEQUENCE {offset INTEGER DEFAULT 0, exact BOOLEAN OPTIONAL}.
 ghost use Rattle.std.specs.Prelude.{refl, [], ◌∷◌, pos};
-ghost use Rattle.asn1_model.specs.Value.{fields, number};
-ghost use Rattle.asn1_schema_constraints.specs.Terms.{no_constraint};
-ghost use Rattle.asn1_schema_constructed.specs.Constructed.{sequence_form};
-ghost use Rattle.asn1_schema_presented.specs.Tables.{sequence_type};
-ghost use Rattle.asn1_schema_presented.proofs.Values.{type_sequence, value_sequence};
-ghost use Rattle.asn1_schema_presented.proofs.Defaults.{integer_default};
+ghost use Rattle.asn1_schema.specs.Author.{fields, number, no_constraint, sequence_form, sequence_type};
+ghost use Rattle.asn1_schema.proofs.Author.{type_sequence, value_sequence, integer_default};
 
-use asn1_schema_constraints::Constraints;
-use asn1_schema_constructed::{
-    Constructed, DecodeConstructed, EncodeConstructed, Field, FieldPresence, Fields,
+use asn1_schema::{
+    AsnType, ComponentsOf, Constraints, Constructed, Decode, DecodeComponents, DecodeConstructed,
+    DecodeError, Decoder, DefaultOf, Defaulted, DefaultedComponent, Described, Encode,
+    EncodeComponents, EncodeConstructed, EncodeError, Encoder, End, EqualByMeaning, Field,
+    FieldPresence, Fields, Identifier, Optional, OptionalComponent, Tag, TagTree,
 };
-use asn1_schema_decode::{Decode, DecodeComponents, Decoder};
-use asn1_schema_encode::{Encode, EncodeComponents, Encoder};
-use asn1_schema_faults::{DecodeError, EncodeError};
-use asn1_schema_tags::{Identifier, Tag, TagTree};
-use asn1_schema_types::{
-    AsnType, ComponentsOf, DefaultOf, Defaulted, DefaultedComponent, Described, End,
-    EqualByMeaning, Optional, OptionalComponent,
-};
-use asn1_values_integers::Integer;
+use asn1_values::Integer;
 use std::alloc::{AllocError, Global};
 use std::marker::PhantomData;
 
@@ -63,13 +53,18 @@ impl Described for Measure {
 
     ghost is_own = { λ _. refl };
 
-    ghost meaning = { λ x. fields (⟦<Form as ComponentsOf>⟧.root (record { 0 = x.offset; 1 = record {}; 2 = record { 0 = x.exact; 1 = record {} } })) (⟦<Form as ComponentsOf>⟧.added (record { 0 = x.offset; 1 = record {}; 2 = record { 0 = x.exact; 1 = record {} } })) };
+    ghost meaning = { λ x. fields (⟦<Form as ComponentsOf>⟧.root
+        (record { 0 = x.offset; 1 = record {}; 2 = record { 0 = x.exact; 1 = record {} } }))
+        (⟦<Form as ComponentsOf>⟧.added
+        (record { 0 = x.offset; 1 = record {}; 2 = record { 0 = x.exact; 1 = record {} } })) };
 
     ghost typed = { type_sequence _ refl (⟦<Form as ComponentsOf>⟧.typed (integer_default _ _ _ refl, tt)) refl };
 
-    ghost valued = { λ x. value_sequence _ (⟦<Form as ComponentsOf>⟧.valued (integer_default _ _ _ refl, tt) (record { 0 = x.offset; 1 = record {}; 2 = record { 0 = x.exact; 1 = record {} } })) };
+    ghost valued = { λ x. value_sequence _ (⟦<Form as ComponentsOf>⟧.valued (integer_default _ _ _ refl, tt)
+        (record { 0 = x.offset; 1 = record {}; 2 = record { 0 = x.exact; 1 = record {} } })) };
 
-    ghost valued_under = { λ _ x. value_sequence _ (⟦<Form as ComponentsOf>⟧.valued (integer_default _ _ _ refl, tt) (record { 0 = x.offset; 1 = record {}; 2 = record { 0 = x.exact; 1 = record {} } })) };
+    ghost valued_under = { λ _ x. value_sequence _ (⟦<Form as ComponentsOf>⟧.valued (integer_default _ _ _ refl, tt)
+        (record { 0 = x.offset; 1 = record {}; 2 = record { 0 = x.exact; 1 = record {} } })) };
 }
 
 impl AsnType for Measure {
@@ -91,9 +86,11 @@ impl Constructed for Measure {
 
     ghost table = { ⟦<Form as ComponentsOf>⟧.table };
 
-    ghost root = { λ x. ⟦<Form as ComponentsOf>⟧.root (record { 0 = x.offset; 1 = record {}; 2 = record { 0 = x.exact; 1 = record {} } }) };
+    ghost root = { λ x. ⟦<Form as ComponentsOf>⟧.root
+        (record { 0 = x.offset; 1 = record {}; 2 = record { 0 = x.exact; 1 = record {} } }) };
 
-    ghost added = { λ x. ⟦<Form as ComponentsOf>⟧.added (record { 0 = x.offset; 1 = record {}; 2 = record { 0 = x.exact; 1 = record {} } }) };
+    ghost added = { λ x. ⟦<Form as ComponentsOf>⟧.added
+        (record { 0 = x.offset; 1 = record {}; 2 = record { 0 = x.exact; 1 = record {} } }) };
 
     fn fields() -> Fields<'static> {
         const FIELDS: &'static [Field<'static>] = &[

@@ -1,23 +1,14 @@
 //! CHOICE {on [7] BOOLEAN, off [1] NULL}, whose alternatives stand in the order of their tags: off, on.
 ghost use Rattle.std.specs.Prelude.{◌∷◌, [], refl, true, false};
-ghost use Rattle.asn1_model.specs.Value.{nothing};
-ghost use Rattle.asn1_model.specs.Types.{context};
-ghost use Rattle.asn1_schema_constraints.specs.Terms.{no_constraint};
-ghost use Rattle.asn1_schema_constructed.specs.Tables.{variant, no_variant, choice_type};
-ghost use Rattle.asn1_schema_constructed.specs.Chosen.{chosen_value};
-ghost use Rattle.asn1_schema_constructed.proofs.Types.{type_choice, more_variants, no_variants, value_choice};
-ghost use Rattle.asn1_schema_presented.proofs.TypesByKind.{null_value};
+ghost use Rattle.asn1_schema.specs.Author.{nothing, context, no_constraint, variant, no_variant, choice_type};
+ghost use Rattle.asn1_schema.specs.Author.{chosen_value};
+ghost use Rattle.asn1_schema.proofs.Author.{type_choice, more_variants, no_variants, value_choice, null_value};
 
-use asn1_schema_constraints::Constraints;
-use asn1_schema_constructed::{
-    Alternatives, Choice, DecodeAlternatives, DecodeChoice, EncodeChoice,
+use asn1_schema::{
+    Alternatives, AsnType, Choice, Chosen, Class, Constraints, Decode, DecodeAlternatives,
+    DecodeChoice, DecodeError, Decoder, Described, Encode, EncodeChoice, EncodeError, Encoder,
+    Identifier, Tag, TagTree,
 };
-use asn1_schema_decode::{Decode, Decoder};
-use asn1_schema_encode::{Encode, Encoder};
-use asn1_schema_faults::{DecodeError, EncodeError};
-use asn1_schema_tags::{Class, Identifier, Tag, TagTree};
-use asn1_schema_types::{AsnType, Described};
-use asn1_schema_variants::Chosen;
 use std::alloc::Global;
 
 /// Whether something runs.
@@ -46,19 +37,26 @@ impl Described for Power {
 
     ghost own = { no_constraint };
 
-    ghost under = { λ _. choice_type (record { root = variant (context 1) ⟦<() as Described>⟧.schema (variant (context 7) ⟦<bool as Described>⟧.schema no_variant); extensible = false; additions = no_variant }) };
+    ghost under = { λ _. choice_type
+        (record { root = variant (context 1) ⟦<() as Described>⟧.schema
+        (variant (context 7) ⟦<bool as Described>⟧.schema no_variant); extensible = false; additions = no_variant }) };
 
-    ghost schema = { choice_type (record { root = variant (context 1) ⟦<() as Described>⟧.schema (variant (context 7) ⟦<bool as Described>⟧.schema no_variant); extensible = false; additions = no_variant }) };
+    ghost schema = { choice_type (record { root = variant (context 1) ⟦<() as Described>⟧.schema
+        (variant (context 7) ⟦<bool as Described>⟧.schema no_variant); extensible = false; additions = no_variant }) };
 
     ghost is_own = { λ _. refl };
 
-    ghost meaning = { elim [ Off ↦ chosen_value (record { added = false; place = 0 }) (nothing) | On x ↦ chosen_value (record { added = false; place = 1 }) (⟦<bool as Described>⟧.meaning x) ] };
+    ghost meaning = { elim [ Off ↦ chosen_value (record { added = false; place = 0 }) (nothing) | On x ↦ chosen_value
+        (record { added = false; place = 1 }) (⟦<bool as Described>⟧.meaning x) ] };
 
-    ghost typed = { type_choice _ refl (more_variants _ refl ⟦<() as Described>⟧.typed (more_variants _ refl ⟦<bool as Described>⟧.typed no_variants)) no_variants refl };
+    ghost typed = { type_choice _ refl (more_variants _ refl ⟦<() as Described>⟧.typed
+        (more_variants _ refl ⟦<bool as Described>⟧.typed no_variants)) no_variants refl };
 
-    ghost valued = { elim [ Off ↦ value_choice _ false 0 (null_value) | On x ↦ value_choice _ false 1 (⟦<bool as Described>⟧.valued x) ] };
+    ghost valued = { elim [ Off ↦ value_choice _ false 0 (null_value) | On x ↦ value_choice _ false 1
+        (⟦<bool as Described>⟧.valued x) ] };
 
-    ghost valued_under = { λ _. elim [ Off ↦ value_choice _ false 0 (null_value) | On x ↦ value_choice _ false 1 (⟦<bool as Described>⟧.valued x) ] };
+    ghost valued_under = { λ _. elim [ Off ↦ value_choice _ false 0 (null_value) | On x ↦ value_choice _ false 1
+        (⟦<bool as Described>⟧.valued x) ] };
 }
 
 impl AsnType for Power {
@@ -79,7 +77,8 @@ impl AsnType for Power {
 }
 
 impl Alternatives for Power {
-    ghost table = { record { root = variant (context 1) ⟦<() as Described>⟧.schema (variant (context 7) ⟦<bool as Described>⟧.schema no_variant); extensible = false; additions = no_variant } };
+    ghost table = { record { root = variant (context 1) ⟦<() as Described>⟧.schema
+        (variant (context 7) ⟦<bool as Described>⟧.schema no_variant); extensible = false; additions = no_variant } };
 
     fn variants() -> &'static [Tag] {
         &[OFF, ON]

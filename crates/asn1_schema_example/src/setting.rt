@@ -1,21 +1,13 @@
 //! SEQUENCE {on BOOLEAN, level INTEGER (0..255) OPTIONAL, step NULL}.
 ghost use Rattle.std.specs.Prelude.{refl, [], ◌∷◌};
-ghost use Rattle.asn1_model.specs.Value.{fields};
-ghost use Rattle.asn1_schema_constraints.specs.Terms.{no_constraint};
-ghost use Rattle.asn1_schema_constructed.specs.Constructed.{sequence_form};
-ghost use Rattle.asn1_schema_presented.specs.Tables.{sequence_type};
-ghost use Rattle.asn1_schema_presented.proofs.Values.{type_sequence, value_sequence};
+ghost use Rattle.asn1_schema.specs.Author.{fields, no_constraint, sequence_form, sequence_type};
+ghost use Rattle.asn1_schema.proofs.Author.{type_sequence, value_sequence};
 
-use asn1_schema_constraints::Constraints;
-use asn1_schema_constructed::{
-    Constructed, DecodeConstructed, EncodeConstructed, Field, FieldPresence, Fields,
-};
-use asn1_schema_decode::{Decode, DecodeComponents, Decoder};
-use asn1_schema_encode::{Encode, EncodeComponents, Encoder};
-use asn1_schema_faults::{DecodeError, EncodeError};
-use asn1_schema_tags::{Identifier, Tag, TagTree};
-use asn1_schema_types::{
-    AsnType, ComponentsOf, Described, End, Optional, OptionalComponent, Required, RequiredComponent,
+use asn1_schema::{
+    AsnType, ComponentsOf, Constraints, Constructed, Decode, DecodeComponents, DecodeConstructed,
+    DecodeError, Decoder, Described, Encode, EncodeComponents, EncodeConstructed, EncodeError,
+    Encoder, End, Field, FieldPresence, Fields, Identifier, Optional, OptionalComponent, Required,
+    RequiredComponent, Tag, TagTree,
 };
 use std::alloc::Global;
 
@@ -43,13 +35,18 @@ impl Described for Setting {
 
     ghost is_own = { λ _. refl };
 
-    ghost meaning = { λ x. fields (⟦<Form as ComponentsOf>⟧.root (record { 0 = x.on; 1 = record { 0 = x.level; 1 = record { 0 = x.step; 1 = record {} } } })) (⟦<Form as ComponentsOf>⟧.added (record { 0 = x.on; 1 = record { 0 = x.level; 1 = record { 0 = x.step; 1 = record {} } } })) };
+    ghost meaning = { λ x. fields (⟦<Form as ComponentsOf>⟧.root
+        (record { 0 = x.on; 1 = record { 0 = x.level; 1 = record { 0 = x.step; 1 = record {} } } }))
+        (⟦<Form as ComponentsOf>⟧.added
+        (record { 0 = x.on; 1 = record { 0 = x.level; 1 = record { 0 = x.step; 1 = record {} } } })) };
 
     ghost typed = { type_sequence _ refl (⟦<Form as ComponentsOf>⟧.typed tt) refl };
 
-    ghost valued = { λ x. value_sequence _ (⟦<Form as ComponentsOf>⟧.valued tt (record { 0 = x.on; 1 = record { 0 = x.level; 1 = record { 0 = x.step; 1 = record {} } } })) };
+    ghost valued = { λ x. value_sequence _ (⟦<Form as ComponentsOf>⟧.valued tt
+        (record { 0 = x.on; 1 = record { 0 = x.level; 1 = record { 0 = x.step; 1 = record {} } } })) };
 
-    ghost valued_under = { λ _ x. value_sequence _ (⟦<Form as ComponentsOf>⟧.valued tt (record { 0 = x.on; 1 = record { 0 = x.level; 1 = record { 0 = x.step; 1 = record {} } } })) };
+    ghost valued_under = { λ _ x. value_sequence _ (⟦<Form as ComponentsOf>⟧.valued tt
+        (record { 0 = x.on; 1 = record { 0 = x.level; 1 = record { 0 = x.step; 1 = record {} } } })) };
 }
 
 impl AsnType for Setting {
@@ -71,9 +68,11 @@ impl Constructed for Setting {
 
     ghost table = { ⟦<Form as ComponentsOf>⟧.table };
 
-    ghost root = { λ x. ⟦<Form as ComponentsOf>⟧.root (record { 0 = x.on; 1 = record { 0 = x.level; 1 = record { 0 = x.step; 1 = record {} } } }) };
+    ghost root = { λ x. ⟦<Form as ComponentsOf>⟧.root
+        (record { 0 = x.on; 1 = record { 0 = x.level; 1 = record { 0 = x.step; 1 = record {} } } }) };
 
-    ghost added = { λ x. ⟦<Form as ComponentsOf>⟧.added (record { 0 = x.on; 1 = record { 0 = x.level; 1 = record { 0 = x.step; 1 = record {} } } }) };
+    ghost added = { λ x. ⟦<Form as ComponentsOf>⟧.added
+        (record { 0 = x.on; 1 = record { 0 = x.level; 1 = record { 0 = x.step; 1 = record {} } } }) };
 
     fn fields() -> Fields<'static> {
         const FIELDS: &'static [Field<'static>] = &[

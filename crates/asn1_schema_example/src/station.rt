@@ -1,6 +1,7 @@
 //! SEQUENCE {id INTEGER (0..65535), name UTF8String, height [0] INTEGER OPTIONAL, active BOOLEAN, samples SEQUENCE OF
 //! INTEGER (0..255)}.
-ghost use Rattle.asn1_schema.specs.Author.{fields, refl, sequence_type};
+ghost use Rattle.std.specs.Prelude.{refl};
+ghost use Rattle.asn1_schema.specs.Author.{fields_of};
 ghost use Rattle.asn1_schema.proofs.Author.{type_sequence, value_sequence};
 
 use asn1_schema::{
@@ -34,11 +35,15 @@ type Form = RequiredComponent<u16, RequiredComponent<String, Rest>>;
 impl SequenceFields for Station {
     ghost table = { ⟦<Form as ComponentsOf>⟧.table };
 
-    ghost value = { λ x. fields (⟦<Form as ComponentsOf>⟧.root (record { 0 = x.id; 1 = record { 0 = x.name; 1 = record { 0 = x.height; 1 = record { 0 = x.active; 1 = record { 0 = x.samples; 1 = record {} } } } } })) (⟦<Form as ComponentsOf>⟧.added (record { 0 = x.id; 1 = record { 0 = x.name; 1 = record { 0 = x.height; 1 = record { 0 = x.active; 1 = record { 0 = x.samples; 1 = record {} } } } } })) };
+    ghost value = { λ x. fields_of ⟦<Form as ComponentsOf>⟧.root ⟦<Form as ComponentsOf>⟧.added
+        (record { 0 = x.id; 1 = record { 0 = x.name; 1 = record { 0 = x.height; 1 =
+        record { 0 = x.active; 1 = record { 0 = x.samples; 1 = record {} } } } } }) };
 
     ghost lawful = { type_sequence _ refl (⟦<Form as ComponentsOf>⟧.typed tt) refl };
 
-    ghost each = { λ x. value_sequence _ (⟦<Form as ComponentsOf>⟧.valued tt (record { 0 = x.id; 1 = record { 0 = x.name; 1 = record { 0 = x.height; 1 = record { 0 = x.active; 1 = record { 0 = x.samples; 1 = record {} } } } } })) };
+    ghost each = { λ x. value_sequence _ (⟦<Form as ComponentsOf>⟧.valued tt
+        (record { 0 = x.id; 1 = record { 0 = x.name; 1 = record { 0 = x.height; 1 =
+        record { 0 = x.active; 1 = record { 0 = x.samples; 1 = record {} } } } } })) };
 
     fn write<E: Encoder>(&self, encoder: &mut E, tag: Tag) -> Result<(), EncodeError> {
         let last = Required(&self.active, Required(&self.samples, End));
@@ -50,6 +55,12 @@ impl SequenceFields for Station {
         let form: Form = decoder.decode_sequence(alloc, tag, 1)?;
         let RequiredComponent(id, RequiredComponent(name, OptionalComponent(height, last))) = form;
         let RequiredComponent(active, RequiredComponent(samples, End)) = last;
-        Ok(Station { id, name, height, active, samples })
+        Ok(Station {
+            id,
+            name,
+            height,
+            active,
+            samples,
+        })
     }
 }

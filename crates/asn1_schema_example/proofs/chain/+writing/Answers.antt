@@ -1,10 +1,8 @@
 use Rattle.std.proofs.Common.{refl, ◌∙◌}
-use Rattle.asn1_schema_presented.proofs.Joined.{raised}
-use Rattle.asn1_schema_encode.proofs.Writing.{writes_required, writes_end, writes_field, writes_this, writes_as, cannot_as, cannot_required, cannot_end, cannot_field, cannot_field_here, cannot_this, cannot_this_here}
-use Rattle.asn1_schema_constructed.proofs.Counting.{count_marks}
-use Rattle.asn1_schema_presented.proofs.TypesByKind.{integer_value}
-use Rattle.asn1_schema_presented.proofs.Values.{part_optional}
-use Rattle.asn1_schema_encode.proofs.Going.{passed, failed_before_value, failed_before_part}
+use Rattle.asn1_schema.proofs.Author.{raised, writes_required, writes_end, writes_field, writes_this, writes_as}
+use Rattle.asn1_schema.proofs.Author.{cannot_as, cannot_required, cannot_end, cannot_field, cannot_field_here}
+use Rattle.asn1_schema.proofs.Author.{cannot_this, cannot_this_here, count_marks, integer_value, part_optional}
+use Rattle.asn1_schema.proofs.Author.{passed, failed_before_value, failed_before_part}
 use Rattle.asn1_schema_example.specs.Chain.{chain_table, chain_schema, chain_is, chain_opens, chain_meaning, chain_typed, chain_valued, number_typed}
 use Rattle.asn1_schema_example.proofs.chain.+writing.Goals as goal
 

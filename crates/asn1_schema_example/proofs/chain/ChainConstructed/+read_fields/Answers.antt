@@ -1,10 +1,9 @@
 use Rattle.std.proofs.Common.{refl, ◌∙◌, ap, Err}
-use Rattle.asn1_model.specs.Schema.{optional}
-use Rattle.asn1_schema_presented.proofs.Joined.{raised}
-use Rattle.asn1_schema_decode.proofs.Reading.{reads_as, unread_as, reads_required, reads_left_out, reads_there, reads_end, reads_field, reads_sequence, unread_required, unread_mark, unread_marked, unread_end, unread_field, unread_field_here, unread_sequence, unread_sequence_here}
-use Rattle.asn1_schema_presented.proofs.Chains.{failed_before}
-use Rattle.asn1_schema_decode.proofs.Failing.{passed_on, failed_reads}
-use Rattle.asn1_schema_constructed.proofs.Counting.{count_marks}
+use Rattle.asn1_schema.specs.Author.{optional}
+use Rattle.asn1_schema.proofs.Author.{raised, reads_as, unread_as, reads_required, reads_left_out, reads_there}
+use Rattle.asn1_schema.proofs.Author.{reads_end, reads_field, reads_sequence, unread_required, unread_mark}
+use Rattle.asn1_schema.proofs.Author.{unread_marked, unread_end, unread_field, unread_field_here, unread_sequence}
+use Rattle.asn1_schema.proofs.Author.{unread_sequence_here, failed_before, passed_on, failed_reads, count_marks}
 use Rattle.asn1_schema_example.specs.Chain.{chain_table, chain_schema, chain_is, chain_opens, chain_made, chain_typed, number_typed}
 use Rattle.asn1_schema_example.proofs.chain.ChainConstructed.+read_fields.Goals as goal
 

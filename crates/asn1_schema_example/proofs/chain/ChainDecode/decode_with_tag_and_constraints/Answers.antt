@@ -1,7 +1,6 @@
 use Rattle.std.proofs.Common.{refl, ◌∙◌}
-use Rattle.asn1_schema_presented.proofs.Joined.{raised}
-use Rattle.asn1_schema_decode.proofs.Reading.{reads_as, unread_as, reads_sequence, unread_sequence, unread_sequence_here}
-use Rattle.asn1_schema_constructed.proofs.Counting.{count_marks}
+use Rattle.asn1_schema.proofs.Author.{raised, reads_as, unread_as, reads_sequence, unread_sequence}
+use Rattle.asn1_schema.proofs.Author.{unread_sequence_here, count_marks}
 use Rattle.asn1_schema_example.specs.Chain.{chain_table, chain_schema, chain_is, chain_opens}
 use Rattle.asn1_schema_example.proofs.chain.ChainDecode.decode_with_tag_and_constraints.Goals as goal
 

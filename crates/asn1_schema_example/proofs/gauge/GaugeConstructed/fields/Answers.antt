@@ -1,6 +1,6 @@
 use Rattle.std.proofs.Common.{◌∙◌, refl}
-use Rattle.asn1_schema_tags.proofs.TreeLaws.{leaves_leaf, leaves_choice}
-use Rattle.asn1_schema_example.proofs.Leaves.{two_leaves}
+use Rattle.asn1_schema.proofs.Author.{leaves_leaf, leaves_choice}
+use Rattle.asn1_schema.proofs.Author.{two_leaves}
 use Rattle.asn1_schema_example.proofs.gauge.GaugeConstructed.fields.Goals as goal
 
 -- The tree of the choice has the tags of its alternatives.
