@@ -1,6 +1,6 @@
-//! Types of a program's own, as their author writes them: sequences, one with a default, one that leads back to itself
-//! and one that does so through a list (X.680 25 and 26); a choice; sets in which it stands without a tag of its own,
-//! and one with additions (X.680 27 and 29).
+//! Types of a program's own, as their author writes them: sequences, one with a default and one that leads back to
+//! itself (X.680 25); a choice; sets in which it stands without a tag of its own, and one with additions (X.680 27 and
+//! 29).
 #![tactic(auto)]
 
 pub mod chain;
@@ -11,4 +11,3 @@ pub mod measure;
 pub mod power;
 pub mod setting;
 pub mod station;
-pub mod tree;

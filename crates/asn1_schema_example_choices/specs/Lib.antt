@@ -1,1 +1,2 @@
 pub mod Nest
+pub mod Tree

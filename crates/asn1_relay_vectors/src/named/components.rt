@@ -10,7 +10,7 @@ use asn1_relay_vectors_types::{
 use asn1_schema_example::control::Control;
 use asn1_schema_example::gauge::Gauge;
 use asn1_schema_example::grown::Grown;
-use asn1_schema_example::tree::Tree;
+use asn1_schema_example_choices::tree::Tree;
 use asn1_values_integers::ConstrainedInteger;
 use std::alloc::Global;
 use std::marker::PhantomData;

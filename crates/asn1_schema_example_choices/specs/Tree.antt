@@ -1,18 +1,22 @@
 -- T ::= SEQUENCE {value INTEGER, branches SEQUENCE OF T}: the type and its values.
 use Rattle.std.specs.Prelude.{◌≡◌, ℕ, zero, suc, refl, List, [], ◌∷◌, map, None, false}
 use Rattle.std.proofs.Common.{ap, sym, subst, ◌∙◌}
-use Rattle.asn1_schema.specs.Author.{Value, Values, Parts, number, members, no_more, member, fields, end, Schema}
-use Rattle.asn1_schema.specs.Author.{required, integer, cut, any_size, is_lawful, there, with_part, values_of}
-use Rattle.asn1_schema.specs.Author.{Table, no_table, with_field, components_at, scope, sequence_type, list_type}
-use Rattle.asn1_schema.specs.Author.{IsType, IsValue, any_number}
-use Rattle.asn1_schema.proofs.Author.{integer_type, integer_value, type_list, value_list, no_types, more_types}
-use Rattle.asn1_schema.proofs.Author.{no_values, more_values, part_required, type_sequence, value_sequence}
-use Rattle.asn1_schema.proofs.Author.{value_as}
-use Rattle.asn1_schema_example.specs.declared.tree.Tree.{Tree, Tree', Row_of-Tree, end_of-Tree, more_of-Tree, items-the_row-Tree, items_hidden-the_row-Tree-0}
-use Rattle.asn1_schema_example.specs.declared.tree.Tree.TheBlock.{hidden-the_row-Tree-0}
-use Rattle.asn1_schema_example.specs.declared.tree.Tree.TheOpen.{Tree-F}
-use Rattle.asn1_schema_example.specs.declared.tree.Tree.TheViews.{out-Tree, roll-Tree, out-roll-Tree, roll-out-Tree, rolls-struct-Tree}
-use Rattle.asn1_schema_example.specs.declared.tree.Tree.TheFolds.{ind-Tree}
+use Rattle.asn1_model.specs.Value.{Value, Values, Parts, number, members, no_more, member, fields, end}
+use Rattle.asn1_model.specs.Schema.{Schema, required, integer, cut}
+use Rattle.asn1_model.specs.Types.{any_size}
+use Rattle.asn1_model.specs.Lawful.{is_lawful}
+use Rattle.asn1_schema_presented.specs.Presents.{there, with_part}
+use Rattle.asn1_schema_presented.specs.Parts.{values_of}
+use Rattle.asn1_schema_presented.specs.Tables.{Table, no_table, with_field, components_at, scope, sequence_type, list_type, IsType, IsValue}
+use Rattle.asn1_schema_presented.proofs.TypesByKind.{integer_type, integer_value, type_list, value_list}
+use Rattle.asn1_schema_presented.proofs.Values.{no_types, more_types, no_values, more_values, part_required, type_sequence, value_sequence}
+use Rattle.asn1_schema_presented.proofs.Recursive.{value_as}
+use Rattle.asn1_schema_types.specs.Counts.{any_number}
+use Rattle.asn1_schema_example_choices.specs.declared.tree.Tree.{Tree, Tree', Row_of-Tree, end_of-Tree, more_of-Tree, items-the_row-Tree, items_hidden-the_row-Tree-0}
+use Rattle.asn1_schema_example_choices.specs.declared.tree.Tree.TheBlock.{hidden-the_row-Tree-0}
+use Rattle.asn1_schema_example_choices.specs.declared.tree.Tree.TheOpen.{Tree-F}
+use Rattle.asn1_schema_example_choices.specs.declared.tree.Tree.TheViews.{out-Tree, roll-Tree, out-roll-Tree, roll-out-Tree, rolls-struct-Tree}
+use Rattle.asn1_schema_example_choices.specs.declared.tree.Tree.TheFolds.{ind-Tree}
 
 -- INTEGER, in any number of levels.
 abbrev pub whole_number : ℕ → Schema

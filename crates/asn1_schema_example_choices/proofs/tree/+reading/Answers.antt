@@ -1,12 +1,12 @@
 use Rattle.std.proofs.Common.{refl, ◌∙◌, arith, ap, Err}
-use Rattle.asn1_schema.proofs.Author.{raised, reads_list, unread_list, unread_list_here, from_start, from_next}
-use Rattle.asn1_schema.proofs.Author.{from_further, from_stuck, from_close, from_end, reads_as, unread_as}
-use Rattle.asn1_schema.proofs.Author.{reads_required, reads_end, reads_field, reads_sequence, unread_required}
-use Rattle.asn1_schema.proofs.Author.{unread_end, unread_field, unread_field_here, unread_sequence}
-use Rattle.asn1_schema.proofs.Author.{unread_sequence_here, passed_on, failed_reads, count_marks}
-use Rattle.asn1_schema_example.specs.Tree.{tree_table, tree_is, branches_schema, branches_are, tree_opens, tree_made, number_typed, branches_typed}
-use Rattle.asn1_schema_example.proofs.Held.{is_held}
-use Rattle.asn1_schema_example.proofs.tree.+reading.Goals as goal
+use Rattle.asn1_schema_presented.proofs.Joined.{raised}
+use Rattle.asn1_schema_decode.proofs.Listing.{reads_list, unread_list, unread_list_here, from_start, from_next, from_further, from_stuck, from_close, from_end}
+use Rattle.asn1_schema_decode.proofs.Reading.{reads_as, unread_as, reads_required, reads_end, reads_field, reads_sequence, unread_required, unread_end, unread_field, unread_field_here, unread_sequence, unread_sequence_here}
+use Rattle.asn1_schema_decode.proofs.Failing.{passed_on, failed_reads}
+use Rattle.asn1_schema_constructed.proofs.Counting.{count_marks}
+use Rattle.asn1_schema_example_choices.specs.Tree.{tree_table, tree_is, branches_schema, branches_are, tree_opens, tree_made, number_typed, branches_typed}
+use Rattle.asn1_schema_example_choices.proofs.Held.{is_held}
+use Rattle.asn1_schema_example_choices.proofs.tree.+reading.Goals as goal
 
 pub TreeConstructed::read_fields-returns-in_err-value-clause-only : goal.TreeConstructed::read_fields-returns-in_err-value-clause-only
 TreeConstructed::read_fields-returns-in_err-value-clause-only g t c = raised _ _ _ c.from_residual.ensures.1 (unread_field_here _ _ (unread_required number_typed c.in_err-value.ensures.only))
