@@ -198,12 +198,13 @@ sized al z held pads us = only_if (is_count_within held (length us))
 abbrev pub never : Counts → Bool
 never c = false
 
+-- The bits that all have, where the number of units is fixed.
+abbrev pub fixed_bits : ℕ → Counts → Option ℕ
+fixed_bits unit c = option_and_then (λ high. cond (high == c.low) (Some (high * unit)) None) c.high
+
 -- Contents of no bits take no filling, and nor do fixed ones of at most 16 bits (X.691 16.9 to 16.11, 17.6 to 17.8).
 abbrev pub pads_string : ℕ → ℕ → Counts → Bool
-pads_string unit n c =
-    not (n * unit == 0) && elim
-    (option_and_then (λ high. cond (high == c.low)
-    (Some (high * unit)) None) c.high) [ None ↦ true | Some all ↦ ltb 16 all ]
+pads_string unit n c = not (n * unit == 0) && elim (fixed_bits unit c) [ None ↦ true | Some all ↦ ltb 16 all ]
 
 -- Characters also take none where as many as there may be have fewer than 16 bits (X.691 30.5.6 and 30.5.7). Where they
 -- take filling is the project's choice.

@@ -4,7 +4,7 @@ use Rattle.std.specs.Prelude.{max}
 use Rattle.std.proofs.Math.Nat.{le-max_left, le-max_right}
 use Rattle.asn1_model.specs.Value.{Value, bag, member, depth, depth_of_members, map_members}
 use Rattle.asn1_model.specs.Schema.{Tag, Counts, Size, Schema, set_of}
-use Rattle.asn1_model.specs.Normal.{normal}
+use Rattle.asn1_model.specs.Normal.{normal, is_tidy}
 use Rattle.asn1_model.specs.Lawful.{is_lawful, is_group, is_size}
 use Rattle.asn1_schema_presented.specs.Presents.{Fits, AllFit}
 use Rattle.asn1_schema_presented.specs.Parts.{values_of}
@@ -12,10 +12,11 @@ use Rattle.asn1_schema_presented.specs.Tables.{scope, are_tags, IsType, IsValue}
 use Rattle.asn1_schema_constructed.specs.Bags.{bag_type}
 
 pub type_bag : {ts us : List Tag} (z : Size) (h : Counts) {s : ℕ → Schema} → are_tags ts ≡ true → is_size z h ≡ true → IsType us s → IsType ts (bag_type z h s)
-unfolding bag_type scope is_lawful
+unfolding bag_type scope is_lawful is_tidy
 type_bag z h {s} e k t = record {
   tagged = e;
   lawful = λ n. elim n as (λ n. is_lawful (scope n (λ m. set_of z h (s m))) ≡ true) [ zero ↦ refl | suc m ↦ rw (k, t.no_group m) (t.lawful m) ];
+  tidy = λ n. elim n as (λ n. is_tidy (scope n (λ m. set_of z h (s m))) ≡ true) [ zero ↦ refl | suc m ↦ t.tidy m ];
   no_group = λ n. elim n as (λ n. is_group (scope n (λ m. set_of z h (s m))) ≡ false) [ zero ↦ refl | suc m ↦ refl ];
 }
 

@@ -4,7 +4,7 @@ use Rattle.std.specs.Prelude.{max}
 use Rattle.std.proofs.Math.Nat.{le-max_left, le-max_right}
 use Rattle.asn1_model.specs.Value.{fields, Parts, depth, depth_of_parts}
 use Rattle.asn1_model.specs.Schema.{Tag, set}
-use Rattle.asn1_model.specs.Normal.{normal, normal_parts}
+use Rattle.asn1_model.specs.Normal.{normal, normal_parts, is_tidy}
 use Rattle.asn1_model.specs.Lawful.{is_lawful, is_group, are_distinct, are_ascending, tag_same, tag_less, smallest, component_places}
 use Rattle.asn1_schema_presented.specs.Presents.{Fits}
 use Rattle.asn1_schema_presented.specs.Tables.{Fields, no_field, field, Table, components_at, field_tags, scope, are_tags, IsType, IsValue}
@@ -19,10 +19,11 @@ places_at n (field [] o s fs) = places_at n fs
 places_at n (field (t ∷ ts) o s fs) = ap (λ us. smallest t ts ∷ us) (places_at n fs)
 
 pub type_set : {ts : List Tag} (t : Table) → are_tags ts ≡ true → AreTypes t → are_distinct tag_same (field_tags t.root ++ field_tags t.additions) ≡ true → are_ascending tag_less (field_places t.root) ≡ true → IsType ts (set_type t)
-unfolding scope is_lawful
+unfolding scope is_lawful is_tidy
 type_set {ts} t e h d a = record {
   tagged = e;
   lawful = λ n. elim n as (λ n. is_lawful (scope n (λ m. set (components_at m t.root) t.extensible (components_at m t.additions))) ≡ true) [ zero ↦ refl | suc m ↦ rw (h.marked m, tags_at m t.root, tags_at m t.additions, d, h.no_group m, h.optional_groups m, places_at m t.root, a, h.lawful m) (h.lawful_additions m) ];
+  tidy = λ n. elim n as (λ n. is_tidy (scope n (λ m. set (components_at m t.root) t.extensible (components_at m t.additions))) ≡ true) [ zero ↦ refl | suc m ↦ rw (h.tidy m) (h.tidy_additions m) ];
   no_group = λ n. elim n as (λ n. is_group (scope n (λ m. set (components_at m t.root) t.extensible (components_at m t.additions))) ≡ false) [ zero ↦ refl | suc m ↦ refl ];
 }
 

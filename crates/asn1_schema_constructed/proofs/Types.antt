@@ -2,7 +2,7 @@
 use Rattle.std.proofs.Common.{◌≡◌, ℕ, ℤ, ◌≤◌, ◌+◌, zero, suc, Bool, true, false, List, ◌∷◌, refl, ◌∙◌, ap, arith}
 use Rattle.asn1_model.specs.Value.{Value, item, chosen, depth}
 use Rattle.asn1_model.specs.Schema.{Tag, Schema, cut, enumerated, choice}
-use Rattle.asn1_model.specs.Normal.{normal, normal_alternative}
+use Rattle.asn1_model.specs.Normal.{normal, normal_alternative, is_tidy, are_tidy_alternatives}
 use Rattle.asn1_model.specs.Lawful.{is_lawful, are_lawful_alternatives, is_group, is_tag, is_empty, are_no_alternatives, alternative_tags}
 use Rattle.asn1_schema_presented.specs.Presents.{Fits, ChosenFits}
 use Rattle.asn1_schema_presented.specs.Tables.{scope, are_tags, IsType, IsValue}
@@ -11,8 +11,8 @@ use Rattle.asn1_schema_constructed.specs.Recursive.{recursive_choice}
 
 -- ---- enumerations
 pub type_enumerated : {ts : List Tag} (roots : List ℤ) (e : Bool) (others : List ℤ) → are_tags ts ≡ true → are_items roots e others ≡ true → IsType ts (λ _. enumerated roots e others)
-unfolding is_lawful
-type_enumerated roots e others k h = record { tagged = k; lawful = λ n. h; no_group = λ n. refl }
+unfolding is_lawful is_tidy
+type_enumerated roots e others k h = record { tagged = k; lawful = λ n. h; tidy = λ n. refl; no_group = λ n. refl }
 
 pub value_enumerated : (roots : List ℤ) (e : Bool) (others : List ℤ) (z : ℤ) → IsValue (λ _. enumerated roots e others) (item z)
 unfolding Fits normal
@@ -20,12 +20,12 @@ value_enumerated roots e others z = record { fits = λ n le. tt; normal = λ n. 
 
 -- ---- alternatives
 pub no_variants : AreVariants no_variant
-unfolding alternatives_at are_lawful_alternatives
-no_variants = record { lawful = λ n. refl }
+unfolding alternatives_at are_lawful_alternatives are_tidy_alternatives
+no_variants = record { lawful = λ n. refl; tidy = λ n. refl }
 
 pub more_variants : (t : Tag) {us : List Tag} {s : ℕ → Schema} {vs : Variants} → is_tag t ≡ true → IsType us s → AreVariants vs → AreVariants (variant t s vs)
-unfolding alternatives_at are_lawful_alternatives
-more_variants t e h k = record { lawful = λ n. rw (e, h.no_group n, h.lawful n) (k.lawful n) }
+unfolding alternatives_at are_lawful_alternatives are_tidy_alternatives
+more_variants t e h k = record { lawful = λ n. rw (e, h.no_group n, h.lawful n) (k.lawful n); tidy = λ n. rw (h.tidy n) (k.tidy n) }
 
 -- their tags in whatever depth they are unfolded
 pub tags_at : (n : ℕ) (vs : Variants) → alternative_tags (alternatives_at n vs) ≡ tags_of vs
@@ -59,10 +59,11 @@ normal_at n (variant t s vs) (suc i) v = normal_at n vs i v
 
 -- ---- choices
 pub type_choice : {ts : List Tag} (t : Choices) → are_tags ts ≡ true → AreVariants t.root → AreVariants t.additions → are_choices t ≡ true → IsType ts (choice_type t)
-unfolding choice_type scope is_lawful
+unfolding choice_type scope is_lawful is_tidy
 type_choice {ts} t e h k d = record {
   tagged = e;
   lawful = λ n. elim n as (λ n. is_lawful (scope n (λ m. choice (alternatives_at m t.root) t.extensible (alternatives_at m t.additions))) ≡ true) [ zero ↦ refl | suc m ↦ rw (none_at m t.root, none_at m t.additions, tags_at m t.root, tags_at m t.additions, d, h.lawful m) (k.lawful m) ];
+  tidy = λ n. elim n as (λ n. is_tidy (scope n (λ m. choice (alternatives_at m t.root) t.extensible (alternatives_at m t.additions))) ≡ true) [ zero ↦ refl | suc m ↦ rw (h.tidy m) (k.tidy m) ];
   no_group = λ n. elim n as (λ n. is_group (scope n (λ m. choice (alternatives_at m t.root) t.extensible (alternatives_at m t.additions))) ≡ false) [ zero ↦ refl | suc m ↦ refl ];
 }
 
@@ -89,11 +90,11 @@ value_choice t b i {v} h = record {
 
 -- ---- choices that lead back to themselves
 cut_type : {ts : List Tag} → are_tags ts ≡ true → IsType ts (λ _. cut)
-unfolding is_lawful
-cut_type e = record { tagged = e; lawful = λ n. refl; no_group = λ n. refl }
+unfolding is_lawful is_tidy
+cut_type e = record { tagged = e; lawful = λ n. refl; tidy = λ n. refl; no_group = λ n. refl }
 
 type_below : {ts : List Tag} {s : ℕ → Schema} → IsType ts s → (n : ℕ) → IsType ts (λ _. s n)
-type_below h n = record { tagged = h.tagged; lawful = λ m. h.lawful n; no_group = λ m. h.no_group n }
+type_below h n = record { tagged = h.tagged; lawful = λ m. h.lawful n; tidy = λ m. h.tidy n; no_group = λ m. h.no_group n }
 
 module _ {ts : List Tag} (f : (ℕ → Schema) → Choices) (e : are_tags ts ≡ true) (h : (s : ℕ → Schema) → IsType ts s → AreVariants (f s).root) (k : (s : ℕ → Schema) → IsType ts s → AreVariants (f s).additions) (d : (s : ℕ → Schema) → are_choices (f s) ≡ true) where
   each_level : (n : ℕ) → IsType ts (λ _. recursive_choice f n)
@@ -102,4 +103,4 @@ module _ {ts : List Tag} (f : (ℕ → Schema) → Choices) (e : are_tags ts ≡
   each_level (suc n) = let t = each_level n in type_below (type_choice (f (λ _. recursive_choice f n)) e (h (λ _. recursive_choice f n) t) (k (λ _. recursive_choice f n) t) (d (λ _. recursive_choice f n))) (suc n)
 
   pub recursive_choice_type : IsType ts (recursive_choice f)
-  recursive_choice_type = record { tagged = e; lawful = λ n. (each_level n).lawful n; no_group = λ n. (each_level n).no_group n }
+  recursive_choice_type = record { tagged = e; lawful = λ n. (each_level n).lawful n; tidy = λ n. (each_level n).tidy n; no_group = λ n. (each_level n).no_group n }

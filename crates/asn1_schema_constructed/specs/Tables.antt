@@ -1,6 +1,7 @@
 -- A choice's schema, unfolded to any number of nested levels, is made of these.
 use Rattle.std.specs.Prelude.{◌≡◌, ℕ, ℤ, zero, suc, Bool, true, false, not, ◌&&◌, ◌||◌, List, [], ◌∷◌, ◌++◌}
 use Rattle.asn1_model.specs.Schema.{Tag, Schema, cut, choice, Alternatives, no_alternative, alternative}
+use Rattle.asn1_model.specs.Normal.{are_tidy_alternatives}
 use Rattle.asn1_model.specs.Lawful.{are_lawful_alternatives, are_distinct, are_ascending, int_less, tag_less, tag_same, is_empty}
 use Rattle.asn1_model.specs.Value.{same_number}
 use Rattle.asn1_schema_presented.specs.Tables.{scope}
@@ -48,9 +49,10 @@ are_choices t =
     not (is_empty (tags_of t.root)) && (t.extensible || is_empty (tags_of t.additions)) && are_ascending tag_less (tags_of t.root)
     && are_distinct tag_same (tags_of t.root ++ tags_of t.additions)
 
--- The types of the alternatives are lawful, and none is a group of additions.
+-- The types of the alternatives are lawful, and none is a group of additions; their defaults are in normal form.
 pub record AreVariants (vs : Variants) : Type 0 where
   pub lawful : (n : ℕ) → are_lawful_alternatives (alternatives_at n vs) ≡ true
+  pub tidy : (n : ℕ) → are_tidy_alternatives (alternatives_at n vs) ≡ true
 
 -- The tags that a choice without a tag of its own may begin with (X.680 29).
 abbrev pub all_tags : Choices → List Tag
