@@ -147,7 +147,7 @@ impl<G: Group, R: AdditionsOf> AdditionsOf for AddedGroupComponent<G, R> {
         R::count().saturating_add(1)
     }
 
-    ghost typed = { λ d. more_addition_types (field_tags G.components.root) optional (λ _. refl) (group_addition G.plain G.lawful) (R.typed d) };
+    ghost typed = { λ d. more_addition_types (field_tags G.components.root) optional (λ _. refl) (group_addition G.plain G.lawful G.tidy) (R.typed d) };
 
     ghost valued = { λ d x. more_addition_values (field_tags G.components.root) (group_valued G.parts x.0 G.plain G.each) (R.valued d x.1) };
 }

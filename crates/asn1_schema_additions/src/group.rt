@@ -1,6 +1,7 @@
 //! Groups of additions.
 ghost use Rattle.std.specs.Prelude.{◌≡◌, ℕ, true};
 ghost use Rattle.asn1_model.specs.Lawful.{is_lawful};
+ghost use Rattle.asn1_model.specs.Normal.{is_tidy};
 ghost use Rattle.asn1_model.specs.Value.{Parts, are_absent, end, fields};
 ghost use Rattle.asn1_schema_presented.specs.Tables.{Table, sequence_type, IsValue};
 ghost use Rattle.asn1_schema_presented.specs.Additions.{IsGroup};
@@ -20,6 +21,9 @@ pub trait Group: Constructed {
 
     /// As a sequence it is lawful.
     ghost lawful: { (n : ℕ) → is_lawful (sequence_type components n) ≡ true };
+
+    /// Its defaults are in normal form.
+    ghost tidy: { (n : ℕ) → is_tidy (sequence_type components n) ≡ true };
 
     /// Each value is one of that sequence.
     ghost each: { (x : Self) → IsValue (sequence_type components) (fields (parts x) end) };

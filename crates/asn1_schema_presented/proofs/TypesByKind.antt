@@ -10,6 +10,10 @@ use Rattle.asn1_schema_presented.specs.Presents.{Fits, AllFit}
 use Rattle.asn1_schema_presented.specs.Parts.{values_of}
 use Rattle.asn1_schema_presented.specs.Tables.{scope, list_type, are_tags, IsType, IsValue}
 
+-- a type under other tags
+pub retagged : {ts us : List Tag} {s : ℕ → Schema} → are_tags ts ≡ true → IsType us s → IsType ts s
+retagged e h = record { tagged = e; lawful = h.lawful; tidy = h.tidy; no_group = h.no_group }
+
 pub boolean_type : {ts : List Tag} → are_tags ts ≡ true → IsType ts (λ _. boolean)
 unfolding is_lawful is_tidy
 boolean_type e = record { tagged = e; lawful = λ n. refl; tidy = λ n. refl; no_group = λ n. refl }
