@@ -88,20 +88,41 @@ IsReady h = h.failed ≡ false
 
 -- Another place, and all else as it was.
 abbrev pub Stays : Held → Held → Type 0
-Stays old new = new ≡ record { place = new.place; scopes = old.scopes; levels = old.levels; most = old.most;
-    failed = old.failed; variant = old.variant; stands = old.stands }
+Stays old new = new ≡ record {
+  place = new.place;
+  scopes = old.scopes;
+  levels = old.levels;
+  most = old.most;
+  failed = old.failed;
+  variant = old.variant;
+  stands = old.stands;
+}
 
 -- The place that a reader reached that began at the old one, by its position.
 abbrev pub Moves : Held → ℕ → Held → Type 0
 Moves old n new = (w : List Bool) (b : Place) → b.0 ≡ n → Leads w old.place b
-    → new ≡ record { place = b; scopes = old.scopes; levels = old.levels; most = old.most; failed = old.failed;
-    variant = old.variant; stands = old.stands }
+    → new ≡ record {
+      place = b;
+      scopes = old.scopes;
+      levels = old.levels;
+      most = old.most;
+      failed = old.failed;
+      variant = old.variant;
+      stands = old.stands;
+    }
 
 -- A scope is open inside all others, one level further in.
 abbrev pub Enters : Held → Scope → Held → Type 0
 Enters old s new = IsReady old × (old.levels ≡ suc new.levels)
-    × (new ≡ record { place = new.place; scopes = s ∷ old.scopes; levels = new.levels; most = old.most;
-    failed = old.failed; variant = old.variant; stands = old.stands })
+    × (new ≡ record {
+      place = new.place;
+      scopes = s ∷ old.scopes;
+      levels = new.levels;
+      most = old.most;
+      failed = old.failed;
+      variant = old.variant;
+      stands = old.stands;
+    })
 
 -- A list or bag is entered.
 abbrev pub EntersMembers : Held → Size → Counts → Held → Type 0
@@ -130,14 +151,28 @@ stands_behind (Filled p) l = p.storage ∷ drop 1 l
 
 -- Behind the end of a scope that is left is another place.
 abbrev pub HasPassed : Ending → Held → Held → Type 0
-HasPassed w old new = new ≡ record { place = new.place; scopes = old.scopes; levels = old.levels; most = old.most;
-    failed = old.failed; variant = old.variant; stands = stands_behind w old.stands }
+HasPassed w old new = new ≡ record {
+  place = new.place;
+  scopes = old.scopes;
+  levels = old.levels;
+  most = old.most;
+  failed = old.failed;
+  variant = old.variant;
+  stands = stands_behind w old.stands;
+}
 
 -- An open type is entered.
 abbrev pub HasOpened : Held → Held → Type 0
 HasOpened old new = Opens (is_aligned old.variant) (freedoms old.variant) old.place old.scopes (state_of new)
-    × (new ≡ record { place = new.place; scopes = new.scopes; levels = old.levels; most = old.most; failed = old.failed;
-    variant = old.variant; stands = stands_within true old.stands new.place new.scopes })
+    × (new ≡ record {
+      place = new.place;
+      scopes = new.scopes;
+      levels = old.levels;
+      most = old.most;
+      failed = old.failed;
+      variant = old.variant;
+      stands = stands_within true old.stands new.place new.scopes;
+    })
 
 -- Why none is: for want of memory, or because no octets stand in front behind their number.
 abbrev pub NoOpening : Held → DecodeError → Type 0

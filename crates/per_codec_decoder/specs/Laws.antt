@@ -35,18 +35,60 @@ same_level most r s l e = level_asked most r l ∙ ap (λ q. asked most q l) e �
 held_is : {b c : Held} → state_of b ≡ state_of c → b.levels ≡ c.levels → b.most ≡ c.most → b.failed ≡ c.failed
     → b.variant ≡ c.variant → b.stands ≡ c.stands → b ≡ c
 held_is {b} {c} v w x y z u =
-    ap (λ (t : State). let h : Held = record { place = t.0; scopes = t.1; levels = b.levels; most = b.most;
-        failed = b.failed; variant = b.variant; stands = b.stands } in h) v
-    ∙ (ap (λ (t : ℕ). let h : Held = record { place = c.place; scopes = c.scopes; levels = t; most = b.most;
-        failed = b.failed; variant = b.variant; stands = b.stands } in h) w
-    ∙ (ap (λ (t : ℕ). let h : Held = record { place = c.place; scopes = c.scopes; levels = c.levels; most = t;
-        failed = b.failed; variant = b.variant; stands = b.stands } in h) x
-    ∙ (ap (λ (t : Bool). let h : Held = record { place = c.place; scopes = c.scopes; levels = c.levels; most = c.most;
-        failed = t; variant = b.variant; stands = b.stands } in h) y
-    ∙ ap (λ (t : Variant). let h : Held = record { place = c.place; scopes = c.scopes; levels = c.levels; most = c.most;
-        failed = c.failed; variant = t; stands = b.stands } in h) z
-    ∙ ap (λ (t : List Storage). let h : Held = record { place = c.place; scopes = c.scopes; levels = c.levels;
-        most = c.most; failed = c.failed; variant = c.variant; stands = t } in h) u)))
+    ap (λ (t : State). let h : Held = record {
+      place = t.0;
+      scopes = t.1;
+      levels = b.levels;
+      most = b.most;
+      failed = b.failed;
+      variant = b.variant;
+      stands = b.stands;
+    } in h) v
+    ∙ (ap (λ (t : ℕ). let h : Held = record {
+      place = c.place;
+      scopes = c.scopes;
+      levels = t;
+      most = b.most;
+      failed = b.failed;
+      variant = b.variant;
+      stands = b.stands;
+    } in h) w
+    ∙ (ap (λ (t : ℕ). let h : Held = record {
+      place = c.place;
+      scopes = c.scopes;
+      levels = c.levels;
+      most = t;
+      failed = b.failed;
+      variant = b.variant;
+      stands = b.stands;
+    } in h) x
+    ∙ (ap (λ (t : Bool). let h : Held = record {
+      place = c.place;
+      scopes = c.scopes;
+      levels = c.levels;
+      most = c.most;
+      failed = t;
+      variant = b.variant;
+      stands = b.stands;
+    } in h) y
+    ∙ ap (λ (t : Variant). let h : Held = record {
+      place = c.place;
+      scopes = c.scopes;
+      levels = c.levels;
+      most = c.most;
+      failed = c.failed;
+      variant = t;
+      stands = b.stands;
+    } in h) z
+    ∙ ap (λ (t : List Storage). let h : Held = record {
+      place = c.place;
+      scopes = c.scopes;
+      levels = c.levels;
+      most = c.most;
+      failed = c.failed;
+      variant = c.variant;
+      stands = t;
+    } in h) u)))
 
 kept_told : (a : Held) (r : Record) (p : Place) (k : List Scope) → kept a (told r) p k ≡ kept a r p k
 kept_told a (list_begins z h n) p k = refl
@@ -56,17 +98,19 @@ kept_told a r p k = refl
 same_kept : (a : Held) (r s : Record) (b c : State) → told r ≡ told s → b ≡ c → kept a r b.0 b.1 ≡ kept a s c.0 c.1
 same_kept a r s b c e h =
     sym (kept_told a r b.0 b.1) ∙ ap (λ t. kept a t b.0 b.1) e ∙ kept_told a s b.0 b.1 ∙ ap
-        (λ (t : State). kept a s t.0 t.1) h
+    (λ (t : State). kept a s t.0 t.1) h
 
 pub finds_one : (a : Held) (r s : Record) (b c : Held) → question r ≡ question s → Finds a r b → Finds a s c
     → (told r ≡ told s) × (b ≡ c)
 finds_one a r s b c k p q =
     let t = one_taken (is_aligned a.variant) (freedoms a.variant) (state_of a) r s (state_of b)
-        (state_of c) k p.taken q.taken in
+    (state_of c) k p.taken q.taken in
     let e : Some b.levels ≡ Some c.levels = sym p.levels ∙ same_level a.most r s a.levels k ∙ q.levels in
-    let l : b.levels ≡ c.levels = cc e in
-    (t.0, held_is t.1 l (p.most ∙ sym q.most) (p.ready_still ∙ sym q.ready_still) (p.variant ∙ sym q.variant)
-        (p.stands ∙ same_kept a r s (state_of b) (state_of c) t.0 t.1 ∙ sym q.stands))
+    let l : b.levels ≡ c.levels = cc e in (
+      t.0,
+      held_is t.1 l (p.most ∙ sym q.most) (p.ready_still ∙ sym q.ready_still) (p.variant ∙ sym q.variant)
+          (p.stands ∙ same_kept a r s (state_of b) (state_of c) t.0 t.1 ∙ sym q.stands),
+    )
 
 pub finds_held : (a : Held) (z : Size) (h : Counts) (n : ℕ) (b : Held) → Finds a (list_begins z h n) b
     → is_count_within h n ≡ true

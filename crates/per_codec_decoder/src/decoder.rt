@@ -62,8 +62,15 @@ impl<'input> Model for Decoder<'input> {
 
     ghost Value = { Held };
 
-    ghost view = { λ d. record { place = d.place.place; scopes = d.scopes.scopes; levels = d.levels; most = d.most;
-        failed = d.failed; variant = d.variant; stands = d.place.storage ∷ d.scopes.behind } };
+    ghost view = { λ d. record {
+      place = d.place.place;
+      scopes = d.scopes.scopes;
+      levels = d.levels;
+      most = d.most;
+      failed = d.failed;
+      variant = d.variant;
+      stands = d.place.storage ∷ d.scopes.behind;
+    } };
 }
 
 impl<'input> Decoder<'input> {
@@ -71,8 +78,15 @@ impl<'input> Decoder<'input> {
     /// looked at, fewer than so many.
     #[inline(always)]
     pub fn new(alloc: Global, input: &'input [u8], options: DecoderOptions) -> Self
-        ensures { result ≡ record { place = (0, octet_bits (take (2 ^ 60 - 1) input.entry.now)); scopes = [];
-            levels = 128; most = 128; failed = false; variant = options.variant; stands = Some 0 ∷ [] } }
+        ensures { result ≡ record {
+          place = (0, octet_bits (take (2 ^ 60 - 1) input.entry.now));
+          scopes = [];
+          levels = 128;
+          most = 128;
+          failed = false;
+          variant = options.variant;
+          stands = Some 0 ∷ [];
+        } }
     {
         Decoder {
             place: Stretch::from_octets(input),
@@ -211,9 +225,15 @@ impl<'input> Decoder<'input> {
         requires { 0 < self.old.levels }
         ensures levels { OnOk result (self.old.levels ≡ self.new.levels + 1) }
         ensures scopes { OnOk result (self.new
-            ≡ record { place = self.old.place; scopes = scope_of frame.entry ∷ self.old.scopes;
-            levels = self.new.levels; most = self.old.most; failed = self.old.failed; variant = self.old.variant;
-            stands = stands_in frame.entry self.old.stands }) }
+            ≡ record {
+              place = self.old.place;
+              scopes = scope_of frame.entry ∷ self.old.scopes;
+              levels = self.new.levels;
+              most = self.old.most;
+              failed = self.old.failed;
+              variant = self.old.variant;
+              stands = stands_in frame.entry self.old.stands;
+            }) }
         ensures only { IfErr result (λ error. error ≡ DecodeError.OutOfMemory) }
         ensures failed { OnErr result (self.new.failed ≡ true) }
     {
@@ -230,8 +250,15 @@ impl<'input> Decoder<'input> {
         requires { 0 < self.old.levels }
         ensures levels { OnOk result (self.old.levels ≡ self.new.levels + 1) }
         ensures scopes { OnOk result (self.new
-            ≡ record { place = self.old.place; scopes = alternative ∷ self.old.scopes; levels = self.new.levels;
-            most = self.old.most; failed = self.old.failed; variant = self.old.variant; stands = self.old.stands }) }
+            ≡ record {
+              place = self.old.place;
+              scopes = alternative ∷ self.old.scopes;
+              levels = self.new.levels;
+              most = self.old.most;
+              failed = self.old.failed;
+              variant = self.old.variant;
+              stands = self.old.stands;
+            }) }
         ensures only { IfErr result (λ error. error ≡ DecodeError.OutOfMemory) }
         ensures failed { OnErr result (self.new.failed ≡ true) }
     {
@@ -247,8 +274,15 @@ impl<'input> Decoder<'input> {
     fn descend(&mut self)
         requires { 0 < self.old.levels }
         ensures levels { self.old.levels ≡ self.new.levels + 1 }
-        ensures same { self.new ≡ record { place = self.old.place; scopes = self.old.scopes; levels = self.new.levels;
-            most = self.old.most; failed = self.old.failed; variant = self.old.variant; stands = self.old.stands } }
+        ensures same { self.new ≡ record {
+          place = self.old.place;
+          scopes = self.old.scopes;
+          levels = self.new.levels;
+          most = self.old.most;
+          failed = self.old.failed;
+          variant = self.old.variant;
+          stands = self.old.stands;
+        } }
     {
         self.levels -= 1;
     }

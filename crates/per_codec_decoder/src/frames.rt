@@ -148,8 +148,11 @@ impl<'input> Model for Scopes<'input> {
 
     ghost Value = { Open };
 
-    ghost view = { λ s. record { scopes = scopes_of s.enclosing s.innermost s.outer.items; behind = behind_of
-        s.enclosing s.innermost s.outer.items } };
+    ghost view = { λ s. record {
+      scopes = scopes_of s.enclosing s.innermost s.outer.items;
+      behind = behind_of
+          s.enclosing s.innermost s.outer.items;
+    } };
 }
 
 impl<'input> Scopes<'input> {

@@ -35,8 +35,12 @@ impl Model for Tally {
 
     ghost Value = { TallyTerm };
 
-    ghost view = { λ t. record { size = record { counts = counts_of t.size; extensible = t.extensible };
-        held = members_of t.held; outside = t.outside; sizes = t.sizes.items } };
+    ghost view = { λ t. record {
+      size = record { counts = counts_of t.size; extensible = t.extensible };
+      held = members_of t.held;
+      outside = t.outside;
+      sizes = t.sizes.items;
+    } };
 }
 
 /// The members that stand behind one header or behind their number: how many are due, and what is known of the list if

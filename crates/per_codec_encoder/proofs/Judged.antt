@@ -33,29 +33,25 @@ at_place (Some k) = (record { text = replicate k fill; placed = true }, ap (λ n
 
 module _ (al : Bool) where
   module _ (o : Packed) where
-    filled : Packed
+    abbrev filled : Packed
     filled = plus o (fill_at al (place o))
 
     few_there : (n : ℕ) → n < 16384 → IsThere (general al n (place o))
-    unfolding filled
     few_there n l = go (ltb n 128) refl
       where
-        d : Due
-        d = record { members = n; behind = None }
-
         go : (t : Bool) → ltb n 128 ≡ t → IsThere (general al n (place o))
-        unfolding filled d
         go true t =
+            let d : Due = record { members = n; behind = None } in
             let p : Packed = plus filled (as_text (binary 8 n)) in
             let h : Heads (general al n (place o)) o d p = few_heads al n d o p l refl (adds_short al n o filled p (ltb-true n 128 t) refl refl) in
             (_, h.is)
         go false t =
+            let d : Due = record { members = n; behind = None } in
             let p : Packed = plus filled (as_text (binary 16 (32768 + n))) in
             let h : Heads (general al n (place o)) o d p = few_heads al n d o p l refl (adds_long al n o filled p (ltb-false n 128 t) l refl refl) in
             (_, h.is)
 
     many_there : (n m : ℕ) → 16384 ≤ n → m ≡ min (n / 16384) 4 → IsThere (general al n (place o))
-    unfolding filled
     many_there n m l e =
         let f = first_fragment n m l (omega (arith, e)) (omega (arith, e)) (λ k. omega (arith, e, k)) in
         let d : Due = record { members = m * 16384; behind = Some (n - m * 16384) } in

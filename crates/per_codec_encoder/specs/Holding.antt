@@ -33,13 +33,17 @@ instead t o = record { text = t; placed = o.placed }
 abbrev pub shown : List Frame → Packed → State
 shown [] o = (o.text, [])
 shown (Components e due given start ∷ fs) o =
-    let below = shown fs (instead (take (at start) o.text) o) in
-    (drop (at start + (mark_width e + (given + due))) o.text, components e due
-        (solid (take given (drop (at start + mark_width e) o.text))) below.0 ∷ below.1)
+    let below = shown fs (instead (take (at start) o.text) o) in (
+      drop (at start + (mark_width e + (given + due))) o.text,
+      components e due
+          (solid (take given (drop (at start + mark_width e) o.text))) below.0 ∷ below.1,
+    )
 shown (Added a ∷ fs) o =
-    let below = shown fs (instead (take (at a.start) o.text) o) in
-    (drop (at a.end) o.text, added a.due (solid (take a.given (drop (at a.start + 1) o.text)))
-        (drop (at a.start + (1 + a.given)) (take (at a.end) o.text)) a.slots.items below.0 ∷ below.1)
+    let below = shown fs (instead (take (at a.start) o.text) o) in (
+      drop (at a.end) o.text,
+      added a.due (solid (take a.given (drop (at a.start + 1) o.text)))
+          (drop (at a.start + (1 + a.given)) (take (at a.end) o.text)) a.slots.items below.0 ∷ below.1,
+    )
 shown (OpenType front ∷ fs) o =
     let below = shown fs front in
     (o.text, open_type below.0 ∷ below.1)

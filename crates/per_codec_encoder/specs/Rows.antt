@@ -37,9 +37,9 @@ abbrev pub two_lists : List call.Record
 two_lists =
     call.sequence_begins false 0 ∷ call.flag true
     ∷ call.list_begins (sizes 2 2) any_count 2 ∷ call.further true ∷ three_octets
-        (1 ∷ 2 ∷ 3 ∷ []) ∷ call.further true ∷ three_octets (4 ∷ 5 ∷ 6 ∷ []) ∷ call.further false ∷ call.ends
+    (1 ∷ 2 ∷ 3 ∷ []) ∷ call.further true ∷ three_octets (4 ∷ 5 ∷ 6 ∷ []) ∷ call.further false ∷ call.ends
     ∷ call.list_begins (sizes 1 2) any_count 1 ∷ call.further true ∷ three_octets
-        (7 ∷ 8 ∷ 9 ∷ []) ∷ call.further false ∷ call.ends
+    (7 ∷ 8 ∷ 9 ∷ []) ∷ call.further false ∷ call.ends
     ∷ octet 0xAB ∷ call.ends ∷ []
 
 -- SEQUENCE {a INTEGER (0..65535) OPTIONAL, b BOOLEAN OPTIONAL} with a alone
@@ -116,31 +116,35 @@ closing_of_one = replicate 7 false ++ true ∷ []
 abbrev pub StateRows : Type 0
 StateRows =
     (run false (call.list_begins any_size any_count 3) ([], []) ≡ Some
-        (as_text (replicate 6 false ++ replicate 2 true), members 3 None ∷ []))
+    (as_text (replicate 6 false ++ replicate 2 true), members 3 None ∷ []))
     × (run false (call.list_begins any_size any_count 16385) ([], []) ≡ Some
-        (as_text (true ∷ true ∷ replicate 5 false ++ true ∷ []), members 16384 (Some ([], 1)) ∷ []))
-    × (run false (call.list_begins any_size any_count 81925) ([], []) ≡ Some
-        (as_text (true ∷ true ∷ replicate 3 false ++ true ∷ false ∷ false ∷ []), members 65536
-        (Some (1 ∷ [], 16389)) ∷ []))
+    (as_text (true ∷ true ∷ replicate 5 false ++ true ∷ []), members 16384 (Some ([], 1)) ∷ []))
+    × (run false (call.list_begins any_size any_count 81925) ([], []) ≡ Some (
+      as_text (true ∷ true ∷ replicate 3 false ++ true ∷ false ∷ false ∷ []),
+      members 65536
+          (Some (1 ∷ [], 16389)) ∷ [],
+    ))
     × (run false (call.further true) (as_text (true ∷ []), members 0 (Some ([], 1)) ∷ []) ≡ Some
-        (as_text (true ∷ closing_of_one), members 0 None ∷ []))
+    (as_text (true ∷ closing_of_one), members 0 None ∷ []))
     × (run true (call.further true) (as_text (true ∷ []), members 0 (Some ([], 1)) ∷ []) ≡ Some
-        (as_text (true ∷ replicate 7 false ++ closing_of_one), members 0 None ∷ []))
+    (as_text (true ∷ replicate 7 false ++ closing_of_one), members 0 None ∷ []))
     × (run true (call.further false) (as_text (true ∷ []), members 0 (Some ([], 0)) ∷ []) ≡ Some
-        (as_text (true ∷ replicate 15 false), members 0 None ∷ []))
+    (as_text (true ∷ replicate 15 false), members 0 None ∷ []))
     × (run false (call.further false) ([], members 1 None ∷ []) ≡ None)
     × (run false (call.list_begins (sizes 1 2) any_count 2) ([], []) ≡ Some (as_text (true ∷ []), members 2 None ∷ []))
     × (run false (call.list_begins (sizes 1 2) any_count 3) ([], []) ≡ None)
     × (run false (call.list_begins (sizes_or_more 1 2) any_count 2) ([], []) ≡ Some
-        (as_text (false ∷ true ∷ []), members 2 None ∷ []))
+    (as_text (false ∷ true ∷ []), members 2 None ∷ []))
     × (run false (call.list_begins (sizes_or_more 1 2) any_count 3) ([], []) ≡ Some
-        (as_text (true ∷ replicate 6 false ++ replicate 2 true), members 3 None ∷ []))
+    (as_text (true ∷ replicate 6 false ++ replicate 2 true), members 3 None ∷ []))
     × (run false (call.bag_begins (sizes 1 2) any_count 3) ([], []) ≡ None)
     × (run true (word 258) (as_text (true ∷ []), []) ≡ Some
-        (as_text (true ∷ replicate 7 false ++ closing_of_one ++ replicate 6 false ++ true ∷ false ∷ []), []))
-    × (run true (word 258) ([], bag_members any_size any_count 0 None [] ∷ []) ≡ Some
-        (fill ∷ as_text (closing_of_one ++ replicate 6 false ++ true ∷ false ∷ []), bag_members any_size any_count 0
-        None [] ∷ []))
+    (as_text (true ∷ replicate 7 false ++ closing_of_one ++ replicate 6 false ++ true ∷ false ∷ []), []))
+    × (run true (word 258) ([], bag_members any_size any_count 0 None [] ∷ []) ≡ Some (
+      fill ∷ as_text (closing_of_one ++ replicate 6 false ++ true ∷ false ∷ []),
+      bag_members any_size any_count 0
+          None [] ∷ [],
+    ))
     × (run false (call.mark true) ([], components false 0 [] [] ∷ []) ≡ None)
     × (run false (call.additions_begin 0) ([], components false 0 [] [] ∷ []) ≡ None)
     × (run false (call.choice_begins (context 0 ∷ []) false (context 1 ∷ []) true 0) ([], []) ≡ None)

@@ -99,7 +99,7 @@ next_header al [] n q = option_map (λ w. before_all n w) (text_at (Per.short_le
 next_header al (m ∷ ms) n q =
     option_map (λ w. record { text = w; due = m * 16384; headers = Some (ms, n - m * 16384) })
     (text_at (only_if (leb 1 m && leb m 4 && leb (m * 16384) n) (Per.at_octet al (exactly (true ∷ true ∷ binary 6 m))))
-        q)
+    q)
 
 -- The first header of n members behind a general length, the largest fragments first.
 abbrev pub general : Bool → ℕ → Option ℕ → Option Heading
@@ -191,7 +191,7 @@ abbrev pub extended_text : Bool → List Bool → Text → List (Option (List Bo
 extended_text al ms root slots q =
     cond (is_any_present slots)
     (option_map (λ w. as_text (true ∷ ms) ++ (root ++ w))
-        (text_at (Per.additions al (map (opened al) slots)) (on (on q (as_text (true ∷ ms))) root)))
+    (text_at (Per.additions al (map (opened al) slots)) (on (on q (as_text (true ∷ ms))) root)))
     (Some (as_text (false ∷ ms) ++ root))
 
 abbrev pub closed_added : Bool → ℕ → List Bool → Text → List (Option (List Bool)) → Text → List Scope → Option State

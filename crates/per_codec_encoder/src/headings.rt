@@ -12,8 +12,9 @@ ghost use Rattle.per_codec_encoder.specs.Headings.{Heads, NoHeading, GoesOn};
 use asn1_schema_constraints::{Bounded, Constraints, Extensible, Size};
 use asn1_schema_faults::EncodeError;
 use per_codec_packing::Packing;
-use per_codec_writing::{FRAGMENT, LONG_COUNT};
-use per_codec_writing::{push_constrained, push_fragment_length, push_short_length};
+use per_codec_writing::{
+    FRAGMENT, LONG_COUNT, push_constrained, push_fragment_length, push_short_length,
+};
 
 /// The members of a list that are still to come.
 #[derive(Clone, Copy)]
