@@ -1,5 +1,5 @@
 -- Bags that begin, go on and end, in the texts and the frames of an encoder.
-use Rattle.std.proofs.Common.{◌≡◌, ℕ, ◌≤◌, Bool, false, List, [], ◌∷◌, ◌++◌, length, take, reverse, Some, None, Box, Global, Result, Ok, Err, MatchResult, refl, ap, subst, sym, ◌∙◌, arith, length-append}
+use Rattle.std.proofs.Common.{◌≡◌, ℕ, Bool, false, List, [], ◌∷◌, ◌++◌, reverse, Some, None, Box, Global, Result, Ok, Err, MatchResult, refl, ap, subst, sym, ◌∙◌}
 use Rattle.asn1_model.specs.Per
 use Rattle.asn1_model.specs.Schema.{Size, Counts}
 use Rattle.asn1_schema_constraints.specs.Bounds.{members_of}
@@ -8,7 +8,7 @@ use Rattle.asn1_schema_faults.specs.declared.EncodeError.{EncodeError}
 use Rattle.asn1_schema_faults.specs.declared.EncodeError.TheVariants.{ValueConstraintNotSatisfied, SizeConstraintNotSatisfied, AlphabetConstraintNotSatisfied, TooLongValue, LengthExceedsPlatformSize, OutOfMemory, AlreadyFailed}
 use Rattle.asn1_schema_presented.specs.Records.{bag_begins, further, ends}
 use Rattle.per_codec_packing.specs.Texts.{Text, text_at}
-use Rattle.per_codec_packing.specs.Packed.{Packed, place, plus, solid}
+use Rattle.per_codec_packing.specs.Packed.{Packed, place, plus}
 use Rattle.per_codec_packing.proofs.Adding.{added}
 use Rattle.per_codec_encoder.specs.Steps.{Scope, bag_members, State, list_heading, with_open, bag_opened, closed_bag, adds_text, run}
 use Rattle.per_codec_writing.specs.Writing.{Adds, Refuses}
@@ -18,7 +18,7 @@ use Rattle.per_codec_encoder.specs.declared.frame.Frame.TheVariants.{Bag}
 use Rattle.per_codec_encoder.specs.Bags.{size_of, bag_of, form_of, further_in, GoesOnInBag, NoFurther}
 use Rattle.per_codec_encoder.specs.Headings.{NoHeading}
 use Rattle.per_codec_encoder.proofs.Judged.{IsThere}
-use Rattle.per_codec_encoder.specs.Holding.{instead, Holds, Does, Cannot}
+use Rattle.per_codec_encoder.specs.Holding.{Holds, Does, Cannot}
 use Rattle.per_codec_encoder.proofs.Scopes.{at_end, appended, on_top, put_back}
 
 -- ---- a bag begins

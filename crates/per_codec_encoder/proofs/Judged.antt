@@ -1,5 +1,5 @@
 -- Whether so many members have a heading, which is known without it.
-use Rattle.std.proofs.Common.{◌≡◌, ℕ, ◌+◌, ◌-◌, ◌*◌, ◌/◌, ◌<◌, ◌≤◌, ltb, leb, not, Bool, true, false, cond, ◌&&◌, ◌||◌, List, [], ◌∷◌, replicate, Option, Some, None, option_map, refl, ap, sym, subst, ◌∙◌, inl, inr, arith}
+use Rattle.std.proofs.Common.{◌≡◌, ℕ, ◌+◌, ◌-◌, ◌*◌, ◌/◌, ◌<◌, ◌≤◌, ltb, leb, Bool, true, false, cond, ◌&&◌, ◌||◌, [], ◌∷◌, replicate, Option, Some, None, option_map, refl, ap, sym, subst, ◌∙◌, inl, inr, arith}
 use Rattle.std.specs.Prelude.{min}
 use Rattle.std.proofs.lemmas.Bool.{ltb-true, ltb-false, leb-true, and_parts, cases_lt}
 use Rattle.std.proofs.lemmas.List.{length-replicate}
@@ -7,11 +7,11 @@ use Rattle.asn1_model.specs.Schema.{Counts, Size}
 use Rattle.asn1_model.specs.Numbers.{binary, is_count_to, is_count_within}
 use Rattle.asn1_model.specs.Per
 use Rattle.per_codec_packing.specs.Texts.{fill, as_text, text_at, moved, bit}
-use Rattle.per_codec_packing.specs.Packed.{Packed, Adds, place, plus}
+use Rattle.per_codec_packing.specs.Packed.{Packed, place, plus}
 use Rattle.per_codec_writing.specs.Writing.{fill_at}
 use Rattle.per_codec_writing.proofs.LengthTexts.{adds_short, adds_long, adds_fragment}
 use Rattle.per_codec_writing.proofs.ConstrainedTexts.{constrained_bits, adds_octet, adds_two_octets}
-use Rattle.per_codec_encoder.specs.Steps.{Heading, before_all, general, sized_count, behind_bit, marked_count, list_heading}
+use Rattle.per_codec_encoder.specs.Steps.{Heading, before_all, general, sized_count, marked_count, list_heading}
 use Rattle.per_codec_encoder.specs.declared.headings.Due.{Due}
 use Rattle.per_codec_encoder.specs.Headings.{Heads}
 use Rattle.per_codec_encoder.proofs.HeadingTexts.{first_fragment, few_heads, fragment_heads}
