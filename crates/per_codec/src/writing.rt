@@ -37,8 +37,8 @@ fn within_limit(octets: Vec<u8>) -> Result<Vec<u8>, EncodeError>
     Ok(octets)
 }
 
-/// How a refusal of the value's type is passed on. That an encoding is too long is found by `within_limit` alone; a type that says so itself
-/// refuses its value, and is taken to refuse a length.
+/// How a refusal of the value's type is passed on. That an encoding is too long is found by `within_limit` alone; a
+/// type that says so itself refuses its value, and is taken to refuse a length.
 fn refusal(error: EncodeError) -> EncodeError
     ensures length { error ≡ EncodeError.TooLongValue → result ≡ EncodeError.SizeConstraintNotSatisfied }
     ensures others { ¬ (error ≡ EncodeError.TooLongValue) → result ≡ error }
@@ -54,8 +54,9 @@ fn refusal(error: EncodeError) -> EncodeError
 ///
 /// # Errors
 ///
-/// `TooLongValue` for an encoding of 2 to 60 octets or more and for nothing else, `OutOfMemory`, and those of the value's type, where the
-/// value has no encoding of any length; a `TooLongValue` of the type's own comes as `SizeConstraintNotSatisfied`.
+/// `TooLongValue` for an encoding of 2 to 60 octets or more and for nothing else, `OutOfMemory`, and those of the
+/// value's type, where the value has no encoding of any length; a `TooLongValue` of the type's own comes as
+/// `SizeConstraintNotSatisfied`.
 pub fn encode<T: Encode>(
     alloc: Global,
     options: EncoderOptions,

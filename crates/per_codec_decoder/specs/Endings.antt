@@ -9,7 +9,8 @@ use Rattle.per_codec_decoder.specs.declared.frames.Ending.TheVariants.{Nothing, 
 
 -- What stands in an open type behind its value, up to its end, may stand there: a reader with the freedoms takes it.
 abbrev pub IsClosed : Place → Type 0
-IsClosed a = (free : Per.Freedom → Bool) (rest : Place) (k : List Scope) → IsTrue (free Per.any_filling) → IsTrue (free Per.octets_behind) → Closes free a rest k (rest, k)
+IsClosed a = (free : Per.Freedom → Bool) (rest : Place) (k : List Scope) → IsTrue (free Per.any_filling)
+    → IsTrue (free Per.octets_behind) → Closes free a rest k (rest, k)
 
 -- What is left where a scope ends is passed over.
 abbrev pub Passes : Bool → (Per.Freedom → Bool) → Ending → Place → Place → Type 0

@@ -18,9 +18,10 @@ use Rattle.per_codec_decoder.specs.Preamble.{HasPreamble, NoPreamble}
 use Rattle.per_codec_decoder.specs.declared.frames.Ending.{Ending}
 use Rattle.per_codec_decoder.specs.declared.frames.Ending.TheVariants.{Nothing, Unknown, OpenType as Filled}
 
--- What is held: the place in the message and the bits that are left, the open scopes, how many more levels may be nested, how many were so at
--- the beginning, whether the decoder has failed, the variant that it reads, and where the bits stand: those of the innermost message or open
--- type, and behind them, from the innermost one on, those of each message or open type around it.
+-- What is held: the place in the message and the bits that are left, the open scopes, how many more levels may be
+-- nested, how many were so at the beginning, whether the decoder has failed, the variant that it reads, and where the
+-- bits stand: those of the innermost message or open type, and behind them, from the innermost one on, those of each
+-- message or open type around it.
 pub record Held : Type 0 where
   pub place : Place
   pub scopes : List Scope
@@ -58,7 +59,8 @@ abbrev pub stands_outside : List Scope → List Storage → List Storage
 stands_outside (open_type p ∷ k) l = drop 1 l
 stands_outside s l = l
 
--- Where bits stand behind a record, at this place in these scopes: they stay where they are unless an open type begins or ends there.
+-- Where bits stand behind a record, at this place in these scopes: they stay where they are unless an open type begins
+-- or ends there.
 abbrev pub kept : Held → Record → Place → List Scope → List Storage
 kept h (addition v) p k = stands_within v h.stands p k
 kept h addition_ends p k = drop 1 h.stands
@@ -86,27 +88,56 @@ IsReady h = h.failed ≡ false
 
 -- Another place, and all else as it was.
 abbrev pub Stays : Held → Held → Type 0
-Stays old new = new ≡ record { place = new.place; scopes = old.scopes; levels = old.levels; most = old.most; failed = old.failed; variant = old.variant; stands = old.stands }
+Stays old new = new ≡ record {
+  place = new.place;
+  scopes = old.scopes;
+  levels = old.levels;
+  most = old.most;
+  failed = old.failed;
+  variant = old.variant;
+  stands = old.stands;
+}
 
 -- The place that a reader reached that began at the old one, by its position.
 abbrev pub Moves : Held → ℕ → Held → Type 0
-Moves old n new = (w : List Bool) (b : Place) → b.0 ≡ n → Leads w old.place b → new ≡ record { place = b; scopes = old.scopes; levels = old.levels; most = old.most; failed = old.failed; variant = old.variant; stands = old.stands }
+Moves old n new = (w : List Bool) (b : Place) → b.0 ≡ n → Leads w old.place b
+    → new ≡ record {
+      place = b;
+      scopes = old.scopes;
+      levels = old.levels;
+      most = old.most;
+      failed = old.failed;
+      variant = old.variant;
+      stands = old.stands;
+    }
 
 -- A scope is open inside all others, one level further in.
 abbrev pub Enters : Held → Scope → Held → Type 0
-Enters old s new = IsReady old × (old.levels ≡ suc new.levels) × (new ≡ record { place = new.place; scopes = s ∷ old.scopes; levels = new.levels; most = old.most; failed = old.failed; variant = old.variant; stands = old.stands })
+Enters old s new = IsReady old × (old.levels ≡ suc new.levels)
+    × (new ≡ record {
+      place = new.place;
+      scopes = s ∷ old.scopes;
+      levels = new.levels;
+      most = old.most;
+      failed = old.failed;
+      variant = old.variant;
+      stands = old.stands;
+    })
 
 -- A list or bag is entered.
 abbrev pub EntersMembers : Held → Size → Counts → Held → Type 0
-EntersMembers old z h new = (due : ℕ) × (hs : Option Tally) × Enters old (members due hs) new × HasMembers (is_aligned old.variant) (freedoms old.variant) z h due hs old.place new.place
+EntersMembers old z h new = (due : ℕ) × (hs : Option Tally) × Enters old (members due hs) new
+    × HasMembers (is_aligned old.variant) (freedoms old.variant) z h due hs old.place new.place
 
 -- Why none is.
 abbrev pub NotMembers : Held → Size → Counts → DecodeError → Type 0
-NotMembers old z h x = IsReady old → 0 < old.levels → NoMembers (is_aligned old.variant) (freedoms old.variant) z h old.place x
+NotMembers old z h x = IsReady old → 0 < old.levels
+    → NoMembers (is_aligned old.variant) (freedoms old.variant) z h old.place x
 
 -- A sequence, set or group is entered.
 abbrev pub EntersComponents : Held → Bool → ℕ → Held → Type 0
-EntersComponents old e n new = (s : Scope) × Enters old s new × HasPreamble (freedoms old.variant) e n s old.place new.place
+EntersComponents old e n new = (s : Scope) × Enters old s new
+    × HasPreamble (freedoms old.variant) e n s old.place new.place
 
 -- Why none is.
 abbrev pub NotComponents : Held → Bool → ℕ → DecodeError → Type 0
@@ -120,17 +151,36 @@ stands_behind (Filled p) l = p.storage ∷ drop 1 l
 
 -- Behind the end of a scope that is left is another place.
 abbrev pub HasPassed : Ending → Held → Held → Type 0
-HasPassed w old new = new ≡ record { place = new.place; scopes = old.scopes; levels = old.levels; most = old.most; failed = old.failed; variant = old.variant; stands = stands_behind w old.stands }
+HasPassed w old new = new ≡ record {
+  place = new.place;
+  scopes = old.scopes;
+  levels = old.levels;
+  most = old.most;
+  failed = old.failed;
+  variant = old.variant;
+  stands = stands_behind w old.stands;
+}
 
 -- An open type is entered.
 abbrev pub HasOpened : Held → Held → Type 0
-HasOpened old new = Opens (is_aligned old.variant) (freedoms old.variant) old.place old.scopes (state_of new) × (new ≡ record { place = new.place; scopes = new.scopes; levels = old.levels; most = old.most; failed = old.failed; variant = old.variant; stands = stands_within true old.stands new.place new.scopes })
+HasOpened old new = Opens (is_aligned old.variant) (freedoms old.variant) old.place old.scopes (state_of new)
+    × (new ≡ record {
+      place = new.place;
+      scopes = new.scopes;
+      levels = old.levels;
+      most = old.most;
+      failed = old.failed;
+      variant = old.variant;
+      stands = stands_within true old.stands new.place new.scopes;
+    })
 
 -- Why none is: for want of memory, or because no octets stand in front behind their number.
 abbrev pub NoOpening : Held → DecodeError → Type 0
-NoOpening old x = ¬ (x ≡ OutOfMemory) → (k : List Scope) (b : State) → Opens (is_aligned old.variant) (freedoms old.variant) old.place k b → ⊥
+NoOpening old x = ¬ (x ≡ OutOfMemory) → (k : List Scope) (b : State)
+    → Opens (is_aligned old.variant) (freedoms old.variant) old.place k b → ⊥
 
--- The octets of a string stand in the input as they are: in one run (X.691 11.9.4) that ends, and so begins, at an octet of it.
+-- The octets of a string stand in the input as they are: in one run (X.691 11.9.4) that ends, and so begins, at an
+-- octet of it.
 abbrev pub Lends : Held → Record → Held → Type 0
 Lends old (octets z h os) new = InOneRun (surely_told z) (length os) × EndsAtOctet (innermost old.stands) new.place.0
 Lends old r new = ⊥

@@ -2,7 +2,9 @@
 use Rattle.std.proofs.Common.{◌≡◌, ℕ, List, Bool, true, false, Option, Some, refl, sym, ◌∙◌, ap}
 use Rattle.asn1_model.specs.Schema.{Size, Counts}
 use Rattle.asn1_model.specs.Numbers.{is_count_within}
-use Rattle.asn1_schema_presented.specs.Records.{Record, Question, question, told, flag, list_begins, bag_begins, asks_list, asks_bag, asks_sequence, asks_set, asks_group, asks_choice, asks_end}
+use Rattle.asn1_schema_presented.specs.Records.{Record, Question, question, told, flag, list_begins, bag_begins}
+use Rattle.asn1_schema_presented.specs.Records.{asks_list, asks_bag, asks_sequence, asks_set, asks_group, asks_choice}
+use Rattle.asn1_schema_presented.specs.Records.{asks_end}
 use Rattle.asn1_schema_presented.specs.Levels.{level, inside, outside}
 use Rattle.per_codec_fronts.specs.Takes.{Place, State, Scope}
 use Rattle.per_codec_fronts.proofs.Next.{one_taken}
@@ -30,14 +32,63 @@ level_asked most r l = refl
 same_level : (most : ℕ) (r s : Record) (l : ℕ) → question r ≡ question s → level most r l ≡ level most s l
 same_level most r s l e = level_asked most r l ∙ ap (λ q. asked most q l) e ∙ sym (level_asked most s l)
 
-held_is : {b c : Held} → state_of b ≡ state_of c → b.levels ≡ c.levels → b.most ≡ c.most → b.failed ≡ c.failed → b.variant ≡ c.variant → b.stands ≡ c.stands → b ≡ c
+held_is : {b c : Held} → state_of b ≡ state_of c → b.levels ≡ c.levels → b.most ≡ c.most → b.failed ≡ c.failed
+    → b.variant ≡ c.variant → b.stands ≡ c.stands → b ≡ c
 held_is {b} {c} v w x y z u =
-    ap (λ (t : State). let h : Held = record { place = t.0; scopes = t.1; levels = b.levels; most = b.most; failed = b.failed; variant = b.variant; stands = b.stands } in h) v
-    ∙ (ap (λ (t : ℕ). let h : Held = record { place = c.place; scopes = c.scopes; levels = t; most = b.most; failed = b.failed; variant = b.variant; stands = b.stands } in h) w
-    ∙ (ap (λ (t : ℕ). let h : Held = record { place = c.place; scopes = c.scopes; levels = c.levels; most = t; failed = b.failed; variant = b.variant; stands = b.stands } in h) x
-    ∙ (ap (λ (t : Bool). let h : Held = record { place = c.place; scopes = c.scopes; levels = c.levels; most = c.most; failed = t; variant = b.variant; stands = b.stands } in h) y
-    ∙ ap (λ (t : Variant). let h : Held = record { place = c.place; scopes = c.scopes; levels = c.levels; most = c.most; failed = c.failed; variant = t; stands = b.stands } in h) z
-    ∙ ap (λ (t : List Storage). let h : Held = record { place = c.place; scopes = c.scopes; levels = c.levels; most = c.most; failed = c.failed; variant = c.variant; stands = t } in h) u)))
+    ap (λ (t : State). let h : Held = record {
+      place = t.0;
+      scopes = t.1;
+      levels = b.levels;
+      most = b.most;
+      failed = b.failed;
+      variant = b.variant;
+      stands = b.stands;
+    } in h) v
+    ∙ (ap (λ (t : ℕ). let h : Held = record {
+      place = c.place;
+      scopes = c.scopes;
+      levels = t;
+      most = b.most;
+      failed = b.failed;
+      variant = b.variant;
+      stands = b.stands;
+    } in h) w
+    ∙ (ap (λ (t : ℕ). let h : Held = record {
+      place = c.place;
+      scopes = c.scopes;
+      levels = c.levels;
+      most = t;
+      failed = b.failed;
+      variant = b.variant;
+      stands = b.stands;
+    } in h) x
+    ∙ (ap (λ (t : Bool). let h : Held = record {
+      place = c.place;
+      scopes = c.scopes;
+      levels = c.levels;
+      most = c.most;
+      failed = t;
+      variant = b.variant;
+      stands = b.stands;
+    } in h) y
+    ∙ ap (λ (t : Variant). let h : Held = record {
+      place = c.place;
+      scopes = c.scopes;
+      levels = c.levels;
+      most = c.most;
+      failed = c.failed;
+      variant = t;
+      stands = b.stands;
+    } in h) z
+    ∙ ap (λ (t : List Storage). let h : Held = record {
+      place = c.place;
+      scopes = c.scopes;
+      levels = c.levels;
+      most = c.most;
+      failed = c.failed;
+      variant = c.variant;
+      stands = t;
+    } in h) u)))
 
 kept_told : (a : Held) (r : Record) (p : Place) (k : List Scope) → kept a (told r) p k ≡ kept a r p k
 kept_told a (list_begins z h n) p k = refl
@@ -46,19 +97,27 @@ kept_told a r p k = refl
 
 same_kept : (a : Held) (r s : Record) (b c : State) → told r ≡ told s → b ≡ c → kept a r b.0 b.1 ≡ kept a s c.0 c.1
 same_kept a r s b c e h =
-    sym (kept_told a r b.0 b.1) ∙ ap (λ t. kept a t b.0 b.1) e ∙ kept_told a s b.0 b.1 ∙ ap (λ (t : State). kept a s t.0 t.1) h
+    sym (kept_told a r b.0 b.1) ∙ ap (λ t. kept a t b.0 b.1) e ∙ kept_told a s b.0 b.1 ∙ ap
+    (λ (t : State). kept a s t.0 t.1) h
 
-pub finds_one : (a : Held) (r s : Record) (b c : Held) → question r ≡ question s → Finds a r b → Finds a s c → (told r ≡ told s) × (b ≡ c)
+pub finds_one : (a : Held) (r s : Record) (b c : Held) → question r ≡ question s → Finds a r b → Finds a s c
+    → (told r ≡ told s) × (b ≡ c)
 finds_one a r s b c k p q =
-    let t = one_taken (is_aligned a.variant) (freedoms a.variant) (state_of a) r s (state_of b) (state_of c) k p.taken q.taken in
+    let t = one_taken (is_aligned a.variant) (freedoms a.variant) (state_of a) r s (state_of b)
+    (state_of c) k p.taken q.taken in
     let e : Some b.levels ≡ Some c.levels = sym p.levels ∙ same_level a.most r s a.levels k ∙ q.levels in
-    let l : b.levels ≡ c.levels = cc e in
-    (t.0, held_is t.1 l (p.most ∙ sym q.most) (p.ready_still ∙ sym q.ready_still) (p.variant ∙ sym q.variant) (p.stands ∙ same_kept a r s (state_of b) (state_of c) t.0 t.1 ∙ sym q.stands))
+    let l : b.levels ≡ c.levels = cc e in (
+      t.0,
+      held_is t.1 l (p.most ∙ sym q.most) (p.ready_still ∙ sym q.ready_still) (p.variant ∙ sym q.variant)
+          (p.stands ∙ same_kept a r s (state_of b) (state_of c) t.0 t.1 ∙ sym q.stands),
+    )
 
-pub finds_held : (a : Held) (z : Size) (h : Counts) (n : ℕ) (b : Held) → Finds a (list_begins z h n) b → is_count_within h n ≡ true
+pub finds_held : (a : Held) (z : Size) (h : Counts) (n : ℕ) (b : Held) → Finds a (list_begins z h n) b
+    → is_count_within h n ≡ true
 finds_held a z h n b p = let t = p.taken in t.0
 
-pub finds_bag_held : (a : Held) (z : Size) (h : Counts) (n : ℕ) (b : Held) → Finds a (bag_begins z h n) b → is_count_within h n ≡ true
+pub finds_bag_held : (a : Held) (z : Size) (h : Counts) (n : ℕ) (b : Held) → Finds a (bag_begins z h n) b
+    → is_count_within h n ≡ true
 finds_bag_held a z h n b p = let t = p.taken in t.0
 
 pub finds_none : (a : Held) (r : Record) (b : Held) → a.failed ≡ true → Finds a r b → ⊥

@@ -1,7 +1,8 @@
 -- What has begun and has not ended, as a reader of the packed encoding rules (X.691) holds it.
 use Rattle.std.specs.Prelude.{◌≡◌, ℕ, Bool, List, [], ◌∷◌, map, reverse, Option, Some, None}
 use Rattle.asn1_model.specs.Per
-use Rattle.per_codec_fronts.specs.Takes.{Place, State, Scope, components, added, open_type, members, alternative, AdditionsBegin, NextAddition, AdditionEnds, Ends}
+use Rattle.per_codec_fronts.specs.Takes.{Place, State, Scope, components, added, open_type, members, alternative}
+use Rattle.per_codec_fronts.specs.Takes.{AdditionsBegin, NextAddition, AdditionEnds, Ends}
 use Rattle.per_codec_reading.specs.Runs.{Storage}
 use Rattle.per_codec_decoder.specs.Additions.{own_marks, unknown_marks}
 use Rattle.per_codec_decoder.specs.declared.frames.Frame.{Frame}
@@ -24,7 +25,8 @@ abbrev pub scope_around : Enclosing → Scope
 scope_around (Opened p) = open_type p.place
 scope_around Chosen = alternative
 
--- The open scopes of frames, the innermost first: it stands alone, and those around it in the order in which they began.
+-- The open scopes of frames, the innermost first: it stands alone, and those around it in the order in which they
+-- began.
 abbrev pub scopes_in : Option Frame → List Frame → List Scope
 scopes_in None fs = []
 scopes_in (Some f) fs = scope_of f ∷ map scope_of (reverse fs)
@@ -75,11 +77,13 @@ HasMark m s = (k : List Scope) × (s ≡ components (Some m) [] ∷ k)
 
 -- No additions come here.
 abbrev pub NoAdditions : List Scope → Type 0
-NoAdditions s = (al : Bool) (free : Per.Freedom → Bool) (n : ℕ) (a : Place) (b : State) → AdditionsBegin al free n a s b → ⊥
+NoAdditions s = (al : Bool) (free : Per.Freedom → Bool) (n : ℕ) (a : Place) (b : State) → AdditionsBegin al free n a s b
+    → ⊥
 
 -- The next bit of the innermost bitmap.
 abbrev pub Flags : Bool → List Scope → List Scope → Type 0
-Flags v old new = (ms : List Bool) × (us : List Bool) × (k : List Scope) × (old ≡ added (v ∷ ms) us ∷ k) × (new ≡ added ms us ∷ k)
+Flags v old new = (ms : List Bool) × (us : List Bool) × (k : List Scope) × (old ≡ added (v ∷ ms) us ∷ k)
+    × (new ≡ added ms us ∷ k)
 
 -- No further addition is due here.
 abbrev pub NoFlag : List Scope → Type 0

@@ -8,14 +8,16 @@ ghost use Rattle.per_codec_decoder.specs.Endings.{IsClosed};
 use asn1_schema_faults::DecodeError;
 use per_codec_reading::Cursor;
 
-/// Passes over what fills up a message behind its value: any bits up to the next octet, or one zero octet where the value has no bits.
+/// Passes over what fills up a message behind its value: any bits up to the next octet, or one zero octet where the
+/// value has no bits.
 ///
 /// # Errors
 ///
 /// `InvalidPadding` if that octet is not zero, and `Incomplete` if the bits end early.
 #[inline(always)]
 pub(crate) fn read_completion(cursor: &mut Cursor<'_>) -> Result<(), DecodeError>
-    ensures ok { OnOk result ((free : _) → IsTrue (free Per.any_filling) → Front free (completion cursor.old.0) cursor.old cursor.new) }
+    ensures ok { OnOk result ((free : _) → IsTrue (free Per.any_filling)
+        → Front free (completion cursor.old.0) cursor.old cursor.new) }
     ensures only { IfErr result (λ _. (free : _) (b : _) → Front free (completion cursor.old.0) cursor.old b → ⊥) }
     ensures fresh { IfErr result IsFresh }
 {

@@ -1,7 +1,10 @@
 //! What finds the records of a value in bits.
 ghost use Rattle.std.specs.Cow.{cow_slice_items, IsBorrowedSlice};
-ghost use Rattle.std.specs.Prelude.{◌≡◌, ◌+◌, ◌-◌, ◌<◌, ◌≤◌, ◌^◌, [], ◌∷◌, true, false, Some, length, take, OnOk, OnErr, IfErr, IfOk};
-ghost use Rattle.per_codec_decoder.specs.Held.{Held, Finds, Lends, HasFailed, kind_of, IsReady, Stays, Moves, Enters, HasOpened, HasPassed, NoOpening, EntersMembers, EntersComponents, NotMembers, NotComponents};
+ghost use Rattle.std.specs.Prelude.{◌≡◌, ◌+◌, ◌-◌, ◌<◌, ◌≤◌, ◌^◌, [], ◌∷◌, true, false, Some, length, take, OnOk};
+ghost use Rattle.std.specs.Prelude.{OnErr, IfErr, IfOk};
+ghost use Rattle.per_codec_decoder.specs.Held.{Held, Finds, Lends, HasFailed, kind_of, IsReady, Stays, Moves, Enters};
+ghost use Rattle.per_codec_decoder.specs.Held.{HasOpened, HasPassed, NoOpening, EntersMembers, EntersComponents};
+ghost use Rattle.per_codec_decoder.specs.Held.{NotMembers, NotComponents};
 ghost use Rattle.per_codec_decoder.specs.Endings.{Passes, NotPassed};
 ghost use Rattle.per_codec_decoder.specs.Scopes.{scope_of, stands_in};
 ghost use Rattle.asn1_schema_constraints.specs.Bounds.{counts_of, members_of};
@@ -41,7 +44,8 @@ use std::borrow::CowSlice;
 use std::marker::Model;
 use std::mem::replace;
 
-/// A decoder of the packed encoding rules (X.691), unaligned or aligned, which lends octets from its input where they stand there.
+/// A decoder of the packed encoding rules (X.691), unaligned or aligned, which lends octets from its input where they
+/// stand there.
 #[derive(Drop)]
 pub struct Decoder<'input> {
     place: Stretch<'input>,
@@ -58,15 +62,31 @@ impl<'input> Model for Decoder<'input> {
 
     ghost Value = { Held };
 
-    ghost view = { λ d. record { place = d.place.place; scopes = d.scopes.scopes; levels = d.levels; most = d.most; failed = d.failed; variant = d.variant; stands = d.place.storage ∷ d.scopes.behind } };
+    ghost view = { λ d. record {
+      place = d.place.place;
+      scopes = d.scopes.scopes;
+      levels = d.levels;
+      most = d.most;
+      failed = d.failed;
+      variant = d.variant;
+      stands = d.place.storage ∷ d.scopes.behind;
+    } };
 }
 
 impl<'input> Decoder<'input> {
-    /// A decoder of this input, within 128 nested levels. Of an input of 2 to 60 octets or more the first ones are looked at, fewer than so
-    /// many.
+    /// A decoder of this input, within 128 nested levels. Of an input of 2 to 60 octets or more the first ones are
+    /// looked at, fewer than so many.
     #[inline(always)]
     pub fn new(alloc: Global, input: &'input [u8], options: DecoderOptions) -> Self
-        ensures { result ≡ record { place = (0, octet_bits (take (2 ^ 60 - 1) input.entry.now)); scopes = []; levels = 128; most = 128; failed = false; variant = options.variant; stands = Some 0 ∷ [] } }
+        ensures { result ≡ record {
+          place = (0, octet_bits (take (2 ^ 60 - 1) input.entry.now));
+          scopes = [];
+          levels = 128;
+          most = 128;
+          failed = false;
+          variant = options.variant;
+          stands = Some 0 ∷ [];
+        } }
     {
         Decoder {
             place: Stretch::from_octets(input),
@@ -86,17 +106,20 @@ impl<'input> Decoder<'input> {
         self.place.bits()
     }
 
-    /// Passes over what fills up a message behind its value (X.691 11.1): bits up to the next octet, or the one octet of a value of no bits.
+    /// Passes over what fills up a message behind its value (X.691 11.1): bits up to the next octet, or the one octet
+    /// of a value of no bits.
     ///
     /// # Errors
     ///
-    /// `AlreadyFailed` after a refusal, `InvalidPadding` if the octet of a value of no bits is not zero, and `Incomplete` if the input ends
-    /// early.
+    /// `AlreadyFailed` after a refusal, `InvalidPadding` if the octet of a value of no bits is not zero, and
+    /// `Incomplete` if the input ends early.
     #[inline(always)]
     pub fn finish(&mut self) -> Result<(), DecodeError>
-        ensures ok { OnOk result (IsReady self.old × Front (freedoms self.old.variant) (completion self.old.place.0) self.old.place self.new.place) }
+        ensures ok { OnOk result (IsReady self.old
+            × Front (freedoms self.old.variant) (completion self.old.place.0) self.old.place self.new.place) }
         ensures rest { OnOk result (Stays self.old self.new) }
-        ensures only { IfErr result (λ _. IsReady self.old → (b : _) → Front (freedoms self.old.variant) (completion self.old.place.0) self.old.place b → ⊥) }
+        ensures only { IfErr result (λ _. IsReady self.old → (b : _)
+            → Front (freedoms self.old.variant) (completion self.old.place.0) self.old.place b → ⊥) }
         ensures failed { OnErr result (HasFailed self.new) }
         ensures already { HasFailed self.old → result ≡ Err DecodeError.AlreadyFailed }
         ensures after { result ≡ Err DecodeError.AlreadyFailed → HasFailed self.old }
@@ -108,8 +131,9 @@ impl<'input> Decoder<'input> {
         self.settle(position, answer)
     }
 
-    // The octets of a string (X.680 23) under a size constraint, in a type of the program that holds so many. Where they stand in the input as
-    // they are, in one run (X.691 11.9.4) that begins at an octet of it, they are lent, and no memory is taken.
+    // The octets of a string (X.680 23) under a size constraint, in a type of the program that holds so many. Where
+    // they stand in the input as they are, in one run (X.691 11.9.4) that begins at an octet of it, they are lent, and
+    // no memory is taken.
     #[inline(always)]
     fn find_octets(
         &mut self,
@@ -117,11 +141,15 @@ impl<'input> Decoder<'input> {
         constraints: Constraints,
         held: Bounded<usize>,
     ) -> Result<CowSlice<'input, u8>, DecodeError>
-        ensures ok { IfOk result (λ x. Finds self.old (octets (sizes_of constraints.entry.size) (counts_of held) (cow_slice_items x)) self.new) }
+        ensures ok { IfOk result (λ x. Finds self.old
+            (octets (sizes_of constraints.entry.size) (counts_of held) (cow_slice_items x)) self.new) }
         ensures held { IfOk result (λ x. is_count_within (counts_of held) (length (cow_slice_items x)) ≡ true) }
-        ensures lent { IfOk result (λ x. Lends self.old (octets (sizes_of constraints.entry.size) (counts_of held) (cow_slice_items x)) self.new → IsBorrowedSlice x) }
+        ensures lent { IfOk result (λ x. Lends self.old
+            (octets (sizes_of constraints.entry.size) (counts_of held) (cow_slice_items x)) self.new
+            → IsBorrowedSlice x) }
         ensures level { OnOk result (self.new.levels ≡ self.old.levels) }
-        ensures only { IfErr result (NoRecord Finds (asks_octets (sizes_of constraints.entry.size) (counts_of held)) self.old) }
+        ensures only { IfErr result (NoRecord Finds
+            (asks_octets (sizes_of constraints.entry.size) (counts_of held)) self.old) }
         ensures failed { OnErr result (HasFailed self.new) }
         ensures already { HasFailed self.old → result ≡ Err DecodeError.AlreadyFailed }
         ensures after { result ≡ Err DecodeError.AlreadyFailed → HasFailed self.old }
@@ -196,7 +224,16 @@ impl<'input> Decoder<'input> {
     fn enter(&mut self, frame: Frame<'input>) -> Result<(), DecodeError>
         requires { 0 < self.old.levels }
         ensures levels { OnOk result (self.old.levels ≡ self.new.levels + 1) }
-        ensures scopes { OnOk result (self.new ≡ record { place = self.old.place; scopes = scope_of frame.entry ∷ self.old.scopes; levels = self.new.levels; most = self.old.most; failed = self.old.failed; variant = self.old.variant; stands = stands_in frame.entry self.old.stands }) }
+        ensures scopes { OnOk result (self.new
+            ≡ record {
+              place = self.old.place;
+              scopes = scope_of frame.entry ∷ self.old.scopes;
+              levels = self.new.levels;
+              most = self.old.most;
+              failed = self.old.failed;
+              variant = self.old.variant;
+              stands = stands_in frame.entry self.old.stands;
+            }) }
         ensures only { IfErr result (λ error. error ≡ DecodeError.OutOfMemory) }
         ensures failed { OnErr result (self.new.failed ≡ true) }
     {
@@ -212,7 +249,16 @@ impl<'input> Decoder<'input> {
     fn enter_alternative(&mut self) -> Result<(), DecodeError>
         requires { 0 < self.old.levels }
         ensures levels { OnOk result (self.old.levels ≡ self.new.levels + 1) }
-        ensures scopes { OnOk result (self.new ≡ record { place = self.old.place; scopes = alternative ∷ self.old.scopes; levels = self.new.levels; most = self.old.most; failed = self.old.failed; variant = self.old.variant; stands = self.old.stands }) }
+        ensures scopes { OnOk result (self.new
+            ≡ record {
+              place = self.old.place;
+              scopes = alternative ∷ self.old.scopes;
+              levels = self.new.levels;
+              most = self.old.most;
+              failed = self.old.failed;
+              variant = self.old.variant;
+              stands = self.old.stands;
+            }) }
         ensures only { IfErr result (λ error. error ≡ DecodeError.OutOfMemory) }
         ensures failed { OnErr result (self.new.failed ≡ true) }
     {
@@ -228,7 +274,15 @@ impl<'input> Decoder<'input> {
     fn descend(&mut self)
         requires { 0 < self.old.levels }
         ensures levels { self.old.levels ≡ self.new.levels + 1 }
-        ensures same { self.new ≡ record { place = self.old.place; scopes = self.old.scopes; levels = self.new.levels; most = self.old.most; failed = self.old.failed; variant = self.old.variant; stands = self.old.stands } }
+        ensures same { self.new ≡ record {
+          place = self.old.place;
+          scopes = self.old.scopes;
+          levels = self.new.levels;
+          most = self.old.most;
+          failed = self.old.failed;
+          variant = self.old.variant;
+          stands = self.old.stands;
+        } }
     {
         self.levels -= 1;
     }
@@ -299,8 +353,11 @@ impl<'input> Decoder<'input> {
     // Passes over what is left where a scope ends.
     #[inline(always)]
     fn pass_over(&mut self, ending: Ending<'input>) -> Result<(), DecodeError>
-        ensures ok { OnOk result (HasPassed ending.entry self.old self.new × Passes (is_aligned self.old.variant) (freedoms self.old.variant) ending.entry self.old.place self.new.place) }
-        ensures only { IfErr result (NotPassed (is_aligned self.old.variant) (freedoms self.old.variant) ending.entry self.old.place) }
+        ensures ok { OnOk result (HasPassed ending.entry self.old self.new
+            × Passes (is_aligned self.old.variant)
+            (freedoms self.old.variant) ending.entry self.old.place self.new.place) }
+        ensures only { IfErr result (NotPassed (is_aligned self.old.variant)
+            (freedoms self.old.variant) ending.entry self.old.place) }
         ensures fresh { IfErr result IsFresh }
     {
         match ending {
@@ -322,7 +379,8 @@ impl<'input> Decoder<'input> {
 }
 
 impl<'input> asn1_schema_decode::Decoder for Decoder<'input> {
-    ghost use Rattle.per_codec_decoder.specs.Laws.{finds_one, finds_held, finds_bag_held, finds_none, finds_on, finds_same};
+    ghost use Rattle.per_codec_decoder.specs.Laws.{finds_one, finds_held, finds_bag_held, finds_none, finds_on};
+    ghost use Rattle.per_codec_decoder.specs.Laws.{finds_same};
 
     type Octets = CowSlice<'input, u8>;
 

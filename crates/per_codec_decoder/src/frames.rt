@@ -3,8 +3,10 @@ ghost use Rattle.std.specs.Prelude.{◌≡◌, ◌∷◌, [], OnOk, IfOk, IfErr,
 ghost use Rattle.per_codec_fronts.specs.Takes.{NextMark, NextMember, open_type};
 ghost use Rattle.per_codec_reading.specs.Fronts.{freedoms, is_aligned, IsFresh};
 ghost use Rattle.per_codec_decoder.specs.Members.{NoFurther};
-ghost use Rattle.per_codec_decoder.specs.Scopes.{behind_around, behind_frame, behind_in, behind_of, scope_of, scope_around, scopes_in, scopes_of};
-ghost use Rattle.per_codec_decoder.specs.Scopes.{HasMark, NoAdditions, Flags, NoFlag, Leaves, LeavesBehind, NoEnd, LeavesAddition, NoAdditionEnd, IsAdded};
+ghost use Rattle.per_codec_decoder.specs.Scopes.{behind_around, behind_frame, behind_in, behind_of, scope_of};
+ghost use Rattle.per_codec_decoder.specs.Scopes.{scope_around, scopes_in, scopes_of};
+ghost use Rattle.per_codec_decoder.specs.Scopes.{HasMark, NoAdditions, Flags, NoFlag, Leaves, LeavesBehind, NoEnd};
+ghost use Rattle.per_codec_decoder.specs.Scopes.{LeavesAddition, NoAdditionEnd, IsAdded};
 
 use crate::additions::Additions;
 use crate::members::Part;
@@ -18,8 +20,8 @@ use std::mem::replace;
 /// What has begun and has not ended.
 #[derive(Drop)]
 pub enum Frame<'input> {
-    /// The components of a sequence, set or group (X.691 19): the bit of its mark of extensibility, if it has a mark, and the presence bits
-    /// that are still to come.
+    /// The components of a sequence, set or group (X.691 19): the bit of its mark of extensibility, if it has a mark,
+    /// and the presence bits that are still to come.
     Components(Option<bool>, Stretch<'input>),
     /// The additions of a sequence or set (X.691 19.7) that are still to come.
     Added(Additions<'input>),
@@ -84,8 +86,10 @@ fn put<'input>(
     outer: &mut Vec<Frame<'input>>,
     frame: Frame<'input>,
 ) -> Result<(), AllocError>
-    ensures scopes { OnOk result (scopes_in innermost.new outer.new.items ≡ scope_of frame.entry ∷ scopes_in innermost.old outer.old.items) }
-    ensures behind { OnOk result (behind_in innermost.new outer.new.items ≡ behind_frame frame.entry (behind_in innermost.old outer.old.items)) }
+    ensures scopes { OnOk result (scopes_in innermost.new outer.new.items
+        ≡ scope_of frame.entry ∷ scopes_in innermost.old outer.old.items) }
+    ensures behind { OnOk result (behind_in innermost.new outer.new.items ≡ behind_frame frame.entry
+        (behind_in innermost.old outer.old.items)) }
 {
     match innermost.take() {
         Some(around) => outer.push(around)?,
@@ -95,16 +99,18 @@ fn put<'input>(
     Ok(())
 }
 
-/// Opens what encloses one value alone as a frame inside the others. It is seldom called: where something begins in an open type or in an
-/// alternative.
+/// Opens what encloses one value alone as a frame inside the others. It is seldom called: where something begins in an
+/// open type or in an alternative.
 #[cold]
 fn put_enclosing<'input>(
     innermost: &mut Option<Frame<'input>>,
     outer: &mut Vec<Frame<'input>>,
     enclosing: Enclosing<'input>,
 ) -> Result<(), AllocError>
-    ensures scopes { OnOk result (scopes_in innermost.new outer.new.items ≡ scope_around enclosing.entry ∷ scopes_in innermost.old outer.old.items) }
-    ensures behind { OnOk result (behind_in innermost.new outer.new.items ≡ behind_around enclosing.entry (behind_in innermost.old outer.old.items)) }
+    ensures scopes { OnOk result (scopes_in innermost.new outer.new.items
+        ≡ scope_around enclosing.entry ∷ scopes_in innermost.old outer.old.items) }
+    ensures behind { OnOk result (behind_in innermost.new outer.new.items ≡ behind_around enclosing.entry
+        (behind_in innermost.old outer.old.items)) }
 {
     put(innermost, outer, enclosing.frame())
 }
@@ -117,8 +123,10 @@ fn settle<'input>(
     outer: &mut Vec<Frame<'input>>,
 ) -> Result<(), AllocError>
     ensures moved { OnOk result (enclosing.new ≡ None) }
-    ensures scopes { OnOk result (scopes_in innermost.new outer.new.items ≡ scopes_of enclosing.old innermost.old outer.old.items) }
-    ensures behind { OnOk result (behind_in innermost.new outer.new.items ≡ behind_of enclosing.old innermost.old outer.old.items) }
+    ensures scopes { OnOk result (scopes_in innermost.new outer.new.items
+        ≡ scopes_of enclosing.old innermost.old outer.old.items) }
+    ensures behind { OnOk result (behind_in innermost.new outer.new.items
+        ≡ behind_of enclosing.old innermost.old outer.old.items) }
 {
     if let Some(around) = enclosing.take() {
         put_enclosing(innermost, outer, around)?;
@@ -126,8 +134,8 @@ fn settle<'input>(
     Ok(())
 }
 
-/// All that has begun and has not ended: what encloses one value alone, which stands innermost of all if it is there, the innermost frame,
-/// and the frames around it.
+/// All that has begun and has not ended: what encloses one value alone, which stands innermost of all if it is there,
+/// the innermost frame, and the frames around it.
 #[derive(Drop)]
 pub struct Scopes<'input> {
     enclosing: Option<Enclosing<'input>>,
@@ -140,7 +148,11 @@ impl<'input> Model for Scopes<'input> {
 
     ghost Value = { Open };
 
-    ghost view = { λ s. record { scopes = scopes_of s.enclosing s.innermost s.outer.items; behind = behind_of s.enclosing s.innermost s.outer.items } };
+    ghost view = { λ s. record {
+      scopes = scopes_of s.enclosing s.innermost s.outer.items;
+      behind = behind_of
+          s.enclosing s.innermost s.outer.items;
+    } };
 }
 
 impl<'input> Scopes<'input> {
@@ -229,7 +241,8 @@ impl<'input> Scopes<'input> {
         self.innermost = Some(frame);
     }
 
-    /// Whether the next addition of the innermost sequence or set is there, if one is due. Those past the bits of the bitmap are not.
+    /// Whether the next addition of the innermost sequence or set is there, if one is due. Those past the bits of the
+    /// bitmap are not.
     pub fn next_addition(&mut self) -> Option<bool>
         ensures some { IfSome result (λ is_there. Flags is_there self.old.scopes self.new.scopes) }
         ensures behind { self.new.behind ≡ self.old.behind }
@@ -289,7 +302,8 @@ impl<'input> Scopes<'input> {
         }
     }
 
-    /// Closes the innermost scope, if it is an addition: the place behind its open type. Where it is none, the scopes are of no more use.
+    /// Closes the innermost scope, if it is an addition: the place behind its open type. Where it is none, the scopes
+    /// are of no more use.
     pub fn leave_addition(&mut self) -> Option<Stretch<'input>>
         ensures some { IfSome result (λ behind. LeavesAddition behind.place self.old.scopes self.new.scopes) }
         ensures behind { IfSome result (λ behind. self.old.behind ≡ behind.storage ∷ self.new.behind) }
@@ -313,7 +327,8 @@ impl<'input> Scopes<'input> {
         cursor: &mut Cursor<'_>,
         variant: Variant,
     ) -> Result<bool, DecodeError>
-        ensures ok { IfOk result (λ more. NextMember (is_aligned variant) (freedoms variant) more cursor.old self.old.scopes (cursor.new, self.new.scopes)) }
+        ensures ok { IfOk result (λ more. NextMember (is_aligned variant)
+            (freedoms variant) more cursor.old self.old.scopes (cursor.new, self.new.scopes)) }
         ensures behind { OnOk result (self.new.behind ≡ self.old.behind) }
         ensures only { IfErr result (NoFurther (is_aligned variant) (freedoms variant) cursor.old self.old.scopes) }
         ensures fresh { IfErr result IsFresh }
@@ -327,7 +342,8 @@ impl<'input> Scopes<'input> {
         }
     }
 
-    /// Closes the innermost scope, if nothing of it is still to come but what it leaves. Where more is, the scopes are of no more use.
+    /// Closes the innermost scope, if nothing of it is still to come but what it leaves. Where more is, the scopes are
+    /// of no more use.
     #[inline(always)]
     pub fn leave(&mut self) -> Option<Ending<'input>>
         ensures some { IfSome result (λ ending. Leaves ending self.old.scopes self.new.scopes) }

@@ -1,23 +1,25 @@
 //! How many members a list has (X.691 20): behind their number, or in fragments.
-ghost use Rattle.std.specs.Prelude.{◌≡◌, ◌+◌, ◌*◌, ◌^◌, ◌≤◌, ◌<◌, ◌&&◌, ◌||◌, ◌∷◌, true, false, Some, None, IsTrue, ◌↔◌, IfOk, IfErr, IfSome, IfNone};
+ghost use Rattle.std.specs.Prelude.{◌≡◌, ◌+◌, ◌*◌, ◌^◌, ◌≤◌, ◌<◌, ◌&&◌, ◌||◌, ◌∷◌, true, false, Some, None, IsTrue};
+ghost use Rattle.std.specs.Prelude.{◌↔◌, IfOk, IfErr, IfSome, IfNone};
 ghost use Rattle.asn1_model.specs.Numbers.{is_count_within};
 ghost use Rattle.asn1_schema_constraints.specs.Bounds.{counts_of, members_of};
 ghost use Rattle.asn1_schema_constraints.specs.Terms.{sizes_of};
 ghost use Rattle.per_codec_fronts.specs.Takes.{Header, MemberDue, NextMember, SizeMark, members, in_all};
 ghost use Rattle.per_codec_reading.specs.Fronts.{freedoms, is_aligned, IsFresh};
-ghost use Rattle.per_codec_decoder.specs.Members.{IsHeaded, HasMembers, HasNumber, NoFurther, NoHeader, NoMembers, NoNumber};
+ghost use Rattle.per_codec_decoder.specs.Members.{IsHeaded, HasMembers, HasNumber, NoFurther, NoHeader, NoMembers};
+ghost use Rattle.per_codec_decoder.specs.Members.{NoNumber};
 
 use crate::preamble::read_bit;
 use asn1_schema_constraints::{Bounded, Constraints};
 use asn1_schema_faults::DecodeError;
 use per_codec_reading::lengths::{Length, read_length};
 use per_codec_reading::numbers::read_constrained;
-use per_codec_reading::{Cursor, Variant};
+use per_codec_reading::{Cursor, FRAGMENT, LONG_COUNT, Variant};
 use std::alloc::Global;
 use std::marker::Model;
 
-/// What is known of a list in fragments (X.691 11.9.3.8): how many members there may be, whether their number is marked as outside the root,
-/// and how many times 16384 members each fragment so far has.
+/// What is known of a list in fragments (X.691 11.9.3.8): how many members there may be, whether their number is marked
+/// as outside the root, and how many times 16384 members each fragment so far has.
 #[derive(Drop)]
 pub(crate) struct Tally {
     size: Bounded<usize>,
@@ -33,11 +35,16 @@ impl Model for Tally {
 
     ghost Value = { TallyTerm };
 
-    ghost view = { λ t. record { size = record { counts = counts_of t.size; extensible = t.extensible }; held = members_of t.held; outside = t.outside; sizes = t.sizes.items } };
+    ghost view = { λ t. record {
+      size = record { counts = counts_of t.size; extensible = t.extensible };
+      held = members_of t.held;
+      outside = t.outside;
+      sizes = t.sizes.items;
+    } };
 }
 
-/// The members that stand behind one header or behind their number: how many are due, and what is known of the list if a header stands
-/// behind these.
+/// The members that stand behind one header or behind their number: how many are due, and what is known of the list if
+/// a header stands behind these.
 #[derive(Drop)]
 pub struct Part {
     due: usize,
@@ -53,10 +60,11 @@ impl Model for Part {
 }
 
 impl Tally {
-    /// Whether there may be as many members as in the fragments so far and so many behind them: the program's type holds them, and they are
-    /// in the root or marked as outside it.
+    /// Whether there may be as many members as in the fragments so far and so many behind them: the program's type
+    /// holds them, and they are in the root or marked as outside it.
     fn admits(&self, last: usize) -> bool
-        ensures { IsTrue result ↔ ((is_count_within self.now.held (in_all self.now.sizes last) ≡ true) × ((self.now.outside || is_count_within self.now.size.counts (in_all self.now.sizes last)) ≡ true)) }
+        ensures { IsTrue result ↔ ((is_count_within self.now.held (in_all self.now.sizes last) ≡ true)
+            × ((self.now.outside || is_count_within self.now.size.counts (in_all self.now.sizes last)) ≡ true)) }
     {
         let _most = most_members(self.held);
         match total_of(&self.sizes, last) {
@@ -73,7 +81,8 @@ impl Tally {
     ///
     /// `SizeConstraintNotSatisfied` if the members are not as many as there may be, and the errors of a length.
     fn next_part(mut self, cursor: &mut Cursor<'_>, variant: Variant) -> Result<Part, DecodeError>
-        ensures ok { IfOk result (λ part. Header (is_aligned variant) (freedoms variant) self cursor.old cursor.new part.due part.tally) }
+        ensures ok { IfOk result (λ part. Header (is_aligned variant)
+            (freedoms variant) self cursor.old cursor.new part.due part.tally) }
         ensures only { IfErr result (NoHeader (is_aligned variant) (freedoms variant) self cursor.old) }
         ensures fresh { IfErr result IsFresh }
     {
@@ -81,7 +90,7 @@ impl Tally {
             Length::Fragment(multiple) => {
                 self.sizes.push(multiple as u8)?;
                 Ok(Part {
-                    due: multiple * 16384,
+                    due: multiple * FRAGMENT,
                     tally: Some(self),
                 })
             }
@@ -118,8 +127,12 @@ impl Part {
         cursor: &mut Cursor<'_>,
         variant: Variant,
     ) -> Result<bool, DecodeError>
-        ensures ok { IfOk result (λ more. (k : _) → NextMember (is_aligned variant) (freedoms variant) more cursor.old (members self.old.due self.old.tally ∷ k) (cursor.new, members self.new.due self.new.tally ∷ k)) }
-        ensures only { IfErr result (λ e. (k : _) → NoFurther (is_aligned variant) (freedoms variant) cursor.old (members self.old.due self.old.tally ∷ k) e) }
+        ensures ok { IfOk result (λ more. (k : _)
+            → NextMember (is_aligned variant) (freedoms variant) more cursor.old
+            (members self.old.due self.old.tally ∷ k) (cursor.new, members self.new.due self.new.tally ∷ k)) }
+        ensures only { IfErr result (λ e. (k : _)
+            → NoFurther (is_aligned variant) (freedoms variant) cursor.old
+            (members self.old.due self.old.tally ∷ k) e) }
         ensures fresh { IfErr result IsFresh }
     {
         if self.due > 0 {
@@ -139,7 +152,8 @@ impl Part {
     #[inline(always)]
     fn take_member(&mut self) -> bool
         requires { self.old.due ≡ 0 → self.old.tally ≡ None }
-        ensures { (p : _) (k : _) → MemberDue result self.old.due self.old.tally p k (p, members self.new.due self.new.tally ∷ k) }
+        ensures { (p : _) (k : _) → MemberDue result self.old.due self.old.tally p k
+            (p, members self.new.due self.new.tally ∷ k) }
     {
         if self.due == 0 {
             return false;
@@ -156,7 +170,7 @@ fn total_of(sizes: &[u8], last: usize) -> Option<usize>
 {
     let mut total: usize = 0;
     for size in sizes {
-        total = total.checked_add(usize::from(*size) * 16384)?;
+        total = total.checked_add(usize::from(*size) * FRAGMENT)?;
     }
     total.checked_add(last)
 }
@@ -182,7 +196,8 @@ fn size_under(constraints: Constraints) -> (Bounded<usize>, bool)
     }
 }
 
-/// The highest count, where members stand behind their number (X.691 11.9.4.1): it is below 65536, and the number is not marked as outside.
+/// The highest count, where members stand behind their number (X.691 11.9.4.1): it is below 65536, and the number is
+/// not marked as outside.
 fn number_under(size: Bounded<usize>, outside: bool) -> Option<usize>
     ensures some { IfSome result (λ high. (outside ≡ false) × ((counts_of size).high ≡ Some high) × (high < 65536)) }
     ensures none { IfNone result (IsHeaded outside (counts_of size).high) }
@@ -191,7 +206,7 @@ fn number_under(size: Bounded<usize>, outside: bool) -> Option<usize>
         return None;
     }
     match size.as_end() {
-        Some(high) if *high < 65536 => Some(*high),
+        Some(high) if *high < LONG_COUNT => Some(*high),
         _ => None,
     }
 }
@@ -199,7 +214,8 @@ fn number_under(size: Bounded<usize>, outside: bool) -> Option<usize>
 /// Whether the number of members is marked as outside the root of a size, if that has a mark.
 fn read_mark(cursor: &mut Cursor<'_>, extensible: bool) -> Result<bool, DecodeError>
     ensures ok { IfOk result (λ outside. (free : _) → SizeMark free extensible outside cursor.old cursor.new) }
-    ensures only { IfErr result (λ _. (free : _) (outside : _) (b : _) → SizeMark free extensible outside cursor.old b → ⊥) }
+    ensures only { IfErr result (λ _. (free : _) (outside : _) (b : _) → SizeMark free extensible outside cursor.old b
+        → ⊥) }
     ensures fresh { IfErr result IsFresh }
 {
     if !extensible {
@@ -213,7 +229,8 @@ fn read_mark(cursor: &mut Cursor<'_>, extensible: bool) -> Result<bool, DecodeEr
 ///
 /// # Errors
 ///
-/// `SizeConstraintNotSatisfied` if the program's type does not hold so many, and the errors of a constrained whole number.
+/// `SizeConstraintNotSatisfied` if the program's type does not hold so many, and the errors of a constrained whole
+/// number.
 fn read_number(
     cursor: &mut Cursor<'_>,
     variant: Variant,
@@ -222,8 +239,10 @@ fn read_number(
     high: usize,
 ) -> Result<usize, DecodeError>
     requires { (counts_of size).high ≡ Some high }
-    ensures ok { IfOk result (λ n. HasNumber (is_aligned variant) (freedoms variant) (counts_of size) (members_of held) high n cursor.old cursor.new) }
-    ensures only { IfErr result (NoNumber (is_aligned variant) (freedoms variant) (counts_of size) (members_of held) high cursor.old) }
+    ensures ok { IfOk result (λ n. HasNumber (is_aligned variant) (freedoms variant) (counts_of size)
+        (members_of held) high n cursor.old cursor.new) }
+    ensures only { IfErr result (NoNumber (is_aligned variant) (freedoms variant) (counts_of size)
+        (members_of held) high cursor.old) }
     ensures fresh { IfErr result IsFresh }
 {
     let low = size.minimum();
@@ -238,12 +257,13 @@ fn read_number(
     Ok(count)
 }
 
-/// Reads what stands in front of the members of a list under a size constraint (X.691 20): the mark of the size, if it has one, and the number
-/// of members, or the first header.
+/// Reads what stands in front of the members of a list under a size constraint (X.691 20): the mark of the size, if it
+/// has one, and the number of members, or the first header.
 ///
 /// # Errors
 ///
-/// `SizeConstraintNotSatisfied` if the members are not as many as there may be, and the errors of a number and of a header.
+/// `SizeConstraintNotSatisfied` if the members are not as many as there may be, and the errors of a number and of a
+/// header.
 pub fn read_members(
     alloc: Global,
     cursor: &mut Cursor<'_>,
@@ -251,8 +271,10 @@ pub fn read_members(
     constraints: Constraints,
     held: Bounded<usize>,
 ) -> Result<Part, DecodeError>
-    ensures ok { IfOk result (λ part. HasMembers (is_aligned variant) (freedoms variant) (sizes_of constraints.entry.size) (members_of held) part.due part.tally cursor.old cursor.new) }
-    ensures only { IfErr result (NoMembers (is_aligned variant) (freedoms variant) (sizes_of constraints.entry.size) (members_of held) cursor.old) }
+    ensures ok { IfOk result (λ part. HasMembers (is_aligned variant) (freedoms variant)
+        (sizes_of constraints.entry.size) (members_of held) part.due part.tally cursor.old cursor.new) }
+    ensures only { IfErr result (NoMembers (is_aligned variant) (freedoms variant) (sizes_of constraints.entry.size)
+        (members_of held) cursor.old) }
     ensures fresh { IfErr result IsFresh }
 {
     let (size, extensible) = size_under(constraints);

@@ -26,8 +26,12 @@ pub(crate) fn read_held_octets(
     constraints: Constraints,
     held: Bounded<usize>,
 ) -> Result<Vec<u8>, DecodeError>
-    ensures ok { IfOk result (λ octets. Front (freedoms variant) (Per.form (is_aligned variant) (Asn1.octet_string (sizes_of constraints.entry.size) (counts_of held)) (Asn1Value.octet_list octets.items)) cursor.old cursor.new) }
-    ensures only { IfErr result (Misses (freedoms variant) (Per.form (is_aligned variant) (Asn1.octet_string (sizes_of constraints.entry.size) (counts_of held))) cursor.old) }
+    ensures ok { IfOk result (λ octets. Front (freedoms variant)
+        (Per.form (is_aligned variant) (Asn1.octet_string (sizes_of constraints.entry.size) (counts_of held))
+        (Asn1Value.octet_list octets.items)) cursor.old cursor.new) }
+    ensures only { IfErr result (Misses (freedoms variant)
+        (Per.form (is_aligned variant) (Asn1.octet_string (sizes_of constraints.entry.size) (counts_of held)))
+        cursor.old) }
 {
     let octets = read_octet_string(alloc, cursor, variant, constraints, held)?;
     let octets = octets.into_owned(alloc)?;

@@ -50,8 +50,8 @@ fn read_mark(place: &mut Stretch<'_>, extensible: bool) -> Result<Option<bool>, 
     Ok(Some(bit))
 }
 
-/// Reads the preamble of a sequence, set or group, with or without a mark of extensibility, of which so many components may be absent: the
-/// bit of the mark, if there is one, and the presence bits.
+/// Reads the preamble of a sequence, set or group, with or without a mark of extensibility, of which so many components
+/// may be absent: the bit of the mark, if there is one, and the presence bits.
 ///
 /// # Errors
 ///
@@ -64,7 +64,8 @@ pub fn read_preamble<'input>(
     extensible: bool,
     optional: usize,
 ) -> Result<Frame<'input>, DecodeError>
-    ensures ok { IfOk result (λ frame. HasPreamble (freedoms variant) extensible optional (scope_of frame) place.old.place place.new.place) }
+    ensures ok { IfOk result (λ frame. HasPreamble (freedoms variant) extensible optional
+        (scope_of frame) place.old.place place.new.place) }
     ensures storage { OnOk result (place.new.storage ≡ place.old.storage) }
     ensures inner { IfOk result (λ frame. (k : _) → stands_in frame k ≡ k) }
     ensures only { IfErr result (NoPreamble (freedoms variant) extensible optional place.old.place) }
@@ -75,7 +76,8 @@ pub fn read_preamble<'input>(
     Ok(Frame::Components(mark, presence))
 }
 
-/// Reads the bitmap of the additions of a sequence or set (X.691 19.7), if the mark of extensibility tells that there is one.
+/// Reads the bitmap of the additions of a sequence or set (X.691 19.7), if the mark of extensibility tells that there
+/// is one.
 ///
 /// # Errors
 ///
@@ -86,7 +88,8 @@ pub fn read_bitmap<'input>(
     variant: Variant,
     mark: bool,
 ) -> Result<Stretch<'input>, DecodeError>
-    ensures ok { IfOk result (λ bitmap. HasBitmap (freedoms variant) (is_aligned variant) mark bitmap.place.1 place.old.place place.new.place) }
+    ensures ok { IfOk result (λ bitmap. HasBitmap (freedoms variant)
+        (is_aligned variant) mark bitmap.place.1 place.old.place place.new.place) }
     ensures storage { OnOk result (place.new.storage ≡ place.old.storage) }
     ensures only { IfErr result (NoBitmap (freedoms variant) (is_aligned variant) mark place.old.place) }
     ensures fresh { IfErr result IsFresh }

@@ -1,6 +1,5 @@
 -- Bags that begin, go on and end, in the texts and the frames of an encoder.
-use Rattle.std.proofs.Common.{◌≡◌, ℕ, ◌≤◌, Bool, false, List, [], ◌∷◌, ◌++◌, length, take, reverse, Some, None, Box, Global, Result, Ok, Err, MatchResult, refl, ap, subst, sym, ◌∙◌, arith, length-append}
-use Rattle.std.proofs.lemmas.List.{take_at}
+use Rattle.std.proofs.Common.{◌≡◌, ℕ, Bool, false, List, [], ◌∷◌, ◌++◌, reverse, Some, None, Box, Global, Result, Ok, Err, MatchResult, refl, ap, subst, sym, ◌∙◌}
 use Rattle.asn1_model.specs.Per
 use Rattle.asn1_model.specs.Schema.{Size, Counts}
 use Rattle.asn1_schema_constraints.specs.Bounds.{members_of}
@@ -9,41 +8,27 @@ use Rattle.asn1_schema_faults.specs.declared.EncodeError.{EncodeError}
 use Rattle.asn1_schema_faults.specs.declared.EncodeError.TheVariants.{ValueConstraintNotSatisfied, SizeConstraintNotSatisfied, AlphabetConstraintNotSatisfied, TooLongValue, LengthExceedsPlatformSize, OutOfMemory, AlreadyFailed}
 use Rattle.asn1_schema_presented.specs.Records.{bag_begins, further, ends}
 use Rattle.per_codec_packing.specs.Texts.{Text, text_at}
-use Rattle.per_codec_packing.specs.Packed.{Packed, place, plus, solid}
+use Rattle.per_codec_packing.specs.Packed.{Packed, place, plus}
 use Rattle.per_codec_packing.proofs.Adding.{added}
 use Rattle.per_codec_encoder.specs.Steps.{Scope, bag_members, State, list_heading, with_open, bag_opened, closed_bag, adds_text, run}
 use Rattle.per_codec_writing.specs.Writing.{Adds, Refuses}
 use Rattle.per_codec_encoder.specs.declared.frame.Bag.{Bag as BagFrame}
 use Rattle.per_codec_encoder.specs.declared.frame.Frame.{Frame}
 use Rattle.per_codec_encoder.specs.declared.frame.Frame.TheVariants.{Bag}
-use Rattle.per_codec_encoder.specs.declared.headings.Due.{Due}
 use Rattle.per_codec_encoder.specs.Bags.{size_of, bag_of, form_of, further_in, GoesOnInBag, NoFurther}
-use Rattle.per_codec_encoder.specs.Headings.{Heads, NoHeading}
-use Rattle.per_codec_encoder.specs.Holding.{instead, Holds, Does, Cannot}
+use Rattle.per_codec_encoder.specs.Headings.{NoHeading}
+use Rattle.per_codec_encoder.proofs.Judged.{IsThere}
+use Rattle.per_codec_encoder.specs.Holding.{Holds, Does, Cannot}
 use Rattle.per_codec_encoder.proofs.Scopes.{at_end, appended, on_top, put_back}
 
 -- ---- a bag begins
-
--- behind its judgement, the text is what it was
-module _ (al : Bool) (z : Size) (h : Counts) (n : ℕ) (o p : Packed) (d : Due) (k : ℕ) (x : Heads (list_heading al z h n (place o)) o d p) (e : k ≡ length o.text) where
-  front_is : take k p.text ≡ o.text
-  front_is = ap (λ (l : Packed). take k l.text) x.added ∙ take_at o.text x.text k (sym e)
-
-  pub cut_back : (q : Packed) → q ≡ record { text = take k p.text; placed = p.placed } → q ≡ o
-  cut_back q c = c ∙ (ap (λ b. let l : Packed = record { text = take k p.text; placed = b } in l) (ap (λ (l : Packed). l.placed) x.added) ∙ ap (λ t. instead t o) front_is)
-
-  pub cut_within : k ≤ length p.text
-  cut_within = omega (arith, ap (λ (l : Packed). length l.text) x.added, length-append o.text x.text, e)
-
-  pub cut_place : (i : ℕ) → i ≡ length (solid o.text) → length (solid (take k p.text)) ≡ i
-  cut_place i c = ap (λ t. length (solid t)) front_is ∙ sym c
 
 -- what holds with a bag holds with the box of it
 boxed_holds : (boxed : Box BagFrame Global) (b : BagFrame) → boxed.value ≡ b → (fs : List Frame) (o : Packed) (s outer : State) → s ≡ (o.text, bag_of b outer.0 ∷ outer.1) → o.placed ≡ false → Holds fs b.outer outer → Holds (Bag boxed ∷ fs) o s
 boxed_holds boxed b v fs o s outer x y z = (outer, subst (λ (w : BagFrame). s ≡ (o.text, bag_of w outer.0 ∷ outer.1)) (sym v) x, y, subst (λ (w : BagFrame). Holds fs w.outer outer) (sym v) z)
 
-pub does_begin_bag : (al : Bool) (fs gs : List Frame) (o p r outer : Packed) (z : Size) (range held : Bounded ℕ) (e : Bool) (n : ℕ) (d : Due) (boxed : Box BagFrame Global) → Heads (list_heading al z (members_of held) n (place o)) o d p → outer ≡ o → size_of range e ≡ z → r ≡ record { text = []; placed = false } → boxed.value ≡ record { outer = outer; range = range; extensible = e; held = held; due = n; members = None } → gs ≡ fs ++ Bag boxed ∷ [] → Does al (bag_begins z (members_of held) n) fs o gs r
-does_begin_bag al fs gs o p r outer z range held e n d boxed x a b c v y = record { after = λ s k. (go s, ap (λ q. bag_opened z (members_of held) n s (list_heading al z (members_of held) n q)) (at_end (reverse fs) o s k) ∙ ap (bag_opened z (members_of held) n s) x.is, put_back fs gs (Bag boxed) r (go s) y (boxed_holds boxed _ v (reverse fs) r (go s) s (shown_as s) (ap (λ (l : Packed). l.placed) c) (subst (λ l. Holds (reverse fs) l s) (sym a) k))) }
+pub does_begin_bag : (al : Bool) (fs gs : List Frame) (o r outer : Packed) (z : Size) (range held : Bounded ℕ) (e : Bool) (n : ℕ) (boxed : Box BagFrame Global) → IsThere (list_heading al z (members_of held) n (place o)) → outer ≡ o → size_of range e ≡ z → r ≡ record { text = []; placed = false } → boxed.value ≡ record { outer = outer; range = range; extensible = e; held = held; due = n; members = None } → gs ≡ fs ++ Bag boxed ∷ [] → Does al (bag_begins z (members_of held) n) fs o gs r
+does_begin_bag al fs gs o r outer z range held e n boxed x a b c v y = record { after = λ s k. (go s, ap (λ q. bag_opened z (members_of held) n s (list_heading al z (members_of held) n q)) (at_end (reverse fs) o s k) ∙ ap (bag_opened z (members_of held) n s) x.1, put_back fs gs (Bag boxed) r (go s) y (boxed_holds boxed _ v (reverse fs) r (go s) s (shown_as s) (ap (λ (l : Packed). l.placed) c) (subst (λ l. Holds (reverse fs) l s) (sym a) k))) }
   where
     go : State → State
     go s = ([], bag_members z (members_of held) n None s.0 ∷ s.1)

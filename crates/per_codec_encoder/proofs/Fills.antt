@@ -9,7 +9,7 @@ use Rattle.asn1_model.specs.Strings.{Run, permitted, may_hold, is_of_octets, eac
 use Rattle.asn1_model.specs.Numbers.{digits, binary, width, octet_width, least_octets, above, is_count_within}
 use Rattle.asn1_model.specs.Form.{exactly, refused, both, placed, varied, within, only_if, given, joined, is_any_present, present_ones, put_in_place, with_keys, ascending, written}
 use Rattle.asn1_model.specs.Per
-use Rattle.per_codec_packing.specs.Texts.{Text, bit, fill, as_text, plain, moved, on, text_at, as_form}
+use Rattle.per_codec_packing.specs.Texts.{Text, plain, on, text_at, as_form}
 use Rattle.per_codec_packing.proofs.Formed.{chain_same, none_behind, in_turn, bits_of}
 use Rattle.per_codec_packing.proofs.Forms.{as_form-append, form_of_bits}
 use Rattle.per_codec_encoder.proofs.StepAdditions.{by_presence, own}

@@ -18,3 +18,4 @@ pub mod StepBags
 pub mod Types
 pub mod Chains
 pub mod Written
+pub mod Judged

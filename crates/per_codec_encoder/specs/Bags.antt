@@ -21,11 +21,13 @@ bag_of b front = bag_members (size_of b.range b.extensible) (members_of b.held) 
 
 -- The form of a bag of these members (X.691 22).
 abbrev pub form_of : Bool → Bag → List Text → Per.BitForm
-form_of al b ts = Per.in_any_order (map as_form ts) (Per.sized al (size_of b.range b.extensible) (members_of b.held) Per.never)
+form_of al b ts = Per.in_any_order (map as_form ts)
+    (Per.sized al (size_of b.range b.extensible) (members_of b.held) Per.never)
 
 -- Whether a further member comes, as the writer has it: the text of the innermost member, and the scopes.
 abbrev pub further_in : Bool → Bag → Text → Text → List Scope → Option (Text × List Scope)
-further_in more b os front k = counted_in (size_of b.range b.extensible) (members_of b.held) b.due b.members front os k more
+further_in more b os front k = counted_in (size_of b.range b.extensible)
+    (members_of b.held) b.due b.members front os k more
 
 -- A further member or the end comes next: the text and the bag are those behind this step.
 pub record GoesOnInBag (more : Bool) (b : Bag) (o : Packed) (next : Bag) (p : Packed) : Type 0 where

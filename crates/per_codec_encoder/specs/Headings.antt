@@ -1,4 +1,5 @@
--- Headings of lists, in the bits of an encoder: their number of members, or the headers of fragments (X.691 11.9 and 20).
+-- Headings of lists, in the bits of an encoder: their number of members, or the headers of fragments (X.691 11.9 and
+-- 20).
 use Rattle.std.specs.Prelude.{◌≡◌, ℕ, Bool, List, ◌∷◌, ◌++◌, Option, Some, None}
 use Rattle.asn1_model.specs.Per.{largest_first}
 use Rattle.asn1_schema_faults.specs.declared.EncodeError.{EncodeError}
@@ -29,21 +30,27 @@ NoHeading o OutOfMemory = Unit {0}
 NoHeading o AlreadyFailed = ⊥
 NoHeading o e = o ≡ None
 
--- Where a member or the end comes next, the header stands in front of it, if one is to come, and behind it so many are due.
+-- Where a member or the end comes next, the header stands in front of it, if one is to come, and behind it so many are
+-- due.
 pub record GoesOn (al : Bool) (d : Due) (old : Packed) (next : Due) (new : Packed) : Type 0 where
   pub text : Text
   pub added : new ≡ plus old text
-  pub goes : (os : Text) (k : List Scope) (b : Bool) → position (os, k) ≡ place old → goes_on_in al d.members (headers_of d.behind) os k b ≡ counted_on next.members (headers_of next.behind) (os ++ text) k b
+  pub goes : (os : Text) (k : List Scope) (b : Bool) → position (os, k) ≡ place old
+      → goes_on_in al d.members (headers_of d.behind) os k b ≡ counted_on next.members (headers_of next.behind)
+      (os ++ text) k b
   pub ready : next.members ≡ 0 → next.behind ≡ None
 
 -- Where a member or the end comes next in a list, the text and what is due are those behind this step.
 pub record GoesOnInList (al more : Bool) (d : Due) (old : Packed) (next : Due) (new : Packed) : Type 0 where
   pub text : Text
   pub added : new ≡ plus old text
-  pub goes : (os : Text) (k : List Scope) → position (os, k) ≡ place old → goes_on_in al d.members (headers_of d.behind) os k more ≡ Some (os ++ text, members next.members (headers_of next.behind) ∷ k)
+  pub goes : (os : Text) (k : List Scope) → position (os, k) ≡ place old
+      → goes_on_in al d.members (headers_of d.behind) os k more ≡ Some
+      (os ++ text, members next.members (headers_of next.behind) ∷ k)
 
 -- Why nothing comes next in a list: memory was refused, or there is no step.
 abbrev pub NoMember : Bool → Bool → Due → Packed → EncodeError → Type 0
 NoMember al more d old OutOfMemory = Unit {0}
 NoMember al more d old AlreadyFailed = ⊥
-NoMember al more d old e = (os : Text) (k : List Scope) → position (os, k) ≡ place old → goes_on_in al d.members (headers_of d.behind) os k more ≡ None
+NoMember al more d old e = (os : Text) (k : List Scope) → position (os, k) ≡ place old
+    → goes_on_in al d.members (headers_of d.behind) os k more ≡ None

@@ -1,6 +1,7 @@
--- How the texts and the frames of an encoder stand for what a writer holds. The frames are given the innermost first. The text is that of the
--- innermost message, open type or member of a bag.
-use Rattle.std.specs.Prelude.{◌≡◌, ℕ, ◌+◌, ◌^◌, ◌<◌, Bool, true, false, List, [], ◌∷◌, ◌++◌, length, take, drop, replicate, reverse, Option, Some, None}
+-- How the texts and the frames of an encoder stand for what a writer holds. The frames are given the innermost first.
+-- The text is that of the innermost message, open type or member of a bag.
+use Rattle.std.specs.Prelude.{◌≡◌, ℕ, ◌+◌, ◌^◌, ◌<◌, Bool, true, false, List, [], ◌∷◌, ◌++◌, length, take, drop}
+use Rattle.std.specs.Prelude.{replicate, reverse, Option, Some, None}
 use Rattle.asn1_schema_faults.specs.declared.EncodeError.{EncodeError}
 use Rattle.asn1_schema_faults.specs.declared.EncodeError.TheVariants.{OutOfMemory, AlreadyFailed}
 use Rattle.asn1_schema_presented.specs.Records.{Record}
@@ -8,7 +9,8 @@ use Rattle.per_codec_packing.specs.Texts.{Text, as_text}
 use Rattle.per_codec_packing.specs.Packed.{Packed, solid}
 use Rattle.per_codec_encoder.specs.Steps.{components, added, open_type, members, alternative, mark_width, State, run}
 use Rattle.per_codec_encoder.specs.declared.frame.Frame.{Frame}
-use Rattle.per_codec_encoder.specs.declared.frame.Frame.TheVariants.{Components, Added, OpenType, Members, Bag, Alternative}
+use Rattle.per_codec_encoder.specs.declared.frame.Frame.TheVariants.{Components, Added, OpenType, Members, Bag}
+use Rattle.per_codec_encoder.specs.declared.frame.Frame.TheVariants.{Alternative}
 use Rattle.per_codec_encoder.specs.declared.frame.Place.{Place}
 use Rattle.per_codec_encoder.specs.Headings.{headers_of}
 use Rattle.per_codec_encoder.specs.Bags.{bag_of}
@@ -17,7 +19,8 @@ use Rattle.per_codec_encoder.specs.Bags.{bag_of}
 abbrev pub at : Place → ℕ
 at p = p.bits + p.fills
 
--- The bits of a preamble (X.691 19.1 to 19.3): the mark of extensibility, which is not set, where there is one, and the presence bits.
+-- The bits of a preamble (X.691 19.1 to 19.3): the mark of extensibility, which is not set, where there is one, and the
+-- presence bits.
 abbrev pub preamble : Bool → List Bool → List Bool
 preamble true ms = false ∷ ms
 preamble false ms = ms
@@ -30,11 +33,17 @@ instead t o = record { text = t; placed = o.placed }
 abbrev pub shown : List Frame → Packed → State
 shown [] o = (o.text, [])
 shown (Components e due given start ∷ fs) o =
-    let below = shown fs (instead (take (at start) o.text) o) in
-    (drop (at start + (mark_width e + (given + due))) o.text, components e due (solid (take given (drop (at start + mark_width e) o.text))) below.0 ∷ below.1)
+    let below = shown fs (instead (take (at start) o.text) o) in (
+      drop (at start + (mark_width e + (given + due))) o.text,
+      components e due
+          (solid (take given (drop (at start + mark_width e) o.text))) below.0 ∷ below.1,
+    )
 shown (Added a ∷ fs) o =
-    let below = shown fs (instead (take (at a.start) o.text) o) in
-    (drop (at a.end) o.text, added a.due (solid (take a.given (drop (at a.start + 1) o.text))) (drop (at a.start + (1 + a.given)) (take (at a.end) o.text)) a.slots.items below.0 ∷ below.1)
+    let below = shown fs (instead (take (at a.start) o.text) o) in (
+      drop (at a.end) o.text,
+      added a.due (solid (take a.given (drop (at a.start + 1) o.text)))
+          (drop (at a.start + (1 + a.given)) (take (at a.end) o.text)) a.slots.items below.0 ∷ below.1,
+    )
 shown (OpenType front ∷ fs) o =
     let below = shown fs front in
     (o.text, open_type below.0 ∷ below.1)
@@ -48,8 +57,10 @@ shown (Alternative ∷ fs) o =
     let below = shown fs o in
     (below.0, alternative ∷ below.1)
 
--- The text is that in front of an open sequence, its preamble, in which the bits that are due are not set, and what stands behind it.
-pub record IsOpen (below : Packed → State → Type 0) (e : Bool) (due given : ℕ) (start : Place) (o : Packed) (s : State) : Type 0 where
+-- The text is that in front of an open sequence, its preamble, in which the bits that are due are not set, and what
+-- stands behind it.
+pub record IsOpen (below : Packed → State → Type 0) (e : Bool) (due given : ℕ) (start : Place) (o : Packed)
+    (s : State) : Type 0 where
   pub front : Text
   pub inner : Text
   pub marks : List Bool
@@ -62,8 +73,10 @@ pub record IsOpen (below : Packed → State → Type 0) (e : Bool) (due given : 
   pub under : below (instead front o) outer
   pub is : s ≡ (inner, components e due marks outer.0 ∷ outer.1)
 
--- The text is that in front of a sequence behind its root, its preamble, of which no bit is due, its root, and what stands behind it.
-pub record IsAdded (below : Packed → State → Type 0) (due given : ℕ) (start end : Place) (slots : List (Option (List Bool))) (o : Packed) (s : State) : Type 0 where
+-- The text is that in front of a sequence behind its root, its preamble, of which no bit is due, its root, and what
+-- stands behind it.
+pub record IsAdded (below : Packed → State → Type 0) (due given : ℕ) (start end : Place)
+    (slots : List (Option (List Bool))) (o : Packed) (s : State) : Type 0 where
   pub front : Text
   pub marks : List Bool
   pub root : Text
@@ -83,9 +96,12 @@ abbrev pub Holds : List Frame → Packed → State → Type 0
 Holds [] o s = (o.placed ≡ true) × (s ≡ (o.text, []))
 Holds (Components e due given start ∷ fs) o s = IsOpen (λ p t. Holds fs p t) e due given start o s
 Holds (Added a ∷ fs) o s = IsAdded (λ p t. Holds fs p t) a.due a.given a.start a.end a.slots.items o s
-Holds (OpenType front ∷ fs) o s = (outer : State) × (s ≡ (o.text, open_type outer.0 ∷ outer.1)) × (o.placed ≡ true) × Holds fs front outer
-Holds (Members d ∷ fs) o s = (outer : State) × (s ≡ (outer.0, members d.members (headers_of d.behind) ∷ outer.1)) × Holds fs o outer
-Holds (Bag b ∷ fs) o s = (outer : State) × (s ≡ (o.text, bag_of b.value outer.0 ∷ outer.1)) × (o.placed ≡ false) × Holds fs b.value.outer outer
+Holds (OpenType front ∷ fs) o s = (outer : State) × (s ≡ (o.text, open_type outer.0 ∷ outer.1)) × (o.placed ≡ true)
+    × Holds fs front outer
+Holds (Members d ∷ fs) o s = (outer : State) × (s ≡ (outer.0, members d.members (headers_of d.behind) ∷ outer.1))
+    × Holds fs o outer
+Holds (Bag b ∷ fs) o s = (outer : State) × (s ≡ (o.text, bag_of b.value outer.0 ∷ outer.1)) × (o.placed ≡ false)
+    × Holds fs b.value.outer outer
 Holds (Alternative ∷ fs) o s = (outer : State) × (s ≡ (outer.0, alternative ∷ outer.1)) × Holds fs o outer
 
 -- The text and the frames, of which the innermost is the last, stand for some state.

@@ -1,5 +1,7 @@
--- Rows: what the records of some values come to, worked out by hand from the rules and computed here from the definitions.
-use Rattle.std.specs.Prelude.{◌≡◌, ℕ, ℤ, pos, negsuc, Bool, true, false, List, [], ◌∷◌, ◌++◌, Some, None, option_and_then, replicate}
+-- Rows: what the records of some values come to, worked out by hand from the rules and computed here from the
+-- definitions.
+use Rattle.std.specs.Prelude.{◌≡◌, ℕ, ℤ, pos, negsuc, Bool, true, false, List, [], ◌∷◌, ◌++◌, Some, None}
+use Rattle.std.specs.Prelude.{option_and_then, replicate}
 use Rattle.asn1_model.specs.Types.{from_to, any_number, any_count, any_size, sizes, sizes_or_more, context}
 use Rattle.asn1_schema_presented.specs.Records as call
 use Rattle.per_codec_packing.specs.Texts.{fill, as_text}
@@ -29,13 +31,15 @@ word n = call.whole (from_to (Some (pos 0)) (Some (pos 65535)) false) any_number
 abbrev pub three_octets : List ℕ → call.Record
 three_octets os = call.octets (sizes 3 3) any_count os
 
--- SEQUENCE {flag BOOLEAN, fixed SEQUENCE (SIZE (2)) OF OCTET STRING (SIZE (3)), ranged SEQUENCE (SIZE (1..2)) OF OCTET STRING (SIZE (3)),
--- trailer INTEGER (0..255)}
+-- SEQUENCE {flag BOOLEAN, fixed SEQUENCE (SIZE (2)) OF OCTET STRING (SIZE (3)), ranged SEQUENCE (SIZE (1..2)) OF OCTET
+-- STRING (SIZE (3)), trailer INTEGER (0..255)}
 abbrev pub two_lists : List call.Record
 two_lists =
     call.sequence_begins false 0 ∷ call.flag true
-    ∷ call.list_begins (sizes 2 2) any_count 2 ∷ call.further true ∷ three_octets (1 ∷ 2 ∷ 3 ∷ []) ∷ call.further true ∷ three_octets (4 ∷ 5 ∷ 6 ∷ []) ∷ call.further false ∷ call.ends
-    ∷ call.list_begins (sizes 1 2) any_count 1 ∷ call.further true ∷ three_octets (7 ∷ 8 ∷ 9 ∷ []) ∷ call.further false ∷ call.ends
+    ∷ call.list_begins (sizes 2 2) any_count 2 ∷ call.further true ∷ three_octets
+    (1 ∷ 2 ∷ 3 ∷ []) ∷ call.further true ∷ three_octets (4 ∷ 5 ∷ 6 ∷ []) ∷ call.further false ∷ call.ends
+    ∷ call.list_begins (sizes 1 2) any_count 1 ∷ call.further true ∷ three_octets
+    (7 ∷ 8 ∷ 9 ∷ []) ∷ call.further false ∷ call.ends
     ∷ octet 0xAB ∷ call.ends ∷ []
 
 -- SEQUENCE {a INTEGER (0..65535) OPTIONAL, b BOOLEAN OPTIONAL} with a alone
@@ -44,20 +48,25 @@ optional_word = call.sequence_begins false 2 ∷ call.mark true ∷ word 0x1234 
 
 -- SEQUENCE {a BOOLEAN, ..., b INTEGER (0..255) OPTIONAL}, with b or without
 abbrev pub with_addition : List call.Record
-with_addition = call.sequence_begins true 0 ∷ call.flag true ∷ call.additions_begin 1 ∷ call.addition true ∷ octet 7 ∷ call.addition_ends ∷ call.ends ∷ []
+with_addition = call.sequence_begins true 0 ∷ call.flag true ∷ call.additions_begin 1 ∷ call.addition true ∷ octet 7
+    ∷ call.addition_ends ∷ call.ends ∷ []
 
 abbrev pub without_addition : List call.Record
-without_addition = call.sequence_begins true 0 ∷ call.flag true ∷ call.additions_begin 1 ∷ call.addition false ∷ call.ends ∷ []
+without_addition = call.sequence_begins true 0 ∷ call.flag true ∷ call.additions_begin 1 ∷ call.addition false
+    ∷ call.ends ∷ []
 
 -- SEQUENCE {a BOOLEAN, ..., [[x INTEGER (0..255) OPTIONAL]]}
 abbrev pub with_group : List call.Record
-with_group = call.sequence_begins true 0 ∷ call.flag true ∷ call.additions_begin 1 ∷ call.addition true ∷ call.group_begins 1 ∷ call.mark true ∷ octet 7 ∷ call.ends ∷ call.addition_ends ∷ call.ends ∷ []
+with_group = call.sequence_begins true 0 ∷ call.flag true ∷ call.additions_begin 1 ∷ call.addition true
+    ∷ call.group_begins 1 ∷ call.mark true ∷ octet 7 ∷ call.ends ∷ call.addition_ends ∷ call.ends ∷ []
 
 -- SET OF INTEGER
 abbrev pub bag_of_three : List call.Record
-bag_of_three = call.bag_begins any_size any_count 3 ∷ call.further true ∷ whole (pos 256) ∷ call.further true ∷ whole (negsuc 0) ∷ call.further true ∷ whole (pos 1) ∷ call.further false ∷ call.ends ∷ []
+bag_of_three = call.bag_begins any_size any_count 3 ∷ call.further true ∷ whole (pos 256) ∷ call.further true ∷ whole
+    (negsuc 0) ∷ call.further true ∷ whole (pos 1) ∷ call.further false ∷ call.ends ∷ []
 
--- SEQUENCE {a BOOLEAN, b SET (SIZE (1..2)) OF SEQUENCE {c BOOLEAN, d INTEGER (0..65535)}}: the members change places, and each is filled at its own
+-- SEQUENCE {a BOOLEAN, b SET (SIZE (1..2)) OF SEQUENCE {c BOOLEAN, d INTEGER (0..65535)}}: the members change places,
+-- and each is filled at its own
 abbrev pub bag_behind_bit : List call.Record
 bag_behind_bit =
     call.sequence_begins false 0 ∷ call.flag true ∷ call.bag_begins (sizes 1 2) any_count 2
@@ -67,10 +76,12 @@ bag_behind_bit =
 
 -- CHOICE {a [0] INTEGER, b [1] INTEGER, ..., c [2] INTEGER}: c 333, and b 1
 abbrev pub added_alternative : List call.Record
-added_alternative = call.choice_begins (context 0 ∷ context 1 ∷ []) true (context 2 ∷ []) true 0 ∷ whole (pos 333) ∷ call.ends ∷ []
+added_alternative = call.choice_begins (context 0 ∷ context 1 ∷ []) true (context 2 ∷ []) true 0 ∷ whole
+    (pos 333) ∷ call.ends ∷ []
 
 abbrev pub root_alternative : List call.Record
-root_alternative = call.choice_begins (context 0 ∷ context 1 ∷ []) true (context 2 ∷ []) false 1 ∷ whole (pos 1) ∷ call.ends ∷ []
+root_alternative = call.choice_begins (context 0 ∷ context 1 ∷ []) true (context 2 ∷ []) false 1 ∷ whole
+    (pos 1) ∷ call.ends ∷ []
 
 -- ---- rows
 
@@ -104,20 +115,36 @@ closing_of_one = replicate 7 false ++ true ∷ []
 -- states behind one record: headers of fragments, sizes, and what is refused
 abbrev pub StateRows : Type 0
 StateRows =
-    (run false (call.list_begins any_size any_count 3) ([], []) ≡ Some (as_text (replicate 6 false ++ replicate 2 true), members 3 None ∷ []))
-    × (run false (call.list_begins any_size any_count 16385) ([], []) ≡ Some (as_text (true ∷ true ∷ replicate 5 false ++ true ∷ []), members 16384 (Some ([], 1)) ∷ []))
-    × (run false (call.list_begins any_size any_count 81925) ([], []) ≡ Some (as_text (true ∷ true ∷ replicate 3 false ++ true ∷ false ∷ false ∷ []), members 65536 (Some (1 ∷ [], 16389)) ∷ []))
-    × (run false (call.further true) (as_text (true ∷ []), members 0 (Some ([], 1)) ∷ []) ≡ Some (as_text (true ∷ closing_of_one), members 0 None ∷ []))
-    × (run true (call.further true) (as_text (true ∷ []), members 0 (Some ([], 1)) ∷ []) ≡ Some (as_text (true ∷ replicate 7 false ++ closing_of_one), members 0 None ∷ []))
-    × (run true (call.further false) (as_text (true ∷ []), members 0 (Some ([], 0)) ∷ []) ≡ Some (as_text (true ∷ replicate 15 false), members 0 None ∷ []))
+    (run false (call.list_begins any_size any_count 3) ([], []) ≡ Some
+    (as_text (replicate 6 false ++ replicate 2 true), members 3 None ∷ []))
+    × (run false (call.list_begins any_size any_count 16385) ([], []) ≡ Some
+    (as_text (true ∷ true ∷ replicate 5 false ++ true ∷ []), members 16384 (Some ([], 1)) ∷ []))
+    × (run false (call.list_begins any_size any_count 81925) ([], []) ≡ Some (
+      as_text (true ∷ true ∷ replicate 3 false ++ true ∷ false ∷ false ∷ []),
+      members 65536
+          (Some (1 ∷ [], 16389)) ∷ [],
+    ))
+    × (run false (call.further true) (as_text (true ∷ []), members 0 (Some ([], 1)) ∷ []) ≡ Some
+    (as_text (true ∷ closing_of_one), members 0 None ∷ []))
+    × (run true (call.further true) (as_text (true ∷ []), members 0 (Some ([], 1)) ∷ []) ≡ Some
+    (as_text (true ∷ replicate 7 false ++ closing_of_one), members 0 None ∷ []))
+    × (run true (call.further false) (as_text (true ∷ []), members 0 (Some ([], 0)) ∷ []) ≡ Some
+    (as_text (true ∷ replicate 15 false), members 0 None ∷ []))
     × (run false (call.further false) ([], members 1 None ∷ []) ≡ None)
     × (run false (call.list_begins (sizes 1 2) any_count 2) ([], []) ≡ Some (as_text (true ∷ []), members 2 None ∷ []))
     × (run false (call.list_begins (sizes 1 2) any_count 3) ([], []) ≡ None)
-    × (run false (call.list_begins (sizes_or_more 1 2) any_count 2) ([], []) ≡ Some (as_text (false ∷ true ∷ []), members 2 None ∷ []))
-    × (run false (call.list_begins (sizes_or_more 1 2) any_count 3) ([], []) ≡ Some (as_text (true ∷ replicate 6 false ++ replicate 2 true), members 3 None ∷ []))
+    × (run false (call.list_begins (sizes_or_more 1 2) any_count 2) ([], []) ≡ Some
+    (as_text (false ∷ true ∷ []), members 2 None ∷ []))
+    × (run false (call.list_begins (sizes_or_more 1 2) any_count 3) ([], []) ≡ Some
+    (as_text (true ∷ replicate 6 false ++ replicate 2 true), members 3 None ∷ []))
     × (run false (call.bag_begins (sizes 1 2) any_count 3) ([], []) ≡ None)
-    × (run true (word 258) (as_text (true ∷ []), []) ≡ Some (as_text (true ∷ replicate 7 false ++ closing_of_one ++ replicate 6 false ++ true ∷ false ∷ []), []))
-    × (run true (word 258) ([], bag_members any_size any_count 0 None [] ∷ []) ≡ Some (fill ∷ as_text (closing_of_one ++ replicate 6 false ++ true ∷ false ∷ []), bag_members any_size any_count 0 None [] ∷ []))
+    × (run true (word 258) (as_text (true ∷ []), []) ≡ Some
+    (as_text (true ∷ replicate 7 false ++ closing_of_one ++ replicate 6 false ++ true ∷ false ∷ []), []))
+    × (run true (word 258) ([], bag_members any_size any_count 0 None [] ∷ []) ≡ Some (
+      fill ∷ as_text (closing_of_one ++ replicate 6 false ++ true ∷ false ∷ []),
+      bag_members any_size any_count 0
+          None [] ∷ [],
+    ))
     × (run false (call.mark true) ([], components false 0 [] [] ∷ []) ≡ None)
     × (run false (call.additions_begin 0) ([], components false 0 [] [] ∷ []) ≡ None)
     × (run false (call.choice_begins (context 0 ∷ []) false (context 1 ∷ []) true 0) ([], []) ≡ None)

@@ -1,33 +1,39 @@
--- What a writer of the packed encoding rules (X.691) holds: the text of the innermost open scope, and the open scopes. Each record changes them.
--- What is written depends on how many bits stand in front of it in its message or open type.
-use Rattle.std.specs.Prelude.{◌≡◌, ℕ, zero, suc, ◌+◌, ◌-◌, ◌*◌, ltb, leb, Bool, true, false, cond, ◌&&◌, List, [], ◌∷◌, ◌++◌, length, map, Option, Some, None, option_map, option_and_then}
+-- What a writer of the packed encoding rules (X.691) holds: the text of the innermost open scope, and the open scopes.
+-- Each record changes them. What is written depends on how many bits stand in front of it in its message or open type.
+use Rattle.std.specs.Prelude.{◌≡◌, ℕ, zero, suc, ◌+◌, ◌-◌, ◌*◌, ltb, leb, Bool, true, false, cond, ◌&&◌, List, [], ◌∷◌}
+use Rattle.std.specs.Prelude.{◌++◌, length, map, Option, Some, None, option_map, option_and_then}
 use Rattle.asn1_model.specs.Value.{truth, number, item, bit_list, octet_list, text, arcs}
-use Rattle.asn1_model.specs.Schema.{Counts, Size, boolean, integer, enumerated, bit_string, octet_string, character_string, object_identifier}
+use Rattle.asn1_model.specs.Schema.{Counts, Size, boolean, integer, enumerated, bit_string, octet_string}
+use Rattle.asn1_model.specs.Schema.{character_string, object_identifier}
 use Rattle.asn1_model.specs.Numbers.{binary, is_count_within}
 use Rattle.asn1_model.specs.Form.{exactly, both, only_if, is_any_present}
 use Rattle.asn1_model.specs.Per
 use Rattle.per_codec_packing.specs.Texts.{Text, bit, as_text, plain, moved, on, text_at, as_form}
-use Rattle.asn1_schema_presented.specs.Records.{Record, flag, nil, whole, one_of, bits, octets, characters, identifier, list_begins, bag_begins, further, sequence_begins, set_begins, group_begins, mark, additions_begin, addition, addition_ends, choice_begins, ends}
+use Rattle.asn1_schema_presented.specs.Records.{Record, flag, nil, whole, one_of, bits, octets, characters, identifier}
+use Rattle.asn1_schema_presented.specs.Records.{list_begins, bag_begins, further, sequence_begins, set_begins}
+use Rattle.asn1_schema_presented.specs.Records.{group_begins, mark, additions_begin, addition, addition_ends}
+use Rattle.asn1_schema_presented.specs.Records.{choice_begins, ends}
 
--- The headers of a list that are still to come: how many times 16384 members each fragment has, and how many members stand behind the first of
--- these headers (X.691 11.9.3.8). There is none in a list that does not stand in fragments, nor behind the last header of one that does.
+-- The headers of a list that are still to come: how many times 16384 members each fragment has, and how many members
+-- stand behind the first of these headers (X.691 11.9.3.8). There is none in a list that does not stand in fragments,
+-- nor behind the last header of one that does.
 abbrev pub Headers : Type 0
 Headers = Option (List ℕ × ℕ)
 
 -- An open scope.
 pub data Scope : Type 0 where
-  -- a sequence, set or group: whether it has a mark of extensibility, how many presence bits are due, those that are there, and the text in
-  -- front of it
+  -- a sequence, set or group: whether it has a mark of extensibility, how many presence bits are due, those that are
+  -- there, and the text in front of it
   components : Bool → ℕ → List Bool → Text → Scope
-  -- behind the root of such a type with a mark: how many additions are due, the presence bits, the root's text, each addition's bits, and the
-  -- text in front of the sequence
+  -- behind the root of such a type with a mark: how many additions are due, the presence bits, the root's text, each
+  -- addition's bits, and the text in front of the sequence
   added : ℕ → List Bool → Text → List (Option (List Bool)) → Text → Scope
   -- an addition, or an added alternative: its bits stand alone, and the text in front is this
   open_type : Text → Scope
   -- a list: how many members are due before the next header or the end, and the headers to come
   members : ℕ → Headers → Scope
-  -- a bag: its size, the counts that the program's type holds, how many members are due, the text of each that stands before the open one, if
-  -- one is open, and the text in front of the bag
+  -- a bag: its size, the counts that the program's type holds, how many members are due, the text of each that stands
+  -- before the open one, if one is open, and the text in front of the bag
   bag_members : Size → Counts → ℕ → Option (List Text) → Text → Scope
   -- an alternative of the root
   alternative : Scope
@@ -41,8 +47,8 @@ State = Text × List Scope
 abbrev pub mark_width : Bool → ℕ
 mark_width e = cond e 1 0
 
--- How many bits stand in front of those of the innermost open scope, in its message or open type, where this is known: a preamble has its place
--- before it is written.
+-- How many bits stand in front of those of the innermost open scope, in its message or open type, where this is known:
+-- a preamble has its place before it is written.
 abbrev pub offset : List Scope → Option ℕ
 offset [] = Some 0
 offset (components e n ms front ∷ k) = moved (offset k) (length front + (mark_width e + length ms + n))
@@ -86,12 +92,14 @@ pub record Heading : Type 0 where
 abbrev pub before_all : ℕ → Text → Heading
 before_all n w = record { text = w; due = n; headers = None }
 
--- The next header of n members in fragments, at a position: a fragment's, or the closing one (X.691 11.9.3.5 to 11.9.3.8).
+-- The next header of n members in fragments, at a position: a fragment's, or the closing one (X.691 11.9.3.5 to
+-- 11.9.3.8).
 abbrev pub next_header : Bool → List ℕ → ℕ → Option ℕ → Option Heading
 next_header al [] n q = option_map (λ w. before_all n w) (text_at (Per.short_length al n) q)
 next_header al (m ∷ ms) n q =
     option_map (λ w. record { text = w; due = m * 16384; headers = Some (ms, n - m * 16384) })
-    (text_at (only_if (leb 1 m && leb m 4 && leb (m * 16384) n) (Per.at_octet al (exactly (true ∷ true ∷ binary 6 m)))) q)
+    (text_at (only_if (leb 1 m && leb m 4 && leb (m * 16384) n) (Per.at_octet al (exactly (true ∷ true ∷ binary 6 m))))
+    q)
 
 -- The first header of n members behind a general length, the largest fragments first.
 abbrev pub general : Bool → ℕ → Option ℕ → Option Heading
@@ -100,20 +108,25 @@ general al n q = next_header al (Per.largest_first n) n q
 -- The count of n members within a size, by its bounds (X.691 11.9.4.1 and 20.5).
 abbrev pub sized_count : Bool → Counts → Option ℕ → ℕ → Option ℕ → Option Heading
 sized_count al c None n q = general al n q
-sized_count al c (Some high) n q = cond (ltb high 65536) (option_map (λ w. before_all n w) (text_at (Per.constrained al (high - c.low) (n - c.low)) q)) (general al n q)
+sized_count al c (Some high) n q = cond (ltb high 65536)
+    (option_map (λ w. before_all n w) (text_at (Per.constrained al (high - c.low) (n - c.low)) q)) (general al n q)
 
 -- A heading behind a bit.
 abbrev pub behind_bit : Bool → (Option ℕ → Option Heading) → Option ℕ → Option Heading
-behind_bit b f q = option_map (λ (h : Heading). record { text = bit b ∷ h.text; due = h.due; headers = h.headers }) (f (moved q 1))
+behind_bit b f q = option_map (λ (h : Heading). record { text = bit b ∷ h.text; due = h.due; headers = h.headers })
+    (f (moved q 1))
 
 -- Within the root or, behind a mark, outside (X.691 20.4).
-abbrev pub marked_count : Bool → Bool → (Option ℕ → Option Heading) → (Option ℕ → Option Heading) → Option ℕ → Option Heading
+abbrev pub marked_count : Bool → Bool → (Option ℕ → Option Heading) → (Option ℕ → Option Heading) → Option ℕ
+    → Option Heading
 marked_count false in_root root outside q = cond in_root (root q) None
 marked_count true in_root root outside q = cond in_root (behind_bit false root q) (behind_bit true outside q)
 
 -- How a list of n members begins, at a position, if the size and the program's type allow so many.
 abbrev pub list_heading : Bool → Size → Counts → ℕ → Option ℕ → Option Heading
-list_heading al z held n q = cond (is_count_within held n) (marked_count z.extensible (is_count_within z.counts n) (λ q. sized_count al z.counts z.counts.high n q) (λ q. general al n q) q) None
+list_heading al z held n q = cond (is_count_within held n)
+    (marked_count z.extensible (is_count_within z.counts n) (λ q. sized_count al z.counts z.counts.high n q)
+    (λ q. general al n q) q) None
 
 -- The members are due behind their heading.
 abbrev pub headed : Text → List Scope → Option Heading → Option State
@@ -127,7 +140,8 @@ counted_on n hs os k b = None
 
 -- Where none is due before the next header, this stands in front.
 abbrev pub goes_on_in : Bool → ℕ → Headers → Text → List Scope → Bool → Option State
-goes_on_in al zero (Some h) os k b = option_and_then (λ (g : Heading). counted_on g.due g.headers (os ++ g.text) k b) (next_header al h.0 h.1 (position (os, k)))
+goes_on_in al zero (Some h) os k b = option_and_then (λ (g : Heading). counted_on g.due g.headers (os ++ g.text) k b)
+    (next_header al h.0 h.1 (position (os, k)))
 goes_on_in al n hs os k b = counted_on n hs os k b
 
 -- ---- bags (X.691 22)
@@ -148,9 +162,11 @@ counted_in z h zero ts front os k false = Some (os, bag_members z h zero ts fron
 counted_in z h (suc n) ts front os k true = Some ([], bag_members z h n (Some (with_open ts os)) front ∷ k)
 counted_in z h (suc n) ts front os k false = None
 
--- The end of a bag puts its members in the ascending order of their complete encodings: its form is that of the definitions, around their texts.
+-- The end of a bag puts its members in the ascending order of their complete encodings: its form is that of the
+-- definitions, around their texts.
 abbrev pub closed_bag : Bool → Size → Counts → ℕ → List Text → Text → List Scope → Option State
-closed_bag al z h zero ts front k = adds_form (Per.in_any_order (map as_form ts) (Per.sized al z h Per.never)) (front, k)
+closed_bag al z h zero ts front k = adds_form (Per.in_any_order (map as_form ts) (Per.sized al z h Per.never))
+    (front, k)
 closed_bag al z h n ts front k = None
 
 -- Whether a further member of a list or bag comes.
@@ -174,7 +190,8 @@ opened al o = option_map (λ w. Per.open_type al (exactly w)) o
 abbrev pub extended_text : Bool → List Bool → Text → List (Option (List Bool)) → Option ℕ → Option Text
 extended_text al ms root slots q =
     cond (is_any_present slots)
-    (option_map (λ w. as_text (true ∷ ms) ++ (root ++ w)) (text_at (Per.additions al (map (opened al) slots)) (on (on q (as_text (true ∷ ms))) root)))
+    (option_map (λ w. as_text (true ∷ ms) ++ (root ++ w))
+    (text_at (Per.additions al (map (opened al) slots)) (on (on q (as_text (true ∷ ms))) root)))
     (Some (as_text (false ∷ ms) ++ root))
 
 abbrev pub closed_added : Bool → ℕ → List Bool → Text → List (Option (List Bool)) → Text → List Scope → Option State
@@ -190,7 +207,8 @@ abbrev pub extended : ℕ → Text → List Scope → Option State
 extended n os (components e due ms front ∷ k) = rooted e due ms front os k n
 extended n os k = None
 
-abbrev pub next_addition : ℕ → List Bool → Text → List (Option (List Bool)) → Text → Text → List Scope → Bool → Option State
+abbrev pub next_addition : ℕ → List Bool → Text → List (Option (List Bool)) → Text → Text → List Scope → Bool
+    → Option State
 next_addition zero ms root slots front os k b = None
 next_addition (suc n) ms root slots front os k false = Some (os, added n ms root (slots ++ None ∷ []) front ∷ k)
 next_addition (suc n) ms root slots front os k true = Some ([], open_type os ∷ added n ms root slots front ∷ k)
@@ -201,21 +219,26 @@ adds b os k = None
 
 -- An addition's bits are kept for the end.
 abbrev pub added_one : Text → List Scope → Option State
-added_one os (open_type front ∷ added n ms root slots before ∷ k) = option_map (λ w. (front, added n ms root (slots ++ Some w ∷ []) before ∷ k)) (plain os)
+added_one os (open_type front ∷ added n ms root slots before ∷ k) = option_map
+    (λ w. (front, added n ms root (slots ++ Some w ∷ []) before ∷ k)) (plain os)
 added_one os k = None
 
 -- ---- choices, and the end of any type
 
--- An alternative of the root stands behind its place, an added one as an open type, which only a type with a mark has (X.691 23).
+-- An alternative of the root stands behind its place, an added one as an open type, which only a type with a mark has
+-- (X.691 23).
 abbrev pub chosen_on : Bool → Bool → ℕ → Bool → ℕ → State → Option State
-chosen_on al e n false i s = option_map (λ w. (s.0 ++ w, alternative ∷ s.1)) (text_at (both (Per.mark_of e false) (Per.constrained al (n - 1) i)) (position s))
-chosen_on al true n true i s = option_map (λ w. ([], open_type (s.0 ++ w) ∷ s.1)) (text_at (both (exactly (true ∷ [])) (Per.normally_small al i)) (position s))
+chosen_on al e n false i s = option_map (λ w. (s.0 ++ w, alternative ∷ s.1))
+    (text_at (both (Per.mark_of e false) (Per.constrained al (n - 1) i)) (position s))
+chosen_on al true n true i s = option_map (λ w. ([], open_type (s.0 ++ w) ∷ s.1))
+    (text_at (both (exactly (true ∷ [])) (Per.normally_small al i)) (position s))
 chosen_on al false n true i s = None
 
 abbrev pub ended : Bool → Text → List Scope → Option State
 ended al os (components e n ms front ∷ k) = closed e n ms front os k
 ended al os (added n ms root slots front ∷ k) = closed_added al n ms root slots front k
-ended al os (open_type front ∷ k) = option_and_then (λ w. adds_form (Per.open_type al (exactly w)) (front, k)) (plain os)
+ended al os (open_type front ∷ k) = option_and_then (λ w. adds_form (Per.open_type al (exactly w)) (front, k))
+    (plain os)
 ended al os (members zero None ∷ k) = Some (os, k)
 ended al os (bag_members z h n ts front ∷ k) = closed_bag al z h n (with_open ts os) front k
 ended al os (alternative ∷ k) = Some (os, k)

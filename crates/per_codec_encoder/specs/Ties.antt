@@ -14,7 +14,9 @@ use Rattle.per_codec_encoder.specs.Steps.{Scope, State, Step, position, runs}
 
 -- in each state, whatever comes behind
 abbrev pub BridgesAt : Bool → Schema → Value → Type 0
-BridgesAt al s v = (os : Text) (k : List Scope) (rest : List Record) → runs al (presents s v ++ rest) (os, k) ≡ option_and_then (λ w. runs al rest (os ++ w, k)) (text_at (Per.form al s v) (position (os, k)))
+BridgesAt al s v = (os : Text) (k : List Scope) (rest : List Record)
+    → runs al (presents s v ++ rest) (os, k) ≡ option_and_then (λ w. runs al rest (os ++ w, k))
+    (text_at (Per.form al s v) (position (os, k)))
 
 -- in both variants, aligned and not
 abbrev pub Bridges : Schema → Type 0
@@ -24,13 +26,18 @@ Bridges s = (al : Bool) (v : Value) → BridgesAt al s v
 abbrev pub EveryTypeBridges : Type 0
 EveryTypeBridges = (s : Schema) → Bridges s
 
--- The text of a value at a known position is that of the definitions, bit by bit; and that without a position tells it at each.
+-- The text of a value at a known position is that of the definitions, bit by bit; and that without a position tells it
+-- at each.
 abbrev pub TextsAreWritten : Type 0
-TextsAreWritten = (al : Bool) (s : Schema) (v : Value) (p : ℕ) → (text_at (Per.form al s v) (Some p) ≡ option_map as_text (written (Per.form al s v) p)) × (written (Per.form al s v) p ≡ option_and_then (λ t. written (as_form t) p) (text_at (Per.form al s v) None))
+TextsAreWritten = (al : Bool) (s : Schema) (v : Value) (p : ℕ)
+    → (text_at (Per.form al s v) (Some p) ≡ option_map as_text (written (Per.form al s v) p))
+    × (written (Per.form al s v) p ≡ option_and_then (λ t. written (as_form t) p) (text_at (Per.form al s v) None))
 
 -- a chain of steps by them is just that
 abbrev pub ChainsAddTheTexts : Type 0
-ChainsAddTheTexts = (al : Bool) (s : Schema) (v : Value) (os : Text) (k : List Scope) (new : State) → Chain (Step al) (presents s v) (os, k) new ↔ ((w : Text) × (text_at (Per.form al s v) (position (os, k)) ≡ Some w) × (new ≡ (os ++ w, k)))
+ChainsAddTheTexts = (al : Bool) (s : Schema) (v : Value) (os : Text) (k : List Scope) (new : State)
+    → Chain (Step al) (presents s v) (os, k) new
+    ↔ ((w : Text) × (text_at (Per.form al s v) (position (os, k)) ≡ Some w) × (new ≡ (os ++ w, k)))
 
 -- the bits of the state behind a whole value, filled up to octets (X.691 11.1)
 abbrev pub octets_of : State → Option (List ℕ)
@@ -38,4 +45,5 @@ octets_of s = option_and_then (λ w. option_map packed (written (Per.filled_up w
 
 -- A message from the records: nothing is held before them.
 abbrev pub MessagesAreTheirs : Type 0
-MessagesAreTheirs = (al : Bool) (s : Schema) (v : Value) → option_and_then octets_of (runs al (presents s v) ([], [])) ≡ per al s v
+MessagesAreTheirs = (al : Bool) (s : Schema) (v : Value)
+    → option_and_then octets_of (runs al (presents s v) ([], [])) ≡ per al s v

@@ -22,26 +22,39 @@ bits_of al s v = written (Per.form al s (normal s v)) 0
 
 -- From nothing the records of a value lead just to its bits, with no scope open.
 abbrev pub WrittenByRecords : Type 0
-WrittenByRecords = (al : Bool) (schema : ℕ → Schema) (v : Value) (new : State) → IsValue schema v → Writes (Step al) schema v ([], []) new ↔ ((w : List Bool) × (new ≡ (as_text w, [])) × ((n : ℕ) → Fits (schema n) v → bits_of al (schema n) v ≡ Some w))
+WrittenByRecords = (al : Bool) (schema : ℕ → Schema) (v : Value) (new : State) → IsValue schema v
+    → Writes (Step al) schema v ([], []) new
+    ↔ ((w : List Bool) × (new ≡ (as_text w, [])) × ((n : ℕ) → Fits (schema n) v → bits_of al (schema n) v ≡ Some w))
 
 -- They are refused for another reason than memory just where the value has no bits.
 abbrev pub RefusedByRecords : Type 0
-RefusedByRecords = (al : Bool) (schema : ℕ → Schema) (v : Value) (x : EncodeError) → IsValue schema v → ¬ (x ≡ OutOfMemory) → CannotWrite (Step al) schema v ([], []) x ↔ ((n : ℕ) → Fits (schema n) v → bits_of al (schema n) v ≡ None)
+RefusedByRecords = (al : Bool) (schema : ℕ → Schema) (v : Value) (x : EncodeError) → IsValue schema v
+    → ¬ (x ≡ OutOfMemory) → CannotWrite (Step al) schema v ([], []) x
+    ↔ ((n : ℕ) → Fits (schema n) v → bits_of al (schema n) v ≡ None)
 
--- A writer by its variant and by what it holds: where it takes a record, so goes the step, and where it is ready it takes each record behind which
--- a state stands.
-pub record IsWriter {S : Type 0} (step : S → Record → S → Type 0) (aligned : S → Bool) (held : S → State) (Ready : S → Type 0) : Type 0 where
-  pub takes : (a : S) (r : Record) (b : S) → step a r b → Step (aligned a) (held a) r (held b) × (aligned b ≡ aligned a) × Ready b
-  pub takes_all : (a : S) (r : Record) (m : State) → Ready a → Step (aligned a) (held a) r m → (b : S) × step a r b × (held b ≡ m)
+-- A writer by its variant and by what it holds: where it takes a record, so goes the step, and where it is ready it
+-- takes each record behind which a state stands.
+pub record IsWriter {S : Type 0} (step : S → Record → S → Type 0) (aligned : S → Bool) (held : S → State)
+    (Ready : S → Type 0) : Type 0 where
+  pub takes : (a : S) (r : Record) (b : S) → step a r b
+      → Step (aligned a) (held a) r (held b) × (aligned b ≡ aligned a) × Ready b
+  pub takes_all : (a : S) (r : Record) (m : State) → Ready a → Step (aligned a) (held a) r m
+      → (b : S) × step a r b × (held b ≡ m)
 
 -- The canonical encoding in both rules of a variant, in whatever depth the type is unfolded.
 abbrev pub HasOctets : Bool → (ℕ → Schema) → Value → Option (List ℕ) → Type 0
-HasOctets al schema v w = (n : ℕ) → Fits (schema n) v → (canonical (cond al aper uper) (schema n) v ≡ w) × (canonical (cond al aper_strict uper_strict) (schema n) v ≡ w)
+HasOctets al schema v w = (n : ℕ) → Fits (schema n) v
+    → (canonical (cond al aper uper) (schema n) v ≡ w) × (canonical (cond al aper_strict uper_strict) (schema n) v ≡ w)
 
--- Such a writer that held nothing holds the canonical encoding of the value, once it is filled up to octets, but for the bound on their length.
+-- Such a writer that held nothing holds the canonical encoding of the value, once it is filled up to octets, but for
+-- the bound on their length.
 abbrev pub WritesTheOctets : {S : Type 0} → (S → Record → S → Type 0) → (S → Bool) → (S → State) → Type 0
-WritesTheOctets {S} step aligned held = (schema : ℕ → Schema) (v : Value) (old new : S) → IsValue schema v → held old ≡ ([], []) → Writes step schema v old new → ((held new).1 ≡ []) × HasOctets (aligned old) schema v (option_and_then of_moderate_length (octets_of (held new)))
+WritesTheOctets {S} step aligned held = (schema : ℕ → Schema) (v : Value) (old new : S) → IsValue schema v
+    → held old ≡ ([], []) → Writes step schema v old new
+    → ((held new).1 ≡ []) × HasOctets (aligned old) schema v (option_and_then of_moderate_length (octets_of (held new)))
 
 -- It refuses a value for another reason than memory only where that has no encoding.
 abbrev pub RefusesOnlyNone : {S : Type 0} → (S → Record → S → Type 0) → (S → Bool) → (S → State) → (S → Type 0) → Type 0
-RefusesOnlyNone {S} step aligned held Ready = (schema : ℕ → Schema) (v : Value) (old : S) (x : EncodeError) → IsValue schema v → Ready old → held old ≡ ([], []) → ¬ (x ≡ OutOfMemory) → CannotWrite step schema v old x → HasOctets (aligned old) schema v None
+RefusesOnlyNone {S} step aligned held Ready = (schema : ℕ → Schema) (v : Value) (old : S) (x : EncodeError)
+    → IsValue schema v → Ready old → held old ≡ ([], []) → ¬ (x ≡ OutOfMemory) → CannotWrite step schema v old x
+    → HasOctets (aligned old) schema v None

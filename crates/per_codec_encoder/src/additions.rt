@@ -22,7 +22,9 @@ pub(crate) fn begin_additions(
     alloc: Global,
     count: usize,
 ) -> Result<(), EncodeError>
-    ensures { MatchResult result (λ _. (al : Bool) → Does al (additions_begin count) frames.old output.now frames.new output.now) (λ e. (al : Bool) → Cannot al (additions_begin count) frames.old output.now e) }
+    ensures { MatchResult result (λ _. (al : Bool)
+        → Does al (additions_begin count) frames.old output.now frames.new output.now)
+        (λ e. (al : Bool) → Cannot al (additions_begin count) frames.old output.now e) }
 {
     let Some(
         Frame::Components {
@@ -79,7 +81,9 @@ pub(crate) fn put_addition(
     alloc: Global,
     present: bool,
 ) -> Result<(), EncodeError>
-    ensures { MatchResult result (λ _. (al : Bool) → Does al (addition present) frames.old output.old frames.new output.new) (λ e. (al : Bool) → Cannot al (addition present) frames.old output.old e) }
+    ensures { MatchResult result (λ _. (al : Bool)
+        → Does al (addition present) frames.old output.old frames.new output.new)
+        (λ e. (al : Bool) → Cannot al (addition present) frames.old output.old e) }
 {
     frames.next_addition(present)?;
     if present {
@@ -95,7 +99,8 @@ pub(crate) fn put_addition(
 ///
 /// `OutOfMemory`; any other only where nothing that is open takes this call.
 pub(crate) fn end_addition(output: &mut Packing, frames: &mut Frames) -> Result<(), EncodeError>
-    ensures { MatchResult result (λ _. (al : Bool) → Does al addition_ends frames.old output.old frames.new output.new) (λ e. (al : Bool) → Cannot al addition_ends frames.old output.old e) }
+    ensures { MatchResult result (λ _. (al : Bool) → Does al addition_ends frames.old output.old frames.new output.new)
+        (λ e. (al : Bool) → Cannot al addition_ends frames.old output.old e) }
 {
     let Some(Frame::OpenType { outer }) = frames.pop() else {
         return Err(EncodeError::SizeConstraintNotSatisfied);

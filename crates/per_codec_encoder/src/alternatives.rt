@@ -13,8 +13,8 @@ use per_codec_writing::push_place;
 use std::alloc::Global;
 use std::mem;
 
-/// Begins an alternative of a choice with so many in its root: one of these stands behind its place, an added one behind its place as an open
-/// type (X.691 23).
+/// Begins an alternative of a choice with so many in its root: one of these stands behind its place, an added one
+/// behind its place as an open type (X.691 23).
 ///
 /// # Errors
 ///
@@ -28,7 +28,10 @@ pub(crate) fn begin_alternative(
     extensible: bool,
     chosen: Chosen,
 ) -> Result<(), EncodeError>
-    ensures { MatchResult result (λ _. (ts us : List Tag) → length ts ≡ roots → Does aligned (choice_begins ts extensible us chosen.added chosen.place) frames.old output.old frames.new output.new) (λ e. (ts us : List Tag) → length ts ≡ roots → Cannot aligned (choice_begins ts extensible us chosen.added chosen.place) frames.old output.old e) }
+    ensures { MatchResult result (λ _. (ts us : List Tag) → length ts ≡ roots
+        → Does aligned (choice_begins ts extensible us chosen.added chosen.place) frames.old output.old frames.new
+        output.new) (λ e. (ts us : List Tag) → length ts ≡ roots
+        → Cannot aligned (choice_begins ts extensible us chosen.added chosen.place) frames.old output.old e) }
 {
     push_place(output, aligned, roots, extensible, chosen)?;
     if chosen.added {

@@ -1,5 +1,6 @@
 //! Bags, whose members are kept until they end.
-ghost use Rattle.std.specs.Prelude.{◌≡◌, MatchResult, IfOk};
+ghost use Rattle.std.specs.Prelude.{◌≡◌, ◌&&◌, ◌||◌, MatchResult, IfOk};
+ghost use Rattle.asn1_model.specs.Numbers.{is_count_within};
 ghost use Rattle.asn1_schema_presented.specs.Records.{bag_begins};
 ghost use Rattle.asn1_schema_constraints.specs.Bounds.{counts_of, members_of};
 ghost use Rattle.asn1_schema_constraints.specs.Terms.{sizes_of};
@@ -10,9 +11,8 @@ ghost use Rattle.per_codec_writing.specs.Writing.{Refuses};
 ghost use Rattle.per_codec_encoder.specs.Bags.{size_of, form_of, GoesOnInBag, NoFurther};
 ghost use Rattle.per_codec_encoder.specs.Holding.{Does, Cannot};
 
-use crate::frame::{Bag, Frame, Place};
+use crate::frame::{Bag, Frame};
 use crate::frames::Frames;
-use crate::headings::push_heading;
 use asn1_schema_constraints::{Bounded, Constraints, Extensible, Size};
 use asn1_schema_faults::EncodeError;
 use per_codec_packing::{Packing, Texts};
@@ -30,8 +30,17 @@ fn sizes(constraints: Constraints) -> (Bounded<usize>, bool)
     }
 }
 
-/// Begins a bag (X.691 22) of so many members, if the size and the program's type allow so many. Its number of members is judged here, and
-/// written at its end.
+/// Whether a bag may have so many members: the program's type holds so many, and they are in the root of the size, or this
+/// has a mark.
+fn may_have(range: Bounded<usize>, extensible: bool, held: Bounded<usize>, count: usize) -> bool
+    ensures { result ≡ (is_count_within (members_of held) count
+        && (extensible || is_count_within (counts_of range) count)) }
+{
+    held.holds(count) && (extensible || range.contains(&count))
+}
+
+/// Begins a bag (X.691 22) of so many members, if the size and the program's type allow so many. Its number of members
+/// is judged here, and written at its end.
 ///
 /// # Errors
 ///
@@ -45,12 +54,15 @@ pub(crate) fn begin_bag(
     held: Bounded<usize>,
     count: usize,
 ) -> Result<(), EncodeError>
-    ensures { MatchResult result (λ _. Does aligned (bag_begins (sizes_of constraints.entry.size) (members_of held) count) frames.old output.old frames.new output.new) (Cannot aligned (bag_begins (sizes_of constraints.entry.size) (members_of held) count) frames.old output.old) }
+    ensures { MatchResult result (λ _. Does aligned
+        (bag_begins (sizes_of constraints.entry.size) (members_of held) count) frames.old output.old frames.new
+        output.new) (Cannot aligned (bag_begins (sizes_of constraints.entry.size) (members_of held) count) frames.old
+        output.old) }
 {
-    let start = Place::end_of(output);
-    push_heading(output, aligned, constraints, held, count)?;
-    output.truncate(start.bits, start.fills);
     let (range, extensible) = sizes(constraints);
+    if !may_have(range, extensible, held, count) {
+        return Err(EncodeError::SizeConstraintNotSatisfied);
+    }
     let outer = mem::replace(output, Packing::unplaced(alloc));
     let bag = Bag {
         outer,
@@ -72,7 +84,8 @@ pub(crate) fn next_of_bag(
     alloc: Global,
     more: bool,
 ) -> Result<(), EncodeError>
-    ensures { MatchResult result (λ _. GoesOnInBag more bag.old output.old bag.new output.new) (λ e. NoFurther more bag.old output.old e) }
+    ensures { MatchResult result (λ _. GoesOnInBag more bag.old output.old bag.new output.new)
+        (λ e. NoFurther more bag.old output.old e) }
 {
     if more != (bag.due > 0) {
         return Err(EncodeError::SizeConstraintNotSatisfied);
@@ -100,14 +113,17 @@ fn all_members(members: Option<Texts>, last: &Packing, alloc: Global) -> Result<
     Ok(all)
 }
 
-/// Ends a bag of which no member is due: behind what stands in front of it stand its members, in their order, behind their number (X.691 22).
+/// Ends a bag of which no member is due: behind what stands in front of it stand its members, in their order, behind
+/// their number (X.691 22).
 pub(crate) fn end_bag(
     output: &mut Packing,
     bag: Bag,
     alloc: Global,
     aligned: bool,
 ) -> Result<(), EncodeError>
-    ensures { MatchResult result (λ _. Adds (text_at (form_of aligned bag (with_open bag.members output.old.text)) (place bag.outer)) bag.outer output.new) (Refuses (text_at (form_of aligned bag (with_open bag.members output.old.text)) (place bag.outer))) }
+    ensures { MatchResult result (λ _. Adds
+        (text_at (form_of aligned bag (with_open bag.members output.old.text)) (place bag.outer)) bag.outer output.new)
+        (Refuses (text_at (form_of aligned bag (with_open bag.members output.old.text)) (place bag.outer))) }
 {
     let size = Extensible::new(Size::new(bag.range)).set_extensible(bag.extensible);
     let constraints = Constraints {

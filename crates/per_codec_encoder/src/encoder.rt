@@ -53,9 +53,11 @@ impl Model for Encoder {
     ghost invariant = { λ e. e.failed ≡ false → Holds (reverse e.frames) e.output (shown (reverse e.frames) e.output) };
 }
 
-/// The octets of a message: its bits, filled up with zero bits to whole octets, and one zero octet in place of no bits (X.691 11.1).
+/// The octets of a message: its bits, filled up with zero bits to whole octets, and one zero octet in place of no bits
+/// (X.691 11.1).
 fn message(bits: BitBuffer) -> Result<Vec<u8>, EncodeError>
-    ensures { MatchResult result (λ octets. octets_of (as_text bits, []) ≡ Some octets.items) (λ e. e ≡ EncodeError.OutOfMemory) }
+    ensures { MatchResult result (λ octets. octets_of (as_text bits, []) ≡ Some octets.items)
+        (λ e. e ≡ EncodeError.OutOfMemory) }
 {
     if bits.is_empty() {
         let mut octets = bits.into_vec();
@@ -99,7 +101,8 @@ impl Encoder {
     /// `OutOfMemory`, where the one octet of a message of no bits has no room.
     #[inline(always)]
     pub fn output(&mut self) -> Result<Vec<u8>, EncodeError>
-        ensures octets { IfOk result (λ octets. self.old.failed ≡ false → self.old.state.1 ≡ [] → octets_of self.old.state ≡ Some octets.items) }
+        ensures octets { IfOk result (λ octets. self.old.failed ≡ false → self.old.state.1 ≡ []
+            → octets_of self.old.state ≡ Some octets.items) }
         ensures only { IfErr result (λ e. e ≡ EncodeError.OutOfMemory) }
         ensures none { self.new ≡ record { state = ([], []); aligned = self.old.aligned; failed = self.old.failed } }
     {
@@ -114,7 +117,8 @@ impl Encoder {
     ///
     /// Those of `output`.
     pub fn output_into_vec(self) -> Result<Vec<u8>, EncodeError>
-        ensures octets { IfOk result (λ octets. self.failed ≡ false → self.state.1 ≡ [] → octets_of self.state ≡ Some octets.items) }
+        ensures octets { IfOk result (λ octets. self.failed ≡ false → self.state.1 ≡ []
+            → octets_of self.state ≡ Some octets.items) }
         ensures only { IfErr result (λ e. e ≡ EncodeError.OutOfMemory) }
     {
         let mut encoder = self;
@@ -187,8 +191,10 @@ impl asn1_schema_encode::Encoder for Encoder {
         value: &T,
         _identifier: Identifier,
     ) -> Result<(), EncodeError>
-        ensures ok { OnOk result (Puts self.old (one_of T.roots T.extensible T.additions (T.number value.now)) self.new) }
-        ensures only { IfErr result (Refused Puts (one_of T.roots T.extensible T.additions (T.number value.now)) self.old) }
+        ensures ok { OnOk result (Puts self.old
+            (one_of T.roots T.extensible T.additions (T.number value.now)) self.new) }
+        ensures only { IfErr result (Refused Puts
+            (one_of T.roots T.extensible T.additions (T.number value.now)) self.old) }
         ensures failed { OnErr result (self.new.failed ≡ true) }
         ensures already { self.old.failed ≡ true → result ≡ Err EncodeError.AlreadyFailed }
         ensures after { result ≡ Err EncodeError.AlreadyFailed → self.old.failed ≡ true }

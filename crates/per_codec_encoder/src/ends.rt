@@ -1,5 +1,6 @@
 //! Ends of what is open.
-ghost use Rattle.std.specs.Prelude.{◌≡◌, ◌<◌, ◌++◌, ◌∷◌, [], Bool, List, true, false, length, cond, IfOk, IfErr, MatchResult};
+ghost use Rattle.std.specs.Prelude.{◌≡◌, ◌<◌, ◌++◌, ◌∷◌, [], Bool, List, true, false, length, cond, IfOk, IfErr};
+ghost use Rattle.std.specs.Prelude.{MatchResult};
 ghost use Rattle.asn1_model.specs.Form.{is_any_present};
 ghost use Rattle.asn1_model.specs.Per.{additions};
 ghost use Rattle.asn1_schema_presented.specs.Records.{ends};
@@ -31,8 +32,8 @@ fn is_extended(slots: &[Option<BitBuffer>]) -> bool
     false
 }
 
-/// Sets the mark of extensibility at a place and adds the additions, if one is there (X.691 19.1 and 19.7 to 19.9). The only error is want of
-/// memory.
+/// Sets the mark of extensibility at a place and adds the additions, if one is there (X.691 19.1 and 19.7 to 19.9). The
+/// only error is want of memory.
 fn push_extension(
     output: &mut Packing,
     aligned: bool,
@@ -42,7 +43,9 @@ fn push_extension(
 ) -> Result<(), EncodeError>
     requires { mark < length (solid output.old.text) }
     ensures only { IfErr result (λ e. e ≡ EncodeError.OutOfMemory) }
-    ensures some { IfOk result (λ _. is_any_present slots.now ≡ true → Adds (text_at (additions aligned (as_open_types aligned slots.now)) (place output.old)) (record { text = with_bit mark true output.old.text; placed = output.old.placed }) output.new) }
+    ensures some { IfOk result (λ _. is_any_present slots.now ≡ true
+        → Adds (text_at (additions aligned (as_open_types aligned slots.now)) (place output.old))
+        (record { text = with_bit mark true output.old.text; placed = output.old.placed }) output.new) }
     ensures none { IfOk result (λ _. is_any_present slots.now ≡ false → output.new ≡ output.old) }
 {
     if !is_extended(slots) {
@@ -53,8 +56,8 @@ fn push_extension(
     Ok(())
 }
 
-/// Ends a sequence or set behind its root, of which no addition is due: behind its root stand its additions, if one is there, and its mark of
-/// extensibility is then set (X.691 19.1 and 19.7 to 19.9).
+/// Ends a sequence or set behind its root, of which no addition is due: behind its root stand its additions, if one is
+/// there, and its mark of extensibility is then set (X.691 19.1 and 19.7 to 19.9).
 #[inline(always)]
 fn end_additions(
     output: &mut Packing,
@@ -63,7 +66,9 @@ fn end_additions(
     aligned: bool,
 ) -> Result<(), EncodeError>
     requires { (around : List Frame) × AreSound (around ++ Frame.Added additions ∷ []) output.old }
-    ensures { MatchResult result (λ _. (around : List Frame) → Does aligned ends (around ++ Frame.Added additions ∷ []) output.old around output.new) (λ e. (around : List Frame) → Cannot aligned ends (around ++ Frame.Added additions ∷ []) output.old e) }
+    ensures { MatchResult result (λ _. (around : List Frame)
+        → Does aligned ends (around ++ Frame.Added additions ∷ []) output.old around output.new)
+        (λ e. (around : List Frame) → Cannot aligned ends (around ++ Frame.Added additions ∷ []) output.old e) }
 {
     if additions.due > 0 {
         return Err(EncodeError::SizeConstraintNotSatisfied);
@@ -74,19 +79,21 @@ fn end_additions(
     Ok(())
 }
 
-/// Ends an open type: its bits stand behind their number of octets, and these behind what stands in front of it (X.691 11.2). The only error is
-/// want of memory.
+/// Ends an open type: its bits stand behind their number of octets, and these behind what stands in front of it (X.691
+/// 11.2). The only error is want of memory.
 #[inline(always)]
 fn end_open_type(output: &mut Packing, outer: Packing, aligned: bool) -> Result<(), EncodeError>
-    ensures { MatchResult result (λ _. (around : List Frame) → Does aligned ends (around ++ Frame.OpenType outer ∷ []) output.old around output.new) (λ e. e ≡ EncodeError.OutOfMemory) }
+    ensures { MatchResult result (λ _. (around : List Frame)
+        → Does aligned ends (around ++ Frame.OpenType outer ∷ []) output.old around output.new)
+        (λ e. e ≡ EncodeError.OutOfMemory) }
 {
     let contents = mem::replace(output, outer).into_bits();
     push_open_type(output, aligned, &contents)?;
     Ok(())
 }
 
-/// Ends what is innermost: a sequence, set or group of which nothing is due (X.691 19), a list with all its members and headers (X.691 20),
-/// a bag (X.691 22), an open type (X.691 11.2) or an alternative (X.691 23).
+/// Ends what is innermost: a sequence, set or group of which nothing is due (X.691 19), a list with all its members and
+/// headers (X.691 20), a bag (X.691 22), an open type (X.691 11.2) or an alternative (X.691 23).
 ///
 /// # Errors
 ///
@@ -98,7 +105,8 @@ pub(crate) fn end_scope(
     aligned: bool,
 ) -> Result<(), EncodeError>
     requires { AreSound frames.old output.old }
-    ensures { MatchResult result (λ _. Does aligned ends frames.old output.old frames.new output.new) (Cannot aligned ends frames.old output.old) }
+    ensures { MatchResult result (λ _. Does aligned ends frames.old output.old frames.new output.new)
+        (Cannot aligned ends frames.old output.old) }
 {
     match frames.pop() {
         Some(

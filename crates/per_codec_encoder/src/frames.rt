@@ -14,8 +14,8 @@ use std::alloc::{AllocError, Global};
 use std::marker::Model;
 use std::mem;
 
-/// What is open, from the outermost on. The innermost stands apart from those around it, so that no memory is taken before one is opened within
-/// another.
+/// What is open, from the outermost on. The innermost stands apart from those around it, so that no memory is taken
+/// before one is opened within another.
 #[derive(Drop)]
 pub(crate) struct Frames {
     pub(crate) innermost: Option<Frame>,
@@ -83,7 +83,8 @@ impl Frames {
     /// What is innermost, if something is open.
     #[inline(always)]
     pub(crate) fn innermost(&self) -> Option<&Frame>
-        ensures { MatchOption result (self.now ≡ []) (λ frame. (around : List Frame) × (self.now ≡ around ++ frame.now ∷ [])) }
+        ensures { MatchOption result (self.now ≡ [])
+            (λ frame. (around : List Frame) × (self.now ≡ around ++ frame.now ∷ [])) }
     {
         self.innermost.as_ref()
     }
@@ -91,7 +92,8 @@ impl Frames {
     /// Puts another in the place of what is innermost.
     #[inline(always)]
     pub(crate) fn replace(&mut self, frame: Frame)
-        ensures within { (around : List Frame) (replaced : Frame) → self.old ≡ around ++ replaced ∷ [] → self.new ≡ around ++ frame ∷ [] }
+        ensures within { (around : List Frame) (replaced : Frame) → self.old ≡ around ++ replaced ∷ []
+            → self.new ≡ around ++ frame ∷ [] }
         ensures alone { self.old ≡ [] → self.new ≡ frame ∷ [] }
     {
         self.innermost = Some(frame);
@@ -101,7 +103,8 @@ impl Frames {
     #[inline(always)]
     pub(crate) fn keep_addition(&mut self, contents: BitBuffer) -> Result<(), EncodeError>
         ensures ok { OnOk result (KeepsAddition contents self.old self.new) }
-        ensures only { IfErr result (λ e. (al : Bool) (outer o : Packed) → Cannot al addition_ends (self.old ++ Frame.OpenType outer ∷ []) o e) }
+        ensures only { IfErr result (λ e. (al : Bool) (outer o : Packed)
+            → Cannot al addition_ends (self.old ++ Frame.OpenType outer ∷ []) o e) }
     {
         match &mut self.innermost {
             Some(Frame::Added(additions)) => additions.slots.push(Some(contents))?,

@@ -18,7 +18,8 @@ use std::alloc::Global;
 
 /// Where the components of a sequence begin whose preamble begins at a bit, if 64 bits hold that place.
 fn preamble_end(start: usize, extensible: bool, optional: usize) -> Option<usize>
-    ensures { MatchOption result (2 ^ 64 ≤ start + (cond extensible 1 0 + optional)) (λ end. end ≡ start + (cond extensible 1 0 + optional)) }
+    ensures { MatchOption result (2 ^ 64 ≤ start + (cond extensible 1 0 + optional))
+        (λ end. end ≡ start + (cond extensible 1 0 + optional)) }
 {
     start
         .checked_add(optional)?
@@ -37,7 +38,9 @@ pub(crate) fn begin_components(
     extensible: bool,
     optional: usize,
 ) -> Result<(), EncodeError>
-    ensures { MatchResult result (λ _. (al : Bool) → Does al (sequence_begins extensible optional) frames.old output.old frames.new output.new) (λ e. e ≡ EncodeError.OutOfMemory) }
+    ensures { MatchResult result (λ _. (al : Bool)
+        → Does al (sequence_begins extensible optional) frames.old output.old frames.new output.new)
+        (λ e. e ≡ EncodeError.OutOfMemory) }
 {
     let start = Place::end_of(output);
     let Some(end) = preamble_end(start.bits, extensible, optional) else {
@@ -65,7 +68,8 @@ pub(crate) fn put_mark(
     present: bool,
 ) -> Result<(), EncodeError>
     requires { AreSound frames.old output.old }
-    ensures { MatchResult result (λ _. (al : Bool) → Does al (mark present) frames.old output.old frames.new output.new) (λ e. (al : Bool) → Cannot al (mark present) frames.old output.old e) }
+    ensures { MatchResult result (λ _. (al : Bool) → Does al (mark present) frames.old output.old frames.new output.new)
+        (λ e. (al : Bool) → Cannot al (mark present) frames.old output.old e) }
 {
     let Some(innermost) = &mut frames.innermost else {
         return Err(EncodeError::SizeConstraintNotSatisfied);
@@ -88,7 +92,8 @@ pub(crate) fn put_mark(
     Ok(())
 }
 
-/// Begins a list with the number of its members or its first header (X.691 20), if the size and the program's type allow so many.
+/// Begins a list with the number of its members or its first header (X.691 20), if the size and the program's type
+/// allow so many.
 ///
 /// # Errors
 ///
@@ -101,14 +106,18 @@ pub(crate) fn begin_members(
     held: Bounded<usize>,
     count: usize,
 ) -> Result<(), EncodeError>
-    ensures { MatchResult result (λ _. Does aligned (list_begins (sizes_of constraints.entry.size) (members_of held) count) frames.old output.old frames.new output.new) (Cannot aligned (list_begins (sizes_of constraints.entry.size) (members_of held) count) frames.old output.old) }
+    ensures { MatchResult result (λ _. Does aligned
+        (list_begins (sizes_of constraints.entry.size) (members_of held) count) frames.old output.old frames.new
+        output.new) (Cannot aligned (list_begins (sizes_of constraints.entry.size) (members_of held) count) frames.old
+        output.old) }
 {
     let due = push_heading(output, aligned, constraints, held, count)?;
     frames.push(Frame::Members(due))?;
     Ok(())
 }
 
-/// Whether a further member of a list comes: as many come as were told, each fragment of them behind its header (X.691 11.9.3.8).
+/// Whether a further member of a list comes: as many come as were told, each fragment of them behind its header (X.691
+/// 11.9.3.8).
 #[inline(always)]
 fn next_of_list(
     output: &mut Packing,
@@ -116,7 +125,8 @@ fn next_of_list(
     due: &mut Due,
     more: bool,
 ) -> Result<(), EncodeError>
-    ensures { MatchResult result (λ _. GoesOnInList aligned more due.old output.old due.new output.new) (NoMember aligned more due.old output.old) }
+    ensures { MatchResult result (λ _. GoesOnInList aligned more due.old output.old due.new output.new)
+        (NoMember aligned more due.old output.old) }
 {
     let next = push_next_header(output, aligned, *due)?;
     if more != (next.members > 0) {
@@ -136,7 +146,9 @@ fn next_of_frame(
     aligned: bool,
     more: bool,
 ) -> Result<(), EncodeError>
-    ensures { MatchResult result (λ _. (fs : List Frame) → Does aligned (further more) (fs ++ innermost.old ∷ []) output.old (fs ++ innermost.new ∷ []) output.new) (λ e. (fs : List Frame) → Cannot aligned (further more) (fs ++ innermost.old ∷ []) output.old e) }
+    ensures { MatchResult result (λ _. (fs : List Frame)
+        → Does aligned (further more) (fs ++ innermost.old ∷ []) output.old (fs ++ innermost.new ∷ []) output.new)
+        (λ e. (fs : List Frame) → Cannot aligned (further more) (fs ++ innermost.old ∷ []) output.old e) }
 {
     match innermost {
         Frame::Members(due) => next_of_list(output, aligned, due, more),
@@ -158,7 +170,8 @@ pub(crate) fn put_further(
     aligned: bool,
     more: bool,
 ) -> Result<(), EncodeError>
-    ensures { MatchResult result (λ _. Does aligned (further more) frames.old output.old frames.new output.new) (Cannot aligned (further more) frames.old output.old) }
+    ensures { MatchResult result (λ _. Does aligned (further more) frames.old output.old frames.new output.new)
+        (Cannot aligned (further more) frames.old output.old) }
 {
     match &mut frames.innermost {
         Some(innermost) => next_of_frame(output, innermost, alloc, aligned, more),

@@ -6,7 +6,8 @@ ghost use Rattle.asn1_schema_presented.specs.Records.{Record};
 ghost use Rattle.per_codec_encoder.specs.Rows.{OctetRows, StateRows};
 ghost use Rattle.per_codec_encoder.specs.Steps.{State};
 ghost use Rattle.per_codec_encoder.specs.Ties.{ChainsAddTheTexts, EveryTypeBridges, MessagesAreTheirs, TextsAreWritten};
-ghost use Rattle.per_codec_encoder.specs.Written.{IsWriter, RefusedByRecords, RefusesOnlyNone, WritesTheOctets, WrittenByRecords};
+ghost use Rattle.per_codec_encoder.specs.Written.{IsWriter, RefusedByRecords, RefusesOnlyNone, WritesTheOctets};
+ghost use Rattle.per_codec_encoder.specs.Written.{WrittenByRecords};
 
 /// The records of each value of each type add its text to that which is there, and are refused where it has none.
 pub fn every_type_bridges()
@@ -18,12 +19,14 @@ pub fn texts_are_written()
     ensures { TextsAreWritten }
 {}
 
-/// A chain of steps by the records of a value leads just from what is held to the same with the text of the value behind it.
+/// A chain of steps by the records of a value leads just from what is held to the same with the text of the value
+/// behind it.
 pub fn chains_add_the_texts()
     ensures { ChainsAddTheTexts }
 {}
 
-/// The records of a value, from nothing on and filled up to octets, are its message, and are refused where it has none (X.691 11.1).
+/// The records of a value, from nothing on and filled up to octets, are its message, and are refused where it has none
+/// (X.691 11.1).
 pub fn messages_are_theirs()
     ensures { MessagesAreTheirs }
 {}
@@ -56,7 +59,8 @@ pub trait Writer {
     ghost is_writer: { IsWriter step aligned held ready };
 }
 
-/// A writer that held nothing holds the canonical encoding of a value behind its records, once it is filled up to octets (X.691 11.1).
+/// A writer that held nothing holds the canonical encoding of a value behind its records, once it is filled up to
+/// octets (X.691 11.1).
 pub fn writes_the_octets<W: Writer>()
     ensures { WritesTheOctets W.step W.aligned W.held }
 {}

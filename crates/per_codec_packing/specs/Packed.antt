@@ -1,5 +1,6 @@
 -- What is put together: a text, at a known place or not.
-use Rattle.std.specs.Prelude.{◌≡◌, ℕ, zero, suc, Bool, true, false, cond, List, [], ◌∷◌, ◌++◌, length, replicate, Option, Some, None, option_map}
+use Rattle.std.specs.Prelude.{◌≡◌, ℕ, zero, suc, Bool, true, false, cond, List, [], ◌∷◌, ◌++◌, length, replicate}
+use Rattle.std.specs.Prelude.{Option, Some, None, option_map}
 use Rattle.asn1_model.specs.Numbers.{missing}
 use Rattle.per_codec_packing.specs.Texts.{Text, bit, fill, as_text}
 

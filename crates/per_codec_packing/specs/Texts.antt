@@ -1,6 +1,7 @@
--- Texts of forms. One whose position is not known leaves open how far it fills up to octets: so does a member of a bag, whose place is known at the
--- bag's end alone.
-use Rattle.std.specs.Prelude.{ℕ, ◌+◌, Bool, List, [], ◌∷◌, ◌++◌, length, map, Option, Some, None, option_map, option_and_then}
+-- Texts of forms. One whose position is not known leaves open how far it fills up to octets: so does a member of a bag,
+-- whose place is known at the bag's end alone.
+use Rattle.std.specs.Prelude.{ℕ, ◌+◌, Bool, List, [], ◌∷◌, ◌++◌, length, map, Option, Some, None, option_map}
+use Rattle.std.specs.Prelude.{option_and_then}
 use Rattle.asn1_model.specs.Form.{exactly, refused, both, placed, varied, within, written}
 use Rattle.asn1_model.specs.Per
 
@@ -30,8 +31,8 @@ moved q n = option_map (λ p. p + n) q
 abbrev pub on : Option ℕ → Text → Option ℕ
 on q t = moved q (length t)
 
--- The canonical text of a form from a position on, if there is one: as the definitions have it where the position is known. In the forms of PER
--- nothing but filling depends on it.
+-- The canonical text of a form from a position on, if there is one: as the definitions have it where the position is
+-- known. In the forms of PER nothing but filling depends on it.
 unfoldable pub text_at : Per.BitForm → Option ℕ → Option Text
 text_at (exactly l) q = Some (as_text l)
 text_at refused q = None

@@ -10,14 +10,16 @@ use crate::packing::Packing;
 use crate::text_view::TextView;
 use std::alloc::AllocError;
 
-/// The complete encoding of a text where it stands alone (X.691 11.1): filled up with zero bits to whole octets, and one zero octet in place of
-/// no bits. By these the members of a bag are put in order (X.691 22). It is written in `room`, which is cleared first.
+/// The complete encoding of a text where it stands alone (X.691 11.1): filled up with zero bits to whole octets, and
+/// one zero octet in place of no bits. By these the members of a bag are put in order (X.691 22). It is written in
+/// `room`, which is cleared first.
 ///
 /// # Errors
 ///
 /// Want of memory.
 pub fn complete_in(text: TextView<'_>, room: Vec<u8>) -> Result<Vec<u8>, AllocError>
-    ensures { IfOk result (λ octets. written (complete (as_form (text_of text.entry))) 0 ≡ Some (octet_bits octets.items)) }
+    ensures { IfOk result (λ octets. written (complete (as_form (text_of text.entry))) 0 ≡ Some
+        (octet_bits octets.items)) }
 {
     let mut alone = Packing::from_octets(room);
     alone.append_text(text)?;

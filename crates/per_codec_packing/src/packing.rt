@@ -1,5 +1,6 @@
 //! A text that grows at its end.
-ghost use Rattle.std.specs.Prelude.{◌≡◌, ◌+◌, ◌-◌, ◌<◌, ◌≤◌, [], ◌∷◌, true, false, length, take, replicate, Some, OnOk, OnErr, IsTrue, ◌↔◌};
+ghost use Rattle.std.specs.Prelude.{◌≡◌, ◌+◌, ◌-◌, ◌<◌, ◌≤◌, [], ◌∷◌, true, false, length, take, replicate, Some, OnOk};
+ghost use Rattle.std.specs.Prelude.{OnErr, IsTrue, ◌↔◌};
 ghost use Rattle.asn1_model.specs.Numbers.{binary, octet_bits};
 ghost use Rattle.asn1_values_bits.specs.BitStr.{bits_of};
 ghost use Rattle.per_codec_packing.specs.Texts.{as_text, plain, text_at, as_form};
@@ -15,8 +16,9 @@ use std::marker::Model;
 // How many octets are at most added as one number.
 const NUMBER_OCTETS: usize = 16;
 
-/// A text that grows at its end. Where its place is known, it begins with its message or open type and is bits alone. Where it is not, as that
-/// of a member of a bag, filling up to octets (X.691 11.1) is left open until the text is added to another.
+/// A text that grows at its end. Where its place is known, it begins with its message or open type and is bits alone.
+/// Where it is not, as that of a member of a bag, filling up to octets (X.691 11.1) is left open until the text is
+/// added to another.
 #[derive(Drop)]
 pub struct Packing {
     // The bits, without filling that is left open.
@@ -92,7 +94,8 @@ impl Packing {
         self.fills.len()
     }
 
-    /// Keeps the text in front of a place alone, which has so many bits and so many fillings that are left open. No memory is taken.
+    /// Keeps the text in front of a place alone, which has so many bits and so many fillings that are left open. No
+    /// memory is taken.
     pub fn truncate(&mut self, bits: usize, fills: usize)
         requires within { bits + fills ≤ length self.old.text }
         requires place { length (solid (take (bits + fills) self.old.text)) ≡ bits }
@@ -175,7 +178,8 @@ impl Packing {
     /// Want of memory; nothing is changed then.
     pub fn resize(&mut self, len: usize, bit: bool) -> Result<(), AllocError>
         requires { length (solid self.old.text) ≤ len }
-        ensures ok { OnOk result (self.new ≡ plus self.old (as_text (replicate (len - length (solid self.old.text)) bit))) }
+        ensures ok { OnOk result (self.new ≡ plus self.old
+            (as_text (replicate (len - length (solid self.old.text)) bit))) }
         ensures err { OnErr result (self.new ≡ self.old) }
     {
         self.bits.resize(len, bit)?;
@@ -191,7 +195,8 @@ impl Packing {
         self.bits.set(index, bit);
     }
 
-    /// Fills up to the next octet (X.691 11.1): with at most seven zero bits where the place is known, else this is left open.
+    /// Fills up to the next octet (X.691 11.1): with at most seven zero bits where the place is known, else this is
+    /// left open.
     ///
     /// # Errors
     ///

@@ -31,7 +31,8 @@ NoneStands {X} free f old = (x : X) (new : Place) → Front free (f x) old new �
 abbrev pub IsFresh : DecodeError → Type 0
 IsFresh e = ¬ (e ≡ AlreadyFailed)
 
--- Why a reader of some forms refuses: no memory is left, or none of them stands in front. That an earlier call was refused is no reason.
+-- Why a reader of some forms refuses: no memory is left, or none of them stands in front. That an earlier call was
+-- refused is no reason.
 abbrev pub Misses : {X : Type 0} → (Freedom → Bool) → (X → BitForm) → Place → DecodeError → Type 0
 Misses free f old OutOfMemory = Unit {0}
 Misses free f old AlreadyFailed = ⊥

@@ -6,7 +6,8 @@ use Rattle.asn1_model.specs.Per.{BitForm, at_octet, short_length}
 use Rattle.per_codec_reading.specs.declared.lengths.Length.{Length}
 use Rattle.per_codec_reading.specs.declared.lengths.Length.TheVariants.{Short, Fragment}
 
--- A length below 16384 (X.691 11.9.3.5 to 11.9.3.7), or that of a fragment of one to four times 16384 units (X.691 11.9.3.8).
+-- A length below 16384 (X.691 11.9.3.5 to 11.9.3.7), or that of a fragment of one to four times 16384 units (X.691
+-- 11.9.3.8).
 abbrev pub length_form : Bool → Length → BitForm
 length_form al (Short n) = short_length al n
 length_form al (Fragment m) = only_if (leb 1 m && leb m 4) (at_octet al (exactly (true ∷ true ∷ binary 6 m)))

@@ -37,13 +37,14 @@ abbrev pub EndsAtOctet : Storage → ℕ → Type 0
 EndsAtOctet None n = ⊥
 EndsAtOctet (Some o) n = (o + n) % 8 ≡ 0
 
--- Where octets behind their number stand, so many bits of which end at this position of bits that stand there: in one run they stand there too
--- (X.691 11.9.3.5 to 11.9.3.7), from fragments they are joined.
+-- Where octets behind their number stand, so many bits of which end at this position of bits that stand there: in one
+-- run they stand there too (X.691 11.9.3.5 to 11.9.3.7), from fragments they are joined.
 abbrev pub storage_inside : Storage → ℕ → ℕ → Storage
 storage_inside None n end = None
 storage_inside (Some o) n end = cond (ltb n (8 * 16384)) (Some ((o + end) % 8)) None
 
--- So many units stand in one run: there are fewer than 16384, or a highest number below 65536 tells the form of theirs (X.691 11.9.4.1).
+-- So many units stand in one run: there are fewer than 16384, or a highest number below 65536 tells the form of theirs
+-- (X.691 11.9.4.1).
 abbrev pub InOneRun : Option ℕ → ℕ → Type 0
 InOneRun None n = n < 16384
 InOneRun (Some high) n = Unit {0}
@@ -68,4 +69,5 @@ StandsBefore (Joined bits) all n = Unit {0}
 
 -- Some units, and behind them those that stand in front, are all of these.
 abbrev pub Continued : (Per.Freedom → Bool) → (Units → Per.BitForm) → Units → Units → Place → Place → Type 0
-Continued free form first all old new = (us : Units) × (first.0 + us.0 ≡ all.0) × (first.1 ++ us.1 ≡ all.1) × Front free (form us) old new
+Continued free form first all old new = (us : Units) × (first.0 + us.0 ≡ all.0) × (first.1 ++ us.1 ≡ all.1)
+    × Front free (form us) old new

@@ -1,5 +1,6 @@
 -- Units of a size: a mark, a number that its bounds tell, and the units.
-use Rattle.std.specs.Prelude.{ℕ, ◌-◌, ◌*◌, ◌==◌, leb, ltb, not, ◌&&◌, ◌||◌, Bool, true, false, cond, [], ◌∷◌, length, Option, Some, None}
+use Rattle.std.specs.Prelude.{ℕ, ◌-◌, ◌*◌, ◌==◌, leb, ltb, not, ◌&&◌, ◌||◌, Bool, true, false, cond, [], ◌∷◌, length}
+use Rattle.std.specs.Prelude.{Option, Some, None}
 use Rattle.asn1_model.specs.Schema.{Counts, Size}
 use Rattle.asn1_model.specs.Numbers.{is_count_within}
 use Rattle.asn1_model.specs.Form.{exactly, both, only_if, nothing_more}
@@ -18,7 +19,8 @@ abbrev pub size_mark : Bool → Bool → Per.BitForm
 size_mark false outside = only_if (not outside) nothing_more
 size_mark true outside = exactly (outside ∷ [])
 
--- The highest number, if it is below 65536 and the number is in the root: it then tells the form of the number (X.691 11.9.4.1).
+-- The highest number, if it is below 65536 and the number is in the root: it then tells the form of the number (X.691
+-- 11.9.4.1).
 abbrev pub told_highest : Option ℕ → Bool → Option ℕ
 told_highest high true = None
 told_highest None false = None
@@ -44,7 +46,8 @@ units_told al width pads c (Some high) us = told_units al width pads c high us
 
 -- Units of a size that may have a mark (X.691 16, 17 and 30).
 abbrev pub sized_units : Bool → Size → Counts → ℕ → (ℕ → Counts → Bool) → Units → Per.BitForm
-sized_units al z held width pads us = only_if (length us.1 == us.0 * width) (Per.sized al z held (pads us.0) (units_of width us.0 us.1))
+sized_units al z held width pads us = only_if (length us.1 == us.0 * width)
+    (Per.sized al z held (pads us.0) (units_of width us.0 us.1))
 
 -- Whether the program's type holds so many units, and they are in the root or marked as outside (X.680 51.5).
 abbrev pub admitted : Counts → Counts → Bool → ℕ → Bool

@@ -11,7 +11,8 @@ use std::marker::Model;
 /// An encoding has no more octets.
 const MOST_OCTETS: usize = (1 << 60) - 1;
 
-/// A place in a message or in an open type: how many bits stand in front of it, and the bits behind it, which are unread and lent.
+/// A place in a message or in an open type: how many bits stand in front of it, and the bits behind it, which are
+/// unread and lent.
 #[derive(Drop)]
 pub struct Cursor<'input> {
     position: usize,

@@ -39,7 +39,8 @@ pub fn skip_filling(cursor: &mut Cursor<'_>, variant: Variant) -> Result<(), Dec
 /// `Incomplete` if there are fewer bits.
 #[inline(always)]
 pub fn align(cursor: &mut Cursor<'_>, variant: Variant) -> Result<(), DecodeError>
-    ensures ok { OnOk result (Front (freedoms variant) (Per.at_octet (fronts.is_aligned variant) nothing_more) cursor.old cursor.new) }
+    ensures ok { OnOk result (Front (freedoms variant)
+        (Per.at_octet (fronts.is_aligned variant) nothing_more) cursor.old cursor.new) }
     ensures only { IfErr result (Misses (freedoms variant) (Per.at_octet (fronts.is_aligned variant)) cursor.old) }
 {
     if variant.is_aligned() {

@@ -30,15 +30,17 @@ fn fault_of(error: IdentifierError) -> DecodeError
 ///
 /// # Errors
 ///
-/// `InvalidObjectIdentifier` if the contents are empty or truncated, a subidentifier is padded or an arc is past 32 bits, `Incomplete` if the
-/// bits end early, the errors of a length, and `OutOfMemory`.
+/// `InvalidObjectIdentifier` if the contents are empty or truncated, a subidentifier is padded or an arc is past 32
+/// bits, `Incomplete` if the bits end early, the errors of a length, and `OutOfMemory`.
 pub fn read_object_identifier(
     alloc: Global,
     cursor: &mut Cursor<'_>,
     variant: Variant,
 ) -> Result<ObjectIdentifier, DecodeError>
-    ensures ok { IfOk result (λ x. Front (freedoms variant) (Per.form (fronts.is_aligned variant) Asn1.object_identifier (Asn1Value.arcs x)) cursor.old cursor.new) }
-    ensures only { IfErr result (Misses (freedoms variant) (Per.form (fronts.is_aligned variant) Asn1.object_identifier) cursor.old) }
+    ensures ok { IfOk result (λ x. Front (freedoms variant)
+        (Per.form (fronts.is_aligned variant) Asn1.object_identifier (Asn1Value.arcs x)) cursor.old cursor.new) }
+    ensures only { IfErr result (Misses (freedoms variant)
+        (Per.form (fronts.is_aligned variant) Asn1.object_identifier) cursor.old) }
 {
     let octets = read_counted_octets(alloc, cursor, variant)?;
     match oid_from_octets(alloc, octets.as_slice()) {

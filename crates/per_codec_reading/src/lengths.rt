@@ -4,9 +4,10 @@ ghost use Rattle.per_codec_fronts.specs.Takes.{Front};
 ghost use Rattle.per_codec_reading.specs.Fronts.{freedoms, Misses};
 ghost use Rattle.per_codec_reading.specs.Fronts as fronts;
 ghost use Rattle.per_codec_reading.specs.Lengths.{IsLength, length_form};
+ghost use Rattle.per_codec_reading.specs.Units.{count_of};
 
 use crate::filling::align;
-use crate::{Cursor, Variant};
+use crate::{Cursor, FRAGMENT, Variant};
 use asn1_schema_faults::DecodeError;
 
 /// What stands in front of units.
@@ -18,7 +19,23 @@ pub enum Length {
     Fragment(usize),
 }
 
-/// Reads a length that begins here: seven bits, fourteen bits or six, behind the bits that tell which (X.691 11.9.3.6 to 11.9.3.8).
+impl Length {
+    /// How many units stand behind it before the next length or the end.
+    #[inline(always)]
+    pub fn count(self) -> usize
+        requires { IsLength self }
+        ensures count { result ≡ count_of self }
+        ensures few { result ≤ 65536 }
+    {
+        match self {
+            Length::Short(count) => count,
+            Length::Fragment(multiple) => multiple * FRAGMENT,
+        }
+    }
+}
+
+/// Reads a length that begins here: seven bits, fourteen bits or six, behind the bits that tell which (X.691 11.9.3.6
+/// to 11.9.3.8).
 #[inline(always)]
 fn read_header(cursor: &mut Cursor<'_>, variant: Variant) -> Result<Length, DecodeError>
     ensures ok { IfOk result (λ length. Front (freedoms variant) (length_form false length) cursor.old cursor.new) }
@@ -40,15 +57,17 @@ fn read_header(cursor: &mut Cursor<'_>, variant: Variant) -> Result<Length, Deco
     Ok(Length::Fragment(multiple))
 }
 
-/// Reads a length, or the length of a fragment, at an octet in the aligned variant (X.691 11.9.3.5 to 11.9.3.8). A length below 128 is also
-/// taken in fourteen bits.
+/// Reads a length, or the length of a fragment, at an octet in the aligned variant (X.691 11.9.3.5 to 11.9.3.8). A
+/// length below 128 is also taken in fourteen bits.
 ///
 /// # Errors
 ///
-/// `Incomplete` if the bits end early, and `LengthExceedsPlatformWidth` at a fragment of none or of more than four times 16384 units.
+/// `Incomplete` if the bits end early, and `LengthExceedsPlatformWidth` at a fragment of none or of more than four
+/// times 16384 units.
 #[inline(always)]
 pub fn read_length(cursor: &mut Cursor<'_>, variant: Variant) -> Result<Length, DecodeError>
-    ensures ok { IfOk result (λ length. Front (freedoms variant) (length_form (fronts.is_aligned variant) length) cursor.old cursor.new) }
+    ensures ok { IfOk result (λ length. Front (freedoms variant)
+        (length_form (fronts.is_aligned variant) length) cursor.old cursor.new) }
     ensures bound { IfOk result IsLength }
     ensures only { IfErr result (Misses (freedoms variant) (length_form (fronts.is_aligned variant)) cursor.old) }
 {

@@ -33,7 +33,8 @@ pub fn read_number_within(
     most: u128,
 ) -> Result<u128, DecodeError>
     requires { bits ≤ 128 }
-    ensures ok { IfOk result (λ number. Front (freedoms variant) (number_within bits most number) cursor.old cursor.new) }
+    ensures ok { IfOk result (λ number. Front (freedoms variant)
+        (number_within bits most number) cursor.old cursor.new) }
     ensures bound { IfOk result (λ number. number ≤ most) }
     ensures only { IfErr result (Misses (freedoms variant) (number_within bits most) cursor.old) }
 {
@@ -53,16 +54,18 @@ fn read_aligned_within(
     most: u128,
 ) -> Result<u128, DecodeError>
     requires { bits ≤ 128 }
-    ensures ok { IfOk result (λ number. Front (freedoms variant) (aligned_within (fronts.is_aligned variant) bits most number) cursor.old cursor.new) }
+    ensures ok { IfOk result (λ number. Front (freedoms variant)
+        (aligned_within (fronts.is_aligned variant) bits most number) cursor.old cursor.new) }
     ensures bound { IfOk result (λ number. number ≤ most) }
-    ensures only { IfErr result (Misses (freedoms variant) (aligned_within (fronts.is_aligned variant) bits most) cursor.old) }
+    ensures only { IfErr result (Misses (freedoms variant)
+        (aligned_within (fronts.is_aligned variant) bits most) cursor.old) }
 {
     align(cursor, variant)?;
     read_number_within(cursor, variant, bits, most)
 }
 
-/// Reads a number of more than 65536 ones in the aligned variant, in octets behind their number; more of them than needed are taken, as
-/// many as the highest number has (X.691 11.5.7.4).
+/// Reads a number of more than 65536 ones in the aligned variant, in octets behind their number; more of them than
+/// needed are taken, as many as the highest number has (X.691 11.5.7.4).
 fn read_octets_within(
     cursor: &mut Cursor<'_>,
     variant: Variant,
@@ -70,7 +73,8 @@ fn read_octets_within(
 ) -> Result<u128, DecodeError>
     requires aligned { fronts.is_aligned variant ≡ true }
     requires large { 65536 ≤ span }
-    ensures ok { IfOk result (λ number. Front (freedoms variant) (Per.constrained true span number) cursor.old cursor.new) }
+    ensures ok { IfOk result (λ number. Front (freedoms variant)
+        (Per.constrained true span number) cursor.old cursor.new) }
     ensures bound { IfOk result (λ number. number ≤ span) }
     ensures only { IfErr result (Misses (freedoms variant) (Per.constrained true span) cursor.old) }
 {
@@ -79,21 +83,24 @@ fn read_octets_within(
     read_aligned_within(cursor, variant, 8 * (further + 1), span)
 }
 
-/// Reads a constrained whole number, one of 0 to `span` (X.691 11.5): not aligned, the bits that `span` has; aligned, the same up to 255
-/// numbers, one octet for 256, two for up to 65536, and more behind their number.
+/// Reads a constrained whole number, one of 0 to `span` (X.691 11.5): not aligned, the bits that `span` has; aligned,
+/// the same up to 255 numbers, one octet for 256, two for up to 65536, and more behind their number.
 ///
 /// # Errors
 ///
-/// `Incomplete` if the bits end early, and `ValueConstraintNotSatisfied` if the number, or that of its octets, is too large.
+/// `Incomplete` if the bits end early, and `ValueConstraintNotSatisfied` if the number, or that of its octets, is too
+/// large.
 #[inline(always)]
 pub fn read_constrained(
     cursor: &mut Cursor<'_>,
     variant: Variant,
     span: u128,
 ) -> Result<u128, DecodeError>
-    ensures ok { IfOk result (λ number. Front (freedoms variant) (Per.constrained (fronts.is_aligned variant) span number) cursor.old cursor.new) }
+    ensures ok { IfOk result (λ number. Front (freedoms variant)
+        (Per.constrained (fronts.is_aligned variant) span number) cursor.old cursor.new) }
     ensures bound { IfOk result (λ number. number ≤ span) }
-    ensures only { IfErr result (Misses (freedoms variant) (Per.constrained (fronts.is_aligned variant) span) cursor.old) }
+    ensures only { IfErr result (Misses (freedoms variant)
+        (Per.constrained (fronts.is_aligned variant) span) cursor.old) }
 {
     if !variant.is_aligned() || span < 255 {
         return read_number_within(cursor, variant, bit_count(span), span);

@@ -49,7 +49,8 @@ fn copied_bits(alloc: Global, bits: BitStr<'_>) -> Result<BitBuffer, AllocError>
     Ok(copy)
 }
 
-/// The octets that bits of the input are. Where the bits begin at an octet of the input they are lent, and no memory is taken.
+/// The octets that bits of the input are. Where the bits begin at an octet of the input they are lent, and no memory is
+/// taken.
 #[inline(always)]
 fn lent_octets<'input>(
     alloc: Global,
@@ -77,8 +78,8 @@ fn joined_octets(bits: BitBuffer) -> Vec<u8>
 }
 
 impl<'input> Run<'input> {
-    /// The octets that the units are. Where their bits stand in one piece of the input that begins at an octet they are lent, and no memory
-    /// is taken.
+    /// The octets that the units are. Where their bits stand in one piece of the input that begins at an octet they are
+    /// lent, and no memory is taken.
     #[inline(always)]
     pub fn into_octets(self, alloc: Global) -> Result<CowSlice<'input, u8>, AllocError>
         requires { length (bits_in self.bits) % 8 ≡ 0 }
@@ -96,8 +97,8 @@ impl<'input> Run<'input> {
     }
 }
 
-/// Reads octets behind their number (X.691 11.9). Where up to 16383 of them stand in one piece that begins at an octet of the input they are
-/// lent, and no memory is taken.
+/// Reads octets behind their number (X.691 11.9). Where up to 16383 of them stand in one piece that begins at an octet
+/// of the input they are lent, and no memory is taken.
 ///
 /// # Errors
 ///
@@ -107,8 +108,10 @@ pub fn read_counted_octets<'input>(
     cursor: &mut Cursor<'input>,
     variant: Variant,
 ) -> Result<CowSlice<'input, u8>, DecodeError>
-    ensures ok { IfOk result (λ octets. Front (freedoms variant) (Per.counted_octets (fronts.is_aligned variant) (cow_slice_items octets)) cursor.old cursor.new) }
-    ensures only { IfErr result (Misses (freedoms variant) (Per.counted_octets (fronts.is_aligned variant)) cursor.old) }
+    ensures ok { IfOk result (λ octets. Front (freedoms variant)
+        (Per.counted_octets (fronts.is_aligned variant) (cow_slice_items octets)) cursor.old cursor.new) }
+    ensures only { IfErr result (Misses (freedoms variant)
+        (Per.counted_octets (fronts.is_aligned variant)) cursor.old) }
 {
     let units = read_counted(alloc, cursor, variant, 8)?;
     let octets = units.into_octets(alloc)?;

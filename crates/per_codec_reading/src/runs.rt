@@ -8,11 +8,11 @@ ghost use Rattle.per_codec_fronts.specs.Takes.{Front};
 ghost use Rattle.per_codec_reading.specs.Fronts.{freedoms, Misses};
 ghost use Rattle.per_codec_reading.specs.Fronts as fronts;
 ghost use Rattle.per_codec_reading.specs.Lengths.{IsLength};
-ghost use Rattle.per_codec_reading.specs.Units.{count_of, counted_units, piece_form};
+ghost use Rattle.per_codec_reading.specs.Units.{counted_units, piece_form};
 ghost use Rattle.per_codec_reading.specs.Runs.{units_in, IsLent, EndsWith, EndsWithLent, Continued};
 
 use crate::lengths::{Length, read_length};
-use crate::{Cursor, Variant};
+use crate::{Cursor, FRAGMENT, Variant};
 use asn1_schema_faults::DecodeError;
 use asn1_values_bits::{BitBuffer, BitStr};
 use std::alloc::Global;
@@ -42,19 +42,6 @@ struct Piece<'input> {
     bits: BitStr<'input>,
 }
 
-/// How many units stand behind a length.
-#[inline(always)]
-fn unit_count(length: Length) -> usize
-    requires { IsLength length }
-    ensures count { result ≡ count_of length }
-    ensures few { result ≤ 65536 }
-{
-    match length {
-        Length::Short(count) => count,
-        Length::Fragment(multiple) => multiple * 16384,
-    }
-}
-
 /// Reads a length, and as many units behind it.
 #[inline(always)]
 fn read_piece<'input>(
@@ -62,13 +49,14 @@ fn read_piece<'input>(
     variant: Variant,
     width: u32,
 ) -> Result<Piece<'input>, DecodeError>
-    ensures ok { IfOk result (λ piece. Front (freedoms variant) (piece_form (fronts.is_aligned variant) width (piece.length, bits_of piece.bits)) cursor.old cursor.new) }
+    ensures ok { IfOk result (λ piece. Front (freedoms variant)
+        (piece_form (fronts.is_aligned variant) width (piece.length, bits_of piece.bits)) cursor.old cursor.new) }
     ensures bound { IfOk result (λ piece. IsLength piece.length) }
     ensures last { IfOk result (λ piece. EndsWith (bits_of piece.bits) cursor.old cursor.new) }
     ensures only { IfErr result (Misses (freedoms variant) (piece_form (fronts.is_aligned variant) width) cursor.old) }
 {
     let length = read_length(cursor, variant)?;
-    let bits = cursor.take(unit_count(length) * width as usize)?;
+    let bits = cursor.take(length.count() * width as usize)?;
     Ok(Piece { length, bits })
 }
 
@@ -81,8 +69,10 @@ fn read_further(
     count: usize,
     bits: BitStr<'_>,
 ) -> Result<(usize, BitBuffer), DecodeError>
-    ensures ok { IfOk result (λ all. Continued (freedoms variant) (counted_units (fronts.is_aligned variant) width) (count, bits_of bits.entry) (all.0, all.1) cursor.old cursor.new) }
-    ensures only { IfErr result (Misses (freedoms variant) (counted_units (fronts.is_aligned variant) width) cursor.old) }
+    ensures ok { IfOk result (λ all. Continued (freedoms variant) (counted_units (fronts.is_aligned variant) width)
+        (count, bits_of bits.entry) (all.0, all.1) cursor.old cursor.new) }
+    ensures only { IfErr result (Misses (freedoms variant)
+        (counted_units (fronts.is_aligned variant) width) cursor.old) }
 {
     let mut total = count;
     let mut joined = BitBuffer::new(alloc);
@@ -90,7 +80,7 @@ fn read_further(
     'fragments: loop {
         let piece = read_piece(cursor, variant, width)?;
         joined.extend_from_bitslice(piece.bits)?;
-        let Some(sum) = total.checked_add(unit_count(piece.length)) else {
+        let Some(sum) = total.checked_add(piece.length.count()) else {
             return Err(DecodeError::OutOfMemory);
         };
         total = sum;
@@ -100,8 +90,9 @@ fn read_further(
     }
 }
 
-/// Reads units of so many bits each behind their number (X.691 11.9). Up to 16383 of them in one piece are lent; what stands in fragments,
-/// of one to four times 16384 in any order, is joined, and memory is taken only for units that are there.
+/// Reads units of so many bits each behind their number (X.691 11.9). Up to 16383 of them in one piece are lent; what
+/// stands in fragments, of one to four times 16384 in any order, is joined, and memory is taken only for units that are
+/// there.
 ///
 /// # Errors
 ///
@@ -113,11 +104,13 @@ pub fn read_counted<'input>(
     variant: Variant,
     width: u32,
 ) -> Result<Run<'input>, DecodeError>
-    ensures ok { IfOk result (λ run. Front (freedoms variant) (counted_units (fronts.is_aligned variant) width (units_in run)) cursor.old cursor.new) }
+    ensures ok { IfOk result (λ run. Front (freedoms variant)
+        (counted_units (fronts.is_aligned variant) width (units_in run)) cursor.old cursor.new) }
     ensures lent { IfOk result (λ run. run.count < 16384 → IsLent run.bits) }
     ensures joined { IfOk result (λ run. IsLent run.bits → run.count < 16384) }
     ensures last { IfOk result (λ run. EndsWithLent run.bits cursor.old cursor.new) }
-    ensures only { IfErr result (Misses (freedoms variant) (counted_units (fronts.is_aligned variant) width) cursor.old) }
+    ensures only { IfErr result (Misses (freedoms variant)
+        (counted_units (fronts.is_aligned variant) width) cursor.old) }
 {
     let first = read_piece(cursor, variant, width)?;
     match first.length {
@@ -126,7 +119,14 @@ pub fn read_counted<'input>(
             bits: RunBits::Lent(first.bits),
         }),
         Length::Fragment(multiple) => {
-            let all = read_further(alloc, cursor, variant, width, multiple * 16384, first.bits)?;
+            let all = read_further(
+                alloc,
+                cursor,
+                variant,
+                width,
+                multiple * FRAGMENT,
+                first.bits,
+            )?;
             Ok(Run {
                 count: all.0,
                 bits: RunBits::Joined(all.1),

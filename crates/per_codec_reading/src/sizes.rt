@@ -10,13 +10,14 @@ ghost use Rattle.per_codec_reading.specs.Fronts.{freedoms, Misses};
 ghost use Rattle.per_codec_reading.specs.Fronts as fronts;
 ghost use Rattle.per_codec_reading.specs.Runs.{units_in, IsLent, InOneRun, EndsWithLent};
 ghost use Rattle.per_codec_reading.specs.Sizes as sizes;
-ghost use Rattle.per_codec_reading.specs.Sizes.{pads_of, size_mark, sized_units, surely_told, told_count, told_units, units_told};
+ghost use Rattle.per_codec_reading.specs.Sizes.{pads_of, size_mark, sized_units, surely_told, told_count, told_units};
+ghost use Rattle.per_codec_reading.specs.Sizes.{units_told};
 
 use crate::filling::align;
 use crate::numbers::read_constrained;
 use crate::runs::{Run, RunBits, read_counted};
 use crate::units::read_bit;
-use crate::{Cursor, Variant};
+use crate::{Cursor, LONG_COUNT, Variant};
 use asn1_schema_constraints::{Bounded, Constraints};
 use asn1_schema_faults::DecodeError;
 use std::alloc::Global;
@@ -52,8 +53,8 @@ fn has_mark(constraints: Constraints) -> bool
     }
 }
 
-/// The highest number of units, if it tells the form of the number: it is below 65536, and the number is not marked as outside the root
-/// (X.691 11.9.4.1).
+/// The highest number of units, if it tells the form of the number: it is below 65536, and the number is not marked as
+/// outside the root (X.691 11.9.4.1).
 #[inline(always)]
 fn told_highest(bounds: Bounded<usize>, is_outside: bool) -> Option<usize>
     ensures highest { result ≡ sizes.told_highest ((counts_of bounds).high) is_outside }
@@ -64,14 +65,15 @@ fn told_highest(bounds: Bounded<usize>, is_outside: bool) -> Option<usize>
         return None;
     }
     let highest = *bounds.as_end()?;
-    if highest >= 65536 {
+    if highest >= LONG_COUNT {
         return None;
     }
     Some(highest)
 }
 
-/// Whether units behind a number that bounds tell stand at an octet in the aligned variant (X.691 16.9 to 16.11, 17.6 to 17.8 and 30.5.6):
-/// none does where there are no bits, nor where there is one number alone and all have at most 16 bits.
+/// Whether units behind a number that bounds tell stand at an octet in the aligned variant (X.691 16.9 to 16.11, 17.6
+/// to 17.8 and 30.5.6): none does where there are no bits, nor where there is one number alone and all have at most 16
+/// bits.
 fn is_padded(
     contents: Contents,
     width: u32,
@@ -92,7 +94,8 @@ fn is_padded(
     }
 }
 
-/// Reads the mark of extensibility of a size, where it has one: whether the number is outside the root (X.691 16.6, 17.3 and 30.4).
+/// Reads the mark of extensibility of a size, where it has one: whether the number is outside the root (X.691 16.6,
+/// 17.3 and 30.4).
 ///
 /// # Errors
 ///
@@ -103,8 +106,10 @@ pub fn read_size_mark(
     variant: Variant,
     constraints: Constraints,
 ) -> Result<bool, DecodeError>
-    ensures ok { IfOk result (λ outside. Front (freedoms variant) (size_mark ((sizes_of constraints.entry.size).extensible) outside) cursor.old cursor.new) }
-    ensures only { IfErr result (Misses (freedoms variant) (size_mark ((sizes_of constraints.entry.size).extensible)) cursor.old) }
+    ensures ok { IfOk result (λ outside. Front (freedoms variant)
+        (size_mark ((sizes_of constraints.entry.size).extensible) outside) cursor.old cursor.new) }
+    ensures only { IfErr result (Misses (freedoms variant)
+        (size_mark ((sizes_of constraints.entry.size).extensible)) cursor.old) }
 {
     if !has_mark(constraints) {
         return Ok(false);
@@ -117,16 +122,19 @@ pub fn read_size_mark(
 ///
 /// # Errors
 ///
-/// `Incomplete` if the bits end early, and `SizeConstraintNotSatisfied` or `ValueConstraintNotSatisfied` if there is no such number.
+/// `Incomplete` if the bits end early, and `SizeConstraintNotSatisfied` or `ValueConstraintNotSatisfied` if there is no
+/// such number.
 pub fn read_told_count(
     cursor: &mut Cursor<'_>,
     variant: Variant,
     lowest: usize,
     highest: usize,
 ) -> Result<usize, DecodeError>
-    ensures ok { IfOk result (λ count. Front (freedoms variant) (told_count (fronts.is_aligned variant) lowest highest count) cursor.old cursor.new) }
+    ensures ok { IfOk result (λ count. Front (freedoms variant)
+        (told_count (fronts.is_aligned variant) lowest highest count) cursor.old cursor.new) }
     ensures bound { IfOk result (λ count. count ≤ highest) }
-    ensures only { IfErr result (Misses (freedoms variant) (told_count (fronts.is_aligned variant) lowest highest) cursor.old) }
+    ensures only { IfErr result (Misses (freedoms variant)
+        (told_count (fronts.is_aligned variant) lowest highest) cursor.old) }
 {
     if highest < lowest {
         return Err(DecodeError::SizeConstraintNotSatisfied);
@@ -141,8 +149,10 @@ pub fn read_told_count(
 ///
 /// `Incomplete` if there are fewer bits.
 fn align_if(cursor: &mut Cursor<'_>, variant: Variant, is_padded: bool) -> Result<(), DecodeError>
-    ensures ok { OnOk result (Front (freedoms variant) (Per.at_octet (fronts.is_aligned variant && is_padded) nothing_more) cursor.old cursor.new) }
-    ensures only { IfErr result (Misses (freedoms variant) (Per.at_octet (fronts.is_aligned variant && is_padded)) cursor.old) }
+    ensures ok { OnOk result (Front (freedoms variant)
+        (Per.at_octet (fronts.is_aligned variant && is_padded) nothing_more) cursor.old cursor.new) }
+    ensures only { IfErr result (Misses (freedoms variant)
+        (Per.at_octet (fronts.is_aligned variant && is_padded)) cursor.old) }
 {
     if is_padded {
         align(cursor, variant)?;
@@ -161,10 +171,13 @@ fn read_told<'input>(
 ) -> Result<Run<'input>, DecodeError>
     requires bounds { (counts_of bounds).high ≡ Some highest }
     requires highest { highest < 65536 }
-    ensures ok { IfOk result (λ run. Front (freedoms variant) (told_units (fronts.is_aligned variant) width (pads_of contents width) (counts_of bounds) highest (units_in run)) cursor.old cursor.new) }
+    ensures ok { IfOk result (λ run. Front (freedoms variant)
+        (told_units (fronts.is_aligned variant) width (pads_of contents width) (counts_of bounds) highest
+        (units_in run)) cursor.old cursor.new) }
     ensures lent { IfOk result (λ run. IsLent run.bits) }
     ensures last { IfOk result (λ run. EndsWithLent run.bits cursor.old cursor.new) }
-    ensures only { IfErr result (Misses (freedoms variant) (told_units (fronts.is_aligned variant) width (pads_of contents width) (counts_of bounds) highest) cursor.old) }
+    ensures only { IfErr result (Misses (freedoms variant)
+        (told_units (fronts.is_aligned variant) width (pads_of contents width) (counts_of bounds) highest) cursor.old) }
 {
     let count = read_told_count(cursor, variant, bounds.minimum(), highest)?;
     let padded = is_padded(contents, width, bounds, highest, count);
@@ -187,10 +200,15 @@ fn read_units<'input>(
     bounds: Bounded<usize>,
     is_outside: bool,
 ) -> Result<Run<'input>, DecodeError>
-    ensures ok { IfOk result (λ run. Front (freedoms variant) (units_told (fronts.is_aligned variant) width (pads_of contents width) (counts_of bounds) (sizes.told_highest ((counts_of bounds).high) is_outside) (units_in run)) cursor.old cursor.new) }
-    ensures lent { IfOk result (λ run. InOneRun (sizes.told_highest ((counts_of bounds).high) is_outside) run.count → IsLent run.bits) }
+    ensures ok { IfOk result (λ run. Front (freedoms variant)
+        (units_told (fronts.is_aligned variant) width (pads_of contents width) (counts_of bounds)
+        (sizes.told_highest ((counts_of bounds).high) is_outside) (units_in run)) cursor.old cursor.new) }
+    ensures lent { IfOk result (λ run. InOneRun (sizes.told_highest ((counts_of bounds).high) is_outside) run.count
+        → IsLent run.bits) }
     ensures last { IfOk result (λ run. EndsWithLent run.bits cursor.old cursor.new) }
-    ensures only { IfErr result (Misses (freedoms variant) (units_told (fronts.is_aligned variant) width (pads_of contents width) (counts_of bounds) (sizes.told_highest ((counts_of bounds).high) is_outside)) cursor.old) }
+    ensures only { IfErr result (Misses (freedoms variant)
+        (units_told (fronts.is_aligned variant) width (pads_of contents width) (counts_of bounds)
+        (sizes.told_highest ((counts_of bounds).high) is_outside)) cursor.old) }
 {
     match told_highest(bounds, is_outside) {
         Some(highest) => {
@@ -212,12 +230,13 @@ fn is_admitted(bounds: Bounded<usize>, held: Bounded<usize>, is_outside: bool, c
     held.contains(&count) && (is_outside || bounds.contains(&count))
 }
 
-/// Reads units of so many bits each under a size constraint, in a type of the program that holds so many (X.691 16, 17 and 30).
+/// Reads units of so many bits each under a size constraint, in a type of the program that holds so many (X.691 16, 17
+/// and 30).
 ///
 /// # Errors
 ///
-/// `SizeConstraintNotSatisfied` if the size or the program's type does not admit as many, `Incomplete` if the bits end early, the errors of
-/// a number and of a length, and `OutOfMemory`.
+/// `SizeConstraintNotSatisfied` if the size or the program's type does not admit as many, `Incomplete` if the bits end
+/// early, the errors of a number and of a length, and `OutOfMemory`.
 #[inline(always)]
 pub fn read_sized<'input>(
     alloc: Global,
@@ -228,10 +247,15 @@ pub fn read_sized<'input>(
     width: u32,
     contents: Contents,
 ) -> Result<Run<'input>, DecodeError>
-    ensures ok { IfOk result (λ run. Front (freedoms variant) (sized_units (fronts.is_aligned variant) (sizes_of constraints.entry.size) (counts_of held) width (pads_of contents width) (units_in run)) cursor.old cursor.new) }
-    ensures lent { IfOk result (λ run. InOneRun (surely_told (sizes_of constraints.entry.size)) run.count → IsLent run.bits) }
+    ensures ok { IfOk result (λ run. Front (freedoms variant)
+        (sized_units (fronts.is_aligned variant) (sizes_of constraints.entry.size) (counts_of held) width
+        (pads_of contents width) (units_in run)) cursor.old cursor.new) }
+    ensures lent { IfOk result (λ run. InOneRun (surely_told (sizes_of constraints.entry.size)) run.count
+        → IsLent run.bits) }
     ensures last { IfOk result (λ run. EndsWithLent run.bits cursor.old cursor.new) }
-    ensures only { IfErr result (Misses (freedoms variant) (sized_units (fronts.is_aligned variant) (sizes_of constraints.entry.size) (counts_of held) width (pads_of contents width)) cursor.old) }
+    ensures only { IfErr result (Misses (freedoms variant)
+        (sized_units (fronts.is_aligned variant) (sizes_of constraints.entry.size) (counts_of held) width
+        (pads_of contents width)) cursor.old) }
 {
     let is_outside = read_size_mark(cursor, variant, constraints)?;
     let bounds = size_bounds(constraints);

@@ -10,7 +10,8 @@ ghost use Rattle.asn1_values_bits.specs.BitStr.{bits_of, offset_of};
 ghost use Rattle.per_codec_fronts.specs.Takes.{Front};
 ghost use Rattle.per_codec_reading.specs.Fronts.{freedoms, Misses};
 ghost use Rattle.per_codec_reading.specs.Fronts as fronts;
-ghost use Rattle.per_codec_reading.specs.Runs.{bits_in, EndsAtOctet, InOneRun, IsLent, StandsBefore, StandsIn, storage_of};
+ghost use Rattle.per_codec_reading.specs.Runs.{bits_in, EndsAtOctet, InOneRun, IsLent, StandsBefore, StandsIn};
+ghost use Rattle.per_codec_reading.specs.Runs.{storage_of};
 ghost use Rattle.per_codec_reading.specs.Sizes.{surely_told};
 
 use crate::runs::{Run, RunBits};
@@ -23,13 +24,13 @@ use asn1_values_bits::BitStr;
 use std::alloc::{AllocError, Global};
 use std::borrow::CowSlice;
 
-/// Reads a string of octets (X.691 17) under a size constraint, in a type of the program that holds so many. Where they stand in one piece
-/// that begins at an octet of the input they are lent, and no memory is taken.
+/// Reads a string of octets (X.691 17) under a size constraint, in a type of the program that holds so many. Where they
+/// stand in one piece that begins at an octet of the input they are lent, and no memory is taken.
 ///
 /// # Errors
 ///
-/// `SizeConstraintNotSatisfied` if the size or the program's type does not admit as many, `Incomplete` if the bits end early, the errors of
-/// a number and of a length, and `OutOfMemory`.
+/// `SizeConstraintNotSatisfied` if the size or the program's type does not admit as many, `Incomplete` if the bits end
+/// early, the errors of a number and of a length, and `OutOfMemory`.
 #[inline(always)]
 pub fn read_octet_string<'input>(
     alloc: Global,
@@ -38,8 +39,12 @@ pub fn read_octet_string<'input>(
     constraints: Constraints,
     held: Bounded<usize>,
 ) -> Result<CowSlice<'input, u8>, DecodeError>
-    ensures ok { IfOk result (λ octets. Front (freedoms variant) (Per.form (fronts.is_aligned variant) (Asn1.octet_string (sizes_of constraints.entry.size) (counts_of held)) (Asn1Value.octet_list (cow_slice_items octets))) cursor.old cursor.new) }
-    ensures only { IfErr result (Misses (freedoms variant) (Per.form (fronts.is_aligned variant) (Asn1.octet_string (sizes_of constraints.entry.size) (counts_of held))) cursor.old) }
+    ensures ok { IfOk result (λ octets. Front (freedoms variant)
+        (Per.form (fronts.is_aligned variant) (Asn1.octet_string (sizes_of constraints.entry.size) (counts_of held))
+        (Asn1Value.octet_list (cow_slice_items octets))) cursor.old cursor.new) }
+    ensures only { IfErr result (Misses (freedoms variant)
+        (Per.form (fronts.is_aligned variant) (Asn1.octet_string (sizes_of constraints.entry.size) (counts_of held)))
+        cursor.old) }
 {
     let units = read_sized(
         alloc,
@@ -59,7 +64,8 @@ pub fn read_octet_string<'input>(
 pub fn lent_by<'input>(input: BitStr<'input>, end: usize, bits: RunBits<'_>) -> RunBits<'input>
     requires { StandsBefore bits (bits_of input) end }
     ensures same { bits_in result ≡ bits_in bits.entry }
-    ensures lent { IsLent bits.entry → length (bits_in bits.entry) % 8 ≡ 0 → storage_of result ≡ Some ((offset_of input.entry + end) % 8) }
+    ensures lent { IsLent bits.entry → length (bits_in bits.entry) % 8 ≡ 0
+        → storage_of result ≡ Some ((offset_of input.entry + end) % 8) }
     ensures joined { (IsLent bits.entry → ⊥) → storage_of result ≡ None }
 {
     match bits {
@@ -72,8 +78,9 @@ pub fn lent_by<'input>(input: BitStr<'input>, end: usize, bits: RunBits<'_>) -> 
     }
 }
 
-/// Reads a string of octets (X.691 17) as [`read_octet_string`] does, at a place in an input. Where the octets stand in one run that begins at
-/// an octet of the input's storage, as they do where they end at one, the input lends them, and no memory is taken.
+/// Reads a string of octets (X.691 17) as [`read_octet_string`] does, at a place in an input. Where the octets stand in
+/// one run that begins at an octet of the input's storage, as they do where they end at one, the input lends them, and
+/// no memory is taken.
 ///
 /// # Errors
 ///
@@ -88,9 +95,15 @@ pub fn read_octet_string_in<'input>(
     held: Bounded<usize>,
 ) -> Result<CowSlice<'input, u8>, DecodeError>
     requires { StandsIn (bits_of input) cursor.old }
-    ensures ok { IfOk result (λ octets. Front (freedoms variant) (Per.form (fronts.is_aligned variant) (Asn1.octet_string (sizes_of constraints.entry.size) (counts_of held)) (Asn1Value.octet_list (cow_slice_items octets))) cursor.old cursor.new) }
-    ensures lent { IfOk result (λ octets. InOneRun (surely_told (sizes_of constraints.entry.size)) (length (cow_slice_items octets)) → EndsAtOctet (Some (offset_of input.entry)) cursor.new.0 → IsBorrowedSlice octets) }
-    ensures only { IfErr result (Misses (freedoms variant) (Per.form (fronts.is_aligned variant) (Asn1.octet_string (sizes_of constraints.entry.size) (counts_of held))) cursor.old) }
+    ensures ok { IfOk result (λ octets. Front (freedoms variant)
+        (Per.form (fronts.is_aligned variant) (Asn1.octet_string (sizes_of constraints.entry.size) (counts_of held))
+        (Asn1Value.octet_list (cow_slice_items octets))) cursor.old cursor.new) }
+    ensures lent { IfOk result (λ octets. InOneRun (surely_told (sizes_of constraints.entry.size))
+        (length (cow_slice_items octets)) → EndsAtOctet (Some (offset_of input.entry)) cursor.new.0
+        → IsBorrowedSlice octets) }
+    ensures only { IfErr result (Misses (freedoms variant)
+        (Per.form (fronts.is_aligned variant) (Asn1.octet_string (sizes_of constraints.entry.size) (counts_of held)))
+        cursor.old) }
 {
     let units = read_sized(
         alloc,
@@ -134,8 +147,12 @@ pub fn read_bit_string(
     constraints: Constraints,
     held: Bounded<usize>,
 ) -> Result<BitString, DecodeError>
-    ensures ok { IfOk result (λ x. Front (freedoms variant) (Per.form (fronts.is_aligned variant) (Asn1.bit_string (sizes_of constraints.entry.size) (counts_of held)) (Asn1Value.bit_list x)) cursor.old cursor.new) }
-    ensures only { IfErr result (Misses (freedoms variant) (Per.form (fronts.is_aligned variant) (Asn1.bit_string (sizes_of constraints.entry.size) (counts_of held))) cursor.old) }
+    ensures ok { IfOk result (λ x. Front (freedoms variant)
+        (Per.form (fronts.is_aligned variant) (Asn1.bit_string (sizes_of constraints.entry.size) (counts_of held))
+        (Asn1Value.bit_list x)) cursor.old cursor.new) }
+    ensures only { IfErr result (Misses (freedoms variant)
+        (Per.form (fronts.is_aligned variant) (Asn1.bit_string (sizes_of constraints.entry.size) (counts_of held)))
+        cursor.old) }
 {
     let units = read_sized(
         alloc,

@@ -20,15 +20,23 @@ use std::alloc::Global;
 ///
 /// # Errors
 ///
-/// `StringConversionFailed` if the octets are not UTF-8, `Incomplete` if the bits end early, the errors of a length, and `OutOfMemory`.
+/// `StringConversionFailed` if the octets are not UTF-8, `Incomplete` if the bits end early, the errors of a length,
+/// and `OutOfMemory`.
 pub fn read_utf8_string(
     alloc: Global,
     cursor: &mut Cursor<'_>,
     variant: Variant,
     _constraints: Constraints,
 ) -> Result<String, DecodeError>
-    ensures ok { IfOk result (λ x. Front (freedoms variant) (Per.form (fronts.is_aligned variant) (Asn1.character_string Asn1.utf8 (sizes_of _constraints.entry.size) (alphabet_of _constraints.entry.permitted_alphabet) any_count) (Asn1Value.text (string_bytes x))) cursor.old cursor.new) }
-    ensures only { IfErr result (Misses (freedoms variant) (Per.form (fronts.is_aligned variant) (Asn1.character_string Asn1.utf8 (sizes_of _constraints.entry.size) (alphabet_of _constraints.entry.permitted_alphabet) any_count)) cursor.old) }
+    ensures ok { IfOk result (λ x. Front (freedoms variant)
+        (Per.form (fronts.is_aligned variant)
+        (Asn1.character_string Asn1.utf8 (sizes_of _constraints.entry.size)
+        (alphabet_of _constraints.entry.permitted_alphabet) any_count) (Asn1Value.text (string_bytes x))) cursor.old
+        cursor.new) }
+    ensures only { IfErr result (Misses (freedoms variant)
+        (Per.form (fronts.is_aligned variant)
+        (Asn1.character_string Asn1.utf8 (sizes_of _constraints.entry.size)
+        (alphabet_of _constraints.entry.permitted_alphabet) any_count)) cursor.old) }
 {
     let octets = read_counted_octets(alloc, cursor, variant)?;
     let Some(text) = text_of(octets.as_slice()) else {

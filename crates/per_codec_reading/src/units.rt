@@ -33,8 +33,10 @@ pub fn read_bit(cursor: &mut Cursor<'_>, variant: Variant) -> Result<bool, Decod
 /// `Incomplete` if there is no bit.
 #[inline(always)]
 pub fn read_boolean(cursor: &mut Cursor<'_>, variant: Variant) -> Result<bool, DecodeError>
-    ensures ok { IfOk result (λ b. Front (freedoms variant) (Per.form (fronts.is_aligned variant) Asn1.boolean (Asn1Value.truth b)) cursor.old cursor.new) }
-    ensures only { IfErr result (Misses (freedoms variant) (Per.form (fronts.is_aligned variant) Asn1.boolean) cursor.old) }
+    ensures ok { IfOk result (λ b. Front (freedoms variant)
+        (Per.form (fronts.is_aligned variant) Asn1.boolean (Asn1Value.truth b)) cursor.old cursor.new) }
+    ensures only { IfErr result (Misses (freedoms variant)
+        (Per.form (fronts.is_aligned variant) Asn1.boolean) cursor.old) }
     ensures short { IfErr result (λ e. e ≡ DecodeError.Incomplete) }
 {
     read_bit(cursor, variant)
@@ -43,8 +45,10 @@ pub fn read_boolean(cursor: &mut Cursor<'_>, variant: Variant) -> Result<bool, D
 /// Reads the value of NULL (X.691 18), which has no bits.
 #[inline(always)]
 pub fn read_null(cursor: &mut Cursor<'_>, variant: Variant) -> Result<(), DecodeError>
-    ensures ok { OnOk result (Front (freedoms variant) (Per.form (fronts.is_aligned variant) Asn1.null Asn1Value.nothing) cursor.old cursor.new) }
-    ensures only { IfErr result (Misses (freedoms variant) (Per.form (fronts.is_aligned variant) Asn1.null) cursor.old) }
+    ensures ok { OnOk result (Front (freedoms variant)
+        (Per.form (fronts.is_aligned variant) Asn1.null Asn1Value.nothing) cursor.old cursor.new) }
+    ensures only { IfErr result (Misses (freedoms variant)
+        (Per.form (fronts.is_aligned variant) Asn1.null) cursor.old) }
     ensures always { IfErr result (λ _. ⊥) }
 {
     Ok(())

@@ -20,7 +20,8 @@ added_form al count i = only_if (ltb i count) (normally_small al i)
 
 -- The mark of extensibility, if there is one, and the place.
 abbrev pub place_form : Bool → ℕ → Bool → ℕ → Chosen → BitForm
-place_form al roots e others c = both (size_mark e c.added) (cond c.added (added_form al others c.place) (root_form al roots c.place))
+place_form al roots e others c = both (size_mark e c.added)
+    (cond c.added (added_form al others c.place) (root_form al roots c.place))
 
 -- There is no item at the place: it is past those of its table.
 abbrev pub NoItem : List ℤ → Bool → List ℤ → Chosen → Type 0

@@ -36,4 +36,5 @@ behind_mark al out b v = cond out (unconstrained al v) (whole_number al (lower b
 
 -- A number under a value constraint: by its bounds, or marked as outside of them (X.691 13.1 and 13.2).
 abbrev pub under_constraint : Bool → Extensible Value → ℤ → BitForm
-under_constraint al c v = marked (has_additions c) (is_within (range_of c.constraint.value) v) (whole_number al (lower c.constraint.value) (upper c.constraint.value) v) (unconstrained al v)
+under_constraint al c v = marked (has_additions c) (is_within (range_of c.constraint.value) v)
+    (whole_number al (lower c.constraint.value) (upper c.constraint.value) v) (unconstrained al v)

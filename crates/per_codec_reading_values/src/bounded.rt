@@ -42,8 +42,11 @@ fn read_between(
     low: i128,
     high: i128,
 ) -> Result<i128, DecodeError>
-    ensures ok { IfOk result (λ number. Front (freedoms variant) (in_128_bits (Per.whole_number (fronts.is_aligned variant) (Some low) (Some high)) number) cursor.old cursor.new) }
-    ensures only { IfErr result (Misses (freedoms variant) (in_128_bits (Per.whole_number (fronts.is_aligned variant) (Some low) (Some high))) cursor.old) }
+    ensures ok { IfOk result (λ number. Front (freedoms variant)
+        (in_128_bits (Per.whole_number (fronts.is_aligned variant) (Some low) (Some high)) number) cursor.old
+        cursor.new) }
+    ensures only { IfErr result (Misses (freedoms variant)
+        (in_128_bits (Per.whole_number (fronts.is_aligned variant) (Some low) (Some high))) cursor.old) }
 {
     if high < low {
         return Err(DecodeError::ValueConstraintNotSatisfied);
@@ -56,15 +59,18 @@ fn read_between(
 ///
 /// # Errors
 ///
-/// `ValueConstraintNotSatisfied` if 128 bits of two's complement do not hold it, and the errors of octets behind their number.
+/// `ValueConstraintNotSatisfied` if 128 bits of two's complement do not hold it, and the errors of octets behind their
+/// number.
 fn read_from(
     alloc: Global,
     cursor: &mut Cursor<'_>,
     variant: Variant,
     low: i128,
 ) -> Result<i128, DecodeError>
-    ensures ok { IfOk result (λ number. Front (freedoms variant) (in_128_bits (Per.whole_number (fronts.is_aligned variant) (Some low) None) number) cursor.old cursor.new) }
-    ensures only { IfErr result (Misses (freedoms variant) (in_128_bits (Per.whole_number (fronts.is_aligned variant) (Some low) None)) cursor.old) }
+    ensures ok { IfOk result (λ number. Front (freedoms variant)
+        (in_128_bits (Per.whole_number (fronts.is_aligned variant) (Some low) None) number) cursor.old cursor.new) }
+    ensures only { IfErr result (Misses (freedoms variant)
+        (in_128_bits (Per.whole_number (fronts.is_aligned variant) (Some low) None)) cursor.old) }
 {
     let above = read_semi_constrained(alloc, cursor, variant)?;
     number_above(low, above)
@@ -74,16 +80,18 @@ fn read_from(
 ///
 /// # Errors
 ///
-/// `ValueConstraintNotSatisfied` if it is above that, or if 128 bits of two's complement do not hold it, and the errors of octets behind
-/// their number.
+/// `ValueConstraintNotSatisfied` if it is above that, or if 128 bits of two's complement do not hold it, and the errors
+/// of octets behind their number.
 fn read_up_to(
     alloc: Global,
     cursor: &mut Cursor<'_>,
     variant: Variant,
     high: i128,
 ) -> Result<i128, DecodeError>
-    ensures ok { IfOk result (λ number. Front (freedoms variant) (in_128_bits (Per.whole_number (fronts.is_aligned variant) None (Some high)) number) cursor.old cursor.new) }
-    ensures only { IfErr result (Misses (freedoms variant) (in_128_bits (Per.whole_number (fronts.is_aligned variant) None (Some high))) cursor.old) }
+    ensures ok { IfOk result (λ number. Front (freedoms variant)
+        (in_128_bits (Per.whole_number (fronts.is_aligned variant) None (Some high)) number) cursor.old cursor.new) }
+    ensures only { IfErr result (Misses (freedoms variant)
+        (in_128_bits (Per.whole_number (fronts.is_aligned variant) None (Some high))) cursor.old) }
 {
     let number = read_unconstrained(alloc, cursor, variant)?;
     if number > high {
@@ -100,8 +108,11 @@ fn read_root(
     variant: Variant,
     bounds: Bounded<i128>,
 ) -> Result<i128, DecodeError>
-    ensures ok { IfOk result (λ number. Front (freedoms variant) (in_128_bits (Per.whole_number (fronts.is_aligned variant) (lower bounds) (upper bounds)) number) cursor.old cursor.new) }
-    ensures only { IfErr result (Misses (freedoms variant) (in_128_bits (Per.whole_number (fronts.is_aligned variant) (lower bounds) (upper bounds))) cursor.old) }
+    ensures ok { IfOk result (λ number. Front (freedoms variant)
+        (in_128_bits (Per.whole_number (fronts.is_aligned variant) (lower bounds) (upper bounds)) number) cursor.old
+        cursor.new) }
+    ensures only { IfErr result (Misses (freedoms variant)
+        (in_128_bits (Per.whole_number (fronts.is_aligned variant) (lower bounds) (upper bounds))) cursor.old) }
 {
     match bounds {
         Bounded::None => read_unconstrained(alloc, cursor, variant),
@@ -123,8 +134,10 @@ fn read_marked(
     is_outside: bool,
     bounds: Bounded<i128>,
 ) -> Result<i128, DecodeError>
-    ensures ok { IfOk result (λ number. Front (freedoms variant) (in_128_bits (behind_mark (fronts.is_aligned variant) is_outside bounds) number) cursor.old cursor.new) }
-    ensures only { IfErr result (Misses (freedoms variant) (in_128_bits (behind_mark (fronts.is_aligned variant) is_outside bounds)) cursor.old) }
+    ensures ok { IfOk result (λ number. Front (freedoms variant)
+        (in_128_bits (behind_mark (fronts.is_aligned variant) is_outside bounds) number) cursor.old cursor.new) }
+    ensures only { IfErr result (Misses (freedoms variant)
+        (in_128_bits (behind_mark (fronts.is_aligned variant) is_outside bounds)) cursor.old) }
 {
     if is_outside {
         return read_unconstrained(alloc, cursor, variant);
@@ -132,13 +145,14 @@ fn read_marked(
     read_root(alloc, cursor, variant, bounds)
 }
 
-/// Reads a number under a value constraint (X.691 13), which is one of 128 bits: where a mark of extensibility follows the bounds a bit
-/// tells whether they count, and numbers within them are also taken where they do not.
+/// Reads a number under a value constraint (X.691 13), which is one of 128 bits: where a mark of extensibility follows
+/// the bounds a bit tells whether they count, and numbers within them are also taken where they do not.
 ///
 /// # Errors
 ///
-/// `Incomplete` if the bits end early, `ZeroLengthOfLength` if the number has no octets, `ValueConstraintNotSatisfied` if it is outside the
-/// bounds, or if 128 bits of two's complement do not hold it, the errors of a length, and `OutOfMemory`.
+/// `Incomplete` if the bits end early, `ZeroLengthOfLength` if the number has no octets, `ValueConstraintNotSatisfied`
+/// if it is outside the bounds, or if 128 bits of two's complement do not hold it, the errors of a length, and
+/// `OutOfMemory`.
 #[inline(always)]
 pub fn read_bounded(
     alloc: Global,
@@ -146,8 +160,10 @@ pub fn read_bounded(
     variant: Variant,
     constraint: Extensible<'_, Value>,
 ) -> Result<i128, DecodeError>
-    ensures ok { IfOk result (λ number. Front (freedoms variant) (in_128_bits (under_constraint (fronts.is_aligned variant) constraint.entry) number) cursor.old cursor.new) }
-    ensures only { IfErr result (Misses (freedoms variant) (in_128_bits (under_constraint (fronts.is_aligned variant) constraint.entry)) cursor.old) }
+    ensures ok { IfOk result (λ number. Front (freedoms variant)
+        (in_128_bits (under_constraint (fronts.is_aligned variant) constraint.entry) number) cursor.old cursor.new) }
+    ensures only { IfErr result (Misses (freedoms variant)
+        (in_128_bits (under_constraint (fronts.is_aligned variant) constraint.entry)) cursor.old) }
 {
     let bounds = constraint.constraint.value;
     if constraint.extensible.is_none() {

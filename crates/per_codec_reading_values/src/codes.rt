@@ -25,7 +25,8 @@ pub fn string_of<S: StaticPermittedAlphabet>(
     requires whole { length (bits_of codes) ≡ count * alphabet.now.code_bits }
     ensures count { IfOk result (λ s. length (S.characters s) ≡ count) }
     ensures codes { IfOk result (λ s. Spells S.kind alphabet.now (S.characters s) (bits_of codes.entry)) }
-    ensures refused { IfErr result (λ e. (e ≡ DecodeError.OutOfMemory) ⊎ (IsFitting alphabet.now → Stuck S.kind alphabet.now count (bits_of codes.entry))) }
+    ensures refused { IfErr result (λ e. (e ≡ DecodeError.OutOfMemory)
+        ⊎ (IsFitting alphabet.now → Stuck S.kind alphabet.now count (bits_of codes.entry))) }
     ensures fresh { IfErr result IsFresh }
 {
     let width = alphabet.width();

@@ -35,13 +35,15 @@ fn read_bits<'input>(
     Ok(RunBits::Lent(bits))
 }
 
-/// Reads bits behind a normally small length (X.691 11.9.3.4): up to 64 of them behind six bits, or any number behind a general length.
+/// Reads bits behind a normally small length (X.691 11.9.3.4): up to 64 of them behind six bits, or any number behind a
+/// general length.
 fn read_bitmap<'input>(
     alloc: Global,
     cursor: &mut Cursor<'input>,
     variant: Variant,
 ) -> Result<RunBits<'input>, DecodeError>
-    ensures ok { IfOk result (λ bits. Front (freedoms variant) (few_form (fronts.is_aligned variant) (bits_in bits)) cursor.old cursor.new) }
+    ensures ok { IfOk result (λ bits. Front (freedoms variant)
+        (few_form (fronts.is_aligned variant) (bits_in bits)) cursor.old cursor.new) }
     ensures only { IfErr result (Misses (freedoms variant) (few_form (fronts.is_aligned variant)) cursor.old) }
 {
     let is_long = read_bit(cursor, variant)?;
@@ -64,7 +66,8 @@ pub(crate) fn read_octets<'input>(
     cursor: &mut Cursor<'input>,
     variant: Variant,
 ) -> Result<RunBits<'input>, DecodeError>
-    ensures ok { IfOk result (λ bits. Front (freedoms variant) (octets_form (fronts.is_aligned variant) (bits_in bits)) cursor.old cursor.new) }
+    ensures ok { IfOk result (λ bits. Front (freedoms variant)
+        (octets_form (fronts.is_aligned variant) (bits_in bits)) cursor.old cursor.new) }
     ensures whole { IfOk result (λ bits. length (bits_in bits) % 8 ≡ 0) }
     ensures lent { IfOk result LentInOneRun }
     ensures last { IfOk result (λ bits. EndsWithLent bits cursor.old cursor.new) }
@@ -86,7 +89,8 @@ pub(crate) fn read_field<'input>(
     variant: Variant,
     field: Field,
 ) -> Result<RunBits<'input>, DecodeError>
-    ensures ok { IfOk result (λ bits. Front (freedoms variant) (field_form (fronts.is_aligned variant) field (bits_in bits)) cursor.old cursor.new) }
+    ensures ok { IfOk result (λ bits. Front (freedoms variant)
+        (field_form (fronts.is_aligned variant) field (bits_in bits)) cursor.old cursor.new) }
     ensures only { IfErr result (Misses (freedoms variant) (field_form (fronts.is_aligned variant) field) cursor.old) }
 {
     match field {

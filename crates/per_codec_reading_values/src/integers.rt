@@ -34,7 +34,8 @@ fn value_of<I: IntegerType>(alloc: Global, octets: &[u8]) -> Result<I, DecodeErr
     requires { 0 < length octets.now }
     ensures value { IfOk result (λ x. I.value x ≡ signed_number octets.now) }
     ensures held { OnOk result (is_within I.held (signed_number octets.now) ≡ true) }
-    ensures refused { IfErr result (λ e. (e ≡ DecodeError.OutOfMemory) ⊎ (is_within I.held (signed_number octets.now) ≡ false)) }
+    ensures refused { IfErr result (λ e. (e ≡ DecodeError.OutOfMemory)
+        ⊎ (is_within I.held (signed_number octets.now) ≡ false)) }
     ensures fresh { IfErr result IsFresh }
 {
     match I::try_from_signed_bytes(alloc, octets) {
@@ -61,8 +62,9 @@ fn held_number<I: IntegerType>(number: i128) -> Result<I, DecodeError>
 ///
 /// # Errors
 ///
-/// `Incomplete` if the bits end early, `ZeroLengthOfLength` if the number has no octets, `ValueConstraintNotSatisfied` if the constraint
-/// does not admit it, `IntegerOverflow` if the program's type does not hold it, the errors of a length, and `OutOfMemory`.
+/// `Incomplete` if the bits end early, `ZeroLengthOfLength` if the number has no octets, `ValueConstraintNotSatisfied`
+/// if the constraint does not admit it, `IntegerOverflow` if the program's type does not hold it, the errors of a
+/// length, and `OutOfMemory`.
 #[inline(always)]
 pub fn read_integer<I: IntegerType>(
     alloc: Global,
@@ -70,8 +72,13 @@ pub fn read_integer<I: IntegerType>(
     variant: Variant,
     constraints: Constraints,
 ) -> Result<I, DecodeError>
-    ensures ok { IfOk result (λ x. Front (freedoms variant) (Per.form (fronts.is_aligned variant) (Asn1.integer (bounds_of constraints.entry.value) (held_of constraints.entry.value I.held)) (Asn1Value.number (I.value x))) cursor.old cursor.new) }
-    ensures only { IfErr result (Misses (freedoms variant) (Per.form (fronts.is_aligned variant) (Asn1.integer (bounds_of constraints.entry.value) (held_of constraints.entry.value I.held))) cursor.old) }
+    ensures ok { IfOk result (λ x. Front (freedoms variant)
+        (Per.form (fronts.is_aligned variant)
+        (Asn1.integer (bounds_of constraints.entry.value) (held_of constraints.entry.value I.held))
+        (Asn1Value.number (I.value x))) cursor.old cursor.new) }
+    ensures only { IfErr result (Misses (freedoms variant)
+        (Per.form (fronts.is_aligned variant)
+        (Asn1.integer (bounds_of constraints.entry.value) (held_of constraints.entry.value I.held))) cursor.old) }
 {
     let Some(constraint) = constraints.value else {
         let octets = read_number_octets(alloc, cursor, variant)?;

@@ -17,7 +17,8 @@ use std::alloc::Global;
 
 /// The item at a place, if there is one.
 fn item_at<T: Enumerated>(chosen: Chosen) -> Option<T>
-    ensures some { IfSome result (λ x. IsPlaced T.roots T.extensible T.additions (T.number x) chosen.added chosen.place) }
+    ensures some { IfSome result (λ x. IsPlaced T.roots T.extensible T.additions
+        (T.number x) chosen.added chosen.place) }
     ensures none { IfNone result (NoItem T.roots T.extensible T.additions chosen) }
 {
     if chosen.added {
@@ -26,7 +27,8 @@ fn item_at<T: Enumerated>(chosen: Chosen) -> Option<T>
     T::from_enumeration_index(chosen.place)
 }
 
-/// Reads an item of an enumeration (X.691 14): the place of a root item, or that of an added one behind the mark of extensibility.
+/// Reads an item of an enumeration (X.691 14): the place of a root item, or that of an added one behind the mark of
+/// extensibility.
 ///
 /// # Errors
 ///
@@ -36,8 +38,11 @@ pub fn read_item<T: Enumerated>(
     cursor: &mut Cursor<'_>,
     variant: Variant,
 ) -> Result<T, DecodeError>
-    ensures ok { IfOk result (λ x. Front (freedoms variant) (Per.form (fronts.is_aligned variant) (Asn1.enumerated T.roots T.extensible T.additions) (Asn1Value.item (T.number x))) cursor.old cursor.new) }
-    ensures only { IfErr result (Misses (freedoms variant) (Per.form (fronts.is_aligned variant) (Asn1.enumerated T.roots T.extensible T.additions)) cursor.old) }
+    ensures ok { IfOk result (λ x. Front (freedoms variant)
+        (Per.form (fronts.is_aligned variant) (Asn1.enumerated T.roots T.extensible T.additions)
+        (Asn1Value.item (T.number x))) cursor.old cursor.new) }
+    ensures only { IfErr result (Misses (freedoms variant)
+        (Per.form (fronts.is_aligned variant) (Asn1.enumerated T.roots T.extensible T.additions)) cursor.old) }
 {
     let extensible = T::extended_variants().is_some();
     let roots = T::variance();

@@ -25,7 +25,8 @@ pub fn read_number_octets<'input>(
     cursor: &mut Cursor<'input>,
     variant: Variant,
 ) -> Result<CowSlice<'input, u8>, DecodeError>
-    ensures ok { IfOk result (λ octets. Front (freedoms variant) (number_octets (fronts.is_aligned variant) (cow_slice_items octets)) cursor.old cursor.new) }
+    ensures ok { IfOk result (λ octets. Front (freedoms variant)
+        (number_octets (fronts.is_aligned variant) (cow_slice_items octets)) cursor.old cursor.new) }
     ensures some { IfOk result (λ octets. 0 < length (cow_slice_items octets)) }
     ensures only { IfErr result (Misses (freedoms variant) (number_octets (fronts.is_aligned variant)) cursor.old) }
 {
@@ -62,8 +63,10 @@ pub fn read_unconstrained(
     cursor: &mut Cursor<'_>,
     variant: Variant,
 ) -> Result<i128, DecodeError>
-    ensures ok { IfOk result (λ number. Front (freedoms variant) (in_128_bits (Per.unconstrained (fronts.is_aligned variant)) number) cursor.old cursor.new) }
-    ensures only { IfErr result (Misses (freedoms variant) (in_128_bits (Per.unconstrained (fronts.is_aligned variant))) cursor.old) }
+    ensures ok { IfOk result (λ number. Front (freedoms variant)
+        (in_128_bits (Per.unconstrained (fronts.is_aligned variant)) number) cursor.old cursor.new) }
+    ensures only { IfErr result (Misses (freedoms variant)
+        (in_128_bits (Per.unconstrained (fronts.is_aligned variant))) cursor.old) }
 {
     let octets = read_number_octets(alloc, cursor, variant)?;
     match whole_number(octets.as_slice()) {
@@ -82,7 +85,8 @@ pub fn read_semi_constrained(
     cursor: &mut Cursor<'_>,
     variant: Variant,
 ) -> Result<u128, DecodeError>
-    ensures ok { IfOk result (λ above. Front (freedoms variant) (offset_form (fronts.is_aligned variant) above) cursor.old cursor.new) }
+    ensures ok { IfOk result (λ above. Front (freedoms variant)
+        (offset_form (fronts.is_aligned variant) above) cursor.old cursor.new) }
     ensures only { IfErr result (Misses (freedoms variant) (offset_form (fronts.is_aligned variant)) cursor.old) }
 {
     let octets = read_number_octets(alloc, cursor, variant)?;

@@ -25,7 +25,8 @@ fn read_mark(
     variant: Variant,
     extensible: bool,
 ) -> Result<bool, DecodeError>
-    ensures ok { IfOk result (λ is_added. Front (freedoms variant) (size_mark extensible is_added) cursor.old cursor.new) }
+    ensures ok { IfOk result (λ is_added. Front (freedoms variant)
+        (size_mark extensible is_added) cursor.old cursor.new) }
     ensures only { IfErr result (Misses (freedoms variant) (size_mark extensible) cursor.old) }
 {
     if !extensible {
@@ -41,7 +42,8 @@ fn read_mark(
 ///
 /// `ValueConstraintNotSatisfied` if there is none at the place, and the errors of a number.
 fn read_root(cursor: &mut Cursor<'_>, variant: Variant, count: usize) -> Result<usize, DecodeError>
-    ensures ok { IfOk result (λ place. Front (freedoms variant) (root_form (fronts.is_aligned variant) count place) cursor.old cursor.new) }
+    ensures ok { IfOk result (λ place. Front (freedoms variant)
+        (root_form (fronts.is_aligned variant) count place) cursor.old cursor.new) }
     ensures only { IfErr result (Misses (freedoms variant) (root_form (fronts.is_aligned variant) count) cursor.old) }
 {
     if count == 0 {
@@ -62,7 +64,8 @@ fn read_added(
     variant: Variant,
     count: usize,
 ) -> Result<usize, DecodeError>
-    ensures ok { IfOk result (λ place. Front (freedoms variant) (added_form (fronts.is_aligned variant) count place) cursor.old cursor.new) }
+    ensures ok { IfOk result (λ place. Front (freedoms variant)
+        (added_form (fronts.is_aligned variant) count place) cursor.old cursor.new) }
     ensures only { IfErr result (Misses (freedoms variant) (added_form (fronts.is_aligned variant) count) cursor.old) }
 {
     let place = read_normally_small(alloc, cursor, variant)?;
@@ -72,8 +75,8 @@ fn read_added(
     Ok(place as usize)
 }
 
-/// Reads the place of an item or alternative, of which there are so many in the root and so many behind the mark of extensibility, if the
-/// type has that (X.691 14 and 23).
+/// Reads the place of an item or alternative, of which there are so many in the root and so many behind the mark of
+/// extensibility, if the type has that (X.691 14 and 23).
 ///
 /// # Errors
 ///
@@ -86,8 +89,10 @@ fn read_place(
     extensible: bool,
     others: usize,
 ) -> Result<Chosen, DecodeError>
-    ensures ok { IfOk result (λ place. Front (freedoms variant) (place_form (fronts.is_aligned variant) roots extensible others place) cursor.old cursor.new) }
-    ensures only { IfErr result (Misses (freedoms variant) (place_form (fronts.is_aligned variant) roots extensible others) cursor.old) }
+    ensures ok { IfOk result (λ place. Front (freedoms variant)
+        (place_form (fronts.is_aligned variant) roots extensible others place) cursor.old cursor.new) }
+    ensures only { IfErr result (Misses (freedoms variant)
+        (place_form (fronts.is_aligned variant) roots extensible others) cursor.old) }
 {
     let is_added = read_mark(cursor, variant, extensible)?;
     if is_added {
@@ -111,8 +116,10 @@ pub(crate) fn read_place_of_item(
     extensible: bool,
     others: usize,
 ) -> Result<Chosen, DecodeError>
-    ensures ok { IfOk result (λ place. Front (freedoms variant) (place_form (fronts.is_aligned variant) roots extensible others place) cursor.old cursor.new) }
-    ensures only { IfErr result (Misses (freedoms variant) (place_form (fronts.is_aligned variant) roots extensible others) cursor.old) }
+    ensures ok { IfOk result (λ place. Front (freedoms variant)
+        (place_form (fronts.is_aligned variant) roots extensible others place) cursor.old cursor.new) }
+    ensures only { IfErr result (Misses (freedoms variant)
+        (place_form (fronts.is_aligned variant) roots extensible others) cursor.old) }
 {
     match read_place(alloc, cursor, variant, roots, extensible, others) {
         Err(DecodeError::ValueConstraintNotSatisfied) => {
@@ -135,8 +142,10 @@ pub fn read_place_of_alternative(
     extensible: bool,
     others: usize,
 ) -> Result<Chosen, DecodeError>
-    ensures ok { IfOk result (λ place. Front (freedoms variant) (place_form (fronts.is_aligned variant) roots extensible others place) cursor.old cursor.new) }
-    ensures only { IfErr result (Misses (freedoms variant) (place_form (fronts.is_aligned variant) roots extensible others) cursor.old) }
+    ensures ok { IfOk result (λ place. Front (freedoms variant)
+        (place_form (fronts.is_aligned variant) roots extensible others place) cursor.old cursor.new) }
+    ensures only { IfErr result (Misses (freedoms variant)
+        (place_form (fronts.is_aligned variant) roots extensible others) cursor.old) }
 {
     match read_place(alloc, cursor, variant, roots, extensible, others) {
         Err(DecodeError::ValueConstraintNotSatisfied) => {

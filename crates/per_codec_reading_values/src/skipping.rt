@@ -1,10 +1,9 @@
 //! Unknown additions, which are passed over by their lengths (X.691 19.8 and 19.9).
-ghost use Rattle.std.specs.Prelude.{◌≡◌, ◌*◌, ◌≤◌, IfOk, OnOk, IfErr};
+ghost use Rattle.std.specs.Prelude.{IfOk, OnOk, IfErr};
 ghost use Rattle.per_codec_fronts.specs.Takes.{Front, Skips};
 ghost use Rattle.per_codec_reading.specs.Fronts as fronts;
 ghost use Rattle.per_codec_reading.specs.Fronts.{freedoms, IsFresh, Misses};
-ghost use Rattle.per_codec_reading.specs.Lengths.{IsLength};
-ghost use Rattle.per_codec_reading.specs.Units.{count_of, counted_units, piece_form};
+ghost use Rattle.per_codec_reading.specs.Units.{counted_units, piece_form};
 ghost use Rattle.per_codec_reading_values.specs.Fields.{HasPiece, HasUnits, NoSkip};
 
 use crate::stretches::Stretch;
@@ -12,25 +11,14 @@ use asn1_schema_faults::DecodeError;
 use per_codec_reading::lengths::{Length, read_length};
 use per_codec_reading::{Cursor, Variant};
 
-/// How many octets stand behind a length.
-fn octet_count(length: Length) -> usize
-    requires { IsLength length }
-    ensures count { result ≡ count_of length }
-    ensures few { result ≤ 65536 }
-{
-    match length {
-        Length::Short(count) => count,
-        Length::Fragment(multiple) => multiple * 16384,
-    }
-}
-
 /// Passes over a length, and as many octets behind it.
 fn skip_piece(cursor: &mut Cursor<'_>, variant: Variant) -> Result<Length, DecodeError>
-    ensures ok { IfOk result (λ length. HasPiece (freedoms variant) (fronts.is_aligned variant) length cursor.old cursor.new) }
+    ensures ok { IfOk result (λ length. HasPiece (freedoms variant)
+        (fronts.is_aligned variant) length cursor.old cursor.new) }
     ensures only { IfErr result (Misses (freedoms variant) (piece_form (fronts.is_aligned variant) 8) cursor.old) }
 {
     let length = read_length(cursor, variant)?;
-    let _octets = cursor.take(octet_count(length) * 8)?;
+    let _octets = cursor.take(length.count() * 8)?;
     Ok(length)
 }
 
@@ -47,7 +35,8 @@ fn skip_octets(cursor: &mut Cursor<'_>, variant: Variant) -> Result<(), DecodeEr
     }
 }
 
-/// Passes over unknown additions by their lengths, as the presence bits tell which are there (X.691 19.8). No memory is taken.
+/// Passes over unknown additions by their lengths, as the presence bits tell which are there (X.691 19.8). No memory is
+/// taken.
 ///
 /// # Errors
 ///
@@ -57,7 +46,8 @@ pub fn skip_unknown(
     variant: Variant,
     mut marks: Stretch<'_>,
 ) -> Result<(), DecodeError>
-    ensures ok { OnOk result (Skips (fronts.is_aligned variant) (freedoms variant) marks.entry.place.1 cursor.old cursor.new) }
+    ensures ok { OnOk result (Skips (fronts.is_aligned variant)
+        (freedoms variant) marks.entry.place.1 cursor.old cursor.new) }
     ensures only { IfErr result (NoSkip (freedoms variant) (fronts.is_aligned variant) marks.entry.place.1 cursor.old) }
     ensures fresh { IfErr result IsFresh }
 {

@@ -1,5 +1,6 @@
 //! A stretch of bits, and how far it is read.
-ghost use Rattle.std.specs.Prelude.{◌≡◌, ◌≤◌, ◌-◌, ◌^◌, ◌∷◌, [], length, take, drop, Some, None, IsTrue, ◌↔◌, OnOk, IfOk, IfErr, IfSome, IfNone};
+ghost use Rattle.std.specs.Prelude.{◌≡◌, ◌≤◌, ◌-◌, ◌^◌, ◌∷◌, [], length, take, drop, Some, None, IsTrue, ◌↔◌, OnOk};
+ghost use Rattle.std.specs.Prelude.{IfOk, IfErr, IfSome, IfNone};
 ghost use Rattle.asn1_model.specs.Numbers.{octet_bits};
 ghost use Rattle.asn1_values_bits.specs.BitStr as bit_strs;
 ghost use Rattle.per_codec_fronts.specs.Takes.{Place, Front};
@@ -32,7 +33,10 @@ impl<'input> Model for Stretch<'input> {
 
     ghost Value = { Stretched };
 
-    ghost view = { λ stretch. record { place = (stretch.position, drop stretch.position (bits_in stretch.bits)); storage = storage_of stretch.bits } };
+    ghost view = { λ stretch. record {
+      place = (stretch.position, drop stretch.position (bits_in stretch.bits));
+      storage = storage_of stretch.bits;
+    } };
 
     ghost invariant = { λ stretch. stretch.position ≤ length (bits_in stretch.bits) };
 }
@@ -74,8 +78,8 @@ fn cursor_at<'a>(bits: BitStr<'a>, position: usize) -> Cursor<'a>
     }
 }
 
-/// Takes bits as a whole behind so many of the bits, and tells the position behind them. They are lent where the bits are, and held where
-/// those are.
+/// Takes bits as a whole behind so many of the bits, and tells the position behind them. They are lent where the bits
+/// are, and held where those are.
 #[inline(always)]
 fn take_field<'input>(
     alloc: Global,
@@ -85,8 +89,11 @@ fn take_field<'input>(
     field: Field,
 ) -> Result<(RunBits<'input>, usize), DecodeError>
     requires { position ≤ length (bits_in bits.now) }
-    ensures ok { IfOk result (λ taken. EndsAt (freedoms variant) (field_form (fronts.is_aligned variant) field (bits_in taken.0)) (position, drop position (bits_in bits.now)) taken.1) }
-    ensures only { IfErr result (Misses (freedoms variant) (field_form (fronts.is_aligned variant) field) (position, drop position (bits_in bits.now))) }
+    ensures ok { IfOk result (λ taken. EndsAt (freedoms variant)
+        (field_form (fronts.is_aligned variant) field (bits_in taken.0))
+        (position, drop position (bits_in bits.now)) taken.1) }
+    ensures only { IfErr result (Misses (freedoms variant) (field_form (fronts.is_aligned variant) field)
+        (position, drop position (bits_in bits.now))) }
 {
     match bits {
         RunBits::Lent(bits) => {
@@ -103,7 +110,8 @@ fn take_field<'input>(
     }
 }
 
-/// Takes octets behind their number, behind so many lent bits, and tells the position behind them. In one run the same octets lend them.
+/// Takes octets behind their number, behind so many lent bits, and tells the position behind them. In one run the same
+/// octets lend them.
 fn take_lent_octets<'input>(
     alloc: Global,
     bits: BitStr<'input>,
@@ -111,9 +119,13 @@ fn take_lent_octets<'input>(
     variant: Variant,
 ) -> Result<(RunBits<'input>, usize), DecodeError>
     requires { position ≤ length (bit_strs.bits_of bits) }
-    ensures ok { IfOk result (λ taken. EndsAt (freedoms variant) (octets_form (fronts.is_aligned variant) (bits_in taken.0)) (position, drop position (bit_strs.bits_of bits.entry)) taken.1) }
-    ensures storage { IfOk result (λ taken. storage_of taken.0 ≡ storage_inside (Some (bit_strs.offset_of bits.entry)) (length (bits_in taken.0)) taken.1) }
-    ensures only { IfErr result (Misses (freedoms variant) (octets_form (fronts.is_aligned variant)) (position, drop position (bit_strs.bits_of bits.entry))) }
+    ensures ok { IfOk result (λ taken. EndsAt (freedoms variant)
+        (octets_form (fronts.is_aligned variant) (bits_in taken.0))
+        (position, drop position (bit_strs.bits_of bits.entry)) taken.1) }
+    ensures storage { IfOk result (λ taken. storage_of taken.0 ≡ storage_inside (Some (bit_strs.offset_of bits.entry))
+        (length (bits_in taken.0)) taken.1) }
+    ensures only { IfErr result (Misses (freedoms variant) (octets_form (fronts.is_aligned variant))
+        (position, drop position (bit_strs.bits_of bits.entry))) }
 {
     let mut cursor = cursor_at(bits, position);
     let octets = read_octets(alloc, &mut cursor, variant)?;
@@ -129,8 +141,10 @@ fn take_held_octets(
     variant: Variant,
 ) -> Result<(BitBuffer, usize), DecodeError>
     requires { position ≤ length bits.now }
-    ensures ok { IfOk result (λ taken. EndsAt (freedoms variant) (octets_form (fronts.is_aligned variant) taken.0) (position, drop position bits.now) taken.1) }
-    ensures only { IfErr result (Misses (freedoms variant) (octets_form (fronts.is_aligned variant)) (position, drop position bits.now)) }
+    ensures ok { IfOk result (λ taken. EndsAt (freedoms variant) (octets_form (fronts.is_aligned variant) taken.0)
+        (position, drop position bits.now) taken.1) }
+    ensures only { IfErr result (Misses (freedoms variant) (octets_form (fronts.is_aligned variant))
+        (position, drop position bits.now)) }
 {
     let mut cursor = cursor_at(bits.as_bitslice(), position);
     let octets = read_octets(alloc, &mut cursor, variant)?;
@@ -146,9 +160,13 @@ fn take_octets<'input>(
     variant: Variant,
 ) -> Result<(RunBits<'input>, usize), DecodeError>
     requires { position ≤ length (bits_in bits.now) }
-    ensures ok { IfOk result (λ taken. EndsAt (freedoms variant) (octets_form (fronts.is_aligned variant) (bits_in taken.0)) (position, drop position (bits_in bits.now)) taken.1) }
-    ensures storage { IfOk result (λ taken. storage_of taken.0 ≡ storage_inside (storage_of bits.now) (length (bits_in taken.0)) taken.1) }
-    ensures only { IfErr result (Misses (freedoms variant) (octets_form (fronts.is_aligned variant)) (position, drop position (bits_in bits.now))) }
+    ensures ok { IfOk result (λ taken. EndsAt (freedoms variant)
+        (octets_form (fronts.is_aligned variant) (bits_in taken.0))
+        (position, drop position (bits_in bits.now)) taken.1) }
+    ensures storage { IfOk result (λ taken. storage_of taken.0 ≡ storage_inside (storage_of bits.now)
+        (length (bits_in taken.0)) taken.1) }
+    ensures only { IfErr result (Misses (freedoms variant) (octets_form (fronts.is_aligned variant))
+        (position, drop position (bits_in bits.now))) }
 {
     match bits {
         RunBits::Lent(bits) => take_lent_octets(alloc, *bits, position, variant),
@@ -258,16 +276,18 @@ impl<'input> Stretch<'input> {
         field: Field,
     ) -> Result<Stretch<'input>, DecodeError>
         ensures start { IfOk result (λ taken. taken.place.0 ≡ 0) }
-        ensures ok { IfOk result (λ taken. Front (freedoms variant) (field_form (fronts.is_aligned variant) field taken.place.1) self.old.place self.new.place) }
+        ensures ok { IfOk result (λ taken. Front (freedoms variant)
+            (field_form (fronts.is_aligned variant) field taken.place.1) self.old.place self.new.place) }
         ensures storage { OnOk result (self.new.storage ≡ self.old.storage) }
-        ensures only { IfErr result (Misses (freedoms variant) (field_form (fronts.is_aligned variant) field) self.old.place) }
+        ensures only { IfErr result (Misses (freedoms variant)
+            (field_form (fronts.is_aligned variant) field) self.old.place) }
     {
         let (bits, position) = take_field(alloc, &self.bits, self.position, variant, field)?;
         self.move_to(position);
         Ok(Stretch::new(bits))
     }
-    /// Takes the octets of an open type behind their number (X.691 11.2). In one run they are lent where the bits are; those in fragments are
-    /// joined.
+    /// Takes the octets of an open type behind their number (X.691 11.2). In one run they are lent where the bits are;
+    /// those in fragments are joined.
     ///
     /// # Errors
     ///
@@ -278,10 +298,13 @@ impl<'input> Stretch<'input> {
         variant: Variant,
     ) -> Result<Stretch<'input>, DecodeError>
         ensures start { IfOk result (λ inside. inside.place.0 ≡ 0) }
-        ensures ok { IfOk result (λ inside. Front (freedoms variant) (octets_form (fronts.is_aligned variant) inside.place.1) self.old.place self.new.place) }
-        ensures inside { IfOk result (λ inside. inside.storage ≡ storage_inside self.old.storage (length inside.place.1) self.new.place.0) }
+        ensures ok { IfOk result (λ inside. Front (freedoms variant)
+            (octets_form (fronts.is_aligned variant) inside.place.1) self.old.place self.new.place) }
+        ensures inside { IfOk result (λ inside. inside.storage ≡ storage_inside self.old.storage
+            (length inside.place.1) self.new.place.0) }
         ensures storage { OnOk result (self.new.storage ≡ self.old.storage) }
-        ensures only { IfErr result (Misses (freedoms variant) (octets_form (fronts.is_aligned variant)) self.old.place) }
+        ensures only { IfErr result (Misses (freedoms variant)
+            (octets_form (fronts.is_aligned variant)) self.old.place) }
     {
         let (bits, position) = take_octets(alloc, &self.bits, self.position, variant)?;
         self.move_to(position);

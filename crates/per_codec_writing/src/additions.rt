@@ -13,8 +13,8 @@ use asn1_values_bits::BitBuffer;
 use per_codec_packing::Packing;
 use std::alloc::Global;
 
-/// Adds bits behind a normally small length: up to 64 in six bits behind one that is not set, else behind one that is set and a length
-/// (X.691 11.9.3.4).
+/// Adds bits behind a normally small length: up to 64 in six bits behind one that is not set, else behind one that is
+/// set and a length (X.691 11.9.3.4).
 ///
 /// # Errors
 ///
@@ -24,7 +24,9 @@ pub fn push_bitmap(
     aligned: bool,
     bitmap: &BitBuffer,
 ) -> Result<(), EncodeError>
-    ensures { MatchResult result (λ _. Adds (text_at (normally_few aligned (bit_units bitmap.now)) (place output.old)) output.old output.new) (λ e. e ≡ EncodeError.OutOfMemory) }
+    ensures { MatchResult result (λ _. Adds
+        (text_at (normally_few aligned (bit_units bitmap.now)) (place output.old)) output.old output.new)
+        (λ e. e ≡ EncodeError.OutOfMemory) }
 {
     let count = bitmap.len();
     if 1 <= count && count <= 64 {
@@ -49,15 +51,17 @@ fn presence(alloc: Global, slots: &[Option<BitBuffer>]) -> Result<BitBuffer, Enc
     Ok(bitmap)
 }
 
-/// Adds for each addition a bit that tells whether it is there, behind their normally small number (X.691 19.7 and 19.8). Up to 64 such bits take
-/// no memory of their own. The only error is want of memory.
+/// Adds for each addition a bit that tells whether it is there, behind their normally small number (X.691 19.7 and
+/// 19.8). Up to 64 such bits take no memory of their own. The only error is want of memory.
 fn push_presence(
     output: &mut Packing,
     aligned: bool,
     alloc: Global,
     slots: &[Option<BitBuffer>],
 ) -> Result<(), EncodeError>
-    ensures { MatchResult result (λ _. Adds (text_at (normally_few aligned (bit_units (map is_present slots.now))) (place output.old)) output.old output.new) (λ e. e ≡ EncodeError.OutOfMemory) }
+    ensures { MatchResult result (λ _. Adds
+        (text_at (normally_few aligned (bit_units (map is_present slots.now))) (place output.old)) output.old
+        output.new) (λ e. e ≡ EncodeError.OutOfMemory) }
 {
     let count = slots.len();
     if 1 <= count && count <= 64 {
@@ -78,7 +82,9 @@ fn push_present(
     aligned: bool,
     slots: &[Option<BitBuffer>],
 ) -> Result<(), EncodeError>
-    ensures { MatchResult result (λ _. Adds (text_at (joined (present_ones (as_open_types aligned slots.now))) (place output.old)) output.old output.new) (λ e. e ≡ EncodeError.OutOfMemory) }
+    ensures { MatchResult result (λ _. Adds
+        (text_at (joined (present_ones (as_open_types aligned slots.now))) (place output.old)) output.old output.new)
+        (λ e. e ≡ EncodeError.OutOfMemory) }
 {
     for slot in slots {
         if let Some(contents) = slot {
@@ -88,8 +94,8 @@ fn push_present(
     Ok(())
 }
 
-/// Adds the additions of a sequence or set, each given by its bits where it is there: their number, which of them are there, and these as
-/// open types (X.691 19.7 to 19.9).
+/// Adds the additions of a sequence or set, each given by its bits where it is there: their number, which of them are
+/// there, and these as open types (X.691 19.7 to 19.9).
 ///
 /// # Errors
 ///
@@ -100,7 +106,9 @@ pub fn push_additions(
     alloc: Global,
     slots: &[Option<BitBuffer>],
 ) -> Result<(), EncodeError>
-    ensures { MatchResult result (λ _. Adds (text_at (additions aligned (as_open_types aligned slots.now)) (place output.old)) output.old output.new) (λ e. e ≡ EncodeError.OutOfMemory) }
+    ensures { MatchResult result (λ _. Adds
+        (text_at (additions aligned (as_open_types aligned slots.now)) (place output.old)) output.old output.new)
+        (λ e. e ≡ EncodeError.OutOfMemory) }
 {
     push_presence(output, aligned, alloc, slots)?;
     push_present(output, aligned, slots)?;

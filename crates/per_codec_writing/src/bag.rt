@@ -14,12 +14,13 @@ use asn1_schema_faults::EncodeError;
 use per_codec_packing::{Packing, Texts};
 use std::alloc::Global;
 
-/// Adds the members of a bag behind their number, in the ascending order of their complete encodings (X.691 22), those of the same encoding as
-/// they stood. `held` are the numbers of members that the program's type holds.
+/// Adds the members of a bag behind their number, in the ascending order of their complete encodings (X.691 22), those
+/// of the same encoding as they stood. `held` are the numbers of members that the program's type holds.
 ///
 /// # Errors
 ///
-/// `SizeConstraintNotSatisfied` where the type does not hold so many, or a size constraint without a mark does not admit them; `OutOfMemory`.
+/// `SizeConstraintNotSatisfied` where the type does not hold so many, or a size constraint without a mark does not
+/// admit them; `OutOfMemory`.
 pub fn push_bag(
     alloc: Global,
     output: &mut Packing,
@@ -28,7 +29,12 @@ pub fn push_bag(
     held: Bounded<usize>,
     members: &Texts,
 ) -> Result<(), EncodeError>
-    ensures { MatchResult result (λ _. Adds (text_at (in_any_order (forms members.now) (λ us. sized aligned (sizes_of constraints.entry.size) (members_of held) never us)) (place output.old)) output.old output.new) (Refuses (text_at (in_any_order (forms members.now) (λ us. sized aligned (sizes_of constraints.entry.size) (members_of held) never us)) (place output.old))) }
+    ensures { MatchResult result (λ _. Adds
+        (text_at (in_any_order (forms members.now)
+        (λ us. sized aligned (sizes_of constraints.entry.size) (members_of held) never us)) (place output.old))
+        output.old output.new) (Refuses
+        (text_at (in_any_order (forms members.now)
+        (λ us. sized aligned (sizes_of constraints.entry.size) (members_of held) never us)) (place output.old))) }
 {
     let ordered = in_order(alloc, members)?;
     push_sized(output, aligned, constraints, held, ordered.as_slice())?;

@@ -19,7 +19,8 @@ use per_codec_packing::Packing;
 ///
 /// # Errors
 ///
-/// `SizeConstraintNotSatisfied` where the type does not hold so many bits, or a size constraint without a mark does not admit them.
+/// `SizeConstraintNotSatisfied` where the type does not hold so many bits, or a size constraint without a mark does not
+/// admit them.
 pub fn push_bit_string(
     output: &mut Packing,
     aligned: bool,
@@ -27,7 +28,11 @@ pub fn push_bit_string(
     held: Bounded<usize>,
     value: BitStr,
 ) -> Result<(), EncodeError>
-    ensures { MatchResult result (λ _. Adds (text_at (form aligned (bit_string (sizes_of constraints.entry.size) (counts_of held)) (bit_list (bits_of value.entry))) (place output.old)) output.old output.new) (Refuses (text_at (form aligned (bit_string (sizes_of constraints.entry.size) (counts_of held)) (bit_list (bits_of value.entry))) (place output.old))) }
+    ensures { MatchResult result (λ _. Adds
+        (text_at (form aligned (bit_string (sizes_of constraints.entry.size) (counts_of held))
+        (bit_list (bits_of value.entry))) (place output.old)) output.old output.new)
+        (Refuses (text_at (form aligned (bit_string (sizes_of constraints.entry.size) (counts_of held))
+        (bit_list (bits_of value.entry))) (place output.old))) }
 {
     let pads = pads_string(constraints, 1, value.len());
     push_sized(output, aligned, constraints, held, pads, &value)?;

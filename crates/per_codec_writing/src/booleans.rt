@@ -16,7 +16,9 @@ use per_codec_packing::Packing;
 /// `OutOfMemory`, and no other.
 #[inline]
 pub fn push_boolean(output: &mut Packing, aligned: bool, value: bool) -> Result<(), EncodeError>
-    ensures { MatchResult result (λ _. Adds (text_at (form aligned boolean (truth value)) (place output.old)) output.old output.new) (λ e. e ≡ EncodeError.OutOfMemory) }
+    ensures { MatchResult result (λ _. Adds
+        (text_at (form aligned boolean (truth value)) (place output.old)) output.old output.new)
+        (λ e. e ≡ EncodeError.OutOfMemory) }
 {
     output.push(value)?;
     Ok(())

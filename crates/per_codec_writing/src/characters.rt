@@ -28,7 +28,9 @@ fn push_octets<S: StaticPermittedAlphabet>(
 ) -> Result<(), EncodeError>
     requires kind { holds_octets S.kind ≡ true }
     requires permitted { permits_all S.kind (S.characters value.now) ≡ true }
-    ensures { MatchResult result (λ _. Adds (text_at (counted_octets aligned (S.characters value.now)) (place output.old)) output.old output.new) (λ e. e ≡ EncodeError.OutOfMemory) }
+    ensures { MatchResult result (λ _. Adds
+        (text_at (counted_octets aligned (S.characters value.now)) (place output.old)) output.old output.new)
+        (λ e. e ≡ EncodeError.OutOfMemory) }
 {
     let alphabet = EffectiveAlphabet::new::<S>(alloc, aligned, None)?;
     let units = CharacterUnits {
@@ -47,7 +49,13 @@ fn push_codes<S: StaticPermittedAlphabet>(
     constraints: Constraints,
     value: &S,
 ) -> Result<(), EncodeError>
-    ensures { MatchResult result (λ _. Adds (text_at (characters aligned (sizes_of constraints.entry.size) any_count (permitted S.kind (alphabet_of constraints.entry.permitted_alphabet)) (S.characters value.now)) (place output.old)) output.old output.new) (Refuses (text_at (characters aligned (sizes_of constraints.entry.size) any_count (permitted S.kind (alphabet_of constraints.entry.permitted_alphabet)) (S.characters value.now)) (place output.old))) }
+    ensures { MatchResult result (λ _. Adds
+        (text_at (characters aligned (sizes_of constraints.entry.size) any_count
+        (permitted S.kind (alphabet_of constraints.entry.permitted_alphabet)) (S.characters value.now))
+        (place output.old)) output.old output.new)
+        (Refuses (text_at (characters aligned (sizes_of constraints.entry.size) any_count
+        (permitted S.kind (alphabet_of constraints.entry.permitted_alphabet)) (S.characters value.now))
+        (place output.old))) }
 {
     let alphabet = EffectiveAlphabet::new::<S>(alloc, aligned, constraints.permitted_alphabet)?;
     let units = CharacterUnits {
@@ -66,8 +74,8 @@ fn push_codes<S: StaticPermittedAlphabet>(
 ///
 /// # Errors
 ///
-/// `AlphabetConstraintNotSatisfied` if the constraint does not permit one of the characters, `SizeConstraintNotSatisfied` if the size does
-/// not admit as many, and `OutOfMemory`.
+/// `AlphabetConstraintNotSatisfied` if the constraint does not permit one of the characters,
+/// `SizeConstraintNotSatisfied` if the size does not admit as many, and `OutOfMemory`.
 pub fn push_characters<S: StaticPermittedAlphabet>(
     output: &mut Packing,
     aligned: bool,
@@ -75,7 +83,14 @@ pub fn push_characters<S: StaticPermittedAlphabet>(
     constraints: Constraints,
     value: &S,
 ) -> Result<(), EncodeError>
-    ensures { MatchResult result (λ _. Adds (text_at (form aligned (character_string S.kind (sizes_of constraints.entry.size) (alphabet_of constraints.entry.permitted_alphabet) any_count) (text (S.characters value.now))) (place output.old)) output.old output.new) (Refuses (text_at (form aligned (character_string S.kind (sizes_of constraints.entry.size) (alphabet_of constraints.entry.permitted_alphabet) any_count) (text (S.characters value.now))) (place output.old))) }
+    ensures { MatchResult result (λ _. Adds
+        (text_at (form aligned (character_string S.kind (sizes_of constraints.entry.size)
+        (alphabet_of constraints.entry.permitted_alphabet) any_count) (text (S.characters value.now)))
+        (place output.old)) output.old output.new)
+        (Refuses (text_at (form aligned
+        (character_string S.kind (sizes_of constraints.entry.size)
+        (alphabet_of constraints.entry.permitted_alphabet) any_count) (text (S.characters value.now)))
+        (place output.old))) }
 {
     let _count = value.char_count();
     if is_of_octets::<S>() {

@@ -17,12 +17,14 @@ fn octet_width(span: u128) -> u32
     (bit_count(span) as u32 + 7) / 8
 }
 
-/// Adds a number of 0 to `span` in its fewest octets, which stand at an octet behind their number, itself a constrained whole number
-/// (X.691 11.5.7.4 and 13.2.6).
+/// Adds a number of 0 to `span` in its fewest octets, which stand at an octet behind their number, itself a constrained
+/// whole number (X.691 11.5.7.4 and 13.2.6).
 fn push_fewest_octets(output: &mut Packing, span: u128, value: u128) -> Result<(), EncodeError>
     requires within { value ≤ span }
     requires large { 65536 ≤ span }
-    ensures { MatchResult result (λ _. Adds (text_at (constrained true span value) (place output.old)) output.old output.new) (λ e. e ≡ EncodeError.OutOfMemory) }
+    ensures { MatchResult result (λ _. Adds
+        (text_at (constrained true span value) (place output.old)) output.old output.new)
+        (λ e. e ≡ EncodeError.OutOfMemory) }
 {
     let count = octet_width(value).max(1);
     let further = octet_width(span) - 1;
@@ -32,12 +34,14 @@ fn push_fewest_octets(output: &mut Packing, span: u128, value: u128) -> Result<(
     Ok(())
 }
 
-/// Adds a number of 0 to `span` at an octet: in one octet where there are 256 such numbers, in two where there are at most 65536, else
-/// behind the number of its octets (X.691 11.5.7.2 to 11.5.7.4).
+/// Adds a number of 0 to `span` at an octet: in one octet where there are 256 such numbers, in two where there are at
+/// most 65536, else behind the number of its octets (X.691 11.5.7.2 to 11.5.7.4).
 fn push_octets(output: &mut Packing, span: u128, value: u128) -> Result<(), EncodeError>
     requires within { value ≤ span }
     requires large { 255 ≤ span }
-    ensures { MatchResult result (λ _. Adds (text_at (constrained true span value) (place output.old)) output.old output.new) (λ e. e ≡ EncodeError.OutOfMemory) }
+    ensures { MatchResult result (λ _. Adds
+        (text_at (constrained true span value) (place output.old)) output.old output.new)
+        (λ e. e ≡ EncodeError.OutOfMemory) }
 {
     if span >= 65536 {
         push_fewest_octets(output, span, value)?;
@@ -61,7 +65,9 @@ pub fn push_constrained(
     span: u128,
     value: u128,
 ) -> Result<(), EncodeError>
-    ensures { MatchResult result (λ _. Adds (text_at (constrained aligned span value) (place output.old)) output.old output.new) (Refuses (text_at (constrained aligned span value) (place output.old))) }
+    ensures { MatchResult result (λ _. Adds
+        (text_at (constrained aligned span value) (place output.old)) output.old output.new)
+        (Refuses (text_at (constrained aligned span value) (place output.old))) }
 {
     if value > span {
         return Err(EncodeError::ValueConstraintNotSatisfied);

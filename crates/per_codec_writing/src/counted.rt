@@ -7,12 +7,11 @@ ghost use Rattle.per_codec_writing.specs.Units.{forms_of};
 
 use crate::{Units, push_fragment_length, push_short_length};
 use asn1_schema_faults::EncodeError;
+use per_codec_limits::FRAGMENT;
 use per_codec_packing::Packing;
 
-/// How many units make a fragment of the smallest size (X.691 11.9.3.8).
-const FRAGMENT: usize = 16384;
-
-/// Adds units behind their number: from 16384 units on in fragments, the largest first, and the rest behind a short length (X.691 11.9).
+/// Adds units behind their number: from 16384 units on in fragments, the largest first, and the rest behind a short
+/// length (X.691 11.9).
 ///
 /// # Errors
 ///
@@ -22,7 +21,9 @@ pub fn push_counted<U: Units>(
     aligned: bool,
     units: &U,
 ) -> Result<(), EncodeError>
-    ensures { MatchResult result (λ _. Adds (text_at (counted aligned (forms_of (U.texts units.now))) (place output.old)) output.old output.new) (λ e. e ≡ EncodeError.OutOfMemory) }
+    ensures { MatchResult result (λ _. Adds
+        (text_at (counted aligned (forms_of (U.texts units.now))) (place output.old)) output.old output.new)
+        (λ e. e ≡ EncodeError.OutOfMemory) }
 {
     let count = units.count();
     let mut from = 0;
@@ -47,7 +48,9 @@ pub fn push_counted_octets(
     aligned: bool,
     octets: &[u8],
 ) -> Result<(), EncodeError>
-    ensures { MatchResult result (λ _. Adds (text_at (counted_octets aligned octets.now) (place output.old)) output.old output.new) (λ e. e ≡ EncodeError.OutOfMemory) }
+    ensures { MatchResult result (λ _. Adds
+        (text_at (counted_octets aligned octets.now) (place output.old)) output.old output.new)
+        (λ e. e ≡ EncodeError.OutOfMemory) }
 {
     let units = octets;
     push_counted(output, aligned, &units)?;

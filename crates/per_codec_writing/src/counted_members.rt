@@ -8,19 +8,19 @@ ghost use Rattle.per_codec_writing.specs.Members.{forms_of};
 use crate::members::push_each;
 use crate::{push_fragment_length, push_short_length};
 use asn1_schema_faults::EncodeError;
+use per_codec_limits::FRAGMENT;
 use per_codec_packing::{Packing, TextView};
 
-/// How many members make a fragment of the smallest size (X.691 11.9.3.8).
-const FRAGMENT: usize = 16384;
-
-/// Adds members behind their number: from 16384 on in fragments, the largest first, and the rest behind a short length (X.691 11.9).
-/// The only error is want of memory.
+/// Adds members behind their number: from 16384 on in fragments, the largest first, and the rest behind a short length
+/// (X.691 11.9). The only error is want of memory.
 pub(crate) fn push_counted(
     output: &mut Packing,
     aligned: bool,
     members: &[TextView<'_>],
 ) -> Result<(), EncodeError>
-    ensures { MatchResult result (λ _. Adds (text_at (counted aligned (forms_of members.now)) (place output.old)) output.old output.new) (λ e. e ≡ EncodeError.OutOfMemory) }
+    ensures { MatchResult result (λ _. Adds
+        (text_at (counted aligned (forms_of members.now)) (place output.old)) output.old output.new)
+        (λ e. e ≡ EncodeError.OutOfMemory) }
 {
     let count = members.len();
     let mut from = 0;

@@ -11,7 +11,8 @@ use per_codec_packing::Packing;
 ///
 /// `OutOfMemory`, and no other.
 pub fn align(output: &mut Packing, aligned: bool) -> Result<(), EncodeError>
-    ensures { MatchResult result (λ _. output.new ≡ plus output.old (fill_at aligned (place output.old))) (λ e. e ≡ EncodeError.OutOfMemory) }
+    ensures { MatchResult result (λ _. output.new ≡ plus output.old (fill_at aligned (place output.old)))
+        (λ e. e ≡ EncodeError.OutOfMemory) }
 {
     if aligned {
         output.align()?;

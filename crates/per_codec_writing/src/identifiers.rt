@@ -23,7 +23,9 @@ pub fn push_identifier(
     alloc: Global,
     value: &Oid,
 ) -> Result<(), EncodeError>
-    ensures { MatchResult result (λ _. Adds (text_at (form aligned object_identifier (arcs value.now)) (place output.old)) output.old output.new) (Refuses (text_at (form aligned object_identifier (arcs value.now)) (place output.old))) }
+    ensures { MatchResult result (λ _. Adds
+        (text_at (form aligned object_identifier (arcs value.now)) (place output.old)) output.old output.new)
+        (Refuses (text_at (form aligned object_identifier (arcs value.now)) (place output.old))) }
 {
     match oid_octets(alloc, value) {
         Ok(contents) => {

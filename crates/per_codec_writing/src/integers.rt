@@ -15,14 +15,16 @@ use asn1_schema_faults::EncodeError;
 use asn1_values_integers::IntegerType;
 use per_codec_packing::Packing;
 
-/// Adds a number without a lower bound, in its fewest octets of two's complement behind their number (X.691 11.8 and 13.2.4). The only
-/// error is want of memory.
+/// Adds a number without a lower bound, in its fewest octets of two's complement behind their number (X.691 11.8 and
+/// 13.2.4). The only error is want of memory.
 fn push_unconstrained<I: IntegerType>(
     output: &mut Packing,
     aligned: bool,
     value: &I,
 ) -> Result<(), EncodeError>
-    ensures written { MatchResult result (λ _. Adds (text_at (unconstrained aligned (I.value value.now)) (place output.old)) output.old output.new) (λ e. e ≡ EncodeError.OutOfMemory) }
+    ensures written { MatchResult result
+        (λ _. Adds (text_at (unconstrained aligned (I.value value.now)) (place output.old)) output.old output.new)
+        (λ e. e ≡ EncodeError.OutOfMemory) }
     ensures held { is_within I.held (I.value value.now) ≡ true }
 {
     let octets = value.to_signed_bytes_be();
@@ -30,14 +32,16 @@ fn push_unconstrained<I: IntegerType>(
     Ok(())
 }
 
-/// Adds a number with a lower bound alone, by how far it is above that, in the fewest octets behind their number (X.691 11.7 and 13.2.3).
-/// The only error is want of memory.
+/// Adds a number with a lower bound alone, by how far it is above that, in the fewest octets behind their number (X.691
+/// 11.7 and 13.2.3). The only error is want of memory.
 pub(crate) fn push_semi_constrained(
     output: &mut Packing,
     aligned: bool,
     offset: u128,
 ) -> Result<(), EncodeError>
-    ensures { MatchResult result (λ _. Adds (text_at (semi_constrained aligned offset) (place output.old)) output.old output.new) (λ e. e ≡ EncodeError.OutOfMemory) }
+    ensures { MatchResult result (λ _. Adds
+        (text_at (semi_constrained aligned offset) (place output.old)) output.old output.new)
+        (λ e. e ≡ EncodeError.OutOfMemory) }
 {
     let octets = offset.to_unsigned_bytes_be();
     push_counted_octets(output, aligned, octets.as_slice())?;
@@ -53,7 +57,9 @@ fn push_root(
     number: i128,
 ) -> Result<(), EncodeError>
     requires { admits_number bounds number ≡ true }
-    ensures { MatchResult result (λ _. Adds (text_at (number_form aligned (lower bounds) (upper bounds) number) (place output.old)) output.old output.new) (Refuses (text_at (number_form aligned (lower bounds) (upper bounds) number) (place output.old))) }
+    ensures { MatchResult result (λ _. Adds
+        (text_at (number_form aligned (lower bounds) (upper bounds) number) (place output.old)) output.old output.new)
+        (Refuses (text_at (number_form aligned (lower bounds) (upper bounds) number) (place output.old))) }
 {
     match (bounds.as_start().copied(), bounds.as_end().copied()) {
         (Some(low), Some(high)) => {
@@ -70,7 +76,8 @@ fn push_root(
     }
 }
 
-/// Adds a number under a value constraint: behind a bit that tells whether it is outside the bounds, where a mark follows these (X.691 13.1).
+/// Adds a number under a value constraint: behind a bit that tells whether it is outside the bounds, where a mark
+/// follows these (X.691 13.1).
 #[inline(always)]
 fn push_bounded(
     output: &mut Packing,
@@ -79,7 +86,13 @@ fn push_bounded(
     extensible: bool,
     number: i128,
 ) -> Result<(), EncodeError>
-    ensures { MatchResult result (λ _. Adds (text_at (marked extensible (admits_number bounds number) (number_form aligned (lower bounds) (upper bounds) number) (unconstrained aligned number)) (place output.old)) output.old output.new) (Refuses (text_at (marked extensible (admits_number bounds number) (number_form aligned (lower bounds) (upper bounds) number) (unconstrained aligned number)) (place output.old))) }
+    ensures { MatchResult result (λ _. Adds
+        (text_at (marked extensible (admits_number bounds number)
+        (number_form aligned (lower bounds) (upper bounds) number) (unconstrained aligned number)) (place output.old))
+        output.old output.new) (Refuses
+        (text_at (marked extensible (admits_number bounds number)
+        (number_form aligned (lower bounds) (upper bounds) number) (unconstrained aligned number))
+        (place output.old))) }
 {
     let inside = bounds.contains(&number);
     if !extensible {
@@ -97,8 +110,8 @@ fn push_bounded(
     }
 }
 
-/// Adds an INTEGER (X.691 13), of at most 128 bits under a value constraint. One outside its bounds is refused, unless a mark follows
-/// these.
+/// Adds an INTEGER (X.691 13), of at most 128 bits under a value constraint. One outside its bounds is refused, unless
+/// a mark follows these.
 ///
 /// # Errors
 ///
@@ -110,7 +123,12 @@ pub fn push_integer<I: IntegerType>(
     constraints: Constraints,
     value: &I,
 ) -> Result<(), EncodeError>
-    ensures { MatchResult result (λ _. Adds (text_at (form aligned (integer (bounds_of constraints.entry.value) (held_of constraints.entry.value I.held)) (number_value (I.value value.now))) (place output.old)) output.old output.new) (Refuses (text_at (form aligned (integer (bounds_of constraints.entry.value) (held_of constraints.entry.value I.held)) (number_value (I.value value.now))) (place output.old))) }
+    ensures { MatchResult result (λ _. Adds
+        (text_at (form aligned (integer (bounds_of constraints.entry.value) (held_of constraints.entry.value I.held))
+        (number_value (I.value value.now))) (place output.old)) output.old output.new)
+        (Refuses (text_at (form aligned
+        (integer (bounds_of constraints.entry.value) (held_of constraints.entry.value I.held))
+        (number_value (I.value value.now))) (place output.old))) }
 {
     let Some(limits) = constraints.value else {
         push_unconstrained(output, aligned, value)?;

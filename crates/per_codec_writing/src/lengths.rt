@@ -22,7 +22,9 @@ pub fn push_short_length(
     count: usize,
 ) -> Result<(), EncodeError>
     requires { count < 16384 }
-    ensures { MatchResult result (λ _. Adds (text_at (short_length aligned count) (place output.old)) output.old output.new) (λ e. e ≡ EncodeError.OutOfMemory) }
+    ensures { MatchResult result (λ _. Adds
+        (text_at (short_length aligned count) (place output.old)) output.old output.new)
+        (λ e. e ≡ EncodeError.OutOfMemory) }
 {
     align(output, aligned)?;
     if count < 0x80 {
@@ -44,7 +46,9 @@ pub fn push_fragment_length(
     multiple: usize,
 ) -> Result<(), EncodeError>
     requires { multiple ≤ 4 }
-    ensures { MatchResult result (λ _. Adds (text_at (at_octet aligned (exactly (true ∷ true ∷ binary 6 multiple))) (place output.old)) output.old output.new) (λ e. e ≡ EncodeError.OutOfMemory) }
+    ensures { MatchResult result (λ _. Adds
+        (text_at (at_octet aligned (exactly (true ∷ true ∷ binary 6 multiple))) (place output.old)) output.old
+        output.new) (λ e. e ≡ EncodeError.OutOfMemory) }
 {
     align(output, aligned)?;
     output.push_bits(0xC0 + multiple as u128, 8)?;

@@ -1,5 +1,6 @@
-//! Writers of the packed encoding rules (X.691): of filling, lengths and whole numbers, of units behind their number, of the scalar types, of
-//! the places of items and alternatives, open types and additions, and of the members of bags in the order of their complete encodings.
+//! Writers of the packed encoding rules (X.691): of filling, lengths and whole numbers, of units behind their number,
+//! of the scalar types, of the places of items and alternatives, open types and additions, and of the members of bags
+//! in the order of their complete encodings.
 #![tactic(auto)]
 
 mod additions;
@@ -40,6 +41,7 @@ pub use lengths::{push_fragment_length, push_short_length};
 pub use octets::push_octet_string;
 pub use open_types::push_open_type;
 pub use padding::{pads_characters, pads_string};
+pub use per_codec_limits::{FRAGMENT, LONG_COUNT};
 pub use places::{push_enumerated, push_place};
 pub use sized::push_sized;
 pub use small::push_normally_small;

@@ -34,7 +34,8 @@ fn encodings_of(alloc: Global, members: &Texts) -> Result<Encodings, AllocError>
 
 /// The members in the ascending order of their complete encodings (X.691 22), those of the same encoding as they stood.
 pub(crate) fn in_order(alloc: Global, members: &Texts) -> Result<Vec<TextView<'_>>, AllocError>
-    ensures { IfOk result (λ ordered. ascending (λ x. written (complete x) 0) (stands_before bit_less) (forms members.now) ≡ Some (forms_of ordered.items)) }
+    ensures { IfOk result (λ ordered. ascending (λ x. written (complete x) 0) (stands_before bit_less)
+        (forms members.now) ≡ Some (forms_of ordered.items)) }
 {
     let encodings = encodings_of(alloc, members)?;
     let entries = encodings.in_order(alloc)?;
@@ -47,7 +48,9 @@ pub(crate) fn in_order(alloc: Global, members: &Texts) -> Result<Vec<TextView<'_
 
 /// Adds members, one behind the other. The only error is want of memory.
 pub(crate) fn push_each(output: &mut Packing, members: &[TextView<'_>]) -> Result<(), EncodeError>
-    ensures { MatchResult result (λ _. Adds (text_at (joined (forms_of members.now)) (place output.old)) output.old output.new) (λ e. e ≡ EncodeError.OutOfMemory) }
+    ensures { MatchResult result (λ _. Adds
+        (text_at (joined (forms_of members.now)) (place output.old)) output.old output.new)
+        (λ e. e ≡ EncodeError.OutOfMemory) }
 {
     for member in members {
         output.append_text(*member)?;

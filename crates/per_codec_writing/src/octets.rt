@@ -17,7 +17,8 @@ use per_codec_packing::Packing;
 ///
 /// # Errors
 ///
-/// `SizeConstraintNotSatisfied` where the type does not hold so many octets, or a size constraint without a mark does not admit them.
+/// `SizeConstraintNotSatisfied` where the type does not hold so many octets, or a size constraint without a mark does
+/// not admit them.
 pub fn push_octet_string(
     output: &mut Packing,
     aligned: bool,
@@ -25,7 +26,11 @@ pub fn push_octet_string(
     held: Bounded<usize>,
     value: &[u8],
 ) -> Result<(), EncodeError>
-    ensures { MatchResult result (λ _. Adds (text_at (form aligned (octet_string (sizes_of constraints.entry.size) (counts_of held)) (octet_list value.now)) (place output.old)) output.old output.new) (Refuses (text_at (form aligned (octet_string (sizes_of constraints.entry.size) (counts_of held)) (octet_list value.now)) (place output.old))) }
+    ensures { MatchResult result (λ _. Adds
+        (text_at (form aligned (octet_string (sizes_of constraints.entry.size) (counts_of held)) (octet_list value.now))
+        (place output.old)) output.old output.new)
+        (Refuses (text_at (form aligned (octet_string (sizes_of constraints.entry.size) (counts_of held))
+        (octet_list value.now)) (place output.old))) }
 {
     let pads = pads_string(constraints, 8, value.len());
     let octets = value;

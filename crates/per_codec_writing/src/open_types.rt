@@ -10,8 +10,8 @@ use asn1_schema_faults::EncodeError;
 use asn1_values_bits::BitBuffer;
 use per_codec_packing::Packing;
 
-/// Adds bits as an open type: filled up with zero bits to whole octets, one zero octet in place of no bits, behind the number of these
-/// octets (X.691 11.1 and 11.2).
+/// Adds bits as an open type: filled up with zero bits to whole octets, one zero octet in place of no bits, behind the
+/// number of these octets (X.691 11.1 and 11.2).
 ///
 /// # Errors
 ///
@@ -21,7 +21,9 @@ pub fn push_open_type(
     aligned: bool,
     contents: &BitBuffer,
 ) -> Result<(), EncodeError>
-    ensures { MatchResult result (λ _. Adds (text_at (open_type aligned (exactly contents.now)) (place output.old)) output.old output.new) (λ e. e ≡ EncodeError.OutOfMemory) }
+    ensures { MatchResult result (λ _. Adds
+        (text_at (open_type aligned (exactly contents.now)) (place output.old)) output.old output.new)
+        (λ e. e ≡ EncodeError.OutOfMemory) }
 {
     if contents.is_empty() {
         push_counted_octets(output, aligned, &[0])?;

@@ -1,14 +1,15 @@
 //! Filling in front of units of a constrained number, in the aligned variant (X.691 16, 17 and 30).
 ghost use Rattle.std.specs.Prelude.{◌≡◌};
-ghost use Rattle.asn1_model.specs.Per.{fixed_bits as fixed_bits_of, pads_string as string_is_padded, pads_characters as characters_are_padded};
+ghost use Rattle.asn1_model.specs.Per.{fixed_bits as fixed_bits_of, pads_string as string_is_padded};
+ghost use Rattle.asn1_model.specs.Per.{pads_characters as characters_are_padded};
 ghost use Rattle.asn1_schema_constraints.specs.Bounds.{counts_of};
 ghost use Rattle.asn1_schema_constraints.specs.Terms.{sizes_of};
 ghost use Rattle.per_codec_writing.specs.Padding.{is_padded};
 
 use asn1_schema_constraints::{Bounded, Constraints};
 
-/// Whether a string of so many units, each of so many bits, stands at an octet: one of no bits does not, nor does one of a fixed size of at
-/// most 16 bits (X.691 16.9 to 16.11 and 17.6 to 17.8).
+/// Whether a string of so many units, each of so many bits, stands at an octet: one of no bits does not, nor does one
+/// of a fixed size of at most 16 bits (X.691 16.9 to 16.11 and 17.6 to 17.8).
 pub fn pads_string(constraints: Constraints, unit: usize, count: usize) -> bool
     ensures { result ≡ string_is_padded unit count (sizes_of constraints.entry.size).counts }
 {
@@ -35,8 +36,8 @@ fn pads_units(range: Bounded<usize>, unit: usize) -> bool
     }
 }
 
-/// Whether so many characters, each of so many bits, stand at an octet: they do as a string does, but not where as many as there may be have
-/// fewer than 16 bits (X.691 30.5.6 and 30.5.7).
+/// Whether so many characters, each of so many bits, stand at an octet: they do as a string does, but not where as many
+/// as there may be have fewer than 16 bits (X.691 30.5.6 and 30.5.7).
 pub fn pads_characters(constraints: Constraints, unit: usize, count: usize) -> bool
     ensures { result ≡ characters_are_padded unit count (sizes_of constraints.entry.size).counts }
 {

@@ -14,7 +14,9 @@ use per_codec_packing::Packing;
 
 /// Adds the mark of extensibility, where the type has one (X.691 14.3 and 23.5). The only error is want of memory.
 fn push_mark(output: &mut Packing, extensible: bool, mark: bool) -> Result<(), EncodeError>
-    ensures { MatchResult result (λ _. Adds (text_at (mark_of extensible mark) (place output.old)) output.old output.new) (λ e. e ≡ EncodeError.OutOfMemory) }
+    ensures { MatchResult result (λ _. Adds
+        (text_at (mark_of extensible mark) (place output.old)) output.old output.new)
+        (λ e. e ≡ EncodeError.OutOfMemory) }
 {
     if !extensible {
         return Ok(());
@@ -23,9 +25,9 @@ fn push_mark(output: &mut Packing, extensible: bool, mark: bool) -> Result<(), E
     Ok(())
 }
 
-/// Adds a place: among so many in the root, as a constrained whole number behind the mark of extensibility, or among the added ones, as a
-/// normally small number behind the mark that is set (X.691 14.2, 14.3 and 23.5 to 23.8). A place outside the root is refused, and so is an
-/// added one of a type without a mark.
+/// Adds a place: among so many in the root, as a constrained whole number behind the mark of extensibility, or among
+/// the added ones, as a normally small number behind the mark that is set (X.691 14.2, 14.3 and 23.5 to 23.8). A place
+/// outside the root is refused, and so is an added one of a type without a mark.
 ///
 /// # Errors
 ///
@@ -37,7 +39,10 @@ pub fn push_place(
     extensible: bool,
     chosen: Chosen,
 ) -> Result<(), EncodeError>
-    ensures { MatchResult result (λ _. Adds (text_at (place_form aligned roots extensible chosen.added chosen.place) (place output.old)) output.old output.new) (Refuses (text_at (place_form aligned roots extensible chosen.added chosen.place) (place output.old))) }
+    ensures { MatchResult result (λ _. Adds
+        (text_at (place_form aligned roots extensible chosen.added chosen.place) (place output.old)) output.old
+        output.new) (Refuses (text_at (place_form aligned roots extensible chosen.added chosen.place)
+        (place output.old))) }
 {
     if !chosen.added {
         push_mark(output, extensible, false)?;
@@ -62,7 +67,11 @@ pub fn push_enumerated<T: Enumerated>(
     aligned: bool,
     value: &T,
 ) -> Result<(), EncodeError>
-    ensures { MatchResult result (λ _. Adds (text_at (form aligned (enumerated T.roots T.extensible T.additions) (item (T.number value.now))) (place output.old)) output.old output.new) (Refuses (text_at (form aligned (enumerated T.roots T.extensible T.additions) (item (T.number value.now))) (place output.old))) }
+    ensures { MatchResult result (λ _. Adds
+        (text_at (form aligned (enumerated T.roots T.extensible T.additions) (item (T.number value.now)))
+        (place output.old)) output.old output.new)
+        (Refuses (text_at (form aligned (enumerated T.roots T.extensible T.additions) (item (T.number value.now)))
+        (place output.old))) }
 {
     let extensible = T::extended_variants().is_some();
     push_place(

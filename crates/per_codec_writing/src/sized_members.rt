@@ -14,6 +14,7 @@ use crate::members::push_each;
 use crate::push_constrained;
 use asn1_schema_constraints::{Bounded, Constraints};
 use asn1_schema_faults::EncodeError;
+use per_codec_limits::LONG_COUNT;
 use per_codec_packing::{Packing, TextView};
 
 /// Adds members behind their number, which is one of `low` to `high`.
@@ -26,7 +27,11 @@ fn push_between(
 ) -> Result<(), EncodeError>
     requires least { low ≤ length members.now }
     requires most { length members.now ≤ high }
-    ensures { MatchResult result (λ _. Adds (text_at (both (constrained aligned (high - low) (length members.now - low)) (joined (forms_of members.now))) (place output.old)) output.old output.new) (Refuses (text_at (both (constrained aligned (high - low) (length members.now - low)) (joined (forms_of members.now))) (place output.old))) }
+    ensures { MatchResult result (λ _. Adds
+        (text_at (both (constrained aligned (high - low) (length members.now - low)) (joined (forms_of members.now)))
+        (place output.old)) output.old output.new)
+        (Refuses (text_at (both (constrained aligned (high - low) (length members.now - low))
+        (joined (forms_of members.now))) (place output.old))) }
 {
     let count = members.len();
     push_constrained(output, aligned, (high - low) as u128, (count - low) as u128)?;
@@ -34,8 +39,8 @@ fn push_between(
     Ok(())
 }
 
-/// Adds members of which the root has as many: behind their number by its bounds where the highest is below 65536, else behind a general length
-/// (X.691 11.9.4).
+/// Adds members of which the root has as many: behind their number by its bounds where the highest is below 65536, else
+/// behind a general length (X.691 11.9.4).
 fn push_root(
     output: &mut Packing,
     aligned: bool,
@@ -43,14 +48,18 @@ fn push_root(
     members: &[TextView<'_>],
 ) -> Result<(), EncodeError>
     requires { is_count_within (counts_of range) (length members.now) ≡ true }
-    ensures { MatchResult result (λ _. Adds (text_at (sized_root aligned (counts_of range) (upper range) never (forms_of members.now)) (place output.old)) output.old output.new) (Refuses (text_at (sized_root aligned (counts_of range) (upper range) never (forms_of members.now)) (place output.old))) }
+    ensures { MatchResult result (λ _. Adds
+        (text_at (sized_root aligned (counts_of range) (upper range) never (forms_of members.now)) (place output.old))
+        output.old output.new) (Refuses
+        (text_at (sized_root aligned (counts_of range) (upper range) never (forms_of members.now))
+        (place output.old))) }
 {
     match range.as_end().copied() {
         None => {
             push_counted(output, aligned, members)?;
             Ok(())
         }
-        Some(high) if high >= 65536 => {
+        Some(high) if high >= LONG_COUNT => {
             push_counted(output, aligned, members)?;
             Ok(())
         }
@@ -68,7 +77,13 @@ fn push_marked(
     range: Bounded<usize>,
     members: &[TextView<'_>],
 ) -> Result<(), EncodeError>
-    ensures { MatchResult result (λ _. Adds (text_at (marked true (is_count_within (counts_of range) (length members.now)) (sized_root aligned (counts_of range) (upper range) never (forms_of members.now)) (counted aligned (forms_of members.now))) (place output.old)) output.old output.new) (Refuses (text_at (marked true (is_count_within (counts_of range) (length members.now)) (sized_root aligned (counts_of range) (upper range) never (forms_of members.now)) (counted aligned (forms_of members.now))) (place output.old))) }
+    ensures { MatchResult result (λ _. Adds
+        (text_at (marked true (is_count_within (counts_of range) (length members.now))
+        (sized_root aligned (counts_of range) (upper range) never (forms_of members.now))
+        (counted aligned (forms_of members.now))) (place output.old)) output.old output.new)
+        (Refuses (text_at (marked true (is_count_within (counts_of range) (length members.now))
+        (sized_root aligned (counts_of range) (upper range) never (forms_of members.now))
+        (counted aligned (forms_of members.now))) (place output.old))) }
 {
     let is_outside = !range.contains(&members.len());
     output.push(is_outside)?;
@@ -87,7 +102,13 @@ fn push_unmarked(
     range: Bounded<usize>,
     members: &[TextView<'_>],
 ) -> Result<(), EncodeError>
-    ensures { MatchResult result (λ _. Adds (text_at (marked false (is_count_within (counts_of range) (length members.now)) (sized_root aligned (counts_of range) (upper range) never (forms_of members.now)) (counted aligned (forms_of members.now))) (place output.old)) output.old output.new) (Refuses (text_at (marked false (is_count_within (counts_of range) (length members.now)) (sized_root aligned (counts_of range) (upper range) never (forms_of members.now)) (counted aligned (forms_of members.now))) (place output.old))) }
+    ensures { MatchResult result (λ _. Adds
+        (text_at (marked false (is_count_within (counts_of range) (length members.now))
+        (sized_root aligned (counts_of range) (upper range) never (forms_of members.now))
+        (counted aligned (forms_of members.now))) (place output.old)) output.old output.new)
+        (Refuses (text_at (marked false (is_count_within (counts_of range) (length members.now))
+        (sized_root aligned (counts_of range) (upper range) never (forms_of members.now))
+        (counted aligned (forms_of members.now))) (place output.old))) }
 {
     if !range.contains(&members.len()) {
         return Err(EncodeError::SizeConstraintNotSatisfied);
@@ -100,7 +121,8 @@ fn push_unmarked(
 ///
 /// # Errors
 ///
-/// `SizeConstraintNotSatisfied` where the type does not hold so many, or a size constraint without a mark does not admit them.
+/// `SizeConstraintNotSatisfied` where the type does not hold so many, or a size constraint without a mark does not
+/// admit them.
 pub(crate) fn push_sized(
     output: &mut Packing,
     aligned: bool,
@@ -108,7 +130,11 @@ pub(crate) fn push_sized(
     held: Bounded<usize>,
     members: &[TextView<'_>],
 ) -> Result<(), EncodeError>
-    ensures { MatchResult result (λ _. Adds (text_at (sized aligned (sizes_of constraints.entry.size) (members_of held) never (forms_of members.now)) (place output.old)) output.old output.new) (Refuses (text_at (sized aligned (sizes_of constraints.entry.size) (members_of held) never (forms_of members.now)) (place output.old))) }
+    ensures { MatchResult result (λ _. Adds
+        (text_at (sized aligned (sizes_of constraints.entry.size) (members_of held) never (forms_of members.now))
+        (place output.old)) output.old output.new)
+        (Refuses (text_at (sized aligned (sizes_of constraints.entry.size) (members_of held) never
+        (forms_of members.now)) (place output.old))) }
 {
     let count = members.len();
     if !held.holds(count) {

@@ -8,8 +8,8 @@ use crate::integers::push_semi_constrained;
 use asn1_schema_faults::EncodeError;
 use per_codec_packing::Packing;
 
-/// Adds a normally small number: up to 63 in six bits behind one that is not set, else behind one that is, in the fewest octets behind their
-/// number (X.691 11.6).
+/// Adds a normally small number: up to 63 in six bits behind one that is not set, else behind one that is, in the
+/// fewest octets behind their number (X.691 11.6).
 ///
 /// # Errors
 ///
@@ -19,7 +19,9 @@ pub fn push_normally_small(
     aligned: bool,
     number: u64,
 ) -> Result<(), EncodeError>
-    ensures { MatchResult result (λ _. Adds (text_at (normally_small aligned number) (place output.old)) output.old output.new) (λ e. e ≡ EncodeError.OutOfMemory) }
+    ensures { MatchResult result (λ _. Adds
+        (text_at (normally_small aligned number) (place output.old)) output.old output.new)
+        (λ e. e ≡ EncodeError.OutOfMemory) }
 {
     if number < 64 {
         output.push_bits(number as u128, 7)?;

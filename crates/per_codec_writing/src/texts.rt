@@ -24,7 +24,10 @@ pub fn push_utf8(
     _constraints: Constraints,
     value: &str,
 ) -> Result<(), EncodeError>
-    ensures { MatchResult result (λ _. Adds (text_at (form aligned (character_string utf8 (sizes_of _constraints.entry.size) (alphabet_of _constraints.entry.permitted_alphabet) any_count) (text value.now)) (place output.old)) output.old output.new) (λ e. e ≡ EncodeError.OutOfMemory) }
+    ensures { MatchResult result (λ _. Adds
+        (text_at (form aligned (character_string utf8 (sizes_of _constraints.entry.size)
+        (alphabet_of _constraints.entry.permitted_alphabet) any_count) (text value.now)) (place output.old)) output.old
+        output.new) (λ e. e ≡ EncodeError.OutOfMemory) }
 {
     push_counted_octets(output, aligned, value.as_bytes())?;
     Ok(())

@@ -19,11 +19,13 @@ pub trait Units {
     fn count(&self) -> usize
         ensures { result ≡ length (texts self.now) };
 
-    /// Adds the units from one place up to another, counted from 0, one behind the other. The only error is want of memory.
+    /// Adds the units from one place up to another, counted from 0, one behind the other. The only error is want of
+    /// memory.
     fn push_range(&self, output: &mut Packing, from: usize, to: usize) -> Result<(), EncodeError>
         requires order { from ≤ to }
         requires within { to ≤ length (texts self.now) }
-        ensures { MatchResult result (λ _. output.new ≡ plus output.old (as_text (together (slice_range (texts self.now) from to)))) (λ e. e ≡ EncodeError.OutOfMemory) };
+        ensures { MatchResult result (λ _. output.new ≡ plus output.old
+            (as_text (together (slice_range (texts self.now) from to)))) (λ e. e ≡ EncodeError.OutOfMemory) };
 }
 
 /// Octets, of eight bits each.

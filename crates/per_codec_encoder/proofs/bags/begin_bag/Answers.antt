@@ -1,21 +1,25 @@
-use Rattle.std.proofs.Common.{◌+◌, ◌∙◌}
+use Rattle.std.proofs.Common.{◌≡◌, ◌∙◌, None, subst}
 use Rattle.asn1_schema_constraints.specs.Bounds.{members_of}
 use Rattle.asn1_schema_constraints.specs.Terms.{sizes_of}
-use Rattle.per_codec_encoder.proofs.HeadingTexts.{raised_on}
-use Rattle.per_codec_encoder.proofs.Bagging.{cut_back, cut_within, cut_place, does_begin_bag, cannot_begin_bag}
+use Rattle.asn1_schema_faults.specs.declared.EncodeError.TheVariants.{SizeConstraintNotSatisfied}
+use Rattle.per_codec_packing.specs.Packed.{place}
+use Rattle.per_codec_encoder.specs.Steps.{list_heading}
+use Rattle.per_codec_encoder.specs.Bags.{size_of}
+use Rattle.per_codec_encoder.proofs.Judged.{IsThere, heading_there, no_heading}
+use Rattle.per_codec_encoder.proofs.Bagging.{does_begin_bag, cannot_begin_bag}
 use Rattle.per_codec_encoder.proofs.bags.begin_bag.Goals as goal
 
-pub returns-in_err-push_heading : goal.returns-in_err-push_heading
-returns-in_err-push_heading c = raised_on _ _ _ c.from_residual.result c.from_residual.ensures.0 c.from_residual.ensures.1 (cannot_begin_bag c.args.aligned c.args.frames.now c.args.output.now (sizes_of c.args.constraints.size) (members_of c.args.held) c.args.count _ c.in_err-push_heading.ensures)
+pub returns-then-not-may_have : goal.returns-then-not-may_have
+returns-then-not-may_have c =
+    let h = members_of c.args.held in
+    let q = place c.args.output.now in
+    let z = size_of c.sizes-range.result.0 c.sizes-range.result.1 in
+    cannot_begin_bag c.args.aligned c.args.frames.now c.args.output.now (sizes_of c.args.constraints.size) h c.args.count SizeConstraintNotSatisfied (subst (λ y. list_heading c.args.aligned y h c.args.count q ≡ None) c.sizes-range.ensures (no_heading c.args.aligned z h c.args.count q c.if-not-may_have.ensures))
 
 pub returns : goal.returns
 returns c =
-    let d = c.in_ok-push_heading.field-0 in
-    let back = cut_back c.args.aligned (sizes_of c.args.constraints.size) (members_of c.args.held) c.args.count c.args.output.now c.push_heading.new.output d (c.end_of-start.result.bits + c.end_of-start.result.fills) c.in_ok-push_heading.ensures c.end_of-start.ensures.all c.truncate.new.self c.truncate.ensures in
-    does_begin_bag c.args.aligned c.args.frames.now c.push.new.self c.args.output.now c.push_heading.new.output c.replace-outer.new.dest c.replace-outer.result (sizes_of c.args.constraints.size) c.sizes-range.result.0 c.args.held c.sizes-range.result.1 c.args.count d c.in_ok-boxed.boxed c.in_ok-push_heading.ensures (c.replace-outer.ensures.value ∙ back) c.sizes-range.ensures (c.replace-outer.ensures.after ∙ c.unplaced.ensures) c.in_ok-boxed.ensures.ok c.in_ok-push.ensures.items
-
-pub truncate-requires-clause-within : goal.truncate-requires-clause-within
-truncate-requires-clause-within c = cut_within c.args.aligned (sizes_of c.args.constraints.size) (members_of c.args.held) c.args.count c.args.output.now c.push_heading.new.output c.in_ok-push_heading.field-0 (c.end_of-start.result.bits + c.end_of-start.result.fills) c.in_ok-push_heading.ensures c.end_of-start.ensures.all
-
-pub truncate-requires-clause-place : goal.truncate-requires-clause-place
-truncate-requires-clause-place c = cut_place c.args.aligned (sizes_of c.args.constraints.size) (members_of c.args.held) c.args.count c.args.output.now c.push_heading.new.output c.in_ok-push_heading.field-0 (c.end_of-start.result.bits + c.end_of-start.result.fills) c.in_ok-push_heading.ensures c.end_of-start.ensures.all c.end_of-start.result.bits c.end_of-start.ensures.bits
+    let h = members_of c.args.held in
+    let q = place c.args.output.now in
+    let z = size_of c.sizes-range.result.0 c.sizes-range.result.1 in
+    let there = subst (λ y. IsThere (list_heading c.args.aligned y h c.args.count q)) c.sizes-range.ensures (heading_there c.args.aligned z h c.args.count q c.if-not-may_have.ensures) in
+    does_begin_bag c.args.aligned c.args.frames.now c.push.new.self c.args.output.now c.replace-outer.new.dest c.replace-outer.result (sizes_of c.args.constraints.size) c.sizes-range.result.0 c.args.held c.sizes-range.result.1 c.args.count c.in_ok-boxed.boxed there c.replace-outer.ensures.value c.sizes-range.ensures (c.replace-outer.ensures.after ∙ c.unplaced.ensures) c.in_ok-boxed.ensures.ok c.in_ok-push.ensures.items

@@ -28,7 +28,7 @@ returns-in-Short-clause-ok c =
     let next = c.read_piece.new.cursor in
     let front = subst (λ l. Front f (piece_form al w (l, xs)) s.cursor next) c.in-Short.is c.in_ok-piece.ensures.ok in
     let all = joins_last f al w n xs (c.args.count, bits_of c.args.bits) (s.total, s.joined) c.args.cursor.now s.cursor next (other_fragments_are_free c.args.variant) s.invariant front in
-    let k : c.unit_count.result ≡ n = c.unit_count.ensures.count ∙ ap count_of c.in-Short.is in
+    let k : c.count.result ≡ n = c.count.ensures.count ∙ ap count_of c.in-Short.is in
     let e : s.total + n ≡ c.in-Some.sum = omega (arith, c.in-Some.ensures) in
     (all.0, all.1 ∙ e, all.2 ∙ sym c.in_ok-extend_from_bitslice-2.ensures.ok, all.3)
 
@@ -54,7 +54,7 @@ fragments-preserved c =
     let next = c.read_piece.new.cursor in
     let front = subst (λ l. Front f (piece_form al w (l, xs)) s.cursor next) c.in_default-length.is c.in_ok-piece.ensures.ok in
     let more = joins_more f al w m xs (c.args.count, bits_of c.args.bits) (s.total, s.joined) start s.cursor next s.invariant front in
-    let k : c.unit_count.result ≡ m * 16384 = c.unit_count.ensures.count ∙ ap count_of c.in_default-length.is in
+    let k : c.count.result ≡ m * 16384 = c.count.ensures.count ∙ ap count_of c.in_default-length.is in
     let e : s.total + m * 16384 ≡ c.in-Some.sum = omega (arith, c.in-Some.ensures) in
     let l = sym c.in_ok-extend_from_bitslice-2.ensures.ok in
     subst (λ t. Joins f al w (c.args.count, bits_of c.args.bits) start (t, c.extend_from_bitslice-in-fragments.new.self) next) e (subst (λ b. Joins f al w (c.args.count, bits_of c.args.bits) start (s.total + m * 16384, b) next) l more)

@@ -21,10 +21,10 @@ returns-in_err-bits-clause-only c =
     let p = err_from_is_err_and c.from_residual-in_err-bits.result c.from_residual-in_err-bits.ensures.1 in
     let q = c.in_err-bits.ensures.short in
     let mid = c.read_length.new.cursor in
-    let few = subst (λ k. length mid.1 < k * c.args.width) c.unit_count.ensures.count q.1 in
+    let few = subst (λ k. length mid.1 < k * c.args.width) c.count.ensures.count q.1 in
     rw (p.1, p.2, q.0) (too_few (freedoms c.args.variant) (is_aligned c.args.variant) c.args.width c.in_ok-length.length c.args.cursor.now mid c.in_ok-length.ensures.ok few)
 
 pub returns-clause-ok : goal.returns-clause-ok
 returns-clause-ok c =
     let q = c.in_ok-bits.ensures in
-    piece_in (freedoms c.args.variant) (is_aligned c.args.variant) c.args.width c.in_ok-length.length (bits_of c.in_ok-bits.bits) c.args.cursor.now c.read_length.new.cursor c.take.new.self c.in_ok-length.ensures.ok q.bits (q.count ∙ ap (λ k. k * c.args.width) c.unit_count.ensures.count)
+    piece_in (freedoms c.args.variant) (is_aligned c.args.variant) c.args.width c.in_ok-length.length (bits_of c.in_ok-bits.bits) c.args.cursor.now c.read_length.new.cursor c.take.new.self c.in_ok-length.ensures.ok q.bits (q.count ∙ ap (λ k. k * c.args.width) c.count.ensures.count)

@@ -16,7 +16,7 @@ returns-in_err-push_between-in-Some-2 g c =
     let ts = g.U.Units.texts c.args.units.now in
     let p = place c.args.output.now in
     let high = c.in-Some.high in
-    let small : high < 65536 = omega (arith, c.if-high-ge65536.false) in
+    let small : high < 65536 = omega (arith, c.if-high-ge-LONG_COUNT.false) in
     let pads : Counts → Bool = λ x. c.args.pads in
     raised _ _ _ _ _ c.from_residual-in_err-push_between-in-Some-2.ensures.1
     (λ n. narrow_text c.args.aligned (counts_of c.args.range) (upper c.args.range) high pads ts p (sym c.as_end.ensures ∙ sym c.copied.ensures ∙ c.in-Some.is) small ∙ n)
@@ -30,7 +30,7 @@ returns-in_ok-push_counted-in-None g c =
 pub returns-in_ok-push_counted-in-Some : goal.returns-in_ok-push_counted-in-Some
 returns-in_ok-push_counted-in-Some g c =
     let pads : Counts → Bool = λ x. c.args.pads in
-    adds_same _ _ c.args.output.now c.push_counted-in-Some.new.output (wide_text c.args.aligned (counts_of c.args.range) (upper c.args.range) c.in-Some.high pads (g.U.Units.texts c.args.units.now) (place c.args.output.now) (sym c.as_end.ensures ∙ sym c.copied.ensures ∙ c.in-Some.is) c.if-high-ge65536.true) c.in_ok-push_counted-in-Some.ensures
+    adds_same _ _ c.args.output.now c.push_counted-in-Some.new.output (wide_text c.args.aligned (counts_of c.args.range) (upper c.args.range) c.in-Some.high pads (g.U.Units.texts c.args.units.now) (place c.args.output.now) (sym c.as_end.ensures ∙ sym c.copied.ensures ∙ c.in-Some.is) c.if-high-ge-LONG_COUNT.true) c.in_ok-push_counted-in-Some.ensures
 
 pub returns-in_ok-push_between-in-Some-2 : goal.returns-in_ok-push_between-in-Some-2
 returns-in_ok-push_between-in-Some-2 g c =
@@ -38,7 +38,7 @@ returns-in_ok-push_between-in-Some-2 g c =
     let old = c.args.output.now in
     let new = c.push_between.new.output in
     let high = c.in-Some.high in
-    let small : high < 65536 = omega (arith, c.if-high-ge65536.false) in
+    let small : high < 65536 = omega (arith, c.if-high-ge-LONG_COUNT.false) in
     let pads : Counts → Bool = λ x. c.args.pads in
     adds_same _ _ old new
     (narrow_text c.args.aligned (counts_of c.args.range) (upper c.args.range) high pads ts (place old) (sym c.as_end.ensures ∙ sym c.copied.ensures ∙ c.in-Some.is) small)

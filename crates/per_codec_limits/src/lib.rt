@@ -1,0 +1,8 @@
+//! Where the packed encoding rules (X.691 11.9) change the form of a length, for writers and readers.
+#![tactic(auto)]
+
+/// How many units the smallest fragment has; others have two to four times as many (X.691 11.9.3.8).
+pub const FRAGMENT: usize = 16384;
+
+/// From so many on the highest number of units that there may be does not tell the form of their number (X.691 11.9.4.1).
+pub const LONG_COUNT: usize = 65536;
