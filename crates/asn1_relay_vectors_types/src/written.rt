@@ -17,10 +17,13 @@ use asn1_schema_types::{
 pub trait WriteComponents: ComponentsOf {
     /// Hands over the records of the components, and the end of the sequence or set.
     fn write_components<E: Encoder>(&self, encoder: &mut E) -> Result<(), EncodeError>
-        ensures ok { OnOk result (WritesTail E.step Self.table (Self.root self.now) (Self.added self.now) encoder.old encoder.new) }
-        ensures only { IfErr result (CannotWriteTail E.step Self.table (Self.root self.now) (Self.added self.now) encoder.old) }
+        ensures ok { OnOk result
+            (WritesTail E.step Self.table (Self.root self.now) (Self.added self.now) encoder.old encoder.new) }
+        ensures only { IfErr result
+            (CannotWriteTail E.step Self.table (Self.root self.now) (Self.added self.now) encoder.old) }
         ensures failed { OnErr result (E.has_failed encoder.new) }
-        ensures already { E.has_failed encoder.old → result ≡ Err EncodeError.AlreadyFailed };
+        ensures already { E.has_failed encoder.old → result ≡ Err EncodeError.AlreadyFailed }
+        ensures after { result ≡ Err EncodeError.AlreadyFailed → E.has_failed encoder.old };
 }
 
 /// Additions that are written as they were read.
@@ -30,7 +33,8 @@ pub trait WriteAdditions: AdditionsOf {
         ensures ok { OnOk result (WritesAdded E.step Self.additions (Self.parts self.now) encoder.old encoder.new) }
         ensures only { IfErr result (CannotWriteAdded E.step Self.additions (Self.parts self.now) encoder.old) }
         ensures failed { OnErr result (E.has_failed encoder.new) }
-        ensures already { E.has_failed encoder.old → result ≡ Err EncodeError.AlreadyFailed };
+        ensures already { E.has_failed encoder.old → result ≡ Err EncodeError.AlreadyFailed }
+        ensures after { result ≡ Err EncodeError.AlreadyFailed → E.has_failed encoder.old };
 }
 
 impl WriteComponents for End {
