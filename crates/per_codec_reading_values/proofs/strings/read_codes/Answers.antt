@@ -65,5 +65,5 @@ returns-clause-only g c =
     let o = permitted_orderly S.kind l.extensible l.characters c.requires.kind in
     let a = c.in_ok-alphabet.alphabet in
     let us = units_in c.in_ok-run.run' in
-    let x = subst (λ w. Front f (sized_units al z any_count w (pads_of Characters w) us) c.args.cursor.now c.read_sized.new.cursor) c.width-width.ensures.bits c.in_ok-run.ensures.ok in
+    let x = subst (λ w. Front f (sized_units al z any_count w (pads_of Characters w) us) c.args.cursor.now c.read_sized.new.cursor) c.width.ensures.bits c.in_ok-run.ensures.ok in
     refused_codes f (Per.form al (character_string S.kind z l any_count)) S.kind a us c.args.cursor.now c.in-Err.error (fitting al (permitted S.kind l) a c.in_ok-alphabet.ensures.characters b o) (no_characters f al S.kind z l a c.in_ok-alphabet.ensures.characters b c.requires.kind g.met.S.StaticPermittedAlphabet.holds o us c.args.cursor.now c.read_sized.new.cursor x) c.in-Err.ensures.refused c.in-Err.ensures.fresh
