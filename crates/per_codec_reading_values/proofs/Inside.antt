@@ -1,7 +1,6 @@
 -- Where octets stand that are taken.
-use Rattle.std.proofs.Common.{◌≡◌, ℕ, ◌+◌, ◌*◌, ◌%◌, ◌<◌, ◌≤◌, ltb, cond, Some, None, List, Bool, length, refl, ap, sym, ◌∙◌, subst, arith}
+use Rattle.std.proofs.Common.{◌≡◌, ℕ, ◌+◌, ◌*◌, ◌%◌, ◌<◌, ◌≤◌, cond, Some, None, length, ap, sym, ◌∙◌, subst}
 use Rattle.std.proofs.lemmas.Bool.{lt-ltb, le-ltb, cases_lt}
-use Rattle.std.specs.Prelude.{◌⊎◌}
 use Rattle.std.proofs.Common.{inl, inr}
 use Rattle.per_codec_reading.specs.Runs.{Storage, bits_in, IsLent, storage_inside}
 use Rattle.per_codec_reading.specs.declared.runs.RunBits.{RunBits}

@@ -1,4 +1,4 @@
-use Rattle.std.proofs.Common.{◌≡◌, ◌∷◌, None, Some, sym, ap, ◌∙◌}
+use Rattle.std.proofs.Common.{◌∷◌, sym, ap, ◌∙◌}
 use Rattle.per_codec_decoder.specs.Additions.{unknown_marks}
 use Rattle.per_codec_decoder.specs.Scopes.{Open, scope_of, scopes_of}
 use Rattle.per_codec_decoder.proofs.Due.{no_end_due}
