@@ -4,7 +4,6 @@ use Rattle.std.specs.Prelude.{OnOk, not}
 use Rattle.asn1_schema_presented.specs.Levels.{level}
 use Rattle.asn1_model.specs.Value.{Value, truth, nothing, number, item, bit_list, octet_list, text, arcs}
 use Rattle.asn1_model.specs.Schema.{Range, Bounds, Counts, Size, Alphabet, StringKind, Schema, boolean, null, integer, enumerated, bit_string, octet_string, character_string, object_identifier}
-use Rattle.asn1_model.specs.Lawful.{is_alphabet}
 use Rattle.asn1_model.specs.Numbers.{is_within, is_count_within, fits_128}
 use Rattle.asn1_model.specs.Strings.{each_is, is_octet}
 use Rattle.asn1_model.specs.Tables.{is_bounded}
@@ -50,11 +49,11 @@ module _ (al : Bool) (free : Per.Freedom → Bool) (a b : State) where
   asked_octets z h (octets y i v) k t = let e : octet_string y i ≡ octet_string z h = cc k in (octet_list v, subst (λ s. Found free (Per.form al s (octet_list v)) a b) e t)
   asked_octets z h r k t = cc k
 
-  pub asked_characters : (c : StringKind) (z : Size) (l : Alphabet) (h : Counts) (r : Record) → question r ≡ asks_characters c z l h → Takes al free a r b → (is_alphabet c l.characters ≡ true) × OfType (character_string c z l h)
+  pub asked_characters : (c : StringKind) (z : Size) (l : Alphabet) (h : Counts) (r : Record) → question r ≡ asks_characters c z l h → Takes al free a r b → OfType (character_string c z l h)
   asked_characters c z l h (characters d y m i v) k t =
       let e : characters d y m i v ≡ characters c z l h v = cc k in
       let u : Takes al free a (characters c z l h v) b = subst (λ s. Takes al free a s b) e t in
-      (u.0, (text v, u.1))
+      (text v, u)
   asked_characters c z l h r k t = cc k
 
   pub asked_identifier : (r : Record) → question r ≡ asks_identifier → Takes al free a r b → OfType object_identifier
@@ -120,12 +119,3 @@ pub no_member : (old now : Held) (e x : DecodeError) → now ≡ old → x ≡ e
 no_member old now e x same faults m =
     let n : NoFurther (is_aligned old.variant) (freedoms old.variant) old.place old.scopes e = subst (λ (g : Held). NoFurther (is_aligned g.variant) (freedoms g.variant) g.place g.scopes e) same m in
     record { none = λ i r new k p. let t = asked_further (is_aligned old.variant) (freedoms old.variant) (state_of old) (state_of new) r k p.taken in n.none (λ y. i (faults ∙ y)) t.0 (state_of new) t.1 }
-
--- characters of an alphabet alone
-pub none_of_alphabet : (old now : Held) (c : StringKind) (z : Size) (l : Alphabet) (h : Counts) (e x : DecodeError) → now ≡ old → x ≡ e → (is_alphabet c l.characters ≡ true → Misses (freedoms now.variant) (Per.form (is_aligned now.variant) (character_string c z l h)) now.place e) → NoRecord Finds (asks_characters c z l h) old x
-none_of_alphabet old now c z l h e x same faults m = record {
-  none = λ i r new k p.
-      let t = asked_characters (is_aligned old.variant) (freedoms old.variant) (state_of old) (state_of new) c z l h r k p.taken in
-      let n : Misses (freedoms old.variant) (Per.form (is_aligned old.variant) (character_string c z l h)) old.place e = subst (λ (g : Held). Misses (freedoms g.variant) (Per.form (is_aligned g.variant) (character_string c z l h)) g.place e) same (m t.0) in
-      missed (freedoms old.variant) (Per.form (is_aligned old.variant) (character_string c z l h)) old.place e n (λ y. i (faults ∙ y)) t.1.0 new.place t.1.1.0;
-}

@@ -1,5 +1,4 @@
 pub mod Closing
-pub mod Ascending
 pub mod Finding
 pub mod Settling
 pub mod Opening

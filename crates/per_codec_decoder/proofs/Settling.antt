@@ -3,7 +3,6 @@ use Rattle.std.proofs.Common.{◌≡◌, ℕ, zero, suc, ◌+◌, ltb, Bool, tru
 use Rattle.std.specs.Prelude.{OnOk}
 use Rattle.asn1_schema_presented.specs.Levels.{level}
 use Rattle.asn1_model.specs.Schema.{Counts, Size, Alphabet, StringKind, Schema, character_string}
-use Rattle.asn1_model.specs.Lawful.{is_alphabet}
 use Rattle.asn1_model.specs.Per
 use Rattle.asn1_schema_decode.specs.Reads.{NoRecord}
 use Rattle.asn1_schema_faults.specs.declared.DecodeError.{DecodeError}
@@ -14,7 +13,7 @@ use Rattle.per_codec_reading.proofs.Fronts.{leads_join}
 use Rattle.per_codec_decoder.specs.Held.{Held, state_of, kept, Finds, IsReady, Stays, Moves, EntersMembers, EntersComponents}
 use Rattle.per_codec_decoder.specs.Preamble.{HasPreamble}
 use Rattle.per_codec_decoder.specs.Members.{HasMembers}
-use Rattle.per_codec_decoder.proofs.Finding.{OfType, none_found, none_of_alphabet}
+use Rattle.per_codec_decoder.proofs.Finding.{OfType, asked_characters, none_found}
 
 -- a record is found
 pub steps : (old now new : Held) (p : Place) (k : List Scope) (l : ℕ) (r : Record) (m : Bool) → now ≡ old → IsReady old → Takes (is_aligned now.variant) (freedoms now.variant) (state_of now) r (p, k) → level now.most r now.levels ≡ Some l → m ≡ kept now r → new ≡ record { place = p; scopes = k; levels = l; most = now.most; failed = now.failed; variant = now.variant; lends = m } → Finds old r new
@@ -133,18 +132,7 @@ found_member (Ok x) (Ok y) old now mid new here there n k same ready h p r z g m
 
 -- ---- characters
 pub uncharacters : {T : Type 0} (answer result : Result T DecodeError) (c : StringKind) (z : Size) (l : Alphabet) (h : Counts) (old now : Held) (here : Place) → now ≡ old → here ≡ now.place → result ≡ answer → IfErr answer (Misses (freedoms now.variant) (Per.form (is_aligned now.variant) (character_string c z l h)) here) → IfErr result (NoRecord Finds (asks_characters c z l h) old)
-uncharacters answer (Ok x) c z l h old now here same p r m = tt
-uncharacters (Ok x) (Err e) c z l h old now here same p r m = cc
-uncharacters (Err x) (Err e) c z l h old now here same p r m =
-    let k : e ≡ x = cc in
-    none_of_alphabet old now c z l h x e same k (λ i. subst (λ (q : Place). Misses (freedoms now.variant) (Per.form (is_aligned now.variant) (character_string c z l h)) q x) p m)
-
-pub uncharacters_of : {T : Type 0} (answer result : Result T DecodeError) (c : StringKind) (z : Size) (l : Alphabet) (h : Counts) (old now : Held) (here : Place) → now ≡ old → here ≡ now.place → result ≡ answer → IfErr answer (λ e. is_alphabet c l.characters ≡ true → Misses (freedoms now.variant) (Per.form (is_aligned now.variant) (character_string c z l h)) here e) → IfErr result (NoRecord Finds (asks_characters c z l h) old)
-uncharacters_of answer (Ok x) c z l h old now here same p r m = tt
-uncharacters_of (Ok x) (Err e) c z l h old now here same p r m = cc
-uncharacters_of (Err x) (Err e) c z l h old now here same p r m =
-    let k : e ≡ x = cc in
-    none_of_alphabet old now c z l h x e same k (λ i. subst (λ (q : Place). Misses (freedoms now.variant) (Per.form (is_aligned now.variant) (character_string c z l h)) q x) p (m i))
+uncharacters answer result c z l h old now here same p r m = unfound answer result (asks_characters c z l h) (character_string c z l h) old now here same p r m (λ al free a b i k t. asked_characters al free a b c z l h i k t)
 
 -- ---- the end of a message
 pub finished : (answer result : Result (Unit {0}) DecodeError) (old now new : Held) (here there : Place) (n : ℕ) → now ≡ old → IsReady old → here ≡ now.place → n ≡ there.0 → result ≡ answer → IsTrue (freedoms now.variant Per.any_filling) → OnOk answer ((free : Per.Freedom → Bool) → IsTrue (free Per.any_filling) → Front free (completion here.0) here there) → OnOk result (Moves now n new) → OnOk result (IsReady old × Front (freedoms old.variant) (completion old.place.0) old.place new.place)

@@ -15,7 +15,6 @@ ghost use Rattle.asn1_values_bits.specs.BitStr.{bits_of};
 ghost use Rattle.per_codec_fronts.specs.Takes.{Front, completion};
 ghost use Rattle.per_codec_reading.specs.Fronts.{freedoms, is_aligned};
 
-use crate::alphabets::is_alphabet;
 use crate::completion::{read_completion, read_to_end};
 use crate::octets::read_held_octets;
 use crate::options::DecoderOptions;
@@ -481,9 +480,6 @@ impl<'input> asn1_schema_decode::Decoder for Decoder<'input> {
         constraints: Constraints,
     ) -> Result<S, DecodeError> {
         self.begin_record()?;
-        if !is_alphabet::<S>(constraints) {
-            return Err(self.fail(DecodeError::PermittedAlphabet));
-        }
         let mut cursor = self.place.cursor();
         let answer = read_characters(alloc, &mut cursor, self.variant, constraints);
         let position = cursor.position();

@@ -4,7 +4,6 @@
 #![tactic(auto)]
 
 mod additions;
-mod alphabets;
 mod completion;
 pub mod decoder;
 mod frames;
