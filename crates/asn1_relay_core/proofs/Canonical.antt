@@ -3,6 +3,7 @@ use Rattle.std.proofs.Common.{◌≡◌, ◌≢◌, ◌⊎◌, inl, inr, ℕ, ze
 use Rattle.asn1_model.specs.Schema.{Schema}
 use Rattle.asn1_model.specs.Value.{Value, depth}
 use Rattle.asn1_model.specs.Lawful.{IsLawful}
+use Rattle.asn1_model.specs.Normal.{IsTidy}
 use Rattle.asn1_model.specs.Rules.{Rules, canonical}
 use Rattle.asn1_model.specs.Versions.{Extends}
 use Rattle.asn1_schema_versions.specs.Versions.{ExtendsFrom, Unfolds}
@@ -19,7 +20,7 @@ some_is e = cc
 
 -- ---- types that agree in what hops read
 
-module _ (s t : Schema) (k : IsLawful s) (l : IsLawful t) (h : AgreesTo 128 s t) where
+module _ (s t : Schema) (k : IsTidy s) (l : IsTidy t) (h : AgreesTo 128 s t) where
   message_alike : (r : Rules) (v : Value) (w : List ℕ) → (IsMessage r s v w → IsMessage r t v w) × (IsMessage r t v w → IsMessage r s v w)
   message_alike r v w = ((λ m. ((means_the_same r 128 s t v w k l h m.1).2 m.0, m.1)), (λ m. ((means_the_same r 128 s t v w k l h m.1).3 m.0, m.1)))
 
@@ -32,7 +33,7 @@ module _ (s t : Schema) (k : IsLawful s) (l : IsLawful t) (h : AgreesTo 128 s t)
   answers_alike source target w surplus p = (p.0, p.1, p.2, p.3, p.4, (message_alike source p.2 p.0).0 p.5)
   answers_alike source target w no_target p = (p.0, (message_alike source p.0 w).0 p.1, written_alike target p.0 None p.1.1 p.2)
 
-module _ (old new s t : Schema) (k : IsLawful old) (l : IsLawful new) (k' : IsLawful s) (l' : IsLawful t) (h : AgreesTo 128 old s) (h' : AgreesTo 128 new t) where
+module _ (old new s t : Schema) (k : IsTidy old) (l : IsTidy new) (k' : IsTidy s) (l' : IsTidy t) (h : AgreesTo 128 old s) (h' : AgreesTo 128 new t) where
   hop_alike : (n : Version) (from to : Rules) (w : List ℕ) (a : Answer) → IsAnswer from to (schema_of old new n) w a → IsAnswer from to (schema_of s t n) w a
   hop_alike older from to w a p = answers_alike old s k k' h from to w a p
   hop_alike newer from to w a p = answers_alike new t l l' h' from to w a p
@@ -67,12 +68,14 @@ module _ (old new : Schema) (v : Value) where
 record IsUnfolded (old new : Schema) (from : Rules) (w : List ℕ) (s t : Schema) (v : Value) : Type 0 where
   is_lawful_older : IsLawful s
   is_lawful_newer : IsLawful t
+  is_tidy_older : IsTidy s
+  is_tidy_newer : IsTidy t
   extends : Extends s t
   agrees_older : AgreesTo 128 old s
   agrees_newer : AgreesTo 128 new t
   is_encoding : canonical from t v ≡ Some w
 
-module _ (old new : Schema) (k : IsLawful old) (l : IsLawful new) (from : Rules) (hops : List Hop) (w : List ℕ) (some : hops ≢ []) (s t : Schema) (v : Value) (c : IsUnfolded old new from w s t v) where
+module _ (old new : Schema) (k : IsTidy old) (l : IsTidy new) (from : Rules) (hops : List Hop) (w : List ℕ) (some : hops ≢ []) (s t : Schema) (v : Value) (c : IsUnfolded old new from w s t v) where
   -- what comes of the octets is what the value tells
   told_of : (o : Outcome) → IsOutcome s t from hops w o → IsTold s t from hops v o
   told_of (arrived out) p = (arrives_free s t c.is_lawful_older c.is_lawful_newer c.extends v from hops w c.is_encoding out p, arrives_last s t c.is_lawful_older c.is_lawful_newer c.extends v from hops w c.is_encoding some out p)
@@ -87,7 +90,7 @@ module _ (old new : Schema) (k : IsLawful old) (l : IsLawful new) (from : Rules)
   of_told (refused i a) p = fails_refuses s t c.is_lawful_older c.is_lawful_newer c.extends v (at_first from) hops w i a c.is_encoding p
 
   alike : (o : Outcome) → IsOutcome old new from hops w o → IsOutcome s t from hops w o
-  alike o p = outcome_alike old new s t k l c.is_lawful_older c.is_lawful_newer c.agrees_older c.agrees_newer from hops w o p
+  alike o p = outcome_alike old new s t k l c.is_tidy_older c.is_tidy_newer c.agrees_older c.agrees_newer from hops w o p
 
   told_unfolded : (x : Option Outcome) → IfSome x (IsOutcome old new from hops w) → IfSome x (IsTold s t from hops v)
   told_unfolded None r = tt
@@ -97,13 +100,15 @@ module _ (old new : Schema) (k : IsLawful old) (l : IsLawful new) (from : Rules)
   only_unfolded None r o p = inl refl
   only_unfolded (Some x) r o p = inr (ap Some (one_outcome s t c.is_lawful_older c.is_lawful_newer from hops w x o (alike x r) (of_told o p)))
 
-module _ (old new : ℕ → Schema) (k : (n : ℕ) → IsLawful (old n)) (l : (n : ℕ) → IsLawful (new n)) (x : ExtendsFrom 128 old new) (y : Unfolds old) (z : Unfolds new) (from : Rules) (hops : List Hop) (w : List ℕ) (some : hops ≢ []) (n : ℕ) (v : Value) (c : (128 ≤ n) × (canonical from (new n) v ≡ Some w)) where
+module _ (old new : ℕ → Schema) (k : (n : ℕ) → IsLawful (old n)) (l : (n : ℕ) → IsLawful (new n)) (i : (n : ℕ) → IsTidy (old n)) (j : (n : ℕ) → IsTidy (new n)) (x : ExtendsFrom 128 old new) (y : Unfolds old) (z : Unfolds new) (from : Rules) (hops : List Hop) (w : List ℕ) (some : hops ≢ []) (n : ℕ) (v : Value) (c : (128 ≤ n) × (canonical from (new n) v ≡ Some w)) where
   unfolded : IsUnfolded (old 128) (new 128) from w (old n) (new n) v
   unfolded =
       let h : 128 ≤ 128 = omega arith in
       record {
         is_lawful_older = k n;
         is_lawful_newer = l n;
+        is_tidy_older = i n;
+        is_tidy_newer = j n;
         extends = x.unfolded n c.0;
         agrees_older = y.alike 128 128 n h c.0;
         agrees_newer = z.alike 128 128 n h c.0;
@@ -111,7 +116,7 @@ module _ (old new : ℕ → Schema) (k : (n : ℕ) → IsLawful (old n)) (l : (n
       }
 
   pub is_told : (o : Option Outcome) → IfSome o (IsOutcome (old 128) (new 128) from hops w) → IfSome o (IsTold (old n) (new n) from hops v)
-  is_told o r = told_unfolded (old 128) (new 128) (k 128) (l 128) from hops w some (old n) (new n) v unfolded o r
+  is_told o r = told_unfolded (old 128) (new 128) (i 128) (j 128) from hops w some (old n) (new n) v unfolded o r
 
   pub only_told : (o : Option Outcome) → IfSome o (IsOutcome (old 128) (new 128) from hops w) → (q : Outcome) → IsTold (old n) (new n) from hops v q → (o ≡ None) ⊎ (o ≡ Some q)
-  only_told o r q p = only_unfolded (old 128) (new 128) (k 128) (l 128) from hops w some (old n) (new n) v unfolded o r q p
+  only_told o r q p = only_unfolded (old 128) (new 128) (i 128) (j 128) from hops w some (old n) (new n) v unfolded o r q p

@@ -3,6 +3,7 @@ use Rattle.std.proofs.Common.{◌≡◌, ◌⊎◌, inl, inr, ℕ, ◌≤◌, Li
 use Rattle.asn1_model.specs.Schema.{Schema}
 use Rattle.asn1_model.specs.Value.{Value}
 use Rattle.asn1_model.specs.Lawful.{IsLawful}
+use Rattle.asn1_model.specs.Normal.{IsTidy}
 use Rattle.asn1_model.specs.Rules.{Rules, canonical}
 use Rattle.asn1_laws_values.specs.Unfolding.{AgreesTo}
 use Rattle.asn1_laws_values.proofs.Unfolding.{means_the_same}
@@ -14,7 +15,7 @@ use Rattle.asn1_schema_versions.specs.Versions.{ExtendsFrom, Unfolds}
 
 -- ---- types that agree in what a relay reads
 
-module _ (s t : Schema) (k : IsLawful s) (l : IsLawful t) (h : AgreesTo 128 s t) (source target : Rules) (limit : ℕ) where
+module _ (s t : Schema) (k : IsTidy s) (l : IsTidy t) (h : AgreesTo 128 s t) (source target : Rules) (limit : ℕ) where
   to_other : (m : Message) → IsMessage source s limit m → IsMessage source t limit m
   to_other m i = record {
     is_encoding = (means_the_same source 128 s t m.value m.octets k l h i.is_shallow).2 i.is_encoding;
@@ -71,12 +72,12 @@ module _ (s t : Schema) (k : IsLawful s) (l : IsLawful t) (h : AgreesTo 128 s t)
 
 -- ---- what the values tell
 
-module _ (old new : ℕ → Schema) (k : (n : ℕ) → IsLawful (old n)) (l : (n : ℕ) → IsLawful (new n)) (x : ExtendsFrom 128 old new) (y : Unfolds old) where
+module _ (old new : ℕ → Schema) (k : (n : ℕ) → IsLawful (old n)) (l : (n : ℕ) → IsLawful (new n)) (i : (n : ℕ) → IsTidy (old n)) (x : ExtendsFrom 128 old new) (y : Unfolds old) where
   pub older_told : (source target : Rules) (limit n number : ℕ) (vs : List Value) (w out rest : List ℕ) (why : Option Stop) → 128 ≤ n → AreJoined source (new n) vs w → Relays source target (old 128) limit w number out rest why
       → (halt : Option Halt) × RelaysOlder source target (old n) (new n) limit vs w number out rest halt × IsEnd source target (old n) (new n) limit rest halt why
   older_told source target limit n number vs w out rest why h j q =
       let b : 128 ≤ 128 = omega arith in
-      let r = relays_alike (old 128) (old n) (k 128) (k n) (y.alike 128 128 n b h) source target limit w number out rest why q in
+      let r = relays_alike (old 128) (old n) (i 128) (i n) (y.alike 128 128 n b h) source target limit w number out rest why q in
       let g = goes source target (old n) (new n) limit (k n) (l n) (x.unfolded n h) vs w j in
       let d = does source target (old n) (new n) limit (k n) (l n) (x.unfolded n h) vs w g.0 g.1 g.2 g.3 g.4 r.messages out rest why r.front r.stops in
       let To : ℕ → List ℕ → List ℕ → Type 0 = λ i o z. RelaysOlder source target (old n) (new n) limit vs w i o z g.3 in

@@ -112,6 +112,8 @@ impl Group for Extra {
 
     ghost lawful = { ⟦<Extra as Described>⟧.typed.lawful };
 
+    ghost tidy = { ⟦<Extra as Described>⟧.typed.tidy };
+
     ghost each = { ⟦<Extra as Described>⟧.valued };
 
     fn is_empty(&self) -> bool {

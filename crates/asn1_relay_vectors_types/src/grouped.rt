@@ -95,6 +95,8 @@ impl Group for Grouped<OldDefault> {
 
     ghost lawful = { ⟦<OldDefault as Described>⟧.typed.lawful };
 
+    ghost tidy = { ⟦<OldDefault as Described>⟧.typed.tidy };
+
     ghost each = { λ x. ⟦<OldDefault as Described>⟧.valued x.components };
 
     fn is_empty(&self) -> bool {
@@ -117,6 +119,8 @@ impl Group for Grouped<NewDefault> {
     ghost plain = { record { unmarked = refl; no_additions = refl; tagged = refl } };
 
     ghost lawful = { ⟦<NewDefault as Described>⟧.typed.lawful };
+
+    ghost tidy = { ⟦<NewDefault as Described>⟧.typed.tidy };
 
     ghost each = { λ x. ⟦<NewDefault as Described>⟧.valued x.components };
 

@@ -5,6 +5,7 @@ use Rattle.asn1_model.specs.Value.{Value, Values, Parts, number, members, no_mor
 use Rattle.asn1_model.specs.Schema.{Schema, required, integer, cut}
 use Rattle.asn1_model.specs.Types.{any_size}
 use Rattle.asn1_model.specs.Lawful.{is_lawful}
+use Rattle.asn1_model.specs.Normal.{is_tidy}
 use Rattle.asn1_schema_presented.specs.Presents.{there, with_part}
 use Rattle.asn1_schema_presented.specs.Parts.{values_of}
 use Rattle.asn1_schema_presented.specs.Tables.{Table, no_table, with_field, components_at, scope, sequence_type, list_type, IsType, IsValue}
@@ -62,21 +63,21 @@ list_typed : {s : ℕ → Schema} → IsSequence s → IsSequence (list_type any
 list_typed t = type_list any_size any_number refl refl t
 
 mutual
-  unfolding tree_schema branches_schema is_lawful
+  unfolding tree_schema branches_schema is_lawful is_tidy
 
   tree_at : (n : ℕ) → IsSequence (λ _. tree_schema n)
-  tree_at zero = record { tagged = refl; lawful = λ m. refl; no_group = λ m. refl }
-  tree_at (suc n) = record { tagged = refl; lawful = λ m. (sequence_typed (branches_at n)).lawful (suc n); no_group = λ m. (sequence_typed (branches_at n)).no_group (suc n) }
+  tree_at zero = record { tagged = refl; lawful = λ m. refl; tidy = λ m. refl; no_group = λ m. refl }
+  tree_at (suc n) = record { tagged = refl; lawful = λ m. (sequence_typed (branches_at n)).lawful (suc n); tidy = λ m. (sequence_typed (branches_at n)).tidy (suc n); no_group = λ m. (sequence_typed (branches_at n)).no_group (suc n) }
 
   branches_at : (n : ℕ) → IsSequence (λ _. branches_schema n)
-  branches_at zero = record { tagged = refl; lawful = λ m. refl; no_group = λ m. refl }
-  branches_at (suc n) = record { tagged = refl; lawful = λ m. (list_typed (tree_at n)).lawful (suc n); no_group = λ m. (list_typed (tree_at n)).no_group (suc n) }
+  branches_at zero = record { tagged = refl; lawful = λ m. refl; tidy = λ m. refl; no_group = λ m. refl }
+  branches_at (suc n) = record { tagged = refl; lawful = λ m. (list_typed (tree_at n)).lawful (suc n); tidy = λ m. (list_typed (tree_at n)).tidy (suc n); no_group = λ m. (list_typed (tree_at n)).no_group (suc n) }
 
 pub tree_typed : IsType (record { class = 0; number = 16 } ∷ []) tree_schema
-tree_typed = record { tagged = refl; lawful = λ n. (tree_at n).lawful n; no_group = λ n. (tree_at n).no_group n }
+tree_typed = record { tagged = refl; lawful = λ n. (tree_at n).lawful n; tidy = λ n. (tree_at n).tidy n; no_group = λ n. (tree_at n).no_group n }
 
 pub branches_typed : IsType (record { class = 0; number = 16 } ∷ []) branches_schema
-branches_typed = record { tagged = refl; lawful = λ n. (branches_at n).lawful n; no_group = λ n. (branches_at n).no_group n }
+branches_typed = record { tagged = refl; lawful = λ n. (branches_at n).lawful n; tidy = λ n. (branches_at n).tidy n; no_group = λ n. (branches_at n).no_group n }
 
 -- What a tree means, and what the trees that branch off mean.
 abbrev mutual

@@ -1,4 +1,5 @@
 //! Values under another tag (X.680 31).
+ghost use Rattle.asn1_schema_presented.proofs.TypesByKind.{retagged};
 ghost use Rattle.std.specs.Prelude.{◌≡◌};
 ghost use Rattle.std.proofs.Common.{◌∙◌};
 ghost use Rattle.std.proofs.Math.Bool.{and-true};
@@ -80,7 +81,7 @@ impl<T: Described, V: Described> Described for Implicit<T, V> {
 
     ghost meaning = { λ t. V.meaning t.value };
 
-    ghost typed = { record { tagged = T.typed.tagged; lawful = V.typed.lawful; no_group = V.typed.no_group } };
+    ghost typed = { retagged T.typed.tagged V.typed };
 
     ghost valued = { λ t. V.valued t.value };
 
@@ -195,7 +196,7 @@ impl<T: Described, V: Described> Described for Explicit<T, V> {
 
     ghost meaning = { λ t. V.meaning t.value };
 
-    ghost typed = { record { tagged = T.typed.tagged; lawful = V.typed.lawful; no_group = V.typed.no_group } };
+    ghost typed = { retagged T.typed.tagged V.typed };
 
     ghost valued = { λ t. V.valued t.value };
 

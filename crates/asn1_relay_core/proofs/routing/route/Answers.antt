@@ -25,14 +25,14 @@ returns-in_err-octets-clause-told g c = λ n v h.
     let k = g.Old.Described.typed.lawful in
     let l = g.New.Described.typed.lawful in
     let x = g.met.New.Extends in
-    is_told g.Old.Described.schema g.New.Described.schema k l x.extends x.old_unfolds x.unfolds (rules_of c.args.from) (hops_of c.args.hops.now) c.args.input.now (some_model_hop c.args.hops.now c.requires) n v h (outcome_of c.from_residual.result) (returns-in_err-octets-clause-right g c)
+    is_told g.Old.Described.schema g.New.Described.schema k l g.Old.Described.typed.tidy g.New.Described.typed.tidy x.extends x.old_unfolds x.unfolds (rules_of c.args.from) (hops_of c.args.hops.now) c.args.input.now (some_model_hop c.args.hops.now c.requires) n v h (outcome_of c.from_residual.result) (returns-in_err-octets-clause-right g c)
 
 pub returns-in_err-octets-clause-only_told : goal.returns-in_err-octets-clause-only_told
 returns-in_err-octets-clause-only_told g c = λ n v o h p.
     let k = g.Old.Described.typed.lawful in
     let l = g.New.Described.typed.lawful in
     let x = g.met.New.Extends in
-    only_told g.Old.Described.schema g.New.Described.schema k l x.extends x.old_unfolds x.unfolds (rules_of c.args.from) (hops_of c.args.hops.now) c.args.input.now (some_model_hop c.args.hops.now c.requires) n v h (outcome_of c.from_residual.result) (returns-in_err-octets-clause-right g c) o p
+    only_told g.Old.Described.schema g.New.Described.schema k l g.Old.Described.typed.tidy g.New.Described.typed.tidy x.extends x.old_unfolds x.unfolds (rules_of c.args.from) (hops_of c.args.hops.now) c.args.input.now (some_model_hop c.args.hops.now c.requires) n v h (outcome_of c.from_residual.result) (returns-in_err-octets-clause-right g c) o p
 
 pub returns-in_err-octets-2-clause-right : goal.returns-in_err-octets-2-clause-right
 returns-in_err-octets-2-clause-right g c =
@@ -53,14 +53,14 @@ returns-in_err-octets-2-clause-told g c = λ n v h.
     let k = g.Old.Described.typed.lawful in
     let l = g.New.Described.typed.lawful in
     let x = g.met.New.Extends in
-    is_told g.Old.Described.schema g.New.Described.schema k l x.extends x.old_unfolds x.unfolds (rules_of c.args.from) (hops_of c.args.hops.now) c.args.input.now (some_model_hop c.args.hops.now c.requires) n v h (outcome_of c.from_residual-in_err-octets-2.result) (returns-in_err-octets-2-clause-right g c)
+    is_told g.Old.Described.schema g.New.Described.schema k l g.Old.Described.typed.tidy g.New.Described.typed.tidy x.extends x.old_unfolds x.unfolds (rules_of c.args.from) (hops_of c.args.hops.now) c.args.input.now (some_model_hop c.args.hops.now c.requires) n v h (outcome_of c.from_residual-in_err-octets-2.result) (returns-in_err-octets-2-clause-right g c)
 
 pub returns-in_err-octets-2-clause-only_told : goal.returns-in_err-octets-2-clause-only_told
 returns-in_err-octets-2-clause-only_told g c = λ n v o h p.
     let k = g.Old.Described.typed.lawful in
     let l = g.New.Described.typed.lawful in
     let x = g.met.New.Extends in
-    only_told g.Old.Described.schema g.New.Described.schema k l x.extends x.old_unfolds x.unfolds (rules_of c.args.from) (hops_of c.args.hops.now) c.args.input.now (some_model_hop c.args.hops.now c.requires) n v h (outcome_of c.from_residual-in_err-octets-2.result) (returns-in_err-octets-2-clause-right g c) o p
+    only_told g.Old.Described.schema g.New.Described.schema k l g.Old.Described.typed.tidy g.New.Described.typed.tidy x.extends x.old_unfolds x.unfolds (rules_of c.args.from) (hops_of c.args.hops.now) c.args.input.now (some_model_hop c.args.hops.now c.requires) n v h (outcome_of c.from_residual-in_err-octets-2.result) (returns-in_err-octets-2-clause-right g c) o p
 
 pub returns-in_err-octets-2-clause-reached : goal.returns-in_err-octets-2-clause-reached
 returns-in_err-octets-2-clause-reached g c =
@@ -94,11 +94,11 @@ returns-clause-told g c = λ n v h.
     let k = g.Old.Described.typed.lawful in
     let l = g.New.Described.typed.lawful in
     let x = g.met.New.Extends in
-    is_told g.Old.Described.schema g.New.Described.schema k l x.extends x.old_unfolds x.unfolds (rules_of c.args.from) (hops_of c.args.hops.now) c.args.input.now (some_model_hop c.args.hops.now c.requires) n v h (Some (arrived c.loop-place.octets.items)) (returns-clause-right g c)
+    is_told g.Old.Described.schema g.New.Described.schema k l g.Old.Described.typed.tidy g.New.Described.typed.tidy x.extends x.old_unfolds x.unfolds (rules_of c.args.from) (hops_of c.args.hops.now) c.args.input.now (some_model_hop c.args.hops.now c.requires) n v h (Some (arrived c.loop-place.octets.items)) (returns-clause-right g c)
 
 pub returns-clause-only_told : goal.returns-clause-only_told
 returns-clause-only_told g c = λ n v o h p.
     let k = g.Old.Described.typed.lawful in
     let l = g.New.Described.typed.lawful in
     let x = g.met.New.Extends in
-    only_told g.Old.Described.schema g.New.Described.schema k l x.extends x.old_unfolds x.unfolds (rules_of c.args.from) (hops_of c.args.hops.now) c.args.input.now (some_model_hop c.args.hops.now c.requires) n v h (Some (arrived c.loop-place.octets.items)) (returns-clause-right g c) o p
+    only_told g.Old.Described.schema g.New.Described.schema k l g.Old.Described.typed.tidy g.New.Described.typed.tidy x.extends x.old_unfolds x.unfolds (rules_of c.args.from) (hops_of c.args.hops.now) c.args.input.now (some_model_hop c.args.hops.now c.requires) n v h (Some (arrived c.loop-place.octets.items)) (returns-clause-right g c) o p
