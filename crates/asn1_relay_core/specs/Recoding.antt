@@ -27,6 +27,12 @@ NamesMemoryAlone (NotAnEncoding Decoding.OutOfMemory) = ⊥
 NamesMemoryAlone (NoTarget Encoding.OutOfMemory) = ⊥
 NamesMemoryAlone f = Unit {0}
 
+-- Codecs begin anew with each message: a refusal before it stands within no fault.
+abbrev pub NamesNoEarlierRefusal : RecodeFault → Type 0
+NamesNoEarlierRefusal (NotAnEncoding Decoding.AlreadyFailed) = ⊥
+NamesNoEarlierRefusal (NoTarget Encoding.AlreadyFailed) = ⊥
+NamesNoEarlierRefusal f = Unit {0}
+
 -- ---- faults
 
 -- The faults of a translation that these are.

@@ -97,6 +97,12 @@ NamesMemoryAlone (Read Decoding.OutOfMemory) = ⊥
 NamesMemoryAlone (NoTarget Encoding.OutOfMemory) = ⊥
 NamesMemoryAlone k = Unit {0}
 
+-- Each hop begins anew with each message: a refusal before it stands within no kind.
+abbrev pub NamesNoEarlierRefusal : RouteFaultKind → Type 0
+NamesNoEarlierRefusal (Read Decoding.AlreadyFailed) = ⊥
+NamesNoEarlierRefusal (NoTarget Encoding.AlreadyFailed) = ⊥
+NamesNoEarlierRefusal k = Unit {0}
+
 -- The kind of the fault of a hop whose translation failed.
 abbrev pub kind_of_fault : RecodeFault → RouteFaultKind
 kind_of_fault (recoding.NotAnEncoding e) = Read e

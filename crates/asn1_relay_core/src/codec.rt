@@ -42,8 +42,10 @@ impl Codec {
     ///
     /// Want of memory aside, only where the value has none, or, and then `TooLongValue`, one of 2 to 60 octets or more.
     pub fn encode<T: Encode>(self, alloc: Global, value: &T) -> Result<Vec<u8>, EncodeError>
-        ensures ok { IfOk result (λ octets. IsWritten (rules_of self) T.schema (T.meaning value.now) (Some octets.items)) }
+        ensures ok { IfOk result
+            (λ octets. IsWritten (rules_of self) T.schema (T.meaning value.now) (Some octets.items)) }
         ensures only { IfErr result (NotWritten (rules_of self) T.schema (T.meaning value.now)) }
+        ensures fresh { IfErr result (λ e. e ≡ EncodeError.AlreadyFailed → ⊥) }
     {
         let octets = match self {
             Codec::Uper => uper::encode(alloc, value)?,
@@ -62,6 +64,7 @@ impl Codec {
     pub fn decode<T: Decode>(self, alloc: Global, input: &[u8]) -> Result<T, DecodeError>
         ensures ok { IfOk result (λ x. (rest : List ℕ) × Tells (rules_of self) T.schema (T.meaning x) input.now rest) }
         ensures only { IfErr result (NoMessage (rules_of self) T.schema input.now) }
+        ensures fresh { IfErr result (λ e. e ≡ DecodeError.AlreadyFailed → ⊥) }
     {
         let (value, _rest) = self.read_front(alloc, input)?;
         Ok(value)
@@ -79,6 +82,7 @@ impl Codec {
     ) -> Result<(T, &'input [u8]), DecodeError>
         ensures ok { IfOk result (λ x. Tells (rules_of self) T.schema (T.meaning x.0) input.now x.1.now) }
         ensures only { IfErr result (NoMessage (rules_of self) T.schema input.now) }
+        ensures fresh { IfErr result (λ e. e ≡ DecodeError.AlreadyFailed → ⊥) }
     {
         let front = match self {
             Codec::Uper => uper::decode_with_remainder(alloc, input)?,

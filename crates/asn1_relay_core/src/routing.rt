@@ -2,7 +2,8 @@
 ghost use Rattle.std.specs.Prelude.{◌≡◌, ◌≢◌, ℕ, [], IfErr, IfSome};
 ghost use Rattle.asn1_model.specs.Value.{Value};
 ghost use Rattle.asn1_relay_core.specs.Routing.{Outcome, Answers, Comes, IsReached, IsCanonicalOf, IsToldBy};
-ghost use Rattle.asn1_relay_core.specs.Routing.{IsOrLacksMemory, NamesMemoryAlone, answer_of_hop, outcome_of};
+ghost use Rattle.asn1_relay_core.specs.Routing.{IsOrLacksMemory, NamesMemoryAlone, NamesNoEarlierRefusal};
+ghost use Rattle.asn1_relay_core.specs.Routing.{answer_of_hop, outcome_of};
 
 use crate::hop::{Hop, Version};
 use crate::route_fault::{RouteFault, RouteFaultKind};
@@ -47,6 +48,7 @@ pub fn route<Old: Encode + Decode, New: Encode + Decode + Extends<Old>>(
     ensures only_told { (n : ℕ) (v : Value) (o : Outcome) → IsCanonicalOf from New.schema n v input.now
         → IsToldBy Old.schema New.schema from hops.now n v o → IsOrLacksMemory (outcome_of result) o }
     ensures memory { IfErr result (λ fault. NamesMemoryAlone fault.kind) }
+    ensures fresh { IfErr result (λ fault. NamesNoEarlierRefusal fault.kind) }
     ensures reached { IfErr result (λ fault. IsReached Old.schema New.schema from hops.now input.now fault.hop) }
 {
     let mut octets = pass::<Old, New>(alloc, 0, from, hops[0], input)?;
@@ -69,6 +71,7 @@ fn pass<Old: Encode + Decode, New: Encode + Decode>(
 ) -> Result<Vec<u8>, RouteFault>
     ensures right { IfSome (answer_of_hop result) (Answers Old.schema New.schema from hop input.now) }
     ensures memory { IfErr result (λ fault. NamesMemoryAlone fault.kind) }
+    ensures fresh { IfErr result (λ fault. NamesNoEarlierRefusal fault.kind) }
     ensures named { IfErr result (λ fault. fault.hop ≡ place) }
 {
     let recoded = match hop.version {

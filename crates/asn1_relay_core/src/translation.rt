@@ -1,7 +1,8 @@
 //! Translation of one message from one set of encoding rules to another.
 ghost use Rattle.std.specs.Prelude.{◌≡◌, ◌⊎◌, None, Some, IfErr, IfSome};
 ghost use Rattle.asn1_relay_core.specs.Coding.{rules_of};
-ghost use Rattle.asn1_relay_core.specs.Recoding.{answer_of, Answer, IsAnswer, NamesMemoryAlone, OneAnswerIsRight, DetoursChangeNoAnswer, TwiceIsOnce};
+ghost use Rattle.asn1_relay_core.specs.Recoding.{answer_of, Answer, IsAnswer, NamesMemoryAlone, NamesNoEarlierRefusal};
+ghost use Rattle.asn1_relay_core.specs.Recoding.{OneAnswerIsRight, DetoursChangeNoAnswer, TwiceIsOnce};
 
 use crate::codec::Codec;
 use asn1_schema_decode::Decode;
@@ -91,6 +92,7 @@ pub fn recode<T: Encode + Decode>(
     ensures right { IfSome (answer_of result) (IsAnswer (rules_of from) (rules_of to) (T.schema 128) input.now) }
     ensures exact { (a : Answer) → IsAnswer (rules_of from) (rules_of to) (T.schema 128) input.now a → (answer_of result ≡ None) ⊎ (answer_of result ≡ Some a) }
     ensures memory { IfErr result NamesMemoryAlone }
+    ensures fresh { IfErr result NamesNoEarlierRefusal }
 {
     let (value, rest): (T, &[u8]) = from.read_front(alloc, input)?;
     if !rest.is_empty() {

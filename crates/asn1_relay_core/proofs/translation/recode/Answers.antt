@@ -1,6 +1,6 @@
 use Rattle.std.proofs.Common.{sym}
 use Rattle.std.proofs.lemmas.Result.{err_from_is_err_and}
-use Rattle.asn1_relay_core.proofs.Coded.{right_not_read, right_surplus, right_answered, right_not_written, none_left, some_left}
+use Rattle.asn1_relay_core.proofs.Coded.{right_not_read, right_surplus, right_answered, right_not_written, none_left, some_left, source_names_none, target_names_none}
 use Rattle.asn1_relay_core.proofs.translation.recode.Goals as goal
 
 pub returns-in_err-value-clause-right : goal.returns-in_err-value-clause-right
@@ -35,3 +35,13 @@ returns-clause-right g c = (right_answered c.args.from c.args.to g.T.Described.s
 
 pub returns-clause-exact : goal.returns-clause-exact
 returns-clause-exact g c = (right_answered c.args.from c.args.to g.T.Described.schema c.args.input.now (g.T.Described.typed.lawful 128) _ c.in_ok-value.rest.now c.in_ok-value.ensures.ok (none_left _ (sym c.if-not-is_empty.ensures)) (g.T.Described.valued c.in_ok-value.value) c.in_ok-encode.field-0 c.in_ok-encode.ensures.ok).exact
+
+pub returns-in_err-value-clause-fresh : goal.returns-in_err-value-clause-fresh
+returns-in_err-value-clause-fresh g c =
+    let p = err_from_is_err_and c.from_residual.result c.from_residual.ensures.1 in
+    rw p.1 (source_names_none _ p.0 p.2 c.in_err-value.ensures.fresh)
+
+pub returns-in_err-encode-clause-fresh : goal.returns-in_err-encode-clause-fresh
+returns-in_err-encode-clause-fresh g c =
+    let p = err_from_is_err_and c.from_residual-in_err-encode.result c.from_residual-in_err-encode.ensures.1 in
+    rw p.1 (target_names_none _ p.0 p.2 c.in_err-encode.ensures.fresh)
