@@ -6,8 +6,10 @@ use Rattle.asn1_schema_tags.specs.declared.tags.Tag.{Tag}
 use Rattle.asn1_schema_tags.specs.declared.trees.TagTree.TheVariants.{Leaf}
 use Rattle.asn1_schema_tags.proofs.TreeLaws.{leaves_leaf}
 pub use Rattle.asn1_schema_constructed.proofs.Counting.{count_marks}
+pub use Rattle.asn1_schema_constructed.proofs.Distinct.{one_name_of}
 pub use Rattle.asn1_schema_constructed.proofs.SetValues.{type_set, value_set}
-pub use Rattle.asn1_schema_constructed.proofs.Types.{more_variants, no_variants, type_choice, value_choice}
+pub use Rattle.asn1_schema_constructed.proofs.Types.{more_variants, no_variants, type_choice, type_enumerated, value_choice}
+pub use Rattle.asn1_schema_constructed.proofs.Types.{value_enumerated}
 pub use Rattle.asn1_schema_decode.proofs.Failing.{failed_reads, passed_on}
 pub use Rattle.asn1_schema_decode.proofs.Listing.{ReadsFrom, from_close, from_end, from_further, from_next}
 pub use Rattle.asn1_schema_decode.proofs.Listing.{from_start, from_stuck, reads_list, unread_list, unread_list_here}
@@ -24,9 +26,10 @@ pub use Rattle.asn1_schema_presented.proofs.Defaults.{integer_default}
 pub use Rattle.asn1_schema_presented.proofs.Joined.{raised}
 pub use Rattle.asn1_schema_presented.proofs.Recursive.{part_absent, part_there, recursive_type, value_as}
 pub use Rattle.asn1_schema_presented.proofs.TypesByKind.{integer_type, integer_value, null_value, type_list}
-pub use Rattle.asn1_schema_presented.proofs.TypesByKind.{value_list}
+pub use Rattle.asn1_schema_presented.proofs.TypesByKind.{value_list, octet_string_type, octet_string_value}
 pub use Rattle.asn1_schema_presented.proofs.Values.{more_types, more_values, no_types, no_values, part_optional}
 pub use Rattle.asn1_schema_presented.proofs.Values.{part_required, type_sequence, value_sequence}
+pub use Rattle.asn1_schema_variants.proofs.Distinct.{one_number_of}
 pub use Rattle.asn1_schema_tags.proofs.TreeLaws.{leaves_choice, leaves_leaf}
 
 -- The leaves of a tree of two tags, as that of a choice of two alternatives is.

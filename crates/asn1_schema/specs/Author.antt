@@ -2,10 +2,12 @@
 -- type's values a codec is told. It stands in the packages behind this one.
 unfoldable pub use Rattle.asn1_model.specs.Lawful.{is_lawful}
 pub use Rattle.asn1_model.specs.Numbers.{is_count_within}
-pub use Rattle.asn1_model.specs.Schema.{Schema, Tag, cut, integer, optional, required}
-pub use Rattle.asn1_model.specs.Types.{any_size, context}
-pub use Rattle.asn1_model.specs.Value.{Parts, Value, Values, end, fields, member, members, no_more, nothing, number}
-pub use Rattle.asn1_schema_constraints.specs.Terms.{no_constraint}
+pub use Rattle.asn1_model.specs.Schema.{Schema, Tag, cut, enumerated, integer, optional, required, utf8}
+pub use Rattle.asn1_model.specs.Types.{any_count, any_size, context}
+pub use Rattle.asn1_model.specs.Value.{Parts, Value, Values, absent, arcs, bit_list, end, fields, item, member, members, no_more}
+pub use Rattle.asn1_model.specs.Value.{nothing, number, octet_list, present, text, truth}
+pub use Rattle.asn1_schema_constraints.specs.Terms.{Meant, bounded_by, from_to, meant, no_constraint, sized, integer_under}
+pub use Rattle.asn1_schema_constraints.specs.Terms.{bit_string_under, character_string_under, octet_string_under}
 pub use Rattle.asn1_schema_constructed.specs.Chosen.{chosen_value}
 pub use Rattle.asn1_schema_constructed.specs.Constructed.{fields_of, sequence_form, sequence_tags, set_form}
 pub use Rattle.asn1_schema_constructed.specs.Sets.{set_type}
@@ -15,7 +17,7 @@ pub use Rattle.asn1_schema_decode.specs.Reads.{Reads, Unread}
 pub use Rattle.asn1_schema_presented.specs.Parts.{part_of, values_of}
 pub use Rattle.asn1_schema_presented.specs.Presents.{Part, left_out, there, with_part}
 unfoldable pub use Rattle.asn1_schema_presented.specs.Recursive.{recursive_sequence}
-pub use Rattle.asn1_schema_presented.specs.Tables.{IsType, IsValue, Table, no_table, with_field}
+pub use Rattle.asn1_schema_presented.specs.Tables.{IsType, IsValue, Table, no_field, no_table, with_field}
 unfoldable pub use Rattle.asn1_schema_presented.specs.Tables.{components_at, list_type, scope, sequence_type}
 pub use Rattle.asn1_schema_presented.specs.Typed.{IsPart}
-pub use Rattle.asn1_schema_types.specs.Counts.{any_number}
+pub use Rattle.asn1_schema_types.specs.Counts.{any_number, fixed_to}
