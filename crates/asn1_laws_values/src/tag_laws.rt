@@ -14,9 +14,11 @@ pub fn tags_are_ordered()
 
 /// The smallest of a tag and others is one of them, and none of them stands before it.
 pub fn smallest_is_least()
-    ensures one { (d : Tag) (ts : List Tag) → (smallest d ts ≡ d) ⊎ ((i : ℕ) × (slice_get ts i ≡ Some (smallest d ts))) }
+    ensures one { (d : Tag) (ts : List Tag) → (smallest d ts ≡ d)
+        ⊎ ((i : ℕ) × (slice_get ts i ≡ Some (smallest d ts))) }
     ensures start { (d : Tag) (ts : List Tag) → tag_less d (smallest d ts) ≡ false }
-    ensures least { (d : Tag) (ts : List Tag) (i : ℕ) (t : Tag) → slice_get ts i ≡ Some t → tag_less t (smallest d ts) ≡ false }
+    ensures least { (d : Tag) (ts : List Tag) (i : ℕ) (t : Tag) → slice_get ts i ≡ Some t → tag_less t (smallest d ts)
+        ≡ false }
 {}
 
 /// The test that no tag occurs twice passes exactly if no tag stands at two places.

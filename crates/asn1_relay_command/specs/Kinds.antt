@@ -20,7 +20,8 @@ schema_named kind.Pair = pair_schema
 schema_named kind.Integer = integer_schema
 schema_named kind.Bits = bit_string any_size (record { low = 0; high = None })
 schema_named kind.Octets = octets_schema 128
-schema_named kind.Visible = character_string visible any_size (record { characters = None; extensible = false }) (record { low = 0; high = None })
+schema_named kind.Visible = character_string visible any_size (record { characters = None; extensible = false })
+    (record { low = 0; high = None })
 schema_named kind.Null = null
 schema_named kind.Nulls = sequence_of any_size any_number_held null
 schema_named kind.Set = set_schema

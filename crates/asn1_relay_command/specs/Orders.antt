@@ -51,7 +51,8 @@ hop_rule = record (option_rule (codes "hop")) { action = Some Append }
 -- route --from RULES --pair PAIR --hop VERSION:RULES ..
 abbrev pub route_app : App
 route_app =
-    with_rule (with_rule (with_rule (new_app (codes "route")) (option_rule (codes "from"))) (option_rule (codes "pair")))
+    with_rule (with_rule (with_rule (new_app (codes "route")) (option_rule (codes "from")))
+    (option_rule (codes "pair")))
     hop_rule
 
 -- the program's name

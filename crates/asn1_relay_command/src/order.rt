@@ -377,12 +377,14 @@ fn order_in(alloc: Global, matches: &ArgMatches<'_>) -> Result<Option<Order>, Al
     }
 }
 
-/// Reads a command line, whose first word is the name of the program. An error's `Display` is the text for the user; its kind is
+/// Reads a command line, whose first word is the name of the program. An error's `Display` is the text for the user;
+/// its kind is
 /// `OutOfMemory` where no memory was left.
 ///
 /// # Errors
 ///
-/// Where the line asks for nothing that the program does, for the help text too, or for want of memory, of the kind `OutOfMemory`.
+/// Where the line asks for nothing that the program does, for the help text too, or for want of memory, of the kind
+/// `OutOfMemory`.
 pub fn read_order<S: AsStr>(alloc: Global, words: &[S]) -> Result<Order, Error>
     ensures ok { IfOk result (λ order. asked_by (map S.text words.now) ≡ Some (task_of order)) }
     ensures sound { IfOk result (λ order. CanBeDone (task_of order)) }

@@ -89,8 +89,8 @@ fn follow<R: Read, W: Write>(
     }
 }
 
-/// Says that the program's arguments cannot be had, and answers the exit status: 1 when no memory was left for them, and 2 when one
-/// of them is no text.
+/// Says that the program's arguments cannot be had, and answers the exit status: 1 when no memory was left for them,
+/// and 2 when one of them is no text.
 pub fn refuse_arguments<E: Write>(error: &io::Error, errors: &mut E) -> u8
     ensures memory { error_kind error.now ≡ ErrorKind.OutOfMemory → (result ≡ 1)
         × BeginsToAppend (E.contents errors.old) (E.contents errors.new) (line_of Fault.OutOfMemory) }
@@ -151,7 +151,8 @@ fn read_all<R: Read>(alloc: Global, input: &mut R) -> Result<Vec<u8>, Fault>
 {
     let mut octets = Vec::new(alloc);
     let mut block = [0u8; 4096];
-    // A turn adds an octet, of which memory holds fewer than 2^64, or is an interruption; so many of those count as a failure.
+    // A turn adds an octet, of which memory holds fewer than 2^64, or is an interruption; so many of those count as a
+    // failure.
     for _ in 0..u64::MAX {
         match input.read(&mut block) {
             Ok(0) => return Ok(octets),

@@ -30,7 +30,8 @@ kind_of Coer = Kind.Coer
 abbrev pub IsWritten : Rules → (ℕ → Schema) → Value → Option (List ℕ) → Type 0
 IsWritten r schema v w = (n : ℕ) → Fits (schema n) v → canonical r (schema n) v ≡ w
 
--- The same before the bound on the length of an encoding: these octets, however many they are, or none, where the value itself is refused.
+-- The same before the bound on the length of an encoding: these octets, however many they are, or none, where the
+-- value itself is refused.
 abbrev pub HasText : Rules → (ℕ → Schema) → Value → Option (List ℕ) → Type 0
 HasText r schema v w = (n : ℕ) → Fits (schema n) v → encoding r (schema n) (normal (schema n) v) ≡ w
 
@@ -40,8 +41,8 @@ pub record IsTooLong (r : Rules) (schema : ℕ → Schema) (v : Value) : Type 0 
   pub has : HasText r schema v (Some text)
   pub beyond : 2 ^ 60 ≤ length text
 
--- Why a value is not written: want of memory, or it has no canonical encoding, as its octets would be 2 ^ 60 or more (TooLongValue), or as the
--- value itself is refused (each other error).
+-- Why a value is not written: want of memory, or it has no canonical encoding, as its octets would be 2 ^ 60 or more
+-- (TooLongValue), or as the value itself is refused (each other error).
 pub record NotWritten (r : Rules) (schema : ℕ → Schema) (v : Value) (e : EncodeError) : Type 0 where
   pub none : ¬ (e ≡ OutOfMemory) → IsWritten r schema v None
   pub long : e ≡ TooLongValue → IsTooLong r schema v

@@ -15,16 +15,17 @@ use Rattle.asn1_relay_core.specs.Coding.{IsWritten}
 use Rattle.asn1_relay_core.specs.Relaying.{kind_of_stop}
 
 -- The message of so many octets is in front, and its translation, which is not empty, was written.
-pub record RelaysOne (source target : Rules) (s : Schema) (limit : ℕ) (w before after : List ℕ) (count : ℕ) : Type 0 where
-  pub message : Message
-  pub is_message : IsMessage source s limit message
-  pub rest : List ℕ
-  pub in_front : message.octets ++ rest ≡ w
-  pub written : List ℕ
-  pub translated : canonical target s message.value ≡ Some written
-  pub is_some : written ≢ []
-  pub counted : length message.octets ≡ count
-  pub grows : after ≡ before ++ written
+pub record RelaysOne (source target : Rules) (s : Schema) (limit : ℕ) (w before after : List ℕ) (count : ℕ) : Type 0
+  where
+    pub message : Message
+    pub is_message : IsMessage source s limit message
+    pub rest : List ℕ
+    pub in_front : message.octets ++ rest ≡ w
+    pub written : List ℕ
+    pub translated : canonical target s message.value ≡ Some written
+    pub is_some : written ≢ []
+    pub counted : length message.octets ≡ count
+    pub grows : after ≡ before ++ written
 
 -- The canonical encoding of a value is written, and is not empty.
 pub record AddsText (target : Rules) (schema : ℕ → Schema) (v : Value) (before after : List ℕ) : Type 0 where
@@ -34,9 +35,11 @@ pub record AddsText (target : Rules) (schema : ℕ → Schema) (v : Value) (befo
   pub grows : after ≡ before ++ text
 
 -- Nothing is written: for want of memory, as there is no canonical encoding, or as it is empty.
-pub record AddsNothing (target : Rules) (schema : ℕ → Schema) (v : Value) (before after : List ℕ) (k : RelayFaultKind) : Type 0 where
+pub record AddsNothing (target : Rules) (schema : ℕ → Schema) (v : Value) (before after : List ℕ)
+    (k : RelayFaultKind) : Type 0 where
   pub same : after ≡ before
-  pub why : (k ≡ kind.Memory) ⊎ ((k ≡ kind.NoTarget) × IsWritten target schema v None) ⊎ ((k ≡ kind.EmptyMessage) × IsWritten target schema v (Some []))
+  pub why : (k ≡ kind.Memory) ⊎ ((k ≡ kind.NoTarget) × IsWritten target schema v None)
+      ⊎ ((k ≡ kind.EmptyMessage) × IsWritten target schema v (Some []))
 
 -- What comes of octets in front of which no message is read.
 abbrev pub unread_front : DecodeError → Bool → Front
@@ -47,4 +50,5 @@ unread_front e past = if past then front.Stops kind.NoneWithinLimit else front.W
 abbrev pub Tries : Rules → Rules → Schema → ℕ → List ℕ → List ℕ → List ℕ → Front → Type 0
 Tries source target s limit w before after (front.Relayed count) = RelaysOne source target s limit w before after count
 Tries source target s limit w before after front.Waits = (after ≡ before) × StopsAt source target s limit w None
-Tries source target s limit w before after (front.Stops k) = (after ≡ before) × ((k ≡ kind.Memory) ⊎ ((why : Stop) × (k ≡ kind_of_stop why) × StopsAt source target s limit w (Some why)))
+Tries source target s limit w before after (front.Stops k) = (after ≡ before)
+    × ((k ≡ kind.Memory) ⊎ ((why : Stop) × (k ≡ kind_of_stop why) × StopsAt source target s limit w (Some why)))

@@ -48,14 +48,19 @@ target_fault_of e = NoTarget e
 
 -- No two answers to some octets are right, whatever the lawful type and the rules.
 abbrev pub OneAnswerIsRight : Type 0
-OneAnswerIsRight = (from to : Codec) (s : Schema) (w : List ℕ) (x y : Answer) → IsLawful s → IsAnswer (rules_of from) (rules_of to) s w x → IsAnswer (rules_of from) (rules_of to) s w y → x ≡ y
+OneAnswerIsRight = (from to : Codec) (s : Schema) (w : List ℕ) (x y : Answer) → IsLawful s
+    → IsAnswer (rules_of from) (rules_of to) s w x → IsAnswer (rules_of from) (rules_of to) s w y → x ≡ y
 
--- A detour changes no answer: what is right for the octets that were answered on the way is right for those from which they came, and the other
--- way round.
+-- A detour changes no answer: what is right for the octets that were answered on the way is right for those from
+-- which they came, and the other way round.
 abbrev pub DetoursChangeNoAnswer : Type 0
-DetoursChangeNoAnswer = (from via to : Codec) (s : Schema) (w octets : List ℕ) (x : Answer) → IsLawful s → IsAnswer (rules_of from) (rules_of via) s w (answered octets)
-    → (IsAnswer (rules_of via) (rules_of to) s octets x → IsAnswer (rules_of from) (rules_of to) s w x) × (IsAnswer (rules_of from) (rules_of to) s w x → IsAnswer (rules_of via) (rules_of to) s octets x)
+DetoursChangeNoAnswer = (from via to : Codec) (s : Schema) (w octets : List ℕ) (x : Answer) → IsLawful s
+    → IsAnswer (rules_of from) (rules_of via) s w (answered octets)
+    → (IsAnswer (rules_of via) (rules_of to) s octets x → IsAnswer (rules_of from) (rules_of to) s w x)
+    × (IsAnswer (rules_of from) (rules_of to) s w x → IsAnswer (rules_of via) (rules_of to) s octets x)
 
 -- What was translated is translated to itself.
 abbrev pub TwiceIsOnce : Type 0
-TwiceIsOnce = (from to : Codec) (s : Schema) (w octets : List ℕ) → IsLawful s → IsAnswer (rules_of from) (rules_of to) s w (answered octets) → IsAnswer (rules_of to) (rules_of to) s octets (answered octets)
+TwiceIsOnce = (from to : Codec) (s : Schema) (w octets : List ℕ) → IsLawful s
+    → IsAnswer (rules_of from) (rules_of to) s w (answered octets)
+    → IsAnswer (rules_of to) (rules_of to) s octets (answered octets)

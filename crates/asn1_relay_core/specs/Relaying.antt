@@ -1,5 +1,6 @@
 -- What a relay holds, and what its calls do.
-use Rattle.std.specs.Prelude.{◌≡◌, ◌⊎◌, ℕ, min, ◌+◌, ◌≤◌, Bool, true, false, List, ◌++◌, length, if◌then◌else◌, Option, Some, None}
+use Rattle.std.specs.Prelude.{◌≡◌, ◌⊎◌, ℕ, min, ◌+◌, ◌≤◌, Bool, true, false, List, ◌++◌, length, if◌then◌else◌}
+use Rattle.std.specs.Prelude.{Option, Some, None}
 use Rattle.asn1_model.specs.Schema.{Schema}
 use Rattle.asn1_laws_across.specs.Streams.{Message}
 use Rattle.asn1_laws_across.specs.Relayed.{Stop, no_target, empty_message, none_within_limit, RelaysFront, Relays}
@@ -32,15 +33,25 @@ kind_of_stop no_target = kind.NoTarget
 kind_of_stop empty_message = kind.EmptyMessage
 kind_of_stop none_within_limit = kind.NoneWithinLimit
 
--- The rules and the limit stay, and the relay then holds these octets, at the message of this number, and has stopped or not.
+-- The rules and the limit stay, and the relay then holds these octets, at the message of this number, and has stopped
+-- or not.
 abbrev pub onwards : Relaying → List ℕ → ℕ → Bool → Relaying
-onwards r unread number failed = record { from = r.from; to = r.to; limit = r.limit; unread = unread; number = number; failed = failed }
+onwards r unread number failed = record {
+  from = r.from;
+  to = r.to;
+  limit = r.limit;
+  unread = unread;
+  number = number;
+  failed = failed;
+}
 
 -- The octets that a call of feed has to do with: those that are unread, and the piece.
 abbrev pub RelaysAll : Schema → Relaying → List ℕ → ℕ → List ℕ → List ℕ → Option Stop → Type 0
-RelaysAll s r piece n out rest why = Relays (rules_of r.from) (rules_of r.to) s r.limit (r.unread ++ piece) n out rest why
+RelaysAll s r piece n out rest why = Relays (rules_of r.from) (rules_of r.to) s r.limit (r.unread ++ piece) n out rest
+    why
 
--- The relay had not stopped. All messages of the octets up to a stop are relayed, and no more octets are unread than a message may have.
+-- The relay had not stopped. All messages of the octets up to a stop are relayed, and no more octets are unread than
+-- a message may have.
 pub record IsFed (s : Schema) (old new : Relaying) (piece before after : List ℕ) : Type 0 where
   pub had_not : old.failed ≡ false
   pub count : ℕ
@@ -50,8 +61,10 @@ pub record IsFed (s : Schema) (old new : Relaying) (piece before after : List �
   pub goes_on : new ≡ onwards old new.unread (capped (old.number + count)) false
   pub within : length new.unread ≤ old.limit
 
--- The relay stops for the reason of the fault, at the message of its number, and everything in front of that is written.
-pub record IsStopped (s : Schema) (old new : Relaying) (piece before after : List ℕ) (fault : RelayFault) (why : Stop) : Type 0 where
+-- The relay stops for the reason of the fault, at the message of its number, and everything in front of that is
+-- written.
+pub record IsStopped (s : Schema) (old new : Relaying) (piece before after : List ℕ) (fault : RelayFault)
+    (why : Stop) : Type 0 where
   pub count : ℕ
   pub written : List ℕ
   pub rest : List ℕ
@@ -61,14 +74,15 @@ pub record IsStopped (s : Schema) (old new : Relaying) (piece before after : Lis
   pub stops : new ≡ onwards old new.unread fault.number true
 
 -- Memory is wanting at the message of the fault's number, and everything in front of that is written.
-pub record WantsMemory (s : Schema) (old new : Relaying) (piece before after : List ℕ) (fault : RelayFault) : Type 0 where
-  pub messages : List Message
-  pub written : List ℕ
-  pub rest : List ℕ
-  pub relays : RelaysFront (rules_of old.from) (rules_of old.to) s old.limit messages written rest (old.unread ++ piece)
-  pub grows : after ≡ before ++ written
-  pub is : fault ≡ record { number = capped (old.number + length messages); kind = kind.Memory }
-  pub stops : new ≡ onwards old new.unread fault.number true
+pub record WantsMemory (s : Schema) (old new : Relaying) (piece before after : List ℕ) (fault : RelayFault) : Type 0
+  where
+    pub messages : List Message
+    pub written : List ℕ
+    pub rest : List ℕ
+    pub relays : RelaysFront (rules_of old.from) (rules_of old.to) s old.limit messages written rest (old.unread ++ piece)
+    pub grows : after ≡ before ++ written
+    pub is : fault ≡ record { number = capped (old.number + length messages); kind = kind.Memory }
+    pub stops : new ≡ onwards old new.unread fault.number true
 
 -- A relay that has stopped says so, and does nothing.
 pub record HadFailed (old new : Relaying) (before after : List ℕ) (fault : RelayFault) : Type 0 where

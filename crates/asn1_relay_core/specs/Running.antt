@@ -14,7 +14,8 @@ use Rattle.asn1_relay_core.specs.Coding.{rules_of}
 use Rattle.asn1_relay_core.specs.Ends.{BeginsToAppend}
 use Rattle.asn1_relay_core.specs.Relaying.{Relaying, RelaysAll, capped, kind_of_stop, onwards}
 
--- The octets that a reader has still to give and those that a writer has taken, where they tell them, and how many calls of each have failed.
+-- The octets that a reader has still to give and those that a writer has taken, where they tell them, and how many
+-- calls of each have failed.
 pub record Ends : Type 0 where
   pub coming : Option (List ℕ)
   pub taken : Option (List ℕ)
@@ -45,15 +46,17 @@ abbrev pub block : ℕ
 block = 4096
 
 -- A block is fed to a relay, and all that comes out is written.
-pub record RelaysBlock (s : Schema) (old new : Relaying) (octets : List ℕ) (before after : Option (List ℕ)) : Type 0 where
-  pub count : ℕ
-  pub put : List ℕ
-  pub relays : RelaysAll s old octets count put new.unread None
-  pub goes_on : new ≡ onwards old new.unread (capped (old.number + count)) false
-  pub writes : Appends before after put
+pub record RelaysBlock (s : Schema) (old new : Relaying) (octets : List ℕ) (before after : Option (List ℕ)) : Type 0
+  where
+    pub count : ℕ
+    pub put : List ℕ
+    pub relays : RelaysAll s old octets count put new.unread None
+    pub goes_on : new ≡ onwards old new.unread (capped (old.number + count)) false
+    pub writes : Appends before after put
 
 -- The relay stops at a message, and all that comes out before is written.
-pub record StopsInBlock (s : Schema) (old : Relaying) (octets : List ℕ) (before after : Option (List ℕ)) (fault : RelayFault) : Type 0 where
+pub record StopsInBlock (s : Schema) (old : Relaying) (octets : List ℕ) (before after : Option (List ℕ))
+    (fault : RelayFault) : Type 0 where
   pub count : ℕ
   pub put : List ℕ
   pub rest : List ℕ
@@ -63,7 +66,8 @@ pub record StopsInBlock (s : Schema) (old : Relaying) (octets : List ℕ) (befor
   pub writes : Appends before after put
 
 -- Memory is wanting, and all that comes out before is written.
-pub record WantsMemoryInBlock (s : Schema) (old : Relaying) (octets : List ℕ) (before after : Option (List ℕ)) : Type 0 where
+pub record WantsMemoryInBlock (s : Schema) (old : Relaying) (octets : List ℕ) (before after : Option (List ℕ)) : Type
+    0 where
   pub messages : List Message
   pub put : List ℕ
   pub rest : List ℕ
@@ -81,9 +85,12 @@ pub record WritesInPart (s : Schema) (old : Relaying) (octets : List ℕ) (befor
 -- Each fault in a block comes at its cause alone; the writer counts its own.
 abbrev pub BlockFaultOf : Schema → Relaying → List ℕ → Option (List ℕ) → Option (List ℕ) → ℕ → ℕ → RunFault → Type 0
 BlockFaultOf s old octets before after failures now run.Read = ⊥
-BlockFaultOf s old octets before after failures now run.Write = WritesInPart s old octets before after × (now ≡ failures + 1)
-BlockFaultOf s old octets before after failures now (run.Relay fault) = StopsInBlock s old octets before after fault × (now ≡ failures)
-BlockFaultOf s old octets before after failures now run.Memory = WantsMemoryInBlock s old octets before after × (now ≡ failures)
+BlockFaultOf s old octets before after failures now run.Write = WritesInPart s old octets before after
+    × (now ≡ failures + 1)
+BlockFaultOf s old octets before after failures now (run.Relay fault) = StopsInBlock s old octets before after fault
+    × (now ≡ failures)
+BlockFaultOf s old octets before after failures now run.Memory = WantsMemoryInBlock s old octets before after
+    × (now ≡ failures)
 
 module _ (source target : Rules) (s : Schema) (limit : ℕ) (old new : Ends) where
   -- All was read, to its end, and relayed to its end; no call failed.
@@ -141,8 +148,8 @@ module _ (source target : Rules) (s : Schema) (limit : ℕ) (old new : Ends) whe
     pub front : RelaysFront source target s limit messages put rest got
     pub fails : Fails old new 0 0
 
-  -- One call of the writer failed. A beginning is written of what becomes of messages in front of what was read, with all that becomes of what was read
-  -- before the last block.
+  -- One call of the writer failed. A beginning is written of what becomes of messages in front of what was read, with
+  -- all that becomes of what was read before the last block.
   pub record IsWriteFailed : Type 0 where
     pub early : List ℕ
     pub last : List ℕ

@@ -60,7 +60,8 @@ impl Codec {
     ///
     /// # Errors
     ///
-    /// Want of memory aside, only where no octets in front, fewer than 2 to 60, are an encoding of a value that nests at most 128 levels.
+    /// Want of memory aside, only where no octets in front, fewer than 2 to 60, are an encoding of a value that nests
+    /// at most 128 levels.
     pub fn decode<T: Decode>(self, alloc: Global, input: &[u8]) -> Result<T, DecodeError>
         ensures ok { IfOk result (λ x. (rest : List ℕ) × Tells (rules_of self) T.schema (T.meaning x) input.now rest) }
         ensures only { IfErr result (NoMessage (rules_of self) T.schema input.now) }

@@ -30,11 +30,13 @@ pub trait Source {
     /// The borrow that it reads through, where it holds one.
     ghost lender: { Self → Option GName };
 
-    /// Fills the front of the room, and answers how many octets it has given. With room, none means that none is to come.
+    /// Fills the front of the room, and answers how many octets it has given. With room, none means that none is to
+    /// come.
     ///
     /// # Errors
     ///
-    /// Where it could give none; then it is as before, and has counted the call. With nothing left to give each call fails.
+    /// Where it could give none; then it is as before, and has counted the call. With nothing left to give each call
+    /// fails.
     fn read(&mut self, room: &mut [u8]) -> Result<usize, ReadFailed>
         requires { failures self.old < 18446744073709551615 }
         ensures bound { IfOk result (λ n. n ≤ length room.new) }

@@ -39,7 +39,8 @@ pub fn relay_front<T: Encode + Decode>(
     out: &mut Vec<u8>,
 ) -> Front
     requires { unread.now ≢ [] }
-    ensures { Tries (rules_of way.from) (rules_of way.to) (T.schema 128) way.limit unread.now out.old.items out.new.items result }
+    ensures { Tries (rules_of way.from) (rules_of way.to) (T.schema 128) way.limit unread.now out.old.items
+        out.new.items result }
 {
     let window = &unread[..way.limit.min(unread.len())];
     let (value, rest): (T, &[u8]) = match way.from.read_front(alloc, window) {

@@ -1,5 +1,6 @@
 //! Readers and writers of memory, one of whose calls may be made to fail.
-ghost use Rattle.std.specs.Prelude.{◌≡◌, ◌↔◌, ◌+◌, ◌<◌, ◌≤◌, Some, None, IfOk, IsErr, OnErr, OnOk, [], if◌then◌else◌, length, min, true};
+ghost use Rattle.std.specs.Prelude.{◌≡◌, ◌↔◌, ◌+◌, ◌<◌, ◌≤◌, Some, None, IfOk, IsErr, OnErr, OnOk, [], if◌then◌else◌};
+ghost use Rattle.std.specs.Prelude.{length, min, true};
 ghost use Rattle.std.specs.Io.KnownBytes.{Appends, Keeps, ReadConsumes};
 ghost use Rattle.asn1_relay_core.specs.Ends.{BeginsToAppend, counted};
 ghost use Rattle.asn1_relay_core.specs.Memory.{no_lender, one_call_on};
@@ -8,8 +9,8 @@ use crate::ends::{ReadFailed, Sink, Source, WriteFailed};
 use std::alloc::Global;
 use std::marker::Model;
 
-/// Gives the octets of a vector. Of its calls, numbered from 0 on, the one of a given number fails, and no other. It may give one octet more than it has,
-/// so that it can tell its end.
+/// Gives the octets of a vector. Of its calls, numbered from 0 on, the one of a given number fails, and no other. It
+/// may give one octet more than it has, so that it can tell its end.
 #[derive(Debug, Drop)]
 pub struct MemorySource {
     octets: Vec<u8>,
@@ -23,7 +24,12 @@ impl Model for MemorySource {
 
     ghost Value = { Giving };
 
-    ghost view = { λ s. record { coming = drop s.given s.octets.items; fails_in = s.calls.before; failed = s.calls.failed } };
+    ghost view = { λ s. record {
+      coming = drop s.given s.octets.items;
+      fails_in = s.calls.before;
+      failed =
+          s.calls.failed;
+    } };
 
     ghost invariant = { λ s. s.given ≤ length s.octets.items };
 }
@@ -75,7 +81,8 @@ impl Source for MemorySource {
     }
 }
 
-/// Keeps the octets that it takes. Of its calls, numbered from 0 on, the one of a given number fails, and each that finds no memory.
+/// Keeps the octets that it takes. Of its calls, numbered from 0 on, the one of a given number fails, and each that
+/// finds no memory.
 #[derive(Debug, Drop)]
 pub struct MemorySink {
     octets: Vec<u8>,

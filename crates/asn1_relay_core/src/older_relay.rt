@@ -5,8 +5,8 @@ use asn1_schema_types::Described;
 use asn1_schema_versions::Extends;
 
 /// Joined canonical encodings of values of the newer version, none of which is empty, become in a relay of the older
-/// version the joined canonical encodings of what this sees of the values, up to the first value of which it cannot read
-/// the message, or whose translation is missing or empty, or whose message is over the limit.
+/// version the joined canonical encodings of what this sees of the values, up to the first value of which it cannot
+/// read the message, or whose translation is missing or empty, or whose message is over the limit.
 pub fn older_relay_is_told<Old: Described, New: Extends<Old>>()
     ensures { OlderRelayIsTold Old.schema New.schema }
 {}

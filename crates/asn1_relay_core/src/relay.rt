@@ -27,7 +27,14 @@ impl<T> Model for Relay<T> {
 
     ghost Value = { Relaying };
 
-    ghost view = { λ r. record { from = r.way.from; to = r.way.to; limit = r.way.limit; unread = r.unread.items; number = r.number; failed = r.failed } };
+    ghost view = { λ r. record {
+      from = r.way.from;
+      to = r.way.to;
+      limit = r.way.limit;
+      unread = r.unread.items;
+      number = r.number;
+      failed = r.failed;
+    } };
 
     ghost use Rattle.std.specs.Prelude.{◌≤◌};
 
@@ -35,7 +42,8 @@ impl<T> Model for Relay<T> {
 }
 
 impl<T: Encode + Decode> Relay<T> {
-    /// A relay that has read nothing. It takes messages of 1 to `limit` octets by the rules `from`, and writes them by the rules `to`.
+    /// A relay that has read nothing. It takes messages of 1 to `limit` octets by the rules `from`, and writes them
+    /// by the rules `to`.
     pub fn new(alloc: Global, from: Codec, to: Codec, limit: usize) -> Relay<T>
         requires { 1 ≤ limit }
         ensures { result ≡ record { from = from; to = to; limit = limit; unread = []; number = 0; failed = false } }
@@ -64,15 +72,16 @@ impl<T: Encode + Decode> Relay<T> {
         self.failed
     }
 
-    /// Takes the next piece of the stream: adds the translation of each message that is then whole, one behind the other, and keeps what is left, at most
-    /// the limit of octets.
+    /// Takes the next piece of the stream: adds the translation of each message that is then whole, one behind the
+    /// other, and keeps what is left, at most the limit of octets.
     ///
     /// # Errors
     ///
-    /// `NoTarget` and `EmptyMessage` at a message that has no translation, or an empty one, or no octets itself; `NoneWithinLimit` where more octets are
-    /// unread than a message may have, and none is in front; `Memory` for want of memory, which an empty piece behind no
-    /// unread octets does not need. All messages in front of that one are written. From then on
-    /// each call answers `AlreadyFailed` with the same number.
+    /// `NoTarget` and `EmptyMessage` at a message that has no translation, or an empty one, or no octets itself;
+    /// `NoneWithinLimit` where more octets are
+    /// unread than a message may have, and none is in front; `Memory` for want of memory, which an empty piece behind
+    /// no unread octets does not need. All messages in front of that one are written. From then on each call answers
+    /// `AlreadyFailed` with the same number.
     pub fn feed(&mut self, piece: &[u8], out: &mut Vec<u8>) -> Result<(), RelayFault>
         ensures ok { OnOk result (IsFed (T.schema 128) self.old self.new piece.now out.old.items out.new.items) }
         ensures only { IfErr result (FaultOf (T.schema 128) self.old self.new piece.now out.old.items out.new.items) }

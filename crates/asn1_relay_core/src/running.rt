@@ -29,12 +29,13 @@ pub enum RunFault {
     Memory,
 }
 
-/// Reads a stream of messages of the type `T` to its end, up to 4096 octets at a time, and writes the translation of each message as it comes. At the end
-/// it flushes the writer.
+/// Reads a stream of messages of the type `T` to its end, up to 4096 octets at a time, and writes the translation of
+/// each message as it comes. At the end it flushes the writer.
 ///
 /// # Errors
 ///
-/// `Read` where the reader failed, `Write` where the writer did, `Relay` where the relay stops or octets are left unread at the end, and `Memory` for want of
+/// `Read` where the reader failed, `Write` where the writer did, `Relay` where the relay stops or octets are left
+/// unread at the end, and `Memory` for want of
 /// memory. All whole messages in front of the fault are written first, and if that fails, the fault is `Write`.
 pub fn run<T: Encode + Decode, R: Source, W: Sink>(
     alloc: Global,
@@ -84,9 +85,11 @@ fn relay_block<T: Encode + Decode, W: Sink>(
 ) -> Result<(), RunFault>
     requires goes_on { relay.old.failed ≡ false }
     requires countable { W.failures writer.old < 18446744073709551615 }
-    ensures ok { OnOk result (RelaysBlock (T.schema 128) relay.old relay.new octets.now (W.taken writer.old) (W.taken writer.new)) }
+    ensures ok { OnOk result (RelaysBlock (T.schema 128) relay.old relay.new octets.now (W.taken writer.old)
+        (W.taken writer.new)) }
     ensures counts { OnOk result (W.failures writer.new ≡ W.failures writer.old) }
-    ensures only { IfErr result (BlockFaultOf (T.schema 128) relay.old octets.now (W.taken writer.old) (W.taken writer.new) (W.failures writer.old) (W.failures writer.new)) }
+    ensures only { IfErr result (BlockFaultOf (T.schema 128) relay.old octets.now (W.taken writer.old)
+        (W.taken writer.new) (W.failures writer.old) (W.failures writer.new)) }
     ensures stays { W.lender writer.new ≡ W.lender writer.old }
 {
     out.clear();

@@ -61,8 +61,8 @@ pub fn one_answer_is_right()
     ensures { OneAnswerIsRight }
 {}
 
-/// A detour changes no answer: where octets were translated to other rules, the right answer to what came out, in whichever rules, is the right
-/// answer to the octets themselves, and the other way round.
+/// A detour changes no answer: where octets were translated to other rules, the right answer to what came out, in
+/// whichever rules, is the right answer to the octets themselves, and the other way round.
 pub fn detours_change_no_answer()
     ensures { DetoursChangeNoAnswer }
 {}
@@ -72,16 +72,18 @@ pub fn twice_is_once()
     ensures { TwiceIsOnce }
 {}
 
-/// Translates one message of the type `T`: octets all of which are one encoding by the rules `from`, of a value that nests at most 128
-/// levels, become the canonical encoding of that value by the rules `to`.
+/// Translates one message of the type `T`: octets all of which are one encoding by the rules `from`, of a value that
+/// nests at most 128 levels, become the canonical encoding of that value by the rules `to`.
 ///
-/// The answer is the right one, and as there is one at most (`one_answer_is_right`), each fault comes exactly where it should; only want of
-/// memory may come in its place, always as `RecodeFault::Memory`. A detour through other rules changes nothing (`detours_change_no_answer`),
-/// and what was translated is translated to itself (`twice_is_once`).
+/// The answer is the right one, and as there is one at most (`one_answer_is_right`), each fault comes exactly where
+/// it should; only want of memory may come in its place, always as `RecodeFault::Memory`. A detour through other
+/// rules changes nothing (`detours_change_no_answer`), and what was translated is translated to itself
+/// (`twice_is_once`).
 ///
 /// # Errors
 ///
-/// `NotAnEncoding` where no octets in front are an encoding of a value that nests at most 128 levels, `Surplus` where octets stand behind one,
+/// `NotAnEncoding` where no octets in front are an encoding of a value that nests at most 128 levels, `Surplus` where
+/// octets stand behind one,
 /// `NoTarget` where the value has no encoding by the rules `to`, and `Memory` for want of memory.
 pub fn recode<T: Encode + Decode>(
     alloc: Global,
@@ -90,7 +92,8 @@ pub fn recode<T: Encode + Decode>(
     input: &[u8],
 ) -> Result<Vec<u8>, RecodeFault>
     ensures right { IfSome (answer_of result) (IsAnswer (rules_of from) (rules_of to) (T.schema 128) input.now) }
-    ensures exact { (a : Answer) → IsAnswer (rules_of from) (rules_of to) (T.schema 128) input.now a → (answer_of result ≡ None) ⊎ (answer_of result ≡ Some a) }
+    ensures exact { (a : Answer) → IsAnswer (rules_of from) (rules_of to) (T.schema 128) input.now a
+        → (answer_of result ≡ None) ⊎ (answer_of result ≡ Some a) }
     ensures memory { IfErr result NamesMemoryAlone }
     ensures fresh { IfErr result NamesNoEarlierRefusal }
 {

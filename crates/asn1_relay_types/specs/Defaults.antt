@@ -34,7 +34,8 @@ one_optional s = field (universal 2 ∷ []) optional s no_field
 abbrev pub true_and : Parts → Value
 true_and qs = fields (present (truth true) end) qs
 
-are_values : (gs : Fields) (qs : Parts) → AreAdditionValues gs qs → AreValues (flag_table gs) (present (truth true) end) qs
+are_values : (gs : Fields) (qs : Parts) → AreAdditionValues gs qs
+    → AreValues (flag_table gs) (present (truth true) end) qs
 are_values gs qs a =
     let p = part_required (boolean_type {ts = flag_tags} refl) (boolean_value true) in
     more_values flag_tags p (marked_values a)

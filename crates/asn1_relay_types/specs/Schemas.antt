@@ -1,6 +1,8 @@
--- The types of the program, as types of the model. Types that lead back to themselves are unfolded to a number of nested levels.
+-- The types of the program, as types of the model. Types that lead back to themselves are unfolded to a number of
+-- nested levels.
 use Rattle.std.specs.Prelude.{ℕ, zero, suc, ◌-◌, ◌^◌, pos, negsuc, true, false, [], ◌∷◌, Some, None}
-use Rattle.asn1_model.specs.Schema.{Tag, Range, Counts, Size, Presence, required, optional, Schema, cut, boolean, null, integer, octet_string, set_of, sequence, set, group, choice}
+use Rattle.asn1_model.specs.Schema.{Tag, Range, Counts, Size, Presence, required, optional, Schema, cut, boolean}
+use Rattle.asn1_model.specs.Schema.{null, integer, octet_string, set_of, sequence, set, group, choice}
 use Rattle.asn1_model.specs.Schema.{Components, no_component, component, no_alternative, alternative}
 
 -- ---- tags (X.680 8.1 and 8.4)
@@ -41,7 +43,8 @@ integer_schema = integer (record { range = any_range; extensible = false }) any_
 
 -- INTEGER (-5..5)
 abbrev pub small_schema : Schema
-small_schema = integer (record { range = record { low = Some (negsuc 4); high = Some (pos 5) }; extensible = false }) wide
+small_schema = integer (record { range = record { low = Some (negsuc 4); high = Some (pos 5) }; extensible = false })
+    wide
 
 -- INTEGER (0..255), in a number of eight bits.
 abbrev pub octet_range : Range
@@ -62,9 +65,11 @@ octets_schema n = octet_string one_to_three (record { low = 0; high = None })
 
 -- SEQUENCE {a BOOLEAN, b INTEGER (-5..5)}
 abbrev pub pair_schema : Schema
-pair_schema = sequence (one_more (universal 1) required boolean (one_more (universal 2) required small_schema no_component)) false no_component
+pair_schema = sequence (one_more (universal 1) required boolean
+    (one_more (universal 2) required small_schema no_component)) false no_component
 
--- SET {a [444] INTEGER OPTIONAL, b [5] INTEGER OPTIONAL, c [APPLICATION 9] INTEGER OPTIONAL}, in the order of its tags (X.680 8.6).
+-- SET {a [444] INTEGER OPTIONAL, b [5] INTEGER OPTIONAL, c [APPLICATION 9] INTEGER OPTIONAL}, in the order of its
+-- tags (X.680 8.6).
 abbrev pub set_schema : Schema
 set_schema = set
     (one_more (application 9) optional integer_schema
@@ -80,7 +85,8 @@ bag_schema = set_of any_size any_number_held octet_schema
 -- Nest ::= CHOICE {leaf [0] NULL, more [1] Nest}
 abbrev pub nest_schema : ℕ → Schema
 nest_schema zero = cut
-nest_schema (suc n) = choice (alternative (context 0) null (alternative (context 1) (nest_schema n) no_alternative)) false no_alternative
+nest_schema (suc n) = choice (alternative (context 0) null (alternative (context 1) (nest_schema n) no_alternative))
+    false no_alternative
 
 -- A BOOLEAN, a mark of extensibility, and these additions.
 abbrev pub behind_flag : Components → Schema
@@ -96,4 +102,5 @@ old_schema = behind_flag no_component
 
 -- SEQUENCE {a BOOLEAN, ..., [[x INTEGER (0..255) OPTIONAL]]}
 abbrev pub group_schema : Schema
-group_schema = behind_flag (one_more (universal 2) optional (group (one_more (universal 2) optional octet_schema no_component)) no_component)
+group_schema = behind_flag (one_more (universal 2) optional
+    (group (one_more (universal 2) optional octet_schema no_component)) no_component)

@@ -1,5 +1,5 @@
-//! The types whose messages the program `asn1_relay` translates. One that leads back to itself is taken from the guide's examples. Four
-//! are newer versions of others.
+//! The types whose messages the program `asn1_relay` translates. One that leads back to itself is taken from the
+//! guide's examples. Four are newer versions of others.
 #![tactic(auto)]
 
 mod extra;

@@ -55,13 +55,18 @@ impl Described for New {
 
     ghost is_own = { λ _. refl };
 
-    ghost meaning = { λ x. fields (⟦<Form as ComponentsOf>⟧.root (record { 0 = x.a; 1 = record { 0 = record { 0 = x.b; 1 = record {} }; 1 = record {} } })) (⟦<Form as ComponentsOf>⟧.added (record { 0 = x.a; 1 = record { 0 = record { 0 = x.b; 1 = record {} }; 1 = record {} } })) };
+    ghost meaning = { λ x. fields (⟦<Form as ComponentsOf>⟧.root
+        (record { 0 = x.a; 1 = record { 0 = record { 0 = x.b; 1 = record {} }; 1 = record {} } }))
+        (⟦<Form as ComponentsOf>⟧.added
+        (record { 0 = x.a; 1 = record { 0 = record { 0 = x.b; 1 = record {} }; 1 = record {} } })) };
 
     ghost typed = { type_sequence _ refl (⟦<Form as ComponentsOf>⟧.typed tt) refl };
 
-    ghost valued = { λ x. value_sequence _ (⟦<Form as ComponentsOf>⟧.valued tt (record { 0 = x.a; 1 = record { 0 = record { 0 = x.b; 1 = record {} }; 1 = record {} } })) };
+    ghost valued = { λ x. value_sequence _ (⟦<Form as ComponentsOf>⟧.valued tt
+        (record { 0 = x.a; 1 = record { 0 = record { 0 = x.b; 1 = record {} }; 1 = record {} } })) };
 
-    ghost valued_under = { λ _ x. value_sequence _ (⟦<Form as ComponentsOf>⟧.valued tt (record { 0 = x.a; 1 = record { 0 = record { 0 = x.b; 1 = record {} }; 1 = record {} } })) };
+    ghost valued_under = { λ _ x. value_sequence _ (⟦<Form as ComponentsOf>⟧.valued tt
+        (record { 0 = x.a; 1 = record { 0 = record { 0 = x.b; 1 = record {} }; 1 = record {} } })) };
 }
 
 impl AsnType for New {
@@ -83,9 +88,11 @@ impl Constructed for New {
 
     ghost table = { ⟦<Form as ComponentsOf>⟧.table };
 
-    ghost root = { λ x. ⟦<Form as ComponentsOf>⟧.root (record { 0 = x.a; 1 = record { 0 = record { 0 = x.b; 1 = record {} }; 1 = record {} } }) };
+    ghost root = { λ x. ⟦<Form as ComponentsOf>⟧.root
+        (record { 0 = x.a; 1 = record { 0 = record { 0 = x.b; 1 = record {} }; 1 = record {} } }) };
 
-    ghost added = { λ x. ⟦<Form as ComponentsOf>⟧.added (record { 0 = x.a; 1 = record { 0 = record { 0 = x.b; 1 = record {} }; 1 = record {} } }) };
+    ghost added = { λ x. ⟦<Form as ComponentsOf>⟧.added
+        (record { 0 = x.a; 1 = record { 0 = record { 0 = x.b; 1 = record {} }; 1 = record {} } }) };
 
     fn fields() -> Fields<'static> {
         const FIELDS: &'static [Field<'static>] = &[Field {
@@ -157,11 +164,13 @@ impl Decode for New {
 /// What the other version has, and `b` behind its mark.
 impl Extends<Old> for New {
     ghost use Rattle.asn1_schema_versions.proofs.Fields.{gains_additions};
-    ghost use Rattle.asn1_schema_versions.proofs.Unfolding.{constant_unfolds, field_unfolds, no_fields_unfold, sequence_unfolds};
+    ghost use Rattle.asn1_schema_versions.proofs.Unfolding.{constant_unfolds, field_unfolds, no_fields_unfold};
+    ghost use Rattle.asn1_schema_versions.proofs.Unfolding.{sequence_unfolds};
 
     ghost extends = { gains_additions _ ⟦<Additions as AdditionsOf>⟧.additions ⟦<Old as Described>⟧.typed.lawful refl };
 
     ghost old_unfolds = { sequence_unfolds _ (field_unfolds constant_unfolds no_fields_unfold) no_fields_unfold };
 
-    ghost unfolds = { sequence_unfolds _ (field_unfolds constant_unfolds no_fields_unfold) (field_unfolds constant_unfolds no_fields_unfold) };
+    ghost unfolds = { sequence_unfolds _ (field_unfolds constant_unfolds no_fields_unfold)
+        (field_unfolds constant_unfolds no_fields_unfold) };
 }

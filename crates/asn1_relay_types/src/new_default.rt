@@ -63,13 +63,16 @@ impl Described for NewDefault {
 
     ghost is_own = { λ _. refl };
 
-    ghost meaning = { λ x. fields (⟦<Form as ComponentsOf>⟧.root (record { 0 = x.s; 1 = record {}; 2 = record {} })) (⟦<Form as ComponentsOf>⟧.added (record { 0 = x.s; 1 = record {}; 2 = record {} })) };
+    ghost meaning = { λ x. fields (⟦<Form as ComponentsOf>⟧.root (record { 0 = x.s; 1 = record {}; 2 = record {} }))
+        (⟦<Form as ComponentsOf>⟧.added (record { 0 = x.s; 1 = record {}; 2 = record {} })) };
 
     ghost typed = { type_sequence _ refl (⟦<Form as ComponentsOf>⟧.typed (new_true_stands _, tt)) refl };
 
-    ghost valued = { λ x. value_sequence _ (⟦<Form as ComponentsOf>⟧.valued (new_true_stands _, tt) (record { 0 = x.s; 1 = record {}; 2 = record {} })) };
+    ghost valued = { λ x. value_sequence _ (⟦<Form as ComponentsOf>⟧.valued (new_true_stands _, tt)
+        (record { 0 = x.s; 1 = record {}; 2 = record {} })) };
 
-    ghost valued_under = { λ _ x. value_sequence _ (⟦<Form as ComponentsOf>⟧.valued (new_true_stands _, tt) (record { 0 = x.s; 1 = record {}; 2 = record {} })) };
+    ghost valued_under = { λ _ x. value_sequence _ (⟦<Form as ComponentsOf>⟧.valued (new_true_stands _, tt)
+        (record { 0 = x.s; 1 = record {}; 2 = record {} })) };
 }
 
 impl AsnType for NewDefault {
@@ -154,14 +157,23 @@ impl Decode for NewDefault {
 
 /// The same component, whose type has grown; its default is that of the other version, with what was added absent.
 impl Extends<OldDefault> for NewDefault {
-    ghost use Rattle.asn1_schema_versions.proofs.Fields.{gains_additions, grown_field, no_fields, same_tags, sequence_extends};
+    ghost use Rattle.asn1_schema_versions.proofs.Fields.{gains_additions, grown_field, no_fields, same_tags};
+    ghost use Rattle.asn1_schema_versions.proofs.Fields.{sequence_extends};
     ghost use Rattle.asn1_schema_versions.proofs.Defaults.{default_gains};
-    ghost use Rattle.asn1_schema_versions.proofs.Unfolding.{constant_unfolds, field_unfolds, no_fields_unfold, sequence_unfolds};
+    ghost use Rattle.asn1_schema_versions.proofs.Unfolding.{constant_unfolds, field_unfolds, no_fields_unfold};
+    ghost use Rattle.asn1_schema_versions.proofs.Unfolding.{sequence_unfolds};
     ghost use Rattle.asn1_relay_types.specs.Defaults.{flag_table, one_optional, old_true_stands};
 
-    ghost extends = { sequence_extends (grown_field (same_tags ⟦<New as Described>⟧.tags) (default_gains (flag_table no_field) (one_optional _) old_true_stands (new_true_stands _)) (gains_additions (flag_table no_field) (one_optional _) ⟦<Old as Described>⟧.typed.lawful refl) no_fields) refl no_fields };
+    ghost extends = { sequence_extends (grown_field (same_tags ⟦<New as Described>⟧.tags)
+        (default_gains (flag_table no_field) (one_optional _) old_true_stands (new_true_stands _))
+        (gains_additions (flag_table no_field) (one_optional _) ⟦<Old as Described>⟧.typed.lawful refl) no_fields)
+        refl no_fields };
 
-    ghost old_unfolds = { sequence_unfolds _ (field_unfolds (sequence_unfolds (flag_table no_field) (field_unfolds constant_unfolds no_fields_unfold) no_fields_unfold) no_fields_unfold) no_fields_unfold };
+    ghost old_unfolds = { sequence_unfolds _ (field_unfolds
+        (sequence_unfolds (flag_table no_field) (field_unfolds constant_unfolds no_fields_unfold) no_fields_unfold)
+        no_fields_unfold) no_fields_unfold };
 
-    ghost unfolds = { sequence_unfolds _ (field_unfolds (sequence_unfolds (flag_table (one_optional _)) (field_unfolds constant_unfolds no_fields_unfold) (field_unfolds constant_unfolds no_fields_unfold)) no_fields_unfold) no_fields_unfold };
+    ghost unfolds = { sequence_unfolds _ (field_unfolds
+        (sequence_unfolds (flag_table (one_optional _)) (field_unfolds constant_unfolds no_fields_unfold)
+        (field_unfolds constant_unfolds no_fields_unfold)) no_fields_unfold) no_fields_unfold };
 }

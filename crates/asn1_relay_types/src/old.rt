@@ -47,13 +47,17 @@ impl Described for Old {
 
     ghost is_own = { λ _. refl };
 
-    ghost meaning = { λ x. fields (⟦<Form as ComponentsOf>⟧.root (record { 0 = x.a; 1 = record { 0 = record {}; 1 = record {} } })) (⟦<Form as ComponentsOf>⟧.added (record { 0 = x.a; 1 = record { 0 = record {}; 1 = record {} } })) };
+    ghost meaning = { λ x. fields (⟦<Form as ComponentsOf>⟧.root
+        (record { 0 = x.a; 1 = record { 0 = record {}; 1 = record {} } }))
+        (⟦<Form as ComponentsOf>⟧.added (record { 0 = x.a; 1 = record { 0 = record {}; 1 = record {} } })) };
 
     ghost typed = { type_sequence _ refl (⟦<Form as ComponentsOf>⟧.typed tt) refl };
 
-    ghost valued = { λ x. value_sequence _ (⟦<Form as ComponentsOf>⟧.valued tt (record { 0 = x.a; 1 = record { 0 = record {}; 1 = record {} } })) };
+    ghost valued = { λ x. value_sequence _ (⟦<Form as ComponentsOf>⟧.valued tt
+        (record { 0 = x.a; 1 = record { 0 = record {}; 1 = record {} } })) };
 
-    ghost valued_under = { λ _ x. value_sequence _ (⟦<Form as ComponentsOf>⟧.valued tt (record { 0 = x.a; 1 = record { 0 = record {}; 1 = record {} } })) };
+    ghost valued_under = { λ _ x. value_sequence _ (⟦<Form as ComponentsOf>⟧.valued tt
+        (record { 0 = x.a; 1 = record { 0 = record {}; 1 = record {} } })) };
 }
 
 impl AsnType for Old {
@@ -75,9 +79,11 @@ impl Constructed for Old {
 
     ghost table = { ⟦<Form as ComponentsOf>⟧.table };
 
-    ghost root = { λ x. ⟦<Form as ComponentsOf>⟧.root (record { 0 = x.a; 1 = record { 0 = record {}; 1 = record {} } }) };
+    ghost root = { λ x. ⟦<Form as ComponentsOf>⟧.root
+        (record { 0 = x.a; 1 = record { 0 = record {}; 1 = record {} } }) };
 
-    ghost added = { λ x. ⟦<Form as ComponentsOf>⟧.added (record { 0 = x.a; 1 = record { 0 = record {}; 1 = record {} } }) };
+    ghost added = { λ x. ⟦<Form as ComponentsOf>⟧.added
+        (record { 0 = x.a; 1 = record { 0 = record {}; 1 = record {} } }) };
 
     fn fields() -> Fields<'static> {
         const FIELDS: &'static [Field<'static>] = &[Field {

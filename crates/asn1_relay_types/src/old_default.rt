@@ -60,13 +60,16 @@ impl Described for OldDefault {
 
     ghost is_own = { λ _. refl };
 
-    ghost meaning = { λ x. fields (⟦<Form as ComponentsOf>⟧.root (record { 0 = x.s; 1 = record {}; 2 = record {} })) (⟦<Form as ComponentsOf>⟧.added (record { 0 = x.s; 1 = record {}; 2 = record {} })) };
+    ghost meaning = { λ x. fields (⟦<Form as ComponentsOf>⟧.root (record { 0 = x.s; 1 = record {}; 2 = record {} }))
+        (⟦<Form as ComponentsOf>⟧.added (record { 0 = x.s; 1 = record {}; 2 = record {} })) };
 
     ghost typed = { type_sequence _ refl (⟦<Form as ComponentsOf>⟧.typed (old_true_stands, tt)) refl };
 
-    ghost valued = { λ x. value_sequence _ (⟦<Form as ComponentsOf>⟧.valued (old_true_stands, tt) (record { 0 = x.s; 1 = record {}; 2 = record {} })) };
+    ghost valued = { λ x. value_sequence _ (⟦<Form as ComponentsOf>⟧.valued (old_true_stands, tt)
+        (record { 0 = x.s; 1 = record {}; 2 = record {} })) };
 
-    ghost valued_under = { λ _ x. value_sequence _ (⟦<Form as ComponentsOf>⟧.valued (old_true_stands, tt) (record { 0 = x.s; 1 = record {}; 2 = record {} })) };
+    ghost valued_under = { λ _ x. value_sequence _ (⟦<Form as ComponentsOf>⟧.valued (old_true_stands, tt)
+        (record { 0 = x.s; 1 = record {}; 2 = record {} })) };
 }
 
 impl AsnType for OldDefault {

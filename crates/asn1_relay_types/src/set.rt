@@ -1,5 +1,5 @@
-//! SET {a [444] INTEGER OPTIONAL, b [5] INTEGER OPTIONAL, c [APPLICATION 9] INTEGER OPTIONAL}, whose components stand in the order of their
-//! tags: c, b, a.
+//! SET {a [444] INTEGER OPTIONAL, b [5] INTEGER OPTIONAL, c [APPLICATION 9] INTEGER OPTIONAL}, whose components stand
+//! in the order of their tags: c, b, a.
 ghost use Rattle.std.specs.Prelude.{refl, [], ◌∷◌};
 ghost use Rattle.asn1_model.specs.Value.{fields};
 ghost use Rattle.asn1_schema_constraints.specs.Terms.{no_constraint};
@@ -46,13 +46,18 @@ impl Described for Set {
 
     ghost is_own = { λ _. refl };
 
-    ghost meaning = { λ x. fields (⟦<Form as ComponentsOf>⟧.root (record { 0 = x.c; 1 = record { 0 = x.b; 1 = record { 0 = x.a; 1 = record {} } } })) (⟦<Form as ComponentsOf>⟧.added (record { 0 = x.c; 1 = record { 0 = x.b; 1 = record { 0 = x.a; 1 = record {} } } })) };
+    ghost meaning = { λ x. fields (⟦<Form as ComponentsOf>⟧.root
+        (record { 0 = x.c; 1 = record { 0 = x.b; 1 = record { 0 = x.a; 1 = record {} } } }))
+        (⟦<Form as ComponentsOf>⟧.added
+        (record { 0 = x.c; 1 = record { 0 = x.b; 1 = record { 0 = x.a; 1 = record {} } } })) };
 
     ghost typed = { type_set _ refl (⟦<Form as ComponentsOf>⟧.typed tt) refl refl };
 
-    ghost valued = { λ x. value_set _ (⟦<Form as ComponentsOf>⟧.valued tt (record { 0 = x.c; 1 = record { 0 = x.b; 1 = record { 0 = x.a; 1 = record {} } } })) };
+    ghost valued = { λ x. value_set _ (⟦<Form as ComponentsOf>⟧.valued tt
+        (record { 0 = x.c; 1 = record { 0 = x.b; 1 = record { 0 = x.a; 1 = record {} } } })) };
 
-    ghost valued_under = { λ _ x. value_set _ (⟦<Form as ComponentsOf>⟧.valued tt (record { 0 = x.c; 1 = record { 0 = x.b; 1 = record { 0 = x.a; 1 = record {} } } })) };
+    ghost valued_under = { λ _ x. value_set _ (⟦<Form as ComponentsOf>⟧.valued tt
+        (record { 0 = x.c; 1 = record { 0 = x.b; 1 = record { 0 = x.a; 1 = record {} } } })) };
 }
 
 impl AsnType for Set {
@@ -74,9 +79,11 @@ impl Constructed for Set {
 
     ghost table = { ⟦<Form as ComponentsOf>⟧.table };
 
-    ghost root = { λ x. ⟦<Form as ComponentsOf>⟧.root (record { 0 = x.c; 1 = record { 0 = x.b; 1 = record { 0 = x.a; 1 = record {} } } }) };
+    ghost root = { λ x. ⟦<Form as ComponentsOf>⟧.root
+        (record { 0 = x.c; 1 = record { 0 = x.b; 1 = record { 0 = x.a; 1 = record {} } } }) };
 
-    ghost added = { λ x. ⟦<Form as ComponentsOf>⟧.added (record { 0 = x.c; 1 = record { 0 = x.b; 1 = record { 0 = x.a; 1 = record {} } } }) };
+    ghost added = { λ x. ⟦<Form as ComponentsOf>⟧.added
+        (record { 0 = x.c; 1 = record { 0 = x.b; 1 = record { 0 = x.a; 1 = record {} } } }) };
 
     fn fields() -> Fields<'static> {
         const FIELDS: &'static [Field<'static>] = &[

@@ -4,9 +4,11 @@ unfoldable pub use Rattle.asn1_model.specs.Lawful.{is_lawful}
 pub use Rattle.asn1_model.specs.Numbers.{is_count_within}
 pub use Rattle.asn1_model.specs.Schema.{Schema, Tag, cut, enumerated, integer, optional, required, utf8}
 pub use Rattle.asn1_model.specs.Types.{any_count, any_size, context}
-pub use Rattle.asn1_model.specs.Value.{Parts, Value, Values, absent, arcs, bit_list, end, fields, item, member, members, no_more}
+pub use Rattle.asn1_model.specs.Value.{Parts, Value, Values, absent, arcs, bit_list, end, fields, item, member}
+pub use Rattle.asn1_model.specs.Value.{members, no_more}
 pub use Rattle.asn1_model.specs.Value.{nothing, number, octet_list, present, text, truth}
-pub use Rattle.asn1_schema_constraints.specs.Terms.{Meant, bounded_by, from_to, meant, no_constraint, sized, integer_under}
+pub use Rattle.asn1_schema_constraints.specs.Terms.{Meant, bounded_by, from_to, meant, no_constraint, sized}
+pub use Rattle.asn1_schema_constraints.specs.Terms.{integer_under}
 pub use Rattle.asn1_schema_constraints.specs.Terms.{bit_string_under, character_string_under, octet_string_under}
 pub use Rattle.asn1_schema_constructed.specs.Chosen.{chosen_value}
 pub use Rattle.asn1_schema_constructed.specs.Constructed.{fields_of, sequence_form, sequence_tags, set_form}

@@ -6,14 +6,16 @@ use Rattle.asn1_model.specs.Normal.{normal_parts}
 use Rattle.asn1_schema_faults.specs.declared.DecodeError.{DecodeError}
 use Rattle.asn1_schema_faults.specs.declared.DecodeError.TheVariants.{OutOfMemory}
 use Rattle.asn1_schema_presented.specs.Records.{Record, is_default, addition, addition_ends}
-use Rattle.asn1_schema_presented.specs.Presents.{Part, left_out, there, presents, addition_records, added_records, Fits, PartFits, PartsFit}
+use Rattle.asn1_schema_presented.specs.Presents.{Part, left_out, there, presents, addition_records, added_records}
+use Rattle.asn1_schema_presented.specs.Presents.{Fits, PartFits, PartsFit}
 use Rattle.asn1_schema_presented.specs.Parts.{normal_part}
 use Rattle.asn1_schema_presented.specs.Tables.{Fields, components_at}
 use Rattle.asn1_schema_presented.specs.Chains.{Chain}
 use Rattle.asn1_schema_decode.specs.Reads.{Reads}
 
 -- An addition is told to be there, the records of its value follow, and its end.
-pub record ReadsEnclosed {S : Type 0} (step : S → Record → S → Type 0) (schema : ℕ → Schema) (n : ℕ) (v : Value) (old new : S) : Type 0 where
+pub record ReadsEnclosed {S : Type 0} (step : S → Record → S → Type 0) (schema : ℕ → Schema) (n : ℕ) (v : Value)
+    (old new : S) : Type 0 where
   pub begun : S
   pub read : S
   pub begins : step old (addition true) begun
@@ -26,34 +28,45 @@ ReadsExtension step schema n left_out old new = step old (addition false) new
 ReadsExtension step schema n (there v) old new = ReadsEnclosed step schema n v old new
 
 -- Why none is read: for want of memory, or because the records of none are next.
-pub record UnreadExtension {S : Type 0} (step : S → Record → S → Type 0) (schema : ℕ → Schema) (n : ℕ) (old : S) (x : DecodeError) : Type 0 where
+pub record UnreadExtension {S : Type 0} (step : S → Record → S → Type 0) (schema : ℕ → Schema) (n : ℕ) (old : S)
+    (x : DecodeError) : Type 0 where
   pub none : ¬ (x ≡ OutOfMemory) → (p : Part) (new : S) → ReadsExtension step schema n p old new → ⊥
 
 -- One with the default d: it is left out, or spelled out, which is noted, or of another value.
-pub data ReadsExtensionDefault {S : Type 0} (step : S → Record → S → Type 0) (schema : ℕ → Schema) (n : ℕ) (d v : Value) (old new : S) : Type 0 where
+pub data ReadsExtensionDefault {S : Type 0} (step : S → Record → S → Type 0) (schema : ℕ → Schema) (n : ℕ)
+    (d v : Value) (old new : S) : Type 0 where
   omitted : v ≡ d → step old (addition false) new → ReadsExtensionDefault step schema n d v old new
-  spelled_out : same v d ≡ true → (behind : S) → ReadsEnclosed step schema n v old behind → step behind is_default new → ReadsExtensionDefault step schema n d v old new
-  other_value : same v d ≡ false → ReadsEnclosed step schema n v old new → ReadsExtensionDefault step schema n d v old new
+  spelled_out : same v d ≡ true → (behind : S) → ReadsEnclosed step schema n v old behind → step behind is_default new
+      → ReadsExtensionDefault step schema n d v old new
+  other_value : same v d ≡ false → ReadsEnclosed step schema n v old new
+      → ReadsExtensionDefault step schema n d v old new
 
-pub record UnreadExtensionDefault {S : Type 0} (step : S → Record → S → Type 0) (schema : ℕ → Schema) (n : ℕ) (d : Value) (old : S) (x : DecodeError) : Type 0 where
+pub record UnreadExtensionDefault {S : Type 0} (step : S → Record → S → Type 0) (schema : ℕ → Schema) (n : ℕ)
+    (d : Value) (old : S) (x : DecodeError) : Type 0 where
   pub none : ¬ (x ≡ OutOfMemory) → (v : Value) (new : S) → ReadsExtensionDefault step schema n d v old new → ⊥
 
 -- One addition by its type's own constraints, there or left out; x is its normal form.
-pub record ReadsAddition {S : Type 0} (step : S → Record → S → Type 0) (o : Presence) (schema : ℕ → Schema) (n : ℕ) (x : Part) (old new : S) : Type 0 where
+pub record ReadsAddition {S : Type 0} (step : S → Record → S → Type 0) (o : Presence) (schema : ℕ → Schema) (n : ℕ)
+    (x : Part) (old new : S) : Type 0 where
   pub raw : Part
   pub fits : PartFits (λ v. Fits (schema n) v) o raw
   pub means : normal_part o (schema n) raw ≡ x
   pub chain : Chain step (addition_records (λ v. presents (schema n) v) o (schema n) raw) old new
 
-pub record UnreadAddition {S : Type 0} (step : S → Record → S → Type 0) (o : Presence) (schema : ℕ → Schema) (n : ℕ) (old : S) (x : DecodeError) : Type 0 where
-  pub none : ¬ (x ≡ OutOfMemory) → (p : Part) (new : S) → PartFits (λ v. Fits (schema n) v) o p → Chain step (addition_records (λ v. presents (schema n) v) o (schema n) p) old new → ⊥
+pub record UnreadAddition {S : Type 0} (step : S → Record → S → Type 0) (o : Presence) (schema : ℕ → Schema) (n : ℕ)
+    (old : S) (x : DecodeError) : Type 0 where
+  pub none : ¬ (x ≡ OutOfMemory) → (p : Part) (new : S) → PartFits (λ v. Fits (schema n) v) o p
+      → Chain step (addition_records (λ v. presents (schema n) v) o (schema n) p) old new → ⊥
 
 -- The additions that are left, and the end.
-pub record ReadsAdded {S : Type 0} (step : S → Record → S → Type 0) (fs : Fields) (n : ℕ) (qs : Parts) (old new : S) : Type 0 where
+pub record ReadsAdded {S : Type 0} (step : S → Record → S → Type 0) (fs : Fields) (n : ℕ) (qs : Parts) (old new : S) :
+    Type 0 where
   pub raw : Parts
   pub fits : PartsFit (components_at n fs) raw
   pub means : normal_parts (components_at n fs) raw ≡ qs
   pub chain : Chain step (added_records (components_at n fs) raw) old new
 
-pub record UnreadAdded {S : Type 0} (step : S → Record → S → Type 0) (fs : Fields) (n : ℕ) (old : S) (x : DecodeError) : Type 0 where
-  pub none : ¬ (x ≡ OutOfMemory) → (qs : Parts) (new : S) → PartsFit (components_at n fs) qs → Chain step (added_records (components_at n fs) qs) old new → ⊥
+pub record UnreadAdded {S : Type 0} (step : S → Record → S → Type 0) (fs : Fields) (n : ℕ) (old : S)
+    (x : DecodeError) : Type 0 where
+  pub none : ¬ (x ≡ OutOfMemory) → (qs : Parts) (new : S) → PartsFit (components_at n fs) qs
+      → Chain step (added_records (components_at n fs) qs) old new → ⊥

@@ -7,8 +7,11 @@ ghost use Rattle.asn1_schema_presented.specs.Tables.{Fields, no_field, field, fi
 ghost use Rattle.asn1_schema_presented.specs.Parts.{part_of, part_unless};
 ghost use Rattle.asn1_schema_presented.proofs.Values.{part_required, part_optional, part_default};
 ghost use Rattle.asn1_schema_presented.proofs.Defaults.{has_default};
-ghost use Rattle.asn1_schema_presented.specs.Additions.{HaveDefaults, AreAdditionTypes, AreAdditionValues, addition_count, marked_table, group_type, group_part};
-ghost use Rattle.asn1_schema_presented.proofs.Additions.{as_addition, no_addition_types, more_addition_types, marked_types, no_addition_values, more_addition_values, marked_values};
+ghost use Rattle.asn1_schema_presented.specs.Additions.{HaveDefaults, AreAdditionTypes, AreAdditionValues};
+ghost use Rattle.asn1_schema_presented.specs.Additions.{addition_count, marked_table, group_type, group_part};
+ghost use Rattle.asn1_schema_presented.proofs.Additions.{as_addition, no_addition_types, more_addition_types};
+ghost use Rattle.asn1_schema_presented.proofs.Additions.{marked_types, no_addition_values, more_addition_values};
+ghost use Rattle.asn1_schema_presented.proofs.Additions.{marked_values};
 ghost use Rattle.asn1_schema_presented.proofs.Groups.{group_addition, group_valued};
 
 use crate::group::Group;
@@ -54,7 +57,8 @@ impl AdditionsOf for NoMore {
     ghost valued = { λ _ _. no_addition_values };
 }
 
-/// That there are no more additions than `usize` counts: a marker type of the program's implements it for the additions of a type.
+/// That there are no more additions than `usize` counts: a marker type of the program's implements it for the
+/// additions of a type.
 pub trait CountOf<A: AdditionsOf> {
     fn described(&self) {}
 
@@ -62,8 +66,8 @@ pub trait CountOf<A: AdditionsOf> {
     ghost countable: { addition_count A.additions ≤ 18446744073709551615 };
 }
 
-/// What stands behind the root components of a type with a mark of extensibility: its additions, as they are read. The marker says
-/// that they can be counted.
+/// What stands behind the root components of a type with a mark of extensibility: its additions, as they are read.
+/// The marker says that they can be counted.
 #[derive(Drop)]
 pub struct MarkedComponents<M, A>(pub A, pub PhantomData<M>);
 
@@ -112,7 +116,8 @@ impl<T: Described, R: AdditionsOf> AdditionsOf for AddedOptionalComponent<T, R> 
 
     ghost typed = { λ d. more_addition_types T.tags optional (λ _. refl) (as_addition optional T.typed) (R.typed d) };
 
-    ghost valued = { λ d x. more_addition_values T.tags (part_optional T.meaning x.0 T.typed T.valued) (R.valued d x.1) };
+    ghost valued = { λ d x. more_addition_values T.tags (part_optional T.meaning x.0 T.typed T.valued)
+        (R.valued d x.1) };
 }
 
 /// An addition with a default, of which the marker says which one, and those behind it, as they are read.
@@ -129,9 +134,11 @@ impl<V: DefaultOf<T>, T: Described, R: AdditionsOf> AdditionsOf
         R::count().saturating_add(1)
     }
 
-    ghost typed = { λ d. more_addition_types T.tags (by_default V.value) (has_default d.0) (as_addition (by_default V.value) T.typed) (R.typed d.1) };
+    ghost typed = { λ d. more_addition_types T.tags (by_default V.value) (has_default d.0)
+        (as_addition (by_default V.value) T.typed) (R.typed d.1) };
 
-    ghost valued = { λ d x. more_addition_values T.tags (part_default (same (T.meaning x.0) V.value) T.typed (T.valued x.0) d.0.is_value refl) (R.valued d.1 x.2) };
+    ghost valued = { λ d x. more_addition_values T.tags
+        (part_default (same (T.meaning x.0) V.value) T.typed (T.valued x.0) d.0.is_value refl) (R.valued d.1 x.2) };
 }
 
 /// A group of additions, and those behind it, as they are read.
@@ -147,7 +154,9 @@ impl<G: Group, R: AdditionsOf> AdditionsOf for AddedGroupComponent<G, R> {
         R::count().saturating_add(1)
     }
 
-    ghost typed = { λ d. more_addition_types (field_tags G.components.root) optional (λ _. refl) (group_addition G.plain G.lawful G.tidy) (R.typed d) };
+    ghost typed = { λ d. more_addition_types (field_tags G.components.root) optional (λ _. refl)
+        (group_addition G.plain G.lawful G.tidy) (R.typed d) };
 
-    ghost valued = { λ d x. more_addition_values (field_tags G.components.root) (group_valued G.parts x.0 G.plain G.each) (R.valued d x.1) };
+    ghost valued = { λ d x. more_addition_values (field_tags G.components.root)
+        (group_valued G.parts x.0 G.plain G.each) (R.valued d x.1) };
 }

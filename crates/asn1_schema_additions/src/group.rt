@@ -8,7 +8,8 @@ ghost use Rattle.asn1_schema_presented.specs.Additions.{IsGroup};
 
 use asn1_schema_constructed::Constructed;
 
-/// A group of additions (X.680 25.1), as a type of the program: a sequence without a mark of extensibility, with one component or more.
+/// A group of additions (X.680 25.1), as a type of the program: a sequence without a mark of extensibility, with one
+/// component or more.
 pub trait Group: Constructed {
     /// Its components.
     ghost components: { Table };

@@ -8,7 +8,8 @@ ghost use Rattle.asn1_schema_presented.specs.Parts.{part_of, part_unless};
 ghost use Rattle.asn1_schema_presented.proofs.Values.{part_required, part_optional, part_default};
 ghost use Rattle.asn1_schema_presented.proofs.Defaults.{has_default};
 ghost use Rattle.asn1_schema_presented.specs.Additions.{addition_count, marked_table, group_type, group_part};
-ghost use Rattle.asn1_schema_presented.proofs.Additions.{as_addition, more_addition_types, marked_types, more_addition_values, marked_values};
+ghost use Rattle.asn1_schema_presented.proofs.Additions.{as_addition, more_addition_types, marked_types};
+ghost use Rattle.asn1_schema_presented.proofs.Additions.{more_addition_values, marked_values};
 ghost use Rattle.asn1_schema_presented.proofs.Groups.{group_addition, group_valued};
 
 use crate::additions::AdditionsOf;
@@ -69,7 +70,8 @@ impl<'a, T: Described, R: AdditionsOf> AdditionsOf for AddedOptional<'a, T, R> {
 
     ghost typed = { λ d. more_addition_types T.tags optional (λ _. refl) (as_addition optional T.typed) (R.typed d) };
 
-    ghost valued = { λ d x. more_addition_values T.tags (part_optional T.meaning x.0.now T.typed T.valued) (R.valued d x.1) };
+    ghost valued = { λ d x. more_addition_values T.tags (part_optional T.meaning x.0.now T.typed T.valued)
+        (R.valued d x.1) };
 }
 
 /// An addition with a default, of which the marker says which one, and those behind it.
@@ -86,9 +88,12 @@ impl<'a, V: DefaultOf<T>, T: Described, R: AdditionsOf> AdditionsOf
         R::count().saturating_add(1)
     }
 
-    ghost typed = { λ d. more_addition_types T.tags (by_default V.value) (has_default d.0) (as_addition (by_default V.value) T.typed) (R.typed d.1) };
+    ghost typed = { λ d. more_addition_types T.tags (by_default V.value) (has_default d.0)
+        (as_addition (by_default V.value) T.typed) (R.typed d.1) };
 
-    ghost valued = { λ d x. more_addition_values T.tags (part_default (same (T.meaning x.0.now) V.value) T.typed (T.valued x.0.now) d.0.is_value refl) (R.valued d.1 x.2) };
+    ghost valued = { λ d x. more_addition_values T.tags
+        (part_default (same (T.meaning x.0.now) V.value) T.typed (T.valued x.0.now) d.0.is_value refl)
+        (R.valued d.1 x.2) };
 }
 
 /// A group of additions, and those behind it.
@@ -104,7 +109,9 @@ impl<'a, G: Group, R: AdditionsOf> AdditionsOf for AddedGroup<'a, G, R> {
         R::count().saturating_add(1)
     }
 
-    ghost typed = { λ d. more_addition_types (field_tags G.components.root) optional (λ _. refl) (group_addition G.plain G.lawful G.tidy) (R.typed d) };
+    ghost typed = { λ d. more_addition_types (field_tags G.components.root) optional (λ _. refl)
+        (group_addition G.plain G.lawful G.tidy) (R.typed d) };
 
-    ghost valued = { λ d x. more_addition_values (field_tags G.components.root) (group_valued G.parts x.0.now G.plain G.each) (R.valued d x.1) };
+    ghost valued = { λ d x. more_addition_values (field_tags G.components.root)
+        (group_valued G.parts x.0.now G.plain G.each) (R.valued d x.1) };
 }

@@ -1,5 +1,6 @@
 -- What bounds mean: their ends, what they admit, and what two of them admit together.
-use Rattle.std.specs.Prelude.{ℕ, ◌+◌, ◌-◌, ◌^◌, ltb, leb, ℤ, pos, ◌+ℤ◌, ◌-ℤ◌, ◌≤ℤ◌, ◌≤◌, FitsSigned, ◌≡◌, Bool, false, not, cond, ◌&&◌, ◌||◌, Option, Some, None, unwrap_or, is_some}
+use Rattle.std.specs.Prelude.{ℕ, ◌+◌, ◌-◌, ◌^◌, ltb, leb, ℤ, pos, ◌+ℤ◌, ◌-ℤ◌, ◌≤ℤ◌, ◌≤◌, FitsSigned, ◌≡◌, Bool, false}
+use Rattle.std.specs.Prelude.{not, cond, ◌&&◌, ◌||◌, Option, Some, None, unwrap_or, is_some}
 use Rattle.std.specs.Option.{SomeIff}
 use Rattle.std.specs.Int.{w128}
 use Rattle.asn1_model.specs.Schema.{Range, Counts}
@@ -8,7 +9,8 @@ use Rattle.asn1_model.specs.Oer.{is_fixed_at}
 use Rattle.asn1_schema_constraints.specs.declared.bounds.Bounded.{Bounded}
 use Rattle.asn1_schema_constraints.specs.declared.bounds.Effective.{Effective}
 use Rattle.asn1_schema_constraints.specs.declared.bounds.Effective.TheVariants.{Offset, Plain}
-use Rattle.asn1_schema_constraints.specs.declared.bounds.Bounded.TheVariants.{None as Unbounded, Single, Range as Between}
+use Rattle.asn1_schema_constraints.specs.declared.bounds.Bounded.TheVariants.{None as Unbounded, Single}
+use Rattle.asn1_schema_constraints.specs.declared.bounds.Bounded.TheVariants.{Range as Between}
 
 -- The least value, where there is one (X.680 51.4).
 abbrev pub lower : {X : Type 0} → Bounded X → Option X
@@ -42,14 +44,17 @@ is_one_size b = is_fixed_at (counts_of b) (upper b)
 abbrev pub is_size_range : Bounded ℕ → Bool
 is_size_range b = (is_some (lower b) || is_some (upper b)) && not (is_one_size b)
 
--- An answer is how many numbers there are from one to another, exactly where both are there and 128 bits of two's complement hold that number.
+-- An answer is how many numbers there are from one to another, exactly where both are there and 128 bits of two's
+-- complement hold that number.
 abbrev pub IsSpan : Option ℤ → Option ℤ → Option ℤ → Type 0
-IsSpan (Some low) (Some high) answer = SomeIff answer (FitsSigned w128 ((high -ℤ low) +ℤ pos 1)) ((high -ℤ low) +ℤ pos 1)
+IsSpan (Some low) (Some high) answer = SomeIff answer (FitsSigned w128 ((high -ℤ low) +ℤ pos 1))
+    ((high -ℤ low) +ℤ pos 1)
 IsSpan low high answer = answer ≡ None
 
 -- How many counts there are from one to another, where both are there and 64 bits hold that number.
 abbrev pub counted : Option ℕ → Option ℕ → Option ℕ
-counted (Some low) (Some high) = cond (leb low (high + 1) && ltb ((high + 1) - low) (2 ^ 64)) (Some ((high + 1) - low)) None
+counted (Some low) (Some high) = cond (leb low (high + 1) && ltb ((high + 1) - low) (2 ^ 64))
+    (Some ((high + 1) - low)) None
 counted low high = None
 
 -- The later of two lower bounds, where there are any.

@@ -4,7 +4,8 @@ use Rattle.std.specs.Result.{OkIff}
 use Rattle.std.specs.declared.num.TryFromIntError.{TryFromIntError}
 use Rattle.asn1_schema_constraints.specs.Bounds.{lower, upper}
 use Rattle.asn1_schema_constraints.specs.declared.bounds.Bounded.{Bounded}
-use Rattle.asn1_schema_constraints.specs.declared.bounds.Bounded.TheVariants.{None as Unbounded, Single, Range as Between}
+use Rattle.asn1_schema_constraints.specs.declared.bounds.Bounded.TheVariants.{None as Unbounded, Single}
+use Rattle.asn1_schema_constraints.specs.declared.bounds.Bounded.TheVariants.{Range as Between}
 use Rattle.asn1_schema_constraints.specs.declared.parts.Value.{Value}
 
 -- The same bounds, of numbers that may be negative.

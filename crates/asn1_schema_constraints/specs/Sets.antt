@@ -7,9 +7,14 @@ use Rattle.asn1_schema_constraints.specs.declared.parts.Size.{Size}
 use Rattle.asn1_schema_constraints.specs.declared.extensions.Extensible.{Extensible}
 use Rattle.asn1_schema_constraints.specs.declared.extensions.PermittedAlphabet.{PermittedAlphabet}
 use Rattle.asn1_schema_constraints.specs.declared.lists.Constraint.{Constraint}
-use Rattle.asn1_schema_constraints.specs.declared.lists.Constraint.TheVariants.{Value as OfValue, Size as OfSize, PermittedAlphabet as OfAlphabet, Extensible as Mark}
+use Rattle.asn1_schema_constraints.specs.declared.lists.Constraint.TheVariants.{Value as OfValue, Size as OfSize}
+use Rattle.asn1_schema_constraints.specs.declared.lists.Constraint.TheVariants.{PermittedAlphabet as OfAlphabet}
+use Rattle.asn1_schema_constraints.specs.declared.lists.Constraint.TheVariants.{Extensible as Mark}
 use Rattle.asn1_schema_constraints.specs.declared.lists.ConstraintDiscriminant.{ConstraintDiscriminant}
-use Rattle.asn1_schema_constraints.specs.declared.lists.ConstraintDiscriminant.TheVariants.{Value as ValueKind, Size as SizeKind, PermittedAlphabet as AlphabetKind, Extensible as MarkKind}
+use Rattle.asn1_schema_constraints.specs.declared.lists.ConstraintDiscriminant.TheVariants.{Value as ValueKind}
+use Rattle.asn1_schema_constraints.specs.declared.lists.ConstraintDiscriminant.TheVariants.{Size as SizeKind}
+use Rattle.asn1_schema_constraints.specs.declared.lists.ConstraintDiscriminant.TheVariants.{PermittedAlphabet as AlphabetKind}
+use Rattle.asn1_schema_constraints.specs.declared.lists.ConstraintDiscriminant.TheVariants.{Extensible as MarkKind}
 use Rattle.asn1_schema_constraints.specs.declared.lists.Constraints.{Constraints}
 
 -- The kind of a constraint.
@@ -79,10 +84,15 @@ later_mark a (Some b) = Some b
 
 -- Two constraints of a kind, applied in turn: the roots met, with a mark where either has one (X.680 50 and 52).
 abbrev pub in_turn : {X : Type 0} → (X → X → X) → Extensible X → Extensible X → Extensible X
-in_turn met a b = record { constraint = met a.constraint b.constraint; extensible = later_mark a.extensible b.extensible }
+in_turn met a b = record {
+  constraint = met a.constraint b.constraint;
+  extensible = later_mark a.extensible
+      b.extensible;
+}
 
 -- The same, where there are any.
-abbrev pub both_parts : {X : Type 0} → (X → X → X) → Option (Extensible X) → Option (Extensible X) → Option (Extensible X)
+abbrev pub both_parts : {X : Type 0} → (X → X → X) → Option (Extensible X) → Option (Extensible X)
+    → Option (Extensible X)
 both_parts met (Some a) (Some b) = Some (in_turn met a b)
 both_parts met (Some a) None = Some a
 both_parts met None o = o

@@ -2,7 +2,8 @@
 use Rattle.std.specs.Prelude.{ℕ, List, [], Option, Some, None, codes}
 use Rattle.std.specs.Fmt.{◌++?◌}
 use Rattle.asn1_schema_constraints.specs.declared.bounds.Bounded.{Bounded}
-use Rattle.asn1_schema_constraints.specs.declared.bounds.Bounded.TheVariants.{None as Unbounded, Single, Range as Between}
+use Rattle.asn1_schema_constraints.specs.declared.bounds.Bounded.TheVariants.{None as Unbounded, Single}
+use Rattle.asn1_schema_constraints.specs.declared.bounds.Bounded.TheVariants.{Range as Between}
 
 -- An end, where there is one.
 abbrev pub end_text : {X : Type 0} → (X → Option (List ℕ)) → Option X → Option (List ℕ)

@@ -9,8 +9,8 @@ has_sign None = true
 has_sign (Some (pos low)) = false
 has_sign (Some (negsuc low)) = true
 
--- How many octets the fixed form of the numbers between two bounds has: the least of 1, 2, 4 and 8 that hold both bounds, with a sign if the
--- lower one is negative (X.696 10).
+-- How many octets the fixed form of the numbers between two bounds has: the least of 1, 2, 4 and 8 that hold both
+-- bounds, with a sign if the lower one is negative (X.696 10).
 abbrev pub fixed_width : Option ℤ → Option ℤ → Option ℕ
 fixed_width (Some (pos low)) (Some (pos high)) = fixed_octets (octet_width high)
 fixed_width (Some (negsuc low)) (Some high) = fixed_octets (max (signed_octets (negsuc low)) (signed_octets high))

@@ -1,13 +1,17 @@
 //! Bounds of numbers: none, one value, or a range (X.680 51.4).
 #![tactic(auto, using(crate::proofs::Orders::tests_of_order, std::proofs::lemmas::Grind::common_steps))]
 
-ghost use Rattle.std.specs.Prelude.{◌≡◌, ℕ, leb, ℤ, pos, ◌+ℤ◌, ◌-ℤ◌, ◌≤ℤ◌, ◌-◌, ◌≤◌, Some, None, unwrap_or, FitsSigned, IfSome, is_some, false, true, ◌&&◌, ◌^◌};
+ghost use Rattle.std.specs.Prelude.{◌≡◌, ℕ, leb, ℤ, pos, ◌+ℤ◌, ◌-ℤ◌, ◌≤ℤ◌, ◌-◌, ◌≤◌, Some, None, unwrap_or};
+ghost use Rattle.std.specs.Prelude.{FitsSigned, IfSome, is_some, false, true, ◌&&◌, ◌^◌};
 ghost use Rattle.asn1_values_natives.specs.Octets.{is_below_zero};
 ghost use Rattle.asn1_values_natives.specs.Ranges.{whole_range};
 ghost use Rattle.std.specs.Int.{w128};
 ghost use Rattle.std.specs.Option.{option_copied, ForSome};
 ghost use Rattle.asn1_model.specs.Numbers.{is_at_most, is_within, is_count_within};
-ghost use Rattle.asn1_schema_constraints.specs.Bounds.{lower, upper, range_of, counts_of, members_of, IsSpan, counted, later, earlier, between, meet, common, CanOffset, CanOffsetCount, effective, effective_count, admits_number, admits_count, are_admitting};
+ghost use Rattle.asn1_schema_constraints.specs.Bounds.{lower, upper, range_of, counts_of, members_of, IsSpan};
+ghost use Rattle.asn1_schema_constraints.specs.Bounds.{counted, later, earlier, between, meet, common, CanOffset};
+ghost use Rattle.asn1_schema_constraints.specs.Bounds.{CanOffsetCount, effective, effective_count, admits_number};
+ghost use Rattle.asn1_schema_constraints.specs.Bounds.{admits_count, are_admitting};
 ghost use Rattle.asn1_schema_constraints.specs.Texts.{bounds_text};
 
 use asn1_values_integers::IntegerType;
@@ -189,14 +193,16 @@ fn counts_between(low: Option<usize>, high: Option<usize>) -> Bounded<usize>
 
 // Whether the numbers that 128 bits do not hold are not below a bound, those below or those above.
 fn reaches_up(_low: i128, below: bool) -> bool
-    ensures { (z : ℤ) → is_within (whole_range (2 ^ 127 - 1)) z ≡ false → is_below_zero z ≡ below → result ≡ is_at_most _low z }
+    ensures { (z : ℤ) → is_within (whole_range (2 ^ 127 - 1)) z ≡ false → is_below_zero z ≡ below → result
+        ≡ is_at_most _low z }
 {
     !below
 }
 
 // Whether the numbers that 128 bits do not hold are not above a bound, those below or those above.
 fn reaches_down(_high: i128, below: bool) -> bool
-    ensures { (z : ℤ) → is_within (whole_range (2 ^ 127 - 1)) z ≡ false → is_below_zero z ≡ below → result ≡ is_at_most z _high }
+    ensures { (z : ℤ) → is_within (whole_range (2 ^ 127 - 1)) z ≡ false → is_below_zero z ≡ below → result
+        ≡ is_at_most z _high }
 {
     below
 }
@@ -267,7 +273,8 @@ impl Bounded<i128> {
 
     // Whether the numbers that 128 bits do not hold are within the bounds, those below or those above.
     fn admits_past(&self, below: bool) -> bool
-        ensures { (z : ℤ) → is_within (whole_range (2 ^ 127 - 1)) z ≡ false → is_below_zero z ≡ below → result ≡ admits_number self.now z }
+        ensures { (z : ℤ) → is_within (whole_range (2 ^ 127 - 1)) z ≡ false → is_below_zero z ≡ below → result
+            ≡ admits_number self.now z }
     {
         match self.start_and_end() {
             (Some(low), Some(high)) => reaches_up(*low, below) && reaches_down(*high, below),
@@ -290,7 +297,8 @@ impl Bounded<i128> {
     /// What both bounds admit, or `None` exactly if they admit no number together.
     pub fn intersect(&self, other: Self) -> Option<Self>
         ensures bounds { result ≡ common is_at_most self.now other }
-        ensures admits { (v : ℤ) → are_admitting admits_number result v ≡ (admits_number self.now v && admits_number other v) }
+        ensures admits { (v : ℤ) → are_admitting admits_number result v
+            ≡ (admits_number self.now v && admits_number other v) }
         ensures some { IfSome result (λ r. (v : ℤ) × (admits_number r v ≡ true)) }
     {
         self.common(other)
@@ -376,7 +384,8 @@ impl Bounded<usize> {
     /// What both bounds admit, or `None` exactly if they admit no count together.
     pub fn intersect(&self, other: Self) -> Option<Self>
         ensures bounds { result ≡ common leb self.now other }
-        ensures admits { (n : ℕ) → are_admitting admits_count result n ≡ (admits_count self.now n && admits_count other n) }
+        ensures admits { (n : ℕ) → are_admitting admits_count result n
+            ≡ (admits_count self.now n && admits_count other n) }
         ensures some { IfSome result (λ r. (n : ℕ) × (admits_count r n ≡ true)) }
     {
         self.common(other)

@@ -247,8 +247,8 @@ impl<'a> Constraints<'a> {
         all
     }
 
-    /// These constraints and then the other ones: what both admit, with a mark where either has one, and behind it what stands behind
-    /// the later mark. Of two permitted alphabets the later one stands.
+    /// These constraints and then the other ones: what both admit, with a mark where either has one, and behind it
+    /// what stands behind the later mark. Of two permitted alphabets the later one stands.
     pub fn intersect(&self, rhs: Constraints<'a>) -> Self
         ensures parts { result ≡ both self.now rhs.entry }
         ensures numbers { (v : ℤ) → admit_number result v ≡ (admit_number self.now v && admit_number rhs.entry v) }

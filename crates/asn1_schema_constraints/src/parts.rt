@@ -2,7 +2,8 @@
 ghost use Rattle.std.specs.Prelude.{◌≡◌, ℕ, leb, ℤ, ◌&&◌};
 ghost use Rattle.std.specs.Borrow.{Lends, sem, usize as count};
 ghost use Rattle.asn1_model.specs.Numbers.{is_at_most};
-ghost use Rattle.asn1_schema_constraints.specs.Bounds.{lower, upper, meet, admits_number, admits_count, is_one_size, is_size_range};
+ghost use Rattle.asn1_schema_constraints.specs.Bounds.{lower, upper, meet, admits_number, admits_count, is_one_size};
+ghost use Rattle.asn1_schema_constraints.specs.Bounds.{is_size_range};
 ghost use Rattle.asn1_schema_constraints.specs.Widths.{has_sign, fixed_width};
 
 use crate::Bounded;
@@ -43,7 +44,8 @@ impl Value {
     /// admit no number together, the answer's bounds are the wrong way round, and it admits none.
     pub fn intersect(&self, other: &Self) -> Self
         ensures bounds { result.value ≡ meet is_at_most self.now.value other.now.value }
-        ensures admits { (v : ℤ) → admits_number result.value v ≡ (admits_number self.now.value v && admits_number other.now.value v) }
+        ensures admits { (v : ℤ) → admits_number result.value v
+            ≡ (admits_number self.now.value v && admits_number other.now.value v) }
     {
         Value {
             value: self.value.joined(other.value),
@@ -107,7 +109,8 @@ impl Size {
     /// admit no size together, the answer's bounds are the wrong way round, and it admits none.
     pub fn intersect(&self, other: &Self) -> Self
         ensures bounds { result.range ≡ meet leb self.now.range other.now.range }
-        ensures admits { (n : ℕ) → admits_count result.range n ≡ (admits_count self.now.range n && admits_count other.now.range n) }
+        ensures admits { (n : ℕ) → admits_count result.range n
+            ≡ (admits_count self.now.range n && admits_count other.now.range n) }
     {
         Size {
             range: self.range.joined(other.range),
@@ -133,7 +136,8 @@ impl DerefMut for Size {
     ghost deref_mut_gives = { λ s bounds. bounds ≡ s.range };
 
     fn deref_mut(&mut self) -> &mut Bounded<usize>
-        ensures* writes_back { sem 𝓛 (Lends the_row (bounds_row count) self.entry result (λ bounds. record self.old { range = bounds })) }
+        ensures* writes_back { sem 𝓛 (Lends the_row (bounds_row count) self.entry result
+            (λ bounds. record self.old { range = bounds })) }
         ensures shows { result.now ≡ self.old.range }
     {
         &mut self.range

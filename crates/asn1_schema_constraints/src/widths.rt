@@ -16,7 +16,8 @@ impl Bounded<i128> {
     pub fn range_in_bytes(&self) -> (bool, Option<u8>)
         ensures sign { result.0 ≡ has_sign (lower self.now) }
         ensures width { result.1 ≡ fixed_width (lower self.now) (upper self.now) }
-        ensures form { (v : ℤ) → bounded (lower self.now) (upper self.now) v ≡ cond result.0 (signed_form result.1 v) (natural_form result.1 v) }
+        ensures form { (v : ℤ) → bounded (lower self.now) (upper self.now) v
+            ≡ cond result.0 (signed_form result.1 v) (natural_form result.1 v) }
     {
         let (start, end) = (self.as_start().copied(), self.as_end().copied());
         (may_be_negative(start), octets_of_range(start, end))

@@ -31,7 +31,8 @@ either None o = o
 -- The alternative of a tag, of the root or else an added one, if there is one.
 abbrev pub of_tag : Choices → Tag → Option Chosen
 of_tag t tag =
-    either (option_map (λ i. record { added = false; place = i }) (place_of (tags_of t.root) tag)) (option_map (λ i. record { added = true; place = i }) (place_of (tags_of t.additions) tag))
+    either (option_map (λ i. record { added = false; place = i }) (place_of (tags_of t.root) tag))
+    (option_map (λ i. record { added = true; place = i }) (place_of (tags_of t.additions) tag))
 
 -- Where a choice begins.
 abbrev pub begins : Choices → Bool → ℕ → Record

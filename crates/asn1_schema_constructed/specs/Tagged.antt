@@ -10,10 +10,12 @@ use Rattle.asn1_schema_constructed.specs.Tables.{Choices}
 use Rattle.asn1_schema_constructed.specs.Chosen.{chosen_type, of_tag}
 
 -- A value of the alternative of a tag is read.
-pub record ReadsTagged {S : Type 0} (step : S → Record → S → Type 0) (t : Choices) (tag : Tag) (n : ℕ) (c : Chosen) (v : Value) (old new : S) : Type 0 where
+pub record ReadsTagged {S : Type 0} (step : S → Record → S → Type 0) (t : Choices) (tag : Tag) (n : ℕ) (c : Chosen)
+    (v : Value) (old new : S) : Type 0 where
   pub is : of_tag t tag ≡ Some c
   pub reads : Reads step (chosen_type t c) n v old new
 
 -- Why none is: no alternative has the tag, or no value of the one that has it is next.
-pub record UnreadTagged {S : Type 0} (step : S → Record → S → Type 0) (t : Choices) (tag : Tag) (n : ℕ) (old : S) (x : DecodeError) : Type 0 where
+pub record UnreadTagged {S : Type 0} (step : S → Record → S → Type 0) (t : Choices) (tag : Tag) (n : ℕ) (old : S)
+    (x : DecodeError) : Type 0 where
   pub none : (c : Chosen) → of_tag t tag ≡ Some c → Unread step (chosen_type t c) n old x

@@ -43,7 +43,8 @@ pub trait SequenceFields: Drop {
 
     /// Reads the sequence, its components in their order.
     fn read<D: Decoder>(alloc: Global, decoder: &mut D, tag: Tag) -> Result<Self, DecodeError>
-        ensures ok { IfOk result (λ x. Reads D.step (sequence_type table) (D.levels decoder.old) (value x) decoder.old decoder.new) }
+        ensures ok { IfOk result (λ x. Reads D.step (sequence_type table) (D.levels decoder.old) (value x) decoder.old
+            decoder.new) }
         ensures level { OnOk result (D.levels decoder.new ≡ D.levels decoder.old) }
         ensures only { IfErr result (Unread D.step (sequence_type table) (D.levels decoder.old) decoder.old) }
         ensures failed { OnErr result (D.has_failed decoder.new) }

@@ -27,4 +27,5 @@ pub record NoMessage (r : Rules) (schema : ℕ → Schema) (input : List ℕ) (e
 
 -- An input tells one value at most of a lawful type, up to the order of bags, and one rest stands behind its message.
 abbrev pub OneMessageIn : Rules → Type 0
-OneMessageIn r = (schema : ℕ → Schema) (v w : Value) (input x y : List ℕ) → IsLawful (schema 128) → Tells r schema v input x → Tells r schema w input y → (same v w ≡ true) × (x ≡ y)
+OneMessageIn r = (schema : ℕ → Schema) (v w : Value) (input x y : List ℕ) → IsLawful (schema 128)
+    → Tells r schema v input x → Tells r schema w input y → (same v w ≡ true) × (x ≡ y)

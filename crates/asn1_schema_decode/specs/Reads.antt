@@ -7,42 +7,52 @@ use Rattle.asn1_model.specs.Normal.{normal, normal_parts}
 use Rattle.asn1_schema_faults.specs.declared.DecodeError.{DecodeError}
 use Rattle.asn1_schema_faults.specs.declared.DecodeError.TheVariants.{OutOfMemory}
 use Rattle.asn1_schema_presented.specs.Records.{Record, Question, question, mark, is_default}
-use Rattle.asn1_schema_presented.specs.Presents.{Part, left_out, there, presents, part_records, member_records, member_count, Fits, PartFits, AllFit}
+use Rattle.asn1_schema_presented.specs.Presents.{Part, left_out, there, presents, part_records, member_records}
+use Rattle.asn1_schema_presented.specs.Presents.{member_count, Fits, PartFits, AllFit}
 use Rattle.asn1_schema_presented.specs.Tables.{Table, components_at}
 use Rattle.asn1_schema_presented.specs.Chains.{Chain}
 use Rattle.asn1_schema_presented.specs.Parts.{normal_part, tail_records, TailFits}
 
 -- Why a decoder answers the error x: for want of memory, or because no record is next that answers this question.
-pub record NoRecord {S : Type 0} (step : S → Record → S → Type 0) (q : Question) (old : S) (x : DecodeError) : Type 0 where
-  pub none : ¬ (x ≡ OutOfMemory) → (r : Record) (new : S) → question r ≡ q → step old r new → ⊥
+pub record NoRecord {S : Type 0} (step : S → Record → S → Type 0) (q : Question) (old : S) (x : DecodeError) : Type 0
+  where
+    pub none : ¬ (x ≡ OutOfMemory) → (r : Record) (new : S) → question r ≡ q → step old r new → ⊥
 
 -- Or because no level is left.
-pub record NoLevel {S : Type 0} (step : S → Record → S → Type 0) (q : Question) (levels : ℕ) (old : S) (x : DecodeError) : Type 0 where
+pub record NoLevel {S : Type 0} (step : S → Record → S → Type 0) (q : Question) (levels : ℕ) (old : S)
+    (x : DecodeError) : Type 0 where
   pub none : ¬ (x ≡ OutOfMemory) → 0 < levels → (r : Record) (new : S) → question r ≡ q → step old r new → ⊥
 
 -- The state goes from old to new by the records of a value that nests at most n levels, and v is its normal form.
-pub record Reads {S : Type 0} (step : S → Record → S → Type 0) (schema : ℕ → Schema) (n : ℕ) (v : Value) (old new : S) : Type 0 where
+pub record Reads {S : Type 0} (step : S → Record → S → Type 0) (schema : ℕ → Schema) (n : ℕ) (v : Value)
+    (old new : S) : Type 0 where
   pub raw : Value
   pub fits : Fits (schema n) raw
   pub means : normal (schema n) raw ≡ v
   pub chain : Chain step (presents (schema n) raw) old new
 
 -- Why no value is read: for want of memory, or because the records of none are next.
-pub record Unread {S : Type 0} (step : S → Record → S → Type 0) (schema : ℕ → Schema) (n : ℕ) (old : S) (x : DecodeError) : Type 0 where
-  pub none : ¬ (x ≡ OutOfMemory) → (v : Value) (new : S) → Fits (schema n) v → Chain step (presents (schema n) v) old new → ⊥
+pub record Unread {S : Type 0} (step : S → Record → S → Type 0) (schema : ℕ → Schema) (n : ℕ) (old : S)
+    (x : DecodeError) : Type 0 where
+  pub none : ¬ (x ≡ OutOfMemory) → (v : Value) (new : S) → Fits (schema n) v
+      → Chain step (presents (schema n) v) old new → ⊥
 
 -- The same of one component.
-pub record ReadsPart {S : Type 0} (step : S → Record → S → Type 0) (o : Presence) (schema : ℕ → Schema) (n : ℕ) (x : Part) (old new : S) : Type 0 where
+pub record ReadsPart {S : Type 0} (step : S → Record → S → Type 0) (o : Presence) (schema : ℕ → Schema) (n : ℕ)
+    (x : Part) (old new : S) : Type 0 where
   pub raw : Part
   pub fits : PartFits (λ v. Fits (schema n) v) o raw
   pub means : normal_part o (schema n) raw ≡ x
   pub chain : Chain step (part_records (λ v. presents (schema n) v) o (schema n) raw) old new
 
-pub record UnreadPart {S : Type 0} (step : S → Record → S → Type 0) (o : Presence) (schema : ℕ → Schema) (n : ℕ) (old : S) (x : DecodeError) : Type 0 where
-  pub none : ¬ (x ≡ OutOfMemory) → (p : Part) (new : S) → PartFits (λ v. Fits (schema n) v) o p → Chain step (part_records (λ v. presents (schema n) v) o (schema n) p) old new → ⊥
+pub record UnreadPart {S : Type 0} (step : S → Record → S → Type 0) (o : Presence) (schema : ℕ → Schema) (n : ℕ)
+    (old : S) (x : DecodeError) : Type 0 where
+  pub none : ¬ (x ≡ OutOfMemory) → (p : Part) (new : S) → PartFits (λ v. Fits (schema n) v) o p
+      → Chain step (part_records (λ v. presents (schema n) v) o (schema n) p) old new → ⊥
 
 -- One that may be absent is marked as there, and the records of its value follow.
-pub record ReadsMarked {S : Type 0} (step : S → Record → S → Type 0) (schema : ℕ → Schema) (n : ℕ) (v : Value) (old new : S) : Type 0 where
+pub record ReadsMarked {S : Type 0} (step : S → Record → S → Type 0) (schema : ℕ → Schema) (n : ℕ) (v : Value)
+    (old new : S) : Type 0 where
   pub marked : S
   pub marks : step old (mark true) marked
   pub reads : Reads step schema n v marked new
@@ -52,20 +62,25 @@ abbrev pub ReadsOptional : {S : Type 0} → (S → Record → S → Type 0) → 
 ReadsOptional step schema n left_out old new = step old (mark false) new
 ReadsOptional step schema n (there v) old new = ReadsMarked step schema n v old new
 
-pub record UnreadOptional {S : Type 0} (step : S → Record → S → Type 0) (schema : ℕ → Schema) (n : ℕ) (old : S) (x : DecodeError) : Type 0 where
+pub record UnreadOptional {S : Type 0} (step : S → Record → S → Type 0) (schema : ℕ → Schema) (n : ℕ) (old : S)
+    (x : DecodeError) : Type 0 where
   pub none : ¬ (x ≡ OutOfMemory) → (p : Part) (new : S) → ReadsOptional step schema n p old new → ⊥
 
 -- One with the default d: it is left out, or spelled out, which is noted, or of another value.
-pub data ReadsDefault {S : Type 0} (step : S → Record → S → Type 0) (schema : ℕ → Schema) (n : ℕ) (d v : Value) (old new : S) : Type 0 where
+pub data ReadsDefault {S : Type 0} (step : S → Record → S → Type 0) (schema : ℕ → Schema) (n : ℕ) (d v : Value)
+    (old new : S) : Type 0 where
   omitted : v ≡ d → step old (mark false) new → ReadsDefault step schema n d v old new
-  spelled_out : same v d ≡ true → (behind : S) → ReadsMarked step schema n v old behind → step behind is_default new → ReadsDefault step schema n d v old new
+  spelled_out : same v d ≡ true → (behind : S) → ReadsMarked step schema n v old behind → step behind is_default new
+      → ReadsDefault step schema n d v old new
   other_value : same v d ≡ false → ReadsMarked step schema n v old new → ReadsDefault step schema n d v old new
 
-pub record UnreadDefault {S : Type 0} (step : S → Record → S → Type 0) (schema : ℕ → Schema) (n : ℕ) (d : Value) (old : S) (x : DecodeError) : Type 0 where
+pub record UnreadDefault {S : Type 0} (step : S → Record → S → Type 0) (schema : ℕ → Schema) (n : ℕ) (d : Value)
+    (old : S) (x : DecodeError) : Type 0 where
   pub none : ¬ (x ≡ OutOfMemory) → (v : Value) (new : S) → ReadsDefault step schema n d v old new → ⊥
 
 -- The same of what is left of a sequence.
-pub record ReadsTail {S : Type 0} (step : S → Record → S → Type 0) (t : Table) (n : ℕ) (ps qs : Parts) (old new : S) : Type 0 where
+pub record ReadsTail {S : Type 0} (step : S → Record → S → Type 0) (t : Table) (n : ℕ) (ps qs : Parts) (old new : S) :
+    Type 0 where
   pub root : Parts
   pub additions : Parts
   pub fits : TailFits n t root additions
@@ -73,16 +88,21 @@ pub record ReadsTail {S : Type 0} (step : S → Record → S → Type 0) (t : Ta
   pub means_added : normal_parts (components_at n t.additions) additions ≡ qs
   pub chain : Chain step (tail_records n t root additions) old new
 
-pub record UnreadTail {S : Type 0} (step : S → Record → S → Type 0) (t : Table) (n : ℕ) (old : S) (x : DecodeError) : Type 0 where
-  pub none : ¬ (x ≡ OutOfMemory) → (ps qs : Parts) (new : S) → TailFits n t ps qs → Chain step (tail_records n t ps qs) old new → ⊥
+pub record UnreadTail {S : Type 0} (step : S → Record → S → Type 0) (t : Table) (n : ℕ) (old : S) (x : DecodeError) :
+    Type 0 where
+  pub none : ¬ (x ≡ OutOfMemory) → (ps qs : Parts) (new : S) → TailFits n t ps qs
+      → Chain step (tail_records n t ps qs) old new → ⊥
 
 -- The same of the members of a list, and its end.
-pub record ReadsMembers {S : Type 0} (step : S → Record → S → Type 0) (schema : ℕ → Schema) (n : ℕ) (us : Values) (old new : S) : Type 0 where
+pub record ReadsMembers {S : Type 0} (step : S → Record → S → Type 0) (schema : ℕ → Schema) (n : ℕ) (us : Values)
+    (old new : S) : Type 0 where
   pub raw : Values
   pub fits : AllFit (λ v. Fits (schema n) v) raw
   pub means : map_members (λ v. normal (schema n) v) raw ≡ us
   pub chain : Chain step (member_records (λ v. presents (schema n) v) raw) old new
 
 -- Why no members of a count within h are read: for want of memory, or because the records of none are next.
-pub record UnreadMembers {S : Type 0} (step : S → Record → S → Type 0) (schema : ℕ → Schema) (n : ℕ) (h : Counts) (old : S) (x : DecodeError) : Type 0 where
-  pub none : ¬ (x ≡ OutOfMemory) → (vs : Values) (new : S) → is_count_within h (member_count vs) ≡ true → AllFit (λ v. Fits (schema n) v) vs → Chain step (member_records (λ v. presents (schema n) v) vs) old new → ⊥
+pub record UnreadMembers {S : Type 0} (step : S → Record → S → Type 0) (schema : ℕ → Schema) (n : ℕ) (h : Counts)
+    (old : S) (x : DecodeError) : Type 0 where
+  pub none : ¬ (x ≡ OutOfMemory) → (vs : Values) (new : S) → is_count_within h (member_count vs) ≡ true
+      → AllFit (λ v. Fits (schema n) v) vs → Chain step (member_records (λ v. presents (schema n) v) vs) old new → ⊥

@@ -15,48 +15,66 @@ pub record Refused {S : Type 0} (step : S → Record → S → Type 0) (r : Reco
   pub none : ¬ (x ≡ OutOfMemory) → (new : S) → step old r new → ⊥
 
 -- The state goes from old to new by the records of v, in whatever depth the type is unfolded in which the value fits.
-pub record Writes {S : Type 0} (step : S → Record → S → Type 0) (schema : ℕ → Schema) (v : Value) (old new : S) : Type 0 where
+pub record Writes {S : Type 0} (step : S → Record → S → Type 0) (schema : ℕ → Schema) (v : Value) (old new : S) : Type
+    0 where
   pub chain : (n : ℕ) → Fits (schema n) v → Chain step (presents (schema n) v) old new
 
 -- Why a value is refused: for want of memory, or because no state stands after its records.
-pub record CannotWrite {S : Type 0} (step : S → Record → S → Type 0) (schema : ℕ → Schema) (v : Value) (old : S) (x : EncodeError) : Type 0 where
-  pub none : ¬ (x ≡ OutOfMemory) → (n : ℕ) (new : S) → Fits (schema n) v → Chain step (presents (schema n) v) old new → ⊥
+pub record CannotWrite {S : Type 0} (step : S → Record → S → Type 0) (schema : ℕ → Schema) (v : Value) (old : S)
+    (x : EncodeError) : Type 0 where
+  pub none : ¬ (x ≡ OutOfMemory) → (n : ℕ) (new : S) → Fits (schema n) v → Chain step (presents (schema n) v) old new
+      → ⊥
 
 -- The same of one component.
-pub record WritesPart {S : Type 0} (step : S → Record → S → Type 0) (o : Presence) (schema : ℕ → Schema) (x : Part) (old new : S) : Type 0 where
-  pub chain : (n : ℕ) → PartFits (λ v. Fits (schema n) v) o x → Chain step (part_records (λ v. presents (schema n) v) o (schema n) x) old new
+pub record WritesPart {S : Type 0} (step : S → Record → S → Type 0) (o : Presence) (schema : ℕ → Schema) (x : Part)
+    (old new : S) : Type 0 where
+  pub chain : (n : ℕ) → PartFits (λ v. Fits (schema n) v) o x
+      → Chain step (part_records (λ v. presents (schema n) v) o (schema n) x) old new
 
-pub record CannotWritePart {S : Type 0} (step : S → Record → S → Type 0) (o : Presence) (schema : ℕ → Schema) (x : Part) (old : S) (e : EncodeError) : Type 0 where
-  pub none : ¬ (e ≡ OutOfMemory) → (n : ℕ) (new : S) → PartFits (λ v. Fits (schema n) v) o x → Chain step (part_records (λ v. presents (schema n) v) o (schema n) x) old new → ⊥
+pub record CannotWritePart {S : Type 0} (step : S → Record → S → Type 0) (o : Presence) (schema : ℕ → Schema)
+    (x : Part) (old : S) (e : EncodeError) : Type 0 where
+  pub none : ¬ (e ≡ OutOfMemory) → (n : ℕ) (new : S) → PartFits (λ v. Fits (schema n) v) o x
+      → Chain step (part_records (λ v. presents (schema n) v) o (schema n) x) old new → ⊥
 
 -- One that may be absent is marked as there, and the records of its value follow.
-pub record WritesMarked {S : Type 0} (step : S → Record → S → Type 0) (schema : ℕ → Schema) (v : Value) (old new : S) : Type 0 where
+pub record WritesMarked {S : Type 0} (step : S → Record → S → Type 0) (schema : ℕ → Schema) (v : Value)
+    (old new : S) : Type 0 where
   pub marked : S
   pub marks : step old (mark true) marked
   pub writes : Writes step schema v marked new
 
-pub record CannotWriteMarked {S : Type 0} (step : S → Record → S → Type 0) (schema : ℕ → Schema) (v : Value) (old : S) (x : EncodeError) : Type 0 where
-  pub none : ¬ (x ≡ OutOfMemory) → (n : ℕ) (marked new : S) → step old (mark true) marked → Fits (schema n) v → Chain step (presents (schema n) v) marked new → ⊥
+pub record CannotWriteMarked {S : Type 0} (step : S → Record → S → Type 0) (schema : ℕ → Schema) (v : Value) (old : S)
+    (x : EncodeError) : Type 0 where
+  pub none : ¬ (x ≡ OutOfMemory) → (n : ℕ) (marked new : S) → step old (mark true) marked → Fits (schema n) v
+      → Chain step (presents (schema n) v) marked new → ⊥
 
 -- One with a default is left out where it is equal to this.
 abbrev pub WritesUnless : Bool → {S : Type 0} → (S → Record → S → Type 0) → (ℕ → Schema) → Value → S → S → Type 0
 WritesUnless true step schema v old new = step old (mark false) new
 WritesUnless false step schema v old new = WritesMarked step schema v old new
 
-abbrev pub CannotWriteUnless : Bool → {S : Type 0} → (S → Record → S → Type 0) → (ℕ → Schema) → Value → S → EncodeError → Type 0
+abbrev pub CannotWriteUnless : Bool → {S : Type 0} → (S → Record → S → Type 0) → (ℕ → Schema) → Value → S
+    → EncodeError → Type 0
 CannotWriteUnless true step schema v old x = Refused step (mark false) old x
 CannotWriteUnless false step schema v old x = CannotWriteMarked step schema v old x
 
 -- The same of what is left of a sequence.
-pub record WritesTail {S : Type 0} (step : S → Record → S → Type 0) (t : Table) (ps qs : Parts) (old new : S) : Type 0 where
-  pub chain : (n : ℕ) → TailFits n t ps qs → Chain step (tail_records n t ps qs) old new
+pub record WritesTail {S : Type 0} (step : S → Record → S → Type 0) (t : Table) (ps qs : Parts) (old new : S) : Type 0
+  where
+    pub chain : (n : ℕ) → TailFits n t ps qs → Chain step (tail_records n t ps qs) old new
 
-pub record CannotWriteTail {S : Type 0} (step : S → Record → S → Type 0) (t : Table) (ps qs : Parts) (old : S) (e : EncodeError) : Type 0 where
-  pub none : ¬ (e ≡ OutOfMemory) → (n : ℕ) (new : S) → TailFits n t ps qs → Chain step (tail_records n t ps qs) old new → ⊥
+pub record CannotWriteTail {S : Type 0} (step : S → Record → S → Type 0) (t : Table) (ps qs : Parts) (old : S)
+    (e : EncodeError) : Type 0 where
+  pub none : ¬ (e ≡ OutOfMemory) → (n : ℕ) (new : S) → TailFits n t ps qs
+      → Chain step (tail_records n t ps qs) old new → ⊥
 
 -- The same of the members of a list, and its end.
-pub record WritesMembers {S : Type 0} (step : S → Record → S → Type 0) (schema : ℕ → Schema) (vs : Values) (old new : S) : Type 0 where
-  pub chain : (n : ℕ) → AllFit (λ v. Fits (schema n) v) vs → Chain step (member_records (λ v. presents (schema n) v) vs) old new
+pub record WritesMembers {S : Type 0} (step : S → Record → S → Type 0) (schema : ℕ → Schema) (vs : Values)
+    (old new : S) : Type 0 where
+  pub chain : (n : ℕ) → AllFit (λ v. Fits (schema n) v) vs
+      → Chain step (member_records (λ v. presents (schema n) v) vs) old new
 
-pub record CannotWriteMembers {S : Type 0} (step : S → Record → S → Type 0) (schema : ℕ → Schema) (vs : Values) (old : S) (e : EncodeError) : Type 0 where
-  pub none : ¬ (e ≡ OutOfMemory) → (n : ℕ) (new : S) → AllFit (λ v. Fits (schema n) v) vs → Chain step (member_records (λ v. presents (schema n) v) vs) old new → ⊥
+pub record CannotWriteMembers {S : Type 0} (step : S → Record → S → Type 0) (schema : ℕ → Schema) (vs : Values)
+    (old : S) (e : EncodeError) : Type 0 where
+  pub none : ¬ (e ≡ OutOfMemory) → (n : ℕ) (new : S) → AllFit (λ v. Fits (schema n) v) vs
+      → Chain step (member_records (λ v. presents (schema n) v) vs) old new → ⊥

@@ -14,14 +14,16 @@ use denote.Hole.Carrier.{out, roll}
 
 -- INTEGER, in any number of levels.
 abbrev pub whole_number : ℕ → Schema
-whole_number n = integer (record { range = record { low = None; high = None }; extensible = false }) (record { low = None; high = None })
+whole_number n = integer (record { range = record { low = None; high = None }; extensible = false })
+    (record { low = None; high = None })
 
 pub number_typed : IsType (record { class = 0; number = 2 } ∷ []) whole_number
 number_typed = integer_type _ _ refl refl refl
 
 -- The components, by the type that the second leads to.
 abbrev pub chain_table : (ℕ → Schema) → Table
-chain_table s = with_field (record { class = 0; number = 2 } ∷ []) required whole_number (with_field (record { class = 0; number = 16 } ∷ []) optional s no_table)
+chain_table s = with_field (record { class = 0; number = 2 } ∷ []) required whole_number
+    (with_field (record { class = 0; number = 16 } ∷ []) optional s no_table)
 
 abbrev pub chain_schema : ℕ → Schema
 chain_schema = recursive_sequence chain_table
@@ -34,7 +36,8 @@ chain_is (suc n) = refl
 
 -- The type is lawful.
 pub chain_typed : IsType (record { class = 0; number = 16 } ∷ []) chain_schema
-chain_typed = recursive_type chain_table refl (λ s t. more_types _ required (λ _. refl) (integer_type _ _ refl refl refl) (more_types _ optional (λ _. refl) t no_types)) (λ s. refl)
+chain_typed = recursive_type chain_table refl (λ s t. more_types _ required (λ _. refl)
+    (integer_type _ _ refl refl refl) (more_types _ optional (λ _. refl) t no_types)) (λ s. refl)
 
 -- What a chain means.
 abbrev mutual
@@ -47,7 +50,8 @@ abbrev mutual
 
 -- Its components, by its fields.
 abbrev pub chain_root : Chain → Parts
-chain_root x = with_part (there (number (out-Chain x).value)) (with_part (part_of (λ b. chain_meaning b.value) (out-Chain x).next) end)
+chain_root x = with_part (there (number (out-Chain x).value))
+    (with_part (part_of (λ b. chain_meaning b.value) (out-Chain x).next) end)
 
 -- A chain means its components.
 pub chain_opens : (x : Chain) → chain_meaning x ≡ fields (chain_root x) end
@@ -56,7 +60,9 @@ chain_opens (Chain' value None') = refl
 chain_opens (Chain' value (Some' p x)) = refl
 
 -- The components of a chain that is made of its fields.
-pub chain_made : (value : ℤ) (next : Option (Box Chain Global)) → chain_root (roll-Chain (record { value = value; next = next })) ≡ with_part (there (number value)) (with_part (part_of (λ b. chain_meaning b.value) next) end)
+pub chain_made : (value : ℤ) (next : Option (Box Chain Global))
+    → chain_root (roll-Chain (record { value = value; next = next }))
+    ≡ with_part (there (number value)) (with_part (part_of (λ b. chain_meaning b.value) next) end)
 unfolding out-Chain out roll-Chain roll
 chain_made value None = refl
 chain_made value (Some b) = refl
@@ -64,7 +70,9 @@ chain_made value (Some b) = refl
 -- Each chain is a value of the type.
 mutual
   pub chain_valued : (x : Chain) → IsValue chain_schema (chain_meaning x)
-  chain_valued (Chain' value next) = value_as (sequence_type (chain_table chain_schema)) chain_schema chain_is (value_sequence (chain_table chain_schema) (more_values _ (part_required number_typed (integer_value _ _ value)) (more_values _ (next_valued next) no_values)))
+  chain_valued (Chain' value next) = value_as (sequence_type (chain_table chain_schema)) chain_schema chain_is
+      (value_sequence (chain_table chain_schema) (more_values _ (part_required number_typed (integer_value _ _ value))
+      (more_values _ (next_valued next) no_values)))
 
   pub next_valued : (next : Held-Chain-next) → IsPart optional chain_schema (next_part next)
   next_valued None' = part_absent chain_schema

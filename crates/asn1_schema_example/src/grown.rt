@@ -58,21 +58,45 @@ impl Described for Grown {
     ghost is_own = { λ _. refl };
 
     ghost meaning = { λ x. fields (⟦<Form as ComponentsOf>⟧.root
-        (record { 0 = x.level; 1 = record { 0 = x.ready; 1 =
-        record { 0 = record { 0 = x.done; 1 = record { 0 = x.next; 1 = record {} } }; 1 = record {} } } }))
+        (record {
+          0 = x.level;
+          1 = record {
+            0 = x.ready;
+            1 =
+                record { 0 = record { 0 = x.done; 1 = record { 0 = x.next; 1 = record {} } }; 1 = record {} };
+          };
+        }))
         (⟦<Form as ComponentsOf>⟧.added
-        (record { 0 = x.level; 1 = record { 0 = x.ready; 1 =
-        record { 0 = record { 0 = x.done; 1 = record { 0 = x.next; 1 = record {} } }; 1 = record {} } } })) };
+        (record {
+          0 = x.level;
+          1 = record {
+            0 = x.ready;
+            1 =
+                record { 0 = record { 0 = x.done; 1 = record { 0 = x.next; 1 = record {} } }; 1 = record {} };
+          };
+        })) };
 
     ghost typed = { type_set _ refl (⟦<Form as ComponentsOf>⟧.typed tt) refl refl };
 
     ghost valued = { λ x. value_set _ (⟦<Form as ComponentsOf>⟧.valued tt
-        (record { 0 = x.level; 1 = record { 0 = x.ready; 1 =
-        record { 0 = record { 0 = x.done; 1 = record { 0 = x.next; 1 = record {} } }; 1 = record {} } } })) };
+        (record {
+          0 = x.level;
+          1 = record {
+            0 = x.ready;
+            1 =
+                record { 0 = record { 0 = x.done; 1 = record { 0 = x.next; 1 = record {} } }; 1 = record {} };
+          };
+        })) };
 
     ghost valued_under = { λ _ x. value_set _ (⟦<Form as ComponentsOf>⟧.valued tt
-        (record { 0 = x.level; 1 = record { 0 = x.ready; 1 =
-        record { 0 = record { 0 = x.done; 1 = record { 0 = x.next; 1 = record {} } }; 1 = record {} } } })) };
+        (record {
+          0 = x.level;
+          1 = record {
+            0 = x.ready;
+            1 =
+                record { 0 = record { 0 = x.done; 1 = record { 0 = x.next; 1 = record {} } }; 1 = record {} };
+          };
+        })) };
 }
 
 impl AsnType for Grown {
@@ -95,12 +119,24 @@ impl Constructed for Grown {
     ghost table = { ⟦<Form as ComponentsOf>⟧.table };
 
     ghost root = { λ x. ⟦<Form as ComponentsOf>⟧.root
-        (record { 0 = x.level; 1 = record { 0 = x.ready; 1 =
-        record { 0 = record { 0 = x.done; 1 = record { 0 = x.next; 1 = record {} } }; 1 = record {} } } }) };
+        (record {
+          0 = x.level;
+          1 = record {
+            0 = x.ready;
+            1 =
+                record { 0 = record { 0 = x.done; 1 = record { 0 = x.next; 1 = record {} } }; 1 = record {} };
+          };
+        }) };
 
     ghost added = { λ x. ⟦<Form as ComponentsOf>⟧.added
-        (record { 0 = x.level; 1 = record { 0 = x.ready; 1 =
-        record { 0 = record { 0 = x.done; 1 = record { 0 = x.next; 1 = record {} } }; 1 = record {} } } }) };
+        (record {
+          0 = x.level;
+          1 = record {
+            0 = x.ready;
+            1 =
+                record { 0 = record { 0 = x.done; 1 = record { 0 = x.next; 1 = record {} } }; 1 = record {} };
+          };
+        }) };
 
     fn fields() -> Fields<'static> {
         const FIELDS: &'static [Field<'static>] = &[

@@ -38,25 +38,42 @@ impl Described for Power {
     ghost own = { no_constraint };
 
     ghost under = { λ _. choice_type
-        (record { root = variant (context 1) ⟦<() as Described>⟧.schema
-        (variant (context 7) ⟦<bool as Described>⟧.schema no_variant); extensible = false; additions = no_variant }) };
+        (record {
+          root = variant (context 1) ⟦<() as Described>⟧.schema
+              (variant (context 7) ⟦<bool as Described>⟧.schema no_variant);
+          extensible = false;
+          additions = no_variant;
+        }) };
 
-    ghost schema = { choice_type (record { root = variant (context 1) ⟦<() as Described>⟧.schema
-        (variant (context 7) ⟦<bool as Described>⟧.schema no_variant); extensible = false; additions = no_variant }) };
+    ghost schema = { choice_type (record {
+      root = variant (context 1) ⟦<() as Described>⟧.schema
+          (variant (context 7) ⟦<bool as Described>⟧.schema no_variant);
+      extensible = false;
+      additions = no_variant;
+    }) };
 
     ghost is_own = { λ _. refl };
 
-    ghost meaning = { elim [ Off ↦ chosen_value (record { added = false; place = 0 }) (nothing) | On x ↦ chosen_value
-        (record { added = false; place = 1 }) (⟦<bool as Described>⟧.meaning x) ] };
+    ghost meaning = { elim [
+      | Off ↦ chosen_value (record { added = false; place = 0 }) (nothing)
+      | On x ↦ chosen_value
+          (record { added = false; place = 1 }) (⟦<bool as Described>⟧.meaning x)
+    ] };
 
     ghost typed = { type_choice _ refl (more_variants _ refl ⟦<() as Described>⟧.typed
         (more_variants _ refl ⟦<bool as Described>⟧.typed no_variants)) no_variants refl };
 
-    ghost valued = { elim [ Off ↦ value_choice _ false 0 (null_value) | On x ↦ value_choice _ false 1
-        (⟦<bool as Described>⟧.valued x) ] };
+    ghost valued = { elim [
+      | Off ↦ value_choice _ false 0 (null_value)
+      | On x ↦ value_choice _ false 1
+          (⟦<bool as Described>⟧.valued x)
+    ] };
 
-    ghost valued_under = { λ _. elim [ Off ↦ value_choice _ false 0 (null_value) | On x ↦ value_choice _ false 1
-        (⟦<bool as Described>⟧.valued x) ] };
+    ghost valued_under = { λ _. elim [
+      | Off ↦ value_choice _ false 0 (null_value)
+      | On x ↦ value_choice _ false 1
+          (⟦<bool as Described>⟧.valued x)
+    ] };
 }
 
 impl AsnType for Power {
@@ -77,8 +94,12 @@ impl AsnType for Power {
 }
 
 impl Alternatives for Power {
-    ghost table = { record { root = variant (context 1) ⟦<() as Described>⟧.schema
-        (variant (context 7) ⟦<bool as Described>⟧.schema no_variant); extensible = false; additions = no_variant } };
+    ghost table = { record {
+      root = variant (context 1) ⟦<() as Described>⟧.schema
+          (variant (context 7) ⟦<bool as Described>⟧.schema no_variant);
+      extensible = false;
+      additions = no_variant;
+    } };
 
     fn variants() -> &'static [Tag] {
         &[OFF, ON]

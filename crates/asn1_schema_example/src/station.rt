@@ -36,14 +36,32 @@ impl SequenceFields for Station {
     ghost table = { ⟦<Form as ComponentsOf>⟧.table };
 
     ghost value = { λ x. fields_of ⟦<Form as ComponentsOf>⟧.root ⟦<Form as ComponentsOf>⟧.added
-        (record { 0 = x.id; 1 = record { 0 = x.name; 1 = record { 0 = x.height; 1 =
-        record { 0 = x.active; 1 = record { 0 = x.samples; 1 = record {} } } } } }) };
+        (record {
+          0 = x.id;
+          1 = record {
+            0 = x.name;
+            1 = record {
+              0 = x.height;
+              1 =
+                  record { 0 = x.active; 1 = record { 0 = x.samples; 1 = record {} } };
+            };
+          };
+        }) };
 
     ghost lawful = { type_sequence _ refl (⟦<Form as ComponentsOf>⟧.typed tt) refl };
 
     ghost each = { λ x. value_sequence _ (⟦<Form as ComponentsOf>⟧.valued tt
-        (record { 0 = x.id; 1 = record { 0 = x.name; 1 = record { 0 = x.height; 1 =
-        record { 0 = x.active; 1 = record { 0 = x.samples; 1 = record {} } } } } })) };
+        (record {
+          0 = x.id;
+          1 = record {
+            0 = x.name;
+            1 = record {
+              0 = x.height;
+              1 =
+                  record { 0 = x.active; 1 = record { 0 = x.samples; 1 = record {} } };
+            };
+          };
+        })) };
 
     fn write<E: Encoder>(&self, encoder: &mut E, tag: Tag) -> Result<(), EncodeError> {
         let last = Required(&self.active, Required(&self.samples, End));

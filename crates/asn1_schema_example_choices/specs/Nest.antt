@@ -16,7 +16,11 @@ use Rattle.asn1_schema_example_choices.specs.declared.nest.Nest.{Nest, Leaf, Mor
 
 -- The alternatives, by the type that the second leads to.
 abbrev pub nest_table : (ℕ → Schema) → Choices
-nest_table s = record { root = variant (context 0) (λ _. null) (variant (context 1) s no_variant); extensible = false; additions = no_variant }
+nest_table s = record {
+  root = variant (context 0) (λ _. null) (variant (context 1) s no_variant);
+  extensible = false;
+  additions = no_variant;
+}
 
 abbrev pub nest_schema : ℕ → Schema
 nest_schema = recursive_choice nest_table
@@ -29,7 +33,9 @@ nest_is (suc n) = refl
 
 -- The type is lawful.
 pub nest_typed : IsType (context 0 ∷ context 1 ∷ []) nest_schema
-nest_typed = recursive_choice_type nest_table refl (λ s t. more_variants _ refl (null_type {ts = context 0 ∷ []} refl) (more_variants _ refl t no_variants)) (λ s t. no_variants) (λ s. refl)
+nest_typed = recursive_choice_type nest_table refl
+    (λ s t. more_variants _ refl (null_type {ts = context 0 ∷ []} refl) (more_variants _ refl t no_variants))
+    (λ s t. no_variants) (λ s. refl)
 
 -- Which alternative a nest is, what that means, and what the nest means.
 abbrev pub nest_place : Nest → Chosen
@@ -50,21 +56,27 @@ nest_means (More' p x) = refl
 
 -- Each nest is a value of the type.
 pub nest_valued : (x : Nest) → IsValue nest_schema (nest_meaning x)
-nest_valued Leaf = value_as (choice_type (nest_table nest_schema)) nest_schema nest_is (value_choice (nest_table nest_schema) false 0 null_value)
-nest_valued (More' p x) = value_as (choice_type (nest_table nest_schema)) nest_schema nest_is (value_choice (nest_table nest_schema) false 1 (nest_valued x))
+nest_valued Leaf = value_as (choice_type (nest_table nest_schema)) nest_schema nest_is
+    (value_choice (nest_table nest_schema) false 0 null_value)
+nest_valued (More' p x) = value_as (choice_type (nest_table nest_schema)) nest_schema nest_is
+    (value_choice (nest_table nest_schema) false 1 (nest_valued x))
 
 -- A chosen alternative is one of the two.
-only_root : (added : Bool) (place : ℕ) → IsAmong (nest_table nest_schema) (record { added = added; place = place }) → (added ≡ false) × (place < 2)
+only_root : (added : Bool) (place : ℕ) → IsAmong (nest_table nest_schema) (record { added = added; place = place })
+    → (added ≡ false) × (place < 2)
 only_root false place h = (refl, h)
 only_root true place h = absurd (let z : place < 0 = h in omega arith)
 
 the_place : (c : Chosen) (b : Bool) (i : ℕ) → c.added ≡ b → c.place ≡ i → c ≡ record { added = b; place = i }
-the_place c b i a e = ap (λ (x : Bool). let r : Chosen = record { added = x; place = c.place } in r) a ∙ ap (λ (k : ℕ). let r : Chosen = record { added = b; place = k } in r) e
+the_place c b i a e = ap (λ (x : Bool). let r : Chosen = record { added = x; place = c.place } in r) a
+    ∙ ap (λ (k : ℕ). let r : Chosen = record { added = b; place = k } in r) e
 
-pub nest_first : (c : Chosen) → IsAmong (nest_table nest_schema) c → c.place ≡ 0 → c ≡ record { added = false; place = 0 }
+pub nest_first : (c : Chosen) → IsAmong (nest_table nest_schema) c → c.place ≡ 0 → c
+    ≡ record { added = false; place = 0 }
 nest_first c h e = the_place c false 0 (only_root c.added c.place h).0 e
 
-pub nest_second : (c : Chosen) → IsAmong (nest_table nest_schema) c → (c.place ≡ 0 → ⊥) → c ≡ record { added = false; place = 1 }
+pub nest_second : (c : Chosen) → IsAmong (nest_table nest_schema) c → (c.place ≡ 0 → ⊥) → c
+    ≡ record { added = false; place = 1 }
 nest_second c h e =
     let d = only_root c.added c.place h in
     let b : c.place < 2 = d.1 in

@@ -8,27 +8,33 @@ use Rattle.asn1_model.specs.Lawful.{is_lawful}
 use Rattle.asn1_model.specs.Normal.{is_tidy}
 use Rattle.asn1_schema_presented.specs.Presents.{there, with_part}
 use Rattle.asn1_schema_presented.specs.Parts.{values_of}
-use Rattle.asn1_schema_presented.specs.Tables.{Table, no_table, with_field, components_at, scope, sequence_type, list_type, IsType, IsValue}
+use Rattle.asn1_schema_presented.specs.Tables.{Table, no_table, with_field, components_at, scope, sequence_type}
+use Rattle.asn1_schema_presented.specs.Tables.{list_type, IsType, IsValue}
 use Rattle.asn1_schema_presented.proofs.TypesByKind.{integer_type, integer_value, type_list, value_list}
-use Rattle.asn1_schema_presented.proofs.Values.{no_types, more_types, no_values, more_values, part_required, type_sequence, value_sequence}
+use Rattle.asn1_schema_presented.proofs.Values.{no_types, more_types, no_values, more_values, part_required}
+use Rattle.asn1_schema_presented.proofs.Values.{type_sequence, value_sequence}
 use Rattle.asn1_schema_presented.proofs.Recursive.{value_as}
 use Rattle.asn1_schema_types.specs.Counts.{any_number}
-use Rattle.asn1_schema_example_choices.specs.declared.tree.Tree.{Tree, Tree', Row_of-Tree, end_of-Tree, more_of-Tree, items-the_row-Tree, items_hidden-the_row-Tree-0}
+use Rattle.asn1_schema_example_choices.specs.declared.tree.Tree.{Tree, Tree', Row_of-Tree, end_of-Tree, more_of-Tree}
+use Rattle.asn1_schema_example_choices.specs.declared.tree.Tree.{items-the_row-Tree, items_hidden-the_row-Tree-0}
 use Rattle.asn1_schema_example_choices.specs.declared.tree.Tree.TheBlock.{hidden-the_row-Tree-0}
 use Rattle.asn1_schema_example_choices.specs.declared.tree.Tree.TheOpen.{Tree-F}
-use Rattle.asn1_schema_example_choices.specs.declared.tree.Tree.TheViews.{out-Tree, roll-Tree, out-roll-Tree, roll-out-Tree, rolls-struct-Tree}
+use Rattle.asn1_schema_example_choices.specs.declared.tree.Tree.TheViews.{out-Tree, roll-Tree, out-roll-Tree}
+use Rattle.asn1_schema_example_choices.specs.declared.tree.Tree.TheViews.{roll-out-Tree, rolls-struct-Tree}
 use Rattle.asn1_schema_example_choices.specs.declared.tree.Tree.TheFolds.{ind-Tree}
 
 -- INTEGER, in any number of levels.
 abbrev pub whole_number : ℕ → Schema
-whole_number n = integer (record { range = record { low = None; high = None }; extensible = false }) (record { low = None; high = None })
+whole_number n = integer (record { range = record { low = None; high = None }; extensible = false })
+    (record { low = None; high = None })
 
 pub number_typed : IsType (record { class = 0; number = 2 } ∷ []) whole_number
 number_typed = integer_type _ _ refl refl refl
 
 -- The components, by the type of the second.
 abbrev pub tree_table : (ℕ → Schema) → Table
-tree_table s = with_field (record { class = 0; number = 2 } ∷ []) required whole_number (with_field (record { class = 0; number = 16 } ∷ []) required s no_table)
+tree_table s = with_field (record { class = 0; number = 2 } ∷ []) required whole_number
+    (with_field (record { class = 0; number = 16 } ∷ []) required s no_table)
 
 unfoldable mutual
   -- The type, unfolded to a number of nested levels: the sequence takes one of them, and the list in it the next.
@@ -57,7 +63,8 @@ abbrev IsSequence : (ℕ → Schema) → Type 0
 IsSequence s = IsType (record { class = 0; number = 16 } ∷ []) s
 
 sequence_typed : {s : ℕ → Schema} → IsSequence s → IsSequence (sequence_type (tree_table s))
-sequence_typed {s} t = type_sequence (tree_table s) refl (more_types _ required (λ _. refl) number_typed (more_types _ required (λ _. refl) t no_types)) refl
+sequence_typed {s} t = type_sequence (tree_table s) refl
+    (more_types _ required (λ _. refl) number_typed (more_types _ required (λ _. refl) t no_types)) refl
 
 list_typed : {s : ℕ → Schema} → IsSequence s → IsSequence (list_type any_size any_number s)
 list_typed t = type_list any_size any_number refl refl t
@@ -67,22 +74,46 @@ mutual
 
   tree_at : (n : ℕ) → IsSequence (λ _. tree_schema n)
   tree_at zero = record { tagged = refl; lawful = λ m. refl; tidy = λ m. refl; no_group = λ m. refl }
-  tree_at (suc n) = record { tagged = refl; lawful = λ m. (sequence_typed (branches_at n)).lawful (suc n); tidy = λ m. (sequence_typed (branches_at n)).tidy (suc n); no_group = λ m. (sequence_typed (branches_at n)).no_group (suc n) }
+  tree_at (suc n) = record {
+    tagged = refl;
+    lawful = λ m. (sequence_typed (branches_at n)).lawful (suc n);
+    tidy = λ m.
+        (sequence_typed (branches_at n)).tidy (suc n);
+    no_group = λ m. (sequence_typed (branches_at n)).no_group (suc n);
+  }
 
   branches_at : (n : ℕ) → IsSequence (λ _. branches_schema n)
   branches_at zero = record { tagged = refl; lawful = λ m. refl; tidy = λ m. refl; no_group = λ m. refl }
-  branches_at (suc n) = record { tagged = refl; lawful = λ m. (list_typed (tree_at n)).lawful (suc n); tidy = λ m. (list_typed (tree_at n)).tidy (suc n); no_group = λ m. (list_typed (tree_at n)).no_group (suc n) }
+  branches_at (suc n) = record {
+    tagged = refl;
+    lawful = λ m. (list_typed (tree_at n)).lawful (suc n);
+    tidy = λ m.
+        (list_typed (tree_at n)).tidy (suc n);
+    no_group = λ m. (list_typed (tree_at n)).no_group (suc n);
+  }
 
 pub tree_typed : IsType (record { class = 0; number = 16 } ∷ []) tree_schema
-tree_typed = record { tagged = refl; lawful = λ n. (tree_at n).lawful n; tidy = λ n. (tree_at n).tidy n; no_group = λ n. (tree_at n).no_group n }
+tree_typed = record {
+  tagged = refl;
+  lawful = λ n. (tree_at n).lawful n;
+  tidy = λ n. (tree_at n).tidy n;
+  no_group =
+      λ n. (tree_at n).no_group n;
+}
 
 pub branches_typed : IsType (record { class = 0; number = 16 } ∷ []) branches_schema
-branches_typed = record { tagged = refl; lawful = λ n. (branches_at n).lawful n; tidy = λ n. (branches_at n).tidy n; no_group = λ n. (branches_at n).no_group n }
+branches_typed = record {
+  tagged = refl;
+  lawful = λ n. (branches_at n).lawful n;
+  tidy = λ n. (branches_at n).tidy n;
+  no_group = λ n. (branches_at n).no_group n;
+}
 
 -- What a tree means, and what the trees that branch off mean.
 abbrev mutual
   pub tree_meaning : Tree → Value
-  tree_meaning (Tree' value n branches) = fields (with_part (there (number value)) (with_part (there (members (branch_values branches))) end)) end
+  tree_meaning (Tree' value n branches) = fields (with_part (there (number value))
+      (with_part (there (members (branch_values branches))) end)) end
 
   pub branch_values : {n : _} → Row_of-Tree n → Values
   branch_values end_of-Tree = no_more
@@ -90,7 +121,8 @@ abbrev mutual
 
 -- The components, by the fields: each branch is a member.
 abbrev pub tree_parts : Tree-F Tree → Parts
-tree_parts t = with_part (there (number t.value)) (with_part (there (members (values_of tree_meaning t.branches.items))) end)
+tree_parts t = with_part (there (number t.value)) (with_part
+    (there (members (values_of tree_meaning t.branches.items))) end)
 
 abbrev pub tree_root : Tree → Parts
 tree_root x = tree_parts (out-Tree x)
@@ -103,7 +135,9 @@ branch_items n (more_of-Tree x row) = ap (member (tree_meaning x)) (branch_items
 pub tree_rolls : (t : Tree-F Tree) → tree_meaning (roll-Tree t) ≡ fields (tree_parts t) end
 tree_rolls t =
     ap tree_meaning (rolls-struct-Tree t)
-    ∙ ap (λ vs. fields (with_part (there (number t.value)) (with_part (there (members vs)) end)) end) (branch_items _ (hidden-the_row-Tree-0 t.branches) ∙ ap (values_of tree_meaning) (items_hidden-the_row-Tree-0 t.branches))
+    ∙ ap (λ vs. fields (with_part (there (number t.value)) (with_part (there (members vs)) end)) end)
+    (branch_items _ (hidden-the_row-Tree-0 t.branches)
+    ∙ ap (values_of tree_meaning) (items_hidden-the_row-Tree-0 t.branches))
 
 -- A tree means its components.
 pub tree_opens : (x : Tree) → tree_meaning x ≡ fields (tree_root x) end
@@ -117,17 +151,27 @@ tree_made t = ap tree_parts (out-roll-Tree t)
 abbrev IsTree : Tree → Type 0
 IsTree x = IsValue tree_schema (tree_meaning x)
 
-values_each : (xs : List ((x : Tree) × IsTree x)) → values_of tree_meaning (map (λ e. e.0) xs) ≡ values_of (λ e. tree_meaning e.0) xs
+values_each : (xs : List ((x : Tree) × IsTree x)) → values_of tree_meaning (map (λ e. e.0) xs)
+    ≡ values_of (λ e. tree_meaning e.0) xs
 values_each [] = refl
 values_each (x ∷ xs) = ap (member (tree_meaning x.0)) (values_each xs)
 
-branches_valued : (xs : List ((x : Tree) × IsTree x)) → IsValue branches_schema (members (values_of tree_meaning (map (λ e. e.0) xs)))
-branches_valued xs = subst (λ vs. IsValue branches_schema (members vs)) (sym (values_each xs)) (value_as (list_type any_size any_number tree_schema) branches_schema branches_are (value_list any_size any_number tree_schema (λ e. tree_meaning e.0) xs (λ e. e.1)))
+branches_valued : (xs : List ((x : Tree) × IsTree x))
+    → IsValue branches_schema (members (values_of tree_meaning (map (λ e. e.0) xs)))
+branches_valued xs = subst (λ vs. IsValue branches_schema (members vs)) (sym (values_each xs))
+    (value_as (list_type any_size any_number tree_schema) branches_schema branches_are
+    (value_list any_size any_number tree_schema (λ e. tree_meaning e.0) xs (λ e. e.1)))
 
-parts_valued : (t : Tree-F Tree) → IsValue branches_schema (members (values_of tree_meaning t.branches.items)) → IsTree (roll-Tree t)
+parts_valued : (t : Tree-F Tree) → IsValue branches_schema (members (values_of tree_meaning t.branches.items))
+    → IsTree (roll-Tree t)
 parts_valued t h =
-    let v = value_sequence (tree_table branches_schema) (more_values _ (part_required number_typed (integer_value _ _ t.value)) (more_values _ (part_required branches_typed h) no_values)) in
-    subst (λ w. IsValue tree_schema w) (sym (tree_rolls t)) (value_as (sequence_type (tree_table branches_schema)) tree_schema tree_is v)
+    let v = value_sequence (tree_table branches_schema)
+    (more_values _ (part_required number_typed (integer_value _ _ t.value))
+    (more_values _ (part_required branches_typed h) no_values)) in
+    subst (λ w. IsValue tree_schema w) (sym (tree_rolls t))
+    (value_as (sequence_type (tree_table branches_schema)) tree_schema tree_is v)
 
 pub tree_valued : (x : Tree) → IsValue tree_schema (tree_meaning x)
-tree_valued = ind-Tree IsTree (λ t below is. parts_valued t (subst (λ (u : Tree-F Tree). IsValue branches_schema (members (values_of tree_meaning u.branches.items))) is (branches_valued below.branches.items)))
+tree_valued = ind-Tree IsTree (λ t below is. parts_valued t
+    (subst (λ (u : Tree-F Tree). IsValue branches_schema (members (values_of tree_meaning u.branches.items))) is
+    (branches_valued below.branches.items)))

@@ -42,9 +42,19 @@ impl Described for Colour {
 
     ghost typed = { type_enumerated _ _ _ refl refl };
 
-    ghost valued = { elim [ Red ↦ value_enumerated _ _ _ _ | Green ↦ value_enumerated _ _ _ _ | Blue ↦ value_enumerated _ _ _ _ ] };
+    ghost valued = { elim [
+      | Red ↦ value_enumerated _ _ _ _
+      | Green ↦ value_enumerated _ _ _ _
+      | Blue ↦
+          value_enumerated _ _ _ _
+    ] };
 
-    ghost valued_under = { λ _. elim [ Red ↦ value_enumerated _ _ _ _ | Green ↦ value_enumerated _ _ _ _ | Blue ↦ value_enumerated _ _ _ _ ] };
+    ghost valued_under = { λ _. elim [
+      | Red ↦ value_enumerated _ _ _ _
+      | Green ↦ value_enumerated _ _ _ _
+      | Blue ↦
+          value_enumerated _ _ _ _
+    ] };
 }
 
 impl AsnType for Colour {
@@ -96,9 +106,14 @@ impl Enumerated for Colour {
 
     ghost distinct = { refl };
 
-    ghost one_number = { one_number_of _ (Red ∷ Green ∷ Blue ∷ []) (elim [ Red ↦ (0, refl) | Green ↦ (1, refl) | Blue ↦ (2, refl) ]) refl };
+    ghost one_number = { one_number_of _ (Red ∷ Green ∷ Blue ∷ [])
+        (elim [ Red ↦ (0, refl) | Green ↦ (1, refl) | Blue ↦ (2, refl) ]) refl };
 
-    ghost listed = { elim [ Red ↦ (false, 0, refl) | Green ↦ (false, 1, refl) | Blue ↦ (true, 0, (refl, refl, refl)) ] };
+    ghost listed = { elim [
+      | Red ↦ (false, 0, refl)
+      | Green ↦ (false, 1, refl)
+      | Blue ↦ (true, 0, (refl, refl, refl))
+    ] };
 }
 
 impl EnumeratedType for Colour {
@@ -122,7 +137,8 @@ impl NamedItems for Colour {
         }
     }
 
-    ghost one_name = { one_name_of _ (Red ∷ Green ∷ Blue ∷ []) (elim [ Red ↦ (0, refl) | Green ↦ (1, refl) | Blue ↦ (2, refl) ]) refl };
+    ghost one_name = { one_name_of _ (Red ∷ Green ∷ Blue ∷ [])
+        (elim [ Red ↦ (0, refl) | Green ↦ (1, refl) | Blue ↦ (2, refl) ]) refl };
 }
 
 impl Encode for Colour {

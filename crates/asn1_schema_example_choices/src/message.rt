@@ -52,19 +52,53 @@ impl Described for Message {
 
     ghost own = { no_constraint };
 
-    ghost under = { λ _. choice_type (record { root = variant (context 0) ⟦<bool as Described>⟧.schema (variant (context 1) ⟦<Integer as Described>⟧.schema no_variant); extensible = true; additions = variant (context 2) ⟦<String as Described>⟧.schema no_variant }) };
+    ghost under = { λ _. choice_type
+        (record {
+          root = variant (context 0) ⟦<bool as Described>⟧.schema
+              (variant (context 1) ⟦<Integer as Described>⟧.schema no_variant);
+          extensible = true;
+          additions = variant
+              (context 2) ⟦<String as Described>⟧.schema no_variant;
+        }) };
 
-    ghost schema = { choice_type (record { root = variant (context 0) ⟦<bool as Described>⟧.schema (variant (context 1) ⟦<Integer as Described>⟧.schema no_variant); extensible = true; additions = variant (context 2) ⟦<String as Described>⟧.schema no_variant }) };
+    ghost schema = { choice_type (record {
+      root = variant (context 0) ⟦<bool as Described>⟧.schema
+          (variant (context 1) ⟦<Integer as Described>⟧.schema no_variant);
+      extensible = true;
+      additions = variant
+          (context 2) ⟦<String as Described>⟧.schema no_variant;
+    }) };
 
     ghost is_own = { λ _. refl };
 
-    ghost meaning = { elim [ Flag x ↦ chosen_value (record { added = false; place = 0 }) (⟦<bool as Described>⟧.meaning x) | Count x ↦ chosen_value (record { added = false; place = 1 }) (⟦<Integer as Described>⟧.meaning x) | Name x ↦ chosen_value (record { added = true; place = 0 }) (⟦<String as Described>⟧.meaning x) ] };
+    ghost meaning = { elim [
+      | Flag x ↦ chosen_value (record { added = false; place = 0 })
+          (⟦<bool as Described>⟧.meaning x)
+      | Count x ↦ chosen_value (record { added = false; place = 1 })
+          (⟦<Integer as Described>⟧.meaning x)
+      | Name x ↦ chosen_value (record { added = true; place = 0 })
+          (⟦<String as Described>⟧.meaning x)
+    ] };
 
-    ghost typed = { type_choice _ refl (more_variants _ refl ⟦<bool as Described>⟧.typed (more_variants _ refl ⟦<Integer as Described>⟧.typed no_variants)) (more_variants _ refl ⟦<String as Described>⟧.typed no_variants) refl };
+    ghost typed = { type_choice _ refl (more_variants _ refl ⟦<bool as Described>⟧.typed
+        (more_variants _ refl ⟦<Integer as Described>⟧.typed no_variants))
+        (more_variants _ refl ⟦<String as Described>⟧.typed no_variants) refl };
 
-    ghost valued = { elim [ Flag x ↦ value_choice _ false 0 (⟦<bool as Described>⟧.valued x) | Count x ↦ value_choice _ false 1 (⟦<Integer as Described>⟧.valued x) | Name x ↦ value_choice _ true 0 (⟦<String as Described>⟧.valued x) ] };
+    ghost valued = { elim [
+      | Flag x ↦ value_choice _ false 0 (⟦<bool as Described>⟧.valued x)
+      | Count x ↦ value_choice
+          _ false 1 (⟦<Integer as Described>⟧.valued x)
+      | Name x ↦ value_choice _ true 0
+          (⟦<String as Described>⟧.valued x)
+    ] };
 
-    ghost valued_under = { λ _. elim [ Flag x ↦ value_choice _ false 0 (⟦<bool as Described>⟧.valued x) | Count x ↦ value_choice _ false 1 (⟦<Integer as Described>⟧.valued x) | Name x ↦ value_choice _ true 0 (⟦<String as Described>⟧.valued x) ] };
+    ghost valued_under = { λ _. elim [
+      | Flag x ↦ value_choice _ false 0 (⟦<bool as Described>⟧.valued x)
+      | Count x ↦
+          value_choice _ false 1 (⟦<Integer as Described>⟧.valued x)
+      | Name x ↦ value_choice _ true 0
+          (⟦<String as Described>⟧.valued x)
+    ] };
 }
 
 impl AsnType for Message {
@@ -89,7 +123,13 @@ impl AsnType for Message {
 }
 
 impl Alternatives for Message {
-    ghost table = { record { root = variant (context 0) ⟦<bool as Described>⟧.schema (variant (context 1) ⟦<Integer as Described>⟧.schema no_variant); extensible = true; additions = variant (context 2) ⟦<String as Described>⟧.schema no_variant } };
+    ghost table = { record {
+      root = variant (context 0) ⟦<bool as Described>⟧.schema
+          (variant (context 1) ⟦<Integer as Described>⟧.schema no_variant);
+      extensible = true;
+      additions = variant
+          (context 2) ⟦<String as Described>⟧.schema no_variant;
+    } };
 
     fn variants() -> &'static [Tag] {
         &[FLAG, COUNT]
@@ -107,9 +147,18 @@ impl Alternatives for Message {
 impl Choice for Message {
     ghost use Rattle.asn1_schema_example_choices.specs.declared.message.Message.TheVariants.{Flag, Count, Name};
 
-    ghost place = { elim [ Flag x ↦ record { added = false; place = 0 } | Count x ↦ record { added = false; place = 1 } | Name x ↦ record { added = true; place = 0 } ] };
+    ghost place = { elim [
+      | Flag x ↦ record { added = false; place = 0 }
+      | Count x ↦
+          record { added = false; place = 1 }
+      | Name x ↦ record { added = true; place = 0 }
+    ] };
 
-    ghost inner = { elim [ Flag x ↦ ⟦<bool as Described>⟧.meaning x | Count x ↦ ⟦<Integer as Described>⟧.meaning x | Name x ↦ ⟦<String as Described>⟧.meaning x ] };
+    ghost inner = { elim [
+      | Flag x ↦ ⟦<bool as Described>⟧.meaning x
+      | Count x ↦ ⟦<Integer as Described>⟧.meaning x
+      | Name x ↦ ⟦<String as Described>⟧.meaning x
+    ] };
 
     fn chosen(&self) -> Chosen {
         match self {

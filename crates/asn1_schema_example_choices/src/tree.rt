@@ -63,7 +63,8 @@ impl AsnType for Tree {
 }
 
 impl Constructed for Tree {
-    ghost use Rattle.asn1_schema_example_choices.specs.Tree.{tree_table, branches_schema, tree_root, tree_opens, tree_is};
+    ghost use Rattle.asn1_schema_example_choices.specs.Tree.{tree_table, branches_schema, tree_root, tree_opens};
+    ghost use Rattle.asn1_schema_example_choices.specs.Tree.{tree_is};
 
     ghost form = { sequence_form };
 

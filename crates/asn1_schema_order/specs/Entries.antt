@@ -13,8 +13,8 @@ ArePlaced i [] [] = Unit {0}
 ArePlaced i (w ∷ ws) (e ∷ es) = (octets_of e ≡ w) × (e.index ≡ i) × ArePlaced (suc i) ws es
 ArePlaced i ws es = ⊥
 
--- The entries are those of the encodings, each with its place among these, in ascending order of their octets (X.691 22, X.696 19); those of the
--- same octets stand as they stood.
+-- The entries are those of the encodings, each with its place among these, in ascending order of their octets (X.691
+-- 22, X.696 19); those of the same octets stand as they stood.
 pub record AreInOrder (encodings : List (List ℕ)) (ordered : List Entry) : Type 0 where
   pub all : List Entry
   pub placed : ArePlaced 0 encodings all

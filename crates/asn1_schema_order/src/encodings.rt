@@ -128,8 +128,9 @@ impl Encodings {
         &self.octets[span.from..span.to]
     }
 
-    /// All of them in ascending order (X.691 22, X.696 19), each with its place among them; those of the same octets stand as they stood. The first
-    /// octet in which two differ tells which stands before the other, and one with which another begins stands before that.
+    /// All of them in ascending order (X.691 22, X.696 19), each with its place among them; those of the same octets
+    /// stand as they stood. The first octet in which two differ tells which stands before the other, and one with
+    /// which another begins stands before that.
     ///
     /// # Errors
     ///

@@ -6,7 +6,8 @@ use Rattle.asn1_model.specs.Lawful.{is_lawful}
 use Rattle.asn1_model.specs.Normal.{is_tidy}
 use Rattle.asn1_schema_presented.specs.Tables.{Fields, Table, field_tags, sequence_type, IsValue}
 use Rattle.asn1_schema_presented.specs.Typed.{AreTypes, AreValues, IsPart}
-use Rattle.asn1_schema_presented.specs.Additions.{marked_table, AreAdditionTypes, AreAdditionValues, IsAddition, IsGroup, group_type, group_part}
+use Rattle.asn1_schema_presented.specs.Additions.{marked_table, AreAdditionTypes, AreAdditionValues, IsAddition}
+use Rattle.asn1_schema_presented.specs.Additions.{IsGroup, group_type, group_part}
 
 -- Additions whose types may stand there make a table with a mark.
 abbrev pub AdditionsAreTyped : Type 0
@@ -16,8 +17,8 @@ AdditionsAreTyped = (fs : Fields) → AreAdditionTypes fs → AreTypes (marked_t
 abbrev pub AdditionsAreValued : Type 0
 AdditionsAreValued = (fs : Fields) (qs : Parts) → AreAdditionValues fs qs → AreValues (marked_table fs) end qs
 
--- The components of a lawful sequence without a mark, one or more, whose defaults are in normal form, make a group that may stand among
--- additions.
+-- The components of a lawful sequence without a mark, one or more, whose defaults are in normal form, make a group
+-- that may stand among additions.
 abbrev pub GroupsAreTyped : Type 0
 GroupsAreTyped =
     (t : Table) → IsGroup t
@@ -26,4 +27,5 @@ GroupsAreTyped =
 
 -- A value of such a sequence is one of the group, and is left out where none of its components is there.
 abbrev pub GroupsAreValued : Type 0
-GroupsAreValued = (t : Table) (ps : Parts) → IsGroup t → IsValue (sequence_type t) (fields ps end) → IsPart optional (group_type t) (group_part (λ (x : Parts). x) (Some ps))
+GroupsAreValued = (t : Table) (ps : Parts) → IsGroup t → IsValue (sequence_type t) (fields ps end)
+    → IsPart optional (group_type t) (group_part (λ (x : Parts). x) (Some ps))

@@ -6,7 +6,8 @@ use Rattle.asn1_model.specs.Normal.{normal_parts, is_tidy, are_tidy}
 use Rattle.asn1_model.specs.Lawful.{is_lawful, are_lawful, is_group, is_optional, has_optional_groups}
 use Rattle.asn1_schema_presented.specs.Presents.{Part, left_out, PartsFit}
 use Rattle.asn1_schema_presented.specs.Parts.{part_unless}
-use Rattle.asn1_schema_presented.specs.Tables.{Fields, no_field, field, Table, components_at, field_tags, are_tags, scope}
+use Rattle.asn1_schema_presented.specs.Tables.{Fields, no_field, field, Table, components_at, field_tags, are_tags}
+use Rattle.asn1_schema_presented.specs.Tables.{scope}
 use Rattle.asn1_schema_presented.specs.Typed.{DefaultsThen}
 
 -- How many additions there are.

@@ -11,9 +11,11 @@ Chain step (r ∷ rs) old new = (mid : _) × step old r mid × Chain step rs mid
 abbrev pub OneAfter : {S : Type 0} → (S → Record → S → Type 0) → Type 0
 OneAfter {S} step = (a : S) (r : Record) (b c : S) → step a r b → step a r c → b ≡ c
 
--- A decoder's law: of the records that answer a question one at most is next, as far as the decoder is told, and one state stands after it.
+-- A decoder's law: of the records that answer a question one at most is next, as far as the decoder is told, and one
+-- state stands after it.
 abbrev pub OneRecord : {S : Type 0} → (S → Record → S → Type 0) → Type 0
-OneRecord {S} step = (a : S) (r s : Record) (b c : S) → question r ≡ question s → step a r b → step a s c → (told r ≡ told s) × (b ≡ c)
+OneRecord {S} step = (a : S) (r s : Record) (b c : S) → question r ≡ question s → step a r b → step a s c
+    → (told r ≡ told s) × (b ≡ c)
 
 -- A law of both: what stands after a record has not failed.
 abbrev pub GoesOn : {S : Type 0} → (S → Record → S → Type 0) → (S → Type 0) → Type 0

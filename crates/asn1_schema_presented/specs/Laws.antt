@@ -8,4 +8,5 @@ use Rattle.asn1_schema_presented.specs.Chains.{Chain}
 
 -- From one state the records of one value of a type at most are next, and one state stands behind them.
 abbrev pub OneValue : {S : Type 0} → (S → Record → S → Type 0) → Type 0
-OneValue {S} step = (s : Schema) (v w : Value) (a b c : S) → Fits s v → Fits s w → Chain step (presents s v) a b → Chain step (presents s w) a c → (v ≡ w) × (b ≡ c)
+OneValue {S} step = (s : Schema) (v w : Value) (a b c : S) → Fits s v → Fits s w → Chain step (presents s v) a b
+    → Chain step (presents s w) a c → (v ≡ w) × (b ≡ c)

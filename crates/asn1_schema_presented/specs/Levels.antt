@@ -1,8 +1,11 @@
--- The levels that are left to a decoder, from record to record: inside each list, bag, sequence, set, group and choice one fewer.
-use Rattle.std.specs.Prelude.{◌≡◌, ◌≤◌, ◌↔◌, ℕ, zero, suc, cond, ltb, leb, List, [], ◌∷◌, ◌++◌, Option, Some, None, option_and_then}
+-- The levels that are left to a decoder, from record to record: inside each list, bag, sequence, set, group and
+-- choice one fewer.
+use Rattle.std.specs.Prelude.{◌≡◌, ◌≤◌, ◌↔◌, ℕ, zero, suc, cond, ltb, leb, List, [], ◌∷◌, ◌++◌, Option, Some, None}
+use Rattle.std.specs.Prelude.{option_and_then}
 use Rattle.asn1_model.specs.Value.{Value, depth}
 use Rattle.asn1_model.specs.Schema.{Schema}
-use Rattle.asn1_schema_presented.specs.Records.{Record, list_begins, bag_begins, sequence_begins, set_begins, group_begins, choice_begins, ends}
+use Rattle.asn1_schema_presented.specs.Records.{Record, list_begins, bag_begins, sequence_begins, set_begins}
+use Rattle.asn1_schema_presented.specs.Records.{group_begins, choice_begins, ends}
 use Rattle.asn1_schema_presented.specs.Presents.{presents, Fits}
 use Rattle.asn1_schema_presented.specs.Chains.{Chain}
 
@@ -37,15 +40,18 @@ Level most a r b = level most r a ≡ Some b
 
 -- The records of a value pass exactly where as many levels are left as nest in it, whatever comes behind.
 abbrev pub LowersAt : Schema → Value → Type 0
-LowersAt s v = (most l : ℕ) (rest : List Record) → l ≤ most → levels most (presents s v ++ rest) l ≡ cond (leb (depth v) l) (levels most rest l) None
+LowersAt s v = (most l : ℕ) (rest : List Record) → l ≤ most → levels most (presents s v ++ rest) l
+    ≡ cond (leb (depth v) l) (levels most rest l) None
 
 abbrev pub Lowers : Type 0
 Lowers = (s : Schema) (v : Value) → Fits s v → LowersAt s v
 
 -- So a chain of them goes from l levels exactly where as many as nest in the value are left, and back to l.
 abbrev pub Nests : Type 0
-Nests = (s : Schema) (v : Value) (most l m : ℕ) → Fits s v → l ≤ most → Chain (Level most) (presents s v) l m ↔ ((depth v ≤ l) × (m ≡ l))
+Nests = (s : Schema) (v : Value) (most l m : ℕ) → Fits s v → l ≤ most → Chain (Level most) (presents s v) l m
+    ↔ ((depth v ≤ l) × (m ≡ l))
 
 -- Two relations side by side: one decoder's, and that of its levels.
-abbrev pub Both : {A B : Type 0} → (A → Record → A → Type 0) → (B → Record → B → Type 0) → A × B → Record → A × B → Type 0
+abbrev pub Both : {A B : Type 0} → (A → Record → A → Type 0) → (B → Record → B → Type 0) → A × B → Record → A × B
+    → Type 0
 Both f g a r b = f a.0 r b.0 × g a.1 r b.1

@@ -4,7 +4,8 @@ use Rattle.asn1_model.specs.Value.{Value, Values, no_more, member, Parts}
 use Rattle.asn1_model.specs.Schema.{Presence, Schema}
 use Rattle.asn1_model.specs.Normal.{normal, is_at_default, is_group_left_out}
 use Rattle.asn1_schema_presented.specs.Records.{Record}
-use Rattle.asn1_schema_presented.specs.Presents.{Part, left_out, there, root_records, behind_root, added_records, PartsFit}
+use Rattle.asn1_schema_presented.specs.Presents.{Part, left_out, there, root_records, behind_root, added_records}
+use Rattle.asn1_schema_presented.specs.Presents.{PartsFit}
 use Rattle.asn1_schema_presented.specs.Tables.{Table, components_at}
 
 -- An optional component.
@@ -29,7 +30,8 @@ normal_part o s (there v) = cond (is_at_default o s v || is_group_left_out s v) 
 
 -- The records of what is left of a sequence: root components, and what follows them.
 abbrev pub tail_records : ℕ → Table → Parts → Parts → List Record
-tail_records n t ps qs = root_records (components_at n t.root) ps (behind_root t.extensible (components_at n t.additions) (added_records (components_at n t.additions) qs))
+tail_records n t ps qs = root_records (components_at n t.root) ps
+    (behind_root t.extensible (components_at n t.additions) (added_records (components_at n t.additions) qs))
 
 -- The parts are of these components.
 abbrev pub TailFits : ℕ → Table → Parts → Parts → Type 0

@@ -1,11 +1,18 @@
 -- The records of a value by its type: the calls by which it reaches an encoder, and by which a decoder finds it.
 use Rattle.std.specs.Prelude.{◌≡◌, ℕ, zero, suc, Bool, true, false, cond, not, ◌||◌, List, [], ◌∷◌, ◌++◌}
-use Rattle.asn1_model.specs.Value.{Value, truth, nothing, number, item, bit_list, octet_list, text, arcs, members, bag, fields, chosen, Values, no_more, member, Parts, end, absent, present}
-use Rattle.asn1_model.specs.Schema.{Presence, Schema, boolean, null, integer, enumerated, bit_string, octet_string, character_string, object_identifier, sequence_of, set_of, sequence, set, group, choice, Components, no_component, component, Alternatives, no_alternative, alternative}
+use Rattle.asn1_model.specs.Value.{Value, truth, nothing, number, item, bit_list, octet_list, text, arcs, members}
+use Rattle.asn1_model.specs.Value.{bag, fields, chosen, Values, no_more, member, Parts, end, absent, present}
+use Rattle.asn1_model.specs.Schema.{Presence, Schema, boolean, null, integer, enumerated, bit_string, octet_string}
+use Rattle.asn1_model.specs.Schema.{character_string, object_identifier, sequence_of, set_of, sequence, set, group}
+use Rattle.asn1_model.specs.Schema.{choice, Components, no_component, component, Alternatives, no_alternative}
+use Rattle.asn1_model.specs.Schema.{alternative}
 use Rattle.asn1_model.specs.Normal.{is_at_default, is_group_left_out}
 use Rattle.asn1_model.specs.Lawful.{are_no_components, alternative_tags}
 use Rattle.asn1_model.specs.Tables.{is_required}
-use Rattle.asn1_schema_presented.specs.Records.{Record, flag, nil, whole, one_of, bits, octets, characters, identifier, list_begins, bag_begins, further, sequence_begins, set_begins, group_begins, mark, is_default, is_empty, additions_begin, addition, addition_ends, choice_begins, ends, mismatch}
+use Rattle.asn1_schema_presented.specs.Records.{Record, flag, nil, whole, one_of, bits, octets, characters}
+use Rattle.asn1_schema_presented.specs.Records.{identifier, list_begins, bag_begins, further, sequence_begins}
+use Rattle.asn1_schema_presented.specs.Records.{set_begins, group_begins, mark, is_default, is_empty, additions_begin}
+use Rattle.asn1_schema_presented.specs.Records.{addition, addition_ends, choice_begins, ends, mismatch}
 
 -- ---- counts
 
@@ -62,8 +69,8 @@ abbrev pub member_records : (Value → List Record) → Values → List Record
 member_records f no_more = further false ∷ ends ∷ []
 member_records f (member v vs) = further true ∷ (f v ++ member_records f vs)
 
--- What follows the root components: the additions, where there is a mark, and the end. Additions without a mark, which no lawful type has, are
--- handed over, and no codec takes them.
+-- What follows the root components: the additions, where there is a mark, and the end. Additions without a mark,
+-- which no lawful type has, are handed over, and no codec takes them.
 abbrev pub behind_root : Bool → Components → List Record → List Record
 behind_root e adds rs = cond (e || not (are_no_components adds)) (additions_begin (component_count adds) ∷ rs) rs
 
@@ -80,25 +87,33 @@ unfoldable mutual
   presents object_identifier (arcs ns) = identifier ns ∷ []
   presents (sequence_of z h s) (members vs) = list_begins z h (member_count vs) ∷ member_records (λ v. presents s v) vs
   presents (set_of z h s) (bag vs) = bag_begins z h (member_count vs) ∷ member_records (λ v. presents s v) vs
-  presents (sequence cs e adds) (fields ps qs) = sequence_begins e (optional_count cs) ∷ root_records cs ps (behind_root e adds (added_records adds qs))
-  presents (set cs e adds) (fields ps qs) = set_begins e (optional_count cs) ∷ root_records cs ps (behind_root e adds (added_records adds qs))
+  presents (sequence cs e adds) (fields ps qs) = sequence_begins e (optional_count cs)
+      ∷ root_records cs ps (behind_root e adds (added_records adds qs))
+  presents (set cs e adds) (fields ps qs) = set_begins e (optional_count cs)
+      ∷ root_records cs ps (behind_root e adds (added_records adds qs))
   presents (group cs) (fields ps end) = group_begins (optional_count cs) ∷ root_records cs ps (ends ∷ [])
-  presents (choice roots e adds) (chosen false i v) = choice_begins (alternative_tags roots) e (alternative_tags adds) false i ∷ chosen_records roots i v
-  presents (choice roots e adds) (chosen true i v) = choice_begins (alternative_tags roots) e (alternative_tags adds) true i ∷ chosen_records adds i v
+  presents (choice roots e adds) (chosen false i v) = choice_begins (alternative_tags roots) e (alternative_tags adds)
+      false i ∷ chosen_records roots i v
+  presents (choice roots e adds) (chosen true i v) = choice_begins (alternative_tags roots) e (alternative_tags adds)
+      true i ∷ chosen_records adds i v
   presents s v = mismatch ∷ []
 
   -- The root components, and what follows them.
   pub root_records : Components → Parts → List Record → List Record
   root_records no_component end rest = rest
-  root_records (component t o s cs) (present v ps) rest = part_records (λ w. presents s w) o s (there v) ++ root_records cs ps rest
-  root_records (component t o s cs) (absent ps) rest = part_records (λ w. presents s w) o s left_out ++ root_records cs ps rest
+  root_records (component t o s cs) (present v ps) rest = part_records (λ w. presents s w) o s (there v)
+      ++ root_records cs ps rest
+  root_records (component t o s cs) (absent ps) rest = part_records (λ w. presents s w) o s left_out
+      ++ root_records cs ps rest
   root_records cs ps rest = mismatch ∷ []
 
   -- The additions, and the end.
   pub added_records : Components → Parts → List Record
   added_records no_component end = ends ∷ []
-  added_records (component t o s cs) (present v ps) = addition_records (λ w. presents s w) o s (there v) ++ added_records cs ps
-  added_records (component t o s cs) (absent ps) = addition_records (λ w. presents s w) o s left_out ++ added_records cs ps
+  added_records (component t o s cs) (present v ps) = addition_records (λ w. presents s w) o s (there v)
+      ++ added_records cs ps
+  added_records (component t o s cs) (absent ps) = addition_records (λ w. presents s w) o s left_out
+      ++ added_records cs ps
   added_records cs ps = mismatch ∷ []
 
   -- The chosen alternative, and the end.
@@ -120,7 +135,8 @@ AllFit f no_more = Unit {0}
 AllFit f (member v vs) = f v × AllFit f vs
 
 unfoldable mutual
-  -- The value has the form of the type, and nests no deeper than this is unfolded: what a program's value means, and what may be read.
+  -- The value has the form of the type, and nests no deeper than this is unfolded: what a program's value means, and
+  -- what may be read.
   pub Fits : Schema → Value → Type 0
   Fits boolean (truth b) = Unit {0}
   Fits null nothing = Unit {0}

@@ -2,8 +2,8 @@
 use Rattle.std.specs.Prelude.{ℕ, ℤ, Bool, List}
 use Rattle.asn1_model.specs.Schema.{Tag, Range, Bounds, Counts, Size, Alphabet, StringKind}
 
--- One call. A scalar comes with what the type says there and with its value; a tag leaves no octet in any of the rules but where it tells
--- which alternative is chosen, so records have the tags of alternatives alone.
+-- One call. A scalar comes with what the type says there and with its value; a tag leaves no octet in any of the
+-- rules but where it tells which alternative is chosen, so records have the tags of alternatives alone.
 pub data Record : Type 0 where
   -- BOOLEAN
   flag : Bool → Record
@@ -43,7 +43,8 @@ pub data Record : Type 0 where
   -- whether the next addition is there
   addition : Bool → Record
   addition_ends : Record
-  -- CHOICE: the tags of the root alternatives, whether there is a mark, the tags of the added ones, whether the chosen one is added, and its place
+  -- CHOICE: the tags of the root alternatives, whether there is a mark, the tags of the added ones, whether the
+  -- chosen one is added, and its place
   choice_begins : List Tag → Bool → List Tag → Bool → ℕ → Record
   -- the end of a list, bag, sequence, set, group or choice
   ends : Record
@@ -102,7 +103,8 @@ question (choice_begins roots e adds added i) = asks_choice roots e adds
 question ends = asks_end
 question mismatch = asks_mismatch
 
--- What a decoder is told by a record: all of it, but not how many members a list or bag has, which may be known at its end alone.
+-- What a decoder is told by a record: all of it, but not how many members a list or bag has, which may be known at
+-- its end alone.
 abbrev pub told : Record → Record
 told (list_begins z h n) = list_begins z h 0
 told (bag_begins z h n) = bag_begins z h 0

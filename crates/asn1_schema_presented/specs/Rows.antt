@@ -2,7 +2,8 @@
 use Rattle.std.specs.Prelude.{◌≡◌, ℕ, pos, true, false, [], ◌∷◌, Some, None}
 use Rattle.asn1_model.specs.Value.{nothing, members, bag, fields, chosen, member, no_more, end, absent, present}
 use Rattle.asn1_model.specs.Schema.{Schema, boolean, null, set, choice, no_component, no_alternative}
-use Rattle.asn1_model.specs.Types.{from_to, any_number, any_count, any_size, sizes, context, needs, may_have, closed, or_tagged, one_of, yes, no, num, roots}
+use Rattle.asn1_model.specs.Types.{from_to, any_number, any_count, any_size, sizes, context, needs, may_have, closed}
+use Rattle.asn1_model.specs.Types.{or_tagged, one_of, yes, no, num, roots}
 use Rattle.asn1_model.specs.Types.{octet_number, defaulted, one_or_two, bag_of, new_type, grouped}
 use Rattle.asn1_schema_presented.specs.Records as call
 use Rattle.asn1_schema_presented.specs.Presents.{presents}
@@ -25,28 +26,47 @@ added_null = choice (or_tagged 0 boolean no_alternative) true (or_tagged 1 null 
 -- components: there, left out, required and missing, and at a default that is spelled out
 abbrev pub ComponentRows : Type 0
 ComponentRows =
-    (presents setting (roots (present yes (present (num 7) (present nothing end)))) ≡ call.sequence_begins false 1 ∷ call.flag true ∷ call.mark true ∷ octet 7 ∷ call.nil ∷ call.ends ∷ [])
-    × (presents setting (roots (present no (absent (present nothing end)))) ≡ call.sequence_begins false 1 ∷ call.flag false ∷ call.mark false ∷ call.nil ∷ call.ends ∷ [])
-    × (presents setting (roots (absent (absent (present nothing end)))) ≡ call.sequence_begins false 1 ∷ call.mismatch ∷ call.mark false ∷ call.nil ∷ call.ends ∷ [])
+    (presents setting (roots (present yes (present (num 7) (present nothing end)))) ≡ call.sequence_begins false 1
+    ∷ call.flag true ∷ call.mark true ∷ octet 7 ∷ call.nil ∷ call.ends ∷ [])
+    × (presents setting (roots (present no (absent (present nothing end)))) ≡ call.sequence_begins false 1
+    ∷ call.flag false ∷ call.mark false ∷ call.nil ∷ call.ends ∷ [])
+    × (presents setting (roots (absent (absent (present nothing end)))) ≡ call.sequence_begins false 1 ∷ call.mismatch
+    ∷ call.mark false ∷ call.nil ∷ call.ends ∷ [])
     × (presents setting (roots (present yes end)) ≡ call.sequence_begins false 1 ∷ call.flag true ∷ call.mismatch ∷ [])
-    × (presents defaulted (roots (present (num 0) (absent end))) ≡ call.sequence_begins false 2 ∷ call.mark true ∷ unbounded 0 ∷ call.is_default ∷ call.mark false ∷ call.ends ∷ [])
-    × (presents defaulted (roots (present (num 3) (absent end))) ≡ call.sequence_begins false 2 ∷ call.mark true ∷ unbounded 3 ∷ call.mark false ∷ call.ends ∷ [])
-    × (presents (set (needs 0 boolean (may_have 1 null no_component)) false no_component) (roots (present yes (absent end))) ≡ call.set_begins false 1 ∷ call.flag true ∷ call.mark false ∷ call.ends ∷ [])
+    × (presents defaulted (roots (present (num 0) (absent end))) ≡ call.sequence_begins false 2 ∷ call.mark true
+    ∷ unbounded 0 ∷ call.is_default ∷ call.mark false ∷ call.ends ∷ [])
+    × (presents defaulted (roots (present (num 3) (absent end))) ≡ call.sequence_begins false 2 ∷ call.mark true
+    ∷ unbounded 3 ∷ call.mark false ∷ call.ends ∷ [])
+    × (presents (set (needs 0 boolean (may_have 1 null no_component)) false no_component)
+    (roots (present yes (absent end))) ≡ call.set_begins false 1 ∷ call.flag true ∷ call.mark false ∷ call.ends
+    ∷ [])
 
 -- lists, bags and choices
 abbrev pub MemberRows : Type 0
 MemberRows =
-    (presents one_or_two (members (member yes (member no no_more))) ≡ call.list_begins (sizes 1 2) any_count 2 ∷ call.further true ∷ call.flag true ∷ call.further true ∷ call.flag false ∷ call.further false ∷ call.ends ∷ [])
-    × (presents (bag_of null) (bag (member nothing no_more)) ≡ call.bag_begins any_size any_count 1 ∷ call.further true ∷ call.nil ∷ call.further false ∷ call.ends ∷ [])
-    × (presents (one_of (or_tagged 0 boolean (or_tagged 1 null no_alternative))) (chosen false 1 nothing) ≡ call.choice_begins (context 0 ∷ context 1 ∷ []) false [] false 1 ∷ call.nil ∷ call.ends ∷ [])
-    × (presents added_null (chosen true 0 nothing) ≡ call.choice_begins (context 0 ∷ []) true (context 1 ∷ []) true 0 ∷ call.nil ∷ call.ends ∷ [])
-    × (presents added_null (chosen false 1 nothing) ≡ call.choice_begins (context 0 ∷ []) true (context 1 ∷ []) false 1 ∷ call.mismatch ∷ [])
+    (presents one_or_two (members (member yes (member no no_more))) ≡ call.list_begins (sizes 1 2) any_count 2
+    ∷ call.further true ∷ call.flag true ∷ call.further true ∷ call.flag false ∷ call.further false ∷ call.ends
+    ∷ [])
+    × (presents (bag_of null) (bag (member nothing no_more)) ≡ call.bag_begins any_size any_count 1
+    ∷ call.further true ∷ call.nil ∷ call.further false ∷ call.ends ∷ [])
+    × (presents (one_of (or_tagged 0 boolean (or_tagged 1 null no_alternative))) (chosen false 1 nothing)
+    ≡ call.choice_begins (context 0 ∷ context 1 ∷ []) false [] false 1 ∷ call.nil ∷ call.ends ∷ [])
+    × (presents added_null (chosen true 0 nothing) ≡ call.choice_begins (context 0 ∷ []) true (context 1 ∷ []) true 0
+    ∷ call.nil ∷ call.ends ∷ [])
+    × (presents added_null (chosen false 1 nothing) ≡ call.choice_begins (context 0 ∷ []) true (context 1 ∷ []) false
+    1 ∷ call.mismatch ∷ [])
     × (presents boolean (num 1) ≡ call.mismatch ∷ [])
 
 -- additions and groups
 abbrev pub AdditionRows : Type 0
 AdditionRows =
-    (presents new_type (fields (present yes end) (present (num 7) end)) ≡ call.sequence_begins true 0 ∷ call.flag true ∷ call.additions_begin 1 ∷ call.addition true ∷ octet 7 ∷ call.addition_ends ∷ call.ends ∷ [])
-    × (presents new_type (fields (present yes end) (absent end)) ≡ call.sequence_begins true 0 ∷ call.flag true ∷ call.additions_begin 1 ∷ call.addition false ∷ call.ends ∷ [])
-    × (presents grouped (fields (present yes end) (present (roots (present (num 7) end)) end)) ≡ call.sequence_begins true 0 ∷ call.flag true ∷ call.additions_begin 1 ∷ call.addition true ∷ call.group_begins 1 ∷ call.mark true ∷ octet 7 ∷ call.ends ∷ call.addition_ends ∷ call.ends ∷ [])
-    × (presents grouped (fields (present yes end) (present (roots (absent end)) end)) ≡ call.sequence_begins true 0 ∷ call.flag true ∷ call.additions_begin 1 ∷ call.addition true ∷ call.group_begins 1 ∷ call.mark false ∷ call.ends ∷ call.addition_ends ∷ call.is_empty ∷ call.ends ∷ [])
+    (presents new_type (fields (present yes end) (present (num 7) end)) ≡ call.sequence_begins true 0 ∷ call.flag true
+    ∷ call.additions_begin 1 ∷ call.addition true ∷ octet 7 ∷ call.addition_ends ∷ call.ends ∷ [])
+    × (presents new_type (fields (present yes end) (absent end)) ≡ call.sequence_begins true 0 ∷ call.flag true
+    ∷ call.additions_begin 1 ∷ call.addition false ∷ call.ends ∷ [])
+    × (presents grouped (fields (present yes end) (present (roots (present (num 7) end)) end))
+    ≡ call.sequence_begins true 0 ∷ call.flag true ∷ call.additions_begin 1 ∷ call.addition true
+    ∷ call.group_begins 1 ∷ call.mark true ∷ octet 7 ∷ call.ends ∷ call.addition_ends ∷ call.ends ∷ [])
+    × (presents grouped (fields (present yes end) (present (roots (absent end)) end)) ≡ call.sequence_begins true 0
+    ∷ call.flag true ∷ call.additions_begin 1 ∷ call.addition true ∷ call.group_begins 1 ∷ call.mark false
+    ∷ call.ends ∷ call.addition_ends ∷ call.is_empty ∷ call.ends ∷ [])

@@ -1,7 +1,8 @@
 -- A type's schema, unfolded to any number of nested levels, is made of these.
 use Rattle.std.specs.Prelude.{◌≡◌, ◌≤◌, ℕ, zero, suc, Bool, true, false, cond, not, ◌&&◌, List, [], ◌++◌}
 use Rattle.asn1_model.specs.Value.{Value, depth}
-use Rattle.asn1_model.specs.Schema.{Tag, Size, Counts, Presence, Schema, cut, sequence_of, sequence, Components, no_component, component}
+use Rattle.asn1_model.specs.Schema.{Tag, Size, Counts, Presence, Schema, cut, sequence_of, sequence, Components}
+use Rattle.asn1_model.specs.Schema.{no_component, component}
 use Rattle.asn1_model.specs.Normal.{normal, is_tidy}
 use Rattle.asn1_model.specs.Lawful.{is_lawful, is_group, is_empty, is_tag}
 use Rattle.asn1_model.specs.Strings.{each_is}
@@ -35,7 +36,12 @@ no_table = record { root = no_field; extensible = false; additions = no_field }
 
 -- A table with one component more, in front.
 abbrev pub with_field : List Tag → Presence → (ℕ → Schema) → Table → Table
-with_field t o s table = record { root = field t o s table.root; extensible = table.extensible; additions = table.additions }
+with_field t o s table = record {
+  root = field t o s table.root;
+  extensible = table.extensible;
+  additions =
+      table.additions;
+}
 
 -- How many components may be absent.
 abbrev pub marks : Fields → ℕ
@@ -59,14 +65,16 @@ list_type z h s n = scope n (λ m. sequence_of z h (s m))
 abbrev pub are_tags : List Tag → Bool
 are_tags ts = not (is_empty ts) && each_is is_tag ts
 
--- A type has a tag, and what it is for each number of levels is lawful, with defaults in normal form, and no group of additions.
+-- A type has a tag, and what it is for each number of levels is lawful, with defaults in normal form, and no group of
+-- additions.
 pub record IsType (tags : List Tag) (schema : ℕ → Schema) : Type 0 where
   pub tagged : are_tags tags ≡ true
   pub lawful : (n : ℕ) → is_lawful (schema n) ≡ true
   pub tidy : (n : ℕ) → is_tidy (schema n) ≡ true
   pub no_group : (n : ℕ) → is_group (schema n) ≡ false
 
--- A value is one of the type: it has its form wherever that is unfolded as deep as the value nests, and it is in its normal form.
+-- A value is one of the type: it has its form wherever that is unfolded as deep as the value nests, and it is in its
+-- normal form.
 pub record IsValue (schema : ℕ → Schema) (v : Value) : Type 0 where
   pub fits : (n : ℕ) → depth v ≤ n → Fits (schema n) v
   pub normal : (n : ℕ) → normal (schema n) v ≡ v

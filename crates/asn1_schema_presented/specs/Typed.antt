@@ -9,7 +9,8 @@ use Rattle.asn1_model.specs.Typed.{is_of}
 use Rattle.asn1_schema_presented.specs.Tables.{Fields, no_field, field, Table, components_at, IsValue}
 use Rattle.asn1_schema_presented.specs.Parts.{normal_part}
 
--- The types of the components are lawful, their defaults in normal form; groups stand among the additions alone, and additions behind a mark.
+-- The types of the components are lawful, their defaults in normal form; groups stand among the additions alone, and
+-- additions behind a mark.
 pub record AreTypes (t : Table) : Type 0 where
   pub lawful : (n : ℕ) → are_lawful (components_at n t.root) ≡ true
   pub tidy : (n : ℕ) → are_tidy (components_at n t.root) ≡ true
@@ -23,8 +24,8 @@ pub record AreTypes (t : Table) : Type 0 where
 abbrev pub HasDefault : Presence → (ℕ → Schema) → Type 0
 HasDefault o schema = (n : ℕ) → (has_typed_default (schema n) o && has_normal_default (schema n) o) ≡ true
 
--- A value may stand as a default: it is one of the type, also by the constraints, and nothing at its own default is spelled out in it
--- (X.680 25).
+-- A value may stand as a default: it is one of the type, also by the constraints, and nothing at its own default is
+-- spelled out in it (X.680 25).
 pub record IsDefault (schema : ℕ → Schema) (d : Value) : Type 0 where
   pub is_value : IsValue schema d
   pub typed : (n : ℕ) → is_of (schema n) d ≡ true

@@ -1,7 +1,8 @@
 //! What stands behind a mark of extensibility, and groups of additions (X.680 25): the laws by which types and values
 //! of additions are put together.
 
-ghost use Rattle.asn1_schema_presented.specs.AdditionLaws.{AdditionsAreTyped, AdditionsAreValued, GroupsAreTyped, GroupsAreValued};
+ghost use Rattle.asn1_schema_presented.specs.AdditionLaws.{AdditionsAreTyped, AdditionsAreValued, GroupsAreTyped};
+ghost use Rattle.asn1_schema_presented.specs.AdditionLaws.{GroupsAreValued};
 
 /// Additions whose types may stand there make a table with a mark.
 pub fn additions_are_typed()
@@ -13,8 +14,8 @@ pub fn additions_are_valued()
     ensures { AdditionsAreValued }
 {}
 
-/// The components of a lawful sequence without a mark, one or more, whose defaults are in normal form, make a group that may stand among
-/// additions.
+/// The components of a lawful sequence without a mark, one or more, whose defaults are in normal form, make a group
+/// that may stand among additions.
 pub fn groups_are_typed()
     ensures { GroupsAreTyped }
 {}

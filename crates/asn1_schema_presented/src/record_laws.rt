@@ -25,11 +25,13 @@ pub trait States {
     /// The state before a record, the record, and the state behind it.
     ghost step: { Self → Record → Self → Type 0 };
 
-    /// Of the records that answer a question one at most is next, as far as the decoder is told, and one state stands behind it.
+    /// Of the records that answer a question one at most is next, as far as the decoder is told, and one state stands
+    /// behind it.
     ghost one_record: { OneRecord step };
 }
 
-/// From one state of such a decoder the records of one value of a type at most are next, and one state stands behind them.
+/// From one state of such a decoder the records of one value of a type at most are next, and one state stands behind
+/// them.
 pub fn one_value<S: States>()
     ensures { OneValue S.step }
 {}

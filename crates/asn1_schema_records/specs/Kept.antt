@@ -1,17 +1,25 @@
--- What the plain codec keeps: the records themselves, without what the program's types hold, of character strings without their kind and
--- alphabet, but for whether it is UTF8String, and of enumerations and choices without the tables of their items and alternatives.
+-- What the plain codec keeps: the records themselves, without what the program's types hold, of character strings
+-- without their kind and alphabet, but for whether it is UTF8String, and of enumerations and choices without the
+-- tables of their items and alternatives.
 use Rattle.std.specs.Prelude.{◌≡◌, ◌++◌, Bool, true, false, List, [], ◌∷◌, None, string_bytes}
 use Rattle.asn1_model.specs.Schema.{Range, Bounds, Counts, Size, Alphabet, StringKind, utf8, visible}
 use Rattle.asn1_schema_faults.specs.declared.CodecKind.{CodecKind}
 use Rattle.asn1_schema_faults.specs.declared.EncodeError.{EncodeError}
 use Rattle.asn1_schema_faults.specs.declared.EncodeError.TheVariants.{OutOfMemory}
-use Rattle.asn1_schema_presented.specs.Records.{Record, flag, nil, whole, one_of, bits, octets, characters, identifier, list_begins, bag_begins, further, sequence_begins, set_begins}
-use Rattle.asn1_schema_presented.specs.Records.{group_begins, mark, is_default, is_empty, additions_begin, addition, addition_ends, choice_begins, ends}
+use Rattle.asn1_schema_presented.specs.Records.{Record, flag, nil, whole, one_of, bits, octets, characters}
+use Rattle.asn1_schema_presented.specs.Records.{identifier, list_begins, bag_begins, further, sequence_begins}
+use Rattle.asn1_schema_presented.specs.Records.{set_begins}
+use Rattle.asn1_schema_presented.specs.Records.{group_begins, mark, is_default, is_empty, additions_begin, addition}
+use Rattle.asn1_schema_presented.specs.Records.{addition_ends, choice_begins, ends}
 use Rattle.asn1_schema_records.specs.declared.items.Limits.{Limits}
 use Rattle.asn1_schema_records.specs.declared.items.Sizes.{Sizes}
 use Rattle.asn1_schema_records.specs.declared.items.Item.{Item}
-use Rattle.asn1_schema_records.specs.declared.items.Item.TheVariants.{Flag, Null, Integer, OneOf, Bits, Octets, Text, Characters, Identifier, ListBegins, BagBegins, Further, SequenceBegins, SetBegins}
-use Rattle.asn1_schema_records.specs.declared.items.Item.TheVariants.{GroupBegins, Mark, IsDefault, IsEmpty, AdditionsBegin, Addition, AdditionEnds, ChoiceBegins, Ends}
+use Rattle.asn1_schema_records.specs.declared.items.Item.TheVariants.{Flag, Null, Integer, OneOf, Bits, Octets, Text}
+use Rattle.asn1_schema_records.specs.declared.items.Item.TheVariants.{Characters, Identifier, ListBegins, BagBegins}
+use Rattle.asn1_schema_records.specs.declared.items.Item.TheVariants.{Further, SequenceBegins, SetBegins}
+use Rattle.asn1_schema_records.specs.declared.items.Item.TheVariants.{GroupBegins, Mark, IsDefault, IsEmpty}
+use Rattle.asn1_schema_records.specs.declared.items.Item.TheVariants.{AdditionsBegin, Addition, AdditionEnds}
+use Rattle.asn1_schema_records.specs.declared.items.Item.TheVariants.{ChoiceBegins, Ends}
 
 -- Bounds, as the model has them.
 abbrev pub bounds_in : Limits → Bounds
@@ -81,7 +89,8 @@ pub record Written : Type 0 where
 
 -- A record is kept behind the others.
 abbrev pub Puts : Written → Record → Written → Type 0
-Puts old r new = (old.failed ≡ false) × (new ≡ record { records = old.records ++ kept r ∷ []; failed = false; rules = old.rules })
+Puts old r new = (old.failed ≡ false)
+    × (new ≡ record { records = old.records ++ kept r ∷ []; failed = false; rules = old.rules })
 
 -- Why the encoder refuses: for want of memory, or because it has failed.
 pub record Refusal (failed : Bool) (x : EncodeError) : Type 0 where

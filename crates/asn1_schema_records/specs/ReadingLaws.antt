@@ -3,7 +3,10 @@ use Rattle.std.proofs.Common.{◌≡◌, ℕ, Bool, true, false, List, ◌∷◌
 use Rattle.asn1_model.specs.Schema.{Size, Counts}
 use Rattle.asn1_model.specs.Numbers.{is_count_within}
 use Rattle.asn1_schema_faults.specs.declared.CodecKind.{CodecKind}
-use Rattle.asn1_schema_presented.specs.Records.{Record, Question, question, told, whole, one_of, bits, octets, characters, list_begins, bag_begins, choice_begins, asks_list, asks_bag, asks_sequence, asks_set, asks_group, asks_choice, asks_end, asks_whole, asks_one_of, asks_bits, asks_octets, asks_characters}
+use Rattle.asn1_schema_presented.specs.Records.{Record, Question, question, told, whole, one_of, bits, octets}
+use Rattle.asn1_schema_presented.specs.Records.{characters, list_begins, bag_begins, choice_begins, asks_list}
+use Rattle.asn1_schema_presented.specs.Records.{asks_bag, asks_sequence, asks_set, asks_group, asks_choice, asks_end}
+use Rattle.asn1_schema_presented.specs.Records.{asks_whole, asks_one_of, asks_bits, asks_octets, asks_characters}
 use Rattle.asn1_schema_records.specs.Taken.{Left, Takes, Levels, IsKept}
 
 -- what a decoder is told, by what it asks for and what is kept
@@ -40,28 +43,65 @@ levels_one (asks_choice r e x) m a b p q = omega arith
 levels_one asks_end m a b p q = p.0 ∙ sym q.0
 levels_one x m a b p q = p ∙ sym q
 
-left_is : {b c : Left} → b.records ≡ c.records → b.levels ≡ c.levels → b.most ≡ c.most → b.failed ≡ c.failed → b.rules ≡ c.rules → b ≡ c
+left_is : {b c : Left} → b.records ≡ c.records → b.levels ≡ c.levels → b.most ≡ c.most → b.failed ≡ c.failed → b.rules
+    ≡ c.rules → b ≡ c
 left_is {b} {c} v w x y z =
-    ap (λ (t : List Record). let l : Left = record { records = t; levels = b.levels; most = b.most; failed = b.failed; rules = b.rules } in l) v
-    ∙ (ap (λ (t : ℕ). let l : Left = record { records = c.records; levels = t; most = b.most; failed = b.failed; rules = b.rules } in l) w
-    ∙ (ap (λ (t : ℕ). let l : Left = record { records = c.records; levels = c.levels; most = t; failed = b.failed; rules = b.rules } in l) x
-    ∙ (ap (λ (t : Bool). let l : Left = record { records = c.records; levels = c.levels; most = c.most; failed = t; rules = b.rules } in l) y
-    ∙ ap (λ (t : CodecKind). let l : Left = record { records = c.records; levels = c.levels; most = c.most; failed = c.failed; rules = t } in l) z)))
+    ap (λ (t : List Record). let l : Left = record {
+      records = t;
+      levels = b.levels;
+      most = b.most;
+      failed = b.failed;
+      rules = b.rules;
+    } in l) v
+    ∙ (ap (λ (t : ℕ). let l : Left = record {
+      records = c.records;
+      levels = t;
+      most = b.most;
+      failed = b.failed;
+      rules = b.rules;
+    } in l) w
+    ∙ (ap (λ (t : ℕ). let l : Left = record {
+      records = c.records;
+      levels = c.levels;
+      most = t;
+      failed = b.failed;
+      rules = b.rules;
+    } in l) x
+    ∙ (ap (λ (t : Bool). let l : Left = record {
+      records = c.records;
+      levels = c.levels;
+      most = c.most;
+      failed = t;
+      rules = b.rules;
+    } in l) y
+    ∙ ap (λ (t : CodecKind). let l : Left = record {
+      records = c.records;
+      levels = c.levels;
+      most = c.most;
+      failed =
+          c.failed;
+      rules = t;
+    } in l) z)))
 
-pub takes_one : (a : Left) (r s : Record) (b c : Left) → question r ≡ question s → Takes a r b → Takes a s c → (told r ≡ told s) × (b ≡ c)
+pub takes_one : (a : Left) (r s : Record) (b c : Left) → question r ≡ question s → Takes a r b → Takes a s c
+    → (told r ≡ told s) × (b ≡ c)
 takes_one a r s b c k p q =
     let e : p.front ∷ b.records ≡ q.front ∷ c.records = sym p.taken ∙ q.taken in
     let x : p.front ≡ q.front = cc e in
     let y : b.records ≡ c.records = cc e in
-    let z : b.levels ≡ c.levels = levels_one (question r) a b c p.levels (subst (λ (t : Question). Levels t a c) (sym k) q.levels) in (
-      told_is p.front r p.is_kept ∙ (ap (λ (t : Question). rebuilt t p.front) k ∙ (ap (λ (t : Record). rebuilt (question s) t) x ∙ sym (told_is q.front s q.is_kept))),
+    let z : b.levels ≡ c.levels = levels_one (question r) a b c p.levels
+    (subst (λ (t : Question). Levels t a c) (sym k) q.levels) in (
+      told_is p.front r p.is_kept ∙ (ap (λ (t : Question). rebuilt t p.front) k
+          ∙ (ap (λ (t : Record). rebuilt (question s) t) x ∙ sym (told_is q.front s q.is_kept))),
       left_is y z (p.most ∙ sym q.most) (p.ready_still ∙ sym q.ready_still) (p.rules ∙ sym q.rules),
     )
 
-pub takes_held : (a : Left) (z : Size) (h : Counts) (n : ℕ) (b : Left) → Takes a (list_begins z h n) b → is_count_within h n ≡ true
+pub takes_held : (a : Left) (z : Size) (h : Counts) (n : ℕ) (b : Left) → Takes a (list_begins z h n) b
+    → is_count_within h n ≡ true
 takes_held a z h n b p = let k = p.is_kept in k.3
 
-pub takes_bag_held : (a : Left) (z : Size) (h : Counts) (n : ℕ) (b : Left) → Takes a (bag_begins z h n) b → is_count_within h n ≡ true
+pub takes_bag_held : (a : Left) (z : Size) (h : Counts) (n : ℕ) (b : Left) → Takes a (bag_begins z h n) b
+    → is_count_within h n ≡ true
 takes_bag_held a z h n b p = let k = p.is_kept in k.3
 
 pub takes_same : (a : Left) (r : Record) (b : Left) → Takes a r b → b.rules ≡ a.rules

@@ -1,11 +1,19 @@
 -- How the decoder of kept records takes them: each exactly where it is next and the program's type holds it.
-use Rattle.std.specs.Prelude.{◌≡◌, ◌+◌, ◌<◌, ◌≤◌, ◌^◌, ◌⊎◌, ◌-◌, ◌&&◌, ◌||◌, ℕ, ℤ, pos, negsuc, Bool, true, false, cond, List, [], ◌∷◌, Option, Some, None, length}
+use Rattle.std.specs.Prelude.{◌≡◌, ◌+◌, ◌<◌, ◌≤◌, ◌^◌, ◌⊎◌, ◌-◌, ◌&&◌, ◌||◌, ℕ, ℤ, pos, negsuc, Bool, true, false}
+use Rattle.std.specs.Prelude.{cond, List, [], ◌∷◌, Option, Some, None, length}
 use Rattle.asn1_model.specs.Schema.{Tag, Range, Bounds, Counts, Size, StringKind, utf8, visible}
 use Rattle.asn1_model.specs.Numbers.{is_within, is_count_within}
 use Rattle.asn1_model.specs.Strings.{may_hold}
 use Rattle.asn1_schema_faults.specs.declared.CodecKind.{CodecKind}
 use Rattle.asn1_schema_faults.specs.declared.DecodeError.{DecodeError}
-use Rattle.asn1_schema_faults.specs.declared.DecodeError.TheVariants.{Incomplete, NotValidCanonicalEncoding, SizeConstraintNotSatisfied, ExceedsMaxParseDepth, IntegerOverflow, PermittedAlphabet, ValueConstraintNotSatisfied, DiscriminantValueNotFound, InvalidTagVariantOnChoice, OutOfMemory as NoRoom, AlreadyFailed as HadFailed}
+use Rattle.asn1_schema_faults.specs.declared.DecodeError.TheVariants.{Incomplete, NotValidCanonicalEncoding}
+use Rattle.asn1_schema_faults.specs.declared.DecodeError.TheVariants.{SizeConstraintNotSatisfied}
+use Rattle.asn1_schema_faults.specs.declared.DecodeError.TheVariants.{ExceedsMaxParseDepth, IntegerOverflow}
+use Rattle.asn1_schema_faults.specs.declared.DecodeError.TheVariants.{PermittedAlphabet, ValueConstraintNotSatisfied}
+use Rattle.asn1_schema_faults.specs.declared.DecodeError.TheVariants.{DiscriminantValueNotFound}
+use Rattle.asn1_schema_faults.specs.declared.DecodeError.TheVariants.{InvalidTagVariantOnChoice}
+use Rattle.asn1_schema_faults.specs.declared.DecodeError.TheVariants.{OutOfMemory as NoRoom}
+use Rattle.asn1_schema_faults.specs.declared.DecodeError.TheVariants.{AlreadyFailed as HadFailed}
 use Rattle.asn1_schema_constraints.specs.Bounds.{range_of}
 use Rattle.asn1_schema_constraints.specs.Sets.{has_additions}
 use Rattle.asn1_schema_constraints.specs.Terms.{bounds_of}
@@ -13,12 +21,14 @@ use Rattle.asn1_schema_constraints.specs.declared.extensions.Extensible.{Extensi
 use Rattle.asn1_schema_constraints.specs.declared.parts.Value.{Value}
 use Rattle.asn1_values_alphabets.specs.Permitted.{permits_all}
 use Rattle.asn1_values_natives.specs.Octets.{plain}
-use Rattle.asn1_schema_presented.specs.Records.{Record, Question, question, whole, one_of, bits, octets, characters, list_begins, bag_begins, choice_begins, asks_list, asks_bag, asks_sequence, asks_set, asks_group, asks_choice, asks_end, ends}
+use Rattle.asn1_schema_presented.specs.Records.{Record, Question, question, whole, one_of, bits, octets, characters}
+use Rattle.asn1_schema_presented.specs.Records.{list_begins, bag_begins, choice_begins, asks_list, asks_bag}
+use Rattle.asn1_schema_presented.specs.Records.{asks_sequence, asks_set, asks_group, asks_choice, asks_end, ends}
 use Rattle.asn1_schema_records.specs.Kept.{any_number, any_count, any_alphabet, kept_kind}
 use Rattle.asn1_schema_variants.specs.Items.{IsPlaced, IsNone}
 
--- What a decoder holds: the records that are left, how many more levels may be nested, how many were so at the beginning, whether it has
--- failed, and its rules.
+-- What a decoder holds: the records that are left, how many more levels may be nested, how many were so at the
+-- beginning, whether it has failed, and its rules.
 pub record Left : Type 0 where
   pub records : List Record
   pub levels : ℕ
@@ -35,18 +45,22 @@ MayHold k cs = may_hold k cs ≡ true
 abbrev pub IsListed : List ℤ → Bool → List ℤ → ℤ → Type 0
 IsListed roots e adds v = (added : Bool) × (i : ℕ) × IsPlaced roots e adds v added i
 
--- What is kept is this record: the type says the same there, the program's type holds what is found, and bounds without a mark admit it. An
--- enumeration has the item of the number, and a choice an alternative at the place.
--- Of a list or bag a decoder is told no count, so any that the type holds will do, if it holds that which is kept.
+-- What is kept is this record: the type says the same there, the program's type holds what is found, and bounds
+-- without a mark admit it. An enumeration has the item of the number, and a choice an alternative at the place. Of a
+-- list or bag a decoder is told no count, so any that the type holds will do, if it holds that which is kept.
 abbrev pub IsKept : Record → Record → Type 0
-IsKept k (whole b h v) = (k ≡ whole b any_number v) × (is_within h v ≡ true) × ((b.extensible || is_within b.range v) ≡ true)
+IsKept k (whole b h v) = (k ≡ whole b any_number v) × (is_within h v ≡ true)
+    × ((b.extensible || is_within b.range v) ≡ true)
 IsKept k (one_of roots e adds v) = (k ≡ one_of [] e [] v) × IsListed roots e adds v
 IsKept k (bits z h bs) = (k ≡ bits z any_count bs) × (is_count_within h (length bs) ≡ true)
 IsKept k (octets z h os) = (k ≡ octets z any_count os) × (is_count_within h (length os) ≡ true)
 IsKept k (characters t z a h cs) = (k ≡ characters (kept_kind t) z any_alphabet any_count cs) × MayHold t cs
-IsKept k (list_begins z h n) = (m : ℕ) × (k ≡ list_begins z any_count m) × (is_count_within h m ≡ true) × (is_count_within h n ≡ true)
-IsKept k (bag_begins z h n) = (m : ℕ) × (k ≡ bag_begins z any_count m) × (is_count_within h m ≡ true) × (is_count_within h n ≡ true)
-IsKept k (choice_begins roots e adds added i) = (k ≡ choice_begins [] e [] added i) × (i < length (cond added adds roots))
+IsKept k (list_begins z h n) = (m : ℕ) × (k ≡ list_begins z any_count m) × (is_count_within h m ≡ true)
+    × (is_count_within h n ≡ true)
+IsKept k (bag_begins z h n) = (m : ℕ) × (k ≡ bag_begins z any_count m) × (is_count_within h m ≡ true)
+    × (is_count_within h n ≡ true)
+IsKept k (choice_begins roots e adds added i) = (k ≡ choice_begins [] e [] added i)
+    × (i < length (cond added adds roots))
 IsKept k r = k ≡ r
 
 -- What the question does to the levels: what begins takes one, and its end gives that back.
@@ -91,7 +105,14 @@ pub record Begins (old : Left) (k : Record) (new : Left) : Type 0 where
 
 -- It has failed, and nothing else changes.
 abbrev pub Fails : Left → Left → Type 0
-Fails old new = new ≡ record { records = old.records; levels = old.levels; most = old.most; failed = true; rules = old.rules }
+Fails old new = new ≡ record {
+  records = old.records;
+  levels = old.levels;
+  most = old.most;
+  failed = true;
+  rules =
+      old.rules;
+}
 
 -- Why nothing can leave: the decoder has failed, or nothing is left.
 abbrev pub IsSpent : Left → DecodeError → Type 0
@@ -99,7 +120,9 @@ IsSpent old e = ((e ≡ HadFailed) × (old.failed ≡ true)) ⊎ ((e ≡ Incompl
 
 -- Or no level is left.
 abbrev pub IsDeep : Left → DecodeError → Type 0
-IsDeep old e = ((e ≡ HadFailed) × (old.failed ≡ true)) ⊎ ((e ≡ ExceedsMaxParseDepth) × (old.failed ≡ false) × (old.levels ≡ 0)) ⊎ ((e ≡ Incomplete) × (old.failed ≡ false) × (0 < old.levels) × (old.records ≡ []))
+IsDeep old e = ((e ≡ HadFailed) × (old.failed ≡ true))
+    ⊎ ((e ≡ ExceedsMaxParseDepth) × (old.failed ≡ false) × (old.levels ≡ 0))
+    ⊎ ((e ≡ Incomplete) × (old.failed ≡ false) × (0 < old.levels) × (old.records ≡ []))
 
 -- Something is next, and it is refused with an error that it calls for.
 pub record IsUnfit (old : Left) (why : Record → DecodeError → Type 0) (e : DecodeError) : Type 0 where
@@ -149,7 +172,8 @@ abbrev pub IsOtherEnd : Left → Record → DecodeError → Type 0
 IsOtherEnd old k e = (e ≡ NotValidCanonicalEncoding) × (k ≡ ends → old.most ≤ old.levels)
 
 -- It is of this form, but under another size, or of a length that the program's type does not hold.
-pub record IsOtherSize {T : Type 0} (form : Size → T → Record) (count : T → ℕ) (z : Size) (h : Counts) (k : Record) : Type 0 where
+pub record IsOtherSize {T : Type 0} (form : Size → T → Record) (count : T → ℕ) (z : Size) (h : Counts) (k : Record) :
+    Type 0 where
   pub size : Size
   pub found : T
   pub is_kept : k ≡ form size found
@@ -170,8 +194,8 @@ abbrev pub is_admitted : Option (Extensible Value) → ℤ → Bool
 is_admitted None v = true
 is_admitted (Some c) v = is_within wide_range v && (has_additions c || is_within (range_of c.constraint.value) v)
 
--- Why a number of the program's type is not made: a value constraint does not admit it; the type does not hold it; or it takes memory that
--- is wanting, which it does past 128 bits alone.
+-- Why a number of the program's type is not made: a value constraint does not admit it; the type does not hold it; or
+-- it takes memory that is wanting, which it does past 128 bits alone.
 abbrev pub IsUntaken : Option (Extensible Value) → Range → ℤ → DecodeError → Type 0
 IsUntaken c held v ValueConstraintNotSatisfied = is_admitted c v ≡ false
 IsUntaken c held v IntegerOverflow = (is_admitted c v ≡ true) × (is_within held v ≡ false)
@@ -213,7 +237,8 @@ pub record IsOtherText (t : StringKind) (z : Size) (k : Record) (e : DecodeError
 abbrev pub IsMisfitText : StringKind → Size → Record → DecodeError → Type 0
 IsMisfitText t z k e =
     ((e ≡ NotValidCanonicalEncoding) × ((y : Size) (cs : List ℕ) → k ≡ kept_characters y cs → ⊥))
-    ⊎ (((e ≡ SizeConstraintNotSatisfied) × IsOtherSize kept_characters (λ (cs : List ℕ). length cs) z any_count k) ⊎ IsOtherText t z k e)
+    ⊎ (((e ≡ SizeConstraintNotSatisfied) × IsOtherSize kept_characters (λ (cs : List ℕ). length cs) z any_count k)
+    ⊎ IsOtherText t z k e)
 
 -- The number of an item is next, but of none that the enumeration has.
 pub record IsNoItem (roots : List ℤ) (extensible : Bool) (adds : List ℤ) (k : Record) : Type 0 where

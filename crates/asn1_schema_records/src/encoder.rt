@@ -76,7 +76,13 @@ impl RecordEncoder {
 
     // Keeps one more record.
     fn put(&mut self, item: Item) -> Result<(), EncodeError>
-        ensures ok { OnOk result ((self.old.failed ≡ false) × (self.new ≡ record { records = self.old.records ++ record_of item ∷ []; failed = false; rules = self.old.rules })) }
+        ensures ok { OnOk result ((self.old.failed ≡ false)
+            × (self.new ≡ record {
+              records = self.old.records ++ record_of item
+                  ∷ [];
+              failed = false;
+              rules = self.old.rules;
+            })) }
         ensures only { IfErr result (Refusal self.old.failed) }
         ensures failed { OnErr result (self.new.failed ≡ true) }
         ensures unchanged { OnErr result ((self.new.records ≡ self.old.records) × (self.new.rules ≡ self.old.rules)) }
@@ -138,8 +144,10 @@ impl Encoder for RecordEncoder {
         value: &T,
         _identifier: Identifier,
     ) -> Result<(), EncodeError>
-        ensures ok { OnOk result (Puts self.old (one_of T.roots T.extensible T.additions (T.number value.now)) self.new) }
-        ensures only { IfErr result (Refused Puts (one_of T.roots T.extensible T.additions (T.number value.now)) self.old) }
+        ensures ok { OnOk result (Puts self.old (one_of T.roots T.extensible T.additions (T.number value.now))
+            self.new) }
+        ensures only { IfErr result (Refused Puts (one_of T.roots T.extensible T.additions (T.number value.now))
+            self.old) }
         ensures failed { OnErr result (self.new.failed ≡ true) }
         ensures already { self.old.failed ≡ true → result ≡ Err EncodeError.AlreadyFailed }
         ensures after { result ≡ Err EncodeError.AlreadyFailed → self.old.failed ≡ true }

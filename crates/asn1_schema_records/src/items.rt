@@ -2,8 +2,10 @@
 ghost use Rattle.std.specs.Prelude.{◌≡◌, ◌↔◌, ℕ, ℤ, Bool, List, [], IsTrue, MatchOption, string_bytes};
 ghost use Rattle.asn1_model.specs.Schema.{Bounds, Size, utf8, visible};
 ghost use Rattle.asn1_schema_constraints.specs.Terms.{bounds_of, sizes_of};
-ghost use Rattle.asn1_schema_presented.specs.Records.{flag, nil, whole, one_of, bits, octets, characters, identifier, list_begins, bag_begins, further, sequence_begins, set_begins};
-ghost use Rattle.asn1_schema_presented.specs.Records.{group_begins, mark, is_default, is_empty, additions_begin, addition, addition_ends, choice_begins, ends};
+ghost use Rattle.asn1_schema_presented.specs.Records.{flag, nil, whole, one_of, bits, octets, characters, identifier};
+ghost use Rattle.asn1_schema_presented.specs.Records.{list_begins, bag_begins, further, sequence_begins, set_begins};
+ghost use Rattle.asn1_schema_presented.specs.Records.{group_begins, mark, is_default, is_empty, additions_begin};
+ghost use Rattle.asn1_schema_presented.specs.Records.{addition, addition_ends, choice_begins, ends};
 ghost use Rattle.asn1_schema_records.specs.Kept.{bounds_in, sizes_in, any_number, any_count, any_alphabet, record_of};
 
 use asn1_schema_constraints::Constraints;
@@ -88,8 +90,8 @@ impl Sizes {
     }
 }
 
-/// A record, without what the program's type holds, of a character string without its kind and its alphabet, and of an enumeration or a
-/// choice without its tables.
+/// A record, without what the program's type holds, of a character string without its kind and its alphabet, and of
+/// an enumeration or a choice without its tables.
 #[derive(Debug, Drop)]
 pub enum Item {
     /// BOOLEAN.
@@ -160,7 +162,8 @@ impl Item {
 
     /// The bounds and the number of an INTEGER; `None` of any other item.
     pub fn into_integer(self) -> Option<(Limits, Integer)>
-        ensures { MatchOption result ((b : Bounds) (v : ℤ) → record_of self ≡ whole b any_number v → ⊥) (λ p. record_of self ≡ whole (bounds_in p.0) any_number p.1) }
+        ensures { MatchOption result ((b : Bounds) (v : ℤ) → record_of self ≡ whole b any_number v → ⊥)
+            (λ p. record_of self ≡ whole (bounds_in p.0) any_number p.1) }
     {
         match self {
             Item::Integer(limits, number) => Some((limits, number)),
@@ -170,7 +173,8 @@ impl Item {
 
     /// The number of an item of an ENUMERATED with or without a mark; `None` of any other item.
     pub fn into_one_of(self, extensible: bool) -> Option<isize>
-        ensures { MatchOption result ((v : ℤ) → record_of self ≡ one_of [] extensible [] v → ⊥) (λ v. record_of self ≡ one_of [] extensible [] v) }
+        ensures { MatchOption result ((v : ℤ) → record_of self ≡ one_of [] extensible [] v → ⊥)
+            (λ v. record_of self ≡ one_of [] extensible [] v) }
     {
         match self {
             Item::OneOf(mark, number) if mark == extensible => Some(number),
@@ -180,7 +184,8 @@ impl Item {
 
     /// The size and the bits of a BIT STRING; `None` of any other item.
     pub fn into_bits(self) -> Option<(Sizes, BitString)>
-        ensures { MatchOption result ((z : Size) (bs : List Bool) → record_of self ≡ bits z any_count bs → ⊥) (λ p. record_of self ≡ bits (sizes_in p.0) any_count p.1) }
+        ensures { MatchOption result ((z : Size) (bs : List Bool) → record_of self ≡ bits z any_count bs → ⊥)
+            (λ p. record_of self ≡ bits (sizes_in p.0) any_count p.1) }
     {
         match self {
             Item::Bits(sizes, bits) => Some((sizes, bits)),
@@ -190,7 +195,8 @@ impl Item {
 
     /// The size and the octets of an OCTET STRING; `None` of any other item.
     pub fn into_octets(self) -> Option<(Sizes, Vec<u8>)>
-        ensures { MatchOption result ((z : Size) (os : List ℕ) → record_of self ≡ octets z any_count os → ⊥) (λ p. record_of self ≡ octets (sizes_in p.0) any_count p.1.items) }
+        ensures { MatchOption result ((z : Size) (os : List ℕ) → record_of self ≡ octets z any_count os → ⊥)
+            (λ p. record_of self ≡ octets (sizes_in p.0) any_count p.1.items) }
     {
         match self {
             Item::Octets(sizes, octets) => Some((sizes, octets)),
@@ -200,7 +206,9 @@ impl Item {
 
     /// The size and the text of a UTF8String; `None` of any other item.
     pub fn into_text(self) -> Option<(Sizes, String)>
-        ensures { MatchOption result ((z : Size) (os : List ℕ) → record_of self ≡ characters utf8 z any_alphabet any_count os → ⊥) (λ p. record_of self ≡ characters utf8 (sizes_in p.0) any_alphabet any_count (string_bytes p.1)) }
+        ensures { MatchOption result ((z : Size) (os : List ℕ) → record_of self
+            ≡ characters utf8 z any_alphabet any_count os → ⊥)
+            (λ p. record_of self ≡ characters utf8 (sizes_in p.0) any_alphabet any_count (string_bytes p.1)) }
     {
         match self {
             Item::Text(sizes, text) => Some((sizes, text)),
@@ -210,7 +218,9 @@ impl Item {
 
     /// The size and the characters of a character string of another kind; `None` of any other item.
     pub fn into_characters(self) -> Option<(Sizes, Vec<u32>)>
-        ensures { MatchOption result ((z : Size) (cs : List ℕ) → record_of self ≡ characters visible z any_alphabet any_count cs → ⊥) (λ p. record_of self ≡ characters visible (sizes_in p.0) any_alphabet any_count p.1.items) }
+        ensures { MatchOption result ((z : Size) (cs : List ℕ) → record_of self
+            ≡ characters visible z any_alphabet any_count cs → ⊥)
+            (λ p. record_of self ≡ characters visible (sizes_in p.0) any_alphabet any_count p.1.items) }
     {
         match self {
             Item::Characters(sizes, characters) => Some((sizes, characters)),
@@ -220,7 +230,8 @@ impl Item {
 
     /// An OBJECT IDENTIFIER; `None` of any other item.
     pub fn into_identifier(self) -> Option<ObjectIdentifier>
-        ensures { MatchOption result ((ns : List ℕ) → record_of self ≡ identifier ns → ⊥) (λ i. record_of self ≡ identifier i) }
+        ensures { MatchOption result ((ns : List ℕ) → record_of self ≡ identifier ns → ⊥)
+            (λ i. record_of self ≡ identifier i) }
     {
         match self {
             Item::Identifier(identifier) => Some(identifier),
@@ -230,7 +241,8 @@ impl Item {
 
     /// The size of a SEQUENCE OF that begins, and how many members it has; `None` of any other item.
     pub fn into_list(self) -> Option<(Sizes, usize)>
-        ensures { MatchOption result ((z : Size) (n : ℕ) → record_of self ≡ list_begins z any_count n → ⊥) (λ p. record_of self ≡ list_begins (sizes_in p.0) any_count p.1) }
+        ensures { MatchOption result ((z : Size) (n : ℕ) → record_of self ≡ list_begins z any_count n → ⊥)
+            (λ p. record_of self ≡ list_begins (sizes_in p.0) any_count p.1) }
     {
         match self {
             Item::ListBegins(sizes, count) => Some((sizes, count)),
@@ -240,7 +252,8 @@ impl Item {
 
     /// The size of a SET OF that begins, and how many members it has; `None` of any other item.
     pub fn into_bag(self) -> Option<(Sizes, usize)>
-        ensures { MatchOption result ((z : Size) (n : ℕ) → record_of self ≡ bag_begins z any_count n → ⊥) (λ p. record_of self ≡ bag_begins (sizes_in p.0) any_count p.1) }
+        ensures { MatchOption result ((z : Size) (n : ℕ) → record_of self ≡ bag_begins z any_count n → ⊥)
+            (λ p. record_of self ≡ bag_begins (sizes_in p.0) any_count p.1) }
     {
         match self {
             Item::BagBegins(sizes, count) => Some((sizes, count)),
@@ -258,7 +271,8 @@ impl Item {
         }
     }
 
-    /// Whether it is the beginning of a SEQUENCE with or without a mark, of whose root components so many may be absent.
+    /// Whether it is the beginning of a SEQUENCE with or without a mark, of whose root components so many may be
+    /// absent.
     pub fn is_sequence(&self, extensible: bool, optional: usize) -> bool
         ensures { IsTrue result ↔ (record_of self.now ≡ sequence_begins extensible optional) }
     {
@@ -341,7 +355,8 @@ impl Item {
 
     /// The chosen alternative of a CHOICE with or without a mark that begins; `None` of any other item.
     pub fn into_choice(self, extensible: bool) -> Option<Chosen>
-        ensures { MatchOption result ((added : Bool) (i : ℕ) → record_of self ≡ choice_begins [] extensible [] added i → ⊥) (λ c. record_of self ≡ choice_begins [] extensible [] c.added c.place) }
+        ensures { MatchOption result ((added : Bool) (i : ℕ) → record_of self ≡ choice_begins [] extensible [] added i
+            → ⊥) (λ c. record_of self ≡ choice_begins [] extensible [] c.added c.place) }
     {
         match self {
             Item::ChoiceBegins(mark, chosen) if mark == extensible => Some(chosen),

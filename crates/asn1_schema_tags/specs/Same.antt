@@ -3,7 +3,8 @@ use Rattle.std.proofs.Common.{◌≡◌, ◌∙◌, refl, sym, ap, subst, ℕ, �
 use Rattle.std.specs.Cmp.{IsEquivalence}
 use Rattle.asn1_model.specs.Schema.{Tag as ModelTag}
 use Rattle.asn1_model.specs.Lawful.{tag_same}
-use Rattle.asn1_schema_tags.specs.Plain.{Plain, own, one_of, Plains, no_more, further, plain, is_same, are_same, same_tree}
+use Rattle.asn1_schema_tags.specs.Plain.{Plain, own, one_of, Plains, no_more, further, plain, is_same, are_same}
+use Rattle.asn1_schema_tags.specs.Plain.{same_tree}
 
 -- What tells true from false.
 truth : Bool → Type 0

@@ -15,7 +15,8 @@ abbrev pub leaves_step : TagTree-F (List ModelTag) → List ModelTag
 leaves_step (Leaf t) = tag_of t ∷ []
 leaves_step (Choice below) = flat_map (λ tags. tags) below.now
 
--- The tags of the leaves of a tree, in their order (an untagged choice begins with any tag of its alternatives, X.680 29).
+-- The tags of the leaves of a tree, in their order (an untagged choice begins with any tag of its alternatives, X.680
+-- 29).
 abbrev pub leaves : TagTree → List ModelTag
 leaves = fold-TagTree (List ModelTag) leaves_step
 

@@ -4,7 +4,8 @@
 ghost use Rattle.std.specs.Prelude.{◌≡◌, ◌+◌, ◌^◌, ◌<◌, IsTrue, IfSome, Some, [], ◌∷◌, length, option_map, slice_get};
 ghost use Rattle.asn1_model.specs.Lawful.{smallest};
 ghost use Rattle.asn1_schema_tags.specs.Tags.{tag_of};
-ghost use Rattle.asn1_schema_tags.specs.Trees.{leaves, leaves_of, own_tag, are_unique, is_among, share_a_tag, greatest_tag, counted, place_of};
+ghost use Rattle.asn1_schema_tags.specs.Trees.{leaves, leaves_of, own_tag, are_unique, is_among, share_a_tag};
+ghost use Rattle.asn1_schema_tags.specs.Trees.{greatest_tag, counted, place_of};
 ghost use Rattle.asn1_schema_tags.specs.Plain.{same_tree};
 ghost use Rattle.asn1_schema_tags.specs.Same.{same_tree_equiv};
 ghost use Rattle.std.specs.Cmp.{partial_equiv_from_equiv};
@@ -38,7 +39,8 @@ impl<'a> TagTree<'a> {
         TagTree::Choice(&[])
     }
 
-    /// The tag of a type with this tree: that of the leaf, or `Tag::CHOICE` where the tree is that of an untagged choice.
+    /// The tag of a type with this tree: that of the leaf, or `Tag::CHOICE` where the tree is that of an untagged
+    /// choice.
     pub fn own_tag(&self) -> Tag
         ensures { result ≡ own_tag self.now }
     {

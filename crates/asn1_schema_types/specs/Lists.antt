@@ -9,7 +9,8 @@ pub nothing_agrees : true ≡ same nothing nothing
 unfolding same
 nothing_agrees = refl
 
-members_agree : {A : Type 0} (e : A → A → Bool) (f : A → Value) → ((x y : A) → e x y ≡ same (f x) (f y)) → (xs ys : List A) → pointwise e xs ys ≡ same_members (values_of f xs) (values_of f ys)
+members_agree : {A : Type 0} (e : A → A → Bool) (f : A → Value) → ((x y : A) → e x y ≡ same (f x) (f y))
+    → (xs ys : List A) → pointwise e xs ys ≡ same_members (values_of f xs) (values_of f ys)
 unfolding same_members
 members_agree e f h [] [] = refl
 members_agree e f h [] (y ∷ ys) = refl
@@ -17,6 +18,7 @@ members_agree e f h (x ∷ xs) [] = refl
 members_agree e f h (x ∷ xs) (y ∷ ys) = rw (h x y, members_agree e f h xs ys) refl
 
 -- Lists are equal member by member exactly if what they mean is.
-pub lists_agree : {A : Type 0} (e : A → A → Bool) (f : A → Value) → ((x y : A) → e x y ≡ same (f x) (f y)) → (xs ys : List A) → pointwise e xs ys ≡ same (members (values_of f xs)) (members (values_of f ys))
+pub lists_agree : {A : Type 0} (e : A → A → Bool) (f : A → Value) → ((x y : A) → e x y ≡ same (f x) (f y))
+    → (xs ys : List A) → pointwise e xs ys ≡ same (members (values_of f xs)) (members (values_of f ys))
 unfolding same
 lists_agree e f h xs ys = members_agree e f h xs ys

@@ -127,7 +127,8 @@ impl<'a, V: DefaultOf<T>, T: Described, R: ComponentsOf> ComponentsOf for Defaul
 
     ghost typed = { λ d. more_types T.tags (by_default V.value) (has_default d.0) T.typed (R.typed d.1) };
 
-    ghost valued = { λ d x. more_values T.tags (part_default (same (T.meaning x.0.now) V.value) T.typed (T.valued x.0.now) d.0.is_value refl) (R.valued d.1 x.2) };
+    ghost valued = { λ d x. more_values T.tags (part_default (same (T.meaning x.0.now) V.value) T.typed
+        (T.valued x.0.now) d.0.is_value refl) (R.valued d.1 x.2) };
 }
 
 /// A component with a default, of which the marker says which one, and those behind it, as they are read.
@@ -143,5 +144,6 @@ impl<V: DefaultOf<T>, T: Described, R: ComponentsOf> ComponentsOf for DefaultedC
 
     ghost typed = { λ d. more_types T.tags (by_default V.value) (has_default d.0) T.typed (R.typed d.1) };
 
-    ghost valued = { λ d x. more_values T.tags (part_default (same (T.meaning x.0) V.value) T.typed (T.valued x.0) d.0.is_value refl) (R.valued d.1 x.2) };
+    ghost valued = { λ d x. more_values T.tags (part_default (same (T.meaning x.0) V.value) T.typed (T.valued x.0)
+        d.0.is_value refl) (R.valued d.1 x.2) };
 }

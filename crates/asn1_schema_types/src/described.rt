@@ -59,7 +59,8 @@ pub trait AsnType: Described {
     fn constraints() -> Constraints<'static>
         ensures { meant result ≡ Self.own };
 
-    /// Whether a value stands here. A value of a type always does: what may be absent is an `Option`, which is a component and no type.
+    /// Whether a value stands here. A value of a type always does: what may be absent is an `Option`, which is a
+    /// component and no type.
     final fn is_present(&self) -> bool
     where
         Self: Sized,

@@ -160,7 +160,8 @@ impl<'a, T: EqualByMeaning> EqualByMeaning for Cow<'a, T> {
 }
 
 impl<'a, T: EqualByMeaning> EqualByMeaning for CowSlice<'a, T, Global> {
-    ghost agrees = { λ x y. lists_agree T.PartialEq.eq T.Described.meaning T.agrees (cow_slice_items x) (cow_slice_items y) };
+    ghost agrees = { λ x y. lists_agree T.PartialEq.eq T.Described.meaning T.agrees (cow_slice_items x)
+        (cow_slice_items y) };
 }
 
 impl<'a> EqualByMeaning for CowStr<'a, Global> {

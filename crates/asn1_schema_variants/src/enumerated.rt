@@ -32,7 +32,8 @@ pub trait Enumerated: Copy {
     fn extended_variants<'a>() -> Option<&'a [Self]>
     where
         Self: 'a,
-        ensures { MatchOption result (extensible ≡ false) (λ xs. (extensible ≡ true) × (map number xs.now ≡ additions)) };
+        ensures { MatchOption result (extensible ≡ false) (λ xs. (extensible ≡ true)
+            × (map number xs.now ≡ additions)) };
 
     /// The number of the item.
     fn discriminant(&self) -> isize
@@ -77,8 +78,8 @@ pub trait Enumerated: Copy {
         Self::variance().saturating_add(Self::extended_variance())
     }
 
-    /// Where the item stands: in the root or behind the mark of extensibility, and its place there, in the ascending order of the
-    /// numbers (X.691 14.1 and 14.2).
+    /// Where the item stands: in the root or behind the mark of extensibility, and its place there, in the ascending
+    /// order of the numbers (X.691 14.1 and 14.2).
     final fn item_place(&self) -> Chosen
     where
         Self: Sized,
@@ -118,7 +119,8 @@ pub trait Enumerated: Copy {
     final fn from_enumeration_index(index: usize) -> Option<Self>
     where
         Self: Sized,
-        ensures { MatchOption result (length roots ≤ index) (λ x. IsPlaced roots extensible additions (number x) false index) }
+        ensures { MatchOption result (length roots ≤ index)
+            (λ x. IsPlaced roots extensible additions (number x) false index) }
     {
         Self::variants().get(index).copied()
     }
@@ -127,7 +129,8 @@ pub trait Enumerated: Copy {
     final fn from_extended_enumeration_index(index: usize) -> Option<Self>
     where
         Self: Sized,
-        ensures { MatchOption result (extensible ≡ true → length additions ≤ index) (λ x. IsPlaced roots extensible additions (number x) true index) }
+        ensures { MatchOption result (extensible ≡ true → length additions ≤ index)
+            (λ x. IsPlaced roots extensible additions (number x) true index) }
     {
         Self::extended_variants()?.get(index).copied()
     }

@@ -1,5 +1,6 @@
 -- Equality of bags: each element occurs in both equally often (X.680 28).
-use Rattle.std.proofs.Common.{◌≡◌, ◌⊎◌, inl, inr, ℕ, suc, Bool, true, false, cond, List, [], ◌∷◌, length, refl, sym, ◌∙◌, arith}
+use Rattle.std.proofs.Common.{◌≡◌, ◌⊎◌, inl, inr, ℕ, suc, Bool, true, false, cond, List, [], ◌∷◌, length, refl, sym}
+use Rattle.std.proofs.Common.{◌∙◌, arith}
 use Rattle.std.specs.Prelude.{◌&&◌, nat_eq}
 use Rattle.std.specs.Cmp.{IsPartialEquivalence, IsEquivalence, per_alike, equiv}
 use Rattle.std.proofs.lemmas.Bool.{and_parts}
@@ -39,7 +40,8 @@ turned : {A : Type 0} (e : A → A → Bool) (xs ys ws : List A) → are_alike e
 turned e xs ys [] = refl
 turned e xs ys (w ∷ ws) = rw (turned_count (times e w xs) (times e w ys), turned e xs ys ws) refl
 
-alike_of : {A : Type 0} (e : A → A → Bool) (xs ys : List A) → ((w : A) → times e w xs ≡ times e w ys) → (ws : List A) → are_alike e xs ys ws ≡ true
+alike_of : {A : Type 0} (e : A → A → Bool) (xs ys : List A) → ((w : A) → times e w xs ≡ times e w ys) → (ws : List A)
+    → are_alike e xs ys ws ≡ true
 alike_of e xs ys h [] = refl
 alike_of e xs ys h (w ∷ ws) = rw (h w, same_count (times e w ys), alike_of e xs ys h ws) refl
 
@@ -49,12 +51,15 @@ module _ {A : Type 0} {e : A → A → Bool} (p : IsPartialEquivalence e) where
   as_often w x q (y ∷ ys) = rw (per_alike p w x y q, as_often w x q ys) refl
 
   -- an element does not occur in the list of those that were tested, or it occurs equally often
-  tested : (w : A) (xs ys zs : List A) → are_alike e xs ys zs ≡ true → (times e w zs ≡ 0) ⊎ (times e w xs ≡ times e w ys)
+  tested : (w : A) (xs ys zs : List A) → are_alike e xs ys zs ≡ true → (times e w zs ≡ 0)
+      ⊎ (times e w xs ≡ times e w ys)
   tested w xs ys [] h = inl refl
   tested w xs ys (z ∷ zs) h =
       let k = and_parts (nat_eq (times e z xs) (times e z ys)) (are_alike e xs ys zs) h in
-      let step : (b : Bool) → e w z ≡ b → (cond b (suc (times e w zs)) (times e w zs) ≡ 0) ⊎ (times e w xs ≡ times e w ys) =
-      λ b. elim b as (λ b. e w z ≡ b → (cond b (suc (times e w zs)) (times e w zs) ≡ 0) ⊎ (times e w xs ≡ times e w ys)) [
+      let step : (b : Bool) → e w z ≡ b → (cond b (suc (times e w zs)) (times e w zs) ≡ 0)
+      ⊎ (times e w xs ≡ times e w ys) =
+      λ b. elim b as (λ b. e w z ≡ b → (cond b (suc (times e w zs)) (times e w zs) ≡ 0)
+      ⊎ (times e w xs ≡ times e w ys)) [
         | true ↦ λ q. inr (as_often w z q xs ∙ equal_counts (times e z xs) (times e z ys) k.0 ∙ sym (as_often w z q ys))
         | false ↦ λ q. tested w xs ys zs k.1
       ] in
@@ -75,15 +80,25 @@ same_length e xs ys h =
     let a = and_parts (nat_eq (length xs) (length ys) && are_alike e xs ys xs) (are_alike e xs ys ys) h in
     equal_counts (length xs) (length ys) (and_parts (nat_eq (length xs) (length ys)) (are_alike e xs ys xs) a.0).0
 
-pub same_by_counts : {A : Type 0} (e : A → A → Bool) (xs ys : List A) → length xs ≡ length ys → ((w : A) → times e w xs ≡ times e w ys) → same_items e xs ys ≡ true
+pub same_by_counts : {A : Type 0} (e : A → A → Bool) (xs ys : List A) → length xs ≡ length ys
+    → ((w : A) → times e w xs ≡ times e w ys) → same_items e xs ys ≡ true
 same_by_counts e xs ys l h = rw (l, same_count (length ys), alike_of e xs ys h xs, alike_of e xs ys h ys) refl
 
 -- It is an equality, where the elements have one; f gives the members of a bag.
-pub bags_partial : {A K : Type 0} {e : A → A → Bool} (f : K → List A) → IsPartialEquivalence e → IsPartialEquivalence (λ (x y : K). same_items e (f x) (f y))
+pub bags_partial : {A K : Type 0} {e : A → A → Bool} (f : K → List A) → IsPartialEquivalence e
+    → IsPartialEquivalence (λ (x y : K). same_items e (f x) (f y))
 bags_partial {e = e} f p = record {
-  symm = λ x y. rw (turned_count (length (f x)) (length (f y)), turned e (f x) (f y) (f x), turned e (f x) (f y) (f y)) (swapped (nat_eq (length (f y)) (length (f x))) (are_alike e (f y) (f x) (f x)) (are_alike e (f y) (f x) (f y)));
-  trans = λ x y z h k. same_by_counts e (f x) (f z) (same_length e (f x) (f y) h ∙ same_length e (f y) (f z) k) (λ w. all_alike p (f x) (f y) h w ∙ all_alike p (f y) (f z) k w);
+  symm = λ x y. rw (
+    turned_count (length (f x)) (length (f y)),
+    turned e (f x) (f y) (f x),
+    turned e (f x) (f y)
+        (f y),
+  ) (swapped (nat_eq (length (f y)) (length (f x))) (are_alike e (f y) (f x) (f x))
+      (are_alike e (f y) (f x) (f y)));
+  trans = λ x y z h k. same_by_counts e (f x) (f z) (same_length e (f x) (f y) h ∙ same_length e (f y) (f z) k)
+      (λ w. all_alike p (f x) (f y) h w ∙ all_alike p (f y) (f z) k w);
 }
 
-pub bags_equal : {A K : Type 0} {e : A → A → Bool} (f : K → List A) → IsPartialEquivalence e → IsEquivalence (λ (x y : K). same_items e (f x) (f y))
+pub bags_equal : {A K : Type 0} {e : A → A → Bool} (f : K → List A) → IsPartialEquivalence e
+    → IsEquivalence (λ (x y : K). same_items e (f x) (f y))
 bags_equal {e = e} f p = equiv (bags_partial f p) (λ x. same_by_counts e (f x) (f x) refl (λ w. refl))

@@ -9,6 +9,7 @@ both true false = refl
 both false q = refl
 
 -- SEQUENCEs of two components that are there are equal exactly if both components are.
-pub instances_agree : (u v w z : Value) {a b : Bool} → a ≡ same u v → b ≡ same w z → (a && b) ≡ same (fields (present u (present w end)) end) (fields (present v (present z end)) end)
+pub instances_agree : (u v w z : Value) {a b : Bool} → a ≡ same u v → b ≡ same w z → (a && b)
+    ≡ same (fields (present u (present w end)) end) (fields (present v (present z end)) end)
 unfolding same
 instances_agree u v w z {a} {b} e f = rw (e, f) (both (same u v) (same w z))

@@ -1,5 +1,6 @@
 -- Bags are equal exactly if what they mean is.
-use Rattle.std.proofs.Common.{◌≡◌, ℕ, suc, Bool, true, false, cond, List, [], ◌∷◌, length, Option, Some, None, option_map, refl, sym, ap, ◌∙◌, arith}
+use Rattle.std.proofs.Common.{◌≡◌, ℕ, suc, Bool, true, false, cond, List, [], ◌∷◌, length, Option, Some, None}
+use Rattle.std.proofs.Common.{option_map, refl, sym, ap, ◌∙◌, arith}
 use Rattle.std.specs.Cmp.{IsPartialEquivalence, per_alike}
 use Rattle.asn1_model.specs.Value.{Value, bag, member, same, same_bag, taken_out, with_rest}
 use Rattle.asn1_schema_presented.specs.Parts.{values_of}
@@ -16,18 +17,22 @@ both_ways true b f g = sym (f refl)
 both_ways false true f g = g refl
 both_ways false false f g = refl
 
-taken_one : {A : Type 0} (f : A → Value) (y : A) (ys : List A) (b : Bool) (o : Option (List A)) → cond b (Some (values_of f ys)) (option_map (λ ws. member (f y) ws) (option_map (λ zs. values_of f zs) o)) ≡ option_map (λ zs. values_of f zs) (cond b (Some ys) (option_map (λ zs. y ∷ zs) o))
+taken_one : {A : Type 0} (f : A → Value) (y : A) (ys : List A) (b : Bool) (o : Option (List A))
+    → cond b (Some (values_of f ys)) (option_map (λ ws. member (f y) ws) (option_map (λ zs. values_of f zs) o))
+    ≡ option_map (λ zs. values_of f zs) (cond b (Some ys) (option_map (λ zs. y ∷ zs) o))
 taken_one f y ys true o = refl
 taken_one f y ys false None = refl
 taken_one f y ys false (Some zs) = refl
 
 module _ {A : Type 0} {e : A → A → Bool} (f : A → Value) (h : (x y : A) → e x y ≡ same (f x) (f y)) where
-  taken_as : (x : A) (ys : List A) → taken_out (λ w. same (f x) w) (values_of f ys) ≡ option_map (λ zs. values_of f zs) (without e x ys)
+  taken_as : (x : A) (ys : List A) → taken_out (λ w. same (f x) w) (values_of f ys)
+      ≡ option_map (λ zs. values_of f zs) (without e x ys)
   taken_as x [] = refl
   taken_as x (y ∷ ys) = rw (sym (h x y), taken_as x ys) (taken_one f y ys (e x y) (without e x ys))
 
 -- what is left where one is taken out
-add_once : (b c : Bool) (k : ℕ) → cond b (suc (cond c (suc k) k)) (cond c (suc k) k) ≡ cond c (suc (cond b (suc k) k)) (cond b (suc k) k)
+add_once : (b c : Bool) (k : ℕ) → cond b (suc (cond c (suc k) k)) (cond c (suc k) k)
+    ≡ cond c (suc (cond b (suc k) k)) (cond b (suc k) k)
 add_once true true k = refl
 add_once true false k = refl
 add_once false true k = refl
@@ -38,29 +43,44 @@ taken_off true j k q = omega (arith, q)
 taken_off false j k q = q
 
 module _ {A : Type 0} {e : A → A → Bool} (p : IsPartialEquivalence e) where
-  left_counts : (x : A) (ys zs : List A) → without e x ys ≡ Some zs → (length ys ≡ suc (length zs)) × ((w : A) → times e w ys ≡ cond (e w x) (suc (times e w zs)) (times e w zs))
+  left_counts : (x : A) (ys zs : List A) → without e x ys ≡ Some zs → (length ys ≡ suc (length zs))
+      × ((w : A) → times e w ys ≡ cond (e w x) (suc (times e w zs)) (times e w zs))
   left_counts x [] zs q = absurd (let k : None ≡ Some zs = q in cc)
   left_counts x (y ∷ ys) zs q =
-      let step : (b : Bool) (o : Option (List A)) → e x y ≡ b → without e x ys ≡ o → cond b (Some ys) (option_map (λ us. y ∷ us) o) ≡ Some zs → (suc (length ys) ≡ suc (length zs)) × ((w : A) → times e w (y ∷ ys) ≡ cond (e w x) (suc (times e w zs)) (times e w zs)) =
-      λ b o. elim b as (λ b. e x y ≡ b → without e x ys ≡ o → cond b (Some ys) (option_map (λ us. y ∷ us) o) ≡ Some zs → (suc (length ys) ≡ suc (length zs)) × ((w : A) → times e w (y ∷ ys) ≡ cond (e w x) (suc (times e w zs)) (times e w zs))) [
+      let step : (b : Bool) (o : Option (List A)) → e x y ≡ b → without e x ys ≡ o
+      → cond b (Some ys) (option_map (λ us. y ∷ us) o) ≡ Some zs → (suc (length ys) ≡ suc (length zs))
+      × ((w : A) → times e w (y ∷ ys) ≡ cond (e w x) (suc (times e w zs)) (times e w zs)) =
+      λ b o. elim b as (λ b. e x y ≡ b → without e x ys ≡ o → cond b (Some ys) (option_map (λ us. y ∷ us) o) ≡ Some zs
+      → (suc (length ys) ≡ suc (length zs)) × ((w : A) → times e w (y ∷ ys)
+      ≡ cond (e w x) (suc (times e w zs)) (times e w zs))) [
         | true ↦ λ i j k.
-            let l : ys ≡ zs = cc k in
-            (ap (λ us. suc (length us)) l, λ w. let m : e w y ≡ e w x = p.symm w y ∙ sym (per_alike p x y w i) ∙ p.symm x w in rw (m, l) refl)
-        | false ↦ elim o as (λ o. e x y ≡ false → without e x ys ≡ o → option_map (λ us. y ∷ us) o ≡ Some zs → (suc (length ys) ≡ suc (length zs)) × ((w : A) → times e w (y ∷ ys) ≡ cond (e w x) (suc (times e w zs)) (times e w zs))) [
-          | None ↦ λ i j k. absurd (let l : None ≡ Some zs = k in cc)
-          | Some us ↦ λ i j k.
-              let l : y ∷ us ≡ zs = cc k in
-              let r = left_counts x ys us j in
-              (ap suc r.0 ∙ ap (λ vs. suc (length vs)) l, λ w. rw (sym l, r.1 w) (add_once (e w y) (e w x) (times e w us)))
-        ]
+            let l : ys ≡ zs = cc k in (
+              ap (λ us. suc (length us)) l,
+              λ w. let m : e w y ≡ e w x = p.symm w y ∙ sym (per_alike p x y w i)
+                  ∙ p.symm x w in rw (m, l) refl,
+            )
+        | false ↦ elim o as (λ o. e x y ≡ false → without e x ys ≡ o → option_map (λ us. y ∷ us) o ≡ Some zs
+            → (suc (length ys) ≡ suc (length zs)) × ((w : A) → times e w (y ∷ ys)
+            ≡ cond (e w x) (suc (times e w zs)) (times e w zs))) [
+              | None ↦ λ i j k. absurd (let l : None ≡ Some zs = k in cc)
+              | Some us ↦ λ i j k.
+                  let l : y ∷ us ≡ zs = cc k in
+                  let r = left_counts x ys us j in (
+                    ap suc r.0 ∙ ap (λ vs. suc (length vs)) l,
+                    λ w. rw (sym l, r.1 w)
+                        (add_once (e w y) (e w x) (times e w us)),
+                  )
+            ]
       ] in
       step (e x y) (without e x ys) refl refl q
 
   none_left : (x : A) (ys : List A) → without e x ys ≡ None → times e x ys ≡ 0
   none_left x [] q = refl
   none_left x (y ∷ ys) q =
-      let step : (b : Bool) (o : Option (List A)) → without e x ys ≡ o → cond b (Some ys) (option_map (λ us. y ∷ us) o) ≡ None → cond b (suc (times e x ys)) (times e x ys) ≡ 0 =
-      λ b o. elim b as (λ b. without e x ys ≡ o → cond b (Some ys) (option_map (λ us. y ∷ us) o) ≡ None → cond b (suc (times e x ys)) (times e x ys) ≡ 0) [
+      let step : (b : Bool) (o : Option (List A)) → without e x ys ≡ o
+      → cond b (Some ys) (option_map (λ us. y ∷ us) o) ≡ None → cond b (suc (times e x ys)) (times e x ys) ≡ 0 =
+      λ b o. elim b as (λ b. without e x ys ≡ o → cond b (Some ys) (option_map (λ us. y ∷ us) o) ≡ None
+      → cond b (suc (times e x ys)) (times e x ys) ≡ 0) [
         | true ↦ λ j k. absurd (let l : Some ys ≡ None = k in cc)
         | false ↦ elim o as (λ o. without e x ys ≡ o → option_map (λ us. y ∷ us) o ≡ None → times e x ys ≡ 0) [
           | None ↦ λ j k. none_left x ys j
@@ -80,12 +100,16 @@ module _ {A : Type 0} {e : A → A → Bool} (p : IsPartialEquivalence e) where
     same_there (x ∷ xs) ys q =
         let l = same_length e (x ∷ xs) ys q in
         let t = all_alike p (x ∷ xs) ys q in
-        let step : (o : Option (List A)) → without e x ys ≡ o → with_rest (option_map (λ zs. values_of f zs) o) (λ rest. same_bag (values_of f xs) rest) ≡ true =
-        λ o. elim o as (λ o. without e x ys ≡ o → with_rest (option_map (λ zs. values_of f zs) o) (λ rest. same_bag (values_of f xs) rest) ≡ true) [
-          | None ↦ λ k. absurd (let a = none_left x ys k in let b : suc (times e x xs) ≡ times e x ys = rw (itself x) at (t x) in omega (arith, a, b))
+        let step : (o : Option (List A)) → without e x ys ≡ o
+        → with_rest (option_map (λ zs. values_of f zs) o) (λ rest. same_bag (values_of f xs) rest) ≡ true =
+        λ o. elim o as (λ o. without e x ys ≡ o → with_rest (option_map (λ zs. values_of f zs) o)
+        (λ rest. same_bag (values_of f xs) rest) ≡ true) [
+          | None ↦ λ k. absurd (let a = none_left x ys k in let b : suc (times e x xs)
+              ≡ times e x ys = rw (itself x) at (t x) in omega (arith, a, b))
           | Some zs ↦ λ k.
               let r = left_counts x ys zs k in
-              same_there xs zs (same_by_counts e xs zs (let a = r.0 in omega (arith, a, l)) (λ w. taken_off (e w x) (times e w xs) (times e w zs) (t w ∙ r.1 w)))
+              same_there xs zs (same_by_counts e xs zs (let a = r.0 in omega (arith, a, l))
+              (λ w. taken_off (e w x) (times e w xs) (times e w zs) (t w ∙ r.1 w)))
         ] in
         rw (taken_as f h x ys) (step (without e x ys) refl)
 
@@ -94,18 +118,23 @@ module _ {A : Type 0} {e : A → A → Bool} (p : IsPartialEquivalence e) where
     same_here [] [] q = refl
     same_here [] (y ∷ ys) q = absurd (let l : false ≡ true = q in cc)
     same_here (x ∷ xs) ys q =
-        let step : (o : Option (List A)) → without e x ys ≡ o → with_rest (option_map (λ zs. values_of f zs) o) (λ rest. same_bag (values_of f xs) rest) ≡ true → same_items e (x ∷ xs) ys ≡ true =
-        λ o. elim o as (λ o. without e x ys ≡ o → with_rest (option_map (λ zs. values_of f zs) o) (λ rest. same_bag (values_of f xs) rest) ≡ true → same_items e (x ∷ xs) ys ≡ true) [
+        let step : (o : Option (List A)) → without e x ys ≡ o
+        → with_rest (option_map (λ zs. values_of f zs) o) (λ rest. same_bag (values_of f xs) rest) ≡ true
+        → same_items e (x ∷ xs) ys ≡ true =
+        λ o. elim o as (λ o. without e x ys ≡ o → with_rest (option_map (λ zs. values_of f zs) o)
+        (λ rest. same_bag (values_of f xs) rest) ≡ true → same_items e (x ∷ xs) ys ≡ true) [
           | None ↦ λ k u. absurd (let l : false ≡ true = u in cc)
           | Some zs ↦ λ k u.
               let r = left_counts x ys zs k in
               let i = same_here xs zs u in
               let t = all_alike p xs zs i in
-              same_by_counts e (x ∷ xs) ys (ap suc (same_length e xs zs i) ∙ sym r.0) (λ w. ap (λ n. cond (e w x) (suc n) n) (t w) ∙ sym (r.1 w))
+              same_by_counts e (x ∷ xs) ys (ap suc (same_length e xs zs i) ∙ sym r.0)
+              (λ w. ap (λ n. cond (e w x) (suc n) n) (t w) ∙ sym (r.1 w))
         ] in
         step (without e x ys) refl (rw (taken_as f h x ys) at q)
 
     -- Two lists are the same bag exactly if what they mean as bags is the same.
     pub bags_agree : (xs ys : List A) → same_items e xs ys ≡ same (bag (values_of f xs)) (bag (values_of f ys))
     unfolding same
-    bags_agree xs ys = both_ways (same_items e xs ys) (same_bag (values_of f xs) (values_of f ys)) (same_there xs ys) (same_here xs ys)
+    bags_agree xs ys = both_ways (same_items e xs ys) (same_bag (values_of f xs) (values_of f ys)) (same_there xs ys)
+        (same_here xs ys)

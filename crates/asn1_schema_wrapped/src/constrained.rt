@@ -18,8 +18,8 @@ use std::alloc::Global;
 use std::marker::PhantomData;
 use std::ops::{Deref, DerefMut};
 
-/// Constraints that stand in place of those that the type `T` has of its own. What `T` is under constraints is said here once more, as
-/// it stands in its `Described`.
+/// Constraints that stand in place of those that the type `T` has of its own. What `T` is under constraints is said
+/// here once more, as it stands in its `Described`.
 pub trait ConstraintsOf<T: Described> {
     /// What the constraints mean.
     ghost terms: { Meant };
@@ -46,7 +46,8 @@ pub trait ConstraintsOf<T: Described> {
     ghost same_meaning: { (x : T) → T.meaning x ≡ meaning x };
 }
 
-/// A value under the constraints of `C`, in place of those that its type has of its own: INTEGER (0..10) held in a `u8`, say.
+/// A value under the constraints of `C`, in place of those that its type has of its own: INTEGER (0..10) held in a
+/// `u8`, say.
 #[derive(Drop)]
 #[derive_where(Clone, Debug, PartialEq, Eq; V)]
 pub struct Constrained<C, V> {
@@ -92,7 +93,8 @@ impl<C, V> DerefMut for Constrained<C, V> {
     ghost deref_mut_gives = { λ t v. v ≡ t.value };
 
     fn deref_mut(&mut self) -> &mut V
-        ensures* writes_back { sem 𝓛 (Lends (the_row C.row V.row) V.row self.entry result (λ v. record self.old { value = v })) }
+        ensures* writes_back { sem 𝓛 (Lends (the_row C.row V.row) V.row self.entry result
+            (λ v. record self.old { value = v })) }
         ensures shows { result.now ≡ self.old.value }
     {
         &mut self.value

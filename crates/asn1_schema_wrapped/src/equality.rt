@@ -3,7 +3,8 @@ ghost use Rattle.std.specs.Prelude.{◌≡◌, length};
 ghost use Rattle.std.specs.Cmp.{partial_equiv_from_equiv};
 ghost use Rattle.std.specs.Hash as fed;
 ghost use Rattle.std.proofs.Common.{rules, ap};
-ghost use Rattle.asn1_schema_wrapped.specs.Equality.{times, are_alike, same_items, same_length, bags_partial, bags_equal};
+ghost use Rattle.asn1_schema_wrapped.specs.Equality.{times, are_alike, same_items, same_length, bags_partial};
+ghost use Rattle.asn1_schema_wrapped.specs.Equality.{bags_equal};
 ghost use Rattle.asn1_schema_wrapped.specs.Meaning.{bags_agree};
 
 use crate::set_of::SetOf;

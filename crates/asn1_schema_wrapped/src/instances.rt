@@ -43,13 +43,18 @@ impl<T: Described> Described for InstanceOf<T> {
 
     ghost is_own = { λ _. refl };
 
-    ghost meaning = { λ x. fields (⟦<Form<T> as ComponentsOf>⟧.root (record { 0 = x.type_id; 1 = record { 0 = record { value = x.value; tag = _ }; 1 = record {} } })) (⟦<Form<T> as ComponentsOf>⟧.added (record { 0 = x.type_id; 1 = record { 0 = record { value = x.value; tag = _ }; 1 = record {} } })) };
+    ghost meaning = { λ x. fields (⟦<Form<T> as ComponentsOf>⟧.root
+        (record { 0 = x.type_id; 1 = record { 0 = record { value = x.value; tag = _ }; 1 = record {} } }))
+        (⟦<Form<T> as ComponentsOf>⟧.added
+        (record { 0 = x.type_id; 1 = record { 0 = record { value = x.value; tag = _ }; 1 = record {} } })) };
 
     ghost typed = { type_sequence _ refl (⟦<Form<T> as ComponentsOf>⟧.typed tt) refl };
 
-    ghost valued = { λ x. value_sequence _ (⟦<Form<T> as ComponentsOf>⟧.valued tt (record { 0 = x.type_id; 1 = record { 0 = record { value = x.value; tag = _ }; 1 = record {} } })) };
+    ghost valued = { λ x. value_sequence _ (⟦<Form<T> as ComponentsOf>⟧.valued tt
+        (record { 0 = x.type_id; 1 = record { 0 = record { value = x.value; tag = _ }; 1 = record {} } })) };
 
-    ghost valued_under = { λ _ x. value_sequence _ (⟦<Form<T> as ComponentsOf>⟧.valued tt (record { 0 = x.type_id; 1 = record { 0 = record { value = x.value; tag = _ }; 1 = record {} } })) };
+    ghost valued_under = { λ _ x. value_sequence _ (⟦<Form<T> as ComponentsOf>⟧.valued tt
+        (record { 0 = x.type_id; 1 = record { 0 = record { value = x.value; tag = _ }; 1 = record {} } })) };
 }
 
 /// Values with the identifiers of their types are equal exactly if what they mean is.

@@ -42,8 +42,8 @@ pub trait EncodeNamed: Encoder {
         )
     }
 
-    /// A value with another tag around its own (X.680 31.2.8), which leaves no octet in the packed and the octet encoding
-    /// rules.
+    /// A value with another tag around its own (X.680 31.2.8), which leaves no octet in the packed and the octet
+    /// encoding rules.
     final fn encode_explicit_prefix<T: Encode>(
         &mut self,
         _tag: Tag,

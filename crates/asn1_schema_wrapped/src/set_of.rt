@@ -1,13 +1,14 @@
 //! Bags of members.
 ghost use Rattle.std.specs.List.{list_any};
 ghost use Rattle.std.specs.Slice.Iter.{iter_rest};
-ghost use Rattle.std.specs.Prelude.{◌≡◌, ◌<◌, ℕ, true, false, [], ◌∷◌, ◌++◌, length, map, nat_eq, get_or, swap_remove, MatchOption, IfOk, IfErr, OnOk, OnErr};
+ghost use Rattle.std.specs.Prelude.{◌≡◌, ◌<◌, ℕ, true, false, [], ◌∷◌, ◌++◌, length, map, nat_eq, get_or};
+ghost use Rattle.std.specs.Prelude.{swap_remove, MatchOption, IfOk, IfErr, OnOk, OnErr};
 
 use std::alloc::{AllocError, AllocFailed, Global};
 use std::slice::Iter;
 
-/// SET OF (X.680 28): a bag of members. They stand in the order in which they were put there, which means nothing. It keeps the
-/// allocator that its constructor, or the vector handed to it, brought.
+/// SET OF (X.680 28): a bag of members. They stand in the order in which they were put there, which means nothing. It
+/// keeps the allocator that its constructor, or the vector handed to it, brought.
 #[derive(Clone, Debug, Drop)]
 pub struct SetOf<T> {
     pub(crate) items: Vec<T>,
@@ -82,8 +83,11 @@ impl<T> SetOf<T> {
     pub fn remove(&mut self, item: &T) -> Option<T>
     where
         T: PartialEq,
-        ensures { MatchOption result ((list_any (λ y. T.eq y item.now) self.old.items.items ≡ false) × (self.new.items.items ≡ self.old.items.items))
-            (λ x. (T.eq x item.now ≡ true) × ((i : ℕ) × (i < length self.old.items.items) × (x ≡ get_or self.old.items.items i x) × (self.new.items.items ≡ swap_remove self.old.items.items i x))) }
+        ensures { MatchOption result ((list_any (λ y. T.eq y item.now) self.old.items.items ≡ false)
+            × (self.new.items.items ≡ self.old.items.items))
+            (λ x. (T.eq x item.now ≡ true) × ((i : ℕ) × (i < length self.old.items.items)
+            × (x ≡ get_or self.old.items.items i x) × (self.new.items.items
+            ≡ swap_remove self.old.items.items i x))) }
     {
         let Some(place) = place_of(self.items.as_slice(), item) else {
             return None;

@@ -61,7 +61,8 @@ impl<T, V> DerefMut for Implicit<T, V> {
     ghost deref_mut_gives = { λ t v. v ≡ t.value };
 
     fn deref_mut(&mut self) -> &mut V
-        ensures* writes_back { sem 𝓛 (Lends (the_row T.row V.row) V.row self.entry result (λ v. record self.old { value = v })) }
+        ensures* writes_back { sem 𝓛 (Lends (the_row T.row V.row) V.row self.entry result
+            (λ v. record self.old { value = v })) }
         ensures shows { result.now ≡ self.old.value }
     {
         &mut self.value
@@ -176,7 +177,8 @@ impl<T, V> DerefMut for Explicit<T, V> {
     ghost deref_mut_gives = { λ t v. v ≡ t.value };
 
     fn deref_mut(&mut self) -> &mut V
-        ensures* writes_back { sem 𝓛 (Lends (the_row T.row V.row) V.row self.entry result (λ v. record self.old { value = v })) }
+        ensures* writes_back { sem 𝓛 (Lends (the_row T.row V.row) V.row self.entry result
+            (λ v. record self.old { value = v })) }
         ensures shows { result.now ≡ self.old.value }
     {
         &mut self.value

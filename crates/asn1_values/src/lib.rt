@@ -1,4 +1,5 @@
-//! The values of ASN.1: bits, whole numbers, octets, object identifiers, character strings, and lists of fields as bits.
+//! The values of ASN.1: bits, whole numbers, octets, object identifiers, character strings, and lists of fields as
+//! bits.
 //!
 //! This crate is a face: its items stand in the packages whose names begin with its own.
 #![tactic(auto)]

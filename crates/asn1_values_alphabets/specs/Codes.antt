@@ -26,7 +26,8 @@ code_width is_raised cs =
 
 -- a character's code: its own number where the largest one fits the width, else its place (X.691 30.5.4)
 abbrev pub code_of : CodedCharacters → ℕ → Option ℕ
-code_of a c = option_map (λ i. cond (ltb (largest (singles a.characters)) (2 ^ a.code_bits)) c i) (place_of c (singles a.characters))
+code_of a c = option_map (λ i. cond (ltb (largest (singles a.characters)) (2 ^ a.code_bits)) c i)
+    (place_of c (singles a.characters))
 
 -- characters that ascend, and a width that has a code for each of them
 pub record IsCoded (characters : List ℕ) (code_bits : ℕ) (is_by_number : Bool) : Type 0 where

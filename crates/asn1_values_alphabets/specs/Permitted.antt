@@ -4,7 +4,8 @@ use Rattle.asn1_model.specs.Schema.{StringKind}
 use Rattle.asn1_model.specs.Strings.{characters_of, each_is, is_among}
 use Rattle.asn1_values_alphabets.specs.declared.error.InvalidRestrictedString.{InvalidRestrictedString}
 use Rattle.asn1_values_alphabets.specs.declared.error.PermittedAlphabetError.{PermittedAlphabetError}
-use Rattle.asn1_values_alphabets.specs.declared.error.PermittedAlphabetError.TheVariants.{InvalidRestrictedString as OutsideAlphabet, Memory}
+use Rattle.asn1_values_alphabets.specs.declared.error.PermittedAlphabetError.TheVariants.{InvalidRestrictedString as OutsideAlphabet}
+use Rattle.asn1_values_alphabets.specs.declared.error.PermittedAlphabetError.TheVariants.{Memory}
 
 -- whether a string of this kind may hold the character
 abbrev pub permits : StringKind → ℕ → Bool

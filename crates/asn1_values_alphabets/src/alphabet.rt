@@ -1,10 +1,12 @@
 //! Permitted alphabets, and the codes of their characters.
-ghost use Rattle.std.specs.Prelude.{◌≡◌, false, ℕ, ◌^◌, ◌<◌, ◌≤◌, ◌≢◌, ◌↔◌, nat_lt, length, IsTrue, IfOk, IfErr, OnOk, OnErr};
+ghost use Rattle.std.specs.Prelude.{◌≡◌, false, ℕ, ◌^◌, ◌<◌, ◌≤◌, ◌≢◌, ◌↔◌, nat_lt, length, IsTrue, IfOk, IfErr};
+ghost use Rattle.std.specs.Prelude.{OnOk, OnErr};
 ghost use Rattle.std.specs.List.Sorted.{IsStrictlyIncreasing};
 ghost use Rattle.asn1_model.specs.Numbers.{width as bit_width};
 ghost use Rattle.asn1_values_alphabets.specs.Codes.{code_of, code_width, raised_width, singles};
 ghost use Rattle.asn1_model.specs.Strings.{largest, place_of};
-ghost use Rattle.asn1_values_alphabets.specs.declared.error.PermittedAlphabetError.TheVariants.{CharacterNotFound, IndexNotFound};
+ghost use Rattle.asn1_values_alphabets.specs.declared.error.PermittedAlphabetError.TheVariants.{CharacterNotFound};
+ghost use Rattle.asn1_values_alphabets.specs.declared.error.PermittedAlphabetError.TheVariants.{IndexNotFound};
 ghost use Rattle.asn1_values_alphabets.specs.Refusals.{IsRefusalOfList};
 
 use crate::error::PermittedAlphabetError;
@@ -99,7 +101,8 @@ impl CharacterAlphabet {
     /// `IndexNotFound` where no permitted character has the code.
     pub fn decode(&self, code: u32) -> Result<u32, PermittedAlphabetError>
         ensures character { IfOk result (λ character. code_of self.now character ≡ Some code) }
-        ensures alone { IfOk result (λ character. (other : ℕ) → code_of self.now other ≡ Some code → other ≡ character) }
+        ensures alone { IfOk result (λ character. (other : ℕ) → code_of self.now other ≡ Some code → other
+            ≡ character) }
         ensures error { IfErr result (λ e. e ≡ IndexNotFound code) }
         ensures missing { OnErr result ((character : ℕ) → code_of self.now character ≢ Some code) }
     {

@@ -1,5 +1,6 @@
 //! Bit strings of one length.
-ghost use Rattle.std.specs.Prelude.{◌≡◌, ◌*◌, ◌+◌, ◌-◌, ◌≤◌, ◌++◌, [], length, take, replicate, false, IsTrue, ◌↔◌, IsSome, IfSome, slice_get};
+ghost use Rattle.std.specs.Prelude.{◌≡◌, ◌*◌, ◌+◌, ◌-◌, ◌≤◌, ◌++◌, [], length, take, replicate, false, IsTrue, ◌↔◌};
+ghost use Rattle.std.specs.Prelude.{IsSome, IfSome, slice_get};
 ghost use Rattle.asn1_model.specs.Numbers.{octet_bits};
 ghost use Rattle.asn1_values_bits.specs.BitStr.{bits_of};
 ghost use Rattle.asn1_values_bit_strings.specs.Fixed.{fixed_octets};
@@ -104,7 +105,8 @@ impl<const N: usize> FixedBitString<N> {
 fn fill(octets: &mut [u8], bits: BitStr<'_>)
     requires { length (bits_of bits) ≤ length octets.old * 8 }
     ensures octets { octets.new ≡ fixed_octets (length octets.old) (bits_of bits.entry) }
-    ensures bits { octet_bits octets.new ≡ bits_of bits.entry ++ replicate (length octets.old * 8 - length (bits_of bits.entry)) false }
+    ensures bits { octet_bits octets.new ≡ bits_of bits.entry
+        ++ replicate (length octets.old * 8 - length (bits_of bits.entry)) false }
 {
     let mut rest = bits;
     for octet in octets {

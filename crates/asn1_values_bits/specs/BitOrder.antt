@@ -4,7 +4,8 @@ use mathlib.Core.Bool.{beq}
 use Rattle.std.specs.Bool.{Decides}
 use Rattle.std.specs.Ordering.{bool_cmp, eq_by_cmp}
 use Rattle.std.specs.Hash as fed
-use Rattle.std.specs.Cmp.{IsTotalOrder, IsEquivalence, IsPartialOrder, bool_cmp_total, bool_eq_equiv, booleans_Decides, partial_order_from_agreeing_total}
+use Rattle.std.specs.Cmp.{IsTotalOrder, IsEquivalence, IsPartialOrder, bool_cmp_total, bool_eq_equiv}
+use Rattle.std.specs.Cmp.{booleans_Decides, partial_order_from_agreeing_total}
 use Rattle.std.specs.Cmp.Lexicographic.{slice_cmp, pointwise, pointwise_decides, lists_total, lists_equiv, lists_ties}
 use Rattle.asn1_model.specs.Numbers.{packed}
 use Rattle.asn1_values_bits.specs.Octets.{filled_up}

@@ -8,8 +8,8 @@ ghost use Rattle.asn1_values_bits.specs.contracts.bit_buffer.BitBuffer.{the_row}
 use crate::bit_buffer::BitBuffer;
 use std::alloc::AllocError;
 
-/// Adds bits to a buffer, within room that was made before, so that no further memory is taken. Room that is left when it goes
-/// is given back.
+/// Adds bits to a buffer, within room that was made before, so that no further memory is taken. Room that is left
+/// when it goes is given back.
 pub struct BitAppender<'a> {
     buffer: &'a mut BitBuffer,
     next: usize,

@@ -1,5 +1,7 @@
 //! Bits that grow at their end, in whole octets of which the last is filled with zero bits.
-ghost use Rattle.std.specs.Prelude.{◌≡◌, ℕ, ◌+◌, ◌-◌, ◌*◌, ◌/◌, ◌%◌, ◌^◌, ◌<◌, ◌≤◌, Bool, List, [], ◌∷◌, ◌++◌, length, set, take, drop, replicate, false, IsTrue, ◌↔◌, IfOk, OnOk, OnErr, vec_len, slice_set};
+ghost use Rattle.std.specs.Prelude.{◌≡◌, ℕ, ◌+◌, ◌-◌, ◌*◌, ◌/◌, ◌%◌, ◌^◌, ◌<◌, ◌≤◌, Bool, List, [], ◌∷◌, ◌++◌};
+ghost use Rattle.std.specs.Prelude.{length, set, take, drop, replicate, false, IsTrue, ◌↔◌, IfOk, OnOk, OnErr};
+ghost use Rattle.std.specs.Prelude.{vec_len, slice_set};
 ghost use Rattle.asn1_model.specs.Numbers.{binary, missing, octet_bits, packed};
 ghost use Rattle.asn1_values_bits.specs.Octets.{filled_up};
 
@@ -14,8 +16,8 @@ const BLOCK: usize = 512;
 // One more than the largest number of 64 bits.
 const WORD: u128 = 0x1_0000_0000_0000_0000;
 
-/// A list of bits that grows at its end. Between two calls all of them stand in octets, the first bit highest, and the bits past
-/// the last one are zero.
+/// A list of bits that grows at its end. Between two calls all of them stand in octets, the first bit highest, and
+/// the bits past the last one are zero.
 #[derive(Drop)]
 pub struct BitBuffer {
     octets: Vec<u8>,
@@ -319,7 +321,8 @@ impl BitBuffer {
         self.cut_if_refused(before, extended)
     }
 
-    // Adds the bits of a view behind whole octets, some octets at a time. Where memory is refused, some of them may be there.
+    // Adds the bits of a view behind whole octets, some octets at a time. Where memory is refused, some of them may
+    // be there.
     fn extend_whole(&mut self, bits: BitStr<'_>) -> Result<(), AllocError>
         requires { 0 < length (bits_of bits) → length self.old % 8 ≡ 0 }
         ensures ok { OnOk result (self.new ≡ self.old ++ bits_of bits.entry) }

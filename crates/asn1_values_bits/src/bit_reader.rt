@@ -1,5 +1,6 @@
 //! Bits that are read from their front.
-ghost use Rattle.std.specs.Prelude.{◌≡◌, ◌+◌, ◌*◌, ◌%◌, ◌^◌, ◌<◌, ◌≤◌, [], ◌∷◌, length, take, drop, IsTrue, ◌↔◌, IsSome, IfSome, IfOk, IfErr, IsOk, OnErr, IsOkAnd};
+ghost use Rattle.std.specs.Prelude.{◌≡◌, ◌+◌, ◌*◌, ◌%◌, ◌^◌, ◌<◌, ◌≤◌, [], ◌∷◌, length, take, drop, IsTrue, ◌↔◌};
+ghost use Rattle.std.specs.Prelude.{IsSome, IfSome, IfOk, IfErr, IsOk, OnErr, IsOkAnd};
 ghost use Rattle.std.specs.Cow.{cow_slice_items, IsBorrowedSlice};
 ghost use Rattle.asn1_model.specs.Numbers.{binary, octet_bits};
 ghost use Rattle.asn1_values_bits.specs.Octets.{filled_up};
@@ -127,8 +128,8 @@ impl<'a> BitReader<'a> {
         self.rest.aligned_octets()
     }
 
-    /// The unread bits in octets, with zero bits behind the last one. Where the bits begin at an octet and end at one, the octets
-    /// are lent and no memory is taken.
+    /// The unread bits in octets, with zero bits behind the last one. Where the bits begin at an octet and end at
+    /// one, the octets are lent and no memory is taken.
     ///
     /// # Errors
     ///

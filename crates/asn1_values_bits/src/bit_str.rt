@@ -161,7 +161,8 @@ impl<'a> BitStr<'a> {
         }
     }
 
-    /// The octets that stand whole at the front, and the bits behind them. Where the bits do not begin at an octet there are none.
+    /// The octets that stand whole at the front, and the bits behind them. Where the bits do not begin at an octet
+    /// there are none.
     pub fn whole_octets(&self) -> (&'a [u8], BitStr<'a>)
         ensures { octet_bits result.0.now ++ bits_of result.1 ≡ bits_of self.now }
     {

@@ -1,5 +1,6 @@
 //! Numbers in the bits of octets.
-ghost use Rattle.std.specs.Prelude.{◌≡◌, ◌+◌, ◌-◌, ◌*◌, ◌/◌, ◌^◌, ◌<◌, ◌≤◌, ◌++◌, length, take, drop, IsTrue, ◌↔◌, pos, Any};
+ghost use Rattle.std.specs.Prelude.{◌≡◌, ◌+◌, ◌-◌, ◌*◌, ◌/◌, ◌^◌, ◌<◌, ◌≤◌, ◌++◌, length, take, drop, IsTrue, ◌↔◌};
+ghost use Rattle.std.specs.Prelude.{pos, Any};
 ghost use Rattle.asn1_model.specs.Numbers.{binary, octet_bits};
 ghost use Rattle.asn1_values_bits.specs.Octets.{ored, placed};
 
@@ -107,7 +108,8 @@ pub fn or_bits(target: &mut [u8], position: usize, source: &[u8], count: usize)
     requires target_room { position + count ≤ length target.old * 8 }
     requires source_room { count ≤ length source.now * 8 }
     requires short { position + count < 2 ^ 64 }
-    ensures { octet_bits target.new ≡ ored (octet_bits target.old) (placed position (take count (octet_bits source.now)) (length target.old * 8)) }
+    ensures { octet_bits target.new ≡ ored (octet_bits target.old)
+        (placed position (take count (octet_bits source.now)) (length target.old * 8)) }
 {
     let mut done = 0;
     while done < count {
@@ -128,8 +130,8 @@ pub fn range_from_len(bit_length: u32) -> i128
     ((1u128 << bit_length) - 1) as i128
 }
 
-/// Whether codes of `width` bits have to be places in the set: its largest character is at least two to the width. Of no character
-/// it is false (X.691, 30.5.4).
+/// Whether codes of `width` bits have to be places in the set: its largest character is at least two to the width. Of
+/// no character it is false (X.691, 30.5.4).
 pub fn should_be_indexed(width: u32, character_set: &[u32]) -> bool
     requires { width ≤ 31 }
     ensures { IsTrue result ↔ Any (λ character. 2 ^ width ≤ character) character_set.now }

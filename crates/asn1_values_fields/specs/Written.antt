@@ -1,5 +1,6 @@
 -- Fields as bits.
-use Rattle.std.specs.Prelude.{ℕ, zero, suc, ◌^◌, ltb, leb, Bool, cond, ◌&&◌, List, [], ◌∷◌, ◌++◌, Option, Some, None, option_map, IsSome, ◌≡◌}
+use Rattle.std.specs.Prelude.{ℕ, zero, suc, ◌^◌, ltb, leb, Bool, cond, ◌&&◌, List, [], ◌∷◌, ◌++◌, Option, Some, None}
+use Rattle.std.specs.Prelude.{option_map, IsSome, ◌≡◌}
 use Rattle.asn1_model.specs.Numbers.{binary, octet_bits, complement, signed_octets}
 use Rattle.asn1_values_bits.specs.BitStr.{bits_of}
 use Rattle.asn1_values_alphabets.specs.Codes.{CodedCharacters, code_of}

@@ -1,7 +1,9 @@
 //! Fields that are written.
-ghost use Rattle.std.specs.Prelude.{◌≡◌, ◌↔◌, ◌++◌, ◌∷◌, ◌≤◌, ◌<◌, ◌^◌, ◌⊎◌, [], IsTrue, is_some, option_map, Some, None, Ok, Err, OnOk, OnErr, IfErr, take, length};
+ghost use Rattle.std.specs.Prelude.{◌≡◌, ◌↔◌, ◌++◌, ◌∷◌, ◌≤◌, ◌<◌, ◌^◌, ◌⊎◌, [], IsTrue, is_some, option_map, Some};
+ghost use Rattle.std.specs.Prelude.{None, Ok, Err, OnOk, OnErr, IfErr, take, length};
 ghost use Rattle.asn1_model.specs.Numbers.{octet_bits};
-ghost use Rattle.asn1_values_fields.specs.Written.{codes_of, digits_of, bits_of_fields, appended, IsUnwritable, IsFirstUnwritten};
+ghost use Rattle.asn1_values_fields.specs.Written.{codes_of, digits_of, bits_of_fields, appended, IsUnwritable};
+ghost use Rattle.asn1_values_fields.specs.Written.{IsFirstUnwritten};
 
 use crate::fault::{FieldFault, FieldFaultKind};
 use asn1_values_alphabets::CharacterAlphabet;

@@ -11,7 +11,13 @@ ghost use Rattle.asn1_values_fields.specs.ReadBack.{shape_of, AreSame, AreFields
 /// these very fields off the front of their bits, and what stood behind them is left. It refuses them
 /// for want of memory alone.
 pub fn written_fields_are_read()
-    ensures same { (fs : List FieldBits) (vs : List FieldValue) (bits behind left : List Bool) → AreFields fs → AreValues vs → bits_of_fields fs ≡ Some bits → AreValuesOf (map shape_of fs) vs (bits ++ behind) left → AreSame fs vs }
-    ensures left { (fs : List FieldBits) (vs : List FieldValue) (bits behind left : List Bool) → AreFields fs → AreValues vs → bits_of_fields fs ≡ Some bits → AreValuesOf (map shape_of fs) vs (bits ++ behind) left → left ≡ behind }
-    ensures taken { (fs : List FieldBits) (bits behind : List Bool) (place : ℕ) (kind : FieldFaultKind) → AreFields fs → bits_of_fields fs ≡ Some bits → IsFirstUnread (map shape_of fs) (bits ++ behind) place kind → kind ≡ FieldFaultKind.Memory }
+    ensures same { (fs : List FieldBits) (vs : List FieldValue) (bits behind left : List Bool) → AreFields fs
+        → AreValues vs → bits_of_fields fs ≡ Some bits → AreValuesOf (map shape_of fs) vs (bits ++ behind) left
+        → AreSame fs vs }
+    ensures left { (fs : List FieldBits) (vs : List FieldValue) (bits behind left : List Bool) → AreFields fs
+        → AreValues vs → bits_of_fields fs ≡ Some bits → AreValuesOf (map shape_of fs) vs (bits ++ behind) left → left
+        ≡ behind }
+    ensures taken { (fs : List FieldBits) (bits behind : List Bool) (place : ℕ) (kind : FieldFaultKind) → AreFields fs
+        → bits_of_fields fs ≡ Some bits → IsFirstUnread (map shape_of fs) (bits ++ behind) place kind → kind
+        ≡ FieldFaultKind.Memory }
 {}

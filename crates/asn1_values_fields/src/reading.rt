@@ -1,10 +1,12 @@
 //! Bits as fields.
-ghost use Rattle.std.specs.Prelude.{◌≡◌, ℕ, ◌*◌, ◌≤◌, ◌<◌, ◌^◌, ◌⊎◌, take, drop, length, Some, IfOk, IfErr, OnErr, IsTrue, false, ◌↔◌};
+ghost use Rattle.std.specs.Prelude.{◌≡◌, ℕ, ◌*◌, ◌≤◌, ◌<◌, ◌^◌, ◌⊎◌, take, drop, length, Some, IfOk, IfErr, OnErr};
+ghost use Rattle.std.specs.Prelude.{IsTrue, false, ◌↔◌};
 ghost use Rattle.std.specs.Cow.{cow_slice_items};
 ghost use Rattle.asn1_model.specs.Numbers.{binary, octet_bits, complement, signed_octets};
 ghost use Rattle.asn1_values_natives.specs.Octets.{is_padded, signed_number};
 ghost use Rattle.asn1_values_fields.specs.Written.{codes_of};
-ghost use Rattle.asn1_values_fields.specs.Read.{width_of, IsValueOf, IsUnreadable, AreValuesOf, IsFirstUnread, AreNotFewest, HasCode, IsUnknownCode, AreUnreadable};
+ghost use Rattle.asn1_values_fields.specs.Read.{width_of, IsValueOf, IsUnreadable, AreValuesOf, IsFirstUnread};
+ghost use Rattle.asn1_values_fields.specs.Read.{AreNotFewest, HasCode, IsUnknownCode, AreUnreadable};
 
 use crate::fault::{FieldFault, FieldFaultKind};
 use crate::field_shape::{FieldShape, FieldValue};
@@ -31,8 +33,10 @@ fn take_bits<'a>(reader: &mut BitReader<'a>, count: usize) -> Result<BitReader<'
 
 /// The number that so many bits are.
 fn read_number(reader: &mut BitReader<'_>, width: u32) -> Result<u128, FieldFaultKind>
-    ensures number { IfOk result (λ n. (width ≤ 128) × (n < 2 ^ width) × (take width reader.old.bits ≡ binary width n)) }
-    ensures rest { IfOk result (λ _. (width ≤ length reader.old.bits) × (reader.new.bits ≡ drop width reader.old.bits)) }
+    ensures number { IfOk result (λ n. (width ≤ 128) × (n < 2 ^ width)
+        × (take width reader.old.bits ≡ binary width n)) }
+    ensures rest { IfOk result (λ _. (width ≤ length reader.old.bits)
+        × (reader.new.bits ≡ drop width reader.old.bits)) }
     ensures wrong { IfErr result (IsUnreadable (FieldShape.Number width) reader.old.bits) }
 {
     if width > 128 {
@@ -49,7 +53,8 @@ fn read_bits(
     count: usize,
 ) -> Result<BitString, FieldFaultKind>
     ensures bits { IfOk result (λ s. s ≡ take count reader.old.bits) }
-    ensures rest { IfOk result (λ _. (count ≤ length reader.old.bits) × (reader.new.bits ≡ drop count reader.old.bits)) }
+    ensures rest { IfOk result (λ _. (count ≤ length reader.old.bits)
+        × (reader.new.bits ≡ drop count reader.old.bits)) }
     ensures wrong { IfErr result (IsUnreadable (FieldShape.Bits count) reader.old.bits) }
 {
     let front = take_bits(reader, count)?;
@@ -67,8 +72,10 @@ fn take_octets<'a>(
 ) -> Result<CowSlice<'a, u8>, FieldFaultKind>
     ensures octets { IfOk result (λ octets. take (count * 8) reader.old.bits ≡ octet_bits (cow_slice_items octets)) }
     ensures count { IfOk result (λ octets. length (cow_slice_items octets) ≡ count) }
-    ensures rest { IfOk result (λ _. (count * 8 ≤ length reader.old.bits) × (reader.new.bits ≡ drop (count * 8) reader.old.bits)) }
-    ensures wrong { IfErr result (λ k. (k ≡ FieldFaultKind.Memory) ⊎ ((k ≡ FieldFaultKind.Short) × (length reader.old.bits < count * 8))) }
+    ensures rest { IfOk result (λ _. (count * 8 ≤ length reader.old.bits)
+        × (reader.new.bits ≡ drop (count * 8) reader.old.bits)) }
+    ensures wrong { IfErr result (λ k. (k ≡ FieldFaultKind.Memory)
+        ⊎ ((k ≡ FieldFaultKind.Short) × (length reader.old.bits < count * 8))) }
 {
     if reader.len() / 8 < count {
         return Err(FieldFaultKind::Short);
@@ -88,8 +95,10 @@ fn read_octets(
 ) -> Result<Vec<u8>, FieldFaultKind>
     ensures octets { IfOk result (λ v. take (count * 8) reader.old.bits ≡ octet_bits v.items) }
     ensures count { IfOk result (λ v. length v.items ≡ count) }
-    ensures rest { IfOk result (λ _. (count * 8 ≤ length reader.old.bits) × (reader.new.bits ≡ drop (count * 8) reader.old.bits)) }
-    ensures wrong { IfErr result (λ k. (k ≡ FieldFaultKind.Memory) ⊎ ((k ≡ FieldFaultKind.Short) × (length reader.old.bits < count * 8))) }
+    ensures rest { IfOk result (λ _. (count * 8 ≤ length reader.old.bits)
+        × (reader.new.bits ≡ drop (count * 8) reader.old.bits)) }
+    ensures wrong { IfErr result (λ k. (k ≡ FieldFaultKind.Memory)
+        ⊎ ((k ≡ FieldFaultKind.Short) × (length reader.old.bits < count * 8))) }
 {
     let lent = match take_octets(alloc, reader, count)? {
         CowSlice::Owned(octets) => return Ok(octets),
@@ -101,7 +110,8 @@ fn read_octets(
     }
 }
 
-/// Whether octets are the fewest of a whole number: there are some, and the first nine bits are not alike (X.690 8.3.2).
+/// Whether octets are the fewest of a whole number: there are some, and the first nine bits are not alike (X.690
+/// 8.3.2).
 fn are_fewest(octets: &[u8]) -> bool
     ensures bare { IsTrue result → is_padded octets.now ≡ false }
     ensures count { IsTrue result → signed_octets (signed_number octets.now) ≡ length octets.now }
@@ -116,8 +126,11 @@ fn are_fewest(octets: &[u8]) -> bool
 
 /// The whole number whose fewest octets these are.
 fn shortest_number(alloc: Global, octets: CowSlice<'_, u8>) -> Result<Integer, FieldFaultKind>
-    ensures number { IfOk result (λ z. (signed_octets z ≡ length (cow_slice_items octets.entry)) × (cow_slice_items octets.entry ≡ complement (length (cow_slice_items octets.entry)) z)) }
-    ensures wrong { IfErr result (λ k. (k ≡ FieldFaultKind.Memory) ⊎ ((k ≡ FieldFaultKind.NotShortest) × AreNotFewest (length (cow_slice_items octets.entry)) (octet_bits (cow_slice_items octets.entry)))) }
+    ensures number { IfOk result (λ z. (signed_octets z ≡ length (cow_slice_items octets.entry))
+        × (cow_slice_items octets.entry ≡ complement (length (cow_slice_items octets.entry)) z)) }
+    ensures wrong { IfErr result (λ k. (k ≡ FieldFaultKind.Memory)
+        ⊎ ((k ≡ FieldFaultKind.NotShortest) × AreNotFewest (length (cow_slice_items octets.entry))
+        (octet_bits (cow_slice_items octets.entry)))) }
 {
     if !are_fewest(octets.as_slice()) {
         return Err(FieldFaultKind::NotShortest);
@@ -138,8 +151,10 @@ fn read_whole(
     reader: &mut BitReader<'_>,
     count: usize,
 ) -> Result<Integer, FieldFaultKind>
-    ensures number { IfOk result (λ z. (signed_octets z ≡ count) × (take (count * 8) reader.old.bits ≡ octet_bits (complement count z))) }
-    ensures rest { IfOk result (λ _. (count * 8 ≤ length reader.old.bits) × (reader.new.bits ≡ drop (count * 8) reader.old.bits)) }
+    ensures number { IfOk result (λ z. (signed_octets z ≡ count)
+        × (take (count * 8) reader.old.bits ≡ octet_bits (complement count z))) }
+    ensures rest { IfOk result (λ _. (count * 8 ≤ length reader.old.bits)
+        × (reader.new.bits ≡ drop (count * 8) reader.old.bits)) }
     ensures wrong { IfErr result (IsUnreadable (FieldShape.Whole count) reader.old.bits) }
 {
     let octets = take_octets(alloc, reader, count)?;
@@ -162,7 +177,8 @@ fn read_character(
     requires { alphabet.now.code_bits ≤ length reader.old.bits }
     ensures character { IfOk result (λ c. HasCode alphabet.now c (take alphabet.now.code_bits reader.old.bits)) }
     ensures rest { IfOk result (λ _. reader.new.bits ≡ drop alphabet.now.code_bits reader.old.bits) }
-    ensures unknown { IfErr result (λ k. (k ≡ FieldFaultKind.NoCharacter) × IsUnknownCode alphabet.now (take alphabet.now.code_bits reader.old.bits)) }
+    ensures unknown { IfErr result (λ k. (k ≡ FieldFaultKind.NoCharacter)
+        × IsUnknownCode alphabet.now (take alphabet.now.code_bits reader.old.bits)) }
 {
     let width = alphabet.width();
     let code = reader.first_bits(width);
@@ -192,8 +208,10 @@ fn read_characters(
     alphabet: &CharacterAlphabet,
     count: usize,
 ) -> Result<Vec<u32>, FieldFaultKind>
-    ensures characters { IfOk result (λ v. (length v.items ≡ count) × (codes_of alphabet.now v.items ≡ Some (take (count * alphabet.now.code_bits) reader.old.bits))) }
-    ensures rest { IfOk result (λ _. (count * alphabet.now.code_bits ≤ length reader.old.bits) × (reader.new.bits ≡ drop (count * alphabet.now.code_bits) reader.old.bits)) }
+    ensures characters { IfOk result (λ v. (length v.items ≡ count)
+        × (codes_of alphabet.now v.items ≡ Some (take (count * alphabet.now.code_bits) reader.old.bits))) }
+    ensures rest { IfOk result (λ _. (count * alphabet.now.code_bits ≤ length reader.old.bits)
+        × (reader.new.bits ≡ drop (count * alphabet.now.code_bits) reader.old.bits)) }
     ensures wrong { IfErr result (AreUnreadable alphabet.now count reader.old.bits) }
 {
     let width = alphabet.width() as usize;
@@ -218,7 +236,8 @@ fn read_field(
     shape: &FieldShape<'_>,
 ) -> Result<FieldValue, FieldFaultKind>
     ensures value { IfOk result (λ v. IsValueOf shape.now v (take (width_of shape.now) reader.old.bits)) }
-    ensures rest { IfOk result (λ _. (width_of shape.now ≤ length reader.old.bits) × (reader.new.bits ≡ drop (width_of shape.now) reader.old.bits)) }
+    ensures rest { IfOk result (λ _. (width_of shape.now ≤ length reader.old.bits)
+        × (reader.new.bits ≡ drop (width_of shape.now) reader.old.bits)) }
     ensures wrong { IfErr result (IsUnreadable shape.now reader.old.bits) }
 {
     match shape {

@@ -1,5 +1,6 @@
 -- Object identifiers, and the octets that hold them.
-use Rattle.std.specs.Prelude.{ℕ, ◌+◌, ◌-◌, ◌*◌, ◌/◌, ◌^◌, ◌==◌, ltb, leb, Bool, true, false, ◌&&◌, ◌||◌, List, [], ◌∷◌, ◌++◌, Option, Some, None, Result, Ok, Err}
+use Rattle.std.specs.Prelude.{ℕ, ◌+◌, ◌-◌, ◌*◌, ◌/◌, ◌^◌, ◌==◌, ltb, leb, Bool, true, false, ◌&&◌, ◌||◌, List, []}
+use Rattle.std.specs.Prelude.{◌∷◌, ◌++◌, Option, Some, None, Result, Ok, Err}
 use Rattle.asn1_values_identifiers.specs.declared.fault.IdentifierError.{IdentifierError}
 use Rattle.asn1_values_identifiers.specs.declared.fault.IdentifierError.TheVariants.{Truncated, Padded, ArcTooLarge}
 
@@ -28,7 +29,8 @@ is_padding (Some n) o = false
 abbrev pub ended : ℕ → ℕ → Result (List ℕ) IdentifierError → Result (List ℕ) IdentifierError
 ended limit n further = elim (ltb n limit) [ true ↦ in_front n further | false ↦ Err ArcTooLarge ]
 
--- the numbers that octets are, the first below a limit and the others below 2 ^ 32, or the fault of the first that is wrong (X.690 8.19.2)
+-- the numbers that octets are, the first below a limit and the others below 2 ^ 32, or the fault of the first that is
+-- wrong (X.690 8.19.2)
 abbrev pub subidentifiers : ℕ → Option ℕ → List ℕ → Result (List ℕ) IdentifierError
 subidentifiers limit None [] = Ok []
 subidentifiers limit (Some n) [] = Err Truncated
@@ -36,7 +38,10 @@ subidentifiers limit begun (o ∷ os) =
     elim (is_padding begun o) [
       | true ↦ Err Padded
       | false ↦
-          elim (ltb o 128) [ true ↦ ended limit (begun_number begun * 128 + o) (subidentifiers (2 ^ 32) None os) | false ↦ subidentifiers limit (Some (begun_number begun * 128 + (o - 128))) os ]
+          elim (ltb o 128) [
+            | true ↦ ended limit (begun_number begun * 128 + o) (subidentifiers (2 ^ 32) None os)
+            | false ↦ subidentifiers limit (Some (begun_number begun * 128 + (o - 128))) os
+          ]
     ]
 
 -- the two arcs that share the first number (X.690 8.19.4)

@@ -1,5 +1,5 @@
-//! Numbers in groups of seven bits, of which all but the last have the top bit set: subidentifiers (X.690 8.19.2), and the
-//! numbers of tags (X.696 8.7.2.3).
+//! Numbers in groups of seven bits, of which all but the last have the top bit set: subidentifiers (X.690 8.19.2),
+//! and the numbers of tags (X.696 8.7.2.3).
 ghost use Rattle.std.specs.Prelude.{◌≡◌, ◌<◌, ◌++◌, OnOk};
 ghost use Rattle.asn1_model.specs.Strings.{groups_of_seven};
 ghost use Rattle.asn1_values_identifiers.specs.Groups.{leading};

@@ -1,5 +1,6 @@
 //! The contents octets of an object identifier (X.690 8.19).
-ghost use Rattle.std.specs.Prelude.{◌≡◌, ℕ, ◌<◌, ◌≤◌, ◌+◌, ◌^◌, ◌++◌, [], ◌∷◌, map, length, OnOk, IfOk, IfErr, None, Some, IsTrue, IsErrOf, flat_map, ◌↔◌, ◌⊎◌};
+ghost use Rattle.std.specs.Prelude.{◌≡◌, ℕ, ◌<◌, ◌≤◌, ◌+◌, ◌^◌, ◌++◌, [], ◌∷◌, map, length, OnOk, IfOk, IfErr, None};
+ghost use Rattle.std.specs.Prelude.{Some, IsTrue, IsErrOf, flat_map, ◌↔◌, ◌⊎◌};
 ghost use Rattle.asn1_model.specs.Strings.{groups_of_seven, identifier_octets, is_identifier};
 ghost use Rattle.asn1_values_identifiers.specs.Identifiers.{is_valid, subidentifiers, in_front, joined, arcs_of};
 
@@ -19,7 +20,8 @@ fn unpadded_subidentifier(octets: &[u8], limit: u64) -> Result<(u64, &[u8]), Ide
     requires { (128 ≤ limit) × (limit ≤ 2 ^ 32 + 80) }
     ensures number { IfOk result (λ p. p.0 < limit) }
     ensures less { IfOk result (λ p. length p.1.now < length octets.now) }
-    ensures read { IfOk result (λ p. subidentifiers limit (Some 0) octets.now ≡ in_front p.0 (subidentifiers (2 ^ 32) None p.1.now)) }
+    ensures read { IfOk result (λ p. subidentifiers limit (Some 0) octets.now
+        ≡ in_front p.0 (subidentifiers (2 ^ 32) None p.1.now)) }
     ensures wrong { IfErr result (λ e. subidentifiers limit (Some 0) octets.now ≡ Err e) }
 {
     let mut number = 0;
@@ -42,7 +44,8 @@ fn first_subidentifier(octets: &[u8], limit: u64) -> Result<(u64, &[u8]), Identi
     requires limit { (128 ≤ limit) × (limit ≤ 2 ^ 32 + 80) }
     ensures number { IfOk result (λ p. p.0 < limit) }
     ensures less { IfOk result (λ p. length p.1.now < length octets.now) }
-    ensures read { IfOk result (λ p. subidentifiers limit None octets.now ≡ in_front p.0 (subidentifiers (2 ^ 32) None p.1.now)) }
+    ensures read { IfOk result (λ p. subidentifiers limit None octets.now
+        ≡ in_front p.0 (subidentifiers (2 ^ 32) None p.1.now)) }
     ensures wrong { IfErr result (λ e. subidentifiers limit None octets.now ≡ Err e) }
 {
     if octets[0] == 0x80 {
@@ -81,7 +84,8 @@ fn contents(alloc: Global, arcs: &[u32]) -> Result<Vec<u8>, IdentifierError>
 /// Appends the arcs that octets hold, of which none is left over.
 fn read_arcs(arcs: &mut Vec<u32>, octets: &[u8]) -> Result<(), IdentifierError>
     ensures read { OnOk result (joined arcs.old.items (subidentifiers (2 ^ 32) None octets.now) ≡ Ok arcs.new.items) }
-    ensures wrong { IfErr result (λ e. (e ≡ IdentifierError.Memory) ⊎ (subidentifiers (2 ^ 32) None octets.now ≡ Err e)) }
+    ensures wrong { IfErr result (λ e. (e ≡ IdentifierError.Memory)
+        ⊎ (subidentifiers (2 ^ 32) None octets.now ≡ Err e)) }
 {
     let mut rest = octets;
     while !rest.is_empty() {

@@ -23,7 +23,8 @@ pub record IsLentNatural (greatest : ℕ) (z : ℤ) (r : Result ℕ IntegerError
   pub overflow : IfErr r (λ e. e ≡ Overflow)
   pub fits : is_ok r ≡ is_within (natural_range greatest) z
 
--- the number is answered exactly if it is from one below the negative of the greatest to it, and is an overflow otherwise
+-- the number is answered exactly if it is from one below the negative of the greatest to it, and is an overflow
+-- otherwise
 pub record IsLentWhole (greatest : ℕ) (z : ℤ) (r : Result ℤ IntegerError) : Type 0 where
   pub value : IfOk r (λ n. n ≡ z)
   pub overflow : IfErr r (λ e. e ≡ Overflow)

@@ -12,7 +12,8 @@ octet_text o = digit_glyph false (o / 16) ∷ digit_glyph false (o % 16) ∷ []
 
 -- in decimal where 128 bits hold the number, else by its fewest octets of two's complement
 abbrev pub number_text : ℤ → List ℕ
-number_text z = if is_within (whole_range (2 ^ 127 - 1)) z then signed_decimal z else (codes "0x" ++ flat_map octet_text (signed_octets_of z))
+number_text z = if is_within (whole_range (2 ^ 127 - 1)) z then signed_decimal z
+    else (codes "0x" ++ flat_map octet_text (signed_octets_of z))
 
 -- what is said of a number that a type doesn't hold
 abbrev pub refusal_text : ℤ → List ℕ

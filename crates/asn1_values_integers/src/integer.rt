@@ -1,7 +1,9 @@
 //! Whole numbers of any size.
-ghost use Rattle.std.specs.Prelude.{◌≡◌, ◌≤◌, ◌<◌, ◌^◌, ◌↔◌, ℤ, pos, length, nat_lt, is_some, IsErrOf, IfOk, IfSome, IsTrue, false, true, ◌-◌, ◌+ℤ◌, ◌-ℤ◌, ◌&&◌};
+ghost use Rattle.std.specs.Prelude.{◌≡◌, ◌≤◌, ◌<◌, ◌^◌, ◌↔◌, ℤ, pos, length, nat_lt, is_some, IsErrOf, IfOk, IfSome};
+ghost use Rattle.std.specs.Prelude.{IsTrue, false, true, ◌-◌, ◌+ℤ◌, ◌-ℤ◌, ◌&&◌};
 ghost use Rattle.asn1_model.specs.Numbers.{is_within};
-ghost use Rattle.asn1_values_natives.specs.Octets.{signed_number, unsigned_number, is_below_zero, signed_from_plain, signed_octets_of, unsigned_octets_of, is_padded, plain, signed_by};
+ghost use Rattle.asn1_values_natives.specs.Octets.{signed_number, unsigned_number, is_below_zero, signed_from_plain};
+ghost use Rattle.asn1_values_natives.specs.Octets.{signed_octets_of, unsigned_octets_of, is_padded, plain, signed_by};
 ghost use Rattle.asn1_values_natives.specs.Ranges.{natural_range, remainder, whole_range, wrapped};
 
 use crate::error::IntegerError;
@@ -214,7 +216,9 @@ impl Integer {
     /// The sum, where 128 bits hold both numbers and the sum.
     pub fn checked_add(&self, other: &Integer) -> Option<Integer>
         ensures value { IfSome result (λ n. n ≡ self.now +ℤ other.now) }
-        ensures fits { is_some result ≡ (is_within (whole_range (2 ^ 127 - 1)) self.now && is_within (whole_range (2 ^ 127 - 1)) other.now && is_within (whole_range (2 ^ 127 - 1)) (self.now +ℤ other.now)) }
+        ensures fits { is_some result ≡ (is_within (whole_range (2 ^ 127 - 1)) self.now
+            && is_within (whole_range (2 ^ 127 - 1)) other.now
+            && is_within (whole_range (2 ^ 127 - 1)) (self.now +ℤ other.now)) }
     {
         let left = self.to_i128()?;
         let right = other.to_i128()?;
@@ -225,7 +229,9 @@ impl Integer {
     /// The difference, where 128 bits hold both numbers and the difference.
     pub fn checked_sub(&self, other: &Integer) -> Option<Integer>
         ensures value { IfSome result (λ n. n ≡ self.now -ℤ other.now) }
-        ensures fits { is_some result ≡ (is_within (whole_range (2 ^ 127 - 1)) self.now && is_within (whole_range (2 ^ 127 - 1)) other.now && is_within (whole_range (2 ^ 127 - 1)) (self.now -ℤ other.now)) }
+        ensures fits { is_some result ≡ (is_within (whole_range (2 ^ 127 - 1)) self.now
+            && is_within (whole_range (2 ^ 127 - 1)) other.now
+            && is_within (whole_range (2 ^ 127 - 1)) (self.now -ℤ other.now)) }
     {
         let left = self.to_i128()?;
         let right = other.to_i128()?;

@@ -1,8 +1,10 @@
 //! A trait of the types of whole numbers.
-ghost use Rattle.std.specs.Prelude.{◌≡◌, ℕ, ◌<◌, ◌≤◌, ◌^◌, ◌↔◌, ℤ, pos, ◌+ℤ◌, Bool, false, true, length, IfOk, IfSome, is_some, IsErrOf, ◌/◌, ◌-◌, None, refl};
+ghost use Rattle.std.specs.Prelude.{◌≡◌, ℕ, ◌<◌, ◌≤◌, ◌^◌, ◌↔◌, ℤ, pos, ◌+ℤ◌, Bool, false, true, length, IfOk};
+ghost use Rattle.std.specs.Prelude.{IfSome, is_some, IsErrOf, ◌/◌, ◌-◌, None, refl};
 ghost use Rattle.asn1_model.specs.Schema.{Range};
 ghost use Rattle.asn1_model.specs.Numbers.{is_within};
-ghost use Rattle.asn1_values_natives.specs.Octets.{signed_number, unsigned_number, signed_octets_of, unsigned_octets_of, own_number, is_below_zero, plain};
+ghost use Rattle.asn1_values_natives.specs.Octets.{signed_number, unsigned_number, signed_octets_of};
+ghost use Rattle.asn1_values_natives.specs.Octets.{unsigned_octets_of, own_number, is_below_zero, plain};
 ghost use Rattle.asn1_values_natives.specs.Ranges.{range_of, range_of_width, whole_range, wrapped};
 ghost use Rattle.asn1_values_natives.proofs.RangeLaws.{width_range};
 
@@ -54,7 +56,8 @@ pub trait IntegerType: Sized {
     fn try_from_bytes(alloc: Global, input: &[u8]) -> Result<Self, IntegerError>
         ensures number { IfOk result (λ x. value x ≡ own_number signed input.now) }
         ensures empty { IsErrOf result IntegerError.Empty ↔ (length input.now ≡ 0) }
-        ensures overflow { IsErrOf result IntegerError.Overflow ↔ ((0 < length input.now) × (is_within held (own_number signed input.now) ≡ false)) }
+        ensures overflow { IsErrOf result IntegerError.Overflow
+            ↔ ((0 < length input.now) × (is_within held (own_number signed input.now) ≡ false)) }
         ensures memory { IsErrOf result IntegerError.Memory → 2 ^ 128 ≤ plain (own_number signed input.now) };
 
     /// The number that octets of two's complement stand for (X.690 8.3.3). Octets that only
@@ -62,7 +65,8 @@ pub trait IntegerType: Sized {
     fn try_from_signed_bytes(alloc: Global, input: &[u8]) -> Result<Self, IntegerError>
         ensures number { IfOk result (λ x. value x ≡ signed_number input.now) }
         ensures empty { IsErrOf result IntegerError.Empty ↔ (length input.now ≡ 0) }
-        ensures overflow { IsErrOf result IntegerError.Overflow ↔ ((0 < length input.now) × (is_within held (signed_number input.now) ≡ false)) }
+        ensures overflow { IsErrOf result IntegerError.Overflow
+            ↔ ((0 < length input.now) × (is_within held (signed_number input.now) ≡ false)) }
         ensures memory { IsErrOf result IntegerError.Memory → 2 ^ 128 ≤ plain (signed_number input.now) };
 
     /// The number that octets without a sign stand for. Leading zeros are taken. Refuses no
@@ -70,7 +74,8 @@ pub trait IntegerType: Sized {
     fn try_from_unsigned_bytes(alloc: Global, input: &[u8]) -> Result<Self, IntegerError>
         ensures number { IfOk result (λ x. value x ≡ pos (unsigned_number input.now)) }
         ensures empty { IsErrOf result IntegerError.Empty ↔ (length input.now ≡ 0) }
-        ensures overflow { IsErrOf result IntegerError.Overflow ↔ ((0 < length input.now) × (is_within held (pos (unsigned_number input.now)) ≡ false)) }
+        ensures overflow { IsErrOf result IntegerError.Overflow
+            ↔ ((0 < length input.now) × (is_within held (pos (unsigned_number input.now)) ≡ false)) }
         ensures memory { IsErrOf result IntegerError.Memory → 2 ^ 128 ≤ unsigned_number input.now };
 
     /// The fewest octets of two's complement (X.690 8.3).

@@ -1,13 +1,16 @@
 -- Whole numbers as octets.
-use Rattle.std.specs.Prelude.{ℕ, suc, ◌+◌, ◌-◌, ◌*◌, ◌^◌, ◌==◌, leb, ltb, ℤ, pos, negsuc, ◌-ℤ◌, Bool, true, false, cond, ◌&&◌, ◌||◌, List, [], ◌∷◌, length}
+use Rattle.std.specs.Prelude.{ℕ, suc, ◌+◌, ◌-◌, ◌*◌, ◌^◌, ◌==◌, leb, ltb, ℤ, pos, negsuc, ◌-ℤ◌, Bool, true, false}
+use Rattle.std.specs.Prelude.{cond, ◌&&◌, ◌||◌, List, [], ◌∷◌, length}
 use Rattle.asn1_model.specs.Numbers.{digits, complement, signed_octets, least_octets}
 
--- the number that octets stand for: each counts 256 to the power of how many stand behind it (X.690 8.3.3, with no sign)
+-- the number that octets stand for: each counts 256 to the power of how many stand behind it (X.690 8.3.3, with no
+-- sign)
 abbrev pub unsigned_number : List ℕ → ℕ
 unsigned_number [] = 0
 unsigned_number (o ∷ os) = o * 256 ^ length os + unsigned_number os
 
--- the whole number that octets of two's complement stand for: the highest bit of the first octet counts negative (X.690 8.3.3)
+-- the whole number that octets of two's complement stand for: the highest bit of the first octet counts negative
+-- (X.690 8.3.3)
 abbrev pub signed_number : List ℕ → ℤ
 signed_number [] = pos 0
 signed_number (o ∷ os) = pos (unsigned_number (o ∷ os)) -ℤ pos (cond (leb 128 o) (256 ^ suc (length os)) 0)
@@ -32,7 +35,8 @@ abbrev pub plain : ℤ → ℕ
 plain (pos m) = m
 plain (negsuc m) = m
 
--- the fewest octets of a number that isn't negative, at least one; of a negative number its fewest octets of two's complement
+-- the fewest octets of a number that isn't negative, at least one; of a negative number its fewest octets of two's
+-- complement
 abbrev pub unsigned_octets_of : ℤ → List ℕ
 unsigned_octets_of (pos m) = digits 256 (least_octets m) m
 unsigned_octets_of (negsuc m) = complement (signed_octets (negsuc m)) (negsuc m)

@@ -1,5 +1,6 @@
 -- The ranges of the number types.
-use Rattle.std.specs.Prelude.{ℕ, ◌+◌, ◌-◌, ◌*◌, ◌%◌, ◌^◌, ◌==◌, ℤ, pos, negsuc, ◌+ℤ◌, ◌-ℤ◌, Bool, true, false, None, Some}
+use Rattle.std.specs.Prelude.{ℕ, ◌+◌, ◌-◌, ◌*◌, ◌%◌, ◌^◌, ◌==◌, ℤ, pos, negsuc, ◌+ℤ◌, ◌-ℤ◌, Bool, true, false, None}
+use Rattle.std.specs.Prelude.{Some}
 use Rattle.asn1_model.specs.Schema.{Range}
 
 -- from zero to a greatest number
@@ -22,7 +23,8 @@ greatest_of true bits = 2 ^ (bits - 1) - 1
 
 -- the range of a type of numbers by its bits: 2 ^ 32 - 1 where nothing limits them
 abbrev pub range_of_width : Bool → ℕ → Range
-range_of_width signed width = elim (width == 2 ^ 32 - 1) [ true ↦ record { low = None; high = None } | false ↦ range_of signed (greatest_of signed width) ]
+range_of_width signed width = elim (width == 2 ^ 32 - 1)
+    [ true ↦ record { low = None; high = None } | false ↦ range_of signed (greatest_of signed width) ]
 
 -- the remainder of a whole number by a positive one, from zero up
 abbrev pub remainder : ℤ → ℕ → ℕ

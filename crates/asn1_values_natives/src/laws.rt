@@ -8,15 +8,18 @@ ghost use Rattle.asn1_values_natives.specs.Octets.{signed_number, unsigned_numbe
 /// stand for it, and octets are those of the number that they stand for.
 pub fn octets_stand_for_their_number()
     ensures number { (z : ℤ) → signed_number (signed_octets_of z) ≡ z }
-    ensures octets { (os : List ℕ) → AllByRecursion (λ o. o < 256) os → 0 < length os → complement (length os) (signed_number os) ≡ os }
+    ensures octets { (os : List ℕ) → AllByRecursion (λ o. o < 256) os → 0 < length os
+        → complement (length os) (signed_number os) ≡ os }
 {}
 
 /// No list of octets is shorter than the fewest octets of the number that it stands for, and a
 /// list has these exactly if its first nine bits are not alike (X.690 8.3.2).
 pub fn octets_are_fewest()
-    ensures fewest { (os : List ℕ) → AllByRecursion (λ o. o < 256) os → 0 < length os → length (signed_octets_of (signed_number os)) ≤ length os }
+    ensures fewest { (os : List ℕ) → AllByRecursion (λ o. o < 256) os → 0 < length os
+        → length (signed_octets_of (signed_number os)) ≤ length os }
     ensures count { (z : ℤ) → length (signed_octets_of z) ≡ signed_octets z }
-    ensures kept { (os : List ℕ) → AllByRecursion (λ o. o < 256) os → 0 < length os → is_padded os ≡ false → signed_octets_of (signed_number os) ≡ os }
+    ensures kept { (os : List ℕ) → AllByRecursion (λ o. o < 256) os → 0 < length os → is_padded os ≡ false
+        → signed_octets_of (signed_number os) ≡ os }
     ensures bare { (z : ℤ) → is_padded (signed_octets_of z) ≡ false }
 {}
 
@@ -24,6 +27,7 @@ pub fn octets_are_fewest()
 /// octets.
 pub fn octets_are_digits()
     ensures sum { (os : List ℕ) → unsigned_number os ≡ number_after 256 0 os }
-    ensures digits { (os : List ℕ) → AllByRecursion (λ o. o < 256) os → digits 256 (length os) (unsigned_number os) ≡ os }
+    ensures digits { (os : List ℕ) → AllByRecursion (λ o. o < 256) os → digits 256 (length os) (unsigned_number os)
+        ≡ os }
     ensures number { (k n : ℕ) → n < 256 ^ k → unsigned_number (digits 256 k n) ≡ n }
 {}

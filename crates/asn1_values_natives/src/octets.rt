@@ -1,7 +1,8 @@
 //! Octets of two's complement.
 ghost use Rattle.std.specs.Prelude.{◌≡◌, ℕ, ◌+◌, ◌-◌, ◌*◌, ◌/◌, ◌^◌, ◌<◌, ◌≤◌, List, length, map, drop, false};
 ghost use Rattle.asn1_model.specs.Numbers.{digits, width};
-ghost use Rattle.asn1_values_natives.specs.Octets.{signed_number, unsigned_number, is_padded, is_leading, is_negative, sign_free, plain_octets};
+ghost use Rattle.asn1_values_natives.specs.Octets.{signed_number, unsigned_number, is_padded, is_leading};
+ghost use Rattle.asn1_values_natives.specs.Octets.{is_negative, sign_free, plain_octets};
 
 /// Whether the first octet only repeats the sign: the first nine bits are alike (X.690 8.3.2).
 pub fn has_padding(octets: &[u8]) -> bool
@@ -56,7 +57,8 @@ pub fn has_leading(negative: bool, octets: &[u8]) -> bool
 
 /// The octets behind leading ones of the sign alone.
 pub fn without_leading(negative: bool, octets: &[u8]) -> &[u8]
-    ensures same { unsigned_number (map (sign_free negative) result.now) ≡ unsigned_number (map (sign_free negative) octets.now) }
+    ensures same { unsigned_number (map (sign_free negative) result.now)
+        ≡ unsigned_number (map (sign_free negative) octets.now) }
     ensures fewest { is_leading negative result.now ≡ false }
 {
     let mut rest = octets;
@@ -96,7 +98,8 @@ pub fn bit_count(number: u128) -> usize
     128 - number.leading_zeros() as usize
 }
 
-/// The last `count` octets of a number, each turned over if it is negative, at the end of seventeen octets; those before them are zero.
+/// The last `count` octets of a number, each turned over if it is negative, at the end of seventeen octets; those
+/// before them are zero.
 pub fn last_octets(negative: bool, number: u128, count: usize) -> [u8; 17]
     requires { count ≤ 17 }
     ensures { drop (17 - count) result ≡ map (sign_free negative) (digits 256 count number) }

@@ -2,7 +2,8 @@
 ghost use Rattle.std.specs.Prelude.{◌≡◌, ℕ, ◌+◌, ◌^◌, ◌<◌, ◌≤◌, ℤ, pos, nat_lt, is_some, IfSome, length, ◌≤ℤ◌, true};
 ghost use Rattle.asn1_model.specs.Numbers.{is_within};
 ghost use Rattle.asn1_values_natives.specs.Ranges.{natural_range, whole_range};
-ghost use Rattle.asn1_values_natives.specs.Octets.{signed_number, unsigned_number, signed_by, plain, signed_octets_of, unsigned_octets_of};
+ghost use Rattle.asn1_values_natives.specs.Octets.{signed_number, unsigned_number, signed_by, plain};
+ghost use Rattle.asn1_values_natives.specs.Octets.{signed_octets_of, unsigned_octets_of};
 
 use crate::octets::{has_sign, magnitude, without_leading};
 
@@ -103,7 +104,8 @@ impl Wide {
         requires { pos 0 ≤ℤ greatest }
         ensures value { IfSome result (λ z. z ≡ signed_by self.negative self.magnitude) }
         ensures bound { IfSome result (λ z. plain z ≤ plain greatest) }
-        ensures fits { is_some result ≡ is_within (whole_range (plain greatest)) (signed_by self.negative self.magnitude) }
+        ensures fits { is_some result ≡ is_within (whole_range (plain greatest))
+            (signed_by self.negative self.magnitude) }
     {
         if self.magnitude > greatest as u128 {
             return None;

@@ -1,8 +1,10 @@
 //! The string whose characters are two octets wide.
-ghost use Rattle.std.specs.Prelude.{◌≡◌, ◌+◌, ◌*◌, ◌%◌, ◌<◌, ◌≤◌, ◌^◌, ℕ, [], ◌∷◌, ◌++◌, flat_map, length, Some, refl, nat_eq, ◌↔◌, IsTrue, IfOk, IfErr, OnOk, OnErr, MatchResult, string_bytes};
+ghost use Rattle.std.specs.Prelude.{◌≡◌, ◌+◌, ◌*◌, ◌%◌, ◌<◌, ◌≤◌, ◌^◌, ℕ, [], ◌∷◌, ◌++◌, flat_map, length, Some};
+ghost use Rattle.std.specs.Prelude.{refl, nat_eq, ◌↔◌, IsTrue, IfOk, IfErr, OnOk, OnErr, MatchResult, string_bytes};
 ghost use Rattle.std.specs.Ordering.{nat_cmp};
 ghost use Rattle.std.specs.Hash as fed;
-ghost use Rattle.std.specs.Cmp.Lexicographic.{pointwise, slice_cmp, nat_list_eq_equiv, nat_list_cmp_total, texts_ties, texts_po};
+ghost use Rattle.std.specs.Cmp.Lexicographic.{pointwise, slice_cmp, nat_list_eq_equiv, nat_list_cmp_total};
+ghost use Rattle.std.specs.Cmp.Lexicographic.{texts_ties, texts_po};
 ghost use Rattle.std.specs.Cmp.{partial_equiv_from_equiv};
 ghost use Rattle.std.specs.Cmp.Rules.{hashing};
 ghost use Rattle.std.specs.Str.{chars};
@@ -89,7 +91,8 @@ impl BmpString {
     pub fn from_text(alloc: Global, text: &str) -> Result<Self, PermittedAlphabetError>
         ensures characters { IfOk result (λ s. s ≡ chars text.now) }
         ensures permitted { OnOk result (IsTrue (permits_all bmp (chars text.now))) }
-        ensures refused { IfErr result (IsRefusalOf bmp (λ c. outside_bmp (record { character = c })) (chars text.now)) }
+        ensures refused { IfErr result (IsRefusalOf bmp (λ c. outside_bmp (record { character = c }))
+            (chars text.now)) }
     {
         string_of_text(alloc, text)
     }
@@ -174,7 +177,8 @@ impl BmpString {
     pub fn push_char(&mut self, character: u32) -> Result<(), PermittedAlphabetError>
         ensures pushed { OnOk result (self.new ≡ self.old ++ character ∷ []) }
         ensures permitted { OnOk result (IsTrue (permits bmp character)) }
-        ensures refused { IfErr result (IsRefusalOf bmp (λ c. outside_bmp (record { character = c })) (character ∷ [])) }
+        ensures refused { IfErr result (IsRefusalOf bmp (λ c. outside_bmp (record { character = c }))
+            (character ∷ [])) }
         ensures unchanged { OnErr result (self.new ≡ self.old) }
     {
         if character > 0xFFFF {
@@ -203,7 +207,8 @@ impl From<Vec<u16>> for BmpString {
 impl TryFrom<Vec<u8>> for BmpString {
     type Error = PermittedAlphabetError;
 
-    ghost try_from_gives = { λ v r. MatchResult r (λ s. (flat_map (digits 256 2) s ≡ v.items) × (length v.items % 2 ≡ 0)) (IsRefusalOfPairs v.items) };
+    ghost try_from_gives = { λ v r. MatchResult r (λ s. (flat_map (digits 256 2) s ≡ v.items)
+        × (length v.items % 2 ≡ 0)) (IsRefusalOfPairs v.items) };
 
     fn try_from(octets: Vec<u8>) -> Result<Self, PermittedAlphabetError> {
         BmpString::from_bytes(*octets.allocator(), octets.as_slice())
@@ -215,7 +220,8 @@ impl TryFrom<Vec<u8>> for BmpString {
 impl TryFrom<BitString> for BmpString {
     type Error = PermittedAlphabetError;
 
-    ghost try_from_gives = { λ bits r. MatchResult r (λ s. octet_bits (flat_map (digits 256 2) s) ≡ bits) (IsRefusalOfPairBits bits) };
+    ghost try_from_gives = { λ bits r. MatchResult r (λ s. octet_bits (flat_map (digits 256 2) s) ≡ bits)
+        (IsRefusalOfPairBits bits) };
 
     fn try_from(bits: BitString) -> Result<Self, PermittedAlphabetError> {
         if bits.len() % 16 > 0 {
@@ -230,7 +236,9 @@ impl TryFrom<BitString> for BmpString {
 impl TryFrom<String> for BmpString {
     type Error = PermittedAlphabetError;
 
-    ghost try_from_gives = { λ text r. MatchResult r (λ s. (s ≡ chars (string_bytes text)) × IsTrue (permits_all bmp (chars (string_bytes text)))) (IsRefusalOf bmp (λ c. outside_bmp (record { character = c })) (chars (string_bytes text))) };
+    ghost try_from_gives = { λ text r. MatchResult r (λ s. (s ≡ chars (string_bytes text))
+        × IsTrue (permits_all bmp (chars (string_bytes text))))
+        (IsRefusalOf bmp (λ c. outside_bmp (record { character = c })) (chars (string_bytes text))) };
 
     fn try_from(text: String) -> Result<Self, PermittedAlphabetError> {
         string_of_text(*text.allocator(), text.as_str())

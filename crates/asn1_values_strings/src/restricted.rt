@@ -1,8 +1,10 @@
 //! Strings of one kind, which hold characters of its alphabet alone.
-ghost use Rattle.std.specs.Prelude.{◌≡◌, ◌<◌, ◌^◌, ℕ, [], ◌∷◌, ◌++◌, length, Some, refl, nat_eq, ◌↔◌, IsTrue, IfOk, IfErr, OnOk, OnErr, MatchResult, string_bytes};
+ghost use Rattle.std.specs.Prelude.{◌≡◌, ◌<◌, ◌^◌, ℕ, [], ◌∷◌, ◌++◌, length, Some, refl, nat_eq, ◌↔◌, IsTrue, IfOk};
+ghost use Rattle.std.specs.Prelude.{IfErr, OnOk, OnErr, MatchResult, string_bytes};
 ghost use Rattle.std.specs.Ordering.{nat_cmp};
 ghost use Rattle.std.specs.Hash as fed;
-ghost use Rattle.std.specs.Cmp.Lexicographic.{pointwise, slice_cmp, nat_list_eq_equiv, nat_list_cmp_total, texts_ties, texts_po};
+ghost use Rattle.std.specs.Cmp.Lexicographic.{pointwise, slice_cmp, nat_list_eq_equiv, nat_list_cmp_total};
+ghost use Rattle.std.specs.Cmp.Lexicographic.{texts_ties, texts_po};
 ghost use Rattle.std.specs.Cmp.{partial_equiv_from_equiv};
 ghost use Rattle.std.specs.Cmp.Rules.{hashing};
 ghost use Rattle.std.specs.Str.{chars};
@@ -188,7 +190,8 @@ impl<K: CharacterKind> RestrictedString<K> {
 impl<K: CharacterKind> TryFrom<Vec<u8>> for RestrictedString<K> {
     type Error = PermittedAlphabetError;
 
-    ghost try_from_gives = { λ v r. MatchResult r (λ s. (s ≡ v.items) × IsTrue (permits_all K.kind v.items)) (IsOutside K.kind K.refused v.items) };
+    ghost try_from_gives = { λ v r. MatchResult r (λ s. (s ≡ v.items) × IsTrue (permits_all K.kind v.items))
+        (IsOutside K.kind K.refused v.items) };
 
     fn try_from(octets: Vec<u8>) -> Result<Self, PermittedAlphabetError> {
         ensure_permitted::<K>(&octets)?;
@@ -203,7 +206,8 @@ impl<K: CharacterKind> TryFrom<Vec<u8>> for RestrictedString<K> {
 impl<K: CharacterKind> TryFrom<BitString> for RestrictedString<K> {
     type Error = PermittedAlphabetError;
 
-    ghost try_from_gives = { λ bits r. MatchResult r (λ s. (octet_bits s ≡ bits) × IsTrue (permits_all K.kind s)) (IsRefusalOfBits K.kind K.refused bits) };
+    ghost try_from_gives = { λ bits r. MatchResult r (λ s. (octet_bits s ≡ bits) × IsTrue (permits_all K.kind s))
+        (IsRefusalOfBits K.kind K.refused bits) };
 
     fn try_from(bits: BitString) -> Result<Self, PermittedAlphabetError> {
         if bits.len() % 8 > 0 {
@@ -219,7 +223,9 @@ impl<K: CharacterKind> TryFrom<BitString> for RestrictedString<K> {
 impl<K: CharacterKind> TryFrom<String> for RestrictedString<K> {
     type Error = PermittedAlphabetError;
 
-    ghost try_from_gives = { λ text r. MatchResult r (λ s. (s ≡ chars (string_bytes text)) × IsTrue (permits_all K.kind (chars (string_bytes text)))) (IsRefusalOf K.kind K.refused (chars (string_bytes text))) };
+    ghost try_from_gives = { λ text r. MatchResult r (λ s. (s ≡ chars (string_bytes text))
+        × IsTrue (permits_all K.kind (chars (string_bytes text))))
+        (IsRefusalOf K.kind K.refused (chars (string_bytes text))) };
 
     fn try_from(text: String) -> Result<Self, PermittedAlphabetError> {
         if !text.as_str().is_ascii() {

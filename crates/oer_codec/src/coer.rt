@@ -17,7 +17,8 @@ use std::alloc::Global;
 ///
 /// # Errors
 ///
-/// Want of memory aside, only where the value has no encoding: `ValueConstraintNotSatisfied`, `SizeConstraintNotSatisfied`, or
+/// Want of memory aside, only where the value has no encoding: `ValueConstraintNotSatisfied`,
+/// `SizeConstraintNotSatisfied`, or
 /// `TooLongValue` for 2 to 60 octets and more and for nothing else.
 pub fn encode<T: Encode>(alloc: Global, value: &T) -> Result<Vec<u8>, EncodeError>
     ensures ok { IfOk result (λ octets. IsEncoded T.schema (T.meaning value.now) octets.items) }
@@ -28,8 +29,8 @@ pub fn encode<T: Encode>(alloc: Global, value: &T) -> Result<Vec<u8>, EncodeErro
     Ok(octets)
 }
 
-/// Adds the canonical encoding of a value (X.696) behind what stands in the buffer. If nothing does, it is written in the buffer's own
-/// room.
+/// Adds the canonical encoding of a value (X.696) behind what stands in the buffer. If nothing does, it is written in
+/// the buffer's own room.
 ///
 /// # Errors
 ///
@@ -73,7 +74,8 @@ pub fn encode_with_constraints<T: Encode>(
 ///
 /// # Errors
 ///
-/// Want of memory aside, only where no octets in front, fewer than 2 to 60, are an encoding of a value that nests at most 128 levels.
+/// Want of memory aside, only where no octets in front, fewer than 2 to 60, are an encoding of a value that nests at
+/// most 128 levels.
 pub fn decode<T: Decode>(alloc: Global, input: &[u8]) -> Result<T, DecodeError>
     ensures ok { IfOk result (λ x. (rest : List ℕ) × Tells coer T.schema (T.meaning x) input.now rest) }
     ensures only { IfErr result (NoMessage coer T.schema input.now) }

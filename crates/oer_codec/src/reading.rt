@@ -16,7 +16,8 @@ use std::alloc::Global;
 ///
 /// # Errors
 ///
-/// `OutOfMemory` for want of memory. Any other only if no octets in front, fewer than 2 to 60, are an encoding of a value of the type that
+/// `OutOfMemory` for want of memory. Any other only if no octets in front, fewer than 2 to 60, are an encoding of a
+/// value of the type that
 /// nests at most 128 levels.
 pub fn decode<T: Decode>(
     alloc: Global,
@@ -53,12 +54,13 @@ pub fn decode_with_remainder<'input, T: Decode>(
     Ok((value, rest))
 }
 
-/// Reads the value whose encoding under these constraints, in place of the type's own, stands in front (X.696), and passes over the octets
-/// behind it.
+/// Reads the value whose encoding under these constraints, in place of the type's own, stands in front (X.696), and
+/// passes over the octets behind it.
 ///
 /// # Errors
 ///
-/// `OutOfMemory` for want of memory. Any other, if the type under these constraints is a lawful one, only if no octets in front, fewer than
+/// `OutOfMemory` for want of memory. Any other, if the type under these constraints is a lawful one, only if no
+/// octets in front, fewer than
 /// 2 to 60, are an encoding of a value of it that nests at most 128 levels.
 pub fn decode_with_constraints<T: Decode>(
     alloc: Global,

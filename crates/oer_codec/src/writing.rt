@@ -1,5 +1,6 @@
 //! A value is written.
-ghost use Rattle.std.specs.Prelude.{◌≡◌, ◌++◌, [], List, ℕ, length, OnOk, OnErr, IfOk, IfErr, MatchResult, ◌<◌, ◌≤◌, ◌^◌};
+ghost use Rattle.std.specs.Prelude.{◌≡◌, ◌++◌, [], List, ℕ, length, OnOk, OnErr, IfOk, IfErr, MatchResult, ◌<◌, ◌≤◌};
+ghost use Rattle.std.specs.Prelude.{◌^◌};
 ghost use Rattle.asn1_schema_constraints.specs.Terms.{meant};
 ghost use Rattle.oer_codec.specs.Encoded.{IsEncoded, NotEncoded};
 
@@ -37,8 +38,8 @@ fn within_limit(octets: Vec<u8>) -> Result<Vec<u8>, EncodeError>
     Ok(octets)
 }
 
-/// How a refusal of the value's type is passed on. That an encoding is too long is found by `within_limit` alone; a type that says so itself
-/// refuses its value, and is taken to refuse a length.
+/// How a refusal of the value's type is passed on. That an encoding is too long is found by `within_limit` alone; a
+/// type that says so itself refuses its value, and is taken to refuse a length.
 fn refusal(error: EncodeError) -> EncodeError
     ensures length { error ≡ EncodeError.TooLongValue → result ≡ EncodeError.SizeConstraintNotSatisfied }
     ensures others { ¬ (error ≡ EncodeError.TooLongValue) → result ≡ error }
@@ -54,7 +55,8 @@ fn refusal(error: EncodeError) -> EncodeError
 ///
 /// # Errors
 ///
-/// `TooLongValue` for an encoding of 2 to 60 octets or more and for nothing else, `OutOfMemory`, and those of the value's type, where the
+/// `TooLongValue` for an encoding of 2 to 60 octets or more and for nothing else, `OutOfMemory`, and those of the
+/// value's type, where the
 /// value has no encoding of any length; a `TooLongValue` of the type's own comes as `SizeConstraintNotSatisfied`.
 pub fn encode<T: Encode>(alloc: Global, value: &T) -> Result<Vec<u8>, EncodeError>
     ensures ok { IfOk result (λ octets. IsEncoded T.schema (T.meaning value.now) octets.items) }
@@ -105,7 +107,8 @@ pub fn encode_with_constraints<T: Encode>(
     }
 }
 
-/// Adds the canonical encoding of a value (X.696) behind what stands in the buffer. If nothing does, it is written in the buffer's own room.
+/// Adds the canonical encoding of a value (X.696) behind what stands in the buffer. If nothing does, it is written in
+/// the buffer's own room.
 ///
 /// # Errors
 ///

@@ -9,8 +9,8 @@ use Rattle.oer_codec_reading_lengths.specs.declared.rules.EncodingRules.{Encodin
 use Rattle.oer_codec_reading_lengths.specs.declared.rules.EncodingRules.TheVariants.{Oer, Coer}
 use Rattle.oer_codec_fronts.specs.Takes.{Scope, State, Takes}
 
--- What is held: the octets that are left, the open scopes, how many more levels may be nested, how many were so at the beginning, whether
--- the decoder has failed, and its rules.
+-- What is held: the octets that are left, the open scopes, how many more levels may be nested, how many were so at
+-- the beginning, whether the decoder has failed, and its rules.
 pub record Held : Type 0 where
   pub octets : List ℕ
   pub scopes : List Scope

@@ -6,13 +6,15 @@ use Rattle.asn1_model.specs.Schema.{Tag}
 use Rattle.asn1_schema_faults.specs.declared.DecodeError.{DecodeError}
 use Rattle.asn1_schema_faults.specs.declared.DecodeError.TheVariants.{AlreadyFailed, OutOfMemory}
 use Rattle.oer_codec_reading.specs.Fronts.{Stands}
-use Rattle.oer_codec_fronts.specs.Takes.{Scope, State, components, AdditionsBegin, Opens, AdditionEnds, IsPlace, Enters, Chooses, Ends}
+use Rattle.oer_codec_fronts.specs.Takes.{Scope, State, components, AdditionsBegin, Opens, AdditionEnds, IsPlace}
+use Rattle.oer_codec_fronts.specs.Takes.{Enters, Chooses, Ends}
 
 -- No bitmap of additions (X.696 16.4).
-pub record NoAdditions (free : Oer.Freedom → Bool) (marked : Bool) (n : ℕ) (os : List ℕ) (e : DecodeError) : Type 0 where
-  pub none : ¬ (e ≡ OutOfMemory) → (k : List Scope) (b : State)
-      → AdditionsBegin free n os (components (Some marked) [] ∷ k) b → ⊥
-  pub fresh : ¬ (e ≡ AlreadyFailed)
+pub record NoAdditions (free : Oer.Freedom → Bool) (marked : Bool) (n : ℕ) (os : List ℕ) (e : DecodeError) : Type 0
+  where
+    pub none : ¬ (e ≡ OutOfMemory) → (k : List Scope) (b : State)
+        → AdditionsBegin free n os (components (Some marked) [] ∷ k) b → ⊥
+    pub fresh : ¬ (e ≡ AlreadyFailed)
 
 -- No open type (X.696 30).
 pub record NotOpened (free : Oer.Freedom → Bool) (os : List ℕ) (e : DecodeError) : Type 0 where

@@ -3,7 +3,8 @@ use Rattle.std.specs.Prelude.{◌≡◌, Bool, false, List, [], ◌∷◌, ◌++
 use Rattle.oer_codec_fronts.specs.Takes.{Scope, components, added, open_type, members, alternative}
 use Rattle.oer_codec_decoder.specs.declared.additions.Additions.{Additions}
 use Rattle.oer_codec_decoder.specs.declared.frames.Enclosing.{Enclosing}
-use Rattle.oer_codec_decoder.specs.declared.frames.Enclosing.TheVariants.{Alternative as EnclosingAlternative, OpenType as EnclosingOpenType}
+use Rattle.oer_codec_decoder.specs.declared.frames.Enclosing.TheVariants.{Alternative as EnclosingAlternative}
+use Rattle.oer_codec_decoder.specs.declared.frames.Enclosing.TheVariants.{OpenType as EnclosingOpenType}
 use Rattle.oer_codec_decoder.specs.declared.frames.Frame.{Frame}
 use Rattle.oer_codec_decoder.specs.declared.frames.Frame.TheVariants.{Components, Added, OpenType, Members, Alternative}
 
@@ -24,12 +25,14 @@ abbrev pub frame_of : Enclosing → Frame
 frame_of EnclosingAlternative = Alternative
 frame_of (EnclosingOpenType behind) = OpenType behind
 
--- The open scopes that frames hold, the innermost first: it stands alone, and those around it in the order in which they began.
+-- The open scopes that frames hold, the innermost first: it stands alone, and those around it in the order in which
+-- they began.
 abbrev pub framed : Option Frame → List Frame → List Scope
 framed None fs = []
 framed (Some f) fs = scope_of f ∷ map scope_of (reverse fs)
 
--- The open scopes, the innermost first: what encloses one value alone, if there is such a one, and those that frames hold.
+-- The open scopes, the innermost first: what encloses one value alone, if there is such a one, and those that frames
+-- hold.
 abbrev pub scopes_of : Option Enclosing → Option Frame → List Frame → List Scope
 scopes_of None f fs = framed f fs
 scopes_of (Some e) f fs = scope_of (frame_of e) ∷ framed f fs

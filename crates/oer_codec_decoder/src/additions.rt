@@ -69,8 +69,8 @@ fn among<'input>(bitmap: BitReader<'input>, count: usize) -> Additions<'input>
     }
 }
 
-/// Reads what stands in front of the additions of a sequence, of which the type has so many: nothing where the mark is not set, else a
-/// presence bitmap of any width.
+/// Reads what stands in front of the additions of a sequence, of which the type has so many: nothing where the mark
+/// is not set, else a presence bitmap of any width.
 ///
 /// # Errors
 ///
@@ -82,7 +82,8 @@ pub(crate) fn read_additions<'input>(
     marked: bool,
     count: usize,
 ) -> Result<Additions<'input>, DecodeError>
-    ensures ok { IfOk result (λ a. (k : _) → AdditionsBegin (freedoms rules) count cursor.old (components (Some marked) [] ∷ k) (cursor.new, added (bits_due a) a.unknown.bits ∷ k)) }
+    ensures ok { IfOk result (λ a. (k : _) → AdditionsBegin (freedoms rules) count cursor.old
+        (components (Some marked) [] ∷ k) (cursor.new, added (bits_due a) a.unknown.bits ∷ k)) }
     ensures only { IfErr result (NoAdditions (freedoms rules) marked count cursor.old) }
 {
     if !marked {

@@ -39,9 +39,12 @@ fn read_alternative(
 /// The alternative of a tag: one of the root, else an added one behind a mark.
 #[inline(always)]
 fn find_alternative(tag: Tag, roots: &[Tag], extensible: bool, additions: &[Tag]) -> Option<Chosen>
-    ensures some { IfSome result (λ x. IsPlace (map tag_of roots.now) extensible (map tag_of additions.now) (tag_of tag) x.added x.place) }
-    ensures within { IfSome result (λ x. x.place < length (cond x.added (map tag_of additions.now) (map tag_of roots.now))) }
-    ensures none { IfNone result ((plus : _) (i : _) → IsPlace (map tag_of roots.now) extensible (map tag_of additions.now) (tag_of tag) plus i → ⊥) }
+    ensures some { IfSome result (λ x. IsPlace (map tag_of roots.now) extensible (map tag_of additions.now)
+        (tag_of tag) x.added x.place) }
+    ensures within { IfSome result (λ x. x.place < length
+        (cond x.added (map tag_of additions.now) (map tag_of roots.now))) }
+    ensures none { IfNone result ((plus : _) (i : _) → IsPlace (map tag_of roots.now) extensible
+        (map tag_of additions.now) (tag_of tag) plus i → ⊥) }
 {
     if let Some(place) = find_tag(tag, roots) {
         return Some(Chosen::root(place));
@@ -62,7 +65,8 @@ fn enter_alternative<'input>(
     rules: EncodingRules,
     added: bool,
 ) -> Result<Enclosing<'input>, DecodeError>
-    ensures ok { IfOk result (λ enclosing. (k : _) → Enters (freedoms rules) added cursor.old k (cursor.new, scope_of (frame_of enclosing) ∷ k)) }
+    ensures ok { IfOk result (λ enclosing. (k : _) → Enters (freedoms rules) added cursor.old k
+        (cursor.new, scope_of (frame_of enclosing) ∷ k)) }
     ensures only { IfErr result (NoEntry (freedoms rules) added cursor.old) }
 {
     if !added {
@@ -76,7 +80,8 @@ fn enter_alternative<'input>(
 ///
 /// # Errors
 ///
-/// `InvalidTagVariantOnChoice` if no alternative has the tag, the errors of a tag, and those of an open type for an added alternative.
+/// `InvalidTagVariantOnChoice` if no alternative has the tag, the errors of a tag, and those of an open type for an
+/// added alternative.
 #[inline(always)]
 pub(crate) fn read_choice<'input>(
     cursor: &mut Cursor<'input>,
@@ -85,9 +90,12 @@ pub(crate) fn read_choice<'input>(
     extensible: bool,
     additions: &[Tag],
 ) -> Result<(Chosen, Enclosing<'input>), DecodeError>
-    ensures ok { IfOk result (λ p. (k : _) → Chooses (freedoms rules) (map tag_of roots.now) extensible (map tag_of additions.now) p.0.added p.0.place (cursor.old, k) (cursor.new, scope_of (frame_of p.1) ∷ k)) }
-    ensures within { IfOk result (λ p. p.0.place < length (cond p.0.added (map tag_of additions.now) (map tag_of roots.now))) }
-    ensures only { IfErr result (NoChoice (freedoms rules) (map tag_of roots.now) extensible (map tag_of additions.now) cursor.old) }
+    ensures ok { IfOk result (λ p. (k : _) → Chooses (freedoms rules) (map tag_of roots.now) extensible
+        (map tag_of additions.now) p.0.added p.0.place (cursor.old, k) (cursor.new, scope_of (frame_of p.1) ∷ k)) }
+    ensures within { IfOk result (λ p. p.0.place < length
+        (cond p.0.added (map tag_of additions.now) (map tag_of roots.now))) }
+    ensures only { IfErr result (NoChoice (freedoms rules) (map tag_of roots.now) extensible
+        (map tag_of additions.now) cursor.old) }
 {
     let tag = read_alternative(cursor, rules, roots, additions)?;
     let Some(chosen) = find_alternative(tag, roots, extensible, additions) else {

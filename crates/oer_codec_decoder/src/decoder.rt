@@ -1,5 +1,6 @@
 //! What finds the records of a value in octets.
-ghost use Rattle.std.specs.Prelude.{◌≡◌, ◌+◌, ◌-◌, ◌<◌, ◌≤◌, ◌^◌, [], ◌∷◌, true, false, length, take, OnOk, OnErr, IfErr, IfOk};
+ghost use Rattle.std.specs.Prelude.{◌≡◌, ◌+◌, ◌-◌, ◌<◌, ◌≤◌, ◌^◌, [], ◌∷◌, true, false, length, take, OnOk, OnErr};
+ghost use Rattle.std.specs.Prelude.{IfErr, IfOk};
 ghost use Rattle.asn1_schema_decode.specs.Reads.{NoRecord};
 ghost use Rattle.asn1_schema_presented.specs.Records.{asks_one_of, one_of};
 ghost use Rattle.oer_codec_decoder.specs.Held.{Held, Finds, HasFailed, kind_of, state_of, IsReady};
@@ -49,15 +50,30 @@ impl<'input> Model for Decoder<'input> {
 
     ghost Value = { Held };
 
-    ghost view = { λ d. record { octets = d.cursor; scopes = d.scopes; levels = d.levels; most = d.most; failed = d.failed; rules = d.rules } };
+    ghost view = { λ d. record {
+      octets = d.cursor;
+      scopes = d.scopes;
+      levels = d.levels;
+      most = d.most;
+      failed =
+          d.failed;
+      rules = d.rules;
+    } };
 }
 
 impl<'input> Decoder<'input> {
-    /// A decoder of this input by the rules of these options, within 128 nested levels. Of an input of 2 to 60 octets or more the first ones are looked
-    /// at, fewer than so many.
+    /// A decoder of this input by the rules of these options, within 128 nested levels. Of an input of 2 to 60 octets
+    /// or more the first ones are looked at, fewer than so many.
     #[inline(always)]
     pub fn new(alloc: Global, input: &'input [u8], options: DecoderOptions) -> Self
-        ensures { result ≡ record { octets = take (2 ^ 60 - 1) input.entry.now; scopes = []; levels = 128; most = 128; failed = false; rules = options.rules } }
+        ensures { result ≡ record {
+          octets = take (2 ^ 60 - 1) input.entry.now;
+          scopes = [];
+          levels = 128;
+          most = 128;
+          failed = false;
+          rules = options.rules;
+        } }
     {
         Decoder {
             cursor: Cursor::new(input),
@@ -123,7 +139,16 @@ impl<'input> Decoder<'input> {
     fn enter(&mut self, frame: Frame<'input>) -> Result<(), DecodeError>
         requires { 0 < self.old.levels }
         ensures levels { OnOk result (self.old.levels ≡ self.new.levels + 1) }
-        ensures scopes { OnOk result (self.new ≡ record { octets = self.old.octets; scopes = scope_of frame.entry ∷ self.old.scopes; levels = self.new.levels; most = self.old.most; failed = self.old.failed; rules = self.old.rules }) }
+        ensures scopes { OnOk result (self.new ≡ record {
+          octets = self.old.octets;
+          scopes = scope_of frame.entry
+              ∷ self.old.scopes;
+          levels = self.new.levels;
+          most = self.old.most;
+          failed = self.old.failed;
+          rules =
+              self.old.rules;
+        }) }
         ensures only { IfErr result (λ error. error ≡ DecodeError.OutOfMemory) }
         ensures failed { OnErr result (self.new.failed ≡ true) }
     {
@@ -139,7 +164,17 @@ impl<'input> Decoder<'input> {
     fn enter_enclosing(&mut self, enclosing: Enclosing<'input>) -> Result<(), DecodeError>
         requires { 0 < self.old.levels }
         ensures levels { OnOk result (self.old.levels ≡ self.new.levels + 1) }
-        ensures scopes { OnOk result (self.new ≡ record { octets = self.old.octets; scopes = scope_of (frame_of enclosing.entry) ∷ self.old.scopes; levels = self.new.levels; most = self.old.most; failed = self.old.failed; rules = self.old.rules }) }
+        ensures scopes { OnOk result (self.new
+            ≡ record {
+              octets = self.old.octets;
+              scopes = scope_of (frame_of enclosing.entry)
+                  ∷ self.old.scopes;
+              levels = self.new.levels;
+              most = self.old.most;
+              failed = self.old.failed;
+              rules =
+                  self.old.rules;
+            }) }
         ensures only { IfErr result (λ error. error ≡ DecodeError.OutOfMemory) }
         ensures failed { OnErr result (self.new.failed ≡ true) }
     {
@@ -153,8 +188,18 @@ impl<'input> Decoder<'input> {
     // Opens the scope of an open type (X.696 30), and takes no level for it.
     #[inline(always)]
     fn open_type(&mut self) -> Result<(), DecodeError>
-        ensures opens { OnOk result (Opens (freedoms self.old.rules) self.old.octets self.old.scopes (state_of self.new)) }
-        ensures kept { OnOk result (self.new ≡ record { octets = self.new.octets; scopes = self.new.scopes; levels = self.old.levels; most = self.old.most; failed = self.old.failed; rules = self.old.rules }) }
+        ensures opens { OnOk result (Opens (freedoms self.old.rules) self.old.octets self.old.scopes
+            (state_of self.new)) }
+        ensures kept { OnOk result (self.new
+            ≡ record {
+              octets = self.new.octets;
+              scopes = self.new.scopes;
+              levels = self.old.levels;
+              most =
+                  self.old.most;
+              failed = self.old.failed;
+              rules = self.old.rules;
+            }) }
         ensures only { IfErr result (NotOpened (freedoms self.old.rules) self.old.octets) }
         ensures failed { OnErr result (self.new.failed ≡ true) }
     {
@@ -171,7 +216,8 @@ impl<'input> Decoder<'input> {
 }
 
 impl<'input> asn1_schema_decode::Decoder for Decoder<'input> {
-    ghost use Rattle.oer_codec_decoder.specs.Laws.{finds_one, finds_held, finds_bag_held, finds_none, finds_on, finds_same};
+    ghost use Rattle.oer_codec_decoder.specs.Laws.{finds_one, finds_held, finds_bag_held, finds_none, finds_on};
+    ghost use Rattle.oer_codec_decoder.specs.Laws.{finds_same};
     ghost use Rattle.std.specs.Prelude.{⊤};
 
     type Octets = &'input [u8];

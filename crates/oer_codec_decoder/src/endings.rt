@@ -30,8 +30,10 @@ fn finish_additions<'input>(
     cursor: &mut Cursor<'input>,
     rules: EncodingRules,
 ) -> Result<(), DecodeError>
-    ensures ok { OnOk result ((k : _) → Ends (freedoms rules) cursor.old (added (bits_due additions.entry) additions.entry.unknown.bits ∷ k) (cursor.new, k)) }
-    ensures only { IfErr result (NotFinished (freedoms rules) (added (bits_due additions.entry) additions.entry.unknown.bits) cursor.old) }
+    ensures ok { OnOk result ((k : _) → Ends (freedoms rules) cursor.old
+        (added (bits_due additions.entry) additions.entry.unknown.bits ∷ k) (cursor.new, k)) }
+    ensures only { IfErr result (NotFinished (freedoms rules)
+        (added (bits_due additions.entry) additions.entry.unknown.bits) cursor.old) }
 {
     if !additions.is_empty() {
         return Err(DecodeError::NotValidCanonicalEncoding);
@@ -45,7 +47,8 @@ fn finish_additions<'input>(
 ///
 /// # Errors
 ///
-/// `SurplusOctets` if octets are left in an open type in the canonical rules, the errors of unknown additions that are passed over, and
+/// `SurplusOctets` if octets are left in an open type in the canonical rules, the errors of unknown additions that
+/// are passed over, and
 /// `NotValidCanonicalEncoding` if the calls do not come in the order of the records.
 #[inline(always)]
 pub(crate) fn finish<'input>(

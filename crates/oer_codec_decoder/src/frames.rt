@@ -29,8 +29,8 @@ pub(crate) fn first_bit(bits: &BitReader<'_>) -> bool
 /// What has begun and has not ended.
 #[derive(Drop)]
 pub(crate) enum Frame<'input> {
-    /// The components of a sequence, set or group (X.696 16): the bit of its mark of extensibility, if it has a mark, and the presence
-    /// bits that are still to come.
+    /// The components of a sequence, set or group (X.696 16): the bit of its mark of extensibility, if it has a mark,
+    /// and the presence bits that are still to come.
     Components(Option<bool>, BitReader<'input>),
     /// The additions of such a type (X.696 16.4).
     Added(Additions<'input>),
@@ -71,7 +71,8 @@ fn put<'input>(
     outer: &mut Vec<Frame<'input>>,
     frame: Frame<'input>,
 ) -> Result<(), AllocError>
-    ensures { OnOk result (framed innermost.new outer.new.items ≡ scope_of frame.entry ∷ framed innermost.old outer.old.items) }
+    ensures { OnOk result (framed innermost.new outer.new.items ≡ scope_of frame.entry
+        ∷ framed innermost.old outer.old.items) }
 {
     match innermost.take() {
         Some(around) => outer.push(around)?,
@@ -81,15 +82,16 @@ fn put<'input>(
     Ok(())
 }
 
-/// Opens what encloses one value alone as a frame inside all others. It is seldom called: where something begins in an open type or in an
-/// alternative.
+/// Opens what encloses one value alone as a frame inside all others. It is seldom called: where something begins in
+/// an open type or in an alternative.
 #[cold]
 fn put_enclosing<'input>(
     innermost: &mut Option<Frame<'input>>,
     outer: &mut Vec<Frame<'input>>,
     enclosing: Enclosing<'input>,
 ) -> Result<(), AllocError>
-    ensures { OnOk result (framed innermost.new outer.new.items ≡ scope_of (frame_of enclosing.entry) ∷ framed innermost.old outer.old.items) }
+    ensures { OnOk result (framed innermost.new outer.new.items ≡ scope_of (frame_of enclosing.entry)
+        ∷ framed innermost.old outer.old.items) }
 {
     put(innermost, outer, enclosing.frame())
 }
@@ -102,7 +104,8 @@ fn close_frame_of_addition<'input>(
     cursor: &mut Cursor<'input>,
     rules: EncodingRules,
 ) -> Result<(), DecodeError>
-    ensures ok { OnOk result (AdditionEnds (freedoms rules) cursor.old (framed innermost.old outer.old.items) (cursor.new, framed innermost.new outer.new.items)) }
+    ensures ok { OnOk result (AdditionEnds (freedoms rules) cursor.old (framed innermost.old outer.old.items)
+        (cursor.new, framed innermost.new outer.new.items)) }
     ensures only { IfErr result (NoAdditionEnd (freedoms rules) cursor.old (framed innermost.old outer.old.items)) }
 {
     let Some(Frame::OpenType(behind)) = innermost.take() else {
@@ -116,8 +119,8 @@ fn close_frame_of_addition<'input>(
     Ok(())
 }
 
-/// All that has begun and has not ended: what encloses one value alone, which stands inside all others if it is there, and the others, the
-/// innermost of them and what is around it.
+/// All that has begun and has not ended: what encloses one value alone, which stands inside all others if it is
+/// there, and the others, the innermost of them and what is around it.
 #[derive(Drop)]
 pub(crate) struct Scopes<'input> {
     enclosing: Option<Enclosing<'input>>,

@@ -1,4 +1,5 @@
-//! The decoder of the octet encoding rules (X.696), basic and canonical: what begins and ends, and the scalar types between.
+//! The decoder of the octet encoding rules (X.696), basic and canonical: what begins and ends, and the scalar types
+//! between.
 #![tactic(auto)]
 
 mod additions;

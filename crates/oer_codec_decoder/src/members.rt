@@ -33,7 +33,8 @@ pub(crate) fn read_members<'input>(
     rules: EncodingRules,
     held: Bounded<usize>,
 ) -> Result<Frame<'input>, DecodeError>
-    ensures ok { IfOk result (λ frame. HasMembers (freedoms rules) (members_of held) (scope_of frame) cursor.old cursor.new) }
+    ensures ok { IfOk result (λ frame. HasMembers (freedoms rules) (members_of held) (scope_of frame) cursor.old
+        cursor.new) }
     ensures only { IfErr result (NoMembers (freedoms rules) (members_of held) cursor.old) }
 {
     let most = most_members(held);

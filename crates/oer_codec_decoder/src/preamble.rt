@@ -40,8 +40,8 @@ fn take_presence<'input>(
     }
 }
 
-/// Reads the preamble of a sequence, with or without a mark of extensibility, of which so many components may be absent: the bit of the
-/// mark, if there is one, the presence bits, and zeros to fill an octet.
+/// Reads the preamble of a sequence, with or without a mark of extensibility, of which so many components may be
+/// absent: the bit of the mark, if there is one, the presence bits, and zeros to fill an octet.
 ///
 /// # Errors
 ///

@@ -1,5 +1,6 @@
 -- The frames of an encoder, and how they go on.
-use Rattle.std.specs.Prelude.{◌≡◌, ℕ, ◌+◌, ◌-◌, ◌<◌, Bool, ◌||◌, List, [], ◌∷◌, ◌++◌, reverse, not, ltb, Option, Some, None}
+use Rattle.std.specs.Prelude.{◌≡◌, ℕ, ◌+◌, ◌-◌, ◌<◌, Bool, ◌||◌, List, [], ◌∷◌, ◌++◌, reverse, not, ltb, Option, Some}
+use Rattle.std.specs.Prelude.{None}
 use Rattle.asn1_schema_faults.specs.declared.EncodeError.{EncodeError}
 use Rattle.asn1_schema_faults.specs.declared.EncodeError.TheVariants.{AlreadyFailed, OutOfMemory}
 use Rattle.oer_codec_encoder.specs.declared.frame.Additions.{Additions}
@@ -7,14 +8,16 @@ use Rattle.oer_codec_encoder.specs.declared.frame.Frame.{Frame}
 use Rattle.oer_codec_encoder.specs.declared.frame.Frame.TheVariants.{Added, OpenType, Alternative}
 use Rattle.oer_codec_encoder.specs.declared.frame.Preamble.{Preamble}
 use Rattle.oer_codec_encoder.specs.declared.frames.Enclosing.{Enclosing}
-use Rattle.oer_codec_encoder.specs.declared.frames.Enclosing.TheVariants.{Alternative as EnclosingAlternative, OpenType as EnclosingOpenType}
+use Rattle.oer_codec_encoder.specs.declared.frames.Enclosing.TheVariants.{Alternative as EnclosingAlternative}
+use Rattle.oer_codec_encoder.specs.declared.frames.Enclosing.TheVariants.{OpenType as EnclosingOpenType}
 
 -- The frame that encloses one value alone.
 abbrev pub frame_of : Enclosing → Frame
 frame_of EnclosingAlternative = Alternative
 frame_of (EnclosingOpenType start) = OpenType start
 
--- What is open but for what encloses one value alone, the innermost first: it stands alone, and those around it in the order in which they began.
+-- What is open but for what encloses one value alone, the innermost first: it stands alone, and those around it in
+-- the order in which they began.
 abbrev pub others_of : Option Frame → List Frame → List Frame
 others_of None fs = []
 others_of (Some f) fs = f ∷ reverse fs
@@ -26,7 +29,14 @@ frames_of (Some e) i fs = frame_of e ∷ others_of i fs
 
 -- A preamble behind its next presence bit.
 abbrev pub told : Preamble → Preamble
-told p = record { extensible = p.extensible; due = p.due - 1; given = p.given + 1; start = p.start; content = p.content }
+told p = record {
+  extensible = p.extensible;
+  due = p.due - 1;
+  given = p.given + 1;
+  start = p.start;
+  content =
+      p.content;
+}
 
 -- The additions behind the next one: one fewer is due, and whether it is there was told.
 pub record Next (here : Bool) (a b : Additions) : Type 0 where

@@ -1,14 +1,17 @@
 -- How the octets and the frames of an encoder stand for what a writer holds. The frames are given the innermost first.
-use Rattle.std.specs.Prelude.{◌≡◌, ℕ, ◌+◌, ◌-◌, ◌^◌, ◌<◌, Bool, true, false, List, [], ◌∷◌, ◌++◌, length, take, drop, replicate, Some, None, slice_index}
+use Rattle.std.specs.Prelude.{◌≡◌, ℕ, ◌+◌, ◌-◌, ◌^◌, ◌<◌, Bool, true, false, List, [], ◌∷◌, ◌++◌, length, take, drop}
+use Rattle.std.specs.Prelude.{replicate, Some, None, slice_index}
 use Rattle.asn1_model.specs.Numbers.{octet_bits}
 use Rattle.asn1_values_bits.specs.Octets.{filled_up}
 use Rattle.asn1_schema_faults.specs.declared.EncodeError.{EncodeError}
 use Rattle.asn1_schema_faults.specs.declared.EncodeError.TheVariants.{AlreadyFailed, OutOfMemory}
 use Rattle.asn1_schema_presented.specs.Records.{Record}
-use Rattle.oer_codec_encoder.specs.Steps.{components, added, open_type, members, bag_members, alternative, with_open, is_any_set, State, run}
+use Rattle.oer_codec_encoder.specs.Steps.{components, added, open_type, members, bag_members, alternative, with_open}
+use Rattle.oer_codec_encoder.specs.Steps.{is_any_set, State, run}
 use Rattle.oer_codec_encoder.specs.declared.frame.Bag.{Bag as BagFrame}
 use Rattle.oer_codec_encoder.specs.declared.frame.Frame.{Frame}
-use Rattle.oer_codec_encoder.specs.declared.frame.Frame.TheVariants.{Components, Added, OpenType, Members, Bag, Alternative}
+use Rattle.oer_codec_encoder.specs.declared.frame.Frame.TheVariants.{Components, Added, OpenType, Members, Bag}
+use Rattle.oer_codec_encoder.specs.declared.frame.Frame.TheVariants.{Alternative}
 
 -- The bits of a preamble: the mark of extensibility, which is not set, where there is one, and the presence bits.
 abbrev pub presence : Bool → List Bool → List Bool
@@ -26,8 +29,11 @@ shown (Components c ∷ fs) o =
     let below = shown fs (take c.start o) in
     (drop c.content o, components c.extensible c.due (given_bits c.extensible c.given c.start o) below.0 ∷ below.1)
 shown (Added a ∷ fs) o =
-    let below = shown fs (take a.preamble.start a.outer.items) in
-    (o, added a.due (given_bits true a.preamble.given a.preamble.start a.outer.items) (drop a.preamble.content a.outer.items) a.present below.0 ∷ below.1)
+    let below = shown fs (take a.preamble.start a.outer.items) in (
+      o,
+      added a.due (given_bits true a.preamble.given a.preamble.start a.outer.items)
+          (drop a.preamble.content a.outer.items) a.present below.0 ∷ below.1,
+    )
 shown (OpenType start ∷ fs) o =
     let below = shown fs (take start o) in
     (drop (start + 1) o, open_type below.0 ∷ below.1)
@@ -41,8 +47,10 @@ shown (Alternative ∷ fs) o =
     let below = shown fs o in
     (below.0, alternative ∷ below.1)
 
--- The octets are those in front of an open sequence, its preamble, in which the bits that are due are not set, and those behind it.
-pub record IsOpen (below : List ℕ → State → Type 0) (e : Bool) (due given start content : ℕ) (o : List ℕ) (s : State) : Type 0 where
+-- The octets are those in front of an open sequence, its preamble, in which the bits that are due are not set, and
+-- those behind it.
+pub record IsOpen (below : List ℕ → State → Type 0) (e : Bool) (due given start content : ℕ) (o : List ℕ)
+    (s : State) : Type 0 where
   pub front : List ℕ
   pub preamble : List ℕ
   pub inner : List ℕ
@@ -73,10 +81,13 @@ pub record IsApart (below : List ℕ → State → Type 0) (start : ℕ) (o : Li
 abbrev pub Holds : List Frame → List ℕ → State → Type 0
 Holds [] o s = s ≡ (o, [])
 Holds (Components c ∷ fs) o s = IsOpen (λ p t. Holds fs p t) c.extensible c.due c.given c.start c.content o s
-Holds (Added a ∷ fs) o s = (root : State) × (h : IsOpen (λ p t. Holds fs p t) true 0 a.preamble.given a.preamble.start a.preamble.content a.outer.items root) × (a.any ≡ is_any_set a.present) × (s ≡ (o, added a.due h.marks h.inner a.present h.outer.0 ∷ h.outer.1))
+Holds (Added a ∷ fs) o s = (root : State)
+    × (h : IsOpen (λ p t. Holds fs p t) true 0 a.preamble.given a.preamble.start a.preamble.content a.outer.items
+    root) × (a.any ≡ is_any_set a.present) × (s ≡ (o, added a.due h.marks h.inner a.present h.outer.0 ∷ h.outer.1))
 Holds (OpenType start ∷ fs) o s = IsApart (λ p t. Holds fs p t) start o s
 Holds (Members due ∷ fs) o s = (below : State) × (s ≡ (below.0, members due ∷ below.1)) × Holds fs o below
-Holds (Bag b ∷ fs) o s = (below : State) × (s ≡ (o, bag_members b.due b.members below.0 ∷ below.1)) × Holds fs b.outer.items below
+Holds (Bag b ∷ fs) o s = (below : State) × (s ≡ (o, bag_members b.due b.members below.0 ∷ below.1))
+    × Holds fs b.outer.items below
 Holds (Alternative ∷ fs) o s = (below : State) × (s ≡ (below.0, alternative ∷ below.1)) × Holds fs o below
 
 -- The octets and the frames stand for some state.
@@ -96,5 +107,6 @@ Cannot r fs o e = (s : State) → Holds fs o s → run r s ≡ None
 
 -- A bag behind the octets of a member that begins, or as it was.
 abbrev pub NextOfBag : Bool → BagFrame → List ℕ → BagFrame → List ℕ → Type 0
-NextOfBag true b o c p = (0 < b.due) × (c.due ≡ b.due - 1) × (c.outer ≡ b.outer) × (c.members ≡ Some (with_open b.members o)) × (p ≡ [])
+NextOfBag true b o c p = (0 < b.due) × (c.due ≡ b.due - 1) × (c.outer ≡ b.outer)
+    × (c.members ≡ Some (with_open b.members o)) × (p ≡ [])
 NextOfBag false b o c p = (b.due ≡ 0) × (c ≡ b) × (p ≡ o)

@@ -1,25 +1,33 @@
--- What a writer of the octet encoding rules (X.696) holds: the octets of the innermost open scope, and the open scopes. Each record changes them.
-use Rattle.std.specs.Prelude.{◌≡◌, ℕ, zero, suc, Bool, true, false, cond, ◌||◌, List, [], ◌∷◌, ◌++◌, map, Option, Some, None, option_map, option_and_then}
+-- What a writer of the octet encoding rules (X.696) holds: the octets of the innermost open scope, and the open
+-- scopes. Each record changes them.
+use Rattle.std.specs.Prelude.{◌≡◌, ℕ, zero, suc, Bool, true, false, cond, ◌||◌, List, [], ◌∷◌, ◌++◌, map, Option}
+use Rattle.std.specs.Prelude.{Some, None, option_map, option_and_then}
 use Rattle.asn1_model.specs.Value.{truth, item, bit_list, octet_list, text, arcs}
-use Rattle.asn1_model.specs.Schema.{Tag, boolean, enumerated, bit_string, octet_string, character_string, object_identifier}
+use Rattle.asn1_model.specs.Schema.{Tag, boolean, enumerated, bit_string, octet_string, character_string}
+use Rattle.asn1_model.specs.Schema.{object_identifier}
 use Rattle.asn1_model.specs.Numbers.{is_count_within}
 use Rattle.asn1_model.specs.Form.{exactly, written, both, joined, only_if}
 use Rattle.asn1_model.specs.Oer
-use Rattle.asn1_schema_presented.specs.Records.{Record, flag, nil, whole, one_of, bits, octets, characters, identifier, list_begins, bag_begins, further, sequence_begins, set_begins, group_begins, mark, additions_begin, addition, addition_ends, choice_begins, ends}
+use Rattle.asn1_schema_presented.specs.Records.{Record, flag, nil, whole, one_of, bits, octets, characters}
+use Rattle.asn1_schema_presented.specs.Records.{identifier, list_begins, bag_begins, further, sequence_begins}
+use Rattle.asn1_schema_presented.specs.Records.{set_begins, group_begins, mark, additions_begin, addition}
+use Rattle.asn1_schema_presented.specs.Records.{addition_ends, choice_begins, ends}
 
 -- An open scope.
 pub data Scope : Type 0 where
-  -- a sequence, set or group: whether it has a mark of extensibility, how many presence bits are due, those that are there, and the octets in
-  -- front of it
+  -- a sequence, set or group: whether it has a mark of extensibility, how many presence bits are due, those that are
+  -- there, and the octets in front of it
   components : Bool → ℕ → List Bool → List ℕ → Scope
-  -- behind the root of such a type with a mark: how many additions are due, the presence bits, the root's octets, which of the additions in
-  -- front are there, and the octets in front of the sequence; the octets of the scope are those of the additions, one behind the other
+  -- behind the root of such a type with a mark: how many additions are due, the presence bits, the root's octets,
+  -- which of the additions in front are there, and the octets in front of the sequence; the octets of the scope are
+  -- those of the additions, one behind the other
   added : ℕ → List Bool → List ℕ → List Bool → List ℕ → Scope
   -- an addition, or an added alternative: its octets stand alone, and those in front are these
   open_type : List ℕ → Scope
   -- a list: how many members are due
   members : ℕ → Scope
-  -- a bag: how many members are due, the octets of each that stands before the open one, if one is open, and the octets in front of the members
+  -- a bag: how many members are due, the octets of each that stands before the open one, if one is open, and the
+  -- octets in front of the members
   bag_members : ℕ → Option (List (List ℕ)) → List ℕ → Scope
   -- an alternative of the root
   alternative : Scope
@@ -72,7 +80,8 @@ abbrev pub is_any_set : List Bool → Bool
 is_any_set [] = false
 is_any_set (b ∷ bs) = b || is_any_set bs
 
--- The preamble and the root, and where an addition is there the mark is set, and the bitmap and the additions' octets stand behind (X.696 16).
+-- The preamble and the root, and where an addition is there the mark is set, and the bitmap and the additions' octets
+-- stand behind (X.696 16).
 abbrev pub with_added : List Bool → List ℕ → List Bool → List ℕ → Option (List ℕ)
 with_added ms root bs os = cond (is_any_set bs)
     (written (both (Oer.preamble (true ∷ ms)) (both (exactly root) (both (Oer.counted_bits bs) (exactly os)))) 0)
@@ -85,7 +94,8 @@ closed_added n ms root bs os front k = None
 
 -- The end of a bag puts its members in the ascending order of their octets (X.696 19).
 abbrev pub closed_bag : ℕ → List (List ℕ) → List ℕ → List Scope → Option State
-closed_bag zero ws front k = adds_text (written (Oer.in_any_order (map (λ w. exactly w) ws) (λ xs. joined xs)) 0) (front, k)
+closed_bag zero ws front k = adds_text (written (Oer.in_any_order (map (λ w. exactly w) ws) (λ xs. joined xs)) 0)
+    (front, k)
 closed_bag n ws front k = None
 
 abbrev pub ended : List ℕ → List Scope → Option State
@@ -117,7 +127,8 @@ adds b os k = None
 
 -- An addition's octets stand behind their number, and behind the additions in front.
 abbrev pub added_one : List ℕ → List Scope → Option State
-added_one os (open_type front ∷ added n ms root bs before ∷ k) = adds_text (written (Oer.counted os) 0) (front, added n ms root bs before ∷ k)
+added_one os (open_type front ∷ added n ms root bs before ∷ k) = adds_text (written (Oer.counted os) 0)
+    (front, added n ms root bs before ∷ k)
 added_one os k = None
 
 -- The tag at a place.
@@ -147,8 +158,10 @@ run (bits z h bs) s = adds_text (written (Oer.form (bit_string z h) (bit_list bs
 run (octets z h os) s = adds_text (written (Oer.form (octet_string z h) (octet_list os)) 0) s
 run (characters k z a h cs) s = adds_text (written (Oer.form (character_string k z a h) (text cs)) 0) s
 run (identifier ns) s = adds_text (written (Oer.form object_identifier (arcs ns)) 0) s
-run (list_begins z h n) s = option_map (λ w. (s.0 ++ w, members n ∷ s.1)) (written (only_if (is_count_within h n) (Oer.unsigned n)) 0)
-run (bag_begins z h n) s = option_map (λ w. ([], bag_members n None (s.0 ++ w) ∷ s.1)) (written (only_if (is_count_within h n) (Oer.unsigned n)) 0)
+run (list_begins z h n) s = option_map (λ w. (s.0 ++ w, members n ∷ s.1))
+    (written (only_if (is_count_within h n) (Oer.unsigned n)) 0)
+run (bag_begins z h n) s = option_map (λ w. ([], bag_members n None (s.0 ++ w) ∷ s.1))
+    (written (only_if (is_count_within h n) (Oer.unsigned n)) 0)
 run (further b) s = goes_on b s.0 s.1
 run (sequence_begins e n) s = Some ([], components e n [] s.0 ∷ s.1)
 run (set_begins e n) s = Some ([], components e n [] s.0 ∷ s.1)
@@ -157,7 +170,9 @@ run (mark b) s = marked b s.0 s.1
 run (additions_begin n) s = extended n s.0 s.1
 run (addition b) s = adds b s.0 s.1
 run addition_ends s = added_one s.0 s.1
-run (choice_begins roots e others plus i) s = option_and_then (λ t. option_and_then (λ w. chosen_on plus w s) (written (Oer.tag_form t) 0)) (tag_at i (tags_among roots e others plus))
+run (choice_begins roots e others plus i) s = option_and_then
+    (λ t. option_and_then (λ w. chosen_on plus w s) (written (Oer.tag_form t) 0))
+    (tag_at i (tags_among roots e others plus))
 run ends s = ended s.0 s.1
 run r s = None
 

@@ -11,7 +11,8 @@ use Rattle.oer_codec_encoder.specs.Steps.{Scope, State, Step, runs}
 
 -- whatever comes behind, and at every position: none of these forms depends on it
 abbrev pub BridgesAt : Schema → Value → Type 0
-BridgesAt s v = (p : ℕ) (os : List ℕ) (k : List Scope) (rest : List Record) → runs (presents s v ++ rest) (os, k) ≡ option_and_then (λ w. runs rest (os ++ w, k)) (written (Oer.form s v) p)
+BridgesAt s v = (p : ℕ) (os : List ℕ) (k : List Scope) (rest : List Record) → runs (presents s v ++ rest) (os, k)
+    ≡ option_and_then (λ w. runs rest (os ++ w, k)) (written (Oer.form s v) p)
 
 abbrev pub Bridges : Schema → Type 0
 Bridges s = (v : Value) → BridgesAt s v
@@ -22,4 +23,6 @@ EveryTypeBridges = (s : Schema) → Bridges s
 
 -- a chain of steps by them is just that
 abbrev pub ChainsAddTheOctets : Type 0
-ChainsAddTheOctets = (s : Schema) (v : Value) (os : List ℕ) (k : List Scope) (new : State) → Chain Step (presents s v) (os, k) new ↔ ((w : List ℕ) × (written (Oer.form s v) 0 ≡ Some w) × (new ≡ (os ++ w, k)))
+ChainsAddTheOctets = (s : Schema) (v : Value) (os : List ℕ) (k : List Scope) (new : State)
+    → Chain Step (presents s v) (os, k) new ↔ ((w : List ℕ) × (written (Oer.form s v) 0 ≡ Some w)
+    × (new ≡ (os ++ w, k)))

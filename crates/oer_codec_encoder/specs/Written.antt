@@ -14,25 +14,34 @@ use Rattle.oer_codec_encoder.specs.Steps.{State, Step}
 
 -- From nothing the records of a value lead just to its octets, with no scope open.
 abbrev pub WrittenByRecords : Type 0
-WrittenByRecords = (schema : ℕ → Schema) (v : Value) (new : State) → IsValue schema v → Writes Step schema v ([], []) new ↔ ((new.1 ≡ []) × ((n : ℕ) → Fits (schema n) v → octet_encoding (schema n) (normal (schema n) v) ≡ Some new.0))
+WrittenByRecords = (schema : ℕ → Schema) (v : Value) (new : State) → IsValue schema v
+    → Writes Step schema v ([], []) new ↔ ((new.1 ≡ [])
+    × ((n : ℕ) → Fits (schema n) v → octet_encoding (schema n) (normal (schema n) v) ≡ Some new.0))
 
 -- They are refused for another reason than memory just where the value has no octets.
 abbrev pub RefusedByRecords : Type 0
-RefusedByRecords = (schema : ℕ → Schema) (v : Value) (x : EncodeError) → IsValue schema v → ¬ (x ≡ OutOfMemory) → CannotWrite Step schema v ([], []) x ↔ ((n : ℕ) → Fits (schema n) v → octet_encoding (schema n) (normal (schema n) v) ≡ None)
+RefusedByRecords = (schema : ℕ → Schema) (v : Value) (x : EncodeError) → IsValue schema v → ¬ (x ≡ OutOfMemory)
+    → CannotWrite Step schema v ([], []) x ↔ ((n : ℕ) → Fits (schema n) v
+    → octet_encoding (schema n) (normal (schema n) v) ≡ None)
 
--- A writer by what it holds: where it takes a record, so goes the step, and where it is ready it takes each record behind which a state stands.
+-- A writer by what it holds: where it takes a record, so goes the step, and where it is ready it takes each record
+-- behind which a state stands.
 pub record IsWriter {S : Type 0} (step : S → Record → S → Type 0) (held : S → State) (Ready : S → Type 0) : Type 0 where
   pub takes : (a : S) (r : Record) (b : S) → step a r b → Step (held a) r (held b) × Ready b
   pub takes_all : (a : S) (r : Record) (m : State) → Ready a → Step (held a) r m → (b : S) × step a r b × (held b ≡ m)
 
 -- The canonical encoding in both octet rules, in whatever depth the type is unfolded.
 abbrev pub HasOctets : (ℕ → Schema) → Value → Option (List ℕ) → Type 0
-HasOctets schema v w = (n : ℕ) → Fits (schema n) v → (canonical oer (schema n) v ≡ w) × (canonical coer (schema n) v ≡ w)
+HasOctets schema v w = (n : ℕ) → Fits (schema n) v → (canonical oer (schema n) v ≡ w)
+    × (canonical coer (schema n) v ≡ w)
 
 -- Such a writer that held nothing holds the canonical octets of the value, but for the bound on their length.
 abbrev pub WritesTheOctets : {S : Type 0} → (S → Record → S → Type 0) → (S → State) → Type 0
-WritesTheOctets {S} step held = (schema : ℕ → Schema) (v : Value) (old new : S) → IsValue schema v → held old ≡ ([], []) → Writes step schema v old new → ((held new).1 ≡ []) × HasOctets schema v (of_moderate_length (held new).0)
+WritesTheOctets {S} step held = (schema : ℕ → Schema) (v : Value) (old new : S) → IsValue schema v → held old
+    ≡ ([], []) → Writes step schema v old new → ((held new).1 ≡ [])
+    × HasOctets schema v (of_moderate_length (held new).0)
 
 -- It refuses a value for another reason than memory only where that has no octets.
 abbrev pub RefusesOnlyNone : {S : Type 0} → (S → Record → S → Type 0) → (S → State) → (S → Type 0) → Type 0
-RefusesOnlyNone {S} step held Ready = (schema : ℕ → Schema) (v : Value) (old : S) (x : EncodeError) → IsValue schema v → Ready old → held old ≡ ([], []) → ¬ (x ≡ OutOfMemory) → CannotWrite step schema v old x → HasOctets schema v None
+RefusesOnlyNone {S} step held Ready = (schema : ℕ → Schema) (v : Value) (old : S) (x : EncodeError) → IsValue schema v
+    → Ready old → held old ≡ ([], []) → ¬ (x ≡ OutOfMemory) → CannotWrite step schema v old x → HasOctets schema v None

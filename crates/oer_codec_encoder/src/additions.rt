@@ -13,8 +13,8 @@ use asn1_values_bits::BitBuffer;
 use std::alloc::Global;
 use std::mem;
 
-/// Begins the additions behind the root of a sequence or of a set with a mark of extensibility (X.696 16): their octets stand alone, in
-/// the worker's room.
+/// Begins the additions behind the root of a sequence or of a set with a mark of extensibility (X.696 16): their
+/// octets stand alone, in the worker's room.
 ///
 /// # Errors
 ///
@@ -26,7 +26,8 @@ pub(crate) fn begin_additions(
     alloc: Global,
     count: usize,
 ) -> Result<(), EncodeError>
-    ensures { MatchResult result (λ _. Does (additions_begin count) frames.old octets.old.items frames.new octets.new.items) (Cannot (additions_begin count) frames.old octets.old.items) }
+    ensures { MatchResult result (λ _. Does (additions_begin count) frames.old octets.old.items frames.new
+        octets.new.items) (Cannot (additions_begin count) frames.old octets.old.items) }
 {
     let Some(preamble) = frames.preamble() else {
         return Err(EncodeError::SizeConstraintNotSatisfied);
@@ -69,7 +70,8 @@ pub(crate) fn put_addition(
     frames: &mut Frames,
     present: bool,
 ) -> Result<(), EncodeError>
-    ensures { MatchResult result (λ _. Does (addition present) frames.old octets.old.items frames.new octets.new.items) (Cannot (addition present) frames.old octets.old.items) }
+    ensures { MatchResult result (λ _. Does (addition present) frames.old octets.old.items frames.new
+        octets.new.items) (Cannot (addition present) frames.old octets.old.items) }
 {
     frames.next_addition(present)?;
     if present {
@@ -90,7 +92,8 @@ pub(crate) fn end_addition(
     alloc: Global,
 ) -> Result<(), EncodeError>
     requires { AreSound frames.old octets.old.items }
-    ensures { MatchResult result (λ _. Does addition_ends frames.old octets.old.items frames.new octets.new.items) (Cannot addition_ends frames.old octets.old.items) }
+    ensures { MatchResult result (λ _. Does addition_ends frames.old octets.old.items frames.new octets.new.items)
+        (Cannot addition_ends frames.old octets.old.items) }
 {
     let Some(start) = frames.close_open_type() else {
         return Err(EncodeError::SizeConstraintNotSatisfied);

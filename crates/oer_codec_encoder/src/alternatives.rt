@@ -26,7 +26,8 @@ fn tag_from(tags: &[Tag], place: usize) -> Option<Tag>
 /// The tag of the chosen alternative, if the type has it.
 #[inline(always)]
 fn tag_of_chosen(roots: &[Tag], extensible: bool, additions: &[Tag], chosen: Chosen) -> Option<Tag>
-    ensures { option_map tag_of result ≡ tag_at chosen.place (tags_among (map tag_of roots.now) extensible (map tag_of additions.now) chosen.added) }
+    ensures { option_map tag_of result ≡ tag_at chosen.place
+        (tags_among (map tag_of roots.now) extensible (map tag_of additions.now) chosen.added) }
 {
     if !chosen.added {
         return tag_from(roots, chosen.place);
@@ -51,7 +52,10 @@ pub(crate) fn begin_choice(
     additions: &[Tag],
     chosen: Chosen,
 ) -> Result<(), EncodeError>
-    ensures { MatchResult result (λ _. Does (choice_begins (map tag_of roots.now) extensible (map tag_of additions.now) chosen.added chosen.place) frames.old octets.old.items frames.new octets.new.items) (Cannot (choice_begins (map tag_of roots.now) extensible (map tag_of additions.now) chosen.added chosen.place) frames.old octets.old.items) }
+    ensures { MatchResult result (λ _. Does (choice_begins (map tag_of roots.now) extensible
+        (map tag_of additions.now) chosen.added chosen.place) frames.old octets.old.items frames.new octets.new.items)
+        (Cannot (choice_begins (map tag_of roots.now) extensible (map tag_of additions.now) chosen.added chosen.place)
+        frames.old octets.old.items) }
 {
     let Some(tag) = tag_of_chosen(roots, extensible, additions, chosen) else {
         return Err(EncodeError::ValueConstraintNotSatisfied);

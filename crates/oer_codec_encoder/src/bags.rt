@@ -34,7 +34,9 @@ pub(crate) fn begin_bag(
     held: Bounded<usize>,
     count: usize,
 ) -> Result<(), EncodeError>
-    ensures { MatchResult result (λ _. Does (bag_begins (sizes_of constraints.entry.size) (members_of held) count) frames.old octets.old.items frames.new octets.new.items) (Cannot (bag_begins (sizes_of constraints.entry.size) (members_of held) count) frames.old octets.old.items) }
+    ensures { MatchResult result (λ _. Does (bag_begins (sizes_of constraints.entry.size) (members_of held) count)
+        frames.old octets.old.items frames.new octets.new.items)
+        (Cannot (bag_begins (sizes_of constraints.entry.size) (members_of held) count) frames.old octets.old.items) }
 {
     if !held.holds(count) {
         return Err(EncodeError::SizeConstraintNotSatisfied);
@@ -56,7 +58,8 @@ pub(crate) fn next_of_bag(
     alloc: Global,
     more: bool,
 ) -> Result<(), EncodeError>
-    ensures { MatchResult result (λ _. NextOfBag more bag.old octets.old.items bag.new octets.new.items) (NoMember more bag.old.due) }
+    ensures { MatchResult result (λ _. NextOfBag more bag.old octets.old.items bag.new octets.new.items)
+        (NoMember more bag.old.due) }
 {
     count_member(&mut bag.due, more)?;
     if more {
@@ -79,14 +82,17 @@ fn push_each(octets: &mut Vec<u8>, entries: &[Entry<'_>]) -> Result<(), AllocErr
     Ok(())
 }
 
-/// Adds the members of a bag, the open one behind the others, in the ascending order of their octets (X.696 19). One alone is added as it is.
+/// Adds the members of a bag, the open one behind the others, in the ascending order of their octets (X.696 19). One
+/// alone is added as it is.
 pub(crate) fn push_members(
     octets: &mut Vec<u8>,
     alloc: Global,
     mut members: Encodings,
     last: &[u8],
 ) -> Result<(), EncodeError>
-    ensures { MatchResult result (λ _. Adds (written (in_any_order (map (λ w. exactly w) (members ++ last.now ∷ [])) (λ xs. joined xs)) 0) octets.old.items octets.new.items) (λ e. e ≡ EncodeError.OutOfMemory) }
+    ensures { MatchResult result (λ _. Adds
+        (written (in_any_order (map (λ w. exactly w) (members ++ last.now ∷ [])) (λ xs. joined xs)) 0)
+        octets.old.items octets.new.items) (λ e. e ≡ EncodeError.OutOfMemory) }
 {
     if members.is_empty() {
         octets.extend_from_slice(last)?;

@@ -29,8 +29,9 @@ use std::mem;
 
 /// Writes values in the canonical octet encoding rules (X.696) into one buffer.
 ///
-/// Additions stand behind a bitmap that tells which of them are there, so their octets are written apart, into the room of a worker that is
-/// lent for this: with one worker for many messages such octets take memory for the longest of them alone, and not for each.
+/// Additions stand behind a bitmap that tells which of them are there, so their octets are written apart, into the
+/// room of a worker that is lent for this: with one worker for many messages such octets take memory for the longest
+/// of them alone, and not for each.
 #[derive(Drop)]
 pub struct Encoder<'buffer> {
     output: &'buffer mut Vec<u8>,
@@ -70,8 +71,8 @@ fn begin_record(failed: &mut bool) -> Result<(), EncodeError>
 impl<'buffer> Encoder<'buffer> {
     /// An encoder that writes behind what stands in the buffer. It takes no memory.
     ///
-    /// What the worker holds does not matter, and its octets are overwritten. An empty one serves, and has room afterwards if an addition was
-    /// written.
+    /// What the worker holds does not matter, and its octets are overwritten. An empty one serves, and has room
+    /// afterwards if an addition was written.
     #[inline]
     pub fn from_buffer(
         alloc: Global,

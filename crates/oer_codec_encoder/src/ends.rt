@@ -13,7 +13,8 @@ use asn1_schema_faults::EncodeError;
 use std::alloc::Global;
 use std::mem;
 
-/// Ends a sequence or a set behind its root (X.696 16), of which no addition is due. The worker gets back the room of the additions.
+/// Ends a sequence or a set behind its root (X.696 16), of which no addition is due. The worker gets back the room of
+/// the additions.
 #[inline(always)]
 fn end_added(
     octets: &mut Vec<u8>,
@@ -21,7 +22,8 @@ fn end_added(
     additions: Additions,
 ) -> Result<(), EncodeError>
     requires { additions.preamble.start < vec_len additions.outer }
-    ensures { MatchResult result (λ _. (k : _) → Does ends (Added additions ∷ k) octets.old.items k octets.new.items) (λ e. (k : _) → Cannot ends (Added additions ∷ k) octets.old.items e) }
+    ensures { MatchResult result (λ _. (k : _) → Does ends (Added additions ∷ k) octets.old.items k octets.new.items)
+        (λ e. (k : _) → Cannot ends (Added additions ∷ k) octets.old.items e) }
 {
     if additions.due > 0 {
         return Err(EncodeError::SizeConstraintNotSatisfied);
@@ -41,7 +43,8 @@ fn end_added(
 /// Ends a bag (X.696 19), of which no member is due.
 #[inline(always)]
 fn end_bag(octets: &mut Vec<u8>, alloc: Global, bag: Bag) -> Result<(), EncodeError>
-    ensures { MatchResult result (λ _. (k : _) → Does ends (BagFrame bag ∷ k) octets.old.items k octets.new.items) (λ e. (k : _) → Cannot ends (BagFrame bag ∷ k) octets.old.items e) }
+    ensures { MatchResult result (λ _. (k : _) → Does ends (BagFrame bag ∷ k) octets.old.items k octets.new.items)
+        (λ e. (k : _) → Cannot ends (BagFrame bag ∷ k) octets.old.items e) }
 {
     if bag.due > 0 {
         return Err(EncodeError::SizeConstraintNotSatisfied);
@@ -54,8 +57,8 @@ fn end_bag(octets: &mut Vec<u8>, alloc: Global, bag: Bag) -> Result<(), EncodeEr
     Ok(())
 }
 
-/// Ends what is innermost (X.696 16, 17, 19, 20 and 30): of a sequence without a mark no presence bit is due, of one with a mark
-/// no addition, and of a list and a bag no member. The worker gets back the room of additions.
+/// Ends what is innermost (X.696 16, 17, 19, 20 and 30): of a sequence without a mark no presence bit is due, of one
+/// with a mark no addition, and of a list and a bag no member. The worker gets back the room of additions.
 ///
 /// # Errors
 ///
@@ -68,7 +71,8 @@ pub(crate) fn end_scope(
     alloc: Global,
 ) -> Result<(), EncodeError>
     requires { AreSound frames.old octets.old.items }
-    ensures { MatchResult result (λ _. Does ends frames.old octets.old.items frames.new octets.new.items) (Cannot ends frames.old octets.old.items) }
+    ensures { MatchResult result (λ _. Does ends frames.old octets.old.items frames.new octets.new.items)
+        (Cannot ends frames.old octets.old.items) }
 {
     if let Some(enclosing) = frames.close_enclosing() {
         if let Enclosing::OpenType { start } = enclosing {

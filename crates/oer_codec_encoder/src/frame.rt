@@ -18,7 +18,8 @@ pub(crate) struct Preamble {
     pub(crate) content: usize,
 }
 
-/// The additions of a sequence or of a set (X.696 16.4 and 16.5), whose octets stand alone until it ends, one behind the other.
+/// The additions of a sequence or of a set (X.696 16.4 and 16.5), whose octets stand alone until it ends, one behind
+/// the other.
 #[derive(Drop)]
 pub(crate) struct Additions {
     /// How many are due.

@@ -39,8 +39,8 @@ impl Enclosing {
     }
 }
 
-/// All that has begun and has not ended. What encloses one value alone is innermost of all, if something does; then comes the innermost of the
-/// other frames, and what is around it. Neither of the two takes memory.
+/// All that has begun and has not ended. What encloses one value alone is innermost of all, if something does; then
+/// comes the innermost of the other frames, and what is around it. Neither of the two takes memory.
 #[derive(Drop)]
 pub(crate) struct Frames {
     enclosing: Option<Enclosing>,
@@ -75,15 +75,16 @@ fn put(
     Ok(())
 }
 
-/// Opens what encloses one value alone as a frame inside all others. It is seldom called: where something begins in an open type or in an
-/// alternative.
+/// Opens what encloses one value alone as a frame inside all others. It is seldom called: where something begins in
+/// an open type or in an alternative.
 #[cold]
 fn put_enclosing(
     innermost: &mut Option<Frame>,
     outer: &mut Vec<Frame>,
     enclosing: Enclosing,
 ) -> Result<(), AllocError>
-    ensures { OnOk result (others_of innermost.new outer.new.items ≡ frame_of enclosing ∷ others_of innermost.old outer.old.items) }
+    ensures { OnOk result (others_of innermost.new outer.new.items ≡ frame_of enclosing
+        ∷ others_of innermost.old outer.old.items) }
 {
     put(innermost, outer, enclosing.frame())
 }
@@ -96,7 +97,8 @@ fn settle(
     outer: &mut Vec<Frame>,
 ) -> Result<(), AllocError>
     ensures none { OnOk result (enclosing.new ≡ None) }
-    ensures same { OnOk result (others_of innermost.new outer.new.items ≡ frames_of enclosing.old innermost.old outer.old.items) }
+    ensures same { OnOk result (others_of innermost.new outer.new.items
+        ≡ frames_of enclosing.old innermost.old outer.old.items) }
 {
     if let Some(around) = *enclosing {
         *enclosing = None;
@@ -215,7 +217,8 @@ impl Frames {
     #[inline(always)]
     pub(crate) fn next_mark(&mut self) -> Option<Preamble>
         requires { (p : _) (k : _) → self.old ≡ Components p ∷ k → p.given + p.due < 2 ^ 64 }
-        ensures some { IfSome result (λ p. (k : _) × (self.old ≡ Components p ∷ k) × (0 < p.due) × (self.new ≡ Components (told p) ∷ k)) }
+        ensures some { IfSome result (λ p. (k : _) × (self.old ≡ Components p ∷ k) × (0 < p.due)
+            × (self.new ≡ Components (told p) ∷ k)) }
         ensures none { IfNone result ((p : _) (k : _) → self.old ≡ Components p ∷ k → p.due ≡ 0) }
     {
         match (&self.enclosing, &mut self.innermost) {
@@ -232,7 +235,8 @@ impl Frames {
         }
     }
 
-    /// Whether a further member of the innermost list or bag comes (X.696 17 and 19): nothing is written, and as many come as were told.
+    /// Whether a further member of the innermost list or bag comes (X.696 17 and 19): nothing is written, and as many
+    /// come as were told.
     ///
     /// # Errors
     ///
@@ -244,7 +248,8 @@ impl Frames {
         alloc: Global,
         more: bool,
     ) -> Result<(), EncodeError>
-        ensures { MatchResult result (λ _. Does (further more) self.old octets.old.items self.new octets.new.items) (Cannot (further more) self.old octets.old.items) }
+        ensures { MatchResult result (λ _. Does (further more) self.old octets.old.items self.new octets.new.items)
+            (Cannot (further more) self.old octets.old.items) }
     {
         match (&self.enclosing, &mut self.innermost) {
             (None, Some(Frame::Members { due })) => count_member(due, more)?,

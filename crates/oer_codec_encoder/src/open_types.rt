@@ -1,5 +1,6 @@
 //! Open types (X.696 30), whose octets are written where they stay.
-ghost use Rattle.std.specs.Prelude.{◌≡◌, ◌+◌, ◌<◌, ◌++◌, ◌∷◌, [], length, take, drop, OnOk, MatchResult, vec_len, slice_set};
+ghost use Rattle.std.specs.Prelude.{◌≡◌, ◌+◌, ◌<◌, ◌++◌, ◌∷◌, [], length, take, drop, OnOk, MatchResult, vec_len};
+ghost use Rattle.std.specs.Prelude.{slice_set};
 ghost use Rattle.asn1_model.specs.Form.{written};
 ghost use Rattle.asn1_model.specs.Oer.{counted};
 ghost use Rattle.oer_codec_encoder.specs.declared.frame.Frame.TheVariants.{OpenType};
@@ -31,7 +32,8 @@ fn put_octet(octets: &mut Vec<u8>, at: usize, octet: u8)
     octets[at] = octet;
 }
 
-/// Puts a length in front of the octets behind the room for it (X.696 8.6 and 30): the octets of a longer one are moved.
+/// Puts a length in front of the octets behind the room for it (X.696 8.6 and 30): the octets of a longer one are
+/// moved.
 #[inline(always)]
 pub(crate) fn put_length(
     octets: &mut Vec<u8>,
@@ -39,7 +41,8 @@ pub(crate) fn put_length(
     start: usize,
 ) -> Result<(), EncodeError>
     requires { start < vec_len octets.old }
-    ensures { MatchResult result (λ _. Adds (written (counted (drop (start + 1) octets.old.items)) 0) (take start octets.old.items) octets.new.items) (λ e. e ≡ EncodeError.OutOfMemory) }
+    ensures { MatchResult result (λ _. Adds (written (counted (drop (start + 1) octets.old.items)) 0)
+        (take start octets.old.items) octets.new.items) (λ e. e ≡ EncodeError.OutOfMemory) }
 {
     let length = octets.len() - start - 1;
     match short_length(length) {
@@ -53,7 +56,8 @@ pub(crate) fn put_length(
 #[inline(never)]
 fn put_long_length(octets: &mut Vec<u8>, alloc: Global, start: usize) -> Result<(), EncodeError>
     requires { start < vec_len octets.old }
-    ensures { MatchResult result (λ _. Adds (written (counted (drop (start + 1) octets.old.items)) 0) (take start octets.old.items) octets.new.items) (λ e. e ≡ EncodeError.OutOfMemory) }
+    ensures { MatchResult result (λ _. Adds (written (counted (drop (start + 1) octets.old.items)) 0)
+        (take start octets.old.items) octets.new.items) (λ e. e ≡ EncodeError.OutOfMemory) }
 {
     let contents = Vec::from_slice(alloc, &octets[start + 1..])?;
     octets.truncate(start);

@@ -1,5 +1,6 @@
 //! Sequences, sets, groups and lists.
-ghost use Rattle.std.specs.Prelude.{◌≡◌, ℕ, List, ltb, ◌-◌, ◌+◌, ◌*◌, ◌/◌, ◌%◌, ◌<◌, ◌++◌, ◌∷◌, [], cond, replicate, MatchResult, vec_len, true, slice_set, slice_index};
+ghost use Rattle.std.specs.Prelude.{◌≡◌, ℕ, List, ltb, ◌-◌, ◌+◌, ◌*◌, ◌/◌, ◌%◌, ◌<◌, ◌++◌, ◌∷◌, [], cond, replicate};
+ghost use Rattle.std.specs.Prelude.{MatchResult, vec_len, true, slice_set, slice_index};
 ghost use Rattle.asn1_model.specs.Numbers.{binary, missing};
 ghost use Rattle.asn1_schema_presented.specs.Records.{sequence_begins, mark, list_begins};
 ghost use Rattle.asn1_schema_constraints.specs.Bounds.{members_of};
@@ -22,7 +23,8 @@ fn preamble_len(extensible: bool, optional: usize) -> usize
 
 /// Adds so many octets of zero bits.
 fn push_zeros(octets: &mut Vec<u8>, count: usize) -> Result<(), EncodeError>
-    ensures { MatchResult result (λ _. octets.new.items ≡ octets.old.items ++ replicate count 0) (λ e. e ≡ EncodeError.OutOfMemory) }
+    ensures { MatchResult result (λ _. octets.new.items ≡ octets.old.items ++ replicate count 0)
+        (λ e. e ≡ EncodeError.OutOfMemory) }
 {
     let Some(len) = octets.len().checked_add(count) else {
         return Err(EncodeError::OutOfMemory);
@@ -43,7 +45,8 @@ pub(crate) fn begin_components(
     extensible: bool,
     optional: usize,
 ) -> Result<(), EncodeError>
-    ensures { MatchResult result (λ _. Does (sequence_begins extensible optional) frames.old octets.old.items frames.new octets.new.items) (λ e. e ≡ EncodeError.OutOfMemory) }
+    ensures { MatchResult result (λ _. Does (sequence_begins extensible optional) frames.old octets.old.items
+        frames.new octets.new.items) (λ e. e ≡ EncodeError.OutOfMemory) }
 {
     let start = octets.len();
     push_zeros(octets, preamble_len(extensible, optional))?;
@@ -69,8 +72,10 @@ fn with_bit(octet: u8, index: u32) -> u8
 #[inline]
 pub(crate) fn raise_bit(octets: &mut Vec<u8>, start: usize, place: usize)
     requires { start + place / 8 < vec_len octets.old }
-    ensures others { octets.new.items ≡ slice_set octets.old.items (start + place / 8) (slice_index octets.new.items (start + place / 8)) }
-    ensures bit { binary 8 (slice_index octets.new.items (start + place / 8)) ≡ slice_set (binary 8 (slice_index octets.old.items (start + place / 8))) (place % 8) true }
+    ensures others { octets.new.items ≡ slice_set octets.old.items (start + place / 8)
+        (slice_index octets.new.items (start + place / 8)) }
+    ensures bit { binary 8 (slice_index octets.new.items (start + place / 8))
+        ≡ slice_set (binary 8 (slice_index octets.old.items (start + place / 8))) (place % 8) true }
 {
     let at = start + place / 8;
     octets[at] = with_bit(octets[at], (place % 8) as u32);
@@ -88,7 +93,8 @@ pub(crate) fn put_mark(
     present: bool,
 ) -> Result<(), EncodeError>
     requires { AreSound frames.old octets.old.items }
-    ensures { MatchResult result (λ _. Does (mark present) frames.old octets.old.items frames.new octets.new.items) (Cannot (mark present) frames.old octets.old.items) }
+    ensures { MatchResult result (λ _. Does (mark present) frames.old octets.old.items frames.new octets.new.items)
+        (Cannot (mark present) frames.old octets.old.items) }
 {
     let Some(preamble) = frames.next_mark() else {
         return Err(EncodeError::SizeConstraintNotSatisfied);
@@ -113,7 +119,9 @@ pub(crate) fn begin_members(
     held: Bounded<usize>,
     count: usize,
 ) -> Result<(), EncodeError>
-    ensures { MatchResult result (λ _. Does (list_begins (sizes_of constraints.entry.size) (members_of held) count) frames.old octets.old.items frames.new octets.new.items) (Cannot (list_begins (sizes_of constraints.entry.size) (members_of held) count) frames.old octets.old.items) }
+    ensures { MatchResult result (λ _. Does (list_begins (sizes_of constraints.entry.size) (members_of held) count)
+        frames.old octets.old.items frames.new octets.new.items)
+        (Cannot (list_begins (sizes_of constraints.entry.size) (members_of held) count) frames.old octets.old.items) }
 {
     if !held.holds(count) {
         return Err(EncodeError::SizeConstraintNotSatisfied);
@@ -126,7 +134,8 @@ pub(crate) fn begin_members(
 /// Counts a further member, if one comes: as many come as were told.
 #[inline(always)]
 pub(crate) fn count_member(due: &mut usize, more: bool) -> Result<(), EncodeError>
-    ensures { MatchResult result (λ _. (more ≡ ltb 0 due.old) × (due.new ≡ due.old - cond more 1 0)) (NoMember more due.old) }
+    ensures { MatchResult result (λ _. (more ≡ ltb 0 due.old) × (due.new ≡ due.old - cond more 1 0))
+        (NoMember more due.old) }
 {
     if more != (*due > 0) {
         return Err(EncodeError::SizeConstraintNotSatisfied);

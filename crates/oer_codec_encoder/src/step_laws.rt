@@ -4,14 +4,16 @@
 ghost use Rattle.asn1_schema_presented.specs.Records.{Record};
 ghost use Rattle.oer_codec_encoder.specs.Steps.{State};
 ghost use Rattle.oer_codec_encoder.specs.Ties.{ChainsAddTheOctets, EveryTypeBridges};
-ghost use Rattle.oer_codec_encoder.specs.Written.{IsWriter, RefusedByRecords, RefusesOnlyNone, WrittenByRecords, WritesTheOctets};
+ghost use Rattle.oer_codec_encoder.specs.Written.{IsWriter, RefusedByRecords, RefusesOnlyNone, WrittenByRecords};
+ghost use Rattle.oer_codec_encoder.specs.Written.{WritesTheOctets};
 
 /// The records of each value of each type add its octets to those that are there, and are refused where it has none.
 pub fn every_type_bridges()
     ensures { EveryTypeBridges }
 {}
 
-/// A chain of steps by the records of a value leads just from what is held to the same with the octets of the value behind it.
+/// A chain of steps by the records of a value leads just from what is held to the same with the octets of the value
+/// behind it.
 pub fn chains_add_the_octets()
     ensures { ChainsAddTheOctets }
 {}

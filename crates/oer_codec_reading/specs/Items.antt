@@ -4,7 +4,8 @@ use Rattle.asn1_model.specs.Numbers.{is_within}
 use Rattle.asn1_values_natives.specs.Octets.{is_padded}
 use Rattle.asn1_values_natives.specs.Ranges.{whole_range}
 
--- Whether the octets of an item behind their number are more than it needs: the first could be left out, or one octet alone holds it.
+-- Whether the octets of an item behind their number are more than it needs: the first could be left out, or one octet
+-- alone holds it.
 abbrev pub is_longer : List ℕ → Bool
 is_longer (o ∷ []) = ltb o 128
 is_longer os = is_padded os

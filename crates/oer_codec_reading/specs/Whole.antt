@@ -1,5 +1,6 @@
 -- Whole numbers in a number of octets, or behind it.
-use Rattle.std.specs.Prelude.{ℕ, ◌-◌, ◌^◌, ◌==◌, leb, ltb, ℤ, pos, negsuc, Bool, true, false, cond, ◌&&◌, ◌||◌, List, ◌∷◌, Option, Some, None}
+use Rattle.std.specs.Prelude.{ℕ, ◌-◌, ◌^◌, ◌==◌, leb, ltb, ℤ, pos, negsuc, Bool, true, false, cond, ◌&&◌, ◌||◌, List}
+use Rattle.std.specs.Prelude.{◌∷◌, Option, Some, None}
 use Rattle.asn1_model.specs.Schema.{Bounds, Range}
 use Rattle.asn1_model.specs.Numbers.{octet_width, signed_octets, is_within}
 use Rattle.asn1_model.specs.Form.{only_if}
@@ -43,7 +44,8 @@ count_in n = only_if (ltb n (2 ^ 64)) (unsigned n)
 abbrev pub wide_range : Range
 wide_range = record { low = Some (negsuc (2 ^ 127 - 1)); high = Some (pos (2 ^ 127 - 1)) }
 
--- Whether a value constraint, where there is one, admits a number: one of 128 bits, within bounds that have no mark (X.680 51.4 and 52).
+-- Whether a value constraint, where there is one, admits a number: one of 128 bits, within bounds that have no mark
+-- (X.680 51.4 and 52).
 abbrev pub admits_whole : Option (Extensible Value) → ℤ → Bool
 admits_whole None v = true
 admits_whole (Some c) v = is_within wide_range v && (has_additions c || is_within (range_of c.constraint.value) v)

@@ -1,5 +1,6 @@
 //! BIT STRING (X.696 13).
-ghost use Rattle.std.specs.Prelude.{◌≡◌, ℕ, ◌+◌, ◌*◌, ◌/◌, ◌^◌, ◌<◌, ◌≤◌, ◌==◌, IsTrue, ◌↔◌, ◌⊎◌, false, true, drop, length, replicate, IfOk, IfErr, IfSome, IfNone};
+ghost use Rattle.std.specs.Prelude.{◌≡◌, ℕ, ◌+◌, ◌*◌, ◌/◌, ◌^◌, ◌<◌, ◌≤◌, ◌==◌, IsTrue, ◌↔◌, ◌⊎◌, false, true, drop};
+ghost use Rattle.std.specs.Prelude.{length, replicate, IfOk, IfErr, IfSome, IfNone};
 ghost use Rattle.asn1_model.specs.Numbers.{missing, octet_bits};
 ghost use Rattle.asn1_model.specs.Oer.{bit_string_form};
 ghost use Rattle.asn1_model.specs.Schema as Asn1;
@@ -34,8 +35,10 @@ fn has_zero_filling(octets: &[u8], count: usize) -> bool
 fn is_taken(rules: EncodingRules, octets: &[u8], count: usize) -> bool
     requires whole { length octets.now * 8 ≡ count + missing count }
     requires few { length octets.now < 2 ^ 60 }
-    ensures taken { result ≡ true → (is_basic rules ≡ true) ⊎ (drop count (octet_bits octets.now) ≡ replicate (missing count) false) }
-    ensures refused { result ≡ false → (is_basic rules ≡ false) × (drop count (octet_bits octets.now) ≡ replicate (missing count) false → ⊥) }
+    ensures taken { result ≡ true → (is_basic rules ≡ true)
+        ⊎ (drop count (octet_bits octets.now) ≡ replicate (missing count) false) }
+    ensures refused { result ≡ false → (is_basic rules ≡ false)
+        × (drop count (octet_bits octets.now) ≡ replicate (missing count) false → ⊥) }
 {
     if rules.is_oer() {
         return true;
@@ -47,7 +50,8 @@ fn is_taken(rules: EncodingRules, octets: &[u8], count: usize) -> bool
 ///
 /// # Errors
 ///
-/// `Incomplete` if the octets end early, and `NotValidCanonicalEncoding` if a filling bit is set in the canonical rules.
+/// `Incomplete` if the octets end early, and `NotValidCanonicalEncoding` if a filling bit is set in the canonical
+/// rules.
 #[inline(always)]
 pub(crate) fn read_filled<'input>(
     cursor: &mut Cursor<'input>,
@@ -83,13 +87,16 @@ pub(crate) fn bit_count(length: usize, unused: u8) -> Option<usize>
 ///
 /// # Errors
 ///
-/// `Incomplete` if the octets end early, `InvalidBitString` if there are more than seven unused bits, or unused bits and no octet,
-/// `NotValidCanonicalEncoding` if a filling bit is set or the length is zero in the canonical rules, and the errors of a length.
+/// `Incomplete` if the octets end early, `InvalidBitString` if there are more than seven unused bits, or unused bits
+/// and no octet,
+/// `NotValidCanonicalEncoding` if a filling bit is set or the length is zero in the canonical rules, and the errors
+/// of a length.
 fn read_varying<'input>(
     cursor: &mut Cursor<'input>,
     rules: EncodingRules,
 ) -> Result<BitStr<'input>, DecodeError>
-    ensures ok { IfOk result (λ bits. Stands (freedoms rules) (bit_string_form false (bits_of bits)) cursor.old cursor.new) }
+    ensures ok { IfOk result (λ bits. Stands (freedoms rules) (bit_string_form false (bits_of bits)) cursor.old
+        cursor.new) }
     ensures only { IfErr result (Misses (freedoms rules) (bit_string_form false) cursor.old) }
 {
     let length = read_length(cursor, rules)?;
@@ -134,8 +141,10 @@ fn read_sized_bits<'input>(
 ///
 /// # Errors
 ///
-/// `SizeConstraintNotSatisfied` if the size or the program's type does not admit as many, `Incomplete` if the octets end early,
-/// `InvalidBitString` if there are more than seven unused bits, or unused bits and no octet, `NotValidCanonicalEncoding` if a filling bit is
+/// `SizeConstraintNotSatisfied` if the size or the program's type does not admit as many, `Incomplete` if the octets
+/// end early,
+/// `InvalidBitString` if there are more than seven unused bits, or unused bits and no octet,
+/// `NotValidCanonicalEncoding` if a filling bit is
 /// set or the length is zero in the canonical rules, the errors of a length, and `OutOfMemory`.
 pub fn read_bit_string(
     alloc: Global,
@@ -144,8 +153,11 @@ pub fn read_bit_string(
     constraints: Constraints,
     held: Bounded<usize>,
 ) -> Result<BitString, DecodeError>
-    ensures ok { IfOk result (λ x. Front (freedoms rules) (Asn1.bit_string (sizes_of constraints.entry.size) (counts_of held)) (Asn1Value.bit_list x) cursor.old cursor.new) }
-    ensures only { IfErr result (NoFront (freedoms rules) (Asn1.bit_string (sizes_of constraints.entry.size) (counts_of held)) cursor.old) }
+    ensures ok { IfOk result (λ x. Front (freedoms rules)
+        (Asn1.bit_string (sizes_of constraints.entry.size) (counts_of held)) (Asn1Value.bit_list x) cursor.old
+        cursor.new) }
+    ensures only { IfErr result (NoFront (freedoms rules)
+        (Asn1.bit_string (sizes_of constraints.entry.size) (counts_of held)) cursor.old) }
 {
     let bits = read_sized_bits(cursor, rules, fixed_size(constraints))?;
     if !is_admitted(constraints, held, bits.len()) {

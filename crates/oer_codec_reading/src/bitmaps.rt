@@ -22,7 +22,8 @@ pub fn are_zero(bits: &BitReader<'_>) -> bool
 ///
 /// # Errors
 ///
-/// `InvalidExtensionHeader` if its length is zero or it has more unused bits than seven or than there are, `Incomplete` if the octets end
+/// `InvalidExtensionHeader` if its length is zero or it has more unused bits than seven or than there are,
+/// `Incomplete` if the octets end
 /// early, `NotValidCanonicalEncoding` if an unused bit is set in the canonical rules, and the errors of a length.
 #[inline]
 pub fn read_bitmap<'input>(

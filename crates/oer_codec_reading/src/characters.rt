@@ -31,7 +31,8 @@ fn read_spelled<'input>(
     size: Option<usize>,
     wide: bool,
 ) -> Result<&'input [u8], DecodeError>
-    ensures ok { IfOk result (λ octets. Stands (freedoms rules) (sized (Characters.octet_size wide size) octets.now) cursor.old cursor.new) }
+    ensures ok { IfOk result (λ octets. Stands (freedoms rules) (sized (Characters.octet_size wide size) octets.now)
+        cursor.old cursor.new) }
     ensures only { IfErr result (Misses (freedoms rules) (sized (Characters.octet_size wide size)) cursor.old) }
 {
     match size {
@@ -69,7 +70,8 @@ fn string_of<S: StaticPermittedAlphabet>(
 ) -> Result<S, DecodeError>
     ensures characters { IfOk result (λ s. S.characters s ≡ Characters.characters_in wide octets.now) }
     ensures permitted { OnOk result (permits_all S.kind (Characters.characters_in wide octets.now) ≡ true) }
-    ensures refused { IfErr result (λ e. (e ≡ DecodeError.OutOfMemory) ⊎ (permits_all S.kind (Characters.characters_in wide octets.now) ≡ false)) }
+    ensures refused { IfErr result (λ e. (e ≡ DecodeError.OutOfMemory)
+        ⊎ (permits_all S.kind (Characters.characters_in wide octets.now) ≡ false)) }
     ensures fresh { IfErr result (λ e. e ≡ DecodeError.AlreadyFailed → ⊥) }
 {
     let count = octets.len() / octets_each(wide);
@@ -88,13 +90,15 @@ fn string_of<S: StaticPermittedAlphabet>(
     Ok(string)
 }
 
-/// Reads a character string with an alphabet of its own (X.696 27) under a size constraint, which counts its characters: two octets for each
-/// character of a BMPString, else one.
+/// Reads a character string with an alphabet of its own (X.696 27) under a size constraint, which counts its
+/// characters: two octets for each character of a BMPString, else one.
 ///
 /// # Errors
 ///
-/// `StringConversionFailed` if the octets of a BMPString are odd in number, `SizeConstraintNotSatisfied` if the size does not admit as many
-/// characters, `PermittedAlphabet` if the type does not hold one of them, `Incomplete` if the octets end early, the errors of a length, and
+/// `StringConversionFailed` if the octets of a BMPString are odd in number, `SizeConstraintNotSatisfied` if the size
+/// does not admit as many
+/// characters, `PermittedAlphabet` if the type does not hold one of them, `Incomplete` if the octets end early, the
+/// errors of a length, and
 /// `OutOfMemory`.
 pub fn read_characters<S: StaticPermittedAlphabet>(
     alloc: Global,
@@ -102,8 +106,13 @@ pub fn read_characters<S: StaticPermittedAlphabet>(
     rules: EncodingRules,
     constraints: Constraints,
 ) -> Result<S, DecodeError>
-    ensures ok { IfOk result (λ x. Front (freedoms rules) (Asn1.character_string S.kind (sizes_of constraints.entry.size) (alphabet_of constraints.entry.permitted_alphabet) any_count) (Asn1Value.text (S.characters x)) cursor.old cursor.new) }
-    ensures only { IfErr result (NoFront (freedoms rules) (Asn1.character_string S.kind (sizes_of constraints.entry.size) (alphabet_of constraints.entry.permitted_alphabet) any_count) cursor.old) }
+    ensures ok { IfOk result (λ x. Front (freedoms rules)
+        (Asn1.character_string S.kind (sizes_of constraints.entry.size)
+        (alphabet_of constraints.entry.permitted_alphabet) any_count) (Asn1Value.text (S.characters x)) cursor.old
+        cursor.new) }
+    ensures only { IfErr result (NoFront (freedoms rules)
+        (Asn1.character_string S.kind (sizes_of constraints.entry.size)
+        (alphabet_of constraints.entry.permitted_alphabet) any_count) cursor.old) }
 {
     let wide = S::contains_char(0x100);
     let octets = read_spelled(cursor, rules, fixed_size(constraints), wide)?;

@@ -35,7 +35,8 @@ fn is_number(number: Option<isize>, candidate: isize) -> bool
 
 /// The first item whose number octets are in two's complement. None has a number that 64 bits do not hold.
 fn find_item<T: Enumerated>(items: &[T], octets: &[u8]) -> Option<T>
-    ensures { MatchOption result (item_place (signed_number octets.now) (map T.number items.now) ≡ None) (λ x. T.number x ≡ signed_number octets.now) }
+    ensures { MatchOption result (item_place (signed_number octets.now) (map T.number items.now) ≡ None)
+        (λ x. T.number x ≡ signed_number octets.now) }
 {
     let number = native_number(octets);
     for item in items {
@@ -48,7 +49,8 @@ fn find_item<T: Enumerated>(items: &[T], octets: &[u8]) -> Option<T>
 
 /// The item of the type whose number octets are in two's complement.
 fn item_of<T: Enumerated>(octets: &[u8]) -> Option<T>
-    ensures { MatchOption result (IsNone T.roots T.extensible T.additions (signed_number octets.now)) (λ x. T.number x ≡ signed_number octets.now) }
+    ensures { MatchOption result (IsNone T.roots T.extensible T.additions (signed_number octets.now))
+        (λ x. T.number x ≡ signed_number octets.now) }
 {
     if let Some(item) = find_item(T::variants(), octets) {
         return Some(item);
@@ -68,8 +70,10 @@ pub fn read_enumerated<T: Enumerated>(
     cursor: &mut Cursor<'_>,
     rules: EncodingRules,
 ) -> Result<T, DecodeError>
-    ensures ok { IfOk result (λ x. Front (freedoms rules) (Asn1.enumerated T.roots T.extensible T.additions) (Asn1Value.item (T.number x)) cursor.old cursor.new) }
-    ensures only { IfErr result (NoFront (freedoms rules) (Asn1.enumerated T.roots T.extensible T.additions) cursor.old) }
+    ensures ok { IfOk result (λ x. Front (freedoms rules) (Asn1.enumerated T.roots T.extensible T.additions)
+        (Asn1Value.item (T.number x)) cursor.old cursor.new) }
+    ensures only { IfErr result (NoFront (freedoms rules) (Asn1.enumerated T.roots T.extensible T.additions)
+        cursor.old) }
 {
     let octets = read_item(cursor, rules)?;
     match item_of(octets) {

@@ -27,14 +27,16 @@ fn fault_of(error: IdentifierError) -> DecodeError
 ///
 /// # Errors
 ///
-/// `InvalidObjectIdentifier` if the contents are empty or truncated, a subidentifier is padded or an arc is past 32 bits, `Incomplete` if the
+/// `InvalidObjectIdentifier` if the contents are empty or truncated, a subidentifier is padded or an arc is past 32
+/// bits, `Incomplete` if the
 /// octets end early, the errors of a length, and `OutOfMemory`.
 pub fn read_object_identifier(
     alloc: Global,
     cursor: &mut Cursor<'_>,
     rules: EncodingRules,
 ) -> Result<ObjectIdentifier, DecodeError>
-    ensures ok { IfOk result (λ x. Front (freedoms rules) Asn1.object_identifier (Asn1Value.arcs x) cursor.old cursor.new) }
+    ensures ok { IfOk result (λ x. Front (freedoms rules) Asn1.object_identifier (Asn1Value.arcs x) cursor.old
+        cursor.new) }
     ensures only { IfErr result (NoFront (freedoms rules) Asn1.object_identifier cursor.old) }
 {
     let octets = read_counted(cursor, rules)?;

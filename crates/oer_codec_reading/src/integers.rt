@@ -1,5 +1,6 @@
 //! INTEGER (X.696 10).
-ghost use Rattle.std.specs.Prelude.{◌≡◌, ◌-◌, ◌^◌, ◌≤◌, ◌<◌, ◌⊎◌, ℕ, true, false, is_some, length, IfOk, OnOk, IfErr, IfSome};
+ghost use Rattle.std.specs.Prelude.{◌≡◌, ◌-◌, ◌^◌, ◌≤◌, ◌<◌, ◌⊎◌, ℕ, true, false, is_some, length, IfOk, OnOk, IfErr};
+ghost use Rattle.std.specs.Prelude.{IfSome};
 ghost use Rattle.asn1_model.specs.Numbers.{is_within};
 ghost use Rattle.asn1_model.specs.Schema as Asn1;
 ghost use Rattle.asn1_model.specs.Value as Asn1Value;
@@ -18,7 +19,8 @@ use asn1_values_natives::Wide;
 use oer_codec_reading_lengths::magnitudes::short_number;
 use std::alloc::Global;
 
-/// The form of numbers under a value constraint (X.696 10): whether they have a sign, and in how many octets they stand, if that is fixed.
+/// The form of numbers under a value constraint (X.696 10): whether they have a sign, and in how many octets they
+/// stand, if that is fixed.
 #[inline(always)]
 fn form_under(constraints: Constraints) -> (bool, Option<usize>)
     ensures sign { result.0 ≡ sign_under (bounds_of constraints.entry.value) }
@@ -58,7 +60,8 @@ fn long_number(signed: bool, octets: &[u8]) -> Option<i128>
     Wide::from_unsigned_octets(octets)?.to_whole(i128::MAX)
 }
 
-/// Whether a value constraint, where there is one, admits a number of 128 bits: one within its bounds, if they have no mark.
+/// Whether a value constraint, where there is one, admits a number of 128 bits: one within its bounds, if they have
+/// no mark.
 #[inline(always)]
 fn is_admitted(constraints: Constraints, number: i128) -> bool
     ensures { result ≡ admits_whole constraints.entry.value number }
@@ -74,7 +77,8 @@ fn value_of<I: IntegerType>(alloc: Global, signed: bool, octets: &[u8]) -> Resul
     requires { 0 < length octets.now }
     ensures value { IfOk result (λ x. I.value x ≡ own_number signed octets.now) }
     ensures held { OnOk result (is_within I.held (own_number signed octets.now) ≡ true) }
-    ensures refused { IfErr result (λ e. (e ≡ DecodeError.OutOfMemory) ⊎ (is_within I.held (own_number signed octets.now) ≡ false)) }
+    ensures refused { IfErr result (λ e. (e ≡ DecodeError.OutOfMemory)
+        ⊎ (is_within I.held (own_number signed octets.now) ≡ false)) }
     ensures fresh { IfErr result (λ e. e ≡ DecodeError.AlreadyFailed → ⊥) }
 {
     if signed {
@@ -113,7 +117,9 @@ fn value_past<I: IntegerType>(
     ensures value { IfOk result (λ x. I.value x ≡ own_number signed octets.now) }
     ensures admitted { OnOk result (admits_whole constraints.entry.value (own_number signed octets.now) ≡ true) }
     ensures held { OnOk result (is_within I.held (own_number signed octets.now) ≡ true) }
-    ensures refused { IfErr result (λ e. (e ≡ DecodeError.OutOfMemory) ⊎ ((admits_whole constraints.entry.value (own_number signed octets.now) ≡ false) ⊎ (is_within I.held (own_number signed octets.now) ≡ false))) }
+    ensures refused { IfErr result (λ e. (e ≡ DecodeError.OutOfMemory)
+        ⊎ ((admits_whole constraints.entry.value (own_number signed octets.now) ≡ false)
+        ⊎ (is_within I.held (own_number signed octets.now) ≡ false))) }
     ensures fresh { IfErr result (λ e. e ≡ DecodeError.AlreadyFailed → ⊥) }
 {
     if constraints.value.is_some() {
@@ -122,7 +128,8 @@ fn value_past<I: IntegerType>(
     value_of(alloc, signed, octets)
 }
 
-/// The number that octets are, in a type of the program, if a value constraint, where there is one, admits it and the type holds it.
+/// The number that octets are, in a type of the program, if a value constraint, where there is one, admits it and the
+/// type holds it.
 #[inline(always)]
 fn admitted_value<I: IntegerType>(
     alloc: Global,
@@ -134,7 +141,9 @@ fn admitted_value<I: IntegerType>(
     ensures value { IfOk result (λ x. I.value x ≡ own_number signed octets.now) }
     ensures admitted { OnOk result (admits_whole constraints.entry.value (own_number signed octets.now) ≡ true) }
     ensures held { OnOk result (is_within I.held (own_number signed octets.now) ≡ true) }
-    ensures refused { IfErr result (λ e. (e ≡ DecodeError.OutOfMemory) ⊎ ((admits_whole constraints.entry.value (own_number signed octets.now) ≡ false) ⊎ (is_within I.held (own_number signed octets.now) ≡ false))) }
+    ensures refused { IfErr result (λ e. (e ≡ DecodeError.OutOfMemory)
+        ⊎ ((admits_whole constraints.entry.value (own_number signed octets.now) ≡ false)
+        ⊎ (is_within I.held (own_number signed octets.now) ≡ false))) }
     ensures fresh { IfErr result (λ e. e ≡ DecodeError.AlreadyFailed → ⊥) }
 {
     let Some(number) = whole_number(signed, octets) else {
@@ -153,9 +162,10 @@ fn admitted_value<I: IntegerType>(
 ///
 /// # Errors
 ///
-/// `Incomplete` if the octets end early, `ZeroLengthOfLength` if there are none, `NotValidCanonicalEncoding` if there is one more than needed
-/// in the canonical rules, `ValueConstraintNotSatisfied` if the constraint does not admit the number, `IntegerOverflow` if the program's
-/// type does not hold it, the errors of a length, and `OutOfMemory`.
+/// `Incomplete` if the octets end early, `ZeroLengthOfLength` if there are none, `NotValidCanonicalEncoding` if there
+/// is one more than needed
+/// in the canonical rules, `ValueConstraintNotSatisfied` if the constraint does not admit the number,
+/// `IntegerOverflow` if the program's type does not hold it, the errors of a length, and `OutOfMemory`.
 #[inline(always)]
 pub fn read_integer<I: IntegerType>(
     alloc: Global,
@@ -163,8 +173,11 @@ pub fn read_integer<I: IntegerType>(
     rules: EncodingRules,
     constraints: Constraints,
 ) -> Result<I, DecodeError>
-    ensures ok { IfOk result (λ x. Front (freedoms rules) (Asn1.integer (bounds_of constraints.entry.value) (held_of constraints.entry.value I.held)) (Asn1Value.number (I.value x)) cursor.old cursor.new) }
-    ensures only { IfErr result (NoFront (freedoms rules) (Asn1.integer (bounds_of constraints.entry.value) (held_of constraints.entry.value I.held)) cursor.old) }
+    ensures ok { IfOk result (λ x. Front (freedoms rules)
+        (Asn1.integer (bounds_of constraints.entry.value) (held_of constraints.entry.value I.held))
+        (Asn1Value.number (I.value x)) cursor.old cursor.new) }
+    ensures only { IfErr result (NoFront (freedoms rules)
+        (Asn1.integer (bounds_of constraints.entry.value) (held_of constraints.entry.value I.held)) cursor.old) }
 {
     let (signed, width) = form_under(constraints);
     let octets = read_number(cursor, rules, signed, width)?;

@@ -9,7 +9,8 @@ use crate::{Cursor, EncodingRules};
 use asn1_schema_faults::DecodeError;
 use asn1_values_natives::octets::has_padding;
 
-/// Whether the octets of an item, behind their number, are more than it needs: the first could be left out, or the item is one of 0 to 127.
+/// Whether the octets of an item, behind their number, are more than it needs: the first could be left out, or the
+/// item is one of 0 to 127.
 fn is_longer_item(octets: &[u8]) -> bool
     ensures { result ≡ is_longer octets.now }
 {
@@ -23,13 +24,15 @@ fn is_longer_item(octets: &[u8]) -> bool
 ///
 /// # Errors
 ///
-/// `Incomplete` if the octets end early, `ZeroLengthOfLength` if there are none, and `NotValidCanonicalEncoding` if there are more than needed
+/// `Incomplete` if the octets end early, `ZeroLengthOfLength` if there are none, and `NotValidCanonicalEncoding` if
+/// there are more than needed
 /// in the canonical rules.
 pub fn read_item<'input>(
     cursor: &mut Cursor<'input>,
     rules: EncodingRules,
 ) -> Result<&'input [u8], DecodeError>
-    ensures ok { IfOk result (λ octets. Stands (freedoms rules) (item_form (signed_number octets.now)) cursor.old cursor.new) }
+    ensures ok { IfOk result (λ octets. Stands (freedoms rules) (item_form (signed_number octets.now)) cursor.old
+        cursor.new) }
     ensures only { IfErr result (Misses (freedoms rules) item_form cursor.old) }
 {
     let ahead = cursor.remaining();

@@ -25,7 +25,8 @@ fn has_spare_octet(signed: bool, octets: &[u8]) -> bool
     }
 }
 
-/// Whether a number in these octets is read: in the canonical rules only if none of them could be left out, unless their number is fixed.
+/// Whether a number in these octets is read: in the canonical rules only if none of them could be left out, unless
+/// their number is fixed.
 #[inline(always)]
 fn is_taken(rules: EncodingRules, signed: bool, width: Option<usize>, octets: &[u8]) -> bool
     ensures { result ≡ (is_some width || is_basic rules || not (has_spare signed octets.now)) }
@@ -33,11 +34,13 @@ fn is_taken(rules: EncodingRules, signed: bool, width: Option<usize>, octets: &[
     width.is_some() || rules.is_oer() || !has_spare_octet(signed, octets)
 }
 
-/// Reads the octets of a whole number (X.696 10), with a sign or without, in a fixed number of octets or behind it, and lends them.
+/// Reads the octets of a whole number (X.696 10), with a sign or without, in a fixed number of octets or behind it,
+/// and lends them.
 ///
 /// # Errors
 ///
-/// `Incomplete` if the octets end early, `ZeroLengthOfLength` if there are none, `NotValidCanonicalEncoding` if there is one more than needed
+/// `Incomplete` if the octets end early, `ZeroLengthOfLength` if there are none, `NotValidCanonicalEncoding` if there
+/// is one more than needed
 /// in the canonical rules, and the errors of a length.
 #[inline(always)]
 pub fn read_number<'input>(
@@ -47,7 +50,8 @@ pub fn read_number<'input>(
     width: Option<usize>,
 ) -> Result<&'input [u8], DecodeError>
     requires { IfSome width (λ k. 1 ≤ k) }
-    ensures ok { IfOk result (λ octets. Stands (freedoms rules) (number_in signed width (own_number signed octets.now)) cursor.old cursor.new) }
+    ensures ok { IfOk result (λ octets. Stands (freedoms rules)
+        (number_in signed width (own_number signed octets.now)) cursor.old cursor.new) }
     ensures some { IfOk result (λ octets. 0 < length octets.now) }
     ensures only { IfErr result (Misses (freedoms rules) (number_in signed width) cursor.old) }
 {

@@ -39,11 +39,13 @@ pub fn read_sized<'input>(
     }
 }
 
-/// Reads a string of octets (X.696 14) under a size constraint, in a type of the program that holds so many, and lends them.
+/// Reads a string of octets (X.696 14) under a size constraint, in a type of the program that holds so many, and
+/// lends them.
 ///
 /// # Errors
 ///
-/// `SizeConstraintNotSatisfied` if the size or the program's type does not admit as many, `Incomplete` if they end early, and the errors of
+/// `SizeConstraintNotSatisfied` if the size or the program's type does not admit as many, `Incomplete` if they end
+/// early, and the errors of
 /// a length.
 #[inline(always)]
 pub fn read_octet_string<'input>(
@@ -52,8 +54,11 @@ pub fn read_octet_string<'input>(
     constraints: Constraints,
     held: Bounded<usize>,
 ) -> Result<&'input [u8], DecodeError>
-    ensures ok { IfOk result (λ octets. Front (freedoms rules) (Asn1.octet_string (sizes_of constraints.entry.size) (counts_of held)) (Asn1Value.octet_list octets.now) cursor.old cursor.new) }
-    ensures only { IfErr result (NoFront (freedoms rules) (Asn1.octet_string (sizes_of constraints.entry.size) (counts_of held)) cursor.old) }
+    ensures ok { IfOk result (λ octets. Front (freedoms rules)
+        (Asn1.octet_string (sizes_of constraints.entry.size) (counts_of held)) (Asn1Value.octet_list octets.now)
+        cursor.old cursor.new) }
+    ensures only { IfErr result (NoFront (freedoms rules)
+        (Asn1.octet_string (sizes_of constraints.entry.size) (counts_of held)) cursor.old) }
 {
     let octets = read_sized(cursor, rules, fixed_size(constraints))?;
     if !is_admitted(constraints, held, octets.len()) {

@@ -40,7 +40,8 @@ pub fn leave_open_type<'input>(
     rules: EncodingRules,
     behind: Cursor<'input>,
 ) -> Result<(), DecodeError>
-    ensures ok { OnOk result (((cursor.old ≡ []) ⊎ IsTrue (freedoms rules octets_behind)) × (cursor.new ≡ behind.entry)) }
+    ensures ok { OnOk result (((cursor.old ≡ []) ⊎ IsTrue (freedoms rules octets_behind))
+        × (cursor.new ≡ behind.entry)) }
     ensures only { IfErr result (λ _. ((cursor.old ≡ []) ⊎ IsTrue (freedoms rules octets_behind)) → ⊥) }
     ensures fresh { IfErr result (λ e. e ≡ DecodeError.AlreadyFailed → ⊥) }
 {

@@ -7,7 +7,8 @@ ghost use Rattle.oer_codec_reading.specs.Sized.{one_size};
 
 use asn1_schema_constraints::{Bounded, Constraints};
 
-/// The one size, if there is one and no mark of extensibility follows it: such a string has no length (X.696 13, 14 and 27).
+/// The one size, if there is one and no mark of extensibility follows it: such a string has no length (X.696 13, 14
+/// and 27).
 #[inline(always)]
 pub fn fixed_size(constraints: Constraints) -> Option<usize>
     ensures { result ≡ one_size (sizes_of constraints.entry.size) }

@@ -33,11 +33,13 @@ fn read_groups(cursor: &mut Cursor<'_>, begun: u32) -> Result<u32, DecodeError>
     read_groups(cursor, number)
 }
 
-/// Reads a tag (X.696 8.7): two bits of class, and a number below 63 in six bits, else six one bits and the number in groups of seven bits.
+/// Reads a tag (X.696 8.7): two bits of class, and a number below 63 in six bits, else six one bits and the number in
+/// groups of seven bits.
 ///
 /// # Errors
 ///
-/// `Incomplete` if the octets end early, `InvalidTagNumberOnChoice` if the number has a leading zero group or 32 bits do not hold it, and
+/// `Incomplete` if the octets end early, `InvalidTagNumberOnChoice` if the number has a leading zero group or 32 bits
+/// do not hold it, and
 /// `NotValidCanonicalEncoding` if a number below 63 has the long form in the canonical rules.
 #[inline(always)]
 pub fn read_tag(cursor: &mut Cursor<'_>, rules: EncodingRules) -> Result<Tag, DecodeError>
@@ -67,7 +69,8 @@ fn number_of(tag: &Tag) -> u32
     tag.value
 }
 
-/// Goes through the numbers of the tags of a table: 32 bits hold each of them, so a tag with a larger number has no place in it.
+/// Goes through the numbers of the tags of a table: 32 bits hold each of them, so a tag with a larger number has no
+/// place in it.
 pub fn visit_numbers(table: &[Tag])
     ensures { each_is is_in_32_bits (map tag_of table.now) ≡ true }
 {

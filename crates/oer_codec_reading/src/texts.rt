@@ -17,7 +17,8 @@ use std::alloc::Global;
 ///
 /// # Errors
 ///
-/// `SizeConstraintNotSatisfied` if the size does not admit as many, `StringConversionFailed` if the octets are not UTF-8, `Incomplete` if
+/// `SizeConstraintNotSatisfied` if the size does not admit as many, `StringConversionFailed` if the octets are not
+/// UTF-8, `Incomplete` if
 /// they end early, the errors of a length, and `OutOfMemory`.
 pub fn read_utf8_string(
     alloc: Global,
@@ -25,8 +26,13 @@ pub fn read_utf8_string(
     rules: EncodingRules,
     constraints: Constraints,
 ) -> Result<String, DecodeError>
-    ensures ok { IfOk result (λ x. Front (freedoms rules) (Asn1.character_string Asn1.utf8 (sizes_of constraints.entry.size) (alphabet_of constraints.entry.permitted_alphabet) any_count) (Asn1Value.text (string_bytes x)) cursor.old cursor.new) }
-    ensures only { IfErr result (NoFront (freedoms rules) (Asn1.character_string Asn1.utf8 (sizes_of constraints.entry.size) (alphabet_of constraints.entry.permitted_alphabet) any_count) cursor.old) }
+    ensures ok { IfOk result (λ x. Front (freedoms rules)
+        (Asn1.character_string Asn1.utf8 (sizes_of constraints.entry.size)
+        (alphabet_of constraints.entry.permitted_alphabet) any_count) (Asn1Value.text (string_bytes x)) cursor.old
+        cursor.new) }
+    ensures only { IfErr result (NoFront (freedoms rules)
+        (Asn1.character_string Asn1.utf8 (sizes_of constraints.entry.size)
+        (alphabet_of constraints.entry.permitted_alphabet) any_count) cursor.old) }
 {
     let octets = read_octet_string(cursor, rules, constraints, Bounded::None)?;
     let Some(text) = text_of(octets) else {

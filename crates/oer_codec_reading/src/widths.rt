@@ -77,8 +77,8 @@ fn width_between(low: i128, high: i128) -> Option<usize>
     natural_width(high as u128)
 }
 
-/// In which form numbers within bounds stand: whether they have a sign, as the lower bound is negative or missing, and in how many octets,
-/// 1, 2, 4 or 8, if that is fixed (X.696 10).
+/// In which form numbers within bounds stand: whether they have a sign, as the lower bound is negative or missing,
+/// and in how many octets, 1, 2, 4 or 8, if that is fixed (X.696 10).
 #[inline(always)]
 pub fn form_within(bounds: &Bounded<i128>) -> (bool, Option<usize>)
     ensures sign { result.0 ≡ has_sign (lower bounds.now) }

@@ -32,7 +32,8 @@ Front free s v os rest = Stands free (form s v) os rest
 abbrev pub NoneStands : {X : Type 0} → (Freedom → Bool) → (X → OctetForm) → List ℕ → Type 0
 NoneStands {X} free f os = (x : X) (rest : List ℕ) → Stands free (f x) os rest → ⊥
 
--- Why a reader of some forms refuses: no memory is left, or none of them stands in front. It knows of no earlier refusal.
+-- Why a reader of some forms refuses: no memory is left, or none of them stands in front. It knows of no earlier
+-- refusal.
 abbrev pub Misses : {X : Type 0} → (Freedom → Bool) → (X → OctetForm) → List ℕ → DecodeError → Type 0
 Misses free f os OutOfMemory = Unit {0}
 Misses free f os AlreadyFailed = ⊥

@@ -22,7 +22,8 @@ impl<'input> Model for Cursor<'input> {
 
     ghost view = { λ cursor. cursor.unread.now };
 
-    ghost invariant = { λ cursor. AllByRecursion (λ octet. octet < 256) cursor.unread.now × (length cursor.unread.now < 2 ^ 60) };
+    ghost invariant = { λ cursor. AllByRecursion (λ octet. octet < 256) cursor.unread.now
+        × (length cursor.unread.now < 2 ^ 60) };
 }
 
 impl<'input> Cursor<'input> {

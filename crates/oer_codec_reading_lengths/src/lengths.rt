@@ -18,7 +18,8 @@ fn octet_width(number: usize) -> usize
     (bit_count(number as u128) + 7) / 8
 }
 
-/// Whether a length in so many octets behind their number is read: in the canonical rules only if they are the fewest (X.696 8.6.5).
+/// Whether a length in so many octets behind their number is read: in the canonical rules only if they are the fewest
+/// (X.696 8.6.5).
 #[inline(always)]
 fn is_taken(rules: EncodingRules, length: usize, count: usize) -> bool
     ensures { result ≡ (is_basic rules || (leb 128 length && (Numbers.octet_width length == count))) }
@@ -63,11 +64,13 @@ fn read_long_length(
     Ok(length)
 }
 
-/// Reads a length (X.696 8.6): one octet below 128, or more behind their number; in the basic rules more of them than needed are taken.
+/// Reads a length (X.696 8.6): one octet below 128, or more behind their number; in the basic rules more of them than
+/// needed are taken.
 ///
 /// # Errors
 ///
-/// `Incomplete` if the octets end early, `ZeroLengthOfLength` if there are none behind their number, `LengthExceedsPlatformWidth` if 64 bits
+/// `Incomplete` if the octets end early, `ZeroLengthOfLength` if there are none behind their number,
+/// `LengthExceedsPlatformWidth` if 64 bits
 /// do not hold the length, and `NotValidCanonicalEncoding` if it has a shorter form in the canonical rules.
 #[inline(always)]
 pub fn read_length(cursor: &mut Cursor<'_>, rules: EncodingRules) -> Result<usize, DecodeError>

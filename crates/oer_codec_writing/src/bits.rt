@@ -26,7 +26,8 @@ fn unused_bits(count: usize) -> u8
 
 /// Adds bits as octets, the last filled with zero bits (X.696 13).
 fn push_bits(octets: &mut Vec<u8>, value: BitStr) -> Result<(), EncodeError>
-    ensures { MatchResult result (λ _. octets.new.items ≡ octets.old.items ++ packed (filled_up (bits_of value.entry))) (λ e. e ≡ EncodeError.OutOfMemory) }
+    ensures { MatchResult result (λ _. octets.new.items ≡ octets.old.items
+        ++ packed (filled_up (bits_of value.entry))) (λ e. e ≡ EncodeError.OutOfMemory) }
 {
     let mut rest = value;
     while rest.len() > 0 {
@@ -44,7 +45,8 @@ fn push_bits(octets: &mut Vec<u8>, value: BitStr) -> Result<(), EncodeError>
 ///
 /// `OutOfMemory`, and no other.
 pub fn push_sized_bits(octets: &mut Vec<u8>, fixed: bool, value: BitStr) -> Result<(), EncodeError>
-    ensures { MatchResult result (λ _. Adds (written (bit_string_form fixed (bits_of value.entry)) 0) octets.old.items octets.new.items) (λ e. e ≡ EncodeError.OutOfMemory) }
+    ensures { MatchResult result (λ _. Adds (written (bit_string_form fixed (bits_of value.entry)) 0) octets.old.items
+        octets.new.items) (λ e. e ≡ EncodeError.OutOfMemory) }
 {
     if fixed {
         push_bits(octets, value)?;
@@ -68,7 +70,11 @@ pub fn push_bit_string(
     held: Bounded<usize>,
     value: BitStr,
 ) -> Result<(), EncodeError>
-    ensures { MatchResult result (λ _. Adds (written (form (bit_string (sizes_of constraints.entry.size) (counts_of held)) (bit_list (bits_of value.entry))) 0) octets.old.items octets.new.items) (Refuses (written (form (bit_string (sizes_of constraints.entry.size) (counts_of held)) (bit_list (bits_of value.entry))) 0)) }
+    ensures { MatchResult result (λ _. Adds
+        (written (form (bit_string (sizes_of constraints.entry.size) (counts_of held))
+        (bit_list (bits_of value.entry))) 0) octets.old.items octets.new.items)
+        (Refuses (written (form (bit_string (sizes_of constraints.entry.size) (counts_of held))
+        (bit_list (bits_of value.entry))) 0)) }
 {
     if !admits(constraints, held, value.len()) {
         return Err(EncodeError::SizeConstraintNotSatisfied);

@@ -14,7 +14,8 @@ pub(crate) fn push_digits(
     count: usize,
 ) -> Result<(), EncodeError>
     requires { count ≤ 16 }
-    ensures { MatchResult result (λ _. octets.new.items ≡ octets.old.items ++ digits 256 count number) (λ e. e ≡ EncodeError.OutOfMemory) }
+    ensures { MatchResult result (λ _. octets.new.items ≡ octets.old.items ++ digits 256 count number)
+        (λ e. e ≡ EncodeError.OutOfMemory) }
 {
     match count {
         1 => octets.push((number % 0x100) as u8)?,

@@ -7,13 +7,14 @@ ghost use Rattle.asn1_schema_constraints.specs.Widths.{has_sign, fixed_width};
 use crate::digits::{natural_len, signed_len};
 use asn1_schema_constraints::Bounded;
 
-/// In which form INTEGER is written under these bounds (X.696 10): whether it has a sign, and in how many octets, 1, 2, 4 or 8, if their
-/// number is always the same.
+/// In which form INTEGER is written under these bounds (X.696 10): whether it has a sign, and in how many octets, 1,
+/// 2, 4 or 8, if their number is always the same.
 #[inline]
 pub(crate) fn form_under(bounds: &Bounded<i128>) -> (bool, Option<u8>)
     ensures sign { result.0 ≡ has_sign (lower bounds.now) }
     ensures width { result.1 ≡ fixed_width (lower bounds.now) (upper bounds.now) }
-    ensures form { (v : ℤ) → bounded (lower bounds.now) (upper bounds.now) v ≡ cond result.0 (signed_form result.1 v) (natural_form result.1 v) }
+    ensures form { (v : ℤ) → bounded (lower bounds.now) (upper bounds.now) v
+        ≡ cond result.0 (signed_form result.1 v) (natural_form result.1 v) }
 {
     let (start, end) = (bounds.as_start().copied(), bounds.as_end().copied());
     (may_be_negative(start), octets_of_range(start, end))

@@ -17,7 +17,8 @@ use std::alloc::Global;
 ///
 /// `OutOfMemory`; any other only where the value has no encoding in this form.
 pub fn push_identifier(octets: &mut Vec<u8>, alloc: Global, value: &Oid) -> Result<(), EncodeError>
-    ensures { MatchResult result (λ _. Adds (written (form object_identifier (arcs value.now)) 0) octets.old.items octets.new.items) (Refuses (written (form object_identifier (arcs value.now)) 0)) }
+    ensures { MatchResult result (λ _. Adds (written (form object_identifier (arcs value.now)) 0) octets.old.items
+        octets.new.items) (Refuses (written (form object_identifier (arcs value.now)) 0)) }
 {
     match oid_octets(alloc, value) {
         Ok(contents) => {

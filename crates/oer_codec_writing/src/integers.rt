@@ -20,7 +20,8 @@ use asn1_values_integers::IntegerType;
 #[inline]
 fn push_signed(octets: &mut Vec<u8>, width: Option<u8>, number: i128) -> Result<(), EncodeError>
     requires { IfSome width (λ k. (signed_octets number ≤ k) × (k ≤ 16)) }
-    ensures { MatchResult result (λ _. Adds (written (signed_form width number) 0) octets.old.items octets.new.items) (λ e. e ≡ EncodeError.OutOfMemory) }
+    ensures { MatchResult result (λ _. Adds (written (signed_form width number) 0) octets.old.items octets.new.items)
+        (λ e. e ≡ EncodeError.OutOfMemory) }
 {
     let bits = number.cast_unsigned();
     match width {
@@ -40,7 +41,8 @@ fn push_signed(octets: &mut Vec<u8>, width: Option<u8>, number: i128) -> Result<
 fn push_natural(octets: &mut Vec<u8>, width: Option<u8>, number: i128) -> Result<(), EncodeError>
     requires sign { is_below_zero number ≡ false }
     requires width { IfSome width (λ k. k ≤ 16) }
-    ensures { MatchResult result (λ _. Adds (written (natural_form width number) 0) octets.old.items octets.new.items) (λ e. e ≡ EncodeError.OutOfMemory) }
+    ensures { MatchResult result (λ _. Adds (written (natural_form width number) 0) octets.old.items octets.new.items)
+        (λ e. e ≡ EncodeError.OutOfMemory) }
 {
     let magnitude = number.cast_unsigned();
     match width {
@@ -63,7 +65,8 @@ fn push_bounded(
     number: i128,
 ) -> Result<(), EncodeError>
     requires { admits_number bounds number ≡ true }
-    ensures { MatchResult result (λ _. Adds (written (bounded (lower bounds) (upper bounds) number) 0) octets.old.items octets.new.items) (λ e. e ≡ EncodeError.OutOfMemory) }
+    ensures { MatchResult result (λ _. Adds (written (bounded (lower bounds) (upper bounds) number) 0)
+        octets.old.items octets.new.items) (λ e. e ≡ EncodeError.OutOfMemory) }
 {
     let (signed, width) = form_under(&bounds);
     if signed {
@@ -81,7 +84,10 @@ fn push_number(
     limits: Option<Extensible<'_, Value>>,
     number: i128,
 ) -> Result<(), EncodeError>
-    ensures { (h : Range) → is_within h number ≡ true → MatchResult result (λ _. Adds (written (integer_form (bounds_of limits.entry) (held_of limits.entry h) number) 0) octets.old.items octets.new.items) (Refuses (written (integer_form (bounds_of limits.entry) (held_of limits.entry h) number) 0)) }
+    ensures { (h : Range) → is_within h number ≡ true → MatchResult result
+        (λ _. Adds (written (integer_form (bounds_of limits.entry) (held_of limits.entry h) number) 0)
+        octets.old.items octets.new.items)
+        (Refuses (written (integer_form (bounds_of limits.entry) (held_of limits.entry h) number) 0)) }
 {
     let Some(limits) = limits else {
         push_signed(octets, None, number)?;
@@ -110,7 +116,11 @@ pub fn push_integer<I: IntegerType>(
     constraints: Constraints,
     value: &I,
 ) -> Result<(), EncodeError>
-    ensures { MatchResult result (λ _. Adds (written (integer_form (bounds_of constraints.entry.value) (held_of constraints.entry.value I.held) (I.value value.now)) 0) octets.old.items octets.new.items) (Refuses (written (integer_form (bounds_of constraints.entry.value) (held_of constraints.entry.value I.held) (I.value value.now)) 0)) }
+    ensures { MatchResult result (λ _. Adds
+        (written (integer_form (bounds_of constraints.entry.value) (held_of constraints.entry.value I.held)
+        (I.value value.now)) 0) octets.old.items octets.new.items)
+        (Refuses (written (integer_form (bounds_of constraints.entry.value) (held_of constraints.entry.value I.held)
+        (I.value value.now)) 0)) }
 {
     if let Some(number) = value.to_i128() {
         return push_number(octets, constraints.value, number);

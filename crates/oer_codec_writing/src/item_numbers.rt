@@ -13,7 +13,8 @@ use asn1_values_integers::IntegerType;
 ///
 /// `OutOfMemory`, and no other.
 pub fn push_item(octets: &mut Vec<u8>, number: isize) -> Result<(), EncodeError>
-    ensures { MatchResult result (λ _. option_map (λ w. octets.old.items ++ w) (written (item_form number) 0) ≡ Some octets.new.items) (λ e. e ≡ EncodeError.OutOfMemory) }
+    ensures { MatchResult result (λ _. option_map (λ w. octets.old.items ++ w) (written (item_form number) 0)
+        ≡ Some octets.new.items) (λ e. e ≡ EncodeError.OutOfMemory) }
 {
     if 0 <= number && number < 0x80 {
         octets.push(number as u8)?;

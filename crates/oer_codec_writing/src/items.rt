@@ -16,7 +16,9 @@ use asn1_schema_variants::Enumerated;
 ///
 /// `OutOfMemory`, and no other.
 pub fn push_enumerated<T: Enumerated>(octets: &mut Vec<u8>, value: &T) -> Result<(), EncodeError>
-    ensures { MatchResult result (λ _. Adds (written (form (enumerated T.roots T.extensible T.additions) (item (T.number value.now))) 0) octets.old.items octets.new.items) (λ e. e ≡ EncodeError.OutOfMemory) }
+    ensures { MatchResult result (λ _. Adds
+        (written (form (enumerated T.roots T.extensible T.additions) (item (T.number value.now))) 0) octets.old.items
+        octets.new.items) (λ e. e ≡ EncodeError.OutOfMemory) }
 {
     push_item(octets, value.discriminant())?;
     Ok(())

@@ -14,7 +14,8 @@ use asn1_schema_faults::EncodeError;
 ///
 /// `OutOfMemory`, and no other.
 pub fn push_boolean(octets: &mut Vec<u8>, value: bool) -> Result<(), EncodeError>
-    ensures { MatchResult result (λ _. Adds (written (form boolean (truth value)) 0) octets.old.items octets.new.items) (λ e. e ≡ EncodeError.OutOfMemory) }
+    ensures { MatchResult result (λ _. Adds (written (form boolean (truth value)) 0) octets.old.items
+        octets.new.items) (λ e. e ≡ EncodeError.OutOfMemory) }
 {
     octets.push(if value { 0xFF } else { 0x00 })?;
     Ok(())

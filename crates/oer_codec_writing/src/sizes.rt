@@ -40,7 +40,8 @@ pub(crate) fn push_sized(
     fixed: bool,
     contents: &[u8],
 ) -> Result<(), EncodeError>
-    ensures { MatchResult result (λ _. Adds (written (octets_form fixed contents.now) 0) octets.old.items octets.new.items) (λ e. e ≡ EncodeError.OutOfMemory) }
+    ensures { MatchResult result (λ _. Adds (written (octets_form fixed contents.now) 0) octets.old.items
+        octets.new.items) (λ e. e ≡ EncodeError.OutOfMemory) }
 {
     if fixed {
         octets.extend_from_slice(contents)?;
@@ -62,7 +63,11 @@ pub fn push_octet_string(
     held: Bounded<usize>,
     value: &[u8],
 ) -> Result<(), EncodeError>
-    ensures { MatchResult result (λ _. Adds (written (form (octet_string (sizes_of constraints.entry.size) (counts_of held)) (octet_list value.now)) 0) octets.old.items octets.new.items) (Refuses (written (form (octet_string (sizes_of constraints.entry.size) (counts_of held)) (octet_list value.now)) 0)) }
+    ensures { MatchResult result (λ _. Adds
+        (written (form (octet_string (sizes_of constraints.entry.size) (counts_of held)) (octet_list value.now)) 0)
+        octets.old.items octets.new.items)
+        (Refuses (written (form (octet_string (sizes_of constraints.entry.size) (counts_of held))
+        (octet_list value.now)) 0)) }
 {
     if !admits(constraints, held, value.len()) {
         return Err(EncodeError::SizeConstraintNotSatisfied);

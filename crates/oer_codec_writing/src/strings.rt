@@ -26,7 +26,12 @@ pub fn push_utf8(
     constraints: Constraints,
     value: &str,
 ) -> Result<(), EncodeError>
-    ensures { MatchResult result (λ _. Adds (written (form (character_string utf8 (sizes_of constraints.entry.size) (alphabet_of constraints.entry.permitted_alphabet) any_count) (text value.now)) 0) octets.old.items octets.new.items) (Refuses (written (form (character_string utf8 (sizes_of constraints.entry.size) (alphabet_of constraints.entry.permitted_alphabet) any_count) (text value.now)) 0)) }
+    ensures { MatchResult result (λ _. Adds
+        (written (form (character_string utf8 (sizes_of constraints.entry.size)
+        (alphabet_of constraints.entry.permitted_alphabet) any_count) (text value.now)) 0) octets.old.items
+        octets.new.items) (Refuses (written
+        (form (character_string utf8 (sizes_of constraints.entry.size)
+        (alphabet_of constraints.entry.permitted_alphabet) any_count) (text value.now)) 0)) }
 {
     if !admits(constraints, Bounded::None, value.len()) {
         return Err(EncodeError::SizeConstraintNotSatisfied);
@@ -41,7 +46,8 @@ fn push_narrow<S: StaticPermittedAlphabet>(
     value: &S,
 ) -> Result<(), EncodeError>
     requires { IsTrue (each_is is_octet (S.characters value.now)) }
-    ensures { MatchResult result (λ _. octets.new.items ≡ octets.old.items ++ S.characters value.now) (λ e. e ≡ EncodeError.OutOfMemory) }
+    ensures { MatchResult result (λ _. octets.new.items ≡ octets.old.items ++ S.characters value.now)
+        (λ e. e ≡ EncodeError.OutOfMemory) }
 {
     let count = value.char_count();
     for place in 0..count {
@@ -52,7 +58,8 @@ fn push_narrow<S: StaticPermittedAlphabet>(
 
 /// Adds the characters as octets, two for each, the highest first.
 fn push_wide<S: StaticPermittedAlphabet>(octets: &mut Vec<u8>, value: &S) -> Result<(), EncodeError>
-    ensures { MatchResult result (λ _. octets.new.items ≡ octets.old.items ++ flat_map (digits 256 2) (S.characters value.now)) (λ e. e ≡ EncodeError.OutOfMemory) }
+    ensures { MatchResult result (λ _. octets.new.items ≡ octets.old.items
+        ++ flat_map (digits 256 2) (S.characters value.now)) (λ e. e ≡ EncodeError.OutOfMemory) }
 {
     let count = value.char_count();
     for place in 0..count {
@@ -70,7 +77,8 @@ fn push_narrow_string<S: StaticPermittedAlphabet>(
     value: &S,
 ) -> Result<(), EncodeError>
     requires { IsTrue (each_is is_octet (S.characters value.now)) }
-    ensures { MatchResult result (λ _. Adds (written (octets_form fixed (S.characters value.now)) 0) octets.old.items octets.new.items) (λ e. e ≡ EncodeError.OutOfMemory) }
+    ensures { MatchResult result (λ _. Adds (written (octets_form fixed (S.characters value.now)) 0) octets.old.items
+        octets.new.items) (λ e. e ≡ EncodeError.OutOfMemory) }
 {
     if fixed {
         push_narrow(octets, value)?;
@@ -87,7 +95,9 @@ fn push_wide_string<S: StaticPermittedAlphabet>(
     fixed: bool,
     value: &S,
 ) -> Result<(), EncodeError>
-    ensures { MatchResult result (λ _. Adds (written (octets_form fixed (flat_map (digits 256 2) (S.characters value.now))) 0) octets.old.items octets.new.items) (λ e. e ≡ EncodeError.OutOfMemory) }
+    ensures { MatchResult result (λ _. Adds
+        (written (octets_form fixed (flat_map (digits 256 2) (S.characters value.now))) 0) octets.old.items
+        octets.new.items) (λ e. e ≡ EncodeError.OutOfMemory) }
 {
     if fixed {
         push_wide(octets, value)?;
@@ -111,7 +121,12 @@ pub fn push_characters<S: StaticPermittedAlphabet>(
     constraints: Constraints,
     value: &S,
 ) -> Result<(), EncodeError>
-    ensures { MatchResult result (λ _. Adds (written (form (character_string S.kind (sizes_of constraints.entry.size) (alphabet_of constraints.entry.permitted_alphabet) any_count) (text (S.characters value.now))) 0) octets.old.items octets.new.items) (Refuses (written (form (character_string S.kind (sizes_of constraints.entry.size) (alphabet_of constraints.entry.permitted_alphabet) any_count) (text (S.characters value.now))) 0)) }
+    ensures { MatchResult result (λ _. Adds
+        (written (form (character_string S.kind (sizes_of constraints.entry.size)
+        (alphabet_of constraints.entry.permitted_alphabet) any_count) (text (S.characters value.now))) 0)
+        octets.old.items octets.new.items)
+        (Refuses (written (form (character_string S.kind (sizes_of constraints.entry.size)
+        (alphabet_of constraints.entry.permitted_alphabet) any_count) (text (S.characters value.now))) 0)) }
 {
     let count = value.char_count();
     if !admits(constraints, Bounded::None, count) {

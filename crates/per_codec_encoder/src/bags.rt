@@ -30,8 +30,8 @@ fn sizes(constraints: Constraints) -> (Bounded<usize>, bool)
     }
 }
 
-/// Whether a bag may have so many members: the program's type holds so many, and they are in the root of the size, or this
-/// has a mark.
+/// Whether a bag may have so many members: the program's type holds so many, and they are in the root of the size, or
+/// this has a mark.
 fn may_have(range: Bounded<usize>, extensible: bool, held: Bounded<usize>, count: usize) -> bool
     ensures { result ≡ (is_count_within (members_of held) count
         && (extensible || is_count_within (counts_of range) count)) }

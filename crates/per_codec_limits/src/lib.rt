@@ -4,5 +4,6 @@
 /// How many units the smallest fragment has; others have two to four times as many (X.691 11.9.3.8).
 pub const FRAGMENT: usize = 16384;
 
-/// From so many on the highest number of units that there may be does not tell the form of their number (X.691 11.9.4.1).
+/// From so many on the highest number of units that there may be does not tell the form of their number (X.691
+/// 11.9.4.1).
 pub const LONG_COUNT: usize = 65536;
