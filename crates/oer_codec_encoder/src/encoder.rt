@@ -102,6 +102,16 @@ impl<'buffer> Encoder<'buffer> {
     }
 }
 
+// One call: `AlreadyFailed` after a refusal, else what is written of its record, and after a refusal no more.
+macro_rules! record {
+    ($encoder:ident, $written:expr) => {{
+        begin_record(&mut $encoder.failed)?;
+        $written?;
+        $encoder.failed = false;
+        Ok(())
+    }};
+}
+
 impl<'buffer> asn1_schema_encode::Encoder for Encoder<'buffer> {
     ghost use Rattle.oer_codec_encoder.specs.Laws.{puts_one, puts_none, puts_on, puts_same};
     ghost use Rattle.asn1_schema_faults.specs.declared.CodecKind.TheVariants.{Coer};
@@ -123,10 +133,7 @@ impl<'buffer> asn1_schema_encode::Encoder for Encoder<'buffer> {
         value: bool,
         _identifier: Identifier,
     ) -> Result<(), EncodeError> {
-        begin_record(&mut self.failed)?;
-        push_boolean(self.output, value)?;
-        self.failed = false;
-        Ok(())
+        record!(self, push_boolean(self.output, value))
     }
 
     #[inline(always)]
@@ -145,10 +152,7 @@ impl<'buffer> asn1_schema_encode::Encoder for Encoder<'buffer> {
         value: &I,
         _identifier: Identifier,
     ) -> Result<(), EncodeError> {
-        begin_record(&mut self.failed)?;
-        push_integer(self.output, constraints, value)?;
-        self.failed = false;
-        Ok(())
+        record!(self, push_integer(self.output, constraints, value))
     }
 
     fn encode_enumerated<T: Enumerated>(
@@ -165,10 +169,7 @@ impl<'buffer> asn1_schema_encode::Encoder for Encoder<'buffer> {
         ensures already { self.old.failed ≡ true → result ≡ Err EncodeError.AlreadyFailed }
         ensures after { result ≡ Err EncodeError.AlreadyFailed → self.old.failed ≡ true }
     {
-        begin_record(&mut self.failed)?;
-        push_enumerated(self.output, value)?;
-        self.failed = false;
-        Ok(())
+        record!(self, push_enumerated(self.output, value))
     }
 
     fn encode_bit_string(
@@ -179,10 +180,7 @@ impl<'buffer> asn1_schema_encode::Encoder for Encoder<'buffer> {
         value: BitStr,
         _identifier: Identifier,
     ) -> Result<(), EncodeError> {
-        begin_record(&mut self.failed)?;
-        push_bit_string(self.output, constraints, held, value)?;
-        self.failed = false;
-        Ok(())
+        record!(self, push_bit_string(self.output, constraints, held, value))
     }
 
     #[inline(always)]
@@ -194,10 +192,10 @@ impl<'buffer> asn1_schema_encode::Encoder for Encoder<'buffer> {
         value: &[u8],
         _identifier: Identifier,
     ) -> Result<(), EncodeError> {
-        begin_record(&mut self.failed)?;
-        push_octet_string(self.output, constraints, held, value)?;
-        self.failed = false;
-        Ok(())
+        record!(
+            self,
+            push_octet_string(self.output, constraints, held, value)
+        )
     }
 
     fn encode_utf8_string(
@@ -207,10 +205,7 @@ impl<'buffer> asn1_schema_encode::Encoder for Encoder<'buffer> {
         value: &str,
         _identifier: Identifier,
     ) -> Result<(), EncodeError> {
-        begin_record(&mut self.failed)?;
-        push_utf8(self.output, constraints, value)?;
-        self.failed = false;
-        Ok(())
+        record!(self, push_utf8(self.output, constraints, value))
     }
 
     fn encode_characters<S: StaticPermittedAlphabet>(
@@ -220,10 +215,7 @@ impl<'buffer> asn1_schema_encode::Encoder for Encoder<'buffer> {
         value: &S,
         _identifier: Identifier,
     ) -> Result<(), EncodeError> {
-        begin_record(&mut self.failed)?;
-        push_characters(self.output, constraints, value)?;
-        self.failed = false;
-        Ok(())
+        record!(self, push_characters(self.output, constraints, value))
     }
 
     fn encode_object_identifier(
@@ -232,10 +224,7 @@ impl<'buffer> asn1_schema_encode::Encoder for Encoder<'buffer> {
         value: Oid,
         _identifier: Identifier,
     ) -> Result<(), EncodeError> {
-        begin_record(&mut self.failed)?;
-        push_identifier(self.output, self.alloc, &value)?;
-        self.failed = false;
-        Ok(())
+        record!(self, push_identifier(self.output, self.alloc, &value))
     }
 
     #[inline(always)]
@@ -246,10 +235,10 @@ impl<'buffer> asn1_schema_encode::Encoder for Encoder<'buffer> {
         held: Bounded<usize>,
         count: usize,
     ) -> Result<(), EncodeError> {
-        begin_record(&mut self.failed)?;
-        begin_members(self.output, &mut self.frames, constraints, held, count)?;
-        self.failed = false;
-        Ok(())
+        record!(
+            self,
+            begin_members(self.output, &mut self.frames, constraints, held, count)
+        )
     }
 
     #[inline(always)]
@@ -260,25 +249,22 @@ impl<'buffer> asn1_schema_encode::Encoder for Encoder<'buffer> {
         held: Bounded<usize>,
         count: usize,
     ) -> Result<(), EncodeError> {
-        begin_record(&mut self.failed)?;
-        begin_bag(
-            self.output,
-            &mut self.frames,
-            self.alloc,
-            constraints,
-            held,
-            count,
-        )?;
-        self.failed = false;
-        Ok(())
+        record!(
+            self,
+            begin_bag(
+                self.output,
+                &mut self.frames,
+                self.alloc,
+                constraints,
+                held,
+                count,
+            )
+        )
     }
 
     #[inline(always)]
     fn put_further(&mut self, more: bool) -> Result<(), EncodeError> {
-        begin_record(&mut self.failed)?;
-        self.frames.put_further(self.output, self.alloc, more)?;
-        self.failed = false;
-        Ok(())
+        record!(self, self.frames.put_further(self.output, self.alloc, more))
     }
 
     #[inline(always)]
@@ -288,10 +274,10 @@ impl<'buffer> asn1_schema_encode::Encoder for Encoder<'buffer> {
         extensible: bool,
         optional: usize,
     ) -> Result<(), EncodeError> {
-        begin_record(&mut self.failed)?;
-        begin_components(self.output, &mut self.frames, extensible, optional)?;
-        self.failed = false;
-        Ok(())
+        record!(
+            self,
+            begin_components(self.output, &mut self.frames, extensible, optional)
+        )
     }
 
     #[inline(always)]
@@ -301,56 +287,50 @@ impl<'buffer> asn1_schema_encode::Encoder for Encoder<'buffer> {
         extensible: bool,
         optional: usize,
     ) -> Result<(), EncodeError> {
-        begin_record(&mut self.failed)?;
-        begin_components(self.output, &mut self.frames, extensible, optional)?;
-        self.failed = false;
-        Ok(())
+        record!(
+            self,
+            begin_components(self.output, &mut self.frames, extensible, optional)
+        )
     }
 
     #[inline(always)]
     fn begin_group(&mut self, optional: usize) -> Result<(), EncodeError> {
-        begin_record(&mut self.failed)?;
-        begin_components(self.output, &mut self.frames, false, optional)?;
-        self.failed = false;
-        Ok(())
+        record!(
+            self,
+            begin_components(self.output, &mut self.frames, false, optional)
+        )
     }
 
     #[inline(always)]
     fn put_mark(&mut self, present: bool) -> Result<(), EncodeError> {
-        begin_record(&mut self.failed)?;
-        put_mark(self.output, &mut self.frames, present)?;
-        self.failed = false;
-        Ok(())
+        record!(self, put_mark(self.output, &mut self.frames, present))
     }
 
     #[inline(always)]
     fn begin_additions(&mut self, count: usize) -> Result<(), EncodeError> {
-        begin_record(&mut self.failed)?;
-        begin_additions(
-            self.output,
-            self.worker,
-            &mut self.frames,
-            self.alloc,
-            count,
-        )?;
-        self.failed = false;
-        Ok(())
+        record!(
+            self,
+            begin_additions(
+                self.output,
+                self.worker,
+                &mut self.frames,
+                self.alloc,
+                count,
+            )
+        )
     }
 
     #[inline(always)]
     fn put_addition(&mut self, present: bool) -> Result<(), EncodeError> {
-        begin_record(&mut self.failed)?;
-        put_addition(self.output, &mut self.frames, present)?;
-        self.failed = false;
-        Ok(())
+        record!(self, put_addition(self.output, &mut self.frames, present))
     }
 
     #[inline(always)]
     fn end_addition(&mut self) -> Result<(), EncodeError> {
-        begin_record(&mut self.failed)?;
-        end_addition(self.output, &mut self.frames, self.alloc)?;
-        self.failed = false;
-        Ok(())
+        record!(
+            self,
+            end_addition(self.output, &mut self.frames, self.alloc)
+        )
     }
 
     #[inline(always)]
@@ -362,25 +342,25 @@ impl<'buffer> asn1_schema_encode::Encoder for Encoder<'buffer> {
         additions: &[Tag],
         chosen: Chosen,
     ) -> Result<(), EncodeError> {
-        begin_record(&mut self.failed)?;
-        begin_choice(
-            self.output,
-            &mut self.frames,
-            roots,
-            extensible,
-            additions,
-            chosen,
-        )?;
-        self.failed = false;
-        Ok(())
+        record!(
+            self,
+            begin_choice(
+                self.output,
+                &mut self.frames,
+                roots,
+                extensible,
+                additions,
+                chosen,
+            )
+        )
     }
 
     #[inline(always)]
     fn end(&mut self) -> Result<(), EncodeError> {
-        begin_record(&mut self.failed)?;
-        end_scope(self.output, self.worker, &mut self.frames, self.alloc)?;
-        self.failed = false;
-        Ok(())
+        record!(
+            self,
+            end_scope(self.output, self.worker, &mut self.frames, self.alloc)
+        )
     }
 
     ghost one_after = { puts_one };

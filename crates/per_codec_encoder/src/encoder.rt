@@ -126,6 +126,19 @@ impl Encoder {
     }
 }
 
+// One call: `AlreadyFailed` after a refusal, else what is written of its record, and after a refusal no more.
+macro_rules! record {
+    ($encoder:ident, $written:expr) => {{
+        if $encoder.failed {
+            return Err(EncodeError::AlreadyFailed);
+        }
+        $encoder.failed = true;
+        $written?;
+        $encoder.failed = false;
+        Ok(())
+    }};
+}
+
 impl asn1_schema_encode::Encoder for Encoder {
     ghost use Rattle.per_codec_encoder.specs.Laws.{puts_none, puts_on, puts_one, puts_same};
     ghost use Rattle.per_codec_encoder.specs.Stepping.{rules_of};
@@ -151,13 +164,7 @@ impl asn1_schema_encode::Encoder for Encoder {
         value: bool,
         _identifier: Identifier,
     ) -> Result<(), EncodeError> {
-        if self.failed {
-            return Err(EncodeError::AlreadyFailed);
-        }
-        self.failed = true;
-        push_boolean(&mut self.output, self.aligned, value)?;
-        self.failed = false;
-        Ok(())
+        record!(self, push_boolean(&mut self.output, self.aligned, value))
     }
 
     #[inline(always)]
@@ -176,13 +183,10 @@ impl asn1_schema_encode::Encoder for Encoder {
         value: &I,
         _identifier: Identifier,
     ) -> Result<(), EncodeError> {
-        if self.failed {
-            return Err(EncodeError::AlreadyFailed);
-        }
-        self.failed = true;
-        push_integer(&mut self.output, self.aligned, constraints, value)?;
-        self.failed = false;
-        Ok(())
+        record!(
+            self,
+            push_integer(&mut self.output, self.aligned, constraints, value)
+        )
     }
 
     fn encode_enumerated<T: Enumerated>(
@@ -199,13 +203,7 @@ impl asn1_schema_encode::Encoder for Encoder {
         ensures already { self.old.failed ≡ true → result ≡ Err EncodeError.AlreadyFailed }
         ensures after { result ≡ Err EncodeError.AlreadyFailed → self.old.failed ≡ true }
     {
-        if self.failed {
-            return Err(EncodeError::AlreadyFailed);
-        }
-        self.failed = true;
-        push_enumerated(&mut self.output, self.aligned, value)?;
-        self.failed = false;
-        Ok(())
+        record!(self, push_enumerated(&mut self.output, self.aligned, value))
     }
 
     fn encode_bit_string(
@@ -216,13 +214,10 @@ impl asn1_schema_encode::Encoder for Encoder {
         value: BitStr,
         _identifier: Identifier,
     ) -> Result<(), EncodeError> {
-        if self.failed {
-            return Err(EncodeError::AlreadyFailed);
-        }
-        self.failed = true;
-        push_bit_string(&mut self.output, self.aligned, constraints, held, value)?;
-        self.failed = false;
-        Ok(())
+        record!(
+            self,
+            push_bit_string(&mut self.output, self.aligned, constraints, held, value)
+        )
     }
 
     #[inline(always)]
@@ -234,13 +229,10 @@ impl asn1_schema_encode::Encoder for Encoder {
         value: &[u8],
         _identifier: Identifier,
     ) -> Result<(), EncodeError> {
-        if self.failed {
-            return Err(EncodeError::AlreadyFailed);
-        }
-        self.failed = true;
-        push_octet_string(&mut self.output, self.aligned, constraints, held, value)?;
-        self.failed = false;
-        Ok(())
+        record!(
+            self,
+            push_octet_string(&mut self.output, self.aligned, constraints, held, value)
+        )
     }
 
     fn encode_utf8_string(
@@ -250,13 +242,10 @@ impl asn1_schema_encode::Encoder for Encoder {
         value: &str,
         _identifier: Identifier,
     ) -> Result<(), EncodeError> {
-        if self.failed {
-            return Err(EncodeError::AlreadyFailed);
-        }
-        self.failed = true;
-        push_utf8(&mut self.output, self.aligned, constraints, value)?;
-        self.failed = false;
-        Ok(())
+        record!(
+            self,
+            push_utf8(&mut self.output, self.aligned, constraints, value)
+        )
     }
 
     fn encode_characters<S: StaticPermittedAlphabet>(
@@ -266,19 +255,16 @@ impl asn1_schema_encode::Encoder for Encoder {
         value: &S,
         _identifier: Identifier,
     ) -> Result<(), EncodeError> {
-        if self.failed {
-            return Err(EncodeError::AlreadyFailed);
-        }
-        self.failed = true;
-        push_characters(
-            &mut self.output,
-            self.aligned,
-            self.alloc,
-            constraints,
-            value,
-        )?;
-        self.failed = false;
-        Ok(())
+        record!(
+            self,
+            push_characters(
+                &mut self.output,
+                self.aligned,
+                self.alloc,
+                constraints,
+                value,
+            )
+        )
     }
 
     fn encode_object_identifier(
@@ -287,13 +273,10 @@ impl asn1_schema_encode::Encoder for Encoder {
         value: Oid,
         _identifier: Identifier,
     ) -> Result<(), EncodeError> {
-        if self.failed {
-            return Err(EncodeError::AlreadyFailed);
-        }
-        self.failed = true;
-        push_identifier(&mut self.output, self.aligned, self.alloc, &value)?;
-        self.failed = false;
-        Ok(())
+        record!(
+            self,
+            push_identifier(&mut self.output, self.aligned, self.alloc, &value)
+        )
     }
 
     #[inline(always)]
@@ -304,20 +287,17 @@ impl asn1_schema_encode::Encoder for Encoder {
         held: Bounded<usize>,
         count: usize,
     ) -> Result<(), EncodeError> {
-        if self.failed {
-            return Err(EncodeError::AlreadyFailed);
-        }
-        self.failed = true;
-        begin_members(
-            &mut self.output,
-            &mut self.frames,
-            self.aligned,
-            constraints,
-            held,
-            count,
-        )?;
-        self.failed = false;
-        Ok(())
+        record!(
+            self,
+            begin_members(
+                &mut self.output,
+                &mut self.frames,
+                self.aligned,
+                constraints,
+                held,
+                count,
+            )
+        )
     }
 
     #[inline(always)]
@@ -328,38 +308,32 @@ impl asn1_schema_encode::Encoder for Encoder {
         held: Bounded<usize>,
         count: usize,
     ) -> Result<(), EncodeError> {
-        if self.failed {
-            return Err(EncodeError::AlreadyFailed);
-        }
-        self.failed = true;
-        begin_bag(
-            &mut self.output,
-            &mut self.frames,
-            self.alloc,
-            self.aligned,
-            constraints,
-            held,
-            count,
-        )?;
-        self.failed = false;
-        Ok(())
+        record!(
+            self,
+            begin_bag(
+                &mut self.output,
+                &mut self.frames,
+                self.alloc,
+                self.aligned,
+                constraints,
+                held,
+                count,
+            )
+        )
     }
 
     #[inline(always)]
     fn put_further(&mut self, more: bool) -> Result<(), EncodeError> {
-        if self.failed {
-            return Err(EncodeError::AlreadyFailed);
-        }
-        self.failed = true;
-        put_further(
-            &mut self.output,
-            &mut self.frames,
-            self.alloc,
-            self.aligned,
-            more,
-        )?;
-        self.failed = false;
-        Ok(())
+        record!(
+            self,
+            put_further(
+                &mut self.output,
+                &mut self.frames,
+                self.alloc,
+                self.aligned,
+                more,
+            )
+        )
     }
 
     #[inline(always)]
@@ -369,13 +343,10 @@ impl asn1_schema_encode::Encoder for Encoder {
         extensible: bool,
         optional: usize,
     ) -> Result<(), EncodeError> {
-        if self.failed {
-            return Err(EncodeError::AlreadyFailed);
-        }
-        self.failed = true;
-        begin_components(&mut self.output, &mut self.frames, extensible, optional)?;
-        self.failed = false;
-        Ok(())
+        record!(
+            self,
+            begin_components(&mut self.output, &mut self.frames, extensible, optional)
+        )
     }
 
     #[inline(always)]
@@ -385,68 +356,44 @@ impl asn1_schema_encode::Encoder for Encoder {
         extensible: bool,
         optional: usize,
     ) -> Result<(), EncodeError> {
-        if self.failed {
-            return Err(EncodeError::AlreadyFailed);
-        }
-        self.failed = true;
-        begin_components(&mut self.output, &mut self.frames, extensible, optional)?;
-        self.failed = false;
-        Ok(())
+        record!(
+            self,
+            begin_components(&mut self.output, &mut self.frames, extensible, optional)
+        )
     }
 
     #[inline(always)]
     fn begin_group(&mut self, optional: usize) -> Result<(), EncodeError> {
-        if self.failed {
-            return Err(EncodeError::AlreadyFailed);
-        }
-        self.failed = true;
-        begin_components(&mut self.output, &mut self.frames, false, optional)?;
-        self.failed = false;
-        Ok(())
+        record!(
+            self,
+            begin_components(&mut self.output, &mut self.frames, false, optional)
+        )
     }
 
     #[inline(always)]
     fn put_mark(&mut self, present: bool) -> Result<(), EncodeError> {
-        if self.failed {
-            return Err(EncodeError::AlreadyFailed);
-        }
-        self.failed = true;
-        put_mark(&mut self.output, &mut self.frames, present)?;
-        self.failed = false;
-        Ok(())
+        record!(self, put_mark(&mut self.output, &mut self.frames, present))
     }
 
     #[inline(always)]
     fn begin_additions(&mut self, count: usize) -> Result<(), EncodeError> {
-        if self.failed {
-            return Err(EncodeError::AlreadyFailed);
-        }
-        self.failed = true;
-        begin_additions(&self.output, &mut self.frames, self.alloc, count)?;
-        self.failed = false;
-        Ok(())
+        record!(
+            self,
+            begin_additions(&self.output, &mut self.frames, self.alloc, count)
+        )
     }
 
     #[inline(always)]
     fn put_addition(&mut self, present: bool) -> Result<(), EncodeError> {
-        if self.failed {
-            return Err(EncodeError::AlreadyFailed);
-        }
-        self.failed = true;
-        put_addition(&mut self.output, &mut self.frames, self.alloc, present)?;
-        self.failed = false;
-        Ok(())
+        record!(
+            self,
+            put_addition(&mut self.output, &mut self.frames, self.alloc, present)
+        )
     }
 
     #[inline(always)]
     fn end_addition(&mut self) -> Result<(), EncodeError> {
-        if self.failed {
-            return Err(EncodeError::AlreadyFailed);
-        }
-        self.failed = true;
-        end_addition(&mut self.output, &mut self.frames)?;
-        self.failed = false;
-        Ok(())
+        record!(self, end_addition(&mut self.output, &mut self.frames))
     }
 
     #[inline(always)]
@@ -458,32 +405,26 @@ impl asn1_schema_encode::Encoder for Encoder {
         additions: &[Tag],
         chosen: Chosen,
     ) -> Result<(), EncodeError> {
-        if self.failed {
-            return Err(EncodeError::AlreadyFailed);
-        }
-        self.failed = true;
-        begin_alternative(
-            &mut self.output,
-            &mut self.frames,
-            self.alloc,
-            self.aligned,
-            roots.len(),
-            extensible,
-            chosen,
-        )?;
-        self.failed = false;
-        Ok(())
+        record!(
+            self,
+            begin_alternative(
+                &mut self.output,
+                &mut self.frames,
+                self.alloc,
+                self.aligned,
+                roots.len(),
+                extensible,
+                chosen,
+            )
+        )
     }
 
     #[inline(always)]
     fn end(&mut self) -> Result<(), EncodeError> {
-        if self.failed {
-            return Err(EncodeError::AlreadyFailed);
-        }
-        self.failed = true;
-        end_scope(&mut self.output, &mut self.frames, self.alloc, self.aligned)?;
-        self.failed = false;
-        Ok(())
+        record!(
+            self,
+            end_scope(&mut self.output, &mut self.frames, self.alloc, self.aligned)
+        )
     }
 
     ghost one_after = { puts_one };
