@@ -198,7 +198,8 @@ macro_rules! stream_writing {
     };
 }
 
-/// Words that ask for nothing that the program does, before which no input is read. What is written of it is the usage of the program.
+/// Words that ask for nothing that the program does, before which no input is read. What is written of it is the usage
+/// of the program.
 macro_rules! bad {
     ($words:expr) => {
         Run {

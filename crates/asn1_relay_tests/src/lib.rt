@@ -1,4 +1,5 @@
-//! Tests of the program's command and of streams, with readers and writers that fail, and of values of types of a program's own.
+//! Tests of the program's command and of streams, with readers and writers that fail, and of values of types of a
+//! program's own.
 #![tactic(auto)]
 
 #[cfg(test)]

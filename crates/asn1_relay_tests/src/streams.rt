@@ -1,4 +1,5 @@
-//! Streams: runs whose reader or writer fails at each call in turn, a relay behind its faults, long streams, and values one behind the other.
+//! Streams: runs whose reader or writer fails at each call in turn, a relay behind its faults, long streams, and values
+//! one behind the other.
 ghost use Rattle.std.specs.Prelude.{refl, Some, None, false};
 ghost use Rattle.asn1_schema_constraints.specs.Terms.{sized};
 ghost use Rattle.asn1_schema_presented.proofs.TypesByKind.{type_list};
@@ -347,7 +348,8 @@ impl<T: Described> ConstraintsOf<Vec<T>> for OneOrTwo {
     ghost same_meaning = { λ _. refl };
 }
 
-/// Whether a relay stops at these octets for this reason, writes nothing then, and each call behind that answers that it has stopped.
+/// Whether a relay stops at these octets for this reason, writes nothing then, and each call behind that answers that
+/// it has stopped.
 fn has_stopped<T: Encode + Decode>(
     relay: &mut Relay<T>,
     out: &mut Vec<u8>,
@@ -442,7 +444,8 @@ fn waits_for_more<T: Encode + Decode>(
     relay.unread_len() == octets.len() && out.is_empty()
 }
 
-/// A string of 1000 octets behind its length, and one octet behind its own, in the octet encoding rules or the packed ones.
+/// A string of 1000 octets behind its length, and one octet behind its own, in the octet encoding rules or the packed
+/// ones.
 fn strings(alloc: Global, length: &[u8]) -> Result<Vec<u8>, AllocError> {
     let mut octets = Vec::from_slice(alloc, length)?;
     octets.extend_from_slice(&[0x5A; 1000])?;

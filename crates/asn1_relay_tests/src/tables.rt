@@ -21,7 +21,8 @@ fn first_name(fields: Fields<'_>) -> Option<&'static str> {
     fields.iter().next().map(|field| field.name)
 }
 
-/// A choice without a tag of its own stands by the smallest of its alternatives' tags (X.680 8.6), and additions as they are declared.
+/// A choice without a tag of its own stands by the smallest of its alternatives' tags (X.680 8.6), and additions as
+/// they are declared.
 #[test]
 fn fields(rt: HostRuntime) -> Result<(), Fail> {
     let added = Grown::extended_fields().unwrap_or(Fields::from_static(&[]));

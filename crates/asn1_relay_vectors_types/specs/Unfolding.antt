@@ -1,4 +1,5 @@
--- Types that mean the same in whatever depth they are unfolded: lists, bags, groups, and a choice that leads back to itself.
+-- Types that mean the same in whatever depth they are unfolded: lists, bags, groups, and a choice that leads back to
+-- itself.
 use Rattle.std.proofs.Common.{◌≤◌, ℕ, zero, suc, refl, inl, inr, arith}
 use Rattle.asn1_model.specs.Schema.{Counts, Size, Schema, null}
 use Rattle.asn1_laws_values.specs.Unfolding.{AgreesTo, AgreesAlternatives}

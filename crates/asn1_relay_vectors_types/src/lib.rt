@@ -8,6 +8,7 @@ mod extended;
 mod grouped;
 mod items;
 mod listed;
+mod marked;
 mod sequences;
 mod sizes;
 mod versions;
@@ -16,6 +17,7 @@ mod written;
 pub use choices::{Around, Distant, OldVersioned, Spaced, Versioned};
 pub use extended::{Noted, Schedule};
 pub use items::Scale;
+pub use marked::Marked;
 pub use sequences::{Blocks, Nothing, Offset, Outer, Person, Twelve};
 pub use sizes::ListOfOneOrTwo;
 pub use versions::{

@@ -1,5 +1,6 @@
-//! Tests of the schema by the names of its face: rows, what is shown, and each implementation that is generic, called once at a concrete
-//! type through its bound; with a type whose components have tags of their own, and a constraint of a component's own.
+//! Tests of the schema by the names of its face: rows, what is shown, and each implementation that is generic, called
+//! once at a concrete type through its bound; with a type whose components have tags of their own, and a constraint of
+//! a component's own.
 #![tactic(auto)]
 
 #[cfg(test)]

@@ -1,4 +1,5 @@
-//! Equality by meaning, through its bound; and values under tags, of any type, and those that validate their components.
+//! Equality by meaning, through its bound; and values under tags, of any type, and those that validate their
+//! components.
 use asn1_schema::tag::{self, Context};
 use asn1_schema::{
     Any, CodecKind, EqualByMeaning, Explicit, Implicit, InnerSubtypeConstraint,

@@ -1,5 +1,5 @@
-//! The calls by the names of types, each once: strings of each type, any value, values with a tag around their own, and components that may
-//! be absent or have a default.
+//! The calls by the names of types, each once: strings of each type, any value, values with a tag around their own, and
+//! components that may be absent or have a default.
 ghost use Rattle.std.specs.Prelude.{refl, pos};
 ghost use Rattle.asn1_model.specs.Value.{number};
 ghost use Rattle.asn1_schema_presented.proofs.Defaults.{integer_default};
@@ -198,7 +198,8 @@ fn write_optional<E: EncodeSequence>(encoder: &mut E, tag: Tag) -> Result<(), En
     encoder.encode_some(&4_u8)
 }
 
-/// The components that a decoder finds: with a tag, with a tag and constraints, with constraints, and with a tag around its own.
+/// The components that a decoder finds: with a tag, with a tag and constraints, with constraints, and with a tag around
+/// its own.
 fn optional<D: DecodeSequence>(
     alloc: Global,
     decoder: &mut D,

@@ -109,7 +109,8 @@ fn is_addition_kept(alloc: Global) -> bool {
         )
 }
 
-/// An alternative that is written, the root alternatives, mark and additions of a choice that is read, and what is found.
+/// An alternative that is written, the root alternatives, mark and additions of a choice that is read, and what is
+/// found.
 type Row = (
     Chosen,
     &'static [Tag],

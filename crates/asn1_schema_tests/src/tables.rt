@@ -31,7 +31,8 @@ fn are_ordered() -> bool {
         && Fields::from_static(&[]).is_canonical()
 }
 
-/// Whether four fields, of which the second may be absent and the fourth has a default, are counted, found and compared.
+/// Whether four fields, of which the second may be absent and the fourth has a default, are counted, found and
+/// compared.
 fn are_found(fields: &[Field<'_>; 4]) -> bool {
     let table = Fields::from_static(fields);
     let mut optional = table.optional_and_default_fields();

@@ -101,7 +101,8 @@ fn is_up_to_ten(alloc: Global) -> bool {
     is_written(alloc, &value, &[Wanted::Integer(Some(0), Some(10), 8)])
 }
 
-/// Whether truth values, nothing, markers and numbers of any size are written and read back, and none as one of another type.
+/// Whether truth values, nothing, markers and numbers of any size are written and read back, and none as one of another
+/// type.
 fn are_plain(alloc: Global) -> bool {
     let marker: PhantomData<u8> = PhantomData;
     is_kept(alloc, &true, &[Wanted::Flag(true)])

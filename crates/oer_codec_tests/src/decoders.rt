@@ -1,4 +1,6 @@
 //! Decoders, call by call.
+ghost use Rattle.std.specs.Prelude.{◌≡◌, IfErr};
+
 use crate::common::assert_none;
 use asn1_schema_constraints::{Bounded, Constraints};
 use asn1_schema_decode::{Decode, Decoder as Reading};
@@ -171,6 +173,27 @@ fn one_value_behind_another(rt: HostRuntime) -> Result<(), Fail> {
     Ok(())
 }
 
+/// Reads a truth value in front by a decoder of its own, of which no call was refused before.
+fn truth_in_front(
+    alloc: Global,
+    octets: &[u8],
+    options: DecoderOptions,
+) -> Result<bool, DecodeError>
+    ensures fresh { IfErr result (λ e. e ≡ DecodeError.AlreadyFailed → ⊥) }
+{
+    let mut decoder = Decoder::new(alloc, octets, options);
+    decoder.decode_bool(Tag::BOOL)
+}
+
+#[test]
+fn a_decoder_that_has_not_failed(rt: HostRuntime) {
+    let alloc = rt.alloc();
+    let (basic, canonical) = (DecoderOptions::oer(), DecoderOptions::coer());
+    assert!(rt; truth_in_front(alloc, &[0xFF], canonical) == Ok(true));
+    assert!(rt; truth_in_front(alloc, &[0x05], canonical) == Err(DecodeError::InvalidBool));
+    assert!(rt; truth_in_front(alloc, &[], basic) == Err(DecodeError::Incomplete));
+}
+
 /// Whether the octet in front is refused, and what stands behind it is then not read either.
 fn fails_for_good(decoder: &mut Decoder<'_>) -> bool {
     decoder.decode_bool(Tag::BOOL) == Err(DecodeError::InvalidBool)
@@ -201,7 +224,8 @@ fn a_decoder_that_has_failed(rt: HostRuntime) {
     assert!(rt; basic_rules_take(alloc, &[0x05, 0xFF]));
 }
 
-/// Reads SEQUENCE {..., and 65 additions INTEGER (0..255) OPTIONAL}: how many additions are absent, and the last one, which is there.
+/// Reads SEQUENCE {..., and 65 additions INTEGER (0..255) OPTIONAL}: how many additions are absent, and the last one,
+/// which is there.
 fn read_last_of_65(alloc: Global, decoder: &mut Decoder<'_>) -> Result<(u8, u8), DecodeError> {
     decoder.begin_sequence(Tag::SEQUENCE, true, 0)?;
     decoder.begin_additions(65)?;

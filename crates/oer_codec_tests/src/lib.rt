@@ -1,5 +1,5 @@
-//! Tests of OER and COER of what no line of vectors says: what a call leaves in a buffer that it is lent, values that have no encoding, encoders and decoders
-//! call by call, and readers and writers of tags and lengths.
+//! Tests of OER and COER of what no line of vectors says: what a call leaves in a buffer that it is lent, values that
+//! have no encoding, encoders and decoders call by call, and readers and writers of tags and lengths.
 #![tactic(auto)]
 
 #[cfg(test)]

@@ -1,4 +1,5 @@
-//! Many additions, added alternatives with high numbers, and long open types (X.691 11.2, 11.6, 11.9, 19.7 to 19.9 and 23.8).
+//! Many additions, added alternatives with high numbers, and long open types (X.691 11.2, 11.6, 11.9, 19.7 to 19.9 and
+//! 23.8).
 use crate::spelled::octets;
 use asn1_schema_constraints::{Bounded, Constraints, Extensible, Size};
 use asn1_schema_decode::{Decode, Decoder as Reader, ReadOctets};
@@ -14,19 +15,22 @@ use std::test::Fail;
 /// A type of ASN.1 and a value of it.
 #[derive(Clone, Copy)]
 enum Message {
-    /// SEQUENCE {a BOOLEAN, ..., and so many additions INTEGER (0..255) OPTIONAL}: a true, and 7 in the last addition alone.
+    /// SEQUENCE {a BOOLEAN, ..., and so many additions INTEGER (0..255) OPTIONAL}: a true, and 7 in the last addition
+    /// alone.
     LastOf(usize),
     /// CHOICE {[0] INTEGER, ..., and 300 added alternatives of INTEGER}: 333 by one of these.
     Alternative(usize),
-    /// SEQUENCE {a BOOLEAN, ..., b OCTET STRING (SIZE (n)) OPTIONAL}: a true, and in b so many octets FF in front of one other.
+    /// SEQUENCE {a BOOLEAN, ..., b OCTET STRING (SIZE (n)) OPTIONAL}: a true, and in b so many octets FF in front of
+    /// one other.
     Sized(usize, u8),
     /// SEQUENCE {..., s OCTET STRING}: in s so many octets 5A.
     Unsized(usize),
 }
 
-/// Up to 64 additions are counted in six bits behind a bit that is not set, from 65 on by a length behind a bit that is set, which has two
-/// octets from 128 on. A place of an added alternative is up to 63 six bits; from 64 on it stands behind its length. From 16384 octets on an
-/// open type stands in fragments, behind which comes the length of the rest, even of none.
+/// Up to 64 additions are counted in six bits behind a bit that is not set, from 65 on by a length behind a bit that is
+/// set, which has two octets from 128 on. A place of an added alternative is up to 63 six bits; from 64 on it stands
+/// behind its length. From 16384 octets on an open type stands in fragments, behind which comes the length of the rest,
+/// even of none.
 const UNALIGNED: [(Message, &str); 16] = [
     (Message::LastOf(7), "C3 01*2 07"),
     (Message::LastOf(8), "C3 80*2 83 80"),

@@ -59,11 +59,12 @@ enum Sizes {
     Marked(usize, usize),
 }
 
-/// A value, its size, and its bits: in both variants, or before a stroke in the unaligned one and behind it in the aligned one.
+/// A value, its size, and its bits: in both variants, or before a stroke in the unaligned one and behind it in the
+/// aligned one.
 type Row = (Value, Sizes, &'static str);
 
-/// Truth values, nothing, and numbers (X.691 11.5, 12, 13 and 24). A message of no bits has an octet. A range of 256 numbers and one of 65536
-/// take whole octets; of a wider one the number of octets comes first in the aligned variant.
+/// Truth values, nothing, and numbers (X.691 11.5, 12, 13 and 24). A message of no bits has an octet. A range of 256
+/// numbers and one of 65536 take whole octets; of a wider one the number of octets comes first in the aligned variant.
 const NUMBERS: [Row; 8] = [
     (Value::Truth(true), Sizes::Any, "b1"),
     (Value::Nothing, Sizes::Any, ""),
@@ -113,8 +114,8 @@ const STRINGS: [Row; 14] = [
     ),
 ];
 
-/// Strings under a size (X.691 16, 17 and 30). Up to 16 bits of a fixed size, and up to two octets of one, stand right behind what is before
-/// them. Of characters whose number of octets is not known a size counts for nothing.
+/// Strings under a size (X.691 16, 17 and 30). Up to 16 bits of a fixed size, and up to two octets of one, stand right
+/// behind what is before them. Of characters whose number of octets is not known a size counts for nothing.
 const SIZED: [Row; 12] = [
     (Value::General("abc"), Sizes::Fixed(2), "| 03 61 62 63"),
     (Value::Bits("FF FF"), Sizes::Fixed(16), "FF FF"),

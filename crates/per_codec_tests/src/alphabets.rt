@@ -15,7 +15,8 @@ enum Kind {
     Bmp,
 }
 
-/// A type, whether the variant is aligned, and the characters that are permitted, where there is a constraint, and whether it has a mark.
+/// A type, whether the variant is aligned, and the characters that are permitted, where there is a constraint, and
+/// whether it has a mark.
 type Alphabet = (Kind, bool, Option<(&'static [u32], bool)>);
 
 /// Characters and their codes, a character without a code, and a code without a character.

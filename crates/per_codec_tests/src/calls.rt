@@ -27,7 +27,8 @@ fn put<T: Encode>(
     }
 }
 
-/// Whether each truth value takes the place of what the buffer holds, and a number past its bounds leaves nothing in it.
+/// Whether each truth value takes the place of what the buffer holds, and a number past its bounds leaves nothing in
+/// it.
 fn is_replaced(alloc: Global, variant: Variant, buffer: &mut Vec<u8>) -> Result<bool, EncodeError> {
     put(alloc, variant, &true, buffer)?;
     let first = buffer.as_slice() == [0x80].as_slice();

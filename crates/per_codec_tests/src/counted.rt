@@ -1,4 +1,5 @@
-//! Octets behind their number, in one piece and in fragments, behind 0 to 7 bits (X.691 11.9), and what is lent of them.
+//! Octets behind their number, in one piece and in fragments, behind 0 to 7 bits (X.691 11.9), and what is lent of
+//! them.
 use crate::spelled::octets;
 use asn1_schema_faults::{DecodeError, EncodeError};
 use asn1_values_bits::BitBuffer;
@@ -9,7 +10,8 @@ use std::alloc::{AllocError, Global};
 use std::borrow::CowSlice;
 use std::test::Fail;
 
-/// Octets, those that they have behind their number, and whether they are written so: at the borders between two forms, and beside them.
+/// Octets, those that they have behind their number, and whether they are written so: at the borders between two forms,
+/// and beside them.
 const ROWS: [(&str, &str, bool); 13] = [
     ("", "00", true),
     ("A5", "01 A5", true),
@@ -42,7 +44,8 @@ fn behind(
     Ok(bits)
 }
 
-/// Whether octets are read from these behind so many bits, and no bits stand behind them but those that fill up the last octet.
+/// Whether octets are read from these behind so many bits, and no bits stand behind them but those that fill up the
+/// last octet.
 fn is_read(
     alloc: Global,
     (variant, count): (Variant, usize),

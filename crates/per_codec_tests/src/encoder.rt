@@ -89,7 +89,8 @@ fn bag_stands_in(
     puts_bag(&mut encoder, members, octets)
 }
 
-/// The members of a bag stand in their order, also behind other bits, and are filled where they stand. Three are too many here.
+/// The members of a bag stand in their order, also behind other bits, and are filled where they stand. Three are too
+/// many here.
 #[test]
 fn bags_behind_a_bit(rt: HostRuntime) -> Result<(), Fail> {
     let alloc = rt.alloc();
@@ -105,7 +106,8 @@ fn bags_behind_a_bit(rt: HostRuntime) -> Result<(), Fail> {
     Ok(())
 }
 
-/// Whether the octet of TRUE is taken from an encoder once, and of what is left then, which is nothing, the octet of no bits.
+/// Whether the octet of TRUE is taken from an encoder once, and of what is left then, which is nothing, the octet of no
+/// bits.
 fn gives_true_once(encoder: &mut Encoder) -> Result<bool, EncodeError> {
     true.encode(encoder)?;
     let first = encoder.output()?;

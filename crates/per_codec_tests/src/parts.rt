@@ -1,4 +1,5 @@
-//! Parts of encodings as they are written behind so many bits: numbers, lengths, places, and what else stands in no message alone (X.691 11).
+//! Parts of encodings as they are written behind so many bits: numbers, lengths, places, and what else stands in no
+//! message alone (X.691 11).
 use crate::spelled::push_spelled;
 use asn1_schema_faults::EncodeError;
 use asn1_schema_variants::Chosen;

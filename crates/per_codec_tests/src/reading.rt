@@ -1,5 +1,5 @@
 //! What readers and a decoder leave, lend and refuse.
-ghost use Rattle.std.specs.Prelude.{◌<◌};
+ghost use Rattle.std.specs.Prelude.{◌<◌, ◌≡◌, IfErr};
 
 use asn1_schema_constraints::{Bounded, Constraints};
 use asn1_schema_decode::Decoder as _;
@@ -39,7 +39,8 @@ fn bits_that_are_left(rt: HostRuntime) -> Result<(), Fail> {
     Ok(())
 }
 
-/// Whether a length stands behind so many bits, right behind them in the unaligned variant, and at the next octet in the aligned one.
+/// Whether a length stands behind so many bits, right behind them in the unaligned variant, and at the next octet in
+/// the aligned one.
 fn is_length_behind(used: u32) -> Result<bool, DecodeError>
     requires { used < 8 }
 {
@@ -59,6 +60,22 @@ fn lengths_behind_bits(rt: HostRuntime) -> Result<(), Fail> {
         assert!(rt; is_length_behind(used)?);
     }
     Ok(())
+}
+
+/// Reads a truth value in front by a decoder of its own, of which no call was refused before.
+fn truth_in_front(alloc: Global, variant: Variant, octets: &[u8]) -> Result<bool, DecodeError>
+    ensures fresh { IfErr result (λ e. e ≡ DecodeError.AlreadyFailed → ⊥) }
+{
+    let mut decoder = Decoder::new(alloc, octets, DecoderOptions { variant });
+    decoder.decode_bool(Tag::BOOL)
+}
+
+#[test]
+fn decoders_that_have_not_failed(rt: HostRuntime) {
+    for variant in [Variant::Unaligned, Variant::Aligned] {
+        assert!(rt; truth_in_front(rt.alloc(), variant, &[0x80]) == Ok(true));
+        assert!(rt; truth_in_front(rt.alloc(), variant, &[]) == Err(DecodeError::Incomplete));
+    }
 }
 
 /// Whether a decoder lacks a bit, and has failed from then on.
@@ -155,11 +172,11 @@ fn lends_behind_a_bit(alloc: Global, input: &[u8], octets: &[u8]) -> Result<bool
 /// Whether a string of octets is lent in the open type of an added alternative, and another one behind it.
 fn lends_in_an_open_type(
     alloc: Global,
+    variant: Variant,
     input: &[u8],
-    inside: &[u8],
-    behind: &[u8],
+    (inside, behind): (&[u8], &[u8]),
 ) -> Result<bool, DecodeError> {
-    let mut decoder = Decoder::new(alloc, input, DecoderOptions::aligned());
+    let mut decoder = Decoder::new(alloc, input, DecoderOptions { variant });
     let tags = [Tag::new_context(0), Tag::new_context(1)];
     decoder.begin_choice(Tag::EOC, &tags[..1], true, &tags[1..])?;
     let first = lends(alloc, &mut decoder, inside)?;
@@ -173,8 +190,16 @@ fn an_aligned_message_lends_its_octets(rt: HostRuntime) -> Result<(), Fail> {
     let alloc = rt.alloc();
     let lent = lends_behind_a_bit(alloc, &[0x80, 0x03, 0x01, 0x02, 0x03], &[1, 2, 3]);
     assert!(rt; lent == Ok(true));
-    let input = [0x80, 0x04, 0x03, 0x01, 0x02, 0x03, 0x02, 0x04, 0x05];
-    let lent = lends_in_an_open_type(alloc, &input, &[1, 2, 3], &[4, 5]);
-    assert!(rt; lent == Ok(true));
     Ok(())
+}
+
+/// The mark and the place of an added alternative take eight bits (X.691 11.6 and 23.8), so that its open type (11.2)
+/// begins at an octet in each variant.
+#[test]
+fn octets_in_open_types_are_lent(rt: HostRuntime) {
+    let input = [0x80, 0x04, 0x03, 0x01, 0x02, 0x03, 0x02, 0x04, 0x05];
+    for variant in [Variant::Unaligned, Variant::Aligned] {
+        let strings: (&[u8], &[u8]) = (&[1, 2, 3], &[4, 5]);
+        assert!(rt; lends_in_an_open_type(rt.alloc(), variant, &input, strings) == Ok(true));
+    }
 }

@@ -26,8 +26,8 @@ fn push_octets(bits: &mut BitBuffer, word: &str) -> Result<(), Fail> {
     Ok(())
 }
 
-/// Adds what a text spells: octets in hexadecimal digits, many of one as `61*16384`, bits as `b0110`, and by `|` what fills up an octet in the
-/// aligned variant.
+/// Adds what a text spells: octets in hexadecimal digits, many of one as `61*16384`, bits as `b0110`, and by `|` what
+/// fills up an octet in the aligned variant.
 pub fn push_spelled(bits: &mut BitBuffer, text: &str, variant: Variant) -> Result<(), Fail> {
     for word in text.split_whitespace() {
         if word == "|" {

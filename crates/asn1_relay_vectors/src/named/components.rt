@@ -5,11 +5,13 @@ use crate::line::{Line, LineError};
 use crate::named::program::judge_program;
 use asn1_relay_types::NewRequired;
 use asn1_relay_vectors_types::{
-    ListOfOneOrTwo, Noted, Nothing, Offset, Outer, Person, Schedule, Twelve,
+    ListOfOneOrTwo, Marked, Noted, Nothing, Offset, Outer, Person, Schedule, Twelve,
 };
+use asn1_schema_constructed::Sequence;
 use asn1_schema_example::control::Control;
 use asn1_schema_example::gauge::Gauge;
 use asn1_schema_example::grown::Grown;
+use asn1_schema_example::station::Station;
 use asn1_schema_example_choices::tree::Tree;
 use asn1_values_integers::ConstrainedInteger;
 use std::alloc::Global;
@@ -23,8 +25,10 @@ pub fn judge_components(alloc: Global, line: &Line<'_>) -> Result<(), LineError>
             &Of::<ConstrainedInteger<256, 1234567>>(PhantomData),
             line,
         ),
+        "marked" => judge(alloc, &Of::<Marked>(PhantomData), line),
         "one-or-two-bools" => judge(alloc, &Of::<ListOfOneOrTwo<bool>>(PhantomData), line),
         "person" => judge(alloc, &Of::<Person>(PhantomData), line),
+        "station" => judge(alloc, &Of::<Sequence<Station>>(PhantomData), line),
         "nothing" => judge(alloc, &Of::<Nothing>(PhantomData), line),
         "offset" => judge(alloc, &Of::<Offset>(PhantomData), line),
         "outer" => judge(alloc, &Of::<Outer>(PhantomData), line),
