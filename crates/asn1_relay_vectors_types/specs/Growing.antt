@@ -9,7 +9,8 @@ use Rattle.asn1_schema_versions.specs.Versions.{ExtendsFrom}
 use Rattle.asn1_schema_versions.proofs.Fields.{FieldsExtend, KeepsPresenceFrom}
 
 -- A bag whose members have grown.
-pub bag_extends : {k : ℕ} (z : Size) (c : Counts) {s s' : ℕ → Schema} → ExtendsFrom k s s' → ExtendsFrom (suc k) (bag_type z c s) (bag_type z c s')
+pub bag_extends : {k : ℕ} (z : Size) (c : Counts) {s s' : ℕ → Schema} → ExtendsFrom k s s'
+    → ExtendsFrom (suc k) (bag_type z c s) (bag_type z c s')
 unfolding bag_type scope Extends
 bag_extends {k} z c {s} {s'} a = record { unfolded = at }
   where
@@ -18,7 +19,8 @@ bag_extends {k} z c {s} {s'} a = record { unfolded = at }
     at (suc n) h = let l : k ≤ n = omega arith in (refl, refl, a.unfolded n l)
 
 -- A group whose components have grown.
-pub group_extends : {k : ℕ} (t t' : Table) → FieldsExtend k false t.root t'.root → ExtendsFrom (suc k) (group_type t) (group_type t')
+pub group_extends : {k : ℕ} (t t' : Table) → FieldsExtend k false t.root t'.root
+    → ExtendsFrom (suc k) (group_type t) (group_type t')
 unfolding group_type scope Extends
 group_extends {k} t t' a = record { unfolded = at }
   where

@@ -52,19 +52,46 @@ impl Described for Spaced {
 
     ghost own = { no_constraint };
 
-    ghost under = { λ _. choice_type (record { root = variant (context 0) ⟦<bool as Described>⟧.schema (variant (context 444) ⟦<bool as Described>⟧.schema no_variant); extensible = false; additions = no_variant }) };
+    ghost under = { λ _. choice_type
+        (record {
+          root = variant (context 0) ⟦<bool as Described>⟧.schema
+              (variant (context 444) ⟦<bool as Described>⟧.schema no_variant);
+          extensible = false;
+          additions =
+              no_variant;
+        }) };
 
-    ghost schema = { choice_type (record { root = variant (context 0) ⟦<bool as Described>⟧.schema (variant (context 444) ⟦<bool as Described>⟧.schema no_variant); extensible = false; additions = no_variant }) };
+    ghost schema = { choice_type (record {
+      root = variant (context 0) ⟦<bool as Described>⟧.schema
+          (variant (context 444) ⟦<bool as Described>⟧.schema no_variant);
+      extensible = false;
+      additions =
+          no_variant;
+    }) };
 
     ghost is_own = { λ _. refl };
 
-    ghost meaning = { elim [ Near x ↦ chosen_value (record { added = false; place = 0 }) (⟦<bool as Described>⟧.meaning x) | Far x ↦ chosen_value (record { added = false; place = 1 }) (⟦<bool as Described>⟧.meaning x) ] };
+    ghost meaning = { elim [
+      | Near x ↦ chosen_value (record { added = false; place = 0 })
+          (⟦<bool as Described>⟧.meaning x)
+      | Far x ↦ chosen_value (record { added = false; place = 1 })
+          (⟦<bool as Described>⟧.meaning x)
+    ] };
 
-    ghost typed = { type_choice _ refl (more_variants _ refl ⟦<bool as Described>⟧.typed (more_variants _ refl ⟦<bool as Described>⟧.typed no_variants)) no_variants refl };
+    ghost typed = { type_choice _ refl (more_variants _ refl ⟦<bool as Described>⟧.typed
+        (more_variants _ refl ⟦<bool as Described>⟧.typed no_variants)) no_variants refl };
 
-    ghost valued = { elim [ Near x ↦ value_choice _ false 0 (⟦<bool as Described>⟧.valued x) | Far x ↦ value_choice _ false 1 (⟦<bool as Described>⟧.valued x) ] };
+    ghost valued = { elim [
+      | Near x ↦ value_choice _ false 0 (⟦<bool as Described>⟧.valued x)
+      | Far x ↦ value_choice _
+          false 1 (⟦<bool as Described>⟧.valued x)
+    ] };
 
-    ghost valued_under = { λ _. elim [ Near x ↦ value_choice _ false 0 (⟦<bool as Described>⟧.valued x) | Far x ↦ value_choice _ false 1 (⟦<bool as Described>⟧.valued x) ] };
+    ghost valued_under = { λ _. elim [
+      | Near x ↦ value_choice _ false 0 (⟦<bool as Described>⟧.valued x)
+      | Far x ↦
+          value_choice _ false 1 (⟦<bool as Described>⟧.valued x)
+    ] };
 }
 
 impl AsnType for Spaced {
@@ -86,7 +113,12 @@ impl AsnType for Spaced {
 }
 
 impl Alternatives for Spaced {
-    ghost table = { record { root = variant (context 0) ⟦<bool as Described>⟧.schema (variant (context 444) ⟦<bool as Described>⟧.schema no_variant); extensible = false; additions = no_variant } };
+    ghost table = { record {
+      root = variant (context 0) ⟦<bool as Described>⟧.schema
+          (variant (context 444) ⟦<bool as Described>⟧.schema no_variant);
+      extensible = false;
+      additions = no_variant;
+    } };
 
     fn variants() -> &'static [Tag] {
         &[context!(0), context!(444)]
@@ -104,7 +136,10 @@ impl Alternatives for Spaced {
 impl Choice for Spaced {
     ghost use Rattle.asn1_relay_vectors_types.specs.declared.choices.Spaced.TheVariants.{Near, Far};
 
-    ghost place = { elim [ Near x ↦ record { added = false; place = 0 } | Far x ↦ record { added = false; place = 1 } ] };
+    ghost place = { elim [
+      | Near x ↦ record { added = false; place = 0 }
+      | Far x ↦ record { added = false; place = 1 }
+    ] };
 
     ghost inner = { elim [ Near x ↦ ⟦<bool as Described>⟧.meaning x | Far x ↦ ⟦<bool as Described>⟧.meaning x ] };
 
@@ -176,19 +211,55 @@ impl Described for Distant {
 
     ghost own = { no_constraint };
 
-    ghost under = { λ _. choice_type (record { root = variant (context 0) ⟦<Integer as Described>⟧.schema (variant (context 1) ⟦<Integer as Described>⟧.schema (variant (context 4294967295) ⟦<Integer as Described>⟧.schema no_variant)); extensible = false; additions = no_variant }) };
+    ghost under = { λ _. choice_type
+        (record {
+          root = variant (context 0) ⟦<Integer as Described>⟧.schema
+              (variant (context 1) ⟦<Integer as Described>⟧.schema
+              (variant (context 4294967295) ⟦<Integer as Described>⟧.schema no_variant));
+          extensible = false;
+          additions =
+              no_variant;
+        }) };
 
-    ghost schema = { choice_type (record { root = variant (context 0) ⟦<Integer as Described>⟧.schema (variant (context 1) ⟦<Integer as Described>⟧.schema (variant (context 4294967295) ⟦<Integer as Described>⟧.schema no_variant)); extensible = false; additions = no_variant }) };
+    ghost schema = { choice_type (record {
+      root = variant (context 0) ⟦<Integer as Described>⟧.schema
+          (variant (context 1) ⟦<Integer as Described>⟧.schema
+          (variant (context 4294967295) ⟦<Integer as Described>⟧.schema no_variant));
+      extensible = false;
+      additions =
+          no_variant;
+    }) };
 
     ghost is_own = { λ _. refl };
 
-    ghost meaning = { elim [ First x ↦ chosen_value (record { added = false; place = 0 }) (⟦<Integer as Described>⟧.meaning x) | Second x ↦ chosen_value (record { added = false; place = 1 }) (⟦<Integer as Described>⟧.meaning x) | Last x ↦ chosen_value (record { added = false; place = 2 }) (⟦<Integer as Described>⟧.meaning x) ] };
+    ghost meaning = { elim [
+      | First x ↦ chosen_value (record { added = false; place = 0 })
+          (⟦<Integer as Described>⟧.meaning x)
+      | Second x ↦ chosen_value (record { added = false; place = 1 })
+          (⟦<Integer as Described>⟧.meaning x)
+      | Last x ↦ chosen_value (record { added = false; place = 2 })
+          (⟦<Integer as Described>⟧.meaning x)
+    ] };
 
-    ghost typed = { type_choice _ refl (more_variants _ refl ⟦<Integer as Described>⟧.typed (more_variants _ refl ⟦<Integer as Described>⟧.typed (more_variants _ refl ⟦<Integer as Described>⟧.typed no_variants))) no_variants refl };
+    ghost typed = { type_choice _ refl (more_variants _ refl ⟦<Integer as Described>⟧.typed
+        (more_variants _ refl ⟦<Integer as Described>⟧.typed
+        (more_variants _ refl ⟦<Integer as Described>⟧.typed no_variants))) no_variants refl };
 
-    ghost valued = { elim [ First x ↦ value_choice _ false 0 (⟦<Integer as Described>⟧.valued x) | Second x ↦ value_choice _ false 1 (⟦<Integer as Described>⟧.valued x) | Last x ↦ value_choice _ false 2 (⟦<Integer as Described>⟧.valued x) ] };
+    ghost valued = { elim [
+      | First x ↦ value_choice _ false 0 (⟦<Integer as Described>⟧.valued x)
+      | Second x ↦
+          value_choice _ false 1 (⟦<Integer as Described>⟧.valued x)
+      | Last x ↦ value_choice _ false 2
+          (⟦<Integer as Described>⟧.valued x)
+    ] };
 
-    ghost valued_under = { λ _. elim [ First x ↦ value_choice _ false 0 (⟦<Integer as Described>⟧.valued x) | Second x ↦ value_choice _ false 1 (⟦<Integer as Described>⟧.valued x) | Last x ↦ value_choice _ false 2 (⟦<Integer as Described>⟧.valued x) ] };
+    ghost valued_under = { λ _. elim [
+      | First x ↦ value_choice _ false 0 (⟦<Integer as Described>⟧.valued x)
+      | Second x
+          ↦ value_choice _ false 1 (⟦<Integer as Described>⟧.valued x)
+      | Last x ↦ value_choice _ false 2
+          (⟦<Integer as Described>⟧.valued x)
+    ] };
 }
 
 impl AsnType for Distant {
@@ -211,7 +282,14 @@ impl AsnType for Distant {
 }
 
 impl Alternatives for Distant {
-    ghost table = { record { root = variant (context 0) ⟦<Integer as Described>⟧.schema (variant (context 1) ⟦<Integer as Described>⟧.schema (variant (context 4294967295) ⟦<Integer as Described>⟧.schema no_variant)); extensible = false; additions = no_variant } };
+    ghost table = { record {
+      root = variant (context 0) ⟦<Integer as Described>⟧.schema
+          (variant (context 1) ⟦<Integer as Described>⟧.schema
+          (variant (context 4294967295) ⟦<Integer as Described>⟧.schema no_variant));
+      extensible = false;
+      additions =
+          no_variant;
+    } };
 
     fn variants() -> &'static [Tag] {
         &[context!(0), context!(1), context!(4294967295)]
@@ -229,9 +307,19 @@ impl Alternatives for Distant {
 impl Choice for Distant {
     ghost use Rattle.asn1_relay_vectors_types.specs.declared.choices.Distant.TheVariants.{First, Second, Last};
 
-    ghost place = { elim [ First x ↦ record { added = false; place = 0 } | Second x ↦ record { added = false; place = 1 } | Last x ↦ record { added = false; place = 2 } ] };
+    ghost place = { elim [
+      | First x ↦ record { added = false; place = 0 }
+      | Second x ↦
+          record { added = false; place = 1 }
+      | Last x ↦ record { added = false; place = 2 }
+    ] };
 
-    ghost inner = { elim [ First x ↦ ⟦<Integer as Described>⟧.meaning x | Second x ↦ ⟦<Integer as Described>⟧.meaning x | Last x ↦ ⟦<Integer as Described>⟧.meaning x ] };
+    ghost inner = { elim [
+      | First x ↦ ⟦<Integer as Described>⟧.meaning x
+      | Second x ↦ ⟦<Integer as Described>⟧.meaning
+          x
+      | Last x ↦ ⟦<Integer as Described>⟧.meaning x
+    ] };
 
     fn chosen(&self) -> Chosen {
         match self {
@@ -315,19 +403,46 @@ impl Described for OldVersioned {
 
     ghost own = { no_constraint };
 
-    ghost under = { λ _. choice_type (record { root = variant (context 0) ⟦<Integer as Described>⟧.schema (variant (context 1) ⟦<Integer as Described>⟧.schema no_variant); extensible = true; additions = no_variant }) };
+    ghost under = { λ _. choice_type
+        (record {
+          root = variant (context 0) ⟦<Integer as Described>⟧.schema
+              (variant (context 1) ⟦<Integer as Described>⟧.schema no_variant);
+          extensible = true;
+          additions =
+              no_variant;
+        }) };
 
-    ghost schema = { choice_type (record { root = variant (context 0) ⟦<Integer as Described>⟧.schema (variant (context 1) ⟦<Integer as Described>⟧.schema no_variant); extensible = true; additions = no_variant }) };
+    ghost schema = { choice_type (record {
+      root = variant (context 0) ⟦<Integer as Described>⟧.schema
+          (variant (context 1) ⟦<Integer as Described>⟧.schema no_variant);
+      extensible = true;
+      additions =
+          no_variant;
+    }) };
 
     ghost is_own = { λ _. refl };
 
-    ghost meaning = { elim [ A x ↦ chosen_value (record { added = false; place = 0 }) (⟦<Integer as Described>⟧.meaning x) | B x ↦ chosen_value (record { added = false; place = 1 }) (⟦<Integer as Described>⟧.meaning x) ] };
+    ghost meaning = { elim [
+      | A x ↦ chosen_value (record { added = false; place = 0 })
+          (⟦<Integer as Described>⟧.meaning x)
+      | B x ↦ chosen_value (record { added = false; place = 1 })
+          (⟦<Integer as Described>⟧.meaning x)
+    ] };
 
-    ghost typed = { type_choice _ refl (more_variants _ refl ⟦<Integer as Described>⟧.typed (more_variants _ refl ⟦<Integer as Described>⟧.typed no_variants)) no_variants refl };
+    ghost typed = { type_choice _ refl (more_variants _ refl ⟦<Integer as Described>⟧.typed
+        (more_variants _ refl ⟦<Integer as Described>⟧.typed no_variants)) no_variants refl };
 
-    ghost valued = { elim [ A x ↦ value_choice _ false 0 (⟦<Integer as Described>⟧.valued x) | B x ↦ value_choice _ false 1 (⟦<Integer as Described>⟧.valued x) ] };
+    ghost valued = { elim [
+      | A x ↦ value_choice _ false 0 (⟦<Integer as Described>⟧.valued x)
+      | B x ↦ value_choice _
+          false 1 (⟦<Integer as Described>⟧.valued x)
+    ] };
 
-    ghost valued_under = { λ _. elim [ A x ↦ value_choice _ false 0 (⟦<Integer as Described>⟧.valued x) | B x ↦ value_choice _ false 1 (⟦<Integer as Described>⟧.valued x) ] };
+    ghost valued_under = { λ _. elim [
+      | A x ↦ value_choice _ false 0 (⟦<Integer as Described>⟧.valued x)
+      | B x ↦
+          value_choice _ false 1 (⟦<Integer as Described>⟧.valued x)
+    ] };
 }
 
 impl AsnType for OldVersioned {
@@ -349,7 +464,12 @@ impl AsnType for OldVersioned {
 }
 
 impl Alternatives for OldVersioned {
-    ghost table = { record { root = variant (context 0) ⟦<Integer as Described>⟧.schema (variant (context 1) ⟦<Integer as Described>⟧.schema no_variant); extensible = true; additions = no_variant } };
+    ghost table = { record {
+      root = variant (context 0) ⟦<Integer as Described>⟧.schema
+          (variant (context 1) ⟦<Integer as Described>⟧.schema no_variant);
+      extensible = true;
+      additions = no_variant;
+    } };
 
     fn variants() -> &'static [Tag] {
         &[context!(0), context!(1)]
@@ -447,19 +567,52 @@ impl Described for Versioned {
 
     ghost own = { no_constraint };
 
-    ghost under = { λ _. choice_type (record { root = variant (context 0) ⟦<Integer as Described>⟧.schema (variant (context 1) ⟦<Integer as Described>⟧.schema no_variant); extensible = true; additions = variant (context 2) ⟦<Integer as Described>⟧.schema no_variant }) };
+    ghost under = { λ _. choice_type
+        (record {
+          root = variant (context 0) ⟦<Integer as Described>⟧.schema
+              (variant (context 1) ⟦<Integer as Described>⟧.schema no_variant);
+          extensible = true;
+          additions = variant
+              (context 2) ⟦<Integer as Described>⟧.schema no_variant;
+        }) };
 
-    ghost schema = { choice_type (record { root = variant (context 0) ⟦<Integer as Described>⟧.schema (variant (context 1) ⟦<Integer as Described>⟧.schema no_variant); extensible = true; additions = variant (context 2) ⟦<Integer as Described>⟧.schema no_variant }) };
+    ghost schema = { choice_type (record {
+      root = variant (context 0) ⟦<Integer as Described>⟧.schema
+          (variant (context 1) ⟦<Integer as Described>⟧.schema no_variant);
+      extensible = true;
+      additions = variant
+          (context 2) ⟦<Integer as Described>⟧.schema no_variant;
+    }) };
 
     ghost is_own = { λ _. refl };
 
-    ghost meaning = { elim [ A x ↦ chosen_value (record { added = false; place = 0 }) (⟦<Integer as Described>⟧.meaning x) | B x ↦ chosen_value (record { added = false; place = 1 }) (⟦<Integer as Described>⟧.meaning x) | C x ↦ chosen_value (record { added = true; place = 0 }) (⟦<Integer as Described>⟧.meaning x) ] };
+    ghost meaning = { elim [
+      | A x ↦ chosen_value (record { added = false; place = 0 })
+          (⟦<Integer as Described>⟧.meaning x)
+      | B x ↦ chosen_value (record { added = false; place = 1 })
+          (⟦<Integer as Described>⟧.meaning x)
+      | C x ↦ chosen_value (record { added = true; place = 0 })
+          (⟦<Integer as Described>⟧.meaning x)
+    ] };
 
-    ghost typed = { type_choice _ refl (more_variants _ refl ⟦<Integer as Described>⟧.typed (more_variants _ refl ⟦<Integer as Described>⟧.typed no_variants)) (more_variants _ refl ⟦<Integer as Described>⟧.typed no_variants) refl };
+    ghost typed = { type_choice _ refl (more_variants _ refl ⟦<Integer as Described>⟧.typed
+        (more_variants _ refl ⟦<Integer as Described>⟧.typed no_variants))
+        (more_variants _ refl ⟦<Integer as Described>⟧.typed no_variants) refl };
 
-    ghost valued = { elim [ A x ↦ value_choice _ false 0 (⟦<Integer as Described>⟧.valued x) | B x ↦ value_choice _ false 1 (⟦<Integer as Described>⟧.valued x) | C x ↦ value_choice _ true 0 (⟦<Integer as Described>⟧.valued x) ] };
+    ghost valued = { elim [
+      | A x ↦ value_choice _ false 0 (⟦<Integer as Described>⟧.valued x)
+      | B x ↦ value_choice _
+          false 1 (⟦<Integer as Described>⟧.valued x)
+      | C x ↦ value_choice _ true 0 (⟦<Integer as Described>⟧.valued x)
+    ] };
 
-    ghost valued_under = { λ _. elim [ A x ↦ value_choice _ false 0 (⟦<Integer as Described>⟧.valued x) | B x ↦ value_choice _ false 1 (⟦<Integer as Described>⟧.valued x) | C x ↦ value_choice _ true 0 (⟦<Integer as Described>⟧.valued x) ] };
+    ghost valued_under = { λ _. elim [
+      | A x ↦ value_choice _ false 0 (⟦<Integer as Described>⟧.valued x)
+      | B x ↦
+          value_choice _ false 1 (⟦<Integer as Described>⟧.valued x)
+      | C x ↦ value_choice _ true 0
+          (⟦<Integer as Described>⟧.valued x)
+    ] };
 }
 
 impl AsnType for Versioned {
@@ -482,7 +635,13 @@ impl AsnType for Versioned {
 }
 
 impl Alternatives for Versioned {
-    ghost table = { record { root = variant (context 0) ⟦<Integer as Described>⟧.schema (variant (context 1) ⟦<Integer as Described>⟧.schema no_variant); extensible = true; additions = variant (context 2) ⟦<Integer as Described>⟧.schema no_variant } };
+    ghost table = { record {
+      root = variant (context 0) ⟦<Integer as Described>⟧.schema
+          (variant (context 1) ⟦<Integer as Described>⟧.schema no_variant);
+      extensible = true;
+      additions = variant
+          (context 2) ⟦<Integer as Described>⟧.schema no_variant;
+    } };
 
     fn variants() -> &'static [Tag] {
         &[context!(0), context!(1)]
@@ -500,9 +659,19 @@ impl Alternatives for Versioned {
 impl Choice for Versioned {
     ghost use Rattle.asn1_relay_vectors_types.specs.declared.choices.Versioned.TheVariants.{A, B, C};
 
-    ghost place = { elim [ A x ↦ record { added = false; place = 0 } | B x ↦ record { added = false; place = 1 } | C x ↦ record { added = true; place = 0 } ] };
+    ghost place = { elim [
+      | A x ↦ record { added = false; place = 0 }
+      | B x ↦ record { added = false; place = 1 }
+      | C x
+          ↦ record { added = true; place = 0 }
+    ] };
 
-    ghost inner = { elim [ A x ↦ ⟦<Integer as Described>⟧.meaning x | B x ↦ ⟦<Integer as Described>⟧.meaning x | C x ↦ ⟦<Integer as Described>⟧.meaning x ] };
+    ghost inner = { elim [
+      | A x ↦ ⟦<Integer as Described>⟧.meaning x
+      | B x ↦ ⟦<Integer as Described>⟧.meaning x
+      | C x ↦
+          ⟦<Integer as Described>⟧.meaning x
+    ] };
 
     fn chosen(&self) -> Chosen {
         match self {
@@ -563,13 +732,19 @@ impl Decode for Versioned {
 /// What the other version has, and `c` behind its mark.
 impl Extends<OldVersioned> for Versioned {
     ghost use Rattle.asn1_schema_versions.proofs.Fields.{gains_alternatives};
-    ghost use Rattle.asn1_schema_versions.proofs.Unfolding.{choice_unfolds, constant_unfolds, no_variants_unfold, variant_unfolds};
+    ghost use Rattle.asn1_schema_versions.proofs.Unfolding.{choice_unfolds, constant_unfolds, no_variants_unfold};
+    ghost use Rattle.asn1_schema_versions.proofs.Unfolding.{variant_unfolds};
 
-    ghost extends = { gains_alternatives ⟦<OldVersioned as Alternatives>⟧.table (variant (context 2) ⟦<Integer as Described>⟧.schema no_variant) ⟦<OldVersioned as Described>⟧.typed.lawful refl };
+    ghost extends = { gains_alternatives ⟦<OldVersioned as Alternatives>⟧.table
+        (variant (context 2) ⟦<Integer as Described>⟧.schema no_variant) ⟦<OldVersioned as Described>⟧.typed.lawful
+        refl };
 
-    ghost old_unfolds = { choice_unfolds ⟦<OldVersioned as Alternatives>⟧.table (variant_unfolds constant_unfolds (variant_unfolds constant_unfolds no_variants_unfold)) no_variants_unfold };
+    ghost old_unfolds = { choice_unfolds ⟦<OldVersioned as Alternatives>⟧.table
+        (variant_unfolds constant_unfolds (variant_unfolds constant_unfolds no_variants_unfold)) no_variants_unfold };
 
-    ghost unfolds = { choice_unfolds ⟦<Versioned as Alternatives>⟧.table (variant_unfolds constant_unfolds (variant_unfolds constant_unfolds no_variants_unfold)) (variant_unfolds constant_unfolds no_variants_unfold) };
+    ghost unfolds = { choice_unfolds ⟦<Versioned as Alternatives>⟧.table
+        (variant_unfolds constant_unfolds (variant_unfolds constant_unfolds no_variants_unfold))
+        (variant_unfolds constant_unfolds no_variants_unfold) };
 }
 
 /// CHOICE {a [0] BOOLEAN, c [2] CHOICE {a [0] INTEGER, b [1] INTEGER, ..., c [2] INTEGER}, ..., b [1] BOOLEAN}.
@@ -587,19 +762,52 @@ impl Described for Around {
 
     ghost own = { no_constraint };
 
-    ghost under = { λ _. choice_type (record { root = variant (context 0) ⟦<bool as Described>⟧.schema (variant (context 2) ⟦<Versioned as Described>⟧.schema no_variant); extensible = true; additions = variant (context 1) ⟦<bool as Described>⟧.schema no_variant }) };
+    ghost under = { λ _. choice_type
+        (record {
+          root = variant (context 0) ⟦<bool as Described>⟧.schema
+              (variant (context 2) ⟦<Versioned as Described>⟧.schema no_variant);
+          extensible = true;
+          additions = variant
+              (context 1) ⟦<bool as Described>⟧.schema no_variant;
+        }) };
 
-    ghost schema = { choice_type (record { root = variant (context 0) ⟦<bool as Described>⟧.schema (variant (context 2) ⟦<Versioned as Described>⟧.schema no_variant); extensible = true; additions = variant (context 1) ⟦<bool as Described>⟧.schema no_variant }) };
+    ghost schema = { choice_type (record {
+      root = variant (context 0) ⟦<bool as Described>⟧.schema
+          (variant (context 2) ⟦<Versioned as Described>⟧.schema no_variant);
+      extensible = true;
+      additions = variant
+          (context 1) ⟦<bool as Described>⟧.schema no_variant;
+    }) };
 
     ghost is_own = { λ _. refl };
 
-    ghost meaning = { elim [ A x ↦ chosen_value (record { added = false; place = 0 }) (⟦<bool as Described>⟧.meaning x) | C x ↦ chosen_value (record { added = false; place = 1 }) (⟦<Versioned as Described>⟧.meaning x) | B x ↦ chosen_value (record { added = true; place = 0 }) (⟦<bool as Described>⟧.meaning x) ] };
+    ghost meaning = { elim [
+      | A x ↦ chosen_value (record { added = false; place = 0 })
+          (⟦<bool as Described>⟧.meaning x)
+      | C x ↦ chosen_value (record { added = false; place = 1 })
+          (⟦<Versioned as Described>⟧.meaning x)
+      | B x ↦ chosen_value (record { added = true; place = 0 })
+          (⟦<bool as Described>⟧.meaning x)
+    ] };
 
-    ghost typed = { type_choice _ refl (more_variants _ refl ⟦<bool as Described>⟧.typed (more_variants _ refl ⟦<Versioned as Described>⟧.typed no_variants)) (more_variants _ refl ⟦<bool as Described>⟧.typed no_variants) refl };
+    ghost typed = { type_choice _ refl (more_variants _ refl ⟦<bool as Described>⟧.typed
+        (more_variants _ refl ⟦<Versioned as Described>⟧.typed no_variants))
+        (more_variants _ refl ⟦<bool as Described>⟧.typed no_variants) refl };
 
-    ghost valued = { elim [ A x ↦ value_choice _ false 0 (⟦<bool as Described>⟧.valued x) | C x ↦ value_choice _ false 1 (⟦<Versioned as Described>⟧.valued x) | B x ↦ value_choice _ true 0 (⟦<bool as Described>⟧.valued x) ] };
+    ghost valued = { elim [
+      | A x ↦ value_choice _ false 0 (⟦<bool as Described>⟧.valued x)
+      | C x ↦ value_choice _ false
+          1 (⟦<Versioned as Described>⟧.valued x)
+      | B x ↦ value_choice _ true 0 (⟦<bool as Described>⟧.valued x)
+    ] };
 
-    ghost valued_under = { λ _. elim [ A x ↦ value_choice _ false 0 (⟦<bool as Described>⟧.valued x) | C x ↦ value_choice _ false 1 (⟦<Versioned as Described>⟧.valued x) | B x ↦ value_choice _ true 0 (⟦<bool as Described>⟧.valued x) ] };
+    ghost valued_under = { λ _. elim [
+      | A x ↦ value_choice _ false 0 (⟦<bool as Described>⟧.valued x)
+      | C x ↦
+          value_choice _ false 1 (⟦<Versioned as Described>⟧.valued x)
+      | B x ↦ value_choice _ true 0
+          (⟦<bool as Described>⟧.valued x)
+    ] };
 }
 
 impl AsnType for Around {
@@ -622,7 +830,13 @@ impl AsnType for Around {
 }
 
 impl Alternatives for Around {
-    ghost table = { record { root = variant (context 0) ⟦<bool as Described>⟧.schema (variant (context 2) ⟦<Versioned as Described>⟧.schema no_variant); extensible = true; additions = variant (context 1) ⟦<bool as Described>⟧.schema no_variant } };
+    ghost table = { record {
+      root = variant (context 0) ⟦<bool as Described>⟧.schema
+          (variant (context 2) ⟦<Versioned as Described>⟧.schema no_variant);
+      extensible = true;
+      additions = variant
+          (context 1) ⟦<bool as Described>⟧.schema no_variant;
+    } };
 
     fn variants() -> &'static [Tag] {
         &[context!(0), context!(2)]
@@ -640,9 +854,19 @@ impl Alternatives for Around {
 impl Choice for Around {
     ghost use Rattle.asn1_relay_vectors_types.specs.declared.choices.Around.TheVariants.{A, C, B};
 
-    ghost place = { elim [ A x ↦ record { added = false; place = 0 } | C x ↦ record { added = false; place = 1 } | B x ↦ record { added = true; place = 0 } ] };
+    ghost place = { elim [
+      | A x ↦ record { added = false; place = 0 }
+      | C x ↦ record { added = false; place = 1 }
+      | B x
+          ↦ record { added = true; place = 0 }
+    ] };
 
-    ghost inner = { elim [ A x ↦ ⟦<bool as Described>⟧.meaning x | C x ↦ ⟦<Versioned as Described>⟧.meaning x | B x ↦ ⟦<bool as Described>⟧.meaning x ] };
+    ghost inner = { elim [
+      | A x ↦ ⟦<bool as Described>⟧.meaning x
+      | C x ↦ ⟦<Versioned as Described>⟧.meaning x
+      | B x ↦
+          ⟦<bool as Described>⟧.meaning x
+    ] };
 
     fn chosen(&self) -> Chosen {
         match self {

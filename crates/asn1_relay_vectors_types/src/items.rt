@@ -30,25 +30,58 @@ pub enum Scale {
 }
 
 impl Described for Scale {
-    ghost use Rattle.asn1_relay_vectors_types.specs.declared.items.Scale.TheVariants.{Lowest, Below, Least, Zero, Most, Above, Highest};
+    ghost use Rattle.asn1_relay_vectors_types.specs.declared.items.Scale.TheVariants.{Lowest, Below, Least, Zero};
+    ghost use Rattle.asn1_relay_vectors_types.specs.declared.items.Scale.TheVariants.{Most, Above, Highest};
 
     ghost tags = { record { class = 0; number = 10 } ∷ [] };
 
     ghost own = { no_constraint };
 
-    ghost under = { λ _ _. enumerated (negsuc 2147483647 ∷ negsuc 128 ∷ negsuc 127 ∷ pos 0 ∷ pos 127 ∷ pos 128 ∷ pos 2147483647 ∷ []) false [] };
+    ghost under = { λ _ _. enumerated (negsuc 2147483647 ∷ negsuc 128 ∷ negsuc 127 ∷ pos 0 ∷ pos 127 ∷ pos 128
+        ∷ pos 2147483647 ∷ []) false [] };
 
-    ghost schema = { λ _. enumerated (negsuc 2147483647 ∷ negsuc 128 ∷ negsuc 127 ∷ pos 0 ∷ pos 127 ∷ pos 128 ∷ pos 2147483647 ∷ []) false [] };
+    ghost schema = { λ _. enumerated (negsuc 2147483647 ∷ negsuc 128 ∷ negsuc 127 ∷ pos 0 ∷ pos 127 ∷ pos 128
+        ∷ pos 2147483647 ∷ []) false [] };
 
     ghost is_own = { λ _. refl };
 
-    ghost meaning = { elim [ Lowest ↦ item (negsuc 2147483647) | Below ↦ item (negsuc 128) | Least ↦ item (negsuc 127) | Zero ↦ item (pos 0) | Most ↦ item (pos 127) | Above ↦ item (pos 128) | Highest ↦ item (pos 2147483647) ] };
+    ghost meaning = { elim [
+      | Lowest ↦ item (negsuc 2147483647)
+      | Below ↦ item (negsuc 128)
+      | Least ↦ item
+          (negsuc 127)
+      | Zero ↦ item (pos 0)
+      | Most ↦ item (pos 127)
+      | Above ↦ item (pos 128)
+      | Highest ↦ item
+          (pos 2147483647)
+    ] };
 
     ghost typed = { type_enumerated _ _ _ refl refl };
 
-    ghost valued = { elim [ Lowest ↦ value_enumerated _ _ _ _ | Below ↦ value_enumerated _ _ _ _ | Least ↦ value_enumerated _ _ _ _ | Zero ↦ value_enumerated _ _ _ _ | Most ↦ value_enumerated _ _ _ _ | Above ↦ value_enumerated _ _ _ _ | Highest ↦ value_enumerated _ _ _ _ ] };
+    ghost valued = { elim [
+      | Lowest ↦ value_enumerated _ _ _ _
+      | Below ↦ value_enumerated _ _ _ _
+      | Least ↦
+          value_enumerated _ _ _ _
+      | Zero ↦ value_enumerated _ _ _ _
+      | Most ↦ value_enumerated _ _ _ _
+      | Above ↦
+          value_enumerated _ _ _ _
+      | Highest ↦ value_enumerated _ _ _ _
+    ] };
 
-    ghost valued_under = { λ _. elim [ Lowest ↦ value_enumerated _ _ _ _ | Below ↦ value_enumerated _ _ _ _ | Least ↦ value_enumerated _ _ _ _ | Zero ↦ value_enumerated _ _ _ _ | Most ↦ value_enumerated _ _ _ _ | Above ↦ value_enumerated _ _ _ _ | Highest ↦ value_enumerated _ _ _ _ ] };
+    ghost valued_under = { λ _. elim [
+      | Lowest ↦ value_enumerated _ _ _ _
+      | Below ↦ value_enumerated _ _ _ _
+      | Least ↦
+          value_enumerated _ _ _ _
+      | Zero ↦ value_enumerated _ _ _ _
+      | Most ↦ value_enumerated _ _ _ _
+      | Above ↦
+          value_enumerated _ _ _ _
+      | Highest ↦ value_enumerated _ _ _ _
+    ] };
 }
 
 impl AsnType for Scale {
@@ -64,7 +97,8 @@ impl AsnType for Scale {
 }
 
 impl Enumerated for Scale {
-    ghost use Rattle.asn1_relay_vectors_types.specs.declared.items.Scale.TheVariants.{Lowest, Below, Least, Zero, Most, Above, Highest};
+    ghost use Rattle.asn1_relay_vectors_types.specs.declared.items.Scale.TheVariants.{Lowest, Below, Least, Zero};
+    ghost use Rattle.asn1_relay_vectors_types.specs.declared.items.Scale.TheVariants.{Most, Above, Highest};
 
     ghost roots = { negsuc 2147483647 ∷ negsuc 128 ∷ negsuc 127 ∷ pos 0 ∷ pos 127 ∷ pos 128 ∷ pos 2147483647 ∷ [] };
 
@@ -72,7 +106,16 @@ impl Enumerated for Scale {
 
     ghost additions = { [] };
 
-    ghost number = { elim [ Lowest ↦ negsuc 2147483647 | Below ↦ negsuc 128 | Least ↦ negsuc 127 | Zero ↦ pos 0 | Most ↦ pos 127 | Above ↦ pos 128 | Highest ↦ pos 2147483647 ] };
+    ghost number = { elim [
+      | Lowest ↦ negsuc 2147483647
+      | Below ↦ negsuc 128
+      | Least ↦ negsuc 127
+      | Zero ↦ pos 0
+      | Most
+          ↦ pos 127
+      | Above ↦ pos 128
+      | Highest ↦ pos 2147483647
+    ] };
 
     fn variants<'a>() -> &'a [Self]
     where
@@ -110,17 +153,44 @@ impl Enumerated for Scale {
 
     ghost distinct = { refl };
 
-    ghost one_number = { one_number_of _ (Lowest ∷ Below ∷ Least ∷ Zero ∷ Most ∷ Above ∷ Highest ∷ []) (elim [ Lowest ↦ (0, refl) | Below ↦ (1, refl) | Least ↦ (2, refl) | Zero ↦ (3, refl) | Most ↦ (4, refl) | Above ↦ (5, refl) | Highest ↦ (6, refl) ]) refl };
+    ghost one_number = { one_number_of _ (Lowest ∷ Below ∷ Least ∷ Zero ∷ Most ∷ Above ∷ Highest ∷ [])
+        (elim [
+          | Lowest ↦ (0, refl)
+          | Below ↦ (1, refl)
+          | Least ↦ (2, refl)
+          | Zero ↦ (3, refl)
+          | Most ↦ (4, refl)
+          | Above ↦ (5, refl)
+          | Highest ↦ (6, refl)
+        ]) refl };
 
-    ghost listed = { elim [ Lowest ↦ (false, 0, refl) | Below ↦ (false, 1, refl) | Least ↦ (false, 2, refl) | Zero ↦ (false, 3, refl) | Most ↦ (false, 4, refl) | Above ↦ (false, 5, refl) | Highest ↦ (false, 6, refl) ] };
+    ghost listed = { elim [
+      | Lowest ↦ (false, 0, refl)
+      | Below ↦ (false, 1, refl)
+      | Least ↦ (false, 2, refl)
+      | Zero ↦
+          (false, 3, refl)
+      | Most ↦ (false, 4, refl)
+      | Above ↦ (false, 5, refl)
+      | Highest ↦ (false, 6, refl)
+    ] };
 }
 
 impl EnumeratedType for Scale {
-    ghost use Rattle.asn1_relay_vectors_types.specs.declared.items.Scale.TheVariants.{Lowest, Below, Least, Zero, Most, Above, Highest};
+    ghost use Rattle.asn1_relay_vectors_types.specs.declared.items.Scale.TheVariants.{Lowest, Below, Least, Zero};
+    ghost use Rattle.asn1_relay_vectors_types.specs.declared.items.Scale.TheVariants.{Most, Above, Highest};
 
     ghost is_of = { λ _. refl };
 
-    ghost means = { elim [ Lowest ↦ refl | Below ↦ refl | Least ↦ refl | Zero ↦ refl | Most ↦ refl | Above ↦ refl | Highest ↦ refl ] };
+    ghost means = { elim [
+      | Lowest ↦ refl
+      | Below ↦ refl
+      | Least ↦ refl
+      | Zero ↦ refl
+      | Most ↦ refl
+      | Above ↦ refl
+      | Highest ↦ refl
+    ] };
 }
 
 impl Encode for Scale {

@@ -98,7 +98,8 @@ impl Listed for OffsetForm {
 
     ghost value = { λ x. fields (⟦<OffsetForm as ComponentsOf>⟧.root x) (⟦<OffsetForm as ComponentsOf>⟧.added x) };
 
-    ghost lawful = { type_sequence _ refl (⟦<OffsetForm as ComponentsOf>⟧.typed (integer_default _ _ _ refl, tt)) refl };
+    ghost lawful = { type_sequence _ refl (⟦<OffsetForm as ComponentsOf>⟧.typed (integer_default _ _ _ refl, tt))
+        refl };
 
     ghost each = { λ x. value_sequence _ (⟦<OffsetForm as ComponentsOf>⟧.valued (integer_default _ _ _ refl, tt) x) };
 
@@ -194,9 +195,11 @@ impl Listed for TwelveForm {
 
     ghost value = { λ x. fields (⟦<TwelveForm as ComponentsOf>⟧.root x) (⟦<TwelveForm as ComponentsOf>⟧.added x) };
 
-    ghost lawful = { type_sequence ⟦<TwelveForm as ComponentsOf>⟧.table refl (⟦<TwelveForm as ComponentsOf>⟧.typed tt) refl };
+    ghost lawful = { type_sequence ⟦<TwelveForm as ComponentsOf>⟧.table refl (⟦<TwelveForm as ComponentsOf>⟧.typed tt)
+        refl };
 
-    ghost each = { λ x. value_sequence ⟦<TwelveForm as ComponentsOf>⟧.table (⟦<TwelveForm as ComponentsOf>⟧.valued tt x) };
+    ghost each = { λ x. value_sequence ⟦<TwelveForm as ComponentsOf>⟧.table
+        (⟦<TwelveForm as ComponentsOf>⟧.valued tt x) };
 
     fn write<E: Encoder>(&self, encoder: &mut E, tag: Tag) -> Result<(), EncodeError> {
         encoder.encode_sequence(tag, 12, &Lent(self))

@@ -7,10 +7,13 @@ ghost use Rattle.asn1_schema_constructed.proofs.SetValues.{type_set, value_set};
 ghost use Rattle.asn1_schema_presented.specs.Tables.{no_field};
 ghost use Rattle.asn1_schema_presented.proofs.Values.{type_sequence, value_sequence};
 ghost use Rattle.asn1_schema_versions.proofs.Defaults.{default_gains};
-ghost use Rattle.asn1_schema_versions.proofs.Fields.{gains_additions, grown_field, no_fields, same_tags, sequence_extends, set_gains_additions};
-ghost use Rattle.asn1_schema_versions.proofs.Unfolding.{constant_unfolds, field_unfolds, no_fields_unfold, sequence_unfolds, set_unfolds};
+ghost use Rattle.asn1_schema_versions.proofs.Fields.{gains_additions, grown_field, no_fields, same_tags};
+ghost use Rattle.asn1_schema_versions.proofs.Fields.{sequence_extends, set_gains_additions};
+ghost use Rattle.asn1_schema_versions.proofs.Unfolding.{constant_unfolds, field_unfolds, no_fields_unfold};
+ghost use Rattle.asn1_schema_versions.proofs.Unfolding.{sequence_unfolds, set_unfolds};
 ghost use Rattle.asn1_relay_types.specs.Defaults.{flag_table, new_true_stands, old_true_stands, one_optional};
-ghost use Rattle.asn1_relay_vectors_types.specs.Growing.{bag_extends, boolean_stays, group_extends, optional_stays, required_stays};
+ghost use Rattle.asn1_relay_vectors_types.specs.Growing.{bag_extends, boolean_stays, group_extends, optional_stays};
+ghost use Rattle.asn1_relay_vectors_types.specs.Growing.{required_stays};
 ghost use Rattle.asn1_relay_vectors_types.specs.Unfolding.{bag_unfolds, group_unfolds, list_unfolds, nest_unfolds};
 
 use crate::counts::{One, Two, Zero};
@@ -74,7 +77,8 @@ impl Extends<Old> for Nested {
 
     ghost old_unfolds = { sequence_unfolds _ (field_unfolds constant_unfolds no_fields_unfold) no_fields_unfold };
 
-    ghost unfolds = { sequence_unfolds _ (field_unfolds constant_unfolds no_fields_unfold) (field_unfolds nest_unfolds no_fields_unfold) };
+    ghost unfolds = { sequence_unfolds _ (field_unfolds constant_unfolds no_fields_unfold)
+        (field_unfolds nest_unfolds no_fields_unfold) };
 }
 
 /// SEQUENCE {a BOOLEAN, ..., b INTEGER (0..255) OPTIONAL, c [1] OCTET STRING OPTIONAL}.
@@ -108,18 +112,22 @@ impl Listed for NewestForm {
 impl Extends<New> for Newest {
     ghost extends = { gains_additions _ ⟦<Third as AdditionsOf>⟧.additions ⟦<New as Described>⟧.typed.lawful refl };
 
-    ghost old_unfolds = { sequence_unfolds _ (field_unfolds constant_unfolds no_fields_unfold) (field_unfolds constant_unfolds no_fields_unfold) };
+    ghost old_unfolds = { sequence_unfolds _ (field_unfolds constant_unfolds no_fields_unfold)
+        (field_unfolds constant_unfolds no_fields_unfold) };
 
-    ghost unfolds = { sequence_unfolds _ (field_unfolds constant_unfolds no_fields_unfold) (field_unfolds constant_unfolds (field_unfolds constant_unfolds no_fields_unfold)) };
+    ghost unfolds = { sequence_unfolds _ (field_unfolds constant_unfolds no_fields_unfold)
+        (field_unfolds constant_unfolds (field_unfolds constant_unfolds no_fields_unfold)) };
 }
 
 /// What the first version has, and `b` and `c`.
 impl Extends<Old> for Newest {
-    ghost extends = { gains_additions _ ⟦<SecondAndThird as AdditionsOf>⟧.additions ⟦<Old as Described>⟧.typed.lawful refl };
+    ghost extends = { gains_additions _ ⟦<SecondAndThird as AdditionsOf>⟧.additions ⟦<Old as Described>⟧.typed.lawful
+        refl };
 
     ghost old_unfolds = { sequence_unfolds _ (field_unfolds constant_unfolds no_fields_unfold) no_fields_unfold };
 
-    ghost unfolds = { sequence_unfolds _ (field_unfolds constant_unfolds no_fields_unfold) (field_unfolds constant_unfolds (field_unfolds constant_unfolds no_fields_unfold)) };
+    ghost unfolds = { sequence_unfolds _ (field_unfolds constant_unfolds no_fields_unfold)
+        (field_unfolds constant_unfolds (field_unfolds constant_unfolds no_fields_unfold)) };
 }
 
 /// SEQUENCE {l SEQUENCE (SIZE (1..2)) OF BOOLEAN, ...}.
@@ -172,11 +180,14 @@ impl Listed for NewListForm {
 
 /// What the other version has, and `b` behind its mark.
 impl Extends<OldList> for NewList {
-    ghost extends = { gains_additions _ ⟦<Numbers as AdditionsOf>⟧.additions ⟦<OldList as Described>⟧.typed.lawful refl };
+    ghost extends = { gains_additions _ ⟦<Numbers as AdditionsOf>⟧.additions ⟦<OldList as Described>⟧.typed.lawful
+        refl };
 
-    ghost old_unfolds = { sequence_unfolds _ (field_unfolds (list_unfolds _ _ constant_unfolds) no_fields_unfold) no_fields_unfold };
+    ghost old_unfolds = { sequence_unfolds _ (field_unfolds (list_unfolds _ _ constant_unfolds) no_fields_unfold)
+        no_fields_unfold };
 
-    ghost unfolds = { sequence_unfolds _ (field_unfolds (list_unfolds _ _ constant_unfolds) no_fields_unfold) (field_unfolds constant_unfolds no_fields_unfold) };
+    ghost unfolds = { sequence_unfolds _ (field_unfolds (list_unfolds _ _ constant_unfolds) no_fields_unfold)
+        (field_unfolds constant_unfolds no_fields_unfold) };
 }
 
 /// SEQUENCE {m SET OF SEQUENCE {a BOOLEAN, ...}}.
@@ -229,11 +240,17 @@ impl Listed for NewBagForm {
 
 /// The same bag, whose members have grown.
 impl Extends<OldBag> for NewBag {
-    ghost extends = { sequence_extends (grown_field (same_tags ⟦<SetOf<Old> as Described>⟧.tags) required_stays (bag_extends _ _ (gains_additions _ ⟦<Second as AdditionsOf>⟧.additions ⟦<Old as Described>⟧.typed.lawful refl)) no_fields) refl no_fields };
+    ghost extends = { sequence_extends (grown_field (same_tags ⟦<SetOf<Old> as Described>⟧.tags) required_stays
+        (bag_extends _ _ (gains_additions _ ⟦<Second as AdditionsOf>⟧.additions ⟦<Old as Described>⟧.typed.lawful
+        refl)) no_fields) refl no_fields };
 
-    ghost old_unfolds = { sequence_unfolds _ (field_unfolds (bag_unfolds _ _ (sequence_unfolds _ (field_unfolds constant_unfolds no_fields_unfold) no_fields_unfold)) no_fields_unfold) no_fields_unfold };
+    ghost old_unfolds = { sequence_unfolds _ (field_unfolds
+        (bag_unfolds _ _ (sequence_unfolds _ (field_unfolds constant_unfolds no_fields_unfold) no_fields_unfold))
+        no_fields_unfold) no_fields_unfold };
 
-    ghost unfolds = { sequence_unfolds _ (field_unfolds (bag_unfolds _ _ (sequence_unfolds _ (field_unfolds constant_unfolds no_fields_unfold) (field_unfolds constant_unfolds no_fields_unfold))) no_fields_unfold) no_fields_unfold };
+    ghost unfolds = { sequence_unfolds _ (field_unfolds
+        (bag_unfolds _ _ (sequence_unfolds _ (field_unfolds constant_unfolds no_fields_unfold)
+        (field_unfolds constant_unfolds no_fields_unfold))) no_fields_unfold) no_fields_unfold };
 }
 
 /// SEQUENCE {a BOOLEAN, ..., s SEQUENCE {a BOOLEAN, ...}}.
@@ -244,7 +261,8 @@ type OldHolderForm = Flagged<One, AddedRequiredComponent<Old, NoMore>>;
 impl Listed for OldHolderForm {
     ghost form = { ⟦<OldHolderForm as ComponentsOf>⟧.table };
 
-    ghost value = { λ x. fields (⟦<OldHolderForm as ComponentsOf>⟧.root x) (⟦<OldHolderForm as ComponentsOf>⟧.added x) };
+    ghost value = { λ x. fields (⟦<OldHolderForm as ComponentsOf>⟧.root x)
+        (⟦<OldHolderForm as ComponentsOf>⟧.added x) };
 
     ghost lawful = { type_sequence _ refl (⟦<OldHolderForm as ComponentsOf>⟧.typed tt) refl };
 
@@ -267,7 +285,8 @@ type NewHolderForm = Flagged<One, AddedRequiredComponent<New, NoMore>>;
 impl Listed for NewHolderForm {
     ghost form = { ⟦<NewHolderForm as ComponentsOf>⟧.table };
 
-    ghost value = { λ x. fields (⟦<NewHolderForm as ComponentsOf>⟧.root x) (⟦<NewHolderForm as ComponentsOf>⟧.added x) };
+    ghost value = { λ x. fields (⟦<NewHolderForm as ComponentsOf>⟧.root x)
+        (⟦<NewHolderForm as ComponentsOf>⟧.added x) };
 
     ghost lawful = { type_sequence _ refl (⟦<NewHolderForm as ComponentsOf>⟧.typed tt) refl };
 
@@ -284,11 +303,17 @@ impl Listed for NewHolderForm {
 
 /// The same addition, whose type has grown.
 impl Extends<OldHolder> for NewHolder {
-    ghost extends = { sequence_extends (grown_field (same_tags ⟦<bool as Described>⟧.tags) required_stays boolean_stays no_fields) refl (grown_field (same_tags ⟦<Old as Described>⟧.tags) required_stays (gains_additions _ ⟦<Second as AdditionsOf>⟧.additions ⟦<Old as Described>⟧.typed.lawful refl) no_fields) };
+    ghost extends = { sequence_extends (grown_field (same_tags ⟦<bool as Described>⟧.tags) required_stays
+        boolean_stays no_fields) refl (grown_field (same_tags ⟦<Old as Described>⟧.tags) required_stays
+        (gains_additions _ ⟦<Second as AdditionsOf>⟧.additions ⟦<Old as Described>⟧.typed.lawful refl) no_fields) };
 
-    ghost old_unfolds = { sequence_unfolds _ (field_unfolds constant_unfolds no_fields_unfold) (field_unfolds (sequence_unfolds _ (field_unfolds constant_unfolds no_fields_unfold) no_fields_unfold) no_fields_unfold) };
+    ghost old_unfolds = { sequence_unfolds _ (field_unfolds constant_unfolds no_fields_unfold)
+        (field_unfolds (sequence_unfolds _ (field_unfolds constant_unfolds no_fields_unfold) no_fields_unfold)
+        no_fields_unfold) };
 
-    ghost unfolds = { sequence_unfolds _ (field_unfolds constant_unfolds no_fields_unfold) (field_unfolds (sequence_unfolds _ (field_unfolds constant_unfolds no_fields_unfold) (field_unfolds constant_unfolds no_fields_unfold)) no_fields_unfold) };
+    ghost unfolds = { sequence_unfolds _ (field_unfolds constant_unfolds no_fields_unfold)
+        (field_unfolds (sequence_unfolds _ (field_unfolds constant_unfolds no_fields_unfold)
+        (field_unfolds constant_unfolds no_fields_unfold)) no_fields_unfold) };
 }
 
 /// SEQUENCE {a BOOLEAN, ..., [[s SEQUENCE {a BOOLEAN, ...} DEFAULT {a TRUE}]]}.
@@ -299,7 +324,8 @@ type OldBracketForm = Flagged<One, AddedGroupComponent<Grouped<OldDefault>, NoMo
 impl Listed for OldBracketForm {
     ghost form = { ⟦<OldBracketForm as ComponentsOf>⟧.table };
 
-    ghost value = { λ x. fields (⟦<OldBracketForm as ComponentsOf>⟧.root x) (⟦<OldBracketForm as ComponentsOf>⟧.added x) };
+    ghost value = { λ x. fields (⟦<OldBracketForm as ComponentsOf>⟧.root x)
+        (⟦<OldBracketForm as ComponentsOf>⟧.added x) };
 
     ghost lawful = { type_sequence _ refl (⟦<OldBracketForm as ComponentsOf>⟧.typed tt) refl };
 
@@ -322,7 +348,8 @@ type NewBracketForm = Flagged<One, AddedGroupComponent<Grouped<NewDefault>, NoMo
 impl Listed for NewBracketForm {
     ghost form = { ⟦<NewBracketForm as ComponentsOf>⟧.table };
 
-    ghost value = { λ x. fields (⟦<NewBracketForm as ComponentsOf>⟧.root x) (⟦<NewBracketForm as ComponentsOf>⟧.added x) };
+    ghost value = { λ x. fields (⟦<NewBracketForm as ComponentsOf>⟧.root x)
+        (⟦<NewBracketForm as ComponentsOf>⟧.added x) };
 
     ghost lawful = { type_sequence _ refl (⟦<NewBracketForm as ComponentsOf>⟧.typed tt) refl };
 
@@ -339,11 +366,23 @@ impl Listed for NewBracketForm {
 
 /// The same group, whose component has grown.
 impl Extends<OldBracket> for NewBracket {
-    ghost extends = { sequence_extends (grown_field (same_tags ⟦<bool as Described>⟧.tags) required_stays boolean_stays no_fields) refl (grown_field (same_tags ⟦<Old as Described>⟧.tags) optional_stays (group_extends _ _ (grown_field (same_tags ⟦<Old as Described>⟧.tags) (default_gains (flag_table no_field) (one_optional _) old_true_stands (new_true_stands _)) (gains_additions (flag_table no_field) (one_optional _) ⟦<Old as Described>⟧.typed.lawful refl) no_fields)) no_fields) };
+    ghost extends = { sequence_extends (grown_field (same_tags ⟦<bool as Described>⟧.tags) required_stays
+        boolean_stays no_fields) refl (grown_field (same_tags ⟦<Old as Described>⟧.tags) optional_stays
+        (group_extends _ _ (grown_field (same_tags ⟦<Old as Described>⟧.tags)
+        (default_gains (flag_table no_field) (one_optional _) old_true_stands (new_true_stands _))
+        (gains_additions (flag_table no_field) (one_optional _) ⟦<Old as Described>⟧.typed.lawful refl) no_fields))
+        no_fields) };
 
-    ghost old_unfolds = { sequence_unfolds _ (field_unfolds constant_unfolds no_fields_unfold) (field_unfolds (group_unfolds _ (field_unfolds (sequence_unfolds (flag_table no_field) (field_unfolds constant_unfolds no_fields_unfold) no_fields_unfold) no_fields_unfold)) no_fields_unfold) };
+    ghost old_unfolds = { sequence_unfolds _ (field_unfolds constant_unfolds no_fields_unfold)
+        (field_unfolds (group_unfolds _
+        (field_unfolds (sequence_unfolds (flag_table no_field) (field_unfolds constant_unfolds no_fields_unfold)
+        no_fields_unfold) no_fields_unfold)) no_fields_unfold) };
 
-    ghost unfolds = { sequence_unfolds _ (field_unfolds constant_unfolds no_fields_unfold) (field_unfolds (group_unfolds _ (field_unfolds (sequence_unfolds (flag_table (one_optional _)) (field_unfolds constant_unfolds no_fields_unfold) (field_unfolds constant_unfolds no_fields_unfold)) no_fields_unfold)) no_fields_unfold) };
+    ghost unfolds = { sequence_unfolds _ (field_unfolds constant_unfolds no_fields_unfold)
+        (field_unfolds (group_unfolds _
+        (field_unfolds (sequence_unfolds (flag_table (one_optional _))
+        (field_unfolds constant_unfolds no_fields_unfold) (field_unfolds constant_unfolds no_fields_unfold))
+        no_fields_unfold)) no_fields_unfold) };
 }
 
 /// SET {ready [1] BOOLEAN, level [0] INTEGER (0..255) OPTIONAL, ..., done [9] NULL OPTIONAL}.
@@ -370,7 +409,8 @@ impl Described for OldGrown {
 
     ghost is_own = { λ _. refl };
 
-    ghost meaning = { λ x. fields (⟦<OldGrownForm as ComponentsOf>⟧.root x.components) (⟦<OldGrownForm as ComponentsOf>⟧.added x.components) };
+    ghost meaning = { λ x. fields (⟦<OldGrownForm as ComponentsOf>⟧.root x.components)
+        (⟦<OldGrownForm as ComponentsOf>⟧.added x.components) };
 
     ghost typed = { type_set _ refl (⟦<OldGrownForm as ComponentsOf>⟧.typed tt) refl refl };
 
@@ -418,9 +458,13 @@ type Next = AddedOptionalComponent<Tagged<2, u8>, NoMore>;
 
 /// What the other version has, and `next [2] INTEGER (0..255) OPTIONAL` behind it.
 impl Extends<OldGrown> for Grown {
-    ghost extends = { set_gains_additions ⟦<OldGrownForm as ComponentsOf>⟧.table ⟦<Next as AdditionsOf>⟧.additions ⟦<OldGrown as Described>⟧.typed.lawful refl };
+    ghost extends = { set_gains_additions ⟦<OldGrownForm as ComponentsOf>⟧.table ⟦<Next as AdditionsOf>⟧.additions
+        ⟦<OldGrown as Described>⟧.typed.lawful refl };
 
-    ghost old_unfolds = { set_unfolds ⟦<OldGrownForm as ComponentsOf>⟧.table (field_unfolds constant_unfolds (field_unfolds constant_unfolds no_fields_unfold)) (field_unfolds constant_unfolds no_fields_unfold) };
+    ghost old_unfolds = { set_unfolds ⟦<OldGrownForm as ComponentsOf>⟧.table
+        (field_unfolds constant_unfolds (field_unfolds constant_unfolds no_fields_unfold))
+        (field_unfolds constant_unfolds no_fields_unfold) };
 
-    ghost unfolds = { set_unfolds _ (field_unfolds constant_unfolds (field_unfolds constant_unfolds no_fields_unfold)) (field_unfolds constant_unfolds (field_unfolds constant_unfolds no_fields_unfold)) };
+    ghost unfolds = { set_unfolds _ (field_unfolds constant_unfolds (field_unfolds constant_unfolds no_fields_unfold))
+        (field_unfolds constant_unfolds (field_unfolds constant_unfolds no_fields_unfold)) };
 }

@@ -50,7 +50,12 @@ impl Enumerated for Colour {
 
     ghost distinct = { refl };
 
-    ghost one_number = { one_number_of _ (Red ∷ Blue ∷ Green ∷ []) (elim [ Red ↦ (0, refl) | Blue ↦ (1, refl) | Green ↦ (2, refl) ]) refl };
+    ghost one_number = { one_number_of _ (Red ∷ Blue ∷ Green ∷ [])
+        (elim [ Red ↦ (0, refl) | Blue ↦ (1, refl) | Green ↦ (2, refl) ]) refl };
 
-    ghost listed = { elim [ Red ↦ (false, 0, refl) | Blue ↦ (false, 1, refl) | Green ↦ (true, 0, (refl, refl, refl)) ] };
+    ghost listed = { elim [
+      | Red ↦ (false, 0, refl)
+      | Blue ↦ (false, 1, refl)
+      | Green ↦ (true, 0, (refl, refl, refl))
+    ] };
 }

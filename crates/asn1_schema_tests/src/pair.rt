@@ -40,13 +40,34 @@ impl Described for Pair {
 
     ghost is_own = { λ _. refl };
 
-    ghost meaning = { λ x. fields (⟦<Form as ComponentsOf>⟧.root (record { 0 = record { value = x.a; tag = _ }; 1 = record { 0 = record { value = x.b; tag = _ }; 1 = record {} } })) (⟦<Form as ComponentsOf>⟧.added (record { 0 = record { value = x.a; tag = _ }; 1 = record { 0 = record { value = x.b; tag = _ }; 1 = record {} } })) };
+    ghost meaning = { λ x. fields (⟦<Form as ComponentsOf>⟧.root
+        (record {
+          0 = record { value = x.a; tag = _ };
+          1 =
+              record { 0 = record { value = x.b; tag = _ }; 1 = record {} };
+        }))
+        (⟦<Form as ComponentsOf>⟧.added
+        (record {
+          0 = record { value = x.a; tag = _ };
+          1 =
+              record { 0 = record { value = x.b; tag = _ }; 1 = record {} };
+        })) };
 
     ghost typed = { type_sequence _ refl (⟦<Form as ComponentsOf>⟧.typed tt) refl };
 
-    ghost valued = { λ x. value_sequence _ (⟦<Form as ComponentsOf>⟧.valued tt (record { 0 = record { value = x.a; tag = _ }; 1 = record { 0 = record { value = x.b; tag = _ }; 1 = record {} } })) };
+    ghost valued = { λ x. value_sequence _ (⟦<Form as ComponentsOf>⟧.valued tt
+        (record {
+          0 = record { value = x.a; tag = _ };
+          1 =
+              record { 0 = record { value = x.b; tag = _ }; 1 = record {} };
+        })) };
 
-    ghost valued_under = { λ _ x. value_sequence _ (⟦<Form as ComponentsOf>⟧.valued tt (record { 0 = record { value = x.a; tag = _ }; 1 = record { 0 = record { value = x.b; tag = _ }; 1 = record {} } })) };
+    ghost valued_under = { λ _ x. value_sequence _ (⟦<Form as ComponentsOf>⟧.valued tt
+        (record {
+          0 = record { value = x.a; tag = _ };
+          1 =
+              record { 0 = record { value = x.b; tag = _ }; 1 = record {} };
+        })) };
 }
 
 impl AsnType for Pair {

@@ -1,4 +1,5 @@
-//! Bits: buffers, views, readers and strings of them, every alignment with every width, and what is answered when memory is refused.
+//! Bits: buffers, views, readers and strings of them, every alignment with every width, and what is answered when
+//! memory is refused.
 ghost use Rattle.std.specs.Prelude.{◌≡◌, ◌++◌, ◌<◌, ◌≤◌, OnOk, OnErr};
 ghost use Rattle.asn1_model.specs.Numbers.{binary};
 
@@ -129,7 +130,8 @@ fn every_shift(rt: HostRuntime) {
     }
 }
 
-/// Whether the VisibleString "John" is written, unaligned, and then fourteen bits, eight ones and 010000, behind their number in an octet.
+/// Whether the VisibleString "John" is written, unaligned, and then fourteen bits, eight ones and 010000, behind
+/// their number in an octet.
 fn are_rows_written(buffer: &mut BitBuffer, fourteen: BitStr<'_>) -> Result<bool, AllocError> {
     buffer.push_bits(4, 8)?;
     for character in b"John" {
@@ -150,7 +152,8 @@ fn is_of_fourteen(answer: Result<BitString, AllocError>) -> bool {
     }
 }
 
-/// Whether sixteen bits, of which a further one is added, are cut to twelve, and these are filled up to twenty by one bits.
+/// Whether sixteen bits, of which a further one is added, are cut to twelve, and these are filled up to twenty by one
+/// bits.
 fn is_resized(buffer: &mut BitBuffer) -> Result<bool, AllocError> {
     let before = buffer.len();
     buffer.reserve_bytes(4)?;
@@ -381,7 +384,8 @@ fn readers_and_views(rt: HostRuntime) {
     assert!(rt; lends_octets() && copies_view() && numbers_are_told());
 }
 
-/// Adds a one bit to a string. Whether a copy is equal to it before, and behind that differs from it and comes before it.
+/// Adds a one bit to a string. Whether a copy is equal to it before, and behind that differs from it and comes before
+/// it.
 fn is_behind_its_copy(string: &mut BitString) -> Result<bool, AllocError> {
     let copy = string.clone()?;
     let was_equal = *string == copy;
@@ -411,7 +415,8 @@ fn is_string(alloc: Global, mut string: BitString) -> bool {
         && BitString::from_buffer(string.into_buffer()).len() == 9
 }
 
-/// Whether three bits, the second of them a zero bit, are all; they make a string of three and none of four, and an octet makes none.
+/// Whether three bits, the second of them a zero bit, are all; they make a string of three and none of four, and an
+/// octet makes none.
 fn are_three(three: FixedBitString<3>, front: BitStr<'_>) -> bool {
     three.len() == 3
         && !three.is_empty()
@@ -461,8 +466,8 @@ fn grow(buffer: &mut BitBuffer, other: &BitBuffer, step: u32) -> Result<(), Allo
     }
 }
 
-/// Adds nineteen bits to an empty buffer. Refused, it is empty still, and the same call goes on from there; then `granted` is false.
-/// Whether the bits are added at last.
+/// Adds nineteen bits to an empty buffer. Refused, it is empty still, and the same call goes on from there; then
+/// `granted` is false. Whether the bits are added at last.
 fn adds_nineteen_bits(buffer: &mut BitBuffer, granted: &mut bool) -> bool {
     if buffer.push_bits(0x5_A5A5, 19).is_ok() {
         return true;
@@ -471,7 +476,8 @@ fn adds_nineteen_bits(buffer: &mut BitBuffer, granted: &mut bool) -> bool {
     buffer.is_empty() && buffer.push_bits(0x5_A5A5, 19).is_ok()
 }
 
-/// Grows a buffer by one call. A call that is refused leaves the bits as they were, and the same call goes on from there; then
+/// Grows a buffer by one call. A call that is refused leaves the bits as they were, and the same call goes on from
+/// there; then
 /// `granted` is false. Whether the buffer is grown at last.
 fn is_grown(buffer: &mut BitBuffer, other: &BitBuffer, step: u32, granted: &mut bool) -> bool {
     let len = buffer.len();
@@ -510,8 +516,8 @@ fn append_twice(buffer: &mut BitBuffer, number: u8) -> Result<(), AllocError>
     Ok(())
 }
 
-/// Appends a number twice. Refused, the buffer is as long as before, and the same call goes on from there; then `granted` is false.
-/// Whether it has so many bits at last.
+/// Appends a number twice. Refused, the buffer is as long as before, and the same call goes on from there; then
+/// `granted` is false. Whether it has so many bits at last.
 fn is_appended(buffer: &mut BitBuffer, len: usize, granted: &mut bool) -> bool {
     let before = buffer.len();
     if append_twice(buffer, 0x9c).is_err() {
@@ -544,8 +550,8 @@ fn appends(rt: &impl Abort, alloc: Global) -> bool {
     granted
 }
 
-/// Pushes a bit behind so many. A refused bit leaves the string as it was, and the same call goes on from there; then `granted` is
-/// false. Whether the bit is there at last.
+/// Pushes a bit behind so many. A refused bit leaves the string as it was, and the same call goes on from there; then
+/// `granted` is false. Whether the bit is there at last.
 fn is_pushed(string: &mut BitString, count: usize, granted: &mut bool) -> bool {
     if string.push(count % 3 == 0).is_err() {
         *granted = false;
@@ -584,8 +590,8 @@ fn is_made_of_octets(alloc: Global, octets: &[u8]) -> Result<bool, AllocError> {
     Ok(string.as_bytes() == octets)
 }
 
-/// Adds bits to an empty buffer. Refused, it is empty still, and the same call goes on from there; then `granted` is false. Whether
-/// the bits are added at last.
+/// Adds bits to an empty buffer. Refused, it is empty still, and the same call goes on from there; then `granted` is
+/// false. Whether the bits are added at last.
 fn adds_bits(buffer: &mut BitBuffer, bits: BitStr<'_>, granted: &mut bool) -> bool {
     if buffer.extend_from_bitslice(bits).is_ok() {
         return true;
@@ -594,7 +600,8 @@ fn adds_bits(buffer: &mut BitBuffer, bits: BitStr<'_>, granted: &mut bool) -> bo
     buffer.is_empty() && buffer.extend_from_bitslice(bits).is_ok()
 }
 
-/// Copies unaligned bits, in octets, as a buffer and as strings: the answer is whole, or refused. Whether none was refused.
+/// Copies unaligned bits, in octets, as a buffer and as strings: the answer is whole, or refused. Whether none was
+/// refused.
 fn copies(rt: &impl Abort, alloc: Global) -> bool {
     let octets = [0x12, 0x34, 0x56];
     let (_, bits) = BitStr::from_slice(&octets).split_at(4);

@@ -47,8 +47,8 @@ fn read_row(alloc: Global, reader: &mut BitReader<'_>) -> Result<Vec<FieldValue>
     read_fields(alloc, reader, &shapes)
 }
 
-/// Writes 5 in three bits, the bits 1011, the digits "12", the octet FF and the whole number of twenty octets 01: 183 bits, of which
-/// none but the first field begins at an octet.
+/// Writes 5 in three bits, the bits 1011, the digits "12", the octet FF and the whole number of twenty octets 01: 183
+/// bits, of which none but the first field begins at an octet.
 fn write_each(buffer: &mut BitBuffer, parts: &Parts) -> Result<(), FieldFault> {
     let fields = [
         FieldBits::Number { value: 5, width: 3 },
@@ -212,8 +212,8 @@ fn are_octets_read(alloc: Global) -> Result<bool, FieldFault> {
     Ok(are_values(&values, &FIELDS_OF_OCTETS) && reader.len() == 0)
 }
 
-/// Whether the octets of the long row are read as its fields, and one bit is left. A request for memory that is refused is Memory, and
-/// then the reader is as before, the same call goes on from there, and `granted` is false.
+/// Whether the octets of the long row are read as its fields, and one bit is left. A request for memory that is
+/// refused is Memory, and then the reader is as before, the same call goes on from there, and `granted` is false.
 fn is_each_read(alloc: Global, parts: &Parts, granted: &mut bool) -> Result<bool, FieldFault> {
     let mut reader = BitReader::from_octets(&ROW_OF_EACH);
     let values = match read_each(alloc, &mut reader, parts) {
@@ -259,7 +259,8 @@ fn has_fault(alloc: Global, octets: &[u8], shape: FieldShape<'_>, kind: FieldFau
     }
 }
 
-/// Whether each octet that is no field, of a known code, in the fewest octets, of enough bits or of 128 bits at most, is refused for that.
+/// Whether each octet that is no field, of a known code, in the fewest octets, of enough bits or of 128 bits at most,
+/// is refused for that.
 fn are_refused(alloc: Global, digits: &CharacterAlphabet) -> bool {
     let two = FieldShape::Characters {
         alphabet: digits,
@@ -291,7 +292,8 @@ fn are_refused(alloc: Global, digits: &CharacterAlphabet) -> bool {
     true
 }
 
-/// Whether a field that does not fit is told, alone and behind another, and nothing of those before it is left behind three bits.
+/// Whether a field that does not fit is told, alone and behind another, and nothing of those before it is left behind
+/// three bits.
 fn is_left_alone(buffer: &mut BitBuffer) -> bool {
     let large = FieldBits::Number { value: 8, width: 3 };
     let alone = FieldFault {
@@ -364,8 +366,8 @@ fn every_alignment_takes_every_width(rt: HostRuntime) {
     }
 }
 
-/// Writes the long row behind so many of them. A request for memory that is refused is Memory, and then the buffer is as before, the same
-/// call goes on from there, and `granted` is false. Whether the row is written at last.
+/// Writes the long row behind so many of them. A request for memory that is refused is Memory, and then the buffer is
+/// as before, the same call goes on from there, and `granted` is false. Whether the row is written at last.
 fn is_written_behind(
     buffer: &mut BitBuffer,
     parts: &Parts,

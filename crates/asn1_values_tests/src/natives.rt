@@ -1,5 +1,5 @@
-//! The native integer types, each by the claims of a text: its ends, octets, sums, conversions and what is shown; and the common ground of
-//! their numbers. Numbers are told as octets of two's complement.
+//! The native integer types, each by the claims of a text: its ends, octets, sums, conversions and what is shown; and
+//! the common ground of their numbers. Numbers are told as octets of two's complement.
 use crate::common::{Octets, assert_none, has, is_refused};
 use asn1_values::{
     Integer, IntegerBytes, IntegerError, IntegerType, NativeInteger, TryFromIntegerError, Wide,
@@ -252,8 +252,8 @@ fn is_claim<
     )
 }
 
-/// Whether the number is one of the type, lent and given up, where the type is to hold it, and is then given back; else it is refused, and
-/// the refusal gives it back.
+/// Whether the number is one of the type, lent and given up, where the type is to hold it, and is then given back;
+/// else it is refused, and the refusal gives it back.
 fn is_converted<
     'a,
     T: NativeInteger
@@ -438,8 +438,8 @@ beside FF7FFFFFFFFFFFFFFF
 beside 008000000000000000
 sum 8000000000000000 00FFFFFFFFFFFFFFFF 7FFFFFFFFFFFFFFF";
 
-/// Numbers that are converted to each type, where the type holds them: 255, 65536, 7, -7, the greatest of 128 bits, 9, -129, the least of
-/// 64 bits, 3, 200, 256 and -1.
+/// Numbers that are converted to each type, where the type holds them: 255, 65536, 7, -7, the greatest of 128 bits,
+/// 9, -129, the least of 64 bits, 3, 200, 256 and -1.
 const NUMBERS: &str =
     "00FF 010000 07 F9 00FFFFFFFFFFFFFFFFFFFFFFFFFFFFFFFF 09 FF7F 8000000000000000 03 00C8 0100 FF";
 

@@ -1,4 +1,5 @@
-//! Whole numbers of any size: their ends, texts, sums and conversions, those within a range, and what is answered when memory is refused.
+//! Whole numbers of any size: their ends, texts, sums and conversions, those within a range, and what is answered
+//! when memory is refused.
 use crate::common::{
     Octets, assert_none, has, has_copy, hash_of, is_before, is_copied, is_refused, is_shown,
     is_told,
@@ -188,7 +189,8 @@ fn is_long_read(alloc: Global) -> Result<bool, AllocError> {
     }
 }
 
-/// Whether the number of octets that are given up is refused by a type of 8 bits, and the copy of the refusal gives the number back.
+/// Whether the number of octets that are given up is refused by a type of 8 bits, and the copy of the refusal gives
+/// the number back.
 fn is_given_back(alloc: Global, kept: Integer, octets: &[u8]) -> bool {
     match u8::try_from(kept) {
         Ok(_) => false,
@@ -235,7 +237,8 @@ fn is_greatest(answer: Result<Integer, IntegerError>) -> bool {
     }
 }
 
-/// Whether the greatest number of 128 bits is read, with a sign and without one, and is no number of 128 bits with a sign.
+/// Whether the greatest number of 128 bits is read, with a sign and without one, and is no number of 128 bits with a
+/// sign.
 fn is_greatest_read(alloc: Global) -> bool {
     let octets = Octets::of("00FFFFFFFFFFFFFFFFFFFFFFFFFFFFFFFF");
     is_greatest(Integer::from_signed_octets(alloc, octets.all()))
@@ -373,8 +376,8 @@ fn is_copied_in_refusal(number: Integer) -> bool {
     }
 }
 
-/// Either the number of the octets was read, which is then copied alone and in a refusal, or memory is wanting, and nothing else. Whether
-/// it was not refused.
+/// Either the number of the octets was read, which is then copied alone and in a refusal, or memory is wanting, and
+/// nothing else. Whether it was not refused.
 fn is_read_or_refused(
     rt: &impl Abort,
     answer: Result<Integer, IntegerError>,
@@ -392,8 +395,8 @@ fn is_read_or_refused(
     is_granted
 }
 
-/// Reads numbers of twenty octets in each way: each is whole, or memory is wanting. Whether none was refused. What takes no memory is
-/// always read.
+/// Reads numbers of twenty octets in each way: each is whole, or memory is wanting. Whether none was refused. What
+/// takes no memory is always read.
 pub fn requests(rt: &impl Abort, alloc: Global) -> bool {
     let octets = [1; 20];
     let own = is_read_or_refused(rt, Integer::try_from_bytes(alloc, &octets), &octets);

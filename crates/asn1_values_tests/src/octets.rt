@@ -36,7 +36,8 @@ fn are_moved(alloc: Global) -> Result<bool, AllocError> {
     }
 }
 
-/// Whether a string of three octets lends them, and a copy of it is equal, and gives them up: it shares them with its string, so that they are copied.
+/// Whether a string of three octets lends them, and a copy of it is equal, and gives them up: it shares them with its
+/// string, so that they are copied.
 fn lends(alloc: Global, value: &OctetString) -> Result<bool, AllocError> {
     let copy = value.clone()?;
     let is_equal = copy == *value;
@@ -228,7 +229,8 @@ fn of_slice(alloc: Global, granted: &mut bool) -> OctetString {
     }
 }
 
-/// Makes octet strings of what is lent, copies them and takes their octets: each answer is whole, or refused. Whether none was refused.
+/// Makes octet strings of what is lent, copies them and takes their octets: each answer is whole, or refused. Whether
+/// none was refused.
 fn copies(rt: &impl Abort, alloc: Global) -> bool {
     let mut granted = is_granted(rt, is_made_of_an_array(alloc));
     let value = of_slice(alloc, &mut granted);
@@ -245,7 +247,8 @@ fn is_moved_back(alloc: Global, value: OctetString) -> Result<bool, AllocError> 
     Ok(has(&vector, &OCTETS))
 }
 
-/// Moves a vector into a string, and back out of it. A refused vector is handed back as it was. Whether memory was not refused.
+/// Moves a vector into a string, and back out of it. A refused vector is handed back as it was. Whether memory was
+/// not refused.
 fn is_moved(rt: &impl Abort, alloc: Global, vector: Vec<u8>) -> bool {
     match OctetString::from_vec(vector) {
         Ok(moved) => is_granted(rt, is_moved_back(alloc, moved)),
@@ -264,7 +267,8 @@ fn is_handed_back(alloc: Global) -> Result<bool, AllocError> {
     }
 }
 
-/// Makes and moves strings, and asks for memory. A refused vector is handed back as it was. Whether no request was refused.
+/// Makes and moves strings, and asks for memory. A refused vector is handed back as it was. Whether no request was
+/// refused.
 pub fn requests(rt: &impl Abort, alloc: Global) -> bool {
     let copied = copies(rt, alloc);
     let moved = match vector(alloc) {

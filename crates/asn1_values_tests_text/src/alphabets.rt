@@ -7,11 +7,12 @@ use asn1_values::{
 use std::alloc::{AllocError, Global};
 use std::process::Abort;
 
-/// The alphabets: their characters, or the first and the last of them; whether the width of their codes is raised to 1, 2, 4, 8, 16 or 32 bits;
-/// this width; characters with their codes; and a character and a code that the alphabet lacks. All numbers are in hexadecimal digits. They
-/// are that of NumericString; those of 0 to 3, which take two bits, and so do 0, 1 and 3, where no character has the code 2; those of one
-/// character, where 61 does not fit a code of no bits, and 0 does, and both have the code 0; those of VisibleString, IA5String and BMPString,
-/// whose codes are the characters' own numbers; and those of so many characters from 3E8 on, whose codes are their places.
+/// The alphabets: their characters, or the first and the last of them; whether the width of their codes is raised to
+/// 1, 2, 4, 8, 16 or 32 bits; this width; characters with their codes; and a character and a code that the alphabet
+/// lacks. All numbers are in hexadecimal digits. They are that of NumericString; those of 0 to 3, which take two
+/// bits, and so do 0, 1 and 3, where no character has the code 2; those of one character, where 61 does not fit a
+/// code of no bits, and 0 does, and both have the code 0; those of VisibleString, IA5String and BMPString, whose
+/// codes are the characters' own numbers; and those of so many characters from 3E8 on, whose codes are their places.
 const ROWS: &str = "\
 of 20 30 31 32 33 34 35 36 37 38 39;plain;4;31:2 32:3 33:4 20:0 39:A;41 B
 of 0 1 3;plain;2;0:0 1:1 3:3;2 2
@@ -97,7 +98,8 @@ fn lacks(alphabet: &CharacterAlphabet, missing: u32, unused: u32) -> bool {
     )
 }
 
-/// Whether an alphabet has codes of this width, these among them, and lacks a character and a code, if there are any here.
+/// Whether an alphabet has codes of this width, these among them, and lacks a character and a code, if there are any
+/// here.
 fn is_as_said(alphabet: &CharacterAlphabet, width: &str, codes: &str, lacking: &str) -> bool {
     alphabet.width() == number_of(width)
         && has_codes(alphabet, codes)

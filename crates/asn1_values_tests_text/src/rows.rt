@@ -124,8 +124,8 @@ fn alphabets(rt: HostRuntime) {
     assert_none(&rt, &wrong_kind());
 }
 
-/// What a string is made of: of octets, a text or a character that are lent, of octets or a text in a value that is given up, or of so many
-/// zero bits.
+/// What a string is made of: of octets, a text or a character that are lent, of octets or a text in a value that is
+/// given up, or of so many zero bits.
 #[derive(Clone, Copy)]
 enum Source {
     Octets,
@@ -238,7 +238,8 @@ fn made_wide(
     }
 }
 
-/// What is to be made: a string of these characters, or none, by a character outside the alphabet, or since there are no whole characters.
+/// What is to be made: a string of these characters, or none, by a character outside the alphabet, or since there are
+/// no whole characters.
 #[derive(Drop)]
 enum Wanted {
     Characters(Vec<u32>),
@@ -392,7 +393,8 @@ fn octets_of(alloc: Global, digits: &str) -> Result<Vec<u8>, AllocError> {
     Ok(octets)
 }
 
-/// What is to be made, as a sign and numbers say: `=` characters, `!` a character outside the alphabet, `?` no whole characters.
+/// What is to be made, as a sign and numbers say: `=` characters, `!` a character outside the alphabet, `?` no whole
+/// characters.
 fn wanted_of(alloc: Global, sign: &str, numbers: &str) -> Result<Wanted, AllocError> {
     Ok(match sign {
         "=" => Wanted::Characters(numbers_of(alloc, numbers)?),
@@ -469,10 +471,11 @@ pub fn requests(rt: &impl Abort, alloc: Global) -> bool {
     granted
 }
 
-/// The rows: a kind, what a string is made of, and what is to be made, with numbers in hexadecimal digits. First octets of each alphabet, and
-/// those refused by the first one outside it; then the first and the last characters of each alphabet, and those next to them; texts that are
-/// lent, where E9 is one octet of a TeletexString, and two of the text, and texts that are given up; octets in each other form; and zero bits,
-/// which are whole characters or none.
+/// The rows: a kind, what a string is made of, and what is to be made, with numbers in hexadecimal digits. First
+/// octets of each alphabet, and those refused by the first one outside it; then the first and the last characters of
+/// each alphabet, and those next to them; texts that are lent, where E9 is one octet of a TeletexString, and two of
+/// the text, and texts that are given up; octets in each other form; and zero bits, which are whole characters or
+/// none.
 const ROWS: &str = "\
 numeric octets 31.32.33 = 31 32 33
 printable octets 4A.6F.20.28.31.29.3F = 4A 6F 20 28 31 29 3F

@@ -310,8 +310,8 @@ fn are_twenty<T: PartialEq>(items: &[T], wanted: &T) -> bool {
     items.len() == 20
 }
 
-/// Appends a character twenty times, which makes a string of as many items, and copies it. A refused one leaves the string as it was.
-/// Whether none was refused.
+/// Appends a character twenty times, which makes a string of as many items, and copies it. A refused one leaves the
+/// string as it was. Whether none was refused.
 fn appends<T: PartialEq, S: StaticPermittedAlphabet + Clone + AsSlice<T> + Drop>(
     rt: &impl Abort,
     string: &mut S,
