@@ -1,8 +1,9 @@
 -- What constraints mean for a type, and the types of the model under some.
-use Rattle.std.specs.Prelude.{ℕ, ◌-◌, ◌^◌, ℤ, pos, negsuc, Bool, true, false, Option, Some, None, is_some}
+use Rattle.std.specs.Prelude.{ℕ, ◌-◌, ◌^◌, ℤ, pos, negsuc, Bool, true, false, cond, Option, Some, None, is_some}
 use Rattle.asn1_model.specs.Schema.{Range, Bounds, Counts, Size as SizeTerm, Alphabet, StringKind, Schema}
 use Rattle.asn1_model.specs.Schema.{integer, bit_string, octet_string, character_string, sequence_of, set_of}
 use Rattle.asn1_model.specs.Numbers.{is_at_most}
+use Rattle.asn1_model.specs.Oer.{is_fixed}
 use Rattle.asn1_schema_constraints.specs.Bounds.{later, earlier, range_of, counts_of}
 use Rattle.asn1_schema_constraints.specs.Sets.{has_additions}
 use Rattle.asn1_schema_constraints.specs.declared.parts.Value.{Value}
@@ -10,6 +11,7 @@ use Rattle.asn1_schema_constraints.specs.declared.parts.Size.{Size}
 use Rattle.asn1_schema_constraints.specs.declared.extensions.Extensible.{Extensible}
 use Rattle.asn1_schema_constraints.specs.declared.extensions.PermittedAlphabet.{PermittedAlphabet}
 use Rattle.asn1_schema_constraints.specs.declared.lists.Constraints.{Constraints}
+use Rattle.asn1_schema_constraints.specs.declared.sizes.Sizes.{Sizes}
 
 -- What constraints mean for a type: the bounds of its numbers, whether there is a value constraint at all, its sizes,
 -- and its permitted alphabet, each with its mark of extensibility (X.680 51 and 52).
@@ -40,6 +42,14 @@ held_of c held = held_where (is_some c) held
 abbrev pub sizes_of : Option (Extensible Size) → SizeTerm
 sizes_of None = record { counts = record { low = 0; high = None }; extensible = false }
 sizes_of (Some c) = record { counts = counts_of c.constraint.range; extensible = has_additions c }
+
+-- The sizes of the root, and whether a mark follows them, as the model has them (X.680 51.5 and 52).
+abbrev pub size_of : Sizes → SizeTerm
+size_of z = record { counts = counts_of z.root; extensible = z.is_extensible }
+
+-- The one size, where there is one and no mark (X.696 13, 14 and 27).
+abbrev pub one_size : SizeTerm → Option ℕ
+one_size z = cond (is_fixed z) (Some z.counts.low) None
 
 -- The characters of a permitted alphabet, where there is one, and whether a mark follows them (X.680 51.7 and 52).
 abbrev pub alphabet_of : Option (Extensible PermittedAlphabet) → Alphabet

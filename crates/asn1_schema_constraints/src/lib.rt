@@ -8,9 +8,11 @@ pub mod extensions;
 pub mod laws;
 pub mod lists;
 pub mod parts;
+pub mod sizes;
 pub mod widths;
 
 pub use bounds::{Bounded, Effective};
 pub use extensions::{Extensible, PermittedAlphabet};
 pub use lists::{Constraint, ConstraintDiscriminant, Constraints};
 pub use parts::{Size, Value};
+pub use sizes::Sizes;

@@ -135,6 +135,9 @@ pub enum EncodeError {
     /// A length in bits does not fit 64 bits. No call answers this: no memory is left before.
     #[error("a length in bits does not fit")]
     LengthExceedsPlatformSize,
+    /// A call of an encoder comes out of its place: nothing that is open takes such a record.
+    #[error("the call is out of its place")]
+    CallOutOfPlace,
     /// No memory was left.
     #[error("out of memory")]
     OutOfMemory,

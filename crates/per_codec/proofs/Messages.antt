@@ -27,8 +27,8 @@ use Rattle.per_codec_fronts.proofs.Opened.{filled_in, filled_out}
 use Rattle.per_codec_fronts.proofs.Whole.{records_read, forms_show}
 use Rattle.per_codec_reading.specs.Fronts.{freedoms, is_aligned}
 use Rattle.per_codec_reading.specs.Runs.{Storage}
-use Rattle.per_codec_reading.specs.declared.variant.Variant.{Variant}
-use Rattle.per_codec_reading.specs.declared.variant.Variant.TheVariants.{Unaligned, Aligned}
+use Rattle.per_codec_limits.specs.declared.variant.Variant.{Variant}
+use Rattle.per_codec_limits.specs.declared.variant.Variant.TheVariants.{Unaligned, Aligned}
 use Rattle.per_codec.specs.Messages.{rules_of}
 use Rattle.per_codec.proofs.Lifting.{held_at, bits_taken, levels_taken, both_found, ready_still, variant_still}
 

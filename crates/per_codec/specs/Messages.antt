@@ -1,8 +1,8 @@
 -- The rules of the calls, and that what they tell is one value.
 use Rattle.asn1_model.specs.Rules.{Rules, uper, aper}
 use Rattle.asn1_schema_decode.specs.Messages.{OneMessageIn}
-use Rattle.per_codec_reading.specs.declared.variant.Variant.{Variant}
-use Rattle.per_codec_reading.specs.declared.variant.Variant.TheVariants.{Unaligned, Aligned}
+use Rattle.per_codec_limits.specs.declared.variant.Variant.{Variant}
+use Rattle.per_codec_limits.specs.declared.variant.Variant.TheVariants.{Unaligned, Aligned}
 
 -- The rules as the model names them.
 abbrev pub rules_of : Variant → Rules

@@ -14,8 +14,8 @@ use Rattle.asn1_schema_presented.specs.Records.{asks_list, asks_bag, asks_sequen
 use Rattle.asn1_schema_finding.specs.Marks.{first_bits}
 use Rattle.per_codec_fronts.specs.Takes.{Place, Scope, State, components, added, open_type, members, alternative, Front, ListBegins, Begins, AdditionsBegin, NextAddition, AdditionEnds, Opens, Closes, Skips, Chooses, Ends, Takes}
 use Rattle.per_codec_reading.specs.Fronts.{freedoms, is_aligned, Leads, Misses}
-use Rattle.per_codec_reading.specs.declared.variant.Variant.{Variant}
-use Rattle.per_codec_reading.specs.declared.variant.Variant.TheVariants.{Unaligned, Aligned}
+use Rattle.per_codec_limits.specs.declared.variant.Variant.{Variant}
+use Rattle.per_codec_limits.specs.declared.variant.Variant.TheVariants.{Unaligned, Aligned}
 use Rattle.per_codec_decoder.specs.Held.{Held, state_of, kept, innermost, opened_in, stands_within, stands_outside, stands_behind, Finds, IsReady, Moves, Enters, EntersMembers, EntersComponents, NotMembers, NotComponents, HasOpened, NoOpening, HasPassed}
 use Rattle.per_codec_decoder.specs.Preamble.{HasBitmap, NoBitmap}
 use Rattle.per_codec_decoder.specs.Scopes.{NoAdditions, Flags, NoFlag, Leaves, LeavesBehind, NoEnd, LeavesAddition, NoAdditionEnd}

@@ -10,8 +10,8 @@ use Rattle.asn1_schema_presented.specs.Levels.{level}
 use Rattle.per_codec_reading.specs.Fronts.{freedoms, is_aligned, Leads}
 use Rattle.per_codec_reading.specs.Runs.{Storage, storage_inside, EndsAtOctet, InOneRun}
 use Rattle.per_codec_reading.specs.Sizes.{surely_told}
-use Rattle.per_codec_reading.specs.declared.variant.Variant.{Variant}
-use Rattle.per_codec_reading.specs.declared.variant.Variant.TheVariants.{Unaligned, Aligned}
+use Rattle.per_codec_limits.specs.declared.variant.Variant.{Variant}
+use Rattle.per_codec_limits.specs.declared.variant.Variant.TheVariants.{Unaligned, Aligned}
 use Rattle.per_codec_fronts.specs.Takes.{Place, Scope, State, Tally, members, open_type, Opens, Takes}
 use Rattle.per_codec_decoder.specs.Members.{HasMembers, NoMembers}
 use Rattle.per_codec_decoder.specs.Preamble.{HasPreamble, NoPreamble}

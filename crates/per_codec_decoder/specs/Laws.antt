@@ -10,7 +10,7 @@ use Rattle.per_codec_fronts.specs.Takes.{Place, State, Scope}
 use Rattle.per_codec_fronts.proofs.Next.{one_taken}
 use Rattle.per_codec_reading.specs.Fronts.{freedoms, is_aligned}
 use Rattle.per_codec_reading.specs.Runs.{Storage}
-use Rattle.per_codec_reading.specs.declared.variant.Variant.{Variant}
+use Rattle.per_codec_limits.specs.declared.variant.Variant.{Variant}
 use Rattle.per_codec_decoder.specs.Held.{Held, state_of, kind_of, kept, Finds}
 
 -- the levels that are left behind a record, by what it answers

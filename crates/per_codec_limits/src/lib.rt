@@ -1,5 +1,10 @@
-//! Where the packed encoding rules (X.691 11.9) change the form of a length, for writers and readers.
+//! What writers and readers of the packed encoding rules (X.691) share: the two variants of the rules, and where the
+//! form of a length changes (X.691 11.9).
 #![tactic(auto)]
+
+pub mod variant;
+
+pub use variant::Variant;
 
 /// How many units the smallest fragment has; others have two to four times as many (X.691 11.9.3.8).
 pub const FRAGMENT: usize = 16384;

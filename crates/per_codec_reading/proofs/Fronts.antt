@@ -10,8 +10,8 @@ use Rattle.asn1_laws_fronts.proofs.PerNumbers.{filling_alike}
 use Rattle.per_codec_fronts.specs.Takes.{Place, Front}
 use Rattle.per_codec_fronts.proofs.Fronts.{of_nothing, nothing_front, split, join}
 use Rattle.per_codec_fronts.proofs.Next.{same_fronts}
-use Rattle.per_codec_reading.specs.declared.variant.Variant.{Variant}
-use Rattle.per_codec_reading.specs.declared.variant.Variant.TheVariants.{Unaligned, Aligned}
+use Rattle.per_codec_limits.specs.declared.variant.Variant.{Variant}
+use Rattle.per_codec_limits.specs.declared.variant.Variant.TheVariants.{Unaligned, Aligned}
 use Rattle.per_codec_reading.specs.Fronts.{freedoms, Leads, NoneStands, IsFresh, Misses, to_octet}
 
 -- ---- the freedoms that both variants leave to a reader

@@ -6,13 +6,9 @@ use Rattle.asn1_model.specs.Rules.{lenient}
 use Rattle.asn1_schema_faults.specs.declared.DecodeError.{DecodeError}
 use Rattle.asn1_schema_faults.specs.declared.DecodeError.TheVariants.{OutOfMemory, AlreadyFailed}
 use Rattle.per_codec_fronts.specs.Takes.{Place, Front}
-use Rattle.per_codec_reading.specs.declared.variant.Variant.{Variant}
-use Rattle.per_codec_reading.specs.declared.variant.Variant.TheVariants.{Unaligned, Aligned}
-
--- Whether bits fill up octets in front of some fields.
-abbrev pub is_aligned : Variant → Bool
-is_aligned Unaligned = false
-is_aligned Aligned = true
+pub use Rattle.per_codec_limits.specs.Variants.{is_aligned}
+use Rattle.per_codec_limits.specs.declared.variant.Variant.{Variant}
+use Rattle.per_codec_limits.specs.declared.variant.Variant.TheVariants.{Unaligned, Aligned}
 
 -- What a reader of this variant may take besides the canonical form.
 abbrev pub freedoms : Variant → Freedom → Bool

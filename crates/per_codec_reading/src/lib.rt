@@ -16,15 +16,13 @@ pub mod sizes;
 pub mod strings;
 pub mod texts;
 pub mod units;
-pub mod variant;
 
 pub use cursor::Cursor;
 pub use identifiers::read_object_identifier;
 pub use lengths::Length;
 pub use octets::read_counted_octets;
-pub use per_codec_limits::{FRAGMENT, LONG_COUNT};
+pub use per_codec_limits::{FRAGMENT, LONG_COUNT, Variant};
 pub use runs::{Run, RunBits, read_counted};
 pub use sizes::{Contents, read_sized};
 pub use strings::{lent_by, read_bit_string, read_octet_string, read_octet_string_in};
 pub use texts::read_utf8_string;
-pub use variant::Variant;

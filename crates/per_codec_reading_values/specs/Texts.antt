@@ -9,7 +9,7 @@ use Rattle.asn1_schema_constraints.specs.Terms.{character_string_under, meant}
 use Rattle.asn1_schema_faults.specs.declared.DecodeError.{DecodeError}
 use Rattle.per_codec_fronts.specs.Takes.{Place, Front}
 use Rattle.per_codec_reading.specs.Fronts.{freedoms, is_aligned, Misses}
-use Rattle.per_codec_reading.specs.declared.variant.Variant.{Variant}
+use Rattle.per_codec_limits.specs.declared.variant.Variant.{Variant}
 
 -- These characters stand in front as a string under these constraints.
 abbrev pub Stands : Variant → StringKind → Constraints → List ℕ → Place → Place → Type 0

@@ -1,20 +1,21 @@
-//! Which variant of the packed encoding rules is read.
+//! The two variants of the packed encoding rules.
 ghost use Rattle.std.specs.Prelude.{◌≡◌};
-ghost use Rattle.per_codec_reading.specs.Fronts as fronts;
+ghost use Rattle.per_codec_limits.specs.Variants.{is_aligned};
 
 /// Unaligned or aligned packed encoding rules (X.691).
 #[derive(Clone, Copy, Debug, PartialEq, Eq)]
 pub enum Variant {
-    /// No bits fill up octets.
+    /// No padding bits.
     Unaligned,
-    /// Bits fill up octets in front of some fields.
+    /// Padding bits stand in front of some fields, so that these begin at an octet.
     Aligned,
 }
 
 impl Variant {
-    /// Whether bits fill up octets in front of some fields.
+    /// Whether padding bits stand in front of some fields.
+    #[inline(always)]
     pub fn is_aligned(self) -> bool
-        ensures { result ≡ fronts.is_aligned self }
+        ensures { result ≡ is_aligned self }
     {
         match self {
             Variant::Unaligned => false,

@@ -1,0 +1,58 @@
+//! The sizes that constraints leave to a string, a list or a bag (X.680 51.5), as its encoders and decoders need them.
+ghost use Rattle.std.specs.Prelude.{◌≡◌};
+ghost use Rattle.asn1_model.specs.Oer.{admits};
+ghost use Rattle.asn1_schema_constraints.specs.Bounds.{counts_of};
+ghost use Rattle.asn1_schema_constraints.specs.Terms.{sizes_of, size_of, one_size};
+
+use crate::{Bounded, Constraints};
+
+/// The sizes of the root, and whether an extension mark follows them (X.680 51.5 and 52).
+#[derive(Clone, Copy, Debug, PartialEq, Eq)]
+pub struct Sizes {
+    /// The sizes of the root.
+    pub root: Bounded<usize>,
+    /// Whether an extension mark follows.
+    pub is_extensible: bool,
+}
+
+impl Constraints<'_> {
+    /// The sizes that these constraints leave: all, and no extension mark, where there is no size constraint.
+    #[inline(always)]
+    pub fn sizes(&self) -> Sizes
+        ensures { size_of result ≡ sizes_of self.now.size }
+    {
+        match self.size {
+            None => Sizes {
+                root: Bounded::None,
+                is_extensible: false,
+            },
+            Some(size) => Sizes {
+                root: size.constraint.range,
+                is_extensible: size.extensible.is_some(),
+            },
+        }
+    }
+}
+
+impl Sizes {
+    /// The one size, if the root has no other and no extension mark follows: no length determinant is written then
+    /// (X.696 13, 14 and 27).
+    #[inline(always)]
+    pub fn fixed(&self) -> Option<usize>
+        ensures { result ≡ one_size (size_of self.now) }
+    {
+        match self.root.as_end() {
+            Some(high) if !self.is_extensible && *high == self.root.minimum() => Some(*high),
+            _ => None,
+        }
+    }
+
+    /// Whether a type of the program that holds these numbers holds so many, and the root has so many, or an extension
+    /// mark follows it.
+    #[inline(always)]
+    pub fn admits(&self, held: Bounded<usize>, count: usize) -> bool
+        ensures { result ≡ admits (size_of self.now) (counts_of held) count }
+    {
+        held.contains(&count) && (self.is_extensible || self.root.contains(&count))
+    }
+}
