@@ -32,7 +32,6 @@ module _ (free : Per.Freedom → Bool) (al : Bool) where
   told_of : (b : Bitmap) (xs all : Forms) → covered_by (λ os. Per.counted_octets al os) b xs ≡ Some all → Told xs all
   told_of b xs all e = bitmaps.told_of free (λ os. Per.counted_octets al os) (λ os ps. counted_octets_alike free al os ps) b xs all e
 
-
   -- ---- texts one behind the other
   append_join : (xs : Forms) (ys : List Per.BitForm) → (start mid rest : Place) → Front free (joined (present_ones xs)) start mid → Front free (joined ys) mid rest → Front free (joined (present_ones xs ++ ys)) start rest
   append_join [] ys start mid rest f g = subst (λ l. Front free (joined ys) l rest) (of_nothing free start mid f) g
