@@ -1,7 +1,7 @@
-//! Sizes of strings, and octets by them (X.696 13, 14 and 27).
+//! OCTET STRING, and octets of one size or behind their number (X.696 14 and 27).
 ghost use Rattle.std.specs.Prelude.{◌≡◌, MatchResult};
 ghost use Rattle.asn1_model.specs.Form.{written};
-ghost use Rattle.asn1_model.specs.Oer.{admits as admits_count, is_fixed as has_one_size, octets_form, form};
+ghost use Rattle.asn1_model.specs.Oer.{octets_form, form};
 ghost use Rattle.asn1_model.specs.Schema.{octet_string};
 ghost use Rattle.asn1_model.specs.Value.{octet_list};
 ghost use Rattle.asn1_schema_constraints.specs.Bounds.{counts_of};
@@ -11,27 +11,6 @@ ghost use Rattle.oer_codec_writing.specs.Writing.{Adds, Refuses};
 use crate::lengths::push_counted;
 use asn1_schema_constraints::{Bounded, Constraints};
 use asn1_schema_faults::EncodeError;
-
-/// Whether the program's type holds so many, and a size constraint without a mark admits them.
-pub(crate) fn admits(constraints: Constraints, held: Bounded<usize>, count: usize) -> bool
-    ensures { result ≡ admits_count (sizes_of constraints.entry.size) (counts_of held) count }
-{
-    held.contains(&count)
-        && match constraints.size {
-            None => true,
-            Some(size) => size.extensible.is_some() || size.constraint.range.contains(&count),
-        }
-}
-
-/// Whether there is one size and no mark, so that no length is written.
-pub(crate) fn is_fixed(constraints: Constraints) -> bool
-    ensures { result ≡ has_one_size (sizes_of constraints.entry.size) }
-{
-    match constraints.size {
-        None => false,
-        Some(size) => size.extensible.is_none() && size.constraint.is_fixed(),
-    }
-}
 
 /// Adds octets, behind their number unless there is one size (X.696 14).
 #[inline(always)]
@@ -69,9 +48,10 @@ pub fn push_octet_string(
         (Refuses (written (form (octet_string (sizes_of constraints.entry.size) (counts_of held))
         (octet_list value.now)) 0)) }
 {
-    if !admits(constraints, held, value.len()) {
+    let sizes = constraints.sizes();
+    if !sizes.admits(held, value.len()) {
         return Err(EncodeError::SizeConstraintNotSatisfied);
     }
-    push_sized(octets, is_fixed(constraints), value)?;
+    push_sized(octets, sizes.is_fixed(), value)?;
     Ok(())
 }
