@@ -45,33 +45,33 @@ octet_across os i o a b h n p q small =
     ∙ sym (take_two past o (drop (i * 8 + o) B))
     ∙ ap (λ k. take k (drop (i * 8 + o) B)) all
 
--- .. and the 64 bits
-pub eight_across : (os : List ℕ) (i o e b : ℕ) → o ≤ 8 → i + 8 < length os → binary 64 e ≡ take 64 (drop (i * 8) (octet_bits os)) → b ≡ get_or os (i + 8) b → b < 2 ^ 8 → binary 64 (bit_or (e * 2 ^ o % 2 ^ 64) (b / 2 ^ (8 - o))) ≡ take 64 (drop (i * 8 + o) (octet_bits os))
-eight_across os i o e b h n p q small =
+-- .. and those of several octets
+pub octets_across : (k : ℕ) (os : List ℕ) (i o e b : ℕ) → 0 < k → o ≤ 8 → i + k < length os → binary (k * 8) e ≡ take (k * 8) (drop (i * 8) (octet_bits os)) → b ≡ get_or os (i + k) b → b < 2 ^ 8 → binary (k * 8) (bit_or (e * 2 ^ o % 2 ^ (k * 8)) (b / 2 ^ (8 - o))) ≡ take (k * 8) (drop (i * 8 + o) (octet_bits os))
+octets_across k os i o e b some h n p q small =
     let B : List Bool = octet_bits os in
-    let past : ℕ = 64 - o in
-    let left : o + past ≡ 64 = omega arith in
-    let all : past + o ≡ 64 = omega arith in
+    let past : ℕ = k * 8 - o in
+    let left : o + past ≡ k * 8 = omega arith in
+    let all : past + o ≡ k * 8 = omega arith in
     let high : binary past e ≡ take past (drop (i * 8 + o) B) =
     sym (drop_at (binary o (e / 2 ^ past)) (binary past e) o (length-binary o (e / 2 ^ past)))
-    ∙ ap (drop o) (sym (binary_split o past e) ∙ ap (λ k. binary k e) left ∙ p ∙ ap (λ k. take k (drop (i * 8) B)) (sym left))
+    ∙ ap (drop o) (sym (binary_split o past e) ∙ ap (λ j. binary j e) left ∙ p ∙ ap (λ j. take j (drop (i * 8) B)) (sym left))
     ∙ drop-take o past (drop (i * 8) B) ∙ ap (take past) (drop-drop o (i * 8) B) in
-    let low : take o (drop ((i + 8) * 8) B) ≡ binary o (b / 2 ^ (8 - 0 - o)) = bits_within os ((i + 8) * 8) (i + 8) 0 o b (omega arith) n q (omega arith) in
-    let further : drop past (drop (i * 8 + o) B) ≡ drop ((i + 8) * 8) B = drop-drop past (i * 8 + o) B ∙ ap (λ k. drop k B) (omega arith) in
-    shifted_across 64 o e b (omega arith) h small
+    let low : take o (drop ((i + k) * 8) B) ≡ binary o (b / 2 ^ (8 - 0 - o)) = bits_within os ((i + k) * 8) (i + k) 0 o b (omega arith) n q (omega arith) in
+    let further : drop past (drop (i * 8 + o) B) ≡ drop ((i + k) * 8) B = drop-drop past (i * 8 + o) B ∙ ap (λ j. drop j B) (omega arith) in
+    shifted_across (k * 8) o e b (omega arith) h small
     ∙ ap (λ l. l ++ binary o (b / 2 ^ (8 - o))) high
     ∙ ap (λ l. take past (drop (i * 8 + o) B) ++ l) (sym (ap (take o) further ∙ low))
     ∙ sym (take_two past o (drop (i * 8 + o) B))
-    ∙ ap (λ k. take k (drop (i * 8 + o) B)) all
+    ∙ ap (λ j. take j (drop (i * 8 + o) B)) all
 
--- eight octets more are copied
-pub eight_more : (os ts now : List ℕ) (i o y : ℕ) → octet_bits (take i ts) ≡ take (i * 8) (drop o (octet_bits os)) → binary 64 y ≡ take 64 (drop (i * 8 + o) (octet_bits os)) → take (i + 8) now ≡ take i ts ++ bytes_high_first 8 y → octet_bits (take (i + 8) now) ≡ take ((i + 8) * 8) (drop o (octet_bits os))
-eight_more os ts now i o y e b t =
+-- several octets more are copied
+pub octets_more : (k : ℕ) (os ts now : List ℕ) (i o y : ℕ) → octet_bits (take i ts) ≡ take (i * 8) (drop o (octet_bits os)) → binary (k * 8) y ≡ take (k * 8) (drop (i * 8 + o) (octet_bits os)) → take (i + k) now ≡ take i ts ++ bytes_high_first k y → octet_bits (take (i + k) now) ≡ take ((i + k) * 8) (drop o (octet_bits os))
+octets_more k os ts now i o y e b t =
     let B : List Bool = octet_bits os in
-    let next : drop (i * 8 + o) B ≡ drop (i * 8) (drop o B) = ap (λ k. drop k B) (omega arith) ∙ sym (drop-drop (i * 8) o B) in
-    ap octet_bits t ∙ octet_bits-append (take i ts) (bytes_high_first 8 y) ∙ ap (λ l. l ++ octet_bits (bytes_high_first 8 y)) e
-    ∙ ap (λ l. take (i * 8) (drop o B) ++ l) (high_first 8 y ∙ b ∙ ap (take 64) next)
-    ∙ sym (take_two (i * 8) 64 (drop o B)) ∙ ap (λ k. take k (drop o B)) (omega arith)
+    let next : drop (i * 8 + o) B ≡ drop (i * 8) (drop o B) = ap (λ j. drop j B) (omega arith) ∙ sym (drop-drop (i * 8) o B) in
+    ap octet_bits t ∙ octet_bits-append (take i ts) (bytes_high_first k y) ∙ ap (λ l. l ++ octet_bits (bytes_high_first k y)) e
+    ∙ ap (λ l. take (i * 8) (drop o B) ++ l) (high_first k y ∙ b ∙ ap (take (k * 8)) next)
+    ∙ sym (take_two (i * 8) (k * 8) (drop o B)) ∙ ap (λ j. take j (drop o B)) (omega arith)
 
 -- one octet more is copied
 pub shifted_more : (os ts : List ℕ) (i o y : ℕ) → i < length ts → octet_bits (take i ts) ≡ take (i * 8) (drop o (octet_bits os)) → binary 8 y ≡ take 8 (drop (i * 8 + o) (octet_bits os)) → octet_bits (take (i + 1) (set ts i y)) ≡ take ((i + 1) * 8) (drop o (octet_bits os))

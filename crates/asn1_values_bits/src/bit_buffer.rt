@@ -326,7 +326,6 @@ impl BitBuffer {
         ensures err { OnErr result (self.new ≡ self.old) }
     {
         let before = self.len();
-        self.reserve_bytes(bits.len() / 8)?;
         let few = bits.len().min(free_bits(before) as usize);
         let (first, rest) = bits.split_at(few);
         self.push_view(first)?;

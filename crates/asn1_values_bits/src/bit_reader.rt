@@ -1,6 +1,6 @@
 //! Bits that are read from their front.
 ghost use Rattle.std.specs.Prelude.{◌≡◌, ◌+◌, ◌*◌, ◌%◌, ◌^◌, ◌<◌, ◌≤◌, [], ◌∷◌, length, take, drop, IsTrue, ◌↔◌};
-ghost use Rattle.std.specs.Prelude.{IsSome, IfSome, IfOk, IfErr, IsOk, OnErr, IsOkAnd};
+ghost use Rattle.std.specs.Prelude.{IsSome, IfSome, IfNone, IfOk, IfErr, IsOk, OnErr, IsOkAnd};
 ghost use Rattle.std.specs.Cow.{cow_slice_items, IsBorrowedSlice};
 ghost use Rattle.asn1_model.specs.Numbers.{binary, octet_bits};
 ghost use Rattle.asn1_values_bits.specs.Octets.{filled_up};
@@ -62,6 +62,7 @@ impl<'a> BitReader<'a> {
     }
 
     /// How many bits are unread.
+    #[inline(always)]
     pub fn len(&self) -> usize
         ensures { result ≡ length self.now.bits }
     {
@@ -80,6 +81,7 @@ impl<'a> BitReader<'a> {
     /// # Errors
     ///
     /// How many bits are missing, where there are fewer than `count`; the reader is then as it was.
+    #[inline(always)]
     pub fn split(&mut self, count: usize) -> Result<BitReader<'a>, usize>
         ensures ok { IsOk result ↔ (count ≤ length self.old.bits) }
         ensures front { IfOk result (λ front. front.bits ≡ take count self.old.bits) }
@@ -116,6 +118,7 @@ impl<'a> BitReader<'a> {
     }
 
     /// The first bit.
+    #[inline(always)]
     pub fn first_bit(&self) -> bool
         requires { 0 < length self.now.bits }
         ensures { take 1 self.now.bits ≡ result ∷ [] }
@@ -124,6 +127,7 @@ impl<'a> BitReader<'a> {
     }
 
     /// The number whose binary digits are the first bits, at most 64.
+    #[inline(always)]
     pub fn first_bits(&self, width: u32) -> u64
         requires narrow { width ≤ 64 }
         requires within { width ≤ length self.now.bits }
@@ -137,6 +141,7 @@ impl<'a> BitReader<'a> {
     }
 
     /// The number whose binary digits are the first bits, at most 128.
+    #[inline(always)]
     pub fn first_u128(&self, width: u32) -> u128
         requires narrow { width ≤ 128 }
         requires within { width ≤ length self.now.bits }
@@ -147,6 +152,26 @@ impl<'a> BitReader<'a> {
             return self.window.first_u128(width);
         }
         self.rest.first_number(width)
+    }
+
+    /// Takes the first bits off as a number, at most 64 of them. `None` where there are fewer; the reader is then as it
+    /// was.
+    #[inline(always)]
+    pub fn take_bits(&mut self, width: u32) -> Option<u64>
+        requires { width ≤ 64 }
+        ensures some { IsSome result ↔ (width ≤ length self.old.bits) }
+        ensures digits { IfSome result (λ number. binary width number ≡ take width self.old.bits) }
+        ensures fits { IfSome result (λ number. number < 2 ^ width) }
+        ensures rest { IfSome result (λ _. self.new.bits ≡ drop width self.old.bits) }
+        ensures rest_offset { IfSome result (λ _. self.new.offset ≡ (self.old.offset + width) % 8) }
+        ensures unchanged { IfNone result (self.new ≡ self.old) }
+    {
+        if width > self.window.width() && width as usize > self.rest.len() {
+            return None;
+        }
+        let number = self.first_bits(width);
+        self.pass(width as usize);
+        Some(number)
     }
 
     /// The octets that hold the unread bits, where these begin at an octet and end at one.

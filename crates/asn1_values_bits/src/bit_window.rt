@@ -17,7 +17,7 @@ impl BitWindow {
     ghost use Rattle.asn1_values_bits.specs.BitWindow.{shown};
 
     /// The first bits of a view, up to the end of an octet. It is empty where the view is.
-    #[inline(always)]
+    #[inline(never)]
     pub(crate) fn new(bits: BitStr<'_>) -> Self
         ensures front { shown result ≡ take result.width (bits_of bits.entry) }
         ensures within { result.width ≤ length (bits_of bits.entry) }
