@@ -2,3 +2,4 @@ pub mod Fitting
 pub mod Marks
 pub mod Alike
 pub mod Bitmaps
+pub mod Levels
