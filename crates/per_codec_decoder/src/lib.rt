@@ -15,6 +15,6 @@ mod preamble;
 pub use additions::Additions;
 pub use decoder::Decoder;
 pub use frames::{Enclosing, Ending, Frame, Scopes};
-pub use members::{Part, read_members};
+pub use members::{DueMembers, read_members};
 pub use options::DecoderOptions;
 pub use preamble::{read_bitmap, read_preamble};
