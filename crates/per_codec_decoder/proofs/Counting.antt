@@ -1,23 +1,23 @@
 -- Length determinants of members in front.
-use Rattle.std.proofs.Common.{◌≡◌, ℕ, zero, suc, ◌+◌, ◌-◌, ◌*◌, ◌<◌, ◌≤◌, ltb, leb, Bool, true, false, cond, ◌||◌, ◌&&◌, IsTrue, inl, inr, List, [], ◌∷◌, Option, Some, None, refl, sym, ◌∙◌, ap, subst, arith}
+use Rattle.std.proofs.Common.{◌≡◌, ℕ, zero, ◌-◌, ◌*◌, ◌≤◌, ltb, leb, Bool, true, false, cond, ◌||◌, ◌&&◌, IsTrue, inl, inr, List, [], ◌∷◌, Option, Some, None, refl, sym, ◌∙◌, ap, subst, arith}
 use Rattle.std.proofs.lemmas.Bool.{and_parts, and_from, leb-true, le-leb}
 use Rattle.asn1_model.specs.Schema.{Counts, Size}
 use Rattle.asn1_model.specs.Numbers.{binary, is_count_to, is_count_within}
 use Rattle.asn1_model.specs.Form.{exactly, only_if}
 use Rattle.asn1_model.specs.Per
-use Rattle.asn1_laws_fronts.proofs.Fronts.{agree_first, agree_map, agree_nothing, agree_if_right, agree_varied_right}
+use Rattle.asn1_laws_fronts.proofs.Fronts.{agree_first, agree_if_right, agree_varied_right}
 use Rattle.asn1_laws_fronts.proofs.PerNumbers.{Alike, at_octet_alike, bits_apart, short_length_alike, constrained_alike}
 use Rattle.asn1_schema_faults.specs.declared.DecodeError.{DecodeError}
 use Rattle.asn1_schema_faults.specs.declared.DecodeError.TheVariants.{OutOfMemory, AlreadyFailed}
 use Rattle.per_codec_fronts.specs.Sizes.{extension_bit, told_highest}
-use Rattle.per_codec_fronts.specs.Takes.{Place, Tally, Scope, members, State, Front, InPlace, Admits, in_all, with_fragment, Header, Numbered, Counted, ListBegins, MemberDue, NextMember}
+use Rattle.per_codec_fronts.specs.Takes.{Place, Tally, Scope, members, State, Front, InPlace, Admits, in_all, with_fragment, Header, Counted, MemberDue, NextMember}
 use Rattle.per_codec_fronts.proofs.Fronts.{if_in, if_out, split, join, of_refused}
 use Rattle.per_codec_fronts.proofs.Next.{same_fronts, same_extension_bit}
 use Rattle.per_codec_reading.specs.Fronts.{NoneStands, Misses}
 use Rattle.per_codec_reading.specs.Lengths.{length_form}
 use Rattle.per_codec_reading.specs.declared.lengths.Length.{Length}
 use Rattle.per_codec_reading.specs.declared.lengths.Length.TheVariants.{Short, Fragment}
-use Rattle.per_codec_reading.specs.Sizes.{admitted, determinant_form, heading_form, told_count}
+use Rattle.per_codec_reading.specs.Sizes.{admitted, determinant_form, heading_form}
 use Rattle.per_codec_reading.specs.declared.sizes.Heading.{Heading}
 use Rattle.per_codec_reading.specs.declared.sizes.LengthDeterminant.{LengthDeterminant}
 use Rattle.per_codec_reading.specs.declared.sizes.LengthDeterminant.TheVariants.{Constrained, General}

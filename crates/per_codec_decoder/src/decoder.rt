@@ -130,9 +130,8 @@ impl<'input> Decoder<'input> {
         self.settle(position, answer)
     }
 
-    // The octets of a string (X.680 23) under a size constraint, in a type of the program that holds so many. Where
-    // they stand in the input as they are, in one run (X.691 11.9.4) that begins at an octet of it, they are lent, and
-    // no memory is taken.
+    // The octets of a string (X.680 23) under a size constraint, lent where they stand in the input as they are, in
+    // one run (X.691 11.9.4) that begins at an octet of it.
     #[inline(always)]
     fn find_octets(
         &mut self,

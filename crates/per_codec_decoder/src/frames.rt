@@ -227,9 +227,7 @@ impl<'input> Scopes<'input> {
             return None;
         }
         match &self.innermost {
-            Some(Frame::Components(extension_bit, presence)) if presence.is_empty() => {
-                *extension_bit
-            }
+            Some(Frame::Components(bit, presence)) if presence.is_empty() => *bit,
             _ => None,
         }
     }
@@ -318,8 +316,7 @@ impl<'input> Scopes<'input> {
         Some(place)
     }
 
-    /// Whether a member of the innermost list is still to come, behind the next length determinant where none is due
-    /// before it.
+    /// Whether a member of the innermost list is still to come, behind the next length determinant if none is due.
     ///
     /// # Errors
     ///

@@ -1,6 +1,5 @@
-//! The decoder of the packed encoding rules (X.691), unaligned and aligned, and what is open in it: what begins and
-//! ends, the scalar types between, and what stands in front of components, additions and members: the preambles of
-//! sequences, sets and groups, the bitmaps of additions, and the numbers of members.
+//! The decoder of the packed encoding rules (X.691), unaligned and aligned, and what is open in it: the preambles of
+//! sequences, sets and groups, the bitmaps of additions, and the members that are due.
 #![tactic(auto)]
 
 mod additions;

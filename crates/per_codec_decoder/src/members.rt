@@ -16,8 +16,8 @@ use per_codec_reading::{Cursor, FRAGMENT, LengthDeterminant, Variant, is_admitte
 use std::alloc::Global;
 use std::marker::Model;
 
-/// What is known of a list in fragments (X.691 11.9.3.8): how many members there may be, whether their number is marked
-/// as outside the root, and how many times 16384 members each fragment so far has.
+/// What is known of a list in fragments (X.691 11.9.3.8): how many members there may be, whether their number is
+/// marked as outside the root, and how many times 16384 members each fragment so far has.
 #[derive(Drop)]
 pub(crate) struct Tally {
     sizes: Sizes,
@@ -86,19 +86,15 @@ impl Tally {
         match length {
             Length::Fragment(multiple) => {
                 self.fragments.push(multiple as u8)?;
-                Ok(DueMembers {
-                    due: multiple * FRAGMENT,
-                    tally: Some(self),
-                })
+                let due = multiple * FRAGMENT;
+                let tally = Some(self);
+                Ok(DueMembers { due, tally })
             }
-            Length::Short(last) => {
-                if !self.admits(last) {
+            Length::Short(due) => {
+                if !self.admits(due) {
                     return Err(DecodeError::SizeConstraintNotSatisfied);
                 }
-                Ok(DueMembers {
-                    due: last,
-                    tally: None,
-                })
+                Ok(DueMembers { due, tally: None })
             }
         }
     }
@@ -203,10 +199,9 @@ pub fn read_members(
     ensures fresh { IfErr result IsFresh }
 {
     let heading = read_heading(cursor, variant, sizes)?;
-    let is_outside = heading.is_outside;
     match heading.determinant {
         LengthDeterminant::Constrained(due) => {
-            if !is_admitted(sizes.root, held, is_outside, due) {
+            if !is_admitted(sizes.root, held, heading.is_outside, due) {
                 return Err(DecodeError::SizeConstraintNotSatisfied);
             }
             Ok(DueMembers { due, tally: None })
@@ -215,7 +210,7 @@ pub fn read_members(
             let tally = Tally {
                 sizes,
                 held,
-                is_outside,
+                is_outside: heading.is_outside,
                 fragments: Vec::new(alloc),
             };
             tally.behind(length)
