@@ -1,21 +1,27 @@
--- Headers and numbers of members in front.
-use Rattle.std.proofs.Common.{◌≡◌, ℕ, zero, suc, ◌+◌, ◌-◌, ◌*◌, ◌<◌, ◌≤◌, ltb, leb, Bool, true, false, cond, ◌||◌, ◌&&◌, IsTrue, inl, inr, List, [], ◌∷◌, Option, Some, None, refl, sym, ◌∙◌, ap, subst, arith}
-use Rattle.std.proofs.lemmas.Bool.{and_parts, leb-true, le-leb}
+-- Length determinants of members in front.
+use Rattle.std.proofs.Common.{◌≡◌, ℕ, zero, ◌-◌, ◌*◌, ◌≤◌, ltb, leb, Bool, true, false, cond, ◌||◌, ◌&&◌, IsTrue, inl, inr, List, [], ◌∷◌, Option, Some, None, refl, sym, ◌∙◌, ap, subst, arith}
+use Rattle.std.proofs.lemmas.Bool.{and_parts, and_from, leb-true, le-leb}
 use Rattle.asn1_model.specs.Schema.{Counts, Size}
 use Rattle.asn1_model.specs.Numbers.{binary, is_count_to, is_count_within}
 use Rattle.asn1_model.specs.Form.{exactly, only_if}
 use Rattle.asn1_model.specs.Per
-use Rattle.asn1_laws_fronts.proofs.Fronts.{agree_first, agree_map, agree_nothing, agree_if_right, agree_varied_right}
+use Rattle.asn1_laws_fronts.proofs.Fronts.{agree_first, agree_if_right, agree_varied_right}
 use Rattle.asn1_laws_fronts.proofs.PerNumbers.{Alike, at_octet_alike, bits_apart, short_length_alike, constrained_alike}
 use Rattle.asn1_schema_faults.specs.declared.DecodeError.{DecodeError}
 use Rattle.asn1_schema_faults.specs.declared.DecodeError.TheVariants.{OutOfMemory, AlreadyFailed}
-use Rattle.per_codec_fronts.specs.Takes.{Place, Tally, Scope, members, State, Front, InPlace, Admits, in_all, with_fragment, Header, Headed, Numbered, ByHighest, Counted, SizeMark, MemberDue, NextMember}
-use Rattle.per_codec_fronts.proofs.Fronts.{if_in, if_out}
-use Rattle.per_codec_fronts.proofs.Next.{same_fronts}
+use Rattle.per_codec_fronts.specs.Sizes.{extension_bit, told_highest}
+use Rattle.per_codec_fronts.specs.Takes.{Place, Tally, Scope, members, State, Front, InPlace, Admits, in_all, with_fragment, Header, Counted, MemberDue, NextMember}
+use Rattle.per_codec_fronts.proofs.Fronts.{if_in, if_out, split, join, of_refused}
+use Rattle.per_codec_fronts.proofs.Next.{same_fronts, same_extension_bit}
 use Rattle.per_codec_reading.specs.Fronts.{NoneStands, Misses}
 use Rattle.per_codec_reading.specs.Lengths.{length_form}
+use Rattle.per_codec_reading.specs.declared.lengths.Length.{Length}
 use Rattle.per_codec_reading.specs.declared.lengths.Length.TheVariants.{Short, Fragment}
-use Rattle.per_codec_decoder.specs.Members.{IsHeaded, HasMembers, HasNumber, NoMembers, NoHeader, NoFurther, NoNumber}
+use Rattle.per_codec_reading.specs.Sizes.{admitted, determinant_form, heading_form}
+use Rattle.per_codec_reading.specs.declared.sizes.Heading.{Heading}
+use Rattle.per_codec_reading.specs.declared.sizes.LengthDeterminant.{LengthDeterminant}
+use Rattle.per_codec_reading.specs.declared.sizes.LengthDeterminant.TheVariants.{Constrained, General}
+use Rattle.per_codec_decoder.specs.Members.{HasMembers, NoMembers, NoHeader, NoFurther}
 
 -- want of memory aside, what is missed does not stand in front
 pub missed : {X : Type 0} (free : Per.Freedom → Bool) (f : X → Per.BitForm) (a : Place) (e : DecodeError) → Misses free f a e → ¬ (e ≡ OutOfMemory) → NoneStands free f a
@@ -30,10 +36,15 @@ between h most n top e = let p = and_parts _ _ e in (leb-true h.low n p.0, leb-t
 pub untrue : false ≡ true → ⊥
 untrue e = cc
 
-size_is : (z : Size) (cs : Counts) (e : Bool) → cs ≡ z.counts → e ≡ z.extensible → record { counts = cs; extensible = e } ≡ z
-size_is z cs e i j =
-    ap (λ (c : Counts). let s : Size = record { counts = c; extensible = e } in s) i
-    ∙ ap (λ (x : Bool). let s : Size = record { counts = z.counts; extensible = x } in s) j
+-- a count is told in the root alone, and by its highest
+told_inside : (o : Bool) (high : Option ℕ) (x : ℕ) → told_highest o high ≡ Some x → (o ≡ false) × (high ≡ Some x)
+told_inside true high x e = cc
+told_inside false None x e = cc
+told_inside false (Some y) x e = (refl, go (ltb y 65536) e)
+  where
+    go : (t : Bool) → cond t (Some y) None ≡ Some x → Some y ≡ Some x
+    go true e = e
+    go false e = cc
 
 module _ (free : Per.Freedom → Bool) (al : Bool) where
   -- ---- headers
@@ -64,10 +75,12 @@ module _ (free : Per.Freedom → Bool) (al : Bool) where
   out_of_place true t e = refl
 
   abbrev pub MayBe : Tally → ℕ → Type 0
-  MayBe t n = (is_count_within t.held n ≡ true) × ((t.outside || is_count_within t.size.counts n) ≡ true)
+  MayBe t n = admitted t.held t.size.counts t.outside n ≡ true
 
   pub last_header : (t : Tally) (a b : Place) (n : ℕ) → IsTrue (free Per.root_marked_outside) → IsTrue (free Per.other_fragments) → Front free (Per.short_length al n) a b → MayBe t (in_all t.sizes n) → Header al free t a b n None
-  last_header t a b n f o g m = inr ((m.0, in_place t.outside (is_count_within t.size.counts (in_all t.sizes n)) f m.1), inr o, g, refl)
+  last_header t a b n f o g m =
+      let p = and_parts (is_count_within t.held (in_all t.sizes n)) (t.outside || is_count_within t.size.counts (in_all t.sizes n)) m in
+      inr ((p.0, in_place t.outside (is_count_within t.size.counts (in_all t.sizes n)) f p.1), inr o, g, refl)
 
   pub other_last : (t : Tally) (a b : Place) (n : ℕ) (e : DecodeError) → Front free (Per.short_length al n) a b → (MayBe t (in_all t.sizes n) → ⊥) → NoHeader al free t a e
   other_last t a b n e f w = record { none = λ i c due hs g. go c due hs g }
@@ -78,7 +91,7 @@ module _ (free : Per.Freedom → Bool) (al : Bool) where
           let q = same_fronts free (short_length_alike free al n due) a b c f x.2 in
           let j : n ≡ due = q.0 in
           let g : Admits free t.size t.held t.outside (in_all t.sizes n) = subst (λ k. Admits free t.size t.held t.outside (in_all t.sizes k)) (sym j) x.0 in
-          w (g.0, out_of_place t.outside (is_count_within t.size.counts (in_all t.sizes n)) g.1)
+          w (and_from _ _ g.0 (out_of_place t.outside (is_count_within t.size.counts (in_all t.sizes n)) g.1))
 
   -- where no member is due behind a header, none stands behind these
   pub last_of : (t : Tally) (a b : Place) (due : ℕ) (hs : Option Tally) → Header al free t a b due hs → due ≡ 0 → hs ≡ None
@@ -99,96 +112,100 @@ module _ (free : Per.Freedom → Bool) (al : Bool) where
         h.none i f.2 f.0 f.1 f.3;
   }
 
-  -- ---- numbers of members
-  pub no_number : (c h : Counts) (span high : ℕ) (a : Place) (e : DecodeError) → span ≡ high - c.low → Misses free (Per.constrained al span) a e → NoNumber al free c h high a e
-  no_number c h span high a e q m = record { none = λ i n b g. missed free (Per.constrained al span) a e m i (n - c.low) b (subst (λ s. Front free (Per.constrained al s (n - c.low)) a b) (sym q) g.2) }
-
-  pub other_number : (c h : Counts) (span high d : ℕ) (a b : Place) (e : DecodeError) → span ≡ high - c.low → Front free (Per.constrained al span d) a b → (m : ℕ) → m ≡ c.low → false ≡ is_count_within h (m + d) → NoNumber al free c h high a e
-  other_number c h span high d a b e q f low t w = record {
-    none = λ i n m g.
-        let x : Front free (Per.constrained al span (n - c.low)) a m = subst (λ s. Front free (Per.constrained al s (n - c.low)) a m) (sym q) g.2 in
-        let p = same_fronts free (constrained_alike free al span d (n - c.low)) a b m f x in
-        let j : d ≡ n - c.low = p.0 in
-        let l = leb-true c.low n ((and_parts (leb c.low n) (is_count_to c.high n) g.1).0) in
-        let k : n ≡ low + d = omega (arith, j, l, t) in
-        untrue (w ∙ subst (λ y. is_count_within h y ≡ true) k g.0);
-  }
-
-  -- ---- lists
-  below : (high : ℕ) → high < 65536 → ltb high 65536 ≡ true
-  below high l = le-leb (suc high) 65536 l
-
-  numbered : (z : Size) (h : Counts) (high n : ℕ) (mid b : Place) (k : List Scope) → z.counts.high ≡ Some high → high < 65536 → HasNumber al free z.counts h high n mid b → Counted al free z h false z.counts.high mid k (b, members n None ∷ k)
-  numbered z h high n mid b k e l g =
-      let m : Numbered al free z h high mid k (b, members n None ∷ k) = (n, (g.0, g.1), g.2, refl) in
-      subst (λ o. Counted al free z h false o mid k (b, members n None ∷ k)) (sym e) (subst (λ t. ByHighest al free z h t high mid k (b, members n None ∷ k)) (sym (below high l)) m)
-
-  marks_same : (e o u : Bool) (a b c : Place) → SizeMark free e o a b → SizeMark free e u a c → (o ≡ u) × (b ≡ c)
-  marks_same false o u a b c f g = (f.0 ∙ sym g.0, f.1 ∙ sym g.1)
-  marks_same true o u a b c f g = same_fronts free (agree_first free (λ e. agree_map free (λ q. e) (agree_nothing free))) a b c f g
-
-  no_numbered : (z : Size) (h : Counts) (high : ℕ) (a mid : Place) (e : DecodeError) → SizeMark free z.extensible false a mid → z.counts.high ≡ Some high → high < 65536 → NoNumber al free z.counts h high mid e → NoMembers al free z h a e
-  no_numbered z h high a mid e s t l m = record {
-    none = λ i n k b g.
-        let q = marks_same z.extensible g.1 false a g.2 mid g.3 s in
-        let x : Counted al free z h false z.counts.high mid k b = subst (λ p. Counted al free z h false z.counts.high p k b) q.1 (subst (λ o. Counted al free z h o z.counts.high g.2 k b) q.0 g.4) in
-        let y : ByHighest al free z h (ltb high 65536) high mid k b = subst (λ o. Counted al free z h false o mid k b) t x in
-        let w : Numbered al free z h high mid k b = subst (λ t. ByHighest al free z h t high mid k b) (below high l) y in
-        m.none i w.0 b.0 (w.1.0, w.1.1, w.2);
-  }
-
+  -- ---- what stands in front of members
   abbrev begun : Size → Counts → Bool → Tally
   begun z h out = record { size = z; held = h; outside = out; sizes = [] }
 
-  past : (high : ℕ) → 65536 ≤ high → ltb high 65536 ≡ false
-  past high l = cases (ltb high 65536) refl
+  abbrev Told : Size → Bool → Option ℕ
+  Told z out = told_highest out z.counts.high
+
+  abbrev First : Size → Heading → Place → Place → Type 0
+  First z hd a b = Front free (heading_form al z hd) a b
+
+  parts_of : (z : Size) (hd : Heading) (d : LengthDeterminant) (a b : Place) → hd.determinant ≡ d → First z hd a b → (mid : Place) × Front free (extension_bit z.extensible hd.is_outside) a mid × Front free (determinant_form al z.counts (Told z hd.is_outside) d) mid b
+  parts_of z hd d a b e f =
+      let s = split free (extension_bit z.extensible hd.is_outside) (determinant_form al z.counts (Told z hd.is_outside) hd.determinant) a b f in
+      (s.0, s.1, subst (λ x. Front free (determinant_form al z.counts (Told z hd.is_outside) x) s.0 b) e s.2)
+
+  -- their number
+  pub numbered : (z : Size) (h : Counts) (hd : Heading) (n : ℕ) (a b : Place) → hd.determinant ≡ Constrained n → admitted h z.counts hd.is_outside n ≡ true → First z hd a b → HasMembers al free z h n None a b
+  numbered z h hd n a b e m f =
+      let s = parts_of z hd (Constrained n) a b e f in
+      (hd.is_outside, s.0, s.1, go (Told z hd.is_outside) refl s.0 s.2)
     where
-      cases : (t : Bool) → ltb high 65536 ≡ t → ltb high 65536 ≡ false
-      cases true e = absurd (let k = leb-true (suc high) 65536 e in omega (arith, k, l))
-      cases false e = e
+      go : (told : Option ℕ) → Told z hd.is_outside ≡ told → (mid : Place) → Front free (determinant_form al z.counts told (Constrained n)) mid b → (k : List Scope) → Counted al free z h hd.is_outside told mid k (b, members n None ∷ k)
+      go None t mid f k = absurd (of_refused free mid b f)
+      go (Some x) t mid f k =
+          let p = and_parts (is_count_within h n) (hd.is_outside || is_count_within z.counts n) m in
+          let i : is_count_within z.counts n ≡ true = subst (λ o. (o || is_count_within z.counts n) ≡ true) ((told_inside hd.is_outside z.counts.high x t).0) p.1 in
+          (n, (p.0, i), (if_out free (leb z.counts.low n && leb n x) _ mid b f).1, refl)
 
-  headed_in : (z : Size) (h : Counts) (out : Bool) (o : Option ℕ) (a : Place) (k : List Scope) (b : State) → IsHeaded out o → Headed al free z h out a k b → Counted al free z h out o a k b
-  headed_in z h true o a k b w g = g
-  headed_in z h false None a k b w g = g
-  headed_in z h false (Some high) a k b w g = subst (λ t. ByHighest al free z h t high a k b) (sym (past high w)) g
+  -- or the length of a fragment or a last one
+  pub headed_by : (z : Size) (h : Counts) (hd : Heading) (l : Length) (ss : List ℕ) (due : ℕ) (hs : Option Tally) (a b : Place) → hd.determinant ≡ General l → ss ≡ [] → First z hd a b → ((c : Place) → Front free (length_form al l) c b → Header al free (record { size = z; held = h; outside = hd.is_outside; sizes = ss }) c b due hs) → HasMembers al free z h due hs a b
+  headed_by z h hd l ss due hs a b e q f g =
+      let s = parts_of z hd (General l) a b e f in
+      (hd.is_outside, s.0, s.1, go (Told z hd.is_outside) s.0 s.2)
+    where
+      go : (told : Option ℕ) (mid : Place) → Front free (determinant_form al z.counts told (General l)) mid b → (k : List Scope) → Counted al free z h hd.is_outside told mid k (b, members due hs ∷ k)
+      go None mid f k = (due, hs, subst (λ (t : List ℕ). Header al free (record { size = z; held = h; outside = hd.is_outside; sizes = t }) mid b due hs) q (g mid f), refl)
+      go (Some x) mid f k = absurd (of_refused free mid b f)
 
-  headed_out : (z : Size) (h : Counts) (out : Bool) (o : Option ℕ) (a : Place) (k : List Scope) (b : State) → IsHeaded out o → Counted al free z h out o a k b → Headed al free z h out a k b
-  headed_out z h true o a k b w g = g
-  headed_out z h false None a k b w g = g
-  headed_out z h false (Some high) a k b w g = subst (λ t. ByHighest al free z h t high a k b) (past high w) g
+  -- ---- why nothing does
+  -- a length determinant is the first thing behind an extension bit
+  counted_headed : (z : Size) (h : Counts) (out : Bool) (told : Option ℕ) (mid : Place) (k : List Scope) (b : State) → told_highest out z.counts.high ≡ told → Counted al free z h out told mid k b → (d : LengthDeterminant) × Front free (determinant_form al z.counts told d) mid b.0
+  counted_headed z h out None mid k b t g = by_header g.0 g.1 g.2
+    where
+      by_header : (due : ℕ) (hs : Option Tally) → Header al free (begun z h out) mid b.0 due hs → (d : LengthDeterminant) × Front free (determinant_form al z.counts None d) mid b.0
+      by_header due hs (inl x) = (General (Fragment x.0), if_in free (leb 1 x.0 && leb x.0 4) (Per.at_octet al (exactly (true ∷ true ∷ binary 6 x.0))) mid b.0 x.1 x.2)
+      by_header due hs (inr x) = (General (Short due), x.2)
+  counted_headed z h out (Some x) mid k b t g =
+      let p = between z.counts x g.0 ((told_inside out z.counts.high x t).1) g.1.1 in
+      (Constrained g.0, if_in free (leb z.counts.low g.0 && leb g.0 x) _ mid b.0 (and_from _ _ (le-leb _ _ p.0) (le-leb _ _ p.1)) g.2)
 
-  marked : (z : Size) (h : Counts) (out : Bool) (t : Tally) (a b : Place) (k : List Scope) (due : ℕ) (hs : Option Tally) → IsHeaded out z.counts.high → t ≡ begun z h out → Header al free t a b due hs → Counted al free z h out z.counts.high a k (b, members due hs ∷ k)
-  marked z h out t a b k due hs w e g = headed_in z h out z.counts.high a k (b, members due hs ∷ k) w (due, hs, subst (λ (u : Tally). Header al free u a b due hs) e g, refl)
-
-  no_marked : (z : Size) (h : Counts) (out : Bool) (t : Tally) (a mid : Place) (e : DecodeError) → IsHeaded out z.counts.high → t ≡ begun z h out → SizeMark free z.extensible out a mid → NoHeader al free t mid e → NoMembers al free z h a e
-  no_marked z h out t a mid e w j s m = record {
+  pub no_heading : (z : Size) (h : Counts) (a : Place) (e : DecodeError) → Misses free (heading_form al z) a e → NoMembers al free z h a e
+  no_heading z h a e m = record {
     none = λ i n k b g.
-        let q = marks_same z.extensible g.1 out a g.2 mid g.3 s in
-        let x : Counted al free z h out z.counts.high mid k b = subst (λ p. Counted al free z h out z.counts.high p k b) q.1 (subst (λ o. Counted al free z h o z.counts.high g.2 k b) q.0 g.4) in
-        let y = headed_out z h out z.counts.high mid k b w x in
-        m.none i b.0 y.0 y.1 (subst (λ (u : Tally). Header al free u mid b.0 y.0 y.1) (sym j) y.2);
+        let d = counted_headed z h g.1 (Told z g.1) g.2 k b refl g.4 in
+        missed free (heading_form al z) a e m i (record { is_outside = g.1; determinant = d.0 }) b.0 (join free (extension_bit z.extensible g.1) (determinant_form al z.counts (Told z g.1) d.0) a g.2 b.0 g.3 d.1);
   }
 
-  pub no_list_mark : (z : Size) (h : Counts) (a : Place) (e : DecodeError) → ((o : Bool) (b : Place) → SizeMark free z.extensible o a b → ⊥) → NoMembers al free z h a e
-  no_list_mark z h a e m = record { none = λ i n k b g. m g.1 g.2 g.3 }
+  -- behind the same extension bit
+  abbrev Begun : Size → Counts → Bool → Place → List Scope → State → Type 0
+  Begun z h out mid k b = Counted al free z h out (Told z out) mid k b
 
-  -- ---- what stands in front of members, by what is known of the size
-  module _ (z : Size) (h : Counts) (cs : Counts) (e o : Bool) (a mid : Place) (i : cs ≡ z.counts) (j : e ≡ z.extensible) (m : SizeMark free e o a mid) where
-    own : Size
-    own = record { counts = cs; extensible = e }
+  same_bit : (z : Size) (h : Counts) (out o : Bool) (a mid m : Place) (k : List Scope) (b : State) → Front free (extension_bit z.extensible out) a mid → Front free (extension_bit z.extensible o) a m → Begun z h o m k b → Begun z h out mid k b
+  same_bit z h out o a mid m k b f g c =
+      let q = same_extension_bit free z.extensible o out a m mid g f in
+      subst (λ p. Begun z h out p k b) q.1 (subst (λ t. Begun z h t m k b) q.0 c)
 
-    pub in_number : (high n : ℕ) (b : Place) → (o ≡ false) × (cs.high ≡ Some high) × (high < 65536) → HasNumber al free cs h high n mid b → HasMembers al free z h n None a b
-    unfolding own
-    in_number high n b s g = subst (λ y. HasMembers al free y h n None a b) (size_is z cs e i j) (false, mid, subst (λ p. SizeMark free e p a mid) s.0 m, λ k. numbered own h high n mid b k s.1 s.2 g)
+  pub not_so_many : (z : Size) (h : Counts) (hd : Heading) (n : ℕ) (a b : Place) (e : DecodeError) → hd.determinant ≡ Constrained n → false ≡ admitted h z.counts hd.is_outside n → First z hd a b → NoMembers al free z h a e
+  not_so_many z h hd n a b e d w f =
+      let s = parts_of z hd (Constrained n) a b d f in
+      record { none = λ i j k c g. go (Told z hd.is_outside) s.0 s.2 k c (same_bit z h hd.is_outside g.1 a s.0 g.2 k c s.1 g.3 g.4) }
+    where
+      or_right : (o t : Bool) → t ≡ true → (o || t) ≡ true
+      or_right true t e = refl
+      or_right false t e = e
 
-    pub no_such_number : (high : ℕ) (x : DecodeError) → (o ≡ false) × (cs.high ≡ Some high) × (high < 65536) → NoNumber al free cs h high mid x → NoMembers al free z h a x
-    unfolding own
-    no_such_number high x s g = subst (λ y. NoMembers al free y h a x) (size_is z cs e i j) (no_numbered own h high a mid x (subst (λ p. SizeMark free e p a mid) s.0 m) s.1 s.2 g)
+      go : (told : Option ℕ) (mid : Place) → Front free (determinant_form al z.counts told (Constrained n)) mid b → (k : List Scope) (c : State) → Counted al free z h hd.is_outside told mid k c → ⊥
+      go None mid f k c g = of_refused free mid b f
+      go (Some x) mid f k c g =
+          let r = if_out free (leb z.counts.low n && leb n x) (Per.constrained al (x - z.counts.low) (n - z.counts.low)) mid b f in
+          let p = same_fronts free (constrained_alike free al (x - z.counts.low) (n - z.counts.low) (g.0 - z.counts.low)) mid b c.0 r.1 g.2 in
+          let j : n - z.counts.low ≡ g.0 - z.counts.low = p.0 in
+          let l = leb-true z.counts.low n ((and_parts (leb z.counts.low n) (leb n x) r.0).0) in
+          let u = leb-true z.counts.low g.0 ((and_parts (leb z.counts.low g.0) (is_count_to z.counts.high g.0) g.1.1).0) in
+          let y : g.0 ≡ n = omega (arith, j, l, u) in
+          let v = subst (λ m. Admits free z h false m) y g.1 in
+          untrue (w ∙ and_from (is_count_within h n) (hd.is_outside || is_count_within z.counts n) v.0 (or_right hd.is_outside (is_count_within z.counts n) v.1))
 
-    pub in_header : (ss : List ℕ) (due : ℕ) (hs : Option Tally) (b : Place) → IsHeaded o cs.high → ss ≡ [] → Header al free (record { size = record { counts = cs; extensible = e }; held = h; outside = o; sizes = ss }) mid b due hs → HasMembers al free z h due hs a b
-    unfolding own
-    in_header ss due hs b w q g = subst (λ y. HasMembers al free y h due hs a b) (size_is z cs e i j) (o, mid, m, λ k. marked own h o _ mid b k due hs w (ap (λ (t : List ℕ). let u : Tally = record { size = own; held = h; outside = o; sizes = t } in u) q) g)
-
-    pub no_such_header : (ss : List ℕ) (x : DecodeError) → IsHeaded o cs.high → ss ≡ [] → NoHeader al free (record { size = record { counts = cs; extensible = e }; held = h; outside = o; sizes = ss }) mid x → NoMembers al free z h a x
-    unfolding own
-    no_such_header ss x w q g = subst (λ y. NoMembers al free y h a x) (size_is z cs e i j) (no_marked own h o _ a mid x w (ap (λ (t : List ℕ). let u : Tally = record { size = own; held = h; outside = o; sizes = t } in u) q) m g)
+  pub no_list_header : (z : Size) (h : Counts) (hd : Heading) (l : Length) (ss : List ℕ) (a b : Place) (e : DecodeError) → hd.determinant ≡ General l → ss ≡ [] → First z hd a b → ((c : Place) → Front free (length_form al l) c b → NoHeader al free (record { size = z; held = h; outside = hd.is_outside; sizes = ss }) c e) → NoMembers al free z h a e
+  no_list_header z h hd l ss a b e d q f n =
+      let s = parts_of z hd (General l) a b d f in
+      record { none = λ i j k c g. go i (Told z hd.is_outside) s.0 s.2 k c (same_bit z h hd.is_outside g.1 a s.0 g.2 k c s.1 g.3 g.4) }
+    where
+      go : ¬ (e ≡ OutOfMemory) → (told : Option ℕ) (mid : Place) → Front free (determinant_form al z.counts told (General l)) mid b → (k : List Scope) (c : State) → Counted al free z h hd.is_outside told mid k c → ⊥
+      go i None mid f k c g =
+          let m : NoHeader al free (begun z h hd.is_outside) mid e = subst (λ (t : List ℕ). NoHeader al free (record { size = z; held = h; outside = hd.is_outside; sizes = t }) mid e) q (n mid f) in
+          m.none i c.0 g.0 g.1 g.2
+      go i (Some x) mid f k c g = of_refused free mid b f

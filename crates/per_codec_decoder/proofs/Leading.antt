@@ -3,7 +3,7 @@ use Rattle.std.proofs.Common.{◌≡◌, ℕ, suc, ◌+◌, ◌<◌, Bool, true,
 use Rattle.asn1_model.specs.Form.{Reads, exactly, is_present}
 use Rattle.asn1_model.specs.Per
 use Rattle.asn1_schema_finding.specs.Marks.{preamble_bits}
-use Rattle.per_codec_fronts.specs.Takes.{Place, Scope, components, Front, SizeMark}
+use Rattle.per_codec_fronts.specs.Takes.{Place, Scope, components, Front}
 use Rattle.per_codec_reading.specs.Fronts.{Leads}
 use Rattle.per_codec_reading.proofs.Fronts.{leads_join}
 use Rattle.per_codec_reading.specs.Fronts.{NoneStands}
@@ -61,12 +61,8 @@ pub no_presence : (free : Per.Freedom → Bool) (e : Bool) (n : ℕ) (x : Option
 no_presence free e n x a m (components y ms) b p l none h = none ms b (bits_read free n ms m b h.1 (behind_mark x y ms a m b (p ∙ sym h.0) l (leads_of free (preamble_bits y ms) a b h.2)))
 no_presence free e n x a m s b p l none h = h
 
-pub missing_mark : (free : Per.Freedom → Bool) (e : Bool) (n : ℕ) (s : Scope) (a b : Place) → e ≡ true → a.1 ≡ [] → HasPreamble free e n s a b → ⊥
-missing_mark free e n s a b t z g =
+pub missing_bit : (free : Per.Freedom → Bool) (e : Bool) (n : ℕ) (s : Scope) (a b : Place) → e ≡ true → a.1 ≡ [] → HasPreamble free e n s a b → ⊥
+missing_bit free e n s a b t z g =
     let l = ap length z in
     let none : length a.1 ≡ 0 = l in
     no_preamble free e n s a b (subst (λ c. length a.1 < cond c 1 0 + n) (sym t) (omega (arith, none))) g
-
--- ---- the mark of a size
-pub no_mark : (free : Per.Freedom → Bool) (o : Bool) (a b : Place) → a.1 ≡ [] → SizeMark free true o a b → ⊥
-no_mark free o a b e f = let l = ap length e in too_many (o ∷ []) a b (leads_of free (o ∷ []) a b f) (omega (arith, l))

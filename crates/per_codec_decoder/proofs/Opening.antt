@@ -28,8 +28,8 @@ use Rattle.asn1_laws_fronts.proofs.PerNumbers.{constrained_alike}
 use Rattle.asn1_laws_fronts.proofs.Units.{small_alike}
 use Rattle.per_codec_fronts.proofs.Fronts.{split, if_out}
 use Rattle.per_codec_reading.specs.Runs.{Storage, storage_inside}
-use Rattle.per_codec_reading.specs.Sizes.{size_mark}
-use Rattle.per_codec_reading.proofs.SizedFronts.{mark_one}
+use Rattle.per_codec_fronts.specs.Sizes.{extension_bit}
+use Rattle.per_codec_fronts.proofs.Next.{same_extension_bit}
 use Rattle.per_codec_reading_values.specs.Places.{place_form, added_form, root_form}
 use Rattle.per_codec_reading_values.proofs.PlaceFronts.{root_told, added_told, root_is, added_is}
 use Rattle.per_codec_reading_values.specs.Fields.{octets_form}
@@ -82,18 +82,18 @@ asked_bag : (al : Bool) (free : Per.Freedom → Bool) (z : Size) (h : Counts) (a
 asked_bag al free z h a b (bag_begins y i n) k t = let p : bag_begins y i n ≡ bag_begins z h n = cc k in (n, subst (λ r. Takes al free a r b) p t)
 asked_bag al free z h a b r k t = cc k
 
-pub no_list : (old : Held) (z : Size) (h : Counts) (x : DecodeError) → NotMembers old z h x → NoLevel Finds (asks_list z h) old.levels old x
-no_list old z h x m = record {
+pub no_list : (old : Held) (z y : Size) (h : Counts) (x : DecodeError) → y ≡ z → NotMembers old y h x → NoLevel Finds (asks_list z h) old.levels old x
+no_list old z y h x e m = record {
   none = λ i l r new k p.
       let t = asked_list (is_aligned old.variant) (freedoms old.variant) z h (state_of old) (state_of new) r k p.taken in
-      (m p.ready l).none i t.0 old.scopes (state_of new) t.1;
+      (subst (λ s. NotMembers old s h x) e m p.ready l).none i t.0 old.scopes (state_of new) t.1;
 }
 
-pub no_bag : (old : Held) (z : Size) (h : Counts) (x : DecodeError) → NotMembers old z h x → NoLevel Finds (asks_bag z h) old.levels old x
-no_bag old z h x m = record {
+pub no_bag : (old : Held) (z y : Size) (h : Counts) (x : DecodeError) → y ≡ z → NotMembers old y h x → NoLevel Finds (asks_bag z h) old.levels old x
+no_bag old z y h x e m = record {
   none = λ i l r new k p.
       let t = asked_bag (is_aligned old.variant) (freedoms old.variant) z h (state_of old) (state_of new) r k p.taken in
-      (m p.ready l).none i t.0 old.scopes (state_of new) t.1;
+      (subst (λ s. NotMembers old s h x) e m p.ready l).none i t.0 old.scopes (state_of new) t.1;
 }
 
 -- ---- sequences, sets and groups
@@ -431,9 +431,9 @@ behind_one free al n m false false i j p b c e f g = (same_fronts free (constrai
 
 place_one : (free : Per.Freedom → Bool) (al : Bool) (n : ℕ) (e : Bool) (m : ℕ) (c d : Chosen) (a b b' : Place) → Front free (place_form al n e m c) a b → Front free (place_form al n e m d) a b' → (c.added ≡ d.added) × (b ≡ b')
 place_one free al n e m c d a b b' f g =
-    let s = split free (size_mark e c.added) (cond c.added (added_form al m c.place) (root_form al n c.place)) a b f in
-    let u = split free (size_mark e d.added) (cond d.added (added_form al m d.place) (root_form al n d.place)) a b' g in
-    let q = mark_one free e c.added d.added a s.0 u.0 s.1 u.1 in
+    let s = split free (extension_bit e c.added) (cond c.added (added_form al m c.place) (root_form al n c.place)) a b f in
+    let u = split free (extension_bit e d.added) (cond d.added (added_form al m d.place) (root_form al n d.place)) a b' g in
+    let q = same_extension_bit free e c.added d.added a s.0 u.0 s.1 u.1 in
     let h = subst (λ (p : Place). Front free (cond d.added (added_form al m d.place) (root_form al n d.place)) p b') (sym q.1) u.2 in
     (q.0, behind_one free al n m c.added d.added c.place d.place s.0 b b' q.0 s.2 h)
 

@@ -1,5 +1,5 @@
 -- How a decoder goes on behind what a reader found, and fails as it did.
-use Rattle.std.proofs.Common.{◌≡◌, ℕ, zero, suc, ◌+◌, ltb, Bool, true, false, IsTrue, inl, inr, List, [], ◌∷◌, ◌++◌, Option, Some, None, Result, Ok, Err, IfOk, IfErr, refl, sym, ◌∙◌, ap, subst, arith}
+use Rattle.std.proofs.Common.{◌≡◌, ℕ, zero, suc, ◌+◌, Bool, IsTrue, inl, inr, List, [], ◌∷◌, ◌++◌, Option, Some, None, Result, Ok, Err, IfOk, IfErr, refl, sym, ◌∙◌, ap, subst, arith}
 use Rattle.std.specs.Prelude.{OnOk}
 use Rattle.asn1_schema_presented.specs.Levels.{level}
 use Rattle.asn1_model.specs.Schema.{Counts, Size, Alphabet, StringKind, Schema, character_string}
@@ -7,7 +7,8 @@ use Rattle.asn1_model.specs.Per
 use Rattle.asn1_schema_decode.specs.Reads.{NoRecord}
 use Rattle.asn1_schema_faults.specs.declared.DecodeError.{DecodeError}
 use Rattle.asn1_schema_presented.specs.Records.{Record, Question, question, further, asks_characters}
-use Rattle.per_codec_fronts.specs.Takes.{Place, Scope, members, State, Tally, Front, Found, Header, ByHighest, Counted, SizeMark, NextMember, MemberDue, completion, Takes}
+use Rattle.per_codec_fronts.specs.Sizes.{told_highest}
+use Rattle.per_codec_fronts.specs.Takes.{Place, Scope, members, State, Tally, Front, Found, Header, Counted, NextMember, MemberDue, completion, Takes}
 use Rattle.per_codec_reading.specs.Fronts.{freedoms, is_aligned, Leads, Misses}
 use Rattle.per_codec_reading.specs.Runs.{Storage}
 use Rattle.per_codec_reading.proofs.Fronts.{leads_join}
@@ -95,23 +96,14 @@ module _ (free : Per.Freedom → Bool) (al : Bool) where
   member_led v a (members (suc n) hs ∷ k) b g = let e = due_led v (suc n) hs a k b g in subst (λ (p : Place). Led a p) (sym e) (stay a)
   member_led v a s b g = absurd g
 
-  highest_led : (z : Size) (h : Counts) (t : Bool) (high : ℕ) (a : Place) (k : List Scope) (b : State) → ByHighest al free z h t high a k b → Led a b.0
-  highest_led z h true high a k b g = led _ a b.0 g.2
-  highest_led z h false high a k b g = header_led _ a b.0 g.0 g.1 g.2
-
-  counted_led : (z : Size) (h : Counts) (out : Bool) (o : Option ℕ) (a : Place) (k : List Scope) (b : State) → Counted al free z h out o a k b → Led a b.0
-  counted_led z h true o a k b g = header_led _ a b.0 g.0 g.1 g.2
-  counted_led z h false None a k b g = header_led _ a b.0 g.0 g.1 g.2
-  counted_led z h false (Some high) a k b g = highest_led z h (ltb high 65536) high a k b g
-
-  mark_led : (e out : Bool) (a b : Place) → SizeMark free e out a b → Led a b
-  mark_led false out a b g = subst (λ (p : Place). Led a p) (sym g.1) (stay a)
-  mark_led true out a b g = led _ a b g
+  counted_led : (z : Size) (h : Counts) (out : Bool) (told : Option ℕ) (a : Place) (k : List Scope) (b : State) → Counted al free z h out told a k b → Led a b.0
+  counted_led z h out None a k b g = header_led _ a b.0 g.0 g.1 g.2
+  counted_led z h out (Some high) a k b g = led _ a b.0 g.2
 
   pub members_led : (z : Size) (h : Counts) (due : ℕ) (hs : Option Tally) (a b : Place) → HasMembers al free z h due hs a b → Led a b
   members_led z h due hs a b g =
-      let i = mark_led z.extensible g.0 a g.1 g.2 in
-      let j = counted_led z h g.0 z.counts.high g.1 [] (b, members due hs ∷ []) (g.3 []) in
+      let i = led _ a g.1 g.2 in
+      let j = counted_led z h g.0 (told_highest g.0 z.counts.high) g.1 [] (b, members due hs ∷ []) (g.3 []) in
       (i.0 ++ j.0, leads_join i.0 j.0 a g.1 b i.1 j.1)
 
 -- where such a reader went on
@@ -205,3 +197,7 @@ settled_at now new free x here there n p q f m = moves_there now new free x here
 pub err_of : {T : Type 0} (P : DecodeError → Type 0) (answer : Result T DecodeError) (x : DecodeError) → Err x ≡ answer → IfErr answer P → P x
 err_of P (Err y) x e p = let k : x ≡ y = cc in subst P (sym k) p
 err_of P (Ok y) x e p = cc
+
+-- why none is found, under sizes that mean the same
+pub none_as : (old : Held) (q : Size → Question) (z y : Size) (x : DecodeError) → z ≡ y → NoRecord Finds (q z) old x → NoRecord Finds (q y) old x
+none_as old q z y x e n = subst (λ s. NoRecord Finds (q s) old x) e n

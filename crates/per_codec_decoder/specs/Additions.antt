@@ -4,13 +4,13 @@ use Rattle.asn1_schema_finding.specs.Marks.{first_bits}
 use Rattle.per_codec_decoder.specs.declared.additions.Additions.{Additions}
 
 -- The presence bits of the type's own additions: those past the bitmap are absent.
-abbrev pub own_marks : Additions → List Bool
-own_marks a = first_bits a.left a.bitmap.place.1
+abbrev pub own_presence : Additions → List Bool
+own_presence a = first_bits a.left a.bitmap.place.1
 
 -- The presence bits of unknown ones.
-abbrev pub unknown_marks : Additions → List Bool
-unknown_marks a = drop a.left a.bitmap.place.1
+abbrev pub unknown_presence : Additions → List Bool
+unknown_presence a = drop a.left a.bitmap.place.1
 
 -- This is the next presence bit.
 abbrev pub TellsOf : Bool → Additions → Additions → Type 0
-TellsOf v old new = (own_marks old ≡ v ∷ own_marks new) × (unknown_marks new ≡ unknown_marks old)
+TellsOf v old new = (own_presence old ≡ v ∷ own_presence new) × (unknown_presence new ≡ unknown_presence old)

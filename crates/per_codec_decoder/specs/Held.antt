@@ -9,7 +9,7 @@ use Rattle.asn1_schema_presented.specs.Records.{Record, octets, addition, additi
 use Rattle.asn1_schema_presented.specs.Levels.{level}
 use Rattle.per_codec_reading.specs.Fronts.{freedoms, is_aligned, Leads}
 use Rattle.per_codec_reading.specs.Runs.{Storage, storage_inside, EndsAtOctet, InOneRun}
-use Rattle.per_codec_reading.specs.Sizes.{surely_told}
+use Rattle.per_codec_reading.specs.Sizes.{told_in_front}
 use Rattle.per_codec_limits.specs.declared.variant.Variant.{Variant}
 use Rattle.per_codec_limits.specs.declared.variant.Variant.TheVariants.{Unaligned, Aligned}
 use Rattle.per_codec_fronts.specs.Takes.{Place, Scope, State, Tally, members, open_type, Opens, Takes}
@@ -180,7 +180,8 @@ NoOpening old x = ¬ (x ≡ OutOfMemory) → (k : List Scope) (b : State)
     → Opens (is_aligned old.variant) (freedoms old.variant) old.place k b → ⊥
 
 -- The octets of a string stand in the input as they are: in one run (X.691 11.9.4) that ends, and so begins, at an
--- octet of it.
+-- octet of it. What is in front tells whether their number is in the root: an extension bit, where there is one.
 abbrev pub Lends : Held → Record → Held → Type 0
-Lends old (octets z h os) new = InOneRun (surely_told z) (length os) × EndsAtOctet (innermost old.stands) new.place.0
+Lends old (octets z h os) new = InOneRun (told_in_front z old.place.1) (length os)
+    × EndsAtOctet (innermost old.stands) new.place.0
 Lends old r new = ⊥

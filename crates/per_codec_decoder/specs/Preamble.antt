@@ -8,7 +8,7 @@ use Rattle.asn1_schema_faults.specs.declared.DecodeError.TheVariants.{OutOfMemor
 use Rattle.asn1_schema_finding.specs.Marks.{preamble_bits}
 use Rattle.per_codec_fronts.specs.Takes.{Place, Scope, components, Front}
 
--- The bit of the mark, if there is one, and so many presence bits, and the scope that they open.
+-- The extension bit, if there is one, and so many presence bits, and the scope that they open.
 abbrev pub HasPreamble : (Per.Freedom → Bool) → Bool → ℕ → Scope → Place → Place → Type 0
 HasPreamble free e n (components x ms) a b = (is_present x ≡ e) × (length ms ≡ n)
     × Front free (exactly (preamble_bits x ms)) a b
@@ -18,7 +18,7 @@ HasPreamble free e n s a b = ⊥
 abbrev pub NoPreamble : (Per.Freedom → Bool) → Bool → ℕ → Place → DecodeError → Type 0
 NoPreamble free e n a x = ¬ (x ≡ OutOfMemory) → (s : Scope) (b : Place) → HasPreamble free e n s a b → ⊥
 
--- The bitmap of additions (X.691 19.7), where the bit of the mark is set.
+-- The bitmap of additions (X.691 19.7), where the extension bit is set.
 abbrev pub HasBitmap : (Per.Freedom → Bool) → Bool → Bool → List Bool → Place → Place → Type 0
 HasBitmap free al false bs a b = (bs ≡ []) × (b ≡ a)
 HasBitmap free al true bs a b = Front free (Per.normally_few al (Per.bit_units bs)) a b

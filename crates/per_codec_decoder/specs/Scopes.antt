@@ -4,7 +4,7 @@ use Rattle.asn1_model.specs.Per
 use Rattle.per_codec_fronts.specs.Takes.{Place, State, Scope, components, added, open_type, members, alternative}
 use Rattle.per_codec_fronts.specs.Takes.{AdditionsBegin, NextAddition, AdditionEnds, Ends}
 use Rattle.per_codec_reading.specs.Runs.{Storage}
-use Rattle.per_codec_decoder.specs.Additions.{own_marks, unknown_marks}
+use Rattle.per_codec_decoder.specs.Additions.{own_presence, unknown_presence}
 use Rattle.per_codec_decoder.specs.declared.frames.Frame.{Frame}
 use Rattle.per_codec_decoder.specs.declared.frames.Frame.TheVariants.{Components, Added, OpenType, Members, Alternative}
 use Rattle.per_codec_decoder.specs.declared.frames.Enclosing.{Enclosing}
@@ -15,7 +15,7 @@ use Rattle.per_codec_decoder.specs.declared.frames.Ending.TheVariants.{Nothing, 
 -- An open scope.
 abbrev pub scope_of : Frame → Scope
 scope_of (Components x r) = components x r.place.1
-scope_of (Added a) = added (own_marks a) (unknown_marks a)
+scope_of (Added a) = added (own_presence a) (unknown_presence a)
 scope_of (OpenType p) = open_type p.place
 scope_of (Members p) = members p.due p.tally
 scope_of Alternative = alternative
@@ -71,9 +71,9 @@ abbrev pub stands_in : Frame → List Storage → List Storage
 stands_in (OpenType p) l = beneath p.storage l
 stands_in f l = l
 
--- All root components of the innermost sequence or set have passed, and this is the bit of its mark.
-abbrev pub HasMark : Bool → List Scope → Type 0
-HasMark m s = (k : List Scope) × (s ≡ components (Some m) [] ∷ k)
+-- All root components of the innermost sequence or set have passed, and this is its extension bit.
+abbrev pub HasExtensionBit : Bool → List Scope → Type 0
+HasExtensionBit m s = (k : List Scope) × (s ≡ components (Some m) [] ∷ k)
 
 -- No additions come here.
 abbrev pub NoAdditions : List Scope → Type 0

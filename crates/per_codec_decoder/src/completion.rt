@@ -1,4 +1,4 @@
-//! What fills up a message (X.691 11.1).
+//! The padding of a message (X.691 11.1).
 ghost use Rattle.std.specs.Prelude.{OnOk, IfErr, IsTrue};
 ghost use Rattle.asn1_model.specs.Per;
 ghost use Rattle.per_codec_fronts.specs.Takes.{Front, completion, Closes};
@@ -8,7 +8,7 @@ ghost use Rattle.per_codec_decoder.specs.Endings.{IsClosed};
 use asn1_schema_faults::DecodeError;
 use per_codec_reading::Cursor;
 
-/// Passes over what fills up a message behind its value: any bits up to the next octet, or one zero octet where the
+/// Passes over the padding of a message behind its value: any bits up to the next octet, or one zero octet where the
 /// value has no bits.
 ///
 /// # Errors
@@ -27,11 +27,11 @@ pub(crate) fn read_completion(cursor: &mut Cursor<'_>) -> Result<(), DecodeError
         }
         return Ok(());
     }
-    let _filling = cursor.take((8 - cursor.position() % 8) % 8)?;
+    let _padding = cursor.take((8 - cursor.position() % 8) % 8)?;
     Ok(())
 }
 
-/// Passes over what stands behind the value in an open type (X.691 11.2): what fills it up, and any octets behind that.
+/// Passes over what stands behind the value in an open type (X.691 11.2): its padding, and any octets behind that.
 ///
 /// # Errors
 ///

@@ -10,7 +10,7 @@ ghost use Rattle.per_codec_decoder.specs.Scopes.{scope_of, stands_in};
 ghost use Rattle.asn1_schema_constraints.specs.Bounds.{counts_of, members_of};
 ghost use Rattle.asn1_schema_decode.specs.Reads.{NoRecord};
 ghost use Rattle.asn1_schema_presented.specs.Records.{octets, asks_octets};
-ghost use Rattle.asn1_schema_constraints.specs.Terms.{sizes_of};
+ghost use Rattle.asn1_schema_constraints.specs.Terms.{size_of};
 ghost use Rattle.asn1_model.specs.Numbers.{octet_bits, is_count_within};
 ghost use Rattle.asn1_values_bits.specs.BitStr.{bits_of};
 ghost use Rattle.per_codec_fronts.specs.Takes.{alternative, Front, completion};
@@ -22,7 +22,7 @@ use crate::options::DecoderOptions;
 use crate::{
     Additions, Enclosing, Ending, Frame, Scopes, read_bitmap, read_members, read_preamble,
 };
-use asn1_schema_constraints::{Bounded, Constraints};
+use asn1_schema_constraints::{Bounded, Constraints, Sizes};
 use asn1_schema_faults::{CodecKind, DecodeError};
 use asn1_schema_tags::Tag;
 use asn1_schema_variants::{Chosen, Enumerated};
@@ -105,7 +105,7 @@ impl<'input> Decoder<'input> {
         self.place.bits()
     }
 
-    /// Passes over what fills up a message behind its value (X.691 11.1): bits up to the next octet, or the one octet
+    /// Passes over the padding of a message behind its value (X.691 11.1): bits up to the next octet, or the one octet
     /// of a value of no bits.
     ///
     /// # Errors
@@ -130,25 +130,24 @@ impl<'input> Decoder<'input> {
         self.settle(position, answer)
     }
 
-    // The octets of a string (X.680 23) under a size constraint, in a type of the program that holds so many. Where
-    // they stand in the input as they are, in one run (X.691 11.9.4) that begins at an octet of it, they are lent, and
-    // no memory is taken.
+    // The octets of a string (X.680 23) under a size constraint, lent where they stand in the input as they are, in
+    // one run (X.691 11.9.4) that begins at an octet of it.
     #[inline(always)]
     fn find_octets(
         &mut self,
         alloc: Global,
-        constraints: Constraints,
+        sizes: Sizes,
         held: Bounded<usize>,
     ) -> Result<CowSlice<'input, u8>, DecodeError>
         ensures ok { IfOk result (λ x. Finds self.old
-            (octets (sizes_of constraints.entry.size) (counts_of held) (cow_slice_items x)) self.new) }
+            (octets (size_of sizes) (counts_of held) (cow_slice_items x)) self.new) }
         ensures held { IfOk result (λ x. is_count_within (counts_of held) (length (cow_slice_items x)) ≡ true) }
         ensures lent { IfOk result (λ x. Lends self.old
-            (octets (sizes_of constraints.entry.size) (counts_of held) (cow_slice_items x)) self.new
+            (octets (size_of sizes) (counts_of held) (cow_slice_items x)) self.new
             → IsBorrowedSlice x) }
         ensures level { OnOk result (self.new.levels ≡ self.old.levels) }
         ensures only { IfErr result (NoRecord Finds
-            (asks_octets (sizes_of constraints.entry.size) (counts_of held)) self.old) }
+            (asks_octets (size_of sizes) (counts_of held)) self.old) }
         ensures failed { OnErr result (HasFailed self.new) }
         ensures already { HasFailed self.old → result ≡ Err DecodeError.AlreadyFailed }
         ensures after { result ≡ Err DecodeError.AlreadyFailed → HasFailed self.old }
@@ -156,18 +155,11 @@ impl<'input> Decoder<'input> {
         self.begin_record()?;
         let mut cursor = self.place.cursor();
         if let Some(bits) = self.place.lent_bits() {
-            let lent = read_octet_string_in(
-                alloc,
-                bits,
-                &mut cursor,
-                self.variant,
-                constraints,
-                held,
-            );
+            let lent = read_octet_string_in(alloc, bits, &mut cursor, self.variant, sizes, held);
             let position = cursor.position();
             return self.settle(position, lent);
         }
-        let answer = read_held_octets(alloc, &mut cursor, self.variant, constraints, held);
+        let answer = read_held_octets(alloc, &mut cursor, self.variant, sizes, held);
         let position = cursor.position();
         let octets = self.settle(position, answer)?;
         Ok(CowSlice::Owned(octets))
@@ -287,13 +279,9 @@ impl<'input> Decoder<'input> {
     }
 
     // Begins a list or bag.
-    fn enter_members(
-        &mut self,
-        constraints: Constraints,
-        held: Bounded<usize>,
-    ) -> Result<(), DecodeError>
-        ensures ok { OnOk result (EntersMembers self.old (sizes_of constraints.entry.size) (members_of held) self.new) }
-        ensures only { IfErr result (NotMembers self.old (sizes_of constraints.entry.size) (members_of held)) }
+    fn enter_members(&mut self, sizes: Sizes, held: Bounded<usize>) -> Result<(), DecodeError>
+        ensures ok { OnOk result (EntersMembers self.old (size_of sizes) (members_of held) self.new) }
+        ensures only { IfErr result (NotMembers self.old (size_of sizes) (members_of held)) }
         ensures failed { OnErr result (self.new.failed ≡ true) }
         ensures already { self.old.failed ≡ true → result ≡ Err DecodeError.AlreadyFailed }
         ensures after { result ≡ Err DecodeError.AlreadyFailed → self.old.failed ≡ true }
@@ -304,10 +292,10 @@ impl<'input> Decoder<'input> {
         }
         let alloc = self.scopes.allocator();
         let mut cursor = self.place.cursor();
-        let answer = read_members(alloc, &mut cursor, self.variant, constraints, held);
+        let answer = read_members(alloc, &mut cursor, self.variant, sizes, held);
         let position = cursor.position();
-        let part = self.settle(position, answer)?;
-        self.enter(Frame::Members(part))
+        let members = self.settle(position, answer)?;
+        self.enter(Frame::Members(members))
     }
 
     // Begins a sequence, set or group.
@@ -361,9 +349,9 @@ impl<'input> Decoder<'input> {
     {
         match ending {
             Ending::Nothing => Ok(()),
-            Ending::Unknown(marks) => {
+            Ending::Unknown(presence) => {
                 let mut cursor = self.place.cursor();
-                skip_unknown(&mut cursor, self.variant, marks)?;
+                skip_unknown(&mut cursor, self.variant, presence)?;
                 let position = cursor.position();
                 self.place.move_to(position);
                 Ok(())
@@ -457,7 +445,8 @@ impl<'input> asn1_schema_decode::Decoder for Decoder<'input> {
     ) -> Result<BitString, DecodeError> {
         self.begin_record()?;
         let mut cursor = self.place.cursor();
-        let answer = read_bit_string(alloc, &mut cursor, self.variant, constraints, held);
+        let sizes = constraints.sizes();
+        let answer = read_bit_string(alloc, &mut cursor, self.variant, sizes, held);
         let position = cursor.position();
         self.settle(position, answer)
     }
@@ -470,7 +459,7 @@ impl<'input> asn1_schema_decode::Decoder for Decoder<'input> {
         constraints: Constraints,
         held: Bounded<usize>,
     ) -> Result<CowSlice<'input, u8>, DecodeError> {
-        self.find_octets(alloc, constraints, held)
+        self.find_octets(alloc, constraints.sizes(), held)
     }
 
     fn decode_utf8_string(
@@ -517,7 +506,7 @@ impl<'input> asn1_schema_decode::Decoder for Decoder<'input> {
         constraints: Constraints,
         held: Bounded<usize>,
     ) -> Result<(), DecodeError> {
-        self.enter_members(constraints, held)
+        self.enter_members(constraints.sizes(), held)
     }
 
     fn begin_bag(
@@ -526,7 +515,7 @@ impl<'input> asn1_schema_decode::Decoder for Decoder<'input> {
         constraints: Constraints,
         held: Bounded<usize>,
     ) -> Result<(), DecodeError> {
-        self.enter_members(constraints, held)
+        self.enter_members(constraints.sizes(), held)
     }
 
     #[inline(always)]
@@ -564,7 +553,7 @@ impl<'input> asn1_schema_decode::Decoder for Decoder<'input> {
     #[inline(always)]
     fn get_mark(&mut self) -> Result<bool, DecodeError> {
         self.begin_record()?;
-        match self.scopes.next_mark() {
+        match self.scopes.next_presence_bit() {
             Some(present) => Ok(present),
             None => Err(self.fail(DecodeError::NotValidCanonicalEncoding)),
         }
@@ -582,11 +571,11 @@ impl<'input> asn1_schema_decode::Decoder for Decoder<'input> {
 
     fn begin_additions(&mut self, count: usize) -> Result<(), DecodeError> {
         self.begin_record()?;
-        let Some(mark) = self.scopes.mark() else {
+        let Some(is_extended) = self.scopes.extension_bit() else {
             return Err(self.fail(DecodeError::NotValidCanonicalEncoding));
         };
         let alloc = self.scopes.allocator();
-        match read_bitmap(alloc, &mut self.place, self.variant, mark) {
+        match read_bitmap(alloc, &mut self.place, self.variant, is_extended) {
             Ok(bitmap) => {
                 let left = count;
                 self.scopes

@@ -5,11 +5,11 @@ ghost use Rattle.per_codec_reading.specs.Fronts.{freedoms, is_aligned, IsFresh};
 ghost use Rattle.per_codec_decoder.specs.Members.{NoFurther};
 ghost use Rattle.per_codec_decoder.specs.Scopes.{behind_around, behind_frame, behind_in, behind_of, scope_of};
 ghost use Rattle.per_codec_decoder.specs.Scopes.{scope_around, scopes_in, scopes_of};
-ghost use Rattle.per_codec_decoder.specs.Scopes.{HasMark, NoAdditions, Flags, NoFlag, Leaves, LeavesBehind, NoEnd};
-ghost use Rattle.per_codec_decoder.specs.Scopes.{LeavesAddition, NoAdditionEnd, IsAdded};
+ghost use Rattle.per_codec_decoder.specs.Scopes.{HasExtensionBit, NoAdditions, Flags, NoFlag, Leaves, LeavesBehind};
+ghost use Rattle.per_codec_decoder.specs.Scopes.{LeavesAddition, NoAdditionEnd, NoEnd, IsAdded};
 
 use crate::additions::Additions;
-use crate::members::Part;
+use crate::members::DueMembers;
 use asn1_schema_faults::DecodeError;
 use per_codec_reading::{Cursor, Variant};
 use per_codec_reading_values::Stretch;
@@ -20,15 +20,15 @@ use std::mem::replace;
 /// What has begun and has not ended.
 #[derive(Drop)]
 pub enum Frame<'input> {
-    /// The components of a sequence, set or group (X.691 19): the bit of its mark of extensibility, if it has a mark,
-    /// and the presence bits that are still to come.
+    /// The components of a sequence, set or group (X.691 19): its extension bit, if it has one, and the presence bits
+    /// that are still to come.
     Components(Option<bool>, Stretch<'input>),
     /// The additions of a sequence or set (X.691 19.7) that are still to come.
     Added(Additions<'input>),
     /// An addition, or an added alternative (X.691 11.2): the place behind its open type.
     OpenType(Stretch<'input>),
     /// The members of a list (X.691 20): those that are due.
-    Members(Part),
+    Members(DueMembers),
     /// An alternative of the root of a choice (X.691 23).
     Alternative,
 }
@@ -49,7 +49,7 @@ pub enum Ending<'input> {
     Nothing,
     /// The unknown additions that these presence bits tell of (X.691 19.8).
     Unknown(Stretch<'input>),
-    /// What fills up an open type, behind which is this place (X.691 11.2).
+    /// The padding of an open type, behind which is this place (X.691 11.2).
     OpenType(Stretch<'input>),
 }
 
@@ -204,7 +204,7 @@ impl<'input> Scopes<'input> {
 
     /// The next presence bit of the innermost sequence, set or group, if one is due.
     #[inline(always)]
-    pub fn next_mark(&mut self) -> Option<bool>
+    pub fn next_presence_bit(&mut self) -> Option<bool>
         ensures some { IfSome result (λ present. (p : _) → NextMark present p self.old.scopes (p, self.new.scopes)) }
         ensures behind { self.new.behind ≡ self.old.behind }
         ensures none { IfNone result ((present : _) (p : _) (b : _) → NextMark present p self.old.scopes b → ⊥) }
@@ -218,23 +218,23 @@ impl<'input> Scopes<'input> {
         }
     }
 
-    /// The bit of the mark of extensibility of the innermost sequence or set, all of whose root components have passed.
-    pub fn mark(&self) -> Option<bool>
-        ensures some { IfSome result (λ mark. HasMark mark self.now.scopes) }
+    /// The extension bit of the innermost sequence or set, all of whose root components have passed.
+    pub fn extension_bit(&self) -> Option<bool>
+        ensures some { IfSome result (λ bit. HasExtensionBit bit self.now.scopes) }
         ensures none { IfNone result (NoAdditions self.now.scopes) }
     {
         if self.enclosing.is_some() {
             return None;
         }
         match &self.innermost {
-            Some(Frame::Components(mark, presence)) if presence.is_empty() => *mark,
+            Some(Frame::Components(bit, presence)) if presence.is_empty() => *bit,
             _ => None,
         }
     }
 
     /// The innermost sequence or set, all of whose root components have passed, gives place to another scope.
     pub fn replace(&mut self, frame: Frame<'input>)
-        requires { (mark : _) × HasMark mark self.old.scopes }
+        requires { (bit : _) × HasExtensionBit bit self.old.scopes }
         ensures scopes { (s : _) (k : _) → self.old.scopes ≡ s ∷ k → self.new.scopes ≡ scope_of frame.entry ∷ k }
         ensures behind { self.new.behind ≡ behind_frame frame.entry self.old.behind }
     {
@@ -316,11 +316,11 @@ impl<'input> Scopes<'input> {
         Some(place)
     }
 
-    /// Whether a member of the innermost list is still to come, behind the next header where none is due before it.
+    /// Whether a member of the innermost list is still to come, behind the next length determinant if none is due.
     ///
     /// # Errors
     ///
-    /// Those of a header, and `SizeConstraintNotSatisfied` if all members are not as many as there may be.
+    /// Those of a length, and `SizeConstraintNotSatisfied` if all members are not as many as there may be.
     #[inline(always)]
     pub fn next_member(
         &mut self,
@@ -337,7 +337,7 @@ impl<'input> Scopes<'input> {
             return Err(DecodeError::NotValidCanonicalEncoding);
         }
         match &mut self.innermost {
-            Some(Frame::Members(part)) => part.next(cursor, variant),
+            Some(Frame::Members(members)) => members.next(cursor, variant),
             _ => Err(DecodeError::NotValidCanonicalEncoding),
         }
     }
@@ -367,8 +367,8 @@ impl<'input> Scopes<'input> {
                 Some(Ending::Unknown(additions.bitmap))
             }
             Some(Frame::OpenType(place)) => Some(Ending::OpenType(place)),
-            Some(Frame::Members(part)) => {
-                if !part.is_last() {
+            Some(Frame::Members(members)) => {
+                if !members.is_last() {
                     return None;
                 }
                 Some(Ending::Nothing)

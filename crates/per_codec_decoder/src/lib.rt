@@ -1,6 +1,5 @@
-//! The decoder of the packed encoding rules (X.691), unaligned and aligned, and what is open in it: what begins and
-//! ends, the scalar types between, and what stands in front of components, additions and members: the preambles of
-//! sequences, sets and groups, the bitmaps of additions, and the numbers of members.
+//! The decoder of the packed encoding rules (X.691), unaligned and aligned, and what is open in it: the preambles of
+//! sequences, sets and groups, the bitmaps of additions, and the members that are due.
 #![tactic(auto)]
 
 mod additions;
@@ -15,6 +14,6 @@ mod preamble;
 pub use additions::Additions;
 pub use decoder::Decoder;
 pub use frames::{Enclosing, Ending, Frame, Scopes};
-pub use members::{Part, read_members};
+pub use members::{DueMembers, read_members};
 pub use options::DecoderOptions;
 pub use preamble::{read_bitmap, read_preamble};

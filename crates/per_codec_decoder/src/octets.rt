@@ -5,11 +5,11 @@ ghost use Rattle.asn1_model.specs.Per as Per;
 ghost use Rattle.asn1_model.specs.Schema as Asn1;
 ghost use Rattle.asn1_model.specs.Value as Asn1Value;
 ghost use Rattle.asn1_schema_constraints.specs.Bounds.{counts_of};
-ghost use Rattle.asn1_schema_constraints.specs.Terms.{sizes_of};
+ghost use Rattle.asn1_schema_constraints.specs.Terms.{size_of};
 ghost use Rattle.per_codec_fronts.specs.Takes.{Front};
 ghost use Rattle.per_codec_reading.specs.Fronts.{freedoms, is_aligned, Misses};
 
-use asn1_schema_constraints::{Bounded, Constraints};
+use asn1_schema_constraints::{Bounded, Sizes};
 use asn1_schema_faults::DecodeError;
 use per_codec_reading::{Cursor, Variant, read_octet_string};
 use std::alloc::Global;
@@ -23,17 +23,17 @@ pub(crate) fn read_held_octets(
     alloc: Global,
     cursor: &mut Cursor<'_>,
     variant: Variant,
-    constraints: Constraints,
+    sizes: Sizes,
     held: Bounded<usize>,
 ) -> Result<Vec<u8>, DecodeError>
     ensures ok { IfOk result (λ octets. Front (freedoms variant)
-        (Per.form (is_aligned variant) (Asn1.octet_string (sizes_of constraints.entry.size) (counts_of held))
+        (Per.form (is_aligned variant) (Asn1.octet_string (size_of sizes) (counts_of held))
         (Asn1Value.octet_list octets.items)) cursor.old cursor.new) }
     ensures only { IfErr result (Misses (freedoms variant)
-        (Per.form (is_aligned variant) (Asn1.octet_string (sizes_of constraints.entry.size) (counts_of held)))
+        (Per.form (is_aligned variant) (Asn1.octet_string (size_of sizes) (counts_of held)))
         cursor.old) }
 {
-    let octets = read_octet_string(alloc, cursor, variant, constraints, held)?;
+    let octets = read_octet_string(alloc, cursor, variant, sizes, held)?;
     let octets = octets.into_owned(alloc)?;
     Ok(octets)
 }

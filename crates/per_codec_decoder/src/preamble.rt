@@ -18,7 +18,7 @@ use std::alloc::Global;
 /// # Errors
 ///
 /// `Incomplete` if there is none.
-pub(crate) fn read_bit(cursor: &mut Cursor<'_>) -> Result<bool, DecodeError>
+fn read_bit(cursor: &mut Cursor<'_>) -> Result<bool, DecodeError>
     ensures ok { IfOk result (λ bit. Leads (bit ∷ []) cursor.old cursor.new) }
     ensures only { IfErr result (λ _. cursor.old.1 ≡ []) }
     ensures fresh { IfErr result IsFresh }
@@ -27,15 +27,18 @@ pub(crate) fn read_bit(cursor: &mut Cursor<'_>) -> Result<bool, DecodeError>
     Ok(BitReader::new(bits).first_bit())
 }
 
-/// Reads the bit of a mark of extensibility, if there is one.
+/// Reads the extension bit, if there is one.
 ///
 /// # Errors
 ///
 /// `Incomplete` if there is no bit.
 #[inline(always)]
-fn read_mark(place: &mut Stretch<'_>, extensible: bool) -> Result<Option<bool>, DecodeError>
-    ensures mark { IfOk result (λ mark. is_present mark ≡ extensible) }
-    ensures bits { IfOk result (λ mark. Leads (preamble_bits mark []) place.old.place place.new.place) }
+fn read_extension_bit(
+    place: &mut Stretch<'_>,
+    extensible: bool,
+) -> Result<Option<bool>, DecodeError>
+    ensures there { IfOk result (λ bit. is_present bit ≡ extensible) }
+    ensures bits { IfOk result (λ bit. Leads (preamble_bits bit []) place.old.place place.new.place) }
     ensures storage { OnOk result (place.new.storage ≡ place.old.storage) }
     ensures only { IfErr result (λ _. (extensible ≡ true) × (place.old.place.1 ≡ [])) }
     ensures fresh { IfErr result IsFresh }
@@ -50,8 +53,8 @@ fn read_mark(place: &mut Stretch<'_>, extensible: bool) -> Result<Option<bool>, 
     Ok(Some(bit))
 }
 
-/// Reads the preamble of a sequence, set or group, with or without a mark of extensibility, of which so many components
-/// may be absent: the bit of the mark, if there is one, and the presence bits.
+/// Reads the preamble of a sequence, set or group, with or without an extension mark, of which so many components may
+/// be absent: the extension bit, if there is one, and the presence bits.
 ///
 /// # Errors
 ///
@@ -71,13 +74,12 @@ pub fn read_preamble<'input>(
     ensures only { IfErr result (NoPreamble (freedoms variant) extensible optional place.old.place) }
     ensures fresh { IfErr result IsFresh }
 {
-    let mark = read_mark(place, extensible)?;
+    let extension_bit = read_extension_bit(place, extensible)?;
     let presence = place.take_field(alloc, variant, Field::Bits(optional))?;
-    Ok(Frame::Components(mark, presence))
+    Ok(Frame::Components(extension_bit, presence))
 }
 
-/// Reads the bitmap of the additions of a sequence or set (X.691 19.7), if the mark of extensibility tells that there
-/// is one.
+/// Reads the bitmap of the additions of a sequence or set (X.691 19.7), if the extension bit tells that there is one.
 ///
 /// # Errors
 ///
@@ -86,15 +88,15 @@ pub fn read_bitmap<'input>(
     alloc: Global,
     place: &mut Stretch<'input>,
     variant: Variant,
-    mark: bool,
+    is_extended: bool,
 ) -> Result<Stretch<'input>, DecodeError>
     ensures ok { IfOk result (λ bitmap. HasBitmap (freedoms variant)
-        (is_aligned variant) mark bitmap.place.1 place.old.place place.new.place) }
+        (is_aligned variant) is_extended bitmap.place.1 place.old.place place.new.place) }
     ensures storage { OnOk result (place.new.storage ≡ place.old.storage) }
-    ensures only { IfErr result (NoBitmap (freedoms variant) (is_aligned variant) mark place.old.place) }
+    ensures only { IfErr result (NoBitmap (freedoms variant) (is_aligned variant) is_extended place.old.place) }
     ensures fresh { IfErr result IsFresh }
 {
-    if !mark {
+    if !is_extended {
         return Ok(Stretch::new(RunBits::Lent(BitStr::new())));
     }
     let bitmap = place.take_field(alloc, variant, Field::Bitmap)?;

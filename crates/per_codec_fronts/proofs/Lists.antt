@@ -11,7 +11,8 @@ use Rattle.asn1_schema_presented.specs.Records.{Record, further, ends}
 use Rattle.asn1_schema_presented.specs.Presents.{presents, member_records, member_count}
 use Rattle.asn1_schema_presented.specs.Chains.{Chain}
 use Rattle.asn1_schema_presented.proofs.Chains.{chain_split, chain_append}
-use Rattle.per_codec_fronts.specs.Takes.{Place, Tally, State, Scope, members, Front, Found, InPlace, Admits, in_all, with_fragment, Header, Headed, ByHighest, Counted, SizeMark, ListBegins, MemberDue}
+use Rattle.per_codec_fronts.specs.Sizes.{extension_bit, told_highest}
+use Rattle.per_codec_fronts.specs.Takes.{Place, Tally, State, Scope, members, Front, Found, InPlace, Admits, in_all, with_fragment, Header, Headed, Counted, ListBegins, MemberDue}
 use Rattle.asn1_schema_finding.proofs.Alike.{LikeMembers, no_members, like_members, list_same, in_place, bag_like, Arranged, Ordered, reordered}
 use Rattle.per_codec_fronts.proofs.Next.{state_same}
 use Rattle.per_codec_fronts.proofs.Fronts.{Finds, Shows, Step, nothing_front, of_nothing, of_refused, split, join, varied_in, varied_out, given_in, given_out, if_in, if_out, none, from_state, from_scopes}
@@ -274,7 +275,7 @@ module _ (free : Per.Freedom → Bool) (al : Bool) where
   counts_form z out high us = cond out (Per.counted al us) (Per.sized_root al z.counts high Per.never us)
 
   abbrev Opened : Size → Counts → Bool → Option ℕ → List Per.BitForm → Place → List Scope → Place → Type 0
-  Opened z h out high us a k b = (m : State) × (d : ℕ) × (hs : Option Tally) × Counted al free z h out high a k m × (m.1 ≡ members d hs ∷ k) × Rest d hs us m.0 b
+  Opened z h out high us a k b = (m : State) × (d : ℕ) × (hs : Option Tally) × Counted al free z h out (told_highest out high) a k m × (m.1 ≡ members d hs ∷ k) × Rest d hs us m.0 b
 
   abbrev Onward : List Per.BitForm → State → List Scope → Place → Type 0
   Onward us m k b = (d : ℕ) (hs : Option Tally) → m.1 ≡ members d hs ∷ k → Rest d hs us m.0 b
@@ -293,7 +294,7 @@ module _ (free : Per.Freedom → Bool) (al : Bool) where
   abbrev by_number : Size → ℕ → List Per.BitForm → Per.BitForm
   by_number z high us = both (Per.constrained al (high - z.counts.low) (length us - z.counts.low)) (Per.at_octet (al && Per.never z.counts) (joined us))
 
-  bounds_in : (z : Size) (h : Counts) (t : Bool) (high : ℕ) (us : List Per.BitForm) (a : Place) (k : List Scope) (m : State) (b : Place) → ByHighest al free z h t high a k m → Onward us m k b → Admits free z h false (length us) × Front free (cond t (by_number z high us) (Per.counted al us)) a b
+  bounds_in : (z : Size) (h : Counts) (t : Bool) (high : ℕ) (us : List Per.BitForm) (a : Place) (k : List Scope) (m : State) (b : Place) → Counted al free z h false (cond t (Some high) None) a k m → Onward us m k b → Admits free z h false (length us) × Front free (cond t (by_number z high us) (Per.counted al us)) a b
   bounds_in z h true high us a k m b f g =
       let r = g f.0 None f.3 in
       let e : f.0 ≡ length us = sym r.0 in
@@ -301,14 +302,14 @@ module _ (free : Per.Freedom → Bool) (al : Bool) where
       (subst (λ n. Admits free z h false n) e f.1, join free (Per.constrained al (high - z.counts.low) (length us - z.counts.low)) (Per.at_octet (al && false) (joined us)) a m.0 b (subst (λ n. Front free (Per.constrained al (high - z.counts.low) (n - z.counts.low)) a m.0) e f.2) (subst (λ y. Front free y m.0 b) (sym x) r.1))
   bounds_in z h false high us a k m b f g = headed_in z h false us a k m b f g
 
-  bounds_out : (z : Size) (h : Counts) (t : Bool) (high : ℕ) (us : List Per.BitForm) (a : Place) (k : List Scope) (b : Place) → Admits free z h false (length us) → Front free (cond t (by_number z high us) (Per.counted al us)) a b → (m : State) × (d : ℕ) × (hs : Option Tally) × ByHighest al free z h t high a k m × (m.1 ≡ members d hs ∷ k) × Rest d hs us m.0 b
+  bounds_out : (z : Size) (h : Counts) (t : Bool) (high : ℕ) (us : List Per.BitForm) (a : Place) (k : List Scope) (b : Place) → Admits free z h false (length us) → Front free (cond t (by_number z high us) (Per.counted al us)) a b → (m : State) × (d : ℕ) × (hs : Option Tally) × Counted al free z h false (cond t (Some high) None) a k m × (m.1 ≡ members d hs ∷ k) × Rest d hs us m.0 b
   bounds_out z h true high us a k b c f =
       let q = split free (Per.constrained al (high - z.counts.low) (length us - z.counts.low)) (Per.at_octet (al && false) (joined us)) a b f in
       let x = never_filled (joined us) in
       ((q.0, members (length us) None ∷ k), length us, None, (length us, c, q.1, refl), refl, (refl, subst (λ y. Front free y q.0 b) x q.2))
   bounds_out z h false high us a k b c f = headed_out z h false us a k b c f
 
-  counted_in : (z : Size) (h : Counts) (out : Bool) (high : Option ℕ) (us : List Per.BitForm) (a : Place) (k : List Scope) (m : State) (b : Place) → Counted al free z h out high a k m → Onward us m k b → Read z h out high us a b
+  counted_in : (z : Size) (h : Counts) (out : Bool) (high : Option ℕ) (us : List Per.BitForm) (a : Place) (k : List Scope) (m : State) (b : Place) → Counted al free z h out (told_highest out high) a k m → Onward us m k b → Read z h out high us a b
   unfolding Per.sized_root
   counted_in z h true high us a k m b f g = headed_in z h true us a k m b f g
   counted_in z h false None us a k m b f g = headed_in z h false us a k m b f g
@@ -320,25 +321,25 @@ module _ (free : Per.Freedom → Bool) (al : Bool) where
   counted_out z h false None us a k b r = headed_out z h false us a k b r.0 r.1
   counted_out z h false (Some high) us a k b r = bounds_out z h (ltb high 65536) high us a k b r.0 r.1
 
-  -- ---- the mark of a size
-  mark_in : (e t : Bool) (x y : Per.BitForm) (out : Bool) (a mid b : Place) → SizeMark free e out a mid → InPlace free out t → Front free (cond out y x) mid b → Front free (Per.marked e t x y) a b
+  -- ---- the extension bit of a size
+  bit_in : (e t : Bool) (x y : Per.BitForm) (out : Bool) (a mid b : Place) → Front free (extension_bit e out) a mid → InPlace free out t → Front free (cond out y x) mid b → Front free (Per.marked e t x y) a b
   unfolding Per.marked
-  mark_in false t x y true a mid b m i f = let o = m.0 in cc
-  mark_in false t x y false a mid b m i f = if_in free t x a b i (subst (λ p. Front free x p b) m.1 f)
-  mark_in true t x y true a mid b m i f = varied_in free {c = Per.root_marked_outside} (λ o. cond o (both (exactly (true ∷ [])) y) (only_if t (both (exactly (false ∷ [])) x))) true (outside i) a b (join free (exactly (true ∷ [])) y a mid b m f)
+  bit_in false t x y true a mid b m i f = absurd (of_refused free a mid m)
+  bit_in false t x y false a mid b m i f = if_in free t x a b i (subst (λ p. Front free x p b) (of_nothing free a mid m) f)
+  bit_in true t x y true a mid b m i f = varied_in free {c = Per.root_marked_outside} (λ o. cond o (both (exactly (true ∷ [])) y) (only_if t (both (exactly (false ∷ [])) x))) true (outside i) a b (join free (exactly (true ∷ [])) y a mid b m f)
     where
       outside : (t ≡ false) ⊎ IsTrue (free Per.root_marked_outside) → (true ≡ not t) ⊎ IsTrue (free Per.root_marked_outside)
       outside (inl e) = inl (sym (ap not e))
       outside (inr e) = inr e
-  mark_in true t x y false a mid b m i f = varied_in free {c = Per.root_marked_outside} (λ o. cond o (both (exactly (true ∷ [])) y) (only_if t (both (exactly (false ∷ [])) x))) false (inl (sym (ap not i))) a b (if_in free t (both (exactly (false ∷ [])) x) a b i (join free (exactly (false ∷ [])) x a mid b m f))
+  bit_in true t x y false a mid b m i f = varied_in free {c = Per.root_marked_outside} (λ o. cond o (both (exactly (true ∷ [])) y) (only_if t (both (exactly (false ∷ [])) x))) false (inl (sym (ap not i))) a b (if_in free t (both (exactly (false ∷ [])) x) a b i (join free (exactly (false ∷ [])) x a mid b m f))
 
-  abbrev Marked : Bool → Bool → Per.BitForm → Per.BitForm → Place → Place → Type 0
-  Marked e t x y a b = (out : Bool) × (mid : Place) × SizeMark free e out a mid × InPlace free out t × Front free (cond out y x) mid b
+  abbrev Placed : Bool → Bool → Per.BitForm → Per.BitForm → Place → Place → Type 0
+  Placed e t x y a b = (out : Bool) × (mid : Place) × Front free (extension_bit e out) a mid × InPlace free out t × Front free (cond out y x) mid b
 
-  mark_out : (e t : Bool) (x y : Per.BitForm) (a b : Place) → Front free (Per.marked e t x y) a b → Marked e t x y a b
+  bit_out : (e t : Bool) (x y : Per.BitForm) (a b : Place) → Front free (Per.marked e t x y) a b → Placed e t x y a b
   unfolding Per.marked
-  mark_out false t x y a b f = let q = if_out free t x a b f in (false, a, (refl, refl), q.0, q.1)
-  mark_out true t x y a b f = let q = varied_out free {c = Per.root_marked_outside} (λ o. cond o (both (exactly (true ∷ [])) y) (only_if t (both (exactly (false ∷ [])) x))) a b f in go q.0 q.1 q.2
+  bit_out false t x y a b f = let q = if_out free t x a b f in (false, a, nothing_front free a, q.0, q.1)
+  bit_out true t x y a b f = let q = varied_out free {c = Per.root_marked_outside} (λ o. cond o (both (exactly (true ∷ [])) y) (only_if t (both (exactly (false ∷ [])) x))) a b f in go q.0 q.1 q.2
     where
       inside : (b : Bool) → true ≡ not b → b ≡ false
       inside true e = cc
@@ -348,7 +349,7 @@ module _ (free : Per.Freedom → Bool) (al : Bool) where
       outside (inl e) = inl (inside t e)
       outside (inr e) = inr e
 
-      go : (o : Bool) → (o ≡ not t) ⊎ IsTrue (free Per.root_marked_outside) → Front free (cond o (both (exactly (true ∷ [])) y) (only_if t (both (exactly (false ∷ [])) x))) a b → Marked true t x y a b
+      go : (o : Bool) → (o ≡ not t) ⊎ IsTrue (free Per.root_marked_outside) → Front free (cond o (both (exactly (true ∷ [])) y) (only_if t (both (exactly (false ∷ [])) x))) a b → Placed true t x y a b
       go true i f = let q = split free (exactly (true ∷ [])) y a b f in (true, q.0, q.1, outside i, q.2)
       go false i f =
           let p = if_out free t (both (exactly (false ∷ [])) x) a b f in
@@ -360,27 +361,22 @@ module _ (free : Per.Freedom → Bool) (al : Bool) where
   unfolding Per.sized
   sized_in z h us n a m b t g =
       let r = counted_in z h t.1 z.counts.high us t.2 a.1 m b t.4 g in
-      if_in free (is_count_within h (length us)) _ a.0 b r.0.0 (mark_in z.extensible (is_count_within z.counts (length us)) (Per.sized_root al z.counts z.counts.high Per.never us) (Per.counted al us) t.1 a.0 t.2 b t.3 r.0.1 r.1)
+      if_in free (is_count_within h (length us)) _ a.0 b r.0.0 (bit_in z.extensible (is_count_within z.counts (length us)) (Per.sized_root al z.counts z.counts.high Per.never us) (Per.counted al us) t.1 a.0 t.2 b t.3 r.0.1 r.1)
 
   sized_out : (z : Size) (h : Counts) (us : List Per.BitForm) (n : ℕ) → length us ≡ n → (a : State) (b : Place) → Front free (Per.sized al z h Per.never us) a.0 b → (m : State) × (d : ℕ) × (hs : Option Tally) × ListBegins al free z h n a m × (m.1 ≡ members d hs ∷ a.1) × Rest d hs us m.0 b
   unfolding Per.sized
   sized_out z h us n l a b f =
       let p = if_out free (is_count_within h (length us)) _ a.0 b f in
-      let q = mark_out z.extensible (is_count_within z.counts (length us)) (Per.sized_root al z.counts z.counts.high Per.never us) (Per.counted al us) a.0 b p.1 in
+      let q = bit_out z.extensible (is_count_within z.counts (length us)) (Per.sized_root al z.counts z.counts.high Per.never us) (Per.counted al us) a.0 b p.1 in
       let r = counted_out z h q.0 z.counts.high us q.1 a.1 b ((p.0, q.3), q.4) in
       (r.0, r.1, r.2, (subst (λ i. is_count_within h i ≡ true) l p.0, q.0, q.1, q.2, r.3), r.4, r.5)
 
   scopes_held : (z : Size) (h : Counts) (n : ℕ) (a m : State) → ListBegins al free z h n a m → (d : ℕ) × (hs : Option Tally) × (m.1 ≡ members d hs ∷ a.1)
-  scopes_held z h n a m t = held t.1 z.counts.high t.2 t.4
+  scopes_held z h n a m t = held t.1 (told_highest t.1 z.counts.high) t.2 t.4
     where
-      by_bounds : (t : Bool) (high : ℕ) (p : Place) → ByHighest al free z h t high p a.1 m → (d : ℕ) × (hs : Option Tally) × (m.1 ≡ members d hs ∷ a.1)
-      by_bounds true high p f = (f.0, None, f.3)
-      by_bounds false high p f = (f.0, f.1, f.3)
-
-      held : (o : Bool) (high : Option ℕ) (p : Place) → Counted al free z h o high p a.1 m → (d : ℕ) × (hs : Option Tally) × (m.1 ≡ members d hs ∷ a.1)
-      held true high p f = (f.0, f.1, f.3)
-      held false None p f = (f.0, f.1, f.3)
-      held false (Some high) p f = by_bounds (ltb high 65536) high p f
+      held : (o : Bool) (told : Option ℕ) (p : Place) → Counted al free z h o told p a.1 m → (d : ℕ) × (hs : Option Tally) × (m.1 ≡ members d hs ∷ a.1)
+      held o None p f = (f.0, f.1, f.3)
+      held o (Some high) p f = (f.0, None, f.3)
 
   list_in : (z : Size) (h : Counts) (s : Schema) → Finds al free s → (vs : Values) (a m b : State) → ListBegins al free z h (member_count vs) a m → Chain (Step free al) (member_records (λ v. presents s v) vs) m b → Found free (Per.sized al z h Per.never (each (λ v. Per.form al s v) vs)) a b
   list_in z h s finds vs a m b t c =

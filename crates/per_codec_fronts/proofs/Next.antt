@@ -1,11 +1,11 @@
 -- Of the records that answer a question one at most is next.
-use Rattle.std.proofs.Common.{◌≡◌, inl, inr, ◌≤◌, ℕ, ℤ, zero, suc, ◌+◌, ◌-◌, ◌*◌, ltb, Bool, true, false, cond, List, [], ◌∷◌, ◌++◌, length, map, drop, Option, Some, None, refl, ap, sym, ◌∙◌, subst, arith}
+use Rattle.std.proofs.Common.{◌≡◌, inl, inr, ◌≤◌, ℕ, ℤ, zero, suc, ◌+◌, ◌-◌, ◌*◌, not, ltb, Bool, true, false, cond, List, [], ◌∷◌, ◌++◌, length, map, drop, Option, Some, None, refl, ap, sym, ◌∙◌, subst, arith}
 use Rattle.std.proofs.lemmas.List.{append_cancel_left}
 use Rattle.std.proofs.lemmas.Bool.{and_parts, leb-true}
 use Rattle.asn1_model.specs.Value.{truth, nothing, number, item, bit_list, octet_list, text, arcs}
 use Rattle.asn1_model.specs.Schema.{Counts, Size, StringKind, Alphabet, Bounds, Range, boolean, null, integer, enumerated, bit_string, octet_string, character_string, object_identifier}
 use Rattle.asn1_model.specs.Numbers.{binary, octet_bits}
-use Rattle.asn1_model.specs.Form.{exactly, both, only_if, is_present}
+use Rattle.asn1_model.specs.Form.{exactly, both, only_if, nothing_more, is_present}
 use Rattle.asn1_model.specs.Strings.{each_is, is_octet, is_identifier, identifier_octets}
 use Rattle.asn1_model.specs.Per
 use Rattle.asn1_schema_presented.specs.Records.{Record, flag, nil, whole, one_of, bits, octets, characters, identifier, list_begins, bag_begins, further, sequence_begins, set_begins, group_begins, mark, is_default, is_empty, additions_begin, addition, addition_ends, choice_begins, ends, mismatch, question, told}
@@ -16,7 +16,8 @@ use Rattle.asn1_laws_fronts.proofs.Additions as adding
 use Rattle.asn1_laws_fronts.proofs.Units.{sized_alike, small_alike, bitmap_alike, items_alike, behind_mark, added_or_root}
 use Rattle.asn1_laws_fronts.proofs.Strings.{string_alike}
 use Rattle.asn1_schema_finding.specs.Marks.{preamble_bits, first_bits}
-use Rattle.per_codec_fronts.specs.Takes.{Place, Tally, Scope, components, added, open_type, members, alternative, State, Front, Found, with_fragment, Header, Headed, Numbered, ByHighest, Counted, SizeMark, ListBegins, MemberDue, NextMember, Begins, NextMark, AdditionsBegin, Opens, NextAddition, AdditionEnds, Skips, Chooses, Ends, Takes}
+use Rattle.per_codec_fronts.specs.Sizes.{extension_bit, told_highest}
+use Rattle.per_codec_fronts.specs.Takes.{Place, Tally, Scope, components, added, open_type, members, alternative, State, Front, Found, with_fragment, Header, Headed, Numbered, Counted, ListBegins, MemberDue, NextMember, Begins, NextMark, AdditionsBegin, Opens, NextAddition, AdditionEnds, Skips, Chooses, Ends, Takes}
 
 pub place_same : (b c : Place) → b.0 ≡ c.0 → b.1 ≡ c.1 → b ≡ c
 place_same b c e f =
@@ -134,23 +135,24 @@ module _ (free : Per.Freedom → Bool) where
       let e : f.0 ≡ g.0 = omega arith in
       state_same b c q.1 (f.3 ∙ ap (λ n. members n None ∷ k) e ∙ sym g.3)
 
-  same_bounds : (al : Bool) (z : Size) (h : Counts) (t : Bool) (high : ℕ) (a : Place) (k : List Scope) (b c : State) → ByHighest al free z h t high a k b → ByHighest al free z h t high a k c → b ≡ c
-  same_bounds al z h true high a k b c f g = same_numbered al z h high a k b c f g
-  same_bounds al z h false high a k b c f g = same_headed al z h false a k b c f g
+  same_counted : (al : Bool) (z : Size) (h : Counts) (out : Bool) (told : Option ℕ) (a : Place) (k : List Scope) (b c : State) → Counted al free z h out told a k b → Counted al free z h out told a k c → b ≡ c
+  same_counted al z h out None a k b c f g = same_headed al z h out a k b c f g
+  same_counted al z h out (Some high) a k b c f g = same_numbered al z h high a k b c f g
 
-  same_counted : (al : Bool) (z : Size) (h : Counts) (out : Bool) (high : Option ℕ) (a : Place) (k : List Scope) (b c : State) → Counted al free z h out high a k b → Counted al free z h out high a k c → b ≡ c
-  same_counted al z h true high a k b c f g = same_headed al z h true a k b c f g
-  same_counted al z h false None a k b c f g = same_headed al z h false a k b c f g
-  same_counted al z h false (Some high) a k b c f g = same_bounds al z h (ltb high 65536) high a k b c f g
-
-  same_size_mark : (e o u : Bool) (a b c : Place) → SizeMark free e o a b → SizeMark free e u a c → (o ≡ u) × (b ≡ c)
-  same_size_mark false o u a b c f g = (f.0 ∙ sym g.0, f.1 ∙ sym g.1)
-  same_size_mark true o u a b c f g = same_fronts (agree_first free (λ e. agree_map free (λ q. e) (agree_nothing free))) a b c f g
+  pub same_extension_bit : (e o u : Bool) (a b c : Place) → Front free (extension_bit e o) a b → Front free (extension_bit e u) a c → (o ≡ u) × (b ≡ c)
+  same_extension_bit true o u a b c f g = same_fronts (agree_first free (λ e. agree_map free (λ q. e) (agree_nothing free))) a b c f g
+  same_extension_bit false o u a b c f g = same_fronts (agree_if free (not o) (not u) nothing_more nothing_more (λ i j. agree_map free (λ q. negated o u i j) (agree_nothing free))) a b c f g
+    where
+      negated : (o u : Bool) → not o ≡ true → not u ≡ true → o ≡ u
+      negated false false i j = refl
+      negated true u i j = cc
+      negated o true i j = cc
 
   same_list : (al : Bool) (z : Size) (h : Counts) (n m : ℕ) (a b c : State) → ListBegins al free z h n a b → ListBegins al free z h m a c → b ≡ c
   same_list al z h n m a b c f g =
-      let q = same_size_mark z.extensible f.1 g.1 a.0 f.2 g.2 f.3 g.3 in
-      same_counted al z h g.1 z.counts.high g.2 a.1 b c (subst (λ p. Counted al free z h g.1 z.counts.high p a.1 b) q.1 (subst (λ o. Counted al free z h o z.counts.high f.2 a.1 b) q.0 f.4)) g.4
+      let q = same_extension_bit z.extensible f.1 g.1 a.0 f.2 g.2 f.3 g.3 in
+      let high = z.counts.high in
+      same_counted al z h g.1 (told_highest g.1 high) g.2 a.1 b c (subst (λ p. Counted al free z h g.1 (told_highest g.1 high) p a.1 b) q.1 (subst (λ o. Counted al free z h o (told_highest o high) f.2 a.1 b) q.0 f.4)) g.4
 
   same_due : (v w : Bool) (n : ℕ) (hs : Option Tally) (a : Place) (k : List Scope) (b c : State) → MemberDue v n hs a k b → MemberDue w n hs a k c → (v ≡ w) × (b ≡ c)
   same_due v w (suc n) hs a k b c f g = (f.0 ∙ sym g.0, f.1 ∙ sym g.1)

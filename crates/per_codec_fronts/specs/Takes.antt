@@ -15,6 +15,7 @@ use Rattle.asn1_schema_presented.specs.Records.{list_begins, bag_begins, further
 use Rattle.asn1_schema_presented.specs.Records.{group_begins, mark, is_default, is_empty, additions_begin, addition}
 use Rattle.asn1_schema_presented.specs.Records.{addition_ends, choice_begins, ends, mismatch}
 use Rattle.asn1_schema_finding.specs.Marks.{preamble_bits, first_bits, has_set}
+use Rattle.per_codec_fronts.specs.Sizes.{extension_bit, told_highest}
 
 -- How many bits stand in front since the beginning of the message or open type, and the bits that are left of it.
 abbrev pub Place : Type 0
@@ -108,27 +109,17 @@ Numbered al free z h high a k b =
     (n : ℕ) × Admits free z h false n × Front free (Per.constrained al (high - z.counts.low) (n - z.counts.low)) a b.0
     × (b.1 ≡ members n None ∷ k)
 
--- By whether the highest count is below 65536.
-abbrev pub ByHighest : Bool → (Per.Freedom → Bool) → Size → Counts → Bool → ℕ → Place → List Scope → State → Type 0
-ByHighest al free z h true high a k b = Numbered al free z h high a k b
-ByHighest al free z h false high a k b = Headed al free z h false a k b
-
+-- Behind their number where a highest count tells its form, else behind their first header.
 abbrev pub Counted : Bool → (Per.Freedom → Bool) → Size → Counts → Bool → Option ℕ → Place → List Scope → State → Type 0
-Counted al free z h true high a k b = Headed al free z h true a k b
-Counted al free z h false None a k b = Headed al free z h false a k b
-Counted al free z h false (Some high) a k b = ByHighest al free z h (ltb high 65536) high a k b
-
--- Whether the count is marked as outside the root, where the size has a mark.
-abbrev pub SizeMark : (Per.Freedom → Bool) → Bool → Bool → Place → Place → Type 0
-SizeMark free false out a b = (out ≡ false) × (b ≡ a)
-SizeMark free true out a b = Front free (exactly (out ∷ [])) a b
+Counted al free z h out None a k b = Headed al free z h out a k b
+Counted al free z h out (Some high) a k b = Numbered al free z h high a k b
 
 -- What stands in front of members. The record's own count is one that the program's type holds; that it is the true one
 -- is known at the end.
 abbrev pub ListBegins : Bool → (Per.Freedom → Bool) → Size → Counts → ℕ → State → State → Type 0
 ListBegins al free z h n a b =
-    (is_count_within h n ≡ true) × (out : Bool) × (mid : Place) × SizeMark free z.extensible out a.0 mid
-    × Counted al free z h out z.counts.high mid a.1 b
+    (is_count_within h n ≡ true) × (out : Bool) × (mid : Place) × Front free (extension_bit z.extensible out) a.0 mid
+    × Counted al free z h out (told_highest out z.counts.high) mid a.1 b
 
 -- Whether members are due, or this is the end.
 abbrev pub MemberDue : Bool → ℕ → Option Tally → Place → List Scope → State → Type 0

@@ -1,15 +1,12 @@
 -- The last of the bits that were taken.
-use Rattle.std.proofs.Common.{◌≡◌, ℕ, ◌<◌, ltb, Bool, true, false, cond, List, ◌++◌, Option, Some, None, refl, sym, subst}
-use Rattle.asn1_model.specs.Form.{nothing_more}
+use Rattle.std.proofs.Common.{Bool, List, ◌++◌, refl, sym, subst}
 use Rattle.asn1_model.specs.Per
 use Rattle.asn1_values_bits.specs.BitStr.{bits_of}
 use Rattle.per_codec_fronts.specs.Takes.{Place, Front}
-use Rattle.per_codec_fronts.proofs.Fronts.{if_out}
 use Rattle.per_codec_reading.specs.Fronts.{Leads}
 use Rattle.per_codec_reading.proofs.Fronts.{leads_join}
 use Rattle.std.proofs.lemmas.List.{append_assoc}
-use Rattle.per_codec_reading.specs.Runs.{InOneRun, EndsWith, EndsWithLent, IsLent, StandsIn, StandsBefore}
-use Rattle.per_codec_reading.specs.Sizes.{size_mark, told_highest}
+use Rattle.per_codec_reading.specs.Runs.{EndsWith, EndsWithLent, StandsIn, StandsBefore}
 use Rattle.per_codec_reading.specs.declared.runs.RunBits.{RunBits}
 use Rattle.per_codec_reading.specs.declared.runs.RunBits.TheVariants.{Lent, Joined}
 
@@ -25,18 +22,6 @@ module _ (free : Per.Freedom → Bool) where
   pub lent_behind : (x : Per.BitForm) (bits : RunBits) (a m b : Place) → Front free x a m → EndsWithLent bits m b → EndsWithLent bits a b
   lent_behind x (Lent bits) a m b f e = ends_behind x (bits_of bits) a m b f e
   lent_behind x (Joined bits) a m b f e = tt
-
-  -- behind a mark, where there is one, units in one run are lent
-  in_one_run : (t : Bool) (high n : ℕ) → n < 16384 → InOneRun (cond t (Some high) None) n
-  in_one_run true high n l = tt
-  in_one_run false high n l = l
-
-  pub lent_marked : (e o : Bool) (h : Option ℕ) (n : ℕ) (bits : RunBits) (a b : Place) → Front free (size_mark e o) a b → (InOneRun (told_highest h o) n → IsLent bits) → InOneRun (told_highest h e) n → IsLent bits
-  lent_marked false false h n bits a b f k l = k l
-  lent_marked false true h n bits a b f k l = let e : false ≡ true = (if_out free false nothing_more a b f).0 in cc
-  lent_marked true true h n bits a b f k l = k l
-  lent_marked true false None n bits a b f k l = k l
-  lent_marked true false (Some high) n bits a b f k l = k (in_one_run (ltb high 65536) high n l)
 
 -- lent units before a position of the input
 pub stands_before : (bits : RunBits) (all : List Bool) (a b : Place) → StandsIn all a → EndsWithLent bits a b → StandsBefore bits all b.0

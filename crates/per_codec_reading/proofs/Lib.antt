@@ -1,4 +1,5 @@
 pub mod Fronts
+pub mod HeadingFronts
 pub mod LengthFronts
 pub mod NumberFronts
 pub mod UnitFronts

@@ -1,4 +1,4 @@
--- Units of a size that stand in front: their mark, and the units behind it.
+-- Units of a size that stand in front: an extension bit, and the units behind it.
 use Rattle.std.proofs.Common.{◌≡◌, inr, ℕ, ◌-◌, ◌*◌, ◌≤◌, ◌==◌, leb, ltb, ◌&&◌, ◌||◌, Bool, true, false, cond, IsTrue, Option, Some, None, List, [], ◌∷◌, length, refl, ap, sym, ◌∙◌, subst, arith}
 use Rattle.std.proofs.lemmas.Bool.{false≢true, leb-true, eqb-true, eq-eqb, and_parts, and_from}
 use Rattle.asn1_model.specs.Schema.{Counts, Size}
@@ -11,19 +11,15 @@ use Rattle.per_codec_fronts.proofs.Fronts.{split, join, if_in, if_out, varied_in
 use Rattle.per_codec_reading.specs.Fronts.{NoneStands}
 use Rattle.per_codec_reading.proofs.Fronts.{exactly_in, exactly_out}
 use Rattle.per_codec_reading.specs.Units.{Units, units_of}
-use Rattle.per_codec_reading.specs.Sizes.{size_mark, told_highest, told_count, told_units, units_told, sized_units, admitted}
+use Rattle.per_codec_fronts.specs.Sizes.{extension_bit, told_highest}
+use Rattle.per_codec_fronts.proofs.Next.{same_extension_bit}
+use Rattle.per_codec_reading.specs.Sizes.{told_count, told_units, units_told, sized_units, admitted, determinant_form, heading_form}
+use Rattle.per_codec_reading.proofs.HeadingFronts.{units_headed}
 use Rattle.per_codec_reading.proofs.UnitFronts.{length-units, units_in, units_out}
-use Rattle.per_codec_reading.proofs.RunFronts.{one, leads_one}
+use Rattle.per_codec_reading.proofs.RunFronts.{one}
 use Rattle.per_codec_reading.proofs.RunsOne.{counted_one}
 
 module _ (free : Per.Freedom → Bool) where
-  -- ---- the mark
-  pub mark_one : (e : Bool) (s t : Bool) (a b c : Place) → Front free (size_mark e s) a b → Front free (size_mark e t) a c → (s ≡ t) × (b ≡ c)
-  mark_one true s t a b c f g = let q = leads_one free (s ∷ []) (t ∷ []) a b c refl (exactly_out free (s ∷ []) a b f) (exactly_out free (t ∷ []) a c g) in let e : s ∷ [] ≡ t ∷ [] = q.0 in (cc, q.1)
-  mark_one false true t a b c f g = absurd (of_refused free a b f)
-  mark_one false false true a b c f g = absurd (of_refused free a c g)
-  mark_one false false false a b c f g = (refl, of_nothing free a b f ∙ sym (of_nothing free a c g))
-
   -- ---- units behind a number that bounds tell
   same_at_octet : (al : Bool) (x y : Per.BitForm) (a b : Place) → ((m : Place) → Front free x m b → Front free y m b) → Front free (Per.at_octet al x) a b → Front free (Per.at_octet al y) a b
   unfolding Per.at_octet
@@ -65,7 +61,7 @@ module _ (free : Per.Freedom → Bool) where
   told_size al w pads c None us a b f = eqb-true _ _ (if_out free (length us.1 == us.0 * w) _ a b f).0
   told_size al w pads c (Some high) us a b f = eqb-true _ _ (if_out free (length us.1 == us.0 * w) _ a b f).0
 
-  root_in : (al : Bool) (w : ℕ) (pads : ℕ → Counts → Bool) (c : Counts) (high : Option ℕ) (us : Units) (a b : Place) → Front free (units_told al w pads c (told_highest high false) us) a b → Front free (Per.sized_root al c high (pads us.0) (units_of w us.0 us.1)) a b
+  root_in : (al : Bool) (w : ℕ) (pads : ℕ → Counts → Bool) (c : Counts) (high : Option ℕ) (us : Units) (a b : Place) → Front free (units_told al w pads c (told_highest false high) us) a b → Front free (Per.sized_root al c high (pads us.0) (units_of w us.0 us.1)) a b
   unfolding Per.sized_root
   root_in al w pads c None us a b f = (if_out free (length us.1 == us.0 * w) _ a b f).1
   root_in al w pads c (Some high) us a b f = go (ltb high 65536) f
@@ -74,7 +70,7 @@ module _ (free : Per.Freedom → Bool) where
       go true f = told_in al w pads c high us.0 us.1 a b f
       go false f = (if_out free (length us.1 == us.0 * w) _ a b f).1
 
-  root_out : (al : Bool) (w : ℕ) (pads : ℕ → Counts → Bool) (c : Counts) (high : Option ℕ) (us : Units) (a b : Place) → length us.1 ≡ us.0 * w → (leb c.low us.0 && is_count_to high us.0) ≡ true → Front free (Per.sized_root al c high (pads us.0) (units_of w us.0 us.1)) a b → Front free (units_told al w pads c (told_highest high false) us) a b
+  root_out : (al : Bool) (w : ℕ) (pads : ℕ → Counts → Bool) (c : Counts) (high : Option ℕ) (us : Units) (a b : Place) → length us.1 ≡ us.0 * w → (leb c.low us.0 && is_count_to high us.0) ≡ true → Front free (Per.sized_root al c high (pads us.0) (units_of w us.0 us.1)) a b → Front free (units_told al w pads c (told_highest false high) us) a b
   unfolding Per.sized_root
   root_out al w pads c None us a b l k f = if_in free (length us.1 == us.0 * w) _ a b (eq-eqb _ _ l) f
   root_out al w pads c (Some high) us a b l k f = go (ltb high 65536) f
@@ -83,39 +79,37 @@ module _ (free : Per.Freedom → Bool) where
       go true f = told_out al w pads c high us.0 us.1 a b l k f
       go false f = if_in free (length us.1 == us.0 * w) _ a b (eq-eqb _ _ l) f
 
-  outside_in : (al : Bool) (w : ℕ) (pads : ℕ → Counts → Bool) (c : Counts) (high : Option ℕ) (us : Units) (a b : Place) → Front free (units_told al w pads c (told_highest high true) us) a b → Front free (Per.counted al (units_of w us.0 us.1)) a b
-  outside_in al w pads c None us a b f = (if_out free (length us.1 == us.0 * w) _ a b f).1
-  outside_in al w pads c (Some high) us a b f = (if_out free (length us.1 == us.0 * w) _ a b f).1
+  outside_in : (al : Bool) (w : ℕ) (pads : ℕ → Counts → Bool) (c : Counts) (high : Option ℕ) (us : Units) (a b : Place) → Front free (units_told al w pads c (told_highest true high) us) a b → Front free (Per.counted al (units_of w us.0 us.1)) a b
+  outside_in al w pads c high us a b f = (if_out free (length us.1 == us.0 * w) _ a b f).1
 
-  outside_out : (al : Bool) (w : ℕ) (pads : ℕ → Counts → Bool) (c : Counts) (high : Option ℕ) (us : Units) (a b : Place) → length us.1 ≡ us.0 * w → Front free (Per.counted al (units_of w us.0 us.1)) a b → Front free (units_told al w pads c (told_highest high true) us) a b
-  outside_out al w pads c None us a b l f = if_in free (length us.1 == us.0 * w) _ a b (eq-eqb _ _ l) f
-  outside_out al w pads c (Some high) us a b l f = if_in free (length us.1 == us.0 * w) _ a b (eq-eqb _ _ l) f
+  outside_out : (al : Bool) (w : ℕ) (pads : ℕ → Counts → Bool) (c : Counts) (high : Option ℕ) (us : Units) (a b : Place) → length us.1 ≡ us.0 * w → Front free (Per.counted al (units_of w us.0 us.1)) a b → Front free (units_told al w pads c (told_highest true high) us) a b
+  outside_out al w pads c high us a b l f = if_in free (length us.1 == us.0 * w) _ a b (eq-eqb _ _ l) f
 
   pub told_one : (al : Bool) (w : ℕ) (pads : ℕ → Counts → Bool) (c : Counts) (told : Option ℕ) (us vs : Units) (a b d : Place) → Front free (units_told al w pads c told us) a b → Front free (units_told al w pads c told vs) a d → us.0 ≡ vs.0
   told_one al w pads c None us vs a b d f g = counted_one free al w us vs a b d f g
   told_one al w pads c (Some high) us vs a b d f g = told_same al w pads c high us vs a b d f g
 
   -- ---- all of it
-  -- the mark, and the units behind it
+  -- the extension bit, and the units behind it
   pub record Marked (al : Bool) (z : Size) (held : Counts) (w : ℕ) (pads : ℕ → Counts → Bool) (us : Units) (a b : Place) : Type 0 where
     pub outside : Bool
     pub mid : Place
-    pub mark : Front free (size_mark z.extensible outside) a mid
-    pub units : Front free (units_told al w pads z.counts (told_highest z.counts.high outside) us) mid b
+    pub bit : Front free (extension_bit z.extensible outside) a mid
+    pub units : Front free (units_told al w pads z.counts (told_highest outside z.counts.high) us) mid b
     pub may : admitted held z.counts outside us.0 ≡ true
 
-  marked_in : (e outside in_root : Bool) (x y : Per.BitForm) (a mid b : Place) → IsTrue (free Per.root_marked_outside) → Front free (size_mark e outside) a mid → (outside || in_root) ≡ true → (outside ≡ false → Front free x mid b) → (outside ≡ true → Front free y mid b) → Front free (Per.marked e in_root x y) a b
+  marked_in : (e outside in_root : Bool) (x y : Per.BitForm) (a mid b : Place) → IsTrue (free Per.root_marked_outside) → Front free (extension_bit e outside) a mid → (outside || in_root) ≡ true → (outside ≡ false → Front free x mid b) → (outside ≡ true → Front free y mid b) → Front free (Per.marked e in_root x y) a b
   unfolding Per.marked
   marked_in false true i x y a mid b t m k f g = absurd (of_refused free a mid m)
   marked_in false false i x y a mid b t m k f g = if_in free i x a b k (subst (λ p. Front free x p b) (of_nothing free a mid m) (f refl))
   marked_in true true i x y a mid b t m k f g = varied_in free _ true (inr t) a b (join free (exactly (true ∷ [])) y a mid b m (g refl))
   marked_in true false i x y a mid b t m k f g = varied_in free _ false (inr t) a b (if_in free i _ a b k (join free (exactly (false ∷ [])) x a mid b m (f refl)))
 
-  -- a mark, and one of two forms behind it
+  -- an extension bit, and one of two forms behind it
   record Parts (e in_root : Bool) (x y : Per.BitForm) (a b : Place) : Type 0 where
     pub outside : Bool
     pub mid : Place
-    pub mark : Front free (size_mark e outside) a mid
+    pub bit : Front free (extension_bit e outside) a mid
     pub may : (outside || in_root) ≡ true
     pub root_form : outside ≡ false → Front free x mid b
     pub outer_form : outside ≡ true → Front free y mid b
@@ -124,24 +118,24 @@ module _ (free : Per.Freedom → Bool) where
   unfolding Per.marked
   marked_out false i x y a b f =
       let k = if_out free i x a b f in
-      record { outside = false; mid = a; mark = nothing_front free a; may = k.0; root_form = λ e. k.1; outer_form = λ e. absurd (false≢true e) }
+      record { outside = false; mid = a; bit = nothing_front free a; may = k.0; root_form = λ e. k.1; outer_form = λ e. absurd (false≢true e) }
   marked_out true i x y a b f = let v = varied_out free _ a b f in go v.0 v.2
     where
       go : (t : Bool) → Front free (cond t (both (exactly (true ∷ [])) y) (only_if i (both (exactly (false ∷ [])) x))) a b → Parts true i x y a b
-      go true g = let s = split free (exactly (true ∷ [])) y a b g in record { outside = true; mid = s.0; mark = s.1; may = refl; root_form = λ e. absurd (false≢true (sym e)); outer_form = λ e. s.2 }
+      go true g = let s = split free (exactly (true ∷ [])) y a b g in record { outside = true; mid = s.0; bit = s.1; may = refl; root_form = λ e. absurd (false≢true (sym e)); outer_form = λ e. s.2 }
       go false g =
           let k = if_out free i _ a b g in
           let s = split free (exactly (false ∷ [])) x a b k.1 in
-          record { outside = false; mid = s.0; mark = s.1; may = k.0; root_form = λ e. s.2; outer_form = λ e. absurd (false≢true e) }
+          record { outside = false; mid = s.0; bit = s.1; may = k.0; root_form = λ e. s.2; outer_form = λ e. absurd (false≢true e) }
 
-  pub sized_in : (al : Bool) (z : Size) (held : Counts) (w : ℕ) (pads : ℕ → Counts → Bool) (us : Units) (outside : Bool) (a mid b : Place) → IsTrue (free Per.root_marked_outside) → Front free (size_mark z.extensible outside) a mid → Front free (units_told al w pads z.counts (told_highest z.counts.high outside) us) mid b → admitted held z.counts outside us.0 ≡ true → Front free (sized_units al z held w pads us) a b
+  pub sized_in : (al : Bool) (z : Size) (held : Counts) (w : ℕ) (pads : ℕ → Counts → Bool) (us : Units) (outside : Bool) (a mid b : Place) → IsTrue (free Per.root_marked_outside) → Front free (extension_bit z.extensible outside) a mid → Front free (units_told al w pads z.counts (told_highest outside z.counts.high) us) mid b → admitted held z.counts outside us.0 ≡ true → Front free (sized_units al z held w pads us) a b
   unfolding Per.sized
   sized_in al z held w pads us outside a mid b t m f k =
       let p = and_parts (is_count_within held us.0) (outside || is_count_within z.counts us.0) k in
-      let l = told_size al w pads z.counts (told_highest z.counts.high outside) us mid b f in
+      let l = told_size al w pads z.counts (told_highest outside z.counts.high) us mid b f in
       let x = Per.sized_root al z.counts z.counts.high (pads us.0) (units_of w us.0 us.1) in
       let y = Per.counted al (units_of w us.0 us.1) in
-      let T : Bool → Type 0 = λ o. Front free (units_told al w pads z.counts (told_highest z.counts.high o) us) mid b in
+      let T : Bool → Type 0 = λ o. Front free (units_told al w pads z.counts (told_highest o z.counts.high) us) mid b in
       let g = marked_in z.extensible outside (is_count_within z.counts us.0) x y a mid b t m p.1 (λ e. root_in al w pads z.counts z.counts.high us mid b (subst T e f)) (λ e. outside_in al w pads z.counts z.counts.high us mid b (subst T e f)) in
       let h = if_in free (is_count_within held us.0) (Per.marked z.extensible (is_count_within z.counts us.0) x y) a b p.0 g in
       if_in free (length us.1 == us.0 * w) _ a b (eq-eqb _ _ l) (subst (λ n. Front free (only_if (is_count_within held n) (Per.marked z.extensible (is_count_within z.counts n) x y)) a b) (sym (length-units w us.0 us.1)) h)
@@ -156,28 +150,30 @@ module _ (free : Per.Freedom → Bool) where
       let h = subst (λ n. Front free (only_if (is_count_within held n) (Per.marked z.extensible (is_count_within z.counts n) x y)) a b) (length-units w us.0 us.1) i.1 in
       let j = if_out free (is_count_within held us.0) (Per.marked z.extensible (is_count_within z.counts us.0) x y) a b h in
       let q = marked_out z.extensible (is_count_within z.counts us.0) x y a b j.1 in
-      record { outside = q.outside; mid = q.mid; mark = q.mark; units = go q.outside q.may q.mid q.root_form q.outer_form; may = and_from _ _ j.0 q.may }
+      record { outside = q.outside; mid = q.mid; bit = q.bit; units = go q.outside q.may q.mid q.root_form q.outer_form; may = and_from _ _ j.0 q.may }
     where
-      go : (o : Bool) → (o || is_count_within z.counts us.0) ≡ true → (m : Place) → (o ≡ false → Front free (Per.sized_root al z.counts z.counts.high (pads us.0) (units_of w us.0 us.1)) m b) → (o ≡ true → Front free (Per.counted al (units_of w us.0 us.1)) m b) → Front free (units_told al w pads z.counts (told_highest z.counts.high o) us) m b
+      go : (o : Bool) → (o || is_count_within z.counts us.0) ≡ true → (m : Place) → (o ≡ false → Front free (Per.sized_root al z.counts z.counts.high (pads us.0) (units_of w us.0 us.1)) m b) → (o ≡ true → Front free (Per.counted al (units_of w us.0 us.1)) m b) → Front free (units_told al w pads z.counts (told_highest o z.counts.high) us) m b
       go true k m g h = outside_out al w pads z.counts z.counts.high us m b (eqb-true _ _ (if_out free (length us.1 == us.0 * w) _ a b f).0) (h refl)
       go false k m g h = root_out al w pads z.counts z.counts.high us m b (eqb-true _ _ (if_out free (length us.1 == us.0 * w) _ a b f).0) k (g refl)
 
   -- ---- refusals
-  pub no_mark : (al : Bool) (z : Size) (held : Counts) (w : ℕ) (pads : ℕ → Counts → Bool) (a : Place) → NoneStands free (size_mark z.extensible) a → NoneStands free (sized_units al z held w pads) a
-  no_mark al z held w pads a n us b f = let m = sized_out al z held w pads us a b f in n m.outside m.mid m.mark
+  pub no_heading : (al : Bool) (z : Size) (held : Counts) (w : ℕ) (pads : ℕ → Counts → Bool) (a : Place) → NoneStands free (heading_form al z) a → NoneStands free (sized_units al z held w pads) a
+  no_heading al z held w pads a n us b f =
+      let m = sized_out al z held w pads us a b f in
+      units_headed free al w pads z.counts (told_highest m.outside z.counts.high) us m.mid b m.units (λ d c g. n (record { is_outside = m.outside; determinant = d }) c (join free (extension_bit z.extensible m.outside) (determinant_form al z.counts (told_highest m.outside z.counts.high) d) a m.mid c m.bit g))
 
-  pub no_units : (al : Bool) (z : Size) (held : Counts) (w : ℕ) (pads : ℕ → Counts → Bool) (outside : Bool) (a mid : Place) → Front free (size_mark z.extensible outside) a mid → NoneStands free (units_told al w pads z.counts (told_highest z.counts.high outside)) mid → NoneStands free (sized_units al z held w pads) a
+  pub no_units : (al : Bool) (z : Size) (held : Counts) (w : ℕ) (pads : ℕ → Counts → Bool) (outside : Bool) (a mid : Place) → Front free (extension_bit z.extensible outside) a mid → NoneStands free (units_told al w pads z.counts (told_highest outside z.counts.high)) mid → NoneStands free (sized_units al z held w pads) a
   no_units al z held w pads outside a mid k n us b f =
       let m = sized_out al z held w pads us a b f in
-      let o = mark_one z.extensible outside m.outside a mid m.mid k m.mark in
-      let u = subst (λ p. Front free (units_told al w pads z.counts (told_highest z.counts.high m.outside) us) p b) (sym o.1) m.units in
-      n us b (subst (λ t. Front free (units_told al w pads z.counts (told_highest z.counts.high t) us) mid b) (sym o.0) u)
+      let o = same_extension_bit free z.extensible outside m.outside a mid m.mid k m.bit in
+      let u = subst (λ p. Front free (units_told al w pads z.counts (told_highest m.outside z.counts.high) us) p b) (sym o.1) m.units in
+      n us b (subst (λ t. Front free (units_told al w pads z.counts (told_highest t z.counts.high) us) mid b) (sym o.0) u)
 
-  pub not_admitted : (al : Bool) (z : Size) (held : Counts) (w : ℕ) (pads : ℕ → Counts → Bool) (vs : Units) (outside : Bool) (a mid c : Place) → Front free (size_mark z.extensible outside) a mid → Front free (units_told al w pads z.counts (told_highest z.counts.high outside) vs) mid c → admitted held z.counts outside vs.0 ≡ false → NoneStands free (sized_units al z held w pads) a
+  pub not_admitted : (al : Bool) (z : Size) (held : Counts) (w : ℕ) (pads : ℕ → Counts → Bool) (vs : Units) (outside : Bool) (a mid c : Place) → Front free (extension_bit z.extensible outside) a mid → Front free (units_told al w pads z.counts (told_highest outside z.counts.high) vs) mid c → admitted held z.counts outside vs.0 ≡ false → NoneStands free (sized_units al z held w pads) a
   not_admitted al z held w pads vs outside a mid c k h d us b f =
       let m = sized_out al z held w pads us a b f in
-      let o = mark_one z.extensible outside m.outside a mid m.mid k m.mark in
-      let u = subst (λ p. Front free (units_told al w pads z.counts (told_highest z.counts.high m.outside) us) p b) (sym o.1) m.units in
-      let v = subst (λ t. Front free (units_told al w pads z.counts (told_highest z.counts.high t) us) mid b) (sym o.0) u in
-      let n = told_one al w pads z.counts (told_highest z.counts.high outside) vs us mid c b h v in
+      let o = same_extension_bit free z.extensible outside m.outside a mid m.mid k m.bit in
+      let u = subst (λ p. Front free (units_told al w pads z.counts (told_highest m.outside z.counts.high) us) p b) (sym o.1) m.units in
+      let v = subst (λ t. Front free (units_told al w pads z.counts (told_highest t z.counts.high) us) mid b) (sym o.0) u in
+      let n = told_one al w pads z.counts (told_highest outside z.counts.high) vs us mid c b h v in
       false≢true (sym d ∙ ap (λ t. admitted held z.counts t vs.0) o.0 ∙ ap (admitted held z.counts m.outside) n ∙ m.may)

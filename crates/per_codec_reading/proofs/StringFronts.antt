@@ -21,7 +21,7 @@ use Rattle.per_codec_reading.specs.Fronts.{NoneStands, IsFresh, Misses}
 use Rattle.per_codec_reading.proofs.Fronts.{none_misses}
 use Rattle.per_codec_reading.specs.Units.{Units, units_of}
 use Rattle.per_codec_reading.specs.Sizes.{pads_of, sized_units}
-use Rattle.per_codec_reading.specs.declared.sizes.Contents.TheVariants.{Strings}
+use Rattle.per_codec_reading.specs.declared.sized.Contents.TheVariants.{Strings}
 use Rattle.per_codec_reading.proofs.OctetFronts.{length-octet_bits, octet_pieces}
 use Rattle.per_codec_reading.proofs.RunFronts.{one}
 

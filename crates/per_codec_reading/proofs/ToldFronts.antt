@@ -44,12 +44,6 @@ module _ (free : Per.Freedom → Bool) where
   no_number al low high a n k b f = n (k - low) b (if_out free (leb low k && leb k high) _ a b f).1
 
   module _ (al : Bool) (w : ℕ) (pads : ℕ → Counts → Bool) (c : Counts) (high : ℕ) where
-    pub no_count : (a : Place) → NoneStands free (told_count al c.low high) a → NoneStands free (told_units al w pads c high) a
-    no_count a n us b f =
-        let i = if_out free (length us.1 == us.0 * w) _ a b f in
-        let s = split free (told_count al c.low high us.0) (Per.at_octet (al && pads us.0 c) (exactly us.1)) a b i.1 in
-        n us.0 s.0 s.1
-
     -- what stands behind the number
     behind : (n : ℕ) (us : Units) (a m b : Place) → Front free (told_count al c.low high n) a m → Front free (told_units al w pads c high us) a b → (length us.1 ≡ n * w) × Front free (Per.at_octet (al && pads n c) (exactly us.1)) m b
     behind n us a m b h f =

@@ -1,5 +1,5 @@
 -- What stands in front of the bits that are still to be read, and why a reader refuses them.
-use Rattle.std.specs.Prelude.{◌≡◌, ◌+◌, ◌++◌, Bool, true, false, List, length}
+use Rattle.std.specs.Prelude.{◌≡◌, ◌+◌, ◌++◌, Bool, List, length}
 use Rattle.asn1_model.specs.Form.{placed}
 use Rattle.asn1_model.specs.Per.{Freedom, BitForm, filling, missing}
 use Rattle.asn1_model.specs.Rules.{lenient}
@@ -34,6 +34,14 @@ Misses free f old OutOfMemory = Unit {0}
 Misses free f old AlreadyFailed = ⊥
 Misses free f old e = NoneStands free f old
 
--- The bits that fill up to the next octet (X.691 11.1).
+-- With one form in front of the old place, another stands in front of the new one.
+abbrev pub Completes : (Freedom → Bool) → BitForm → BitForm → Place → Place → Type 0
+Completes free first whole old new = (a : Place) → Front free first a old → Front free whole a new
+
+-- Why a reader that goes on behind a form refuses: none of the forms stands in front of that.
+abbrev pub MissesRest : {X : Type 0} → (Freedom → Bool) → BitForm → (X → BitForm) → Place → DecodeError → Type 0
+MissesRest free first f old e = (a : Place) → Front free first a old → Misses free f a e
+
+-- The padding up to the next octet (X.691 11.1).
 abbrev pub to_octet : BitForm
 to_octet = placed (λ p. filling (missing p))

@@ -1,4 +1,4 @@
-//! Lengths (X.691 11.9.3).
+//! Length determinants of the general form (X.691 11.9.3).
 ghost use Rattle.std.specs.Prelude.{◌≡◌, ◌≤◌, ◌<◌, false, IfOk, IfErr};
 ghost use Rattle.per_codec_fronts.specs.Takes.{Front};
 ghost use Rattle.per_codec_reading.specs.Fronts.{freedoms, Misses};
@@ -6,11 +6,11 @@ ghost use Rattle.per_codec_reading.specs.Fronts as fronts;
 ghost use Rattle.per_codec_reading.specs.Lengths.{IsLength, length_form};
 ghost use Rattle.per_codec_reading.specs.Units.{count_of};
 
-use crate::filling::align;
+use crate::padding::align;
 use crate::{Cursor, FRAGMENT, Variant};
 use asn1_schema_faults::DecodeError;
 
-/// What stands in front of units.
+/// A length determinant of the general form.
 #[derive(Clone, Copy, Debug, PartialEq, Eq)]
 pub enum Length {
     /// So many units, below 16384, and no more behind them.
@@ -34,10 +34,10 @@ impl Length {
     }
 }
 
-/// Reads a length that begins here: seven bits, fourteen bits or six, behind the bits that tell which (X.691 11.9.3.6
+/// Reads a length determinant that begins here: seven bits, fourteen bits or six, behind the bits that tell which (X.691 11.9.3.6
 /// to 11.9.3.8).
 #[inline(always)]
-fn read_header(cursor: &mut Cursor<'_>, variant: Variant) -> Result<Length, DecodeError>
+fn read_unaligned_length(cursor: &mut Cursor<'_>, variant: Variant) -> Result<Length, DecodeError>
     ensures ok { IfOk result (λ length. Front (freedoms variant) (length_form false length) cursor.old cursor.new) }
     ensures bound { IfOk result IsLength }
     ensures only { IfErr result (Misses (freedoms variant) (length_form false) cursor.old) }
@@ -57,8 +57,8 @@ fn read_header(cursor: &mut Cursor<'_>, variant: Variant) -> Result<Length, Deco
     Ok(Length::Fragment(multiple))
 }
 
-/// Reads a length, or the length of a fragment, at an octet in the aligned variant (X.691 11.9.3.5 to 11.9.3.8). A
-/// length below 128 is also taken in fourteen bits.
+/// Reads a length determinant of the general form, that of a fragment or a last one, at an octet in the aligned variant
+/// (X.691 11.9.3.5 to 11.9.3.8). A length below 128 is also taken in fourteen bits.
 ///
 /// # Errors
 ///
@@ -72,5 +72,5 @@ pub fn read_length(cursor: &mut Cursor<'_>, variant: Variant) -> Result<Length, 
     ensures only { IfErr result (Misses (freedoms variant) (length_form (fronts.is_aligned variant)) cursor.old) }
 {
     align(cursor, variant)?;
-    read_header(cursor, variant)
+    read_unaligned_length(cursor, variant)
 }

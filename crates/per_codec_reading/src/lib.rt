@@ -1,17 +1,18 @@
-//! Readers of the parts that the packed encoding rules (X.691) put values together from, unaligned and aligned: a
-//! cursor over the input, filling, lengths, constrained whole numbers, BOOLEAN and NULL, and units of one width behind
-//! their number, with the strings that are made of them. Each reader answers a value just where its form stands in
-//! front, and takes its bits; it refuses, but for want of memory, just where none does. Nothing is said of the cursor
-//! after a refusal. Units that stand in one piece are lent; fragments are joined.
+//! Readers of what the packed encoding rules (X.691) put values together from, unaligned and aligned: a cursor over the
+//! input, padding, length determinants, constrained whole numbers, BOOLEAN and NULL, what stands in front of the items
+//! of a size, and units of one width behind their number, with the strings that are made of them. Each reader answers a
+//! value just where its form stands in front, and takes its bits; it refuses, but for want of memory, just where none
+//! does. Nothing is said of the cursor after a refusal. Units that stand in one piece are lent; fragments are joined.
 #![tactic(auto)]
 
 pub mod cursor;
-pub mod filling;
 pub mod identifiers;
 pub mod lengths;
 pub mod numbers;
 pub mod octets;
+pub mod padding;
 pub mod runs;
+pub mod sized;
 pub mod sizes;
 pub mod strings;
 pub mod texts;
@@ -23,6 +24,7 @@ pub use lengths::Length;
 pub use octets::read_counted_octets;
 pub use per_codec_limits::{FRAGMENT, LONG_COUNT, Variant};
 pub use runs::{Run, RunBits, read_counted};
-pub use sizes::{Contents, read_sized};
+pub use sized::{Contents, read_sized};
+pub use sizes::{Heading, LengthDeterminant, is_admitted, read_heading};
 pub use strings::{lent_by, read_bit_string, read_octet_string, read_octet_string_in};
 pub use texts::read_utf8_string;

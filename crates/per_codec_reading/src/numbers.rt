@@ -7,7 +7,7 @@ ghost use Rattle.per_codec_reading.specs.Fronts as fronts;
 ghost use Rattle.per_codec_reading.specs.Fronts.{freedoms, Misses};
 ghost use Rattle.per_codec_reading.specs.Lengths.{aligned_within, number_within};
 
-use crate::filling::align;
+use crate::padding::align;
 use crate::{Cursor, Variant};
 use asn1_schema_faults::DecodeError;
 use asn1_values_natives::octets::bit_count;

@@ -5,9 +5,9 @@ ghost use Rattle.asn1_model.specs.Numbers.{octet_bits};
 ghost use Rattle.asn1_values_bits.specs.BitStr.{bits_of, offset_of};
 ghost use Rattle.asn1_values_bits.specs.Octets.{filled_up};
 ghost use Rattle.per_codec_fronts.specs.Takes.{Front};
-ghost use Rattle.per_codec_reading.specs.Fronts.{freedoms, Misses};
+ghost use Rattle.per_codec_reading.specs.Fronts.{freedoms, Completes, Misses, MissesRest};
 ghost use Rattle.per_codec_reading.specs.Fronts as fronts;
-ghost use Rattle.per_codec_reading.specs.Lengths.{IsLength};
+ghost use Rattle.per_codec_reading.specs.Lengths.{IsLength, length_form};
 ghost use Rattle.per_codec_reading.specs.Units.{counted_units, piece_form};
 ghost use Rattle.per_codec_reading.specs.Runs.{units_in, IsLent, EndsWith, EndsWithLent, Continued};
 
@@ -90,6 +90,47 @@ fn read_further(
     }
 }
 
+/// Reads the units that stand behind a length which was read. Fewer than 16384 of them in one piece are lent; what
+/// stands in fragments, of one to four times 16384 in any order, is joined, and memory is taken only for units that are
+/// there.
+///
+/// # Errors
+///
+/// Those of [`read_counted`].
+#[inline(always)]
+pub(crate) fn read_units_behind<'input>(
+    alloc: Global,
+    cursor: &mut Cursor<'input>,
+    variant: Variant,
+    width: u32,
+    length: Length,
+) -> Result<Run<'input>, DecodeError>
+    requires { IsLength length }
+    ensures ok { IfOk result (λ run. Completes (freedoms variant) (length_form (fronts.is_aligned variant) length)
+        (counted_units (fronts.is_aligned variant) width (units_in run)) cursor.old cursor.new) }
+    ensures lent { IfOk result (λ run. run.count < 16384 → IsLent run.bits) }
+    ensures joined { IfOk result (λ run. IsLent run.bits → run.count < 16384) }
+    ensures last { IfOk result (λ run. EndsWithLent run.bits cursor.old cursor.new) }
+    ensures only { IfErr result (MissesRest (freedoms variant) (length_form (fronts.is_aligned variant) length)
+        (counted_units (fronts.is_aligned variant) width) cursor.old) }
+{
+    let bits = cursor.take(length.count() * width as usize)?;
+    match length {
+        Length::Short(count) => Ok(Run {
+            count,
+            bits: RunBits::Lent(bits),
+        }),
+        Length::Fragment(multiple) => {
+            let first = multiple * FRAGMENT;
+            let all = read_further(alloc, cursor, variant, width, first, bits)?;
+            Ok(Run {
+                count: all.0,
+                bits: RunBits::Joined(all.1),
+            })
+        }
+    }
+}
+
 /// Reads units of so many bits each behind their number (X.691 11.9). Up to 16383 of them in one piece are lent; what
 /// stands in fragments, of one to four times 16384 in any order, is joined, and memory is taken only for units that are
 /// there.
@@ -112,25 +153,6 @@ pub fn read_counted<'input>(
     ensures only { IfErr result (Misses (freedoms variant)
         (counted_units (fronts.is_aligned variant) width) cursor.old) }
 {
-    let first = read_piece(cursor, variant, width)?;
-    match first.length {
-        Length::Short(count) => Ok(Run {
-            count,
-            bits: RunBits::Lent(first.bits),
-        }),
-        Length::Fragment(multiple) => {
-            let all = read_further(
-                alloc,
-                cursor,
-                variant,
-                width,
-                multiple * FRAGMENT,
-                first.bits,
-            )?;
-            Ok(Run {
-                count: all.0,
-                bits: RunBits::Joined(all.1),
-            })
-        }
-    }
+    let length = read_length(cursor, variant)?;
+    read_units_behind(alloc, cursor, variant, width, length)
 }

@@ -5,19 +5,19 @@ ghost use Rattle.asn1_model.specs.Per as Per;
 ghost use Rattle.asn1_model.specs.Schema as Asn1;
 ghost use Rattle.asn1_model.specs.Value as Asn1Value;
 ghost use Rattle.asn1_schema_constraints.specs.Bounds.{counts_of};
-ghost use Rattle.asn1_schema_constraints.specs.Terms.{sizes_of};
+ghost use Rattle.asn1_schema_constraints.specs.Terms.{size_of};
 ghost use Rattle.asn1_values_bits.specs.BitStr.{bits_of, offset_of};
 ghost use Rattle.per_codec_fronts.specs.Takes.{Front};
 ghost use Rattle.per_codec_reading.specs.Fronts.{freedoms, Misses};
 ghost use Rattle.per_codec_reading.specs.Fronts as fronts;
 ghost use Rattle.per_codec_reading.specs.Runs.{bits_in, EndsAtOctet, InOneRun, IsLent, StandsBefore, StandsIn};
 ghost use Rattle.per_codec_reading.specs.Runs.{storage_of};
-ghost use Rattle.per_codec_reading.specs.Sizes.{surely_told};
+ghost use Rattle.per_codec_reading.specs.Sizes.{told_in_front};
 
 use crate::runs::{Run, RunBits};
-use crate::sizes::{Contents, read_sized};
+use crate::sized::{Contents, read_sized};
 use crate::{Cursor, Variant};
-use asn1_schema_constraints::{Bounded, Constraints};
+use asn1_schema_constraints::{Bounded, Sizes};
 use asn1_schema_faults::DecodeError;
 use asn1_values_bit_strings::BitString;
 use asn1_values_bits::BitStr;
@@ -36,25 +36,17 @@ pub fn read_octet_string<'input>(
     alloc: Global,
     cursor: &mut Cursor<'input>,
     variant: Variant,
-    constraints: Constraints,
+    sizes: Sizes,
     held: Bounded<usize>,
 ) -> Result<CowSlice<'input, u8>, DecodeError>
     ensures ok { IfOk result (λ octets. Front (freedoms variant)
-        (Per.form (fronts.is_aligned variant) (Asn1.octet_string (sizes_of constraints.entry.size) (counts_of held))
+        (Per.form (fronts.is_aligned variant) (Asn1.octet_string (size_of sizes) (counts_of held))
         (Asn1Value.octet_list (cow_slice_items octets))) cursor.old cursor.new) }
     ensures only { IfErr result (Misses (freedoms variant)
-        (Per.form (fronts.is_aligned variant) (Asn1.octet_string (sizes_of constraints.entry.size) (counts_of held)))
+        (Per.form (fronts.is_aligned variant) (Asn1.octet_string (size_of sizes) (counts_of held)))
         cursor.old) }
 {
-    let units = read_sized(
-        alloc,
-        cursor,
-        variant,
-        constraints,
-        held,
-        8,
-        Contents::Strings,
-    )?;
+    let units = read_sized(alloc, cursor, variant, sizes, held, 8, Contents::Strings)?;
     let octets = units.into_octets(alloc)?;
     Ok(octets)
 }
@@ -91,29 +83,21 @@ pub fn read_octet_string_in<'input>(
     input: BitStr<'input>,
     cursor: &mut Cursor<'_>,
     variant: Variant,
-    constraints: Constraints,
+    sizes: Sizes,
     held: Bounded<usize>,
 ) -> Result<CowSlice<'input, u8>, DecodeError>
     requires { StandsIn (bits_of input) cursor.old }
     ensures ok { IfOk result (λ octets. Front (freedoms variant)
-        (Per.form (fronts.is_aligned variant) (Asn1.octet_string (sizes_of constraints.entry.size) (counts_of held))
+        (Per.form (fronts.is_aligned variant) (Asn1.octet_string (size_of sizes) (counts_of held))
         (Asn1Value.octet_list (cow_slice_items octets))) cursor.old cursor.new) }
-    ensures lent { IfOk result (λ octets. InOneRun (surely_told (sizes_of constraints.entry.size))
+    ensures lent { IfOk result (λ octets. InOneRun (told_in_front (size_of sizes) cursor.old.1)
         (length (cow_slice_items octets)) → EndsAtOctet (Some (offset_of input.entry)) cursor.new.0
         → IsBorrowedSlice octets) }
     ensures only { IfErr result (Misses (freedoms variant)
-        (Per.form (fronts.is_aligned variant) (Asn1.octet_string (sizes_of constraints.entry.size) (counts_of held)))
+        (Per.form (fronts.is_aligned variant) (Asn1.octet_string (size_of sizes) (counts_of held)))
         cursor.old) }
 {
-    let units = read_sized(
-        alloc,
-        cursor,
-        variant,
-        constraints,
-        held,
-        8,
-        Contents::Strings,
-    )?;
+    let units = read_sized(alloc, cursor, variant, sizes, held, 8, Contents::Strings)?;
     let units = Run {
         count: units.count,
         bits: lent_by(input, cursor.position(), units.bits),
@@ -144,25 +128,17 @@ pub fn read_bit_string(
     alloc: Global,
     cursor: &mut Cursor<'_>,
     variant: Variant,
-    constraints: Constraints,
+    sizes: Sizes,
     held: Bounded<usize>,
 ) -> Result<BitString, DecodeError>
     ensures ok { IfOk result (λ x. Front (freedoms variant)
-        (Per.form (fronts.is_aligned variant) (Asn1.bit_string (sizes_of constraints.entry.size) (counts_of held))
+        (Per.form (fronts.is_aligned variant) (Asn1.bit_string (size_of sizes) (counts_of held))
         (Asn1Value.bit_list x)) cursor.old cursor.new) }
     ensures only { IfErr result (Misses (freedoms variant)
-        (Per.form (fronts.is_aligned variant) (Asn1.bit_string (sizes_of constraints.entry.size) (counts_of held)))
+        (Per.form (fronts.is_aligned variant) (Asn1.bit_string (size_of sizes) (counts_of held)))
         cursor.old) }
 {
-    let units = read_sized(
-        alloc,
-        cursor,
-        variant,
-        constraints,
-        held,
-        1,
-        Contents::Strings,
-    )?;
+    let units = read_sized(alloc, cursor, variant, sizes, held, 1, Contents::Strings)?;
     let string = string_of(alloc, units.bits)?;
     Ok(string)
 }

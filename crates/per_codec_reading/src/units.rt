@@ -1,8 +1,9 @@
-//! Single bits, BOOLEAN and NULL (X.691 12 and 18).
+//! Single bits, extension bits, BOOLEAN and NULL (X.691 12 and 18).
 ghost use Rattle.std.specs.Prelude.{◌≡◌, [], ◌∷◌, IfOk, IfErr, OnOk};
 ghost use Rattle.asn1_model.specs.Per as Per;
 ghost use Rattle.asn1_model.specs.Schema as Asn1;
 ghost use Rattle.asn1_model.specs.Value as Asn1Value;
+ghost use Rattle.per_codec_fronts.specs.Sizes.{extension_bit};
 ghost use Rattle.per_codec_fronts.specs.Takes.{Front};
 ghost use Rattle.per_codec_reading.specs.Fronts as fronts;
 ghost use Rattle.per_codec_reading.specs.Fronts.{freedoms, Misses};
@@ -11,7 +12,7 @@ ghost use Rattle.per_codec_reading.specs.Lengths.{one_bit};
 use crate::{Cursor, Variant};
 use asn1_schema_faults::DecodeError;
 
-/// Reads a bit, such as a mark of extensibility or a presence bit.
+/// Reads a bit, such as an extension bit or a presence bit.
 ///
 /// # Errors
 ///
@@ -24,6 +25,29 @@ pub fn read_bit(cursor: &mut Cursor<'_>, variant: Variant) -> Result<bool, Decod
 {
     let number = cursor.take_number(1)?;
     Ok(number == 1)
+}
+
+/// Reads an extension bit, where there is an extension mark: whether a number of items, an item or an alternative is
+/// outside the root (X.691 14.3, 16.6, 17.3, 20.4, 23.5 and 30.4).
+///
+/// # Errors
+///
+/// `Incomplete` if there is no bit.
+#[inline(always)]
+pub fn read_extension_bit(
+    cursor: &mut Cursor<'_>,
+    variant: Variant,
+    is_extensible: bool,
+) -> Result<bool, DecodeError>
+    ensures ok { IfOk result (λ is_outside. Front (freedoms variant)
+        (extension_bit is_extensible is_outside) cursor.old cursor.new) }
+    ensures only { IfErr result (Misses (freedoms variant) (extension_bit is_extensible) cursor.old) }
+{
+    if !is_extensible {
+        return Ok(false);
+    }
+    let is_outside = read_bit(cursor, variant)?;
+    Ok(is_outside)
 }
 
 /// Reads a truth value (X.691 12).

@@ -28,7 +28,7 @@ use Rattle.per_codec_reading.specs.Fronts.{NoneStands, IsFresh, Misses}
 use Rattle.per_codec_reading.proofs.Fronts.{none_misses}
 use Rattle.per_codec_reading.specs.Units.{Units, pieces, units_of}
 use Rattle.per_codec_reading.specs.Sizes.{pads_of, sized_units}
-use Rattle.per_codec_reading.specs.declared.sizes.Contents.TheVariants.{Characters}
+use Rattle.per_codec_reading.specs.declared.sized.Contents.TheVariants.{Characters}
 use Rattle.per_codec_reading.proofs.UnitFronts.{length-pieces}
 use Rattle.per_codec_reading_values.specs.Spelled.{has_code, text_of, Spells, Stuck, IsFitting}
 use Rattle.per_codec_reading_values.proofs.Steps.{front, split_bits}

@@ -13,8 +13,8 @@ use Rattle.per_codec_fronts.specs.Takes.{Place, Front}
 use Rattle.per_codec_fronts.proofs.Fronts.{split, join, if_in, if_out, nothing_front, of_refused}
 use Rattle.per_codec_reading.specs.Fronts.{NoneStands}
 use Rattle.per_codec_reading.specs.Lengths.{one_bit}
-use Rattle.per_codec_reading.specs.Sizes.{size_mark}
-use Rattle.per_codec_reading.proofs.SizedFronts.{mark_one}
+use Rattle.per_codec_fronts.specs.Sizes.{extension_bit}
+use Rattle.per_codec_fronts.proofs.Next.{same_extension_bit}
 use Rattle.per_codec_reading_values.specs.Places.{root_form, added_form, place_form, NoItem}
 
 -- ---- tables of items
@@ -33,28 +33,16 @@ mark_is P None e m = sym m
 mark_is P (Some x) e m = sym m.0
 
 module _ (free : Per.Freedom → Bool) where
-  -- ---- the mark
-  pub mark_read : (e v : Bool) (a b : Place) → e ≡ true → Front free (one_bit v) a b → Front free (size_mark e v) a b
-  mark_read true v a b h f = f
-  mark_read false v a b h f = absurd (false≢true h)
-
-  pub no_mark_bit : (e : Bool) (a : Place) → e ≡ true → NoneStands free one_bit a → NoneStands free (size_mark e) a
-  no_mark_bit true a h n = n
-  no_mark_bit false a h n = absurd (false≢true h)
-
-  pub unmarked : (e : Bool) (a : Place) → e ≡ false → Front free (size_mark e false) a a
-  unmarked false a h = nothing_front free a
-  unmarked true a h = absurd (false≢true (sym h))
-
-  mark_in : (e : Bool) (a b : Place) → Front free (Per.mark_of e false) a b → Front free (size_mark e false) a b
+  -- ---- the extension bit
+  mark_in : (e : Bool) (a b : Place) → Front free (Per.mark_of e false) a b → Front free (extension_bit e false) a b
   mark_in false a b f = f
   mark_in true a b f = f
 
-  pub mark_out : (e : Bool) (a b : Place) → Front free (size_mark e false) a b → Front free (Per.mark_of e false) a b
+  pub mark_out : (e : Bool) (a b : Place) → Front free (extension_bit e false) a b → Front free (Per.mark_of e false) a b
   mark_out false a b f = f
   mark_out true a b f = f
 
-  pub added_marked : (e : Bool) (a b : Place) → Front free (size_mark e true) a b → (e ≡ true) × Front free (exactly (true ∷ [])) a b
+  pub added_marked : (e : Bool) (a b : Place) → Front free (extension_bit e true) a b → (e ≡ true) × Front free (exactly (true ∷ [])) a b
   added_marked true a b f = (refl, f)
   added_marked false a b f = absurd (of_refused free a b f)
 
@@ -74,29 +62,29 @@ module _ (free : Per.Freedom → Bool) where
     behind : ℕ → ℕ → Chosen → Per.BitForm
     behind roots others c = cond c.added (added_form al others c.place) (root_form al roots c.place)
 
-    pub added_place : (roots : ℕ) (e : Bool) (others i : ℕ) (v : Bool) (c : Chosen) (a m b : Place) → v ≡ true → c ≡ record { added = true; place = i } → Front free (size_mark e v) a m → Front free (added_form al others i) m b → Front free (place_form al roots e others c) a b
-    added_place roots e others i v c a m b t k f g = subst (λ d. Front free (place_form al roots e others d) a b) (sym k) (join free (size_mark e true) (added_form al others i) a m b (subst (λ u. Front free (size_mark e u) a m) t f) g)
+    pub added_place : (roots : ℕ) (e : Bool) (others i : ℕ) (v : Bool) (c : Chosen) (a m b : Place) → v ≡ true → c ≡ record { added = true; place = i } → Front free (extension_bit e v) a m → Front free (added_form al others i) m b → Front free (place_form al roots e others c) a b
+    added_place roots e others i v c a m b t k f g = subst (λ d. Front free (place_form al roots e others d) a b) (sym k) (join free (extension_bit e true) (added_form al others i) a m b (subst (λ u. Front free (extension_bit e u) a m) t f) g)
 
-    pub root_place : (roots : ℕ) (e : Bool) (others i : ℕ) (v : Bool) (c : Chosen) (a m b : Place) → v ≡ false → c ≡ record { added = false; place = i } → Front free (size_mark e v) a m → Front free (root_form al roots i) m b → Front free (place_form al roots e others c) a b
-    root_place roots e others i v c a m b t k f g = subst (λ d. Front free (place_form al roots e others d) a b) (sym k) (join free (size_mark e false) (root_form al roots i) a m b (subst (λ u. Front free (size_mark e u) a m) t f) g)
+    pub root_place : (roots : ℕ) (e : Bool) (others i : ℕ) (v : Bool) (c : Chosen) (a m b : Place) → v ≡ false → c ≡ record { added = false; place = i } → Front free (extension_bit e v) a m → Front free (root_form al roots i) m b → Front free (place_form al roots e others c) a b
+    root_place roots e others i v c a m b t k f g = subst (λ d. Front free (place_form al roots e others d) a b) (sym k) (join free (extension_bit e false) (root_form al roots i) a m b (subst (λ u. Front free (extension_bit e u) a m) t f) g)
 
-    place_out : (roots : ℕ) (e : Bool) (others : ℕ) (c : Chosen) (a b : Place) → Front free (place_form al roots e others c) a b → (m : Place) × Front free (size_mark e c.added) a m × Front free (cond c.added (added_form al others c.place) (root_form al roots c.place)) m b
-    place_out roots e others c a b f = split free (size_mark e c.added) (cond c.added (added_form al others c.place) (root_form al roots c.place)) a b f
+    place_out : (roots : ℕ) (e : Bool) (others : ℕ) (c : Chosen) (a b : Place) → Front free (place_form al roots e others c) a b → (m : Place) × Front free (extension_bit e c.added) a m × Front free (cond c.added (added_form al others c.place) (root_form al roots c.place)) m b
+    place_out roots e others c a b f = split free (extension_bit e c.added) (cond c.added (added_form al others c.place) (root_form al roots c.place)) a b f
 
-    pub no_place_mark : (roots : ℕ) (e : Bool) (others : ℕ) (a : Place) → NoneStands free (size_mark e) a → NoneStands free (place_form al roots e others) a
+    pub no_place_mark : (roots : ℕ) (e : Bool) (others : ℕ) (a : Place) → NoneStands free (extension_bit e) a → NoneStands free (place_form al roots e others) a
     no_place_mark roots e others a n c b f = let s = place_out roots e others c a b f in n c.added s.0 s.1
 
-    pub no_added_place : (roots : ℕ) (e : Bool) (others : ℕ) (v : Bool) (a m : Place) → v ≡ true → Front free (size_mark e v) a m → NoneStands free (added_form al others) m → NoneStands free (place_form al roots e others) a
+    pub no_added_place : (roots : ℕ) (e : Bool) (others : ℕ) (v : Bool) (a m : Place) → v ≡ true → Front free (extension_bit e v) a m → NoneStands free (added_form al others) m → NoneStands free (place_form al roots e others) a
     no_added_place roots e others v a m t f n c b g =
         let s = place_out roots e others c a b g in
-        let q = mark_one free e v c.added a m s.0 f s.1 in
+        let q = same_extension_bit free e v c.added a m s.0 f s.1 in
         let h = subst (λ u. Front free (cond u (added_form al others c.place) (root_form al roots c.place)) s.0 b) (sym q.0 ∙ t) s.2 in
         n c.place b (subst (λ p. Front free (added_form al others c.place) p b) (sym q.1) h)
 
-    pub no_root_place : (roots : ℕ) (e : Bool) (others : ℕ) (v : Bool) (a m : Place) → v ≡ false → Front free (size_mark e v) a m → NoneStands free (root_form al roots) m → NoneStands free (place_form al roots e others) a
+    pub no_root_place : (roots : ℕ) (e : Bool) (others : ℕ) (v : Bool) (a m : Place) → v ≡ false → Front free (extension_bit e v) a m → NoneStands free (root_form al roots) m → NoneStands free (place_form al roots e others) a
     no_root_place roots e others v a m t f n c b g =
         let s = place_out roots e others c a b g in
-        let q = mark_one free e v c.added a m s.0 f s.1 in
+        let q = same_extension_bit free e v c.added a m s.0 f s.1 in
         let h = subst (λ u. Front free (cond u (added_form al others c.place) (root_form al roots c.place)) s.0 b) (sym q.0 ∙ t) s.2 in
         n c.place b (subst (λ p. Front free (root_form al roots c.place) p b) (sym q.1) h)
 
@@ -117,12 +105,12 @@ module _ (free : Per.Freedom → Bool) where
     pub root_is : (roots : ℕ) (e : Bool) (others i : ℕ) (a b : Place) → i < roots → Front free (both (Per.mark_of e false) (Per.constrained al (roots - 1) i)) a b → Front free (place_form al roots e others (record { added = false; place = i })) a b
     root_is roots e others i a b l f =
         let s = split free (Per.mark_of e false) (Per.constrained al (roots - 1) i) a b f in
-        join free (size_mark e false) (root_form al roots i) a s.0 b (mark_in e a s.0 s.1) (if_in free (ltb i roots) (Per.constrained al (roots - 1) i) s.0 b (lt-ltb i roots l) s.2)
+        join free (extension_bit e false) (root_form al roots i) a s.0 b (mark_in e a s.0 s.1) (if_in free (ltb i roots) (Per.constrained al (roots - 1) i) s.0 b (lt-ltb i roots l) s.2)
 
     pub added_is : (roots : ℕ) (others i : ℕ) (a b : Place) → i < others → Front free (both (exactly (true ∷ [])) (Per.normally_small al i)) a b → Front free (place_form al roots true others (record { added = true; place = i })) a b
     added_is roots others i a b l f =
         let s = split free (exactly (true ∷ [])) (Per.normally_small al i) a b f in
-        join free (size_mark true true) (added_form al others i) a s.0 b s.1 (if_in free (ltb i others) (Per.normally_small al i) s.0 b (lt-ltb i others l) s.2)
+        join free (extension_bit true true) (added_form al others i) a s.0 b s.1 (if_in free (ltb i others) (Per.normally_small al i) s.0 b (lt-ltb i others l) s.2)
 
     -- ---- ENUMERATED
     pub item_stands : (roots adds : List ℤ) (e : Bool) (others : ℕ) (v : ℤ) (c : Chosen) (a b : Place) → IsPlaced roots e adds v c.added c.place → Front free (place_form al (length roots) e others c) a b → Front free (Per.form al (enumerated roots e adds) (item v)) a b

@@ -4,7 +4,7 @@ use Rattle.asn1_model.specs.Form.{both, only_if}
 use Rattle.asn1_model.specs.Per.{BitForm, constrained, normally_small}
 use Rattle.asn1_schema_variants.specs.declared.chosen.Chosen.{Chosen}
 use Rattle.per_codec_reading_values.specs.Whole.{is_offset}
-use Rattle.per_codec_reading.specs.Sizes.{size_mark}
+use Rattle.per_codec_fronts.specs.Sizes.{extension_bit}
 
 -- A normally small number, if 128 bits hold it (X.691 11.6).
 abbrev pub small_form : Bool → ℕ → BitForm
@@ -18,9 +18,9 @@ root_form al count i = only_if (ltb i count) (constrained al (count - 1) i)
 abbrev pub added_form : Bool → ℕ → ℕ → BitForm
 added_form al count i = only_if (ltb i count) (normally_small al i)
 
--- The mark of extensibility, if there is one, and the place.
+-- The extension bit, if there is one, and the place.
 abbrev pub place_form : Bool → ℕ → Bool → ℕ → Chosen → BitForm
-place_form al roots e others c = both (size_mark e c.added)
+place_form al roots e others c = both (extension_bit e c.added)
     (cond c.added (added_form al others c.place) (root_form al roots c.place))
 
 -- There is no item at the place: it is past those of its table.

@@ -145,8 +145,8 @@ fn read_marked(
     read_root(alloc, cursor, variant, bounds)
 }
 
-/// Reads a number under a value constraint (X.691 13), which is one of 128 bits: where a mark of extensibility follows
-/// the bounds a bit tells whether they count, and numbers within them are also taken where they do not.
+/// Reads a number under a value constraint (X.691 13), which is one of 128 bits: where an extension mark follows the
+/// bounds the extension bit tells whether they count, and numbers within them are also taken where they do not.
 ///
 /// # Errors
 ///

@@ -27,8 +27,8 @@ fn item_at<T: Enumerated>(chosen: Chosen) -> Option<T>
     T::from_enumeration_index(chosen.place)
 }
 
-/// Reads an item of an enumeration (X.691 14): the place of a root item, or that of an added one behind the mark of
-/// extensibility.
+/// Reads an item of an enumeration (X.691 14): the place of a root item, or that of an added one behind the extension
+/// bit.
 ///
 /// # Errors
 ///

@@ -4,37 +4,15 @@ ghost use Rattle.asn1_model.specs.Per as Per;
 ghost use Rattle.per_codec_fronts.specs.Takes.{Front};
 ghost use Rattle.per_codec_reading.specs.Fronts as fronts;
 ghost use Rattle.per_codec_reading.specs.Fronts.{freedoms, Misses};
-ghost use Rattle.per_codec_reading.specs.Sizes.{size_mark};
 ghost use Rattle.per_codec_reading_values.specs.Places.{root_form, added_form, place_form};
 
 use crate::small::read_normally_small;
 use asn1_schema_faults::DecodeError;
 use asn1_schema_variants::Chosen;
 use per_codec_reading::numbers::read_constrained;
-use per_codec_reading::units::read_bit;
+use per_codec_reading::units::read_extension_bit;
 use per_codec_reading::{Cursor, Variant};
 use std::alloc::Global;
-
-/// Whether the place is behind the mark of extensibility, if there is one.
-///
-/// # Errors
-///
-/// `Incomplete` if there is no bit.
-fn read_mark(
-    cursor: &mut Cursor<'_>,
-    variant: Variant,
-    extensible: bool,
-) -> Result<bool, DecodeError>
-    ensures ok { IfOk result (λ is_added. Front (freedoms variant)
-        (size_mark extensible is_added) cursor.old cursor.new) }
-    ensures only { IfErr result (Misses (freedoms variant) (size_mark extensible) cursor.old) }
-{
-    if !extensible {
-        return Ok(false);
-    }
-    let is_added = read_bit(cursor, variant)?;
-    Ok(is_added)
-}
 
 /// The place of one of so many in the root: a constrained whole number.
 ///
@@ -75,8 +53,8 @@ fn read_added(
     Ok(place as usize)
 }
 
-/// Reads the place of an item or alternative, of which there are so many in the root and so many behind the mark of
-/// extensibility, if the type has that (X.691 14 and 23).
+/// Reads the place of an item or alternative, of which there are so many in the root and so many behind the extension
+/// mark, if the type has that (X.691 14 and 23).
 ///
 /// # Errors
 ///
@@ -94,7 +72,7 @@ fn read_place(
     ensures only { IfErr result (Misses (freedoms variant)
         (place_form (fronts.is_aligned variant) roots extensible others) cursor.old) }
 {
-    let is_added = read_mark(cursor, variant, extensible)?;
+    let is_added = read_extension_bit(cursor, variant, extensible)?;
     if is_added {
         let place = read_added(alloc, cursor, variant, others)?;
         return Ok(Chosen::addition(place));

@@ -93,7 +93,7 @@ fn read_codes<S: StaticPermittedAlphabet>(
         alloc,
         cursor,
         variant,
-        constraints,
+        constraints.sizes(),
         Bounded::None,
         alphabet.width(),
         Contents::Characters,

@@ -16,7 +16,7 @@ returns-in_err-align-clause-only c =
     rw (p.1, p.2) (misses_also f (Per.at_octet al) (length_form al) a a _ (no_length_at_all f al a) c.in_err-align.ensures.only)
 
 pub returns-clause-ok : goal.returns-clause-ok
-returns-clause-ok c = ok_also c.read_header.result (λ l. length_after (freedoms c.args.variant) (is_aligned c.args.variant) l c.args.cursor.now c.align.new.cursor c.read_header.new.cursor c.in_ok-align.ensures.ok) c.read_header.ensures.ok
+returns-clause-ok c = ok_also c.read_unaligned_length.result (λ l. length_after (freedoms c.args.variant) (is_aligned c.args.variant) l c.args.cursor.now c.align.new.cursor c.read_unaligned_length.new.cursor c.in_ok-align.ensures.ok) c.read_unaligned_length.ensures.ok
 
 pub returns-clause-only : goal.returns-clause-only
 returns-clause-only c =
@@ -24,4 +24,4 @@ returns-clause-only c =
     let al = is_aligned c.args.variant in
     let a = c.args.cursor.now in
     let m = c.align.new.cursor in
-    err_also c.read_header.result (λ e. misses_also f (length_form false) (length_form al) m a e (no_length_behind f al a m c.in_ok-align.ensures.ok)) c.read_header.ensures.only
+    err_also c.read_unaligned_length.result (λ e. misses_also f (length_form false) (length_form al) m a e (no_length_behind f al a m c.in_ok-align.ensures.ok)) c.read_unaligned_length.ensures.only

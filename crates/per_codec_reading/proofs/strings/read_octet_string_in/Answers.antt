@@ -5,13 +5,13 @@ use Rattle.asn1_model.specs.Per
 use Rattle.asn1_model.specs.Schema.{octet_string}
 use Rattle.per_codec_reading.proofs.OctetFronts.{length-octet_bits}
 use Rattle.asn1_schema_constraints.specs.Bounds.{counts_of}
-use Rattle.asn1_schema_constraints.specs.Terms.{sizes_of}
+use Rattle.asn1_schema_constraints.specs.Terms.{size_of}
 use Rattle.asn1_values_bits.specs.BitStr.{bits_of, offset_of}
 use Rattle.per_codec_reading.specs.Fronts.{freedoms, is_aligned}
 use Rattle.per_codec_reading.proofs.Fronts.{misses_also}
 use Rattle.per_codec_reading.specs.Runs.{bits_in, units_in, InOneRun, StandsBefore}
-use Rattle.per_codec_reading.specs.Sizes.{pads_of, sized_units, surely_told}
-use Rattle.per_codec_reading.specs.declared.sizes.Contents.TheVariants.{Strings}
+use Rattle.per_codec_reading.specs.Sizes.{pads_of, sized_units, told_in_front}
+use Rattle.per_codec_reading.specs.declared.sized.Contents.TheVariants.{Strings}
 use Rattle.per_codec_reading.proofs.LastFronts.{stands_before}
 use Rattle.per_codec_reading.proofs.StringFronts.{sized_size, octet_string_stands, no_octet_string}
 use Rattle.per_codec_reading.proofs.strings.read_octet_string_in.Goals as goal
@@ -21,7 +21,7 @@ returns-in_err-units-clause-only c =
     let p = err_from_is_err_and c.from_residual.result c.from_residual.ensures.1 in
     let f = freedoms c.args.variant in
     let al = is_aligned c.args.variant in
-    let z = sizes_of c.args.constraints.size in
+    let z = size_of c.args.sizes in
     let h = counts_of c.args.held in
     let a = c.args.cursor.now in
     rw (p.1, p.2) (misses_also f (sized_units al z h 8 (pads_of Strings 8)) (Per.form al (octet_string z h)) a a _ (no_octet_string f al z h a) c.in_err-units.ensures.only)
@@ -36,25 +36,25 @@ lent_by-requires c =
 pub into_octets-requires : goal.into_octets-requires
 into_octets-requires c =
     let us = units_in c.in_ok-units.units in
-    let n = sized_size (freedoms c.args.variant) (is_aligned c.args.variant) (sizes_of c.args.constraints.size) (counts_of c.args.held) 8 (pads_of Strings 8) us c.args.cursor.now c.read_sized.new.cursor c.in_ok-units.ensures.ok in
+    let n = sized_size (freedoms c.args.variant) (is_aligned c.args.variant) (size_of c.args.sizes) (counts_of c.args.held) 8 (pads_of Strings 8) us c.args.cursor.now c.read_sized.new.cursor c.in_ok-units.ensures.ok in
     let l : length (bits_in c.lent_by.result) ≡ length us.1 = ap length c.lent_by.ensures.same in
     omega (arith, n, l)
 
 pub returns-clause-ok : goal.returns-clause-ok
 returns-clause-ok c =
     let us = units_in c.in_ok-units.units in
-    octet_string_stands (freedoms c.args.variant) (is_aligned c.args.variant) (sizes_of c.args.constraints.size) (counts_of c.args.held) us (cow_slice_items c.in_ok-octets.octets) c.args.cursor.now c.read_sized.new.cursor c.in_ok-units.ensures.ok c.in_ok-octets.ensures.small (c.in_ok-octets.ensures.octets ∙ c.lent_by.ensures.same)
+    octet_string_stands (freedoms c.args.variant) (is_aligned c.args.variant) (size_of c.args.sizes) (counts_of c.args.held) us (cow_slice_items c.in_ok-octets.octets) c.args.cursor.now c.read_sized.new.cursor c.in_ok-units.ensures.ok c.in_ok-octets.ensures.small (c.in_ok-octets.ensures.octets ∙ c.lent_by.ensures.same)
 
 pub returns-clause-lent : goal.returns-clause-lent
 returns-clause-lent c = λ one end.
     let us = units_in c.in_ok-units.units in
     let os = cow_slice_items c.in_ok-octets.octets in
-    let n = sized_size (freedoms c.args.variant) (is_aligned c.args.variant) (sizes_of c.args.constraints.size) (counts_of c.args.held) 8 (pads_of Strings 8) us c.args.cursor.now c.read_sized.new.cursor c.in_ok-units.ensures.ok in
+    let n = sized_size (freedoms c.args.variant) (is_aligned c.args.variant) (size_of c.args.sizes) (counts_of c.args.held) 8 (pads_of Strings 8) us c.args.cursor.now c.read_sized.new.cursor c.in_ok-units.ensures.ok in
     let l = length-octet_bits os in
     let m : length (bits_in c.lent_by.result) ≡ length us.1 = ap length c.lent_by.ensures.same in
     let o = ap length c.in_ok-octets.ensures.octets in
     let k : length os ≡ us.0 = omega (arith, n, l, m, o) in
-    let lent = c.in_ok-units.ensures.lent (subst (λ j. InOneRun (surely_told (sizes_of c.args.constraints.size)) j) k one) in
+    let lent = c.in_ok-units.ensures.lent (subst (λ j. InOneRun (told_in_front (size_of c.args.sizes) c.args.cursor.now.1) j) k one) in
     let whole : length us.1 % 8 ≡ 0 = omega (arith, n) in
     let e : (offset_of c.args.input + c.position.result) % 8 ≡ 0 = subst (λ j. (offset_of c.args.input + j) % 8 ≡ 0) (sym c.position.ensures) end in
     c.in_ok-octets.ensures.lent (c.lent_by.ensures.lent lent whole ∙ ap Some e)

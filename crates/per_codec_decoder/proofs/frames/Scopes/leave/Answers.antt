@@ -1,5 +1,5 @@
 use Rattle.std.proofs.Common.{◌∷◌, sym, ap, ◌∙◌}
-use Rattle.per_codec_decoder.specs.Additions.{unknown_marks}
+use Rattle.per_codec_decoder.specs.Additions.{unknown_presence}
 use Rattle.per_codec_decoder.specs.Scopes.{Open, scope_of, scopes_of}
 use Rattle.per_codec_decoder.proofs.Due.{no_end_due}
 use Rattle.per_codec_decoder.proofs.frames.Scopes.leave.Goals as goal
@@ -10,4 +10,4 @@ returns-then-additions-gt0-clause-none c =
     let k = c.pop.new.self.scopes in
     let e = sym c.take.ensures.value ∙ c.in_default.is ∙ sym c.take.ensures.after in
     let s = ap (λ (o : Open). o.scopes) (sym c.self.view_is) ∙ ap (λ e. scopes_of e c.self.inside.innermost c.self.inside.outer.items) e ∙ c.in-Some-Added.ensures.some ∙ ap (λ f. scope_of f ∷ k) c.in-Some-Added.field-0-is in
-    no_end_due x.left x.bitmap.place.1 (unknown_marks x) c.args.self.now.scopes k c.if-additions-gt0.true s
+    no_end_due x.left x.bitmap.place.1 (unknown_presence x) c.args.self.now.scopes k c.if-additions-gt0.true s

@@ -1,0 +1,17 @@
+-- What stands in front of the items of a size, of a string as of a list or bag (X.691 16, 17, 20, 22 and 30).
+use Rattle.std.specs.Prelude.{ℕ, not, ltb, Bool, true, false, cond, [], ◌∷◌, Option, Some, None}
+use Rattle.asn1_model.specs.Form.{exactly, only_if, nothing_more}
+use Rattle.asn1_model.specs.Per
+
+-- An extension bit, where there is an extension mark: whether the count of a size is outside the root, or marked so
+-- (X.691 16.6, 17.3, 20.4 and 30.4), or an item or alternative is added (X.691 14.3 and 23.5).
+abbrev pub extension_bit : Bool → Bool → Per.BitForm
+extension_bit false outside = only_if (not outside) nothing_more
+extension_bit true outside = exactly (outside ∷ [])
+
+-- The highest count, if it is below 65536 and the count is in the root: it then tells the form of the count (X.691
+-- 11.9.4.1).
+abbrev pub told_highest : Bool → Option ℕ → Option ℕ
+told_highest true high = None
+told_highest false None = None
+told_highest false (Some high) = cond (ltb high 65536) (Some high) None

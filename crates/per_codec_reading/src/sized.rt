@@ -1,0 +1,153 @@
+//! Units of a size (X.691 16, 17 and 30): an extension bit, a length determinant, and the units.
+ghost use Rattle.std.specs.Prelude.{◌≡◌, ◌&&◌, IfOk, OnOk, IfErr};
+ghost use Rattle.asn1_model.specs.Form.{nothing_more};
+ghost use Rattle.asn1_model.specs.Per as Per;
+ghost use Rattle.asn1_schema_constraints.specs.Bounds.{counts_of};
+ghost use Rattle.asn1_schema_constraints.specs.Terms.{size_of};
+ghost use Rattle.per_codec_fronts.specs.Takes.{Front};
+ghost use Rattle.per_codec_reading.specs.Fronts.{freedoms, Completes, Misses, MissesRest};
+ghost use Rattle.per_codec_reading.specs.Fronts as fronts;
+ghost use Rattle.per_codec_reading.specs.Runs.{units_in, IsLent, InOneRun, EndsWithLent};
+ghost use Rattle.per_codec_reading.specs.Sizes.{determinant_form, pads_of, sized_units, told_in_front, units_told};
+ghost use Rattle.per_codec_reading.specs.Sizes.{HoldsOneRun, IsDeterminant};
+
+use crate::padding::align;
+use crate::runs::{Run, RunBits, read_units_behind};
+use crate::sizes::{LengthDeterminant, is_admitted, read_heading};
+use crate::{Cursor, Variant};
+use asn1_schema_constraints::{Bounded, Sizes};
+use asn1_schema_faults::DecodeError;
+use std::alloc::Global;
+
+/// What units make up, which tells where padding stands in front of them.
+#[derive(Clone, Copy, Debug, PartialEq, Eq)]
+pub enum Contents {
+    /// A string of bits or of octets (X.691 16 and 17).
+    Strings,
+    /// A string of characters (X.691 30).
+    Characters,
+}
+
+/// Whether units behind a constrained number stand at an octet in the aligned variant (X.691 16.9 to 16.11, 17.6 to
+/// 17.8 and 30.5.6): none does where there are no bits, nor where there is one number alone and all have at most 16
+/// bits.
+#[inline(always)]
+fn is_padded(contents: Contents, width: u32, root: Bounded<usize>, count: usize) -> bool
+    ensures { result ≡ pads_of contents width count (counts_of root) }
+{
+    let has_bits = count > 0 && width > 0;
+    let Some(highest) = root.as_end() else {
+        return has_bits;
+    };
+    let most = (*highest as u128) * (width as u128);
+    let is_padded = has_bits && (*highest != root.minimum() || most > 16);
+    match contents {
+        Contents::Strings => is_padded,
+        Contents::Characters => is_padded && most >= 16,
+    }
+}
+
+/// Goes on to the next octet in the aligned variant, if padding stands in front of what comes.
+///
+/// # Errors
+///
+/// `Incomplete` if there are fewer bits.
+fn align_if(cursor: &mut Cursor<'_>, variant: Variant, is_padded: bool) -> Result<(), DecodeError>
+    ensures ok { OnOk result (Front (freedoms variant)
+        (Per.at_octet (fronts.is_aligned variant && is_padded) nothing_more) cursor.old cursor.new) }
+    ensures only { IfErr result (Misses (freedoms variant)
+        (Per.at_octet (fronts.is_aligned variant && is_padded)) cursor.old) }
+{
+    if is_padded {
+        align(cursor, variant)?;
+    }
+    Ok(())
+}
+
+/// Reads the units that stand behind the first length determinant of a size with this root. Behind a constrained number
+/// they are lent.
+///
+/// # Errors
+///
+/// `Incomplete` if the bits end early, the errors of a length, and `OutOfMemory`.
+#[inline(always)]
+fn read_units<'input>(
+    alloc: Global,
+    cursor: &mut Cursor<'input>,
+    variant: Variant,
+    width: u32,
+    contents: Contents,
+    root: Bounded<usize>,
+    determinant: LengthDeterminant,
+) -> Result<Run<'input>, DecodeError>
+    requires { IsDeterminant determinant }
+    ensures ok { IfOk result (λ run. (told : _) → Completes (freedoms variant)
+        (determinant_form (fronts.is_aligned variant) (counts_of root) told determinant)
+        (units_told (fronts.is_aligned variant) width (pads_of contents width) (counts_of root) told (units_in run))
+        cursor.old cursor.new) }
+    ensures lent { IfOk result (λ run. HoldsOneRun determinant run.count → IsLent run.bits) }
+    ensures last { IfOk result (λ run. EndsWithLent run.bits cursor.old cursor.new) }
+    ensures only { IfErr result (λ e. (told : _) → MissesRest (freedoms variant)
+        (determinant_form (fronts.is_aligned variant) (counts_of root) told determinant)
+        (units_told (fronts.is_aligned variant) width (pads_of contents width) (counts_of root) told)
+        cursor.old e) }
+{
+    match determinant {
+        LengthDeterminant::Constrained(count) => {
+            let padded = is_padded(contents, width, root, count);
+            align_if(cursor, variant, padded)?;
+            let bits = cursor.take(count * width as usize)?;
+            Ok(Run {
+                count,
+                bits: RunBits::Lent(bits),
+            })
+        }
+        LengthDeterminant::General(length) => {
+            let run = read_units_behind(alloc, cursor, variant, width, length)?;
+            Ok(run)
+        }
+    }
+}
+
+/// Reads units of so many bits each under a size constraint, in a type of the program that holds so many (X.691 16, 17
+/// and 30).
+///
+/// # Errors
+///
+/// `SizeConstraintNotSatisfied` if the size or the program's type does not admit as many, `Incomplete` if the bits end
+/// early, the errors of a constrained whole number and of a length, and `OutOfMemory`.
+#[inline(always)]
+pub fn read_sized<'input>(
+    alloc: Global,
+    cursor: &mut Cursor<'input>,
+    variant: Variant,
+    sizes: Sizes,
+    held: Bounded<usize>,
+    width: u32,
+    contents: Contents,
+) -> Result<Run<'input>, DecodeError>
+    ensures ok { IfOk result (λ run. Front (freedoms variant)
+        (sized_units (fronts.is_aligned variant) (size_of sizes) (counts_of held) width (pads_of contents width)
+        (units_in run)) cursor.old cursor.new) }
+    ensures lent { IfOk result (λ run. InOneRun (told_in_front (size_of sizes) cursor.old.1) run.count
+        → IsLent run.bits) }
+    ensures last { IfOk result (λ run. EndsWithLent run.bits cursor.old cursor.new) }
+    ensures only { IfErr result (Misses (freedoms variant)
+        (sized_units (fronts.is_aligned variant) (size_of sizes) (counts_of held) width (pads_of contents width))
+        cursor.old) }
+{
+    let heading = read_heading(cursor, variant, sizes)?;
+    let run = read_units(
+        alloc,
+        cursor,
+        variant,
+        width,
+        contents,
+        sizes.root,
+        heading.determinant,
+    )?;
+    if !is_admitted(sizes.root, held, heading.is_outside, run.count) {
+        return Err(DecodeError::SizeConstraintNotSatisfied);
+    }
+    Ok(run)
+}
