@@ -13,6 +13,7 @@ pub use Rattle.asn1_schema_constraints.specs.Terms.{bit_string_under, character_
 pub use Rattle.asn1_schema_constructed.specs.Chosen.{chosen_value}
 pub use Rattle.asn1_schema_constructed.specs.Constructed.{fields_of, sequence_form, sequence_tags, set_form}
 pub use Rattle.asn1_schema_constructed.specs.Sets.{set_type}
+pub use Rattle.asn1_schema_authored.specs.Shapes.{IsHeading, Shape, shape_through}
 pub use Rattle.asn1_schema_constructed.specs.Tables.{no_variant, variant}
 unfoldable pub use Rattle.asn1_schema_constructed.specs.Tables.{choice_type}
 pub use Rattle.asn1_schema_decode.specs.Reads.{Reads, Unread}
@@ -23,3 +24,11 @@ pub use Rattle.asn1_schema_presented.specs.Tables.{IsType, IsValue, Table, no_fi
 unfoldable pub use Rattle.asn1_schema_presented.specs.Tables.{components_at, list_type, scope, sequence_type}
 pub use Rattle.asn1_schema_presented.specs.Typed.{IsPart}
 pub use Rattle.asn1_schema_types.specs.Counts.{any_number, fixed_to}
+unfoldable pub use Rattle.asn1_model.specs.Normal.{is_tidy}
+pub use Rattle.asn1_model.specs.Value.{chosen}
+pub use Rattle.asn1_model.specs.Schema.{null}
+pub use Rattle.asn1_schema_variants.specs.declared.chosen.Chosen.{Chosen}
+unfoldable pub use Rattle.asn1_schema_constructed.specs.Tables.{alternatives_at}
+pub use Rattle.asn1_schema_constructed.specs.Tables.{Choices}
+pub use Rattle.asn1_schema_constructed.specs.Chosen.{IsAmong}
+unfoldable pub use Rattle.asn1_schema_constructed.specs.Recursive.{recursive_choice}

@@ -6,35 +6,113 @@
 
 pub mod records;
 
-pub use asn1_schema_additions::{
-    AddedDefaulted, AddedDefaultedComponent, AddedGroup, AddedGroupComponent, AddedOptional,
-    AddedOptionalComponent, AddedRequired, AddedRequiredComponent, AdditionsOf, CountOf,
-    DecodeAdditions, DecodeExtension, EncodeAdditions, EncodeExtension, Group, Marked,
-    MarkedComponents, NoMore,
-};
-pub use asn1_schema_constraints::{
-    Bounded, Constraint, ConstraintDiscriminant, Constraints, Effective, Extensible,
-    PermittedAlphabet, Size, Value,
-};
-pub use asn1_schema_constructed::{
-    Alternatives, Choice, Constructed, DecodeAlternatives, DecodeBag, DecodeChoice,
-    DecodeConstructed, DecodeItems, DecodeSet, EncodeBag, EncodeChoice, EncodeConstructed,
-    EncodeItems, EncodeSet, EnumeratedType, Field, FieldPresence, Fields, NamedItems,
-    OptionalAndDefaultFields, Sequence, SequenceFields, alternative_of,
-};
-pub use asn1_schema_decode::{
-    Decode, DecodeComponents, DecodeList, DecodeSequence, Decoder, ReadOctets,
-};
-pub use asn1_schema_encode::{Encode, EncodeComponents, EncodeList, EncodeSequence, Encoder};
-pub use asn1_schema_faults::{CodecKind, DecodeError, EncodeError};
-pub use asn1_schema_tags::{Class, Identifier, Tag, TagTree, Variants};
-pub use asn1_schema_types::{
-    AsnType, ComponentsOf, DefaultOf, Defaulted, DefaultedComponent, Described, End,
-    EqualByMeaning, Optional, OptionalComponent, Required, RequiredComponent, TaggedKind,
-};
-pub use asn1_schema_variants::{Chosen, Enumerated};
-pub use asn1_schema_wrapped::{
-    Any, Constrained, ConstraintsOf, DecodeNamed, EncodeNamed, Explicit, Implicit,
-    InnerSubtypeConstraint, InnerSubtypeConstraintError, InstanceOf, Open, SequenceOf, SetOf,
-    UniversalString, Utf8String, tag,
-};
+pub use asn1_schema_additions::AddedDefaulted;
+pub use asn1_schema_additions::AddedDefaultedComponent;
+pub use asn1_schema_additions::AddedGroup;
+pub use asn1_schema_additions::AddedGroupComponent;
+pub use asn1_schema_additions::AddedOptional;
+pub use asn1_schema_additions::AddedOptionalComponent;
+pub use asn1_schema_additions::AddedRequired;
+pub use asn1_schema_additions::AddedRequiredComponent;
+pub use asn1_schema_additions::AdditionsOf;
+pub use asn1_schema_additions::CountOf;
+pub use asn1_schema_additions::DecodeAdditions;
+pub use asn1_schema_additions::DecodeExtension;
+pub use asn1_schema_additions::EncodeAdditions;
+pub use asn1_schema_additions::EncodeExtension;
+pub use asn1_schema_additions::Group;
+pub use asn1_schema_additions::Marked;
+pub use asn1_schema_additions::MarkedComponents;
+pub use asn1_schema_additions::NoMore;
+pub use asn1_schema_authored::ChoiceAlternatives;
+pub use asn1_schema_authored::ChoiceOf;
+pub use asn1_schema_authored::Components;
+pub use asn1_schema_authored::Composite;
+pub use asn1_schema_authored::FieldTables;
+pub use asn1_schema_authored::GroupComponents;
+pub use asn1_schema_authored::Heading;
+pub use asn1_schema_authored::NoAddition;
+pub use asn1_schema_authored::OneAddition;
+pub use asn1_schema_authored::Sequence;
+pub use asn1_schema_authored::Set;
+pub use asn1_schema_authored::TwoAdditions;
+pub use asn1_schema_constraints::Bounded;
+pub use asn1_schema_constraints::Constraint;
+pub use asn1_schema_constraints::ConstraintDiscriminant;
+pub use asn1_schema_constraints::Constraints;
+pub use asn1_schema_constraints::Effective;
+pub use asn1_schema_constraints::Extensible;
+pub use asn1_schema_constraints::PermittedAlphabet;
+pub use asn1_schema_constraints::Size;
+pub use asn1_schema_constraints::Value;
+pub use asn1_schema_constructed::Alternatives;
+pub use asn1_schema_constructed::Choice;
+pub use asn1_schema_constructed::Constructed;
+pub use asn1_schema_constructed::DecodeAlternatives;
+pub use asn1_schema_constructed::DecodeBag;
+pub use asn1_schema_constructed::DecodeChoice;
+pub use asn1_schema_constructed::DecodeConstructed;
+pub use asn1_schema_constructed::DecodeItems;
+pub use asn1_schema_constructed::DecodeSet;
+pub use asn1_schema_constructed::EncodeBag;
+pub use asn1_schema_constructed::EncodeChoice;
+pub use asn1_schema_constructed::EncodeConstructed;
+pub use asn1_schema_constructed::EncodeItems;
+pub use asn1_schema_constructed::EncodeSet;
+pub use asn1_schema_constructed::EnumeratedType;
+pub use asn1_schema_constructed::Field;
+pub use asn1_schema_constructed::FieldPresence;
+pub use asn1_schema_constructed::Fields;
+pub use asn1_schema_constructed::NamedItems;
+pub use asn1_schema_constructed::OptionalAndDefaultFields;
+pub use asn1_schema_constructed::alternative_of;
+pub use asn1_schema_decode::Decode;
+pub use asn1_schema_decode::DecodeComponents;
+pub use asn1_schema_decode::DecodeList;
+pub use asn1_schema_decode::DecodeSequence;
+pub use asn1_schema_decode::Decoder;
+pub use asn1_schema_decode::ReadOctets;
+pub use asn1_schema_encode::Encode;
+pub use asn1_schema_encode::EncodeComponents;
+pub use asn1_schema_encode::EncodeList;
+pub use asn1_schema_encode::EncodeSequence;
+pub use asn1_schema_encode::Encoder;
+pub use asn1_schema_faults::CodecKind;
+pub use asn1_schema_faults::DecodeError;
+pub use asn1_schema_faults::EncodeError;
+pub use asn1_schema_tags::Class;
+pub use asn1_schema_tags::Identifier;
+pub use asn1_schema_tags::Tag;
+pub use asn1_schema_tags::TagTree;
+pub use asn1_schema_tags::Variants;
+pub use asn1_schema_types::AsnType;
+pub use asn1_schema_types::ComponentsOf;
+pub use asn1_schema_types::DefaultOf;
+pub use asn1_schema_types::Defaulted;
+pub use asn1_schema_types::DefaultedComponent;
+pub use asn1_schema_types::Described;
+pub use asn1_schema_types::End;
+pub use asn1_schema_types::EqualByMeaning;
+pub use asn1_schema_types::Optional;
+pub use asn1_schema_types::OptionalComponent;
+pub use asn1_schema_types::Required;
+pub use asn1_schema_types::RequiredComponent;
+pub use asn1_schema_types::TaggedKind;
+pub use asn1_schema_variants::Chosen;
+pub use asn1_schema_variants::Enumerated;
+pub use asn1_schema_wrapped::Any;
+pub use asn1_schema_wrapped::Constrained;
+pub use asn1_schema_wrapped::ConstraintsOf;
+pub use asn1_schema_wrapped::DecodeNamed;
+pub use asn1_schema_wrapped::EncodeNamed;
+pub use asn1_schema_wrapped::Explicit;
+pub use asn1_schema_wrapped::Implicit;
+pub use asn1_schema_wrapped::InnerSubtypeConstraint;
+pub use asn1_schema_wrapped::InnerSubtypeConstraintError;
+pub use asn1_schema_wrapped::InstanceOf;
+pub use asn1_schema_wrapped::Open;
+pub use asn1_schema_wrapped::SequenceOf;
+pub use asn1_schema_wrapped::SetOf;
+pub use asn1_schema_wrapped::UniversalString;
+pub use asn1_schema_wrapped::Utf8String;
+pub use asn1_schema_wrapped::tag;

@@ -1,12 +1,12 @@
 //! SEQUENCE {id INTEGER (0..65535), name UTF8String, height [0] INTEGER OPTIONAL, active BOOLEAN, samples SEQUENCE OF
 //! INTEGER (0..255)}.
 ghost use Rattle.std.specs.Prelude.{refl};
-ghost use Rattle.asn1_schema.specs.Author.{fields_of};
-ghost use Rattle.asn1_schema.proofs.Author.{type_sequence, value_sequence};
+ghost use Rattle.asn1_schema.proofs.Author.{sequence_of};
 
 use asn1_schema::{
-    ComponentsOf, DecodeError, DecodeSequence, Decoder, EncodeError, EncodeSequence, Encoder, End,
-    Implicit, Optional, OptionalComponent, Required, RequiredComponent, SequenceFields, Tag, tag,
+    Components, ComponentsOf, DecodeComponents, DecodeError, Decoder, EncodeComponents,
+    EncodeError, Encoder, End, Heading, Implicit, Optional, OptionalComponent, Required,
+    RequiredComponent, tag,
 };
 use asn1_values::Integer;
 use std::alloc::Global;
@@ -32,45 +32,28 @@ type Rest = OptionalComponent<Implicit<tag::Context<0>, Integer>, Last>;
 
 type Form = RequiredComponent<u16, RequiredComponent<String, Rest>>;
 
-impl SequenceFields for Station {
-    ghost table = { ⟦<Form as ComponentsOf>⟧.table };
+impl Components for Station {
+    ghost shape = { sequence_of ⟦<Form as ComponentsOf>⟧ tt refl (λ x. record {
+      0 = x.id;
+      1 = record {
+        0 = x.name;
+        1 =
+            record { 0 = x.height; 1 = record { 0 = x.active; 1 = record { 0 = x.samples; 1 = record {} } } };
+      };
+    }) };
 
-    ghost value = { λ x. fields_of ⟦<Form as ComponentsOf>⟧.root ⟦<Form as ComponentsOf>⟧.added
-        (record {
-          0 = x.id;
-          1 = record {
-            0 = x.name;
-            1 = record {
-              0 = x.height;
-              1 =
-                  record { 0 = x.active; 1 = record { 0 = x.samples; 1 = record {} } };
-            };
-          };
-        }) };
-
-    ghost lawful = { type_sequence _ refl (⟦<Form as ComponentsOf>⟧.typed tt) refl };
-
-    ghost each = { λ x. value_sequence _ (⟦<Form as ComponentsOf>⟧.valued tt
-        (record {
-          0 = x.id;
-          1 = record {
-            0 = x.name;
-            1 = record {
-              0 = x.height;
-              1 =
-                  record { 0 = x.active; 1 = record { 0 = x.samples; 1 = record {} } };
-            };
-          };
-        })) };
-
-    fn write<E: Encoder>(&self, encoder: &mut E, tag: Tag) -> Result<(), EncodeError> {
-        let last = Required(&self.active, Required(&self.samples, End));
-        let rest = Required(&self.name, Optional(&self.height, last));
-        encoder.encode_sequence(tag, 1, &Required(&self.id, rest))
+    fn heading() -> Heading {
+        Heading::sequence(1)
     }
 
-    fn read<D: Decoder>(alloc: Global, decoder: &mut D, tag: Tag) -> Result<Self, DecodeError> {
-        let form: Form = decoder.decode_sequence(alloc, tag, 1)?;
+    fn write_components<E: Encoder>(&self, encoder: &mut E) -> Result<(), EncodeError> {
+        let last = Required(&self.active, Required(&self.samples, End));
+        let rest = Required(&self.name, Optional(&self.height, last));
+        Required(&self.id, rest).encode_components(encoder)
+    }
+
+    fn read_components<D: Decoder>(alloc: Global, decoder: &mut D) -> Result<Self, DecodeError> {
+        let form = Form::decode_components(alloc, decoder)?;
         let RequiredComponent(id, RequiredComponent(name, OptionalComponent(height, last))) = form;
         let RequiredComponent(active, RequiredComponent(samples, End)) = last;
         Ok(Station {

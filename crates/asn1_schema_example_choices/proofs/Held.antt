@@ -1,8 +1,7 @@
 -- How many members a vector holds.
 use Rattle.std.proofs.Common.{◌≡◌, ◌≤◌, ◌-◌, ◌^◌, true, length, Vec, Global, arith}
 use Rattle.std.proofs.lemmas.Bool.{le-leb}
-use Rattle.asn1_model.specs.Numbers.{is_count_within}
-use Rattle.asn1_schema_types.specs.Counts.{any_number}
+use Rattle.asn1_schema.specs.Author.{any_number, is_count_within}
 
 -- Their number is one that 64 bits count.
 pub is_held : {A : Type 0} (v : Vec A Global) → is_count_within any_number (length v.items) ≡ true

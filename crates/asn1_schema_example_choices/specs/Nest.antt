@@ -1,17 +1,11 @@
 -- T ::= CHOICE {leaf [0] NULL, more [1] T}: the type and its values.
 use Rattle.std.specs.Prelude.{◌≡◌, ◌<◌, ℕ, zero, suc, refl, Bool, true, false, [], ◌∷◌}
 use Rattle.std.proofs.Common.{arith, ap, ◌∙◌}
-use Rattle.asn1_model.specs.Value.{Value, nothing, chosen}
-use Rattle.asn1_model.specs.Schema.{Schema, null}
-use Rattle.asn1_model.specs.Types.{context}
-use Rattle.asn1_schema_presented.specs.Tables.{scope, IsType, IsValue}
-use Rattle.asn1_schema_presented.proofs.TypesByKind.{null_type, null_value}
-use Rattle.asn1_schema_presented.proofs.Recursive.{value_as}
-use Rattle.asn1_schema_variants.specs.declared.chosen.Chosen.{Chosen}
-use Rattle.asn1_schema_constructed.specs.Tables.{Choices, variant, no_variant, alternatives_at, choice_type}
-use Rattle.asn1_schema_constructed.specs.Chosen.{IsAmong}
-use Rattle.asn1_schema_constructed.specs.Recursive.{recursive_choice}
-use Rattle.asn1_schema_constructed.proofs.Types.{recursive_choice_type, more_variants, no_variants, value_choice}
+use Rattle.asn1_schema.specs.Author.{Choices, Chosen, IsAmong, IsType, IsValue, Schema, Value, alternatives_at}
+use Rattle.asn1_schema.specs.Author.{choice_type, chosen, context, no_variant, nothing, null, recursive_choice}
+use Rattle.asn1_schema.specs.Author.{scope, variant}
+use Rattle.asn1_schema.proofs.Author.{more_variants, no_variants, null_type, null_value, recursive_choice_type}
+use Rattle.asn1_schema.proofs.Author.{value_as, value_choice}
 use Rattle.asn1_schema_example_choices.specs.declared.nest.Nest.{Nest, Leaf, More'}
 
 -- The alternatives, by the type that the second leads to.

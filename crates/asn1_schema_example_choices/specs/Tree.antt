@@ -1,20 +1,12 @@
 -- T ::= SEQUENCE {value INTEGER, branches SEQUENCE OF T}: the type and its values.
 use Rattle.std.specs.Prelude.{◌≡◌, ℕ, zero, suc, refl, List, [], ◌∷◌, map, None, false}
 use Rattle.std.proofs.Common.{ap, sym, subst, ◌∙◌}
-use Rattle.asn1_model.specs.Value.{Value, Values, Parts, number, members, no_more, member, fields, end}
-use Rattle.asn1_model.specs.Schema.{Schema, required, integer, cut}
-use Rattle.asn1_model.specs.Types.{any_size}
-use Rattle.asn1_model.specs.Lawful.{is_lawful}
-use Rattle.asn1_model.specs.Normal.{is_tidy}
-use Rattle.asn1_schema_presented.specs.Presents.{there, with_part}
-use Rattle.asn1_schema_presented.specs.Parts.{values_of}
-use Rattle.asn1_schema_presented.specs.Tables.{Table, no_table, with_field, components_at, scope, sequence_type}
-use Rattle.asn1_schema_presented.specs.Tables.{list_type, IsType, IsValue}
-use Rattle.asn1_schema_presented.proofs.TypesByKind.{integer_type, integer_value, type_list, value_list}
-use Rattle.asn1_schema_presented.proofs.Values.{no_types, more_types, no_values, more_values, part_required}
-use Rattle.asn1_schema_presented.proofs.Values.{type_sequence, value_sequence}
-use Rattle.asn1_schema_presented.proofs.Recursive.{value_as}
-use Rattle.asn1_schema_types.specs.Counts.{any_number}
+use Rattle.asn1_schema.specs.Author.{IsType, IsValue, Parts, Schema, Table, Value, Values, any_number, any_size}
+use Rattle.asn1_schema.specs.Author.{components_at, cut, end, fields, integer, is_lawful, is_tidy, list_type, member}
+use Rattle.asn1_schema.specs.Author.{members, no_more, no_table, number, required, scope, sequence_type, there}
+use Rattle.asn1_schema.specs.Author.{values_of, with_field, with_part}
+use Rattle.asn1_schema.proofs.Author.{integer_type, integer_value, more_types, more_values, no_types, no_values}
+use Rattle.asn1_schema.proofs.Author.{part_required, type_list, type_sequence, value_as, value_list, value_sequence}
 use Rattle.asn1_schema_example_choices.specs.declared.tree.Tree.{Tree, Tree', Row_of-Tree, end_of-Tree, more_of-Tree}
 use Rattle.asn1_schema_example_choices.specs.declared.tree.Tree.{items-the_row-Tree, items_hidden-the_row-Tree-0}
 use Rattle.asn1_schema_example_choices.specs.declared.tree.Tree.TheBlock.{hidden-the_row-Tree-0}

@@ -1,22 +1,14 @@
 //! CHOICE {flag [0] BOOLEAN, count [1] INTEGER, ..., name [2] UTF8String}.
 ghost use Rattle.std.specs.Prelude.{◌∷◌, [], refl, true, false};
-ghost use Rattle.asn1_model.specs.Types.{context};
-ghost use Rattle.asn1_schema_constraints.specs.Terms.{no_constraint};
-ghost use Rattle.asn1_schema_constructed.specs.Tables.{variant, no_variant, choice_type};
-ghost use Rattle.asn1_schema_constructed.specs.Chosen.{chosen_value};
-ghost use Rattle.asn1_schema_constructed.proofs.Types.{type_choice, more_variants, no_variants, value_choice};
+ghost use Rattle.asn1_schema.specs.Author.{choice_type, chosen_value, context, no_constraint, no_variant, variant};
+ghost use Rattle.asn1_schema.proofs.Author.{more_variants, no_variants, type_choice, value_choice};
 
-use asn1_schema_constraints::Constraints;
-use asn1_schema_constructed::{
-    Alternatives, Choice, DecodeAlternatives, DecodeChoice, EncodeChoice,
+use asn1_schema::{
+    Alternatives, AsnType, Choice, Chosen, Class, Constraints, Decode, DecodeAlternatives,
+    DecodeChoice, DecodeError, Decoder, Described, Encode, EncodeChoice, EncodeError, Encoder,
+    Identifier, Tag, TagTree,
 };
-use asn1_schema_decode::{Decode, Decoder};
-use asn1_schema_encode::{Encode, Encoder};
-use asn1_schema_faults::{DecodeError, EncodeError};
-use asn1_schema_tags::{Class, Identifier, Tag, TagTree};
-use asn1_schema_types::{AsnType, Described};
-use asn1_schema_variants::Chosen;
-use asn1_values_integers::Integer;
+use asn1_values::Integer;
 use std::alloc::Global;
 
 /// A message.

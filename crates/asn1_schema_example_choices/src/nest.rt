@@ -1,16 +1,12 @@
 //! Nest ::= CHOICE {leaf [0] NULL, more [1] Nest}, a type that leads back to itself.
 ghost use Rattle.std.specs.Prelude.{[], ◌∷◌, refl};
-ghost use Rattle.asn1_model.specs.Types.{context};
-ghost use Rattle.asn1_schema_constraints.specs.Terms.{no_constraint};
+ghost use Rattle.asn1_schema.specs.Author.{context, no_constraint};
 
-use asn1_schema_constraints::Constraints;
-use asn1_schema_constructed::{Alternatives, Choice, DecodeAlternatives, EncodeChoice};
-use asn1_schema_decode::{Decode, Decoder};
-use asn1_schema_encode::{Encode, Encoder};
-use asn1_schema_faults::{DecodeError, EncodeError};
-use asn1_schema_tags::{Class, Identifier, Tag, TagTree};
-use asn1_schema_types::{AsnType, Described};
-use asn1_schema_variants::Chosen;
+use asn1_schema::{
+    Alternatives, AsnType, Choice, Chosen, Class, Constraints, Decode, DecodeAlternatives,
+    DecodeError, Decoder, Described, Encode, EncodeChoice, EncodeError, Encoder, Identifier, Tag,
+    TagTree,
+};
 use std::alloc::Global;
 
 /// A nest of any depth.

@@ -1,20 +1,13 @@
 //! Tree ::= SEQUENCE {value INTEGER, branches SEQUENCE OF Tree}, a type that leads back to itself through a list.
 ghost use Rattle.std.specs.Prelude.{◌≡◌, [], ◌∷◌, refl, OnOk, OnErr, IfOk, IfErr};
-ghost use Rattle.asn1_model.specs.Value.{end, members};
-ghost use Rattle.asn1_schema_constraints.specs.Terms.{no_constraint};
-ghost use Rattle.asn1_schema_constructed.specs.Constructed.{sequence_form};
-ghost use Rattle.asn1_schema_decode.specs.Reads.{Reads, Unread};
-ghost use Rattle.asn1_schema_presented.specs.Parts.{values_of};
+ghost use Rattle.asn1_schema.specs.Author.{Reads, Unread, end, members, no_constraint, sequence_form, values_of};
 ghost use Rattle.asn1_schema_example_choices.specs.Tree.{branches_schema, tree_meaning};
 
-use asn1_schema_constraints::{Bounded, Constraints};
-use asn1_schema_constructed::{Constructed, Field, FieldPresence, Fields};
-use asn1_schema_decode::{Decode, Decoder};
-use asn1_schema_encode::{Encode, Encoder};
-use asn1_schema_faults::{DecodeError, EncodeError};
-use asn1_schema_tags::{Identifier, Tag, TagTree};
-use asn1_schema_types::{AsnType, Described};
-use asn1_values_integers::Integer;
+use asn1_schema::{
+    AsnType, Bounded, Constraints, Constructed, Decode, DecodeError, Decoder, Described, Encode,
+    EncodeError, Encoder, Field, FieldPresence, Fields, Identifier, Tag, TagTree,
+};
+use asn1_values::Integer;
 use std::alloc::Global;
 
 /// A number, and the trees that branch off.

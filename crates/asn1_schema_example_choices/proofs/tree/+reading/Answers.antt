@@ -1,9 +1,9 @@
 use Rattle.std.proofs.Common.{refl, ◌∙◌, arith, ap, Err}
-use Rattle.asn1_schema_presented.proofs.Joined.{raised}
-use Rattle.asn1_schema_decode.proofs.Listing.{reads_list, unread_list, unread_list_here, from_start, from_next, from_further, from_stuck, from_close, from_end}
-use Rattle.asn1_schema_decode.proofs.Reading.{reads_as, unread_as, reads_required, reads_end, reads_field, reads_sequence, unread_required, unread_end, unread_field, unread_field_here, unread_sequence, unread_sequence_here}
-use Rattle.asn1_schema_decode.proofs.Failing.{passed_on, failed_reads}
-use Rattle.asn1_schema_constructed.proofs.Counting.{count_marks}
+use Rattle.asn1_schema.proofs.Author.{count_marks, failed_reads, from_close, from_end, from_further, from_next}
+use Rattle.asn1_schema.proofs.Author.{from_start, from_stuck, passed_on, raised, reads_as, reads_end, reads_field}
+use Rattle.asn1_schema.proofs.Author.{reads_list, reads_required, reads_sequence, unread_as, unread_end}
+use Rattle.asn1_schema.proofs.Author.{unread_field, unread_field_here, unread_list, unread_list_here}
+use Rattle.asn1_schema.proofs.Author.{unread_required, unread_sequence, unread_sequence_here}
 use Rattle.asn1_schema_example_choices.specs.Tree.{tree_table, tree_is, branches_schema, branches_are, tree_opens, tree_made, number_typed, branches_typed}
 use Rattle.asn1_schema_example_choices.proofs.Held.{is_held}
 use Rattle.asn1_schema_example_choices.proofs.tree.+reading.Goals as goal

@@ -1,5 +1,5 @@
 use Rattle.std.proofs.Common.{◌≡◌, ◌+◌, ◌*◌, ◌-◌, ◌^◌}
-use Rattle.asn1_schema_decode.proofs.Listing.{ReadsFrom}
+use Rattle.asn1_schema.proofs.Author.{ReadsFrom}
 use Rattle.asn1_schema_example_choices.specs.Tree.{tree_schema, tree_meaning}
 use Rattle.asn1_schema_example_choices.proofs.tree.+reading.Given as goal
 

@@ -1,9 +1,8 @@
 use Rattle.std.proofs.Common.{refl, ◌∙◌}
-use Rattle.asn1_schema_presented.proofs.Joined.{raised}
-use Rattle.asn1_schema_encode.proofs.Writing.{writes_required, writes_end, writes_field, writes_this, writes_as, cannot_as, cannot_required, cannot_end, cannot_field, cannot_field_here, cannot_this, cannot_this_here}
-use Rattle.asn1_schema_constructed.proofs.Counting.{count_marks}
-use Rattle.asn1_schema_presented.proofs.TypesByKind.{integer_value, value_list}
-use Rattle.asn1_schema_encode.proofs.Going.{passed, failed_before_value}
+use Rattle.asn1_schema.proofs.Author.{cannot_as, cannot_end, cannot_field, cannot_field_here, cannot_required}
+use Rattle.asn1_schema.proofs.Author.{cannot_this, cannot_this_here, count_marks, failed_before_value, integer_value}
+use Rattle.asn1_schema.proofs.Author.{passed, raised, value_list, writes_as, writes_end, writes_field}
+use Rattle.asn1_schema.proofs.Author.{writes_required, writes_this}
 use Rattle.asn1_schema_example_choices.specs.Tree.{tree_table, tree_schema, tree_meaning, tree_valued, tree_is, branches_schema, branches_are, tree_opens, number_typed, branches_typed}
 use Rattle.asn1_schema_example_choices.proofs.tree.+writing.Goals as goal
 

@@ -1,7 +1,6 @@
 use Rattle.std.proofs.Common.{refl, false, ap, Err}
-use Rattle.asn1_schema_presented.proofs.Joined.{raised}
-use Rattle.asn1_schema_decode.proofs.Failing.{passed_on, failed_reads}
-use Rattle.asn1_schema_constructed.proofs.ChoiceReading.{reads_begun, unread_begun, unread_begun_here, unread_begun_end}
+use Rattle.asn1_schema.proofs.Author.{failed_reads, passed_on, raised, reads_begun, unread_begun, unread_begun_end}
+use Rattle.asn1_schema.proofs.Author.{unread_begun_here}
 use Rattle.asn1_schema_example_choices.specs.Nest.{nest_table, nest_schema, nest_is, nest_first, nest_second}
 use Rattle.asn1_schema_example_choices.proofs.nest.NestDecode.+decode_with_tag_and_constraints.Goals as goal
 

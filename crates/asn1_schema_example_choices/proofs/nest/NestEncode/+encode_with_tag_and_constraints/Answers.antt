@@ -1,8 +1,6 @@
 use Rattle.std.proofs.Common.{ap, false}
-use Rattle.asn1_schema_presented.proofs.Joined.{raised}
-use Rattle.asn1_schema_presented.proofs.TypesByKind.{null_value}
-use Rattle.asn1_schema_encode.proofs.Going.{passed, failed_before_value}
-use Rattle.asn1_schema_constructed.proofs.ChoiceWriting.{writes_begun, cannot_begun, cannot_begun_here, cannot_begun_end}
+use Rattle.asn1_schema.proofs.Author.{cannot_begun, cannot_begun_end, cannot_begun_here, failed_before_value}
+use Rattle.asn1_schema.proofs.Author.{null_value, passed, raised, writes_begun}
 use Rattle.asn1_schema_example_choices.specs.Nest.{nest_table, nest_schema, nest_is, nest_meaning, nest_valued}
 use Rattle.asn1_schema_example_choices.proofs.nest.NestEncode.+encode_with_tag_and_constraints.Goals as goal
 
