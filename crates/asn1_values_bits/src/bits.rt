@@ -136,8 +136,9 @@ pub fn read_wide(octets: &[u8], position: usize, count: u32) -> u128
     (high as u128) << 64 | low as u128
 }
 
-// The number of sixteen octets that begin at a bit within an octet, the first one highest.
-#[inline(always)]
+// The number of sixteen octets that begin at a bit within an octet, the first one highest. It is called, as clang cuts
+// the number into octets again where it stands within the loop.
+#[inline(never)]
 fn sixteen_across(octets: &[u8], start: usize, offset: u32) -> u128
     requires more { start + 17 ≤ length octets.now }
     requires some { 0 < offset }
