@@ -396,8 +396,11 @@ impl BitBuffer {
         ensures ok { OnOk result (self.new ≡ self.old ++ bits_of bits.entry) }
         ensures err { OnErr result (self.new ≡ self.old) }
     {
-        self.extend_shifted(bits)?;
-        Ok(())
+        let before = self.len();
+        let (octets, rest) = bits.whole_octets();
+        self.extend_from_bytes(octets)?;
+        let extended = self.extend_shifted(rest);
+        self.cut_if_refused(before, extended)
     }
 
     /// Adds the bits of another buffer.

@@ -109,12 +109,12 @@ impl<'a> BitReader<'a> {
         ensures offset { self.new.offset ≡ (self.old.offset + count) % 8 }
     {
         let (_, rest) = self.rest.split_at(count);
-        self.window = if count < self.window.width() as usize {
-            self.window.behind(count as u32)
-        } else {
-            BitWindow::new(rest)
-        };
         self.rest = rest;
+        if count < self.window.width() as usize {
+            self.window.pass(count as u32);
+        } else {
+            self.window = BitWindow::new(rest);
+        }
     }
 
     /// The first bit.

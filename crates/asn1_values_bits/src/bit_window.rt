@@ -76,16 +76,14 @@ impl BitWindow {
         }
     }
 
-    /// The bits behind the first `count`.
+    /// Takes the first `count` bits off.
     #[inline(always)]
-    pub(crate) fn behind(&self, count: u32) -> Self
-        requires { count < self.now.width }
-        ensures behind { shown result ≡ drop count (shown self.now) }
-        ensures fewer { result.width + count ≡ self.now.width }
+    pub(crate) fn pass(&mut self, count: u32)
+        requires { count < self.old.width }
+        ensures behind { shown self.new ≡ drop count (shown self.old) }
+        ensures fewer { self.new.width + count ≡ self.old.width }
     {
-        BitWindow {
-            number: self.number << count,
-            width: self.width - count,
-        }
+        self.number <<= count;
+        self.width -= count;
     }
 }

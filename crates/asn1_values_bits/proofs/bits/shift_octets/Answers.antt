@@ -11,13 +11,13 @@ pub loop-target-preserved : goal.loop-target-preserved
 loop-target-preserved c =
     let ts : List ℕ = c.loop-target.target in
     let i : ℕ = c.loop-target.done in
-    let room : i + 16 ≤ length ts = omega (arith, c.loop-target-test.true) in
-    let written : c.copy_from_slice.new.self ≡ bytes_high_first 16 c.sixteen_across-sixteen.result = c.copy_from_slice.ensures.after ∙ c.to_be_bytes.ensures in
-    let front : take (i + 16) (put_mid i (i + 16 - i) ts c.copy_from_slice.new.self) ≡ take i ts ++ bytes_high_first 16 c.sixteen_across-sixteen.result =
-    take-put_mid i (i + 16 - i) ts c.copy_from_slice.new.self (i + 16) (ap (λ l. i + length l) (sym written)) (omega (arith, room)) ∙ ap (λ l. take i ts ++ l) written in
+    let room : i + 8 ≤ length ts = omega (arith, c.loop-target-test.true) in
+    let written : c.copy_from_slice.new.self ≡ bytes_high_first 8 c.eight_across-eight.result = c.copy_from_slice.ensures.after ∙ c.to_be_bytes.ensures in
+    let front : take (i + 8) (put_mid i (i + 8 - i) ts c.copy_from_slice.new.self) ≡ take i ts ++ bytes_high_first 8 c.eight_across-eight.result =
+    take-put_mid i (i + 8 - i) ts c.copy_from_slice.new.self (i + 8) (ap (λ l. i + length l) (sym written)) (omega (arith, room)) ∙ ap (λ l. take i ts ++ l) written in
     record {
       within = omega (arith, room, c.loop-target.auto.target);
-      copied = octets_more 16 c.args.source.now ts _ i c.args.offset c.sixteen_across-sixteen.result c.loop-target.invariant.copied c.sixteen_across-sixteen.ensures front;
+      copied = octets_more 8 c.args.source.now ts _ i c.args.offset c.eight_across-eight.result c.loop-target.invariant.copied c.eight_across-eight.ensures front;
     }
 
 pub loop-i-preserved : goal.loop-i-preserved

@@ -1,7 +1,7 @@
 use Rattle.asn1_values_bits.specs.BitWindow.{shown}
 use Rattle.std.proofs.Common.{arith}
 use Rattle.asn1_values_bits.proofs.Shown.{shown_behind}
-use Rattle.asn1_values_bits.proofs.bit_window.BitWindow.behind.Goals as goal
+use Rattle.asn1_values_bits.proofs.bit_window.BitWindow.pass.Goals as goal
 
 pub returns-clause-behind : goal.returns-clause-behind
 unfolding shown
