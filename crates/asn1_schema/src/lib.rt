@@ -44,7 +44,6 @@ pub use asn1_schema_constraints::Effective;
 pub use asn1_schema_constraints::Extensible;
 pub use asn1_schema_constraints::PermittedAlphabet;
 pub use asn1_schema_constraints::Size;
-pub use asn1_schema_constraints::Sizes;
 pub use asn1_schema_constraints::Value;
 pub use asn1_schema_constructed::Alternatives;
 pub use asn1_schema_constructed::Choice;
