@@ -1,1 +1,1 @@
-mod Emptied
+mod Alike
