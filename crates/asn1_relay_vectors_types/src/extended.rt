@@ -1,6 +1,5 @@
 //! Sequences with a mark of extensibility.
 ghost use Rattle.std.specs.Prelude.{refl};
-ghost use Rattle.asn1_schema.proofs.Author.{sequence_of};
 
 use crate::listed::{Listed, Unnamed};
 use crate::sequences::Tagged;
@@ -18,13 +17,13 @@ type Note = AddedOptionalComponent<(), NoMore>;
 type NotedForm = OptionalComponent<OctetString, MarkedComponents<OneAddition, Note>>;
 
 impl Listed for NotedForm {
-    ghost shape = { sequence_of ⟦<NotedForm as ComponentsOf>⟧ tt refl (λ x. x) };
+    ghost defaults = { tt };
+
+    ghost distinct = { refl };
 
     fn heading() -> Heading {
         Heading::sequence(1).extensible()
     }
-
-    ghost same = { (refl, λ _. refl, λ _. refl) };
 }
 
 /// SEQUENCE {it [0] INTEGER, is [1] OCTET STRING OPTIONAL, late [2] INTEGER OPTIONAL, ..., today [3] OCTET STRING}.
@@ -40,11 +39,11 @@ type ScheduleForm = RequiredComponent<
 >;
 
 impl Listed for ScheduleForm {
-    ghost shape = { sequence_of ⟦<ScheduleForm as ComponentsOf>⟧ tt refl (λ x. x) };
+    ghost defaults = { tt };
+
+    ghost distinct = { refl };
 
     fn heading() -> Heading {
         Heading::sequence(2).extensible()
     }
-
-    ghost same = { (refl, λ _. refl, λ _. refl) };
 }

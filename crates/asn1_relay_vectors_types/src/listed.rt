@@ -1,25 +1,29 @@
-//! Sequences and sets that consist of their components as they are read, without names.
-ghost use Rattle.std.specs.Prelude.{◌≡◌};
-ghost use Rattle.asn1_schema.specs.Author.{IsHeading, Shape, shape_through};
+//! Sequences that consist of their components as they are read, without names.
+ghost use Rattle.std.specs.Prelude.{◌≡◌, ◌++◌, true};
+ghost use Rattle.asn1_model.specs.Lawful.{are_distinct, tag_same};
+ghost use Rattle.asn1_schema.specs.Author.{IsHeading, sequence_form};
+ghost use Rattle.asn1_schema.proofs.Author.{sequence_of};
+ghost use Rattle.asn1_schema_presented.specs.Tables.{field_tags};
+ghost use Rattle.asn1_schema_presented.specs.Typed.{AreDefaults};
 
 use crate::written::WriteComponents;
 use asn1_schema::{
-    Components, DecodeComponents, DecodeError, Decoder, EncodeError, Encoder, Heading,
+    Components, ComponentsOf, DecodeComponents, DecodeError, Decoder, EncodeError, Encoder, Heading,
 };
 use std::alloc::Global;
 
-/// Components as they are read, and which type they make.
+/// The components of a SEQUENCE as they are read.
 pub trait Listed: WriteComponents + DecodeComponents {
-    /// The type, and what its values mean.
-    ghost shape: { Shape Self };
+    /// The defaults are values of their components' types.
+    ghost defaults: { AreDefaults Self.ComponentsOf.table };
+
+    /// No tag occurs twice.
+    ghost distinct: { are_distinct tag_same
+        (field_tags Self.ComponentsOf.table.root ++ field_tags Self.ComponentsOf.table.additions) ≡ true };
 
     /// What stands in front of the components.
     fn heading() -> Heading
-        ensures { IsHeading result shape.form shape.table };
-
-    /// It is the type of these components, and a value means what they do.
-    ghost same: { (shape.table ≡ Self.ComponentsOf.table) × ((x : Self) → shape.root x ≡ Self.ComponentsOf.root x)
-        × ((x : Self) → shape.added x ≡ Self.ComponentsOf.added x) };
+        ensures { IsHeading result sequence_form Self.ComponentsOf.table };
 }
 
 /// Components without names.
@@ -29,7 +33,7 @@ pub struct Unnamed<C> {
 }
 
 impl<C: Listed> Components for Unnamed<C> {
-    ghost shape = { shape_through (λ x. x.components) C.shape };
+    ghost shape = { sequence_of ⟦<C as ComponentsOf>⟧ C.defaults C.distinct (λ x. x.components) };
 
     fn heading() -> Heading {
         C::heading()

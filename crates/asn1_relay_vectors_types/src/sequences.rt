@@ -1,7 +1,7 @@
 //! Sequences without a mark of extensibility.
 ghost use Rattle.std.specs.Prelude.{refl, pos};
 ghost use Rattle.asn1_schema.specs.Author.{number};
-ghost use Rattle.asn1_schema.proofs.Author.{integer_default, sequence_of};
+ghost use Rattle.asn1_schema.proofs.Author.{integer_default};
 
 use crate::listed::{Listed, Unnamed};
 use crate::sizes::{ListOfOneOrTwo, ThreeOctets};
@@ -21,26 +21,26 @@ pub type Person = Sequence<Unnamed<PersonForm>>;
 type PersonForm = RequiredComponent<Integer, RequiredComponent<String, End>>;
 
 impl Listed for PersonForm {
-    ghost shape = { sequence_of ⟦<PersonForm as ComponentsOf>⟧ tt refl (λ x. x) };
+    ghost defaults = { tt };
+
+    ghost distinct = { refl };
 
     fn heading() -> Heading {
         Heading::sequence(0)
     }
-
-    ghost same = { (refl, λ _. refl, λ _. refl) };
 }
 
 /// SEQUENCE {}.
 pub type Nothing = Sequence<Unnamed<End>>;
 
 impl Listed for End {
-    ghost shape = { sequence_of ⟦<End as ComponentsOf>⟧ tt refl (λ x. x) };
+    ghost defaults = { tt };
+
+    ghost distinct = { refl };
 
     fn heading() -> Heading {
         Heading::sequence(0)
     }
-
-    ghost same = { (refl, λ _. refl, λ _. refl) };
 }
 
 /// SEQUENCE {a [0] INTEGER DEFAULT 0, b [1] INTEGER OPTIONAL}.
@@ -71,13 +71,13 @@ impl DefaultOf<Tagged<0, Integer>> for Zero {
 }
 
 impl Listed for OffsetForm {
-    ghost shape = { sequence_of ⟦<OffsetForm as ComponentsOf>⟧ (integer_default _ _ _ refl, tt) refl (λ x. x) };
+    ghost defaults = { (integer_default _ _ _ refl, tt) };
+
+    ghost distinct = { refl };
 
     fn heading() -> Heading {
         Heading::sequence(2)
     }
-
-    ghost same = { (refl, λ _. refl, λ _. refl) };
 }
 
 /// SEQUENCE {number INTEGER, middle SEQUENCE {number INTEGER, inner SEQUENCE {number INTEGER,
@@ -87,37 +87,37 @@ pub type Outer = Sequence<Unnamed<OuterForm>>;
 type OuterForm = RequiredComponent<Integer, RequiredComponent<Sequence<Unnamed<MiddleForm>>, End>>;
 
 impl Listed for OuterForm {
-    ghost shape = { sequence_of ⟦<OuterForm as ComponentsOf>⟧ tt refl (λ x. x) };
+    ghost defaults = { tt };
+
+    ghost distinct = { refl };
 
     fn heading() -> Heading {
         Heading::sequence(0)
     }
-
-    ghost same = { (refl, λ _. refl, λ _. refl) };
 }
 
 type MiddleForm = RequiredComponent<Integer, OptionalComponent<Sequence<Unnamed<InnerForm>>, End>>;
 
 impl Listed for MiddleForm {
-    ghost shape = { sequence_of ⟦<MiddleForm as ComponentsOf>⟧ tt refl (λ x. x) };
+    ghost defaults = { tt };
+
+    ghost distinct = { refl };
 
     fn heading() -> Heading {
         Heading::sequence(1)
     }
-
-    ghost same = { (refl, λ _. refl, λ _. refl) };
 }
 
 type InnerForm = RequiredComponent<Integer, OptionalComponent<Tagged<0, Integer>, End>>;
 
 impl Listed for InnerForm {
-    ghost shape = { sequence_of ⟦<InnerForm as ComponentsOf>⟧ tt refl (λ x. x) };
+    ghost defaults = { tt };
+
+    ghost distinct = { refl };
 
     fn heading() -> Heading {
         Heading::sequence(1)
     }
-
-    ghost same = { (refl, λ _. refl, λ _. refl) };
 }
 
 /// SEQUENCE {required INTEGER, first [0] INTEGER OPTIONAL, second [1] INTEGER OPTIONAL, and so on to
@@ -135,13 +135,13 @@ type LastFour<R> = Maybe<8, Maybe<9, Maybe<10, Maybe<11, R>>>>;
 type TwelveForm = RequiredComponent<Integer, FirstFour<NextFour<LastFour<End>>>>;
 
 impl Listed for TwelveForm {
-    ghost shape = { sequence_of ⟦<TwelveForm as ComponentsOf>⟧ tt refl (λ x. x) };
+    ghost defaults = { tt };
+
+    ghost distinct = { refl };
 
     fn heading() -> Heading {
         Heading::sequence(12)
     }
-
-    ghost same = { (refl, λ _. refl, λ _. refl) };
 }
 
 /// SEQUENCE {flag BOOLEAN, fixed [0] SEQUENCE (SIZE (2)) OF OCTET STRING (SIZE (3)), ranged [1]
@@ -159,11 +159,11 @@ type BlocksForm = RequiredComponent<
 >;
 
 impl Listed for BlocksForm {
-    ghost shape = { sequence_of ⟦<BlocksForm as ComponentsOf>⟧ tt refl (λ x. x) };
+    ghost defaults = { tt };
+
+    ghost distinct = { refl };
 
     fn heading() -> Heading {
         Heading::sequence(0)
     }
-
-    ghost same = { (refl, λ _. refl, λ _. refl) };
 }

@@ -1,7 +1,7 @@
 //! Sequences and sets that are newer versions of others.
 ghost use Rattle.std.specs.Prelude.{refl};
 ghost use Rattle.asn1_schema.specs.Author.{no_field};
-ghost use Rattle.asn1_schema.proofs.Author.{sequence_of, set_of};
+ghost use Rattle.asn1_schema.proofs.Author.{set_of};
 ghost use Rattle.asn1_schema_versions.proofs.Defaults.{default_gains};
 ghost use Rattle.asn1_schema_versions.proofs.Fields.{gains_additions, grown_field, no_fields, same_tags};
 ghost use Rattle.asn1_schema_versions.proofs.Fields.{sequence_extends, set_gains_additions};
@@ -15,15 +15,18 @@ ghost use Rattle.asn1_relay_vectors_types.specs.Unfolding.{bag_unfolds, group_un
 use crate::listed::{Listed, Unnamed};
 use crate::sequences::Tagged;
 use crate::sizes::ListOfOneOrTwo;
+use crate::written::WriteComponents;
 use asn1_relay_types::{Nest, New, NewDefault, NewFields, Old, OldDefault, OldFields};
 use asn1_schema::{
-    AddedGroupComponent, AddedOptionalComponent, AddedRequiredComponent, AdditionsOf, ComponentsOf,
-    Described, End, Heading, MarkedComponents, NoAddition, NoMore, OneAddition, OptionalComponent,
-    RequiredComponent, Sequence, Set, SetOf, TwoAdditions,
+    AddedGroupComponent, AddedOptionalComponent, AddedRequiredComponent, AdditionsOf, Components,
+    ComponentsOf, DecodeComponents, DecodeError, Decoder, Described, EncodeError, Encoder, End,
+    Heading, MarkedComponents, NoAddition, NoMore, OneAddition, OptionalComponent,
+    RequiredComponent, Sequence, Set, SetOf, Tag, TwoAdditions,
 };
 use asn1_schema_example::grown::GrownFields;
 use asn1_schema_versions::ExtendsComponents;
 use asn1_values::{Integer, OctetString};
+use std::alloc::Global;
 
 /// A BOOLEAN, and behind a mark these additions.
 type Flagged<M, A> = RequiredComponent<bool, MarkedComponents<M, A>>;
@@ -36,13 +39,13 @@ type Nests = AddedOptionalComponent<Nest, NoMore>;
 type NestedForm = Flagged<OneAddition, Nests>;
 
 impl Listed for NestedForm {
-    ghost shape = { sequence_of ⟦<NestedForm as ComponentsOf>⟧ tt refl (λ x. x) };
+    ghost defaults = { tt };
+
+    ghost distinct = { refl };
 
     fn heading() -> Heading {
         Heading::sequence(0).extensible()
     }
-
-    ghost same = { (refl, λ _. refl, λ _. refl) };
 }
 
 /// A truth value, and what was added.
@@ -65,13 +68,13 @@ type SecondAndThird = AddedOptionalComponent<u8, Third>;
 type NewestForm = Flagged<TwoAdditions, SecondAndThird>;
 
 impl Listed for NewestForm {
-    ghost shape = { sequence_of ⟦<NewestForm as ComponentsOf>⟧ tt refl (λ x. x) };
+    ghost defaults = { tt };
+
+    ghost distinct = { refl };
 
     fn heading() -> Heading {
         Heading::sequence(0).extensible()
     }
-
-    ghost same = { (refl, λ _. refl, λ _. refl) };
 }
 
 /// What the version in front of it has, and `c`.
@@ -102,13 +105,13 @@ pub type OldList = Sequence<Unnamed<OldListForm>>;
 type OldListForm = RequiredComponent<ListOfOneOrTwo<bool>, MarkedComponents<NoAddition, NoMore>>;
 
 impl Listed for OldListForm {
-    ghost shape = { sequence_of ⟦<OldListForm as ComponentsOf>⟧ tt refl (λ x. x) };
+    ghost defaults = { tt };
+
+    ghost distinct = { refl };
 
     fn heading() -> Heading {
         Heading::sequence(0).extensible()
     }
-
-    ghost same = { (refl, λ _. refl, λ _. refl) };
 }
 
 /// SEQUENCE {l SEQUENCE (SIZE (1..2)) OF BOOLEAN, ..., b INTEGER OPTIONAL}.
@@ -119,13 +122,13 @@ type Numbers = AddedOptionalComponent<Integer, NoMore>;
 type NewListForm = RequiredComponent<ListOfOneOrTwo<bool>, MarkedComponents<OneAddition, Numbers>>;
 
 impl Listed for NewListForm {
-    ghost shape = { sequence_of ⟦<NewListForm as ComponentsOf>⟧ tt refl (λ x. x) };
+    ghost defaults = { tt };
+
+    ghost distinct = { refl };
 
     fn heading() -> Heading {
         Heading::sequence(0).extensible()
     }
-
-    ghost same = { (refl, λ _. refl, λ _. refl) };
 }
 
 /// What the other version has, and `b` behind its mark.
@@ -146,13 +149,13 @@ pub type OldBag = Sequence<Unnamed<OldBagForm>>;
 type OldBagForm = RequiredComponent<SetOf<Old>, End>;
 
 impl Listed for OldBagForm {
-    ghost shape = { sequence_of ⟦<OldBagForm as ComponentsOf>⟧ tt refl (λ x. x) };
+    ghost defaults = { tt };
+
+    ghost distinct = { refl };
 
     fn heading() -> Heading {
         Heading::sequence(0)
     }
-
-    ghost same = { (refl, λ _. refl, λ _. refl) };
 }
 
 /// SEQUENCE {m SET OF SEQUENCE {a BOOLEAN, ..., b INTEGER (0..255) OPTIONAL}}.
@@ -163,13 +166,13 @@ type Second = AddedOptionalComponent<u8, NoMore>;
 type NewBagForm = RequiredComponent<SetOf<New>, End>;
 
 impl Listed for NewBagForm {
-    ghost shape = { sequence_of ⟦<NewBagForm as ComponentsOf>⟧ tt refl (λ x. x) };
+    ghost defaults = { tt };
+
+    ghost distinct = { refl };
 
     fn heading() -> Heading {
         Heading::sequence(0)
     }
-
-    ghost same = { (refl, λ _. refl, λ _. refl) };
 }
 
 /// The same bag, whose members have grown.
@@ -193,13 +196,13 @@ pub type OldHolder = Sequence<Unnamed<OldHolderForm>>;
 type OldHolderForm = Flagged<OneAddition, AddedRequiredComponent<Old, NoMore>>;
 
 impl Listed for OldHolderForm {
-    ghost shape = { sequence_of ⟦<OldHolderForm as ComponentsOf>⟧ tt refl (λ x. x) };
+    ghost defaults = { tt };
+
+    ghost distinct = { refl };
 
     fn heading() -> Heading {
         Heading::sequence(0).extensible()
     }
-
-    ghost same = { (refl, λ _. refl, λ _. refl) };
 }
 
 /// SEQUENCE {a BOOLEAN, ..., s SEQUENCE {a BOOLEAN, ..., b INTEGER (0..255) OPTIONAL}}.
@@ -208,13 +211,13 @@ pub type NewHolder = Sequence<Unnamed<NewHolderForm>>;
 type NewHolderForm = Flagged<OneAddition, AddedRequiredComponent<New, NoMore>>;
 
 impl Listed for NewHolderForm {
-    ghost shape = { sequence_of ⟦<NewHolderForm as ComponentsOf>⟧ tt refl (λ x. x) };
+    ghost defaults = { tt };
+
+    ghost distinct = { refl };
 
     fn heading() -> Heading {
         Heading::sequence(0).extensible()
     }
-
-    ghost same = { (refl, λ _. refl, λ _. refl) };
 }
 
 /// The same addition, whose type has grown.
@@ -238,13 +241,13 @@ pub type OldBracket = Sequence<Unnamed<OldBracketForm>>;
 type OldBracketForm = Flagged<OneAddition, AddedGroupComponent<OldDefault, NoMore>>;
 
 impl Listed for OldBracketForm {
-    ghost shape = { sequence_of ⟦<OldBracketForm as ComponentsOf>⟧ tt refl (λ x. x) };
+    ghost defaults = { tt };
+
+    ghost distinct = { refl };
 
     fn heading() -> Heading {
         Heading::sequence(0).extensible()
     }
-
-    ghost same = { (refl, λ _. refl, λ _. refl) };
 }
 
 /// SEQUENCE {a BOOLEAN, ..., [[s SEQUENCE {a BOOLEAN, ..., b INTEGER (0..255) OPTIONAL} DEFAULT {a TRUE}]]}.
@@ -253,13 +256,13 @@ pub type NewBracket = Sequence<Unnamed<NewBracketForm>>;
 type NewBracketForm = Flagged<OneAddition, AddedGroupComponent<NewDefault, NoMore>>;
 
 impl Listed for NewBracketForm {
-    ghost shape = { sequence_of ⟦<NewBracketForm as ComponentsOf>⟧ tt refl (λ x. x) };
+    ghost defaults = { tt };
+
+    ghost distinct = { refl };
 
     fn heading() -> Heading {
         Heading::sequence(0).extensible()
     }
-
-    ghost same = { (refl, λ _. refl, λ _. refl) };
 }
 
 /// The same group, whose component has grown.
@@ -284,7 +287,7 @@ impl ExtendsComponents<Unnamed<OldBracketForm>> for Unnamed<NewBracketForm> {
 }
 
 /// SET {ready [1] BOOLEAN, level [0] INTEGER (0..255) OPTIONAL, ..., done [9] NULL OPTIONAL}.
-pub type OldGrown = Set<Unnamed<OldGrownForm>>;
+pub type OldGrown = Set<OldGrownFields>;
 
 type Done = AddedOptionalComponent<Tagged<9, ()>, NoMore>;
 
@@ -293,20 +296,36 @@ type OldGrownForm = OptionalComponent<
     RequiredComponent<Tagged<1, bool>, MarkedComponents<OneAddition, Done>>,
 >;
 
-impl Listed for OldGrownForm {
-    ghost shape = { set_of ⟦<OldGrownForm as ComponentsOf>⟧ tt refl refl (λ x. x) };
+/// Its components as they are read.
+#[derive(Drop)]
+pub struct OldGrownFields {
+    components: OldGrownForm,
+}
+
+impl Components for OldGrownFields {
+    const TAG: Tag = Tag::SET;
+
+    ghost shape = { set_of ⟦<OldGrownForm as ComponentsOf>⟧ tt refl refl (λ x. x.components) };
 
     fn heading() -> Heading {
         Heading::set(1).extensible()
     }
 
-    ghost same = { (refl, λ _. refl, λ _. refl) };
+    fn write_components<E: Encoder>(&self, encoder: &mut E) -> Result<(), EncodeError> {
+        self.components.write_components(encoder)?;
+        Ok(())
+    }
+
+    fn read_components<D: Decoder>(alloc: Global, decoder: &mut D) -> Result<Self, DecodeError> {
+        let components = OldGrownForm::decode_components(alloc, decoder)?;
+        Ok(OldGrownFields { components })
+    }
 }
 
 type Next = AddedOptionalComponent<Tagged<2, u8>, NoMore>;
 
 /// What the other version has, and `next [2] INTEGER (0..255) OPTIONAL` behind it.
-impl ExtendsComponents<Unnamed<OldGrownForm>> for GrownFields {
+impl ExtendsComponents<OldGrownFields> for GrownFields {
     ghost extends = { set_gains_additions ⟦<OldGrownForm as ComponentsOf>⟧.table ⟦<Next as AdditionsOf>⟧.additions
         ⟦<OldGrown as Described>⟧.typed.lawful refl };
 
