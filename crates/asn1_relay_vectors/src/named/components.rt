@@ -13,18 +13,12 @@ use asn1_schema_example::gauge::Gauge;
 use asn1_schema_example::grown::Grown;
 use asn1_schema_example::station::Station;
 use asn1_schema_example_choices::tree::Tree;
-use asn1_values_integers::ConstrainedInteger;
 use std::alloc::Global;
 use std::marker::PhantomData;
 
 /// Judges a line of such a type, or of one of those behind them.
 pub fn judge_components(alloc: Global, line: &Line<'_>) -> Result<(), LineError> {
     match line.kind {
-        "wide" => judge(
-            alloc,
-            &Of::<ConstrainedInteger<256, 1234567>>(PhantomData),
-            line,
-        ),
         "marked" => judge(alloc, &Of::<Marked>(PhantomData), line),
         "one-or-two-bools" => judge(alloc, &Of::<ListOfOneOrTwo<bool>>(PhantomData), line),
         "person" => judge(alloc, &Of::<Person>(PhantomData), line),
