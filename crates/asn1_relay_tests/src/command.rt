@@ -64,6 +64,13 @@ macro_rules! at_message {
     };
 }
 
+/// The fault of a route at its tenth hop.
+macro_rules! at_hop_10 {
+    ($kind:ident) => {
+        Fault::AtHop(10, HopFault::$kind)
+    };
+}
+
 /// Faults, and the lines of those.
 const LINES: [(Fault, &'static str); 16] = [
     (Fault::NotAnEncoding, "not an encoding"),
@@ -81,22 +88,10 @@ const LINES: [(Fault, &'static str); 16] = [
     (at_message!(1, Memory), "message 1: out of memory"),
     (at_message!(2, NoForm), "message 2: no form"),
     (at_message!(3, AlreadyFailed), "message 3: stopped before"),
-    (
-        Fault::AtHop(10, HopFault::NotAnEncoding),
-        "hop 10: not an encoding",
-    ),
-    (
-        Fault::AtHop(10, HopFault::SurplusOctets),
-        "hop 10: surplus octets",
-    ),
-    (
-        Fault::AtHop(10, HopFault::NoTargetEncoding),
-        "hop 10: no target encoding",
-    ),
-    (
-        Fault::AtHop(10, HopFault::OutOfMemory),
-        "hop 10: out of memory",
-    ),
+    (at_hop_10!(NotAnEncoding), "hop 10: not an encoding"),
+    (at_hop_10!(SurplusOctets), "hop 10: surplus octets"),
+    (at_hop_10!(NoTargetEncoding), "hop 10: no target encoding"),
+    (at_hop_10!(OutOfMemory), "hop 10: out of memory"),
 ];
 
 /// Whether the line of a fault is its text behind the program's name, and this.

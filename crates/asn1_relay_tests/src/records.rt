@@ -1,5 +1,4 @@
 //! Values through the codec that keeps records.
-use crate::assertions::assert_same;
 use asn1_schema_decode::{Decode, Decoder};
 use asn1_schema_encode::{Encode, Encoder};
 use asn1_schema_example::setting::Setting;
@@ -47,31 +46,5 @@ fn a_setting_is_read_back(rt: HostRuntime) -> Result<(), Fail> {
         assert!(rt; is_read_back(alloc, level)?, "{level:?}");
     }
     assert!(rt; is_named_and_kept(alloc)?);
-    Ok(())
-}
-
-/// Why a setting is not read from so many of its records, if it is not.
-fn refusal(
-    alloc: Global,
-    level: Option<u8>,
-    count: usize,
-    levels: usize,
-) -> Result<Option<DecodeError>, EncodeError> {
-    let mut items = setting_records(alloc, level)?;
-    items.truncate(count);
-    let mut decoder = RecordDecoder::with_levels(items, CodecKind::Uper, levels);
-    let setting: Result<Setting, DecodeError> = found(alloc, &mut decoder);
-    Ok(setting.err())
-}
-
-#[test]
-fn truncated_and_nested_settings_are_refused(rt: HostRuntime) -> Result<(), Fail> {
-    let alloc = rt.alloc();
-    for count in 0..6 {
-        let fault = refusal(alloc, Some(7), count, 128)?;
-        assert!(rt; fault == Some(DecodeError::Incomplete), "of {count}");
-    }
-    let fault = refusal(alloc, None, 6, 0)?;
-    assert!(rt; fault == Some(DecodeError::ExceedsMaxParseDepth));
     Ok(())
 }

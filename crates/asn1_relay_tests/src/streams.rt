@@ -1,5 +1,4 @@
-//! Streams: runs whose reader or writer fails at each call in turn, a relay behind its faults, long streams, and values
-//! one behind the other.
+//! Streams: runs whose reader or writer fails at each call in turn, long streams, and values one behind the other.
 use crate::assertions::assert_same;
 use crate::fakes::Octets;
 use asn1_relay_core::{
@@ -14,16 +13,6 @@ use asn1_values_octets::OctetString;
 use oer_codec::{CoerFront, OerFront};
 use per_codec::{AperFront, UperFront};
 use std::alloc::{AllocError, Global};
-
-/// What stops a relay at the message of a number.
-macro_rules! fault {
-    ($number:expr, $kind:ident) => {
-        RelayFault {
-            number: $number,
-            kind: RelayFaultKind::$kind,
-        }
-    };
-}
 
 /// A run from the canonical octet encoding rules to the unaligned packed ones, as a row says it with a bar between two
 /// parts: how many messages {a TRUE, b 7} of `New` come in front, and octets behind them; the limit; which call of the
@@ -92,12 +81,15 @@ fn repeated(alloc: Global, message: &[u8], text: &str) -> Result<Vec<u8>, AllocE
 fn answer_of(text: &str) -> Result<(), RunFault> {
     let (number, kind) = text.split_once(' ').unwrap_or((text, ""));
     let number = number.parse::<u64>().unwrap_or(0);
-    match (text, kind) {
-        ("", _) => Ok(()),
-        ("read", _) => Err(RunFault::Read),
-        ("write", _) => Err(RunFault::Write),
-        (_, "none") => Err(RunFault::Relay(fault!(number, NoneWithinLimit))),
-        _ => Err(RunFault::Relay(fault!(number, NoForm))),
+    let kind = match kind {
+        "none" => RelayFaultKind::NoneWithinLimit,
+        _ => RelayFaultKind::NoForm,
+    };
+    match text {
+        "" => Ok(()),
+        "read" => Err(RunFault::Read),
+        "write" => Err(RunFault::Write),
+        _ => Err(RunFault::Relay(RelayFault { number, kind })),
     }
 }
 
@@ -162,41 +154,6 @@ fn runs_whose_calls_fail_in_turn(rt: HostRuntime) {
     let alloc = rt.alloc();
     assert_same(&rt, &first_wrong::<Small>(alloc, ROWS), &None);
     assert_same(&rt, &first_wrong::<New>(alloc, LONG_ROWS), &None);
-}
-
-/// Whether a relay stops at these octets for this reason, writes nothing then, and each call behind that answers that
-/// it has stopped.
-fn has_stopped<T: Encode + Decode>(
-    relay: &mut Relay<T>,
-    out: &mut Vec<u8>,
-    octets: &[u8],
-    kind: RelayFaultKind,
-) -> bool {
-    let stopped = Err(fault!(0, AlreadyFailed));
-    relay.feed(&[], out) == Ok(())
-        && relay.feed(octets, out) == Err(RelayFault { number: 0, kind })
-        && relay.has_failed()
-        && relay.feed(&[], out) == stopped
-        && relay.finish() == stopped
-        && relay.feed(&[0xFC], out) == stopped
-        && out.is_empty()
-}
-
-/// Whether a relay stops once more octets are unread than a message may have, and waits before that.
-fn stops_at_its_limit(relay: &mut Relay<Small>, out: &mut Vec<u8>) -> bool {
-    let kind = RelayFaultKind::NoneWithinLimit;
-    relay.feed(&[0x06], out) == Ok(())
-        && relay.unread_len() == 1
-        && relay.finish() == Err(fault!(0, NoForm))
-        && !relay.has_failed()
-        && has_stopped(relay, out, &[0xFC], kind)
-}
-
-#[test]
-fn a_relay_behind_its_faults(rt: HostRuntime) {
-    let alloc = rt.alloc();
-    let mut relay = Relay::<Small>::new(alloc, Codec::Coer, Codec::Uper, 1);
-    assert!(rt; stops_at_its_limit(&mut relay, &mut Vec::new(alloc)));
 }
 
 /// Whether octets are fed and become these, and the stream may end there.
