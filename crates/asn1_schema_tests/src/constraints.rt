@@ -15,7 +15,7 @@ fn widths() -> [(Bounded<i128>, bool, Option<u8>); 7] {
         (Bounded::start_from(0), false, None),
         (Bounded::up_to(5), true, None),
         (Bounded::Single(-129), true, Some(2)),
-        (Bounded::const_new(0, 1 << 64), false, None),
+        (Bounded::const_new(0, 18446744073709551616), false, None),
         (Bounded::None, true, None),
     ]
 }

@@ -1,5 +1,5 @@
 //! Truth values, nothing, numbers, bits, octets and identifiers.
-use crate::judged::{Of, OfIdentifiers};
+use crate::judged::{Of, Special};
 use crate::judging::judge;
 use crate::line::{Line, LineError};
 use crate::named::strings::judge_string;
@@ -23,7 +23,7 @@ pub fn judge_builtin(alloc: Global, line: &Line<'_>) -> Result<(), LineError> {
         "i128" => judge(alloc, &Of::<i128>(PhantomData), line),
         "bits" => judge(alloc, &Of::<BitString>(PhantomData), line),
         "octet-string" => judge(alloc, &Of::<OctetString>(PhantomData), line),
-        "oid" => judge(alloc, &OfIdentifiers, line),
+        "oid" => judge(alloc, &Special::Identifiers, line),
         _ => judge_string(alloc, line),
     }
 }

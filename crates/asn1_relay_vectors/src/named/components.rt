@@ -1,5 +1,5 @@
 //! Sequences and sets, and what stands in them.
-use crate::judged::{Of, OfBlocks};
+use crate::judged::{Of, Special};
 use crate::judging::judge;
 use crate::line::{Line, LineError};
 use crate::named::program::judge_program;
@@ -27,7 +27,7 @@ pub fn judge_components(alloc: Global, line: &Line<'_>) -> Result<(), LineError>
         "offset" => judge(alloc, &Of::<Offset>(PhantomData), line),
         "outer" => judge(alloc, &Of::<Outer>(PhantomData), line),
         "twelve" => judge(alloc, &Of::<Twelve>(PhantomData), line),
-        "blocks" => judge(alloc, &OfBlocks, line),
+        "blocks" => judge(alloc, &Special::Blocks, line),
         "tree" => judge(alloc, &Of::<Tree>(PhantomData), line),
         "control" => judge(alloc, &Of::<Control>(PhantomData), line),
         "gauge" => judge(alloc, &Of::<Gauge>(PhantomData), line),
