@@ -1,29 +1,35 @@
 //! Bits that are read from their front.
 ghost use Rattle.std.specs.Prelude.{◌≡◌, ◌+◌, ◌*◌, ◌%◌, ◌^◌, ◌<◌, ◌≤◌, [], ◌∷◌, length, take, drop, IsTrue, ◌↔◌};
-ghost use Rattle.std.specs.Prelude.{IsSome, IfSome, IfOk, IfErr, IsOk, OnErr, IsOkAnd};
+ghost use Rattle.std.specs.Prelude.{IsSome, IfSome, IfNone, IfOk, IfErr, IsOk, OnErr, IsOkAnd};
 ghost use Rattle.std.specs.Cow.{cow_slice_items, IsBorrowedSlice};
 ghost use Rattle.asn1_model.specs.Numbers.{binary, octet_bits};
 ghost use Rattle.asn1_values_bits.specs.Octets.{filled_up};
 
 use crate::BitStr;
 use crate::bit_buffer::BitBuffer;
+use crate::bit_window::BitWindow;
 use std::alloc::{AllocError, Global};
 use std::borrow::CowSlice;
 use std::marker::Model;
 
-/// Bits that are still to be read, in octets that stand elsewhere.
+/// Bits that are still to be read, in octets that stand elsewhere. The first of them, up to 128, stand in a window as
+/// one number as well, from which they are answered.
 #[derive(Drop)]
 pub struct BitReader<'a> {
     rest: BitStr<'a>,
+    window: BitWindow,
 }
 
 impl<'a> Model for BitReader<'a> {
     ghost use Rattle.asn1_values_bits.specs.Unread.{Unread};
     ghost use Rattle.asn1_values_bits.specs.BitStr.{bits_of, offset_of};
+    ghost use Rattle.asn1_values_bits.specs.BitWindow.{IsWindowOf};
 
     ghost Value = { Unread };
 
     ghost view = { λ r. record { bits = bits_of r.rest; offset = offset_of r.rest } };
+
+    ghost invariant = { λ r. IsWindowOf (bits_of r.rest) r.window };
 }
 
 impl<'a> BitReader<'a> {
@@ -34,7 +40,8 @@ impl<'a> BitReader<'a> {
         ensures bits { result.bits ≡ bits_of bits.entry }
         ensures offset { result.offset ≡ offset_of bits.entry }
     {
-        BitReader { rest: bits }
+        let window = BitWindow::new(bits);
+        BitReader { rest: bits, window }
     }
 
     /// Reads all bits of the octets.
@@ -43,8 +50,7 @@ impl<'a> BitReader<'a> {
         ensures bits { result.bits ≡ octet_bits octets.now }
         ensures offset { result.offset ≡ 0 }
     {
-        let rest = BitStr::from_slice(octets);
-        BitReader { rest }
+        BitReader::new(BitStr::from_slice(octets))
     }
 
     /// The unread bits.
@@ -56,6 +62,7 @@ impl<'a> BitReader<'a> {
     }
 
     /// How many bits are unread.
+    #[inline(always)]
     pub fn len(&self) -> usize
         ensures { result ≡ length self.now.bits }
     {
@@ -74,6 +81,7 @@ impl<'a> BitReader<'a> {
     /// # Errors
     ///
     /// How many bits are missing, where there are fewer than `count`; the reader is then as it was.
+    #[inline(always)]
     pub fn split(&mut self, count: usize) -> Result<BitReader<'a>, usize>
         ensures ok { IsOk result ↔ (count ≤ length self.old.bits) }
         ensures front { IfOk result (λ front. front.bits ≡ take count self.old.bits) }
@@ -87,37 +95,83 @@ impl<'a> BitReader<'a> {
         if count > len {
             return Err(count - len);
         }
-        let (front, rest) = self.rest.split_at(count);
+        let (rest, _) = self.rest.split_at(count);
+        let window = self.window.front(count);
+        self.pass(count);
+        Ok(BitReader { rest, window })
+    }
+
+    // Takes the first bits off: off the window, or a new one is filled where it has no more.
+    #[inline(always)]
+    fn pass(&mut self, count: usize)
+        requires { count ≤ length self.old.bits }
+        ensures bits { self.new.bits ≡ drop count self.old.bits }
+        ensures offset { self.new.offset ≡ (self.old.offset + count) % 8 }
+    {
+        let (_, rest) = self.rest.split_at(count);
+        self.window = if count < self.window.width() as usize {
+            self.window.behind(count as u32)
+        } else {
+            BitWindow::new(rest)
+        };
         self.rest = rest;
-        Ok(BitReader { rest: front })
     }
 
     /// The first bit.
+    #[inline(always)]
     pub fn first_bit(&self) -> bool
         requires { 0 < length self.now.bits }
         ensures { take 1 self.now.bits ≡ result ∷ [] }
     {
-        self.rest.first_number(1) == 1
+        self.window.first_bits(1) == 1
     }
 
     /// The number whose binary digits are the first bits, at most 64.
+    #[inline(always)]
     pub fn first_bits(&self, width: u32) -> u64
         requires narrow { width ≤ 64 }
         requires within { width ≤ length self.now.bits }
         ensures digits { binary width result ≡ take width self.now.bits }
         ensures fits { result < 2 ^ width }
     {
+        if width <= self.window.width() {
+            return self.window.first_bits(width);
+        }
         self.rest.first_number(width) as u64
     }
 
     /// The number whose binary digits are the first bits, at most 128.
+    #[inline(always)]
     pub fn first_u128(&self, width: u32) -> u128
         requires narrow { width ≤ 128 }
         requires within { width ≤ length self.now.bits }
         ensures digits { binary width result ≡ take width self.now.bits }
         ensures fits { result < 2 ^ width }
     {
+        if width <= self.window.width() {
+            return self.window.first_u128(width);
+        }
         self.rest.first_number(width)
+    }
+
+    /// Takes the first bits off as a number, at most 64 of them. `None` where there are fewer; the reader is then as it
+    /// was.
+    #[inline(always)]
+    pub fn take_bits(&mut self, width: u32) -> Option<u64>
+        requires { width ≤ 64 }
+        ensures some { IsSome result ↔ (width ≤ length self.old.bits) }
+        ensures digits { IfSome result (λ number. binary width number ≡ take width self.old.bits) }
+        ensures fits { IfSome result (λ number. number < 2 ^ width) }
+        ensures rest { IfSome result (λ _. self.new.bits ≡ drop width self.old.bits) }
+        ensures rest_offset { IfSome result (λ _. self.new.offset ≡ (self.old.offset + width) % 8) }
+        ensures unchanged { IfNone result (self.new ≡ self.old) }
+    {
+        if width > self.window.width() && width as usize > self.rest.len() {
+            return None;
+        }
+        let number = self.first_bits(width);
+        self.pass(width as usize);
+        Some(number)
     }
 
     /// The octets that hold the unread bits, where these begin at an octet and end at one.

@@ -2,34 +2,13 @@
 use Rattle.std.proofs.Common.{◌≡◌, ℕ, Bool, true, false, Option, Some, refl, sym, ◌∙◌, ap}
 use Rattle.asn1_model.specs.Schema.{Size, Counts}
 use Rattle.asn1_model.specs.Numbers.{is_count_within}
-use Rattle.asn1_schema_presented.specs.Records.{Record, Question, question, told, flag, list_begins, bag_begins}
-use Rattle.asn1_schema_presented.specs.Records.{asks_list, asks_bag, asks_sequence, asks_set, asks_group, asks_choice}
-use Rattle.asn1_schema_presented.specs.Records.{asks_end}
-use Rattle.asn1_schema_presented.specs.Levels.{level, inside, outside}
+use Rattle.asn1_schema_presented.specs.Records.{Record, question, told, list_begins, bag_begins}
+use Rattle.asn1_schema_finding.proofs.Levels.{same_level}
 use Rattle.oer_codec_fronts.specs.Takes.{State}
 use Rattle.oer_codec_fronts.proofs.Next.{one_taken}
 use Rattle.oer_codec_reading.specs.Fronts.{freedoms}
 use Rattle.oer_codec_reading_lengths.specs.declared.rules.EncodingRules.{EncodingRules}
 use Rattle.oer_codec_decoder.specs.Held.{Held, state_of, kind_of, Finds}
-
--- the levels that are left behind a record, by what it answers
-asked : ℕ → Question → ℕ → Option ℕ
-asked most (asks_list z h) l = inside l
-asked most (asks_bag z h) l = inside l
-asked most (asks_sequence e n) l = inside l
-asked most (asks_set e n) l = inside l
-asked most (asks_group n) l = inside l
-asked most (asks_choice r e a) l = inside l
-asked most asks_end l = outside most l
-asked most q l = Some l
-
-level_asked : (most : ℕ) (r : Record) (l : ℕ) → level most r l ≡ asked most (question r) l
-unfolding asked
-level_asked most (flag v) l = refl
-level_asked most r l = refl
-
-same_level : (most : ℕ) (r s : Record) (l : ℕ) → question r ≡ question s → level most r l ≡ level most s l
-same_level most r s l e = level_asked most r l ∙ ap (λ q. asked most q l) e ∙ sym (level_asked most s l)
 
 held_is : {b c : Held} → state_of b ≡ state_of c → b.levels ≡ c.levels → b.most ≡ c.most → b.failed ≡ c.failed
     → b.rules ≡ c.rules → b ≡ c
@@ -39,8 +18,7 @@ held_is {b} {c} v w x y z =
       scopes = t.1;
       levels = b.levels;
       most = b.most;
-      failed =
-          b.failed;
+      failed = b.failed;
       rules = b.rules;
     } in h) v
     ∙ (ap (λ (t : ℕ). let h : Held = record {
@@ -63,8 +41,7 @@ held_is {b} {c} v w x y z =
       octets = c.octets;
       scopes = c.scopes;
       levels = c.levels;
-      most =
-          c.most;
+      most = c.most;
       failed = t;
       rules = b.rules;
     } in h) y

@@ -3,9 +3,11 @@ use Rattle.std.proofs.Common.{◌≡◌, ℕ, Bool, false, List, [], ◌∷◌, 
 use Rattle.asn1_model.specs.Per
 use Rattle.asn1_model.specs.Schema.{Size, Counts}
 use Rattle.asn1_schema_constraints.specs.Bounds.{members_of}
+use Rattle.asn1_schema_constraints.specs.Terms.{size_of}
 use Rattle.asn1_schema_constraints.specs.declared.bounds.Bounded.{Bounded}
+use Rattle.asn1_schema_constraints.specs.declared.sizes.Sizes.{Sizes}
 use Rattle.asn1_schema_faults.specs.declared.EncodeError.{EncodeError}
-use Rattle.asn1_schema_faults.specs.declared.EncodeError.TheVariants.{ValueConstraintNotSatisfied, SizeConstraintNotSatisfied, AlphabetConstraintNotSatisfied, TooLongValue, LengthExceedsPlatformSize, OutOfMemory, AlreadyFailed}
+use Rattle.asn1_schema_faults.specs.declared.EncodeError.TheVariants.{ValueConstraintNotSatisfied, SizeConstraintNotSatisfied, AlphabetConstraintNotSatisfied, TooLongValue, LengthExceedsPlatformSize, CallOutOfPlace, OutOfMemory, AlreadyFailed}
 use Rattle.asn1_schema_presented.specs.Records.{bag_begins, further, ends}
 use Rattle.per_codec_packing.specs.Texts.{Text, text_at}
 use Rattle.per_codec_packing.specs.Packed.{Packed, place, plus}
@@ -15,8 +17,8 @@ use Rattle.per_codec_writing.specs.Writing.{Adds, Refuses}
 use Rattle.per_codec_encoder.specs.declared.frame.Bag.{Bag as BagFrame}
 use Rattle.per_codec_encoder.specs.declared.frame.Frame.{Frame}
 use Rattle.per_codec_encoder.specs.declared.frame.Frame.TheVariants.{Bag}
-use Rattle.per_codec_encoder.specs.Bags.{size_of, bag_of, form_of, further_in, GoesOnInBag, NoFurther}
-use Rattle.per_codec_encoder.specs.Headings.{NoHeading}
+use Rattle.per_codec_encoder.specs.Bags.{bag_of, form_of, further_in, GoesOnInBag, NoFurther}
+use Rattle.per_codec_writing.specs.Headings.{NoHeading}
 use Rattle.per_codec_encoder.proofs.Judged.{IsThere}
 use Rattle.per_codec_encoder.specs.Holding.{Holds, Does, Cannot}
 use Rattle.per_codec_encoder.proofs.Scopes.{at_end, appended, on_top, put_back}
@@ -27,16 +29,14 @@ use Rattle.per_codec_encoder.proofs.Scopes.{at_end, appended, on_top, put_back}
 boxed_holds : (boxed : Box BagFrame Global) (b : BagFrame) → boxed.value ≡ b → (fs : List Frame) (o : Packed) (s outer : State) → s ≡ (o.text, bag_of b outer.0 ∷ outer.1) → o.placed ≡ false → Holds fs b.outer outer → Holds (Bag boxed ∷ fs) o s
 boxed_holds boxed b v fs o s outer x y z = (outer, subst (λ (w : BagFrame). s ≡ (o.text, bag_of w outer.0 ∷ outer.1)) (sym v) x, y, subst (λ (w : BagFrame). Holds fs w.outer outer) (sym v) z)
 
-pub does_begin_bag : (al : Bool) (fs gs : List Frame) (o r outer : Packed) (z : Size) (range held : Bounded ℕ) (e : Bool) (n : ℕ) (boxed : Box BagFrame Global) → IsThere (list_heading al z (members_of held) n (place o)) → outer ≡ o → size_of range e ≡ z → r ≡ record { text = []; placed = false } → boxed.value ≡ record { outer = outer; range = range; extensible = e; held = held; due = n; members = None } → gs ≡ fs ++ Bag boxed ∷ [] → Does al (bag_begins z (members_of held) n) fs o gs r
-does_begin_bag al fs gs o r outer z range held e n boxed x a b c v y = record { after = λ s k. (go s, ap (λ q. bag_opened z (members_of held) n s (list_heading al z (members_of held) n q)) (at_end (reverse fs) o s k) ∙ ap (bag_opened z (members_of held) n s) x.1, put_back fs gs (Bag boxed) r (go s) y (boxed_holds boxed _ v (reverse fs) r (go s) s (shown_as s) (ap (λ (l : Packed). l.placed) c) (subst (λ l. Holds (reverse fs) l s) (sym a) k))) }
+pub does_begin_bag : (al : Bool) (fs gs : List Frame) (o r outer : Packed) (sizes : Sizes) (held : Bounded ℕ) (n : ℕ) (boxed : Box BagFrame Global) → IsThere (list_heading al (size_of sizes) (members_of held) n (place o)) → outer ≡ o → r ≡ record { text = []; placed = false } → boxed.value ≡ record { outer = outer; sizes = sizes; held = held; due = n; members = None } → gs ≡ fs ++ Bag boxed ∷ [] → Does al (bag_begins (size_of sizes) (members_of held) n) fs o gs r
+does_begin_bag al fs gs o r outer sizes held n boxed x a c v y = record { after = λ s k. (go s, ap (λ q. bag_opened (size_of sizes) (members_of held) n s (list_heading al (size_of sizes) (members_of held) n q)) (at_end (reverse fs) o s k) ∙ ap (bag_opened (size_of sizes) (members_of held) n s) x.1, put_back fs gs (Bag boxed) r (go s) y (boxed_holds boxed _ v (reverse fs) r (go s) s (shown_as s) (ap (λ (l : Packed). l.placed) c) (subst (λ l. Holds (reverse fs) l s) (sym a) k))) }
   where
     go : State → State
-    go s = ([], bag_members z (members_of held) n None s.0 ∷ s.1)
+    go s = ([], bag_members (size_of sizes) (members_of held) n None s.0 ∷ s.1)
 
-    shown_as : (s : State) → go s ≡ (r.text, bag_members (size_of range e) (members_of held) n None s.0 ∷ s.1)
-    shown_as s =
-        ap (λ y. let l : State = ([], bag_members y (members_of held) n None s.0 ∷ s.1) in l) (sym b)
-        ∙ ap (λ (q : Packed). let l : State = (q.text, bag_members (size_of range e) (members_of held) n None s.0 ∷ s.1) in l) (sym c)
+    shown_as : (s : State) → go s ≡ (r.text, bag_members (size_of sizes) (members_of held) n None s.0 ∷ s.1)
+    shown_as s = ap (λ (q : Packed). let l : State = (q.text, bag_members (size_of sizes) (members_of held) n None s.0 ∷ s.1) in l) (sym c)
 
 pub cannot_begin_bag : (al : Bool) (fs : List Frame) (o : Packed) (z : Size) (h : Counts) (n : ℕ) (e : EncodeError) → NoHeading (list_heading al z h n (place o)) e → Cannot al (bag_begins z h n) fs o e
 cannot_begin_bag al fs o z h n e x = go e x
@@ -51,6 +51,7 @@ cannot_begin_bag al fs o z h n e x = go e x
     go AlphabetConstraintNotSatisfied x = none x
     go TooLongValue x = none x
     go LengthExceedsPlatformSize x = none x
+    go CallOutOfPlace x = absurd x
     go AlreadyFailed x = x
 
 -- ---- a further member
@@ -76,10 +77,11 @@ module _ (al : Bool) (fs rest : List Frame) (f : Frame) (boxed : Box BagFrame Gl
       go : (e : EncodeError) → NoFurther more boxed.value o e → Cannot al (further more) fs o e
       go OutOfMemory x = tt
       go ValueConstraintNotSatisfied x = none x
-      go SizeConstraintNotSatisfied x = none x
+      go SizeConstraintNotSatisfied x = absurd x
       go AlphabetConstraintNotSatisfied x = none x
       go TooLongValue x = none x
       go LengthExceedsPlatformSize x = none x
+      go CallOutOfPlace x = none x
       go AlreadyFailed x = x
 
   -- ---- a bag ends
@@ -90,7 +92,7 @@ module _ (al : Bool) (fs rest : List Frame) (f : Frame) (boxed : Box BagFrame Gl
   ended_as : (s : State) (h : Holds (Bag boxed ∷ reverse rest) o s) → boxed.value.due ≡ 0 → run al ends s ≡ adds_text (text_at (form_of al boxed.value all_texts) (place boxed.value.outer)) h.0
   ended_as s h n =
       ap (run al ends) h.1
-      ∙ ap (λ j. closed_bag al (size_of boxed.value.range boxed.value.extensible) (members_of boxed.value.held) j all_texts h.0.0 h.0.1) n
+      ∙ ap (λ j. closed_bag al (size_of boxed.value.sizes) (members_of boxed.value.held) j all_texts h.0.0 h.0.1) n
       ∙ ap (λ q. adds_text (text_at (form_of al boxed.value all_texts) q) h.0) (at_end (reverse rest) boxed.value.outer h.0 h.3)
 
   does_end : (p : Packed) → boxed.value.due ≡ 0 → Adds (text_at (form_of al boxed.value all_texts) (place boxed.value.outer)) boxed.value.outer p → Does al ends fs o rest p
@@ -114,6 +116,7 @@ module _ (al : Bool) (fs rest : List Frame) (f : Frame) (boxed : Box BagFrame Gl
       go AlphabetConstraintNotSatisfied r = none r
       go TooLongValue r = none r
       go LengthExceedsPlatformSize r = none r
+      go CallOutOfPlace r = absurd r
       go AlreadyFailed r = r
 
   -- the same by the bag that was in the box

@@ -4,7 +4,7 @@ use Rattle.asn1_model.specs.Form.{exactly, both}
 use Rattle.asn1_model.specs.Per
 use Rattle.asn1_model.specs.Schema.{Tag}
 use Rattle.asn1_schema_faults.specs.declared.EncodeError.{EncodeError}
-use Rattle.asn1_schema_faults.specs.declared.EncodeError.TheVariants.{ValueConstraintNotSatisfied, SizeConstraintNotSatisfied, AlphabetConstraintNotSatisfied, TooLongValue, LengthExceedsPlatformSize, OutOfMemory, AlreadyFailed}
+use Rattle.asn1_schema_faults.specs.declared.EncodeError.TheVariants.{ValueConstraintNotSatisfied, SizeConstraintNotSatisfied, AlphabetConstraintNotSatisfied, TooLongValue, LengthExceedsPlatformSize, CallOutOfPlace, OutOfMemory, AlreadyFailed}
 use Rattle.asn1_schema_presented.specs.Records.{choice_begins}
 use Rattle.per_codec_packing.specs.Texts.{Text, text_at}
 use Rattle.per_codec_packing.specs.Packed.{Packed, place, plus}
@@ -66,4 +66,5 @@ module _ (al : Bool) (fs : List Frame) (o p : Packed) (n : ℕ) (e added : Bool)
       go AlphabetConstraintNotSatisfied r = none r
       go TooLongValue r = none r
       go LengthExceedsPlatformSize r = none r
+      go CallOutOfPlace r = absurd r
       go AlreadyFailed r = r

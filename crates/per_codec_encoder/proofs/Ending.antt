@@ -16,8 +16,8 @@ use Rattle.per_codec_encoder.specs.declared.frame.Additions.{Additions}
 use Rattle.per_codec_encoder.specs.declared.frame.Frame.{Frame}
 use Rattle.per_codec_encoder.specs.declared.frame.Frame.TheVariants.{Components, Added, OpenType, Members, Alternative}
 use Rattle.per_codec_encoder.specs.declared.frame.Place.{Place}
-use Rattle.per_codec_encoder.specs.declared.headings.Due.{Due}
-use Rattle.per_codec_encoder.specs.Headings.{headers_of}
+use Rattle.per_codec_writing.specs.declared.lengths.Due.{Due}
+use Rattle.per_codec_writing.specs.Headings.{headers_of}
 use Rattle.per_codec_encoder.specs.Holding.{at, instead, preamble, IsOpen, IsAdded, Holds, AreSound, Does}
 use Rattle.per_codec_encoder.proofs.Scopes.{at_end, appended, on_top, head_shown, length-added}
 
@@ -31,7 +31,7 @@ does_end_components fs rest f e due given start a b c n al o = record { after = 
         let back : o ≡ instead (h.front ++ w) o = ap (λ t. instead t o) (h.text ∙ ap (λ l. h.front ++ (as_text l ++ h.inner)) (append-nil h.marks)) in
         (z, ap (run al ends) h.is, subst (λ l. Holds (reverse rest) l z) (sym back) (appended (reverse rest) (instead h.front o) h.outer w h.under))
 
-pub does_end_members : (fs rest : List Frame) (f : Frame) (d : Due) → fs ≡ rest ++ f ∷ [] → f ≡ Members d → d.members ≡ 0 → d.behind ≡ None → (al : Bool) (o : Packed) → Does al ends fs o rest o
+pub does_end_members : (fs rest : List Frame) (f : Frame) (d : Due) → fs ≡ rest ++ f ∷ [] → f ≡ Members d → d.units ≡ 0 → d.behind ≡ None → (al : Bool) (o : Packed) → Does al ends fs o rest o
 does_end_members fs rest f d a b n m al o = record { after = λ s h. go s (on_top fs rest f (Members d) o s a b h) }
   where
     go : (s : State) → Holds (Members d ∷ reverse rest) o s → (t : State) × (run al ends s ≡ Some t) × Holds (reverse rest) o t

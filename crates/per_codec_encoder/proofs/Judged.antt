@@ -1,20 +1,23 @@
 -- Whether so many members have a heading, which is known without it.
 use Rattle.std.proofs.Common.{◌≡◌, ℕ, ◌+◌, ◌-◌, ◌*◌, ◌/◌, ◌<◌, ◌≤◌, ltb, leb, Bool, true, false, cond, ◌&&◌, ◌||◌, [], ◌∷◌, replicate, Option, Some, None, option_map, refl, ap, sym, subst, ◌∙◌, inl, inr, arith}
-use Rattle.std.specs.Prelude.{min}
-use Rattle.std.proofs.lemmas.Bool.{ltb-true, ltb-false, leb-true, and_parts, cases_lt}
+use Rattle.std.specs.Prelude.{min, unwrap_or, ◌^◌}
+use Rattle.std.proofs.lemmas.Bool.{ltb-true, ltb-false, le-leb, leb-true, and_parts, cases_lt}
 use Rattle.std.proofs.lemmas.List.{length-replicate}
 use Rattle.asn1_model.specs.Schema.{Counts, Size}
 use Rattle.asn1_model.specs.Numbers.{binary, is_count_to, is_count_within}
+use Rattle.asn1_model.specs.Oer.{admits}
 use Rattle.asn1_model.specs.Per
+use Rattle.asn1_schema_constraints.specs.Bounds.{counts_of, members_of, lower, upper}
+use Rattle.asn1_schema_constraints.specs.declared.bounds.Bounded.{Bounded}
 use Rattle.per_codec_packing.specs.Texts.{fill, as_text, text_at, moved, bit}
 use Rattle.per_codec_packing.specs.Packed.{Packed, place, plus}
 use Rattle.per_codec_writing.specs.Writing.{fill_at}
 use Rattle.per_codec_writing.proofs.LengthTexts.{adds_short, adds_long, adds_fragment}
 use Rattle.per_codec_writing.proofs.ConstrainedTexts.{constrained_bits, adds_octet, adds_two_octets}
-use Rattle.per_codec_encoder.specs.Steps.{Heading, before_all, general, sized_count, marked_count, list_heading}
-use Rattle.per_codec_encoder.specs.declared.headings.Due.{Due}
-use Rattle.per_codec_encoder.specs.Headings.{Heads}
-use Rattle.per_codec_encoder.proofs.HeadingTexts.{first_fragment, few_heads, fragment_heads}
+use Rattle.per_codec_writing.specs.Headings.{Heading, before_all, general, sized_count, marked_count, Heads}
+use Rattle.per_codec_writing.specs.declared.lengths.Due.{Due}
+use Rattle.per_codec_writing.proofs.HeadingTexts.{few_heads, fragment_heads}
+use Rattle.per_codec_encoder.specs.Steps.{list_heading}
 
 abbrev pub IsThere : {X : Type 0} → Option X → Type 0
 IsThere {X} o = (x : X) × (o ≡ Some x)
@@ -41,22 +44,21 @@ module _ (al : Bool) where
       where
         go : (t : Bool) → ltb n 128 ≡ t → IsThere (general al n (place o))
         go true t =
-            let d : Due = record { members = n; behind = None } in
+            let d : Due = record { units = n; behind = None } in
             let p : Packed = plus filled (as_text (binary 8 n)) in
             let h : Heads (general al n (place o)) o d p = few_heads al n d o p l refl (adds_short al n o filled p (ltb-true n 128 t) refl refl) in
             (_, h.is)
         go false t =
-            let d : Due = record { members = n; behind = None } in
+            let d : Due = record { units = n; behind = None } in
             let p : Packed = plus filled (as_text (binary 16 (32768 + n))) in
             let h : Heads (general al n (place o)) o d p = few_heads al n d o p l refl (adds_long al n o filled p (ltb-false n 128 t) l refl refl) in
             (_, h.is)
 
     many_there : (n m : ℕ) → 16384 ≤ n → m ≡ min (n / 16384) 4 → IsThere (general al n (place o))
     many_there n m l e =
-        let f = first_fragment n m l (omega (arith, e)) (omega (arith, e)) (λ k. omega (arith, e, k)) in
-        let d : Due = record { members = m * 16384; behind = Some (n - m * 16384) } in
+        let d : Due = record { units = m * 16384; behind = Some (n - m * 16384) } in
         let p : Packed = plus filled (as_text (binary 8 (192 + m))) in
-        let h : Heads (general al n (place o)) o d p = fragment_heads al n m d o p f refl (adds_fragment al m o filled p f.1 refl refl) in
+        let h : Heads (general al n (place o)) o d p = fragment_heads al n m d o p l e refl (adds_fragment al m o filled p (omega (arith, e)) refl refl) in
         (_, h.is)
 
   general_there : (n : ℕ) (q : Option ℕ) → IsThere (general al n q)
@@ -85,7 +87,7 @@ module _ (al : Bool) where
   constrained_there : (span d : ℕ) (q : Option ℕ) → d ≤ span → span < 65536 → IsThere (text_at (Per.constrained al span d) q)
   constrained_there span d q h u = let p = at_place q in subst (λ x. IsThere (text_at (Per.constrained al span d) x)) p.1 (number_there al p.0 span d h u)
 
-  sized_there : (c : Counts) (high : Option ℕ) (n : ℕ) → (leb c.low n && is_count_to high n) ≡ true → (q : Option ℕ) → IsThere (sized_count al c high n q)
+  sized_there : (c : Counts) (high : Option ℕ) (n : ℕ) → (leb c.low n && is_count_to high n) ≡ true → (q : Option ℕ) → IsThere (sized_count al c high false n q)
   sized_there c None n w q = general_there al n q
   sized_there c (Some high) n w q = go (ltb high 65536) refl
     where
@@ -108,7 +110,7 @@ marked_there true false root outside r o h q = mapped (λ (h : Heading). let g :
 pub heading_there : (al : Bool) (z : Size) (h : Counts) (n : ℕ) (q : Option ℕ) → true ≡ (is_count_within h n && (z.extensible || is_count_within z.counts n)) → IsThere (list_heading al z h n q)
 heading_there al z h n q w =
     let p = and_parts (is_count_within h n) (z.extensible || is_count_within z.counts n) (sym w) in
-    let root : Option ℕ → Option Heading = λ q. sized_count al z.counts z.counts.high n q in
+    let root : Option ℕ → Option Heading = λ q. sized_count al z.counts z.counts.high false n q in
     let m = marked_there z.extensible (is_count_within z.counts n) root (λ q. general al n q) (λ b. sized_there al z.counts z.counts.high n b) (general_there al n) p.1 q in
     (m.0, ap (λ t. cond t (marked_count z.extensible (is_count_within z.counts n) root (λ q. general al n q) q) None) p.0 ∙ m.1)
 
@@ -117,6 +119,17 @@ none_marked false e b root outside q w = refl
 none_marked true false false root outside q w = refl
 none_marked true false true root outside q w = cc
 none_marked true true b root outside q w = cc
+
+-- The counts that a type of the program holds, told by its bounds.
+held_same : (b : Bounded ℕ) (n : ℕ) → n < 2 ^ 64 → is_count_within (members_of b) n ≡ is_count_within (counts_of b) n
+held_same b n l = ap (λ t. leb (unwrap_or (lower b) 0) n && t) (go (upper b))
+  where
+    go : (o : Option ℕ) → is_count_to (Some (unwrap_or o (2 ^ 64 - 1))) n ≡ is_count_to o n
+    go None = le-leb n (2 ^ 64 - 1) (omega arith)
+    go (Some h) = refl
+
+pub admitted : (z : Size) (b : Bounded ℕ) (n : ℕ) (t : Bool) → n < 2 ^ 64 → t ≡ admits z (counts_of b) n → t ≡ (is_count_within (members_of b) n && (z.extensible || is_count_within z.counts n))
+admitted z b n t l e = e ∙ ap (λ x. x && (z.extensible || is_count_within z.counts n)) (sym (held_same b n l))
 
 -- And no others have one.
 pub no_heading : (al : Bool) (z : Size) (h : Counts) (n : ℕ) (q : Option ℕ) → false ≡ (is_count_within h n && (z.extensible || is_count_within z.counts n)) → list_heading al z h n q ≡ None

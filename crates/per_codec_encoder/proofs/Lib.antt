@@ -1,7 +1,6 @@
 pub mod Stepped
 pub mod Octets
 pub mod Scopes
-pub mod HeadingTexts
 pub mod Opening
 pub mod Added
 pub mod Ending

@@ -5,19 +5,21 @@ use mathlib.Core.Bool.{beq}
 use Rattle.std.proofs.lemmas.Bool.{ltb-true, ltb-false}
 use Rattle.std.proofs.lemmas.List.{append-nil}
 use Rattle.asn1_model.specs.Schema.{Size, Counts}
+use Rattle.asn1_model.specs.Numbers.{is_count_within}
 use Rattle.asn1_schema_faults.specs.declared.EncodeError.{EncodeError}
-use Rattle.asn1_schema_faults.specs.declared.EncodeError.TheVariants.{ValueConstraintNotSatisfied, SizeConstraintNotSatisfied, AlphabetConstraintNotSatisfied, TooLongValue, LengthExceedsPlatformSize, OutOfMemory, AlreadyFailed}
+use Rattle.asn1_schema_faults.specs.declared.EncodeError.TheVariants.{ValueConstraintNotSatisfied, SizeConstraintNotSatisfied, AlphabetConstraintNotSatisfied, TooLongValue, LengthExceedsPlatformSize, CallOutOfPlace, OutOfMemory, AlreadyFailed}
 use Rattle.asn1_schema_presented.specs.Records.{sequence_begins, mark, further, list_begins}
 use Rattle.per_codec_packing.specs.Texts.{Text, bit, as_text}
 use Rattle.per_codec_packing.proofs.Formed.{as_text-append}
 use Rattle.per_codec_packing.specs.Packed.{Packed, place, plus, solid, with_bit}
 use Rattle.per_codec_packing.proofs.Bits.{solid-append, solid-bits, changed_behind}
-use Rattle.per_codec_encoder.specs.Steps.{Headers, Scope, components, members, mark_width, State, position, list_heading, headed, goes_on_in, counted_on, run}
+use Rattle.per_codec_encoder.specs.Steps.{Headers, Scope, components, members, mark_width, State, position, heading, list_heading, headed, goes_on_in, counted_on, run}
 use Rattle.per_codec_encoder.specs.declared.frame.Frame.{Frame}
 use Rattle.per_codec_encoder.specs.declared.frame.Frame.TheVariants.{Components, Members}
 use Rattle.per_codec_encoder.specs.declared.frame.Place.{Place}
-use Rattle.per_codec_encoder.specs.declared.headings.Due.{Due}
-use Rattle.per_codec_encoder.specs.Headings.{headers_of, Heads, NoHeading, GoesOn, GoesOnInList, NoMember}
+use Rattle.per_codec_writing.specs.declared.lengths.Due.{Due}
+use Rattle.per_codec_writing.specs.Headings.{headers_of, Heads, NoHeading}
+use Rattle.per_codec_encoder.specs.Headings.{GoesOn, GoesOnInList, NoMember}
 use Rattle.per_codec_encoder.specs.Holding.{at, preamble, IsOpen, Holds, AreSound, Does, Cannot}
 use Rattle.per_codec_encoder.proofs.Scopes.{at_end, appended, on_top, put_back}
 
@@ -127,11 +129,38 @@ module _ (fs rest : List Frame) (f : Frame) (e : Bool) (due given : ℕ) (start 
 
 -- ---- lists
 
+-- a list that the program's type holds has the heading of its size
+pub held_heads : (al : Bool) (o p : Packed) (z : Size) (h : Counts) (n : ℕ) (d : Due) → is_count_within h n ≡ true → Heads (heading al z false n (place o)) o d p → Heads (list_heading al z h n (place o)) o d p
+held_heads al o p z h n d e x = record { text = x.text; is = ap (λ b. cond b (heading al z false n (place o)) None) e ∙ x.is; added = x.added }
+
+pub held_none : (al : Bool) (o : Packed) (z : Size) (h : Counts) (n : ℕ) (e : EncodeError) → NoHeading (heading al z false n (place o)) e → NoHeading (list_heading al z h n (place o)) e
+held_none al o z h n e x = go e x
+  where
+    none : heading al z false n (place o) ≡ None → list_heading al z h n (place o) ≡ None
+    none x = by_test (is_count_within h n)
+      where
+        by_test : (b : Bool) → cond b (heading al z false n (place o)) None ≡ None
+        by_test true = x
+        by_test false = refl
+
+    go : (e : EncodeError) → NoHeading (heading al z false n (place o)) e → NoHeading (list_heading al z h n (place o)) e
+    go OutOfMemory x = tt
+    go ValueConstraintNotSatisfied x = none x
+    go SizeConstraintNotSatisfied x = none x
+    go AlphabetConstraintNotSatisfied x = none x
+    go TooLongValue x = none x
+    go LengthExceedsPlatformSize x = none x
+    go CallOutOfPlace x = x
+    go AlreadyFailed x = x
+
+pub not_held : (al : Bool) (o : Packed) (z : Size) (h : Counts) (n : ℕ) → is_count_within h n ≡ false → list_heading al z h n (place o) ≡ None
+not_held al o z h n e = ap (λ b. cond b (heading al z false n (place o)) None) e
+
 pub does_begin_members : (al : Bool) (fs gs : List Frame) (o p : Packed) (z : Size) (h : Counts) (n : ℕ) (d : Due) → Heads (list_heading al z h n (place o)) o d p → gs ≡ fs ++ Members d ∷ [] → Does al (list_begins z h n) fs o gs p
 does_begin_members al fs gs o p z h n d x y = record { after = λ s k. let u = go s k in (u, ap (λ q. headed s.0 s.1 (list_heading al z h n q)) (at_end (reverse fs) o s k) ∙ ap (headed s.0 s.1) x.is, put_back fs gs (Members d) p u y ((s.0 ++ x.text, s.1), refl, subst (λ l. Holds (reverse fs) l (s.0 ++ x.text, s.1)) (sym x.added) (appended (reverse fs) o s x.text k))) }
   where
     go : (s : State) → Holds (reverse fs) o s → State
-    go s k = (s.0 ++ x.text, members d.members (headers_of d.behind) ∷ s.1)
+    go s k = (s.0 ++ x.text, members d.units (headers_of d.behind) ∷ s.1)
 
 pub cannot_begin : (al : Bool) (fs : List Frame) (o : Packed) (z : Size) (h : Counts) (n : ℕ) (e : EncodeError) → NoHeading (list_heading al z h n (place o)) e → Cannot al (list_begins z h n) fs o e
 cannot_begin al fs o z h n e x = go e x
@@ -146,6 +175,7 @@ cannot_begin al fs o z h n e x = go e x
     go AlphabetConstraintNotSatisfied x = none x
     go TooLongValue x = none x
     go LengthExceedsPlatformSize x = none x
+    go CallOutOfPlace x = absurd x
     go AlreadyFailed x = x
 
 agree_true : (x : Bool) → not (beq true x) ≡ false → x ≡ true
@@ -166,26 +196,26 @@ differ_false false h = cc
 
 module _ (al : Bool) (d next : Due) (o p : Packed) (g : GoesOn al d o next p) where
   abbrev less : ℕ → Due
-  less k = record { members = next.members - k; behind = next.behind }
+  less k = record { units = next.units - k; behind = next.behind }
 
-  pub comes_next : (k : ℕ) (more : Bool) → not (beq more (ltb 0 next.members)) ≡ false → k ≡ bool_byte more → GoesOnInList al more d o (less k) p
+  pub comes_next : (k : ℕ) (more : Bool) → not (beq more (ltb 0 next.units)) ≡ false → k ≡ bool_byte more → GoesOnInList al more d o (less k) p
   comes_next k true n x = record { text = g.text; added = g.added; goes = λ os j q. g.goes os j true q ∙ ap (λ m. counted_on m (headers_of next.behind) (os ++ g.text) j true) one }
     where
-      some : 0 < next.members
+      some : 0 < next.units
       some = ltb-true _ _ (agree_true _ n)
 
-      one : next.members ≡ suc (next.members - k)
+      one : next.units ≡ suc (next.units - k)
       one = omega (arith, x, some)
   comes_next k false n x = record { text = g.text; added = g.added; goes = λ os j q. g.goes os j false q ∙ ap (λ m. counted_on m (headers_of next.behind) (os ++ g.text) j false) none ∙ ap (λ b. counted_on 0 (headers_of b) (os ++ g.text) j false) (g.ready none) ∙ ap (λ m. let l : State = (os ++ g.text, m ∷ j) in Some l) (sym now) }
     where
-      none : next.members ≡ 0
+      none : next.units ≡ 0
       none = let l = ltb-false _ _ (agree_false _ n) in omega arith
 
-      now : members (next.members - k) (headers_of next.behind) ≡ members 0 None
-      now = let z : next.members - k ≡ 0 = omega (arith, none) in ap (λ j. members j (headers_of next.behind)) z ∙ ap (λ j. members 0 (headers_of j)) (g.ready none)
+      now : members (next.units - k) (headers_of next.behind) ≡ members 0 None
+      now = let z : next.units - k ≡ 0 = omega (arith, none) in ap (λ j. members j (headers_of next.behind)) z ∙ ap (λ j. members 0 (headers_of j)) (g.ready none)
 
-  pub none_next : (more : Bool) → not (beq more (ltb 0 next.members)) ≡ true → NoMember al more d o SizeConstraintNotSatisfied
-  none_next more n = λ os k q. g.goes os k more q ∙ go next.members (headers_of next.behind) more n (os ++ g.text) k
+  pub none_next : (more : Bool) → not (beq more (ltb 0 next.units)) ≡ true → NoMember al more d o CallOutOfPlace
+  none_next more n = λ os k q. g.goes os k more q ∙ go next.units (headers_of next.behind) more n (os ++ g.text) k
     where
       no_more : (hs : Headers) (os : Text) (k : List Scope) → counted_on 0 hs os k true ≡ None
       no_more None os k = refl
@@ -209,21 +239,22 @@ module _ (al : Bool) (f : Frame) (d : Due) (o : Packed) (b : f ≡ Members d) (r
   does_further g p next more c x = record { after = λ s h. go s (there s h) }
     where
       go : (s : State) → Holds (Members d ∷ reverse rest) o s → (t : State) × (run al (further more) s ≡ Some t) × Holds (reverse (rest ++ g ∷ [])) p t
-      go s h = ((h.0.0 ++ x.text, members next.members (headers_of next.behind) ∷ h.0.1), ap (run al (further more)) h.1 ∙ x.goes h.0.0 h.0.1 (at_end (reverse rest) o h.0 h.2), put_back rest (rest ++ g ∷ []) (Members next) p _ (ap (λ k. rest ++ k ∷ []) c) ((h.0.0 ++ x.text, h.0.1), refl, subst (λ l. Holds (reverse rest) l (h.0.0 ++ x.text, h.0.1)) (sym x.added) (appended (reverse rest) o h.0 x.text h.2)))
+      go s h = ((h.0.0 ++ x.text, members next.units (headers_of next.behind) ∷ h.0.1), ap (run al (further more)) h.1 ∙ x.goes h.0.0 h.0.1 (at_end (reverse rest) o h.0 h.2), put_back rest (rest ++ g ∷ []) (Members next) p _ (ap (λ k. rest ++ k ∷ []) c) ((h.0.0 ++ x.text, h.0.1), refl, subst (λ l. Holds (reverse rest) l (h.0.0 ++ x.text, h.0.1)) (sym x.added) (appended (reverse rest) o h.0 x.text h.2)))
 
   cannot_further : (e : EncodeError) (more : Bool) → NoMember al more d o e → Cannot al (further more) (rest ++ f ∷ []) o e
   cannot_further e more x = go e x
     where
-      none : ((os : Text) (k : List Scope) → position (os, k) ≡ place o → goes_on_in al d.members (headers_of d.behind) os k more ≡ None) → (s : State) → Holds (reverse (rest ++ f ∷ [])) o s → run al (further more) s ≡ None
+      none : ((os : Text) (k : List Scope) → position (os, k) ≡ place o → goes_on_in al d.units (headers_of d.behind) os k more ≡ None) → (s : State) → Holds (reverse (rest ++ f ∷ [])) o s → run al (further more) s ≡ None
       none x s k = let h = there s k in ap (run al (further more)) h.1 ∙ x h.0.0 h.0.1 (at_end (reverse rest) o h.0 h.2)
 
       go : (e : EncodeError) → NoMember al more d o e → Cannot al (further more) (rest ++ f ∷ []) o e
       go OutOfMemory x = tt
       go ValueConstraintNotSatisfied x = none x
-      go SizeConstraintNotSatisfied x = none x
+      go SizeConstraintNotSatisfied x = absurd x
       go AlphabetConstraintNotSatisfied x = none x
       go TooLongValue x = none x
       go LengthExceedsPlatformSize x = none x
+      go CallOutOfPlace x = none x
       go AlreadyFailed x = x
 
 pub member_asked : (al : Bool) (f : Frame) (d : Due) (o : Packed) (b : f ≡ Members d) (g : Frame) (p : Packed) (next : Due) (more : Bool) (r : Result (Unit {0}) EncodeError) → g ≡ Members next → MatchResult r (λ _. GoesOnInList al more d o next p) (NoMember al more d o) → MatchResult r (λ _. (fs : List Frame) → Does al (further more) (fs ++ f ∷ []) o (fs ++ g ∷ []) p) (λ e. (fs : List Frame) → Cannot al (further more) (fs ++ f ∷ []) o e)

@@ -9,7 +9,7 @@ use Rattle.per_codec_encoder.specs.Steps.{components, added, open_type, members,
 use Rattle.per_codec_encoder.specs.declared.frame.Frame.{Frame}
 use Rattle.per_codec_encoder.specs.declared.frame.Frame.TheVariants.{Components, Added, OpenType, Members, Bag, Alternative}
 use Rattle.per_codec_encoder.specs.declared.frame.Place.{Place}
-use Rattle.per_codec_encoder.specs.Headings.{headers_of}
+use Rattle.per_codec_writing.specs.Headings.{headers_of}
 use Rattle.per_codec_encoder.specs.Bags.{bag_of}
 use Rattle.per_codec_encoder.specs.Holding.{at, instead, preamble, shown, IsOpen, IsAdded, Holds}
 
@@ -120,7 +120,7 @@ shown_is (Added a ∷ fs) o s h =
 shown_is (OpenType front ∷ fs) o s h = ap (λ (t : State). let l : State = (o.text, open_type t.0 ∷ t.1) in l) (shown_is fs front h.0 h.3) ∙ sym h.1
 shown_is (Bag b ∷ fs) o s h = ap (λ (t : State). let l : State = (o.text, bag_of b.value t.0 ∷ t.1) in l) (shown_is fs b.value.outer h.0 h.3) ∙ sym h.1
 shown_is (Alternative ∷ fs) o s h = ap (λ (t : State). let l : State = (t.0, alternative ∷ t.1) in l) (shown_is fs o h.0 h.2) ∙ sym h.1
-shown_is (Members d ∷ fs) o s h = ap (λ (t : State). let l : State = (t.0, members d.members (headers_of d.behind) ∷ t.1) in l) (shown_is fs o h.0 h.2) ∙ sym h.1
+shown_is (Members d ∷ fs) o s h = ap (λ (t : State). let l : State = (t.0, members d.units (headers_of d.behind) ∷ t.1) in l) (shown_is fs o h.0 h.2) ∙ sym h.1
 
 -- ---- the position is that of the end of the text
 

@@ -14,7 +14,9 @@ use Rattle.per_codec_encoder.specs.Ties.{BridgesAt, Bridges}
 use Rattle.per_codec_packing.proofs.Formed.{chain_same, in_turn}
 use Rattle.per_codec_encoder.proofs.Bridge.{one_text}
 use Rattle.per_codec_encoder.proofs.Fills.{Fills, AllFill, each_fills, form_fills, told_bits}
-use Rattle.per_codec_encoder.proofs.Lists.{text_due, by_heading, length-each, list_text}
+use Rattle.per_codec_writing.specs.Headings.{form_due}
+use Rattle.per_codec_writing.proofs.HeadingForms.{by_heading}
+use Rattle.per_codec_encoder.proofs.Lists.{length-each, list_text}
 
 -- ---- the records keep the texts
 
@@ -228,7 +230,7 @@ fragments_same al (m ∷ ms) ys q =
     by_test false h = refl
     by_test true h = both_same header header (behind (retold ys)) (behind (forms_of ys)) (λ p. refl) (both_same (joined (take (m * 16384) (retold ys))) (joined (take (m * 16384) (forms_of ys))) (Per.fragments al ms (drop (m * 16384) (retold ys))) (Per.fragments al ms (drop (m * 16384) (forms_of ys))) (taken_same (m * 16384) ys) (left_same h)) q
 
-due_same : (al : Bool) (n : ℕ) (hs : Headers) (ys : List Told) (q : Option ℕ) → text_at (text_due al n hs (retold ys)) q ≡ text_at (text_due al n hs (forms_of ys)) q
+due_same : (al : Bool) (n : ℕ) (hs : Headers) (ys : List Told) (q : Option ℕ) → text_at (form_due al n hs (retold ys)) q ≡ text_at (form_due al n hs (forms_of ys)) q
 due_same al n None ys q = joined_same ys q
 due_same al n (Some h) ys q = both_same (joined (take n (retold ys))) (joined (take n (forms_of ys))) (Per.fragments al h.0 (drop n (retold ys))) (Per.fragments al h.0 (drop n (forms_of ys))) (taken_same n ys) (λ p. ap (λ l. text_at (Per.fragments al h.0 l) p) (drop-map (λ (y : Told). as_form y.text) n ys) ∙ fragments_same al h.0 (drop n ys) p ∙ ap (λ l. text_at (Per.fragments al h.0 l) p) (sym (drop-map (λ (y : Told). y.form) n ys))) q
 

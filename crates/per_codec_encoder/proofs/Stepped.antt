@@ -6,7 +6,7 @@ use Rattle.asn1_model.specs.Form.{written}
 use Rattle.asn1_model.specs.Numbers.{packed}
 use Rattle.asn1_model.specs.Per
 use Rattle.asn1_schema_faults.specs.declared.EncodeError.{EncodeError}
-use Rattle.asn1_schema_faults.specs.declared.EncodeError.TheVariants.{ValueConstraintNotSatisfied, SizeConstraintNotSatisfied, AlphabetConstraintNotSatisfied, TooLongValue, LengthExceedsPlatformSize, OutOfMemory, AlreadyFailed}
+use Rattle.asn1_schema_faults.specs.declared.EncodeError.TheVariants.{ValueConstraintNotSatisfied, SizeConstraintNotSatisfied, AlphabetConstraintNotSatisfied, TooLongValue, LengthExceedsPlatformSize, CallOutOfPlace, OutOfMemory, AlreadyFailed}
 use Rattle.asn1_schema_encode.specs.Writes.{Refused}
 use Rattle.asn1_schema_presented.specs.Records.{Record, nil, sequence_begins, set_begins, group_begins}
 use Rattle.per_codec_packing.specs.Texts.{Text, as_text, plain, text_at}
@@ -57,6 +57,7 @@ is_refused al r fs o f w e q h c = subst (λ (v : Written). Refused Puts r v e) 
     go AlphabetConstraintNotSatisfied c = no_step r _ _ (c (now fs o) h)
     go TooLongValue c = no_step r _ _ (c (now fs o) h)
     go LengthExceedsPlatformSize c = no_step r _ _ (c (now fs o) h)
+    go CallOutOfPlace c = no_step r _ _ (c (now fs o) h)
     go AlreadyFailed c = absurd c
 
 -- what is refused so is not what an earlier refusal answers
@@ -88,6 +89,7 @@ refuses_none al r x fs o e q h = by_error e h
     by_error AlphabetConstraintNotSatisfied h = none h
     by_error TooLongValue h = none h
     by_error LengthExceedsPlatformSize h = none h
+    by_error CallOutOfPlace h = absurd h
     by_error AlreadyFailed h = h
 
 pub adds_sound : (al : Bool) (r : Record) (x : Per.BitForm) (fs : List Frame) (o p : Packed) → ((s : State) → run al r s ≡ adds_form x s) → Sound fs o → Adds (text_at x (place o)) o p → Sound fs p

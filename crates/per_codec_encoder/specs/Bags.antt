@@ -1,32 +1,27 @@
 -- Bags, whose members are kept until they end (X.691 22).
-use Rattle.std.specs.Prelude.{◌≡◌, ℕ, Bool, false, List, ◌∷◌, map, Option, Some, None}
+use Rattle.std.specs.Prelude.{◌≡◌, Bool, false, List, ◌∷◌, map, Option, Some, None}
 use Rattle.asn1_model.specs.Per
-use Rattle.asn1_model.specs.Schema.{Size}
-use Rattle.asn1_schema_constraints.specs.Bounds.{counts_of, members_of}
-use Rattle.asn1_schema_constraints.specs.declared.bounds.Bounded.{Bounded}
+use Rattle.asn1_schema_constraints.specs.Bounds.{members_of}
+use Rattle.asn1_schema_constraints.specs.Terms.{size_of}
 use Rattle.asn1_schema_faults.specs.declared.EncodeError.{EncodeError}
-use Rattle.asn1_schema_faults.specs.declared.EncodeError.TheVariants.{OutOfMemory, AlreadyFailed}
+use Rattle.asn1_schema_faults.specs.declared.EncodeError.TheVariants.{OutOfMemory, SizeConstraintNotSatisfied, AlreadyFailed}
 use Rattle.per_codec_packing.specs.Texts.{Text, as_form}
 use Rattle.per_codec_packing.specs.Packed.{Packed}
 use Rattle.per_codec_encoder.specs.Steps.{Scope, bag_members, counted_in}
 use Rattle.per_codec_encoder.specs.declared.frame.Bag.{Bag}
 
--- A size of so many, with or without a mark of extensibility.
-abbrev pub size_of : Bounded ℕ → Bool → Size
-size_of b e = record { counts = counts_of b; extensible = e }
-
 -- The scope of a bag, with the text in front of it.
 abbrev pub bag_of : Bag → Text → Scope
-bag_of b front = bag_members (size_of b.range b.extensible) (members_of b.held) b.due b.members front
+bag_of b front = bag_members (size_of b.sizes) (members_of b.held) b.due b.members front
 
 -- The form of a bag of these members (X.691 22).
 abbrev pub form_of : Bool → Bag → List Text → Per.BitForm
 form_of al b ts = Per.in_any_order (map as_form ts)
-    (Per.sized al (size_of b.range b.extensible) (members_of b.held) Per.never)
+    (Per.sized al (size_of b.sizes) (members_of b.held) Per.never)
 
 -- Whether a further member comes, as the writer has it: the text of the innermost member, and the scopes.
 abbrev pub further_in : Bool → Bag → Text → Text → List Scope → Option (Text × List Scope)
-further_in more b os front k = counted_in (size_of b.range b.extensible)
+further_in more b os front k = counted_in (size_of b.sizes)
     (members_of b.held) b.due b.members front os k more
 
 -- A further member or the end comes next: the text and the bag are those behind this step.
@@ -35,8 +30,9 @@ pub record GoesOnInBag (more : Bool) (b : Bag) (o : Packed) (next : Bag) (p : Pa
   pub outer : next.outer ≡ b.outer
   pub unplaced : o.placed ≡ false → p.placed ≡ false
 
--- Why nothing comes next: memory was refused, or there is no step.
+-- Why nothing comes next: memory was refused, or there is no step. No size is judged then.
 abbrev pub NoFurther : Bool → Bag → Packed → EncodeError → Type 0
 NoFurther more b o OutOfMemory = Unit {0}
+NoFurther more b o SizeConstraintNotSatisfied = ⊥
 NoFurther more b o AlreadyFailed = ⊥
 NoFurther more b o e = (front : Text) (k : List Scope) → further_in more b o.text front k ≡ None

@@ -12,7 +12,7 @@ use Rattle.per_codec_encoder.specs.declared.frame.Frame.{Frame}
 use Rattle.per_codec_encoder.specs.declared.frame.Frame.TheVariants.{Components, Added, OpenType, Members, Bag}
 use Rattle.per_codec_encoder.specs.declared.frame.Frame.TheVariants.{Alternative}
 use Rattle.per_codec_encoder.specs.declared.frame.Place.{Place}
-use Rattle.per_codec_encoder.specs.Headings.{headers_of}
+use Rattle.per_codec_writing.specs.Headings.{headers_of}
 use Rattle.per_codec_encoder.specs.Bags.{bag_of}
 
 -- How long the text in front of a place is.
@@ -49,7 +49,7 @@ shown (OpenType front ∷ fs) o =
     (o.text, open_type below.0 ∷ below.1)
 shown (Members d ∷ fs) o =
     let below = shown fs o in
-    (below.0, members d.members (headers_of d.behind) ∷ below.1)
+    (below.0, members d.units (headers_of d.behind) ∷ below.1)
 shown (Bag b ∷ fs) o =
     let below = shown fs b.value.outer in
     (o.text, bag_of b.value below.0 ∷ below.1)
@@ -98,7 +98,7 @@ Holds (Components e due given start ∷ fs) o s = IsOpen (λ p t. Holds fs p t) 
 Holds (Added a ∷ fs) o s = IsAdded (λ p t. Holds fs p t) a.due a.given a.start a.end a.slots.items o s
 Holds (OpenType front ∷ fs) o s = (outer : State) × (s ≡ (o.text, open_type outer.0 ∷ outer.1)) × (o.placed ≡ true)
     × Holds fs front outer
-Holds (Members d ∷ fs) o s = (outer : State) × (s ≡ (outer.0, members d.members (headers_of d.behind) ∷ outer.1))
+Holds (Members d ∷ fs) o s = (outer : State) × (s ≡ (outer.0, members d.units (headers_of d.behind) ∷ outer.1))
     × Holds fs o outer
 Holds (Bag b ∷ fs) o s = (outer : State) × (s ≡ (o.text, bag_of b.value outer.0 ∷ outer.1)) × (o.placed ≡ false)
     × Holds fs b.value.outer outer

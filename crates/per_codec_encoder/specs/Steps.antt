@@ -8,17 +8,12 @@ use Rattle.asn1_model.specs.Schema.{character_string, object_identifier}
 use Rattle.asn1_model.specs.Numbers.{binary, is_count_within}
 use Rattle.asn1_model.specs.Form.{exactly, both, only_if, is_any_present}
 use Rattle.asn1_model.specs.Per
-use Rattle.per_codec_packing.specs.Texts.{Text, bit, as_text, plain, moved, on, text_at, as_form}
+use Rattle.per_codec_packing.specs.Texts.{Text, as_text, plain, moved, on, text_at, as_form}
+pub use Rattle.per_codec_writing.specs.Headings.{Headers, Heading, next_header, heading}
 use Rattle.asn1_schema_presented.specs.Records.{Record, flag, nil, whole, one_of, bits, octets, characters, identifier}
 use Rattle.asn1_schema_presented.specs.Records.{list_begins, bag_begins, further, sequence_begins, set_begins}
 use Rattle.asn1_schema_presented.specs.Records.{group_begins, mark, additions_begin, addition, addition_ends}
 use Rattle.asn1_schema_presented.specs.Records.{choice_begins, ends}
-
--- The headers of a list that are still to come: how many times 16384 members each fragment has, and how many members
--- stand behind the first of these headers (X.691 11.9.3.8). There is none in a list that does not stand in fragments,
--- nor behind the last header of one that does.
-abbrev pub Headers : Type 0
-Headers = Option (List ℕ × ℕ)
 
 -- An open scope.
 pub data Scope : Type 0 where
@@ -82,51 +77,9 @@ marked b os k = None
 
 -- ---- lists (X.691 20)
 
--- What stands in front of members: its bits, and what is due behind it.
-pub record Heading : Type 0 where
-  pub text : Text
-  pub due : ℕ
-  pub headers : Headers
-
--- A count that stands in front of all its members.
-abbrev pub before_all : ℕ → Text → Heading
-before_all n w = record { text = w; due = n; headers = None }
-
--- The next header of n members in fragments, at a position: a fragment's, or the closing one (X.691 11.9.3.5 to
--- 11.9.3.8).
-abbrev pub next_header : Bool → List ℕ → ℕ → Option ℕ → Option Heading
-next_header al [] n q = option_map (λ w. before_all n w) (text_at (Per.short_length al n) q)
-next_header al (m ∷ ms) n q =
-    option_map (λ w. record { text = w; due = m * 16384; headers = Some (ms, n - m * 16384) })
-    (text_at (only_if (leb 1 m && leb m 4 && leb (m * 16384) n) (Per.at_octet al (exactly (true ∷ true ∷ binary 6 m))))
-    q)
-
--- The first header of n members behind a general length, the largest fragments first.
-abbrev pub general : Bool → ℕ → Option ℕ → Option Heading
-general al n q = next_header al (Per.largest_first n) n q
-
--- The count of n members within a size, by its bounds (X.691 11.9.4.1 and 20.5).
-abbrev pub sized_count : Bool → Counts → Option ℕ → ℕ → Option ℕ → Option Heading
-sized_count al c None n q = general al n q
-sized_count al c (Some high) n q = cond (ltb high 65536)
-    (option_map (λ w. before_all n w) (text_at (Per.constrained al (high - c.low) (n - c.low)) q)) (general al n q)
-
--- A heading behind a bit.
-abbrev pub behind_bit : Bool → (Option ℕ → Option Heading) → Option ℕ → Option Heading
-behind_bit b f q = option_map (λ (h : Heading). record { text = bit b ∷ h.text; due = h.due; headers = h.headers })
-    (f (moved q 1))
-
--- Within the root or, behind a mark, outside (X.691 20.4).
-abbrev pub marked_count : Bool → Bool → (Option ℕ → Option Heading) → (Option ℕ → Option Heading) → Option ℕ
-    → Option Heading
-marked_count false in_root root outside q = cond in_root (root q) None
-marked_count true in_root root outside q = cond in_root (behind_bit false root q) (behind_bit true outside q)
-
 -- How a list of n members begins, at a position, if the size and the program's type allow so many.
 abbrev pub list_heading : Bool → Size → Counts → ℕ → Option ℕ → Option Heading
-list_heading al z held n q = cond (is_count_within held n)
-    (marked_count z.extensible (is_count_within z.counts n) (λ q. sized_count al z.counts z.counts.high n q)
-    (λ q. general al n q) q) None
+list_heading al z held n q = cond (is_count_within held n) (heading al z false n q) None
 
 -- The members are due behind their heading.
 abbrev pub headed : Text → List Scope → Option Heading → Option State

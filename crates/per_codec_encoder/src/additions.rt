@@ -15,7 +15,8 @@ use std::mem;
 ///
 /// # Errors
 ///
-/// `OutOfMemory`; any other only where nothing that is open takes this call.
+/// `CallOutOfPlace` where no sequence or set with an extension bit is innermost, or a presence bit of it is due;
+/// `OutOfMemory`.
 pub(crate) fn begin_additions(
     output: &Packing,
     frames: &mut Frames,
@@ -35,10 +36,10 @@ pub(crate) fn begin_additions(
         },
     ) = frames.innermost()
     else {
-        return Err(EncodeError::SizeConstraintNotSatisfied);
+        return Err(EncodeError::CallOutOfPlace);
     };
     if !*extensible || *due > 0 {
-        return Err(EncodeError::SizeConstraintNotSatisfied);
+        return Err(EncodeError::CallOutOfPlace);
     }
     let (given, start) = (*given, *start);
     let slots = Vec::with_capacity(alloc, count)?;
@@ -57,10 +58,10 @@ pub(crate) fn begin_additions(
 pub(crate) fn count_addition(additions: &mut Additions, present: bool) -> Result<(), EncodeError>
     ensures { MatchResult result (λ _. Next present additions.old additions.new)
         (λ e. (e ≡ EncodeError.OutOfMemory)
-        ⊎ ((e ≡ EncodeError.SizeConstraintNotSatisfied) × (additions.old.due ≡ 0))) }
+        ⊎ ((e ≡ EncodeError.CallOutOfPlace) × (additions.old.due ≡ 0))) }
 {
     if additions.due == 0 {
-        return Err(EncodeError::SizeConstraintNotSatisfied);
+        return Err(EncodeError::CallOutOfPlace);
     }
     if !present {
         additions.slots.push(None)?;
@@ -73,7 +74,7 @@ pub(crate) fn count_addition(additions: &mut Additions, present: bool) -> Result
 ///
 /// # Errors
 ///
-/// `OutOfMemory`; any other only where nothing that is open takes this call.
+/// `CallOutOfPlace` where no addition is due of what is innermost; `OutOfMemory`.
 #[inline]
 pub(crate) fn put_addition(
     output: &mut Packing,
@@ -97,13 +98,13 @@ pub(crate) fn put_addition(
 ///
 /// # Errors
 ///
-/// `OutOfMemory`; any other only where nothing that is open takes this call.
+/// `CallOutOfPlace` where no addition is innermost; `OutOfMemory`.
 pub(crate) fn end_addition(output: &mut Packing, frames: &mut Frames) -> Result<(), EncodeError>
     ensures { MatchResult result (λ _. (al : Bool) → Does al addition_ends frames.old output.old frames.new output.new)
         (λ e. (al : Bool) → Cannot al addition_ends frames.old output.old e) }
 {
     let Some(Frame::OpenType { outer }) = frames.pop() else {
-        return Err(EncodeError::SizeConstraintNotSatisfied);
+        return Err(EncodeError::CallOutOfPlace);
     };
     let contents = mem::replace(output, outer).into_bits();
     frames.keep_addition(contents)?;

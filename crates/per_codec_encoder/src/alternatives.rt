@@ -18,7 +18,7 @@ use std::mem;
 ///
 /// # Errors
 ///
-/// `OutOfMemory`; any other only where nothing that is open takes this call.
+/// `ValueConstraintNotSatisfied` where the choice has no such place; `OutOfMemory`.
 pub(crate) fn begin_alternative(
     output: &mut Packing,
     frames: &mut Frames,

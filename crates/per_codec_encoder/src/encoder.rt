@@ -11,8 +11,9 @@ use crate::alternatives::begin_alternative;
 use crate::bags::begin_bag;
 use crate::ends::end_scope;
 use crate::frames::Frames;
+use crate::members::begin_members;
 use crate::options::EncoderOptions;
-use crate::sequences::{begin_components, begin_members, put_further, put_mark};
+use crate::sequences::{begin_components, put_further, put_mark};
 use asn1_schema_constraints::{Bounded, Constraints};
 use asn1_schema_faults::{CodecKind, EncodeError};
 use asn1_schema_tags::{Identifier, Tag};
@@ -293,7 +294,7 @@ impl asn1_schema_encode::Encoder for Encoder {
                 &mut self.output,
                 &mut self.frames,
                 self.aligned,
-                constraints,
+                constraints.sizes(),
                 held,
                 count,
             )
@@ -314,8 +315,7 @@ impl asn1_schema_encode::Encoder for Encoder {
                 &mut self.output,
                 &mut self.frames,
                 self.alloc,
-                self.aligned,
-                constraints,
+                constraints.sizes(),
                 held,
                 count,
             )

@@ -71,7 +71,7 @@ fn end_additions(
         (λ e. (around : List Frame) → Cannot aligned ends (around ++ Frame.Added additions ∷ []) output.old e) }
 {
     if additions.due > 0 {
-        return Err(EncodeError::SizeConstraintNotSatisfied);
+        return Err(EncodeError::CallOutOfPlace);
     }
     output.truncate(additions.end.bits, additions.end.fills);
     let slots = additions.slots.as_slice();
@@ -97,7 +97,7 @@ fn end_open_type(output: &mut Packing, outer: Packing, aligned: bool) -> Result<
 ///
 /// # Errors
 ///
-/// `OutOfMemory`; any other only where nothing that is open takes this call.
+/// `CallOutOfPlace` where nothing is open, or something of what is innermost is due; `OutOfMemory`.
 pub(crate) fn end_scope(
     output: &mut Packing,
     frames: &mut Frames,
@@ -117,27 +117,27 @@ pub(crate) fn end_scope(
             },
         ) => {
             if extensible || due > 0 {
-                return Err(EncodeError::SizeConstraintNotSatisfied);
+                return Err(EncodeError::CallOutOfPlace);
             }
             Ok(())
         }
         Some(Frame::Added(additions)) => end_additions(output, additions, alloc, aligned),
         Some(Frame::OpenType { outer }) => end_open_type(output, outer, aligned),
         Some(Frame::Members(due)) => {
-            if due.members > 0 || due.behind.is_some() {
-                return Err(EncodeError::SizeConstraintNotSatisfied);
+            if due.units > 0 || due.behind.is_some() {
+                return Err(EncodeError::CallOutOfPlace);
             }
             Ok(())
         }
         Some(Frame::Bag(boxed)) => {
             let bag = Box::into_inner(boxed);
             if bag.due > 0 {
-                return Err(EncodeError::SizeConstraintNotSatisfied);
+                return Err(EncodeError::CallOutOfPlace);
             }
             end_bag(output, bag, alloc, aligned)?;
             Ok(())
         }
         Some(Frame::Alternative) => Ok(()),
-        None => Err(EncodeError::SizeConstraintNotSatisfied),
+        None => Err(EncodeError::CallOutOfPlace),
     }
 }

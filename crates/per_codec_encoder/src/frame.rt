@@ -2,10 +2,10 @@
 ghost use Rattle.std.specs.Prelude.{◌≡◌, ◌+◌, length};
 ghost use Rattle.per_codec_packing.specs.Packed.{solid};
 
-use crate::headings::Due;
-use asn1_schema_constraints::Bounded;
+use asn1_schema_constraints::{Bounded, Sizes};
 use asn1_values_bits::BitBuffer;
 use per_codec_packing::{Packing, Texts};
+use per_codec_writing::Due;
 
 /// A place in a text.
 #[derive(Clone, Copy, PartialEq, Eq)]
@@ -78,10 +78,8 @@ pub(crate) struct Additions {
 pub(crate) struct Bag {
     /// What stands in front of it.
     pub outer: Packing,
-    /// How many members the root of its size constraint admits.
-    pub range: Bounded<usize>,
-    /// Whether this constraint has a mark of extensibility.
-    pub extensible: bool,
+    /// How many members its size constraint admits.
+    pub sizes: Sizes,
     /// How many members the program's type holds.
     pub held: Bounded<usize>,
     /// How many are due.

@@ -100,6 +100,10 @@ impl Frames {
     }
 
     /// Keeps the bits of an addition of the innermost sequence or set.
+    ///
+    /// # Errors
+    ///
+    /// `CallOutOfPlace` where no such type is innermost; `OutOfMemory`.
     #[inline(always)]
     pub(crate) fn keep_addition(&mut self, contents: BitBuffer) -> Result<(), EncodeError>
         ensures ok { OnOk result (KeepsAddition contents self.old self.new) }
@@ -108,12 +112,16 @@ impl Frames {
     {
         match &mut self.innermost {
             Some(Frame::Added(additions)) => additions.slots.push(Some(contents))?,
-            _ => return Err(EncodeError::SizeConstraintNotSatisfied),
+            _ => return Err(EncodeError::CallOutOfPlace),
         }
         Ok(())
     }
 
     /// Counts the next addition of the innermost sequence or set.
+    ///
+    /// # Errors
+    ///
+    /// `CallOutOfPlace` where no such type is innermost, or no addition of it is due; `OutOfMemory`.
     #[inline(always)]
     pub(crate) fn next_addition(&mut self, present: bool) -> Result<(), EncodeError>
         ensures ok { OnOk result (CountsAddition present self.old self.new) }
@@ -121,7 +129,7 @@ impl Frames {
     {
         match &mut self.innermost {
             Some(Frame::Added(additions)) => count_addition(additions, present)?,
-            _ => return Err(EncodeError::SizeConstraintNotSatisfied),
+            _ => return Err(EncodeError::CallOutOfPlace),
         }
         Ok(())
     }

@@ -10,7 +10,7 @@ mod encoder;
 mod ends;
 mod frame;
 mod frames;
-mod headings;
+mod members;
 mod options;
 mod sequences;
 pub mod step_laws;

@@ -1,17 +1,13 @@
-//! Sequences, sets and groups, with the places of their preambles, and lists.
+//! Sequences, sets and groups, with the places of their preambles, and members of lists and bags.
 ghost use Rattle.std.specs.Prelude.{◌≡◌, Bool, List, [], ◌∷◌, ◌++◌, ◌+◌, ◌≤◌, ◌^◌, cond, MatchOption, MatchResult};
-ghost use Rattle.asn1_schema_presented.specs.Records.{sequence_begins, mark, further, list_begins};
-ghost use Rattle.asn1_schema_constraints.specs.Bounds.{members_of};
-ghost use Rattle.asn1_schema_constraints.specs.Terms.{sizes_of};
+ghost use Rattle.asn1_schema_presented.specs.Records.{sequence_begins, mark, further};
 ghost use Rattle.per_codec_encoder.specs.declared.frame.Frame.{Frame};
-ghost use Rattle.per_codec_encoder.specs.Headings.{GoesOnInList, NoMember};
 ghost use Rattle.per_codec_encoder.specs.Holding.{AreSound, Does, Cannot};
 
 use crate::bags::next_of_bag;
 use crate::frame::{Frame, Place};
 use crate::frames::Frames;
-use crate::headings::{Due, push_heading, push_next_header};
-use asn1_schema_constraints::{Bounded, Constraints};
+use crate::members::next_of_list;
 use asn1_schema_faults::EncodeError;
 use per_codec_packing::Packing;
 use std::alloc::Global;
@@ -60,7 +56,7 @@ pub(crate) fn begin_components(
 ///
 /// # Errors
 ///
-/// `OutOfMemory`; any other only where nothing that is open takes this call.
+/// `CallOutOfPlace` where no sequence, set or group is innermost of which a presence bit is due.
 #[inline(always)]
 pub(crate) fn put_mark(
     output: &mut Packing,
@@ -72,7 +68,7 @@ pub(crate) fn put_mark(
         (λ e. (al : Bool) → Cannot al (mark present) frames.old output.old e) }
 {
     let Some(innermost) = &mut frames.innermost else {
-        return Err(EncodeError::SizeConstraintNotSatisfied);
+        return Err(EncodeError::CallOutOfPlace);
     };
     let Frame::Components {
         extensible,
@@ -81,59 +77,14 @@ pub(crate) fn put_mark(
         start,
     } = innermost
     else {
-        return Err(EncodeError::SizeConstraintNotSatisfied);
+        return Err(EncodeError::CallOutOfPlace);
     };
     if *due == 0 {
-        return Err(EncodeError::SizeConstraintNotSatisfied);
+        return Err(EncodeError::CallOutOfPlace);
     }
     output.set(start.bits + usize::from(*extensible) + *given, present);
     *due -= 1;
     *given += 1;
-    Ok(())
-}
-
-/// Begins a list with the number of its members or its first header (X.691 20), if the size and the program's type
-/// allow so many.
-///
-/// # Errors
-///
-/// `OutOfMemory`; any other only where nothing that is open takes this call.
-pub(crate) fn begin_members(
-    output: &mut Packing,
-    frames: &mut Frames,
-    aligned: bool,
-    constraints: Constraints,
-    held: Bounded<usize>,
-    count: usize,
-) -> Result<(), EncodeError>
-    ensures { MatchResult result (λ _. Does aligned
-        (list_begins (sizes_of constraints.entry.size) (members_of held) count) frames.old output.old frames.new
-        output.new) (Cannot aligned (list_begins (sizes_of constraints.entry.size) (members_of held) count) frames.old
-        output.old) }
-{
-    let due = push_heading(output, aligned, constraints, held, count)?;
-    frames.push(Frame::Members(due))?;
-    Ok(())
-}
-
-/// Whether a further member of a list comes: as many come as were told, each fragment of them behind its header (X.691
-/// 11.9.3.8).
-#[inline(always)]
-fn next_of_list(
-    output: &mut Packing,
-    aligned: bool,
-    due: &mut Due,
-    more: bool,
-) -> Result<(), EncodeError>
-    ensures { MatchResult result (λ _. GoesOnInList aligned more due.old output.old due.new output.new)
-        (NoMember aligned more due.old output.old) }
-{
-    let next = push_next_header(output, aligned, *due)?;
-    if more != (next.members > 0) {
-        return Err(EncodeError::SizeConstraintNotSatisfied);
-    }
-    due.members = next.members - usize::from(more);
-    due.behind = next.behind;
     Ok(())
 }
 
@@ -153,7 +104,7 @@ fn next_of_frame(
     match innermost {
         Frame::Members(due) => next_of_list(output, aligned, due, more),
         Frame::Bag(bag) => next_of_bag(output, bag, alloc, more),
-        _ => Err(EncodeError::SizeConstraintNotSatisfied),
+        _ => Err(EncodeError::CallOutOfPlace),
     }
 }
 
@@ -161,7 +112,7 @@ fn next_of_frame(
 ///
 /// # Errors
 ///
-/// `OutOfMemory`; any other only where nothing that is open takes this call.
+/// `CallOutOfPlace` where no list or bag is innermost, or more or fewer members come than were told; `OutOfMemory`.
 #[inline(always)]
 pub(crate) fn put_further(
     output: &mut Packing,
@@ -175,6 +126,6 @@ pub(crate) fn put_further(
 {
     match &mut frames.innermost {
         Some(innermost) => next_of_frame(output, innermost, alloc, aligned, more),
-        None => Err(EncodeError::SizeConstraintNotSatisfied),
+        None => Err(EncodeError::CallOutOfPlace),
     }
 }

@@ -117,7 +117,7 @@ fn gives_true_once(encoder: &mut Encoder) -> Result<bool, EncodeError> {
 
 /// Whether an encoder in which nothing was begun refuses to end it, and a mark behind this.
 fn refuses_to_end(encoder: &mut Encoder) -> bool {
-    encoder.end() == Err(EncodeError::SizeConstraintNotSatisfied)
+    encoder.end() == Err(EncodeError::CallOutOfPlace)
         && encoder.put_mark(true) == Err(EncodeError::AlreadyFailed)
 }
 

@@ -3,7 +3,7 @@ use Rattle.std.proofs.Common.{◌≡◌, ℕ, Bool, List, [], ◌∷◌, ◌++�
 use Rattle.std.specs.Result.{IsErrAnd, MatchResult}
 use Rattle.asn1_model.specs.Form.{joined}
 use Rattle.asn1_schema_faults.specs.declared.EncodeError.{EncodeError}
-use Rattle.asn1_schema_faults.specs.declared.EncodeError.TheVariants.{OutOfMemory, AlreadyFailed}
+use Rattle.asn1_schema_faults.specs.declared.EncodeError.TheVariants.{OutOfMemory, CallOutOfPlace, AlreadyFailed}
 use Rattle.per_codec_packing.specs.Texts.{Text, as_text, on, text_at}
 use Rattle.per_codec_packing.proofs.Formed.{as_text-append}
 use Rattle.per_codec_writing.specs.Writing.{Packed, Adds, Refuses, place, plus}
@@ -21,6 +21,7 @@ adds_joined ts old new e = adds_text _ (as_text (together ts)) old new (joined_t
 -- where one text is missing, so is another
 pub refuses_also : (o o' : Option Text) (e : EncodeError) → (o ≡ None → o' ≡ None) → Refuses o e → Refuses o' e
 refuses_also o o' OutOfMemory h r = tt
+refuses_also o o' CallOutOfPlace h r = r
 refuses_also o o' AlreadyFailed h r = r
 refuses_also o o' e h r = h r
 

@@ -15,7 +15,7 @@ use Rattle.per_codec_writing.specs.Additions.{as_open_types}
 
 -- ---- bits as units
 
-abbrev pub alone : List Bool → List (List Bool)
+abbrev alone : List Bool → List (List Bool)
 alone bs = map (λ b. b ∷ []) bs
 
 forms_of_bits : (bs : List Bool) → forms_of (alone bs) ≡ Per.bit_units bs
@@ -58,14 +58,14 @@ many n h = go (leb 1 n) (leb n 64) refl refl
     go true false x y = refl
     go true true x y = absurd (omega (arith, h, leb-true 1 n x, leb-true n 64 y))
 
-pub adds_many : (al : Bool) (bs : List Bool) (n : ℕ) (old mid new : Packed) → n ≡ length bs → (1 ≤ n → 64 < n) → mid ≡ plus old (as_text (true ∷ [])) → Adds (text_at (Per.counted al (forms_of (alone bs))) (place mid)) mid new → Adds (text_at (Per.normally_few al (Per.bit_units bs)) (place old)) old new
+pub adds_many : (al : Bool) (bs : List Bool) (n : ℕ) (old mid new : Packed) → n ≡ length bs → (1 ≤ n → 64 < n) → mid ≡ plus old (as_text (true ∷ [])) → Adds (text_at (Per.counted al (Per.bit_units bs)) (place mid)) mid new → Adds (text_at (Per.normally_few al (Per.bit_units bs)) (place old)) old new
 unfolding Per.normally_few text_at
 adds_many al bs n old mid new e h x y =
     let m : length (Per.bit_units bs) ≡ n = length_units bs ∙ sym e in
     let t : Per.is_from_1_to_64 (length (Per.bit_units bs)) ≡ false = ap Per.is_from_1_to_64 m ∙ many n h in
     adds_same _ _ old new
     (cond_true (not (Per.is_from_1_to_64 (length (Per.bit_units bs)))) _ _ (place old) (ap not t))
-    (adds_both (exactly (true ∷ [])) (Per.counted al (Per.bit_units bs)) old mid new (adds_text _ (as_text (true ∷ [])) old mid refl x) (subst (λ us. Adds (text_at (Per.counted al us) (place mid)) mid new) (forms_of_bits bs) y))
+    (adds_both (exactly (true ∷ [])) (Per.counted al (Per.bit_units bs)) old mid new (adds_text _ (as_text (true ∷ [])) old mid refl x) y)
 
 -- ---- additions
 

@@ -33,6 +33,10 @@ pub length-texts : (a : Coded) (cs : List ℕ) → length (texts_of a cs) ≡ le
 length-texts a [] = refl
 length-texts a (c ∷ cs) = ap suc (length-texts a cs)
 
+pub length-forms : (a : Coded) (cs : List ℕ) → length (forms_of (texts_of a cs)) ≡ length cs
+length-forms a [] = refl
+length-forms a (c ∷ cs) = ap suc (length-forms a cs)
+
 length_left : (ts : List (List Bool)) (n : ℕ) → length (drop n ts) ≡ length ts - n
 length_left ts zero = omega arith
 length_left [] (suc n) = omega arith

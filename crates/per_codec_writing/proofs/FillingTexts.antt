@@ -30,7 +30,7 @@ cond_false false x y q e = refl
 
 -- ---- filling
 
-plus_nothing : (p : Packed) → plus p (fill_at false (place p)) ≡ p
+pub plus_nothing : (p : Packed) → plus p (fill_at false (place p)) ≡ p
 plus_nothing p = ap (λ t. let q : Packed = record { text = t; placed = p.placed } in q) (append-nil p.text)
 
 -- a form that stands at an octet, behind what fills up to there

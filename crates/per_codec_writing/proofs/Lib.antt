@@ -4,9 +4,9 @@ pub mod ConstrainedTexts
 pub mod UnitTexts
 pub mod Adding
 pub mod Fragments
-pub mod Sizes
-pub mod MemberFragments
-pub mod MemberSizes
+pub mod HeadingTexts
+pub mod HeadingForms
+pub mod PaddedSizes
 pub mod Ordered
 pub mod Each
 pub mod Keyed

@@ -31,6 +31,7 @@ refused_so x y Fault.AlphabetConstraintNotSatisfied f h = f h
 refused_so x y Fault.TooLongValue f h = f h
 refused_so x y Fault.LengthExceedsPlatformSize f h = f h
 refused_so x y Fault.OutOfMemory f h = tt
+refused_so x y Fault.CallOutOfPlace f h = h
 refused_so x y Fault.AlreadyFailed f h = h
 
 -- .. behind another text

@@ -153,6 +153,10 @@ next_of ts es vs more k e d v l h q t f =
     ∙ sym (map-append (form_at ts) (take k es) (e ∷ []))
     ∙ ap (map (form_at ts)) (ap (λ x. take k es ++ x ∷ []) q ∙ sym (take_more es k d l))
 
+pub length-members : (vs : List TextView) → length (forms_of vs) ≡ length vs
+length-members [] = refl
+length-members (v ∷ vs) = ap suc (length-members vs)
+
 -- the text of a bag is that of the list of its members in order
 pub bag_text : (ts : List Text) (vs : List TextView) (f : List Per.BitForm → Per.BitForm) (q : Option ℕ) → ascending (λ x. written (Per.complete x) 0) (stands_before Per.bit_less) (forms ts) ≡ Some (forms_of vs) → text_at (Per.in_any_order (forms ts) f) q ≡ text_at (f (forms_of vs)) q
 unfolding text_at Per.in_any_order

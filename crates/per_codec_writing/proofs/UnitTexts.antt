@@ -1,8 +1,16 @@
--- The texts of octets and of bits, one behind the other.
-use Rattle.std.proofs.Common.{◌≡◌, ℕ, ◌-◌, Bool, List, [], ◌∷◌, ◌++◌, map, take, drop, slice_range, refl, ap, ◌∙◌}
+-- Octets, bits and other units of known texts, one behind the other.
+use Rattle.std.proofs.Common.{◌≡◌, ℕ, ◌-◌, Bool, List, [], ◌∷◌, ◌++◌, map, take, drop, slice_range, refl, ap, subst, sym, ◌∙◌}
 use Rattle.std.proofs.lemmas.List.{take-map, drop-map}
+use Rattle.asn1_model.specs.Form.{exactly, joined}
 use Rattle.asn1_model.specs.Numbers.{binary, octet_bits}
-use Rattle.per_codec_writing.specs.Units.{together}
+use Rattle.asn1_model.specs.Per
+use Rattle.per_codec_packing.specs.Texts.{as_text, text_at, as_form}
+use Rattle.per_codec_packing.specs.Viewed.{text_of}
+use Rattle.per_codec_packing.specs.declared.text_view.TextView.{TextView}
+use Rattle.per_codec_writing.specs.Writing.{Packed, Adds, place, plus}
+use Rattle.per_codec_writing.specs.Units.{together, forms_of}
+use Rattle.per_codec_writing.specs.Members.{forms_of as forms_of_members}
+use Rattle.per_codec_writing.proofs.Adding.{adds_joined}
 
 range-map : {X Y : Type 0} (f : X → Y) (xs : List X) (i j : ℕ) → slice_range (map f xs) i j ≡ map f (slice_range xs i j)
 range-map f xs i j = ap (take (j - i)) (drop-map f i xs) ∙ take-map f (j - i) (drop i xs)
@@ -11,12 +19,34 @@ octets_together : (os : List ℕ) → together (map (binary 8) os) ≡ octet_bit
 octets_together [] = refl
 octets_together (o ∷ os) = ap (λ l. binary 8 o ++ l) (octets_together os)
 
-pub octets_between : (os : List ℕ) (i j : ℕ) → together (slice_range (map (binary 8) os) i j) ≡ octet_bits (slice_range os i j)
-octets_between os i j = ap together (range-map (binary 8) os i j) ∙ octets_together (slice_range os i j)
-
 bits_together : (bs : List Bool) → together (map (λ b. b ∷ []) bs) ≡ bs
 bits_together [] = refl
 bits_together (b ∷ bs) = ap (λ l. b ∷ l) (bits_together bs)
 
-pub bits_between : (bs : List Bool) (i j : ℕ) → together (slice_range (map (λ b. b ∷ []) bs) i j) ≡ slice_range bs i j
-bits_between bs i j = ap together (range-map (λ b. b ∷ []) bs i j) ∙ bits_together (slice_range bs i j)
+forms_of_octets : (os : List ℕ) → forms_of (map (binary 8) os) ≡ Per.octet_units os
+forms_of_octets [] = refl
+forms_of_octets (o ∷ os) = ap (λ us. exactly (binary 8 o) ∷ us) (forms_of_octets os)
+
+forms_of_bits : (bs : List Bool) → forms_of (map (λ b. b ∷ []) bs) ≡ Per.bit_units bs
+forms_of_bits [] = refl
+forms_of_bits (b ∷ bs) = ap (λ us. exactly (b ∷ []) ∷ us) (forms_of_bits bs)
+
+-- ---- those from one place up to another
+
+pub range_added : (ts : List (List Bool)) (i j : ℕ) (old new : Packed) → new ≡ plus old (as_text (together (slice_range ts i j))) → Adds (text_at (joined (slice_range (forms_of ts) i j)) (place old)) old new
+range_added ts i j old new e = subst (λ us. Adds (text_at (joined us) (place old)) old new) (sym (range-map (λ t. exactly t) ts i j)) (adds_joined (slice_range ts i j) old new e)
+
+pub octets_added : (os : List ℕ) (i j : ℕ) (old new : Packed) → new ≡ plus old (as_text (octet_bits (slice_range os i j))) → Adds (text_at (joined (slice_range (Per.octet_units os) i j)) (place old)) old new
+octets_added os i j old new e =
+    let l : List ℕ = slice_range os i j in
+    subst (λ us. Adds (text_at (joined us) (place old)) old new) (forms_of_octets l ∙ sym (range-map (λ o. exactly (binary 8 o)) os i j))
+    (adds_joined (map (binary 8) l) old new (e ∙ ap (λ t. plus old (as_text t)) (sym (octets_together l))))
+
+pub bits_added : (bs : List Bool) (i j : ℕ) (old new : Packed) → new ≡ plus old (as_text (slice_range bs i j)) → Adds (text_at (joined (slice_range (Per.bit_units bs) i j)) (place old)) old new
+bits_added bs i j old new e =
+    let l : List Bool = slice_range bs i j in
+    subst (λ us. Adds (text_at (joined us) (place old)) old new) (forms_of_bits l ∙ sym (range-map (λ b. exactly (b ∷ [])) bs i j))
+    (adds_joined (map (λ b. b ∷ []) l) old new (e ∙ ap (λ t. plus old (as_text t)) (sym (bits_together l))))
+
+pub members_added : (vs : List TextView) (i j : ℕ) (old new : Packed) → Adds (text_at (joined (forms_of_members (slice_range vs i j))) (place old)) old new → Adds (text_at (joined (slice_range (forms_of_members vs) i j)) (place old)) old new
+members_added vs i j old new a = subst (λ us. Adds (text_at (joined us) (place old)) old new) (sym (range-map (λ (v : TextView). as_form (text_of v)) vs i j)) a

@@ -1,6 +1,8 @@
--- Units by their texts.
-use Rattle.std.specs.Prelude.{Bool, List, map, flat_map}
+-- Units by their texts, and units of a size.
+use Rattle.std.specs.Prelude.{Bool, List, length, map, flat_map}
 use Rattle.asn1_model.specs.Form.{exactly}
+use Rattle.asn1_model.specs.Numbers.{is_count_within}
+use Rattle.asn1_model.specs.Schema.{Size}
 use Rattle.asn1_model.specs.Per
 
 -- Texts one behind the other.
@@ -10,3 +12,8 @@ together ts = flat_map (λ t. t) ts
 -- Units as forms: each has just its text.
 abbrev pub forms_of : List (List Bool) → List Per.BitForm
 forms_of ts = map (λ t. exactly t) ts
+
+-- Units of a size; whether padding stands in front of them, where their number is one by the bounds of the root.
+abbrev pub of_size : Bool → Size → Bool → List Per.BitForm → Per.BitForm
+of_size al z pads us = Per.marked z.extensible (is_count_within z.counts (length us))
+    (Per.sized_root al z.counts z.counts.high (λ _. pads) us) (Per.counted al us)

@@ -2,14 +2,14 @@
 ghost use Rattle.std.specs.Prelude.{MatchResult};
 ghost use Rattle.asn1_model.specs.Per.{in_any_order, sized, never};
 ghost use Rattle.asn1_schema_constraints.specs.Bounds.{members_of};
-ghost use Rattle.asn1_schema_constraints.specs.Terms.{sizes_of};
+ghost use Rattle.asn1_schema_constraints.specs.Terms.{size_of};
 ghost use Rattle.per_codec_packing.specs.Texts.{text_at};
 ghost use Rattle.per_codec_writing.specs.Writing.{Adds, Refuses, place};
 ghost use Rattle.per_codec_writing.specs.Members.{forms};
 
 use crate::members::in_order;
-use crate::sized_members::push_sized;
-use asn1_schema_constraints::{Bounded, Constraints};
+use crate::sized::push_of_size;
+use asn1_schema_constraints::{Bounded, Sizes};
 use asn1_schema_faults::EncodeError;
 use per_codec_packing::{Packing, Texts};
 use std::alloc::Global;
@@ -19,24 +19,28 @@ use std::alloc::Global;
 ///
 /// # Errors
 ///
-/// `SizeConstraintNotSatisfied` where the type does not hold so many, or a size constraint without a mark does not
+/// `SizeConstraintNotSatisfied` where the type does not hold so many, or a size without an extension mark does not
 /// admit them; `OutOfMemory`.
 pub fn push_bag(
     alloc: Global,
     output: &mut Packing,
     aligned: bool,
-    constraints: Constraints,
+    sizes: Sizes,
     held: Bounded<usize>,
     members: &Texts,
 ) -> Result<(), EncodeError>
     ensures { MatchResult result (λ _. Adds
         (text_at (in_any_order (forms members.now)
-        (λ us. sized aligned (sizes_of constraints.entry.size) (members_of held) never us)) (place output.old))
+        (λ us. sized aligned (size_of sizes) (members_of held) never us)) (place output.old))
         output.old output.new) (Refuses
         (text_at (in_any_order (forms members.now)
-        (λ us. sized aligned (sizes_of constraints.entry.size) (members_of held) never us)) (place output.old))) }
+        (λ us. sized aligned (size_of sizes) (members_of held) never us)) (place output.old))) }
 {
     let ordered = in_order(alloc, members)?;
-    push_sized(output, aligned, constraints, held, ordered.as_slice())?;
+    let units = ordered.as_slice();
+    if !held.holds(units.len()) {
+        return Err(EncodeError::SizeConstraintNotSatisfied);
+    }
+    push_of_size(output, aligned, sizes, false, &units)?;
     Ok(())
 }

@@ -19,7 +19,7 @@ use per_codec_packing::Packing;
 ///
 /// # Errors
 ///
-/// `SizeConstraintNotSatisfied` where the type does not hold so many bits, or a size constraint without a mark does not
+/// `SizeConstraintNotSatisfied` where the type does not hold so many bits, or a size without an extension mark does not
 /// admit them.
 pub fn push_bit_string(
     output: &mut Packing,
@@ -34,7 +34,8 @@ pub fn push_bit_string(
         (Refuses (text_at (form aligned (bit_string (sizes_of constraints.entry.size) (counts_of held))
         (bit_list (bits_of value.entry))) (place output.old))) }
 {
-    let pads = pads_string(constraints, 1, value.len());
-    push_sized(output, aligned, constraints, held, pads, &value)?;
+    let sizes = constraints.sizes();
+    let pads = pads_string(sizes, 1, value.len());
+    push_sized(output, aligned, sizes, held, pads, &value)?;
     Ok(())
 }

@@ -2,6 +2,7 @@
 ghost use Rattle.std.specs.Prelude.{◌≡◌};
 ghost use Rattle.asn1_model.specs.Strings.{each_is};
 ghost use Rattle.per_codec_writing.specs.Characters.{texts_of, has_code};
+ghost use Rattle.per_codec_writing.specs.Units.{forms_of};
 
 use crate::Units;
 use asn1_schema_faults::EncodeError;
@@ -33,7 +34,7 @@ impl<S: StaticPermittedAlphabet> CharacterUnits<'_, S> {
 }
 
 impl<S: StaticPermittedAlphabet> Units for CharacterUnits<'_, S> {
-    ghost texts = { λ units. texts_of units.alphabet.now (S.characters units.string.now) };
+    ghost forms = { λ units. forms_of (texts_of units.alphabet.now (S.characters units.string.now)) };
 
     fn count(&self) -> usize {
         self.string.char_count()

@@ -65,8 +65,9 @@ fn push_codes<S: StaticPermittedAlphabet>(
     if !units.has_codes() {
         return Err(EncodeError::AlphabetConstraintNotSatisfied);
     }
-    let pads = pads_characters(constraints, alphabet.width() as usize, value.char_count());
-    push_sized(output, aligned, constraints, Bounded::None, pads, &units)?;
+    let sizes = constraints.sizes();
+    let pads = pads_characters(sizes, alphabet.width() as usize, value.char_count());
+    push_sized(output, aligned, sizes, Bounded::None, pads, &units)?;
     Ok(())
 }
 

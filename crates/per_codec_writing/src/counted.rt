@@ -1,17 +1,41 @@
-//! Units behind their number (X.691 11.9).
-ghost use Rattle.std.specs.Prelude.{◌≡◌, MatchResult};
+//! Units behind a length determinant in the general form (X.691 11.9).
+ghost use Rattle.std.specs.Prelude.{◌≡◌, ◌^◌, ◌<◌, length, MatchResult};
 ghost use Rattle.asn1_model.specs.Per.{counted, counted_octets};
 ghost use Rattle.per_codec_packing.specs.Texts.{text_at};
+ghost use Rattle.per_codec_writing.specs.Headings.{form_due, headers_of, IsDue};
 ghost use Rattle.per_codec_writing.specs.Writing.{Adds, place};
-ghost use Rattle.per_codec_writing.specs.Units.{forms_of};
 
-use crate::{Units, push_fragment_length, push_short_length};
+use crate::{Due, Units, push_length_determinant};
 use asn1_schema_faults::EncodeError;
-use per_codec_limits::FRAGMENT;
 use per_codec_packing::Packing;
 
-/// Adds units behind their number: from 16384 units on in fragments, the largest first, and the rest behind a short
-/// length (X.691 11.9).
+/// Adds the units that are due and, as long as more stand behind a next length determinant, this and the units that
+/// are due behind it (X.691 11.9.3.8). The only error is want of memory.
+pub(crate) fn push_due<U: Units>(
+    output: &mut Packing,
+    aligned: bool,
+    first: Due,
+    units: &U,
+) -> Result<(), EncodeError>
+    requires fits { length (U.forms units.now) < 2 ^ 64 }
+    requires due { IsDue (length (U.forms units.now)) first }
+    ensures { MatchResult result (λ _. Adds
+        (text_at (form_due aligned first.units (headers_of first.behind) (U.forms units.now)) (place output.old))
+        output.old output.new) (λ e. e ≡ EncodeError.OutOfMemory) }
+{
+    let mut due = first;
+    let mut from = 0;
+    while let Some(count) = due.behind {
+        units.push_range(output, from, from + due.units)?;
+        from += due.units;
+        due = push_length_determinant(output, aligned, count)?;
+    }
+    units.push_range(output, from, from + due.units)?;
+    Ok(())
+}
+
+/// Adds units behind a length determinant in the general form: from 16384 units on in fragments, the largest first,
+/// and the rest behind a short one (X.691 11.9).
 ///
 /// # Errors
 ///
@@ -22,19 +46,11 @@ pub fn push_counted<U: Units>(
     units: &U,
 ) -> Result<(), EncodeError>
     ensures { MatchResult result (λ _. Adds
-        (text_at (counted aligned (forms_of (U.texts units.now))) (place output.old)) output.old output.new)
+        (text_at (counted aligned (U.forms units.now)) (place output.old)) output.old output.new)
         (λ e. e ≡ EncodeError.OutOfMemory) }
 {
-    let count = units.count();
-    let mut from = 0;
-    while count - from >= FRAGMENT {
-        let multiple = ((count - from) / FRAGMENT).min(4);
-        push_fragment_length(output, aligned, multiple)?;
-        units.push_range(output, from, from + multiple * FRAGMENT)?;
-        from += multiple * FRAGMENT;
-    }
-    push_short_length(output, aligned, count - from)?;
-    units.push_range(output, from, count)?;
+    let due = push_length_determinant(output, aligned, units.count())?;
+    push_due(output, aligned, due, units)?;
     Ok(())
 }
 

@@ -1,16 +1,28 @@
-//! Lengths (X.691 11.9).
-ghost use Rattle.std.specs.Prelude.{◌≡◌, ◌∷◌, ◌<◌, ◌≤◌, true, MatchResult};
+//! Length determinants in the general form (X.691 11.9.3.5 to 11.9.3.8).
+ghost use Rattle.std.specs.Prelude.{◌≡◌, ◌∷◌, ◌<◌, ◌≤◌, true, IfOk, MatchResult};
 ghost use Rattle.asn1_model.specs.Form.{exactly};
 ghost use Rattle.asn1_model.specs.Numbers.{binary};
 ghost use Rattle.asn1_model.specs.Per.{at_octet, short_length};
 ghost use Rattle.per_codec_packing.specs.Texts.{text_at};
+ghost use Rattle.per_codec_writing.specs.Headings.{general, Heads, IsDue};
 ghost use Rattle.per_codec_writing.specs.Writing.{Adds, place};
 
 use crate::filling::align;
 use asn1_schema_faults::EncodeError;
+use per_codec_limits::FRAGMENT;
 use per_codec_packing::Packing;
 
-/// Adds a length, so many units below 16384: one octet below 128, else two (X.691 11.9.3.5 to 11.9.3.7).
+/// The units that are still to come behind a length determinant, or behind their number.
+#[derive(Clone, Copy)]
+pub struct Due {
+    /// How many come before the next length determinant or the end.
+    pub units: usize,
+    /// How many stand behind the next length determinant, if one comes.
+    pub behind: Option<usize>,
+}
+
+/// Adds the length determinant of so many units below 16384: one octet below 128, else two (X.691 11.9.3.5 to
+/// 11.9.3.7).
 ///
 /// # Errors
 ///
@@ -35,7 +47,7 @@ pub fn push_short_length(
     Ok(())
 }
 
-/// Adds the length of a fragment, of 1 to 4 times 16384 units (X.691 11.9.3.8).
+/// Adds the length determinant of a fragment, of 1 to 4 times 16384 units (X.691 11.9.3.8).
 ///
 /// # Errors
 ///
@@ -53,4 +65,36 @@ pub fn push_fragment_length(
     align(output, aligned)?;
     output.push_bits(0xC0 + multiple as u128, 8)?;
     Ok(())
+}
+
+/// Adds the next length determinant of so many units: that of the largest fragment of them or, where they are fewer
+/// than 16384, their number (X.691 11.9.3.5 to 11.9.3.8).
+///
+/// # Errors
+///
+/// `OutOfMemory`, and no other.
+pub fn push_length_determinant(
+    output: &mut Packing,
+    aligned: bool,
+    count: usize,
+) -> Result<Due, EncodeError>
+    ensures heads { MatchResult result
+        (λ due. Heads (general aligned count (place output.old)) output.old due output.new)
+        (λ e. e ≡ EncodeError.OutOfMemory) }
+    ensures due { IfOk result (λ due. IsDue count due) }
+{
+    if count < FRAGMENT {
+        push_short_length(output, aligned, count)?;
+        return Ok(Due {
+            units: count,
+            behind: None,
+        });
+    }
+    let multiple = (count / FRAGMENT).min(4);
+    push_fragment_length(output, aligned, multiple)?;
+    let units = multiple * FRAGMENT;
+    Ok(Due {
+        units,
+        behind: Some(count - units),
+    })
 }

@@ -1,6 +1,6 @@
-//! Writers of the packed encoding rules (X.691): of filling, lengths and whole numbers, of units behind their number,
-//! of the scalar types, of the places of items and alternatives, open types and additions, and of the members of bags
-//! in the order of their complete encodings.
+//! Writers of the packed encoding rules (X.691): of padding, length determinants and whole numbers, of what stands in
+//! front of units of a size and of these, of the scalar types, of the places of items and alternatives, open types and
+//! additions, and of the members of bags in the order of their complete encodings.
 #![tactic(auto)]
 
 mod additions;
@@ -11,7 +11,6 @@ mod character_units;
 mod characters;
 mod constrained;
 mod counted;
-mod counted_members;
 mod filling;
 mod identifiers;
 mod integers;
@@ -22,7 +21,7 @@ mod open_types;
 mod padding;
 mod places;
 mod sized;
-mod sized_members;
+mod sizes;
 mod small;
 mod texts;
 mod units;
@@ -37,13 +36,14 @@ pub use counted::{push_counted, push_counted_octets};
 pub use filling::align;
 pub use identifiers::push_identifier;
 pub use integers::push_integer;
-pub use lengths::{push_fragment_length, push_short_length};
+pub use lengths::{Due, push_fragment_length, push_length_determinant, push_short_length};
 pub use octets::push_octet_string;
 pub use open_types::push_open_type;
 pub use padding::{pads_characters, pads_string};
 pub use per_codec_limits::{FRAGMENT, LONG_COUNT};
 pub use places::{push_enumerated, push_place};
 pub use sized::push_sized;
+pub use sizes::push_size;
 pub use small::push_normally_small;
 pub use texts::push_utf8;
 pub use units::Units;

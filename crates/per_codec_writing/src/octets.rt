@@ -17,7 +17,7 @@ use per_codec_packing::Packing;
 ///
 /// # Errors
 ///
-/// `SizeConstraintNotSatisfied` where the type does not hold so many octets, or a size constraint without a mark does
+/// `SizeConstraintNotSatisfied` where the type does not hold so many octets, or a size without an extension mark does
 /// not admit them.
 pub fn push_octet_string(
     output: &mut Packing,
@@ -32,8 +32,9 @@ pub fn push_octet_string(
         (Refuses (text_at (form aligned (octet_string (sizes_of constraints.entry.size) (counts_of held))
         (octet_list value.now)) (place output.old))) }
 {
-    let pads = pads_string(constraints, 8, value.len());
+    let sizes = constraints.sizes();
+    let pads = pads_string(sizes, 8, value.len());
     let octets = value;
-    push_sized(output, aligned, constraints, held, pads, &octets)?;
+    push_sized(output, aligned, sizes, held, pads, &octets)?;
     Ok(())
 }

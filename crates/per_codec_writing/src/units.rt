@@ -1,36 +1,39 @@
 //! Runs of units, which are written behind their number (X.691 11.9).
-ghost use Rattle.std.specs.Prelude.{◌≡◌, ◌≤◌, ◌∷◌, [], Bool, List, length, map, slice_range, MatchResult};
-ghost use Rattle.asn1_model.specs.Numbers.{binary};
+ghost use Rattle.std.specs.Prelude.{◌≡◌, ◌≤◌, List, length, slice_range, MatchResult};
+ghost use Rattle.asn1_model.specs.Form.{joined};
+ghost use Rattle.asn1_model.specs.Per.{BitForm, bit_units, octet_units};
 ghost use Rattle.asn1_values_bits.specs.BitStr.{bits_of};
-ghost use Rattle.per_codec_packing.specs.Texts.{as_text};
-ghost use Rattle.per_codec_writing.specs.Writing.{plus};
-ghost use Rattle.per_codec_writing.specs.Units.{together};
+ghost use Rattle.per_codec_packing.specs.Texts.{text_at};
+ghost use Rattle.per_codec_writing.specs.Members.{forms_of};
+ghost use Rattle.per_codec_writing.specs.Writing.{Adds, place};
 
+use crate::members::push_each;
 use asn1_schema_faults::EncodeError;
 use asn1_values_bits::BitStr;
-use per_codec_packing::Packing;
+use per_codec_packing::{Packing, TextView};
 
 /// Units that can be written in pieces, since from 16384 units on they stand in fragments (X.691 11.9.3.8).
 pub trait Units {
-    /// The bits of each unit.
-    ghost texts: { Self → List (List Bool) };
+    /// The form of each unit.
+    ghost forms: { Self → List BitForm };
 
     /// How many units there are.
     fn count(&self) -> usize
-        ensures { result ≡ length (texts self.now) };
+        ensures { result ≡ length (forms self.now) };
 
     /// Adds the units from one place up to another, counted from 0, one behind the other. The only error is want of
     /// memory.
     fn push_range(&self, output: &mut Packing, from: usize, to: usize) -> Result<(), EncodeError>
         requires order { from ≤ to }
-        requires within { to ≤ length (texts self.now) }
-        ensures { MatchResult result (λ _. output.new ≡ plus output.old
-            (as_text (together (slice_range (texts self.now) from to)))) (λ e. e ≡ EncodeError.OutOfMemory) };
+        requires within { to ≤ length (forms self.now) }
+        ensures { MatchResult result (λ _. Adds
+            (text_at (joined (slice_range (forms self.now) from to)) (place output.old)) output.old output.new)
+            (λ e. e ≡ EncodeError.OutOfMemory) };
 }
 
 /// Octets, of eight bits each.
 impl Units for &[u8] {
-    ghost texts = { λ octets. map (binary 8) octets.now };
+    ghost forms = { λ octets. octet_units octets.now };
 
     fn count(&self) -> usize {
         (*self).len()
@@ -44,7 +47,7 @@ impl Units for &[u8] {
 
 /// Single bits.
 impl Units for BitStr<'_> {
-    ghost texts = { λ bits. map (λ b. b ∷ []) (bits_of bits) };
+    ghost forms = { λ bits. bit_units (bits_of bits) };
 
     fn count(&self) -> usize {
         self.len()
@@ -53,6 +56,20 @@ impl Units for BitStr<'_> {
     fn push_range(&self, output: &mut Packing, from: usize, to: usize) -> Result<(), EncodeError> {
         let front = self.split_at(to).0;
         output.extend_from_bitslice(front.split_at(from).1)?;
+        Ok(())
+    }
+}
+
+/// Members of a bag, which stand in their order.
+impl Units for &[TextView<'_>] {
+    ghost forms = { λ members. forms_of members.now };
+
+    fn count(&self) -> usize {
+        self.len()
+    }
+
+    fn push_range(&self, output: &mut Packing, from: usize, to: usize) -> Result<(), EncodeError> {
+        push_each(output, &self[from..to])?;
         Ok(())
     }
 }

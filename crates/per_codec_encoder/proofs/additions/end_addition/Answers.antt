@@ -5,7 +5,7 @@ use Rattle.per_codec_packing.specs.Packed.{Packed}
 use Rattle.per_codec_encoder.specs.declared.frame.Frame.TheVariants.{OpenType}
 use Rattle.per_codec_encoder.specs.Holding.{Cannot}
 use Rattle.per_codec_encoder.proofs.Added.{does_keep_addition}
-use Rattle.per_codec_encoder.proofs.HeadingTexts.{raised_on}
+use Rattle.per_codec_writing.proofs.HeadingTexts.{raised_on}
 use Rattle.per_codec_encoder.proofs.Innermost.{around_is}
 use Rattle.per_codec_encoder.proofs.additions.end_addition.Goals as goal
 

@@ -1,5 +1,5 @@
 use Rattle.std.proofs.Common.{◌∙◌}
-use Rattle.per_codec_encoder.proofs.HeadingTexts.{raised_on}
+use Rattle.per_codec_writing.proofs.HeadingTexts.{raised_on}
 use Rattle.per_codec_encoder.proofs.Choosing.{does_root, does_added, cannot_choose}
 use Rattle.per_codec_encoder.proofs.alternatives.begin_alternative.Goals as goal
 

@@ -1,7 +1,7 @@
 use Rattle.std.proofs.Common.{subst, arith}
 use Rattle.per_codec_encoder.specs.declared.frame.Frame.TheVariants.{Added, OpenType}
 use Rattle.per_codec_encoder.specs.Holding.{AreSound}
-use Rattle.per_codec_encoder.proofs.HeadingTexts.{raised_on}
+use Rattle.per_codec_writing.proofs.HeadingTexts.{raised_on}
 use Rattle.per_codec_encoder.proofs.Innermost.{around_is, ended_within, ended_unless_full}
 use Rattle.per_codec_encoder.proofs.Bagging.{does_end_bag, cannot_end_bag}
 use Rattle.per_codec_encoder.proofs.Ending.{does_end_components}

@@ -1,9 +1,8 @@
 use Rattle.std.proofs.Common.{◌≤◌, ◌<◌, ◌∙◌, subst, ap, arith}
-use Rattle.asn1_model.specs.Per.{counted}
+use Rattle.asn1_model.specs.Per.{counted, bit_units}
 use Rattle.per_codec_packing.specs.Texts.{as_text, text_at}
 use Rattle.per_codec_writing.specs.Writing.{Adds, place, plus}
-use Rattle.per_codec_writing.specs.Units.{forms_of}
-use Rattle.per_codec_writing.proofs.AdditionTexts.{alone, adds_few, adds_many}
+use Rattle.per_codec_writing.proofs.AdditionTexts.{adds_few, adds_many}
 use Rattle.per_codec_writing.proofs.additions.push_bitmap.Goals as goal
 use Rattle.per_codec_writing.proofs.additions.push_bitmap.Goals.{else-count-ge1-via-then-count-ge1+else-count-le64, else-count-ge1-via-else-count-ge1}
 
@@ -15,4 +14,4 @@ returns c =
     let n = c.len-count.result in
     let large : 1 ≤ n → 64 < n = elim c.else-count-ge1.branch [ else-count-ge1-via-then-count-ge1+else-count-le64 w ↦ λ l. omega (arith, w.if-count-le64.false) | else-count-ge1-via-else-count-ge1 w ↦ λ l. omega (arith, l, w.if-count-ge1.false) ] in
     adds_many c.args.aligned c.args.bitmap.now n c.args.output.now c.push.new.self c.push_counted.new.output c.len-count.ensures large c.in_ok-push.ensures.ok
-    (subst (λ bs. Adds (text_at (counted c.args.aligned (forms_of (alone bs))) (place c.push.new.self)) c.push.new.self c.push_counted.new.output) c.as_bitslice-units.ensures.bits c.in_ok-push_counted.ensures)
+    (subst (λ bs. Adds (text_at (counted c.args.aligned (bit_units bs)) (place c.push.new.self)) c.push.new.self c.push_counted.new.output) c.as_bitslice-units.ensures.bits c.in_ok-push_counted.ensures)

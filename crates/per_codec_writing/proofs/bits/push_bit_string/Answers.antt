@@ -1,7 +1,7 @@
 use Rattle.std.proofs.Common.{ap, ◌∙◌}
 use Rattle.asn1_model.specs.Per
 use Rattle.asn1_schema_constraints.specs.Bounds.{counts_of}
-use Rattle.asn1_schema_constraints.specs.Terms.{sizes_of}
+use Rattle.asn1_schema_constraints.specs.Terms.{sizes_of, size_of}
 use Rattle.asn1_values_bits.specs.BitStr.{bits_of}
 use Rattle.per_codec_writing.specs.Writing.{place}
 use Rattle.per_codec_writing.proofs.FillingTexts.{adds_same}
@@ -11,12 +11,12 @@ use Rattle.per_codec_writing.proofs.bits.push_bit_string.Goals as goal
 
 pub returns-in_err-push_sized : goal.returns-in_err-push_sized
 returns-in_err-push_sized c =
-    let z = sizes_of c.args.constraints.size in
-    let pads = c.pads_string-pads.ensures ∙ ap (λ n. Per.pads_string 1 n z.counts) c.len.ensures in
-    raised _ _ _ _ _ c.from_residual.ensures.1 (λ n. bit_string_text c.args.aligned z (counts_of c.args.held) (bits_of c.args.value) c.pads_string-pads.result (place c.args.output.now) pads ∙ n) c.in_err-push_sized.ensures
+    let y = size_of c.sizes-sizes.result in
+    let pads = c.pads_string-pads.ensures ∙ ap (λ n. Per.pads_string 1 n y.counts) c.len.ensures in
+    raised _ _ _ _ _ c.from_residual.ensures.1 (λ n. bit_string_text c.args.aligned (sizes_of c.args.constraints.size) y (counts_of c.args.held) (bits_of c.args.value) c.pads_string-pads.result (place c.args.output.now) c.sizes-sizes.ensures pads ∙ n) c.in_err-push_sized.ensures
 
 pub returns : goal.returns
 returns c =
-    let z = sizes_of c.args.constraints.size in
-    let pads = c.pads_string-pads.ensures ∙ ap (λ n. Per.pads_string 1 n z.counts) c.len.ensures in
-    adds_same _ _ c.args.output.now c.push_sized.new.output (bit_string_text c.args.aligned z (counts_of c.args.held) (bits_of c.args.value) c.pads_string-pads.result (place c.args.output.now) pads) c.in_ok-push_sized.ensures
+    let y = size_of c.sizes-sizes.result in
+    let pads = c.pads_string-pads.ensures ∙ ap (λ n. Per.pads_string 1 n y.counts) c.len.ensures in
+    adds_same _ _ c.args.output.now c.push_sized.new.output (bit_string_text c.args.aligned (sizes_of c.args.constraints.size) y (counts_of c.args.held) (bits_of c.args.value) c.pads_string-pads.result (place c.args.output.now) c.sizes-sizes.ensures pads) c.in_ok-push_sized.ensures

@@ -3,7 +3,7 @@ use Rattle.std.proofs.lemmas.Result.{err_from_is_err_and}
 use Rattle.asn1_model.specs.Per
 use Rattle.asn1_model.specs.Strings.{permitted}
 use Rattle.asn1_model.specs.Types.{any_count}
-use Rattle.asn1_schema_constraints.specs.Terms.{sizes_of, alphabet_of}
+use Rattle.asn1_schema_constraints.specs.Terms.{sizes_of, size_of, alphabet_of}
 use Rattle.per_codec_writing.specs.Writing.{place}
 use Rattle.per_codec_writing.proofs.FillingTexts.{adds_same}
 use Rattle.per_codec_writing.proofs.Adding.{refuses_also}
@@ -19,15 +19,15 @@ pub returns-in_err-push_sized : goal.returns-in_err-push_sized
 returns-in_err-push_sized g c =
     let p = err_from_is_err_and c.from_residual-in_err-push_sized.result c.from_residual-in_err-push_sized.ensures.1 in
     let cs = g.S.StaticPermittedAlphabet.characters c.args.value.now in
-    let z = sizes_of c.args.constraints.size in
-    let pads : c.pads_characters-pads.result ≡ Per.pads_characters c.in_ok-alphabet.alphabet.code_bits (length cs) z.counts = c.pads_characters-pads.ensures ∙ ap (λ n. Per.pads_characters n c.char_count.result z.counts) c.width.ensures.bits ∙ ap (λ n. Per.pads_characters c.in_ok-alphabet.alphabet.code_bits n z.counts) c.char_count.ensures.count in
-    let same = coded_text c.args.aligned z any_count (permitted g.S.StaticPermittedAlphabet.kind (alphabet_of c.args.constraints.permitted_alphabet)) c.in_ok-alphabet.alphabet cs c.in_ok-alphabet.ensures.characters c.in_ok-alphabet.ensures.width c.pads_characters-pads.result (place c.args.output.now) (sym c.if-not-has_codes.ensures) pads in
+    let y = size_of c.sizes-sizes.result in
+    let pads : c.pads_characters-pads.result ≡ Per.pads_characters c.in_ok-alphabet.alphabet.code_bits (length cs) y.counts = c.pads_characters-pads.ensures ∙ ap (λ n. Per.pads_characters n c.char_count.result y.counts) c.width.ensures.bits ∙ ap (λ n. Per.pads_characters c.in_ok-alphabet.alphabet.code_bits n y.counts) c.char_count.ensures.count in
+    let same = coded_text c.args.aligned (sizes_of c.args.constraints.size) y any_count (permitted g.S.StaticPermittedAlphabet.kind (alphabet_of c.args.constraints.permitted_alphabet)) c.in_ok-alphabet.alphabet cs c.in_ok-alphabet.ensures.characters c.in_ok-alphabet.ensures.width c.pads_characters-pads.result (place c.args.output.now) (sym c.if-not-has_codes.ensures) c.sizes-sizes.ensures pads in
     rw (p.1, p.2) (refuses_also _ _ _ (λ e. same ∙ e) c.in_err-push_sized.ensures)
 
 pub returns : goal.returns
 returns g c =
     let cs = g.S.StaticPermittedAlphabet.characters c.args.value.now in
-    let z = sizes_of c.args.constraints.size in
-    let pads : c.pads_characters-pads.result ≡ Per.pads_characters c.in_ok-alphabet.alphabet.code_bits (length cs) z.counts = c.pads_characters-pads.ensures ∙ ap (λ n. Per.pads_characters n c.char_count.result z.counts) c.width.ensures.bits ∙ ap (λ n. Per.pads_characters c.in_ok-alphabet.alphabet.code_bits n z.counts) c.char_count.ensures.count in
-    let same = coded_text c.args.aligned z any_count (permitted g.S.StaticPermittedAlphabet.kind (alphabet_of c.args.constraints.permitted_alphabet)) c.in_ok-alphabet.alphabet cs c.in_ok-alphabet.ensures.characters c.in_ok-alphabet.ensures.width c.pads_characters-pads.result (place c.args.output.now) (sym c.if-not-has_codes.ensures) pads in
+    let y = size_of c.sizes-sizes.result in
+    let pads : c.pads_characters-pads.result ≡ Per.pads_characters c.in_ok-alphabet.alphabet.code_bits (length cs) y.counts = c.pads_characters-pads.ensures ∙ ap (λ n. Per.pads_characters n c.char_count.result y.counts) c.width.ensures.bits ∙ ap (λ n. Per.pads_characters c.in_ok-alphabet.alphabet.code_bits n y.counts) c.char_count.ensures.count in
+    let same = coded_text c.args.aligned (sizes_of c.args.constraints.size) y any_count (permitted g.S.StaticPermittedAlphabet.kind (alphabet_of c.args.constraints.permitted_alphabet)) c.in_ok-alphabet.alphabet cs c.in_ok-alphabet.ensures.characters c.in_ok-alphabet.ensures.width c.pads_characters-pads.result (place c.args.output.now) (sym c.if-not-has_codes.ensures) c.sizes-sizes.ensures pads in
     adds_same _ _ c.args.output.now c.push_sized.new.output same c.in_ok-push_sized.ensures

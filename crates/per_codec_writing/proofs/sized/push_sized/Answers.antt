@@ -1,53 +1,21 @@
-use Rattle.std.proofs.Common.{Bool, true, false, ap, sym, ◌∙◌}
+use Rattle.std.proofs.Common.{ap, sym, ◌∙◌}
 use Rattle.asn1_model.specs.Numbers.{is_count_within}
-use Rattle.asn1_model.specs.Schema.{Counts}
 use Rattle.asn1_schema_constraints.specs.Bounds.{counts_of}
-use Rattle.asn1_schema_constraints.specs.Sets.{has_additions}
-use Rattle.asn1_schema_constraints.specs.declared.extensions.Extensible.{Extensible}
-use Rattle.asn1_schema_constraints.specs.declared.parts.Size.{Size as SizeRange}
-use Rattle.asn1_schema_constraints.specs.Terms.{sizes_of}
+use Rattle.asn1_schema_constraints.specs.Terms.{size_of}
 use Rattle.per_codec_writing.specs.Writing.{place}
-use Rattle.per_codec_writing.proofs.FillingTexts.{adds_same}
 use Rattle.per_codec_writing.proofs.Adding.{raised}
-use Rattle.per_codec_writing.proofs.Sizes.{held_none, unsized_text, constrained_text}
+use Rattle.per_codec_writing.proofs.HeadingForms.{held_added, held_none, not_held}
 use Rattle.per_codec_writing.proofs.sized.push_sized.Goals as goal
 
 pub returns-then-not-contains : goal.returns-then-not-contains
 returns-then-not-contains g c =
-    let pads : Counts → Bool = λ x. c.args.pads in
-    let held = c.contains.ensures ∙ ap (is_count_within (counts_of c.args.held)) c.count-count.ensures in
-    held_none c.args.aligned (sizes_of c.args.constraints.size) (counts_of c.args.held) pads (g.U.Units.texts c.args.units.now) (place c.args.output.now) (sym held ∙ c.if-not-contains.true)
+    let held = c.contains.ensures ∙ ap (is_count_within (counts_of c.args.held)) c.count.ensures in
+    not_held c.args.aligned (size_of c.args.sizes) (counts_of c.args.held) c.args.pads (g.U.Units.forms c.args.units.now) (place c.args.output.now) (sym held ∙ c.if-not-contains.true)
 
-pub returns-in_ok-push_counted-in-None : goal.returns-in_ok-push_counted-in-None
-returns-in_ok-push_counted-in-None g c =
-    let pads : Counts → Bool = λ x. c.args.pads in
-    let held = c.contains.ensures ∙ ap (is_count_within (counts_of c.args.held)) c.count-count.ensures in
-    adds_same _ _ c.args.output.now c.push_counted.new.output (unsized_text c.args.aligned (counts_of c.args.held) pads (g.U.Units.texts c.args.units.now) (place c.args.output.now) c.args.constraints.size c.in-None.is (sym held ∙ c.if-not-contains.false)) c.in_ok-push_counted-in-None.ensures
+pub returns-in_err-push_of_size : goal.returns-in_err-push_of_size
+returns-in_err-push_of_size g c = raised _ _ _ _ _ c.from_residual.ensures.1 (held_none c.args.aligned (size_of c.args.sizes) (counts_of c.args.held) c.args.pads (g.U.Units.forms c.args.units.now) (place c.args.output.now)) c.in_err-push_of_size.ensures
 
-pub returns-then-is_some : goal.returns-then-is_some
-returns-then-is_some g c =
-    let pads : Counts → Bool = λ x. c.args.pads in
-    let held = c.contains.ensures ∙ ap (is_count_within (counts_of c.args.held)) c.count-count.ensures in
-    adds_same _ _ c.args.output.now c.push_marked.new.output (constrained_text c.args.aligned (counts_of c.args.held) pads (g.U.Units.texts c.args.units.now) (place c.args.output.now) c.args.constraints.size c.in-Some.size true c.in-Some.is (ap (λ (s : Extensible SizeRange). has_additions s) c.in-Some.size-is ∙ sym c.is_some.ensures ∙ c.if-is_some.true) (sym held ∙ c.if-not-contains.false)) c.in_ok-push_marked-in-Some.ensures
-
-pub returns-in_err-push_marked-in-Some : goal.returns-in_err-push_marked-in-Some
-returns-in_err-push_marked-in-Some g c =
-    let pads : Counts → Bool = λ x. c.args.pads in
-    let held = c.contains.ensures ∙ ap (is_count_within (counts_of c.args.held)) c.count-count.ensures in
-    raised _ _ _ _ _ c.from_residual-in_err-push_marked-in-Some.ensures.1
-    (λ n. constrained_text c.args.aligned (counts_of c.args.held) pads (g.U.Units.texts c.args.units.now) (place c.args.output.now) c.args.constraints.size c.in-Some.size true c.in-Some.is (ap (λ (s : Extensible SizeRange). has_additions s) c.in-Some.size-is ∙ sym c.is_some.ensures ∙ c.if-is_some.true) (sym held ∙ c.if-not-contains.false) ∙ n)
-    c.in_err-push_marked-in-Some.ensures
-
-pub returns-in_ok-push_unmarked-in-Some : goal.returns-in_ok-push_unmarked-in-Some
-returns-in_ok-push_unmarked-in-Some g c =
-    let pads : Counts → Bool = λ x. c.args.pads in
-    let held = c.contains.ensures ∙ ap (is_count_within (counts_of c.args.held)) c.count-count.ensures in
-    adds_same _ _ c.args.output.now c.push_unmarked.new.output (constrained_text c.args.aligned (counts_of c.args.held) pads (g.U.Units.texts c.args.units.now) (place c.args.output.now) c.args.constraints.size c.in-Some.size false c.in-Some.is (ap (λ (s : Extensible SizeRange). has_additions s) c.in-Some.size-is ∙ sym c.is_some.ensures ∙ c.if-is_some.false) (sym held ∙ c.if-not-contains.false)) c.in_ok-push_unmarked-in-Some.ensures
-
-pub returns-in_err-push_unmarked-in-Some : goal.returns-in_err-push_unmarked-in-Some
-returns-in_err-push_unmarked-in-Some g c =
-    let pads : Counts → Bool = λ x. c.args.pads in
-    let held = c.contains.ensures ∙ ap (is_count_within (counts_of c.args.held)) c.count-count.ensures in
-    raised _ _ _ _ _ c.from_residual-in_err-push_unmarked-in-Some.ensures.1
-    (λ n. constrained_text c.args.aligned (counts_of c.args.held) pads (g.U.Units.texts c.args.units.now) (place c.args.output.now) c.args.constraints.size c.in-Some.size false c.in-Some.is (ap (λ (s : Extensible SizeRange). has_additions s) c.in-Some.size-is ∙ sym c.is_some.ensures ∙ c.if-is_some.false) (sym held ∙ c.if-not-contains.false) ∙ n)
-    c.in_err-push_unmarked-in-Some.ensures
+pub returns : goal.returns
+returns g c =
+    let held = c.contains.ensures ∙ ap (is_count_within (counts_of c.args.held)) c.count.ensures in
+    held_added c.args.aligned (size_of c.args.sizes) (counts_of c.args.held) c.args.pads (g.U.Units.forms c.args.units.now) c.args.output.now c.push_of_size.new.output (sym held ∙ c.if-not-contains.false) c.in_ok-push_of_size.ensures

@@ -1,0 +1,85 @@
+//! Lists, whose members stand behind their number, or in fragments behind length determinants (X.691 11.9 and 20).
+ghost use Rattle.std.specs.Prelude.{◌≡◌, MatchResult};
+ghost use Rattle.asn1_schema_presented.specs.Records.{list_begins};
+ghost use Rattle.asn1_schema_constraints.specs.Bounds.{members_of};
+ghost use Rattle.asn1_schema_constraints.specs.Terms.{size_of};
+ghost use Rattle.per_codec_encoder.specs.Headings.{GoesOn, GoesOnInList, NoMember};
+ghost use Rattle.per_codec_encoder.specs.Holding.{Does, Cannot};
+
+use crate::frame::Frame;
+use crate::frames::Frames;
+use asn1_schema_constraints::{Bounded, Sizes};
+use asn1_schema_faults::EncodeError;
+use per_codec_packing::Packing;
+use per_codec_writing::{Due, push_length_determinant, push_size};
+
+/// Begins a list with what stands in front of its members (X.691 20), if the size and the program's type allow so many.
+///
+/// # Errors
+///
+/// `SizeConstraintNotSatisfied` where the type does not hold so many, or a size without an extension mark does not
+/// admit them; `OutOfMemory`.
+pub(crate) fn begin_members(
+    output: &mut Packing,
+    frames: &mut Frames,
+    aligned: bool,
+    sizes: Sizes,
+    held: Bounded<usize>,
+    count: usize,
+) -> Result<(), EncodeError>
+    ensures { MatchResult result (λ _. Does aligned
+        (list_begins (size_of sizes) (members_of held) count) frames.old output.old frames.new output.new)
+        (Cannot aligned (list_begins (size_of sizes) (members_of held) count) frames.old output.old) }
+{
+    if !held.holds(count) {
+        return Err(EncodeError::SizeConstraintNotSatisfied);
+    }
+    let due = push_size(output, aligned, sizes, false, count)?;
+    frames.push(Frame::Members(due))?;
+    Ok(())
+}
+
+/// Adds the length determinant that stands in front of the next member or the end, if one does (X.691 11.9.3.8). The
+/// only error is want of memory.
+#[inline]
+fn push_next_length_determinant(
+    output: &mut Packing,
+    aligned: bool,
+    due: Due,
+) -> Result<Due, EncodeError>
+    ensures { MatchResult result (λ next. GoesOn aligned due output.old next output.new)
+        (λ e. e ≡ EncodeError.OutOfMemory) }
+{
+    match due.behind {
+        Some(count) if due.units == 0 => {
+            let next = push_length_determinant(output, aligned, count)?;
+            Ok(next)
+        }
+        _ => Ok(due),
+    }
+}
+
+/// Whether a further member of a list comes: as many come as were told, each fragment of them behind its length
+/// determinant (X.691 11.9.3.8).
+///
+/// # Errors
+///
+/// `CallOutOfPlace` where more or fewer come; `OutOfMemory`.
+#[inline(always)]
+pub(crate) fn next_of_list(
+    output: &mut Packing,
+    aligned: bool,
+    due: &mut Due,
+    more: bool,
+) -> Result<(), EncodeError>
+    ensures { MatchResult result (λ _. GoesOnInList aligned more due.old output.old due.new output.new)
+        (NoMember aligned more due.old output.old) }
+{
+    let next = push_next_length_determinant(output, aligned, *due)?;
+    if more != (next.units > 0) {
+        return Err(EncodeError::CallOutOfPlace);
+    }
+    due.units = next.units - usize::from(more);
+    due.behind = next.behind;
+    Ok(())
+}

@@ -1,0 +1,215 @@
+-- Headings of units lead to the forms of these.
+use Rattle.std.proofs.Common.{◌≡◌, ℕ, zero, suc, ◌+◌, ◌-◌, ◌*◌, ◌≤◌, ltb, leb, Bool, true, false, cond, ◌&&◌, List, [], ◌∷◌, ◌++◌, length, take, drop, slice_range, Option, Some, None, option_map, option_and_then, refl, ap, subst, sym, ◌∙◌, arith}
+use Rattle.std.proofs.lemmas.Bool.{leb-true, and_parts}
+use Rattle.std.proofs.lemmas.List.{length-drop, drop-drop, take_all}
+use Rattle.asn1_model.specs.Schema.{Counts, Size}
+use Rattle.asn1_model.specs.Numbers.{binary, is_count_within, missing}
+use Rattle.asn1_model.specs.Form.{exactly, both, only_if, joined, placed}
+use Rattle.asn1_model.specs.Per
+use Rattle.per_codec_packing.specs.Texts.{Text, bit, moved, on, text_at}
+use Rattle.per_codec_packing.specs.Packed.{Packed, Adds, place, plus}
+use Rattle.per_codec_packing.proofs.Formed.{behind, both_assoc}
+use Rattle.per_codec_packing.proofs.Adding.{added, adds_text, adds_both, adds_same, plus_both, behind as place_behind}
+use Rattle.per_codec_writing.specs.Headings.{Headers, Heading, before_all, next_header, general, count_form, sized_count, behind_bit, marked_count, heading, form_due, count_behind, headers_of, Heads, IsDue}
+use Rattle.per_codec_writing.specs.Units.{of_size}
+use Rattle.per_codec_writing.specs.declared.lengths.Due.{Due}
+use Rattle.per_codec_writing.proofs.FillingTexts.{if_true, if_false}
+
+-- how many units stand behind the next length determinant
+abbrev pub left : Headers → ℕ
+left None = 0
+left (Some h) = h.1
+
+-- no length determinant stands in front of the next unit
+abbrev pub Ready : Headers → ℕ → Type 0
+Ready None n = Unit {0}
+Ready (Some h) zero = ⊥
+Ready (Some h) (suc n) = Unit {0}
+
+-- a heading and what is due behind it
+abbrev pub by_heading : Bool → List Per.BitForm → Option ℕ → Option Heading → Option Text
+by_heading al us q o = option_and_then (λ (g : Heading). option_map (λ b. g.text ++ b) (text_at (form_due al g.due g.headers us) (on q g.text))) o
+
+-- ---- one length determinant
+
+pub next_text : (al : Bool) (ms : List ℕ) (us : List Per.BitForm) (p : Option ℕ) → text_at (Per.fragments al ms us) p ≡ by_heading al us p (next_header al ms (length us) p)
+unfolding text_at Per.fragments
+next_text al [] us p = go (text_at (Per.short_length al (length us)) p)
+  where
+    go : (o : Option Text) → option_and_then (λ a. option_map (λ b. a ++ b) (text_at (joined us) (on p a))) o ≡ by_heading al us p (option_map (λ w. before_all (length us) w) o)
+    go None = refl
+    go (Some w) = refl
+next_text al (m ∷ ms) us p = by_test (leb 1 m && leb m 4 && leb (m * 16384) (length us))
+  where
+    go : (o : Option Text) → option_and_then (λ a. option_map (λ b. a ++ b) (text_at (both (joined (take (m * 16384) us)) (Per.fragments al ms (drop (m * 16384) us))) (on p a))) o ≡ by_heading al us p (option_map (λ w. record { text = w; due = m * 16384; headers = Some (ms, length us - m * 16384) }) o)
+    go None = refl
+    go (Some w) = refl
+
+    by_test : (t : Bool) → text_at (only_if t (both (Per.at_octet al (exactly (true ∷ true ∷ binary 6 m))) (both (joined (take (m * 16384) us)) (Per.fragments al ms (drop (m * 16384) us))))) p ≡ by_heading al us p (option_map (λ w. record { text = w; due = m * 16384; headers = Some (ms, length us - m * 16384) }) (text_at (only_if t (Per.at_octet al (exactly (true ∷ true ∷ binary 6 m)))) p))
+    by_test false = refl
+    by_test true = go (text_at (Per.at_octet al (exactly (true ∷ true ∷ binary 6 m))) p)
+
+-- what it counts is all there
+pub record Sound (n : ℕ) (g : Heading) : Type 0 where
+  pub counts : g.due + left g.headers ≡ n
+  pub ready : Ready g.headers g.due
+
+abbrev pub AllSound : ℕ → Option Heading → Type 0
+AllSound n None = Unit {0}
+AllSound n (Some g) = Sound n g
+
+before_all_sound : (n : ℕ) (o : Option Text) → AllSound n (option_map (λ w. before_all n w) o)
+before_all_sound n None = tt
+before_all_sound n (Some w) = record { counts = omega arith; ready = tt }
+
+positive_ready : (n : ℕ) (h : List ℕ × ℕ) → 1 ≤ n → Ready (Some h) n
+positive_ready zero h l = absurd (omega arith)
+positive_ready (suc n) h l = tt
+
+pub next_sound : (al : Bool) (ms : List ℕ) (n : ℕ) (p : Option ℕ) → AllSound n (next_header al ms n p)
+unfolding text_at
+next_sound al [] n p = before_all_sound n (text_at (Per.short_length al n) p)
+next_sound al (m ∷ ms) n p = by_test (leb 1 m && leb m 4 && leb (m * 16384) n) refl
+  where
+    go : 1 ≤ m → m * 16384 ≤ n → (o : Option Text) → AllSound n (option_map (λ w. record { text = w; due = m * 16384; headers = Some (ms, n - m * 16384) }) o)
+    go l u None = tt
+    go l u (Some w) = record { counts = omega arith; ready = positive_ready (m * 16384) (ms, n - m * 16384) (omega arith) }
+
+    by_test : (t : Bool) → (leb 1 m && leb m 4 && leb (m * 16384) n) ≡ t → AllSound n (option_map (λ w. record { text = w; due = m * 16384; headers = Some (ms, n - m * 16384) }) (text_at (only_if t (Per.at_octet al (exactly (true ∷ true ∷ binary 6 m)))) p))
+    by_test false e = tt
+    by_test true e =
+        let q = and_parts (leb 1 m && leb m 4) (leb (m * 16384) n) e in
+        let r = and_parts (leb 1 m) (leb m 4) q.0 in
+        go (leb-true 1 m r.0) (leb-true (m * 16384) n q.1) (text_at (Per.at_octet al (exactly (true ∷ true ∷ binary 6 m))) p)
+
+-- ---- the heading is that of the form
+
+pub record Leads (al : Bool) (f : Option ℕ → Option Heading) (n : ℕ) (us : List Per.BitForm) (x : Per.BitForm) : Type 0 where
+  pub text : (p : Option ℕ) → text_at x p ≡ by_heading al us p (f p)
+  pub sound : (p : Option ℕ) → AllSound n (f p)
+
+pub general_leads : (al : Bool) (us : List Per.BitForm) → Leads al (λ p. general al (length us) p) (length us) us (Per.counted al us)
+unfolding text_at Per.counted
+general_leads al us = record { text = λ p. next_text al (Per.largest_first (length us)) us p; sound = λ p. next_sound al (Per.largest_first (length us)) (length us) p }
+
+-- a number, the padding behind it, and the units
+number_text : (al b : Bool) (low high : ℕ) (us : List Per.BitForm) (n : ℕ) (p : Option ℕ) → text_at (both (Per.constrained al (high - low) (n - low)) (Per.at_octet (al && b) (joined us))) p ≡ text_at (both (count_form al low high b n) (joined us)) p
+unfolding Per.at_octet
+number_text true true low high us n p = sym (both_assoc (Per.constrained true (high - low) (n - low)) (placed (λ p. Per.filling (missing p))) (joined us) p)
+number_text true false low high us n p = refl
+number_text false true low high us n p = refl
+number_text false false low high us n p = refl
+
+pub count_leads : (al : Bool) (c : Counts) (high : Option ℕ) (pads : Counts → Bool) (us : List Per.BitForm) → Leads al (λ p. sized_count al c high (pads c) (length us) p) (length us) us (Per.sized_root al c high pads us)
+unfolding text_at Per.sized_root
+count_leads al c None pads us = general_leads al us
+count_leads al c (Some high) pads us = by_test (ltb high 65536)
+  where
+    go : (p : Option ℕ) (o : Option Text) → option_and_then (λ a. option_map (λ b. a ++ b) (text_at (joined us) (on p a))) o ≡ by_heading al us p (option_map (λ w. before_all (length us) w) o)
+    go p None = refl
+    go p (Some w) = refl
+
+    by_test : (t : Bool) → Leads al (λ p. cond t (option_map (λ w. before_all (length us) w) (text_at (count_form al c.low high (pads c) (length us)) p)) (general al (length us) p)) (length us) us (cond t (both (Per.constrained al (high - c.low) (length us - c.low)) (Per.at_octet (al && pads c) (joined us))) (Per.counted al us))
+    by_test true = record {
+      text = λ p. number_text al (pads c) c.low high us (length us) p ∙ go p (text_at (count_form al c.low high (pads c) (length us)) p);
+      sound = λ p. before_all_sound (length us) (text_at (count_form al c.low high (pads c) (length us)) p);
+    }
+    by_test false = general_leads al us
+
+bit_leads : (al b : Bool) (f : Option ℕ → Option Heading) (n : ℕ) (us : List Per.BitForm) (x : Per.BitForm) → Leads al f n us x → Leads al (behind_bit b f) n us (both (exactly (b ∷ [])) x)
+unfolding text_at
+bit_leads al b f n us x h = record { text = λ p. ap (option_map (λ c. bit b ∷ c)) (h.text (moved p 1)) ∙ go p (f (moved p 1)); sound = λ p. kept (f (moved p 1)) (h.sound (moved p 1)) }
+  where
+    one_more : (w : Text) (o : Option Text) → option_map (λ c. bit b ∷ c) (option_map (λ c. w ++ c) o) ≡ option_map (λ c. (bit b ∷ w) ++ c) o
+    one_more w None = refl
+    one_more w (Some c) = refl
+
+    go : (p : Option ℕ) (o : Option Heading) → option_map (λ c. bit b ∷ c) (by_heading al us (moved p 1) o) ≡ by_heading al us p (option_map (λ (h : Heading). record { text = bit b ∷ h.text; due = h.due; headers = h.headers }) o)
+    go p None = refl
+    go p (Some g) =
+        one_more g.text (text_at (form_due al g.due g.headers us) (on (moved p 1) g.text))
+        ∙ ap (λ q. option_map (λ c. (bit b ∷ g.text) ++ c) (text_at (form_due al g.due g.headers us) q)) (sym (behind p (bit b ∷ []) g.text))
+
+    kept : (o : Option Heading) → AllSound n o → AllSound n (option_map (λ (h : Heading). record { text = bit b ∷ h.text; due = h.due; headers = h.headers }) o)
+    kept None c = tt
+    kept (Some g) c = record { counts = c.counts; ready = c.ready }
+
+pub if_leads : (al t : Bool) (f : Option ℕ → Option Heading) (n : ℕ) (us : List Per.BitForm) (x : Per.BitForm) → Leads al f n us x → Leads al (λ p. cond t (f p) None) n us (only_if t x)
+unfolding text_at
+if_leads al true f n us x h = h
+if_leads al false f n us x h = record { text = λ p. refl; sound = λ p. tt }
+
+pub mark_leads : (al e t : Bool) (f g : Option ℕ → Option Heading) (n : ℕ) (us : List Per.BitForm) (x y : Per.BitForm) → Leads al f n us x → Leads al g n us y → Leads al (marked_count e t f g) n us (Per.marked e t x y)
+unfolding text_at Per.marked
+mark_leads al false t f g n us x y h k = if_leads al t f n us x h
+mark_leads al true true f g n us x y h k = let l = bit_leads al false f n us x h in record { text = l.text; sound = l.sound }
+mark_leads al true false f g n us x y h k = let l = bit_leads al true g n us y k in record { text = l.text; sound = l.sound }
+
+-- units of a size have the text of their heading, and of what is due behind it
+pub size_leads : (al : Bool) (z : Size) (pads : Bool) (us : List Per.BitForm) → Leads al (heading al z pads (length us)) (length us) us (of_size al z pads us)
+size_leads al z pads us = mark_leads al z.extensible (is_count_within z.counts (length us)) (λ q. sized_count al z.counts z.counts.high pads (length us) q) (λ q. general al (length us) q) (length us) us (Per.sized_root al z.counts z.counts.high (λ _. pads) us) (Per.counted al us) (count_leads al z.counts z.counts.high (λ _. pads) us) (general_leads al us)
+
+-- ---- what a writer adds behind a heading
+
+pub heads_added : (al : Bool) (us : List Per.BitForm) (x : Per.BitForm) (o : Option Heading) (d : Due) (old mid new : Packed) → text_at x (place old) ≡ by_heading al us (place old) o → Heads o old d mid → Adds (text_at (form_due al d.units (headers_of d.behind) us) (place mid)) mid new → Adds (text_at x (place old)) old new
+heads_added al us x o d old mid new e h a =
+    let y : Per.BitForm = form_due al d.units (headers_of d.behind) us in
+    let t = added (text_at y (place mid)) mid new a in
+    adds_text _ (h.text ++ t.0) old new
+    (e ∙ ap (by_heading al us (place old)) h.is
+    ∙ ap (λ q. option_map (λ b. h.text ++ b) (text_at y q)) (sym (place_behind old mid h.text (sym h.added)))
+    ∙ ap (option_map (λ b. h.text ++ b)) t.1)
+    (sym t.2 ∙ ap (λ l. plus l t.0) h.added ∙ plus_both old h.text t.0)
+
+pub counted_added : (al : Bool) (us : List Per.BitForm) (n : ℕ) (d : Due) (old mid new : Packed) → n ≡ length us → Heads (general al n (place old)) old d mid → Adds (text_at (form_due al d.units (headers_of d.behind) us) (place mid)) mid new → Adds (text_at (Per.counted al us) (place old)) old new
+counted_added al us n d old mid new e h a = heads_added al us (Per.counted al us) (general al (length us) (place old)) d old mid new ((general_leads al us).text (place old)) (subst (λ k. Heads (general al k (place old)) old d mid) e h) a
+
+pub size_added : (al : Bool) (z : Size) (pads : Bool) (us : List Per.BitForm) (n : ℕ) (d : Due) (old mid new : Packed) → n ≡ length us → Heads (heading al z pads n (place old)) old d mid → Adds (text_at (form_due al d.units (headers_of d.behind) us) (place mid)) mid new → Adds (text_at (of_size al z pads us) (place old)) old new
+size_added al z pads us n d old mid new e h a = heads_added al us (of_size al z pads us) (heading al z pads (length us) (place old)) d old mid new ((size_leads al z pads us).text (place old)) (subst (λ k. Heads (heading al z pads k (place old)) old d mid) e h) a
+
+pub size_none : (al : Bool) (z : Size) (pads : Bool) (us : List Per.BitForm) (n : ℕ) (q : Option ℕ) → n ≡ length us → heading al z pads n q ≡ None → text_at (of_size al z pads us) q ≡ None
+size_none al z pads us n q e h = (size_leads al z pads us).text q ∙ ap (by_heading al us q) (subst (λ k. heading al z pads k q ≡ None) e h)
+
+-- ---- units that are due, and those behind the next length determinant
+
+module _ (al : Bool) (us : List Per.BitForm) (from : ℕ) (d : Due) (w : from ≤ length us) (s : IsDue (length us - from) d) where
+  abbrev rest : List Per.BitForm
+  rest = drop from us
+
+  these : slice_range us from (from + d.units) ≡ take d.units rest
+  these = let n : from + d.units - from ≡ d.units = omega arith in ap (λ i. take i rest) n
+
+  pub fragment_added : (next : Due) (k : ℕ) (old mid out new : Packed) → d.behind ≡ Some k → Adds (text_at (joined (slice_range us from (from + d.units))) (place old)) old mid → Heads (general al k (place mid)) mid next out → Adds (text_at (form_due al next.units (headers_of next.behind) (drop (from + d.units) us)) (place out)) out new → Adds (text_at (form_due al d.units (headers_of d.behind) rest) (place old)) old new
+  fragment_added next k old mid out new b a h r =
+      let still : List Per.BitForm = drop d.units rest in
+      let count : k ≡ length still = omega (arith, s.all, ap count_behind b, length-drop d.units rest, length-drop from us) in
+      let leads : text_at (Per.fragments al (Per.largest_first k) still) (place mid) ≡ by_heading al still (place mid) (general al k (place mid)) = next_text al (Per.largest_first k) still (place mid) ∙ ap (λ n. by_heading al still (place mid) (next_header al (Per.largest_first k) n (place mid))) (sym count) in
+      let behind_it : Adds (text_at (form_due al next.units (headers_of next.behind) still) (place out)) out new = subst (λ l. Adds (text_at (form_due al next.units (headers_of next.behind) l) (place out)) out new) (sym (drop-drop d.units from us)) r in
+      subst (λ o. Adds (text_at (form_due al d.units (headers_of o) rest) (place old)) old new) (sym b)
+      (adds_both (joined (take d.units rest)) (Per.fragments al (Per.largest_first k) still) old mid new
+      (subst (λ l. Adds (text_at (joined l) (place old)) old mid) these a)
+      (heads_added al still (Per.fragments al (Per.largest_first k) still) (general al k (place mid)) next mid out new leads h behind_it))
+
+  pub last_added : (old new : Packed) → d.behind ≡ None → Adds (text_at (joined (slice_range us from (from + d.units))) (place old)) old new → Adds (text_at (form_due al d.units (headers_of d.behind) rest) (place old)) old new
+  last_added old new b a =
+      let all : take d.units rest ≡ rest = take_all d.units rest (omega (arith, s.all, ap count_behind b, length-drop from us)) in
+      subst (λ o. Adds (text_at (form_due al d.units (headers_of o) rest) (place old)) old new) (sym b)
+      (subst (λ l. Adds (text_at (joined l) (place old)) old new) (these ∙ all) a)
+
+-- ---- under the counts that a type holds
+
+pub held_added : (al : Bool) (z : Size) (h : Counts) (pads : Bool) (us : List Per.BitForm) (old new : Packed) → is_count_within h (length us) ≡ true → Adds (text_at (of_size al z pads us) (place old)) old new → Adds (text_at (Per.sized al z h (λ _. pads) us) (place old)) old new
+unfolding Per.sized
+held_added al z h pads us old new e a = adds_same _ _ old new (if_true (is_count_within h (length us)) (of_size al z pads us) (place old) e) a
+
+pub held_none : (al : Bool) (z : Size) (h : Counts) (pads : Bool) (us : List Per.BitForm) (q : Option ℕ) → text_at (of_size al z pads us) q ≡ None → text_at (Per.sized al z h (λ _. pads) us) q ≡ None
+unfolding Per.sized
+held_none al z h pads us q e = go (is_count_within h (length us)) refl
+  where
+    go : (b : Bool) → is_count_within h (length us) ≡ b → text_at (only_if (is_count_within h (length us)) (of_size al z pads us)) q ≡ None
+    go true t = if_true (is_count_within h (length us)) (of_size al z pads us) q t ∙ e
+    go false t = if_false (is_count_within h (length us)) (of_size al z pads us) q t
+
+pub not_held : (al : Bool) (z : Size) (h : Counts) (pads : Bool) (us : List Per.BitForm) (q : Option ℕ) → is_count_within h (length us) ≡ false → text_at (Per.sized al z h (λ _. pads) us) q ≡ None
+unfolding Per.sized
+not_held al z h pads us q e = if_false (is_count_within h (length us)) (of_size al z pads us) q e

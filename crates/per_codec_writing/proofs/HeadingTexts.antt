@@ -1,0 +1,106 @@
+-- What stands in front of units, in the bits of a writer: their number, or length determinants.
+use Rattle.std.proofs.Common.{◌≡◌, ℕ, ◌-◌, ◌*◌, ◌/◌, ◌^◌, ◌<◌, ◌≤◌, ltb, leb, min, Bool, true, false, cond, ◌&&◌, [], ◌∷◌, Option, Some, None, option_map, unwrap_or, Result, Ok, Err, IsErr, IsErrAnd, MatchResult, refl, ap, sym, subst, ◌∙◌, arith}
+use Rattle.std.proofs.lemmas.Bool.{le-leb, lt-ltb}
+use Rattle.asn1_model.specs.Schema.{Counts}
+use Rattle.asn1_model.specs.Numbers.{binary, missing}
+use Rattle.asn1_model.specs.Form.{exactly, only_if, both, placed}
+use Rattle.asn1_model.specs.Per
+use Rattle.asn1_schema_faults.specs.declared.EncodeError.{EncodeError}
+use Rattle.asn1_schema_faults.specs.declared.EncodeError.TheVariants.{ValueConstraintNotSatisfied, SizeConstraintNotSatisfied, AlphabetConstraintNotSatisfied, TooLongValue, LengthExceedsPlatformSize, CallOutOfPlace, OutOfMemory, AlreadyFailed}
+use Rattle.per_codec_packing.specs.Texts.{Text, text_at}
+use Rattle.per_codec_packing.specs.Packed.{Packed, place, plus}
+use Rattle.per_codec_packing.proofs.Adding.{added, adds_filling, none_first}
+use Rattle.per_codec_writing.specs.Headings.{Heading, before_all, next_header, general, padded, count_form, sized_count, heading_of, Heads, NoHeading}
+use Rattle.per_codec_writing.specs.Writing.{Adds, Refuses, fill_at}
+use Rattle.per_codec_writing.specs.declared.lengths.Due.{Due}
+use Rattle.per_codec_writing.proofs.FillingTexts.{adds_both, plus_nothing}
+use Rattle.per_codec_writing.proofs.Fragments.{none_of_them, first_of_them}
+
+-- ---- length determinants
+
+pub few_heads : (al : Bool) (n : ℕ) (d : Due) (old new : Packed) → n < 16384 → d ≡ record { units = n; behind = None } → Adds (text_at (Per.short_length al n) (place old)) old new → Heads (general al n (place old)) old d new
+few_heads al n d old new l e a =
+    let t = added (text_at (Per.short_length al n) (place old)) old new a in
+    record {
+      text = t.0;
+      is = ap (λ ms. next_header al ms n (place old)) (none_of_them n l) ∙ ap (option_map (λ w. before_all n w)) t.1 ∙ ap (λ x. Some (heading_of t.0 x)) (sym e);
+      added = sym t.2;
+    }
+
+pub fragment_heads : (al : Bool) (n m : ℕ) (d : Due) (old new : Packed) → 16384 ≤ n → m ≡ min (n / 16384) 4 → d ≡ record { units = m * 16384; behind = Some (n - m * 16384) } → Adds (text_at (Per.at_octet al (exactly (true ∷ true ∷ binary 6 m))) (place old)) old new → Heads (general al n (place old)) old d new
+fragment_heads al n m d old new l f e a =
+    let x : Per.BitForm = Per.at_octet al (exactly (true ∷ true ∷ binary 6 m)) in
+    let t = added (text_at x (place old)) old new a in
+    let test : (leb 1 m && leb m 4 && leb (m * 16384) n) ≡ true = all_three (leb 1 m) (leb m 4) (leb (m * 16384) n) (le-leb 1 m (omega arith)) (le-leb m 4 (omega arith)) (le-leb (m * 16384) n (omega arith)) in
+    let next : Text → Heading = λ w. record { text = w; due = m * 16384; headers = Some (Per.largest_first (n - m * 16384), n - m * 16384) } in
+    record {
+      text = t.0;
+      is = ap (λ ms. next_header al ms n (place old)) (first_of_them n m l f) ∙ ap (λ b. option_map next (text_at (only_if b x) (place old))) test ∙ ap (option_map next) t.1 ∙ ap (λ y. Some (heading_of t.0 y)) (sym e);
+      added = sym t.2;
+    }
+  where
+    all_three : (a b c : Bool) → a ≡ true → b ≡ true → c ≡ true → (a && b && c) ≡ true
+    all_three true true true x y z = refl
+    all_three true true false x y z = cc
+    all_three true false c x y z = cc
+    all_three false b c x y z = cc
+
+-- ---- a number by the bounds of the root
+
+adds_padded : (al : Bool) (x : Per.BitForm) (old mid new : Packed) → Adds (text_at x (place old)) old mid → new ≡ plus mid (fill_at al (place mid)) → Adds (text_at (padded al x) (place old)) old new
+adds_padded true x old mid new a e = adds_both x (placed (λ p. Per.filling (missing p))) old mid new a (adds_filling mid new e)
+adds_padded false x old mid new a e = subst (λ m. Adds (text_at x (place old)) old m) (sym (e ∙ plus_nothing mid)) a
+
+pub count_added : (al : Bool) (low high n : ℕ) (pads : Bool) (old mid new : Packed) → pads ≡ true → Adds (text_at (Per.constrained al (high - low) (n - low)) (place old)) old mid → new ≡ plus mid (fill_at al (place mid)) → Adds (text_at (count_form al low high pads n) (place old)) old new
+count_added al low high n true old mid new t a e = adds_padded al _ old mid new a e
+count_added al low high n false old mid new t a e = cc
+
+padded_none : (b : Bool) (x : Per.BitForm) (q : Option ℕ) → text_at x q ≡ None → text_at (padded b x) q ≡ None
+padded_none true x q e = none_first x (placed (λ p. Per.filling (missing p))) q e
+padded_none false x q e = e
+
+pub count_none : (al : Bool) (low high n : ℕ) (pads : Bool) (q : Option ℕ) → text_at (Per.constrained al (high - low) (n - low)) q ≡ None → text_at (count_form al low high pads n) q ≡ None
+count_none al low high n pads q e = padded_none (pads && al) _ q e
+
+narrow_count : (al : Bool) (c : Counts) (o : Option ℕ) (pads : Bool) (n h : ℕ) (q : Option ℕ) → h ≡ unwrap_or o (2 ^ 64 - 1) → h < 65536 → sized_count al c o pads n q ≡ option_map (λ w. before_all n w) (text_at (count_form al c.low h pads n) q)
+narrow_count al c None pads n h q a b = absurd (omega arith)
+narrow_count al c (Some m) pads n h q a b = ap (λ t. cond t (option_map (λ w. before_all n w) (text_at (count_form al c.low m pads n) q)) (general al n q)) (lt-ltb m 65536 (omega (arith, a, b))) ∙ ap (λ j. option_map (λ w. before_all n w) (text_at (count_form al c.low j pads n) q)) (sym a)
+
+pub narrow_heads : (al : Bool) (c : Counts) (o : Option ℕ) (pads : Bool) (n h low : ℕ) (d : Due) (old new : Packed) → h ≡ unwrap_or o (2 ^ 64 - 1) → h < 65536 → low ≡ c.low → d ≡ record { units = n; behind = None } → Adds (text_at (count_form al low h pads n) (place old)) old new → Heads (sized_count al c o pads n (place old)) old d new
+narrow_heads al c o pads n h low d old new a b l e x =
+    let t = added (text_at (count_form al c.low h pads n) (place old)) old new (subst (λ j. Adds (text_at (count_form al j h pads n) (place old)) old new) l x) in
+    record {
+      text = t.0;
+      is = narrow_count al c o pads n h (place old) a b ∙ ap (option_map (λ w. before_all n w)) t.1 ∙ ap (λ y. Some (heading_of t.0 y)) (sym e);
+      added = sym t.2;
+    }
+
+-- ---- why there is none
+
+refused_so : (t : Option Text) (u : Option Heading) → (t ≡ None → u ≡ None) → (e : EncodeError) → Refuses t e → NoHeading u e
+refused_so t u f OutOfMemory h = tt
+refused_so t u f ValueConstraintNotSatisfied h = f h
+refused_so t u f SizeConstraintNotSatisfied h = f h
+refused_so t u f AlphabetConstraintNotSatisfied h = f h
+refused_so t u f TooLongValue h = f h
+refused_so t u f LengthExceedsPlatformSize h = f h
+refused_so t u f CallOutOfPlace h = h
+refused_so t u f AlreadyFailed h = h
+
+pub no_text : (u : Option Heading) (t : Option Text) → (u ≡ None → t ≡ None) → (e : EncodeError) → NoHeading u e → Refuses t e
+no_text u t f OutOfMemory h = tt
+no_text u t f ValueConstraintNotSatisfied h = f h
+no_text u t f SizeConstraintNotSatisfied h = f h
+no_text u t f AlphabetConstraintNotSatisfied h = f h
+no_text u t f TooLongValue h = f h
+no_text u t f LengthExceedsPlatformSize h = f h
+no_text u t f CallOutOfPlace h = h
+no_text u t f AlreadyFailed h = h
+
+pub narrow_none : (al : Bool) (c : Counts) (o : Option ℕ) (pads : Bool) (n h low : ℕ) (old : Packed) → h ≡ unwrap_or o (2 ^ 64 - 1) → h < 65536 → low ≡ c.low → (e : EncodeError) → Refuses (text_at (count_form al low h pads n) (place old)) e → NoHeading (sized_count al c o pads n (place old)) e
+narrow_none al c o pads n h low old a b l e x = refused_so _ _ (λ q. narrow_count al c o pads n h (place old) a b ∙ ap (option_map (λ w. before_all n w)) q) e (subst (λ j. Refuses (text_at (count_form al j h pads n) (place old)) e) l x)
+
+-- an error that is handed on
+pub raised_on : {T E : Type 0} (P : T → Type 0) (Q : E → Type 0) (x : E) (r : Result T E) → IsErr r → IsErrAnd r (λ y. y ≡ x) → Q x → MatchResult r P Q
+raised_on P Q x (Ok v) a h q = cc
+raised_on P Q x (Err y) a h q = subst Q (sym h) q

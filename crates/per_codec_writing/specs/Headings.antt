@@ -1,0 +1,112 @@
+-- What stands in front of the units of a string, a list or a bag: the extension bit, their number and padding, or the
+-- length determinants of fragments of them (X.691 11.9, 16, 17, 20, 22 and 30).
+use Rattle.std.specs.Prelude.{◌≡◌, ℕ, ◌+◌, ◌-◌, ◌*◌, ltb, leb, Bool, true, false, cond, ◌&&◌, List, [], ◌∷◌, take, drop}
+use Rattle.std.specs.Prelude.{Option, Some, None, option_map}
+use Rattle.asn1_model.specs.Schema.{Counts, Size}
+use Rattle.asn1_model.specs.Numbers.{binary, is_count_within, missing}
+use Rattle.asn1_model.specs.Form.{exactly, both, only_if, joined, placed}
+use Rattle.asn1_model.specs.Per
+use Rattle.asn1_schema_faults.specs.declared.EncodeError.{EncodeError}
+use Rattle.asn1_schema_faults.specs.declared.EncodeError.TheVariants.{OutOfMemory, CallOutOfPlace, AlreadyFailed}
+use Rattle.per_codec_packing.specs.Texts.{Text, bit, moved, text_at}
+use Rattle.per_codec_packing.specs.Packed.{Packed, plus}
+use Rattle.per_codec_writing.specs.declared.lengths.Due.{Due}
+
+-- The length determinants that are still to come: how many times 16384 units each fragment has, and how many units
+-- stand behind the first of these determinants (X.691 11.9.3.8). There is none where the units do not stand in
+-- fragments, nor behind the last determinant where they do.
+abbrev pub Headers : Type 0
+Headers = Option (List ℕ × ℕ)
+
+-- What stands in front of units: its text, how many units are due behind it, and the length determinants to come.
+pub record Heading : Type 0 where
+  pub text : Text
+  pub due : ℕ
+  pub headers : Headers
+
+-- A number that stands in front of all its units.
+abbrev pub before_all : ℕ → Text → Heading
+before_all n w = record { text = w; due = n; headers = None }
+
+-- The next length determinant of n units in fragments, at a position: that of a fragment, or the closing one (X.691
+-- 11.9.3.5 to 11.9.3.8).
+abbrev pub next_header : Bool → List ℕ → ℕ → Option ℕ → Option Heading
+next_header al [] n q = option_map (λ w. before_all n w) (text_at (Per.short_length al n) q)
+next_header al (m ∷ ms) n q =
+    option_map (λ w. record { text = w; due = m * 16384; headers = Some (ms, n - m * 16384) })
+    (text_at (only_if (leb 1 m && leb m 4 && leb (m * 16384) n) (Per.at_octet al (exactly (true ∷ true ∷ binary 6 m))))
+    q)
+
+-- The first length determinant of n units in the general form, the largest fragments first.
+abbrev pub general : Bool → ℕ → Option ℕ → Option Heading
+general al n q = next_header al (Per.largest_first n) n q
+
+-- A form, and padding behind it, where there is some (X.691 11.1).
+abbrev pub padded : Bool → Per.BitForm → Per.BitForm
+padded false x = x
+padded true x = both x (placed (λ p. Per.filling (missing p)))
+
+-- The number of n units of low to high, and the padding behind it.
+abbrev pub count_form : Bool → ℕ → ℕ → Bool → ℕ → Per.BitForm
+count_form al low high pads n = padded (pads && al) (Per.constrained al (high - low) (n - low))
+
+-- The number of n units of the root of a size, by its bounds where the highest is below 65536, and the padding behind
+-- it, else in the general form (X.691 11.9.4.1, 16.8 to 16.11, 17.5 to 17.8, 20.5, 30.5.6 and 30.5.7).
+abbrev pub sized_count : Bool → Counts → Option ℕ → Bool → ℕ → Option ℕ → Option Heading
+sized_count al c None pads n q = general al n q
+sized_count al c (Some high) pads n q = cond (ltb high 65536)
+    (option_map (λ w. before_all n w) (text_at (count_form al c.low high pads n) q)) (general al n q)
+
+-- A heading behind a bit.
+abbrev pub behind_bit : Bool → (Option ℕ → Option Heading) → Option ℕ → Option Heading
+behind_bit b f q = option_map (λ (h : Heading). record { text = bit b ∷ h.text; due = h.due; headers = h.headers })
+    (f (moved q 1))
+
+-- Within the root or, behind an extension bit, outside (X.691 16.6, 17.3, 20.4 and 30.4).
+abbrev pub marked_count : Bool → Bool → (Option ℕ → Option Heading) → (Option ℕ → Option Heading) → Option ℕ
+    → Option Heading
+marked_count false in_root root outside q = cond in_root (root q) None
+marked_count true in_root root outside q = cond in_root (behind_bit false root q) (behind_bit true outside q)
+
+-- What stands in front of n units of a size, at a position; whether padding stands behind their number, where this is
+-- one by the bounds of the root.
+abbrev pub heading : Bool → Size → Bool → ℕ → Option ℕ → Option Heading
+heading al z pads n q = marked_count z.extensible (is_count_within z.counts n)
+    (λ q. sized_count al z.counts z.counts.high pads n q) (λ q. general al n q) q
+
+-- The form of units where so many are due before these length determinants.
+abbrev pub form_due : Bool → ℕ → Headers → List Per.BitForm → Per.BitForm
+form_due al n None us = joined us
+form_due al n (Some h) us = both (joined (take n us)) (Per.fragments al h.0 (drop n us))
+
+-- How many units stand behind the next length determinant, if one comes.
+abbrev pub count_behind : Option ℕ → ℕ
+count_behind None = 0
+count_behind (Some n) = n
+
+-- The length determinants to come in front of so many units, the largest fragments first (X.691 11.9.3.8).
+abbrev pub headers_of : Option ℕ → Headers
+headers_of None = None
+headers_of (Some n) = Some (Per.largest_first n, n)
+
+-- A heading: its text, and what is due behind it.
+abbrev pub heading_of : Text → Due → Heading
+heading_of w d = record { text = w; due = d.units; headers = headers_of d.behind }
+
+-- There is this heading, and its text stands behind what stood there.
+pub record Heads (o : Option Heading) (old : Packed) (d : Due) (new : Packed) : Type 0 where
+  pub text : Text
+  pub is : o ≡ Some (heading_of text d)
+  pub added : new ≡ plus old text
+
+-- Why there is no heading: memory was refused, or nothing can stand there.
+abbrev pub NoHeading : Option Heading → EncodeError → Type 0
+NoHeading o OutOfMemory = Unit {0}
+NoHeading o CallOutOfPlace = ⊥
+NoHeading o AlreadyFailed = ⊥
+NoHeading o e = o ≡ None
+
+-- So many units are due in all, and none is due before the next length determinant only where none comes.
+pub record IsDue (n : ℕ) (d : Due) : Type 0 where
+  pub all : d.units + count_behind d.behind ≡ n
+  pub ready : d.units ≡ 0 → d.behind ≡ None

@@ -1,0 +1,101 @@
+//! What stands in front of the units of a size: the extension bit, their number and padding, or a length determinant
+//! in the general form (X.691 11.9.4, 16.6 to 16.11, 17.3 to 17.8, 20.4, 20.5 and 30.4 to 30.5.7).
+ghost use Rattle.std.specs.Prelude.{◌≡◌, ◌≤◌, true, IfOk, MatchResult};
+ghost use Rattle.asn1_model.specs.Numbers.{is_count_within};
+ghost use Rattle.asn1_schema_constraints.specs.Bounds.{counts_of, upper};
+ghost use Rattle.asn1_schema_constraints.specs.Terms.{size_of};
+ghost use Rattle.per_codec_packing.specs.Texts.{text_at};
+ghost use Rattle.per_codec_writing.specs.Headings.{count_form, sized_count, heading, Heads, IsDue, NoHeading};
+ghost use Rattle.per_codec_writing.specs.Writing.{Adds, Refuses, place};
+
+use crate::lengths::push_length_determinant;
+use crate::{Due, align, push_constrained};
+use asn1_schema_constraints::{Bounded, Sizes};
+use asn1_schema_faults::EncodeError;
+use per_codec_limits::LONG_COUNT;
+use per_codec_packing::Packing;
+
+/// Adds a number of units, one of `low` to `high`, and padding behind it if `pads` tells so (X.691 11.9.4.1).
+fn push_number(
+    output: &mut Packing,
+    aligned: bool,
+    low: usize,
+    high: usize,
+    pads: bool,
+    count: usize,
+) -> Result<(), EncodeError>
+    requires least { low ≤ count }
+    requires most { count ≤ high }
+    ensures { MatchResult result (λ _. Adds
+        (text_at (count_form aligned low high pads count) (place output.old)) output.old output.new)
+        (Refuses (text_at (count_form aligned low high pads count) (place output.old))) }
+{
+    push_constrained(output, aligned, (high - low) as u128, (count - low) as u128)?;
+    if pads {
+        align(output, aligned)?;
+    }
+    Ok(())
+}
+
+/// Adds the number of units of the root of a size: by its bounds where the highest is below 65536, else a length
+/// determinant in the general form (X.691 11.9.4.1).
+fn push_root_count(
+    output: &mut Packing,
+    aligned: bool,
+    root: Bounded<usize>,
+    pads: bool,
+    count: usize,
+) -> Result<Due, EncodeError>
+    requires { is_count_within (counts_of root) count ≡ true }
+    ensures heads { MatchResult result (λ due. Heads
+        (sized_count aligned (counts_of root) (upper root) pads count (place output.old)) output.old due output.new)
+        (NoHeading (sized_count aligned (counts_of root) (upper root) pads count (place output.old))) }
+    ensures due { IfOk result (λ due. IsDue count due) }
+{
+    let high = root.as_end().copied().unwrap_or(usize::MAX);
+    if high >= LONG_COUNT {
+        let due = push_length_determinant(output, aligned, count)?;
+        return Ok(due);
+    }
+    push_number(output, aligned, root.minimum(), high, pads, count)?;
+    Ok(Due {
+        units: count,
+        behind: None,
+    })
+}
+
+/// Adds what stands in front of so many units of a size: the extension bit, if an extension mark follows the size, and
+/// their number or the first length determinant in the general form. `pads` tells whether padding stands behind a
+/// number by the bounds of the root, in the aligned variant.
+///
+/// # Errors
+///
+/// `SizeConstraintNotSatisfied` where a size without an extension mark does not admit so many; `OutOfMemory`.
+pub fn push_size(
+    output: &mut Packing,
+    aligned: bool,
+    sizes: Sizes,
+    pads: bool,
+    count: usize,
+) -> Result<Due, EncodeError>
+    ensures heads { MatchResult result (λ due. Heads
+        (heading aligned (size_of sizes) pads count (place output.old)) output.old due output.new)
+        (NoHeading (heading aligned (size_of sizes) pads count (place output.old))) }
+    ensures due { IfOk result (λ due. IsDue count due) }
+{
+    let in_root = sizes.root.contains(&count);
+    if !sizes.is_extensible {
+        if !in_root {
+            return Err(EncodeError::SizeConstraintNotSatisfied);
+        }
+        let due = push_root_count(output, aligned, sizes.root, pads, count)?;
+        return Ok(due);
+    }
+    output.push(!in_root)?;
+    if in_root {
+        let due = push_root_count(output, aligned, sizes.root, pads, count)?;
+        return Ok(due);
+    }
+    let due = push_length_determinant(output, aligned, count)?;
+    Ok(due)
+}
