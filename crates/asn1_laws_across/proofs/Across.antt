@@ -4,7 +4,7 @@ use Rattle.asn1_model.specs.Value.{Value, same}
 use Rattle.asn1_model.specs.Schema.{Schema}
 use Rattle.asn1_model.specs.Lawful.{is_lawful}
 use Rattle.asn1_model.specs.Normal.{normal}
-use Rattle.asn1_model.specs.Rules.{Rules, uper, aper, uper_strict, aper_strict, oer, coer, canonical, IsEncoding}
+use Rattle.asn1_model.specs.Rules.{Rules, canonical, IsEncoding}
 use Rattle.asn1_laws_values.proofs.Messages.{canonical_is_read}
 use Rattle.asn1_laws_values.proofs.Normals.{normal_again}
 use Rattle.asn1_laws_values.proofs.Normal.{normal_same}
@@ -27,12 +27,6 @@ tell_normal r s v u a b l e f = (
   λ n. some_same (sym e ∙ canonical_same r s v u l n ∙ f),
 )
 
-pub equal_across : (q r : Rules) (s : Schema) (v u : Value) (a b c d : List ℕ) → is_lawful s ≡ true → canonical q s v ≡ Some a → canonical q s u ≡ Some b → canonical r s v ≡ Some c → canonical r s u ≡ Some d → (a ≡ b → c ≡ d) × (c ≡ d → a ≡ b)
-equal_across q r s v u a b c d l e f g h =
-    let x = tell_normal q s v u a b l e f in
-    let y = tell_normal r s v u c d l g h in
-    (λ p. y.1 (x.0 p), λ p. x.1 (y.0 p))
-
 -- what is read of the canonical octets is the normal form
 back : (r : Rules) (s : Schema) (v u : Value) (b : List ℕ) → is_lawful s ≡ true → canonical r s v ≡ Some b → IsEncoding r s u b → same (normal s u) (normal s v) ≡ true
 back r s v u b l e f =
@@ -41,6 +35,3 @@ back r s v u b l e f =
 
 pub detours : (p r : Rules) (s : Schema) (v u : Value) (b : List ℕ) → is_lawful s ≡ true → canonical r s v ≡ Some b → IsEncoding r s u b → canonical p s u ≡ canonical p s v
 detours p r s v u b l e f = canonical_same p s u v l (back r s v u b l e f)
-
-pub recoded : (r : Rules) (s : Schema) (v u : Value) (b : List ℕ) → is_lawful s ≡ true → canonical r s v ≡ Some b → IsEncoding r s u b → canonical r s u ≡ Some b
-recoded r s v u b l e f = detours r r s v u b l e f ∙ e

@@ -1,9 +1,9 @@
 -- Texts that a strict reader takes just as they would be written.
-use Rattle.std.specs.Prelude.{◌≡◌, ◌⊎◌, ℕ, ◌+◌, ◌^◌, ◌<◌, Bool, true, false, IsTrue, List, [], ◌∷◌, ◌++◌, length}
+use Rattle.std.specs.Prelude.{◌≡◌, ◌⊎◌, ℕ, ◌+◌, ◌^◌, ◌<◌, Bool, true, false, IsTrue, List, ◌++◌, length}
 use Rattle.asn1_model.specs.Value.{Value}
 use Rattle.asn1_model.specs.Schema.{Schema}
 use Rattle.asn1_model.specs.Form.{Form, exactly, refused, both, placed, varied, within, written}
-use Rattle.asn1_model.specs.Rules.{Rules, uper, aper, uper_strict, aper_strict, coer, octet_bits, strict_per, strict_oer}
+use Rattle.asn1_model.specs.Rules.{Rules, uper, aper, uper_strict, aper_strict, octet_bits, strict_per, strict_oer}
 use Rattle.asn1_model.specs.Per
 use Rattle.asn1_model.specs.Oer
 

@@ -1,24 +1,18 @@
 -- Bags whose members ascend.
-use Rattle.std.proofs.Common.{◌≡◌, ℕ, zero, suc, ◌+◌, ◌<◌, ◌==◌, ltb, not, Bool, true, false, cond, ◌&&◌, ◌||◌, IsTrue, List, [], ◌∷◌, ◌++◌, length, take, drop, map, Option, Some, None, option_map, refl, ap, sym, ◌∙◌, subst, inl, inr, ◌⊎◌, arith}
-use Rattle.std.proofs.lemmas.Bool.{ltb-true, lt-ltb, and_parts, eqb-true}
+use Rattle.std.proofs.Common.{◌≡◌, ℕ, ltb, Bool, true, IsTrue, List, [], ◌∷◌, map, Option, Some, None, refl, ap, sym, ◌∙◌, subst, inr}
 use Rattle.asn1_model.specs.Value.{Value, bag, Values, values_of, each, same}
 use Rattle.asn1_model.specs.Schema.{Counts, Size, Schema, set_of}
 use Rattle.asn1_model.specs.Lawful.{is_lawful}
-use Rattle.asn1_model.specs.Form.{written, given, Bitmap, arranged, ascending, covered_by, own_bitmap, is_any_present, stands_before}
+use Rattle.asn1_model.specs.Form.{written, given, arranged, ascending, stands_before}
 use Rattle.asn1_model.specs.Per
 use Rattle.asn1_model.specs.Oer
-use Rattle.asn1_model.specs.Rules.{strict_oer}
-use Rattle.asn1_model.specs.Types.{any_size, any_count, num}
-use Rattle.asn1_model.specs.Types.{whole as integers}
-use Rattle.asn1_model.proofs.Forms.{reads_written}
-use Rattle.asn1_model.proofs.OnValues.{on_values}
 use Rattle.asn1_laws_values.proofs.Listed.{listed, listed_again, each_is_map, order_map}
 use Rattle.asn1_laws_values.proofs.Bags.{arranged_same}
 use Rattle.asn1_laws_values.proofs.Same.{same_turned}
 use Rattle.asn1_laws_across.proofs.OerGives as octets
 use Rattle.asn1_laws_across.proofs.PerGives as packed
 use Rattle.asn1_laws_across.proofs.AsWritten.{ReadsAsWritten}
-use Rattle.asn1_laws_across.proofs.Strictly.{as_written, written_as}
+use Rattle.asn1_laws_across.proofs.Strictly.{as_written}
 
 -- ---- bags
 each_value : {X : Type 0} (f : Value → X) (us : List Value) → each f (values_of us) ≡ map f us

@@ -4,7 +4,7 @@ use Rattle.std.proofs.lemmas.List.{append_cancel_left}
 use Rattle.asn1_model.specs.Value.{same}
 use Rattle.asn1_model.specs.Schema.{Schema}
 use Rattle.asn1_model.specs.Lawful.{IsLawful}
-use Rattle.asn1_model.specs.Rules.{Rules, uper, aper, uper_strict, aper_strict, oer, coer}
+use Rattle.asn1_model.specs.Rules.{Rules}
 use Rattle.asn1_laws_fronts.proofs.Every.{one_front}
 use Rattle.asn1_laws_across.specs.Streams.{Message, IsMessage, Divides, AreSame}
 

@@ -3,7 +3,6 @@ use Rattle.std.proofs.Common.{◌≡◌, ℕ, ◌+◌, ◌^◌, ◌<◌, Bool, t
 use Rattle.std.proofs.lemmas.Bool.{ltb-true, lt-ltb, and_parts}
 use Rattle.asn1_model.specs.Value.{Value}
 use Rattle.asn1_model.specs.Schema.{Schema}
-use Rattle.asn1_model.specs.Lawful.{is_lawful}
 use Rattle.asn1_model.specs.Normal.{normal}
 use Rattle.asn1_model.specs.Form.{Form, exactly, refused, both, placed, varied, within, Reads, canonically, written}
 use Rattle.asn1_model.specs.Numbers.{packed, binary}
@@ -11,8 +10,7 @@ use Rattle.asn1_model.specs.Rules.{Rules, uper, aper, uper_strict, aper_strict, 
 use Rattle.asn1_model.specs.Strings.{each_is, is_octet}
 use Rattle.asn1_model.specs.Per
 use Rattle.asn1_model.specs.Oer
-use Rattle.asn1_model.proofs.Forms.{widens, reads_written}
-use Rattle.asn1_laws_values.proofs.Messages.{per_text, octet_text}
+use Rattle.asn1_model.proofs.Forms.{widens}
 use Rattle.asn1_laws_values.proofs.PerStrict.{message_normal}
 use Rattle.asn1_laws_values.proofs.OerStrict.{octets_normal}
 use Rattle.asn1_laws_values.proofs.Octets.{packed_back, packed_octets}
@@ -20,7 +18,6 @@ use Rattle.asn1_laws_values.proofs.Normal.{normal_stays}
 use Rattle.asn1_laws_fronts.proofs.PerNumbers.{binary_equal}
 use Rattle.asn1_laws_fronts.proofs.Complete.{bits_length}
 use Rattle.asn1_laws_across.proofs.AsWritten.{ReadsAsWritten, IsEncodingAsWritten}
-use Rattle.asn1_laws_across.proofs.Across.{one_meaning}
 
 -- what is read as it is written is read, and is what is written
 pub as_read : {F : Type 0} {D : F → Type 0} {A : Type 0} (free : F → Bool) (x : Form F D A) (p : ℕ) (w : List A) → ReadsAsWritten free x p w → Reads free x p w

@@ -1,5 +1,5 @@
 -- Texts in which the members of each bag ascend.
-use Rattle.std.specs.Prelude.{◌≡◌, ◌⊎◌, ℕ, ◌+◌, ◌^◌, ◌<◌, ltb, Bool, true, false, IsTrue, List, [], ◌∷◌, ◌++◌, length}
+use Rattle.std.specs.Prelude.{◌≡◌, ◌⊎◌, ℕ, ◌+◌, ◌^◌, ◌<◌, ltb, Bool, true, false, List, [], ◌∷◌, ◌++◌, length}
 use Rattle.std.specs.Prelude.{Some}
 use Rattle.asn1_model.specs.Value.{Value, bag, Values, each}
 use Rattle.asn1_model.specs.Schema.{Counts, Size, Schema, set_of}

@@ -16,31 +16,20 @@ OneMeaning =
     (q r : Rules) (s : Schema) (v u : Value) (w : List ℕ) → IsLawful s → IsEncoding q s v w → IsEncoding q s u w
     → (same v u ≡ true) × (same (normal s v) (normal s u) ≡ true) × (canonical r s v ≡ canonical r s u)
 
--- The canonical encodings of two values are equal exactly if their normal forms are the same.
+-- The canonical encodings of two values are equal exactly if their normal forms are the same. So where they have some in
+-- two sets of rules, these are equal in one exactly if they are in the other.
 abbrev pub EncodingsTellNormalForms : Type 0
 EncodingsTellNormalForms =
     (r : Rules) (s : Schema) (v u : Value) (a b : List ℕ) → IsLawful s → canonical r s v ≡ Some a
     → canonical r s u ≡ Some b → (a ≡ b → same (normal s v) (normal s u) ≡ true)
     × (same (normal s v) (normal s u) ≡ true → a ≡ b)
 
--- Where two values have canonical encodings in two sets of rules, these are equal in one exactly if they are in the
--- other.
-abbrev pub EqualAcross : Type 0
-EqualAcross =
-    (q r : Rules) (s : Schema) (v u : Value) (a b c d : List ℕ) → IsLawful s → canonical q s v ≡ Some a
-    → canonical q s u ≡ Some b → canonical r s v ≡ Some c → canonical r s u ≡ Some d → (a ≡ b → c ≡ d) × (c ≡ d → a ≡ b)
-
--- A detour changes no octet: what is written of what was read in between is what is written of what was read first.
+-- A detour changes no octet: what is written of what was read in between is what is written of what was read first. So
+-- what was recoded once is recoded to itself.
 abbrev pub DetoursChangeNothing : Type 0
 DetoursChangeNothing =
     (p r : Rules) (s : Schema) (v u : Value) (b : List ℕ) → IsLawful s → canonical r s v ≡ Some b → IsEncoding r s u b
     → canonical p s u ≡ canonical p s v
-
--- What was recoded once is recoded to itself.
-abbrev pub RecodedStays : Type 0
-RecodedStays =
-    (r : Rules) (s : Schema) (v u : Value) (b : List ℕ) → IsLawful s → canonical r s v ≡ Some b → IsEncoding r s u b
-    → canonical r s u ≡ Some b
 
 -- What is canonical but for the order of the bags, where the members of each bag ascend, is an encoding and the
 -- canonical one; and what is canonical is so.

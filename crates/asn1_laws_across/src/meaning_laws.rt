@@ -1,7 +1,6 @@
 //! Translation between rules: what is equal in one is equal in the others, and a detour changes no octet.
 
-ghost use Rattle.asn1_laws_across.specs.Laws.{OneMeaning, EncodingsTellNormalForms, EqualAcross, DetoursChangeNothing};
-ghost use Rattle.asn1_laws_across.specs.Laws.{RecodedStays};
+ghost use Rattle.asn1_laws_across.specs.Laws.{OneMeaning, EncodingsTellNormalForms, DetoursChangeNothing};
 ghost use Rattle.asn1_laws_across.specs.Laws.{InOrderIsCanonical, RigidIsCanonical};
 ghost use Rattle.asn1_laws_across.specs.InOrder.{InOrderRows};
 
@@ -11,25 +10,16 @@ pub fn one_meaning()
     ensures { OneMeaning }
 {}
 
-/// The canonical encodings of two values are equal exactly if their normal forms are the same.
+/// The canonical encodings of two values are equal exactly if their normal forms are the same. So where they have some
+/// in two sets of rules, these are equal in one exactly if they are in the other.
 pub fn encodings_tell_normal_forms()
     ensures { EncodingsTellNormalForms }
 {}
 
-/// Where two values have canonical encodings in two sets of rules, these are equal in one exactly if they are in the
-/// other.
-pub fn equal_across()
-    ensures { EqualAcross }
-{}
-
-/// A detour changes no octet: what is written of what was read in between is what is written of what was read first.
+/// A detour changes no octet: what is written of what was read in between is what is written of what was read first. So
+/// what was recoded once is recoded to itself.
 pub fn detours_change_nothing()
     ensures { DetoursChangeNothing }
-{}
-
-/// What was recoded once is recoded to itself.
-pub fn recoded_stays()
-    ensures { RecodedStays }
 {}
 
 /// Octets that are canonical but for the order of the bags, where the members of each bag ascend, are the canonical

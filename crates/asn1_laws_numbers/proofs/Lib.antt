@@ -1,5 +1,4 @@
 pub mod Numbers
-pub mod Utf8
 pub mod Padded
 pub mod Ordered
 pub mod Ranges

@@ -10,6 +10,8 @@ pub mod Covers
 pub mod Arranged
 pub mod Normals
 pub mod Readable
+pub mod PerRead
+pub mod OerRead
 pub mod PerStrict
 pub mod OerStrict
 pub mod Places

@@ -1,31 +1,22 @@
 -- A reader without the freedoms of what may be left out reads normal values alone.
-use Rattle.std.proofs.Common.{◌≡◌, ℕ, zero, suc, ltb, not, Bool, true, false, cond, ◌&&◌, IsTrue, List, [], ◌∷◌, Option, Some, None, refl, sym, subst}
+use Rattle.std.proofs.Common.{◌≡◌, ℕ, zero, suc, ltb, not, Bool, true, false, cond, ◌&&◌, IsTrue, List, ◌∷◌, Option, Some, None, refl, sym, subst}
 use Rattle.asn1_model.specs.Value.{Value, members, bag, fields, chosen, Values, no_more, member, Parts, end, absent, present, each}
 use Rattle.asn1_model.specs.Schema.{Counts, Presence, Schema, sequence_of, set_of, sequence, set, group, choice, Components, no_component, component, Alternatives, no_alternative, alternative}
 use Rattle.asn1_model.specs.Normal.{is_at_default, is_group_left_out, is_normal, are_normal, is_normal_alternative, are_all}
 use Rattle.asn1_model.specs.Tables.{is_required, marks}
-use Rattle.asn1_model.specs.Form.{Form, refused, varied, Reads, only_if, written, stands_before, in_order, ascending, Bitmap, is_any_present, present_ones, covered_by}
+use Rattle.asn1_model.specs.Form.{Form, refused, varied, Reads, only_if, written, stands_before, in_order, ascending, present_ones}
 use Rattle.asn1_model.specs.Rules.{strict_oer}
 use Rattle.asn1_model.specs.Oer
 use Rattle.asn1_model.proofs.Forms.{map_parts}
-use Rattle.asn1_laws_values.proofs.Readable.{IsRead, read_refused, read_both, read_varied, read_within, read_if, read_given, read_kept, AllRead, read_joined, all_in_order, none_present, covered_present}
+use Rattle.asn1_laws_values.proofs.Readable.{IsRead, read_refused, read_both, read_varied, read_if, read_given, read_kept, AllRead, read_joined, all_in_order}
+use Rattle.asn1_laws_values.proofs.OerRead.{open_read, sequence_read}
+use Rattle.asn1_laws_values.proofs.Lengths.{two_true, unless}
 
 abbrev OerForm : Type 0
 OerForm = Form Oer.Freedom Oer.Detail ℕ
 
 four_true : (a b c d : Bool) → a ≡ false → b ≡ false → c ≡ true → d ≡ true → (not a && not b && c && d) ≡ true
 four_true a b c d h i j k = rw (h, i, j, k) refl
-
-two_true : (a b : Bool) → a ≡ true → b ≡ true → (a && b) ≡ true
-two_true a b h k = rw (h, k) refl
-
-unless : {X : Type 0} (b : Bool) (o : Option X) (x : X) → cond b None o ≡ Some x → o ≡ Some x
-unless true o x e = cc
-unless false o x e = e
-
-not_any : (t : Bool) → not t ≡ true → t ≡ false
-not_any true e = sym e
-not_any false e = refl
 
 module _ (free : Oer.Freedom → Bool) (no_default : IsTrue (free Oer.default_spelled_out) → ⊥) (no_group : IsTrue (free Oer.empty_group) → ⊥) where
   abbrev Read : OerForm → Type 0
@@ -60,38 +51,6 @@ module _ (free : Oer.Freedom → Bool) (no_default : IsTrue (free Oer.default_sp
   unfolding Oer.spelled
   spelled_read o s v x r = spelled_tests (is_at_default o s v) (is_group_left_out s v) x r
 
-  open_read : (x : OerForm) → Read (Oer.open_type x) → Read x
-  unfolding Oer.open_type
-  open_read x r = (read_within free r).0
-
-  -- ---- sequences
-  additions_read : (ms : List Bool) (root : OerForm) (xs : List (Option OerForm)) → Read (Oer.with_additions ms root xs) → Read root × ReadEach (present_ones xs)
-  unfolding Oer.with_additions Oer.additions
-  additions_read ms root xs r =
-      let q = read_both free r in
-      let p = read_both free q.1 in
-      (p.0, read_joined free _ ((read_both free p.1).1))
-
-  by_bits : (ms : List Bool) (root : OerForm) (xs : List (Option OerForm)) (t : Bool) → Read (cond t (Oer.with_additions ms root xs) (varied Oer.empty_bitmap false (λ e. only_if e (Oer.with_additions ms root xs)))) → Read (Oer.with_additions ms root xs)
-  by_bits ms root xs true r = r
-  by_bits ms root xs false r = let q = read_varied free r in (read_if free q.0 q.2).1
-
-  bitmapped_read : (ms : List Bool) (root : OerForm) (xs : List (Option OerForm)) (o : Option Bitmap) → Read (Oer.bitmapped ms root xs o) → Read root × ReadEach (present_ones xs)
-  unfolding Oer.bitmapped
-  bitmapped_read ms root xs None r =
-      let q = read_if free (not (is_any_present xs)) r in
-      ((read_both free q.1).1, none_present free xs (not_any _ q.0))
-  bitmapped_read ms root xs (Some b) r =
-      let q = read_given free (covered_by Oer.counted b xs) r in
-      let p = additions_read ms root q.0 (by_bits ms root q.0 (is_any_present q.0) q.2) in
-      (p.0, covered_present free Oer.counted b xs q.0 q.1 p.1)
-
-  sequence_read : (e : Bool) (ms : List Bool) (root : OerForm) (xs : List (Option OerForm)) → Read (Oer.sequence_form e ms root xs) → Read root × ReadEach (present_ones xs)
-  unfolding Oer.sequence_form
-  sequence_read false ms root [] r = ((read_both free r).1, tt)
-  sequence_read false ms root (x ∷ xs) r = absurd (read_refused free r)
-  sequence_read true ms root xs r = let q = read_varied free r in bitmapped_read ms root xs q.0 q.2
-
   absent_read : (b : Bool) (x : OerForm) → Read (cond b refused x) → Read x
   absent_read true x r = absurd (read_refused free r)
   absent_read false x r = r
@@ -106,12 +65,12 @@ module _ (free : Oer.Freedom → Bool) (no_default : IsTrue (free Oer.default_sp
     read_normal (set_of z c s) v r = refl
     read_normal (sequence cs e adds) (fields ps qs) r =
         let q = read_given free (Oer.addition_forms adds qs) r in
-        let p = sequence_read e (marks cs ps) (Oer.component_forms cs ps) q.0 q.2 in
+        let p = sequence_read free e (marks cs ps) (Oer.component_forms cs ps) q.0 q.2 in
         two_true _ _ (components_normal cs ps p.0) (additions_normal adds qs q.0 q.1 p.1)
     read_normal (sequence cs e adds) v r = refl
     read_normal (set cs e adds) (fields ps qs) r =
         let q = read_given free (Oer.addition_forms adds qs) r in
-        let p = sequence_read e (marks cs ps) (Oer.component_forms cs ps) q.0 q.2 in
+        let p = sequence_read free e (marks cs ps) (Oer.component_forms cs ps) q.0 q.2 in
         two_true _ _ (components_normal cs ps p.0) (additions_normal adds qs q.0 q.1 p.1)
     read_normal (set cs e adds) v r = refl
     read_normal (group cs) (fields ps end) r = components_normal cs ps ((read_both free r).1)
@@ -135,17 +94,17 @@ module _ (free : Oer.Freedom → Bool) (no_default : IsTrue (free Oer.default_sp
     additions_normal no_component ps xs e r = refl
     additions_normal (component t o s cs) end xs e r = refl
     additions_normal (component t o s cs) (absent ps) xs e r =
-        let q = map_parts (Oer.addition_forms cs ps) (λ (as_ : List (Option OerForm)). None ∷ as_) xs (unless (is_required o) _ _ e) in
+        let q = map_parts (Oer.addition_forms cs ps) (λ (as_ : List (Option OerForm)). None ∷ as_) xs ((unless (is_required o) _ _ e).1) in
         additions_normal cs ps q.0 q.1 (subst (λ l. ReadEach (present_ones l)) (sym q.2) r)
     additions_normal (component t o s cs) (present v ps) xs e r =
         let q = map_parts (Oer.addition_forms cs ps) (λ (as_ : List (Option OerForm)). Some (Oer.spelled o s v (Oer.open_type (Oer.form s v))) ∷ as_) xs e in
         let n : Read (Oer.spelled o s v (Oer.open_type (Oer.form s v))) × ReadEach (present_ones q.0) = subst (λ l. ReadEach (present_ones l)) (sym q.2) r in
         let p = spelled_read o s v (Oer.open_type (Oer.form s v)) n.0 in
-        four_true _ _ _ _ p.0 p.1 (read_normal s v (open_read (Oer.form s v) p.2)) (additions_normal cs ps q.0 q.1 n.1)
+        four_true _ _ _ _ p.0 p.1 (read_normal s v (open_read free (Oer.form s v) p.2)) (additions_normal cs ps q.0 q.1 n.1)
 
     alternative_normal : (added : Bool) (others : Alternatives) (i : ℕ) (v : Value) → Read (Oer.alternative_form added others i v) → is_normal_alternative others i v ≡ true
     alternative_normal false (alternative t s others) zero v r = read_normal s v ((read_both free r).1)
-    alternative_normal true (alternative t s others) zero v r = read_normal s v (open_read _ ((read_both free r).1))
+    alternative_normal true (alternative t s others) zero v r = read_normal s v (open_read free _ ((read_both free r).1))
     alternative_normal added (alternative t s others) (suc i) v r = alternative_normal added others i v r
     alternative_normal added no_alternative i v r = refl
 

@@ -1,5 +1,5 @@
 -- What a reader of OER takes is a value of the type.
-use Rattle.std.proofs.Common.{◌≡◌, ℕ, zero, suc, ltb, not, Bool, true, false, cond, ◌&&◌, ◌||◌, List, [], ◌∷◌, length, Option, Some, None, refl, sym, ◌∙◌, subst}
+use Rattle.std.proofs.Common.{◌≡◌, ℕ, zero, suc, ltb, not, Bool, true, false, cond, ◌&&◌, ◌||◌, List, ◌∷◌, length, Option, Some, None, refl, sym, ◌∙◌, subst}
 use Rattle.std.proofs.lemmas.Bool.{and_parts}
 use Rattle.std.specs.Prelude.{ℤ}
 use Rattle.asn1_model.specs.Value.{Value, truth, nothing, number, item, bit_list, octet_list, text, arcs, members, bag, fields, chosen, Values, no_more, member, Parts, end, absent, present, each}
@@ -8,13 +8,14 @@ use Rattle.asn1_model.specs.Normal.{is_at_default, is_group_left_out, are_all}
 use Rattle.asn1_model.specs.Numbers.{is_within, is_count_within, fits_128}
 use Rattle.asn1_model.specs.Strings.{each_is, is_octet, may_hold, is_of_octets, is_identifier}
 use Rattle.asn1_model.specs.Tables.{is_required, marks, item_place, is_bounded}
-use Rattle.asn1_model.specs.Form.{Form, refused, varied, Reads, only_if, written, stands_before, in_order, ascending, Bitmap, is_present, is_any_present, present_ones, covered_by}
+use Rattle.asn1_model.specs.Form.{Form, refused, varied, Reads, only_if, written, stands_before, in_order, ascending, is_present, present_ones}
 use Rattle.asn1_model.specs.Oer
 use Rattle.asn1_model.specs.Oer.{admits}
 use Rattle.asn1_model.proofs.Forms.{map_parts}
-use Rattle.asn1_laws_values.proofs.Readable.{IsRead, read_refused, read_both, read_varied, read_within, read_if, read_given, AllRead, read_joined, all_in_order, none_present, covered_present}
+use Rattle.asn1_laws_values.proofs.Readable.{IsRead, read_refused, read_both, read_varied, read_if, read_given, AllRead, read_joined, all_in_order}
 use Rattle.asn1_model.specs.Typed.{is_of, are_of, is_of_alternative}
-use Rattle.asn1_laws_values.proofs.Lengths.{order_length, each_length, two_true, or_second, unless, not_any}
+use Rattle.asn1_laws_values.proofs.Lengths.{order_length, each_length, two_true, or_second, unless}
+use Rattle.asn1_laws_values.proofs.OerRead.{open_read, sequence_read}
 
 abbrev OerForm : Type 0
 OerForm = Form Oer.Freedom Oer.Detail ℕ
@@ -50,38 +51,6 @@ module _ (free : Oer.Freedom → Bool) where
   spelled_read : (o : Presence) (s : Schema) (v : Value) (x : OerForm) → Read (Oer.spelled o s v x) → Read x
   unfolding Oer.spelled
   spelled_read o s v x r = spelled_tests (is_at_default o s v) (is_group_left_out s v) x r
-
-  open_read : (x : OerForm) → Read (Oer.open_type x) → Read x
-  unfolding Oer.open_type
-  open_read x r = (read_within free r).0
-
-  -- ---- sequences
-  additions_read : (ms : List Bool) (root : OerForm) (xs : List (Option OerForm)) → Read (Oer.with_additions ms root xs) → Read root × ReadEach (present_ones xs)
-  unfolding Oer.with_additions Oer.additions
-  additions_read ms root xs r =
-      let q = read_both free r in
-      let p = read_both free q.1 in
-      (p.0, read_joined free _ ((read_both free p.1).1))
-
-  by_bits : (ms : List Bool) (root : OerForm) (xs : List (Option OerForm)) (t : Bool) → Read (cond t (Oer.with_additions ms root xs) (varied Oer.empty_bitmap false (λ e. only_if e (Oer.with_additions ms root xs)))) → Read (Oer.with_additions ms root xs)
-  by_bits ms root xs true r = r
-  by_bits ms root xs false r = let q = read_varied free r in (read_if free q.0 q.2).1
-
-  bitmapped_read : (ms : List Bool) (root : OerForm) (xs : List (Option OerForm)) (o : Option Bitmap) → Read (Oer.bitmapped ms root xs o) → Read root × ReadEach (present_ones xs)
-  unfolding Oer.bitmapped
-  bitmapped_read ms root xs None r =
-      let q = read_if free (not (is_any_present xs)) r in
-      ((read_both free q.1).1, none_present free xs (not_any _ q.0))
-  bitmapped_read ms root xs (Some b) r =
-      let q = read_given free (covered_by Oer.counted b xs) r in
-      let p = additions_read ms root q.0 (by_bits ms root q.0 (is_any_present q.0) q.2) in
-      (p.0, covered_present free Oer.counted b xs q.0 q.1 p.1)
-
-  sequence_read : (e : Bool) (ms : List Bool) (root : OerForm) (xs : List (Option OerForm)) → Read (Oer.sequence_form e ms root xs) → Read root × ReadEach (present_ones xs)
-  unfolding Oer.sequence_form
-  sequence_read false ms root [] r = ((read_both free r).1, tt)
-  sequence_read false ms root (x ∷ xs) r = absurd (read_refused free r)
-  sequence_read true ms root xs r = let q = read_varied free r in bitmapped_read ms root xs q.0 q.2
 
   absent_read : (b : Bool) (x : OerForm) → Read (cond b refused x) → (not b ≡ true) × Read x
   absent_read true x r = absurd (read_refused free r)
@@ -130,11 +99,11 @@ module _ (free : Oer.Freedom → Bool) where
         two_true _ _ (subst (λ n. is_count_within held n ≡ true) (p.1 ∙ each_length (λ v. Oer.form s v) vs) q.0) (values_of (λ v. Oer.form s v) (λ v. is_of s v) vs (λ v r. read_of s v r) (p.3 q.1))
     read_of (sequence cs e adds) (fields ps qs) r =
         let q = read_given free (Oer.addition_forms adds qs) r in
-        let p = sequence_read e (marks cs ps) (Oer.component_forms cs ps) q.0 q.2 in
+        let p = sequence_read free e (marks cs ps) (Oer.component_forms cs ps) q.0 q.2 in
         two_true _ _ (components_of cs ps p.0) (additions_of adds qs q.0 q.1 p.1)
     read_of (set cs e adds) (fields ps qs) r =
         let q = read_given free (Oer.addition_forms adds qs) r in
-        let p = sequence_read e (marks cs ps) (Oer.component_forms cs ps) q.0 q.2 in
+        let p = sequence_read free e (marks cs ps) (Oer.component_forms cs ps) q.0 q.2 in
         two_true _ _ (components_of cs ps p.0) (additions_of adds qs q.0 q.1 p.1)
     read_of (group cs) (fields ps end) r = components_of cs ps ((read_both free r).1)
     read_of (choice roots e adds) (chosen false i v) r = alternative_of false roots i v r
@@ -160,12 +129,12 @@ module _ (free : Oer.Freedom → Bool) where
     additions_of (component t o s cs) (present v ps) xs e r =
         let q = map_parts (Oer.addition_forms cs ps) (λ (as_ : List (Option OerForm)). Some (Oer.spelled o s v (Oer.open_type (Oer.form s v))) ∷ as_) xs e in
         let n : Read (Oer.spelled o s v (Oer.open_type (Oer.form s v))) × ReadEach (present_ones q.0) = subst (λ l. ReadEach (present_ones l)) (sym q.2) r in
-        two_true _ _ (read_of s v (open_read (Oer.form s v) (spelled_read o s v (Oer.open_type (Oer.form s v)) n.0))) (additions_of cs ps q.0 q.1 n.1)
+        two_true _ _ (read_of s v (open_read free (Oer.form s v) (spelled_read o s v (Oer.open_type (Oer.form s v)) n.0))) (additions_of cs ps q.0 q.1 n.1)
     additions_of cs ps xs e r = cc
 
     alternative_of : (added : Bool) (others : Alternatives) (i : ℕ) (v : Value) → Read (Oer.alternative_form added others i v) → is_of_alternative others i v ≡ true
     alternative_of false (alternative t s others) zero v r = read_of s v ((read_both free r).1)
-    alternative_of true (alternative t s others) zero v r = read_of s v (open_read _ ((read_both free r).1))
+    alternative_of true (alternative t s others) zero v r = read_of s v (open_read free _ ((read_both free r).1))
     alternative_of added (alternative t s others) (suc i) v r = alternative_of added others i v r
     alternative_of added no_alternative i v r = absurd (read_refused free r)
 

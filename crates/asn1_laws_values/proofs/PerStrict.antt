@@ -1,31 +1,22 @@
 -- A reader without the freedoms of what may be left out reads normal values alone.
-use Rattle.std.proofs.Common.{◌≡◌, ℕ, zero, suc, ◌*◌, leb, ltb, not, Bool, true, false, cond, ◌&&◌, IsTrue, List, [], ◌∷◌, length, drop, Option, Some, None, refl, sym, subst}
+use Rattle.std.proofs.Common.{◌≡◌, ℕ, zero, suc, not, Bool, true, false, cond, ◌&&◌, IsTrue, List, ◌∷◌, Option, Some, None, refl, sym, subst}
 use Rattle.asn1_model.specs.Value.{Value, members, bag, fields, chosen, Values, no_more, member, Parts, end, absent, present, each}
-use Rattle.asn1_model.specs.Schema.{Counts, Size, Presence, Schema, sequence_of, set_of, sequence, set, group, choice, Components, no_component, component, Alternatives, no_alternative, alternative}
+use Rattle.asn1_model.specs.Schema.{Presence, Schema, sequence_of, set_of, sequence, set, group, choice, Components, no_component, component, Alternatives, no_alternative, alternative}
 use Rattle.asn1_model.specs.Normal.{is_at_default, is_group_left_out, is_normal, are_normal, is_normal_alternative, are_all}
 use Rattle.asn1_model.specs.Tables.{is_required, marks}
-use Rattle.asn1_model.specs.Form.{Form, exactly, refused, both, varied, Reads, only_if, joined, written, stands_before, in_order, ascending, Bitmap, is_any_present, present_ones, covered_by}
+use Rattle.asn1_model.specs.Form.{Form, refused, varied, Reads, only_if, written, stands_before, in_order, ascending, present_ones}
 use Rattle.asn1_model.specs.Rules.{strict_per}
 use Rattle.asn1_model.specs.Per
 use Rattle.asn1_model.proofs.Forms.{map_parts}
-use Rattle.asn1_laws_values.proofs.Readable.{IsRead, read_refused, read_both, read_varied, read_within, read_if, read_given, read_kept, AllRead, read_joined, all_joined, all_in_order, none_present, covered_present}
+use Rattle.asn1_laws_values.proofs.Readable.{IsRead, read_refused, read_both, read_varied, read_within, read_given, read_kept, AllRead, all_in_order}
+use Rattle.asn1_laws_values.proofs.PerRead.{open_read, sequence_read, sized_read}
+use Rattle.asn1_laws_values.proofs.Lengths.{two_true, unless}
 
 abbrev PerForm : Type 0
 PerForm = Form Per.Freedom Per.Detail Bool
 
 four_true : (a b c d : Bool) → a ≡ false → b ≡ false → c ≡ true → d ≡ true → (not a && not b && c && d) ≡ true
 four_true a b c d h i j k = rw (h, i, j, k) refl
-
-two_true : (a b : Bool) → a ≡ true → b ≡ true → (a && b) ≡ true
-two_true a b h k = rw (h, k) refl
-
-unless : {X : Type 0} (b : Bool) (o : Option X) (x : X) → cond b None o ≡ Some x → o ≡ Some x
-unless true o x e = cc
-unless false o x e = e
-
-not_any : (t : Bool) → not t ≡ true → t ≡ false
-not_any true e = sym e
-not_any false e = refl
 
 module _ (free : Per.Freedom → Bool) (no_default : IsTrue (free Per.default_spelled_out) → ⊥) (no_group : IsTrue (free Per.empty_group) → ⊥) where
   abbrev Read : PerForm → Type 0
@@ -37,44 +28,6 @@ module _ (free : Per.Freedom → Bool) (no_default : IsTrue (free Per.default_sp
   values_normal : (f : Value → PerForm) (test : Value → Bool) (vs : Values) → ((v : Value) → Read (f v) → test v ≡ true) → ReadEach (each f vs) → are_all test vs ≡ true
   values_normal f test no_more h r = refl
   values_normal f test (member v vs) h r = two_true _ _ (h v r.0) (values_normal f test vs h r.1)
-
-  -- ---- counts
-  at_octet_read : (b : Bool) (x : PerForm) → Read (Per.at_octet b x) → Read x
-  unfolding Per.at_octet
-  at_octet_read false x r = r
-  at_octet_read true x r = (read_both free r).1
-
-  fragments_read : (al : Bool) (ms : List ℕ) (xs : List PerForm) → Read (Per.fragments al ms xs) → ReadEach xs
-  unfolding Per.fragments
-  fragments_read al [] xs r = read_joined free xs ((read_both free r).1)
-  fragments_read al (m ∷ ms) xs r =
-      let q = read_both free ((read_if free (leb 1 m && leb m 4 && leb (m * 16384) (length xs)) r).1) in
-      let p = read_both free q.1 in
-      all_joined free (m * 16384) xs (read_joined free _ p.0) (fragments_read al ms (drop (m * 16384) xs) p.1)
-
-  counted_read : (al : Bool) (xs : List PerForm) → Read (Per.counted al xs) → ReadEach xs
-  unfolding Per.counted
-  counted_read al xs r = let q = read_varied free r in fragments_read al q.0 xs q.2
-
-  cond_read : (b : Bool) (x y : PerForm) (P : Type 0) → (Read x → P) → (Read y → P) → Read (cond b x y) → P
-  cond_read true x y P h k r = h r
-  cond_read false x y P h k r = k r
-
-  sized_root_read : (al : Bool) (c : Counts) (high : Option ℕ) (pads : Counts → Bool) (xs : List PerForm) → Read (Per.sized_root al c high pads xs) → ReadEach xs
-  unfolding Per.sized_root
-  sized_root_read al c None pads xs r = counted_read al xs r
-  sized_root_read al c (Some high) pads xs r = cond_read (ltb high 65536) _ _ (ReadEach xs) (λ r. read_joined free xs (at_octet_read (al && pads c) (joined xs) ((read_both free r).1))) (counted_read al xs) r
-
-  marked_read : (e b : Bool) (x y : PerForm) (P : Type 0) → (Read x → P) → (Read y → P) → Read (Per.marked e b x y) → P
-  unfolding Per.marked
-  marked_read false b x y P h k r = h ((read_if free b r).1)
-  marked_read true b x y P h k r =
-      let q = read_varied free r in
-      cond_read q.0 (both (exactly (true ∷ [])) y) (only_if b (both (exactly (false ∷ [])) x)) P (λ r. k ((read_both free r).1)) (λ r. h ((read_both free ((read_if free b r).1)).1)) q.2
-
-  sized_read : (al : Bool) (z : Size) (held : Counts) (pads : Counts → Bool) (xs : List PerForm) → Read (Per.sized al z held pads xs) → ReadEach xs
-  unfolding Per.sized
-  sized_read al z held pads xs r = marked_read z.extensible _ _ _ (ReadEach xs) (sized_root_read al z.counts z.counts.high pads xs) (counted_read al xs) ((read_if free _ r).1)
 
   order_read : (xs : List PerForm) (f : List PerForm → PerForm) → ((us : List PerForm) → Read (f us) → ReadEach us) → Read (Per.in_any_order xs f) → ReadEach xs
   unfolding Per.in_any_order
@@ -93,38 +46,6 @@ module _ (free : Per.Freedom → Bool) (no_default : IsTrue (free Per.default_sp
   unfolding Per.spelled
   spelled_read o s v x r = spelled_tests (is_at_default o s v) (is_group_left_out s v) x r
 
-  open_read : (al : Bool) (x : PerForm) → Read (Per.open_type al x) → Read x
-  unfolding Per.open_type Per.complete
-  open_read al x r = (read_within free ((read_within free r).0)).0
-
-  -- ---- sequences
-  additions_read : (al : Bool) (ms : List Bool) (root : PerForm) (xs : List (Option PerForm)) → Read (Per.with_additions al ms root xs) → Read root × ReadEach (present_ones xs)
-  unfolding Per.with_additions Per.additions
-  additions_read al ms root xs r =
-      let q = read_both free r in
-      let p = read_both free q.1 in
-      (p.0, read_joined free _ ((read_both free p.1).1))
-
-  by_bits : (al : Bool) (ms : List Bool) (root : PerForm) (xs : List (Option PerForm)) (t : Bool) → Read (cond t (Per.with_additions al ms root xs) (varied Per.empty_bitmap false (λ e. only_if e (Per.with_additions al ms root xs)))) → Read (Per.with_additions al ms root xs)
-  by_bits al ms root xs true r = r
-  by_bits al ms root xs false r = let q = read_varied free r in (read_if free q.0 q.2).1
-
-  bitmapped_read : (al : Bool) (ms : List Bool) (root : PerForm) (xs : List (Option PerForm)) (o : Option Bitmap) → Read (Per.bitmapped al ms root xs o) → Read root × ReadEach (present_ones xs)
-  unfolding Per.bitmapped
-  bitmapped_read al ms root xs None r =
-      let q = read_if free (not (is_any_present xs)) r in
-      ((read_both free q.1).1, none_present free xs (not_any _ q.0))
-  bitmapped_read al ms root xs (Some b) r =
-      let q = read_given free (covered_by (λ os. Per.counted_octets al os) b xs) r in
-      let p = additions_read al ms root q.0 (by_bits al ms root q.0 (is_any_present q.0) q.2) in
-      (p.0, covered_present free (λ os. Per.counted_octets al os) b xs q.0 q.1 p.1)
-
-  sequence_read : (al : Bool) (e : Bool) (ms : List Bool) (root : PerForm) (xs : List (Option PerForm)) → Read (Per.sequence_form al e ms root xs) → Read root × ReadEach (present_ones xs)
-  unfolding Per.sequence_form
-  sequence_read al false ms root [] r = ((read_both free r).1, tt)
-  sequence_read al false ms root (x ∷ xs) r = absurd (read_refused free r)
-  sequence_read al true ms root xs r = let q = read_varied free r in bitmapped_read al ms root xs q.0 q.2
-
   absent_read : (b : Bool) (x : PerForm) → Read (cond b refused x) → Read x
   absent_read true x r = absurd (read_refused free r)
   absent_read false x r = r
@@ -133,24 +54,24 @@ module _ (free : Per.Freedom → Bool) (no_default : IsTrue (free Per.default_sp
     unfolding is_normal are_normal is_normal_alternative Per.form Per.component_forms Per.addition_forms Per.alternative_form
 
     pub read_normal : (al : Bool) (s : Schema) (v : Value) → Read (Per.form al s v) → is_normal s v ≡ true
-    read_normal al (sequence_of z c s) (members vs) r = values_normal (λ v. Per.form al s v) (λ v. is_normal s v) vs (λ v r. read_normal al s v r) (sized_read al z c Per.never _ r)
+    read_normal al (sequence_of z c s) (members vs) r = values_normal (λ v. Per.form al s v) (λ v. is_normal s v) vs (λ v r. read_normal al s v r) (sized_read free al z c Per.never _ r)
     read_normal al (sequence_of z c s) v r = refl
-    read_normal al (set_of z c s) (bag vs) r = values_normal (λ v. Per.form al s v) (λ v. is_normal s v) vs (λ v r. read_normal al s v r) (order_read _ (Per.sized al z c Per.never) (λ us r. sized_read al z c Per.never us r) r)
+    read_normal al (set_of z c s) (bag vs) r = values_normal (λ v. Per.form al s v) (λ v. is_normal s v) vs (λ v r. read_normal al s v r) (order_read _ (Per.sized al z c Per.never) (λ us r. sized_read free al z c Per.never us r) r)
     read_normal al (set_of z c s) v r = refl
     read_normal al (sequence cs e adds) (fields ps qs) r =
         let q = read_given free (Per.addition_forms al adds qs) r in
-        let p = sequence_read al e (marks cs ps) (Per.component_forms al cs ps) q.0 q.2 in
+        let p = sequence_read free al e (marks cs ps) (Per.component_forms al cs ps) q.0 q.2 in
         two_true _ _ (components_normal al cs ps p.0) (additions_normal al adds qs q.0 q.1 p.1)
     read_normal al (sequence cs e adds) v r = refl
     read_normal al (set cs e adds) (fields ps qs) r =
         let q = read_given free (Per.addition_forms al adds qs) r in
-        let p = sequence_read al e (marks cs ps) (Per.component_forms al cs ps) q.0 q.2 in
+        let p = sequence_read free al e (marks cs ps) (Per.component_forms al cs ps) q.0 q.2 in
         two_true _ _ (components_normal al cs ps p.0) (additions_normal al adds qs q.0 q.1 p.1)
     read_normal al (set cs e adds) v r = refl
     read_normal al (group cs) (fields ps end) r = components_normal al cs ps ((read_both free r).1)
     read_normal al (group cs) v r = absurd (read_refused free r)
     read_normal al (choice roots e adds) (chosen false i v) r = alternative_normal al roots i v ((read_both free ((read_both free r).1)).1)
-    read_normal al (choice roots true adds) (chosen true i v) r = alternative_normal al adds i v (open_read al _ ((read_both free ((read_both free r).1)).1))
+    read_normal al (choice roots true adds) (chosen true i v) r = alternative_normal al adds i v (open_read free al _ ((read_both free ((read_both free r).1)).1))
     read_normal al (choice roots false adds) (chosen true i v) r = absurd (read_refused free r)
     read_normal al (choice roots e adds) v r = refl
     read_normal al s v r = refl
@@ -168,13 +89,13 @@ module _ (free : Per.Freedom → Bool) (no_default : IsTrue (free Per.default_sp
     additions_normal al no_component ps xs e r = refl
     additions_normal al (component t o s cs) end xs e r = refl
     additions_normal al (component t o s cs) (absent ps) xs e r =
-        let q = map_parts (Per.addition_forms al cs ps) (λ (as_ : List (Option PerForm)). None ∷ as_) xs (unless (is_required o) _ _ e) in
+        let q = map_parts (Per.addition_forms al cs ps) (λ (as_ : List (Option PerForm)). None ∷ as_) xs ((unless (is_required o) _ _ e).1) in
         additions_normal al cs ps q.0 q.1 (subst (λ l. ReadEach (present_ones l)) (sym q.2) r)
     additions_normal al (component t o s cs) (present v ps) xs e r =
         let q = map_parts (Per.addition_forms al cs ps) (λ (as_ : List (Option PerForm)). Some (Per.spelled o s v (Per.open_type al (Per.form al s v))) ∷ as_) xs e in
         let n : Read (Per.spelled o s v (Per.open_type al (Per.form al s v))) × ReadEach (present_ones q.0) = subst (λ l. ReadEach (present_ones l)) (sym q.2) r in
         let p = spelled_read o s v (Per.open_type al (Per.form al s v)) n.0 in
-        four_true _ _ _ _ p.0 p.1 (read_normal al s v (open_read al (Per.form al s v) p.2)) (additions_normal al cs ps q.0 q.1 n.1)
+        four_true _ _ _ _ p.0 p.1 (read_normal al s v (open_read free al (Per.form al s v) p.2)) (additions_normal al cs ps q.0 q.1 n.1)
 
     alternative_normal : (al : Bool) (others : Alternatives) (i : ℕ) (v : Value) → Read (Per.alternative_form al others i v) → is_normal_alternative others i v ≡ true
     alternative_normal al (alternative t s others) zero v r = read_normal al s v r

@@ -1,5 +1,5 @@
 -- What a reader of PER takes is a value of the type.
-use Rattle.std.proofs.Common.{◌≡◌, ℕ, zero, suc, ◌*◌, leb, ltb, not, Bool, true, false, cond, ◌&&◌, ◌||◌, List, [], ◌∷◌, length, drop, Option, Some, None, refl, sym, ◌∙◌, subst}
+use Rattle.std.proofs.Common.{◌≡◌, ℕ, zero, suc, not, Bool, true, false, cond, ◌&&◌, ◌||◌, List, ◌∷◌, length, Option, Some, None, refl, sym, ◌∙◌, subst}
 use Rattle.std.proofs.lemmas.Bool.{and_parts}
 use Rattle.std.proofs.lemmas.List.{length-map}
 use Rattle.std.specs.Prelude.{ℤ}
@@ -9,13 +9,14 @@ use Rattle.asn1_model.specs.Normal.{is_at_default, is_group_left_out, are_all}
 use Rattle.asn1_model.specs.Numbers.{is_within, is_count_within, fits_128}
 use Rattle.asn1_model.specs.Strings.{each_is, is_octet, may_hold, is_of_octets, is_identifier, permitted}
 use Rattle.asn1_model.specs.Tables.{is_required, marks, item_place, is_bounded}
-use Rattle.asn1_model.specs.Form.{Form, exactly, refused, both, varied, Reads, only_if, joined, written, stands_before, in_order, ascending, Bitmap, is_present, is_any_present, present_ones, covered_by}
+use Rattle.asn1_model.specs.Form.{Form, refused, varied, Reads, only_if, written, stands_before, in_order, ascending, is_present, present_ones}
 use Rattle.asn1_model.specs.Per
 use Rattle.asn1_model.specs.Oer.{admits}
 use Rattle.asn1_model.proofs.Forms.{map_parts}
-use Rattle.asn1_laws_values.proofs.Readable.{IsRead, read_refused, read_both, read_varied, read_within, read_if, read_given, AllRead, read_joined, all_joined, all_in_order, none_present, covered_present}
+use Rattle.asn1_laws_values.proofs.Readable.{IsRead, read_refused, read_both, read_varied, read_within, read_if, read_given, AllRead, all_in_order}
 use Rattle.asn1_model.specs.Typed.{is_of, are_of, is_of_alternative}
-use Rattle.asn1_laws_values.proofs.Lengths.{order_length, each_length, two_true, unless, not_any}
+use Rattle.asn1_laws_values.proofs.Lengths.{order_length, each_length, two_true, unless}
+use Rattle.asn1_laws_values.proofs.PerRead.{open_read, sequence_read, sized_read}
 
 abbrev PerForm : Type 0
 PerForm = Form Per.Freedom Per.Detail Bool
@@ -30,44 +31,6 @@ module _ (free : Per.Freedom → Bool) where
   values_of : (f : Value → PerForm) (test : Value → Bool) (vs : Values) → ((v : Value) → Read (f v) → test v ≡ true) → ReadEach (each f vs) → are_all test vs ≡ true
   values_of f test no_more h r = refl
   values_of f test (member v vs) h r = two_true _ _ (h v r.0) (values_of f test vs h r.1)
-
-  -- ---- counts
-  at_octet_read : (b : Bool) (x : PerForm) → Read (Per.at_octet b x) → Read x
-  unfolding Per.at_octet
-  at_octet_read false x r = r
-  at_octet_read true x r = (read_both free r).1
-
-  fragments_read : (al : Bool) (ms : List ℕ) (xs : List PerForm) → Read (Per.fragments al ms xs) → ReadEach xs
-  unfolding Per.fragments
-  fragments_read al [] xs r = read_joined free xs ((read_both free r).1)
-  fragments_read al (m ∷ ms) xs r =
-      let q = read_both free ((read_if free (leb 1 m && leb m 4 && leb (m * 16384) (length xs)) r).1) in
-      let p = read_both free q.1 in
-      all_joined free (m * 16384) xs (read_joined free _ p.0) (fragments_read al ms (drop (m * 16384) xs) p.1)
-
-  counted_read : (al : Bool) (xs : List PerForm) → Read (Per.counted al xs) → ReadEach xs
-  unfolding Per.counted
-  counted_read al xs r = let q = read_varied free r in fragments_read al q.0 xs q.2
-
-  cond_read : (b : Bool) (x y : PerForm) (P : Type 0) → (Read x → P) → (Read y → P) → Read (cond b x y) → P
-  cond_read true x y P h k r = h r
-  cond_read false x y P h k r = k r
-
-  sized_root_read : (al : Bool) (c : Counts) (high : Option ℕ) (pads : Counts → Bool) (xs : List PerForm) → Read (Per.sized_root al c high pads xs) → ReadEach xs
-  unfolding Per.sized_root
-  sized_root_read al c None pads xs r = counted_read al xs r
-  sized_root_read al c (Some high) pads xs r = cond_read (ltb high 65536) _ _ (ReadEach xs) (λ r. read_joined free xs (at_octet_read (al && pads c) (joined xs) ((read_both free r).1))) (counted_read al xs) r
-
-  marked_read : (e b : Bool) (x y : PerForm) (P : Type 0) → (Read x → P) → (Read y → P) → Read (Per.marked e b x y) → P
-  unfolding Per.marked
-  marked_read false b x y P h k r = h ((read_if free b r).1)
-  marked_read true b x y P h k r =
-      let q = read_varied free r in
-      cond_read q.0 (both (exactly (true ∷ [])) y) (only_if b (both (exactly (false ∷ [])) x)) P (λ r. k ((read_both free r).1)) (λ r. h ((read_both free ((read_if free b r).1)).1)) q.2
-
-  sized_read : (al : Bool) (z : Size) (held : Counts) (pads : Counts → Bool) (xs : List PerForm) → Read (Per.sized al z held pads xs) → ReadEach xs
-  unfolding Per.sized
-  sized_read al z held pads xs r = marked_read z.extensible _ _ _ (ReadEach xs) (sized_root_read al z.counts z.counts.high pads xs) (counted_read al xs) ((read_if free _ r).1)
 
   -- what is marked is in the root, or there is a mark
   marked_in : (e b : Bool) (x y : PerForm) → Read (Per.marked e b x y) → (e || b) ≡ true
@@ -101,38 +64,6 @@ module _ (free : Per.Freedom → Bool) where
   spelled_read : (o : Presence) (s : Schema) (v : Value) (x : PerForm) → Read (Per.spelled o s v x) → Read x
   unfolding Per.spelled
   spelled_read o s v x r = spelled_tests (is_at_default o s v) (is_group_left_out s v) x r
-
-  open_read : (al : Bool) (x : PerForm) → Read (Per.open_type al x) → Read x
-  unfolding Per.open_type Per.complete
-  open_read al x r = (read_within free ((read_within free r).0)).0
-
-  -- ---- sequences
-  additions_read : (al : Bool) (ms : List Bool) (root : PerForm) (xs : List (Option PerForm)) → Read (Per.with_additions al ms root xs) → Read root × ReadEach (present_ones xs)
-  unfolding Per.with_additions Per.additions
-  additions_read al ms root xs r =
-      let q = read_both free r in
-      let p = read_both free q.1 in
-      (p.0, read_joined free _ ((read_both free p.1).1))
-
-  by_bits : (al : Bool) (ms : List Bool) (root : PerForm) (xs : List (Option PerForm)) (t : Bool) → Read (cond t (Per.with_additions al ms root xs) (varied Per.empty_bitmap false (λ e. only_if e (Per.with_additions al ms root xs)))) → Read (Per.with_additions al ms root xs)
-  by_bits al ms root xs true r = r
-  by_bits al ms root xs false r = let q = read_varied free r in (read_if free q.0 q.2).1
-
-  bitmapped_read : (al : Bool) (ms : List Bool) (root : PerForm) (xs : List (Option PerForm)) (o : Option Bitmap) → Read (Per.bitmapped al ms root xs o) → Read root × ReadEach (present_ones xs)
-  unfolding Per.bitmapped
-  bitmapped_read al ms root xs None r =
-      let q = read_if free (not (is_any_present xs)) r in
-      ((read_both free q.1).1, none_present free xs (not_any _ q.0))
-  bitmapped_read al ms root xs (Some b) r =
-      let q = read_given free (covered_by (λ os. Per.counted_octets al os) b xs) r in
-      let p = additions_read al ms root q.0 (by_bits al ms root q.0 (is_any_present q.0) q.2) in
-      (p.0, covered_present free (λ os. Per.counted_octets al os) b xs q.0 q.1 p.1)
-
-  sequence_read : (al : Bool) (e : Bool) (ms : List Bool) (root : PerForm) (xs : List (Option PerForm)) → Read (Per.sequence_form al e ms root xs) → Read root × ReadEach (present_ones xs)
-  unfolding Per.sequence_form
-  sequence_read al false ms root [] r = ((read_both free r).1, tt)
-  sequence_read al false ms root (x ∷ xs) r = absurd (read_refused free r)
-  sequence_read al true ms root xs r = let q = read_varied free r in bitmapped_read al ms root xs q.0 q.2
 
   absent_read : (b : Bool) (x : PerForm) → Read (cond b refused x) → (not b ≡ true) × Read x
   absent_read true x r = absurd (read_refused free r)
@@ -192,22 +123,22 @@ module _ (free : Per.Freedom → Bool) where
     read_of al object_identifier (arcs ns) r = (read_if free (is_identifier ns) r).0
     read_of al (sequence_of z held s) (members vs) r =
         let n = subst (λ n. is_count_within held n ≡ true) (each_length (λ v. Per.form al s v) vs) (sized_held al z held Per.never _ r) in
-        two_true _ _ n (values_of (λ v. Per.form al s v) (λ v. is_of s v) vs (λ v r. read_of al s v r) (sized_read al z held Per.never _ r))
+        two_true _ _ n (values_of (λ v. Per.form al s v) (λ v. is_of s v) vs (λ v r. read_of al s v r) (sized_read free al z held Per.never _ r))
     read_of al (set_of z held s) (bag vs) r =
         let q = order_read (each (λ v. Per.form al s v) vs) (Per.sized al z held Per.never) r in
         let n = subst (λ n. is_count_within held n ≡ true) (q.1 ∙ each_length (λ v. Per.form al s v) vs) (sized_held al z held Per.never q.0 q.2) in
-        two_true _ _ n (values_of (λ v. Per.form al s v) (λ v. is_of s v) vs (λ v r. read_of al s v r) (q.3 (sized_read al z held Per.never q.0 q.2)))
+        two_true _ _ n (values_of (λ v. Per.form al s v) (λ v. is_of s v) vs (λ v r. read_of al s v r) (q.3 (sized_read free al z held Per.never q.0 q.2)))
     read_of al (sequence cs e adds) (fields ps qs) r =
         let q = read_given free (Per.addition_forms al adds qs) r in
-        let p = sequence_read al e (marks cs ps) (Per.component_forms al cs ps) q.0 q.2 in
+        let p = sequence_read free al e (marks cs ps) (Per.component_forms al cs ps) q.0 q.2 in
         two_true _ _ (components_of al cs ps p.0) (additions_of al adds qs q.0 q.1 p.1)
     read_of al (set cs e adds) (fields ps qs) r =
         let q = read_given free (Per.addition_forms al adds qs) r in
-        let p = sequence_read al e (marks cs ps) (Per.component_forms al cs ps) q.0 q.2 in
+        let p = sequence_read free al e (marks cs ps) (Per.component_forms al cs ps) q.0 q.2 in
         two_true _ _ (components_of al cs ps p.0) (additions_of al adds qs q.0 q.1 p.1)
     read_of al (group cs) (fields ps end) r = components_of al cs ps ((read_both free r).1)
     read_of al (choice roots e adds) (chosen false i v) r = alternative_of al roots i v ((read_both free ((read_both free r).1)).1)
-    read_of al (choice roots true adds) (chosen true i v) r = alternative_of al adds i v (open_read al _ ((read_both free ((read_both free r).1)).1))
+    read_of al (choice roots true adds) (chosen true i v) r = alternative_of al adds i v (open_read free al _ ((read_both free ((read_both free r).1)).1))
     read_of al s v r = absurd (read_refused free r)
 
     components_of : (al : Bool) (cs : Components) (ps : Parts) → Read (Per.component_forms al cs ps) → are_of cs ps ≡ true
@@ -229,7 +160,7 @@ module _ (free : Per.Freedom → Bool) where
     additions_of al (component t o s cs) (present v ps) xs e r =
         let q = map_parts (Per.addition_forms al cs ps) (λ (as_ : List (Option PerForm)). Some (Per.spelled o s v (Per.open_type al (Per.form al s v))) ∷ as_) xs e in
         let n : Read (Per.spelled o s v (Per.open_type al (Per.form al s v))) × ReadEach (present_ones q.0) = subst (λ l. ReadEach (present_ones l)) (sym q.2) r in
-        two_true _ _ (read_of al s v (open_read al (Per.form al s v) (spelled_read o s v (Per.open_type al (Per.form al s v)) n.0))) (additions_of al cs ps q.0 q.1 n.1)
+        two_true _ _ (read_of al s v (open_read free al (Per.form al s v) (spelled_read o s v (Per.open_type al (Per.form al s v)) n.0))) (additions_of al cs ps q.0 q.1 n.1)
     additions_of al cs ps xs e r = cc
 
     alternative_of : (al : Bool) (others : Alternatives) (i : ℕ) (v : Value) → Read (Per.alternative_form al others i v) → is_of_alternative others i v ≡ true

@@ -18,7 +18,7 @@ to_zero : (d : ℤ) → elim d as (λ _. Bool) [ pos n ↦ true | negsuc n ↦ f
 to_zero (pos n) h = cc
 to_zero (negsuc n) h = omega (arith, ints)
 
-told_at_most : (a b : ℤ) → is_at_most a b ≡ true → a ≤ℤ b
+pub told_at_most : (a b : ℤ) → is_at_most a b ≡ true → a ≤ℤ b
 told_at_most a b h = let d = from_zero (b -ℤ a) h in omega (arith, ints, d)
 
 told_above : (a b : ℤ) → is_at_most a b ≡ false → b <ℤ a
@@ -40,11 +40,11 @@ count_order = record {
 
 -- ---- what is admitted, by the ends
 
-from_is : (low : Option ℤ) (v : ℤ) → is_from low v ≡ is_above is_at_most low v
+pub from_is : (low : Option ℤ) (v : ℤ) → is_from low v ≡ is_above is_at_most low v
 from_is None v = refl
 from_is (Some a) v = refl
 
-to_is : (high : Option ℤ) (v : ℤ) → is_to high v ≡ is_below is_at_most high v
+pub to_is : (high : Option ℤ) (v : ℤ) → is_to high v ≡ is_below is_at_most high v
 to_is None v = refl
 to_is (Some a) v = refl
 
@@ -65,7 +65,7 @@ count_ends : (b : Bounded ℕ) (n : ℕ) → admits_count b n ≡ (is_above leb 
 count_ends b n = ap (λ t. t && is_count_to (upper b) n) (count_from_is (lower b) n) ∙ ap (λ t. is_above leb (lower b) n && t) (count_to_is (upper b) n)
 
 -- two truth values by two equations
-both_by : {p p' q q' : Bool} → p ≡ p' → q ≡ q' → (p && q) ≡ (p' && q')
+pub both_by : {p p' q q' : Bool} → p ≡ p' → q ≡ q' → (p && q) ≡ (p' && q')
 both_by {p} {p'} {q} {q'} e f = ap (λ t. t && q) e ∙ ap (λ t. p' && t) f
 
 -- the meet of two bounds of numbers admits what both do

@@ -3,3 +3,4 @@ pub mod Orders
 pub mod Meets
 pub mod Common
 pub mod WidthLaws
+pub mod Held

@@ -30,7 +30,7 @@ both_true true q e = (refl, e)
 both_true false q e = differ e
 
 -- the middle two of four change places
-regroup : (a b c d : Bool) → ((a && b) && (c && d)) ≡ ((a && c) && (b && d))
+pub regroup : (a b c d : Bool) → ((a && b) && (c && d)) ≡ ((a && c) && (b && d))
 regroup true true c d = refl
 regroup true false true d = refl
 regroup true false false d = refl

@@ -1,9 +1,10 @@
 -- What constraints mean for a type, and the types of the model under some.
-use Rattle.std.specs.Prelude.{ℕ, ◌-◌, ◌^◌, ℤ, pos, negsuc, Bool, true, false, cond, Option, Some, None, is_some}
+use Rattle.std.specs.Prelude.{ℕ, ◌-◌, ◌^◌, ℤ, Bool, true, false, cond, ◌&&◌, ◌||◌, Option, Some, None, is_some}
 use Rattle.asn1_model.specs.Schema.{Range, Bounds, Counts, Size as SizeTerm, Alphabet, StringKind, Schema}
 use Rattle.asn1_model.specs.Schema.{integer, bit_string, octet_string, character_string, sequence_of, set_of}
-use Rattle.asn1_model.specs.Numbers.{is_at_most}
+use Rattle.asn1_model.specs.Numbers.{is_at_most, is_within}
 use Rattle.asn1_model.specs.Oer.{is_fixed}
+use Rattle.asn1_values_natives.specs.Ranges.{whole_range}
 use Rattle.asn1_schema_constraints.specs.Bounds.{later, earlier, range_of, counts_of}
 use Rattle.asn1_schema_constraints.specs.Sets.{has_additions}
 use Rattle.asn1_schema_constraints.specs.declared.parts.Value.{Value}
@@ -26,17 +27,27 @@ abbrev pub bounds_of : Option (Extensible Value) → Bounds
 bounds_of None = record { range = record { low = None; high = None }; extensible = false }
 bounds_of (Some c) = record { range = range_of c.constraint.value; extensible = has_additions c }
 
+-- The numbers of 128 bits of two's complement.
+abbrev pub wide_range : Range
+wide_range = whole_range (2 ^ 127 - 1)
+
 -- The numbers that a program's type holds: under a value constraint those of 128 bits of two's complement among them
 -- (the project's choice).
 abbrev pub held_where : Bool → Range → Range
 held_where false held = held
 held_where true held = record {
-  low = later is_at_most held.low (Some (negsuc (2 ^ 127 - 1)));
-  high = earlier is_at_most held.high (Some (pos (2 ^ 127 - 1)));
+  low = later is_at_most held.low wide_range.low;
+  high = earlier is_at_most held.high wide_range.high;
 }
 
 abbrev pub held_of : Option (Extensible Value) → Range → Range
 held_of c held = held_where (is_some c) held
+
+-- Whether a value constraint, where there is one, admits a number: one of 128 bits, within bounds that have no mark
+-- (X.680 51.4 and 52).
+abbrev pub admits_whole : Option (Extensible Value) → ℤ → Bool
+admits_whole None v = true
+admits_whole (Some c) v = is_within wide_range v && (has_additions c || is_within (range_of c.constraint.value) v)
 
 -- The sizes of a size constraint, where there is one, and whether a mark follows them (X.680 51.5 and 52).
 abbrev pub sizes_of : Option (Extensible Size) → SizeTerm

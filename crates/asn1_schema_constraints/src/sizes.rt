@@ -1,6 +1,6 @@
 //! The sizes that constraints leave to a string, a list or a bag (X.680 51.5), as its encoders and decoders need them.
 ghost use Rattle.std.specs.Prelude.{◌≡◌};
-ghost use Rattle.asn1_model.specs.Oer.{admits};
+ghost use Rattle.asn1_model.specs.Oer.{admits, is_fixed};
 ghost use Rattle.asn1_schema_constraints.specs.Bounds.{counts_of};
 ghost use Rattle.asn1_schema_constraints.specs.Terms.{sizes_of, size_of, one_size};
 
@@ -45,6 +45,14 @@ impl Sizes {
             Some(high) if !self.is_extensible && *high == self.root.minimum() => Some(*high),
             _ => None,
         }
+    }
+
+    /// Whether the root has one size alone and no extension mark follows.
+    #[inline(always)]
+    pub fn is_fixed(&self) -> bool
+        ensures { result ≡ is_fixed (size_of self.now) }
+    {
+        self.fixed().is_some()
     }
 
     /// Whether a type of the program that holds these numbers holds so many, and the root has so many, or an extension

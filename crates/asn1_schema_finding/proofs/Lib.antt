@@ -1,2 +1,4 @@
 pub mod Fitting
 pub mod Marks
+pub mod Alike
+pub mod Bitmaps

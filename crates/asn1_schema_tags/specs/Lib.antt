@@ -3,3 +3,4 @@ pub mod Trees
 pub mod Plain
 pub mod Same
 pub mod Texts
+pub mod Places

@@ -7,12 +7,12 @@ use Rattle.asn1_schema_tags.specs.Plain.{Plain, own, one_of, Plains, no_more, fu
 use Rattle.asn1_schema_tags.specs.Plain.{same_tree}
 
 -- What tells true from false.
-truth : Bool → Type 0
+pub truth : Bool → Type 0
 truth true = Unit {0}
 truth false = ⊥
 
 -- False is not true.
-differ : {A : Type 0} → false ≡ true → A
+pub differ : {A : Type 0} → false ≡ true → A
 unfolding truth
 differ e = absurd (subst truth (sym e) tt)
 
@@ -22,7 +22,7 @@ both_true true q e = (refl, e)
 both_true false q e = differ e
 
 -- Tags that are the same are one tag.
-tag_is : (t u : ModelTag) → tag_same t u ≡ true → t ≡ u
+pub tag_is : (t u : ModelTag) → tag_same t u ≡ true → t ≡ u
 tag_is t u e =
     let both = both_true (t.class == u.class) (t.number == u.number) e in
     ap (λ (k : ℕ). let r : ModelTag = record { class = k; number = t.number } in r) (eqb-true t.class u.class both.0)

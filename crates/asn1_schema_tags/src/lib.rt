@@ -2,11 +2,15 @@
 #![tactic(auto)]
 
 pub mod alternatives;
+pub mod finding;
 pub mod identifiers;
+pub mod probes;
 pub mod tags;
 pub mod trees;
 
 pub use alternatives::Variants;
+pub use finding::{find_place, is_place_table};
 pub use identifiers::Identifier;
+pub use probes::{TagPlace, TagProbe};
 pub use tags::{Class, Tag};
 pub use trees::TagTree;

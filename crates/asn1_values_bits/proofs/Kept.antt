@@ -1,12 +1,12 @@
 -- Bits kept in octets, and further bits put behind them.
 use Rattle.std.proofs.Common.{◌≡◌, ℕ, ◌+◌, ◌-◌, ◌*◌, ◌/◌, ◌%◌, ◌^◌, ◌<◌, ◌≤◌, Bool, false, List, [], ◌∷◌, ◌++◌, length, replicate, take, drop, get_or, set, ap, sym, ◌∙◌, append_assoc, length-append, arith, bit_or, bit_and}
-use Rattle.std.proofs.lemmas.Nat.{shr_split, or_shifted, pow-add, shl-shr, shl_whole, shl_below, shr_below, one_shl, and_mask}
+use Rattle.std.proofs.lemmas.Nat.{shr_split, or_shifted, pow-add, shl-shr, shl_whole, shl_below, shr_below, one_shl, and_mask, mod_below, pow_pos}
 use Rattle.std.proofs.Math.Nat.{mul_assoc}
 use Rattle.std.proofs.lemmas.List.{take_at, drop_at, append-nil, length-replicate, set_at, take_more, take_all, take-append-drop, take-take, take-append-le, length-take-le, length-take}
 use Rattle.asn1_model.specs.Numbers.{binary, octet_bits, missing}
 use Rattle.asn1_values_bits.specs.Octets.{filled_up}
 use Rattle.asn1_values_bits.specs.Kept.{IsKept}
-use Rattle.asn1_values_bits.proofs.Binary.{length-binary, binary_split, binary_cut, binary_low, binary_shifted, binary_join, low_zeros, same_fronts, same_backs, length-octet_bits, octet_bits_push, octet_bits-take}
+use Rattle.asn1_values_bits.proofs.Binary.{length-binary, binary_split, binary_cut, binary_low, binary_below, binary_shifted, binary_join, low_zeros, same_fronts, same_backs, length-octet_bits, octet_bits_push, octet_bits-take}
 
 -- what the octets of a kept list are
 pub kept_bits : (len : ℕ) (os : List ℕ) (v : List Bool) → IsKept len os → take len (octet_bits os) ≡ v → octet_bits os ≡ v ++ replicate (missing len) false
@@ -119,20 +119,29 @@ first_of before now more all n left width h e p q l =
     sym (take-append-le n now more long) ∙ ap (take n) e ∙ take_at before all n (sym h)
 
 -- a number's next digits, masked off
-pub next_digits : (bs : List Bool) (rest few v : ℕ) → few ≤ 8 → bs ++ binary few (bit_and (v / 2 ^ rest) (1 * 2 ^ few % 2 ^ 128 - 1)) ++ binary rest v ≡ bs ++ binary (few + rest) v
-next_digits bs rest few v h =
-    ap (λ x. bs ++ binary few (bit_and (v / 2 ^ rest) (x - 1)) ++ binary rest v) (one_shl few 128 (omega arith))
+pub next_digits : (limit : ℕ) (bs : List Bool) (rest few v : ℕ) → few < limit → bs ++ binary few (bit_and (v / 2 ^ rest) (1 * 2 ^ few % 2 ^ limit - 1)) ++ binary rest v ≡ bs ++ binary (few + rest) v
+next_digits limit bs rest few v h =
+    ap (λ x. bs ++ binary few (bit_and (v / 2 ^ rest) (x - 1)) ++ binary rest v) (one_shl few limit h)
     ∙ ap (λ x. bs ++ binary few x ++ binary rest v) (and_mask (v / 2 ^ rest) few)
     ∙ ap (λ l. bs ++ l ++ binary rest v) (binary_low few (v / 2 ^ rest))
     ∙ append_assoc bs (binary few (v / 2 ^ rest)) (binary rest v)
     ∙ ap (λ l. bs ++ l) (sym (binary_split few rest v))
 
+pub next_small : (limit rest few v : ℕ) → few < limit → bit_and (v / 2 ^ rest) (1 * 2 ^ few % 2 ^ limit - 1) < 2 ^ few
+next_small limit rest few v h = rw (one_shl few limit h, and_mask (v / 2 ^ rest) few) (mod_below (v / 2 ^ rest) (2 ^ few) (pow_pos few))
+
 -- a number's low digits, masked off
-pub masked : (old : List Bool) (w v : ℕ) → w ≤ 8 → old ++ binary w (bit_and v (1 * 2 ^ w % 2 ^ 128 - 1)) ≡ old ++ binary w v
+pub masked : (old : List Bool) (w v : ℕ) → w ≤ 8 → old ++ binary w (bit_and v (1 * 2 ^ w % 2 ^ 64 - 1)) ≡ old ++ binary w v
 masked old w v h =
-    ap (λ x. old ++ binary w (bit_and v (x - 1))) (one_shl w 128 (omega arith))
+    ap (λ x. old ++ binary w (bit_and v (x - 1))) (one_shl w 64 (omega arith))
     ∙ ap (λ x. old ++ binary w x) (and_mask v w)
     ∙ ap (λ l. old ++ l) (binary_low w v)
+
+-- the low digits of the low half of a number
+pub low_half : (old : List Bool) (w v : ℕ) → w ≤ 64 → old ++ binary w (v % 2 ^ 64) ≡ old ++ binary w v
+low_half old w v h =
+    let all : (64 - w) + w ≡ 64 = omega arith in
+    ap (λ l. old ++ l) (ap (λ k. binary w (v % 2 ^ k)) (sym all) ∙ binary_below w (64 - w) v)
 
 pub kept_filled : (len : ℕ) (os : List ℕ) (v : List Bool) → IsKept len os → take len (octet_bits os) ≡ v → octet_bits os ≡ filled_up v
 kept_filled len os v k e = kept_bits len os v k e ∙ ap (λ n. v ++ replicate (missing n) false) (sym (kept_length len os v k e))

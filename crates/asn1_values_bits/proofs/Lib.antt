@@ -14,3 +14,4 @@ pub mod Leading
 pub mod BitViewsWhole
 pub mod Window
 pub mod Shifting
+pub mod Shown

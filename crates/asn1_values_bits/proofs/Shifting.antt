@@ -1,25 +1,28 @@
 -- Octets that begin within other octets.
 use Rattle.std.proofs.Common.{◌≡◌, ℕ, ◌+◌, ◌-◌, ◌*◌, ◌/◌, ◌%◌, ◌^◌, ◌<◌, ◌≤◌, Bool, false, List, ◌++◌, length, replicate, take, drop, get_or, set, refl, ap, sym, ◌∙◌, arith, bit_or}
+use Rattle.std.specs.Int.{bytes_high_first}
 use Rattle.std.proofs.lemmas.Nat.{shr-shr}
-use Rattle.std.proofs.lemmas.List.{length-replicate, drop-drop, drop-take, take-take, take_more_set}
+use Rattle.std.proofs.lemmas.List.{length-replicate, drop_at, drop-drop, drop-take, take-take, take_more_set}
 use Rattle.asn1_model.specs.Numbers.{binary, octet_bits}
 use Rattle.asn1_values_bits.specs.Octets.{ored}
-use Rattle.asn1_values_bits.proofs.Binary.{length-binary, binary_split, binary_low, binary_shifted, binary_zero, octet_bits_push}
+use Rattle.asn1_values_bits.proofs.Binary.{length-binary, binary_split, binary_low, binary_shifted, binary_zero, octet_bits_push, octet_bits-append}
+use Rattle.asn1_values_bits.proofs.BitViewsWhole.{high_first}
 use Rattle.asn1_values_bits.proofs.Oring.{binary_or, ored-append, ored_zeros, zeros_ored}
 use Rattle.asn1_values_bits.proofs.Reading.{take_two, bits_within}
 use Rattle.asn1_values_bits.proofs.Views.{octets_at}
 
--- the low end of one octet and the high end of the next
-pub octet_shifted : (o a b : ℕ) → o ≤ 8 → b < 2 ^ 8 → binary 8 (bit_or (a * 2 ^ o % 2 ^ 8) (b / 2 ^ (8 - o))) ≡ binary (8 - o) a ++ binary o (b / 2 ^ (8 - o))
-octet_shifted o a b h small =
-    let past : ℕ = 8 - o in
-    let y : ℕ = b / 2 ^ past in
-    let all : past + o ≡ 8 = omega arith in
-    let left : binary 8 (a * 2 ^ o % 2 ^ 8) ≡ binary past a ++ replicate o false = binary_low 8 (a * 2 ^ o) ∙ ap (λ k. binary k (a * 2 ^ o)) (sym all) ∙ binary_shifted past o a in
+-- the low end of some octets and the high end of the next octet
+pub shifted_across : (w o a b : ℕ) → o ≤ w → o ≤ 8 → b < 2 ^ 8 → binary w (bit_or (a * 2 ^ o % 2 ^ w) (b / 2 ^ (8 - o))) ≡ binary (w - o) a ++ binary o (b / 2 ^ (8 - o))
+shifted_across w o a b n h small =
+    let past : ℕ = w - o in
+    let y : ℕ = b / 2 ^ (8 - o) in
+    let all : past + o ≡ w = omega arith in
+    let eight : (8 - o) + o ≡ 8 = omega arith in
+    let left : binary w (a * 2 ^ o % 2 ^ w) ≡ binary past a ++ replicate o false = binary_low w (a * 2 ^ o) ∙ ap (λ k. binary k (a * 2 ^ o)) (sym all) ∙ binary_shifted past o a in
     let nothing : b / 2 ^ 8 ≡ 0 = omega arith in
-    let none : y / 2 ^ o ≡ 0 = shr-shr b past o ∙ ap (λ k. b / 2 ^ k) all ∙ nothing in
-    let right : binary 8 y ≡ replicate past false ++ binary o y = ap (λ k. binary k y) (sym all) ∙ binary_split past o y ∙ ap (λ k. binary past k ++ binary o y) none ∙ ap (λ l. l ++ binary o y) (binary_zero past) in
-    binary_or 8 (a * 2 ^ o % 2 ^ 8) y ∙ ap (λ l. ored l (binary 8 y)) left ∙ ap (ored (binary past a ++ replicate o false)) right
+    let none : y / 2 ^ o ≡ 0 = shr-shr b (8 - o) o ∙ ap (λ k. b / 2 ^ k) eight ∙ nothing in
+    let right : binary w y ≡ replicate past false ++ binary o y = ap (λ k. binary k y) (sym all) ∙ binary_split past o y ∙ ap (λ k. binary past k ++ binary o y) none ∙ ap (λ l. l ++ binary o y) (binary_zero past) in
+    binary_or w (a * 2 ^ o % 2 ^ w) y ∙ ap (λ l. ored l (binary w y)) left ∙ ap (ored (binary past a ++ replicate o false)) right
     ∙ ored-append (binary past a) (replicate past false) (replicate o false) (binary o y) (length-binary past a ∙ sym (length-replicate past false))
     ∙ ap (λ l. l ++ ored (replicate o false) (binary o y)) (ored_zeros (binary past a) past (length-binary past a))
     ∙ ap (λ l. binary past a ++ l) (zeros_ored (binary o y) o (length-binary o y))
@@ -36,11 +39,39 @@ octet_across os i o a b h n p q small =
     let same : a / 2 ^ (8 - o - past) ≡ a = ap (λ k. a / 2 ^ k) whole ∙ one in
     let low : take o (drop ((i + 1) * 8) B) ≡ binary o (b / 2 ^ (8 - 0 - o)) = bits_within os ((i + 1) * 8) (i + 1) 0 o b (omega arith) n q (omega arith) in
     let further : drop past (drop (i * 8 + o) B) ≡ drop ((i + 1) * 8) B = drop-drop past (i * 8 + o) B ∙ ap (λ k. drop k B) (omega arith) in
-    octet_shifted o a b h small
+    shifted_across 8 o a b h h small
     ∙ ap (λ l. l ++ binary o (b / 2 ^ past)) (sym (high ∙ ap (binary past) same))
     ∙ ap (λ l. take past (drop (i * 8 + o) B) ++ l) (sym (ap (take o) further ∙ low))
     ∙ sym (take_two past o (drop (i * 8 + o) B))
     ∙ ap (λ k. take k (drop (i * 8 + o) B)) all
+
+-- .. and the 64 bits
+pub eight_across : (os : List ℕ) (i o e b : ℕ) → o ≤ 8 → i + 8 < length os → binary 64 e ≡ take 64 (drop (i * 8) (octet_bits os)) → b ≡ get_or os (i + 8) b → b < 2 ^ 8 → binary 64 (bit_or (e * 2 ^ o % 2 ^ 64) (b / 2 ^ (8 - o))) ≡ take 64 (drop (i * 8 + o) (octet_bits os))
+eight_across os i o e b h n p q small =
+    let B : List Bool = octet_bits os in
+    let past : ℕ = 64 - o in
+    let left : o + past ≡ 64 = omega arith in
+    let all : past + o ≡ 64 = omega arith in
+    let high : binary past e ≡ take past (drop (i * 8 + o) B) =
+    sym (drop_at (binary o (e / 2 ^ past)) (binary past e) o (length-binary o (e / 2 ^ past)))
+    ∙ ap (drop o) (sym (binary_split o past e) ∙ ap (λ k. binary k e) left ∙ p ∙ ap (λ k. take k (drop (i * 8) B)) (sym left))
+    ∙ drop-take o past (drop (i * 8) B) ∙ ap (take past) (drop-drop o (i * 8) B) in
+    let low : take o (drop ((i + 8) * 8) B) ≡ binary o (b / 2 ^ (8 - 0 - o)) = bits_within os ((i + 8) * 8) (i + 8) 0 o b (omega arith) n q (omega arith) in
+    let further : drop past (drop (i * 8 + o) B) ≡ drop ((i + 8) * 8) B = drop-drop past (i * 8 + o) B ∙ ap (λ k. drop k B) (omega arith) in
+    shifted_across 64 o e b (omega arith) h small
+    ∙ ap (λ l. l ++ binary o (b / 2 ^ (8 - o))) high
+    ∙ ap (λ l. take past (drop (i * 8 + o) B) ++ l) (sym (ap (take o) further ∙ low))
+    ∙ sym (take_two past o (drop (i * 8 + o) B))
+    ∙ ap (λ k. take k (drop (i * 8 + o) B)) all
+
+-- eight octets more are copied
+pub eight_more : (os ts now : List ℕ) (i o y : ℕ) → octet_bits (take i ts) ≡ take (i * 8) (drop o (octet_bits os)) → binary 64 y ≡ take 64 (drop (i * 8 + o) (octet_bits os)) → take (i + 8) now ≡ take i ts ++ bytes_high_first 8 y → octet_bits (take (i + 8) now) ≡ take ((i + 8) * 8) (drop o (octet_bits os))
+eight_more os ts now i o y e b t =
+    let B : List Bool = octet_bits os in
+    let next : drop (i * 8 + o) B ≡ drop (i * 8) (drop o B) = ap (λ k. drop k B) (omega arith) ∙ sym (drop-drop (i * 8) o B) in
+    ap octet_bits t ∙ octet_bits-append (take i ts) (bytes_high_first 8 y) ∙ ap (λ l. l ++ octet_bits (bytes_high_first 8 y)) e
+    ∙ ap (λ l. take (i * 8) (drop o B) ++ l) (high_first 8 y ∙ b ∙ ap (take 64) next)
+    ∙ sym (take_two (i * 8) 64 (drop o B)) ∙ ap (λ k. take k (drop o B)) (omega arith)
 
 -- one octet more is copied
 pub shifted_more : (os ts : List ℕ) (i o y : ℕ) → i < length ts → octet_bits (take i ts) ≡ take (i * 8) (drop o (octet_bits os)) → binary 8 y ≡ take 8 (drop (i * 8 + o) (octet_bits os)) → octet_bits (take (i + 1) (set ts i y)) ≡ take ((i + 1) * 8) (drop o (octet_bits os))

@@ -4,3 +4,4 @@ pub mod Appending
 pub mod Octets
 pub mod BitStr
 pub mod BitOrder
+pub mod BitWindow

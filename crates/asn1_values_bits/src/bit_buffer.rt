@@ -10,9 +10,6 @@ use std::alloc::{AllocError, Global};
 use std::default::MadeWith;
 use std::marker::Model;
 
-// How many octets are shifted at a time.
-const BLOCK: usize = 512;
-
 // One more than the largest number of 64 bits.
 const WORD: u128 = 0x1_0000_0000_0000_0000;
 
@@ -178,10 +175,46 @@ impl BitBuffer {
         ensures ok { OnOk result (self.new ≡ self.old ++ binary width value) }
         ensures err { OnErr result (self.new ≡ self.old) }
     {
+        if width <= 64 {
+            return self.push_word((value % WORD) as u64, width);
+        }
+        self.push_many(value, width)
+    }
+
+    // Adds the low `width` bits of a number, up to 64.
+    #[inline(always)]
+    fn push_word(&mut self, value: u64, width: u32) -> Result<(), AllocError>
+        requires { width ≤ 64 }
+        ensures ok { OnOk result (self.new ≡ self.old ++ binary width value) }
+        ensures err { OnErr result (self.new ≡ self.old) }
+    {
         if width <= 8 {
             return self.push_few((value & ((1 << width) - 1)) as u16, width);
         }
-        self.push_many(value, width)
+        self.push_across(value, width)
+    }
+
+    // Adds the low `width` bits of a number: those that fill the last octet, and the others in octets of their own.
+    fn push_across(&mut self, value: u64, width: u32) -> Result<(), AllocError>
+        requires some { 8 < width }
+        requires narrow { width ≤ 64 }
+        ensures ok { OnOk result (self.new ≡ self.old ++ binary width value) }
+        ensures err { OnErr result (self.new ≡ self.old) }
+    {
+        let Some(len) = self.len.checked_add(width as usize) else {
+            return Err(AllocError);
+        };
+        let free = free_bits(self.len);
+        let left = width - free;
+        let octets = (value << (64 - left)).to_be_bytes();
+        let count = (left as usize + 7) / 8;
+        let before = self.octets.len();
+        self.octets.extend_from_slice(&octets[..count])?;
+        if free > 0 {
+            self.octets[before - 1] |= ((value >> left) & ((1 << free) - 1)) as u8;
+        }
+        self.len = len;
+        Ok(())
     }
 
     // Adds the low `width` bits of a number: first those that fill the last octet.
@@ -232,24 +265,6 @@ impl BitBuffer {
         Ok(width - few)
     }
 
-    // Adds the low `width` bits of a number, up to 64, behind whole octets.
-    fn push_word(&mut self, value: u128, width: u32) -> Result<(), AllocError>
-        requires narrow { width ≤ 64 }
-        requires some { 0 < width }
-        requires whole { length self.old % 8 ≡ 0 }
-        ensures ok { OnOk result (self.new ≡ self.old ++ binary width value) }
-        ensures err { OnErr result (self.new ≡ self.old) }
-    {
-        let Some(len) = self.len.checked_add(width as usize) else {
-            return Err(AllocError);
-        };
-        let octets = (((value % WORD) as u64) << (64 - width)).to_be_bytes();
-        let count = (width as usize + 7) / 8;
-        self.octets.extend_from_slice(&octets[..count])?;
-        self.len = len;
-        Ok(())
-    }
-
     // Adds the low `width` bits of a number behind whole octets.
     fn push_whole(&mut self, value: u128, width: u32) -> Result<(), AllocError>
         requires narrow { width ≤ 128 }
@@ -258,9 +273,6 @@ impl BitBuffer {
         ensures ok { OnOk result (self.new ≡ self.old ++ binary width value) }
         ensures err { OnErr result (self.new ≡ self.old) }
     {
-        if width <= 64 {
-            return self.push_word(value, width);
-        }
         let Some(len) = self.len.checked_add(width as usize) else {
             return Err(AllocError);
         };
@@ -316,39 +328,55 @@ impl BitBuffer {
         let before = self.len();
         self.reserve_bytes(bits.len() / 8)?;
         let few = bits.len().min(free_bits(before) as usize);
-        self.push_bits(bits.first_number(few as u32), few as u32)?;
-        let extended = self.extend_whole(bits.split_at(few).1);
+        let (first, rest) = bits.split_at(few);
+        self.push_view(first)?;
+        let extended = self.extend_whole(rest);
         self.cut_if_refused(before, extended)
     }
 
-    // Adds the bits of a view behind whole octets, some octets at a time. Where memory is refused, some of them may
-    // be there.
+    // Adds the bits of a view behind whole octets. Where memory is refused, some of them may be there.
     fn extend_whole(&mut self, bits: BitStr<'_>) -> Result<(), AllocError>
         requires { 0 < length (bits_of bits) → length self.old % 8 ≡ 0 }
         ensures ok { OnOk result (self.new ≡ self.old ++ bits_of bits.entry) }
         ensures err { OnErr result (take (length self.old) self.new ≡ self.old) }
     {
-        let mut block = [0; BLOCK];
-        let mut rest = bits;
-        while rest.len() >= 8 {
-            let count = (rest.len() / 8).min(BLOCK);
-            self.push_block(rest, &mut block[..count])?;
-            rest = rest.split_at(count * 8).1;
+        if bits.len() < 8 {
+            self.push_view(bits)?;
+            return Ok(());
         }
-        let left = rest.len() as u32;
-        self.push_bits(rest.first_number(left), left)?;
+        let count = bits.len() / 8;
+        self.push_shifted(bits, count)?;
+        let (_, rest) = bits.split_at(count * 8);
+        self.push_view(rest)?;
         Ok(())
     }
 
-    // Adds the first bits of a view, as many as these octets have, behind whole octets.
-    fn push_block(&mut self, bits: BitStr<'_>, block: &mut [u8]) -> Result<(), AllocError>
-        requires whole { length self.old % 8 ≡ 0 }
-        requires within { length block.old * 8 ≤ length (bits_of bits) }
-        ensures ok { OnOk result (self.new ≡ self.old ++ take (length block.old * 8) (bits_of bits.entry)) }
+    // Adds the bits of a view, at most 64.
+    #[inline(always)]
+    fn push_view(&mut self, bits: BitStr<'_>) -> Result<(), AllocError>
+        requires { length (bits_of bits) ≤ 64 }
+        ensures ok { OnOk result (self.new ≡ self.old ++ bits_of bits.entry) }
         ensures err { OnErr result (self.new ≡ self.old) }
     {
-        bits.copy_to(block);
-        self.push_octets(block)?;
+        let width = bits.len() as u32;
+        self.push_word(bits.first_number(width) as u64, width)
+    }
+
+    // Adds the first octets of a view behind whole octets.
+    fn push_shifted(&mut self, bits: BitStr<'_>, count: usize) -> Result<(), AllocError>
+        requires whole { length self.old % 8 ≡ 0 }
+        requires within { count * 8 ≤ length (bits_of bits) }
+        ensures ok { OnOk result (self.new ≡ self.old ++ take (count * 8) (bits_of bits.entry)) }
+        ensures err { OnErr result (self.new ≡ self.old) }
+    {
+        let Some(len) = self.len.checked_add(count * 8) else {
+            return Err(AllocError);
+        };
+        let start = self.octets.len();
+        self.octets.resize(start + count, 0)?;
+        let octets = self.octets.as_mut_slice();
+        bits.copy_to(&mut octets[start..]);
+        self.len = len;
         Ok(())
     }
 
@@ -369,11 +397,8 @@ impl BitBuffer {
         ensures ok { OnOk result (self.new ≡ self.old ++ bits_of bits.entry) }
         ensures err { OnErr result (self.new ≡ self.old) }
     {
-        let before = self.len();
-        let (octets, rest) = bits.whole_octets();
-        self.extend_from_bytes(octets)?;
-        let extended = self.extend_shifted(rest);
-        self.cut_if_refused(before, extended)
+        self.extend_shifted(bits)?;
+        Ok(())
     }
 
     /// Adds the bits of another buffer.

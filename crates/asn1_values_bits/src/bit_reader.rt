@@ -7,23 +7,29 @@ ghost use Rattle.asn1_values_bits.specs.Octets.{filled_up};
 
 use crate::BitStr;
 use crate::bit_buffer::BitBuffer;
+use crate::bit_window::BitWindow;
 use std::alloc::{AllocError, Global};
 use std::borrow::CowSlice;
 use std::marker::Model;
 
-/// Bits that are still to be read, in octets that stand elsewhere.
+/// Bits that are still to be read, in octets that stand elsewhere. The first of them, up to 128, stand in a window as
+/// one number as well, from which they are answered.
 #[derive(Drop)]
 pub struct BitReader<'a> {
     rest: BitStr<'a>,
+    window: BitWindow,
 }
 
 impl<'a> Model for BitReader<'a> {
     ghost use Rattle.asn1_values_bits.specs.Unread.{Unread};
     ghost use Rattle.asn1_values_bits.specs.BitStr.{bits_of, offset_of};
+    ghost use Rattle.asn1_values_bits.specs.BitWindow.{IsWindowOf};
 
     ghost Value = { Unread };
 
     ghost view = { λ r. record { bits = bits_of r.rest; offset = offset_of r.rest } };
+
+    ghost invariant = { λ r. IsWindowOf (bits_of r.rest) r.window };
 }
 
 impl<'a> BitReader<'a> {
@@ -34,7 +40,8 @@ impl<'a> BitReader<'a> {
         ensures bits { result.bits ≡ bits_of bits.entry }
         ensures offset { result.offset ≡ offset_of bits.entry }
     {
-        BitReader { rest: bits }
+        let window = BitWindow::new(bits);
+        BitReader { rest: bits, window }
     }
 
     /// Reads all bits of the octets.
@@ -43,8 +50,7 @@ impl<'a> BitReader<'a> {
         ensures bits { result.bits ≡ octet_bits octets.now }
         ensures offset { result.offset ≡ 0 }
     {
-        let rest = BitStr::from_slice(octets);
-        BitReader { rest }
+        BitReader::new(BitStr::from_slice(octets))
     }
 
     /// The unread bits.
@@ -87,9 +93,26 @@ impl<'a> BitReader<'a> {
         if count > len {
             return Err(count - len);
         }
-        let (front, rest) = self.rest.split_at(count);
+        let (rest, _) = self.rest.split_at(count);
+        let window = self.window.front(count);
+        self.pass(count);
+        Ok(BitReader { rest, window })
+    }
+
+    // Takes the first bits off: off the window, or a new one is filled where it has no more.
+    #[inline(always)]
+    fn pass(&mut self, count: usize)
+        requires { count ≤ length self.old.bits }
+        ensures bits { self.new.bits ≡ drop count self.old.bits }
+        ensures offset { self.new.offset ≡ (self.old.offset + count) % 8 }
+    {
+        let (_, rest) = self.rest.split_at(count);
+        self.window = if count < self.window.width() as usize {
+            self.window.behind(count as u32)
+        } else {
+            BitWindow::new(rest)
+        };
         self.rest = rest;
-        Ok(BitReader { rest: front })
     }
 
     /// The first bit.
@@ -97,7 +120,7 @@ impl<'a> BitReader<'a> {
         requires { 0 < length self.now.bits }
         ensures { take 1 self.now.bits ≡ result ∷ [] }
     {
-        self.rest.first_number(1) == 1
+        self.window.first_bits(1) == 1
     }
 
     /// The number whose binary digits are the first bits, at most 64.
@@ -107,6 +130,9 @@ impl<'a> BitReader<'a> {
         ensures digits { binary width result ≡ take width self.now.bits }
         ensures fits { result < 2 ^ width }
     {
+        if width <= self.window.width() {
+            return self.window.first_bits(width);
+        }
         self.rest.first_number(width) as u64
     }
 
@@ -117,6 +143,9 @@ impl<'a> BitReader<'a> {
         ensures digits { binary width result ≡ take width self.now.bits }
         ensures fits { result < 2 ^ width }
     {
+        if width <= self.window.width() {
+            return self.window.first_u128(width);
+        }
         self.rest.first_number(width)
     }
 

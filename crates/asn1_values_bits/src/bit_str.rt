@@ -1,7 +1,7 @@
 //! A view of bits in octets.
 ghost use Rattle.std.specs.Prelude.{◌≡◌, ◌+◌, ◌*◌, ◌%◌, ◌^◌, ◌<◌, ◌≤◌, length, IsTrue, ◌↔◌, ◌++◌, IsSome, IfSome};
 
-use crate::bits::{read_wide, shift_octets};
+use crate::bits::{octets_from, read_wide, shift_octets};
 
 /// Some of the bits that stand in octets, from any bit on.
 #[derive(Clone, Copy)]
@@ -120,6 +120,24 @@ impl<'a> BitStr<'a> {
         ensures fits { result < 2 ^ count }
     {
         read_wide(self.octets, self.first, count)
+    }
+
+    // Some of the first bits, and how many: at most 128, up to the end of an octet. They are the highest binary digits
+    // of the number, which has 128.
+    #[inline(always)]
+    pub(crate) fn first_octets(&self) -> (u128, u32)
+        ensures narrow { result.1 ≤ 128 }
+        ensures within { result.1 ≤ length (bits_of self.now) }
+        ensures some { 0 < length (bits_of self.now) → 0 < result.1 }
+        ensures bits { take result.1 (binary 128 result.0) ≡ take result.1 (bits_of self.now) }
+    {
+        if self.len == 0 {
+            return (0, 0);
+        }
+        let (number, count) = octets_from(self.octets, self.first / 8);
+        let offset = (self.first % 8) as u32;
+        let width = self.len.min((count - offset) as usize) as u32;
+        (number << offset, width)
     }
 
     // The first eight bits as an octet, with zero bits behind them where there are fewer, and the bits behind them.

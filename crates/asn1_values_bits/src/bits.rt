@@ -20,6 +20,7 @@ pub fn read_bits(octets: &[u8], position: usize, count: u32) -> u64
 }
 
 // The number of eight octets, the first one highest.
+#[inline(always)]
 fn eight_octets(octets: &[u8], start: usize) -> u64
     requires { start + 8 ≤ length octets.now }
     ensures { binary 64 result ≡ take 64 (drop (start * 8) (octet_bits octets.now)) }
@@ -34,6 +35,50 @@ fn eight_octets(octets: &[u8], start: usize) -> u64
         octets[start + 6],
         octets[start + 7],
     ])
+}
+
+// The number of sixteen octets, the first one highest.
+#[inline(always)]
+fn sixteen_octets(octets: &[u8], start: usize) -> u128
+    requires { start + 16 ≤ length octets.now }
+    ensures { binary 128 result ≡ take 128 (drop (start * 8) (octet_bits octets.now)) }
+{
+    let high = eight_octets(octets, start);
+    let low = eight_octets(octets, start + 8);
+    (high as u128) << 64 | low as u128
+}
+
+// The number of at most eight octets, the first one highest.
+fn few_octets(octets: &[u8]) -> u64
+    requires { length octets.now ≤ 8 }
+    ensures { binary (length octets.now * 8) result ≡ octet_bits octets.now }
+{
+    let mut value = 0;
+    for octet in octets {
+        value = value << 8 | *octet as u64;
+    }
+    value
+}
+
+// The octets from `start` on, sixteen of them, or eight, or all where there are fewer, and how many bits they have. They
+// are the highest binary digits of the number, which has 128.
+#[inline(always)]
+pub(crate) fn octets_from(octets: &[u8], start: usize) -> (u128, u32)
+    requires { start < length octets.now }
+    ensures some { 8 ≤ result.1 }
+    ensures narrow { result.1 ≤ 128 }
+    ensures bits { take result.1 (binary 128 result.0) ≡ take result.1 (drop (start * 8) (octet_bits octets.now)) }
+{
+    let left = octets.len() - start;
+    if left >= 16 {
+        return (sixteen_octets(octets, start), 128);
+    }
+    if left >= 8 {
+        return ((eight_octets(octets, start) as u128) << 64, 64);
+    }
+    let width = left as u32 * 8;
+    let value = few_octets(&octets[start..]);
+    ((value as u128) << (128 - width), width)
 }
 
 // The same as `read_bits`, where nine octets stand from the first bit's octet on.
@@ -91,14 +136,32 @@ pub fn read_wide(octets: &[u8], position: usize, count: u32) -> u128
     (high as u128) << 64 | low as u128
 }
 
-// Copies the octets that begin at a bit within the first octet of the source, of which one more stands there.
+// The number of eight octets that begin at a bit within an octet, the first one highest.
+#[inline(always)]
+fn eight_across(octets: &[u8], start: usize, offset: u32) -> u64
+    requires nine { start + 9 ≤ length octets.now }
+    requires some { 0 < offset }
+    requires within { offset < 8 }
+    ensures { binary 64 result ≡ take 64 (drop (start * 8 + offset) (octet_bits octets.now)) }
+{
+    eight_octets(octets, start) << offset | (octets[start + 8] >> (8 - offset)) as u64
+}
+
+// Copies the octets that begin at a bit within the first octet of the source, of which one more stands there, eight at
+// a time.
 pub(crate) fn shift_octets(target: &mut [u8], source: &[u8], offset: u32)
     requires one_more { length source.now ≡ length target.old + 1 }
     requires some { 0 < offset }
     requires within { offset < 8 }
     ensures { octet_bits target.new ≡ take (length target.old * 8) (drop offset (octet_bits source.now)) }
 {
-    for i in 0..target.len() {
+    let mut done = 0;
+    while target.len() - done >= 8 {
+        let eight = eight_across(source, done, offset);
+        target[done..done + 8].copy_from_slice(&eight.to_be_bytes());
+        done += 8;
+    }
+    for i in done..target.len() {
         target[i] = source[i] << offset | source[i + 1] >> (8 - offset);
     }
 }

@@ -7,6 +7,7 @@ mod bit_buffer;
 mod bit_reader;
 mod bit_str;
 mod bit_views_traits;
+mod bit_window;
 pub mod bits;
 mod order;
 mod traits;

@@ -1,6 +1,6 @@
 //! Octets of two's complement.
 ghost use Rattle.std.specs.Prelude.{◌≡◌, ℕ, ◌+◌, ◌-◌, ◌*◌, ◌/◌, ◌^◌, ◌<◌, ◌≤◌, List, length, map, drop, false};
-ghost use Rattle.asn1_model.specs.Numbers.{digits, width};
+ghost use Rattle.asn1_model.specs.Numbers.{digits, width, octet_width as octet_width_of};
 ghost use Rattle.asn1_values_natives.specs.Octets.{signed_number, unsigned_number, is_padded, is_leading};
 ghost use Rattle.asn1_values_natives.specs.Octets.{is_negative, sign_free, plain_octets};
 
@@ -96,6 +96,15 @@ pub fn bit_count(number: u128) -> usize
     ensures bound { result ≤ 128 }
 {
     128 - number.leading_zeros() as usize
+}
+
+/// How many octets a number has at the fewest; zero has none.
+#[inline]
+pub fn octet_width(number: u128) -> usize
+    ensures width { result ≡ octet_width_of number }
+    ensures most { result ≤ 16 }
+{
+    (bit_count(number) + 7) / 8
 }
 
 /// The last `count` octets of a number, each turned over if it is negative, at the end of seventeen octets; those

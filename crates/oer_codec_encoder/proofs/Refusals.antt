@@ -3,7 +3,7 @@ use Rattle.std.proofs.Common.{◌≡◌, ℕ, zero, suc, not, ltb, Bool, true, f
 use Rattle.std.specs.Result.{IsErr, IsErrAnd}
 use Rattle.std.proofs.lemmas.Bool.{lt-ltb}
 use Rattle.asn1_schema_faults.specs.declared.EncodeError.{EncodeError}
-use Rattle.asn1_schema_faults.specs.declared.EncodeError.TheVariants.{ValueConstraintNotSatisfied, SizeConstraintNotSatisfied, AlphabetConstraintNotSatisfied, TooLongValue, LengthExceedsPlatformSize, OutOfMemory, AlreadyFailed}
+use Rattle.asn1_schema_faults.specs.declared.EncodeError.TheVariants.{ValueConstraintNotSatisfied, SizeConstraintNotSatisfied, AlphabetConstraintNotSatisfied, TooLongValue, LengthExceedsPlatformSize, CallOutOfPlace, OutOfMemory, AlreadyFailed}
 use Rattle.asn1_schema_presented.specs.Records.{Record, mark, additions_begin, addition, addition_ends, further}
 use Rattle.oer_codec_encoder.specs.Steps.{components, open_type, added, bag_members, State, run}
 use Rattle.oer_codec_encoder.specs.declared.frame.Additions.{Additions}
@@ -29,6 +29,7 @@ cannot r fs o SizeConstraintNotSatisfied n h = h (λ e. cc)
 cannot r fs o AlphabetConstraintNotSatisfied n h = h (λ e. cc)
 cannot r fs o TooLongValue n h = h (λ e. cc)
 cannot r fs o LengthExceedsPlatformSize n h = h (λ e. cc)
+cannot r fs o CallOutOfPlace n h = h (λ e. cc)
 cannot r fs o AlreadyFailed n h = absurd (n refl)
 
 pub no_addition_due : (fs rest : List Frame) (a : Additions) (o : List ℕ) (present : Bool) → fs ≡ Added a ∷ rest → a.due ≡ 0 → (s : State) → Holds fs o s → run (addition present) s ≡ None

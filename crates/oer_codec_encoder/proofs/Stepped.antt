@@ -1,7 +1,7 @@
 -- What the encoder's calls did, by what they did to the octets and the frames.
 use Rattle.std.proofs.Common.{◌≡◌, ℕ, Bool, true, false, List, ◌++◌, Option, Some, None, refl, ap, subst, sym, ◌∙◌}
 use Rattle.asn1_schema_faults.specs.declared.EncodeError.{EncodeError}
-use Rattle.asn1_schema_faults.specs.declared.EncodeError.TheVariants.{ValueConstraintNotSatisfied, SizeConstraintNotSatisfied, AlphabetConstraintNotSatisfied, TooLongValue, LengthExceedsPlatformSize, OutOfMemory, AlreadyFailed}
+use Rattle.asn1_schema_faults.specs.declared.EncodeError.TheVariants.{ValueConstraintNotSatisfied, SizeConstraintNotSatisfied, AlphabetConstraintNotSatisfied, TooLongValue, LengthExceedsPlatformSize, CallOutOfPlace, OutOfMemory, AlreadyFailed}
 use Rattle.asn1_schema_encode.specs.Writes.{Refused}
 use Rattle.asn1_schema_presented.specs.Records.{Record}
 use Rattle.oer_codec_encoder.specs.Steps.{State, run, adds_text}
@@ -40,6 +40,7 @@ is_refused r fs o w SizeConstraintNotSatisfied q h c = no_step r w _ (ap (run r)
 is_refused r fs o w AlphabetConstraintNotSatisfied q h c = no_step r w _ (ap (run r) (sym q) ∙ c (now fs o) h)
 is_refused r fs o w TooLongValue q h c = no_step r w _ (ap (run r) (sym q) ∙ c (now fs o) h)
 is_refused r fs o w LengthExceedsPlatformSize q h c = no_step r w _ (ap (run r) (sym q) ∙ c (now fs o) h)
+is_refused r fs o w CallOutOfPlace q h c = no_step r w _ (ap (run r) (sym q) ∙ c (now fs o) h)
 is_refused r fs o w AlreadyFailed q h c = absurd c
 
 pub has_failed_before : (r : Record) (w : Written) (e : EncodeError) → w.failed ≡ true → Refused Puts r w e
@@ -66,6 +67,7 @@ refuses_none r x fs o SizeConstraintNotSatisfied q h = λ s _. q s ∙ ap (λ y.
 refuses_none r x fs o AlphabetConstraintNotSatisfied q h = λ s _. q s ∙ ap (λ y. adds_text y s) h
 refuses_none r x fs o TooLongValue q h = λ s _. q s ∙ ap (λ y. adds_text y s) h
 refuses_none r x fs o LengthExceedsPlatformSize q h = λ s _. q s ∙ ap (λ y. adds_text y s) h
+refuses_none r x fs o CallOutOfPlace q h = λ s _. q s ∙ ap (λ y. adds_text y s) h
 refuses_none r x fs o AlreadyFailed q h = absurd h
 
 pub adds_sound : (r : Record) (x : Option (List ℕ)) (fs : List Frame) (o p : List ℕ) → ((s : State) → run r s ≡ adds_text x s) → Sound fs o → Adds x o p → Sound fs p

@@ -18,7 +18,7 @@ use std::mem;
 ///
 /// # Errors
 ///
-/// `OutOfMemory`; any other only where nothing that is open takes this call.
+/// `CallOutOfPlace` if nothing that is open takes this call, and `OutOfMemory`.
 pub(crate) fn begin_additions(
     octets: &mut Vec<u8>,
     worker: &mut Vec<u8>,
@@ -30,10 +30,10 @@ pub(crate) fn begin_additions(
         octets.new.items) (Cannot (additions_begin count) frames.old octets.old.items) }
 {
     let Some(preamble) = frames.preamble() else {
-        return Err(EncodeError::SizeConstraintNotSatisfied);
+        return Err(EncodeError::CallOutOfPlace);
     };
     if !preamble.extensible || preamble.due > 0 {
-        return Err(EncodeError::SizeConstraintNotSatisfied);
+        return Err(EncodeError::CallOutOfPlace);
     }
     frames.replace(Frame::Added(Additions {
         due: count,
@@ -51,7 +51,7 @@ pub(crate) fn count_addition(additions: &mut Additions, present: bool) -> Result
     ensures { MatchResult result (λ _. Next present additions.old additions.new) (NoAddition additions.old.due) }
 {
     if additions.due == 0 {
-        return Err(EncodeError::SizeConstraintNotSatisfied);
+        return Err(EncodeError::CallOutOfPlace);
     }
     additions.present.push(present)?;
     additions.due -= 1;
@@ -63,7 +63,7 @@ pub(crate) fn count_addition(additions: &mut Additions, present: bool) -> Result
 ///
 /// # Errors
 ///
-/// `OutOfMemory`; any other only where nothing that is open takes this call.
+/// `CallOutOfPlace` if nothing that is open takes this call, and `OutOfMemory`.
 #[inline]
 pub(crate) fn put_addition(
     octets: &mut Vec<u8>,
@@ -84,7 +84,7 @@ pub(crate) fn put_addition(
 ///
 /// # Errors
 ///
-/// `OutOfMemory`; any other only where nothing that is open takes this call.
+/// `CallOutOfPlace` if nothing that is open takes this call, and `OutOfMemory`.
 #[inline]
 pub(crate) fn end_addition(
     octets: &mut Vec<u8>,
@@ -96,10 +96,10 @@ pub(crate) fn end_addition(
         (Cannot addition_ends frames.old octets.old.items) }
 {
     let Some(start) = frames.close_open_type() else {
-        return Err(EncodeError::SizeConstraintNotSatisfied);
+        return Err(EncodeError::CallOutOfPlace);
     };
     let Some(_) = frames.additions() else {
-        return Err(EncodeError::SizeConstraintNotSatisfied);
+        return Err(EncodeError::CallOutOfPlace);
     };
     put_length(octets, alloc, start)?;
     Ok(())

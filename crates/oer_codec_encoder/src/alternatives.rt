@@ -42,7 +42,7 @@ fn tag_of_chosen(roots: &[Tag], extensible: bool, additions: &[Tag], chosen: Cho
 ///
 /// # Errors
 ///
-/// `OutOfMemory`; any other only where nothing that is open takes this call.
+/// `ValueConstraintNotSatisfied` if the type has no such alternative, and `OutOfMemory`.
 #[inline(always)]
 pub(crate) fn begin_choice(
     octets: &mut Vec<u8>,

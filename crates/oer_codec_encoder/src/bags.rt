@@ -25,7 +25,7 @@ use std::mem;
 ///
 /// # Errors
 ///
-/// `OutOfMemory`; any other only where nothing that is open takes this call.
+/// `SizeConstraintNotSatisfied` if the program's type does not hold so many, and `OutOfMemory`.
 pub(crate) fn begin_bag(
     octets: &mut Vec<u8>,
     frames: &mut Frames,

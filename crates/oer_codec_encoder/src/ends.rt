@@ -26,7 +26,7 @@ fn end_added(
         (λ e. (k : _) → Cannot ends (Added additions ∷ k) octets.old.items e) }
 {
     if additions.due > 0 {
-        return Err(EncodeError::SizeConstraintNotSatisfied);
+        return Err(EncodeError::CallOutOfPlace);
     }
     let all = mem::replace(octets, additions.outer);
     push_additions(
@@ -47,7 +47,7 @@ fn end_bag(octets: &mut Vec<u8>, alloc: Global, bag: Bag) -> Result<(), EncodeEr
         (λ e. (k : _) → Cannot ends (BagFrame bag ∷ k) octets.old.items e) }
 {
     if bag.due > 0 {
-        return Err(EncodeError::SizeConstraintNotSatisfied);
+        return Err(EncodeError::CallOutOfPlace);
     }
     let last = mem::replace(octets, bag.outer);
     let Some(members) = bag.members else {
@@ -62,7 +62,7 @@ fn end_bag(octets: &mut Vec<u8>, alloc: Global, bag: Bag) -> Result<(), EncodeEr
 ///
 /// # Errors
 ///
-/// `OutOfMemory`; any other only where nothing that is open takes this call.
+/// `CallOutOfPlace` if nothing that is open takes this call, and `OutOfMemory`.
 #[inline(always)]
 pub(crate) fn end_scope(
     octets: &mut Vec<u8>,
@@ -83,7 +83,7 @@ pub(crate) fn end_scope(
     match frames.close() {
         Some(Frame::Components(preamble)) => {
             if preamble.extensible || preamble.due > 0 {
-                return Err(EncodeError::SizeConstraintNotSatisfied);
+                return Err(EncodeError::CallOutOfPlace);
             }
             Ok(())
         }
@@ -94,6 +94,6 @@ pub(crate) fn end_scope(
         }
         Some(Frame::Members { due: 0 }) | Some(Frame::Alternative) => Ok(()),
         Some(Frame::Bag(bag)) => end_bag(octets, alloc, bag),
-        _ => Err(EncodeError::SizeConstraintNotSatisfied),
+        _ => Err(EncodeError::CallOutOfPlace),
     }
 }

@@ -240,7 +240,7 @@ impl Frames {
     ///
     /// # Errors
     ///
-    /// `OutOfMemory`; any other only where nothing that is open takes this call.
+    /// `CallOutOfPlace` if nothing that is open takes this call, and `OutOfMemory`.
     #[inline(always)]
     pub(crate) fn put_further(
         &mut self,
@@ -254,7 +254,7 @@ impl Frames {
         match (&self.enclosing, &mut self.innermost) {
             (None, Some(Frame::Members { due })) => count_member(due, more)?,
             (None, Some(Frame::Bag(bag))) => return next_of_bag(octets, bag, alloc, more),
-            _ => return Err(EncodeError::SizeConstraintNotSatisfied),
+            _ => return Err(EncodeError::CallOutOfPlace),
         }
         Ok(())
     }
@@ -267,7 +267,7 @@ impl Frames {
     {
         match (&self.enclosing, &mut self.innermost) {
             (None, Some(Frame::Added(additions))) => count_addition(additions, present)?,
-            _ => return Err(EncodeError::SizeConstraintNotSatisfied),
+            _ => return Err(EncodeError::CallOutOfPlace),
         }
         Ok(())
     }

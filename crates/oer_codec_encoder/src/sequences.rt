@@ -85,7 +85,7 @@ pub(crate) fn raise_bit(octets: &mut Vec<u8>, start: usize, place: usize)
 ///
 /// # Errors
 ///
-/// `OutOfMemory`; any other only where nothing that is open takes this call.
+/// `CallOutOfPlace` if nothing that is open takes this call, and `OutOfMemory`.
 #[inline]
 pub(crate) fn put_mark(
     octets: &mut Vec<u8>,
@@ -97,7 +97,7 @@ pub(crate) fn put_mark(
         (Cannot (mark present) frames.old octets.old.items) }
 {
     let Some(preamble) = frames.next_mark() else {
-        return Err(EncodeError::SizeConstraintNotSatisfied);
+        return Err(EncodeError::CallOutOfPlace);
     };
     if present {
         let place = preamble.given + usize::from(preamble.extensible);
@@ -110,7 +110,7 @@ pub(crate) fn put_mark(
 ///
 /// # Errors
 ///
-/// `OutOfMemory`; any other only where nothing that is open takes this call.
+/// `SizeConstraintNotSatisfied` if the program's type does not hold so many, and `OutOfMemory`.
 #[inline]
 pub(crate) fn begin_members(
     octets: &mut Vec<u8>,
@@ -138,7 +138,7 @@ pub(crate) fn count_member(due: &mut usize, more: bool) -> Result<(), EncodeErro
         (NoMember more due.old) }
 {
     if more != (*due > 0) {
-        return Err(EncodeError::SizeConstraintNotSatisfied);
+        return Err(EncodeError::CallOutOfPlace);
     }
     *due -= usize::from(more);
     Ok(())

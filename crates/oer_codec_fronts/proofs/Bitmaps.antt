@@ -1,7 +1,6 @@
 -- Sequences with a mark of extensibility, as a reader finds them: what a bitmap tells, of the type's own additions and of unknown ones.
-use Rattle.std.proofs.Common.{◌≡◌, ◌⊎◌, inl, inr, ℕ, zero, suc, ◌+◌, ◌==◌, ltb, not, Bool, true, false, cond, ◌&&◌, ◌||◌, IsTrue, List, [], ◌∷◌, ◌++◌, length, take, drop, map, Option, Some, None, option_map, refl, ap, sym, ◌∙◌, subst, arith}
+use Rattle.std.proofs.Common.{◌≡◌, ◌⊎◌, inl, inr, ℕ, suc, not, Bool, true, false, cond, IsTrue, List, [], ◌∷◌, ◌++◌, length, drop, Option, Some, None, refl, ap, sym, ◌∙◌, subst}
 use Rattle.std.proofs.lemmas.List.{append-nil}
-use Rattle.std.proofs.lemmas.Bool.{lt-ltb, ltb-true}
 use Rattle.asn1_model.specs.Value.{Parts, end, absent, present}
 use Rattle.asn1_model.specs.Schema.{Components, no_component, component}
 use Rattle.asn1_model.specs.Tables.{is_required, marks}
@@ -15,113 +14,23 @@ use Rattle.asn1_schema_presented.specs.Presents.{root_records, added_records, op
 use Rattle.asn1_schema_presented.specs.Chains.{Chain}
 use Rattle.oer_codec_fronts.specs.Takes.{State, Scope, components, added, Front, Found, Begins, unknown_forms, Skips}
 use Rattle.asn1_schema_finding.specs.Marks.{preamble_bits, first_bits, has_set}
+use Rattle.asn1_schema_finding.proofs.Alike.{LikeParts}
+use Rattle.asn1_schema_finding.proofs.Bitmaps.{Octets, flags, any_set, none_flags, flags_none, none_of, covers, counted_flags}
+use Rattle.asn1_schema_finding.proofs.Bitmaps as bitmaps
 use Rattle.oer_codec_fronts.proofs.Anywhere.{Moves, EachMoves, AllMove, moves_both, components_move, additions_move, joined_moves, each_unknown_moves, counted_bits_move}
 use Rattle.oer_codec_fronts.proofs.Fronts.{Step, nothing_front, of_nothing, split, join, varied_in, varied_out, given_in, given_out, if_in, if_out, let_through, from_state, from_scopes}
-use Rattle.oer_codec_fronts.proofs.Parts.{EachFinds, EachShows, LikeParts}
+use Rattle.oer_codec_fronts.proofs.Parts.{EachFinds, EachShows}
 use Rattle.oer_codec_fronts.proofs.Sequences.{Closed, begun_in, begun_out, added_in, added_out}
 
 abbrev Forms : Type 0
 Forms = List (Option Oer.OctetForm)
 
-abbrev Octets : Type 0
-Octets = List (Option (List ℕ))
-
-abbrev flags : Forms → List Bool
-flags xs = map (λ a. is_present a) xs
-
--- ---- bits of a bitmap
-
-any_set : (xs : Forms) → has_set (flags xs) ≡ is_any_present xs
-any_set [] = refl
-any_set (x ∷ xs) = ap (λ t. is_present x || t) (any_set xs)
-
--- forms none of which is there
-none_flags : (xs : Forms) → is_any_present xs ≡ false → (flags xs ≡ first_bits (length xs) []) × (present_ones xs ≡ [])
-none_flags [] e = (refl, refl)
-none_flags (None ∷ xs) e = let r = none_flags xs e in (ap (λ l. false ∷ l) r.0, r.1)
-none_flags (Some x ∷ xs) e = cc
-
-flags_none : (xs : Forms) (n : ℕ) → flags xs ≡ first_bits n [] → is_any_present xs ≡ false
-flags_none [] n e = refl
-flags_none (x ∷ xs) zero e = cc
-flags_none (None ∷ xs) (suc n) e = flags_none xs n cc
-flags_none (Some x ∷ xs) (suc n) e = cc
-
-first_long : (n : ℕ) (bs : List Bool) → length (first_bits n bs) ≡ n
-first_long zero bs = refl
-first_long (suc n) [] = ap suc (first_long n [])
-first_long (suc n) (b ∷ bs) = ap suc (first_long n bs)
-
-flags_long : (xs : Forms) → length (flags xs) ≡ length xs
-flags_long [] = refl
-flags_long (x ∷ xs) = ap suc (flags_long xs)
-
-none_of : (us : Octets) → flags (unknown_forms us) ≡ [] → us ≡ []
-none_of [] e = refl
-none_of (u ∷ us) e = cc
-
--- ---- what a bitmap tells of additions
-
--- the additions that a bitmap with these bits tells of
-abbrev Covers : Forms → Octets → List Bool → Type 0
-Covers xs us bs = (b : Bitmap) × (all : Forms) × (covered_by (λ os. Oer.counted os) b xs ≡ Some all) × (flags all ≡ bs) × (present_ones all ≡ present_ones xs ++ present_ones (unknown_forms us))
-
-covered_more : (b : Bitmap) (x : Option Oer.OctetForm) (xs all : Forms) → covered_by (λ os. Oer.counted os) b xs ≡ Some all → covered_by (λ os. Oer.counted os) (record { covered = suc b.covered; further = b.further }) (x ∷ xs) ≡ Some (x ∷ all)
-covered_more b x xs all e =
-    let q = adding.cond_some (not (is_any_present (drop b.covered xs)) && (ltb (length xs) (b.covered + 1) || length b.further == 0)) (take b.covered xs ++ map (option_map (λ os. Oer.counted os)) b.further) all e in
-    let l : ltb (suc (length xs)) (suc b.covered + 1) ≡ ltb (length xs) (b.covered + 1) = shift (ltb (length xs) (b.covered + 1)) refl in
-    rw (l, q.0, q.1) refl
-  where
-    shift : (t : Bool) → ltb (length xs) (b.covered + 1) ≡ t → ltb (suc (length xs)) (suc b.covered + 1) ≡ t
-    shift true h = let i = ltb-true _ _ h in lt-ltb _ _ (omega arith)
-    shift false h = grind (arith, h)
-
-no_flags : (xs : Forms) → flags xs ≡ [] → xs ≡ []
-no_flags [] e = refl
-no_flags (x ∷ xs) e = cc
-
-or_true : (t : Bool) → (t || true) ≡ true
-or_true true = refl
-or_true false = refl
-
--- one more in front of those that are there
-one_more : (x y : Option Oer.OctetForm) (all xs : Forms) (ys : List Oer.OctetForm) → x ≡ y → present_ones all ≡ present_ones xs ++ ys → present_ones (y ∷ all) ≡ present_ones (x ∷ xs) ++ ys
-one_more None None all xs ys e f = f
-one_more None (Some z) all xs ys e f = cc
-one_more (Some z) None all xs ys e f = cc
-one_more (Some z) (Some w) all xs ys e f = let h : z ≡ w = cc e in ap (λ u. u ∷ present_ones all) (sym h) ∙ ap (λ l. z ∷ l) f
-
-covers : (xs : Forms) (us : Octets) (bs : List Bool) → flags xs ≡ first_bits (length xs) bs → flags (unknown_forms us) ≡ drop (length xs) bs → Covers xs us bs
-covers [] us bs e f = (record { covered = 0; further = us }, unknown_forms us, refl, f, refl)
-covers (x ∷ xs) us [] e f =
-    let n : is_any_present (x ∷ xs) ≡ false = flags_none (x ∷ xs) (suc (length xs)) e in
-    let p = none_flags (x ∷ xs) n in
-    let z : us ≡ [] = none_of us f in
-    let o = or_true (ltb (length (x ∷ xs)) 1) in
-    (record { covered = 0; further = [] }, [], rw (n, o) refl, refl, rw (z, p.1) refl)
-covers (x ∷ xs) us (t ∷ bs) e f =
-    let g : flags xs ≡ first_bits (length xs) bs = cc in
-    let r = covers xs us bs g f in
-    let h : is_present x ≡ t = cc in
-    (record { covered = suc r.0.covered; further = r.0.further }, x ∷ r.1, covered_more r.0 x xs r.1 r.2, ap (λ l. l ∷ flags r.1) h ∙ ap (λ l. t ∷ l) r.3, one_more x x r.1 xs (present_ones (unknown_forms us)) refl r.4)
-
--- and back
 abbrev Told : Forms → Forms → Type 0
-Told xs all = (us : Octets) × (flags xs ≡ first_bits (length xs) (flags all)) × (flags (unknown_forms us) ≡ drop (length xs) (flags all)) × (present_ones all ≡ present_ones xs ++ present_ones (unknown_forms us))
+Told xs all = bitmaps.Told (λ os. Oer.counted os) xs all
 
 module _ (free : Oer.Freedom → Bool) where
-  abbrev Tells : Forms → Forms → Type 0
-  Tells xs all = adding.Tells Oer.Freedom Oer.Detail ℕ free (λ os. Oer.counted os) (λ os ps. counted_alike free os ps) xs all
-
-  told_by : (xs all : Forms) → Tells xs all → Told xs all
-  told_by [] all t = (t.0, refl, ap flags t.1, ap (λ l. present_ones l) (sym t.1))
-  told_by (x ∷ xs) [] t = let r = none_flags (x ∷ xs) t in ([], r.0, refl, sym (append-nil (present_ones (x ∷ xs)) ∙ r.1))
-  told_by (x ∷ xs) (y ∷ all) t =
-      let r = told_by xs all t.1 in
-      (r.0, ap (λ l. is_present l ∷ flags xs) t.0 ∙ ap (λ l. is_present y ∷ l) r.1, r.2, one_more x y all xs (present_ones (unknown_forms r.0)) t.0 r.3)
-
   told_of : (b : Bitmap) (xs all : Forms) → covered_by (λ os. Oer.counted os) b xs ≡ Some all → Told xs all
-  told_of b xs all e = told_by xs all (adding.covered_tells Oer.Freedom Oer.Detail ℕ free (λ os. Oer.counted os) (λ os ps. counted_alike free os ps) b xs all e)
+  told_of b xs all e = bitmaps.told_of free (λ os. Oer.counted os) (λ os ps. counted_alike free os ps) b xs all e
 
   -- ---- texts one behind the other
   append_moves : (xs : Forms) (ys : List Oer.OctetForm) → EachMoves free xs → Moves free (joined ys) → Moves free (joined (present_ones xs ++ ys))
@@ -176,7 +85,7 @@ module _ (free : Oer.Freedom → Bool) where
     with_in : (xs : Forms) → EachMoves free xs → (us : Octets) (bs : List Bool) → flags xs ≡ first_bits (length xs) bs → flags (unknown_forms us) ≡ drop (length xs) bs → (has_set bs ≡ true) ⊎ IsTrue (free Oer.empty_bitmap) → (os o1 o2 o3 o4 rest : List ℕ) → Front free (Oer.preamble (true ∷ ms)) os o1 → Front free y o1 o2 → Front free (Oer.counted_bits bs) o2 o3 → Front free (joined (present_ones xs)) o3 o4 → Front free (joined (present_ones (unknown_forms us))) o4 rest → Front free (Oer.sequence_form true ms y xs) os rest
     unfolding Oer.sequence_form Oer.bitmapped Oer.with_additions Oer.additions
     with_in xs h us bs e e' t os o1 o2 o3 o4 rest f g i j k =
-        let c = covers xs us bs e e' in
+        let c = covers (λ os. Oer.counted os) xs us bs e e' in
         let all : Forms = c.1 in
         let ys : List Oer.OctetForm = present_ones (unknown_forms us) in
         let uk : Moves free (joined ys) = joined_moves free (unknown_forms us) (each_unknown_moves free us) in
@@ -247,9 +156,6 @@ module _ (free : Oer.Freedom → Bool) where
   all_move : (o : Option Forms) → AllMove free o → (xs : Forms) → o ≡ Some xs → EachMoves free xs
   all_move o h xs e = let t : AllMove free (Some xs) = subst (λ p. AllMove free p) e h in t
 
-  counted_flags : (xs : Forms) (n : ℕ) (bs : List Bool) → flags xs ≡ first_bits n bs → length xs ≡ n
-  counted_flags xs n bs e = sym (flags_long xs) ∙ ap length e ∙ first_long n bs
-
   -- the form of a sequence with a mark, by its presence bits and its root
   abbrev pub Marked : Components → Parts → List Bool → Oer.OctetForm → Oer.OctetForm
   Marked adds qs ms y = given (Oer.addition_forms adds qs) (Oer.sequence_form true ms y)
@@ -266,7 +172,7 @@ module _ (free : Oer.Freedom → Bool) where
         let p = none_flags r.0 none in
         let a1 : r.1 ≡ o2 = of_nothing free o2 r.1 (subst (λ l. Front free (joined l) o2 r.1) p.1 r.4) in
         let skipped : Front free (joined (present_ones (unknown_forms r.5.0))) r.1 b.0 = r.5.2 in
-        let u : r.5.0 ≡ [] = none_of r.5.0 r.5.1 in
+        let u : r.5.0 ≡ [] = none_of (λ os. Oer.counted os) r.5.0 r.5.1 in
         let a2 : b.0 ≡ r.1 = of_nothing free r.1 b.0 (subst (λ l. Front free (joined (present_ones (unknown_forms l))) r.1 b.0) u skipped) in
         let f' : Front free (Oer.preamble (false ∷ ms)) os mid = subst (λ l. Front free (Oer.preamble (false ∷ l)) os mid) (append-nil ms) f in
         let g' : Front free y mid b.0 = subst (λ l. Front free y mid l) (sym (a2 ∙ a1)) g in

@@ -17,7 +17,8 @@ use Rattle.oer_codec_fronts.specs.Takes.{State, open_type, alternative, Front, F
 use Rattle.asn1_schema_finding.specs.Bags.{are_no_bags}
 use Rattle.oer_codec_fronts.proofs.Next.{state_same, same_tag}
 use Rattle.oer_codec_fronts.proofs.Anywhere.{form_moves, open_moves}
-use Rattle.oer_codec_fronts.proofs.Fronts.{Like, Finds, Shows, Step, of_refused, split, join, none, from_state}
+use Rattle.asn1_schema_finding.proofs.Alike.{Like, chosen_same}
+use Rattle.oer_codec_fronts.proofs.Fronts.{Finds, Shows, Step, of_refused, split, join, none, from_state}
 use Rattle.oer_codec_fronts.proofs.Sequences.{open_in, open_out}
 
 -- ---- places of tags
@@ -152,11 +153,6 @@ module _ (free : Oer.Freedom → Bool) where
   choice_finds roots true adds h k (chosen true i v) a b c = table_in true adds k i v c.1.0 c.1.2.2 a c.0 b c.1.1 c.1.3 c.1.4 c.2
   choice_finds roots false adds h k (chosen true i v) a b c = let e = c.1.2.0 in cc
   choice_finds roots e adds h k v a b c = (none free a b).0 c
-
-  chosen_same : (plus : Bool) (i : ℕ) (v w : Value) → same v w ≡ true → same (chosen plus i v) (chosen plus i w) ≡ true
-  unfolding same
-  chosen_same true i v w e = and_from (i == i) (same v w) (eq-eqb i i refl) e
-  chosen_same false i v w e = and_from (i == i) (same v w) (eq-eqb i i refl) e
 
   pub choice_shows : (roots : Alternatives) (e : Bool) (adds : Alternatives) → are_distinct tag_same (alternative_tags roots ++ alternative_tags adds) ≡ true → EachAlternative (λ s. Shows free s) roots → EachAlternative (λ s. Shows free s) adds → Shows free (choice roots e adds)
   unfolding presents Oer.form

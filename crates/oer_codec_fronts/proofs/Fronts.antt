@@ -1,32 +1,24 @@
 -- Fronts of forms put together, and what is noted behind a component.
 use Rattle.std.proofs.Common.{◌≡◌, ◌⊎◌, inl, inr, ◌↔◌, ℕ, ◌+◌, Bool, true, false, cond, IsTrue, List, [], ◌∷◌, ◌++◌, length, Option, Some, None, refl, ap, sym, ◌∙◌, subst, append_assoc}
-use Rattle.asn1_model.specs.Value.{Value, same}
-use Rattle.asn1_model.specs.Normal.{normal, is_at_default, is_group_left_out}
+use Rattle.asn1_model.specs.Value.{Value}
+use Rattle.asn1_model.specs.Normal.{is_at_default, is_group_left_out}
 use Rattle.asn1_model.specs.Schema.{Presence, Schema}
 use Rattle.asn1_model.specs.Form.{exactly, refused, both, varied, Reads, only_if, given}
 use Rattle.asn1_model.specs.Oer
 use Rattle.asn1_laws_values.proofs.Same.{same_self}
-use Rattle.asn1_laws_values.proofs.Normal.{normal_same, default_tests, group_tests}
-use Rattle.asn1_schema_presented.specs.Records.{Record, is_default, is_empty, mismatch}
+use Rattle.asn1_schema_presented.specs.Records.{Record, mismatch}
 use Rattle.asn1_schema_presented.specs.Presents.{presents}
 use Rattle.asn1_schema_presented.specs.Chains.{Chain}
 use Rattle.asn1_schema_presented.proofs.Chains.{chain_split, chain_append}
 use Rattle.oer_codec_fronts.specs.Takes.{State, Scope, Front, Found, Takes}
 use Rattle.oer_codec_fronts.specs.Ties.{Bridges}
-use Rattle.asn1_schema_finding.specs.Bags.{has_no_bag}
+use Rattle.asn1_schema_finding.proofs.Alike.{Like, noted_by, noted_same}
 use Rattle.oer_codec_fronts.proofs.Next.{state_same}
 use Rattle.oer_codec_fronts.proofs.Anywhere.{Moves}
 
--- what is noted behind a component, and the form that goes with it
-abbrev pub noted_by : Bool → Bool → List Record
-noted_by d g = cond d (is_default ∷ []) (cond g (is_empty ∷ []) [])
-
+-- the form of a component by what is noted behind it
 abbrev pub spelled_by : Bool → Bool → Oer.OctetForm → Oer.OctetForm
 spelled_by d g x = cond d (varied Oer.default_spelled_out false (λ b. only_if b x)) (cond g (varied Oer.empty_group false (λ b. only_if b x)) x)
-
--- another value that is the same up to the order of bags, so itself where the type has no bag
-abbrev pub Like : Schema → Value → Value → Type 0
-Like s v w = (same v w ≡ true) × (has_no_bag s ≡ true → w ≡ v)
 
 -- the records of a value are found where the octets have its form
 abbrev pub Finds : (Oer.Freedom → Bool) → Schema → Type 0
@@ -145,12 +137,6 @@ module _ (free : Oer.Freedom → Bool) where
   there_in s v h d g a b c =
       let q = chain_split Step (presents s v) (noted_by d g) a b c in
       noted_in d g (Oer.form s v) a q.0 b (h v a q.0 q.1) q.2
-
-  pub noted_same : (o : Presence) (s : Schema) (v w : Value) → same v w ≡ true → noted_by (is_at_default o s v) (is_group_left_out s v) ≡ noted_by (is_at_default o s w) (is_group_left_out s w)
-  noted_same o s v w e =
-      let n : same (normal s v) (normal s w) ≡ true = normal_same s v w e in
-      ap (λ d. noted_by d (is_group_left_out s v)) (default_tests (λ d. normal s d) o (normal s v) (normal s w) n)
-      ∙ ap (λ g. noted_by (is_at_default o s w) g) (group_tests s (normal s v) (normal s w) n)
 
   pub there_out : (s : Schema) → Shows free s → (o : Presence) (v : Value) (a b : State) → Found free (spelled_by (is_at_default o s v) (is_group_left_out s v) (Oer.form s v)) a b → (w : Value) × Like s v w × Chain Step (presents s w ++ noted_by (is_at_default o s w) (is_group_left_out s w)) a b
   there_out s h o v a b f =

@@ -1,26 +1,23 @@
 -- The records of scalars, members and components, as a reader finds them.
-use Rattle.std.proofs.Common.{◌≡◌, ℕ, ℤ, zero, suc, ltb, Bool, true, false, cond, IsTrue, List, [], ◌∷◌, ◌++◌, length, map, replicate, Option, Some, refl, ap, sym, ◌∙◌, subst}
-use Rattle.std.proofs.lemmas.Bool.{and_parts, and_from}
-use Rattle.asn1_model.specs.Value.{Value, truth, nothing, number, item, bit_list, octet_list, text, arcs, members as in_list, bag, Values, no_more, member, Parts, end, absent, present, each, values_of, same, same_members, same_parts}
-use Rattle.asn1_model.specs.Schema.{Tag, Range, Bounds, Counts, Size, StringKind, Alphabet, Presence, Schema, boolean, null, integer, enumerated, bit_string, octet_string, character_string, object_identifier, sequence_of, set_of, Components, no_component, component}
+use Rattle.std.proofs.Common.{◌≡◌, ℕ, ℤ, zero, suc, ltb, Bool, true, false, cond, IsTrue, List, [], ◌∷◌, ◌++◌, length, replicate, Option, Some, refl, ap, sym, ◌∙◌, subst}
+use Rattle.asn1_model.specs.Value.{Value, truth, nothing, number, item, bit_list, octet_list, text, arcs, members as in_list, bag, Values, no_more, member, Parts, end, absent, present, each, values_of, same}
+use Rattle.asn1_model.specs.Schema.{Range, Bounds, Counts, Size, StringKind, Alphabet, Schema, boolean, null, integer, enumerated, bit_string, octet_string, character_string, object_identifier, sequence_of, set_of, Components, no_component, component}
 use Rattle.asn1_model.specs.Normal.{is_at_default, is_group_left_out}
 use Rattle.asn1_model.specs.Numbers.{is_count_within}
 use Rattle.asn1_model.specs.Tables.{is_required, mark_unless, marks}
 use Rattle.asn1_model.specs.Form.{refused, both, given, joined, exactly, in_order, arranged, ascending, stands_before, written}
 use Rattle.asn1_model.specs.Oer
-use Rattle.asn1_laws_values.proofs.Listed.{EachComponent, listed, listed_again, each_is_map, order_map}
-use Rattle.asn1_laws_values.proofs.Same.{same_self}
-use Rattle.asn1_laws_values.proofs.Bags.{EachSame, bags_same}
+use Rattle.asn1_laws_values.proofs.Listed.{EachComponent}
 use Rattle.asn1_schema_presented.specs.Records.{Record, flag, nil, whole, one_of, bits, octets, characters, identifier, mark, ends, mismatch}
 use Rattle.asn1_schema_presented.specs.Presents.{presents, member_records, member_count, root_records, marked}
 use Rattle.asn1_schema_presented.specs.Chains.{Chain}
 use Rattle.asn1_schema_presented.proofs.Chains.{chain_split, chain_append}
 use Rattle.oer_codec_fronts.specs.Takes.{State, Scope, components, members, Front, Found, Counted}
 use Rattle.oer_codec_fronts.specs.Ties.{Bridges}
-use Rattle.asn1_schema_finding.specs.Bags.{has_no_bag, have_no_bag}
 use Rattle.oer_codec_fronts.proofs.Next.{state_same}
 use Rattle.oer_codec_fronts.proofs.Anywhere.{Moves, form_moves, components_move, all_move}
-use Rattle.oer_codec_fronts.proofs.Fronts.{Like, Finds, Shows, Step, nothing_front, of_nothing, of_refused, split, join, varied_in, varied_out, given_in, given_out, if_out, single, none, from_state, from_scopes, noted_by, spelled_by, there_in, there_out}
+use Rattle.asn1_schema_finding.proofs.Alike.{LikeParts, LikeMembers, parts_self, like_present, like_absent, no_members, like_members, list_same, in_place, bag_like, Arranged, Ordered, reordered, noted_by}
+use Rattle.oer_codec_fronts.proofs.Fronts.{Finds, Shows, Step, nothing_front, of_nothing, of_refused, split, join, varied_in, varied_out, given_in, given_out, if_out, single, none, from_state, from_scopes, spelled_by, there_in, there_out}
 
 abbrev AllBridge : (Oer.Freedom → Bool) → Schema → Type 0
 AllBridge free s = (v : Value) → Bridges free s v
@@ -30,41 +27,6 @@ EachFinds free cs = EachComponent (λ o s. Finds free s) cs
 
 abbrev pub EachShows : (Oer.Freedom → Bool) → Components → Type 0
 EachShows free cs = EachComponent (λ o s. Shows free s) cs
-
--- parts, and members, that are like others
-abbrev pub LikeParts : Components → Parts → Parts → Type 0
-LikeParts cs ps qs = (same_parts ps qs ≡ true) × (have_no_bag cs ≡ true → qs ≡ ps)
-
-abbrev LikeMembers : Schema → Values → Values → Type 0
-LikeMembers s vs ws = (same_members vs ws ≡ true) × (has_no_bag s ≡ true → ws ≡ vs)
-
-pub parts_self : (ps : Parts) → same_parts ps ps ≡ true
-unfolding same_parts
-parts_self end = refl
-parts_self (absent ps) = parts_self ps
-parts_self (present v ps) = and_from _ _ (same_self v) (parts_self ps)
-
-both_parts : (v w : Value) (ps qs : Parts) → same v w ≡ true → same_parts ps qs ≡ true → same_parts (present v ps) (present w qs) ≡ true
-unfolding same_parts
-both_parts v w ps qs e f = and_from _ _ e f
-
-more_absent : (ps qs : Parts) → same_parts ps qs ≡ true → same_parts (absent ps) (absent qs) ≡ true
-unfolding same_parts
-more_absent ps qs e = e
-
-pub like_present : (t : List Tag) (o : Presence) (s : Schema) (cs : Components) (v w : Value) (ps qs : Parts) → Like s v w → LikeParts cs ps qs → LikeParts (component t o s cs) (present v ps) (present w qs)
-like_present t o s cs v w ps qs h k = (both_parts v w ps qs h.0 k.0, λ e. let p = and_parts _ _ e in ap (λ x. present x qs) (h.1 p.0) ∙ ap (λ x. present v x) (k.1 p.1))
-
-pub like_absent : (t : List Tag) (o : Presence) (s : Schema) (cs : Components) (ps qs : Parts) → LikeParts cs ps qs → LikeParts (component t o s cs) (absent ps) (absent qs)
-like_absent t o s cs ps qs k = (more_absent ps qs k.0, λ e. let p = and_parts _ _ e in ap (λ x. absent x) (k.1 p.1))
-
-like_members : (s : Schema) (v w : Value) (vs ws : Values) → Like s v w → LikeMembers s vs ws → LikeMembers s (member v vs) (member w ws)
-unfolding same_members
-like_members s v w vs ws h k = (and_from _ _ h.0 k.0, λ e. ap (λ x. member x ws) (h.1 e) ∙ ap (λ x. member v x) (k.1 e))
-
-no_members : same_members no_more no_more ≡ true
-unfolding same_members
-no_members = refl
 
 module _ (free : Oer.Freedom → Bool) where
   -- ---- scalars
@@ -173,20 +135,12 @@ module _ (free : Oer.Freedom → Bool) where
   list_finds z h s finds (in_list vs) a b c = counted_in h s finds vs a c.0 b c.1 c.2
   list_finds z h s finds v a b c = (none free a b).0 c
 
-  list_same : (vs ws : Values) → same_members vs ws ≡ true → same (in_list vs) (in_list ws) ≡ true
-  unfolding same
-  list_same vs ws e = e
-
   pub list_shows : (z : Size) (h : Counts) (s : Schema) → Shows free s → Shows free (sequence_of z h s)
   unfolding presents Oer.form
   list_shows z h s shows (in_list vs) a b f = let r = counted_out h s shows vs a b f in (in_list r.0, (list_same vs r.0 r.2.0, λ e. ap in_list (r.2.1 e)), (r.1, r.3, r.4))
   list_shows z h s shows v a b f = absurd (of_refused free a.0 b.0 f.0)
 
   -- ---- SET OF
-  in_place : {X : Type 0} (xs : List X) → arranged (replicate (length xs) 0) xs ≡ Some xs
-  in_place [] = refl
-  in_place (x ∷ xs) = let e = in_place xs in rw e refl
-
   pub bag_finds : IsTrue (free Oer.other_order) → (z : Size) (h : Counts) (s : Schema) → Finds free s → Finds free (set_of z h s)
   unfolding presents Oer.form Oer.in_any_order
   bag_finds order z h s finds (bag vs) a b c =
@@ -196,38 +150,7 @@ module _ (free : Oer.Freedom → Bool) where
       (varied_in free {c = Oer.other_order} (λ o. given (in_order up o xs) (Oer.members_form h)) (Some (replicate (length xs) 0)) order a.0 b.0 (given_in free (arranged (replicate (length xs) 0) xs) (Oer.members_form h) xs (in_place xs) a.0 b.0 f.0), f.1)
   bag_finds order z h s finds v a b c = (none free a b).0 c
 
-  listed_values : (us : List Value) → listed (values_of us) ≡ us
-  listed_values [] = refl
-  listed_values (u ∷ us) = ap (λ l. u ∷ l) (listed_values us)
-
-  in_pairs : (us : List Value) (ws : Values) → same_members (values_of us) ws ≡ true → EachSame us (listed ws)
-  unfolding same_members
-  in_pairs [] no_more e = tt
-  in_pairs [] (member w ws) e = cc
-  in_pairs (u ∷ us) no_more e = cc
-  in_pairs (u ∷ us) (member w ws) e = let p = and_parts _ _ e in (p.0, in_pairs us ws p.1)
-
-  -- the members in another order, whose forms are these
-  abbrev Arranged : Schema → Values → List Oer.OctetForm → Type 0
-  Arranged s vs ys = (is : List ℕ) × (us : List Value) × (arranged is (listed vs) ≡ Some us) × (each (λ v. Oer.form s v) (values_of us) ≡ ys)
-
-  abbrev Ordered : List Oer.OctetForm → Option (List ℕ) → Option (List Oer.OctetForm)
-  Ordered xs o = in_order (ascending (λ x. written x 0) (stands_before ltb) xs) o xs
-
-  reordered : (s : Schema) (vs : Values) (o : Option (List ℕ)) (ys : List Oer.OctetForm) → Ordered (each (λ v. Oer.form s v) vs) o ≡ Some ys → Arranged s vs ys
-  reordered s vs o ys e =
-      let l : each (λ v. Oer.form s v) vs ≡ map (λ v. Oer.form s v) (listed vs) = each_is_map (λ v. Oer.form s v) vs in
-      let f : Ordered (map (λ v. Oer.form s v) (listed vs)) o ≡ Some ys = ap (λ xs. Ordered xs o) (sym l) ∙ e in
-      let r = order_map (λ v. Oer.form s v) (λ x. written x 0) (stands_before ltb) o (listed vs) ys f in
-      (r.0, r.1, r.2, each_is_map (λ v. Oer.form s v) (values_of r.1) ∙ ap (map (λ v. Oer.form s v)) (listed_values r.1) ∙ r.3)
-
-  bag_like : (vs ws : Values) (is : List ℕ) (us : List Value) → arranged is (listed vs) ≡ Some us → same_members (values_of us) ws ≡ true → same (bag vs) (bag ws) ≡ true
-  bag_like vs ws is us e f =
-      let h : same (bag (values_of (listed vs))) (bag (values_of (listed ws))) ≡ true = bags_same is (replicate (length (listed ws)) 0) (listed vs) (listed ws) us (listed ws) e (in_place (listed ws)) (in_pairs us ws f) in
-      let k : same (bag (values_of (listed vs))) (bag ws) ≡ true = subst (λ x. same (bag (values_of (listed vs))) (bag x) ≡ true) (listed_again ws) h in
-      subst (λ x. same (bag x) (bag ws) ≡ true) (listed_again vs) k
-
-  ordered_out : (h : Counts) (s : Schema) → Shows free s → (vs : Values) (ys : List Oer.OctetForm) (a b : State) → Arranged s vs ys → Found free (Oer.members_form h ys) a b → (ws : Values) × (m : State) × (same (bag vs) (bag ws) ≡ true) × Counted free h (member_count ws) a m × Chain (Step free) (member_records (λ v. presents s v) ws) m b
+  ordered_out : (h : Counts) (s : Schema) → Shows free s → (vs : Values) (ys : List Oer.OctetForm) (a b : State) → Arranged (λ v. Oer.form s v) vs ys → Found free (Oer.members_form h ys) a b → (ws : Values) × (m : State) × (same (bag vs) (bag ws) ≡ true) × Counted free h (member_count ws) a m × Chain (Step free) (member_records (λ v. presents s v) ws) m b
   ordered_out h s shows vs ys a b r f =
       let g : Found free (Oer.members_form h (each (λ v. Oer.form s v) (values_of r.1))) a b = subst (λ l. Found free (Oer.members_form h l) a b) (sym r.3) f in
       let t = counted_out h s shows (values_of r.1) a b g in
@@ -236,9 +159,9 @@ module _ (free : Oer.Freedom → Bool) where
   pub bag_shows : (z : Size) (h : Counts) (s : Schema) → Shows free s → Shows free (set_of z h s)
   unfolding presents Oer.form Oer.in_any_order
   bag_shows z h s shows (bag vs) a b f =
-      let t = varied_out free {c = Oer.other_order} (λ o. given (Ordered (each (λ v. Oer.form s v) vs) o) (Oer.members_form h)) a.0 b.0 f.0 in
-      let q = given_out free (Ordered (each (λ v. Oer.form s v) vs) t.0) (Oer.members_form h) a.0 b.0 t.1 in
-      let r = ordered_out h s shows vs q.0 a b (reordered s vs t.0 q.0 q.1) (q.2, f.1) in
+      let t = varied_out free {c = Oer.other_order} (λ o. given (Ordered (λ x. written x 0) (stands_before ltb) (each (λ v. Oer.form s v) vs) o) (Oer.members_form h)) a.0 b.0 f.0 in
+      let q = given_out free (Ordered (λ x. written x 0) (stands_before ltb) (each (λ v. Oer.form s v) vs) t.0) (Oer.members_form h) a.0 b.0 t.1 in
+      let r = ordered_out h s shows vs q.0 a b (reordered (λ v. Oer.form s v) (λ x. written x 0) (stands_before ltb) vs t.0 q.0 q.1) (q.2, f.1) in
       (bag r.0, (r.2, λ d. cc d), (r.1, r.3, r.4))
   bag_shows z h s shows v a b f = absurd (of_refused free a.0 b.0 f.0)
 

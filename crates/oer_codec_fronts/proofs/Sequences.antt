@@ -1,10 +1,10 @@
 -- Sequences, sets and groups, as a reader finds them: the preamble and the root, and additions behind a bitmap.
-use Rattle.std.proofs.Common.{◌≡◌, ◌⊎◌, ℕ, suc, Bool, true, false, cond, IsTrue, List, [], ◌∷◌, ◌++◌, length, map, Option, Some, None, option_map, refl, ap, sym, ◌∙◌, subst}
+use Rattle.std.proofs.Common.{◌≡◌, ◌⊎◌, ℕ, Bool, true, false, cond, IsTrue, List, [], ◌∷◌, ◌++◌, map, Option, Some, None, option_map, refl, ap, sym, ◌∙◌, subst}
 use Rattle.std.proofs.lemmas.List.{append-nil}
 use Rattle.asn1_model.specs.Value.{Value, Parts, end, absent, present}
 use Rattle.asn1_model.specs.Schema.{Presence, Schema, Components, no_component, component}
 use Rattle.asn1_model.specs.Normal.{is_at_default, is_group_left_out}
-use Rattle.asn1_model.specs.Tables.{is_required, mark_unless, marks}
+use Rattle.asn1_model.specs.Tables.{is_required, marks}
 use Rattle.asn1_model.specs.Form.{exactly, both, joined, is_present, present_ones, Reads}
 use Rattle.asn1_model.specs.Oer
 use Rattle.asn1_model.proofs.Forms.{map_parts}
@@ -17,8 +17,9 @@ use Rattle.oer_codec_fronts.specs.Takes.{State, Scope, components, added, open_t
 use Rattle.asn1_schema_finding.specs.Marks.{preamble_bits}
 use Rattle.oer_codec_fronts.proofs.Next.{state_same}
 use Rattle.oer_codec_fronts.proofs.Anywhere.{Moves, AllMove, components_move, additions_move, joined_moves}
-use Rattle.oer_codec_fronts.proofs.Fronts.{Like, Finds, Shows, Step, nothing_front, of_nothing, split, join, from_state, from_scopes, noted_by, spelled_by, noted_in, noted_out, noted_same}
-use Rattle.oer_codec_fronts.proofs.Parts.{EachFinds, EachShows, LikeParts, parts_self, like_present, like_absent, root_in, root_out}
+use Rattle.asn1_schema_finding.proofs.Alike.{Like, LikeParts, parts_self, like_present, like_absent, noted_by, noted_same}
+use Rattle.oer_codec_fronts.proofs.Fronts.{Finds, Shows, Step, nothing_front, of_nothing, split, join, from_state, from_scopes, spelled_by, noted_in, noted_out}
+use Rattle.oer_codec_fronts.proofs.Parts.{EachFinds, EachShows, root_in, root_out}
 
 module _ (free : Oer.Freedom → Bool) where
   -- ---- the preamble and the root
@@ -160,7 +161,7 @@ module _ (free : Oer.Freedom → Bool) where
       let m : State = (z.0, open_type rest ∷ added ms us ∷ k) in
       let j : State = (z.1, open_type rest ∷ added ms us ∷ k) in
       let r = h v m j (z.3, refl) in
-      let c : Chain (Step free) (noted_by (is_at_default o s r.0) (is_group_left_out s r.0)) after after = subst (λ l. Chain (Step free) l after after) (noted_same free o s v r.0 r.1.0) w.1 in
+      let c : Chain (Step free) (noted_by (is_at_default o s r.0) (is_group_left_out s r.0)) after after = subst (λ l. Chain (Step free) l after after) (noted_same o s v r.0 r.1.0) w.1 in
       (r.0, m, r.1, (rest, z.2, refl), chain_append (Step free) (presents s r.0) (addition_ends ∷ noted_by (is_at_default o s r.0) (is_group_left_out s r.0)) m j after r.2 (after, (z.4, refl), c))
 
   -- the first of the additions' flags

@@ -1,8 +1,8 @@
 -- The records of a value, of any type.
-use Rattle.std.proofs.Common.{◌≡◌, ◌↔◌, ℕ, suc, Bool, true, false, ◌&&◌, IsTrue, List, [], ◌∷◌, length, Option, Some, None, refl, ap, sym, ◌∙◌, subst}
+use Rattle.std.proofs.Common.{◌≡◌, ◌↔◌, ℕ, suc, Bool, true, false, IsTrue, List, [], ◌∷◌, length, Option, Some, None, refl, ap, sym, ◌∙◌, subst}
 use Rattle.std.proofs.lemmas.List.{append-nil}
-use Rattle.std.proofs.lemmas.Bool.{and_parts, and_from}
-use Rattle.asn1_model.specs.Value.{Value, fields, Parts, end, absent, present, same, same_parts}
+use Rattle.std.proofs.lemmas.Bool.{and_parts}
+use Rattle.asn1_model.specs.Value.{Value, fields, Parts, end, absent, present, same}
 use Rattle.asn1_model.specs.Schema.{Schema, cut, boolean, null, integer, enumerated, bit_string, octet_string, character_string, object_identifier, sequence_of, set_of, sequence, set, group, choice, Components, no_component, component, Alternatives, no_alternative, alternative}
 use Rattle.asn1_model.specs.Form.{Reads, given, is_present}
 use Rattle.asn1_model.specs.Lawful.{is_lawful, are_lawful, are_lawful_alternatives}
@@ -15,9 +15,10 @@ use Rattle.asn1_schema_presented.specs.Presents.{presents, root_records, added_r
 use Rattle.asn1_schema_presented.specs.Chains.{Chain}
 use Rattle.oer_codec_fronts.specs.Takes.{State, components, Front, Found, Begins, Takes}
 use Rattle.oer_codec_fronts.specs.Ties.{Bridges, FindsIn}
-use Rattle.asn1_schema_finding.specs.Bags.{has_no_bag, have_no_bag}
+use Rattle.asn1_schema_finding.specs.Bags.{has_no_bag}
+use Rattle.asn1_schema_finding.proofs.Alike.{LikeParts, parts_self, both_same, like_fields}
 use Rattle.oer_codec_fronts.proofs.Fronts.{Finds, Shows, by_itself, Step, of_refused, given_out, none}
-use Rattle.oer_codec_fronts.proofs.Parts.{EachFinds, EachShows, LikeParts, parts_self, booleans, nulls, integers, items, bit_strings, octet_strings, strings, identifiers, list_finds, list_shows, bag_finds, bag_shows}
+use Rattle.oer_codec_fronts.proofs.Parts.{EachFinds, EachShows, booleans, nulls, integers, items, bit_strings, octet_strings, strings, identifiers, list_finds, list_shows, bag_finds, bag_shows}
 use Rattle.oer_codec_fronts.proofs.Sequences.{begun_in, plain_in, plain_out}
 use Rattle.oer_codec_fronts.proofs.Bitmaps.{additions_long, extended_in, extended_out}
 use Rattle.oer_codec_fronts.proofs.Choices.{choice_finds, choice_shows}
@@ -67,13 +68,6 @@ module _ (free : Oer.Freedom → Bool) (other : IsTrue (free Oer.other_bitmap)) 
       refuses : (xs : List (Option Oer.OctetForm)) → length xs ≡ suc (component_count adds) → (os rest : List ℕ) → Front free (Oer.sequence_form false (marks cs ps) (Oer.component_forms cs ps) xs) os rest → ⊥
       refuses [] e os rest f = cc
       refuses (x ∷ xs) e os rest f = of_refused free os rest f
-
-  both_same : (ps qs rs ss : Parts) → same_parts ps rs ≡ true → same_parts qs ss ≡ true → same (fields ps qs) (fields rs ss) ≡ true
-  unfolding same
-  both_same ps qs rs ss e f = and_from _ _ e f
-
-  like_fields : (cs adds : Components) (ps qs rs ss : Parts) → LikeParts cs ps rs → LikeParts adds qs ss → (same (fields ps qs) (fields rs ss) ≡ true) × ((have_no_bag cs && have_no_bag adds) ≡ true → fields rs ss ≡ fields ps qs)
-  like_fields cs adds ps qs rs ss h k = (both_same ps qs rs ss h.0 k.0, λ e. let p = and_parts _ _ e in ap (λ x. fields x ss) (h.1 p.0) ∙ ap (λ x. fields ps x) (k.1 p.1))
 
   -- ---- every type
   module _ (order : IsTrue (free Oer.other_order)) where

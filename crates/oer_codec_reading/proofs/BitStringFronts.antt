@@ -9,7 +9,7 @@ use Rattle.asn1_model.specs.Oer.{Freedom, Detail, admits, form, is_fixed, OctetF
 use Rattle.asn1_schema_faults.specs.declared.DecodeError.{DecodeError}
 use Rattle.oer_codec_reading_lengths.specs.declared.rules.EncodingRules.{EncodingRules}
 use Rattle.oer_codec_reading.specs.Bits.{bits_in, sized_bits}
-use Rattle.oer_codec_reading.specs.Sized.{one_size}
+use Rattle.asn1_schema_constraints.specs.Terms.{one_size}
 use Rattle.oer_codec_reading.proofs.SizedFronts.{one_length}
 use Rattle.oer_codec_reading_lengths.specs.Fronts.{freedoms, is_basic, Stands, NoneStands, Misses}
 use Rattle.oer_codec_reading_lengths.proofs.Freedoms.{empty_bit_string_is_basic}

@@ -10,7 +10,8 @@ use Rattle.asn1_schema_faults.specs.declared.DecodeError.{DecodeError}
 use Rattle.asn1_schema_faults.specs.declared.DecodeError.TheVariants.{AlreadyFailed, OutOfMemory}
 use Rattle.asn1_values_alphabets.specs.Permitted.{permits, permits_all}
 use Rattle.oer_codec_reading.specs.Fronts.{Stands, Front, NoneStands, NoFront, Misses}
-use Rattle.oer_codec_reading.specs.Sized.{one_size, sized}
+use Rattle.asn1_schema_constraints.specs.Terms.{one_size}
+use Rattle.oer_codec_reading.specs.Sized.{sized}
 use Rattle.oer_codec_reading.proofs.Fronts.{if_stands, if_front, none_misses}
 use Rattle.oer_codec_reading.proofs.SizedFronts.{one_length, sized_one, sized_octets, to_sized, from_sized, too_few}
 use Rattle.oer_codec_reading.specs.Characters.{width, spelled, characters_in, octet_size}

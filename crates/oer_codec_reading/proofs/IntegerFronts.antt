@@ -1,6 +1,6 @@
 -- What stands in front where an INTEGER does.
 use Rattle.std.specs.Prelude.{max}
-use Rattle.std.proofs.Common.{◌≡◌, ℕ, ◌-◌, ◌^◌, ◌≤◌, leb, not, ℤ, pos, negsuc, Bool, true, false, cond, ◌&&◌, ◌||◌, ◌⊎◌, inl, inr, Option, Some, None, List, Result, Ok, Err, IfOk, OnOk, IfErr, refl, sym, ap, ◌∙◌, subst, arith}
+use Rattle.std.proofs.Common.{◌≡◌, ℕ, ◌≤◌, leb, not, ℤ, pos, negsuc, Bool, true, false, cond, ◌&&◌, ◌||◌, ◌⊎◌, inl, inr, Option, Some, None, List, Result, Ok, Err, IfOk, OnOk, IfErr, refl, sym, ap, ◌∙◌, subst, arith}
 use Rattle.std.proofs.lemmas.Int.{ints}
 use Rattle.std.proofs.lemmas.Bool.{false≢true, leb-true, le-leb, cases_lt, and_parts}
 use Rattle.std.proofs.Math.Bool.{or-true}
@@ -12,19 +12,17 @@ use Rattle.asn1_model.specs.Tables.{is_bounded}
 use Rattle.asn1_model.specs.Oer.{Freedom, form, integer_form, fixed_octets, bounded, signed, signed_form, natural_form}
 use Rattle.asn1_values_natives.specs.Octets.{plain}
 use Rattle.asn1_values_natives.proofs.RangeLaws.{not_at_most}
-use Rattle.asn1_values_natives.proofs.Widths.{width-bits, bits-least, signed_octets-plain, signed_octets-le}
-use Rattle.asn1_schema_constraints.specs.Bounds.{later, earlier}
+use Rattle.asn1_values_natives.proofs.Widths.{width-bits, bits-least, signed_octets-plain}
 use Rattle.asn1_schema_constraints.specs.Widths.{has_sign, fixed_width}
-use Rattle.asn1_schema_constraints.proofs.Common.{number_order}
-use Rattle.asn1_schema_constraints.proofs.Meets.{is_above, is_below, later_admits, earlier_admits}
 use Rattle.asn1_schema_constraints.proofs.WidthLaws.{form_told}
-use Rattle.asn1_schema_constraints.specs.Terms.{bounds_of, held_of}
+use Rattle.asn1_schema_constraints.specs.Terms.{bounds_of, held_of, wide_range, admits_whole}
+use Rattle.asn1_schema_constraints.proofs.Held as Held
 use Rattle.asn1_schema_constraints.specs.declared.extensions.Extensible.{Extensible}
 use Rattle.asn1_schema_constraints.specs.declared.parts.Value as Constraint
 use Rattle.asn1_schema_faults.specs.declared.DecodeError.{DecodeError}
 use Rattle.asn1_schema_faults.specs.declared.DecodeError.TheVariants.{AlreadyFailed, OutOfMemory}
 use Rattle.oer_codec_reading_lengths.specs.Fronts.{Stands, Front, NoneStands, NoFront}
-use Rattle.oer_codec_reading.specs.Whole.{holds, number_in, sign_under, width_under, wide_range, admits_whole}
+use Rattle.oer_codec_reading.specs.Whole.{holds, number_in, sign_under, width_under}
 use Rattle.oer_codec_reading_lengths.proofs.Freedoms.{and_true}
 use Rattle.oer_codec_reading_lengths.proofs.Fronts.{if_stands, if_front, none_misses}
 use Rattle.oer_codec_reading_lengths.proofs.LengthFronts.{octets_hold}
@@ -91,41 +89,6 @@ range_holds (Some (negsuc low)) (Some high) v h =
     most (pos n) (negsuc m) a b = absurd (not_below n m b)
     most (negsuc n) high a b = let l = signed_at_most (negsuc n) (negsuc low) (at_most_below low n a) in omega arith
 
--- ---- the numbers that are held under a constraint
-
-from_is : (low : Option ℤ) (v : ℤ) → is_from low v ≡ is_above is_at_most low v
-from_is None v = refl
-from_is (Some a) v = refl
-
-to_is : (high : Option ℤ) (v : ℤ) → is_to high v ≡ is_below is_at_most high v
-to_is None v = refl
-to_is (Some a) v = refl
-
-regroup : (a b c d : Bool) → ((a && b) && (c && d)) ≡ ((a && c) && (b && d))
-regroup true true c d = refl
-regroup true false true d = refl
-regroup true false false d = refl
-regroup false b c d = refl
-
-both_by : {p p' q q' : Bool} → p ≡ p' → q ≡ q' → (p && q) ≡ (p' && q')
-both_by {p} {p'} {q} {q'} e f = ap (λ t. t && q) e ∙ ap (λ t. p' && t) f
-
-held_within : (c : Extensible Constraint.Value) (h : Range) (v : ℤ) → is_within (held_of (Some c) h) v ≡ (is_within h v && is_within wide_range v)
-held_within c h v =
-    both_by (from_is (later is_at_most h.low wide_range.low) v ∙ (later_admits is_at_most number_order h.low wide_range.low v ∙ sym (both_by (from_is h.low v) (from_is wide_range.low v))))
-    (to_is (earlier is_at_most h.high wide_range.high) v ∙ (earlier_admits is_at_most number_order h.high wide_range.high v ∙ sym (both_by (to_is h.high v) (to_is wide_range.high v))))
-    ∙ regroup (is_from h.low v) (is_from wide_range.low v) (is_to h.high v) (is_to wide_range.high v)
-
-wide_fits : (v : ℤ) → is_within wide_range v ≡ true → fits_128 v ≡ true
-wide_fits (pos n) h =
-    let p = and_parts (is_at_most (negsuc (2 ^ 127 - 1)) (pos n)) (is_at_most (pos n) (pos (2 ^ 127 - 1))) h in
-    let l = at_most_natural n (2 ^ 127 - 1) p.1 in
-    le-leb (signed_octets (pos n)) 16 (signed_octets-le (pos n) 15 (omega arith))
-wide_fits (negsuc n) h =
-    let p = and_parts (is_at_most (negsuc (2 ^ 127 - 1)) (negsuc n)) (is_at_most (negsuc n) (pos (2 ^ 127 - 1))) h in
-    let l = at_most_below (2 ^ 127 - 1) n p.0 in
-    le-leb (signed_octets (negsuc n)) 16 (signed_octets-le (negsuc n) 15 (omega arith))
-
 -- ---- the form
 
 module _ (free : Freedom → Bool) where
@@ -163,7 +126,7 @@ module _ (free : Freedom → Bool) where
   integer_read None h v w rest a i s = integer_stands (bounds_of None) h v w rest i refl refl s
   integer_read (Some c) h v w rest a i s =
       let p = and_parts (is_within wide_range v) _ a in
-      integer_stands (bounds_of (Some c)) (held_of (Some c) h) v w rest (held_within c h v ∙ and_true _ _ i p.0) (ap (λ t. not (is_bounded (bounds_of (Some c))) || t) (wide_fits v p.0) ∙ or-true (not (is_bounded (bounds_of (Some c))))) p.1 s
+      integer_stands (bounds_of (Some c)) (held_of (Some c) h) v w rest (Held.admitted_held (Some c) h v a i) (ap (λ t. not (is_bounded (bounds_of (Some c))) || t) (Held.wide_fits v p.0) ∙ or-true (not (is_bounded (bounds_of (Some c))))) p.1 s
 
   pub no_integer : (c : Option (Extensible Constraint.Value)) (h : Range) (sign : Bool) (width : Option ℕ) (w : List ℕ) → sign ≡ sign_under (bounds_of c) → width ≡ width_under (bounds_of c) → NoneStands free (number_in sign width) w → NoneStands free (form (integer (bounds_of c) (held_of c h))) w
   no_integer c h sign width w e f n u rest s =
@@ -178,12 +141,10 @@ module _ (free : Freedom → Bool) where
       n (ap (is_within (held_of c h)) o ∙ i.1) (ap (λ x. (bounds_of c).extensible || is_within (bounds_of c).range x) o ∙ i.2)
 
   pub not_admitted : (c : Option (Extensible Constraint.Value)) (h : Range) (v : ℤ) (w mid : List ℕ) → admits_whole c v ≡ false → Stands free (number_in (sign_under (bounds_of c)) (width_under (bounds_of c)) v) w mid → NoneStands free (form (integer (bounds_of c) (held_of c h))) w
-  not_admitted None h v w mid a s = cc
-  not_admitted (Some c) h v w mid a s = other_integer (Some c) h v w mid (λ x y. false≢true (sym a ∙ and_true _ _ ((and_parts (is_within h v) (is_within wide_range v) (sym (held_within c h v) ∙ x)).1) y)) s
+  not_admitted c h v w mid a s = other_integer c h v w mid (λ x y. Held.not_admitted c h v a x y) s
 
   pub not_held : (c : Option (Extensible Constraint.Value)) (h : Range) (v : ℤ) (w mid : List ℕ) → is_within h v ≡ false → Stands free (number_in (sign_under (bounds_of c)) (width_under (bounds_of c)) v) w mid → NoneStands free (form (integer (bounds_of c) (held_of c h))) w
-  not_held None h v w mid a s = other_integer None h v w mid (λ x y. false≢true (sym a ∙ x)) s
-  not_held (Some c) h v w mid a s = other_integer (Some c) h v w mid (λ x y. false≢true (sym a ∙ (and_parts (is_within h v) (is_within wide_range v) (sym (held_within c h v) ∙ x)).0)) s
+  not_held c h v w mid a s = other_integer c h v w mid (λ x y. Held.not_held c h v a x) s
 
   same_form : (c : Option (Extensible Constraint.Value)) (sign : Bool) (width : Option ℕ) (v : ℤ) (w rest : List ℕ) → sign ≡ sign_under (bounds_of c) → width ≡ width_under (bounds_of c) → Stands free (number_in sign width v) w rest → Stands free (number_in (sign_under (bounds_of c)) (width_under (bounds_of c)) v) w rest
   same_form c sign width v w rest e f s = subst (λ t. Stands free (number_in t (width_under (bounds_of c)) v) w rest) e (subst (λ o. Stands free (number_in sign o v) w rest) f s)

@@ -4,7 +4,6 @@ pub use Rattle.oer_codec_reading_lengths.proofs.LengthFronts
 pub mod Truths
 pub mod SizedFronts
 pub mod WholeFronts
-pub mod Spans
 pub mod IntegerFronts
 pub mod BitFronts
 pub mod BitStringFronts

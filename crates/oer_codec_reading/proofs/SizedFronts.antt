@@ -9,7 +9,8 @@ use Rattle.asn1_model.specs.Strings.{each_is, is_octet}
 use Rattle.asn1_model.specs.Oer.{Freedom, form, admits, is_fixed, is_fixed_at, octets_form, counted}
 use Rattle.asn1_values_natives.proofs.OctetLaws.{AreOctets}
 use Rattle.oer_codec_reading_lengths.specs.Fronts.{Stands, NoneStands}
-use Rattle.oer_codec_reading.specs.Sized.{one_size, sized}
+use Rattle.asn1_schema_constraints.specs.Terms.{one_size}
+use Rattle.oer_codec_reading.specs.Sized.{sized}
 use Rattle.oer_codec_reading_lengths.proofs.Fronts.{fronts_equal, exactly_stands, exactly_front, if_stands, if_front}
 use Rattle.oer_codec_reading_lengths.proofs.LengthFronts.{each_octet, counted_front, counted_one}
 

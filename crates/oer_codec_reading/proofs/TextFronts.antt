@@ -7,7 +7,7 @@ use Rattle.asn1_model.specs.Form.{Reads}
 use Rattle.asn1_model.specs.Strings.{may_hold}
 use Rattle.asn1_model.specs.Oer.{Freedom, form, admits, is_fixed, octets_form}
 use Rattle.oer_codec_reading.specs.Fronts.{Front, NoneStands}
-use Rattle.oer_codec_reading.specs.Sized.{one_size}
+use Rattle.asn1_schema_constraints.specs.Terms.{one_size}
 use Rattle.oer_codec_reading.proofs.Fronts.{if_stands, if_front}
 use Rattle.oer_codec_reading.proofs.SizedFronts.{one_length, sized_one, to_sized}
 

@@ -1,15 +1,11 @@
 -- Whole numbers in a number of octets, or behind it.
-use Rattle.std.specs.Prelude.{ℕ, ◌-◌, ◌^◌, ◌==◌, leb, ltb, ℤ, pos, negsuc, Bool, true, false, cond, ◌&&◌, ◌||◌, List}
+use Rattle.std.specs.Prelude.{ℕ, ◌^◌, ◌==◌, leb, ltb, ℤ, Bool, true, false, cond, ◌||◌, List}
 use Rattle.std.specs.Prelude.{◌∷◌, Option, Some, None}
-use Rattle.asn1_model.specs.Schema.{Bounds, Range}
-use Rattle.asn1_model.specs.Numbers.{octet_width, signed_octets, is_within}
+use Rattle.asn1_model.specs.Schema.{Bounds}
+use Rattle.asn1_model.specs.Numbers.{octet_width, signed_octets}
 use Rattle.asn1_model.specs.Form.{only_if}
 use Rattle.asn1_model.specs.Oer.{OctetForm, natural_form, signed_form, unsigned}
 use Rattle.asn1_values_natives.specs.Octets.{is_padded, plain}
-use Rattle.asn1_schema_constraints.specs.Bounds.{range_of}
-use Rattle.asn1_schema_constraints.specs.Sets.{has_additions}
-use Rattle.asn1_schema_constraints.specs.declared.extensions.Extensible.{Extensible}
-use Rattle.asn1_schema_constraints.specs.declared.parts.Value.{Value}
 use Rattle.asn1_schema_constraints.specs.Widths.{has_sign, fixed_width}
 
 -- Whether so many octets, with a sign or without, hold a number; any number stands behind how many they are.
@@ -39,13 +35,3 @@ width_under b = cond b.extensible None (fixed_width b.range.low b.range.high)
 -- A count that 64 bits hold (X.696 17).
 abbrev pub count_in : ℕ → OctetForm
 count_in n = only_if (ltb n (2 ^ 64)) (unsigned n)
-
--- The numbers of 128 bits of two's complement.
-abbrev pub wide_range : Range
-wide_range = record { low = Some (negsuc (2 ^ 127 - 1)); high = Some (pos (2 ^ 127 - 1)) }
-
--- Whether a value constraint, where there is one, admits a number: one of 128 bits, within bounds that have no mark
--- (X.680 51.4 and 52).
-abbrev pub admits_whole : Option (Extensible Value) → ℤ → Bool
-admits_whole None v = true
-admits_whole (Some c) v = is_within wide_range v && (has_additions c || is_within (range_of c.constraint.value) v)

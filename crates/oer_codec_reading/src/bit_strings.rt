@@ -12,7 +12,6 @@ ghost use Rattle.oer_codec_reading_lengths.specs.Fronts.{freedoms, is_basic, Fro
 ghost use Rattle.oer_codec_reading.specs.Bits.{bits_in, sized_bits};
 
 use crate::lengths::read_length;
-use crate::sizes::{fixed_size, is_admitted};
 use crate::{Cursor, EncodingRules};
 use asn1_schema_constraints::{Bounded, Constraints};
 use asn1_schema_faults::DecodeError;
@@ -159,8 +158,9 @@ pub fn read_bit_string(
     ensures only { IfErr result (NoFront (freedoms rules)
         (Asn1.bit_string (sizes_of constraints.entry.size) (counts_of held)) cursor.old) }
 {
-    let bits = read_sized_bits(cursor, rules, fixed_size(constraints))?;
-    if !is_admitted(constraints, held, bits.len()) {
+    let sizes = constraints.sizes();
+    let bits = read_sized_bits(cursor, rules, sizes.fixed())?;
+    if !sizes.admits(held, bits.len()) {
         return Err(DecodeError::SizeConstraintNotSatisfied);
     }
     let string = BitString::from_bitslice(alloc, bits)?;

@@ -10,7 +10,6 @@ ghost use Rattle.oer_codec_reading.specs.Sized.{sized};
 ghost use Rattle.oer_codec_reading.specs.Characters as Characters;
 
 use crate::octet_strings::read_sized;
-use crate::sizes::{fixed_size, is_admitted};
 use crate::{Cursor, EncodingRules};
 use asn1_schema_constraints::{Bounded, Constraints};
 use asn1_schema_faults::DecodeError;
@@ -115,12 +114,13 @@ pub fn read_characters<S: StaticPermittedAlphabet>(
         (alphabet_of constraints.entry.permitted_alphabet) any_count) cursor.old) }
 {
     let wide = S::contains_char(0x100);
-    let octets = read_spelled(cursor, rules, fixed_size(constraints), wide)?;
+    let sizes = constraints.sizes();
+    let octets = read_spelled(cursor, rules, sizes.fixed(), wide)?;
     let width = octets_each(wide);
     if octets.len() % width != 0 {
         return Err(DecodeError::StringConversionFailed);
     }
-    if !is_admitted(constraints, Bounded::None, octets.len() / width) {
+    if !sizes.admits(Bounded::None, octets.len() / width) {
         return Err(DecodeError::SizeConstraintNotSatisfied);
     }
     let string = string_of(alloc, octets, wide)?;

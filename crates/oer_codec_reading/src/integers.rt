@@ -4,13 +4,12 @@ ghost use Rattle.std.specs.Prelude.{IfSome};
 ghost use Rattle.asn1_model.specs.Numbers.{is_within};
 ghost use Rattle.asn1_model.specs.Schema as Asn1;
 ghost use Rattle.asn1_model.specs.Value as Asn1Value;
-ghost use Rattle.asn1_schema_constraints.specs.Terms.{bounds_of, held_of};
+ghost use Rattle.asn1_schema_constraints.specs.Terms.{admits_whole, bounds_of, held_of, wide_range};
 ghost use Rattle.asn1_values_natives.specs.Octets.{own_number};
 ghost use Rattle.oer_codec_reading_lengths.specs.Fronts.{freedoms, Front, NoFront};
-ghost use Rattle.oer_codec_reading.specs.Whole.{admits_whole, sign_under, wide_range, width_under};
+ghost use Rattle.oer_codec_reading.specs.Whole.{sign_under, width_under};
 
 use crate::numbers::read_number;
-use crate::widths::form_within;
 use crate::{Cursor, EncodingRules};
 use asn1_schema_constraints::Constraints;
 use asn1_schema_faults::DecodeError;
@@ -33,7 +32,11 @@ fn form_under(constraints: Constraints) -> (bool, Option<usize>)
     if constraint.extensible.is_some() {
         return (true, None);
     }
-    form_within(&constraint.constraint.value)
+    let (signed, width) = constraint.constraint.value.range_in_bytes();
+    match width {
+        Some(octets) => (signed, Some(usize::from(octets))),
+        None => (signed, None),
+    }
 }
 
 /// The number that octets are, with a sign or without, if 128 bits of two's complement hold it.

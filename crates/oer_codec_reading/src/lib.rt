@@ -17,11 +17,9 @@ pub mod items;
 pub mod numbers;
 pub mod octet_strings;
 pub mod open_types;
-pub mod sizes;
 pub mod tags;
 pub mod texts;
 pub mod units;
-pub mod widths;
 
 pub use bitmaps::{are_zero, read_bitmap};
 pub use characters::read_characters;

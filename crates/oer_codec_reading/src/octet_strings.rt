@@ -8,7 +8,6 @@ ghost use Rattle.oer_codec_reading_lengths.specs.Fronts.{freedoms, Front, Misses
 ghost use Rattle.oer_codec_reading.specs.Sized.{sized};
 
 use crate::lengths::read_counted;
-use crate::sizes::{fixed_size, is_admitted};
 use crate::{Cursor, EncodingRules};
 use asn1_schema_constraints::{Bounded, Constraints};
 use asn1_schema_faults::DecodeError;
@@ -60,8 +59,9 @@ pub fn read_octet_string<'input>(
     ensures only { IfErr result (NoFront (freedoms rules)
         (Asn1.octet_string (sizes_of constraints.entry.size) (counts_of held)) cursor.old) }
 {
-    let octets = read_sized(cursor, rules, fixed_size(constraints))?;
-    if !is_admitted(constraints, held, octets.len()) {
+    let sizes = constraints.sizes();
+    let octets = read_sized(cursor, rules, sizes.fixed())?;
+    if !sizes.admits(held, octets.len()) {
         return Err(DecodeError::SizeConstraintNotSatisfied);
     }
     Ok(octets)

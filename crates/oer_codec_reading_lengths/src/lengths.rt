@@ -9,14 +9,7 @@ use crate::magnitudes::short_magnitude;
 use crate::{Cursor, EncodingRules};
 use asn1_schema_faults::DecodeError;
 use asn1_values_natives::Wide;
-use asn1_values_natives::octets::bit_count;
-
-/// How many octets hold a number; zero needs none.
-fn octet_width(number: usize) -> usize
-    ensures { result ≡ Numbers.octet_width number }
-{
-    (bit_count(number as u128) + 7) / 8
-}
+use asn1_values_natives::octets::octet_width;
 
 /// Whether a length in so many octets behind their number is read: in the canonical rules only if they are the fewest
 /// (X.696 8.6.5).
@@ -24,7 +17,7 @@ fn octet_width(number: usize) -> usize
 fn is_taken(rules: EncodingRules, length: usize, count: usize) -> bool
     ensures { result ≡ (is_basic rules || (leb 128 length && (Numbers.octet_width length == count))) }
 {
-    rules.is_oer() || length >= 0x80 && octet_width(length) == count
+    rules.is_oer() || length >= 0x80 && octet_width(length as u128) == count
 }
 
 /// The number that octets are, the highest first, if 64 bits hold it.

@@ -6,22 +6,19 @@ use Rattle.std.proofs.lemmas.Int.{ints}
 use Rattle.std.proofs.lemmas.Bool.{le-leb, leb-true, cases_lt}
 use Rattle.asn1_model.specs.Form.{written, only_if}
 use Rattle.asn1_model.specs.Schema.{Range}
-use Rattle.asn1_model.specs.Numbers.{digits, width, octet_width, least_octets, signed_octets, complement, is_at_most, is_from, is_to, is_within, fits_128}
+use Rattle.asn1_model.specs.Numbers.{digits, width, octet_width, least_octets, signed_octets, complement, is_at_most, is_within, fits_128}
 use Rattle.asn1_model.specs.Oer
 use Rattle.asn1_model.specs.Tables.{is_bounded}
-use Rattle.asn1_schema_constraints.proofs.Common.{number_order}
-use Rattle.asn1_schema_constraints.proofs.WidthLaws.{width_natural}
-use Rattle.asn1_schema_constraints.proofs.Meets.{is_above, is_below, later_admits, earlier_admits}
-use Rattle.asn1_schema_constraints.specs.Bounds.{lower, upper, later, earlier}
+use Rattle.asn1_schema_constraints.specs.Bounds.{lower, upper}
 use Rattle.asn1_schema_constraints.specs.Widths.{has_sign, fixed_width}
-use Rattle.asn1_schema_constraints.specs.Terms.{bounds_of, held_of}
+use Rattle.asn1_schema_constraints.specs.Terms.{bounds_of, held_of, wide_range}
+use Rattle.asn1_schema_constraints.proofs.Common.{both_by}
+use Rattle.asn1_schema_constraints.proofs.Held.{held_within, fits_wide, too_wide}
 use Rattle.asn1_schema_constraints.specs.declared.extensions.Extensible.{Extensible}
 use Rattle.asn1_schema_constraints.specs.declared.parts.Value.{Value}
 use Rattle.asn1_values_natives.specs.Octets.{plain, is_below_zero, signed_octets_of, unsigned_octets_of}
-use Rattle.asn1_values_natives.proofs.OctetLaws.{length-digits}
-use Rattle.asn1_values_natives.proofs.RangeLaws.{not_at_most, at_most}
 use Rattle.asn1_values_natives.proofs.TwosComplement.{plain-fits}
-use Rattle.asn1_values_natives.proofs.Widths.{signed_octets-le, width-bits, bits-least}
+use Rattle.asn1_values_natives.proofs.Widths.{width-bits, bits-least}
 use Rattle.oer_codec_writing.specs.Writing.{Adds}
 use Rattle.oer_codec_writing.proofs.DigitTexts.{complement_digits}
 use Rattle.oer_codec_writing.proofs.ScalarTexts.{if_true, if_false}
@@ -82,10 +79,6 @@ width_few (Some (pos a)) None k e = cc
 width_few (Some (negsuc a)) (Some b) k e = rounded_few (max (signed_octets (negsuc a)) (signed_octets b)) k e
 width_few (Some (negsuc a)) None k e = cc
 width_few None b k e = cc
-
-pub width_plain : (low high : ℤ) → pos 0 ≤ℤ low → pos 0 ≤ℤ high → Oer.fixed_octets (least_octets (of_z w128 high)) ≡ fixed_width (Some low) (Some high)
-width_plain low (pos m) a b = sym (ap Oer.fixed_octets (length-digits (least_octets m) m)) ∙ width_natural low (pos m) a b
-width_plain low (negsuc m) a b = absurd (omega (arith, ints))
 
 width_grows : (m n : ℕ) → m ≤ n → width m ≤ width n
 width_grows m n h = let b = width-bits n in bits-least m (width n) (width m) (width-bits m) (omega (arith, b.below))
@@ -160,46 +153,6 @@ adds_fewest_natural k (negsuc m) old new s e a = cc
 
 -- ---- under a value constraint
 
-from_is : (low : Option ℤ) (v : ℤ) → is_from low v ≡ is_above is_at_most low v
-from_is None v = refl
-from_is (Some a) v = refl
-
-to_is : (high : Option ℤ) (v : ℤ) → is_to high v ≡ is_below is_at_most high v
-to_is None v = refl
-to_is (Some a) v = refl
-
-regroup : (a b c d : Bool) → ((a && b) && (c && d)) ≡ ((a && c) && (b && d))
-regroup true true c d = refl
-regroup true false true d = refl
-regroup true false false d = refl
-regroup false b c d = refl
-
-both_by : {p p' q q' : Bool} → p ≡ p' → q ≡ q' → (p && q) ≡ (p' && q')
-both_by {p} {p'} {q} {q'} e f = ap (λ t. t && q) e ∙ ap (λ t. p' && t) f
-
-abbrev wide : Range
-wide = record { low = Some (negsuc (2 ^ 127 - 1)); high = Some (pos (2 ^ 127 - 1)) }
-
-held_within : (c : Extensible Value) (h : Range) (v : ℤ) → is_within (held_of (Some c) h) v ≡ (is_within h v && is_within wide v)
-held_within c h v =
-    both_by (from_is (later is_at_most h.low wide.low) v ∙ (later_admits is_at_most number_order h.low wide.low v ∙ sym (both_by (from_is h.low v) (from_is wide.low v))))
-    (to_is (earlier is_at_most h.high wide.high) v ∙ (earlier_admits is_at_most number_order h.high wide.high v ∙ sym (both_by (to_is h.high v) (to_is wide.high v))))
-    ∙ regroup (is_from h.low v) (is_from wide.low v) (is_to h.high v) (is_to wide.high v)
-
-fits_wide : (v : ℤ) → fits_128 v ≡ true → is_within wide v ≡ true
-fits_wide (pos m) e = let p = plain-fits (pos m) 15 (leb-true (signed_octets (pos m)) 16 e) in both_by (at_most (negsuc (2 ^ 127 - 1)) (pos m) (omega (arith, ints))) (at_most (pos m) (pos (2 ^ 127 - 1)) (omega (arith, ints, p)))
-fits_wide (negsuc m) e = let p = plain-fits (negsuc m) 15 (leb-true (signed_octets (negsuc m)) 16 e) in both_by (at_most (negsuc (2 ^ 127 - 1)) (negsuc m) (omega (arith, ints, p))) (at_most (negsuc m) (pos (2 ^ 127 - 1)) (omega (arith, ints)))
-
-too_wide : (v : ℤ) → 16 < signed_octets v → is_within wide v ≡ false
-too_wide (pos m) h = let l : 2 ^ 127 ≤ m = large (pos m) h in not_at_most (pos m) (pos (2 ^ 127 - 1)) (omega (arith, ints))
-  where
-    large : (z : ℤ) → 16 < signed_octets z → 2 ^ 127 ≤ plain z
-    large z h = elim (cases_lt (plain z) (2 ^ 127)) [ inl l ↦ let s = signed_octets-le z 15 l in absurd (omega arith) | inr g ↦ g ]
-too_wide (negsuc m) h = let l : 2 ^ 127 ≤ m = large (negsuc m) h in ap (λ b. b && is_at_most (negsuc m) (pos (2 ^ 127 - 1))) (not_at_most (negsuc (2 ^ 127 - 1)) (negsuc m) (omega (arith, ints)))
-  where
-    large : (z : ℤ) → 16 < signed_octets z → 2 ^ 127 ≤ plain z
-    large z h = elim (cases_lt (plain z) (2 ^ 127)) [ inl l ↦ let s = signed_octets-le z 15 l in absurd (omega arith) | inr g ↦ g ]
-
 or_right : (a b : Bool) → b ≡ true → (a || b) ≡ true
 or_right true b e = refl
 or_right false b e = e
@@ -239,14 +192,14 @@ module _ (c : Extensible Value) (h : Range) (v : ℤ) (held : is_within h v ≡ 
 
 pub wide_none : (c : Extensible Value) (h : Range) (v : ℤ) → 16 < signed_octets v → written (Oer.integer_form (bounds_of (Some c)) (held_of (Some c) h) v) 0 ≡ None
 unfolding Oer.integer_form
-wide_none c h v l = if_false _ _ (and_first _ _ (held_within c h v ∙ and_second (is_within h v) (is_within wide v) (too_wide v l)))
+wide_none c h v l = if_false _ _ (and_first _ _ (held_within c h v ∙ and_second (is_within h v) (is_within wide_range v) (too_wide v l)))
 
-pub few_within : (v : ℤ) → is_within wide v ≡ true → signed_octets v ≤ 16
+pub few_within : (v : ℤ) → is_within wide_range v ≡ true → signed_octets v ≤ 16
 few_within v e = elim (cases_lt 16 (signed_octets v)) [ inl l ↦ let n = too_wide v l in let x : true ≡ false = sym e ∙ n in cc | inr g ↦ g ]
 
-pub many_past : (v : ℤ) → is_within wide v ≡ false → 16 < signed_octets v
+pub many_past : (v : ℤ) → is_within wide_range v ≡ false → 16 < signed_octets v
 many_past v e = elim (cases_lt 16 (signed_octets v)) [ inl l ↦ l | inr g ↦ let y = fits_wide v (few_octets v g) in let x : true ≡ false = sym y ∙ e in cc ]
 
-pub held_within_wide : (v : ℤ) → is_within wide v ≡ true → FitsSigned w128 v
+pub held_within_wide : (v : ℤ) → is_within wide_range v ≡ true → FitsSigned w128 v
 held_within_wide (pos m) e = let p = between (negsuc (2 ^ 127 - 1)) (pos (2 ^ 127 - 1)) (pos m) e in record { sfits = omega (arith, ints, p.1) }
 held_within_wide (negsuc m) e = let p = between (negsuc (2 ^ 127 - 1)) (pos (2 ^ 127 - 1)) (negsuc m) e in record { sfits = omega (arith, ints, p.0) }

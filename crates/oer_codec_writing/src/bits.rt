@@ -12,7 +12,6 @@ ghost use Rattle.asn1_values_bits.specs.Octets.{filled_up};
 ghost use Rattle.oer_codec_writing.specs.Writing.{Adds, Refuses};
 
 use crate::lengths::push_length;
-use crate::sizes::{admits, is_fixed};
 use asn1_schema_constraints::{Bounded, Constraints};
 use asn1_schema_faults::EncodeError;
 use asn1_values_bits::BitStr;
@@ -76,9 +75,10 @@ pub fn push_bit_string(
         (Refuses (written (form (bit_string (sizes_of constraints.entry.size) (counts_of held))
         (bit_list (bits_of value.entry))) 0)) }
 {
-    if !admits(constraints, held, value.len()) {
+    let sizes = constraints.sizes();
+    if !sizes.admits(held, value.len()) {
         return Err(EncodeError::SizeConstraintNotSatisfied);
     }
-    push_sized_bits(octets, is_fixed(constraints), value)?;
+    push_sized_bits(octets, sizes.is_fixed(), value)?;
     Ok(())
 }

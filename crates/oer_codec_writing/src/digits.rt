@@ -4,7 +4,7 @@ ghost use Rattle.asn1_model.specs.Numbers.{digits, least_octets, signed_octets};
 
 use asn1_schema_faults::EncodeError;
 use asn1_values_natives::Wide;
-use asn1_values_natives::octets::bit_count;
+use asn1_values_natives::octets::{bit_count, octet_width};
 
 /// Adds the low octets of a number, so many of them, the highest first.
 #[inline]
@@ -42,5 +42,5 @@ pub(crate) fn natural_len(number: u128) -> usize
     ensures octets { result ≡ least_octets number }
     ensures most { result ≤ 16 }
 {
-    ((bit_count(number) + 7) / 8).max(1)
+    octet_width(number).max(1)
 }

@@ -10,7 +10,6 @@ ghost use Rattle.asn1_values_natives.specs.Octets.{is_below_zero};
 ghost use Rattle.oer_codec_writing.specs.Writing.{Adds, Refuses};
 
 use crate::digits::{natural_len, push_digits, signed_len};
-use crate::forms::form_under;
 use crate::lengths::{push_counted, push_counted_digits};
 use asn1_schema_constraints::{Bounded, Constraints, Extensible, Value};
 use asn1_schema_faults::EncodeError;
@@ -68,7 +67,7 @@ fn push_bounded(
     ensures { MatchResult result (λ _. Adds (written (bounded (lower bounds) (upper bounds) number) 0)
         octets.old.items octets.new.items) (λ e. e ≡ EncodeError.OutOfMemory) }
 {
-    let (signed, width) = form_under(&bounds);
+    let (signed, width) = bounds.range_in_bytes();
     if signed {
         push_signed(octets, width, number)?;
     } else {

@@ -1,20 +1,13 @@
 //! Lengths, counts, and octets behind their number (X.696 8.6 and 17).
 ghost use Rattle.std.specs.Prelude.{◌≡◌, ◌<◌, IfSome, IfNone, ◌≤◌, MatchResult};
 ghost use Rattle.asn1_model.specs.Form.{written};
-ghost use Rattle.asn1_model.specs.Numbers.{digits, octet_width as octet_width_of};
+ghost use Rattle.asn1_model.specs.Numbers.{digits};
 ghost use Rattle.asn1_model.specs.Oer.{length_form, counted, unsigned};
 ghost use Rattle.oer_codec_writing.specs.Writing.{Adds};
 
 use crate::digits::{natural_len, push_digits};
 use asn1_schema_faults::EncodeError;
-
-/// How many octets hold a number; zero needs none.
-fn octet_width(number: usize) -> usize
-    ensures width { result ≡ octet_width_of number }
-    ensures most { result ≤ 8 }
-{
-    (64 - number.leading_zeros() as usize + 7) / 8
-}
+use asn1_values_natives::octets::octet_width;
 
 /// A length below 128 as its one octet (X.696 8.6).
 #[inline(always)]
@@ -40,9 +33,10 @@ pub(crate) fn push_length(octets: &mut Vec<u8>, length: usize) -> Result<(), Enc
         octets.push(octet)?;
         return Ok(());
     }
-    let count = octet_width(length);
+    let number = length as u128;
+    let count = octet_width(number);
     octets.push(0x80 + count as u8)?;
-    push_digits(octets, length as u128, count)?;
+    push_digits(octets, number, count)?;
     Ok(())
 }
 

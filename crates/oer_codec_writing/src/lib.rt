@@ -3,14 +3,13 @@
 
 mod bits;
 mod digits;
-mod forms;
 mod identifiers;
 mod integers;
 mod item_numbers;
 mod items;
 mod lengths;
+mod octet_strings;
 mod scalars;
-mod sizes;
 mod strings;
 mod tags;
 
@@ -20,7 +19,7 @@ pub use integers::push_integer;
 pub use item_numbers::push_item;
 pub use items::push_enumerated;
 pub use lengths::{push_count, push_counted, short_length};
+pub use octet_strings::push_octet_string;
 pub use scalars::push_boolean;
-pub use sizes::push_octet_string;
 pub use strings::{push_characters, push_utf8};
 pub use tags::push_tag;

@@ -11,7 +11,7 @@ ghost use Rattle.asn1_schema_constraints.specs.Terms.{sizes_of, alphabet_of};
 ghost use Rattle.oer_codec_writing.specs.Writing.{Adds, Refuses};
 
 use crate::lengths::push_length;
-use crate::sizes::{admits, is_fixed, push_sized};
+use crate::octet_strings::push_sized;
 use asn1_schema_constraints::{Bounded, Constraints};
 use asn1_schema_faults::EncodeError;
 use asn1_values_alphabets::StaticPermittedAlphabet;
@@ -33,10 +33,11 @@ pub fn push_utf8(
         (form (character_string utf8 (sizes_of constraints.entry.size)
         (alphabet_of constraints.entry.permitted_alphabet) any_count) (text value.now)) 0)) }
 {
-    if !admits(constraints, Bounded::None, value.len()) {
+    let sizes = constraints.sizes();
+    if !sizes.admits(Bounded::None, value.len()) {
         return Err(EncodeError::SizeConstraintNotSatisfied);
     }
-    push_sized(octets, is_fixed(constraints), value.as_bytes())?;
+    push_sized(octets, sizes.is_fixed(), value.as_bytes())?;
     Ok(())
 }
 
@@ -128,14 +129,15 @@ pub fn push_characters<S: StaticPermittedAlphabet>(
         (Refuses (written (form (character_string S.kind (sizes_of constraints.entry.size)
         (alphabet_of constraints.entry.permitted_alphabet) any_count) (text (S.characters value.now))) 0)) }
 {
-    let count = value.char_count();
-    if !admits(constraints, Bounded::None, count) {
+    let sizes = constraints.sizes();
+    if !sizes.admits(Bounded::None, value.char_count()) {
         return Err(EncodeError::SizeConstraintNotSatisfied);
     }
+    let fixed = sizes.is_fixed();
     if S::contains_char(0x100) {
-        push_wide_string(octets, is_fixed(constraints), value)?;
+        push_wide_string(octets, fixed, value)?;
         return Ok(());
     }
-    push_narrow_string(octets, is_fixed(constraints), value)?;
+    push_narrow_string(octets, fixed, value)?;
     Ok(())
 }

@@ -15,7 +15,7 @@ use Rattle.asn1_schema_presented.specs.Chains.{Chain}
 use Rattle.asn1_schema_presented.proofs.Chains.{chain_split, chain_append}
 use Rattle.per_codec_fronts.specs.Takes.{Place, State, Scope, open_type, alternative, Front, Found, Closes, Opens, Ends}
 use Rattle.asn1_schema_finding.specs.Bags.{are_no_bags}
-use Rattle.per_codec_fronts.proofs.Alike.{chosen_same}
+use Rattle.asn1_schema_finding.proofs.Alike.{chosen_same}
 use Rattle.per_codec_fronts.proofs.Next.{state_same}
 use Rattle.per_codec_fronts.proofs.Fronts.{Finds, Shows, Step, of_refused, split, join, none, from_state}
 use Rattle.per_codec_fronts.proofs.Opened.{open_in, open_out}

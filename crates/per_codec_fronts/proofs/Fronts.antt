@@ -11,7 +11,7 @@ use Rattle.asn1_schema_presented.specs.Chains.{Chain}
 use Rattle.asn1_schema_presented.proofs.Chains.{chain_split, chain_append}
 use Rattle.per_codec_fronts.specs.Takes.{Place, State, Scope, Front, Found, Takes}
 use Rattle.per_codec_fronts.specs.Ties.{Bridges}
-use Rattle.per_codec_fronts.proofs.Alike.{Like, like_itself, noted_by, noted_same}
+use Rattle.asn1_schema_finding.proofs.Alike.{Like, like_itself, noted_by, noted_same}
 use Rattle.per_codec_fronts.proofs.Next.{place_same, state_same}
 
 -- the records of a value are found where the bits have its form

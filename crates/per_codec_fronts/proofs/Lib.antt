@@ -1,5 +1,4 @@
 pub mod Next
-pub mod Alike
 pub mod Fronts
 pub mod Lists
 pub mod Parts

@@ -12,7 +12,7 @@ use Rattle.asn1_schema_presented.specs.Presents.{presents, member_records, membe
 use Rattle.asn1_schema_presented.specs.Chains.{Chain}
 use Rattle.asn1_schema_presented.proofs.Chains.{chain_split, chain_append}
 use Rattle.per_codec_fronts.specs.Takes.{Place, Tally, State, Scope, members, Front, Found, InPlace, Admits, in_all, with_fragment, Header, Headed, ByHighest, Counted, SizeMark, ListBegins, MemberDue}
-use Rattle.per_codec_fronts.proofs.Alike.{LikeMembers, no_members, like_members, list_same, in_place, bag_like, Arranged, Ordered, reordered}
+use Rattle.asn1_schema_finding.proofs.Alike.{LikeMembers, no_members, like_members, list_same, in_place, bag_like, Arranged, Ordered, reordered}
 use Rattle.per_codec_fronts.proofs.Next.{state_same}
 use Rattle.per_codec_fronts.proofs.Fronts.{Finds, Shows, Step, nothing_front, of_nothing, of_refused, split, join, varied_in, varied_out, given_in, given_out, if_in, if_out, none, from_state, from_scopes}
 

@@ -11,9 +11,9 @@ use Rattle.asn1_schema_presented.specs.Records.{Record, flag, nil, whole, one_of
 use Rattle.asn1_schema_presented.specs.Presents.{presents, root_records, marked}
 use Rattle.asn1_schema_presented.specs.Chains.{Chain}
 use Rattle.asn1_schema_presented.proofs.Chains.{chain_split, chain_append}
-use Rattle.per_codec_fronts.specs.Takes.{Place, State, Scope, components, Front, Takes}
+use Rattle.per_codec_fronts.specs.Takes.{Place, State, Scope, components, Front}
 use Rattle.per_codec_fronts.specs.Ties.{Bridges}
-use Rattle.per_codec_fronts.proofs.Alike.{LikeParts, like_itself, parts_self, like_present, like_absent, noted_by}
+use Rattle.asn1_schema_finding.proofs.Alike.{LikeParts, parts_self, like_present, like_absent, noted_by}
 use Rattle.per_codec_fronts.proofs.Fronts.{Finds, Shows, Step, nothing_front, of_nothing, of_refused, split, join, single, none, from_state, from_scopes, spelled_by, there_in, there_out}
 
 abbrev AllBridge : Bool → (Per.Freedom → Bool) → Schema → Type 0

@@ -16,7 +16,7 @@ use Rattle.asn1_schema_presented.proofs.Chains.{chain_split, chain_append}
 use Rattle.asn1_schema_finding.specs.Marks.{preamble_bits}
 use Rattle.asn1_schema_finding.proofs.Marks.{marks_count}
 use Rattle.per_codec_fronts.specs.Takes.{Place, State, Scope, components, added, open_type, Front, Found, Begins, Opens, Closes, AdditionEnds, Skips}
-use Rattle.per_codec_fronts.proofs.Alike.{Like, LikeParts, parts_self, like_present, like_absent, noted_by, noted_same}
+use Rattle.asn1_schema_finding.proofs.Alike.{Like, LikeParts, parts_self, like_present, like_absent, noted_by, noted_same}
 use Rattle.per_codec_fronts.proofs.Next.{state_same}
 use Rattle.per_codec_fronts.proofs.Fronts.{Finds, Shows, Step, nothing_front, of_nothing, split, join, from_state, from_scopes, spelled_by, noted_in, noted_out}
 use Rattle.per_codec_fronts.proofs.Opened.{open_in, open_out}

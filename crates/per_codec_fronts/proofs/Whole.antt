@@ -14,7 +14,7 @@ use Rattle.asn1_schema_presented.specs.Chains.{Chain}
 use Rattle.asn1_schema_finding.specs.Bags.{has_no_bag}
 use Rattle.per_codec_fronts.specs.Takes.{Place, State, components, Front, Found, Begins, Takes}
 use Rattle.per_codec_fronts.specs.Ties.{Bridges}
-use Rattle.per_codec_fronts.proofs.Alike.{LikeParts, parts_self, both_same, like_fields}
+use Rattle.asn1_schema_finding.proofs.Alike.{LikeParts, parts_self, both_same, like_fields}
 use Rattle.per_codec_fronts.proofs.Fronts.{Finds, Shows, by_itself, Step, of_refused, given_out, none}
 use Rattle.per_codec_fronts.proofs.Lists.{list_finds, list_shows, bag_finds, bag_shows}
 use Rattle.per_codec_fronts.proofs.Parts.{EachFinds, EachShows, booleans, nulls, integers, items, bit_strings, octet_strings, strings, identifiers}

@@ -1,4 +1,4 @@
-use Rattle.asn1_laws_numbers.proofs.Utf8.{utf8_is_text}
+use Rattle.asn1_values_strings.proofs.Utf8.{utf8_is_text}
 use Rattle.asn1_laws_numbers.proofs.number_laws.utf8_is_text.Goals as goal
 
 pub returns : goal.returns

@@ -13,11 +13,11 @@ pub returns-then-not-admits : goal.returns-then-not-admits
 returns-then-not-admits c =
     let z = sizes_of c.args.constraints.size in
     let h = counts_of c.args.held in
-    bit_string_none z h (bits_of c.args.value) (ap (Oer.admits z h) (sym c.len.ensures) ∙ sym c.admits.ensures ∙ c.if-not-admits.true)
+    bit_string_none z h (bits_of c.args.value) (ap (Oer.admits z h) (sym c.len.ensures) ∙ ap (λ y. Oer.admits y h c.len.result) (sym c.sizes-sizes.ensures) ∙ sym c.admits.ensures ∙ c.if-not-admits.true)
 
 pub returns : goal.returns
 returns c =
     let z = sizes_of c.args.constraints.size in
     let h = counts_of c.args.held in
-    adds_same _ _ c.args.octets.now.items c.push_sized_bits.new.octets.items (bit_string_text z h (bits_of c.args.value) (ap (Oer.admits z h) (sym c.len.ensures) ∙ sym c.admits.ensures ∙ c.if-not-admits.false))
-    (subst (λ b. Adds (written (Oer.bit_string_form b (bits_of c.args.value)) 0) c.args.octets.now.items c.push_sized_bits.new.octets.items) c.is_fixed.ensures c.in_ok-push_sized_bits.ensures)
+    adds_same _ _ c.args.octets.now.items c.push_sized_bits.new.octets.items (bit_string_text z h (bits_of c.args.value) (ap (Oer.admits z h) (sym c.len.ensures) ∙ ap (λ y. Oer.admits y h c.len.result) (sym c.sizes-sizes.ensures) ∙ sym c.admits.ensures ∙ c.if-not-admits.false))
+    (subst (λ b. Adds (written (Oer.bit_string_form b (bits_of c.args.value)) 0) c.args.octets.now.items c.push_sized_bits.new.octets.items) (c.is_fixed.ensures ∙ ap Oer.is_fixed c.sizes-sizes.ensures) c.in_ok-push_sized_bits.ensures)

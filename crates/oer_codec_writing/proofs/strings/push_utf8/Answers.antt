@@ -1,4 +1,4 @@
-use Rattle.std.proofs.Common.{refl, sym, subst, ◌∙◌}
+use Rattle.std.proofs.Common.{ap, length, refl, sym, subst, ◌∙◌}
 use Rattle.asn1_model.specs.Form.{written}
 use Rattle.asn1_model.specs.Oer
 use Rattle.asn1_model.specs.Schema.{utf8}
@@ -13,7 +13,7 @@ use Rattle.oer_codec_writing.proofs.strings.push_utf8.Goals as goal
 pub returns-then-not-admits : goal.returns-then-not-admits
 returns-then-not-admits c =
     let z = sizes_of c.args.constraints.size in
-    characters_none utf8 z (alphabet_of c.args.constraints.permitted_alphabet) any_count c.args.value.now (sym c.admits.ensures ∙ c.if-not-admits.true)
+    characters_none utf8 z (alphabet_of c.args.constraints.permitted_alphabet) any_count c.args.value.now (ap (λ y. Oer.admits y any_count (length c.args.value.now)) (sym c.sizes-sizes.ensures) ∙ sym c.admits.ensures ∙ c.if-not-admits.true)
 
 pub returns : goal.returns
 returns c =
@@ -21,6 +21,6 @@ returns c =
     let os = c.args.value.now in
     let new = c.push_sized.new.octets.items in
     adds_same _ _ c.args.octets.now.items new
-    (characters_text utf8 z (alphabet_of c.args.constraints.permitted_alphabet) any_count os os (sym c.admits.ensures ∙ c.if-not-admits.false) (text_is_utf8 os c.utf8.value) refl)
-    (subst (λ b. Adds (written (Oer.octets_form b os) 0) c.args.octets.now.items new) c.is_fixed.ensures
+    (characters_text utf8 z (alphabet_of c.args.constraints.permitted_alphabet) any_count os os (ap (λ y. Oer.admits y any_count (length os)) (sym c.sizes-sizes.ensures) ∙ sym c.admits.ensures ∙ c.if-not-admits.false) (text_is_utf8 os c.utf8.value) refl)
+    (subst (λ b. Adds (written (Oer.octets_form b os) 0) c.args.octets.now.items new) (c.is_fixed.ensures ∙ ap Oer.is_fixed c.sizes-sizes.ensures)
     (subst (λ l. Adds (written (Oer.octets_form c.is_fixed.result l) 0) c.args.octets.now.items new) c.as_bytes.ensures.value c.in_ok-push_sized.ensures))

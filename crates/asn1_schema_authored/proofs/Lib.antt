@@ -1,0 +1,4 @@
+mod Composing
+pub mod Shaping
+pub mod ChoiceShaping
+pub mod Grouping

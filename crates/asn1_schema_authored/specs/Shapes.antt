@@ -1,0 +1,66 @@
+-- What the components of a struct are, and what a value of the struct has of them.
+use Rattle.std.specs.Prelude.{◌≡◌, ℕ, Bool, true, false, cond, List, [], ◌∷◌}
+use Rattle.asn1_model.specs.Schema.{Tag, Schema}
+use Rattle.asn1_model.specs.Value.{Value, Parts, fields}
+use Rattle.asn1_schema_presented.specs.Records.{Record, Question, sequence_begins, set_begins, asks_sequence, asks_set}
+use Rattle.asn1_schema_presented.specs.Tables.{Table, IsType, IsValue, marks}
+use Rattle.asn1_schema_constructed.specs.Constructed.{Form, sequence_form, set_form, constructed_type, sequence_tags}
+use Rattle.asn1_schema_authored.specs.declared.composites.Heading.{Heading}
+
+-- Whether the components make a SET.
+abbrev pub is_set : Form → Bool
+is_set sequence_form = false
+is_set set_form = true
+
+-- The tag of SEQUENCE or SET (X.680 8.4).
+abbrev pub form_tags : Form → List Tag
+form_tags sequence_form = sequence_tags
+form_tags set_form = record { class = 0; number = 17 } ∷ []
+
+-- SEQUENCE or SET, its components, and what a value has of them: the type is lawful, and each value is one of it.
+pub record Shape (A : Type 0) : Type 0 where
+  pub form : Form
+  pub table : Table
+  pub root : A → Parts
+  pub added : A → Parts
+  pub typed : IsType (form_tags form) (constructed_type form table)
+  pub valued : (x : A) → IsValue (constructed_type form table) (fields (root x) (added x))
+
+-- The type of a shape.
+abbrev pub shape_type : {A : Type 0} → Shape A → ℕ → Schema
+shape_type s n = constructed_type s.form s.table n
+
+-- What a value of it means.
+abbrev pub shape_value : {A : Type 0} → Shape A → A → Value
+shape_value s x = fields (s.root x) (s.added x)
+
+-- The shape of what holds a value of another.
+abbrev pub shape_through : {A B : Type 0} → (A → B) → Shape B → Shape A
+shape_through f s = record {
+  form = s.form;
+  table = s.table;
+  root = λ x. s.root (f x);
+  added = λ x. s.added (f x);
+  typed = s.typed;
+  valued = λ x. s.valued (f x);
+}
+
+-- What stands in front of the components of a shape.
+pub record IsHeading (h : Heading) (k : Form) (t : Table) : Type 0 where
+  pub form : h.set ≡ is_set k
+  pub mark : h.extensible ≡ t.extensible
+  pub marks : h.optional ≡ marks t.root
+
+-- The record with which it begins, and what a decoder asks for there.
+abbrev pub begins : Form → Bool → ℕ → Record
+begins sequence_form e n = sequence_begins e n
+begins set_form e n = set_begins e n
+
+abbrev pub asks : Form → Bool → ℕ → Question
+asks sequence_form e n = asks_sequence e n
+asks set_form e n = asks_set e n
+
+-- By a heading.
+abbrev pub form_of : Bool → Form
+form_of true = set_form
+form_of false = sequence_form

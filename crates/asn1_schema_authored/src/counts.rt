@@ -1,0 +1,42 @@
+//! How many additions there are, of which `usize` counts all.
+ghost use Rattle.std.proofs.Common.{rules, arith};
+
+use asn1_schema_additions::{
+    AddedGroupComponent, AddedOptionalComponent, AddedRequiredComponent, AdditionsOf, CountOf,
+    Group, NoMore,
+};
+use asn1_schema_types::Described;
+
+/// No addition, of which a type with a mark may have none yet.
+#[derive(Drop)]
+pub struct NoAddition;
+
+/// One addition.
+#[derive(Drop)]
+pub struct OneAddition;
+
+/// Two additions.
+#[derive(Drop)]
+pub struct TwoAdditions;
+
+impl CountOf<NoMore> for NoAddition {
+    ghost countable = { Prim.omega arith };
+}
+
+impl<T: Described> CountOf<AddedRequiredComponent<T, NoMore>> for OneAddition {
+    ghost countable = { Prim.omega arith };
+}
+
+impl<T: Described> CountOf<AddedOptionalComponent<T, NoMore>> for OneAddition {
+    ghost countable = { Prim.omega arith };
+}
+
+impl<G: Group> CountOf<AddedGroupComponent<G, NoMore>> for OneAddition {
+    ghost countable = { Prim.omega arith };
+}
+
+impl<T: Described, U: Described> CountOf<
+    AddedOptionalComponent<T, AddedOptionalComponent<U, NoMore>>,
+> for TwoAdditions {
+    ghost countable = { Prim.omega arith };
+}

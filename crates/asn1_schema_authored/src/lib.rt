@@ -1,0 +1,13 @@
+//! Types around structs and enums of a program's own: SEQUENCE and SET (X.680 25 and 27), groups of additions, and
+//! CHOICE (X.680 29).
+#![tactic(auto)]
+
+pub mod choice_of;
+pub mod composites;
+pub mod counts;
+pub mod groups;
+
+pub use choice_of::{ChoiceAlternatives, ChoiceOf};
+pub use composites::{Components, Composite, FieldTables, Heading, Sequence, Set};
+pub use counts::{NoAddition, OneAddition, TwoAdditions};
+pub use groups::GroupComponents;

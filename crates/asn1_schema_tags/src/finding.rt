@@ -1,0 +1,105 @@
+//! Look-up of a tag in an ascending table.
+ghost use Rattle.std.specs.Prelude.{◌≡◌, ◌≤◌, ◌+◌, ◌++◌, length, map, option_map, slice_get, true};
+ghost use Rattle.asn1_model.specs.Numbers.{width};
+ghost use Rattle.asn1_schema_tags.specs.Places.{ascends, looked_up, is_table_of, stands_at};
+ghost use Rattle.asn1_schema_tags.specs.Places.{are_listed as are_listed_from, is_place_there};
+ghost use Rattle.asn1_model.specs.Strings.{each_is};
+ghost use Rattle.asn1_schema_tags.specs.Tags.{tag_of};
+ghost use Rattle.asn1_schema_tags.specs.Trees.{place_of};
+
+use crate::{Tag, TagPlace, TagProbe};
+use std::cmp::Ordering;
+
+/// The place that stands beside a tag in an ascending table, if it is there. So many tags are compared at most as the
+/// number of tags has binary digits.
+pub fn find_place(probe: &mut TagProbe<'_>, tag: Tag) -> Option<usize>
+    requires ascending { ascends probe.old.places ≡ true }
+    requires fresh { probe.old.count ≡ 0 }
+    ensures place { result ≡ looked_up probe.old.places (tag_of tag) }
+    ensures plain { (ts : _) → is_table_of probe.old.places ts ≡ true → result ≡ place_of ts (tag_of tag) }
+    ensures table { probe.new.places ≡ probe.old.places }
+    ensures few { probe.new.count ≤ width (length probe.old.places) }
+{
+    let mut low = 0;
+    let mut high = probe.len();
+    while low < high {
+        let middle = low + (high - low) / 2;
+        match probe.compare(middle, tag) {
+            Ordering::Less => low = middle + 1,
+            Ordering::Greater => high = middle,
+            Ordering::Equal => return Some(probe.place_at(middle)),
+        }
+    }
+    None
+}
+
+/// Whether a table lists each of some tags, those of the root and then the added ones, with its place among all of them,
+/// and nothing else, ascending by tag.
+pub fn is_place_table(places: &[TagPlace], variants: &[Tag], extended: &[Tag]) -> bool
+    ensures { result ≡ is_table_of places.now (map tag_of variants.now ++ map tag_of extended.now) }
+{
+    if !ascend(places) || !stand_there(places, variants, extended) {
+        return false;
+    }
+    if !are_listed(places, 0, variants) {
+        return false;
+    }
+    are_listed(places, variants.len(), extended)
+}
+
+/// Whether each tag of a table stands before the next.
+#[tactic(auto, using(crate::proofs::TableSteps::ascends_last))]
+fn ascend(places: &[TagPlace]) -> bool
+    ensures { result ≡ ascends places.now }
+{
+    for next in 1..places.len() {
+        if !places[next - 1].tag.const_less_than(places[next].tag) {
+            return false;
+        }
+    }
+    true
+}
+
+/// The tag at a place among those of the root and then the added ones.
+fn tag_at(variants: &[Tag], extended: &[Tag], place: usize) -> Option<Tag>
+    ensures { option_map tag_of result ≡ slice_get (map tag_of variants.now ++ map tag_of extended.now) place }
+{
+    if place < variants.len() {
+        return Some(variants[place]);
+    }
+    extended.get(place - variants.len()).copied()
+}
+
+/// Whether each tag of a table stands at its place among those of the root and then the added ones.
+fn stand_there(places: &[TagPlace], variants: &[Tag], extended: &[Tag]) -> bool
+    ensures { result ≡ each_is (stands_at (map tag_of variants.now ++ map tag_of extended.now)) places.now }
+{
+    for entry in places {
+        match tag_at(variants, extended, entry.place) {
+            Some(tag) if tag.const_eq(&entry.tag) => {}
+            _ => return false,
+        }
+    }
+    true
+}
+
+/// Whether an ascending table has the place of each of some tags, the first of which stands at this one.
+#[tactic(auto, using(crate::proofs::TableSteps::listed_at))]
+fn are_listed(places: &[TagPlace], first: usize, tags: &[Tag]) -> bool
+    requires { ascends places.now ≡ true }
+    ensures { result ≡ are_listed_from places.now first (map tag_of tags.now) }
+{
+    for (index, tag) in tags.iter().enumerate() {
+        if !has_place(find_place(&mut TagProbe::new(places), *tag), first, index) {
+            return false;
+        }
+    }
+    true
+}
+
+/// Whether a place is there, and is so far behind the first one.
+fn has_place(place: Option<usize>, first: usize, index: usize) -> bool
+    ensures { result ≡ is_place_there place (first + index) }
+{
+    place.is_some_and(|place| place >= first && place - first == index)
+}

@@ -1,0 +1,91 @@
+//! The first bits of a view, in one number.
+ghost use Rattle.std.specs.Prelude.{◌≡◌, ◌+◌, ◌^◌, ◌<◌, ◌≤◌, length, take, drop, min};
+
+use crate::BitStr;
+
+/// Up to 128 bits in one number, the first bit highest. What stands behind them in the number does not count.
+#[derive(Clone, Copy)]
+pub(crate) struct BitWindow {
+    number: u128,
+    width: u32,
+    ghost narrow: { width ≤ 128 },
+}
+
+impl BitWindow {
+    ghost use Rattle.asn1_model.specs.Numbers.{binary};
+    ghost use Rattle.asn1_values_bits.specs.BitStr.{bits_of};
+    ghost use Rattle.asn1_values_bits.specs.BitWindow.{shown};
+
+    /// The first bits of a view, up to the end of an octet. It is empty where the view is.
+    #[inline(always)]
+    pub(crate) fn new(bits: BitStr<'_>) -> Self
+        ensures front { shown result ≡ take result.width (bits_of bits.entry) }
+        ensures within { result.width ≤ length (bits_of bits.entry) }
+        ensures some { 0 < length (bits_of bits.entry) → 0 < result.width }
+    {
+        let (number, width) = bits.first_octets();
+        BitWindow { number, width }
+    }
+
+    /// How many bits there are.
+    #[inline(always)]
+    pub(crate) fn width(&self) -> u32
+        ensures { result ≡ self.now.width }
+    {
+        self.width
+    }
+
+    /// The number whose binary digits are the first bits, at most 64.
+    #[inline(always)]
+    pub(crate) fn first_bits(&self, width: u32) -> u64
+        requires narrow { width ≤ 64 }
+        requires within { width ≤ self.now.width }
+        ensures digits { binary width result ≡ take width (shown self.now) }
+        ensures fits { result < 2 ^ width }
+    {
+        if width == 0 {
+            return 0;
+        }
+        let high = (self.number >> 64) as u64;
+        high >> (64 - width)
+    }
+
+    /// The number whose binary digits are the first bits.
+    #[inline(always)]
+    pub(crate) fn first_u128(&self, width: u32) -> u128
+        requires within { width ≤ self.now.width }
+        ensures digits { binary width result ≡ take width (shown self.now) }
+        ensures fits { result < 2 ^ width }
+    {
+        if width == 0 {
+            return 0;
+        }
+        self.number >> (128 - width)
+    }
+
+    /// The first `count` bits, or all where there are fewer.
+    #[inline(always)]
+    pub(crate) fn front(&self, count: usize) -> Self
+        ensures front { shown result ≡ take result.width (shown self.now) }
+        ensures width { result.width ≡ min count self.now.width }
+    {
+        let width = count.min(self.width as usize) as u32;
+        BitWindow {
+            number: self.number,
+            width,
+        }
+    }
+
+    /// The bits behind the first `count`.
+    #[inline(always)]
+    pub(crate) fn behind(&self, count: u32) -> Self
+        requires { count < self.now.width }
+        ensures behind { shown result ≡ drop count (shown self.now) }
+        ensures fewer { result.width + count ≡ self.now.width }
+    {
+        BitWindow {
+            number: self.number << count,
+            width: self.width - count,
+        }
+    }
+}

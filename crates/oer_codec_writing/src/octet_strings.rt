@@ -1,0 +1,57 @@
+//! OCTET STRING, and octets of one size or behind their number (X.696 14 and 27).
+ghost use Rattle.std.specs.Prelude.{◌≡◌, MatchResult};
+ghost use Rattle.asn1_model.specs.Form.{written};
+ghost use Rattle.asn1_model.specs.Oer.{octets_form, form};
+ghost use Rattle.asn1_model.specs.Schema.{octet_string};
+ghost use Rattle.asn1_model.specs.Value.{octet_list};
+ghost use Rattle.asn1_schema_constraints.specs.Bounds.{counts_of};
+ghost use Rattle.asn1_schema_constraints.specs.Terms.{sizes_of};
+ghost use Rattle.oer_codec_writing.specs.Writing.{Adds, Refuses};
+
+use crate::lengths::push_counted;
+use asn1_schema_constraints::{Bounded, Constraints};
+use asn1_schema_faults::EncodeError;
+
+/// Adds octets, behind their number unless there is one size (X.696 14).
+#[inline(always)]
+pub(crate) fn push_sized(
+    octets: &mut Vec<u8>,
+    fixed: bool,
+    contents: &[u8],
+) -> Result<(), EncodeError>
+    ensures { MatchResult result (λ _. Adds (written (octets_form fixed contents.now) 0) octets.old.items
+        octets.new.items) (λ e. e ≡ EncodeError.OutOfMemory) }
+{
+    if fixed {
+        octets.extend_from_slice(contents)?;
+        return Ok(());
+    }
+    push_counted(octets, contents)?;
+    Ok(())
+}
+
+/// Adds an OCTET STRING (X.696 14).
+///
+/// # Errors
+///
+/// `OutOfMemory`; any other only where the value has no encoding in this form.
+#[inline(always)]
+pub fn push_octet_string(
+    octets: &mut Vec<u8>,
+    constraints: Constraints,
+    held: Bounded<usize>,
+    value: &[u8],
+) -> Result<(), EncodeError>
+    ensures { MatchResult result (λ _. Adds
+        (written (form (octet_string (sizes_of constraints.entry.size) (counts_of held)) (octet_list value.now)) 0)
+        octets.old.items octets.new.items)
+        (Refuses (written (form (octet_string (sizes_of constraints.entry.size) (counts_of held))
+        (octet_list value.now)) 0)) }
+{
+    let sizes = constraints.sizes();
+    if !sizes.admits(held, value.len()) {
+        return Err(EncodeError::SizeConstraintNotSatisfied);
+    }
+    push_sized(octets, sizes.is_fixed(), value)?;
+    Ok(())
+}
