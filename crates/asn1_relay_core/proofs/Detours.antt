@@ -1,4 +1,4 @@
--- That a detour changes no answer, and that what was translated is translated to itself.
+-- That a detour changes no answer.
 use Rattle.std.proofs.Common.{◌≡◌, ℕ, List, [], sym, ◌∙◌, arith}
 use Rattle.asn1_model.specs.Schema.{Schema}
 use Rattle.asn1_model.specs.Value.{Value}
@@ -36,6 +36,3 @@ module _ (from via : Codec) (s : Schema) (w octets : List ℕ) (lawful : IsLawfu
   through_a_detour to not_an_encoding p = absurd (p w [] first.0 (whole w) first.1)
   through_a_detour to surplus p = absurd (p.4 (none_behind (rules_of from) (rules_of to) s w lawful first.0 p.2 p.0 p.1 first.1 p.5 p.3))
   through_a_detour to no_target p = (normal s first.0, between, kept to (normal s first.0) between ∙ (alike (rules_of from) (rules_of to) s w lawful first.0 p.0 first.1 p.1 ∙ p.2))
-
-  pub again : IsAnswer (rules_of via) (rules_of via) s octets (answered octets)
-  again = through_a_detour via (answered octets) first

@@ -44,23 +44,12 @@ abbrev pub target_fault_of : EncodeError → RecodeFault
 target_fault_of Encoding.OutOfMemory = Memory
 target_fault_of e = NoTarget e
 
--- ---- laws
-
--- No two answers to some octets are right, whatever the lawful type and the rules.
-abbrev pub OneAnswerIsRight : Type 0
-OneAnswerIsRight = (from to : Codec) (s : Schema) (w : List ℕ) (x y : Answer) → IsLawful s
-    → IsAnswer (rules_of from) (rules_of to) s w x → IsAnswer (rules_of from) (rules_of to) s w y → x ≡ y
+-- ---- a law
 
 -- A detour changes no answer: what is right for the octets that were answered on the way is right for those from
--- which they came, and the other way round.
+-- which they came, and the other way round. So what was translated is translated to itself.
 abbrev pub DetoursChangeNoAnswer : Type 0
 DetoursChangeNoAnswer = (from via to : Codec) (s : Schema) (w octets : List ℕ) (x : Answer) → IsLawful s
     → IsAnswer (rules_of from) (rules_of via) s w (answered octets)
     → (IsAnswer (rules_of via) (rules_of to) s octets x → IsAnswer (rules_of from) (rules_of to) s w x)
     × (IsAnswer (rules_of from) (rules_of to) s w x → IsAnswer (rules_of via) (rules_of to) s octets x)
-
--- What was translated is translated to itself.
-abbrev pub TwiceIsOnce : Type 0
-TwiceIsOnce = (from to : Codec) (s : Schema) (w octets : List ℕ) → IsLawful s
-    → IsAnswer (rules_of from) (rules_of to) s w (answered octets)
-    → IsAnswer (rules_of to) (rules_of to) s octets (answered octets)

@@ -30,6 +30,4 @@ pub use route_fault::{RouteFault, RouteFaultKind};
 pub use routing::route;
 pub use running::{RunFault, run};
 pub use standard::{StdSink, StdSource, write_octets};
-pub use translation::{
-    RecodeFault, detours_change_no_answer, one_answer_is_right, recode, twice_is_once,
-};
+pub use translation::{RecodeFault, detours_change_no_answer, recode};

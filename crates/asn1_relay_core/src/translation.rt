@@ -2,7 +2,7 @@
 ghost use Rattle.std.specs.Prelude.{◌≡◌, ◌⊎◌, None, Some, IfErr, IfSome};
 ghost use Rattle.asn1_relay_core.specs.Coding.{rules_of};
 ghost use Rattle.asn1_relay_core.specs.Recoding.{answer_of, Answer, IsAnswer, NamesMemoryAlone, NamesNoEarlierRefusal};
-ghost use Rattle.asn1_relay_core.specs.Recoding.{OneAnswerIsRight, DetoursChangeNoAnswer, TwiceIsOnce};
+ghost use Rattle.asn1_relay_core.specs.Recoding.{DetoursChangeNoAnswer};
 
 use crate::codec::Codec;
 use asn1_schema_decode::Decode;
@@ -56,29 +56,20 @@ impl From<EncodeError> for RecodeFault {
     }
 }
 
-/// No two answers to some octets are right, so that the right one is *the* answer.
-pub fn one_answer_is_right()
-    ensures { OneAnswerIsRight }
-{}
-
 /// A detour changes no answer: where octets were translated to other rules, the right answer to what came out, in
-/// whichever rules, is the right answer to the octets themselves, and the other way round.
+/// whichever rules, is the right answer to the octets themselves, and the other way round. So what was translated is
+/// translated to itself.
 pub fn detours_change_no_answer()
     ensures { DetoursChangeNoAnswer }
-{}
-
-/// What was translated is translated to itself, so that translating twice is translating once.
-pub fn twice_is_once()
-    ensures { TwiceIsOnce }
 {}
 
 /// Translates one message of the type `T`: octets all of which are one encoding by the rules `from`, of a value that
 /// nests at most 128 levels, become the canonical encoding of that value by the rules `to`.
 ///
-/// The answer is the right one, and as there is one at most (`one_answer_is_right`), each fault comes exactly where
-/// it should; only want of memory may come in its place, always as `RecodeFault::Memory`. A detour through other
-/// rules changes nothing (`detours_change_no_answer`), and what was translated is translated to itself
-/// (`twice_is_once`).
+/// The answer is the right one, and as there is one at most (`one_answer_is_right` of `asn1_laws_versions`), each
+/// fault comes exactly where it should; only want of memory may come in its place, always as `RecodeFault::Memory`. A
+/// detour through other rules changes nothing, and what was translated is translated to itself
+/// (`detours_change_no_answer`).
 ///
 /// # Errors
 ///

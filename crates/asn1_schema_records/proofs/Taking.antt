@@ -12,7 +12,7 @@ use Rattle.asn1_schema_faults.specs.declared.DecodeError.TheVariants.{IntegerOve
 use Rattle.asn1_schema_presented.specs.Records.{Record, Question, question, whole, characters, asks_whole, asks_characters}
 use Rattle.asn1_schema_records.proofs.Putting.{kind_kept}
 use Rattle.asn1_schema_records.specs.Kept.{kept_kind, any_number, any_count, any_alphabet}
-use Rattle.asn1_schema_records.proofs.NumbersRead.{not_held, not_admitted}
+use Rattle.asn1_schema_constraints.proofs.Held.{not_held, not_admitted}
 use Rattle.asn1_schema_records.specs.Taken.{Left, Takes, Leaves, Levels, IsKept, IsUntaken, IsUnspelled, MayHold}
 use Rattle.asn1_values_alphabets.specs.Permitted.{permits_all}
 

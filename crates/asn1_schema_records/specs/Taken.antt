@@ -1,6 +1,6 @@
 -- How the decoder of kept records takes them: each exactly where it is next and the program's type holds it.
-use Rattle.std.specs.Prelude.{◌≡◌, ◌+◌, ◌<◌, ◌≤◌, ◌^◌, ◌⊎◌, ◌-◌, ◌&&◌, ◌||◌, ℕ, ℤ, pos, negsuc, Bool, true, false}
-use Rattle.std.specs.Prelude.{cond, List, [], ◌∷◌, Option, Some, None, length}
+use Rattle.std.specs.Prelude.{◌≡◌, ◌+◌, ◌<◌, ◌≤◌, ◌^◌, ◌⊎◌, ◌||◌, ℕ, ℤ, Bool, true, false}
+use Rattle.std.specs.Prelude.{cond, List, [], ◌∷◌, Option, length}
 use Rattle.asn1_model.specs.Schema.{Tag, Range, Bounds, Counts, Size, StringKind, utf8, visible}
 use Rattle.asn1_model.specs.Numbers.{is_within, is_count_within}
 use Rattle.asn1_model.specs.Strings.{may_hold}
@@ -14,9 +14,7 @@ use Rattle.asn1_schema_faults.specs.declared.DecodeError.TheVariants.{Discrimina
 use Rattle.asn1_schema_faults.specs.declared.DecodeError.TheVariants.{InvalidTagVariantOnChoice}
 use Rattle.asn1_schema_faults.specs.declared.DecodeError.TheVariants.{OutOfMemory as NoRoom}
 use Rattle.asn1_schema_faults.specs.declared.DecodeError.TheVariants.{AlreadyFailed as HadFailed}
-use Rattle.asn1_schema_constraints.specs.Bounds.{range_of}
-use Rattle.asn1_schema_constraints.specs.Sets.{has_additions}
-use Rattle.asn1_schema_constraints.specs.Terms.{bounds_of}
+use Rattle.asn1_schema_constraints.specs.Terms.{bounds_of, admits_whole}
 use Rattle.asn1_schema_constraints.specs.declared.extensions.Extensible.{Extensible}
 use Rattle.asn1_schema_constraints.specs.declared.parts.Value.{Value}
 use Rattle.asn1_values_alphabets.specs.Permitted.{permits_all}
@@ -185,20 +183,11 @@ IsMisfit {T} form count z h k e =
     ((e ≡ NotValidCanonicalEncoding) × ((y : Size) (x : T) → k ≡ form y x → ⊥))
     ⊎ ((e ≡ SizeConstraintNotSatisfied) × IsOtherSize form count z h k)
 
--- The numbers of 128 bits of two's complement.
-abbrev pub wide_range : Range
-wide_range = record { low = Some (negsuc (2 ^ 127 - 1)); high = Some (pos (2 ^ 127 - 1)) }
-
--- Whether a value constraint, where there is one, admits a number: one of 128 bits, within bounds that have no mark.
-abbrev pub is_admitted : Option (Extensible Value) → ℤ → Bool
-is_admitted None v = true
-is_admitted (Some c) v = is_within wide_range v && (has_additions c || is_within (range_of c.constraint.value) v)
-
 -- Why a number of the program's type is not made: a value constraint does not admit it; the type does not hold it; or
 -- it takes memory that is wanting, which it does past 128 bits alone.
 abbrev pub IsUntaken : Option (Extensible Value) → Range → ℤ → DecodeError → Type 0
-IsUntaken c held v ValueConstraintNotSatisfied = is_admitted c v ≡ false
-IsUntaken c held v IntegerOverflow = (is_admitted c v ≡ true) × (is_within held v ≡ false)
+IsUntaken c held v ValueConstraintNotSatisfied = admits_whole c v ≡ false
+IsUntaken c held v IntegerOverflow = (admits_whole c v ≡ true) × (is_within held v ≡ false)
 IsUntaken c held v NoRoom = 2 ^ 128 ≤ plain v
 IsUntaken c held v e = ⊥
 

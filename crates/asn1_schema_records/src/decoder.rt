@@ -5,7 +5,7 @@ ghost use Rattle.asn1_model.specs.Schema.{utf8};
 ghost use Rattle.asn1_model.specs.Types.{any_count};
 ghost use Rattle.asn1_model.specs.Numbers.{is_within, is_count_within};
 ghost use Rattle.asn1_schema_constraints.specs.Bounds.{counts_of, members_of};
-ghost use Rattle.asn1_schema_constraints.specs.Terms.{bounds_of, sizes_of};
+ghost use Rattle.asn1_schema_constraints.specs.Terms.{admits_whole, bounds_of, sizes_of};
 ghost use Rattle.asn1_schema_decode.specs.Reads.{NoRecord, NoLevel};
 ghost use Rattle.asn1_schema_types.specs.Told.{whole_under, bits_under, octets_under, characters_under};
 ghost use Rattle.asn1_schema_types.specs.Told.{list_begins_under, bag_begins_under};
@@ -25,7 +25,7 @@ ghost use Rattle.asn1_schema_records.specs.Kept.{record_of, sizes_in};
 ghost use Rattle.asn1_schema_records.specs.Taken.{Takes, Leaves, Begins, Fails, IsSpent, IsDeep, IsRefused};
 ghost use Rattle.asn1_schema_records.specs.Taken.{IsRefusedFirst, IsOtherThan, IsOtherKind, IsOtherEnd, IsMisfit};
 ghost use Rattle.asn1_schema_records.specs.Taken.{IsMisfitItem, IsMisfitChoice, IsMisfitText, IsMisfitNumber};
-ghost use Rattle.asn1_schema_records.specs.Taken.{IsUntaken, IsUnspelled, is_admitted};
+ghost use Rattle.asn1_schema_records.specs.Taken.{IsUntaken, IsUnspelled};
 ghost use Rattle.asn1_schema_records.specs.Taken.{kept_bits, kept_octets, kept_text, kept_list, kept_bag};
 ghost use Rattle.asn1_schema_tags.specs.Tags.{tag_of};
 ghost use Rattle.asn1_values_alphabets.specs.Permitted.{permits_all};
@@ -719,7 +719,7 @@ fn is_alternative(roots: &[Tag], additions: &[Tag], chosen: Chosen) -> bool
 
 // Whether a number is one of 128 bits and within bounds that have no mark, where there is a value constraint.
 fn is_admitted(constraints: Constraints, number: &Integer) -> bool
-    ensures { result ≡ is_admitted constraints.entry.value number.now }
+    ensures { result ≡ admits_whole constraints.entry.value number.now }
 {
     match constraints.value {
         None => true,
@@ -738,7 +738,7 @@ fn number_within<I: IntegerType>(
 ) -> Result<I, DecodeError>
     ensures value { IfOk result (λ x. I.value x ≡ number.now) }
     ensures held { OnOk result (is_within I.held number.now ≡ true) }
-    ensures admitted { OnOk result (is_admitted constraints.entry.value number.now ≡ true) }
+    ensures admitted { OnOk result (admits_whole constraints.entry.value number.now ≡ true) }
     ensures refused { IfErr result (IsUntaken constraints.entry.value I.held number.now) }
 {
     if !is_admitted(constraints, number) {

@@ -1,7 +1,7 @@
 use Rattle.std.proofs.Common.{◌≡◌, sym, ◌∙◌, true, rules}
 use Rattle.asn1_schema_records.proofs.Numbers.{not_empty}
 use Rattle.asn1_schema_records.proofs.NumbersRead.{held_by, not_held_by, long_by}
-use Rattle.asn1_schema_records.specs.Taken.{is_admitted}
+use Rattle.asn1_schema_constraints.specs.Terms.{admits_whole}
 use Rattle.asn1_values_natives.proofs.TwosComplement.{signed-back}
 use Rattle.asn1_values_natives.specs.Octets.{signed_octets_of}
 use Rattle.asn1_schema_records.proofs.decoder.number_within.Goals as goal
@@ -22,7 +22,7 @@ returns-in-Err-Memory-clause-refused g c =
 pub returns-in-Err-Overflow-clause-refused : goal.returns-in-Err-Overflow-clause-refused
 returns-in-Err-Overflow-clause-refused g c =
     let s : c.as_slice.result.now ≡ signed_octets_of c.args.number.now = search rules in
-    let a : is_admitted c.args.constraints.value c.args.number.now ≡ true = sym c.is_admitted.ensures ∙ c.if-not-is_admitted.false in
+    let a : admits_whole c.args.constraints.value c.args.number.now ≡ true = sym c.is_admitted.ensures ∙ c.if-not-is_admitted.false in
     (a, not_held_by c.try_from_signed_bytes.result _ _ _ s (cc) c.try_from_signed_bytes.ensures.overflow.0)
 
 pub returns-in-Err-Empty-clause-refused : goal.returns-in-Err-Empty-clause-refused
