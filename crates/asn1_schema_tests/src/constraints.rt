@@ -1,5 +1,5 @@
 //! Bounds and constraints: rows, what is shown, and each call once.
-use crate::common::is_told;
+use crate::common::{assert_none, is_told};
 use asn1_schema::{
     Bounded, Constraint, ConstraintDiscriminant, Constraints, Effective, Extensible,
     PermittedAlphabet, Size, Value,
@@ -8,68 +8,38 @@ use asn1_values_integers::Integer;
 use std::alloc::Global;
 
 /// Bounds of numbers, whether these have a sign, and in how many octets they are told, if that is fixed.
-const WIDTHS: [(Bounded<i128>, bool, Option<u8>); 7] = [
-    (
-        Bounded::Range {
-            start: Some(-5),
-            end: Some(5),
-        },
-        true,
-        Some(1),
-    ),
-    (
-        Bounded::Range {
-            start: Some(256),
-            end: Some(1234567),
-        },
-        false,
-        Some(4),
-    ),
-    (
-        Bounded::Range {
-            start: Some(0),
-            end: None,
-        },
-        false,
-        None,
-    ),
-    (
-        Bounded::Range {
-            start: None,
-            end: Some(5),
-        },
-        true,
-        None,
-    ),
-    (Bounded::Single(-129), true, Some(2)),
-    (
-        Bounded::Range {
-            start: Some(0),
-            end: Some(18446744073709551616),
-        },
-        false,
-        None,
-    ),
-    (Bounded::None, true, None),
-];
+fn widths() -> [(Bounded<i128>, bool, Option<u8>); 7] {
+    [
+        (Bounded::const_new(-5, 5), true, Some(1)),
+        (Bounded::const_new(256, 1234567), false, Some(4)),
+        (Bounded::start_from(0), false, None),
+        (Bounded::up_to(5), true, None),
+        (Bounded::Single(-129), true, Some(2)),
+        (Bounded::const_new(0, 18446744073709551616), false, None),
+        (Bounded::None, true, None),
+    ]
+}
+
+/// The bounds that are not told so, if there are such.
+fn wrong_width() -> Option<Bounded<i128>> {
+    for (bounds, has_sign, octets) in widths() {
+        if bounds.range_in_bytes() != (has_sign, octets) {
+            return Some(bounds);
+        }
+    }
+    None
+}
+
+/// The bounds of these ends.
+fn range(start: Option<i128>, end: Option<i128>) -> Bounded<i128> {
+    Bounded::Range { start, end }
+}
 
 /// Whether bounds are made of their ends.
 fn are_made() -> bool {
-    Bounded::<i128>::const_new(-5, 5)
-        == Bounded::Range {
-            start: Some(-5),
-            end: Some(5),
-        }
-        && Bounded::<i128>::start_from(0)
-            == Bounded::Range {
-                start: Some(0),
-                end: None,
-            }
-        && Bounded::<i128>::up_to(5)
-            == Bounded::Range {
-                start: None,
-                end: Some(5),
-            }
+    Bounded::const_new(-5, 5) == range(Some(-5), Some(5))
+        && Bounded::start_from(0) == range(Some(0), None)
+        && Bounded::up_to(5) == range(None, Some(5))
         && Bounded::<i128>::single_value(-129) == Bounded::Single(-129)
 }
 
@@ -109,12 +79,7 @@ fn are_shown(alloc: Global) -> bool {
 
 #[test]
 fn bounds(rt: HostRuntime) {
-    for (bounds, has_sign, octets) in &WIDTHS {
-        assert!(rt;
-            bounds.range_in_bytes() == (*has_sign, *octets),
-            "of {bounds}"
-        );
-    }
+    assert_none(&rt, &wrong_width());
     assert!(rt; are_made() && are_numbers_within(Bounded::const_new(-5, 5)));
     assert!(rt; are_counts_within(Bounded::const_new(3, 6)) && are_shown(rt.alloc()));
 }

@@ -15,13 +15,15 @@ mod constraints;
 mod meanings;
 #[cfg(test)]
 mod named;
-pub mod pair;
+#[cfg(test)]
+mod pair;
 #[cfg(test)]
 mod records;
 #[cfg(test)]
 mod tables;
 #[cfg(test)]
 mod tags;
-pub mod up_to_ten;
+#[cfg(test)]
+mod up_to_ten;
 #[cfg(test)]
 mod values;

@@ -139,28 +139,30 @@ fn is_read_by_name<S: Named>(alloc: Global, string: &S) -> bool {
     }
 }
 
-/// Whether the string of these characters is written and read back, and another one by the name of the type.
-fn is_string<S: Named>(
-    alloc: Global,
-    characters: &'static [u32],
-    named: &[u32],
-) -> Result<bool, PermittedAlphabetError> {
+/// Whether the string of these characters is written and read by the name of its type.
+fn is_string<S: Named>(alloc: Global, characters: &[u32]) -> Result<bool, PermittedAlphabetError> {
     let string: S = string_of(alloc, characters)?;
-    let other: S = string_of(alloc, named)?;
-    Ok(is_kept(alloc, &string, &[Wanted::Characters(characters)]) && is_read_by_name(alloc, &other))
+    Ok(is_read_by_name(alloc, &string))
 }
 
-/// Whether strings of each type are written and read back, and by their names.
+/// Whether a string is written as its characters, and read back. (Those of the other types are in the vectors.)
+fn are_characters(alloc: Global) -> Result<bool, PermittedAlphabetError> {
+    let string: BmpString = string_of(alloc, &[0x20AC, 0x41])?;
+    Ok(is_kept(alloc, &string, &[Wanted::Characters(&[0x20AC, 0x41])]))
+}
+
+/// Whether strings of each type are written and read by their names.
 fn are_strings(alloc: Global) -> Result<bool, PermittedAlphabetError> {
     Ok(
-        is_string::<NumericString>(alloc, &[0x31, 0x20, 0x32], &[0x31, 0x20, 0x32])?
-            && is_string::<PrintableString>(alloc, &[0x41, 0x3A], &[0x41, 0x3A])?
-            && is_string::<VisibleString>(alloc, &[0x7E, 0x20], &[0x7E, 0x20, 0x61])?
-            && is_string::<Ia5String>(alloc, &[0x00, 0x7F], &[0x61, 0x40])?
-            && is_string::<GeneralString>(alloc, &[0xFF, 0x1B], &[0x61, 0x62])?
-            && is_string::<GraphicString>(alloc, &[0xFF, 0x1B], &[0x61, 0x62])?
-            && is_string::<TeletexString>(alloc, &[0xFF, 0x1B], &[0x61, 0x62])?
-            && is_string::<BmpString>(alloc, &[0x20AC, 0x41], &[0x20AC, 0x61])?,
+        is_string::<NumericString>(alloc, &[0x31, 0x20, 0x32])?
+            && is_string::<PrintableString>(alloc, &[0x41, 0x3A])?
+            && is_string::<VisibleString>(alloc, &[0x7E, 0x20, 0x61])?
+            && is_string::<Ia5String>(alloc, &[0x00, 0x7F])?
+            && is_string::<GeneralString>(alloc, &[0xFF, 0x1B])?
+            && is_string::<GraphicString>(alloc, &[0xFF, 0x1B])?
+            && is_string::<TeletexString>(alloc, &[0xFF, 0x1B])?
+            && is_string::<BmpString>(alloc, &[0x20AC, 0x61])?
+            && are_characters(alloc)?,
     )
 }
 

@@ -1,212 +1,81 @@
 //! Tags, the names of types, and trees of tags: rows, what is shown, and each call once.
-use crate::common::is_told;
+use crate::common::{assert_none, is_told};
 use asn1_schema::{AsnType, Class, Identifier, Tag, TagTree, Variants, tag};
 use std::alloc::{AllocError, Global};
 use std::cmp::Ordering;
 use std::ops::DerefSlice;
 
-/// The universal tags (X.680 8.4), and last that of an untagged choice.
-const UNIVERSAL: [Tag; 35] = [
-    Tag::EOC,
-    Tag::BOOL,
-    Tag::INTEGER,
-    Tag::BIT_STRING,
-    Tag::OCTET_STRING,
-    Tag::NULL,
-    Tag::OBJECT_IDENTIFIER,
-    Tag::OBJECT_DESCRIPTOR,
-    Tag::EXTERNAL,
-    Tag::REAL,
-    Tag::ENUMERATED,
-    Tag::EMBEDDED_PDV,
-    Tag::UTF8_STRING,
-    Tag::RELATIVE_OID,
-    Tag::TIME,
-    Tag::SEQUENCE,
-    Tag::SET,
-    Tag::NUMERIC_STRING,
-    Tag::PRINTABLE_STRING,
-    Tag::TELETEX_STRING,
-    Tag::VIDEOTEX_STRING,
-    Tag::IA5_STRING,
-    Tag::UTC_TIME,
-    Tag::GENERALIZED_TIME,
-    Tag::GRAPHIC_STRING,
-    Tag::VISIBLE_STRING,
-    Tag::GENERAL_STRING,
-    Tag::UNIVERSAL_STRING,
-    Tag::CHARACTER_STRING,
-    Tag::BMP_STRING,
-    Tag::DATE,
-    Tag::TIME_OF_DAY,
-    Tag::DATE_TIME,
-    Tag::DURATION,
-    Tag::CHOICE,
+/// Universal tags, each with that of the marker of its name, and with its number.
+macro_rules! universal_tags {
+    ($($name:ident $number:literal)*) => {
+        [$((Tag::$name, tag::$name::TAG, $number)),*]
+    };
+}
+
+/// The universal tags (X.680 8.4).
+fn universal() -> [(Tag, Tag, u32); 34] {
+    universal_tags![
+        EOC 0 BOOL 1 INTEGER 2 BIT_STRING 3 OCTET_STRING 4 NULL 5 OBJECT_IDENTIFIER 6 OBJECT_DESCRIPTOR 7
+        EXTERNAL 8 REAL 9 ENUMERATED 10 EMBEDDED_PDV 11 UTF8_STRING 12 RELATIVE_OID 13 TIME 14 SEQUENCE 16
+        SET 17 NUMERIC_STRING 18 PRINTABLE_STRING 19 TELETEX_STRING 20 VIDEOTEX_STRING 21 IA5_STRING 22
+        UTC_TIME 23 GENERALIZED_TIME 24 GRAPHIC_STRING 25 VISIBLE_STRING 26 GENERAL_STRING 27
+        UNIVERSAL_STRING 28 CHARACTER_STRING 29 BMP_STRING 30 DATE 31 TIME_OF_DAY 32 DATE_TIME 33 DURATION 34
+    ]
+}
+
+/// Types, each with its name.
+macro_rules! named_types {
+    ($($type:ident $name:literal)*) => {
+        [$((Identifier::$type, $name)),*]
+    };
+}
+
+/// The types and their names.
+const NAMED: [(Identifier, &'static str); 35] = named_types![
+    BOOL "BOOLEAN" INTEGER "INTEGER" BIT_STRING "BIT_STRING" OCTET_STRING "OCTET_STRING" NULL "NULL"
+    OBJECT_IDENTIFIER "OBJECT_IDENTIFIER" EXTERNAL "EXTERNAL" ENUMERATED "ENUMERATED" EMBEDDED_PDV "EMBEDDED_PDV"
+    UTF8_STRING "UTF8String" RELATIVE_OID "RELATIVE_OID" TIME "TIME" SEQUENCE "SEQUENCE" SET "SET"
+    NUMERIC_STRING "NumericString" PRINTABLE_STRING "PrintableString" TELETEX_STRING "TeletexString"
+    IA5_STRING "IA5String" UTC_TIME "UTCTime" GENERALIZED_TIME "GeneralizedTime" GRAPHIC_STRING "GraphicString"
+    VISIBLE_STRING "VisibleString" GENERAL_STRING "GeneralString" BMP_STRING "BMPString" DATE "DATE"
+    TIME_OF_DAY "TIME_OF_DAY" DATE_TIME "DATE_TIME" DURATION "DURATION" CHOICE "CHOICE" INSTANCE_OF "INSTANCE_OF"
+    IRI "IRI" RELATIVE_IRI "RELATIVE_IRI" SEQUENCE_OF "SEQUENCE_OF" SET_OF "SET_OF"
+    UNRESTRICTED_CHARACTER_STRING "UNRESTRICTED_CHARACTER_STRING"
 ];
 
-/// Their numbers.
-const NUMBERS: &str =
-    "0 1 2 3 4 5 6 7 8 9 10 11 12 13 14 16 17 18 19 20 21 22 23 24 25 26 27 28 29 30 31 32 33 34 0";
+/// The number of the universal tag that is not of its name, if there is one.
+fn wrong_universal() -> Option<u32> {
+    for (named, marked, number) in universal() {
+        let found = Tag::new(Class::Universal, number);
+        if named != found || marked != found {
+            return Some(number);
+        }
+    }
+    None
+}
 
-/// The types.
-const TYPES: [Identifier; 35] = [
-    Identifier::BOOL,
-    Identifier::INTEGER,
-    Identifier::BIT_STRING,
-    Identifier::OCTET_STRING,
-    Identifier::NULL,
-    Identifier::OBJECT_IDENTIFIER,
-    Identifier::EXTERNAL,
-    Identifier::ENUMERATED,
-    Identifier::EMBEDDED_PDV,
-    Identifier::UTF8_STRING,
-    Identifier::RELATIVE_OID,
-    Identifier::TIME,
-    Identifier::SEQUENCE,
-    Identifier::SET,
-    Identifier::NUMERIC_STRING,
-    Identifier::PRINTABLE_STRING,
-    Identifier::TELETEX_STRING,
-    Identifier::IA5_STRING,
-    Identifier::UTC_TIME,
-    Identifier::GENERALIZED_TIME,
-    Identifier::GRAPHIC_STRING,
-    Identifier::VISIBLE_STRING,
-    Identifier::GENERAL_STRING,
-    Identifier::BMP_STRING,
-    Identifier::DATE,
-    Identifier::TIME_OF_DAY,
-    Identifier::DATE_TIME,
-    Identifier::DURATION,
-    Identifier::CHOICE,
-    Identifier::INSTANCE_OF,
-    Identifier::IRI,
-    Identifier::RELATIVE_IRI,
-    Identifier::SEQUENCE_OF,
-    Identifier::SET_OF,
-    Identifier::UNRESTRICTED_CHARACTER_STRING,
-];
-
-/// Their names.
-const NAMES: &str = "\
-BOOLEAN
-INTEGER
-BIT_STRING
-OCTET_STRING
-NULL
-OBJECT_IDENTIFIER
-EXTERNAL
-ENUMERATED
-EMBEDDED_PDV
-UTF8String
-RELATIVE_OID
-TIME
-SEQUENCE
-SET
-NumericString
-PrintableString
-TeletexString
-IA5String
-UTCTime
-GeneralizedTime
-GraphicString
-VisibleString
-GeneralString
-BMPString
-DATE
-TIME_OF_DAY
-DATE_TIME
-DURATION
-CHOICE
-INSTANCE_OF
-IRI
-RELATIVE_IRI
-SEQUENCE_OF
-SET_OF
-UNRESTRICTED_CHARACTER_STRING";
+/// The name that is not that of its type, if there is one.
+fn wrong_name() -> Option<&'static str> {
+    for (found, name) in NAMED {
+        if found != Identifier(Some(name)) {
+            return Some(name);
+        }
+    }
+    None
+}
 
 /// Two tags, and their order: by class first.
-const ORDERED: [(Tag, Tag, Ordering); 6] = [
-    (
-        Tag {
-            class: Class::Application,
-            value: 9,
-        },
-        Tag {
-            class: Class::Context,
-            value: 5,
-        },
-        Ordering::Less,
-    ),
-    (
-        Tag {
-            class: Class::Context,
-            value: 5,
-        },
-        Tag {
-            class: Class::Context,
-            value: 444,
-        },
-        Ordering::Less,
-    ),
-    (
-        Tag {
-            class: Class::Private,
-            value: 0,
-        },
-        Tag {
-            class: Class::Context,
-            value: 444,
-        },
-        Ordering::Greater,
-    ),
-    (
-        Tag::BMP_STRING,
-        Tag {
-            class: Class::Application,
-            value: 0,
-        },
-        Ordering::Less,
-    ),
-    (Tag::SET, Tag::SEQUENCE, Ordering::Greater),
-    (
-        Tag {
-            class: Class::Context,
-            value: 7,
-        },
-        Tag {
-            class: Class::Context,
-            value: 7,
-        },
-        Ordering::Equal,
-    ),
-];
-
-/// Tags, and how they are shown.
-const SHOWN: [(Tag, &'static str); 4] = [
-    (
-        Tag {
-            class: Class::Application,
-            value: 9,
-        },
-        "[APPLICATION 9]",
-    ),
-    (
-        Tag {
-            class: Class::Context,
-            value: 5,
-        },
-        "[5]",
-    ),
-    (Tag::INTEGER, "[UNIVERSAL 2]"),
-    (
-        Tag {
-            class: Class::Private,
-            value: 3,
-        },
-        "[PRIVATE 3]",
-    ),
-];
+fn ordered() -> [(Tag, Tag, Ordering); 6] {
+    let (near, far) = (Tag::new_context(5), Tag::new_context(444));
+    [
+        (Tag::new_application(9), near, Ordering::Less),
+        (near, far, Ordering::Less),
+        (Tag::new_private(0), far, Ordering::Greater),
+        (Tag::BMP_STRING, Tag::new_application(0), Ordering::Less),
+        (Tag::SET, Tag::SEQUENCE, Ordering::Greater),
+        (far, far, Ordering::Equal),
+    ]
+}
 
 /// Whether two tags are ordered so, in each way to compare them.
 fn are_ordered(one: Tag, other: Tag, wanted: Ordering) -> bool {
@@ -217,23 +86,35 @@ fn are_ordered(one: Tag, other: Tag, wanted: Ordering) -> bool {
         && (one == other) == (wanted == Ordering::Equal)
 }
 
+/// The first of two tags that are not ordered so, if there are such.
+fn wrong_order() -> Option<Tag> {
+    for (one, other, wanted) in ordered() {
+        if !are_ordered(one, other, wanted) {
+            return Some(one);
+        }
+    }
+    None
+}
+
+/// Whether tags are shown.
+fn are_shown(alloc: Global) -> bool {
+    is_told(alloc, &Tag::new_application(9), "[APPLICATION 9]")
+        && is_told(alloc, &Tag::new_context(5), "[5]")
+        && is_told(alloc, &Tag::INTEGER, "[UNIVERSAL 2]")
+        && is_told(alloc, &Tag::new_private(3), "[PRIVATE 3]")
+}
+
+/// Whether a tag is of this class and this number.
+fn is_made(found: Tag, class: Class, value: u32) -> bool {
+    found == Tag { class, value }
+}
+
 /// Whether tags are made of their class and their number.
 fn are_made() -> bool {
-    Tag::new_application(9)
-        == Tag {
-            class: Class::Application,
-            value: 9,
-        }
-        && Tag::new_context(444)
-            == Tag {
-                class: Class::Context,
-                value: 444,
-            }
-        && Tag::new_private(3)
-            == Tag {
-                class: Class::Private,
-                value: 3,
-            }
+    is_made(Tag::new_application(9), Class::Application, 9)
+        && is_made(Tag::new_context(444), Class::Context, 444)
+        && is_made(Tag::new_private(3), Class::Private, 3)
+        && is_made(Tag::CHOICE, Class::Universal, 0)
         && Tag::new(Class::Context, 7) == Tag::new_context(7)
         && Tag::INTEGER.set_value(1) == Tag::BOOL
         && Tag::CHOICE.is_choice()
@@ -251,46 +132,6 @@ fn stand_in() -> bool {
         && Identifier::EMPTY.0 == None
 }
 
-/// The tags of the markers of universal tags, in their order.
-fn markers() -> [Tag; 34] {
-    [
-        tag::EOC::TAG,
-        tag::BOOL::TAG,
-        tag::INTEGER::TAG,
-        tag::BIT_STRING::TAG,
-        tag::OCTET_STRING::TAG,
-        tag::NULL::TAG,
-        tag::OBJECT_IDENTIFIER::TAG,
-        tag::OBJECT_DESCRIPTOR::TAG,
-        tag::EXTERNAL::TAG,
-        tag::REAL::TAG,
-        tag::ENUMERATED::TAG,
-        tag::EMBEDDED_PDV::TAG,
-        tag::UTF8_STRING::TAG,
-        tag::RELATIVE_OID::TAG,
-        tag::TIME::TAG,
-        tag::SEQUENCE::TAG,
-        tag::SET::TAG,
-        tag::NUMERIC_STRING::TAG,
-        tag::PRINTABLE_STRING::TAG,
-        tag::TELETEX_STRING::TAG,
-        tag::VIDEOTEX_STRING::TAG,
-        tag::IA5_STRING::TAG,
-        tag::UTC_TIME::TAG,
-        tag::GENERALIZED_TIME::TAG,
-        tag::GRAPHIC_STRING::TAG,
-        tag::VISIBLE_STRING::TAG,
-        tag::GENERAL_STRING::TAG,
-        tag::UNIVERSAL_STRING::TAG,
-        tag::CHARACTER_STRING::TAG,
-        tag::BMP_STRING::TAG,
-        tag::DATE::TAG,
-        tag::TIME_OF_DAY::TAG,
-        tag::DATE_TIME::TAG,
-        tag::DURATION::TAG,
-    ]
-}
-
 /// Whether each marker of another class has the tag of its name.
 fn markers_have_tags() -> bool {
     tag::Application::<9>::TAG == Tag::new_application(9)
@@ -300,36 +141,25 @@ fn markers_have_tags() -> bool {
 
 #[test]
 fn tags_and_names(rt: HostRuntime) {
-    for (one, other, wanted) in &ORDERED {
-        assert!(rt; are_ordered(*one, *other, *wanted), "of {one} and {other}");
-    }
-    let markers = markers();
-    for (place, number) in NUMBERS.split(' ').enumerate() {
-        let found = Tag::new(Class::Universal, number.parse().unwrap_or(u32::MAX));
-        assert!(rt; UNIVERSAL.get(place) == Some(&found), "{number}");
-        assert!(rt;
-            place == 34 || markers.get(place) == Some(&found),
-            "{number}"
-        );
-    }
-    for (place, name) in NAMES.lines().enumerate() {
-        assert!(rt; TYPES.get(place) == Some(&Identifier(Some(name))), "{name}");
-    }
-    for (shown, text) in &SHOWN {
-        assert!(rt; is_told(rt.alloc(), shown, text), "of {text}");
-    }
-    assert!(rt; are_made() && stand_in() && markers_have_tags());
+    assert_none(&rt, &wrong_universal());
+    assert_none(&rt, &wrong_name());
+    assert_none(&rt, &wrong_order());
+    assert!(rt; are_shown(rt.alloc()) && are_made() && stand_in() && markers_have_tags());
 }
 
-const FIRST: Tag = Tag {
-    class: Class::Context,
-    value: 1,
-};
+/// A tag of this class and this number.
+macro_rules! tag_of {
+    ($class:ident $value:literal) => {
+        Tag {
+            class: Class::$class,
+            value: $value,
+        }
+    };
+}
 
-const THIRD: Tag = Tag {
-    class: Class::Context,
-    value: 3,
-};
+const FIRST: Tag = tag_of!(Context 1);
+
+const THIRD: Tag = tag_of!(Context 3);
 
 const INNER: [TagTree<'static>; 2] = [TagTree::Leaf(THIRD), TagTree::Leaf(Tag::NULL)];
 
@@ -342,42 +172,18 @@ const OUTER: [TagTree<'static>; 3] = [
 /// Tags that repeat side by side, and apart.
 const REPEATED: [TagTree<'static>; 7] = [
     TagTree::Leaf(Tag::BIT_STRING),
-    TagTree::Leaf(Tag {
-        class: Class::Application,
-        value: 0,
-    }),
-    TagTree::Leaf(Tag {
-        class: Class::Application,
-        value: 0,
-    }),
-    TagTree::Leaf(Tag {
-        class: Class::Context,
-        value: 0,
-    }),
-    TagTree::Leaf(Tag {
-        class: Class::Context,
-        value: 0,
-    }),
-    TagTree::Leaf(Tag {
-        class: Class::Private,
-        value: 0,
-    }),
-    TagTree::Leaf(Tag {
-        class: Class::Private,
-        value: 0,
-    }),
+    TagTree::Leaf(tag_of!(Application 0)),
+    TagTree::Leaf(tag_of!(Application 0)),
+    TagTree::Leaf(tag_of!(Context 0)),
+    TagTree::Leaf(tag_of!(Context 0)),
+    TagTree::Leaf(tag_of!(Private 0)),
+    TagTree::Leaf(tag_of!(Private 0)),
 ];
 
 const APART: [TagTree<'static>; 3] = [
-    TagTree::Leaf(Tag {
-        class: Class::Context,
-        value: 0,
-    }),
+    TagTree::Leaf(tag_of!(Context 0)),
     TagTree::Leaf(Tag::NULL),
-    TagTree::Leaf(Tag {
-        class: Class::Context,
-        value: 0,
-    }),
+    TagTree::Leaf(tag_of!(Context 0)),
 ];
 
 /// Tags, and their places among the leaves.

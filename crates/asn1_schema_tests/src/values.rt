@@ -11,10 +11,10 @@ use asn1_schema::{
     Encode, EncodeError, Encoder, Explicit, Extensible, Implicit, InstanceOf, Tag, Value, tag,
 };
 use asn1_schema_example::chain::Chain;
-use asn1_values_bit_strings::{BitString, FixedBitString};
+use asn1_values_bit_strings::FixedBitString;
 use asn1_values_identifiers::{ObjectIdentifier, Oid};
 use asn1_values_integers::{ConstrainedInteger, Integer};
-use asn1_values_octets::{FixedOctetString, OctetString};
+use asn1_values_octets::FixedOctetString;
 use asn1_values_strings::{BmpString, VisibleString};
 use std::alloc::{AllocError, Global};
 use std::borrow::{Cow, CowSlice, CowStr};
@@ -38,39 +38,23 @@ fn are_numbers<T: Encode + Decode + PartialEq + Copy + Into<Integer>>(
     true
 }
 
-fn numbers_without_a_sign(alloc: Global) -> bool {
-    let greatest: u128 = 0x7FFF_FFFF_FFFF_FFFF_FFFF_FFFF_FFFF_FFFF;
-    are_numbers::<u8>(alloc, 0, 255, &[0xFF, 7])
-        && are_numbers::<u16>(alloc, 0, 65535, &[0xFFFF])
-        && are_numbers::<u32>(alloc, 0, 4_294_967_295, &[0xFFFF_FFFF])
+/// Whether numbers of the native types that no vector is of are written and read back.
+fn are_native_numbers(alloc: Global) -> bool {
+    let most: u128 = 0x7FFF_FFFF_FFFF_FFFF_FFFF_FFFF_FFFF_FFFF;
+    let (low, high): (i128, i128) = (-9_223_372_036_854_775_808, 9_223_372_036_854_775_807);
+    are_numbers::<i16>(alloc, -32768, 32767, &[i16::MIN])
         && are_numbers::<u64>(alloc, 0, 18_446_744_073_709_551_615, &[u64::MAX])
         && are_numbers::<usize>(alloc, 0, 18_446_744_073_709_551_615, &[7])
+        && are_numbers::<i64>(alloc, low, high, &[i64::MIN])
+        && are_numbers::<isize>(alloc, low, high, &[-7])
+        && are_numbers::<i128>(alloc, i128::MIN, i128::MAX, &[i128::MIN])
         && is_number(
             alloc,
             &u128::MAX,
             (Some(0), None),
             &Integer::from(u128::MAX),
         )
-        && is_read_back_as::<u128, u128>(alloc, &greatest, &greatest)
-}
-
-fn numbers_with_a_sign(alloc: Global) -> bool {
-    are_numbers::<i8>(alloc, -128, 127, &[-0x80, -5])
-        && are_numbers::<i16>(alloc, -32768, 32767, &[-0x8000])
-        && are_numbers::<i32>(alloc, -2_147_483_648, 2_147_483_647, &[i32::MIN])
-        && are_numbers::<i64>(
-            alloc,
-            -9_223_372_036_854_775_808,
-            9_223_372_036_854_775_807,
-            &[i64::MIN],
-        )
-        && are_numbers::<isize>(
-            alloc,
-            -9_223_372_036_854_775_808,
-            9_223_372_036_854_775_807,
-            &[-7],
-        )
-        && are_numbers::<i128>(alloc, i128::MIN, i128::MAX, &[i128::MIN])
+        && is_read_back_as::<u128, u128>(alloc, &most, &most)
 }
 
 type Small = ConstrainedInteger<-5, 5>;
@@ -101,14 +85,10 @@ fn is_up_to_ten(alloc: Global) -> bool {
     is_written(alloc, &value, &[Wanted::Integer(Some(0), Some(10), 8)])
 }
 
-/// Whether truth values, nothing, markers and numbers of any size are written and read back, and none as one of another
-/// type.
+/// Whether markers and numbers of any size are written and read back, and no value as one of another type.
 fn are_plain(alloc: Global) -> bool {
     let marker: PhantomData<u8> = PhantomData;
-    is_kept(alloc, &true, &[Wanted::Flag(true)])
-        && is_kept(alloc, &false, &[Wanted::Flag(false)])
-        && is_kept(alloc, &(), &[Wanted::Null])
-        && is_kept(alloc, &marker, &[Wanted::Null])
+    is_kept(alloc, &marker, &[Wanted::Null])
         && is_kept(
             alloc,
             &Integer::from(-300_i64),
@@ -119,9 +99,9 @@ fn are_plain(alloc: Global) -> bool {
 }
 
 #[test]
-fn numbers_truths_and_nothing(rt: HostRuntime) {
+fn numbers_and_markers(rt: HostRuntime) {
     let alloc = rt.alloc();
-    assert!(rt; numbers_without_a_sign(alloc) && numbers_with_a_sign(alloc));
+    assert!(rt; are_native_numbers(alloc));
     match Small::try_from(3_i32) {
         Ok(value) => assert!(rt; is_small(alloc, &value)),
         Err(_) => assert!(rt; false),
@@ -230,24 +210,12 @@ fn lists_texts_and_values_around_others(rt: HostRuntime) {
     assert!(rt; are_around(rt.alloc()) == Ok(true));
 }
 
-/// Whether strings of octets and bits are written and read back.
-fn are_strings(alloc: Global) -> Result<bool, AllocError> {
-    let bits = BitString::from_slice(alloc, &[0xA5])?;
+/// Whether strings of so many octets and bits are written and read back.
+fn are_strings(alloc: Global) -> bool {
     let four = FixedBitString::<4>::new([0xAF, 0, 0, 0]);
-    Ok(
-        is_kept(alloc, &bits, &[Wanted::Bits(8, &[0xA5])])
-            && is_kept(alloc, &four, &[Wanted::Bits(4, &[0xA0])])
-            && is_kept(
-                alloc,
-                &OctetString::from_static(&[1, 2, 3]),
-                &[Wanted::Octets(&[1, 2, 3])],
-            )
-            && is_kept(
-                alloc,
-                &FixedOctetString::new([1, 2, 3]),
-                &[Wanted::Octets(&[1, 2, 3])],
-            ),
-    )
+    let three = FixedOctetString::new([1, 2, 3]);
+    is_kept(alloc, &four, &[Wanted::Bits(4, &[0xA0])])
+        && is_kept(alloc, &three, &[Wanted::Octets(&[1, 2, 3])])
 }
 
 /// Whether identifiers, values of any type and those with the identifier of their type are read back.
@@ -283,7 +251,7 @@ fn are_characters_refused(alloc: Global) -> bool {
 #[test]
 fn strings_and_open_values(rt: HostRuntime) {
     let alloc = rt.alloc();
-    assert!(rt; are_strings(alloc) == Ok(true) && are_open(alloc) == Ok(true));
+    assert!(rt; are_strings(alloc) && are_open(alloc) == Ok(true));
     assert!(rt; are_characters_refused(alloc));
 }
 

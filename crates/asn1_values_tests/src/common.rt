@@ -56,14 +56,6 @@ pub fn is_copied<T: Clone + PartialEq + Drop>(value: &T) -> Result<bool, AllocEr
     Ok(copy == *value)
 }
 
-/// Whether a copy of a value is the same as the value and hashed as it, and none was refused.
-pub fn has_copy<T: Clone + Hash + PartialEq + Drop>(value: &T) -> bool {
-    match value.clone() {
-        Ok(copy) => copy == *value && hash_of(&copy) == hash_of(value),
-        Err(AllocError) => false,
-    }
-}
-
 /// Whether this is shown of a value with what it is made of.
 pub fn is_shown<T: Debug>(alloc: Global, value: &T, text: &str) -> bool {
     match format!(in alloc; "{value:?}") {
@@ -88,46 +80,5 @@ pub fn is_granted(rt: &impl Abort, answer: Result<bool, AllocError>) -> bool {
             true
         }
         Err(AllocError) => false,
-    }
-}
-
-/// Up to twenty octets.
-#[derive(Clone, Copy)]
-pub struct Octets {
-    octets: [u8; 20],
-    len: usize,
-}
-
-impl Octets {
-    /// The octets of two hexadecimal digits each.
-    pub fn of(digits: &str) -> Octets {
-        let mut found = Octets {
-            octets: [0; 20],
-            len: 0,
-        };
-        let mut high: Option<u8> = None;
-        for digit in digits.chars() {
-            let value = u8::try_from(digit.to_digit(16).unwrap_or(0)).unwrap_or(0);
-            match high {
-                None => high = Some(value),
-                Some(first) => {
-                    if found.len < 20 {
-                        found.octets[found.len] = first.wrapping_mul(16) | value;
-                        found.len += 1;
-                    }
-                    high = None;
-                }
-            }
-        }
-        found
-    }
-
-    /// All of them.
-    pub fn all(&self) -> &[u8] {
-        if self.len <= 20 {
-            &self.octets[..self.len]
-        } else {
-            &[]
-        }
     }
 }

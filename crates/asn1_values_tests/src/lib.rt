@@ -1,4 +1,4 @@
-//! Tests of bits and fields, of whole numbers and object identifiers, and of octets.
+//! Tests of bits, fields and octets.
 #![tactic(auto)]
 
 #[cfg(test)]
@@ -7,12 +7,6 @@ mod bits;
 mod common;
 #[cfg(test)]
 mod fields;
-#[cfg(test)]
-mod identifiers;
-#[cfg(test)]
-mod natives;
-#[cfg(test)]
-mod numbers;
 #[cfg(test)]
 mod octets;
 #[cfg(test)]

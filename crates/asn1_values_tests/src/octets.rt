@@ -22,32 +22,15 @@ fn vector(alloc: Global) -> Result<Vec<u8>, AllocError> {
     OCTETS.to_vec(alloc)
 }
 
-/// Whether a string that is given up gives all its octets.
-fn is_given_up(alloc: Global, value: OctetString) -> bool {
-    is_of(value.into_vec(alloc), &OCTETS)
+/// Whether a vector that is given up is a string.
+fn is_made_of_a_vector(alloc: Global) -> Result<bool, AllocError> {
+    Ok(is_of(OctetString::try_from(vector(alloc)?), &OCTETS))
 }
 
-/// Whether vectors that are given up are strings, and one that is not empty gives its octets up.
-fn are_moved(alloc: Global) -> Result<bool, AllocError> {
-    let converted = is_of(OctetString::try_from(vector(alloc)?), &OCTETS);
-    match OctetString::from_vec(vector(alloc)?) {
-        Ok(value) => Ok(converted && !value.is_empty() && is_given_up(alloc, value)),
-        Err(_) => Ok(false),
-    }
-}
-
-/// Whether a string of three octets lends them, and a copy of it is equal, and gives them up: it shares them with its
-/// string, so that they are copied.
-fn lends(alloc: Global, value: &OctetString) -> Result<bool, AllocError> {
+/// Whether a string of three octets lends them, and a copy of it is equal.
+fn is_whole(value: &OctetString) -> Result<bool, AllocError> {
     let copy = value.clone()?;
-    let is_equal = copy == *value;
-    Ok(
-        value.len() == 3
-            && has(value, &OCTETS)
-            && is_of(value.to_vec(alloc), &OCTETS)
-            && is_equal
-            && is_given_up(alloc, copy),
-    )
+    Ok(copy == *value && value.len() == 3 && !value.is_empty() && has(value, &OCTETS))
 }
 
 /// Whether a string without octets is empty.
@@ -57,26 +40,15 @@ fn is_empty() -> bool {
 
 #[test]
 fn strings_are_made(rt: HostRuntime) {
-    let alloc = rt.alloc();
-    assert!(rt; is_of(OctetString::from_slice(alloc, &OCTETS), &OCTETS));
-    assert!(rt; is_of(OctetString::from_array(alloc, OCTETS), &OCTETS));
-    assert!(rt; are_moved(alloc) == Ok(true) && lends(alloc, &lent()) == Ok(true) && is_empty());
+    assert!(rt; is_made_of_a_vector(rt.alloc()) == Ok(true));
+    assert!(rt; is_whole(&lent()) == Ok(true) && is_empty());
 }
 
-/// Whether bytes of these octets, lent and given up, are strings of them.
-fn is_taken_of_bytes(octets: Bytes) -> bool {
-    is_of(OctetString::try_from(&octets), &OCTETS)
-        && OctetString::from(octets).as_slice() == OCTETS.as_slice()
-}
-
-/// Whether strings of these octets, lent and given up, are bytes of them.
-fn is_given_as_bytes(value: OctetString) -> bool {
-    is_of(Bytes::try_from(&value), &OCTETS) && Bytes::from(value).as_slice() == OCTETS.as_slice()
-}
-
-/// Whether bytes are copied, and are strings.
+/// Whether bytes are copied and given up as a string, and this as bytes.
 fn are_bytes(alloc: Global) -> Result<bool, AllocError> {
-    Ok(is_taken_of_bytes(Bytes::copy_from_slice(alloc, &OCTETS)?) && is_given_as_bytes(lent()))
+    let value = OctetString::from(Bytes::copy_from_slice(alloc, &OCTETS)?);
+    let is_same = has(&value, &OCTETS);
+    Ok(is_same && Bytes::from(value).as_slice() == OCTETS.as_slice())
 }
 
 /// Whether strings of these octets are in this order.
@@ -142,11 +114,10 @@ fn is_made_of_three(alloc: Global) -> Result<bool, AllocError> {
 }
 
 /// Whether a string of three octets and a copy of it give them.
-fn gives_three(alloc: Global, value: Three) -> Result<bool, AllocError> {
+fn gives_three(value: Three) -> Result<bool, AllocError> {
     let copy = value.clone()?;
     Ok(
         has(&value, &OCTETS)
-            && is_of(value.to_vec(alloc), &OCTETS)
             && value == Three::from(OCTETS)
             && value.into_array() == OCTETS
             && <[u8; 3]>::from(copy) == OCTETS,
@@ -182,7 +153,7 @@ fn is_written(value: &mut Three) -> bool {
 fn strings_of_as_many_octets(rt: HostRuntime) {
     let alloc = rt.alloc();
     assert!(rt; is_made_of_three(alloc) == Ok(true));
-    assert!(rt; gives_three(alloc, Three::new(OCTETS)) == Ok(true));
+    assert!(rt; gives_three(Three::new(OCTETS)) == Ok(true));
     assert!(rt; are_zeros_at_first() && is_written(&mut Three::new([1, 2, 3])));
     let value = OctetString::from_static(&[0x61, 0x00]);
     assert!(rt; is_shown(alloc, &value, "OctetString { octets: b\"a\\0\" }"));

@@ -1,5 +1,5 @@
 //! Each request for memory, as it may be refused: what is answered, and what stands then.
-use crate::{bits, fields, identifiers, numbers, octets};
+use crate::{bits, fields, octets};
 use std::alloc::Global;
 use std::process::Abort;
 
@@ -7,10 +7,8 @@ use std::process::Abort;
 fn requests(rt: &impl Abort, alloc: Global) -> bool {
     let bits = bits::requests(rt, alloc);
     let fields = fields::requests(rt, alloc);
-    let numbers = numbers::requests(rt, alloc);
-    let identifiers = identifiers::requests(rt, alloc);
     let octets = octets::requests(rt, alloc);
-    bits && fields && numbers && identifiers && octets
+    bits && fields && octets
 }
 
 #[test]

@@ -1,6 +1,6 @@
 //! Each kind without components, and lists, behind 0 to 7 bits, unaligned and aligned.
 use crate::spelled::push_spelled;
-use asn1_schema_constraints::{Bounded, Constraints, Extensible, Size};
+use asn1_schema_constraints::{Bounded, Constraints, Extensible, Size, Value as Range};
 use asn1_schema_decode::{Decode, Decoder as _};
 use asn1_schema_encode::{Encode, Encoder as _};
 use asn1_schema_faults::{DecodeError, EncodeError};
@@ -8,19 +8,13 @@ use asn1_schema_tags::{Identifier, Tag};
 use asn1_values_bit_strings::BitString;
 use asn1_values_bits::BitBuffer;
 use asn1_values_identifiers::{ObjectIdentifier, Oid};
-use asn1_values_integers::{ConstrainedInteger, Integer};
+use asn1_values_integers::Integer;
 use asn1_values_octets::OctetString;
-use asn1_values_strings::{
-    BmpString, GeneralString, GraphicString, Ia5String, NumericString, PrintableString,
-    TeletexString, VisibleString,
-};
+use asn1_values_strings::{BmpString, GeneralString, NumericString, VisibleString};
 use per_codec::uper::{Decoder, DecoderOptions, Encoder, EncoderOptions};
 use per_codec_reading::Variant;
 use std::alloc::{AllocError, Global};
 use std::test::Fail;
-
-/// INTEGER (0..1234311).
-type Wide = ConstrainedInteger<0, 1234311>;
 
 /// A value, and its type.
 #[derive(Clone, Copy)]
@@ -28,20 +22,12 @@ enum Value {
     Truth(bool),
     Nothing,
     Number(i64),
-    Octet(u8),
-    Word(u16),
-    Long(u32),
-    Wide(i64),
     Bits(&'static str),
     Octets(&'static [u8]),
     Text(&'static str),
     Numeric(&'static str),
-    Printable(&'static str),
     Visible(&'static str),
-    Ia5(&'static str),
     General(&'static str),
-    Graphic(&'static str),
-    Teletex(&'static str),
     Bmp(&'static str),
     Identifier(&'static [u32]),
     Numbers(&'static [i64]),
@@ -49,67 +35,64 @@ enum Value {
     Lists(&'static [usize]),
 }
 
-/// The size that a value is constrained to.
+/// The size that a value is constrained to, or the last number of a range from 0 on.
 #[derive(Clone, Copy)]
-enum Sizes {
+enum Limit {
     Any,
+    Most(i128),
     Fixed(usize),
     UpTo(usize),
     /// From one to another, with a mark.
     Marked(usize, usize),
 }
 
-/// A value, its size, and its bits: in both variants, or before a stroke in the unaligned one and behind it in the
-/// aligned one.
-type Row = (Value, Sizes, &'static str);
+/// A value, what it is constrained to, and its bits: in both variants, or before a stroke in the unaligned one and
+/// behind it in the aligned one.
+type Row = (Value, Limit, &'static str);
 
 /// Truth values, nothing, and numbers (X.691 11.5, 12, 13 and 24). A message of no bits has an octet. A range of 256
 /// numbers and one of 65536 take whole octets; of a wider one the number of octets comes first in the aligned variant.
 const NUMBERS: [Row; 8] = [
-    (Value::Truth(true), Sizes::Any, "b1"),
-    (Value::Nothing, Sizes::Any, ""),
-    (Value::Number(4096), Sizes::Any, "| 02 10 00"),
-    (Value::Octet(7), Sizes::Any, "| 07"),
-    (Value::Octet(0xAB), Sizes::Any, "| AB"),
-    (Value::Word(300), Sizes::Any, "| 01 2C"),
-    (Value::Long(300), Sizes::Any, "00 00 01 2C / b01 | 01 2C"),
+    (Value::Truth(true), Limit::Any, "b1"),
+    (Value::Nothing, Limit::Any, ""),
+    (Value::Number(4096), Limit::Any, "| 02 10 00"),
+    (Value::Number(7), Limit::Most(255), "| 07"),
+    (Value::Number(0xAB), Limit::Most(255), "| AB"),
+    (Value::Number(300), Limit::Most(65535), "| 01 2C"),
     (
-        Value::Wide(1234311),
-        Sizes::Any,
+        Value::Number(300),
+        Limit::Most(4294967295),
+        "00 00 01 2C / b01 | 01 2C",
+    ),
+    (
+        Value::Number(1234311),
+        Limit::Most(1234311),
         "96 AC b00111 / b10 | 12 D5 87",
     ),
 ];
 
 /// Strings behind their length (X.691 16, 17, 24 and 30). Characters of seven bits have eight in the aligned variant.
-const STRINGS: [Row; 14] = [
-    (Value::Bits("FF b010000"), Sizes::Any, "| 0E FF b010000"),
-    (Value::Bits("b11111"), Sizes::Any, "| 05 b11111"),
-    (Value::Octets(&[1, 2, 3]), Sizes::Any, "| 03 01 02 03"),
-    (Value::Text("Jo"), Sizes::Any, "| 02 4A 6F"),
-    (Value::Numeric("123"), Sizes::Any, "| 03 23 b0100"),
-    (
-        Value::Printable("Jo"),
-        Sizes::Any,
-        "02 95 b101111 / | 02 4A 6F",
-    ),
+const STRINGS: [Row; 10] = [
+    (Value::Bits("FF b010000"), Limit::Any, "| 0E FF b010000"),
+    (Value::Bits("b11111"), Limit::Any, "| 05 b11111"),
+    (Value::Octets(&[1, 2, 3]), Limit::Any, "| 03 01 02 03"),
+    (Value::Text("Jo"), Limit::Any, "| 02 4A 6F"),
+    (Value::Numeric("123"), Limit::Any, "| 03 23 b0100"),
     (
         Value::Visible("Jo"),
-        Sizes::Any,
+        Limit::Any,
         "02 95 b101111 / | 02 4A 6F",
     ),
-    (Value::Ia5("Jo"), Sizes::Any, "02 95 b101111 / | 02 4A 6F"),
-    (Value::General("Jo"), Sizes::Any, "| 02 4A 6F"),
-    (Value::Graphic("Jo"), Sizes::Any, "| 02 4A 6F"),
-    (Value::Teletex("Jo"), Sizes::Any, "| 02 4A 6F"),
-    (Value::Bmp("Jo"), Sizes::Any, "| 02 00 4A 00 6F"),
+    (Value::General("Jo"), Limit::Any, "| 02 4A 6F"),
+    (Value::Bmp("Jo"), Limit::Any, "| 02 00 4A 00 6F"),
     (
         Value::Identifier(&[1, 2, 3321]),
-        Sizes::Any,
+        Limit::Any,
         "| 03 2A 99 79",
     ),
     (
         Value::Identifier(&[1, 2, 840, 113549]),
-        Sizes::Any,
+        Limit::Any,
         "| 06 2A 86 48 86 F7 0D",
     ),
 ];
@@ -117,42 +100,36 @@ const STRINGS: [Row; 14] = [
 /// Strings under a size (X.691 16, 17 and 30). Up to 16 bits of a fixed size, and up to two octets of one, stand right
 /// behind what is before them. Of characters whose number of octets is not known a size counts for nothing.
 const SIZED: [Row; 12] = [
-    (Value::General("abc"), Sizes::Fixed(2), "| 03 61 62 63"),
-    (Value::Bits("FF FF"), Sizes::Fixed(16), "FF FF"),
-    (Value::Bits("FF FF b1"), Sizes::Fixed(17), "| FF FF b1"),
-    (Value::Octets(&[1, 2, 3]), Sizes::Fixed(3), "| 01 02 03"),
-    (Value::Octets(&[1, 2]), Sizes::Fixed(2), "01 02"),
-    (Value::Octets(&[1, 2]), Sizes::UpTo(3), "b10 | 01 02"),
-    (Value::Octets(&[]), Sizes::UpTo(3), "b00"),
-    (Value::Octets(&[9]), Sizes::UpTo(65535), "| 00 01 09"),
-    (Value::Octets(&[9]), Sizes::UpTo(65536), "| 01 09"),
+    (Value::General("abc"), Limit::Fixed(2), "| 03 61 62 63"),
+    (Value::Bits("FF FF"), Limit::Fixed(16), "FF FF"),
+    (Value::Bits("FF FF b1"), Limit::Fixed(17), "| FF FF b1"),
+    (Value::Octets(&[1, 2, 3]), Limit::Fixed(3), "| 01 02 03"),
+    (Value::Octets(&[1, 2]), Limit::Fixed(2), "01 02"),
+    (Value::Octets(&[1, 2]), Limit::UpTo(3), "b10 | 01 02"),
+    (Value::Octets(&[]), Limit::UpTo(3), "b00"),
+    (Value::Octets(&[9]), Limit::UpTo(65535), "| 00 01 09"),
+    (Value::Octets(&[9]), Limit::UpTo(65536), "| 01 09"),
     (
         Value::Octets(&[1, 2, 3]),
-        Sizes::Marked(1, 2),
+        Limit::Marked(1, 2),
         "b1 | 03 01 02 03",
     ),
-    (Value::Octets(&[1]), Sizes::Marked(1, 2), "b00 | 01"),
+    (Value::Octets(&[1]), Limit::Marked(1, 2), "b00 | 01"),
     (
         Value::Octets(&[1, 2, 3, 4]),
-        Sizes::Marked(1, 3),
+        Limit::Marked(1, 3),
         "b1 | 04 01 02 03 04",
     ),
 ];
 
 /// Lists (X.691 20). Behind the bits of a member the next one is filled up again.
 const LISTS: [Row; 2] = [
-    (Value::Numbers(&[1, 2]), Sizes::Any, "| 02 01 01 01 02"),
-    (Value::Lists(&[1, 3]), Sizes::Any, "| 02 | 01 b1 | 03 b111"),
+    (Value::Numbers(&[1, 2]), Limit::Any, "| 02 01 01 01 02"),
+    (Value::Lists(&[1, 3]), Limit::Any, "| 02 | 01 b1 | 03 b111"),
 ];
 
-/// The constraint to a size, if there is one.
-fn constraints_of(sizes: Sizes) -> Option<Constraints<'static>> {
-    let (range, is_marked) = match sizes {
-        Sizes::Any => return None,
-        Sizes::Fixed(size) => (Bounded::Single(size), false),
-        Sizes::UpTo(high) => (Bounded::up_to(high), false),
-        Sizes::Marked(low, high) => (Bounded::const_new(low, high), true),
-    };
+/// The constraint to a size.
+fn sized(range: Bounded<usize>, is_marked: bool) -> Option<Constraints<'static>> {
     let size = Extensible::new(Size::new(range)).set_extensible(is_marked);
     Some(Constraints {
         size: Some(size),
@@ -160,17 +137,31 @@ fn constraints_of(sizes: Sizes) -> Option<Constraints<'static>> {
     })
 }
 
+/// The constraint to a size or a range, if there is one.
+fn constraints_of(limit: Limit) -> Option<Constraints<'static>> {
+    match limit {
+        Limit::Any => None,
+        Limit::Most(last) => Some(Constraints {
+            value: Some(Extensible::new(Range::new(Bounded::const_new(0, last)))),
+            ..Constraints::NONE
+        }),
+        Limit::Fixed(size) => sized(Bounded::Single(size), false),
+        Limit::UpTo(high) => sized(Bounded::up_to(high), false),
+        Limit::Marked(low, high) => sized(Bounded::const_new(low, high), true),
+    }
+}
+
 /// Writes so many set bits and the value behind them.
 fn write_behind<T: Encode>(
     encoder: &mut Encoder,
     count: usize,
     value: &T,
-    sizes: Sizes,
+    limit: Limit,
 ) -> Result<(), EncodeError> {
     for _ in 0..count {
         encoder.encode_bool(Tag::BOOL, true, Identifier::EMPTY)?;
     }
-    match constraints_of(sizes) {
+    match constraints_of(limit) {
         Some(constraints) => value.encode_with_constraints(encoder, constraints),
         None => value.encode(encoder),
     }
@@ -181,14 +172,14 @@ fn message<T: Encode>(
     alloc: Global,
     (variant, count): (Variant, usize),
     value: &T,
-    sizes: Sizes,
+    limit: Limit,
 ) -> Result<Vec<u8>, EncodeError> {
     let options = match variant {
         Variant::Unaligned => EncoderOptions::unaligned(),
         Variant::Aligned => EncoderOptions::aligned(),
     };
     let mut encoder = Encoder::new(alloc, options);
-    write_behind(&mut encoder, count, value, sizes)?;
+    write_behind(&mut encoder, count, value, limit)?;
     encoder.output_into_vec()
 }
 
@@ -205,9 +196,9 @@ fn reads<T: Decode + PartialEq>(
     alloc: Global,
     decoder: &mut Decoder<'_>,
     value: &T,
-    sizes: Sizes,
+    limit: Limit,
 ) -> Result<bool, DecodeError> {
-    let read = match constraints_of(sizes) {
+    let read = match constraints_of(limit) {
         Some(constraints) => T::decode_with_constraints(alloc, decoder, constraints)?,
         None => T::decode(alloc, decoder)?,
     };
@@ -220,10 +211,10 @@ fn reads_behind<T: Decode + PartialEq>(
     decoder: &mut Decoder<'_>,
     count: usize,
     value: &T,
-    sizes: Sizes,
+    limit: Limit,
 ) -> Result<bool, DecodeError> {
     skip(decoder, count)?;
-    let is_value = reads(alloc, decoder, value, sizes)?;
+    let is_value = reads(alloc, decoder, value, limit)?;
     decoder.finish()?;
     Ok(is_value && decoder.input().is_empty())
 }
@@ -233,10 +224,10 @@ fn is_written_behind<T: Encode>(
     alloc: Global,
     front: (Variant, usize),
     value: &T,
-    sizes: Sizes,
+    limit: Limit,
     octets: &[u8],
 ) -> Result<bool, EncodeError> {
-    let written = message(alloc, front, value, sizes)?;
+    let written = message(alloc, front, value, limit)?;
     Ok(written.as_slice() == octets)
 }
 
@@ -260,14 +251,14 @@ fn stands_behind<T: Encode + Decode + PartialEq>(
     alloc: Global,
     front: (Variant, usize),
     value: &T,
-    sizes: Sizes,
+    limit: Limit,
     spelled: &str,
 ) -> Result<bool, Fail> {
     let (variant, count) = front;
     let octets = expected(alloc, front, spelled)?;
-    let is_written = is_written_behind(alloc, front, value, sizes, &octets)?;
+    let is_written = is_written_behind(alloc, front, value, limit, &octets)?;
     let mut decoder = Decoder::new(alloc, octets.as_slice(), DecoderOptions { variant });
-    let is_read = reads_behind(alloc, &mut decoder, count, value, sizes);
+    let is_read = reads_behind(alloc, &mut decoder, count, value, limit);
     Ok(is_written && is_read == Ok(true))
 }
 
@@ -275,12 +266,12 @@ fn stands_behind<T: Encode + Decode + PartialEq>(
 fn stands<T: Encode + Decode + PartialEq>(
     alloc: Global,
     value: T,
-    (sizes, spelled): (Sizes, &str),
+    (limit, spelled): (Limit, &str),
 ) -> Result<bool, Fail> {
     let (unaligned, aligned) = spelled.split_once('/').unwrap_or((spelled, spelled));
     for count in 0..8 {
-        if !stands_behind(alloc, (Variant::Unaligned, count), &value, sizes, unaligned)?
-            || !stands_behind(alloc, (Variant::Aligned, count), &value, sizes, aligned)?
+        if !stands_behind(alloc, (Variant::Unaligned, count), &value, limit, unaligned)?
+            || !stands_behind(alloc, (Variant::Aligned, count), &value, limit, aligned)?
         {
             return Ok(false);
         }
@@ -321,16 +312,12 @@ fn lists(alloc: Global, counts: &[usize]) -> Result<Vec<Vec<bool>>, AllocError> 
 }
 
 /// Whether a value that is no character string stands as its row says.
-fn is_right(alloc: Global, (value, sizes, spelled): Row) -> Result<bool, Fail> {
-    let row = (sizes, spelled);
+fn is_right(alloc: Global, (value, limit, spelled): Row) -> Result<bool, Fail> {
+    let row = (limit, spelled);
     match value {
         Value::Truth(value) => stands(alloc, value, row),
         Value::Nothing => stands(alloc, (), row),
         Value::Number(value) => stands(alloc, Integer::from(value), row),
-        Value::Octet(value) => stands(alloc, value, row),
-        Value::Word(value) => stands(alloc, value, row),
-        Value::Long(value) => stands(alloc, value, row),
-        Value::Wide(value) => stands(alloc, Wide::try_from(value)?, row),
         Value::Bits(spelled) => stands(alloc, bits(alloc, spelled)?, row),
         Value::Octets(octets) => stands(alloc, OctetString::from_slice(alloc, octets)?, row),
         Value::Text(text) => stands(alloc, String::from_str(alloc, text)?, row),
@@ -342,15 +329,11 @@ fn is_right(alloc: Global, (value, sizes, spelled): Row) -> Result<bool, Fail> {
 }
 
 /// Whether a character string stands as its row says.
-fn is_right_text(alloc: Global, value: Value, row: (Sizes, &str)) -> Result<bool, Fail> {
+fn is_right_text(alloc: Global, value: Value, row: (Limit, &str)) -> Result<bool, Fail> {
     match value {
         Value::Numeric(text) => stands(alloc, NumericString::from_text(alloc, text)?, row),
-        Value::Printable(text) => stands(alloc, PrintableString::from_text(alloc, text)?, row),
         Value::Visible(text) => stands(alloc, VisibleString::from_text(alloc, text)?, row),
-        Value::Ia5(text) => stands(alloc, Ia5String::from_text(alloc, text)?, row),
         Value::General(text) => stands(alloc, GeneralString::from_text(alloc, text)?, row),
-        Value::Graphic(text) => stands(alloc, GraphicString::from_text(alloc, text)?, row),
-        Value::Teletex(text) => stands(alloc, TeletexString::from_text(alloc, text)?, row),
         Value::Bmp(text) => stands(alloc, BmpString::from_text(alloc, text)?, row),
         _ => Ok(false),
     }

@@ -1,5 +1,5 @@
-//! Tests of UPER and APER: what is no row of octets of one message, as values behind bits, errors of calls, what is
-//! lent, and what readers and writers of parts do. The rows are lines of `asn1_relay_vectors`.
+//! Tests of UPER and APER: what is no row of octets of one message, as values behind bits, errors of calls, and what is
+//! lent. The rows are lines of `asn1_relay_vectors`.
 #![tactic(auto)]
 
 #[cfg(test)]
@@ -7,17 +7,9 @@ mod additions;
 #[cfg(test)]
 mod alignments;
 #[cfg(test)]
-mod alphabets;
-#[cfg(test)]
 mod calls;
 #[cfg(test)]
-mod counted;
-#[cfg(test)]
 mod encoder;
-#[cfg(test)]
-mod packing;
-#[cfg(test)]
-mod parts;
 #[cfg(test)]
 mod reading;
 #[cfg(test)]

@@ -10,36 +10,31 @@ use asn1_values_integers::ConstrainedInteger;
 use std::alloc::{AllocError, Global};
 use std::process::Abort;
 
-/// Octets, and the text of their number.
-const TEXTS: &str = "\
-00 0
-0080 128
-80 -128
-80000000000000000000000000000000 -170141183460469231731687303715884105728
-7FFFFFFFFFFFFFFFFFFFFFFFFFFFFFFF 170141183460469231731687303715884105727
-0080000000000000000000000000000000 0x0080000000000000000000000000000000
-FF7FFFFFFFFFFFFFFFFFFFFFFFFFFFFFFF 0xff7fffffffffffffffffffffffffffffff
-00FFFFFFFFFFFFFFFFFFFFFFFFFFFFFFFF 0x00ffffffffffffffffffffffffffffffff
-0100000000000000000000000000000000 0x0100000000000000000000000000000000";
-
-/// Octets of two numbers, the first less than the second.
-const ASCENDING: &str = "\
-FE0000000000000000000000000000000000 FF7FFFFFFFFFFFFFFFFFFFFFFFFFFFFFFF
-FF7FFFFFFFFFFFFFFFFFFFFFFFFFFFFFFF 80000000000000000000000000000000
-80000000000000000000000000000000 FF
-FF 00
-00 7FFFFFFFFFFFFFFFFFFFFFFFFFFFFFFF
-7FFFFFFFFFFFFFFFFFFFFFFFFFFFFFFF 0080000000000000000000000000000000
-0080000000000000000000000000000000 00FFFFFFFFFFFFFFFFFFFFFFFFFFFFFFFF
-00FFFFFFFFFFFFFFFFFFFFFFFFFFFFFFFF 0100000000000000000000000000000000";
-
-/// Octets of numbers without a sign, and the fewest of each.
-const PLAIN: &str = "\
-0101010101010101010101010101010101010101 0101010101010101010101010101010101010101
-8080808080808080808080808080808080808080 8080808080808080808080808080808080808080
-7FFFFFFFFFFFFFFFFFFFFFFFFFFFFFFF 7FFFFFFFFFFFFFFFFFFFFFFFFFFFFFFF
-0100000000000000000000000000000000 0100000000000000000000000000000000
-00FFFFFFFFFFFFFFFFFFFFFFFFFFFFFFFF FFFFFFFFFFFFFFFFFFFFFFFFFFFFFFFF";
+/// Rows of octets. `text`: those of a number, and its text. `plain`: those of a number without a sign, and its fewest.
+/// `before`: those of two numbers, the first less than the second.
+const ROWS: &str = "\
+text 00 0
+text 0080 128
+text 80 -128
+text 80000000000000000000000000000000 -170141183460469231731687303715884105728
+text 7FFFFFFFFFFFFFFFFFFFFFFFFFFFFFFF 170141183460469231731687303715884105727
+text 0080000000000000000000000000000000 0x0080000000000000000000000000000000
+text FF7FFFFFFFFFFFFFFFFFFFFFFFFFFFFFFF 0xff7fffffffffffffffffffffffffffffff
+text 00FFFFFFFFFFFFFFFFFFFFFFFFFFFFFFFF 0x00ffffffffffffffffffffffffffffffff
+text 0100000000000000000000000000000000 0x0100000000000000000000000000000000
+plain 0101010101010101010101010101010101010101 0101010101010101010101010101010101010101
+plain 8080808080808080808080808080808080808080 8080808080808080808080808080808080808080
+plain 7FFFFFFFFFFFFFFFFFFFFFFFFFFFFFFF 7FFFFFFFFFFFFFFFFFFFFFFFFFFFFFFF
+plain 0100000000000000000000000000000000 0100000000000000000000000000000000
+plain 00FFFFFFFFFFFFFFFFFFFFFFFFFFFFFFFF FFFFFFFFFFFFFFFFFFFFFFFFFFFFFFFF
+before FE0000000000000000000000000000000000 FF7FFFFFFFFFFFFFFFFFFFFFFFFFFFFFFF
+before FF7FFFFFFFFFFFFFFFFFFFFFFFFFFFFFFF 80000000000000000000000000000000
+before 80000000000000000000000000000000 FF
+before FF 00
+before 00 7FFFFFFFFFFFFFFFFFFFFFFFFFFFFFFF
+before 7FFFFFFFFFFFFFFFFFFFFFFFFFFFFFFF 0080000000000000000000000000000000
+before 0080000000000000000000000000000000 00FFFFFFFFFFFFFFFFFFFFFFFFFFFFFFFF
+before 00FFFFFFFFFFFFFFFFFFFFFFFFFFFFFFFF 0100000000000000000000000000000000";
 
 /// Whether the octets of a row are those of a number of its text, read in each way, and copied.
 fn is_number(alloc: Global, row: &str) -> bool {
@@ -120,30 +115,20 @@ fn are_read(alloc: Global, octets: &[u8]) -> bool {
         && is_whole(Integer::from_signed_octets(alloc, octets), octets)
 }
 
-/// The number that is not as its row says, if there is one.
-fn wrong_number(alloc: Global) -> Option<&'static str> {
-    for row in TEXTS.lines() {
-        if !is_number(alloc, row) {
-            return Some(row);
-        }
+/// Whether a row is so.
+fn is_row(alloc: Global, row: &str) -> bool {
+    match row.split_once(' ') {
+        Some(("text", row)) => is_number(alloc, row),
+        Some(("plain", row)) => is_natural(alloc, row),
+        Some(("before", row)) => are_ordered(alloc, row),
+        _ => false,
     }
-    None
 }
 
-/// The number without a sign that is not as its row says, if there is one.
-fn wrong_natural(alloc: Global) -> Option<&'static str> {
-    for row in PLAIN.lines() {
-        if !is_natural(alloc, row) {
-            return Some(row);
-        }
-    }
-    None
-}
-
-/// The numbers that are not in the order of their row, if there are such.
-fn wrong_order(alloc: Global) -> Option<&'static str> {
-    for row in ASCENDING.lines() {
-        if !are_ordered(alloc, row) {
+/// The row that is not so, if there is one.
+fn wrong_row(alloc: Global) -> Option<&'static str> {
+    for row in ROWS.lines() {
+        if !is_row(alloc, row) {
             return Some(row);
         }
     }
@@ -153,9 +138,7 @@ fn wrong_order(alloc: Global) -> Option<&'static str> {
 #[test]
 fn integers_of_any_size(rt: HostRuntime) {
     let alloc = rt.alloc();
-    assert_none(&rt, &wrong_number(alloc));
-    assert_none(&rt, &wrong_natural(alloc));
-    assert_none(&rt, &wrong_order(alloc));
+    assert_none(&rt, &wrong_row(alloc));
     assert!(rt; fewest_are_kept(alloc));
     assert!(rt; are_read(alloc, &[1; 20]) && are_read(alloc, &[0x80; 20]));
 }

@@ -481,46 +481,40 @@ fn native_types(rt: HostRuntime) {
     assert!(rt; IntegerType::to_i128(&u128::MAX).is_none());
 }
 
-/// Octets, and their numbers with a sign and without one, or a hyphen where they are outside the common ground.
-const WIDE: &str = "\
-FFFFFFFFFFFFFFFFFFFFFFFFFFFFFFFFFF FF -
-00FFFFFFFFFFFFFFFFFFFFFFFFFFFFFFFF 00FFFFFFFFFFFFFFFFFFFFFFFFFFFFFFFF 00FFFFFFFFFFFFFFFFFFFFFFFFFFFFFFFF
-FEFFFFFFFFFFFFFFFFFFFFFFFFFFFFFFFF - -
-FF00000000000000000000000000000000 FF00000000000000000000000000000000 -
-0100000000000000000000000000000000 - -
- 00 00
-FF7F FF7F 00FF7F";
-
-/// Numbers, and what they are where the greatest is 7, without a sign and with one, or a hyphen where they are outside.
-const BOUNDED: &str = "\
-07 07 07
-08 - -
-FF - FF
-F8 - F8
-F7 - -";
-
-/// Numbers as their fewest octets with a sign, and those without one.
-const FEWEST: &str = "\
-00 00
-7F 7F
-0080 80
-0100 0100
-FF FF
-80 80
-FF7F FF7F
-FF7FFF FF7FFF
-FF00000000000000000000000000000000 FF00000000000000000000000000000000
-00FFFFFFFFFFFFFFFFFFFFFFFFFFFFFFFF FFFFFFFFFFFFFFFFFFFFFFFFFFFFFFFF";
-
-/// Octets, and what they are without those at the front that only repeat the sign.
-const PADDED: &str = "\
-007F 7F
-FF80 80
-0080 0080
-FF7F FF7F
-00 00
-00000080 0080
-FFFF FF";
+/// Rows of octets. `wide`: octets, and their numbers with a sign and without one, or a hyphen where they are outside the
+/// common ground. `within`: a number, and what it is where the greatest is 7, without a sign and with one, or a hyphen
+/// where it is outside. `fewest`: a number as its fewest octets with a sign, and without one. `padded`: octets, and what
+/// they are without those at the front that only repeat the sign.
+const ROWS: &str = "\
+wide FFFFFFFFFFFFFFFFFFFFFFFFFFFFFFFFFF FF -
+wide 00FFFFFFFFFFFFFFFFFFFFFFFFFFFFFFFF 00FFFFFFFFFFFFFFFFFFFFFFFFFFFFFFFF 00FFFFFFFFFFFFFFFFFFFFFFFFFFFFFFFF
+wide FEFFFFFFFFFFFFFFFFFFFFFFFFFFFFFFFF - -
+wide FF00000000000000000000000000000000 FF00000000000000000000000000000000 -
+wide 0100000000000000000000000000000000 - -
+wide  00 00
+wide FF7F FF7F 00FF7F
+within 07 07 07
+within 08 - -
+within FF - FF
+within F8 - F8
+within F7 - -
+fewest 00 00
+fewest 7F 7F
+fewest 0080 80
+fewest 0100 0100
+fewest FF FF
+fewest 80 80
+fewest FF7F FF7F
+fewest FF7FFF FF7FFF
+fewest FF00000000000000000000000000000000 FF00000000000000000000000000000000
+fewest 00FFFFFFFFFFFFFFFFFFFFFFFFFFFFFFFF FFFFFFFFFFFFFFFFFFFFFFFFFFFFFFFF
+padded 007F 7F
+padded FF80 80
+padded 0080 0080
+padded FF7F FF7F
+padded 00 00
+padded 00000080 0080
+padded FFFF FF";
 
 /// Three words of a row.
 fn words_of(row: &str) -> (&str, &str, &str) {
@@ -614,40 +608,21 @@ fn magnitudes_are_counted() -> bool {
         && last_octets(true, 0x03_0102, 2) == ending_in([0xfe, 0xfd])
 }
 
-/// The octets that do not have the numbers of their row, if there are such.
-fn wrong_number() -> Option<&'static str> {
-    for row in WIDE.lines() {
-        if !are_wide(row) {
-            return Some(row);
-        }
+/// Whether a row is so.
+fn is_row(row: &str) -> bool {
+    match row.split_once(' ') {
+        Some(("wide", row)) => are_wide(row),
+        Some(("within", row)) => are_bounded(row),
+        Some(("fewest", row)) => are_fewest(row),
+        Some(("padded", row)) => is_padding(row),
+        _ => false,
     }
-    None
 }
 
-/// The number that is not within bounds as its row says, if there is one.
-fn wrong_bounds() -> Option<&'static str> {
-    for row in BOUNDED.lines() {
-        if !are_bounded(row) {
-            return Some(row);
-        }
-    }
-    None
-}
-
-/// The number that has not the octets of its row, if there is one.
-fn wrong_fewest() -> Option<&'static str> {
-    for row in FEWEST.lines() {
-        if !are_fewest(row) {
-            return Some(row);
-        }
-    }
-    None
-}
-
-/// The octets whose padding is not found, if there are such.
-fn wrong_padding() -> Option<&'static str> {
-    for row in PADDED.lines() {
-        if !is_padding(row) {
+/// The row that is not so, if there is one.
+fn wrong_row() -> Option<&'static str> {
+    for row in ROWS.lines() {
+        if !is_row(row) {
             return Some(row);
         }
     }
@@ -656,9 +631,6 @@ fn wrong_padding() -> Option<&'static str> {
 
 #[test]
 fn numbers_and_octets(rt: HostRuntime) {
-    assert_none(&rt, &wrong_number());
-    assert_none(&rt, &wrong_bounds());
-    assert_none(&rt, &wrong_fewest());
-    assert_none(&rt, &wrong_padding());
+    assert_none(&rt, &wrong_row());
     assert!(rt; are_lent_and_wide() && signs_are_found() && magnitudes_are_counted());
 }

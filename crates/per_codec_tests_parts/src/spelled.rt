@@ -1,0 +1,51 @@
+//! Bits and octets as the tables spell them.
+use asn1_values_bits::BitBuffer;
+use per_codec_reading::Variant;
+use std::alloc::{AllocError, Global};
+use std::test::Fail;
+
+/// Fills a text of bits up to an octet, in the aligned variant.
+fn fill(bits: &mut BitBuffer, variant: Variant) -> Result<(), AllocError> {
+    if variant.is_aligned() {
+        let whole = bits.as_bytes().len().saturating_mul(8);
+        bits.resize(whole, false)?;
+    }
+    Ok(())
+}
+
+/// Adds an octet of two hexadecimal digits, or one so many times: `61*16384`.
+fn push_octets(bits: &mut BitBuffer, word: &str) -> Result<(), Fail> {
+    let (digits, count) = match word.split_once('*') {
+        Some((digits, count)) => (digits, count.parse::<usize>()?),
+        None => (word, 1),
+    };
+    let octet = u8::from_str_radix(digits, 16)?;
+    for _ in 0..count {
+        bits.push_bits(octet as u128, 8)?;
+    }
+    Ok(())
+}
+
+/// Adds what a text spells: octets in hexadecimal digits, many of one as `61*16384`, bits as `b0110`, and by `|` what
+/// fills up an octet in the aligned variant.
+pub fn push_spelled(bits: &mut BitBuffer, text: &str, variant: Variant) -> Result<(), Fail> {
+    for word in text.split_whitespace() {
+        if word == "|" {
+            fill(bits, variant)?;
+        } else if let Some(digits) = word.strip_prefix('b') {
+            for digit in digits.chars() {
+                bits.push(digit == '1')?;
+            }
+        } else {
+            push_octets(bits, word)?;
+        }
+    }
+    Ok(())
+}
+
+/// The octets that a text spells, the last of them filled up.
+pub fn octets(alloc: Global, text: &str) -> Result<Vec<u8>, Fail> {
+    let mut bits = BitBuffer::new(alloc);
+    push_spelled(&mut bits, text, Variant::Unaligned)?;
+    Ok(bits.into_vec())
+}
