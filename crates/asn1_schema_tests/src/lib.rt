@@ -18,6 +18,8 @@ mod named;
 #[cfg(test)]
 mod pair;
 #[cfg(test)]
+mod places;
+#[cfg(test)]
 mod records;
 #[cfg(test)]
 mod tables;
