@@ -1,9 +1,7 @@
 //! Values of a program's types, written by each set of rules and read back: that they mean what the octets say.
 use crate::rows::{CODECS, encoding};
 use asn1_relay_core::{Codec, EncodeError, RecodeFault, recode};
-use asn1_relay_types::{
-    Bag, Extra, ExtraFields, Group, GroupFields, New, NewFields, Set, SetFields,
-};
+use asn1_relay_types::{Bag, Extra, Group, New, Set};
 use asn1_schema_decode::Decode;
 use asn1_schema_encode::Encode;
 use asn1_schema_example::control::Control;
@@ -32,17 +30,17 @@ impl Sample for Set {
     const ROW: &'static str = "E0 20 E0 20 C0 20 A0/E0 01 07 01 06 01 05/E0 01 07 01 06 01 05";
 
     fn sample(_alloc: Global) -> Result<Set, AllocError> {
-        Ok(Set::new(SetFields {
+        Ok(Set {
             a: Some(Implicit::new(Integer::from(5))),
             b: Some(Implicit::new(Integer::from(6))),
             c: Some(Implicit::new(Integer::from(7))),
-        }))
+        })
     }
 
     fn is_sample(&self) -> bool {
-        self.value.a == Some(Implicit::new(Integer::from(5)))
-            && self.value.b == Some(Implicit::new(Integer::from(6)))
-            && self.value.c == Some(Implicit::new(Integer::from(7)))
+        self.a == Some(Implicit::new(Integer::from(5)))
+            && self.b == Some(Implicit::new(Integer::from(6)))
+            && self.c == Some(Implicit::new(Integer::from(7)))
     }
 }
 
@@ -67,14 +65,14 @@ impl Sample for New {
     const ROW: &'static str = "C0 40 41 C0/C0 40 01 07/80 FF 02 07 80 01 07";
 
     fn sample(_alloc: Global) -> Result<New, AllocError> {
-        Ok(New::new(NewFields {
+        Ok(New {
             a: true,
             b: Some(7),
-        }))
+        })
     }
 
     fn is_sample(&self) -> bool {
-        self.value.a && self.value.b == Some(7)
+        self.a && self.b == Some(7)
     }
 }
 
@@ -83,14 +81,14 @@ impl Sample for Group {
     const ROW: &'static str = "C0 40 A0 E0 00/C0 40 02 80 07/80 FF 02 07 80 02 80 07";
 
     fn sample(_alloc: Global) -> Result<Group, AllocError> {
-        Ok(Group::new(GroupFields {
+        Ok(Group {
             a: true,
-            extra: Some(Extra::new(ExtraFields { x: Some(7) })),
-        }))
+            extra: Some(Extra { x: Some(7) }),
+        })
     }
 
     fn is_sample(&self) -> bool {
-        self.value.a && matches!(&self.value.extra, Some(extra) if extra.value.x == Some(7))
+        self.a && matches!(&self.extra, Some(Extra { x: Some(7) }))
     }
 }
 

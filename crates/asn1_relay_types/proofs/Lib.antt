@@ -1,2 +1,1 @@
 pub mod Tests
-mod Emptied

@@ -1,1 +1,1 @@
-mod Alike
+mod Emptied

@@ -1,37 +1,56 @@
 //! Sequences with a mark of extensibility.
-ghost use Rattle.std.specs.Prelude.{refl};
+ghost use Rattle.std.specs.Prelude.{refl, [], ◌∷◌};
+ghost use Rattle.asn1_model.specs.Value.{fields};
+ghost use Rattle.asn1_schema_presented.proofs.Values.{type_sequence, value_sequence};
 
-use crate::listed::{Listed, Unnamed};
+use crate::counts::One;
+use crate::listed::{Listed, Sequence};
 use crate::sequences::Tagged;
-use asn1_schema::{
-    AddedOptionalComponent, AddedRequiredComponent, ComponentsOf, Heading, MarkedComponents,
-    NoMore, OneAddition, OptionalComponent, RequiredComponent, Sequence,
+use crate::written::Lent;
+use asn1_schema_additions::{
+    AddedOptionalComponent, AddedRequiredComponent, DecodeExtension, EncodeExtension,
+    MarkedComponents, NoMore,
 };
-use asn1_values::{Integer, OctetString};
+use asn1_schema_decode::Decoder;
+use asn1_schema_encode::Encoder;
+use asn1_schema_faults::{DecodeError, EncodeError};
+use asn1_schema_tags::Tag;
+use asn1_schema_types::{ComponentsOf, OptionalComponent, RequiredComponent};
+use asn1_values_integers::Integer;
+use asn1_values_octets::OctetString;
+use std::alloc::Global;
 
 /// SEQUENCE {a OCTET STRING OPTIONAL, ..., n NULL OPTIONAL}.
-pub type Noted = Sequence<Unnamed<NotedForm>>;
+pub type Noted = Sequence<NotedForm>;
 
 type Note = AddedOptionalComponent<(), NoMore>;
 
-type NotedForm = OptionalComponent<OctetString, MarkedComponents<OneAddition, Note>>;
+type NotedForm = OptionalComponent<OctetString, MarkedComponents<One, Note>>;
 
 impl Listed for NotedForm {
-    ghost defaults = { tt };
+    ghost form = { ⟦<NotedForm as ComponentsOf>⟧.table };
 
-    ghost distinct = { refl };
+    ghost value = { λ x. fields (⟦<NotedForm as ComponentsOf>⟧.root x) (⟦<NotedForm as ComponentsOf>⟧.added x) };
 
-    fn heading() -> Heading {
-        Heading::sequence(1).extensible()
+    ghost lawful = { type_sequence _ refl (⟦<NotedForm as ComponentsOf>⟧.typed tt) refl };
+
+    ghost each = { λ x. value_sequence _ (⟦<NotedForm as ComponentsOf>⟧.valued tt x) };
+
+    fn write<E: Encoder>(&self, encoder: &mut E, tag: Tag) -> Result<(), EncodeError> {
+        encoder.encode_extensible_sequence(tag, 1, &Lent(self))
+    }
+
+    fn read<D: Decoder>(alloc: Global, decoder: &mut D, tag: Tag) -> Result<Self, DecodeError> {
+        decoder.decode_extensible_sequence(alloc, tag, 1)
     }
 }
 
 /// SEQUENCE {it [0] INTEGER, is [1] OCTET STRING OPTIONAL, late [2] INTEGER OPTIONAL, ..., today [3] OCTET STRING}.
-pub type Schedule = Sequence<Unnamed<ScheduleForm>>;
+pub type Schedule = Sequence<ScheduleForm>;
 
 type Today = AddedRequiredComponent<Tagged<3, OctetString>, NoMore>;
 
-type Late = OptionalComponent<Tagged<2, Integer>, MarkedComponents<OneAddition, Today>>;
+type Late = OptionalComponent<Tagged<2, Integer>, MarkedComponents<One, Today>>;
 
 type ScheduleForm = RequiredComponent<
     Tagged<0, Integer>,
@@ -39,11 +58,19 @@ type ScheduleForm = RequiredComponent<
 >;
 
 impl Listed for ScheduleForm {
-    ghost defaults = { tt };
+    ghost form = { ⟦<ScheduleForm as ComponentsOf>⟧.table };
 
-    ghost distinct = { refl };
+    ghost value = { λ x. fields (⟦<ScheduleForm as ComponentsOf>⟧.root x) (⟦<ScheduleForm as ComponentsOf>⟧.added x) };
 
-    fn heading() -> Heading {
-        Heading::sequence(2).extensible()
+    ghost lawful = { type_sequence _ refl (⟦<ScheduleForm as ComponentsOf>⟧.typed tt) refl };
+
+    ghost each = { λ x. value_sequence _ (⟦<ScheduleForm as ComponentsOf>⟧.valued tt x) };
+
+    fn write<E: Encoder>(&self, encoder: &mut E, tag: Tag) -> Result<(), EncodeError> {
+        encoder.encode_extensible_sequence(tag, 2, &Lent(self))
+    }
+
+    fn read<D: Decoder>(alloc: Global, decoder: &mut D, tag: Tag) -> Result<Self, DecodeError> {
+        decoder.decode_extensible_sequence(alloc, tag, 2)
     }
 }

@@ -3,7 +3,9 @@
 #![tactic(auto)]
 
 mod choices;
+mod counts;
 mod extended;
+mod grouped;
 mod items;
 mod listed;
 mod marked;

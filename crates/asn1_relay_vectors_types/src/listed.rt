@@ -1,51 +1,109 @@
 //! Sequences that consist of their components as they are read, without names.
-ghost use Rattle.std.specs.Prelude.{◌≡◌, ◌++◌, true};
-ghost use Rattle.asn1_model.specs.Lawful.{are_distinct, tag_same};
-ghost use Rattle.asn1_schema.specs.Author.{IsHeading, sequence_form};
-ghost use Rattle.asn1_schema.proofs.Author.{sequence_of};
-ghost use Rattle.asn1_schema_presented.specs.Tables.{field_tags};
-ghost use Rattle.asn1_schema_presented.specs.Typed.{AreDefaults};
+ghost use Rattle.std.specs.Prelude.{◌≡◌, refl, [], ◌∷◌, OnOk, OnErr, IfOk, IfErr};
+ghost use Rattle.asn1_model.specs.Value.{Value};
+ghost use Rattle.asn1_schema_constraints.specs.Terms.{no_constraint};
+ghost use Rattle.asn1_schema_decode.specs.Reads.{Reads, Unread};
+ghost use Rattle.asn1_schema_encode.specs.Writes.{CannotWrite, Writes};
+ghost use Rattle.asn1_schema_presented.specs.Tables.{IsType, IsValue, Table, sequence_type};
 
-use crate::written::WriteComponents;
-use asn1_schema::{
-    Components, ComponentsOf, DecodeComponents, DecodeError, Decoder, EncodeError, Encoder, Heading,
-};
+use asn1_schema_constraints::Constraints;
+use asn1_schema_decode::{Decode, Decoder};
+use asn1_schema_encode::{Encode, Encoder};
+use asn1_schema_faults::{DecodeError, EncodeError};
+use asn1_schema_tags::{Tag, TagTree};
+use asn1_schema_types::{AsnType, Described};
 use std::alloc::Global;
 
-/// The components of a SEQUENCE as they are read.
-pub trait Listed: WriteComponents + DecodeComponents {
-    /// The defaults are values of their components' types.
-    ghost defaults: { AreDefaults Self.ComponentsOf.table };
+/// The components of a sequence.
+pub trait Listed: Drop {
+    /// The table of the components.
+    ghost form: { Table };
 
-    /// No tag occurs twice.
-    ghost distinct: { are_distinct tag_same
-        (field_tags Self.ComponentsOf.table.root ++ field_tags Self.ComponentsOf.table.additions) ≡ true };
+    /// What they mean.
+    ghost value: { Self → Value };
 
-    /// What stands in front of the components.
-    fn heading() -> Heading
-        ensures { IsHeading result sequence_form Self.ComponentsOf.table };
+    /// The sequence is a lawful type.
+    ghost lawful: { IsType (record { class = 0; number = 16 } ∷ []) (sequence_type form) };
+
+    /// Its components mean values of it.
+    ghost each: { (x : Self) → IsValue (sequence_type form) (value x) };
+
+    /// Writes the sequence.
+    fn write<E: Encoder>(&self, encoder: &mut E, tag: Tag) -> Result<(), EncodeError>
+        ensures ok { OnOk result (Writes E.step (sequence_type form) (value self.now) encoder.old encoder.new) }
+        ensures only { IfErr result (CannotWrite E.step (sequence_type form) (value self.now) encoder.old) }
+        ensures failed { OnErr result (E.has_failed encoder.new) }
+        ensures already { E.has_failed encoder.old → result ≡ Err EncodeError.AlreadyFailed }
+        ensures after { result ≡ Err EncodeError.AlreadyFailed → E.has_failed encoder.old };
+
+    /// Reads the sequence.
+    fn read<D: Decoder>(alloc: Global, decoder: &mut D, tag: Tag) -> Result<Self, DecodeError>
+        ensures ok { IfOk result
+            (λ x. Reads D.step (sequence_type form) (D.levels decoder.old) (value x) decoder.old decoder.new) }
+        ensures level { OnOk result (D.levels decoder.new ≡ D.levels decoder.old) }
+        ensures only { IfErr result (Unread D.step (sequence_type form) (D.levels decoder.old) decoder.old) }
+        ensures failed { OnErr result (D.has_failed decoder.new) }
+        ensures already { D.has_failed decoder.old → result ≡ Err DecodeError.AlreadyFailed }
+        ensures after { result ≡ Err DecodeError.AlreadyFailed → D.has_failed decoder.old };
 }
 
-/// Components without names.
+/// A sequence of these components (X.680 25).
 #[derive(Drop)]
-pub struct Unnamed<C> {
+pub struct Sequence<C> {
     components: C,
 }
 
-impl<C: Listed> Components for Unnamed<C> {
-    ghost shape = { sequence_of ⟦<C as ComponentsOf>⟧ C.defaults C.distinct (λ x. x.components) };
+impl<C: Listed> Described for Sequence<C> {
+    ghost tags = { record { class = 0; number = 16 } ∷ [] };
 
-    fn heading() -> Heading {
-        C::heading()
+    ghost own = { no_constraint };
+
+    ghost under = { λ _. sequence_type C.form };
+
+    ghost schema = { sequence_type C.form };
+
+    ghost is_own = { λ _. refl };
+
+    ghost meaning = { λ x. C.value x.components };
+
+    ghost typed = { C.lawful };
+
+    ghost valued = { λ x. C.each x.components };
+
+    ghost valued_under = { λ _ x. C.each x.components };
+}
+
+impl<C: Listed> AsnType for Sequence<C> {
+    const TAG: Tag = Tag::SEQUENCE;
+
+    fn tag_tree() -> TagTree<'static> {
+        TagTree::of(Tag::SEQUENCE)
     }
 
-    fn write_components<E: Encoder>(&self, encoder: &mut E) -> Result<(), EncodeError> {
-        self.components.write_components(encoder)?;
-        Ok(())
+    fn constraints() -> Constraints<'static> {
+        Constraints::NONE
     }
+}
 
-    fn read_components<D: Decoder>(alloc: Global, decoder: &mut D) -> Result<Self, DecodeError> {
-        let components = C::decode_components(alloc, decoder)?;
-        Ok(Unnamed { components })
+impl<C: Listed> Encode for Sequence<C> {
+    fn encode_with_tag_and_constraints<E: Encoder>(
+        &self,
+        encoder: &mut E,
+        tag: Tag,
+        _constraints: Constraints,
+    ) -> Result<(), EncodeError> {
+        self.components.write(encoder, tag)
+    }
+}
+
+impl<C: Listed> Decode for Sequence<C> {
+    fn decode_with_tag_and_constraints<D: Decoder>(
+        alloc: Global,
+        decoder: &mut D,
+        tag: Tag,
+        _constraints: Constraints,
+    ) -> Result<Self, DecodeError> {
+        let components = C::read(alloc, decoder, tag)?;
+        Ok(Sequence { components })
     }
 }

@@ -1,7 +1,11 @@
 //! Sequences and sets that are newer versions of others.
-ghost use Rattle.std.specs.Prelude.{refl};
-ghost use Rattle.asn1_schema.specs.Author.{no_field};
-ghost use Rattle.asn1_schema.proofs.Author.{set_of};
+ghost use Rattle.std.specs.Prelude.{refl, [], ◌∷◌};
+ghost use Rattle.asn1_model.specs.Value.{fields};
+ghost use Rattle.asn1_schema_constraints.specs.Terms.{no_constraint};
+ghost use Rattle.asn1_schema_constructed.specs.Sets.{set_type};
+ghost use Rattle.asn1_schema_constructed.proofs.SetValues.{type_set, value_set};
+ghost use Rattle.asn1_schema_presented.specs.Tables.{no_field};
+ghost use Rattle.asn1_schema_presented.proofs.Values.{type_sequence, value_sequence};
 ghost use Rattle.asn1_schema_versions.proofs.Defaults.{default_gains};
 ghost use Rattle.asn1_schema_versions.proofs.Fields.{gains_additions, grown_field, no_fields, same_tags};
 ghost use Rattle.asn1_schema_versions.proofs.Fields.{sequence_extends, set_gains_additions};
@@ -12,44 +16,63 @@ ghost use Rattle.asn1_relay_vectors_types.specs.Growing.{bag_extends, boolean_st
 ghost use Rattle.asn1_relay_vectors_types.specs.Growing.{required_stays};
 ghost use Rattle.asn1_relay_vectors_types.specs.Unfolding.{bag_unfolds, group_unfolds, list_unfolds, nest_unfolds};
 
-use crate::listed::{Listed, Unnamed};
+use crate::counts::{One, Two, Zero};
+use crate::grouped::Grouped;
+use crate::listed::{Listed, Sequence};
 use crate::sequences::Tagged;
 use crate::sizes::ListOfOneOrTwo;
-use crate::written::WriteComponents;
-use asn1_relay_types::{Nest, New, NewDefault, NewFields, Old, OldDefault, OldFields};
-use asn1_schema::{
-    AddedGroupComponent, AddedOptionalComponent, AddedRequiredComponent, AdditionsOf, Components,
-    ComponentsOf, DecodeComponents, DecodeError, Decoder, Described, EncodeError, Encoder, End,
-    Heading, MarkedComponents, NoAddition, NoMore, OneAddition, OptionalComponent,
-    RequiredComponent, Sequence, Set, SetOf, Tag, TwoAdditions,
+use crate::written::Lent;
+use asn1_relay_types::{Nest, New, NewDefault, Old, OldDefault};
+use asn1_schema_additions::{
+    AddedGroupComponent, AddedOptionalComponent, AddedRequiredComponent, AdditionsOf,
+    DecodeExtension, EncodeExtension, MarkedComponents, NoMore,
 };
-use asn1_schema_example::grown::GrownFields;
-use asn1_schema_versions::ExtendsComponents;
-use asn1_values::{Integer, OctetString};
+use asn1_schema_constraints::Constraints;
+use asn1_schema_constructed::{DecodeSet, EncodeSet};
+use asn1_schema_decode::{Decode, DecodeSequence, Decoder};
+use asn1_schema_encode::{Encode, EncodeSequence, Encoder};
+use asn1_schema_example::grown::Grown;
+use asn1_schema_faults::{DecodeError, EncodeError};
+use asn1_schema_tags::{Tag, TagTree};
+use asn1_schema_types::{
+    AsnType, ComponentsOf, Described, End, OptionalComponent, RequiredComponent,
+};
+use asn1_schema_versions::Extends;
+use asn1_schema_wrapped::SetOf;
+use asn1_values_integers::Integer;
+use asn1_values_octets::OctetString;
 use std::alloc::Global;
 
 /// A BOOLEAN, and behind a mark these additions.
 type Flagged<M, A> = RequiredComponent<bool, MarkedComponents<M, A>>;
 
 /// SEQUENCE {a BOOLEAN, ..., n Nest OPTIONAL}.
-pub type Nested = Sequence<Unnamed<NestedForm>>;
+pub type Nested = Sequence<NestedForm>;
 
 type Nests = AddedOptionalComponent<Nest, NoMore>;
 
-type NestedForm = Flagged<OneAddition, Nests>;
+type NestedForm = Flagged<One, Nests>;
 
 impl Listed for NestedForm {
-    ghost defaults = { tt };
+    ghost form = { ⟦<NestedForm as ComponentsOf>⟧.table };
 
-    ghost distinct = { refl };
+    ghost value = { λ x. fields (⟦<NestedForm as ComponentsOf>⟧.root x) (⟦<NestedForm as ComponentsOf>⟧.added x) };
 
-    fn heading() -> Heading {
-        Heading::sequence(0).extensible()
+    ghost lawful = { type_sequence _ refl (⟦<NestedForm as ComponentsOf>⟧.typed tt) refl };
+
+    ghost each = { λ x. value_sequence _ (⟦<NestedForm as ComponentsOf>⟧.valued tt x) };
+
+    fn write<E: Encoder>(&self, encoder: &mut E, tag: Tag) -> Result<(), EncodeError> {
+        encoder.encode_extensible_sequence(tag, 0, &Lent(self))
+    }
+
+    fn read<D: Decoder>(alloc: Global, decoder: &mut D, tag: Tag) -> Result<Self, DecodeError> {
+        decoder.decode_extensible_sequence(alloc, tag, 0)
     }
 }
 
 /// A truth value, and what was added.
-impl ExtendsComponents<OldFields> for Unnamed<NestedForm> {
+impl Extends<Old> for Nested {
     ghost extends = { gains_additions _ ⟦<Nests as AdditionsOf>⟧.additions ⟦<Old as Described>⟧.typed.lawful refl };
 
     ghost old_unfolds = { sequence_unfolds _ (field_unfolds constant_unfolds no_fields_unfold) no_fields_unfold };
@@ -59,26 +82,34 @@ impl ExtendsComponents<OldFields> for Unnamed<NestedForm> {
 }
 
 /// SEQUENCE {a BOOLEAN, ..., b INTEGER (0..255) OPTIONAL, c [1] OCTET STRING OPTIONAL}.
-pub type Newest = Sequence<Unnamed<NewestForm>>;
+pub type Newest = Sequence<NewestForm>;
 
 type Third = AddedOptionalComponent<Tagged<1, OctetString>, NoMore>;
 
 type SecondAndThird = AddedOptionalComponent<u8, Third>;
 
-type NewestForm = Flagged<TwoAdditions, SecondAndThird>;
+type NewestForm = Flagged<Two, SecondAndThird>;
 
 impl Listed for NewestForm {
-    ghost defaults = { tt };
+    ghost form = { ⟦<NewestForm as ComponentsOf>⟧.table };
 
-    ghost distinct = { refl };
+    ghost value = { λ x. fields (⟦<NewestForm as ComponentsOf>⟧.root x) (⟦<NewestForm as ComponentsOf>⟧.added x) };
 
-    fn heading() -> Heading {
-        Heading::sequence(0).extensible()
+    ghost lawful = { type_sequence _ refl (⟦<NewestForm as ComponentsOf>⟧.typed tt) refl };
+
+    ghost each = { λ x. value_sequence _ (⟦<NewestForm as ComponentsOf>⟧.valued tt x) };
+
+    fn write<E: Encoder>(&self, encoder: &mut E, tag: Tag) -> Result<(), EncodeError> {
+        encoder.encode_extensible_sequence(tag, 0, &Lent(self))
+    }
+
+    fn read<D: Decoder>(alloc: Global, decoder: &mut D, tag: Tag) -> Result<Self, DecodeError> {
+        decoder.decode_extensible_sequence(alloc, tag, 0)
     }
 }
 
 /// What the version in front of it has, and `c`.
-impl ExtendsComponents<NewFields> for Unnamed<NewestForm> {
+impl Extends<New> for Newest {
     ghost extends = { gains_additions _ ⟦<Third as AdditionsOf>⟧.additions ⟦<New as Described>⟧.typed.lawful refl };
 
     ghost old_unfolds = { sequence_unfolds _ (field_unfolds constant_unfolds no_fields_unfold)
@@ -89,7 +120,7 @@ impl ExtendsComponents<NewFields> for Unnamed<NewestForm> {
 }
 
 /// What the first version has, and `b` and `c`.
-impl ExtendsComponents<OldFields> for Unnamed<NewestForm> {
+impl Extends<Old> for Newest {
     ghost extends = { gains_additions _ ⟦<SecondAndThird as AdditionsOf>⟧.additions ⟦<Old as Described>⟧.typed.lawful
         refl };
 
@@ -100,39 +131,55 @@ impl ExtendsComponents<OldFields> for Unnamed<NewestForm> {
 }
 
 /// SEQUENCE {l SEQUENCE (SIZE (1..2)) OF BOOLEAN, ...}.
-pub type OldList = Sequence<Unnamed<OldListForm>>;
+pub type OldList = Sequence<OldListForm>;
 
-type OldListForm = RequiredComponent<ListOfOneOrTwo<bool>, MarkedComponents<NoAddition, NoMore>>;
+type OldListForm = RequiredComponent<ListOfOneOrTwo<bool>, MarkedComponents<Zero, NoMore>>;
 
 impl Listed for OldListForm {
-    ghost defaults = { tt };
+    ghost form = { ⟦<OldListForm as ComponentsOf>⟧.table };
 
-    ghost distinct = { refl };
+    ghost value = { λ x. fields (⟦<OldListForm as ComponentsOf>⟧.root x) (⟦<OldListForm as ComponentsOf>⟧.added x) };
 
-    fn heading() -> Heading {
-        Heading::sequence(0).extensible()
+    ghost lawful = { type_sequence _ refl (⟦<OldListForm as ComponentsOf>⟧.typed tt) refl };
+
+    ghost each = { λ x. value_sequence _ (⟦<OldListForm as ComponentsOf>⟧.valued tt x) };
+
+    fn write<E: Encoder>(&self, encoder: &mut E, tag: Tag) -> Result<(), EncodeError> {
+        encoder.encode_extensible_sequence(tag, 0, &Lent(self))
+    }
+
+    fn read<D: Decoder>(alloc: Global, decoder: &mut D, tag: Tag) -> Result<Self, DecodeError> {
+        decoder.decode_extensible_sequence(alloc, tag, 0)
     }
 }
 
 /// SEQUENCE {l SEQUENCE (SIZE (1..2)) OF BOOLEAN, ..., b INTEGER OPTIONAL}.
-pub type NewList = Sequence<Unnamed<NewListForm>>;
+pub type NewList = Sequence<NewListForm>;
 
 type Numbers = AddedOptionalComponent<Integer, NoMore>;
 
-type NewListForm = RequiredComponent<ListOfOneOrTwo<bool>, MarkedComponents<OneAddition, Numbers>>;
+type NewListForm = RequiredComponent<ListOfOneOrTwo<bool>, MarkedComponents<One, Numbers>>;
 
 impl Listed for NewListForm {
-    ghost defaults = { tt };
+    ghost form = { ⟦<NewListForm as ComponentsOf>⟧.table };
 
-    ghost distinct = { refl };
+    ghost value = { λ x. fields (⟦<NewListForm as ComponentsOf>⟧.root x) (⟦<NewListForm as ComponentsOf>⟧.added x) };
 
-    fn heading() -> Heading {
-        Heading::sequence(0).extensible()
+    ghost lawful = { type_sequence _ refl (⟦<NewListForm as ComponentsOf>⟧.typed tt) refl };
+
+    ghost each = { λ x. value_sequence _ (⟦<NewListForm as ComponentsOf>⟧.valued tt x) };
+
+    fn write<E: Encoder>(&self, encoder: &mut E, tag: Tag) -> Result<(), EncodeError> {
+        encoder.encode_extensible_sequence(tag, 0, &Lent(self))
+    }
+
+    fn read<D: Decoder>(alloc: Global, decoder: &mut D, tag: Tag) -> Result<Self, DecodeError> {
+        decoder.decode_extensible_sequence(alloc, tag, 0)
     }
 }
 
 /// What the other version has, and `b` behind its mark.
-impl ExtendsComponents<Unnamed<OldListForm>> for Unnamed<NewListForm> {
+impl Extends<OldList> for NewList {
     ghost extends = { gains_additions _ ⟦<Numbers as AdditionsOf>⟧.additions ⟦<OldList as Described>⟧.typed.lawful
         refl };
 
@@ -144,39 +191,55 @@ impl ExtendsComponents<Unnamed<OldListForm>> for Unnamed<NewListForm> {
 }
 
 /// SEQUENCE {m SET OF SEQUENCE {a BOOLEAN, ...}}.
-pub type OldBag = Sequence<Unnamed<OldBagForm>>;
+pub type OldBag = Sequence<OldBagForm>;
 
 type OldBagForm = RequiredComponent<SetOf<Old>, End>;
 
 impl Listed for OldBagForm {
-    ghost defaults = { tt };
+    ghost form = { ⟦<OldBagForm as ComponentsOf>⟧.table };
 
-    ghost distinct = { refl };
+    ghost value = { λ x. fields (⟦<OldBagForm as ComponentsOf>⟧.root x) (⟦<OldBagForm as ComponentsOf>⟧.added x) };
 
-    fn heading() -> Heading {
-        Heading::sequence(0)
+    ghost lawful = { type_sequence _ refl (⟦<OldBagForm as ComponentsOf>⟧.typed tt) refl };
+
+    ghost each = { λ x. value_sequence _ (⟦<OldBagForm as ComponentsOf>⟧.valued tt x) };
+
+    fn write<E: Encoder>(&self, encoder: &mut E, tag: Tag) -> Result<(), EncodeError> {
+        encoder.encode_sequence(tag, 0, &Lent(self))
+    }
+
+    fn read<D: Decoder>(alloc: Global, decoder: &mut D, tag: Tag) -> Result<Self, DecodeError> {
+        decoder.decode_sequence(alloc, tag, 0)
     }
 }
 
 /// SEQUENCE {m SET OF SEQUENCE {a BOOLEAN, ..., b INTEGER (0..255) OPTIONAL}}.
-pub type NewBag = Sequence<Unnamed<NewBagForm>>;
+pub type NewBag = Sequence<NewBagForm>;
 
 type Second = AddedOptionalComponent<u8, NoMore>;
 
 type NewBagForm = RequiredComponent<SetOf<New>, End>;
 
 impl Listed for NewBagForm {
-    ghost defaults = { tt };
+    ghost form = { ⟦<NewBagForm as ComponentsOf>⟧.table };
 
-    ghost distinct = { refl };
+    ghost value = { λ x. fields (⟦<NewBagForm as ComponentsOf>⟧.root x) (⟦<NewBagForm as ComponentsOf>⟧.added x) };
 
-    fn heading() -> Heading {
-        Heading::sequence(0)
+    ghost lawful = { type_sequence _ refl (⟦<NewBagForm as ComponentsOf>⟧.typed tt) refl };
+
+    ghost each = { λ x. value_sequence _ (⟦<NewBagForm as ComponentsOf>⟧.valued tt x) };
+
+    fn write<E: Encoder>(&self, encoder: &mut E, tag: Tag) -> Result<(), EncodeError> {
+        encoder.encode_sequence(tag, 0, &Lent(self))
+    }
+
+    fn read<D: Decoder>(alloc: Global, decoder: &mut D, tag: Tag) -> Result<Self, DecodeError> {
+        decoder.decode_sequence(alloc, tag, 0)
     }
 }
 
 /// The same bag, whose members have grown.
-impl ExtendsComponents<Unnamed<OldBagForm>> for Unnamed<NewBagForm> {
+impl Extends<OldBag> for NewBag {
     ghost extends = { sequence_extends (grown_field (same_tags ⟦<SetOf<Old> as Described>⟧.tags) required_stays
         (bag_extends _ _ (gains_additions _ ⟦<Second as AdditionsOf>⟧.additions ⟦<Old as Described>⟧.typed.lawful
         refl)) no_fields) refl no_fields };
@@ -191,37 +254,55 @@ impl ExtendsComponents<Unnamed<OldBagForm>> for Unnamed<NewBagForm> {
 }
 
 /// SEQUENCE {a BOOLEAN, ..., s SEQUENCE {a BOOLEAN, ...}}.
-pub type OldHolder = Sequence<Unnamed<OldHolderForm>>;
+pub type OldHolder = Sequence<OldHolderForm>;
 
-type OldHolderForm = Flagged<OneAddition, AddedRequiredComponent<Old, NoMore>>;
+type OldHolderForm = Flagged<One, AddedRequiredComponent<Old, NoMore>>;
 
 impl Listed for OldHolderForm {
-    ghost defaults = { tt };
+    ghost form = { ⟦<OldHolderForm as ComponentsOf>⟧.table };
 
-    ghost distinct = { refl };
+    ghost value = { λ x. fields (⟦<OldHolderForm as ComponentsOf>⟧.root x)
+        (⟦<OldHolderForm as ComponentsOf>⟧.added x) };
 
-    fn heading() -> Heading {
-        Heading::sequence(0).extensible()
+    ghost lawful = { type_sequence _ refl (⟦<OldHolderForm as ComponentsOf>⟧.typed tt) refl };
+
+    ghost each = { λ x. value_sequence _ (⟦<OldHolderForm as ComponentsOf>⟧.valued tt x) };
+
+    fn write<E: Encoder>(&self, encoder: &mut E, tag: Tag) -> Result<(), EncodeError> {
+        encoder.encode_extensible_sequence(tag, 0, &Lent(self))
+    }
+
+    fn read<D: Decoder>(alloc: Global, decoder: &mut D, tag: Tag) -> Result<Self, DecodeError> {
+        decoder.decode_extensible_sequence(alloc, tag, 0)
     }
 }
 
 /// SEQUENCE {a BOOLEAN, ..., s SEQUENCE {a BOOLEAN, ..., b INTEGER (0..255) OPTIONAL}}.
-pub type NewHolder = Sequence<Unnamed<NewHolderForm>>;
+pub type NewHolder = Sequence<NewHolderForm>;
 
-type NewHolderForm = Flagged<OneAddition, AddedRequiredComponent<New, NoMore>>;
+type NewHolderForm = Flagged<One, AddedRequiredComponent<New, NoMore>>;
 
 impl Listed for NewHolderForm {
-    ghost defaults = { tt };
+    ghost form = { ⟦<NewHolderForm as ComponentsOf>⟧.table };
 
-    ghost distinct = { refl };
+    ghost value = { λ x. fields (⟦<NewHolderForm as ComponentsOf>⟧.root x)
+        (⟦<NewHolderForm as ComponentsOf>⟧.added x) };
 
-    fn heading() -> Heading {
-        Heading::sequence(0).extensible()
+    ghost lawful = { type_sequence _ refl (⟦<NewHolderForm as ComponentsOf>⟧.typed tt) refl };
+
+    ghost each = { λ x. value_sequence _ (⟦<NewHolderForm as ComponentsOf>⟧.valued tt x) };
+
+    fn write<E: Encoder>(&self, encoder: &mut E, tag: Tag) -> Result<(), EncodeError> {
+        encoder.encode_extensible_sequence(tag, 0, &Lent(self))
+    }
+
+    fn read<D: Decoder>(alloc: Global, decoder: &mut D, tag: Tag) -> Result<Self, DecodeError> {
+        decoder.decode_extensible_sequence(alloc, tag, 0)
     }
 }
 
 /// The same addition, whose type has grown.
-impl ExtendsComponents<Unnamed<OldHolderForm>> for Unnamed<NewHolderForm> {
+impl Extends<OldHolder> for NewHolder {
     ghost extends = { sequence_extends (grown_field (same_tags ⟦<bool as Described>⟧.tags) required_stays
         boolean_stays no_fields) refl (grown_field (same_tags ⟦<Old as Described>⟧.tags) required_stays
         (gains_additions _ ⟦<Second as AdditionsOf>⟧.additions ⟦<Old as Described>⟧.typed.lawful refl) no_fields) };
@@ -236,37 +317,55 @@ impl ExtendsComponents<Unnamed<OldHolderForm>> for Unnamed<NewHolderForm> {
 }
 
 /// SEQUENCE {a BOOLEAN, ..., [[s SEQUENCE {a BOOLEAN, ...} DEFAULT {a TRUE}]]}.
-pub type OldBracket = Sequence<Unnamed<OldBracketForm>>;
+pub type OldBracket = Sequence<OldBracketForm>;
 
-type OldBracketForm = Flagged<OneAddition, AddedGroupComponent<OldDefault, NoMore>>;
+type OldBracketForm = Flagged<One, AddedGroupComponent<Grouped<OldDefault>, NoMore>>;
 
 impl Listed for OldBracketForm {
-    ghost defaults = { tt };
+    ghost form = { ⟦<OldBracketForm as ComponentsOf>⟧.table };
 
-    ghost distinct = { refl };
+    ghost value = { λ x. fields (⟦<OldBracketForm as ComponentsOf>⟧.root x)
+        (⟦<OldBracketForm as ComponentsOf>⟧.added x) };
 
-    fn heading() -> Heading {
-        Heading::sequence(0).extensible()
+    ghost lawful = { type_sequence _ refl (⟦<OldBracketForm as ComponentsOf>⟧.typed tt) refl };
+
+    ghost each = { λ x. value_sequence _ (⟦<OldBracketForm as ComponentsOf>⟧.valued tt x) };
+
+    fn write<E: Encoder>(&self, encoder: &mut E, tag: Tag) -> Result<(), EncodeError> {
+        encoder.encode_extensible_sequence(tag, 0, &Lent(self))
+    }
+
+    fn read<D: Decoder>(alloc: Global, decoder: &mut D, tag: Tag) -> Result<Self, DecodeError> {
+        decoder.decode_extensible_sequence(alloc, tag, 0)
     }
 }
 
 /// SEQUENCE {a BOOLEAN, ..., [[s SEQUENCE {a BOOLEAN, ..., b INTEGER (0..255) OPTIONAL} DEFAULT {a TRUE}]]}.
-pub type NewBracket = Sequence<Unnamed<NewBracketForm>>;
+pub type NewBracket = Sequence<NewBracketForm>;
 
-type NewBracketForm = Flagged<OneAddition, AddedGroupComponent<NewDefault, NoMore>>;
+type NewBracketForm = Flagged<One, AddedGroupComponent<Grouped<NewDefault>, NoMore>>;
 
 impl Listed for NewBracketForm {
-    ghost defaults = { tt };
+    ghost form = { ⟦<NewBracketForm as ComponentsOf>⟧.table };
 
-    ghost distinct = { refl };
+    ghost value = { λ x. fields (⟦<NewBracketForm as ComponentsOf>⟧.root x)
+        (⟦<NewBracketForm as ComponentsOf>⟧.added x) };
 
-    fn heading() -> Heading {
-        Heading::sequence(0).extensible()
+    ghost lawful = { type_sequence _ refl (⟦<NewBracketForm as ComponentsOf>⟧.typed tt) refl };
+
+    ghost each = { λ x. value_sequence _ (⟦<NewBracketForm as ComponentsOf>⟧.valued tt x) };
+
+    fn write<E: Encoder>(&self, encoder: &mut E, tag: Tag) -> Result<(), EncodeError> {
+        encoder.encode_extensible_sequence(tag, 0, &Lent(self))
+    }
+
+    fn read<D: Decoder>(alloc: Global, decoder: &mut D, tag: Tag) -> Result<Self, DecodeError> {
+        decoder.decode_extensible_sequence(alloc, tag, 0)
     }
 }
 
 /// The same group, whose component has grown.
-impl ExtendsComponents<Unnamed<OldBracketForm>> for Unnamed<NewBracketForm> {
+impl Extends<OldBracket> for NewBracket {
     ghost extends = { sequence_extends (grown_field (same_tags ⟦<bool as Described>⟧.tags) required_stays
         boolean_stays no_fields) refl (grown_field (same_tags ⟦<Old as Described>⟧.tags) optional_stays
         (group_extends _ _ (grown_field (same_tags ⟦<Old as Described>⟧.tags)
@@ -287,45 +386,78 @@ impl ExtendsComponents<Unnamed<OldBracketForm>> for Unnamed<NewBracketForm> {
 }
 
 /// SET {ready [1] BOOLEAN, level [0] INTEGER (0..255) OPTIONAL, ..., done [9] NULL OPTIONAL}.
-pub type OldGrown = Set<OldGrownFields>;
+#[derive(Drop)]
+pub struct OldGrown {
+    components: OldGrownForm,
+}
 
 type Done = AddedOptionalComponent<Tagged<9, ()>, NoMore>;
 
 type OldGrownForm = OptionalComponent<
     Tagged<0, u8>,
-    RequiredComponent<Tagged<1, bool>, MarkedComponents<OneAddition, Done>>,
+    RequiredComponent<Tagged<1, bool>, MarkedComponents<One, Done>>,
 >;
 
-/// Its components as they are read.
-#[derive(Drop)]
-pub struct OldGrownFields {
-    components: OldGrownForm,
+impl Described for OldGrown {
+    ghost tags = { record { class = 0; number = 17 } ∷ [] };
+
+    ghost own = { no_constraint };
+
+    ghost under = { λ _. set_type ⟦<OldGrownForm as ComponentsOf>⟧.table };
+
+    ghost schema = { set_type ⟦<OldGrownForm as ComponentsOf>⟧.table };
+
+    ghost is_own = { λ _. refl };
+
+    ghost meaning = { λ x. fields (⟦<OldGrownForm as ComponentsOf>⟧.root x.components)
+        (⟦<OldGrownForm as ComponentsOf>⟧.added x.components) };
+
+    ghost typed = { type_set _ refl (⟦<OldGrownForm as ComponentsOf>⟧.typed tt) refl refl };
+
+    ghost valued = { λ x. value_set _ (⟦<OldGrownForm as ComponentsOf>⟧.valued tt x.components) };
+
+    ghost valued_under = { λ _ x. value_set _ (⟦<OldGrownForm as ComponentsOf>⟧.valued tt x.components) };
 }
 
-impl Components for OldGrownFields {
+impl AsnType for OldGrown {
     const TAG: Tag = Tag::SET;
 
-    ghost shape = { set_of ⟦<OldGrownForm as ComponentsOf>⟧ tt refl refl (λ x. x.components) };
-
-    fn heading() -> Heading {
-        Heading::set(1).extensible()
+    fn tag_tree() -> TagTree<'static> {
+        TagTree::of(Tag::SET)
     }
 
-    fn write_components<E: Encoder>(&self, encoder: &mut E) -> Result<(), EncodeError> {
-        self.components.write_components(encoder)?;
-        Ok(())
+    fn constraints() -> Constraints<'static> {
+        Constraints::NONE
     }
+}
 
-    fn read_components<D: Decoder>(alloc: Global, decoder: &mut D) -> Result<Self, DecodeError> {
-        let components = OldGrownForm::decode_components(alloc, decoder)?;
-        Ok(OldGrownFields { components })
+impl Encode for OldGrown {
+    fn encode_with_tag_and_constraints<E: Encoder>(
+        &self,
+        encoder: &mut E,
+        tag: Tag,
+        _constraints: Constraints,
+    ) -> Result<(), EncodeError> {
+        encoder.encode_set(tag, true, 1, &Lent(&self.components))
+    }
+}
+
+impl Decode for OldGrown {
+    fn decode_with_tag_and_constraints<D: Decoder>(
+        alloc: Global,
+        decoder: &mut D,
+        tag: Tag,
+        _constraints: Constraints,
+    ) -> Result<Self, DecodeError> {
+        let components = decoder.decode_set(alloc, tag, true, 1)?;
+        Ok(OldGrown { components })
     }
 }
 
 type Next = AddedOptionalComponent<Tagged<2, u8>, NoMore>;
 
 /// What the other version has, and `next [2] INTEGER (0..255) OPTIONAL` behind it.
-impl ExtendsComponents<OldGrownFields> for GrownFields {
+impl Extends<OldGrown> for Grown {
     ghost extends = { set_gains_additions ⟦<OldGrownForm as ComponentsOf>⟧.table ⟦<Next as AdditionsOf>⟧.additions
         ⟦<OldGrown as Described>⟧.typed.lawful refl };
 

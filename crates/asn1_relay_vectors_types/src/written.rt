@@ -3,10 +3,14 @@ ghost use Rattle.std.specs.Prelude.{◌≡◌, OnOk, OnErr, IfErr};
 ghost use Rattle.asn1_schema_additions.specs.Writes.{CannotWriteAdded, WritesAdded};
 ghost use Rattle.asn1_schema_encode.specs.Writes.{CannotWriteTail, WritesTail};
 
-use asn1_schema::{
-    AddedGroupComponent, AddedOptionalComponent, AddedRequiredComponent, AdditionsOf, ComponentsOf,
-    CountOf, DefaultOf, DefaultedComponent, Encode, EncodeError, EncodeExtension, EncodeSequence,
-    Encoder, End, Group, MarkedComponents, NoMore, OptionalComponent, RequiredComponent,
+use asn1_schema_additions::{
+    AddedGroupComponent, AddedOptionalComponent, AddedRequiredComponent, AdditionsOf, CountOf,
+    EncodeExtension, Group, MarkedComponents, NoMore,
+};
+use asn1_schema_encode::{Encode, EncodeComponents, EncodeSequence, Encoder};
+use asn1_schema_faults::EncodeError;
+use asn1_schema_types::{
+    ComponentsOf, DefaultOf, DefaultedComponent, End, OptionalComponent, RequiredComponent,
 };
 
 /// Components that are written as they were read.
@@ -102,5 +106,27 @@ impl<G: Group, R: WriteAdditions> WriteAdditions for AddedGroupComponent<G, R> {
         encoder.encode_extension_addition_group(&self.0)?;
         self.1.write_additions(encoder)?;
         Ok(())
+    }
+}
+
+/// Components, lent to be written.
+#[derive(Drop)]
+pub struct Lent<'a, C>(pub &'a C);
+
+impl<'a, C: WriteComponents> ComponentsOf for Lent<'a, C> {
+    ghost table = { C.table };
+
+    ghost root = { λ x. C.root x.0.now };
+
+    ghost added = { λ x. C.added x.0.now };
+
+    ghost typed = { C.typed };
+
+    ghost valued = { λ d x. C.valued d x.0.now };
+}
+
+impl<'a, C: WriteComponents> EncodeComponents for Lent<'a, C> {
+    fn encode_components<E: Encoder>(&self, encoder: &mut E) -> Result<(), EncodeError> {
+        self.0.write_components(encoder)
     }
 }

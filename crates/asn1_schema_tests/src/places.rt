@@ -1,7 +1,5 @@
 //! Look-up of a tag in an ascending table: rows.
 use asn1_schema::{Tag, TagPlace, TagProbe, find_place, is_place_table};
-use std::process::Abort;
-use std::runtime::HostRuntime;
 
 /// Whether a table is one of some tags, and tells this place of one that is sought, with at most so many comparisons.
 fn is_found(
