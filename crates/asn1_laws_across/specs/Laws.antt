@@ -16,8 +16,8 @@ OneMeaning =
     (q r : Rules) (s : Schema) (v u : Value) (w : List ℕ) → IsLawful s → IsEncoding q s v w → IsEncoding q s u w
     → (same v u ≡ true) × (same (normal s v) (normal s u) ≡ true) × (canonical r s v ≡ canonical r s u)
 
--- The canonical encodings of two values are equal exactly if their normal forms are the same. So where they have some in
--- two sets of rules, these are equal in one exactly if they are in the other.
+-- The canonical encodings of two values are equal exactly if their normal forms are the same. So where they have
+-- some in two sets of rules, these are equal in one exactly if they are in the other.
 abbrev pub EncodingsTellNormalForms : Type 0
 EncodingsTellNormalForms =
     (r : Rules) (s : Schema) (v u : Value) (a b : List ℕ) → IsLawful s → canonical r s v ≡ Some a

@@ -33,8 +33,8 @@ pub fn find_place(probe: &mut TagProbe<'_>, tag: Tag) -> Option<usize>
     None
 }
 
-/// Whether a table lists each of some tags, those of the root and then the added ones, with its place among all of them,
-/// and nothing else, ascending by tag.
+/// Whether a table lists each of some tags, those of the root and then the added ones, with its place among all of
+/// them, and nothing else, ascending by tag.
 pub fn is_place_table(places: &[TagPlace], variants: &[Tag], extended: &[Tag]) -> bool
     ensures { result ≡ is_table_of places.now (map tag_of variants.now ++ map tag_of extended.now) }
 {

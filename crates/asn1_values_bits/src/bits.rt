@@ -60,8 +60,8 @@ fn few_octets(octets: &[u8]) -> u64
     value
 }
 
-// The octets from `start` on, sixteen of them, or eight, or all where there are fewer, and how many bits they have. They
-// are the highest binary digits of the number, which has 128.
+// The octets from `start` on, sixteen of them, or eight, or all where there are fewer, and how many bits they have.
+// They are the highest binary digits of the number, which has 128.
 #[inline(always)]
 pub(crate) fn octets_from(octets: &[u8], start: usize) -> (u128, u32)
     requires { start < length octets.now }
@@ -136,8 +136,8 @@ pub fn read_wide(octets: &[u8], position: usize, count: u32) -> u128
     (high as u128) << 64 | low as u128
 }
 
-// Copies the octets that begin at a bit within the first octet of the source, of which one more stands there. The compiler
-// makes the turns of this loop sixteen at a time.
+// Copies the octets that begin at a bit within the first octet of the source, of which one more stands there. The
+// compiler makes sixteen turns of this loop at a time.
 pub(crate) fn shift_octets(target: &mut [u8], source: &[u8], offset: u32)
     requires one_more { length source.now ≡ length target.old + 1 }
     requires some { 0 < offset }

@@ -481,10 +481,10 @@ fn native_types(rt: HostRuntime) {
     assert!(rt; IntegerType::to_i128(&u128::MAX).is_none());
 }
 
-/// Rows of octets. `wide`: octets, and their numbers with a sign and without one, or a hyphen where they are outside the
-/// common ground. `within`: a number, and what it is where the greatest is 7, without a sign and with one, or a hyphen
-/// where it is outside. `fewest`: a number as its fewest octets with a sign, and without one. `padded`: octets, and what
-/// they are without those at the front that only repeat the sign.
+/// Rows of octets. `wide`: octets, and their numbers with a sign and without one, or a hyphen where they are outside
+/// the common ground. `within`: a number, and what it is where the greatest is 7, without a sign and with one, or a
+/// hyphen where it is outside. `fewest`: a number as its fewest octets with a sign, and without one. `padded`: octets,
+/// and what they are without those at the front that only repeat the sign.
 const ROWS: &str = "\
 wide FFFFFFFFFFFFFFFFFFFFFFFFFFFFFFFFFF FF -
 wide 00FFFFFFFFFFFFFFFFFFFFFFFFFFFFFFFF 00FFFFFFFFFFFFFFFFFFFFFFFFFFFFFFFF 00FFFFFFFFFFFFFFFFFFFFFFFFFFFFFFFF

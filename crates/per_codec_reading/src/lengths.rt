@@ -34,8 +34,8 @@ impl Length {
     }
 }
 
-/// Reads a length determinant that begins here: seven bits, fourteen bits or six, behind the bits that tell which (X.691 11.9.3.6
-/// to 11.9.3.8).
+/// Reads a length determinant that begins here: seven bits, fourteen bits or six, behind the bits that tell which
+/// (X.691 11.9.3.6 to 11.9.3.8).
 #[inline(always)]
 fn read_unaligned_length(cursor: &mut Cursor<'_>, variant: Variant) -> Result<Length, DecodeError>
     ensures ok { IfOk result (λ length. Front (freedoms variant) (length_form false length) cursor.old cursor.new) }
