@@ -13,9 +13,9 @@ mod many_alternatives;
 #[cfg(test)]
 mod records;
 #[cfg(test)]
-mod rows;
+mod routes;
 #[cfg(test)]
-mod runs;
+mod rows;
 #[cfg(test)]
 mod streams;
 #[cfg(test)]

@@ -1,5 +1,5 @@
 //! A choice of 300 alternatives, each a BOOLEAN, by calls of the codecs (X.691 11.5.7, 23.6 and X.696 8.7, 20.1).
-use crate::rows::{CODECS, encoding};
+use crate::rows::{CODECS, Row};
 use asn1_relay_core::{Codec, DecodeError, EncodeError};
 use asn1_schema_decode::{Decode, Decoder};
 use asn1_schema_encode::{Encode, Encoder};
@@ -10,14 +10,53 @@ use std::alloc::{AllocError, Global};
 use std::test::Fail;
 
 /// TRUE by the alternative of a place, whose tag has that number.
-type Alternative = (usize, &'static str);
+#[derive(Clone, Copy)]
+struct Alternative {
+    place: usize,
+    row: Row,
+}
 
 const ALTERNATIVES: [Alternative; 5] = [
-    (0, "00 40/00 00 80/80 FF"),
-    (127, "3F C0/00 7F 80/BF 7F FF"),
-    (255, "7F C0/00 FF 80/BF 81 7F FF"),
-    (256, "80 40/01 00 80/BF 82 00 FF"),
-    (299, "95 C0/01 2B 80/BF 82 2B FF"),
+    Alternative {
+        place: 0,
+        row: Row {
+            uper: &[0x00, 0x40],
+            aper: &[0x00, 0x00, 0x80],
+            octets: &[0x80, 0xFF],
+        },
+    },
+    Alternative {
+        place: 127,
+        row: Row {
+            uper: &[0x3F, 0xC0],
+            aper: &[0x00, 0x7F, 0x80],
+            octets: &[0xBF, 0x7F, 0xFF],
+        },
+    },
+    Alternative {
+        place: 255,
+        row: Row {
+            uper: &[0x7F, 0xC0],
+            aper: &[0x00, 0xFF, 0x80],
+            octets: &[0xBF, 0x81, 0x7F, 0xFF],
+        },
+    },
+    Alternative {
+        place: 256,
+        row: Row {
+            uper: &[0x80, 0x40],
+            aper: &[0x01, 0x00, 0x80],
+            octets: &[0xBF, 0x82, 0x00, 0xFF],
+        },
+    },
+    Alternative {
+        place: 299,
+        row: Row {
+            uper: &[0x95, 0xC0],
+            aper: &[0x01, 0x2B, 0x80],
+            octets: &[0xBF, 0x82, 0x2B, 0xFF],
+        },
+    },
 ];
 
 /// The tags [0] to [299].
@@ -135,31 +174,32 @@ fn is_right(
     alloc: Global,
     codec: Codec,
     tags: &[Tag],
-    (place, row): Alternative,
+    alternative: &Alternative,
 ) -> Result<bool, Fail> {
-    let wanted = encoding(row, codec);
-    let octets = written(alloc, codec, tags, place)?;
-    let read = found(alloc, codec, tags, wanted.all())?;
-    let is_written = octets.as_slice() == wanted.all();
-    Ok(is_written && read == (Chosen::root(place), true))
+    let octets = written(alloc, codec, tags, alternative.place)?;
+    let read = found(alloc, codec, tags, alternative.row.by(codec))?;
+    let is_written = octets.as_slice() == alternative.row.by(codec);
+    Ok(is_written && read == (Chosen::root(alternative.place), true))
 }
 
 /// The place 300, and the tag [300], are those of no alternative.
-const BEHIND_THE_LAST: &str = "96 40/01 2C 80/BF 82 2C FF";
+const BEHIND_THE_LAST: Row = Row {
+    uper: &[0x96, 0x40],
+    aper: &[0x01, 0x2C, 0x80],
+    octets: &[0xBF, 0x82, 0x2C, 0xFF],
+};
 
 /// Whether these rules refuse it.
 fn is_refused(alloc: Global, codec: Codec, tags: &[Tag]) -> bool {
-    let octets = encoding(BEHIND_THE_LAST, codec);
-    let fault = found(alloc, codec, tags, octets.all()).err();
+    let fault = found(alloc, codec, tags, BEHIND_THE_LAST.by(codec)).err();
     fault == Some(DecodeError::InvalidTagVariantOnChoice)
 }
 
-/// The place of the first alternative that these rules do not write and read as its row says, or 300 if they take
-/// that.
+/// The place of the first alternative that these rules do not write and read as its row says, or 300 if they take that.
 fn first_wrong(alloc: Global, codec: Codec, tags: &[Tag]) -> Result<Option<usize>, Fail> {
-    for alternative in ALTERNATIVES {
+    for alternative in &ALTERNATIVES {
         if !is_right(alloc, codec, tags, alternative)? {
-            return Ok(Some(alternative.0));
+            return Ok(Some(alternative.place));
         }
     }
     if is_refused(alloc, codec, tags) {

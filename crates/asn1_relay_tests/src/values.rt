@@ -1,8 +1,7 @@
 //! Values of a program's types, written by each set of rules and read back: that they mean what the octets say.
-use crate::rows::{CODECS, encoding};
-use asn1_relay_core::{Codec, EncodeError, RecodeFault, recode};
+use crate::rows::{CODECS, Row};
+use asn1_relay_core::{Codec, DecodeError, EncodeError, RecodeFault, recode};
 use asn1_relay_types::{Bag, Extra, Group, New, Set};
-use asn1_schema_decode::Decode;
 use asn1_schema_encode::Encode;
 use asn1_schema_example::control::Control;
 use asn1_schema_example::measure::Measure;
@@ -13,177 +12,228 @@ use asn1_values_integers::Integer;
 use std::alloc::{AllocError, Global};
 use std::test::Fail;
 
-/// A type of which one value is known with its encodings.
-trait Sample: Encode + Decode {
-    /// The encodings of the value.
-    const ROW: &'static str;
-
-    /// The value.
-    fn sample(alloc: Global) -> Result<Self, AllocError>;
-
-    /// Whether this is the value.
-    fn is_sample(&self) -> bool;
-}
-
-/// {a 5, b 6, c 7}, in the order of tags (X.691 21, X.696 18).
-impl Sample for Set {
-    const ROW: &'static str = "E0 20 E0 20 C0 20 A0/E0 01 07 01 06 01 05/E0 01 07 01 06 01 05";
-
-    fn sample(_alloc: Global) -> Result<Set, AllocError> {
-        Ok(Set {
-            a: Some(Implicit::new(Integer::from(5))),
-            b: Some(Implicit::new(Integer::from(6))),
-            c: Some(Implicit::new(Integer::from(7))),
-        })
-    }
-
-    fn is_sample(&self) -> bool {
-        self.a == Some(Implicit::new(Integer::from(5)))
-            && self.b == Some(Implicit::new(Integer::from(6)))
-            && self.c == Some(Implicit::new(Integer::from(7)))
-    }
-}
-
-/// {power on: TRUE, level 9}, with a choice in a set (X.691 23, X.696 20).
-impl Sample for Control {
-    const ROW: &'static str = "C2 40/C0 09/87 FF 09";
-
-    fn sample(_alloc: Global) -> Result<Control, AllocError> {
-        Ok(Control {
-            power: Power::On(true),
-            level: Implicit::new(9),
-        })
-    }
-
-    fn is_sample(&self) -> bool {
-        matches!(&self.power, Power::On(true)) && self.level.value == 9
-    }
-}
-
-/// {a TRUE, b 7}, with an addition (X.691 19.7, X.696 16.4).
-impl Sample for New {
-    const ROW: &'static str = "C0 40 41 C0/C0 40 01 07/80 FF 02 07 80 01 07";
-
-    fn sample(_alloc: Global) -> Result<New, AllocError> {
-        Ok(New {
-            a: true,
-            b: Some(7),
-        })
-    }
-
-    fn is_sample(&self) -> bool {
-        self.a && self.b == Some(7)
-    }
-}
-
-/// {a TRUE, x 7}, with a group of additions (X.691 19.9, X.696 16.4).
-impl Sample for Group {
-    const ROW: &'static str = "C0 40 A0 E0 00/C0 40 02 80 07/80 FF 02 07 80 02 80 07";
-
-    fn sample(_alloc: Global) -> Result<Group, AllocError> {
-        Ok(Group {
-            a: true,
-            extra: Some(Extra { x: Some(7) }),
-        })
-    }
-
-    fn is_sample(&self) -> bool {
-        self.a && matches!(&self.extra, Some(Extra { x: Some(7) }))
-    }
-}
-
-/// name: "Jo", an added alternative, which is an open type (X.691 23.8, X.696 20.2).
-impl Sample for Message {
-    const ROW: &'static str = "80 03 02 4A 6F/80 03 02 4A 6F/82 03 02 4A 6F";
-
-    fn sample(alloc: Global) -> Result<Message, AllocError> {
-        Ok(Message::Name(String::from_str(alloc, "Jo")?))
-    }
-
-    fn is_sample(&self) -> bool {
-        match self {
-            Message::Name(name) => name.as_str() == "Jo",
-            _ => false,
-        }
-    }
-}
-
-/// {offset 0}, a default, which is left out (X.691 19.5, X.696 16.2).
-impl Sample for Measure {
-    const ROW: &'static str = "00/00/00";
-
-    fn sample(_alloc: Global) -> Result<Measure, AllocError> {
-        Ok(Measure {
-            offset: Integer::from(0),
-            exact: None,
-        })
-    }
-
-    fn is_sample(&self) -> bool {
-        self.offset == Integer::from(0) && self.exact.is_none()
-    }
-}
-
 /// Whether a value is written as these octets.
 fn is_written<T: Encode>(
     alloc: Global,
     codec: Codec,
     value: &T,
-    row: &str,
+    row: &Row,
 ) -> Result<bool, EncodeError> {
     let octets = codec.encode(alloc, value)?;
-    Ok(octets.as_slice() == encoding(row, codec).all())
+    Ok(octets.as_slice() == row.by(codec))
 }
 
-/// Whether these rules write the sample of a type as its row says, and read it.
-fn stands<T: Sample>(alloc: Global, codec: Codec) -> Result<bool, Fail> {
-    let value = T::sample(alloc)?;
-    let is_written = is_written(alloc, codec, &value, T::ROW)?;
-    let read: T = codec.decode(alloc, encoding(T::ROW, codec).all())?;
-    Ok(is_written && read.is_sample())
+/// {a 5, b 6, c 7}, in the order of tags (X.691 21, X.696 18).
+const SET: Row = Row {
+    uper: &[0xE0, 0x20, 0xE0, 0x20, 0xC0, 0x20, 0xA0],
+    aper: &[0xE0, 0x01, 0x07, 0x01, 0x06, 0x01, 0x05],
+    octets: &[0xE0, 0x01, 0x07, 0x01, 0x06, 0x01, 0x05],
+};
+
+/// Whether these rules write a set as its row says.
+fn set_is_written(alloc: Global, codec: Codec) -> Result<bool, EncodeError> {
+    let set = Set {
+        a: Some(Implicit::new(Integer::from(5))),
+        b: Some(Implicit::new(Integer::from(6))),
+        c: Some(Implicit::new(Integer::from(7))),
+    };
+    is_written(alloc, codec, &set, &SET)
 }
 
-/// Whether the sample of each type stands so.
-fn stand(alloc: Global, codec: Codec) -> Result<bool, Fail> {
+/// Whether these rules read a set as its row says.
+fn set_is_read(alloc: Global, codec: Codec) -> Result<bool, DecodeError> {
+    let set: Set = codec.decode(alloc, SET.by(codec))?;
     Ok(
-        stands::<Set>(alloc, codec)?
-            && stands::<Control>(alloc, codec)?
-            && stands::<New>(alloc, codec)?
-            && stands::<Group>(alloc, codec)?
-            && stands::<Message>(alloc, codec)?
-            && stands::<Measure>(alloc, codec)?,
+        set.a == Some(Implicit::new(Integer::from(5)))
+            && set.b == Some(Implicit::new(Integer::from(6)))
+            && set.c == Some(Implicit::new(Integer::from(7))),
+    )
+}
+
+/// {power on: TRUE, level 9}, with a choice in a set (X.691 23, X.696 20).
+const CONTROL: Row = Row {
+    uper: &[0xC2, 0x40],
+    aper: &[0xC0, 0x09],
+    octets: &[0x87, 0xFF, 0x09],
+};
+
+/// Whether these rules write a set with a choice as its row says.
+fn control_is_written(alloc: Global, codec: Codec) -> Result<bool, EncodeError> {
+    let control = Control {
+        power: Power::On(true),
+        level: Implicit::new(9),
+    };
+    is_written(alloc, codec, &control, &CONTROL)
+}
+
+/// Whether these rules read a set with a choice as its row says.
+fn control_is_read(alloc: Global, codec: Codec) -> Result<bool, DecodeError> {
+    let control: Control = codec.decode(alloc, CONTROL.by(codec))?;
+    Ok(matches!(&control.power, Power::On(true)) && control.level.value == 9)
+}
+
+/// {a TRUE, b 7}, with an addition (X.691 19.7, X.696 16.4).
+const NEW: Row = Row {
+    uper: &[0xC0, 0x40, 0x41, 0xC0],
+    aper: &[0xC0, 0x40, 0x01, 0x07],
+    octets: &[0x80, 0xFF, 0x02, 0x07, 0x80, 0x01, 0x07],
+};
+
+/// Whether these rules write a value with an addition as its row says.
+fn new_is_written(alloc: Global, codec: Codec) -> Result<bool, EncodeError> {
+    let new = New {
+        a: true,
+        b: Some(7),
+    };
+    is_written(alloc, codec, &new, &NEW)
+}
+
+/// Whether these rules read a value with an addition as its row says.
+fn new_is_read(alloc: Global, codec: Codec) -> Result<bool, DecodeError> {
+    let new: New = codec.decode(alloc, NEW.by(codec))?;
+    Ok(new.a && new.b == Some(7))
+}
+
+/// {a TRUE, x 7}, with a group of additions (X.691 19.9, X.696 16.4).
+const GROUP: Row = Row {
+    uper: &[0xC0, 0x40, 0xA0, 0xE0, 0x00],
+    aper: &[0xC0, 0x40, 0x02, 0x80, 0x07],
+    octets: &[0x80, 0xFF, 0x02, 0x07, 0x80, 0x02, 0x80, 0x07],
+};
+
+/// Whether these rules write a value with a group as its row says.
+fn group_is_written(alloc: Global, codec: Codec) -> Result<bool, EncodeError> {
+    let group = Group {
+        a: true,
+        extra: Some(Extra { x: Some(7) }),
+    };
+    is_written(alloc, codec, &group, &GROUP)
+}
+
+/// Whether these rules read a value with a group as its row says.
+fn group_is_read(alloc: Global, codec: Codec) -> Result<bool, DecodeError> {
+    let group: Group = codec.decode(alloc, GROUP.by(codec))?;
+    Ok(group.a && matches!(&group.extra, Some(Extra { x: Some(7) })))
+}
+
+/// name: "Jo", an added alternative, which is an open type (X.691 23.8, X.696 20.2).
+const MESSAGE: Row = Row {
+    uper: &[0x80, 0x03, 0x02, 0x4A, 0x6F],
+    aper: &[0x80, 0x03, 0x02, 0x4A, 0x6F],
+    octets: &[0x82, 0x03, 0x02, 0x4A, 0x6F],
+};
+
+/// Whether these rules write an added alternative as its row says.
+fn message_is_written(alloc: Global, codec: Codec) -> Result<bool, Fail> {
+    let message = Message::Name(String::from_str(alloc, "Jo")?);
+    Ok(is_written(alloc, codec, &message, &MESSAGE)?)
+}
+
+/// Whether these rules read an added alternative as its row says.
+fn message_is_read(alloc: Global, codec: Codec) -> Result<bool, DecodeError> {
+    let message: Message = codec.decode(alloc, MESSAGE.by(codec))?;
+    match &message {
+        Message::Name(name) => Ok(name.as_str() == "Jo"),
+        _ => Ok(false),
+    }
+}
+
+/// {offset 0}, a default, which is left out (X.691 19.5, X.696 16.2).
+const MEASURE: Row = Row {
+    uper: &[0x00],
+    aper: &[0x00],
+    octets: &[0x00],
+};
+
+/// Whether these rules write a default as its row says.
+fn measure_is_written(alloc: Global, codec: Codec) -> Result<bool, EncodeError> {
+    let measure = Measure {
+        offset: Integer::from(0),
+        exact: None,
+    };
+    is_written(alloc, codec, &measure, &MEASURE)
+}
+
+/// Whether these rules read a default as its row says.
+fn measure_is_read(alloc: Global, codec: Codec) -> Result<bool, DecodeError> {
+    let measure: Measure = codec.decode(alloc, MEASURE.by(codec))?;
+    Ok(measure.offset == Integer::from(0) && measure.exact.is_none())
+}
+
+/// Whether these rules write each value as its row says.
+fn are_written(alloc: Global, codec: Codec) -> Result<bool, Fail> {
+    Ok(
+        set_is_written(alloc, codec)?
+            && control_is_written(alloc, codec)?
+            && new_is_written(alloc, codec)?
+            && group_is_written(alloc, codec)?
+            && message_is_written(alloc, codec)?
+            && measure_is_written(alloc, codec)?,
     )
 }
 
 #[test]
-fn values_are_written_and_read(rt: HostRuntime) -> Result<(), Fail> {
+fn values_are_written(rt: HostRuntime) -> Result<(), Fail> {
     for codec in CODECS {
-        assert!(rt; stand(rt.alloc(), codec)?, "{codec:?}");
+        assert!(rt; are_written(rt.alloc(), codec)?, "{codec:?}");
+    }
+    Ok(())
+}
+
+/// Whether these rules read each value as its row says.
+fn are_read(alloc: Global, codec: Codec) -> Result<bool, DecodeError> {
+    Ok(
+        set_is_read(alloc, codec)?
+            && control_is_read(alloc, codec)?
+            && new_is_read(alloc, codec)?
+            && group_is_read(alloc, codec)?
+            && message_is_read(alloc, codec)?
+            && measure_is_read(alloc, codec)?,
+    )
+}
+
+#[test]
+fn values_are_read(rt: HostRuntime) -> Result<(), Fail> {
+    for codec in CODECS {
+        assert!(rt; are_read(rt.alloc(), codec)?, "{codec:?}");
     }
     Ok(())
 }
 
 /// {1, 2, 3}.
-const BAG: &str = "03 01 02 03/03 01 02 03/01 03 01 02 03";
+const BAG: Row = Row {
+    uper: &[3, 1, 2, 3],
+    aper: &[3, 1, 2, 3],
+    octets: &[1, 3, 1, 2, 3],
+};
 
 /// The bag of these numbers.
 fn bag_of(alloc: Global, numbers: &[u8]) -> Result<Bag, AllocError> {
     Ok(Bag::from_vec(Vec::from_slice(alloc, numbers)?))
 }
 
-/// Whether a bag of these numbers is the same as {1, 2, 3}, and is written so by these rules.
-fn is_bag(alloc: Global, codec: Codec, numbers: &[u8]) -> Result<bool, Fail> {
+/// Whether each set of rules writes a bag as {1, 2, 3}.
+fn is_written_in_order(alloc: Global, bag: &Bag) -> Result<bool, EncodeError> {
+    for codec in CODECS {
+        if !is_written(alloc, codec, bag, &BAG)? {
+            return Ok(false);
+        }
+    }
+    Ok(true)
+}
+
+/// Whether a bag of these numbers is the same as {1, 2, 3}, and is written so by each set of rules.
+fn is_bag(alloc: Global, numbers: &[u8]) -> Result<bool, Fail> {
     let bag = bag_of(alloc, numbers)?;
     let is_same = bag == bag_of(alloc, &[1, 2, 3])?;
-    Ok(is_written(alloc, codec, &bag, BAG)? && is_same)
+    Ok(is_written_in_order(alloc, &bag)? && is_same)
 }
 
 /// Members are handed in in any order, and written in that of their encodings.
 #[test]
 fn members_are_handed_in_any_order(rt: HostRuntime) -> Result<(), Fail> {
-    for codec in CODECS {
-        assert!(rt; is_bag(rt.alloc(), codec, &[3, 1, 2])?, "{codec:?}");
-        assert!(rt; is_bag(rt.alloc(), codec, &[2, 3, 1])?, "{codec:?}");
+    for numbers in [[3, 1, 2], [2, 3, 1]] {
+        assert!(rt; is_bag(rt.alloc(), &numbers)?, "{numbers:?}");
     }
     Ok(())
 }

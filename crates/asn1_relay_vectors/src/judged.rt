@@ -62,15 +62,10 @@ impl<T: Encode + Decode> Judged for Of<T> {
     }
 }
 
-/// Types whose values may borrow for as long as the program lives, and that hold an array of octets.
-pub enum Special {
-    /// OBJECT IDENTIFIER.
-    Identifiers,
-    /// `Blocks`.
-    Blocks,
-}
+/// OBJECT IDENTIFIER, whose values may borrow for as long as the program lives.
+pub struct OfIdentifiers;
 
-impl Judged for Special {
+impl Judged for OfIdentifiers {
     fn translate(
         &self,
         alloc: Global,
@@ -79,26 +74,39 @@ impl Judged for Special {
         to: Codec,
         octets: &[u8],
     ) -> Result<Vec<u8>, RecodeFault> {
-        match self {
-            Special::Identifiers => translate_type::<ObjectIdentifier>(
-                alloc, limits, from, to, octets,
-            ),
-            Special::Blocks => translate_type::<Blocks>(alloc, limits, from, to, octets),
-        }
+        translate_type::<ObjectIdentifier>(alloc, limits, from, to, octets)
     }
 
     fn relay(&self, alloc: Global, way: Way, pieces: &[&[u8]], out: &mut Vec<u8>) -> Relayed {
-        match self {
-            Special::Identifiers => relay_type::<ObjectIdentifier>(alloc, way, pieces, out),
-            Special::Blocks => relay_type::<Blocks>(alloc, way, pieces, out),
-        }
+        relay_type::<ObjectIdentifier>(alloc, way, pieces, out)
     }
 
     fn run(&self, alloc: Global, way: Way, octets: Vec<u8>) -> Ran {
-        match self {
-            Special::Identifiers => run_type::<ObjectIdentifier>(alloc, way, octets),
-            Special::Blocks => run_type::<Blocks>(alloc, way, octets),
-        }
+        run_type::<ObjectIdentifier>(alloc, way, octets)
+    }
+}
+
+/// The type `Blocks`, which holds an array of octets.
+pub struct OfBlocks;
+
+impl Judged for OfBlocks {
+    fn translate(
+        &self,
+        alloc: Global,
+        limits: &Limits,
+        from: Codec,
+        to: Codec,
+        octets: &[u8],
+    ) -> Result<Vec<u8>, RecodeFault> {
+        translate_type::<Blocks>(alloc, limits, from, to, octets)
+    }
+
+    fn relay(&self, alloc: Global, way: Way, pieces: &[&[u8]], out: &mut Vec<u8>) -> Relayed {
+        relay_type::<Blocks>(alloc, way, pieces, out)
+    }
+
+    fn run(&self, alloc: Global, way: Way, octets: Vec<u8>) -> Ran {
+        run_type::<Blocks>(alloc, way, octets)
     }
 }
 

@@ -1,5 +1,5 @@
 //! Sequences and sets, and what stands in them.
-use crate::judged::{Of, Special};
+use crate::judged::{Of, OfBlocks};
 use crate::judging::judge;
 use crate::line::{Line, LineError};
 use crate::named::program::judge_program;
@@ -13,12 +13,18 @@ use asn1_schema_example::gauge::Gauge;
 use asn1_schema_example::grown::Grown;
 use asn1_schema_example::station::Station;
 use asn1_schema_example_choices::tree::Tree;
+use asn1_values_integers::ConstrainedInteger;
 use std::alloc::Global;
 use std::marker::PhantomData;
 
 /// Judges a line of such a type, or of one of those behind them.
 pub fn judge_components(alloc: Global, line: &Line<'_>) -> Result<(), LineError> {
     match line.kind {
+        "wide" => judge(
+            alloc,
+            &Of::<ConstrainedInteger<256, 1234567>>(PhantomData),
+            line,
+        ),
         "marked" => judge(alloc, &Of::<Marked>(PhantomData), line),
         "one-or-two-bools" => judge(alloc, &Of::<ListOfOneOrTwo<bool>>(PhantomData), line),
         "person" => judge(alloc, &Of::<Person>(PhantomData), line),
@@ -27,7 +33,7 @@ pub fn judge_components(alloc: Global, line: &Line<'_>) -> Result<(), LineError>
         "offset" => judge(alloc, &Of::<Offset>(PhantomData), line),
         "outer" => judge(alloc, &Of::<Outer>(PhantomData), line),
         "twelve" => judge(alloc, &Of::<Twelve>(PhantomData), line),
-        "blocks" => judge(alloc, &Special::Blocks, line),
+        "blocks" => judge(alloc, &OfBlocks, line),
         "tree" => judge(alloc, &Of::<Tree>(PhantomData), line),
         "control" => judge(alloc, &Of::<Control>(PhantomData), line),
         "gauge" => judge(alloc, &Of::<Gauge>(PhantomData), line),

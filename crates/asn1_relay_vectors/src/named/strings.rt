@@ -4,7 +4,8 @@ use crate::judging::judge;
 use crate::line::{Line, LineError};
 use crate::named::lists::judge_list;
 use asn1_values_strings::{
-    BmpString, GeneralString, Ia5String, NumericString, PrintableString, VisibleString,
+    BmpString, GeneralString, GraphicString, Ia5String, NumericString, PrintableString,
+    TeletexString, VisibleString,
 };
 use std::alloc::Global;
 use std::marker::PhantomData;
@@ -18,6 +19,8 @@ pub fn judge_string(alloc: Global, line: &Line<'_>) -> Result<(), LineError> {
         "visible" => judge(alloc, &Of::<VisibleString>(PhantomData), line),
         "ia5" => judge(alloc, &Of::<Ia5String>(PhantomData), line),
         "general" => judge(alloc, &Of::<GeneralString>(PhantomData), line),
+        "graphic" => judge(alloc, &Of::<GraphicString>(PhantomData), line),
+        "teletex" => judge(alloc, &Of::<TeletexString>(PhantomData), line),
         "bmp" => judge(alloc, &Of::<BmpString>(PhantomData), line),
         _ => judge_list(alloc, line),
     }

@@ -53,12 +53,7 @@ pub trait Versions {
 }
 
 /// The types `Old` and `New`.
-pub struct Between<Old, New>(PhantomData<Old>, PhantomData<New>);
-
-impl<Old, New> Between<Old, New> {
-    /// The pair of them.
-    pub const PAIR: Self = Between(PhantomData, PhantomData);
-}
+pub struct Between<Old, New>(pub PhantomData<Old>, pub PhantomData<New>);
 
 impl<Old: Encode + Decode, New: Encode + Decode + Extends<Old> + Grown<Old>> Versions
     for Between<Old, New> {
@@ -85,12 +80,7 @@ impl<Old: Encode + Decode, New: Encode + Decode + Extends<Old> + Grown<Old>> Ver
 }
 
 /// The types `Old` and `New`, of which there are no samples.
-pub struct Unforetold<Old, New>(PhantomData<Old>, PhantomData<New>);
-
-impl<Old, New> Unforetold<Old, New> {
-    /// The pair of them.
-    pub const PAIR: Self = Unforetold(PhantomData, PhantomData);
-}
+pub struct Unforetold<Old, New>(pub PhantomData<Old>, pub PhantomData<New>);
 
 impl<Old: Encode + Decode, New: Encode + Decode + Extends<Old>> Versions for Unforetold<Old, New> {
     fn send(

@@ -11,6 +11,7 @@ use asn1_relay_vectors_types::{
 use asn1_schema_example::grown;
 use asn1_schema_wrapped::Implicit;
 use std::alloc::Global;
+use std::marker::PhantomData;
 
 /// Judges what is said of the pair of this name.
 ///
@@ -19,10 +20,22 @@ use std::alloc::Global;
 /// `NoPair` where there is no such pair, and those of `judge`.
 pub fn judge_pair(alloc: Global, name: &str, claim: &Claim) -> Result<(), LineError> {
     match name {
-        "plain" => judge(alloc, &Between::<Old, New>::PAIR, claim),
-        "default" => judge(alloc, &Between::<OldDefault, NewDefault>::PAIR, claim),
-        "required" => judge(alloc, &Between::<Old, NewRequired>::PAIR, claim),
-        "colour" => judge(alloc, &Between::<OldColour, NewColour>::PAIR, claim),
+        "plain" => judge(alloc, &Between::<Old, New>(PhantomData, PhantomData), claim),
+        "default" => judge(
+            alloc,
+            &Between::<OldDefault, NewDefault>(PhantomData, PhantomData),
+            claim,
+        ),
+        "required" => judge(
+            alloc,
+            &Between::<Old, NewRequired>(PhantomData, PhantomData),
+            claim,
+        ),
+        "colour" => judge(
+            alloc,
+            &Between::<OldColour, NewColour>(PhantomData, PhantomData),
+            claim,
+        ),
         _ => judge_grown(alloc, name, claim),
     }
 }
@@ -31,10 +44,26 @@ pub fn judge_pair(alloc: Global, name: &str, claim: &Claim) -> Result<(), LineEr
 /// behind it.
 fn judge_grown(alloc: Global, name: &str, claim: &Claim) -> Result<(), LineError> {
     match name {
-        "list" => judge(alloc, &Unforetold::<OldList, NewList>::PAIR, claim),
-        "bag" => judge(alloc, &Unforetold::<OldBag, NewBag>::PAIR, claim),
-        "within" => judge(alloc, &Unforetold::<OldHolder, NewHolder>::PAIR, claim),
-        "group" => judge(alloc, &Unforetold::<OldBracket, NewBracket>::PAIR, claim),
+        "list" => judge(
+            alloc,
+            &Unforetold::<OldList, NewList>(PhantomData, PhantomData),
+            claim,
+        ),
+        "bag" => judge(
+            alloc,
+            &Unforetold::<OldBag, NewBag>(PhantomData, PhantomData),
+            claim,
+        ),
+        "within" => judge(
+            alloc,
+            &Unforetold::<OldHolder, NewHolder>(PhantomData, PhantomData),
+            claim,
+        ),
+        "group" => judge(
+            alloc,
+            &Unforetold::<OldBracket, NewBracket>(PhantomData, PhantomData),
+            claim,
+        ),
         _ => judge_longer(alloc, name, claim),
     }
 }
@@ -42,11 +71,31 @@ fn judge_grown(alloc: Global, name: &str, claim: &Claim) -> Result<(), LineError
 /// Judges what is said of a pair whose newer version has a further addition or alternative.
 fn judge_longer(alloc: Global, name: &str, claim: &Claim) -> Result<(), LineError> {
     match name {
-        "nested" => judge(alloc, &Unforetold::<Old, Nested>::PAIR, claim),
-        "choice" => judge(alloc, &Unforetold::<OldVersioned, Versioned>::PAIR, claim),
-        "set" => judge(alloc, &Unforetold::<OldGrown, grown::Grown>::PAIR, claim),
-        "later" => judge(alloc, &Unforetold::<New, Newest>::PAIR, claim),
-        "leap" => judge(alloc, &Unforetold::<Old, Newest>::PAIR, claim),
+        "nested" => judge(
+            alloc,
+            &Unforetold::<Old, Nested>(PhantomData, PhantomData),
+            claim,
+        ),
+        "choice" => judge(
+            alloc,
+            &Unforetold::<OldVersioned, Versioned>(PhantomData, PhantomData),
+            claim,
+        ),
+        "set" => judge(
+            alloc,
+            &Unforetold::<OldGrown, grown::Grown>(PhantomData, PhantomData),
+            claim,
+        ),
+        "later" => judge(
+            alloc,
+            &Unforetold::<New, Newest>(PhantomData, PhantomData),
+            claim,
+        ),
+        "leap" => judge(
+            alloc,
+            &Unforetold::<Old, Newest>(PhantomData, PhantomData),
+            claim,
+        ),
         _ => Err(LineError::NoPair),
     }
 }
