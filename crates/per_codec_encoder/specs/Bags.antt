@@ -4,7 +4,8 @@ use Rattle.asn1_model.specs.Per
 use Rattle.asn1_schema_constraints.specs.Bounds.{members_of}
 use Rattle.asn1_schema_constraints.specs.Terms.{size_of}
 use Rattle.asn1_schema_faults.specs.declared.EncodeError.{EncodeError}
-use Rattle.asn1_schema_faults.specs.declared.EncodeError.TheVariants.{OutOfMemory, SizeConstraintNotSatisfied, AlreadyFailed}
+use Rattle.asn1_schema_faults.specs.declared.EncodeError.TheVariants.{OutOfMemory, AlreadyFailed}
+use Rattle.asn1_schema_faults.specs.declared.EncodeError.TheVariants.{SizeConstraintNotSatisfied}
 use Rattle.per_codec_packing.specs.Texts.{Text, as_form}
 use Rattle.per_codec_packing.specs.Packed.{Packed}
 use Rattle.per_codec_encoder.specs.Steps.{Scope, bag_members, counted_in}

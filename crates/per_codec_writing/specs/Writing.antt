@@ -6,8 +6,8 @@ use Rattle.per_codec_packing.specs.Texts.{Text}
 use Rattle.per_codec_packing.specs.Packed.{filling_at}
 pub use Rattle.per_codec_packing.specs.Packed.{Packed, Adds, place, plus}
 
--- Why no text was added: memory was refused, or there is none. That a call is out of its place is no reason, nor that an
--- earlier one was refused.
+-- Why no text was added: memory was refused, or there is none. That a call is out of its place is no reason, nor
+-- that an earlier one was refused.
 abbrev pub Refuses : Option Text → EncodeError → Type 0
 Refuses text OutOfMemory = Unit {0}
 Refuses text CallOutOfPlace = ⊥
