@@ -7,7 +7,7 @@ use asn1_relay_types::NewRequired;
 use asn1_relay_vectors_types::{
     ListOfOneOrTwo, Marked, Noted, Nothing, Offset, Outer, Person, Schedule, Twelve,
 };
-use asn1_schema_constructed::Sequence;
+use asn1_schema_authored::Sequence;
 use asn1_schema_example::control::Control;
 use asn1_schema_example::gauge::Gauge;
 use asn1_schema_example::grown::Grown;
