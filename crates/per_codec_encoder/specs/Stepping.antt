@@ -3,12 +3,13 @@ use Rattle.std.specs.Prelude.{◌≡◌, Bool, true, false, Some}
 use Rattle.asn1_schema_faults.specs.declared.CodecKind.{CodecKind}
 use Rattle.asn1_schema_faults.specs.declared.CodecKind.TheVariants.{Uper, Aper}
 use Rattle.asn1_schema_presented.specs.Records.{Record}
+use Rattle.per_codec_limits.specs.Variants.{is_aligned as variant_is_aligned}
 use Rattle.per_codec_encoder.specs.Steps.{State, run}
 use Rattle.per_codec_encoder.specs.declared.options.EncoderOptions.{EncoderOptions}
 
 -- Whether the aligned variant is written.
 abbrev pub is_aligned : EncoderOptions → Bool
-is_aligned o = o.aligned
+is_aligned o = variant_is_aligned o.variant
 
 -- The rules of a variant.
 abbrev pub rules_of : Bool → CodecKind

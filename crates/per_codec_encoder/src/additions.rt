@@ -11,7 +11,7 @@ use per_codec_packing::Packing;
 use std::alloc::Global;
 use std::mem;
 
-/// Behind the root of a sequence or set with a mark of extensibility come so many additions (X.691 19.7).
+/// Behind the root of a sequence or set with an extension bit come so many additions (X.691 19.7).
 ///
 /// # Errors
 ///

@@ -3,11 +3,13 @@ ghost use Rattle.std.specs.Prelude.{◌≡◌, length, List, MatchResult};
 ghost use Rattle.asn1_model.specs.Schema.{Tag};
 ghost use Rattle.asn1_schema_presented.specs.Records.{choice_begins};
 ghost use Rattle.per_codec_encoder.specs.Holding.{Does, Cannot};
+ghost use Rattle.per_codec_limits.specs.Variants.{is_aligned};
 
 use crate::frame::Frame;
 use crate::frames::Frames;
 use asn1_schema_faults::EncodeError;
 use asn1_schema_variants::Chosen;
+use per_codec_limits::Variant;
 use per_codec_packing::Packing;
 use per_codec_writing::push_place;
 use std::alloc::Global;
@@ -23,17 +25,19 @@ pub(crate) fn begin_alternative(
     output: &mut Packing,
     frames: &mut Frames,
     alloc: Global,
-    aligned: bool,
+    variant: Variant,
     roots: usize,
     extensible: bool,
     chosen: Chosen,
 ) -> Result<(), EncodeError>
     ensures { MatchResult result (λ _. (ts us : List Tag) → length ts ≡ roots
-        → Does aligned (choice_begins ts extensible us chosen.added chosen.place) frames.old output.old frames.new
+        → Does (is_aligned variant) (choice_begins ts extensible us chosen.added chosen.place) frames.old output.old
+        frames.new
         output.new) (λ e. (ts us : List Tag) → length ts ≡ roots
-        → Cannot aligned (choice_begins ts extensible us chosen.added chosen.place) frames.old output.old e) }
+        → Cannot (is_aligned variant) (choice_begins ts extensible us chosen.added chosen.place) frames.old output.old
+        e) }
 {
-    push_place(output, aligned, roots, extensible, chosen)?;
+    push_place(output, variant, roots, extensible, chosen)?;
     if chosen.added {
         let outer = mem::replace(output, Packing::new(alloc));
         frames.push(Frame::OpenType { outer })?;

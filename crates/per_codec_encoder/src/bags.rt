@@ -9,11 +9,13 @@ ghost use Rattle.per_codec_packing.specs.Texts.{text_at};
 ghost use Rattle.per_codec_writing.specs.Writing.{Refuses};
 ghost use Rattle.per_codec_encoder.specs.Bags.{form_of, GoesOnInBag, NoFurther};
 ghost use Rattle.per_codec_encoder.specs.Holding.{Does, Cannot};
+ghost use Rattle.per_codec_limits.specs.Variants.{is_aligned};
 
 use crate::frame::{Bag, Frame};
 use crate::frames::Frames;
 use asn1_schema_constraints::{Bounded, Sizes};
 use asn1_schema_faults::EncodeError;
+use per_codec_limits::Variant;
 use per_codec_packing::{Packing, Texts};
 use per_codec_writing::push_bag;
 use std::alloc::{AllocError, Global};
@@ -100,14 +102,16 @@ pub(crate) fn end_bag(
     output: &mut Packing,
     bag: Bag,
     alloc: Global,
-    aligned: bool,
+    variant: Variant,
 ) -> Result<(), EncodeError>
     ensures { MatchResult result (λ _. Adds
-        (text_at (form_of aligned bag (with_open bag.members output.old.text)) (place bag.outer)) bag.outer output.new)
-        (Refuses (text_at (form_of aligned bag (with_open bag.members output.old.text)) (place bag.outer))) }
+        (text_at (form_of (is_aligned variant) bag (with_open bag.members output.old.text)) (place bag.outer))
+        bag.outer output.new)
+        (Refuses (text_at (form_of (is_aligned variant) bag (with_open bag.members output.old.text))
+        (place bag.outer))) }
 {
     let members = all_members(bag.members, output, alloc)?;
     *output = bag.outer;
-    push_bag(alloc, output, aligned, bag.sizes, bag.held, &members)?;
+    push_bag(alloc, output, variant, bag.sizes, bag.held, &members)?;
     Ok(())
 }

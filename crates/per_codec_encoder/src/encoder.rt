@@ -4,7 +4,7 @@ ghost use Rattle.asn1_schema_encode.specs.Writes.{Refused};
 ghost use Rattle.asn1_schema_presented.specs.Records.{one_of};
 ghost use Rattle.per_codec_packing.specs.Texts.{as_text};
 ghost use Rattle.per_codec_encoder.specs.Ties.{octets_of};
-ghost use Rattle.per_codec_encoder.specs.Stepping.{Puts, is_aligned};
+ghost use Rattle.per_codec_encoder.specs.Stepping.{Puts, is_aligned as are_aligned};
 
 use crate::additions::{begin_additions, end_addition, put_addition};
 use crate::alternatives::begin_alternative;
@@ -22,6 +22,7 @@ use asn1_values_alphabets::StaticPermittedAlphabet;
 use asn1_values_bits::{BitBuffer, BitStr};
 use asn1_values_identifiers::Oid;
 use asn1_values_integers::IntegerType;
+use per_codec_limits::Variant;
 use per_codec_packing::Packing;
 use per_codec_writing::{
     push_bit_string, push_boolean, push_characters, push_enumerated, push_identifier, push_integer,
@@ -36,7 +37,7 @@ use std::mem;
 pub struct Encoder {
     output: Packing,
     frames: Frames,
-    aligned: bool,
+    variant: Variant,
     failed: bool,
     alloc: Global,
 }
@@ -44,12 +45,18 @@ pub struct Encoder {
 impl Model for Encoder {
     ghost use Rattle.std.specs.Prelude.{◌≡◌, false, reverse};
     ghost use Rattle.per_codec_encoder.specs.Stepping.{Written};
+    ghost use Rattle.per_codec_limits.specs.Variants.{is_aligned};
 
     ghost Value = { Written };
 
     ghost use Rattle.per_codec_encoder.specs.Holding.{shown, Holds};
 
-    ghost view = { λ e. record { state = shown (reverse e.frames) e.output; aligned = e.aligned; failed = e.failed } };
+    ghost view = { λ e. record {
+      state = shown (reverse e.frames) e.output;
+      aligned = is_aligned e.variant;
+      failed =
+          e.failed;
+    } };
 
     ghost invariant = { λ e. e.failed ≡ false → Holds (reverse e.frames) e.output (shown (reverse e.frames) e.output) };
 }
@@ -71,12 +78,12 @@ fn message(bits: BitBuffer) -> Result<Vec<u8>, EncodeError>
 impl Encoder {
     /// An encoder that holds nothing. It takes no memory before it is handed something.
     pub fn new(alloc: Global, options: EncoderOptions) -> Self
-        ensures { result ≡ record { state = ([], []); aligned = is_aligned options; failed = false } }
+        ensures { result ≡ record { state = ([], []); aligned = are_aligned options; failed = false } }
     {
         Encoder {
             output: Packing::new(alloc),
             frames: Frames::new(alloc),
-            aligned: options.is_aligned(),
+            variant: options.variant(),
             failed: false,
             alloc,
         }
@@ -84,12 +91,12 @@ impl Encoder {
 
     /// An encoder that holds nothing, and writes into the room of these octets, which are cleared.
     pub fn new_with_output(alloc: Global, options: EncoderOptions, output: Vec<u8>) -> Self
-        ensures { result ≡ record { state = ([], []); aligned = is_aligned options; failed = false } }
+        ensures { result ≡ record { state = ([], []); aligned = are_aligned options; failed = false } }
     {
         Encoder {
             output: Packing::from_octets(output),
             frames: Frames::new(alloc),
-            aligned: options.is_aligned(),
+            variant: options.variant(),
             failed: false,
             alloc,
         }
@@ -151,10 +158,9 @@ impl asn1_schema_encode::Encoder for Encoder {
     ghost rules = { λ e. rules_of e.aligned };
 
     fn codec(&self) -> CodecKind {
-        if self.aligned {
-            CodecKind::Aper
-        } else {
-            CodecKind::Uper
+        match self.variant {
+            Variant::Aligned => CodecKind::Aper,
+            Variant::Unaligned => CodecKind::Uper,
         }
     }
 
@@ -165,7 +171,7 @@ impl asn1_schema_encode::Encoder for Encoder {
         value: bool,
         _identifier: Identifier,
     ) -> Result<(), EncodeError> {
-        record!(self, push_boolean(&mut self.output, self.aligned, value))
+        record!(self, push_boolean(&mut self.output, self.variant, value))
     }
 
     #[inline(always)]
@@ -186,7 +192,7 @@ impl asn1_schema_encode::Encoder for Encoder {
     ) -> Result<(), EncodeError> {
         record!(
             self,
-            push_integer(&mut self.output, self.aligned, constraints, value)
+            push_integer(&mut self.output, self.variant, constraints, value)
         )
     }
 
@@ -204,7 +210,7 @@ impl asn1_schema_encode::Encoder for Encoder {
         ensures already { self.old.failed ≡ true → result ≡ Err EncodeError.AlreadyFailed }
         ensures after { result ≡ Err EncodeError.AlreadyFailed → self.old.failed ≡ true }
     {
-        record!(self, push_enumerated(&mut self.output, self.aligned, value))
+        record!(self, push_enumerated(&mut self.output, self.variant, value))
     }
 
     fn encode_bit_string(
@@ -217,7 +223,7 @@ impl asn1_schema_encode::Encoder for Encoder {
     ) -> Result<(), EncodeError> {
         record!(
             self,
-            push_bit_string(&mut self.output, self.aligned, constraints, held, value)
+            push_bit_string(&mut self.output, self.variant, constraints, held, value)
         )
     }
 
@@ -232,7 +238,7 @@ impl asn1_schema_encode::Encoder for Encoder {
     ) -> Result<(), EncodeError> {
         record!(
             self,
-            push_octet_string(&mut self.output, self.aligned, constraints, held, value)
+            push_octet_string(&mut self.output, self.variant, constraints, held, value)
         )
     }
 
@@ -245,7 +251,7 @@ impl asn1_schema_encode::Encoder for Encoder {
     ) -> Result<(), EncodeError> {
         record!(
             self,
-            push_utf8(&mut self.output, self.aligned, constraints, value)
+            push_utf8(&mut self.output, self.variant, constraints, value)
         )
     }
 
@@ -260,7 +266,7 @@ impl asn1_schema_encode::Encoder for Encoder {
             self,
             push_characters(
                 &mut self.output,
-                self.aligned,
+                self.variant,
                 self.alloc,
                 constraints,
                 value,
@@ -276,7 +282,7 @@ impl asn1_schema_encode::Encoder for Encoder {
     ) -> Result<(), EncodeError> {
         record!(
             self,
-            push_identifier(&mut self.output, self.aligned, self.alloc, &value)
+            push_identifier(&mut self.output, self.variant, self.alloc, &value)
         )
     }
 
@@ -293,7 +299,7 @@ impl asn1_schema_encode::Encoder for Encoder {
             begin_members(
                 &mut self.output,
                 &mut self.frames,
-                self.aligned,
+                self.variant,
                 constraints.sizes(),
                 held,
                 count,
@@ -330,7 +336,7 @@ impl asn1_schema_encode::Encoder for Encoder {
                 &mut self.output,
                 &mut self.frames,
                 self.alloc,
-                self.aligned,
+                self.variant,
                 more,
             )
         )
@@ -411,7 +417,7 @@ impl asn1_schema_encode::Encoder for Encoder {
                 &mut self.output,
                 &mut self.frames,
                 self.alloc,
-                self.aligned,
+                self.variant,
                 roots.len(),
                 extensible,
                 chosen,
@@ -423,7 +429,7 @@ impl asn1_schema_encode::Encoder for Encoder {
     fn end(&mut self) -> Result<(), EncodeError> {
         record!(
             self,
-            end_scope(&mut self.output, &mut self.frames, self.alloc, self.aligned)
+            end_scope(&mut self.output, &mut self.frames, self.alloc, self.variant)
         )
     }
 

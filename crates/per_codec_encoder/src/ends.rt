@@ -9,12 +9,14 @@ ghost use Rattle.per_codec_packing.specs.Texts.{text_at};
 ghost use Rattle.per_codec_writing.specs.Additions.{as_open_types};
 ghost use Rattle.per_codec_encoder.specs.declared.frame.Frame.{Frame};
 ghost use Rattle.per_codec_encoder.specs.Holding.{AreSound, Does, Cannot};
+ghost use Rattle.per_codec_limits.specs.Variants.{is_aligned};
 
 use crate::bags::end_bag;
 use crate::frame::{Additions, Frame};
 use crate::frames::Frames;
 use asn1_schema_faults::EncodeError;
 use asn1_values_bits::BitBuffer;
+use per_codec_limits::Variant;
 use per_codec_packing::Packing;
 use per_codec_writing::{push_additions, push_open_type};
 use std::alloc::Global;
@@ -32,11 +34,11 @@ fn is_extended(slots: &[Option<BitBuffer>]) -> bool
     false
 }
 
-/// Sets the mark of extensibility at a place and adds the additions, if one is there (X.691 19.1 and 19.7 to 19.9). The
+/// Sets the extension bit at a place and adds the additions, if one is there (X.691 19.1 and 19.7 to 19.9). The
 /// only error is want of memory.
 fn push_extension(
     output: &mut Packing,
-    aligned: bool,
+    variant: Variant,
     alloc: Global,
     mark: usize,
     slots: &[Option<BitBuffer>],
@@ -44,7 +46,8 @@ fn push_extension(
     requires { mark < length (solid output.old.text) }
     ensures only { IfErr result (λ e. e ≡ EncodeError.OutOfMemory) }
     ensures some { IfOk result (λ _. is_any_present slots.now ≡ true
-        → Adds (text_at (additions aligned (as_open_types aligned slots.now)) (place output.old))
+        → Adds (text_at (additions (is_aligned variant) (as_open_types (is_aligned variant) slots.now))
+        (place output.old))
         (record { text = with_bit mark true output.old.text; placed = output.old.placed }) output.new) }
     ensures none { IfOk result (λ _. is_any_present slots.now ≡ false → output.new ≡ output.old) }
 {
@@ -52,48 +55,49 @@ fn push_extension(
         return Ok(());
     }
     output.set(mark, true);
-    push_additions(output, aligned, alloc, slots)?;
+    push_additions(output, variant, alloc, slots)?;
     Ok(())
 }
 
 /// Ends a sequence or set behind its root, of which no addition is due: behind its root stand its additions, if one is
-/// there, and its mark of extensibility is then set (X.691 19.1 and 19.7 to 19.9).
+/// there, and its extension bit is then set (X.691 19.1 and 19.7 to 19.9).
 #[inline(always)]
 fn end_additions(
     output: &mut Packing,
     additions: Additions,
     alloc: Global,
-    aligned: bool,
+    variant: Variant,
 ) -> Result<(), EncodeError>
     requires { (around : List Frame) × AreSound (around ++ Frame.Added additions ∷ []) output.old }
     ensures { MatchResult result (λ _. (around : List Frame)
-        → Does aligned ends (around ++ Frame.Added additions ∷ []) output.old around output.new)
-        (λ e. (around : List Frame) → Cannot aligned ends (around ++ Frame.Added additions ∷ []) output.old e) }
+        → Does (is_aligned variant) ends (around ++ Frame.Added additions ∷ []) output.old around output.new)
+        (λ e. (around : List Frame) → Cannot (is_aligned variant) ends (around ++ Frame.Added additions ∷ [])
+        output.old e) }
 {
     if additions.due > 0 {
         return Err(EncodeError::CallOutOfPlace);
     }
     output.truncate(additions.end.bits, additions.end.fills);
     let slots = additions.slots.as_slice();
-    push_extension(output, aligned, alloc, additions.start.bits, slots)?;
+    push_extension(output, variant, alloc, additions.start.bits, slots)?;
     Ok(())
 }
 
 /// Ends an open type: its bits stand behind their number of octets, and these behind what stands in front of it (X.691
 /// 11.2). The only error is want of memory.
 #[inline(always)]
-fn end_open_type(output: &mut Packing, outer: Packing, aligned: bool) -> Result<(), EncodeError>
+fn end_open_type(output: &mut Packing, outer: Packing, variant: Variant) -> Result<(), EncodeError>
     ensures { MatchResult result (λ _. (around : List Frame)
-        → Does aligned ends (around ++ Frame.OpenType outer ∷ []) output.old around output.new)
+        → Does (is_aligned variant) ends (around ++ Frame.OpenType outer ∷ []) output.old around output.new)
         (λ e. e ≡ EncodeError.OutOfMemory) }
 {
     let contents = mem::replace(output, outer).into_bits();
-    push_open_type(output, aligned, &contents)?;
+    push_open_type(output, variant, &contents)?;
     Ok(())
 }
 
 /// Ends what is innermost: a sequence, set or group of which nothing is due (X.691 19), a list with all its members and
-/// headers (X.691 20), a bag (X.691 22), an open type (X.691 11.2) or an alternative (X.691 23).
+/// length determinants (X.691 20), a bag (X.691 22), an open type (X.691 11.2) or an alternative (X.691 23).
 ///
 /// # Errors
 ///
@@ -102,11 +106,11 @@ pub(crate) fn end_scope(
     output: &mut Packing,
     frames: &mut Frames,
     alloc: Global,
-    aligned: bool,
+    variant: Variant,
 ) -> Result<(), EncodeError>
     requires { AreSound frames.old output.old }
-    ensures { MatchResult result (λ _. Does aligned ends frames.old output.old frames.new output.new)
-        (Cannot aligned ends frames.old output.old) }
+    ensures { MatchResult result (λ _. Does (is_aligned variant) ends frames.old output.old frames.new output.new)
+        (Cannot (is_aligned variant) ends frames.old output.old) }
 {
     match frames.pop() {
         Some(
@@ -121,8 +125,8 @@ pub(crate) fn end_scope(
             }
             Ok(())
         }
-        Some(Frame::Added(additions)) => end_additions(output, additions, alloc, aligned),
-        Some(Frame::OpenType { outer }) => end_open_type(output, outer, aligned),
+        Some(Frame::Added(additions)) => end_additions(output, additions, alloc, variant),
+        Some(Frame::OpenType { outer }) => end_open_type(output, outer, variant),
         Some(Frame::Members(due)) => {
             if due.units > 0 || due.behind.is_some() {
                 return Err(EncodeError::CallOutOfPlace);
@@ -134,7 +138,7 @@ pub(crate) fn end_scope(
             if bag.due > 0 {
                 return Err(EncodeError::CallOutOfPlace);
             }
-            end_bag(output, bag, alloc, aligned)?;
+            end_bag(output, bag, alloc, variant)?;
             Ok(())
         }
         Some(Frame::Alternative) => Ok(()),

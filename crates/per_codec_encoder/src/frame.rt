@@ -12,7 +12,7 @@ use per_codec_writing::Due;
 pub(crate) struct Place {
     /// How many bits stand in front.
     pub bits: usize,
-    /// How many fillings, which are left open, stand in front.
+    /// How many times padding that is left open stands in front.
     pub fills: usize,
 }
 
@@ -34,7 +34,7 @@ impl Place {
 pub(crate) enum Frame {
     /// A sequence, a set or a group of additions.
     Components {
-        /// Whether it has a mark of extensibility.
+        /// Whether it has an extension bit.
         extensible: bool,
         /// How many presence bits are due.
         due: usize,

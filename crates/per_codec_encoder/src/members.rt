@@ -5,11 +5,13 @@ ghost use Rattle.asn1_schema_constraints.specs.Bounds.{members_of};
 ghost use Rattle.asn1_schema_constraints.specs.Terms.{size_of};
 ghost use Rattle.per_codec_encoder.specs.Headings.{GoesOn, GoesOnInList, NoMember};
 ghost use Rattle.per_codec_encoder.specs.Holding.{Does, Cannot};
+ghost use Rattle.per_codec_limits.specs.Variants.{is_aligned};
 
 use crate::frame::Frame;
 use crate::frames::Frames;
 use asn1_schema_constraints::{Bounded, Sizes};
 use asn1_schema_faults::EncodeError;
+use per_codec_limits::Variant;
 use per_codec_packing::Packing;
 use per_codec_writing::{Due, push_length_determinant, push_size};
 
@@ -22,19 +24,19 @@ use per_codec_writing::{Due, push_length_determinant, push_size};
 pub(crate) fn begin_members(
     output: &mut Packing,
     frames: &mut Frames,
-    aligned: bool,
+    variant: Variant,
     sizes: Sizes,
     held: Bounded<usize>,
     count: usize,
 ) -> Result<(), EncodeError>
-    ensures { MatchResult result (λ _. Does aligned
+    ensures { MatchResult result (λ _. Does (is_aligned variant)
         (list_begins (size_of sizes) (members_of held) count) frames.old output.old frames.new output.new)
-        (Cannot aligned (list_begins (size_of sizes) (members_of held) count) frames.old output.old) }
+        (Cannot (is_aligned variant) (list_begins (size_of sizes) (members_of held) count) frames.old output.old) }
 {
     if !held.holds(count) {
         return Err(EncodeError::SizeConstraintNotSatisfied);
     }
-    let due = push_size(output, aligned, sizes, false, count)?;
+    let due = push_size(output, variant, sizes, false, count)?;
     frames.push(Frame::Members(due))?;
     Ok(())
 }
@@ -44,15 +46,15 @@ pub(crate) fn begin_members(
 #[inline]
 fn push_next_length_determinant(
     output: &mut Packing,
-    aligned: bool,
+    variant: Variant,
     due: Due,
 ) -> Result<Due, EncodeError>
-    ensures { MatchResult result (λ next. GoesOn aligned due output.old next output.new)
+    ensures { MatchResult result (λ next. GoesOn (is_aligned variant) due output.old next output.new)
         (λ e. e ≡ EncodeError.OutOfMemory) }
 {
     match due.behind {
         Some(count) if due.units == 0 => {
-            let next = push_length_determinant(output, aligned, count)?;
+            let next = push_length_determinant(output, variant, count)?;
             Ok(next)
         }
         _ => Ok(due),
@@ -68,14 +70,14 @@ fn push_next_length_determinant(
 #[inline(always)]
 pub(crate) fn next_of_list(
     output: &mut Packing,
-    aligned: bool,
+    variant: Variant,
     due: &mut Due,
     more: bool,
 ) -> Result<(), EncodeError>
-    ensures { MatchResult result (λ _. GoesOnInList aligned more due.old output.old due.new output.new)
-        (NoMember aligned more due.old output.old) }
+    ensures { MatchResult result (λ _. GoesOnInList (is_aligned variant) more due.old output.old due.new output.new)
+        (NoMember (is_aligned variant) more due.old output.old) }
 {
-    let next = push_next_length_determinant(output, aligned, *due)?;
+    let next = push_next_length_determinant(output, variant, *due)?;
     if more != (next.units > 0) {
         return Err(EncodeError::CallOutOfPlace);
     }

@@ -3,12 +3,14 @@ ghost use Rattle.std.specs.Prelude.{◌≡◌, Bool, List, [], ◌∷◌, ◌++�
 ghost use Rattle.asn1_schema_presented.specs.Records.{sequence_begins, mark, further};
 ghost use Rattle.per_codec_encoder.specs.declared.frame.Frame.{Frame};
 ghost use Rattle.per_codec_encoder.specs.Holding.{AreSound, Does, Cannot};
+ghost use Rattle.per_codec_limits.specs.Variants.{is_aligned};
 
 use crate::bags::next_of_bag;
 use crate::frame::{Frame, Place};
 use crate::frames::Frames;
 use crate::members::next_of_list;
 use asn1_schema_faults::EncodeError;
+use per_codec_limits::Variant;
 use per_codec_packing::Packing;
 use std::alloc::Global;
 
@@ -64,7 +66,8 @@ pub(crate) fn put_mark(
     present: bool,
 ) -> Result<(), EncodeError>
     requires { AreSound frames.old output.old }
-    ensures { MatchResult result (λ _. (al : Bool) → Does al (mark present) frames.old output.old frames.new output.new)
+    ensures { MatchResult result (λ _. (al : Bool) → Does al (mark present) frames.old output.old frames.new
+        output.new)
         (λ e. (al : Bool) → Cannot al (mark present) frames.old output.old e) }
 {
     let Some(innermost) = &mut frames.innermost else {
@@ -94,15 +97,16 @@ fn next_of_frame(
     output: &mut Packing,
     innermost: &mut Frame,
     alloc: Global,
-    aligned: bool,
+    variant: Variant,
     more: bool,
 ) -> Result<(), EncodeError>
     ensures { MatchResult result (λ _. (fs : List Frame)
-        → Does aligned (further more) (fs ++ innermost.old ∷ []) output.old (fs ++ innermost.new ∷ []) output.new)
-        (λ e. (fs : List Frame) → Cannot aligned (further more) (fs ++ innermost.old ∷ []) output.old e) }
+        → Does (is_aligned variant) (further more) (fs ++ innermost.old ∷ []) output.old (fs ++ innermost.new ∷ [])
+        output.new)
+        (λ e. (fs : List Frame) → Cannot (is_aligned variant) (further more) (fs ++ innermost.old ∷ []) output.old e) }
 {
     match innermost {
-        Frame::Members(due) => next_of_list(output, aligned, due, more),
+        Frame::Members(due) => next_of_list(output, variant, due, more),
         Frame::Bag(bag) => next_of_bag(output, bag, alloc, more),
         _ => Err(EncodeError::CallOutOfPlace),
     }
@@ -118,14 +122,15 @@ pub(crate) fn put_further(
     output: &mut Packing,
     frames: &mut Frames,
     alloc: Global,
-    aligned: bool,
+    variant: Variant,
     more: bool,
 ) -> Result<(), EncodeError>
-    ensures { MatchResult result (λ _. Does aligned (further more) frames.old output.old frames.new output.new)
-        (Cannot aligned (further more) frames.old output.old) }
+    ensures { MatchResult result (λ _. Does (is_aligned variant) (further more) frames.old output.old frames.new
+        output.new)
+        (Cannot (is_aligned variant) (further more) frames.old output.old) }
 {
     match &mut frames.innermost {
-        Some(innermost) => next_of_frame(output, innermost, alloc, aligned, more),
+        Some(innermost) => next_of_frame(output, innermost, alloc, variant, more),
         None => Err(EncodeError::CallOutOfPlace),
     }
 }

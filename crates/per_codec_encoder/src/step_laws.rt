@@ -75,7 +75,7 @@ pub fn octet_rows()
     ensures { OctetRows }
 {}
 
-/// The states behind some records: counts, headers of fragments, gaps, and what is refused.
+/// The states behind some records: counts, length determinants of fragments, gaps, and what is refused.
 pub fn state_rows()
     ensures { StateRows }
 {}

@@ -126,7 +126,7 @@ fn are_not_two(alloc: Global) -> Result<bool, Fail> {
 /// Whether an identifier of one arc is not written.
 fn is_no_identifier(alloc: Global, arcs: &[u32]) -> Result<bool, Fail> {
     let lone = Oid::new(arcs).ok_or("no identifier")?;
-    let answer = push_identifier(&mut Packing::new(alloc), true, alloc, &lone);
+    let answer = push_identifier(&mut Packing::new(alloc), Variant::Aligned, alloc, &lone);
     Ok(answer == Err(EncodeError::ValueConstraintNotSatisfied))
 }
 

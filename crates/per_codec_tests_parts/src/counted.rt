@@ -66,7 +66,7 @@ fn placed(
 ) -> Result<Packing, EncodeError> {
     let mut output = Packing::new(alloc);
     output.resize(count, true)?;
-    push_counted_octets(&mut output, variant.is_aligned(), octets)?;
+    push_counted_octets(&mut output, variant, octets)?;
     Ok(output)
 }
 
@@ -77,7 +77,7 @@ fn placed_later(
     octets: &[u8],
 ) -> Result<Packing, EncodeError> {
     let mut text = Packing::unplaced(alloc);
-    push_counted_octets(&mut text, variant.is_aligned(), octets)?;
+    push_counted_octets(&mut text, variant, octets)?;
     let mut output = Packing::new(alloc);
     output.resize(count, true)?;
     output.append_text(text.as_text())?;

@@ -77,31 +77,31 @@ const TRUTHS: [Part; 3] = [Part::Truth(true), Part::Truth(false), Part::Truth(tr
 fn push_bitmap_of_one(
     alloc: Global,
     output: &mut Packing,
-    aligned: bool,
+    variant: Variant,
 ) -> Result<(), EncodeError> {
     let mut bitmap = BitBuffer::new(alloc);
     bitmap.push(true)?;
-    push_bitmap(output, aligned, &bitmap)
+    push_bitmap(output, variant, &bitmap)
 }
 
 /// Writes a part.
 fn push_part(
     alloc: Global,
     output: &mut Packing,
-    aligned: bool,
+    variant: Variant,
     part: Part,
 ) -> Result<(), EncodeError> {
     match part {
-        Part::Truth(value) => push_boolean(output, aligned, value),
-        Part::Number(span, value) => push_constrained(output, aligned, span, value),
-        Part::Small(number) => push_normally_small(output, aligned, number),
-        Part::Length(length) if length < 16384 => push_short_length(output, aligned, length),
-        Part::Fragment(times) if times <= 4 => push_fragment_length(output, aligned, times),
+        Part::Truth(value) => push_boolean(output, variant, value),
+        Part::Number(span, value) => push_constrained(output, variant, span, value),
+        Part::Small(number) => push_normally_small(output, variant, number),
+        Part::Length(length) if length < 16384 => push_short_length(output, variant, length),
+        Part::Fragment(times) if times <= 4 => push_fragment_length(output, variant, times),
         Part::Length(_) | Part::Fragment(_) => Err(EncodeError::SizeConstraintNotSatisfied),
-        Part::Root(place) => push_place(output, aligned, 2, false, Chosen::root(place)),
-        Part::Added(place) => push_place(output, aligned, 2, true, Chosen::addition(place)),
-        Part::OpenType => push_open_type(output, aligned, &BitBuffer::new(alloc)),
-        Part::Bitmap => push_bitmap_of_one(alloc, output, aligned),
+        Part::Root(place) => push_place(output, variant, 2, false, Chosen::root(place)),
+        Part::Added(place) => push_place(output, variant, 2, true, Chosen::addition(place)),
+        Part::OpenType => push_open_type(output, variant, &BitBuffer::new(alloc)),
+        Part::Bitmap => push_bitmap_of_one(alloc, output, variant),
     }
 }
 
@@ -109,11 +109,11 @@ fn push_part(
 fn push_parts(
     alloc: Global,
     output: &mut Packing,
-    aligned: bool,
+    variant: Variant,
     parts: &[Part],
 ) -> Result<(), EncodeError> {
     for part in parts {
-        push_part(alloc, output, aligned, *part)?;
+        push_part(alloc, output, variant, *part)?;
     }
     Ok(())
 }
@@ -124,14 +124,13 @@ fn written(
     (variant, count, parts, _): Row,
     is_placed: bool,
 ) -> Result<Packing, EncodeError> {
-    let aligned = variant.is_aligned();
     let mut output = Packing::new(alloc);
     output.resize(count, true)?;
     if is_placed {
-        push_parts(alloc, &mut output, aligned, parts)?;
+        push_parts(alloc, &mut output, variant, parts)?;
     } else {
         let mut text = Packing::unplaced(alloc);
-        push_parts(alloc, &mut text, aligned, parts)?;
+        push_parts(alloc, &mut text, variant, parts)?;
         output.append_text(text.as_text())?;
     }
     Ok(output)
@@ -158,16 +157,16 @@ fn parts_behind_bits(rt: HostRuntime) -> Result<(), Fail> {
 }
 
 /// Whether a number is refused in a span.
-fn is_outside(alloc: Global, aligned: bool, span: u128, number: u128) -> bool {
-    let answer = push_constrained(&mut Packing::new(alloc), aligned, span, number);
+fn is_outside(alloc: Global, variant: Variant, span: u128, number: u128) -> bool {
+    let answer = push_constrained(&mut Packing::new(alloc), variant, span, number);
     answer == Err(EncodeError::ValueConstraintNotSatisfied)
 }
 
 #[test]
 fn numbers_outside(rt: HostRuntime) {
-    for aligned in [false, true] {
+    for variant in [UPER, APER] {
         for span in [0, 1, 254, 255, 256, 65535, 65536, 1 << 64] {
-            assert!(rt; is_outside(rt.alloc(), aligned, span, span + 1));
+            assert!(rt; is_outside(rt.alloc(), variant, span, span + 1));
         }
     }
 }

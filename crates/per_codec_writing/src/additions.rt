@@ -5,11 +5,13 @@ ghost use Rattle.asn1_model.specs.Per.{additions, normally_few, bit_units};
 ghost use Rattle.per_codec_packing.specs.Texts.{text_at};
 ghost use Rattle.per_codec_writing.specs.Writing.{Adds, place};
 ghost use Rattle.per_codec_writing.specs.Additions.{as_open_types};
+ghost use Rattle.per_codec_limits.specs.Variants.{is_aligned};
 
 use crate::open_types::push_open_type;
 use crate::push_counted;
 use asn1_schema_faults::EncodeError;
 use asn1_values_bits::BitBuffer;
+use per_codec_limits::Variant;
 use per_codec_packing::Packing;
 use std::alloc::Global;
 
@@ -21,11 +23,11 @@ use std::alloc::Global;
 /// `OutOfMemory`, and no other.
 pub fn push_bitmap(
     output: &mut Packing,
-    aligned: bool,
+    variant: Variant,
     bitmap: &BitBuffer,
 ) -> Result<(), EncodeError>
     ensures { MatchResult result (λ _. Adds
-        (text_at (normally_few aligned (bit_units bitmap.now)) (place output.old)) output.old output.new)
+        (text_at (normally_few (is_aligned variant) (bit_units bitmap.now)) (place output.old)) output.old output.new)
         (λ e. e ≡ EncodeError.OutOfMemory) }
 {
     let count = bitmap.len();
@@ -36,7 +38,7 @@ pub fn push_bitmap(
     }
     output.push(true)?;
     let units = bitmap.as_bitslice();
-    push_counted(output, aligned, &units)?;
+    push_counted(output, variant, &units)?;
     Ok(())
 }
 
@@ -55,12 +57,13 @@ fn presence(alloc: Global, slots: &[Option<BitBuffer>]) -> Result<BitBuffer, Enc
 /// 19.8). Up to 64 such bits take no memory of their own. The only error is want of memory.
 fn push_presence(
     output: &mut Packing,
-    aligned: bool,
+    variant: Variant,
     alloc: Global,
     slots: &[Option<BitBuffer>],
 ) -> Result<(), EncodeError>
     ensures { MatchResult result (λ _. Adds
-        (text_at (normally_few aligned (bit_units (map is_present slots.now))) (place output.old)) output.old
+        (text_at (normally_few (is_aligned variant) (bit_units (map is_present slots.now))) (place output.old))
+        output.old
         output.new) (λ e. e ≡ EncodeError.OutOfMemory) }
 {
     let count = slots.len();
@@ -72,23 +75,24 @@ fn push_presence(
         return Ok(());
     }
     let bitmap = presence(alloc, slots)?;
-    push_bitmap(output, aligned, &bitmap)?;
+    push_bitmap(output, variant, &bitmap)?;
     Ok(())
 }
 
 /// Adds each addition that is there as an open type (X.691 19.9). The only error is want of memory.
 fn push_present(
     output: &mut Packing,
-    aligned: bool,
+    variant: Variant,
     slots: &[Option<BitBuffer>],
 ) -> Result<(), EncodeError>
     ensures { MatchResult result (λ _. Adds
-        (text_at (joined (present_ones (as_open_types aligned slots.now))) (place output.old)) output.old output.new)
+        (text_at (joined (present_ones (as_open_types (is_aligned variant) slots.now))) (place output.old)) output.old
+        output.new)
         (λ e. e ≡ EncodeError.OutOfMemory) }
 {
     for slot in slots {
         if let Some(contents) = slot {
-            push_open_type(output, aligned, contents)?;
+            push_open_type(output, variant, contents)?;
         }
     }
     Ok(())
@@ -102,15 +106,16 @@ fn push_present(
 /// `OutOfMemory`, and no other.
 pub fn push_additions(
     output: &mut Packing,
-    aligned: bool,
+    variant: Variant,
     alloc: Global,
     slots: &[Option<BitBuffer>],
 ) -> Result<(), EncodeError>
     ensures { MatchResult result (λ _. Adds
-        (text_at (additions aligned (as_open_types aligned slots.now)) (place output.old)) output.old output.new)
+        (text_at (additions (is_aligned variant) (as_open_types (is_aligned variant) slots.now)) (place output.old))
+        output.old output.new)
         (λ e. e ≡ EncodeError.OutOfMemory) }
 {
-    push_presence(output, aligned, alloc, slots)?;
-    push_present(output, aligned, slots)?;
+    push_presence(output, variant, alloc, slots)?;
+    push_present(output, variant, slots)?;
     Ok(())
 }

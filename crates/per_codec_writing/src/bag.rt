@@ -6,11 +6,13 @@ ghost use Rattle.asn1_schema_constraints.specs.Terms.{size_of};
 ghost use Rattle.per_codec_packing.specs.Texts.{text_at};
 ghost use Rattle.per_codec_writing.specs.Writing.{Adds, Refuses, place};
 ghost use Rattle.per_codec_writing.specs.Members.{forms};
+ghost use Rattle.per_codec_limits.specs.Variants.{is_aligned};
 
 use crate::members::in_order;
 use crate::sized::push_of_size;
 use asn1_schema_constraints::{Bounded, Sizes};
 use asn1_schema_faults::EncodeError;
+use per_codec_limits::Variant;
 use per_codec_packing::{Packing, Texts};
 use std::alloc::Global;
 
@@ -24,23 +26,23 @@ use std::alloc::Global;
 pub fn push_bag(
     alloc: Global,
     output: &mut Packing,
-    aligned: bool,
+    variant: Variant,
     sizes: Sizes,
     held: Bounded<usize>,
     members: &Texts,
 ) -> Result<(), EncodeError>
     ensures { MatchResult result (λ _. Adds
         (text_at (in_any_order (forms members.now)
-        (λ us. sized aligned (size_of sizes) (members_of held) never us)) (place output.old))
+        (λ us. sized (is_aligned variant) (size_of sizes) (members_of held) never us)) (place output.old))
         output.old output.new) (Refuses
         (text_at (in_any_order (forms members.now)
-        (λ us. sized aligned (size_of sizes) (members_of held) never us)) (place output.old))) }
+        (λ us. sized (is_aligned variant) (size_of sizes) (members_of held) never us)) (place output.old))) }
 {
     let ordered = in_order(alloc, members)?;
     let units = ordered.as_slice();
     if !held.holds(units.len()) {
         return Err(EncodeError::SizeConstraintNotSatisfied);
     }
-    push_of_size(output, aligned, sizes, false, &units)?;
+    push_of_size(output, variant, sizes, false, &units)?;
     Ok(())
 }

@@ -8,11 +8,13 @@ ghost use Rattle.asn1_schema_constraints.specs.Terms.{sizes_of};
 ghost use Rattle.asn1_values_bits.specs.BitStr.{bits_of};
 ghost use Rattle.per_codec_packing.specs.Texts.{text_at};
 ghost use Rattle.per_codec_writing.specs.Writing.{Adds, Refuses, place};
+ghost use Rattle.per_codec_limits.specs.Variants.{is_aligned};
 
 use crate::{pads_string, push_sized};
 use asn1_schema_constraints::{Bounded, Constraints};
 use asn1_schema_faults::EncodeError;
 use asn1_values_bits::BitStr;
+use per_codec_limits::Variant;
 use per_codec_packing::Packing;
 
 /// Adds a BIT STRING (X.691 16), of which the program's type holds as many bits as `held` tells.
@@ -23,19 +25,19 @@ use per_codec_packing::Packing;
 /// admit them.
 pub fn push_bit_string(
     output: &mut Packing,
-    aligned: bool,
+    variant: Variant,
     constraints: Constraints,
     held: Bounded<usize>,
     value: BitStr,
 ) -> Result<(), EncodeError>
     ensures { MatchResult result (λ _. Adds
-        (text_at (form aligned (bit_string (sizes_of constraints.entry.size) (counts_of held))
+        (text_at (form (is_aligned variant) (bit_string (sizes_of constraints.entry.size) (counts_of held))
         (bit_list (bits_of value.entry))) (place output.old)) output.old output.new)
-        (Refuses (text_at (form aligned (bit_string (sizes_of constraints.entry.size) (counts_of held))
+        (Refuses (text_at (form (is_aligned variant) (bit_string (sizes_of constraints.entry.size) (counts_of held))
         (bit_list (bits_of value.entry))) (place output.old))) }
 {
     let sizes = constraints.sizes();
     let pads = pads_string(sizes, 1, value.len());
-    push_sized(output, aligned, sizes, held, pads, &value)?;
+    push_sized(output, variant, sizes, held, pads, &value)?;
     Ok(())
 }

@@ -5,8 +5,10 @@ ghost use Rattle.asn1_model.specs.Schema.{boolean};
 ghost use Rattle.asn1_model.specs.Value.{truth};
 ghost use Rattle.per_codec_packing.specs.Texts.{text_at};
 ghost use Rattle.per_codec_writing.specs.Writing.{Adds, place};
+ghost use Rattle.per_codec_limits.specs.Variants.{is_aligned};
 
 use asn1_schema_faults::EncodeError;
+use per_codec_limits::Variant;
 use per_codec_packing::Packing;
 
 /// Adds a BOOLEAN, one bit that is set for true (X.691 12).
@@ -15,9 +17,9 @@ use per_codec_packing::Packing;
 ///
 /// `OutOfMemory`, and no other.
 #[inline]
-pub fn push_boolean(output: &mut Packing, aligned: bool, value: bool) -> Result<(), EncodeError>
+pub fn push_boolean(output: &mut Packing, variant: Variant, value: bool) -> Result<(), EncodeError>
     ensures { MatchResult result (λ _. Adds
-        (text_at (form aligned boolean (truth value)) (place output.old)) output.old output.new)
+        (text_at (form (is_aligned variant) boolean (truth value)) (place output.old)) output.old output.new)
         (λ e. e ≡ EncodeError.OutOfMemory) }
 {
     output.push(value)?;

@@ -9,6 +9,7 @@ ghost use Rattle.asn1_schema_constraints.specs.Terms.{sizes_of, alphabet_of};
 ghost use Rattle.asn1_values_alphabets.specs.Permitted.{permits_all};
 ghost use Rattle.per_codec_packing.specs.Texts.{text_at};
 ghost use Rattle.per_codec_writing.specs.Writing.{Adds, Refuses, place};
+ghost use Rattle.per_codec_limits.specs.Variants.{is_aligned};
 
 use crate::character_units::CharacterUnits;
 use crate::{pads_characters, push_counted, push_sized};
@@ -16,48 +17,51 @@ use asn1_schema_constraints::{Bounded, Constraints};
 use asn1_schema_faults::EncodeError;
 use asn1_values_alphabets::StaticPermittedAlphabet;
 use per_codec_alphabets::{EffectiveAlphabet, is_of_octets};
+use per_codec_limits::Variant;
 use per_codec_packing::Packing;
 use std::alloc::Global;
 
 /// Adds the octets of a string whose characters have no fixed width, behind their number (X.691 30).
 fn push_octets<S: StaticPermittedAlphabet>(
     output: &mut Packing,
-    aligned: bool,
+    variant: Variant,
     alloc: Global,
     value: &S,
 ) -> Result<(), EncodeError>
     requires kind { holds_octets S.kind ≡ true }
     requires permitted { permits_all S.kind (S.characters value.now) ≡ true }
     ensures { MatchResult result (λ _. Adds
-        (text_at (counted_octets aligned (S.characters value.now)) (place output.old)) output.old output.new)
+        (text_at (counted_octets (is_aligned variant) (S.characters value.now)) (place output.old)) output.old
+        output.new)
         (λ e. e ≡ EncodeError.OutOfMemory) }
 {
-    let alphabet = EffectiveAlphabet::new::<S>(alloc, aligned, None)?;
+    let alphabet = EffectiveAlphabet::new::<S>(alloc, variant.is_aligned(), None)?;
     let units = CharacterUnits {
         alphabet: &alphabet,
         string: value,
     };
-    push_counted(output, aligned, &units)?;
+    push_counted(output, variant, &units)?;
     Ok(())
 }
 
 /// Adds the characters of a string by their codes, behind their number (X.691 30.5).
 fn push_codes<S: StaticPermittedAlphabet>(
     output: &mut Packing,
-    aligned: bool,
+    variant: Variant,
     alloc: Global,
     constraints: Constraints,
     value: &S,
 ) -> Result<(), EncodeError>
     ensures { MatchResult result (λ _. Adds
-        (text_at (characters aligned (sizes_of constraints.entry.size) any_count
+        (text_at (characters (is_aligned variant) (sizes_of constraints.entry.size) any_count
         (permitted S.kind (alphabet_of constraints.entry.permitted_alphabet)) (S.characters value.now))
         (place output.old)) output.old output.new)
-        (Refuses (text_at (characters aligned (sizes_of constraints.entry.size) any_count
+        (Refuses (text_at (characters (is_aligned variant) (sizes_of constraints.entry.size) any_count
         (permitted S.kind (alphabet_of constraints.entry.permitted_alphabet)) (S.characters value.now))
         (place output.old))) }
 {
-    let alphabet = EffectiveAlphabet::new::<S>(alloc, aligned, constraints.permitted_alphabet)?;
+    let permitted = constraints.permitted_alphabet;
+    let alphabet = EffectiveAlphabet::new::<S>(alloc, variant.is_aligned(), permitted)?;
     let units = CharacterUnits {
         alphabet: &alphabet,
         string: value,
@@ -67,7 +71,7 @@ fn push_codes<S: StaticPermittedAlphabet>(
     }
     let sizes = constraints.sizes();
     let pads = pads_characters(sizes, alphabet.width() as usize, value.char_count());
-    push_sized(output, aligned, sizes, Bounded::None, pads, &units)?;
+    push_sized(output, variant, sizes, Bounded::None, pads, &units)?;
     Ok(())
 }
 
@@ -79,25 +83,25 @@ fn push_codes<S: StaticPermittedAlphabet>(
 /// `SizeConstraintNotSatisfied` if the size does not admit as many, and `OutOfMemory`.
 pub fn push_characters<S: StaticPermittedAlphabet>(
     output: &mut Packing,
-    aligned: bool,
+    variant: Variant,
     alloc: Global,
     constraints: Constraints,
     value: &S,
 ) -> Result<(), EncodeError>
     ensures { MatchResult result (λ _. Adds
-        (text_at (form aligned (character_string S.kind (sizes_of constraints.entry.size)
+        (text_at (form (is_aligned variant) (character_string S.kind (sizes_of constraints.entry.size)
         (alphabet_of constraints.entry.permitted_alphabet) any_count) (text (S.characters value.now)))
         (place output.old)) output.old output.new)
-        (Refuses (text_at (form aligned
+        (Refuses (text_at (form (is_aligned variant)
         (character_string S.kind (sizes_of constraints.entry.size)
         (alphabet_of constraints.entry.permitted_alphabet) any_count) (text (S.characters value.now)))
         (place output.old))) }
 {
     let _count = value.char_count();
     if is_of_octets::<S>() {
-        push_octets(output, aligned, alloc, value)?;
+        push_octets(output, variant, alloc, value)?;
         return Ok(());
     }
-    push_codes(output, aligned, alloc, constraints, value)?;
+    push_codes(output, variant, alloc, constraints, value)?;
     Ok(())
 }

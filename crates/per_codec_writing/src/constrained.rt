@@ -4,9 +4,11 @@ ghost use Rattle.asn1_model.specs.Numbers.{octet_width as octet_width_of};
 ghost use Rattle.asn1_model.specs.Per.{constrained};
 ghost use Rattle.per_codec_packing.specs.Texts.{text_at};
 ghost use Rattle.per_codec_writing.specs.Writing.{Adds, Refuses, place};
+ghost use Rattle.per_codec_limits.specs.Variants.{is_aligned};
 
 use asn1_schema_faults::EncodeError;
 use asn1_values_natives::octets::bit_count;
+use per_codec_limits::Variant;
 use per_codec_packing::Packing;
 
 /// How many octets hold the numbers from 0 to `span`.
@@ -61,17 +63,18 @@ fn push_octets(output: &mut Packing, span: u128, value: u128) -> Result<(), Enco
 #[inline(always)]
 pub fn push_constrained(
     output: &mut Packing,
-    aligned: bool,
+    variant: Variant,
     span: u128,
     value: u128,
 ) -> Result<(), EncodeError>
     ensures { MatchResult result (λ _. Adds
-        (text_at (constrained aligned span value) (place output.old)) output.old output.new)
-        (Refuses (text_at (constrained aligned span value) (place output.old))) }
+        (text_at (constrained (is_aligned variant) span value) (place output.old)) output.old output.new)
+        (Refuses (text_at (constrained (is_aligned variant) span value) (place output.old))) }
 {
     if value > span {
         return Err(EncodeError::ValueConstraintNotSatisfied);
     }
+    let aligned = variant.is_aligned();
     if aligned && span >= 255 {
         push_octets(output, span, value)?;
         return Ok(());

@@ -4,23 +4,26 @@ ghost use Rattle.asn1_model.specs.Per.{counted, counted_octets};
 ghost use Rattle.per_codec_packing.specs.Texts.{text_at};
 ghost use Rattle.per_codec_writing.specs.Headings.{form_due, headers_of, IsDue};
 ghost use Rattle.per_codec_writing.specs.Writing.{Adds, place};
+ghost use Rattle.per_codec_limits.specs.Variants.{is_aligned};
 
 use crate::{Due, Units, push_length_determinant};
 use asn1_schema_faults::EncodeError;
+use per_codec_limits::Variant;
 use per_codec_packing::Packing;
 
 /// Adds the units that are due and, as long as more stand behind a next length determinant, this and the units that
 /// are due behind it (X.691 11.9.3.8). The only error is want of memory.
 pub(crate) fn push_due<U: Units>(
     output: &mut Packing,
-    aligned: bool,
+    variant: Variant,
     first: Due,
     units: &U,
 ) -> Result<(), EncodeError>
     requires fits { length (U.forms units.now) < 2 ^ 64 }
     requires due { IsDue (length (U.forms units.now)) first }
     ensures { MatchResult result (λ _. Adds
-        (text_at (form_due aligned first.units (headers_of first.behind) (U.forms units.now)) (place output.old))
+        (text_at (form_due (is_aligned variant) first.units (headers_of first.behind) (U.forms units.now))
+        (place output.old))
         output.old output.new) (λ e. e ≡ EncodeError.OutOfMemory) }
 {
     let mut due = first;
@@ -28,7 +31,7 @@ pub(crate) fn push_due<U: Units>(
     while let Some(count) = due.behind {
         units.push_range(output, from, from + due.units)?;
         from += due.units;
-        due = push_length_determinant(output, aligned, count)?;
+        due = push_length_determinant(output, variant, count)?;
     }
     units.push_range(output, from, from + due.units)?;
     Ok(())
@@ -42,15 +45,15 @@ pub(crate) fn push_due<U: Units>(
 /// `OutOfMemory`, and no other.
 pub fn push_counted<U: Units>(
     output: &mut Packing,
-    aligned: bool,
+    variant: Variant,
     units: &U,
 ) -> Result<(), EncodeError>
     ensures { MatchResult result (λ _. Adds
-        (text_at (counted aligned (U.forms units.now)) (place output.old)) output.old output.new)
+        (text_at (counted (is_aligned variant) (U.forms units.now)) (place output.old)) output.old output.new)
         (λ e. e ≡ EncodeError.OutOfMemory) }
 {
-    let due = push_length_determinant(output, aligned, units.count())?;
-    push_due(output, aligned, due, units)?;
+    let due = push_length_determinant(output, variant, units.count())?;
+    push_due(output, variant, due, units)?;
     Ok(())
 }
 
@@ -61,14 +64,14 @@ pub fn push_counted<U: Units>(
 /// `OutOfMemory`, and no other.
 pub fn push_counted_octets(
     output: &mut Packing,
-    aligned: bool,
+    variant: Variant,
     octets: &[u8],
 ) -> Result<(), EncodeError>
     ensures { MatchResult result (λ _. Adds
-        (text_at (counted_octets aligned octets.now) (place output.old)) output.old output.new)
+        (text_at (counted_octets (is_aligned variant) octets.now) (place output.old)) output.old output.new)
         (λ e. e ≡ EncodeError.OutOfMemory) }
 {
     let units = octets;
-    push_counted(output, aligned, &units)?;
+    push_counted(output, variant, &units)?;
     Ok(())
 }

@@ -5,10 +5,12 @@ ghost use Rattle.asn1_model.specs.Schema.{object_identifier};
 ghost use Rattle.asn1_model.specs.Value.{arcs};
 ghost use Rattle.per_codec_packing.specs.Texts.{text_at};
 ghost use Rattle.per_codec_writing.specs.Writing.{Adds, Refuses, place};
+ghost use Rattle.per_codec_limits.specs.Variants.{is_aligned};
 
 use crate::push_counted_octets;
 use asn1_schema_faults::EncodeError;
 use asn1_values_identifiers::{IdentifierError, Oid, oid_octets};
+use per_codec_limits::Variant;
 use per_codec_packing::Packing;
 use std::alloc::Global;
 
@@ -19,17 +21,18 @@ use std::alloc::Global;
 /// `ValueConstraintNotSatisfied` where it has a single arc, and so no contents.
 pub fn push_identifier(
     output: &mut Packing,
-    aligned: bool,
+    variant: Variant,
     alloc: Global,
     value: &Oid,
 ) -> Result<(), EncodeError>
     ensures { MatchResult result (λ _. Adds
-        (text_at (form aligned object_identifier (arcs value.now)) (place output.old)) output.old output.new)
-        (Refuses (text_at (form aligned object_identifier (arcs value.now)) (place output.old))) }
+        (text_at (form (is_aligned variant) object_identifier (arcs value.now)) (place output.old)) output.old
+        output.new)
+        (Refuses (text_at (form (is_aligned variant) object_identifier (arcs value.now)) (place output.old))) }
 {
     match oid_octets(alloc, value) {
         Ok(contents) => {
-            push_counted_octets(output, aligned, contents.as_slice())?;
+            push_counted_octets(output, variant, contents.as_slice())?;
             Ok(())
         }
         Err(IdentifierError::Truncated) => Err(EncodeError::ValueConstraintNotSatisfied),

@@ -8,27 +8,30 @@ ghost use Rattle.asn1_schema_constraints.specs.Bounds.{admits_number, lower, upp
 ghost use Rattle.asn1_schema_constraints.specs.Terms.{bounds_of, held_of};
 ghost use Rattle.per_codec_packing.specs.Texts.{text_at};
 ghost use Rattle.per_codec_writing.specs.Writing.{Adds, Refuses, place};
+ghost use Rattle.per_codec_limits.specs.Variants.{is_aligned};
 
 use crate::{push_constrained, push_counted_octets};
 use asn1_schema_constraints::{Bounded, Constraints};
 use asn1_schema_faults::EncodeError;
 use asn1_values_integers::IntegerType;
+use per_codec_limits::Variant;
 use per_codec_packing::Packing;
 
 /// Adds a number without a lower bound, in its fewest octets of two's complement behind their number (X.691 11.8 and
 /// 13.2.4). The only error is want of memory.
 fn push_unconstrained<I: IntegerType>(
     output: &mut Packing,
-    aligned: bool,
+    variant: Variant,
     value: &I,
 ) -> Result<(), EncodeError>
     ensures written { MatchResult result
-        (λ _. Adds (text_at (unconstrained aligned (I.value value.now)) (place output.old)) output.old output.new)
+        (λ _. Adds (text_at (unconstrained (is_aligned variant) (I.value value.now)) (place output.old)) output.old
+        output.new)
         (λ e. e ≡ EncodeError.OutOfMemory) }
     ensures held { is_within I.held (I.value value.now) ≡ true }
 {
     let octets = value.to_signed_bytes_be();
-    push_counted_octets(output, aligned, octets.as_slice())?;
+    push_counted_octets(output, variant, octets.as_slice())?;
     Ok(())
 }
 
@@ -36,15 +39,15 @@ fn push_unconstrained<I: IntegerType>(
 /// 11.7 and 13.2.3). The only error is want of memory.
 pub(crate) fn push_semi_constrained(
     output: &mut Packing,
-    aligned: bool,
+    variant: Variant,
     offset: u128,
 ) -> Result<(), EncodeError>
     ensures { MatchResult result (λ _. Adds
-        (text_at (semi_constrained aligned offset) (place output.old)) output.old output.new)
+        (text_at (semi_constrained (is_aligned variant) offset) (place output.old)) output.old output.new)
         (λ e. e ≡ EncodeError.OutOfMemory) }
 {
     let octets = offset.to_unsigned_bytes_be();
-    push_counted_octets(output, aligned, octets.as_slice())?;
+    push_counted_octets(output, variant, octets.as_slice())?;
     Ok(())
 }
 
@@ -52,25 +55,26 @@ pub(crate) fn push_semi_constrained(
 #[inline(always)]
 fn push_root(
     output: &mut Packing,
-    aligned: bool,
+    variant: Variant,
     bounds: Bounded<i128>,
     number: i128,
 ) -> Result<(), EncodeError>
     requires { admits_number bounds number ≡ true }
     ensures { MatchResult result (λ _. Adds
-        (text_at (number_form aligned (lower bounds) (upper bounds) number) (place output.old)) output.old output.new)
-        (Refuses (text_at (number_form aligned (lower bounds) (upper bounds) number) (place output.old))) }
+        (text_at (number_form (is_aligned variant) (lower bounds) (upper bounds) number) (place output.old))
+        output.old output.new)
+        (Refuses (text_at (number_form (is_aligned variant) (lower bounds) (upper bounds) number) (place output.old))) }
 {
     match (bounds.as_start().copied(), bounds.as_end().copied()) {
         (Some(low), Some(high)) => {
-            push_constrained(output, aligned, high.abs_diff(low), number.abs_diff(low))
+            push_constrained(output, variant, high.abs_diff(low), number.abs_diff(low))
         }
         (Some(low), None) => {
-            push_semi_constrained(output, aligned, number.abs_diff(low))?;
+            push_semi_constrained(output, variant, number.abs_diff(low))?;
             Ok(())
         }
         (None, _) => {
-            push_unconstrained(output, aligned, &number)?;
+            push_unconstrained(output, variant, &number)?;
             Ok(())
         }
     }
@@ -81,17 +85,19 @@ fn push_root(
 #[inline(always)]
 fn push_bounded(
     output: &mut Packing,
-    aligned: bool,
+    variant: Variant,
     bounds: Bounded<i128>,
     extensible: bool,
     number: i128,
 ) -> Result<(), EncodeError>
     ensures { MatchResult result (λ _. Adds
         (text_at (marked extensible (admits_number bounds number)
-        (number_form aligned (lower bounds) (upper bounds) number) (unconstrained aligned number)) (place output.old))
+        (number_form (is_aligned variant) (lower bounds) (upper bounds) number)
+        (unconstrained (is_aligned variant) number)) (place output.old))
         output.old output.new) (Refuses
         (text_at (marked extensible (admits_number bounds number)
-        (number_form aligned (lower bounds) (upper bounds) number) (unconstrained aligned number))
+        (number_form (is_aligned variant) (lower bounds) (upper bounds) number)
+        (unconstrained (is_aligned variant) number))
         (place output.old))) }
 {
     let inside = bounds.contains(&number);
@@ -99,13 +105,13 @@ fn push_bounded(
         if !inside {
             return Err(EncodeError::ValueConstraintNotSatisfied);
         }
-        return push_root(output, aligned, bounds, number);
+        return push_root(output, variant, bounds, number);
     }
     output.push(!inside)?;
     if inside {
-        push_root(output, aligned, bounds, number)
+        push_root(output, variant, bounds, number)
     } else {
-        push_unconstrained(output, aligned, &number)?;
+        push_unconstrained(output, variant, &number)?;
         Ok(())
     }
 }
@@ -119,19 +125,20 @@ fn push_bounded(
 #[inline(always)]
 pub fn push_integer<I: IntegerType>(
     output: &mut Packing,
-    aligned: bool,
+    variant: Variant,
     constraints: Constraints,
     value: &I,
 ) -> Result<(), EncodeError>
     ensures { MatchResult result (λ _. Adds
-        (text_at (form aligned (integer (bounds_of constraints.entry.value) (held_of constraints.entry.value I.held))
+        (text_at (form (is_aligned variant) (integer (bounds_of constraints.entry.value)
+        (held_of constraints.entry.value I.held))
         (number_value (I.value value.now))) (place output.old)) output.old output.new)
-        (Refuses (text_at (form aligned
+        (Refuses (text_at (form (is_aligned variant)
         (integer (bounds_of constraints.entry.value) (held_of constraints.entry.value I.held))
         (number_value (I.value value.now))) (place output.old))) }
 {
     let Some(limits) = constraints.value else {
-        push_unconstrained(output, aligned, value)?;
+        push_unconstrained(output, variant, value)?;
         return Ok(());
     };
     let Some(number) = value.to_i128() else {
@@ -139,7 +146,7 @@ pub fn push_integer<I: IntegerType>(
     };
     push_bounded(
         output,
-        aligned,
+        variant,
         limits.constraint.value,
         limits.extensible.is_some(),
         number,

@@ -6,10 +6,11 @@ ghost use Rattle.asn1_model.specs.Per.{at_octet, short_length};
 ghost use Rattle.per_codec_packing.specs.Texts.{text_at};
 ghost use Rattle.per_codec_writing.specs.Headings.{general, Heads, IsDue};
 ghost use Rattle.per_codec_writing.specs.Writing.{Adds, place};
+ghost use Rattle.per_codec_limits.specs.Variants.{is_aligned};
 
-use crate::filling::align;
+use crate::alignment::align;
 use asn1_schema_faults::EncodeError;
-use per_codec_limits::FRAGMENT;
+use per_codec_limits::{FRAGMENT, Variant};
 use per_codec_packing::Packing;
 
 /// The units that are still to come behind a length determinant, or behind their number.
@@ -30,15 +31,15 @@ pub struct Due {
 #[inline(always)]
 pub fn push_short_length(
     output: &mut Packing,
-    aligned: bool,
+    variant: Variant,
     count: usize,
 ) -> Result<(), EncodeError>
     requires { count < 16384 }
     ensures { MatchResult result (λ _. Adds
-        (text_at (short_length aligned count) (place output.old)) output.old output.new)
+        (text_at (short_length (is_aligned variant) count) (place output.old)) output.old output.new)
         (λ e. e ≡ EncodeError.OutOfMemory) }
 {
-    align(output, aligned)?;
+    align(output, variant)?;
     if count < 0x80 {
         output.push_bits(count as u128, 8)?;
     } else {
@@ -54,15 +55,16 @@ pub fn push_short_length(
 /// `OutOfMemory`, and no other.
 pub fn push_fragment_length(
     output: &mut Packing,
-    aligned: bool,
+    variant: Variant,
     multiple: usize,
 ) -> Result<(), EncodeError>
     requires { multiple ≤ 4 }
     ensures { MatchResult result (λ _. Adds
-        (text_at (at_octet aligned (exactly (true ∷ true ∷ binary 6 multiple))) (place output.old)) output.old
+        (text_at (at_octet (is_aligned variant) (exactly (true ∷ true ∷ binary 6 multiple))) (place output.old))
+        output.old
         output.new) (λ e. e ≡ EncodeError.OutOfMemory) }
 {
-    align(output, aligned)?;
+    align(output, variant)?;
     output.push_bits(0xC0 + multiple as u128, 8)?;
     Ok(())
 }
@@ -75,23 +77,23 @@ pub fn push_fragment_length(
 /// `OutOfMemory`, and no other.
 pub fn push_length_determinant(
     output: &mut Packing,
-    aligned: bool,
+    variant: Variant,
     count: usize,
 ) -> Result<Due, EncodeError>
     ensures heads { MatchResult result
-        (λ due. Heads (general aligned count (place output.old)) output.old due output.new)
+        (λ due. Heads (general (is_aligned variant) count (place output.old)) output.old due output.new)
         (λ e. e ≡ EncodeError.OutOfMemory) }
     ensures due { IfOk result (λ due. IsDue count due) }
 {
     if count < FRAGMENT {
-        push_short_length(output, aligned, count)?;
+        push_short_length(output, variant, count)?;
         return Ok(Due {
             units: count,
             behind: None,
         });
     }
     let multiple = (count / FRAGMENT).min(4);
-    push_fragment_length(output, aligned, multiple)?;
+    push_fragment_length(output, variant, multiple)?;
     let units = multiple * FRAGMENT;
     Ok(Due {
         units,

@@ -4,6 +4,7 @@
 #![tactic(auto)]
 
 mod additions;
+mod alignment;
 mod bag;
 mod bits;
 mod booleans;
@@ -11,7 +12,6 @@ mod character_units;
 mod characters;
 mod constrained;
 mod counted;
-mod filling;
 mod identifiers;
 mod integers;
 mod lengths;
@@ -27,13 +27,13 @@ mod texts;
 mod units;
 
 pub use additions::{push_additions, push_bitmap};
+pub use alignment::align;
 pub use bag::push_bag;
 pub use bits::push_bit_string;
 pub use booleans::push_boolean;
 pub use characters::push_characters;
 pub use constrained::push_constrained;
 pub use counted::{push_counted, push_counted_octets};
-pub use filling::align;
 pub use identifiers::push_identifier;
 pub use integers::push_integer;
 pub use lengths::{Due, push_fragment_length, push_length_determinant, push_short_length};

@@ -7,10 +7,12 @@ ghost use Rattle.asn1_schema_constraints.specs.Bounds.{counts_of};
 ghost use Rattle.asn1_schema_constraints.specs.Terms.{sizes_of};
 ghost use Rattle.per_codec_packing.specs.Texts.{text_at};
 ghost use Rattle.per_codec_writing.specs.Writing.{Adds, Refuses, place};
+ghost use Rattle.per_codec_limits.specs.Variants.{is_aligned};
 
 use crate::{pads_string, push_sized};
 use asn1_schema_constraints::{Bounded, Constraints};
 use asn1_schema_faults::EncodeError;
+use per_codec_limits::Variant;
 use per_codec_packing::Packing;
 
 /// Adds an OCTET STRING (X.691 17), of which the program's type holds as many octets as `held` tells.
@@ -21,20 +23,21 @@ use per_codec_packing::Packing;
 /// not admit them.
 pub fn push_octet_string(
     output: &mut Packing,
-    aligned: bool,
+    variant: Variant,
     constraints: Constraints,
     held: Bounded<usize>,
     value: &[u8],
 ) -> Result<(), EncodeError>
     ensures { MatchResult result (λ _. Adds
-        (text_at (form aligned (octet_string (sizes_of constraints.entry.size) (counts_of held)) (octet_list value.now))
+        (text_at (form (is_aligned variant) (octet_string (sizes_of constraints.entry.size) (counts_of held))
+        (octet_list value.now))
         (place output.old)) output.old output.new)
-        (Refuses (text_at (form aligned (octet_string (sizes_of constraints.entry.size) (counts_of held))
+        (Refuses (text_at (form (is_aligned variant) (octet_string (sizes_of constraints.entry.size) (counts_of held))
         (octet_list value.now)) (place output.old))) }
 {
     let sizes = constraints.sizes();
     let pads = pads_string(sizes, 8, value.len());
     let octets = value;
-    push_sized(output, aligned, sizes, held, pads, &octets)?;
+    push_sized(output, variant, sizes, held, pads, &octets)?;
     Ok(())
 }

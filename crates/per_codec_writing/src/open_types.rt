@@ -4,10 +4,12 @@ ghost use Rattle.asn1_model.specs.Form.{exactly};
 ghost use Rattle.asn1_model.specs.Per.{open_type};
 ghost use Rattle.per_codec_packing.specs.Texts.{text_at};
 ghost use Rattle.per_codec_writing.specs.Writing.{Adds, place};
+ghost use Rattle.per_codec_limits.specs.Variants.{is_aligned};
 
 use crate::push_counted_octets;
 use asn1_schema_faults::EncodeError;
 use asn1_values_bits::BitBuffer;
+use per_codec_limits::Variant;
 use per_codec_packing::Packing;
 
 /// Adds bits as an open type: filled up with zero bits to whole octets, one zero octet in place of no bits, behind the
@@ -18,17 +20,17 @@ use per_codec_packing::Packing;
 /// `OutOfMemory`, and no other.
 pub fn push_open_type(
     output: &mut Packing,
-    aligned: bool,
+    variant: Variant,
     contents: &BitBuffer,
 ) -> Result<(), EncodeError>
     ensures { MatchResult result (λ _. Adds
-        (text_at (open_type aligned (exactly contents.now)) (place output.old)) output.old output.new)
+        (text_at (open_type (is_aligned variant) (exactly contents.now)) (place output.old)) output.old output.new)
         (λ e. e ≡ EncodeError.OutOfMemory) }
 {
     if contents.is_empty() {
-        push_counted_octets(output, aligned, &[0])?;
+        push_counted_octets(output, variant, &[0])?;
         return Ok(());
     }
-    push_counted_octets(output, aligned, contents.as_bytes())?;
+    push_counted_octets(output, variant, contents.as_bytes())?;
     Ok(())
 }

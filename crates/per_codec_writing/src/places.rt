@@ -6,14 +6,16 @@ ghost use Rattle.asn1_model.specs.Value.{item};
 ghost use Rattle.per_codec_packing.specs.Texts.{text_at};
 ghost use Rattle.per_codec_writing.specs.Writing.{Adds, Refuses, place};
 ghost use Rattle.per_codec_writing.specs.Places.{place_form};
+ghost use Rattle.per_codec_limits.specs.Variants.{is_aligned};
 
 use crate::{push_constrained, push_normally_small};
 use asn1_schema_faults::EncodeError;
 use asn1_schema_variants::{Chosen, Enumerated};
+use per_codec_limits::Variant;
 use per_codec_packing::Packing;
 
-/// Adds the mark of extensibility, where the type has one (X.691 14.3 and 23.5). The only error is want of memory.
-fn push_mark(output: &mut Packing, extensible: bool, mark: bool) -> Result<(), EncodeError>
+/// Adds the extension bit, where the type has one (X.691 14.3 and 23.5). The only error is want of memory.
+fn push_extension_bit(output: &mut Packing, extensible: bool, mark: bool) -> Result<(), EncodeError>
     ensures { MatchResult result (λ _. Adds
         (text_at (mark_of extensible mark) (place output.old)) output.old output.new)
         (λ e. e ≡ EncodeError.OutOfMemory) }
@@ -25,35 +27,36 @@ fn push_mark(output: &mut Packing, extensible: bool, mark: bool) -> Result<(), E
     Ok(())
 }
 
-/// Adds a place: among so many in the root, as a constrained whole number behind the mark of extensibility, or among
-/// the added ones, as a normally small number behind the mark that is set (X.691 14.2, 14.3 and 23.5 to 23.8). A place
-/// outside the root is refused, and so is an added one of a type without a mark.
+/// Adds a place: among so many in the root, as a constrained whole number behind the extension bit, or among the
+/// added ones, as a normally small number behind the extension bit that is set (X.691 14.2, 14.3 and 23.5 to 23.8).
+/// A place outside the root is refused, and so is an added one of a type without an extension bit.
 ///
 /// # Errors
 ///
 /// `OutOfMemory`; any other only where the value has no encoding in this form.
 pub fn push_place(
     output: &mut Packing,
-    aligned: bool,
+    variant: Variant,
     roots: usize,
     extensible: bool,
     chosen: Chosen,
 ) -> Result<(), EncodeError>
     ensures { MatchResult result (λ _. Adds
-        (text_at (place_form aligned roots extensible chosen.added chosen.place) (place output.old)) output.old
-        output.new) (Refuses (text_at (place_form aligned roots extensible chosen.added chosen.place)
+        (text_at (place_form (is_aligned variant) roots extensible chosen.added chosen.place) (place output.old))
+        output.old
+        output.new) (Refuses (text_at (place_form (is_aligned variant) roots extensible chosen.added chosen.place)
         (place output.old))) }
 {
     if !chosen.added {
-        push_mark(output, extensible, false)?;
+        push_extension_bit(output, extensible, false)?;
         let span = roots.saturating_sub(1);
-        return push_constrained(output, aligned, span as u128, chosen.place as u128);
+        return push_constrained(output, variant, span as u128, chosen.place as u128);
     }
     if !extensible {
         return Err(EncodeError::ValueConstraintNotSatisfied);
     }
     output.push(true)?;
-    push_normally_small(output, aligned, chosen.place as u64)?;
+    push_normally_small(output, variant, chosen.place as u64)?;
     Ok(())
 }
 
@@ -64,19 +67,20 @@ pub fn push_place(
 /// `OutOfMemory`; any other only where the value has no encoding in this form.
 pub fn push_enumerated<T: Enumerated>(
     output: &mut Packing,
-    aligned: bool,
+    variant: Variant,
     value: &T,
 ) -> Result<(), EncodeError>
     ensures { MatchResult result (λ _. Adds
-        (text_at (form aligned (enumerated T.roots T.extensible T.additions) (item (T.number value.now)))
+        (text_at (form (is_aligned variant) (enumerated T.roots T.extensible T.additions) (item (T.number value.now)))
         (place output.old)) output.old output.new)
-        (Refuses (text_at (form aligned (enumerated T.roots T.extensible T.additions) (item (T.number value.now)))
+        (Refuses (text_at (form (is_aligned variant) (enumerated T.roots T.extensible T.additions)
+        (item (T.number value.now)))
         (place output.old))) }
 {
     let extensible = T::extended_variants().is_some();
     push_place(
         output,
-        aligned,
+        variant,
         T::variance(),
         extensible,
         value.item_place(),

@@ -6,11 +6,13 @@ ghost use Rattle.asn1_schema_constraints.specs.Terms.{size_of};
 ghost use Rattle.per_codec_packing.specs.Texts.{text_at};
 ghost use Rattle.per_codec_writing.specs.Units.{of_size};
 ghost use Rattle.per_codec_writing.specs.Writing.{Adds, Refuses, place};
+ghost use Rattle.per_codec_limits.specs.Variants.{is_aligned};
 
 use crate::counted::push_due;
 use crate::{Units, push_size};
 use asn1_schema_constraints::{Bounded, Sizes};
 use asn1_schema_faults::EncodeError;
+use per_codec_limits::Variant;
 use per_codec_packing::Packing;
 
 /// Adds units of a size, however many of them the program's type holds.
@@ -20,17 +22,18 @@ use per_codec_packing::Packing;
 /// `SizeConstraintNotSatisfied` where a size without an extension mark does not admit as many; `OutOfMemory`.
 pub(crate) fn push_of_size<U: Units>(
     output: &mut Packing,
-    aligned: bool,
+    variant: Variant,
     sizes: Sizes,
     pads: bool,
     units: &U,
 ) -> Result<(), EncodeError>
     ensures { MatchResult result (λ _. Adds
-        (text_at (of_size aligned (size_of sizes) pads (U.forms units.now)) (place output.old)) output.old output.new)
-        (Refuses (text_at (of_size aligned (size_of sizes) pads (U.forms units.now)) (place output.old))) }
+        (text_at (of_size (is_aligned variant) (size_of sizes) pads (U.forms units.now)) (place output.old))
+        output.old output.new)
+        (Refuses (text_at (of_size (is_aligned variant) (size_of sizes) pads (U.forms units.now)) (place output.old))) }
 {
-    let due = push_size(output, aligned, sizes, pads, units.count())?;
-    push_due(output, aligned, due, units)?;
+    let due = push_size(output, variant, sizes, pads, units.count())?;
+    push_due(output, variant, due, units)?;
     Ok(())
 }
 
@@ -44,21 +47,21 @@ pub(crate) fn push_of_size<U: Units>(
 /// admit them; `OutOfMemory`.
 pub fn push_sized<U: Units>(
     output: &mut Packing,
-    aligned: bool,
+    variant: Variant,
     sizes: Sizes,
     held: Bounded<usize>,
     pads: bool,
     units: &U,
 ) -> Result<(), EncodeError>
     ensures { MatchResult result (λ _. Adds
-        (text_at (sized aligned (size_of sizes) (counts_of held) (λ _. pads) (U.forms units.now))
+        (text_at (sized (is_aligned variant) (size_of sizes) (counts_of held) (λ _. pads) (U.forms units.now))
         (place output.old)) output.old output.new)
-        (Refuses (text_at (sized aligned (size_of sizes) (counts_of held) (λ _. pads) (U.forms units.now))
+        (Refuses (text_at (sized (is_aligned variant) (size_of sizes) (counts_of held) (λ _. pads) (U.forms units.now))
         (place output.old))) }
 {
     if !held.contains(&units.count()) {
         return Err(EncodeError::SizeConstraintNotSatisfied);
     }
-    push_of_size(output, aligned, sizes, pads, units)?;
+    push_of_size(output, variant, sizes, pads, units)?;
     Ok(())
 }

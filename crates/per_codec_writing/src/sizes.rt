@@ -7,18 +7,19 @@ ghost use Rattle.asn1_schema_constraints.specs.Terms.{size_of};
 ghost use Rattle.per_codec_packing.specs.Texts.{text_at};
 ghost use Rattle.per_codec_writing.specs.Headings.{count_form, sized_count, heading, Heads, IsDue, NoHeading};
 ghost use Rattle.per_codec_writing.specs.Writing.{Adds, Refuses, place};
+ghost use Rattle.per_codec_limits.specs.Variants.{is_aligned};
 
 use crate::lengths::push_length_determinant;
 use crate::{Due, align, push_constrained};
 use asn1_schema_constraints::{Bounded, Sizes};
 use asn1_schema_faults::EncodeError;
-use per_codec_limits::LONG_COUNT;
+use per_codec_limits::{LONG_COUNT, Variant};
 use per_codec_packing::Packing;
 
 /// Adds a number of units, one of `low` to `high`, and padding behind it if `pads` tells so (X.691 11.9.4.1).
 fn push_number(
     output: &mut Packing,
-    aligned: bool,
+    variant: Variant,
     low: usize,
     high: usize,
     pads: bool,
@@ -27,12 +28,12 @@ fn push_number(
     requires least { low ≤ count }
     requires most { count ≤ high }
     ensures { MatchResult result (λ _. Adds
-        (text_at (count_form aligned low high pads count) (place output.old)) output.old output.new)
-        (Refuses (text_at (count_form aligned low high pads count) (place output.old))) }
+        (text_at (count_form (is_aligned variant) low high pads count) (place output.old)) output.old output.new)
+        (Refuses (text_at (count_form (is_aligned variant) low high pads count) (place output.old))) }
 {
-    push_constrained(output, aligned, (high - low) as u128, (count - low) as u128)?;
+    push_constrained(output, variant, (high - low) as u128, (count - low) as u128)?;
     if pads {
-        align(output, aligned)?;
+        align(output, variant)?;
     }
     Ok(())
 }
@@ -41,23 +42,24 @@ fn push_number(
 /// determinant in the general form (X.691 11.9.4.1).
 fn push_root_count(
     output: &mut Packing,
-    aligned: bool,
+    variant: Variant,
     root: Bounded<usize>,
     pads: bool,
     count: usize,
 ) -> Result<Due, EncodeError>
     requires { is_count_within (counts_of root) count ≡ true }
     ensures heads { MatchResult result (λ due. Heads
-        (sized_count aligned (counts_of root) (upper root) pads count (place output.old)) output.old due output.new)
-        (NoHeading (sized_count aligned (counts_of root) (upper root) pads count (place output.old))) }
+        (sized_count (is_aligned variant) (counts_of root) (upper root) pads count (place output.old)) output.old due
+        output.new)
+        (NoHeading (sized_count (is_aligned variant) (counts_of root) (upper root) pads count (place output.old))) }
     ensures due { IfOk result (λ due. IsDue count due) }
 {
     let high = root.as_end().copied().unwrap_or(usize::MAX);
     if high >= LONG_COUNT {
-        let due = push_length_determinant(output, aligned, count)?;
+        let due = push_length_determinant(output, variant, count)?;
         return Ok(due);
     }
-    push_number(output, aligned, root.minimum(), high, pads, count)?;
+    push_number(output, variant, root.minimum(), high, pads, count)?;
     Ok(Due {
         units: count,
         behind: None,
@@ -73,14 +75,14 @@ fn push_root_count(
 /// `SizeConstraintNotSatisfied` where a size without an extension mark does not admit so many; `OutOfMemory`.
 pub fn push_size(
     output: &mut Packing,
-    aligned: bool,
+    variant: Variant,
     sizes: Sizes,
     pads: bool,
     count: usize,
 ) -> Result<Due, EncodeError>
     ensures heads { MatchResult result (λ due. Heads
-        (heading aligned (size_of sizes) pads count (place output.old)) output.old due output.new)
-        (NoHeading (heading aligned (size_of sizes) pads count (place output.old))) }
+        (heading (is_aligned variant) (size_of sizes) pads count (place output.old)) output.old due output.new)
+        (NoHeading (heading (is_aligned variant) (size_of sizes) pads count (place output.old))) }
     ensures due { IfOk result (λ due. IsDue count due) }
 {
     let in_root = sizes.root.contains(&count);
@@ -88,14 +90,14 @@ pub fn push_size(
         if !in_root {
             return Err(EncodeError::SizeConstraintNotSatisfied);
         }
-        let due = push_root_count(output, aligned, sizes.root, pads, count)?;
+        let due = push_root_count(output, variant, sizes.root, pads, count)?;
         return Ok(due);
     }
     output.push(!in_root)?;
     if in_root {
-        let due = push_root_count(output, aligned, sizes.root, pads, count)?;
+        let due = push_root_count(output, variant, sizes.root, pads, count)?;
         return Ok(due);
     }
-    let due = push_length_determinant(output, aligned, count)?;
+    let due = push_length_determinant(output, variant, count)?;
     Ok(due)
 }

@@ -3,9 +3,11 @@ ghost use Rattle.std.specs.Prelude.{◌≡◌, MatchResult};
 ghost use Rattle.asn1_model.specs.Per.{normally_small};
 ghost use Rattle.per_codec_packing.specs.Texts.{text_at};
 ghost use Rattle.per_codec_writing.specs.Writing.{Adds, place};
+ghost use Rattle.per_codec_limits.specs.Variants.{is_aligned};
 
 use crate::integers::push_semi_constrained;
 use asn1_schema_faults::EncodeError;
+use per_codec_limits::Variant;
 use per_codec_packing::Packing;
 
 /// Adds a normally small number: up to 63 in six bits behind one that is not set, else behind one that is, in the
@@ -16,11 +18,11 @@ use per_codec_packing::Packing;
 /// `OutOfMemory`, and no other.
 pub fn push_normally_small(
     output: &mut Packing,
-    aligned: bool,
+    variant: Variant,
     number: u64,
 ) -> Result<(), EncodeError>
     ensures { MatchResult result (λ _. Adds
-        (text_at (normally_small aligned number) (place output.old)) output.old output.new)
+        (text_at (normally_small (is_aligned variant) number) (place output.old)) output.old output.new)
         (λ e. e ≡ EncodeError.OutOfMemory) }
 {
     if number < 64 {
@@ -28,6 +30,6 @@ pub fn push_normally_small(
         return Ok(());
     }
     output.push(true)?;
-    push_semi_constrained(output, aligned, number as u128)?;
+    push_semi_constrained(output, variant, number as u128)?;
     Ok(())
 }

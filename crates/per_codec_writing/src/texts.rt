@@ -7,10 +7,12 @@ ghost use Rattle.asn1_model.specs.Value.{text};
 ghost use Rattle.asn1_schema_constraints.specs.Terms.{sizes_of, alphabet_of};
 ghost use Rattle.per_codec_packing.specs.Texts.{text_at};
 ghost use Rattle.per_codec_writing.specs.Writing.{Adds, place};
+ghost use Rattle.per_codec_limits.specs.Variants.{is_aligned};
 
 use crate::push_counted_octets;
 use asn1_schema_constraints::Constraints;
 use asn1_schema_faults::EncodeError;
+use per_codec_limits::Variant;
 use per_codec_packing::Packing;
 
 /// Adds a UTF8String (X.691 30): its octets behind their number, since its constraints count for nothing.
@@ -20,15 +22,15 @@ use per_codec_packing::Packing;
 /// `OutOfMemory`, and no other.
 pub fn push_utf8(
     output: &mut Packing,
-    aligned: bool,
+    variant: Variant,
     _constraints: Constraints,
     value: &str,
 ) -> Result<(), EncodeError>
     ensures { MatchResult result (λ _. Adds
-        (text_at (form aligned (character_string utf8 (sizes_of _constraints.entry.size)
+        (text_at (form (is_aligned variant) (character_string utf8 (sizes_of _constraints.entry.size)
         (alphabet_of _constraints.entry.permitted_alphabet) any_count) (text value.now)) (place output.old)) output.old
         output.new) (λ e. e ≡ EncodeError.OutOfMemory) }
 {
-    push_counted_octets(output, aligned, value.as_bytes())?;
+    push_counted_octets(output, variant, value.as_bytes())?;
     Ok(())
 }

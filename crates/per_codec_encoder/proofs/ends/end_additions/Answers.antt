@@ -2,19 +2,20 @@ use Rattle.std.proofs.Common.{◌++◌, ◌∷◌, [], take, refl, arith}
 use Rattle.per_codec_encoder.specs.declared.frame.Frame.TheVariants.{Added}
 use Rattle.per_codec_encoder.specs.Holding.{at, instead}
 use Rattle.per_codec_encoder.proofs.Ending.{does_end_added, cannot_end_added, mark_within, root_ends}
+use Rattle.per_codec_limits.specs.Variants.{is_aligned}
 use Rattle.per_codec_encoder.proofs.ends.end_additions.Goals as goal
 
 pub returns-then-additions-gt0 : goal.returns-then-additions-gt0
 returns-then-additions-gt0 c = λ around.
     let ad = c.args.additions in
     let o = c.args.output.now in
-    cannot_end_added c.args.aligned (around ++ Added ad ∷ []) around (Added ad) ad o (instead (take (at ad.end) o.text) o) refl refl refl c.if-additions-gt0.true
+    cannot_end_added (is_aligned c.args.variant) (around ++ Added ad ∷ []) around (Added ad) ad o (instead (take (at ad.end) o.text) o) refl refl refl c.if-additions-gt0.true
 
 pub returns : goal.returns
 returns c = λ around.
     let ad = c.args.additions in
     let x = c.in_ok-push_extension.ensures in
-    does_end_added c.args.aligned (around ++ Added ad ∷ []) around (Added ad) ad c.args.output.now c.truncate.new.self refl refl c.truncate.ensures c.as_slice-slots.result.now c.push_extension.new.output c.as_slice-slots.ensures.value (omega (arith, c.if-additions-gt0.false)) x.some x.none
+    does_end_added (is_aligned c.args.variant) (around ++ Added ad ∷ []) around (Added ad) ad c.args.output.now c.truncate.new.self refl refl c.truncate.ensures c.as_slice-slots.result.now c.push_extension.new.output c.as_slice-slots.ensures.value (omega (arith, c.if-additions-gt0.false)) x.some x.none
 
 pub truncate-requires-clause-within : goal.truncate-requires-clause-within
 truncate-requires-clause-within c =
@@ -29,4 +30,4 @@ truncate-requires-clause-place c =
 pub push_extension-requires : goal.push_extension-requires
 push_extension-requires c =
     let ad = c.args.additions in
-    mark_within c.args.aligned (c.requires.0 ++ Added ad ∷ []) c.requires.0 (Added ad) ad c.args.output.now c.truncate.new.self refl refl c.truncate.ensures c.requires.1
+    mark_within (is_aligned c.args.variant) (c.requires.0 ++ Added ad ∷ []) c.requires.0 (Added ad) ad c.args.output.now c.truncate.new.self refl refl c.truncate.ensures c.requires.1

@@ -3,6 +3,7 @@ use Rattle.asn1_schema_presented.specs.Records.{further}
 use Rattle.per_codec_encoder.specs.Holding.{Does, Cannot}
 use Rattle.per_codec_encoder.specs.contracts.frames.Frames.{the_view}
 use Rattle.per_codec_encoder.proofs.Innermost.{innermost_is, done_within, no_member}
+use Rattle.per_codec_limits.specs.Variants.{is_aligned}
 use Rattle.per_codec_encoder.proofs.sequences.put_further.Goals as goal
 use Rattle.per_codec_encoder.proofs.sequences.put_further.Goals.{in-Some, in-None}
 
@@ -13,6 +14,6 @@ returns c =
     elim m.branch [
       | in-Some w ↦
           let a = innermost_is _ i.outer.items i.innermost _ c.frames.view_is w.in-Some.is in
-          done_within c.args.aligned (further c.args.more) i.outer.items _ _ c.args.output.now _ w.next_of_frame.result m.result _ (the_view m.frames-inside) m.output w.result-is a (ap the_view w.frames-inside-is) w.output-is w.next_of_frame.ensures
-      | in-None w ↦ subst (λ r. MatchResult r (λ _. Does c.args.aligned (further c.args.more) c.args.frames.now c.args.output.now (the_view m.frames-inside) m.output) (Cannot c.args.aligned (further c.args.more) c.args.frames.now c.args.output.now)) (sym w.result-is) (no_member c.args.aligned c.args.frames.now i.outer.items i.innermost c.args.output.now c.args.more c.frames.view_is w.in-None.is (c.frames.invariant w.in-None.is))
+          done_within (is_aligned c.args.variant) (further c.args.more) i.outer.items _ _ c.args.output.now _ w.next_of_frame.result m.result _ (the_view m.frames-inside) m.output w.result-is a (ap the_view w.frames-inside-is) w.output-is w.next_of_frame.ensures
+      | in-None w ↦ subst (λ r. MatchResult r (λ _. Does (is_aligned c.args.variant) (further c.args.more) c.args.frames.now c.args.output.now (the_view m.frames-inside) m.output) (Cannot (is_aligned c.args.variant) (further c.args.more) c.args.frames.now c.args.output.now)) (sym w.result-is) (no_member (is_aligned c.args.variant) c.args.frames.now i.outer.items i.innermost c.args.output.now c.args.more c.frames.view_is w.in-None.is (c.frames.invariant w.in-None.is))
     ]

@@ -4,6 +4,7 @@ use Rattle.asn1_model.specs.Form.{is_present}
 use Rattle.per_codec_packing.specs.Texts.{as_text}
 use Rattle.per_codec_writing.specs.Writing.{plus}
 use Rattle.per_codec_writing.proofs.AdditionTexts.{adds_few}
+use Rattle.per_codec_limits.specs.Variants.{is_aligned}
 use Rattle.per_codec_writing.proofs.additions.push_presence.Goals as goal
 
 pub returns-then-count-le64 : goal.returns-then-count-le64
@@ -11,5 +12,5 @@ returns-then-count-le64 c =
     let slots = c.args.slots.now in
     let mid = c.push_bits.new.self in
     let all = take_all c.loop-slot.slot-index slots (omega (arith, c.loop-slot-test.false)) in
-    adds_few c.args.aligned (map is_present slots) (length slots) c.args.output.now mid c.loop-slot.output (sym (length-map slots is_present)) c.if-count-ge1.true c.if-count-le64.true c.in_ok-push_bits.ensures.ok
+    adds_few (is_aligned c.args.variant) (map is_present slots) (length slots) c.args.output.now mid c.loop-slot.output (sym (length-map slots is_present)) c.if-count-ge1.true c.if-count-le64.true c.in_ok-push_bits.ensures.ok
     (c.loop-slot.invariant ∙ ap (λ l. plus mid (as_text (map is_present l))) all)

@@ -6,6 +6,7 @@ use Rattle.per_codec_writing.specs.Writing.{place}
 use Rattle.per_codec_writing.proofs.FillingTexts.{adds_same}
 use Rattle.per_codec_writing.proofs.Adding.{refuses_also}
 use Rattle.per_codec_writing.proofs.CharacterStringTexts.{string_of_octets, string_of_codes}
+use Rattle.per_codec_limits.specs.Variants.{is_aligned}
 use Rattle.per_codec_writing.proofs.characters.push_characters.Goals as goal
 
 pub returns-then-is_of_octets : goal.returns-then-is_of_octets
@@ -13,7 +14,7 @@ returns-then-is_of_octets g c =
     let k = g.S.StaticPermittedAlphabet.kind in
     let cs = g.S.StaticPermittedAlphabet.characters c.args.value.now in
     let holds : may_hold k cs ≡ true = g.met.S.StaticPermittedAlphabet.holds cs ∙ c.char_count-count.ensures.permitted in
-    let same = string_of_octets c.args.aligned k (sizes_of c.args.constraints.size) (alphabet_of c.args.constraints.permitted_alphabet) cs (place c.args.output.now) holds (sym c.if-is_of_octets.ensures) in
+    let same = string_of_octets (is_aligned c.args.variant) k (sizes_of c.args.constraints.size) (alphabet_of c.args.constraints.permitted_alphabet) cs (place c.args.output.now) holds (sym c.if-is_of_octets.ensures) in
     adds_same _ _ c.args.output.now c.push_octets.new.output same c.in_ok-push_octets.ensures
 
 pub returns-in_err-push_codes : goal.returns-in_err-push_codes
@@ -22,7 +23,7 @@ returns-in_err-push_codes g c =
     let k = g.S.StaticPermittedAlphabet.kind in
     let cs = g.S.StaticPermittedAlphabet.characters c.args.value.now in
     let holds : may_hold k cs ≡ true = g.met.S.StaticPermittedAlphabet.holds cs ∙ c.char_count-count.ensures.permitted in
-    let same = string_of_codes c.args.aligned k (sizes_of c.args.constraints.size) (alphabet_of c.args.constraints.permitted_alphabet) cs (place c.args.output.now) holds (sym c.if-is_of_octets.ensures) in
+    let same = string_of_codes (is_aligned c.args.variant) k (sizes_of c.args.constraints.size) (alphabet_of c.args.constraints.permitted_alphabet) cs (place c.args.output.now) holds (sym c.if-is_of_octets.ensures) in
     rw (p.1, p.2) (refuses_also _ _ _ (λ e. same ∙ e) c.in_err-push_codes.ensures)
 
 pub returns : goal.returns
@@ -30,5 +31,5 @@ returns g c =
     let k = g.S.StaticPermittedAlphabet.kind in
     let cs = g.S.StaticPermittedAlphabet.characters c.args.value.now in
     let holds : may_hold k cs ≡ true = g.met.S.StaticPermittedAlphabet.holds cs ∙ c.char_count-count.ensures.permitted in
-    let same = string_of_codes c.args.aligned k (sizes_of c.args.constraints.size) (alphabet_of c.args.constraints.permitted_alphabet) cs (place c.args.output.now) holds (sym c.if-is_of_octets.ensures) in
+    let same = string_of_codes (is_aligned c.args.variant) k (sizes_of c.args.constraints.size) (alphabet_of c.args.constraints.permitted_alphabet) cs (place c.args.output.now) holds (sym c.if-is_of_octets.ensures) in
     adds_same _ _ c.args.output.now c.push_codes.new.output same c.in_ok-push_codes.ensures

@@ -1,6 +1,7 @@
 use Rattle.std.proofs.Common.{◌≡◌, ◌+◌, ◌-◌, length, ap, ◌∙◌, arith}
 use Rattle.per_codec_writing.specs.Headings.{count_behind}
 use Rattle.per_codec_writing.proofs.HeadingForms.{fragment_added, last_added}
+use Rattle.per_codec_limits.specs.Variants.{is_aligned}
 use Rattle.per_codec_writing.proofs.counted.push_due.Goals as goal
 
 pub loop-due-preserved : goal.loop-due-preserved
@@ -13,7 +14,7 @@ loop-due-preserved g c =
       within = omega (arith, at.invariant.within, at.invariant.due.all);
       due = record { all = next.due.all ∙ count; ready = next.due.ready };
       rest = λ new r. at.invariant.rest new
-          (fragment_added c.args.aligned us at.from at.due at.invariant.within at.invariant.due c.in_ok-due.due c.in-Some.count at.output c.push_range.new.output c.push_length_determinant.new.output new
+          (fragment_added (is_aligned c.args.variant) us at.from at.due at.invariant.within at.invariant.due c.in_ok-due.due c.in-Some.count at.output c.push_range.new.output c.push_length_determinant.new.output new
           c.in-Some.is c.in_ok-push_range.ensures next.heads r);
     }
 
@@ -21,4 +22,4 @@ pub returns : goal.returns
 returns g c =
     let at = c.loop-due in
     at.invariant.rest c.push_range-2.new.output
-    (last_added c.args.aligned (g.U.Units.forms c.args.units.now) at.from at.due at.invariant.within at.invariant.due at.output c.push_range-2.new.output c.in_default.is c.in_ok-push_range-2.ensures)
+    (last_added (is_aligned c.args.variant) (g.U.Units.forms c.args.units.now) at.from at.due at.invariant.within at.invariant.due at.output c.push_range-2.new.output c.in_default.is c.in_ok-push_range-2.ensures)

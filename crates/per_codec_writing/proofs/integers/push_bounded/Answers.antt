@@ -6,13 +6,14 @@ use Rattle.per_codec_packing.specs.Texts.{as_text}
 use Rattle.per_codec_writing.specs.Writing.{place, plus}
 use Rattle.per_codec_writing.proofs.NumberTexts.{did_same}
 use Rattle.per_codec_writing.proofs.BoundedTexts.{unmarked_text, unmarked_none, did_inside, adds_outside}
+use Rattle.per_codec_limits.specs.Variants.{is_aligned}
 use Rattle.per_codec_writing.proofs.integers.push_bounded.Goals as goal
 
 pub returns-then-not-inside : goal.returns-then-not-inside
 returns-then-not-inside c =
     let number = c.ranges.number in
     let within = simp to_z-of_z at c.contains-inside.ensures in
-    unmarked_none (Per.whole_number c.args.aligned (lower c.args.bounds) (upper c.args.bounds) c.args.number) (Per.unconstrained c.args.aligned c.args.number) c.args.extensible _ (place c.args.output.now) c.if-not-extensible.true (sym within ∙ c.if-not-inside.true)
+    unmarked_none (Per.whole_number (is_aligned c.args.variant) (lower c.args.bounds) (upper c.args.bounds) c.args.number) (Per.unconstrained (is_aligned c.args.variant) c.args.number) c.args.extensible _ (place c.args.output.now) c.if-not-extensible.true (sym within ∙ c.if-not-inside.true)
 
 pub returns-then-not-extensible : goal.returns-then-not-extensible
 returns-then-not-extensible c =
@@ -21,7 +22,7 @@ returns-then-not-extensible c =
     let within = simp to_z-of_z at c.contains-inside.ensures in
     let done = simp to_z-of_z at c.push_root.ensures in
     did_same c.push_root.result _ _ old c.push_root.new.output
-    (unmarked_text (Per.whole_number c.args.aligned (lower c.args.bounds) (upper c.args.bounds) c.args.number) (Per.unconstrained c.args.aligned c.args.number) c.args.extensible _ (place old) c.if-not-extensible.true (sym within ∙ c.if-not-inside.false))
+    (unmarked_text (Per.whole_number (is_aligned c.args.variant) (lower c.args.bounds) (upper c.args.bounds) c.args.number) (Per.unconstrained (is_aligned c.args.variant) c.args.number) c.args.extensible _ (place old) c.if-not-extensible.true (sym within ∙ c.if-not-inside.false))
     done
 
 pub returns-then-inside : goal.returns-then-inside
@@ -30,7 +31,7 @@ returns-then-inside c =
     let number = c.ranges.number in
     let within = simp to_z-of_z at c.contains-inside.ensures in
     let done = simp to_z-of_z at c.push_root-then-inside.ensures in
-    did_inside (Per.whole_number c.args.aligned (lower c.args.bounds) (upper c.args.bounds) c.args.number) (Per.unconstrained c.args.aligned c.args.number) c.push_root-then-inside.result c.args.extensible (admits_number c.args.bounds c.args.number) old c.push.new.self c.push_root-then-inside.new.output c.if-not-extensible.false (sym within ∙ c.if-inside.true)
+    did_inside (Per.whole_number (is_aligned c.args.variant) (lower c.args.bounds) (upper c.args.bounds) c.args.number) (Per.unconstrained (is_aligned c.args.variant) c.args.number) c.push_root-then-inside.result c.args.extensible (admits_number c.args.bounds c.args.number) old c.push.new.self c.push_root-then-inside.new.output c.if-not-extensible.false (sym within ∙ c.if-inside.true)
     (c.in_ok-push.ensures.ok ∙ ap (λ b. plus old (as_text (not b ∷ []))) within)
     done
 
@@ -40,6 +41,6 @@ returns-in_ok-push_unconstrained c =
     let number = c.ranges.number in
     let within = simp to_z-of_z at c.contains-inside.ensures in
     let added = simp to_z-of_z at c.in_ok-push_unconstrained.ensures.written in
-    adds_outside (Per.whole_number c.args.aligned (lower c.args.bounds) (upper c.args.bounds) c.args.number) (Per.unconstrained c.args.aligned c.args.number) c.args.extensible (admits_number c.args.bounds c.args.number) old c.push.new.self c.push_unconstrained.new.output c.if-not-extensible.false (sym within ∙ c.if-inside.false)
+    adds_outside (Per.whole_number (is_aligned c.args.variant) (lower c.args.bounds) (upper c.args.bounds) c.args.number) (Per.unconstrained (is_aligned c.args.variant) c.args.number) c.args.extensible (admits_number c.args.bounds c.args.number) old c.push.new.self c.push_unconstrained.new.output c.if-not-extensible.false (sym within ∙ c.if-inside.false)
     (c.in_ok-push.ensures.ok ∙ ap (λ b. plus old (as_text (not b ∷ []))) within)
     added

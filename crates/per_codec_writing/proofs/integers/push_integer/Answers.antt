@@ -16,6 +16,7 @@ use Rattle.per_codec_writing.specs.Writing.{Adds, place}
 use Rattle.per_codec_writing.proofs.FillingTexts.{adds_same}
 use Rattle.per_codec_writing.proofs.NumberTexts.{Did, did_same}
 use Rattle.per_codec_writing.proofs.BoundedTexts.{unbounded_text, bounded_text, wide_none}
+use Rattle.per_codec_limits.specs.Variants.{is_aligned}
 use Rattle.per_codec_writing.proofs.integers.push_integer.Goals as goal
 
 pub returns-in_default : goal.returns-in_default
@@ -24,14 +25,14 @@ returns-in_default g c =
     let h = g.I.IntegerType.held in
     let old = c.args.output.now in
     let new = c.push_unconstrained.new.output in
-    subst (λ (o : Option (Extensible Value)). Adds (text_at (Per.form c.args.aligned (integer (bounds_of o) (held_of o h)) (number_value v)) (place old)) old new) (sym c.in_default.is)
-    (adds_same _ _ old new (unbounded_text c.args.aligned h v (place old) c.push_unconstrained.ensures.held) c.in_ok-push_unconstrained.ensures.written)
+    subst (λ (o : Option (Extensible Value)). Adds (text_at (Per.form (is_aligned c.args.variant) (integer (bounds_of o) (held_of o h)) (number_value v)) (place old)) old new) (sym c.in_default.is)
+    (adds_same _ _ old new (unbounded_text (is_aligned c.args.variant) h v (place old) c.push_unconstrained.ensures.held) c.in_ok-push_unconstrained.ensures.written)
 
 pub returns-in_default-to_i128 : goal.returns-in_default-to_i128
 returns-in_default-to_i128 g c =
     let v = g.I.IntegerType.value c.args.value.now in
     let h = g.I.IntegerType.held in
-    let al = c.args.aligned in
+    let al = (is_aligned c.args.variant) in
     let old = c.args.output.now in
     subst (λ (o : Option (Extensible Value)). text_at (Per.form al (integer (bounds_of o) (held_of o h)) (number_value v)) (place old) ≡ None) (sym c.in-Some.is)
     (wide_none al c.in-Some.limits h v (place old) (sym c.in_default-to_i128.ensures.fits))
@@ -40,7 +41,7 @@ pub returns : goal.returns
 returns g c =
     let v = g.I.IntegerType.value c.args.value.now in
     let h = g.I.IntegerType.held in
-    let al = c.args.aligned in
+    let al = (is_aligned c.args.variant) in
     let old = c.args.output.now in
     let new = c.push_bounded.new.output in
     let limits = c.in-Some.limits in

@@ -4,11 +4,12 @@ use Rattle.per_codec_packing.specs.Texts.{text_at}
 use Rattle.per_codec_writing.specs.Writing.{Adds, place}
 use Rattle.per_codec_writing.proofs.FillingTexts.{adds_same}
 use Rattle.per_codec_writing.proofs.NumberTexts.{semi_constrained_text}
+use Rattle.per_codec_limits.specs.Variants.{is_aligned}
 use Rattle.per_codec_writing.proofs.integers.push_semi_constrained.Goals as goal
 
 pub returns : goal.returns
 returns c =
     let old = c.args.output.now in
     let new = c.push_counted_octets.new.output in
-    adds_same _ _ old new (semi_constrained_text c.args.aligned c.args.offset (place old))
-    (subst (λ l. Adds (text_at (Per.counted_octets c.args.aligned l) (place old)) old new) (c.as_slice.ensures ∙ c.to_unsigned_bytes_be-octets.ensures.octets) c.in_ok-push_counted_octets.ensures)
+    adds_same _ _ old new (semi_constrained_text (is_aligned c.args.variant) c.args.offset (place old))
+    (subst (λ l. Adds (text_at (Per.counted_octets (is_aligned c.args.variant) l) (place old)) old new) (c.as_slice.ensures ∙ c.to_unsigned_bytes_be-octets.ensures.octets) c.in_ok-push_counted_octets.ensures)

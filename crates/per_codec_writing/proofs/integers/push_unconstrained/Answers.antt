@@ -4,6 +4,7 @@ use Rattle.per_codec_packing.specs.Texts.{text_at}
 use Rattle.per_codec_writing.specs.Writing.{Adds, place}
 use Rattle.per_codec_writing.proofs.FillingTexts.{adds_same}
 use Rattle.per_codec_writing.proofs.NumberTexts.{unconstrained_text}
+use Rattle.per_codec_limits.specs.Variants.{is_aligned}
 use Rattle.per_codec_writing.proofs.integers.push_unconstrained.Goals as goal
 
 pub returns-clause-written : goal.returns-clause-written
@@ -11,5 +12,5 @@ returns-clause-written g c =
     let v = g.I.IntegerType.value c.args.value.now in
     let old = c.args.output.now in
     let new = c.push_counted_octets.new.output in
-    adds_same _ _ old new (unconstrained_text c.args.aligned v (place old))
-    (subst (λ l. Adds (text_at (Per.counted_octets c.args.aligned l) (place old)) old new) (c.as_slice.ensures ∙ c.to_signed_bytes_be-octets.ensures.octets) c.in_ok-push_counted_octets.ensures)
+    adds_same _ _ old new (unconstrained_text (is_aligned c.args.variant) v (place old))
+    (subst (λ l. Adds (text_at (Per.counted_octets (is_aligned c.args.variant) l) (place old)) old new) (c.as_slice.ensures ∙ c.to_signed_bytes_be-octets.ensures.octets) c.in_ok-push_counted_octets.ensures)

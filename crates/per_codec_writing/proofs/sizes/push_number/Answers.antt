@@ -1,10 +1,11 @@
 use Rattle.per_codec_writing.specs.Writing.{place}
 use Rattle.per_codec_writing.proofs.Adding.{raised}
 use Rattle.per_codec_writing.proofs.HeadingTexts.{count_added, count_none}
+use Rattle.per_codec_limits.specs.Variants.{is_aligned}
 use Rattle.per_codec_writing.proofs.sizes.push_number.Goals as goal
 
 pub returns-in_err-push_constrained : goal.returns-in_err-push_constrained
-returns-in_err-push_constrained c = raised _ _ _ _ _ c.from_residual.ensures.1 (count_none c.args.aligned c.args.low c.args.high c.args.count c.args.pads (place c.args.output.now)) c.in_err-push_constrained.ensures
+returns-in_err-push_constrained c = raised _ _ _ _ _ c.from_residual.ensures.1 (count_none (is_aligned c.args.variant) c.args.low c.args.high c.args.count c.args.pads (place c.args.output.now)) c.in_err-push_constrained.ensures
 
 pub returns-in_ok-align : goal.returns-in_ok-align
-returns-in_ok-align c = count_added c.args.aligned c.args.low c.args.high c.args.count c.args.pads c.args.output.now c.push_constrained.new.output c.align.new.output c.if-pads.true c.in_ok-push_constrained.ensures c.in_ok-align.ensures
+returns-in_ok-align c = count_added (is_aligned c.args.variant) c.args.low c.args.high c.args.count c.args.pads c.args.output.now c.push_constrained.new.output c.align.new.output c.if-pads.true c.in_ok-push_constrained.ensures c.in_ok-align.ensures

@@ -6,6 +6,7 @@ use Rattle.per_codec_packing.specs.Texts.{text_at}
 use Rattle.per_codec_writing.specs.Writing.{Adds, place}
 use Rattle.per_codec_writing.proofs.FillingTexts.{adds_same}
 use Rattle.per_codec_writing.proofs.StringTexts.{utf8_text}
+use Rattle.per_codec_limits.specs.Variants.{is_aligned}
 use Rattle.per_codec_writing.proofs.texts.push_utf8.Goals as goal
 
 pub returns : goal.returns
@@ -13,5 +14,5 @@ returns c =
     let old = c.args.output.now in
     let new = c.push_counted_octets.new.output in
     let os = c.args.value.now in
-    adds_same _ _ old new (utf8_text c.args.aligned (sizes_of c.args._constraints.size) (alphabet_of c.args._constraints.permitted_alphabet) os (place old) ((utf8_is_text os).1 c.utf8.value))
-    (subst (λ l. Adds (text_at (Per.counted_octets c.args.aligned l) (place old)) old new) c.as_bytes.ensures.value c.in_ok-push_counted_octets.ensures)
+    adds_same _ _ old new (utf8_text (is_aligned c.args.variant) (sizes_of c.args._constraints.size) (alphabet_of c.args._constraints.permitted_alphabet) os (place old) ((utf8_is_text os).1 c.utf8.value))
+    (subst (λ l. Adds (text_at (Per.counted_octets (is_aligned c.args.variant) l) (place old)) old new) c.as_bytes.ensures.value c.in_ok-push_counted_octets.ensures)

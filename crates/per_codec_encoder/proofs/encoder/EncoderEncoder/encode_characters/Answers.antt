@@ -4,13 +4,14 @@ use Rattle.asn1_schema_constraints.specs.Terms.{sizes_of, alphabet_of}
 use Rattle.asn1_schema_presented.specs.Records.{characters}
 use Rattle.asn1_schema_presented.proofs.Joined.{raised}
 use Rattle.per_codec_encoder.proofs.Stepped.{adds_sound, adds_puts, form_refused}
+use Rattle.per_codec_limits.specs.Variants.{is_aligned}
 use Rattle.per_codec_encoder.proofs.encoder.EncoderEncoder.encode_characters.Goals as goal
 
 pub invariant_of-self-2 : goal.invariant_of-self-2
-invariant_of-self-2 g c _ = adds_sound c.self.inside.aligned (characters g.S.StaticPermittedAlphabet.kind (sizes_of c.args.constraints.size) (alphabet_of c.args.constraints.permitted_alphabet) any_count (g.S.StaticPermittedAlphabet.characters c.args.value.now)) _ c.self.inside.frames c.self.inside.output c.push_characters.new.output (λ s. refl) (c.self.invariant c.if-self.false) c.in_ok-push_characters.ensures
+invariant_of-self-2 g c _ = adds_sound (is_aligned c.self.inside.variant) (characters g.S.StaticPermittedAlphabet.kind (sizes_of c.args.constraints.size) (alphabet_of c.args.constraints.permitted_alphabet) any_count (g.S.StaticPermittedAlphabet.characters c.args.value.now)) _ c.self.inside.frames c.self.inside.output c.push_characters.new.output (λ s. refl) (c.self.invariant c.if-self.false) c.in_ok-push_characters.ensures
 
 pub returns-clause-ok : goal.returns-clause-ok
-returns-clause-ok g c = adds_puts c.self.inside.aligned (characters g.S.StaticPermittedAlphabet.kind (sizes_of c.args.constraints.size) (alphabet_of c.args.constraints.permitted_alphabet) any_count (g.S.StaticPermittedAlphabet.characters c.args.value.now)) _ c.self.inside.frames c.self.inside.output c.push_characters.new.output c.self.inside.failed c.args.self.now (λ s. refl) c.self.view_is c.if-self.false (c.self.invariant c.if-self.false) c.in_ok-push_characters.ensures
+returns-clause-ok g c = adds_puts (is_aligned c.self.inside.variant) (characters g.S.StaticPermittedAlphabet.kind (sizes_of c.args.constraints.size) (alphabet_of c.args.constraints.permitted_alphabet) any_count (g.S.StaticPermittedAlphabet.characters c.args.value.now)) _ c.self.inside.frames c.self.inside.output c.push_characters.new.output c.self.inside.failed c.args.self.now (λ s. refl) c.self.view_is c.if-self.false (c.self.invariant c.if-self.false) c.in_ok-push_characters.ensures
 
 pub returns-in_err-push_characters-clause-only : goal.returns-in_err-push_characters-clause-only
-returns-in_err-push_characters-clause-only g c = raised _ _ _ c.from_residual.ensures.1 (form_refused c.self.inside.aligned (characters g.S.StaticPermittedAlphabet.kind (sizes_of c.args.constraints.size) (alphabet_of c.args.constraints.permitted_alphabet) any_count (g.S.StaticPermittedAlphabet.characters c.args.value.now)) _ c.self.inside.frames c.self.inside.output c.self.inside.failed c.args.self.now _ (λ s. refl) c.self.view_is (c.self.invariant c.if-self.false) c.in_err-push_characters.ensures)
+returns-in_err-push_characters-clause-only g c = raised _ _ _ c.from_residual.ensures.1 (form_refused (is_aligned c.self.inside.variant) (characters g.S.StaticPermittedAlphabet.kind (sizes_of c.args.constraints.size) (alphabet_of c.args.constraints.permitted_alphabet) any_count (g.S.StaticPermittedAlphabet.characters c.args.value.now)) _ c.self.inside.frames c.self.inside.output c.self.inside.failed c.args.self.now _ (λ s. refl) c.self.view_is (c.self.invariant c.if-self.false) c.in_err-push_characters.ensures)

@@ -4,10 +4,11 @@ use Rattle.asn1_model.specs.Types.{any_count}
 use Rattle.asn1_schema_constraints.specs.Terms.{sizes_of, alphabet_of}
 use Rattle.asn1_schema_presented.specs.Records.{characters}
 use Rattle.per_codec_encoder.proofs.Stepped.{adds_sound, adds_puts}
+use Rattle.per_codec_limits.specs.Variants.{is_aligned}
 use Rattle.per_codec_encoder.proofs.encoder.EncoderEncoder.encode_utf8_string.Goals as goal
 
 pub invariant_of-self-2 : goal.invariant_of-self-2
-invariant_of-self-2 c _ = adds_sound c.self.inside.aligned (characters utf8 (sizes_of c.args.constraints.size) (alphabet_of c.args.constraints.permitted_alphabet) any_count c.args.value.now) _ c.self.inside.frames c.self.inside.output c.push_utf8.new.output (λ s. refl) (c.self.invariant c.if-self.false) c.in_ok-push_utf8.ensures
+invariant_of-self-2 c _ = adds_sound (is_aligned c.self.inside.variant) (characters utf8 (sizes_of c.args.constraints.size) (alphabet_of c.args.constraints.permitted_alphabet) any_count c.args.value.now) _ c.self.inside.frames c.self.inside.output c.push_utf8.new.output (λ s. refl) (c.self.invariant c.if-self.false) c.in_ok-push_utf8.ensures
 
 pub returns-clause-ok : goal.returns-clause-ok
-returns-clause-ok c = adds_puts c.self.inside.aligned (characters utf8 (sizes_of c.args.constraints.size) (alphabet_of c.args.constraints.permitted_alphabet) any_count c.args.value.now) _ c.self.inside.frames c.self.inside.output c.push_utf8.new.output c.self.inside.failed c.args.self.now (λ s. refl) c.self.view_is c.if-self.false (c.self.invariant c.if-self.false) c.in_ok-push_utf8.ensures
+returns-clause-ok c = adds_puts (is_aligned c.self.inside.variant) (characters utf8 (sizes_of c.args.constraints.size) (alphabet_of c.args.constraints.permitted_alphabet) any_count c.args.value.now) _ c.self.inside.frames c.self.inside.output c.push_utf8.new.output c.self.inside.failed c.args.self.now (λ s. refl) c.self.view_is c.if-self.false (c.self.invariant c.if-self.false) c.in_ok-push_utf8.ensures

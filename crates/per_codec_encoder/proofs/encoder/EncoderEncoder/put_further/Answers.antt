@@ -1,15 +1,16 @@
 use Rattle.std.proofs.lemmas.Result.{err_from_is_err_and}
 use Rattle.asn1_schema_presented.specs.Records.{further}
 use Rattle.per_codec_encoder.proofs.Stepped.{stays_sound, puts, is_refused}
+use Rattle.per_codec_limits.specs.Variants.{is_aligned}
 use Rattle.per_codec_encoder.proofs.encoder.EncoderEncoder.put_further.Goals as goal
 
 pub invariant_of-self-2 : goal.invariant_of-self-2
-invariant_of-self-2 c _ = stays_sound c.self.inside.aligned _ c.self.inside.frames c.put_further.new.frames c.self.inside.output c.put_further.new.output (c.self.invariant c.if-self.false) c.in_ok-put_further.ensures
+invariant_of-self-2 c _ = stays_sound (is_aligned c.self.inside.variant) _ c.self.inside.frames c.put_further.new.frames c.self.inside.output c.put_further.new.output (c.self.invariant c.if-self.false) c.in_ok-put_further.ensures
 
 pub returns-clause-ok : goal.returns-clause-ok
-returns-clause-ok c = puts c.self.inside.aligned _ c.self.inside.frames c.put_further.new.frames c.self.inside.output c.put_further.new.output c.self.inside.failed c.args.self.now c.self.view_is c.if-self.false (c.self.invariant c.if-self.false) c.in_ok-put_further.ensures
+returns-clause-ok c = puts (is_aligned c.self.inside.variant) _ c.self.inside.frames c.put_further.new.frames c.self.inside.output c.put_further.new.output c.self.inside.failed c.args.self.now c.self.view_is c.if-self.false (c.self.invariant c.if-self.false) c.in_ok-put_further.ensures
 
 pub returns-in_err-put_further-clause-only : goal.returns-in_err-put_further-clause-only
 returns-in_err-put_further-clause-only c =
     let p = err_from_is_err_and c.from_residual.result c.from_residual.ensures.1 in
-    rw (p.1, p.2) (is_refused c.self.inside.aligned (further c.args.more) c.self.inside.frames c.self.inside.output c.self.inside.failed c.args.self.now _ c.self.view_is (c.self.invariant c.if-self.false) c.in_err-put_further.ensures)
+    rw (p.1, p.2) (is_refused (is_aligned c.self.inside.variant) (further c.args.more) c.self.inside.frames c.self.inside.output c.self.inside.failed c.args.self.now _ c.self.view_is (c.self.invariant c.if-self.false) c.in_err-put_further.ensures)

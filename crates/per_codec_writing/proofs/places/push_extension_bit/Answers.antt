@@ -1,5 +1,5 @@
 use Rattle.per_codec_writing.proofs.PlaceTexts.{no_mark, adds_mark}
-use Rattle.per_codec_writing.proofs.places.push_mark.Goals as goal
+use Rattle.per_codec_writing.proofs.places.push_extension_bit.Goals as goal
 
 pub returns-then-not-extensible : goal.returns-then-not-extensible
 returns-then-not-extensible c = no_mark c.args.extensible c.args.mark c.args.output.now c.if-not-extensible.true
