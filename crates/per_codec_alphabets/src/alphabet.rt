@@ -5,12 +5,14 @@ ghost use Rattle.asn1_model.specs.Per.{character_bits, raised};
 ghost use Rattle.asn1_model.specs.Strings.{how_many, largest};
 ghost use Rattle.per_codec_alphabets.specs.Codes.{runs_of, code_of, SameCharacters};
 ghost use Rattle.per_codec_alphabets.specs.Held.{held_runs, permitted_by};
+ghost use Rattle.per_codec_limits.specs.Variants.{is_aligned};
 
 use crate::runs::{
     CharacterRun, character_at, count, kept_runs, last_character, own_runs, place_among,
 };
 use asn1_schema_constraints::{Extensible, PermittedAlphabet};
 use asn1_values_alphabets::StaticPermittedAlphabet;
+use per_codec_limits::Variant;
 use std::alloc::{AllocError, Global};
 use std::marker::Model;
 
@@ -48,9 +50,9 @@ impl Model for EffectiveAlphabet {
 }
 
 impl EffectiveAlphabet {
-    /// The characters of the type `S` under a permitted alphabet, if there is one and it has no mark of extensibility.
+    /// The characters of the type `S` under a permitted alphabet, if there is one and it has no extension marker.
     ///
-    /// Where `aligned` is true a code takes 1, 2, 4, 8 or 16 bits, or none (X.691 30.5.2). Memory is taken only under a
+    /// In the aligned variant a code takes 1, 2, 4, 8 or 16 bits, or none (X.691 30.5.2). Memory is taken only under a
     /// constraint that counts: once, and again to put characters that it does not list in ascending order into that.
     ///
     /// # Errors
@@ -58,14 +60,15 @@ impl EffectiveAlphabet {
     /// Want of memory.
     pub fn new<S: StaticPermittedAlphabet>(
         alloc: Global,
-        aligned: bool,
+        variant: Variant,
         constraint: Option<Extensible<PermittedAlphabet>>,
     ) -> Result<Self, AllocError>
         ensures characters { IfOk result (λ a. SameCharacters a.runs (permitted_by S.kind constraint.entry)) }
-        ensures width { IfOk result (λ a. a.code_bits ≡ character_bits aligned (permitted_by S.kind constraint.entry)) }
+        ensures width { IfOk result (λ a. a.code_bits
+            ≡ character_bits (is_aligned variant) (permitted_by S.kind constraint.entry)) }
     {
         let runs = permitted_runs::<S>(alloc, constraint)?;
-        let width = bits_of_codes(runs.as_slice(), aligned);
+        let width = bits_of_codes(runs.as_slice(), variant);
         Ok(EffectiveAlphabet {
             is_by_number: is_below(runs.as_slice(), width),
             width,
@@ -171,13 +174,16 @@ fn raised_bits(bits: u32) -> u32
 }
 
 /// The bits of a code among so many characters (X.691 30.5.2).
-fn bits_of_codes(runs: &[CharacterRun], aligned: bool) -> u32
+fn bits_of_codes(runs: &[CharacterRun], variant: Variant) -> u32
     requires { how_many (runs_of runs.now) < 2 ^ 64 }
-    ensures width { result ≡ character_bits aligned (runs_of runs.now) }
+    ensures width { result ≡ character_bits (is_aligned variant) (runs_of runs.now) }
     ensures narrow { result ≤ 64 }
 {
     let fewest = bits_of(count(runs).saturating_sub(1));
-    if aligned { raised_bits(fewest) } else { fewest }
+    match variant {
+        Variant::Unaligned => fewest,
+        Variant::Aligned => raised_bits(fewest),
+    }
 }
 
 /// Whether the largest of the characters is below 2 to the width.

@@ -10,7 +10,7 @@ use Rattle.asn1_laws_fronts.proofs.PerNumbers.{Alike, at_octet_alike, bits_apart
 use Rattle.asn1_schema_faults.specs.declared.DecodeError.{DecodeError}
 use Rattle.asn1_schema_faults.specs.declared.DecodeError.TheVariants.{OutOfMemory, AlreadyFailed}
 use Rattle.per_codec_fronts.specs.Sizes.{extension_bit, told_highest}
-use Rattle.per_codec_fronts.specs.Takes.{Place, Tally, Scope, members, State, Front, InPlace, Admits, in_all, with_fragment, Header, Counted, MemberDue, NextMember}
+use Rattle.per_codec_fronts.specs.Takes.{Place, Tally, Scope, members, State, Front, InPlace, Admits, in_all, with_fragment, NextDeterminant, Counted, MemberDue, NextMember}
 use Rattle.per_codec_fronts.proofs.Fronts.{if_in, if_out, split, join, of_refused}
 use Rattle.per_codec_fronts.proofs.Next.{same_fronts, same_extension_bit}
 use Rattle.per_codec_reading.specs.Fronts.{NoneStands, Misses}
@@ -21,7 +21,7 @@ use Rattle.per_codec_reading.specs.Sizes.{admitted, determinant_form, heading_fo
 use Rattle.per_codec_reading.specs.declared.sizes.Heading.{Heading}
 use Rattle.per_codec_reading.specs.declared.sizes.LengthDeterminant.{LengthDeterminant}
 use Rattle.per_codec_reading.specs.declared.sizes.LengthDeterminant.TheVariants.{Constrained, General}
-use Rattle.per_codec_decoder.specs.Members.{HasMembers, NoMembers, NoHeader, NoFurther}
+use Rattle.per_codec_decoder.specs.Members.{HasMembers, NoMembers, NoDeterminant, NoFurther}
 
 -- want of memory aside, what is missed does not stand in front
 pub missed : {X : Type 0} (free : Per.Freedom → Bool) (f : X → Per.BitForm) (a : Place) (e : DecodeError) → Misses free f a e → ¬ (e ≡ OutOfMemory) → NoneStands free f a
@@ -47,7 +47,7 @@ told_inside false (Some y) x e = (refl, go (ltb y 65536) e)
     go false e = cc
 
 module _ (free : Per.Freedom → Bool) (al : Bool) where
-  -- ---- headers
+  -- ---- length determinants
   apart_from_last : (m n : ℕ) (b : Bool) → Alike free (exactly (true ∷ true ∷ binary 6 m)) (cond b (only_if (ltb n 16384) (exactly (true ∷ false ∷ binary 14 n))) (only_if (ltb n 128) (exactly (false ∷ binary 7 n)))) ⊥
   apart_from_last m n true = agree_if_right free (ltb n 16384) {x = exactly (true ∷ true ∷ binary 6 m)} {y = exactly (true ∷ false ∷ binary 14 n)} (λ h. agree_first free (λ e. bits_apart free))
   apart_from_last m n false = agree_if_right free (ltb n 128) {x = exactly (true ∷ true ∷ binary 6 m)} {y = exactly (false ∷ binary 7 n)} (λ h. bits_apart free)
@@ -56,15 +56,15 @@ module _ (free : Per.Freedom → Bool) (al : Bool) where
   unfolding Per.short_length
   fragment_or_last m n = at_octet_alike free al (agree_varied_right free (λ b. apart_from_last m n b))
 
-  pub no_header : (t : Tally) (a : Place) (e : DecodeError) → Misses free (length_form al) a e → NoHeader al free t a e
-  no_header t a e m = record { none = λ i b due hs g. go i b due hs g }
+  pub no_determinant : (t : Tally) (a : Place) (e : DecodeError) → Misses free (length_form al) a e → NoDeterminant al free t a e
+  no_determinant t a e m = record { none = λ i b due hs g. go i b due hs g }
     where
-      go : ¬ (e ≡ OutOfMemory) → (b : Place) (due : ℕ) (hs : Option Tally) → Header al free t a b due hs → ⊥
+      go : ¬ (e ≡ OutOfMemory) → (b : Place) (due : ℕ) (hs : Option Tally) → NextDeterminant al free t a b due hs → ⊥
       go i b due hs (inl x) = missed free (length_form al) a e m i (Fragment x.0) b (if_in free (leb 1 x.0 && leb x.0 4) (Per.at_octet al (exactly (true ∷ true ∷ binary 6 x.0))) a b x.1 x.2)
       go i b due hs (inr x) = missed free (length_form al) a e m i (Short due) b x.2
 
-  pub fragment_header : (t u : Tally) (a b : Place) (m : ℕ) → Front free (length_form al (Fragment m)) a b → u ≡ with_fragment m t → Header al free t a b (m * 16384) (Some u)
-  fragment_header t u a b m f e = let g = if_out free (leb 1 m && leb m 4) (Per.at_octet al (exactly (true ∷ true ∷ binary 6 m))) a b f in inl (m, g.0, g.1, refl, ap (λ (v : Tally). Some v) e)
+  pub fragment_determinant : (t u : Tally) (a b : Place) (m : ℕ) → Front free (length_form al (Fragment m)) a b → u ≡ with_fragment m t → NextDeterminant al free t a b (m * 16384) (Some u)
+  fragment_determinant t u a b m f e = let g = if_out free (leb 1 m && leb m 4) (Per.at_octet al (exactly (true ∷ true ∷ binary 6 m))) a b f in inl (m, g.0, g.1, refl, ap (λ (v : Tally). Some v) e)
 
   in_place : (out t : Bool) → IsTrue (free Per.root_marked_outside) → (out || t) ≡ true → InPlace free out t
   in_place false t f e = e
@@ -77,15 +77,15 @@ module _ (free : Per.Freedom → Bool) (al : Bool) where
   abbrev pub MayBe : Tally → ℕ → Type 0
   MayBe t n = admitted t.held t.size.counts t.outside n ≡ true
 
-  pub last_header : (t : Tally) (a b : Place) (n : ℕ) → IsTrue (free Per.root_marked_outside) → IsTrue (free Per.other_fragments) → Front free (Per.short_length al n) a b → MayBe t (in_all t.sizes n) → Header al free t a b n None
-  last_header t a b n f o g m =
+  pub last_determinant : (t : Tally) (a b : Place) (n : ℕ) → IsTrue (free Per.root_marked_outside) → IsTrue (free Per.other_fragments) → Front free (Per.short_length al n) a b → MayBe t (in_all t.sizes n) → NextDeterminant al free t a b n None
+  last_determinant t a b n f o g m =
       let p = and_parts (is_count_within t.held (in_all t.sizes n)) (t.outside || is_count_within t.size.counts (in_all t.sizes n)) m in
       inr ((p.0, in_place t.outside (is_count_within t.size.counts (in_all t.sizes n)) f p.1), inr o, g, refl)
 
-  pub other_last : (t : Tally) (a b : Place) (n : ℕ) (e : DecodeError) → Front free (Per.short_length al n) a b → (MayBe t (in_all t.sizes n) → ⊥) → NoHeader al free t a e
+  pub other_last : (t : Tally) (a b : Place) (n : ℕ) (e : DecodeError) → Front free (Per.short_length al n) a b → (MayBe t (in_all t.sizes n) → ⊥) → NoDeterminant al free t a e
   other_last t a b n e f w = record { none = λ i c due hs g. go c due hs g }
     where
-      go : (c : Place) (due : ℕ) (hs : Option Tally) → Header al free t a c due hs → ⊥
+      go : (c : Place) (due : ℕ) (hs : Option Tally) → NextDeterminant al free t a c due hs → ⊥
       go c due hs (inl x) = (same_fronts free (fragment_or_last x.0 n) a c b x.2 f).0
       go c due hs (inr x) =
           let q = same_fronts free (short_length_alike free al n due) a b c f x.2 in
@@ -93,8 +93,8 @@ module _ (free : Per.Freedom → Bool) (al : Bool) where
           let g : Admits free t.size t.held t.outside (in_all t.sizes n) = subst (λ k. Admits free t.size t.held t.outside (in_all t.sizes k)) (sym j) x.0 in
           w (and_from _ _ g.0 (out_of_place t.outside (is_count_within t.size.counts (in_all t.sizes n)) g.1))
 
-  -- where no member is due behind a header, none stands behind these
-  pub last_of : (t : Tally) (a b : Place) (due : ℕ) (hs : Option Tally) → Header al free t a b due hs → due ≡ 0 → hs ≡ None
+  -- where no member is due behind a length determinant, none stands behind these
+  pub last_of : (t : Tally) (a b : Place) (due : ℕ) (hs : Option Tally) → NextDeterminant al free t a b due hs → due ≡ 0 → hs ≡ None
   last_of t a b due hs (inl x) e =
       let m = leb-true 1 x.0 ((and_parts (leb 1 x.0) (leb x.0 4) x.1).0) in
       let d = x.3 in
@@ -102,10 +102,10 @@ module _ (free : Per.Freedom → Bool) (al : Bool) where
   last_of t a b due hs (inr x) e = x.3
 
   -- ---- members that are due
-  pub headed : (t : Tally) (v : Bool) (n : ℕ) (hs : Option Tally) (a mid : Place) (k : List Scope) (b : State) (due : ℕ) (ts : Option Tally) → n ≡ 0 → hs ≡ Some t → Header al free t a mid due ts → MemberDue v due ts mid k b → NextMember al free v a (members n hs ∷ k) b
+  pub headed : (t : Tally) (v : Bool) (n : ℕ) (hs : Option Tally) (a mid : Place) (k : List Scope) (b : State) (due : ℕ) (ts : Option Tally) → n ≡ 0 → hs ≡ Some t → NextDeterminant al free t a mid due ts → MemberDue v due ts mid k b → NextMember al free v a (members n hs ∷ k) b
   headed t v n hs a mid k b due ts z s h m = subst (λ i. NextMember al free v a (members i hs ∷ k) b) (sym z) (subst (λ o. NextMember al free v a (members zero o ∷ k) b) (sym s) (due, ts, mid, h, m))
 
-  pub no_further : (t : Tally) (n : ℕ) (hs : Option Tally) (a : Place) (k : List Scope) (e : DecodeError) → n ≡ 0 → hs ≡ Some t → NoHeader al free t a e → NoFurther al free a (members n hs ∷ k) e
+  pub no_further : (t : Tally) (n : ℕ) (hs : Option Tally) (a : Place) (k : List Scope) (e : DecodeError) → n ≡ 0 → hs ≡ Some t → NoDeterminant al free t a e → NoFurther al free a (members n hs ∷ k) e
   no_further t n hs a k e z s h = record {
     none = λ i v b g.
         let f : NextMember al free v a (members zero (Some t) ∷ k) b = subst (λ o. NextMember al free v a (members zero o ∷ k) b) s (subst (λ j. NextMember al free v a (members j hs ∷ k) b) z g) in
@@ -141,23 +141,23 @@ module _ (free : Per.Freedom → Bool) (al : Bool) where
           (n, (p.0, i), (if_out free (leb z.counts.low n && leb n x) _ mid b f).1, refl)
 
   -- or the length of a fragment or a last one
-  pub headed_by : (z : Size) (h : Counts) (hd : Heading) (l : Length) (ss : List ℕ) (due : ℕ) (hs : Option Tally) (a b : Place) → hd.determinant ≡ General l → ss ≡ [] → First z hd a b → ((c : Place) → Front free (length_form al l) c b → Header al free (record { size = z; held = h; outside = hd.is_outside; sizes = ss }) c b due hs) → HasMembers al free z h due hs a b
+  pub headed_by : (z : Size) (h : Counts) (hd : Heading) (l : Length) (ss : List ℕ) (due : ℕ) (hs : Option Tally) (a b : Place) → hd.determinant ≡ General l → ss ≡ [] → First z hd a b → ((c : Place) → Front free (length_form al l) c b → NextDeterminant al free (record { size = z; held = h; outside = hd.is_outside; sizes = ss }) c b due hs) → HasMembers al free z h due hs a b
   headed_by z h hd l ss due hs a b e q f g =
       let s = parts_of z hd (General l) a b e f in
       (hd.is_outside, s.0, s.1, go (Told z hd.is_outside) s.0 s.2)
     where
       go : (told : Option ℕ) (mid : Place) → Front free (determinant_form al z.counts told (General l)) mid b → (k : List Scope) → Counted al free z h hd.is_outside told mid k (b, members due hs ∷ k)
-      go None mid f k = (due, hs, subst (λ (t : List ℕ). Header al free (record { size = z; held = h; outside = hd.is_outside; sizes = t }) mid b due hs) q (g mid f), refl)
+      go None mid f k = (due, hs, subst (λ (t : List ℕ). NextDeterminant al free (record { size = z; held = h; outside = hd.is_outside; sizes = t }) mid b due hs) q (g mid f), refl)
       go (Some x) mid f k = absurd (of_refused free mid b f)
 
   -- ---- why nothing does
   -- a length determinant is the first thing behind an extension bit
   counted_headed : (z : Size) (h : Counts) (out : Bool) (told : Option ℕ) (mid : Place) (k : List Scope) (b : State) → told_highest out z.counts.high ≡ told → Counted al free z h out told mid k b → (d : LengthDeterminant) × Front free (determinant_form al z.counts told d) mid b.0
-  counted_headed z h out None mid k b t g = by_header g.0 g.1 g.2
+  counted_headed z h out None mid k b t g = by_determinant g.0 g.1 g.2
     where
-      by_header : (due : ℕ) (hs : Option Tally) → Header al free (begun z h out) mid b.0 due hs → (d : LengthDeterminant) × Front free (determinant_form al z.counts None d) mid b.0
-      by_header due hs (inl x) = (General (Fragment x.0), if_in free (leb 1 x.0 && leb x.0 4) (Per.at_octet al (exactly (true ∷ true ∷ binary 6 x.0))) mid b.0 x.1 x.2)
-      by_header due hs (inr x) = (General (Short due), x.2)
+      by_determinant : (due : ℕ) (hs : Option Tally) → NextDeterminant al free (begun z h out) mid b.0 due hs → (d : LengthDeterminant) × Front free (determinant_form al z.counts None d) mid b.0
+      by_determinant due hs (inl x) = (General (Fragment x.0), if_in free (leb 1 x.0 && leb x.0 4) (Per.at_octet al (exactly (true ∷ true ∷ binary 6 x.0))) mid b.0 x.1 x.2)
+      by_determinant due hs (inr x) = (General (Short due), x.2)
   counted_headed z h out (Some x) mid k b t g =
       let p = between z.counts x g.0 ((told_inside out z.counts.high x t).1) g.1.1 in
       (Constrained g.0, if_in free (leb z.counts.low g.0 && leb g.0 x) _ mid b.0 (and_from _ _ (le-leb _ _ p.0) (le-leb _ _ p.1)) g.2)
@@ -199,13 +199,13 @@ module _ (free : Per.Freedom → Bool) (al : Bool) where
           let v = subst (λ m. Admits free z h false m) y g.1 in
           untrue (w ∙ and_from (is_count_within h n) (hd.is_outside || is_count_within z.counts n) v.0 (or_right hd.is_outside (is_count_within z.counts n) v.1))
 
-  pub no_list_header : (z : Size) (h : Counts) (hd : Heading) (l : Length) (ss : List ℕ) (a b : Place) (e : DecodeError) → hd.determinant ≡ General l → ss ≡ [] → First z hd a b → ((c : Place) → Front free (length_form al l) c b → NoHeader al free (record { size = z; held = h; outside = hd.is_outside; sizes = ss }) c e) → NoMembers al free z h a e
-  no_list_header z h hd l ss a b e d q f n =
+  pub no_list_determinant : (z : Size) (h : Counts) (hd : Heading) (l : Length) (ss : List ℕ) (a b : Place) (e : DecodeError) → hd.determinant ≡ General l → ss ≡ [] → First z hd a b → ((c : Place) → Front free (length_form al l) c b → NoDeterminant al free (record { size = z; held = h; outside = hd.is_outside; sizes = ss }) c e) → NoMembers al free z h a e
+  no_list_determinant z h hd l ss a b e d q f n =
       let s = parts_of z hd (General l) a b d f in
       record { none = λ i j k c g. go i (Told z hd.is_outside) s.0 s.2 k c (same_bit z h hd.is_outside g.1 a s.0 g.2 k c s.1 g.3 g.4) }
     where
       go : ¬ (e ≡ OutOfMemory) → (told : Option ℕ) (mid : Place) → Front free (determinant_form al z.counts told (General l)) mid b → (k : List Scope) (c : State) → Counted al free z h hd.is_outside told mid k c → ⊥
       go i None mid f k c g =
-          let m : NoHeader al free (begun z h hd.is_outside) mid e = subst (λ (t : List ℕ). NoHeader al free (record { size = z; held = h; outside = hd.is_outside; sizes = t }) mid e) q (n mid f) in
+          let m : NoDeterminant al free (begun z h hd.is_outside) mid e = subst (λ (t : List ℕ). NoDeterminant al free (record { size = z; held = h; outside = hd.is_outside; sizes = t }) mid e) q (n mid f) in
           m.none i c.0 g.0 g.1 g.2
       go i (Some x) mid f k c g = of_refused free mid b f

@@ -46,11 +46,11 @@ joined_bits (Some x) ms = refl
 pub preamble : (free : Per.Freedom → Bool) (e : Bool) (n : ℕ) (x : Option Bool) (ms : List Bool) (a m b : Place) → is_present x ≡ e → Leads (preamble_bits x []) a m → Leads ms m b → length ms ≡ n → HasPreamble free e n (components x ms) a b
 preamble free e n x ms a m b p h k l = (p, l, subst (λ w. Front free (exactly w) a b) (joined_bits x ms) (front_of free (preamble_bits x [] ++ ms) a b (leads_join (preamble_bits x []) ms a m b h k)))
 
-behind_mark : (x y : Option Bool) (ms : List Bool) (a m b : Place) → is_present x ≡ is_present y → Leads (preamble_bits x []) a m → Leads (preamble_bits y ms) a b → Leads ms m b
-behind_mark None (Some v) ms a m b p l h = cc
-behind_mark (Some u) None ms a m b p l h = cc
-behind_mark None None ms a m b p l h = let i = l.1 in let j = h.1 in (h.0 ∙ sym l.0, omega (arith, i, j))
-behind_mark (Some u) (Some v) ms a m b p l h =
+behind_extension_bit : (x y : Option Bool) (ms : List Bool) (a m b : Place) → is_present x ≡ is_present y → Leads (preamble_bits x []) a m → Leads (preamble_bits y ms) a b → Leads ms m b
+behind_extension_bit None (Some v) ms a m b p l h = cc
+behind_extension_bit (Some u) None ms a m b p l h = cc
+behind_extension_bit None None ms a m b p l h = let i = l.1 in let j = h.1 in (h.0 ∙ sym l.0, omega (arith, i, j))
+behind_extension_bit (Some u) (Some v) ms a m b p l h =
     let e : v ∷ (ms ++ b.1) ≡ u ∷ m.1 = h.0 ∙ sym l.0 in
     let t : ms ++ b.1 ≡ m.1 = cc in
     let i = l.1 in
@@ -58,7 +58,7 @@ behind_mark (Some u) (Some v) ms a m b p l h =
     (t, omega (arith, i, j))
 
 pub no_presence : (free : Per.Freedom → Bool) (e : Bool) (n : ℕ) (x : Option Bool) (a m : Place) (s : Scope) (b : Place) → is_present x ≡ e → Leads (preamble_bits x []) a m → NoneStands free (bits_form n) m → HasPreamble free e n s a b → ⊥
-no_presence free e n x a m (components y ms) b p l none h = none ms b (bits_read free n ms m b h.1 (behind_mark x y ms a m b (p ∙ sym h.0) l (leads_of free (preamble_bits y ms) a b h.2)))
+no_presence free e n x a m (components y ms) b p l none h = none ms b (bits_read free n ms m b h.1 (behind_extension_bit x y ms a m b (p ∙ sym h.0) l (leads_of free (preamble_bits y ms) a b h.2)))
 no_presence free e n x a m s b p l none h = h
 
 pub missing_bit : (free : Per.Freedom → Bool) (e : Bool) (n : ℕ) (s : Scope) (a b : Place) → e ≡ true → a.1 ≡ [] → HasPreamble free e n s a b → ⊥

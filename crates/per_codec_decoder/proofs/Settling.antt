@@ -8,7 +8,7 @@ use Rattle.asn1_schema_decode.specs.Reads.{NoRecord}
 use Rattle.asn1_schema_faults.specs.declared.DecodeError.{DecodeError}
 use Rattle.asn1_schema_presented.specs.Records.{Record, Question, question, further, asks_characters}
 use Rattle.per_codec_fronts.specs.Sizes.{told_highest}
-use Rattle.per_codec_fronts.specs.Takes.{Place, Scope, members, State, Tally, Front, Found, Header, Counted, NextMember, MemberDue, completion, Takes}
+use Rattle.per_codec_fronts.specs.Takes.{Place, Scope, members, State, Tally, Front, Found, NextDeterminant, Counted, NextMember, MemberDue, completion, Takes}
 use Rattle.per_codec_reading.specs.Fronts.{freedoms, is_aligned, Leads, Misses}
 use Rattle.per_codec_reading.specs.Runs.{Storage}
 use Rattle.per_codec_reading.proofs.Fronts.{leads_join}
@@ -81,9 +81,9 @@ module _ (free : Per.Freedom → Bool) (al : Bool) where
   led : (x : Per.BitForm) (a b : Place) → Front free x a b → Led a b
   led x a b f = (f.text, (f.in_front, f.moved))
 
-  header_led : (t : Tally) (a b : Place) (due : ℕ) (hs : Option Tally) → Header al free t a b due hs → Led a b
-  header_led t a b due hs (inl x) = led _ a b x.2
-  header_led t a b due hs (inr x) = led _ a b x.2
+  determinant_led : (t : Tally) (a b : Place) (due : ℕ) (hs : Option Tally) → NextDeterminant al free t a b due hs → Led a b
+  determinant_led t a b due hs (inl x) = led _ a b x.2
+  determinant_led t a b due hs (inr x) = led _ a b x.2
 
   due_led : (v : Bool) (n : ℕ) (hs : Option Tally) (a : Place) (k : List Scope) (b : State) → MemberDue v n hs a k b → b.0 ≡ a
   due_led v (suc n) hs a k b m = ap (λ (s : State). s.0) m.1
@@ -91,13 +91,13 @@ module _ (free : Per.Freedom → Bool) (al : Bool) where
   due_led v zero (Some t) a k b m = absurd m
 
   pub member_led : (v : Bool) (a : Place) (s : List Scope) (b : State) → NextMember al free v a s b → Led a b.0
-  member_led v a (members zero (Some t) ∷ k) b g = let e = due_led v g.0 g.1 g.2 k b g.4 in subst (λ (p : Place). Led a p) (sym e) (header_led t a g.2 g.0 g.1 g.3)
+  member_led v a (members zero (Some t) ∷ k) b g = let e = due_led v g.0 g.1 g.2 k b g.4 in subst (λ (p : Place). Led a p) (sym e) (determinant_led t a g.2 g.0 g.1 g.3)
   member_led v a (members zero None ∷ k) b g = let e = due_led v zero None a k b g in subst (λ (p : Place). Led a p) (sym e) (stay a)
   member_led v a (members (suc n) hs ∷ k) b g = let e = due_led v (suc n) hs a k b g in subst (λ (p : Place). Led a p) (sym e) (stay a)
   member_led v a s b g = absurd g
 
   counted_led : (z : Size) (h : Counts) (out : Bool) (told : Option ℕ) (a : Place) (k : List Scope) (b : State) → Counted al free z h out told a k b → Led a b.0
-  counted_led z h out None a k b g = header_led _ a b.0 g.0 g.1 g.2
+  counted_led z h out None a k b g = determinant_led _ a b.0 g.0 g.1 g.2
   counted_led z h out (Some high) a k b g = led _ a b.0 g.2
 
   pub members_led : (z : Size) (h : Counts) (due : ℕ) (hs : Option Tally) (a b : Place) → HasMembers al free z h due hs a b → Led a b

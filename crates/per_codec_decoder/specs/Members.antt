@@ -5,7 +5,7 @@ use Rattle.asn1_model.specs.Per
 use Rattle.asn1_schema_faults.specs.declared.DecodeError.{DecodeError}
 use Rattle.asn1_schema_faults.specs.declared.DecodeError.TheVariants.{OutOfMemory}
 use Rattle.per_codec_fronts.specs.Sizes.{extension_bit, told_highest}
-use Rattle.per_codec_fronts.specs.Takes.{Place, Tally, Scope, members, State, Front, Header, Counted}
+use Rattle.per_codec_fronts.specs.Takes.{Place, Tally, Scope, members, State, Front, NextDeterminant, Counted}
 use Rattle.per_codec_fronts.specs.Takes.{ListBegins, NextMember}
 use Rattle.per_codec_limits.specs.declared.variant.Variant.{Variant}
 use Rattle.per_codec_reading.specs.Fronts.{freedoms, is_aligned}
@@ -29,8 +29,9 @@ pub record NoMembers (al : Bool) (free : Per.Freedom → Bool) (z : Size) (h : C
   pub none : ¬ (e ≡ OutOfMemory) → (n : ℕ) (k : List Scope) (b : State) → ListBegins al free z h n (a, k) b → ⊥
 
 -- The same of a length determinant.
-pub record NoHeader (al : Bool) (free : Per.Freedom → Bool) (t : Tally) (a : Place) (e : DecodeError) : Type 0 where
-  pub none : ¬ (e ≡ OutOfMemory) → (b : Place) (due : ℕ) (hs : Option Tally) → Header al free t a b due hs → ⊥
+pub record NoDeterminant (al : Bool) (free : Per.Freedom → Bool) (t : Tally) (a : Place)
+    (e : DecodeError) : Type 0 where
+  pub none : ¬ (e ≡ OutOfMemory) → (b : Place) (due : ℕ) (hs : Option Tally) → NextDeterminant al free t a b due hs → ⊥
 
 -- The same of a further member, or the end.
 pub record NoFurther (al : Bool) (free : Per.Freedom → Bool) (a : Place) (k : List Scope)
@@ -40,9 +41,9 @@ pub record NoFurther (al : Bool) (free : Per.Freedom → Bool) (a : Place) (k : 
 -- So many members are due behind this length determinant, wherever it stands in front.
 abbrev pub AreBehind : Tally → Length → ℕ → Option Tally → Type 0
 AreBehind t l due hs = (v : Variant) (a b : Place) → Front (freedoms v) (length_form (is_aligned v) l) a b
-    → Header (is_aligned v) (freedoms v) t a b due hs
+    → NextDeterminant (is_aligned v) (freedoms v) t a b due hs
 
 -- Why none are.
 abbrev pub NoneAreBehind : Tally → Length → DecodeError → Type 0
 NoneAreBehind t l e = (v : Variant) (a b : Place) → Front (freedoms v) (length_form (is_aligned v) l) a b
-    → NoHeader (is_aligned v) (freedoms v) t a e
+    → NoDeterminant (is_aligned v) (freedoms v) t a e

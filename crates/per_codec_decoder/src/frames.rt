@@ -1,6 +1,6 @@
 //! Open scopes.
 ghost use Rattle.std.specs.Prelude.{◌≡◌, ◌∷◌, [], OnOk, IfOk, IfErr, IfSome, IfNone, MatchBool};
-ghost use Rattle.per_codec_fronts.specs.Takes.{NextMark, NextMember, open_type};
+ghost use Rattle.per_codec_fronts.specs.Takes.{NextPresenceBit, NextMember, open_type};
 ghost use Rattle.per_codec_reading.specs.Fronts.{freedoms, is_aligned, IsFresh};
 ghost use Rattle.per_codec_decoder.specs.Members.{NoFurther};
 ghost use Rattle.per_codec_decoder.specs.Scopes.{behind_around, behind_frame, behind_in, behind_of, scope_of};
@@ -205,9 +205,10 @@ impl<'input> Scopes<'input> {
     /// The next presence bit of the innermost sequence, set or group, if one is due.
     #[inline(always)]
     pub fn next_presence_bit(&mut self) -> Option<bool>
-        ensures some { IfSome result (λ present. (p : _) → NextMark present p self.old.scopes (p, self.new.scopes)) }
+        ensures some { IfSome result (λ present. (p : _)
+            → NextPresenceBit present p self.old.scopes (p, self.new.scopes)) }
         ensures behind { self.new.behind ≡ self.old.behind }
-        ensures none { IfNone result ((present : _) (p : _) (b : _) → NextMark present p self.old.scopes b → ⊥) }
+        ensures none { IfNone result ((present : _) (p : _) (b : _) → NextPresenceBit present p self.old.scopes b → ⊥) }
     {
         if self.enclosing.is_some() {
             return None;

@@ -17,7 +17,7 @@ use std::alloc::Global;
 use std::marker::Model;
 
 /// What is known of a list in fragments (X.691 11.9.3.8): how many members there may be, whether their number is
-/// marked as outside the root, and how many times 16384 members each fragment so far has.
+/// told to be outside the root, and how many times 16384 members each fragment so far has.
 #[derive(Drop)]
 pub(crate) struct Tally {
     sizes: Sizes,
@@ -59,7 +59,7 @@ impl Model for DueMembers {
 
 impl Tally {
     /// Whether there may be as many members as in the fragments so far and so many behind them: the program's type
-    /// holds them, and they are in the root or marked as outside it.
+    /// holds them, and they are in the root or told to be outside it.
     fn admits(&self, last: usize) -> bool
         ensures { IsTrue result ↔ (admitted self.now.held self.now.size.counts self.now.outside
             (in_all self.now.sizes last) ≡ true) }

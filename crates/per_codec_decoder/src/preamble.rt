@@ -53,8 +53,8 @@ fn read_extension_bit(
     Ok(Some(bit))
 }
 
-/// Reads the preamble of a sequence, set or group, with or without an extension mark, of which so many components may
-/// be absent: the extension bit, if there is one, and the presence bits.
+/// Reads the preamble of a sequence, set or group, extensible or not, of which so many components may be absent: the
+/// extension bit, if there is one, and the presence bits.
 ///
 /// # Errors
 ///

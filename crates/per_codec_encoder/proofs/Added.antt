@@ -25,29 +25,29 @@ module _ (fs rest : List Frame) (f : Frame) (e : Bool) (due given : ℕ) (start 
     where
       go : (s : State) → IsOpen (λ q t. Holds (reverse rest) q t) true 0 given start o s → (t : State) × (run al (additions_begin count) s ≡ Some t) × Holds (reverse gs) o t
       go s h =
-          let z : State = ([], added count h.marks h.inner [] h.outer.0 ∷ h.outer.1) in
-          let text_is : o.text ≡ h.front ++ (as_text (preamble true h.marks) ++ h.inner) = h.text ∙ ap (λ l. h.front ++ (as_text (preamble true l) ++ h.inner)) (append-nil h.marks) in (
+          let z : State = ([], added count h.presence_bits h.inner [] h.outer.0 ∷ h.outer.1) in
+          let text_is : o.text ≡ h.front ++ (as_text (preamble true h.presence_bits) ++ h.inner) = h.text ∙ ap (λ l. h.front ++ (as_text (preamble true l) ++ h.inner)) (append-nil h.presence_bits) in (
             z,
             ap (run al (additions_begin count)) h.is,
             put_back rest gs (Added (kept count given start end v)) o z y (record {
               front = h.front;
-              marks = h.marks;
+              presence_bits = h.presence_bits;
               root = h.inner;
               inner = [];
               outer = h.outer;
-              text = text_is ∙ ap (λ l. h.front ++ (as_text (preamble true h.marks) ++ l)) (sym (append-nil h.inner));
+              text = text_is ∙ ap (λ l. h.front ++ (as_text (preamble true h.presence_bits) ++ l)) (sym (append-nil h.inner));
               bits = h.bits;
               starts = h.starts;
               told = h.told;
               ends = omega (arith, l, length-open _ true 0 given start o s h);
               end_bits = ap (λ t. length (solid t)) (sym text_is) ∙ sym k;
               under = h.under;
-              is = ap (λ w. let l : State = ([], added count h.marks h.inner w h.outer.0 ∷ h.outer.1) in l) (sym i);
+              is = ap (λ w. let l : State = ([], added count h.presence_bits h.inner w h.outer.0 ∷ h.outer.1) in l) (sym i);
             }),
           )
 
   pub no_additions_begin : (al : Bool) (count : ℕ) → (e ≡ true → 0 < due) → (s : State) → Holds (reverse fs) o s → run al (additions_begin count) s ≡ None
-  no_additions_begin al count n s q = let h = on_top fs rest f (Components e due given start) o s a b q in ap (run al (additions_begin count)) h.is ∙ go e due n h.inner h.marks h.outer
+  no_additions_begin al count n s q = let h = on_top fs rest f (Components e due given start) o s a b q in ap (run al (additions_begin count)) h.is ∙ go e due n h.inner h.presence_bits h.outer
     where
       go : (e : Bool) (due : ℕ) → (e ≡ true → 0 < due) → (os : Text) (ms : List Bool) (t : State) → run al (additions_begin count) (os, components e due ms t.0 ∷ t.1) ≡ None
       go false due n os ms t = refl
@@ -59,12 +59,12 @@ module _ (fs rest : List Frame) (f : Frame) (e : Bool) (due given : ℕ) (start 
 module _ (below : Packed → State → Type 0) (due given : ℕ) (start end : Place) (slots : List (Option (List Bool))) (o : Packed) (s : State) (h : IsAdded below due given start end slots o s) where
   -- the same with so many due, and with these
   abbrev pub turned : ℕ → List (Option (List Bool)) → State
-  turned n others = (h.inner, added n h.marks h.root others h.outer.0 ∷ h.outer.1)
+  turned n others = (h.inner, added n h.presence_bits h.root others h.outer.0 ∷ h.outer.1)
 
   pub still_open : (n : ℕ) (others : List (Option (List Bool))) → IsAdded below n given start end others o (turned n others)
   still_open n others = record {
     front = h.front;
-    marks = h.marks;
+    presence_bits = h.presence_bits;
     root = h.root;
     inner = h.inner;
     outer = h.outer;
@@ -148,7 +148,7 @@ module _ (fs mid rest : List Frame) (f g : Frame) (ad : Additions) (outer o : Pa
       go s k h =
           let ends_with : List Bool → State = λ w. then_state mid rest g ad outer c d k.0 h ad.due (ad.slots.items ++ Some w ∷ []) in
           let slots : List (Option (List Bool)) = ad.slots.items ++ Some contents ∷ [] in
-          let inside : (let l : State = (o.text, open_type k.0.0 ∷ k.0.1) in l) ≡ (o.text, open_type h.inner ∷ added ad.due h.marks h.root ad.slots.items h.outer.0 ∷ h.outer.1) = ap (λ (u : State). let l : State = (o.text, open_type u.0 ∷ u.1) in l) h.is in (
+          let inside : (let l : State = (o.text, open_type k.0.0 ∷ k.0.1) in l) ≡ (o.text, open_type h.inner ∷ added ad.due h.presence_bits h.root ad.slots.items h.outer.0 ∷ h.outer.1) = ap (λ (u : State). let l : State = (o.text, open_type u.0 ∷ u.1) in l) h.is in (
             ends_with contents,
             ap (run al addition_ends) (k.1 ∙ inside) ∙ ap (option_map ends_with) (i k.2),
             put_back rest gs (Added (kept ad.due ad.given ad.start ad.end v)) p (ends_with contents) y (subst (λ l. IsAdded (λ q t. Holds (reverse rest) q t) ad.due ad.given ad.start ad.end v.items l (ends_with contents)) (sym e) (then_open mid rest g ad outer c d k.0 h ad.due slots v.items j)),

@@ -17,7 +17,7 @@ use Rattle.per_codec_encoder.specs.declared.frame.Frame.{Frame}
 use Rattle.per_codec_encoder.specs.declared.frame.Frame.TheVariants.{Components, Added, OpenType, Members, Alternative}
 use Rattle.per_codec_encoder.specs.declared.frame.Place.{Place}
 use Rattle.per_codec_writing.specs.declared.lengths.Due.{Due}
-use Rattle.per_codec_writing.specs.Headings.{headers_of}
+use Rattle.per_codec_writing.specs.Headings.{determinants_of}
 use Rattle.per_codec_encoder.specs.Holding.{at, instead, preamble, IsOpen, IsAdded, Holds, AreSound, Does}
 use Rattle.per_codec_encoder.proofs.Scopes.{at_end, appended, on_top, head_shown, length-added}
 
@@ -26,16 +26,16 @@ does_end_components fs rest f e due given start a b c n al o = record { after = 
   where
     go : (s : State) → IsOpen (λ q t. Holds (reverse rest) q t) false 0 given start o s → (t : State) × (run al ends s ≡ Some t) × Holds (reverse rest) o t
     go s h =
-        let w : Text = as_text h.marks ++ h.inner in
+        let w : Text = as_text h.presence_bits ++ h.inner in
         let z : State = (h.outer.0 ++ w, h.outer.1) in
-        let back : o ≡ instead (h.front ++ w) o = ap (λ t. instead t o) (h.text ∙ ap (λ l. h.front ++ (as_text l ++ h.inner)) (append-nil h.marks)) in
+        let back : o ≡ instead (h.front ++ w) o = ap (λ t. instead t o) (h.text ∙ ap (λ l. h.front ++ (as_text l ++ h.inner)) (append-nil h.presence_bits)) in
         (z, ap (run al ends) h.is, subst (λ l. Holds (reverse rest) l z) (sym back) (appended (reverse rest) (instead h.front o) h.outer w h.under))
 
 pub does_end_members : (fs rest : List Frame) (f : Frame) (d : Due) → fs ≡ rest ++ f ∷ [] → f ≡ Members d → d.units ≡ 0 → d.behind ≡ None → (al : Bool) (o : Packed) → Does al ends fs o rest o
 does_end_members fs rest f d a b n m al o = record { after = λ s h. go s (on_top fs rest f (Members d) o s a b h) }
   where
     go : (s : State) → Holds (Members d ∷ reverse rest) o s → (t : State) × (run al ends s ≡ Some t) × Holds (reverse rest) o t
-    go s h = (h.0, ap (run al ends) (h.1 ∙ ap (λ j. let l : State = (h.0.0, members j (headers_of d.behind) ∷ h.0.1) in l) n ∙ ap (λ j. let l : State = (h.0.0, members 0 (headers_of j) ∷ h.0.1) in l) m), h.2)
+    go s h = (h.0, ap (run al ends) (h.1 ∙ ap (λ j. let l : State = (h.0.0, members j (determinants_of d.behind) ∷ h.0.1) in l) n ∙ ap (λ j. let l : State = (h.0.0, members 0 (determinants_of j) ∷ h.0.1) in l) m), h.2)
 
 pub does_end_alternative : (fs rest : List Frame) (f : Frame) → fs ≡ rest ++ f ∷ [] → f ≡ Alternative → (al : Bool) (o : Packed) → Does al ends fs o rest o
 does_end_alternative fs rest f a b al o = record { after = λ s h. go s (on_top fs rest f Alternative o s a b h) }
@@ -71,20 +71,20 @@ module _ (al : Bool) (fs rest : List Frame) (f : Frame) (ad : Additions) (o cut 
   top : (s : State) → Holds (reverse fs) o s → Open s
   top s h = on_top fs rest f (Added ad) o s a b h
 
-  cut_is : (s : State) (h : Open s) → cut ≡ instead (h.front ++ (as_text (preamble true h.marks) ++ h.root)) o
+  cut_is : (s : State) (h : Open s) → cut ≡ instead (h.front ++ (as_text (preamble true h.presence_bits) ++ h.root)) o
   cut_is s h = c ∙ ap (λ t. instead t o) (head_shown _ ad.due ad.given ad.start ad.end ad.slots.items o s h)
 
-  -- the mark stands before the end of the root
-  pub mark_within : AreSound fs o → ad.start.bits < length (solid cut.text)
-  mark_within q =
+  -- the extension bit stands before the end of the root
+  pub bit_within : AreSound fs o → ad.start.bits < length (solid cut.text)
+  bit_within q =
       let h = top q.state q.holds in
-      let all : length (solid cut.text) ≡ length (solid h.front) + suc (length (solid (as_text h.marks ++ h.root))) = ap (λ (p : Packed). length (solid p.text)) (cut_is q.state h) ∙ ap length (solid-append h.front (bit false ∷ (as_text h.marks ++ h.root))) ∙ length-append (solid h.front) (false ∷ solid (as_text h.marks ++ h.root)) in
+      let all : length (solid cut.text) ≡ length (solid h.front) + suc (length (solid (as_text h.presence_bits ++ h.root))) = ap (λ (p : Packed). length (solid p.text)) (cut_is q.state h) ∙ ap length (solid-append h.front (bit false ∷ (as_text h.presence_bits ++ h.root))) ∙ length-append (solid h.front) (false ∷ solid (as_text h.presence_bits ++ h.root)) in
       omega (arith, all, h.bits)
 
-  ended_as : (s : State) (h : Open s) → ad.due ≡ 0 → run al ends s ≡ adds_text (extended_text al h.marks h.root ad.slots.items (place (instead h.front o))) h.outer
+  ended_as : (s : State) (h : Open s) → ad.due ≡ 0 → run al ends s ≡ adds_text (extended_text al h.presence_bits h.root ad.slots.items (place (instead h.front o))) h.outer
   ended_as s h n =
-      ap (run al ends) (h.is ∙ ap (λ k. let l : State = (h.inner, added k h.marks h.root ad.slots.items h.outer.0 ∷ h.outer.1) in l) n)
-      ∙ ap (λ q. adds_text (extended_text al h.marks h.root ad.slots.items q) h.outer) (at_end (reverse rest) (instead h.front o) h.outer h.under)
+      ap (run al ends) (h.is ∙ ap (λ k. let l : State = (h.inner, added k h.presence_bits h.root ad.slots.items h.outer.0 ∷ h.outer.1) in l) n)
+      ∙ ap (λ q. adds_text (extended_text al h.presence_bits h.root ad.slots.items q) h.outer) (at_end (reverse rest) (instead h.front o) h.outer h.under)
 
   -- a text behind what stood in front of the sequence
   behind_front : (s : State) (h : Open s) (p : Packed) (w : Text) → p ≡ instead (h.front ++ w) o → (let z : State = (h.outer.0 ++ w, h.outer.1) in Holds (reverse rest) p z)
@@ -95,54 +95,54 @@ module _ (al : Bool) (fs rest : List Frame) (f : Frame) (ad : Additions) (o cut 
     where
       go : (s : State) → Open s → (t : State) × (run al ends s ≡ Some t) × Holds (reverse rest) p t
       go s h =
-          let t : Text = as_text (false ∷ h.marks) ++ h.root in (
+          let t : Text = as_text (false ∷ h.presence_bits) ++ h.root in (
             (h.outer.0 ++ t, h.outer.1),
-            ended_as s h n ∙ ap (λ x. adds_text x h.outer) (not_there h.marks h.root ad.slots.items (place (instead h.front o)) none),
+            ended_as s h n ∙ ap (λ x. adds_text x h.outer) (not_there h.presence_bits h.root ad.slots.items (place (instead h.front o)) none),
             behind_front s h p t (e ∙ cut_is s h),
           )
         where
           not_there : (ms : List Bool) (root : Text) (slots : List (Option (List Bool))) (q : Option ℕ) → is_any_present slots ≡ false → extended_text al ms root slots q ≡ Some (as_text (false ∷ ms) ++ root)
           not_there ms root slots q e = ap (λ t. cond t (option_map (λ w. as_text (true ∷ ms) ++ (root ++ w)) (text_at (Per.additions al (as_open_types al slots)) (on (on q (as_text (true ∷ ms))) root))) (Some (as_text (false ∷ ms) ++ root))) e
 
-  -- the text in front with the mark set
-  abbrev marked : Packed
-  marked = record { text = with_bit ad.start.bits true cut.text; placed = cut.placed }
+  -- the text in front with the extension bit set
+  abbrev extended : Packed
+  extended = record { text = with_bit ad.start.bits true cut.text; placed = cut.placed }
 
-  marked_is : (s : State) (h : Open s) → marked ≡ instead (h.front ++ (as_text (true ∷ h.marks) ++ h.root)) o
-  marked_is s h =
+  extended_is : (s : State) (h : Open s) → extended ≡ instead (h.front ++ (as_text (true ∷ h.presence_bits) ++ h.root)) o
+  extended_is s h =
       let k : ad.start.bits ≡ length (solid h.front) + 0 = omega (arith, h.bits) in
       ap (λ (p : Packed). let q : Packed = record { text = with_bit ad.start.bits true p.text; placed = p.placed } in q) (cut_is s h)
-      ∙ ap (λ j. instead (with_bit j true (h.front ++ (bit false ∷ (as_text h.marks ++ h.root)))) o) k
-      ∙ ap (λ t. instead t o) (changed_behind 0 true h.front (bit false ∷ (as_text h.marks ++ h.root)))
+      ∙ ap (λ j. instead (with_bit j true (h.front ++ (bit false ∷ (as_text h.presence_bits ++ h.root)))) o) k
+      ∙ ap (λ t. instead t o) (changed_behind 0 true h.front (bit false ∷ (as_text h.presence_bits ++ h.root)))
 
-  same_length : (s : State) (h : Open s) → place cut ≡ on (on (place (instead h.front o)) (as_text (true ∷ h.marks))) h.root
+  same_length : (s : State) (h : Open s) → place cut ≡ on (on (place (instead h.front o)) (as_text (true ∷ h.presence_bits))) h.root
   same_length s h = ap (λ p. place p) (cut_is s h) ∙ go o.placed
     where
-      n : length (h.front ++ (as_text (preamble true h.marks) ++ h.root)) ≡ length h.front + length (as_text (true ∷ h.marks)) + length h.root
-      n = omega (arith, length-append h.front (as_text (preamble true h.marks) ++ h.root), length-append (as_text (preamble true h.marks)) h.root, length-text h.marks)
+      n : length (h.front ++ (as_text (preamble true h.presence_bits) ++ h.root)) ≡ length h.front + length (as_text (true ∷ h.presence_bits)) + length h.root
+      n = omega (arith, length-append h.front (as_text (preamble true h.presence_bits) ++ h.root), length-append (as_text (preamble true h.presence_bits)) h.root, length-text h.presence_bits)
 
-      go : (b : Bool) → cond b (Some (length (h.front ++ (as_text (preamble true h.marks) ++ h.root)))) None ≡ on (on (cond b (Some (length h.front)) None) (as_text (true ∷ h.marks))) h.root
+      go : (b : Bool) → cond b (Some (length (h.front ++ (as_text (preamble true h.presence_bits) ++ h.root)))) None ≡ on (on (cond b (Some (length h.front)) None) (as_text (true ∷ h.presence_bits))) h.root
       go false = refl
       go true = ap (λ (k : ℕ). Some k) n
 
-  pub does_end_some : (p : Packed) → ad.due ≡ 0 → is_any_present ad.slots.items ≡ true → Adds (text_at (Per.additions al (as_open_types al ad.slots.items)) (place cut)) marked p → Does al ends fs o rest p
+  pub does_end_some : (p : Packed) → ad.due ≡ 0 → is_any_present ad.slots.items ≡ true → Adds (text_at (Per.additions al (as_open_types al ad.slots.items)) (place cut)) extended p → Does al ends fs o rest p
   does_end_some p n some x = record { after = λ s h. go s (top s h) }
     where
       y : Per.BitForm
       y = Per.additions al (as_open_types al ad.slots.items)
 
-      t : (w : Text) × (text_at y (place cut) ≡ Some w) × (plus marked w ≡ p)
-      t = text_added (text_at y (place cut)) marked p x
+      t : (w : Text) × (text_at y (place cut) ≡ Some w) × (plus extended w ≡ p)
+      t = text_added (text_at y (place cut)) extended p x
 
       there : (ms : List Bool) (root : Text) (slots : List (Option (List Bool))) (q : Option ℕ) → is_any_present slots ≡ true → extended_text al ms root slots q ≡ option_map (λ w. as_text (true ∷ ms) ++ (root ++ w)) (text_at (Per.additions al (as_open_types al slots)) (on (on q (as_text (true ∷ ms))) root))
       there ms root slots q e = ap (λ t. cond t (option_map (λ w. as_text (true ∷ ms) ++ (root ++ w)) (text_at (Per.additions al (as_open_types al slots)) (on (on q (as_text (true ∷ ms))) root))) (Some (as_text (false ∷ ms) ++ root))) e
 
       go : (s : State) → Open s → (t : State) × (run al ends s ≡ Some t) × Holds (reverse rest) p t
       go s h =
-          let ms = h.marks in
+          let ms = h.presence_bits in
           let whole : Text = as_text (true ∷ ms) ++ (h.root ++ t.0) in
           let text_is : p ≡ instead (h.front ++ whole) o =
-          sym t.2 ∙ ap (λ q. plus q t.0) (marked_is s h)
+          sym t.2 ∙ ap (λ q. plus q t.0) (extended_is s h)
           ∙ ap (λ l. instead l o) (append_assoc h.front (as_text (true ∷ ms) ++ h.root) t.0 ∙ ap (λ l. h.front ++ l) (append_assoc (as_text (true ∷ ms)) h.root t.0)) in (
             (h.outer.0 ++ whole, h.outer.1),
             ended_as s h n
@@ -150,18 +150,18 @@ module _ (al : Bool) (fs rest : List Frame) (f : Frame) (ad : Additions) (o cut 
             behind_front s h p whole text_is,
           )
 
-  pub does_end_added : (slots : List (Option (List Bool))) (p : Packed) → slots ≡ ad.slots.items → ad.due ≡ 0 → (is_any_present slots ≡ true → Adds (text_at (Per.additions al (as_open_types al slots)) (place cut)) marked p) → (is_any_present slots ≡ false → p ≡ cut) → Does al ends fs o rest p
+  pub does_end_added : (slots : List (Option (List Bool))) (p : Packed) → slots ≡ ad.slots.items → ad.due ≡ 0 → (is_any_present slots ≡ true → Adds (text_at (Per.additions al (as_open_types al slots)) (place cut)) extended p) → (is_any_present slots ≡ false → p ≡ cut) → Does al ends fs o rest p
   does_end_added slots p e n x y = go (is_any_present slots) refl
     where
       go : (t : Bool) → is_any_present slots ≡ t → Does al ends fs o rest p
-      go true t = does_end_some p n (ap is_any_present (sym e) ∙ t) (subst (λ l. Adds (text_at (Per.additions al (as_open_types al l)) (place cut)) marked p) e (x t))
+      go true t = does_end_some p n (ap is_any_present (sym e) ∙ t) (subst (λ l. Adds (text_at (Per.additions al (as_open_types al l)) (place cut)) extended p) e (x t))
       go false t = does_end_none p n (ap is_any_present (sym e) ∙ t) (y t)
 
   pub cannot_end_added : 0 < ad.due → (s : State) → Holds (reverse fs) o s → run al ends s ≡ None
   cannot_end_added n s q =
       let h = top s q in
       let one : ad.due ≡ suc (ad.due - 1) = omega (arith, n) in
-      ap (run al ends) (h.is ∙ ap (λ k. let l : State = (h.inner, added k h.marks h.root ad.slots.items h.outer.0 ∷ h.outer.1) in l) one)
+      ap (run al ends) (h.is ∙ ap (λ k. let l : State = (h.inner, added k h.presence_bits h.root ad.slots.items h.outer.0 ∷ h.outer.1) in l) one)
 
 -- the end of the root is a place in the text
 pub root_ends : (fs rest : List Frame) (f : Frame) (ad : Additions) (o : Packed) → fs ≡ rest ++ f ∷ [] → f ≡ Added ad → AreSound fs o → (ad.end.bits + ad.end.fills ≤ length o.text) × (length (solid (take (ad.end.bits + ad.end.fills) o.text)) ≡ ad.end.bits)
@@ -191,11 +191,11 @@ none_left [] (suc i) h = refl
 none_left (x ∷ slots) zero h = absurd (omega arith)
 none_left (x ∷ slots) (suc i) h = none_left slots i (omega arith)
 
--- the mark is set in front of the additions
-pub behind_mark : (x : Per.BitForm) (old marked new : Packed) (i : ℕ) → marked ≡ record { text = with_bit i true old.text; placed = old.placed } → Adds (text_at x (place marked)) marked new → Adds (text_at x (place old)) (record { text = with_bit i true old.text; placed = old.placed }) new
-behind_mark x old marked new i e a =
-    let n : place marked ≡ place old = ap (λ p. place p) e ∙ ap (λ k. cond old.placed (Some k) None) (as_long i old.text) in
-    subst (λ l. Adds (text_at x (place old)) l new) e (subst (λ q. Adds (text_at x q) marked new) n a)
+-- the extension bit is set in front of the additions
+pub behind_bit_set : (x : Per.BitForm) (old extended new : Packed) (i : ℕ) → extended ≡ record { text = with_bit i true old.text; placed = old.placed } → Adds (text_at x (place extended)) extended new → Adds (text_at x (place old)) (record { text = with_bit i true old.text; placed = old.placed }) new
+behind_bit_set x old extended new i e a =
+    let n : place extended ≡ place old = ap (λ p. place p) e ∙ ap (λ k. cond old.placed (Some k) None) (as_long i old.text) in
+    subst (λ l. Adds (text_at x (place old)) l new) e (subst (λ q. Adds (text_at x q) extended new) n a)
   where
     as_long : (i : ℕ) (t : Text) → length (with_bit i true t) ≡ length t
     as_long i [] = refl

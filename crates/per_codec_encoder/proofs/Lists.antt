@@ -1,4 +1,4 @@
--- Lists: a count in front of all members, or headers between them.
+-- Lists: a count in front of all members, or length determinants between them.
 use Rattle.std.proofs.Common.{◌≡◌, ℕ, zero, suc, ◌+◌, ◌-◌, ◌*◌, ◌≤◌, ltb, leb, Bool, true, false, cond, ◌&&◌, List, [], ◌∷◌, ◌++◌, length, take, drop, Option, Some, None, option_map, option_and_then, refl, ap, sym, ◌∙◌, append_assoc, arith}
 use Rattle.std.proofs.lemmas.List.{append-nil}
 use Rattle.std.proofs.lemmas.Bool.{leb-true, and_parts}
@@ -11,8 +11,8 @@ use Rattle.asn1_schema_presented.specs.Records.{Record, further, ends}
 use Rattle.asn1_schema_presented.specs.Presents.{presents, member_records, member_count}
 use Rattle.per_codec_packing.specs.Texts.{Text, bit, moved, on, text_at}
 use Rattle.per_codec_writing.specs.Headings.{general, sized_count, form_due}
-use Rattle.per_codec_writing.proofs.HeadingForms.{left, Ready, by_heading, next_text, AllSound, next_sound, Leads, general_leads, count_leads, if_leads, mark_leads}
-use Rattle.per_codec_encoder.specs.Steps.{Headers, Scope, members, offset, position, Heading, next_header, list_heading, headed, counted_on, runs}
+use Rattle.per_codec_writing.proofs.HeadingForms.{left, Ready, by_heading, next_text, AllSound, next_sound, Leads, general_leads, count_leads, if_leads, extensible_leads}
+use Rattle.per_codec_encoder.specs.Steps.{LengthDeterminants, Scope, members, offset, position, Heading, next_determinant, list_heading, headed, counted_on, runs}
 use Rattle.per_codec_encoder.specs.Ties.{BridgesAt, Bridges}
 use Rattle.per_codec_packing.proofs.Formed.{chain_same, two_texts, behind, behind_nothing, both_assoc}
 
@@ -29,15 +29,15 @@ module _ (al : Bool) (s : Schema) (h : (v : Value) → BridgesAt al s v) where
   abbrev forms : Values → List Per.BitForm
   forms vs = each (λ v. Per.form al s v) vs
 
-  -- from where so many are due before these headers, their texts are added
-  abbrev Adds : Values → ℕ → Headers → Type 0
+  -- from where so many are due before these length determinants, their texts are added
+  abbrev Adds : Values → ℕ → LengthDeterminants → Type 0
   Adds vs n hs = n + left hs ≡ member_count vs → (os : Text) (k : List Scope) (rest : List Record) → runs al (calls vs ++ rest) (os, members n hs ∷ k) ≡ option_and_then (λ w. runs al rest (os ++ w, k)) (text_at (form_due al n hs (forms vs)) (position (os, k)))
 
   abbrev Later : Values → Type 0
   Later no_more = Unit {0}
-  Later (member v vs) = (n : ℕ) (hs : Headers) → Adds vs n hs
+  Later (member v vs) = (n : ℕ) (hs : LengthDeterminants) → Adds vs n hs
 
-  one_member : (v : Value) (vs : Values) (n : ℕ) (hs : Headers) → Adds vs n hs → n + left hs ≡ member_count vs → (os : Text) (k : List Scope) (rest : List Record) → runs al ((presents s v ++ calls vs) ++ rest) (os, members n hs ∷ k) ≡ option_and_then (λ w. runs al rest (os ++ w, k)) (text_at (both (Per.form al s v) (form_due al n hs (forms vs))) (position (os, k)))
+  one_member : (v : Value) (vs : Values) (n : ℕ) (hs : LengthDeterminants) → Adds vs n hs → n + left hs ≡ member_count vs → (os : Text) (k : List Scope) (rest : List Record) → runs al ((presents s v ++ calls vs) ++ rest) (os, members n hs ∷ k) ≡ option_and_then (λ w. runs al rest (os ++ w, k)) (text_at (both (Per.form al s v) (form_due al n hs (forms vs))) (position (os, k)))
   unfolding text_at
   one_member v vs n hs others c os k rest =
       ap (λ l. runs al l (os, members n hs ∷ k)) (append_assoc (presents s v) (calls vs) rest)
@@ -46,7 +46,7 @@ module _ (al : Bool) (s : Schema) (h : (v : Value) → BridgesAt al s v) where
       (λ a. others c (os ++ a) k rest ∙ ap (λ p. option_and_then (λ b. runs al rest ((os ++ a) ++ b, k)) (text_at (form_due al n hs (forms vs)) p)) (behind (offset k) os a))
       ∙ two_texts (text_at (Per.form al s v) (position (os, k))) (λ a. text_at (form_due al n hs (forms vs)) (on (position (os, k)) a)) os (λ w. runs al rest (w, k))
 
-  ready_members : (vs : Values) → Later vs → (n : ℕ) (hs : Headers) → Ready hs n → Adds vs n hs
+  ready_members : (vs : Values) → Later vs → (n : ℕ) (hs : LengthDeterminants) → Ready hs n → Adds vs n hs
   unfolding text_at
   ready_members no_more l zero None r c os k rest = sym (ap (λ t. runs al rest (t, k)) (append-nil os))
   ready_members no_more l zero (Some g) r c os k rest = absurd r
@@ -62,34 +62,34 @@ module _ (al : Bool) (s : Schema) (h : (v : Value) → BridgesAt al s v) where
   behind_heading : (vs : Values) → Later vs → (os : Text) (k : List Scope) (rest : List Record) (o : Option Heading) → AllSound (member_count vs) o → option_and_then (λ m. runs al (calls vs ++ rest) m) (headed os k o) ≡ option_and_then (λ w. runs al rest (os ++ w, k)) (by_heading al (forms vs) (position (os, k)) o)
   behind_heading vs l os k rest None c = refl
   behind_heading vs l os k rest (Some g) c =
-      ready_members vs l g.due g.headers c.ready c.counts (os ++ g.text) k rest
-      ∙ ap (λ p. option_and_then (λ b. runs al rest ((os ++ g.text) ++ b, k)) (text_at (form_due al g.due g.headers (forms vs)) p)) (behind (offset k) os g.text)
-      ∙ two_texts (Some g.text) (λ a. text_at (form_due al g.due g.headers (forms vs)) (on (position (os, k)) a)) os (λ w. runs al rest (w, k))
+      ready_members vs l g.due g.determinants c.ready c.counts (os ++ g.text) k rest
+      ∙ ap (λ p. option_and_then (λ b. runs al rest ((os ++ g.text) ++ b, k)) (text_at (form_due al g.due g.determinants (forms vs)) p)) (behind (offset k) os g.text)
+      ∙ two_texts (Some g.text) (λ a. text_at (form_due al g.due g.determinants (forms vs)) (on (position (os, k)) a)) os (λ w. runs al rest (w, k))
 
-  -- the next record writes the header that is due
-  header_first : (b : Bool) (more : List Record) (os : Text) (k : List Scope) (n : ℕ) (o : Option Heading) → AllSound n o → option_and_then (λ m. runs al more m) (option_and_then (λ (g : Heading). counted_on g.due g.headers (os ++ g.text) k b) o) ≡ option_and_then (λ m. runs al (further b ∷ more) m) (headed os k o)
-  header_first b more os k n None c = refl
-  header_first b more os k n (Some g) c = go g.due g.headers c.ready (os ++ g.text)
+  -- the next record writes the length determinant that is due
+  determinant_first : (b : Bool) (more : List Record) (os : Text) (k : List Scope) (n : ℕ) (o : Option Heading) → AllSound n o → option_and_then (λ m. runs al more m) (option_and_then (λ (g : Heading). counted_on g.due g.determinants (os ++ g.text) k b) o) ≡ option_and_then (λ m. runs al (further b ∷ more) m) (headed os k o)
+  determinant_first b more os k n None c = refl
+  determinant_first b more os k n (Some g) c = go g.due g.determinants c.ready (os ++ g.text)
     where
-      go : (due : ℕ) (hs : Headers) → Ready hs due → (t : Text) → option_and_then (λ m. runs al more m) (counted_on due hs t k b) ≡ runs al (further b ∷ more) (t, members due hs ∷ k)
+      go : (due : ℕ) (hs : LengthDeterminants) → Ready hs due → (t : Text) → option_and_then (λ m. runs al more m) (counted_on due hs t k b) ≡ runs al (further b ∷ more) (t, members due hs ∷ k)
       go zero None r t = refl
       go zero (Some g) r t = absurd r
       go (suc due) None r t = refl
       go (suc due) (Some g) r t = refl
 
-  headers_first : (vs : Values) → Later vs → (g : List ℕ × ℕ) → Adds vs zero (Some g)
+  determinants_first : (vs : Values) → Later vs → (g : List ℕ × ℕ) → Adds vs zero (Some g)
   unfolding text_at
-  headers_first vs l g c os k rest =
+  determinants_first vs l g c os k rest =
       first vs
-      ∙ behind_heading vs l os k rest (next_header al g.0 g.1 (position (os, k))) (let e : member_count vs ≡ g.1 = omega arith in rw e (next_sound al g.0 g.1 (position (os, k))))
-      ∙ ap (option_and_then (λ w. runs al rest (os ++ w, k))) (ap (λ n. by_heading al (forms vs) (position (os, k)) (next_header al g.0 n (position (os, k)))) counted ∙ sym (next_text al g.0 (forms vs) (position (os, k))) ∙ nothing_first)
+      ∙ behind_heading vs l os k rest (next_determinant al g.0 g.1 (position (os, k))) (let e : member_count vs ≡ g.1 = omega arith in rw e (next_sound al g.0 g.1 (position (os, k))))
+      ∙ ap (option_and_then (λ w. runs al rest (os ++ w, k))) (ap (λ n. by_heading al (forms vs) (position (os, k)) (next_determinant al g.0 n (position (os, k)))) counted ∙ sym (next_text al g.0 (forms vs) (position (os, k))) ∙ nothing_first)
     where
       counted : g.1 ≡ length (forms vs)
       counted = let e = length-each (λ v. Per.form al s v) vs in omega arith
 
-      first : (vs : Values) → runs al (calls vs ++ rest) (os, members zero (Some g) ∷ k) ≡ option_and_then (λ m. runs al (calls vs ++ rest) m) (headed os k (next_header al g.0 g.1 (position (os, k))))
-      first no_more = header_first false (ends ∷ rest) os k g.1 (next_header al g.0 g.1 (position (os, k))) (next_sound al g.0 g.1 (position (os, k)))
-      first (member v vs) = header_first true ((presents s v ++ calls vs) ++ rest) os k g.1 (next_header al g.0 g.1 (position (os, k))) (next_sound al g.0 g.1 (position (os, k)))
+      first : (vs : Values) → runs al (calls vs ++ rest) (os, members zero (Some g) ∷ k) ≡ option_and_then (λ m. runs al (calls vs ++ rest) m) (headed os k (next_determinant al g.0 g.1 (position (os, k))))
+      first no_more = determinant_first false (ends ∷ rest) os k g.1 (next_determinant al g.0 g.1 (position (os, k))) (next_sound al g.0 g.1 (position (os, k)))
+      first (member v vs) = determinant_first true ((presents s v ++ calls vs) ++ rest) os k g.1 (next_determinant al g.0 g.1 (position (os, k))) (next_sound al g.0 g.1 (position (os, k)))
 
       same : (o : Option Text) → o ≡ option_map (λ b. b) o
       same None = refl
@@ -98,13 +98,13 @@ module _ (al : Bool) (s : Schema) (h : (v : Value) → BridgesAt al s v) where
       nothing_first : text_at (Per.fragments al g.0 (forms vs)) (position (os, k)) ≡ text_at (both (joined (take zero (forms vs))) (Per.fragments al g.0 (drop zero (forms vs)))) (position (os, k))
       nothing_first = same (text_at (Per.fragments al g.0 (forms vs)) (position (os, k))) ∙ ap (λ p. option_map (λ b. b) (text_at (Per.fragments al g.0 (forms vs)) p)) (behind_nothing (position (os, k)))
 
-  members_added : (vs : Values) (n : ℕ) (hs : Headers) → Adds vs n hs
+  members_added : (vs : Values) (n : ℕ) (hs : LengthDeterminants) → Adds vs n hs
   members_added no_more n None = ready_members no_more tt n None tt
   members_added no_more (suc n) (Some g) = ready_members no_more tt (suc n) (Some g) tt
-  members_added no_more zero (Some g) = headers_first no_more tt g
+  members_added no_more zero (Some g) = determinants_first no_more tt g
   members_added (member v vs) n None = ready_members (member v vs) (members_added vs) n None tt
   members_added (member v vs) (suc n) (Some g) = ready_members (member v vs) (members_added vs) (suc n) (Some g) tt
-  members_added (member v vs) zero (Some g) = headers_first (member v vs) (members_added vs) g
+  members_added (member v vs) zero (Some g) = determinants_first (member v vs) (members_added vs) g
 
   list_added : (vs : Values) (os : Text) (k : List Scope) (rest : List Record) (o : Option Heading) → AllSound (member_count vs) o → option_and_then (λ m. runs al (calls vs ++ rest) m) (headed os k o) ≡ option_and_then (λ w. runs al rest (os ++ w, k)) (by_heading al (forms vs) (position (os, k)) o)
   list_added no_more = behind_heading no_more tt
@@ -116,7 +116,7 @@ list_leads : (al : Bool) (z : Size) (held : Counts) (us : List Per.BitForm) → 
 unfolding Per.sized
 list_leads al z held us =
     if_leads al (is_count_within held (length us)) _ (length us) us _
-    (mark_leads al z.extensible (is_count_within z.counts (length us)) (λ q. sized_count al z.counts z.counts.high false (length us) q) (λ q. general al (length us) q) (length us) us (Per.sized_root al z.counts z.counts.high Per.never us) (Per.counted al us) (count_leads al z.counts z.counts.high Per.never us) (general_leads al us))
+    (extensible_leads al z.extensible (is_count_within z.counts (length us)) (λ q. sized_count al z.counts z.counts.high false (length us) q) (λ q. general al (length us) q) (length us) us (Per.sized_root al z.counts z.counts.high Per.never us) (Per.counted al us) (count_leads al z.counts z.counts.high Per.never us) (general_leads al us))
 
 -- units of a size have the text of their heading, and of what is due behind it
 pub list_text : (al : Bool) (z : Size) (held : Counts) (us : List Per.BitForm) (p : Option ℕ) → text_at (Per.sized al z held Per.never us) p ≡ by_heading al us p (list_heading al z held (length us) p)

@@ -5,11 +5,11 @@ use Rattle.per_codec_packing.specs.Texts.{Text, bit, as_text, moved}
 use Rattle.per_codec_packing.proofs.Formed.{length-text, as_text-append}
 use Rattle.per_codec_packing.specs.Packed.{Packed, place, plus, solid}
 use Rattle.per_codec_packing.proofs.Bits.{solid-bits}
-use Rattle.per_codec_encoder.specs.Steps.{components, added, open_type, members, alternative, mark_width, offset, position, State}
+use Rattle.per_codec_encoder.specs.Steps.{components, added, open_type, members, alternative, extension_bit_width, offset, position, State}
 use Rattle.per_codec_encoder.specs.declared.frame.Frame.{Frame}
 use Rattle.per_codec_encoder.specs.declared.frame.Frame.TheVariants.{Components, Added, OpenType, Members, Bag, Alternative}
 use Rattle.per_codec_encoder.specs.declared.frame.Place.{Place}
-use Rattle.per_codec_writing.specs.Headings.{headers_of}
+use Rattle.per_codec_writing.specs.Headings.{determinants_of}
 use Rattle.per_codec_encoder.specs.Bags.{bag_of}
 use Rattle.per_codec_encoder.specs.Holding.{at, instead, preamble, shown, IsOpen, IsAdded, Holds}
 
@@ -19,7 +19,7 @@ pub preamble_is : (e : Bool) (ms : List Bool) → as_text (preamble e ms) ≡ as
 preamble_is true ms = refl
 preamble_is false ms = refl
 
-pub length-preamble : (e : Bool) (ms : List Bool) → length (as_text (preamble e ms)) ≡ mark_width e + length ms
+pub length-preamble : (e : Bool) (ms : List Bool) → length (as_text (preamble e ms)) ≡ extension_bit_width e + length ms
 length-preamble true ms = omega (arith, length-text ms)
 length-preamble false ms = omega (arith, length-text ms)
 
@@ -35,32 +35,32 @@ module _ (below : Packed → State → Type 0) (e : Bool) (due given : ℕ) (sta
   zeros = replicate due false
 
   abbrev whole : Text
-  whole = as_text (preamble e (h.marks ++ zeros))
+  whole = as_text (preamble e (h.presence_bits ++ zeros))
 
-  length-front : length (h.front ++ whole) ≡ at start + (mark_width e + (given + due))
-  length-front = omega (arith, length-append h.front whole, length-preamble e (h.marks ++ zeros), length-append h.marks zeros, length-replicate due false, h.starts, h.told)
+  length-front : length (h.front ++ whole) ≡ at start + (extension_bit_width e + (given + due))
+  length-front = omega (arith, length-append h.front whole, length-preamble e (h.presence_bits ++ zeros), length-append h.presence_bits zeros, length-replicate due false, h.starts, h.told)
 
-  inner_shown : drop (at start + (mark_width e + (given + due))) o.text ≡ h.inner
-  inner_shown = ap (drop (at start + (mark_width e + (given + due)))) (h.text ∙ sym (append_assoc h.front whole h.inner)) ∙ drop_at (h.front ++ whole) h.inner (at start + (mark_width e + (given + due))) length-front
+  inner_shown : drop (at start + (extension_bit_width e + (given + due))) o.text ≡ h.inner
+  inner_shown = ap (drop (at start + (extension_bit_width e + (given + due)))) (h.text ∙ sym (append_assoc h.front whole h.inner)) ∙ drop_at (h.front ++ whole) h.inner (at start + (extension_bit_width e + (given + due))) length-front
 
   front_shown : take (at start) o.text ≡ h.front
   front_shown = ap (take (at start)) h.text ∙ take_at h.front (whole ++ h.inner) (at start) h.starts
 
-  apart : o.text ≡ (h.front ++ as_text (preamble e [])) ++ (as_text h.marks ++ (as_text zeros ++ h.inner))
+  apart : o.text ≡ (h.front ++ as_text (preamble e [])) ++ (as_text h.presence_bits ++ (as_text zeros ++ h.inner))
   apart =
-      let p : whole ++ h.inner ≡ as_text (preamble e []) ++ (as_text h.marks ++ (as_text zeros ++ h.inner)) =
-      ap (λ l. l ++ h.inner) (preamble_is e (h.marks ++ zeros) ∙ ap (λ l. as_text (preamble e []) ++ l) (sym (as_text-append h.marks zeros)))
-      ∙ append_assoc (as_text (preamble e [])) (as_text h.marks ++ as_text zeros) h.inner
-      ∙ ap (λ l. as_text (preamble e []) ++ l) (append_assoc (as_text h.marks) (as_text zeros) h.inner) in
-      h.text ∙ ap (λ l. h.front ++ l) p ∙ sym (append_assoc h.front (as_text (preamble e [])) (as_text h.marks ++ (as_text zeros ++ h.inner)))
+      let p : whole ++ h.inner ≡ as_text (preamble e []) ++ (as_text h.presence_bits ++ (as_text zeros ++ h.inner)) =
+      ap (λ l. l ++ h.inner) (preamble_is e (h.presence_bits ++ zeros) ∙ ap (λ l. as_text (preamble e []) ++ l) (sym (as_text-append h.presence_bits zeros)))
+      ∙ append_assoc (as_text (preamble e [])) (as_text h.presence_bits ++ as_text zeros) h.inner
+      ∙ ap (λ l. as_text (preamble e []) ++ l) (append_assoc (as_text h.presence_bits) (as_text zeros) h.inner) in
+      h.text ∙ ap (λ l. h.front ++ l) p ∙ sym (append_assoc h.front (as_text (preamble e [])) (as_text h.presence_bits ++ (as_text zeros ++ h.inner)))
 
-  marks_shown : solid (take given (drop (at start + mark_width e) o.text)) ≡ h.marks
-  marks_shown =
-      let n : length (h.front ++ as_text (preamble e [])) ≡ at start + mark_width e = omega (arith, length-append h.front (as_text (preamble e [])), length-preamble e [], h.starts) in
-      let m : length (as_text h.marks) ≡ given = length-text h.marks ∙ h.told in
-      ap solid (ap (take given) (ap (drop (at start + mark_width e)) apart ∙ drop_at (h.front ++ as_text (preamble e [])) (as_text h.marks ++ (as_text zeros ++ h.inner)) (at start + mark_width e) n) ∙ take_at (as_text h.marks) (as_text zeros ++ h.inner) given m) ∙ solid-bits h.marks
+  presence_shown : solid (take given (drop (at start + extension_bit_width e) o.text)) ≡ h.presence_bits
+  presence_shown =
+      let n : length (h.front ++ as_text (preamble e [])) ≡ at start + extension_bit_width e = omega (arith, length-append h.front (as_text (preamble e [])), length-preamble e [], h.starts) in
+      let m : length (as_text h.presence_bits) ≡ given = length-text h.presence_bits ∙ h.told in
+      ap solid (ap (take given) (ap (drop (at start + extension_bit_width e)) apart ∙ drop_at (h.front ++ as_text (preamble e [])) (as_text h.presence_bits ++ (as_text zeros ++ h.inner)) (at start + extension_bit_width e) n) ∙ take_at (as_text h.presence_bits) (as_text zeros ++ h.inner) given m) ∙ solid-bits h.presence_bits
 
-  pub length-open : length o.text ≡ at start + (mark_width e + (given + due)) + length h.inner
+  pub length-open : length o.text ≡ at start + (extension_bit_width e + (given + due)) + length h.inner
   length-open = omega (arith, ap length (h.text ∙ sym (append_assoc h.front whole h.inner)), length-append (h.front ++ whole) h.inner, length-front)
 
 same_added : (due : ℕ) (slots : List (Option (List Bool))) (i j : Text) (m n : List Bool) (r q : Text) (t u : State) → i ≡ j → m ≡ n → r ≡ q → t ≡ u → (let l : State = (i, added due m r slots t.0 ∷ t.1) in l) ≡ (j, added due n q slots u.0 ∷ u.1)
@@ -72,16 +72,16 @@ same_added due slots i j m n r q t u a b c d =
 
 module _ (below : Packed → State → Type 0) (due given : ℕ) (start end : Place) (slots : List (Option (List Bool))) (o : Packed) (s : State) (h : IsAdded below due given start end slots o s) where
   abbrev head : Text
-  head = h.front ++ (as_text (preamble true h.marks) ++ h.root)
+  head = h.front ++ (as_text (preamble true h.presence_bits) ++ h.root)
 
   pub length-head : length head ≡ at end
-  length-head = omega (arith, length-append h.front (as_text (preamble true h.marks) ++ h.root), length-append (as_text (preamble true h.marks)) h.root, length-preamble true h.marks, h.starts, h.told, h.ends)
+  length-head = omega (arith, length-append h.front (as_text (preamble true h.presence_bits) ++ h.root), length-append (as_text (preamble true h.presence_bits)) h.root, length-preamble true h.presence_bits, h.starts, h.told, h.ends)
 
   in_two : o.text ≡ head ++ h.inner
   in_two =
       h.text
-      ∙ ap (λ l. h.front ++ l) (sym (append_assoc (as_text (preamble true h.marks)) h.root h.inner))
-      ∙ sym (append_assoc h.front (as_text (preamble true h.marks) ++ h.root) h.inner)
+      ∙ ap (λ l. h.front ++ l) (sym (append_assoc (as_text (preamble true h.presence_bits)) h.root h.inner))
+      ∙ sym (append_assoc h.front (as_text (preamble true h.presence_bits) ++ h.root) h.inner)
 
   pub head_shown : take (at end) o.text ≡ head
   head_shown = ap (take (at end)) in_two ∙ take_at head h.inner (at end) length-head
@@ -90,19 +90,19 @@ module _ (below : Packed → State → Type 0) (due given : ℕ) (start end : Pl
   behind_shown = ap (drop (at end)) in_two ∙ drop_at head h.inner (at end) length-head
 
   before_shown : take (at start) o.text ≡ h.front
-  before_shown = ap (take (at start)) h.text ∙ take_at h.front (as_text (preamble true h.marks) ++ (h.root ++ h.inner)) (at start) h.starts
+  before_shown = ap (take (at start)) h.text ∙ take_at h.front (as_text (preamble true h.presence_bits) ++ (h.root ++ h.inner)) (at start) h.starts
 
-  given_shown : solid (take given (drop (at start + 1) o.text)) ≡ h.marks
+  given_shown : solid (take given (drop (at start + 1) o.text)) ≡ h.presence_bits
   given_shown =
       let n : length (h.front ++ bit false ∷ []) ≡ at start + 1 = omega (arith, length-append h.front (bit false ∷ []), h.starts) in
-      let m : length (as_text h.marks) ≡ given = length-text h.marks ∙ h.told in
-      let apart : o.text ≡ (h.front ++ bit false ∷ []) ++ (as_text h.marks ++ (h.root ++ h.inner)) = h.text ∙ sym (append_assoc h.front (bit false ∷ []) (as_text h.marks ++ (h.root ++ h.inner))) in
-      ap solid (ap (take given) (ap (drop (at start + 1)) apart ∙ drop_at (h.front ++ bit false ∷ []) (as_text h.marks ++ (h.root ++ h.inner)) (at start + 1) n) ∙ take_at (as_text h.marks) (h.root ++ h.inner) given m) ∙ solid-bits h.marks
+      let m : length (as_text h.presence_bits) ≡ given = length-text h.presence_bits ∙ h.told in
+      let apart : o.text ≡ (h.front ++ bit false ∷ []) ++ (as_text h.presence_bits ++ (h.root ++ h.inner)) = h.text ∙ sym (append_assoc h.front (bit false ∷ []) (as_text h.presence_bits ++ (h.root ++ h.inner))) in
+      ap solid (ap (take given) (ap (drop (at start + 1)) apart ∙ drop_at (h.front ++ bit false ∷ []) (as_text h.presence_bits ++ (h.root ++ h.inner)) (at start + 1) n) ∙ take_at (as_text h.presence_bits) (h.root ++ h.inner) given m) ∙ solid-bits h.presence_bits
 
   root_shown : drop (at start + (1 + given)) (take (at end) o.text) ≡ h.root
   root_shown =
-      let n : length (h.front ++ as_text (preamble true h.marks)) ≡ at start + (1 + given) = omega (arith, length-append h.front (as_text (preamble true h.marks)), length-preamble true h.marks, h.starts, h.told) in
-      ap (drop (at start + (1 + given))) (head_shown ∙ sym (append_assoc h.front (as_text (preamble true h.marks)) h.root)) ∙ drop_at (h.front ++ as_text (preamble true h.marks)) h.root (at start + (1 + given)) n
+      let n : length (h.front ++ as_text (preamble true h.presence_bits)) ≡ at start + (1 + given) = omega (arith, length-append h.front (as_text (preamble true h.presence_bits)), length-preamble true h.presence_bits, h.starts, h.told) in
+      ap (drop (at start + (1 + given))) (head_shown ∙ sym (append_assoc h.front (as_text (preamble true h.presence_bits)) h.root)) ∙ drop_at (h.front ++ as_text (preamble true h.presence_bits)) h.root (at start + (1 + given)) n
 
   pub length-added : length o.text ≡ at end + length h.inner
   length-added = omega (arith, ap length in_two, length-append head h.inner, length-head)
@@ -110,17 +110,17 @@ module _ (below : Packed → State → Type 0) (due given : ℕ) (start end : Pl
 pub shown_is : (fs : List Frame) (o : Packed) (s : State) → Holds fs o s → shown fs o ≡ s
 shown_is [] o s h = sym h.1
 shown_is (Components e due given start ∷ fs) o s h =
-    same_open e due _ h.inner _ h.marks _ h.outer (inner_shown _ e due given start o s h) (marks_shown _ e due given start o s h)
+    same_open e due _ h.inner _ h.presence_bits _ h.outer (inner_shown _ e due given start o s h) (presence_shown _ e due given start o s h)
     (ap (λ t. shown fs (instead t o)) (front_shown _ e due given start o s h) ∙ shown_is fs (instead h.front o) h.outer h.under)
     ∙ sym h.is
 shown_is (Added a ∷ fs) o s h =
-    same_added a.due a.slots.items _ h.inner _ h.marks _ h.root _ h.outer (behind_shown _ a.due a.given a.start a.end a.slots.items o s h) (given_shown _ a.due a.given a.start a.end a.slots.items o s h) (root_shown _ a.due a.given a.start a.end a.slots.items o s h)
+    same_added a.due a.slots.items _ h.inner _ h.presence_bits _ h.root _ h.outer (behind_shown _ a.due a.given a.start a.end a.slots.items o s h) (given_shown _ a.due a.given a.start a.end a.slots.items o s h) (root_shown _ a.due a.given a.start a.end a.slots.items o s h)
     (ap (λ t. shown fs (instead t o)) (before_shown _ a.due a.given a.start a.end a.slots.items o s h) ∙ shown_is fs (instead h.front o) h.outer h.under)
     ∙ sym h.is
 shown_is (OpenType front ∷ fs) o s h = ap (λ (t : State). let l : State = (o.text, open_type t.0 ∷ t.1) in l) (shown_is fs front h.0 h.3) ∙ sym h.1
 shown_is (Bag b ∷ fs) o s h = ap (λ (t : State). let l : State = (o.text, bag_of b.value t.0 ∷ t.1) in l) (shown_is fs b.value.outer h.0 h.3) ∙ sym h.1
 shown_is (Alternative ∷ fs) o s h = ap (λ (t : State). let l : State = (t.0, alternative ∷ t.1) in l) (shown_is fs o h.0 h.2) ∙ sym h.1
-shown_is (Members d ∷ fs) o s h = ap (λ (t : State). let l : State = (t.0, members d.units (headers_of d.behind) ∷ t.1) in l) (shown_is fs o h.0 h.2) ∙ sym h.1
+shown_is (Members d ∷ fs) o s h = ap (λ (t : State). let l : State = (t.0, members d.units (determinants_of d.behind) ∷ t.1) in l) (shown_is fs o h.0 h.2) ∙ sym h.1
 
 -- ---- the position is that of the end of the text
 
@@ -141,13 +141,13 @@ moved_on (Some p) true a c m n k h e =
 pub at_end : (fs : List Frame) (o : Packed) (s : State) → Holds fs o s → position s ≡ place o
 at_end [] o s h = ap position h.1 ∙ first_at_end o h.0
 at_end (Components e due given start ∷ fs) o s h =
-    let m : length h.outer.0 + (mark_width e + length h.marks + due) ≡ length h.outer.0 + (mark_width e + length h.marks + due) = refl in
+    let m : length h.outer.0 + (extension_bit_width e + length h.presence_bits + due) ≡ length h.outer.0 + (extension_bit_width e + length h.presence_bits + due) = refl in
     ap position h.is
-    ∙ moved_on (offset h.outer.1) o.placed (length h.outer.0) (length h.front) (mark_width e + length h.marks + due) (length h.inner) (length o.text) (at_end fs (instead h.front o) h.outer h.under)
+    ∙ moved_on (offset h.outer.1) o.placed (length h.outer.0) (length h.front) (extension_bit_width e + length h.presence_bits + due) (length h.inner) (length o.text) (at_end fs (instead h.front o) h.outer h.under)
     (omega (arith, h.starts, h.told, length-open _ e due given start o s h))
 at_end (Added a ∷ fs) o s h =
     ap position h.is
-    ∙ moved_on (offset h.outer.1) o.placed (length h.outer.0) (length h.front) (1 + length h.marks + length h.root) (length h.inner) (length o.text) (at_end fs (instead h.front o) h.outer h.under)
+    ∙ moved_on (offset h.outer.1) o.placed (length h.outer.0) (length h.front) (1 + length h.presence_bits + length h.root) (length h.inner) (length o.text) (at_end fs (instead h.front o) h.outer h.under)
     (omega (arith, h.starts, h.told, h.ends, length-added _ a.due a.given a.start a.end a.slots.items o s h))
 at_end (OpenType front ∷ fs) o s h = ap position h.1 ∙ first_at_end o h.2
 at_end (Bag b ∷ fs) o s h = ap position h.1 ∙ ap (λ b. cond b (Some (length o.text)) None) (sym h.2)
@@ -161,9 +161,9 @@ appended [] o s w h = (h.0, ap (λ (t : State). let l : State = (t.0 ++ w, t.1) 
 appended (Components e due given start ∷ fs) o s w h = record {
   front = h.front;
   inner = h.inner ++ w;
-  marks = h.marks;
+  presence_bits = h.presence_bits;
   outer = h.outer;
-  text = ap (λ l. l ++ w) h.text ∙ (append_assoc h.front (as_text (preamble e (h.marks ++ replicate due false)) ++ h.inner) w ∙ ap (λ l. h.front ++ l) (append_assoc (as_text (preamble e (h.marks ++ replicate due false))) h.inner w));
+  text = ap (λ l. l ++ w) h.text ∙ (append_assoc h.front (as_text (preamble e (h.presence_bits ++ replicate due false)) ++ h.inner) w ∙ ap (λ l. h.front ++ l) (append_assoc (as_text (preamble e (h.presence_bits ++ replicate due false))) h.inner w));
   bits = h.bits;
   starts = h.starts;
   told = h.told;
@@ -173,11 +173,11 @@ appended (Components e due given start ∷ fs) o s w h = record {
 }
 appended (Added a ∷ fs) o s w h = record {
   front = h.front;
-  marks = h.marks;
+  presence_bits = h.presence_bits;
   root = h.root;
   inner = h.inner ++ w;
   outer = h.outer;
-  text = ap (λ l. l ++ w) h.text ∙ (append_assoc h.front (as_text (preamble true h.marks) ++ (h.root ++ h.inner)) w ∙ ap (λ l. h.front ++ l) (append_assoc (as_text (preamble true h.marks)) (h.root ++ h.inner) w ∙ ap (λ l. as_text (preamble true h.marks) ++ l) (append_assoc h.root h.inner w)));
+  text = ap (λ l. l ++ w) h.text ∙ (append_assoc h.front (as_text (preamble true h.presence_bits) ++ (h.root ++ h.inner)) w ∙ ap (λ l. h.front ++ l) (append_assoc (as_text (preamble true h.presence_bits)) (h.root ++ h.inner) w ∙ ap (λ l. as_text (preamble true h.presence_bits) ++ l) (append_assoc h.root h.inner w)));
   bits = h.bits;
   starts = h.starts;
   told = h.told;

@@ -9,7 +9,7 @@ use Rattle.asn1_model.specs.Per
 use Rattle.asn1_schema_presented.specs.Records.{Record}
 use Rattle.asn1_schema_presented.specs.Presents.{presents, member_records, member_count}
 use Rattle.per_codec_packing.specs.Texts.{Text, on, text_at, as_form}
-use Rattle.per_codec_encoder.specs.Steps.{Headers, Scope, bag_members, position, Heading, list_heading, with_open, bag_opened, closed_bag, State, runs}
+use Rattle.per_codec_encoder.specs.Steps.{LengthDeterminants, Scope, bag_members, position, Heading, list_heading, with_open, bag_opened, closed_bag, State, runs}
 use Rattle.per_codec_encoder.specs.Ties.{BridgesAt, Bridges}
 use Rattle.per_codec_packing.proofs.Formed.{chain_same, in_turn}
 use Rattle.per_codec_encoder.proofs.Bridge.{one_text}
@@ -214,11 +214,11 @@ fragments_same : (al : Bool) (ms : List ℕ) (ys : List Told) (q : Option ℕ) �
 unfolding Per.fragments text_at
 fragments_same al [] ys q = ap (λ n. text_at (both (Per.short_length al n) (joined (retold ys))) q) (same_count ys) ∙ both_same (Per.short_length al (length (forms_of ys))) (Per.short_length al (length (forms_of ys))) (joined (retold ys)) (joined (forms_of ys)) (λ p. refl) (joined_same ys) q
 fragments_same al (m ∷ ms) ys q =
-    ap (λ n. text_at (only_if (leb 1 m && leb m 4 && leb (m * 16384) n) (both header (both (joined (take (m * 16384) (retold ys))) (Per.fragments al ms (drop (m * 16384) (retold ys)))))) q) (same_count ys)
+    ap (λ n. text_at (only_if (leb 1 m && leb m 4 && leb (m * 16384) n) (both determinant (both (joined (take (m * 16384) (retold ys))) (Per.fragments al ms (drop (m * 16384) (retold ys)))))) q) (same_count ys)
     ∙ by_test (leb 1 m && leb m 4 && leb (m * 16384) (length (forms_of ys))) (λ p. fragments_same al ms (drop (m * 16384) ys) p)
   where
-    header : Per.BitForm
-    header = Per.at_octet al (exactly (true ∷ true ∷ binary 6 m))
+    determinant : Per.BitForm
+    determinant = Per.at_octet al (exactly (true ∷ true ∷ binary 6 m))
 
     behind : List Per.BitForm → Per.BitForm
     behind us = both (joined (take (m * 16384) us)) (Per.fragments al ms (drop (m * 16384) us))
@@ -226,11 +226,11 @@ fragments_same al (m ∷ ms) ys q =
     left_same : ((p : Option ℕ) → text_at (Per.fragments al ms (retold (drop (m * 16384) ys))) p ≡ text_at (Per.fragments al ms (forms_of (drop (m * 16384) ys))) p) → (p : Option ℕ) → text_at (Per.fragments al ms (drop (m * 16384) (retold ys))) p ≡ text_at (Per.fragments al ms (drop (m * 16384) (forms_of ys))) p
     left_same h p = ap (λ l. text_at (Per.fragments al ms l) p) (drop-map (λ (y : Told). as_form y.text) (m * 16384) ys) ∙ h p ∙ ap (λ l. text_at (Per.fragments al ms l) p) (sym (drop-map (λ (y : Told). y.form) (m * 16384) ys))
 
-    by_test : (t : Bool) → ((p : Option ℕ) → text_at (Per.fragments al ms (retold (drop (m * 16384) ys))) p ≡ text_at (Per.fragments al ms (forms_of (drop (m * 16384) ys))) p) → text_at (only_if t (both header (both (joined (take (m * 16384) (retold ys))) (Per.fragments al ms (drop (m * 16384) (retold ys)))))) q ≡ text_at (only_if t (both header (both (joined (take (m * 16384) (forms_of ys))) (Per.fragments al ms (drop (m * 16384) (forms_of ys)))))) q
+    by_test : (t : Bool) → ((p : Option ℕ) → text_at (Per.fragments al ms (retold (drop (m * 16384) ys))) p ≡ text_at (Per.fragments al ms (forms_of (drop (m * 16384) ys))) p) → text_at (only_if t (both determinant (both (joined (take (m * 16384) (retold ys))) (Per.fragments al ms (drop (m * 16384) (retold ys)))))) q ≡ text_at (only_if t (both determinant (both (joined (take (m * 16384) (forms_of ys))) (Per.fragments al ms (drop (m * 16384) (forms_of ys)))))) q
     by_test false h = refl
-    by_test true h = both_same header header (behind (retold ys)) (behind (forms_of ys)) (λ p. refl) (both_same (joined (take (m * 16384) (retold ys))) (joined (take (m * 16384) (forms_of ys))) (Per.fragments al ms (drop (m * 16384) (retold ys))) (Per.fragments al ms (drop (m * 16384) (forms_of ys))) (taken_same (m * 16384) ys) (left_same h)) q
+    by_test true h = both_same determinant determinant (behind (retold ys)) (behind (forms_of ys)) (λ p. refl) (both_same (joined (take (m * 16384) (retold ys))) (joined (take (m * 16384) (forms_of ys))) (Per.fragments al ms (drop (m * 16384) (retold ys))) (Per.fragments al ms (drop (m * 16384) (forms_of ys))) (taken_same (m * 16384) ys) (left_same h)) q
 
-due_same : (al : Bool) (n : ℕ) (hs : Headers) (ys : List Told) (q : Option ℕ) → text_at (form_due al n hs (retold ys)) q ≡ text_at (form_due al n hs (forms_of ys)) q
+due_same : (al : Bool) (n : ℕ) (hs : LengthDeterminants) (ys : List Told) (q : Option ℕ) → text_at (form_due al n hs (retold ys)) q ≡ text_at (form_due al n hs (forms_of ys)) q
 due_same al n None ys q = joined_same ys q
 due_same al n (Some h) ys q = both_same (joined (take n (retold ys))) (joined (take n (forms_of ys))) (Per.fragments al h.0 (drop n (retold ys))) (Per.fragments al h.0 (drop n (forms_of ys))) (taken_same n ys) (λ p. ap (λ l. text_at (Per.fragments al h.0 l) p) (drop-map (λ (y : Told). as_form y.text) n ys) ∙ fragments_same al h.0 (drop n ys) p ∙ ap (λ l. text_at (Per.fragments al h.0 l) p) (sym (drop-map (λ (y : Told). y.form) n ys))) q
 
@@ -240,7 +240,7 @@ module _ (al : Bool) (z : Size) (held : Counts) (q : Option ℕ) where
 
   heading_same : (ys : List Told) (o : Option Heading) → by_heading al (retold ys) q o ≡ by_heading al (forms_of ys) q o
   heading_same ys None = refl
-  heading_same ys (Some g) = ap (option_map (λ b. g.text ++ b)) (due_same al g.due g.headers ys (on q g.text))
+  heading_same ys (Some g) = ap (option_map (λ b. g.text ++ b)) (due_same al g.due g.determinants ys (on q g.text))
 
   sized_same : (ys : List Told) → text_at (size (retold ys)) q ≡ text_at (size (forms_of ys)) q
   sized_same ys =

@@ -10,7 +10,7 @@ use Rattle.asn1_model.specs.Per
 use Rattle.asn1_schema_presented.specs.Records.{Record, mark, is_default, is_empty, ends, mismatch}
 use Rattle.asn1_schema_presented.specs.Presents.{presents, root_records, optional_count, marked}
 use Rattle.per_codec_packing.specs.Texts.{Text, as_text, moved, on, text_at}
-use Rattle.per_codec_encoder.specs.Steps.{Scope, components, mark_width, offset, position, runs}
+use Rattle.per_codec_encoder.specs.Steps.{Scope, components, extension_bit_width, offset, position, runs}
 use Rattle.per_codec_encoder.specs.Ties.{BridgesAt, Bridges}
 use Rattle.per_codec_packing.proofs.Formed.{chain_same, none_behind, two_texts, moved_twice, behind, length-text}
 
@@ -69,7 +69,7 @@ it_and_others al e cs s v h others d g ps ms front os k rs more =
 one_bit : (e : Bool) (n : ℕ) (ms : List Bool) (b : Bool) (front os : Text) (k : List Scope) → position (os, components e n (ms ++ b ∷ []) front ∷ k) ≡ position (os, components e (suc n) ms front ∷ k)
 one_bit e n ms b front os k =
     let l = length-append ms (b ∷ []) in
-    let m : length front + (mark_width e + length (ms ++ b ∷ []) + n) ≡ length front + (mark_width e + length ms + suc n) = omega arith in
+    let m : length front + (extension_bit_width e + length (ms ++ b ∷ []) + n) ≡ length front + (extension_bit_width e + length ms + suc n) = omega arith in
     ap (λ w. on (moved (offset k) w) os) m
 
 marked_off : (al e b : Bool) (cs : Components) (x : Per.BitForm) (ps : Parts) (ms : List Bool) (front os : Text) (k : List Scope) (rs more : List Record) → option_and_then (λ w. runs al (rs ++ more) (os ++ w, components e 0 ((ms ++ b ∷ []) ++ marks cs ps) front ∷ k)) (text_at x (position (os, components e (optional_count cs) (ms ++ b ∷ []) front ∷ k))) ≡ option_and_then (λ w. runs al (rs ++ more) (os ++ w, components e 0 (ms ++ (b ∷ marks cs ps)) front ∷ k)) (text_at x (position (os, components e (suc (optional_count cs)) ms front ∷ k)))
@@ -98,13 +98,13 @@ root al e (component t o s cs) h (present v ps) ms front os k rs more = one_ther
 root al e (component t o s cs) h (absent ps) ms front os k rs more = one_absent al e (is_required o) cs (root al e cs h.1) ps ms front os k rs more
 root al e (component t o s cs) h end ms front os k rs more = refl
 
--- ---- without a mark
+-- ---- without an extension bit
 
 -- the root begins behind the preamble
-pub preamble_place : (e : Bool) (n : ℕ) (os : Text) (k : List Scope) (t : Text) → mark_width e + n ≡ length t → position ([], components e n [] os ∷ k) ≡ on (position (os, k)) t
+pub preamble_place : (e : Bool) (n : ℕ) (os : Text) (k : List Scope) (t : Text) → extension_bit_width e + n ≡ length t → position ([], components e n [] os ∷ k) ≡ on (position (os, k)) t
 preamble_place e n os k t h =
-    let m : length os + (mark_width e + 0 + n) + 0 ≡ length os + length t = omega arith in
-    moved_twice (offset k) (length os + (mark_width e + 0 + n)) 0 ∙ ap (moved (offset k)) m ∙ sym (moved_twice (offset k) (length os) (length t))
+    let m : length os + (extension_bit_width e + 0 + n) + 0 ≡ length os + length t = omega arith in
+    moved_twice (offset k) (length os + (extension_bit_width e + 0 + n)) 0 ∙ ap (moved (offset k)) m ∙ sym (moved_twice (offset k) (length os) (length t))
 
 -- the end puts the presence bits in front of the root's bits
 closed_off : (al : Bool) (cs : Components) → EachBridges cs → (ps : Parts) (os : Text) (k : List Scope) (rest : List Record) → runs al (root_records cs ps (ends ∷ []) ++ rest) ([], components false (optional_count cs) [] os ∷ k) ≡ option_and_then (λ w. runs al rest (os ++ w, k)) (text_at (both (exactly (marks cs ps)) (Per.component_forms al cs ps)) (position (os, k)))

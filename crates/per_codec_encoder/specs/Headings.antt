@@ -6,7 +6,7 @@ use Rattle.asn1_schema_faults.specs.declared.EncodeError.TheVariants.{OutOfMemor
 use Rattle.asn1_schema_faults.specs.declared.EncodeError.TheVariants.{AlreadyFailed}
 use Rattle.per_codec_packing.specs.Texts.{Text}
 use Rattle.per_codec_packing.specs.Packed.{Packed, place, plus}
-use Rattle.per_codec_writing.specs.Headings.{headers_of}
+use Rattle.per_codec_writing.specs.Headings.{determinants_of}
 use Rattle.per_codec_writing.specs.declared.lengths.Due.{Due}
 use Rattle.per_codec_encoder.specs.Steps.{Scope, members, position, goes_on_in, counted_on}
 
@@ -16,7 +16,7 @@ pub record GoesOn (al : Bool) (d : Due) (old : Packed) (next : Due) (new : Packe
   pub text : Text
   pub added : new ≡ plus old text
   pub goes : (os : Text) (k : List Scope) (b : Bool) → position (os, k) ≡ place old
-      → goes_on_in al d.units (headers_of d.behind) os k b ≡ counted_on next.units (headers_of next.behind)
+      → goes_on_in al d.units (determinants_of d.behind) os k b ≡ counted_on next.units (determinants_of next.behind)
       (os ++ text) k b
   pub ready : next.units ≡ 0 → next.behind ≡ None
 
@@ -25,8 +25,8 @@ pub record GoesOnInList (al more : Bool) (d : Due) (old : Packed) (next : Due) (
   pub text : Text
   pub added : new ≡ plus old text
   pub goes : (os : Text) (k : List Scope) → position (os, k) ≡ place old
-      → goes_on_in al d.units (headers_of d.behind) os k more ≡ Some
-      (os ++ text, members next.units (headers_of next.behind) ∷ k)
+      → goes_on_in al d.units (determinants_of d.behind) os k more ≡ Some
+      (os ++ text, members next.units (determinants_of next.behind) ∷ k)
 
 -- Why nothing comes next in a list: memory was refused, or there is no step. No size is judged then.
 abbrev pub NoMember : Bool → Bool → Due → Packed → EncodeError → Type 0
@@ -34,4 +34,4 @@ NoMember al more d old OutOfMemory = Unit {0}
 NoMember al more d old SizeConstraintNotSatisfied = ⊥
 NoMember al more d old AlreadyFailed = ⊥
 NoMember al more d old e = (os : Text) (k : List Scope) → position (os, k) ≡ place old
-    → goes_on_in al d.units (headers_of d.behind) os k more ≡ None
+    → goes_on_in al d.units (determinants_of d.behind) os k more ≡ None

@@ -7,19 +7,20 @@ use Rattle.asn1_schema_faults.specs.declared.EncodeError.TheVariants.{OutOfMemor
 use Rattle.asn1_schema_presented.specs.Records.{Record}
 use Rattle.per_codec_packing.specs.Texts.{Text, as_text}
 use Rattle.per_codec_packing.specs.Packed.{Packed, solid}
-use Rattle.per_codec_encoder.specs.Steps.{components, added, open_type, members, alternative, mark_width, State, run}
+use Rattle.per_codec_encoder.specs.Steps.{components, added, open_type, members, alternative, extension_bit_width}
+use Rattle.per_codec_encoder.specs.Steps.{State, run}
 use Rattle.per_codec_encoder.specs.declared.frame.Frame.{Frame}
 use Rattle.per_codec_encoder.specs.declared.frame.Frame.TheVariants.{Components, Added, OpenType, Members, Bag}
 use Rattle.per_codec_encoder.specs.declared.frame.Frame.TheVariants.{Alternative}
 use Rattle.per_codec_encoder.specs.declared.frame.Place.{Place}
-use Rattle.per_codec_writing.specs.Headings.{headers_of}
+use Rattle.per_codec_writing.specs.Headings.{determinants_of}
 use Rattle.per_codec_encoder.specs.Bags.{bag_of}
 
 -- How long the text in front of a place is.
 abbrev pub at : Place → ℕ
 at p = p.bits + p.fills
 
--- The bits of a preamble (X.691 19.1 to 19.3): the mark of extensibility, which is not set, where there is one, and the
+-- The bits of a preamble (X.691 19.1 to 19.3): the extension bit, which is not set, where there is one, and the
 -- presence bits.
 abbrev pub preamble : Bool → List Bool → List Bool
 preamble true ms = false ∷ ms
@@ -34,9 +35,9 @@ abbrev pub shown : List Frame → Packed → State
 shown [] o = (o.text, [])
 shown (Components e due given start ∷ fs) o =
     let below = shown fs (instead (take (at start) o.text) o) in (
-      drop (at start + (mark_width e + (given + due))) o.text,
+      drop (at start + (extension_bit_width e + (given + due))) o.text,
       components e due
-          (solid (take given (drop (at start + mark_width e) o.text))) below.0 ∷ below.1,
+          (solid (take given (drop (at start + extension_bit_width e) o.text))) below.0 ∷ below.1,
     )
 shown (Added a ∷ fs) o =
     let below = shown fs (instead (take (at a.start) o.text) o) in (
@@ -49,7 +50,7 @@ shown (OpenType front ∷ fs) o =
     (o.text, open_type below.0 ∷ below.1)
 shown (Members d ∷ fs) o =
     let below = shown fs o in
-    (below.0, members d.units (headers_of d.behind) ∷ below.1)
+    (below.0, members d.units (determinants_of d.behind) ∷ below.1)
 shown (Bag b ∷ fs) o =
     let below = shown fs b.value.outer in
     (o.text, bag_of b.value below.0 ∷ below.1)
@@ -63,33 +64,33 @@ pub record IsOpen (below : Packed → State → Type 0) (e : Bool) (due given : 
     (s : State) : Type 0 where
   pub front : Text
   pub inner : Text
-  pub marks : List Bool
+  pub presence_bits : List Bool
   pub outer : State
-  pub text : o.text ≡ front ++ (as_text (preamble e (marks ++ replicate due false)) ++ inner)
+  pub text : o.text ≡ front ++ (as_text (preamble e (presence_bits ++ replicate due false)) ++ inner)
   pub bits : length (solid front) ≡ start.bits
   pub starts : length front ≡ at start
-  pub told : length marks ≡ given
-  pub counts : start.bits + (mark_width e + (given + due)) < 2 ^ 64
+  pub told : length presence_bits ≡ given
+  pub counts : start.bits + (extension_bit_width e + (given + due)) < 2 ^ 64
   pub under : below (instead front o) outer
-  pub is : s ≡ (inner, components e due marks outer.0 ∷ outer.1)
+  pub is : s ≡ (inner, components e due presence_bits outer.0 ∷ outer.1)
 
 -- The text is that in front of a sequence behind its root, its preamble, of which no bit is due, its root, and what
 -- stands behind it.
 pub record IsAdded (below : Packed → State → Type 0) (due given : ℕ) (start end : Place)
     (slots : List (Option (List Bool))) (o : Packed) (s : State) : Type 0 where
   pub front : Text
-  pub marks : List Bool
+  pub presence_bits : List Bool
   pub root : Text
   pub inner : Text
   pub outer : State
-  pub text : o.text ≡ front ++ (as_text (preamble true marks) ++ (root ++ inner))
+  pub text : o.text ≡ front ++ (as_text (preamble true presence_bits) ++ (root ++ inner))
   pub bits : length (solid front) ≡ start.bits
   pub starts : length front ≡ at start
-  pub told : length marks ≡ given
+  pub told : length presence_bits ≡ given
   pub ends : at start + (1 + given + length root) ≡ at end
-  pub end_bits : length (solid (front ++ (as_text (preamble true marks) ++ root))) ≡ end.bits
+  pub end_bits : length (solid (front ++ (as_text (preamble true presence_bits) ++ root))) ≡ end.bits
   pub under : below (instead front o) outer
-  pub is : s ≡ (inner, added due marks root slots outer.0 ∷ outer.1)
+  pub is : s ≡ (inner, added due presence_bits root slots outer.0 ∷ outer.1)
 
 -- The text and the frames stand for a state.
 abbrev pub Holds : List Frame → Packed → State → Type 0
@@ -98,7 +99,7 @@ Holds (Components e due given start ∷ fs) o s = IsOpen (λ p t. Holds fs p t) 
 Holds (Added a ∷ fs) o s = IsAdded (λ p t. Holds fs p t) a.due a.given a.start a.end a.slots.items o s
 Holds (OpenType front ∷ fs) o s = (outer : State) × (s ≡ (o.text, open_type outer.0 ∷ outer.1)) × (o.placed ≡ true)
     × Holds fs front outer
-Holds (Members d ∷ fs) o s = (outer : State) × (s ≡ (outer.0, members d.units (headers_of d.behind) ∷ outer.1))
+Holds (Members d ∷ fs) o s = (outer : State) × (s ≡ (outer.0, members d.units (determinants_of d.behind) ∷ outer.1))
     × Holds fs o outer
 Holds (Bag b ∷ fs) o s = (outer : State) × (s ≡ (o.text, bag_of b.value outer.0 ∷ outer.1)) × (o.placed ≡ false)
     × Holds fs b.value.outer outer

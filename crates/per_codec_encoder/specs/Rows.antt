@@ -14,15 +14,15 @@ Packs al rs w = option_and_then octets_of (runs al rs ([], [])) ≡ Some w
 
 -- ---- records
 
--- INTEGER; INTEGER (0..255), and with a mark; INTEGER (0..65535)
+-- INTEGER; INTEGER (0..255), and with an extension marker; INTEGER (0..65535)
 abbrev pub whole : ℤ → call.Record
 whole v = call.whole (from_to None None false) any_number v
 
 abbrev pub octet : ℕ → call.Record
 octet n = call.whole (from_to (Some (pos 0)) (Some (pos 255)) false) any_number (pos n)
 
-abbrev pub marked_octet : ℕ → call.Record
-marked_octet n = call.whole (from_to (Some (pos 0)) (Some (pos 255)) true) any_number (pos n)
+abbrev pub extensible_octet : ℕ → call.Record
+extensible_octet n = call.whole (from_to (Some (pos 0)) (Some (pos 255)) true) any_number (pos n)
 
 abbrev pub word : ℕ → call.Record
 word n = call.whole (from_to (Some (pos 0)) (Some (pos 65535)) false) any_number (pos n)
@@ -89,10 +89,10 @@ root_alternative = call.choice_begins (context 0 ∷ context 1 ∷ []) true (con
 abbrev pub OctetRows : Type 0
 OctetRows =
     Packs false (call.nil ∷ []) (0x00 ∷ [])
-    × Packs false (marked_octet 7 ∷ []) (0x03 ∷ 0x80 ∷ [])
-    × Packs false (marked_octet 300 ∷ []) (0x81 ∷ 0x00 ∷ 0x96 ∷ 0x00 ∷ [])
-    × Packs true (marked_octet 7 ∷ []) (0x00 ∷ 0x07 ∷ [])
-    × Packs true (marked_octet 300 ∷ []) (0x80 ∷ 0x02 ∷ 0x01 ∷ 0x2C ∷ [])
+    × Packs false (extensible_octet 7 ∷ []) (0x03 ∷ 0x80 ∷ [])
+    × Packs false (extensible_octet 300 ∷ []) (0x81 ∷ 0x00 ∷ 0x96 ∷ 0x00 ∷ [])
+    × Packs true (extensible_octet 7 ∷ []) (0x00 ∷ 0x07 ∷ [])
+    × Packs true (extensible_octet 300 ∷ []) (0x80 ∷ 0x02 ∷ 0x01 ∷ 0x2C ∷ [])
     × Packs false two_lists (0x80 ∷ 0x81 ∷ 0x01 ∷ 0x82 ∷ 0x02 ∷ 0x83 ∷ 0x01 ∷ 0xC2 ∷ 0x02 ∷ 0x6A ∷ 0xC0 ∷ [])
     × Packs true two_lists (0x80 ∷ 0x01 ∷ 0x02 ∷ 0x03 ∷ 0x04 ∷ 0x05 ∷ 0x06 ∷ 0x00 ∷ 0x07 ∷ 0x08 ∷ 0x09 ∷ 0xAB ∷ [])
     × Packs false optional_word (0x84 ∷ 0x8D ∷ 0x00 ∷ [])
@@ -108,11 +108,11 @@ OctetRows =
     × Packs false root_alternative (0x40 ∷ 0x40 ∷ 0x40 ∷ [])
     × Packs true root_alternative (0x40 ∷ 0x01 ∷ 0x01 ∷ [])
 
--- the bits of a header, filled up in front where it stands behind a bit
+-- the bits of a length determinant, filled up in front where it stands behind a bit
 abbrev pub closing_of_one : List Bool
 closing_of_one = replicate 7 false ++ true ∷ []
 
--- states behind one record: headers of fragments, sizes, and what is refused
+-- states behind one record: length determinants of fragments, sizes, and what is refused
 abbrev pub StateRows : Type 0
 StateRows =
     (run false (call.list_begins any_size any_count 3) ([], []) ≡ Some

@@ -9,7 +9,7 @@ use Rattle.asn1_model.specs.Numbers.{binary, is_count_within}
 use Rattle.asn1_model.specs.Form.{exactly, both, only_if, is_any_present}
 use Rattle.asn1_model.specs.Per
 use Rattle.per_codec_packing.specs.Texts.{Text, as_text, plain, moved, on, text_at, as_form}
-pub use Rattle.per_codec_writing.specs.Headings.{Headers, Heading, next_header, heading}
+pub use Rattle.per_codec_writing.specs.Headings.{LengthDeterminants, Heading, next_determinant, heading}
 use Rattle.asn1_schema_presented.specs.Records.{Record, flag, nil, whole, one_of, bits, octets, characters, identifier}
 use Rattle.asn1_schema_presented.specs.Records.{list_begins, bag_begins, further, sequence_begins, set_begins}
 use Rattle.asn1_schema_presented.specs.Records.{group_begins, mark, additions_begin, addition, addition_ends}
@@ -17,16 +17,17 @@ use Rattle.asn1_schema_presented.specs.Records.{choice_begins, ends}
 
 -- An open scope.
 pub data Scope : Type 0 where
-  -- a sequence, set or group: whether it has a mark of extensibility, how many presence bits are due, those that are
+  -- a sequence, set or group: whether it has an extension bit, how many presence bits are due, those that are
   -- there, and the text in front of it
   components : Bool → ℕ → List Bool → Text → Scope
-  -- behind the root of such a type with a mark: how many additions are due, the presence bits, the root's text, each
-  -- addition's bits, and the text in front of the sequence
+  -- behind the root of such a type with an extension bit: how many additions are due, the presence bits, the root's
+  -- text, each addition's bits, and the text in front of the sequence
   added : ℕ → List Bool → Text → List (Option (List Bool)) → Text → Scope
   -- an addition, or an added alternative: its bits stand alone, and the text in front is this
   open_type : Text → Scope
-  -- a list: how many members are due before the next header or the end, and the headers to come
-  members : ℕ → Headers → Scope
+  -- a list: how many members are due before the next length determinant or the end, and the length
+  -- determinants to come
+  members : ℕ → LengthDeterminants → Scope
   -- a bag: its size, the counts that the program's type holds, how many members are due, the text of each that stands
   -- before the open one, if one is open, and the text in front of the bag
   bag_members : Size → Counts → ℕ → Option (List Text) → Text → Scope
@@ -38,15 +39,15 @@ State = Text × List Scope
 
 -- ---- positions
 
--- The mark of extensibility, where there is one, is a bit.
-abbrev pub mark_width : Bool → ℕ
-mark_width e = cond e 1 0
+-- The width of the extension bit, where there is one.
+abbrev pub extension_bit_width : Bool → ℕ
+extension_bit_width e = cond e 1 0
 
 -- How many bits stand in front of those of the innermost open scope, in its message or open type, where this is known:
 -- a preamble has its place before it is written.
 abbrev pub offset : List Scope → Option ℕ
 offset [] = Some 0
-offset (components e n ms front ∷ k) = moved (offset k) (length front + (mark_width e + length ms + n))
+offset (components e n ms front ∷ k) = moved (offset k) (length front + (extension_bit_width e + length ms + n))
 offset (added n ms root slots front ∷ k) = moved (offset k) (length front + (1 + length ms + length root))
 offset (open_type front ∷ k) = Some 0
 offset (members n hs ∷ k) = offset k
@@ -67,13 +68,13 @@ adds_form x s = adds_text (text_at x (position s)) s
 
 -- ---- presence bits
 
-abbrev pub marked_on : Bool → ℕ → List Bool → Text → Text → List Scope → Bool → Option State
-marked_on e zero ms front os k b = None
-marked_on e (suc n) ms front os k b = Some (os, components e n (ms ++ b ∷ []) front ∷ k)
+abbrev pub presence_told_in : Bool → ℕ → List Bool → Text → Text → List Scope → Bool → Option State
+presence_told_in e zero ms front os k b = None
+presence_told_in e (suc n) ms front os k b = Some (os, components e n (ms ++ b ∷ []) front ∷ k)
 
-abbrev pub marked : Bool → Text → List Scope → Option State
-marked b os (components e n ms front ∷ k) = marked_on e n ms front os k b
-marked b os k = None
+abbrev pub presence_told : Bool → Text → List Scope → Option State
+presence_told b os (components e n ms front ∷ k) = presence_told_in e n ms front os k b
+presence_told b os k = None
 
 -- ---- lists (X.691 20)
 
@@ -83,18 +84,19 @@ list_heading al z held n q = cond (is_count_within held n) (heading al z false n
 
 -- The members are due behind their heading.
 abbrev pub headed : Text → List Scope → Option Heading → Option State
-headed os k o = option_map (λ (h : Heading). (os ++ h.text, members h.due h.headers ∷ k)) o
+headed os k o = option_map (λ (h : Heading). (os ++ h.text, members h.due h.determinants ∷ k)) o
 
--- A further member, or the end, where no header stands in between.
-abbrev pub counted_on : ℕ → Headers → Text → List Scope → Bool → Option State
+-- A further member, or the end, where no length determinant stands in between.
+abbrev pub counted_on : ℕ → LengthDeterminants → Text → List Scope → Bool → Option State
 counted_on (suc n) hs os k true = Some (os, members n hs ∷ k)
 counted_on zero None os k false = Some (os, members zero None ∷ k)
 counted_on n hs os k b = None
 
--- Where none is due before the next header, this stands in front.
-abbrev pub goes_on_in : Bool → ℕ → Headers → Text → List Scope → Bool → Option State
-goes_on_in al zero (Some h) os k b = option_and_then (λ (g : Heading). counted_on g.due g.headers (os ++ g.text) k b)
-    (next_header al h.0 h.1 (position (os, k)))
+-- Where none is due before the next length determinant, this stands in front.
+abbrev pub goes_on_in : Bool → ℕ → LengthDeterminants → Text → List Scope → Bool → Option State
+goes_on_in al zero (Some h) os k b =
+    option_and_then (λ (g : Heading). counted_on g.due g.determinants (os ++ g.text) k b)
+    (next_determinant al h.0 h.1 (position (os, k)))
 goes_on_in al n hs os k b = counted_on n hs os k b
 
 -- ---- bags (X.691 22)
@@ -139,7 +141,8 @@ closed e n ms front os k = None
 abbrev pub opened : Bool → Option (List Bool) → Option Per.BitForm
 opened al o = option_map (λ w. Per.open_type al (exactly w)) o
 
--- The mark tells whether an addition is there; if one is, they stand behind the root (X.691 19.1 and 19.7 to 19.9).
+-- The extension bit tells whether an addition is there; if one is, they stand behind the root (X.691 19.1 and 19.7 to
+-- 19.9).
 abbrev pub extended_text : Bool → List Bool → Text → List (Option (List Bool)) → Option ℕ → Option Text
 extended_text al ms root slots q =
     cond (is_any_present slots)
@@ -151,7 +154,7 @@ abbrev pub closed_added : Bool → ℕ → List Bool → Text → List (Option (
 closed_added al zero ms root slots front k = adds_text (extended_text al ms root slots (position (front, k))) (front, k)
 closed_added al n ms root slots front k = None
 
--- Behind the root components of a type with a mark come the additions.
+-- Behind the root components of a type with an extension bit come the additions.
 abbrev pub rooted : Bool → ℕ → List Bool → Text → Text → List Scope → ℕ → Option State
 rooted true zero ms front os k n = Some ([], added n ms os [] front ∷ k)
 rooted e due ms front os k n = None
@@ -178,8 +181,8 @@ added_one os k = None
 
 -- ---- choices, and the end of any type
 
--- An alternative of the root stands behind its place, an added one as an open type, which only a type with a mark has
--- (X.691 23).
+-- An alternative of the root stands behind its place, an added one as an open type, which only an extensible type
+-- has (X.691 23).
 abbrev pub chosen_on : Bool → Bool → ℕ → Bool → ℕ → State → Option State
 chosen_on al e n false i s = option_map (λ w. (s.0 ++ w, alternative ∷ s.1))
     (text_at (both (Per.mark_of e false) (Per.constrained al (n - 1) i)) (position s))
@@ -215,7 +218,7 @@ run al (further b) s = goes_on al b s.0 s.1
 run al (sequence_begins e n) s = Some ([], components e n [] s.0 ∷ s.1)
 run al (set_begins e n) s = Some ([], components e n [] s.0 ∷ s.1)
 run al (group_begins n) s = Some ([], components false n [] s.0 ∷ s.1)
-run al (mark b) s = marked b s.0 s.1
+run al (mark b) s = presence_told b s.0 s.1
 run al (additions_begin n) s = extended n s.0 s.1
 run al (addition b) s = adds b s.0 s.1
 run al addition_ends s = added_one s.0 s.1

@@ -26,7 +26,7 @@ use std::mem;
 ///
 /// # Errors
 ///
-/// `SizeConstraintNotSatisfied` where the type does not hold so many, or a size without an extension mark does not
+/// `SizeConstraintNotSatisfied` where the type does not hold so many, or a size without an extension marker does not
 /// admit them; `OutOfMemory`.
 pub(crate) fn begin_bag(
     output: &mut Packing,

@@ -13,7 +13,7 @@ use crate::ends::end_scope;
 use crate::frames::Frames;
 use crate::members::begin_members;
 use crate::options::EncoderOptions;
-use crate::sequences::{begin_components, put_further, put_mark};
+use crate::sequences::{begin_components, put_further, put_presence_bit};
 use asn1_schema_constraints::{Bounded, Constraints};
 use asn1_schema_faults::{CodecKind, EncodeError};
 use asn1_schema_tags::{Identifier, Tag};
@@ -378,7 +378,10 @@ impl asn1_schema_encode::Encoder for Encoder {
 
     #[inline(always)]
     fn put_mark(&mut self, present: bool) -> Result<(), EncodeError> {
-        record!(self, put_mark(&mut self.output, &mut self.frames, present))
+        record!(
+            self,
+            put_presence_bit(&mut self.output, &mut self.frames, present)
+        )
     }
 
     #[inline(always)]

@@ -40,21 +40,21 @@ fn push_extension(
     output: &mut Packing,
     variant: Variant,
     alloc: Global,
-    mark: usize,
+    extension_bit: usize,
     slots: &[Option<BitBuffer>],
 ) -> Result<(), EncodeError>
-    requires { mark < length (solid output.old.text) }
+    requires { extension_bit < length (solid output.old.text) }
     ensures only { IfErr result (λ e. e ≡ EncodeError.OutOfMemory) }
     ensures some { IfOk result (λ _. is_any_present slots.now ≡ true
         → Adds (text_at (additions (is_aligned variant) (as_open_types (is_aligned variant) slots.now))
         (place output.old))
-        (record { text = with_bit mark true output.old.text; placed = output.old.placed }) output.new) }
+        (record { text = with_bit extension_bit true output.old.text; placed = output.old.placed }) output.new) }
     ensures none { IfOk result (λ _. is_any_present slots.now ≡ false → output.new ≡ output.old) }
 {
     if !is_extended(slots) {
         return Ok(());
     }
-    output.set(mark, true);
+    output.set(extension_bit, true);
     push_additions(output, variant, alloc, slots)?;
     Ok(())
 }

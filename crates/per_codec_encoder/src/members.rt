@@ -19,7 +19,7 @@ use per_codec_writing::{Due, push_length_determinant, push_size};
 ///
 /// # Errors
 ///
-/// `SizeConstraintNotSatisfied` where the type does not hold so many, or a size without an extension mark does not
+/// `SizeConstraintNotSatisfied` where the type does not hold so many, or a size without an extension marker does not
 /// admit them; `OutOfMemory`.
 pub(crate) fn begin_members(
     output: &mut Packing,

@@ -60,7 +60,7 @@ pub(crate) fn begin_components(
 ///
 /// `CallOutOfPlace` where no sequence, set or group is innermost of which a presence bit is due.
 #[inline(always)]
-pub(crate) fn put_mark(
+pub(crate) fn put_presence_bit(
     output: &mut Packing,
     frames: &mut Frames,
     present: bool,

@@ -1,4 +1,4 @@
--- Sequences with a mark of extensibility, as a reader finds them: what a bitmap tells, of the type's own additions and of unknown ones.
+-- Sequences with an extension bit, as a reader finds them: what a bitmap tells, of the type's own additions and of unknown ones.
 use Rattle.std.proofs.Common.{◌≡◌, ◌⊎◌, inl, inr, ℕ, suc, not, Bool, true, false, cond, IsTrue, List, [], ◌∷◌, ◌++◌, length, drop, map, Option, Some, None, refl, ap, sym, ◌∙◌, subst}
 use Rattle.std.proofs.lemmas.List.{append-nil}
 use Rattle.asn1_model.specs.Value.{Parts, end, absent, present}
@@ -131,7 +131,7 @@ module _ (free : Per.Freedom → Bool) (al : Bool) where
     unfolding Per.sequence_form
     read_out xs start rest f = let q = varied_out free {c = Per.other_bitmap} (λ b. Per.bitmapped al ms y xs b) start rest f in by_bitmap xs q.0 start rest q.2
 
-  -- ---- from the mark on
+  -- ---- from the extension bit on
   unless_kept : (q : Bool) (o : Option Forms) (xs : Forms) → cond q None o ≡ Some xs → o ≡ Some xs
   unless_kept true o xs e = cc
   unless_kept false o xs e = e
@@ -149,7 +149,7 @@ module _ (free : Per.Freedom → Bool) (al : Bool) where
       let p = map_parts (Per.addition_forms al cs qs) (λ l. Some (Per.spelled o s v (Per.open_type al (Per.form al s v))) ∷ l) xs e in
       ap length (sym p.2) ∙ ap suc (additions_long cs qs p.0 p.1)
 
-  -- the form of a sequence with a mark, by its presence bits and its root
+  -- the form of a sequence with an extension bit, by its presence bits and its root
   abbrev pub Marked : Components → Parts → List Bool → Per.BitForm → Per.BitForm
   Marked adds qs ms y = given (Per.addition_forms al adds qs) (Per.sequence_form al true ms y)
 
@@ -187,15 +187,15 @@ module _ (free : Per.Freedom → Bool) (al : Bool) where
         marked_in (marks cs ps) (Per.component_forms al cs ps) o.0 o.1 a.0 o.2 o.3 a.1 b o.4 o.5 o.6 o.7
 
   module _ (other : IsTrue (free Per.other_bitmap)) (adds : Components) (ha : EachShows al free adds) (qs : Parts) where
-    -- what is held at the mark, with additions like these
-    abbrev AtMark : List Bool → Per.BitForm → Place → List Scope → State → Type 0
-    AtMark ms y start k b = (ss : Parts) × (x : Option Bool) × (mid : Place) × (o2 : Place) × LikeParts adds qs ss × (is_present x ≡ true) × Front free (exactly (preamble_bits x ms)) start mid × Front free y mid o2 × Chain (Step free al) (additions_begin (component_count adds) ∷ added_records adds ss) (o2, components x [] ∷ k) b
+    -- what is held at the extension bit, with additions like these
+    abbrev AtExtensionBit : List Bool → Per.BitForm → Place → List Scope → State → Type 0
+    AtExtensionBit ms y start k b = (ss : Parts) × (x : Option Bool) × (mid : Place) × (o2 : Place) × LikeParts adds qs ss × (is_present x ≡ true) × Front free (exactly (preamble_bits x ms)) start mid × Front free y mid o2 × Chain (Step free al) (additions_begin (component_count adds) ∷ added_records adds ss) (o2, components x [] ∷ k) b
 
     no_unknown : (start : Place) → Skips al free [] start start
     no_unknown start = ([], refl, nothing_front free start)
 
-    at_mark : (ms : List Bool) (y : Per.BitForm) (xs : Forms) → Per.addition_forms al adds qs ≡ Some xs → (start : Place) (k : List Scope) (b : State) → b.1 ≡ k → Without ms y xs start b.0 ⊎ With ms y xs start b.0 → AtMark ms y start k b
-    at_mark ms y xs e start k b scopes (inl w) =
+    at_extension_bit : (ms : List Bool) (y : Per.BitForm) (xs : Forms) → Per.addition_forms al adds qs ≡ Some xs → (start : Place) (k : List Scope) (b : State) → b.1 ≡ k → Without ms y xs start b.0 ⊎ With ms y xs start b.0 → AtExtensionBit ms y start k b
+    at_extension_bit ms y xs e start k b scopes (inl w) =
         let n : ℕ = component_count adds in
         let l : length xs ≡ n = additions_long adds qs xs e in
         let p = none_flags xs w.1 in
@@ -203,7 +203,7 @@ module _ (free : Per.Freedom → Bool) (al : Bool) where
         let texts : Front free (joined (present_ones xs)) b.0 b.0 = subst (λ l. Front free (joined l) b.0 b.0) (sym p.1) (nothing_front free b.0) in
         let r = added_out free al adds ha qs (first_bits n []) [] b.0 k b (xs, b.0, e, fl, texts, no_unknown b.0, scopes) in
         (r.0, Some false, w.0, b.0, r.1, refl, w.2, w.3, ((b.0, added (first_bits n []) [] ∷ k), refl, r.2))
-    at_mark ms y xs e start k b scopes (inr w) =
+    at_extension_bit ms y xs e start k b scopes (inr w) =
         let n : ℕ = component_count adds in
         let bs : List Bool = w.1 in
         let l : length xs ≡ n = additions_long adds qs xs e in
@@ -212,12 +212,12 @@ module _ (free : Per.Freedom → Bool) (al : Bool) where
         let r = added_out free al adds ha qs (first_bits n bs) (drop n bs) w.4 k b (xs, w.5, e, e1, w.12, (w.0, e2, w.13), scopes) in
         (r.0, Some true, w.2, w.3, r.1, refl, w.9, w.10, ((w.4, added (first_bits n bs) (drop n bs) ∷ k), (bs, w.8, w.11, refl), r.2))
 
-    marked_out : (ms : List Bool) (y : Per.BitForm) → (start : Place) (k : List Scope) (b : State) → Front free (Marked adds qs ms y) start b.0 → b.1 ≡ k → AtMark ms y start k b
+    marked_out : (ms : List Bool) (y : Per.BitForm) → (start : Place) (k : List Scope) (b : State) → Front free (Marked adds qs ms y) start b.0 → b.1 ≡ k → AtExtensionBit ms y start k b
     marked_out ms y start k b f scopes =
         let t = given_out free (Per.addition_forms al adds qs) (Per.sequence_form al true ms y) start b.0 f in
-        at_mark ms y t.0 t.1 start k b scopes (read_out ms y other t.0 start b.0 t.2)
+        at_extension_bit ms y t.0 t.1 start k b scopes (read_out ms y other t.0 start b.0 t.2)
 
-    -- ---- SEQUENCE and SET with a mark
+    -- ---- SEQUENCE and SET with an extension bit
     pub extended_out : (cs : Components) → EachShows al free cs → (ps : Parts) (a b : State) → Found free (Marked adds qs (marks cs ps) (Per.component_forms al cs ps)) a b → (ss : Parts) × LikeParts adds qs ss × Closed free al true cs ps (additions_begin (component_count adds) ∷ added_records adds ss) a b
     extended_out cs h ps a b f =
         let t = marked_out (marks cs ps) (Per.component_forms al cs ps) a.0 a.1 b f.0 f.1 in

@@ -1,4 +1,4 @@
--- Lists and bags, as a reader finds them: members behind their number, or in fragments, each behind its header.
+-- Lists and bags, as a reader finds them: members behind their number, or in fragments, each behind its length determinant.
 use Rattle.std.proofs.Common.{◌≡◌, ◌⊎◌, inl, inr, ◌≤◌, ℕ, zero, suc, ◌+◌, ◌-◌, ◌*◌, not, ltb, leb, ◌&&◌, Bool, true, false, cond, IsTrue, List, [], ◌∷◌, ◌++◌, length, take, drop, replicate, Option, Some, None, refl, ap, sym, ◌∙◌, subst, append_assoc, arith}
 use Rattle.std.proofs.lemmas.List.{append-nil}
 use Rattle.std.proofs.lemmas.Bool.{and_parts, and_from, leb-true, le-leb}
@@ -12,7 +12,7 @@ use Rattle.asn1_schema_presented.specs.Presents.{presents, member_records, membe
 use Rattle.asn1_schema_presented.specs.Chains.{Chain}
 use Rattle.asn1_schema_presented.proofs.Chains.{chain_split, chain_append}
 use Rattle.per_codec_fronts.specs.Sizes.{extension_bit, told_highest}
-use Rattle.per_codec_fronts.specs.Takes.{Place, Tally, State, Scope, members, Front, Found, InPlace, Admits, in_all, with_fragment, Header, Headed, Counted, ListBegins, MemberDue}
+use Rattle.per_codec_fronts.specs.Takes.{Place, Tally, State, Scope, members, Front, Found, InPlace, Admits, in_all, with_fragment, NextDeterminant, Headed, Counted, ListBegins, MemberDue}
 use Rattle.asn1_schema_finding.proofs.Alike.{LikeMembers, no_members, like_members, list_same, in_place, bag_like, Arranged, Ordered, reordered}
 use Rattle.per_codec_fronts.proofs.Next.{state_same}
 use Rattle.per_codec_fronts.proofs.Fronts.{Finds, Shows, Step, nothing_front, of_nothing, of_refused, split, join, varied_in, varied_out, given_in, given_out, if_in, if_out, none, from_state, from_scopes}
@@ -31,7 +31,7 @@ each_long : {X : Type 0} (f : Value → X) (vs : Values) → length (each f vs) 
 each_long f no_more = refl
 each_long f (member v vs) = ap suc (each_long f vs)
 
--- a header is not asked for where none of its members is due
+-- a length determinant is not asked for where none of its members is due
 abbrev Ready : ℕ → Option Tally → Type 0
 Ready zero (Some t) = ⊥
 Ready n hs = Unit {0}
@@ -45,7 +45,7 @@ module _ (free : Per.Freedom → Bool) (al : Bool) where
   Rest d None us a b = (length us ≡ d) × Front free (joined us) a b
   Rest d (Some t) us a b = (ms : List ℕ) × (d ≤ length us) × Settled t ms (length (drop d us)) × Front free (both (joined (take d us)) (Per.fragments al ms (drop d us))) a b
 
-  -- ---- headers
+  -- ---- length determinants
   behind_none : (x : Per.BitForm) (a b : Place) → Front free x a b → Front free (both (exactly []) x) a b
   behind_none x a b f = join free (exactly []) x a a b (nothing_front free a) f
 
@@ -91,15 +91,15 @@ module _ (free : Per.Freedom → Bool) (al : Bool) where
   unfolding Per.fragments
   last_in t us a mid b c d f g = ([], omega arith, (c, last_settled t (length us) d), behind_none _ a b (join free _ _ a mid b f g))
 
-  header_in : (t : Tally) (us : List Per.BitForm) (a mid b : Place) (due : ℕ) (hs : Option Tally) → Header al free t a mid due hs → Rest due hs us mid b → Rest zero (Some t) us a b
-  header_in t us a mid b due hs (inl x) r = fragment_in t us x.0 a mid b x.1 x.2 (subst (λ o. Rest (x.0 * 16384) o us mid b) x.4 (subst (λ n. Rest n hs us mid b) x.3 r))
-  header_in t us a mid b due hs (inr x) r =
+  determinant_in : (t : Tally) (us : List Per.BitForm) (a mid b : Place) (due : ℕ) (hs : Option Tally) → NextDeterminant al free t a mid due hs → Rest due hs us mid b → Rest zero (Some t) us a b
+  determinant_in t us a mid b due hs (inl x) r = fragment_in t us x.0 a mid b x.1 x.2 (subst (λ o. Rest (x.0 * 16384) o us mid b) x.4 (subst (λ n. Rest n hs us mid b) x.3 r))
+  determinant_in t us a mid b due hs (inr x) r =
       let s : Rest due None us mid b = subst (λ o. Rest due o us mid b) x.3 r in
       let e : due ≡ length us = sym s.0 in
       last_in t us a mid b (subst (λ n. Admits free t.size t.held t.outside (in_all t.sizes n)) e x.0) (subst (λ n. (t.sizes ≡ Per.largest_first (in_all t.sizes n)) ⊎ IsTrue (free Per.other_fragments)) e x.1) (subst (λ n. Front free (Per.short_length al n) a mid) e x.2) s.1
 
   abbrev Next : Tally → List Per.BitForm → Place → Place → Type 0
-  Next t us a b = (due : ℕ) × (hs : Option Tally) × (mid : Place) × Header al free t a mid due hs × Ready due hs × Rest due hs us mid b
+  Next t us a b = (due : ℕ) × (hs : Option Tally) × (mid : Place) × NextDeterminant al free t a mid due hs × Ready due hs × Rest due hs us mid b
 
   many_ready : (n : ℕ) (t : Tally) → 1 ≤ n → Ready n (Some t)
   many_ready zero t h = absurd (omega arith)
@@ -109,9 +109,9 @@ module _ (free : Per.Freedom → Bool) (al : Bool) where
   none_ready zero = tt
   none_ready (suc n) = tt
 
-  header_out : (t : Tally) (us : List Per.BitForm) (a b : Place) → Rest zero (Some t) us a b → Next t us a b
+  determinant_out : (t : Tally) (us : List Per.BitForm) (a b : Place) → Rest zero (Some t) us a b → Next t us a b
   unfolding Per.fragments
-  header_out t us a b r = by_sizes r.0 r.2 (of_none _ a b r.3)
+  determinant_out t us a b r = by_sizes r.0 r.2 (of_none _ a b r.3)
     where
       by_sizes : (ms : List ℕ) → Settled t ms (length us) → Front free (Per.fragments al ms us) a b → Next t us a b
       by_sizes [] s f =
@@ -187,7 +187,7 @@ module _ (free : Per.Freedom → Bool) (al : Bool) where
     from_in h vs l zero (Some t) a k b c =
         let n = c.1 in
         let r = due_in h vs l n.0 n.1 n.2 k c.0 b n.4 c.2 in
-        (header_in t (forms vs) a n.2 b.0 n.0 n.1 n.3 r.0, r.1)
+        (determinant_in t (forms vs) a n.2 b.0 n.0 n.1 n.3 r.0, r.1)
 
     goes_in : Finds al free s → (vs : Values) (d : ℕ) (hs : Option Tally) → In (calls vs) vs d hs
     goes_in h no_more d hs = from_in h no_more tt d hs
@@ -242,7 +242,7 @@ module _ (free : Per.Freedom → Bool) (al : Bool) where
         ready None = tt
         ready (Some g) = tt
     from_out h vs l zero (Some t) a k b r e =
-        let n = header_out t (forms vs) a b.0 r in
+        let n = determinant_out t (forms vs) a b.0 r in
         let q = due_out h vs l n.0 n.1 n.4 n.2 k b n.5 e in
         (q.0, q.1, called q.0 (a, members zero (Some t) ∷ k) b (q.2, (n.0, n.1, n.2, n.3, q.3), q.4))
 
@@ -270,7 +270,7 @@ module _ (free : Per.Freedom → Bool) (al : Bool) where
       by_variant true = refl
       by_variant false = refl
 
-  -- what is read of a list behind the mark of its size
+  -- what is read of a list behind the extension bit of its size
   abbrev counts_form : Size → Bool → Option ℕ → List Per.BitForm → Per.BitForm
   counts_form z out high us = cond out (Per.counted al us) (Per.sized_root al z.counts high Per.never us)
 
@@ -284,11 +284,11 @@ module _ (free : Per.Freedom → Bool) (al : Bool) where
   Read z h out high us a b = Admits free z h out (length us) × Front free (counts_form z out high us) a b
 
   headed_in : (z : Size) (h : Counts) (out : Bool) (us : List Per.BitForm) (a : Place) (k : List Scope) (m : State) (b : Place) → Headed al free z h out a k m → Onward us m k b → Admits free z h out (length us) × Front free (Per.counted al us) a b
-  headed_in z h out us a k m b f g = start_in z h out us a b (header_in (Start z h out) us a m.0 b f.0 f.1 f.2 (g f.0 f.1 f.3))
+  headed_in z h out us a k m b f g = start_in z h out us a b (determinant_in (Start z h out) us a m.0 b f.0 f.1 f.2 (g f.0 f.1 f.3))
 
   headed_out : (z : Size) (h : Counts) (out : Bool) (us : List Per.BitForm) (a : Place) (k : List Scope) (b : Place) → Admits free z h out (length us) → Front free (Per.counted al us) a b → (m : State) × (d : ℕ) × (hs : Option Tally) × Headed al free z h out a k m × (m.1 ≡ members d hs ∷ k) × Rest d hs us m.0 b
   headed_out z h out us a k b c f =
-      let n = header_out (Start z h out) us a b (start_out z h out us a b c f) in
+      let n = determinant_out (Start z h out) us a b (start_out z h out us a b c f) in
       ((n.2, members n.0 n.1 ∷ k), n.0, n.1, (n.0, n.1, n.3, refl), refl, n.5)
 
   abbrev by_number : Size → ℕ → List Per.BitForm → Per.BitForm

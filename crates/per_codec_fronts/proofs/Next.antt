@@ -17,7 +17,7 @@ use Rattle.asn1_laws_fronts.proofs.Units.{sized_alike, small_alike, bitmap_alike
 use Rattle.asn1_laws_fronts.proofs.Strings.{string_alike}
 use Rattle.asn1_schema_finding.specs.Marks.{preamble_bits, first_bits}
 use Rattle.per_codec_fronts.specs.Sizes.{extension_bit, told_highest}
-use Rattle.per_codec_fronts.specs.Takes.{Place, Tally, Scope, components, added, open_type, members, alternative, State, Front, Found, with_fragment, Header, Headed, Numbered, Counted, ListBegins, MemberDue, NextMember, Begins, NextMark, AdditionsBegin, Opens, NextAddition, AdditionEnds, Skips, Chooses, Ends, Takes}
+use Rattle.per_codec_fronts.specs.Takes.{Place, Tally, Scope, components, added, open_type, members, alternative, State, Front, Found, with_fragment, NextDeterminant, Headed, Numbered, Counted, ListBegins, MemberDue, NextMember, Begins, NextPresenceBit, AdditionsBegin, Opens, NextAddition, AdditionEnds, Skips, Chooses, Ends, Takes}
 
 pub place_same : (b c : Place) → b.0 ≡ c.0 → b.1 ≡ c.1 → b ≡ c
 place_same b c e f =
@@ -96,7 +96,7 @@ module _ (free : Per.Freedom → Bool) where
   unfolding Per.form
   identifiers al v w = agree_if free (is_identifier v) (is_identifier w) _ _ (λ i j. agree_map free (λ e. identifiers_equal v w i j e) (counted_octets_alike free al (identifier_octets v) (identifier_octets w)))
 
-  -- ---- headers
+  -- ---- length determinants
   apart_from_last : (m n : ℕ) (b : Bool) → Alike free (exactly (true ∷ true ∷ binary 6 m)) (cond b (only_if (ltb n 16384) (exactly (true ∷ false ∷ binary 14 n))) (only_if (ltb n 128) (exactly (false ∷ binary 7 n)))) ⊥
   apart_from_last m n true = agree_if_right free (ltb n 16384) {x = exactly (true ∷ true ∷ binary 6 m)} {y = exactly (true ∷ false ∷ binary 14 n)} (λ h. agree_first free (λ e. bits_apart free))
   apart_from_last m n false = agree_if_right free (ltb n 128) {x = exactly (true ∷ true ∷ binary 6 m)} {y = exactly (false ∷ binary 7 n)} (λ h. bits_apart free)
@@ -108,22 +108,22 @@ module _ (free : Per.Freedom → Bool) where
   fragments_alike : (al : Bool) (m n : ℕ) → m ≤ 4 → n ≤ 4 → Alike free (Per.at_octet al (exactly (true ∷ true ∷ binary 6 m))) (Per.at_octet al (exactly (true ∷ true ∷ binary 6 n))) (m ≡ n)
   fragments_alike al m n h k = at_octet_alike free al (agree_first free (λ e. agree_first free (λ f. binary_alike free 6 m n (omega arith) (omega arith))))
 
-  same_header : (al : Bool) (t : Tally) (a b c : Place) (n m : ℕ) (f g : Option Tally) → Header al free t a b n f → Header al free t a c m g → (b ≡ c) × (n ≡ m) × (f ≡ g)
-  same_header al t a b c n m f g (inl x) (inl y) =
+  same_determinant : (al : Bool) (t : Tally) (a b c : Place) (n m : ℕ) (f g : Option Tally) → NextDeterminant al free t a b n f → NextDeterminant al free t a c m g → (b ≡ c) × (n ≡ m) × (f ≡ g)
+  same_determinant al t a b c n m f g (inl x) (inl y) =
       let h = and_parts _ _ x.1 in
       let k = and_parts _ _ y.1 in
       let q = same_fronts (fragments_alike al x.0 y.0 (leb-true _ _ h.1) (leb-true _ _ k.1)) a b c x.2 y.2 in
       (q.1, x.3 ∙ ap (λ i. i * 16384) q.0 ∙ sym y.3, x.4 ∙ ap (λ i. Some (with_fragment i t)) q.0 ∙ sym y.4)
-  same_header al t a b c n m f g (inl x) (inr y) = absurd ((same_fronts (fragment_or_last al x.0 m) a b c x.2 y.2).0)
-  same_header al t a b c n m f g (inr x) (inl y) = absurd ((same_fronts (fragment_or_last al y.0 n) a c b y.2 x.2).0)
-  same_header al t a b c n m f g (inr x) (inr y) =
+  same_determinant al t a b c n m f g (inl x) (inr y) = absurd ((same_fronts (fragment_or_last al x.0 m) a b c x.2 y.2).0)
+  same_determinant al t a b c n m f g (inr x) (inl y) = absurd ((same_fronts (fragment_or_last al y.0 n) a c b y.2 x.2).0)
+  same_determinant al t a b c n m f g (inr x) (inr y) =
       let q = same_fronts (short_length_alike free al n m) a b c x.2 y.2 in
       (q.1, q.0, x.3 ∙ sym y.3)
 
   -- ---- lists
   same_headed : (al : Bool) (z : Size) (h : Counts) (out : Bool) (a : Place) (k : List Scope) (b c : State) → Headed al free z h out a k b → Headed al free z h out a k c → b ≡ c
   same_headed al z h out a k b c f g =
-      let q = same_header al (record { size = z; held = h; outside = out; sizes = [] }) a b.0 c.0 f.0 g.0 f.1 g.1 f.2 g.2 in
+      let q = same_determinant al (record { size = z; held = h; outside = out; sizes = [] }) a b.0 c.0 f.0 g.0 f.1 g.1 f.2 g.2 in
       state_same b c q.0 (f.3 ∙ ap (λ n. members n f.1 ∷ k) q.1 ∙ ap (λ t. members g.0 t ∷ k) q.2 ∙ sym g.3)
 
   same_numbered : (al : Bool) (z : Size) (h : Counts) (high : ℕ) (a : Place) (k : List Scope) (b c : State) → Numbered al free z h high a k b → Numbered al free z h high a k c → b ≡ c
@@ -161,7 +161,7 @@ module _ (free : Per.Freedom → Bool) where
 
   same_member : (al v w : Bool) (a : Place) (k : List Scope) (b c : State) → NextMember al free v a k b → NextMember al free w a k c → (v ≡ w) × (b ≡ c)
   same_member al v w a (members zero (Some t) ∷ k) b c f g =
-      let q = same_header al t a f.2 g.2 f.0 g.0 f.1 g.1 f.3 g.3 in
+      let q = same_determinant al t a f.2 g.2 f.0 g.0 f.1 g.1 f.3 g.3 in
       let x : MemberDue v g.0 f.1 f.2 k b = subst (λ n. MemberDue v n f.1 f.2 k b) q.1 f.4 in
       let y : MemberDue v g.0 g.1 f.2 k b = subst (λ o. MemberDue v g.0 o f.2 k b) q.2 x in
       same_due v w g.0 g.1 g.2 k b c (subst (λ p. MemberDue v g.0 g.1 p k b) q.0 y) g.4
@@ -183,9 +183,9 @@ module _ (free : Per.Freedom → Bool) where
       let t = s.1 q.0 in
       state_same b c q.1 (f.5 ∙ ap (λ x. components x f.1 ∷ a.1) t.0 ∙ ap (λ ms. components g.0 ms ∷ a.1) t.1 ∙ sym g.5)
 
-  same_mark : (v w : Bool) (a : Place) (k : List Scope) (b c : State) → NextMark v a k b → NextMark w a k c → (v ≡ w) × (b ≡ c)
-  same_mark v w a (components x (m ∷ ms) ∷ k) b c f g = (f.0 ∙ sym g.0, f.1 ∙ sym g.1)
-  same_mark v w a k b c f g = absurd f
+  same_presence_bit : (v w : Bool) (a : Place) (k : List Scope) (b c : State) → NextPresenceBit v a k b → NextPresenceBit w a k c → (v ≡ w) × (b ≡ c)
+  same_presence_bit v w a (components x (m ∷ ms) ∷ k) b c f g = (f.0 ∙ sym g.0, f.1 ∙ sym g.1)
+  same_presence_bit v w a k b c f g = absurd f
 
   -- ---- additions
   bitmaps_alike : (al : Bool) (bs cs : List Bool) → Alike free (Per.normally_few al (Per.bit_units bs)) (Per.normally_few al (Per.bit_units cs)) (bs ≡ cs)
@@ -291,7 +291,7 @@ module _ (free : Per.Freedom → Bool) where
   one_record al a (group_begins n) (group_begins m) b c q f g =
       let e : group_begins m ≡ group_begins n = cc q in
       (sym e, same_begin false n a b c f (as_record al a (group_begins m) (group_begins n) c e g))
-  one_record al a (mark v) (mark w) b c q f g = let t = same_mark v w a.0 a.1 b c f g in (ap mark t.0, t.1)
+  one_record al a (mark v) (mark w) b c q f g = let t = same_presence_bit v w a.0 a.1 b c f g in (ap mark t.0, t.1)
   one_record al a is_default is_default b c q f g = (refl, f.1 ∙ sym g.1)
   one_record al a is_empty is_empty b c q f g = (refl, f.1 ∙ sym g.1)
   one_record al a (additions_begin n) (additions_begin m) b c q f g =

@@ -84,22 +84,22 @@ module _ (free : Per.Freedom → Bool) (al : Bool) where
       (r.0, r.1, r.2, join free (spelled_by d g (Per.form al s v)) y start q.0.0 r.0 f.0 r.3, r.4)
 
   -- a presence bit
-  behind_mark : (t : Bool) (bs : List Bool) (y : Per.BitForm) (rs tail : List Record) (x : Option Bool) (k : List Scope) (b : State) → Goes bs y rs tail x k b → Goes (t ∷ bs) y rs (mark t ∷ tail) x k b
-  behind_mark t bs y rs tail x k b others [] start c = absurd c.1
-  behind_mark t bs y rs tail x k b others (m ∷ ms) start c =
+  behind_presence_bit : (t : Bool) (bs : List Bool) (y : Per.BitForm) (rs tail : List Record) (x : Option Bool) (k : List Scope) (b : State) → Goes bs y rs tail x k b → Goes (t ∷ bs) y rs (mark t ∷ tail) x k b
+  behind_presence_bit t bs y rs tail x k b others [] start c = absurd c.1
+  behind_presence_bit t bs y rs tail x k b others (m ∷ ms) start c =
       let r = others ms start (from_state free al tail c.0 b start (components x ms ∷ k) c.1.1 c.2) in
       (r.0, r.1, ap (λ n. n ∷ ms) (sym c.1.0) ∙ ap (λ l. t ∷ l) r.2, r.3, r.4)
 
   one_there : (q : Bool) (s : Schema) (v : Value) → Finds al free s → (d g : Bool) (bs : List Bool) (y : Per.BitForm) → (rs tail : List Record) (x : Option Bool) (k : List Scope) (b : State) → Goes bs y rs tail x k b → Goes (mark_unless q true bs) (both (spelled_by d g (Per.form al s v)) y) rs (marked q (presents s v ++ noted_by d g) ++ tail) x k b
   one_there true s v h d g bs y rs tail x k b others = behind_it s v h d g bs y rs tail x k b others
-  one_there false s v h d g bs y rs tail x k b others = behind_mark true bs _ rs _ x k b (behind_it s v h d g bs y rs tail x k b others)
+  one_there false s v h d g bs y rs tail x k b others = behind_presence_bit true bs _ rs _ x k b (behind_it s v h d g bs y rs tail x k b others)
 
   nothing_there : (bs : List Bool) (y : Per.BitForm) (rs more : List Record) (x : Option Bool) (k : List Scope) (b : State) → Goes bs y rs (mismatch ∷ more) x k b
   nothing_there bs y rs more x k b ms start c = absurd c.1
 
   one_absent : (q : Bool) (bs : List Bool) (y : Per.BitForm) (rs tail : List Record) (x : Option Bool) (k : List Scope) (b : State) → Goes bs y rs tail x k b → Goes (mark_unless q false bs) (cond q refused y) rs (cond q (mismatch ∷ []) (mark false ∷ []) ++ tail) x k b
   one_absent true bs y rs tail x k b others = nothing_there bs refused rs tail x k b
-  one_absent false bs y rs tail x k b others = behind_mark false bs y rs tail x k b others
+  one_absent false bs y rs tail x k b others = behind_presence_bit false bs y rs tail x k b others
 
   pub root_in : (cs : Components) → EachFinds al free cs → (ps : Parts) (rs : List Record) (x : Option Bool) (k : List Scope) (b : State) → Goes (marks cs ps) (Per.component_forms al cs ps) rs (root_records cs ps rs) x k b
   unfolding root_records Per.component_forms Per.spelled

@@ -44,7 +44,7 @@ module _ (free : Per.Freedom → Bool) (al : Bool) where
       let f' : Front free (exactly (preamble_bits x ms)) a.0 start = subst (λ l. Front free (exactly (preamble_bits x l)) a.0 start) (sym r.2) f in
       (r.0, (start, components x ms ∷ a.1), r.1, (x, ms, i, marks_count cs r.0, f', refl), d)
 
-  -- ---- without a mark
+  -- ---- without an extension bit
   closed_in : (x : Option Bool) (more : List Bool) (mid : Place) (k : List Scope) (b : State) → is_present x ≡ false → Chain (Step free al) (ends ∷ []) (mid, components x more ∷ k) b → (x ≡ None) × (more ≡ []) × (b ≡ (mid, k))
   closed_in None [] mid k b e c = (refl, refl, c.2 ∙ c.1)
   closed_in None (z ∷ zs) mid k b e c = absurd c.1

@@ -35,7 +35,7 @@ module _ (al : Bool) (free : Per.Freedom → Bool) (other : IsTrue (free Per.oth
   no_more : (cs : Components) → EachFinds al free cs → (ps : Parts) (a m b : State) → Begins free false (optional_count cs) a m → Chain (Step free al) (root_records cs ps (mismatch ∷ [])) m b → ⊥
   no_more cs h ps a m b t c = let o = begun_in free al false cs h ps (mismatch ∷ []) a m b t c in o.7.1
 
-  -- additions without a mark
+  -- additions without an extension bit
   no_additions : (cs : Components) → EachFinds al free cs → (ps : Parts) (n : ℕ) (rs : List Record) (a m b : State) → Begins free false (optional_count cs) a m → Chain (Step free al) (root_records cs ps (additions_begin n ∷ rs)) m b → ⊥
   no_additions cs h ps n rs a m b t c = let o = begun_in free al false cs h ps (additions_begin n ∷ rs) a m b t c in without o.0 o.1 o.3 o.4 o.7
     where

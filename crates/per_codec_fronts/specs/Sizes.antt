@@ -3,7 +3,7 @@ use Rattle.std.specs.Prelude.{ℕ, not, ltb, Bool, true, false, cond, [], ◌∷
 use Rattle.asn1_model.specs.Form.{exactly, only_if, nothing_more}
 use Rattle.asn1_model.specs.Per
 
--- An extension bit, where there is an extension mark: whether the count of a size is outside the root, or marked so
+-- An extension bit, where the type or size is extensible: whether the count of a size is outside the root, or told so
 -- (X.691 16.6, 17.3, 20.4 and 30.4), or an item or alternative is added (X.691 14.3 and 23.5).
 abbrev pub extension_bit : Bool → Bool → Per.BitForm
 extension_bit false outside = only_if (not outside) nothing_more

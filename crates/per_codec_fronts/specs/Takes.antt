@@ -21,9 +21,9 @@ use Rattle.per_codec_fronts.specs.Sizes.{extension_bit, told_highest}
 abbrev pub Place : Type 0
 Place = ℕ × List Bool
 
--- A list in fragments: its size, the counts that the program's type holds, whether the count is marked as outside the
--- root, and how many times 16384 members each fragment so far has (X.691 11.9.3.8). The number of members is judged at
--- the end, where it is known.
+-- A list in fragments: its size, the counts that the program's type holds, the extension bit of the size, and how many
+-- times 16384 members each fragment so far has (X.691 11.9.3.8). The number of members is judged at the end, where it
+-- is known.
 pub record Tally : Type 0 where
   pub size : Size
   pub held : Counts
@@ -32,15 +32,14 @@ pub record Tally : Type 0 where
 
 -- An open scope.
 pub data Scope : Type 0 where
-  -- a sequence, set or group: the bit of its mark of extensibility, if it has a mark, and the presence bits that are
-  -- still to come
+  -- a sequence, set or group: its extension bit, if it has one, and the presence bits that are still to come
   components : Option Bool → List Bool → Scope
-  -- behind the root of such a type with a mark: the presence bits of its additions still to come, and of unknown ones
-  -- behind all of them
+  -- behind the root of such a type with an extension bit: the presence bits of its additions still to come, and of
+  -- unknown ones behind all of them
   added : List Bool → List Bool → Scope
   -- an addition, or an added alternative: its bits stand alone, and this is the place behind it
   open_type : Place → Scope
-  -- a list or bag: how many members are due, and what is known of it if a header stands behind these
+  -- a list or bag: how many members are due, and what is known of it if a length determinant stands behind these
   members : ℕ → Option Tally → Scope
   -- an alternative of the root
   alternative : Scope
@@ -61,13 +60,13 @@ Found free x a b = Front free x a.0 b.0 × (b.1 ≡ a.1)
 
 -- ---- lists and bags (X.691 20 and 22)
 
--- A count in the root of a size, or marked as outside: only a reader with the freedom takes one of the root behind such
--- a mark.
+-- A count in the root of a size, or behind an extension bit that is set: only a reader with the freedom takes one of
+-- the root there.
 abbrev pub InPlace : (Per.Freedom → Bool) → Bool → Bool → Type 0
 InPlace free false t = t ≡ true
 InPlace free true t = (t ≡ false) ⊎ IsTrue (free Per.root_marked_outside)
 
--- So many members may there be: the program's type holds the count, and it is where the mark says.
+-- So many members may there be: the program's type holds the count, and it is where the extension bit says.
 abbrev pub Admits : (Per.Freedom → Bool) → Size → Counts → Bool → ℕ → Type 0
 Admits free z h out n = (is_count_within h n ≡ true) × InPlace free out (is_count_within z.counts n)
 
@@ -79,7 +78,7 @@ in_all (m ∷ ms) n = m * 16384 + in_all ms n
 abbrev pub with_fragment : ℕ → Tally → Tally
 with_fragment m t = record { size = t.size; held = t.held; outside = t.outside; sizes = t.sizes ++ m ∷ [] }
 
--- The header of a further fragment (X.691 11.9.3.8).
+-- The length determinant of a further fragment (X.691 11.9.3.8).
 abbrev pub NextFragment : Bool → (Per.Freedom → Bool) → Tally → Place → Place → ℕ → Option Tally → Type 0
 NextFragment al free t a b due hs =
     (m : ℕ) × ((leb 1 m && leb m 4) ≡ true) × Front free (Per.at_octet al (exactly (true ∷ true ∷ binary 6 m))) a b
@@ -92,15 +91,15 @@ LastLength al free t a b due hs =
     × ((t.sizes ≡ Per.largest_first (in_all t.sizes due)) ⊎ IsTrue (free Per.other_fragments))
     × Front free (Per.short_length al due) a b × (hs ≡ None)
 
--- Either: so many members are due behind it, and then a header where something is known of the list.
-abbrev pub Header : Bool → (Per.Freedom → Bool) → Tally → Place → Place → ℕ → Option Tally → Type 0
-Header al free t a b due hs = NextFragment al free t a b due hs ⊎ LastLength al free t a b due hs
+-- Either: so many members are due behind it, and then a length determinant where something is known of the list.
+abbrev pub NextDeterminant : Bool → (Per.Freedom → Bool) → Tally → Place → Place → ℕ → Option Tally → Type 0
+NextDeterminant al free t a b due hs = NextFragment al free t a b due hs ⊎ LastLength al free t a b due hs
 
--- A list whose members stand behind their first header (X.691 11.9).
+-- A list whose members stand behind their first length determinant (X.691 11.9).
 abbrev pub Headed : Bool → (Per.Freedom → Bool) → Size → Counts → Bool → Place → List Scope → State → Type 0
 Headed al free z h out a k b =
     (due : ℕ) × (hs : Option Tally)
-    × Header al free (record { size = z; held = h; outside = out; sizes = [] }) a b.0 due hs
+    × NextDeterminant al free (record { size = z; held = h; outside = out; sizes = [] }) a b.0 due hs
     × (b.1 ≡ members due hs ∷ k)
 
 -- A list whose members stand behind their number, which the bounds of its size tell (X.691 11.9.4.1).
@@ -109,7 +108,7 @@ Numbered al free z h high a k b =
     (n : ℕ) × Admits free z h false n × Front free (Per.constrained al (high - z.counts.low) (n - z.counts.low)) a b.0
     × (b.1 ≡ members n None ∷ k)
 
--- Behind their number where a highest count tells its form, else behind their first header.
+-- Behind their number where a highest count tells its form, else behind their first length determinant.
 abbrev pub Counted : Bool → (Per.Freedom → Bool) → Size → Counts → Bool → Option ℕ → Place → List Scope → State → Type 0
 Counted al free z h out None a k b = Headed al free z h out a k b
 Counted al free z h out (Some high) a k b = Numbered al free z h high a k b
@@ -127,30 +126,32 @@ MemberDue v (suc n) hs a k b = (v ≡ true) × (b ≡ (a, members n hs ∷ k))
 MemberDue v zero None a k b = (v ≡ false) × (b ≡ (a, members zero None ∷ k))
 MemberDue v zero (Some t) a k b = ⊥
 
--- Whether members are still to come, behind the next header where none is due before it.
+-- Whether members are still to come, behind the next length determinant where none is due before it.
 abbrev pub NextMember : Bool → (Per.Freedom → Bool) → Bool → Place → List Scope → State → Type 0
 NextMember al free v a (members zero (Some t) ∷ k) b =
-    (due : ℕ) × (hs : Option Tally) × (mid : Place) × Header al free t a mid due hs × MemberDue v due hs mid k b
+    (due : ℕ) × (hs : Option Tally) × (mid : Place) × NextDeterminant al free t a mid due hs
+    × MemberDue v due hs mid k b
 NextMember al free v a (members n hs ∷ k) b = MemberDue v n hs a k b
 NextMember al free v a k b = ⊥
 
 -- ---- components (X.691 19 and 21)
 
--- The bit of a mark, if there is one, and so many presence bits (X.691 19.1 to 19.3).
+-- The extension bit, if there is one, and so many presence bits (X.691 19.1 to 19.3).
 abbrev pub Begins : (Per.Freedom → Bool) → Bool → ℕ → State → State → Type 0
 Begins free e n a b =
     (x : Option Bool) × (ms : List Bool) × (is_present x ≡ e) × (length ms ≡ n)
     × Front free (exactly (preamble_bits x ms)) a.0 b.0 × (b.1 ≡ components x ms ∷ a.1)
 
 -- The next presence bit.
-abbrev pub NextMark : Bool → Place → List Scope → State → Type 0
-NextMark v a (components x (m ∷ ms) ∷ k) b = (v ≡ m) × (b ≡ (a, components x ms ∷ k))
-NextMark v a k b = ⊥
+abbrev pub NextPresenceBit : Bool → Place → List Scope → State → Type 0
+NextPresenceBit v a (components x (m ∷ ms) ∷ k) b = (v ≡ m) × (b ≡ (a, components x ms ∷ k))
+NextPresenceBit v a k b = ⊥
 
 -- ---- additions
 
--- Behind the root components: without the mark's bit no addition is there, and with it a bitmap tells which are. Those
--- past its width are absent, and what stands past the type's own is unknown (X.691 19.7 and 19.8).
+-- Behind the root components: where the extension bit is not set no addition is there, and where it is set a bitmap
+-- tells which are. Those past its width are absent, and what stands past the type's own is unknown (X.691 19.7 and
+-- 19.8).
 abbrev pub AdditionsBegin : Bool → (Per.Freedom → Bool) → ℕ → Place → List Scope → State → Type 0
 AdditionsBegin al free n a (components (Some false) [] ∷ k) b = b ≡ (a, added (first_bits n []) [] ∷ k)
 AdditionsBegin al free n a (components (Some true) [] ∷ k) b =
@@ -235,7 +236,7 @@ Takes al free a (further v) b = NextMember al free v a.0 a.1 b
 Takes al free a (sequence_begins e n) b = Begins free e n a b
 Takes al free a (set_begins e n) b = Begins free e n a b
 Takes al free a (group_begins n) b = Begins free false n a b
-Takes al free a (mark v) b = NextMark v a.0 a.1 b
+Takes al free a (mark v) b = NextPresenceBit v a.0 a.1 b
 Takes al free a is_default b = IsTrue (free Per.default_spelled_out) × (b ≡ a)
 Takes al free a is_empty b = IsTrue (free Per.empty_group) × (b ≡ a)
 Takes al free a (additions_begin n) b = AdditionsBegin al free n a.0 a.1 b

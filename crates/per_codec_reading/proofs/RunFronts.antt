@@ -51,17 +51,17 @@ module _ (free : Per.Freedom → Bool) where
   heads_alike : (al : Bool) (m n : ℕ) → m ≤ 4 → n ≤ 4 → Alike free (Per.at_octet al (head m)) (Per.at_octet al (head n)) (m ≡ n)
   heads_alike al m n h k = at_octet_alike free al (agree_first free (λ e. agree_first free (λ f. binary_alike free 6 m n (omega arith) (omega arith))))
 
-  header_out : (al : Bool) (m : ℕ) (a b : Place) → Front free (length_form al (Fragment m)) a b → (m ≤ 4) × Front free (Per.at_octet al (head m)) a b
-  header_out al m a b f = let i = if_out free (leb 1 m && leb m 4) _ a b f in (leb-true _ _ ((and_parts _ _ i.0).1), i.1)
+  determinant_out : (al : Bool) (m : ℕ) (a b : Place) → Front free (length_form al (Fragment m)) a b → (m ≤ 4) × Front free (Per.at_octet al (head m)) a b
+  determinant_out al m a b f = let i = if_out free (leb 1 m && leb m 4) _ a b f in (leb-true _ _ ((and_parts _ _ i.0).1), i.1)
 
   -- One length at most stands in front.
   pub length_one : (al : Bool) (l k : Length) (a b c : Place) → Front free (length_form al l) a b → Front free (length_form al k) a c → (l ≡ k) × (b ≡ c)
   length_one al (Short n) (Short m) a b c f g = let q = one a b c (short_length_alike free al n m) f g in (ap Short q.0, q.1)
-  length_one al (Short n) (Fragment m) a b c f g = absurd ((one a c b (head_or_last al m n) (header_out al m a c g).1 f).0)
-  length_one al (Fragment m) (Short n) a b c f g = absurd ((one a b c (head_or_last al m n) (header_out al m a b f).1 g).0)
+  length_one al (Short n) (Fragment m) a b c f g = absurd ((one a c b (head_or_last al m n) (determinant_out al m a c g).1 f).0)
+  length_one al (Fragment m) (Short n) a b c f g = absurd ((one a b c (head_or_last al m n) (determinant_out al m a b f).1 g).0)
   length_one al (Fragment m) (Fragment n) a b c f g =
-      let i = header_out al m a b f in
-      let j = header_out al n a c g in
+      let i = determinant_out al m a b f in
+      let j = determinant_out al n a c g in
       let q = one a b c (heads_alike al m n i.0 j.0) i.1 j.1 in
       (ap Fragment q.0, q.1)
 

@@ -63,11 +63,11 @@ abbrev pub units_told : Bool → ℕ → (ℕ → Counts → Bool) → Counts �
 units_told al width pads c None us = counted_units al width us
 units_told al width pads c (Some high) us = told_units al width pads c high us
 
--- Units of a size that may have an extension mark (X.691 16, 17 and 30).
+-- Units of a size that may be extensible (X.691 16, 17 and 30).
 abbrev pub sized_units : Bool → Size → Counts → ℕ → (ℕ → Counts → Bool) → Units → Per.BitForm
 sized_units al z held width pads us = only_if (length us.1 == us.0 * width)
     (Per.sized al z held (pads us.0) (units_of width us.0 us.1))
 
--- Whether the program's type holds so many items, and they are in the root or marked as outside (X.680 51.5).
+-- Whether the program's type holds so many items, and they are in the root or told to be outside (X.680 51.5).
 abbrev pub admitted : Counts → Counts → Bool → ℕ → Bool
 admitted held root outside n = is_count_within held n && (outside || is_count_within root n)

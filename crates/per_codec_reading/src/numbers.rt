@@ -1,6 +1,5 @@
 //! Constrained whole numbers (X.691 11.5).
 ghost use Rattle.std.specs.Prelude.{◌≡◌, ◌+◌, ◌-◌, ◌≤◌, ◌<◌, ◌^◌, true, IfOk, IfErr};
-ghost use Rattle.asn1_model.specs.Numbers as Numbers;
 ghost use Rattle.asn1_model.specs.Per as Per;
 ghost use Rattle.per_codec_fronts.specs.Takes.{Front};
 ghost use Rattle.per_codec_reading.specs.Fronts as fronts;
@@ -10,15 +9,7 @@ ghost use Rattle.per_codec_reading.specs.Lengths.{aligned_within, number_within}
 use crate::padding::align;
 use crate::{Cursor, Variant};
 use asn1_schema_faults::DecodeError;
-use asn1_values_natives::octets::bit_count;
-
-/// How many octets hold a number; zero needs none.
-fn octet_width(number: u128) -> usize
-    ensures width { result ≡ Numbers.octet_width number }
-    ensures bound { result ≤ 16 }
-{
-    (bit_count(number) + 7) / 8
-}
+use asn1_values_natives::octets::{bit_count, octet_width};
 
 /// Reads a number in so many bits, if it is not above a highest one.
 ///

@@ -1,5 +1,5 @@
-//! What stands in front of the items of a size (X.691 16, 17, 20, 22 and 30): an extension bit, where the size has an
-//! extension mark, and the first length determinant (X.691 11.9).
+//! What stands in front of the items of a size (X.691 16, 17, 20, 22 and 30): an extension bit, where the size is
+//! extensible, and the first length determinant (X.691 11.9).
 ghost use Rattle.std.specs.Prelude.{◌≡◌, ◌≤◌, ◌<◌, IfOk, IfErr, IfSome, Some};
 ghost use Rattle.asn1_schema_constraints.specs.Bounds.{counts_of, members_of};
 ghost use Rattle.asn1_schema_constraints.specs.Terms.{size_of};
@@ -28,15 +28,14 @@ pub enum LengthDeterminant {
 /// What stands in front of the items of a size.
 #[derive(Clone, Copy, Debug, PartialEq, Eq)]
 pub struct Heading {
-    /// The extension bit: whether the number of items is outside the root, or marked so. Without an extension mark it
-    /// is not.
+    /// The extension bit: whether the number of items is outside the root, or told so. Where there is none it is not.
     pub is_outside: bool,
     /// The length determinant behind it.
     pub determinant: LengthDeterminant,
 }
 
-/// The highest number of items, if it tells the form of the number: it is below 65536, and the number is not marked as
-/// outside the root (X.691 11.9.4.1).
+/// The highest number of items, if it tells the form of the number: it is below 65536, and the extension
+/// bit does not tell that the number is outside the root (X.691 11.9.4.1).
 #[inline(always)]
 fn told_highest(root: Bounded<usize>, is_outside: bool) -> Option<usize>
     ensures highest { result ≡ fronts_sizes.told_highest is_outside ((counts_of root).high) }
@@ -77,8 +76,8 @@ fn read_told_count(
     Ok(lowest + number as usize)
 }
 
-/// Reads the first length determinant of a size with this root, for a number of items that is marked as outside it or
-/// is not: the number, where the root bounds it below 65536, else one of the general form (X.691 11.9.4).
+/// Reads the first length determinant of a size with this root, for a number of items that is told to be outside it
+/// or is not: the number, where the root bounds it below 65536, else one of the general form (X.691 11.9.4).
 ///
 /// # Errors
 ///
@@ -111,7 +110,7 @@ fn read_determinant(
 }
 
 /// Reads what stands in front of the items of a size, of a string as of a list or bag: the extension bit, where the
-/// size has an extension mark, and the first length determinant (X.691 11.9.4, 16.6, 17.3, 20.4 and 30.4). Behind the
+/// size is extensible, and the first length determinant (X.691 11.9.4, 16.6, 17.3, 20.4 and 30.4). Behind the
 /// items of a fragment [`read_length`] reads the next one.
 ///
 /// # Errors
@@ -138,7 +137,7 @@ pub fn read_heading(
     })
 }
 
-/// Whether the program's type holds so many items, and they are in the root or marked as outside it (X.680 51.5).
+/// Whether the program's type holds so many items, and they are in the root or told to be outside it (X.680 51.5).
 #[inline(always)]
 pub fn is_admitted(
     root: Bounded<usize>,

@@ -27,8 +27,8 @@ pub fn read_bit(cursor: &mut Cursor<'_>, variant: Variant) -> Result<bool, Decod
     Ok(number == 1)
 }
 
-/// Reads an extension bit, where there is an extension mark: whether a number of items, an item or an alternative is
-/// outside the root (X.691 14.3, 16.6, 17.3, 20.4, 23.5 and 30.4).
+/// Reads an extension bit, where the type or size is extensible: whether a number of items, an item or an alternative
+/// is outside the root (X.691 14.3, 16.6, 17.3, 20.4, 23.5 and 30.4).
 ///
 /// # Errors
 ///

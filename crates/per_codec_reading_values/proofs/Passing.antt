@@ -76,7 +76,7 @@ module _ (free : Per.Freedom → Bool) (al : Bool) where
   one_octets : (us : Units) (os : List ℕ) (a b c : Place) → Front free (counted_units al 8 us) a b → Front free (Per.counted_octets al os) a c → b ≡ c
   one_octets us os a b c f g = let o = octets_of free al us a b f in (same_fronts free (counted_octets_alike free al o.0 os) a b c o.2 g).1
 
-  -- some marks are looked at, and these are left
+  -- some presence bits are looked at, and these are left
   pub record Reaches (all : List Bool) (start : Place) (left : List Bool) (here : Place) : Type 0 where
     pub whole : (b : Place) → Skips al free left here b → Skips al free all start b
     pub back : (b : Place) → Skips al free all start b → Skips al free left here b

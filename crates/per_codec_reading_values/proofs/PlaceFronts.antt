@@ -157,7 +157,7 @@ module _ (free : Per.Freedom → Bool) where
             let x = m t.0 in
             omega (arith, k, l, x)
 
-    -- the same of counts and a mark that are known by their equals
+    -- the same of counts and an extension bit that are known by their equals
     pub item_read : (roots adds : List ℤ) (e : Bool) (n : ℕ) (x : Bool) (others : ℕ) (v : ℤ) (c : Chosen) (a b : Place) → n ≡ length roots → x ≡ e → IsPlaced roots e adds v c.added c.place → Front free (place_form al n x others c) a b → Front free (Per.form al (enumerated roots e adds) (item v)) a b
     item_read roots adds e n x others v c a b p q i f = item_stands roots adds e others v c a b i (subst (λ m. Front free (place_form al m e others c) a b) p (subst (λ y. Front free (place_form al n y others c) a b) q f))
 

@@ -22,7 +22,7 @@ use Rattle.per_codec_fronts.proofs.Next.{same_fronts}
 use Rattle.per_codec_reading.specs.Fronts.{NoneStands, IsFresh, Misses}
 use Rattle.per_codec_reading.specs.Lengths.{one_bit}
 use Rattle.per_codec_reading.proofs.Fronts.{none_misses}
-use Rattle.per_codec_reading_values.specs.Whole.{offset_form, is_offset, in_128_bits, behind_mark, under_constraint, wide_range}
+use Rattle.per_codec_reading_values.specs.Whole.{offset_form, is_offset, in_128_bits, behind_extension_bit, under_constraint, wide_range}
 
 -- ---- 128 bits
 pub fits_wide : (v : ℤ) → FitsSigned w128 v → is_within wide_range v ≡ true
@@ -198,11 +198,11 @@ module _ (free : Per.Freedom → Bool) where
   whole_within al None (Some high) v a b f = (if_out free (is_at_most v high) _ a b f).0
   whole_within al None None v a b f = refl
 
-  -- ---- the mark
+  -- ---- the extension bit
   bits_same : (x y : Bool) (a b c : Place) → Front free (one_bit x) a b → Front free (one_bit y) a c → (x ≡ y) × (b ≡ c)
   bits_same x y a b c f g = same_fronts free (agree_first free (λ e. agree_map free (λ u. e) (agree_nothing free))) a b c f g
 
-  -- what the mark leads to, by whether there is one
+  -- what the extension bit leads to, by whether there is one
   module _ (al : Bool) (b : Bounded ℤ) (v : ℤ) where
     abbrev root : Per.BitForm
     root = Per.whole_number al (lower b) (upper b) v
@@ -268,12 +268,12 @@ module _ (free : Per.Freedom → Bool) where
       let i = if_out free (is_within wide_range v) _ a b f in
       n v b (if_in free (is_within wide_range v) _ a b i.0 (plain_out al c.constraint.value v (has_additions c) a b e i.1))
 
-  pub marked_read : (al : Bool) (c : Constrained) (out : Bool) (v : ℤ) (a mid b : Place) → has_additions c ≡ true → IsTrue (free Per.root_marked_outside) → Front free (one_bit out) a mid → Front free (in_128_bits (behind_mark al out c.constraint.value) v) mid b → Front free (in_128_bits (under_constraint al c) v) a b
+  pub marked_read : (al : Bool) (c : Constrained) (out : Bool) (v : ℤ) (a mid b : Place) → has_additions c ≡ true → IsTrue (free Per.root_marked_outside) → Front free (one_bit out) a mid → Front free (in_128_bits (behind_extension_bit al out c.constraint.value) v) mid b → Front free (in_128_bits (under_constraint al c) v) a b
   marked_read al c out v a mid b e t f g =
       let i = if_out free (is_within wide_range v) _ mid b g in
       if_in free (is_within wide_range v) _ a b i.0 (marked_in al c.constraint.value v (has_additions c) out a mid b e t f i.1)
 
-  pub marked_missed : (al : Bool) (c : Constrained) (out : Bool) (a mid : Place) → has_additions c ≡ true → Front free (one_bit out) a mid → NoneStands free (in_128_bits (behind_mark al out c.constraint.value)) mid → NoneStands free (in_128_bits (under_constraint al c)) a
+  pub marked_missed : (al : Bool) (c : Constrained) (out : Bool) (a mid : Place) → has_additions c ≡ true → Front free (one_bit out) a mid → NoneStands free (in_128_bits (behind_extension_bit al out c.constraint.value)) mid → NoneStands free (in_128_bits (under_constraint al c)) a
   marked_missed al c out a mid e f n v b g =
       let i = if_out free (is_within wide_range v) _ a b g in
       n v b (if_in free (is_within wide_range v) _ mid b i.0 (marked_out al c.constraint.value v (has_additions c) out a mid b e f i.1))

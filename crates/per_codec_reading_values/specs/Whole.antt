@@ -30,11 +30,11 @@ is_offset n = ltb n (2 ^ 128)
 abbrev pub offset_form : Bool → ℕ → BitForm
 offset_form al n = only_if (is_offset n) (semi_constrained al n)
 
--- What stands behind the mark: a number by the bounds, or outside of them.
-abbrev pub behind_mark : Bool → Bool → Bounded ℤ → ℤ → BitForm
-behind_mark al out b v = cond out (unconstrained al v) (whole_number al (lower b) (upper b) v)
+-- What stands behind the extension bit: a number by the bounds, or outside of them.
+abbrev pub behind_extension_bit : Bool → Bool → Bounded ℤ → ℤ → BitForm
+behind_extension_bit al out b v = cond out (unconstrained al v) (whole_number al (lower b) (upper b) v)
 
--- A number under a value constraint: by its bounds, or marked as outside of them (X.691 13.1 and 13.2).
+-- A number under a value constraint: by its bounds, or behind an extension bit that is set (X.691 13.1 and 13.2).
 abbrev pub under_constraint : Bool → Extensible Value → ℤ → BitForm
 under_constraint al c v = marked (has_additions c) (is_within (range_of c.constraint.value) v)
     (whole_number al (lower c.constraint.value) (upper c.constraint.value) v) (unconstrained al v)

@@ -6,7 +6,7 @@ ghost use Rattle.asn1_schema_constraints.specs.Bounds.{lower, upper};
 ghost use Rattle.per_codec_fronts.specs.Takes.{Front};
 ghost use Rattle.per_codec_reading.specs.Fronts as fronts;
 ghost use Rattle.per_codec_reading.specs.Fronts.{freedoms, IsFresh, Misses};
-ghost use Rattle.per_codec_reading_values.specs.Whole.{behind_mark, in_128_bits, under_constraint, wide_range};
+ghost use Rattle.per_codec_reading_values.specs.Whole.{behind_extension_bit, in_128_bits, under_constraint, wide_range};
 
 use crate::octets::{read_semi_constrained, read_unconstrained};
 use asn1_schema_constraints::{Bounded, Extensible, Value};
@@ -126,8 +126,8 @@ fn read_root(
     }
 }
 
-/// Reads a number of the root, or one that is marked as outside of it (X.691 13.1).
-fn read_marked(
+/// Reads what stands behind an extension bit: a number of the root, or one outside of it (X.691 13.1).
+fn read_behind_extension_bit(
     alloc: Global,
     cursor: &mut Cursor<'_>,
     variant: Variant,
@@ -135,9 +135,10 @@ fn read_marked(
     bounds: Bounded<i128>,
 ) -> Result<i128, DecodeError>
     ensures ok { IfOk result (λ number. Front (freedoms variant)
-        (in_128_bits (behind_mark (fronts.is_aligned variant) is_outside bounds) number) cursor.old cursor.new) }
+        (in_128_bits (behind_extension_bit (fronts.is_aligned variant) is_outside bounds) number)
+        cursor.old cursor.new) }
     ensures only { IfErr result (Misses (freedoms variant)
-        (in_128_bits (behind_mark (fronts.is_aligned variant) is_outside bounds)) cursor.old) }
+        (in_128_bits (behind_extension_bit (fronts.is_aligned variant) is_outside bounds)) cursor.old) }
 {
     if is_outside {
         return read_unconstrained(alloc, cursor, variant);
@@ -145,8 +146,8 @@ fn read_marked(
     read_root(alloc, cursor, variant, bounds)
 }
 
-/// Reads a number under a value constraint (X.691 13), which is one of 128 bits: where an extension mark follows the
-/// bounds the extension bit tells whether they count, and numbers within them are also taken where they do not.
+/// Reads a number under a value constraint (X.691 13), which is one of 128 bits: where the constraint is extensible
+/// the extension bit tells whether the bounds count, and numbers within them are also taken where they do not.
 ///
 /// # Errors
 ///
@@ -170,5 +171,5 @@ pub fn read_bounded(
         return read_root(alloc, cursor, variant, bounds);
     }
     let is_outside = read_bit(cursor, variant)?;
-    read_marked(alloc, cursor, variant, is_outside, bounds)
+    read_behind_extension_bit(alloc, cursor, variant, is_outside, bounds)
 }

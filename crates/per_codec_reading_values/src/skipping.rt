@@ -44,14 +44,15 @@ fn skip_octets(cursor: &mut Cursor<'_>, variant: Variant) -> Result<(), DecodeEr
 pub fn skip_unknown(
     cursor: &mut Cursor<'_>,
     variant: Variant,
-    mut marks: Stretch<'_>,
+    mut presence_bits: Stretch<'_>,
 ) -> Result<(), DecodeError>
     ensures ok { OnOk result (Skips (fronts.is_aligned variant)
-        (freedoms variant) marks.entry.place.1 cursor.old cursor.new) }
-    ensures only { IfErr result (NoSkip (freedoms variant) (fronts.is_aligned variant) marks.entry.place.1 cursor.old) }
+        (freedoms variant) presence_bits.entry.place.1 cursor.old cursor.new) }
+    ensures only { IfErr result (NoSkip (freedoms variant) (fronts.is_aligned variant)
+        presence_bits.entry.place.1 cursor.old) }
     ensures fresh { IfErr result IsFresh }
 {
-    while let Some(is_there) = marks.next_bit() {
+    while let Some(is_there) = presence_bits.next_bit() {
         if is_there {
             skip_octets(cursor, variant)?;
         }

@@ -86,7 +86,7 @@ fn read_codes<S: StaticPermittedAlphabet>(
 {
     let alphabet = EffectiveAlphabet::new::<S>(
         alloc,
-        variant.is_aligned(),
+        variant,
         constraints.permitted_alphabet,
     )?;
     let run = read_sized(

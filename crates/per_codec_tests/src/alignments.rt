@@ -42,7 +42,7 @@ enum Limit {
     Most(i128),
     Fixed(usize),
     UpTo(usize),
-    /// From one to another, with a mark.
+    /// From one to another, with an extension marker.
     Marked(usize, usize),
 }
 
@@ -129,8 +129,8 @@ const LISTS: [Row; 2] = [
 ];
 
 /// The constraint to a size.
-fn sized(range: Bounded<usize>, is_marked: bool) -> Option<Constraints<'static>> {
-    let size = Extensible::new(Size::new(range)).set_extensible(is_marked);
+fn sized(range: Bounded<usize>, is_extensible: bool) -> Option<Constraints<'static>> {
+    let size = Extensible::new(Size::new(range)).set_extensible(is_extensible);
     Some(Constraints {
         size: Some(size),
         ..Constraints::NONE

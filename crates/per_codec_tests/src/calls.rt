@@ -105,7 +105,7 @@ fn is_outside(alloc: Global, (number, low, high): (i64, i128, i128)) -> bool {
     )
 }
 
-/// Whether 2 to 128 is not written behind a lower bound, with a mark behind it.
+/// Whether 2 to 128 is not written behind a lower bound, with an extension marker behind it.
 fn is_past_128_bits(alloc: Global) -> Result<bool, Fail> {
     let octets = [1, 0, 0, 0, 0, 0, 0, 0, 0, 0, 0, 0, 0, 0, 0, 0, 0];
     let number = Integer::from_signed_octets(alloc, &octets)?;

@@ -115,7 +115,7 @@ fn gives_true_once(encoder: &mut Encoder) -> Result<bool, EncodeError> {
     Ok(first.as_slice() == [0x80].as_slice() && second.as_slice() == [0x00].as_slice())
 }
 
-/// Whether an encoder in which nothing was begun refuses to end it, and a mark behind this.
+/// Whether an encoder in which nothing was begun refuses to end it, and a presence bit behind this.
 fn refuses_to_end(encoder: &mut Encoder) -> bool {
     encoder.end() == Err(EncodeError::CallOutOfPlace)
         && encoder.put_mark(true) == Err(EncodeError::AlreadyFailed)
@@ -135,14 +135,14 @@ fn what_is_held_is_taken_once(rt: HostRuntime) -> Result<(), Fail> {
     Ok(())
 }
 
-/// Begins CHOICE of one alternative, without a mark, with an added one.
-fn begin_without_a_mark<E: Writer>(encoder: &mut E) -> Result<(), EncodeError> {
+/// Begins CHOICE of one alternative, without an extension marker, with an added one.
+fn begin_without_an_extension_marker<E: Writer>(encoder: &mut E) -> Result<(), EncodeError> {
     let roots = [Tag::new_context(0)];
     encoder.begin_choice(Tag::new_context(0), &roots, false, &[], Chosen::addition(0))
 }
 
 #[test]
-fn an_added_alternative_without_a_mark(rt: HostRuntime) {
+fn an_added_alternative_without_an_extension_marker(rt: HostRuntime) {
     let mut encoder = Encoder::new(rt.alloc(), EncoderOptions::aligned());
-    assert!(rt; begin_without_a_mark(&mut encoder).is_err());
+    assert!(rt; begin_without_an_extension_marker(&mut encoder).is_err());
 }

@@ -193,8 +193,8 @@ fn an_aligned_message_lends_its_octets(rt: HostRuntime) -> Result<(), Fail> {
     Ok(())
 }
 
-/// The mark and the place of an added alternative take eight bits (X.691 11.6 and 23.8), so that its open type (11.2)
-/// begins at an octet in each variant.
+/// The extension bit and the place of an added alternative take eight bits (X.691 11.6 and 23.8), so that its open type
+/// (11.2) begins at an octet in each variant.
 #[test]
 fn octets_in_open_types_are_lent(rt: HostRuntime) {
     let input = [0x80, 0x04, 0x03, 0x01, 0x02, 0x03, 0x02, 0x04, 0x05];

@@ -2,6 +2,7 @@
 use asn1_schema_constraints::{Extensible, PermittedAlphabet};
 use asn1_values_strings::{BmpString, Ia5String, NumericString, PrintableString, VisibleString};
 use per_codec_alphabets::EffectiveAlphabet;
+use per_codec_reading::Variant;
 use std::alloc::{AllocError, Global};
 use std::test::Fail;
 
@@ -15,9 +16,9 @@ enum Kind {
     Bmp,
 }
 
-/// A type, whether the variant is aligned, and the characters that are permitted, where there is a constraint, and
-/// whether it has a mark.
-type Alphabet = (Kind, bool, Option<(&'static [u32], bool)>);
+/// A type, the variant, and the characters that are permitted, where there is a constraint, and whether it has an
+/// extension marker.
+type Alphabet = (Kind, Variant, Option<(&'static [u32], bool)>);
 
 /// Characters and their codes, a character without a code, and a code without a character.
 type Codes = (&'static [(u32, u32)], Option<u32>, Option<u32>);
@@ -25,7 +26,7 @@ type Codes = (&'static [(u32, u32)], Option<u32>, Option<u32>);
 /// Alphabets, how wide their codes are, and some of these.
 const ROWS: [(Alphabet, u32, Codes); 14] = [
     (
-        (Kind::Numeric, false, None),
+        (Kind::Numeric, Variant::Unaligned, None),
         4,
         (
             &[(49, 2), (50, 3), (51, 4), (32, 0), (57, 10)],
@@ -33,28 +34,28 @@ const ROWS: [(Alphabet, u32, Codes); 14] = [
             Some(11),
         ),
     ),
-    ((Kind::Numeric, true, None), 4, NONE),
-    ((Kind::Printable, false, None), 7, NONE),
+    ((Kind::Numeric, Variant::Aligned, None), 4, NONE),
+    ((Kind::Printable, Variant::Unaligned, None), 7, NONE),
     (
-        (Kind::Printable, true, None),
+        (Kind::Printable, Variant::Aligned, None),
         8,
         (&[(32, 32), (65, 65), (122, 122)], Some(64), Some(64)),
     ),
-    ((Kind::Visible, false, None), 7, NONE),
-    ((Kind::Visible, true, None), 8, NONE),
-    ((Kind::Ia5, false, None), 7, NONE),
-    ((Kind::Ia5, true, None), 8, NONE),
-    ((Kind::Bmp, false, None), 16, NONE),
-    ((Kind::Bmp, true, None), 16, NONE),
+    ((Kind::Visible, Variant::Unaligned, None), 7, NONE),
+    ((Kind::Visible, Variant::Aligned, None), 8, NONE),
+    ((Kind::Ia5, Variant::Unaligned, None), 7, NONE),
+    ((Kind::Ia5, Variant::Aligned, None), 8, NONE),
+    ((Kind::Bmp, Variant::Unaligned, None), 16, NONE),
+    ((Kind::Bmp, Variant::Aligned, None), 16, NONE),
     (
-        (Kind::Visible, true, Some((&[48, 49], false))),
+        (Kind::Visible, Variant::Aligned, Some((&[48, 49], false))),
         1,
         (&[(48, 0), (49, 1)], None, None),
     ),
     (
         (
             Kind::Numeric,
-            true,
+            Variant::Aligned,
             Some((&[32, 49, 50, 51, 65, 57], false)),
         ),
         4,
@@ -62,13 +63,13 @@ const ROWS: [(Alphabet, u32, Codes); 14] = [
     ),
     // Codes ascend with the characters, however these are listed.
     (
-        (Kind::Visible, false, Some((&[49, 48, 49], false))),
+        (Kind::Visible, Variant::Unaligned, Some((&[49, 48, 49], false))),
         1,
         (&[(48, 0), (49, 1)], Some(50), None),
     ),
-    // A mark makes a constraint count for nothing.
+    // An extension marker makes a constraint count for nothing.
     (
-        (Kind::Visible, false, Some((&[48, 49], true))),
+        (Kind::Visible, Variant::Unaligned, Some((&[48, 49], true))),
         7,
         (&[(65, 65)], None, None),
     ),
@@ -79,17 +80,17 @@ const NONE: Codes = (&[], None, None);
 /// The alphabet of a row.
 fn alphabet(
     alloc: Global,
-    (kind, aligned, permitted): Alphabet,
+    (kind, variant, permitted): Alphabet,
 ) -> Result<EffectiveAlphabet, AllocError> {
-    let permitted = permitted.map(|(characters, is_marked)| {
-        Extensible::new(PermittedAlphabet::new(characters)).set_extensible(is_marked)
+    let permitted = permitted.map(|(characters, is_extensible)| {
+        Extensible::new(PermittedAlphabet::new(characters)).set_extensible(is_extensible)
     });
     match kind {
-        Kind::Numeric => EffectiveAlphabet::new::<NumericString>(alloc, aligned, permitted),
-        Kind::Printable => EffectiveAlphabet::new::<PrintableString>(alloc, aligned, permitted),
-        Kind::Visible => EffectiveAlphabet::new::<VisibleString>(alloc, aligned, permitted),
-        Kind::Ia5 => EffectiveAlphabet::new::<Ia5String>(alloc, aligned, permitted),
-        Kind::Bmp => EffectiveAlphabet::new::<BmpString>(alloc, aligned, permitted),
+        Kind::Numeric => EffectiveAlphabet::new::<NumericString>(alloc, variant, permitted),
+        Kind::Printable => EffectiveAlphabet::new::<PrintableString>(alloc, variant, permitted),
+        Kind::Visible => EffectiveAlphabet::new::<VisibleString>(alloc, variant, permitted),
+        Kind::Ia5 => EffectiveAlphabet::new::<Ia5String>(alloc, variant, permitted),
+        Kind::Bmp => EffectiveAlphabet::new::<BmpString>(alloc, variant, permitted),
     }
 }
 

@@ -1,4 +1,4 @@
--- The texts of whole numbers under a value constraint, which may be marked as outside it.
+-- The texts of whole numbers under a value constraint, which may be outside it.
 use Rattle.std.proofs.Common.{◌≡◌, ℕ, ◌-◌, ◌^◌, ◌<◌, ℤ, pos, negsuc, ◌≤ℤ◌, Bool, true, false, not, ◌&&◌, ◌||◌, [], ◌∷◌, Option, Some, None, refl, ap, sym, ◌∙◌, arith}
 use Rattle.std.specs.Prelude.{Result}
 use Rattle.std.proofs.lemmas.Int.{ints}
@@ -24,7 +24,7 @@ use Rattle.per_codec_writing.specs.Writing.{Packed, Adds, place, plus}
 use Rattle.per_codec_writing.proofs.FillingTexts.{adds_text, adds_same, adds_both, if_true, if_false}
 use Rattle.per_codec_writing.proofs.NumberTexts.{Did, did_same, did_behind, is_at_most_le}
 
--- ---- in the root, or marked as outside it
+-- ---- in the root, or outside it
 
 module _ (root outside : Per.BitForm) where
   pub unmarked_text : (e within : Bool) (p : Option ℕ) → e ≡ false → within ≡ true → text_at (Per.marked e within root outside) p ≡ text_at root p
@@ -49,15 +49,15 @@ module _ (root outside : Per.BitForm) where
   outside_text true true p d w = cc
   outside_text false within p d w = cc
 
-  adds_mark : (b m : Bool) (old mid : Packed) → mid ≡ plus old (as_text (m ∷ [])) → m ≡ b → Adds (text_at (exactly (b ∷ [])) (place old)) old mid
+  adds_extension_bit : (b m : Bool) (old mid : Packed) → mid ≡ plus old (as_text (m ∷ [])) → m ≡ b → Adds (text_at (exactly (b ∷ [])) (place old)) old mid
   unfolding text_at
-  adds_mark b m old mid e f = adds_text _ (as_text (b ∷ [])) old mid refl (e ∙ ap (λ x. plus old (as_text (x ∷ []))) f)
+  adds_extension_bit b m old mid e f = adds_text _ (as_text (b ∷ [])) old mid refl (e ∙ ap (λ x. plus old (as_text (x ∷ []))) f)
 
   pub did_inside : {T : Type 0} (r : Result T EncodeError) (e within : Bool) (old mid new : Packed) → e ≡ true → within ≡ true → mid ≡ plus old (as_text (not within ∷ [])) → Did r (text_at root (place mid)) mid new → Did r (text_at (Per.marked e within root outside) (place old)) old new
-  did_inside r e within old mid new d w m h = did_same r _ _ old new (inside_text e within (place old) d w) (did_behind r (exactly (false ∷ [])) root old mid new (adds_mark false (not within) old mid m (ap not w)) h)
+  did_inside r e within old mid new d w m h = did_same r _ _ old new (inside_text e within (place old) d w) (did_behind r (exactly (false ∷ [])) root old mid new (adds_extension_bit false (not within) old mid m (ap not w)) h)
 
   pub adds_outside : (e within : Bool) (old mid new : Packed) → e ≡ true → within ≡ false → mid ≡ plus old (as_text (not within ∷ [])) → Adds (text_at outside (place mid)) mid new → Adds (text_at (Per.marked e within root outside) (place old)) old new
-  adds_outside e within old mid new d w m h = adds_same _ _ old new (outside_text e within (place old) d w) (adds_both (exactly (true ∷ [])) outside old mid new (adds_mark true (not within) old mid m (ap not w)) h)
+  adds_outside e within old mid new d w m h = adds_same _ _ old new (outside_text e within (place old) d w) (adds_both (exactly (true ∷ [])) outside old mid new (adds_extension_bit true (not within) old mid m (ap not w)) h)
 
 -- ---- numbers that the program's type and 128 bits hold
 

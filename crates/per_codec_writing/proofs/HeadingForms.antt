@@ -10,29 +10,29 @@ use Rattle.per_codec_packing.specs.Texts.{Text, bit, moved, on, text_at}
 use Rattle.per_codec_packing.specs.Packed.{Packed, Adds, place, plus}
 use Rattle.per_codec_packing.proofs.Formed.{behind, both_assoc}
 use Rattle.per_codec_packing.proofs.Adding.{added, adds_text, adds_both, adds_same, plus_both, behind as place_behind}
-use Rattle.per_codec_writing.specs.Headings.{Headers, Heading, before_all, next_header, general, count_form, sized_count, behind_bit, marked_count, heading, form_due, count_behind, headers_of, Heads, IsDue}
+use Rattle.per_codec_writing.specs.Headings.{LengthDeterminants, Heading, before_all, next_determinant, general, count_form, sized_count, behind_bit, extensible_count, heading, form_due, count_behind, determinants_of, Heads, IsDue}
 use Rattle.per_codec_writing.specs.Units.{of_size}
 use Rattle.per_codec_writing.specs.declared.lengths.Due.{Due}
 use Rattle.per_codec_writing.proofs.FillingTexts.{if_true, if_false}
 
 -- how many units stand behind the next length determinant
-abbrev pub left : Headers → ℕ
+abbrev pub left : LengthDeterminants → ℕ
 left None = 0
 left (Some h) = h.1
 
 -- no length determinant stands in front of the next unit
-abbrev pub Ready : Headers → ℕ → Type 0
+abbrev pub Ready : LengthDeterminants → ℕ → Type 0
 Ready None n = Unit {0}
 Ready (Some h) zero = ⊥
 Ready (Some h) (suc n) = Unit {0}
 
 -- a heading and what is due behind it
 abbrev pub by_heading : Bool → List Per.BitForm → Option ℕ → Option Heading → Option Text
-by_heading al us q o = option_and_then (λ (g : Heading). option_map (λ b. g.text ++ b) (text_at (form_due al g.due g.headers us) (on q g.text))) o
+by_heading al us q o = option_and_then (λ (g : Heading). option_map (λ b. g.text ++ b) (text_at (form_due al g.due g.determinants us) (on q g.text))) o
 
 -- ---- one length determinant
 
-pub next_text : (al : Bool) (ms : List ℕ) (us : List Per.BitForm) (p : Option ℕ) → text_at (Per.fragments al ms us) p ≡ by_heading al us p (next_header al ms (length us) p)
+pub next_text : (al : Bool) (ms : List ℕ) (us : List Per.BitForm) (p : Option ℕ) → text_at (Per.fragments al ms us) p ≡ by_heading al us p (next_determinant al ms (length us) p)
 unfolding text_at Per.fragments
 next_text al [] us p = go (text_at (Per.short_length al (length us)) p)
   where
@@ -41,18 +41,18 @@ next_text al [] us p = go (text_at (Per.short_length al (length us)) p)
     go (Some w) = refl
 next_text al (m ∷ ms) us p = by_test (leb 1 m && leb m 4 && leb (m * 16384) (length us))
   where
-    go : (o : Option Text) → option_and_then (λ a. option_map (λ b. a ++ b) (text_at (both (joined (take (m * 16384) us)) (Per.fragments al ms (drop (m * 16384) us))) (on p a))) o ≡ by_heading al us p (option_map (λ w. record { text = w; due = m * 16384; headers = Some (ms, length us - m * 16384) }) o)
+    go : (o : Option Text) → option_and_then (λ a. option_map (λ b. a ++ b) (text_at (both (joined (take (m * 16384) us)) (Per.fragments al ms (drop (m * 16384) us))) (on p a))) o ≡ by_heading al us p (option_map (λ w. record { text = w; due = m * 16384; determinants = Some (ms, length us - m * 16384) }) o)
     go None = refl
     go (Some w) = refl
 
-    by_test : (t : Bool) → text_at (only_if t (both (Per.at_octet al (exactly (true ∷ true ∷ binary 6 m))) (both (joined (take (m * 16384) us)) (Per.fragments al ms (drop (m * 16384) us))))) p ≡ by_heading al us p (option_map (λ w. record { text = w; due = m * 16384; headers = Some (ms, length us - m * 16384) }) (text_at (only_if t (Per.at_octet al (exactly (true ∷ true ∷ binary 6 m)))) p))
+    by_test : (t : Bool) → text_at (only_if t (both (Per.at_octet al (exactly (true ∷ true ∷ binary 6 m))) (both (joined (take (m * 16384) us)) (Per.fragments al ms (drop (m * 16384) us))))) p ≡ by_heading al us p (option_map (λ w. record { text = w; due = m * 16384; determinants = Some (ms, length us - m * 16384) }) (text_at (only_if t (Per.at_octet al (exactly (true ∷ true ∷ binary 6 m)))) p))
     by_test false = refl
     by_test true = go (text_at (Per.at_octet al (exactly (true ∷ true ∷ binary 6 m))) p)
 
 -- what it counts is all there
 pub record Sound (n : ℕ) (g : Heading) : Type 0 where
-  pub counts : g.due + left g.headers ≡ n
-  pub ready : Ready g.headers g.due
+  pub counts : g.due + left g.determinants ≡ n
+  pub ready : Ready g.determinants g.due
 
 abbrev pub AllSound : ℕ → Option Heading → Type 0
 AllSound n None = Unit {0}
@@ -66,16 +66,16 @@ positive_ready : (n : ℕ) (h : List ℕ × ℕ) → 1 ≤ n → Ready (Some h) 
 positive_ready zero h l = absurd (omega arith)
 positive_ready (suc n) h l = tt
 
-pub next_sound : (al : Bool) (ms : List ℕ) (n : ℕ) (p : Option ℕ) → AllSound n (next_header al ms n p)
+pub next_sound : (al : Bool) (ms : List ℕ) (n : ℕ) (p : Option ℕ) → AllSound n (next_determinant al ms n p)
 unfolding text_at
 next_sound al [] n p = before_all_sound n (text_at (Per.short_length al n) p)
 next_sound al (m ∷ ms) n p = by_test (leb 1 m && leb m 4 && leb (m * 16384) n) refl
   where
-    go : 1 ≤ m → m * 16384 ≤ n → (o : Option Text) → AllSound n (option_map (λ w. record { text = w; due = m * 16384; headers = Some (ms, n - m * 16384) }) o)
+    go : 1 ≤ m → m * 16384 ≤ n → (o : Option Text) → AllSound n (option_map (λ w. record { text = w; due = m * 16384; determinants = Some (ms, n - m * 16384) }) o)
     go l u None = tt
     go l u (Some w) = record { counts = omega arith; ready = positive_ready (m * 16384) (ms, n - m * 16384) (omega arith) }
 
-    by_test : (t : Bool) → (leb 1 m && leb m 4 && leb (m * 16384) n) ≡ t → AllSound n (option_map (λ w. record { text = w; due = m * 16384; headers = Some (ms, n - m * 16384) }) (text_at (only_if t (Per.at_octet al (exactly (true ∷ true ∷ binary 6 m)))) p))
+    by_test : (t : Bool) → (leb 1 m && leb m 4 && leb (m * 16384) n) ≡ t → AllSound n (option_map (λ w. record { text = w; due = m * 16384; determinants = Some (ms, n - m * 16384) }) (text_at (only_if t (Per.at_octet al (exactly (true ∷ true ∷ binary 6 m)))) p))
     by_test false e = tt
     by_test true e =
         let q = and_parts (leb 1 m && leb m 4) (leb (m * 16384) n) e in
@@ -124,13 +124,13 @@ bit_leads al b f n us x h = record { text = λ p. ap (option_map (λ c. bit b �
     one_more w None = refl
     one_more w (Some c) = refl
 
-    go : (p : Option ℕ) (o : Option Heading) → option_map (λ c. bit b ∷ c) (by_heading al us (moved p 1) o) ≡ by_heading al us p (option_map (λ (h : Heading). record { text = bit b ∷ h.text; due = h.due; headers = h.headers }) o)
+    go : (p : Option ℕ) (o : Option Heading) → option_map (λ c. bit b ∷ c) (by_heading al us (moved p 1) o) ≡ by_heading al us p (option_map (λ (h : Heading). record { text = bit b ∷ h.text; due = h.due; determinants = h.determinants }) o)
     go p None = refl
     go p (Some g) =
-        one_more g.text (text_at (form_due al g.due g.headers us) (on (moved p 1) g.text))
-        ∙ ap (λ q. option_map (λ c. (bit b ∷ g.text) ++ c) (text_at (form_due al g.due g.headers us) q)) (sym (behind p (bit b ∷ []) g.text))
+        one_more g.text (text_at (form_due al g.due g.determinants us) (on (moved p 1) g.text))
+        ∙ ap (λ q. option_map (λ c. (bit b ∷ g.text) ++ c) (text_at (form_due al g.due g.determinants us) q)) (sym (behind p (bit b ∷ []) g.text))
 
-    kept : (o : Option Heading) → AllSound n o → AllSound n (option_map (λ (h : Heading). record { text = bit b ∷ h.text; due = h.due; headers = h.headers }) o)
+    kept : (o : Option Heading) → AllSound n o → AllSound n (option_map (λ (h : Heading). record { text = bit b ∷ h.text; due = h.due; determinants = h.determinants }) o)
     kept None c = tt
     kept (Some g) c = record { counts = c.counts; ready = c.ready }
 
@@ -139,21 +139,21 @@ unfolding text_at
 if_leads al true f n us x h = h
 if_leads al false f n us x h = record { text = λ p. refl; sound = λ p. tt }
 
-pub mark_leads : (al e t : Bool) (f g : Option ℕ → Option Heading) (n : ℕ) (us : List Per.BitForm) (x y : Per.BitForm) → Leads al f n us x → Leads al g n us y → Leads al (marked_count e t f g) n us (Per.marked e t x y)
+pub extensible_leads : (al e t : Bool) (f g : Option ℕ → Option Heading) (n : ℕ) (us : List Per.BitForm) (x y : Per.BitForm) → Leads al f n us x → Leads al g n us y → Leads al (extensible_count e t f g) n us (Per.marked e t x y)
 unfolding text_at Per.marked
-mark_leads al false t f g n us x y h k = if_leads al t f n us x h
-mark_leads al true true f g n us x y h k = let l = bit_leads al false f n us x h in record { text = l.text; sound = l.sound }
-mark_leads al true false f g n us x y h k = let l = bit_leads al true g n us y k in record { text = l.text; sound = l.sound }
+extensible_leads al false t f g n us x y h k = if_leads al t f n us x h
+extensible_leads al true true f g n us x y h k = let l = bit_leads al false f n us x h in record { text = l.text; sound = l.sound }
+extensible_leads al true false f g n us x y h k = let l = bit_leads al true g n us y k in record { text = l.text; sound = l.sound }
 
 -- units of a size have the text of their heading, and of what is due behind it
 pub size_leads : (al : Bool) (z : Size) (pads : Bool) (us : List Per.BitForm) → Leads al (heading al z pads (length us)) (length us) us (of_size al z pads us)
-size_leads al z pads us = mark_leads al z.extensible (is_count_within z.counts (length us)) (λ q. sized_count al z.counts z.counts.high pads (length us) q) (λ q. general al (length us) q) (length us) us (Per.sized_root al z.counts z.counts.high (λ _. pads) us) (Per.counted al us) (count_leads al z.counts z.counts.high (λ _. pads) us) (general_leads al us)
+size_leads al z pads us = extensible_leads al z.extensible (is_count_within z.counts (length us)) (λ q. sized_count al z.counts z.counts.high pads (length us) q) (λ q. general al (length us) q) (length us) us (Per.sized_root al z.counts z.counts.high (λ _. pads) us) (Per.counted al us) (count_leads al z.counts z.counts.high (λ _. pads) us) (general_leads al us)
 
 -- ---- what a writer adds behind a heading
 
-pub heads_added : (al : Bool) (us : List Per.BitForm) (x : Per.BitForm) (o : Option Heading) (d : Due) (old mid new : Packed) → text_at x (place old) ≡ by_heading al us (place old) o → Heads o old d mid → Adds (text_at (form_due al d.units (headers_of d.behind) us) (place mid)) mid new → Adds (text_at x (place old)) old new
+pub heads_added : (al : Bool) (us : List Per.BitForm) (x : Per.BitForm) (o : Option Heading) (d : Due) (old mid new : Packed) → text_at x (place old) ≡ by_heading al us (place old) o → Heads o old d mid → Adds (text_at (form_due al d.units (determinants_of d.behind) us) (place mid)) mid new → Adds (text_at x (place old)) old new
 heads_added al us x o d old mid new e h a =
-    let y : Per.BitForm = form_due al d.units (headers_of d.behind) us in
+    let y : Per.BitForm = form_due al d.units (determinants_of d.behind) us in
     let t = added (text_at y (place mid)) mid new a in
     adds_text _ (h.text ++ t.0) old new
     (e ∙ ap (by_heading al us (place old)) h.is
@@ -161,10 +161,10 @@ heads_added al us x o d old mid new e h a =
     ∙ ap (option_map (λ b. h.text ++ b)) t.1)
     (sym t.2 ∙ ap (λ l. plus l t.0) h.added ∙ plus_both old h.text t.0)
 
-pub counted_added : (al : Bool) (us : List Per.BitForm) (n : ℕ) (d : Due) (old mid new : Packed) → n ≡ length us → Heads (general al n (place old)) old d mid → Adds (text_at (form_due al d.units (headers_of d.behind) us) (place mid)) mid new → Adds (text_at (Per.counted al us) (place old)) old new
+pub counted_added : (al : Bool) (us : List Per.BitForm) (n : ℕ) (d : Due) (old mid new : Packed) → n ≡ length us → Heads (general al n (place old)) old d mid → Adds (text_at (form_due al d.units (determinants_of d.behind) us) (place mid)) mid new → Adds (text_at (Per.counted al us) (place old)) old new
 counted_added al us n d old mid new e h a = heads_added al us (Per.counted al us) (general al (length us) (place old)) d old mid new ((general_leads al us).text (place old)) (subst (λ k. Heads (general al k (place old)) old d mid) e h) a
 
-pub size_added : (al : Bool) (z : Size) (pads : Bool) (us : List Per.BitForm) (n : ℕ) (d : Due) (old mid new : Packed) → n ≡ length us → Heads (heading al z pads n (place old)) old d mid → Adds (text_at (form_due al d.units (headers_of d.behind) us) (place mid)) mid new → Adds (text_at (of_size al z pads us) (place old)) old new
+pub size_added : (al : Bool) (z : Size) (pads : Bool) (us : List Per.BitForm) (n : ℕ) (d : Due) (old mid new : Packed) → n ≡ length us → Heads (heading al z pads n (place old)) old d mid → Adds (text_at (form_due al d.units (determinants_of d.behind) us) (place mid)) mid new → Adds (text_at (of_size al z pads us) (place old)) old new
 size_added al z pads us n d old mid new e h a = heads_added al us (of_size al z pads us) (heading al z pads (length us) (place old)) d old mid new ((size_leads al z pads us).text (place old)) (subst (λ k. Heads (heading al z pads k (place old)) old d mid) e h) a
 
 pub size_none : (al : Bool) (z : Size) (pads : Bool) (us : List Per.BitForm) (n : ℕ) (q : Option ℕ) → n ≡ length us → heading al z pads n q ≡ None → text_at (of_size al z pads us) q ≡ None
@@ -179,21 +179,21 @@ module _ (al : Bool) (us : List Per.BitForm) (from : ℕ) (d : Due) (w : from �
   these : slice_range us from (from + d.units) ≡ take d.units rest
   these = let n : from + d.units - from ≡ d.units = omega arith in ap (λ i. take i rest) n
 
-  pub fragment_added : (next : Due) (k : ℕ) (old mid out new : Packed) → d.behind ≡ Some k → Adds (text_at (joined (slice_range us from (from + d.units))) (place old)) old mid → Heads (general al k (place mid)) mid next out → Adds (text_at (form_due al next.units (headers_of next.behind) (drop (from + d.units) us)) (place out)) out new → Adds (text_at (form_due al d.units (headers_of d.behind) rest) (place old)) old new
+  pub fragment_added : (next : Due) (k : ℕ) (old mid out new : Packed) → d.behind ≡ Some k → Adds (text_at (joined (slice_range us from (from + d.units))) (place old)) old mid → Heads (general al k (place mid)) mid next out → Adds (text_at (form_due al next.units (determinants_of next.behind) (drop (from + d.units) us)) (place out)) out new → Adds (text_at (form_due al d.units (determinants_of d.behind) rest) (place old)) old new
   fragment_added next k old mid out new b a h r =
       let still : List Per.BitForm = drop d.units rest in
       let count : k ≡ length still = omega (arith, s.all, ap count_behind b, length-drop d.units rest, length-drop from us) in
-      let leads : text_at (Per.fragments al (Per.largest_first k) still) (place mid) ≡ by_heading al still (place mid) (general al k (place mid)) = next_text al (Per.largest_first k) still (place mid) ∙ ap (λ n. by_heading al still (place mid) (next_header al (Per.largest_first k) n (place mid))) (sym count) in
-      let behind_it : Adds (text_at (form_due al next.units (headers_of next.behind) still) (place out)) out new = subst (λ l. Adds (text_at (form_due al next.units (headers_of next.behind) l) (place out)) out new) (sym (drop-drop d.units from us)) r in
-      subst (λ o. Adds (text_at (form_due al d.units (headers_of o) rest) (place old)) old new) (sym b)
+      let leads : text_at (Per.fragments al (Per.largest_first k) still) (place mid) ≡ by_heading al still (place mid) (general al k (place mid)) = next_text al (Per.largest_first k) still (place mid) ∙ ap (λ n. by_heading al still (place mid) (next_determinant al (Per.largest_first k) n (place mid))) (sym count) in
+      let behind_it : Adds (text_at (form_due al next.units (determinants_of next.behind) still) (place out)) out new = subst (λ l. Adds (text_at (form_due al next.units (determinants_of next.behind) l) (place out)) out new) (sym (drop-drop d.units from us)) r in
+      subst (λ o. Adds (text_at (form_due al d.units (determinants_of o) rest) (place old)) old new) (sym b)
       (adds_both (joined (take d.units rest)) (Per.fragments al (Per.largest_first k) still) old mid new
       (subst (λ l. Adds (text_at (joined l) (place old)) old mid) these a)
       (heads_added al still (Per.fragments al (Per.largest_first k) still) (general al k (place mid)) next mid out new leads h behind_it))
 
-  pub last_added : (old new : Packed) → d.behind ≡ None → Adds (text_at (joined (slice_range us from (from + d.units))) (place old)) old new → Adds (text_at (form_due al d.units (headers_of d.behind) rest) (place old)) old new
+  pub last_added : (old new : Packed) → d.behind ≡ None → Adds (text_at (joined (slice_range us from (from + d.units))) (place old)) old new → Adds (text_at (form_due al d.units (determinants_of d.behind) rest) (place old)) old new
   last_added old new b a =
       let all : take d.units rest ≡ rest = take_all d.units rest (omega (arith, s.all, ap count_behind b, length-drop from us)) in
-      subst (λ o. Adds (text_at (form_due al d.units (headers_of o) rest) (place old)) old new) (sym b)
+      subst (λ o. Adds (text_at (form_due al d.units (determinants_of o) rest) (place old)) old new) (sym b)
       (subst (λ l. Adds (text_at (joined l) (place old)) old new) (these ∙ all) a)
 
 -- ---- under the counts that a type holds

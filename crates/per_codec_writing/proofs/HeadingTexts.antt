@@ -10,7 +10,7 @@ use Rattle.asn1_schema_faults.specs.declared.EncodeError.TheVariants.{ValueConst
 use Rattle.per_codec_packing.specs.Texts.{Text, text_at}
 use Rattle.per_codec_packing.specs.Packed.{Packed, place, plus}
 use Rattle.per_codec_packing.proofs.Adding.{added, adds_filling, none_first}
-use Rattle.per_codec_writing.specs.Headings.{Heading, before_all, next_header, general, padded, count_form, sized_count, heading_of, Heads, NoHeading}
+use Rattle.per_codec_writing.specs.Headings.{Heading, before_all, next_determinant, general, padded, count_form, sized_count, heading_of, Heads, NoHeading}
 use Rattle.per_codec_writing.specs.Writing.{Adds, Refuses, fill_at}
 use Rattle.per_codec_writing.specs.declared.lengths.Due.{Due}
 use Rattle.per_codec_writing.proofs.FillingTexts.{adds_both, plus_nothing}
@@ -23,7 +23,7 @@ few_heads al n d old new l e a =
     let t = added (text_at (Per.short_length al n) (place old)) old new a in
     record {
       text = t.0;
-      is = ap (λ ms. next_header al ms n (place old)) (none_of_them n l) ∙ ap (option_map (λ w. before_all n w)) t.1 ∙ ap (λ x. Some (heading_of t.0 x)) (sym e);
+      is = ap (λ ms. next_determinant al ms n (place old)) (none_of_them n l) ∙ ap (option_map (λ w. before_all n w)) t.1 ∙ ap (λ x. Some (heading_of t.0 x)) (sym e);
       added = sym t.2;
     }
 
@@ -32,10 +32,10 @@ fragment_heads al n m d old new l f e a =
     let x : Per.BitForm = Per.at_octet al (exactly (true ∷ true ∷ binary 6 m)) in
     let t = added (text_at x (place old)) old new a in
     let test : (leb 1 m && leb m 4 && leb (m * 16384) n) ≡ true = all_three (leb 1 m) (leb m 4) (leb (m * 16384) n) (le-leb 1 m (omega arith)) (le-leb m 4 (omega arith)) (le-leb (m * 16384) n (omega arith)) in
-    let next : Text → Heading = λ w. record { text = w; due = m * 16384; headers = Some (Per.largest_first (n - m * 16384), n - m * 16384) } in
+    let next : Text → Heading = λ w. record { text = w; due = m * 16384; determinants = Some (Per.largest_first (n - m * 16384), n - m * 16384) } in
     record {
       text = t.0;
-      is = ap (λ ms. next_header al ms n (place old)) (first_of_them n m l f) ∙ ap (λ b. option_map next (text_at (only_if b x) (place old))) test ∙ ap (option_map next) t.1 ∙ ap (λ y. Some (heading_of t.0 y)) (sym e);
+      is = ap (λ ms. next_determinant al ms n (place old)) (first_of_them n m l f) ∙ ap (λ b. option_map next (text_at (only_if b x) (place old))) test ∙ ap (option_map next) t.1 ∙ ap (λ y. Some (heading_of t.0 y)) (sym e);
       added = sym t.2;
     }
   where

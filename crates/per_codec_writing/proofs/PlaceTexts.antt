@@ -15,17 +15,17 @@ use Rattle.per_codec_writing.proofs.FillingTexts.{adds_text, adds_both}
 use Rattle.per_codec_writing.proofs.NumberTexts.{Did, did_same, did_behind}
 use Rattle.per_codec_writing.specs.Places.{place_form}
 
--- ---- marks
+-- ---- extension bits
 
-pub no_mark : (e m : Bool) (old : Packed) → e ≡ false → Adds (text_at (Per.mark_of e m) (place old)) old old
+pub no_extension_bit : (e m : Bool) (old : Packed) → e ≡ false → Adds (text_at (Per.mark_of e m) (place old)) old old
 unfolding text_at
-no_mark false m old h = ap (λ t. let q : Packed = record { text = t; placed = old.placed } in Some q) (append-nil old.text)
-no_mark true m old h = cc
+no_extension_bit false m old h = ap (λ t. let q : Packed = record { text = t; placed = old.placed } in Some q) (append-nil old.text)
+no_extension_bit true m old h = cc
 
-pub adds_mark : (e m : Bool) (old new : Packed) → e ≡ true → new ≡ plus old (as_text (m ∷ [])) → Adds (text_at (Per.mark_of e m) (place old)) old new
+pub adds_extension_bit : (e m : Bool) (old new : Packed) → e ≡ true → new ≡ plus old (as_text (m ∷ [])) → Adds (text_at (Per.mark_of e m) (place old)) old new
 unfolding text_at
-adds_mark false m old new h e = cc
-adds_mark true m old new h e = ap Some (sym e)
+adds_extension_bit false m old new h e = cc
+adds_extension_bit true m old new h e = ap Some (sym e)
 
 -- ---- places
 
@@ -69,7 +69,7 @@ did_item r al e ext added n roots others v i old new a b h d =
     did_same r _ (text_at (place_form al n ext added i) (place old)) old new
     (item_text al e added roots others v i (place old) h ∙ ap (λ m. text_at (place_form al m e added i) (place old)) (sym a) ∙ ap (λ x. text_at (place_form al n x added i) (place old)) (sym b)) d
 
--- a table is there just where there is a mark
+-- a table is there just where there is an extension bit
 pub is_extensible : {X : Type 0} (o : Option X) (e : Bool) (P : X → Type 0) → MatchOption o (e ≡ false) (λ x. (e ≡ true) × P x) → is_some o ≡ e
 is_extensible None e P h = sym h
 is_extensible (Some x) e P h = sym h.0

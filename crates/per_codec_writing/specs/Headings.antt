@@ -15,31 +15,31 @@ use Rattle.per_codec_writing.specs.declared.lengths.Due.{Due}
 -- The length determinants that are still to come: how many times 16384 units each fragment has, and how many units
 -- stand behind the first of these determinants (X.691 11.9.3.8). There is none where the units do not stand in
 -- fragments, nor behind the last determinant where they do.
-abbrev pub Headers : Type 0
-Headers = Option (List ℕ × ℕ)
+abbrev pub LengthDeterminants : Type 0
+LengthDeterminants = Option (List ℕ × ℕ)
 
 -- What stands in front of units: its text, how many units are due behind it, and the length determinants to come.
 pub record Heading : Type 0 where
   pub text : Text
   pub due : ℕ
-  pub headers : Headers
+  pub determinants : LengthDeterminants
 
 -- A number that stands in front of all its units.
 abbrev pub before_all : ℕ → Text → Heading
-before_all n w = record { text = w; due = n; headers = None }
+before_all n w = record { text = w; due = n; determinants = None }
 
 -- The next length determinant of n units in fragments, at a position: that of a fragment, or the closing one (X.691
 -- 11.9.3.5 to 11.9.3.8).
-abbrev pub next_header : Bool → List ℕ → ℕ → Option ℕ → Option Heading
-next_header al [] n q = option_map (λ w. before_all n w) (text_at (Per.short_length al n) q)
-next_header al (m ∷ ms) n q =
-    option_map (λ w. record { text = w; due = m * 16384; headers = Some (ms, n - m * 16384) })
+abbrev pub next_determinant : Bool → List ℕ → ℕ → Option ℕ → Option Heading
+next_determinant al [] n q = option_map (λ w. before_all n w) (text_at (Per.short_length al n) q)
+next_determinant al (m ∷ ms) n q =
+    option_map (λ w. record { text = w; due = m * 16384; determinants = Some (ms, n - m * 16384) })
     (text_at (only_if (leb 1 m && leb m 4 && leb (m * 16384) n) (Per.at_octet al (exactly (true ∷ true ∷ binary 6 m))))
     q)
 
 -- The first length determinant of n units in the general form, the largest fragments first.
 abbrev pub general : Bool → ℕ → Option ℕ → Option Heading
-general al n q = next_header al (Per.largest_first n) n q
+general al n q = next_determinant al (Per.largest_first n) n q
 
 -- A form, and padding behind it, where there is some (X.691 11.1).
 abbrev pub padded : Bool → Per.BitForm → Per.BitForm
@@ -59,23 +59,24 @@ sized_count al c (Some high) pads n q = cond (ltb high 65536)
 
 -- A heading behind a bit.
 abbrev pub behind_bit : Bool → (Option ℕ → Option Heading) → Option ℕ → Option Heading
-behind_bit b f q = option_map (λ (h : Heading). record { text = bit b ∷ h.text; due = h.due; headers = h.headers })
+behind_bit b f q =
+    option_map (λ (h : Heading). record { text = bit b ∷ h.text; due = h.due; determinants = h.determinants })
     (f (moved q 1))
 
 -- Within the root or, behind an extension bit, outside (X.691 16.6, 17.3, 20.4 and 30.4).
-abbrev pub marked_count : Bool → Bool → (Option ℕ → Option Heading) → (Option ℕ → Option Heading) → Option ℕ
+abbrev pub extensible_count : Bool → Bool → (Option ℕ → Option Heading) → (Option ℕ → Option Heading) → Option ℕ
     → Option Heading
-marked_count false in_root root outside q = cond in_root (root q) None
-marked_count true in_root root outside q = cond in_root (behind_bit false root q) (behind_bit true outside q)
+extensible_count false in_root root outside q = cond in_root (root q) None
+extensible_count true in_root root outside q = cond in_root (behind_bit false root q) (behind_bit true outside q)
 
 -- What stands in front of n units of a size, at a position; whether padding stands behind their number, where this is
 -- one by the bounds of the root.
 abbrev pub heading : Bool → Size → Bool → ℕ → Option ℕ → Option Heading
-heading al z pads n q = marked_count z.extensible (is_count_within z.counts n)
+heading al z pads n q = extensible_count z.extensible (is_count_within z.counts n)
     (λ q. sized_count al z.counts z.counts.high pads n q) (λ q. general al n q) q
 
 -- The form of units where so many are due before these length determinants.
-abbrev pub form_due : Bool → ℕ → Headers → List Per.BitForm → Per.BitForm
+abbrev pub form_due : Bool → ℕ → LengthDeterminants → List Per.BitForm → Per.BitForm
 form_due al n None us = joined us
 form_due al n (Some h) us = both (joined (take n us)) (Per.fragments al h.0 (drop n us))
 
@@ -85,13 +86,13 @@ count_behind None = 0
 count_behind (Some n) = n
 
 -- The length determinants to come in front of so many units, the largest fragments first (X.691 11.9.3.8).
-abbrev pub headers_of : Option ℕ → Headers
-headers_of None = None
-headers_of (Some n) = Some (Per.largest_first n, n)
+abbrev pub determinants_of : Option ℕ → LengthDeterminants
+determinants_of None = None
+determinants_of (Some n) = Some (Per.largest_first n, n)
 
 -- A heading: its text, and what is due behind it.
 abbrev pub heading_of : Text → Due → Heading
-heading_of w d = record { text = w; due = d.units; headers = headers_of d.behind }
+heading_of w d = record { text = w; due = d.units; determinants = determinants_of d.behind }
 
 -- There is this heading, and its text stands behind what stood there.
 pub record Heads (o : Option Heading) (old : Packed) (d : Due) (new : Packed) : Type 0 where

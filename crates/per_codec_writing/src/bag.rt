@@ -21,7 +21,7 @@ use std::alloc::Global;
 ///
 /// # Errors
 ///
-/// `SizeConstraintNotSatisfied` where the type does not hold so many, or a size without an extension mark does not
+/// `SizeConstraintNotSatisfied` where the type does not hold so many, or a size without an extension marker does not
 /// admit them; `OutOfMemory`.
 pub fn push_bag(
     alloc: Global,

@@ -21,8 +21,8 @@ use per_codec_packing::Packing;
 ///
 /// # Errors
 ///
-/// `SizeConstraintNotSatisfied` where the type does not hold so many bits, or a size without an extension mark does not
-/// admit them.
+/// `SizeConstraintNotSatisfied` where the type does not hold so many bits, or a size without an extension marker does
+/// not admit them.
 pub fn push_bit_string(
     output: &mut Packing,
     variant: Variant,

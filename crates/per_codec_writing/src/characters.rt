@@ -35,7 +35,7 @@ fn push_octets<S: StaticPermittedAlphabet>(
         output.new)
         (λ e. e ≡ EncodeError.OutOfMemory) }
 {
-    let alphabet = EffectiveAlphabet::new::<S>(alloc, variant.is_aligned(), None)?;
+    let alphabet = EffectiveAlphabet::new::<S>(alloc, variant, None)?;
     let units = CharacterUnits {
         alphabet: &alphabet,
         string: value,
@@ -61,7 +61,7 @@ fn push_codes<S: StaticPermittedAlphabet>(
         (place output.old))) }
 {
     let permitted = constraints.permitted_alphabet;
-    let alphabet = EffectiveAlphabet::new::<S>(alloc, variant.is_aligned(), permitted)?;
+    let alphabet = EffectiveAlphabet::new::<S>(alloc, variant, permitted)?;
     let units = CharacterUnits {
         alphabet: &alphabet,
         string: value,

@@ -1,23 +1,14 @@
 //! Constrained whole numbers (X.691 11.5).
 ghost use Rattle.std.specs.Prelude.{◌≡◌, ◌≤◌, true, MatchResult};
-ghost use Rattle.asn1_model.specs.Numbers.{octet_width as octet_width_of};
 ghost use Rattle.asn1_model.specs.Per.{constrained};
 ghost use Rattle.per_codec_packing.specs.Texts.{text_at};
 ghost use Rattle.per_codec_writing.specs.Writing.{Adds, Refuses, place};
 ghost use Rattle.per_codec_limits.specs.Variants.{is_aligned};
 
 use asn1_schema_faults::EncodeError;
-use asn1_values_natives::octets::bit_count;
+use asn1_values_natives::octets::{bit_count, octet_width};
 use per_codec_limits::Variant;
 use per_codec_packing::Packing;
-
-/// How many octets hold the numbers from 0 to `span`.
-fn octet_width(span: u128) -> u32
-    ensures width { result ≡ octet_width_of span }
-    ensures most { result ≤ 16 }
-{
-    (bit_count(span) as u32 + 7) / 8
-}
 
 /// Adds a number of 0 to `span` in its fewest octets, which stand at an octet behind their number, itself a constrained
 /// whole number (X.691 11.5.7.4 and 13.2.6).
@@ -30,9 +21,9 @@ fn push_fewest_octets(output: &mut Packing, span: u128, value: u128) -> Result<(
 {
     let count = octet_width(value).max(1);
     let further = octet_width(span) - 1;
-    output.push_bits(u128::from(count - 1), bit_count(u128::from(further)) as u32)?;
+    output.push_bits((count - 1) as u128, bit_count(further as u128) as u32)?;
     output.align()?;
-    output.push_bits(value, count * 8)?;
+    output.push_bits(value, count as u32 * 8)?;
     Ok(())
 }
 

@@ -2,7 +2,7 @@
 ghost use Rattle.std.specs.Prelude.{◌≡◌, ◌^◌, ◌<◌, length, MatchResult};
 ghost use Rattle.asn1_model.specs.Per.{counted, counted_octets};
 ghost use Rattle.per_codec_packing.specs.Texts.{text_at};
-ghost use Rattle.per_codec_writing.specs.Headings.{form_due, headers_of, IsDue};
+ghost use Rattle.per_codec_writing.specs.Headings.{form_due, determinants_of, IsDue};
 ghost use Rattle.per_codec_writing.specs.Writing.{Adds, place};
 ghost use Rattle.per_codec_limits.specs.Variants.{is_aligned};
 
@@ -22,7 +22,7 @@ pub(crate) fn push_due<U: Units>(
     requires fits { length (U.forms units.now) < 2 ^ 64 }
     requires due { IsDue (length (U.forms units.now)) first }
     ensures { MatchResult result (λ _. Adds
-        (text_at (form_due (is_aligned variant) first.units (headers_of first.behind) (U.forms units.now))
+        (text_at (form_due (is_aligned variant) first.units (determinants_of first.behind) (U.forms units.now))
         (place output.old))
         output.old output.new) (λ e. e ≡ EncodeError.OutOfMemory) }
 {

@@ -80,8 +80,8 @@ fn push_root(
     }
 }
 
-/// Adds a number under a value constraint: behind a bit that tells whether it is outside the bounds, where a mark
-/// follows these (X.691 13.1).
+/// Adds a number under a value constraint: behind the extension bit, which tells whether it is outside the bounds,
+/// where these are extensible (X.691 13.1).
 #[inline(always)]
 fn push_bounded(
     output: &mut Packing,
@@ -117,7 +117,7 @@ fn push_bounded(
 }
 
 /// Adds an INTEGER (X.691 13), of at most 128 bits under a value constraint. One outside its bounds is refused, unless
-/// a mark follows these.
+/// these are extensible.
 ///
 /// # Errors
 ///

@@ -19,7 +19,7 @@ use per_codec_packing::Packing;
 ///
 /// # Errors
 ///
-/// `SizeConstraintNotSatisfied` where the type does not hold so many octets, or a size without an extension mark does
+/// `SizeConstraintNotSatisfied` where the type does not hold so many octets, or a size without an extension marker does
 /// not admit them.
 pub fn push_octet_string(
     output: &mut Packing,

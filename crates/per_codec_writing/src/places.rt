@@ -15,15 +15,19 @@ use per_codec_limits::Variant;
 use per_codec_packing::Packing;
 
 /// Adds the extension bit, where the type has one (X.691 14.3 and 23.5). The only error is want of memory.
-fn push_extension_bit(output: &mut Packing, extensible: bool, mark: bool) -> Result<(), EncodeError>
+fn push_extension_bit(
+    output: &mut Packing,
+    extensible: bool,
+    added: bool,
+) -> Result<(), EncodeError>
     ensures { MatchResult result (λ _. Adds
-        (text_at (mark_of extensible mark) (place output.old)) output.old output.new)
+        (text_at (mark_of extensible added) (place output.old)) output.old output.new)
         (λ e. e ≡ EncodeError.OutOfMemory) }
 {
     if !extensible {
         return Ok(());
     }
-    output.push(mark)?;
+    output.push(added)?;
     Ok(())
 }
 

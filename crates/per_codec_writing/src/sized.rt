@@ -19,7 +19,7 @@ use per_codec_packing::Packing;
 ///
 /// # Errors
 ///
-/// `SizeConstraintNotSatisfied` where a size without an extension mark does not admit as many; `OutOfMemory`.
+/// `SizeConstraintNotSatisfied` where a size without an extension marker does not admit as many; `OutOfMemory`.
 pub(crate) fn push_of_size<U: Units>(
     output: &mut Packing,
     variant: Variant,
@@ -43,7 +43,7 @@ pub(crate) fn push_of_size<U: Units>(
 ///
 /// # Errors
 ///
-/// `SizeConstraintNotSatisfied` where the type does not hold so many, or a size without an extension mark does not
+/// `SizeConstraintNotSatisfied` where the type does not hold so many, or a size without an extension marker does not
 /// admit them; `OutOfMemory`.
 pub fn push_sized<U: Units>(
     output: &mut Packing,

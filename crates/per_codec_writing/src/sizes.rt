@@ -66,13 +66,13 @@ fn push_root_count(
     })
 }
 
-/// Adds what stands in front of so many units of a size: the extension bit, if an extension mark follows the size, and
-/// their number or the first length determinant in the general form. `pads` tells whether padding stands behind a
-/// number by the bounds of the root, in the aligned variant.
+/// Adds what stands in front of so many units of a size: the extension bit, if the size is extensible, and their number
+/// or the first length determinant in the general form. `pads` tells whether padding stands behind a number by the
+/// bounds of the root, in the aligned variant.
 ///
 /// # Errors
 ///
-/// `SizeConstraintNotSatisfied` where a size without an extension mark does not admit so many; `OutOfMemory`.
+/// `SizeConstraintNotSatisfied` where a size without an extension marker does not admit so many; `OutOfMemory`.
 pub fn push_size(
     output: &mut Packing,
     variant: Variant,

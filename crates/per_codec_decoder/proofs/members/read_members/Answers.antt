@@ -4,7 +4,7 @@ use Rattle.per_codec_reading.specs.Fronts.{freedoms, is_aligned}
 use Rattle.asn1_schema_constraints.specs.Bounds.{members_of}
 use Rattle.asn1_schema_constraints.specs.Terms.{size_of}
 use Rattle.per_codec_reading.proofs.Fronts.{ok_also, err_also}
-use Rattle.per_codec_decoder.proofs.Counting.{no_heading, numbered, not_so_many, headed_by, no_list_header}
+use Rattle.per_codec_decoder.proofs.Counting.{no_heading, numbered, not_so_many, headed_by, no_list_determinant}
 use Rattle.per_codec_decoder.proofs.members.read_members.Goals as goal
 
 pub returns-in_err-heading-clause-only : goal.returns-in_err-heading-clause-only
@@ -20,4 +20,4 @@ pub returns-in-General-clause-ok : goal.returns-in-General-clause-ok
 returns-in-General-clause-ok c = ok_also c.behind.result (λ m g. headed_by (freedoms c.args.variant) (is_aligned c.args.variant) (size_of c.args.sizes) (members_of c.args.held) c.in_ok-heading.heading c.in-General.length c.new.result.items m.due m.tally c.args.cursor.now c.read_heading.new.cursor c.in-General.is c.new.ensures.items c.in_ok-heading.ensures.ok (λ p front. g c.args.variant p c.read_heading.new.cursor front)) c.behind.ensures.ok
 
 pub returns-in-General-clause-only : goal.returns-in-General-clause-only
-returns-in-General-clause-only c = err_also c.behind.result (λ e g. no_list_header (freedoms c.args.variant) (is_aligned c.args.variant) (size_of c.args.sizes) (members_of c.args.held) c.in_ok-heading.heading c.in-General.length c.new.result.items c.args.cursor.now c.read_heading.new.cursor e c.in-General.is c.new.ensures.items c.in_ok-heading.ensures.ok (λ p front. g c.args.variant p c.read_heading.new.cursor front)) c.behind.ensures.only
+returns-in-General-clause-only c = err_also c.behind.result (λ e g. no_list_determinant (freedoms c.args.variant) (is_aligned c.args.variant) (size_of c.args.sizes) (members_of c.args.held) c.in_ok-heading.heading c.in-General.length c.new.result.items c.args.cursor.now c.read_heading.new.cursor e c.in-General.is c.new.ensures.items c.in_ok-heading.ensures.ok (λ p front. g c.args.variant p c.read_heading.new.cursor front)) c.behind.ensures.only

@@ -1,7 +1,7 @@
 use Rattle.std.proofs.Common.{◌++◌, ◌∷◌, [], take, refl, arith}
 use Rattle.per_codec_encoder.specs.declared.frame.Frame.TheVariants.{Added}
 use Rattle.per_codec_encoder.specs.Holding.{at, instead}
-use Rattle.per_codec_encoder.proofs.Ending.{does_end_added, cannot_end_added, mark_within, root_ends}
+use Rattle.per_codec_encoder.proofs.Ending.{does_end_added, cannot_end_added, bit_within, root_ends}
 use Rattle.per_codec_limits.specs.Variants.{is_aligned}
 use Rattle.per_codec_encoder.proofs.ends.end_additions.Goals as goal
 
@@ -30,4 +30,4 @@ truncate-requires-clause-place c =
 pub push_extension-requires : goal.push_extension-requires
 push_extension-requires c =
     let ad = c.args.additions in
-    mark_within (is_aligned c.args.variant) (c.requires.0 ++ Added ad ∷ []) c.requires.0 (Added ad) ad c.args.output.now c.truncate.new.self refl refl c.truncate.ensures c.requires.1
+    bit_within (is_aligned c.args.variant) (c.requires.0 ++ Added ad ∷ []) c.requires.0 (Added ad) ad c.args.output.now c.truncate.new.self refl refl c.truncate.ensures c.requires.1

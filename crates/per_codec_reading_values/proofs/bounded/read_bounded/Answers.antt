@@ -4,7 +4,7 @@ use Rattle.asn1_schema_constraints.specs.Bounds.{lower, upper}
 use Rattle.per_codec_reading.specs.Fronts.{freedoms, is_aligned}
 use Rattle.per_codec_reading.specs.Lengths.{one_bit}
 use Rattle.per_codec_reading.proofs.Fronts.{misses_also, ok_also, err_also, root_marked_outside_is_free}
-use Rattle.per_codec_reading_values.specs.Whole.{in_128_bits, under_constraint, behind_mark}
+use Rattle.per_codec_reading_values.specs.Whole.{in_128_bits, under_constraint, behind_extension_bit}
 use Rattle.per_codec_reading_values.proofs.WholeFronts.{unmarked_read, unmarked_missed, marked_read, marked_missed, mark_missed}
 use Rattle.per_codec_reading_values.proofs.bounded.read_bounded.Goals as goal
 
@@ -31,7 +31,7 @@ returns-in_err-is_outside-clause-only c =
 pub returns-clause-ok : goal.returns-clause-ok
 returns-clause-ok c =
     let k = c.args.constraint in
-    ok_also c.read_marked.result (λ v. marked_read (freedoms c.args.variant) (is_aligned c.args.variant) k _ v c.args.cursor.now c.read_bit.new.cursor c.read_marked.new.cursor c.if-is_none.ensures (root_marked_outside_is_free c.args.variant) c.in_ok-is_outside.ensures.ok) c.read_marked.ensures.ok
+    ok_also c.read_behind_extension_bit.result (λ v. marked_read (freedoms c.args.variant) (is_aligned c.args.variant) k _ v c.args.cursor.now c.read_bit.new.cursor c.read_behind_extension_bit.new.cursor c.if-is_none.ensures (root_marked_outside_is_free c.args.variant) c.in_ok-is_outside.ensures.ok) c.read_behind_extension_bit.ensures.ok
 
 pub returns-clause-only : goal.returns-clause-only
 returns-clause-only c =
@@ -40,4 +40,4 @@ returns-clause-only c =
     let a = c.args.cursor.now in
     let m = c.read_bit.new.cursor in
     let k = c.args.constraint in
-    err_also c.read_marked.result (λ e. misses_also f (in_128_bits (behind_mark al c.in_ok-is_outside.is_outside k.constraint.value)) (in_128_bits (under_constraint al k)) m a e (marked_missed f al k c.in_ok-is_outside.is_outside a m c.if-is_none.ensures c.in_ok-is_outside.ensures.ok)) c.read_marked.ensures.only
+    err_also c.read_behind_extension_bit.result (λ e. misses_also f (in_128_bits (behind_extension_bit al c.in_ok-is_outside.is_outside k.constraint.value)) (in_128_bits (under_constraint al k)) m a e (marked_missed f al k c.in_ok-is_outside.is_outside a m c.if-is_none.ensures c.in_ok-is_outside.ensures.ok)) c.read_behind_extension_bit.ensures.only

@@ -21,7 +21,7 @@ string_of_run-requires-clause-narrow g c =
     let l = alphabet_of c.args.constraints.permitted_alphabet in
     let rs = permitted g.S.StaticPermittedAlphabet.kind l in
     let o = permitted_orderly g.S.StaticPermittedAlphabet.kind l.extensible l.characters c.requires.kind in
-    let f = few_bits c.is_aligned.result rs o.1 in
+    let f = few_bits (is_aligned c.args.variant) rs o.1 in
     let b = c.in_ok-alphabet.ensures.width in
     omega arith
 
@@ -33,7 +33,7 @@ returns-in_err-run-clause-only g c =
     let al = is_aligned c.args.variant in
     let z = sizes_of c.args.constraints.size in
     let l = alphabet_of c.args.constraints.permitted_alphabet in
-    let b = c.in_ok-alphabet.ensures.width ∙ ap (λ x. Per.character_bits x (permitted S.kind l)) c.is_aligned.ensures in
+    let b = c.in_ok-alphabet.ensures.width in
     let a = c.args.cursor.now in
     let y = size_of c.sizes.result in
     rw (p.1, p.2) (misses_also f (sized_units al y any_count c.width.result (pads_of Characters c.width.result)) (Per.form al (character_string S.kind z l any_count)) a a _ (λ n. no_codes f al S.kind z l c.in_ok-alphabet.alphabet c.in_ok-alphabet.ensures.characters b c.requires.kind g.met.S.StaticPermittedAlphabet.holds (permitted_orderly S.kind l.extensible l.characters c.requires.kind) a (subst (λ w. NoneStands f (sized_units al z any_count w (pads_of Characters w)) a) c.width.ensures.bits (subst (λ s. NoneStands f (sized_units al s any_count c.width.result (pads_of Characters c.width.result)) a) c.sizes.ensures n))) c.in_err-run.ensures.only)
@@ -50,7 +50,7 @@ returns-in-Ok-clause-ok g c =
     let al = is_aligned c.args.variant in
     let z = sizes_of c.args.constraints.size in
     let l = alphabet_of c.args.constraints.permitted_alphabet in
-    let b = c.in_ok-alphabet.ensures.width ∙ ap (λ x. Per.character_bits x (permitted S.kind l)) c.is_aligned.ensures in
+    let b = c.in_ok-alphabet.ensures.width in
     let us = units_in c.in_ok-run.run' in
     let r = subst (λ s. Front f (sized_units al s any_count c.width.result (pads_of Characters c.width.result) us) c.args.cursor.now c.read_sized.new.cursor) c.sizes.ensures c.in_ok-run.ensures.ok in
     let x = subst (λ w. Front f (sized_units al z any_count w (pads_of Characters w) us) c.args.cursor.now c.read_sized.new.cursor) c.width.ensures.bits r in
@@ -63,7 +63,7 @@ returns-clause-only g c =
     let al = is_aligned c.args.variant in
     let z = sizes_of c.args.constraints.size in
     let l = alphabet_of c.args.constraints.permitted_alphabet in
-    let b = c.in_ok-alphabet.ensures.width ∙ ap (λ x. Per.character_bits x (permitted S.kind l)) c.is_aligned.ensures in
+    let b = c.in_ok-alphabet.ensures.width in
     let o = permitted_orderly S.kind l.extensible l.characters c.requires.kind in
     let a = c.in_ok-alphabet.alphabet in
     let us = units_in c.in_ok-run.run' in

@@ -1,4 +1,4 @@
-use Rattle.per_codec_reading_values.proofs.bounded.read_marked.Goals as goal
+use Rattle.per_codec_reading_values.proofs.bounded.read_behind_extension_bit.Goals as goal
 
 pub returns-then-is_outside-clause-only : goal.returns-then-is_outside-clause-only
 returns-then-is_outside-clause-only c = rw c.if-is_outside.true c.read_unconstrained.ensures.only

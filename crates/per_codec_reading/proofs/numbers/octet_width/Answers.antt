@@ -1,6 +1,0 @@
-use Rattle.std.proofs.Common.{◌+◌, ◌/◌, ap, sym, ◌∙◌}
-use Rattle.asn1_values_natives.proofs.Widths.{octet_width-width}
-use Rattle.per_codec_reading.proofs.numbers.octet_width.Goals as goal
-
-pub returns-clause-width : goal.returns-clause-width
-returns-clause-width c = ap (λ w. (w + 7) / 8) c.bit_count.ensures.value ∙ sym (octet_width-width c.args.number)
