@@ -1,5 +1,5 @@
 -- Characters in ascending order.
-use Rattle.std.proofs.Common.{◌≡◌, ◌⊎◌, ℕ, zero, suc, ◌+◌, ◌<◌, ◌≤◌, ltb, Bool, true, false, cond, ◌&&◌, List, [], ◌∷◌, ◌++◌, length, filter, refl, ap, sym, ◌∙◌, subst, inl, inr, slice_index, nat_cmp, arith}
+use Rattle.std.proofs.Common.{◌≡◌, ◌⊎◌, ℕ, suc, ◌+◌, ◌<◌, ◌≤◌, ltb, Bool, true, false, cond, List, [], ◌∷◌, ◌++◌, filter, refl, ap, sym, ◌∙◌, subst, inl, inr, slice_index, nat_cmp, arith}
 use Rattle.std.specs.List.{Contains, dedup}
 use Rattle.std.proofs.Math.Dec.{eqb}
 use Rattle.std.specs.List.Sorted.{IsPermutation, IsSorted, IsStrictlyIncreasing}
@@ -9,7 +9,7 @@ use Rattle.std.proofs.lemmas.List.Sorted.{Contains-permutation, IsPermutation-sy
 use Rattle.std.proofs.lemmas.Map.Keys.{IsStrictlyIncreasing-dedup}
 use Rattle.asn1_model.specs.Lawful.{are_ascending}
 use Rattle.asn1_model.specs.Strings.{sorted}
-use Rattle.asn1_model.proofs.Ascending.{at_front, behind_front, front_or_behind, none_in, rest_ascends, above_front, in_front, same_ascending, order_ascends, order_has, order_only, ascending_order}
+use Rattle.asn1_model.proofs.Ascending.{at_front, behind_front, front_or_behind, none_in, rest_ascends, above_front, in_front, same_ascending, order_ascends, order_has, order_only}
 
 -- ---- a list that ascends, and one more
 pub ascends_more : (fs : List ℕ) (n c : ℕ) → n ≤ c → are_ascending ltb (fs ++ n ∷ []) ≡ true → are_ascending ltb ((fs ++ c ∷ []) ++ (c + 1) ∷ []) ≡ true

@@ -31,11 +31,11 @@ pub(crate) fn begin_alternative(
     chosen: Chosen,
 ) -> Result<(), EncodeError>
     ensures { MatchResult result (λ _. (ts us : List Tag) → length ts ≡ roots
-        → Does (is_aligned variant) (choice_begins ts extensible us chosen.added chosen.place) frames.old output.old
-        frames.new
-        output.new) (λ e. (ts us : List Tag) → length ts ≡ roots
-        → Cannot (is_aligned variant) (choice_begins ts extensible us chosen.added chosen.place) frames.old output.old
-        e) }
+        → Does (is_aligned variant) (choice_begins ts extensible us chosen.added chosen.place)
+        frames.old output.old frames.new output.new)
+        (λ e. (ts us : List Tag) → length ts ≡ roots
+        → Cannot (is_aligned variant) (choice_begins ts extensible us chosen.added chosen.place)
+        frames.old output.old e) }
 {
     push_place(output, variant, roots, extensible, chosen)?;
     if chosen.added {

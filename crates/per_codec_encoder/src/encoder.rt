@@ -54,8 +54,7 @@ impl Model for Encoder {
     ghost view = { λ e. record {
       state = shown (reverse e.frames) e.output;
       aligned = is_aligned e.variant;
-      failed =
-          e.failed;
+      failed = e.failed;
     } };
 
     ghost invariant = { λ e. e.failed ≡ false → Holds (reverse e.frames) e.output (shown (reverse e.frames) e.output) };

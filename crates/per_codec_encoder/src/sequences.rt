@@ -101,8 +101,8 @@ fn next_of_frame(
     more: bool,
 ) -> Result<(), EncodeError>
     ensures { MatchResult result (λ _. (fs : List Frame)
-        → Does (is_aligned variant) (further more) (fs ++ innermost.old ∷ []) output.old (fs ++ innermost.new ∷ [])
-        output.new)
+        → Does (is_aligned variant) (further more) (fs ++ innermost.old ∷ []) output.old
+        (fs ++ innermost.new ∷ []) output.new)
         (λ e. (fs : List Frame) → Cannot (is_aligned variant) (further more) (fs ++ innermost.old ∷ []) output.old e) }
 {
     match innermost {
@@ -125,8 +125,8 @@ pub(crate) fn put_further(
     variant: Variant,
     more: bool,
 ) -> Result<(), EncodeError>
-    ensures { MatchResult result (λ _. Does (is_aligned variant) (further more) frames.old output.old frames.new
-        output.new)
+    ensures { MatchResult result (λ _. Does (is_aligned variant) (further more)
+        frames.old output.old frames.new output.new)
         (Cannot (is_aligned variant) (further more) frames.old output.old) }
 {
     match &mut frames.innermost {

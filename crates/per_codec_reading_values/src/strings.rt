@@ -84,11 +84,7 @@ fn read_codes<S: StaticPermittedAlphabet>(
     ensures only { IfErr result (MissesString variant S.kind constraints.entry cursor.old) }
     ensures fresh { IfErr result IsFresh }
 {
-    let alphabet = EffectiveAlphabet::new::<S>(
-        alloc,
-        variant,
-        constraints.permitted_alphabet,
-    )?;
+    let alphabet = EffectiveAlphabet::new::<S>(alloc, variant, constraints.permitted_alphabet)?;
     let run = read_sized(
         alloc,
         cursor,

@@ -63,7 +63,11 @@ const ROWS: [(Alphabet, u32, Codes); 14] = [
     ),
     // Codes ascend with the characters, however these are listed.
     (
-        (Kind::Visible, Variant::Unaligned, Some((&[49, 48, 49], false))),
+        (
+            Kind::Visible,
+            Variant::Unaligned,
+            Some((&[49, 48, 49], false)),
+        ),
         1,
         (&[(48, 0), (49, 1)], Some(50), None),
     ),

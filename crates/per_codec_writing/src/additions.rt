@@ -63,8 +63,7 @@ fn push_presence(
 ) -> Result<(), EncodeError>
     ensures { MatchResult result (λ _. Adds
         (text_at (normally_few (is_aligned variant) (bit_units (map is_present slots.now))) (place output.old))
-        output.old
-        output.new) (λ e. e ≡ EncodeError.OutOfMemory) }
+        output.old output.new) (λ e. e ≡ EncodeError.OutOfMemory) }
 {
     let count = slots.len();
     if 1 <= count && count <= 64 {

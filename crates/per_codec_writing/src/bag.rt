@@ -34,8 +34,8 @@ pub fn push_bag(
     ensures { MatchResult result (λ _. Adds
         (text_at (in_any_order (forms members.now)
         (λ us. sized (is_aligned variant) (size_of sizes) (members_of held) never us)) (place output.old))
-        output.old output.new) (Refuses
-        (text_at (in_any_order (forms members.now)
+        output.old output.new)
+        (Refuses (text_at (in_any_order (forms members.now)
         (λ us. sized (is_aligned variant) (size_of sizes) (members_of held) never us)) (place output.old))) }
 {
     let ordered = in_order(alloc, members)?;

@@ -23,8 +23,7 @@ pub(crate) fn push_due<U: Units>(
     requires due { IsDue (length (U.forms units.now)) first }
     ensures { MatchResult result (λ _. Adds
         (text_at (form_due (is_aligned variant) first.units (determinants_of first.behind) (U.forms units.now))
-        (place output.old))
-        output.old output.new) (λ e. e ≡ EncodeError.OutOfMemory) }
+        (place output.old)) output.old output.new) (λ e. e ≡ EncodeError.OutOfMemory) }
 {
     let mut due = first;
     let mut from = 0;

@@ -25,8 +25,8 @@ fn push_unconstrained<I: IntegerType>(
     value: &I,
 ) -> Result<(), EncodeError>
     ensures written { MatchResult result
-        (λ _. Adds (text_at (unconstrained (is_aligned variant) (I.value value.now)) (place output.old)) output.old
-        output.new)
+        (λ _. Adds (text_at (unconstrained (is_aligned variant) (I.value value.now)) (place output.old))
+        output.old output.new)
         (λ e. e ≡ EncodeError.OutOfMemory) }
     ensures held { is_within I.held (I.value value.now) ≡ true }
 {
@@ -94,11 +94,10 @@ fn push_bounded(
         (text_at (marked extensible (admits_number bounds number)
         (number_form (is_aligned variant) (lower bounds) (upper bounds) number)
         (unconstrained (is_aligned variant) number)) (place output.old))
-        output.old output.new) (Refuses
-        (text_at (marked extensible (admits_number bounds number)
+        output.old output.new)
+        (Refuses (text_at (marked extensible (admits_number bounds number)
         (number_form (is_aligned variant) (lower bounds) (upper bounds) number)
-        (unconstrained (is_aligned variant) number))
-        (place output.old))) }
+        (unconstrained (is_aligned variant) number)) (place output.old))) }
 {
     let inside = bounds.contains(&number);
     if !extensible {
@@ -131,8 +130,8 @@ pub fn push_integer<I: IntegerType>(
 ) -> Result<(), EncodeError>
     ensures { MatchResult result (λ _. Adds
         (text_at (form (is_aligned variant) (integer (bounds_of constraints.entry.value)
-        (held_of constraints.entry.value I.held))
-        (number_value (I.value value.now))) (place output.old)) output.old output.new)
+        (held_of constraints.entry.value I.held)) (number_value (I.value value.now))) (place output.old))
+        output.old output.new)
         (Refuses (text_at (form (is_aligned variant)
         (integer (bounds_of constraints.entry.value) (held_of constraints.entry.value I.held))
         (number_value (I.value value.now))) (place output.old))) }

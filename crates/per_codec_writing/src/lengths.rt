@@ -61,8 +61,7 @@ pub fn push_fragment_length(
     requires { multiple ≤ 4 }
     ensures { MatchResult result (λ _. Adds
         (text_at (at_octet (is_aligned variant) (exactly (true ∷ true ∷ binary 6 multiple))) (place output.old))
-        output.old
-        output.new) (λ e. e ≡ EncodeError.OutOfMemory) }
+        output.old output.new) (λ e. e ≡ EncodeError.OutOfMemory) }
 {
     align(output, variant)?;
     output.push_bits(0xC0 + multiple as u128, 8)?;

@@ -30,8 +30,7 @@ pub fn push_octet_string(
 ) -> Result<(), EncodeError>
     ensures { MatchResult result (λ _. Adds
         (text_at (form (is_aligned variant) (octet_string (sizes_of constraints.entry.size) (counts_of held))
-        (octet_list value.now))
-        (place output.old)) output.old output.new)
+        (octet_list value.now)) (place output.old)) output.old output.new)
         (Refuses (text_at (form (is_aligned variant) (octet_string (sizes_of constraints.entry.size) (counts_of held))
         (octet_list value.now)) (place output.old))) }
 {

@@ -47,8 +47,8 @@ pub fn push_place(
 ) -> Result<(), EncodeError>
     ensures { MatchResult result (λ _. Adds
         (text_at (place_form (is_aligned variant) roots extensible chosen.added chosen.place) (place output.old))
-        output.old
-        output.new) (Refuses (text_at (place_form (is_aligned variant) roots extensible chosen.added chosen.place)
+        output.old output.new)
+        (Refuses (text_at (place_form (is_aligned variant) roots extensible chosen.added chosen.place)
         (place output.old))) }
 {
     if !chosen.added {
@@ -78,8 +78,7 @@ pub fn push_enumerated<T: Enumerated>(
         (text_at (form (is_aligned variant) (enumerated T.roots T.extensible T.additions) (item (T.number value.now)))
         (place output.old)) output.old output.new)
         (Refuses (text_at (form (is_aligned variant) (enumerated T.roots T.extensible T.additions)
-        (item (T.number value.now)))
-        (place output.old))) }
+        (item (T.number value.now))) (place output.old))) }
 {
     let extensible = T::extended_variants().is_some();
     push_place(

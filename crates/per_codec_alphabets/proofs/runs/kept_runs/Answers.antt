@@ -1,9 +1,8 @@
-use Rattle.std.proofs.Common.{◌≡◌, ◌≤◌, ◌<◌, ◌^◌, ◌+◌, ◌++◌, ◌∷◌, [], ltb, true, sym, ◌∙◌, ap, subst, refl, arith, take, length, filter}
-use Rattle.std.specs.Prelude.{get_or}
+use Rattle.std.proofs.Common.{◌≡◌, ◌<◌, ◌^◌, ◌++◌, ◌∷◌, [], ltb, true, sym, ◌∙◌, ap, subst, refl, arith, take, length, filter}
 use Rattle.asn1_model.specs.Lawful.{are_ascending}
 use Rattle.asn1_model.specs.Strings.{characters_of, is_among, sorted}
 use Rattle.asn1_model.proofs.Ascending.{ascending_order}
-use Rattle.per_codec_alphabets.specs.Codes.{runs_of, singles, kept, SameCharacters}
+use Rattle.per_codec_alphabets.specs.Codes.{runs_of, singles, SameCharacters}
 use Rattle.per_codec_alphabets.proofs.Places.{one_kept, one_left, filter_more, filter_same, few_left, all_taken}
 use Rattle.per_codec_alphabets.proofs.Sorting.{ascends_more, ascends_front}
 use Rattle.per_codec_alphabets.proofs.runs.kept_runs.Goals.{then-contains_char+else-from-next+in_ok-push_character, else-contains_char}

@@ -1,4 +1,4 @@
-use Rattle.std.proofs.Common.{◌≡◌, true, ltb, filter, take, map, ◌++◌, ◌∷◌, []}
+use Rattle.std.proofs.Common.{◌≡◌, true, ltb, take, ◌++◌, ◌∷◌, []}
 use Rattle.asn1_model.specs.Lawful.{are_ascending}
 use Rattle.per_codec_alphabets.specs.Codes.{runs_of, singles, kept, SameCharacters}
 use Rattle.per_codec_alphabets.proofs.runs.kept_runs.Given as goal

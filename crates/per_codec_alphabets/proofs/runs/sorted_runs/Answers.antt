@@ -1,7 +1,7 @@
-use Rattle.std.proofs.Common.{◌≡◌, ◌∙◌, IfOk, ap, filter, subst}
+use Rattle.std.proofs.Common.{◌∙◌, IfOk, ap, filter, subst}
 use Rattle.std.proofs.lemmas.List.Filters.{dedup_is}
 use Rattle.asn1_model.specs.Strings.{characters_of, is_among, sorted}
-use Rattle.per_codec_alphabets.specs.Codes.{runs_of, singles, kept, SameCharacters}
+use Rattle.per_codec_alphabets.specs.Codes.{runs_of, singles, SameCharacters}
 use Rattle.per_codec_alphabets.proofs.Sorting.{sorted_left, put_in_order}
 use Rattle.per_codec_alphabets.proofs.runs.sorted_runs.Goals as goal
 
