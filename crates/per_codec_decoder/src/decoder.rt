@@ -196,6 +196,7 @@ impl<'input> Decoder<'input> {
         position: usize,
         answer: Result<T, DecodeError>,
     ) -> Result<T, DecodeError>
+        requires { OnOk answer (position ≤ self.old.place.0 + length self.old.place.1) }
         ensures same { result ≡ answer }
         ensures moved { OnOk result (Moves self.old position self.new) }
         ensures levels { OnOk result (self.new.levels ≡ self.old.levels) }

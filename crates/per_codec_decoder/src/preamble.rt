@@ -1,5 +1,5 @@
 //! The preamble of a sequence, set or group (X.691 19.1 to 19.3).
-ghost use Rattle.std.specs.Prelude.{◌≡◌, [], ◌∷◌, true, OnOk, IfOk, IfErr};
+ghost use Rattle.std.specs.Prelude.{◌≡◌, [], true, OnOk, IfOk, IfErr};
 ghost use Rattle.asn1_model.specs.Form.{is_present};
 ghost use Rattle.asn1_schema_finding.specs.Marks.{preamble_bits};
 ghost use Rattle.per_codec_reading.specs.Fronts.{freedoms, is_aligned, IsFresh, Leads};
@@ -8,24 +8,10 @@ ghost use Rattle.per_codec_decoder.specs.Scopes.{scope_of, stands_in};
 
 use crate::frames::Frame;
 use asn1_schema_faults::DecodeError;
-use asn1_values_bits::{BitReader, BitStr};
-use per_codec_reading::{Cursor, RunBits, Variant};
+use asn1_values_bits::BitStr;
+use per_codec_reading::{RunBits, Variant};
 use per_codec_reading_values::{Field, Stretch};
 use std::alloc::Global;
-
-/// Takes one bit.
-///
-/// # Errors
-///
-/// `Incomplete` if there is none.
-fn read_bit(cursor: &mut Cursor<'_>) -> Result<bool, DecodeError>
-    ensures ok { IfOk result (λ bit. Leads (bit ∷ []) cursor.old cursor.new) }
-    ensures only { IfErr result (λ _. cursor.old.1 ≡ []) }
-    ensures fresh { IfErr result IsFresh }
-{
-    let bits = cursor.take(1)?;
-    Ok(BitReader::new(bits).first_bit())
-}
 
 /// Reads the extension bit, if there is one.
 ///
@@ -46,10 +32,9 @@ fn read_extension_bit(
     if !extensible {
         return Ok(None);
     }
-    let mut cursor = place.cursor();
-    let bit = read_bit(&mut cursor)?;
-    let position = cursor.position();
-    place.move_to(position);
+    let Some(bit) = place.next_bit() else {
+        return Err(DecodeError::Incomplete);
+    };
     Ok(Some(bit))
 }
 

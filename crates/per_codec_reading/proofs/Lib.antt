@@ -11,3 +11,4 @@ pub mod SizedFronts
 pub mod ToldFronts
 pub mod StringFronts
 pub mod LastFronts
+pub mod BitsAt

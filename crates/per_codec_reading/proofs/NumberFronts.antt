@@ -305,13 +305,11 @@ module _ (free : Per.Freedom → Bool) where
   count_missed span o w a h u f g n = no_count span a h (subst (λ n. n ≤ 16) f u) (none_counted span o w a f g n)
 
   -- ---- single bits
-  pub bit_read : (n : ℕ) (a b : Place) → n < 2 → Leads (binary 1 n) a b → Front free (one_bit (n == 1)) a b
-  bit_read n a b l h =
-      let e : n / 1 % 2 ≡ n = omega arith in
-      exactly_in free _ a b (subst (λ x. Leads ((x == 1) ∷ []) a b) e h)
+  pub bit_read : (v : Bool) (a b : Place) → Leads (v ∷ []) a b → Front free (one_bit v) a b
+  bit_read v a b h = exactly_in free (v ∷ []) a b h
 
-  pub no_bit : (a : Place) → length a.1 < 1 → NoneStands free one_bit a
-  no_bit a l v b f = too_short free (v ∷ []) a b l f
+  pub no_bit : (a : Place) → a.1 ≡ [] → NoneStands free one_bit a
+  no_bit a e v b f = let l = ap length e in too_short free (v ∷ []) a b (omega (arith, l)) f
 
   pub truth_stands : (al v : Bool) (a b : Place) → Front free (one_bit v) a b → Front free (Per.form al boolean (truth v)) a b
   unfolding Per.form

@@ -1,5 +1,5 @@
 //! The bits that are still to be read.
-ghost use Rattle.std.specs.Prelude.{◌≡◌, ◌-◌, ◌^◌, ◌<◌, ◌≤◌, take, [], length, IsTrue, ◌↔◌, IfOk, IfErr};
+ghost use Rattle.std.specs.Prelude.{◌≡◌, ◌-◌, ◌^◌, ◌<◌, ◌≤◌, take, drop, [], ◌∷◌, length, IsTrue, ◌↔◌, IfOk, IfErr};
 ghost use Rattle.asn1_model.specs.Numbers.{binary, octet_bits};
 ghost use Rattle.asn1_values_bits.specs.BitStr.{bits_of};
 ghost use Rattle.per_codec_reading.specs.Fronts.{Leads};
@@ -52,6 +52,17 @@ impl<'input> Cursor<'input> {
         }
     }
 
+    /// Behind so many of these bits, which are all of a message or of an open type.
+    #[inline(always)]
+    pub fn behind(bits: BitStr<'input>, position: usize) -> Self
+        requires { position ≤ length (bits_of bits) }
+        ensures { result ≡ (position, drop position (bits_of bits.entry)) }
+    {
+        let _count = bits.len();
+        let (_read, unread) = bits.split_at(position);
+        Cursor { position, unread }
+    }
+
     /// How many bits of the message or open type are read.
     #[inline(always)]
     pub fn position(&self) -> usize
@@ -102,6 +113,25 @@ impl<'input> Cursor<'input> {
         self.position += count;
         self.unread = rest;
         Ok(bits)
+    }
+
+    /// Takes the first bit.
+    ///
+    /// # Errors
+    ///
+    /// `Incomplete` if there is none.
+    #[inline(always)]
+    pub fn take_bit(&mut self) -> Result<bool, DecodeError>
+        ensures bit { IfOk result (λ bit. Leads (bit ∷ []) self.old self.new) }
+        ensures short { IfErr result (λ e. (e ≡ DecodeError.Incomplete) × (self.old.1 ≡ [])) }
+    {
+        let Some(bit) = self.unread.get(0) else {
+            return Err(DecodeError::Incomplete);
+        };
+        let (_first, rest) = self.unread.split_at(1);
+        self.position += 1;
+        self.unread = rest;
+        Ok(bit)
     }
 
     /// Takes the number whose binary digits are the first bits, as many as are asked for and at most 128.

@@ -26,27 +26,16 @@ fn borrowed(octets: &[u8]) -> CowSlice<'_, u8>
     CowSlice::Borrowed(octets)
 }
 
-/// Up to so many bits are copied in numbers, and more of them in blocks.
-const FEW_BITS: usize = 2048;
-
-/// A copy of the bits.
+/// A copy of the bits, which are whole octets.
 fn copied_bits(alloc: Global, bits: BitStr<'_>) -> Result<BitBuffer, AllocError>
+    requires { length (bits_of bits) % 8 ≡ 0 }
     ensures { IfOk result (λ copy. copy ≡ bits_of bits.entry) }
 {
-    let mut copy = BitBuffer::new(alloc);
-    if bits.len() > FEW_BITS {
-        copy.extend_from_bitslice(bits)?;
-        return Ok(copy);
-    }
-    copy.reserve_bytes(bits.len() / 8)?;
-    let mut rest = bits;
-    'numbers: while rest.len() > 128 {
-        copy.push_bits(rest.first_number(128), 128)?;
-        rest = rest.split_at(128).1;
-    }
-    let left = rest.len() as u32;
-    copy.push_bits(rest.first_number(left), left)?;
-    Ok(copy)
+    let count = bits.len() / 8;
+    let mut octets = Vec::with_capacity(alloc, count)?;
+    octets.resize(count, 0)?;
+    bits.copy_to(octets.as_mut_slice());
+    Ok(BitBuffer::from_vec(octets))
 }
 
 /// The octets that bits of the input are. Where the bits begin at an octet of the input they are lent, and no memory is

@@ -23,8 +23,7 @@ pub fn read_bit(cursor: &mut Cursor<'_>, variant: Variant) -> Result<bool, Decod
     ensures only { IfErr result (Misses (freedoms variant) one_bit cursor.old) }
     ensures short { IfErr result (λ e. e ≡ DecodeError.Incomplete) }
 {
-    let number = cursor.take_number(1)?;
-    Ok(number == 1)
+    cursor.take_bit()
 }
 
 /// Reads an extension bit, where the type or size is extensible: whether a number of items, an item or an alternative

@@ -1,6 +1,6 @@
 -- Places of a stretch of bits.
 use Rattle.std.specs.Prelude.{min}
-use Rattle.std.proofs.Common.{◌≡◌, ℕ, ◌+◌, ◌≤◌, Bool, inl, inr, List, [], ◌∷◌, ◌++◌, length, take, drop, refl, ap, sym, ◌∙◌, length-append, arith}
+use Rattle.std.proofs.Common.{subst, ◌≡◌, ℕ, ◌+◌, ◌≤◌, Bool, inl, inr, List, ◌++◌, length, take, drop, refl, ap, sym, ◌∙◌, length-append, arith}
 use Rattle.std.proofs.lemmas.Bool.{cases_lt}
 use Rattle.std.proofs.lemmas.List.{length-drop, length-take-le, drop_at, drop-drop, take_all, take-append-drop}
 use Rattle.asn1_model.specs.Per
@@ -8,6 +8,7 @@ use Rattle.per_codec_fronts.specs.Takes.{Place, Front}
 use Rattle.per_codec_fronts.proofs.Next.{place_same}
 use Rattle.per_codec_reading.specs.Fronts.{Leads}
 use Rattle.per_codec_reading.specs.Runs.{StandsIn}
+use Rattle.per_codec_reading_values.specs.Fields.{EndsAt}
 
 -- behind bits that stand in front
 pub behind : (w bs : List Bool) (n : ℕ) (b : Place) → Leads w (n, drop n bs) b → (n + length w, drop (n + length w) bs) ≡ b
@@ -29,10 +30,6 @@ moved w bs n p q b l e m h =
     let k : q ≡ n + length w = j ∙ sym e ∙ sym h.1 in
     ap (λ (x : ℕ). let y : Place = (x, drop x bs) in y) k ∙ behind w bs n b h
 
--- the next bit
-pub next_bits : (bs : List Bool) (n : ℕ) (b : Bool) → take 1 (drop n bs) ≡ b ∷ [] → drop n bs ≡ b ∷ drop (n + 1) bs
-next_bits bs n b e = sym (take-append-drop 1 (drop n bs)) ∙ ap (λ t. t ++ drop 1 (drop n bs)) e ∙ ap (λ t. b ∷ t) (drop-drop 1 n bs)
-
 -- the place behind so many of the bits
 pub stands : (bs : List Bool) (n : ℕ) → n ≤ length bs → StandsIn bs (n, drop n bs)
 stands bs n l = let e = length-take-le n bs l in (take n bs, (take-append-drop n bs, omega (arith, e)))
@@ -44,6 +41,16 @@ take_at_most m n xs e = elim (cases_lt n (length xs)) [
   | inr g ↦ take_all m xs (omega arith) ∙ sym (take_all n xs g)
 ]
 
+-- a reader reaches no further than to the end
+pub leads_within : (w : List Bool) (a b : Place) → Leads w a b → b.0 ≤ a.0 + length a.1
+leads_within w a b h =
+    let e = sym (length-append w b.1) ∙ ap length h.0 in
+    let k = h.1 in
+    omega (arith, e, k)
+
 module _ (free : Per.Freedom → Bool) where
+  pub ends_within : (x : Per.BitForm) (a : Place) (n : ℕ) → EndsAt free x a n → n ≤ a.0 + length a.1
+  ends_within x a n e = subst (λ m. m ≤ a.0 + length a.1) e.1 (leads_within e.2.text a e.0 (e.2.in_front, e.2.moved))
+
   pub leads_of : (x : Per.BitForm) (a b : Place) (f : Front free x a b) → Leads f.text a b
   leads_of x a b f = (f.in_front, f.moved)

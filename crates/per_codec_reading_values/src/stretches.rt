@@ -1,6 +1,6 @@
 //! A stretch of bits, and how far it is read.
-ghost use Rattle.std.specs.Prelude.{◌≡◌, ◌≤◌, ◌-◌, ◌^◌, ◌∷◌, [], length, take, drop, Some, None, IsTrue, ◌↔◌, OnOk};
-ghost use Rattle.std.specs.Prelude.{IfOk, IfErr, IfSome, IfNone};
+ghost use Rattle.std.specs.Prelude.{◌≡◌, ◌≤◌, ◌+◌, ◌-◌, ◌^◌, ◌∷◌, [], length, take, drop, Some, None, IsTrue, ◌↔◌};
+ghost use Rattle.std.specs.Prelude.{OnOk, IfOk, IfErr, IfSome, IfNone};
 ghost use Rattle.asn1_model.specs.Numbers.{octet_bits};
 ghost use Rattle.asn1_values_bits.specs.BitStr as bit_strs;
 ghost use Rattle.per_codec_fronts.specs.Takes.{Place, Front};
@@ -11,7 +11,7 @@ ghost use Rattle.per_codec_reading_values.specs.Fields.{EndsAt, field_form, octe
 
 use crate::fields::{Field, read_field, read_octets};
 use asn1_schema_faults::DecodeError;
-use asn1_values_bits::{BitBuffer, BitReader, BitStr};
+use asn1_values_bits::{BitBuffer, BitStr};
 use per_codec_reading::{Cursor, RunBits, Variant, lent_by};
 use std::alloc::{AllocError, Global};
 use std::marker::Model;
@@ -66,18 +66,6 @@ fn held(alloc: Global, bits: RunBits<'_>) -> Result<BitBuffer, AllocError>
     }
 }
 
-/// The place behind so many of the bits.
-#[inline(always)]
-fn cursor_at<'a>(bits: BitStr<'a>, position: usize) -> Cursor<'a>
-    requires { position ≤ length (bit_strs.bits_of bits) }
-    ensures { result ≡ (position, drop position (bit_strs.bits_of bits.entry)) }
-{
-    let mut cursor = Cursor::from_bits(bits);
-    match cursor.take(position) {
-        Ok(_) | Err(_) => cursor,
-    }
-}
-
 /// Takes bits as a whole behind so many of the bits, and tells the position behind them. They are lent where the bits
 /// are, and held where those are.
 #[inline(always)]
@@ -97,12 +85,12 @@ fn take_field<'input>(
 {
     match bits {
         RunBits::Lent(bits) => {
-            let mut cursor = cursor_at(*bits, position);
+            let mut cursor = Cursor::behind(*bits, position);
             let taken = read_field(alloc, &mut cursor, variant, field)?;
             Ok((taken, cursor.position()))
         }
         RunBits::Joined(bits) => {
-            let mut cursor = cursor_at(bits.as_bitslice(), position);
+            let mut cursor = Cursor::behind(bits.as_bitslice(), position);
             let taken = read_field(alloc, &mut cursor, variant, field)?;
             let buffer = held(alloc, taken)?;
             Ok((RunBits::Joined(buffer), cursor.position()))
@@ -127,7 +115,7 @@ fn take_lent_octets<'input>(
     ensures only { IfErr result (Misses (freedoms variant) (octets_form (fronts.is_aligned variant))
         (position, drop position (bit_strs.bits_of bits.entry))) }
 {
-    let mut cursor = cursor_at(bits, position);
+    let mut cursor = Cursor::behind(bits, position);
     let octets = read_octets(alloc, &mut cursor, variant)?;
     let end = cursor.position();
     Ok((lent_by(bits, end, octets), end))
@@ -146,7 +134,7 @@ fn take_held_octets(
     ensures only { IfErr result (Misses (freedoms variant) (octets_form (fronts.is_aligned variant))
         (position, drop position bits.now)) }
 {
-    let mut cursor = cursor_at(bits.as_bitslice(), position);
+    let mut cursor = Cursor::behind(bits.as_bitslice(), position);
     let octets = read_octets(alloc, &mut cursor, variant)?;
     let buffer = held(alloc, octets)?;
     Ok((buffer, cursor.position()))
@@ -201,7 +189,7 @@ impl<'input> Stretch<'input> {
     pub fn cursor(&self) -> Cursor<'_>
         ensures { result ≡ self.now.place }
     {
-        cursor_at(lent(&self.bits), self.position)
+        Cursor::behind(lent(&self.bits), self.position)
     }
 
     /// All of the bits, where they are lent by the input.
@@ -229,12 +217,10 @@ impl<'input> Stretch<'input> {
     /// Goes on to a later position, which a reader reached that began at this place.
     #[inline(always)]
     pub fn move_to(&mut self, position: usize)
+        requires { position ≤ self.old.place.0 + length self.old.place.1 }
         ensures place { (w : _) (b : Place) → b.0 ≡ position → Leads w self.old.place b → self.new.place ≡ b }
         ensures storage { self.new.storage ≡ self.old.storage }
     {
-        if position > lent(&self.bits).len() {
-            return;
-        }
         self.position = position;
     }
 
@@ -242,6 +228,7 @@ impl<'input> Stretch<'input> {
     #[inline(always)]
     pub fn next_bit(&mut self) -> Option<bool>
         ensures some { IfSome result (λ bit. self.old.place.1 ≡ bit ∷ self.new.place.1) }
+        ensures position { IfSome result (λ _. self.old.place.0 + 1 ≡ self.new.place.0) }
         ensures none { IfNone result (self.old.place.1 ≡ []) }
         ensures storage { self.new.storage ≡ self.old.storage }
     {
@@ -249,8 +236,9 @@ impl<'input> Stretch<'input> {
         if self.position >= bits.len() {
             return None;
         }
-        let unread = bits.split_at(self.position).1;
-        let bit = BitReader::new(unread).first_bit();
+        let Some(bit) = bits.get(self.position) else {
+            return None;
+        };
         self.position += 1;
         Some(bit)
     }
@@ -286,6 +274,7 @@ impl<'input> Stretch<'input> {
         self.move_to(position);
         Ok(Stretch::new(bits))
     }
+
     /// Takes the octets of an open type behind their number (X.691 11.2). In one run they are lent where the bits are;
     /// those in fragments are joined.
     ///

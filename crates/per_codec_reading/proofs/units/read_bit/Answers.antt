@@ -1,13 +1,14 @@
-use Rattle.std.proofs.lemmas.Result.{err_from_is_err_and}
 use Rattle.per_codec_reading.specs.Fronts.{freedoms}
+use Rattle.per_codec_reading.specs.Lengths.{one_bit}
+use Rattle.per_codec_reading.proofs.Fronts.{none_misses, ends_early, ok_also, err_also}
 use Rattle.per_codec_reading.proofs.NumberFronts.{bit_read, no_bit}
 use Rattle.per_codec_reading.proofs.units.read_bit.Goals as goal
 
-pub returns-in_err-number-clause-only : goal.returns-in_err-number-clause-only
-returns-in_err-number-clause-only c =
-    let p = err_from_is_err_and c.from_residual.result c.from_residual.ensures.1 in
-    let q = c.in_err-number.ensures.short in
-    rw (p.1, p.2, q.0) (no_bit (freedoms c.args.variant) c.args.cursor.now q.1)
-
 pub returns-clause-ok : goal.returns-clause-ok
-returns-clause-ok c = bit_read (freedoms c.args.variant) c.in_ok-number.number c.args.cursor.now c.take_number.new.self c.in_ok-number.ensures.fits c.in_ok-number.ensures.digits
+returns-clause-ok c = ok_also c.take_bit.result (λ v. bit_read (freedoms c.args.variant) v c.args.cursor.now c.take_bit.new.self) c.take_bit.ensures.bit
+
+pub returns-clause-only : goal.returns-clause-only
+returns-clause-only c =
+    let f = freedoms c.args.variant in
+    let a = c.args.cursor.now in
+    err_also c.take_bit.result (λ e s. none_misses f one_bit a e (ends_early s.0) (no_bit f a s.1)) c.take_bit.ensures.short

@@ -11,13 +11,13 @@ use Rattle.per_codec_reading_values.proofs.Inside.{lent_inside}
 use Rattle.per_codec_reading_values.proofs.stretches.take_lent_octets.Goals as goal
 
 pub returns-in_err-octets-clause-only : goal.returns-in_err-octets-clause-only
-returns-in_err-octets-clause-only c = raised _ _ _ c.from_residual.ensures.1 (misses_at (freedoms c.args.variant) (octets_form (is_aligned c.args.variant)) _ _ _ c.cursor_at-cursor.ensures c.in_err-octets.ensures.only)
+returns-in_err-octets-clause-only c = raised _ _ _ c.from_residual.ensures.1 (misses_at (freedoms c.args.variant) (octets_form (is_aligned c.args.variant)) _ _ _ c.behind-cursor.ensures c.in_err-octets.ensures.only)
 
 pub lent_by-requires : goal.lent_by-requires
 lent_by-requires c =
     let all = bits_of c.args.bits in
-    let s : StandsIn all c.cursor_at-cursor.result = subst (StandsIn all) (sym c.cursor_at-cursor.ensures) (stands all c.args.position c.requires) in
-    subst (λ n. StandsBefore c.in_ok-octets.octets all n) (sym c.position-end.ensures) (stands_before c.in_ok-octets.octets all c.cursor_at-cursor.result c.read_octets.new.cursor s c.in_ok-octets.ensures.last)
+    let s : StandsIn all c.behind-cursor.result = subst (StandsIn all) (sym c.behind-cursor.ensures) (stands all c.args.position c.requires) in
+    subst (λ n. StandsBefore c.in_ok-octets.octets all n) (sym c.position-end.ensures) (stands_before c.in_ok-octets.octets all c.behind-cursor.result c.read_octets.new.cursor s c.in_ok-octets.ensures.last)
 
 pub returns-clause-storage : goal.returns-clause-storage
 returns-clause-storage c =
