@@ -1,6 +1,6 @@
 //! Tables of fields, of alternatives and of items, by calls of their own.
 use crate::assertions::assert_same;
-use asn1_relay_types::{Extra, New, Set};
+use asn1_relay_types::{Extra, ExtraFields, New, Set};
 use asn1_schema_additions::Group;
 use asn1_schema_constructed::{Alternatives, Choice, Constructed, Fields, NamedItems};
 use asn1_schema_example::control::Control;
@@ -65,7 +65,8 @@ fn a_number_is_the_default_if_it_is_zero(rt: HostRuntime) -> Result<(), Fail> {
 
 #[test]
 fn a_group_is_empty_without_its_component(rt: HostRuntime) {
-    assert!(rt; Extra { x: None }.is_empty() && !Extra { x: Some(0) }.is_empty());
+    let (absent, present) = (ExtraFields { x: None }, ExtraFields { x: Some(0) });
+    assert!(rt; Extra::new(absent).is_empty() && !Extra::new(present).is_empty());
 }
 
 #[test]

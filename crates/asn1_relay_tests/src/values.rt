@@ -1,7 +1,9 @@
 //! Values of a program's types, written by each set of rules and read back: that they mean what the octets say.
 use crate::rows::{CODECS, Row};
 use asn1_relay_core::{Codec, DecodeError, EncodeError, RecodeFault, recode};
-use asn1_relay_types::{Bag, Extra, Group, New, Set};
+use asn1_relay_types::{
+    Bag, Extra, ExtraFields, Group, GroupFields, New, NewFields, Set, SetFields,
+};
 use asn1_schema_encode::Encode;
 use asn1_schema_example::control::Control;
 use asn1_schema_example::measure::Measure;
@@ -32,11 +34,11 @@ const SET: Row = Row {
 
 /// Whether these rules write a set as its row says.
 fn set_is_written(alloc: Global, codec: Codec) -> Result<bool, EncodeError> {
-    let set = Set {
+    let set = Set::new(SetFields {
         a: Some(Implicit::new(Integer::from(5))),
         b: Some(Implicit::new(Integer::from(6))),
         c: Some(Implicit::new(Integer::from(7))),
-    };
+    });
     is_written(alloc, codec, &set, &SET)
 }
 
@@ -44,9 +46,9 @@ fn set_is_written(alloc: Global, codec: Codec) -> Result<bool, EncodeError> {
 fn set_is_read(alloc: Global, codec: Codec) -> Result<bool, DecodeError> {
     let set: Set = codec.decode(alloc, SET.by(codec))?;
     Ok(
-        set.a == Some(Implicit::new(Integer::from(5)))
-            && set.b == Some(Implicit::new(Integer::from(6)))
-            && set.c == Some(Implicit::new(Integer::from(7))),
+        set.value.a == Some(Implicit::new(Integer::from(5)))
+            && set.value.b == Some(Implicit::new(Integer::from(6)))
+            && set.value.c == Some(Implicit::new(Integer::from(7))),
     )
 }
 
@@ -81,17 +83,17 @@ const NEW: Row = Row {
 
 /// Whether these rules write a value with an addition as its row says.
 fn new_is_written(alloc: Global, codec: Codec) -> Result<bool, EncodeError> {
-    let new = New {
+    let new = New::new(NewFields {
         a: true,
         b: Some(7),
-    };
+    });
     is_written(alloc, codec, &new, &NEW)
 }
 
 /// Whether these rules read a value with an addition as its row says.
 fn new_is_read(alloc: Global, codec: Codec) -> Result<bool, DecodeError> {
     let new: New = codec.decode(alloc, NEW.by(codec))?;
-    Ok(new.a && new.b == Some(7))
+    Ok(new.value.a && new.value.b == Some(7))
 }
 
 /// {a TRUE, x 7}, with a group of additions (X.691 19.9, X.696 16.4).
@@ -103,17 +105,21 @@ const GROUP: Row = Row {
 
 /// Whether these rules write a value with a group as its row says.
 fn group_is_written(alloc: Global, codec: Codec) -> Result<bool, EncodeError> {
-    let group = Group {
+    let extra = Extra::new(ExtraFields { x: Some(7) });
+    let group = Group::new(GroupFields {
         a: true,
-        extra: Some(Extra { x: Some(7) }),
-    };
+        extra: Some(extra),
+    });
     is_written(alloc, codec, &group, &GROUP)
 }
 
 /// Whether these rules read a value with a group as its row says.
 fn group_is_read(alloc: Global, codec: Codec) -> Result<bool, DecodeError> {
     let group: Group = codec.decode(alloc, GROUP.by(codec))?;
-    Ok(group.a && matches!(&group.extra, Some(Extra { x: Some(7) })))
+    let Some(extra) = &group.value.extra else {
+        return Ok(false);
+    };
+    Ok(group.value.a && extra.value.x == Some(7))
 }
 
 /// name: "Jo", an added alternative, which is an open type (X.691 23.8, X.696 20.2).

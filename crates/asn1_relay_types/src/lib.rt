@@ -2,6 +2,29 @@
 //! guide's examples. Four are newer versions of others.
 #![tactic(auto)]
 
+/// A field of a table: its number, its name, its presence and its tag.
+macro_rules! field {
+    ($index:literal, $name:literal, $presence:ident, $tag:expr) => {
+        Field {
+            index: $index,
+            tag: $tag,
+            tag_tree: TagTree::Leaf($tag),
+            presence: FieldPresence::$presence,
+            name: $name,
+        }
+    };
+}
+
+/// A tag of a class (X.680 8.1).
+macro_rules! tagged {
+    ($class:ident, $number:literal) => {
+        Tag {
+            class: Class::$class,
+            value: $number,
+        }
+    };
+}
+
 mod extra;
 mod group;
 mod new;
@@ -16,20 +39,20 @@ mod pair;
 mod set;
 mod small;
 
+use asn1_schema::SetOf;
 pub use asn1_schema_example_choices::nest::Nest;
-use asn1_schema_wrapped::SetOf;
-pub use extra::Extra;
-pub use group::Group;
-pub use new::New;
+pub use extra::{Extra, ExtraFields};
+pub use group::{Group, GroupFields};
+pub use new::{New, NewFields};
 pub use new_colour::NewColour;
-pub use new_default::NewDefault;
-pub use new_required::NewRequired;
+pub use new_default::{NewDefault, NewDefaultFields};
+pub use new_required::{NewRequired, NewRequiredFields};
 pub use octets::Octets;
-pub use old::Old;
+pub use old::{Old, OldFields};
 pub use old_colour::OldColour;
-pub use old_default::OldDefault;
-pub use pair::Pair;
-pub use set::Set;
+pub use old_default::{OldDefault, OldDefaultFields};
+pub use pair::{Pair, PairFields};
+pub use set::{Set, SetFields};
 pub use small::Small;
 
 /// SET OF INTEGER (0..255) (X.680 28).

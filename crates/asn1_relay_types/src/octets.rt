@@ -1,18 +1,14 @@
 //! Octets, of which there are one to three, or behind a mark any number.
 ghost use Rattle.std.specs.Prelude.{refl, [], ◌∷◌, Some, true};
-ghost use Rattle.asn1_model.specs.Types.{any_count};
-ghost use Rattle.asn1_model.specs.Value.{octet_list};
-ghost use Rattle.asn1_schema_constraints.specs.Terms.{sized, octet_string_under};
-ghost use Rattle.asn1_schema_presented.proofs.TypesByKind.{octet_string_type, octet_string_value};
+ghost use Rattle.asn1_schema.specs.Author.{any_count, octet_list, octet_string_under, sized};
+ghost use Rattle.asn1_schema.proofs.Author.{octet_string_type, octet_string_value};
 ghost use Rattle.asn1_relay_types.specs.Schemas.{octets_schema};
 
-use asn1_schema_constraints::{Bounded, Constraints, Extensible, Size};
-use asn1_schema_decode::{Decode, Decoder};
-use asn1_schema_encode::{Encode, Encoder};
-use asn1_schema_faults::{DecodeError, EncodeError};
-use asn1_schema_tags::{Identifier, Tag, TagTree};
-use asn1_schema_types::{AsnType, Described};
-use asn1_values_octets::OctetString;
+use asn1_schema::{
+    AsnType, Bounded, Constraints, Decode, DecodeError, Decoder, Described, Encode, EncodeError,
+    Encoder, Extensible, Identifier, Size, Tag, TagTree,
+};
+use asn1_values::OctetString;
 use std::alloc::Global;
 
 /// OCTET STRING (SIZE (1..3, ...)) (X.680 23).

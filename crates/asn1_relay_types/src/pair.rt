@@ -1,26 +1,21 @@
 //! A truth value beside a number from -5 to 5.
-ghost use Rattle.std.specs.Prelude.{refl, [], ◌∷◌};
-ghost use Rattle.asn1_model.specs.Value.{fields};
-ghost use Rattle.asn1_schema_constraints.specs.Terms.{no_constraint};
-ghost use Rattle.asn1_schema_constructed.specs.Constructed.{sequence_form};
-ghost use Rattle.asn1_schema_presented.specs.Tables.{sequence_type};
-ghost use Rattle.asn1_schema_presented.proofs.Values.{type_sequence, value_sequence};
+ghost use Rattle.std.specs.Prelude.{refl};
+ghost use Rattle.asn1_schema.proofs.Author.{sequence_of};
 
 use crate::small::Small;
-use asn1_schema_constraints::Constraints;
-use asn1_schema_constructed::{
-    Constructed, DecodeConstructed, EncodeConstructed, Field, FieldPresence, Fields,
+use asn1_schema::{
+    Components, ComponentsOf, DecodeComponents, DecodeError, Decoder, EncodeComponents,
+    EncodeError, Encoder, End, Field, FieldPresence, FieldTables, Fields, Heading, Identifier,
+    Required, RequiredComponent, Sequence, Tag, TagTree,
 };
-use asn1_schema_decode::{Decode, DecodeComponents, Decoder};
-use asn1_schema_encode::{Encode, EncodeComponents, Encoder};
-use asn1_schema_faults::{DecodeError, EncodeError};
-use asn1_schema_tags::{Identifier, Tag, TagTree};
-use asn1_schema_types::{AsnType, ComponentsOf, Described, End, Required, RequiredComponent};
 use std::alloc::Global;
 
 /// A truth value and a whole number from -5 to 5: SEQUENCE {a BOOLEAN, b INTEGER (-5..5)} (X.680 25).
+pub type Pair = Sequence<PairFields>;
+
+/// Its components.
 #[derive(Debug, Drop)]
-pub struct Pair {
+pub struct PairFields {
     /// The truth value.
     pub a: bool,
     /// The number.
@@ -29,115 +24,37 @@ pub struct Pair {
 
 type Form = RequiredComponent<bool, RequiredComponent<Small, End>>;
 
-impl Described for Pair {
-    ghost tags = { record { class = 0; number = 16 } ∷ [] };
-
-    ghost own = { no_constraint };
-
-    ghost under = { λ _. sequence_type ⟦<Form as ComponentsOf>⟧.table };
-
-    ghost schema = { sequence_type ⟦<Form as ComponentsOf>⟧.table };
-
-    ghost is_own = { λ _. refl };
-
-    ghost meaning = { λ x. fields (⟦<Form as ComponentsOf>⟧.root
-        (record { 0 = x.a; 1 = record { 0 = x.b; 1 = record {} } }))
-        (⟦<Form as ComponentsOf>⟧.added (record { 0 = x.a; 1 = record { 0 = x.b; 1 = record {} } })) };
-
-    ghost typed = { type_sequence _ refl (⟦<Form as ComponentsOf>⟧.typed tt) refl };
-
-    ghost valued = { λ x. value_sequence _ (⟦<Form as ComponentsOf>⟧.valued tt
-        (record { 0 = x.a; 1 = record { 0 = x.b; 1 = record {} } })) };
-
-    ghost valued_under = { λ _ x. value_sequence _ (⟦<Form as ComponentsOf>⟧.valued tt
-        (record { 0 = x.a; 1 = record { 0 = x.b; 1 = record {} } })) };
-}
-
-impl AsnType for Pair {
-    const TAG: Tag = Tag::SEQUENCE;
-
+impl Components for PairFields {
     const IDENTIFIER: Identifier = Identifier(Some("Pair"));
 
-    fn tag_tree() -> TagTree<'static> {
-        TagTree::of(Self::TAG)
+    ghost shape = { sequence_of ⟦<Form as ComponentsOf>⟧ tt refl
+        (λ x. record { 0 = x.a; 1 = record { 0 = x.b; 1 = record {} } }) };
+
+    fn heading() -> Heading {
+        Heading::sequence(0)
     }
 
-    fn constraints() -> Constraints<'static> {
-        Constraints::NONE
+    fn write_components<E: Encoder>(&self, encoder: &mut E) -> Result<(), EncodeError> {
+        Required(&self.a, Required(&self.b, End)).encode_components(encoder)
+    }
+
+    fn read_components<D: Decoder>(alloc: Global, decoder: &mut D) -> Result<Self, DecodeError> {
+        let form = Form::decode_components(alloc, decoder)?;
+        let RequiredComponent(a, RequiredComponent(b, End)) = form;
+        Ok(PairFields { a, b })
     }
 }
 
-impl Constructed for Pair {
-    ghost form = { sequence_form };
-
-    ghost table = { ⟦<Form as ComponentsOf>⟧.table };
-
-    ghost root = { λ x. ⟦<Form as ComponentsOf>⟧.root (record { 0 = x.a; 1 = record { 0 = x.b; 1 = record {} } }) };
-
-    ghost added = { λ x. ⟦<Form as ComponentsOf>⟧.added (record { 0 = x.a; 1 = record { 0 = x.b; 1 = record {} } }) };
-
+impl FieldTables for PairFields {
     fn fields() -> Fields<'static> {
         const FIELDS: &'static [Field<'static>] = &[
-            Field {
-                index: 0,
-                tag: Tag::BOOL,
-                tag_tree: TagTree::Leaf(Tag::BOOL),
-                presence: FieldPresence::Required,
-                name: "a",
-            },
-            Field {
-                index: 1,
-                tag: Tag::INTEGER,
-                tag_tree: TagTree::Leaf(Tag::INTEGER),
-                presence: FieldPresence::Required,
-                name: "b",
-            },
+            field!(0, "a", Required, Tag::BOOL),
+            field!(1, "b", Required, Tag::INTEGER),
         ];
         Fields::from_static(FIELDS)
     }
 
     fn extended_fields() -> Option<Fields<'static>> {
         None
-    }
-
-    fn is_extensible() -> bool {
-        false
-    }
-
-    fn write_fields<E: Encoder>(&self, encoder: &mut E) -> Result<(), EncodeError> {
-        let components = Required(&self.a, Required(&self.b, End));
-        components.encode_components(encoder)
-    }
-
-    fn read_fields<D: Decoder>(alloc: Global, decoder: &mut D) -> Result<Self, DecodeError> {
-        let form = Form::decode_components(alloc, decoder)?;
-        let RequiredComponent(a, RequiredComponent(b, End)) = form;
-        Ok(Pair { a, b })
-    }
-
-    ghost means = { λ _. refl };
-
-    ghost is_of = { λ _ _. refl };
-}
-
-impl Encode for Pair {
-    fn encode_with_tag_and_constraints<E: Encoder>(
-        &self,
-        encoder: &mut E,
-        tag: Tag,
-        _constraints: Constraints,
-    ) -> Result<(), EncodeError> {
-        encoder.encode_fields_of(tag, self)
-    }
-}
-
-impl Decode for Pair {
-    fn decode_with_tag_and_constraints<D: Decoder>(
-        alloc: Global,
-        decoder: &mut D,
-        tag: Tag,
-        _constraints: Constraints,
-    ) -> Result<Self, DecodeError> {
-        decoder.decode_fields_of(alloc, tag)
     }
 }

@@ -3,21 +3,15 @@ ghost use Rattle.std.specs.Prelude.{refl, [], ◌∷◌};
 ghost use Rattle.asn1_model.specs.Value.{fields};
 ghost use Rattle.asn1_schema_presented.proofs.Values.{type_sequence, value_sequence};
 
-use crate::counts::One;
 use crate::listed::{Listed, Sequence};
 use crate::sequences::Tagged;
 use crate::written::Lent;
-use asn1_schema_additions::{
-    AddedOptionalComponent, AddedRequiredComponent, DecodeExtension, EncodeExtension,
-    MarkedComponents, NoMore,
+use asn1_schema::{
+    AddedOptionalComponent, AddedRequiredComponent, ComponentsOf, DecodeError, DecodeExtension,
+    Decoder, EncodeError, EncodeExtension, Encoder, MarkedComponents, NoMore, OneAddition,
+    OptionalComponent, RequiredComponent, Tag,
 };
-use asn1_schema_decode::Decoder;
-use asn1_schema_encode::Encoder;
-use asn1_schema_faults::{DecodeError, EncodeError};
-use asn1_schema_tags::Tag;
-use asn1_schema_types::{ComponentsOf, OptionalComponent, RequiredComponent};
-use asn1_values_integers::Integer;
-use asn1_values_octets::OctetString;
+use asn1_values::{Integer, OctetString};
 use std::alloc::Global;
 
 /// SEQUENCE {a OCTET STRING OPTIONAL, ..., n NULL OPTIONAL}.
@@ -25,7 +19,7 @@ pub type Noted = Sequence<NotedForm>;
 
 type Note = AddedOptionalComponent<(), NoMore>;
 
-type NotedForm = OptionalComponent<OctetString, MarkedComponents<One, Note>>;
+type NotedForm = OptionalComponent<OctetString, MarkedComponents<OneAddition, Note>>;
 
 impl Listed for NotedForm {
     ghost form = { ⟦<NotedForm as ComponentsOf>⟧.table };
@@ -50,7 +44,7 @@ pub type Schedule = Sequence<ScheduleForm>;
 
 type Today = AddedRequiredComponent<Tagged<3, OctetString>, NoMore>;
 
-type Late = OptionalComponent<Tagged<2, Integer>, MarkedComponents<One, Today>>;
+type Late = OptionalComponent<Tagged<2, Integer>, MarkedComponents<OneAddition, Today>>;
 
 type ScheduleForm = RequiredComponent<
     Tagged<0, Integer>,

@@ -1,19 +1,12 @@
 //! Enumerations.
 ghost use Rattle.std.specs.Prelude.{◌∷◌, [], refl, pos, negsuc, false};
-ghost use Rattle.asn1_model.specs.Schema.{enumerated};
-ghost use Rattle.asn1_model.specs.Value.{item};
-ghost use Rattle.asn1_schema_constraints.specs.Terms.{no_constraint};
-ghost use Rattle.asn1_schema_constructed.proofs.Types.{type_enumerated, value_enumerated};
-ghost use Rattle.asn1_schema_variants.proofs.Distinct.{one_number_of};
+ghost use Rattle.asn1_schema.specs.Author.{enumerated, item, no_constraint};
+ghost use Rattle.asn1_schema.proofs.Author.{one_number_of, type_enumerated, value_enumerated};
 
-use asn1_schema_constraints::Constraints;
-use asn1_schema_constructed::{DecodeItems, EncodeItems, EnumeratedType};
-use asn1_schema_decode::{Decode, Decoder};
-use asn1_schema_encode::{Encode, Encoder};
-use asn1_schema_faults::{DecodeError, EncodeError};
-use asn1_schema_tags::{Tag, TagTree};
-use asn1_schema_types::{AsnType, Described};
-use asn1_schema_variants::Enumerated;
+use asn1_schema::{
+    AsnType, Constraints, Decode, DecodeError, DecodeItems, Decoder, Described, Encode,
+    EncodeError, EncodeItems, Encoder, Enumerated, EnumeratedType, Tag, TagTree,
+};
 use std::alloc::Global;
 
 /// ENUMERATED {lowest (-2147483648), below (-129), least (-128), zero (0), most (127), above (128), highest

@@ -3,9 +3,7 @@
 #![tactic(auto)]
 
 mod choices;
-mod counts;
 mod extended;
-mod grouped;
 mod items;
 mod listed;
 mod marked;

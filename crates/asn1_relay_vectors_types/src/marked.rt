@@ -1,13 +1,10 @@
 //! Numbers within bounds of their own, with a mark behind these.
 ghost use Rattle.std.specs.Prelude.{refl, pos, Some, true};
-ghost use Rattle.asn1_schema_constraints.specs.Terms.{bounded_by};
-ghost use Rattle.asn1_schema_presented.proofs.TypesByKind.{integer_type};
+ghost use Rattle.asn1_schema.specs.Author.{bounded_by};
+ghost use Rattle.asn1_schema.proofs.Author.{integer_type};
 
-use asn1_schema_constraints::{Bounded, Constraints, Extensible, Value};
-use asn1_schema_types::Described;
-use asn1_schema_wrapped::{Constrained, ConstraintsOf};
-use asn1_values_integers::Integer;
-
+use asn1_schema::{Bounded, Constrained, Constraints, ConstraintsOf, Described, Extensible, Value};
+use asn1_values::Integer;
 /// (0..255, ...).
 #[derive(Clone, Copy, Debug, PartialEq, Eq)]
 pub struct OctetOrMore;

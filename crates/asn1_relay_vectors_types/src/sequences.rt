@@ -7,16 +7,12 @@ ghost use Rattle.asn1_schema_presented.proofs.Values.{type_sequence, value_seque
 use crate::listed::{Listed, Sequence};
 use crate::sizes::{ListOfOneOrTwo, ThreeOctets};
 use crate::written::Lent;
-use asn1_schema_decode::{DecodeSequence, Decoder};
-use asn1_schema_encode::{EncodeSequence, Encoder};
-use asn1_schema_faults::{DecodeError, EncodeError};
-use asn1_schema_tags::Tag;
-use asn1_schema_types::{
-    ComponentsOf, DefaultOf, DefaultedComponent, End, EqualByMeaning, OptionalComponent,
-    RequiredComponent,
+use asn1_schema::{
+    ComponentsOf, DecodeError, DecodeSequence, Decoder, DefaultOf, DefaultedComponent, EncodeError,
+    EncodeSequence, Encoder, End, EqualByMeaning, Implicit, OptionalComponent, RequiredComponent,
+    Tag, tag,
 };
-use asn1_schema_wrapped::{Implicit, tag};
-use asn1_values_integers::Integer;
+use asn1_values::Integer;
 use std::alloc::{AllocError, Global};
 
 /// A type under a tag of its own.

@@ -1,14 +1,10 @@
 //! Strings and lists of a size of their own.
 ghost use Rattle.std.specs.Prelude.{refl, Some, false};
-ghost use Rattle.asn1_schema_constraints.specs.Terms.{sized};
-ghost use Rattle.asn1_schema_presented.proofs.TypesByKind.{octet_string_type, type_list};
-ghost use Rattle.asn1_schema_types.specs.Counts.{fixed_to};
+ghost use Rattle.asn1_schema.specs.Author.{fixed_to, sized};
+ghost use Rattle.asn1_schema.proofs.Author.{octet_string_type, type_list};
 
-use asn1_schema_constraints::{Bounded, Constraints, Extensible, Size};
-use asn1_schema_types::Described;
-use asn1_schema_wrapped::{Constrained, ConstraintsOf};
-use asn1_values_octets::OctetString;
-
+use asn1_schema::{Bounded, Constrained, Constraints, ConstraintsOf, Described, Extensible, Size};
+use asn1_values::OctetString;
 /// SIZE (3).
 #[derive(Clone, Copy, Debug, PartialEq, Eq)]
 pub struct Three;

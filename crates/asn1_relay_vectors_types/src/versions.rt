@@ -1,9 +1,7 @@
 //! Sequences and sets that are newer versions of others.
 ghost use Rattle.std.specs.Prelude.{refl, [], ◌∷◌};
 ghost use Rattle.asn1_model.specs.Value.{fields};
-ghost use Rattle.asn1_schema_constraints.specs.Terms.{no_constraint};
-ghost use Rattle.asn1_schema_constructed.specs.Sets.{set_type};
-ghost use Rattle.asn1_schema_constructed.proofs.SetValues.{type_set, value_set};
+ghost use Rattle.asn1_schema.proofs.Author.{set_of};
 ghost use Rattle.asn1_schema_presented.specs.Tables.{no_field};
 ghost use Rattle.asn1_schema_presented.proofs.Values.{type_sequence, value_sequence};
 ghost use Rattle.asn1_schema_versions.proofs.Defaults.{default_gains};
@@ -16,31 +14,21 @@ ghost use Rattle.asn1_relay_vectors_types.specs.Growing.{bag_extends, boolean_st
 ghost use Rattle.asn1_relay_vectors_types.specs.Growing.{required_stays};
 ghost use Rattle.asn1_relay_vectors_types.specs.Unfolding.{bag_unfolds, group_unfolds, list_unfolds, nest_unfolds};
 
-use crate::counts::{One, Two, Zero};
-use crate::grouped::Grouped;
 use crate::listed::{Listed, Sequence};
 use crate::sequences::Tagged;
 use crate::sizes::ListOfOneOrTwo;
-use crate::written::Lent;
+use crate::written::{Lent, WriteComponents};
 use asn1_relay_types::{Nest, New, NewDefault, Old, OldDefault};
-use asn1_schema_additions::{
-    AddedGroupComponent, AddedOptionalComponent, AddedRequiredComponent, AdditionsOf,
-    DecodeExtension, EncodeExtension, MarkedComponents, NoMore,
+use asn1_schema::{
+    AddedGroupComponent, AddedOptionalComponent, AddedRequiredComponent, AdditionsOf, Components,
+    ComponentsOf, DecodeComponents, DecodeError, DecodeExtension, DecodeSequence, Decoder,
+    Described, EncodeError, EncodeExtension, EncodeSequence, Encoder, End, Heading,
+    MarkedComponents, NoAddition, NoMore, OneAddition, OptionalComponent, RequiredComponent, Set,
+    SetOf, Tag, TwoAdditions,
 };
-use asn1_schema_constraints::Constraints;
-use asn1_schema_constructed::{DecodeSet, EncodeSet};
-use asn1_schema_decode::{Decode, DecodeSequence, Decoder};
-use asn1_schema_encode::{Encode, EncodeSequence, Encoder};
-use asn1_schema_example::grown::Grown;
-use asn1_schema_faults::{DecodeError, EncodeError};
-use asn1_schema_tags::{Tag, TagTree};
-use asn1_schema_types::{
-    AsnType, ComponentsOf, Described, End, OptionalComponent, RequiredComponent,
-};
-use asn1_schema_versions::Extends;
-use asn1_schema_wrapped::SetOf;
-use asn1_values_integers::Integer;
-use asn1_values_octets::OctetString;
+use asn1_schema_example::grown::GrownFields;
+use asn1_schema_versions::{Extends, ExtendsComponents};
+use asn1_values::{Integer, OctetString};
 use std::alloc::Global;
 
 /// A BOOLEAN, and behind a mark these additions.
@@ -51,7 +39,7 @@ pub type Nested = Sequence<NestedForm>;
 
 type Nests = AddedOptionalComponent<Nest, NoMore>;
 
-type NestedForm = Flagged<One, Nests>;
+type NestedForm = Flagged<OneAddition, Nests>;
 
 impl Listed for NestedForm {
     ghost form = { ⟦<NestedForm as ComponentsOf>⟧.table };
@@ -88,7 +76,7 @@ type Third = AddedOptionalComponent<Tagged<1, OctetString>, NoMore>;
 
 type SecondAndThird = AddedOptionalComponent<u8, Third>;
 
-type NewestForm = Flagged<Two, SecondAndThird>;
+type NewestForm = Flagged<TwoAdditions, SecondAndThird>;
 
 impl Listed for NewestForm {
     ghost form = { ⟦<NewestForm as ComponentsOf>⟧.table };
@@ -133,7 +121,7 @@ impl Extends<Old> for Newest {
 /// SEQUENCE {l SEQUENCE (SIZE (1..2)) OF BOOLEAN, ...}.
 pub type OldList = Sequence<OldListForm>;
 
-type OldListForm = RequiredComponent<ListOfOneOrTwo<bool>, MarkedComponents<Zero, NoMore>>;
+type OldListForm = RequiredComponent<ListOfOneOrTwo<bool>, MarkedComponents<NoAddition, NoMore>>;
 
 impl Listed for OldListForm {
     ghost form = { ⟦<OldListForm as ComponentsOf>⟧.table };
@@ -158,7 +146,7 @@ pub type NewList = Sequence<NewListForm>;
 
 type Numbers = AddedOptionalComponent<Integer, NoMore>;
 
-type NewListForm = RequiredComponent<ListOfOneOrTwo<bool>, MarkedComponents<One, Numbers>>;
+type NewListForm = RequiredComponent<ListOfOneOrTwo<bool>, MarkedComponents<OneAddition, Numbers>>;
 
 impl Listed for NewListForm {
     ghost form = { ⟦<NewListForm as ComponentsOf>⟧.table };
@@ -256,7 +244,7 @@ impl Extends<OldBag> for NewBag {
 /// SEQUENCE {a BOOLEAN, ..., s SEQUENCE {a BOOLEAN, ...}}.
 pub type OldHolder = Sequence<OldHolderForm>;
 
-type OldHolderForm = Flagged<One, AddedRequiredComponent<Old, NoMore>>;
+type OldHolderForm = Flagged<OneAddition, AddedRequiredComponent<Old, NoMore>>;
 
 impl Listed for OldHolderForm {
     ghost form = { ⟦<OldHolderForm as ComponentsOf>⟧.table };
@@ -280,7 +268,7 @@ impl Listed for OldHolderForm {
 /// SEQUENCE {a BOOLEAN, ..., s SEQUENCE {a BOOLEAN, ..., b INTEGER (0..255) OPTIONAL}}.
 pub type NewHolder = Sequence<NewHolderForm>;
 
-type NewHolderForm = Flagged<One, AddedRequiredComponent<New, NoMore>>;
+type NewHolderForm = Flagged<OneAddition, AddedRequiredComponent<New, NoMore>>;
 
 impl Listed for NewHolderForm {
     ghost form = { ⟦<NewHolderForm as ComponentsOf>⟧.table };
@@ -319,7 +307,7 @@ impl Extends<OldHolder> for NewHolder {
 /// SEQUENCE {a BOOLEAN, ..., [[s SEQUENCE {a BOOLEAN, ...} DEFAULT {a TRUE}]]}.
 pub type OldBracket = Sequence<OldBracketForm>;
 
-type OldBracketForm = Flagged<One, AddedGroupComponent<Grouped<OldDefault>, NoMore>>;
+type OldBracketForm = Flagged<OneAddition, AddedGroupComponent<OldDefault, NoMore>>;
 
 impl Listed for OldBracketForm {
     ghost form = { ⟦<OldBracketForm as ComponentsOf>⟧.table };
@@ -343,7 +331,7 @@ impl Listed for OldBracketForm {
 /// SEQUENCE {a BOOLEAN, ..., [[s SEQUENCE {a BOOLEAN, ..., b INTEGER (0..255) OPTIONAL} DEFAULT {a TRUE}]]}.
 pub type NewBracket = Sequence<NewBracketForm>;
 
-type NewBracketForm = Flagged<One, AddedGroupComponent<Grouped<NewDefault>, NoMore>>;
+type NewBracketForm = Flagged<OneAddition, AddedGroupComponent<NewDefault, NoMore>>;
 
 impl Listed for NewBracketForm {
     ghost form = { ⟦<NewBracketForm as ComponentsOf>⟧.table };
@@ -386,78 +374,45 @@ impl Extends<OldBracket> for NewBracket {
 }
 
 /// SET {ready [1] BOOLEAN, level [0] INTEGER (0..255) OPTIONAL, ..., done [9] NULL OPTIONAL}.
-#[derive(Drop)]
-pub struct OldGrown {
-    components: OldGrownForm,
-}
+pub type OldGrown = Set<OldGrownFields>;
 
 type Done = AddedOptionalComponent<Tagged<9, ()>, NoMore>;
 
 type OldGrownForm = OptionalComponent<
     Tagged<0, u8>,
-    RequiredComponent<Tagged<1, bool>, MarkedComponents<One, Done>>,
+    RequiredComponent<Tagged<1, bool>, MarkedComponents<OneAddition, Done>>,
 >;
 
-impl Described for OldGrown {
-    ghost tags = { record { class = 0; number = 17 } ∷ [] };
-
-    ghost own = { no_constraint };
-
-    ghost under = { λ _. set_type ⟦<OldGrownForm as ComponentsOf>⟧.table };
-
-    ghost schema = { set_type ⟦<OldGrownForm as ComponentsOf>⟧.table };
-
-    ghost is_own = { λ _. refl };
-
-    ghost meaning = { λ x. fields (⟦<OldGrownForm as ComponentsOf>⟧.root x.components)
-        (⟦<OldGrownForm as ComponentsOf>⟧.added x.components) };
-
-    ghost typed = { type_set _ refl (⟦<OldGrownForm as ComponentsOf>⟧.typed tt) refl refl };
-
-    ghost valued = { λ x. value_set _ (⟦<OldGrownForm as ComponentsOf>⟧.valued tt x.components) };
-
-    ghost valued_under = { λ _ x. value_set _ (⟦<OldGrownForm as ComponentsOf>⟧.valued tt x.components) };
+/// Its components as they are read.
+#[derive(Drop)]
+pub struct OldGrownFields {
+    components: OldGrownForm,
 }
 
-impl AsnType for OldGrown {
+impl Components for OldGrownFields {
     const TAG: Tag = Tag::SET;
 
-    fn tag_tree() -> TagTree<'static> {
-        TagTree::of(Tag::SET)
+    ghost shape = { set_of ⟦<OldGrownForm as ComponentsOf>⟧ tt refl refl (λ x. x.components) };
+
+    fn heading() -> Heading {
+        Heading::set(1).extensible()
     }
 
-    fn constraints() -> Constraints<'static> {
-        Constraints::NONE
+    fn write_components<E: Encoder>(&self, encoder: &mut E) -> Result<(), EncodeError> {
+        self.components.write_components(encoder)?;
+        Ok(())
     }
-}
 
-impl Encode for OldGrown {
-    fn encode_with_tag_and_constraints<E: Encoder>(
-        &self,
-        encoder: &mut E,
-        tag: Tag,
-        _constraints: Constraints,
-    ) -> Result<(), EncodeError> {
-        encoder.encode_set(tag, true, 1, &Lent(&self.components))
-    }
-}
-
-impl Decode for OldGrown {
-    fn decode_with_tag_and_constraints<D: Decoder>(
-        alloc: Global,
-        decoder: &mut D,
-        tag: Tag,
-        _constraints: Constraints,
-    ) -> Result<Self, DecodeError> {
-        let components = decoder.decode_set(alloc, tag, true, 1)?;
-        Ok(OldGrown { components })
+    fn read_components<D: Decoder>(alloc: Global, decoder: &mut D) -> Result<Self, DecodeError> {
+        let components = OldGrownForm::decode_components(alloc, decoder)?;
+        Ok(OldGrownFields { components })
     }
 }
 
 type Next = AddedOptionalComponent<Tagged<2, u8>, NoMore>;
 
 /// What the other version has, and `next [2] INTEGER (0..255) OPTIONAL` behind it.
-impl Extends<OldGrown> for Grown {
+impl ExtendsComponents<OldGrownFields> for GrownFields {
     ghost extends = { set_gains_additions ⟦<OldGrownForm as ComponentsOf>⟧.table ⟦<Next as AdditionsOf>⟧.additions
         ⟦<OldGrown as Described>⟧.typed.lawful refl };
 

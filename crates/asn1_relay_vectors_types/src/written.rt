@@ -3,14 +3,10 @@ ghost use Rattle.std.specs.Prelude.{◌≡◌, OnOk, OnErr, IfErr};
 ghost use Rattle.asn1_schema_additions.specs.Writes.{CannotWriteAdded, WritesAdded};
 ghost use Rattle.asn1_schema_encode.specs.Writes.{CannotWriteTail, WritesTail};
 
-use asn1_schema_additions::{
-    AddedGroupComponent, AddedOptionalComponent, AddedRequiredComponent, AdditionsOf, CountOf,
-    EncodeExtension, Group, MarkedComponents, NoMore,
-};
-use asn1_schema_encode::{Encode, EncodeComponents, EncodeSequence, Encoder};
-use asn1_schema_faults::EncodeError;
-use asn1_schema_types::{
-    ComponentsOf, DefaultOf, DefaultedComponent, End, OptionalComponent, RequiredComponent,
+use asn1_schema::{
+    AddedGroupComponent, AddedOptionalComponent, AddedRequiredComponent, AdditionsOf, ComponentsOf,
+    CountOf, DefaultOf, DefaultedComponent, Encode, EncodeComponents, EncodeError, EncodeExtension,
+    EncodeSequence, Encoder, End, Group, MarkedComponents, NoMore, OptionalComponent, RequiredComponent,
 };
 
 /// Components that are written as they were read.

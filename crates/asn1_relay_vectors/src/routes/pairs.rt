@@ -3,7 +3,10 @@ use crate::line::LineError;
 use crate::routes::foretold::{Between, Grown, Unforetold};
 use crate::routes::{Claim, judge};
 use asn1_relay_core::DecodeError;
-use asn1_relay_types::{New, NewColour, NewDefault, NewRequired, Old, OldColour, OldDefault};
+use asn1_relay_types::{
+    New, NewColour, NewDefault, NewDefaultFields, NewFields, NewRequired, NewRequiredFields, Old,
+    OldColour, OldDefault, OldDefaultFields, OldFields,
+};
 use asn1_relay_vectors_types::{
     Nested, NewBag, NewBracket, NewHolder, NewList, Newest, OldBag, OldBracket, OldGrown,
     OldHolder, OldList, OldVersioned, Versioned,
@@ -100,31 +103,27 @@ fn judge_longer(alloc: Global, name: &str, claim: &Claim) -> Result<(), LineErro
     }
 }
 
+/// A value of the newer version.
+fn newer(a: bool, b: Option<u8>) -> New {
+    New::new(NewFields { a, b })
+}
+
 impl Grown<Old> for New {
     fn sample(place: usize) -> Option<New> {
         match place {
-            0 => Some(New {
-                a: true,
-                b: Some(7),
-            }),
-            1 => Some(New { a: false, b: None }),
-            2 => Some(New {
-                a: false,
-                b: Some(255),
-            }),
+            0 => Some(newer(true, Some(7))),
+            1 => Some(newer(false, None)),
+            2 => Some(newer(false, Some(255))),
             _ => None,
         }
     }
 
     fn lessened(&self) -> Result<Old, DecodeError> {
-        Ok(Old { a: self.a })
+        Ok(Old::new(OldFields { a: self.value.a }))
     }
 
     fn grown(older: &Old) -> Result<New, DecodeError> {
-        Ok(New {
-            a: older.a,
-            b: None,
-        })
+        Ok(newer(older.value.a, None))
     }
 
     fn clashes(&self) -> bool {
@@ -141,23 +140,21 @@ impl Grown<OldDefault> for NewDefault {
             3 => (false, None),
             _ => return None,
         };
-        Some(NewDefault { s: New { a, b } })
+        Some(NewDefault::new(NewDefaultFields { s: newer(a, b) }))
     }
 
     fn lessened(&self) -> Result<OldDefault, DecodeError> {
-        Ok(OldDefault {
-            s: self.s.lessened()?,
-        })
+        let s = self.value.s.lessened()?;
+        Ok(OldDefault::new(OldDefaultFields { s }))
     }
 
     fn grown(older: &OldDefault) -> Result<NewDefault, DecodeError> {
-        Ok(NewDefault {
-            s: New::grown(&older.s)?,
-        })
+        let s = New::grown(&older.value.s)?;
+        Ok(NewDefault::new(NewDefaultFields { s }))
     }
 
     fn clashes(&self) -> bool {
-        self.s.a && self.s.b.is_some()
+        self.value.s.value.a && self.value.s.value.b.is_some()
     }
 }
 
@@ -168,14 +165,12 @@ impl Grown<Old> for NewRequired {
             1 => (false, true),
             _ => return None,
         };
-        Some(NewRequired {
-            a,
-            r: Implicit::new(r),
-        })
+        let r = Implicit::new(r);
+        Some(NewRequired::new(NewRequiredFields { a, r }))
     }
 
     fn lessened(&self) -> Result<Old, DecodeError> {
-        Ok(Old { a: self.a })
+        Ok(Old::new(OldFields { a: self.value.a }))
     }
 
     fn grown(_older: &Old) -> Result<NewRequired, DecodeError> {
