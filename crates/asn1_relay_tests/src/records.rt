@@ -113,10 +113,18 @@ fn is_left_out(records: &[Item]) -> bool {
     )
 }
 
+/// Whether a record is this number.
+fn is_number(item: &Item, number: &Integer) -> bool {
+    match item {
+        Item::Integer(_, found) => found == number,
+        _ => false,
+    }
+}
+
 /// Whether records are those of a measure with this number, and nothing else.
 fn is_measure(records: &[Item], number: &Integer) -> bool {
     match records {
-        [_, Item::Mark(true), Item::Integer(_, found), Item::Mark(false), _] => found == number,
+        [_, Item::Mark(true), item, Item::Mark(false), _] => is_number(item, number),
         _ => false,
     }
 }

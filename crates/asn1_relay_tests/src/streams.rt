@@ -102,23 +102,24 @@ struct Calls {
     write: Option<u64>,
 }
 
-/// Runs a relay over octets, to a writer.
+/// The answer of a run over octets, and what it has written.
 fn run_over<T: Encode + Decode>(
     alloc: Global,
     calls: Calls,
     octets: Vec<u8>,
-    writer: &mut MemorySink,
-) -> Result<(), RunFault> {
+) -> (Result<(), RunFault>, MemorySink) {
     let mut reader = MemorySource::new(octets, calls.read);
+    let mut writer = MemorySink::new(alloc, calls.write);
     let limit = calls.limit.max(1);
-    run::<T, MemorySource, MemorySink>(
+    let answer = run::<T, MemorySource, MemorySink>(
         alloc,
         &mut reader,
-        writer,
+        &mut writer,
         Codec::Coer,
         Codec::Uper,
         limit,
-    )
+    );
+    (answer, writer)
 }
 
 /// Whether a run over octets has this answer, and has written those that are wanted.
@@ -129,9 +130,8 @@ fn answers<T: Encode + Decode>(
     wanted: &[u8],
     answer: Result<(), RunFault>,
 ) -> bool {
-    let mut writer = MemorySink::new(alloc, calls.write);
-    let is_answer = run_over::<T>(alloc, calls, octets, &mut writer) == answer;
-    writer.octets() == wanted && is_answer
+    let (found, writer) = run_over::<T>(alloc, calls, octets);
+    writer.octets() == wanted && found == answer
 }
 
 /// Whether the run of a row over messages of the type `T` is as it says.
