@@ -109,7 +109,12 @@ fn measure_records(alloc: Global, offset: i64) -> Result<Vec<Item>, EncodeError>
 fn is_left_out(records: &[Item]) -> bool {
     matches!(
         records,
-        [Item::SequenceBegins(false, 2), Item::Mark(false), Item::Mark(false), Item::Ends]
+        [
+            Item::SequenceBegins(false, 2),
+            Item::Mark(false),
+            Item::Mark(false),
+            Item::Ends
+        ]
     )
 }
 

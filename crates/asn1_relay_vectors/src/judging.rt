@@ -14,11 +14,10 @@ pub const CODECS: [Codec; 4] = [Codec::Uper, Codec::Aper, Codec::Oer, Codec::Coe
 /// the last.
 const CUTS: usize = 512;
 
-/// A type under constraints, and the memory in which its lines are judged.
+/// The constraints of a type, and the memory in which its lines are judged.
 #[derive(Clone, Copy)]
 struct Subject<'a> {
     alloc: Global,
-    of: &'a dyn Judged,
     limits: &'a Limits,
 }
 
@@ -29,16 +28,16 @@ struct Subject<'a> {
 /// `Otherwise` where the library does not do what is said, and `Memory` for want of memory.
 pub fn judge(alloc: Global, of: &dyn Judged, line: &Line<'_>) -> Result<(), LineError> {
     let limits = &line.limits;
-    let subject = Subject { alloc, of, limits };
+    let subject = Subject { alloc, limits };
     match &line.claim {
-        Claim::Same(encodings) => subject.are_same(encodings.as_slice()),
+        Claim::Same(encodings) => subject.are_same(of, encodings.as_slice()),
         Claim::Becomes(source, target) => {
-            subject.becomes(source, target)?;
-            subject.becomes(target, target)
+            subject.becomes(of, source, target)?;
+            subject.becomes(of, target, target)
         }
-        Claim::Refused(source, fault) => subject.is_refused(source, *fault),
+        Claim::Refused(source, fault) => subject.is_refused(of, source, *fault),
         Claim::NoTarget(source, rules, fault) => {
-            subject.has_no_target(source, rules.as_slice(), *fault)
+            subject.has_no_target(of, source, rules.as_slice(), *fault)
         }
         Claim::Streams(limit, streams) => {
             for source in streams.iter() {
@@ -56,12 +55,12 @@ pub fn judge(alloc: Global, of: &dyn Judged, line: &Line<'_>) -> Result<(), Line
 
 impl<'a> Subject<'a> {
     /// Each encoding of a value becomes each other one, alone and in streams.
-    fn are_same(&self, encodings: &[Spelled]) -> Result<(), LineError> {
+    fn are_same(&self, of: &dyn Judged, encodings: &[Spelled]) -> Result<(), LineError> {
         for source in encodings {
             for target in encodings {
-                self.becomes(source, target)?;
+                self.becomes(of, source, target)?;
                 if self.limits.is_none() {
-                    judge_repeated(self.alloc, self.of, source, target)?;
+                    judge_repeated(self.alloc, of, source, target)?;
                 }
             }
         }
@@ -70,36 +69,41 @@ impl<'a> Subject<'a> {
 
     /// Octets become others in each set of rules that is named, by any way, and are refused cut or with an octet
     /// behind them.
-    fn becomes(&self, source: &Spelled, target: &Spelled) -> Result<(), LineError> {
+    fn becomes(
+        &self,
+        of: &dyn Judged,
+        source: &Spelled,
+        target: &Spelled,
+    ) -> Result<(), LineError> {
         let octets = source.octets.as_slice();
         for from in source.rules.iter() {
             for to in target.rules.iter() {
-                self.gives_by_any_way(*from, octets, *to, target.octets.as_slice())?;
+                self.gives_by_any_way(of, *from, octets, *to, target.octets.as_slice())?;
             }
-            self.is_refused_in_part(*from, octets, DecodeError::Incomplete)?;
-            self.is_not_read_to_its_end(*from, octets)?;
+            self.is_refused_in_part(of, *from, octets, DecodeError::Incomplete)?;
+            self.is_not_read_to_its_end(of, *from, octets)?;
         }
         Ok(())
     }
 
     /// What a translation of octets gives.
-    fn translate(&self, from: Codec, to: Codec, octets: &[u8]) -> Translated {
-        self.of
-            .translate(self.alloc, self.limits, Rules { from, to }, octets)
+    fn translate(&self, of: &dyn Judged, from: Codec, to: Codec, octets: &[u8]) -> Translated {
+        of.translate(self.alloc, self.limits, Rules { from, to }, octets)
     }
 
     /// Octets are translated to others at once, and by way of each set of rules in which the value has an encoding.
     fn gives_by_any_way(
         &self,
+        of: &dyn Judged,
         from: Codec,
         octets: &[u8],
         to: Codec,
         wanted: &[u8],
     ) -> Result<(), LineError> {
-        self.gives(from, octets, to, Ok(wanted))?;
+        self.gives(of, from, octets, to, Ok(wanted))?;
         for through in CODECS {
-            match self.translate(from, through, octets) {
-                Ok(halfway) => self.gives(through, halfway.as_slice(), to, Ok(wanted))?,
+            match self.translate(of, from, through, octets) {
+                Ok(halfway) => self.gives(of, through, halfway.as_slice(), to, Ok(wanted))?,
                 Err(RecodeFault::NoTarget(_)) => {}
                 Err(fault) => return Err(translated(self.alloc, from, through, &Err(fault))?),
             }
@@ -109,14 +113,19 @@ impl<'a> Subject<'a> {
 
     /// The octets are refused for this reason, whatever they are to become. No reader finds an encoding in a part of
     /// them.
-    fn is_refused(&self, source: &Spelled, fault: RecodeFault) -> Result<(), LineError> {
+    fn is_refused(
+        &self,
+        of: &dyn Judged,
+        source: &Spelled,
+        fault: RecodeFault,
+    ) -> Result<(), LineError> {
         let octets = source.octets.as_slice();
         for from in source.rules.iter() {
             for to in CODECS {
-                self.gives(*from, octets, to, Err(fault))?;
+                self.gives(of, *from, octets, to, Err(fault))?;
             }
             if let RecodeFault::NotAnEncoding(error) = fault {
-                self.is_refused_in_part(*from, octets, error)?;
+                self.is_refused_in_part(of, *from, octets, error)?;
             }
         }
         Ok(())
@@ -125,13 +134,14 @@ impl<'a> Subject<'a> {
     /// The octets are read, and their value has no encoding in these rules.
     fn has_no_target(
         &self,
+        of: &dyn Judged,
         source: &Spelled,
         rules: &[Codec],
         fault: RecodeFault,
     ) -> Result<(), LineError> {
         for from in source.rules.iter() {
             for to in rules {
-                self.gives(*from, source.octets.as_slice(), *to, Err(fault))?;
+                self.gives(of, *from, source.octets.as_slice(), *to, Err(fault))?;
             }
         }
         Ok(())
@@ -140,12 +150,13 @@ impl<'a> Subject<'a> {
     /// The translation of octets gives this.
     fn gives(
         &self,
+        of: &dyn Judged,
         from: Codec,
         octets: &[u8],
         to: Codec,
         wanted: Result<&[u8], RecodeFault>,
     ) -> Result<(), LineError> {
-        let found = self.translate(from, to, octets);
+        let found = self.translate(of, from, to, octets);
         let is_wanted = match (&found, wanted) {
             (Ok(found), Ok(wanted)) => found.as_slice() == wanted,
             (Err(found), Err(wanted)) => *found == wanted,
@@ -160,6 +171,7 @@ impl<'a> Subject<'a> {
     /// Each beginning of the octets is refused for this reason, or as it ends early.
     fn is_refused_in_part(
         &self,
+        of: &dyn Judged,
         from: Codec,
         octets: &[u8],
         error: DecodeError,
@@ -168,7 +180,7 @@ impl<'a> Subject<'a> {
             if length >= CUTS && octets.len() - length > CUTS {
                 continue;
             }
-            let found = self.translate(from, from, &octets[..length]);
+            let found = self.translate(of, from, from, &octets[..length]);
             let is_wanted = match &found {
                 Err(RecodeFault::NotAnEncoding(found)) => {
                     *found == DecodeError::Incomplete || *found == error
@@ -183,13 +195,18 @@ impl<'a> Subject<'a> {
     }
 
     /// An octet behind the octets is surplus. (Readers that are given constraints pass over it.)
-    fn is_not_read_to_its_end(&self, from: Codec, octets: &[u8]) -> Result<(), LineError> {
+    fn is_not_read_to_its_end(
+        &self,
+        of: &dyn Judged,
+        from: Codec,
+        octets: &[u8],
+    ) -> Result<(), LineError> {
         if !self.limits.is_none() {
             return Ok(());
         }
         let mut longer = Vec::from_slice(self.alloc, octets)?;
         longer.push(0).map_err(AllocError::from)?;
-        self.gives(from, longer.as_slice(), from, Err(RecodeFault::Surplus))
+        self.gives(of, from, longer.as_slice(), from, Err(RecodeFault::Surplus))
     }
 }
 

@@ -91,11 +91,10 @@ impl Cutting {
     }
 }
 
-/// A stream of a type, how it is translated, and what it is to become.
+/// A stream, how it is translated, and what it is to become.
 #[derive(Clone, Copy)]
 struct Stream<'a> {
     alloc: Global,
-    of: &'a dyn Judged,
     way: Way,
     octets: &'a [u8],
     wanted: &'a [u8],
@@ -119,7 +118,6 @@ pub fn judge_stream(
         for to in target.rules.iter() {
             let stream = Stream {
                 alloc,
-                of,
                 way: Way {
                     from: *from,
                     to: *to,
@@ -129,8 +127,8 @@ pub fn judge_stream(
                 wanted: target.octets.as_slice(),
                 answer,
             };
-            stream.relays_by_all_cuttings()?;
-            stream.runs()?;
+            stream.relays_by_all_cuttings(of)?;
+            stream.runs(of)?;
         }
     }
     Ok(())
@@ -157,7 +155,6 @@ pub fn judge_repeated(
         for to in target.rules.iter() {
             let stream = Stream {
                 alloc,
-                of,
                 way: Way {
                     from: *from,
                     to: *to,
@@ -171,7 +168,7 @@ pub fn judge_repeated(
                     Ok(())
                 },
             };
-            stream.is_repeated()?;
+            stream.is_repeated(of)?;
         }
     }
     Ok(())
@@ -191,9 +188,9 @@ fn twice(alloc: Global, octets: &[u8]) -> Result<Vec<u8>, LineError> {
 
 impl<'a> Stream<'a> {
     /// A stream of one message twice over becomes what is wanted; where this may have an octet less, none is in front.
-    fn is_repeated(&self) -> Result<(), LineError> {
-        self.relays_by_single_cuttings()?;
-        self.runs()?;
+    fn is_repeated(&self, of: &dyn Judged) -> Result<(), LineError> {
+        self.relays_by_single_cuttings(of)?;
+        self.runs(of)?;
         let Some(limit) = Limit::new(self.way.limit.octets - 1) else {
             return Ok(());
         };
@@ -203,43 +200,41 @@ impl<'a> Stream<'a> {
             answer: stops(RelayFaultKind::NoneWithinLimit),
             ..*self
         };
-        less.relays(Cutting::At(0))?;
-        less.runs()
+        less.relays(of, Cutting::At(0))?;
+        less.runs(of)
     }
 
     /// A stream becomes what is wanted, in every cutting if it is short.
-    fn relays_by_all_cuttings(&self) -> Result<(), LineError> {
+    fn relays_by_all_cuttings(&self, of: &dyn Judged) -> Result<(), LineError> {
         if self.octets.len() > ALL_CUTTINGS {
-            return self.relays_by_single_cuttings();
+            return self.relays_by_single_cuttings(of);
         }
         for places in 0..1 << self.octets.len().saturating_sub(1) {
-            self.relays(Cutting::Behind(places))?;
+            self.relays(of, Cutting::Behind(places))?;
         }
         Ok(())
     }
 
     /// A stream becomes what is wanted, as a whole, cut at one place, and octet by octet.
-    fn relays_by_single_cuttings(&self) -> Result<(), LineError> {
+    fn relays_by_single_cuttings(&self, of: &dyn Judged) -> Result<(), LineError> {
         let count = self.octets.len();
         if count <= LONG {
-            self.relays(Cutting::Each)?;
+            self.relays(of, Cutting::Each)?;
         }
         for place in 0..count {
             let is_near = place <= 1 || count - place == 1 || place.abs_diff(count / 2) <= 1;
             if count <= LONG || is_near {
-                self.relays(Cutting::At(place))?;
+                self.relays(of, Cutting::At(place))?;
             }
         }
         Ok(())
     }
 
     /// A relay that is fed the pieces of a stream, behind a piece of no octets, gives what is wanted.
-    fn relays(&self, cutting: Cutting) -> Result<(), LineError> {
+    fn relays(&self, of: &dyn Judged, cutting: Cutting) -> Result<(), LineError> {
         let pieces = pieces(self.alloc, self.octets, cutting)?;
         let mut out = Vec::new(self.alloc);
-        let found = self
-            .of
-            .relay(self.alloc, self.way, pieces.as_slice(), &mut out);
+        let found = of.relay(self.alloc, self.way, pieces.as_slice(), &mut out);
         if out.as_slice() == self.wanted && found.answer == self.answer && found.is_lasting() {
             return Ok(());
         }
@@ -248,8 +243,8 @@ impl<'a> Stream<'a> {
     }
 
     /// A run from memory to memory gives what is wanted.
-    fn runs(&self) -> Result<(), LineError> {
-        let (found, sink) = self.of.run(
+    fn runs(&self, of: &dyn Judged) -> Result<(), LineError> {
+        let (found, sink) = of.run(
             self.alloc,
             self.way,
             Vec::from_slice(self.alloc, self.octets)?,

@@ -76,7 +76,11 @@ fn are_tagged_compared() -> bool {
 fn are_mixed_lists_compared(alloc: Global) -> Result<bool, AllocError> {
     let octets: [u8; 2] = [1, 2];
     let held: CowSlice<'_, u8, Global> = CowSlice::Owned(vec![in alloc; 1_u8, 2]?);
-    Ok(means(&CowSlice::Borrowed(&octets), &held, &CowSlice::Borrowed(&octets[..1])))
+    Ok(means(
+        &CowSlice::Borrowed(&octets),
+        &held,
+        &CowSlice::Borrowed(&octets[..1]),
+    ))
 }
 
 /// Whether a text that is lent is compared with one that is held.
