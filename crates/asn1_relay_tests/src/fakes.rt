@@ -1,26 +1,53 @@
-//! A reader and a writer that do what a test wants.
+//! A reader and a writer that do what a text says, and octets that a text spells.
 use std::io::{self, Error, ErrorKind, Read, Write};
 
-/// What one read does.
+/// How many octets a text may spell.
+const SPELLED: usize = 20;
+
+/// The octets of words of two hexadecimal digits.
 #[derive(Clone, Copy)]
-pub enum Step {
-    /// It gives these octets.
-    Octets(&'static [u8]),
-    /// A signal comes in between.
-    Interrupted,
-    /// It fails.
-    Failure,
+pub struct Octets {
+    octets: [u8; SPELLED],
+    len: usize,
 }
 
-/// A reader whose reads do these steps in turn, and then tell the end.
-#[derive(Drop)]
+impl Octets {
+    /// The octets of a text.
+    pub fn of(text: &str) -> Octets {
+        let mut found = Octets {
+            octets: [0; SPELLED],
+            len: 0,
+        };
+        for word in text.split_whitespace() {
+            if found.len < SPELLED {
+                found.octets[found.len] = u8::from_str_radix(word, 16).unwrap_or(0);
+                found.len += 1;
+            }
+        }
+        found
+    }
+
+    /// All of them.
+    pub fn all(&self) -> &[u8] {
+        if self.len <= SPELLED {
+            &self.octets[..self.len]
+        } else {
+            &[]
+        }
+    }
+}
+
+/// A reader whose reads do these steps in turn, with a comma between two of them, and then tell the end: they give
+/// octets, are interrupted by a signal (`interrupted`), or fail (`fails`).
+#[derive(Clone, Copy)]
 pub struct FakeReader<'a> {
-    steps: &'a [Step],
+    steps: &'a str,
     is_read: bool,
 }
 
 impl<'a> FakeReader<'a> {
-    pub fn new(steps: &'a [Step]) -> Self {
+    /// A reader that does these steps.
+    pub fn new(steps: &'a str) -> Self {
         FakeReader {
             steps,
             is_read: false,
@@ -36,18 +63,18 @@ impl<'a> FakeReader<'a> {
 impl<'a> Read for FakeReader<'a> {
     fn read(&mut self, buf: &mut [u8]) -> io::Result<usize> {
         self.is_read = true;
-        let Some((step, others)) = self.steps.split_first() else {
-            return Ok(0);
-        };
+        let (step, others) = self.steps.split_once(',').unwrap_or((self.steps, ""));
         self.steps = others;
-        match step {
-            Step::Octets(octets) => {
+        match step.trim() {
+            "interrupted" => Err(Error::from(ErrorKind::Interrupted)),
+            "fails" => Err(Error::from(ErrorKind::Other)),
+            text => {
+                let octets = Octets::of(text);
+                let octets = octets.all();
                 let count = octets.len().min(buf.len());
                 buf[..count].copy_from_slice(&octets[..count]);
                 Ok(count)
             }
-            Step::Interrupted => Err(Error::from(ErrorKind::Interrupted)),
-            Step::Failure => Err(Error::from(ErrorKind::Other)),
         }
     }
 }
@@ -56,16 +83,16 @@ impl<'a> Read for FakeReader<'a> {
 const ROOM: usize = 64;
 
 /// A writer that keeps the first octets, and may fail.
-#[derive(Drop)]
+#[derive(Clone, Copy)]
 pub struct FakeWriter {
     kept: [u8; ROOM],
     len: usize,
     /// How many octets one write takes at most.
-    pub write_size: usize,
+    write_size: usize,
     /// How many writes succeed.
-    pub writes_left: u32,
+    writes_left: u32,
     /// Whether a flush succeeds.
-    pub can_flush: bool,
+    can_flush: bool,
     /// Whether all that was written has been flushed.
     pub is_flushed: bool,
 }
@@ -83,6 +110,22 @@ impl FakeWriter {
         }
     }
 
+    /// A writer of which so many writes succeed, of one octet each, and the flush behind them or not. Of an empty text
+    /// it does not fail.
+    pub fn failing(text: &str) -> Self {
+        let mut writer = FakeWriter::new();
+        for word in text.split_whitespace() {
+            match word.parse::<u32>() {
+                Ok(count) => {
+                    writer.write_size = 1;
+                    writer.writes_left = count;
+                }
+                Err(_) => writer.can_flush = false,
+            }
+        }
+        writer
+    }
+
     /// The first octets that were written, as many as it keeps.
     pub fn octets(&self) -> &[u8] {
         &self.kept[..self.len.min(ROOM)]
@@ -91,11 +134,6 @@ impl FakeWriter {
     /// Whether these octets were written, and no others.
     pub fn holds(&self, octets: &[u8]) -> bool {
         self.octets() == octets
-    }
-
-    /// Whether a beginning of these octets was written, and no others.
-    pub fn holds_beginning(&self, octets: &[u8]) -> bool {
-        octets.starts_with(self.octets())
     }
 }
 

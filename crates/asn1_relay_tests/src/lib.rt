@@ -13,9 +13,9 @@ mod many_alternatives;
 #[cfg(test)]
 mod records;
 #[cfg(test)]
-mod routes;
-#[cfg(test)]
 mod rows;
+#[cfg(test)]
+mod runs;
 #[cfg(test)]
 mod streams;
 #[cfg(test)]

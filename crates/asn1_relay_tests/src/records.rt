@@ -27,13 +27,23 @@ fn found<T: Decode, D: Decoder>(alloc: Global, decoder: &mut D) -> Result<T, Dec
     T::decode(alloc, decoder)
 }
 
-/// Whether a setting is read back from its records, and nothing behind it.
-fn is_read_back(alloc: Global, level: Option<u8>) -> Result<bool, Fail> {
-    let mut decoder = RecordDecoder::new(setting_records(alloc, level)?, CodecKind::Uper);
-    let setting: Setting = found(alloc, &mut decoder)?;
+/// Whether a decoder finds a setting, and nothing behind it.
+fn is_found<D: Decoder>(
+    alloc: Global,
+    decoder: &mut D,
+    level: Option<u8>,
+) -> Result<bool, DecodeError> {
+    let setting: Setting = found(alloc, decoder)?;
     let is_setting = setting.on && setting.level == level && decoder.levels_left() == 128;
-    let end = found::<bool, RecordDecoder>(alloc, &mut decoder);
+    let end: Result<bool, DecodeError> = found(alloc, decoder);
     Ok(is_setting && end == Err(DecodeError::Incomplete))
+}
+
+/// Whether a setting is read back from its records.
+fn is_read_back(alloc: Global, level: Option<u8>) -> Result<bool, Fail> {
+    let records = setting_records(alloc, level)?;
+    let mut decoder = RecordDecoder::new(records, CodecKind::Uper);
+    Ok(is_found(alloc, &mut decoder, level)?)
 }
 
 /// Whether an encoder tells its rules, and keeps each record of a setting.
@@ -45,10 +55,9 @@ fn is_named_and_kept(alloc: Global) -> Result<bool, EncodeError> {
 #[test]
 fn a_setting_is_read_back(rt: HostRuntime) -> Result<(), Fail> {
     let alloc = rt.alloc();
-    for level in [Some(7), None] {
-        assert!(rt; is_read_back(alloc, level)?, "{level:?}");
-    }
-    assert!(rt; is_named_and_kept(alloc)?);
+    let are_read_back = is_read_back(alloc, Some(7))? && is_read_back(alloc, None)?;
+    let is_kept = is_named_and_kept(alloc)?;
+    assert!(rt; are_read_back && is_kept);
     Ok(())
 }
 
@@ -66,15 +75,22 @@ fn refusal(
     Ok(setting.err())
 }
 
+/// So many of its six records from which a setting is read, or refused for another reason than that they end early.
+fn first_unrefused(alloc: Global) -> Result<Option<usize>, EncodeError> {
+    for count in 0..6 {
+        if refusal(alloc, Some(7), count, 128)? != Some(DecodeError::Incomplete) {
+            return Ok(Some(count));
+        }
+    }
+    Ok(None)
+}
+
 #[test]
 fn truncated_and_nested_settings_are_refused(rt: HostRuntime) -> Result<(), Fail> {
     let alloc = rt.alloc();
-    for count in 0..6 {
-        let fault = refusal(alloc, Some(7), count, 128)?;
-        assert!(rt; fault == Some(DecodeError::Incomplete), "of {count}");
-    }
-    let fault = refusal(alloc, None, 6, 0)?;
-    assert!(rt; fault == Some(DecodeError::ExceedsMaxParseDepth));
+    let nested = refusal(alloc, None, 6, 0)?;
+    assert_same(&rt, &first_unrefused(alloc)?, &None);
+    assert_same(&rt, &nested, &Some(DecodeError::ExceedsMaxParseDepth));
     Ok(())
 }
 
@@ -89,40 +105,50 @@ fn measure_records(alloc: Global, offset: i64) -> Result<Vec<Item>, EncodeError>
     Ok(encoder.into_items())
 }
 
-/// Whether a default is left out.
-fn a_default_is_left_out(alloc: Global) -> Result<bool, EncodeError> {
-    let records = measure_records(alloc, 0)?;
-    Ok(
-        records.len() == 4
-            && matches!(records.get(0), Some(Item::SequenceBegins(false, 2)))
-            && matches!(records.get(1), Some(Item::Mark(false)))
-            && matches!(records.get(2), Some(Item::Mark(false)))
-            && matches!(records.get(3), Some(Item::Ends)),
+/// Whether records are those of a measure with a default, which is left out, and nothing else.
+fn is_left_out(records: &[Item]) -> bool {
+    matches!(
+        records,
+        [
+            Item::SequenceBegins(false, 2),
+            Item::Mark(false),
+            Item::Mark(false),
+            Item::Ends
+        ]
     )
 }
 
 /// Whether a record is this number.
-fn is_number(item: Option<&Item>, number: i64) -> bool {
+fn is_number(item: &Item, number: &Integer) -> bool {
     match item {
-        Some(Item::Integer(_, found)) => *found == Integer::from(number),
+        Item::Integer(_, found) => found == number,
         _ => false,
     }
+}
+
+/// Whether records are those of a measure with this number, and nothing else.
+fn is_measure(records: &[Item], number: &Integer) -> bool {
+    match records {
+        [_, Item::Mark(true), item, Item::Mark(false), _] => is_number(item, number),
+        _ => false,
+    }
+}
+
+/// Whether a default is left out.
+fn a_default_is_left_out(alloc: Global) -> Result<bool, EncodeError> {
+    let records = measure_records(alloc, 0)?;
+    Ok(is_left_out(&records))
 }
 
 /// Whether another value is written.
 fn another_value_is_written(alloc: Global) -> Result<bool, EncodeError> {
     let records = measure_records(alloc, 3)?;
-    Ok(
-        records.len() == 5
-            && matches!(records.get(1), Some(Item::Mark(true)))
-            && is_number(records.get(2), 3)
-            && matches!(records.get(3), Some(Item::Mark(false))),
-    )
+    Ok(is_measure(&records, &Integer::from(3_i64)))
 }
 
 #[test]
 fn defaults(rt: HostRuntime) -> Result<(), Fail> {
-    assert!(rt; a_default_is_left_out(rt.alloc())?);
-    assert!(rt; another_value_is_written(rt.alloc())?);
+    let is_left_out = a_default_is_left_out(rt.alloc())?;
+    assert!(rt; is_left_out && another_value_is_written(rt.alloc())?);
     Ok(())
 }

@@ -1,314 +1,161 @@
-//! Streams: runs whose reader or writer fails at each call in turn, a relay behind its faults, long streams, and values
+//! Streams: runs whose reader or writer fails at each call in turn, a relay behind its fault, long streams, and values
 //! one behind the other.
-ghost use Rattle.std.specs.Prelude.{refl, Some, None, false};
-ghost use Rattle.asn1_schema_constraints.specs.Terms.{sized};
-ghost use Rattle.asn1_schema_presented.proofs.TypesByKind.{type_list};
-
 use crate::assertions::assert_same;
+use crate::fakes::Octets;
 use asn1_relay_core::{
     Codec, DecodeError, MemorySink, MemorySource, Relay, RelayFault, RelayFaultKind, RunFault, run,
 };
 use asn1_relay_types::{New, Small};
-use asn1_schema_constraints::{Bounded, Constraints, Extensible, Size};
 use asn1_schema_decode::making::iter;
 use asn1_schema_decode::{Decode, FrontReader, Iter};
 use asn1_schema_encode::Encode;
-use asn1_schema_types::Described;
-use asn1_schema_wrapped::{Constrained, ConstraintsOf};
 use asn1_values_integers::Integer;
 use asn1_values_octets::OctetString;
 use oer_codec::{CoerFront, OerFront};
 use per_codec::{AperFront, UperFront};
 use std::alloc::{AllocError, Global};
 
-/// What stops a relay at the message of a number.
-macro_rules! fault {
-    ($number:literal, $kind:ident) => {
-        RelayFault {
-            number: $number,
-            kind: RelayFaultKind::$kind,
-        }
-    };
-}
+/// A run from the canonical octet encoding rules to the unaligned packed ones, as a row says it with a bar between two
+/// parts: how many messages {a TRUE, b 7} of `New` come in front, and octets behind them; the limit; which call of the
+/// reader fails; which one of the writer; how many of the messages in front are written, and octets behind them; and
+/// the fault, if there is one: `read`, `write`, or the number of a message and `no form` or `none`.
+const ROWS: &str = "\
+0 FC 05 | 1 | - | - | 0 10 A0 |
+0 FC 05 | 1 | 0 | - | 0 | read
+0 FC 05 | 1 | 1 | - | 0 10 A0 | read
+0 FC 05 | 1 | 2 | - | 0 10 A0 |
+0 FC 05 | 1 | - | 0 | 0 | write
+0 FC 05 | 1 | - | 1 | 0 10 A0 | write
+0 FC 05 | 1 | - | 2 | 0 10 A0 |
+0 FC 05 | 1 | 1 | 1 | 0 10 A0 | read
+0 FC 06 05 | 1 | - | - | 0 10 | 1 none
+0 FC 06 05 | 1 | 1 | - | 0 10 | 1 none
+0 FC 06 05 | 1 | - | 0 | 0 | write
+0 FC 06 05 | 1 | - | 1 | 0 10 | 1 none
+0 FC 06 | 2 | - | - | 0 10 | 1 no form
+0 FC 06 | 2 | 1 | - | 0 10 | read
+0 FC 06 | 2 | - | 0 | 0 | write
+0 FC 06 | 2 | - | 1 | 0 10 | 1 no form
+0 | 1 | - | - | 0 |
+0 | 1 | 0 | - | 0 | read
+0 | 1 | - | 0 | 0 | write";
 
-/// A run from the canonical octet encoding rules to the unaligned packed ones.
-#[derive(Clone, Copy)]
-struct Row {
-    /// How many messages {a TRUE, b 7} of `New` come in front of the octets.
-    whole: usize,
-    octets: &'static [u8],
-    limit: usize,
-    /// Which call of the reader fails.
-    read: Option<u64>,
-    /// Which call of the writer fails.
-    write: Option<u64>,
-    /// How many of the messages in front are written.
-    relayed: usize,
-    /// What is written behind them.
-    written: &'static [u8],
-    answer: Result<(), RunFault>,
-}
+/// Runs over more than a block of 4096 octets. Of 586 messages of 7 octets one straddles the first block and the
+/// second, and ends that; of 1171 the third block has 5 octets, behind 2 of the same message; 584 of them and four of 2
+/// octets fill a block; of 585 the first octet behind them is alone in the first block, and of 586 all octets behind
+/// them are in the second.
+const LONG_ROWS: &str = "\
+586 | 7 | - | - | 586 |
+586 | 7 | 1 | - | 585 | read
+586 | 7 | 2 | - | 586 | read
+586 | 7 | 3 | - | 586 |
+586 | 7 | - | 0 | 0 | write
+586 | 7 | - | 1 | 585 | write
+586 | 7 | - | 2 | 586 | write
+586 | 7 | - | 3 | 586 |
+1171 | 7 | - | - | 1171 |
+1171 | 7 | - | 2 | 1170 | write
+584 00 00 00 00 00 00 00 00 | 7 | - | - | 584 00 00 00 00 |
+584 00 00 00 00 00 00 00 00 | 7 | 1 | - | 584 00 00 00 00 | read
+584 00 00 00 00 00 00 00 00 | 7 | - | 1 | 584 00 00 00 00 | write
+584 00 00 00 00 00 00 00 00 | 7 | - | 2 | 584 00 00 00 00 |
+585 00 05 00 00 00 00 00 00 | 7 | - | - | 585 | 585 none
+585 00 05 00 00 00 00 00 00 | 7 | 1 | - | 585 | read
+585 00 05 00 00 00 00 00 00 | 7 | - | 1 | 585 | write
+586 00 05 00 00 00 00 00 00 | 7 | - | - | 586 | 586 none
+586 00 05 00 00 00 00 00 00 | 7 | 2 | - | 586 | 586 none
+586 00 05 00 00 00 00 00 00 | 7 | - | 1 | 585 | write
+586 00 05 00 00 00 00 00 00 | 7 | - | 2 | 586 | 586 none
+586 80 FF 02 07 | 7 | - | - | 586 | 586 no form
+586 80 FF 02 07 | 7 | 2 | - | 586 | read
+586 80 FF 02 07 | 7 | - | 1 | 585 | write";
 
-/// Two numbers from -5 to 5, each a message: a block is read and then the end, and a block is written and then flushed.
-const TWO: Row = Row {
-    whole: 0,
-    octets: &[0xFC, 0x05],
-    limit: 1,
-    read: None,
-    write: None,
-    relayed: 0,
-    written: &[0x10, 0xA0],
-    answer: Ok(()),
-};
-
-/// A message, and an octet that is none, with another behind it.
-const STOPPED: Row = Row {
-    octets: &[0xFC, 0x06, 0x05],
-    written: &[0x10],
-    answer: Err(RunFault::Relay(fault!(1, NoneWithinLimit))),
-    ..TWO
-};
-
-/// A message, and an octet that is none, at the end.
-const LEFT: Row = Row {
-    octets: &[0xFC, 0x06],
-    limit: 2,
-    written: &[0x10],
-    answer: Err(RunFault::Relay(fault!(1, NoForm))),
-    ..TWO
-};
-
-/// No octets: there is no block to be written.
-const NONE: Row = Row {
-    octets: &[],
-    written: &[],
-    ..TWO
-};
-
-/// A run that fails in reading, at this call and with this written.
-macro_rules! reading {
-    ($row:expr, $call:literal, $written:expr) => {
-        Row {
-            read: Some($call),
-            written: $written,
-            answer: Err(RunFault::Read),
-            ..$row
-        }
-    };
-}
-
-/// A run that fails in writing, at this call and with this written.
-macro_rules! writing {
-    ($row:expr, $call:literal, $written:expr) => {
-        Row {
-            write: Some($call),
-            written: $written,
-            answer: Err(RunFault::Write),
-            ..$row
-        }
-    };
-}
-
-/// Runs with each call failing in turn, to the call that never comes.
-const ROWS: [Row; 19] = [
-    TWO,
-    reading!(TWO, 0, &[]),
-    reading!(TWO, 1, &[0x10, 0xA0]),
-    Row {
-        read: Some(2),
-        ..TWO
-    },
-    writing!(TWO, 0, &[]),
-    writing!(TWO, 1, &[0x10, 0xA0]),
-    Row {
-        write: Some(2),
-        ..TWO
-    },
-    Row {
-        write: Some(1),
-        ..reading!(TWO, 1, &[0x10, 0xA0])
-    },
-    STOPPED,
-    Row {
-        read: Some(1),
-        ..STOPPED
-    },
-    writing!(STOPPED, 0, &[]),
-    Row {
-        write: Some(1),
-        ..STOPPED
-    },
-    LEFT,
-    reading!(LEFT, 1, &[0x10]),
-    writing!(LEFT, 0, &[]),
-    Row {
-        write: Some(1),
-        ..LEFT
-    },
-    NONE,
-    reading!(NONE, 0, &[]),
-    writing!(NONE, 0, &[]),
-];
-
-/// Messages of 7 octets, of which one straddles the first block of 4096 octets and the second, and ends that.
-const STRADDLING: Row = Row {
-    whole: 586,
-    octets: &[],
-    limit: 7,
-    relayed: 586,
-    written: &[],
-    ..TWO
-};
-
-/// Four messages {a FALSE} of `New`.
-const FOUR: &[u8] = &[0x00, 0x00, 0x00, 0x00];
-
-/// A block that is full, of messages of 7 and of 2 octets, at the end of which one ends.
-const FULL: Row = Row {
-    whole: 584,
-    octets: &[0x00, 0x00, 0x00, 0x00, 0x00, 0x00, 0x00, 0x00],
-    relayed: 584,
-    written: FOUR,
-    ..STRADDLING
-};
-
-/// Octets of which no beginning is a message of `New`: 5 is no boolean.
-const NO_MESSAGE: &[u8] = &[0x00, 0x05, 0x00, 0x00, 0x00, 0x00, 0x00, 0x00];
-
-/// Octets that are no message, of which the first alone is in the first block.
-const STOPPED_ACROSS: Row = Row {
-    whole: 585,
-    octets: NO_MESSAGE,
-    relayed: 585,
-    answer: Err(RunFault::Relay(fault!(585, NoneWithinLimit))),
-    ..STRADDLING
-};
-
-/// Octets that are no message, in the second block behind the one that straddles.
-const STOPPED_BEHIND: Row = Row {
-    octets: NO_MESSAGE,
-    answer: Err(RunFault::Relay(fault!(586, NoneWithinLimit))),
-    ..STRADDLING
-};
-
-/// The beginning of a message, at the end.
-const LEFT_BEHIND: Row = Row {
-    octets: &[0x80, 0xFF, 0x02, 0x07],
-    answer: Err(RunFault::Relay(fault!(586, NoForm))),
-    ..STRADDLING
-};
-
-/// A run that fails in reading, at this call and with so many messages written.
-macro_rules! reading_on {
-    ($row:expr, $call:literal, $relayed:literal) => {
-        Row {
-            relayed: $relayed,
-            ..reading!($row, $call, &[])
-        }
-    };
-}
-
-/// A run that fails in writing, at this call and with so many messages written.
-macro_rules! writing_on {
-    ($row:expr, $call:literal, $relayed:literal) => {
-        Row {
-            relayed: $relayed,
-            ..writing!($row, $call, &[])
-        }
-    };
-}
-
-/// Runs over more than a block, with each call behind the first failing in turn, to the call that never comes.
-const LONG_ROWS: [Row; 24] = [
-    STRADDLING,
-    reading_on!(STRADDLING, 1, 585),
-    reading_on!(STRADDLING, 2, 586),
-    Row {
-        read: Some(3),
-        ..STRADDLING
-    },
-    writing_on!(STRADDLING, 0, 0),
-    writing_on!(STRADDLING, 1, 585),
-    writing_on!(STRADDLING, 2, 586),
-    Row {
-        write: Some(3),
-        ..STRADDLING
-    },
-    // the third block is of 5 octets, behind 2 of the same message
-    Row {
-        whole: 1171,
-        relayed: 1171,
-        ..STRADDLING
-    },
-    Row {
-        whole: 1171,
-        ..writing_on!(STRADDLING, 2, 1170)
-    },
-    FULL,
-    reading!(FULL, 1, FOUR),
-    writing!(FULL, 1, FOUR),
-    Row {
-        write: Some(2),
-        ..FULL
-    },
-    STOPPED_ACROSS,
-    reading_on!(STOPPED_ACROSS, 1, 585),
-    writing_on!(STOPPED_ACROSS, 1, 585),
-    STOPPED_BEHIND,
-    Row {
-        read: Some(2),
-        ..STOPPED_BEHIND
-    },
-    writing_on!(STOPPED_BEHIND, 1, 585),
-    Row {
-        write: Some(2),
-        ..STOPPED_BEHIND
-    },
-    LEFT_BEHIND,
-    reading_on!(LEFT_BEHIND, 2, 586),
-    writing_on!(LEFT_BEHIND, 1, 585),
-];
-
-/// A message so many times, and octets behind it.
-fn repeated(
-    alloc: Global,
-    message: &[u8],
-    times: usize,
-    behind: &[u8],
-) -> Result<Vec<u8>, AllocError> {
-    let mut octets = message.repeat(alloc, times)?;
-    octets.extend_from_slice(behind)?;
+/// A message so many times, as the first word of a text says, and behind it the octets of the text.
+fn repeated(alloc: Global, message: &[u8], text: &str) -> Result<Vec<u8>, AllocError> {
+    let (count, behind) = text.split_once(' ').unwrap_or((text, ""));
+    let mut octets = message.repeat(alloc, count.parse::<usize>().unwrap_or(0))?;
+    octets.extend_from_slice(Octets::of(behind).all())?;
     Ok(octets)
 }
 
-/// Whether a run over octets answers as its row says, and has written those that are wanted.
-fn answers<T: Encode + Decode>(alloc: Global, row: &Row, octets: Vec<u8>, wanted: &[u8]) -> bool {
-    let mut reader = MemorySource::new(octets, row.read);
-    let mut writer = MemorySink::new(alloc, row.write);
+/// The answer of a run.
+fn answer_of(text: &str) -> Result<(), RunFault> {
+    let (number, kind) = text.split_once(' ').unwrap_or((text, ""));
+    let number = number.parse::<u64>().unwrap_or(0);
+    let kind = match kind {
+        "none" => RelayFaultKind::NoneWithinLimit,
+        _ => RelayFaultKind::NoForm,
+    };
+    match text {
+        "" => Ok(()),
+        "read" => Err(RunFault::Read),
+        "write" => Err(RunFault::Write),
+        _ => Err(RunFault::Relay(RelayFault { number, kind })),
+    }
+}
+
+/// How many octets a message may have, which call of the reader fails, and which one of the writer.
+#[derive(Clone, Copy)]
+struct Calls {
+    limit: usize,
+    read: Option<u64>,
+    write: Option<u64>,
+}
+
+/// The answer of a run over octets, and what it has written.
+fn run_over<T: Encode + Decode>(
+    alloc: Global,
+    calls: Calls,
+    octets: Vec<u8>,
+) -> (Result<(), RunFault>, MemorySink) {
+    let mut reader = MemorySource::new(octets, calls.read);
+    let mut writer = MemorySink::new(alloc, calls.write);
+    let limit = calls.limit.max(1);
     let answer = run::<T, MemorySource, MemorySink>(
         alloc,
         &mut reader,
         &mut writer,
         Codec::Coer,
         Codec::Uper,
-        row.limit.max(1),
+        limit,
     );
-    answer == row.answer && writer.octets() == wanted
+    (answer, writer)
 }
 
-/// Whether the run of a row over messages of the type `T` answers as it says, and has written that.
-fn is_right<T: Encode + Decode>(alloc: Global, row: &Row) -> Result<bool, AllocError> {
+/// Whether a run over octets has this answer, and has written those that are wanted.
+fn answers<T: Encode + Decode>(
+    alloc: Global,
+    calls: Calls,
+    octets: Vec<u8>,
+    wanted: &[u8],
+    answer: Result<(), RunFault>,
+) -> bool {
+    let (found, writer) = run_over::<T>(alloc, calls, octets);
+    writer.octets() == wanted && found == answer
+}
+
+/// Whether the run of a row over messages of the type `T` is as it says.
+fn is_right<T: Encode + Decode>(alloc: Global, row: &str) -> Result<bool, AllocError> {
+    let mut parts = row.split('|');
+    let octets = parts.next().unwrap_or("").trim();
+    let calls = Calls {
+        limit: parts.next().unwrap_or("").trim().parse().unwrap_or(1),
+        read: parts.next().unwrap_or("").trim().parse().ok(),
+        write: parts.next().unwrap_or("").trim().parse().ok(),
+    };
+    let wanted = parts.next().unwrap_or("").trim();
+    let answer = answer_of(parts.next().unwrap_or("").trim());
     let message = [0x80, 0xFF, 0x02, 0x07, 0x80, 0x01, 0x07];
-    let wanted = repeated(alloc, &[0xC0, 0x40, 0x41, 0xC0], row.relayed, row.written)?;
-    let octets = repeated(alloc, &message, row.whole, row.octets)?;
-    Ok(answers::<T>(alloc, row, octets, &wanted))
+    let wanted = repeated(alloc, &[0xC0, 0x40, 0x41, 0xC0], wanted)?;
+    let octets = repeated(alloc, &message, octets)?;
+    Ok(answers::<T>(alloc, calls, octets, &wanted, answer))
 }
 
-/// The place of the first row whose run is not right. Each has a second try: one request for memory at most is refused.
-fn first_wrong<T: Encode + Decode>(alloc: Global, rows: &[Row]) -> Option<usize> {
-    for (place, row) in rows.iter().enumerate() {
+/// The first row whose run is not right. Each has a second try: one request for memory at most is refused.
+fn first_wrong<T: Encode + Decode>(alloc: Global, rows: &'static str) -> Option<&'static str> {
+    for row in rows.lines() {
         if is_right::<T>(alloc, row) != Ok(true) && is_right::<T>(alloc, row) != Ok(true) {
-            return Some(place);
+            return Some(row);
         }
     }
     None
@@ -317,99 +164,46 @@ fn first_wrong<T: Encode + Decode>(alloc: Global, rows: &[Row]) -> Option<usize>
 #[test]
 fn runs_whose_calls_fail_in_turn(rt: HostRuntime) {
     let alloc = rt.alloc();
-    assert_same(&rt, &first_wrong::<Small>(alloc, &ROWS), &None);
-    assert_same(&rt, &first_wrong::<New>(alloc, &LONG_ROWS), &None);
+    assert_same(&rt, &first_wrong::<Small>(alloc, ROWS), &None);
+    assert_same(&rt, &first_wrong::<New>(alloc, LONG_ROWS), &None);
 }
 
-/// SIZE (1..2).
-#[derive(Clone, Copy, Debug, PartialEq, Eq)]
-struct OneOrTwo;
-
-impl<T: Described> ConstraintsOf<Vec<T>> for OneOrTwo {
-    ghost terms = { sized 1 (Some 2) false };
-
-    ghost under = { ⟦<Vec<T> as Described>⟧.under };
-
-    ghost meaning = { ⟦<Vec<T> as Described>⟧.meaning };
-
-    ghost lawful = { λ ts e. type_list _ _ e refl T.typed };
-
-    ghost valued = { ⟦<Vec<T> as Described>⟧.valued_under };
-
-    fn constraints() -> Constraints<'static> {
-        Constraints {
-            size: Some(Extensible::new(Size::new(Bounded::const_new(1, 2)))),
-            ..Constraints::NONE
-        }
-    }
-
-    ghost same_under = { λ _. refl };
-
-    ghost same_meaning = { λ _. refl };
+/// The answer of a relay that waits or stops at its first message.
+fn at_first(kind: RelayFaultKind) -> Result<(), RelayFault> {
+    Err(RelayFault { number: 0, kind })
 }
 
-/// Whether a relay stops at these octets for this reason, writes nothing then, and each call behind that answers that
-/// it has stopped.
-fn has_stopped<T: Encode + Decode>(
-    relay: &mut Relay<T>,
-    out: &mut Vec<u8>,
-    octets: &[u8],
-    kind: RelayFaultKind,
-) -> bool {
-    let stopped = Err(fault!(0, AlreadyFailed));
-    relay.feed(&[], out) == Ok(())
-        && relay.feed(octets, out) == Err(RelayFault { number: 0, kind })
-        && relay.has_failed()
+/// Whether a relay that has stopped answers so to each call, and writes nothing.
+fn has_stopped(relay: &mut Relay<Small>, out: &mut Vec<u8>) -> bool {
+    let stopped = at_first(RelayFaultKind::AlreadyFailed);
+    relay.has_failed()
         && relay.feed(&[], out) == stopped
         && relay.finish() == stopped
         && relay.feed(&[0xFC], out) == stopped
         && out.is_empty()
 }
 
-/// Whether a relay stops so.
-fn stops<T: Encode + Decode>(
-    alloc: Global,
-    (from, to): (Codec, Codec),
-    octets: &[u8],
-    kind: RelayFaultKind,
-) -> bool {
-    let mut relay = Relay::<T>::new(alloc, from, to, octets.len().max(1));
-    has_stopped(&mut relay, &mut Vec::new(alloc), octets, kind)
-}
-
-/// Whether relays stop for each reason.
-fn are_stopped(alloc: Global) -> bool {
-    let to_packed = (Codec::Oer, Codec::Uper);
-    stops::<()>(alloc, to_packed, &[0x00], RelayFaultKind::EmptyMessage)
-        && stops::<()>(
-            alloc,
-            (Codec::Uper, Codec::Oer),
-            &[0x00],
-            RelayFaultKind::EmptyMessage,
-        )
-        && stops::<Constrained<OneOrTwo, Vec<bool>>>(
-            alloc,
-            to_packed,
-            &[0x01, 0x00],
-            RelayFaultKind::NoTarget,
-        )
-}
-
 /// Whether a relay stops once more octets are unread than a message may have, and waits before that.
 fn stops_at_its_limit(relay: &mut Relay<Small>, out: &mut Vec<u8>) -> bool {
-    let kind = RelayFaultKind::NoneWithinLimit;
-    relay.feed(&[0x06], out) == Ok(())
+    relay.feed(&[], out) == Ok(())
+        && relay.feed(&[0x06], out) == Ok(())
         && relay.unread_len() == 1
-        && relay.finish() == Err(fault!(0, NoForm))
+        && relay.finish() == at_first(RelayFaultKind::NoForm)
         && !relay.has_failed()
-        && has_stopped(relay, out, &[0xFC], kind)
+        && relay.feed(&[], out) == Ok(())
+        && relay.feed(&[0xFC], out) == at_first(RelayFaultKind::NoneWithinLimit)
+        && has_stopped(relay, out)
+}
+
+/// Whether a relay of messages of one octet stops so.
+fn has_a_limit(alloc: Global) -> bool {
+    let mut relay = Relay::<Small>::new(alloc, Codec::Coer, Codec::Uper, 1);
+    stops_at_its_limit(&mut relay, &mut Vec::new(alloc))
 }
 
 #[test]
-fn a_relay_behind_its_faults(rt: HostRuntime) {
-    let alloc = rt.alloc();
-    let mut relay = Relay::<Small>::new(alloc, Codec::Coer, Codec::Uper, 1);
-    assert!(rt; are_stopped(alloc) && stops_at_its_limit(&mut relay, &mut Vec::new(alloc)));
+fn a_relay_behind_its_fault(rt: HostRuntime) {
+    assert!(rt; has_a_limit(rt.alloc()));
 }
 
 /// Whether octets are fed and become these, and the stream may end there.
@@ -454,16 +248,22 @@ fn strings(alloc: Global, length: &[u8]) -> Result<Vec<u8>, AllocError> {
 }
 
 /// Whether a message that comes in 1000 pieces of an octet, and ends in one with another message behind it, is relayed.
+fn is_pieced_together(
+    relay: &mut Relay<OctetString>,
+    out: &mut Vec<u8>,
+    octets: &[u8],
+    wanted: &[u8],
+) -> bool {
+    let (pieces, last) = octets.split_at(1000.min(octets.len()));
+    waits_for_more(relay, out, pieces) && is_relayed(relay, out, last, wanted)
+}
+
+/// Whether a string of 1000 octets and one of one octet are relayed so.
 fn is_long_relayed(alloc: Global) -> Result<bool, AllocError> {
     let octets = strings(alloc, &[0x82, 0x03, 0xE8])?;
     let wanted = strings(alloc, &[0x83, 0xE8])?;
-    let (pieces, last) = octets.split_at(1000.min(octets.len()));
-    let mut out = Vec::new(alloc);
     let mut relay = Relay::<OctetString>::new(alloc, Codec::Coer, Codec::Uper, 1003);
-    Ok(
-        waits_for_more(&mut relay, &mut out, pieces)
-            && is_relayed(&mut relay, &mut out, last, &wanted),
-    )
+    Ok(is_pieced_together(&mut relay, &mut Vec::new(alloc), &octets, &wanted))
 }
 
 #[test]

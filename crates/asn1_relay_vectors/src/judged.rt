@@ -15,6 +15,18 @@ use per_codec::{aper, uper};
 use std::alloc::Global;
 use std::marker::PhantomData;
 
+/// From which set of rules to which other one octets are translated.
+#[derive(Clone, Copy)]
+pub struct Rules {
+    /// The rules of the input.
+    pub from: Codec,
+    /// The rules of the output.
+    pub to: Codec,
+}
+
+/// What came of a translation.
+pub type Translated = Result<Vec<u8>, RecodeFault>;
+
 /// What came of a run: its answer, and what was written.
 pub type Ran = (Result<(), RunFault>, MemorySink);
 
@@ -22,14 +34,7 @@ pub type Ran = (Result<(), RunFault>, MemorySink);
 pub trait Judged {
     /// Translates octets from one set of rules to another. Where there are constraints, octets behind a message are
     /// passed over.
-    fn translate(
-        &self,
-        alloc: Global,
-        limits: &Limits,
-        from: Codec,
-        to: Codec,
-        octets: &[u8],
-    ) -> Result<Vec<u8>, RecodeFault>;
+    fn translate(&self, alloc: Global, limits: &Limits, rules: Rules, octets: &[u8]) -> Translated;
 
     /// Feeds the pieces of a stream to a relay, up to its first fault, and ends the stream.
     fn relay(&self, alloc: Global, way: Way, pieces: &[&[u8]], out: &mut Vec<u8>) -> Relayed;
@@ -42,15 +47,8 @@ pub trait Judged {
 pub struct Of<T>(pub PhantomData<T>);
 
 impl<T: Encode + Decode> Judged for Of<T> {
-    fn translate(
-        &self,
-        alloc: Global,
-        limits: &Limits,
-        from: Codec,
-        to: Codec,
-        octets: &[u8],
-    ) -> Result<Vec<u8>, RecodeFault> {
-        translate_type::<T>(alloc, limits, from, to, octets)
+    fn translate(&self, alloc: Global, limits: &Limits, rules: Rules, octets: &[u8]) -> Translated {
+        translate_type::<T>(alloc, limits, rules, octets)
     }
 
     fn relay(&self, alloc: Global, way: Way, pieces: &[&[u8]], out: &mut Vec<u8>) -> Relayed {
@@ -62,51 +60,36 @@ impl<T: Encode + Decode> Judged for Of<T> {
     }
 }
 
-/// OBJECT IDENTIFIER, whose values may borrow for as long as the program lives.
-pub struct OfIdentifiers;
-
-impl Judged for OfIdentifiers {
-    fn translate(
-        &self,
-        alloc: Global,
-        limits: &Limits,
-        from: Codec,
-        to: Codec,
-        octets: &[u8],
-    ) -> Result<Vec<u8>, RecodeFault> {
-        translate_type::<ObjectIdentifier>(alloc, limits, from, to, octets)
-    }
-
-    fn relay(&self, alloc: Global, way: Way, pieces: &[&[u8]], out: &mut Vec<u8>) -> Relayed {
-        relay_type::<ObjectIdentifier>(alloc, way, pieces, out)
-    }
-
-    fn run(&self, alloc: Global, way: Way, octets: Vec<u8>) -> Ran {
-        run_type::<ObjectIdentifier>(alloc, way, octets)
-    }
+/// Types whose values may borrow for as long as the program lives, and that hold an array of octets.
+pub enum Special {
+    /// OBJECT IDENTIFIER.
+    Identifiers,
+    /// `Blocks`.
+    Blocks,
 }
 
-/// The type `Blocks`, which holds an array of octets.
-pub struct OfBlocks;
-
-impl Judged for OfBlocks {
-    fn translate(
-        &self,
-        alloc: Global,
-        limits: &Limits,
-        from: Codec,
-        to: Codec,
-        octets: &[u8],
-    ) -> Result<Vec<u8>, RecodeFault> {
-        translate_type::<Blocks>(alloc, limits, from, to, octets)
+impl Judged for Special {
+    fn translate(&self, alloc: Global, limits: &Limits, rules: Rules, octets: &[u8]) -> Translated {
+        match self {
+            Special::Identifiers => translate_type::<ObjectIdentifier>(
+                alloc, limits, rules, octets,
+            ),
+            Special::Blocks => translate_type::<Blocks>(alloc, limits, rules, octets),
+        }
     }
 
     fn relay(&self, alloc: Global, way: Way, pieces: &[&[u8]], out: &mut Vec<u8>) -> Relayed {
-        relay_type::<Blocks>(alloc, way, pieces, out)
+        match self {
+            Special::Identifiers => relay_type::<ObjectIdentifier>(alloc, way, pieces, out),
+            Special::Blocks => relay_type::<Blocks>(alloc, way, pieces, out),
+        }
     }
 
     fn run(&self, alloc: Global, way: Way, octets: Vec<u8>) -> Ran {
-        run_type::<Blocks>(alloc, way, octets)
+        match self {
+            Special::Identifiers => run_type::<ObjectIdentifier>(alloc, way, octets),
+            Special::Blocks => run_type::<Blocks>(alloc, way, octets),
+        }
     }
 }
 
@@ -114,15 +97,14 @@ impl Judged for OfBlocks {
 fn translate_type<T: Encode + Decode>(
     alloc: Global,
     limits: &Limits,
-    from: Codec,
-    to: Codec,
+    rules: Rules,
     octets: &[u8],
-) -> Result<Vec<u8>, RecodeFault> {
+) -> Translated {
     if limits.is_none() {
-        return recode::<T>(alloc, from, to, octets);
+        return recode::<T>(alloc, rules.from, rules.to, octets);
     }
-    let value: T = read(alloc, limits.constraints(), from, octets)?;
-    Ok(write(alloc, limits.constraints(), to, &value)?)
+    let value: T = read(alloc, limits.constraints(), rules.from, octets)?;
+    Ok(write(alloc, limits.constraints(), rules.to, &value)?)
 }
 
 /// Feeds the pieces of a stream of messages of a type to a relay.

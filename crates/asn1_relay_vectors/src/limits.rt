@@ -36,10 +36,7 @@ impl Limits {
         if text.is_empty() {
             return Ok(limits);
         }
-        let inner = text
-            .strip_prefix('(')
-            .and_then(|text| text.strip_suffix(')'))
-            .ok_or(LineError::Limits)?;
+        let inner = inside(text, "(", ")").ok_or(LineError::Limits)?;
         for part in inner.split(")(") {
             limits.push(alloc, part)?;
         }

@@ -31,50 +31,15 @@ pub enum LineError {
     /// No type has this name.
     #[error("there is no such type")]
     NoType,
-    /// What a translation gave is not what the line says.
-    #[error("{from:?} to {to:?} gives {found}")]
-    Translated {
-        /// The rules of the input.
-        from: Codec,
-        /// The rules of the output.
-        to: Codec,
-        /// What came of it.
-        found: String,
-    },
-    /// A beginning of an encoding, or of octets that are none, was read, or was refused for another reason.
-    #[error("{from:?} reads the first {length} octets: {found}")]
-    Cut {
-        /// The rules of the input.
-        from: Codec,
-        /// How many octets were read.
-        length: usize,
-        /// What came of it.
-        found: String,
-    },
-    /// What came of a stream is not what the line says.
-    #[error("a stream from {from:?} to {to:?}: {found}")]
-    Streamed {
-        /// The rules of the input.
-        from: Codec,
-        /// The rules of the output.
-        to: Codec,
-        /// What came of it.
-        found: String,
-    },
+    /// What came of octets, of a stream or of a route is not what the line says.
+    #[error("{0}")]
+    Otherwise(String),
     /// No pair of versions has this name.
     #[error("there is no such pair of versions")]
     NoPair,
     /// Of a pair of versions there are no values to send.
     #[error("there are no samples of this pair of versions")]
     NoSample,
-    /// What came of a message on a route is not what the line says, or what its value foretells.
-    #[error("{route} gives {found}")]
-    Routed {
-        /// The message and its hops.
-        route: String,
-        /// What came of it.
-        found: String,
-    },
     /// No memory was left.
     #[error("out of memory")]
     Memory,

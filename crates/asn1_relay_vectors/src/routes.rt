@@ -5,7 +5,7 @@ mod pairs;
 
 use crate::line::{LineError, READING_ERRORS, Spelled, WRITING_ERRORS, named, read_rules};
 use crate::octets::{push_octets, shown};
-use crate::routes::foretold::Versions;
+use crate::routes::foretold::{Arrival, Versions, Way};
 use asn1_relay_core::{Codec, Hop, RouteFault, RouteFaultKind, Version};
 use std::alloc::{AllocError, Global};
 use std::fmt::Write;
@@ -14,7 +14,7 @@ use std::fmt::Write;
 #[derive(Drop)]
 pub enum Claim {
     /// A message that goes by these hops arrives as these octets, or is refused.
-    One(Spelled, Vec<Hop>, Result<Vec<u8>, RouteFault>),
+    One(Spelled, Vec<Hop>, Arrival),
     /// Messages go by every short list of hops as their values foretell.
     Every,
 }
@@ -41,14 +41,15 @@ fn judge_one(alloc: Global, text: &str) -> Result<(), LineError> {
 ///
 /// # Errors
 ///
-/// `Routed` where the library does not do what is said, `Form` where a route has no hop, and `Memory` for want of
+/// `Otherwise` where the library does not do what is said, `Form` where a route has no hop, and `Memory` for want of
 /// memory.
 fn judge(alloc: Global, of: &dyn Versions, claim: &Claim) -> Result<(), LineError> {
     match claim {
         Claim::One(source, hops, arrival) => {
+            let hops = hops.as_slice();
             for from in source.rules.iter() {
-                let octets = source.octets.as_slice();
-                arrives(alloc, of, *from, octets, hops.as_slice(), arrival)?;
+                let way = Way { from: *from, hops };
+                arrives(alloc, of, way, source.octets.as_slice(), arrival)?;
             }
             Ok(())
         }
@@ -60,12 +61,11 @@ fn judge(alloc: Global, of: &dyn Versions, claim: &Claim) -> Result<(), LineErro
 fn arrives(
     alloc: Global,
     of: &dyn Versions,
-    from: Codec,
+    way: Way<'_>,
     octets: &[u8],
-    hops: &[Hop],
-    wanted: &Result<Vec<u8>, RouteFault>,
+    wanted: &Arrival,
 ) -> Result<(), LineError> {
-    let found = of.send(alloc, hops, from, octets).ok_or(LineError::Form)?;
+    let found = of.send(alloc, way, octets).ok_or(LineError::Form)?;
     let is_wanted = match (&found, wanted) {
         (Ok(found), Ok(wanted)) => found.as_slice() == wanted.as_slice(),
         (Err(found), Err(wanted)) => *found == *wanted,
@@ -78,20 +78,16 @@ fn arrives(
         Ok(octets) => shown(alloc, octets.as_slice())?,
         Err(fault) => format!(in alloc; "{fault:?}")?,
     };
-    let route = route_shown(alloc, from, octets, hops)?;
-    Err(LineError::Routed { route, found })
+    let route = route_shown(alloc, way, octets)?;
+    let found = format!(in alloc; "{route} gives {found}")?;
+    Err(LineError::Otherwise(found))
 }
 
 /// A message and its route, in the form of a line.
-fn route_shown(
-    alloc: Global,
-    from: Codec,
-    octets: &[u8],
-    hops: &[Hop],
-) -> Result<String, LineError> {
+fn route_shown(alloc: Global, way: Way<'_>, octets: &[u8]) -> Result<String, LineError> {
     let octets = shown(alloc, octets)?;
-    let mut text = format!(in alloc; "{from:?} {octets}")?;
-    for hop in hops {
+    let mut text = format!(in alloc; "{:?} {octets}", way.from)?;
+    for hop in way.hops {
         write!(text, " {:?}:{:?}", hop.version, hop.to)?;
     }
     Ok(text)
@@ -130,7 +126,7 @@ fn read_hop(alloc: Global, version: &str, to: &str) -> Result<Hop, LineError> {
 }
 
 /// Reads what arrives, or where a message is refused and why.
-fn read_arrival(alloc: Global, text: &str) -> Result<Result<Vec<u8>, RouteFault>, LineError> {
+fn read_arrival(alloc: Global, text: &str) -> Result<Arrival, LineError> {
     if let Some(fault) = text.strip_prefix("hop ") {
         return Ok(Err(read_fault(alloc, fault)?));
     }

@@ -91,10 +91,13 @@ impl Cutting {
     }
 }
 
-/// What a stream is to become.
+/// A stream, how it is translated, and what it is to become.
 #[derive(Clone, Copy)]
-struct Wanted<'a> {
+struct Stream<'a> {
+    alloc: Global,
+    way: Way,
     octets: &'a [u8],
+    wanted: &'a [u8],
     answer: Result<(), RelayFault>,
 }
 
@@ -102,7 +105,7 @@ struct Wanted<'a> {
 ///
 /// # Errors
 ///
-/// `Streamed` where the library does not do what is said, and `Memory` for want of memory.
+/// `Otherwise` where the library does not do what is said, and `Memory` for want of memory.
 pub fn judge_stream(
     alloc: Global,
     of: &dyn Judged,
@@ -111,27 +114,28 @@ pub fn judge_stream(
     target: &Spelled,
     answer: Result<(), RelayFault>,
 ) -> Result<(), LineError> {
-    let octets = source.octets.as_slice();
-    let wanted = Wanted {
-        octets: target.octets.as_slice(),
-        answer,
-    };
     for from in source.rules.iter() {
         for to in target.rules.iter() {
-            let way = Way {
-                from: *from,
-                to: *to,
-                limit,
+            let stream = Stream {
+                alloc,
+                way: Way {
+                    from: *from,
+                    to: *to,
+                    limit,
+                },
+                octets: source.octets.as_slice(),
+                wanted: target.octets.as_slice(),
+                answer,
             };
-            relays_by_all_cuttings(alloc, of, way, octets, wanted)?;
-            runs(alloc, of, way, octets, wanted)?;
+            stream.relays_by_all_cuttings(of)?;
+            stream.runs(of)?;
         }
     }
     Ok(())
 }
 
-/// An encoding twice over becomes its translation twice over, wherever it is cut. Where a message may have an octet
-/// less, none is in front.
+/// An encoding twice over becomes its translation twice over, in each set of rules that is named and wherever it is
+/// cut. Where a message may have an octet less, none is in front.
 ///
 /// # Errors
 ///
@@ -139,42 +143,40 @@ pub fn judge_stream(
 pub fn judge_repeated(
     alloc: Global,
     of: &dyn Judged,
-    from: Codec,
-    octets: &[u8],
-    to: Codec,
-    target: &[u8],
+    source: &Spelled,
+    target: &Spelled,
 ) -> Result<(), LineError> {
-    let Some(limit) = Limit::new(octets.len()) else {
+    let Some(limit) = Limit::new(source.octets.len()) else {
         return Ok(());
     };
-    let way = Way { from, to, limit };
-    let octets = twice(alloc, octets)?;
-    let target = twice(alloc, target)?;
-    let wanted = Wanted {
-        octets: target.as_slice(),
-        answer: if target.is_empty() {
-            stops(0, RelayFaultKind::EmptyMessage)
-        } else {
-            Ok(())
-        },
-    };
-    relays_by_single_cuttings(alloc, of, way, octets.as_slice(), wanted)?;
-    runs(alloc, of, way, octets.as_slice(), wanted)?;
-    let Some(limit) = Limit::new(limit.octets - 1) else {
-        return Ok(());
-    };
-    let way = Way { from, to, limit };
-    let wanted = Wanted {
-        octets: &[],
-        answer: stops(0, RelayFaultKind::NoneWithinLimit),
-    };
-    relays(alloc, of, way, octets.as_slice(), Cutting::At(0), wanted)?;
-    runs(alloc, of, way, octets.as_slice(), wanted)
+    let octets = twice(alloc, source.octets.as_slice())?;
+    let wanted = twice(alloc, target.octets.as_slice())?;
+    for from in source.rules.iter() {
+        for to in target.rules.iter() {
+            let stream = Stream {
+                alloc,
+                way: Way {
+                    from: *from,
+                    to: *to,
+                    limit,
+                },
+                octets: octets.as_slice(),
+                wanted: wanted.as_slice(),
+                answer: if wanted.is_empty() {
+                    stops(RelayFaultKind::EmptyMessage)
+                } else {
+                    Ok(())
+                },
+            };
+            stream.is_repeated(of)?;
+        }
+    }
+    Ok(())
 }
 
-/// A stream that stops at a message.
-fn stops(number: u64, kind: RelayFaultKind) -> Result<(), RelayFault> {
-    Err(RelayFault { number, kind })
+/// A stream that stops at its first message.
+fn stops(kind: RelayFaultKind) -> Result<(), RelayFault> {
+    Err(RelayFault { number: 0, kind })
 }
 
 /// Octets, and once more behind them.
@@ -184,88 +186,81 @@ fn twice(alloc: Global, octets: &[u8]) -> Result<Vec<u8>, LineError> {
     Ok(both)
 }
 
-/// A stream becomes what is wanted, in every cutting if it is short.
-fn relays_by_all_cuttings(
-    alloc: Global,
-    of: &dyn Judged,
-    way: Way,
-    octets: &[u8],
-    wanted: Wanted<'_>,
-) -> Result<(), LineError> {
-    if octets.len() > ALL_CUTTINGS {
-        return relays_by_single_cuttings(alloc, of, way, octets, wanted);
+impl<'a> Stream<'a> {
+    /// A stream of one message twice over becomes what is wanted; where this may have an octet less, none is in front.
+    fn is_repeated(&self, of: &dyn Judged) -> Result<(), LineError> {
+        self.relays_by_single_cuttings(of)?;
+        self.runs(of)?;
+        let Some(limit) = Limit::new(self.way.limit.octets - 1) else {
+            return Ok(());
+        };
+        let less = Stream {
+            way: Way { limit, ..self.way },
+            wanted: &[],
+            answer: stops(RelayFaultKind::NoneWithinLimit),
+            ..*self
+        };
+        less.relays(of, Cutting::At(0))?;
+        less.runs(of)
     }
-    for places in 0..1 << octets.len().saturating_sub(1) {
-        relays(alloc, of, way, octets, Cutting::Behind(places), wanted)?;
-    }
-    Ok(())
-}
 
-/// A stream becomes what is wanted, as a whole, cut at one place, and octet by octet.
-fn relays_by_single_cuttings(
-    alloc: Global,
-    of: &dyn Judged,
-    way: Way,
-    octets: &[u8],
-    wanted: Wanted<'_>,
-) -> Result<(), LineError> {
-    let count = octets.len();
-    if count <= LONG {
-        relays(alloc, of, way, octets, Cutting::Each, wanted)?;
-    }
-    for place in 0..count {
-        let is_near = place <= 1 || count - place == 1 || place.abs_diff(count / 2) <= 1;
-        if count <= LONG || is_near {
-            relays(alloc, of, way, octets, Cutting::At(place), wanted)?;
+    /// A stream becomes what is wanted, in every cutting if it is short.
+    fn relays_by_all_cuttings(&self, of: &dyn Judged) -> Result<(), LineError> {
+        if self.octets.len() > ALL_CUTTINGS {
+            return self.relays_by_single_cuttings(of);
         }
+        for places in 0..1 << self.octets.len().saturating_sub(1) {
+            self.relays(of, Cutting::Behind(places))?;
+        }
+        Ok(())
     }
-    Ok(())
-}
 
-/// A relay that is fed the pieces of a stream, behind a piece of no octets, gives what is wanted.
-fn relays(
-    alloc: Global,
-    of: &dyn Judged,
-    way: Way,
-    octets: &[u8],
-    cutting: Cutting,
-    wanted: Wanted<'_>,
-) -> Result<(), LineError> {
-    let pieces = pieces(alloc, octets, cutting)?;
-    let mut out = Vec::new(alloc);
-    let found = of.relay(alloc, way, pieces.as_slice(), &mut out);
-    if out.as_slice() == wanted.octets && found.answer == wanted.answer && found.is_lasting() {
-        return Ok(());
+    /// A stream becomes what is wanted, as a whole, cut at one place, and octet by octet.
+    fn relays_by_single_cuttings(&self, of: &dyn Judged) -> Result<(), LineError> {
+        let count = self.octets.len();
+        if count <= LONG {
+            self.relays(of, Cutting::Each)?;
+        }
+        for place in 0..count {
+            let is_near = place <= 1 || count - place == 1 || place.abs_diff(count / 2) <= 1;
+            if count <= LONG || is_near {
+                self.relays(of, Cutting::At(place))?;
+            }
+        }
+        Ok(())
     }
-    let found = format!(in alloc;
-        "{cutting:?} gives {}; {found:?}",
-        shown(alloc, out.as_slice())?
-    )?;
-    Err(streamed(way, found))
-}
 
-/// A run from memory to memory gives what is wanted.
-fn runs(
-    alloc: Global,
-    of: &dyn Judged,
-    way: Way,
-    octets: &[u8],
-    wanted: Wanted<'_>,
-) -> Result<(), LineError> {
-    let (found, sink) = of.run(alloc, way, Vec::from_slice(alloc, octets)?);
-    if sink.octets() == wanted.octets && found == wanted.answer.map_err(RunFault::Relay) {
-        return Ok(());
+    /// A relay that is fed the pieces of a stream, behind a piece of no octets, gives what is wanted.
+    fn relays(&self, of: &dyn Judged, cutting: Cutting) -> Result<(), LineError> {
+        let pieces = pieces(self.alloc, self.octets, cutting)?;
+        let mut out = Vec::new(self.alloc);
+        let found = of.relay(self.alloc, self.way, pieces.as_slice(), &mut out);
+        if out.as_slice() == self.wanted && found.answer == self.answer && found.is_lasting() {
+            return Ok(());
+        }
+        let octets = shown(self.alloc, out.as_slice())?;
+        Err(self.streamed(format!(in self.alloc; "{cutting:?} gives {octets}; {found:?}")?)?)
     }
-    let found = format!(in alloc; "a run gives {}; {found:?}", shown(alloc, sink.octets())?)?;
-    Err(streamed(way, found))
-}
 
-/// The error that tells what came of a stream.
-fn streamed(way: Way, found: String) -> LineError {
-    LineError::Streamed {
-        from: way.from,
-        to: way.to,
-        found,
+    /// A run from memory to memory gives what is wanted.
+    fn runs(&self, of: &dyn Judged) -> Result<(), LineError> {
+        let (found, sink) = of.run(
+            self.alloc,
+            self.way,
+            Vec::from_slice(self.alloc, self.octets)?,
+        );
+        if sink.octets() == self.wanted && found == self.answer.map_err(RunFault::Relay) {
+            return Ok(());
+        }
+        let octets = shown(self.alloc, sink.octets())?;
+        Err(self.streamed(format!(in self.alloc; "a run gives {octets}; {found:?}")?)?)
+    }
+
+    /// The error that tells what came of a stream.
+    fn streamed(&self, found: String) -> Result<LineError, LineError> {
+        let Way { from, to, .. } = self.way;
+        let found = format!(in self.alloc; "a stream from {from:?} to {to:?}: {found}")?;
+        Ok(LineError::Otherwise(found))
     }
 }
 

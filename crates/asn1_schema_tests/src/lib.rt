@@ -1,30 +1,18 @@
-//! Tests of the schema by the names of its face: rows, what is shown, and each implementation that is generic, called
-//! once at a concrete type through its bound; with a type whose components have tags of their own, and a constraint of
-//! a component's own.
+//! Tests of the schema by the names of its face: values as records and back, and each implementation that is generic,
+//! called once at a concrete type through its bound; with a type whose components have tags of their own, and a
+//! constraint of a component's own.
 #![tactic(auto)]
 
-#[cfg(test)]
-mod bags;
 #[cfg(test)]
 mod colour;
 #[cfg(test)]
 mod common;
 #[cfg(test)]
-mod constraints;
-#[cfg(test)]
-mod meanings;
-#[cfg(test)]
 mod named;
 #[cfg(test)]
 mod pair;
 #[cfg(test)]
-mod places;
-#[cfg(test)]
 mod records;
-#[cfg(test)]
-mod tables;
-#[cfg(test)]
-mod tags;
 #[cfg(test)]
 mod up_to_ten;
 #[cfg(test)]

@@ -185,11 +185,19 @@ fn is_any<D: DecodeNamed>(
 }
 
 /// Whether these are read as they are written.
-fn is_any_kept(alloc: Global) -> Result<bool, DecodeError> {
+fn is_read_as_written(alloc: Global, any: &Any) -> Result<bool, DecodeError> {
     let tag = Tag::new_context(0);
-    let any = Any::new(Vec::from_array(alloc, [5, 0])?);
     let mut kept = encoder(alloc);
-    Ok(write_any(&mut kept, &any, tag) == Ok(()) && is_any(alloc, &mut decoder(kept), &any, tag)?)
+    if write_any(&mut kept, any, tag) != Ok(()) {
+        return Ok(false);
+    }
+    is_any(alloc, &mut decoder(kept), any, tag)
+}
+
+/// Whether some octets are read as they are written.
+fn is_any_kept(alloc: Global) -> Result<bool, DecodeError> {
+    let any = Any::new(Vec::from_array(alloc, [5, 0])?);
+    is_read_as_written(alloc, &any)
 }
 
 /// Hands components that may be absent to an encoder: 1, 2, none and 4.
@@ -220,8 +228,10 @@ fn optional<D: DecodeSequence>(
 fn are_optional_kept(alloc: Global) -> bool {
     let tag = Tag::new_context(1);
     let mut kept = encoder(alloc);
-    write_optional(&mut kept, tag) == Ok(())
-        && optional(alloc, &mut decoder(kept), tag) == Ok([Some(1), Some(2), None, Some(4)])
+    if write_optional(&mut kept, tag) != Ok(()) {
+        return false;
+    }
+    optional(alloc, &mut decoder(kept), tag) == Ok([Some(1), Some(2), None, Some(4)])
 }
 
 /// The default 0.
@@ -270,13 +280,14 @@ fn are_defaults<D: DecodeSequence>(
     Ok(is_first && is_second && third == *second)
 }
 
-/// Whether 0 and 5 are read from such components as they are written.
-fn are_defaults_kept(alloc: Global) -> bool {
+/// Whether two numbers are read from such components as they are written.
+fn are_defaults_kept(alloc: Global, first: &Integer, second: &Integer) -> bool {
     let tag = Tag::new_context(1);
-    let (zero, five) = (Integer::zero(), Integer::from(5_i64));
     let mut kept = encoder(alloc);
-    write_defaults(&mut kept, tag, (&zero, &five)) == Ok(())
-        && are_defaults(alloc, &mut decoder(kept), tag, (&zero, &five)) == Ok(true)
+    if write_defaults(&mut kept, tag, (first, second)) != Ok(()) {
+        return false;
+    }
+    are_defaults(alloc, &mut decoder(kept), tag, (first, second)) == Ok(true)
 }
 
 /// Puts the items of a default that is spelled out, with or without a note behind it.
@@ -306,11 +317,20 @@ fn spelled_out(alloc: Global, is_noted: bool) -> Result<Integer, DecodeError> {
     with_default(alloc, &mut RecordDecoder::new(items, CodecKind::Uper))
 }
 
+/// Whether 0 and 5 are read so.
+fn are_zero_and_five_kept(alloc: Global) -> bool {
+    are_defaults_kept(alloc, &Integer::zero(), &Integer::from(5_i64))
+}
+
+/// Whether a default that is spelled out is read with a note behind it, and ends early without.
+fn is_noted(alloc: Global) -> bool {
+    spelled_out(alloc, true) == Ok(Integer::zero())
+        && spelled_out(alloc, false) == Err(DecodeError::Incomplete)
+}
+
 #[test]
 fn calls_by_names(rt: HostRuntime) {
     let alloc = rt.alloc();
     assert!(rt; matches!(are_strings(alloc), Ok(true)) && is_any_kept(alloc) == Ok(true));
-    assert!(rt; are_optional_kept(alloc) && are_defaults_kept(alloc));
-    assert!(rt; spelled_out(alloc, true) == Ok(Integer::zero()));
-    assert!(rt; spelled_out(alloc, false) == Err(DecodeError::Incomplete));
+    assert!(rt; are_optional_kept(alloc) && are_zero_and_five_kept(alloc) && is_noted(alloc));
 }

@@ -98,14 +98,18 @@ fn are_plain(alloc: Global) -> bool {
         && is_refused::<u16, u8>(alloc, &7, DecodeError::ValueConstraintNotSatisfied)
 }
 
+/// Whether 3 is a number from -5 to 5, and is written as one.
+fn is_three_small(alloc: Global) -> bool {
+    match Small::try_from(3_i32) {
+        Ok(value) => is_small(alloc, &value),
+        Err(_) => false,
+    }
+}
+
 #[test]
 fn numbers_and_markers(rt: HostRuntime) {
     let alloc = rt.alloc();
-    assert!(rt; are_native_numbers(alloc));
-    match Small::try_from(3_i32) {
-        Ok(value) => assert!(rt; is_small(alloc, &value)),
-        Err(_) => assert!(rt; false),
-    }
+    assert!(rt; are_native_numbers(alloc) && is_three_small(alloc));
     assert!(rt; is_up_to_ten(alloc) && are_plain(alloc));
 }
 
@@ -132,57 +136,98 @@ const PAIRED: [Wanted; 7] = [
 
 const SEVEN: [Wanted; 1] = [Wanted::Integer(Some(0), Some(255), 7)];
 
-/// Whether lists are written and read back, held and lent, and an array as none of another size.
-fn are_lists(alloc: Global, list: &Vec<u8>) -> bool {
-    let numbers: [u8; 2] = [3, 5];
-    let lent: CowSlice<u8, Global> = CowSlice::Borrowed(&[3, 5]);
+/// Whether a list of 3 and 5 is written and read back, held and lent.
+fn is_list(alloc: Global, list: &Vec<u8>, lent: &CowSlice<u8, Global>) -> bool {
     is_kept(alloc, list, &LISTED)
-        && is_kept(alloc, &numbers, &PAIRED)
+        && is_written(alloc, lent, &LISTED)
+        && is_read_back_as(alloc, list, lent)
+}
+
+/// Whether lists that are held and lent are written and read back.
+fn are_lists(alloc: Global) -> Result<bool, AllocError> {
+    let list = Vec::from_array(alloc, [3, 5])?;
+    Ok(is_list(alloc, &list, &CowSlice::Borrowed(&[3, 5])))
+}
+
+/// Whether an array is written as itself and as a list, and read back as none of another size.
+fn is_array(alloc: Global, numbers: [u8; 2]) -> bool {
+    is_kept(alloc, &numbers, &PAIRED)
         && is_written(alloc, &numbers.as_slice(), &LISTED)
-        && is_written(alloc, &lent, &LISTED)
-        && is_read_back_as(alloc, list, &lent)
         && is_refused::<[u8; 2], [u8; 3]>(alloc, &numbers, DecodeError::SizeConstraintNotSatisfied)
 }
 
-/// Whether values that are lent are written as those that are held, and read as held ones.
-fn are_lent(alloc: Global) -> bool {
-    let number: u8 = 7;
-    let read: Result<Cow<u8>, DecodeError> = read_back(alloc, &number);
-    let lent: CowStr<Global> = CowStr::Borrowed("é");
-    is_written(alloc, &&number, &SEVEN)
-        && is_written(alloc, &Cow::Borrowed(&number), &SEVEN)
-        && is_written(alloc, &Cow::Owned(number), &SEVEN)
-        && matches!(read, Ok(Cow::Owned(7)))
-        && is_written(alloc, &"é", &[Wanted::Text("é")])
-        && is_written(alloc, &lent, &[Wanted::Text("é")])
+/// Whether a number is read back as one that is held.
+fn is_read_as_held(alloc: Global, number: u8) -> bool {
+    match read_back::<u8, Cow<u8>>(alloc, &number) {
+        Ok(Cow::Owned(read)) => read == number,
+        _ => false,
+    }
 }
 
-/// Whether texts are written, and read back as one that is owned and as one that may be lent.
-fn are_texts(alloc: Global) -> Result<bool, DecodeError> {
+/// Whether 7 is written as it is held, also where it is lent.
+fn is_seven_lent(alloc: Global, seven: &u8) -> bool {
+    is_written(alloc, &seven, &SEVEN)
+        && is_written(alloc, &Cow::Borrowed(seven), &SEVEN)
+        && is_written(alloc, &Cow::Owned(*seven), &SEVEN)
+        && is_read_as_held(alloc, *seven)
+}
+
+/// The record of a text.
+const TEXT: [Wanted; 1] = [Wanted::Text("é")];
+
+/// Whether a text that is held is written.
+fn is_held_text(alloc: Global) -> Result<bool, AllocError> {
     let held = String::from_str(alloc, "é")?;
-    let owned: String = read_back(alloc, &"é")?;
-    let lent: CowStr<Global> = read_back(alloc, &"é")?;
-    Ok(
-        is_written(alloc, &held, &[Wanted::Text("é")])
-            && owned.as_str() == "é"
-            && lent.as_str() == "é",
-    )
+    Ok(is_written(alloc, &held, &TEXT))
 }
 
-/// Whether values under tags, and one in a box, are written and read as they are without.
-fn are_tagged(alloc: Global) -> Result<bool, AllocError> {
-    let tagged: Implicit<tag::Context<1>, u8> = Implicit::new(7);
-    let explicit: Explicit<tag::Private<2>, u8> = Explicit::new(7);
+/// Whether texts that are lent are written.
+fn are_lent_texts(alloc: Global) -> bool {
+    is_written(alloc, &"é", &TEXT)
+        && is_written::<CowStr<Global>>(alloc, &CowStr::Borrowed("é"), &TEXT)
+}
+
+/// Whether a text is read back as one that is owned.
+fn is_owned_text(alloc: Global) -> Result<bool, DecodeError> {
+    let owned: String = read_back(alloc, &"é")?;
+    Ok(owned.as_str() == "é")
+}
+
+/// Whether a text is read back as one that may be lent.
+fn is_text(alloc: Global) -> Result<bool, DecodeError> {
+    let lent: CowStr<Global> = read_back(alloc, &"é")?;
+    Ok(lent.as_str() == "é")
+}
+
+/// Whether texts are written, and read back.
+fn are_texts(alloc: Global) -> Result<bool, DecodeError> {
+    let are_written = is_held_text(alloc)? && are_lent_texts(alloc);
+    Ok(are_written && is_owned_text(alloc)? && is_text(alloc)?)
+}
+
+type Tagged = Implicit<tag::Context<1>, u8>;
+
+type Around = Explicit<tag::Private<2>, u8>;
+
+/// Whether 7 under a tag, and with a tag around it, is written and read as it is without.
+fn are_tagged(alloc: Global, tagged: &Tagged, explicit: &Around) -> bool {
+    is_kept(alloc, tagged, &SEVEN)
+        && is_kept(alloc, explicit, &SEVEN)
+        && is_read_back_as(alloc, &7_u8, tagged)
+        && is_read_back_as(alloc, &7_u8, explicit)
+        && <Tagged as AsnType>::TAG == Tag::new_context(1)
+        && <Around as AsnType>::TAG == Tag::new_private(2)
+}
+
+/// Whether 7 is written and read so.
+fn is_seven_tagged(alloc: Global) -> bool {
+    are_tagged(alloc, &Implicit::new(7), &Explicit::new(7))
+}
+
+/// Whether a number in a box is read as it is without.
+fn is_boxed(alloc: Global) -> Result<bool, AllocError> {
     let boxed = Box::new(alloc, 7_u8)?;
-    Ok(
-        is_kept(alloc, &tagged, &SEVEN)
-            && is_kept(alloc, &explicit, &SEVEN)
-            && is_read_back_as(alloc, &7_u8, &tagged)
-            && is_read_back_as(alloc, &7_u8, &explicit)
-            && is_read_back_as(alloc, &7_u8, &boxed)
-            && <Implicit<tag::Context<1>, u8> as AsnType>::TAG == Tag::new_context(1)
-            && <Explicit<tag::Private<2>, u8> as AsnType>::TAG == Tag::new_private(2),
-    )
+    Ok(is_read_back_as(alloc, &7_u8, &boxed))
 }
 
 /// The records of a sequence of 3 and 5.
@@ -193,21 +238,13 @@ const SEQUENCE: [Wanted; 4] = [
     Wanted::Ends,
 ];
 
-/// Whether lists, texts and values around others are written and read back.
-fn are_around(alloc: Global) -> Result<bool, DecodeError> {
-    let list = Vec::from_array(alloc, [3, 5])?;
-    Ok(
-        are_lists(alloc, &list)
-            && are_lent(alloc)
-            && are_texts(alloc)?
-            && are_tagged(alloc)?
-            && is_kept(alloc, &Pair { a: 3, b: 5 }, &SEQUENCE),
-    )
-}
-
 #[test]
 fn lists_texts_and_values_around_others(rt: HostRuntime) {
-    assert!(rt; are_around(rt.alloc()) == Ok(true));
+    let alloc = rt.alloc();
+    assert!(rt; are_lists(alloc) == Ok(true) && is_array(alloc, [3, 5]));
+    assert!(rt; is_seven_lent(alloc, &7) && are_texts(alloc) == Ok(true));
+    assert!(rt; is_seven_tagged(alloc) && is_boxed(alloc) == Ok(true));
+    assert!(rt; is_kept(alloc, &Pair { a: 3, b: 5 }, &SEQUENCE));
 }
 
 /// Whether strings of so many octets and bits are written and read back.
@@ -218,22 +255,31 @@ fn are_strings(alloc: Global) -> bool {
         && is_kept(alloc, &three, &[Wanted::Octets(&[1, 2, 3])])
 }
 
-/// Whether identifiers, values of any type and those with the identifier of their type are read back.
-fn are_open(alloc: Global) -> Result<bool, AllocError> {
-    let arcs = [1, 2, 840];
-    let any = Any::new(Vec::from_array(alloc, [2, 1, 0])?);
+/// Whether an identifier whose arcs are lent is read back.
+fn is_lent_identifier(alloc: Global) -> bool {
     let identifier = ObjectIdentifier::new_unchecked(CowSlice::Borrowed(&[1, 2, 3321]));
-    let other = ObjectIdentifier::from_oid(alloc, &Oid::new_unchecked(&arcs))?;
+    is_kept(alloc, &identifier, &[Wanted::Identifier(&[1, 2, 3321])])
+}
+
+/// Whether an identifier whose arcs are held is read back.
+fn is_held_identifier(alloc: Global) -> Result<bool, AllocError> {
+    let identifier = ObjectIdentifier::from_oid(alloc, &Oid::new_unchecked(&[1, 2, 840]))?;
+    Ok(is_kept(alloc, &identifier, &[Wanted::Identifier(&[1, 2, 840])]))
+}
+
+/// Whether a value of any type is read back.
+fn is_any(alloc: Global) -> Result<bool, AllocError> {
+    let any = Any::new(Vec::from_array(alloc, [2, 1, 0])?);
+    Ok(is_read_back_as::<Any, Any>(alloc, &any, &any))
+}
+
+/// Whether a value with the identifier of its type is read back.
+fn is_instance(alloc: Global) -> bool {
     let instance = InstanceOf {
         type_id: ObjectIdentifier::new_unchecked(CowSlice::Borrowed(&[1, 2, 3321])),
         value: 7_u8,
     };
-    Ok(
-        is_kept(alloc, &identifier, &[Wanted::Identifier(&[1, 2, 3321])])
-            && is_kept(alloc, &other, &[Wanted::Identifier(&[1, 2, 840])])
-            && is_read_back_as::<Any, Any>(alloc, &any, &any)
-            && is_read_back_as::<InstanceOf<u8>, InstanceOf<u8>>(alloc, &instance, &instance),
-    )
+    is_read_back_as::<InstanceOf<u8>, InstanceOf<u8>>(alloc, &instance, &instance)
 }
 
 /// Whether a string of characters outside another type's alphabet is not read as one of that type.
@@ -251,8 +297,9 @@ fn are_characters_refused(alloc: Global) -> bool {
 #[test]
 fn strings_and_open_values(rt: HostRuntime) {
     let alloc = rt.alloc();
-    assert!(rt; are_strings(alloc) && are_open(alloc) == Ok(true));
-    assert!(rt; are_characters_refused(alloc));
+    assert!(rt; are_strings(alloc) && are_characters_refused(alloc));
+    assert!(rt; is_lent_identifier(alloc) && is_held_identifier(alloc) == Ok(true));
+    assert!(rt; is_any(alloc) == Ok(true) && is_instance(alloc));
 }
 
 /// What a decoder finds as a number of one octet under no constraints, and then by its type.
@@ -293,17 +340,25 @@ fn write_chain<E: Encoder>(alloc: Global, encoder: &mut E) -> Result<(), EncodeE
     write(encoder, &chain)
 }
 
+/// Whether a chain begins with this number.
+fn begins_with(chain: &Chain, number: i64) -> bool {
+    chain.value == Integer::from(number)
+}
+
+/// Whether a chain is one of 1 and 2.
+fn is_of_two(chain: &Chain) -> bool {
+    match &chain.next {
+        Some(following) => {
+            begins_with(chain, 1) && begins_with(following, 2) && following.next.is_none()
+        }
+        None => false,
+    }
+}
+
 /// Whether a decoder finds a chain of 1 and 2.
 fn is_chain<D: Decoder>(alloc: Global, decoder: &mut D) -> Result<bool, DecodeError> {
     let chain: Chain = found(alloc, decoder)?;
-    let Some(following) = &chain.next else {
-        return Ok(false);
-    };
-    Ok(
-        chain.value == Integer::from(1_i64)
-            && following.value == Integer::from(2_i64)
-            && following.next.is_none(),
-    )
+    Ok(is_of_two(&chain))
 }
 
 /// Whether a chain of 1 and 2 is read back within so many levels.

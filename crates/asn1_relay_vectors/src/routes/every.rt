@@ -2,7 +2,7 @@
 use crate::judging::CODECS;
 use crate::line::LineError;
 use crate::routes::arrives;
-use crate::routes::foretold::Versions;
+use crate::routes::foretold::{Versions, Way};
 use asn1_relay_core::{Hop, Version};
 use std::alloc::{AllocError, Global};
 
@@ -12,6 +12,9 @@ const SAMPLES: usize = 4;
 /// How many hops a list has, and how many such lists there are.
 const LISTS: [(usize, usize); 3] = [(1, 8), (2, 64), (3, 512)];
 
+/// The versions that a hop may know.
+const VERSIONS: [Version; 2] = [Version::Old, Version::New];
+
 /// How many hops there are: one for each version and each set of rules.
 const KINDS: usize = 8;
 
@@ -19,11 +22,11 @@ const KINDS: usize = 8;
 ///
 /// # Errors
 ///
-/// `Routed` where they do not, `NoSample` where the pair has none, and `Memory` for want of memory.
+/// `Otherwise` where they do not, `NoSample` where the pair has none, and `Memory` for want of memory.
 pub fn judge_every(alloc: Global, of: &dyn Versions) -> Result<(), LineError> {
     for place in 0..SAMPLES {
         for from in CODECS {
-            let Some(sent) = of.foretell(alloc, place, from, &[]) else {
+            let Some(sent) = of.foretell(alloc, place, Way { from, hops: &[] }) else {
                 return if place == 0 {
                     Err(LineError::NoSample)
                 } else {
@@ -35,10 +38,9 @@ pub fn judge_every(alloc: Global, of: &dyn Versions) -> Result<(), LineError> {
                 for number in 0..lists {
                     let hops = hops_of(alloc, count, number)?;
                     let hops = hops.as_slice();
-                    let wanted = of
-                        .foretell(alloc, place, from, hops)
-                        .ok_or(LineError::Form)?;
-                    arrives(alloc, of, from, octets.as_slice(), hops, &wanted)?;
+                    let way = Way { from, hops };
+                    let wanted = of.foretell(alloc, place, way).ok_or(LineError::Form)?;
+                    arrives(alloc, of, way, octets.as_slice(), &wanted)?;
                 }
             }
         }
@@ -51,13 +53,8 @@ fn hops_of(alloc: Global, count: usize, number: usize) -> Result<Vec<Hop>, LineE
     let mut hops = Vec::new(alloc);
     let mut rest = number;
     for _ in 0..count {
-        let version = if rest / CODECS.len() % 2 == 0 {
-            Version::Old
-        } else {
-            Version::New
-        };
         let hop = Hop {
-            version,
+            version: VERSIONS[rest / CODECS.len() % VERSIONS.len()],
             to: CODECS[rest % CODECS.len()],
         };
         hops.push(hop).map_err(AllocError::from)?;

@@ -30,76 +30,52 @@ pub trait Grown<Old>: Sized {
     fn clashes(&self) -> bool;
 }
 
+/// By which hops a message is sent, and the rules that it is in before the first of them.
+#[derive(Clone, Copy)]
+pub struct Way<'a> {
+    /// The rules of the message.
+    pub from: Codec,
+    /// The hops.
+    pub hops: &'a [Hop],
+}
+
+/// What came of a message.
+pub type Arrival = Result<Vec<u8>, RouteFault>;
+
 /// A pair of versions.
 pub trait Versions {
     /// Sends octets by hops; none if there is no hop.
-    fn send(
-        &self,
-        alloc: Global,
-        hops: &[Hop],
-        from: Codec,
-        octets: &[u8],
-    ) -> Option<Result<Vec<u8>, RouteFault>>;
+    fn send(&self, alloc: Global, way: Way<'_>, octets: &[u8]) -> Option<Arrival>;
 
     /// What is to come of the encoding of the sample at a place, sent by hops. Where there is no hop, it is this
     /// encoding. None if there is no such sample.
-    fn foretell(
-        &self,
-        alloc: Global,
-        place: usize,
-        from: Codec,
-        hops: &[Hop],
-    ) -> Option<Result<Vec<u8>, RouteFault>>;
+    fn foretell(&self, alloc: Global, place: usize, way: Way<'_>) -> Option<Arrival>;
 }
 
-/// The types `Old` and `New`.
-pub struct Between<Old, New>(pub PhantomData<Old>, pub PhantomData<New>);
+/// The types `Old` and `New`, of which samples are known.
+pub struct Known<Old, New>(pub PhantomData<(Old, New)>);
 
 impl<Old: Encode + Decode, New: Encode + Decode + Extends<Old> + Grown<Old>> Versions
-    for Between<Old, New> {
-    fn send(
-        &self,
-        alloc: Global,
-        hops: &[Hop],
-        from: Codec,
-        octets: &[u8],
-    ) -> Option<Result<Vec<u8>, RouteFault>> {
-        send_between::<Old, New>(alloc, hops, from, octets)
+    for Known<Old, New> {
+    fn send(&self, alloc: Global, way: Way<'_>, octets: &[u8]) -> Option<Arrival> {
+        send_between::<Old, New>(alloc, way, octets)
     }
 
-    fn foretell(
-        &self,
-        alloc: Global,
-        place: usize,
-        from: Codec,
-        hops: &[Hop],
-    ) -> Option<Result<Vec<u8>, RouteFault>> {
+    fn foretell(&self, alloc: Global, place: usize, way: Way<'_>) -> Option<Arrival> {
         let value = New::sample(place)?;
-        Some(foretold::<Old, New>(alloc, value, from, hops))
+        Some(foretold::<Old, New>(alloc, value, way))
     }
 }
 
-/// The types `Old` and `New`, of which there are no samples.
-pub struct Unforetold<Old, New>(pub PhantomData<Old>, pub PhantomData<New>);
+/// The types `Old` and `New`, of which there are no samples: messages are sent, and nothing is foretold.
+pub struct Sent<Old, New>(pub PhantomData<(Old, New)>);
 
-impl<Old: Encode + Decode, New: Encode + Decode + Extends<Old>> Versions for Unforetold<Old, New> {
-    fn send(
-        &self,
-        alloc: Global,
-        hops: &[Hop],
-        from: Codec,
-        octets: &[u8],
-    ) -> Option<Result<Vec<u8>, RouteFault>> {
-        send_between::<Old, New>(alloc, hops, from, octets)
+impl<Old: Encode + Decode, New: Encode + Decode + Extends<Old>> Versions for Sent<Old, New> {
+    fn send(&self, alloc: Global, way: Way<'_>, octets: &[u8]) -> Option<Arrival> {
+        send_between::<Old, New>(alloc, way, octets)
     }
 
-    fn foretell(
-        &self,
-        _alloc: Global,
-        _place: usize,
-        _from: Codec,
-        _hops: &[Hop],
-    ) -> Option<Result<Vec<u8>, RouteFault>> {
+    fn foretell(&self, _alloc: Global, _place: usize, _way: Way<'_>) -> Option<Arrival> {
         None
     }
 }
@@ -107,14 +83,13 @@ impl<Old: Encode + Decode, New: Encode + Decode + Extends<Old>> Versions for Unf
 /// Sends octets by hops, if there are any.
 fn send_between<Old: Encode + Decode, New: Encode + Decode + Extends<Old>>(
     alloc: Global,
-    hops: &[Hop],
-    from: Codec,
+    way: Way<'_>,
     octets: &[u8],
-) -> Option<Result<Vec<u8>, RouteFault>> {
-    if hops.is_empty() {
+) -> Option<Arrival> {
+    if way.hops.is_empty() {
         return None;
     }
-    Some(route::<Old, New>(alloc, hops, from, octets))
+    Some(route::<Old, New>(alloc, way.hops, way.from, octets))
 }
 
 /// A value of one of two versions.
@@ -144,9 +119,9 @@ impl<Old: Drop, New: Grown<Old> + Drop> Held<Old, New> {
 fn foretold<Old: Encode + Decode, New: Encode + Decode + Grown<Old>>(
     alloc: Global,
     value: New,
-    from: Codec,
-    hops: &[Hop],
-) -> Result<Vec<u8>, RouteFault> {
+    way: Way<'_>,
+) -> Arrival {
+    let Way { from, hops } = way;
     let mut held: Held<Old, New> = Held::Newer(value);
     let mut rules = from;
     for place in 0..hops.len() {

@@ -1,6 +1,6 @@
 //! Pairs of versions, by their names.
 use crate::line::LineError;
-use crate::routes::foretold::{Between, Grown, Unforetold};
+use crate::routes::foretold::{Grown, Known, Sent};
 use crate::routes::{Claim, judge};
 use asn1_relay_core::DecodeError;
 use asn1_relay_types::{
@@ -23,22 +23,10 @@ use std::marker::PhantomData;
 /// `NoPair` where there is no such pair, and those of `judge`.
 pub fn judge_pair(alloc: Global, name: &str, claim: &Claim) -> Result<(), LineError> {
     match name {
-        "plain" => judge(alloc, &Between::<Old, New>(PhantomData, PhantomData), claim),
-        "default" => judge(
-            alloc,
-            &Between::<OldDefault, NewDefault>(PhantomData, PhantomData),
-            claim,
-        ),
-        "required" => judge(
-            alloc,
-            &Between::<Old, NewRequired>(PhantomData, PhantomData),
-            claim,
-        ),
-        "colour" => judge(
-            alloc,
-            &Between::<OldColour, NewColour>(PhantomData, PhantomData),
-            claim,
-        ),
+        "plain" => judge(alloc, &Known::<Old, New>(PhantomData), claim),
+        "default" => judge(alloc, &Known::<OldDefault, NewDefault>(PhantomData), claim),
+        "required" => judge(alloc, &Known::<Old, NewRequired>(PhantomData), claim),
+        "colour" => judge(alloc, &Known::<OldColour, NewColour>(PhantomData), claim),
         _ => judge_grown(alloc, name, claim),
     }
 }
@@ -47,26 +35,10 @@ pub fn judge_pair(alloc: Global, name: &str, claim: &Claim) -> Result<(), LineEr
 /// behind it.
 fn judge_grown(alloc: Global, name: &str, claim: &Claim) -> Result<(), LineError> {
     match name {
-        "list" => judge(
-            alloc,
-            &Unforetold::<OldList, NewList>(PhantomData, PhantomData),
-            claim,
-        ),
-        "bag" => judge(
-            alloc,
-            &Unforetold::<OldBag, NewBag>(PhantomData, PhantomData),
-            claim,
-        ),
-        "within" => judge(
-            alloc,
-            &Unforetold::<OldHolder, NewHolder>(PhantomData, PhantomData),
-            claim,
-        ),
-        "group" => judge(
-            alloc,
-            &Unforetold::<OldBracket, NewBracket>(PhantomData, PhantomData),
-            claim,
-        ),
+        "list" => judge(alloc, &Sent::<OldList, NewList>(PhantomData), claim),
+        "bag" => judge(alloc, &Sent::<OldBag, NewBag>(PhantomData), claim),
+        "within" => judge(alloc, &Sent::<OldHolder, NewHolder>(PhantomData), claim),
+        "group" => judge(alloc, &Sent::<OldBracket, NewBracket>(PhantomData), claim),
         _ => judge_longer(alloc, name, claim),
     }
 }
@@ -74,31 +46,11 @@ fn judge_grown(alloc: Global, name: &str, claim: &Claim) -> Result<(), LineError
 /// Judges what is said of a pair whose newer version has a further addition or alternative.
 fn judge_longer(alloc: Global, name: &str, claim: &Claim) -> Result<(), LineError> {
     match name {
-        "nested" => judge(
-            alloc,
-            &Unforetold::<Old, Nested>(PhantomData, PhantomData),
-            claim,
-        ),
-        "choice" => judge(
-            alloc,
-            &Unforetold::<OldVersioned, Versioned>(PhantomData, PhantomData),
-            claim,
-        ),
-        "set" => judge(
-            alloc,
-            &Unforetold::<OldGrown, grown::Grown>(PhantomData, PhantomData),
-            claim,
-        ),
-        "later" => judge(
-            alloc,
-            &Unforetold::<New, Newest>(PhantomData, PhantomData),
-            claim,
-        ),
-        "leap" => judge(
-            alloc,
-            &Unforetold::<Old, Newest>(PhantomData, PhantomData),
-            claim,
-        ),
+        "nested" => judge(alloc, &Sent::<Old, Nested>(PhantomData), claim),
+        "choice" => judge(alloc, &Sent::<OldVersioned, Versioned>(PhantomData), claim),
+        "set" => judge(alloc, &Sent::<OldGrown, grown::Grown>(PhantomData), claim),
+        "later" => judge(alloc, &Sent::<New, Newest>(PhantomData), claim),
+        "leap" => judge(alloc, &Sent::<Old, Newest>(PhantomData), claim),
         _ => Err(LineError::NoPair),
     }
 }
