@@ -190,7 +190,7 @@ module _ {F : Type 0} {D : F → Type 0} {A : Type 0} where
       let t : (not (is_any_present (drop b.covered ys)) && (ltb (length ys) (b.covered + 1) || length b.further == 0)) ≡ true = ap (λ x. not x && (ltb (length ys) (b.covered + 1) || length b.further == 0)) (sym n) ∙ ap (λ x. not (is_any_present (drop b.covered xs)) && (ltb x (b.covered + 1) || length b.further == 0)) (sym l) ∙ q.0 in
       (take b.covered ys ++ map (option_map u) b.further, if_true _ _ t, subst (λ z. EachSlot z (take b.covered ys ++ map (option_map u) b.further)) q.1 (slots_taken b.covered xs ys (map (option_map u) b.further) h))
 
--- ---- marks
+-- ---- presence bits
 pub marks_same : (cs : Components) (ps qs : Parts) → same_parts ps qs ≡ true → marks cs ps ≡ marks cs qs
 unfolding same_parts
 marks_same no_component ps qs e = refl

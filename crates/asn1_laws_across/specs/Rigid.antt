@@ -4,7 +4,7 @@ use Rattle.asn1_model.specs.Schema.{Schema, sequence_of, set_of, sequence, set, 
 use Rattle.asn1_model.specs.Schema.{component, Alternatives, no_alternative, alternative}
 
 unfoldable mutual
-  -- Whether no bag stands in a type, at any depth, and no sequence or set with a mark.
+  -- Whether no bag stands in a type, at any depth, and no sequence or set with an extension marker.
   pub is_rigid : Schema → Bool
   is_rigid (sequence_of z held s) = is_rigid s
   is_rigid (set_of z held s) = false

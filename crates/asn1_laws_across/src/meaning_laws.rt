@@ -28,8 +28,8 @@ pub fn in_order_is_canonical()
     ensures { InOrderIsCanonical }
 {}
 
-/// What a strict reader takes of a type without bags, and without marks on its sequences and sets at any depth, is the
-/// canonical encoding of the value.
+/// What a strict reader takes of a type without bags, and without extension markers on its sequences and sets at any
+/// depth, is the canonical encoding of the value.
 pub fn rigid_is_canonical()
     ensures { RigidIsCanonical }
 {}

@@ -1,4 +1,4 @@
--- Fronts of marks, preambles and components that are spelled out.
+-- Fronts of extension markers, preambles and components that are spelled out.
 use Rattle.std.proofs.Common.{◌≡◌, suc, Bool, true, false, cond, List, length, refl, ap}
 use Rattle.asn1_model.specs.Value.{Value, Parts, end, absent, present}
 use Rattle.asn1_model.specs.Schema.{Presence, Schema, Components, no_component, component}
@@ -11,12 +11,12 @@ use Rattle.asn1_laws_fronts.proofs.Fronts.{agree_varied_left, agree_varied_right
 use Rattle.asn1_laws_fronts.proofs.PerNumbers.{Alike}
 use Rattle.asn1_laws_fronts.proofs.OerNumbers.{OctetsAlike}
 
--- ---- marks
+-- ---- presence bits
 unless_long : (b m n : Bool) (ms ns : List Bool) → length ms ≡ length ns → length (mark_unless b m ms) ≡ length (mark_unless b n ns)
 unless_long true m n ms ns e = e
 unless_long false m n ms ns e = ap suc e
 
--- as many marks for all values
+-- as many presence bits for all values
 pub marks_long : (cs : Components) (ps qs : Parts) → length (marks cs ps) ≡ length (marks cs qs)
 marks_long no_component ps qs = refl
 marks_long (component t o s cs) end end = unless_long (is_required o) _ _ _ _ (marks_long cs end end)

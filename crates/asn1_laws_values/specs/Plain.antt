@@ -1,5 +1,5 @@
 -- Plain types: BOOLEAN, INTEGER between two bounds, and SEQUENCE of required components of plain types, all with no
--- mark.
+-- extension marker.
 use Rattle.std.specs.Prelude.{Bool, true, false, not, ◌&&◌}
 use Rattle.asn1_model.specs.Value.{Value, truth, number, fields, Parts, end, present}
 use Rattle.asn1_model.specs.Schema.{required, Schema, boolean, integer, sequence, Components, no_component, component}

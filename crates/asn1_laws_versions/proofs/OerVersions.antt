@@ -555,7 +555,7 @@ module _ (free : Oer.Freedom → Bool) (wide : IsTrue (free Oer.other_bitmap)) (
       let s : Sim (Oer.bitmapped ms r xs (Some b)) (Oer.bitmapped ms r' ys (Some b)) = sim_between left (sim_additions_form ms r' r (take (length xs) ys) xs h c) (sym right) in
       covers_varied free (Some b) (inr wide) (subst (λ o. Sim (Oer.bitmapped ms r xs o) (Oer.bitmapped ms r' ys (Some b))) (sym own) s)
 
-  -- where the type has no mark, the newer one has no further additions
+  -- where the type has no extension marker, the newer one has no further additions
   grown_sequence : (e : Bool) (ms : List Bool) (r r' : Oer.OctetForm) (xs ys : List (Option Oer.OctetForm)) → Sim r r' → Behind ys xs → (e ≡ false → length ys ≡ length xs) → Sim (Oer.sequence_form e ms r xs) (Oer.sequence_form e ms r' ys)
   unfolding Oer.sequence_form
   grown_sequence false ms r r' (x ∷ xs) ys h k n = sim_refused _

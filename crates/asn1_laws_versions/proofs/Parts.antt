@@ -71,7 +71,7 @@ ends_long no_component (component t' o' s' cs') h = absurd h
 ends_long (component t o s cs) no_component h = absurd h
 ends_long (component t o s cs) (component t' o' s' cs') h = unless_long (is_required o) (is_required o') false _ _ (kept_required s s' o o' h.1) (ends_long cs cs' h.3)
 
--- as many marks in both versions
+-- as many presence bits in both versions
 pub marks_meet : (cs cs' : Components) (ps qs : Parts) → ExtendsEach false cs cs' → length (marks cs ps) ≡ length (marks cs' qs)
 marks_meet cs cs' ps qs h = marks_long cs ps end ∙ ends_long cs cs' h ∙ marks_long cs' end qs
 

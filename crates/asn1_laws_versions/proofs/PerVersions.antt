@@ -605,7 +605,7 @@ module _ (free : Per.Freedom → Bool) (wide : IsTrue (free Per.other_bitmap)) (
       let s : Sim (Per.bitmapped al ms r xs (Some b)) (Per.bitmapped al ms r' ys (Some b)) = sim_between left (sim_additions_form al ms r' r (take (length xs) ys) xs h c) (sym right) in
       covers_varied free (Some b) (inr wide) (subst (λ o. Sim (Per.bitmapped al ms r xs o) (Per.bitmapped al ms r' ys (Some b))) (sym own) s)
 
-  -- where the type has no mark, the newer one has no further additions
+  -- where the type has no extension marker, the newer one has no further additions
   grown_sequence : (al e : Bool) (ms : List Bool) (r r' : Per.BitForm) (xs ys : List (Option Per.BitForm)) → Sim r r' → Behind ys xs → (e ≡ false → length ys ≡ length xs) → Sim (Per.sequence_form al e ms r xs) (Per.sequence_form al e ms r' ys)
   unfolding Per.sequence_form
   grown_sequence al false ms r r' (x ∷ xs) ys h k n = sim_refused _

@@ -1,5 +1,5 @@
--- Which types are lawful: tables ascend, tags and items are distinct, bounds are ordered, additions stand behind a
--- mark, defaults are values of their types.
+-- Which types are lawful: tables ascend, tags and items are distinct, bounds are ordered, additions stand behind an
+-- extension marker, defaults are values of their types.
 use Rattle.std.specs.Prelude.{◌==◌, ltb, leb, ℤ, Bool, true, false, cond, not, ◌&&◌, ◌||◌, IsTrue, List, [], ◌∷◌, ◌++◌}
 use Rattle.std.specs.Prelude.{Option, Some}
 use Rattle.asn1_model.specs.Value.{same_number}
@@ -96,7 +96,7 @@ abbrev pub has_optional_groups : Components → Bool
 has_optional_groups no_component = true
 has_optional_groups (component t o s cs) = (not (is_group s) || is_optional o) && has_optional_groups cs
 
--- Additions stand behind a mark, all tags differ (X.680 25 and 27), and groups stand where they may.
+-- Additions stand behind an extension marker, all tags differ (X.680 25 and 27), and groups stand where they may.
 abbrev pub is_sequence_table : Components → Bool → Components → Bool
 is_sequence_table cs e adds =
     (e || are_no_components adds) && are_distinct tag_same (component_tags cs ++ component_tags adds) && has_no_group cs

@@ -104,7 +104,7 @@ abbrev pub signed_form : Option ℕ → ℤ → OctetForm
 signed_form (Some k) v = exactly (complement k v)
 signed_form None v = signed v
 
--- INTEGER by bounds without a mark: fixed forms without a sign, with one, or of any length (X.696 10).
+-- INTEGER by bounds without an extension marker: fixed forms without a sign, with one, or of any length (X.696 10).
 unfoldable pub bounded : Option ℤ → Option ℤ → ℤ → OctetForm
 bounded (Some (pos low)) (Some (pos high)) v = natural_form (fixed_octets (octet_width high)) v
 bounded (Some (pos low)) high v = natural_form None v
@@ -112,8 +112,8 @@ bounded (Some (negsuc low)) (Some high) v =
     signed_form (fixed_octets (max (signed_octets (negsuc low)) (signed_octets high))) v
 bounded low high v = signed v
 
--- INTEGER (X.696 10): bounds with a mark count for nothing; the program's type holds the number, and under a value
--- constraint 128 bits do, by the project's choice.
+-- INTEGER (X.696 10): bounds with an extension marker count for nothing; the program's type holds the number, and under
+-- a value constraint 128 bits do, by the project's choice.
 unfoldable pub integer_form : Bounds → Range → ℤ → OctetForm
 integer_form b held v = only_if (is_within held v && (not (is_bounded b) || fits_128 v))
     (cond b.extensible (signed v) (only_if (is_within b.range v) (bounded b.range.low b.range.high v)))
@@ -141,11 +141,11 @@ abbrev pub is_fixed_at : Counts → Option ℕ → Bool
 is_fixed_at c None = false
 is_fixed_at c (Some high) = high == c.low
 
--- Whether there is one size and no mark, so that no length is written (X.696 13, 14 and 27).
+-- Whether there is one size and no extension marker, so that no length is written (X.696 13, 14 and 27).
 abbrev pub is_fixed : Size → Bool
 is_fixed z = not z.extensible && is_fixed_at z.counts z.counts.high
 
--- Whether a length is one that the program's type holds and a size without a mark admits.
+-- Whether a length is one that the program's type holds and a size without an extension marker admits.
 abbrev pub admits : Size → Counts → ℕ → Bool
 admits z held n = is_count_within held n && (z.extensible || is_count_within z.counts n)
 
@@ -205,7 +205,7 @@ preamble bs = exactly (packed (bs ++ replicate (missing (length bs)) false))
 unfoldable pub additions : List (Option OctetForm) → OctetForm
 additions xs = both (counted_bits (map (λ a. is_present a) xs)) (joined (present_ones xs))
 
--- The mark set, the root, and the additions (X.696 16).
+-- The extension bit set, the root, and the additions (X.696 16).
 unfoldable pub with_additions : List Bool → OctetForm → List (Option OctetForm) → OctetForm
 with_additions ms root xs = both (preamble (true ∷ ms)) (both root (additions xs))
 

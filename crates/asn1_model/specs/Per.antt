@@ -31,7 +31,7 @@ pub data Freedom : Type 0 where
   other_fragments : Freedom
   -- a number in more octets than it needs
   longer_number : Freedom
-  -- a number or a size of the root, marked as outside it
+  -- a number or a size of the root, told as outside it
   root_marked_outside : Freedom
   -- a normally small number or length in the form of the large ones
   long_small_number : Freedom
@@ -189,7 +189,7 @@ sized_root al c (Some high) pads us = cond (ltb high 65536)
     (both (constrained al (high - c.low) (length us - c.low)) (at_octet (al && pads c) (joined us)))
     (counted al us)
 
--- Units of a size that may have a mark (X.691 16.6, 17.3, 20.4 and 30.4).
+-- Units of a size that may have an extension marker (X.691 16.6, 17.3, 20.4 and 30.4).
 unfoldable pub sized : Bool → Size → Counts → (Counts → Bool) → List BitForm → BitForm
 sized al z held pads us = only_if (is_count_within held (length us))
     (marked z.extensible (is_count_within z.counts (length us)) (sized_root al z.counts z.counts.high pads us)
@@ -236,7 +236,7 @@ string_form al k z a held cs = only_if (may_hold k cs) (cond (is_of_octets k)
     (only_if (is_count_within held (length cs)) (counted_octets al cs))
     (characters al z held (permitted k a) cs))
 
--- The mark of extensibility, where the type has one.
+-- The extension marker, where the type has one.
 abbrev pub mark_of : Bool → Bool → BitForm
 mark_of false m = nothing_more
 mark_of true m = exactly (m ∷ [])
@@ -285,7 +285,7 @@ flag a = exactly (is_present a ∷ [])
 unfoldable pub additions : Bool → List (Option BitForm) → BitForm
 additions al xs = both (normally_few al (map flag xs)) (joined (present_ones xs))
 
--- The mark set, the root, and the additions (X.691 19.1).
+-- The extension bit set, the root, and the additions (X.691 19.1).
 unfoldable pub with_additions : Bool → List Bool → BitForm → List (Option BitForm) → BitForm
 with_additions al ms root xs = both (exactly (true ∷ ms)) (both root (additions al xs))
 
@@ -297,7 +297,7 @@ bitmapped al ms root xs (Some b) =
     (with_additions al ms root all)
     (varied empty_bitmap false (λ e. only_if e (with_additions al ms root all))))
 
--- SEQUENCE and SET: the mark, the presence bits, the root components, and the additions (X.691 19 and 21).
+-- SEQUENCE and SET: the extension bit, the presence bits, the root components, and the additions (X.691 19 and 21).
 unfoldable pub sequence_form : Bool → Bool → List Bool → BitForm → List (Option BitForm) → BitForm
 sequence_form al false ms root [] = both (exactly ms) root
 sequence_form al false ms root (a ∷ xs) = refused

@@ -227,7 +227,7 @@ SizeRows =
     (0x80 ∷ 0x81 ∷ 0x01 ∷ 0x80 ∷ [])
     × Writes aper (flagged (octet_text (sizes 3 3))) (yes_and (octets (1 ∷ 2 ∷ 3 ∷ [])))
     (0x80 ∷ 0x01 ∷ 0x02 ∷ 0x03 ∷ [])
-    -- fixed with a mark, inside the root and outside
+    -- fixed with an extension marker, inside the root and outside
     × Writes uper (flagged (bit_text (sizes_or_more 16 16))) (yes_and (set_bits 16)) (0xBF ∷ 0xFF ∷ 0xC0 ∷ [])
     × Writes aper (flagged (bit_text (sizes_or_more 16 16))) (yes_and (set_bits 16)) (0xBF ∷ 0xFF ∷ 0xC0 ∷ [])
     × Writes uper (flagged (bit_text (sizes_or_more 16 16))) (yes_and (set_bits 17)) (0xC4 ∷ 0x7F ∷ 0xFF ∷ 0xE0 ∷ [])

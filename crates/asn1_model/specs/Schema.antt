@@ -1,4 +1,4 @@
--- ASN.1 types, apart from any encoding: kinds, bounds, sizes, alphabets, marks of extensibility and tables (X.680).
+-- ASN.1 types, apart from any encoding: kinds, bounds, sizes, alphabets, extension markers and tables (X.680).
 use Rattle.std.specs.Prelude.{ℕ, ℤ, Bool, List, Option}
 use Rattle.asn1_model.specs.Value.{Value}
 
@@ -13,9 +13,9 @@ pub record Range : Type 0 where
   pub low : Option ℤ
   pub high : Option ℤ
 
--- A value constraint, and whether a mark of extensibility follows it (X.680 51.4 and 52). With neither bound nor mark
--- there is no constraint; INTEGER (MIN..MAX) without a mark is written as no bounds and a held range of 128 bits, since
--- it is a constraint by the project's choice.
+-- A value constraint, and whether an extension marker follows it (X.680 51.4 and 52). With neither bound nor extension
+-- marker there is no constraint; INTEGER (MIN..MAX) without an extension marker is written as no bounds and a held
+-- range of 128 bits, since it is a constraint by the project's choice.
 pub record Bounds : Type 0 where
   pub range : Range
   pub extensible : Bool
@@ -25,12 +25,13 @@ pub record Counts : Type 0 where
   pub low : ℕ
   pub high : Option ℕ
 
--- A size constraint, and whether a mark of extensibility follows it (X.680 51.5 and 52).
+-- A size constraint, and whether an extension marker follows it (X.680 51.5 and 52).
 pub record Size : Type 0 where
   pub counts : Counts
   pub extensible : Bool
 
--- A permitted alphabet, where there is one: its characters, and whether a mark follows it (X.680 51.7 and 52).
+-- A permitted alphabet, where there is one: its characters, and whether an extension marker follows it (X.680 51.7 and
+-- 52).
 pub record Alphabet : Type 0 where
   pub characters : Option (List ℕ)
   pub extensible : Bool
@@ -64,8 +65,8 @@ mutual
     null : Schema
     -- INTEGER (X.680 19): its constraint, and the numbers that the program's type holds
     integer : Bounds → Range → Schema
-    -- ENUMERATED (X.680 20): the numbers of the root items in ascending order, whether there is a mark, and the numbers
-    -- of the added items
+    -- ENUMERATED (X.680 20): the numbers of the root items in ascending order, whether there is an extension marker,
+    -- and the numbers of the added items
     enumerated : List ℤ → Bool → List ℤ → Schema
     -- BIT STRING (X.680 22): its size in bits, and the lengths that the program's type holds
     bit_string : Size → Counts → Schema
@@ -79,15 +80,15 @@ mutual
     sequence_of : Size → Counts → Schema → Schema
     -- SET OF (X.680 28)
     set_of : Size → Counts → Schema → Schema
-    -- SEQUENCE (X.680 25): the root components, whether there is a mark, and the additions behind it in their declared
-    -- order
+    -- SEQUENCE (X.680 25): the root components, whether there is an extension marker, and the additions behind it in
+    -- their declared order
     sequence : Components → Bool → Components → Schema
     -- SET (X.680 27): the same, the root components in the order of their tags
     set : Components → Bool → Components → Schema
     -- an extension addition group (X.680 25), which stands among additions as one of them
     group : Components → Schema
-    -- CHOICE (X.680 29): the root alternatives in the order of their tags, whether there is a mark, and the added ones
-    -- in their declared order
+    -- CHOICE (X.680 29): the root alternatives in the order of their tags, whether there is an extension marker, and
+    -- the added ones in their declared order
     choice : Alternatives → Bool → Alternatives → Schema
 
   pub data Components : Type 0 where

@@ -60,7 +60,7 @@ sorted [] = []
 sorted (c ∷ cs) = put_in c (sorted cs)
 
 -- The characters that a constraint leaves of the type's own, in whatever order it lists them (X.680 51.7, X.691 30.5).
--- A constraint with a mark of extensibility counts for nothing, by the project's choice.
+-- A constraint with an extension marker counts for nothing, by the project's choice.
 abbrev pub permitted_in : StringKind → Bool → Option (List ℕ) → List Run
 permitted_in k false (Some cs) = map (λ c. run c c) (sorted (filter (is_among (characters_of k)) cs))
 permitted_in k e cs = characters_of k

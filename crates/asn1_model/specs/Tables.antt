@@ -19,7 +19,7 @@ abbrev pub is_required : Presence → Bool
 is_required required = true
 is_required o = false
 
--- A further mark, unless there is none for the component.
+-- A further presence bit, unless there is none for the component.
 abbrev pub mark_unless : Bool → Bool → List Bool → List Bool
 mark_unless true m ms = ms
 mark_unless false m ms = m ∷ ms

@@ -127,7 +127,7 @@ bits_of ds = bit_list (map (λ d. elim d [ zero ↦ false | suc n ↦ true ]) ds
 
 -- ---- types with names, used by several rows
 
--- INTEGER (0..255), and the same with a mark
+-- INTEGER (0..255), and the same with an extension marker
 abbrev pub octet_number : Schema
 octet_number = between (pos 0) (pos 255)
 
@@ -150,7 +150,7 @@ from_zero = at_least (pos 0)
 abbrev pub at_most_5 : Schema
 at_most_5 = integer (from_to None (Some (pos 5)) false) any_number
 
--- INTEGER (MIN..MAX): a value constraint, so 128 bits hold all of its numbers; and the same with a mark
+-- INTEGER (MIN..MAX): a value constraint, so 128 bits hold all of its numbers; and the same with an extension marker
 abbrev pub min_to_max : Schema
 min_to_max =
     integer (from_to None None false) (record { low = Some (minus (2 ^ 127)); high = Some (pos (2 ^ 127 - 1)) })

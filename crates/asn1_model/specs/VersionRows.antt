@@ -42,8 +42,8 @@ sequence_default n d = closed (has_default 0 (unfolded n) d no_component)
 abbrev pub bag_default : ℕ → ℕ → Schema
 bag_default m n = open_behind (has_default 0 (bag_of whole) (bag_with (num m ∷ num n ∷ [])) no_component) no_component
 
--- SEQUENCE {a SEQUENCE {b BOOLEAN, ...} DEFAULT {b TRUE}}, and with d INTEGER DEFAULT 3 behind the mark, DEFAULT {b
--- TRUE, d ..}
+-- SEQUENCE {a SEQUENCE {b BOOLEAN, ...} DEFAULT {b TRUE}}, and with d INTEGER DEFAULT 3 behind the extension marker,
+-- DEFAULT {b TRUE, d ..}
 abbrev pub plain_default : Schema
 plain_default = closed (has_default 0 old_type yes_alone no_component)
 
@@ -97,7 +97,7 @@ LawfulRows =
     × (is_lawful (set (needs 3 boolean
     (component (context 1 ∷ context 7 ∷ []) required boolean no_component)) false no_component) ≡ false)
     × (is_lawful (open_behind (needs 0 boolean no_component) (needs 0 boolean no_component)) ≡ false)
-    -- choices: an added alternative behind a mark alone, and no tag twice
+    -- choices: an added alternative behind an extension marker alone, and no tag twice
     × (is_lawful (choice (null_alternatives 0 2) false (null_alternatives 2 1)) ≡ false)
     × (is_lawful (choice (null_alternatives 0 2) true (null_alternatives 1 1)) ≡ false)
     × (is_lawful (choice (null_alternatives 5 2) true (or_tagged 3 null (or_tagged 2 null no_alternative))) ≡ true)
@@ -165,7 +165,8 @@ VersionRows =
     × IsClash (group_of default_old) (group_of default_new) (yes_with (roots (present (yes_with (num 7)) end)))
     -- what the newer version has at its default is lost without a clash
     × (drop default_old default_new (roots (absent end)) ≡ Some (roots (absent end)))
-    -- no versions of each other: further roots, further additions without a mark, fewer additions, another bound
+    -- no versions of each other: further roots, further additions without an extension marker, fewer additions, another
+    -- bound
     × (Extends (closed no_component) (closed (needs 0 boolean no_component)) → ⊥)
     × (Extends new_type old_type → ⊥)
     × (Extends (between (pos 0) (pos 4)) (between (pos 0) (pos 5)) → ⊥)

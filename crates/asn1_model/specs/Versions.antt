@@ -1,5 +1,5 @@
--- Two versions of a type: the newer has further additions, alternatives and items behind its marks, and is as the older
--- one else (X.680 52).
+-- Two versions of a type: the newer has further additions, alternatives and items behind its extension markers, and is
+-- as the older one else (X.680 52).
 use Rattle.std.specs.Prelude.{◌≡◌, ℕ, zero, suc, Bool, true, false, cond, ◌||◌, List, ◌++◌, All, Contains, Option, Some}
 use Rattle.std.specs.Prelude.{None, option_map, option_and_then}
 use Rattle.asn1_model.specs.Value.{Value, item, members, bag, fields, chosen, Values, no_more, member, Parts, end}
@@ -116,8 +116,8 @@ KeepsPresence s s' (by_default d) (by_default d') =
 KeepsPresence s s' o o' = ⊥
 
 unfoldable mutual
-  -- The second type is a newer version of the first: the same kinds, bounds, sizes, alphabets, marks and root tables,
-  -- with further additions, items and alternatives behind marks alone.
+  -- The second type is a newer version of the first: the same kinds, bounds, sizes, alphabets, extension markers and
+  -- root tables, with further additions, items and alternatives behind extension markers alone.
   pub Extends : Schema → Schema → Type 0
   Extends cut cut = Unit {0}
   Extends boolean boolean = Unit {0}

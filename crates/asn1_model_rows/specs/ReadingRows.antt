@@ -201,7 +201,7 @@ FormRows =
     × (arranged {X = ℕ} (0 ∷ []) (7 ∷ 8 ∷ []) ≡ None)
     × (arranged {X = ℕ} (1 ∷ 0 ∷ []) (7 ∷ 8 ∷ []) ≡ Some (8 ∷ 7 ∷ []))
 
--- no PER reader takes what is outside the root behind a mark that says inside, whatever follows
+-- no PER reader takes what is outside the root behind an extension bit that says inside, whatever follows
 abbrev pub OutsideIsMarked : Type 0
 OutsideIsMarked =
     (root outside : Per.BitForm) (p : ℕ) (w : List Bool)

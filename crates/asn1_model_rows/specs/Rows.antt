@@ -317,7 +317,7 @@ CharacterRows =
     (0xC0 ∷ 0x02 ∷ 0x23 ∷ [])
     × Writes uper (flagged (string numeric (sizes_or_more 1 1))) (yes_and (text (0x31 ∷ 0x32 ∷ [])))
     (0xC0 ∷ 0x88 ∷ 0xC0 ∷ [])
-    -- an alphabet with a mark counts for nothing, and one in OER neither
+    -- an alphabet with an extension marker counts for nothing, and one in OER neither
     × Writes uper (character_string visible any_size
     (record { characters = Some (0x30 ∷ 0x31 ∷ []); extensible = true }) any_count) (text (0x32 ∷ []))
     (0x01 ∷ 0x64 ∷ [])
@@ -388,7 +388,7 @@ CharacterRows =
 -- additions, open types and bags
 abbrev pub OpenRows : Type 0
 OpenRows =
-    -- an addition alone at its default, and a group whose only part is: the mark says none
+    -- an addition alone at its default, and a group whose only part is: the extension bit says none
     Writes uper default_added (yes_with (num 3)) (0x40 ∷ [])
     × Writes aper default_added (yes_with (num 3)) (0x40 ∷ [])
     × Writes coer default_added (yes_with (num 3)) (0x00 ∷ 0xFF ∷ [])

@@ -76,7 +76,7 @@ pub fn no_value_rows()
     ensures { NoValueRows }
 {}
 
-/// No PER reader takes what is outside the root behind a mark that says inside, whatever follows.
+/// No PER reader takes what is outside the root behind an extension bit that says inside, whatever follows.
 pub fn outside_is_marked()
     ensures { OutsideIsMarked }
 {}

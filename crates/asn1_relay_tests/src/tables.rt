@@ -79,7 +79,8 @@ fn alternatives(rt: HostRuntime) {
     assert!(rt; Power::variants().len() == 2);
 }
 
-/// The items of the root stand in the order of their numbers (X.680 20), and those that were added behind the mark.
+/// The items of the root stand in the order of their numbers (X.680 20), and those that were added behind the extension
+/// marker.
 #[test]
 fn items(rt: HostRuntime) {
     let places = [

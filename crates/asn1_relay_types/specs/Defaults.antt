@@ -1,4 +1,4 @@
--- A sequence of a BOOLEAN and a mark, as a component with a default: {a TRUE}.
+-- A sequence of a BOOLEAN and an extension marker, as a component with a default: {a TRUE}.
 use Rattle.std.specs.Prelude.{ℕ, true, List, [], ◌∷◌, refl}
 use Rattle.asn1_model.specs.Schema.{Tag, required, optional, Schema, boolean}
 use Rattle.asn1_model.specs.Value.{Value, truth, fields, Parts, end, absent, present}

@@ -53,7 +53,7 @@ octet_range = record { low = Some (pos 0); high = Some (pos 255) }
 abbrev pub octet_schema : Schema
 octet_schema = integer (record { range = octet_range; extensible = false }) octet_range
 
--- One to three units, or behind the mark any number.
+-- One to three units, or behind the extension marker any number.
 abbrev pub one_to_three : Size
 one_to_three = record { counts = record { low = 1; high = Some 3 }; extensible = true }
 
@@ -88,7 +88,7 @@ nest_schema zero = cut
 nest_schema (suc n) = choice (alternative (context 0) null (alternative (context 1) (nest_schema n) no_alternative))
     false no_alternative
 
--- A BOOLEAN, a mark of extensibility, and these additions.
+-- A BOOLEAN, an extension marker, and these additions.
 abbrev pub behind_flag : Components → Schema
 behind_flag adds = sequence (one_more (universal 1) required boolean no_component) true adds
 

@@ -65,7 +65,7 @@ impl FieldTables for NewFields {
     }
 }
 
-/// What the other version has, and `b` behind its mark.
+/// What the other version has, and `b` behind its extension marker.
 impl ExtendsComponents<OldFields> for NewFields {
     ghost extends = { gains_additions _ ⟦<Additions as AdditionsOf>⟧.additions ⟦<Old as Described>⟧.typed.lawful refl };
 

@@ -125,7 +125,7 @@ impl Decode for NewColour {
     }
 }
 
-/// What the other version has, and blue behind its mark.
+/// What the other version has, and blue behind its extension marker.
 impl Extends<OldColour> for NewColour {
     ghost use Rattle.asn1_schema_versions.proofs.Fields.{gains_items};
     ghost use Rattle.asn1_schema_versions.proofs.Unfolding.{constant_unfolds};

@@ -66,7 +66,7 @@ impl FieldTables for NewRequiredFields {
     }
 }
 
-/// What the other version has, and `r` behind its mark.
+/// What the other version has, and `r` behind its extension marker.
 impl ExtendsComponents<OldFields> for NewRequiredFields {
     ghost extends = { gains_additions _ ⟦<Additions as AdditionsOf>⟧.additions ⟦<Old as Described>⟧.typed.lawful refl };
 

@@ -1,4 +1,4 @@
-//! Octets, of which there are one to three, or behind a mark any number.
+//! Octets, of which there are one to three, or behind an extension marker any number.
 ghost use Rattle.std.specs.Prelude.{refl, [], ◌∷◌, Some, true};
 ghost use Rattle.asn1_schema.specs.Author.{any_count, octet_list, octet_string_under, sized};
 ghost use Rattle.asn1_schema.proofs.Author.{octet_string_type, octet_string_value};

@@ -11,7 +11,7 @@ pub struct Limits {
     alphabet: Option<Alphabet>,
 }
 
-/// Permitted characters, by their numbers, and whether a mark stands behind them.
+/// Permitted characters, by their numbers, and whether an extension marker stands behind them.
 #[derive(Drop)]
 struct Alphabet {
     characters: Vec<u32>,
@@ -92,7 +92,7 @@ fn inside<'a>(text: &'a str, front: &str, back: &str) -> Option<&'a str> {
     text.strip_prefix(front)?.strip_suffix(back)
 }
 
-/// A constraint without its mark of extensibility, and whether it has one.
+/// A constraint without its extension marker, and whether it has one.
 fn without_mark(text: &str) -> (&str, bool) {
     match text.strip_suffix(",...") {
         Some(root) => (root, true),

@@ -306,7 +306,7 @@ impl ChoiceAlternatives for VersionedAlternative {
     }
 }
 
-/// What the other version has, and `c` behind its mark.
+/// What the other version has, and `c` behind its extension marker.
 impl ExtendsAlternatives<OldVersionedAlternative> for VersionedAlternative {
     ghost extends = { gains_alternatives ⟦<OldVersionedAlternative as ChoiceAlternatives>⟧.shape.table
         (variant (context 2) ⟦<Integer as Described>⟧.schema no_variant) ⟦<OldVersioned as Described>⟧.typed.lawful

@@ -1,4 +1,4 @@
-//! Sequences with a mark of extensibility.
+//! Sequences with an extension marker.
 ghost use Rattle.std.specs.Prelude.{refl, [], ◌∷◌};
 ghost use Rattle.asn1_model.specs.Value.{fields};
 ghost use Rattle.asn1_schema_presented.proofs.Values.{type_sequence, value_sequence};

@@ -1,4 +1,4 @@
-//! Numbers within bounds of their own, with a mark behind these.
+//! Numbers within bounds of their own, with an extension marker behind these.
 ghost use Rattle.std.specs.Prelude.{refl, pos, Some, true};
 ghost use Rattle.asn1_schema.specs.Author.{bounded_by};
 ghost use Rattle.asn1_schema.proofs.Author.{integer_type};

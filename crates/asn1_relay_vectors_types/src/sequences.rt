@@ -1,4 +1,4 @@
-//! Sequences without a mark of extensibility.
+//! Sequences without an extension marker.
 ghost use Rattle.std.specs.Prelude.{refl, pos, [], ◌∷◌};
 ghost use Rattle.asn1_model.specs.Value.{fields, number};
 ghost use Rattle.asn1_schema_presented.proofs.Defaults.{integer_default};

@@ -31,7 +31,7 @@ use asn1_schema_versions::{Extends, ExtendsComponents};
 use asn1_values::{Integer, OctetString};
 use std::alloc::Global;
 
-/// A BOOLEAN, and behind a mark these additions.
+/// A BOOLEAN, and behind an extension marker these additions.
 type Flagged<M, A> = RequiredComponent<bool, MarkedComponents<M, A>>;
 
 /// SEQUENCE {a BOOLEAN, ..., n Nest OPTIONAL}.
@@ -166,7 +166,7 @@ impl Listed for NewListForm {
     }
 }
 
-/// What the other version has, and `b` behind its mark.
+/// What the other version has, and `b` behind its extension marker.
 impl Extends<OldList> for NewList {
     ghost extends = { gains_additions _ ⟦<Numbers as AdditionsOf>⟧.additions ⟦<OldList as Described>⟧.typed.lawful
         refl };

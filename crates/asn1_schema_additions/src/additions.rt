@@ -39,7 +39,7 @@ pub trait AdditionsOf {
     fn described(&self) {}
 }
 
-/// No further addition: the end of a sequence or set with a mark of extensibility.
+/// No further addition: the end of a sequence or set with an extension marker.
 #[derive(Drop)]
 pub struct NoMore;
 
@@ -66,7 +66,7 @@ pub trait CountOf<A: AdditionsOf> {
     ghost countable: { addition_count A.additions ≤ 18446744073709551615 };
 }
 
-/// What stands behind the root components of a type with a mark of extensibility: its additions, as they are read.
+/// What stands behind the root components of a type with an extension marker: its additions, as they are read.
 /// The marker says that they can be counted.
 #[derive(Drop)]
 pub struct MarkedComponents<M, A>(pub A, pub PhantomData<M>);

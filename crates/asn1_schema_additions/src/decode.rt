@@ -389,7 +389,7 @@ pub trait DecodeExtension: Decoder {
         Ok(Some(group))
     }
 
-    /// SEQUENCE (X.680 25) of these components with a mark of extensibility, of whose root components so many may be
+    /// SEQUENCE (X.680 25) of these components with an extension marker, of whose root components so many may be
     /// absent.
     final fn decode_extensible_sequence<C: DecodeComponents>(
         &mut self,

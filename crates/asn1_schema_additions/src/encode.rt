@@ -237,7 +237,7 @@ pub trait EncodeExtension: Encoder {
         Ok(())
     }
 
-    /// SEQUENCE (X.680 25) of these components with a mark of extensibility, of whose root components so many may be
+    /// SEQUENCE (X.680 25) of these components with an extension marker, of whose root components so many may be
     /// absent.
     final fn encode_extensible_sequence<C: EncodeComponents>(
         &mut self,

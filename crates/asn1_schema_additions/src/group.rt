@@ -8,7 +8,7 @@ ghost use Rattle.asn1_schema_presented.specs.Additions.{IsGroup};
 
 use asn1_schema_constructed::Constructed;
 
-/// A group of additions (X.680 25.1), as a type of the program: a sequence without a mark of extensibility, with one
+/// A group of additions (X.680 25.1), as a type of the program: a sequence without an extension marker, with one
 /// component or more.
 pub trait Group: Constructed {
     /// Its components.
@@ -17,7 +17,7 @@ pub trait Group: Constructed {
     /// The components of a value.
     ghost parts: { Self → Parts };
 
-    /// There is no mark, and one component or more.
+    /// There is no extension marker, and one component or more.
     ghost plain: { IsGroup components };
 
     /// As a sequence it is lawful.

@@ -1,4 +1,4 @@
-//! Additions of sequences and sets behind a mark of extensibility (X.680 25 and 27), and groups of them.
+//! Additions of sequences and sets behind an extension marker (X.680 25 and 27), and groups of them.
 #![tactic(auto)]
 
 pub mod additions;

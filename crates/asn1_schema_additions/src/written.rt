@@ -17,7 +17,7 @@ use crate::group::Group;
 use asn1_schema_types::{ComponentsOf, DefaultOf, Described};
 use std::marker::PhantomData;
 
-/// What stands behind the root components of a type with a mark of extensibility: its additions, as they are written.
+/// What stands behind the root components of a type with an extension marker: its additions, as they are written.
 #[derive(Drop)]
 pub struct Marked<A: AdditionsOf> {
     /// The additions.

@@ -44,7 +44,7 @@ of_addition i d e x = record {
   fits = subst (λ (s : ℕ → Schema). IsValue s (d.meaning x)) (sym e) (d.valued x);
 }
 
--- CHOICE of some root alternatives, with or without a mark and added ones behind it.
+-- CHOICE of some root alternatives, with or without an extension marker and added ones behind it.
 abbrev pub choices : Listed → Bool → Listed → Choices
 choices r e a = record { root = r.variants; extensible = e; additions = a.variants }
 

@@ -7,7 +7,8 @@ use Rattle.asn1_schema_presented.specs.Additions.{IsGroup}
 use Rattle.asn1_schema_presented.specs.Tables.{Table, IsValue, sequence_type}
 use Rattle.asn1_schema_authored.specs.Shapes.{Shape}
 
--- There is no mark and one component or more; as a sequence the group is lawful, and each value is one of that.
+-- There is no extension marker and one component or more; as a sequence the group is lawful, and each value is one of
+-- that.
 pub record GroupShape (A : Type 0) : Type 0 where
   pub shape : Shape A
   pub plain : IsGroup shape.table

@@ -38,7 +38,7 @@ pub trait ChoiceAlternatives: Drop {
     fn variants() -> &'static [Tag]
         ensures { map tag_of result.now ≡ tags_of shape.table.root };
 
-    /// The tags of the added alternatives in their order, or `None` where there is no mark of extensibility.
+    /// The tags of the added alternatives in their order, or `None` where there is no extension marker.
     fn extended_variants() -> Option<&'static [Tag]>
         ensures { MatchOption result ((false ≡ shape.table.extensible) × ([] ≡ tags_of shape.table.additions))
             (λ tags. (true ≡ shape.table.extensible) × (map tag_of tags.now ≡ tags_of shape.table.additions)) };

@@ -23,7 +23,7 @@ use std::ops::Deref;
 pub struct Heading {
     /// Whether the type is a SET.
     pub set: bool,
-    /// Whether it has a mark of extensibility.
+    /// Whether it has an extension marker.
     pub extensible: bool,
     /// How many of its root components may be absent.
     pub optional: usize,
@@ -52,7 +52,7 @@ impl Heading {
         }
     }
 
-    /// The same with a mark of extensibility.
+    /// The same with an extension marker.
     pub fn extensible(self) -> Self
         ensures { result ≡ record { set = self.set; extensible = true; optional = self.optional } }
     {
@@ -248,7 +248,7 @@ pub trait FieldTables: Components {
     fn fields() -> Fields<'static>
         ensures { AreFields result.fields.now Self.shape.table.root };
 
-    /// The fields of the additions, or `None` where there is no mark of extensibility.
+    /// The fields of the additions, or `None` where there is no extension marker.
     fn extended_fields() -> Option<Fields<'static>>
         ensures { AreAdditions result Self.shape.table };
 }

@@ -7,7 +7,7 @@ use asn1_schema_additions::{
 };
 use asn1_schema_types::Described;
 
-/// No addition, of which a type with a mark may have none yet.
+/// No addition, of which a type with an extension marker may have none yet.
 #[derive(Drop)]
 pub struct NoAddition;
 

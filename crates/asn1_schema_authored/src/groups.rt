@@ -9,7 +9,7 @@ use asn1_schema_additions::Group;
 
 /// A struct whose fields are the components of a group of additions (X.680 25.1).
 pub trait GroupComponents: FieldTables {
-    /// The components, of which there is one or more, and no mark behind them.
+    /// The components, of which there is one or more, and no extension marker behind them.
     ghost group: { GroupShape Self };
 
     /// Whether none of the components is there.

@@ -46,23 +46,23 @@ abbrev pub alphabet_part : Constraint → Option (Extensible PermittedAlphabet)
 alphabet_part (OfAlphabet c) = Some c
 alphabet_part c = None
 
--- Whether a constraint has a mark of extensibility (X.680 52).
+-- Whether a constraint has an extension marker (X.680 52).
 abbrev pub has_additions : {X : Type 0} → Extensible X → Bool
 has_additions c = is_some c.extensible
 
--- Whether a constraint has a mark, or is the mark of its type.
+-- Whether a constraint has an extension marker, or is the extension marker of its type.
 abbrev pub has_mark : Constraint → Bool
 has_mark (OfValue c) = has_additions c
 has_mark (OfSize c) = has_additions c
 has_mark (OfAlphabet c) = has_additions c
 has_mark Mark = true
 
--- Whether there is a constraint and it has a mark.
+-- Whether there is a constraint and it has an extension marker.
 abbrev pub is_extended : {X : Type 0} → Option (Extensible X) → Bool
 is_extended None = false
 is_extended (Some c) = has_additions c
 
--- Whether some constraint has a mark, or the type itself.
+-- Whether some constraint has an extension marker, or the type itself.
 abbrev pub is_marked : Constraints → Bool
 is_marked c = c.is_marked || (is_extended c.value || (is_extended c.size || is_extended c.permitted_alphabet))
 
@@ -77,12 +77,13 @@ alone (OfSize c) = record unconstrained { size = Some c }
 alone (OfAlphabet c) = record unconstrained { permitted_alphabet = Some c }
 alone Mark = record unconstrained { is_marked = true }
 
--- What is behind the later mark, or else behind the earlier one.
+-- What is behind the later extension marker, or else behind the earlier one.
 abbrev pub later_mark : {X : Type 0} → Option X → Option X → Option X
 later_mark a None = a
 later_mark a (Some b) = Some b
 
--- Two constraints of a kind, applied in turn: the roots met, with a mark where either has one (X.680 50 and 52).
+-- Two constraints of a kind, applied in turn: the roots met, with an extension marker where either has one (X.680 50
+-- and 52).
 abbrev pub in_turn : {X : Type 0} → (X → X → X) → Extensible X → Extensible X → Extensible X
 in_turn met a b = record {
   constraint = met a.constraint b.constraint;

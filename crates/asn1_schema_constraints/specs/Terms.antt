@@ -15,14 +15,15 @@ use Rattle.asn1_schema_constraints.specs.declared.lists.Constraints.{Constraints
 use Rattle.asn1_schema_constraints.specs.declared.sizes.Sizes.{Sizes}
 
 -- What constraints mean for a type: the bounds of its numbers, whether there is a value constraint at all, its sizes,
--- and its permitted alphabet, each with its mark of extensibility (X.680 51 and 52).
+-- and its permitted alphabet, each with its extension marker (X.680 51 and 52).
 pub record Meant : Type 0 where
   pub bounds : Bounds
   pub is_bounded : Bool
   pub size : SizeTerm
   pub alphabet : Alphabet
 
--- The bounds of a value constraint, where there is one, and whether a mark follows them (X.680 51.4 and 52).
+-- The bounds of a value constraint, where there is one, and whether an extension marker follows them (X.680 51.4 and
+-- 52).
 abbrev pub bounds_of : Option (Extensible Value) → Bounds
 bounds_of None = record { range = record { low = None; high = None }; extensible = false }
 bounds_of (Some c) = record { range = range_of c.constraint.value; extensible = has_additions c }
@@ -43,26 +44,27 @@ held_where true held = record {
 abbrev pub held_of : Option (Extensible Value) → Range → Range
 held_of c held = held_where (is_some c) held
 
--- Whether a value constraint, where there is one, admits a number: one of 128 bits, within bounds that have no mark
--- (X.680 51.4 and 52).
+-- Whether a value constraint, where there is one, admits a number: one of 128 bits, within bounds that have no
+-- extension marker (X.680 51.4 and 52).
 abbrev pub admits_whole : Option (Extensible Value) → ℤ → Bool
 admits_whole None v = true
 admits_whole (Some c) v = is_within wide_range v && (has_additions c || is_within (range_of c.constraint.value) v)
 
--- The sizes of a size constraint, where there is one, and whether a mark follows them (X.680 51.5 and 52).
+-- The sizes of a size constraint, where there is one, and whether an extension marker follows them (X.680 51.5 and 52).
 abbrev pub sizes_of : Option (Extensible Size) → SizeTerm
 sizes_of None = record { counts = record { low = 0; high = None }; extensible = false }
 sizes_of (Some c) = record { counts = counts_of c.constraint.range; extensible = has_additions c }
 
--- The sizes of the root, and whether a mark follows them, as the model has them (X.680 51.5 and 52).
+-- The sizes of the root, and whether an extension marker follows them, as the model has them (X.680 51.5 and 52).
 abbrev pub size_of : Sizes → SizeTerm
 size_of z = record { counts = counts_of z.root; extensible = z.is_extensible }
 
--- The one size, where there is one and no mark (X.696 13, 14 and 27).
+-- The one size, where there is one and no extension marker (X.696 13, 14 and 27).
 abbrev pub one_size : SizeTerm → Option ℕ
 one_size z = cond (is_fixed z) (Some z.counts.low) None
 
--- The characters of a permitted alphabet, where there is one, and whether a mark follows them (X.680 51.7 and 52).
+-- The characters of a permitted alphabet, where there is one, and whether an extension marker follows them (X.680 51.7
+-- and 52).
 abbrev pub alphabet_of : Option (Extensible PermittedAlphabet) → Alphabet
 alphabet_of None = record { characters = None; extensible = false }
 alphabet_of (Some c) = record { characters = Some c.constraint.characters.now; extensible = has_additions c }
@@ -85,7 +87,7 @@ no_constraint = record {
   alphabet = record { characters = None; extensible = false };
 }
 
--- A value constraint: the least and the greatest number, where they are given, and whether a mark follows
+-- A value constraint: the least and the greatest number, where they are given, and whether an extension marker follows
 -- (X.680 51.4 and 52).
 abbrev pub bounded_by : Option ℤ → Option ℤ → Bool → Meant
 bounded_by low high mark = record no_constraint {
@@ -93,11 +95,12 @@ bounded_by low high mark = record no_constraint {
   is_bounded = true;
 }
 
--- The numbers from one to another, without a mark.
+-- The numbers from one to another, without an extension marker.
 abbrev pub from_to : ℤ → ℤ → Meant
 from_to low high = bounded_by (Some low) (Some high) false
 
--- A size constraint: the least size, the greatest where it is given, and whether a mark follows (X.680 51.5 and 52).
+-- A size constraint: the least size, the greatest where it is given, and whether an extension marker follows (X.680
+-- 51.5 and 52).
 abbrev pub sized : ℕ → Option ℕ → Bool → Meant
 sized low high mark = record no_constraint {
   size = record { counts = record { low = low; high = high }; extensible = mark };

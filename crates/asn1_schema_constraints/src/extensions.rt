@@ -1,4 +1,4 @@
-//! Constraints with a mark of extensibility (X.680 clause 52), and permitted alphabets.
+//! Constraints with an extension marker (X.680 clause 52), and permitted alphabets.
 ghost use Rattle.std.specs.Prelude.{◌≡◌, Some, None, is_some, IfSome, []};
 
 use crate::{Size, Value};
@@ -45,17 +45,17 @@ impl<'a> DerefSlice for PermittedAlphabet<'a> {
     }
 }
 
-/// A constraint, and the constraints behind its mark of extensibility (X.680 52), if it has one.
+/// A constraint, and the constraints behind its extension marker (X.680 52), if it has one.
 #[derive(Clone, Copy, Debug, PartialEq, Eq)]
 pub struct Extensible<'a, T> {
-    /// The constraint before the mark: the root.
+    /// The constraint before the extension marker: the root.
     pub constraint: T,
-    /// The constraints behind the mark, if there is one.
+    /// The constraints behind the extension marker, if there is one.
     pub extensible: Option<&'a [T]>,
 }
 
 impl<'a, T> Extensible<'a, T> {
-    /// This constraint, without a mark.
+    /// This constraint, without an extension marker.
     pub fn new(constraint: T) -> Self
         ensures root { result.constraint ≡ constraint }
         ensures mark { result.extensible ≡ None }
@@ -66,7 +66,7 @@ impl<'a, T> Extensible<'a, T> {
         }
     }
 
-    /// This constraint, and behind its mark these ones.
+    /// This constraint, and behind its extension marker these ones.
     pub fn new_extensible(constraint: T, constraints: &'a [T]) -> Self
         ensures root { result.constraint ≡ constraint }
         ensures mark { result.extensible ≡ Some constraints.entry }
@@ -77,7 +77,7 @@ impl<'a, T> Extensible<'a, T> {
         }
     }
 
-    /// The same root with a mark and nothing behind it, or without a mark.
+    /// The same root with an extension marker and nothing behind it, or without an extension marker.
     pub fn set_extensible(self, extensible: bool) -> Self
         ensures root { result.constraint ≡ self.entry.constraint }
         ensures mark { is_some result.extensible ≡ extensible }
@@ -86,7 +86,7 @@ impl<'a, T> Extensible<'a, T> {
         self.extensible_with_constraints(if extensible { Some(&[]) } else { None })
     }
 
-    /// The same root, and behind its mark these constraints, or without a mark.
+    /// The same root, and behind its extension marker these constraints, or without an extension marker.
     pub fn extensible_with_constraints(self, constraints: Option<&'a [T]>) -> Self
         ensures root { result.constraint ≡ self.entry.constraint }
         ensures mark { result.extensible ≡ constraints.entry }

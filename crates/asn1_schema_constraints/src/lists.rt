@@ -20,7 +20,7 @@ pub enum Constraint<'a> {
     Size(Extensible<'a, Size>),
     /// On the characters of a string (X.680 51.7).
     PermittedAlphabet(Extensible<'a, PermittedAlphabet<'a>>),
-    /// None: the type itself has a mark of extensibility (X.680 20, 25, 27 and 29).
+    /// None: the type itself has an extension marker (X.680 20, 25, 27 and 29).
     Extensible,
 }
 
@@ -33,7 +33,7 @@ pub enum ConstraintDiscriminant {
     Size,
     /// On the characters of a string.
     PermittedAlphabet,
-    /// A mark of the type itself.
+    /// An extension marker of the type itself.
     Extensible,
 }
 
@@ -50,7 +50,7 @@ impl<'a> Constraint<'a> {
         }
     }
 
-    /// The number of the kind: 0 for values, 1 for sizes, 2 for permitted alphabets and 3 for a mark.
+    /// The number of the kind: 0 for values, 1 for sizes, 2 for permitted alphabets and 3 for an extension marker.
     pub fn variant_as_isize(&self) -> isize
         ensures { result ≡ pos (kind_number (kind_of self.now)) }
     {
@@ -99,7 +99,7 @@ impl<'a> Constraint<'a> {
         self.as_value()
     }
 
-    /// Whether it has a mark of extensibility, or is one.
+    /// Whether it has an extension marker, or is one.
     pub fn is_extensible(&self) -> bool
         ensures { result ≡ has_mark self.now }
     {
@@ -212,7 +212,7 @@ fn alphabets_in_turn<'a>(
 }
 
 /// What a list of constraints comes to: at most one constraint of each kind, and whether the type itself
-/// has a mark of extensibility.
+/// has an extension marker.
 #[derive(Clone, Copy, Debug, PartialEq, Eq)]
 pub struct Constraints<'a> {
     /// The constraint on the value of a number.
@@ -221,7 +221,7 @@ pub struct Constraints<'a> {
     pub size: Option<Extensible<'a, Size>>,
     /// The constraint on the characters of a string.
     pub permitted_alphabet: Option<Extensible<'a, PermittedAlphabet<'a>>>,
-    /// Whether the type itself has a mark of extensibility.
+    /// Whether the type itself has an extension marker.
     pub is_marked: bool,
 }
 
@@ -247,8 +247,8 @@ impl<'a> Constraints<'a> {
         all
     }
 
-    /// These constraints and then the other ones: what both admit, with a mark where either has one, and behind it
-    /// what stands behind the later mark. Of two permitted alphabets the later one stands.
+    /// These constraints and then the other ones: what both admit, with an extension marker where either has one, and
+    /// behind it what stands behind the later extension marker. Of two permitted alphabets the later one stands.
     pub fn intersect(&self, rhs: Constraints<'a>) -> Self
         ensures parts { result ≡ both self.now rhs.entry }
         ensures numbers { (v : ℤ) → admit_number result v ≡ (admit_number self.now v && admit_number rhs.entry v) }
@@ -276,7 +276,7 @@ impl<'a> Constraints<'a> {
         self.permitted_alphabet.as_ref()
     }
 
-    /// Whether there is a mark of extensibility: of the type itself, or of a constraint.
+    /// Whether there is an extension marker: of the type itself, or of a constraint.
     pub fn extensible(&self) -> bool
         ensures { result ≡ is_marked self.now }
     {

@@ -6,17 +6,17 @@ ghost use Rattle.asn1_schema_constraints.specs.Terms.{sizes_of, size_of, one_siz
 
 use crate::{Bounded, Constraints};
 
-/// The sizes of the root, and whether an extension mark follows them (X.680 51.5 and 52).
+/// The sizes of the root, and whether an extension marker follows them (X.680 51.5 and 52).
 #[derive(Clone, Copy, Debug, PartialEq, Eq)]
 pub struct Sizes {
     /// The sizes of the root.
     pub root: Bounded<usize>,
-    /// Whether an extension mark follows.
+    /// Whether an extension marker follows.
     pub is_extensible: bool,
 }
 
 impl Constraints<'_> {
-    /// The sizes that these constraints leave: all, and no extension mark, where there is no size constraint.
+    /// The sizes that these constraints leave: all, and no extension marker, where there is no size constraint.
     #[inline(always)]
     pub fn sizes(&self) -> Sizes
         ensures { size_of result ≡ sizes_of self.now.size }
@@ -35,7 +35,7 @@ impl Constraints<'_> {
 }
 
 impl Sizes {
-    /// The one size, if the root has no other and no extension mark follows: no length determinant is written then
+    /// The one size, if the root has no other and no extension marker follows: no length determinant is written then
     /// (X.696 13, 14 and 27).
     #[inline(always)]
     pub fn fixed(&self) -> Option<usize>
@@ -47,7 +47,7 @@ impl Sizes {
         }
     }
 
-    /// Whether the root has one size alone and no extension mark follows.
+    /// Whether the root has one size alone and no extension marker follows.
     #[inline(always)]
     pub fn is_fixed(&self) -> bool
         ensures { result ≡ is_fixed (size_of self.now) }
@@ -56,7 +56,7 @@ impl Sizes {
     }
 
     /// Whether a type of the program that holds these numbers holds so many, and the root has so many, or an extension
-    /// mark follows it.
+    /// marker follows it.
     #[inline(always)]
     pub fn admits(&self, held: Bounded<usize>, count: usize) -> bool
         ensures { result ≡ admits (size_of self.now) (counts_of held) count }

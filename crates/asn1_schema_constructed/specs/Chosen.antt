@@ -42,7 +42,7 @@ begins t b i = choice_begins (tags_of t.root) t.extensible (tags_of t.additions)
 abbrev pub asks : Choices → Question
 asks t = asks_choice (tags_of t.root) t.extensible (tags_of t.additions)
 
--- The tags and the mark that a codec is told are those of the choice.
+-- The tags and the extension marker that a codec is told are those of the choice.
 pub record AreTold (t : Choices) (roots : List Tag) (extensible : Bool) (additions : List Tag) : Type 0 where
   pub root : roots ≡ tags_of t.root
   pub marked : extensible ≡ t.extensible

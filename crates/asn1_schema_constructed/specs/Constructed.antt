@@ -22,7 +22,7 @@ AreFields [] no_field = Unit {0}
 AreFields (f ∷ fs) (field t o s rest) = (leaves f.tag_tree ≡ t) × (f.presence ≡ presence_of o) × AreFields fs rest
 AreFields fs rest = ⊥
 
--- The fields of the additions: none where there is no mark of extensibility, and else those behind it (X.680 25).
+-- The fields of the additions: none where there is no extension marker, and else those behind it (X.680 25).
 abbrev pub AreAdditions : Option Fields → Table → Type 0
 AreAdditions None t = t.extensible ≡ false
 AreAdditions (Some fs) t = (t.extensible ≡ true) × AreFields fs.fields.now t.additions

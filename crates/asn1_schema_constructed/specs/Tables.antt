@@ -17,8 +17,8 @@ unfoldable pub alternatives_at : ℕ → Variants → Alternatives
 alternatives_at n no_variant = no_alternative
 alternatives_at n (variant t s vs) = alternative t (s n) (alternatives_at n vs)
 
--- What a choice has: its root alternatives in the ascending order of their tags, whether there is a mark, and the
--- added alternatives behind it (X.680 29).
+-- What a choice has: its root alternatives in the ascending order of their tags, whether there is an extension marker,
+-- and the added alternatives behind it (X.680 29).
 pub record Choices : Type 0 where
   pub root : Variants
   pub extensible : Bool
@@ -44,8 +44,8 @@ type_at (variant t s vs) (suc i) = type_at vs i
 unfoldable pub choice_type : Choices → ℕ → Schema
 choice_type t n = scope n (λ m. choice (alternatives_at m t.root) t.extensible (alternatives_at m t.additions))
 
--- There is a root alternative, and added ones only behind a mark; the tags of the root ascend, and no tag occurs
--- twice (X.680 29.3).
+-- There is a root alternative, and added ones only behind an extension marker; the tags of the root ascend, and no tag
+-- occurs twice (X.680 29.3).
 abbrev pub are_choices : Choices → Bool
 are_choices t =
     not (is_empty (tags_of t.root)) && (t.extensible || is_empty (tags_of t.additions))
@@ -61,8 +61,8 @@ pub record AreVariants (vs : Variants) : Type 0 where
 abbrev pub all_tags : Choices → List Tag
 all_tags t = tags_of t.root ++ tags_of t.additions
 
--- The numbers of an enumeration's items: there is a root item, and added ones only behind a mark; the numbers of
--- either table ascend, and none occurs twice (X.680 20.4 to 20.6).
+-- The numbers of an enumeration's items: there is a root item, and added ones only behind an extension marker; the
+-- numbers of either table ascend, and none occurs twice (X.680 20.4 to 20.6).
 abbrev pub are_items : List ℤ → Bool → List ℤ → Bool
 are_items roots e others =
     not (is_empty roots) && (e || is_empty others) && are_ascending int_less roots && are_ascending int_less others

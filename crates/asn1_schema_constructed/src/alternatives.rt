@@ -24,7 +24,7 @@ pub trait Alternatives: AsnType {
     fn variants() -> &'static [Tag]
         ensures { map tag_of result.now ≡ tags_of table.root };
 
-    /// The tags of the added alternatives in their order, or `None` where there is no mark of extensibility.
+    /// The tags of the added alternatives in their order, or `None` where there is no extension marker.
     fn extended_variants() -> Option<&'static [Tag]>
         ensures { MatchOption result ((false ≡ table.extensible) × ([] ≡ tags_of table.additions))
             (λ tags. (true ≡ table.extensible) × (map tag_of tags.now ≡ tags_of table.additions)) };
@@ -68,7 +68,7 @@ pub trait Choice: Alternatives {
 pub struct TagTables {
     /// The tags of the root alternatives.
     pub roots: &'static [Tag],
-    /// Whether there is a mark of extensibility.
+    /// Whether there is an extension marker.
     pub extensible: bool,
     /// The tags of the added alternatives.
     pub additions: &'static [Tag],

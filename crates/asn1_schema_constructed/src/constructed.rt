@@ -33,11 +33,11 @@ pub trait Constructed: AsnType + Drop {
     fn fields() -> Fields<'static>
         ensures { AreFields result.fields.now table.root };
 
-    /// The fields of the additions, or `None` where there is no mark of extensibility.
+    /// The fields of the additions, or `None` where there is no extension marker.
     fn extended_fields() -> Option<Fields<'static>>
         ensures { AreAdditions result table };
 
-    /// Whether there is a mark of extensibility.
+    /// Whether there is an extension marker.
     fn is_extensible() -> bool
         ensures { result ≡ table.extensible };
 

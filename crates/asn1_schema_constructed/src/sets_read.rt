@@ -13,7 +13,7 @@ use std::alloc::Global;
 
 /// How sets are read.
 pub trait DecodeSet: Decoder {
-    /// SET (X.680 27) of these components, with or without a mark of extensibility, of whose root components so many
+    /// SET (X.680 27) of these components, with or without an extension marker, of whose root components so many
     /// may be absent.
     final fn decode_set<C: DecodeComponents>(
         &mut self,

@@ -12,7 +12,7 @@ use asn1_schema_tags::Tag;
 
 /// How sets are written.
 pub trait EncodeSet: Encoder {
-    /// SET (X.680 27) of these components, with or without a mark of extensibility, of whose root components so many
+    /// SET (X.680 27) of these components, with or without an extension marker, of whose root components so many
     /// may be absent.
     final fn encode_set<C: EncodeComponents>(
         &mut self,

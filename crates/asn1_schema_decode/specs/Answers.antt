@@ -7,7 +7,7 @@ use Rattle.asn1_schema_constraints.specs.declared.bounds.Bounded.{Bounded}
 use Rattle.asn1_schema_constraints.specs.declared.lists.Constraints.{Constraints}
 use Rattle.asn1_schema_presented.specs.Records.{Record}
 
--- The number is within the value constraint, or that has a mark of extensibility (X.680 51.4 and 52).
+-- The number is within the value constraint, or that has an extension marker (X.680 51.4 and 52).
 abbrev pub is_admitted : Constraints → ℤ → Bool
 is_admitted c v = (bounds_of c.value).extensible || is_within (bounds_of c.value).range v
 

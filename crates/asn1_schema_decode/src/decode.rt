@@ -144,7 +144,7 @@ pub trait Decoder {
         ensures already { has_failed self.old → result ≡ Err DecodeError.AlreadyFailed }
         ensures after { result ≡ Err DecodeError.AlreadyFailed → has_failed self.old };
 
-    /// INTEGER (X.680 19) under a value constraint: a number within it, if that has no mark of extensibility.
+    /// INTEGER (X.680 19) under a value constraint: a number within it, if that has no extension marker.
     fn decode_integer<I: IntegerType>(
         &mut self,
         alloc: Global,
@@ -290,7 +290,7 @@ pub trait Decoder {
         ensures already { has_failed self.old → result ≡ Err DecodeError.AlreadyFailed }
         ensures after { result ≡ Err DecodeError.AlreadyFailed → has_failed self.old };
 
-    /// A SEQUENCE begins (X.680 25), with or without a mark of extensibility, of whose root components so
+    /// A SEQUENCE begins (X.680 25), with or without an extension marker, of whose root components so
     /// many may be absent.
     fn begin_sequence(
         &mut self,
@@ -305,7 +305,7 @@ pub trait Decoder {
         ensures already { has_failed self.old → result ≡ Err DecodeError.AlreadyFailed }
         ensures after { result ≡ Err DecodeError.AlreadyFailed → has_failed self.old };
 
-    /// A SET begins (X.680 27), with or without a mark of extensibility, of whose root components so many may be
+    /// A SET begins (X.680 27), with or without an extension marker, of whose root components so many may be
     /// absent. They come in the ascending order of their tags.
     fn begin_set(&mut self, tag: Tag, extensible: bool, optional: usize) -> Result<(), DecodeError>
         ensures ok { OnOk result (step self.old (set_begins extensible optional) self.new) }
@@ -351,7 +351,7 @@ pub trait Decoder {
         ensures already { has_failed self.old → result ≡ Err DecodeError.AlreadyFailed }
         ensures after { result ≡ Err DecodeError.AlreadyFailed → has_failed self.old };
 
-    /// Behind the root components of a type with a mark of extensibility come its additions (X.680 25 and 27), so
+    /// Behind the root components of a type with an extension marker come its additions (X.680 25 and 27), so
     /// many. Those that the input has besides are skipped at the end.
     fn begin_additions(&mut self, count: usize) -> Result<(), DecodeError>
         ensures ok { OnOk result (step self.old (additions_begin count) self.new) }
@@ -379,7 +379,7 @@ pub trait Decoder {
         ensures already { has_failed self.old → result ≡ Err DecodeError.AlreadyFailed }
         ensures after { result ≡ Err DecodeError.AlreadyFailed → has_failed self.old };
 
-    /// A CHOICE begins (X.680 29), with the tags of its root alternatives, whether it has a mark of extensibility, and
+    /// A CHOICE begins (X.680 29), with the tags of its root alternatives, whether it has an extension marker, and
     /// the tags of its added alternatives: which one is chosen. Its end is called behind the value of the alternative.
     fn begin_choice(
         &mut self,

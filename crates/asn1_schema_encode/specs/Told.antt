@@ -5,7 +5,7 @@ use Rattle.asn1_schema_tags.specs.Tags.{tag_of}
 use Rattle.asn1_schema_tags.specs.declared.tags.Tag.{Tag}
 use Rattle.asn1_schema_variants.specs.declared.chosen.Chosen.{Chosen}
 
--- The tags of its root alternatives, whether it has a mark of extensibility, the tags of its added alternatives, and
+-- The tags of its root alternatives, whether it has an extension marker, the tags of its added alternatives, and
 -- which one is chosen (X.680 29).
 abbrev pub chosen_of : List Tag → Bool → List Tag → Chosen → Record
 chosen_of roots extensible additions chosen =

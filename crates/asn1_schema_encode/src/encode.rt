@@ -203,7 +203,7 @@ pub trait Encoder {
         ensures already { has_failed self.old → result ≡ Err EncodeError.AlreadyFailed }
         ensures after { result ≡ Err EncodeError.AlreadyFailed → has_failed self.old };
 
-    /// A SEQUENCE begins (X.680 25), with or without a mark of extensibility, of whose root components so
+    /// A SEQUENCE begins (X.680 25), with or without an extension marker, of whose root components so
     /// many may be absent.
     fn begin_sequence(
         &mut self,
@@ -217,7 +217,7 @@ pub trait Encoder {
         ensures already { has_failed self.old → result ≡ Err EncodeError.AlreadyFailed }
         ensures after { result ≡ Err EncodeError.AlreadyFailed → has_failed self.old };
 
-    /// A SET begins (X.680 27), with or without a mark of extensibility, of whose root components so many may be
+    /// A SET begins (X.680 27), with or without an extension marker, of whose root components so many may be
     /// absent. They are handed over in the ascending order of their tags.
     fn begin_set(&mut self, tag: Tag, extensible: bool, optional: usize) -> Result<(), EncodeError>
         ensures ok { OnOk result (step self.old (set_begins extensible optional) self.new) }
@@ -242,7 +242,7 @@ pub trait Encoder {
         ensures already { has_failed self.old → result ≡ Err EncodeError.AlreadyFailed }
         ensures after { result ≡ Err EncodeError.AlreadyFailed → has_failed self.old };
 
-    /// Behind the root components of a type with a mark of extensibility come its additions (X.680 25 and 27), so
+    /// Behind the root components of a type with an extension marker come its additions (X.680 25 and 27), so
     /// many.
     fn begin_additions(&mut self, count: usize) -> Result<(), EncodeError>
         ensures ok { OnOk result (step self.old (additions_begin count) self.new) }
@@ -267,7 +267,7 @@ pub trait Encoder {
         ensures already { has_failed self.old → result ≡ Err EncodeError.AlreadyFailed }
         ensures after { result ≡ Err EncodeError.AlreadyFailed → has_failed self.old };
 
-    /// A CHOICE begins (X.680 29), with the tags of its root alternatives, whether it has a mark of extensibility,
+    /// A CHOICE begins (X.680 29), with the tags of its root alternatives, whether it has an extension marker,
     /// the tags of its added alternatives, and the chosen one. Its end is called behind the value of the alternative.
     fn begin_choice(
         &mut self,

@@ -81,7 +81,7 @@ pub enum DecodeError {
     /// A tag has no class or number. No call answers this.
     #[error("a tag has no class or number")]
     MissingTagClassOrValue,
-    /// A type without a mark has additions. No call answers this.
+    /// A type without an extension marker has additions. No call answers this.
     #[error("the type is not extensible")]
     TypeNotExtensible,
     /// An object identifier is truncated, padded or empty, or an arc is past 32 bits.

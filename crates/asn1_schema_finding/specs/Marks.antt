@@ -1,7 +1,7 @@
 -- The bits of preambles and of presence bitmaps (X.691 19 and X.696 16).
 use Rattle.std.specs.Prelude.{ℕ, zero, suc, Bool, false, ◌||◌, List, [], ◌∷◌, Option, Some, None}
 
--- The bits of a preamble: that of the mark, if there is one, and the presence bits (X.691 19.1 and 19.2, X.696 16.2).
+-- The bits of a preamble: the extension bit, if there is one, and the presence bits (X.691 19.1 and 19.2, X.696 16.2).
 abbrev pub preamble_bits : Option Bool → List Bool → List Bool
 preamble_bits None ms = ms
 preamble_bits (Some x) ms = x ∷ ms

@@ -50,7 +50,7 @@ there_records required s v e = rw e (append_nothing (presents s v))
 there_records optional s v e = rw e (ap (λ rs. mark true ∷ rs) (append_nothing (presents s v)))
 there_records (by_default d) s v e = rw e (ap (λ rs. mark true ∷ rs) (append_nothing (presents s v)))
 
--- a value behind its mark
+-- a value behind its extension marker
 pub marked_records : (o : Presence) (s : Schema) (v : Value) → is_required o ≡ false → noted o s v ≡ [] → part_records (λ w. presents s w) o s (there v) ≡ mark true ∷ presents s v
 marked_records o s v r e = there_records o s v e ∙ rw r refl
 

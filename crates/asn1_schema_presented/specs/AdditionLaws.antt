@@ -9,7 +9,7 @@ use Rattle.asn1_schema_presented.specs.Typed.{AreTypes, AreValues, IsPart}
 use Rattle.asn1_schema_presented.specs.Additions.{marked_table, AreAdditionTypes, AreAdditionValues, IsAddition}
 use Rattle.asn1_schema_presented.specs.Additions.{IsGroup, group_type, group_part}
 
--- Additions whose types may stand there make a table with a mark.
+-- Additions whose types may stand there make a table with an extension marker.
 abbrev pub AdditionsAreTyped : Type 0
 AdditionsAreTyped = (fs : Fields) → AreAdditionTypes fs → AreTypes (marked_table fs)
 
@@ -17,8 +17,8 @@ AdditionsAreTyped = (fs : Fields) → AreAdditionTypes fs → AreTypes (marked_t
 abbrev pub AdditionsAreValued : Type 0
 AdditionsAreValued = (fs : Fields) (qs : Parts) → AreAdditionValues fs qs → AreValues (marked_table fs) end qs
 
--- The components of a lawful sequence without a mark, one or more, whose defaults are in normal form, make a group
--- that may stand among additions.
+-- The components of a lawful sequence without an extension marker, one or more, whose defaults are in normal form, make
+-- a group that may stand among additions.
 abbrev pub GroupsAreTyped : Type 0
 GroupsAreTyped =
     (t : Table) → IsGroup t

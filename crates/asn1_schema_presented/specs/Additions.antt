@@ -1,4 +1,4 @@
--- The additions behind a mark of extensibility, and groups of them (X.680 25).
+-- The additions behind an extension marker, and groups of them (X.680 25).
 use Rattle.std.specs.Prelude.{◌≡◌, ◌≤◌, ℕ, suc, true, false, not, ◌||◌, List, Option, Some, None}
 use Rattle.asn1_model.specs.Value.{Parts, fields, end, are_absent, depth_of_parts}
 use Rattle.asn1_model.specs.Schema.{Tag, Presence, Schema, group}
@@ -15,7 +15,7 @@ abbrev pub addition_count : Fields → ℕ
 addition_count no_field = 0
 addition_count (field t o s fs) = suc (addition_count fs)
 
--- What stands behind the root components of a type with a mark: these additions.
+-- What stands behind the root components of a type with an extension marker: these additions.
 abbrev pub marked_table : Fields → Table
 marked_table fs = record { root = no_field; extensible = true; additions = fs }
 
@@ -45,7 +45,7 @@ pub record AreAdditionValues (fs : Fields) (qs : Parts) : Type 0 where
 unfoldable pub group_type : Table → ℕ → Schema
 group_type t n = scope n (λ m. group (components_at m t.root))
 
--- A table may be that of a group: there is no mark, and one component or more.
+-- A table may be that of a group: there is no extension marker, and one component or more.
 pub record IsGroup (t : Table) : Type 0 where
   pub unmarked : t.extensible ≡ false
   pub no_additions : t.additions ≡ no_field

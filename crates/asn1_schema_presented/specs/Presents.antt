@@ -45,7 +45,7 @@ with_part (there v) ps = present v ps
 
 -- ---- records
 
--- The mark before a component that is there, if there is one.
+-- The presence bit before a component that is there, if there is one.
 abbrev pub marked : Bool → List Record → List Record
 marked true rs = rs
 marked false rs = mark true ∷ rs
@@ -69,8 +69,8 @@ abbrev pub member_records : (Value → List Record) → Values → List Record
 member_records f no_more = further false ∷ ends ∷ []
 member_records f (member v vs) = further true ∷ (f v ++ member_records f vs)
 
--- What follows the root components: the additions, where there is a mark, and the end. Additions without a mark,
--- which no lawful type has, are handed over, and no codec takes them.
+-- What follows the root components: the additions, where there is an extension marker, and the end. Additions without
+-- an extension marker, which no lawful type has, are handed over, and no codec takes them.
 abbrev pub behind_root : Bool → Components → List Record → List Record
 behind_root e adds rs = cond (e || not (are_no_components adds)) (additions_begin (component_count adds) ∷ rs) rs
 

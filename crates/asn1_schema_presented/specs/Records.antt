@@ -11,7 +11,7 @@ pub data Record : Type 0 where
   nil : Record
   -- INTEGER: its constraint, the numbers that the program's type holds, and the number
   whole : Bounds → Range → ℤ → Record
-  -- ENUMERATED: the root items, whether there is a mark, the added items, and the item
+  -- ENUMERATED: the root items, whether there is an extension marker, the added items, and the item
   one_of : List ℤ → Bool → List ℤ → ℤ → Record
   -- BIT STRING: its size, the lengths that the program's type holds, and the bits
   bits : Size → Counts → List Bool → Record
@@ -27,7 +27,7 @@ pub data Record : Type 0 where
   bag_begins : Size → Counts → ℕ → Record
   -- whether a further member comes; before each of them, and behind the last
   further : Bool → Record
-  -- SEQUENCE begins: whether it has a mark of extensibility, and how many root components may be absent
+  -- SEQUENCE begins: whether it has an extension marker, and how many root components may be absent
   sequence_begins : Bool → ℕ → Record
   -- SET begins: the same
   set_begins : Bool → ℕ → Record
@@ -38,13 +38,13 @@ pub data Record : Type 0 where
   -- the component that was handed over is equal to its default, or a group in which nothing is left: no writer takes it
   is_default : Record
   is_empty : Record
-  -- behind the root components of a type with a mark: how many additions it has
+  -- behind the root components of a type with an extension marker: how many additions it has
   additions_begin : ℕ → Record
   -- whether the next addition is there
   addition : Bool → Record
   addition_ends : Record
-  -- CHOICE: the tags of the root alternatives, whether there is a mark, the tags of the added ones, whether the
-  -- chosen one is added, and its place
+  -- CHOICE: the tags of the root alternatives, whether there is an extension marker, the tags of the added ones,
+  -- whether the chosen one is added, and its place
   choice_begins : List Tag → Bool → List Tag → Bool → ℕ → Record
   -- the end of a list, bag, sequence, set, group or choice
   ends : Record

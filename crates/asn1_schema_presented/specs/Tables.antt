@@ -24,13 +24,13 @@ unfoldable pub components_at : ℕ → Fields → Components
 components_at n no_field = no_component
 components_at n (field t o s fs) = component t o (s n) (components_at n fs)
 
--- What a sequence has: root components, whether there is a mark, and the additions behind it (X.680 25).
+-- What a sequence has: root components, whether there is an extension marker, and the additions behind it (X.680 25).
 pub record Table : Type 0 where
   pub root : Fields
   pub extensible : Bool
   pub additions : Fields
 
--- A table with no mark and no component.
+-- A table with no extension marker and no component.
 abbrev pub no_table : Table
 no_table = record { root = no_field; extensible = false; additions = no_field }
 

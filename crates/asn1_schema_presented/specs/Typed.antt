@@ -10,7 +10,7 @@ use Rattle.asn1_schema_presented.specs.Tables.{Fields, no_field, field, Table, c
 use Rattle.asn1_schema_presented.specs.Parts.{normal_part}
 
 -- The types of the components are lawful, their defaults in normal form; groups stand among the additions alone, and
--- additions behind a mark.
+-- additions behind an extension marker.
 pub record AreTypes (t : Table) : Type 0 where
   pub lawful : (n : ℕ) → are_lawful (components_at n t.root) ≡ true
   pub tidy : (n : ℕ) → are_tidy (components_at n t.root) ≡ true

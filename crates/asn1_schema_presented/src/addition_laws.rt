@@ -1,10 +1,10 @@
-//! What stands behind a mark of extensibility, and groups of additions (X.680 25): the laws by which types and values
+//! What stands behind an extension marker, and groups of additions (X.680 25): the laws by which types and values
 //! of additions are put together.
 
 ghost use Rattle.asn1_schema_presented.specs.AdditionLaws.{AdditionsAreTyped, AdditionsAreValued, GroupsAreTyped};
 ghost use Rattle.asn1_schema_presented.specs.AdditionLaws.{GroupsAreValued};
 
-/// Additions whose types may stand there make a table with a mark.
+/// Additions whose types may stand there make a table with an extension marker.
 pub fn additions_are_typed()
     ensures { AdditionsAreTyped }
 {}
@@ -14,8 +14,8 @@ pub fn additions_are_valued()
     ensures { AdditionsAreValued }
 {}
 
-/// The components of a lawful sequence without a mark, one or more, whose defaults are in normal form, make a group
-/// that may stand among additions.
+/// The components of a lawful sequence without an extension marker, one or more, whose defaults are in normal form,
+/// make a group that may stand among additions.
 pub fn groups_are_typed()
     ensures { GroupsAreTyped }
 {}

@@ -17,7 +17,7 @@ module _ {a b : Left} {k : Record} where
   takes_item {roots} {adds} {e} {m} {v} {w} l f g h i =
       leaves (one_of roots e adds w) l (f ∙ (ap (λ (t : Bool). one_of [] t [] v) g ∙ ap (λ (t : ℤ). one_of [] e [] t) (sym h)), i) l.levels
 
-  -- another record, or one with another mark
+  -- another record, or one with another extension marker
   pub no_one_of : {roots adds : List ℤ} {e m : Bool} {y : DecodeError} → Leaves a k b → m ≡ e → ((v : ℤ) → k ≡ one_of [] m [] v → ⊥) → NoRecord Takes (asks_one_of roots e adds) a y
   no_one_of {roots} {adds} {e} {m} l g apart = other l go where
     go : (r : Record) → question r ≡ asks_one_of roots e adds → IsKept k r → ⊥

@@ -43,9 +43,9 @@ MayHold k cs = may_hold k cs ≡ true
 abbrev pub IsListed : List ℤ → Bool → List ℤ → ℤ → Type 0
 IsListed roots e adds v = (added : Bool) × (i : ℕ) × IsPlaced roots e adds v added i
 
--- What is kept is this record: the type says the same there, the program's type holds what is found, and bounds
--- without a mark admit it. An enumeration has the item of the number, and a choice an alternative at the place. Of a
--- list or bag a decoder is told no count, so any that the type holds will do, if it holds that which is kept.
+-- What is kept is this record: the type says the same there, the program's type holds what is found, and bounds without
+-- an extension marker admit it. An enumeration has the item of the number, and a choice an alternative at the place. Of
+-- a list or bag a decoder is told no count, so any that the type holds will do, if it holds that which is kept.
 abbrev pub IsKept : Record → Record → Type 0
 IsKept k (whole b h v) = (k ≡ whole b any_number v) × (is_within h v ≡ true)
     × ((b.extensible || is_within b.range v) ≡ true)
@@ -235,7 +235,7 @@ pub record IsNoItem (roots : List ℤ) (extensible : Bool) (adds : List ℤ) (k 
   pub is_kept : k ≡ one_of [] extensible [] number
   pub none : IsNone roots extensible adds number
 
--- No item is next, or one with another mark, or the number of none.
+-- No item is next, or one with another extension marker, or the number of none.
 abbrev pub IsMisfitItem : List ℤ → Bool → List ℤ → Record → DecodeError → Type 0
 IsMisfitItem roots extensible adds k e =
     ((e ≡ NotValidCanonicalEncoding) × ((v : ℤ) → k ≡ one_of [] extensible [] v → ⊥))
@@ -248,7 +248,7 @@ pub record IsNoAlternative (roots : List Tag) (extensible : Bool) (adds : List T
   pub is_kept : k ≡ choice_begins [] extensible [] added place
   pub none : length (cond added adds roots) ≤ place
 
--- No choice begins, or one with another mark, or one at the place of no alternative.
+-- No choice begins, or one with another extension marker, or one at the place of no alternative.
 abbrev pub IsMisfitChoice : List Tag → Bool → List Tag → Record → DecodeError → Type 0
 IsMisfitChoice roots extensible adds k e =
     ((e ≡ NotValidCanonicalEncoding) × ((added : Bool) (i : ℕ) → k ≡ choice_begins [] extensible [] added i → ⊥))

@@ -46,13 +46,13 @@ use std::vec::IntoIter;
 
 /// A decoder that reads kept records, from the first on.
 ///
-/// Refused are, besides what the trait says: `Incomplete` where no record is left; `NotValidCanonicalEncoding` a
-/// record of another kind than the one that is asked for, and the end of what has not begun;
-/// `ValueConstraintNotSatisfied` a number under other bounds, or outside bounds without a mark; `IntegerOverflow` a
-/// number that the program's type does not hold; `SizeConstraintNotSatisfied` a length or count under another size,
-/// or one that the type does not hold; `PermittedAlphabet` a character that the type does not hold;
-/// `DiscriminantValueNotFound` the number of no item; `InvalidTagVariantOnChoice` the place of no alternative;
-/// `ExceedsMaxParseDepth` one level more than may be nested.
+/// Refused are, besides what the trait says: `Incomplete` where no record is left; `NotValidCanonicalEncoding` a record
+/// of another kind than the one that is asked for, and the end of what has not begun; `ValueConstraintNotSatisfied` a
+/// number under other bounds, or outside bounds without an extension marker; `IntegerOverflow` a number that the
+/// program's type does not hold; `SizeConstraintNotSatisfied` a length or count under another size, or one that the
+/// type does not hold; `PermittedAlphabet` a character that the type does not hold; `DiscriminantValueNotFound` the
+/// number of no item; `InvalidTagVariantOnChoice` the place of no alternative; `ExceedsMaxParseDepth` one level more
+/// than may be nested.
 #[derive(Drop)]
 pub struct RecordDecoder {
     items: IntoIter<Item, Global>,
@@ -717,7 +717,8 @@ fn is_alternative(roots: &[Tag], additions: &[Tag], chosen: Chosen) -> bool
     chosen.place < count
 }
 
-// Whether a number is one of 128 bits and within bounds that have no mark, where there is a value constraint.
+// Whether a number is one of 128 bits and within bounds that have no extension marker, where there is a value
+// constraint.
 fn is_admitted(constraints: Constraints, number: &Integer) -> bool
     ensures { result ≡ admits_whole constraints.entry.value number.now }
 {

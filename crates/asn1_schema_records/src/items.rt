@@ -14,14 +14,14 @@ use asn1_values_bit_strings::BitString;
 use asn1_values_identifiers::ObjectIdentifier;
 use asn1_values_integers::Integer;
 
-/// A value constraint (X.680 51.4), and whether a mark of extensibility follows it.
+/// A value constraint (X.680 51.4), and whether an extension marker follows it.
 #[derive(Clone, Copy, Debug, PartialEq, Eq)]
 pub struct Limits {
     /// The least value, if there is one.
     pub low: Option<i128>,
     /// The greatest value, if there is one.
     pub high: Option<i128>,
-    /// Whether a mark follows.
+    /// Whether an extension marker follows.
     pub extensible: bool,
 }
 
@@ -52,14 +52,14 @@ impl Limits {
     }
 }
 
-/// A size constraint (X.680 51.5), and whether a mark of extensibility follows it.
+/// A size constraint (X.680 51.5), and whether an extension marker follows it.
 #[derive(Clone, Copy, Debug, PartialEq, Eq)]
 pub struct Sizes {
     /// The least size.
     pub low: usize,
     /// The greatest size, if there is one.
     pub high: Option<usize>,
-    /// Whether a mark follows.
+    /// Whether an extension marker follows.
     pub extensible: bool,
 }
 
@@ -100,7 +100,7 @@ pub enum Item {
     Null,
     /// INTEGER: its bounds, and the number.
     Integer(Limits, Integer),
-    /// ENUMERATED: whether it has a mark, and the number of the item.
+    /// ENUMERATED: whether it has an extension marker, and the number of the item.
     OneOf(bool, isize),
     /// BIT STRING: its size, and the bits.
     Bits(Sizes, BitString),
@@ -118,9 +118,9 @@ pub enum Item {
     BagBegins(Sizes, usize),
     /// Whether a further member comes.
     Further(bool),
-    /// SEQUENCE begins: whether it has a mark, and how many root components may be absent.
+    /// SEQUENCE begins: whether it has an extension marker, and how many root components may be absent.
     SequenceBegins(bool, usize),
-    /// SET begins: whether it has a mark, and how many root components may be absent.
+    /// SET begins: whether it has an extension marker, and how many root components may be absent.
     SetBegins(bool, usize),
     /// A group of additions begins: how many of its components may be absent.
     GroupBegins(usize),
@@ -136,7 +136,7 @@ pub enum Item {
     Addition(bool),
     /// The end of an addition.
     AdditionEnds,
-    /// CHOICE begins: whether it has a mark, and which alternative is chosen.
+    /// CHOICE begins: whether it has an extension marker, and which alternative is chosen.
     ChoiceBegins(bool, Chosen),
     /// The end of a list, bag, sequence, set, group or choice.
     Ends,
@@ -171,7 +171,7 @@ impl Item {
         }
     }
 
-    /// The number of an item of an ENUMERATED with or without a mark; `None` of any other item.
+    /// The number of an item of an ENUMERATED with or without an extension marker; `None` of any other item.
     pub fn into_one_of(self, extensible: bool) -> Option<isize>
         ensures { MatchOption result ((v : ℤ) → record_of self ≡ one_of [] extensible [] v → ⊥)
             (λ v. record_of self ≡ one_of [] extensible [] v) }
@@ -271,8 +271,8 @@ impl Item {
         }
     }
 
-    /// Whether it is the beginning of a SEQUENCE with or without a mark, of whose root components so many may be
-    /// absent.
+    /// Whether it is the beginning of a SEQUENCE with or without an extension marker, of whose root components so many
+    /// may be absent.
     pub fn is_sequence(&self, extensible: bool, optional: usize) -> bool
         ensures { IsTrue result ↔ (record_of self.now ≡ sequence_begins extensible optional) }
     {
@@ -282,7 +282,8 @@ impl Item {
         }
     }
 
-    /// Whether it is the beginning of a SET with or without a mark, of whose root components so many may be absent.
+    /// Whether it is the beginning of a SET with or without an extension marker, of whose root components so many may
+    /// be absent.
     pub fn is_set(&self, extensible: bool, optional: usize) -> bool
         ensures { IsTrue result ↔ (record_of self.now ≡ set_begins extensible optional) }
     {
@@ -353,7 +354,7 @@ impl Item {
         matches!(self, Item::AdditionEnds)
     }
 
-    /// The chosen alternative of a CHOICE with or without a mark that begins; `None` of any other item.
+    /// The chosen alternative of a CHOICE with or without an extension marker that begins; `None` of any other item.
     pub fn into_choice(self, extensible: bool) -> Option<Chosen>
         ensures { MatchOption result ((added : Bool) (i : ℕ) → record_of self ≡ choice_begins [] extensible [] added i
             → ⊥) (λ c. record_of self ≡ choice_begins [] extensible [] c.added c.place) }
@@ -372,7 +373,7 @@ impl Item {
     }
 }
 
-/// Whether an enumeration has a mark of extensibility (X.680 20).
+/// Whether an enumeration has an extension marker (X.680 20).
 pub fn is_extensible<T: Enumerated>() -> bool
     ensures { result ≡ T.extensible }
 {

@@ -36,7 +36,7 @@ const ANY_SIZE: Sizes = Sizes {
     extensible: false,
 };
 
-/// Whether bounds without a mark are these.
+/// Whether bounds without an extension marker are these.
 fn are_limits(limits: &Limits, low: Option<i128>, high: Option<i128>) -> bool {
     limits.low == low && limits.high == high && !limits.extensible
 }

@@ -77,7 +77,8 @@ fn is_open_group_kept(alloc: Global) -> bool {
     write_open_group(&mut encoder) == Ok(()) && are_records(&encoder.into_items(), &OPEN)
 }
 
-/// Begins a choice of these root alternatives, with a mark, and these additions, of which this alternative is chosen.
+/// Begins a choice of these root alternatives, with an extension marker, and these additions, of which this alternative
+/// is chosen.
 fn write_choice<E: Encoder>(
     encoder: &mut E,
     roots: &[Tag],
@@ -109,8 +110,8 @@ fn is_addition_kept(alloc: Global) -> bool {
         )
 }
 
-/// An alternative that is written, the root alternatives, mark and additions of a choice that is read, and what is
-/// found.
+/// An alternative that is written, the root alternatives, extension marker and additions of a choice that is read, and
+/// what is found.
 type Row = (
     Chosen,
     &'static [Tag],
@@ -124,7 +125,7 @@ const SECOND: Chosen = Chosen {
     place: 1,
 };
 
-/// The alternative is found; one that a choice has not is refused; and a choice without a mark is another.
+/// The alternative is found; one that a choice has not is refused; and a choice without an extension marker is another.
 const CHOICES: [Row; 3] = [
     (SECOND, &[Tag::BOOL, Tag::NULL], true, &[], Ok(SECOND)),
     (
@@ -195,14 +196,14 @@ fn is_colour_kept(alloc: Global, colour: Colour, number: isize) -> bool {
         && colour_of(&mut RecordDecoder::new(items, CodecKind::Uper)) == Ok(colour)
 }
 
-/// One item of an enumeration, with a mark or without, and of this number.
+/// One item of an enumeration, with an extension marker or without, and of this number.
 fn items_of(alloc: Global, is_marked: bool, number: isize) -> Result<Vec<Item>, AllocError> {
     let mut items = Vec::new(alloc);
     items.push(Item::OneOf(is_marked, number))?;
     Ok(items)
 }
 
-/// Whether an item with a mark or without, and of this number, is no colour for this reason.
+/// Whether an item with an extension marker or without, and of this number, is no colour for this reason.
 fn is_no_colour(alloc: Global, is_marked: bool, number: isize, wanted: DecodeError) -> bool {
     match items_of(alloc, is_marked, number) {
         Ok(items) => colour_of(&mut RecordDecoder::new(items, CodecKind::Uper)) == Err(wanted),

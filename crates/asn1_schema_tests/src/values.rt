@@ -59,7 +59,8 @@ fn are_native_numbers(alloc: Global) -> bool {
 
 type Small = ConstrainedInteger<-5, 5>;
 
-/// Whether 3 is written within a range, by its type and under further constraints: none, and one with a mark.
+/// Whether 3 is written within a range, by its type and under further constraints: none, and one with an extension
+/// marker.
 fn is_small(alloc: Global, value: &Small) -> bool {
     let from_zero = Value::new(Bounded::start_from(0));
     let further = Constraints {

@@ -163,7 +163,7 @@ fn kinds_are_told() -> bool {
     are_of_kinds(value, size, alphabet)
 }
 
-/// Whether a mark of either of two constraints stands, with what stands behind it.
+/// Whether an extension marker of either of two constraints stands, with what stands behind it.
 fn a_mark_stands() -> bool {
     let further = [Value::new(Bounded::single_value(20))];
     let open = Extensible::new_extensible(from_to(0, 10), &further);

@@ -22,8 +22,8 @@ met_range r low high = record {
   high = earlier is_at_most r.high (Some high);
 }
 
--- Constraints, and then a range that the type has of its own: what both admit. The mark of the earlier constraint is
--- no mark of the later one (X.680 50.8).
+-- Constraints, and then a range that the type has of its own: what both admit. The extension marker of the earlier
+-- constraint is no extension marker of the later one (X.680 50.8).
 abbrev pub within_range : ℤ → ℤ → Meant → Meant
 within_range low high c = record no_constraint {
   bounds = record { range = met_range c.bounds.range low high; extensible = false };
@@ -43,7 +43,7 @@ abbrev pub constrained_type : ℤ → ℤ → Meant → Schema
 constrained_type low high c =
     cond (is_at_most low high) (integer_under (within_range low high c) every_number) no_integer
 
--- The constraints of the program to a root, without a mark.
+-- The constraints of the program to a root, without an extension marker.
 abbrev pub to_root : Value → Constraints
 to_root root = record unconstrained { value = Some (record { constraint = root; extensible = None }) }
 

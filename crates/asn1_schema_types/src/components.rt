@@ -34,7 +34,7 @@ pub trait ComponentsOf {
     fn described(&self) {}
 }
 
-/// The end of a sequence without a mark of extensibility.
+/// The end of a sequence without an extension marker.
 #[derive(Drop)]
 pub struct End;
 

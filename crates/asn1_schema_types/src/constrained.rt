@@ -27,8 +27,8 @@ fn limited(constraints: Constraints, start: i64, end: i64) -> Constraints<'stati
     }
 }
 
-/// Constraints, and then the range from `start` to `end`: what both admit. The mark of an earlier constraint is no mark
-/// of a later one (X.680 50.8), so there is none.
+/// Constraints, and then the range from `start` to `end`: what both admit. The extension marker of an earlier
+/// constraint is no extension marker of a later one (X.680 50.8), so there is none.
 #[tactic(auto, using(crate::proofs::Ranges::range_meant))]
 pub fn within_range(constraints: Constraints, start: i64, end: i64) -> Constraints<'static>
     ensures { meant result ≡ within_range start end (meant constraints.entry) }

@@ -1,7 +1,7 @@
 //! Which alternative of a choice is chosen.
 ghost use Rattle.std.specs.Prelude.{◌≡◌, true, false};
 
-/// The chosen alternative of a CHOICE (X.680 29): whether it stands behind the mark of extensibility, and its place
+/// The chosen alternative of a CHOICE (X.680 29): whether it stands behind the extension marker, and its place
 /// among the root alternatives in the ascending order of their tags, or among the added ones in their order.
 #[derive(Clone, Copy, Debug, PartialEq, Eq)]
 pub struct Chosen {

@@ -13,7 +13,7 @@ pub trait Enumerated: Copy {
     /// The numbers of the root items, in ascending order.
     ghost roots: { List ℤ };
 
-    /// Whether there is a mark of extensibility.
+    /// Whether there is an extension marker.
     ghost extensible: { Bool };
 
     /// The numbers of the added items, in ascending order.
@@ -28,7 +28,7 @@ pub trait Enumerated: Copy {
         Self: 'a,
         ensures { map number result.now ≡ roots };
 
-    /// The added items, in the ascending order of their numbers, or `None` where there is no mark of extensibility.
+    /// The added items, in the ascending order of their numbers, or `None` where there is no extension marker.
     fn extended_variants<'a>() -> Option<&'a [Self]>
     where
         Self: 'a,
@@ -78,7 +78,7 @@ pub trait Enumerated: Copy {
         Self::variance().saturating_add(Self::extended_variance())
     }
 
-    /// Where the item stands: in the root or behind the mark of extensibility, and its place there, in the ascending
+    /// Where the item stands: in the root or behind the extension marker, and its place there, in the ascending
     /// order of the numbers (X.691 14.1 and 14.2).
     final fn item_place(&self) -> Chosen
     where
@@ -97,7 +97,7 @@ pub trait Enumerated: Copy {
         unreachable!()
     }
 
-    /// Whether the item stands behind the mark of extensibility.
+    /// Whether the item stands behind the extension marker.
     final fn is_extended_variant(&self) -> bool
     where
         Self: Sized,

@@ -58,7 +58,7 @@ appended n (field t o s fs) gs h = (h.0, h.1, h.2, appended n fs gs h.3)
 
 -- ---- sequences
 
--- A sequence whose components have grown, or further ones behind its mark have come.
+-- A sequence whose components have grown, or further ones behind its extension marker have come.
 pub sequence_extends : {k : ℕ} {t t' : Table} → FieldsExtend k false t.root t'.root → t.extensible ≡ t'.extensible → FieldsExtend k t.extensible t.additions t'.additions → ExtendsFrom (suc k) (sequence_type t) (sequence_type t')
 unfolding sequence_type scope Extends
 sequence_extends {k} {t} {t'} a e b = record { unfolded = at }
@@ -80,12 +80,12 @@ lawful_choice : (t : Choices) (n : ℕ) → is_lawful (choice_type t (suc n)) �
 unfolding choice_type scope is_lawful
 lawful_choice t n l = let p = and_parts _ (are_lawful_alternatives (alternatives_at n t.additions)) l in ((and_parts _ (are_lawful_alternatives (alternatives_at n t.root)) p.0).1, p.1)
 
--- Further additions, where there is a mark.
+-- Further additions, where there is an extension marker.
 behind_mark : (n : ℕ) (b : Bool) (fs gs : Fields) → b ≡ true → ExtendsEach true (components_at n fs) (components_at n fs) → ExtendsEach b (components_at n fs) (components_at n (joined fs gs))
 behind_mark n true fs gs e h = appended n fs gs h
 behind_mark n false fs gs e h = absurd (let z : false ≡ true = e in cc)
 
--- A sequence with a mark, and further additions behind its own.
+-- A sequence with an extension marker, and further additions behind its own.
 pub gains_additions : {k : ℕ} (t : Table) (gs : Fields) → ((n : ℕ) → is_lawful (sequence_type t n) ≡ true) → t.extensible ≡ true → ExtendsFrom k (sequence_type t) (sequence_type (with_additions gs t))
 unfolding sequence_type scope Extends
 gains_additions {k} t gs l e = record { unfolded = λ n h. at n }
@@ -126,7 +126,7 @@ appended_variants n no_variant no_variant h = tt
 appended_variants n no_variant (variant t s ws) h = tt
 appended_variants n (variant t s vs) ws h = (h.0, h.1, appended_variants n vs ws h.2)
 
--- A choice with a mark, and further alternatives behind its own.
+-- A choice with an extension marker, and further alternatives behind its own.
 pub gains_alternatives : {k : ℕ} (t : Choices) (vs : Variants) → ((n : ℕ) → is_lawful (choice_type t n) ≡ true) → t.extensible ≡ true → ExtendsFrom k (choice_type t) (choice_type (with_alternatives vs t))
 unfolding choice_type scope Extends
 gains_alternatives {k} t vs l e = record { unfolded = λ n h. at n }

@@ -1,4 +1,4 @@
-//! Newer versions of types: a type that has grown behind its marks of extensibility, and is as the older one else
+//! Newer versions of types: a type that has grown behind its extension markers, and is as the older one else
 //! (X.680 52).
 #![tactic(auto)]
 
@@ -9,9 +9,9 @@ ghost use Rattle.asn1_schema_constructed.specs.Tables.{choice_type};
 use asn1_schema_authored::{ChoiceAlternatives, ChoiceOf, Components, Composite};
 use asn1_schema_types::Described;
 
-/// A newer version of a type: the same roots in the same places, with the same bounds, sizes and marks; additions,
-/// items and alternatives are appended behind marks alone, and a default is that of the older version, with what was
-/// added absent or at its default.
+/// A newer version of a type: the same roots in the same places, with the same bounds, sizes and extension markers;
+/// additions, items and alternatives are appended behind extension markers alone, and a default is that of the older
+/// version, with what was added absent or at its default.
 ///
 /// A reader takes 128 levels. With fewer a default that nests is cut, and what stands below a cut is not judged.
 pub trait Extends<Old: Described>: Described {

@@ -9,14 +9,14 @@ use Rattle.asn1_schema_finding.specs.Marks.{preamble_bits}
 abbrev pub FilledBits : List Bool → List ℕ → List ℕ → Type 0
 FilledBits bs os rest = (w : List ℕ) × (packed (bs ++ replicate (missing (length bs)) false) ≡ w) × (w ++ rest ≡ os)
 
--- The bit of the mark, if there is one, and so many presence bits, in front of further bits, and the scope that they
+-- The extension bit, if there is one, and so many presence bits, in front of further bits, and the scope that they
 -- open.
 abbrev pub HasBits : Bool → ℕ → Scope → List Bool → List Bool → Type 0
 HasBits e n (components x ms) bs more = (is_present x ≡ e) × (length ms ≡ n) × (preamble_bits x ms ++ more ≡ bs)
 HasBits e n s bs more = ⊥
 
--- The preamble of a sequence with or without a mark, of which so many components may be absent, and the scope that it
--- opens.
+-- The preamble of a sequence with or without an extension marker, of which so many components may be absent, and the
+-- scope that it opens.
 abbrev pub HasPreamble : Bool → ℕ → Scope → List ℕ → List ℕ → Type 0
 HasPreamble e n (components x ms) os rest = (is_present x ≡ e) × (length ms ≡ n)
     × FilledBits (preamble_bits x ms) os rest

@@ -69,8 +69,8 @@ fn among<'input>(bitmap: BitReader<'input>, count: usize) -> Additions<'input>
     }
 }
 
-/// Reads what stands in front of the additions of a sequence, of which the type has so many: nothing where the mark
-/// is not set, else a presence bitmap of any width.
+/// Reads what stands in front of the additions of a sequence, of which the type has so many: nothing where the
+/// extension marker is not set, else a presence bitmap of any width.
 ///
 /// # Errors
 ///

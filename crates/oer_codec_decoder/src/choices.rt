@@ -36,7 +36,7 @@ fn read_alternative(
     }
 }
 
-/// The alternative of a tag: one of the root, else an added one behind a mark.
+/// The alternative of a tag: one of the root, else an added one behind an extension marker.
 #[inline(always)]
 fn find_alternative(tag: Tag, roots: &[Tag], extensible: bool, additions: &[Tag]) -> Option<Chosen>
     ensures some { IfSome result (λ x. IsPlace (map tag_of roots.now) extensible (map tag_of additions.now)

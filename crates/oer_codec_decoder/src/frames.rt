@@ -29,8 +29,8 @@ pub(crate) fn first_bit(bits: &BitReader<'_>) -> bool
 /// What has begun and has not ended.
 #[derive(Drop)]
 pub(crate) enum Frame<'input> {
-    /// The components of a sequence, set or group (X.696 16): the bit of its mark of extensibility, if it has a mark,
-    /// and the presence bits that are still to come.
+    /// The components of a sequence, set or group (X.696 16): the bit of its extension marker, if it has an extension
+    /// marker, and the presence bits that are still to come.
     Components(Option<bool>, BitReader<'input>),
     /// The additions of such a type (X.696 16.4).
     Added(Additions<'input>),
@@ -181,7 +181,7 @@ impl<'input> Scopes<'input> {
         self.innermost = Some(frame);
     }
 
-    /// The bit of the mark of the innermost sequence, where all its presence bits are read.
+    /// The extension bit of the innermost sequence, where all its presence bits are read.
     #[inline(always)]
     pub(crate) fn mark(&self) -> Option<bool>
         ensures some { IfSome result (λ set. (k : _) × (self.now ≡ components (Some set) [] ∷ k)) }

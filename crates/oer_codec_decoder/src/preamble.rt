@@ -17,7 +17,7 @@ fn preamble_len(extensible: bool, optional: usize) -> usize
     optional / 8 + (optional % 8 + usize::from(extensible) + 7) / 8
 }
 
-/// Takes off the bit of the mark, if there is one, and the presence bits.
+/// Takes off the extension bit, if there is one, and the presence bits.
 #[inline(always)]
 fn take_presence<'input>(
     bits: &mut BitReader<'input>,
@@ -40,8 +40,8 @@ fn take_presence<'input>(
     }
 }
 
-/// Reads the preamble of a sequence, with or without a mark of extensibility, of which so many components may be
-/// absent: the bit of the mark, if there is one, the presence bits, and zeros to fill an octet.
+/// Reads the preamble of a sequence, with or without an extension marker, of which so many components may be
+/// absent: the extension bit, if there is one, the presence bits, and zeros to fill an octet.
 ///
 /// # Errors
 ///

@@ -152,7 +152,7 @@ closed_off cs h ps p os k rest =
     go None = refl
     go (Some w) = refl
 
--- so it does that of a group, which has neither mark nor additions
+-- so it does that of a group, which has neither extension marker nor additions
 pub groups : (cs : Components) → EachBridges cs → Bridges (group cs)
 unfolding presents Oer.form written
 groups cs h (fields ps end) p os k rest = closed_off cs h ps p os k rest

@@ -71,7 +71,7 @@ after_root ms bs os c all h =
 some_added : (ms : List Bool) (root c : List ℕ) (bs : List Bool) (all : List ℕ) → is_any_set bs ≡ true → written (Oer.bit_string_form false bs) 0 ≡ Some c → with_added ms root bs all ≡ Some (packed (filled_up (true ∷ ms)) ++ (root ++ (c ++ all)))
 some_added ms root c bs all h k = ap (λ t. cond t (written (both (Oer.preamble (true ∷ ms)) (both (exactly root) (both (Oer.counted_bits bs) (exactly all)))) 0) (written (both (Oer.preamble (false ∷ ms)) (exactly root)) 0)) h ∙ after_root ms bs root c all (λ p. (counted_bits_still bs).at p ∙ sym (bitmap_text bs) ∙ k)
 
--- ---- the mark of extensibility is set
+-- ---- the extension marker is set
 
 module _ (below : List ℕ → State → Type 0) (given start content : ℕ) (o : List ℕ) (s : State) (h : IsOpen below true 0 given start content o s) where
   abbrev root_bits : List Bool

@@ -292,7 +292,7 @@ module _ (below : List ℕ → State → Type 0) (e : Bool) (d given start conte
 pub marks_fit : (fs rest : List Frame) (c : Preamble) (o : List ℕ) → AreSound fs o → fs ≡ Components c ∷ rest → c.given + c.due < 2 ^ 64
 marks_fit fs rest c o s a = (on_top fs rest (Components c) o s.state a s.holds).counts
 
--- the mark of the innermost sequence
+-- the extension marker of the innermost sequence
 module _ (fs rest : List Frame) (c : Preamble) (o : List ℕ) (a : fs ≡ Components c ∷ rest) (n : 0 < c.due) where
   one : c.due ≡ suc (c.due - 1)
   one = omega arith

@@ -403,7 +403,7 @@ marked_parts cs adds h ha ps qs p os k rest =
     ∙ chain_same (written (Oer.component_forms cs ps) 0) _ (λ r. option_and_then (λ xs. option_and_then (λ us. option_and_then (λ w. runs rest (os ++ w, k)) (closing (marks cs ps) r us)) (texts_of xs)) (Oer.addition_forms adds qs)) (λ r. rest_of adds ha qs (marks cs ps) r [] os k rest)
     ∙ by_additions (marks cs ps) (Oer.component_forms cs ps) (components_still cs h ps) p (λ w. runs rest (os ++ w, k)) (Oer.addition_forms adds qs) (additions_still adds qs)
 
--- no text has additions without a mark
+-- no text has additions without an extension marker
 unmarked_additions : (ms : List Bool) (x : Oer.OctetForm) (t : List Tag) (o : Presence) (s : Schema) (adds : Components) (qs : Parts) (p : ℕ) → written (given (Oer.addition_forms (component t o s adds) qs) (Oer.sequence_form false ms x)) p ≡ None
 unfolding written Oer.addition_forms Oer.sequence_form
 unmarked_additions ms x t o s adds (present v qs) p = go (Oer.addition_forms adds qs)

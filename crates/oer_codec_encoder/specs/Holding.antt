@@ -13,12 +13,12 @@ use Rattle.oer_codec_encoder.specs.declared.frame.Frame.{Frame}
 use Rattle.oer_codec_encoder.specs.declared.frame.Frame.TheVariants.{Components, Added, OpenType, Members, Bag}
 use Rattle.oer_codec_encoder.specs.declared.frame.Frame.TheVariants.{Alternative}
 
--- The bits of a preamble: the mark of extensibility, which is not set, where there is one, and the presence bits.
+-- The bits of a preamble: the extension marker, which is not set, where there is one, and the presence bits.
 abbrev pub presence : Bool → List Bool → List Bool
 presence true ms = false ∷ ms
 presence false ms = ms
 
--- The presence bits that were given, behind the mark of extensibility, where there is one.
+-- The presence bits that were given, behind the extension marker, where there is one.
 abbrev pub given_bits : Bool → ℕ → ℕ → List ℕ → List Bool
 given_bits e given start o = take given (drop (length (presence e [])) (octet_bits (drop start o)))
 

@@ -15,12 +15,12 @@ use Rattle.asn1_schema_presented.specs.Records.{addition_ends, choice_begins, en
 
 -- An open scope.
 pub data Scope : Type 0 where
-  -- a sequence, set or group: whether it has a mark of extensibility, how many presence bits are due, those that are
+  -- a sequence, set or group: whether it has an extension marker, how many presence bits are due, those that are
   -- there, and the octets in front of it
   components : Bool → ℕ → List Bool → List ℕ → Scope
-  -- behind the root of such a type with a mark: how many additions are due, the presence bits, the root's octets,
-  -- which of the additions in front are there, and the octets in front of the sequence; the octets of the scope are
-  -- those of the additions, one behind the other
+  -- behind the root of such a type with an extension marker: how many additions are due, the presence bits, the root's
+  -- octets, which of the additions in front are there, and the octets in front of the sequence; the octets of the scope
+  -- are those of the additions, one behind the other
   added : ℕ → List Bool → List ℕ → List Bool → List ℕ → Scope
   -- an addition, or an added alternative: its octets stand alone, and those in front are these
   open_type : List ℕ → Scope
@@ -80,8 +80,8 @@ abbrev pub is_any_set : List Bool → Bool
 is_any_set [] = false
 is_any_set (b ∷ bs) = b || is_any_set bs
 
--- The preamble and the root, and where an addition is there the mark is set, and the bitmap and the additions' octets
--- stand behind (X.696 16).
+-- The preamble and the root, and where an addition is there the extension bit is set, and the bitmap and the additions'
+-- octets stand behind (X.696 16).
 abbrev pub with_added : List Bool → List ℕ → List Bool → List ℕ → Option (List ℕ)
 with_added ms root bs os = cond (is_any_set bs)
     (written (both (Oer.preamble (true ∷ ms)) (both (exactly root) (both (Oer.counted_bits bs) (exactly os)))) 0)
@@ -107,7 +107,7 @@ ended os (bag_members n ws front ∷ k) = closed_bag n (with_open ws os) front k
 ended os (alternative ∷ k) = Some (os, k)
 ended os k = None
 
--- Behind the root components of a type with a mark come the additions.
+-- Behind the root components of a type with an extension marker come the additions.
 abbrev pub rooted : Bool → ℕ → List Bool → List ℕ → List ℕ → List Scope → ℕ → Option State
 rooted true zero ms front os k n = Some ([], added n ms os [] front ∷ k)
 rooted e due ms front os k n = None
@@ -137,7 +137,7 @@ tag_at i [] = None
 tag_at zero (t ∷ ts) = Some t
 tag_at (suc i) (t ∷ ts) = tag_at i ts
 
--- The tags among which the chosen alternative has its place: of a type without a mark none is added.
+-- The tags among which the chosen alternative has its place: of a type without an extension marker none is added.
 abbrev pub tags_among : List Tag → Bool → List Tag → Bool → List Tag
 tags_among roots e others false = roots
 tags_among roots false others true = []

@@ -13,7 +13,7 @@ use asn1_values_bits::BitBuffer;
 use std::alloc::Global;
 use std::mem;
 
-/// Begins the additions behind the root of a sequence or of a set with a mark of extensibility (X.696 16): their
+/// Begins the additions behind the root of a sequence or of a set with an extension marker (X.696 16): their
 /// octets stand alone, in the worker's room.
 ///
 /// # Errors

@@ -7,7 +7,7 @@ use asn1_schema_faults::EncodeError;
 use asn1_values_bits::BitBuffer;
 use oer_codec_writing::push_sized_bits;
 
-/// Behind a root whose preamble stands in the octets from one on, sets the mark of extensibility and adds the
+/// Behind a root whose preamble stands in the octets from one on, sets the extension marker and adds the
 /// presence bitmap, as a BIT STRING of varying size, and the octets of the additions (X.696 16.2, 16.4 and 16.5), if
 /// one is there.
 pub(crate) fn push_additions(

@@ -57,8 +57,9 @@ fn end_bag(octets: &mut Vec<u8>, alloc: Global, bag: Bag) -> Result<(), EncodeEr
     Ok(())
 }
 
-/// Ends what is innermost (X.696 16, 17, 19, 20 and 30): of a sequence without a mark no presence bit is due, of one
-/// with a mark no addition, and of a list and a bag no member. The worker gets back the room of additions.
+/// Ends what is innermost (X.696 16, 17, 19, 20 and 30): of a sequence without an extension marker no presence bit is
+/// due, of one with an extension marker no addition, and of a list and a bag no member. The worker gets back the room
+/// of additions.
 ///
 /// # Errors
 ///

@@ -6,7 +6,7 @@ use asn1_values_bits::BitBuffer;
 /// The preamble of a sequence, a set or a group of additions (X.696 16.2), whose presence bits are told one at a time.
 #[derive(Clone, Copy)]
 pub(crate) struct Preamble {
-    /// Whether it has a mark of extensibility.
+    /// Whether it has an extension marker.
     pub(crate) extensible: bool,
     /// How many presence bits are due.
     pub(crate) due: usize,

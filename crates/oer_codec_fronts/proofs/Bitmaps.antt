@@ -1,4 +1,5 @@
--- Sequences with a mark of extensibility, as a reader finds them: what a bitmap tells, of the type's own additions and of unknown ones.
+-- Sequences with an extension marker, as a reader finds them: what a bitmap tells, of the type's own additions and of
+-- unknown ones.
 use Rattle.std.proofs.Common.{◌≡◌, ◌⊎◌, inl, inr, ℕ, suc, not, Bool, true, false, cond, IsTrue, List, [], ◌∷◌, ◌++◌, length, drop, Option, Some, None, refl, ap, sym, ◌∙◌, subst}
 use Rattle.std.proofs.lemmas.List.{append-nil}
 use Rattle.asn1_model.specs.Value.{Parts, end, absent, present}
@@ -135,7 +136,7 @@ module _ (free : Oer.Freedom → Bool) where
     unfolding Oer.sequence_form
     read_out xs h os rest f = let q = varied_out free {c = Oer.other_bitmap} (λ b. Oer.bitmapped ms y xs b) os rest f in by_bitmap xs h q.0 os rest q.1
 
-  -- ---- from the mark on
+  -- ---- from the extension marker on
   unless_kept : (q : Bool) (o : Option Forms) (xs : Forms) → cond q None o ≡ Some xs → o ≡ Some xs
   unless_kept true o xs e = cc
   unless_kept false o xs e = e
@@ -156,7 +157,7 @@ module _ (free : Oer.Freedom → Bool) where
   all_move : (o : Option Forms) → AllMove free o → (xs : Forms) → o ≡ Some xs → EachMoves free xs
   all_move o h xs e = let t : AllMove free (Some xs) = subst (λ p. AllMove free p) e h in t
 
-  -- the form of a sequence with a mark, by its presence bits and its root
+  -- the form of a sequence with an extension marker, by its presence bits and its root
   abbrev pub Marked : Components → Parts → List Bool → Oer.OctetForm → Oer.OctetForm
   Marked adds qs ms y = given (Oer.addition_forms adds qs) (Oer.sequence_form true ms y)
 
@@ -195,7 +196,7 @@ module _ (free : Oer.Freedom → Bool) where
         marked_in (marks cs ps) (Oer.component_forms cs ps) (components_move free cs ps) o.0 o.1 a.0 o.2 o.3 a.1 b o.4 o.5 o.6 o.7
 
   module _ (other : IsTrue (free Oer.other_bitmap)) (adds : Components) (ha : EachShows free adds) (qs : Parts) where
-    -- what is held at the mark, with additions like these
+    -- what is held at the extension marker, with additions like these
     abbrev AtMark : List Bool → Oer.OctetForm → List ℕ → List Scope → State → Type 0
     AtMark ms y os k b = (ss : Parts) × (x : Option Bool) × (mid : List ℕ) × (o2 : List ℕ) × LikeParts adds qs ss × (is_present x ≡ true) × Front free (Oer.preamble (preamble_bits x ms)) os mid × Front free y mid o2 × Chain (Step free) (additions_begin (component_count adds) ∷ added_records adds ss) (o2, components x [] ∷ k) b
 
@@ -225,7 +226,7 @@ module _ (free : Oer.Freedom → Bool) where
         let t = given_out free (Oer.addition_forms adds qs) (Oer.sequence_form true ms y) os b.0 f in
         at_mark ms y t.0 t.1 os k b scopes (read_out ms y moves other t.0 (all_move (Oer.addition_forms adds qs) (additions_move free adds qs) t.0 t.1) os b.0 t.2)
 
-    -- ---- SEQUENCE and SET with a mark
+    -- ---- SEQUENCE and SET with an extension marker
     pub extended_out : (cs : Components) → EachShows free cs → (ps : Parts) (a b : State) → Found free (Marked adds qs (marks cs ps) (Oer.component_forms cs ps)) a b → (ss : Parts) × LikeParts adds qs ss × Closed free true cs ps (additions_begin (component_count adds) ∷ added_records adds ss) a b
     extended_out cs h ps a b f =
         let t = marked_out (marks cs ps) (Oer.component_forms cs ps) (components_move free cs ps) a.0 a.1 b f.0 f.1 in

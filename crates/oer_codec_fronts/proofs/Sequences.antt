@@ -43,7 +43,7 @@ module _ (free : Oer.Freedom → Bool) where
       let f' : Front free (Oer.preamble (preamble_bits x ms)) a.0 os = subst (λ l. Front free (Oer.preamble (preamble_bits x l)) a.0 os) (sym r.2) f in
       (r.0, (os, components x ms ∷ a.1), r.1, (x, ms, i, marks_count cs r.0, f', refl), d)
 
-  -- ---- without a mark
+  -- ---- without an extension marker
   closed_in : (x : Option Bool) (more : List Bool) (mid : List ℕ) (k : List Scope) (b : State) → is_present x ≡ false → Chain (Step free) (ends ∷ []) (mid, components x more ∷ k) b → (x ≡ None) × (more ≡ []) × (b ≡ (mid, k))
   closed_in None [] mid k b e c = (refl, refl, c.2 ∙ c.1)
   closed_in None (z ∷ zs) mid k b e c = absurd c.1

@@ -36,7 +36,7 @@ module _ (free : Oer.Freedom → Bool) (other : IsTrue (free Oer.other_bitmap)) 
   no_more : (cs : Components) → EachFinds free cs → (ps : Parts) (a m b : State) → Begins free false (optional_count cs) a m → Chain (Step free) (root_records cs ps (mismatch ∷ [])) m b → ⊥
   no_more cs h ps a m b t c = let o = begun_in free false cs h ps (mismatch ∷ []) a m b t c in o.7.1
 
-  -- additions without a mark
+  -- additions without an extension marker
   no_additions : (cs : Components) → EachFinds free cs → (ps : Parts) (n : ℕ) (rs : List Record) (a m b : State) → Begins free false (optional_count cs) a m → Chain (Step free) (root_records cs ps (additions_begin n ∷ rs)) m b → ⊥
   no_additions cs h ps n rs a m b t c = let o = begun_in free false cs h ps (additions_begin n ∷ rs) a m b t c in without o.0 o.1 o.3 o.4 o.7
     where

@@ -17,11 +17,11 @@ use Rattle.asn1_schema_presented.specs.Records.{addition_ends, choice_begins, en
 
 -- An open scope.
 pub data Scope : Type 0 where
-  -- a sequence, set or group: the bit of its mark of extensibility, if it has a mark, and the presence bits that are
-  -- still to come
+  -- a sequence, set or group: the bit of its extension marker, if it has an extension marker, and the presence bits
+  -- that are still to come
   components : Option Bool → List Bool → Scope
-  -- behind the root of such a type with a mark: the presence bits of its additions still to come, and of unknown ones
-  -- behind all of them
+  -- behind the root of such a type with an extension marker: the presence bits of its additions still to come, and of
+  -- unknown ones behind all of them
   added : List Bool → List Bool → Scope
   -- an addition, or an added alternative: its octets stand alone, and those behind it are these
   open_type : List ℕ → Scope
@@ -60,7 +60,7 @@ NextMember v os k b = ⊥
 
 -- ---- components
 
--- A preamble with or without the bit of a mark, and with so many presence bits.
+-- A preamble with or without the extension bit, and with so many presence bits.
 abbrev pub Begins : (Oer.Freedom → Bool) → Bool → ℕ → State → State → Type 0
 Begins free e n a b =
     (x : Option Bool) × (ms : List Bool) × (is_present x ≡ e) × (length ms ≡ n)
@@ -73,8 +73,8 @@ NextMark v os k b = ⊥
 
 -- ---- additions
 
--- Behind the root components: without the mark's bit no addition is there, and with it a bitmap tells which are. Those
--- past its width are absent, and what stands past the type's own is unknown (X.696 16.4).
+-- Behind the root components: without the extension bit no addition is there, and with it a bitmap tells which are.
+-- Those past its width are absent, and what stands past the type's own is unknown (X.696 16.4).
 abbrev pub AdditionsBegin : (Oer.Freedom → Bool) → ℕ → List ℕ → List Scope → State → Type 0
 AdditionsBegin free n os (components (Some false) [] ∷ k) b = b ≡ (os, added (first_bits n []) [] ∷ k)
 AdditionsBegin free n os (components (Some true) [] ∷ k) b =
@@ -117,7 +117,7 @@ abbrev pub tag_place : Tag → List Tag → Option ℕ
 tag_place t [] = None
 tag_place t (u ∷ us) = cond (tag_same t u) (Some zero) (option_map suc (tag_place t us))
 
--- The alternative of a tag: one of the root, else an added one behind a mark.
+-- The alternative of a tag: one of the root, else an added one behind an extension marker.
 abbrev pub IsPlace : List Tag → Bool → List Tag → Tag → Bool → ℕ → Type 0
 IsPlace roots e others t false i = tag_place t roots ≡ Some i
 IsPlace roots e others t true i = (e ≡ true) × (tag_place t roots ≡ None) × (tag_place t others ≡ Some i)

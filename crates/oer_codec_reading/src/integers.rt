@@ -64,7 +64,7 @@ fn long_number(signed: bool, octets: &[u8]) -> Option<i128>
 }
 
 /// Whether a value constraint, where there is one, admits a number of 128 bits: one within its bounds, if they have
-/// no mark.
+/// no extension marker.
 #[inline(always)]
 fn is_admitted(constraints: Constraints, number: i128) -> bool
     ensures { result ≡ admits_whole constraints.entry.value number }

@@ -124,7 +124,7 @@ fn is_number(alloc: Global, decoder: &mut Decoder<'_>, number: u8) -> Result<boo
     Ok(found == number)
 }
 
-/// Whether the components 7 and true are next, behind their marks.
+/// Whether the components 7 and true are next, behind their presence bits.
 fn are_there(alloc: Global, decoder: &mut Decoder<'_>) -> Result<bool, DecodeError> {
     Ok(
         decoder.get_mark()?

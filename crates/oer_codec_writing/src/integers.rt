@@ -76,7 +76,8 @@ fn push_bounded(
     Ok(())
 }
 
-/// Adds a number of 128 bits under a value constraint, if there is one; one with a mark counts for nothing (X.696 10).
+/// Adds a number of 128 bits under a value constraint, if there is one; one with an extension marker counts for nothing
+/// (X.696 10).
 #[inline(always)]
 fn push_number(
     octets: &mut Vec<u8>,
@@ -104,7 +105,8 @@ fn push_number(
     Ok(())
 }
 
-/// Adds an INTEGER (X.696 10), of at most 128 bits under a value constraint; bounds with a mark count for nothing.
+/// Adds an INTEGER (X.696 10), of at most 128 bits under a value constraint; bounds with an extension marker count for
+/// nothing.
 ///
 /// # Errors
 ///

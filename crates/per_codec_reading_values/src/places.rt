@@ -54,7 +54,7 @@ fn read_added(
 }
 
 /// Reads the place of an item or alternative, of which there are so many in the root and so many behind the extension
-/// mark, if the type has that (X.691 14 and 23).
+/// marker, if the type has that (X.691 14 and 23).
 ///
 /// # Errors
 ///
