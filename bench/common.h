@@ -7,6 +7,11 @@
 
 #define OCTETS ((size_t)64 * 1024 * 1024)
 
+/* What stands before a reader whose instructions are counted, so that it stays a function of its own. */
+#ifndef WORK
+#define WORK
+#endif
+
 static uint64_t next(uint64_t state)
 {
     return state * 6364136223846793005u + 1442695040888963407u;
