@@ -6,7 +6,8 @@ ghost use Rattle.asn1_schema_encode.specs.Writes.{CannotWriteTail, WritesTail};
 use asn1_schema::{
     AddedGroupComponent, AddedOptionalComponent, AddedRequiredComponent, AdditionsOf, ComponentsOf,
     CountOf, DefaultOf, DefaultedComponent, Encode, EncodeComponents, EncodeError, EncodeExtension,
-    EncodeSequence, Encoder, End, Group, MarkedComponents, NoMore, OptionalComponent, RequiredComponent,
+    EncodeSequence, Encoder, End, Group, MarkedComponents, NoMore, OptionalComponent,
+    RequiredComponent,
 };
 
 /// Components that are written as they were read.
