@@ -1,11 +1,11 @@
 //! What a codec is told of a choice.
-ghost use Rattle.std.specs.Prelude.{◌≡◌, ◌++◌, map, true};
+ghost use Rattle.std.specs.Prelude.{◌≡◌, ◌++◌, map, true, false, IfSome, IfNone};
 ghost use Rattle.asn1_schema_tags.specs.Chosen.{alternative_of};
 ghost use Rattle.asn1_schema_tags.specs.Places.{is_table_of};
 ghost use Rattle.asn1_schema_tags.specs.Tags.{tag_of};
 ghost use Rattle.asn1_schema_tags.specs.Trees.{place_of};
 
-use crate::{Tag, TagPlace, TagProbe, find_place};
+use crate::{Tag, TagPlace, TagProbe, find_place, is_place_table};
 use asn1_schema_variants::Chosen;
 use std::marker::Model;
 
@@ -57,6 +57,27 @@ impl<'a> TagTables<'a> {
             additions,
             places,
         }
+    }
+
+    /// The same, or `None` where this is not the table of their places.
+    pub fn checked(
+        roots: &'a [Tag],
+        extensible: bool,
+        additions: &'a [Tag],
+        places: &'a [TagPlace],
+    ) -> Option<Self>
+        ensures some { IfSome result (λ t. t ≡ record {
+            roots = map tag_of roots.now;
+            extensible = extensible;
+            additions = map tag_of additions.now
+        }) }
+        ensures none { IfNone result
+            (is_table_of places.now (map tag_of roots.now ++ map tag_of additions.now) ≡ false) }
+    {
+        if !is_place_table(places, roots, additions) {
+            return None;
+        }
+        Some(TagTables::new(roots, extensible, additions, places))
     }
 
     /// The tags of the root alternatives.
