@@ -85,6 +85,7 @@ pub use asn1_schema_tags::Identifier;
 pub use asn1_schema_tags::Tag;
 pub use asn1_schema_tags::TagPlace;
 pub use asn1_schema_tags::TagProbe;
+pub use asn1_schema_tags::TagTables;
 pub use asn1_schema_tags::TagTree;
 pub use asn1_schema_tags::Variants;
 pub use asn1_schema_tags::find_place;

@@ -1,6 +1,6 @@
 //! What reads the values of types.
 ghost use Rattle.std.specs.Prelude.{◌≡◌, ◌+◌, ◌<◌, true, ⊤, ℕ, List, length};
-ghost use Rattle.std.specs.Prelude.{IfOk, OnOk, OnErr, IfErr, cond, map, string_bytes};
+ghost use Rattle.std.specs.Prelude.{IfOk, OnOk, OnErr, IfErr, cond, string_bytes};
 ghost use Rattle.std.specs.Cow.{IsBorrowedSlice, cow_slice_items};
 ghost use Rattle.asn1_model.specs.Schema.{Size, Counts, utf8};
 ghost use Rattle.asn1_model.specs.Numbers.{is_count_within};
@@ -19,13 +19,12 @@ ghost use Rattle.asn1_schema_types.specs.Told.{whole_under, bits_under, octets_u
 ghost use Rattle.asn1_schema_types.specs.Told.{asks_whole_under, asks_bits_under, asks_octets_under};
 ghost use Rattle.asn1_schema_types.specs.Told.{asks_characters_under, list_begins_under, bag_begins_under};
 ghost use Rattle.asn1_schema_types.specs.Told.{asks_list_under, asks_bag_under};
-ghost use Rattle.asn1_schema_tags.specs.Tags.{tag_of};
 ghost use Rattle.asn1_schema_decode.specs.Reads.{NoRecord, NoLevel, Reads, Unread};
 ghost use Rattle.asn1_schema_decode.specs.Answers.{Begins, is_admitted};
 
 use asn1_schema_constraints::{Bounded, Constraints};
 use asn1_schema_faults::{CodecKind, DecodeError};
-use asn1_schema_tags::Tag;
+use asn1_schema_tags::{Tag, TagTables};
 use asn1_schema_types::AsnType;
 use asn1_schema_variants::{Chosen, Enumerated};
 use asn1_values_alphabets::StaticPermittedAlphabet;
@@ -379,22 +378,15 @@ pub trait Decoder {
         ensures already { has_failed self.old → result ≡ Err DecodeError.AlreadyFailed }
         ensures after { result ≡ Err DecodeError.AlreadyFailed → has_failed self.old };
 
-    /// A CHOICE begins (X.680 29), with the tags of its root alternatives, whether it has an extension marker, and
-    /// the tags of its added alternatives: which one is chosen. Its end is called behind the value of the alternative.
-    fn begin_choice(
-        &mut self,
-        tag: Tag,
-        roots: &[Tag],
-        extensible: bool,
-        additions: &[Tag],
-    ) -> Result<Chosen, DecodeError>
+    /// A CHOICE begins (X.680 29), with the tags of its alternatives and whether it has an extension marker: which
+    /// one is chosen. Its end is called behind the value of the alternative.
+    fn begin_choice(&mut self, tag: Tag, tables: &TagTables<'_>) -> Result<Chosen, DecodeError>
         ensures ok { IfOk result (λ x. step self.old
-            (choice_begins (map tag_of roots.now) extensible (map tag_of additions.now) x.added x.place) self.new) }
-        ensures within { IfOk result
-            (λ x. x.place < length (cond x.added (map tag_of additions.now) (map tag_of roots.now))) }
+            (choice_begins tables.now.roots tables.now.extensible tables.now.additions x.added x.place) self.new) }
+        ensures within { IfOk result (λ x. x.place < length (cond x.added tables.now.additions tables.now.roots)) }
         ensures level { OnOk result (levels self.old ≡ levels self.new + 1) }
         ensures only { IfErr result
-            (NoLevel step (asks_choice (map tag_of roots.now) extensible (map tag_of additions.now))
+            (NoLevel step (asks_choice tables.now.roots tables.now.extensible tables.now.additions)
             (levels self.old) self.old) }
         ensures failed { OnErr result (has_failed self.new) }
         ensures already { has_failed self.old → result ≡ Err DecodeError.AlreadyFailed }

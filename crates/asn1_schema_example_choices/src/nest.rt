@@ -5,7 +5,7 @@ ghost use Rattle.asn1_schema.specs.Author.{context, no_constraint};
 use asn1_schema::{
     Alternatives, AsnType, Choice, Chosen, Class, Constraints, Decode, DecodeAlternatives,
     DecodeError, Decoder, Described, Encode, EncodeChoice, EncodeError, Encoder, Identifier, Tag,
-    TagTree,
+    TagPlace, TagTree,
 };
 use std::alloc::Global;
 
@@ -78,6 +78,19 @@ impl Alternatives for Nest {
 
     fn extended_variants() -> Option<&'static [Tag]> {
         None
+    }
+
+    fn places() -> &'static [TagPlace] {
+        &[
+            TagPlace {
+                tag: LEAF,
+                place: 0,
+            },
+            TagPlace {
+                tag: MORE,
+                place: 1,
+            },
+        ]
     }
 
     ghost tagged = { refl };
