@@ -23,8 +23,8 @@ in_turn e (Some i) p h = refl
 in_turn true None (Some i) h = refl
 in_turn true None None h = refl
 in_turn false None p h =
-    let mark : ℕ → Chosen = λ i. record { added = true; place = i } in
-    sym (ap (option_map mark) (h refl))
+    let added_at : ℕ → Chosen = λ i. record { added = true; place = i } in
+    sym (ap (option_map added_at) (h refl))
 
 pub of_tag_told : (t : Choices) (c : ChoiceTags) (tag : Tag) → AreTold t c.roots c.extensible c.additions → (c.extensible ≡ false → c.additions ≡ []) → alternative_of c tag ≡ of_tag t tag
 of_tag_told t c tag told closed =

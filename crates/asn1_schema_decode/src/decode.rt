@@ -7,10 +7,10 @@ ghost use Rattle.asn1_model.specs.Numbers.{is_count_within};
 ghost use Rattle.asn1_schema_faults.specs.declared.CodecKind.{CodecKind};
 ghost use Rattle.asn1_schema_presented.specs.Records.{Record, question, told, flag, nil, one_of, identifier};
 ghost use Rattle.asn1_schema_presented.specs.Records.{list_begins, bag_begins, further, sequence_begins, set_begins};
-ghost use Rattle.asn1_schema_presented.specs.Records.{group_begins, mark, is_default, is_empty, additions_begin};
+ghost use Rattle.asn1_schema_presented.specs.Records.{group_begins, presence_bit, is_default, is_empty, additions_begin};
 ghost use Rattle.asn1_schema_presented.specs.Records.{addition, addition_ends, choice_begins, ends};
 ghost use Rattle.asn1_schema_presented.specs.Records.{asks_flag, asks_nil, asks_one_of, asks_identifier, asks_further};
-ghost use Rattle.asn1_schema_presented.specs.Records.{asks_sequence, asks_set, asks_group, asks_mark, asks_default};
+ghost use Rattle.asn1_schema_presented.specs.Records.{asks_sequence, asks_set, asks_group, asks_presence_bit, asks_default};
 ghost use Rattle.asn1_schema_presented.specs.Records.{asks_empty, asks_additions, asks_addition, asks_addition_end};
 ghost use Rattle.asn1_schema_presented.specs.Records.{asks_choice, asks_end};
 ghost use Rattle.asn1_schema_constraints.specs.Bounds.{counts_of};
@@ -324,10 +324,10 @@ pub trait Decoder {
         ensures after { result ≡ Err DecodeError.AlreadyFailed → has_failed self.old };
 
     /// Whether the next component is there, of those that may be absent.
-    fn get_mark(&mut self) -> Result<bool, DecodeError>
-        ensures ok { IfOk result (λ x. step self.old (mark x) self.new) }
+    fn get_presence_bit(&mut self) -> Result<bool, DecodeError>
+        ensures ok { IfOk result (λ x. step self.old (presence_bit x) self.new) }
         ensures level { OnOk result (levels self.new ≡ levels self.old) }
-        ensures only { IfErr result (NoRecord step asks_mark self.old) }
+        ensures only { IfErr result (NoRecord step asks_presence_bit self.old) }
         ensures failed { OnErr result (has_failed self.new) }
         ensures already { has_failed self.old → result ≡ Err DecodeError.AlreadyFailed }
         ensures after { result ≡ Err DecodeError.AlreadyFailed → has_failed self.old };

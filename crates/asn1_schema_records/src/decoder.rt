@@ -14,11 +14,11 @@ ghost use Rattle.asn1_schema_types.specs.Told.{asks_characters_under, asks_list_
 ghost use Rattle.asn1_schema_presented.specs.Records.{flag, nil, one_of, bits, octets, characters};
 ghost use Rattle.asn1_schema_presented.specs.Records.{identifier as object_identifier, further, sequence_begins};
 ghost use Rattle.asn1_schema_presented.specs.Records.{set_begins};
-ghost use Rattle.asn1_schema_presented.specs.Records.{group_begins, mark, is_default, is_empty, additions_begin};
+ghost use Rattle.asn1_schema_presented.specs.Records.{group_begins, presence_bit, is_default, is_empty, additions_begin};
 ghost use Rattle.asn1_schema_presented.specs.Records.{addition, addition_ends, choice_begins, ends};
 ghost use Rattle.asn1_schema_presented.specs.Records.{asks_flag, asks_nil, asks_one_of, asks_identifier};
 ghost use Rattle.asn1_schema_presented.specs.Records.{asks_further, asks_sequence};
-ghost use Rattle.asn1_schema_presented.specs.Records.{asks_set, asks_group, asks_mark, asks_default, asks_empty};
+ghost use Rattle.asn1_schema_presented.specs.Records.{asks_set, asks_group, asks_presence_bit, asks_default, asks_empty};
 ghost use Rattle.asn1_schema_presented.specs.Records.{asks_additions, asks_addition, asks_addition_end};
 ghost use Rattle.asn1_schema_presented.specs.Records.{asks_choice, asks_end};
 ghost use Rattle.asn1_schema_records.specs.Kept.{record_of, sizes_in};
@@ -527,17 +527,17 @@ impl Decoder for RecordDecoder {
         Err(self.refuse(DecodeError::NotValidCanonicalEncoding))
     }
 
-    fn get_mark(&mut self) -> Result<bool, DecodeError>
-        ensures ok { IfOk result (λ x. Takes self.old (mark x) self.new) }
+    fn get_presence_bit(&mut self) -> Result<bool, DecodeError>
+        ensures ok { IfOk result (λ x. Takes self.old (presence_bit x) self.new) }
         ensures level { OnOk result (self.new.levels ≡ self.old.levels) }
-        ensures only { IfErr result (NoRecord Takes asks_mark self.old) }
+        ensures only { IfErr result (NoRecord Takes asks_presence_bit self.old) }
         ensures failed { OnErr result (self.new.failed ≡ true) }
         ensures already { self.old.failed ≡ true → result ≡ Err DecodeError.AlreadyFailed }
         ensures after { result ≡ Err DecodeError.AlreadyFailed → self.old.failed ≡ true }
-        ensures kind { IfErr result (IsRefused self.old (IsOtherKind mark)) }
+        ensures kind { IfErr result (IsRefused self.old (IsOtherKind presence_bit)) }
     {
         let item = self.take_next()?;
-        match item.into_mark() {
+        match item.into_presence_bit() {
             Some(present) => Ok(present),
             None => Err(self.refuse(DecodeError::NotValidCanonicalEncoding)),
         }

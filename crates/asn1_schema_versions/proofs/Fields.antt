@@ -81,9 +81,9 @@ unfolding choice_type scope is_lawful
 lawful_choice t n l = let p = and_parts _ (are_lawful_alternatives (alternatives_at n t.additions)) l in ((and_parts _ (are_lawful_alternatives (alternatives_at n t.root)) p.0).1, p.1)
 
 -- Further additions, where there is an extension marker.
-behind_mark : (n : ℕ) (b : Bool) (fs gs : Fields) → b ≡ true → ExtendsEach true (components_at n fs) (components_at n fs) → ExtendsEach b (components_at n fs) (components_at n (joined fs gs))
-behind_mark n true fs gs e h = appended n fs gs h
-behind_mark n false fs gs e h = absurd (let z : false ≡ true = e in cc)
+behind_extension_bit : (n : ℕ) (b : Bool) (fs gs : Fields) → b ≡ true → ExtendsEach true (components_at n fs) (components_at n fs) → ExtendsEach b (components_at n fs) (components_at n (joined fs gs))
+behind_extension_bit n true fs gs e h = appended n fs gs h
+behind_extension_bit n false fs gs e h = absurd (let z : false ≡ true = e in cc)
 
 -- A sequence with an extension marker, and further additions behind its own.
 pub gains_additions : {k : ℕ} (t : Table) (gs : Fields) → ((n : ℕ) → is_lawful (sequence_type t n) ≡ true) → t.extensible ≡ true → ExtendsFrom k (sequence_type t) (sequence_type (with_additions gs t))
@@ -94,7 +94,7 @@ gains_additions {k} t gs l e = record { unfolded = λ n h. at n }
     at zero = tt
     at (suc n) =
         let p = lawful_sequence t n (l (suc n)) in
-        (each_itself false (components_at n t.root) p.0, refl, behind_mark n t.extensible t.additions gs e (each_itself true (components_at n t.additions) p.1))
+        (each_itself false (components_at n t.root) p.0, refl, behind_extension_bit n t.extensible t.additions gs e (each_itself true (components_at n t.additions) p.1))
 
 -- ---- sets
 
@@ -107,7 +107,7 @@ set_gains_additions {k} t gs l e = record { unfolded = λ n h. at n }
     at zero = tt
     at (suc n) =
         let p = lawful_set t n (l (suc n)) in
-        (each_itself false (components_at n t.root) p.0, refl, behind_mark n t.extensible t.additions gs e (each_itself true (components_at n t.additions) p.1))
+        (each_itself false (components_at n t.root) p.0, refl, behind_extension_bit n t.extensible t.additions gs e (each_itself true (components_at n t.additions) p.1))
 
 -- ---- choices
 

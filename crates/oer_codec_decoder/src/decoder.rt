@@ -438,9 +438,9 @@ impl<'input> asn1_schema_decode::Decoder for Decoder<'input> {
     }
 
     #[inline(always)]
-    fn get_mark(&mut self) -> Result<bool, DecodeError> {
+    fn get_presence_bit(&mut self) -> Result<bool, DecodeError> {
         self.begin_record()?;
-        match self.scopes.next_mark() {
+        match self.scopes.next_presence_bit() {
             Some(present) => Ok(present),
             None => Err(self.fail(DecodeError::NotValidCanonicalEncoding)),
         }
@@ -465,7 +465,7 @@ impl<'input> asn1_schema_decode::Decoder for Decoder<'input> {
     #[inline(always)]
     fn begin_additions(&mut self, count: usize) -> Result<(), DecodeError> {
         self.begin_record()?;
-        let Some(marked) = self.scopes.mark() else {
+        let Some(marked) = self.scopes.extension_bit() else {
             return Err(self.fail(DecodeError::NotValidCanonicalEncoding));
         };
         match read_additions(&mut self.cursor, self.rules, marked, count) {

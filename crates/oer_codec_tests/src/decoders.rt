@@ -140,9 +140,9 @@ fn is_number(alloc: Global, decoder: &mut Decoder<'_>, number: u8) -> Result<boo
 /// Whether the components 7 and true are next, behind their presence bits.
 fn are_there(alloc: Global, decoder: &mut Decoder<'_>) -> Result<bool, DecodeError> {
     Ok(
-        decoder.get_mark()?
+        decoder.get_presence_bit()?
             && is_number(alloc, decoder, 7)?
-            && decoder.get_mark()?
+            && decoder.get_presence_bit()?
             && decoder.decode_bool(Tag::BOOL)?,
     )
 }
@@ -161,7 +161,7 @@ fn is_nested(alloc: Global, decoder: &mut Decoder<'_>) -> Result<bool, DecodeErr
 /// Whether SET {BOOLEAN OPTIONAL} true is next.
 fn is_set(decoder: &mut Decoder<'_>) -> Result<bool, DecodeError> {
     decoder.begin_set(Tag::SET, false, 1)?;
-    let found = decoder.get_mark()? && decoder.decode_bool(Tag::BOOL)?;
+    let found = decoder.get_presence_bit()? && decoder.decode_bool(Tag::BOOL)?;
     decoder.end()?;
     Ok(found)
 }

@@ -552,7 +552,7 @@ impl<'input> asn1_schema_decode::Decoder for Decoder<'input> {
     }
 
     #[inline(always)]
-    fn get_mark(&mut self) -> Result<bool, DecodeError> {
+    fn get_presence_bit(&mut self) -> Result<bool, DecodeError> {
         self.begin_record()?;
         match self.scopes.next_presence_bit() {
             Some(present) => Ok(present),
