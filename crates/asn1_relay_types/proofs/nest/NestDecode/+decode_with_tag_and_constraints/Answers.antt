@@ -1,8 +1,8 @@
 use Rattle.std.proofs.Common.{refl, false, ap, Err}
 use Rattle.asn1_schema.proofs.Author.{failed_reads, passed_on, raised, reads_begun, unread_begun, unread_begun_end}
 use Rattle.asn1_schema.proofs.Author.{unread_begun_here}
-use Rattle.asn1_schema_example_choices.specs.Nest.{nest_table, nest_schema, nest_is, nest_first, nest_second}
-use Rattle.asn1_schema_example_choices.proofs.nest.NestDecode.+decode_with_tag_and_constraints.Goals as goal
+use Rattle.asn1_relay_types.specs.Nest.{nest_table, nest_schema, nest_is, nest_first, nest_second}
+use Rattle.asn1_relay_types.proofs.nest.NestDecode.+decode_with_tag_and_constraints.Goals as goal
 
 pub returns-in_err-chosen-clause-only : goal.returns-in_err-chosen-clause-only
 returns-in_err-chosen-clause-only g t c = raised _ _ _ c.from_residual.ensures.1 (unread_begun_here (nest_table nest_schema) nest_is _ c.in_err-chosen.ensures.only)

@@ -29,7 +29,7 @@ const MORE: Tag = Tag {
 };
 
 impl Described for Nest {
-    ghost use Rattle.asn1_schema_example_choices.specs.Nest.{nest_schema, nest_meaning, nest_typed, nest_valued};
+    ghost use Rattle.asn1_relay_types.specs.Nest.{nest_schema, nest_meaning, nest_typed, nest_valued};
 
     ghost tags = { context 0 ∷ context 1 ∷ [] };
 
@@ -68,7 +68,7 @@ impl AsnType for Nest {
 }
 
 impl Alternatives for Nest {
-    ghost use Rattle.asn1_schema_example_choices.specs.Nest.{nest_table, nest_schema, nest_is};
+    ghost use Rattle.asn1_relay_types.specs.Nest.{nest_table, nest_schema, nest_is};
 
     ghost table = { nest_table nest_schema };
 
@@ -99,7 +99,7 @@ impl Alternatives for Nest {
 }
 
 impl Choice for Nest {
-    ghost use Rattle.asn1_schema_example_choices.specs.Nest.{nest_place, nest_inner, nest_means};
+    ghost use Rattle.asn1_relay_types.specs.Nest.{nest_place, nest_inner, nest_means};
 
     ghost place = { nest_place };
 

@@ -1,8 +1,8 @@
 use Rattle.std.proofs.Common.{ap, false}
 use Rattle.asn1_schema.proofs.Author.{cannot_begun, cannot_begun_end, cannot_begun_here, failed_before_value}
 use Rattle.asn1_schema.proofs.Author.{null_value, passed, raised, writes_begun}
-use Rattle.asn1_schema_example_choices.specs.Nest.{nest_table, nest_schema, nest_is, nest_meaning, nest_valued}
-use Rattle.asn1_schema_example_choices.proofs.nest.NestEncode.+encode_with_tag_and_constraints.Goals as goal
+use Rattle.asn1_relay_types.specs.Nest.{nest_table, nest_schema, nest_is, nest_meaning, nest_valued}
+use Rattle.asn1_relay_types.proofs.nest.NestEncode.+encode_with_tag_and_constraints.Goals as goal
 
 pub returns-in_err-begin_alternative-in-Leaf-clause-only : goal.returns-in_err-begin_alternative-in-Leaf-clause-only
 returns-in_err-begin_alternative-in-Leaf-clause-only g t c = raised _ _ _ c.from_residual.ensures.1 (cannot_begun_here _ (nest_table nest_schema) nest_is (record { added = false; place = 0 }) (ap nest_meaning c.in-Leaf.is) (rw c.root.ensures at c.in_err-begin_alternative-in-Leaf.ensures.only))

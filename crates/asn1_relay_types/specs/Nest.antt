@@ -6,7 +6,7 @@ use Rattle.asn1_schema.specs.Author.{choice_type, chosen, context, no_variant, n
 use Rattle.asn1_schema.specs.Author.{scope, variant}
 use Rattle.asn1_schema.proofs.Author.{more_variants, no_variants, null_type, null_value, recursive_choice_type}
 use Rattle.asn1_schema.proofs.Author.{value_as, value_choice}
-use Rattle.asn1_schema_example_choices.specs.declared.nest.Nest.{Nest, Leaf, More'}
+use Rattle.asn1_relay_types.specs.declared.nest.Nest.{Nest, Leaf, More'}
 
 -- The alternatives, by the type that the second leads to.
 abbrev pub nest_table : (ℕ → Schema) → Choices
