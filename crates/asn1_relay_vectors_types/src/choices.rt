@@ -2,15 +2,15 @@
 ghost use Rattle.std.specs.Prelude.{refl, true, false};
 ghost use Rattle.asn1_schema.specs.Author.{context, no_variant, variant};
 ghost use Rattle.asn1_schema.proofs.Author.{choice_of, none, of_addition, of_root, one};
-ghost use Rattle.asn1_schema_versions.proofs.Fields.{gains_alternatives};
-ghost use Rattle.asn1_schema_versions.proofs.Unfolding.{choice_unfolds, constant_unfolds, no_variants_unfold};
-ghost use Rattle.asn1_schema_versions.proofs.Unfolding.{variant_unfolds};
+ghost use Rattle.asn1_schema_authored.proofs.Fields.{gains_alternatives};
+ghost use Rattle.asn1_schema_authored.proofs.Unfolding.{choice_unfolds, constant_unfolds, no_variants_unfold};
+ghost use Rattle.asn1_schema_authored.proofs.Unfolding.{variant_unfolds};
 
 use asn1_schema::{
     ChoiceAlternatives, ChoiceOf, Chosen, Class, Decode, DecodeError, Decoder, Described, Encode,
     EncodeError, Encoder, Tag, TagPlace, TagTree,
 };
-use asn1_schema_versions::ExtendsAlternatives;
+use asn1_schema_authored::ExtendsAlternatives;
 use asn1_values::Integer;
 use std::alloc::Global;
 

@@ -9,7 +9,7 @@ use Rattle.asn1_laws_values.proofs.Same.{same_self}
 use Rattle.asn1_laws_values.proofs.Itself.{grows, parts_grow}
 use Rattle.asn1_schema_presented.specs.Tables.{Fields, no_field, field, Table, components_at, scope, sequence_type}
 use Rattle.asn1_schema_presented.specs.Typed.{IsDefault}
-use Rattle.asn1_schema_versions.proofs.Fields.{joined, with_additions, KeepsPresenceFrom}
+use Rattle.asn1_schema_authored.proofs.Fields.{joined, with_additions, KeepsPresenceFrom}
 
 -- One part for each component, all absent.
 abbrev pub absents : Fields → Parts

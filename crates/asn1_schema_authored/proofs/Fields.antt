@@ -10,7 +10,7 @@ use Rattle.asn1_laws_values.proofs.Itself.{each_itself, alternatives_itself}
 use Rattle.asn1_schema_presented.specs.Tables.{Fields, no_field, field, Table, components_at, scope, sequence_type}
 use Rattle.asn1_schema_constructed.specs.Sets.{set_type}
 use Rattle.asn1_schema_constructed.specs.Tables.{Variants, no_variant, variant, alternatives_at, Choices, choice_type}
-use Rattle.asn1_schema_versions.specs.Versions.{ExtendsFrom}
+use Rattle.asn1_schema_types.specs.Versions.{ExtendsFrom}
 
 -- ---- tables that have grown
 

@@ -6,7 +6,7 @@ use Rattle.asn1_laws_values.proofs.Recursive.{agrees_with_itself}
 use Rattle.asn1_schema_presented.specs.Tables.{Fields, no_field, field, Table, components_at, scope, sequence_type}
 use Rattle.asn1_schema_constructed.specs.Sets.{set_type}
 use Rattle.asn1_schema_constructed.specs.Tables.{Variants, no_variant, variant, alternatives_at, Choices, choice_type}
-use Rattle.asn1_schema_versions.specs.Versions.{Unfolds}
+use Rattle.asn1_schema_types.specs.Versions.{Unfolds}
 
 -- Components whose types do.
 pub record FieldsUnfold (fs : Fields) : Type 0 where
