@@ -323,32 +323,35 @@ pub trait Decoder {
         ensures already { has_failed self.old → result ≡ Err DecodeError.AlreadyFailed }
         ensures after { result ≡ Err DecodeError.AlreadyFailed → has_failed self.old };
 
-    /// Whether the next component is there, of those that may be absent.
+    /// Whether the next component is there, of those that may be absent. No memory is taken.
     fn get_presence_bit(&mut self) -> Result<bool, DecodeError>
         ensures ok { IfOk result (λ x. step self.old (presence_bit x) self.new) }
         ensures level { OnOk result (levels self.new ≡ levels self.old) }
         ensures only { IfErr result (NoRecord step asks_presence_bit self.old) }
         ensures failed { OnErr result (has_failed self.new) }
         ensures already { has_failed self.old → result ≡ Err DecodeError.AlreadyFailed }
-        ensures after { result ≡ Err DecodeError.AlreadyFailed → has_failed self.old };
+        ensures after { result ≡ Err DecodeError.AlreadyFailed → has_failed self.old }
+        ensures no_memory { IfErr result (λ e. e ≡ DecodeError.OutOfMemory → ⊥) };
 
-    /// The component that was read last is equal to its default: refused by rules that have one encoding.
+    /// The component that was read last is equal to its default: refused by rules that have one encoding. No memory is taken.
     fn note_default(&mut self) -> Result<(), DecodeError>
         ensures ok { OnOk result (step self.old is_default self.new) }
         ensures level { OnOk result (levels self.new ≡ levels self.old) }
         ensures only { IfErr result (NoRecord step asks_default self.old) }
         ensures failed { OnErr result (has_failed self.new) }
         ensures already { has_failed self.old → result ≡ Err DecodeError.AlreadyFailed }
-        ensures after { result ≡ Err DecodeError.AlreadyFailed → has_failed self.old };
+        ensures after { result ≡ Err DecodeError.AlreadyFailed → has_failed self.old }
+        ensures no_memory { IfErr result (λ e. e ≡ DecodeError.OutOfMemory → ⊥) };
 
-    /// The group that was read last has no component: refused by rules that have one encoding.
+    /// The group that was read last has no component: refused by rules that have one encoding. No memory is taken.
     fn note_empty(&mut self) -> Result<(), DecodeError>
         ensures ok { OnOk result (step self.old is_empty self.new) }
         ensures level { OnOk result (levels self.new ≡ levels self.old) }
         ensures only { IfErr result (NoRecord step asks_empty self.old) }
         ensures failed { OnErr result (has_failed self.new) }
         ensures already { has_failed self.old → result ≡ Err DecodeError.AlreadyFailed }
-        ensures after { result ≡ Err DecodeError.AlreadyFailed → has_failed self.old };
+        ensures after { result ≡ Err DecodeError.AlreadyFailed → has_failed self.old }
+        ensures no_memory { IfErr result (λ e. e ≡ DecodeError.OutOfMemory → ⊥) };
 
     /// Behind the root components of a type with an extension marker come its additions (X.680 25 and 27), so
     /// many. Those that the input has besides are skipped at the end.

@@ -534,6 +534,7 @@ impl Decoder for RecordDecoder {
         ensures failed { OnErr result (self.new.failed ≡ true) }
         ensures already { self.old.failed ≡ true → result ≡ Err DecodeError.AlreadyFailed }
         ensures after { result ≡ Err DecodeError.AlreadyFailed → self.old.failed ≡ true }
+        ensures no_memory { IfErr result (λ e. e ≡ DecodeError.OutOfMemory → ⊥) }
         ensures kind { IfErr result (IsRefused self.old (IsOtherKind presence_bit)) }
     {
         let item = self.take_next()?;
@@ -550,6 +551,7 @@ impl Decoder for RecordDecoder {
         ensures failed { OnErr result (self.new.failed ≡ true) }
         ensures already { self.old.failed ≡ true → result ≡ Err DecodeError.AlreadyFailed }
         ensures after { result ≡ Err DecodeError.AlreadyFailed → self.old.failed ≡ true }
+        ensures no_memory { IfErr result (λ e. e ≡ DecodeError.OutOfMemory → ⊥) }
         ensures kind { IfErr result (IsRefused self.old (IsOtherThan is_default)) }
     {
         let item = self.take_next()?;
@@ -566,6 +568,7 @@ impl Decoder for RecordDecoder {
         ensures failed { OnErr result (self.new.failed ≡ true) }
         ensures already { self.old.failed ≡ true → result ≡ Err DecodeError.AlreadyFailed }
         ensures after { result ≡ Err DecodeError.AlreadyFailed → self.old.failed ≡ true }
+        ensures no_memory { IfErr result (λ e. e ≡ DecodeError.OutOfMemory → ⊥) }
         ensures kind { IfErr result (IsRefused self.old (IsOtherThan is_empty)) }
     {
         let item = self.take_next()?;
