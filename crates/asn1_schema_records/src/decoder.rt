@@ -2,7 +2,7 @@
 ghost use Rattle.std.specs.Prelude.{◌≡◌, ◌+◌, ◌≤◌, ◌<◌, ◌||◌, ◌↔◌, ℕ, ◌∷◌, true, false, cond, length, map};
 ghost use Rattle.std.specs.Prelude.{string_bytes, IsTrue, MatchBool, OnOk, OnErr, IfErr, IfOk};
 ghost use Rattle.asn1_model.specs.Schema.{utf8};
-ghost use Rattle.asn1_model.specs.Types.{any_count};
+ghost use Rattle.asn1_model.specs.Schema.{any_count};
 ghost use Rattle.asn1_model.specs.Numbers.{is_within, is_count_within};
 ghost use Rattle.asn1_schema_constraints.specs.Bounds.{counts_of, members_of};
 ghost use Rattle.asn1_schema_constraints.specs.Terms.{admits_whole, bounds_of, sizes_of};
