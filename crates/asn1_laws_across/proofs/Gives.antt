@@ -4,7 +4,7 @@ use Rattle.std.proofs.lemmas.Bool.{and_parts}
 use Rattle.asn1_model.specs.Value.{Value, Parts, end, absent, present, same, same_parts}
 use Rattle.asn1_model.specs.Schema.{Presence, Schema, Components, no_component, component}
 use Rattle.asn1_model.specs.Form.{Form, exactly, refused, both, placed, varied, within, written, only_if, given, joined, Bitmap, is_present, is_any_present, present_ones, covered_by, own_bitmap}
-use Rattle.asn1_model.specs.Tables.{marks, is_required, mark_unless}
+use Rattle.asn1_model.specs.Tables.{presence_bits, is_required, presence_bit_unless}
 use Rattle.asn1_model.proofs.Forms.{chain_parts, map_parts}
 use Rattle.asn1_laws_values.proofs.Listed.{EachComponent}
 use Rattle.asn1_laws_fronts.proofs.Fronts.{Agree}
@@ -191,18 +191,18 @@ module _ {F : Type 0} {D : F → Type 0} {A : Type 0} where
       (take b.covered ys ++ map (option_map u) b.further, if_true _ _ t, subst (λ z. EachSlot z (take b.covered ys ++ map (option_map u) b.further)) q.1 (slots_taken b.covered xs ys (map (option_map u) b.further) h))
 
 -- ---- presence bits
-pub marks_same : (cs : Components) (ps qs : Parts) → same_parts ps qs ≡ true → marks cs ps ≡ marks cs qs
+pub presence_bits_same : (cs : Components) (ps qs : Parts) → same_parts ps qs ≡ true → presence_bits cs ps ≡ presence_bits cs qs
 unfolding same_parts
-marks_same no_component ps qs e = refl
-marks_same (component t o s cs) end end e = refl
-marks_same (component t o s cs) end (absent qs) e = cc
-marks_same (component t o s cs) end (present w qs) e = cc
-marks_same (component t o s cs) (absent ps) end e = cc
-marks_same (component t o s cs) (absent ps) (absent qs) e = ap (λ m. mark_unless (is_required o) false m) (marks_same cs ps qs e)
-marks_same (component t o s cs) (absent ps) (present w qs) e = cc
-marks_same (component t o s cs) (present v ps) end e = cc
-marks_same (component t o s cs) (present v ps) (absent qs) e = cc
-marks_same (component t o s cs) (present v ps) (present w qs) e = ap (λ m. mark_unless (is_required o) true m) (marks_same cs ps qs ((and_parts _ _ e).1))
+presence_bits_same no_component ps qs e = refl
+presence_bits_same (component t o s cs) end end e = refl
+presence_bits_same (component t o s cs) end (absent qs) e = cc
+presence_bits_same (component t o s cs) end (present w qs) e = cc
+presence_bits_same (component t o s cs) (absent ps) end e = cc
+presence_bits_same (component t o s cs) (absent ps) (absent qs) e = ap (λ m. presence_bit_unless (is_required o) false m) (presence_bits_same cs ps qs e)
+presence_bits_same (component t o s cs) (absent ps) (present w qs) e = cc
+presence_bits_same (component t o s cs) (present v ps) end e = cc
+presence_bits_same (component t o s cs) (present v ps) (absent qs) e = cc
+presence_bits_same (component t o s cs) (present v ps) (present w qs) e = ap (λ m. presence_bit_unless (is_required o) true m) (presence_bits_same cs ps qs ((and_parts _ _ e).1))
 
 -- ---- components and additions
 module _ (F : Type 0) (D : F → Type 0) (A : Type 0) (free : F → Bool) where

@@ -7,7 +7,7 @@ use Rattle.asn1_model.specs.Lawful.{is_lawful, are_lawful, are_lawful_alternativ
 use Rattle.asn1_model.specs.Normal.{normal, is_at_default, is_group_left_out}
 use Rattle.asn1_model.specs.Numbers.{is_count_within}
 use Rattle.asn1_model.specs.Form.{refused, both, varied, written, canonically, only_if, given, Bitmap, own_bitmap, is_present, stands_before}
-use Rattle.asn1_model.specs.Tables.{marks, is_required}
+use Rattle.asn1_model.specs.Tables.{presence_bits, is_required}
 use Rattle.asn1_model.specs.Oer
 use Rattle.asn1_model.proofs.Forms.{reads_written}
 use Rattle.asn1_laws_values.proofs.Listed.{EachComponent, EachAlternative, component_map, listed, each_is_map, order_map, arranged_maps}
@@ -20,7 +20,7 @@ use Rattle.asn1_laws_fronts.proofs.OctetForms.{one_way}
 use Rattle.asn1_laws_across.proofs.Orders.{lists_ordered, numbers_ordered, sorted, HaveKeys, EachAlike, sorted_alike, arranged_sorted}
 use Rattle.asn1_laws_across.proofs.Bags.{arranged_keys}
 use Rattle.asn1_laws_across.proofs.Gives as giving
-use Rattle.asn1_laws_across.proofs.Gives.{Gives, gives_same, gives_equal, gives_refused, gives_both, gives_placed, gives_varied, gives_within, gives_if, gives_cond, gives_given, EachGives, each_length, gives_joined, each_take, each_drop, EachSlot, slots_flags, slots_own, marks_same, components_give, additions_give, bitmapped_gives}
+use Rattle.asn1_laws_across.proofs.Gives.{Gives, gives_same, gives_equal, gives_refused, gives_both, gives_placed, gives_varied, gives_within, gives_if, gives_cond, gives_given, EachGives, each_length, gives_joined, each_take, each_drop, EachSlot, slots_flags, slots_own, presence_bits_same, components_give, additions_give, bitmapped_gives}
 
 abbrev Same : Oer.OctetForm → Oer.OctetForm → Type 0
 Same x y = Gives {F = Oer.Freedom} {D = Oer.Detail} {A = ℕ} x y
@@ -182,12 +182,12 @@ tables_give true ms x y xs ys h k =
     let o = slots_own xs ys k in
     rw o (gives_varied {c = Oer.other_bitmap} {c' = Oer.other_bitmap} (subst (λ u. Same u (Oer.bitmapped ms y ys (own_bitmap ys))) (bitmapped_is ms x xs (own_bitmap ys)) (subst (λ u. Same (Bitmapped ms x xs (own_bitmap ys)) u) (bitmapped_is ms y ys (own_bitmap ys)) (bitmapped_gives Oer.Freedom Oer.Detail ℕ canonically unknown marked bits bits_give hidden hidden_gives ms x y xs ys (own_bitmap ys) h k))))
 
-fields_give : (cs : Components) (e : Bool) (adds : Components) → EachComponent (λ o s. OneText s) cs → EachComponent (λ o s. OneText s) adds → (ps qs rs ss : Parts) → same_parts ps rs ≡ true → same_parts qs ss ≡ true → Same (given (Oer.addition_forms adds qs) (Oer.sequence_form e (marks cs ps) (Oer.component_forms cs ps))) (given (Oer.addition_forms adds ss) (Oer.sequence_form e (marks cs rs) (Oer.component_forms cs rs)))
+fields_give : (cs : Components) (e : Bool) (adds : Components) → EachComponent (λ o s. OneText s) cs → EachComponent (λ o s. OneText s) adds → (ps qs rs ss : Parts) → same_parts ps rs ≡ true → same_parts qs ss ≡ true → Same (given (Oer.addition_forms adds qs) (Oer.sequence_form e (presence_bits cs ps) (Oer.component_forms cs ps))) (given (Oer.addition_forms adds ss) (Oer.sequence_form e (presence_bits cs rs) (Oer.component_forms cs rs)))
 fields_give cs e adds h k ps qs rs ss f g =
-    let m = marks_same cs ps rs f in
+    let m = presence_bits_same cs ps rs f in
     rw m (gives_given _ _ _ _ (λ xs i.
     let a = additions_give Oer.Freedom Oer.Detail ℕ canonically unknown unknown_alike added adds qs ss xs (component_map adds (λ o s k. added_gives o s k) k) g (added_is adds qs ∙ i) in
-    (a.0, sym (added_is adds ss) ∙ a.1, tables_give e (marks cs rs) _ _ xs a.0 (components_same cs ps rs h f) a.2)))
+    (a.0, sym (added_is adds ss) ∙ a.1, tables_give e (presence_bits cs rs) _ _ xs a.0 (components_same cs ps rs h f) a.2)))
 
 -- ---- choices
 alternative_gives : (b : Bool) (others : Alternatives) (i : ℕ) (v w : Value) → EachAlternative OneText others → same v w ≡ true → Same (Oer.alternative_form b others i v) (Oer.alternative_form b others i w)
@@ -235,7 +235,7 @@ mutual
   one_text s l (bag vs) (bag ws) e = gives_refused _
   one_text (sequence cs x adds) l (fields ps qs) (fields rs ss) f = let p = and_parts _ _ f in fields_give cs x adds (each_component cs ((and_parts _ _ ((and_parts _ _ l).0)).1)) (each_component adds ((and_parts _ _ l).1)) ps qs rs ss p.0 p.1
   one_text (set cs x adds) l (fields ps qs) (fields rs ss) f = let p = and_parts _ _ f in fields_give cs x adds (each_component cs ((and_parts _ _ ((and_parts _ _ l).0)).1)) (each_component adds ((and_parts _ _ l).1)) ps qs rs ss p.0 p.1
-  one_text (group cs) l (fields ps end) (fields rs end) f = let p = and_parts _ _ f in let m = marks_same cs ps rs p.0 in rw m (gives_both (gives_same _) (components_same cs ps rs (each_component cs ((and_parts _ _ l).1)) p.0))
+  one_text (group cs) l (fields ps end) (fields rs end) f = let p = and_parts _ _ f in let m = presence_bits_same cs ps rs p.0 in rw m (gives_both (gives_same _) (components_same cs ps rs (each_component cs ((and_parts _ _ l).1)) p.0))
   one_text (group cs) l (fields ps end) (fields rs (absent ss)) f = let p = and_parts (same_parts ps rs) false f in cc
   one_text (group cs) l (fields ps end) (fields rs (present w ss)) f = let p = and_parts (same_parts ps rs) false f in cc
   one_text s l (fields ps qs) (fields rs ss) f = gives_refused _

@@ -8,7 +8,7 @@ use Rattle.asn1_model.specs.Numbers.{digits, octet_width, least_octets, signed_o
 use Rattle.asn1_model.specs.Normal.{is_at_default, is_group_left_out}
 use Rattle.asn1_model.specs.Form.{exactly, refused, only_if, is_present}
 use Rattle.asn1_model.specs.Strings.{may_hold, is_identifier, is_octet, each_is}
-use Rattle.asn1_model.specs.Tables.{is_bounded, item_place, is_required, marks}
+use Rattle.asn1_model.specs.Tables.{is_bounded, item_place, is_required, presence_bits}
 use Rattle.asn1_model.specs.Rules.{strict_oer}
 use Rattle.asn1_model.specs.Oer
 use Rattle.asn1_laws_across.specs.Rigid.{is_rigid, are_rigid, are_rigid_alternatives}
@@ -141,8 +141,8 @@ mutual
   form_rigid object_identifier (arcs ns) h = rigid_if strict_oer (is_identifier ns) (counted_rigid _)
   form_rigid (sequence_of z held s) (members vs) h = members_rigid held _ (each_rigid (λ v. Oer.form s v) (λ v. form_rigid s v h) vs)
   form_rigid (set_of z held s) v h = cc
-  form_rigid (sequence cs e adds) (fields ps qs) h = let p = and_parts _ _ h in rigid_given strict_oer (Oer.addition_forms adds qs) (λ xs. sequence_rigid e (marks cs ps) _ xs p.0 (components_rigid cs ps p.1))
-  form_rigid (set cs e adds) (fields ps qs) h = let p = and_parts _ _ h in rigid_given strict_oer (Oer.addition_forms adds qs) (λ xs. sequence_rigid e (marks cs ps) _ xs p.0 (components_rigid cs ps p.1))
+  form_rigid (sequence cs e adds) (fields ps qs) h = let p = and_parts _ _ h in rigid_given strict_oer (Oer.addition_forms adds qs) (λ xs. sequence_rigid e (presence_bits cs ps) _ xs p.0 (components_rigid cs ps p.1))
+  form_rigid (set cs e adds) (fields ps qs) h = let p = and_parts _ _ h in rigid_given strict_oer (Oer.addition_forms adds qs) (λ xs. sequence_rigid e (presence_bits cs ps) _ xs p.0 (components_rigid cs ps p.1))
   form_rigid (group cs) (fields ps end) h = rigid_both strict_oer (octets _) (components_rigid cs ps h)
   form_rigid (choice roots e adds) (chosen false i v) h = alternative_rigid false roots i v (and_parts _ _ h).0
   form_rigid (choice roots true adds) (chosen true i v) h = alternative_rigid true adds i v (and_parts _ _ h).1

@@ -7,7 +7,7 @@ use Rattle.asn1_model.specs.Lawful.{is_lawful, are_lawful, are_lawful_alternativ
 use Rattle.asn1_model.specs.Normal.{normal, is_at_default, is_group_left_out}
 use Rattle.asn1_model.specs.Numbers.{binary, is_count_within}
 use Rattle.asn1_model.specs.Form.{exactly, refused, both, varied, written, canonically, only_if, given, Bitmap, own_bitmap, is_present, stands_before}
-use Rattle.asn1_model.specs.Tables.{marks, is_required, alternative_count}
+use Rattle.asn1_model.specs.Tables.{presence_bits, is_required, alternative_count}
 use Rattle.asn1_model.specs.Per
 use Rattle.asn1_model.proofs.Forms.{reads_written}
 use Rattle.asn1_laws_values.proofs.Listed.{EachComponent, EachAlternative, component_map, listed, each_is_map, order_map, arranged_maps}
@@ -21,7 +21,7 @@ use Rattle.asn1_laws_fronts.proofs.Forms.{one_way}
 use Rattle.asn1_laws_across.proofs.Orders.{lists_ordered, bits_ordered, sorted, HaveKeys, EachAlike, sorted_alike, arranged_sorted}
 use Rattle.asn1_laws_across.proofs.Bags.{arranged_keys}
 use Rattle.asn1_laws_across.proofs.Gives as giving
-use Rattle.asn1_laws_across.proofs.Gives.{Gives, gives_same, gives_equal, gives_refused, gives_both, gives_placed, gives_varied, gives_within, gives_if, gives_cond, gives_given, EachGives, each_length, gives_joined, each_take, each_drop, EachSlot, slots_flags, slots_own, marks_same, components_give, additions_give, bitmapped_gives}
+use Rattle.asn1_laws_across.proofs.Gives.{Gives, gives_same, gives_equal, gives_refused, gives_both, gives_placed, gives_varied, gives_within, gives_if, gives_cond, gives_given, EachGives, each_length, gives_joined, each_take, each_drop, EachSlot, slots_flags, slots_own, presence_bits_same, components_give, additions_give, bitmapped_gives}
 
 abbrev Same : Per.BitForm → Per.BitForm → Type 0
 Same x y = Gives {F = Per.Freedom} {D = Per.Detail} {A = Bool} x y
@@ -219,12 +219,12 @@ module _ (al : Bool) where
       let o = slots_own xs ys k in
       rw o (gives_varied {c = Per.other_bitmap} {c' = Per.other_bitmap} (subst (λ u. Same u (Per.bitmapped al ms y ys (own_bitmap ys))) (bitmapped_is ms x xs (own_bitmap ys)) (subst (λ u. Same (Bitmapped ms x xs (own_bitmap ys)) u) (bitmapped_is ms y ys (own_bitmap ys)) (bitmapped_gives Per.Freedom Per.Detail Bool canonically unknown marked bits bits_give hidden hidden_gives ms x y xs ys (own_bitmap ys) h k))))
 
-  fields_give : (cs : Components) (e : Bool) (adds : Components) → EachComponent (λ o s. OneText s) cs → EachComponent (λ o s. OneText s) adds → (ps qs rs ss : Parts) → same_parts ps rs ≡ true → same_parts qs ss ≡ true → Same (given (Per.addition_forms al adds qs) (Per.sequence_form al e (marks cs ps) (Per.component_forms al cs ps))) (given (Per.addition_forms al adds ss) (Per.sequence_form al e (marks cs rs) (Per.component_forms al cs rs)))
+  fields_give : (cs : Components) (e : Bool) (adds : Components) → EachComponent (λ o s. OneText s) cs → EachComponent (λ o s. OneText s) adds → (ps qs rs ss : Parts) → same_parts ps rs ≡ true → same_parts qs ss ≡ true → Same (given (Per.addition_forms al adds qs) (Per.sequence_form al e (presence_bits cs ps) (Per.component_forms al cs ps))) (given (Per.addition_forms al adds ss) (Per.sequence_form al e (presence_bits cs rs) (Per.component_forms al cs rs)))
   fields_give cs e adds h k ps qs rs ss f g =
-      let m = marks_same cs ps rs f in
+      let m = presence_bits_same cs ps rs f in
       rw m (gives_given _ _ _ _ (λ xs i.
       let a = additions_give Per.Freedom Per.Detail Bool canonically unknown unknown_alike added adds qs ss xs (component_map adds (λ o s k. added_gives o s k) k) g (added_is adds qs ∙ i) in
-      (a.0, sym (added_is adds ss) ∙ a.1, tables_give e (marks cs rs) _ _ xs a.0 (components_same cs ps rs h f) a.2)))
+      (a.0, sym (added_is adds ss) ∙ a.1, tables_give e (presence_bits cs rs) _ _ xs a.0 (components_same cs ps rs h f) a.2)))
 
   -- ---- choices
   alternative_gives : (others : Alternatives) (i : ℕ) (v w : Value) → EachAlternative OneText others → same v w ≡ true → Same (Per.alternative_form al others i v) (Per.alternative_form al others i w)
@@ -238,7 +238,7 @@ module _ (al : Bool) where
   choice_gives roots e adds h k (chosen false i v) (chosen false j w) f =
       let p = and_parts (same_truth false false && (i == j)) (same v w) f in
       let q : i ≡ j = eqb-true i j ((and_parts (same_truth false false) (i == j) p.0).1) in
-      subst (λ n. Same (both (Per.mark_of e false) (both (Per.constrained al (alternative_count roots - 1) i) (Per.alternative_form al roots i v))) (both (Per.mark_of e false) (both (Per.constrained al (alternative_count roots - 1) n) (Per.alternative_form al roots n w)))) q (gives_both (gives_same _) (gives_both (gives_same _) (alternative_gives roots i v w h p.1)))
+      subst (λ n. Same (both (Per.extension_bit_of e false) (both (Per.constrained al (alternative_count roots - 1) i) (Per.alternative_form al roots i v))) (both (Per.extension_bit_of e false) (both (Per.constrained al (alternative_count roots - 1) n) (Per.alternative_form al roots n w)))) q (gives_both (gives_same _) (gives_both (gives_same _) (alternative_gives roots i v w h p.1)))
   choice_gives roots true adds h k (chosen true i v) (chosen true j w) f =
       let p = and_parts (same_truth true true && (i == j)) (same v w) f in
       let q : i ≡ j = eqb-true i j ((and_parts (same_truth true true) (i == j) p.0).1) in
@@ -269,7 +269,7 @@ module _ (al : Bool) where
     one_text s l (bag vs) (bag ws) e = gives_refused _
     one_text (sequence cs x adds) l (fields ps qs) (fields rs ss) f = let p = and_parts _ _ f in fields_give cs x adds (each_component cs ((and_parts _ _ ((and_parts _ _ l).0)).1)) (each_component adds ((and_parts _ _ l).1)) ps qs rs ss p.0 p.1
     one_text (set cs x adds) l (fields ps qs) (fields rs ss) f = let p = and_parts _ _ f in fields_give cs x adds (each_component cs ((and_parts _ _ ((and_parts _ _ l).0)).1)) (each_component adds ((and_parts _ _ l).1)) ps qs rs ss p.0 p.1
-    one_text (group cs) l (fields ps end) (fields rs end) f = let p = and_parts _ _ f in let m = marks_same cs ps rs p.0 in rw m (gives_both (gives_same _) (components_same cs ps rs (each_component cs ((and_parts _ _ l).1)) p.0))
+    one_text (group cs) l (fields ps end) (fields rs end) f = let p = and_parts _ _ f in let m = presence_bits_same cs ps rs p.0 in rw m (gives_both (gives_same _) (components_same cs ps rs (each_component cs ((and_parts _ _ l).1)) p.0))
     one_text (group cs) l (fields ps end) (fields rs (absent ss)) f = let p = and_parts (same_parts ps rs) false f in cc
     one_text (group cs) l (fields ps end) (fields rs (present w ss)) f = let p = and_parts (same_parts ps rs) false f in cc
     one_text s l (fields ps qs) (fields rs ss) f = gives_refused _

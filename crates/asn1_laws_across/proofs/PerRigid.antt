@@ -8,7 +8,7 @@ use Rattle.asn1_model.specs.Numbers.{binary, octet_width, least_octets, signed_o
 use Rattle.asn1_model.specs.Normal.{is_at_default, is_group_left_out}
 use Rattle.asn1_model.specs.Form.{exactly, refused}
 use Rattle.asn1_model.specs.Strings.{Run, permitted, place_of, may_hold, is_of_octets, is_identifier, is_octet, each_is}
-use Rattle.asn1_model.specs.Tables.{is_bounded, item_place, is_required, marks, alternative_count}
+use Rattle.asn1_model.specs.Tables.{is_bounded, item_place, is_required, presence_bits, alternative_count}
 use Rattle.asn1_model.specs.Rules.{strict_per}
 use Rattle.asn1_model.specs.Per
 use Rattle.asn1_laws_across.specs.Rigid.{is_rigid, are_rigid, are_rigid_alternatives}
@@ -119,7 +119,7 @@ string_rigid : (al : Bool) (k : StringKind) (z : Size) (a : Alphabet) (held : Co
 unfolding Per.string_form Per.characters
 string_rigid al k z a held cs = rigid_if strict_per (may_hold k cs) (rigid_cond strict_per (is_of_octets k) (rigid_if strict_per (is_count_within held (length cs)) (counted_octets_rigid al cs)) (sized_rigid al z held _ _ (rigid_map strict_per _ (character_rigid (Per.character_bits al (permitted k a)) (permitted k a)) cs)))
 
-mark_rigid : (e m : Bool) → RigidBits (Per.mark_of e m)
+mark_rigid : (e m : Bool) → RigidBits (Per.extension_bit_of e m)
 mark_rigid false m = bits _
 mark_rigid true m = bits _
 
@@ -177,8 +177,8 @@ mutual
   form_rigid al object_identifier (arcs ns) h = rigid_if strict_per (is_identifier ns) (counted_octets_rigid al _)
   form_rigid al (sequence_of z held s) (members vs) h = sized_rigid al z held _ _ (each_rigid (λ v. Per.form al s v) (λ v. form_rigid al s v h) vs)
   form_rigid al (set_of z held s) v h = cc
-  form_rigid al (sequence cs e adds) (fields ps qs) h = let p = and_parts _ _ h in rigid_given strict_per (Per.addition_forms al adds qs) (λ xs. sequence_rigid al e (marks cs ps) _ xs p.0 (components_rigid al cs ps p.1))
-  form_rigid al (set cs e adds) (fields ps qs) h = let p = and_parts _ _ h in rigid_given strict_per (Per.addition_forms al adds qs) (λ xs. sequence_rigid al e (marks cs ps) _ xs p.0 (components_rigid al cs ps p.1))
+  form_rigid al (sequence cs e adds) (fields ps qs) h = let p = and_parts _ _ h in rigid_given strict_per (Per.addition_forms al adds qs) (λ xs. sequence_rigid al e (presence_bits cs ps) _ xs p.0 (components_rigid al cs ps p.1))
+  form_rigid al (set cs e adds) (fields ps qs) h = let p = and_parts _ _ h in rigid_given strict_per (Per.addition_forms al adds qs) (λ xs. sequence_rigid al e (presence_bits cs ps) _ xs p.0 (components_rigid al cs ps p.1))
   form_rigid al (group cs) (fields ps end) h = rigid_both strict_per (bits _) (components_rigid al cs ps h)
   form_rigid al (choice roots e adds) (chosen false i v) h = let p = and_parts _ _ h in rigid_both strict_per (mark_rigid e false) (rigid_both strict_per (constrained_rigid al (alternative_count roots - 1) i) (alternative_rigid al roots i v p.0))
   form_rigid al (choice roots true adds) (chosen true i v) h = let p = and_parts _ _ h in rigid_both strict_per (bits _) (rigid_both strict_per (small_rigid al i) (open_rigid al _ (alternative_rigid al adds i v p.1)))

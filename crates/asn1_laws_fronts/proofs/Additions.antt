@@ -5,12 +5,12 @@ use Rattle.std.proofs.lemmas.Bool.{and_parts, and_from, or_cases, ltb-true, eqb-
 use Rattle.asn1_model.specs.Value.{Value, Parts, end, absent, present, same, same_parts}
 use Rattle.asn1_model.specs.Schema.{Presence, Schema, Components, no_component, component}
 use Rattle.asn1_model.specs.Form.{Form, refused, both, nothing_more, only_if, given, joined, Bitmap, is_present, is_any_present, present_ones, covered_by}
-use Rattle.asn1_model.specs.Tables.{marks, is_required, mark_unless}
+use Rattle.asn1_model.specs.Tables.{presence_bits, is_required, presence_bit_unless}
 use Rattle.asn1_model.proofs.Forms.{map_parts}
 use Rattle.asn1_laws_fronts.proofs.Fronts.{Agree, agree_refused, agree_with_refused, agree_map, agree_both, agree_both_apart, agree_given, agree_if, agree_if_left, agree_if_right, agree_nothing}
 use Rattle.asn1_laws_values.proofs.Listed.{EachComponent}
 
-pub unless_equal : (r m n : Bool) (ms ns : List Bool) → mark_unless r m ms ≡ mark_unless r n ns → (ms ≡ ns) × ((r ≡ true) ⊎ (m ≡ n))
+pub unless_equal : (r m n : Bool) (ms ns : List Bool) → presence_bit_unless r m ms ≡ presence_bit_unless r n ns → (ms ≡ ns) × ((r ≡ true) ⊎ (m ≡ n))
 unless_equal true m n ms ns e = (e, inl refl)
 unless_equal false m n ms ns e = (cc, inr cc)
 
@@ -66,15 +66,15 @@ module _ (F : Type 0) (D : F → Type 0) (A : Type 0) (free : F → Bool) where
     other_absent false x y P (inl e) = cc
     other_absent false x y P (inr e) = cc
 
-    pub components_alike : (cs : Components) (ps qs : Parts) → EachComponent AlikeShown cs → marks cs ps ≡ marks cs qs → AlikeHere (components_of cs ps) (components_of cs qs) (same_parts ps qs ≡ true)
+    pub components_alike : (cs : Components) (ps qs : Parts) → EachComponent AlikeShown cs → presence_bits cs ps ≡ presence_bits cs qs → AlikeHere (components_of cs ps) (components_of cs qs) (same_parts ps qs ≡ true)
     components_alike no_component end end h m = agree_map free (λ u. end_parts) (agree_nothing free)
     components_alike no_component end qs h m = agree_with_refused free _ _
     components_alike no_component ps qs h m = agree_refused free _ _
-    components_alike (component t o s cs) (present v ps) (present w qs) h m = agree_map free (λ q. two_parts v w ps qs q.0 q.1) (agree_both free (h.0 v w) (λ e. components_alike cs ps qs h.1 ((unless_equal (is_required o) true true (marks cs ps) (marks cs qs) m).0)))
-    components_alike (component t o s cs) (present v ps) (absent qs) h m = one_absent (is_required o) _ _ _ ((unless_equal (is_required o) true false (marks cs ps) (marks cs qs) m).1)
+    components_alike (component t o s cs) (present v ps) (present w qs) h m = agree_map free (λ q. two_parts v w ps qs q.0 q.1) (agree_both free (h.0 v w) (λ e. components_alike cs ps qs h.1 ((unless_equal (is_required o) true true (presence_bits cs ps) (presence_bits cs qs) m).0)))
+    components_alike (component t o s cs) (present v ps) (absent qs) h m = one_absent (is_required o) _ _ _ ((unless_equal (is_required o) true false (presence_bits cs ps) (presence_bits cs qs) m).1)
     components_alike (component t o s cs) (present v ps) end h m = agree_with_refused free _ _
-    components_alike (component t o s cs) (absent ps) (present w qs) h m = other_absent (is_required o) _ _ _ ((unless_equal (is_required o) false true (marks cs ps) (marks cs qs) m).1)
-    components_alike (component t o s cs) (absent ps) (absent qs) h m = if_absent (is_required o) _ _ _ (agree_map free (λ e. absent_parts ps qs e) (components_alike cs ps qs h.1 ((unless_equal (is_required o) false false (marks cs ps) (marks cs qs) m).0)))
+    components_alike (component t o s cs) (absent ps) (present w qs) h m = other_absent (is_required o) _ _ _ ((unless_equal (is_required o) false true (presence_bits cs ps) (presence_bits cs qs) m).1)
+    components_alike (component t o s cs) (absent ps) (absent qs) h m = if_absent (is_required o) _ _ _ (agree_map free (λ e. absent_parts ps qs e) (components_alike cs ps qs h.1 ((unless_equal (is_required o) false false (presence_bits cs ps) (presence_bits cs qs) m).0)))
     components_alike (component t o s cs) (absent ps) end h m = agree_with_refused free _ _
     components_alike (component t o s cs) end qs h m = agree_refused free _ _
 

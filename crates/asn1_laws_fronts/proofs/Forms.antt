@@ -8,7 +8,7 @@ use Rattle.asn1_model.specs.Form.{exactly, refused, both, varied, only_if, given
 use Rattle.asn1_model.specs.Numbers.{binary}
 use Rattle.asn1_model.specs.Rules.{uper, aper, uper_strict, aper_strict, lenient, strict_per, IsEncoding}
 use Rattle.asn1_model.specs.Strings.{each_is, is_octet, is_identifier, identifier_octets}
-use Rattle.asn1_model.specs.Tables.{marks, is_required, alternative_count}
+use Rattle.asn1_model.specs.Tables.{presence_bits, is_required, alternative_count}
 use Rattle.asn1_model.specs.Per
 use Rattle.asn1_laws_values.proofs.Same.{same_self}
 use Rattle.asn1_laws_values.proofs.Bags.{EachSame, bags_same}
@@ -17,11 +17,11 @@ use Rattle.asn1_laws_fronts.proofs.Fronts.{Pairwise, agree_exactly, agree_refuse
 use Rattle.asn1_laws_fronts.proofs.PerNumbers.{Alike, pairs_equal, counted_octets_alike, constrained_alike, integer_alike, same_bits, octets_again}
 use Rattle.asn1_laws_fronts.proofs.Complete.{complete_alike, octet_fronts}
 use Rattle.asn1_laws_fronts.proofs.Sevens.{identifiers_equal}
-use Rattle.asn1_laws_fronts.proofs.Spelled.{packed_spelled_alike, marks_long}
+use Rattle.asn1_laws_fronts.proofs.Spelled.{packed_spelled_alike, presence_bits_long}
 use Rattle.asn1_laws_values.proofs.Listed.{EachComponent, EachAlternative, component_map, listed, each_is_map, listed_again, order_map}
 use Rattle.asn1_laws_fronts.proofs.Members.{members_same}
 use Rattle.asn1_laws_fronts.proofs.Additions as adding
-use Rattle.asn1_laws_fronts.proofs.Units.{sized_alike, small_alike, bitmap_alike, items_alike, behind_mark, root_or_added, added_or_root, open_alike}
+use Rattle.asn1_laws_fronts.proofs.Units.{sized_alike, small_alike, bitmap_alike, items_alike, behind_extension_bit, root_or_added, added_or_root, open_alike}
 use Rattle.asn1_laws_fronts.proofs.Strings.{string_alike}
 
 same_of : (v w : Value) → v ≡ w → same v w ≡ true
@@ -89,7 +89,7 @@ module _ (free : Per.Freedom → Bool) (al : Bool) where
   shown_is (component t o s cs) (absent ps) = ap (λ x. cond (is_required o) refused x) (shown_is cs ps)
   shown_is (component t o s cs) (present v ps) = ap (λ x. both (Per.spelled o s v (Per.form al s v)) x) (shown_is cs ps)
 
-  components_alike : (cs : Components) (ps qs : Parts) → EachComponent (λ o s. OneWay s) cs → marks cs ps ≡ marks cs qs → Alike free (Per.component_forms al cs ps) (Per.component_forms al cs qs) (same_parts ps qs ≡ true)
+  components_alike : (cs : Components) (ps qs : Parts) → EachComponent (λ o s. OneWay s) cs → presence_bits cs ps ≡ presence_bits cs qs → Alike free (Per.component_forms al cs ps) (Per.component_forms al cs qs) (same_parts ps qs ≡ true)
   components_alike cs ps qs h m = subst (λ x. Alike free x (Per.component_forms al cs qs) (same_parts ps qs ≡ true)) (shown_is cs ps) (subst (λ x. Alike free (Shown cs ps) x (same_parts ps qs ≡ true)) (shown_is cs qs) (adding.components_alike Per.Freedom Per.Detail Bool free shown cs ps qs (component_map cs (λ o s k. shown_alike o s k) h) m))
 
   unfoldable pub unknown : List ℕ → Per.BitForm
@@ -152,9 +152,9 @@ module _ (free : Per.Freedom → Bool) (al : Bool) where
     tables_alike false (a ∷ xs) ys f g = agree_refused free _ _
     tables_alike true xs ys f g = agree_varied free {c = Per.other_bitmap} {c' = Per.other_bitmap} (λ b c. subst (λ u. Alike free u (Per.bitmapped al ns y ys c) (P × (same_parts qs ss ≡ true))) (bitmapped_is ms x xs b) (subst (λ u. Alike free (Bitmapped ms x xs b) u (P × (same_parts qs ss ≡ true))) (bitmapped_is ns y ys c) (adding.bitmapped_alike Per.Freedom Per.Detail Bool free unknown unknown_alike added marked marked_alike bits flags_alike hidden hidden_left hidden_right ms ns long x y P roots_alike adds qs ss xs ys b c (component_map adds (λ o s k. added_alike o s k) each_added) f g)))
 
-  fields_alike : (cs : Components) (e : Bool) (adds : Components) → EachComponent (λ o s. OneWay s) cs → EachComponent (λ o s. OneWay s) adds → (ps qs rs ss : Parts) → Alike free (given (Per.addition_forms al adds qs) (Per.sequence_form al e (marks cs ps) (Per.component_forms al cs ps))) (given (Per.addition_forms al adds ss) (Per.sequence_form al e (marks cs rs) (Per.component_forms al cs rs))) (same (fields ps qs) (fields rs ss) ≡ true)
+  fields_alike : (cs : Components) (e : Bool) (adds : Components) → EachComponent (λ o s. OneWay s) cs → EachComponent (λ o s. OneWay s) adds → (ps qs rs ss : Parts) → Alike free (given (Per.addition_forms al adds qs) (Per.sequence_form al e (presence_bits cs ps) (Per.component_forms al cs ps))) (given (Per.addition_forms al adds ss) (Per.sequence_form al e (presence_bits cs rs) (Per.component_forms al cs rs))) (same (fields ps qs) (fields rs ss) ≡ true)
   unfolding same
-  fields_alike cs e adds h k ps qs rs ss = agree_given free (Per.addition_forms al adds qs) (Per.addition_forms al adds ss) _ _ (λ xs ys f g. agree_map free (λ q. and_from _ _ q.0 q.1) (tables_alike (marks cs ps) (marks cs rs) (marks_long cs ps rs) _ _ _ (λ m. components_alike cs ps rs h m) adds qs ss k e xs ys (added_is adds qs ∙ f) (added_is adds ss ∙ g)))
+  fields_alike cs e adds h k ps qs rs ss = agree_given free (Per.addition_forms al adds qs) (Per.addition_forms al adds ss) _ _ (λ xs ys f g. agree_map free (λ q. and_from _ _ q.0 q.1) (tables_alike (presence_bits cs ps) (presence_bits cs rs) (presence_bits_long cs ps rs) _ _ _ (λ m. components_alike cs ps rs h m) adds qs ss k e xs ys (added_is adds qs ∙ f) (added_is adds ss ∙ g)))
 
   -- ---- choices
   alternatives_alike : (others : Alternatives) (i : ℕ) (v w : Value) → EachAlternative OneWay others → Alike free (Per.alternative_form al others i v) (Per.alternative_form al others i w) (same v w ≡ true)
@@ -171,8 +171,8 @@ module _ (free : Per.Freedom → Bool) (al : Bool) where
   at_same : (others : Alternatives) (i j : ℕ) (v w : Value) → EachAlternative OneWay others → i ≡ j → Alike free (Per.alternative_form al others i v) (Per.alternative_form al others j w) (same v w ≡ true)
   at_same others i j v w h e = subst (λ k. Alike free (Per.alternative_form al others i v) (Per.alternative_form al others k w) (same v w ≡ true)) e (alternatives_alike others i v w h)
 
-  roots_alike : (roots : Alternatives) (e : Bool) (i j : ℕ) (v w : Value) → EachAlternative OneWay roots → Alike free (both (Per.mark_of e false) (both (Per.constrained al (alternative_count roots - 1) i) (Per.alternative_form al roots i v))) (both (Per.mark_of e false) (both (Per.constrained al (alternative_count roots - 1) j) (Per.alternative_form al roots j w))) (same (chosen false i v) (chosen false j w) ≡ true)
-  roots_alike roots e i j v w h = behind_mark free e false _ _ _ (agree_map free (λ q. chosen_same false i j v w q.0 q.1) (agree_both free (constrained_alike free al (alternative_count roots - 1) i j) (λ q. at_same roots i j v w h q)))
+  roots_alike : (roots : Alternatives) (e : Bool) (i j : ℕ) (v w : Value) → EachAlternative OneWay roots → Alike free (both (Per.extension_bit_of e false) (both (Per.constrained al (alternative_count roots - 1) i) (Per.alternative_form al roots i v))) (both (Per.extension_bit_of e false) (both (Per.constrained al (alternative_count roots - 1) j) (Per.alternative_form al roots j w))) (same (chosen false i v) (chosen false j w) ≡ true)
+  roots_alike roots e i j v w h = behind_extension_bit free e false _ _ _ (agree_map free (λ q. chosen_same false i j v w q.0 q.1) (agree_both free (constrained_alike free al (alternative_count roots - 1) i j) (λ q. at_same roots i j v w h q)))
 
   adds_alike : (adds : Alternatives) (i j : ℕ) (v w : Value) → EachAlternative OneWay adds → Alike free (both (exactly (true ∷ [])) (both (Per.normally_small al i) (Per.open_type al (Per.alternative_form al adds i v)))) (both (exactly (true ∷ [])) (both (Per.normally_small al j) (Per.open_type al (Per.alternative_form al adds j w)))) (same (chosen true i v) (chosen true j w) ≡ true)
   adds_alike adds i j v w h = agree_map free (λ q. chosen_same true i j v w q.1.0 q.1.1) (agree_both free (agree_exactly free _ _ refl) (λ u. agree_both free (small_alike free al i j) (λ q. open_alike free al _ _ _ (at_same adds i j v w h q))))
@@ -201,8 +201,8 @@ module _ (free : Per.Freedom → Bool) (al : Bool) where
   unfolding same same_parts
   group_same ps rs e = and_from _ _ e refl
 
-  group_alike : (cs : Components) → EachComponent (λ o s. OneWay s) cs → (ps rs : Parts) → Alike free (both (exactly (marks cs ps)) (Per.component_forms al cs ps)) (both (exactly (marks cs rs)) (Per.component_forms al cs rs)) (same (fields ps end) (fields rs end) ≡ true)
-  group_alike cs h ps rs = agree_map free (λ q. group_same ps rs q.1) (agree_both free (agree_exactly free (marks cs ps) (marks cs rs) (marks_long cs ps rs)) (λ m. components_alike cs ps rs h m))
+  group_alike : (cs : Components) → EachComponent (λ o s. OneWay s) cs → (ps rs : Parts) → Alike free (both (exactly (presence_bits cs ps)) (Per.component_forms al cs ps)) (both (exactly (presence_bits cs rs)) (Per.component_forms al cs rs)) (same (fields ps end) (fields rs end) ≡ true)
+  group_alike cs h ps rs = agree_map free (λ q. group_same ps rs q.1) (agree_both free (agree_exactly free (presence_bits cs ps) (presence_bits cs rs) (presence_bits_long cs ps rs)) (λ m. components_alike cs ps rs h m))
 
   boolean_alike : OneWay boolean
   unfolding Per.form

@@ -7,7 +7,7 @@ use Rattle.asn1_model.specs.Lawful.{is_lawful, are_lawful, are_lawful_alternativ
 use Rattle.asn1_model.specs.Form.{refused, both, varied, only_if, given, Bitmap, is_present, stands_before, written}
 use Rattle.asn1_model.specs.Rules.{oer, coer, lenient, strict_oer, IsEncoding}
 use Rattle.asn1_model.specs.Strings.{is_identifier, identifier_octets, may_hold}
-use Rattle.asn1_model.specs.Tables.{marks, is_required, item_place}
+use Rattle.asn1_model.specs.Tables.{presence_bits, is_required, item_place}
 use Rattle.asn1_model.specs.Oer
 use Rattle.asn1_laws_values.proofs.Same.{same_self}
 use Rattle.asn1_laws_values.proofs.Bags.{EachSame, bags_same}
@@ -17,7 +17,7 @@ use Rattle.asn1_laws_fronts.proofs.OerNumbers.{OctetsAlike, integer_alike, count
 use Rattle.asn1_laws_fronts.proofs.OerBits.{preamble_alike, counted_bits_alike}
 use Rattle.asn1_laws_fronts.proofs.Truths.{truths_alike}
 use Rattle.asn1_laws_fronts.proofs.Sevens.{identifiers_equal}
-use Rattle.asn1_laws_fronts.proofs.Spelled.{octets_spelled_alike, marks_long}
+use Rattle.asn1_laws_fronts.proofs.Spelled.{octets_spelled_alike, presence_bits_long}
 use Rattle.asn1_laws_values.proofs.Listed.{EachComponent, EachAlternative, component_map, listed, each_is_map, listed_again, order_map}
 use Rattle.asn1_laws_fronts.proofs.Members.{members_same}
 use Rattle.asn1_laws_fronts.proofs.Additions as adding
@@ -79,7 +79,7 @@ module _ (free : Oer.Freedom → Bool) where
   shown_is (component t o s cs) (absent ps) = ap (λ x. cond (is_required o) refused x) (shown_is cs ps)
   shown_is (component t o s cs) (present v ps) = ap (λ x. both (Oer.spelled o s v (Oer.form s v)) x) (shown_is cs ps)
 
-  components_alike : (cs : Components) (ps qs : Parts) → EachComponent (λ o s. Way s) cs → marks cs ps ≡ marks cs qs → OctetsAlike free (Oer.component_forms cs ps) (Oer.component_forms cs qs) (same_parts ps qs ≡ true)
+  components_alike : (cs : Components) (ps qs : Parts) → EachComponent (λ o s. Way s) cs → presence_bits cs ps ≡ presence_bits cs qs → OctetsAlike free (Oer.component_forms cs ps) (Oer.component_forms cs qs) (same_parts ps qs ≡ true)
   components_alike cs ps qs h m = subst (λ x. OctetsAlike free x (Oer.component_forms cs qs) (same_parts ps qs ≡ true)) (shown_is cs ps) (subst (λ x. OctetsAlike free (Shown cs ps) x (same_parts ps qs ≡ true)) (shown_is cs qs) (adding.components_alike Oer.Freedom Oer.Detail ℕ free shown cs ps qs (component_map cs (λ o s k. shown_alike o s k) h) m))
 
   unfoldable pub unknown : List ℕ → Oer.OctetForm
@@ -142,9 +142,9 @@ module _ (free : Oer.Freedom → Bool) where
     tables_alike false (a ∷ xs) ys f g = agree_refused free _ _
     tables_alike true xs ys f g = agree_varied free {c = Oer.other_bitmap} {c' = Oer.other_bitmap} (λ b c. subst (λ u. OctetsAlike free u (Oer.bitmapped ns y ys c) (P × (same_parts qs ss ≡ true))) (bitmapped_is ms x xs b) (subst (λ u. OctetsAlike free (Bitmapped ms x xs b) u (P × (same_parts qs ss ≡ true))) (bitmapped_is ns y ys c) (adding.bitmapped_alike Oer.Freedom Oer.Detail ℕ free unknown unknown_alike added marked marked_alike bits flags_alike hidden hidden_left hidden_right ms ns long x y P roots_alike adds qs ss xs ys b c (component_map adds (λ o s k. added_alike o s k) each_added) f g)))
 
-  fields_alike : (cs : Components) (e : Bool) (adds : Components) → EachComponent (λ o s. Way s) cs → EachComponent (λ o s. Way s) adds → (ps qs rs ss : Parts) → OctetsAlike free (given (Oer.addition_forms adds qs) (Oer.sequence_form e (marks cs ps) (Oer.component_forms cs ps))) (given (Oer.addition_forms adds ss) (Oer.sequence_form e (marks cs rs) (Oer.component_forms cs rs))) (same (fields ps qs) (fields rs ss) ≡ true)
+  fields_alike : (cs : Components) (e : Bool) (adds : Components) → EachComponent (λ o s. Way s) cs → EachComponent (λ o s. Way s) adds → (ps qs rs ss : Parts) → OctetsAlike free (given (Oer.addition_forms adds qs) (Oer.sequence_form e (presence_bits cs ps) (Oer.component_forms cs ps))) (given (Oer.addition_forms adds ss) (Oer.sequence_form e (presence_bits cs rs) (Oer.component_forms cs rs))) (same (fields ps qs) (fields rs ss) ≡ true)
   unfolding same
-  fields_alike cs e adds h k ps qs rs ss = agree_given free (Oer.addition_forms adds qs) (Oer.addition_forms adds ss) _ _ (λ xs ys f g. agree_map free (λ q. and_from _ _ q.0 q.1) (tables_alike (marks cs ps) (marks cs rs) (marks_long cs ps rs) _ _ _ (λ m. components_alike cs ps rs h m) adds qs ss k e xs ys (added_is adds qs ∙ f) (added_is adds ss ∙ g)))
+  fields_alike cs e adds h k ps qs rs ss = agree_given free (Oer.addition_forms adds qs) (Oer.addition_forms adds ss) _ _ (λ xs ys f g. agree_map free (λ q. and_from _ _ q.0 q.1) (tables_alike (presence_bits cs ps) (presence_bits cs rs) (presence_bits_long cs ps rs) _ _ _ (λ m. components_alike cs ps rs h m) adds qs ss k e xs ys (added_is adds qs ∙ f) (added_is adds ss ∙ g)))
 
   -- ---- choices
   chosen_same : (a : Bool) (i j : ℕ) (v w : Value) → i ≡ j → same v w ≡ true → same (chosen a i v) (chosen a j w) ≡ true
@@ -176,8 +176,8 @@ module _ (free : Oer.Freedom → Bool) where
   unfolding same same_parts
   group_same ps rs e = and_from _ _ e refl
 
-  group_alike : (cs : Components) → EachComponent (λ o s. Way s) cs → (ps rs : Parts) → OctetsAlike free (both (Oer.preamble (marks cs ps)) (Oer.component_forms cs ps)) (both (Oer.preamble (marks cs rs)) (Oer.component_forms cs rs)) (same (fields ps end) (fields rs end) ≡ true)
-  group_alike cs h ps rs = agree_map free (λ q. group_same ps rs q.1) (agree_both free (preamble_alike free (marks cs ps) (marks cs rs) (marks_long cs ps rs)) (λ m. components_alike cs ps rs h m))
+  group_alike : (cs : Components) → EachComponent (λ o s. Way s) cs → (ps rs : Parts) → OctetsAlike free (both (Oer.preamble (presence_bits cs ps)) (Oer.component_forms cs ps)) (both (Oer.preamble (presence_bits cs rs)) (Oer.component_forms cs rs)) (same (fields ps end) (fields rs end) ≡ true)
+  group_alike cs h ps rs = agree_map free (λ q. group_same ps rs q.1) (agree_both free (preamble_alike free (presence_bits cs ps) (presence_bits cs rs) (presence_bits_long cs ps rs)) (λ m. components_alike cs ps rs h m))
 
   boolean_alike : Way boolean
   unfolding Oer.form

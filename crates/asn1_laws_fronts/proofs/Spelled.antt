@@ -4,7 +4,7 @@ use Rattle.asn1_model.specs.Value.{Value, Parts, end, absent, present}
 use Rattle.asn1_model.specs.Schema.{Presence, Schema, Components, no_component, component}
 use Rattle.asn1_model.specs.Form.{varied, only_if}
 use Rattle.asn1_model.specs.Normal.{is_at_default, is_group_left_out}
-use Rattle.asn1_model.specs.Tables.{marks, is_required, mark_unless}
+use Rattle.asn1_model.specs.Tables.{presence_bits, is_required, presence_bit_unless}
 use Rattle.asn1_model.specs.Per
 use Rattle.asn1_model.specs.Oer
 use Rattle.asn1_laws_fronts.proofs.Fronts.{agree_varied_left, agree_varied_right, agree_if_left, agree_if_right}
@@ -12,22 +12,22 @@ use Rattle.asn1_laws_fronts.proofs.PerNumbers.{Alike}
 use Rattle.asn1_laws_fronts.proofs.OerNumbers.{OctetsAlike}
 
 -- ---- presence bits
-unless_long : (b m n : Bool) (ms ns : List Bool) → length ms ≡ length ns → length (mark_unless b m ms) ≡ length (mark_unless b n ns)
+unless_long : (b m n : Bool) (ms ns : List Bool) → length ms ≡ length ns → length (presence_bit_unless b m ms) ≡ length (presence_bit_unless b n ns)
 unless_long true m n ms ns e = e
 unless_long false m n ms ns e = ap suc e
 
 -- as many presence bits for all values
-pub marks_long : (cs : Components) (ps qs : Parts) → length (marks cs ps) ≡ length (marks cs qs)
-marks_long no_component ps qs = refl
-marks_long (component t o s cs) end end = unless_long (is_required o) _ _ _ _ (marks_long cs end end)
-marks_long (component t o s cs) end (absent qs) = unless_long (is_required o) _ _ _ _ (marks_long cs end qs)
-marks_long (component t o s cs) end (present w qs) = unless_long (is_required o) _ _ _ _ (marks_long cs end qs)
-marks_long (component t o s cs) (absent ps) end = unless_long (is_required o) _ _ _ _ (marks_long cs ps end)
-marks_long (component t o s cs) (absent ps) (absent qs) = unless_long (is_required o) _ _ _ _ (marks_long cs ps qs)
-marks_long (component t o s cs) (absent ps) (present w qs) = unless_long (is_required o) _ _ _ _ (marks_long cs ps qs)
-marks_long (component t o s cs) (present v ps) end = unless_long (is_required o) _ _ _ _ (marks_long cs ps end)
-marks_long (component t o s cs) (present v ps) (absent qs) = unless_long (is_required o) _ _ _ _ (marks_long cs ps qs)
-marks_long (component t o s cs) (present v ps) (present w qs) = unless_long (is_required o) _ _ _ _ (marks_long cs ps qs)
+pub presence_bits_long : (cs : Components) (ps qs : Parts) → length (presence_bits cs ps) ≡ length (presence_bits cs qs)
+presence_bits_long no_component ps qs = refl
+presence_bits_long (component t o s cs) end end = unless_long (is_required o) _ _ _ _ (presence_bits_long cs end end)
+presence_bits_long (component t o s cs) end (absent qs) = unless_long (is_required o) _ _ _ _ (presence_bits_long cs end qs)
+presence_bits_long (component t o s cs) end (present w qs) = unless_long (is_required o) _ _ _ _ (presence_bits_long cs end qs)
+presence_bits_long (component t o s cs) (absent ps) end = unless_long (is_required o) _ _ _ _ (presence_bits_long cs ps end)
+presence_bits_long (component t o s cs) (absent ps) (absent qs) = unless_long (is_required o) _ _ _ _ (presence_bits_long cs ps qs)
+presence_bits_long (component t o s cs) (absent ps) (present w qs) = unless_long (is_required o) _ _ _ _ (presence_bits_long cs ps qs)
+presence_bits_long (component t o s cs) (present v ps) end = unless_long (is_required o) _ _ _ _ (presence_bits_long cs ps end)
+presence_bits_long (component t o s cs) (present v ps) (absent qs) = unless_long (is_required o) _ _ _ _ (presence_bits_long cs ps qs)
+presence_bits_long (component t o s cs) (present v ps) (present w qs) = unless_long (is_required o) _ _ _ _ (presence_bits_long cs ps qs)
 
 -- ---- components that are spelled out
 module _ (free : Per.Freedom → Bool) where

@@ -137,12 +137,12 @@ module _ (free : Per.Freedom → Bool) where
   bitmap_alike al xs ys = agree_map free (λ h. flags_equal xs ys h) (agree_varied free (λ s t. few_cases al xs ys s t))
 
   -- ---- enumerations
-  marks_alike : (e : Bool) (a : Bool) → Alike free (Per.mark_of e a) (Per.mark_of e a) (Unit {0})
-  marks_alike false a = agree_nothing free
-  marks_alike true a = agree_map free (λ e. tt) (agree_exactly free (a ∷ []) (a ∷ []) refl)
+  presence_bits_alike : (e : Bool) (a : Bool) → Alike free (Per.extension_bit_of e a) (Per.extension_bit_of e a) (Unit {0})
+  presence_bits_alike false a = agree_nothing free
+  presence_bits_alike true a = agree_map free (λ e. tt) (agree_exactly free (a ∷ []) (a ∷ []) refl)
 
-  pub behind_mark : (e : Bool) (a : Bool) (x y : Per.BitForm) (P : Type 0) → Alike free x y P → Alike free (both (Per.mark_of e a) x) (both (Per.mark_of e a) y) P
-  behind_mark e a x y P h = agree_map free (λ q. q.1) (agree_both free (marks_alike e a) (λ u. h))
+  pub behind_extension_bit : (e : Bool) (a : Bool) (x y : Per.BitForm) (P : Type 0) → Alike free x y P → Alike free (both (Per.extension_bit_of e a) x) (both (Per.extension_bit_of e a) y) P
+  behind_extension_bit e a x y P h = agree_map free (λ q. q.1) (agree_both free (presence_bits_alike e a) (λ u. h))
 
   pub root_or_added : (x y : Per.BitForm) (P : Type 0) → Alike free (both (exactly (false ∷ [])) x) (both (exactly (true ∷ [])) y) P
   root_or_added x y P = agree_both_apart free (bits_apart' free)
@@ -155,7 +155,7 @@ module _ (free : Per.Freedom → Bool) where
 
   item_cases : (al : Bool) (roots adds : List ℤ) (v w : ℤ) (e : Bool) (i j k l : Option ℕ) → Place roots v i → Place adds v j → Place roots w k → Place adds w l → Alike free (Per.item_form al (length roots) e i j) (Per.item_form al (length roots) e k l) (v ≡ w)
   unfolding Per.item_form Per.added_item
-  item_cases al roots adds v w e (Some i) j (Some k) l p q r s = agree_map free (λ h. items_equal roots v w i p (r ∙ ap Some (sym h))) (behind_mark e false _ _ _ (constrained_alike free al (length roots - 1) i k))
+  item_cases al roots adds v w e (Some i) j (Some k) l p q r s = agree_map free (λ h. items_equal roots v w i p (r ∙ ap Some (sym h))) (behind_extension_bit e false _ _ _ (constrained_alike free al (length roots - 1) i k))
   item_cases al roots adds v w false (Some i) j None l p q r s = agree_with_refused free _ _
   item_cases al roots adds v w true (Some i) j None None p q r s = agree_with_refused free _ _
   item_cases al roots adds v w true (Some i) j None (Some l) p q r s = root_or_added _ _ _

@@ -9,7 +9,7 @@ use Rattle.asn1_model.specs.Schema.{Tag, Range, Bounds, Counts, Presence, Schema
 use Rattle.asn1_model.specs.Normal.{is_at_default, is_group_left_out}
 use Rattle.asn1_model.specs.Numbers.{missing, digits, octet_width, least_octets, signed_octets, complement, packed, is_within, is_count_within, fits_128, places}
 use Rattle.asn1_model.specs.Strings.{each_is, is_octet, may_hold, is_identifier, identifier_octets, groups_of_seven, with_top_bits}
-use Rattle.asn1_model.specs.Tables.{is_required, marks, item_place, is_bounded}
+use Rattle.asn1_model.specs.Tables.{is_required, presence_bits, item_place, is_bounded}
 use Rattle.asn1_model.specs.Form.{Form, exactly, refused, both, varied, within, Reads, only_if, given, joined, written, stands_before, pick, arranged, in_order, ascending, Bitmap, is_present, is_any_present, present_ones, covered_by}
 use Rattle.asn1_model.specs.Lawful.{is_tag, is_lawful, are_lawful, are_lawful_alternatives}
 use Rattle.asn1_model.specs.Oer
@@ -307,9 +307,9 @@ module _ (free : Oer.Freedom → Bool) where
     o_form object_identifier (arcs ns) l = o_if (is_identifier ns) (λ h. o_counted (identifier_octets ns))
     o_form (sequence_of z held s) (members vs) l = o_members held _ (o_each (λ v. Oer.form s v) vs (λ v. o_form s v ((and_parts _ _ l).1)))
     o_form (set_of z held s) (bag vs) l = o_bag held _ (o_each (λ v. Oer.form s v) vs (λ v. o_form s v ((and_parts _ _ l).1)))
-    o_form (sequence cs e adds) (fields ps qs) l = o_given (Oer.addition_forms adds qs) (λ xs h. o_sequence e (marks cs ps) _ xs (o_components cs ps ((and_parts _ _ ((and_parts _ _ l).0)).1)) (o_added adds qs xs ((and_parts _ _ l).1) h))
-    o_form (set cs e adds) (fields ps qs) l = o_given (Oer.addition_forms adds qs) (λ xs h. o_sequence e (marks cs ps) _ xs (o_components cs ps ((and_parts _ _ ((and_parts _ _ l).0)).1)) (o_added adds qs xs ((and_parts _ _ l).1) h))
-    o_form (group cs) (fields ps end) l = o_both (o_preamble (marks cs ps)) (o_components cs ps ((and_parts _ _ l).1))
+    o_form (sequence cs e adds) (fields ps qs) l = o_given (Oer.addition_forms adds qs) (λ xs h. o_sequence e (presence_bits cs ps) _ xs (o_components cs ps ((and_parts _ _ ((and_parts _ _ l).0)).1)) (o_added adds qs xs ((and_parts _ _ l).1) h))
+    o_form (set cs e adds) (fields ps qs) l = o_given (Oer.addition_forms adds qs) (λ xs h. o_sequence e (presence_bits cs ps) _ xs (o_components cs ps ((and_parts _ _ ((and_parts _ _ l).0)).1)) (o_added adds qs xs ((and_parts _ _ l).1) h))
+    o_form (group cs) (fields ps end) l = o_both (o_preamble (presence_bits cs ps)) (o_components cs ps ((and_parts _ _ l).1))
     o_form (choice roots e adds) (chosen false i v) l = o_alternative false roots i v ((and_parts _ _ ((and_parts _ _ l).0)).1)
     o_form (choice roots true adds) (chosen true i v) l = o_alternative true adds i v ((and_parts _ _ l).1)
     o_form s v l = o_refused

@@ -3,7 +3,7 @@ use Rattle.std.proofs.Common.{◌≡◌, ℕ, zero, suc, ltb, not, Bool, true, f
 use Rattle.asn1_model.specs.Value.{Value, members, bag, fields, chosen, Values, no_more, member, Parts, end, absent, present, each}
 use Rattle.asn1_model.specs.Schema.{Counts, Presence, Schema, sequence_of, set_of, sequence, set, group, choice, Components, no_component, component, Alternatives, no_alternative, alternative}
 use Rattle.asn1_model.specs.Normal.{is_at_default, is_group_left_out, is_normal, are_normal, is_normal_alternative, are_all}
-use Rattle.asn1_model.specs.Tables.{is_required, marks}
+use Rattle.asn1_model.specs.Tables.{is_required, presence_bits}
 use Rattle.asn1_model.specs.Form.{Form, refused, varied, Reads, only_if, written, stands_before, in_order, ascending, present_ones}
 use Rattle.asn1_model.specs.Rules.{strict_oer}
 use Rattle.asn1_model.specs.Oer
@@ -65,12 +65,12 @@ module _ (free : Oer.Freedom → Bool) (no_default : IsTrue (free Oer.default_sp
     read_normal (set_of z c s) v r = refl
     read_normal (sequence cs e adds) (fields ps qs) r =
         let q = read_given free (Oer.addition_forms adds qs) r in
-        let p = sequence_read free e (marks cs ps) (Oer.component_forms cs ps) q.0 q.2 in
+        let p = sequence_read free e (presence_bits cs ps) (Oer.component_forms cs ps) q.0 q.2 in
         two_true _ _ (components_normal cs ps p.0) (additions_normal adds qs q.0 q.1 p.1)
     read_normal (sequence cs e adds) v r = refl
     read_normal (set cs e adds) (fields ps qs) r =
         let q = read_given free (Oer.addition_forms adds qs) r in
-        let p = sequence_read free e (marks cs ps) (Oer.component_forms cs ps) q.0 q.2 in
+        let p = sequence_read free e (presence_bits cs ps) (Oer.component_forms cs ps) q.0 q.2 in
         two_true _ _ (components_normal cs ps p.0) (additions_normal adds qs q.0 q.1 p.1)
     read_normal (set cs e adds) v r = refl
     read_normal (group cs) (fields ps end) r = components_normal cs ps ((read_both free r).1)

@@ -7,7 +7,7 @@ use Rattle.asn1_model.specs.Schema.{Range, Bounds, Counts, Size, StringKind, Pre
 use Rattle.asn1_model.specs.Normal.{is_at_default, is_group_left_out, are_all}
 use Rattle.asn1_model.specs.Numbers.{is_within, is_count_within, fits_128}
 use Rattle.asn1_model.specs.Strings.{each_is, is_octet, may_hold, is_of_octets, is_identifier}
-use Rattle.asn1_model.specs.Tables.{is_required, marks, item_place, is_bounded}
+use Rattle.asn1_model.specs.Tables.{is_required, presence_bits, item_place, is_bounded}
 use Rattle.asn1_model.specs.Form.{Form, refused, varied, Reads, only_if, written, stands_before, in_order, ascending, is_present, present_ones}
 use Rattle.asn1_model.specs.Oer
 use Rattle.asn1_model.specs.Oer.{admits}
@@ -99,11 +99,11 @@ module _ (free : Oer.Freedom → Bool) where
         two_true _ _ (subst (λ n. is_count_within held n ≡ true) (p.1 ∙ each_length (λ v. Oer.form s v) vs) q.0) (values_of (λ v. Oer.form s v) (λ v. is_of s v) vs (λ v r. read_of s v r) (p.3 q.1))
     read_of (sequence cs e adds) (fields ps qs) r =
         let q = read_given free (Oer.addition_forms adds qs) r in
-        let p = sequence_read free e (marks cs ps) (Oer.component_forms cs ps) q.0 q.2 in
+        let p = sequence_read free e (presence_bits cs ps) (Oer.component_forms cs ps) q.0 q.2 in
         two_true _ _ (components_of cs ps p.0) (additions_of adds qs q.0 q.1 p.1)
     read_of (set cs e adds) (fields ps qs) r =
         let q = read_given free (Oer.addition_forms adds qs) r in
-        let p = sequence_read free e (marks cs ps) (Oer.component_forms cs ps) q.0 q.2 in
+        let p = sequence_read free e (presence_bits cs ps) (Oer.component_forms cs ps) q.0 q.2 in
         two_true _ _ (components_of cs ps p.0) (additions_of adds qs q.0 q.1 p.1)
     read_of (group cs) (fields ps end) r = components_of cs ps ((read_both free r).1)
     read_of (choice roots e adds) (chosen false i v) r = alternative_of false roots i v r

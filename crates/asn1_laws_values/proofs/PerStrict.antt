@@ -3,7 +3,7 @@ use Rattle.std.proofs.Common.{◌≡◌, ℕ, zero, suc, not, Bool, true, false,
 use Rattle.asn1_model.specs.Value.{Value, members, bag, fields, chosen, Values, no_more, member, Parts, end, absent, present, each}
 use Rattle.asn1_model.specs.Schema.{Presence, Schema, sequence_of, set_of, sequence, set, group, choice, Components, no_component, component, Alternatives, no_alternative, alternative}
 use Rattle.asn1_model.specs.Normal.{is_at_default, is_group_left_out, is_normal, are_normal, is_normal_alternative, are_all}
-use Rattle.asn1_model.specs.Tables.{is_required, marks}
+use Rattle.asn1_model.specs.Tables.{is_required, presence_bits}
 use Rattle.asn1_model.specs.Form.{Form, refused, varied, Reads, only_if, written, stands_before, in_order, ascending, present_ones}
 use Rattle.asn1_model.specs.Rules.{strict_per}
 use Rattle.asn1_model.specs.Per
@@ -60,12 +60,12 @@ module _ (free : Per.Freedom → Bool) (no_default : IsTrue (free Per.default_sp
     read_normal al (set_of z c s) v r = refl
     read_normal al (sequence cs e adds) (fields ps qs) r =
         let q = read_given free (Per.addition_forms al adds qs) r in
-        let p = sequence_read free al e (marks cs ps) (Per.component_forms al cs ps) q.0 q.2 in
+        let p = sequence_read free al e (presence_bits cs ps) (Per.component_forms al cs ps) q.0 q.2 in
         two_true _ _ (components_normal al cs ps p.0) (additions_normal al adds qs q.0 q.1 p.1)
     read_normal al (sequence cs e adds) v r = refl
     read_normal al (set cs e adds) (fields ps qs) r =
         let q = read_given free (Per.addition_forms al adds qs) r in
-        let p = sequence_read free al e (marks cs ps) (Per.component_forms al cs ps) q.0 q.2 in
+        let p = sequence_read free al e (presence_bits cs ps) (Per.component_forms al cs ps) q.0 q.2 in
         two_true _ _ (components_normal al cs ps p.0) (additions_normal al adds qs q.0 q.1 p.1)
     read_normal al (set cs e adds) v r = refl
     read_normal al (group cs) (fields ps end) r = components_normal al cs ps ((read_both free r).1)

@@ -8,7 +8,7 @@ use Rattle.asn1_model.specs.Schema.{Range, Bounds, Counts, Size, Alphabet, Strin
 use Rattle.asn1_model.specs.Normal.{is_at_default, is_group_left_out, are_all}
 use Rattle.asn1_model.specs.Numbers.{is_within, is_count_within, fits_128}
 use Rattle.asn1_model.specs.Strings.{each_is, is_octet, may_hold, is_of_octets, is_identifier, permitted}
-use Rattle.asn1_model.specs.Tables.{is_required, marks, item_place, is_bounded}
+use Rattle.asn1_model.specs.Tables.{is_required, presence_bits, item_place, is_bounded}
 use Rattle.asn1_model.specs.Form.{Form, refused, varied, Reads, only_if, written, stands_before, in_order, ascending, is_present, present_ones}
 use Rattle.asn1_model.specs.Per
 use Rattle.asn1_model.specs.Oer.{admits}
@@ -130,11 +130,11 @@ module _ (free : Per.Freedom → Bool) where
         two_true _ _ n (values_of (λ v. Per.form al s v) (λ v. is_of s v) vs (λ v r. read_of al s v r) (q.3 (sized_read free al z held Per.never q.0 q.2)))
     read_of al (sequence cs e adds) (fields ps qs) r =
         let q = read_given free (Per.addition_forms al adds qs) r in
-        let p = sequence_read free al e (marks cs ps) (Per.component_forms al cs ps) q.0 q.2 in
+        let p = sequence_read free al e (presence_bits cs ps) (Per.component_forms al cs ps) q.0 q.2 in
         two_true _ _ (components_of al cs ps p.0) (additions_of al adds qs q.0 q.1 p.1)
     read_of al (set cs e adds) (fields ps qs) r =
         let q = read_given free (Per.addition_forms al adds qs) r in
-        let p = sequence_read free al e (marks cs ps) (Per.component_forms al cs ps) q.0 q.2 in
+        let p = sequence_read free al e (presence_bits cs ps) (Per.component_forms al cs ps) q.0 q.2 in
         two_true _ _ (components_of al cs ps p.0) (additions_of al adds qs q.0 q.1 p.1)
     read_of al (group cs) (fields ps end) r = components_of al cs ps ((read_both free r).1)
     read_of al (choice roots e adds) (chosen false i v) r = alternative_of al roots i v ((read_both free ((read_both free r).1)).1)

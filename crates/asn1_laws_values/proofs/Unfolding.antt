@@ -6,7 +6,7 @@ use Rattle.asn1_model.specs.Schema.{Tag, Size, Counts, Presence, required, optio
 use Rattle.asn1_model.specs.Normal.{normal, normal_parts, normal_alternative, is_empty_group, is_default_by, is_at_default, is_group_left_out}
 use Rattle.asn1_model.specs.Normal.{has_normal_default, is_tidy, are_tidy, are_tidy_alternatives}
 use Rattle.asn1_model.specs.Form.{refused, both, given}
-use Rattle.asn1_model.specs.Tables.{marks, is_required, alternative_count}
+use Rattle.asn1_model.specs.Tables.{presence_bits, is_required, alternative_count}
 use Rattle.asn1_model.specs.Rules.{Rules, uper, aper, uper_strict, aper_strict, oer, coer, canonical, encoding, per, octet_encoding, IsEncoding}
 use Rattle.asn1_model.specs.Per
 use Rattle.asn1_model.specs.Oer
@@ -20,7 +20,7 @@ pub record AlikeTo (n : ℕ) (s s' : Schema) : Type 0 where
   pub group_is : (v : Value) → depth v ≤ n → is_empty_group s v ≡ is_empty_group s' v
 
 pub record EachAlikeTo (n : ℕ) (cs cs' : Components) : Type 0 where
-  pub marks_are : (ps : Parts) → marks cs ps ≡ marks cs' ps
+  pub presence_bits_are : (ps : Parts) → presence_bits cs ps ≡ presence_bits cs' ps
   pub normal_are : (ps : Parts) → depth_of_parts ps ≤ n → normal_parts cs ps ≡ normal_parts cs' ps
   pub packed_are : (al : Bool) (ps : Parts) → depth_of_parts ps ≤ n → Per.component_forms al cs ps ≡ Per.component_forms al cs' ps
   pub packed_added : (al : Bool) (ps : Parts) → depth_of_parts ps ≤ n → Per.addition_forms al cs ps ≡ Per.addition_forms al cs' ps
@@ -179,10 +179,10 @@ module _ (n : ℕ) (t : List Tag) (o o' : Presence) (s s' : Schema) (cs cs' : Co
   group_test : (v : Value) → depth v ≤ n → is_group_left_out s v ≡ is_group_left_out s' v
   group_test v d = let m = normal_depth s v in a.group_is (normal s v) (omega arith) ∙ ap (λ x. is_empty_group s' x) (a.normal_is v d)
 
-  next_marks : (ps : Parts) → marks (component t o s cs) ps ≡ marks (component t o' s' cs') ps
-  next_marks end = let e = b.marks_are end in let q = same_required s s' o o' h in rw (q, e) refl
-  next_marks (absent ps) = let e = b.marks_are ps in let q = same_required s s' o o' h in rw (q, e) refl
-  next_marks (present v ps) = let e = b.marks_are ps in let q = same_required s s' o o' h in rw (q, e) refl
+  next_presence_bits : (ps : Parts) → presence_bits (component t o s cs) ps ≡ presence_bits (component t o' s' cs') ps
+  next_presence_bits end = let e = b.presence_bits_are end in let q = same_required s s' o o' h in rw (q, e) refl
+  next_presence_bits (absent ps) = let e = b.presence_bits_are ps in let q = same_required s s' o o' h in rw (q, e) refl
+  next_presence_bits (present v ps) = let e = b.presence_bits_are ps in let q = same_required s s' o o' h in rw (q, e) refl
 
   next_normal : (ps : Parts) → depth_of_parts ps ≤ n → normal_parts (component t o s cs) ps ≡ normal_parts (component t o' s' cs') ps
   unfolding normal_parts depth_of_parts
@@ -242,23 +242,23 @@ module _ (n : ℕ) (t : List Tag) (o o' : Presence) (s s' : Schema) (cs cs' : Co
       ap (λ (x : Oer.OctetForm). option_map (λ xs. Some x ∷ xs) (Oer.addition_forms cs ps)) e ∙ ap (λ x. option_map (λ xs. Some (Oer.spelled o' s' v (Oer.open_type (Oer.form s' v))) ∷ xs) x) (b.octets_added ps (omega arith))
 
   pub component_alike : EachAlikeTo n (component t o s cs) (component t o' s' cs')
-  component_alike = record { marks_are = next_marks; normal_are = next_normal; packed_are = next_packed; packed_added = next_packed_added; octets_are = next_octets; octets_added = next_octets_added }
+  component_alike = record { presence_bits_are = next_presence_bits; normal_are = next_normal; packed_are = next_packed; packed_added = next_packed_added; octets_are = next_octets; octets_added = next_octets_added }
 
 pub none_alike : (n : ℕ) → EachAlikeTo n no_component no_component
-none_alike n = record { marks_are = λ ps. refl; normal_are = λ ps d. refl; packed_are = λ al ps d. refl; packed_added = λ al ps d. refl; octets_are = λ ps d. refl; octets_added = λ ps d. refl }
+none_alike n = record { presence_bits_are = λ ps. refl; normal_are = λ ps d. refl; packed_are = λ al ps d. refl; packed_added = λ al ps d. refl; octets_are = λ ps d. refl; octets_added = λ ps d. refl }
 
 -- ---- sequences, sets and groups
 module _ (n : ℕ) (cs cs' : Components) (e : Bool) (adds adds' : Components) (a : EachAlikeTo n cs cs') (b : EachAlikeTo n adds adds') where
-  fields_packed : (al : Bool) (ps qs : Parts) → max (depth_of_parts ps) (depth_of_parts qs) ≤ n → given (Per.addition_forms al adds qs) (Per.sequence_form al e (marks cs ps) (Per.component_forms al cs ps)) ≡ given (Per.addition_forms al adds' qs) (Per.sequence_form al e (marks cs' ps) (Per.component_forms al cs' ps))
+  fields_packed : (al : Bool) (ps qs : Parts) → max (depth_of_parts ps) (depth_of_parts qs) ≤ n → given (Per.addition_forms al adds qs) (Per.sequence_form al e (presence_bits cs ps) (Per.component_forms al cs ps)) ≡ given (Per.addition_forms al adds' qs) (Per.sequence_form al e (presence_bits cs' ps) (Per.component_forms al cs' ps))
   fields_packed al ps qs d =
-      let x = a.marks_are ps in
+      let x = a.presence_bits_are ps in
       let y = a.packed_are al ps (omega arith) in
       let z = b.packed_added al qs (omega arith) in
       rw (x, y, z) refl
 
-  fields_octets : (ps qs : Parts) → max (depth_of_parts ps) (depth_of_parts qs) ≤ n → given (Oer.addition_forms adds qs) (Oer.sequence_form e (marks cs ps) (Oer.component_forms cs ps)) ≡ given (Oer.addition_forms adds' qs) (Oer.sequence_form e (marks cs' ps) (Oer.component_forms cs' ps))
+  fields_octets : (ps qs : Parts) → max (depth_of_parts ps) (depth_of_parts qs) ≤ n → given (Oer.addition_forms adds qs) (Oer.sequence_form e (presence_bits cs ps) (Oer.component_forms cs ps)) ≡ given (Oer.addition_forms adds' qs) (Oer.sequence_form e (presence_bits cs' ps) (Oer.component_forms cs' ps))
   fields_octets ps qs d =
-      let x = a.marks_are ps in
+      let x = a.presence_bits_are ps in
       let y = a.octets_are ps (omega arith) in
       let z = b.octets_added qs (omega arith) in
       rw (x, y, z) refl
@@ -310,12 +310,12 @@ module _ (n : ℕ) (cs cs' : Components) (a : EachAlikeTo n cs cs') where
 
   group_packed : (al : Bool) (v : Value) → depth v ≤ suc n → Per.form al (group cs) v ≡ Per.form al (group cs') v
   unfolding Per.form depth
-  group_packed al (fields ps end) d = let x = a.marks_are ps in let y = a.packed_are al ps (omega arith) in rw (x, y) refl
+  group_packed al (fields ps end) d = let x = a.presence_bits_are ps in let y = a.packed_are al ps (omega arith) in rw (x, y) refl
   group_packed al v d = refl
 
   group_octets : (v : Value) → depth v ≤ suc n → Oer.form (group cs) v ≡ Oer.form (group cs') v
   unfolding Oer.form depth
-  group_octets (fields ps end) d = let x = a.marks_are ps in let y = a.octets_are ps (omega arith) in rw (x, y) refl
+  group_octets (fields ps end) d = let x = a.presence_bits_are ps in let y = a.octets_are ps (omega arith) in rw (x, y) refl
   group_octets v d = refl
 
   group_empty : (v : Value) → is_empty_group (group cs) v ≡ is_empty_group (group cs') v

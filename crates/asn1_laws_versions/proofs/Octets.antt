@@ -8,7 +8,7 @@ use Rattle.asn1_model.specs.Lawful.{is_lawful, are_lawful, are_lawful_alternativ
 use Rattle.asn1_model.specs.Normal.{is_at_default, is_group_left_out}
 use Rattle.asn1_model.specs.Form.{varied, written, Reads, only_if, given, is_present, own_bitmap, stands_before}
 use Rattle.asn1_model.specs.Strings.{each_is}
-use Rattle.asn1_model.specs.Tables.{marks, item_place}
+use Rattle.asn1_model.specs.Tables.{presence_bits, item_place}
 use Rattle.asn1_model.specs.Oer
 use Rattle.asn1_model.specs.Versions.{grow, grow_alternative, lessen, lessen_alternative, Begins, Extends, ExtendsEach, ExtendsAlternatives}
 use Rattle.asn1_laws_values.proofs.Covers.{covers_same, covers_within}
@@ -23,7 +23,7 @@ use Rattle.asn1_laws_fronts.proofs.OctetForms as filing
 use Rattle.asn1_laws_versions.proofs.OerVersions as versions
 use Rattle.asn1_laws_versions.proofs.Taken.{as_written, taken, covers_written, agree_written, taken_same, taken_both, taken_refused, taken_if, taken_given, taken_varied, right_given}
 use Rattle.asn1_laws_versions.proofs.Parts as parts
-use Rattle.asn1_laws_versions.proofs.Parts.{There, there_map, there_both, Carried, PartsCarried, EachPair, pair_map, marks_meet}
+use Rattle.asn1_laws_versions.proofs.Parts.{There, there_map, there_both, Carried, PartsCarried, EachPair, pair_map, presence_bits_meet}
 use Rattle.asn1_laws_versions.proofs.Members.{Both, Related, each_arranged, each_first, each_second, members_carried, bags_carried, older, newer, related_pairs, form_of, older_forms, newer_forms, related_alike, each_written, EachPairOf, AlternativeCarried, fields_carried, set_carried, group_carried, item_carried, chosen_carried, chosen_added_carried}
 
 -- ---- tags of two versions
@@ -157,7 +157,7 @@ module _ (free : Oer.Freedom → Bool) where
       abbrev Ways : Components → Components → Type 0
       Ways cs cs' = EachPair (λ o s o' s'. Way s s') cs cs'
 
-      components_way : (cs cs' : Components) (ps qs : Parts) → ExtendsEach false cs cs' → Ways cs cs' → marks cs ps ≡ marks cs' qs → Met m (Oer.component_forms cs ps) (Oer.component_forms cs' qs) (PartsCarried m cs cs' ps qs)
+      components_way : (cs cs' : Components) (ps qs : Parts) → ExtendsEach false cs cs' → Ways cs cs' → presence_bits cs ps ≡ presence_bits cs' qs → Met m (Oer.component_forms cs ps) (Oer.component_forms cs' qs) (PartsCarried m cs cs' ps qs)
       components_way cs cs' ps qs h k e = subst (λ x. Met m x (Oer.component_forms cs' qs) (PartsCarried m cs cs' ps qs)) (filing.shown_is free cs ps) (subst (λ y. Met m (filing.Shown free cs ps) y (PartsCarried m cs cs' ps qs)) (filing.shown_is free cs' qs) (parts.components_meet Oer.Freedom Oer.Detail ℕ free m (filing.shown free) cs cs' ps qs h (pair_map cs cs' (λ o s o' s' w. shown_way o s o' s' w) k) e))
 
       hidden_taken : (x y : Oer.OctetForm) (P : Type 0) → Met m x y P → Met m (filing.hidden free x) y P
@@ -172,8 +172,8 @@ module _ (free : Oer.Freedom → Bool) where
         tables_way false (a ∷ xs) ys f g = taken_refused free m _ _
         tables_way true xs ys f g = taken_varied free m Oer.other_bitmap (own_bitmap xs) (λ b. Oer.bitmapped ms x xs b) _ _ (λ b q. agree_varied_right free {c = Oer.other_bitmap} (λ c. subst (λ u. Met m u (Oer.bitmapped ns y ys c) (P × PartsCarried m adds adds' qs ss)) (filing.bitmapped_is free ms x xs b) (subst (λ u. Met m (filing.Bitmapped free ms x xs b) u (P × PartsCarried m adds adds' qs ss)) (filing.bitmapped_is free ns y ys c) (parts.bitmapped_meet Oer.Freedom Oer.Detail ℕ free m (filing.unknown free) (filing.unknown_alike free) (filing.added free) (unknown_added) (filing.marked free) (filing.marked_alike free) (filing.bits free) (filing.flags_alike free) (filing.hidden free) (filing.hidden_left free) (filing.hidden_right free) hidden_taken ms ns long x y P roots_meet e adds adds' qs ss xs ys h (pair_map adds adds' (λ o s o' s' w. added_way o s o' s' w) k) f g b c q))))
 
-      fields_way : (cs cs' : Components) (e : Bool) (adds adds' : Components) → ExtendsEach false cs cs' → ExtendsEach e adds adds' → Ways cs cs' → Ways adds adds' → (ps qs rs ss : Parts) → Met m (given (Oer.addition_forms adds qs) (Oer.sequence_form e (marks cs ps) (Oer.component_forms cs ps))) (given (Oer.addition_forms adds' ss) (Oer.sequence_form e (marks cs' rs) (Oer.component_forms cs' rs))) (PartsCarried m cs cs' ps rs × PartsCarried m adds adds' qs ss)
-      fields_way cs cs' e adds adds' h i k l ps qs rs ss = taken_given free m (Oer.addition_forms adds qs) _ _ _ (λ xs f. right_given free (Oer.addition_forms adds' ss) _ _ _ (λ ys g. tables_way (marks cs ps) (marks cs' rs) (marks_meet cs cs' ps rs h) _ _ _ (λ n. components_way cs cs' ps rs h k n) adds adds' qs ss e i l e xs ys (filing.added_is free adds qs ∙ f) (filing.added_is free adds' ss ∙ g)))
+      fields_way : (cs cs' : Components) (e : Bool) (adds adds' : Components) → ExtendsEach false cs cs' → ExtendsEach e adds adds' → Ways cs cs' → Ways adds adds' → (ps qs rs ss : Parts) → Met m (given (Oer.addition_forms adds qs) (Oer.sequence_form e (presence_bits cs ps) (Oer.component_forms cs ps))) (given (Oer.addition_forms adds' ss) (Oer.sequence_form e (presence_bits cs' rs) (Oer.component_forms cs' rs))) (PartsCarried m cs cs' ps rs × PartsCarried m adds adds' qs ss)
+      fields_way cs cs' e adds adds' h i k l ps qs rs ss = taken_given free m (Oer.addition_forms adds qs) _ _ _ (λ xs f. right_given free (Oer.addition_forms adds' ss) _ _ _ (λ ys g. tables_way (presence_bits cs ps) (presence_bits cs' rs) (presence_bits_meet cs cs' ps rs h) _ _ _ (λ n. components_way cs cs' ps rs h k n) adds adds' qs ss e i l e xs ys (filing.added_is free adds qs ∙ f) (filing.added_is free adds' ss ∙ g)))
 
       sequence_way : (cs cs' : Components) (e : Bool) (adds adds' : Components) → ExtendsEach false cs cs' → ExtendsEach e adds adds' → Ways cs cs' → Ways adds adds' → Way (sequence cs e adds) (sequence cs' e adds')
       unfolding Oer.form
@@ -189,7 +189,7 @@ module _ (free : Oer.Freedom → Bool) where
 
       group_way : (cs cs' : Components) → ExtendsEach false cs cs' → Ways cs cs' → Way (group cs) (group cs')
       unfolding Oer.form
-      group_way cs cs' h k (fields ps end) (fields rs end) = agree_map free (λ q. group_carried m cs cs' ps rs q.1) (taken_both free m _ _ _ _ _ _ (taken_same free m _ _ _ (preamble_alike free (marks cs ps) (marks cs' rs) (marks_meet cs cs' ps rs h))) (λ n. components_way cs cs' ps rs h k n))
+      group_way cs cs' h k (fields ps end) (fields rs end) = agree_map free (λ q. group_carried m cs cs' ps rs q.1) (taken_both free m _ _ _ _ _ _ (taken_same free m _ _ _ (preamble_alike free (presence_bits cs ps) (presence_bits cs' rs) (presence_bits_meet cs cs' ps rs h))) (λ n. components_way cs cs' ps rs h k n))
       group_way cs cs' h k (fields ps end) v = agree_with_refused free _ _
       group_way cs cs' h k x v = taken_refused free m _ _
 

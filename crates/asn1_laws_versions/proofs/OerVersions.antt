@@ -7,7 +7,7 @@ use Rattle.asn1_model.specs.Value.{Value, item, members, bag, fields, chosen, Va
 use Rattle.asn1_model.specs.Schema.{Tag, Counts, Presence, required, optional, by_default, Schema, cut, boolean, null, integer, enumerated, bit_string, octet_string, character_string, object_identifier, sequence_of, set_of, sequence, set, group, choice, Components, no_component, component, Alternatives, no_alternative, alternative}
 use Rattle.asn1_model.specs.Normal.{normal, is_at_default, is_group_left_out, is_normal, are_normal, is_normal_alternative, are_all}
 use Rattle.asn1_model.specs.Numbers.{is_count_within}
-use Rattle.asn1_model.specs.Tables.{marks, mark_unless, is_required, item_place}
+use Rattle.asn1_model.specs.Tables.{presence_bits, presence_bit_unless, is_required, item_place}
 use Rattle.asn1_model.specs.Form.{refused, both, varied, written, Reads, only_if, given, joined, ascending, arranged, Bitmap, is_present, is_any_present, present_ones, covered_by, own_bitmap, stands_before}
 use Rattle.asn1_model.specs.Rules.{lenient, strict_oer, oer, coer, canonical, encoding, octet_encoding, of_moderate_length, IsEncoding}
 use Rattle.asn1_laws_versions.proofs.Between.{OlderReads, OlderReadsNormal, NewerReads, NewerReadsNormal}
@@ -245,33 +245,33 @@ module _ (free : Oer.Freedom → Bool) (wide : IsTrue (free Oer.other_bitmap)) (
   kept_required s s' (by_default d) (by_default d') h = refl
   kept_required s s' o o' h = absurd h
 
-  marks_present : (t : List Tag) (o : Presence) (s : Schema) (cs : Components) (v : Value) (ps : Parts) → marks (component t o s cs) (present v ps) ≡ mark_unless (is_required o) true (marks cs ps)
-  marks_present t required s cs v ps = refl
-  marks_present t optional s cs v ps = refl
-  marks_present t (by_default d) s cs v ps = refl
+  presence_bits_present : (t : List Tag) (o : Presence) (s : Schema) (cs : Components) (v : Value) (ps : Parts) → presence_bits (component t o s cs) (present v ps) ≡ presence_bit_unless (is_required o) true (presence_bits cs ps)
+  presence_bits_present t required s cs v ps = refl
+  presence_bits_present t optional s cs v ps = refl
+  presence_bits_present t (by_default d) s cs v ps = refl
 
-  marks_absent : (t : List Tag) (o : Presence) (s : Schema) (cs : Components) (ps : Parts) → marks (component t o s cs) (absent ps) ≡ mark_unless (is_required o) false (marks cs ps)
-  marks_absent t required s cs ps = refl
-  marks_absent t optional s cs ps = refl
-  marks_absent t (by_default d) s cs ps = refl
+  presence_bits_absent : (t : List Tag) (o : Presence) (s : Schema) (cs : Components) (ps : Parts) → presence_bits (component t o s cs) (absent ps) ≡ presence_bit_unless (is_required o) false (presence_bits cs ps)
+  presence_bits_absent t required s cs ps = refl
+  presence_bits_absent t optional s cs ps = refl
+  presence_bits_absent t (by_default d) s cs ps = refl
 
-  marks_kept : (cs cs' : Components) (ps qs : Parts) → ExtendsEach false cs cs' → lessen_parts cs cs' ps ≡ Some qs → marks cs' ps ≡ marks cs qs
+  presence_bits_kept : (cs cs' : Components) (ps qs : Parts) → ExtendsEach false cs cs' → lessen_parts cs cs' ps ≡ Some qs → presence_bits cs' ps ≡ presence_bits cs qs
   unfolding ExtendsEach lessen_parts
-  marks_kept no_component no_component ps qs h e = refl
-  marks_kept no_component (component t' o' s' cs') ps qs h e = absurd h
-  marks_kept (component t o s cs) no_component ps qs h e = absurd h
-  marks_kept (component t o s cs) (component t' o' s' cs') end qs h e = cc
-  marks_kept (component t o s cs) (component t' o' s' cs') (present v ps) qs h e =
+  presence_bits_kept no_component no_component ps qs h e = refl
+  presence_bits_kept no_component (component t' o' s' cs') ps qs h e = absurd h
+  presence_bits_kept (component t o s cs) no_component ps qs h e = absurd h
+  presence_bits_kept (component t o s cs) (component t' o' s' cs') end qs h e = cc
+  presence_bits_kept (component t o s cs) (component t' o' s' cs') (present v ps) qs h e =
       let a = chain_parts (lessen s s' v) (λ w. option_map (λ rs. present w rs) (lessen_parts cs cs' ps)) qs e in
       let b = map_parts (lessen_parts cs cs' ps) (λ rs. present a.0 rs) qs a.2 in
-      let m = marks_kept cs cs' ps b.0 h.3 b.1 in
+      let m = presence_bits_kept cs cs' ps b.0 h.3 b.1 in
       let r = kept_required s s' o o' h.1 in
-      marks_present t' o' s' cs' v ps ∙ ap (λ x. mark_unless x true (marks cs' ps)) r ∙ ap (λ l. mark_unless (is_required o) true l) m ∙ sym (marks_present t o s cs a.0 b.0) ∙ ap (λ l. marks (component t o s cs) l) b.2
-  marks_kept (component t o s cs) (component t' o' s' cs') (absent ps) qs h e =
+      presence_bits_present t' o' s' cs' v ps ∙ ap (λ x. presence_bit_unless x true (presence_bits cs' ps)) r ∙ ap (λ l. presence_bit_unless (is_required o) true l) m ∙ sym (presence_bits_present t o s cs a.0 b.0) ∙ ap (λ l. presence_bits (component t o s cs) l) b.2
+  presence_bits_kept (component t o s cs) (component t' o' s' cs') (absent ps) qs h e =
       let b = map_parts (lessen_parts cs cs' ps) absent qs e in
-      let m = marks_kept cs cs' ps b.0 h.3 b.1 in
+      let m = presence_bits_kept cs cs' ps b.0 h.3 b.1 in
       let r = kept_required s s' o o' h.1 in
-      marks_absent t' o' s' cs' ps ∙ ap (λ x. mark_unless x false (marks cs' ps)) r ∙ ap (λ l. mark_unless (is_required o) false l) m ∙ sym (marks_absent t o s cs b.0) ∙ ap (λ l. marks (component t o s cs) l) b.2
+      presence_bits_absent t' o' s' cs' ps ∙ ap (λ x. presence_bit_unless x false (presence_bits cs' ps)) r ∙ ap (λ l. presence_bit_unless (is_required o) false l) m ∙ sym (presence_bits_absent t o s cs b.0) ∙ ap (λ l. presence_bits (component t o s cs) l) b.2
 
   -- ---- additions past those of the older version
   absent_forms : (t : List Tag) (o : Presence) (s : Schema) (cs : Components) (ps : Parts) → Oer.addition_forms (component t o s cs) (absent ps) ≡ cond (is_required o) None (option_map (λ as_. None ∷ as_) (Oer.addition_forms cs ps))
@@ -374,11 +374,11 @@ module _ (free : Oer.Freedom → Bool) (wide : IsTrue (free Oer.other_bitmap)) (
       sim_between left (sim_order us vs (Oer.members_form c) h (λ us vs k. sim_members c us vs k)) refl
 
   -- the parts of a sequence or a set, put together
-  sim_fields : (e e' : Bool) (cs cs' adds : Components) (ps rs qs : Parts) (o : Option (List (Option Oer.OctetForm))) → e ≡ e' → marks cs' ps ≡ marks cs rs → Sim (Oer.component_forms cs' ps) (Oer.component_forms cs rs) → ((ys : List (Option Oer.OctetForm)) → o ≡ Some ys → Additions adds qs ys) → Sim (given o (Oer.sequence_form e' (marks cs' ps) (Oer.component_forms cs' ps))) (given (Oer.addition_forms adds qs) (Oer.sequence_form e (marks cs rs) (Oer.component_forms cs rs)))
+  sim_fields : (e e' : Bool) (cs cs' adds : Components) (ps rs qs : Parts) (o : Option (List (Option Oer.OctetForm))) → e ≡ e' → presence_bits cs' ps ≡ presence_bits cs rs → Sim (Oer.component_forms cs' ps) (Oer.component_forms cs rs) → ((ys : List (Option Oer.OctetForm)) → o ≡ Some ys → Additions adds qs ys) → Sim (given o (Oer.sequence_form e' (presence_bits cs' ps) (Oer.component_forms cs' ps))) (given (Oer.addition_forms adds qs) (Oer.sequence_form e (presence_bits cs rs) (Oer.component_forms cs rs)))
   sim_fields e e' cs cs' adds ps rs qs o a m h k =
       let r' = Oer.component_forms cs' ps in
-      let left : given o (Oer.sequence_form e' (marks cs' ps) r') ≡ given o (Oer.sequence_form e (marks cs rs) r') = ap (λ e. given o (Oer.sequence_form e (marks cs' ps) r')) (sym a) ∙ ap (λ ms. given o (Oer.sequence_form e ms r')) m in
-      sim_between left (sim_with e (marks cs rs) (Oer.component_forms cs rs) r' adds qs o h k) refl
+      let left : given o (Oer.sequence_form e' (presence_bits cs' ps) r') ≡ given o (Oer.sequence_form e (presence_bits cs rs) r') = ap (λ e. given o (Oer.sequence_form e (presence_bits cs' ps) r')) (sym a) ∙ ap (λ ms. given o (Oer.sequence_form e ms r')) m in
+      sim_between left (sim_with e (presence_bits cs rs) (Oer.component_forms cs rs) r' adds qs o h k) refl
 
   -- an absent component
   absent_component : (t : List Tag) (o : Presence) (s : Schema) (cs : Components) (ps : Parts) → Oer.component_forms (component t o s cs) (absent ps) ≡ cond (is_required o) refused (Oer.component_forms cs ps)
@@ -432,17 +432,17 @@ module _ (free : Oer.Freedom → Bool) (wide : IsTrue (free Oer.other_bitmap)) (
     sim (sequence cs m adds) (sequence cs' m' adds') (fields ps qs) u h e l =
         let b = both_parts_parts (lessen_parts cs cs' ps) (lessen_parts adds adds' qs) u e in
         let n : Loose (are_normal cs b.0 && are_normal adds b.1) = subst (λ u. Loose (is_normal (sequence cs m adds) u)) (sym b.4) l in
-        sim_between refl (sim_fields m m' cs cs' adds ps b.0 b.1 (Oer.addition_forms adds' qs) h.1 (marks_kept cs cs' ps b.0 h.0 b.2) (sim_components cs cs' ps b.0 h.0 b.2 (loose_first _ _ n)) (λ ys f. sim_additions m adds adds' qs b.1 ys h.2 b.3 (loose_second _ _ n) f)) (ap (λ v. Oer.form (sequence cs m adds) v) b.4)
+        sim_between refl (sim_fields m m' cs cs' adds ps b.0 b.1 (Oer.addition_forms adds' qs) h.1 (presence_bits_kept cs cs' ps b.0 h.0 b.2) (sim_components cs cs' ps b.0 h.0 b.2 (loose_first _ _ n)) (λ ys f. sim_additions m adds adds' qs b.1 ys h.2 b.3 (loose_second _ _ n) f)) (ap (λ v. Oer.form (sequence cs m adds) v) b.4)
     sim (sequence cs m adds) (sequence cs' m' adds') v u h e l = sim_refused _
     sim (set cs m adds) (set cs' m' adds') (fields ps qs) u h e l =
         let b = both_parts_parts (lessen_parts cs cs' ps) (lessen_parts adds adds' qs) u e in
         let n : Loose (are_normal cs b.0 && are_normal adds b.1) = subst (λ u. Loose (is_normal (set cs m adds) u)) (sym b.4) l in
-        sim_between refl (sim_fields m m' cs cs' adds ps b.0 b.1 (Oer.addition_forms adds' qs) h.1 (marks_kept cs cs' ps b.0 h.0 b.2) (sim_components cs cs' ps b.0 h.0 b.2 (loose_first _ _ n)) (λ ys f. sim_additions m adds adds' qs b.1 ys h.2 b.3 (loose_second _ _ n) f)) (ap (λ v. Oer.form (set cs m adds) v) b.4)
+        sim_between refl (sim_fields m m' cs cs' adds ps b.0 b.1 (Oer.addition_forms adds' qs) h.1 (presence_bits_kept cs cs' ps b.0 h.0 b.2) (sim_components cs cs' ps b.0 h.0 b.2 (loose_first _ _ n)) (λ ys f. sim_additions m adds adds' qs b.1 ys h.2 b.3 (loose_second _ _ n) f)) (ap (λ v. Oer.form (set cs m adds) v) b.4)
     sim (set cs m adds) (set cs' m' adds') v u h e l = sim_refused _
     sim (group cs) (group cs') (fields ps end) u h e l =
         let b = both_parts_parts (lessen_parts cs cs' ps) (Some end) u e in
         let a : end ≡ b.1 = some_parts b.3 in
-        sim_between refl (sim_both (sim_same (ap (λ l. Oer.preamble l) (marks_kept cs cs' ps b.0 h b.2))) (sim_components cs cs' ps b.0 h b.2 (subst (λ u. Loose (is_normal (group cs) u)) (sym b.4) l))) (ap (λ q. Oer.form (group cs) (fields b.0 q)) a ∙ ap (λ v. Oer.form (group cs) v) b.4)
+        sim_between refl (sim_both (sim_same (ap (λ l. Oer.preamble l) (presence_bits_kept cs cs' ps b.0 h b.2))) (sim_components cs cs' ps b.0 h b.2 (subst (λ u. Loose (is_normal (group cs) u)) (sym b.4) l))) (ap (λ q. Oer.form (group cs) (fields b.0 q)) a ∙ ap (λ v. Oer.form (group cs) v) b.4)
     sim (group cs) (group cs') v u h e l = sim_refused _
     sim (choice roots m adds) (choice roots' m' adds') (chosen false i v) u h e l =
         let q = map_parts (lessen_alternative roots roots' i v) (λ w. chosen false i w) u e in
@@ -563,23 +563,23 @@ module _ (free : Oer.Freedom → Bool) (wide : IsTrue (free Oer.other_bitmap)) (
   grown_sequence false ms r r' [] (y ∷ ys) h k n = let l = n refl in cc
   grown_sequence true ms r r' xs ys h k n = grown_bitmapped ms r r' xs ys h k (is_any_present xs) refl
 
-  marks_grown : (cs cs' : Components) (ps qs : Parts) → ExtendsEach false cs cs' → grow_parts cs cs' ps ≡ Some qs → marks cs ps ≡ marks cs' qs
+  presence_bits_grown : (cs cs' : Components) (ps qs : Parts) → ExtendsEach false cs cs' → grow_parts cs cs' ps ≡ Some qs → presence_bits cs ps ≡ presence_bits cs' qs
   unfolding ExtendsEach grow_parts
-  marks_grown no_component no_component ps qs h e = refl
-  marks_grown no_component (component t' o' s' cs') ps qs h e = absurd h
-  marks_grown (component t o s cs) no_component ps qs h e = absurd h
-  marks_grown (component t o s cs) (component t' o' s' cs') end qs h e = cc
-  marks_grown (component t o s cs) (component t' o' s' cs') (present v ps) qs h e =
+  presence_bits_grown no_component no_component ps qs h e = refl
+  presence_bits_grown no_component (component t' o' s' cs') ps qs h e = absurd h
+  presence_bits_grown (component t o s cs) no_component ps qs h e = absurd h
+  presence_bits_grown (component t o s cs) (component t' o' s' cs') end qs h e = cc
+  presence_bits_grown (component t o s cs) (component t' o' s' cs') (present v ps) qs h e =
       let a = chain_parts (grow s s' v) (λ w. option_map (λ rs. present w rs) (grow_parts cs cs' ps)) qs e in
       let b = map_parts (grow_parts cs cs' ps) (λ rs. present a.0 rs) qs a.2 in
-      let m = marks_grown cs cs' ps b.0 h.3 b.1 in
+      let m = presence_bits_grown cs cs' ps b.0 h.3 b.1 in
       let r = kept_required s s' o o' h.1 in
-      ap (λ x. mark_unless x true (marks cs ps)) (sym r) ∙ ap (λ l. mark_unless (is_required o') true l) m ∙ ap (λ l. marks (component t' o' s' cs') l) b.2
-  marks_grown (component t o s cs) (component t' o' s' cs') (absent ps) qs h e =
+      ap (λ x. presence_bit_unless x true (presence_bits cs ps)) (sym r) ∙ ap (λ l. presence_bit_unless (is_required o') true l) m ∙ ap (λ l. presence_bits (component t' o' s' cs') l) b.2
+  presence_bits_grown (component t o s cs) (component t' o' s' cs') (absent ps) qs h e =
       let b = map_parts (grow_parts cs cs' ps) absent qs e in
-      let m = marks_grown cs cs' ps b.0 h.3 b.1 in
+      let m = presence_bits_grown cs cs' ps b.0 h.3 b.1 in
       let r = kept_required s s' o o' h.1 in
-      ap (λ x. mark_unless x false (marks cs ps)) (sym r) ∙ ap (λ l. mark_unless (is_required o') false l) m ∙ ap (λ l. marks (component t' o' s' cs') l) b.2
+      ap (λ x. presence_bit_unless x false (presence_bits cs ps)) (sym r) ∙ ap (λ l. presence_bit_unless (is_required o') false l) m ∙ ap (λ l. presence_bits (component t' o' s' cs') l) b.2
 
   -- the additions of the newer version
   abbrev Grown : Bool → Components → Parts → List (Option Oer.OctetForm) → Type 0
@@ -605,12 +605,12 @@ module _ (free : Oer.Freedom → Bool) (wide : IsTrue (free Oer.other_bitmap)) (
       let a = k xs refl in
       sim_between refl (grown_sequence e ms r r' xs a.0 h a.2 a.3) (sym (ap (λ (o : Option (List (Option Oer.OctetForm))). given o (Oer.sequence_form e ms r')) a.1))
 
-  grown_fields : (e e' : Bool) (cs cs' adds adds' : Components) (ps rs ss qs : Parts) → e ≡ e' → marks cs ps ≡ marks cs' rs → Sim (Oer.component_forms cs ps) (Oer.component_forms cs' rs) → ((xs : List (Option Oer.OctetForm)) → Oer.addition_forms adds ss ≡ Some xs → Grown e adds' qs xs) → Sim (given (Oer.addition_forms adds ss) (Oer.sequence_form e (marks cs ps) (Oer.component_forms cs ps))) (given (Oer.addition_forms adds' qs) (Oer.sequence_form e' (marks cs' rs) (Oer.component_forms cs' rs)))
+  grown_fields : (e e' : Bool) (cs cs' adds adds' : Components) (ps rs ss qs : Parts) → e ≡ e' → presence_bits cs ps ≡ presence_bits cs' rs → Sim (Oer.component_forms cs ps) (Oer.component_forms cs' rs) → ((xs : List (Option Oer.OctetForm)) → Oer.addition_forms adds ss ≡ Some xs → Grown e adds' qs xs) → Sim (given (Oer.addition_forms adds ss) (Oer.sequence_form e (presence_bits cs ps) (Oer.component_forms cs ps))) (given (Oer.addition_forms adds' qs) (Oer.sequence_form e' (presence_bits cs' rs) (Oer.component_forms cs' rs)))
   grown_fields e e' cs cs' adds adds' ps rs ss qs a m h k =
       let r' = Oer.component_forms cs' rs in
       let o = Oer.addition_forms adds' qs in
-      let right : given o (Oer.sequence_form e (marks cs ps) r') ≡ given o (Oer.sequence_form e' (marks cs' rs) r') = ap (λ e. given o (Oer.sequence_form e (marks cs ps) r')) a ∙ ap (λ ms. given o (Oer.sequence_form e' ms r')) m in
-      sim_between refl (grown_with e (marks cs ps) (Oer.component_forms cs ps) r' adds' qs (Oer.addition_forms adds ss) h k) right
+      let right : given o (Oer.sequence_form e (presence_bits cs ps) r') ≡ given o (Oer.sequence_form e' (presence_bits cs' rs) r') = ap (λ e. given o (Oer.sequence_form e (presence_bits cs ps) r')) a ∙ ap (λ ms. given o (Oer.sequence_form e' ms r')) m in
+      sim_between refl (grown_with e (presence_bits cs ps) (Oer.component_forms cs ps) r' adds' qs (Oer.addition_forms adds ss) h k) right
 
   grown_present : (more : Bool) (t : List Tag) (o : Presence) (s : Schema) (cs : Components) (w : Value) (rs qs : Parts) (x : Oer.OctetForm) (xs zs : List (Option Oer.OctetForm)) → Sim x (Oer.spelled o s w (Oer.open_type (Oer.form s w))) → present w rs ≡ qs → cons_some x xs ≡ zs → Grown more cs rs xs → Grown more (component t o s cs) qs zs
   unfolding Oer.addition_forms
@@ -664,17 +664,17 @@ module _ (free : Oer.Freedom → Bool) (wide : IsTrue (free Oer.other_bitmap)) (
     grown (sequence cs m adds) (sequence cs' m' adds') (fields ps qs) u h e l =
         let b = both_parts_parts (grow_parts cs cs' ps) (grow_parts adds adds' qs) u e in
         let n : Loose (are_normal cs' b.0 && are_normal adds' b.1) = subst (λ u. Loose (is_normal (sequence cs' m' adds') u)) (sym b.4) l in
-        sim_between refl (grown_fields m m' cs cs' adds adds' ps b.0 qs b.1 h.1 (marks_grown cs cs' ps b.0 h.0 b.2) (grown_components cs cs' ps b.0 h.0 b.2 (loose_first _ _ n)) (λ xs f. grown_additions m adds adds' qs b.1 xs h.2 b.3 (loose_second _ _ n) f)) (ap (λ v. Oer.form (sequence cs' m' adds') v) b.4)
+        sim_between refl (grown_fields m m' cs cs' adds adds' ps b.0 qs b.1 h.1 (presence_bits_grown cs cs' ps b.0 h.0 b.2) (grown_components cs cs' ps b.0 h.0 b.2 (loose_first _ _ n)) (λ xs f. grown_additions m adds adds' qs b.1 xs h.2 b.3 (loose_second _ _ n) f)) (ap (λ v. Oer.form (sequence cs' m' adds') v) b.4)
     grown (sequence cs m adds) (sequence cs' m' adds') v u h e l = sim_refused _
     grown (set cs m adds) (set cs' m' adds') (fields ps qs) u h e l =
         let b = both_parts_parts (grow_parts cs cs' ps) (grow_parts adds adds' qs) u e in
         let n : Loose (are_normal cs' b.0 && are_normal adds' b.1) = subst (λ u. Loose (is_normal (set cs' m' adds') u)) (sym b.4) l in
-        sim_between refl (grown_fields m m' cs cs' adds adds' ps b.0 qs b.1 h.1 (marks_grown cs cs' ps b.0 h.0 b.2) (grown_components cs cs' ps b.0 h.0 b.2 (loose_first _ _ n)) (λ xs f. grown_additions m adds adds' qs b.1 xs h.2 b.3 (loose_second _ _ n) f)) (ap (λ v. Oer.form (set cs' m' adds') v) b.4)
+        sim_between refl (grown_fields m m' cs cs' adds adds' ps b.0 qs b.1 h.1 (presence_bits_grown cs cs' ps b.0 h.0 b.2) (grown_components cs cs' ps b.0 h.0 b.2 (loose_first _ _ n)) (λ xs f. grown_additions m adds adds' qs b.1 xs h.2 b.3 (loose_second _ _ n) f)) (ap (λ v. Oer.form (set cs' m' adds') v) b.4)
     grown (set cs m adds) (set cs' m' adds') v u h e l = sim_refused _
     grown (group cs) (group cs') (fields ps end) u h e l =
         let b = both_parts_parts (grow_parts cs cs' ps) (Some end) u e in
         let a : end ≡ b.1 = some_parts b.3 in
-        sim_between refl (sim_both (sim_same (ap (λ l. Oer.preamble l) (marks_grown cs cs' ps b.0 h b.2))) (grown_components cs cs' ps b.0 h b.2 (subst (λ u. Loose (is_normal (group cs') u)) (sym b.4) l))) (ap (λ q. Oer.form (group cs') (fields b.0 q)) a ∙ ap (λ v. Oer.form (group cs') v) b.4)
+        sim_between refl (sim_both (sim_same (ap (λ l. Oer.preamble l) (presence_bits_grown cs cs' ps b.0 h b.2))) (grown_components cs cs' ps b.0 h b.2 (subst (λ u. Loose (is_normal (group cs') u)) (sym b.4) l))) (ap (λ q. Oer.form (group cs') (fields b.0 q)) a ∙ ap (λ v. Oer.form (group cs') v) b.4)
     grown (group cs) (group cs') v u h e l = sim_refused _
     grown (choice roots m adds) (choice roots' m' adds') (chosen false i v) u h e l =
         let q = map_parts (grow_alternative roots roots' i v) (λ w. chosen false i w) u e in

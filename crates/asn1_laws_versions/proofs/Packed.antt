@@ -9,7 +9,7 @@ use Rattle.asn1_model.specs.Normal.{is_at_default, is_group_left_out}
 use Rattle.asn1_model.specs.Form.{exactly, both, varied, written, Reads, only_if, given, is_present, own_bitmap, stands_before}
 use Rattle.asn1_model.specs.Numbers.{binary, by_eights}
 use Rattle.asn1_model.specs.Strings.{each_is, is_octet}
-use Rattle.asn1_model.specs.Tables.{marks, alternative_count, item_place}
+use Rattle.asn1_model.specs.Tables.{presence_bits, alternative_count, item_place}
 use Rattle.asn1_model.specs.Oer.{packed}
 use Rattle.asn1_model.specs.Per
 use Rattle.asn1_model.specs.Versions.{grow, grow_alternative, lessen, lessen_alternative, Begins, Extends, ExtendsEach, ExtendsAlternatives}
@@ -18,12 +18,12 @@ use Rattle.asn1_laws_values.proofs.Octets.{eights_units}
 use Rattle.asn1_laws_values.proofs.Listed.{listed, each_is_map, order_map}
 use Rattle.asn1_laws_fronts.proofs.Fronts.{Pairwise, agree_exactly, agree_with_refused, agree_map, agree_both, agree_varied_right, agree_if_left, agree_if_right, agree_nothing, agree_turned}
 use Rattle.asn1_laws_fronts.proofs.PerNumbers.{Alike, octet_units_alike, constrained_alike, bits_apart, bits_apart'}
-use Rattle.asn1_laws_fronts.proofs.Units.{sized_alike, small_alike, items_equal, behind_mark, root_or_added, added_or_root, complete_whole, joined_long, when_read, open_alike}
+use Rattle.asn1_laws_fronts.proofs.Units.{sized_alike, small_alike, items_equal, behind_extension_bit, root_or_added, added_or_root, complete_whole, joined_long, when_read, open_alike}
 use Rattle.asn1_laws_fronts.proofs.Forms as packing
 use Rattle.asn1_laws_versions.proofs.PerVersions as versions
 use Rattle.asn1_laws_versions.proofs.Taken.{as_written, taken, covers_written, agree_written, taken_same, taken_both, taken_refused, taken_if, taken_given, taken_varied, right_given}
 use Rattle.asn1_laws_versions.proofs.Parts as parts
-use Rattle.asn1_laws_versions.proofs.Parts.{There, there_map, there_both, Carried, PartsCarried, EachPair, pair_map, marks_meet}
+use Rattle.asn1_laws_versions.proofs.Parts.{There, there_map, there_both, Carried, PartsCarried, EachPair, pair_map, presence_bits_meet}
 use Rattle.asn1_laws_versions.proofs.Members.{Both, Related, each_arranged, each_first, each_second, members_carried, bags_carried, older, newer, related_pairs, form_of, older_forms, newer_forms, related_alike, each_written, EachPairOf, AlternativeCarried, fields_carried, set_carried, group_carried, item_carried, chosen_carried, chosen_added_carried}
 
 -- ---- what is taken either way
@@ -141,7 +141,7 @@ module _ (free : Per.Freedom → Bool) where
       abbrev Ways : Components → Components → Type 0
       Ways cs cs' = EachPair (λ o s o' s'. Way s s') cs cs'
 
-      components_way : (cs cs' : Components) (ps qs : Parts) → ExtendsEach false cs cs' → Ways cs cs' → marks cs ps ≡ marks cs' qs → Met m (Per.component_forms al cs ps) (Per.component_forms al cs' qs) (PartsCarried m cs cs' ps qs)
+      components_way : (cs cs' : Components) (ps qs : Parts) → ExtendsEach false cs cs' → Ways cs cs' → presence_bits cs ps ≡ presence_bits cs' qs → Met m (Per.component_forms al cs ps) (Per.component_forms al cs' qs) (PartsCarried m cs cs' ps qs)
       components_way cs cs' ps qs h k e = subst (λ x. Met m x (Per.component_forms al cs' qs) (PartsCarried m cs cs' ps qs)) (packing.shown_is free al cs ps) (subst (λ y. Met m (packing.Shown free al cs ps) y (PartsCarried m cs cs' ps qs)) (packing.shown_is free al cs' qs) (parts.components_meet Per.Freedom Per.Detail Bool free m (packing.shown free al) cs cs' ps qs h (pair_map cs cs' (λ o s o' s' w. shown_way o s o' s' w) k) e))
 
       hidden_taken : (x y : Per.BitForm) (P : Type 0) → Met m x y P → Met m (packing.hidden free al x) y P
@@ -156,8 +156,8 @@ module _ (free : Per.Freedom → Bool) where
         tables_way false (a ∷ xs) ys f g = taken_refused free m _ _
         tables_way true xs ys f g = taken_varied free m Per.other_bitmap (own_bitmap xs) (λ b. Per.bitmapped al ms x xs b) _ _ (λ b q. agree_varied_right free {c = Per.other_bitmap} (λ c. subst (λ u. Met m u (Per.bitmapped al ns y ys c) (P × PartsCarried m adds adds' qs ss)) (packing.bitmapped_is free al ms x xs b) (subst (λ u. Met m (packing.Bitmapped free al ms x xs b) u (P × PartsCarried m adds adds' qs ss)) (packing.bitmapped_is free al ns y ys c) (parts.bitmapped_meet Per.Freedom Per.Detail Bool free m (packing.unknown free al) (packing.unknown_alike free al) (packing.added free al) (unknown_added al) (packing.marked free al) (packing.marked_alike free al) (packing.bits free al) (packing.flags_alike free al) (packing.hidden free al) (packing.hidden_left free al) (packing.hidden_right free al) hidden_taken ms ns long x y P roots_meet e adds adds' qs ss xs ys h (pair_map adds adds' (λ o s o' s' w. added_way o s o' s' w) k) f g b c q))))
 
-      fields_way : (cs cs' : Components) (e : Bool) (adds adds' : Components) → ExtendsEach false cs cs' → ExtendsEach e adds adds' → Ways cs cs' → Ways adds adds' → (ps qs rs ss : Parts) → Met m (given (Per.addition_forms al adds qs) (Per.sequence_form al e (marks cs ps) (Per.component_forms al cs ps))) (given (Per.addition_forms al adds' ss) (Per.sequence_form al e (marks cs' rs) (Per.component_forms al cs' rs))) (PartsCarried m cs cs' ps rs × PartsCarried m adds adds' qs ss)
-      fields_way cs cs' e adds adds' h i k l ps qs rs ss = taken_given free m (Per.addition_forms al adds qs) _ _ _ (λ xs f. right_given free (Per.addition_forms al adds' ss) _ _ _ (λ ys g. tables_way (marks cs ps) (marks cs' rs) (marks_meet cs cs' ps rs h) _ _ _ (λ n. components_way cs cs' ps rs h k n) adds adds' qs ss e i l e xs ys (packing.added_is free al adds qs ∙ f) (packing.added_is free al adds' ss ∙ g)))
+      fields_way : (cs cs' : Components) (e : Bool) (adds adds' : Components) → ExtendsEach false cs cs' → ExtendsEach e adds adds' → Ways cs cs' → Ways adds adds' → (ps qs rs ss : Parts) → Met m (given (Per.addition_forms al adds qs) (Per.sequence_form al e (presence_bits cs ps) (Per.component_forms al cs ps))) (given (Per.addition_forms al adds' ss) (Per.sequence_form al e (presence_bits cs' rs) (Per.component_forms al cs' rs))) (PartsCarried m cs cs' ps rs × PartsCarried m adds adds' qs ss)
+      fields_way cs cs' e adds adds' h i k l ps qs rs ss = taken_given free m (Per.addition_forms al adds qs) _ _ _ (λ xs f. right_given free (Per.addition_forms al adds' ss) _ _ _ (λ ys g. tables_way (presence_bits cs ps) (presence_bits cs' rs) (presence_bits_meet cs cs' ps rs h) _ _ _ (λ n. components_way cs cs' ps rs h k n) adds adds' qs ss e i l e xs ys (packing.added_is free al adds qs ∙ f) (packing.added_is free al adds' ss ∙ g)))
 
       sequence_way : (cs cs' : Components) (e : Bool) (adds adds' : Components) → ExtendsEach false cs cs' → ExtendsEach e adds adds' → Ways cs cs' → Ways adds adds' → Way (sequence cs e adds) (sequence cs' e adds')
       unfolding Per.form
@@ -173,7 +173,7 @@ module _ (free : Per.Freedom → Bool) where
 
       group_way : (cs cs' : Components) → ExtendsEach false cs cs' → Ways cs cs' → Way (group cs) (group cs')
       unfolding Per.form
-      group_way cs cs' h k (fields ps end) (fields rs end) = agree_map free (λ q. group_carried m cs cs' ps rs q.1) (taken_both free m _ _ _ _ _ _ (taken_same free m _ _ _ (agree_exactly free (marks cs ps) (marks cs' rs) (marks_meet cs cs' ps rs h))) (λ n. components_way cs cs' ps rs h k n))
+      group_way cs cs' h k (fields ps end) (fields rs end) = agree_map free (λ q. group_carried m cs cs' ps rs q.1) (taken_both free m _ _ _ _ _ _ (taken_same free m _ _ _ (agree_exactly free (presence_bits cs ps) (presence_bits cs' rs) (presence_bits_meet cs cs' ps rs h))) (λ n. components_way cs cs' ps rs h k n))
       group_way cs cs' h k (fields ps end) v = agree_with_refused free _ _
       group_way cs cs' h k x v = taken_refused free m _ _
 
@@ -187,7 +187,7 @@ module _ (free : Per.Freedom → Bool) where
 
       items_way : (roots adds adds' : List ℤ) (n k : ℤ) → Begins adds adds' → (e : Bool) (i j c d : Option ℕ) → Place roots n i → Place adds n j → Place roots k c → Place adds' k d → Met m (Per.item_form al (length roots) e i j) (Per.item_form al (length roots) e c d) ((is_present (item_place k roots) || is_present (item_place k adds)) ≡ true)
       unfolding Per.item_form Per.added_item
-      items_way roots adds adds' n k h e (Some i) j (Some c) d p q r s = agree_map free (λ u. ap (λ o. is_present o || is_present (item_place k adds)) r) (taken_same free m _ _ _ (behind_mark free e false _ _ _ (constrained_alike free al (length roots - 1) i c)))
+      items_way roots adds adds' n k h e (Some i) j (Some c) d p q r s = agree_map free (λ u. ap (λ o. is_present o || is_present (item_place k adds)) r) (taken_same free m _ _ _ (behind_extension_bit free e false _ _ _ (constrained_alike free al (length roots - 1) i c)))
       items_way roots adds adds' n k h false (Some i) j None d p q r s = agree_with_refused free _ _
       items_way roots adds adds' n k h true (Some i) j None None p q r s = agree_with_refused free _ _
       items_way roots adds adds' n k h true (Some i) j None (Some d) p q r s = taken_same free m _ _ _ (root_or_added free _ _ _)
@@ -226,11 +226,11 @@ module _ (free : Per.Freedom → Bool) where
       as_many (alternative t s others) no_alternative h = absurd h
       as_many (alternative t s others) (alternative t' s' others') h = ap (λ n. n + 1) (as_many others others' h.2)
 
-      mark_alike : (e b : Bool) → Alike free (Per.mark_of e b) (Per.mark_of e b) (Unit {0})
+      mark_alike : (e b : Bool) → Alike free (Per.extension_bit_of e b) (Per.extension_bit_of e b) (Unit {0})
       mark_alike false b = agree_nothing free
       mark_alike true b = agree_map free (λ e. tt) (agree_exactly free (b ∷ []) (b ∷ []) refl)
 
-      root_way : (roots roots' adds adds' : Alternatives) (e : Bool) (i j : ℕ) (x v : Value) → ExtendsAlternatives false roots roots' → Others roots roots' → Met m (both (Per.mark_of e false) (both (Per.constrained al (alternative_count roots - 1) i) (Per.alternative_form al roots i x))) (both (Per.mark_of e false) (both (Per.constrained al (alternative_count roots' - 1) j) (Per.alternative_form al roots' j v))) (Carried m (choice roots e adds) (choice roots' e adds') (chosen false i x) (chosen false j v))
+      root_way : (roots roots' adds adds' : Alternatives) (e : Bool) (i j : ℕ) (x v : Value) → ExtendsAlternatives false roots roots' → Others roots roots' → Met m (both (Per.extension_bit_of e false) (both (Per.constrained al (alternative_count roots - 1) i) (Per.alternative_form al roots i x))) (both (Per.extension_bit_of e false) (both (Per.constrained al (alternative_count roots' - 1) j) (Per.alternative_form al roots' j v))) (Carried m (choice roots e adds) (choice roots' e adds') (chosen false i x) (chosen false j v))
       root_way roots roots' adds adds' e i j x v h k =
           let index : Alike free (Per.constrained al (alternative_count roots - 1) i) (Per.constrained al (alternative_count roots' - 1) j) (i ≡ j) = subst (λ n. Alike free (Per.constrained al (alternative_count roots - 1) i) (Per.constrained al (n - 1) j) (i ≡ j)) (sym (as_many roots roots' h)) (constrained_alike free al (alternative_count roots - 1) i j) in
           agree_map free (λ q. chosen_carried m roots roots' adds adds' e e i j x v q.1.0 q.1.1) (taken_both free m _ _ _ _ _ _ (taken_same free m _ _ _ (mark_alike e false)) (λ u. taken_both free m _ _ _ _ _ _ (taken_same free m _ _ _ index) (λ n. at_way false roots roots' i j x v h k n)))

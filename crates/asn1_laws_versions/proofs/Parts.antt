@@ -4,13 +4,13 @@ use Rattle.std.proofs.lemmas.List.{append-nil}
 use Rattle.asn1_model.specs.Value.{Value, Parts, end, absent, present}
 use Rattle.asn1_model.specs.Schema.{Tag, Presence, required, optional, by_default, Schema, Components, no_component, component}
 use Rattle.asn1_model.specs.Form.{Form, refused, both, joined, Bitmap, is_present, is_any_present, present_ones, covered_by, own_bitmap}
-use Rattle.asn1_model.specs.Tables.{marks, is_required, mark_unless}
+use Rattle.asn1_model.specs.Tables.{presence_bits, is_required, presence_bit_unless}
 use Rattle.asn1_model.specs.Versions.{grow, grow_parts, lessen, lessen_parts, all_absent, both_parts, KeepsPresence, ExtendsEach}
 use Rattle.asn1_model.proofs.Forms.{map_parts}
 use Rattle.asn1_laws_fronts.proofs.Fronts.{Agree, agree_with_refused, agree_map, agree_both, agree_if_right, agree_nothing}
 use Rattle.asn1_laws_fronts.proofs.Additions as adding
 use Rattle.asn1_laws_fronts.proofs.Additions.{unless_equal, no_any, cond_some}
-use Rattle.asn1_laws_fronts.proofs.Spelled.{marks_long}
+use Rattle.asn1_laws_fronts.proofs.Spelled.{presence_bits_long}
 use Rattle.asn1_laws_versions.proofs.Taken.{taken, taken_same, taken_both, taken_refused, taken_if, taken_given, right_given}
 
 -- ---- what there is
@@ -55,16 +55,16 @@ kept_required s s' optional optional h = refl
 kept_required s s' (by_default d) (by_default d') h = refl
 kept_required s s' o o' h = absurd h
 
-marks_further : (r r' m n : Bool) (ms ns : List Bool) → r' ≡ r → mark_unless r m ms ≡ mark_unless r' n ns → (ms ≡ ns) × ((r ≡ true) ⊎ (m ≡ n))
-marks_further r r' m n ms ns k e = unless_equal r m n ms ns (e ∙ ap (λ r. mark_unless r n ns) k)
+presence_bits_further : (r r' m n : Bool) (ms ns : List Bool) → r' ≡ r → presence_bit_unless r m ms ≡ presence_bit_unless r' n ns → (ms ≡ ns) × ((r ≡ true) ⊎ (m ≡ n))
+presence_bits_further r r' m n ms ns k e = unless_equal r m n ms ns (e ∙ ap (λ r. presence_bit_unless r n ns) k)
 
-unless_long : (r r' m : Bool) (ms ns : List Bool) → r' ≡ r → length ms ≡ length ns → length (mark_unless r m ms) ≡ length (mark_unless r' m ns)
+unless_long : (r r' m : Bool) (ms ns : List Bool) → r' ≡ r → length ms ≡ length ns → length (presence_bit_unless r m ms) ≡ length (presence_bit_unless r' m ns)
 unless_long true true m ms ns e h = h
 unless_long false false m ms ns e h = ap suc h
 unless_long true false m ms ns e h = cc
 unless_long false true m ms ns e h = cc
 
-ends_long : (cs cs' : Components) → ExtendsEach false cs cs' → length (marks cs end) ≡ length (marks cs' end)
+ends_long : (cs cs' : Components) → ExtendsEach false cs cs' → length (presence_bits cs end) ≡ length (presence_bits cs' end)
 unfolding ExtendsEach
 ends_long no_component no_component h = refl
 ends_long no_component (component t' o' s' cs') h = absurd h
@@ -72,8 +72,8 @@ ends_long (component t o s cs) no_component h = absurd h
 ends_long (component t o s cs) (component t' o' s' cs') h = unless_long (is_required o) (is_required o') false _ _ (kept_required s s' o o' h.1) (ends_long cs cs' h.3)
 
 -- as many presence bits in both versions
-pub marks_meet : (cs cs' : Components) (ps qs : Parts) → ExtendsEach false cs cs' → length (marks cs ps) ≡ length (marks cs' qs)
-marks_meet cs cs' ps qs h = marks_long cs ps end ∙ ends_long cs cs' h ∙ marks_long cs' end qs
+pub presence_bits_meet : (cs cs' : Components) (ps qs : Parts) → ExtendsEach false cs cs' → length (presence_bits cs ps) ≡ length (presence_bits cs' qs)
+presence_bits_meet cs cs' ps qs h = presence_bits_long cs ps end ∙ ends_long cs cs' h ∙ presence_bits_long cs' end qs
 
 -- ---- components in pairs
 abbrev pub EachPair : (Presence → Schema → Presence → Schema → Type 0) → Components → Components → Type 0
@@ -123,7 +123,7 @@ module _ (F : Type 0) (D : F → Type 0) (A : Type 0) (free : F → Bool) (m : B
     abbrev Shown : Components → Parts → Forms
     Shown cs ps = adding.components_of F D A free shown cs ps
 
-    pub components_meet : (cs cs' : Components) (ps qs : Parts) → ExtendsEach false cs cs' → EachPair ShownMeet cs cs' → marks cs ps ≡ marks cs' qs → Meets (Shown cs ps) (Shown cs' qs) (PartsCarried m cs cs' ps qs)
+    pub components_meet : (cs cs' : Components) (ps qs : Parts) → ExtendsEach false cs cs' → EachPair ShownMeet cs cs' → presence_bits cs ps ≡ presence_bits cs' qs → Meets (Shown cs ps) (Shown cs' qs) (PartsCarried m cs cs' ps qs)
     unfolding ExtendsEach
     components_meet no_component no_component end end h k e = agree_map free (λ u. no_parts_carried m) (taken_same free m _ _ _ (agree_nothing free))
     components_meet no_component no_component end qs h k e = agree_with_refused free _ _
@@ -131,14 +131,14 @@ module _ (F : Type 0) (D : F → Type 0) (A : Type 0) (free : F → Bool) (m : B
     components_meet no_component (component t' o' s' cs') ps qs h k e = absurd h
     components_meet (component t o s cs) no_component ps qs h k e = absurd h
     components_meet (component t o s cs) (component t' o' s' cs') (present x ps) (present v qs) h k e =
-        agree_map free (λ q. present_carried m t t' o o' s s' cs cs' x v ps qs q.0 q.1) (taken_both free m _ _ _ _ _ _ (k.0 x v) (λ u. components_meet cs cs' ps qs h.3 k.1 ((marks_further (is_required o) (is_required o') true true _ _ (kept_required s s' o o' h.1) e).0)))
+        agree_map free (λ q. present_carried m t t' o o' s s' cs cs' x v ps qs q.0 q.1) (taken_both free m _ _ _ _ _ _ (k.0 x v) (λ u. components_meet cs cs' ps qs h.3 k.1 ((presence_bits_further (is_required o) (is_required o') true true _ _ (kept_required s s' o o' h.1) e).0)))
     components_meet (component t o s cs) (component t' o' s' cs') (present x ps) (absent qs) h k e =
-        one_absent (is_required o') _ _ _ (kept_required s s' o o' h.1 ∙ unlike (is_required o) true false true_false ((marks_further (is_required o) (is_required o') true false _ _ (kept_required s s' o o' h.1) e).1))
+        one_absent (is_required o') _ _ _ (kept_required s s' o o' h.1 ∙ unlike (is_required o) true false true_false ((presence_bits_further (is_required o) (is_required o') true false _ _ (kept_required s s' o o' h.1) e).1))
     components_meet (component t o s cs) (component t' o' s' cs') (present x ps) end h k e = agree_with_refused free _ _
     components_meet (component t o s cs) (component t' o' s' cs') (absent ps) (present v qs) h k e =
-        other_absent (is_required o) _ _ _ (unlike (is_required o) false true false_true ((marks_further (is_required o) (is_required o') false true _ _ (kept_required s s' o o' h.1) e).1))
+        other_absent (is_required o) _ _ _ (unlike (is_required o) false true false_true ((presence_bits_further (is_required o) (is_required o') false true _ _ (kept_required s s' o o' h.1) e).1))
     components_meet (component t o s cs) (component t' o' s' cs') (absent ps) (absent qs) h k e =
-        if_absent (is_required o) (is_required o') _ _ _ (kept_required s s' o o' h.1) (agree_map free (λ q. absent_carried m t t' o o' s s' cs cs' ps qs q) (components_meet cs cs' ps qs h.3 k.1 ((marks_further (is_required o) (is_required o') false false _ _ (kept_required s s' o o' h.1) e).0)))
+        if_absent (is_required o) (is_required o') _ _ _ (kept_required s s' o o' h.1) (agree_map free (λ q. absent_carried m t t' o o' s s' cs cs' ps qs q) (components_meet cs cs' ps qs h.3 k.1 ((presence_bits_further (is_required o) (is_required o') false false _ _ (kept_required s s' o o' h.1) e).0)))
     components_meet (component t o s cs) (component t' o' s' cs') (absent ps) end h k e = agree_with_refused free _ _
     components_meet (component t o s cs) (component t' o' s' cs') end qs h k e = taken_refused free m _ _
 

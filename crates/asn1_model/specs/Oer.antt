@@ -16,7 +16,7 @@ use Rattle.asn1_model.specs.Form.{Form, exactly, refused, both, varied, within, 
 use Rattle.asn1_model.specs.Form.{joined, stands_before, ascending, in_order, Bitmap, is_present, is_any_present}
 use Rattle.asn1_model.specs.Form.{present_ones, covered_by, own_bitmap}
 use Rattle.asn1_model.specs.Strings.{may_hold, identifier_octets, is_identifier, is_octet, each_is, groups_of_seven}
-use Rattle.asn1_model.specs.Tables.{is_bounded, item_place, is_required, marks}
+use Rattle.asn1_model.specs.Tables.{is_bounded, item_place, is_required, presence_bits}
 
 -- What a reader may take besides the canonical form (the project's choice, mostly what basic OER leaves to a sender).
 pub data Freedom : Type 0 where
@@ -251,10 +251,10 @@ unfoldable mutual
   form (sequence_of z held s) (members vs) = members_form held (each (λ v. form s v) vs)
   form (set_of z held s) (bag vs) = in_any_order (each (λ v. form s v) vs) (members_form held)
   form (sequence cs e adds) (fields ps qs) =
-      given (addition_forms adds qs) (sequence_form e (marks cs ps) (component_forms cs ps))
+      given (addition_forms adds qs) (sequence_form e (presence_bits cs ps) (component_forms cs ps))
   form (set cs e adds) (fields ps qs) =
-      given (addition_forms adds qs) (sequence_form e (marks cs ps) (component_forms cs ps))
-  form (group cs) (fields ps end) = both (preamble (marks cs ps)) (component_forms cs ps)
+      given (addition_forms adds qs) (sequence_form e (presence_bits cs ps) (component_forms cs ps))
+  form (group cs) (fields ps end) = both (preamble (presence_bits cs ps)) (component_forms cs ps)
   form (choice roots e adds) (chosen false i v) = alternative_form false roots i v
   form (choice roots true adds) (chosen true i v) = alternative_form true adds i v
   form s v = refused

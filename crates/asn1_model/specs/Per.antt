@@ -19,7 +19,7 @@ use Rattle.asn1_model.specs.Form.{given, joined, stands_before, ascending, in_or
 use Rattle.asn1_model.specs.Form.{present_ones, covered_by, own_bitmap}
 use Rattle.asn1_model.specs.Strings.{Run, permitted, how_many, largest, place_of, may_hold, is_of_octets}
 use Rattle.asn1_model.specs.Strings.{identifier_octets, is_identifier, is_octet, each_is}
-use Rattle.asn1_model.specs.Tables.{is_bounded, item_place, is_required, marks, alternative_count}
+use Rattle.asn1_model.specs.Tables.{is_bounded, item_place, is_required, presence_bits, alternative_count}
 
 -- What a reader may take besides the canonical form (the project's choice).
 pub data Freedom : Type 0 where
@@ -237,9 +237,9 @@ string_form al k z a held cs = only_if (may_hold k cs) (cond (is_of_octets k)
     (characters al z held (permitted k a) cs))
 
 -- The extension marker, where the type has one.
-abbrev pub mark_of : Bool → Bool → BitForm
-mark_of false m = nothing_more
-mark_of true m = exactly (m ∷ [])
+abbrev pub extension_bit_of : Bool → Bool → BitForm
+extension_bit_of false m = nothing_more
+extension_bit_of true m = exactly (m ∷ [])
 
 -- An added item, by its place among these (X.691 14.3).
 unfoldable pub added_item : Bool → Bool → Option ℕ → BitForm
@@ -248,7 +248,7 @@ added_item al e j = refused
 
 -- ENUMERATED (X.691 14): a root item by its place.
 unfoldable pub item_form : Bool → ℕ → Bool → Option ℕ → Option ℕ → BitForm
-item_form al roots e (Some i) j = both (mark_of e false) (constrained al (roots - 1) i)
+item_form al roots e (Some i) j = both (extension_bit_of e false) (constrained al (roots - 1) i)
 item_form al roots e None j = added_item al e j
 
 -- Filled up with zero bits to whole octets, and one zero octet in place of no bits (X.691 11.1).
@@ -331,12 +331,12 @@ unfoldable mutual
   form al (sequence_of z held s) (members vs) = sized al z held never (each (λ v. form al s v) vs)
   form al (set_of z held s) (bag vs) = in_any_order (each (λ v. form al s v) vs) (sized al z held never)
   form al (sequence cs e adds) (fields ps qs) =
-      given (addition_forms al adds qs) (sequence_form al e (marks cs ps) (component_forms al cs ps))
+      given (addition_forms al adds qs) (sequence_form al e (presence_bits cs ps) (component_forms al cs ps))
   form al (set cs e adds) (fields ps qs) =
-      given (addition_forms al adds qs) (sequence_form al e (marks cs ps) (component_forms al cs ps))
-  form al (group cs) (fields ps end) = both (exactly (marks cs ps)) (component_forms al cs ps)
+      given (addition_forms al adds qs) (sequence_form al e (presence_bits cs ps) (component_forms al cs ps))
+  form al (group cs) (fields ps end) = both (exactly (presence_bits cs ps)) (component_forms al cs ps)
   form al (choice roots e adds) (chosen false i v) =
-      both (mark_of e false) (both (constrained al (alternative_count roots - 1) i) (alternative_form al roots i v))
+      both (extension_bit_of e false) (both (constrained al (alternative_count roots - 1) i) (alternative_form al roots i v))
   form al (choice roots true adds) (chosen true i v) =
       both (exactly (true ∷ [])) (both (normally_small al i) (open_type al (alternative_form al adds i v)))
   form al s v = refused

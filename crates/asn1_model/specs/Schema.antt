@@ -1,5 +1,5 @@
 -- ASN.1 types, apart from any encoding: kinds, bounds, sizes, alphabets, extension markers and tables (X.680).
-use Rattle.std.specs.Prelude.{ℕ, ℤ, Bool, List, Option}
+use Rattle.std.specs.Prelude.{ℕ, ℤ, Bool, false, List, Option, None}
 use Rattle.asn1_model.specs.Value.{Value}
 
 -- A tag: its class, which is 0 for universal, 1 for application, 2 for context-specific and 3 for private, and its
@@ -29,6 +29,13 @@ pub record Counts : Type 0 where
 pub record Size : Type 0 where
   pub counts : Counts
   pub extensible : Bool
+
+-- Any count, and any size: no constraint.
+abbrev pub any_count : Counts
+any_count = record { low = 0; high = None }
+
+abbrev pub any_size : Size
+any_size = record { counts = any_count; extensible = false }
 
 -- A permitted alphabet, where there is one: its characters, and whether an extension marker follows it (X.680 51.7 and
 -- 52).

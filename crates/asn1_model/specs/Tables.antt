@@ -20,16 +20,16 @@ is_required required = true
 is_required o = false
 
 -- A further presence bit, unless there is none for the component.
-abbrev pub mark_unless : Bool → Bool → List Bool → List Bool
-mark_unless true m ms = ms
-mark_unless false m ms = m ∷ ms
+abbrev pub presence_bit_unless : Bool → Bool → List Bool → List Bool
+presence_bit_unless true m ms = ms
+presence_bit_unless false m ms = m ∷ ms
 
 -- For each component that may be absent, whether it is there, in the order of the table (X.691 19.2, X.696 16).
-abbrev pub marks : Components → Parts → List Bool
-marks no_component ps = []
-marks (component t o s cs) (present v ps) = mark_unless (is_required o) true (marks cs ps)
-marks (component t o s cs) (absent ps) = mark_unless (is_required o) false (marks cs ps)
-marks (component t o s cs) end = mark_unless (is_required o) false (marks cs end)
+abbrev pub presence_bits : Components → Parts → List Bool
+presence_bits no_component ps = []
+presence_bits (component t o s cs) (present v ps) = presence_bit_unless (is_required o) true (presence_bits cs ps)
+presence_bits (component t o s cs) (absent ps) = presence_bit_unless (is_required o) false (presence_bits cs ps)
+presence_bits (component t o s cs) end = presence_bit_unless (is_required o) false (presence_bits cs end)
 
 abbrev pub alternative_count : Alternatives → ℕ
 alternative_count no_alternative = 0

@@ -8,6 +8,7 @@ use Rattle.asn1_model.specs.Schema.{optional, by_default, Schema, cut, boolean, 
 use Rattle.asn1_model.specs.Schema.{octet_string, character_string, sequence_of, set_of, sequence, set, group, choice}
 use Rattle.asn1_model.specs.Schema.{Components, no_component, component, Alternatives, no_alternative, alternative}
 use Rattle.asn1_model.specs.Rules.{Rules, canonical}
+pub use Rattle.asn1_model.specs.Schema.{any_count, any_size}
 
 -- what a row says: the canonical octets, or that there are none
 abbrev pub Writes : Rules → Schema → Value → List ℕ → Type 0
@@ -27,12 +28,6 @@ from_to a b e = record { range = record { low = a; high = b }; extensible = e }
 
 abbrev pub any_number : Range
 any_number = record { low = None; high = None }
-
-abbrev pub any_count : Counts
-any_count = record { low = 0; high = None }
-
-abbrev pub any_size : Size
-any_size = record { counts = any_count; extensible = false }
 
 abbrev pub sizes : ℕ → ℕ → Size
 sizes a b = record { counts = record { low = a; high = Some b }; extensible = false }

@@ -6,7 +6,7 @@ use Rattle.asn1_model.specs.Lawful.{IsLawful}
 use Rattle.asn1_model.specs.Normal.{IsTidy}
 use Rattle.asn1_model.specs.Rules.{Rules, canonical}
 use Rattle.asn1_model.specs.Versions.{Extends}
-use Rattle.asn1_schema_versions.specs.Versions.{ExtendsFrom, Unfolds}
+use Rattle.asn1_schema_types.specs.Versions.{ExtendsFrom, Unfolds}
 use Rattle.asn1_laws_values.specs.Unfolding.{AgreesTo}
 use Rattle.asn1_laws_values.proofs.Unfolding.{means_the_same}
 use Rattle.asn1_laws_versions.specs.Answers.{IsMessage, Answer, answered, not_an_encoding, surplus, no_target, IsAnswer}

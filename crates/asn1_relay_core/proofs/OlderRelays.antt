@@ -11,7 +11,7 @@ use Rattle.asn1_laws_across.specs.Streams.{Message, IsMessage, HasNoMessage}
 use Rattle.asn1_laws_across.specs.Relayed.{Stop, no_target, empty_message, none_within_limit, RelaysFront, BeginsWith, HasEmptyMessage, StopsAt, Relays}
 use Rattle.asn1_laws_versions.specs.Relays.{AreJoined, Halt, RelaysOlder, IsEnd}
 use Rattle.asn1_laws_versions.proofs.Relays.{goes, does}
-use Rattle.asn1_schema_versions.specs.Versions.{ExtendsFrom, Unfolds}
+use Rattle.asn1_schema_types.specs.Versions.{ExtendsFrom, Unfolds}
 
 -- ---- types that agree in what a relay reads
 

@@ -18,7 +18,7 @@ mod standard;
 mod translation;
 
 pub use asn1_schema_faults::{CodecKind, DecodeError, EncodeError};
-pub use asn1_schema_versions::Extends;
+pub use asn1_schema_types::Extends;
 pub use codec::Codec;
 pub use ends::{ReadFailed, Sink, Source, WriteFailed};
 pub use fault::{RelayFault, RelayFaultKind};

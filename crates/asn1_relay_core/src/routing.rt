@@ -10,7 +10,7 @@ use crate::route_fault::{RouteFault, RouteFaultKind};
 use crate::{Codec, recode};
 use asn1_schema_decode::Decode;
 use asn1_schema_encode::Encode;
-use asn1_schema_versions::Extends;
+use asn1_schema_types::Extends;
 use std::alloc::Global;
 
 /// Sends a message from hop to hop: the first hop reads it by the rules `from`, each further one reads what the hop in

@@ -4,7 +4,7 @@ use crate::rows::{CODECS, Row};
 use asn1_relay_core::{Codec, DecodeError, EncodeError};
 use asn1_schema_decode::{Decode, Decoder};
 use asn1_schema_encode::{Encode, Encoder};
-use asn1_schema_tags::Tag;
+use asn1_schema_tags::{Tag, TagPlace, TagTables};
 use asn1_schema_variants::Chosen;
 use oer_codec::oer;
 use std::alloc::{AllocError, Global};
@@ -65,6 +65,24 @@ fn tags(alloc: Global) -> Result<Vec<Tag>, AllocError> {
     Ok(tags)
 }
 
+/// The places of tags that ascend.
+fn places_of(alloc: Global, tags: &[Tag]) -> Result<Vec<TagPlace>, AllocError> {
+    let mut places = Vec::new(alloc);
+    for (place, tag) in tags.iter().enumerate() {
+        places.push(TagPlace { tag: *tag, place })?;
+    }
+    Ok(places)
+}
+
+/// The places of tags that ascend.
+fn places_of(alloc: Global, tags: &[Tag]) -> Result<Vec<TagPlace>, AllocError> {
+    let mut places = Vec::new(alloc);
+    for (place, tag) in tags.iter().enumerate() {
+        places.push(TagPlace { tag: *tag, place })?;
+    }
+    Ok(places)
+}
+
 /// Writes TRUE by the alternative of a place.
 fn write<E: Encoder>(encoder: &mut E, tags: &[Tag], place: usize) -> Result<(), EncodeError> {
     encoder.begin_choice(Tag::CHOICE, tags, false, &[], Chosen::root(place))?;
@@ -78,7 +96,11 @@ fn read<D: Decoder>(
     decoder: &mut D,
     tags: &[Tag],
 ) -> Result<(Chosen, bool), DecodeError> {
-    let chosen = decoder.begin_choice(Tag::CHOICE, tags, false, &[])?;
+    let places = places_of(alloc, tags)?;
+    let Some(tables) = TagTables::checked(tags, false, &[], &places) else {
+        return Err(DecodeError::Incomplete);
+    };
+    let chosen = decoder.begin_choice(Tag::CHOICE, &tables)?;
     let value = bool::decode(alloc, decoder)?;
     decoder.end()?;
     Ok((chosen, value))

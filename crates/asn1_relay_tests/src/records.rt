@@ -111,8 +111,8 @@ fn is_left_out(records: &[Item]) -> bool {
         records,
         [
             Item::SequenceBegins(false, 2),
-            Item::Mark(false),
-            Item::Mark(false),
+            Item::PresenceBit(false),
+            Item::PresenceBit(false),
             Item::Ends
         ]
     )
@@ -129,7 +129,7 @@ fn is_number(item: &Item, number: &Integer) -> bool {
 /// Whether records are those of a measure with this number, and nothing else.
 fn is_measure(records: &[Item], number: &Integer) -> bool {
     match records {
-        [_, Item::Mark(true), item, Item::Mark(false), _] => is_number(item, number),
+        [_, Item::PresenceBit(true), item, Item::PresenceBit(false), _] => is_number(item, number),
         _ => false,
     }
 }

@@ -1,2 +1,3 @@
 pub mod Schemas
 pub mod Defaults
+pub mod Nest

@@ -1,5 +1,5 @@
-//! The types whose messages the program `asn1_relay` translates. One that leads back to itself is taken from the
-//! guide's examples. Four are newer versions of others.
+//! The types whose messages the program `asn1_relay` translates. One leads back to itself. Four are newer versions of
+//! others.
 #![tactic(auto)]
 
 /// A field of a table: its number, its name, its presence and its tag.
@@ -27,6 +27,7 @@ macro_rules! tagged {
 
 mod extra;
 mod group;
+mod nest;
 mod new;
 mod new_colour;
 mod new_default;
@@ -40,9 +41,9 @@ mod set;
 mod small;
 
 use asn1_schema::SetOf;
-pub use asn1_schema_example_choices::nest::Nest;
 pub use extra::{Extra, ExtraFields};
 pub use group::{Group, GroupFields};
+pub use nest::Nest;
 pub use new::{New, NewFields};
 pub use new_colour::NewColour;
 pub use new_default::{NewDefault, NewDefaultFields};

@@ -8,7 +8,7 @@ use asn1_schema::{
     AsnType, Constraints, Decode, DecodeError, DecodeItems, Decoder, Described, Encode,
     EncodeError, EncodeItems, Encoder, Enumerated, EnumeratedType, Identifier, Tag, TagTree,
 };
-use asn1_schema_versions::Extends;
+use asn1_schema_types::Extends;
 use std::alloc::Global;
 
 /// A colour.
@@ -127,8 +127,8 @@ impl Decode for NewColour {
 
 /// What the other version has, and blue behind its extension marker.
 impl Extends<OldColour> for NewColour {
-    ghost use Rattle.asn1_schema_versions.proofs.Fields.{gains_items};
-    ghost use Rattle.asn1_schema_versions.proofs.Unfolding.{constant_unfolds};
+    ghost use Rattle.asn1_schema_authored.proofs.Fields.{gains_items};
+    ghost use Rattle.asn1_schema_authored.proofs.Unfolding.{constant_unfolds};
 
     ghost extends = { gains_items (pos 1 ∷ []) };
 

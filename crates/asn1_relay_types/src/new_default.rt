@@ -2,11 +2,11 @@
 ghost use Rattle.std.specs.Prelude.{refl};
 ghost use Rattle.asn1_schema.specs.Author.{absent, end, no_field};
 ghost use Rattle.asn1_schema.proofs.Author.{group_of, sequence_of};
-ghost use Rattle.asn1_schema_versions.proofs.Fields.{gains_additions, grown_field, no_fields, same_tags};
-ghost use Rattle.asn1_schema_versions.proofs.Fields.{sequence_extends};
-ghost use Rattle.asn1_schema_versions.proofs.Defaults.{default_gains};
-ghost use Rattle.asn1_schema_versions.proofs.Unfolding.{constant_unfolds, field_unfolds, no_fields_unfold};
-ghost use Rattle.asn1_schema_versions.proofs.Unfolding.{sequence_unfolds};
+ghost use Rattle.asn1_schema_authored.proofs.Fields.{gains_additions, grown_field, no_fields, same_tags};
+ghost use Rattle.asn1_schema_authored.proofs.Fields.{sequence_extends};
+ghost use Rattle.asn1_schema_authored.proofs.Defaults.{default_gains};
+ghost use Rattle.asn1_schema_authored.proofs.Unfolding.{constant_unfolds, field_unfolds, no_fields_unfold};
+ghost use Rattle.asn1_schema_authored.proofs.Unfolding.{sequence_unfolds};
 ghost use Rattle.asn1_relay_types.specs.Defaults.{flag_table, new_true_stands, old_true_stands, one_optional, true_and};
 
 use crate::new::{New, NewFields};
@@ -18,7 +18,7 @@ use asn1_schema::{
     FieldPresence, FieldTables, Fields, GroupComponents, Heading, Identifier, Sequence, Tag,
     TagTree,
 };
-use asn1_schema_versions::ExtendsComponents;
+use asn1_schema_authored::ExtendsComponents;
 use std::alloc::{AllocError, Global};
 use std::marker::PhantomData;
 

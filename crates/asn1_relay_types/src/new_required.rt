@@ -1,9 +1,9 @@
 //! SEQUENCE {a BOOLEAN, ..., r [1] BOOLEAN}.
 ghost use Rattle.std.specs.Prelude.{refl};
 ghost use Rattle.asn1_schema.proofs.Author.{sequence_of};
-ghost use Rattle.asn1_schema_versions.proofs.Fields.{gains_additions};
-ghost use Rattle.asn1_schema_versions.proofs.Unfolding.{constant_unfolds, field_unfolds, no_fields_unfold};
-ghost use Rattle.asn1_schema_versions.proofs.Unfolding.{sequence_unfolds};
+ghost use Rattle.asn1_schema_authored.proofs.Fields.{gains_additions};
+ghost use Rattle.asn1_schema_authored.proofs.Unfolding.{constant_unfolds, field_unfolds, no_fields_unfold};
+ghost use Rattle.asn1_schema_authored.proofs.Unfolding.{sequence_unfolds};
 
 use crate::old::{Old, OldFields};
 use asn1_schema::{
@@ -13,7 +13,7 @@ use asn1_schema::{
     MarkedComponents, NoMore, OneAddition, Required, RequiredComponent, Sequence, Tag, TagTree,
     tag,
 };
-use asn1_schema_versions::ExtendsComponents;
+use asn1_schema_authored::ExtendsComponents;
 use std::alloc::Global;
 
 /// A type that has grown by `r`, which its writers always write.

@@ -5,8 +5,8 @@ use Rattle.asn1_model.specs.Versions.{Extends}
 use Rattle.asn1_schema_constructed.specs.Bags.{bag_type}
 use Rattle.asn1_schema_presented.specs.Additions.{group_type}
 use Rattle.asn1_schema_presented.specs.Tables.{Table, scope}
-use Rattle.asn1_schema_versions.specs.Versions.{ExtendsFrom}
-use Rattle.asn1_schema_versions.proofs.Fields.{FieldsExtend, KeepsPresenceFrom}
+use Rattle.asn1_schema_types.specs.Versions.{ExtendsFrom}
+use Rattle.asn1_schema_authored.proofs.Fields.{FieldsExtend, KeepsPresenceFrom}
 
 -- A bag whose members have grown.
 pub bag_extends : {k : ℕ} (z : Size) (c : Counts) {s s' : ℕ → Schema} → ExtendsFrom k s s'

@@ -6,11 +6,11 @@ use Rattle.asn1_laws_values.specs.Unfolding.{AgreesTo, AgreesAlternatives}
 use Rattle.asn1_schema_constructed.specs.Bags.{bag_type}
 use Rattle.asn1_schema_constructed.specs.Recursive.{recursive_choice}
 use Rattle.asn1_schema_constructed.specs.Tables.{alternatives_at, choice_type}
-use Rattle.asn1_schema_example_choices.specs.Nest.{nest_schema}
+use Rattle.asn1_relay_types.specs.Nest.{nest_schema}
 use Rattle.asn1_schema_presented.specs.Additions.{group_type}
 use Rattle.asn1_schema_presented.specs.Tables.{Table, scope, list_type}
-use Rattle.asn1_schema_versions.specs.Versions.{Unfolds}
-use Rattle.asn1_schema_versions.proofs.Unfolding.{FieldsUnfold, constant_unfolds}
+use Rattle.asn1_schema_types.specs.Versions.{Unfolds}
+use Rattle.asn1_schema_authored.proofs.Unfolding.{FieldsUnfold, constant_unfolds}
 
 -- A list whose members do.
 pub list_unfolds : (z : Size) (c : Counts) {s : ℕ → Schema} → Unfolds s → Unfolds (list_type z c s)

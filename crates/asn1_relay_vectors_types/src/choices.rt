@@ -2,15 +2,15 @@
 ghost use Rattle.std.specs.Prelude.{refl, true, false};
 ghost use Rattle.asn1_schema.specs.Author.{context, no_variant, variant};
 ghost use Rattle.asn1_schema.proofs.Author.{choice_of, none, of_addition, of_root, one};
-ghost use Rattle.asn1_schema_versions.proofs.Fields.{gains_alternatives};
-ghost use Rattle.asn1_schema_versions.proofs.Unfolding.{choice_unfolds, constant_unfolds, no_variants_unfold};
-ghost use Rattle.asn1_schema_versions.proofs.Unfolding.{variant_unfolds};
+ghost use Rattle.asn1_schema_authored.proofs.Fields.{gains_alternatives};
+ghost use Rattle.asn1_schema_authored.proofs.Unfolding.{choice_unfolds, constant_unfolds, no_variants_unfold};
+ghost use Rattle.asn1_schema_authored.proofs.Unfolding.{variant_unfolds};
 
 use asn1_schema::{
     ChoiceAlternatives, ChoiceOf, Chosen, Class, Decode, DecodeError, Decoder, Described, Encode,
-    EncodeError, Encoder, Tag, TagTree,
+    EncodeError, Encoder, Tag, TagPlace, TagTree,
 };
-use asn1_schema_versions::ExtendsAlternatives;
+use asn1_schema_authored::ExtendsAlternatives;
 use asn1_values::Integer;
 use std::alloc::Global;
 
@@ -20,6 +20,16 @@ macro_rules! context {
         Tag {
             class: Class::Context,
             value: $number,
+        }
+    };
+}
+
+/// A tag of the context with the place of its alternative.
+macro_rules! place {
+    ($number:literal, $place:literal) => {
+        TagPlace {
+            tag: context!($number),
+            place: $place,
         }
     };
 }
@@ -78,6 +88,10 @@ impl ChoiceAlternatives for SpacedAlternative {
 
     fn extended_variants() -> Option<&'static [Tag]> {
         None
+    }
+
+    fn places() -> &'static [TagPlace] {
+        &[place!(0, 0), place!(444, 1)]
     }
 
     fn chosen(&self) -> Chosen {
@@ -142,6 +156,10 @@ impl ChoiceAlternatives for DistantAlternative {
 
     fn extended_variants() -> Option<&'static [Tag]> {
         None
+    }
+
+    fn places() -> &'static [TagPlace] {
+        &[place!(0, 0), place!(1, 1), place!(4294967295, 2)]
     }
 
     fn chosen(&self) -> Chosen {
@@ -213,6 +231,10 @@ impl ChoiceAlternatives for OldVersionedAlternative {
         Some(&[])
     }
 
+    fn places() -> &'static [TagPlace] {
+        &[place!(0, 0), place!(1, 1)]
+    }
+
     fn chosen(&self) -> Chosen {
         match self {
             OldVersionedAlternative::A(_) => Chosen::root(0),
@@ -274,6 +296,10 @@ impl ChoiceAlternatives for VersionedAlternative {
 
     fn extended_variants() -> Option<&'static [Tag]> {
         Some(&[context!(2)])
+    }
+
+    fn places() -> &'static [TagPlace] {
+        &[place!(0, 0), place!(1, 1), place!(2, 2)]
     }
 
     fn chosen(&self) -> Chosen {
@@ -354,6 +380,10 @@ impl ChoiceAlternatives for AroundAlternative {
 
     fn extended_variants() -> Option<&'static [Tag]> {
         Some(&[context!(1)])
+    }
+
+    fn places() -> &'static [TagPlace] {
+        &[place!(0, 0), place!(1, 2), place!(2, 1)]
     }
 
     fn chosen(&self) -> Chosen {

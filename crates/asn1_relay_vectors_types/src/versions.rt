@@ -4,11 +4,11 @@ ghost use Rattle.asn1_model.specs.Value.{fields};
 ghost use Rattle.asn1_schema.proofs.Author.{set_of};
 ghost use Rattle.asn1_schema_presented.specs.Tables.{no_field};
 ghost use Rattle.asn1_schema_presented.proofs.Values.{type_sequence, value_sequence};
-ghost use Rattle.asn1_schema_versions.proofs.Defaults.{default_gains};
-ghost use Rattle.asn1_schema_versions.proofs.Fields.{gains_additions, grown_field, no_fields, same_tags};
-ghost use Rattle.asn1_schema_versions.proofs.Fields.{sequence_extends, set_gains_additions};
-ghost use Rattle.asn1_schema_versions.proofs.Unfolding.{constant_unfolds, field_unfolds, no_fields_unfold};
-ghost use Rattle.asn1_schema_versions.proofs.Unfolding.{sequence_unfolds, set_unfolds};
+ghost use Rattle.asn1_schema_authored.proofs.Defaults.{default_gains};
+ghost use Rattle.asn1_schema_authored.proofs.Fields.{gains_additions, grown_field, no_fields, same_tags};
+ghost use Rattle.asn1_schema_authored.proofs.Fields.{sequence_extends, set_gains_additions};
+ghost use Rattle.asn1_schema_authored.proofs.Unfolding.{constant_unfolds, field_unfolds, no_fields_unfold};
+ghost use Rattle.asn1_schema_authored.proofs.Unfolding.{sequence_unfolds, set_unfolds};
 ghost use Rattle.asn1_relay_types.specs.Defaults.{flag_table, new_true_stands, old_true_stands, one_optional};
 ghost use Rattle.asn1_relay_vectors_types.specs.Growing.{bag_extends, boolean_stays, group_extends, optional_stays};
 ghost use Rattle.asn1_relay_vectors_types.specs.Growing.{required_stays};
@@ -27,7 +27,7 @@ use asn1_schema::{
     SetOf, Tag, TwoAdditions,
 };
 use asn1_schema_example::grown::GrownFields;
-use asn1_schema_versions::{Extends, ExtendsComponents};
+use asn1_schema::{Extends, ExtendsComponents};
 use asn1_values::{Integer, OctetString};
 use std::alloc::Global;
 

@@ -5,7 +5,7 @@ use Rattle.asn1_schema_tags.specs.Trees.{leaves_of}
 use Rattle.asn1_schema_tags.specs.declared.tags.Tag.{Tag}
 use Rattle.asn1_schema_tags.specs.declared.trees.TagTree.TheVariants.{Leaf}
 use Rattle.asn1_schema_tags.proofs.TreeLaws.{leaves_leaf}
-pub use Rattle.asn1_schema_constructed.proofs.Counting.{count_marks}
+pub use Rattle.asn1_schema_constructed.proofs.Counting.{count_presence_bits}
 pub use Rattle.asn1_schema_constructed.proofs.Distinct.{one_name_of}
 pub use Rattle.asn1_schema_constructed.proofs.SetValues.{type_set, value_set}
 pub use Rattle.asn1_schema_authored.proofs.ChoiceShaping.{choice_of, none, of_addition, of_root, one}
@@ -18,7 +18,7 @@ pub use Rattle.asn1_schema_decode.proofs.Listing.{ReadsFrom, from_close, from_en
 pub use Rattle.asn1_schema_decode.proofs.Listing.{from_start, from_stuck, reads_list, unread_list, unread_list_here}
 pub use Rattle.asn1_schema_decode.proofs.Reading.{reads_as, reads_end, reads_field, reads_left_out, reads_required}
 pub use Rattle.asn1_schema_decode.proofs.Reading.{reads_sequence, reads_there, unread_as, unread_end, unread_field}
-pub use Rattle.asn1_schema_decode.proofs.Reading.{unread_field_here, unread_mark, unread_marked, unread_required}
+pub use Rattle.asn1_schema_decode.proofs.Reading.{unread_field_here, unread_presence_bit, unread_marked, unread_required}
 pub use Rattle.asn1_schema_decode.proofs.Reading.{unread_sequence, unread_sequence_here}
 pub use Rattle.asn1_schema_encode.proofs.Going.{failed_before_part, failed_before_value, passed}
 pub use Rattle.asn1_schema_encode.proofs.Writing.{cannot_as, cannot_end, cannot_field, cannot_field_here}

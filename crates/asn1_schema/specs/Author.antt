@@ -3,7 +3,8 @@
 unfoldable pub use Rattle.asn1_model.specs.Lawful.{is_lawful}
 pub use Rattle.asn1_model.specs.Numbers.{is_count_within}
 pub use Rattle.asn1_model.specs.Schema.{Schema, Tag, cut, enumerated, integer, optional, required, utf8}
-pub use Rattle.asn1_model.specs.Types.{any_count, any_size, context}
+pub use Rattle.asn1_model.specs.Schema.{any_count, any_size}
+pub use Rattle.asn1_model.specs.Types.{context}
 pub use Rattle.asn1_model.specs.Value.{Parts, Value, Values, absent, arcs, bit_list, end, fields, item, member}
 pub use Rattle.asn1_model.specs.Value.{members, no_more}
 pub use Rattle.asn1_model.specs.Value.{nothing, number, octet_list, present, text, truth}

@@ -6,24 +6,24 @@ use Rattle.asn1_model.specs.Normal.{is_group_left_out}
 use Rattle.asn1_schema_faults.specs.declared.EncodeError.{EncodeError}
 use Rattle.asn1_schema_presented.specs.Records.{Record, group_begins, ends}
 use Rattle.asn1_schema_presented.specs.Presents.{left_out, there, presents, noted, root_records, Fits}
-use Rattle.asn1_schema_presented.specs.Tables.{Table, components_at, marks, scope}
+use Rattle.asn1_schema_presented.specs.Tables.{Table, components_at, presence_bits, scope}
 use Rattle.asn1_schema_presented.specs.Parts.{normal_part, part_unless}
 use Rattle.asn1_schema_presented.specs.Typed.{IsPart}
 use Rattle.asn1_schema_presented.specs.Chains.{Chain, OneAfter}
-use Rattle.asn1_schema_presented.proofs.Joined.{marks_at}
+use Rattle.asn1_schema_presented.proofs.Joined.{presence_bits_at}
 use Rattle.asn1_schema_encode.specs.Writes.{Refused, Writes, CannotWrite, WritesTail, CannotWriteTail}
 use Rattle.asn1_schema_presented.specs.Additions.{group_type, IsGroup}
 use Rattle.asn1_schema_additions.specs.Writes.{WritesEnclosed, CannotWriteEnclosed, WritesAddition, CannotWriteAddition}
 use Rattle.asn1_schema_additions.proofs.Extending.{group_tail, group_fits}
 use Rattle.asn1_schema_additions.proofs.Writing.{writes_addition, cannot_addition}
 
-module _ {S : Type 0} {step : S → Record → S → Type 0} {t : Table} (g : IsGroup t) {k : ℕ} (e : k ≡ marks t.root) {ps qs : Parts} (q : qs ≡ end) where
+module _ {S : Type 0} {step : S → Record → S → Type 0} {t : Table} (g : IsGroup t) {k : ℕ} (e : k ≡ presence_bits t.root) {ps qs : Parts} (q : qs ≡ end) where
   pub writes_group : {a b c : S} → step a (group_begins k) b → WritesTail step t ps qs b c → Writes step (group_type t) (fields ps end) a c
   unfolding group_type scope presents Fits
   writes_group {a} {b} {c} h w = record {
     chain = λ n. elim n as (λ n. Fits (scope n (λ m. group (components_at m t.root))) (fields ps end) → Chain step (presents (scope n (λ m. group (components_at m t.root))) (fields ps end)) a c) [
       | zero ↦ λ f. absurd f
-      | suc j ↦ λ f. (b, subst (λ (i : ℕ). step a (group_begins i) b) (e ∙ sym (marks_at j t.root)) h, subst (λ rs. Chain step rs b c) (group_tail j g ps q) (w.chain j (group_fits j g ps q f.0)))
+      | suc j ↦ λ f. (b, subst (λ (i : ℕ). step a (group_begins i) b) (e ∙ sym (presence_bits_at j t.root)) h, subst (λ rs. Chain step rs b c) (group_tail j g ps q) (w.chain j (group_fits j g ps q f.0)))
     ];
   }
 
@@ -32,7 +32,7 @@ module _ {S : Type 0} {step : S → Record → S → Type 0} {t : Table} (g : Is
   cannot_group_here {a} h = record {
     none = λ w n c. elim n as (λ n. Fits (scope n (λ m. group (components_at m t.root))) (fields ps end) → Chain step (presents (scope n (λ m. group (components_at m t.root))) (fields ps end)) a c → ⊥) [
       | zero ↦ λ f p. f
-      | suc j ↦ λ f p. h.none w p.0 (subst (λ (i : ℕ). step a (group_begins i) p.0) (marks_at j t.root ∙ sym e) p.1)
+      | suc j ↦ λ f p. h.none w p.0 (subst (λ (i : ℕ). step a (group_begins i) p.0) (presence_bits_at j t.root ∙ sym e) p.1)
     ];
   }
 
@@ -42,7 +42,7 @@ module _ {S : Type 0} {step : S → Record → S → Type 0} {t : Table} (g : Is
     none = λ w n c. elim n as (λ n. Fits (scope n (λ m. group (components_at m t.root))) (fields ps end) → Chain step (presents (scope n (λ m. group (components_at m t.root))) (fields ps end)) a c → ⊥) [
       | zero ↦ λ f p. f
       | suc j ↦ λ f p.
-          let i = one a (group_begins k) p.0 b (subst (λ (i : ℕ). step a (group_begins i) p.0) (marks_at j t.root ∙ sym e) p.1) h in
+          let i = one a (group_begins k) p.0 b (subst (λ (i : ℕ). step a (group_begins i) p.0) (presence_bits_at j t.root ∙ sym e) p.1) h in
           let r = subst (λ (s : S). Chain step (root_records (components_at j t.root) ps (ends ∷ [])) s c) i p.2 in
           z.none w j c (group_fits j g ps q f.0) (subst (λ rs. Chain step rs b c) (sym (group_tail j g ps q)) r)
     ];

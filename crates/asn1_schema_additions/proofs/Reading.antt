@@ -35,8 +35,8 @@ no_root step n fs end qs a c f p = p
 no_root step n fs (present v ps) qs a c f p = absurd f
 no_root step n fs (absent ps) qs a c f p = absurd f
 
-behind_mark : {S : Type 0} (step : S → Record → S → Type 0) (n : ℕ) (fs : Fields) (ps qs : Parts) (a c : S) → PartsFit (components_at n no_field) ps → Chain step (root_records (components_at n no_field) ps (additions_begin (component_count (components_at n fs)) ∷ added_records (components_at n fs) qs)) a c → (b : S) × step a (additions_begin (addition_count fs)) b × Chain step (added_records (components_at n fs) qs) b c
-behind_mark step n fs ps qs a c f p = no_root step n fs ps qs a c f (subst (λ (i : ℕ). Chain step (root_records (components_at n no_field) ps (additions_begin i ∷ added_records (components_at n fs) qs)) a c) (count_at n fs) p)
+behind_extension_bit : {S : Type 0} (step : S → Record → S → Type 0) (n : ℕ) (fs : Fields) (ps qs : Parts) (a c : S) → PartsFit (components_at n no_field) ps → Chain step (root_records (components_at n no_field) ps (additions_begin (component_count (components_at n fs)) ∷ added_records (components_at n fs) qs)) a c → (b : S) × step a (additions_begin (addition_count fs)) b × Chain step (added_records (components_at n fs) qs) b c
+behind_extension_bit step n fs ps qs a c f p = no_root step n fs ps qs a c f (subst (λ (i : ℕ). Chain step (root_records (components_at n no_field) ps (additions_begin i ∷ added_records (components_at n fs) qs)) a c) (count_at n fs) p)
 
 -- a type that is no group leaves nothing out as one
 no_group_left : {ts : List Tag} {t : ℕ → Schema} → IsType ts t → (n : ℕ) (v : Value) → is_group_left_out (t n) v ≡ false
@@ -122,7 +122,7 @@ module _ {S : Type 0} {step : S → Record → S → Type 0} where
   unread_more_here ts {o} {s} fs {n} {a} h = record { none = λ w qs c f p. let d = parts_of n ts o s fs qs a c f p in h.none w d.0 d.2 d.3 d.5 }
 
   pub unread_additions_here : {fs : Fields} {n : ℕ} {k : ℕ} {a : S} {x : DecodeError} → k ≡ addition_count fs → NoRecord step (asks_additions k) a x → UnreadTail step (marked_table fs) n a x
-  unread_additions_here {fs} {n} {k} {a} e h = record { none = λ w ps qs c f p. let d = behind_mark step n fs ps qs a c f.0 p in h.none w (additions_begin (addition_count fs)) d.0 (ap asks_additions (sym e)) d.1 }
+  unread_additions_here {fs} {n} {k} {a} e h = record { none = λ w ps qs c f p. let d = behind_extension_bit step n fs ps qs a c f.0 p in h.none w (additions_begin (addition_count fs)) d.0 (ap asks_additions (sym e)) d.1 }
 
 module _ {S : Type 0} {step : S → Record → S → Type 0} (one : OneRecord step) where
   after : OneAfter step
@@ -158,7 +158,7 @@ module _ {S : Type 0} {step : S → Record → S → Type 0} (one : OneRecord st
   pub unread_additions : {fs : Fields} {n : ℕ} {k : ℕ} {a b : S} {x : DecodeError} → k ≡ addition_count fs → step a (additions_begin k) b → UnreadAdded step fs n b x → UnreadTail step (marked_table fs) n a x
   unread_additions {fs} {n} {k} {a} {b} e h r = record {
     none = λ w ps qs c f p.
-        let d = behind_mark step n fs ps qs a c f.0 p in
+        let d = behind_extension_bit step n fs ps qs a c f.0 p in
         let q = subst (λ (i : ℕ). step a (additions_begin i) d.0) (sym e) d.1 in
         r.none w qs c f.1 (subst (λ (z : S). Chain step (added_records (components_at n fs) qs) z c) (after a (additions_begin k) d.0 b q h) d.2);
   }

@@ -3,7 +3,7 @@ use Rattle.std.specs.Prelude.{◌≡◌, ℕ, Bool, true, false, cond, List, [],
 use Rattle.asn1_model.specs.Schema.{Tag, Schema}
 use Rattle.asn1_model.specs.Value.{Value, Parts, fields}
 use Rattle.asn1_schema_presented.specs.Records.{Record, Question, sequence_begins, set_begins, asks_sequence, asks_set}
-use Rattle.asn1_schema_presented.specs.Tables.{Table, IsType, IsValue, marks}
+use Rattle.asn1_schema_presented.specs.Tables.{Table, IsType, IsValue, presence_bits}
 use Rattle.asn1_schema_constructed.specs.Constructed.{Form, sequence_form, set_form, constructed_type, sequence_tags}
 use Rattle.asn1_schema_authored.specs.declared.composites.Heading.{Heading}
 
@@ -48,8 +48,8 @@ shape_through f s = record {
 -- What stands in front of the components of a shape.
 pub record IsHeading (h : Heading) (k : Form) (t : Table) : Type 0 where
   pub form : h.set ≡ is_set k
-  pub mark : h.extensible ≡ t.extensible
-  pub marks : h.optional ≡ marks t.root
+  pub marker : h.extensible ≡ t.extensible
+  pub presence_bits : h.optional ≡ presence_bits t.root
 
 -- The record with which it begins, and what a decoder asks for there.
 abbrev pub begins : Form → Bool → ℕ → Record

@@ -1,6 +1,7 @@
 //! CHOICE (X.680 29) as a type around an enum of a program's own.
 ghost use Rattle.std.specs.Prelude.{◌≡◌, [], true, false, map, refl, MatchOption, IfOk, IfErr, OnErr, OnOk};
 ghost use Rattle.asn1_schema_constraints.specs.Terms.{no_constraint};
+ghost use Rattle.asn1_schema_tags.specs.Places.{is_table_of};
 ghost use Rattle.asn1_schema_tags.specs.Tags.{tag_of};
 ghost use Rattle.asn1_schema_tags.specs.Trees.{leaves};
 ghost use Rattle.asn1_schema_encode.specs.Writes.{Writes, CannotWrite};
@@ -16,7 +17,7 @@ use asn1_schema_constructed::{
 use asn1_schema_decode::{Decode, Decoder};
 use asn1_schema_encode::{Encode, Encoder};
 use asn1_schema_faults::{DecodeError, EncodeError};
-use asn1_schema_tags::{Identifier, Tag, TagTree};
+use asn1_schema_tags::{Identifier, Tag, TagPlace, TagTree};
 use asn1_schema_types::{AsnType, Described};
 use asn1_schema_variants::Chosen;
 use std::alloc::Global;
@@ -42,6 +43,11 @@ pub trait ChoiceAlternatives: Drop {
     fn extended_variants() -> Option<&'static [Tag]>
         ensures { MatchOption result ((false ≡ shape.table.extensible) × ([] ≡ tags_of shape.table.additions))
             (λ tags. (true ≡ shape.table.extensible) × (map tag_of tags.now ≡ tags_of shape.table.additions)) };
+
+    /// The tags of all alternatives in ascending order (X.680 8.6), each with its place: those of `variants()` come
+    /// before those of `extended_variants()`.
+    fn places() -> &'static [TagPlace]
+        ensures { is_table_of result.now (all_tags shape.table) ≡ true };
 
     /// Which alternative the value is.
     fn chosen(&self) -> Chosen
@@ -147,6 +153,10 @@ impl<T: ChoiceAlternatives> Alternatives for ChoiceOf<T> {
 
     fn extended_variants() -> Option<&'static [Tag]> {
         T::extended_variants()
+    }
+
+    fn places() -> &'static [TagPlace] {
+        T::places()
     }
 
     ghost tagged = { refl };

@@ -9,21 +9,21 @@ use Rattle.asn1_schema_constraints.specs.declared.extensions.PermittedAlphabet.{
 use Rattle.asn1_schema_constraints.specs.declared.lists.Constraint.{Constraint}
 use Rattle.asn1_schema_constraints.specs.declared.lists.Constraints.{Constraints}
 use Rattle.asn1_schema_constraints.specs.Bounds.{admits_number, admits_count}
-use Rattle.asn1_schema_constraints.specs.Sets.{unconstrained, alone, both_parts, later_mark, met_values, met_sizes, later_alphabet, both, all_of, root_passes, admit_number, admit_count}
+use Rattle.asn1_schema_constraints.specs.Sets.{unconstrained, alone, both_parts, later_marker, met_values, met_sizes, later_alphabet, both, all_of, root_passes, admit_number, admit_count}
 use Rattle.asn1_schema_constraints.proofs.Meets.{meet_groups}
 use Rattle.asn1_schema_constraints.proofs.Common.{number_order, count_order, number_meet_admits, count_meet_admits}
 
 -- ---- three constraints may be grouped either way
 
-marks_join : {X : Type 0} (a b c : Option X) → later_mark (later_mark a b) c ≡ later_mark a (later_mark b c)
-marks_join a b None = refl
-marks_join a b (Some c) = refl
+markers_join : {X : Type 0} (a b c : Option X) → later_marker (later_marker a b) c ≡ later_marker a (later_marker b c)
+markers_join a b None = refl
+markers_join a b (Some c) = refl
 
 parts_group : {X : Type 0} (met : X → X → X) → ((a b c : X) → met (met a b) c ≡ met a (met b c)) → (x y z : Option (Extensible X))
     → both_parts met (both_parts met x y) z ≡ both_parts met x (both_parts met y z)
 parts_group met groups (Some a) (Some b) (Some c) =
-    ap (λ root. Some (record { constraint = root; extensible = later_mark (later_mark a.extensible b.extensible) c.extensible })) (groups a.constraint b.constraint c.constraint)
-    ∙ ap (λ marks. Some (record { constraint = met a.constraint (met b.constraint c.constraint); extensible = marks })) (marks_join a.extensible b.extensible c.extensible)
+    ap (λ root. Some (record { constraint = root; extensible = later_marker (later_marker a.extensible b.extensible) c.extensible })) (groups a.constraint b.constraint c.constraint)
+    ∙ ap (λ markers. Some (record { constraint = met a.constraint (met b.constraint c.constraint); extensible = markers })) (markers_join a.extensible b.extensible c.extensible)
 parts_group met groups (Some a) (Some b) None = refl
 parts_group met groups (Some a) None z = refl
 parts_group met groups None y z = refl
@@ -37,9 +37,9 @@ sizes_group a b c = ap (λ bounds. record { range = bounds }) (meet_groups leb c
 alphabets_group : (a b c : PermittedAlphabet) → later_alphabet (later_alphabet a b) c ≡ later_alphabet a (later_alphabet b c)
 alphabets_group a b c = refl
 
-marks_group : (a b c : Bool) → ((a || b) || c) ≡ (a || (b || c))
-marks_group true b c = refl
-marks_group false b c = refl
+markers_group : (a b c : Bool) → ((a || b) || c) ≡ (a || (b || c))
+markers_group true b c = refl
+markers_group false b c = refl
 
 -- constraints that agree kind by kind are the same
 by_kinds : {v v' : Option (Extensible Value)} {s s' : Option (Extensible Size)} {a a' : Option (Extensible PermittedAlphabet)} {m m' : Bool}
@@ -57,7 +57,7 @@ both_groups a b c = by_kinds
     (parts_group met_values values_group a.value b.value c.value)
     (parts_group met_sizes sizes_group a.size b.size c.size)
     (parts_group later_alphabet alphabets_group a.permitted_alphabet b.permitted_alphabet c.permitted_alphabet)
-    (marks_group a.is_marked b.is_marked c.is_marked)
+    (markers_group a.is_marked b.is_marked c.is_marked)
 
 -- ---- no constraint changes nothing
 

@@ -9,12 +9,12 @@ use Rattle.asn1_schema_constraints.specs.declared.extensions.PermittedAlphabet.{
 use Rattle.asn1_schema_constraints.specs.declared.lists.Constraint.{Constraint}
 use Rattle.asn1_schema_constraints.specs.declared.lists.Constraint.TheVariants.{Value as OfValue, Size as OfSize}
 use Rattle.asn1_schema_constraints.specs.declared.lists.Constraint.TheVariants.{PermittedAlphabet as OfAlphabet}
-use Rattle.asn1_schema_constraints.specs.declared.lists.Constraint.TheVariants.{Extensible as Mark}
+use Rattle.asn1_schema_constraints.specs.declared.lists.Constraint.TheVariants.{Extensible as Marker}
 use Rattle.asn1_schema_constraints.specs.declared.lists.ConstraintDiscriminant.{ConstraintDiscriminant}
 use Rattle.asn1_schema_constraints.specs.declared.lists.ConstraintDiscriminant.TheVariants.{Value as ValueKind}
 use Rattle.asn1_schema_constraints.specs.declared.lists.ConstraintDiscriminant.TheVariants.{Size as SizeKind}
 use Rattle.asn1_schema_constraints.specs.declared.lists.ConstraintDiscriminant.TheVariants.{PermittedAlphabet as AlphabetKind}
-use Rattle.asn1_schema_constraints.specs.declared.lists.ConstraintDiscriminant.TheVariants.{Extensible as MarkKind}
+use Rattle.asn1_schema_constraints.specs.declared.lists.ConstraintDiscriminant.TheVariants.{Extensible as MarkerKind}
 use Rattle.asn1_schema_constraints.specs.declared.lists.Constraints.{Constraints}
 
 -- The kind of a constraint.
@@ -22,14 +22,14 @@ abbrev pub kind_of : Constraint → ConstraintDiscriminant
 kind_of (OfValue c) = ValueKind
 kind_of (OfSize c) = SizeKind
 kind_of (OfAlphabet c) = AlphabetKind
-kind_of Mark = MarkKind
+kind_of Marker = MarkerKind
 
 -- The number of a kind.
 abbrev pub kind_number : ConstraintDiscriminant → ℕ
 kind_number ValueKind = 0
 kind_number SizeKind = 1
 kind_number AlphabetKind = 2
-kind_number MarkKind = 3
+kind_number MarkerKind = 3
 
 -- The constraint on a value, where it is one.
 abbrev pub value_part : Constraint → Option (Extensible Value)
@@ -51,11 +51,11 @@ abbrev pub has_additions : {X : Type 0} → Extensible X → Bool
 has_additions c = is_some c.extensible
 
 -- Whether a constraint has an extension marker, or is the extension marker of its type.
-abbrev pub has_mark : Constraint → Bool
-has_mark (OfValue c) = has_additions c
-has_mark (OfSize c) = has_additions c
-has_mark (OfAlphabet c) = has_additions c
-has_mark Mark = true
+abbrev pub has_marker : Constraint → Bool
+has_marker (OfValue c) = has_additions c
+has_marker (OfSize c) = has_additions c
+has_marker (OfAlphabet c) = has_additions c
+has_marker Marker = true
 
 -- Whether there is a constraint and it has an extension marker.
 abbrev pub is_extended : {X : Type 0} → Option (Extensible X) → Bool
@@ -75,19 +75,19 @@ abbrev pub alone : Constraint → Constraints
 alone (OfValue c) = record unconstrained { value = Some c }
 alone (OfSize c) = record unconstrained { size = Some c }
 alone (OfAlphabet c) = record unconstrained { permitted_alphabet = Some c }
-alone Mark = record unconstrained { is_marked = true }
+alone Marker = record unconstrained { is_marked = true }
 
 -- What is behind the later extension marker, or else behind the earlier one.
-abbrev pub later_mark : {X : Type 0} → Option X → Option X → Option X
-later_mark a None = a
-later_mark a (Some b) = Some b
+abbrev pub later_marker : {X : Type 0} → Option X → Option X → Option X
+later_marker a None = a
+later_marker a (Some b) = Some b
 
 -- Two constraints of a kind, applied in turn: the roots met, with an extension marker where either has one (X.680 50
 -- and 52).
 abbrev pub in_turn : {X : Type 0} → (X → X → X) → Extensible X → Extensible X → Extensible X
 in_turn met a b = record {
   constraint = met a.constraint b.constraint;
-  extensible = later_mark a.extensible
+  extensible = later_marker a.extensible
       b.extensible;
 }
 

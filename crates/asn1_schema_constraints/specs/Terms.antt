@@ -90,8 +90,8 @@ no_constraint = record {
 -- A value constraint: the least and the greatest number, where they are given, and whether an extension marker follows
 -- (X.680 51.4 and 52).
 abbrev pub bounded_by : Option ℤ → Option ℤ → Bool → Meant
-bounded_by low high mark = record no_constraint {
-  bounds = record { range = record { low = low; high = high }; extensible = mark };
+bounded_by low high is_extensible = record no_constraint {
+  bounds = record { range = record { low = low; high = high }; extensible = is_extensible };
   is_bounded = true;
 }
 
@@ -102,8 +102,8 @@ from_to low high = bounded_by (Some low) (Some high) false
 -- A size constraint: the least size, the greatest where it is given, and whether an extension marker follows (X.680
 -- 51.5 and 52).
 abbrev pub sized : ℕ → Option ℕ → Bool → Meant
-sized low high mark = record no_constraint {
-  size = record { counts = record { low = low; high = high }; extensible = mark };
+sized low high is_extensible = record no_constraint {
+  size = record { counts = record { low = low; high = high }; extensible = is_extensible };
 }
 
 -- INTEGER under constraints, held in a type of the program that holds these numbers (X.680 19).

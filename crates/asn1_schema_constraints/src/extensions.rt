@@ -58,7 +58,7 @@ impl<'a, T> Extensible<'a, T> {
     /// This constraint, without an extension marker.
     pub fn new(constraint: T) -> Self
         ensures root { result.constraint ≡ constraint }
-        ensures mark { result.extensible ≡ None }
+        ensures marker { result.extensible ≡ None }
     {
         Extensible {
             constraint,
@@ -69,7 +69,7 @@ impl<'a, T> Extensible<'a, T> {
     /// This constraint, and behind its extension marker these ones.
     pub fn new_extensible(constraint: T, constraints: &'a [T]) -> Self
         ensures root { result.constraint ≡ constraint }
-        ensures mark { result.extensible ≡ Some constraints.entry }
+        ensures marker { result.extensible ≡ Some constraints.entry }
     {
         Extensible {
             constraint,
@@ -80,7 +80,7 @@ impl<'a, T> Extensible<'a, T> {
     /// The same root with an extension marker and nothing behind it, or without an extension marker.
     pub fn set_extensible(self, extensible: bool) -> Self
         ensures root { result.constraint ≡ self.entry.constraint }
-        ensures mark { is_some result.extensible ≡ extensible }
+        ensures marker { is_some result.extensible ≡ extensible }
         ensures nothing { IfSome result.extensible (λ additions. additions.now ≡ []) }
     {
         self.extensible_with_constraints(if extensible { Some(&[]) } else { None })
@@ -89,7 +89,7 @@ impl<'a, T> Extensible<'a, T> {
     /// The same root, and behind its extension marker these constraints, or without an extension marker.
     pub fn extensible_with_constraints(self, constraints: Option<&'a [T]>) -> Self
         ensures root { result.constraint ≡ self.entry.constraint }
-        ensures mark { result.extensible ≡ constraints.entry }
+        ensures marker { result.extensible ≡ constraints.entry }
     {
         Extensible {
             constraint: self.constraint,

@@ -3,7 +3,7 @@ ghost use Rattle.std.specs.Prelude.{◌≡◌, ℕ, ℤ, ◌&&◌, Some, None, f
 ghost use Rattle.asn1_model.specs.Strings.{each_is};
 ghost use Rattle.std.specs.Option.{option_copied};
 ghost use Rattle.asn1_schema_constraints.specs.Sets.{alone, kind_of, kind_number, value_part, size_part, alphabet_part};
-ghost use Rattle.asn1_schema_constraints.specs.Sets.{has_mark, unconstrained, both_parts, met_values, met_sizes};
+ghost use Rattle.asn1_schema_constraints.specs.Sets.{has_marker, unconstrained, both_parts, met_values, met_sizes};
 ghost use Rattle.asn1_schema_constraints.specs.Sets.{later_alphabet, both, all_of, is_marked, admit_number};
 ghost use Rattle.asn1_schema_constraints.specs.Sets.{admit_count};
 ghost use Rattle.asn1_schema_constraints.specs.declared.lists.Constraint.TheVariants.{Value as OfValue, Size as OfSize};
@@ -101,7 +101,7 @@ impl<'a> Constraint<'a> {
 
     /// Whether it has an extension marker, or is one.
     pub fn is_extensible(&self) -> bool
-        ensures { result ≡ has_mark self.now }
+        ensures { result ≡ has_marker self.now }
     {
         match self {
             Constraint::Value(value) => value.extensible.is_some(),

@@ -6,18 +6,18 @@ use Rattle.asn1_schema_faults.specs.declared.EncodeError.{EncodeError}
 use Rattle.asn1_schema_presented.specs.Records.{Record, set_begins}
 use Rattle.asn1_schema_presented.specs.Presents.{presents, optional_count, Fits}
 use Rattle.asn1_schema_presented.specs.Parts.{tail_records}
-use Rattle.asn1_schema_presented.specs.Tables.{Table, components_at, marks, scope}
+use Rattle.asn1_schema_presented.specs.Tables.{Table, components_at, presence_bits, scope}
 use Rattle.asn1_schema_presented.specs.Chains.{Chain, OneAfter}
-use Rattle.asn1_schema_presented.proofs.Joined.{marks_at}
+use Rattle.asn1_schema_presented.proofs.Joined.{presence_bits_at}
 use Rattle.asn1_schema_encode.specs.Writes.{Refused, Writes, CannotWrite, WritesTail, CannotWriteTail}
 use Rattle.asn1_schema_constructed.specs.Sets.{set_type}
 
-module _ {S : Type 0} (step : S → Record → S → Type 0) (t : Table) {x : Bool} {k : ℕ} (e : k ≡ marks t.root) (f : t.extensible ≡ x) where
+module _ {S : Type 0} (step : S → Record → S → Type 0) (t : Table) {x : Bool} {k : ℕ} (e : k ≡ presence_bits t.root) (f : t.extensible ≡ x) where
   by_table : (n : ℕ) {a b : S} → step a (set_begins x k) b → step a (set_begins t.extensible (optional_count (components_at n t.root))) b
-  by_table n {a} {b} h = subst (λ (i : ℕ). step a (set_begins t.extensible i) b) (e ∙ sym (marks_at n t.root)) (subst (λ (y : Bool). step a (set_begins y k) b) (sym f) h)
+  by_table n {a} {b} h = subst (λ (i : ℕ). step a (set_begins t.extensible i) b) (e ∙ sym (presence_bits_at n t.root)) (subst (λ (y : Bool). step a (set_begins y k) b) (sym f) h)
 
   not_by_table : (n : ℕ) {a b : S} → step a (set_begins t.extensible (optional_count (components_at n t.root))) b → step a (set_begins x k) b
-  not_by_table n {a} {b} h = subst (λ (i : ℕ). step a (set_begins x i) b) (marks_at n t.root ∙ sym e) (subst (λ (y : Bool). step a (set_begins y (optional_count (components_at n t.root))) b) f h)
+  not_by_table n {a} {b} h = subst (λ (i : ℕ). step a (set_begins x i) b) (presence_bits_at n t.root ∙ sym e) (subst (λ (y : Bool). step a (set_begins y (optional_count (components_at n t.root))) b) f h)
 
   pub writes_set : {ps qs : Parts} {a b c : S} → step a (set_begins x k) b → WritesTail step t ps qs b c → Writes step (set_type t) (fields ps qs) a c
   unfolding scope presents Fits

@@ -2,16 +2,16 @@
 ghost use Rattle.std.specs.Prelude.{◌≡◌, ℕ, List, [], true, false, map, MatchOption, IfOk, IfErr, OnErr};
 ghost use Rattle.asn1_model.specs.Value.{Value};
 ghost use Rattle.asn1_schema_constraints.specs.Terms.{Meant};
+ghost use Rattle.asn1_schema_tags.specs.Places.{is_table_of};
 ghost use Rattle.asn1_schema_tags.specs.Tags.{tag_of};
 ghost use Rattle.asn1_schema_variants.specs.declared.chosen.Chosen.{Chosen};
 ghost use Rattle.asn1_schema_encode.specs.Writes.{Writes, CannotWrite};
 ghost use Rattle.asn1_schema_constructed.specs.Tables.{Choices, tags_of, all_tags, choice_type};
 ghost use Rattle.asn1_schema_constructed.specs.Chosen.{chosen_type, chosen_value, IsTag, AreTold, of_tag};
-ghost use Rattle.asn1_schema_tags.specs.Trees.{place_of};
 
 use asn1_schema_encode::Encoder;
 use asn1_schema_faults::EncodeError;
-use asn1_schema_tags::Tag;
+use asn1_schema_tags::{Tag, TagPlace, TagTables};
 use asn1_schema_types::AsnType;
 use asn1_schema_variants::Chosen;
 
@@ -28,6 +28,11 @@ pub trait Alternatives: AsnType {
     fn extended_variants() -> Option<&'static [Tag]>
         ensures { MatchOption result ((false ≡ table.extensible) × ([] ≡ tags_of table.additions))
             (λ tags. (true ≡ table.extensible) × (map tag_of tags.now ≡ tags_of table.additions)) };
+
+    /// The tags of all alternatives in ascending order (X.680 8.6), each with its place: those of `variants()` come
+    /// before those of `extended_variants()`.
+    fn places() -> &'static [TagPlace]
+        ensures { is_table_of result.now (all_tags table) ≡ true };
 
     /// The tags with which an encoding may begin are those of the alternatives (X.680 29).
     ghost tagged: { Self.tags ≡ all_tags table };
@@ -64,32 +69,13 @@ pub trait Choice: Alternatives {
 }
 
 /// What a codec is told of a choice.
-#[derive(Drop)]
-pub struct TagTables {
-    /// The tags of the root alternatives.
-    pub roots: &'static [Tag],
-    /// Whether there is an extension marker.
-    pub extensible: bool,
-    /// The tags of the added alternatives.
-    pub additions: &'static [Tag],
-}
-
-/// What a codec is told of a choice.
-pub fn tag_tables_of<T: Alternatives>() -> TagTables
-    ensures { AreTold T.table (map tag_of result.roots.now) result.extensible (map tag_of result.additions.now) }
+pub fn tag_tables_of<T: Alternatives>() -> TagTables<'static>
+    ensures told { AreTold T.table result.roots result.extensible result.additions }
+    ensures closed { result.extensible ≡ false → result.additions ≡ [] }
 {
-    let roots = T::variants();
     match T::extended_variants() {
-        Some(additions) => TagTables {
-            roots,
-            extensible: true,
-            additions,
-        },
-        None => TagTables {
-            roots,
-            extensible: false,
-            additions: &[],
-        },
+        Some(additions) => TagTables::new(T::variants(), true, additions, T::places()),
+        None => TagTables::new(T::variants(), false, &[], T::places()),
     }
 }
 
@@ -97,22 +83,5 @@ pub fn tag_tables_of<T: Alternatives>() -> TagTables
 pub fn alternative_of<T: Alternatives>(tag: Tag) -> Option<Chosen>
     ensures { result ≡ of_tag T.table (tag_of tag) }
 {
-    if let Some(place) = position_of(T::variants(), tag) {
-        return Some(Chosen::root(place));
-    }
-    let additions = T::extended_variants()?;
-    let place = position_of(additions, tag)?;
-    Some(Chosen::addition(place))
-}
-
-/// The place of the first of some tags that is this one.
-fn position_of(tags: &[Tag], tag: Tag) -> Option<usize>
-    ensures { result ≡ place_of (map tag_of tags.now) (tag_of tag) }
-{
-    for (place, own) in tags.iter().enumerate() {
-        if tag.const_eq(own) {
-            return Some(place);
-        }
-    }
-    None
+    tag_tables_of::<T>().alternative(tag)
 }

@@ -1,14 +1,14 @@
 //! Bags, as they are read.
-ghost use Rattle.std.specs.Prelude.{◌≡◌, ◌+◌, length, true, not, OnOk, IfOk, OnErr, IfErr};
-ghost use Rattle.asn1_model.specs.Numbers.{is_count_to, is_count_within};
+ghost use Rattle.std.specs.Prelude.{◌≡◌, length, true, OnOk, IfOk, OnErr, IfErr};
+ghost use Rattle.asn1_model.specs.Numbers.{is_count_within};
 ghost use Rattle.asn1_model.specs.Value.{bag};
 ghost use Rattle.asn1_schema_constraints.specs.Bounds.{members_of};
 ghost use Rattle.asn1_schema_presented.specs.Parts.{values_of};
 ghost use Rattle.asn1_schema_constructed.specs.Bags.{bag_under};
-ghost use Rattle.asn1_schema_decode.specs.Reads.{Reads, Unread, ReadsMembers, UnreadMembers};
+ghost use Rattle.asn1_schema_decode.specs.Reads.{Reads, Unread};
 
 use asn1_schema_constraints::{Bounded, Constraints};
-use asn1_schema_decode::{Decode, Decoder};
+use asn1_schema_decode::{Decode, Decoder, members_within};
 use asn1_schema_faults::DecodeError;
 use asn1_schema_tags::Tag;
 use std::alloc::Global;
@@ -44,45 +44,3 @@ pub trait DecodeBag: Decoder {
 }
 
 impl<D: Decoder> DecodeBag for D {}
-
-// The members of a bag that has so many, and its end.
-fn members_within<T: Decode, D: Decoder>(
-    alloc: Global,
-    decoder: &mut D,
-    held: Bounded<usize>,
-) -> Result<Vec<T>, DecodeError>
-    ensures ok { IfOk result
-        (λ x. ReadsMembers D.step T.schema (D.levels decoder.old) (values_of T.meaning x.items)
-        decoder.old decoder.new) }
-    ensures held { IfOk result (λ x. is_count_within (members_of held) (length x.items) ≡ true) }
-    ensures level { OnOk result (D.levels decoder.new ≡ D.levels decoder.old + 1) }
-    ensures only { IfErr result (UnreadMembers D.step T.schema (D.levels decoder.old) (members_of held) decoder.old) }
-    ensures failed { OnErr result (D.has_failed decoder.new) }
-    ensures after { result ≡ Err DecodeError.AlreadyFailed → D.has_failed decoder.old }
-{
-    let mut items = Vec::new(alloc);
-    while decoder.get_further()? {
-        if is_full(held, items.len()) {
-            return Err(decoder.refuse(DecodeError::SizeConstraintNotSatisfied));
-        }
-        let item = T::decode(alloc, decoder)?;
-        let Ok(()) = items.push(item) else {
-            return Err(decoder.refuse(DecodeError::OutOfMemory));
-        };
-    }
-    if !held.holds(items.len()) {
-        return Err(decoder.refuse(DecodeError::SizeConstraintNotSatisfied));
-    }
-    decoder.end()?;
-    Ok(items)
-}
-
-// Whether one more than this count is above bounds.
-fn is_full(held: Bounded<usize>, count: usize) -> bool
-    ensures { result ≡ not (is_count_to ((members_of held).high) (count + 1)) }
-{
-    match held.as_end() {
-        Some(end) => *end <= count,
-        None => count == usize::MAX,
-    }
-}

@@ -100,8 +100,7 @@ pub trait DecodeAlternatives: Decoder {
         ensures already { Self.has_failed self.old → result ≡ Err DecodeError.AlreadyFailed }
         ensures after { result ≡ Err DecodeError.AlreadyFailed → Self.has_failed self.old }
     {
-        let tables = tag_tables_of::<C>();
-        let chosen = self.begin_choice(tag, tables.roots, tables.extensible, tables.additions)?;
+        let chosen = self.begin_choice(tag, &tag_tables_of::<C>())?;
         Ok(chosen)
     }
 }

@@ -53,9 +53,9 @@ pub trait EncodeChoice: Encoder {
         let tables = tag_tables_of::<C>();
         self.begin_choice(
             tag,
-            tables.roots,
-            tables.extensible,
-            tables.additions,
+            tables.roots(),
+            tables.extensible(),
+            tables.additions(),
             chosen,
         )?;
         Ok(())

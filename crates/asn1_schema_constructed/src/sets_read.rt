@@ -1,7 +1,7 @@
 //! Sets, as they are read.
 ghost use Rattle.std.specs.Prelude.{◌≡◌, OnOk, OnErr, IfErr, IfOk};
 ghost use Rattle.asn1_model.specs.Value.{fields};
-ghost use Rattle.asn1_schema_presented.specs.Tables.{marks};
+ghost use Rattle.asn1_schema_presented.specs.Tables.{presence_bits};
 ghost use Rattle.asn1_schema_decode.specs.Reads.{Reads, Unread};
 ghost use Rattle.asn1_schema_constructed.specs.Sets.{set_type};
 
@@ -24,8 +24,8 @@ pub trait DecodeSet: Decoder {
     ) -> Result<C, DecodeError>
     where
         Self: Sized,
-        requires marks { optional ≡ marks C.table.root }
-        requires mark { C.table.extensible ≡ extensible }
+        requires presence_bits { optional ≡ presence_bits C.table.root }
+        requires marker { C.table.extensible ≡ extensible }
         ensures ok { IfOk result
             (λ x. Reads Self.step (set_type C.table) (Self.levels self.old) (fields (C.root x) (C.added x))
             self.old self.new) }

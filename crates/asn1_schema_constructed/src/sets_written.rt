@@ -1,7 +1,7 @@
 //! Sets, as they are written.
 ghost use Rattle.std.specs.Prelude.{◌≡◌, OnOk, OnErr, IfErr};
 ghost use Rattle.asn1_model.specs.Value.{fields};
-ghost use Rattle.asn1_schema_presented.specs.Tables.{marks};
+ghost use Rattle.asn1_schema_presented.specs.Tables.{presence_bits};
 ghost use Rattle.asn1_schema_encode.specs.Writes.{Writes, CannotWrite};
 ghost use Rattle.asn1_schema_constructed.specs.Sets.{set_type};
 
@@ -23,8 +23,8 @@ pub trait EncodeSet: Encoder {
     ) -> Result<(), EncodeError>
     where
         Self: Sized,
-        requires marks { optional ≡ marks C.table.root }
-        requires mark { C.table.extensible ≡ extensible }
+        requires presence_bits { optional ≡ presence_bits C.table.root }
+        requires marker { C.table.extensible ≡ extensible }
         ensures ok { OnOk result
             (Writes Self.step (set_type C.table) (fields (C.root components.now) (C.added components.now)) self.old
             self.new) }

@@ -4,7 +4,7 @@ use Rattle.asn1_model.specs.Value.{Value, same}
 use Rattle.asn1_model.specs.Schema.{Tag, optional, by_default, Schema}
 use Rattle.asn1_model.specs.Normal.{normal, is_at_default}
 use Rattle.asn1_schema_faults.specs.declared.DecodeError.{DecodeError}
-use Rattle.asn1_schema_presented.specs.Records.{Record, mark, is_default, asks_mark, asks_default}
+use Rattle.asn1_schema_presented.specs.Records.{Record, presence_bit, is_default, asks_presence_bit, asks_default}
 use Rattle.asn1_schema_presented.specs.Presents.{Part, left_out, there, presents, part_records, noted, Fits, PartFits}
 use Rattle.asn1_schema_presented.specs.Parts.{part_unless}
 use Rattle.asn1_schema_presented.specs.Tables.{IsType, IsValue}
@@ -16,44 +16,44 @@ use Rattle.asn1_schema_presented.proofs.Joined.{nothing_noted, marked_records}
 use Rattle.asn1_schema_decode.specs.Reads.{NoRecord, Reads, Unread, ReadsPart, UnreadPart, ReadsMarked, ReadsOptional, UnreadOptional, ReadsDefault, omitted, spelled_out, other_value, UnreadDefault}
 use Rattle.asn1_schema_decode.proofs.Reading.{reads_left_out, reads_there, reads_default, reads_equal, reads_other, reads_as}
 
-not_omitted : {S : Type 0} {step : S → Record → S → Type 0} → OneRecord step → {a b c : S} → step a (mark true) b → step a (mark false) c → ⊥
-not_omitted one {a} {b} {c} m q = let e : mark false ≡ mark true = (one a (mark false) (mark true) c b refl q m).0 in cc
+not_omitted : {S : Type 0} {step : S → Record → S → Type 0} → OneRecord step → {a b c : S} → step a (presence_bit true) b → step a (presence_bit false) c → ⊥
+not_omitted one {a} {b} {c} m q = let e : presence_bit false ≡ presence_bit true = (one a (presence_bit false) (presence_bit true) c b refl q m).0 in cc
 
 module _ {S : Type 0} {step : S → Record → S → Type 0} {s : ℕ → Schema} {n : ℕ} where
-  pub reads_marked : {v : Value} {a b c : S} → step a (mark true) b → Reads step s n v b c → ReadsMarked step s n v a c
-  reads_marked {b = b} m r = record { marked = b; marks = m; reads = r }
+  pub reads_marked : {v : Value} {a b c : S} → step a (presence_bit true) b → Reads step s n v b c → ReadsMarked step s n v a c
+  reads_marked {b = b} m r = record { marked = b; presence_bits = m; reads = r }
 
   -- ---- nothing is marked
-  pub unread_optional_here : {a : S} {x : DecodeError} → NoRecord step asks_mark a x → UnreadOptional step s n a x
-  unread_optional_here {a} h = record { none = λ w p c. elim p as (λ p. ReadsOptional step s n p a c → ⊥) [ left_out ↦ λ q. h.none w (mark false) c refl q | there v ↦ λ q. h.none w (mark true) q.marked refl q.marks ] }
+  pub unread_optional_here : {a : S} {x : DecodeError} → NoRecord step asks_presence_bit a x → UnreadOptional step s n a x
+  unread_optional_here {a} h = record { none = λ w p c. elim p as (λ p. ReadsOptional step s n p a c → ⊥) [ left_out ↦ λ q. h.none w (presence_bit false) c refl q | there v ↦ λ q. h.none w (presence_bit true) q.marked refl q.presence_bits ] }
 
-  pub unread_default_here : {d : Value} {a : S} {x : DecodeError} → NoRecord step asks_mark a x → UnreadDefault step s n d a x
+  pub unread_default_here : {d : Value} {a : S} {x : DecodeError} → NoRecord step asks_presence_bit a x → UnreadDefault step s n d a x
   unread_default_here {d} {a} h = record {
     none = λ w v c p. elim p [
-      | omitted e q ↦ h.none w (mark false) c refl q
-      | spelled_out e b q z ↦ h.none w (mark true) q.marked refl q.marks
-      | other_value e q ↦ h.none w (mark true) q.marked refl q.marks
+      | omitted e q ↦ h.none w (presence_bit false) c refl q
+      | spelled_out e b q z ↦ h.none w (presence_bit true) q.marked refl q.presence_bits
+      | other_value e q ↦ h.none w (presence_bit true) q.marked refl q.presence_bits
     ];
   }
 
   module _ (one : OneRecord step) where
     -- where it is marked as there
-    not_marked : {v : Value} {a b c : S} → step a (mark true) b → ((v : Value) (c : S) → Fits (s n) v → Chain step (presents (s n) v) b c → ⊥) → ReadsMarked step s n v a c → ⊥
+    not_marked : {v : Value} {a b c : S} → step a (presence_bit true) b → ((v : Value) (c : S) → Fits (s n) v → Chain step (presents (s n) v) b c → ⊥) → ReadsMarked step s n v a c → ⊥
     not_marked {v} {a} {b} {c} m h q =
-        let e = (one a (mark true) (mark true) q.marked b refl q.marks m).1 in
+        let e = (one a (presence_bit true) (presence_bit true) q.marked b refl q.presence_bits m).1 in
         h q.reads.raw c q.reads.fits (subst (λ (z : S). Chain step (presents (s n) q.reads.raw) z c) e q.reads.chain)
 
     -- what is read there is one value
-    same_marked : {v w : Value} {a b c d : S} → step a (mark true) b → Reads step s n v b c → ReadsMarked step s n w a d → (w ≡ v) × (d ≡ c)
+    same_marked : {v w : Value} {a b c d : S} → step a (presence_bit true) b → Reads step s n v b c → ReadsMarked step s n w a d → (w ≡ v) × (d ≡ c)
     same_marked {v} {w} {a} {b} {c} {d} m r q =
-        let e = (one a (mark true) (mark true) q.marked b refl q.marks m).1 in
+        let e = (one a (presence_bit true) (presence_bit true) q.marked b refl q.presence_bits m).1 in
         let k = one_value one (s n) q.reads.raw r.raw b d c q.reads.fits r.fits (subst (λ (z : S). Chain step (presents (s n) q.reads.raw) z d) e q.reads.chain) r.chain in
         (sym q.reads.means ∙ ap (λ y. normal (s n) y) k.0 ∙ r.means, k.1)
 
-    pub unread_optional : {a b : S} {x : DecodeError} → step a (mark true) b → Unread step s n b x → UnreadOptional step s n a x
+    pub unread_optional : {a b : S} {x : DecodeError} → step a (presence_bit true) b → Unread step s n b x → UnreadOptional step s n a x
     unread_optional {a} m h = record { none = λ w p c. elim p as (λ p. ReadsOptional step s n p a c → ⊥) [ left_out ↦ λ q. not_omitted one m q | there v ↦ λ q. not_marked m (h.none w) q ] }
 
-    pub unread_default : {d : Value} {a b : S} {x : DecodeError} → step a (mark true) b → Unread step s n b x → UnreadDefault step s n d a x
+    pub unread_default : {d : Value} {a b : S} {x : DecodeError} → step a (presence_bit true) b → Unread step s n b x → UnreadDefault step s n d a x
     unread_default m h = record {
       none = λ w v c p. elim p [
         | omitted e q ↦ not_omitted one m q
@@ -62,7 +62,7 @@ module _ {S : Type 0} {step : S → Record → S → Type 0} {s : ℕ → Schema
       ];
     }
 
-    pub unread_noted : {d v : Value} {a b c : S} {x : DecodeError} → same v d ≡ true → step a (mark true) b → Reads step s n v b c → NoRecord step asks_default c x → UnreadDefault step s n d a x
+    pub unread_noted : {d v : Value} {a b c : S} {x : DecodeError} → same v d ≡ true → step a (presence_bit true) b → Reads step s n v b c → NoRecord step asks_default c x → UnreadDefault step s n d a x
     unread_noted {d} {v} {c = c} f m r h = record {
       none = λ w u y p. elim p [
         | omitted e q ↦ not_omitted one m q
@@ -78,17 +78,17 @@ module _ {S : Type 0} {step : S → Record → S → Type 0} {s : ℕ → Schema
 
     pub part_optional_read : (p : Part) {a c : S} → ReadsOptional step s n p a c → ReadsPart step optional t n p a c
     part_optional_read left_out q = reads_left_out optional t n refl q
-    part_optional_read (there v) q = reads_there optional refl k q.marks (as_type q.reads) refl
+    part_optional_read (there v) q = reads_there optional refl k q.presence_bits (as_type q.reads) refl
 
     pub part_default_read : {d v : Value} {a c : S} → IsValue t d → ReadsDefault step s n d v a c → ReadsPart step (by_default d) t n (part_unless (same v d) v) a c
     part_default_read {d} {v} {a} {c} i p = elim p [
       | omitted f q ↦ reads_default f q
-      | spelled_out f b q z ↦ reads_equal i refl f q.marks (as_type q.reads) z
-      | other_value f q ↦ reads_other k i refl f q.marks (as_type q.reads)
+      | spelled_out f b q z ↦ reads_equal i refl f q.presence_bits (as_type q.reads) z
+      | other_value f q ↦ reads_other k i refl f q.presence_bits (as_type q.reads)
     ]
 
     -- what is of the type under its own constraints
-    of_type : (v : Value) {a : S} (b : S) {c : S} → step a (mark true) b → Fits (t n) v → Chain step (presents (t n) v) b c → ReadsMarked step s n (normal (t n) v) a c
+    of_type : (v : Value) {a : S} (b : S) {c : S} → step a (presence_bit true) b → Fits (t n) v → Chain step (presents (t n) v) b c → ReadsMarked step s n (normal (t n) v) a c
     of_type v {a} b {c} m f p = reads_marked m (reads_as t s (λ i. sym (e i)) (record { raw = v; fits = f; means = refl; chain = p }))
 
     pub part_optional_unread : {a : S} {x : DecodeError} → UnreadOptional step s n a x → UnreadPart step optional t n a x

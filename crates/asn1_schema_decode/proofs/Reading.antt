@@ -5,17 +5,17 @@ use Rattle.asn1_model.specs.Schema.{Tag, Presence, required, by_default, Schema,
 use Rattle.asn1_model.specs.Normal.{normal, normal_parts, is_at_default, is_group_left_out}
 use Rattle.asn1_model.specs.Tables.{is_required}
 use Rattle.asn1_schema_faults.specs.declared.DecodeError.{DecodeError}
-use Rattle.asn1_schema_presented.specs.Records.{Record, sequence_begins, mark, is_default, ends, asks_sequence, asks_mark, asks_end}
+use Rattle.asn1_schema_presented.specs.Records.{Record, sequence_begins, presence_bit, is_default, ends, asks_sequence, asks_presence_bit, asks_end}
 use Rattle.asn1_schema_presented.specs.Presents.{Part, left_out, there, with_part, presents, part_records, noted, root_records, added_records, optional_count, Fits, PartFits, PartsFit}
 use Rattle.asn1_schema_presented.specs.Parts.{part_unless, tail_records, TailFits}
-use Rattle.asn1_schema_presented.specs.Tables.{Table, no_table, with_field, components_at, marks, scope, sequence_type, IsType, IsValue}
+use Rattle.asn1_schema_presented.specs.Tables.{Table, no_table, with_field, components_at, presence_bits, scope, sequence_type, IsType, IsValue}
 use Rattle.asn1_schema_presented.specs.Chains.{Chain, OneRecord}
 use Rattle.asn1_schema_presented.proofs.Chains.{chain_append, chain_split}
 use Rattle.asn1_schema_presented.proofs.OneValue.{one_value, one_part}
 use Rattle.asn1_schema_presented.proofs.Values.{not_empty, normal_field, fits_field}
 use Rattle.asn1_schema_presented.proofs.Same.{same_self}
 use Rattle.asn1_schema_decode.specs.Reads.{NoRecord, NoLevel, Reads, Unread, ReadsPart, UnreadPart, ReadsTail, UnreadTail}
-use Rattle.asn1_schema_presented.proofs.Joined.{marks_at, tail_field, nothing_noted, there_records, marked_records}
+use Rattle.asn1_schema_presented.proofs.Joined.{presence_bits_at, tail_field, nothing_noted, there_records, marked_records}
 
 not_at_end : {S : Type 0} (step : S → Record → S → Type 0) (n : ℕ) (ps qs : Parts) (a b : S) → TailFits n no_table ps qs → Chain step (tail_records n no_table ps qs) a b → (c : S) × step a ends c
 unfolding components_at PartsFit root_records added_records
@@ -40,10 +40,10 @@ module _ {S : Type 0} {step : S → Record → S → Type 0} where
   pub unread_required : {ts : List Tag} {s : ℕ → Schema} {n : ℕ} {a : S} {x : DecodeError} → IsType ts s → Unread step s n a x → UnreadPart step required s n a x
   unread_required {ts} {s} {n} {a} t h = record { none = λ w p b. elim p as (λ p. PartFits (λ v. Fits (s n) v) required p → Chain step (part_records (λ v. presents (s n) v) required (s n) p) a b → ⊥) [ left_out ↦ λ f q. let e : true ≡ false = f in cc | there v ↦ λ f q. h.none w v b f (subst (λ rs. Chain step rs a b) (there_records required (s n) v (nothing_noted required (s n) v (not_empty (s n) (normal (s n) v) (t.no_group n)) refl)) q) ] }
 
-  pub reads_left_out : (o : Presence) (s : ℕ → Schema) (n : ℕ) {a b : S} → is_required o ≡ false → step a (mark false) b → ReadsPart step o s n left_out a b
+  pub reads_left_out : (o : Presence) (s : ℕ → Schema) (n : ℕ) {a b : S} → is_required o ≡ false → step a (presence_bit false) b → ReadsPart step o s n left_out a b
   reads_left_out o s n {a} {b} r h = record { raw = left_out; fits = r; means = refl; chain = rw r (b, h, refl) }
 
-  pub reads_there : {ts : List Tag} (o : Presence) {s : ℕ → Schema} {n : ℕ} {v : Value} {a b c : S} → is_required o ≡ false → IsType ts s → step a (mark true) b → (r : Reads step s n v b c) → is_at_default o (s n) r.raw ≡ false → ReadsPart step o s n (there v) a c
+  pub reads_there : {ts : List Tag} (o : Presence) {s : ℕ → Schema} {n : ℕ} {v : Value} {a b c : S} → is_required o ≡ false → IsType ts s → step a (presence_bit true) b → (r : Reads step s n v b c) → is_at_default o (s n) r.raw ≡ false → ReadsPart step o s n (there v) a c
   reads_there o {s} {n} {v} {a} {b} {c} q t m h d =
       let g : is_group_left_out (s n) h.raw ≡ false = not_empty (s n) (normal (s n) h.raw) (t.no_group n) in
       record {
@@ -54,7 +54,7 @@ module _ {S : Type 0} {step : S → Record → S → Type 0} where
       }
 
   -- a default that is spelled out
-  pub reads_spelled : (o : Presence) {s : ℕ → Schema} {n : ℕ} {v : Value} {a b c d : S} → is_required o ≡ false → step a (mark true) b → (r : Reads step s n v b c) → is_at_default o (s n) r.raw ≡ true → step c is_default d → ReadsPart step o s n left_out a d
+  pub reads_spelled : (o : Presence) {s : ℕ → Schema} {n : ℕ} {v : Value} {a b c d : S} → is_required o ≡ false → step a (presence_bit true) b → (r : Reads step s n v b c) → is_at_default o (s n) r.raw ≡ true → step c is_default d → ReadsPart step o s n left_out a d
   reads_spelled o {s} {n} {v} {a} {b} {c} {d} q m h e z = record {
     raw = there h.raw;
     fits = h.fits;
@@ -62,8 +62,8 @@ module _ {S : Type 0} {step : S → Record → S → Type 0} where
     chain = rw (q, e) (b, m, chain_append step (presents (s n) h.raw) (is_default ∷ []) b c d h.chain (d, z, refl));
   }
 
-  pub unread_mark : (o : Presence) (s : ℕ → Schema) (n : ℕ) {a : S} {x : DecodeError} → is_required o ≡ false → NoRecord step asks_mark a x → UnreadPart step o s n a x
-  unread_mark o s n {a} r h = record { none = λ w p b. elim p as (λ p. PartFits (λ v. Fits (s n) v) o p → Chain step (part_records (λ v. presents (s n) v) o (s n) p) a b → ⊥) [ left_out ↦ λ f q. let q' : Chain step (mark false ∷ []) a b = rw r at q in h.none w (mark false) q'.0 refl q'.1 | there v ↦ λ f q. let q' : Chain step (mark true ∷ (presents (s n) v ++ noted o (s n) v)) a b = rw r at q in h.none w (mark true) q'.0 refl q'.1 ] }
+  pub unread_presence_bit : (o : Presence) (s : ℕ → Schema) (n : ℕ) {a : S} {x : DecodeError} → is_required o ≡ false → NoRecord step asks_presence_bit a x → UnreadPart step o s n a x
+  unread_presence_bit o s n {a} r h = record { none = λ w p b. elim p as (λ p. PartFits (λ v. Fits (s n) v) o p → Chain step (part_records (λ v. presents (s n) v) o (s n) p) a b → ⊥) [ left_out ↦ λ f q. let q' : Chain step (presence_bit false ∷ []) a b = rw r at q in h.none w (presence_bit false) q'.0 refl q'.1 | there v ↦ λ f q. let q' : Chain step (presence_bit true ∷ (presents (s n) v ++ noted o (s n) v)) a b = rw r at q in h.none w (presence_bit true) q'.0 refl q'.1 ] }
 
   -- ---- what is left of a sequence
   pub reads_end : (n : ℕ) {a b : S} → step a ends b → ReadsTail step no_table n end end a b
@@ -81,7 +81,7 @@ module _ {S : Type 0} {step : S → Record → S → Type 0} where
     chain = subst (λ rs. Chain step rs a c) (sym (tail_field n ts o s t h.raw k.root k.additions)) (chain_append step _ _ a b c h.chain k.chain);
   }
 
-  pub reads_sequence : (t : Table) {x : Bool} {k : ℕ} {ps qs : Parts} {m n : ℕ} {a b c : S} → k ≡ marks t.root → t.extensible ≡ x → m ≡ n + 1 → step a (sequence_begins x k) b → ReadsTail step t n ps qs b c → Reads step (sequence_type t) m (fields ps qs) a c
+  pub reads_sequence : (t : Table) {x : Bool} {k : ℕ} {ps qs : Parts} {m n : ℕ} {a b c : S} → k ≡ presence_bits t.root → t.extensible ≡ x → m ≡ n + 1 → step a (sequence_begins x k) b → ReadsTail step t n ps qs b c → Reads step (sequence_type t) m (fields ps qs) a c
   unfolding sequence_type scope presents Fits normal
   reads_sequence t {x} {k} {ps} {qs} {m} {n} {a} {b} {c} e f l h r =
       let h' = subst (λ (y : Bool). step a (sequence_begins y k) b) (sym f) h in
@@ -89,7 +89,7 @@ module _ {S : Type 0} {step : S → Record → S → Type 0} where
         raw = fields r.root r.additions;
         fits = r.fits;
         means = ap (λ xs. fields xs (normal_parts (components_at n t.additions) r.additions)) r.means ∙ ap (λ xs. fields ps xs) r.means_added;
-        chain = (b, subst (λ (i : ℕ). step a (sequence_begins t.extensible i) b) (e ∙ sym (marks_at n t.root)) h', r.chain);
+        chain = (b, subst (λ (i : ℕ). step a (sequence_begins t.extensible i) b) (e ∙ sym (presence_bits_at n t.root)) h', r.chain);
       } in
       subst (λ (i : ℕ). Reads step (sequence_type t) i (fields ps qs) a c) (let z : suc n ≡ m = omega arith in z) y
 
@@ -106,19 +106,19 @@ module _ {S : Type 0} {step : S → Record → S → Type 0} where
   pub unread_field_here : (ts : List Tag) {o : Presence} {s : ℕ → Schema} (t : Table) {n : ℕ} {a : S} {x : DecodeError} → UnreadPart step o s n a x → UnreadTail step (with_field ts o s t) n a x
   unread_field_here ts {o} {s} t {n} {a} h = record { none = λ w ps qs c f p. let d = parts_of n ts o s t ps qs a c f p in h.none w d.0 d.2 d.3 d.5 }
 
-  pub unread_sequence_here : (t : Table) {x : Bool} {k : ℕ} (m : ℕ) {a : S} {y : DecodeError} → k ≡ marks t.root → t.extensible ≡ x → NoLevel step (asks_sequence x k) m a y → Unread step (sequence_type t) m a y
+  pub unread_sequence_here : (t : Table) {x : Bool} {k : ℕ} (m : ℕ) {a : S} {y : DecodeError} → k ≡ presence_bits t.root → t.extensible ≡ x → NoLevel step (asks_sequence x k) m a y → Unread step (sequence_type t) m a y
   unfolding sequence_type scope presents Fits
   unread_sequence_here t zero e f h = record { none = λ w v c g p. g }
-  unread_sequence_here t {x} {k} (suc n) {a} e f h = record { none = λ w v c. elim v as (λ v. Fits (sequence (components_at n t.root) t.extensible (components_at n t.additions)) v → Chain step (presents (sequence (components_at n t.root) t.extensible (components_at n t.additions)) v) a c → ⊥) [ fields ps qs ↦ λ g p. h.none w (let z : 0 < suc n = omega arith in z) _ p.0 (ap (λ i. asks_sequence t.extensible i) (marks_at n t.root ∙ sym e) ∙ ap (λ i. asks_sequence i k) f) p.1 | _ ↦ λ g p. g ] }
+  unread_sequence_here t {x} {k} (suc n) {a} e f h = record { none = λ w v c. elim v as (λ v. Fits (sequence (components_at n t.root) t.extensible (components_at n t.additions)) v → Chain step (presents (sequence (components_at n t.root) t.extensible (components_at n t.additions)) v) a c → ⊥) [ fields ps qs ↦ λ g p. h.none w (let z : 0 < suc n = omega arith in z) _ p.0 (ap (λ i. asks_sequence t.extensible i) (presence_bits_at n t.root ∙ sym e) ∙ ap (λ i. asks_sequence i k) f) p.1 | _ ↦ λ g p. g ] }
 
   module _ (one : OneRecord step) where
     -- where a component ends
-    pub unread_marked : (o : Presence) {s : ℕ → Schema} {n : ℕ} {a b : S} {x : DecodeError} → is_required o ≡ false → step a (mark true) b → Unread step s n b x → UnreadPart step o s n a x
+    pub unread_marked : (o : Presence) {s : ℕ → Schema} {n : ℕ} {a b : S} {x : DecodeError} → is_required o ≡ false → step a (presence_bit true) b → Unread step s n b x → UnreadPart step o s n a x
     unread_marked o {s} {n} {a} {b} r m h = record {
       none = λ w p c. elim p as (λ p. PartFits (λ v. Fits (s n) v) o p → Chain step (part_records (λ v. presents (s n) v) o (s n) p) a c → ⊥) [
-        | left_out ↦ λ f q. let q' : Chain step (mark false ∷ []) a c = rw r at q in let e : mark false ≡ mark true = (one a (mark false) (mark true) q'.0 b refl q'.1 m).0 in cc
-        | there v ↦ λ f q. let q' : Chain step (mark true ∷ (presents (s n) v ++ noted o (s n) v)) a c = rw r at q in
-            let e = (one a (mark true) (mark true) q'.0 b refl q'.1 m).1 in
+        | left_out ↦ λ f q. let q' : Chain step (presence_bit false ∷ []) a c = rw r at q in let e : presence_bit false ≡ presence_bit true = (one a (presence_bit false) (presence_bit true) q'.0 b refl q'.1 m).0 in cc
+        | there v ↦ λ f q. let q' : Chain step (presence_bit true ∷ (presents (s n) v ++ noted o (s n) v)) a c = rw r at q in
+            let e = (one a (presence_bit true) (presence_bit true) q'.0 b refl q'.1 m).1 in
             let d = chain_split step (presents (s n) v) (noted o (s n) v) b c (subst (λ (z : S). Chain step (presents (s n) v ++ noted o (s n) v) z c) e q'.2) in
             h.none w v d.0 f d.1
       ];
@@ -132,10 +132,10 @@ module _ {S : Type 0} {step : S → Record → S → Type 0} where
           k.none w d.1 qs c d.4 (subst (λ (z : S). Chain step (tail_records n t d.1 qs) z c) e.1 d.6);
     }
 
-    pub unread_sequence : (t : Table) {x : Bool} {k : ℕ} {m n : ℕ} {a b : S} {y : DecodeError} → k ≡ marks t.root → t.extensible ≡ x → m ≡ n + 1 → step a (sequence_begins x k) b → UnreadTail step t n b y → Unread step (sequence_type t) m a y
+    pub unread_sequence : (t : Table) {x : Bool} {k : ℕ} {m n : ℕ} {a b : S} {y : DecodeError} → k ≡ presence_bits t.root → t.extensible ≡ x → m ≡ n + 1 → step a (sequence_begins x k) b → UnreadTail step t n b y → Unread step (sequence_type t) m a y
     unfolding sequence_type scope presents Fits
     unread_sequence t {x} {k} {m} {n} {a} {b} {y} e f l h u =
-        let r : Unread step (sequence_type t) (suc n) a y = record { none = λ w v c. elim v as (λ v. Fits (sequence (components_at n t.root) t.extensible (components_at n t.additions)) v → Chain step (presents (sequence (components_at n t.root) t.extensible (components_at n t.additions)) v) a c → ⊥) [ fields ps qs ↦ λ g p. u.none w ps qs c g (subst (λ (z : S). Chain step (tail_records n t ps qs) z c) (one a (sequence_begins t.extensible (optional_count (components_at n t.root))) (sequence_begins x k) p.0 b (ap (λ i. asks_sequence t.extensible i) (marks_at n t.root ∙ sym e) ∙ ap (λ i. asks_sequence i k) f) p.1 h).1 p.2) | _ ↦ λ g p. g ] } in
+        let r : Unread step (sequence_type t) (suc n) a y = record { none = λ w v c. elim v as (λ v. Fits (sequence (components_at n t.root) t.extensible (components_at n t.additions)) v → Chain step (presents (sequence (components_at n t.root) t.extensible (components_at n t.additions)) v) a c → ⊥) [ fields ps qs ↦ λ g p. u.none w ps qs c g (subst (λ (z : S). Chain step (tail_records n t ps qs) z c) (one a (sequence_begins t.extensible (optional_count (components_at n t.root))) (sequence_begins x k) p.0 b (ap (λ i. asks_sequence t.extensible i) (presence_bits_at n t.root ∙ sym e) ∙ ap (λ i. asks_sequence i k) f) p.1 h).1 p.2) | _ ↦ λ g p. g ] } in
         subst (λ (i : ℕ). Unread step (sequence_type t) i a y) (let z : suc n ≡ m = omega arith in z) r
 
 -- a value that is read where there may be a default: whether it is equal to this
@@ -144,13 +144,13 @@ at_default k h r = rw (r.means, k.normal _) (sym h)
 
 -- the default where it is left out, what is read and is not equal to it, and what is spelled out
 module _ {S : Type 0} {step : S → Record → S → Type 0} {s : ℕ → Schema} {n : ℕ} {d : Value} where
-  pub reads_default : {v : Value} {a b : S} → v ≡ d → step a (mark false) b → ReadsPart step (by_default d) s n (part_unless (same v d) v) a b
+  pub reads_default : {v : Value} {a b : S} → v ≡ d → step a (presence_bit false) b → ReadsPart step (by_default d) s n (part_unless (same v d) v) a b
   reads_default {v} {a} {b} e h = rw (e, same_self d) (reads_left_out (by_default d) s n refl h)
 
-  pub reads_other : {ts : List Tag} {v : Value} {a b c : S} {e : Bool} → IsType ts s → IsValue s d → e ≡ same v d → e ≡ false → step a (mark true) b → Reads step s n v b c → ReadsPart step (by_default d) s n (part_unless (same v d) v) a c
+  pub reads_other : {ts : List Tag} {v : Value} {a b c : S} {e : Bool} → IsType ts s → IsValue s d → e ≡ same v d → e ≡ false → step a (presence_bit true) b → Reads step s n v b c → ReadsPart step (by_default d) s n (part_unless (same v d) v) a c
   reads_other t k h f m r = rw (sym h ∙ f) (reads_there (by_default d) refl t m r (at_default k h r ∙ f))
 
-  pub reads_equal : {v : Value} {a b c x : S} {e : Bool} → IsValue s d → e ≡ same v d → e ≡ true → step a (mark true) b → Reads step s n v b c → step c is_default x → ReadsPart step (by_default d) s n (part_unless (same v d) v) a x
+  pub reads_equal : {v : Value} {a b c x : S} {e : Bool} → IsValue s d → e ≡ same v d → e ≡ true → step a (presence_bit true) b → Reads step s n v b c → step c is_default x → ReadsPart step (by_default d) s n (part_unless (same v d) v) a x
   reads_equal k h f m r z = rw (sym h ∙ f) (reads_spelled (by_default d) refl m r (at_default k h r ∙ f) z)
 
 -- another spelling of the same type

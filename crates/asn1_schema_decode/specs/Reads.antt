@@ -6,7 +6,7 @@ use Rattle.asn1_model.specs.Numbers.{is_count_within}
 use Rattle.asn1_model.specs.Normal.{normal, normal_parts}
 use Rattle.asn1_schema_faults.specs.declared.DecodeError.{DecodeError}
 use Rattle.asn1_schema_faults.specs.declared.DecodeError.TheVariants.{OutOfMemory}
-use Rattle.asn1_schema_presented.specs.Records.{Record, Question, question, mark, is_default}
+use Rattle.asn1_schema_presented.specs.Records.{Record, Question, question, presence_bit, is_default}
 use Rattle.asn1_schema_presented.specs.Presents.{Part, left_out, there, presents, part_records, member_records}
 use Rattle.asn1_schema_presented.specs.Presents.{member_count, Fits, PartFits, AllFit}
 use Rattle.asn1_schema_presented.specs.Tables.{Table, components_at}
@@ -54,12 +54,12 @@ pub record UnreadPart {S : Type 0} (step : S → Record → S → Type 0) (o : P
 pub record ReadsMarked {S : Type 0} (step : S → Record → S → Type 0) (schema : ℕ → Schema) (n : ℕ) (v : Value)
     (old new : S) : Type 0 where
   pub marked : S
-  pub marks : step old (mark true) marked
+  pub presence_bits : step old (presence_bit true) marked
   pub reads : Reads step schema n v marked new
 
 -- One that may be absent, there or not.
 abbrev pub ReadsOptional : {S : Type 0} → (S → Record → S → Type 0) → (ℕ → Schema) → ℕ → Part → S → S → Type 0
-ReadsOptional step schema n left_out old new = step old (mark false) new
+ReadsOptional step schema n left_out old new = step old (presence_bit false) new
 ReadsOptional step schema n (there v) old new = ReadsMarked step schema n v old new
 
 pub record UnreadOptional {S : Type 0} (step : S → Record → S → Type 0) (schema : ℕ → Schema) (n : ℕ) (old : S)
@@ -69,7 +69,7 @@ pub record UnreadOptional {S : Type 0} (step : S → Record → S → Type 0) (s
 -- One with the default d: it is left out, or spelled out, which is noted, or of another value.
 pub data ReadsDefault {S : Type 0} (step : S → Record → S → Type 0) (schema : ℕ → Schema) (n : ℕ) (d v : Value)
     (old new : S) : Type 0 where
-  omitted : v ≡ d → step old (mark false) new → ReadsDefault step schema n d v old new
+  omitted : v ≡ d → step old (presence_bit false) new → ReadsDefault step schema n d v old new
   spelled_out : same v d ≡ true → (behind : S) → ReadsMarked step schema n v old behind → step behind is_default new
       → ReadsDefault step schema n d v old new
   other_value : same v d ≡ false → ReadsMarked step schema n v old new → ReadsDefault step schema n d v old new

@@ -3,7 +3,7 @@ ghost use Rattle.std.specs.Prelude.{◌≡◌, ◌+◌, false, OnOk, OnErr, IfEr
 ghost use Rattle.asn1_model.specs.Value.{fields, same};
 ghost use Rattle.asn1_model.specs.Schema.{optional, by_default};
 ghost use Rattle.asn1_schema_constraints.specs.Terms.{meant};
-ghost use Rattle.asn1_schema_presented.specs.Tables.{marks, sequence_type};
+ghost use Rattle.asn1_schema_presented.specs.Tables.{presence_bits, sequence_type};
 ghost use Rattle.asn1_schema_presented.specs.Parts.{part_of, part_unless};
 ghost use Rattle.asn1_schema_decode.specs.Reads.{Reads, Unread, ReadsPart, UnreadPart, ReadsOptional, UnreadOptional};
 ghost use Rattle.asn1_schema_decode.specs.Reads.{ReadsDefault, UnreadDefault, ReadsTail, UnreadTail};
@@ -143,7 +143,7 @@ pub trait DecodeSequence: Decoder {
         ensures already { Self.has_failed self.old → result ≡ Err DecodeError.AlreadyFailed }
         ensures after { result ≡ Err DecodeError.AlreadyFailed → Self.has_failed self.old }
     {
-        let present = self.get_mark()?;
+        let present = self.get_presence_bit()?;
         if !present {
             return Ok(None);
         }
@@ -260,7 +260,7 @@ pub trait DecodeSequence: Decoder {
         ensures already { Self.has_failed self.old → result ≡ Err DecodeError.AlreadyFailed }
         ensures after { result ≡ Err DecodeError.AlreadyFailed → Self.has_failed self.old }
     {
-        let is_there = self.get_mark()?;
+        let is_there = self.get_presence_bit()?;
         if !is_there {
             let Ok(default) = V::default_value(alloc) else {
                 return Err(self.refuse(DecodeError::OutOfMemory));
@@ -284,7 +284,7 @@ pub trait DecodeSequence: Decoder {
     ) -> Result<C, DecodeError>
     where
         Self: Sized,
-        requires marks { optional ≡ marks C.table.root }
+        requires presence_bits { optional ≡ presence_bits C.table.root }
         requires plain { C.table.extensible ≡ false }
         ensures ok { IfOk result
             (λ x. Reads Self.step (sequence_type C.table) (Self.levels self.old) (fields (C.root x) (C.added x))

@@ -1,16 +1,16 @@
 //! What reads the values of types.
 ghost use Rattle.std.specs.Prelude.{◌≡◌, ◌+◌, ◌<◌, true, ⊤, ℕ, List, length};
-ghost use Rattle.std.specs.Prelude.{IfOk, OnOk, OnErr, IfErr, cond, map, string_bytes};
+ghost use Rattle.std.specs.Prelude.{IfOk, OnOk, OnErr, IfErr, cond, string_bytes};
 ghost use Rattle.std.specs.Cow.{IsBorrowedSlice, cow_slice_items};
 ghost use Rattle.asn1_model.specs.Schema.{Size, Counts, utf8};
 ghost use Rattle.asn1_model.specs.Numbers.{is_count_within};
 ghost use Rattle.asn1_schema_faults.specs.declared.CodecKind.{CodecKind};
 ghost use Rattle.asn1_schema_presented.specs.Records.{Record, question, told, flag, nil, one_of, identifier};
 ghost use Rattle.asn1_schema_presented.specs.Records.{list_begins, bag_begins, further, sequence_begins, set_begins};
-ghost use Rattle.asn1_schema_presented.specs.Records.{group_begins, mark, is_default, is_empty, additions_begin};
+ghost use Rattle.asn1_schema_presented.specs.Records.{group_begins, presence_bit, is_default, is_empty, additions_begin};
 ghost use Rattle.asn1_schema_presented.specs.Records.{addition, addition_ends, choice_begins, ends};
 ghost use Rattle.asn1_schema_presented.specs.Records.{asks_flag, asks_nil, asks_one_of, asks_identifier, asks_further};
-ghost use Rattle.asn1_schema_presented.specs.Records.{asks_sequence, asks_set, asks_group, asks_mark, asks_default};
+ghost use Rattle.asn1_schema_presented.specs.Records.{asks_sequence, asks_set, asks_group, asks_presence_bit, asks_default};
 ghost use Rattle.asn1_schema_presented.specs.Records.{asks_empty, asks_additions, asks_addition, asks_addition_end};
 ghost use Rattle.asn1_schema_presented.specs.Records.{asks_choice, asks_end};
 ghost use Rattle.asn1_schema_constraints.specs.Bounds.{counts_of};
@@ -19,13 +19,12 @@ ghost use Rattle.asn1_schema_types.specs.Told.{whole_under, bits_under, octets_u
 ghost use Rattle.asn1_schema_types.specs.Told.{asks_whole_under, asks_bits_under, asks_octets_under};
 ghost use Rattle.asn1_schema_types.specs.Told.{asks_characters_under, list_begins_under, bag_begins_under};
 ghost use Rattle.asn1_schema_types.specs.Told.{asks_list_under, asks_bag_under};
-ghost use Rattle.asn1_schema_tags.specs.Tags.{tag_of};
 ghost use Rattle.asn1_schema_decode.specs.Reads.{NoRecord, NoLevel, Reads, Unread};
 ghost use Rattle.asn1_schema_decode.specs.Answers.{Begins, is_admitted};
 
 use asn1_schema_constraints::{Bounded, Constraints};
 use asn1_schema_faults::{CodecKind, DecodeError};
-use asn1_schema_tags::Tag;
+use asn1_schema_tags::{Tag, TagTables};
 use asn1_schema_types::AsnType;
 use asn1_schema_variants::{Chosen, Enumerated};
 use asn1_values_alphabets::StaticPermittedAlphabet;
@@ -324,32 +323,35 @@ pub trait Decoder {
         ensures already { has_failed self.old → result ≡ Err DecodeError.AlreadyFailed }
         ensures after { result ≡ Err DecodeError.AlreadyFailed → has_failed self.old };
 
-    /// Whether the next component is there, of those that may be absent.
-    fn get_mark(&mut self) -> Result<bool, DecodeError>
-        ensures ok { IfOk result (λ x. step self.old (mark x) self.new) }
+    /// Whether the next component is there, of those that may be absent. No memory is taken.
+    fn get_presence_bit(&mut self) -> Result<bool, DecodeError>
+        ensures ok { IfOk result (λ x. step self.old (presence_bit x) self.new) }
         ensures level { OnOk result (levels self.new ≡ levels self.old) }
-        ensures only { IfErr result (NoRecord step asks_mark self.old) }
+        ensures only { IfErr result (NoRecord step asks_presence_bit self.old) }
         ensures failed { OnErr result (has_failed self.new) }
         ensures already { has_failed self.old → result ≡ Err DecodeError.AlreadyFailed }
-        ensures after { result ≡ Err DecodeError.AlreadyFailed → has_failed self.old };
+        ensures after { result ≡ Err DecodeError.AlreadyFailed → has_failed self.old }
+        ensures no_memory { IfErr result (λ e. e ≡ DecodeError.OutOfMemory → ⊥) };
 
-    /// The component that was read last is equal to its default: refused by rules that have one encoding.
+    /// The component that was read last is equal to its default: refused by rules that have one encoding. No memory is taken.
     fn note_default(&mut self) -> Result<(), DecodeError>
         ensures ok { OnOk result (step self.old is_default self.new) }
         ensures level { OnOk result (levels self.new ≡ levels self.old) }
         ensures only { IfErr result (NoRecord step asks_default self.old) }
         ensures failed { OnErr result (has_failed self.new) }
         ensures already { has_failed self.old → result ≡ Err DecodeError.AlreadyFailed }
-        ensures after { result ≡ Err DecodeError.AlreadyFailed → has_failed self.old };
+        ensures after { result ≡ Err DecodeError.AlreadyFailed → has_failed self.old }
+        ensures no_memory { IfErr result (λ e. e ≡ DecodeError.OutOfMemory → ⊥) };
 
-    /// The group that was read last has no component: refused by rules that have one encoding.
+    /// The group that was read last has no component: refused by rules that have one encoding. No memory is taken.
     fn note_empty(&mut self) -> Result<(), DecodeError>
         ensures ok { OnOk result (step self.old is_empty self.new) }
         ensures level { OnOk result (levels self.new ≡ levels self.old) }
         ensures only { IfErr result (NoRecord step asks_empty self.old) }
         ensures failed { OnErr result (has_failed self.new) }
         ensures already { has_failed self.old → result ≡ Err DecodeError.AlreadyFailed }
-        ensures after { result ≡ Err DecodeError.AlreadyFailed → has_failed self.old };
+        ensures after { result ≡ Err DecodeError.AlreadyFailed → has_failed self.old }
+        ensures no_memory { IfErr result (λ e. e ≡ DecodeError.OutOfMemory → ⊥) };
 
     /// Behind the root components of a type with an extension marker come its additions (X.680 25 and 27), so
     /// many. Those that the input has besides are skipped at the end.
@@ -379,22 +381,15 @@ pub trait Decoder {
         ensures already { has_failed self.old → result ≡ Err DecodeError.AlreadyFailed }
         ensures after { result ≡ Err DecodeError.AlreadyFailed → has_failed self.old };
 
-    /// A CHOICE begins (X.680 29), with the tags of its root alternatives, whether it has an extension marker, and
-    /// the tags of its added alternatives: which one is chosen. Its end is called behind the value of the alternative.
-    fn begin_choice(
-        &mut self,
-        tag: Tag,
-        roots: &[Tag],
-        extensible: bool,
-        additions: &[Tag],
-    ) -> Result<Chosen, DecodeError>
+    /// A CHOICE begins (X.680 29), with the tags of its alternatives and whether it has an extension marker: which
+    /// one is chosen. Its end is called behind the value of the alternative.
+    fn begin_choice(&mut self, tag: Tag, tables: &TagTables<'_>) -> Result<Chosen, DecodeError>
         ensures ok { IfOk result (λ x. step self.old
-            (choice_begins (map tag_of roots.now) extensible (map tag_of additions.now) x.added x.place) self.new) }
-        ensures within { IfOk result
-            (λ x. x.place < length (cond x.added (map tag_of additions.now) (map tag_of roots.now))) }
+            (choice_begins tables.now.roots tables.now.extensible tables.now.additions x.added x.place) self.new) }
+        ensures within { IfOk result (λ x. x.place < length (cond x.added tables.now.additions tables.now.roots)) }
         ensures level { OnOk result (levels self.old ≡ levels self.new + 1) }
         ensures only { IfErr result
-            (NoLevel step (asks_choice (map tag_of roots.now) extensible (map tag_of additions.now))
+            (NoLevel step (asks_choice tables.now.roots tables.now.extensible tables.now.additions)
             (levels self.old) self.old) }
         ensures failed { OnErr result (has_failed self.new) }
         ensures already { has_failed self.old → result ≡ Err DecodeError.AlreadyFailed }

@@ -28,5 +28,5 @@ pub mod wide;
 pub use components::{DecodeComponents, DecodeSequence};
 pub use decode::{Decode, Decoder, ReadOctets};
 pub use front::FrontReader;
-pub use lists::DecodeList;
+pub use lists::{DecodeList, members_within};
 pub use values::Iter;

@@ -5,15 +5,15 @@ use Rattle.asn1_model.specs.Schema.{Tag, Presence, required, optional, by_defaul
 use Rattle.asn1_model.specs.Normal.{normal, is_at_default}
 use Rattle.asn1_model.specs.Tables.{is_required}
 use Rattle.asn1_schema_faults.specs.declared.EncodeError.{EncodeError}
-use Rattle.asn1_schema_presented.specs.Records.{Record, sequence_begins, mark, ends}
+use Rattle.asn1_schema_presented.specs.Records.{Record, sequence_begins, presence_bit, ends}
 use Rattle.asn1_schema_presented.specs.Presents.{Part, left_out, there, with_part, presents, part_records, root_records, added_records, Fits}
-use Rattle.asn1_schema_presented.specs.Tables.{Table, no_table, with_field, components_at, marks, scope, sequence_type, IsType, IsValue}
+use Rattle.asn1_schema_presented.specs.Tables.{Table, no_table, with_field, components_at, presence_bits, scope, sequence_type, IsType, IsValue}
 use Rattle.asn1_schema_presented.specs.Chains.{Chain, OneAfter}
 use Rattle.asn1_schema_presented.proofs.Chains.{chain_append, chain_split, chain_rest}
 use Rattle.asn1_schema_presented.specs.Parts.{part_unless, tail_records}
 use Rattle.asn1_schema_encode.specs.Writes.{Refused, Writes, CannotWrite, WritesPart, CannotWritePart, WritesMarked, CannotWriteMarked, WritesUnless, CannotWriteUnless, WritesTail, CannotWriteTail}
 use Rattle.asn1_schema_presented.proofs.Values.{not_empty}
-use Rattle.asn1_schema_presented.proofs.Joined.{is_there, marks_at, nothing_noted, tail_field, tail_fits, there_records, marked_records}
+use Rattle.asn1_schema_presented.proofs.Joined.{is_there, presence_bits_at, nothing_noted, tail_field, tail_fits, there_records, marked_records}
 
 module _ {S : Type 0} {step : S → Record → S → Type 0} where
   pub writes_required : {ts : List Tag} {s : ℕ → Schema} {v : Value} {a b : S} → IsType ts s → Writes step s v a b → WritesPart step required s (there v) a b
@@ -45,13 +45,13 @@ module _ {S : Type 0} {step : S → Record → S → Type 0} where
         h.none w n r.0 g.0 r.1;
   }
 
-  pub writes_sequence : (t : Table) {ps qs : Parts} {a b c : S} → step a (sequence_begins t.extensible (marks t.root)) b → WritesTail step t ps qs b c → Writes step (sequence_type t) (fields ps qs) a c
+  pub writes_sequence : (t : Table) {ps qs : Parts} {a b c : S} → step a (sequence_begins t.extensible (presence_bits t.root)) b → WritesTail step t ps qs b c → Writes step (sequence_type t) (fields ps qs) a c
   unfolding sequence_type scope presents Fits
-  writes_sequence t {ps} {qs} {a} {b} {c} h w = record { chain = λ n. elim n as (λ n. Fits (scope n (λ m. sequence (components_at m t.root) t.extensible (components_at m t.additions))) (fields ps qs) → Chain step (presents (scope n (λ m. sequence (components_at m t.root) t.extensible (components_at m t.additions))) (fields ps qs)) a c) [ zero ↦ λ f. absurd f | suc j ↦ λ f. (b, subst (λ (i : ℕ). step a (sequence_begins t.extensible i) b) (sym (marks_at j t.root)) h, w.chain j f) ] }
+  writes_sequence t {ps} {qs} {a} {b} {c} h w = record { chain = λ n. elim n as (λ n. Fits (scope n (λ m. sequence (components_at m t.root) t.extensible (components_at m t.additions))) (fields ps qs) → Chain step (presents (scope n (λ m. sequence (components_at m t.root) t.extensible (components_at m t.additions))) (fields ps qs)) a c) [ zero ↦ λ f. absurd f | suc j ↦ λ f. (b, subst (λ (i : ℕ). step a (sequence_begins t.extensible i) b) (sym (presence_bits_at j t.root)) h, w.chain j f) ] }
 
-  pub cannot_sequence_here : (t : Table) (ps qs : Parts) {a : S} {e : EncodeError} → Refused step (sequence_begins t.extensible (marks t.root)) a e → CannotWrite step (sequence_type t) (fields ps qs) a e
+  pub cannot_sequence_here : (t : Table) (ps qs : Parts) {a : S} {e : EncodeError} → Refused step (sequence_begins t.extensible (presence_bits t.root)) a e → CannotWrite step (sequence_type t) (fields ps qs) a e
   unfolding sequence_type scope presents Fits
-  cannot_sequence_here t ps qs {a} h = record { none = λ w n c. elim n as (λ n. Fits (scope n (λ m. sequence (components_at m t.root) t.extensible (components_at m t.additions))) (fields ps qs) → Chain step (presents (scope n (λ m. sequence (components_at m t.root) t.extensible (components_at m t.additions))) (fields ps qs)) a c → ⊥) [ zero ↦ λ f p. f | suc j ↦ λ f p. h.none w p.0 (subst (λ (i : ℕ). step a (sequence_begins t.extensible i) p.0) (marks_at j t.root) p.1) ] }
+  cannot_sequence_here t ps qs {a} h = record { none = λ w n c. elim n as (λ n. Fits (scope n (λ m. sequence (components_at m t.root) t.extensible (components_at m t.additions))) (fields ps qs) → Chain step (presents (scope n (λ m. sequence (components_at m t.root) t.extensible (components_at m t.additions))) (fields ps qs)) a c → ⊥) [ zero ↦ λ f p. f | suc j ↦ λ f p. h.none w p.0 (subst (λ (i : ℕ). step a (sequence_begins t.extensible i) p.0) (presence_bits_at j t.root) p.1) ] }
 
   module _ (one : OneAfter step) where
     pub cannot_later : (xs ys : List Record) (a b c : S) → Chain step xs a b → (Chain step ys b c → ⊥) → Chain step (xs ++ ys) a c → ⊥
@@ -64,34 +64,34 @@ module _ {S : Type 0} {step : S → Record → S → Type 0} where
           cannot_later _ _ a b c (h.chain n g.0) (k.none w n c g.1) (subst (λ rs. Chain step rs a c) (tail_field n ts o s t x ps qs) p);
     }
 
-    pub cannot_sequence : (t : Table) {ps qs : Parts} {a b : S} {e : EncodeError} → step a (sequence_begins t.extensible (marks t.root)) b → CannotWriteTail step t ps qs b e → CannotWrite step (sequence_type t) (fields ps qs) a e
+    pub cannot_sequence : (t : Table) {ps qs : Parts} {a b : S} {e : EncodeError} → step a (sequence_begins t.extensible (presence_bits t.root)) b → CannotWriteTail step t ps qs b e → CannotWrite step (sequence_type t) (fields ps qs) a e
     unfolding sequence_type scope presents Fits
-    cannot_sequence t {ps} {qs} {a} {b} h z = record { none = λ w n c. elim n as (λ n. Fits (scope n (λ m. sequence (components_at m t.root) t.extensible (components_at m t.additions))) (fields ps qs) → Chain step (presents (scope n (λ m. sequence (components_at m t.root) t.extensible (components_at m t.additions))) (fields ps qs)) a c → ⊥) [ zero ↦ λ f p. f | suc j ↦ λ f p. z.none w j c f (subst (λ (s : S). Chain step (tail_records j t ps qs) s c) (one _ _ _ _ (subst (λ (i : ℕ). step a (sequence_begins t.extensible i) p.0) (marks_at j t.root) p.1) h) p.2) ] }
+    cannot_sequence t {ps} {qs} {a} {b} h z = record { none = λ w n c. elim n as (λ n. Fits (scope n (λ m. sequence (components_at m t.root) t.extensible (components_at m t.additions))) (fields ps qs) → Chain step (presents (scope n (λ m. sequence (components_at m t.root) t.extensible (components_at m t.additions))) (fields ps qs)) a c → ⊥) [ zero ↦ λ f p. f | suc j ↦ λ f p. z.none w j c f (subst (λ (s : S). Chain step (tail_records j t ps qs) s c) (one _ _ _ _ (subst (λ (i : ℕ). step a (sequence_begins t.extensible i) p.0) (presence_bits_at j t.root) p.1) h) p.2) ] }
 
 -- components that may be absent
 module _ {S : Type 0} {step : S → Record → S → Type 0} where
-  pub writes_left_out : (o : Presence) (s : ℕ → Schema) {a b : S} → step a (mark false) b → WritesPart step o s left_out a b
+  pub writes_left_out : (o : Presence) (s : ℕ → Schema) {a b : S} → step a (presence_bit false) b → WritesPart step o s left_out a b
   writes_left_out required s h = record { chain = λ n f. absurd (let z : true ≡ false = f in cc) }
   writes_left_out optional s {b = b} h = record { chain = λ n f. (b, h, refl) }
   writes_left_out (by_default d) s {b = b} h = record { chain = λ n f. (b, h, refl) }
 
-  pub cannot_mark : (o : Presence) (s : ℕ → Schema) (x : Part) (b : Bool) {a : S} {e : EncodeError} → is_required o ≡ false → b ≡ is_there x → Refused step (mark b) a e → CannotWritePart step o s x a e
-  cannot_mark required s x b r h k = let z : true ≡ false = r in cc
-  cannot_mark optional s left_out b r h k = record { none = λ w n c f p. k.none w p.0 (rw h p.1) }
-  cannot_mark optional s (there v) b r h k = record { none = λ w n c f p. k.none w p.0 (rw h p.1) }
-  cannot_mark (by_default d) s left_out b r h k = record { none = λ w n c f p. k.none w p.0 (rw h p.1) }
-  cannot_mark (by_default d) s (there v) b r h k = record { none = λ w n c f p. k.none w p.0 (rw h p.1) }
+  pub cannot_presence_bit : (o : Presence) (s : ℕ → Schema) (x : Part) (b : Bool) {a : S} {e : EncodeError} → is_required o ≡ false → b ≡ is_there x → Refused step (presence_bit b) a e → CannotWritePart step o s x a e
+  cannot_presence_bit required s x b r h k = let z : true ≡ false = r in cc
+  cannot_presence_bit optional s left_out b r h k = record { none = λ w n c f p. k.none w p.0 (rw h p.1) }
+  cannot_presence_bit optional s (there v) b r h k = record { none = λ w n c f p. k.none w p.0 (rw h p.1) }
+  cannot_presence_bit (by_default d) s left_out b r h k = record { none = λ w n c f p. k.none w p.0 (rw h p.1) }
+  cannot_presence_bit (by_default d) s (there v) b r h k = record { none = λ w n c f p. k.none w p.0 (rw h p.1) }
 
-  pub writes_there : {ts : List Tag} (o : Presence) {s : ℕ → Schema} {v : Value} {a b c : S} → is_required o ≡ false → IsType ts s → ((n : ℕ) → is_at_default o (s n) v ≡ false) → step a (mark true) b → Writes step s v b c → WritesPart step o s (there v) a c
+  pub writes_there : {ts : List Tag} (o : Presence) {s : ℕ → Schema} {v : Value} {a b c : S} → is_required o ≡ false → IsType ts s → ((n : ℕ) → is_at_default o (s n) v ≡ false) → step a (presence_bit true) b → Writes step s v b c → WritesPart step o s (there v) a c
   writes_there o {s} {v} {a} {b} {c} r t d m h = record { chain = λ n f. subst (λ rs. Chain step rs a c) (sym (marked_records o (s n) v r (nothing_noted o (s n) v (not_empty (s n) (normal (s n) v) (t.no_group n)) (d n)))) (b, m, h.chain n f) }
 
 -- sequences, by what their tables have
-module _ {S : Type 0} (step : S → Record → S → Type 0) (t : Table) {x : Bool} {k : ℕ} (e : k ≡ marks t.root) (f : t.extensible ≡ x) where
-  by_table : {a b : S} → step a (sequence_begins x k) b → step a (sequence_begins t.extensible (marks t.root)) b
+module _ {S : Type 0} (step : S → Record → S → Type 0) (t : Table) {x : Bool} {k : ℕ} (e : k ≡ presence_bits t.root) (f : t.extensible ≡ x) where
+  by_table : {a b : S} → step a (sequence_begins x k) b → step a (sequence_begins t.extensible (presence_bits t.root)) b
   by_table {a} {b} h = subst (λ (i : ℕ). step a (sequence_begins t.extensible i) b) e (subst (λ (y : Bool). step a (sequence_begins y k) b) (sym f) h)
 
-  not_by_table : {a b : S} → step a (sequence_begins t.extensible (marks t.root)) b → step a (sequence_begins x k) b
-  not_by_table {a} {b} h = subst (λ (i : ℕ). step a (sequence_begins x i) b) (sym e) (subst (λ (y : Bool). step a (sequence_begins y (marks t.root)) b) f h)
+  not_by_table : {a b : S} → step a (sequence_begins t.extensible (presence_bits t.root)) b → step a (sequence_begins x k) b
+  not_by_table {a} {b} h = subst (λ (i : ℕ). step a (sequence_begins x i) b) (sym e) (subst (λ (y : Bool). step a (sequence_begins y (presence_bits t.root)) b) f h)
 
   pub writes_this : {ps qs : Parts} {a b c : S} → step a (sequence_begins x k) b → WritesTail step t ps qs b c → Writes step (sequence_type t) (fields ps qs) a c
   writes_this h w = writes_sequence t (by_table h) w
@@ -111,18 +111,18 @@ cannot_as {step = step} s t {v} {a} e h = record { none = λ m n c. subst (λ (x
 
 -- components that are marked, under constraints that are handed over
 module _ {S : Type 0} {step : S → Record → S → Type 0} {s : ℕ → Schema} {v : Value} where
-  pub writes_marked : {a b c : S} → step a (mark true) b → Writes step s v b c → WritesMarked step s v a c
-  writes_marked {b = b} m h = record { marked = b; marks = m; writes = h }
+  pub writes_marked : {a b c : S} → step a (presence_bit true) b → Writes step s v b c → WritesMarked step s v a c
+  writes_marked {b = b} m h = record { marked = b; presence_bits = m; writes = h }
 
-  pub cannot_marked_here : {a : S} {x : EncodeError} → Refused step (mark true) a x → CannotWriteMarked step s v a x
+  pub cannot_marked_here : {a : S} {x : EncodeError} → Refused step (presence_bit true) a x → CannotWriteMarked step s v a x
   cannot_marked_here h = record { none = λ w n b c m f p. h.none w b m }
 
-  pub cannot_marked : OneAfter step → {a b : S} {x : EncodeError} → step a (mark true) b → CannotWrite step s v b x → CannotWriteMarked step s v a x
-  cannot_marked one {a} {b} m h = record { none = λ w n y c k f p. h.none w n c f (subst (λ (z : S). Chain step (presents (s n) v) z c) (one a (mark true) y b k m) p) }
+  pub cannot_marked : OneAfter step → {a b : S} {x : EncodeError} → step a (presence_bit true) b → CannotWrite step s v b x → CannotWriteMarked step s v a x
+  cannot_marked one {a} {b} m h = record { none = λ w n y c k f p. h.none w n c f (subst (λ (z : S). Chain step (presents (s n) v) z c) (one a (presence_bit true) y b k m) p) }
 
   -- what is marked under a type's own constraints is a component of the type
   pub part_marked : {ts : List Tag} (o : Presence) {t : ℕ → Schema} {a c : S} → is_required o ≡ false → IsType ts t → ((n : ℕ) → is_at_default o (t n) v ≡ false) → ((n : ℕ) → t n ≡ s n) → WritesMarked step s v a c → WritesPart step o t (there v) a c
-  part_marked o {t} r k d e h = writes_there o r k d h.marks (writes_as s t e h.writes)
+  part_marked o {t} r k d e h = writes_there o r k d h.presence_bits (writes_as s t e h.writes)
 
   pub cannot_part_marked : {ts : List Tag} (o : Presence) {t : ℕ → Schema} {a : S} {x : EncodeError} → is_required o ≡ false → IsType ts t → ((n : ℕ) → is_at_default o (t n) v ≡ false) → ((n : ℕ) → t n ≡ s n) → CannotWriteMarked step s v a x → CannotWritePart step o t (there v) a x
   cannot_part_marked o {t} {a} r k d e h = record {
@@ -136,5 +136,5 @@ module _ {S : Type 0} {step : S → Record → S → Type 0} {s : ℕ → Schema
   part_unless_equal {d = d} false k i j q e h = part_marked (by_default d) refl k (λ n. rw (i.normal n, j.normal n) (sym q)) e h
 
   pub cannot_part_unless_equal : {ts : List Tag} {d : Value} (b : Bool) {t : ℕ → Schema} {a : S} {x : EncodeError} → IsType ts t → IsValue t v → IsValue t d → b ≡ same v d → ((n : ℕ) → t n ≡ s n) → CannotWriteUnless b step s v a x → CannotWritePart step (by_default d) t (part_unless b v) a x
-  cannot_part_unless_equal {d = d} true {t} k i j q e h = cannot_mark (by_default d) t left_out false refl refl h
+  cannot_part_unless_equal {d = d} true {t} k i j q e h = cannot_presence_bit (by_default d) t left_out false refl refl h
   cannot_part_unless_equal {d = d} false k i j q e h = cannot_part_marked (by_default d) refl k (λ n. rw (i.normal n, j.normal n) (sym q)) e h

@@ -4,7 +4,7 @@ use Rattle.asn1_model.specs.Value.{Value, Values, Parts}
 use Rattle.asn1_model.specs.Schema.{Presence, Schema}
 use Rattle.asn1_schema_faults.specs.declared.EncodeError.{EncodeError}
 use Rattle.asn1_schema_faults.specs.declared.EncodeError.TheVariants.{OutOfMemory}
-use Rattle.asn1_schema_presented.specs.Records.{Record, mark}
+use Rattle.asn1_schema_presented.specs.Records.{Record, presence_bit}
 use Rattle.asn1_schema_presented.specs.Presents.{Part, presents, part_records, member_records, Fits, PartFits, AllFit}
 use Rattle.asn1_schema_presented.specs.Tables.{Table}
 use Rattle.asn1_schema_presented.specs.Chains.{Chain}
@@ -40,22 +40,22 @@ pub record CannotWritePart {S : Type 0} (step : S → Record → S → Type 0) (
 pub record WritesMarked {S : Type 0} (step : S → Record → S → Type 0) (schema : ℕ → Schema) (v : Value)
     (old new : S) : Type 0 where
   pub marked : S
-  pub marks : step old (mark true) marked
+  pub presence_bits : step old (presence_bit true) marked
   pub writes : Writes step schema v marked new
 
 pub record CannotWriteMarked {S : Type 0} (step : S → Record → S → Type 0) (schema : ℕ → Schema) (v : Value) (old : S)
     (x : EncodeError) : Type 0 where
-  pub none : ¬ (x ≡ OutOfMemory) → (n : ℕ) (marked new : S) → step old (mark true) marked → Fits (schema n) v
+  pub none : ¬ (x ≡ OutOfMemory) → (n : ℕ) (marked new : S) → step old (presence_bit true) marked → Fits (schema n) v
       → Chain step (presents (schema n) v) marked new → ⊥
 
 -- One with a default is left out where it is equal to this.
 abbrev pub WritesUnless : Bool → {S : Type 0} → (S → Record → S → Type 0) → (ℕ → Schema) → Value → S → S → Type 0
-WritesUnless true step schema v old new = step old (mark false) new
+WritesUnless true step schema v old new = step old (presence_bit false) new
 WritesUnless false step schema v old new = WritesMarked step schema v old new
 
 abbrev pub CannotWriteUnless : Bool → {S : Type 0} → (S → Record → S → Type 0) → (ℕ → Schema) → Value → S
     → EncodeError → Type 0
-CannotWriteUnless true step schema v old x = Refused step (mark false) old x
+CannotWriteUnless true step schema v old x = Refused step (presence_bit false) old x
 CannotWriteUnless false step schema v old x = CannotWriteMarked step schema v old x
 
 -- The same of what is left of a sequence.

@@ -3,7 +3,7 @@ ghost use Rattle.std.specs.Prelude.{◌≡◌, false, OnOk, OnErr, IfErr};
 ghost use Rattle.asn1_model.specs.Value.{fields, same};
 ghost use Rattle.asn1_model.specs.Schema.{optional, by_default};
 ghost use Rattle.asn1_schema_presented.specs.Presents.{there, left_out};
-ghost use Rattle.asn1_schema_presented.specs.Tables.{marks, sequence_type};
+ghost use Rattle.asn1_schema_presented.specs.Tables.{presence_bits, sequence_type};
 ghost use Rattle.asn1_schema_presented.specs.Parts.{part_of, part_unless};
 ghost use Rattle.asn1_schema_constraints.specs.Terms.{meant};
 ghost use Rattle.asn1_schema_encode.specs.Writes.{Writes, CannotWrite, WritesPart, CannotWritePart, WritesMarked};
@@ -115,7 +115,7 @@ pub trait EncodeSequence: Encoder {
         ensures already { Self.has_failed self.old → result ≡ Err EncodeError.AlreadyFailed }
         ensures after { result ≡ Err EncodeError.AlreadyFailed → Self.has_failed self.old }
     {
-        self.put_mark(true)?;
+        self.put_presence_bit(true)?;
         value.encode_with_tag_and_constraints(self, tag, constraints)?;
         Ok(())
     }
@@ -143,7 +143,7 @@ pub trait EncodeSequence: Encoder {
         ensures already { Self.has_failed self.old → result ≡ Err EncodeError.AlreadyFailed }
         ensures after { result ≡ Err EncodeError.AlreadyFailed → Self.has_failed self.old }
     {
-        self.put_mark(false)?;
+        self.put_presence_bit(false)?;
         Ok(())
     }
 
@@ -249,10 +249,10 @@ pub trait EncodeSequence: Encoder {
         ensures after { result ≡ Err EncodeError.AlreadyFailed → Self.has_failed self.old }
     {
         if V::is_default(value) {
-            self.put_mark(false)?;
+            self.put_presence_bit(false)?;
             return Ok(());
         }
-        self.put_mark(true)?;
+        self.put_presence_bit(true)?;
         value.encode_with_tag_and_constraints(self, tag, constraints)?;
         Ok(())
     }
@@ -266,7 +266,7 @@ pub trait EncodeSequence: Encoder {
     ) -> Result<(), EncodeError>
     where
         Self: Sized,
-        requires marks { optional ≡ marks C.table.root }
+        requires presence_bits { optional ≡ presence_bits C.table.root }
         requires plain { C.table.extensible ≡ false }
         ensures ok { OnOk result
             (Writes Self.step (sequence_type C.table) (fields (C.root components.now) (C.added components.now))

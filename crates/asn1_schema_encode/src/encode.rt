@@ -4,7 +4,7 @@ ghost use Rattle.asn1_model.specs.Schema.{utf8};
 ghost use Rattle.asn1_schema_faults.specs.declared.CodecKind.{CodecKind};
 ghost use Rattle.asn1_schema_presented.specs.Records.{Record, flag, nil, one_of, identifier as object_identifier};
 ghost use Rattle.asn1_schema_presented.specs.Records.{further};
-ghost use Rattle.asn1_schema_presented.specs.Records.{sequence_begins, set_begins, group_begins, mark};
+ghost use Rattle.asn1_schema_presented.specs.Records.{sequence_begins, set_begins, group_begins, presence_bit};
 ghost use Rattle.asn1_schema_presented.specs.Records.{additions_begin, addition, addition_ends, ends};
 ghost use Rattle.asn1_schema_constraints.specs.Terms.{meant};
 ghost use Rattle.asn1_schema_types.specs.Told.{whole_under, bits_under, octets_under, characters_under};
@@ -235,9 +235,9 @@ pub trait Encoder {
         ensures after { result ≡ Err EncodeError.AlreadyFailed → has_failed self.old };
 
     /// Whether the next component is there, of those that may be absent.
-    fn put_mark(&mut self, present: bool) -> Result<(), EncodeError>
-        ensures ok { OnOk result (step self.old (mark present) self.new) }
-        ensures only { IfErr result (Refused step (mark present) self.old) }
+    fn put_presence_bit(&mut self, present: bool) -> Result<(), EncodeError>
+        ensures ok { OnOk result (step self.old (presence_bit present) self.new) }
+        ensures only { IfErr result (Refused step (presence_bit present) self.old) }
         ensures failed { OnErr result (has_failed self.new) }
         ensures already { has_failed self.old → result ≡ Err EncodeError.AlreadyFailed }
         ensures after { result ≡ Err EncodeError.AlreadyFailed → has_failed self.old };

@@ -103,7 +103,7 @@ impl Constructed for Chain {
 
     fn read_fields<D: Decoder>(alloc: Global, decoder: &mut D) -> Result<Self, DecodeError> {
         let value = Integer::decode(alloc, decoder)?;
-        let is_there = decoder.get_mark()?;
+        let is_there = decoder.get_presence_bit()?;
         if !is_there {
             decoder.end()?;
             return Ok(Chain { value, next: None });

@@ -7,7 +7,7 @@ ghost use Rattle.asn1_schema.proofs.Author.{type_choice, more_variants, no_varia
 use asn1_schema::{
     Alternatives, AsnType, Choice, Chosen, Class, Constraints, Decode, DecodeAlternatives,
     DecodeChoice, DecodeError, Decoder, Described, Encode, EncodeChoice, EncodeError, Encoder,
-    Identifier, Tag, TagTree,
+    Identifier, Tag, TagPlace, TagTree,
 };
 use std::alloc::Global;
 
@@ -107,6 +107,13 @@ impl Alternatives for Power {
 
     fn extended_variants() -> Option<&'static [Tag]> {
         None
+    }
+
+    fn places() -> &'static [TagPlace] {
+        &[
+            TagPlace { tag: OFF, place: 0 },
+            TagPlace { tag: ON, place: 1 },
+        ]
     }
 
     ghost tagged = { refl };

@@ -1,2 +1,1 @@
-pub mod Nest
 pub mod Tree

@@ -6,7 +6,7 @@ ghost use Rattle.asn1_schema.proofs.Author.{more_variants, no_variants, type_cho
 use asn1_schema::{
     Alternatives, AsnType, Choice, Chosen, Class, Constraints, Decode, DecodeAlternatives,
     DecodeChoice, DecodeError, Decoder, Described, Encode, EncodeChoice, EncodeError, Encoder,
-    Identifier, Tag, TagTree,
+    Identifier, Tag, TagPlace, TagTree,
 };
 use asn1_values::Integer;
 use std::alloc::Global;
@@ -129,6 +129,23 @@ impl Alternatives for Message {
 
     fn extended_variants() -> Option<&'static [Tag]> {
         Some(&[NAME])
+    }
+
+    fn places() -> &'static [TagPlace] {
+        &[
+            TagPlace {
+                tag: FLAG,
+                place: 0,
+            },
+            TagPlace {
+                tag: COUNT,
+                place: 1,
+            },
+            TagPlace {
+                tag: NAME,
+                place: 2,
+            },
+        ]
     }
 
     ghost tagged = { refl };

@@ -4,7 +4,7 @@ use Rattle.std.proofs.lemmas.List.{append-nil}
 use Rattle.std.proofs.lemmas.Bool.{lt-ltb, ltb-true}
 use Rattle.asn1_model.specs.Form.{Form, Bitmap, is_present, is_any_present, present_ones, covered_by}
 use Rattle.asn1_laws_fronts.proofs.Additions as adding
-use Rattle.asn1_schema_finding.specs.Marks.{first_bits, has_set}
+use Rattle.asn1_schema_finding.specs.PresenceBits.{first_bits, has_set}
 
 -- unknown additions, each absent or with its octets
 abbrev pub Octets : Type 0

@@ -4,7 +4,7 @@ use Rattle.asn1_model.specs.Value.{Value, truth, nothing, number, item, bit_list
 use Rattle.asn1_model.specs.Schema.{Schema, cut, boolean, null, integer, enumerated, bit_string, octet_string, character_string, object_identifier, sequence_of, set_of, sequence, set, group, choice, Components, no_component, component, Alternatives, no_alternative, alternative}
 use Rattle.asn1_model.specs.Lawful.{are_no_components}
 use Rattle.asn1_model.specs.Tables.{is_required}
-use Rattle.asn1_schema_presented.specs.Records.{Record, mark, additions_begin, addition, addition_ends, ends, mismatch}
+use Rattle.asn1_schema_presented.specs.Records.{Record, presence_bit, additions_begin, addition, addition_ends, ends, mismatch}
 use Rattle.asn1_schema_presented.specs.Presents.{presents, root_records, added_records, chosen_records, member_records, marked, noted, component_count, Fits, PartsFit, ChosenFits, AllFit}
 use Rattle.asn1_schema_presented.specs.Chains.{Chain}
 use Rattle.asn1_schema_presented.proofs.Chains.{chain_split}
@@ -16,9 +16,9 @@ module _ (S : Type 0) (step : S → Record → S → Type 0) (refused : (a b : S
   abbrev From : List Record → S → Type 0
   From rs b = (m : S) × Goes rs m b
 
-  behind_mark : (q : Bool) (xs rest : List Record) (a b : S) → Goes (marked q xs ++ rest) a b → From (xs ++ rest) b
-  behind_mark true xs rest a b c = (a, c)
-  behind_mark false xs rest a b c = (c.0, c.2)
+  behind_extension_bit : (q : Bool) (xs rest : List Record) (a b : S) → Goes (marked q xs ++ rest) a b → From (xs ++ rest) b
+  behind_extension_bit true xs rest a b c = (a, c)
+  behind_extension_bit false xs rest a b c = (c.0, c.2)
 
   left_out : (q : Bool) (r : Record) (rest : List Record) (a b : S) → Goes (cond q (mismatch ∷ []) (r ∷ []) ++ rest) a b → (q ≡ false) × From rest b
   left_out true r rest a b c = absurd (refused a c.0 c.1)
@@ -78,13 +78,13 @@ module _ (S : Type 0) (step : S → Record → S → Type 0) (refused : (a b : S
     root_fits no_component ps rest a b c = absurd (refused a c.0 c.1)
     root_fits (component t o s cs) (present v ps) rest a b c =
         let its : List Record = presents s v ++ noted o s v in
-        let m = behind_mark (is_required o) its (root_records cs ps rest) a b c in
+        let m = behind_extension_bit (is_required o) its (root_records cs ps rest) a b c in
         let q = chain_split step its (root_records cs ps rest) m.0 b m.1 in
         let p = chain_split step (presents s v) (noted o s v) m.0 q.0 q.1 in
         let r = root_fits cs ps rest q.0 b q.2 in
         ((records_fit s v m.0 p.0 p.1, r.0), r.1)
     root_fits (component t o s cs) (absent ps) rest a b c =
-        let q = left_out (is_required o) (mark false) (root_records cs ps rest) a b c in
+        let q = left_out (is_required o) (presence_bit false) (root_records cs ps rest) a b c in
         let r = root_fits cs ps rest q.1.0 b q.1.1 in
         ((q.0, r.0), r.1)
     root_fits (component t o s cs) end rest a b c = absurd (refused a c.0 c.1)

@@ -1,5 +1,5 @@
 pub mod Fitting
-pub mod Marks
+pub mod PresenceBits
 pub mod Alike
 pub mod Bitmaps
 pub mod Levels

@@ -1,3 +1,3 @@
-pub mod Marks
+pub mod PresenceBits
 pub mod Bags
 pub mod Fitting

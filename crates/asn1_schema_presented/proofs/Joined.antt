@@ -5,9 +5,9 @@ use Rattle.asn1_model.specs.Value.{Value, Parts, same}
 use Rattle.asn1_model.specs.Schema.{Tag, Presence, required, optional, by_default, Schema}
 use Rattle.asn1_model.specs.Normal.{is_at_default, is_group_left_out}
 use Rattle.asn1_model.specs.Tables.{is_required}
-use Rattle.asn1_schema_presented.specs.Records.{mark}
+use Rattle.asn1_schema_presented.specs.Records.{presence_bit}
 use Rattle.asn1_schema_presented.specs.Presents.{Part, left_out, there, with_part, presents, part_records, noted, root_records, optional_count, Fits, PartFits, PartsFit}
-use Rattle.asn1_schema_presented.specs.Tables.{Fields, no_field, field, Table, with_field, components_at, marks, IsValue}
+use Rattle.asn1_schema_presented.specs.Tables.{Fields, no_field, field, Table, with_field, components_at, presence_bits, IsValue}
 use Rattle.asn1_schema_presented.specs.Parts.{tail_records, TailFits}
 
 -- what a `?` passes on
@@ -24,10 +24,10 @@ append_nothing : {A : Type 0} (xs : List A) → xs ++ [] ≡ xs
 append_nothing [] = refl
 append_nothing (x ∷ xs) = ap (λ ys. x ∷ ys) (append_nothing xs)
 
-pub marks_at : (n : ℕ) (fs : Fields) → optional_count (components_at n fs) ≡ marks fs
+pub presence_bits_at : (n : ℕ) (fs : Fields) → optional_count (components_at n fs) ≡ presence_bits fs
 unfolding components_at
-marks_at n no_field = refl
-marks_at n (field ts o s fs) = rw (marks_at n fs) refl
+presence_bits_at n no_field = refl
+presence_bits_at n (field ts o s fs) = rw (presence_bits_at n fs) refl
 
 -- nothing is noted behind what the normal form keeps
 pub nothing_noted : (o : Presence) (s : Schema) (v : Value) → is_group_left_out s v ≡ false → is_at_default o s v ≡ false → noted o s v ≡ []
@@ -45,13 +45,13 @@ tail_fits n ts o s t left_out ps qs f = (f.0.0, (f.0.1, f.1))
 tail_fits n ts o s t (there v) ps qs f = (f.0.0, (f.0.1, f.1))
 
 -- a component that is there and has nothing noted behind it
-pub there_records : (o : Presence) (s : Schema) (v : Value) → noted o s v ≡ [] → part_records (λ w. presents s w) o s (there v) ≡ cond (is_required o) (presents s v) (mark true ∷ presents s v)
+pub there_records : (o : Presence) (s : Schema) (v : Value) → noted o s v ≡ [] → part_records (λ w. presents s w) o s (there v) ≡ cond (is_required o) (presents s v) (presence_bit true ∷ presents s v)
 there_records required s v e = rw e (append_nothing (presents s v))
-there_records optional s v e = rw e (ap (λ rs. mark true ∷ rs) (append_nothing (presents s v)))
-there_records (by_default d) s v e = rw e (ap (λ rs. mark true ∷ rs) (append_nothing (presents s v)))
+there_records optional s v e = rw e (ap (λ rs. presence_bit true ∷ rs) (append_nothing (presents s v)))
+there_records (by_default d) s v e = rw e (ap (λ rs. presence_bit true ∷ rs) (append_nothing (presents s v)))
 
 -- a value behind its extension marker
-pub marked_records : (o : Presence) (s : Schema) (v : Value) → is_required o ≡ false → noted o s v ≡ [] → part_records (λ w. presents s w) o s (there v) ≡ mark true ∷ presents s v
+pub marked_records : (o : Presence) (s : Schema) (v : Value) → is_required o ≡ false → noted o s v ≡ [] → part_records (λ w. presents s w) o s (there v) ≡ presence_bit true ∷ presents s v
 marked_records o s v r e = there_records o s v e ∙ rw r refl
 
 -- a value that is not equal to its default

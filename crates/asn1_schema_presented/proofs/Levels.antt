@@ -9,7 +9,7 @@ use Rattle.asn1_model.specs.Schema.{Presence, Schema, cut, boolean, null, intege
 use Rattle.asn1_model.specs.Normal.{is_at_default, is_group_left_out}
 use Rattle.asn1_model.specs.Tables.{is_required}
 use Rattle.asn1_model.specs.Lawful.{are_no_components}
-use Rattle.asn1_schema_presented.specs.Records.{Record, mark, addition, addition_ends, additions_begin, is_default, is_empty, ends}
+use Rattle.asn1_schema_presented.specs.Records.{Record, presence_bit, addition, addition_ends, additions_begin, is_default, is_empty, ends}
 use Rattle.asn1_schema_presented.specs.Presents.{presents, root_records, added_records, chosen_records, member_records, behind_root, component_count, marked, Fits, PartsFit, ChosenFits, AllFit}
 use Rattle.asn1_schema_presented.specs.Chains.{Chain}
 use Rattle.asn1_schema_presented.specs.Levels.{level, levels, inside, Level, LowersAt, Lowers, Nests, Both}
@@ -103,7 +103,7 @@ it_and_others cs s v ih others r d g ps f rs more most l h =
     ∙ behind (leb (depth v) l) _ _ (others ps f rs more most l h)
     ∙ both_within (depth v) (depth_of_parts ps) l (levels most (rs ++ more) l)
 
-absent_and_others : (cs : Components) → Root cs → (r : Bool) → r ≡ false → (x : List Record) (ps : Parts) → PartsFit cs ps → (rs more : List Record) (most l : ℕ) → l ≤ most → levels most ((cond r x (mark false ∷ []) ++ root_records cs ps rs) ++ more) l ≡ cond (leb (depth_of_parts ps) l) (levels most (rs ++ more) l) None
+absent_and_others : (cs : Components) → Root cs → (r : Bool) → r ≡ false → (x : List Record) (ps : Parts) → PartsFit cs ps → (rs more : List Record) (most l : ℕ) → l ≤ most → levels most ((cond r x (presence_bit false ∷ []) ++ root_records cs ps rs) ++ more) l ≡ cond (leb (depth_of_parts ps) l) (levels most (rs ++ more) l) None
 absent_and_others cs others true e x ps f rs more most l h = cc
 absent_and_others cs others false e x ps f rs more most l h = others ps f rs more most l h
 

@@ -4,7 +4,7 @@ use Rattle.std.specs.Prelude.{◌||◌, not}
 use Rattle.asn1_model.specs.Value.{Value, truth, nothing, number, item, bit_list, octet_list, text, arcs, members, bag, fields, chosen, no_more, member, Parts, end, absent, present}
 use Rattle.asn1_model.specs.Schema.{Tag, Range, Bounds, Counts, Size, Alphabet, StringKind, Presence, required, optional, by_default, Schema, cut, boolean, null, integer, enumerated, bit_string, octet_string, character_string, object_identifier, sequence_of, set_of, sequence, set, group, choice, Components, no_component, component, Alternatives, no_alternative, alternative}
 use Rattle.asn1_model.specs.Lawful.{are_no_components, alternative_tags}
-use Rattle.asn1_schema_presented.specs.Records.{Record, list_begins, bag_begins, further, sequence_begins, set_begins, group_begins, mark, additions_begin, addition, addition_ends, choice_begins, ends, question, told}
+use Rattle.asn1_schema_presented.specs.Records.{Record, list_begins, bag_begins, further, sequence_begins, set_begins, group_begins, presence_bit, additions_begin, addition, addition_ends, choice_begins, ends, question, told}
 use Rattle.asn1_schema_presented.specs.Presents.{presents, root_records, added_records, chosen_records, part_records, addition_records, member_records, member_count, optional_count, component_count, behind_root, noted, Part, with_part, left_out, there, Fits, PartsFit, ChosenFits, PartFits, AllFit}
 use Rattle.asn1_schema_presented.specs.Chains.{Chain, OneRecord}
 use Rattle.asn1_schema_presented.proofs.Chains.{chain_split}
@@ -129,26 +129,26 @@ module _ {S : Type 0} {step : S → Record → S → Type 0} (one : OneRecord st
   one_part required s ih (there v) (there w) a b c u t p q = let e = one_noted (λ v. Fits s v) (λ v. presents s v) (λ v. noted required s v) ih v w a b c u t p q in (ap there e.0, e.1)
   one_part required s ih (there v) left_out a b c u t p q = let e : true ≡ false = t in cc
   one_part required s ih left_out y a b c u t p q = let e : true ≡ false = u in cc
-  one_part optional s ih left_out left_out a b c u t p q = (refl, (single (mark false) (mark false) a b c refl p q).1)
+  one_part optional s ih left_out left_out a b c u t p q = (refl, (single (presence_bit false) (presence_bit false) a b c refl p q).1)
   one_part optional s ih left_out (there w) a b c u t p q =
-      let r = same_first (mark false) (mark true) [] (presents s w ++ noted optional s w) a b c refl p q in
-      let e : mark false ≡ mark true = r.1 in cc
+      let r = same_first (presence_bit false) (presence_bit true) [] (presents s w ++ noted optional s w) a b c refl p q in
+      let e : presence_bit false ≡ presence_bit true = r.1 in cc
   one_part optional s ih (there v) left_out a b c u t p q =
-      let r = same_first (mark true) (mark false) (presents s v ++ noted optional s v) [] a b c refl p q in
-      let e : mark true ≡ mark false = r.1 in cc
+      let r = same_first (presence_bit true) (presence_bit false) (presents s v ++ noted optional s v) [] a b c refl p q in
+      let e : presence_bit true ≡ presence_bit false = r.1 in cc
   one_part optional s ih (there v) (there w) a b c u t p q =
-      let r = same_first (mark true) (mark true) (presents s v ++ noted optional s v) (presents s w ++ noted optional s w) a b c refl p q in
+      let r = same_first (presence_bit true) (presence_bit true) (presents s v ++ noted optional s v) (presents s w ++ noted optional s w) a b c refl p q in
       let e = one_noted (λ v. Fits s v) (λ v. presents s v) (λ v. noted optional s v) ih v w r.0 b c u t r.2 r.3 in
       (ap there e.0, e.1)
-  one_part (by_default d) s ih left_out left_out a b c u t p q = (refl, (single (mark false) (mark false) a b c refl p q).1)
+  one_part (by_default d) s ih left_out left_out a b c u t p q = (refl, (single (presence_bit false) (presence_bit false) a b c refl p q).1)
   one_part (by_default d) s ih left_out (there w) a b c u t p q =
-      let r = same_first (mark false) (mark true) [] (presents s w ++ noted (by_default d) s w) a b c refl p q in
-      let e : mark false ≡ mark true = r.1 in cc
+      let r = same_first (presence_bit false) (presence_bit true) [] (presents s w ++ noted (by_default d) s w) a b c refl p q in
+      let e : presence_bit false ≡ presence_bit true = r.1 in cc
   one_part (by_default d) s ih (there v) left_out a b c u t p q =
-      let r = same_first (mark true) (mark false) (presents s v ++ noted (by_default d) s v) [] a b c refl p q in
-      let e : mark true ≡ mark false = r.1 in cc
+      let r = same_first (presence_bit true) (presence_bit false) (presents s v ++ noted (by_default d) s v) [] a b c refl p q in
+      let e : presence_bit true ≡ presence_bit false = r.1 in cc
   one_part (by_default d) s ih (there v) (there w) a b c u t p q =
-      let r = same_first (mark true) (mark true) (presents s v ++ noted (by_default d) s v) (presents s w ++ noted (by_default d) s w) a b c refl p q in
+      let r = same_first (presence_bit true) (presence_bit true) (presents s v ++ noted (by_default d) s v) (presents s w ++ noted (by_default d) s w) a b c refl p q in
       let e = one_noted (λ v. Fits s v) (λ v. presents s v) (λ v. noted (by_default d) s v) ih v w r.0 b c u t r.2 r.3 in
       (ap there e.0, e.1)
 

@@ -11,7 +11,7 @@ use Rattle.asn1_model.specs.Lawful.{are_no_components, alternative_tags}
 use Rattle.asn1_model.specs.Tables.{is_required}
 use Rattle.asn1_schema_presented.specs.Records.{Record, flag, nil, whole, one_of, bits, octets, characters}
 use Rattle.asn1_schema_presented.specs.Records.{identifier, list_begins, bag_begins, further, sequence_begins}
-use Rattle.asn1_schema_presented.specs.Records.{set_begins, group_begins, mark, is_default, is_empty, additions_begin}
+use Rattle.asn1_schema_presented.specs.Records.{set_begins, group_begins, presence_bit, is_default, is_empty, additions_begin}
 use Rattle.asn1_schema_presented.specs.Records.{addition, addition_ends, choice_begins, ends, mismatch}
 
 -- ---- counts
@@ -48,7 +48,7 @@ with_part (there v) ps = present v ps
 -- The presence bit before a component that is there, if there is one.
 abbrev pub marked : Bool → List Record → List Record
 marked true rs = rs
-marked false rs = mark true ∷ rs
+marked false rs = presence_bit true ∷ rs
 
 -- What follows a component that the normal form leaves out.
 abbrev pub noted : Presence → Schema → Value → List Record
@@ -56,7 +56,7 @@ noted o s v = cond (is_at_default o s v) (is_default ∷ []) (cond (is_group_lef
 
 -- The records of one root component, by those of its value (X.691 19.2 and 19.6, X.696 16).
 abbrev pub part_records : (Value → List Record) → Presence → Schema → Part → List Record
-part_records f o s left_out = cond (is_required o) (mismatch ∷ []) (mark false ∷ [])
+part_records f o s left_out = cond (is_required o) (mismatch ∷ []) (presence_bit false ∷ [])
 part_records f o s (there v) = marked (is_required o) (f v ++ noted o s v)
 
 -- The records of one addition (X.691 19.7 to 19.9, X.696 16).

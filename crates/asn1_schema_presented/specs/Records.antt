@@ -34,7 +34,7 @@ pub data Record : Type 0 where
   -- a group of additions begins: how many of its components may be absent
   group_begins : ℕ → Record
   -- whether the next component is there, of those that may be absent
-  mark : Bool → Record
+  presence_bit : Bool → Record
   -- the component that was handed over is equal to its default, or a group in which nothing is left: no writer takes it
   is_default : Record
   is_empty : Record
@@ -67,7 +67,7 @@ pub data Question : Type 0 where
   asks_sequence : Bool → ℕ → Question
   asks_set : Bool → ℕ → Question
   asks_group : ℕ → Question
-  asks_mark : Question
+  asks_presence_bit : Question
   asks_default : Question
   asks_empty : Question
   asks_additions : ℕ → Question
@@ -93,7 +93,7 @@ question (further b) = asks_further
 question (sequence_begins e n) = asks_sequence e n
 question (set_begins e n) = asks_set e n
 question (group_begins n) = asks_group n
-question (mark b) = asks_mark
+question (presence_bit b) = asks_presence_bit
 question is_default = asks_default
 question is_empty = asks_empty
 question (additions_begin n) = asks_additions n

@@ -27,18 +27,18 @@ added_null = choice (or_tagged 0 boolean no_alternative) true (or_tagged 1 null 
 abbrev pub ComponentRows : Type 0
 ComponentRows =
     (presents setting (roots (present yes (present (num 7) (present nothing end)))) ≡ call.sequence_begins false 1
-    ∷ call.flag true ∷ call.mark true ∷ octet 7 ∷ call.nil ∷ call.ends ∷ [])
+    ∷ call.flag true ∷ call.presence_bit true ∷ octet 7 ∷ call.nil ∷ call.ends ∷ [])
     × (presents setting (roots (present no (absent (present nothing end)))) ≡ call.sequence_begins false 1
-    ∷ call.flag false ∷ call.mark false ∷ call.nil ∷ call.ends ∷ [])
+    ∷ call.flag false ∷ call.presence_bit false ∷ call.nil ∷ call.ends ∷ [])
     × (presents setting (roots (absent (absent (present nothing end)))) ≡ call.sequence_begins false 1 ∷ call.mismatch
-    ∷ call.mark false ∷ call.nil ∷ call.ends ∷ [])
+    ∷ call.presence_bit false ∷ call.nil ∷ call.ends ∷ [])
     × (presents setting (roots (present yes end)) ≡ call.sequence_begins false 1 ∷ call.flag true ∷ call.mismatch ∷ [])
-    × (presents defaulted (roots (present (num 0) (absent end))) ≡ call.sequence_begins false 2 ∷ call.mark true
-    ∷ unbounded 0 ∷ call.is_default ∷ call.mark false ∷ call.ends ∷ [])
-    × (presents defaulted (roots (present (num 3) (absent end))) ≡ call.sequence_begins false 2 ∷ call.mark true
-    ∷ unbounded 3 ∷ call.mark false ∷ call.ends ∷ [])
+    × (presents defaulted (roots (present (num 0) (absent end))) ≡ call.sequence_begins false 2 ∷ call.presence_bit true
+    ∷ unbounded 0 ∷ call.is_default ∷ call.presence_bit false ∷ call.ends ∷ [])
+    × (presents defaulted (roots (present (num 3) (absent end))) ≡ call.sequence_begins false 2 ∷ call.presence_bit true
+    ∷ unbounded 3 ∷ call.presence_bit false ∷ call.ends ∷ [])
     × (presents (set (needs 0 boolean (may_have 1 null no_component)) false no_component)
-    (roots (present yes (absent end))) ≡ call.set_begins false 1 ∷ call.flag true ∷ call.mark false ∷ call.ends
+    (roots (present yes (absent end))) ≡ call.set_begins false 1 ∷ call.flag true ∷ call.presence_bit false ∷ call.ends
     ∷ [])
 
 -- lists, bags and choices
@@ -66,7 +66,7 @@ AdditionRows =
     ∷ call.additions_begin 1 ∷ call.addition false ∷ call.ends ∷ [])
     × (presents grouped (fields (present yes end) (present (roots (present (num 7) end)) end))
     ≡ call.sequence_begins true 0 ∷ call.flag true ∷ call.additions_begin 1 ∷ call.addition true
-    ∷ call.group_begins 1 ∷ call.mark true ∷ octet 7 ∷ call.ends ∷ call.addition_ends ∷ call.ends ∷ [])
+    ∷ call.group_begins 1 ∷ call.presence_bit true ∷ octet 7 ∷ call.ends ∷ call.addition_ends ∷ call.ends ∷ [])
     × (presents grouped (fields (present yes end) (present (roots (absent end)) end)) ≡ call.sequence_begins true 0
-    ∷ call.flag true ∷ call.additions_begin 1 ∷ call.addition true ∷ call.group_begins 1 ∷ call.mark false
+    ∷ call.flag true ∷ call.additions_begin 1 ∷ call.addition true ∷ call.group_begins 1 ∷ call.presence_bit false
     ∷ call.ends ∷ call.addition_ends ∷ call.is_empty ∷ call.ends ∷ [])

@@ -44,9 +44,9 @@ with_field t o s table = record {
 }
 
 -- How many components may be absent.
-abbrev pub marks : Fields → ℕ
-marks no_field = 0
-marks (field t o s fs) = cond (is_required o) (marks fs) (suc (marks fs))
+abbrev pub presence_bits : Fields → ℕ
+presence_bits no_field = 0
+presence_bits (field t o s fs) = cond (is_required o) (presence_bits fs) (suc (presence_bits fs))
 
 -- The tags of all components.
 abbrev pub field_tags : Fields → List Tag

@@ -9,7 +9,7 @@ use Rattle.asn1_schema_faults.specs.declared.EncodeError.TheVariants.{OutOfMemor
 use Rattle.asn1_schema_presented.specs.Records.{Record, flag, nil, whole, one_of, bits, octets, characters}
 use Rattle.asn1_schema_presented.specs.Records.{identifier, list_begins, bag_begins, further, sequence_begins}
 use Rattle.asn1_schema_presented.specs.Records.{set_begins}
-use Rattle.asn1_schema_presented.specs.Records.{group_begins, mark, is_default, is_empty, additions_begin, addition}
+use Rattle.asn1_schema_presented.specs.Records.{group_begins, presence_bit, is_default, is_empty, additions_begin, addition}
 use Rattle.asn1_schema_presented.specs.Records.{addition_ends, choice_begins, ends}
 use Rattle.asn1_schema_records.specs.declared.items.Limits.{Limits}
 use Rattle.asn1_schema_records.specs.declared.items.Sizes.{Sizes}
@@ -17,7 +17,7 @@ use Rattle.asn1_schema_records.specs.declared.items.Item.{Item}
 use Rattle.asn1_schema_records.specs.declared.items.Item.TheVariants.{Flag, Null, Integer, OneOf, Bits, Octets, Text}
 use Rattle.asn1_schema_records.specs.declared.items.Item.TheVariants.{Characters, Identifier, ListBegins, BagBegins}
 use Rattle.asn1_schema_records.specs.declared.items.Item.TheVariants.{Further, SequenceBegins, SetBegins}
-use Rattle.asn1_schema_records.specs.declared.items.Item.TheVariants.{GroupBegins, Mark, IsDefault, IsEmpty}
+use Rattle.asn1_schema_records.specs.declared.items.Item.TheVariants.{GroupBegins, PresenceBit, IsDefault, IsEmpty}
 use Rattle.asn1_schema_records.specs.declared.items.Item.TheVariants.{AdditionsBegin, Addition, AdditionEnds}
 use Rattle.asn1_schema_records.specs.declared.items.Item.TheVariants.{ChoiceBegins, Ends}
 
@@ -72,7 +72,7 @@ record_of (Further b) = further b
 record_of (SequenceBegins e n) = sequence_begins e n
 record_of (SetBegins e n) = set_begins e n
 record_of (GroupBegins n) = group_begins n
-record_of (Mark b) = mark b
+record_of (PresenceBit b) = presence_bit b
 record_of IsDefault = is_default
 record_of IsEmpty = is_empty
 record_of (AdditionsBegin n) = additions_begin n

@@ -2,7 +2,7 @@
 ghost use Rattle.std.specs.Prelude.{◌≡◌, ◌+◌, ◌≤◌, ◌<◌, ◌||◌, ◌↔◌, ℕ, ◌∷◌, true, false, cond, length, map};
 ghost use Rattle.std.specs.Prelude.{string_bytes, IsTrue, MatchBool, OnOk, OnErr, IfErr, IfOk};
 ghost use Rattle.asn1_model.specs.Schema.{utf8};
-ghost use Rattle.asn1_model.specs.Types.{any_count};
+ghost use Rattle.asn1_model.specs.Schema.{any_count};
 ghost use Rattle.asn1_model.specs.Numbers.{is_within, is_count_within};
 ghost use Rattle.asn1_schema_constraints.specs.Bounds.{counts_of, members_of};
 ghost use Rattle.asn1_schema_constraints.specs.Terms.{admits_whole, bounds_of, sizes_of};
@@ -14,11 +14,11 @@ ghost use Rattle.asn1_schema_types.specs.Told.{asks_characters_under, asks_list_
 ghost use Rattle.asn1_schema_presented.specs.Records.{flag, nil, one_of, bits, octets, characters};
 ghost use Rattle.asn1_schema_presented.specs.Records.{identifier as object_identifier, further, sequence_begins};
 ghost use Rattle.asn1_schema_presented.specs.Records.{set_begins};
-ghost use Rattle.asn1_schema_presented.specs.Records.{group_begins, mark, is_default, is_empty, additions_begin};
+ghost use Rattle.asn1_schema_presented.specs.Records.{group_begins, presence_bit, is_default, is_empty, additions_begin};
 ghost use Rattle.asn1_schema_presented.specs.Records.{addition, addition_ends, choice_begins, ends};
 ghost use Rattle.asn1_schema_presented.specs.Records.{asks_flag, asks_nil, asks_one_of, asks_identifier};
 ghost use Rattle.asn1_schema_presented.specs.Records.{asks_further, asks_sequence};
-ghost use Rattle.asn1_schema_presented.specs.Records.{asks_set, asks_group, asks_mark, asks_default, asks_empty};
+ghost use Rattle.asn1_schema_presented.specs.Records.{asks_set, asks_group, asks_presence_bit, asks_default, asks_empty};
 ghost use Rattle.asn1_schema_presented.specs.Records.{asks_additions, asks_addition, asks_addition_end};
 ghost use Rattle.asn1_schema_presented.specs.Records.{asks_choice, asks_end};
 ghost use Rattle.asn1_schema_records.specs.Kept.{record_of, sizes_in};
@@ -27,14 +27,13 @@ ghost use Rattle.asn1_schema_records.specs.Taken.{IsRefusedFirst, IsOtherThan, I
 ghost use Rattle.asn1_schema_records.specs.Taken.{IsMisfitItem, IsMisfitChoice, IsMisfitText, IsMisfitNumber};
 ghost use Rattle.asn1_schema_records.specs.Taken.{IsUntaken, IsUnspelled};
 ghost use Rattle.asn1_schema_records.specs.Taken.{kept_bits, kept_octets, kept_text, kept_list, kept_bag};
-ghost use Rattle.asn1_schema_tags.specs.Tags.{tag_of};
 ghost use Rattle.asn1_values_alphabets.specs.Permitted.{permits_all};
 
 use crate::{Item, Sizes, is_extensible};
 use asn1_schema_constraints::{Bounded, Constraints};
 use asn1_schema_decode::Decoder;
 use asn1_schema_faults::{CodecKind, DecodeError};
-use asn1_schema_tags::Tag;
+use asn1_schema_tags::{Tag, TagTables};
 use asn1_schema_variants::{Chosen, Enumerated};
 use asn1_values_alphabets::StaticPermittedAlphabet;
 use asn1_values_bit_strings::BitString;
@@ -528,17 +527,18 @@ impl Decoder for RecordDecoder {
         Err(self.refuse(DecodeError::NotValidCanonicalEncoding))
     }
 
-    fn get_mark(&mut self) -> Result<bool, DecodeError>
-        ensures ok { IfOk result (λ x. Takes self.old (mark x) self.new) }
+    fn get_presence_bit(&mut self) -> Result<bool, DecodeError>
+        ensures ok { IfOk result (λ x. Takes self.old (presence_bit x) self.new) }
         ensures level { OnOk result (self.new.levels ≡ self.old.levels) }
-        ensures only { IfErr result (NoRecord Takes asks_mark self.old) }
+        ensures only { IfErr result (NoRecord Takes asks_presence_bit self.old) }
         ensures failed { OnErr result (self.new.failed ≡ true) }
         ensures already { self.old.failed ≡ true → result ≡ Err DecodeError.AlreadyFailed }
         ensures after { result ≡ Err DecodeError.AlreadyFailed → self.old.failed ≡ true }
-        ensures kind { IfErr result (IsRefused self.old (IsOtherKind mark)) }
+        ensures no_memory { IfErr result (λ e. e ≡ DecodeError.OutOfMemory → ⊥) }
+        ensures kind { IfErr result (IsRefused self.old (IsOtherKind presence_bit)) }
     {
         let item = self.take_next()?;
-        match item.into_mark() {
+        match item.into_presence_bit() {
             Some(present) => Ok(present),
             None => Err(self.refuse(DecodeError::NotValidCanonicalEncoding)),
         }
@@ -551,6 +551,7 @@ impl Decoder for RecordDecoder {
         ensures failed { OnErr result (self.new.failed ≡ true) }
         ensures already { self.old.failed ≡ true → result ≡ Err DecodeError.AlreadyFailed }
         ensures after { result ≡ Err DecodeError.AlreadyFailed → self.old.failed ≡ true }
+        ensures no_memory { IfErr result (λ e. e ≡ DecodeError.OutOfMemory → ⊥) }
         ensures kind { IfErr result (IsRefused self.old (IsOtherThan is_default)) }
     {
         let item = self.take_next()?;
@@ -567,6 +568,7 @@ impl Decoder for RecordDecoder {
         ensures failed { OnErr result (self.new.failed ≡ true) }
         ensures already { self.old.failed ≡ true → result ≡ Err DecodeError.AlreadyFailed }
         ensures after { result ≡ Err DecodeError.AlreadyFailed → self.old.failed ≡ true }
+        ensures no_memory { IfErr result (λ e. e ≡ DecodeError.OutOfMemory → ⊥) }
         ensures kind { IfErr result (IsRefused self.old (IsOtherThan is_empty)) }
     {
         let item = self.take_next()?;
@@ -624,32 +626,25 @@ impl Decoder for RecordDecoder {
         Err(self.refuse(DecodeError::NotValidCanonicalEncoding))
     }
 
-    fn begin_choice(
-        &mut self,
-        _tag: Tag,
-        roots: &[Tag],
-        extensible: bool,
-        additions: &[Tag],
-    ) -> Result<Chosen, DecodeError>
+    fn begin_choice(&mut self, _tag: Tag, tables: &TagTables<'_>) -> Result<Chosen, DecodeError>
         ensures ok { IfOk result (λ x. Takes self.old
-            (choice_begins (map tag_of roots.now) extensible (map tag_of additions.now) x.added x.place) self.new) }
-        ensures within { IfOk result
-            (λ x. x.place < length (cond x.added (map tag_of additions.now) (map tag_of roots.now))) }
+            (choice_begins tables.now.roots tables.now.extensible tables.now.additions x.added x.place) self.new) }
+        ensures within { IfOk result (λ x. x.place < length (cond x.added tables.now.additions tables.now.roots)) }
         ensures level { OnOk result (self.old.levels ≡ self.new.levels + 1) }
         ensures only { IfErr result
-            (NoLevel Takes (asks_choice (map tag_of roots.now) extensible (map tag_of additions.now))
+            (NoLevel Takes (asks_choice tables.now.roots tables.now.extensible tables.now.additions)
             self.old.levels self.old) }
         ensures failed { OnErr result (self.new.failed ≡ true) }
         ensures already { self.old.failed ≡ true → result ≡ Err DecodeError.AlreadyFailed }
         ensures after { result ≡ Err DecodeError.AlreadyFailed → self.old.failed ≡ true }
         ensures kind { IfErr result (IsRefusedFirst self.old
-            (IsMisfitChoice (map tag_of roots.now) extensible (map tag_of additions.now))) }
+            (IsMisfitChoice tables.now.roots tables.now.extensible tables.now.additions)) }
     {
         let item = self.take_first()?;
-        let Some(chosen) = item.into_choice(extensible) else {
+        let Some(chosen) = item.into_choice(tables.extensible()) else {
             return Err(self.refuse(DecodeError::NotValidCanonicalEncoding));
         };
-        if is_alternative(roots, additions, chosen) {
+        if is_alternative(tables, chosen) {
             return Ok(chosen);
         }
         Err(self.refuse(DecodeError::InvalidTagVariantOnChoice))
@@ -705,16 +700,15 @@ fn are_sizes(sizes: Sizes, constraints: Constraints, held: Bounded<usize>, count
 }
 
 // Whether a choice of these alternatives has this one.
-fn is_alternative(roots: &[Tag], additions: &[Tag], chosen: Chosen) -> bool
-    ensures { IsTrue result
-        ↔ (chosen.place < length (cond chosen.added (map tag_of additions.now) (map tag_of roots.now))) }
+fn is_alternative(tables: &TagTables<'_>, chosen: Chosen) -> bool
+    ensures { IsTrue result ↔ (chosen.place < length (cond chosen.added tables.now.additions tables.now.roots)) }
 {
-    let count = if chosen.added {
-        additions.len()
+    let tags = if chosen.added {
+        tables.additions()
     } else {
-        roots.len()
+        tables.roots()
     };
-    chosen.place < count
+    chosen.place < tags.len()
 }
 
 // Whether a number is one of 128 bits and within bounds that have no extension marker, where there is a value

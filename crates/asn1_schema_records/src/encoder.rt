@@ -267,8 +267,8 @@ impl Encoder for RecordEncoder {
         self.put(Item::GroupBegins(optional))
     }
 
-    fn put_mark(&mut self, present: bool) -> Result<(), EncodeError> {
-        self.put(Item::Mark(present))
+    fn put_presence_bit(&mut self, present: bool) -> Result<(), EncodeError> {
+        self.put(Item::PresenceBit(present))
     }
 
     fn begin_additions(&mut self, count: usize) -> Result<(), EncodeError> {

@@ -4,7 +4,7 @@ ghost use Rattle.asn1_model.specs.Schema.{Bounds, Size, utf8, visible};
 ghost use Rattle.asn1_schema_constraints.specs.Terms.{bounds_of, sizes_of};
 ghost use Rattle.asn1_schema_presented.specs.Records.{flag, nil, whole, one_of, bits, octets, characters, identifier};
 ghost use Rattle.asn1_schema_presented.specs.Records.{list_begins, bag_begins, further, sequence_begins, set_begins};
-ghost use Rattle.asn1_schema_presented.specs.Records.{group_begins, mark, is_default, is_empty, additions_begin};
+ghost use Rattle.asn1_schema_presented.specs.Records.{group_begins, presence_bit, is_default, is_empty, additions_begin};
 ghost use Rattle.asn1_schema_presented.specs.Records.{addition, addition_ends, choice_begins, ends};
 ghost use Rattle.asn1_schema_records.specs.Kept.{bounds_in, sizes_in, any_number, any_count, any_alphabet, record_of};
 
@@ -125,7 +125,7 @@ pub enum Item {
     /// A group of additions begins: how many of its components may be absent.
     GroupBegins(usize),
     /// Whether a component is there.
-    Mark(bool),
+    PresenceBit(bool),
     /// The component before is equal to its default.
     IsDefault,
     /// The group before has no component.
@@ -177,7 +177,7 @@ impl Item {
             (λ v. record_of self ≡ one_of [] extensible [] v) }
     {
         match self {
-            Item::OneOf(mark, number) if mark == extensible => Some(number),
+            Item::OneOf(is_extensible, number) if is_extensible == extensible => Some(number),
             _ => None,
         }
     }
@@ -277,7 +277,7 @@ impl Item {
         ensures { IsTrue result ↔ (record_of self.now ≡ sequence_begins extensible optional) }
     {
         match self {
-            Item::SequenceBegins(mark, count) => *mark == extensible && *count == optional,
+            Item::SequenceBegins(is_extensible, count) => *is_extensible == extensible && *count == optional,
             _ => false,
         }
     }
@@ -288,7 +288,7 @@ impl Item {
         ensures { IsTrue result ↔ (record_of self.now ≡ set_begins extensible optional) }
     {
         match self {
-            Item::SetBegins(mark, count) => *mark == extensible && *count == optional,
+            Item::SetBegins(is_extensible, count) => *is_extensible == extensible && *count == optional,
             _ => false,
         }
     }
@@ -304,11 +304,11 @@ impl Item {
     }
 
     /// Whether a component is there; `None` of any other item.
-    pub fn into_mark(self) -> Option<bool>
-        ensures { MatchOption result ((b : Bool) → record_of self ≡ mark b → ⊥) (λ b. record_of self ≡ mark b) }
+    pub fn into_presence_bit(self) -> Option<bool>
+        ensures { MatchOption result ((b : Bool) → record_of self ≡ presence_bit b → ⊥) (λ b. record_of self ≡ presence_bit b) }
     {
         match self {
-            Item::Mark(present) => Some(present),
+            Item::PresenceBit(present) => Some(present),
             _ => None,
         }
     }
@@ -360,7 +360,7 @@ impl Item {
             → ⊥) (λ c. record_of self ≡ choice_begins [] extensible [] c.added c.place) }
     {
         match self {
-            Item::ChoiceBegins(mark, chosen) if mark == extensible => Some(chosen),
+            Item::ChoiceBegins(is_extensible, chosen) if is_extensible == extensible => Some(chosen),
             _ => None,
         }
     }

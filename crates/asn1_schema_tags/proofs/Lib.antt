@@ -4,3 +4,4 @@ pub mod SameLaws
 pub mod Halves
 pub mod TableSteps
 pub mod PlainLookUp
+pub mod FoundAlternatives

@@ -12,7 +12,7 @@ use Rattle.asn1_schema_tags.specs.declared.trees.TagTree.{TagTree}
 use Rattle.asn1_schema_tags.proofs.TreeLaws.{leaves_at}
 
 -- the first of two answers that is there
-abbrev either : Option ℕ → Option ℕ → Option ℕ
+abbrev pub either : Option ℕ → Option ℕ → Option ℕ
 either (Some k) o = Some k
 either None o = o
 
@@ -35,6 +35,13 @@ position_from-shift p n m (x ∷ xs) =
 -- the same from 0
 position_from_zero : (p : ModelTag → Bool) (n : ℕ) (xs : List ModelTag) → position_from p n xs ≡ option_map (λ k. n + k) (position_from p 0 xs)
 position_from_zero p n xs = let e : n ≡ n + 0 = omega arith in ap (λ k. position_from p k xs) e ∙ position_from-shift p n 0 xs
+
+-- the place of a tag in two lists joined
+pub place_of_joined : (ts us : List ModelTag) (t : ModelTag) → place_of (ts ++ us) t ≡ either (place_of ts t) (option_map (λ k. length ts + k) (place_of us t))
+place_of_joined ts us t =
+    let e : 0 + length ts ≡ length ts = omega arith in
+    position_from-append (tag_same t) 0 ts us
+    ∙ (ap (λ k. either (place_of ts t) (position_from (tag_same t) k us)) e ∙ ap (either (place_of ts t)) (position_from_zero (tag_same t) (length ts) us))
 
 -- the step where the tag stands in the tree
 pub place_found : (t : ModelTag) (b k : ℕ) (nodes : List TagTree) (i : ℕ) (d : TagTree) → i < length nodes → d ≡ get_or nodes i d → place_of (leaves d) t ≡ Some k

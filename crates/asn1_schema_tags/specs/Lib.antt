@@ -4,3 +4,4 @@ pub mod Plain
 pub mod Same
 pub mod Texts
 pub mod Places
+pub mod Chosen

@@ -5,6 +5,7 @@ pub mod alternatives;
 pub mod finding;
 pub mod identifiers;
 pub mod probes;
+pub mod tables;
 pub mod tags;
 pub mod trees;
 
@@ -12,5 +13,6 @@ pub use alternatives::Variants;
 pub use finding::{find_place, is_place_table};
 pub use identifiers::Identifier;
 pub use probes::{TagPlace, TagProbe};
+pub use tables::TagTables;
 pub use tags::{Class, Tag};
 pub use trees::TagTree;

@@ -297,7 +297,7 @@ fn push_spelled_out(items: &mut Vec<Item>, is_noted: bool) -> Result<(), DecodeE
         high: None,
         extensible: false,
     };
-    items.push(Item::Mark(true))?;
+    items.push(Item::PresenceBit(true))?;
     items.push(Item::Integer(limits, Integer::zero()))?;
     if is_noted {
         items.push(Item::IsDefault)?;

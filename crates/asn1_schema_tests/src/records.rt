@@ -2,7 +2,10 @@
 use crate::colour::Colour;
 use crate::common::{Wanted, are_records, decoder, encoder};
 use asn1_schema::records::{Item, RecordDecoder, RecordEncoder};
-use asn1_schema::{Chosen, CodecKind, DecodeError, Decoder, EncodeError, Encoder, Identifier, Tag};
+use asn1_schema::{
+    Chosen, CodecKind, DecodeError, Decoder, EncodeError, Encoder, Identifier, Tag, TagPlace,
+    TagTables,
+};
 use std::alloc::{AllocError, Global};
 
 /// Hands SET {.., OPTIONAL, ..., [[..]], .., ..} with nothing in its group to an encoder.
@@ -110,15 +113,31 @@ fn is_addition_kept(alloc: Global) -> bool {
         )
 }
 
-/// An alternative that is written, the root alternatives, extension marker and additions of a choice that is read, and
-/// what is found.
+/// An alternative that is written, the root alternatives, mark, additions and places of a choice that is read, and what
+/// is found.
 type Row = (
     Chosen,
     &'static [Tag],
     bool,
     &'static [Tag],
+    &'static [TagPlace],
     Result<Chosen, DecodeError>,
 );
+
+const FIRST_PLACE: TagPlace = TagPlace {
+    tag: Tag::BOOL,
+    place: 0,
+};
+
+const NULL_PLACE: TagPlace = TagPlace {
+    tag: Tag::NULL,
+    place: 1,
+};
+
+const ADDED_PLACE: TagPlace = TagPlace {
+    tag: Tag::INTEGER,
+    place: 2,
+};
 
 const SECOND: Chosen = Chosen {
     added: false,
@@ -127,7 +146,14 @@ const SECOND: Chosen = Chosen {
 
 /// The alternative is found; one that a choice has not is refused; and a choice without an extension marker is another.
 const CHOICES: [Row; 3] = [
-    (SECOND, &[Tag::BOOL, Tag::NULL], true, &[], Ok(SECOND)),
+    (
+        SECOND,
+        &[Tag::BOOL, Tag::NULL],
+        true,
+        &[],
+        &[FIRST_PLACE, NULL_PLACE],
+        Ok(SECOND),
+    ),
     (
         Chosen {
             added: true,
@@ -136,6 +162,7 @@ const CHOICES: [Row; 3] = [
         &[Tag::BOOL, Tag::NULL],
         true,
         &[Tag::INTEGER],
+        &[FIRST_PLACE, ADDED_PLACE, NULL_PLACE],
         Err(DecodeError::InvalidTagVariantOnChoice),
     ),
     (
@@ -146,14 +173,18 @@ const CHOICES: [Row; 3] = [
         &[Tag::BOOL],
         false,
         &[],
+        &[FIRST_PLACE],
         Err(DecodeError::NotValidCanonicalEncoding),
     ),
 ];
 
 /// The alternative that a decoder finds in a choice of a row.
 fn chosen_of<D: Decoder>(decoder: &mut D, row: &Row) -> Result<Chosen, DecodeError> {
-    let (_, roots, is_marked, additions, _) = row;
-    decoder.begin_choice(Tag::EOC, roots, *is_marked, additions)
+    let (_, roots, is_marked, additions, places, _) = row;
+    let Some(tables) = TagTables::checked(roots, *is_marked, additions, places) else {
+        return Err(DecodeError::Incomplete);
+    };
+    decoder.begin_choice(Tag::EOC, &tables)
 }
 
 /// Whether what is found in a choice is as its row says.

@@ -1,5 +1,5 @@
 //! Look-up of a tag in an ascending table: rows.
-use asn1_schema::{Tag, TagPlace, TagProbe, find_place, is_place_table};
+use asn1_schema::{Chosen, Tag, TagPlace, TagProbe, TagTables, find_place, is_place_table};
 
 /// Whether a table is one of some tags, and tells this place of one that is sought, with at most so many comparisons.
 fn is_found(
@@ -73,10 +73,31 @@ fn are_refused() -> bool {
         && !is_place_table(&[at(0, 1), at(1, 0)], &tags, &[])
 }
 
+/// The alternative of a tag of CHOICE {[7], [1], ..., [4]}, with its extension marker or without.
+fn alternative(extensible: bool, number: u32) -> Option<Chosen> {
+    let roots = [Tag::new_context(7), Tag::new_context(1)];
+    let additions = [Tag::new_context(4)];
+    let places = [at(1, 1), at(4, 2), at(7, 0)];
+    let tables = TagTables::checked(&roots, extensible, &additions, &places)?;
+    tables.alternative(Tag::new_context(number))
+}
+
+/// Whether alternatives of the root and, behind an extension marker, added ones are told by their tags.
+fn are_alternatives_told() -> bool {
+    alternative(true, 7) == Some(Chosen::root(0))
+        && alternative(true, 1) == Some(Chosen::root(1))
+        && alternative(true, 4) == Some(Chosen::addition(0))
+        && alternative(true, 2).is_none()
+        && alternative(false, 7) == Some(Chosen::root(0))
+        && alternative(false, 4).is_none()
+        && TagTables::checked(&[], false, &[], &[at(1, 0)]).is_none()
+}
+
 #[test]
 fn tags_are_looked_up(rt: HostRuntime) {
     assert!(rt; are_three_found());
     assert!(rt; are_added_found());
     assert!(rt; are_many_found());
     assert!(rt; are_refused());
+    assert!(rt; are_alternatives_told());
 }

@@ -1,7 +1,7 @@
 -- What a codec is told of a value under constraints of the program, and what a decoder is asked for.
 use Rattle.std.specs.Prelude.{ℕ, ℤ, Bool, List}
 use Rattle.asn1_model.specs.Schema.{Range, StringKind, Schema}
-use Rattle.asn1_model.specs.Types.{any_count}
+use Rattle.asn1_model.specs.Schema.{any_count}
 use Rattle.asn1_schema_constraints.specs.Bounds.{counts_of, members_of}
 use Rattle.asn1_schema_constraints.specs.Terms.{bounds_of, held_of, sizes_of, alphabet_of}
 use Rattle.asn1_schema_constraints.specs.declared.bounds.Bounded.{Bounded}

@@ -19,6 +19,7 @@ pub mod natives;
 pub mod pointers;
 pub mod scalars;
 pub mod strings;
+pub mod versions;
 pub mod wide;
 
 pub use components::{
@@ -29,3 +30,4 @@ pub use defaults::DefaultOf;
 pub use described::{AsnType, Described};
 pub use equality::EqualByMeaning;
 pub use kinds::TaggedKind;
+pub use versions::Extends;

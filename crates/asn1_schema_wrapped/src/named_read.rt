@@ -1,7 +1,7 @@
 //! The calls of a decoder by the names of types.
 ghost use Rattle.std.specs.Prelude.{◌≡◌, OnOk, OnErr, IfOk, IfErr};
 ghost use Rattle.asn1_model.specs.Schema.{visible, ia5, printable, numeric, general, graphic, teletex, bmp};
-ghost use Rattle.asn1_model.specs.Types.{any_count, any_size};
+ghost use Rattle.asn1_model.specs.Schema.{any_count, any_size};
 ghost use Rattle.asn1_schema_types.specs.Told.{characters_under, asks_characters_under};
 ghost use Rattle.asn1_schema_decode.specs.Reads.{NoRecord, Reads, Unread};
 ghost use Rattle.asn1_schema_presented.specs.Records.{octets, asks_octets};

@@ -1,7 +1,7 @@
 //! The calls of an encoder by the names of types.
 ghost use Rattle.std.specs.Prelude.{◌≡◌, OnOk, OnErr, IfErr};
 ghost use Rattle.asn1_model.specs.Schema.{visible, ia5, printable, numeric, general, graphic, teletex, bmp};
-ghost use Rattle.asn1_model.specs.Types.{any_count, any_size};
+ghost use Rattle.asn1_model.specs.Schema.{any_count, any_size};
 ghost use Rattle.asn1_schema_encode.specs.Writes.{Refused, Writes, CannotWrite};
 ghost use Rattle.asn1_schema_presented.specs.Records.{octets};
 ghost use Rattle.asn1_schema_types.specs.Told.{characters_under};

@@ -7,7 +7,7 @@ use Rattle.oer_codec_reading.specs.Skipping.{SkipsNone}
 use Rattle.oer_codec_reading.proofs.Fronts.{missed, not_before}
 use Rattle.oer_codec_reading.proofs.Skipping.{as_stands}
 use Rattle.oer_codec_fronts.specs.Takes.{Scope, added, State, Opens, NextAddition}
-use Rattle.asn1_schema_finding.specs.Marks.{first_bits}
+use Rattle.asn1_schema_finding.specs.PresenceBits.{first_bits}
 use Rattle.oer_codec_decoder.specs.Refusals.{NoAdditions, NotFinished, NotOpened}
 use Rattle.oer_codec_decoder.specs.Scopes.{NextPresent}
 

@@ -8,7 +8,7 @@ use Rattle.asn1_model.specs.Form.{is_present}
 use Rattle.asn1_values_bits.proofs.Binary.{length-octet_bits}
 use Rattle.asn1_values_bits.proofs.Leading.{packed-next}
 use Rattle.oer_codec_fronts.specs.Takes.{Scope, components}
-use Rattle.asn1_schema_finding.specs.Marks.{preamble_bits}
+use Rattle.asn1_schema_finding.specs.PresenceBits.{preamble_bits}
 use Rattle.oer_codec_decoder.specs.Preamble.{HasBits, HasPreamble}
 
 -- beginnings of one length are equal, and what is behind them

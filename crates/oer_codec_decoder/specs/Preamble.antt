@@ -3,7 +3,7 @@ use Rattle.std.specs.Prelude.{◌≡◌, ℕ, Bool, false, List, ◌++◌, lengt
 use Rattle.asn1_model.specs.Numbers.{packed, missing}
 use Rattle.asn1_model.specs.Form.{is_present}
 use Rattle.oer_codec_fronts.specs.Takes.{Scope, components}
-use Rattle.asn1_schema_finding.specs.Marks.{preamble_bits}
+use Rattle.asn1_schema_finding.specs.PresenceBits.{preamble_bits}
 
 -- Bits, filled up with zeros to octets, stand in front.
 abbrev pub FilledBits : List Bool → List ℕ → List ℕ → Type 0

@@ -1,7 +1,7 @@
 //! Additions (X.696 16.4).
 ghost use Rattle.std.specs.Prelude.{◌≡◌, ◌↔◌, ◌∷◌, [], drop, Some, IsTrue, IfOk, IfErr, IfSome, IfNone};
 ghost use Rattle.oer_codec_fronts.specs.Takes.{AdditionsBegin, added, components};
-ghost use Rattle.asn1_schema_finding.specs.Marks.{first_bits};
+ghost use Rattle.asn1_schema_finding.specs.PresenceBits.{first_bits};
 ghost use Rattle.oer_codec_reading.specs.Fronts.{freedoms};
 ghost use Rattle.oer_codec_decoder.specs.Refusals.{NoAdditions};
 ghost use Rattle.oer_codec_decoder.specs.Scopes.{bits_due};

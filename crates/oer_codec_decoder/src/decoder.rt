@@ -17,7 +17,7 @@ use crate::options::DecoderOptions;
 use crate::preamble::read_preamble;
 use asn1_schema_constraints::{Bounded, Constraints};
 use asn1_schema_faults::{CodecKind, DecodeError};
-use asn1_schema_tags::Tag;
+use asn1_schema_tags::{Tag, TagTables};
 use asn1_schema_variants::{Chosen, Enumerated};
 use asn1_values_alphabets::StaticPermittedAlphabet;
 use asn1_values_bit_strings::BitString;
@@ -438,9 +438,9 @@ impl<'input> asn1_schema_decode::Decoder for Decoder<'input> {
     }
 
     #[inline(always)]
-    fn get_mark(&mut self) -> Result<bool, DecodeError> {
+    fn get_presence_bit(&mut self) -> Result<bool, DecodeError> {
         self.begin_record()?;
-        match self.scopes.next_mark() {
+        match self.scopes.next_presence_bit() {
             Some(present) => Ok(present),
             None => Err(self.fail(DecodeError::NotValidCanonicalEncoding)),
         }
@@ -465,7 +465,7 @@ impl<'input> asn1_schema_decode::Decoder for Decoder<'input> {
     #[inline(always)]
     fn begin_additions(&mut self, count: usize) -> Result<(), DecodeError> {
         self.begin_record()?;
-        let Some(marked) = self.scopes.mark() else {
+        let Some(marked) = self.scopes.extension_bit() else {
             return Err(self.fail(DecodeError::NotValidCanonicalEncoding));
         };
         match read_additions(&mut self.cursor, self.rules, marked, count) {
@@ -499,15 +499,9 @@ impl<'input> asn1_schema_decode::Decoder for Decoder<'input> {
     }
 
     #[inline(always)]
-    fn begin_choice(
-        &mut self,
-        _tag: Tag,
-        roots: &[Tag],
-        extensible: bool,
-        additions: &[Tag],
-    ) -> Result<Chosen, DecodeError> {
+    fn begin_choice(&mut self, _tag: Tag, tables: &TagTables<'_>) -> Result<Chosen, DecodeError> {
         self.begin_level()?;
-        match read_choice(&mut self.cursor, self.rules, roots, extensible, additions) {
+        match read_choice(&mut self.cursor, self.rules, tables) {
             Ok((chosen, enclosing)) => {
                 self.enter_enclosing(enclosing)?;
                 Ok(chosen)

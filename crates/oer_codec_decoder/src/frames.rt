@@ -1,6 +1,6 @@
 //! Open scopes.
 ghost use Rattle.std.specs.Prelude.{◌≡◌, ◌<◌, ◌∷◌, [], length, take, Some, OnOk, IfErr, IfSome, IfNone};
-ghost use Rattle.oer_codec_fronts.specs.Takes.{AdditionEnds, Ends, NextMark, NextMember, components};
+ghost use Rattle.oer_codec_fronts.specs.Takes.{AdditionEnds, Ends, NextPresenceBit, NextMember, components};
 ghost use Rattle.oer_codec_reading.specs.Fronts.{freedoms};
 ghost use Rattle.oer_codec_decoder.specs.Refusals.{NoAdditionEnd, NoEnd};
 ghost use Rattle.oer_codec_decoder.specs.Scopes.{NextPresent, frame_of, framed, scope_of};
@@ -183,7 +183,7 @@ impl<'input> Scopes<'input> {
 
     /// The extension bit of the innermost sequence, where all its presence bits are read.
     #[inline(always)]
-    pub(crate) fn mark(&self) -> Option<bool>
+    pub(crate) fn extension_bit(&self) -> Option<bool>
         ensures some { IfSome result (λ set. (k : _) × (self.now ≡ components (Some set) [] ∷ k)) }
         ensures none { IfNone result ((set : _) (k : _) → self.now ≡ components (Some set) [] ∷ k → ⊥) }
     {
@@ -203,9 +203,9 @@ impl<'input> Scopes<'input> {
 
     /// The next presence bit of the innermost sequence.
     #[inline(always)]
-    pub(crate) fn next_mark(&mut self) -> Option<bool>
-        ensures some { IfSome result (λ present. (os : _) → NextMark present os self.old (os, self.new)) }
-        ensures none { IfNone result ((present : _) (os : _) (b : _) → NextMark present os self.old b → ⊥) }
+    pub(crate) fn next_presence_bit(&mut self) -> Option<bool>
+        ensures some { IfSome result (λ present. (os : _) → NextPresenceBit present os self.old (os, self.new)) }
+        ensures none { IfNone result ((present : _) (os : _) (b : _) → NextPresenceBit present os self.old b → ⊥) }
     {
         if self.enclosing.is_some() {
             return None;

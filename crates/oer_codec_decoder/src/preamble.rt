@@ -27,7 +27,7 @@ fn take_presence<'input>(
     requires { cond extensible 1 0 + optional ≤ length bits.old.bits }
     ensures { HasBits extensible optional (scope_of result) bits.old.bits bits.new.bits }
 {
-    let mark = if extensible {
+    let extension_bit = if extensible {
         let first = first_bit(bits);
         let _first = bits.split(1);
         Some(first)
@@ -35,7 +35,7 @@ fn take_presence<'input>(
         None
     };
     match bits.split(optional) {
-        Ok(presence) => Frame::Components(mark, presence),
+        Ok(presence) => Frame::Components(extension_bit, presence),
         Err(_) => unreachable!(),
     }
 }

@@ -4,11 +4,11 @@ use Rattle.std.proofs.lemmas.List.{append-nil}
 use Rattle.asn1_model.specs.Value.{Value, truth, nothing, number, item, bit_list, octet_list, text, arcs, fields, Parts, end, absent, present}
 use Rattle.asn1_model.specs.Schema.{Range, Bounds, Counts, Size, StringKind, Alphabet, Schema, boolean, null, integer, enumerated, bit_string, octet_string, character_string, object_identifier, group, Components, no_component, component}
 use Rattle.asn1_model.specs.Normal.{is_at_default, is_group_left_out}
-use Rattle.asn1_model.specs.Tables.{is_required, mark_unless, marks}
+use Rattle.asn1_model.specs.Tables.{is_required, presence_bit_unless, presence_bits}
 use Rattle.asn1_model.specs.Numbers.{missing}
 use Rattle.asn1_model.specs.Form.{refused, both, varied, only_if, written}
 use Rattle.asn1_model.specs.Oer
-use Rattle.asn1_schema_presented.specs.Records.{Record, mark, is_default, is_empty, ends, mismatch}
+use Rattle.asn1_schema_presented.specs.Records.{Record, presence_bit, is_default, is_empty, ends, mismatch}
 use Rattle.asn1_schema_presented.specs.Presents.{presents, root_records, optional_count, marked}
 use Rattle.oer_codec_encoder.proofs.Still.{OctetsStill, still_if, counted_still, integer_still, item_still, bit_string_still, octets_still}
 use Rattle.oer_codec_encoder.specs.Steps.{Scope, components, State, adds_text, runs}
@@ -111,28 +111,28 @@ spelled_out s v h false false p os k rest = ap (λ l. runs (l ++ rest) (os, k)) 
 
 -- a component that is there, and those behind it
 abbrev pub Root : Bool → Components → Type 0
-Root e cs = (ps : Parts) (p : ℕ) (ms : List Bool) (front os : List ℕ) (k : List Scope) (rs more : List Record) → runs (root_records cs ps rs ++ more) (os, components e (optional_count cs) ms front ∷ k) ≡ option_and_then (λ w. runs (rs ++ more) (os ++ w, components e 0 (ms ++ marks cs ps) front ∷ k)) (written (Oer.component_forms cs ps) p)
+Root e cs = (ps : Parts) (p : ℕ) (ms : List Bool) (front os : List ℕ) (k : List Scope) (rs more : List Record) → runs (root_records cs ps rs ++ more) (os, components e (optional_count cs) ms front ∷ k) ≡ option_and_then (λ w. runs (rs ++ more) (os ++ w, components e 0 (ms ++ presence_bits cs ps) front ∷ k)) (written (Oer.component_forms cs ps) p)
 
-it_and_others : (e : Bool) (cs : Components) (s : Schema) (v : Value) → BridgesAt s v → Root e cs → (d g : Bool) (ps : Parts) (p : ℕ) (ms : List Bool) (front os : List ℕ) (k : List Scope) (rs more : List Record) → runs (((presents s v ++ noted_by d g) ++ root_records cs ps rs) ++ more) (os, components e (optional_count cs) ms front ∷ k) ≡ option_and_then (λ w. runs (rs ++ more) (os ++ w, components e 0 (ms ++ marks cs ps) front ∷ k)) (written (both (spelled_by d g (Oer.form s v)) (Oer.component_forms cs ps)) p)
+it_and_others : (e : Bool) (cs : Components) (s : Schema) (v : Value) → BridgesAt s v → Root e cs → (d g : Bool) (ps : Parts) (p : ℕ) (ms : List Bool) (front os : List ℕ) (k : List Scope) (rs more : List Record) → runs (((presents s v ++ noted_by d g) ++ root_records cs ps rs) ++ more) (os, components e (optional_count cs) ms front ∷ k) ≡ option_and_then (λ w. runs (rs ++ more) (os ++ w, components e 0 (ms ++ presence_bits cs ps) front ∷ k)) (written (both (spelled_by d g (Oer.form s v)) (Oer.component_forms cs ps)) p)
 unfolding written
 it_and_others e cs s v h others d g ps p ms front os k rs more =
     ap (λ l. runs l (os, components e (optional_count cs) ms front ∷ k)) (append_assoc (presents s v ++ noted_by d g) (root_records cs ps rs) more)
     ∙ spelled_out s v h d g p os (components e (optional_count cs) ms front ∷ k) (root_records cs ps rs ++ more)
-    ∙ chain_same (written (spelled_by d g (Oer.form s v)) p) _ (λ a. option_and_then (λ b. runs (rs ++ more) ((os ++ a) ++ b, components e 0 (ms ++ marks cs ps) front ∷ k)) (written (Oer.component_forms cs ps) (p + length a))) (λ a. others ps (p + length a) ms front (os ++ a) k rs more)
-    ∙ two_texts (written (spelled_by d g (Oer.form s v)) p) (λ a. written (Oer.component_forms cs ps) (p + length a)) os (λ w. runs (rs ++ more) (w, components e 0 (ms ++ marks cs ps) front ∷ k))
+    ∙ chain_same (written (spelled_by d g (Oer.form s v)) p) _ (λ a. option_and_then (λ b. runs (rs ++ more) ((os ++ a) ++ b, components e 0 (ms ++ presence_bits cs ps) front ∷ k)) (written (Oer.component_forms cs ps) (p + length a))) (λ a. others ps (p + length a) ms front (os ++ a) k rs more)
+    ∙ two_texts (written (spelled_by d g (Oer.form s v)) p) (λ a. written (Oer.component_forms cs ps) (p + length a)) os (λ w. runs (rs ++ more) (w, components e 0 (ms ++ presence_bits cs ps) front ∷ k))
 
-one_there : (e r : Bool) (cs : Components) (s : Schema) (v : Value) → BridgesAt s v → Root e cs → (d g : Bool) (ps : Parts) (p : ℕ) (ms : List Bool) (front os : List ℕ) (k : List Scope) (rs more : List Record) → runs ((marked r (presents s v ++ noted_by d g) ++ root_records cs ps rs) ++ more) (os, components e (cond r (optional_count cs) (suc (optional_count cs))) ms front ∷ k) ≡ option_and_then (λ w. runs (rs ++ more) (os ++ w, components e 0 (ms ++ mark_unless r true (marks cs ps)) front ∷ k)) (written (both (spelled_by d g (Oer.form s v)) (Oer.component_forms cs ps)) p)
+one_there : (e r : Bool) (cs : Components) (s : Schema) (v : Value) → BridgesAt s v → Root e cs → (d g : Bool) (ps : Parts) (p : ℕ) (ms : List Bool) (front os : List ℕ) (k : List Scope) (rs more : List Record) → runs ((marked r (presents s v ++ noted_by d g) ++ root_records cs ps rs) ++ more) (os, components e (cond r (optional_count cs) (suc (optional_count cs))) ms front ∷ k) ≡ option_and_then (λ w. runs (rs ++ more) (os ++ w, components e 0 (ms ++ presence_bit_unless r true (presence_bits cs ps)) front ∷ k)) (written (both (spelled_by d g (Oer.form s v)) (Oer.component_forms cs ps)) p)
 one_there e true cs s v h others d g ps p ms front os k rs more = it_and_others e cs s v h others d g ps p ms front os k rs more
 one_there e false cs s v h others d g ps p ms front os k rs more =
     it_and_others e cs s v h others d g ps p (ms ++ true ∷ []) front os k rs more
-    ∙ ap (λ l. option_and_then (λ w. runs (rs ++ more) (os ++ w, components e 0 l front ∷ k)) (written (both (spelled_by d g (Oer.form s v)) (Oer.component_forms cs ps)) p)) (append_assoc ms (true ∷ []) (marks cs ps))
+    ∙ ap (λ l. option_and_then (λ w. runs (rs ++ more) (os ++ w, components e 0 l front ∷ k)) (written (both (spelled_by d g (Oer.form s v)) (Oer.component_forms cs ps)) p)) (append_assoc ms (true ∷ []) (presence_bits cs ps))
 
-one_absent : (e r : Bool) (cs : Components) → Root e cs → (ps : Parts) (p : ℕ) (ms : List Bool) (front os : List ℕ) (k : List Scope) (rs more : List Record) → runs ((cond r (mismatch ∷ []) (mark false ∷ []) ++ root_records cs ps rs) ++ more) (os, components e (cond r (optional_count cs) (suc (optional_count cs))) ms front ∷ k) ≡ option_and_then (λ w. runs (rs ++ more) (os ++ w, components e 0 (ms ++ mark_unless r false (marks cs ps)) front ∷ k)) (written (cond r refused (Oer.component_forms cs ps)) p)
+one_absent : (e r : Bool) (cs : Components) → Root e cs → (ps : Parts) (p : ℕ) (ms : List Bool) (front os : List ℕ) (k : List Scope) (rs more : List Record) → runs ((cond r (mismatch ∷ []) (presence_bit false ∷ []) ++ root_records cs ps rs) ++ more) (os, components e (cond r (optional_count cs) (suc (optional_count cs))) ms front ∷ k) ≡ option_and_then (λ w. runs (rs ++ more) (os ++ w, components e 0 (ms ++ presence_bit_unless r false (presence_bits cs ps)) front ∷ k)) (written (cond r refused (Oer.component_forms cs ps)) p)
 unfolding written
 one_absent e true cs others ps p ms front os k rs more = refl
 one_absent e false cs others ps p ms front os k rs more =
     others ps p (ms ++ false ∷ []) front os k rs more
-    ∙ ap (λ l. option_and_then (λ w. runs (rs ++ more) (os ++ w, components e 0 l front ∷ k)) (written (Oer.component_forms cs ps) p)) (append_assoc ms (false ∷ []) (marks cs ps))
+    ∙ ap (λ l. option_and_then (λ w. runs (rs ++ more) (os ++ w, components e 0 l front ∷ k)) (written (Oer.component_forms cs ps) p)) (append_assoc ms (false ∷ []) (presence_bits cs ps))
 
 pub root : (e : Bool) (cs : Components) → EachBridges cs → Root e cs
 unfolding root_records Oer.component_forms written Oer.spelled
@@ -143,12 +143,12 @@ root e (component t o s cs) h (absent ps) p ms front os k rs more = one_absent e
 root e (component t o s cs) h end p ms front os k rs more = refl
 
 -- the end puts the presence bits in front of the root's octets
-pub closed_off : (cs : Components) → EachBridges cs → (ps : Parts) (p : ℕ) (os : List ℕ) (k : List Scope) (rest : List Record) → runs (root_records cs ps (ends ∷ []) ++ rest) ([], components false (optional_count cs) [] os ∷ k) ≡ option_and_then (λ w. runs rest (os ++ w, k)) (written (both (Oer.preamble (marks cs ps)) (Oer.component_forms cs ps)) p)
+pub closed_off : (cs : Components) → EachBridges cs → (ps : Parts) (p : ℕ) (os : List ℕ) (k : List Scope) (rest : List Record) → runs (root_records cs ps (ends ∷ []) ++ rest) ([], components false (optional_count cs) [] os ∷ k) ≡ option_and_then (λ w. runs rest (os ++ w, k)) (written (both (Oer.preamble (presence_bits cs ps)) (Oer.component_forms cs ps)) p)
 unfolding written Oer.sequence_form
 closed_off cs h ps p os k rest =
-    root false cs h ps (p + length (preamble_octets (marks cs ps))) [] os [] k (ends ∷ []) rest ∙ go (written (Oer.component_forms cs ps) (p + length (preamble_octets (marks cs ps))))
+    root false cs h ps (p + length (preamble_octets (presence_bits cs ps))) [] os [] k (ends ∷ []) rest ∙ go (written (Oer.component_forms cs ps) (p + length (preamble_octets (presence_bits cs ps))))
   where
-    go : (o : Option (List ℕ)) → option_and_then (λ w. runs (ends ∷ rest) (w, components false 0 (marks cs ps) os ∷ k)) o ≡ option_and_then (λ w. runs rest (os ++ w, k)) (option_map (λ b. preamble_octets (marks cs ps) ++ b) o)
+    go : (o : Option (List ℕ)) → option_and_then (λ w. runs (ends ∷ rest) (w, components false 0 (presence_bits cs ps) os ∷ k)) o ≡ option_and_then (λ w. runs rest (os ++ w, k)) (option_map (λ b. preamble_octets (presence_bits cs ps) ++ b) o)
     go None = refl
     go (Some w) = refl
 

@@ -75,7 +75,7 @@ some_added ms root c bs all h k = ap (λ t. cond t (written (both (Oer.preamble 
 
 module _ (below : List ℕ → State → Type 0) (given start content : ℕ) (o : List ℕ) (s : State) (h : IsOpen below true 0 given start content o s) where
   abbrev root_bits : List Bool
-  root_bits = false ∷ (h.marks ++ [])
+  root_bits = false ∷ (h.presence_bits ++ [])
 
   some_preamble : 0 < length h.preamble
   some_preamble = omega (arith, ap length h.bits, length-octet_bits h.preamble, length-append root_bits (replicate (missing (length root_bits)) false))
@@ -89,20 +89,20 @@ module _ (below : List ℕ → State → Type 0) (given start content : ℕ) (o 
       ap (λ l. get_or l start x) h.text ∙ get_or-append_right h.front (h.preamble ++ h.inner) start start x h.starts (omega arith)
       ∙ ap (λ j. get_or (h.preamble ++ h.inner) j x) k ∙ get_or_append_left h.preamble h.inner x 0 some_preamble
 
-  same_marks : root_bits ≡ false ∷ h.marks
-  same_marks = ap (λ l. false ∷ l) (append-nil h.marks)
+  same_presence_bits : root_bits ≡ false ∷ h.presence_bits
+  same_presence_bits = ap (λ l. false ∷ l) (append-nil h.presence_bits)
 
-  unmarked_text : packed (filled_up (false ∷ h.marks)) ≡ h.preamble
-  unmarked_text = closed_text h.preamble (false ∷ h.marks) (h.bits ∙ ap filled_up same_marks) h.small
+  unmarked_text : packed (filled_up (false ∷ h.presence_bits)) ≡ h.preamble
+  unmarked_text = closed_text h.preamble (false ∷ h.presence_bits) (h.bits ∙ ap filled_up same_presence_bits) h.small
 
   module _ (p : List ℕ) (x : ℕ) (changed : p ≡ set o start x) (bit : binary 8 x ≡ set (binary 8 (get_or o start 0)) 0 true) (small : x < 256) where
-    changed_bits : octet_bits (set h.preamble 0 x) ≡ filled_up (true ∷ h.marks)
+    changed_bits : octet_bits (set h.preamble 0 x) ≡ filled_up (true ∷ h.presence_bits)
     changed_bits =
         kept_changed h.preamble root_bits (length root_bits) 0 (get_or o start 0) x true h.bits refl (omega arith) (get_or_any o start starts_within ∙ first_octet (get_or o start 0)) bit
-        ∙ ap (λ l. filled_up (true ∷ l)) (append-nil h.marks)
+        ∙ ap (λ l. filled_up (true ∷ l)) (append-nil h.presence_bits)
 
-    marked_text : packed (filled_up (true ∷ h.marks)) ≡ set h.preamble 0 x
-    marked_text = closed_text (set h.preamble 0 x) (true ∷ h.marks) changed_bits (set_small h.preamble 0 x small some_preamble h.small)
+    marked_text : packed (filled_up (true ∷ h.presence_bits)) ≡ set h.preamble 0 x
+    marked_text = closed_text (set h.preamble 0 x) (true ∷ h.presence_bits) changed_bits (set_small h.preamble 0 x small some_preamble h.small)
 
     marked_whole : p ≡ h.front ++ (set h.preamble 0 x ++ h.inner)
     marked_whole =
@@ -128,7 +128,7 @@ does_end_added fs rest a o p b n x fits = record { after = λ s h. go s (none_du
     none_due : (s : State) → Holds (Added a ∷ rest) o s → Holds (Added (none_left a) ∷ rest) o s
     none_due s h = subst (λ k. Holds (Added (record { due = k; preamble = a.preamble; outer = a.outer; present = a.present; any = a.any }) ∷ rest) o s) n h
 
-    closes : (s : State) → (h : Holds (Added (none_left a) ∷ rest) o s) → (w : List ℕ) → with_added h.1.marks h.1.inner a.present o ≡ Some w → h.1.front ++ w ≡ p → (t : State) × (run ends s ≡ Some t) × Holds rest p t
+    closes : (s : State) → (h : Holds (Added (none_left a) ∷ rest) o s) → (w : List ℕ) → with_added h.1.presence_bits h.1.inner a.present o ≡ Some w → h.1.front ++ w ≡ p → (t : State) × (run ends s ≡ Some t) × Holds rest p t
     closes s h w e q =
         let i = h.1 in
         let u : State = (i.outer.0 ++ w, i.outer.1) in
@@ -146,7 +146,7 @@ does_end_added fs rest a o p b n x fits = record { after = λ s h. go s (none_du
         let first = marked_text (λ q t. Holds rest q t) a.preamble.given a.preamble.start a.preamble.content a.outer.items h.0 i z.marked y z.others z.bit small in
         let pre : List ℕ = set i.preamble 0 y in
         let all : List ℕ = c ++ o in
-        closes s h (packed (filled_up (true ∷ i.marks)) ++ (i.inner ++ all)) (some_added i.marks i.inner c a.present o t e)
+        closes s h (packed (filled_up (true ∷ i.presence_bits)) ++ (i.inner ++ all)) (some_added i.presence_bits i.inner c a.present o t e)
         (ap (λ l. i.front ++ (l ++ (i.inner ++ all))) first ∙ ap (λ l. i.front ++ l) (sym (append_assoc pre i.inner all)) ∙ sym (append_assoc i.front (pre ++ i.inner) all) ∙ ap (λ l. l ++ all) (sym whole)
         ∙ sym (append_assoc z.marked c o) ∙ ap (λ l. l ++ o) mapped ∙ sym z.texts)
 
@@ -155,7 +155,7 @@ does_end_added fs rest a o p b n x fits = record { after = λ s h. go s (none_du
         let i = h.1 in
         let first = unmarked_text (λ q t. Holds rest q t) a.preamble.given a.preamble.start a.preamble.content a.outer.items h.0 i in
         let none : p ≡ a.outer.items = subst (λ b. Completes a.preamble.start b a.present o a.outer.items p) t x in
-        closes s h (packed (filled_up (false ∷ i.marks)) ++ i.inner) (none_added i.marks i.inner a.present o (sym h.2 ∙ t)) (ap (λ l. i.front ++ (l ++ i.inner)) first ∙ sym i.text ∙ sym none)
+        closes s h (packed (filled_up (false ∷ i.presence_bits)) ++ i.inner) (none_added i.presence_bits i.inner a.present o (sym h.2 ∙ t)) (ap (λ l. i.front ++ (l ++ i.inner)) first ∙ sym i.text ∙ sym none)
     go s h true t =
         let z : HasAdditions a.preamble.start a.present o a.outer.items p = subst (λ b. Completes a.preamble.start b a.present o a.outer.items p) t x in
         with_some s h (sym h.2 ∙ t) z (written (Oer.bit_string_form false a.present) 0) refl z.bitmap

@@ -4,7 +4,7 @@ use Rattle.std.specs.Result.{IsErr, IsErrAnd}
 use Rattle.std.proofs.lemmas.Bool.{lt-ltb}
 use Rattle.asn1_schema_faults.specs.declared.EncodeError.{EncodeError}
 use Rattle.asn1_schema_faults.specs.declared.EncodeError.TheVariants.{ValueConstraintNotSatisfied, SizeConstraintNotSatisfied, AlphabetConstraintNotSatisfied, TooLongValue, LengthExceedsPlatformSize, CallOutOfPlace, OutOfMemory, AlreadyFailed}
-use Rattle.asn1_schema_presented.specs.Records.{Record, mark, additions_begin, addition, addition_ends, further}
+use Rattle.asn1_schema_presented.specs.Records.{Record, presence_bit, additions_begin, addition, addition_ends, further}
 use Rattle.oer_codec_encoder.specs.Steps.{components, open_type, added, bag_members, State, run}
 use Rattle.oer_codec_encoder.specs.declared.frame.Additions.{Additions}
 use Rattle.oer_codec_encoder.specs.declared.frame.Bag.{Bag as BagFrame}
@@ -35,7 +35,7 @@ cannot r fs o AlreadyFailed n h = absurd (n refl)
 pub no_addition_due : (fs rest : List Frame) (a : Additions) (o : List ℕ) (present : Bool) → fs ≡ Added a ∷ rest → a.due ≡ 0 → (s : State) → Holds fs o s → run (addition present) s ≡ None
 no_addition_due fs rest a o present e n s h =
     let i = on_top fs rest (Added a) o s e h in
-    ap (run (addition present)) (i.3 ∙ ap (λ k. let m : State = (o, added k i.1.marks i.1.inner a.present i.1.outer.0 ∷ i.1.outer.1) in m) n)
+    ap (run (addition present)) (i.3 ∙ ap (λ k. let m : State = (o, added k i.1.presence_bits i.1.inner a.present i.1.outer.0 ∷ i.1.outer.1) in m) n)
 
 pub no_member_due : (fs rest : List Frame) (due : ℕ) (o : List ℕ) (more : Bool) → fs ≡ Members due ∷ rest → more ≡ not (ltb 0 due) → (s : State) → Holds fs o s → run (further more) s ≡ None
 no_member_due fs rest due o more e n s h = go due more n (on_top fs rest (Members due) o s e h)
@@ -67,14 +67,14 @@ no_addition_end fs rest o start e n s h = go rest n (on_top fs rest (OpenType st
     go (Bag b ∷ k) n h = ap (run addition_ends) (h.is ∙ ap (λ (b : State). let l : State = (h.inner, open_type b.0 ∷ b.1) in l) h.under.1)
     go (Alternative ∷ k) n h = ap (run addition_ends) (h.is ∙ ap (λ (b : State). let l : State = (h.inner, open_type b.0 ∷ b.1) in l) h.under.1)
 
-pub no_mark_due : (fs : List Frame) (o : List ℕ) (present : Bool) → ((p : Preamble) (k : List Frame) → fs ≡ Components p ∷ k → p.due ≡ 0) → (s : State) → Holds fs o s → run (mark present) s ≡ None
-no_mark_due [] o present n s h = ap (run (mark present)) h
-no_mark_due (Components c ∷ k) o present n s h = ap (run (mark present)) (h.is ∙ ap (λ d. let l : State = (h.inner, components c.extensible d h.marks h.outer.0 ∷ h.outer.1) in l) (n c k refl))
-no_mark_due (Added a ∷ k) o present n s h = ap (run (mark present)) h.3
-no_mark_due (OpenType start ∷ k) o present n s h = ap (run (mark present)) h.is
-no_mark_due (Members due ∷ k) o present n s h = ap (run (mark present)) h.1
-no_mark_due (Bag b ∷ k) o present n s h = ap (run (mark present)) h.1
-no_mark_due (Alternative ∷ k) o present n s h = ap (run (mark present)) h.1
+pub no_presence_bit_due : (fs : List Frame) (o : List ℕ) (present : Bool) → ((p : Preamble) (k : List Frame) → fs ≡ Components p ∷ k → p.due ≡ 0) → (s : State) → Holds fs o s → run (presence_bit present) s ≡ None
+no_presence_bit_due [] o present n s h = ap (run (presence_bit present)) h
+no_presence_bit_due (Components c ∷ k) o present n s h = ap (run (presence_bit present)) (h.is ∙ ap (λ d. let l : State = (h.inner, components c.extensible d h.presence_bits h.outer.0 ∷ h.outer.1) in l) (n c k refl))
+no_presence_bit_due (Added a ∷ k) o present n s h = ap (run (presence_bit present)) h.3
+no_presence_bit_due (OpenType start ∷ k) o present n s h = ap (run (presence_bit present)) h.is
+no_presence_bit_due (Members due ∷ k) o present n s h = ap (run (presence_bit present)) h.1
+no_presence_bit_due (Bag b ∷ k) o present n s h = ap (run (presence_bit present)) h.1
+no_presence_bit_due (Alternative ∷ k) o present n s h = ap (run (presence_bit present)) h.1
 
 pub no_root : (fs : List Frame) (o : List ℕ) (count : ℕ) → ((p : Preamble) (k : List Frame) → fs ≡ Components p ∷ k → ⊥) → (s : State) → Holds fs o s → run (additions_begin count) s ≡ None
 no_root [] o count n s h = ap (run (additions_begin count)) h

@@ -8,7 +8,7 @@ use Rattle.asn1_values_bits.specs.Octets.{filled_up}
 use Rattle.asn1_values_bits.proofs.Binary.{octet_bits-append, length-octet_bits}
 use Rattle.asn1_values_bits.proofs.Change.{kept_changed}
 use Rattle.asn1_values_bits.proofs.Packed.{packed-octet_bits}
-use Rattle.asn1_schema_presented.specs.Records.{Record, sequence_begins, mark, ends, further, list_begins}
+use Rattle.asn1_schema_presented.specs.Records.{Record, sequence_begins, presence_bit, ends, further, list_begins}
 use Rattle.asn1_model.specs.Form.{written, exactly, only_if}
 use Rattle.asn1_model.specs.Oer
 use Rattle.asn1_model.specs.Schema.{Size, Counts}
@@ -22,9 +22,9 @@ use Rattle.oer_codec_writing.specs.Writing.{Adds}
 
 -- ---- what is shown is what they stand for
 
-presence_bits : (e : Bool) (ms rest : List Bool) (given : ℕ) → length ms ≡ given → take given (drop (length (presence e [])) (presence e ms ++ rest)) ≡ ms
-presence_bits true ms rest given h = take_at ms rest given h
-presence_bits false ms rest given h = take_at ms rest given h
+presence_bits_behind : (e : Bool) (ms rest : List Bool) (given : ℕ) → length ms ≡ given → take given (drop (length (presence e [])) (presence e ms ++ rest)) ≡ ms
+presence_bits_behind true ms rest given h = take_at ms rest given h
+presence_bits_behind false ms rest given h = take_at ms rest given h
 
 presence_behind : (e : Bool) (ms rest more : List Bool) → presence e (ms ++ rest) ++ more ≡ presence e ms ++ (rest ++ more)
 presence_behind true ms rest more = ap (λ l. false ∷ l) (append_assoc ms rest more)
@@ -36,7 +36,7 @@ same_open e due i j m n t u a b c =
     ∙ (ap (λ x. let l : State = (j, components e due x t.0 ∷ t.1) in l) b ∙ ap (λ (x : State). let l : State = (j, components e due n x.0 ∷ x.1) in l) c)
 
 -- the octets in front of an open sequence, those behind its preamble, and its presence bits
-parts : {below : List ℕ → State → Type 0} (e : Bool) (due given start content : ℕ) (o : List ℕ) (s : State) → (h : IsOpen below e due given start content o s) → (take start o ≡ h.front) × (drop content o ≡ h.inner) × (given_bits e given start o ≡ h.marks)
+parts : {below : List ℕ → State → Type 0} (e : Bool) (due given start content : ℕ) (o : List ℕ) (s : State) → (h : IsOpen below e due given start content o s) → (take start o ≡ h.front) × (drop content o ≡ h.inner) × (given_bits e given start o ≡ h.presence_bits)
 parts e due given start content o s h =
     let front : take start o ≡ h.front = ap (take start) h.text ∙ take_at h.front (h.preamble ++ h.inner) start h.starts in
     let behind : drop start o ≡ h.preamble ++ h.inner = ap (drop start) h.text ∙ drop_at h.front (h.preamble ++ h.inner) start h.starts in
@@ -44,12 +44,12 @@ parts e due given start content o s h =
     let n : length (h.front ++ h.preamble) ≡ content = omega (arith, length-append h.front h.preamble, h.starts, h.begins) in
     let inner : drop content o ≡ h.inner = ap (drop content) whole ∙ drop_at (h.front ++ h.preamble) h.inner content n in
     let zeros : List Bool = replicate due false in
-    let fill : List Bool = replicate (missing (length (presence e (h.marks ++ zeros)))) false in
-    let all : octet_bits (drop start o) ≡ presence e h.marks ++ ((zeros ++ fill) ++ octet_bits h.inner) =
-    ap octet_bits behind ∙ octet_bits-append h.preamble h.inner ∙ ap (λ l. l ++ octet_bits h.inner) (h.bits ∙ presence_behind e h.marks zeros fill)
-    ∙ append_assoc (presence e h.marks) (zeros ++ fill) (octet_bits h.inner) in
-    let marks = ap (λ l. take given (drop (length (presence e [])) l)) all ∙ presence_bits e h.marks ((zeros ++ fill) ++ octet_bits h.inner) given h.told in
-    (front, inner, marks)
+    let fill : List Bool = replicate (missing (length (presence e (h.presence_bits ++ zeros)))) false in
+    let all : octet_bits (drop start o) ≡ presence e h.presence_bits ++ ((zeros ++ fill) ++ octet_bits h.inner) =
+    ap octet_bits behind ∙ octet_bits-append h.preamble h.inner ∙ ap (λ l. l ++ octet_bits h.inner) (h.bits ∙ presence_behind e h.presence_bits zeros fill)
+    ∙ append_assoc (presence e h.presence_bits) (zeros ++ fill) (octet_bits h.inner) in
+    let presence_bits = ap (λ l. take given (drop (length (presence e [])) l)) all ∙ presence_bits_behind e h.presence_bits ((zeros ++ fill) ++ octet_bits h.inner) given h.told in
+    (front, inner, presence_bits)
 
 -- the octets in front of an open type, and its own
 parts_apart : {below : List ℕ → State → Type 0} (start : ℕ) (o : List ℕ) (s : State) → (h : IsApart below start o s) → (take start o ≡ h.front) × (drop (start + 1) o ≡ h.inner)
@@ -75,14 +75,14 @@ pub shown_is : (fs : List Frame) (o : List ℕ) (s : State) → Holds fs o s →
 shown_is [] o s h = sym h
 shown_is (Components c ∷ fs) o s h =
     let x = parts c.extensible c.due c.given c.start c.content o s h in
-    same_open c.extensible c.due _ h.inner _ h.marks _ h.outer x.1 x.2 (ap (shown fs) x.0 ∙ shown_is fs h.front h.outer h.under) ∙ sym h.is
+    same_open c.extensible c.due _ h.inner _ h.presence_bits _ h.outer x.1 x.2 (ap (shown fs) x.0 ∙ shown_is fs h.front h.outer h.under) ∙ sym h.is
 shown_is (Added a ∷ fs) o s h =
     let i = h.1 in
     let x = parts true 0 a.preamble.given a.preamble.start a.preamble.content a.outer.items h.0 i in
     let below = ap (shown fs) x.0 ∙ shown_is fs i.front i.outer i.under in
     ap (λ m. let l : State = (o, added a.due m (drop a.preamble.content a.outer.items) a.present (shown fs (take a.preamble.start a.outer.items)).0 ∷ (shown fs (take a.preamble.start a.outer.items)).1) in l) x.2
-    ∙ ap (λ r. let l : State = (o, added a.due i.marks r a.present (shown fs (take a.preamble.start a.outer.items)).0 ∷ (shown fs (take a.preamble.start a.outer.items)).1) in l) x.1
-    ∙ ap (λ (t : State). let l : State = (o, added a.due i.marks i.inner a.present t.0 ∷ t.1) in l) below ∙ sym h.3
+    ∙ ap (λ r. let l : State = (o, added a.due i.presence_bits r a.present (shown fs (take a.preamble.start a.outer.items)).0 ∷ (shown fs (take a.preamble.start a.outer.items)).1) in l) x.1
+    ∙ ap (λ (t : State). let l : State = (o, added a.due i.presence_bits i.inner a.present t.0 ∷ t.1) in l) below ∙ sym h.3
 shown_is (OpenType start ∷ fs) o s h =
     let x = parts_apart start o s h in
     same_apart _ h.inner _ h.outer x.1 (ap (shown fs) x.0 ∙ shown_is fs h.front h.outer h.under) ∙ sym h.is
@@ -98,7 +98,7 @@ appended (Components c ∷ fs) o s w h = record {
   front = h.front;
   preamble = h.preamble;
   inner = h.inner ++ w;
-  marks = h.marks;
+  presence_bits = h.presence_bits;
   outer = h.outer;
   text = ap (λ l. l ++ w) h.text ∙ (append_assoc h.front (h.preamble ++ h.inner) w ∙ ap (λ l. h.front ++ l) (append_assoc h.preamble h.inner w));
   starts = h.starts;
@@ -164,7 +164,7 @@ opened fs o s e n k start content h m d a b = record {
   front = o;
   preamble = replicate k 0;
   inner = [];
-  marks = [];
+  presence_bits = [];
   outer = s;
   text = ap (λ l. o ++ l) (sym (append-nil (replicate k 0)));
   starts = sym a;
@@ -221,34 +221,34 @@ set_small os q x h l s k m = elim (cases_eq k q) [
 
 module _ (below : List ℕ → State → Type 0) (e : Bool) (d given start content : ℕ) (o : List ℕ) (s : State) (h : IsOpen below e (suc d) given start content o s) where
   abbrev then_state : Bool → State
-  then_state b = (h.inner, components e d (h.marks ++ b ∷ []) h.outer.0 ∷ h.outer.1)
+  then_state b = (h.inner, components e d (h.presence_bits ++ b ∷ []) h.outer.0 ∷ h.outer.1)
 
   bits_due : ℕ
-  bits_due = length h.marks + cond e 1 0
+  bits_due = length h.presence_bits + cond e 1 0
 
   unmarked : IsOpen below e d (given + 1) start content o (then_state false)
   unmarked = record {
     front = h.front;
     preamble = h.preamble;
     inner = h.inner;
-    marks = h.marks ++ false ∷ [];
+    presence_bits = h.presence_bits ++ false ∷ [];
     outer = h.outer;
     text = h.text;
     starts = h.starts;
     begins = h.begins;
-    told = one_longer h.marks false given h.told;
+    told = one_longer h.presence_bits false given h.told;
     counts = omega (arith, h.counts);
-    bits = h.bits ∙ ap filled_up (lowered_bits e h.marks d);
+    bits = h.bits ∙ ap filled_up (lowered_bits e h.presence_bits d);
     small = h.small;
     under = h.under;
     is = refl;
   }
 
   abbrev due_bits : List Bool
-  due_bits = presence e (h.marks ++ replicate (suc d) false)
+  due_bits = presence e (h.presence_bits ++ replicate (suc d) false)
 
   within_bits : (i : ℕ) → i ≡ given + cond e 1 0 → i < length due_bits
-  within_bits i n = omega (arith, length-presence e (h.marks ++ replicate (suc d) false), length-append h.marks (replicate (suc d) false), length-replicate (suc d) false, h.told)
+  within_bits i n = omega (arith, length-presence e (h.presence_bits ++ replicate (suc d) false), length-append h.presence_bits (replicate (suc d) false), length-replicate (suc d) false, h.told)
 
   within_preamble : (i : ℕ) → i ≡ given + cond e 1 0 → i / 8 < length h.preamble
   within_preamble i n = omega (arith, within_bits i n, ap length h.bits, length-octet_bits h.preamble, length-append due_bits (replicate (missing (length due_bits)) false))
@@ -266,31 +266,31 @@ module _ (below : List ℕ → State → Type 0) (e : Bool) (d given start conte
   marked_with p i x y n changed at bit small =
       let q : i / 8 < length h.preamble = within_preamble i n in
       let k : start + i / 8 - start ≡ i / 8 = omega arith in
-      let place : i ≡ length h.marks + cond e 1 0 = omega (arith, h.told) in
-      let raised = raised_bits e h.marks d i place in
-      let long : length due_bits ≡ length (presence e ((h.marks ++ true ∷ []) ++ replicate d false)) = sym (length-set due_bits i true) ∙ ap length raised in
+      let place : i ≡ length h.presence_bits + cond e 1 0 = omega (arith, h.told) in
+      let raised = raised_bits e h.presence_bits d i place in
+      let long : length due_bits ≡ length (presence e ((h.presence_bits ++ true ∷ []) ++ replicate d false)) = sym (length-set due_bits i true) ∙ ap length raised in
       record {
         front = h.front;
         preamble = set h.preamble (i / 8) x;
         inner = h.inner;
-        marks = h.marks ++ true ∷ [];
+        presence_bits = h.presence_bits ++ true ∷ [];
         outer = h.outer;
         text = changed ∙ ap (λ l. set l (start + i / 8) x) h.text ∙ set-append_right h.front (h.preamble ++ h.inner) start (start + i / 8) x h.starts (omega arith)
             ∙ ap (λ j. h.front ++ set (h.preamble ++ h.inner) j x) k ∙ ap (λ l. h.front ++ l) (set-append_left h.preamble h.inner (i / 8) x q);
         starts = h.starts;
         begins = omega (arith, h.begins, length-set h.preamble (i / 8) x);
-        told = one_longer h.marks true given h.told;
+        told = one_longer h.presence_bits true given h.told;
         counts = omega (arith, h.counts);
         bits = kept_changed h.preamble due_bits (length due_bits) i y x true h.bits refl (within_bits i n) (at ∙ octet_at i y n) bit ∙ ap (λ l. l ++ replicate (missing (length due_bits)) false) raised
-            ∙ ap (λ m. presence e ((h.marks ++ true ∷ []) ++ replicate d false) ++ replicate (missing m) false) long;
+            ∙ ap (λ m. presence e ((h.presence_bits ++ true ∷ []) ++ replicate d false) ++ replicate (missing m) false) long;
         small = set_small h.preamble (i / 8) x small q h.small;
         under = h.under;
         is = refl;
       }
 
 -- the presence bits of the innermost sequence can be counted
-pub marks_fit : (fs rest : List Frame) (c : Preamble) (o : List ℕ) → AreSound fs o → fs ≡ Components c ∷ rest → c.given + c.due < 2 ^ 64
-marks_fit fs rest c o s a = (on_top fs rest (Components c) o s.state a s.holds).counts
+pub presence_bits_fit : (fs rest : List Frame) (c : Preamble) (o : List ℕ) → AreSound fs o → fs ≡ Components c ∷ rest → c.given + c.due < 2 ^ 64
+presence_bits_fit fs rest c o s a = (on_top fs rest (Components c) o s.state a s.holds).counts
 
 -- the extension marker of the innermost sequence
 module _ (fs rest : List Frame) (c : Preamble) (o : List ℕ) (a : fs ≡ Components c ∷ rest) (n : 0 < c.due) where
@@ -300,17 +300,17 @@ module _ (fs rest : List Frame) (c : Preamble) (o : List ℕ) (a : fs ≡ Compon
   next_due : (s : State) → Holds fs o s → IsOpen (λ q t. Holds rest q t) c.extensible (suc (c.due - 1)) c.given c.start c.content o s
   next_due s h = subst (λ k. IsOpen (λ q t. Holds rest q t) c.extensible k c.given c.start c.content o s) one (on_top fs rest (Components c) o s a h)
 
-  pub does_mark_absent : (gs : List Frame) → gs ≡ Components (told c) ∷ rest → Does (mark false) fs o gs o
-  does_mark_absent gs b = record { after = λ s h. let i = next_due s h in (then_state _ c.extensible (c.due - 1) c.given c.start c.content o s i false, ap (run (mark false)) i.is, put_back gs rest _ o _ b (unmarked _ c.extensible (c.due - 1) c.given c.start c.content o s i)) }
+  pub does_presence_bit_absent : (gs : List Frame) → gs ≡ Components (told c) ∷ rest → Does (presence_bit false) fs o gs o
+  does_presence_bit_absent gs b = record { after = λ s h. let i = next_due s h in (then_state _ c.extensible (c.due - 1) c.given c.start c.content o s i false, ap (run (presence_bit false)) i.is, put_back gs rest _ o _ b (unmarked _ c.extensible (c.due - 1) c.given c.start c.content o s i)) }
 
-  pub does_mark_present : (gs : List Frame) (p : List ℕ) (i : ℕ) → gs ≡ Components (told c) ∷ rest → i ≡ c.given + cond c.extensible 1 0 → p ≡ set o (c.start + i / 8) (get_or p (c.start + i / 8) 0) → binary 8 (get_or p (c.start + i / 8) 0) ≡ set (binary 8 (get_or o (c.start + i / 8) 0)) (i % 8) true → ((j d : ℕ) → j < length p → get_or p j d < 256) → Does (mark true) fs o gs p
-  does_mark_present gs p i b place others bit small = record { after = λ s h. go s (next_due s h) }
+  pub does_presence_bit_present : (gs : List Frame) (p : List ℕ) (i : ℕ) → gs ≡ Components (told c) ∷ rest → i ≡ c.given + cond c.extensible 1 0 → p ≡ set o (c.start + i / 8) (get_or p (c.start + i / 8) 0) → binary 8 (get_or p (c.start + i / 8) 0) ≡ set (binary 8 (get_or o (c.start + i / 8) 0)) (i % 8) true → ((j d : ℕ) → j < length p → get_or p j d < 256) → Does (presence_bit true) fs o gs p
+  does_presence_bit_present gs p i b place others bit small = record { after = λ s h. go s (next_due s h) }
     where
-      go : (s : State) → IsOpen (λ q t. Holds rest q t) c.extensible (suc (c.due - 1)) c.given c.start c.content o s → (t : State) × (run (mark true) s ≡ Some t) × Holds gs p t
+      go : (s : State) → IsOpen (λ q t. Holds rest q t) c.extensible (suc (c.due - 1)) c.given c.start c.content o s → (t : State) × (run (presence_bit true) s ≡ Some t) × Holds gs p t
       go s h =
           let at : ℕ = c.start + i / 8 in
           let l = within_octets _ c.extensible (c.due - 1) c.given c.start c.content o s h i place in
-          (then_state _ c.extensible (c.due - 1) c.given c.start c.content o s h true, ap (run (mark true)) h.is, put_back gs rest _ p _ b (marked_with _ c.extensible (c.due - 1) c.given c.start c.content o s h p i (get_or p at 0) (get_or o at 0) place others (get_or_any o at l) bit (small at 0 (omega (arith, l, ap length others, length-set o at (get_or p at 0))))))
+          (then_state _ c.extensible (c.due - 1) c.given c.start c.content o s h true, ap (run (presence_bit true)) h.is, put_back gs rest _ p _ b (marked_with _ c.extensible (c.due - 1) c.given c.start c.content o s h p i (get_or p at 0) (get_or o at 0) place others (get_or_any o at l) bit (small at 0 (omega (arith, l, ap length others, length-set o at (get_or p at 0))))))
 
   pub mark_within : (i : ℕ) → AreSound fs o → i ≡ c.given + cond c.extensible 1 0 → c.start + i / 8 < length o
   mark_within i s place = within_octets _ c.extensible (c.due - 1) c.given c.start c.content o s.state (next_due s.state s.holds) i place
@@ -344,11 +344,11 @@ does_end_components fs rest c o a f n = record { after = λ s h. go s (subst (λ
   where
     go : (s : State) → IsOpen (λ q t. Holds rest q t) false 0 c.given c.start c.content o s → (t : State) × (run ends s ≡ Some t) × Holds rest o t
     go s h =
-        let w : List ℕ = packed (filled_up h.marks) ++ h.inner in
+        let w : List ℕ = packed (filled_up h.presence_bits) ++ h.inner in
         let z : State = (h.outer.0 ++ w, h.outer.1) in
-        let bits : octet_bits h.preamble ≡ filled_up h.marks = h.bits ∙ ap filled_up (append-nil h.marks) in
-        let back : o ≡ h.front ++ w = h.text ∙ ap (λ l. h.front ++ (l ++ h.inner)) (sym (closed_text h.preamble h.marks bits h.small)) in
-        (z, ap (run ends) h.is ∙ ap (λ x. adds_text x h.outer) (sequence_text h.marks h.inner), subst (λ l. Holds rest l z) (sym back) (appended rest h.front h.outer w h.under))
+        let bits : octet_bits h.preamble ≡ filled_up h.presence_bits = h.bits ∙ ap filled_up (append-nil h.presence_bits) in
+        let back : o ≡ h.front ++ w = h.text ∙ ap (λ l. h.front ++ (l ++ h.inner)) (sym (closed_text h.preamble h.presence_bits bits h.small)) in
+        (z, ap (run ends) h.is ∙ ap (λ x. adds_text x h.outer) (sequence_text h.presence_bits h.inner), subst (λ l. Holds rest l z) (sym back) (appended rest h.front h.outer w h.under))
 
 pub does_end_members : (fs rest : List Frame) (due : ℕ) (o : List ℕ) → fs ≡ Members due ∷ rest → due ≡ 0 → Does ends fs o rest o
 does_end_members fs rest due o a n = record { after = λ s h. go s (subst (λ k. Holds (Members k ∷ rest) o s) n (on_top fs rest (Members due) o s a h)) }

@@ -4,7 +4,7 @@ use Rattle.std.proofs.lemmas.List.{append-nil}
 use Rattle.asn1_model.specs.Value.{Value, fields, Parts, end, absent, present}
 use Rattle.asn1_model.specs.Schema.{Tag, Presence, Schema, sequence, set, Components, no_component, component}
 use Rattle.asn1_model.specs.Normal.{is_at_default, is_group_left_out}
-use Rattle.asn1_model.specs.Tables.{is_required, marks}
+use Rattle.asn1_model.specs.Tables.{is_required, presence_bits}
 use Rattle.std.proofs.lemmas.Bool.{lt-ltb}
 use Rattle.asn1_model.specs.Form.{exactly, refused, both, given, joined, is_present, is_any_present, present_ones, covered_by, written}
 use Rattle.asn1_model.specs.Oer
@@ -395,13 +395,13 @@ by_additions ms x hx p w (Some xs) h = by_texts ms x hx p w xs h (texts_of xs) r
 
 -- the records of parts, and what they add
 abbrev PartsBridge : Components → Bool → Components → Type 0
-PartsBridge cs e adds = (ps qs : Parts) (p : ℕ) (os : List ℕ) (k : List Scope) (rest : List Record) → runs (root_records cs ps (behind_root e adds (added_records adds qs)) ++ rest) ([], components e (optional_count cs) [] os ∷ k) ≡ option_and_then (λ w. runs rest (os ++ w, k)) (written (given (Oer.addition_forms adds qs) (Oer.sequence_form e (marks cs ps) (Oer.component_forms cs ps))) p)
+PartsBridge cs e adds = (ps qs : Parts) (p : ℕ) (os : List ℕ) (k : List Scope) (rest : List Record) → runs (root_records cs ps (behind_root e adds (added_records adds qs)) ++ rest) ([], components e (optional_count cs) [] os ∷ k) ≡ option_and_then (λ w. runs rest (os ++ w, k)) (written (given (Oer.addition_forms adds qs) (Oer.sequence_form e (presence_bits cs ps) (Oer.component_forms cs ps))) p)
 
 marked_parts : (cs adds : Components) → EachBridges cs → EachBridges adds → PartsBridge cs true adds
 marked_parts cs adds h ha ps qs p os k rest =
     root true cs h ps 0 [] os [] k (additions_begin (component_count adds) ∷ added_records adds qs) rest
-    ∙ chain_same (written (Oer.component_forms cs ps) 0) _ (λ r. option_and_then (λ xs. option_and_then (λ us. option_and_then (λ w. runs rest (os ++ w, k)) (closing (marks cs ps) r us)) (texts_of xs)) (Oer.addition_forms adds qs)) (λ r. rest_of adds ha qs (marks cs ps) r [] os k rest)
-    ∙ by_additions (marks cs ps) (Oer.component_forms cs ps) (components_still cs h ps) p (λ w. runs rest (os ++ w, k)) (Oer.addition_forms adds qs) (additions_still adds qs)
+    ∙ chain_same (written (Oer.component_forms cs ps) 0) _ (λ r. option_and_then (λ xs. option_and_then (λ us. option_and_then (λ w. runs rest (os ++ w, k)) (closing (presence_bits cs ps) r us)) (texts_of xs)) (Oer.addition_forms adds qs)) (λ r. rest_of adds ha qs (presence_bits cs ps) r [] os k rest)
+    ∙ by_additions (presence_bits cs ps) (Oer.component_forms cs ps) (components_still cs h ps) p (λ w. runs rest (os ++ w, k)) (Oer.addition_forms adds qs) (additions_still adds qs)
 
 -- no text has additions without an extension marker
 unmarked_additions : (ms : List Bool) (x : Oer.OctetForm) (t : List Tag) (o : Presence) (s : Schema) (adds : Components) (qs : Parts) (p : ℕ) → written (given (Oer.addition_forms (component t o s adds) qs) (Oer.sequence_form false ms x)) p ≡ None
@@ -426,7 +426,7 @@ unmarked_parts cs no_component h ps qs p os k rest = root false cs h ps p [] os 
 unmarked_parts cs (component t o s adds) h ps qs p os k rest =
     root false cs h ps p [] os [] k (additions_begin (suc (component_count adds)) ∷ added_records (component t o s adds) qs) rest
     ∙ none_behind (written (Oer.component_forms cs ps) p)
-    ∙ ap (option_and_then (λ w. runs rest (os ++ w, k))) (sym (unmarked_additions (marks cs ps) (Oer.component_forms cs ps) t o s adds qs p))
+    ∙ ap (option_and_then (λ w. runs rest (os ++ w, k))) (sym (unmarked_additions (presence_bits cs ps) (Oer.component_forms cs ps) t o s adds qs p))
 
 parts : (cs : Components) (e : Bool) (adds : Components) → EachBridges cs → EachBridges adds → PartsBridge cs e adds
 parts cs true adds h ha = marked_parts cs adds h ha

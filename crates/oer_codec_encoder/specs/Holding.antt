@@ -54,17 +54,17 @@ pub record IsOpen (below : List ℕ → State → Type 0) (e : Bool) (due given 
   pub front : List ℕ
   pub preamble : List ℕ
   pub inner : List ℕ
-  pub marks : List Bool
+  pub presence_bits : List Bool
   pub outer : State
   pub text : o ≡ front ++ (preamble ++ inner)
   pub starts : length front ≡ start
   pub begins : start + length preamble ≡ content
-  pub told : length marks ≡ given
+  pub told : length presence_bits ≡ given
   pub counts : given + due < 2 ^ 64
-  pub bits : octet_bits preamble ≡ filled_up (presence e (marks ++ replicate due false))
+  pub bits : octet_bits preamble ≡ filled_up (presence e (presence_bits ++ replicate due false))
   pub small : (k : ℕ) → k < length preamble → slice_index preamble k < 256
   pub under : below front outer
-  pub is : s ≡ (inner, components e due marks outer.0 ∷ outer.1)
+  pub is : s ≡ (inner, components e due presence_bits outer.0 ∷ outer.1)
 
 -- The octets are those in front of an open type, room for one octet, and those of the open type.
 pub record IsApart (below : List ℕ → State → Type 0) (start : ℕ) (o : List ℕ) (s : State) : Type 0 where
@@ -83,7 +83,7 @@ Holds [] o s = s ≡ (o, [])
 Holds (Components c ∷ fs) o s = IsOpen (λ p t. Holds fs p t) c.extensible c.due c.given c.start c.content o s
 Holds (Added a ∷ fs) o s = (root : State)
     × (h : IsOpen (λ p t. Holds fs p t) true 0 a.preamble.given a.preamble.start a.preamble.content a.outer.items
-    root) × (a.any ≡ is_any_set a.present) × (s ≡ (o, added a.due h.marks h.inner a.present h.outer.0 ∷ h.outer.1))
+    root) × (a.any ≡ is_any_set a.present) × (s ≡ (o, added a.due h.presence_bits h.inner a.present h.outer.0 ∷ h.outer.1))
 Holds (OpenType start ∷ fs) o s = IsApart (λ p t. Holds fs p t) start o s
 Holds (Members due ∷ fs) o s = (below : State) × (s ≡ (below.0, members due ∷ below.1)) × Holds fs o below
 Holds (Bag b ∷ fs) o s = (below : State) × (s ≡ (o, bag_members b.due b.members below.0 ∷ below.1))

@@ -10,7 +10,7 @@ use Rattle.asn1_model.specs.Form.{exactly, written, both, joined, only_if}
 use Rattle.asn1_model.specs.Oer
 use Rattle.asn1_schema_presented.specs.Records.{Record, flag, nil, whole, one_of, bits, octets, characters}
 use Rattle.asn1_schema_presented.specs.Records.{identifier, list_begins, bag_begins, further, sequence_begins}
-use Rattle.asn1_schema_presented.specs.Records.{set_begins, group_begins, mark, additions_begin, addition}
+use Rattle.asn1_schema_presented.specs.Records.{set_begins, group_begins, presence_bit, additions_begin, addition}
 use Rattle.asn1_schema_presented.specs.Records.{addition_ends, choice_begins, ends}
 
 -- An open scope.
@@ -166,7 +166,7 @@ run (further b) s = goes_on b s.0 s.1
 run (sequence_begins e n) s = Some ([], components e n [] s.0 ∷ s.1)
 run (set_begins e n) s = Some ([], components e n [] s.0 ∷ s.1)
 run (group_begins n) s = Some ([], components false n [] s.0 ∷ s.1)
-run (mark b) s = marked b s.0 s.1
+run (presence_bit b) s = marked b s.0 s.1
 run (additions_begin n) s = extended n s.0 s.1
 run (addition b) s = adds b s.0 s.1
 run addition_ends s = added_one s.0 s.1

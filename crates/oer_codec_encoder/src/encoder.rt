@@ -10,7 +10,7 @@ use crate::bags::begin_bag;
 use crate::ends::end_scope;
 use crate::frames::Frames;
 use crate::options::EncoderOptions;
-use crate::sequences::{begin_components, begin_members, put_mark};
+use crate::sequences::{begin_components, begin_members, put_presence_bit};
 use asn1_schema_constraints::{Bounded, Constraints};
 use asn1_schema_faults::{CodecKind, EncodeError};
 use asn1_schema_tags::{Identifier, Tag};
@@ -302,8 +302,8 @@ impl<'buffer> asn1_schema_encode::Encoder for Encoder<'buffer> {
     }
 
     #[inline(always)]
-    fn put_mark(&mut self, present: bool) -> Result<(), EncodeError> {
-        record!(self, put_mark(self.output, &mut self.frames, present))
+    fn put_presence_bit(&mut self, present: bool) -> Result<(), EncodeError> {
+        record!(self, put_presence_bit(self.output, &mut self.frames, present))
     }
 
     #[inline(always)]

@@ -215,7 +215,7 @@ impl Frames {
 
     /// Takes the next presence bit of the innermost sequence, and gives the preamble as it was in front of it.
     #[inline(always)]
-    pub(crate) fn next_mark(&mut self) -> Option<Preamble>
+    pub(crate) fn next_presence_bit(&mut self) -> Option<Preamble>
         requires { (p : _) (k : _) → self.old ≡ Components p ∷ k → p.given + p.due < 2 ^ 64 }
         ensures some { IfSome result (λ p. (k : _) × (self.old ≡ Components p ∷ k) × (0 < p.due)
             × (self.new ≡ Components (told p) ∷ k)) }

@@ -2,7 +2,7 @@
 ghost use Rattle.std.specs.Prelude.{◌≡◌, ℕ, List, ltb, ◌-◌, ◌+◌, ◌*◌, ◌/◌, ◌%◌, ◌<◌, ◌++◌, ◌∷◌, [], cond, replicate};
 ghost use Rattle.std.specs.Prelude.{MatchResult, vec_len, true, slice_set, slice_index};
 ghost use Rattle.asn1_model.specs.Numbers.{binary, missing};
-ghost use Rattle.asn1_schema_presented.specs.Records.{sequence_begins, mark, list_begins};
+ghost use Rattle.asn1_schema_presented.specs.Records.{sequence_begins, presence_bit, list_begins};
 ghost use Rattle.asn1_schema_constraints.specs.Bounds.{members_of};
 ghost use Rattle.asn1_schema_constraints.specs.Terms.{sizes_of};
 ghost use Rattle.oer_codec_encoder.specs.Frames.{NoMember};
@@ -87,16 +87,16 @@ pub(crate) fn raise_bit(octets: &mut Vec<u8>, start: usize, place: usize)
 ///
 /// `CallOutOfPlace` if nothing that is open takes this call, and `OutOfMemory`.
 #[inline]
-pub(crate) fn put_mark(
+pub(crate) fn put_presence_bit(
     octets: &mut Vec<u8>,
     frames: &mut Frames,
     present: bool,
 ) -> Result<(), EncodeError>
     requires { AreSound frames.old octets.old.items }
-    ensures { MatchResult result (λ _. Does (mark present) frames.old octets.old.items frames.new octets.new.items)
-        (Cannot (mark present) frames.old octets.old.items) }
+    ensures { MatchResult result (λ _. Does (presence_bit present) frames.old octets.old.items frames.new octets.new.items)
+        (Cannot (presence_bit present) frames.old octets.old.items) }
 {
-    let Some(preamble) = frames.next_mark() else {
+    let Some(preamble) = frames.next_presence_bit() else {
         return Err(EncodeError::CallOutOfPlace);
     };
     if present {

@@ -6,7 +6,7 @@ use Rattle.asn1_model.specs.Schema.{Tag, Range, Bounds, Counts, Presence, Schema
 use Rattle.asn1_model.specs.Numbers.{digits, least_octets, signed_octets, complement}
 use Rattle.asn1_model.specs.Normal.{is_at_default, is_group_left_out}
 use Rattle.asn1_model.specs.Form.{exactly, refused, both, varied, within, Reads, only_if, given, joined, Bitmap, is_any_present, present_ones, stands_before, written}
-use Rattle.asn1_model.specs.Tables.{is_required, marks}
+use Rattle.asn1_model.specs.Tables.{is_required, presence_bits}
 use Rattle.asn1_model.specs.Strings.{is_octet, each_is}
 use Rattle.asn1_model.specs.Oer
 use Rattle.asn1_laws_values.proofs.Listed.{listed, each_is_map, order_map}
@@ -253,9 +253,9 @@ module _ (free : Oer.Freedom → Bool) where
     form_moves (sequence_of z h s) v = moves_refused
     form_moves (set_of z h s) (bag vs) = subst (λ l. Moves (Oer.in_any_order l (Oer.members_form h))) (sym (each_is_map (λ v. Oer.form s v) vs)) (bag_moves h (λ v. Oer.form s v) (λ v. form_moves s v) (listed vs))
     form_moves (set_of z h s) v = moves_refused
-    form_moves (sequence cs e adds) (fields ps qs) = fields_move e (marks cs ps) (Oer.component_forms cs ps) (Oer.addition_forms adds qs) (components_move cs ps) (additions_move adds qs)
+    form_moves (sequence cs e adds) (fields ps qs) = fields_move e (presence_bits cs ps) (Oer.component_forms cs ps) (Oer.addition_forms adds qs) (components_move cs ps) (additions_move adds qs)
     form_moves (sequence cs e adds) v = moves_refused
-    form_moves (set cs e adds) (fields ps qs) = fields_move e (marks cs ps) (Oer.component_forms cs ps) (Oer.addition_forms adds qs) (components_move cs ps) (additions_move adds qs)
+    form_moves (set cs e adds) (fields ps qs) = fields_move e (presence_bits cs ps) (Oer.component_forms cs ps) (Oer.addition_forms adds qs) (components_move cs ps) (additions_move adds qs)
     form_moves (set cs e adds) v = moves_refused
     form_moves (group cs) (fields ps end) = moves_both (moves_exactly _) (components_move cs ps)
     form_moves (group cs) v = moves_refused

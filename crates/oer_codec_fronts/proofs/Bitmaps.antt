@@ -4,7 +4,7 @@ use Rattle.std.proofs.Common.{◌≡◌, ◌⊎◌, inl, inr, ℕ, suc, not, Boo
 use Rattle.std.proofs.lemmas.List.{append-nil}
 use Rattle.asn1_model.specs.Value.{Parts, end, absent, present}
 use Rattle.asn1_model.specs.Schema.{Components, no_component, component}
-use Rattle.asn1_model.specs.Tables.{is_required, marks}
+use Rattle.asn1_model.specs.Tables.{is_required, presence_bits}
 use Rattle.asn1_model.specs.Form.{both, varied, given, only_if, joined, Bitmap, is_present, is_any_present, present_ones, covered_by, Reads}
 use Rattle.asn1_model.specs.Oer
 use Rattle.asn1_model.proofs.Forms.{map_parts}
@@ -14,7 +14,7 @@ use Rattle.asn1_schema_presented.specs.Records.{additions_begin}
 use Rattle.asn1_schema_presented.specs.Presents.{root_records, added_records, optional_count, component_count}
 use Rattle.asn1_schema_presented.specs.Chains.{Chain}
 use Rattle.oer_codec_fronts.specs.Takes.{State, Scope, components, added, Front, Found, Begins, unknown_forms, Skips}
-use Rattle.asn1_schema_finding.specs.Marks.{preamble_bits, first_bits, has_set}
+use Rattle.asn1_schema_finding.specs.PresenceBits.{preamble_bits, first_bits, has_set}
 use Rattle.asn1_schema_finding.proofs.Alike.{LikeParts}
 use Rattle.asn1_schema_finding.proofs.Bitmaps.{Octets, flags, any_set, none_flags, flags_none, none_of, covers, counted_flags}
 use Rattle.asn1_schema_finding.proofs.Bitmaps as bitmaps
@@ -190,10 +190,10 @@ module _ (free : Oer.Freedom → Bool) where
         let h : EachMoves free r.0 = all_move (Oer.addition_forms adds qs) (additions_move free adds qs) r.0 r.2 in
         (given_in free (Oer.addition_forms adds qs) (Oer.sequence_form true ms y) r.0 r.2 os b.0 (with_in ms y moves other r.0 h r.5.0 bs e1 e2 c.1.1 os mid o2 m.0 r.1 b.0 f' g c.1.2 r.4 r.5.2), r.6)
 
-    pub extended_in : (cs : Components) → EachFinds free cs → (ps : Parts) (a m b : State) → Begins free true (optional_count cs) a m → Chain (Step free) (root_records cs ps (additions_begin (component_count adds) ∷ added_records adds qs)) m b → Found free (Marked adds qs (marks cs ps) (Oer.component_forms cs ps)) a b
+    pub extended_in : (cs : Components) → EachFinds free cs → (ps : Parts) (a m b : State) → Begins free true (optional_count cs) a m → Chain (Step free) (root_records cs ps (additions_begin (component_count adds) ∷ added_records adds qs)) m b → Found free (Marked adds qs (presence_bits cs ps) (Oer.component_forms cs ps)) a b
     extended_in cs h ps a m b t c =
         let o = begun_in free true cs h ps (additions_begin (component_count adds) ∷ added_records adds qs) a m b t c in
-        marked_in (marks cs ps) (Oer.component_forms cs ps) (components_move free cs ps) o.0 o.1 a.0 o.2 o.3 a.1 b o.4 o.5 o.6 o.7
+        marked_in (presence_bits cs ps) (Oer.component_forms cs ps) (components_move free cs ps) o.0 o.1 a.0 o.2 o.3 a.1 b o.4 o.5 o.6 o.7
 
   module _ (other : IsTrue (free Oer.other_bitmap)) (adds : Components) (ha : EachShows free adds) (qs : Parts) where
     -- what is held at the extension marker, with additions like these
@@ -227,7 +227,7 @@ module _ (free : Oer.Freedom → Bool) where
         at_mark ms y t.0 t.1 os k b scopes (read_out ms y moves other t.0 (all_move (Oer.addition_forms adds qs) (additions_move free adds qs) t.0 t.1) os b.0 t.2)
 
     -- ---- SEQUENCE and SET with an extension marker
-    pub extended_out : (cs : Components) → EachShows free cs → (ps : Parts) (a b : State) → Found free (Marked adds qs (marks cs ps) (Oer.component_forms cs ps)) a b → (ss : Parts) × LikeParts adds qs ss × Closed free true cs ps (additions_begin (component_count adds) ∷ added_records adds ss) a b
+    pub extended_out : (cs : Components) → EachShows free cs → (ps : Parts) (a b : State) → Found free (Marked adds qs (presence_bits cs ps) (Oer.component_forms cs ps)) a b → (ss : Parts) × LikeParts adds qs ss × Closed free true cs ps (additions_begin (component_count adds) ∷ added_records adds ss) a b
     extended_out cs h ps a b f =
-        let t = marked_out (marks cs ps) (Oer.component_forms cs ps) (components_move free cs ps) a.0 a.1 b f.0 f.1 in
+        let t = marked_out (presence_bits cs ps) (Oer.component_forms cs ps) (components_move free cs ps) a.0 a.1 b f.0 f.1 in
         (t.0, t.4, begun_out free true cs h ps (additions_begin (component_count adds) ∷ added_records adds t.0) a b t.1 t.2 t.3 t.5 t.6 t.7 t.8)

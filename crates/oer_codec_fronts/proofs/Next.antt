@@ -9,7 +9,7 @@ use Rattle.asn1_model.specs.Form.{is_present}
 use Rattle.asn1_model.specs.Strings.{may_hold, identifier_octets, is_identifier}
 use Rattle.asn1_model.specs.Tables.{item_place}
 use Rattle.asn1_model.specs.Oer
-use Rattle.asn1_schema_presented.specs.Records.{Record, flag, nil, whole, one_of, bits, octets, characters, identifier, list_begins, bag_begins, further, sequence_begins, set_begins, group_begins, mark, is_default, is_empty, additions_begin, addition, addition_ends, choice_begins, ends, mismatch, question, told}
+use Rattle.asn1_schema_presented.specs.Records.{Record, flag, nil, whole, one_of, bits, octets, characters, identifier, list_begins, bag_begins, further, sequence_begins, set_begins, group_begins, presence_bit, is_default, is_empty, additions_begin, addition, addition_ends, choice_begins, ends, mismatch, question, told}
 use Rattle.asn1_laws_fronts.proofs.Fronts.{agree_map, agree_if, agree_nothing}
 use Rattle.asn1_laws_fronts.proofs.OerNumbers.{OctetsAlike, integer_alike, counted_alike, unsigned_alike}
 use Rattle.asn1_laws_fronts.proofs.OerBits.{preamble_alike, counted_bits_alike}
@@ -18,8 +18,8 @@ use Rattle.asn1_laws_fronts.proofs.Sevens.{identifiers_equal}
 use Rattle.asn1_laws_fronts.proofs.Additions as adding
 use Rattle.asn1_laws_fronts.proofs.OctetUnits.{items_alike, bit_strings_alike, octets_alike, one_length, characters_equal, characters_long}
 use Rattle.asn1_laws_fronts.proofs.Tags.{tags_alike}
-use Rattle.oer_codec_fronts.specs.Takes.{Scope, components, added, open_type, members, alternative, State, Front, Found, Counted, NextMember, Begins, NextMark, AdditionsBegin, Opens, NextAddition, AdditionEnds, Skips, IsPlace, Enters, Chooses, Ends, Takes}
-use Rattle.asn1_schema_finding.specs.Marks.{preamble_bits, first_bits}
+use Rattle.oer_codec_fronts.specs.Takes.{Scope, components, added, open_type, members, alternative, State, Front, Found, Counted, NextMember, Begins, NextPresenceBit, AdditionsBegin, Opens, NextAddition, AdditionEnds, Skips, IsPlace, Enters, Chooses, Ends, Takes}
+use Rattle.asn1_schema_finding.specs.PresenceBits.{preamble_bits, first_bits}
 
 pub state_same : (b c : State) → b.0 ≡ c.0 → b.1 ≡ c.1 → b ≡ c
 state_same b c e f =
@@ -107,7 +107,7 @@ module _ (free : Oer.Freedom → Bool) where
       let t = s.1 q.0 in
       state_same b c q.1 (f.5 ∙ ap (λ x. components x f.1 ∷ a.1) t.0 ∙ ap (λ ms. components g.0 ms ∷ a.1) t.1 ∙ sym g.5)
 
-  same_mark : (v w : Bool) (os : List ℕ) (k : List Scope) (b c : State) → NextMark v os k b → NextMark w os k c → (v ≡ w) × (b ≡ c)
+  same_mark : (v w : Bool) (os : List ℕ) (k : List Scope) (b c : State) → NextPresenceBit v os k b → NextPresenceBit w os k c → (v ≡ w) × (b ≡ c)
   same_mark v w os (components x (m ∷ ms) ∷ k) b c f g = (f.0 ∙ sym g.0, f.1 ∙ sym g.1)
   same_mark v w os k b c f g = absurd f
 
@@ -206,7 +206,7 @@ module _ (free : Oer.Freedom → Bool) where
   one_taken a (group_begins n) (group_begins m) b c q f g =
       let e : group_begins m ≡ group_begins n = cc q in
       (sym e, same_begin false n a b c f (as_record a (group_begins m) (group_begins n) c e g))
-  one_taken a (mark v) (mark w) b c q f g = let t = same_mark v w a.0 a.1 b c f g in (ap mark t.0, t.1)
+  one_taken a (presence_bit v) (presence_bit w) b c q f g = let t = same_mark v w a.0 a.1 b c f g in (ap presence_bit t.0, t.1)
   one_taken a is_default is_default b c q f g = (refl, f.1 ∙ sym g.1)
   one_taken a is_empty is_empty b c q f g = (refl, f.1 ∙ sym g.1)
   one_taken a (additions_begin n) (additions_begin m) b c q f g =

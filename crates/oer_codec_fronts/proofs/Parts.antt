@@ -4,11 +4,11 @@ use Rattle.asn1_model.specs.Value.{Value, truth, nothing, number, item, bit_list
 use Rattle.asn1_model.specs.Schema.{Range, Bounds, Counts, Size, StringKind, Alphabet, Schema, boolean, null, integer, enumerated, bit_string, octet_string, character_string, object_identifier, sequence_of, set_of, Components, no_component, component}
 use Rattle.asn1_model.specs.Normal.{is_at_default, is_group_left_out}
 use Rattle.asn1_model.specs.Numbers.{is_count_within}
-use Rattle.asn1_model.specs.Tables.{is_required, mark_unless, marks}
+use Rattle.asn1_model.specs.Tables.{is_required, presence_bit_unless, presence_bits}
 use Rattle.asn1_model.specs.Form.{refused, both, given, joined, exactly, in_order, arranged, ascending, stands_before, written}
 use Rattle.asn1_model.specs.Oer
 use Rattle.asn1_laws_values.proofs.Listed.{EachComponent}
-use Rattle.asn1_schema_presented.specs.Records.{Record, flag, nil, whole, one_of, bits, octets, characters, identifier, mark, ends, mismatch}
+use Rattle.asn1_schema_presented.specs.Records.{Record, flag, nil, whole, one_of, bits, octets, characters, identifier, presence_bit, ends, mismatch}
 use Rattle.asn1_schema_presented.specs.Presents.{presents, member_records, member_count, root_records, marked}
 use Rattle.asn1_schema_presented.specs.Chains.{Chain}
 use Rattle.asn1_schema_presented.proofs.Chains.{chain_split, chain_append}
@@ -182,37 +182,37 @@ module _ (free : Oer.Freedom → Bool) where
       (r.0, r.1, r.2, join free (spelled_by d g (Oer.form s v)) y moves os q.0.0 r.0 f.0 r.3, r.4)
 
   -- a presence bit
-  behind_mark : (t : Bool) (bs : List Bool) (y : Oer.OctetForm) (rs tail : List Record) (x : Option Bool) (k : List Scope) (b : State) → Goes bs y rs tail x k b → Goes (t ∷ bs) y rs (mark t ∷ tail) x k b
-  behind_mark t bs y rs tail x k b others [] os c = absurd c.1
-  behind_mark t bs y rs tail x k b others (m ∷ ms) os c =
+  behind_presence_bit : (t : Bool) (bs : List Bool) (y : Oer.OctetForm) (rs tail : List Record) (x : Option Bool) (k : List Scope) (b : State) → Goes bs y rs tail x k b → Goes (t ∷ bs) y rs (presence_bit t ∷ tail) x k b
+  behind_presence_bit t bs y rs tail x k b others [] os c = absurd c.1
+  behind_presence_bit t bs y rs tail x k b others (m ∷ ms) os c =
       let r = others ms os (from_state free tail c.0 b os (components x ms ∷ k) c.1.1 c.2) in
       (r.0, r.1, ap (λ n. n ∷ ms) (sym c.1.0) ∙ ap (λ l. t ∷ l) r.2, r.3, r.4)
 
-  one_there : (q : Bool) (s : Schema) (v : Value) → Finds free s → (d g : Bool) (bs : List Bool) (y : Oer.OctetForm) → Moves free y → (rs tail : List Record) (x : Option Bool) (k : List Scope) (b : State) → Goes bs y rs tail x k b → Goes (mark_unless q true bs) (both (spelled_by d g (Oer.form s v)) y) rs (marked q (presents s v ++ noted_by d g) ++ tail) x k b
+  one_there : (q : Bool) (s : Schema) (v : Value) → Finds free s → (d g : Bool) (bs : List Bool) (y : Oer.OctetForm) → Moves free y → (rs tail : List Record) (x : Option Bool) (k : List Scope) (b : State) → Goes bs y rs tail x k b → Goes (presence_bit_unless q true bs) (both (spelled_by d g (Oer.form s v)) y) rs (marked q (presents s v ++ noted_by d g) ++ tail) x k b
   one_there true s v h d g bs y moves rs tail x k b others = behind_it s v h d g bs y moves rs tail x k b others
-  one_there false s v h d g bs y moves rs tail x k b others = behind_mark true bs _ rs _ x k b (behind_it s v h d g bs y moves rs tail x k b others)
+  one_there false s v h d g bs y moves rs tail x k b others = behind_presence_bit true bs _ rs _ x k b (behind_it s v h d g bs y moves rs tail x k b others)
 
   nothing_there : (bs : List Bool) (y : Oer.OctetForm) (rs more : List Record) (x : Option Bool) (k : List Scope) (b : State) → Goes bs y rs (mismatch ∷ more) x k b
   nothing_there bs y rs more x k b ms os c = absurd c.1
 
-  one_absent : (q : Bool) (bs : List Bool) (y : Oer.OctetForm) (rs tail : List Record) (x : Option Bool) (k : List Scope) (b : State) → Goes bs y rs tail x k b → Goes (mark_unless q false bs) (cond q refused y) rs (cond q (mismatch ∷ []) (mark false ∷ []) ++ tail) x k b
+  one_absent : (q : Bool) (bs : List Bool) (y : Oer.OctetForm) (rs tail : List Record) (x : Option Bool) (k : List Scope) (b : State) → Goes bs y rs tail x k b → Goes (presence_bit_unless q false bs) (cond q refused y) rs (cond q (mismatch ∷ []) (presence_bit false ∷ []) ++ tail) x k b
   one_absent true bs y rs tail x k b others = nothing_there bs refused rs tail x k b
-  one_absent false bs y rs tail x k b others = behind_mark false bs y rs tail x k b others
+  one_absent false bs y rs tail x k b others = behind_presence_bit false bs y rs tail x k b others
 
-  pub root_in : (cs : Components) → EachFinds free cs → (ps : Parts) (rs : List Record) (x : Option Bool) (k : List Scope) (b : State) → Goes (marks cs ps) (Oer.component_forms cs ps) rs (root_records cs ps rs) x k b
+  pub root_in : (cs : Components) → EachFinds free cs → (ps : Parts) (rs : List Record) (x : Option Bool) (k : List Scope) (b : State) → Goes (presence_bits cs ps) (Oer.component_forms cs ps) rs (root_records cs ps rs) x k b
   unfolding root_records Oer.component_forms Oer.spelled
   root_in no_component h end rs x k b = λ ms os c. (os, ms, refl, nothing_front free os, c)
   root_in no_component h (absent ps) rs x k b = nothing_there [] refused rs [] x k b
   root_in no_component h (present v ps) rs x k b = nothing_there [] refused rs [] x k b
-  root_in (component t o s cs) h (present v ps) rs x k b = one_there (is_required o) s v h.0 (is_at_default o s v) (is_group_left_out s v) (marks cs ps) (Oer.component_forms cs ps) (components_move free cs ps) rs (root_records cs ps rs) x k b (root_in cs h.1 ps rs x k b)
-  root_in (component t o s cs) h (absent ps) rs x k b = one_absent (is_required o) (marks cs ps) (Oer.component_forms cs ps) rs (root_records cs ps rs) x k b (root_in cs h.1 ps rs x k b)
+  root_in (component t o s cs) h (present v ps) rs x k b = one_there (is_required o) s v h.0 (is_at_default o s v) (is_group_left_out s v) (presence_bits cs ps) (Oer.component_forms cs ps) (components_move free cs ps) rs (root_records cs ps rs) x k b (root_in cs h.1 ps rs x k b)
+  root_in (component t o s cs) h (absent ps) rs x k b = one_absent (is_required o) (presence_bits cs ps) (Oer.component_forms cs ps) rs (root_records cs ps rs) x k b (root_in cs h.1 ps rs x k b)
   root_in (component t o s cs) h end rs x k b = nothing_there _ refused rs [] x k b
 
   -- and back
   abbrev RootOut : Components → Parts → List Record → Option Bool → List Bool → List ℕ → List Scope → State → Type 0
-  RootOut cs ps rs x more os k b = (qs : Parts) × LikeParts cs ps qs × (marks cs qs ≡ marks cs ps) × Chain (Step free) (root_records cs qs rs) (os, components x (marks cs qs ++ more) ∷ k) b
+  RootOut cs ps rs x more os k b = (qs : Parts) × LikeParts cs ps qs × (presence_bits cs qs ≡ presence_bits cs ps) × Chain (Step free) (root_records cs qs rs) (os, components x (presence_bits cs qs ++ more) ∷ k) b
 
-  marked_out : (q : Bool) (rs tail : List Record) (x : Option Bool) (bs more : List Bool) (os : List ℕ) (k : List Scope) (b : State) → Chain (Step free) (rs ++ tail) (os, components x (bs ++ more) ∷ k) b → Chain (Step free) (marked q rs ++ tail) (os, components x (mark_unless q true bs ++ more) ∷ k) b
+  marked_out : (q : Bool) (rs tail : List Record) (x : Option Bool) (bs more : List Bool) (os : List ℕ) (k : List Scope) (b : State) → Chain (Step free) (rs ++ tail) (os, components x (bs ++ more) ∷ k) b → Chain (Step free) (marked q rs ++ tail) (os, components x (presence_bit_unless q true bs ++ more) ∷ k) b
   marked_out true rs tail x bs more os k b c = c
   marked_out false rs tail x bs more os k b c = ((os, components x (bs ++ more) ∷ k), (refl, refl), c)
 
@@ -224,21 +224,21 @@ module _ (free : Oer.Freedom → Bool) where
   root_out (component t o s cs) h (present v ps) rs x more os mid k b f c =
       let q = split free (spelled_by (is_at_default o s v) (is_group_left_out s v) (Oer.form s v)) (Oer.component_forms cs ps) (components_move free cs ps) os mid f in
       let r = root_out cs h.1 ps rs x more q.0 mid k b q.2 c in
-      let here : State = (os, components x (marks cs r.0 ++ more) ∷ k) in
-      let there : State = (q.0, components x (marks cs r.0 ++ more) ∷ k) in
+      let here : State = (os, components x (presence_bits cs r.0 ++ more) ∷ k) in
+      let there : State = (q.0, components x (presence_bits cs r.0 ++ more) ∷ k) in
       let w = there_out free s h.0 o v here there (q.1, refl) in
       let its : List Record = presents s w.0 ++ noted_by (is_at_default o s w.0) (is_group_left_out s w.0) in
-      (present w.0 r.0, like_present t o s cs v w.0 ps r.0 w.1 r.1, ap (λ l. mark_unless (is_required o) true l) r.2, marked_out (is_required o) its (root_records cs r.0 rs) x (marks cs r.0) more os k b (chain_append (Step free) its (root_records cs r.0 rs) here there b w.2 r.3))
+      (present w.0 r.0, like_present t o s cs v w.0 ps r.0 w.1 r.1, ap (λ l. presence_bit_unless (is_required o) true l) r.2, marked_out (is_required o) its (root_records cs r.0 rs) x (presence_bits cs r.0) more os k b (chain_append (Step free) its (root_records cs r.0 rs) here there b w.2 r.3))
   root_out (component t o s cs) h (absent ps) rs x more os mid k b f c =
       let d = left_in (is_required o) (Oer.component_forms cs ps) os mid f in
       let r = root_out cs h.1 ps rs x more os mid k b d.1 c in
-      (absent r.0, like_absent t o s cs ps r.0 r.1, ap (λ l. mark_unless (is_required o) false l) r.2, left_back (is_required o) d.0 (root_records cs r.0 rs) x (marks cs r.0) more os k b r.3)
+      (absent r.0, like_absent t o s cs ps r.0 r.1, ap (λ l. presence_bit_unless (is_required o) false l) r.2, left_back (is_required o) d.0 (root_records cs r.0 rs) x (presence_bits cs r.0) more os k b r.3)
     where
       left_in : (q : Bool) (y : Oer.OctetForm) (os mid : List ℕ) → Front free (cond q refused y) os mid → (q ≡ false) × Front free y os mid
       left_in true y os mid f = absurd (of_refused free os mid f)
       left_in false y os mid f = (refl, f)
 
-      left_back : (q : Bool) → q ≡ false → (tail : List Record) (x : Option Bool) (bs more : List Bool) (os : List ℕ) (k : List Scope) (b : State) → Chain (Step free) tail (os, components x (bs ++ more) ∷ k) b → Chain (Step free) (cond q (mismatch ∷ []) (mark false ∷ []) ++ tail) (os, components x (mark_unless q false bs ++ more) ∷ k) b
+      left_back : (q : Bool) → q ≡ false → (tail : List Record) (x : Option Bool) (bs more : List Bool) (os : List ℕ) (k : List Scope) (b : State) → Chain (Step free) tail (os, components x (bs ++ more) ∷ k) b → Chain (Step free) (cond q (mismatch ∷ []) (presence_bit false ∷ []) ++ tail) (os, components x (presence_bit_unless q false bs ++ more) ∷ k) b
       left_back true e tail x bs more os k b c = cc
       left_back false e tail x bs more os k b c = ((os, components x (bs ++ more) ∷ k), (refl, refl), c)
   root_out (component t o s cs) h end rs x more os mid k b f c = absurd (of_refused free os mid f)

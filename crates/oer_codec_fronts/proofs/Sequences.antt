@@ -4,17 +4,17 @@ use Rattle.std.proofs.lemmas.List.{append-nil}
 use Rattle.asn1_model.specs.Value.{Value, Parts, end, absent, present}
 use Rattle.asn1_model.specs.Schema.{Presence, Schema, Components, no_component, component}
 use Rattle.asn1_model.specs.Normal.{is_at_default, is_group_left_out}
-use Rattle.asn1_model.specs.Tables.{is_required, marks}
+use Rattle.asn1_model.specs.Tables.{is_required, presence_bits}
 use Rattle.asn1_model.specs.Form.{exactly, both, joined, is_present, present_ones, Reads}
 use Rattle.asn1_model.specs.Oer
 use Rattle.asn1_model.proofs.Forms.{map_parts}
-use Rattle.asn1_schema_finding.proofs.Marks.{marks_count}
+use Rattle.asn1_schema_finding.proofs.PresenceBits.{presence_bits_count}
 use Rattle.asn1_schema_presented.specs.Records.{Record, addition, addition_ends, ends, mismatch}
 use Rattle.asn1_schema_presented.specs.Presents.{presents, root_records, added_records, optional_count}
 use Rattle.asn1_schema_presented.specs.Chains.{Chain}
 use Rattle.asn1_schema_presented.proofs.Chains.{chain_split, chain_append}
 use Rattle.oer_codec_fronts.specs.Takes.{State, Scope, components, added, open_type, Front, Found, Begins, Opens, Closes, AdditionEnds, Skips}
-use Rattle.asn1_schema_finding.specs.Marks.{preamble_bits}
+use Rattle.asn1_schema_finding.specs.PresenceBits.{preamble_bits}
 use Rattle.oer_codec_fronts.proofs.Next.{state_same}
 use Rattle.oer_codec_fronts.proofs.Anywhere.{Moves, AllMove, components_move, additions_move, joined_moves}
 use Rattle.asn1_schema_finding.proofs.Alike.{Like, LikeParts, parts_self, like_present, like_absent, noted_by, noted_same}
@@ -24,7 +24,7 @@ use Rattle.oer_codec_fronts.proofs.Parts.{EachFinds, EachShows, root_in, root_ou
 module _ (free : Oer.Freedom → Bool) where
   -- ---- the preamble and the root
   abbrev pub Opened : Bool → Components → Parts → List Record → State → State → Type 0
-  Opened e cs ps rs a b = (x : Option Bool) × (more : List Bool) × (os : List ℕ) × (mid : List ℕ) × (is_present x ≡ e) × Front free (Oer.preamble (preamble_bits x (marks cs ps ++ more))) a.0 os × Front free (Oer.component_forms cs ps) os mid × Chain (Step free) rs (mid, components x more ∷ a.1) b
+  Opened e cs ps rs a b = (x : Option Bool) × (more : List Bool) × (os : List ℕ) × (mid : List ℕ) × (is_present x ≡ e) × Front free (Oer.preamble (preamble_bits x (presence_bits cs ps ++ more))) a.0 os × Front free (Oer.component_forms cs ps) os mid × Chain (Step free) rs (mid, components x more ∷ a.1) b
 
   pub begun_in : (e : Bool) (cs : Components) → EachFinds free cs → (ps : Parts) (rs : List Record) (a m b : State) → Begins free e (optional_count cs) a m → Chain (Step free) (root_records cs ps rs) m b → Opened e cs ps rs a b
   begun_in e cs h ps rs a m b t c =
@@ -35,13 +35,13 @@ module _ (free : Oer.Freedom → Bool) where
   abbrev pub Closed : Bool → Components → Parts → List Record → State → State → Type 0
   Closed e cs ps rs a b = (qs : Parts) × (m : State) × LikeParts cs ps qs × Begins free e (optional_count cs) a m × Chain (Step free) (root_records cs qs rs) m b
 
-  pub begun_out : (e : Bool) (cs : Components) → EachShows free cs → (ps : Parts) (rs : List Record) (a b : State) (x : Option Bool) (os mid : List ℕ) → is_present x ≡ e → Front free (Oer.preamble (preamble_bits x (marks cs ps))) a.0 os → Front free (Oer.component_forms cs ps) os mid → Chain (Step free) rs (mid, components x [] ∷ a.1) b → Closed e cs ps rs a b
+  pub begun_out : (e : Bool) (cs : Components) → EachShows free cs → (ps : Parts) (rs : List Record) (a b : State) (x : Option Bool) (os mid : List ℕ) → is_present x ≡ e → Front free (Oer.preamble (preamble_bits x (presence_bits cs ps))) a.0 os → Front free (Oer.component_forms cs ps) os mid → Chain (Step free) rs (mid, components x [] ∷ a.1) b → Closed e cs ps rs a b
   begun_out e cs h ps rs a b x os mid i f g c =
       let r = root_out free cs h ps rs x [] os mid a.1 b g c in
-      let ms : List Bool = marks cs r.0 in
+      let ms : List Bool = presence_bits cs r.0 in
       let d : Chain (Step free) (root_records cs r.0 rs) (os, components x ms ∷ a.1) b = subst (λ l. Chain (Step free) (root_records cs r.0 rs) (os, components x l ∷ a.1) b) (append-nil ms) r.3 in
       let f' : Front free (Oer.preamble (preamble_bits x ms)) a.0 os = subst (λ l. Front free (Oer.preamble (preamble_bits x l)) a.0 os) (sym r.2) f in
-      (r.0, (os, components x ms ∷ a.1), r.1, (x, ms, i, marks_count cs r.0, f', refl), d)
+      (r.0, (os, components x ms ∷ a.1), r.1, (x, ms, i, presence_bits_count cs r.0, f', refl), d)
 
   -- ---- without an extension marker
   closed_in : (x : Option Bool) (more : List Bool) (mid : List ℕ) (k : List Scope) (b : State) → is_present x ≡ false → Chain (Step free) (ends ∷ []) (mid, components x more ∷ k) b → (x ≡ None) × (more ≡ []) × (b ≡ (mid, k))
@@ -50,19 +50,19 @@ module _ (free : Oer.Freedom → Bool) where
   closed_in (Some y) more mid k b e c = cc
 
   abbrev Plain : Components → Parts → Oer.OctetForm
-  Plain cs ps = both (Oer.preamble (marks cs ps)) (Oer.component_forms cs ps)
+  Plain cs ps = both (Oer.preamble (presence_bits cs ps)) (Oer.component_forms cs ps)
 
   pub plain_in : (cs : Components) → EachFinds free cs → (ps : Parts) (a m b : State) → Begins free false (optional_count cs) a m → Chain (Step free) (root_records cs ps (ends ∷ [])) m b → Found free (Plain cs ps) a b
   plain_in cs h ps a m b t c =
       let o = begun_in false cs h ps (ends ∷ []) a m b t c in
       let e = closed_in o.0 o.1 o.3 a.1 b o.4 o.7 in
-      let f : Front free (Oer.preamble (marks cs ps ++ [])) a.0 o.2 = subst (λ l. Front free (Oer.preamble (marks cs ps ++ l)) a.0 o.2) e.1 (subst (λ x. Front free (Oer.preamble (preamble_bits x (marks cs ps ++ o.1))) a.0 o.2) e.0 o.5) in
-      let g : Front free (Oer.preamble (marks cs ps)) a.0 o.2 = subst (λ l. Front free (Oer.preamble l) a.0 o.2) (append-nil (marks cs ps)) f in
-      subst (λ s. Found free (Plain cs ps) a s) (sym e.2) (join free (Oer.preamble (marks cs ps)) (Oer.component_forms cs ps) (components_move free cs ps) a.0 o.2 o.3 g o.6, refl)
+      let f : Front free (Oer.preamble (presence_bits cs ps ++ [])) a.0 o.2 = subst (λ l. Front free (Oer.preamble (presence_bits cs ps ++ l)) a.0 o.2) e.1 (subst (λ x. Front free (Oer.preamble (preamble_bits x (presence_bits cs ps ++ o.1))) a.0 o.2) e.0 o.5) in
+      let g : Front free (Oer.preamble (presence_bits cs ps)) a.0 o.2 = subst (λ l. Front free (Oer.preamble l) a.0 o.2) (append-nil (presence_bits cs ps)) f in
+      subst (λ s. Found free (Plain cs ps) a s) (sym e.2) (join free (Oer.preamble (presence_bits cs ps)) (Oer.component_forms cs ps) (components_move free cs ps) a.0 o.2 o.3 g o.6, refl)
 
   pub plain_out : (cs : Components) → EachShows free cs → (ps : Parts) (a b : State) → Found free (Plain cs ps) a b → Closed false cs ps (ends ∷ []) a b
   plain_out cs h ps a b f =
-      let q = split free (Oer.preamble (marks cs ps)) (Oer.component_forms cs ps) (components_move free cs ps) a.0 b.0 f.0 in
+      let q = split free (Oer.preamble (presence_bits cs ps)) (Oer.component_forms cs ps) (components_move free cs ps) a.0 b.0 f.0 in
       begun_out false cs h ps (ends ∷ []) a b None q.0 b.0 refl q.1 q.2 (b, state_same b (b.0, a.1) refl f.1, refl)
 
   -- ---- open types

@@ -6,7 +6,7 @@ use Rattle.asn1_model.specs.Value.{Value, fields, Parts, end, absent, present, s
 use Rattle.asn1_model.specs.Schema.{Schema, cut, boolean, null, integer, enumerated, bit_string, octet_string, character_string, object_identifier, sequence_of, set_of, sequence, set, group, choice, Components, no_component, component, Alternatives, no_alternative, alternative}
 use Rattle.asn1_model.specs.Form.{Reads, given, is_present}
 use Rattle.asn1_model.specs.Lawful.{is_lawful, are_lawful, are_lawful_alternatives}
-use Rattle.asn1_model.specs.Tables.{marks}
+use Rattle.asn1_model.specs.Tables.{presence_bits}
 use Rattle.asn1_model.specs.Oer
 use Rattle.asn1_model.specs.Rules.{oer, coer, lenient, strict_oer, IsEncoding}
 use Rattle.asn1_laws_values.proofs.Listed.{EachAlternative}
@@ -30,7 +30,7 @@ module _ (free : Oer.Freedom → Bool) (other : IsTrue (free Oer.other_bitmap)) 
   Parted cs e adds ps qs m b = Chain (Step free) (root_records cs ps (behind_root e adds (added_records adds qs))) m b
 
   abbrev Fielded : Components → Bool → Components → Parts → Parts → Oer.OctetForm
-  Fielded cs e adds ps qs = given (Oer.addition_forms adds qs) (Oer.sequence_form e (marks cs ps) (Oer.component_forms cs ps))
+  Fielded cs e adds ps qs = given (Oer.addition_forms adds qs) (Oer.sequence_form e (presence_bits cs ps) (Oer.component_forms cs ps))
 
   -- a value with more parts than its type
   no_more : (cs : Components) → EachFinds free cs → (ps : Parts) (a m b : State) → Begins free false (optional_count cs) a m → Chain (Step free) (root_records cs ps (mismatch ∷ [])) m b → ⊥
@@ -62,10 +62,10 @@ module _ (free : Oer.Freedom → Bool) (other : IsTrue (free Oer.other_bitmap)) 
   fields_out cs h false no_component k ps (absent qs) a b f = absurd (of_refused free a.0 b.0 f.0)
   fields_out cs h false no_component k ps (present v qs) a b f = absurd (of_refused free a.0 b.0 f.0)
   fields_out cs h false (component g o s adds) k ps qs a b f =
-      let t = given_out free (Oer.addition_forms (component g o s adds) qs) (Oer.sequence_form false (marks cs ps) (Oer.component_forms cs ps)) a.0 b.0 f.0 in
+      let t = given_out free (Oer.addition_forms (component g o s adds) qs) (Oer.sequence_form false (presence_bits cs ps) (Oer.component_forms cs ps)) a.0 b.0 f.0 in
       absurd (refuses t.0 (additions_long free (component g o s adds) qs t.0 t.1) a.0 b.0 t.2)
     where
-      refuses : (xs : List (Option Oer.OctetForm)) → length xs ≡ suc (component_count adds) → (os rest : List ℕ) → Front free (Oer.sequence_form false (marks cs ps) (Oer.component_forms cs ps) xs) os rest → ⊥
+      refuses : (xs : List (Option Oer.OctetForm)) → length xs ≡ suc (component_count adds) → (os rest : List ℕ) → Front free (Oer.sequence_form false (presence_bits cs ps) (Oer.component_forms cs ps) xs) os rest → ⊥
       refuses [] e os rest f = cc
       refuses (x ∷ xs) e os rest f = of_refused free os rest f
 

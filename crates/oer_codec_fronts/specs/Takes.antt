@@ -9,10 +9,10 @@ use Rattle.asn1_model.specs.Lawful.{tag_same}
 use Rattle.asn1_model.specs.Numbers.{is_count_within}
 use Rattle.asn1_model.specs.Form.{Reads, joined, is_present, present_ones}
 use Rattle.asn1_model.specs.Oer
-use Rattle.asn1_schema_finding.specs.Marks.{preamble_bits, first_bits, has_set}
+use Rattle.asn1_schema_finding.specs.PresenceBits.{preamble_bits, first_bits, has_set}
 use Rattle.asn1_schema_presented.specs.Records.{Record, flag, nil, whole, one_of, bits, octets, characters, identifier}
 use Rattle.asn1_schema_presented.specs.Records.{list_begins, bag_begins, further, sequence_begins, set_begins}
-use Rattle.asn1_schema_presented.specs.Records.{group_begins, mark, is_default, is_empty, additions_begin, addition}
+use Rattle.asn1_schema_presented.specs.Records.{group_begins, presence_bit, is_default, is_empty, additions_begin, addition}
 use Rattle.asn1_schema_presented.specs.Records.{addition_ends, choice_begins, ends, mismatch}
 
 -- An open scope.
@@ -67,9 +67,9 @@ Begins free e n a b =
     × Front free (Oer.preamble (preamble_bits x ms)) a.0 b.0 × (b.1 ≡ components x ms ∷ a.1)
 
 -- The next presence bit.
-abbrev pub NextMark : Bool → List ℕ → List Scope → State → Type 0
-NextMark v os (components x (m ∷ ms) ∷ k) b = (v ≡ m) × (b ≡ (os, components x ms ∷ k))
-NextMark v os k b = ⊥
+abbrev pub NextPresenceBit : Bool → List ℕ → List Scope → State → Type 0
+NextPresenceBit v os (components x (m ∷ ms) ∷ k) b = (v ≡ m) × (b ≡ (os, components x ms ∷ k))
+NextPresenceBit v os k b = ⊥
 
 -- ---- additions
 
@@ -160,7 +160,7 @@ Takes free a (further v) b = NextMember v a.0 a.1 b
 Takes free a (sequence_begins e n) b = Begins free e n a b
 Takes free a (set_begins e n) b = Begins free e n a b
 Takes free a (group_begins n) b = Begins free false n a b
-Takes free a (mark v) b = NextMark v a.0 a.1 b
+Takes free a (presence_bit v) b = NextPresenceBit v a.0 a.1 b
 Takes free a is_default b = IsTrue (free Oer.default_spelled_out) × (b ≡ a)
 Takes free a is_empty b = IsTrue (free Oer.empty_group) × (b ≡ a)
 Takes free a (additions_begin n) b = AdditionsBegin free n a.0 a.1 b

@@ -25,37 +25,6 @@ none_first true o e = cc e
 none_first false None e = (refl, refl)
 none_first false (Some i) e = cc e
 
--- ---- tags
-tag_none : (t : Tag) (us : List Tag) (u : Tag) → tag_place t us ≡ None → tag_same t u ≡ false → tag_place t (us ++ u ∷ []) ≡ None
-tag_none t [] u e f = ap (λ b. cond b (Some zero) None) f
-tag_none t (v ∷ us) u e f =
-    let p = none_first (tag_same t v) (tag_place t us) e in
-    ap (λ b. cond b (Some zero) (option_map suc (tag_place t (us ++ u ∷ [])))) p.0 ∙ ap (option_map suc) (tag_none t us u p.1 f)
-
-tag_here : (t : Tag) (us : List Tag) (u : Tag) (more : List Tag) → tag_place t us ≡ None → tag_same t u ≡ true → tag_place t (us ++ u ∷ more) ≡ Some (length us)
-tag_here t [] u more e f = ap (λ b. cond b (Some zero) (option_map suc (tag_place t more))) f
-tag_here t (v ∷ us) u more e f =
-    let p = none_first (tag_same t v) (tag_place t us) e in
-    ap (λ b. cond b (Some zero) (option_map suc (tag_place t (us ++ u ∷ more)))) p.0 ∙ ap (option_map suc) (tag_here t us u more p.1 f)
-
-module _ {X : Type 0} (f : X → Tag) (t : Tag) (xs : List X) (i : ℕ) (d : X) where
-  pub tags_more : i < length xs → tag_place t (map f (take i xs)) ≡ None → tag_same t (f (get_or xs i d)) ≡ false → tag_place t (map f (take (i + 1) xs)) ≡ None
-  tags_more l e g =
-      ap (λ ys. tag_place t (map f ys)) (take_more xs i d l)
-      ∙ ap (tag_place t) (map-append f (take i xs) (get_or xs i d ∷ []))
-      ∙ tag_none t (map f (take i xs)) (f (get_or xs i d)) e g
-
-  pub tag_found : i < length xs → tag_place t (map f (take i xs)) ≡ None → true ≡ tag_same t (f (get_or xs i d)) → Some i ≡ tag_place t (map f xs)
-  tag_found l e g =
-      let s : take i xs ++ (get_or xs i d ∷ drop (suc i) xs) ≡ xs = ap (λ ys. take i xs ++ ys) (sym (drop-cons xs i d l)) ∙ take-append-drop i xs in
-      let n : length (map f (take i xs)) ≡ i = length-map (take i xs) f ∙ length-take-le i xs (omega (arith, l)) in
-      sym (
-      ap (λ ys. tag_place t (map f ys)) (sym s)
-      ∙ ap (tag_place t) (map-append f (take i xs) (get_or xs i d ∷ drop (suc i) xs))
-      ∙ tag_here t (map f (take i xs)) (f (get_or xs i d)) (map f (drop (suc i) xs)) e (sym g)
-      ∙ ap Some n
-      )
-
 -- ---- items
 item_none : (v : ℤ) (ds : List ℤ) (d : ℤ) → item_place v ds ≡ None → same_number v d ≡ false → item_place v (ds ++ d ∷ []) ≡ None
 item_none v [] d e f = ap (λ b. cond b (Some zero) None) f

@@ -1,7 +1,7 @@
 //! Character strings with an alphabet of their own (X.696 27).
 ghost use Rattle.std.specs.Prelude.{◌≡◌, ◌<◌, ◌/◌, ◌⊎◌, true, false, length, slice_index, IfOk, IfErr, OnOk};
 ghost use Rattle.asn1_model.specs.Schema as Asn1;
-ghost use Rattle.asn1_model.specs.Types.{any_count};
+ghost use Rattle.asn1_model.specs.Schema.{any_count};
 ghost use Rattle.asn1_model.specs.Value as Asn1Value;
 ghost use Rattle.asn1_schema_constraints.specs.Terms.{sizes_of, alphabet_of};
 ghost use Rattle.asn1_values_alphabets.specs.Permitted.{permits_all};

@@ -26,5 +26,5 @@ pub use characters::read_characters;
 pub use enumerated::read_enumerated;
 pub use oer_codec_reading_lengths::{Cursor, EncodingRules, lengths};
 pub use open_types::{enter_open_type, leave_open_type, skip_additions};
-pub use tags::{find_tag, read_tag, visit_numbers};
+pub use tags::{read_tag, visit_numbers};
 pub use texts::read_utf8_string;

@@ -3,7 +3,6 @@ ghost use Rattle.std.specs.Prelude.{◌≡◌, ◌^◌, true, Some, None, map, I
 ghost use Rattle.asn1_model.specs.Oer.{tag_form};
 ghost use Rattle.asn1_model.specs.Strings.{each_is};
 ghost use Rattle.asn1_schema_tags.specs.Tags.{tag_of};
-ghost use Rattle.oer_codec_fronts.specs.Takes.{tag_place};
 ghost use Rattle.oer_codec_reading.specs.Fronts.{freedoms, Misses, Stands};
 ghost use Rattle.oer_codec_reading.specs.Tags.{is_in_32_bits, number_behind, tag_in};
 
@@ -77,17 +76,4 @@ pub fn visit_numbers(table: &[Tag])
     for entry in table {
         let _number = number_of(entry);
     }
-}
-
-/// The first place of a tag in a table.
-#[inline(always)]
-pub fn find_tag(tag: Tag, table: &[Tag]) -> Option<usize>
-    ensures { result ≡ tag_place (tag_of tag) (map tag_of table.now) }
-{
-    for (place, entry) in table.iter().enumerate() {
-        if tag.const_eq(entry) {
-            return Some(place);
-        }
-    }
-    None
 }

@@ -5,7 +5,7 @@ use crate::common::assert_none;
 use asn1_schema_constraints::{Bounded, Constraints};
 use asn1_schema_decode::{Decode, Decoder as Reading};
 use asn1_schema_faults::DecodeError;
-use asn1_schema_tags::{Class, Tag};
+use asn1_schema_tags::{Class, Tag, TagPlace, TagTables};
 use asn1_schema_variants::Chosen;
 use oer_codec::coer::{Decoder, DecoderOptions};
 use std::alloc::Global;
@@ -78,10 +78,23 @@ fn context(value: u32) -> Tag {
     }
 }
 
+/// A context-specific tag, at a place.
+fn at(value: u32, place: usize) -> TagPlace {
+    TagPlace {
+        tag: context(value),
+        place,
+    }
+}
+
 /// Reads such a choice: which alternative is chosen, and its value.
 fn read_choice(decoder: &mut Decoder<'_>) -> Result<(Chosen, bool), DecodeError> {
     let roots = [context(0), context(5)];
-    let chosen = decoder.begin_choice(Tag::EOC, &roots, true, &[context(2)])?;
+    let additions = [context(2)];
+    let places = [at(0, 0), at(2, 2), at(5, 1)];
+    let Some(tables) = TagTables::checked(&roots, true, &additions, &places) else {
+        return Err(DecodeError::OutOfMemory);
+    };
+    let chosen = decoder.begin_choice(Tag::EOC, &tables)?;
     let value = decoder.decode_bool(Tag::BOOL)?;
     decoder.end()?;
     Ok((chosen, value))
@@ -127,9 +140,9 @@ fn is_number(alloc: Global, decoder: &mut Decoder<'_>, number: u8) -> Result<boo
 /// Whether the components 7 and true are next, behind their presence bits.
 fn are_there(alloc: Global, decoder: &mut Decoder<'_>) -> Result<bool, DecodeError> {
     Ok(
-        decoder.get_mark()?
+        decoder.get_presence_bit()?
             && is_number(alloc, decoder, 7)?
-            && decoder.get_mark()?
+            && decoder.get_presence_bit()?
             && decoder.decode_bool(Tag::BOOL)?,
     )
 }
@@ -148,7 +161,7 @@ fn is_nested(alloc: Global, decoder: &mut Decoder<'_>) -> Result<bool, DecodeErr
 /// Whether SET {BOOLEAN OPTIONAL} true is next.
 fn is_set(decoder: &mut Decoder<'_>) -> Result<bool, DecodeError> {
     decoder.begin_set(Tag::SET, false, 1)?;
-    let found = decoder.get_mark()? && decoder.decode_bool(Tag::BOOL)?;
+    let found = decoder.get_presence_bit()? && decoder.decode_bool(Tag::BOOL)?;
     decoder.end()?;
     Ok(found)
 }

@@ -290,7 +290,7 @@ fn puts_out_true(encoder: &mut Encoder<'_>) -> Result<bool, EncodeError> {
 /// Whether the end of nothing is refused, and what follows.
 fn fails_for_good(encoder: &mut Encoder<'_>) -> bool {
     encoder.end() == Err(EncodeError::CallOutOfPlace)
-        && encoder.put_mark(true) == Err(EncodeError::AlreadyFailed)
+        && encoder.put_presence_bit(true) == Err(EncodeError::AlreadyFailed)
         && encoder.encode_bool(Tag::BOOL, true, Identifier::EMPTY)
             == Err(EncodeError::AlreadyFailed)
 }

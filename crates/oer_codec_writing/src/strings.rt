@@ -5,7 +5,7 @@ ghost use Rattle.asn1_model.specs.Numbers.{digits};
 ghost use Rattle.asn1_model.specs.Oer.{form, octets_form};
 ghost use Rattle.asn1_model.specs.Schema.{character_string, utf8};
 ghost use Rattle.asn1_model.specs.Strings.{each_is, is_octet};
-ghost use Rattle.asn1_model.specs.Types.{any_count};
+ghost use Rattle.asn1_model.specs.Schema.{any_count};
 ghost use Rattle.asn1_model.specs.Value.{text};
 ghost use Rattle.asn1_schema_constraints.specs.Terms.{sizes_of, alphabet_of};
 ghost use Rattle.oer_codec_writing.specs.Writing.{Adds, Refuses};

@@ -1,7 +1,7 @@
 -- Additions that are still to come where their sequence ends.
 use Rattle.std.proofs.Common.{◌≡◌, ℕ, zero, suc, ◌<◌, Bool, List, [], ◌∷◌, subst, arith}
 use Rattle.asn1_model.specs.Per
-use Rattle.asn1_schema_finding.specs.Marks.{first_bits}
+use Rattle.asn1_schema_finding.specs.PresenceBits.{first_bits}
 use Rattle.per_codec_fronts.specs.Takes.{Place, Scope, State, added, Ends}
 
 module _ (al : Bool) (free : Per.Freedom → Bool) (a : Place) (b : State) where

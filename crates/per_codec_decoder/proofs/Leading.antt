@@ -2,7 +2,7 @@
 use Rattle.std.proofs.Common.{◌≡◌, ℕ, suc, ◌+◌, ◌<◌, Bool, true, cond, List, [], ◌∷◌, ◌++◌, length, Option, Some, None, refl, sym, ◌∙◌, ap, subst, length-append, arith}
 use Rattle.asn1_model.specs.Form.{Reads, exactly, is_present}
 use Rattle.asn1_model.specs.Per
-use Rattle.asn1_schema_finding.specs.Marks.{preamble_bits}
+use Rattle.asn1_schema_finding.specs.PresenceBits.{preamble_bits}
 use Rattle.per_codec_fronts.specs.Takes.{Place, Scope, components, Front}
 use Rattle.per_codec_reading.specs.Fronts.{Leads}
 use Rattle.per_codec_reading.proofs.Fronts.{leads_join}

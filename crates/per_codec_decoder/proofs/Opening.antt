@@ -11,7 +11,7 @@ use Rattle.asn1_schema_faults.specs.declared.DecodeError.{DecodeError}
 use Rattle.asn1_schema_faults.specs.declared.DecodeError.TheVariants.{OutOfMemory}
 use Rattle.asn1_schema_presented.specs.Records.{Record, Question, question, list_begins, bag_begins, sequence_begins, set_begins, group_begins, additions_begin, addition, addition_ends, choice_begins, ends}
 use Rattle.asn1_schema_presented.specs.Records.{asks_list, asks_bag, asks_sequence, asks_set, asks_group, asks_additions, asks_addition, asks_addition_end, asks_choice, asks_end}
-use Rattle.asn1_schema_finding.specs.Marks.{first_bits}
+use Rattle.asn1_schema_finding.specs.PresenceBits.{first_bits}
 use Rattle.per_codec_fronts.specs.Takes.{Place, Scope, State, components, added, open_type, members, alternative, Front, ListBegins, Begins, AdditionsBegin, NextAddition, AdditionEnds, Opens, Closes, Skips, Chooses, Ends, Takes}
 use Rattle.per_codec_reading.specs.Fronts.{freedoms, is_aligned, Leads, Misses}
 use Rattle.per_codec_limits.specs.declared.variant.Variant.{Variant}

@@ -1,6 +1,6 @@
 -- The additions of a sequence or set that are still to come (X.691 19.7).
 use Rattle.std.specs.Prelude.{◌≡◌, Bool, List, ◌∷◌, drop}
-use Rattle.asn1_schema_finding.specs.Marks.{first_bits}
+use Rattle.asn1_schema_finding.specs.PresenceBits.{first_bits}
 use Rattle.per_codec_decoder.specs.declared.additions.Additions.{Additions}
 
 -- The presence bits of the type's own additions: those past the bitmap are absent.

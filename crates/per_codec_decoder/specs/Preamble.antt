@@ -5,7 +5,7 @@ use Rattle.asn1_model.specs.Form.{exactly, is_present}
 use Rattle.asn1_model.specs.Per
 use Rattle.asn1_schema_faults.specs.declared.DecodeError.{DecodeError}
 use Rattle.asn1_schema_faults.specs.declared.DecodeError.TheVariants.{OutOfMemory}
-use Rattle.asn1_schema_finding.specs.Marks.{preamble_bits}
+use Rattle.asn1_schema_finding.specs.PresenceBits.{preamble_bits}
 use Rattle.per_codec_fronts.specs.Takes.{Place, Scope, components, Front}
 
 -- The extension bit, if there is one, and so many presence bits, and the scope that they open.

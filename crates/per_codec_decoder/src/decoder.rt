@@ -24,7 +24,7 @@ use crate::{
 };
 use asn1_schema_constraints::{Bounded, Constraints, Sizes};
 use asn1_schema_faults::{CodecKind, DecodeError};
-use asn1_schema_tags::Tag;
+use asn1_schema_tags::{Tag, TagTables};
 use asn1_schema_variants::{Chosen, Enumerated};
 use asn1_values_alphabets::StaticPermittedAlphabet;
 use asn1_values_bit_strings::BitString;
@@ -552,7 +552,7 @@ impl<'input> asn1_schema_decode::Decoder for Decoder<'input> {
     }
 
     #[inline(always)]
-    fn get_mark(&mut self) -> Result<bool, DecodeError> {
+    fn get_presence_bit(&mut self) -> Result<bool, DecodeError> {
         self.begin_record()?;
         match self.scopes.next_presence_bit() {
             Some(present) => Ok(present),
@@ -609,20 +609,15 @@ impl<'input> asn1_schema_decode::Decoder for Decoder<'input> {
         }
     }
 
-    fn begin_choice(
-        &mut self,
-        _tag: Tag,
-        roots: &[Tag],
-        extensible: bool,
-        additions: &[Tag],
-    ) -> Result<Chosen, DecodeError> {
+    fn begin_choice(&mut self, _tag: Tag, tables: &TagTables<'_>) -> Result<Chosen, DecodeError> {
         self.begin_record()?;
         if self.levels == 0 {
             return Err(self.fail(DecodeError::ExceedsMaxParseDepth));
         }
         let alloc = self.scopes.allocator();
-        let root_count = roots.len();
-        let added_count = additions.len();
+        let root_count = tables.roots().len();
+        let extensible = tables.extensible();
+        let added_count = tables.additions().len();
         let mut cursor = self.place.cursor();
         let answer = read_place_of_alternative(
             alloc,

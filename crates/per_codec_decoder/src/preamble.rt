@@ -1,7 +1,7 @@
 //! The preamble of a sequence, set or group (X.691 19.1 to 19.3).
 ghost use Rattle.std.specs.Prelude.{◌≡◌, [], true, OnOk, IfOk, IfErr};
 ghost use Rattle.asn1_model.specs.Form.{is_present};
-ghost use Rattle.asn1_schema_finding.specs.Marks.{preamble_bits};
+ghost use Rattle.asn1_schema_finding.specs.PresenceBits.{preamble_bits};
 ghost use Rattle.per_codec_reading.specs.Fronts.{freedoms, is_aligned, IsFresh, Leads};
 ghost use Rattle.per_codec_decoder.specs.Preamble.{HasBitmap, HasPreamble, NoBitmap, NoPreamble};
 ghost use Rattle.per_codec_decoder.specs.Scopes.{scope_of, stands_in};

@@ -65,8 +65,8 @@ told_apart al x y z g os k rs rest h =
 pub choices : (roots : Alternatives) (e : Bool) (adds : Alternatives) → EachAlternative roots → EachAlternative adds → Bridges (choice roots e adds)
 unfolding presents Per.form text_at
 choices roots e adds h ha al (chosen false i v) os k rest =
-    ap (λ n. option_and_then (λ m. runs al (chosen_records roots i v ++ rest) m) (option_map {U = State} (λ w. (os ++ w, alternative ∷ k)) (text_at (both (Per.mark_of e false) (Per.constrained al (n - 1) i)) (position (os, k))))) (tag_count roots)
-    ∙ told_apart al (Per.mark_of e false) (Per.constrained al (alternative_count roots - 1) i) (Per.alternative_form al roots i v) (λ w. (os ++ w, alternative ∷ k)) os k (chosen_records roots i v ++ rest) rest (λ w. in_root al roots h i v (os ++ w) k rest)
+    ap (λ n. option_and_then (λ m. runs al (chosen_records roots i v ++ rest) m) (option_map {U = State} (λ w. (os ++ w, alternative ∷ k)) (text_at (both (Per.extension_bit_of e false) (Per.constrained al (n - 1) i)) (position (os, k))))) (tag_count roots)
+    ∙ told_apart al (Per.extension_bit_of e false) (Per.constrained al (alternative_count roots - 1) i) (Per.alternative_form al roots i v) (λ w. (os ++ w, alternative ∷ k)) os k (chosen_records roots i v ++ rest) rest (λ w. in_root al roots h i v (os ++ w) k rest)
 choices roots true adds h ha al (chosen true i v) os k rest = told_apart al (exactly (true ∷ [])) (Per.normally_small al i) (Per.open_type al (Per.alternative_form al adds i v)) (λ w. ([], open_type (os ++ w) ∷ k)) os k (chosen_records adds i v ++ rest) rest (λ w. opened_up al adds ha i v (os ++ w) k rest)
 choices roots false adds h ha al (chosen true i v) os k rest = refl
 choices roots e adds h ha al v os k rest = refl

@@ -24,7 +24,7 @@ then_in true s w = ([], open_type (s.0 ++ w) ∷ s.1)
 
 chosen_is : (al e added : Bool) (n i : ℕ) (s : State) (q : Option ℕ) → position s ≡ q → chosen_on al e n added i s ≡ option_map (then_in added s) (text_at (place_form al n e added i) q)
 unfolding text_at
-chosen_is al e false n i s q h = ap (λ p. option_map (then_in false s) (text_at (both (Per.mark_of e false) (Per.constrained al (n - 1) i)) p)) h
+chosen_is al e false n i s q h = ap (λ p. option_map (then_in false s) (text_at (both (Per.extension_bit_of e false) (Per.constrained al (n - 1) i)) p)) h
 chosen_is al true true n i s q h = ap (λ p. option_map (then_in true s) (text_at (both (exactly (true ∷ [])) (Per.normally_small al i)) p)) h
 chosen_is al false true n i s q h = refl
 

@@ -4,7 +4,7 @@ use Rattle.std.proofs.lemmas.List.{append-nil}
 use Rattle.asn1_model.specs.Value.{Value, truth, nothing, number, item, bit_list, octet_list, text, arcs, members, bag, fields, chosen, Values, no_more, member, each, Parts, end, absent, present}
 use Rattle.asn1_model.specs.Schema.{Range, Bounds, Counts, Size, StringKind, Alphabet, Presence, Schema, boolean, null, integer, enumerated, bit_string, octet_string, character_string, object_identifier, sequence_of, set_of, sequence, set, group, choice, Components, no_component, component, Alternatives, no_alternative, alternative}
 use Rattle.asn1_model.specs.Normal.{is_at_default, is_group_left_out}
-use Rattle.asn1_model.specs.Tables.{is_required, marks}
+use Rattle.asn1_model.specs.Tables.{is_required, presence_bits}
 use Rattle.asn1_model.specs.Strings.{Run, permitted, may_hold, is_of_octets, each_is, is_octet}
 use Rattle.asn1_model.specs.Numbers.{digits, binary, width, octet_width, least_octets, above, is_count_within}
 use Rattle.asn1_model.specs.Form.{exactly, refused, both, placed, varied, within, only_if, given, joined, is_any_present, present_ones, put_in_place, with_keys, ascending, written}
@@ -207,7 +207,7 @@ string_fills al k z a held cs =
     bits : ℕ
     bits = Per.character_bits al runs
 
-mark_fills : (e m : Bool) → Fills (Per.mark_of e m)
+mark_fills : (e m : Bool) → Fills (Per.extension_bit_of e m)
 mark_fills false m = fills_exactly []
 mark_fills true m = fills_exactly (m ∷ [])
 
@@ -320,8 +320,8 @@ mutual
   form_fills al object_identifier (arcs ns) = fills_if _ (counted_octets_fills al _)
   form_fills al (sequence_of z held s) (members vs) = sized_fills al z held Per.never _ (each_fills _ (λ v. form_fills al s v) vs)
   form_fills al (set_of z held s) (bag vs) = bag_fills _ (λ ys h. sized_fills al z held Per.never ys h) _ (each_fills _ (λ v. form_fills al s v) vs)
-  form_fills al (sequence cs e adds) (fields ps qs) = given_fills al e (marks cs ps) _ (Per.addition_forms al adds qs) (component_fills al cs ps) (addition_fills al adds qs)
-  form_fills al (set cs e adds) (fields ps qs) = given_fills al e (marks cs ps) _ (Per.addition_forms al adds qs) (component_fills al cs ps) (addition_fills al adds qs)
+  form_fills al (sequence cs e adds) (fields ps qs) = given_fills al e (presence_bits cs ps) _ (Per.addition_forms al adds qs) (component_fills al cs ps) (addition_fills al adds qs)
+  form_fills al (set cs e adds) (fields ps qs) = given_fills al e (presence_bits cs ps) _ (Per.addition_forms al adds qs) (component_fills al cs ps) (addition_fills al adds qs)
   form_fills al (group cs) (fields ps end) = fills_both (fills_exactly _) (component_fills al cs ps)
   form_fills al (choice roots e adds) (chosen false i v) = fills_both (mark_fills e false) (fills_both (constrained_fills al _ i) (alternative_fills al roots i v))
   form_fills al (choice roots true adds) (chosen true i v) = fills_both (fills_exactly _) (fills_both (normally_small_fills al i) (open_fills al _))

@@ -8,7 +8,7 @@ use Rattle.asn1_model.specs.Schema.{Size, Counts}
 use Rattle.asn1_model.specs.Numbers.{is_count_within}
 use Rattle.asn1_schema_faults.specs.declared.EncodeError.{EncodeError}
 use Rattle.asn1_schema_faults.specs.declared.EncodeError.TheVariants.{ValueConstraintNotSatisfied, SizeConstraintNotSatisfied, AlphabetConstraintNotSatisfied, TooLongValue, LengthExceedsPlatformSize, CallOutOfPlace, OutOfMemory, AlreadyFailed}
-use Rattle.asn1_schema_presented.specs.Records.{sequence_begins, mark, further, list_begins}
+use Rattle.asn1_schema_presented.specs.Records.{sequence_begins, presence_bit, further, list_begins}
 use Rattle.per_codec_packing.specs.Texts.{Text, bit, as_text}
 use Rattle.per_codec_packing.proofs.Formed.{as_text-append}
 use Rattle.per_codec_packing.specs.Packed.{Packed, place, plus, solid, with_bit}
@@ -119,8 +119,8 @@ module _ (fs rest : List Frame) (f : Frame) (e : Bool) (due given : ℕ) (start 
   top : (s : State) → Holds (reverse fs) o s → IsOpen (λ q t. Holds (reverse rest) q t) e (suc (due - 1)) given start o s
   top s h = on_top fs rest f _ o s a (b ∙ ap (λ k. Components e k given start) one) h
 
-  pub does_presence_bit : (gs : List Frame) (p : Packed) (m i : ℕ) (present : Bool) → gs ≡ rest ++ Components e (due - 1) (given + 1) start ∷ [] → m ≡ bool_byte e → i ≡ start.bits + m + given → p ≡ record { text = with_bit i present o.text; placed = o.placed } → (al : Bool) → Does al (mark present) fs o gs p
-  does_presence_bit gs p m i present c w x y al = record { after = λ s h. let k = top s h in (then_state _ e (due - 1) given start o s k present, ap (run al (mark present)) k.is, put_back rest gs _ p _ c (told_with _ e (due - 1) given start o s k present p i (omega (arith, x, w, byte_of e)) y)) }
+  pub does_presence_bit : (gs : List Frame) (p : Packed) (m i : ℕ) (present : Bool) → gs ≡ rest ++ Components e (due - 1) (given + 1) start ∷ [] → m ≡ bool_byte e → i ≡ start.bits + m + given → p ≡ record { text = with_bit i present o.text; placed = o.placed } → (al : Bool) → Does al (presence_bit present) fs o gs p
+  does_presence_bit gs p m i present c w x y al = record { after = λ s h. let k = top s h in (then_state _ e (due - 1) given start o s k present, ap (run al (presence_bit present)) k.is, put_back rest gs _ p _ c (told_with _ e (due - 1) given start o s k present p i (omega (arith, x, w, byte_of e)) y)) }
 
   pub bit_within : (m : ℕ) → AreSound fs o → m ≡ bool_byte e → (start.bits + m + given < length (solid o.text)) × (start.bits + (m + given + 1) < 2 ^ 64)
   bit_within m s w =

@@ -5,7 +5,7 @@ use Rattle.std.proofs.lemmas.Bool.{lt-ltb}
 use Rattle.asn1_model.specs.Value.{Value, fields, Parts, end, absent, present}
 use Rattle.asn1_model.specs.Schema.{Tag, Presence, Schema, sequence, set, Components, no_component, component}
 use Rattle.asn1_model.specs.Normal.{is_at_default, is_group_left_out}
-use Rattle.asn1_model.specs.Tables.{is_required, marks}
+use Rattle.asn1_model.specs.Tables.{is_required, presence_bits}
 use Rattle.asn1_model.specs.Numbers.{binary}
 use Rattle.asn1_model.specs.Strings.{each_is, is_octet}
 use Rattle.asn1_model.specs.Form.{exactly, both, varied, only_if, given, joined, is_any_present, present_ones, covered_by, written}
@@ -17,7 +17,7 @@ use Rattle.per_codec_encoder.specs.Steps.{Scope, components, added, open_type, S
 use Rattle.per_codec_encoder.specs.Ties.{BridgesAt, Bridges}
 use Rattle.per_codec_packing.proofs.Formed.{chain_same, none_behind, in_turn, known, plain_text, length-text}
 use Rattle.per_codec_encoder.proofs.Bridge.{one_text}
-use Rattle.per_codec_encoder.proofs.StepSequences.{EachBridges, noted_by, spelled_by, root, marks_count, preamble_place, plain_sequences}
+use Rattle.per_codec_encoder.proofs.StepSequences.{EachBridges, noted_by, spelled_by, root, presence_bits_count, preamble_place, plain_sequences}
 
 -- the texts of the additions, each from position 0 on, where all that are there have one
 unfoldable texts_of : Bool → Components → Parts → Option (List (Option (List Bool)))
@@ -231,12 +231,12 @@ extended_sequences : (cs adds : Components) → EachBridges cs → EachBridges a
 unfolding presents Per.form text_at
 extended_sequences cs adds h ha al (fields ps qs) os k rest =
     root al true cs h ps [] os [] k (additions_begin (component_count adds) ∷ added_records adds qs) rest
-    ∙ ap (λ n. option_and_then (λ r. runs al ((additions_begin (component_count adds) ∷ added_records adds qs) ++ rest) (r, components true 0 (marks cs ps) os ∷ k)) (text_at (Per.component_forms al cs ps) n)) place
-    ∙ chain_same (text_at (Per.component_forms al cs ps) (root_place (marks cs ps) (position (os, k)))) _ (λ r. option_and_then (λ us. option_and_then (λ w. runs al rest (os ++ w, k)) (extended_text al (marks cs ps) r us (position (os, k)))) (texts_of al adds qs)) (λ r. rest_of al adds ha qs (marks cs ps) r [] os k rest)
-    ∙ by_texts al (marks cs ps) (Per.component_forms al cs ps) (position (os, k)) (λ w. runs al rest (os ++ w, k)) (Per.addition_forms al adds qs) (texts_of al adds qs) (matching al adds qs)
+    ∙ ap (λ n. option_and_then (λ r. runs al ((additions_begin (component_count adds) ∷ added_records adds qs) ++ rest) (r, components true 0 (presence_bits cs ps) os ∷ k)) (text_at (Per.component_forms al cs ps) n)) place
+    ∙ chain_same (text_at (Per.component_forms al cs ps) (root_place (presence_bits cs ps) (position (os, k)))) _ (λ r. option_and_then (λ us. option_and_then (λ w. runs al rest (os ++ w, k)) (extended_text al (presence_bits cs ps) r us (position (os, k)))) (texts_of al adds qs)) (λ r. rest_of al adds ha qs (presence_bits cs ps) r [] os k rest)
+    ∙ by_texts al (presence_bits cs ps) (Per.component_forms al cs ps) (position (os, k)) (λ w. runs al rest (os ++ w, k)) (Per.addition_forms al adds qs) (texts_of al adds qs) (matching al adds qs)
   where
-    place : position ([], components true (optional_count cs) [] os ∷ k) ≡ root_place (marks cs ps) (position (os, k))
-    place = preamble_place true (optional_count cs) os k (as_text (true ∷ marks cs ps)) (let c = marks_count cs ps in let t = length-text (marks cs ps) in omega arith)
+    place : position ([], components true (optional_count cs) [] os ∷ k) ≡ root_place (presence_bits cs ps) (position (os, k))
+    place = preamble_place true (optional_count cs) os k (as_text (true ∷ presence_bits cs ps)) (let c = presence_bits_count cs ps in let t = length-text (presence_bits cs ps) in omega arith)
 extended_sequences cs adds h ha al v os k rest = refl
 
 -- additions without an extension bit, which no lawful type has, have no text
@@ -260,7 +260,7 @@ unfolding presents Per.form text_at
 unmarked_sequences cs t o s adds h al (fields ps qs) os k rest =
     root al false cs h ps [] os [] k (additions_begin (suc (component_count adds)) ∷ added_records (component t o s adds) qs) rest
     ∙ none_behind (text_at (Per.component_forms al cs ps) (position ([], components false (optional_count cs) [] os ∷ k)))
-    ∙ ap (option_and_then (λ w. runs al rest (os ++ w, k))) (sym (not_extended al (marks cs ps) (Per.component_forms al cs ps) (position (os, k)) t o s adds qs))
+    ∙ ap (option_and_then (λ w. runs al rest (os ++ w, k))) (sym (not_extended al (presence_bits cs ps) (Per.component_forms al cs ps) (position (os, k)) t o s adds qs))
 unmarked_sequences cs t o s adds h al v os k rest = refl
 
 pub sequences : (cs : Components) (e : Bool) (adds : Components) → EachBridges cs → EachBridges adds → Bridges (sequence cs e adds)

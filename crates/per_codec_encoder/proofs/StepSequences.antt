@@ -4,10 +4,10 @@ use Rattle.std.proofs.lemmas.List.{append-nil}
 use Rattle.asn1_model.specs.Value.{Value, fields, Parts, end, absent, present}
 use Rattle.asn1_model.specs.Schema.{Schema, sequence, group, Components, no_component, component}
 use Rattle.asn1_model.specs.Normal.{is_at_default, is_group_left_out}
-use Rattle.asn1_model.specs.Tables.{is_required, mark_unless, marks}
+use Rattle.asn1_model.specs.Tables.{is_required, presence_bit_unless, presence_bits}
 use Rattle.asn1_model.specs.Form.{exactly, refused, both, varied, only_if}
 use Rattle.asn1_model.specs.Per
-use Rattle.asn1_schema_presented.specs.Records.{Record, mark, is_default, is_empty, ends, mismatch}
+use Rattle.asn1_schema_presented.specs.Records.{Record, presence_bit, is_default, is_empty, ends, mismatch}
 use Rattle.asn1_schema_presented.specs.Presents.{presents, root_records, optional_count, marked}
 use Rattle.per_codec_packing.specs.Texts.{Text, as_text, moved, on, text_at}
 use Rattle.per_codec_encoder.specs.Steps.{Scope, components, extension_bit_width, offset, position, runs}
@@ -36,28 +36,28 @@ EachBridges no_component = Unit {0}
 EachBridges (component t o s cs) = Bridges s × EachBridges cs
 
 -- how many presence bits there are
-unless_count : (r b : Bool) (ms : List Bool) (n : ℕ) → length ms ≡ n → length (mark_unless r b ms) ≡ cond r n (suc n)
+unless_count : (r b : Bool) (ms : List Bool) (n : ℕ) → length ms ≡ n → length (presence_bit_unless r b ms) ≡ cond r n (suc n)
 unless_count true b ms n h = h
 unless_count false b ms n h = ap suc h
 
-pub marks_count : (cs : Components) (ps : Parts) → length (marks cs ps) ≡ optional_count cs
-marks_count no_component ps = refl
-marks_count (component t o s cs) (present v ps) = unless_count (is_required o) true (marks cs ps) (optional_count cs) (marks_count cs ps)
-marks_count (component t o s cs) (absent ps) = unless_count (is_required o) false (marks cs ps) (optional_count cs) (marks_count cs ps)
-marks_count (component t o s cs) end = unless_count (is_required o) false (marks cs end) (optional_count cs) (marks_count cs end)
+pub presence_bits_count : (cs : Components) (ps : Parts) → length (presence_bits cs ps) ≡ optional_count cs
+presence_bits_count no_component ps = refl
+presence_bits_count (component t o s cs) (present v ps) = unless_count (is_required o) true (presence_bits cs ps) (optional_count cs) (presence_bits_count cs ps)
+presence_bits_count (component t o s cs) (absent ps) = unless_count (is_required o) false (presence_bits cs ps) (optional_count cs) (presence_bits_count cs ps)
+presence_bits_count (component t o s cs) end = unless_count (is_required o) false (presence_bits cs end) (optional_count cs) (presence_bits_count cs end)
 
 -- a component that is there, and those behind it
 abbrev pub Root : Bool → Bool → Components → Type 0
-Root al e cs = (ps : Parts) (ms : List Bool) (front os : Text) (k : List Scope) (rs more : List Record) → runs al (root_records cs ps rs ++ more) (os, components e (optional_count cs) ms front ∷ k) ≡ option_and_then (λ w. runs al (rs ++ more) (os ++ w, components e 0 (ms ++ marks cs ps) front ∷ k)) (text_at (Per.component_forms al cs ps) (position (os, components e (optional_count cs) ms front ∷ k)))
+Root al e cs = (ps : Parts) (ms : List Bool) (front os : Text) (k : List Scope) (rs more : List Record) → runs al (root_records cs ps rs ++ more) (os, components e (optional_count cs) ms front ∷ k) ≡ option_and_then (λ w. runs al (rs ++ more) (os ++ w, components e 0 (ms ++ presence_bits cs ps) front ∷ k)) (text_at (Per.component_forms al cs ps) (position (os, components e (optional_count cs) ms front ∷ k)))
 
-it_and_others : (al e : Bool) (cs : Components) (s : Schema) (v : Value) → BridgesAt al s v → Root al e cs → (d g : Bool) (ps : Parts) (ms : List Bool) (front os : Text) (k : List Scope) (rs more : List Record) → runs al (((presents s v ++ noted_by d g) ++ root_records cs ps rs) ++ more) (os, components e (optional_count cs) ms front ∷ k) ≡ option_and_then (λ w. runs al (rs ++ more) (os ++ w, components e 0 (ms ++ marks cs ps) front ∷ k)) (text_at (both (spelled_by d g (Per.form al s v)) (Per.component_forms al cs ps)) (position (os, components e (optional_count cs) ms front ∷ k)))
+it_and_others : (al e : Bool) (cs : Components) (s : Schema) (v : Value) → BridgesAt al s v → Root al e cs → (d g : Bool) (ps : Parts) (ms : List Bool) (front os : Text) (k : List Scope) (rs more : List Record) → runs al (((presents s v ++ noted_by d g) ++ root_records cs ps rs) ++ more) (os, components e (optional_count cs) ms front ∷ k) ≡ option_and_then (λ w. runs al (rs ++ more) (os ++ w, components e 0 (ms ++ presence_bits cs ps) front ∷ k)) (text_at (both (spelled_by d g (Per.form al s v)) (Per.component_forms al cs ps)) (position (os, components e (optional_count cs) ms front ∷ k)))
 unfolding text_at
 it_and_others al e cs s v h others d g ps ms front os k rs more =
     ap (λ l. runs al l (os, top)) (append_assoc (presents s v ++ noted_by d g) (root_records cs ps rs) more)
     ∙ spelled_out al s v h d g os top (root_records cs ps rs ++ more)
-    ∙ chain_same (text_at (spelled_by d g (Per.form al s v)) p) _ (λ a. option_and_then (λ b. runs al (rs ++ more) ((os ++ a) ++ b, components e 0 (ms ++ marks cs ps) front ∷ k)) (text_at (Per.component_forms al cs ps) (on p a)))
-    (λ a. others ps ms front (os ++ a) k rs more ∙ ap (λ n. option_and_then (λ b. runs al (rs ++ more) ((os ++ a) ++ b, components e 0 (ms ++ marks cs ps) front ∷ k)) (text_at (Per.component_forms al cs ps) n)) (behind (offset top) os a))
-    ∙ two_texts (text_at (spelled_by d g (Per.form al s v)) p) (λ a. text_at (Per.component_forms al cs ps) (on p a)) os (λ w. runs al (rs ++ more) (w, components e 0 (ms ++ marks cs ps) front ∷ k))
+    ∙ chain_same (text_at (spelled_by d g (Per.form al s v)) p) _ (λ a. option_and_then (λ b. runs al (rs ++ more) ((os ++ a) ++ b, components e 0 (ms ++ presence_bits cs ps) front ∷ k)) (text_at (Per.component_forms al cs ps) (on p a)))
+    (λ a. others ps ms front (os ++ a) k rs more ∙ ap (λ n. option_and_then (λ b. runs al (rs ++ more) ((os ++ a) ++ b, components e 0 (ms ++ presence_bits cs ps) front ∷ k)) (text_at (Per.component_forms al cs ps) n)) (behind (offset top) os a))
+    ∙ two_texts (text_at (spelled_by d g (Per.form al s v)) p) (λ a. text_at (Per.component_forms al cs ps) (on p a)) os (λ w. runs al (rs ++ more) (w, components e 0 (ms ++ presence_bits cs ps) front ∷ k))
   where
     top : List Scope
     top = components e (optional_count cs) ms front ∷ k
@@ -72,18 +72,18 @@ one_bit e n ms b front os k =
     let m : length front + (extension_bit_width e + length (ms ++ b ∷ []) + n) ≡ length front + (extension_bit_width e + length ms + suc n) = omega arith in
     ap (λ w. on (moved (offset k) w) os) m
 
-marked_off : (al e b : Bool) (cs : Components) (x : Per.BitForm) (ps : Parts) (ms : List Bool) (front os : Text) (k : List Scope) (rs more : List Record) → option_and_then (λ w. runs al (rs ++ more) (os ++ w, components e 0 ((ms ++ b ∷ []) ++ marks cs ps) front ∷ k)) (text_at x (position (os, components e (optional_count cs) (ms ++ b ∷ []) front ∷ k))) ≡ option_and_then (λ w. runs al (rs ++ more) (os ++ w, components e 0 (ms ++ (b ∷ marks cs ps)) front ∷ k)) (text_at x (position (os, components e (suc (optional_count cs)) ms front ∷ k)))
+marked_off : (al e b : Bool) (cs : Components) (x : Per.BitForm) (ps : Parts) (ms : List Bool) (front os : Text) (k : List Scope) (rs more : List Record) → option_and_then (λ w. runs al (rs ++ more) (os ++ w, components e 0 ((ms ++ b ∷ []) ++ presence_bits cs ps) front ∷ k)) (text_at x (position (os, components e (optional_count cs) (ms ++ b ∷ []) front ∷ k))) ≡ option_and_then (λ w. runs al (rs ++ more) (os ++ w, components e 0 (ms ++ (b ∷ presence_bits cs ps)) front ∷ k)) (text_at x (position (os, components e (suc (optional_count cs)) ms front ∷ k)))
 marked_off al e b cs x ps ms front os k rs more =
-    ap (λ n. option_and_then (λ w. runs al (rs ++ more) (os ++ w, components e 0 ((ms ++ b ∷ []) ++ marks cs ps) front ∷ k)) (text_at x n)) (one_bit e (optional_count cs) ms b front os k)
-    ∙ ap (λ l. option_and_then (λ w. runs al (rs ++ more) (os ++ w, components e 0 l front ∷ k)) (text_at x (position (os, components e (suc (optional_count cs)) ms front ∷ k)))) (append_assoc ms (b ∷ []) (marks cs ps))
+    ap (λ n. option_and_then (λ w. runs al (rs ++ more) (os ++ w, components e 0 ((ms ++ b ∷ []) ++ presence_bits cs ps) front ∷ k)) (text_at x n)) (one_bit e (optional_count cs) ms b front os k)
+    ∙ ap (λ l. option_and_then (λ w. runs al (rs ++ more) (os ++ w, components e 0 l front ∷ k)) (text_at x (position (os, components e (suc (optional_count cs)) ms front ∷ k)))) (append_assoc ms (b ∷ []) (presence_bits cs ps))
 
-one_there : (al e r : Bool) (cs : Components) (s : Schema) (v : Value) → BridgesAt al s v → Root al e cs → (d g : Bool) (ps : Parts) (ms : List Bool) (front os : Text) (k : List Scope) (rs more : List Record) → runs al ((marked r (presents s v ++ noted_by d g) ++ root_records cs ps rs) ++ more) (os, components e (cond r (optional_count cs) (suc (optional_count cs))) ms front ∷ k) ≡ option_and_then (λ w. runs al (rs ++ more) (os ++ w, components e 0 (ms ++ mark_unless r true (marks cs ps)) front ∷ k)) (text_at (both (spelled_by d g (Per.form al s v)) (Per.component_forms al cs ps)) (position (os, components e (cond r (optional_count cs) (suc (optional_count cs))) ms front ∷ k)))
+one_there : (al e r : Bool) (cs : Components) (s : Schema) (v : Value) → BridgesAt al s v → Root al e cs → (d g : Bool) (ps : Parts) (ms : List Bool) (front os : Text) (k : List Scope) (rs more : List Record) → runs al ((marked r (presents s v ++ noted_by d g) ++ root_records cs ps rs) ++ more) (os, components e (cond r (optional_count cs) (suc (optional_count cs))) ms front ∷ k) ≡ option_and_then (λ w. runs al (rs ++ more) (os ++ w, components e 0 (ms ++ presence_bit_unless r true (presence_bits cs ps)) front ∷ k)) (text_at (both (spelled_by d g (Per.form al s v)) (Per.component_forms al cs ps)) (position (os, components e (cond r (optional_count cs) (suc (optional_count cs))) ms front ∷ k)))
 one_there al e true cs s v h others d g ps ms front os k rs more = it_and_others al e cs s v h others d g ps ms front os k rs more
 one_there al e false cs s v h others d g ps ms front os k rs more =
     it_and_others al e cs s v h others d g ps (ms ++ true ∷ []) front os k rs more
     ∙ marked_off al e true cs (both (spelled_by d g (Per.form al s v)) (Per.component_forms al cs ps)) ps ms front os k rs more
 
-one_absent : (al e r : Bool) (cs : Components) → Root al e cs → (ps : Parts) (ms : List Bool) (front os : Text) (k : List Scope) (rs more : List Record) → runs al ((cond r (mismatch ∷ []) (mark false ∷ []) ++ root_records cs ps rs) ++ more) (os, components e (cond r (optional_count cs) (suc (optional_count cs))) ms front ∷ k) ≡ option_and_then (λ w. runs al (rs ++ more) (os ++ w, components e 0 (ms ++ mark_unless r false (marks cs ps)) front ∷ k)) (text_at (cond r refused (Per.component_forms al cs ps)) (position (os, components e (cond r (optional_count cs) (suc (optional_count cs))) ms front ∷ k)))
+one_absent : (al e r : Bool) (cs : Components) → Root al e cs → (ps : Parts) (ms : List Bool) (front os : Text) (k : List Scope) (rs more : List Record) → runs al ((cond r (mismatch ∷ []) (presence_bit false ∷ []) ++ root_records cs ps rs) ++ more) (os, components e (cond r (optional_count cs) (suc (optional_count cs))) ms front ∷ k) ≡ option_and_then (λ w. runs al (rs ++ more) (os ++ w, components e 0 (ms ++ presence_bit_unless r false (presence_bits cs ps)) front ∷ k)) (text_at (cond r refused (Per.component_forms al cs ps)) (position (os, components e (cond r (optional_count cs) (suc (optional_count cs))) ms front ∷ k)))
 unfolding text_at
 one_absent al e true cs others ps ms front os k rs more = refl
 one_absent al e false cs others ps ms front os k rs more =
@@ -107,17 +107,17 @@ preamble_place e n os k t h =
     moved_twice (offset k) (length os + (extension_bit_width e + 0 + n)) 0 ∙ ap (moved (offset k)) m ∙ sym (moved_twice (offset k) (length os) (length t))
 
 -- the end puts the presence bits in front of the root's bits
-closed_off : (al : Bool) (cs : Components) → EachBridges cs → (ps : Parts) (os : Text) (k : List Scope) (rest : List Record) → runs al (root_records cs ps (ends ∷ []) ++ rest) ([], components false (optional_count cs) [] os ∷ k) ≡ option_and_then (λ w. runs al rest (os ++ w, k)) (text_at (both (exactly (marks cs ps)) (Per.component_forms al cs ps)) (position (os, k)))
+closed_off : (al : Bool) (cs : Components) → EachBridges cs → (ps : Parts) (os : Text) (k : List Scope) (rest : List Record) → runs al (root_records cs ps (ends ∷ []) ++ rest) ([], components false (optional_count cs) [] os ∷ k) ≡ option_and_then (λ w. runs al rest (os ++ w, k)) (text_at (both (exactly (presence_bits cs ps)) (Per.component_forms al cs ps)) (position (os, k)))
 unfolding text_at Per.sequence_form
 closed_off al cs h ps os k rest =
     root al false cs h ps [] os [] k (ends ∷ []) rest
-    ∙ ap (λ n. option_and_then (λ w. runs al (ends ∷ rest) (w, components false 0 (marks cs ps) os ∷ k)) (text_at (Per.component_forms al cs ps) n)) place
-    ∙ go (text_at (Per.component_forms al cs ps) (on (position (os, k)) (as_text (marks cs ps))))
+    ∙ ap (λ n. option_and_then (λ w. runs al (ends ∷ rest) (w, components false 0 (presence_bits cs ps) os ∷ k)) (text_at (Per.component_forms al cs ps) n)) place
+    ∙ go (text_at (Per.component_forms al cs ps) (on (position (os, k)) (as_text (presence_bits cs ps))))
   where
-    place : position ([], components false (optional_count cs) [] os ∷ k) ≡ on (position (os, k)) (as_text (marks cs ps))
-    place = preamble_place false (optional_count cs) os k (as_text (marks cs ps)) (let c = marks_count cs ps in let t = length-text (marks cs ps) in omega arith)
+    place : position ([], components false (optional_count cs) [] os ∷ k) ≡ on (position (os, k)) (as_text (presence_bits cs ps))
+    place = preamble_place false (optional_count cs) os k (as_text (presence_bits cs ps)) (let c = presence_bits_count cs ps in let t = length-text (presence_bits cs ps) in omega arith)
 
-    go : (o : Option Text) → option_and_then (λ w. runs al (ends ∷ rest) (w, components false 0 (marks cs ps) os ∷ k)) o ≡ option_and_then (λ w. runs al rest (os ++ w, k)) (option_map (λ b. as_text (marks cs ps) ++ b) o)
+    go : (o : Option Text) → option_and_then (λ w. runs al (ends ∷ rest) (w, components false 0 (presence_bits cs ps) os ∷ k)) o ≡ option_and_then (λ w. runs al rest (os ++ w, k)) (option_map (λ b. as_text (presence_bits cs ps) ++ b) o)
     go None = refl
     go (Some w) = refl
 

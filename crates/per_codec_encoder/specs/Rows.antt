@@ -44,7 +44,7 @@ two_lists =
 
 -- SEQUENCE {a INTEGER (0..65535) OPTIONAL, b BOOLEAN OPTIONAL} with a alone
 abbrev pub optional_word : List call.Record
-optional_word = call.sequence_begins false 2 ∷ call.mark true ∷ word 0x1234 ∷ call.mark false ∷ call.ends ∷ []
+optional_word = call.sequence_begins false 2 ∷ call.presence_bit true ∷ word 0x1234 ∷ call.presence_bit false ∷ call.ends ∷ []
 
 -- SEQUENCE {a BOOLEAN, ..., b INTEGER (0..255) OPTIONAL}, with b or without
 abbrev pub with_addition : List call.Record
@@ -58,7 +58,7 @@ without_addition = call.sequence_begins true 0 ∷ call.flag true ∷ call.addit
 -- SEQUENCE {a BOOLEAN, ..., [[x INTEGER (0..255) OPTIONAL]]}
 abbrev pub with_group : List call.Record
 with_group = call.sequence_begins true 0 ∷ call.flag true ∷ call.additions_begin 1 ∷ call.addition true
-    ∷ call.group_begins 1 ∷ call.mark true ∷ octet 7 ∷ call.ends ∷ call.addition_ends ∷ call.ends ∷ []
+    ∷ call.group_begins 1 ∷ call.presence_bit true ∷ octet 7 ∷ call.ends ∷ call.addition_ends ∷ call.ends ∷ []
 
 -- SET OF INTEGER
 abbrev pub bag_of_three : List call.Record
@@ -145,7 +145,7 @@ StateRows =
       bag_members any_size any_count 0
           None [] ∷ [],
     ))
-    × (run false (call.mark true) ([], components false 0 [] [] ∷ []) ≡ None)
+    × (run false (call.presence_bit true) ([], components false 0 [] [] ∷ []) ≡ None)
     × (run false (call.additions_begin 0) ([], components false 0 [] [] ∷ []) ≡ None)
     × (run false (call.choice_begins (context 0 ∷ []) false (context 1 ∷ []) true 0) ([], []) ≡ None)
     × (run false call.is_default ([], []) ≡ None)

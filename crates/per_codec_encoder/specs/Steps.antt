@@ -12,7 +12,7 @@ use Rattle.per_codec_packing.specs.Texts.{Text, as_text, plain, moved, on, text_
 pub use Rattle.per_codec_writing.specs.Headings.{LengthDeterminants, Heading, next_determinant, heading}
 use Rattle.asn1_schema_presented.specs.Records.{Record, flag, nil, whole, one_of, bits, octets, characters, identifier}
 use Rattle.asn1_schema_presented.specs.Records.{list_begins, bag_begins, further, sequence_begins, set_begins}
-use Rattle.asn1_schema_presented.specs.Records.{group_begins, mark, additions_begin, addition, addition_ends}
+use Rattle.asn1_schema_presented.specs.Records.{group_begins, presence_bit, additions_begin, addition, addition_ends}
 use Rattle.asn1_schema_presented.specs.Records.{choice_begins, ends}
 
 -- An open scope.
@@ -185,7 +185,7 @@ added_one os k = None
 -- has (X.691 23).
 abbrev pub chosen_on : Bool → Bool → ℕ → Bool → ℕ → State → Option State
 chosen_on al e n false i s = option_map (λ w. (s.0 ++ w, alternative ∷ s.1))
-    (text_at (both (Per.mark_of e false) (Per.constrained al (n - 1) i)) (position s))
+    (text_at (both (Per.extension_bit_of e false) (Per.constrained al (n - 1) i)) (position s))
 chosen_on al true n true i s = option_map (λ w. ([], open_type (s.0 ++ w) ∷ s.1))
     (text_at (both (exactly (true ∷ [])) (Per.normally_small al i)) (position s))
 chosen_on al false n true i s = None
@@ -218,7 +218,7 @@ run al (further b) s = goes_on al b s.0 s.1
 run al (sequence_begins e n) s = Some ([], components e n [] s.0 ∷ s.1)
 run al (set_begins e n) s = Some ([], components e n [] s.0 ∷ s.1)
 run al (group_begins n) s = Some ([], components false n [] s.0 ∷ s.1)
-run al (mark b) s = presence_told b s.0 s.1
+run al (presence_bit b) s = presence_told b s.0 s.1
 run al (additions_begin n) s = extended n s.0 s.1
 run al (addition b) s = adds b s.0 s.1
 run al addition_ends s = added_one s.0 s.1

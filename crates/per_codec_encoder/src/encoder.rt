@@ -376,7 +376,7 @@ impl asn1_schema_encode::Encoder for Encoder {
     }
 
     #[inline(always)]
-    fn put_mark(&mut self, present: bool) -> Result<(), EncodeError> {
+    fn put_presence_bit(&mut self, present: bool) -> Result<(), EncodeError> {
         record!(
             self,
             put_presence_bit(&mut self.output, &mut self.frames, present)

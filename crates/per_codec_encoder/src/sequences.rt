@@ -1,6 +1,6 @@
 //! Sequences, sets and groups, with the places of their preambles, and members of lists and bags.
 ghost use Rattle.std.specs.Prelude.{◌≡◌, Bool, List, [], ◌∷◌, ◌++◌, ◌+◌, ◌≤◌, ◌^◌, cond, MatchOption, MatchResult};
-ghost use Rattle.asn1_schema_presented.specs.Records.{sequence_begins, mark, further};
+ghost use Rattle.asn1_schema_presented.specs.Records.{sequence_begins, presence_bit, further};
 ghost use Rattle.per_codec_encoder.specs.declared.frame.Frame.{Frame};
 ghost use Rattle.per_codec_encoder.specs.Holding.{AreSound, Does, Cannot};
 ghost use Rattle.per_codec_limits.specs.Variants.{is_aligned};
@@ -66,9 +66,9 @@ pub(crate) fn put_presence_bit(
     present: bool,
 ) -> Result<(), EncodeError>
     requires { AreSound frames.old output.old }
-    ensures { MatchResult result (λ _. (al : Bool) → Does al (mark present) frames.old output.old frames.new
+    ensures { MatchResult result (λ _. (al : Bool) → Does al (presence_bit present) frames.old output.old frames.new
         output.new)
-        (λ e. (al : Bool) → Cannot al (mark present) frames.old output.old e) }
+        (λ e. (al : Bool) → Cannot al (presence_bit present) frames.old output.old e) }
 {
     let Some(innermost) = &mut frames.innermost else {
         return Err(EncodeError::CallOutOfPlace);

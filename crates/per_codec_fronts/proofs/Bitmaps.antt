@@ -3,7 +3,7 @@ use Rattle.std.proofs.Common.{◌≡◌, ◌⊎◌, inl, inr, ℕ, suc, not, Boo
 use Rattle.std.proofs.lemmas.List.{append-nil}
 use Rattle.asn1_model.specs.Value.{Parts, end, absent, present}
 use Rattle.asn1_model.specs.Schema.{Components, no_component, component}
-use Rattle.asn1_model.specs.Tables.{is_required, marks}
+use Rattle.asn1_model.specs.Tables.{is_required, presence_bits}
 use Rattle.asn1_model.specs.Form.{exactly, both, varied, given, only_if, joined, Bitmap, is_present, is_any_present, present_ones, covered_by, Reads}
 use Rattle.asn1_model.specs.Per
 use Rattle.asn1_model.proofs.Forms.{map_parts}
@@ -14,7 +14,7 @@ use Rattle.asn1_schema_presented.specs.Presents.{root_records, added_records, op
 use Rattle.asn1_schema_presented.specs.Chains.{Chain}
 use Rattle.asn1_schema_finding.proofs.Bitmaps.{Octets, flags, any_set, none_flags, flags_none, none_of, covers, counted_flags}
 use Rattle.asn1_schema_finding.proofs.Bitmaps as bitmaps
-use Rattle.asn1_schema_finding.specs.Marks.{preamble_bits, first_bits, has_set}
+use Rattle.asn1_schema_finding.specs.PresenceBits.{preamble_bits, first_bits, has_set}
 use Rattle.per_codec_fronts.specs.Takes.{Place, State, Scope, components, added, Front, Found, Begins, unknown_forms, Skips}
 use Rattle.asn1_schema_finding.proofs.Alike.{LikeParts}
 use Rattle.per_codec_fronts.proofs.Next.{flag_units}
@@ -181,10 +181,10 @@ module _ (free : Per.Freedom → Bool) (al : Bool) where
         let f' : Front free (exactly (true ∷ ms)) start mid = subst (λ l. Front free (exactly (true ∷ l)) start mid) (append-nil ms) f in
         (given_in free (Per.addition_forms al adds qs) (Per.sequence_form al true ms y) r.0 r.2 start b.0 (with_in ms y other r.0 r.5.0 bs e1 e2 c.1.1 start mid o2 m.0 r.1 b.0 f' g c.1.2 r.4 r.5.2), r.6)
 
-    pub extended_in : (cs : Components) → EachFinds al free cs → (ps : Parts) (a m b : State) → Begins free true (optional_count cs) a m → Chain (Step free al) (root_records cs ps (additions_begin (component_count adds) ∷ added_records adds qs)) m b → Found free (Marked adds qs (marks cs ps) (Per.component_forms al cs ps)) a b
+    pub extended_in : (cs : Components) → EachFinds al free cs → (ps : Parts) (a m b : State) → Begins free true (optional_count cs) a m → Chain (Step free al) (root_records cs ps (additions_begin (component_count adds) ∷ added_records adds qs)) m b → Found free (Marked adds qs (presence_bits cs ps) (Per.component_forms al cs ps)) a b
     extended_in cs h ps a m b t c =
         let o = begun_in free al true cs h ps (additions_begin (component_count adds) ∷ added_records adds qs) a m b t c in
-        marked_in (marks cs ps) (Per.component_forms al cs ps) o.0 o.1 a.0 o.2 o.3 a.1 b o.4 o.5 o.6 o.7
+        marked_in (presence_bits cs ps) (Per.component_forms al cs ps) o.0 o.1 a.0 o.2 o.3 a.1 b o.4 o.5 o.6 o.7
 
   module _ (other : IsTrue (free Per.other_bitmap)) (adds : Components) (ha : EachShows al free adds) (qs : Parts) where
     -- what is held at the extension bit, with additions like these
@@ -218,7 +218,7 @@ module _ (free : Per.Freedom → Bool) (al : Bool) where
         at_extension_bit ms y t.0 t.1 start k b scopes (read_out ms y other t.0 start b.0 t.2)
 
     -- ---- SEQUENCE and SET with an extension bit
-    pub extended_out : (cs : Components) → EachShows al free cs → (ps : Parts) (a b : State) → Found free (Marked adds qs (marks cs ps) (Per.component_forms al cs ps)) a b → (ss : Parts) × LikeParts adds qs ss × Closed free al true cs ps (additions_begin (component_count adds) ∷ added_records adds ss) a b
+    pub extended_out : (cs : Components) → EachShows al free cs → (ps : Parts) (a b : State) → Found free (Marked adds qs (presence_bits cs ps) (Per.component_forms al cs ps)) a b → (ss : Parts) × LikeParts adds qs ss × Closed free al true cs ps (additions_begin (component_count adds) ∷ added_records adds ss) a b
     extended_out cs h ps a b f =
-        let t = marked_out (marks cs ps) (Per.component_forms al cs ps) a.0 a.1 b f.0 f.1 in
+        let t = marked_out (presence_bits cs ps) (Per.component_forms al cs ps) a.0 a.1 b f.0 f.1 in
         (t.0, t.4, begun_out free al true cs h ps (additions_begin (component_count adds) ∷ added_records adds t.0) a b t.1 t.2 t.3 t.5 t.6 t.7 t.8)

@@ -100,9 +100,9 @@ module _ (free : Per.Freedom → Bool) (al : Bool) where
   choice_finds roots e adds h k (chosen false i v) a b c =
       let n = tag_count roots in
       let m : State = c.0 in
-      let f : Front free (both (Per.mark_of e false) (Per.constrained al (alternative_count roots - 1) i)) a.0 m.0 = subst (λ n. Front free (both (Per.mark_of e false) (Per.constrained al (n - 1) i)) a.0 m.0) n c.1.1 in
+      let f : Front free (both (Per.extension_bit_of e false) (Per.constrained al (alternative_count roots - 1) i)) a.0 m.0 = subst (λ n. Front free (both (Per.extension_bit_of e false) (Per.constrained al (n - 1) i)) a.0 m.0) n c.1.1 in
       let r = root_in roots h i v m.0 a.1 b (from_state free al (chosen_records roots i v) m b m.0 (alternative ∷ a.1) (state_same m (m.0, alternative ∷ a.1) refl c.1.2) c.2) in
-      (apart_in (Per.mark_of e false) (Per.constrained al (alternative_count roots - 1) i) (Per.alternative_form al roots i v) a.0 m.0 b.0 f r.0, r.1)
+      (apart_in (Per.extension_bit_of e false) (Per.constrained al (alternative_count roots - 1) i) (Per.alternative_form al roots i v) a.0 m.0 b.0 f r.0, r.1)
   choice_finds roots true adds h k (chosen true i v) a b c =
       let opens : Opens al free c.1.2 a.1 c.0 = c.1.4 in
       let r = added_in adds k i v opens.0 opens.1 a.1 b (from_state free al (chosen_records adds i v) c.0 b (0, octet_bits opens.0) (open_type opens.1 ∷ a.1) opens.3 c.2) in
@@ -117,9 +117,9 @@ module _ (free : Per.Freedom → Bool) (al : Bool) where
   unfolding presents Per.form
   choice_shows roots e adds h k (chosen false i v) a b f =
       let n = tag_count roots in
-      let q = apart_out (Per.mark_of e false) (Per.constrained al (alternative_count roots - 1) i) (Per.alternative_form al roots i v) a.0 b.0 f.0 in
+      let q = apart_out (Per.extension_bit_of e false) (Per.constrained al (alternative_count roots - 1) i) (Per.alternative_form al roots i v) a.0 b.0 f.0 in
       let r = root_out roots h i v q.0 a.1 b q.2 f.1 in
-      (chosen false i r.1, (chosen_same false i v r.1 r.2.0, λ n. ap (λ x. chosen false i x) (r.2.1 ((and_parts _ _ n).0))), ((q.0, alternative ∷ a.1), (lt-ltb _ _ r.0, subst (λ n. Front free (both (Per.mark_of e false) (Per.constrained al (n - 1) i)) a.0 q.0) (sym n) q.1, refl), r.3))
+      (chosen false i r.1, (chosen_same false i v r.1 r.2.0, λ n. ap (λ x. chosen false i x) (r.2.1 ((and_parts _ _ n).0))), ((q.0, alternative ∷ a.1), (lt-ltb _ _ r.0, subst (λ n. Front free (both (Per.extension_bit_of e false) (Per.constrained al (n - 1) i)) a.0 q.0) (sym n) q.1, refl), r.3))
   choice_shows roots true adds h k (chosen true i v) a b f =
       let q = apart_out (exactly (true ∷ [])) (Per.normally_small al i) (Per.open_type al (Per.alternative_form al adds i v)) a.0 b.0 f.0 in
       let z = open_out free al (Per.alternative_form al adds i v) q.0 b.0 q.2 in

@@ -8,14 +8,14 @@ use Rattle.asn1_model.specs.Numbers.{binary, octet_bits}
 use Rattle.asn1_model.specs.Form.{exactly, both, only_if, nothing_more, is_present}
 use Rattle.asn1_model.specs.Strings.{each_is, is_octet, is_identifier, identifier_octets}
 use Rattle.asn1_model.specs.Per
-use Rattle.asn1_schema_presented.specs.Records.{Record, flag, nil, whole, one_of, bits, octets, characters, identifier, list_begins, bag_begins, further, sequence_begins, set_begins, group_begins, mark, is_default, is_empty, additions_begin, addition, addition_ends, choice_begins, ends, mismatch, question, told}
+use Rattle.asn1_schema_presented.specs.Records.{Record, flag, nil, whole, one_of, bits, octets, characters, identifier, list_begins, bag_begins, further, sequence_begins, set_begins, group_begins, presence_bit, is_default, is_empty, additions_begin, addition, addition_ends, choice_begins, ends, mismatch, question, told}
 use Rattle.asn1_laws_fronts.proofs.Fronts.{agree_exactly, agree_nothing, agree_first, agree_map, agree_if, agree_if_right, agree_varied_right}
 use Rattle.asn1_laws_fronts.proofs.PerNumbers.{Alike, pairs_equal, at_octet_alike, binary_alike, bits_apart, short_length_alike, counted_octets_alike, constrained_alike, integer_alike, same_bits, octets_again}
 use Rattle.asn1_laws_fronts.proofs.Sevens.{identifiers_equal}
 use Rattle.asn1_laws_fronts.proofs.Additions as adding
-use Rattle.asn1_laws_fronts.proofs.Units.{sized_alike, small_alike, bitmap_alike, items_alike, behind_mark, added_or_root}
+use Rattle.asn1_laws_fronts.proofs.Units.{sized_alike, small_alike, bitmap_alike, items_alike, behind_extension_bit, added_or_root}
 use Rattle.asn1_laws_fronts.proofs.Strings.{string_alike}
-use Rattle.asn1_schema_finding.specs.Marks.{preamble_bits, first_bits}
+use Rattle.asn1_schema_finding.specs.PresenceBits.{preamble_bits, first_bits}
 use Rattle.per_codec_fronts.specs.Sizes.{extension_bit, told_highest}
 use Rattle.per_codec_fronts.specs.Takes.{Place, Tally, Scope, components, added, open_type, members, alternative, State, Front, Found, with_fragment, NextDeterminant, Headed, Numbered, Counted, ListBegins, MemberDue, NextMember, Begins, NextPresenceBit, AdditionsBegin, Opens, NextAddition, AdditionEnds, Skips, Chooses, Ends, Takes}
 
@@ -220,11 +220,11 @@ module _ (free : Per.Freedom → Bool) where
   same_skips al us a b c f g = (same_fronts (adding.unknowns_alike Per.Freedom Per.Detail Bool free (λ l. Per.counted_octets al l) (λ l m. counted_octets_alike free al l m) f.0 g.0 (f.1 ∙ sym g.1)) a b c f.2 g.2).1
 
   -- ---- choices
-  root_places : (al e : Bool) (roots i j : ℕ) → Alike free (both (Per.mark_of e false) (Per.constrained al (roots - 1) i)) (both (Per.mark_of e false) (Per.constrained al (roots - 1) j)) (i ≡ j)
-  root_places al e roots i j = behind_mark free e false _ _ _ (constrained_alike free al (roots - 1) i j)
+  root_places : (al e : Bool) (roots i j : ℕ) → Alike free (both (Per.extension_bit_of e false) (Per.constrained al (roots - 1) i)) (both (Per.extension_bit_of e false) (Per.constrained al (roots - 1) j)) (i ≡ j)
+  root_places al e roots i j = behind_extension_bit free e false _ _ _ (constrained_alike free al (roots - 1) i j)
 
   added_places : (al : Bool) (i j : ℕ) → Alike free (both (exactly (true ∷ [])) (Per.normally_small al i)) (both (exactly (true ∷ [])) (Per.normally_small al j)) (i ≡ j)
-  added_places al i j = behind_mark free true true _ _ _ (small_alike free al i j)
+  added_places al i j = behind_extension_bit free true true _ _ _ (small_alike free al i j)
 
   same_choice : (al : Bool) (roots : ℕ) (e : Bool) (others : ℕ) (v w : Bool) (i j : ℕ) (a b c : State) → Chooses al free roots e others v i a b → Chooses al free roots e others w j a c → (v ≡ w) × (i ≡ j) × (b ≡ c)
   same_choice al roots e others false false i j a b c f g =
@@ -291,7 +291,7 @@ module _ (free : Per.Freedom → Bool) where
   one_record al a (group_begins n) (group_begins m) b c q f g =
       let e : group_begins m ≡ group_begins n = cc q in
       (sym e, same_begin false n a b c f (as_record al a (group_begins m) (group_begins n) c e g))
-  one_record al a (mark v) (mark w) b c q f g = let t = same_presence_bit v w a.0 a.1 b c f g in (ap mark t.0, t.1)
+  one_record al a (presence_bit v) (presence_bit w) b c q f g = let t = same_presence_bit v w a.0 a.1 b c f g in (ap presence_bit t.0, t.1)
   one_record al a is_default is_default b c q f g = (refl, f.1 ∙ sym g.1)
   one_record al a is_empty is_empty b c q f g = (refl, f.1 ∙ sym g.1)
   one_record al a (additions_begin n) (additions_begin m) b c q f g =

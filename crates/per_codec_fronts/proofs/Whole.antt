@@ -5,7 +5,7 @@ use Rattle.asn1_model.specs.Value.{Value, fields, Parts, end, absent, present, s
 use Rattle.asn1_model.specs.Schema.{Schema, cut, boolean, null, integer, enumerated, bit_string, octet_string, character_string, object_identifier, sequence_of, set_of, sequence, set, group, choice, Components, no_component, component, Alternatives, no_alternative, alternative}
 use Rattle.asn1_model.specs.Form.{given, is_present}
 use Rattle.asn1_model.specs.Lawful.{is_lawful, are_lawful, are_lawful_alternatives}
-use Rattle.asn1_model.specs.Tables.{marks}
+use Rattle.asn1_model.specs.Tables.{presence_bits}
 use Rattle.asn1_model.specs.Per
 use Rattle.asn1_laws_values.proofs.Listed.{EachAlternative}
 use Rattle.asn1_schema_presented.specs.Records.{Record, additions_begin, mismatch}
@@ -29,7 +29,7 @@ module _ (al : Bool) (free : Per.Freedom → Bool) (other : IsTrue (free Per.oth
   Parted cs e adds ps qs m b = Chain (Step free al) (root_records cs ps (behind_root e adds (added_records adds qs))) m b
 
   abbrev Fielded : Components → Bool → Components → Parts → Parts → Per.BitForm
-  Fielded cs e adds ps qs = given (Per.addition_forms al adds qs) (Per.sequence_form al e (marks cs ps) (Per.component_forms al cs ps))
+  Fielded cs e adds ps qs = given (Per.addition_forms al adds qs) (Per.sequence_form al e (presence_bits cs ps) (Per.component_forms al cs ps))
 
   -- a value with more parts than its type
   no_more : (cs : Components) → EachFinds al free cs → (ps : Parts) (a m b : State) → Begins free false (optional_count cs) a m → Chain (Step free al) (root_records cs ps (mismatch ∷ [])) m b → ⊥
@@ -61,10 +61,10 @@ module _ (al : Bool) (free : Per.Freedom → Bool) (other : IsTrue (free Per.oth
   fields_out cs h false no_component k ps (absent qs) a b f = absurd (of_refused free a.0 b.0 f.0)
   fields_out cs h false no_component k ps (present v qs) a b f = absurd (of_refused free a.0 b.0 f.0)
   fields_out cs h false (component g o s adds) k ps qs a b f =
-      let t = given_out free (Per.addition_forms al (component g o s adds) qs) (Per.sequence_form al false (marks cs ps) (Per.component_forms al cs ps)) a.0 b.0 f.0 in
+      let t = given_out free (Per.addition_forms al (component g o s adds) qs) (Per.sequence_form al false (presence_bits cs ps) (Per.component_forms al cs ps)) a.0 b.0 f.0 in
       absurd (refuses t.0 (additions_long free al (component g o s adds) qs t.0 t.1) a.0 b.0 t.2)
     where
-      refuses : (xs : List (Option Per.BitForm)) → length xs ≡ suc (component_count adds) → (start rest : Place) → Front free (Per.sequence_form al false (marks cs ps) (Per.component_forms al cs ps) xs) start rest → ⊥
+      refuses : (xs : List (Option Per.BitForm)) → length xs ≡ suc (component_count adds) → (start rest : Place) → Front free (Per.sequence_form al false (presence_bits cs ps) (Per.component_forms al cs ps) xs) start rest → ⊥
       refuses [] e start rest f = cc
       refuses (x ∷ xs) e start rest f = of_refused free start rest f
 

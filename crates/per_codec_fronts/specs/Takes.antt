@@ -12,9 +12,9 @@ use Rattle.asn1_model.specs.Form.{Reads, exactly, both, joined, is_present, pres
 use Rattle.asn1_model.specs.Per
 use Rattle.asn1_schema_presented.specs.Records.{Record, flag, nil, whole, one_of, bits, octets, characters, identifier}
 use Rattle.asn1_schema_presented.specs.Records.{list_begins, bag_begins, further, sequence_begins, set_begins}
-use Rattle.asn1_schema_presented.specs.Records.{group_begins, mark, is_default, is_empty, additions_begin, addition}
+use Rattle.asn1_schema_presented.specs.Records.{group_begins, presence_bit, is_default, is_empty, additions_begin, addition}
 use Rattle.asn1_schema_presented.specs.Records.{addition_ends, choice_begins, ends, mismatch}
-use Rattle.asn1_schema_finding.specs.Marks.{preamble_bits, first_bits, has_set}
+use Rattle.asn1_schema_finding.specs.PresenceBits.{preamble_bits, first_bits, has_set}
 use Rattle.per_codec_fronts.specs.Sizes.{extension_bit, told_highest}
 
 -- How many bits stand in front since the beginning of the message or open type, and the bits that are left of it.
@@ -202,7 +202,7 @@ Skips al free us a b =
 -- The place of one of so many alternatives of the root, or of an added one, which is an open type.
 abbrev pub Chooses : Bool → (Per.Freedom → Bool) → ℕ → Bool → ℕ → Bool → ℕ → State → State → Type 0
 Chooses al free roots e others false i a b =
-    (ltb i roots ≡ true) × Front free (both (Per.mark_of e false) (Per.constrained al (roots - 1) i)) a.0 b.0
+    (ltb i roots ≡ true) × Front free (both (Per.extension_bit_of e false) (Per.constrained al (roots - 1) i)) a.0 b.0
     × (b.1 ≡ alternative ∷ a.1)
 Chooses al free roots e others true i a b =
     (e ≡ true) × (ltb i others ≡ true) × (mid : Place)
@@ -236,7 +236,7 @@ Takes al free a (further v) b = NextMember al free v a.0 a.1 b
 Takes al free a (sequence_begins e n) b = Begins free e n a b
 Takes al free a (set_begins e n) b = Begins free e n a b
 Takes al free a (group_begins n) b = Begins free false n a b
-Takes al free a (mark v) b = NextPresenceBit v a.0 a.1 b
+Takes al free a (presence_bit v) b = NextPresenceBit v a.0 a.1 b
 Takes al free a is_default b = IsTrue (free Per.default_spelled_out) × (b ≡ a)
 Takes al free a is_empty b = IsTrue (free Per.empty_group) × (b ≡ a)
 Takes al free a (additions_begin n) b = AdditionsBegin al free n a.0 a.1 b

@@ -3,7 +3,7 @@ use Rattle.std.proofs.Common.{◌≡◌, ◌⊎◌, inl, inr, ℕ, ◌*◌, ◌=
 use Rattle.std.proofs.lemmas.Bool.{false≢true, eqb-true, eq-eqb, le-leb, and_from}
 use Rattle.asn1_model.specs.Schema.{Counts, Size, Alphabet, bit_string, octet_string, character_string, object_identifier, utf8}
 use Rattle.asn1_model.specs.Value.{Value, bit_list, octet_list, text, arcs}
-use Rattle.asn1_model.specs.Types.{any_count}
+use Rattle.asn1_model.specs.Schema.{any_count}
 use Rattle.asn1_model.specs.Numbers.{octet_bits, is_count_within}
 use Rattle.asn1_model.specs.Strings.{each_is, is_octet, may_hold, is_identifier, identifier_octets}
 use Rattle.asn1_model.specs.Form.{exactly}

@@ -6,7 +6,7 @@ use Rattle.std.proofs.lemmas.List.{nil_from_length, length-drop, length-take-le}
 use Rattle.std.proofs.Math.Nat.{suc-mul}
 use Rattle.asn1_model.specs.Schema.{Alphabet, Counts, Size, StringKind, character_string}
 use Rattle.asn1_model.specs.Value.{Value, text}
-use Rattle.asn1_model.specs.Types.{any_count}
+use Rattle.asn1_model.specs.Schema.{any_count}
 use Rattle.asn1_model.specs.Numbers.{binary, width, is_count_within}
 use Rattle.asn1_model.specs.Form.{exactly, given, only_if}
 use Rattle.asn1_model.specs.Strings.{Run, how_many, largest, place_of, permitted, is_of_octets, may_hold, each_is}

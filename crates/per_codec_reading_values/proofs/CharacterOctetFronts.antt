@@ -3,7 +3,7 @@ use Rattle.std.proofs.Common.{◌≡◌, ℕ, leb, ◌&&◌, ◌||◌, Bool, tru
 use Rattle.std.proofs.lemmas.Bool.{ltb-true, le-leb, and_parts, and_from}
 use Rattle.asn1_model.specs.Schema.{Alphabet, Size, StringKind, numeric, printable, visible, ia5, bmp, general, graphic, teletex, utf8, character_string}
 use Rattle.asn1_model.specs.Value.{text}
-use Rattle.asn1_model.specs.Types.{any_count}
+use Rattle.asn1_model.specs.Schema.{any_count}
 use Rattle.asn1_model.specs.Numbers.{is_count_within}
 use Rattle.asn1_model.specs.Form.{only_if}
 use Rattle.asn1_model.specs.Strings.{run, characters_of, is_among, is_octet, is_of_octets, may_hold, each_is, permitted}

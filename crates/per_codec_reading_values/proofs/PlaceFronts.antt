@@ -34,11 +34,11 @@ mark_is P (Some x) e m = sym m.0
 
 module _ (free : Per.Freedom → Bool) where
   -- ---- the extension bit
-  mark_in : (e : Bool) (a b : Place) → Front free (Per.mark_of e false) a b → Front free (extension_bit e false) a b
+  mark_in : (e : Bool) (a b : Place) → Front free (Per.extension_bit_of e false) a b → Front free (extension_bit e false) a b
   mark_in false a b f = f
   mark_in true a b f = f
 
-  pub mark_out : (e : Bool) (a b : Place) → Front free (extension_bit e false) a b → Front free (Per.mark_of e false) a b
+  pub mark_out : (e : Bool) (a b : Place) → Front free (extension_bit e false) a b → Front free (Per.extension_bit_of e false) a b
   mark_out false a b f = f
   mark_out true a b f = f
 
@@ -89,11 +89,11 @@ module _ (free : Per.Freedom → Bool) where
         n c.place b (subst (λ p. Front free (root_form al roots c.place) p b) (sym q.1) h)
 
     -- what a place says
-    pub root_told : (roots : ℕ) (e : Bool) (others i : ℕ) (a b : Place) → Front free (place_form al roots e others (record { added = false; place = i })) a b → (i < roots) × Front free (both (Per.mark_of e false) (Per.constrained al (roots - 1) i)) a b
+    pub root_told : (roots : ℕ) (e : Bool) (others i : ℕ) (a b : Place) → Front free (place_form al roots e others (record { added = false; place = i })) a b → (i < roots) × Front free (both (Per.extension_bit_of e false) (Per.constrained al (roots - 1) i)) a b
     root_told roots e others i a b f =
         let s = place_out roots e others (record { added = false; place = i }) a b f in
         let j = if_out free (ltb i roots) (Per.constrained al (roots - 1) i) s.0 b s.2 in
-        (ltb-true i roots j.0, join free (Per.mark_of e false) (Per.constrained al (roots - 1) i) a s.0 b (mark_out e a s.0 s.1) j.1)
+        (ltb-true i roots j.0, join free (Per.extension_bit_of e false) (Per.constrained al (roots - 1) i) a s.0 b (mark_out e a s.0 s.1) j.1)
 
     pub added_told : (roots : ℕ) (e : Bool) (others i : ℕ) (a b : Place) → Front free (place_form al roots e others (record { added = true; place = i })) a b → (e ≡ true) × (i < others) × Front free (both (exactly (true ∷ [])) (Per.normally_small al i)) a b
     added_told roots e others i a b f =
@@ -102,9 +102,9 @@ module _ (free : Per.Freedom → Bool) where
         let j = if_out free (ltb i others) (Per.normally_small al i) s.0 b s.2 in
         (m.0, ltb-true i others j.0, join free (exactly (true ∷ [])) (Per.normally_small al i) a s.0 b m.1 j.1)
 
-    pub root_is : (roots : ℕ) (e : Bool) (others i : ℕ) (a b : Place) → i < roots → Front free (both (Per.mark_of e false) (Per.constrained al (roots - 1) i)) a b → Front free (place_form al roots e others (record { added = false; place = i })) a b
+    pub root_is : (roots : ℕ) (e : Bool) (others i : ℕ) (a b : Place) → i < roots → Front free (both (Per.extension_bit_of e false) (Per.constrained al (roots - 1) i)) a b → Front free (place_form al roots e others (record { added = false; place = i })) a b
     root_is roots e others i a b l f =
-        let s = split free (Per.mark_of e false) (Per.constrained al (roots - 1) i) a b f in
+        let s = split free (Per.extension_bit_of e false) (Per.constrained al (roots - 1) i) a b f in
         join free (extension_bit e false) (root_form al roots i) a s.0 b (mark_in e a s.0 s.1) (if_in free (ltb i roots) (Per.constrained al (roots - 1) i) s.0 b (lt-ltb i roots l) s.2)
 
     pub added_is : (roots : ℕ) (others i : ℕ) (a b : Place) → i < others → Front free (both (exactly (true ∷ [])) (Per.normally_small al i)) a b → Front free (place_form al roots true others (record { added = true; place = i })) a b
@@ -117,9 +117,9 @@ module _ (free : Per.Freedom → Bool) where
     unfolding Per.form Per.item_form Per.added_item
     item_stands roots adds e others v c a b p f = go c.added c.place p f
       where
-        in_root : (i : ℕ) (o : Option ℕ) → item_place v roots ≡ o → o ≡ Some i → Front free (both (Per.mark_of e false) (Per.constrained al (length roots - 1) i)) a b → Front free (Per.item_form al (length roots) e o (item_place v adds)) a b
+        in_root : (i : ℕ) (o : Option ℕ) → item_place v roots ≡ o → o ≡ Some i → Front free (both (Per.extension_bit_of e false) (Per.constrained al (length roots - 1) i)) a b → Front free (Per.item_form al (length roots) e o (item_place v adds)) a b
         in_root i None q r g = cc
-        in_root i (Some j) q r g = let z : i ≡ j = cc in subst (λ k. Front free (both (Per.mark_of e false) (Per.constrained al (length roots - 1) k)) a b) z g
+        in_root i (Some j) q r g = let z : i ≡ j = cc in subst (λ k. Front free (both (Per.extension_bit_of e false) (Per.constrained al (length roots - 1) k)) a b) z g
 
         behind_root : (i : ℕ) (o u : Option ℕ) (t : Bool) → o ≡ None → u ≡ Some i → t ≡ true → Front free (both (exactly (true ∷ [])) (Per.normally_small al i)) a b → Front free (Per.item_form al (length roots) t o u) a b
         behind_root i (Some k) u t q r x g = cc
@@ -136,7 +136,7 @@ module _ (free : Per.Freedom → Bool) where
     no_item roots adds e others a h n (item v) b f = cases e (item_place v roots) (item_place v adds) refl refl refl f
       where
         cases : (t : Bool) (o u : Option ℕ) → e ≡ t → item_place v roots ≡ o → item_place v adds ≡ u → Front free (Per.item_form al (length roots) t o u) a b → ⊥
-        cases t (Some i) u q r s g = n (record { added = false; place = i }) b (root_is (length roots) e others i a b (placed_below v roots i r) (subst (λ z. Front free (both (Per.mark_of z false) (Per.constrained al (length roots - 1) i)) a b) (sym q) g))
+        cases t (Some i) u q r s g = n (record { added = false; place = i }) b (root_is (length roots) e others i a b (placed_below v roots i r) (subst (λ z. Front free (both (Per.extension_bit_of z false) (Per.constrained al (length roots - 1) i)) a b) (sym q) g))
         cases false None u q r s g = of_refused free a b g
         cases true None None q r s g = of_refused free a b g
         cases true None (Some j) q r s g =

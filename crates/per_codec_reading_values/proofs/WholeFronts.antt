@@ -247,13 +247,13 @@ module _ (free : Per.Freedom → Bool) where
         subst (λ o. Front free (behind o) mid c) t.0 (subst (λ p. Front free (behind q.0) p c) t.1 s.2)
     marked_out false out a mid c e f g = absurd (false≢true e)
 
-    some_mark : (m : Bool) (a c : Place) → m ≡ true → Front free (all_marked m) a c → (out : Bool) × (mid : Place) × Front free (one_bit out) a mid
+    some_marker : (m : Bool) (a c : Place) → m ≡ true → Front free (all_marked m) a c → (out : Bool) × (mid : Place) × Front free (one_bit out) a mid
     unfolding Per.marked
-    some_mark true a c e f =
+    some_marker true a c e f =
         let q = varied_out free by_mark a c f in
         let s = split_mark q.0 a c q.2 in
         (q.0, s.0, s.1)
-    some_mark false a c e f = absurd (false≢true e)
+    some_marker false a c e f = absurd (false≢true e)
 
   abbrev Constrained : Type 0
   Constrained = Extensible Constraint.Value
@@ -281,5 +281,5 @@ module _ (free : Per.Freedom → Bool) where
   pub mark_missed : (al : Bool) (c : Constrained) (a : Place) → has_additions c ≡ true → NoneStands free one_bit a → NoneStands free (in_128_bits (under_constraint al c)) a
   mark_missed al c a e n v b g =
       let i = if_out free (is_within wide_range v) _ a b g in
-      let s = some_mark al c.constraint.value v (has_additions c) a b e i.1 in
+      let s = some_marker al c.constraint.value v (has_additions c) a b e i.1 in
       n s.0 s.1 s.2

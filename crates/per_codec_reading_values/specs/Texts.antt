@@ -2,7 +2,7 @@
 use Rattle.std.specs.Prelude.{List, ℕ}
 use Rattle.asn1_model.specs.Per
 use Rattle.asn1_model.specs.Schema.{StringKind}
-use Rattle.asn1_model.specs.Types.{any_count}
+use Rattle.asn1_model.specs.Schema.{any_count}
 use Rattle.asn1_model.specs.Value.{text}
 use Rattle.asn1_schema_constraints.specs.declared.lists.Constraints.{Constraints}
 use Rattle.asn1_schema_constraints.specs.Terms.{character_string_under, meant}

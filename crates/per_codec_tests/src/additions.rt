@@ -5,7 +5,7 @@ use asn1_schema_constraints::{Bounded, Constraints, Extensible, Size};
 use asn1_schema_decode::{Decode, Decoder as Reader, ReadOctets};
 use asn1_schema_encode::{Encode, Encoder as Writer};
 use asn1_schema_faults::{DecodeError, EncodeError};
-use asn1_schema_tags::{Identifier, Tag};
+use asn1_schema_tags::{Identifier, Tag, TagPlace, TagTables};
 use asn1_schema_variants::Chosen;
 use per_codec::uper::{Decoder, DecoderOptions, Encoder, EncoderOptions};
 use per_codec_reading::Variant;
@@ -196,6 +196,22 @@ fn is_last_of<D: Reader>(
     Ok(flag && are_absent && there && value == 7)
 }
 
+/// The places of the root alternative [0] and of the added ones, whose tags ascend behind it.
+fn places_of(alloc: Global, tags: &[Tag]) -> Result<Vec<TagPlace>, AllocError> {
+    let mut places = Vec::new(alloc);
+    places.push(TagPlace {
+        tag: Tag::new_context(0),
+        place: 0,
+    })?;
+    for (place, tag) in tags.iter().enumerate() {
+        places.push(TagPlace {
+            tag: *tag,
+            place: place + 1,
+        })?;
+    }
+    Ok(places)
+}
+
 /// Which alternative is chosen, and its value.
 fn get_alternative<D: Reader>(
     alloc: Global,
@@ -203,7 +219,11 @@ fn get_alternative<D: Reader>(
     tags: &[Tag],
 ) -> Result<(Chosen, i64), DecodeError> {
     let roots = [Tag::new_context(0)];
-    let chosen = decoder.begin_choice(Tag::CHOICE, &roots, true, tags)?;
+    let places = places_of(alloc, tags)?;
+    let Some(tables) = TagTables::checked(&roots, true, tags, &places) else {
+        return Err(DecodeError::Incomplete);
+    };
+    let chosen = decoder.begin_choice(Tag::CHOICE, &tables)?;
     let value = i64::decode_with_constraints(alloc, decoder, Constraints::NONE)?;
     decoder.end()?;
     Ok((chosen, value))

@@ -11,9 +11,9 @@ use std::test::Fail;
 /// Writes SEQUENCE {a INTEGER (0..65535) OPTIONAL, b BOOLEAN OPTIONAL} with a alone.
 fn put_optional<E: Writer>(encoder: &mut E, a: u16) -> Result<(), EncodeError> {
     encoder.begin_sequence(Tag::SEQUENCE, false, 2)?;
-    encoder.put_mark(true)?;
+    encoder.put_presence_bit(true)?;
     a.encode(encoder)?;
-    encoder.put_mark(false)?;
+    encoder.put_presence_bit(false)?;
     encoder.end()
 }
 
@@ -118,7 +118,7 @@ fn gives_true_once(encoder: &mut Encoder) -> Result<bool, EncodeError> {
 /// Whether an encoder in which nothing was begun refuses to end it, and a presence bit behind this.
 fn refuses_to_end(encoder: &mut Encoder) -> bool {
     encoder.end() == Err(EncodeError::CallOutOfPlace)
-        && encoder.put_mark(true) == Err(EncodeError::AlreadyFailed)
+        && encoder.put_presence_bit(true) == Err(EncodeError::AlreadyFailed)
 }
 
 /// Whether it does both.

@@ -4,7 +4,7 @@ ghost use Rattle.std.specs.Prelude.{◌<◌, ◌≡◌, IfErr};
 use asn1_schema_constraints::{Bounded, Constraints};
 use asn1_schema_decode::Decoder as _;
 use asn1_schema_faults::{CodecKind, DecodeError};
-use asn1_schema_tags::Tag;
+use asn1_schema_tags::{Class, Tag, TagPlace, TagTables};
 use per_codec::uper::{Decoder, DecoderOptions};
 use per_codec_reading::lengths::{Length, read_length};
 use per_codec_reading::numbers::read_constrained;
@@ -84,14 +84,43 @@ fn fails_for_good(decoder: &mut Decoder<'_>) -> bool {
         && decoder.decode_bool(Tag::BOOL) == Err(DecodeError::AlreadyFailed)
 }
 
+const FIRST: Tag = Tag {
+    class: Class::Context,
+    value: 0,
+};
+
+const SECOND: Tag = Tag {
+    class: Class::Context,
+    value: 1,
+};
+
+const THIRD: Tag = Tag {
+    class: Class::Context,
+    value: 2,
+};
+
+/// The tags [0] to [2], at the places of their numbers.
+const PLACES: [TagPlace; 3] = [
+    TagPlace {
+        tag: FIRST,
+        place: 0,
+    },
+    TagPlace {
+        tag: SECOND,
+        place: 1,
+    },
+    TagPlace {
+        tag: THIRD,
+        place: 2,
+    },
+];
+
 /// Whether none of three alternatives is read, and the decoder has failed then.
 fn lacks_an_alternative(decoder: &mut Decoder<'_>) -> bool {
-    let tags = [
-        Tag::new_context(0),
-        Tag::new_context(1),
-        Tag::new_context(2),
-    ];
-    let chosen = decoder.begin_choice(Tag::EOC, &tags, false, &[]);
+    let Some(tables) = TagTables::checked(&[FIRST, SECOND, THIRD], false, &[], &PLACES) else {
+        return false;
+    };
+    let chosen = decoder.begin_choice(Tag::EOC, &tables);
     chosen == Err(DecodeError::InvalidTagVariantOnChoice)
         && decoder.end() == Err(DecodeError::AlreadyFailed)
 }
@@ -169,6 +198,15 @@ fn lends_behind_a_bit(alloc: Global, input: &[u8], octets: &[u8]) -> Result<bool
     Ok(first && lends(alloc, &mut decoder, octets)?)
 }
 
+/// Begins a choice of the alternatives [0] and, behind its extension marker, [1].
+fn begin_marked(decoder: &mut Decoder<'_>) -> Result<(), DecodeError> {
+    let Some(tables) = TagTables::checked(&[FIRST], true, &[SECOND], &PLACES[..2]) else {
+        return Err(DecodeError::OutOfMemory);
+    };
+    decoder.begin_choice(Tag::EOC, &tables)?;
+    Ok(())
+}
+
 /// Whether a string of octets is lent in the open type of an added alternative, and another one behind it.
 fn lends_in_an_open_type(
     alloc: Global,
@@ -177,8 +215,7 @@ fn lends_in_an_open_type(
     (inside, behind): (&[u8], &[u8]),
 ) -> Result<bool, DecodeError> {
     let mut decoder = Decoder::new(alloc, input, DecoderOptions { variant });
-    let tags = [Tag::new_context(0), Tag::new_context(1)];
-    decoder.begin_choice(Tag::EOC, &tags[..1], true, &tags[1..])?;
+    begin_marked(&mut decoder)?;
     let first = lends(alloc, &mut decoder, inside)?;
     decoder.end()?;
     let second = lends(alloc, &mut decoder, behind)?;

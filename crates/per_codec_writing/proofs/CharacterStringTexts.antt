@@ -5,7 +5,7 @@ use Rattle.asn1_model.specs.Form.{only_if}
 use Rattle.asn1_model.specs.Numbers.{is_count_within}
 use Rattle.asn1_model.specs.Schema.{Size, Counts, Alphabet, StringKind, character_string}
 use Rattle.asn1_model.specs.Strings.{Run, is_of_octets, may_hold, permitted, each_is}
-use Rattle.asn1_model.specs.Types.{any_count}
+use Rattle.asn1_model.specs.Schema.{any_count}
 use Rattle.asn1_model.specs.Value.{text}
 use Rattle.asn1_model.specs.Per
 use Rattle.per_codec_alphabets.specs.Codes.{Coded, SameCharacters}

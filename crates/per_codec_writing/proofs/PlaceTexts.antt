@@ -17,12 +17,12 @@ use Rattle.per_codec_writing.specs.Places.{place_form}
 
 -- ---- extension bits
 
-pub no_extension_bit : (e m : Bool) (old : Packed) → e ≡ false → Adds (text_at (Per.mark_of e m) (place old)) old old
+pub no_extension_bit : (e m : Bool) (old : Packed) → e ≡ false → Adds (text_at (Per.extension_bit_of e m) (place old)) old old
 unfolding text_at
 no_extension_bit false m old h = ap (λ t. let q : Packed = record { text = t; placed = old.placed } in Some q) (append-nil old.text)
 no_extension_bit true m old h = cc
 
-pub adds_extension_bit : (e m : Bool) (old new : Packed) → e ≡ true → new ≡ plus old (as_text (m ∷ [])) → Adds (text_at (Per.mark_of e m) (place old)) old new
+pub adds_extension_bit : (e m : Bool) (old new : Packed) → e ≡ true → new ≡ plus old (as_text (m ∷ [])) → Adds (text_at (Per.extension_bit_of e m) (place old)) old new
 unfolding text_at
 adds_extension_bit false m old new h e = cc
 adds_extension_bit true m old new h e = ap Some (sym e)
@@ -37,8 +37,8 @@ pub turned_true : (b : Bool) → not b ≡ false → b ≡ true
 turned_true true h = refl
 turned_true false h = sym h
 
-pub did_root : {T : Type 0} (r : Result T EncodeError) (al e added : Bool) (n i : ℕ) (old mid new : Packed) → added ≡ false → Adds (text_at (Per.mark_of e false) (place old)) old mid → Did r (text_at (Per.constrained al (n - 1) i) (place mid)) mid new → Did r (text_at (place_form al n e added i) (place old)) old new
-did_root r al e false n i old mid new h a d = did_behind r (Per.mark_of e false) (Per.constrained al (n - 1) i) old mid new a d
+pub did_root : {T : Type 0} (r : Result T EncodeError) (al e added : Bool) (n i : ℕ) (old mid new : Packed) → added ≡ false → Adds (text_at (Per.extension_bit_of e false) (place old)) old mid → Did r (text_at (Per.constrained al (n - 1) i) (place mid)) mid new → Did r (text_at (place_form al n e added i) (place old)) old new
+did_root r al e false n i old mid new h a d = did_behind r (Per.extension_bit_of e false) (Per.constrained al (n - 1) i) old mid new a d
 did_root r al e true n i old mid new h a d = cc
 
 pub adds_added : (al e added : Bool) (n i : ℕ) (old mid new : Packed) → added ≡ true → e ≡ true → mid ≡ plus old (as_text (true ∷ [])) → Adds (text_at (Per.normally_small al i) (place mid)) mid new → Adds (text_at (place_form al n e added i) (place old)) old new

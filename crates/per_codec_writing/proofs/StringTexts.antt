@@ -2,7 +2,7 @@
 use Rattle.std.proofs.Common.{◌≡◌, ℕ, Option, Bool, true, List, [], ◌∷◌, length, None, refl, ap, sym, ◌∙◌}
 use Rattle.asn1_model.specs.Schema.{Size, Counts, Alphabet, utf8, bit_string, octet_string, character_string, object_identifier}
 use Rattle.asn1_model.specs.Strings.{each_is, is_octet, is_utf8_after, is_identifier, identifier_octets}
-use Rattle.asn1_model.specs.Types.{any_count}
+use Rattle.asn1_model.specs.Schema.{any_count}
 use Rattle.asn1_model.specs.Value.{bit_list, octet_list, text, arcs}
 use Rattle.asn1_model.specs.Per
 use Rattle.per_codec_packing.specs.Texts.{text_at}

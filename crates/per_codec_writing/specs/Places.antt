@@ -7,6 +7,6 @@ use Rattle.asn1_model.specs.Per
 -- normally small number behind the extension bit that is set, which only an extensible type has (X.691 14.2, 14.3 and
 -- 23.5 to 23.8).
 abbrev pub place_form : Bool → ℕ → Bool → Bool → ℕ → Per.BitForm
-place_form al n e false i = both (Per.mark_of e false) (Per.constrained al (n - 1) i)
+place_form al n e false i = both (Per.extension_bit_of e false) (Per.constrained al (n - 1) i)
 place_form al n true true i = both (exactly (true ∷ [])) (Per.normally_small al i)
 place_form al n false true i = refused

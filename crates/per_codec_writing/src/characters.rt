@@ -3,7 +3,7 @@ ghost use Rattle.std.specs.Prelude.{◌≡◌, true, MatchResult};
 ghost use Rattle.asn1_model.specs.Per.{characters, counted_octets, form};
 ghost use Rattle.asn1_model.specs.Schema.{character_string};
 ghost use Rattle.asn1_model.specs.Strings.{is_of_octets as holds_octets, permitted};
-ghost use Rattle.asn1_model.specs.Types.{any_count};
+ghost use Rattle.asn1_model.specs.Schema.{any_count};
 ghost use Rattle.asn1_model.specs.Value.{text};
 ghost use Rattle.asn1_schema_constraints.specs.Terms.{sizes_of, alphabet_of};
 ghost use Rattle.asn1_values_alphabets.specs.Permitted.{permits_all};

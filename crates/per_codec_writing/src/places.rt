@@ -1,6 +1,6 @@
 //! The places of items among those of an enumeration, and of alternatives among those of a choice (X.691 14 and 23).
 ghost use Rattle.std.specs.Prelude.{◌≡◌, MatchResult};
-ghost use Rattle.asn1_model.specs.Per.{form, mark_of};
+ghost use Rattle.asn1_model.specs.Per.{form, extension_bit_of};
 ghost use Rattle.asn1_model.specs.Schema.{enumerated};
 ghost use Rattle.asn1_model.specs.Value.{item};
 ghost use Rattle.per_codec_packing.specs.Texts.{text_at};
@@ -21,7 +21,7 @@ fn push_extension_bit(
     added: bool,
 ) -> Result<(), EncodeError>
     ensures { MatchResult result (λ _. Adds
-        (text_at (mark_of extensible added) (place output.old)) output.old output.new)
+        (text_at (extension_bit_of extensible added) (place output.old)) output.old output.new)
         (λ e. e ≡ EncodeError.OutOfMemory) }
 {
     if !extensible {

@@ -2,7 +2,7 @@
 ghost use Rattle.std.specs.Prelude.{◌≡◌, MatchResult};
 ghost use Rattle.asn1_model.specs.Per.{form};
 ghost use Rattle.asn1_model.specs.Schema.{character_string, utf8};
-ghost use Rattle.asn1_model.specs.Types.{any_count};
+ghost use Rattle.asn1_model.specs.Schema.{any_count};
 ghost use Rattle.asn1_model.specs.Value.{text};
 ghost use Rattle.asn1_schema_constraints.specs.Terms.{sizes_of, alphabet_of};
 ghost use Rattle.per_codec_packing.specs.Texts.{text_at};

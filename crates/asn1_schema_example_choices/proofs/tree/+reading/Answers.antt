@@ -1,5 +1,5 @@
 use Rattle.std.proofs.Common.{refl, ◌∙◌, arith, ap, Err}
-use Rattle.asn1_schema.proofs.Author.{count_marks, failed_reads, from_close, from_end, from_further, from_next}
+use Rattle.asn1_schema.proofs.Author.{count_presence_bits, failed_reads, from_close, from_end, from_further, from_next}
 use Rattle.asn1_schema.proofs.Author.{from_start, from_stuck, passed_on, raised, reads_as, reads_end, reads_field}
 use Rattle.asn1_schema.proofs.Author.{reads_list, reads_required, reads_sequence, unread_as, unread_end}
 use Rattle.asn1_schema.proofs.Author.{unread_field, unread_field_here, unread_list, unread_list_here}
@@ -24,16 +24,16 @@ pub TreeConstructed::read_fields-returns-clause-ok : goal.TreeConstructed::read_
 TreeConstructed::read_fields-returns-clause-ok g t c = rw tree_made (reads_field _ (reads_required number_typed c.in_ok-value.ensures.ok) (reads_field _ (reads_required branches_typed (rw c.in_ok-value.ensures.level at c.in_ok-branches.ensures.ok)) (reads_end _ c.in_ok-end.ensures.ok)))
 
 pub TreeDecode::decode_with_tag_and_constraints-returns-in_err-begin_sequence-clause-only : goal.TreeDecode::decode_with_tag_and_constraints-returns-in_err-begin_sequence-clause-only
-TreeDecode::decode_with_tag_and_constraints-returns-in_err-begin_sequence-clause-only g t c = raised _ _ _ c.from_residual.ensures.1 (unread_as _ _ tree_is (unread_sequence_here (tree_table branches_schema) _ (c.number_of_optional_and_default_fields-optional.ensures ∙ count_marks _ _ c.fields.ensures) refl c.in_err-begin_sequence.ensures.only))
+TreeDecode::decode_with_tag_and_constraints-returns-in_err-begin_sequence-clause-only g t c = raised _ _ _ c.from_residual.ensures.1 (unread_as _ _ tree_is (unread_sequence_here (tree_table branches_schema) _ (c.number_of_optional_and_default_fields-optional.ensures ∙ count_presence_bits _ _ c.fields.ensures) refl c.in_err-begin_sequence.ensures.only))
 
 pub TreeDecode::decode_with_tag_and_constraints-read_fields-requires : goal.TreeDecode::decode_with_tag_and_constraints-read_fields-requires
 TreeDecode::decode_with_tag_and_constraints-read_fields-requires g t c κs within = (omega (arith, c.decreases, c.in_ok-begin_sequence.ensures.level), within)
 
 pub TreeDecode::decode_with_tag_and_constraints-returns-in_err-tree-clause-only : goal.TreeDecode::decode_with_tag_and_constraints-returns-in_err-tree-clause-only
-TreeDecode::decode_with_tag_and_constraints-returns-in_err-tree-clause-only g t c = let one = g.met.D.Decoder.one_record in raised _ _ _ c.from_residual-in_err-tree.ensures.1 (unread_as _ _ tree_is (unread_sequence one (tree_table branches_schema) (c.number_of_optional_and_default_fields-optional.ensures ∙ count_marks _ _ c.fields.ensures) refl c.in_ok-begin_sequence.ensures.level c.in_ok-begin_sequence.ensures.ok c.in_err-tree.ensures.only))
+TreeDecode::decode_with_tag_and_constraints-returns-in_err-tree-clause-only g t c = let one = g.met.D.Decoder.one_record in raised _ _ _ c.from_residual-in_err-tree.ensures.1 (unread_as _ _ tree_is (unread_sequence one (tree_table branches_schema) (c.number_of_optional_and_default_fields-optional.ensures ∙ count_presence_bits _ _ c.fields.ensures) refl c.in_ok-begin_sequence.ensures.level c.in_ok-begin_sequence.ensures.ok c.in_err-tree.ensures.only))
 
 pub TreeDecode::decode_with_tag_and_constraints-returns-clause-ok : goal.TreeDecode::decode_with_tag_and_constraints-returns-clause-ok
-TreeDecode::decode_with_tag_and_constraints-returns-clause-ok g t c = rw tree_opens (reads_as _ _ tree_is (reads_sequence (tree_table branches_schema) (c.number_of_optional_and_default_fields-optional.ensures ∙ count_marks _ _ c.fields.ensures) refl c.in_ok-begin_sequence.ensures.level c.in_ok-begin_sequence.ensures.ok c.in_ok-tree.ensures.ok))
+TreeDecode::decode_with_tag_and_constraints-returns-clause-ok g t c = rw tree_opens (reads_as _ _ tree_is (reads_sequence (tree_table branches_schema) (c.number_of_optional_and_default_fields-optional.ensures ∙ count_presence_bits _ _ c.fields.ensures) refl c.in_ok-begin_sequence.ensures.level c.in_ok-begin_sequence.ensures.ok c.in_ok-tree.ensures.ok))
 
 pub read_branches-returns-in_err-begin_list-clause-only : goal.read_branches-returns-in_err-begin_list-clause-only
 read_branches-returns-in_err-begin_list-clause-only g t c = raised _ _ _ c.from_residual.ensures.1 (unread_as _ _ branches_are (unread_list_here _ _ _ _ c.in_err-begin_list.ensures.only))

@@ -2,7 +2,7 @@ use Rattle.std.proofs.Common.{ap, length, refl, sym, subst, ◌∙◌}
 use Rattle.asn1_model.specs.Form.{written}
 use Rattle.asn1_model.specs.Oer
 use Rattle.asn1_model.specs.Schema.{utf8}
-use Rattle.asn1_model.specs.Types.{any_count}
+use Rattle.asn1_model.specs.Schema.{any_count}
 use Rattle.asn1_schema_constraints.specs.Terms.{sizes_of, alphabet_of}
 use Rattle.oer_codec_writing.specs.Writing.{Adds}
 use Rattle.oer_codec_writing.proofs.ScalarTexts.{adds_same}

@@ -3,7 +3,7 @@ use Rattle.std.proofs.lemmas.Result.{err_from_is_err_and}
 use Rattle.asn1_model.specs.Per
 use Rattle.asn1_model.specs.Schema.{character_string}
 use Rattle.asn1_model.specs.Strings.{permitted}
-use Rattle.asn1_model.specs.Types.{any_count}
+use Rattle.asn1_model.specs.Schema.{any_count}
 use Rattle.asn1_schema_constraints.specs.Terms.{alphabet_of, size_of, sizes_of}
 use Rattle.asn1_laws_fronts.proofs.Strings.{permitted_orderly}
 use Rattle.per_codec_fronts.specs.Takes.{Front}

@@ -1,5 +1,5 @@
 use Rattle.std.proofs.lemmas.Result.{on_ok_weaker}
-use Rattle.asn1_model.specs.Types.{any_count}
+use Rattle.asn1_model.specs.Schema.{any_count}
 use Rattle.asn1_schema_constraints.specs.Terms.{alphabet_of}
 use Rattle.asn1_schema_records.proofs.Putting.{puts_characters}
 use Rattle.asn1_schema_records.proofs.encoder.RecordEncoderEncoder.encode_characters.Goals as goal

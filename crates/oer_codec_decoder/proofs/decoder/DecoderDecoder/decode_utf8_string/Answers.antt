@@ -1,6 +1,6 @@
 use Rattle.std.proofs.Common.{◌∙◌}
 use Rattle.asn1_model.specs.Schema.{character_string, utf8}
-use Rattle.asn1_model.specs.Types.{any_count}
+use Rattle.asn1_model.specs.Schema.{any_count}
 use Rattle.asn1_schema_constraints.specs.Terms.{sizes_of, alphabet_of}
 use Rattle.oer_codec_decoder.proofs.Finding.{none_found, asked_characters}
 use Rattle.oer_codec_decoder.proofs.decoder.DecoderDecoder.decode_utf8_string.Goals as goal

@@ -1,5 +1,5 @@
 use Rattle.std.proofs.Common.{refl}
-use Rattle.asn1_model.specs.Types.{any_count}
+use Rattle.asn1_model.specs.Schema.{any_count}
 use Rattle.asn1_schema_constraints.specs.Terms.{sizes_of, alphabet_of}
 use Rattle.asn1_schema_presented.specs.Records.{characters}
 use Rattle.oer_codec_encoder.proofs.Stepped.{adds_sound, adds_puts}

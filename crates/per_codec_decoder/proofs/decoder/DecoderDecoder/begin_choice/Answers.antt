@@ -13,19 +13,19 @@ use Rattle.per_codec_decoder.proofs.Opening.{no_place, no_chosen_type, type_begu
 use Rattle.per_codec_decoder.proofs.decoder.DecoderDecoder.begin_choice.Goals as goal
 
 pub returns-in_err-chosen-clause-only : goal.returns-in_err-chosen-clause-only
-returns-in_err-chosen-clause-only c = raised _ _ _ c.from_residual-in_err-chosen.ensures.1 (no_place _ _ (map tag_of c.args.roots.now) c.args.extensible (map tag_of c.args.additions.now) (length c.args.roots.now) (length c.args.additions.now) c.cursor-cursor.result c.in_err-chosen.field-0.0 (c.self.view_is ∙ c.in_ok-begin_record.ensures.ok.1) (sym (length_of_map tag_of c.args.roots.now)) (sym (length_of_map tag_of c.args.additions.now)) c.cursor-cursor.ensures (err_of (λ e. Misses (freedoms c.self.inside.variant) (place_form (is_aligned c.self.inside.variant) (length c.args.roots.now) c.args.extensible (length c.args.additions.now)) c.cursor-cursor.result e) c.read_place_of_alternative-answer.result c.in_err-chosen.field-0.0 c.in_err-chosen.ensures.same c.read_place_of_alternative-answer.ensures.only))
+returns-in_err-chosen-clause-only c = rw (sym c.extensible-extensible.ensures) (raised _ _ _ c.from_residual-in_err-chosen.ensures.1 (no_place _ _ c.args.tables.now.roots c.extensible-extensible.result c.args.tables.now.additions (length c.roots-root_count.result.now) (length c.additions-added_count.result.now) c.cursor-cursor.result c.in_err-chosen.field-0.0 (c.self.view_is ∙ c.in_ok-begin_record.ensures.ok.1) (sym (length_of_map tag_of c.roots-root_count.result.now) ∙ ap length c.roots-root_count.ensures) (sym (length_of_map tag_of c.additions-added_count.result.now) ∙ ap length c.additions-added_count.ensures) c.cursor-cursor.ensures (err_of (λ e. Misses (freedoms c.self.inside.variant) (place_form (is_aligned c.self.inside.variant) (length c.roots-root_count.result.now) c.extensible-extensible.result (length c.additions-added_count.result.now)) c.cursor-cursor.result e) c.read_place_of_alternative-answer.result c.in_err-chosen.field-0.0 c.in_err-chosen.ensures.same c.read_place_of_alternative-answer.ensures.only)))
 
 pub returns-in_err-open_type-clause-only : goal.returns-in_err-open_type-clause-only
-returns-in_err-open_type-clause-only c = raised _ _ _ c.from_residual-in_err-open_type.ensures.1 (no_chosen_type _ c.begin_record.new.self c.settle.new.self (map tag_of c.args.roots.now) c.args.extensible (map tag_of c.args.additions.now) (length c.args.roots.now) (length c.args.additions.now) c.in_ok-chosen.chosen c.cursor-cursor.result c.read_place_of_alternative-answer.new.cursor c.in_err-open_type.field-0.0 c.in_ok-begin_record.ensures.ok.1 (sym (length_of_map tag_of c.args.roots.now)) (sym (length_of_map tag_of c.args.additions.now)) (c.cursor-cursor.ensures ∙ ap (λ (h : Held). h.place) c.self.view_is) c.if-chosen.true (subst (λ (h : Held). Front (freedoms h.variant) (place_form (is_aligned h.variant) (length c.args.roots.now) c.args.extensible (length c.args.additions.now) c.in_ok-chosen.chosen) c.cursor-cursor.result c.read_place_of_alternative-answer.new.cursor) c.self.view_is (ok_of (λ (p : Chosen). Front (freedoms c.self.inside.variant) (place_form (is_aligned c.self.inside.variant) (length c.args.roots.now) c.args.extensible (length c.args.additions.now) p) c.cursor-cursor.result c.read_place_of_alternative-answer.new.cursor) c.read_place_of_alternative-answer.result c.in_ok-chosen.chosen c.in_ok-chosen.ensures.same c.read_place_of_alternative-answer.ensures.ok)) (moves_there c.begin_record.new.self c.settle.new.self (freedoms c.begin_record.new.self.variant) (place_form (is_aligned c.begin_record.new.self.variant) (length c.args.roots.now) c.args.extensible (length c.args.additions.now) c.in_ok-chosen.chosen) c.cursor-cursor.result c.read_place_of_alternative-answer.new.cursor c.position-position.result (c.cursor-cursor.ensures ∙ ap (λ (h : Held). h.place) c.self.view_is) c.position-position.ensures (subst (λ (h : Held). Front (freedoms h.variant) (place_form (is_aligned h.variant) (length c.args.roots.now) c.args.extensible (length c.args.additions.now) c.in_ok-chosen.chosen) c.cursor-cursor.result c.read_place_of_alternative-answer.new.cursor) c.self.view_is (ok_of (λ (p : Chosen). Front (freedoms c.self.inside.variant) (place_form (is_aligned c.self.inside.variant) (length c.args.roots.now) c.args.extensible (length c.args.additions.now) p) c.cursor-cursor.result c.read_place_of_alternative-answer.new.cursor) c.read_place_of_alternative-answer.result c.in_ok-chosen.chosen c.in_ok-chosen.ensures.same c.read_place_of_alternative-answer.ensures.ok)) c.in_ok-chosen.ensures.moved) c.in_err-open_type.ensures.only)
+returns-in_err-open_type-clause-only c = rw (sym c.extensible-extensible.ensures) (raised _ _ _ c.from_residual-in_err-open_type.ensures.1 (no_chosen_type _ c.begin_record.new.self c.settle.new.self c.args.tables.now.roots c.extensible-extensible.result c.args.tables.now.additions (length c.roots-root_count.result.now) (length c.additions-added_count.result.now) c.in_ok-chosen.chosen c.cursor-cursor.result c.read_place_of_alternative-answer.new.cursor c.in_err-open_type.field-0.0 c.in_ok-begin_record.ensures.ok.1 (sym (length_of_map tag_of c.roots-root_count.result.now) ∙ ap length c.roots-root_count.ensures) (sym (length_of_map tag_of c.additions-added_count.result.now) ∙ ap length c.additions-added_count.ensures) (c.cursor-cursor.ensures ∙ ap (λ (h : Held). h.place) c.self.view_is) c.if-chosen.true (subst (λ (h : Held). Front (freedoms h.variant) (place_form (is_aligned h.variant) (length c.roots-root_count.result.now) c.extensible-extensible.result (length c.additions-added_count.result.now) c.in_ok-chosen.chosen) c.cursor-cursor.result c.read_place_of_alternative-answer.new.cursor) c.self.view_is (ok_of (λ (p : Chosen). Front (freedoms c.self.inside.variant) (place_form (is_aligned c.self.inside.variant) (length c.roots-root_count.result.now) c.extensible-extensible.result (length c.additions-added_count.result.now) p) c.cursor-cursor.result c.read_place_of_alternative-answer.new.cursor) c.read_place_of_alternative-answer.result c.in_ok-chosen.chosen c.in_ok-chosen.ensures.same c.read_place_of_alternative-answer.ensures.ok)) (moves_there c.begin_record.new.self c.settle.new.self (freedoms c.begin_record.new.self.variant) (place_form (is_aligned c.begin_record.new.self.variant) (length c.roots-root_count.result.now) c.extensible-extensible.result (length c.additions-added_count.result.now) c.in_ok-chosen.chosen) c.cursor-cursor.result c.read_place_of_alternative-answer.new.cursor c.position-position.result (c.cursor-cursor.ensures ∙ ap (λ (h : Held). h.place) c.self.view_is) c.position-position.ensures (subst (λ (h : Held). Front (freedoms h.variant) (place_form (is_aligned h.variant) (length c.roots-root_count.result.now) c.extensible-extensible.result (length c.additions-added_count.result.now) c.in_ok-chosen.chosen) c.cursor-cursor.result c.read_place_of_alternative-answer.new.cursor) c.self.view_is (ok_of (λ (p : Chosen). Front (freedoms c.self.inside.variant) (place_form (is_aligned c.self.inside.variant) (length c.roots-root_count.result.now) c.extensible-extensible.result (length c.additions-added_count.result.now) p) c.cursor-cursor.result c.read_place_of_alternative-answer.new.cursor) c.read_place_of_alternative-answer.result c.in_ok-chosen.chosen c.in_ok-chosen.ensures.same c.read_place_of_alternative-answer.ensures.ok)) c.in_ok-chosen.ensures.moved) c.in_err-open_type.ensures.only))
 
 pub returns-then-chosen-clause-ok : goal.returns-then-chosen-clause-ok
-returns-then-chosen-clause-ok c = type_begun _ c.begin_record.new.self c.settle.new.self c.open_type.new.self _ (map tag_of c.args.roots.now) c.args.extensible (map tag_of c.args.additions.now) (length c.args.roots.now) (length c.args.additions.now) c.in_ok-chosen.chosen c.cursor-cursor.result c.read_place_of_alternative-answer.new.cursor c.position-position.result c.in_ok-begin_record.ensures.ok.1 c.in_ok-begin_record.ensures.ok.0 (sym (length_of_map tag_of c.args.roots.now)) (sym (length_of_map tag_of c.args.additions.now)) (c.cursor-cursor.ensures ∙ ap (λ (h : Held). h.place) c.self.view_is) c.position-position.ensures c.if-chosen.true (subst (λ (h : Held). Front (freedoms h.variant) (place_form (is_aligned h.variant) (length c.args.roots.now) c.args.extensible (length c.args.additions.now) c.in_ok-chosen.chosen) c.cursor-cursor.result c.read_place_of_alternative-answer.new.cursor) c.self.view_is (ok_of (λ (p : Chosen). Front (freedoms c.self.inside.variant) (place_form (is_aligned c.self.inside.variant) (length c.args.roots.now) c.args.extensible (length c.args.additions.now) p) c.cursor-cursor.result c.read_place_of_alternative-answer.new.cursor) c.read_place_of_alternative-answer.result c.in_ok-chosen.chosen c.in_ok-chosen.ensures.same c.read_place_of_alternative-answer.ensures.ok)) c.in_ok-chosen.ensures.moved c.in_ok-open_type.ensures.ok c.descend.ensures.levels c.descend.ensures.same
+returns-then-chosen-clause-ok c = rw (sym c.extensible-extensible.ensures) (type_begun _ c.begin_record.new.self c.settle.new.self c.open_type.new.self _ c.args.tables.now.roots c.extensible-extensible.result c.args.tables.now.additions (length c.roots-root_count.result.now) (length c.additions-added_count.result.now) c.in_ok-chosen.chosen c.cursor-cursor.result c.read_place_of_alternative-answer.new.cursor c.position-position.result c.in_ok-begin_record.ensures.ok.1 c.in_ok-begin_record.ensures.ok.0 (sym (length_of_map tag_of c.roots-root_count.result.now) ∙ ap length c.roots-root_count.ensures) (sym (length_of_map tag_of c.additions-added_count.result.now) ∙ ap length c.additions-added_count.ensures) (c.cursor-cursor.ensures ∙ ap (λ (h : Held). h.place) c.self.view_is) c.position-position.ensures c.if-chosen.true (subst (λ (h : Held). Front (freedoms h.variant) (place_form (is_aligned h.variant) (length c.roots-root_count.result.now) c.extensible-extensible.result (length c.additions-added_count.result.now) c.in_ok-chosen.chosen) c.cursor-cursor.result c.read_place_of_alternative-answer.new.cursor) c.self.view_is (ok_of (λ (p : Chosen). Front (freedoms c.self.inside.variant) (place_form (is_aligned c.self.inside.variant) (length c.roots-root_count.result.now) c.extensible-extensible.result (length c.additions-added_count.result.now) p) c.cursor-cursor.result c.read_place_of_alternative-answer.new.cursor) c.read_place_of_alternative-answer.result c.in_ok-chosen.chosen c.in_ok-chosen.ensures.same c.read_place_of_alternative-answer.ensures.ok)) c.in_ok-chosen.ensures.moved c.in_ok-open_type.ensures.ok c.descend.ensures.levels c.descend.ensures.same)
 
 pub returns-then-chosen-clause-within : goal.returns-then-chosen-clause-within
-returns-then-chosen-clause-within c = place_within (freedoms c.self.inside.variant) (is_aligned c.self.inside.variant) (map tag_of c.args.roots.now) c.args.extensible (map tag_of c.args.additions.now) (length c.args.roots.now) (length c.args.additions.now) c.in_ok-chosen.chosen c.cursor-cursor.result c.read_place_of_alternative-answer.new.cursor (sym (length_of_map tag_of c.args.roots.now)) (sym (length_of_map tag_of c.args.additions.now)) (ok_of (λ (p : Chosen). Front (freedoms c.self.inside.variant) (place_form (is_aligned c.self.inside.variant) (length c.args.roots.now) c.args.extensible (length c.args.additions.now) p) c.cursor-cursor.result c.read_place_of_alternative-answer.new.cursor) c.read_place_of_alternative-answer.result c.in_ok-chosen.chosen c.in_ok-chosen.ensures.same c.read_place_of_alternative-answer.ensures.ok)
+returns-then-chosen-clause-within c = place_within (freedoms c.self.inside.variant) (is_aligned c.self.inside.variant) c.args.tables.now.roots c.extensible-extensible.result c.args.tables.now.additions (length c.roots-root_count.result.now) (length c.additions-added_count.result.now) c.in_ok-chosen.chosen c.cursor-cursor.result c.read_place_of_alternative-answer.new.cursor (sym (length_of_map tag_of c.roots-root_count.result.now) ∙ ap length c.roots-root_count.ensures) (sym (length_of_map tag_of c.additions-added_count.result.now) ∙ ap length c.additions-added_count.ensures) (ok_of (λ (p : Chosen). Front (freedoms c.self.inside.variant) (place_form (is_aligned c.self.inside.variant) (length c.roots-root_count.result.now) c.extensible-extensible.result (length c.additions-added_count.result.now) p) c.cursor-cursor.result c.read_place_of_alternative-answer.new.cursor) c.read_place_of_alternative-answer.result c.in_ok-chosen.chosen c.in_ok-chosen.ensures.same c.read_place_of_alternative-answer.ensures.ok)
 
 pub returns-clause-ok : goal.returns-clause-ok
-returns-clause-ok c = alternative_begun _ c.begin_record.new.self c.settle.new.self _ (map tag_of c.args.roots.now) c.args.extensible (map tag_of c.args.additions.now) (length c.args.roots.now) (length c.args.additions.now) c.in_ok-chosen.chosen c.cursor-cursor.result c.read_place_of_alternative-answer.new.cursor c.position-position.result c.in_ok-begin_record.ensures.ok.1 c.in_ok-begin_record.ensures.ok.0 (sym (length_of_map tag_of c.args.roots.now)) (sym (length_of_map tag_of c.args.additions.now)) (c.cursor-cursor.ensures ∙ ap (λ (h : Held). h.place) c.self.view_is) c.position-position.ensures c.if-chosen.false (subst (λ (h : Held). Front (freedoms h.variant) (place_form (is_aligned h.variant) (length c.args.roots.now) c.args.extensible (length c.args.additions.now) c.in_ok-chosen.chosen) c.cursor-cursor.result c.read_place_of_alternative-answer.new.cursor) c.self.view_is (ok_of (λ (p : Chosen). Front (freedoms c.self.inside.variant) (place_form (is_aligned c.self.inside.variant) (length c.args.roots.now) c.args.extensible (length c.args.additions.now) p) c.cursor-cursor.result c.read_place_of_alternative-answer.new.cursor) c.read_place_of_alternative-answer.result c.in_ok-chosen.chosen c.in_ok-chosen.ensures.same c.read_place_of_alternative-answer.ensures.ok)) c.in_ok-chosen.ensures.moved c.in_ok-enter_alternative.ensures.levels c.in_ok-enter_alternative.ensures.scopes
+returns-clause-ok c = rw (sym c.extensible-extensible.ensures) (alternative_begun _ c.begin_record.new.self c.settle.new.self _ c.args.tables.now.roots c.extensible-extensible.result c.args.tables.now.additions (length c.roots-root_count.result.now) (length c.additions-added_count.result.now) c.in_ok-chosen.chosen c.cursor-cursor.result c.read_place_of_alternative-answer.new.cursor c.position-position.result c.in_ok-begin_record.ensures.ok.1 c.in_ok-begin_record.ensures.ok.0 (sym (length_of_map tag_of c.roots-root_count.result.now) ∙ ap length c.roots-root_count.ensures) (sym (length_of_map tag_of c.additions-added_count.result.now) ∙ ap length c.additions-added_count.ensures) (c.cursor-cursor.ensures ∙ ap (λ (h : Held). h.place) c.self.view_is) c.position-position.ensures c.if-chosen.false (subst (λ (h : Held). Front (freedoms h.variant) (place_form (is_aligned h.variant) (length c.roots-root_count.result.now) c.extensible-extensible.result (length c.additions-added_count.result.now) c.in_ok-chosen.chosen) c.cursor-cursor.result c.read_place_of_alternative-answer.new.cursor) c.self.view_is (ok_of (λ (p : Chosen). Front (freedoms c.self.inside.variant) (place_form (is_aligned c.self.inside.variant) (length c.roots-root_count.result.now) c.extensible-extensible.result (length c.additions-added_count.result.now) p) c.cursor-cursor.result c.read_place_of_alternative-answer.new.cursor) c.read_place_of_alternative-answer.result c.in_ok-chosen.chosen c.in_ok-chosen.ensures.same c.read_place_of_alternative-answer.ensures.ok)) c.in_ok-chosen.ensures.moved c.in_ok-enter_alternative.ensures.levels c.in_ok-enter_alternative.ensures.scopes)
 
 pub returns-clause-within : goal.returns-clause-within
-returns-clause-within c = place_within (freedoms c.self.inside.variant) (is_aligned c.self.inside.variant) (map tag_of c.args.roots.now) c.args.extensible (map tag_of c.args.additions.now) (length c.args.roots.now) (length c.args.additions.now) c.in_ok-chosen.chosen c.cursor-cursor.result c.read_place_of_alternative-answer.new.cursor (sym (length_of_map tag_of c.args.roots.now)) (sym (length_of_map tag_of c.args.additions.now)) (ok_of (λ (p : Chosen). Front (freedoms c.self.inside.variant) (place_form (is_aligned c.self.inside.variant) (length c.args.roots.now) c.args.extensible (length c.args.additions.now) p) c.cursor-cursor.result c.read_place_of_alternative-answer.new.cursor) c.read_place_of_alternative-answer.result c.in_ok-chosen.chosen c.in_ok-chosen.ensures.same c.read_place_of_alternative-answer.ensures.ok)
+returns-clause-within c = place_within (freedoms c.self.inside.variant) (is_aligned c.self.inside.variant) c.args.tables.now.roots c.extensible-extensible.result c.args.tables.now.additions (length c.roots-root_count.result.now) (length c.additions-added_count.result.now) c.in_ok-chosen.chosen c.cursor-cursor.result c.read_place_of_alternative-answer.new.cursor (sym (length_of_map tag_of c.roots-root_count.result.now) ∙ ap length c.roots-root_count.ensures) (sym (length_of_map tag_of c.additions-added_count.result.now) ∙ ap length c.additions-added_count.ensures) (ok_of (λ (p : Chosen). Front (freedoms c.self.inside.variant) (place_form (is_aligned c.self.inside.variant) (length c.roots-root_count.result.now) c.extensible-extensible.result (length c.additions-added_count.result.now) p) c.cursor-cursor.result c.read_place_of_alternative-answer.new.cursor) c.read_place_of_alternative-answer.result c.in_ok-chosen.chosen c.in_ok-chosen.ensures.same c.read_place_of_alternative-answer.ensures.ok)

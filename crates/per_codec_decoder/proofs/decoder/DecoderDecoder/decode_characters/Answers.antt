@@ -1,5 +1,5 @@
 use Rattle.std.proofs.Common.{◌∙◌}
-use Rattle.asn1_model.specs.Types.{any_count}
+use Rattle.asn1_model.specs.Schema.{any_count}
 use Rattle.asn1_schema_constraints.specs.Terms.{sizes_of, alphabet_of}
 use Rattle.per_codec_decoder.proofs.Settling.{uncharacters}
 use Rattle.per_codec_decoder.proofs.decoder.DecoderDecoder.decode_characters.Goals as goal

@@ -1,8 +1,0 @@
-use Rattle.oer_codec_encoder.proofs.Stepped.{stays_sound, puts}
-use Rattle.oer_codec_encoder.proofs.encoder.EncoderEncoder.put_mark.Goals as goal
-
-pub invariant_of-self-2 : goal.invariant_of-self-2
-invariant_of-self-2 c _ = stays_sound _ c.self.inside.frames c.put_mark.new.frames c.self.inside.output.now.items c.put_mark.new.octets.items (c.self.invariant c.in_ok-begin_record.ensures.ok) c.in_ok-put_mark.ensures
-
-pub returns-clause-ok : goal.returns-clause-ok
-returns-clause-ok c = puts _ c.self.inside.frames c.put_mark.new.frames c.self.inside.output.now.items c.put_mark.new.octets.items c.self.inside.failed c.args.self.now c.self.view_is c.in_ok-begin_record.ensures.ok (c.self.invariant c.in_ok-begin_record.ensures.ok) c.in_ok-put_mark.ensures
