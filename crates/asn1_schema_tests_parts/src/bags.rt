@@ -77,16 +77,19 @@ fn are_hashed_alike(one: &SetOf<u8>, other: &SetOf<u8>) -> bool {
     hashing.hash_one(one) == hashing.hash_one(other)
 }
 
-/// Whether bags of these members are equal and hashed alike.
-fn are_equal(alloc: Global, one: &[u8], other: &[u8]) -> Result<bool, AllocError> {
+/// Whether bags of these members are equal, are found the same by their order, and are hashed alike.
+fn compared(alloc: Global, one: &[u8], other: &[u8]) -> Result<[bool; 3], AllocError> {
     let one = bag_of(alloc, one)?;
     let other = bag_of(alloc, other)?;
-    Ok(one == other && are_hashed_alike(&one, &other))
+    let is_same = one.is_same(&other, alloc)?;
+    Ok([one == other, is_same, are_hashed_alike(&one, &other)])
 }
 
-/// Whether bags are equal in any order, and not with other counts.
+/// Whether bags are the same in any order, and not with other counts, by which they are also told apart.
 fn are_compared(alloc: Global) -> Result<bool, AllocError> {
-    Ok(are_equal(alloc, &[3, 1, 2], &[2, 3, 1])? && !are_equal(alloc, &[1, 1, 2], &[1, 2, 2])?)
+    let reordered = compared(alloc, &[7, 3, 1, 2], &[7, 2, 3, 1])?;
+    let recounted = compared(alloc, &[1, 1, 2], &[1, 2, 2])?;
+    Ok(reordered == [true; 3] && recounted == [false; 3])
 }
 
 /// Whether a bag of 3 and 1 is used in each way, and shown.

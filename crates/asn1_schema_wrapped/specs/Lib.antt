@@ -1,3 +1,4 @@
 pub mod Instances
 pub mod Equality
+pub mod Hashes
 pub mod Meaning

@@ -1,6 +1,7 @@
 -- Bags are equal exactly if what they mean is.
 use Rattle.std.proofs.Common.{◌≡◌, ℕ, suc, Bool, true, false, cond, List, [], ◌∷◌, length, Option, Some, None}
 use Rattle.std.proofs.Common.{option_map, refl, sym, ap, ◌∙◌, arith}
+use Rattle.std.specs.Prelude.{not}
 use Rattle.std.specs.Cmp.{IsPartialEquivalence, per_alike}
 use Rattle.asn1_model.specs.Value.{Value, bag, member, same, same_bag, taken_out, with_rest}
 use Rattle.asn1_schema_presented.specs.Parts.{values_of}
@@ -38,12 +39,16 @@ add_once true false k = refl
 add_once false true k = refl
 add_once false false k = refl
 
-taken_off : (b : Bool) (j k : ℕ) → cond b (suc j) j ≡ cond b (suc k) k → j ≡ k
+pub taken_off : (b : Bool) (j k : ℕ) → cond b (suc j) j ≡ cond b (suc k) k → j ≡ k
 taken_off true j k q = omega (arith, q)
 taken_off false j k q = q
 
+unturned : (b : Bool) → not b ≡ false → b ≡ true
+unturned true q = refl
+unturned false q = absurd (let k : true ≡ false = q in cc)
+
 module _ {A : Type 0} {e : A → A → Bool} (p : IsPartialEquivalence e) where
-  left_counts : (x : A) (ys zs : List A) → without e x ys ≡ Some zs → (length ys ≡ suc (length zs))
+  pub left_counts : (x : A) (ys zs : List A) → without e x ys ≡ Some zs → (length ys ≡ suc (length zs))
       × ((w : A) → times e w ys ≡ cond (e w x) (suc (times e w zs)) (times e w zs))
   left_counts x [] zs q = absurd (let k : None ≡ Some zs = q in cc)
   left_counts x (y ∷ ys) zs q =
@@ -74,7 +79,7 @@ module _ {A : Type 0} {e : A → A → Bool} (p : IsPartialEquivalence e) where
       ] in
       step (e x y) (without e x ys) refl refl q
 
-  none_left : (x : A) (ys : List A) → without e x ys ≡ None → times e x ys ≡ 0
+  pub none_left : (x : A) (ys : List A) → without e x ys ≡ None → times e x ys ≡ 0
   none_left x [] q = refl
   none_left x (y ∷ ys) q =
       let step : (b : Bool) (o : Option (List A)) → without e x ys ≡ o
@@ -88,6 +93,26 @@ module _ {A : Type 0} {e : A → A → Bool} (p : IsPartialEquivalence e) where
         ]
       ] in
       step (e x y) (without e x ys) refl q
+
+  -- Elements in front that are equal change nothing.
+  pub alike_front : (x y : A) → e x y ≡ true → (xs ys : List A)
+      → same_items e (x ∷ xs) (y ∷ ys) ≡ same_items e xs ys
+  alike_front x y q xs ys =
+      let m : (w : A) → e w y ≡ e w x = λ w. p.symm w y ∙ sym (per_alike p x y w q) ∙ p.symm x w in
+      both_ways (same_items e (x ∷ xs) (y ∷ ys)) (same_items e xs ys)
+      (λ s. same_by_counts e xs ys (let l = same_length e (x ∷ xs) (y ∷ ys) s in omega (arith, l))
+      (λ w. taken_off (e w x) (times e w xs) (times e w ys) (all_alike p (x ∷ xs) (y ∷ ys) s w
+      ∙ ap (λ b. cond b (suc (times e w ys)) (times e w ys)) (m w))))
+      (λ s. same_by_counts e (x ∷ xs) (y ∷ ys) (ap suc (same_length e xs ys s))
+      (λ w. ap (λ n. cond (e w x) (suc n) n) (all_alike p xs ys s w)
+      ∙ ap (λ b. cond b (suc (times e w ys)) (times e w ys)) (sym (m w))))
+
+  pub alike_behind : {xs ys us vs : List A} (x y : A) → xs ≡ x ∷ us → ys ≡ y ∷ vs → not (e x y) ≡ false
+      → same_items e us vs ≡ same_items e xs ys
+  alike_behind {xs = xs} {us = us} {vs = vs} x y i j q =
+      let q' : e x y ≡ true = unturned (e x y) q in
+      sym (alike_front x y q' us vs) ∙ ap (λ zs. same_items e zs (y ∷ vs)) (sym i)
+      ∙ ap (λ zs. same_items e xs zs) (sym j)
 
   module _ (f : A → Value) (h : (x y : A) → e x y ≡ same (f x) (f y)) where
     itself : (x : A) → e x x ≡ true

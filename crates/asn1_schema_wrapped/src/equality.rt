@@ -1,15 +1,16 @@
 //! Equality of bags, in which the order means nothing.
-ghost use Rattle.std.specs.Prelude.{◌≡◌, length};
+ghost use Rattle.std.specs.Prelude.{◌≡◌, IfOk};
 ghost use Rattle.std.specs.Cmp.{partial_equiv_from_equiv};
-ghost use Rattle.std.specs.Hash as fed;
-ghost use Rattle.std.proofs.Common.{rules, ap};
-ghost use Rattle.asn1_schema_wrapped.specs.Equality.{times, are_alike, same_items, same_length, bags_partial};
+ghost use Rattle.std.proofs.Common.{rules};
+ghost use Rattle.asn1_schema_wrapped.specs.Equality.{times, are_alike, same_items, bags_partial};
 ghost use Rattle.asn1_schema_wrapped.specs.Equality.{bags_equal};
+ghost use Rattle.asn1_schema_wrapped.specs.Hashes.{bag_hash, hash_sum, same_hash};
 ghost use Rattle.asn1_schema_wrapped.specs.Meaning.{bags_agree};
 
 use crate::set_of::SetOf;
 use asn1_schema_types::EqualByMeaning;
-use std::hash::{Hash, Hasher};
+use std::alloc::{AllocError, Global};
+use std::hash::{DefaultHasher, Hash, Hasher};
 
 /// Two bags are equal if each member occurs in both equally often.
 impl<T: PartialEq> PartialEq for SetOf<T> {
@@ -18,11 +19,28 @@ impl<T: PartialEq> PartialEq for SetOf<T> {
     ghost laws = { bags_partial (λ s. s.items.items) T.PartialEq.laws };
 
     fn eq(&self, other: &Self) -> bool {
-        let left = self.as_slice();
-        let right = other.as_slice();
+        let (left, right) = behind_equal(self.as_slice(), other.as_slice());
         left.len() == right.len()
             && occur_alike(left, right, left)
             && occur_alike(left, right, right)
+    }
+}
+
+impl<T: Ord> SetOf<T> {
+    /// Whether both bags hold the same members, as `==` tells. The members are put in order first: n of them take some
+    /// n log n comparisons, where `==` takes n² of members that stand in another order.
+    ///
+    /// # Errors
+    ///
+    /// Want of memory, for the places of the members.
+    pub fn is_same(&self, other: &Self, alloc: Global) -> Result<bool, AllocError>
+        ensures { IfOk result (λ same. same ≡ same_items T.PartialEq.eq self.now.items.items other.now.items.items) }
+    {
+        let mut left = self.to_vec(alloc)?;
+        let mut right = other.to_vec(alloc)?;
+        left.sort_unstable();
+        right.sort_unstable();
+        Ok(left == right)
     }
 }
 
@@ -30,19 +48,50 @@ impl<T: Eq> Eq for SetOf<T> {
     ghost laws = { bags_equal (λ s. s.items.items) T.PartialEq.laws };
 }
 
-/// The hash of a bag is that of its number of members, which no order changes.
+/// The hash of a bag is that of its number of members and of the sum of their hashes, which no order changes.
 impl<T: Hash> Hash for SetOf<T> {
-    ghost hash_input = { λ s. fed.usize (length s.items.items) };
+    ghost hash_input = { λ s. bag_hash T.hash_input s.items.items };
 
-    ghost respects_eq = { λ x y h. ap fed.usize (same_length T.PartialEq.eq x.items.items y.items.items h) };
+    ghost respects_eq = { λ x y. same_hash T.hash_input T.respects_eq T.Eq.laws x.items.items y.items.items };
 
     fn hash<H: Hasher>(&self, state: &mut H) {
-        self.len().hash(state);
+        let items = self.as_slice();
+        items.len().hash(state);
+        sum_of_hashes(items).hash(state);
     }
+}
+
+// The hashes of all items, each by a hasher of its own, added modulo 2^64.
+fn sum_of_hashes<T: Hash>(items: &[T]) -> u64
+    ensures { result ≡ hash_sum T.hash_input 0 items.now }
+{
+    let mut sum: u64 = 0;
+    for item in items {
+        let mut hasher = DefaultHasher::new();
+        item.hash(&mut hasher);
+        sum = sum.wrapping_add(hasher.finish());
+    }
+    sum
 }
 
 impl<T: EqualByMeaning> EqualByMeaning for SetOf<T> {
     ghost agrees = { λ x y. bags_agree T.PartialEq.laws T.Described.meaning T.agrees x.items.items y.items.items };
+}
+
+// What is left of two lists behind the items in front that are equal at the same places: bags that hold the same members
+// in the same order, as those of one message read twice do, are compared in one go.
+fn behind_equal<'a, T: PartialEq>(left: &'a [T], right: &'a [T]) -> (&'a [T], &'a [T])
+    ensures { same_items T.eq result.0.now result.1.now ≡ same_items T.eq left.now right.now }
+{
+    let (mut xs, mut ys) = (left, right);
+    while let (Some((x, behind_x)), Some((y, behind_y))) = (xs.split_first(), ys.split_first()) {
+        if *x != *y {
+            break;
+        }
+        xs = behind_x;
+        ys = behind_y;
+    }
+    (xs, ys)
 }
 
 // Whether each of these items occurs in two lists equally often.
