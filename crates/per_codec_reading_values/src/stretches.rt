@@ -28,7 +28,7 @@ pub struct Stretch<'input> {
 }
 
 impl<'input> Model for Stretch<'input> {
-    ghost use Rattle.std.specs.Prelude.{◌≤◌, length, drop};
+    ghost use Rattle.std.specs.Prelude.{◌≡◌, ◌≤◌, length, drop};
     ghost use Rattle.per_codec_reading.specs.Runs.{bits_in, storage_of};
     ghost use Rattle.per_codec_reading_values.specs.Stretches.{Stretched};
 
@@ -230,7 +230,12 @@ impl<'input> Stretch<'input> {
         ensures past { self.old.place.0 + length self.old.place.1 < position → self.new.place ≡ self.old.place }
         ensures storage { self.new.storage ≡ self.old.storage }
     {
-        if position < self.position || position > self.count {
+        let reached = self.position;
+        let count = self.count;
+        if position < reached {
+            return;
+        }
+        if position > count {
             return;
         }
         self.position = position;
