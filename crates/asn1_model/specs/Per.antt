@@ -336,7 +336,8 @@ unfoldable mutual
       given (addition_forms al adds qs) (sequence_form al e (presence_bits cs ps) (component_forms al cs ps))
   form al (group cs) (fields ps end) = both (exactly (presence_bits cs ps)) (component_forms al cs ps)
   form al (choice roots e adds) (chosen false i v) =
-      both (extension_bit_of e false) (both (constrained al (alternative_count roots - 1) i) (alternative_form al roots i v))
+      both (extension_bit_of e false)
+      (both (constrained al (alternative_count roots - 1) i) (alternative_form al roots i v))
   form al (choice roots true adds) (chosen true i v) =
       both (exactly (true ∷ [])) (both (normally_small al i) (open_type al (alternative_form al adds i v)))
   form al s v = refused

@@ -212,7 +212,8 @@ fn translating<'a>(alloc: Global, name: &'a str, about: &'a str) -> Result<Comma
         .arg(option(
             alloc,
             "type",
-            "the type of a message: bool, small, pair, integer, bits, octets, visible, null, nulls, set, bag, nest, new, old or group",
+            "the type of a message: bool, small, pair, integer, bits, octets, visible, null, nulls, set, \
+             bag, nest, new, old or group",
         ))
 }
 
@@ -237,7 +238,8 @@ fn hop_option<'a>(alloc: Global) -> Arg<'a>
     option(
         alloc,
         "hop",
-        "a version and the rules in which the hop writes: old or new, a colon, and uper, aper, oer or coer; once or more",
+        "a version and the rules in which the hop writes: old or new, a colon, and uper, aper, oer or \
+         coer; once or more",
     )
     .action(ArgAction::Append)
 }
@@ -248,7 +250,8 @@ fn routing<'a>(alloc: Global) -> Result<Command<'a>, AllocError>
 {
     Command::new(alloc, "route")
         .about(
-            "Sends the message that is all of standard input from hop to hop, each of which knows a version of its type",
+            "Sends the message that is all of standard input from hop to hop, each of which knows a \
+             version of its type",
         )
         .arg(option(
             alloc,
@@ -397,7 +400,9 @@ pub fn read_order<S: AsStr>(alloc: Global, words: &[S]) -> Result<Order, Error>
         Some(order) => Ok(order),
         None => Err(grammar.error(
             ErrorKind::InvalidValue,
-            "rules are uper, aper, oer or coer, types bool, small, pair, integer, bits, octets, visible, null, nulls, set, bag, nest, new, old or group, pairs plain, default, required or colour, and hops old or new, a colon and rules",
+            "rules are uper, aper, oer or coer, types bool, small, pair, integer, bits, octets, visible, \
+             null, nulls, set, bag, nest, new, old or group, pairs plain, default, required or colour, \
+             and hops old or new, a colon and rules",
         )?),
     }
 }

@@ -79,7 +79,8 @@ pub record WantsMemory (s : Schema) (old new : Relaying) (piece before after : L
     pub messages : List Message
     pub written : List ℕ
     pub rest : List ℕ
-    pub relays : RelaysFront (rules_of old.from) (rules_of old.to) s old.limit messages written rest (old.unread ++ piece)
+    pub relays : RelaysFront (rules_of old.from) (rules_of old.to) s old.limit messages written rest
+        (old.unread ++ piece)
     pub grows : after ≡ before ++ written
     pub is : fault ≡ record { number = capped (old.number + length messages); kind = kind.Memory }
     pub stops : new ≡ onwards old new.unread fault.number true

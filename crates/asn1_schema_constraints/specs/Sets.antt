@@ -11,25 +11,22 @@ use Rattle.asn1_schema_constraints.specs.declared.lists.Constraint.TheVariants.{
 use Rattle.asn1_schema_constraints.specs.declared.lists.Constraint.TheVariants.{PermittedAlphabet as OfAlphabet}
 use Rattle.asn1_schema_constraints.specs.declared.lists.Constraint.TheVariants.{Extensible as Marker}
 use Rattle.asn1_schema_constraints.specs.declared.lists.ConstraintDiscriminant.{ConstraintDiscriminant}
-use Rattle.asn1_schema_constraints.specs.declared.lists.ConstraintDiscriminant.TheVariants.{Value as ValueKind}
-use Rattle.asn1_schema_constraints.specs.declared.lists.ConstraintDiscriminant.TheVariants.{Size as SizeKind}
-use Rattle.asn1_schema_constraints.specs.declared.lists.ConstraintDiscriminant.TheVariants.{PermittedAlphabet as AlphabetKind}
-use Rattle.asn1_schema_constraints.specs.declared.lists.ConstraintDiscriminant.TheVariants.{Extensible as MarkerKind}
+use Rattle.asn1_schema_constraints.specs.declared.lists.ConstraintDiscriminant.TheVariants as kind
 use Rattle.asn1_schema_constraints.specs.declared.lists.Constraints.{Constraints}
 
 -- The kind of a constraint.
 abbrev pub kind_of : Constraint → ConstraintDiscriminant
-kind_of (OfValue c) = ValueKind
-kind_of (OfSize c) = SizeKind
-kind_of (OfAlphabet c) = AlphabetKind
-kind_of Marker = MarkerKind
+kind_of (OfValue c) = kind.Value
+kind_of (OfSize c) = kind.Size
+kind_of (OfAlphabet c) = kind.PermittedAlphabet
+kind_of Marker = kind.Extensible
 
 -- The number of a kind.
 abbrev pub kind_number : ConstraintDiscriminant → ℕ
-kind_number ValueKind = 0
-kind_number SizeKind = 1
-kind_number AlphabetKind = 2
-kind_number MarkerKind = 3
+kind_number kind.Value = 0
+kind_number kind.Size = 1
+kind_number kind.PermittedAlphabet = 2
+kind_number kind.Extensible = 3
 
 -- The constraint on a value, where it is one.
 abbrev pub value_part : Constraint → Option (Extensible Value)

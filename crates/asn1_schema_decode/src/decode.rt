@@ -7,12 +7,12 @@ ghost use Rattle.asn1_model.specs.Numbers.{is_count_within};
 ghost use Rattle.asn1_schema_faults.specs.declared.CodecKind.{CodecKind};
 ghost use Rattle.asn1_schema_presented.specs.Records.{Record, question, told, flag, nil, one_of, identifier};
 ghost use Rattle.asn1_schema_presented.specs.Records.{list_begins, bag_begins, further, sequence_begins, set_begins};
-ghost use Rattle.asn1_schema_presented.specs.Records.{group_begins, presence_bit, is_default, is_empty, additions_begin};
-ghost use Rattle.asn1_schema_presented.specs.Records.{addition, addition_ends, choice_begins, ends};
+ghost use Rattle.asn1_schema_presented.specs.Records.{group_begins, presence_bit, is_default, is_empty};
+ghost use Rattle.asn1_schema_presented.specs.Records.{additions_begin, addition, addition_ends, choice_begins, ends};
 ghost use Rattle.asn1_schema_presented.specs.Records.{asks_flag, asks_nil, asks_one_of, asks_identifier, asks_further};
-ghost use Rattle.asn1_schema_presented.specs.Records.{asks_sequence, asks_set, asks_group, asks_presence_bit, asks_default};
-ghost use Rattle.asn1_schema_presented.specs.Records.{asks_empty, asks_additions, asks_addition, asks_addition_end};
-ghost use Rattle.asn1_schema_presented.specs.Records.{asks_choice, asks_end};
+ghost use Rattle.asn1_schema_presented.specs.Records.{asks_sequence, asks_set, asks_group, asks_presence_bit};
+ghost use Rattle.asn1_schema_presented.specs.Records.{asks_default, asks_empty, asks_additions, asks_addition};
+ghost use Rattle.asn1_schema_presented.specs.Records.{asks_addition_end, asks_choice, asks_end};
 ghost use Rattle.asn1_schema_constraints.specs.Bounds.{counts_of};
 ghost use Rattle.asn1_schema_constraints.specs.Terms.{meant};
 ghost use Rattle.asn1_schema_types.specs.Told.{whole_under, bits_under, octets_under, characters_under};
@@ -333,7 +333,8 @@ pub trait Decoder {
         ensures after { result ≡ Err DecodeError.AlreadyFailed → has_failed self.old }
         ensures no_memory { IfErr result (λ e. e ≡ DecodeError.OutOfMemory → ⊥) };
 
-    /// The component that was read last is equal to its default: refused by rules that have one encoding. No memory is taken.
+    /// The component that was read last is equal to its default: refused by rules that have one encoding. No memory is
+    /// taken.
     fn note_default(&mut self) -> Result<(), DecodeError>
         ensures ok { OnOk result (step self.old is_default self.new) }
         ensures level { OnOk result (levels self.new ≡ levels self.old) }

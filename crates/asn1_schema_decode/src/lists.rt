@@ -46,12 +46,13 @@ pub trait DecodeList: Decoder {
 
 impl<D: Decoder> DecodeList for D {}
 
-/// The members of a list or a bag that has begun, of which the program's type holds so many, and its end. One member more
-/// than these is not read, and no memory is taken but for members that were read.
+/// The members of a list or a bag that has begun, of which the program's type holds so many, and its end. One member
+/// more than these is not read, and no memory is taken but for members that were read.
 ///
 /// # Errors
 ///
-/// `SizeConstraintNotSatisfied` where there are more or fewer than the type holds, `OutOfMemory`, and those of a member.
+/// `SizeConstraintNotSatisfied` where there are more or fewer than the type holds, `OutOfMemory`, and those of a
+/// member.
 pub fn members_within<T: Decode, D: Decoder>(
     alloc: Global,
     decoder: &mut D,

@@ -11,8 +11,8 @@ use Rattle.asn1_model.specs.Lawful.{are_no_components, alternative_tags}
 use Rattle.asn1_model.specs.Tables.{is_required}
 use Rattle.asn1_schema_presented.specs.Records.{Record, flag, nil, whole, one_of, bits, octets, characters}
 use Rattle.asn1_schema_presented.specs.Records.{identifier, list_begins, bag_begins, further, sequence_begins}
-use Rattle.asn1_schema_presented.specs.Records.{set_begins, group_begins, presence_bit, is_default, is_empty, additions_begin}
-use Rattle.asn1_schema_presented.specs.Records.{addition, addition_ends, choice_begins, ends, mismatch}
+use Rattle.asn1_schema_presented.specs.Records.{set_begins, group_begins, presence_bit, is_default, is_empty}
+use Rattle.asn1_schema_presented.specs.Records.{additions_begin, addition, addition_ends, choice_begins, ends, mismatch}
 
 -- ---- counts
 

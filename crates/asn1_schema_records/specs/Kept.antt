@@ -9,8 +9,8 @@ use Rattle.asn1_schema_faults.specs.declared.EncodeError.TheVariants.{OutOfMemor
 use Rattle.asn1_schema_presented.specs.Records.{Record, flag, nil, whole, one_of, bits, octets, characters}
 use Rattle.asn1_schema_presented.specs.Records.{identifier, list_begins, bag_begins, further, sequence_begins}
 use Rattle.asn1_schema_presented.specs.Records.{set_begins}
-use Rattle.asn1_schema_presented.specs.Records.{group_begins, presence_bit, is_default, is_empty, additions_begin, addition}
-use Rattle.asn1_schema_presented.specs.Records.{addition_ends, choice_begins, ends}
+use Rattle.asn1_schema_presented.specs.Records.{group_begins, presence_bit, is_default, is_empty}
+use Rattle.asn1_schema_presented.specs.Records.{additions_begin, addition, addition_ends, choice_begins, ends}
 use Rattle.asn1_schema_records.specs.declared.items.Limits.{Limits}
 use Rattle.asn1_schema_records.specs.declared.items.Sizes.{Sizes}
 use Rattle.asn1_schema_records.specs.declared.items.Item.{Item}

@@ -14,11 +14,11 @@ ghost use Rattle.asn1_schema_types.specs.Told.{asks_characters_under, asks_list_
 ghost use Rattle.asn1_schema_presented.specs.Records.{flag, nil, one_of, bits, octets, characters};
 ghost use Rattle.asn1_schema_presented.specs.Records.{identifier as object_identifier, further, sequence_begins};
 ghost use Rattle.asn1_schema_presented.specs.Records.{set_begins};
-ghost use Rattle.asn1_schema_presented.specs.Records.{group_begins, presence_bit, is_default, is_empty, additions_begin};
-ghost use Rattle.asn1_schema_presented.specs.Records.{addition, addition_ends, choice_begins, ends};
+ghost use Rattle.asn1_schema_presented.specs.Records.{group_begins, presence_bit, is_default, is_empty};
+ghost use Rattle.asn1_schema_presented.specs.Records.{additions_begin, addition, addition_ends, choice_begins, ends};
 ghost use Rattle.asn1_schema_presented.specs.Records.{asks_flag, asks_nil, asks_one_of, asks_identifier};
-ghost use Rattle.asn1_schema_presented.specs.Records.{asks_further, asks_sequence};
-ghost use Rattle.asn1_schema_presented.specs.Records.{asks_set, asks_group, asks_presence_bit, asks_default, asks_empty};
+ghost use Rattle.asn1_schema_presented.specs.Records.{asks_further, asks_sequence, asks_set, asks_group};
+ghost use Rattle.asn1_schema_presented.specs.Records.{asks_presence_bit, asks_default, asks_empty};
 ghost use Rattle.asn1_schema_presented.specs.Records.{asks_additions, asks_addition, asks_addition_end};
 ghost use Rattle.asn1_schema_presented.specs.Records.{asks_choice, asks_end};
 ghost use Rattle.asn1_schema_records.specs.Kept.{record_of, sizes_in};

@@ -4,8 +4,8 @@ ghost use Rattle.asn1_model.specs.Schema.{Bounds, Size, utf8, visible};
 ghost use Rattle.asn1_schema_constraints.specs.Terms.{bounds_of, sizes_of};
 ghost use Rattle.asn1_schema_presented.specs.Records.{flag, nil, whole, one_of, bits, octets, characters, identifier};
 ghost use Rattle.asn1_schema_presented.specs.Records.{list_begins, bag_begins, further, sequence_begins, set_begins};
-ghost use Rattle.asn1_schema_presented.specs.Records.{group_begins, presence_bit, is_default, is_empty, additions_begin};
-ghost use Rattle.asn1_schema_presented.specs.Records.{addition, addition_ends, choice_begins, ends};
+ghost use Rattle.asn1_schema_presented.specs.Records.{group_begins, presence_bit, is_default, is_empty};
+ghost use Rattle.asn1_schema_presented.specs.Records.{additions_begin, addition, addition_ends, choice_begins, ends};
 ghost use Rattle.asn1_schema_records.specs.Kept.{bounds_in, sizes_in, any_number, any_count, any_alphabet, record_of};
 
 use asn1_schema_constraints::Constraints;
@@ -277,7 +277,8 @@ impl Item {
         ensures { IsTrue result ↔ (record_of self.now ≡ sequence_begins extensible optional) }
     {
         match self {
-            Item::SequenceBegins(is_extensible, count) => *is_extensible == extensible && *count == optional,
+            Item::SequenceBegins(is_extensible, count) => *is_extensible == extensible
+                && *count == optional,
             _ => false,
         }
     }
@@ -288,7 +289,8 @@ impl Item {
         ensures { IsTrue result ↔ (record_of self.now ≡ set_begins extensible optional) }
     {
         match self {
-            Item::SetBegins(is_extensible, count) => *is_extensible == extensible && *count == optional,
+            Item::SetBegins(is_extensible, count) => *is_extensible == extensible
+                && *count == optional,
             _ => false,
         }
     }
@@ -305,7 +307,8 @@ impl Item {
 
     /// Whether a component is there; `None` of any other item.
     pub fn into_presence_bit(self) -> Option<bool>
-        ensures { MatchOption result ((b : Bool) → record_of self ≡ presence_bit b → ⊥) (λ b. record_of self ≡ presence_bit b) }
+        ensures { MatchOption result ((b : Bool) → record_of self ≡ presence_bit b → ⊥)
+            (λ b. record_of self ≡ presence_bit b) }
     {
         match self {
             Item::PresenceBit(present) => Some(present),
@@ -360,7 +363,9 @@ impl Item {
             → ⊥) (λ c. record_of self ≡ choice_begins [] extensible [] c.added c.place) }
     {
         match self {
-            Item::ChoiceBegins(is_extensible, chosen) if is_extensible == extensible => Some(chosen),
+            Item::ChoiceBegins(is_extensible, chosen) if is_extensible == extensible => Some(
+                chosen,
+            ),
             _ => None,
         }
     }

@@ -1,4 +1,5 @@
-//! Newer versions of types: a type that has grown behind its extension markers, and is as the older one else (X.680 52).
+//! Newer versions of types: a type that has grown behind its extension markers, and is as the older one else
+//! (X.680 52).
 ghost use Rattle.asn1_schema_types.specs.Versions.{ExtendsFrom, Unfolds};
 
 use crate::described::Described;

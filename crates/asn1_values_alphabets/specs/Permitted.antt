@@ -4,8 +4,7 @@ use Rattle.asn1_model.specs.Schema.{StringKind}
 use Rattle.asn1_model.specs.Strings.{characters_of, each_is, is_among}
 use Rattle.asn1_values_alphabets.specs.declared.error.InvalidRestrictedString.{InvalidRestrictedString}
 use Rattle.asn1_values_alphabets.specs.declared.error.PermittedAlphabetError.{PermittedAlphabetError}
-use Rattle.asn1_values_alphabets.specs.declared.error.PermittedAlphabetError.TheVariants.{InvalidRestrictedString as OutsideAlphabet}
-use Rattle.asn1_values_alphabets.specs.declared.error.PermittedAlphabetError.TheVariants.{Memory}
+use Rattle.asn1_values_alphabets.specs.declared.error.PermittedAlphabetError.TheVariants as refusal
 
 -- whether a string of this kind may hold the character
 abbrev pub permits : StringKind → ℕ → Bool
@@ -21,11 +20,11 @@ first_refused k cs = find (λ c. not (permits k c)) cs
 
 -- characters are refused by the first one that is not permitted
 abbrev pub IsOutside : StringKind → (ℕ → InvalidRestrictedString) → List ℕ → PermittedAlphabetError → Type 0
-IsOutside k refused cs (OutsideAlphabet e) = option_map refused (first_refused k cs) ≡ Some e
+IsOutside k refused cs (refusal.InvalidRestrictedString e) = option_map refused (first_refused k cs) ≡ Some e
 IsOutside k refused cs e = ⊥
 
 -- or, where all are permitted, for want of memory
 abbrev pub IsRefusalOf : StringKind → (ℕ → InvalidRestrictedString) → List ℕ → PermittedAlphabetError → Type 0
-IsRefusalOf k refused cs (OutsideAlphabet e) = option_map refused (first_refused k cs) ≡ Some e
-IsRefusalOf k refused cs (Memory m) = permits_all k cs ≡ true
+IsRefusalOf k refused cs (refusal.InvalidRestrictedString e) = option_map refused (first_refused k cs) ≡ Some e
+IsRefusalOf k refused cs (refusal.Memory m) = permits_all k cs ≡ true
 IsRefusalOf k refused cs e = ⊥

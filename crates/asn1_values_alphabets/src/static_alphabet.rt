@@ -5,7 +5,7 @@ ghost use Rattle.std.specs.Str.{chars};
 ghost use Rattle.asn1_model.specs.Schema.{StringKind};
 ghost use Rattle.asn1_model.specs.Strings.{may_hold};
 ghost use Rattle.asn1_values_alphabets.specs.Permitted.{first_refused, permits, permits_all, IsRefusalOf};
-ghost use Rattle.asn1_values_alphabets.specs.declared.error.InvalidRestrictedString.{InvalidRestrictedString as Outside};
+ghost use Rattle.asn1_values_alphabets.specs.declared.error.InvalidRestrictedString.{InvalidRestrictedString as Reason};
 
 use crate::error::{InvalidRestrictedString, PermittedAlphabetError};
 use std::alloc::{AllocError, Global};
@@ -14,7 +14,7 @@ use std::alloc::{AllocError, Global};
 pub trait StaticPermittedAlphabet: Drop {
     ghost kind: { StringKind };
 
-    ghost refused: { ℕ → Outside };
+    ghost refused: { ℕ → Reason };
 
     ghost characters: { Self → List ℕ };
 

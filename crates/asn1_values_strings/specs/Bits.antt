@@ -5,12 +5,11 @@ use Rattle.asn1_model.specs.Schema.{StringKind}
 use Rattle.asn1_values_alphabets.specs.Permitted.{first_refused}
 use Rattle.asn1_values_alphabets.specs.declared.error.InvalidRestrictedString.{InvalidRestrictedString}
 use Rattle.asn1_values_alphabets.specs.declared.error.PermittedAlphabetError.{PermittedAlphabetError}
-use Rattle.asn1_values_alphabets.specs.declared.error.PermittedAlphabetError.TheVariants.{InvalidData}
-use Rattle.asn1_values_alphabets.specs.declared.error.PermittedAlphabetError.TheVariants.{InvalidRestrictedString as OutsideAlphabet}
+use Rattle.asn1_values_alphabets.specs.declared.error.PermittedAlphabetError.TheVariants as refusal
 
 -- bits are refused where they are no whole octets, else by the first octet that is not permitted
 abbrev pub IsRefusalOfBits : StringKind → (ℕ → InvalidRestrictedString) → List Bool → PermittedAlphabetError → Type 0
-IsRefusalOfBits k refused bs InvalidData = 0 < length bs % 8
-IsRefusalOfBits k refused bs (OutsideAlphabet e) = (length bs % 8 ≡ 0)
+IsRefusalOfBits k refused bs refusal.InvalidData = 0 < length bs % 8
+IsRefusalOfBits k refused bs (refusal.InvalidRestrictedString e) = (length bs % 8 ≡ 0)
     × (option_map refused (first_refused k (packed bs)) ≡ Some e)
 IsRefusalOfBits k refused bs e = ⊥

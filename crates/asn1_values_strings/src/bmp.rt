@@ -13,7 +13,7 @@ ghost use Rattle.asn1_model.specs.Numbers.{digits, octet_bits};
 ghost use Rattle.asn1_model.specs.Schema.{bmp};
 ghost use Rattle.asn1_values_alphabets.specs.Permitted.{permits, permits_all, IsRefusalOf};
 ghost use Rattle.asn1_values_strings.specs.Pairs.{IsRefusalOfPairs, IsRefusalOfPairBits};
-ghost use Rattle.asn1_values_alphabets.specs.declared.error.InvalidRestrictedString.TheVariants.{InvalidBmpString as outside_bmp};
+ghost use Rattle.asn1_values_alphabets.specs.declared.error.InvalidRestrictedString.TheVariants as outside;
 
 use crate::wide_characters::BmpCharacters;
 use asn1_values_alphabets::{
@@ -91,7 +91,7 @@ impl BmpString {
     pub fn from_text(alloc: Global, text: &str) -> Result<Self, PermittedAlphabetError>
         ensures characters { IfOk result (λ s. s ≡ chars text.now) }
         ensures permitted { OnOk result (IsTrue (permits_all bmp (chars text.now))) }
-        ensures refused { IfErr result (IsRefusalOf bmp (λ c. outside_bmp (record { character = c }))
+        ensures refused { IfErr result (IsRefusalOf bmp (λ c. outside.InvalidBmpString (record { character = c }))
             (chars text.now)) }
     {
         string_of_text(alloc, text)
@@ -177,7 +177,7 @@ impl BmpString {
     pub fn push_char(&mut self, character: u32) -> Result<(), PermittedAlphabetError>
         ensures pushed { OnOk result (self.new ≡ self.old ++ character ∷ []) }
         ensures permitted { OnOk result (IsTrue (permits bmp character)) }
-        ensures refused { IfErr result (IsRefusalOf bmp (λ c. outside_bmp (record { character = c }))
+        ensures refused { IfErr result (IsRefusalOf bmp (λ c. outside.InvalidBmpString (record { character = c }))
             (character ∷ [])) }
         ensures unchanged { OnErr result (self.new ≡ self.old) }
     {
@@ -238,7 +238,7 @@ impl TryFrom<String> for BmpString {
 
     ghost try_from_gives = { λ text r. MatchResult r (λ s. (s ≡ chars (string_bytes text))
         × IsTrue (permits_all bmp (chars (string_bytes text))))
-        (IsRefusalOf bmp (λ c. outside_bmp (record { character = c })) (chars (string_bytes text))) };
+        (IsRefusalOf bmp (λ c. outside.InvalidBmpString (record { character = c })) (chars (string_bytes text))) };
 
     fn try_from(text: String) -> Result<Self, PermittedAlphabetError> {
         string_of_text(*text.allocator(), text.as_str())
@@ -257,7 +257,7 @@ impl MadeWith<Global> for BmpString {
 impl StaticPermittedAlphabet for BmpString {
     ghost kind = { bmp };
 
-    ghost refused = { λ c. outside_bmp (record { character = c }) };
+    ghost refused = { λ c. outside.InvalidBmpString (record { character = c }) };
 
     ghost characters = { λ s. s };
 

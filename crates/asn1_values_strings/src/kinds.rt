@@ -5,7 +5,7 @@ ghost use Rattle.asn1_values_alphabets.specs.Permitted.{permits, permits_all};
 ghost use Rattle.asn1_values_strings.specs.Octets.{octet_among, ascii_among};
 ghost use Rattle.asn1_model.specs.Strings.{characters_of, may_hold};
 ghost use Rattle.std.specs.Prelude.{refl};
-ghost use Rattle.asn1_values_alphabets.specs.declared.error.InvalidRestrictedString.{InvalidRestrictedString as Outside};
+ghost use Rattle.asn1_values_alphabets.specs.declared.error.InvalidRestrictedString.{InvalidRestrictedString as Reason};
 ghost use Rattle.asn1_values_alphabets.specs.declared.error.InvalidRestrictedString.TheVariants as outside;
 
 use asn1_values_alphabets::{
@@ -17,7 +17,7 @@ use asn1_values_alphabets::{
 pub trait CharacterKind: Drop {
     ghost kind: { StringKind };
 
-    ghost refused: { ℕ → Outside };
+    ghost refused: { ℕ → Reason };
 
     /// The type's name in X.680.
     const NAME: &'static str;

@@ -12,7 +12,6 @@ ghost use Rattle.std.proofs.Common.{rules};
 ghost use Rattle.asn1_model.specs.Numbers.{octet_bits};
 ghost use Rattle.asn1_values_alphabets.specs.Permitted.{first_refused, permits, permits_all, IsOutside, IsRefusalOf};
 ghost use Rattle.asn1_values_strings.specs.Bits.{IsRefusalOfBits};
-ghost use Rattle.asn1_values_alphabets.specs.declared.error.PermittedAlphabetError.TheVariants.{InvalidRestrictedString as outside};
 
 use crate::characters::Characters;
 use crate::kinds::CharacterKind;

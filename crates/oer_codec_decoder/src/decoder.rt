@@ -215,6 +215,28 @@ impl<'input> Decoder<'input> {
     }
 }
 
+// One call: `AlreadyFailed` after a refusal, else what is found of its record, and after a refusal no more.
+macro_rules! record {
+    ($decoder:ident, $read:expr) => {{
+        $decoder.begin_record()?;
+        match $read {
+            Ok(found) => Ok(found),
+            Err(error) => Err($decoder.fail(error)),
+        }
+    }};
+}
+
+// The same of a call that opens a scope, for which a level has to be left.
+macro_rules! scope {
+    ($decoder:ident, $read:expr) => {{
+        $decoder.begin_level()?;
+        match $read {
+            Ok(frame) => $decoder.enter(frame),
+            Err(error) => Err($decoder.fail(error)),
+        }
+    }};
+}
+
 impl<'input> asn1_schema_decode::Decoder for Decoder<'input> {
     ghost use Rattle.oer_codec_decoder.specs.Laws.{finds_one, finds_held, finds_bag_held, finds_none, finds_on};
     ghost use Rattle.oer_codec_decoder.specs.Laws.{finds_same};
@@ -249,20 +271,12 @@ impl<'input> asn1_schema_decode::Decoder for Decoder<'input> {
 
     #[inline(always)]
     fn decode_bool(&mut self, _tag: Tag) -> Result<bool, DecodeError> {
-        self.begin_record()?;
-        match read_boolean(&mut self.cursor, self.rules) {
-            Ok(value) => Ok(value),
-            Err(error) => Err(self.fail(error)),
-        }
+        record!(self, read_boolean(&mut self.cursor, self.rules))
     }
 
     #[inline(always)]
     fn decode_null(&mut self, _tag: Tag) -> Result<(), DecodeError> {
-        self.begin_record()?;
-        match read_null(&mut self.cursor, self.rules) {
-            Ok(()) => Ok(()),
-            Err(error) => Err(self.fail(error)),
-        }
+        record!(self, read_null(&mut self.cursor, self.rules))
     }
 
     #[inline(always)]
@@ -272,11 +286,10 @@ impl<'input> asn1_schema_decode::Decoder for Decoder<'input> {
         _tag: Tag,
         constraints: Constraints,
     ) -> Result<I, DecodeError> {
-        self.begin_record()?;
-        match read_integer(alloc, &mut self.cursor, self.rules, constraints) {
-            Ok(value) => Ok(value),
-            Err(error) => Err(self.fail(error)),
-        }
+        record!(
+            self,
+            read_integer(alloc, &mut self.cursor, self.rules, constraints)
+        )
     }
 
     fn decode_enumerated<T: Enumerated>(&mut self, _tag: Tag) -> Result<T, DecodeError>
@@ -288,11 +301,7 @@ impl<'input> asn1_schema_decode::Decoder for Decoder<'input> {
         ensures already { HasFailed self.old → result ≡ Err DecodeError.AlreadyFailed }
         ensures after { result ≡ Err DecodeError.AlreadyFailed → HasFailed self.old }
     {
-        self.begin_record()?;
-        match read_enumerated(&mut self.cursor, self.rules) {
-            Ok(item) => Ok(item),
-            Err(error) => Err(self.fail(error)),
-        }
+        record!(self, read_enumerated(&mut self.cursor, self.rules))
     }
 
     fn decode_bit_string(
@@ -302,11 +311,10 @@ impl<'input> asn1_schema_decode::Decoder for Decoder<'input> {
         constraints: Constraints,
         held: Bounded<usize>,
     ) -> Result<BitString, DecodeError> {
-        self.begin_record()?;
-        match read_bit_string(alloc, &mut self.cursor, self.rules, constraints, held) {
-            Ok(value) => Ok(value),
-            Err(error) => Err(self.fail(error)),
-        }
+        record!(
+            self,
+            read_bit_string(alloc, &mut self.cursor, self.rules, constraints, held)
+        )
     }
 
     /// The octets stand in the input as they are (X.696 14), and are lent.
@@ -318,11 +326,10 @@ impl<'input> asn1_schema_decode::Decoder for Decoder<'input> {
         constraints: Constraints,
         held: Bounded<usize>,
     ) -> Result<&'input [u8], DecodeError> {
-        self.begin_record()?;
-        match read_octet_string(&mut self.cursor, self.rules, constraints, held) {
-            Ok(octets) => Ok(octets),
-            Err(error) => Err(self.fail(error)),
-        }
+        record!(
+            self,
+            read_octet_string(&mut self.cursor, self.rules, constraints, held)
+        )
     }
 
     fn decode_utf8_string(
@@ -331,11 +338,10 @@ impl<'input> asn1_schema_decode::Decoder for Decoder<'input> {
         _tag: Tag,
         constraints: Constraints,
     ) -> Result<String, DecodeError> {
-        self.begin_record()?;
-        match read_utf8_string(alloc, &mut self.cursor, self.rules, constraints) {
-            Ok(value) => Ok(value),
-            Err(error) => Err(self.fail(error)),
-        }
+        record!(
+            self,
+            read_utf8_string(alloc, &mut self.cursor, self.rules, constraints)
+        )
     }
 
     fn decode_characters<S: StaticPermittedAlphabet>(
@@ -344,11 +350,10 @@ impl<'input> asn1_schema_decode::Decoder for Decoder<'input> {
         _tag: Tag,
         constraints: Constraints,
     ) -> Result<S, DecodeError> {
-        self.begin_record()?;
-        match read_characters(alloc, &mut self.cursor, self.rules, constraints) {
-            Ok(value) => Ok(value),
-            Err(error) => Err(self.fail(error)),
-        }
+        record!(
+            self,
+            read_characters(alloc, &mut self.cursor, self.rules, constraints)
+        )
     }
 
     fn decode_object_identifier(
@@ -356,11 +361,10 @@ impl<'input> asn1_schema_decode::Decoder for Decoder<'input> {
         alloc: Global,
         _tag: Tag,
     ) -> Result<ObjectIdentifier, DecodeError> {
-        self.begin_record()?;
-        match read_object_identifier(alloc, &mut self.cursor, self.rules) {
-            Ok(value) => Ok(value),
-            Err(error) => Err(self.fail(error)),
-        }
+        record!(
+            self,
+            read_object_identifier(alloc, &mut self.cursor, self.rules)
+        )
     }
 
     #[inline(always)]
@@ -370,11 +374,7 @@ impl<'input> asn1_schema_decode::Decoder for Decoder<'input> {
         _constraints: Constraints,
         held: Bounded<usize>,
     ) -> Result<(), DecodeError> {
-        self.begin_level()?;
-        match read_members(&mut self.cursor, self.rules, held) {
-            Ok(frame) => self.enter(frame),
-            Err(error) => Err(self.fail(error)),
-        }
+        scope!(self, read_members(&mut self.cursor, self.rules, held))
     }
 
     #[inline(always)]
@@ -384,11 +384,7 @@ impl<'input> asn1_schema_decode::Decoder for Decoder<'input> {
         _constraints: Constraints,
         held: Bounded<usize>,
     ) -> Result<(), DecodeError> {
-        self.begin_level()?;
-        match read_members(&mut self.cursor, self.rules, held) {
-            Ok(frame) => self.enter(frame),
-            Err(error) => Err(self.fail(error)),
-        }
+        scope!(self, read_members(&mut self.cursor, self.rules, held))
     }
 
     #[inline(always)]
@@ -407,11 +403,7 @@ impl<'input> asn1_schema_decode::Decoder for Decoder<'input> {
         extensible: bool,
         optional: usize,
     ) -> Result<(), DecodeError> {
-        self.begin_level()?;
-        match read_preamble(&mut self.cursor, extensible, optional) {
-            Ok(frame) => self.enter(frame),
-            Err(error) => Err(self.fail(error)),
-        }
+        scope!(self, read_preamble(&mut self.cursor, extensible, optional))
     }
 
     #[inline(always)]
@@ -421,20 +413,12 @@ impl<'input> asn1_schema_decode::Decoder for Decoder<'input> {
         extensible: bool,
         optional: usize,
     ) -> Result<(), DecodeError> {
-        self.begin_level()?;
-        match read_preamble(&mut self.cursor, extensible, optional) {
-            Ok(frame) => self.enter(frame),
-            Err(error) => Err(self.fail(error)),
-        }
+        scope!(self, read_preamble(&mut self.cursor, extensible, optional))
     }
 
     #[inline(always)]
     fn begin_group(&mut self, optional: usize) -> Result<(), DecodeError> {
-        self.begin_level()?;
-        match read_preamble(&mut self.cursor, false, optional) {
-            Ok(frame) => self.enter(frame),
-            Err(error) => Err(self.fail(error)),
-        }
+        scope!(self, read_preamble(&mut self.cursor, false, optional))
     }
 
     #[inline(always)]
@@ -491,11 +475,10 @@ impl<'input> asn1_schema_decode::Decoder for Decoder<'input> {
 
     #[inline(always)]
     fn end_addition(&mut self) -> Result<(), DecodeError> {
-        self.begin_record()?;
-        match self.scopes.close_addition(&mut self.cursor, self.rules) {
-            Ok(()) => Ok(()),
-            Err(error) => Err(self.fail(error)),
-        }
+        record!(
+            self,
+            self.scopes.close_addition(&mut self.cursor, self.rules)
+        )
     }
 
     #[inline(always)]

@@ -83,7 +83,8 @@ Holds [] o s = s ≡ (o, [])
 Holds (Components c ∷ fs) o s = IsOpen (λ p t. Holds fs p t) c.extensible c.due c.given c.start c.content o s
 Holds (Added a ∷ fs) o s = (root : State)
     × (h : IsOpen (λ p t. Holds fs p t) true 0 a.preamble.given a.preamble.start a.preamble.content a.outer.items
-    root) × (a.any ≡ is_any_set a.present) × (s ≡ (o, added a.due h.presence_bits h.inner a.present h.outer.0 ∷ h.outer.1))
+    root) × (a.any ≡ is_any_set a.present)
+    × (s ≡ (o, added a.due h.presence_bits h.inner a.present h.outer.0 ∷ h.outer.1))
 Holds (OpenType start ∷ fs) o s = IsApart (λ p t. Holds fs p t) start o s
 Holds (Members due ∷ fs) o s = (below : State) × (s ≡ (below.0, members due ∷ below.1)) × Holds fs o below
 Holds (Bag b ∷ fs) o s = (below : State) × (s ≡ (o, bag_members b.due b.members below.0 ∷ below.1))

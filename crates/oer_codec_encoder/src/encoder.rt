@@ -303,7 +303,10 @@ impl<'buffer> asn1_schema_encode::Encoder for Encoder<'buffer> {
 
     #[inline(always)]
     fn put_presence_bit(&mut self, present: bool) -> Result<(), EncodeError> {
-        record!(self, put_presence_bit(self.output, &mut self.frames, present))
+        record!(
+            self,
+            put_presence_bit(self.output, &mut self.frames, present)
+        )
     }
 
     #[inline(always)]

@@ -93,7 +93,8 @@ pub(crate) fn put_presence_bit(
     present: bool,
 ) -> Result<(), EncodeError>
     requires { AreSound frames.old octets.old.items }
-    ensures { MatchResult result (λ _. Does (presence_bit present) frames.old octets.old.items frames.new octets.new.items)
+    ensures { MatchResult result
+        (λ _. Does (presence_bit present) frames.old octets.old.items frames.new octets.new.items)
         (Cannot (presence_bit present) frames.old octets.old.items) }
 {
     let Some(preamble) = frames.next_presence_bit() else {

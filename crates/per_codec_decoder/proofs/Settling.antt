@@ -12,14 +12,10 @@ use Rattle.per_codec_fronts.specs.Takes.{Place, Scope, members, State, Tally, Fr
 use Rattle.per_codec_reading.specs.Fronts.{freedoms, is_aligned, Leads, Misses}
 use Rattle.per_codec_reading.specs.Runs.{Storage}
 use Rattle.per_codec_reading.proofs.Fronts.{leads_join}
-use Rattle.per_codec_reading_values.proofs.Moving.{leads_within}
 use Rattle.per_codec_decoder.specs.Held.{Held, state_of, kept, Finds, IsReady, Stays, Moves, EntersMembers, EntersComponents}
 use Rattle.per_codec_decoder.specs.Preamble.{HasPreamble}
 use Rattle.per_codec_decoder.specs.Members.{Due, HasMembers}
 use Rattle.per_codec_decoder.proofs.Finding.{OfType, asked_characters, none_found}
-
-reaches : (w : List Bool) (here there p : Place) (n : ℕ) → here ≡ p → n ≡ there.0 → Leads w here there → n ≤ p.0 + length p.1
-reaches w here there p n h q l = subst (λ (x : Place). n ≤ x.0 + length x.1) h (subst (λ m. m ≤ here.0 + length here.1) (sym q) (leads_within w here there l))
 
 -- a record is found
 pub steps : (old now new : Held) (p : Place) (k : List Scope) (l : ℕ) (r : Record) (m : List Storage) → now ≡ old → IsReady old → Takes (is_aligned now.variant) (freedoms now.variant) (state_of now) r (p, k) → level now.most r now.levels ≡ Some l → m ≡ kept now r p k → new ≡ record { place = p; scopes = k; levels = l; most = now.most; failed = now.failed; variant = now.variant; stands = m } → Finds old r new
@@ -74,16 +70,6 @@ unless answer (Ok x) P Q r p h = tt
 unless (Ok x) (Err e) P Q r p h = cc
 unless (Err x) (Err e) P Q r p h = let k : e ≡ x = cc in h e (subst P (sym k) p)
 
--- a reader reaches no further than to the end
-pub reached : {T : Type 0} (answer : Result T DecodeError) (free : Per.Freedom → Bool) (form : T → Per.BitForm) (here there p : Place) (n : ℕ) → here ≡ p → n ≡ there.0 → IfOk answer (λ x. Front free (form x) here there) → OnOk answer (n ≤ p.0 + length p.1)
-reached (Err e) free form here there p n h q f = tt
-reached (Ok x) free form here there p n h q f = reaches f.text here there p n h q (f.in_front, f.moved)
-
--- the same at the end of a message
-pub reached_end : {T : Type 0} (answer : Result T DecodeError) (free : Per.Freedom → Bool) (x : Per.BitForm) (here there p : Place) (n : ℕ) → here ≡ p → n ≡ there.0 → IsTrue (free Per.any_filling) → OnOk answer ((f : Per.Freedom → Bool) → IsTrue (f Per.any_filling) → Front f x here there) → OnOk answer (n ≤ p.0 + length p.1)
-reached_end (Err e) free x here there p n h q t f = tt
-reached_end (Ok u) free x here there p n h q t f = let g = f free t in reaches g.text here there p n h q (g.in_front, g.moved)
-
 -- ---- members
 abbrev pub Led : Place → Place → Type 0
 Led a b = (w : List Bool) × Leads w a b
@@ -119,14 +105,6 @@ module _ (free : Per.Freedom → Bool) (al : Bool) where
       let i = led _ a g.1 g.2 in
       let j = counted_led z h g.0 (told_highest g.0 z.counts.high) g.1 [] (b, members due hs ∷ []) (g.3 []) in
       (i.0 ++ j.0, leads_join i.0 j.0 a g.1 b i.1 j.1)
-
-pub reached_led : {T : Type 0} (answer : Result T DecodeError) (here there p : Place) (n : ℕ) → here ≡ p → n ≡ there.0 → IfOk answer (λ _. Led here there) → OnOk answer (n ≤ p.0 + length p.1)
-reached_led (Err e) here there p n h q f = tt
-reached_led (Ok x) here there p n h q f = reaches f.0 here there p n h q f.1
-
-pub reached_members : (answer : Result Due DecodeError) (free : Per.Freedom → Bool) (al : Bool) (z : Size) (h : Counts) (here there p : Place) (n : ℕ) → here ≡ p → n ≡ there.0 → IfOk answer (λ m. HasMembers al free z h m.due m.tally here there) → OnOk answer (n ≤ p.0 + length p.1)
-reached_members (Err e) free al z h here there p n i q f = tt
-reached_members (Ok m) free al z h here there p n i q f = let l = members_led free al z h m.due m.tally here there f in reaches l.0 here there p n i q l.1
 
 -- where such a reader went on
 pub moves_led : (now new : Held) (here there : Place) (n : ℕ) → here ≡ now.place → n ≡ there.0 → Led here there → Moves now n new → new ≡ record { place = there; scopes = now.scopes; levels = now.levels; most = now.most; failed = now.failed; variant = now.variant; stands = now.stands }

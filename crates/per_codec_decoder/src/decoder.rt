@@ -1,6 +1,6 @@
 //! What finds the records of a value in bits.
 ghost use Rattle.std.specs.Cow.{cow_slice_items, IsBorrowedSlice};
-ghost use Rattle.std.specs.Prelude.{◌≡◌, ◌+◌, ◌-◌, ◌<◌, ◌≤◌, ◌^◌, [], ◌∷◌, true, false, Some, length, take, OnOk};
+ghost use Rattle.std.specs.Prelude.{◌≡◌, ◌+◌, ◌-◌, ◌<◌, ◌^◌, [], ◌∷◌, true, false, Some, length, take, OnOk};
 ghost use Rattle.std.specs.Prelude.{OnErr, IfErr, IfOk};
 ghost use Rattle.per_codec_decoder.specs.Held.{Held, Finds, Lends, HasFailed, kind_of, IsReady, Stays, Moves, Enters};
 ghost use Rattle.per_codec_decoder.specs.Held.{HasOpened, HasPassed, NoOpening, EntersMembers, EntersComponents};
@@ -72,6 +72,18 @@ impl<'input> Model for Decoder<'input> {
     } };
 }
 
+// One call: `AlreadyFailed` after a refusal, else what is found of its record by a cursor from the place that is reached,
+// and after a refusal no more.
+macro_rules! record {
+    ($decoder:ident, $cursor:ident, $read:expr) => {{
+        $decoder.begin_record()?;
+        let mut $cursor = $decoder.place.cursor();
+        let answer = $read;
+        let position = $cursor.position();
+        $decoder.settle(position, answer)
+    }};
+}
+
 impl<'input> Decoder<'input> {
     /// A decoder of this input, within 128 nested levels. Of an input of 2 to 60 octets or more the first ones are
     /// looked at, fewer than so many.
@@ -123,11 +135,7 @@ impl<'input> Decoder<'input> {
         ensures already { HasFailed self.old → result ≡ Err DecodeError.AlreadyFailed }
         ensures after { result ≡ Err DecodeError.AlreadyFailed → HasFailed self.old }
     {
-        self.begin_record()?;
-        let mut cursor = self.place.cursor();
-        let answer = read_completion(&mut cursor);
-        let position = cursor.position();
-        self.settle(position, answer)
+        record!(self, cursor, read_completion(&mut cursor))
     }
 
     // The octets of a string (X.680 23) under a size constraint, lent where they stand in the input as they are, in
@@ -196,7 +204,6 @@ impl<'input> Decoder<'input> {
         position: usize,
         answer: Result<T, DecodeError>,
     ) -> Result<T, DecodeError>
-        requires { OnOk answer (position ≤ self.old.place.0 + length self.old.place.1) }
         ensures same { result ≡ answer }
         ensures moved { OnOk result (Moves self.old position self.new) }
         ensures levels { OnOk result (self.new.levels ≡ self.old.levels) }
@@ -399,19 +406,11 @@ impl<'input> asn1_schema_decode::Decoder for Decoder<'input> {
 
     #[inline(always)]
     fn decode_bool(&mut self, _tag: Tag) -> Result<bool, DecodeError> {
-        self.begin_record()?;
-        let mut cursor = self.place.cursor();
-        let answer = read_boolean(&mut cursor, self.variant);
-        let position = cursor.position();
-        self.settle(position, answer)
+        record!(self, cursor, read_boolean(&mut cursor, self.variant))
     }
 
     fn decode_null(&mut self, _tag: Tag) -> Result<(), DecodeError> {
-        self.begin_record()?;
-        let mut cursor = self.place.cursor();
-        let answer = read_null(&mut cursor, self.variant);
-        let position = cursor.position();
-        self.settle(position, answer)
+        record!(self, cursor, read_null(&mut cursor, self.variant))
     }
 
     #[inline(always)]
@@ -421,20 +420,16 @@ impl<'input> asn1_schema_decode::Decoder for Decoder<'input> {
         _tag: Tag,
         constraints: Constraints,
     ) -> Result<I, DecodeError> {
-        self.begin_record()?;
-        let mut cursor = self.place.cursor();
-        let answer = read_integer(alloc, &mut cursor, self.variant, constraints);
-        let position = cursor.position();
-        self.settle(position, answer)
+        record!(
+            self,
+            cursor,
+            read_integer(alloc, &mut cursor, self.variant, constraints)
+        )
     }
 
     fn decode_enumerated<T: Enumerated>(&mut self, _tag: Tag) -> Result<T, DecodeError> {
-        self.begin_record()?;
         let alloc = self.scopes.allocator();
-        let mut cursor = self.place.cursor();
-        let answer = read_item(alloc, &mut cursor, self.variant);
-        let position = cursor.position();
-        self.settle(position, answer)
+        record!(self, cursor, read_item(alloc, &mut cursor, self.variant))
     }
 
     fn decode_bit_string(
@@ -444,12 +439,12 @@ impl<'input> asn1_schema_decode::Decoder for Decoder<'input> {
         constraints: Constraints,
         held: Bounded<usize>,
     ) -> Result<BitString, DecodeError> {
-        self.begin_record()?;
-        let mut cursor = self.place.cursor();
         let sizes = constraints.sizes();
-        let answer = read_bit_string(alloc, &mut cursor, self.variant, sizes, held);
-        let position = cursor.position();
-        self.settle(position, answer)
+        record!(
+            self,
+            cursor,
+            read_bit_string(alloc, &mut cursor, self.variant, sizes, held)
+        )
     }
 
     #[inline(always)]
@@ -469,11 +464,11 @@ impl<'input> asn1_schema_decode::Decoder for Decoder<'input> {
         _tag: Tag,
         constraints: Constraints,
     ) -> Result<String, DecodeError> {
-        self.begin_record()?;
-        let mut cursor = self.place.cursor();
-        let answer = read_utf8_string(alloc, &mut cursor, self.variant, constraints);
-        let position = cursor.position();
-        self.settle(position, answer)
+        record!(
+            self,
+            cursor,
+            read_utf8_string(alloc, &mut cursor, self.variant, constraints)
+        )
     }
 
     fn decode_characters<S: StaticPermittedAlphabet>(
@@ -482,11 +477,11 @@ impl<'input> asn1_schema_decode::Decoder for Decoder<'input> {
         _tag: Tag,
         constraints: Constraints,
     ) -> Result<S, DecodeError> {
-        self.begin_record()?;
-        let mut cursor = self.place.cursor();
-        let answer = read_characters(alloc, &mut cursor, self.variant, constraints);
-        let position = cursor.position();
-        self.settle(position, answer)
+        record!(
+            self,
+            cursor,
+            read_characters(alloc, &mut cursor, self.variant, constraints)
+        )
     }
 
     fn decode_object_identifier(
@@ -494,11 +489,11 @@ impl<'input> asn1_schema_decode::Decoder for Decoder<'input> {
         alloc: Global,
         _tag: Tag,
     ) -> Result<ObjectIdentifier, DecodeError> {
-        self.begin_record()?;
-        let mut cursor = self.place.cursor();
-        let answer = read_object_identifier(alloc, &mut cursor, self.variant);
-        let position = cursor.position();
-        self.settle(position, answer)
+        record!(
+            self,
+            cursor,
+            read_object_identifier(alloc, &mut cursor, self.variant)
+        )
     }
 
     fn begin_list(
@@ -521,11 +516,11 @@ impl<'input> asn1_schema_decode::Decoder for Decoder<'input> {
 
     #[inline(always)]
     fn get_further(&mut self) -> Result<bool, DecodeError> {
-        self.begin_record()?;
-        let mut cursor = self.place.cursor();
-        let answer = self.scopes.next_member(&mut cursor, self.variant);
-        let position = cursor.position();
-        self.settle(position, answer)
+        record!(
+            self,
+            cursor,
+            self.scopes.next_member(&mut cursor, self.variant)
+        )
     }
 
     #[inline(always)]

@@ -44,7 +44,8 @@ two_lists =
 
 -- SEQUENCE {a INTEGER (0..65535) OPTIONAL, b BOOLEAN OPTIONAL} with a alone
 abbrev pub optional_word : List call.Record
-optional_word = call.sequence_begins false 2 ∷ call.presence_bit true ∷ word 0x1234 ∷ call.presence_bit false ∷ call.ends ∷ []
+optional_word = call.sequence_begins false 2 ∷ call.presence_bit true ∷ word 0x1234 ∷ call.presence_bit false
+    ∷ call.ends ∷ []
 
 -- SEQUENCE {a BOOLEAN, ..., b INTEGER (0..255) OPTIONAL}, with b or without
 abbrev pub with_addition : List call.Record

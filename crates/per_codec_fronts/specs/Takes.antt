@@ -12,8 +12,8 @@ use Rattle.asn1_model.specs.Form.{Reads, exactly, both, joined, is_present, pres
 use Rattle.asn1_model.specs.Per
 use Rattle.asn1_schema_presented.specs.Records.{Record, flag, nil, whole, one_of, bits, octets, characters, identifier}
 use Rattle.asn1_schema_presented.specs.Records.{list_begins, bag_begins, further, sequence_begins, set_begins}
-use Rattle.asn1_schema_presented.specs.Records.{group_begins, presence_bit, is_default, is_empty, additions_begin, addition}
-use Rattle.asn1_schema_presented.specs.Records.{addition_ends, choice_begins, ends, mismatch}
+use Rattle.asn1_schema_presented.specs.Records.{group_begins, presence_bit, is_default, is_empty}
+use Rattle.asn1_schema_presented.specs.Records.{additions_begin, addition, addition_ends, choice_begins, ends, mismatch}
 use Rattle.asn1_schema_finding.specs.PresenceBits.{preamble_bits, first_bits, has_set}
 use Rattle.per_codec_fronts.specs.Sizes.{extension_bit, told_highest}
 

@@ -1,9 +1,13 @@
-//! What writers and readers of the packed encoding rules (X.691) share: the two variants of the rules, and where the
-//! form of a length changes (X.691 11.9).
+//! What writers and readers of the packed encoding rules (X.691) share: the two variants of the rules, where the form of
+//! a length changes (X.691 11.9), and where padding stands in front of units.
 #![tactic(auto)]
 
+pub mod counts;
+pub mod padding;
 pub mod variant;
 
+pub use counts::told_highest;
+pub use padding::{pads_characters, pads_string};
 pub use variant::Variant;
 
 /// How many units the smallest fragment has; others have two to four times as many (X.691 11.9.3.8).

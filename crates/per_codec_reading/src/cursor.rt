@@ -52,14 +52,14 @@ impl<'input> Cursor<'input> {
         }
     }
 
-    /// Behind so many of these bits, which are all of a message or of an open type.
+    /// Behind so many of these bits, which are all of a message or of an open type. Where there are fewer, no bit is
+    /// unread.
     #[inline(always)]
     pub fn behind(bits: BitStr<'input>, position: usize) -> Self
-        requires { position ≤ length (bits_of bits) }
         ensures { result ≡ (position, drop position (bits_of bits.entry)) }
     {
-        let _count = bits.len();
-        let (_read, unread) = bits.split_at(position);
+        let read = position.min(bits.len());
+        let (_read, unread) = bits.split_at(read);
         Cursor { position, unread }
     }
 

@@ -10,9 +10,9 @@ ghost use Rattle.per_codec_fronts.specs.Takes.{Front};
 use crate::{Cursor, Variant};
 use asn1_schema_faults::DecodeError;
 
-/// How many bits are missing to whole octets.
+/// How many bits are missing to whole octets, behind so many (X.691 11.1).
 #[inline(always)]
-fn missing(count: usize) -> usize
+pub fn missing(count: usize) -> usize
     ensures { result ≡ Numbers.missing count }
 {
     (8 - count % 8) % 8

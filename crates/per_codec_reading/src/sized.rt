@@ -17,6 +17,7 @@ use crate::sizes::{LengthDeterminant, is_admitted, read_heading};
 use crate::{Cursor, Variant};
 use asn1_schema_constraints::{Bounded, Sizes};
 use asn1_schema_faults::DecodeError;
+use per_codec_limits::{pads_characters, pads_string};
 use std::alloc::Global;
 
 /// What units make up, which tells where padding stands in front of them.
@@ -29,21 +30,14 @@ pub enum Contents {
 }
 
 /// Whether units behind a constrained number stand at an octet in the aligned variant (X.691 16.9 to 16.11, 17.6 to
-/// 17.8 and 30.5.6): none does where there are no bits, nor where there is one number alone and all have at most 16
-/// bits.
+/// 17.8, 30.5.6 and 30.5.7).
 #[inline(always)]
 fn is_padded(contents: Contents, width: u32, root: Bounded<usize>, count: usize) -> bool
     ensures { result ≡ pads_of contents width count (counts_of root) }
 {
-    let has_bits = count > 0 && width > 0;
-    let Some(highest) = root.as_end() else {
-        return has_bits;
-    };
-    let most = (*highest as u128) * (width as u128);
-    let is_padded = has_bits && (*highest != root.minimum() || most > 16);
     match contents {
-        Contents::Strings => is_padded,
-        Contents::Characters => is_padded && most >= 16,
+        Contents::Strings => pads_string(root, width, count),
+        Contents::Characters => pads_characters(root, width, count),
     }
 }
 

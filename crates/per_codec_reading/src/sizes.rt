@@ -12,9 +12,10 @@ ghost use Rattle.per_codec_reading.specs.Sizes.{admitted, determinant_form, head
 use crate::lengths::{Length, read_length};
 use crate::numbers::read_constrained;
 use crate::units::read_extension_bit;
-use crate::{Cursor, LONG_COUNT, Variant};
+use crate::{Cursor, Variant};
 use asn1_schema_constraints::{Bounded, Sizes};
 use asn1_schema_faults::DecodeError;
+use per_codec_limits::told_highest;
 
 /// The first length determinant in front of the items of a size (X.691 11.9).
 #[derive(Clone, Copy, Debug, PartialEq, Eq)]
@@ -34,21 +35,17 @@ pub struct Heading {
     pub determinant: LengthDeterminant,
 }
 
-/// The highest number of items, if it tells the form of the number: it is below 65536, and the extension
-/// bit does not tell that the number is outside the root (X.691 11.9.4.1).
+/// The highest number of items, if it tells the form of the number, and the extension bit does not tell that the number
+/// is outside the root (X.691 11.9.4.1).
 #[inline(always)]
-fn told_highest(root: Bounded<usize>, is_outside: bool) -> Option<usize>
+fn highest_inside(root: Bounded<usize>, is_outside: bool) -> Option<usize>
     ensures highest { result ≡ fronts_sizes.told_highest is_outside ((counts_of root).high) }
     ensures bound { IfSome result (λ high. high < 65536) }
 {
     if is_outside {
         return None;
     }
-    let highest = *root.as_end()?;
-    if highest >= LONG_COUNT {
-        return None;
-    }
-    Some(highest)
+    told_highest(root)
 }
 
 /// Reads a number from a lowest to a highest one (X.691 11.9.4.1).
@@ -97,7 +94,7 @@ fn read_determinant(
         (determinant_form (fronts.is_aligned variant) (counts_of root)
         (fronts_sizes.told_highest is_outside ((counts_of root).high))) cursor.old) }
 {
-    match told_highest(root, is_outside) {
+    match highest_inside(root, is_outside) {
         Some(highest) => {
             let count = read_told_count(cursor, variant, root.minimum(), highest)?;
             Ok(LengthDeterminant::Constrained(count))

@@ -8,7 +8,6 @@ use Rattle.per_codec_fronts.specs.Takes.{Place, Front}
 use Rattle.per_codec_fronts.proofs.Next.{place_same}
 use Rattle.per_codec_reading.specs.Fronts.{Leads}
 use Rattle.per_codec_reading.specs.Runs.{StandsIn}
-use Rattle.per_codec_reading_values.specs.Fields.{EndsAt}
 
 -- behind bits that stand in front
 pub behind : (w bs : List Bool) (n : ℕ) (b : Place) → Leads w (n, drop n bs) b → (n + length w, drop (n + length w) bs) ≡ b
@@ -41,16 +40,10 @@ take_at_most m n xs e = elim (cases_lt n (length xs)) [
   | inr g ↦ take_all m xs (omega arith) ∙ sym (take_all n xs g)
 ]
 
--- a reader reaches no further than to the end
-pub leads_within : (w : List Bool) (a b : Place) → Leads w a b → b.0 ≤ a.0 + length a.1
-leads_within w a b h =
-    let e = sym (length-append w b.1) ∙ ap length h.0 in
-    let k = h.1 in
-    omega (arith, e, k)
+-- what stands within as many bits as there are
+pub within_count : (bs : List Bool) (n m : ℕ) → (n ≤ m) × (m ≡ length bs) → n ≤ length bs
+within_count bs n m h = subst (λ k. n ≤ k) h.1 h.0
 
 module _ (free : Per.Freedom → Bool) where
-  pub ends_within : (x : Per.BitForm) (a : Place) (n : ℕ) → EndsAt free x a n → n ≤ a.0 + length a.1
-  ends_within x a n e = subst (λ m. m ≤ a.0 + length a.1) e.1 (leads_within e.2.text a e.0 (e.2.in_front, e.2.moved))
-
   pub leads_of : (x : Per.BitForm) (a b : Place) (f : Front free x a b) → Leads f.text a b
   leads_of x a b f = (f.in_front, f.moved)

@@ -1,5 +1,5 @@
 //! A stretch of bits, and how far it is read.
-ghost use Rattle.std.specs.Prelude.{◌≡◌, ◌≤◌, ◌+◌, ◌-◌, ◌^◌, ◌∷◌, [], length, take, drop, Some, None, IsTrue, ◌↔◌};
+ghost use Rattle.std.specs.Prelude.{◌≡◌, ◌≤◌, ◌<◌, ◌+◌, ◌-◌, ◌^◌, ◌∷◌, [], length, take, drop, Some, None, IsTrue, ◌↔◌};
 ghost use Rattle.std.specs.Prelude.{OnOk, IfOk, IfErr, IfSome, IfNone};
 ghost use Rattle.asn1_model.specs.Numbers.{octet_bits};
 ghost use Rattle.asn1_values_bits.specs.BitStr as bit_strs;
@@ -23,11 +23,12 @@ const MOST_OCTETS: usize = (1 << 60) - 1;
 #[derive(Drop)]
 pub struct Stretch<'input> {
     bits: RunBits<'input>,
+    count: usize,
     position: usize,
 }
 
 impl<'input> Model for Stretch<'input> {
-    ghost use Rattle.std.specs.Prelude.{◌≤◌, length, drop};
+    ghost use Rattle.std.specs.Prelude.{◌≡◌, ◌≤◌, length, drop};
     ghost use Rattle.per_codec_reading.specs.Runs.{bits_in, storage_of};
     ghost use Rattle.per_codec_reading_values.specs.Stretches.{Stretched};
 
@@ -38,7 +39,8 @@ impl<'input> Model for Stretch<'input> {
       storage = storage_of stretch.bits;
     } };
 
-    ghost invariant = { λ stretch. stretch.position ≤ length (bits_in stretch.bits) };
+    ghost invariant = { λ stretch. (stretch.position ≤ stretch.count)
+        × (stretch.count ≡ length (bits_in stretch.bits)) };
 }
 
 /// The bits, lent by what holds them.
@@ -171,7 +173,12 @@ impl<'input> Stretch<'input> {
     pub fn new(bits: RunBits<'input>) -> Self
         ensures { result ≡ record { place = (0, bits_in bits.entry); storage = storage_of bits.entry } }
     {
-        Stretch { bits, position: 0 }
+        let count = lent(&bits).len();
+        Stretch {
+            bits,
+            count,
+            position: 0,
+        }
     }
 
     /// Before these octets: an encoding has fewer than 2^60, and of more of them the first 2^60 - 1 alone are read.
@@ -214,13 +221,23 @@ impl<'input> Stretch<'input> {
         unread
     }
 
-    /// Goes on to a later position, which a reader reached that began at this place.
+    /// Goes on to a later position, which a reader reached that began at this place. Where the position is in front of
+    /// this place or behind the last bit, nothing changes.
     #[inline(always)]
     pub fn move_to(&mut self, position: usize)
-        requires { position ≤ self.old.place.0 + length self.old.place.1 }
         ensures place { (w : _) (b : Place) → b.0 ≡ position → Leads w self.old.place b → self.new.place ≡ b }
+        ensures before { position < self.old.place.0 → self.new.place ≡ self.old.place }
+        ensures past { self.old.place.0 + length self.old.place.1 < position → self.new.place ≡ self.old.place }
         ensures storage { self.new.storage ≡ self.old.storage }
     {
+        let reached = self.position;
+        let count = self.count;
+        if position < reached {
+            return;
+        }
+        if position > count {
+            return;
+        }
         self.position = position;
     }
 

@@ -7,6 +7,7 @@ use Rattle.asn1_model.specs.Form.{exactly, only_if, both, placed}
 use Rattle.asn1_model.specs.Per
 use Rattle.asn1_schema_faults.specs.declared.EncodeError.{EncodeError}
 use Rattle.asn1_schema_faults.specs.declared.EncodeError.TheVariants.{ValueConstraintNotSatisfied, SizeConstraintNotSatisfied, AlphabetConstraintNotSatisfied, TooLongValue, LengthExceedsPlatformSize, CallOutOfPlace, OutOfMemory, AlreadyFailed}
+use Rattle.per_codec_limits.specs.Counts.{below_long_count}
 use Rattle.per_codec_packing.specs.Texts.{Text, text_at}
 use Rattle.per_codec_packing.specs.Packed.{Packed, place, plus}
 use Rattle.per_codec_packing.proofs.Adding.{added, adds_filling, none_first}
@@ -62,16 +63,21 @@ padded_none false x q e = e
 pub count_none : (al : Bool) (low high n : ℕ) (pads : Bool) (q : Option ℕ) → text_at (Per.constrained al (high - low) (n - low)) q ≡ None → text_at (count_form al low high pads n) q ≡ None
 count_none al low high n pads q e = padded_none (pads && al) _ q e
 
-narrow_count : (al : Bool) (c : Counts) (o : Option ℕ) (pads : Bool) (n h : ℕ) (q : Option ℕ) → h ≡ unwrap_or o (2 ^ 64 - 1) → h < 65536 → sized_count al c o pads n q ≡ option_map (λ w. before_all n w) (text_at (count_form al c.low h pads n) q)
-narrow_count al c None pads n h q a b = absurd (omega arith)
-narrow_count al c (Some m) pads n h q a b = ap (λ t. cond t (option_map (λ w. before_all n w) (text_at (count_form al c.low m pads n) q)) (general al n q)) (lt-ltb m 65536 (omega (arith, a, b))) ∙ ap (λ j. option_map (λ w. before_all n w) (text_at (count_form al c.low j pads n) q)) (sym a)
+-- behind the test whether the highest number is below 65536
+narrow_cond : (b : Bool) (m h : ℕ) (f : ℕ → Option Heading) (g : Option Heading) → cond b (Some m) None ≡ Some h → cond b (f m) g ≡ f h
+narrow_cond true m h f g e = let k : m ≡ h = cc in ap f k
+narrow_cond false m h f g e = cc
 
-pub narrow_heads : (al : Bool) (c : Counts) (o : Option ℕ) (pads : Bool) (n h low : ℕ) (d : Due) (old new : Packed) → h ≡ unwrap_or o (2 ^ 64 - 1) → h < 65536 → low ≡ c.low → d ≡ record { units = n; behind = None } → Adds (text_at (count_form al low h pads n) (place old)) old new → Heads (sized_count al c o pads n (place old)) old d new
-narrow_heads al c o pads n h low d old new a b l e x =
+narrow_count : (al : Bool) (c : Counts) (o : Option ℕ) (pads : Bool) (n h : ℕ) (q : Option ℕ) → below_long_count o ≡ Some h → sized_count al c o pads n q ≡ option_map (λ w. before_all n w) (text_at (count_form al c.low h pads n) q)
+narrow_count al c None pads n h q e = cc
+narrow_count al c (Some m) pads n h q e = narrow_cond (ltb m 65536) m h (λ j. option_map (λ w. before_all n w) (text_at (count_form al c.low j pads n) q)) (general al n q) e
+
+pub narrow_heads : (al : Bool) (c : Counts) (o : Option ℕ) (pads : Bool) (n h low : ℕ) (d : Due) (old new : Packed) → below_long_count o ≡ Some h → low ≡ c.low → d ≡ record { units = n; behind = None } → Adds (text_at (count_form al low h pads n) (place old)) old new → Heads (sized_count al c o pads n (place old)) old d new
+narrow_heads al c o pads n h low d old new a l e x =
     let t = added (text_at (count_form al c.low h pads n) (place old)) old new (subst (λ j. Adds (text_at (count_form al j h pads n) (place old)) old new) l x) in
     record {
       text = t.0;
-      is = narrow_count al c o pads n h (place old) a b ∙ ap (option_map (λ w. before_all n w)) t.1 ∙ ap (λ y. Some (heading_of t.0 y)) (sym e);
+      is = narrow_count al c o pads n h (place old) a ∙ ap (option_map (λ w. before_all n w)) t.1 ∙ ap (λ y. Some (heading_of t.0 y)) (sym e);
       added = sym t.2;
     }
 
@@ -97,8 +103,8 @@ no_text u t f LengthExceedsPlatformSize h = f h
 no_text u t f CallOutOfPlace h = h
 no_text u t f AlreadyFailed h = h
 
-pub narrow_none : (al : Bool) (c : Counts) (o : Option ℕ) (pads : Bool) (n h low : ℕ) (old : Packed) → h ≡ unwrap_or o (2 ^ 64 - 1) → h < 65536 → low ≡ c.low → (e : EncodeError) → Refuses (text_at (count_form al low h pads n) (place old)) e → NoHeading (sized_count al c o pads n (place old)) e
-narrow_none al c o pads n h low old a b l e x = refused_so _ _ (λ q. narrow_count al c o pads n h (place old) a b ∙ ap (option_map (λ w. before_all n w)) q) e (subst (λ j. Refuses (text_at (count_form al j h pads n) (place old)) e) l x)
+pub narrow_none : (al : Bool) (c : Counts) (o : Option ℕ) (pads : Bool) (n h low : ℕ) (old : Packed) → below_long_count o ≡ Some h → low ≡ c.low → (e : EncodeError) → Refuses (text_at (count_form al low h pads n) (place old)) e → NoHeading (sized_count al c o pads n (place old)) e
+narrow_none al c o pads n h low old a l e x = refused_so _ _ (λ q. narrow_count al c o pads n h (place old) a ∙ ap (option_map (λ w. before_all n w)) q) e (subst (λ j. Refuses (text_at (count_form al j h pads n) (place old)) e) l x)
 
 -- an error that is handed on
 pub raised_on : {T E : Type 0} (P : T → Type 0) (Q : E → Type 0) (x : E) (r : Result T E) → IsErr r → IsErrAnd r (λ y. y ≡ x) → Q x → MatchResult r P Q

@@ -1,7 +1,6 @@
 pub mod Writing
 pub mod Units
 pub mod Headings
-pub mod Padding
 pub mod Members
 pub mod Keys
 pub mod Places

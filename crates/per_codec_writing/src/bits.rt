@@ -10,11 +10,11 @@ ghost use Rattle.per_codec_packing.specs.Texts.{text_at};
 ghost use Rattle.per_codec_writing.specs.Writing.{Adds, Refuses, place};
 ghost use Rattle.per_codec_limits.specs.Variants.{is_aligned};
 
-use crate::{pads_string, push_sized};
+use crate::push_sized;
 use asn1_schema_constraints::{Bounded, Constraints};
 use asn1_schema_faults::EncodeError;
 use asn1_values_bits::BitStr;
-use per_codec_limits::Variant;
+use per_codec_limits::{Variant, pads_string};
 use per_codec_packing::Packing;
 
 /// Adds a BIT STRING (X.691 16), of which the program's type holds as many bits as `held` tells.
@@ -37,7 +37,7 @@ pub fn push_bit_string(
         (bit_list (bits_of value.entry))) (place output.old))) }
 {
     let sizes = constraints.sizes();
-    let pads = pads_string(sizes, 1, value.len());
+    let pads = pads_string(sizes.root, 1, value.len());
     push_sized(output, variant, sizes, held, pads, &value)?;
     Ok(())
 }

@@ -12,12 +12,12 @@ ghost use Rattle.per_codec_writing.specs.Writing.{Adds, Refuses, place};
 ghost use Rattle.per_codec_limits.specs.Variants.{is_aligned};
 
 use crate::character_units::CharacterUnits;
-use crate::{pads_characters, push_counted, push_sized};
+use crate::{push_counted, push_sized};
 use asn1_schema_constraints::{Bounded, Constraints};
 use asn1_schema_faults::EncodeError;
 use asn1_values_alphabets::StaticPermittedAlphabet;
 use per_codec_alphabets::{EffectiveAlphabet, is_of_octets};
-use per_codec_limits::Variant;
+use per_codec_limits::{Variant, pads_characters};
 use per_codec_packing::Packing;
 use std::alloc::Global;
 
@@ -70,7 +70,7 @@ fn push_codes<S: StaticPermittedAlphabet>(
         return Err(EncodeError::AlphabetConstraintNotSatisfied);
     }
     let sizes = constraints.sizes();
-    let pads = pads_characters(sizes, alphabet.width() as usize, value.char_count());
+    let pads = pads_characters(sizes.root, alphabet.width(), value.char_count());
     push_sized(output, variant, sizes, Bounded::None, pads, &units)?;
     Ok(())
 }

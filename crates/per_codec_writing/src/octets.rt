@@ -9,10 +9,10 @@ ghost use Rattle.per_codec_packing.specs.Texts.{text_at};
 ghost use Rattle.per_codec_writing.specs.Writing.{Adds, Refuses, place};
 ghost use Rattle.per_codec_limits.specs.Variants.{is_aligned};
 
-use crate::{pads_string, push_sized};
+use crate::push_sized;
 use asn1_schema_constraints::{Bounded, Constraints};
 use asn1_schema_faults::EncodeError;
-use per_codec_limits::Variant;
+use per_codec_limits::{Variant, pads_string};
 use per_codec_packing::Packing;
 
 /// Adds an OCTET STRING (X.691 17), of which the program's type holds as many octets as `held` tells.
@@ -35,7 +35,7 @@ pub fn push_octet_string(
         (octet_list value.now)) (place output.old))) }
 {
     let sizes = constraints.sizes();
-    let pads = pads_string(sizes, 8, value.len());
+    let pads = pads_string(sizes.root, 8, value.len());
     let octets = value;
     push_sized(output, variant, sizes, held, pads, &octets)?;
     Ok(())

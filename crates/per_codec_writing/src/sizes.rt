@@ -13,7 +13,7 @@ use crate::lengths::push_length_determinant;
 use crate::{Due, align, push_constrained};
 use asn1_schema_constraints::{Bounded, Sizes};
 use asn1_schema_faults::EncodeError;
-use per_codec_limits::{LONG_COUNT, Variant};
+use per_codec_limits::{Variant, told_highest};
 use per_codec_packing::Packing;
 
 /// Adds a number of units, one of `low` to `high`, and padding behind it if `pads` tells so (X.691 11.9.4.1).
@@ -54,11 +54,10 @@ fn push_root_count(
         (NoHeading (sized_count (is_aligned variant) (counts_of root) (upper root) pads count (place output.old))) }
     ensures due { IfOk result (λ due. IsDue count due) }
 {
-    let high = root.as_end().copied().unwrap_or(usize::MAX);
-    if high >= LONG_COUNT {
+    let Some(high) = told_highest(root) else {
         let due = push_length_determinant(output, variant, count)?;
         return Ok(due);
-    }
+    };
     push_number(output, variant, root.minimum(), high, pads, count)?;
     Ok(Due {
         units: count,

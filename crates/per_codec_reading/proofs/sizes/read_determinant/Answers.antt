@@ -18,7 +18,7 @@ returns-in_err-count-in-Some-clause-only c =
     let al = is_aligned c.args.variant in
     let root = counts_of c.args.root in
     let a = c.args.cursor.now in
-    let e = sym c.in-Some.is ∙ c.told_highest.ensures.highest in
+    let e = sym c.in-Some.is ∙ c.highest_inside.ensures.highest in
     let low = c.minimum.result in
     let high = c.in-Some.highest in
     rw (p.1, p.2) (misses_also f (told_count al low high) (determinant_form al root (told_highest c.args.is_outside root.high)) a a _ (λ n. subst (λ t. NoneStands f (determinant_form al root t) a) e (no_told f al root high a (subst (λ l. NoneStands f (told_count al l high) a) c.minimum.ensures n))) c.in_err-count-in-Some.ensures.only)
@@ -30,7 +30,7 @@ returns-in_err-length-in-None-clause-only c =
     let al = is_aligned c.args.variant in
     let root = counts_of c.args.root in
     let a = c.args.cursor.now in
-    let e = sym c.in-None.is ∙ c.told_highest.ensures.highest in
+    let e = sym c.in-None.is ∙ c.highest_inside.ensures.highest in
     rw (p.1, p.2) (misses_also f (length_form al) (determinant_form al root (told_highest c.args.is_outside root.high)) a a _ (λ n. subst (λ t. NoneStands f (determinant_form al root t) a) e (no_general f al root a n)) c.in_err-length-in-None.ensures.only)
 
 pub returns-in_ok-count-in-Some-clause-ok : goal.returns-in_ok-count-in-Some-clause-ok
@@ -42,7 +42,7 @@ returns-in_ok-count-in-Some-clause-ok c =
     let b = c.read_told_count.new.cursor in
     let n = c.in_ok-count-in-Some.count in
     let high = c.in-Some.highest in
-    let e = sym c.in-Some.is ∙ c.told_highest.ensures.highest in
+    let e = sym c.in-Some.is ∙ c.highest_inside.ensures.highest in
     subst (λ t. Front f (determinant_form al root t (Constrained n)) a b) e (subst (λ l. Front f (told_count al l high n) a b) c.minimum.ensures c.in_ok-count-in-Some.ensures.ok)
 
 pub returns-in_ok-length-in-None-clause-ok : goal.returns-in_ok-length-in-None-clause-ok
@@ -50,5 +50,5 @@ returns-in_ok-length-in-None-clause-ok c =
     let f = freedoms c.args.variant in
     let al = is_aligned c.args.variant in
     let root = counts_of c.args.root in
-    let e = sym c.in-None.is ∙ c.told_highest.ensures.highest in
+    let e = sym c.in-None.is ∙ c.highest_inside.ensures.highest in
     subst (λ t. Front f (determinant_form al root t (General c.in_ok-length-in-None.length)) c.args.cursor.now c.read_length.new.cursor) e c.in_ok-length-in-None.ensures.ok

@@ -1,4 +1,4 @@
-use Rattle.std.proofs.Common.{◌-◌, ◌^◌, unwrap_or, refl, ap, arith, ◌∙◌}
+use Rattle.std.proofs.Common.{sym, refl, ◌∙◌}
 use Rattle.asn1_schema_constraints.specs.Bounds.{counts_of, upper}
 use Rattle.per_codec_writing.proofs.HeadingTexts.{narrow_heads, narrow_none, raised_on}
 use Rattle.per_codec_limits.specs.Variants.{is_aligned}
@@ -6,11 +6,8 @@ use Rattle.per_codec_writing.proofs.sizes.push_root_count.Goals as goal
 
 pub returns-in_err-push_number-clause-heads : goal.returns-in_err-push_number-clause-heads
 returns-in_err-push_number-clause-heads c =
-    let high = c.unwrap_or-high.ensures ∙ ap (λ o. unwrap_or o (2 ^ 64 - 1)) (c.copied.ensures ∙ c.as_end.ensures) in
     let e = c.from_residual-in_err-push_number in
-    raised_on _ _ _ e.result e.ensures.0 e.ensures.1 (narrow_none (is_aligned c.args.variant) (counts_of c.args.root) (upper c.args.root) c.args.pads c.args.count c.unwrap_or-high.result c.minimum.result c.args.output.now high (omega arith) c.minimum.ensures _ c.in_err-push_number.ensures)
+    raised_on _ _ _ e.result e.ensures.0 e.ensures.1 (narrow_none (is_aligned c.args.variant) (counts_of c.args.root) (upper c.args.root) c.args.pads c.args.count c.in-Some.high c.minimum.result c.args.output.now (sym c.told_highest.ensures.highest ∙ c.in-Some.is) c.minimum.ensures _ c.in_err-push_number.ensures)
 
 pub returns-clause-heads : goal.returns-clause-heads
-returns-clause-heads c =
-    let high = c.unwrap_or-high.ensures ∙ ap (λ o. unwrap_or o (2 ^ 64 - 1)) (c.copied.ensures ∙ c.as_end.ensures) in
-    narrow_heads (is_aligned c.args.variant) (counts_of c.args.root) (upper c.args.root) c.args.pads c.args.count c.unwrap_or-high.result c.minimum.result _ c.args.output.now c.push_number.new.output high (omega arith) c.minimum.ensures refl c.in_ok-push_number.ensures
+returns-clause-heads c = narrow_heads (is_aligned c.args.variant) (counts_of c.args.root) (upper c.args.root) c.args.pads c.args.count c.in-Some.high c.minimum.result _ c.args.output.now c.push_number.new.output (sym c.told_highest.ensures.highest ∙ c.in-Some.is) c.minimum.ensures refl c.in_ok-push_number.ensures

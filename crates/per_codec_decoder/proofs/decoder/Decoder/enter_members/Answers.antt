@@ -5,7 +5,7 @@ use Rattle.asn1_schema_constraints.specs.Terms.{size_of}
 use Rattle.per_codec_reading.specs.Fronts.{freedoms, is_aligned}
 use Rattle.per_codec_decoder.specs.Held.{Held}
 use Rattle.per_codec_decoder.specs.Members.{Due, HasMembers}
-use Rattle.per_codec_decoder.proofs.Settling.{reached_members, members_settle, ok_of}
+use Rattle.per_codec_decoder.proofs.Settling.{members_settle, ok_of}
 use Rattle.per_codec_decoder.proofs.decoder.Decoder.enter_members.Goals as goal
 
 pub returns-in_err-begin_record-clause-only : goal.returns-in_err-begin_record-clause-only
@@ -13,6 +13,3 @@ returns-in_err-begin_record-clause-only c = raised _ _ _ c.from_residual.ensures
 
 pub returns-clause-ok : goal.returns-clause-ok
 returns-clause-ok c = members_settle c.enter.result _ c.begin_record.new.self c.settle.new.self c.enter.new.self (size_of c.args.sizes) (members_of c.args.held) c.in_ok-members.members.due c.in_ok-members.members.tally c.cursor-cursor.result c.read_members-answer.new.cursor c.position-position.result c.in_ok-begin_record.ensures.ok.1 c.in_ok-begin_record.ensures.ok.0 (c.cursor-cursor.ensures ∙ ap (λ (h : Held). h.place) c.self.view_is) c.position-position.ensures (subst (λ (h : Held). HasMembers (is_aligned h.variant) (freedoms h.variant) (size_of c.args.sizes) (members_of c.args.held) c.in_ok-members.members.due c.in_ok-members.members.tally c.cursor-cursor.result c.read_members-answer.new.cursor) c.self.view_is (ok_of (λ (p : Due). HasMembers (is_aligned c.self.inside.variant) (freedoms c.self.inside.variant) (size_of c.args.sizes) (members_of c.args.held) p.due p.tally c.cursor-cursor.result c.read_members-answer.new.cursor) c.read_members-answer.result c.in_ok-members.members c.in_ok-members.ensures.same c.read_members-answer.ensures.ok)) c.in_ok-members.ensures.moved c.enter.ensures.levels c.enter.ensures.scopes
-
-pub settle-requires : goal.settle-requires
-settle-requires c = reached_members c.read_members-answer.result (freedoms c.self.inside.variant) (is_aligned c.self.inside.variant) (size_of c.args.sizes) (members_of c.args.held) c.cursor-cursor.result c.read_members-answer.new.cursor _ c.position-position.result (c.cursor-cursor.ensures ∙ ap (λ (h : Held). h.place) c.self.view_is) c.position-position.ensures c.read_members-answer.ensures.ok

@@ -2,7 +2,7 @@ use Rattle.std.proofs.Common.{◌∙◌, ap}
 use Rattle.per_codec_decoder.specs.Held.{Held}
 use Rattle.per_codec_fronts.specs.Takes.{completion}
 use Rattle.per_codec_reading.specs.Fronts.{freedoms}
-use Rattle.per_codec_decoder.proofs.Settling.{reached_end, finished, finished_there, unless, unfinished_at}
+use Rattle.per_codec_decoder.proofs.Settling.{finished, finished_there, unless, unfinished_at}
 use Rattle.per_codec_decoder.proofs.Opening.{filling_is_free}
 use Rattle.per_codec_decoder.proofs.decoder.Decoder.finish.Goals as goal
 
@@ -14,6 +14,3 @@ returns-clause-rest c = finished_there c.read_completion-answer.result c.settle.
 
 pub returns-clause-only : goal.returns-clause-only
 returns-clause-only c = unless c.read_completion-answer.result c.settle.result _ _ c.settle.ensures.same c.read_completion-answer.ensures.only (λ e none ready b. unfinished_at _ _ c.cursor-cursor.result (c.self.view_is ∙ c.in_ok-begin_record.ensures.ok.1) c.cursor-cursor.ensures none ready b)
-
-pub settle-requires : goal.settle-requires
-settle-requires c = reached_end c.read_completion-answer.result (freedoms c.self.inside.variant) (completion c.cursor-cursor.result.0) c.cursor-cursor.result c.read_completion-answer.new.cursor _ c.position-position.result (c.cursor-cursor.ensures ∙ ap (λ (h : Held). h.place) c.self.view_is) c.position-position.ensures (filling_is_free c.self.inside.variant) c.read_completion-answer.ensures.ok
