@@ -33,6 +33,11 @@ NamesNoEarlierRefusal (NotAnEncoding Decoding.AlreadyFailed) = ⊥
 NamesNoEarlierRefusal (NoTarget Encoding.AlreadyFailed) = ⊥
 NamesNoEarlierRefusal f = Unit {0}
 
+-- Codecs refuse no call of their own: a call out of its place stands within no fault.
+abbrev pub NamesNoMisplacedCall : RecodeFault → Type 0
+NamesNoMisplacedCall (NoTarget Encoding.CallOutOfPlace) = ⊥
+NamesNoMisplacedCall f = Unit {0}
+
 -- ---- faults
 
 -- The faults of a translation that these are.

@@ -103,6 +103,11 @@ NamesNoEarlierRefusal (Read Decoding.AlreadyFailed) = ⊥
 NamesNoEarlierRefusal (NoTarget Encoding.AlreadyFailed) = ⊥
 NamesNoEarlierRefusal k = Unit {0}
 
+-- A call out of its place stands within no kind.
+abbrev pub NamesNoMisplacedCall : RouteFaultKind → Type 0
+NamesNoMisplacedCall (NoTarget Encoding.CallOutOfPlace) = ⊥
+NamesNoMisplacedCall k = Unit {0}
+
 -- The kind of the fault of a hop whose translation failed.
 abbrev pub kind_of_fault : RecodeFault → RouteFaultKind
 kind_of_fault (recoding.NotAnEncoding e) = Read e

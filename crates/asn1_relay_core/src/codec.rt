@@ -46,6 +46,7 @@ impl Codec {
             (λ octets. IsWritten (rules_of self) T.schema (T.meaning value.now) (Some octets.items)) }
         ensures only { IfErr result (NotWritten (rules_of self) T.schema (T.meaning value.now)) }
         ensures fresh { IfErr result (λ e. e ≡ EncodeError.AlreadyFailed → ⊥) }
+        ensures in_place { IfErr result (λ e. e ≡ EncodeError.CallOutOfPlace → ⊥) }
     {
         let octets = match self {
             Codec::Uper => uper::encode(alloc, value)?,

@@ -1,6 +1,6 @@
 //! Readers and writers of memory, one of whose calls may be made to fail.
-ghost use Rattle.std.specs.Prelude.{◌≡◌, ◌↔◌, ◌+◌, ◌<◌, ◌≤◌, Some, None, IfOk, IsErr, OnErr, OnOk, [], if◌then◌else◌};
-ghost use Rattle.std.specs.Prelude.{length, min, true};
+ghost use Rattle.std.specs.Prelude.{◌≡◌, ◌↔◌, ◌+◌, ◌++◌, ◌<◌, ◌≤◌, Some, None, IfOk, IsErr, OnErr, OnOk, []};
+ghost use Rattle.std.specs.Prelude.{if◌then◌else◌, length, min, true};
 ghost use Rattle.std.specs.Io.KnownBytes.{Appends, Keeps, ReadConsumes};
 ghost use Rattle.asn1_relay_core.specs.Ends.{BeginsToAppend, counted};
 ghost use Rattle.asn1_relay_core.specs.Memory.{no_lender, one_call_on};
@@ -129,6 +129,7 @@ impl Sink for MemorySink {
         ensures fails { self.old.fails_in ≡ Some 0 → IsErr result }
         ensures goes_on { self.new.fails_in ≡ one_call_on self.old.fails_in }
         ensures none { OnErr result (self.new.taken ≡ self.old.taken) }
+        ensures takes { OnOk result (self.new.taken ≡ self.old.taken ++ octets.now) }
         ensures all { OnOk result (Appends (Some self.old.taken) (Some self.new.taken) octets.now) }
         ensures begins { OnErr result (BeginsToAppend (Some self.old.taken) (Some self.new.taken) octets.now) }
         ensures counts { self.new.failed ≡ counted result self.old.failed }

@@ -5,6 +5,8 @@ use Rattle.asn1_model.specs.Value.{Value, Parts, fields}
 use Rattle.asn1_schema_presented.specs.Records.{Record, Question, sequence_begins, set_begins, asks_sequence, asks_set}
 use Rattle.asn1_schema_presented.specs.Tables.{Table, IsType, IsValue, presence_bits}
 use Rattle.asn1_schema_constructed.specs.Constructed.{Form, sequence_form, set_form, constructed_type, sequence_tags}
+use Rattle.asn1_schema_tags.specs.declared.tags.Class.TheVariants.{Universal}
+use Rattle.asn1_schema_tags.specs.declared.tags.Tag.{Tag as OwnTag}
 use Rattle.asn1_schema_authored.specs.declared.composites.Heading.{Heading}
 
 -- Whether the components make a SET.
@@ -16,6 +18,17 @@ is_set set_form = true
 abbrev pub form_tags : Form → List Tag
 form_tags sequence_form = sequence_tags
 form_tags set_form = record { class = 0; number = 17 } ∷ []
+
+-- The same as the program has it.
+abbrev pub sequence_tag : OwnTag
+sequence_tag = record { class = Universal; value = 16 }
+
+abbrev pub set_tag : OwnTag
+set_tag = record { class = Universal; value = 17 }
+
+abbrev pub form_tag : Form → OwnTag
+form_tag sequence_form = sequence_tag
+form_tag set_form = set_tag
 
 -- SEQUENCE or SET, its components, and what a value has of them: the type is lawful, and each value is one of it.
 pub record Shape (A : Type 0) : Type 0 where

@@ -4,8 +4,8 @@ ghost use Rattle.asn1_schema_constraints.specs.Terms.{no_constraint};
 ghost use Rattle.asn1_schema_decode.specs.Reads.{NoLevel, ReadsTail, UnreadTail};
 ghost use Rattle.asn1_schema_encode.specs.Writes.{CannotWriteTail, Refused, WritesTail};
 ghost use Rattle.asn1_schema_tags.specs.Tags.{tag_of};
-ghost use Rattle.asn1_schema_authored.specs.Shapes.{IsHeading, Shape, asks, begins, form_of, form_tags, shape_type};
-ghost use Rattle.asn1_schema_authored.specs.Shapes.{shape_value};
+ghost use Rattle.asn1_schema_authored.specs.Shapes.{IsHeading, Shape, asks, begins, form_of, form_tag, form_tags};
+ghost use Rattle.asn1_schema_authored.specs.Shapes.{shape_type, shape_value};
 ghost use Rattle.asn1_schema_constructed.specs.Constructed.{AreAdditions, AreFields};
 
 use asn1_schema_constraints::Constraints;
@@ -72,8 +72,13 @@ impl Heading {
 
 /// A struct of a program's own whose fields are the components of a SEQUENCE or SET (X.680 25 and 27).
 pub trait Components: Drop {
-    /// The tag of the type.
-    const TAG: Tag = Tag::SEQUENCE;
+    ghost use Rattle.asn1_schema_tags.specs.declared.tags.Tag.{Tag};
+
+    /// The tag of the type, as `sequence_tag` or `set_tag`.
+    ghost TAG: { Tag };
+
+    /// The tag of the type: `Tag::SEQUENCE` or `Tag::SET`.
+    const TAG: Tag;
 
     /// The name of the type, where it has one.
     const IDENTIFIER: Identifier = Identifier::EMPTY;
@@ -81,9 +86,10 @@ pub trait Components: Drop {
     /// The type, and what its values mean.
     ghost shape: { Shape Self };
 
-    /// What stands in front of the components.
+    /// What stands in front of the components. It tells the same type as `TAG`: SEQUENCE or SET.
     fn heading() -> Heading
-        ensures { IsHeading result shape.form shape.table };
+        ensures heading { IsHeading result shape.form shape.table }
+        ensures tag { TAG ≡ form_tag shape.form };
 
     /// Writes the components in their order, and the end.
     fn write_components<E: Encoder>(&self, encoder: &mut E) -> Result<(), EncodeError>

@@ -1,8 +1,8 @@
 -- What a table of fields tells of the components of a type.
-use Rattle.std.specs.Prelude.{◌≡◌, ℕ, true, false, List, [], ◌∷◌, Option, Some, None}
+use Rattle.std.specs.Prelude.{◌≡◌, ℕ, suc, true, false, List, [], ◌∷◌, Option, Some, None}
 use Rattle.asn1_model.specs.Schema.{Tag, Presence, required, optional, by_default, Schema, set}
 use Rattle.asn1_model.specs.Value.{Value, Parts, fields}
-use Rattle.asn1_schema_tags.specs.Trees.{leaves}
+use Rattle.asn1_schema_tags.specs.Trees.{leaves, own_tag}
 use Rattle.asn1_schema_constructed.specs.declared.tables.FieldPresence.{FieldPresence}
 use Rattle.asn1_schema_constructed.specs.declared.tables.FieldPresence.TheVariants.{Required, Optional, Default}
 use Rattle.asn1_schema_constructed.specs.declared.tables.Field.{Field}
@@ -16,11 +16,17 @@ presence_of required = Required
 presence_of optional = Optional
 presence_of (by_default v) = Default
 
--- The fields are these components, in this order, each with its tags and its presence (X.680 25).
+-- The fields are these components from a place on, in their order, each with its place, its own tag, the tags with
+-- which it may begin, and its presence (X.680 25).
+abbrev pub AreFieldsFrom : ℕ → List Field → Components → Type 0
+AreFieldsFrom i [] no_field = Unit {0}
+AreFieldsFrom i (f ∷ fs) (field t o s rest) = (f.index ≡ i) × (f.tag ≡ own_tag f.tag_tree) × (leaves f.tag_tree ≡ t)
+    × (f.presence ≡ presence_of o) × AreFieldsFrom (suc i) fs rest
+AreFieldsFrom i fs rest = ⊥
+
+-- The same of all of a table's: places are counted from 0 on.
 abbrev pub AreFields : List Field → Components → Type 0
-AreFields [] no_field = Unit {0}
-AreFields (f ∷ fs) (field t o s rest) = (leaves f.tag_tree ≡ t) × (f.presence ≡ presence_of o) × AreFields fs rest
-AreFields fs rest = ⊥
+AreFields fs cs = AreFieldsFrom 0 fs cs
 
 -- The fields of the additions: none where there is no extension marker, and else those behind it (X.680 25).
 abbrev pub AreAdditions : Option Fields → Table → Type 0

@@ -34,7 +34,12 @@ pub trait DecodeChoice: Choice + Drop {
         ensures already { D.has_failed decoder.old → result ≡ Err DecodeError.AlreadyFailed }
         ensures after { result ≡ Err DecodeError.AlreadyFailed → D.has_failed decoder.old };
 
-    /// Reads the value of the alternative of a tag. A tag that no alternative has is `InvalidTagVariantOnChoice`.
+    /// Reads the value of the alternative of a tag.
+    ///
+    /// # Errors
+    ///
+    /// `InvalidTagVariantOnChoice` for a tag that no alternative has, of a decoder that has failed too: the tag is
+    /// looked up first. Else those of `from_chosen`.
     final fn from_tag<D: Decoder>(
         alloc: Global,
         decoder: &mut D,

@@ -35,13 +35,13 @@ impl FieldPresence {
     }
 }
 
-/// A field of a sequence or set: its number in the declared order, its tag, the tags with which it may
-/// begin, whether it may be absent, and its name.
+/// A field of a sequence or set: its place in the table, its tag, the tags with which it may begin, whether it may be
+/// absent, and its name.
 #[derive(Clone, Copy, Debug, PartialEq, Eq)]
 pub struct Field<'a> {
-    /// Its number in the declared order.
+    /// Its place in its table, which is that of the root or that of the additions, counted from 0 on.
     pub index: usize,
-    /// Its own tag.
+    /// Its own tag: that of its tree's leaf, and `Tag::CHOICE` where it may begin with several.
     pub tag: Tag,
     /// The tags with which it may begin.
     pub tag_tree: TagTree<'a>,

@@ -46,9 +46,14 @@ pub trait ReadOctets: Drop {
     fn octets(&self) -> &[u8]
         ensures { result.now ≡ items self.now };
 
-    /// The octets as a vector. Only lent octets are copied.
+    /// The octets as a vector. Only lent octets are copied: others are handed on, which takes no memory.
+    ///
+    /// # Errors
+    ///
+    /// Want of memory, where the octets are lent.
     fn into_vec(self, alloc: Global) -> Result<Vec<u8>, AllocError>
-        ensures { IfOk result (λ v. v.items ≡ items self) };
+        ensures octets { IfOk result (λ v. v.items ≡ items self) }
+        ensures lent { OnErr result (is_lent self) };
 }
 
 impl ReadOctets for Vec<u8> {
@@ -89,7 +94,10 @@ impl<'a> ReadOctets for CowSlice<'a, u8> {
     }
 
     fn into_vec(self, alloc: Global) -> Result<Vec<u8>, AllocError> {
-        self.into_owned(alloc)
+        match self {
+            CowSlice::Borrowed(octets) => Vec::from_slice(alloc, octets),
+            CowSlice::Owned(octets) => Ok(octets),
+        }
     }
 }
 

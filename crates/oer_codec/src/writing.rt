@@ -39,14 +39,18 @@ fn within_limit(octets: Vec<u8>) -> Result<Vec<u8>, EncodeError>
 }
 
 /// How a refusal of the value's type is passed on. That an encoding is too long is found by `within_limit` alone; a
-/// type that says so itself refuses its value, and is taken to refuse a length.
+/// type that says so itself, or that makes a call out of its place, refuses its value, and is taken to refuse a length.
 fn refusal(error: EncodeError) -> EncodeError
     ensures length { error ≡ EncodeError.TooLongValue → result ≡ EncodeError.SizeConstraintNotSatisfied }
-    ensures others { ¬ (error ≡ EncodeError.TooLongValue) → result ≡ error }
+    ensures place { error ≡ EncodeError.CallOutOfPlace → result ≡ EncodeError.SizeConstraintNotSatisfied }
+    ensures others { ¬ (error ≡ EncodeError.TooLongValue) → ¬ (error ≡ EncodeError.CallOutOfPlace) → result ≡ error }
     ensures fresh { result ≡ EncodeError.AlreadyFailed → error ≡ EncodeError.AlreadyFailed }
+    ensures in_place { ¬ (result ≡ EncodeError.CallOutOfPlace) }
 {
     match error {
-        EncodeError::TooLongValue => EncodeError::SizeConstraintNotSatisfied,
+        EncodeError::TooLongValue | EncodeError::CallOutOfPlace => {
+            EncodeError::SizeConstraintNotSatisfied
+        }
         error => error,
     }
 }
@@ -56,12 +60,13 @@ fn refusal(error: EncodeError) -> EncodeError
 /// # Errors
 ///
 /// `TooLongValue` for an encoding of 2 to 60 octets or more and for nothing else, `OutOfMemory`, and those of the
-/// value's type, where the
-/// value has no encoding of any length; a `TooLongValue` of the type's own comes as `SizeConstraintNotSatisfied`.
+/// value's type, where the value has no encoding of any length; a `TooLongValue` or `CallOutOfPlace` of the type's own
+/// comes as `SizeConstraintNotSatisfied`.
 pub fn encode<T: Encode>(alloc: Global, value: &T) -> Result<Vec<u8>, EncodeError>
     ensures ok { IfOk result (λ octets. IsEncoded T.schema (T.meaning value.now) octets.items) }
     ensures only { IfErr result (NotEncoded T.schema (T.meaning value.now)) }
     ensures fresh { IfErr result (λ e. e ≡ EncodeError.AlreadyFailed → ⊥) }
+    ensures in_place { IfErr result (λ e. e ≡ EncodeError.CallOutOfPlace → ⊥) }
 {
     encode_into(alloc, value, Vec::new(alloc))
 }
@@ -71,6 +76,7 @@ fn encode_into<T: Encode>(alloc: Global, value: &T, room: Vec<u8>) -> Result<Vec
     ensures ok { IfOk result (λ octets. IsEncoded T.schema (T.meaning value.now) octets.items) }
     ensures only { IfErr result (NotEncoded T.schema (T.meaning value.now)) }
     ensures fresh { IfErr result (λ e. e ≡ EncodeError.AlreadyFailed → ⊥) }
+    ensures in_place { IfErr result (λ e. e ≡ EncodeError.CallOutOfPlace → ⊥) }
 {
     let mut output = with_room(room)?;
     let mut worker = Vec::new(alloc);
@@ -96,6 +102,7 @@ pub fn encode_with_constraints<T: Encode>(
         (λ octets. IsEncoded (T.under (meant constraints.entry)) (T.meaning value.now) octets.items) }
     ensures only { IfErr result (NotEncoded (T.under (meant constraints.entry)) (T.meaning value.now)) }
     ensures fresh { IfErr result (λ e. e ≡ EncodeError.AlreadyFailed → ⊥) }
+    ensures in_place { IfErr result (λ e. e ≡ EncodeError.CallOutOfPlace → ⊥) }
 {
     let mut output = with_room(Vec::new(alloc))?;
     let mut worker = Vec::new(alloc);
@@ -123,6 +130,7 @@ pub fn encode_buf<T: Encode>(
         × IsEncoded T.schema (T.meaning value.now) octets × (buffer.new.items ≡ buffer.old.items ++ octets)) }
     ensures only { IfErr result (NotEncoded T.schema (T.meaning value.now)) }
     ensures fresh { IfErr result (λ e. e ≡ EncodeError.AlreadyFailed → ⊥) }
+    ensures in_place { IfErr result (λ e. e ≡ EncodeError.CallOutOfPlace → ⊥) }
     ensures same { OnErr result (buffer.new.items ≡ buffer.old.items) }
 {
     if buffer.is_empty() {

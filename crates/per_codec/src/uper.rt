@@ -26,6 +26,7 @@ pub fn encode<T: Encode>(alloc: Global, value: &T) -> Result<Vec<u8>, EncodeErro
     ensures ok { IfOk result (λ octets. IsEncoded false T.schema (T.meaning value.now) octets.items) }
     ensures only { IfErr result (NotEncoded false T.schema (T.meaning value.now)) }
     ensures fresh { IfErr result (λ e. e ≡ EncodeError.AlreadyFailed → ⊥) }
+    ensures in_place { IfErr result (λ e. e ≡ EncodeError.CallOutOfPlace → ⊥) }
 {
     let octets = crate::writing::encode(alloc, EncoderOptions::unaligned(), value)?;
     Ok(octets)
@@ -44,6 +45,7 @@ pub fn encode_buf<T: Encode>(
     ensures ok { OnOk result (IsEncoded false T.schema (T.meaning value.now) buffer.new.items) }
     ensures only { IfErr result (NotEncoded false T.schema (T.meaning value.now)) }
     ensures fresh { IfErr result (λ e. e ≡ EncodeError.AlreadyFailed → ⊥) }
+    ensures in_place { IfErr result (λ e. e ≡ EncodeError.CallOutOfPlace → ⊥) }
     ensures empty { OnErr result (buffer.new.items ≡ []) }
 {
     crate::writing::encode_buf(alloc, EncoderOptions::unaligned(), value, buffer)?;
@@ -64,6 +66,7 @@ pub fn encode_with_constraints<T: Encode>(
         (λ octets. IsEncoded false (T.under (meant constraints.entry)) (T.meaning value.now) octets.items) }
     ensures only { IfErr result (NotEncoded false (T.under (meant constraints.entry)) (T.meaning value.now)) }
     ensures fresh { IfErr result (λ e. e ≡ EncodeError.AlreadyFailed → ⊥) }
+    ensures in_place { IfErr result (λ e. e ≡ EncodeError.CallOutOfPlace → ⊥) }
 {
     let options = EncoderOptions::unaligned();
     let octets = crate::writing::encode_with_constraints(alloc, options, constraints, value)?;

@@ -38,14 +38,18 @@ fn within_limit(octets: Vec<u8>) -> Result<Vec<u8>, EncodeError>
 }
 
 /// How a refusal of the value's type is passed on. That an encoding is too long is found by `within_limit` alone; a
-/// type that says so itself refuses its value, and is taken to refuse a length.
+/// type that says so itself, or that makes a call out of its place, refuses its value, and is taken to refuse a length.
 fn refusal(error: EncodeError) -> EncodeError
     ensures length { error ≡ EncodeError.TooLongValue → result ≡ EncodeError.SizeConstraintNotSatisfied }
-    ensures others { ¬ (error ≡ EncodeError.TooLongValue) → result ≡ error }
+    ensures place { error ≡ EncodeError.CallOutOfPlace → result ≡ EncodeError.SizeConstraintNotSatisfied }
+    ensures others { ¬ (error ≡ EncodeError.TooLongValue) → ¬ (error ≡ EncodeError.CallOutOfPlace) → result ≡ error }
     ensures fresh { ¬ (error ≡ EncodeError.AlreadyFailed) → ¬ (result ≡ EncodeError.AlreadyFailed) }
+    ensures in_place { ¬ (result ≡ EncodeError.CallOutOfPlace) }
 {
     match error {
-        EncodeError::TooLongValue => EncodeError::SizeConstraintNotSatisfied,
+        EncodeError::TooLongValue | EncodeError::CallOutOfPlace => {
+            EncodeError::SizeConstraintNotSatisfied
+        }
         error => error,
     }
 }
@@ -55,8 +59,8 @@ fn refusal(error: EncodeError) -> EncodeError
 /// # Errors
 ///
 /// `TooLongValue` for an encoding of 2 to 60 octets or more and for nothing else, `OutOfMemory`, and those of the
-/// value's type, where the value has no encoding of any length; a `TooLongValue` of the type's own comes as
-/// `SizeConstraintNotSatisfied`.
+/// value's type, where the value has no encoding of any length; a `TooLongValue` or `CallOutOfPlace` of the type's own
+/// comes as `SizeConstraintNotSatisfied`.
 pub fn encode<T: Encode>(
     alloc: Global,
     options: EncoderOptions,
@@ -65,6 +69,7 @@ pub fn encode<T: Encode>(
     ensures ok { IfOk result (λ octets. IsEncoded (is_aligned options) T.schema (T.meaning value.now) octets.items) }
     ensures only { IfErr result (NotEncoded (is_aligned options) T.schema (T.meaning value.now)) }
     ensures fresh { IfErr result (λ e. e ≡ EncodeError.AlreadyFailed → ⊥) }
+    ensures in_place { IfErr result (λ e. e ≡ EncodeError.CallOutOfPlace → ⊥) }
 {
     let room = with_room(alloc)?;
     encode_into(alloc, options, value, room)
@@ -80,6 +85,7 @@ fn encode_into<T: Encode>(
     ensures ok { IfOk result (λ octets. IsEncoded (is_aligned options) T.schema (T.meaning value.now) octets.items) }
     ensures only { IfErr result (NotEncoded (is_aligned options) T.schema (T.meaning value.now)) }
     ensures fresh { IfErr result (λ e. e ≡ EncodeError.AlreadyFailed → ⊥) }
+    ensures in_place { IfErr result (λ e. e ≡ EncodeError.CallOutOfPlace → ⊥) }
 {
     let mut encoder = Encoder::new_with_output(alloc, options, room);
     match value.encode(&mut encoder) {
@@ -108,6 +114,7 @@ pub fn encode_with_constraints<T: Encode>(
     ensures only { IfErr result
         (NotEncoded (is_aligned options) (T.under (meant constraints.entry)) (T.meaning value.now)) }
     ensures fresh { IfErr result (λ e. e ≡ EncodeError.AlreadyFailed → ⊥) }
+    ensures in_place { IfErr result (λ e. e ≡ EncodeError.CallOutOfPlace → ⊥) }
 {
     let room = with_room(alloc)?;
     let mut encoder = Encoder::new_with_output(alloc, options, room);
@@ -134,6 +141,7 @@ pub fn encode_buf<T: Encode>(
     ensures ok { OnOk result (IsEncoded (is_aligned options) T.schema (T.meaning value.now) buffer.new.items) }
     ensures only { IfErr result (NotEncoded (is_aligned options) T.schema (T.meaning value.now)) }
     ensures fresh { IfErr result (λ e. e ≡ EncodeError.AlreadyFailed → ⊥) }
+    ensures in_place { IfErr result (λ e. e ≡ EncodeError.CallOutOfPlace → ⊥) }
     ensures none { OnErr result (buffer.new.items ≡ []) }
 {
     let room = mem::replace(buffer, Vec::new(alloc));
