@@ -1,5 +1,5 @@
 -- How a decoder goes on behind what a reader found, and fails as it did.
-use Rattle.std.proofs.Common.{◌≡◌, ℕ, zero, suc, ◌+◌, ◌≤◌, Bool, IsTrue, inl, inr, List, [], ◌∷◌, ◌++◌, Option, Some, None, Result, Ok, Err, IfOk, IfErr, length, refl, sym, ◌∙◌, ap, subst, arith}
+use Rattle.std.proofs.Common.{◌≡◌, ℕ, zero, suc, ◌+◌, Bool, IsTrue, inl, inr, List, [], ◌∷◌, ◌++◌, Option, Some, None, Result, Ok, Err, IfOk, IfErr, refl, sym, ◌∙◌, ap, subst, arith}
 use Rattle.std.specs.Prelude.{OnOk}
 use Rattle.asn1_schema_presented.specs.Levels.{level}
 use Rattle.asn1_model.specs.Schema.{Counts, Size, Alphabet, StringKind, Schema, character_string}
@@ -14,7 +14,7 @@ use Rattle.per_codec_reading.specs.Runs.{Storage}
 use Rattle.per_codec_reading.proofs.Fronts.{leads_join}
 use Rattle.per_codec_decoder.specs.Held.{Held, state_of, kept, Finds, IsReady, Stays, Moves, EntersMembers, EntersComponents}
 use Rattle.per_codec_decoder.specs.Preamble.{HasPreamble}
-use Rattle.per_codec_decoder.specs.Members.{Due, HasMembers}
+use Rattle.per_codec_decoder.specs.Members.{HasMembers}
 use Rattle.per_codec_decoder.proofs.Finding.{OfType, asked_characters, none_found}
 
 -- a record is found

@@ -428,8 +428,11 @@ impl<'input> asn1_schema_decode::Decoder for Decoder<'input> {
     }
 
     fn decode_enumerated<T: Enumerated>(&mut self, _tag: Tag) -> Result<T, DecodeError> {
-        let alloc = self.scopes.allocator();
-        record!(self, cursor, read_item(alloc, &mut cursor, self.variant))
+        record!(
+            self,
+            cursor,
+            read_item(self.scopes.allocator(), &mut cursor, self.variant)
+        )
     }
 
     fn decode_bit_string(

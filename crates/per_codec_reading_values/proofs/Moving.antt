@@ -1,6 +1,6 @@
 -- Places of a stretch of bits.
 use Rattle.std.specs.Prelude.{min}
-use Rattle.std.proofs.Common.{subst, ◌≡◌, ℕ, ◌+◌, ◌≤◌, Bool, inl, inr, List, ◌++◌, length, take, drop, refl, ap, sym, ◌∙◌, length-append, arith}
+use Rattle.std.proofs.Common.{subst, ◌≡◌, ℕ, ◌+◌, ◌≤◌, Bool, inl, inr, List, length, take, drop, refl, ap, sym, ◌∙◌, length-append, arith}
 use Rattle.std.proofs.lemmas.Bool.{cases_lt}
 use Rattle.std.proofs.lemmas.List.{length-drop, length-take-le, drop_at, drop-drop, take_all, take-append-drop}
 use Rattle.asn1_model.specs.Per

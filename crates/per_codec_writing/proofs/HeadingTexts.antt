@@ -1,9 +1,9 @@
 -- What stands in front of units, in the bits of a writer: their number, or length determinants.
-use Rattle.std.proofs.Common.{◌≡◌, ℕ, ◌-◌, ◌*◌, ◌/◌, ◌^◌, ◌<◌, ◌≤◌, ltb, leb, min, Bool, true, false, cond, ◌&&◌, [], ◌∷◌, Option, Some, None, option_map, unwrap_or, Result, Ok, Err, IsErr, IsErrAnd, MatchResult, refl, ap, sym, subst, ◌∙◌, arith}
-use Rattle.std.proofs.lemmas.Bool.{le-leb, lt-ltb}
+use Rattle.std.proofs.Common.{◌≡◌, ℕ, ◌-◌, ◌*◌, ◌/◌, ◌<◌, ◌≤◌, ltb, leb, min, Bool, true, false, cond, ◌&&◌, ◌∷◌, Option, Some, None, option_map, Result, Ok, Err, IsErr, IsErrAnd, MatchResult, refl, ap, sym, subst, ◌∙◌, arith}
+use Rattle.std.proofs.lemmas.Bool.{le-leb}
 use Rattle.asn1_model.specs.Schema.{Counts}
 use Rattle.asn1_model.specs.Numbers.{binary, missing}
-use Rattle.asn1_model.specs.Form.{exactly, only_if, both, placed}
+use Rattle.asn1_model.specs.Form.{exactly, only_if, placed}
 use Rattle.asn1_model.specs.Per
 use Rattle.asn1_schema_faults.specs.declared.EncodeError.{EncodeError}
 use Rattle.asn1_schema_faults.specs.declared.EncodeError.TheVariants.{ValueConstraintNotSatisfied, SizeConstraintNotSatisfied, AlphabetConstraintNotSatisfied, TooLongValue, LengthExceedsPlatformSize, CallOutOfPlace, OutOfMemory, AlreadyFailed}

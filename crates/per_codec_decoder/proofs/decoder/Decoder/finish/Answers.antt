@@ -1,7 +1,5 @@
 use Rattle.std.proofs.Common.{◌∙◌, ap}
 use Rattle.per_codec_decoder.specs.Held.{Held}
-use Rattle.per_codec_fronts.specs.Takes.{completion}
-use Rattle.per_codec_reading.specs.Fronts.{freedoms}
 use Rattle.per_codec_decoder.proofs.Settling.{finished, finished_there, unless, unfinished_at}
 use Rattle.per_codec_decoder.proofs.Opening.{filling_is_free}
 use Rattle.per_codec_decoder.proofs.decoder.Decoder.finish.Goals as goal
