@@ -11,6 +11,7 @@ pub use Rattle.asn1_schema_constructed.proofs.SetValues.{type_set, value_set}
 pub use Rattle.asn1_schema_authored.proofs.ChoiceShaping.{choice_of, none, of_addition, of_root, one}
 pub use Rattle.asn1_schema_authored.proofs.Shaping.{sequence_of, set_of}
 pub use Rattle.asn1_schema_authored.proofs.Grouping.{group_of}
+pub use Rattle.asn1_schema_authored.specs.Shapes.{sequence_tag, set_tag}
 pub use Rattle.asn1_schema_constructed.proofs.Types.{more_variants, no_variants, type_choice, type_enumerated, value_choice}
 pub use Rattle.asn1_schema_constructed.proofs.Types.{value_enumerated}
 pub use Rattle.asn1_schema_decode.proofs.Failing.{failed_reads, passed_on}
@@ -38,7 +39,7 @@ pub use Rattle.asn1_schema_presented.proofs.TypesByKind.{type_list, value_list}
 pub use Rattle.asn1_schema_presented.proofs.Values.{more_types, more_values, no_types, no_values, part_optional}
 pub use Rattle.asn1_schema_presented.proofs.Values.{part_required, type_sequence, value_sequence}
 pub use Rattle.asn1_schema_variants.proofs.Distinct.{one_number_of}
-pub use Rattle.asn1_schema_tags.proofs.TreeLaws.{leaves_choice, leaves_leaf}
+pub use Rattle.asn1_schema_tags.proofs.TreeLaws.{leaves_choice, leaves_leaf, own_tag_choice, own_tag_leaf}
 pub use Rattle.asn1_schema_constructed.proofs.Types.{recursive_choice_type}
 pub use Rattle.asn1_schema_constructed.proofs.ChoiceReading.{reads_begun, unread_begun, unread_begun_end, unread_begun_here}
 pub use Rattle.asn1_schema_constructed.proofs.ChoiceWriting.{cannot_begun, cannot_begun_end, cannot_begun_here, writes_begun}

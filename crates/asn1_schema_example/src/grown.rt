@@ -2,7 +2,7 @@
 //! (0..255) OPTIONAL}: the root components stand in the order of their tags, the additions in that in which they are
 //! declared.
 ghost use Rattle.std.specs.Prelude.{refl};
-ghost use Rattle.asn1_schema.proofs.Author.{set_of};
+ghost use Rattle.asn1_schema.proofs.Author.{set_of, set_tag};
 
 use asn1_schema::{
     AddedOptional, AddedOptionalComponent, Class, Components, ComponentsOf, DecodeComponents,
@@ -59,6 +59,8 @@ type Form = OptionalComponent<
 
 impl Components for GrownFields {
     const TAG: Tag = Tag::SET;
+
+    ghost TAG = { set_tag };
 
     const IDENTIFIER: Identifier = Identifier(Some("Grown"));
 

@@ -1,12 +1,12 @@
 //! SEQUENCE {id INTEGER (0..65535), name UTF8String, height [0] INTEGER OPTIONAL, active BOOLEAN, samples SEQUENCE OF
 //! INTEGER (0..255)}.
 ghost use Rattle.std.specs.Prelude.{refl};
-ghost use Rattle.asn1_schema.proofs.Author.{sequence_of};
+ghost use Rattle.asn1_schema.proofs.Author.{sequence_of, sequence_tag};
 
 use asn1_schema::{
     Components, ComponentsOf, DecodeComponents, DecodeError, Decoder, EncodeComponents,
     EncodeError, Encoder, End, Heading, Implicit, Optional, OptionalComponent, Required,
-    RequiredComponent, tag,
+    RequiredComponent, Tag, tag,
 };
 use asn1_values::Integer;
 use std::alloc::Global;
@@ -33,6 +33,10 @@ type Rest = OptionalComponent<Implicit<tag::Context<0>, Integer>, Last>;
 type Form = RequiredComponent<u16, RequiredComponent<String, Rest>>;
 
 impl Components for Station {
+    const TAG: Tag = Tag::SEQUENCE;
+
+    ghost TAG = { sequence_tag };
+
     ghost shape = { sequence_of ⟦<Form as ComponentsOf>⟧ tt refl (λ x. record {
       0 = x.id;
       1 = record {
