@@ -1,6 +1,6 @@
 //! The group [[x INTEGER (0..255) OPTIONAL]].
 ghost use Rattle.std.specs.Prelude.{refl};
-ghost use Rattle.asn1_schema.proofs.Author.{group_of, sequence_of};
+ghost use Rattle.asn1_schema.proofs.Author.{group_of, sequence_of, sequence_tag};
 
 use asn1_schema::{
     Components, ComponentsOf, DecodeComponents, DecodeError, Decoder, EncodeComponents,
@@ -22,6 +22,10 @@ pub struct ExtraFields {
 type Form = OptionalComponent<u8, End>;
 
 impl Components for ExtraFields {
+    const TAG: Tag = Tag::SEQUENCE;
+
+    ghost TAG = { sequence_tag };
+
     const IDENTIFIER: Identifier = Identifier(Some("Extra"));
 
     ghost shape = { sequence_of ⟦<Form as ComponentsOf>⟧ tt refl (λ x. record { 0 = x.x; 1 = record {} }) };

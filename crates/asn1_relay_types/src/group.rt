@@ -1,6 +1,6 @@
 //! SEQUENCE {a BOOLEAN, ..., [[x INTEGER (0..255) OPTIONAL]]}.
 ghost use Rattle.std.specs.Prelude.{refl};
-ghost use Rattle.asn1_schema.proofs.Author.{sequence_of};
+ghost use Rattle.asn1_schema.proofs.Author.{sequence_of, sequence_tag};
 
 use crate::extra::Extra;
 use asn1_schema::{
@@ -28,6 +28,10 @@ type Additions = AddedGroupComponent<Extra, NoMore>;
 type Form = RequiredComponent<bool, MarkedComponents<OneAddition, Additions>>;
 
 impl Components for GroupFields {
+    const TAG: Tag = Tag::SEQUENCE;
+
+    ghost TAG = { sequence_tag };
+
     const IDENTIFIER: Identifier = Identifier(Some("Group"));
 
     ghost shape = { sequence_of ⟦<Form as ComponentsOf>⟧ tt refl

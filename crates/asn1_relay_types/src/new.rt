@@ -1,6 +1,6 @@
 //! SEQUENCE {a BOOLEAN, ..., b INTEGER (0..255) OPTIONAL}.
 ghost use Rattle.std.specs.Prelude.{refl};
-ghost use Rattle.asn1_schema.proofs.Author.{sequence_of};
+ghost use Rattle.asn1_schema.proofs.Author.{sequence_of, sequence_tag};
 ghost use Rattle.asn1_schema_authored.proofs.Fields.{gains_additions};
 ghost use Rattle.asn1_schema_authored.proofs.Unfolding.{constant_unfolds, field_unfolds, no_fields_unfold};
 ghost use Rattle.asn1_schema_authored.proofs.Unfolding.{sequence_unfolds};
@@ -32,6 +32,10 @@ type Additions = AddedOptionalComponent<u8, NoMore>;
 type Form = RequiredComponent<bool, MarkedComponents<OneAddition, Additions>>;
 
 impl Components for NewFields {
+    const TAG: Tag = Tag::SEQUENCE;
+
+    ghost TAG = { sequence_tag };
+
     const IDENTIFIER: Identifier = Identifier(Some("New"));
 
     ghost shape = { sequence_of ⟦<Form as ComponentsOf>⟧ tt refl

@@ -1,7 +1,7 @@
 //! SEQUENCE {s S DEFAULT {a TRUE}}, where S is SEQUENCE {a BOOLEAN, ..., b INTEGER (0..255) OPTIONAL}.
 ghost use Rattle.std.specs.Prelude.{refl};
 ghost use Rattle.asn1_schema.specs.Author.{absent, end, no_field};
-ghost use Rattle.asn1_schema.proofs.Author.{group_of, sequence_of};
+ghost use Rattle.asn1_schema.proofs.Author.{group_of, sequence_of, sequence_tag};
 ghost use Rattle.asn1_schema_authored.proofs.Fields.{gains_additions, grown_field, no_fields, same_tags};
 ghost use Rattle.asn1_schema_authored.proofs.Fields.{sequence_extends};
 ghost use Rattle.asn1_schema_authored.proofs.Defaults.{default_gains};
@@ -53,6 +53,10 @@ impl DefaultOf<New> for TrueAlone {
 type Form = DefaultedComponent<TrueAlone, New, End>;
 
 impl Components for NewDefaultFields {
+    const TAG: Tag = Tag::SEQUENCE;
+
+    ghost TAG = { sequence_tag };
+
     const IDENTIFIER: Identifier = Identifier(Some("NewDefault"));
 
     ghost shape = { sequence_of ⟦<Form as ComponentsOf>⟧ (new_true_stands _, tt) refl

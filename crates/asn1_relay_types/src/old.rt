@@ -1,6 +1,6 @@
 //! SEQUENCE {a BOOLEAN, ...}.
 ghost use Rattle.std.specs.Prelude.{refl};
-ghost use Rattle.asn1_schema.proofs.Author.{sequence_of};
+ghost use Rattle.asn1_schema.proofs.Author.{sequence_of, sequence_tag};
 
 use asn1_schema::{
     Components, ComponentsOf, DecodeComponents, DecodeError, Decoder, EncodeComponents,
@@ -22,6 +22,10 @@ pub struct OldFields {
 type Form = RequiredComponent<bool, MarkedComponents<NoAddition, NoMore>>;
 
 impl Components for OldFields {
+    const TAG: Tag = Tag::SEQUENCE;
+
+    ghost TAG = { sequence_tag };
+
     const IDENTIFIER: Identifier = Identifier(Some("Old"));
 
     ghost shape = { sequence_of ⟦<Form as ComponentsOf>⟧ tt refl

@@ -1,7 +1,7 @@
 //! SEQUENCE {s S DEFAULT {a TRUE}}, where S is SEQUENCE {a BOOLEAN, ...}.
 ghost use Rattle.std.specs.Prelude.{refl};
 ghost use Rattle.asn1_schema.specs.Author.{end};
-ghost use Rattle.asn1_schema.proofs.Author.{group_of, sequence_of};
+ghost use Rattle.asn1_schema.proofs.Author.{group_of, sequence_of, sequence_tag};
 ghost use Rattle.asn1_relay_types.specs.Defaults.{true_and, old_true_stands};
 
 use crate::old::{Old, OldFields};
@@ -44,6 +44,10 @@ impl DefaultOf<Old> for TrueAlone {
 type Form = DefaultedComponent<TrueAlone, Old, End>;
 
 impl Components for OldDefaultFields {
+    const TAG: Tag = Tag::SEQUENCE;
+
+    ghost TAG = { sequence_tag };
+
     const IDENTIFIER: Identifier = Identifier(Some("OldDefault"));
 
     ghost shape = { sequence_of ⟦<Form as ComponentsOf>⟧ (old_true_stands, tt) refl

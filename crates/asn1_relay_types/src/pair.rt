@@ -1,6 +1,6 @@
 //! A truth value beside a number from -5 to 5.
 ghost use Rattle.std.specs.Prelude.{refl};
-ghost use Rattle.asn1_schema.proofs.Author.{sequence_of};
+ghost use Rattle.asn1_schema.proofs.Author.{sequence_of, sequence_tag};
 
 use crate::small::Small;
 use asn1_schema::{
@@ -25,6 +25,10 @@ pub struct PairFields {
 type Form = RequiredComponent<bool, RequiredComponent<Small, End>>;
 
 impl Components for PairFields {
+    const TAG: Tag = Tag::SEQUENCE;
+
+    ghost TAG = { sequence_tag };
+
     const IDENTIFIER: Identifier = Identifier(Some("Pair"));
 
     ghost shape = { sequence_of ⟦<Form as ComponentsOf>⟧ tt refl

@@ -1,7 +1,7 @@
 //! SET {a [444] INTEGER OPTIONAL, b [5] INTEGER OPTIONAL, c [APPLICATION 9] INTEGER OPTIONAL}, whose components stand
 //! in the order of their tags: c, b, a.
 ghost use Rattle.std.specs.Prelude.{refl};
-ghost use Rattle.asn1_schema.proofs.Author.{set_of};
+ghost use Rattle.asn1_schema.proofs.Author.{set_of, set_tag};
 
 use asn1_schema::{
     Class, Components, ComponentsOf, DecodeComponents, DecodeError, Decoder, EncodeComponents,
@@ -33,6 +33,8 @@ type Form = OptionalComponent<Implicit<tag::Application<9>, Integer>, Rest>;
 
 impl Components for SetFields {
     const TAG: Tag = Tag::SET;
+
+    ghost TAG = { set_tag };
 
     const IDENTIFIER: Identifier = Identifier(Some("Set"));
 
