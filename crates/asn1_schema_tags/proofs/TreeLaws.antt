@@ -35,6 +35,9 @@ own_tag_leaf t = ap own_tag (sym (rolls-Leaf t)) ∙ fold-roll-TagTree Tag own_t
 pub own_tag_choice : (nodes : _) → own_tag (Choice nodes) ≡ no_own_tag
 own_tag_choice nodes = ap own_tag (sym (rolls-Choice nodes)) ∙ fold-roll-TagTree Tag own_tag_step _
 
+-- these four
+pub ruleset leaves_and_tags = (leaves_leaf, leaves_choice, own_tag_leaf, own_tag_choice)
+
 -- the smallest of two lists joined
 pub smallest-append : (t : ModelTag) (xs ys : List ModelTag) → smallest t (xs ++ ys) ≡ smallest (smallest t xs) ys
 smallest-append t [] ys = refl

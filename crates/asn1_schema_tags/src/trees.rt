@@ -1,5 +1,5 @@
 //! Trees of tags: a type's own tag, or those of the alternatives of an untagged choice.
-#![tactic(auto, using(crate::proofs::TreeLaws::leaves_leaf, crate::proofs::TreeLaws::leaves_choice, crate::proofs::TreeLaws::own_tag_leaf, crate::proofs::TreeLaws::own_tag_choice))]
+#![tactic(auto, using(crate::proofs::TreeLaws::leaves_and_tags))]
 
 ghost use Rattle.std.specs.Prelude.{◌≡◌, ◌+◌, ◌^◌, ◌<◌, IsTrue, IfSome, Some, [], ◌∷◌, length, option_map, slice_get};
 ghost use Rattle.asn1_model.specs.Lawful.{smallest};

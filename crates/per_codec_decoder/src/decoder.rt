@@ -72,8 +72,8 @@ impl<'input> Model for Decoder<'input> {
     } };
 }
 
-// One call: `AlreadyFailed` after a refusal, else what is found of its record by a cursor from the place that is reached,
-// and after a refusal no more.
+// One call: `AlreadyFailed` after a refusal, else what is found of its record by a cursor from the place that is
+// reached, and after a refusal no more.
 macro_rules! record {
     ($decoder:ident, $cursor:ident, $read:expr) => {{
         $decoder.begin_record()?;

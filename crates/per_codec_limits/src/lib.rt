@@ -1,5 +1,5 @@
-//! What writers and readers of the packed encoding rules (X.691) share: the two variants of the rules, where the form of
-//! a length changes (X.691 11.9), and where padding stands in front of units.
+//! What writers and readers of the packed encoding rules (X.691) share: the two variants of the rules, where the form
+//! of a length changes (X.691 11.9), and where padding stands in front of units.
 #![tactic(auto)]
 
 pub mod counts;
