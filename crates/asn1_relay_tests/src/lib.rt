@@ -9,8 +9,6 @@ mod command;
 #[cfg(test)]
 mod fakes;
 #[cfg(test)]
-mod many_alternatives;
-#[cfg(test)]
 mod records;
 #[cfg(test)]
 mod rows;

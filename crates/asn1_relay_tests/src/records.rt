@@ -129,7 +129,13 @@ fn is_number(item: &Item, number: &Integer) -> bool {
 /// Whether records are those of a measure with this number, and nothing else.
 fn is_measure(records: &[Item], number: &Integer) -> bool {
     match records {
-        [_, Item::PresenceBit(true), item, Item::PresenceBit(false), _] => is_number(item, number),
+        [
+            _,
+            Item::PresenceBit(true),
+            item,
+            Item::PresenceBit(false),
+            _,
+        ] => is_number(item, number),
         _ => false,
     }
 }

@@ -1,9 +1,10 @@
 //! Values of a program's types, written by each set of rules and read back: that they mean what the octets say.
-use crate::rows::{CODECS, Row};
+use crate::rows::{CODECS, octets_by};
 use asn1_relay_core::{Codec, DecodeError, EncodeError, RecodeFault, recode};
 use asn1_relay_types::{
     Bag, Extra, ExtraFields, Group, GroupFields, New, NewFields, Set, SetFields,
 };
+use asn1_schema_decode::Decode;
 use asn1_schema_encode::Encode;
 use asn1_schema_example::control::Control;
 use asn1_schema_example::measure::Measure;
@@ -19,18 +20,19 @@ fn is_written<T: Encode>(
     alloc: Global,
     codec: Codec,
     value: &T,
-    row: &Row,
+    row: &str,
 ) -> Result<bool, EncodeError> {
     let octets = codec.encode(alloc, value)?;
-    Ok(octets.as_slice() == row.by(codec))
+    Ok(octets.as_slice() == octets_by(row, codec).all())
+}
+
+/// What these rules read of the octets of a row.
+fn read<T: Decode>(alloc: Global, codec: Codec, row: &str) -> Result<T, DecodeError> {
+    codec.decode(alloc, octets_by(row, codec).all())
 }
 
 /// {a 5, b 6, c 7}, in the order of tags (X.691 21, X.696 18).
-const SET: Row = Row {
-    uper: &[0xE0, 0x20, 0xE0, 0x20, 0xC0, 0x20, 0xA0],
-    aper: &[0xE0, 0x01, 0x07, 0x01, 0x06, 0x01, 0x05],
-    octets: &[0xE0, 0x01, 0x07, 0x01, 0x06, 0x01, 0x05],
-};
+const SET: &str = "E0 20 E0 20 C0 20 A0 | E0 01 07 01 06 01 05 | E0 01 07 01 06 01 05";
 
 /// Whether these rules write a set as its row says.
 fn set_is_written(alloc: Global, codec: Codec) -> Result<bool, EncodeError> {
@@ -39,12 +41,12 @@ fn set_is_written(alloc: Global, codec: Codec) -> Result<bool, EncodeError> {
         b: Some(Implicit::new(Integer::from(6))),
         c: Some(Implicit::new(Integer::from(7))),
     });
-    is_written(alloc, codec, &set, &SET)
+    is_written(alloc, codec, &set, SET)
 }
 
 /// Whether these rules read a set as its row says.
 fn set_is_read(alloc: Global, codec: Codec) -> Result<bool, DecodeError> {
-    let set: Set = codec.decode(alloc, SET.by(codec))?;
+    let set: Set = read(alloc, codec, SET)?;
     Ok(
         set.value.a == Some(Implicit::new(Integer::from(5)))
             && set.value.b == Some(Implicit::new(Integer::from(6)))
@@ -53,11 +55,7 @@ fn set_is_read(alloc: Global, codec: Codec) -> Result<bool, DecodeError> {
 }
 
 /// {power on: TRUE, level 9}, with a choice in a set (X.691 23, X.696 20).
-const CONTROL: Row = Row {
-    uper: &[0xC2, 0x40],
-    aper: &[0xC0, 0x09],
-    octets: &[0x87, 0xFF, 0x09],
-};
+const CONTROL: &str = "C2 40 | C0 09 | 87 FF 09";
 
 /// Whether these rules write a set with a choice as its row says.
 fn control_is_written(alloc: Global, codec: Codec) -> Result<bool, EncodeError> {
@@ -65,21 +63,17 @@ fn control_is_written(alloc: Global, codec: Codec) -> Result<bool, EncodeError> 
         power: Power::On(true),
         level: Implicit::new(9),
     };
-    is_written(alloc, codec, &control, &CONTROL)
+    is_written(alloc, codec, &control, CONTROL)
 }
 
 /// Whether these rules read a set with a choice as its row says.
 fn control_is_read(alloc: Global, codec: Codec) -> Result<bool, DecodeError> {
-    let control: Control = codec.decode(alloc, CONTROL.by(codec))?;
+    let control: Control = read(alloc, codec, CONTROL)?;
     Ok(matches!(&control.power, Power::On(true)) && control.level.value == 9)
 }
 
 /// {a TRUE, b 7}, with an addition (X.691 19.7, X.696 16.4).
-const NEW: Row = Row {
-    uper: &[0xC0, 0x40, 0x41, 0xC0],
-    aper: &[0xC0, 0x40, 0x01, 0x07],
-    octets: &[0x80, 0xFF, 0x02, 0x07, 0x80, 0x01, 0x07],
-};
+const NEW: &str = "C0 40 41 C0 | C0 40 01 07 | 80 FF 02 07 80 01 07";
 
 /// Whether these rules write a value with an addition as its row says.
 fn new_is_written(alloc: Global, codec: Codec) -> Result<bool, EncodeError> {
@@ -87,21 +81,17 @@ fn new_is_written(alloc: Global, codec: Codec) -> Result<bool, EncodeError> {
         a: true,
         b: Some(7),
     });
-    is_written(alloc, codec, &new, &NEW)
+    is_written(alloc, codec, &new, NEW)
 }
 
 /// Whether these rules read a value with an addition as its row says.
 fn new_is_read(alloc: Global, codec: Codec) -> Result<bool, DecodeError> {
-    let new: New = codec.decode(alloc, NEW.by(codec))?;
+    let new: New = read(alloc, codec, NEW)?;
     Ok(new.value.a && new.value.b == Some(7))
 }
 
 /// {a TRUE, x 7}, with a group of additions (X.691 19.9, X.696 16.4).
-const GROUP: Row = Row {
-    uper: &[0xC0, 0x40, 0xA0, 0xE0, 0x00],
-    aper: &[0xC0, 0x40, 0x02, 0x80, 0x07],
-    octets: &[0x80, 0xFF, 0x02, 0x07, 0x80, 0x02, 0x80, 0x07],
-};
+const GROUP: &str = "C0 40 A0 E0 00 | C0 40 02 80 07 | 80 FF 02 07 80 02 80 07";
 
 /// Whether these rules write a value with a group as its row says.
 fn group_is_written(alloc: Global, codec: Codec) -> Result<bool, EncodeError> {
@@ -110,12 +100,12 @@ fn group_is_written(alloc: Global, codec: Codec) -> Result<bool, EncodeError> {
         a: true,
         extra: Some(extra),
     });
-    is_written(alloc, codec, &group, &GROUP)
+    is_written(alloc, codec, &group, GROUP)
 }
 
 /// Whether these rules read a value with a group as its row says.
 fn group_is_read(alloc: Global, codec: Codec) -> Result<bool, DecodeError> {
-    let group: Group = codec.decode(alloc, GROUP.by(codec))?;
+    let group: Group = read(alloc, codec, GROUP)?;
     let Some(extra) = &group.value.extra else {
         return Ok(false);
     };
@@ -123,21 +113,17 @@ fn group_is_read(alloc: Global, codec: Codec) -> Result<bool, DecodeError> {
 }
 
 /// name: "Jo", an added alternative, which is an open type (X.691 23.8, X.696 20.2).
-const MESSAGE: Row = Row {
-    uper: &[0x80, 0x03, 0x02, 0x4A, 0x6F],
-    aper: &[0x80, 0x03, 0x02, 0x4A, 0x6F],
-    octets: &[0x82, 0x03, 0x02, 0x4A, 0x6F],
-};
+const MESSAGE: &str = "80 03 02 4A 6F | 80 03 02 4A 6F | 82 03 02 4A 6F";
 
 /// Whether these rules write an added alternative as its row says.
 fn message_is_written(alloc: Global, codec: Codec) -> Result<bool, Fail> {
     let message = Message::Name(String::from_str(alloc, "Jo")?);
-    Ok(is_written(alloc, codec, &message, &MESSAGE)?)
+    Ok(is_written(alloc, codec, &message, MESSAGE)?)
 }
 
 /// Whether these rules read an added alternative as its row says.
 fn message_is_read(alloc: Global, codec: Codec) -> Result<bool, DecodeError> {
-    let message: Message = codec.decode(alloc, MESSAGE.by(codec))?;
+    let message: Message = read(alloc, codec, MESSAGE)?;
     match &message {
         Message::Name(name) => Ok(name.as_str() == "Jo"),
         _ => Ok(false),
@@ -145,11 +131,7 @@ fn message_is_read(alloc: Global, codec: Codec) -> Result<bool, DecodeError> {
 }
 
 /// {offset 0}, a default, which is left out (X.691 19.5, X.696 16.2).
-const MEASURE: Row = Row {
-    uper: &[0x00],
-    aper: &[0x00],
-    octets: &[0x00],
-};
+const MEASURE: &str = "00 | 00 | 00";
 
 /// Whether these rules write a default as its row says.
 fn measure_is_written(alloc: Global, codec: Codec) -> Result<bool, EncodeError> {
@@ -157,12 +139,12 @@ fn measure_is_written(alloc: Global, codec: Codec) -> Result<bool, EncodeError> 
         offset: Integer::from(0),
         exact: None,
     };
-    is_written(alloc, codec, &measure, &MEASURE)
+    is_written(alloc, codec, &measure, MEASURE)
 }
 
 /// Whether these rules read a default as its row says.
 fn measure_is_read(alloc: Global, codec: Codec) -> Result<bool, DecodeError> {
-    let measure: Measure = codec.decode(alloc, MEASURE.by(codec))?;
+    let measure: Measure = read(alloc, codec, MEASURE)?;
     Ok(measure.offset == Integer::from(0) && measure.exact.is_none())
 }
 
@@ -207,11 +189,7 @@ fn values_are_read(rt: HostRuntime) -> Result<(), Fail> {
 }
 
 /// {1, 2, 3}.
-const BAG: Row = Row {
-    uper: &[3, 1, 2, 3],
-    aper: &[3, 1, 2, 3],
-    octets: &[1, 3, 1, 2, 3],
-};
+const BAG: &str = "03 01 02 03 | 03 01 02 03 | 01 03 01 02 03";
 
 /// The bag of these numbers.
 fn bag_of(alloc: Global, numbers: &[u8]) -> Result<Bag, AllocError> {
@@ -221,7 +199,7 @@ fn bag_of(alloc: Global, numbers: &[u8]) -> Result<Bag, AllocError> {
 /// Whether each set of rules writes a bag as {1, 2, 3}.
 fn is_written_in_order(alloc: Global, bag: &Bag) -> Result<bool, EncodeError> {
     for codec in CODECS {
-        if !is_written(alloc, codec, bag, &BAG)? {
+        if !is_written(alloc, codec, bag, BAG)? {
             return Ok(false);
         }
     }

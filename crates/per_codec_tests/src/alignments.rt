@@ -17,7 +17,6 @@ use std::alloc::{AllocError, Global};
 use std::test::Fail;
 
 /// A value, and its type.
-#[derive(Clone, Copy)]
 enum Value {
     Truth(bool),
     Nothing,
@@ -151,6 +150,22 @@ fn constraints_of(limit: Limit) -> Option<Constraints<'static>> {
     }
 }
 
+/// Writes so many set bits.
+fn write_bits(encoder: &mut Encoder, count: usize) -> Result<(), EncodeError> {
+    for _ in 0..count {
+        encoder.encode_bool(Tag::BOOL, true, Identifier::EMPTY)?;
+    }
+    Ok(())
+}
+
+/// Writes a value.
+fn write<T: Encode>(encoder: &mut Encoder, value: &T, limit: Limit) -> Result<(), EncodeError> {
+    match constraints_of(limit) {
+        Some(constraints) => value.encode_with_constraints(encoder, constraints),
+        None => value.encode(encoder),
+    }
+}
+
 /// Writes so many set bits and the value behind them.
 fn write_behind<T: Encode>(
     encoder: &mut Encoder,
@@ -158,13 +173,8 @@ fn write_behind<T: Encode>(
     value: &T,
     limit: Limit,
 ) -> Result<(), EncodeError> {
-    for _ in 0..count {
-        encoder.encode_bool(Tag::BOOL, true, Identifier::EMPTY)?;
-    }
-    match constraints_of(limit) {
-        Some(constraints) => value.encode_with_constraints(encoder, constraints),
-        None => value.encode(encoder),
-    }
+    write_bits(encoder, count)?;
+    write(encoder, value, limit)
 }
 
 /// The message of so many set bits and the value behind them.
@@ -191,6 +201,18 @@ fn skip(decoder: &mut Decoder<'_>, count: usize) -> Result<(), DecodeError> {
     Ok(())
 }
 
+/// Reads a value.
+fn read<T: Decode>(
+    alloc: Global,
+    decoder: &mut Decoder<'_>,
+    limit: Limit,
+) -> Result<T, DecodeError> {
+    match constraints_of(limit) {
+        Some(constraints) => T::decode_with_constraints(alloc, decoder, constraints),
+        None => T::decode(alloc, decoder),
+    }
+}
+
 /// Reads a value, and whether it is this one.
 fn reads<T: Decode + PartialEq>(
     alloc: Global,
@@ -198,10 +220,7 @@ fn reads<T: Decode + PartialEq>(
     value: &T,
     limit: Limit,
 ) -> Result<bool, DecodeError> {
-    let read = match constraints_of(limit) {
-        Some(constraints) => T::decode_with_constraints(alloc, decoder, constraints)?,
-        None => T::decode(alloc, decoder)?,
-    };
+    let read: T = read(alloc, decoder, limit)?;
     Ok(read == *value)
 }
 
@@ -312,12 +331,12 @@ fn lists(alloc: Global, counts: &[usize]) -> Result<Vec<Vec<bool>>, AllocError> 
 }
 
 /// Whether a value that is no character string stands as its row says.
-fn is_right(alloc: Global, (value, limit, spelled): Row) -> Result<bool, Fail> {
-    let row = (limit, spelled);
+fn is_right(alloc: Global, (value, limit, spelled): &Row) -> Result<bool, Fail> {
+    let row = (*limit, *spelled);
     match value {
-        Value::Truth(value) => stands(alloc, value, row),
+        Value::Truth(value) => stands(alloc, *value, row),
         Value::Nothing => stands(alloc, (), row),
-        Value::Number(value) => stands(alloc, Integer::from(value), row),
+        Value::Number(value) => stands(alloc, Integer::from(*value), row),
         Value::Bits(spelled) => stands(alloc, bits(alloc, spelled)?, row),
         Value::Octets(octets) => stands(alloc, OctetString::from_slice(alloc, octets)?, row),
         Value::Text(text) => stands(alloc, String::from_str(alloc, text)?, row),
@@ -329,7 +348,7 @@ fn is_right(alloc: Global, (value, limit, spelled): Row) -> Result<bool, Fail> {
 }
 
 /// Whether a character string stands as its row says.
-fn is_right_text(alloc: Global, value: Value, row: (Limit, &str)) -> Result<bool, Fail> {
+fn is_right_text(alloc: Global, value: &Value, row: (Limit, &str)) -> Result<bool, Fail> {
     match value {
         Value::Numeric(text) => stands(alloc, NumericString::from_text(alloc, text)?, row),
         Value::Visible(text) => stands(alloc, VisibleString::from_text(alloc, text)?, row),
@@ -342,7 +361,7 @@ fn is_right_text(alloc: Global, value: Value, row: (Limit, &str)) -> Result<bool
 /// The place of the first row of a table that is wrong, if one is.
 fn wrong_row(alloc: Global, rows: &[Row]) -> Result<Option<usize>, Fail> {
     for (place, row) in rows.iter().enumerate() {
-        if !is_right(alloc, *row)? {
+        if !is_right(alloc, row)? {
             return Ok(Some(place));
         }
     }

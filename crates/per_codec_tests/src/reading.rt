@@ -182,20 +182,35 @@ fn decoders_that_have_failed(rt: HostRuntime) {
     }
 }
 
+/// Whether a string is lent, and is these octets.
+fn is_lent(found: &CowSlice<u8, Global>, octets: &[u8]) -> bool {
+    match found {
+        CowSlice::Borrowed(found) => *found == octets,
+        CowSlice::Owned(_) => false,
+    }
+}
+
 /// Whether the string of octets that comes next is lent by the message, and is these octets.
 fn lends(alloc: Global, decoder: &mut Decoder<'_>, octets: &[u8]) -> Result<bool, DecodeError> {
     let tag = Tag::OCTET_STRING;
-    match decoder.decode_octet_string(alloc, tag, Constraints::NONE, Bounded::None)? {
-        CowSlice::Borrowed(found) => Ok(found == octets),
-        CowSlice::Owned(_) => Ok(false),
-    }
+    let found = decoder.decode_octet_string(alloc, tag, Constraints::NONE, Bounded::None)?;
+    Ok(is_lent(&found, octets))
+}
+
+/// Whether a true comes next, and a string of octets that is lent behind it.
+fn lends_behind_true(
+    alloc: Global,
+    decoder: &mut Decoder<'_>,
+    octets: &[u8],
+) -> Result<bool, DecodeError> {
+    let first = decoder.decode_bool(Tag::BOOL)?;
+    Ok(lends(alloc, decoder, octets)? && first)
 }
 
 /// Whether a string of octets is lent behind one bit.
 fn lends_behind_a_bit(alloc: Global, input: &[u8], octets: &[u8]) -> Result<bool, DecodeError> {
     let mut decoder = Decoder::new(alloc, input, DecoderOptions::aligned());
-    let first = decoder.decode_bool(Tag::BOOL)?;
-    Ok(first && lends(alloc, &mut decoder, octets)?)
+    lends_behind_true(alloc, &mut decoder, octets)
 }
 
 /// Begins a choice of the alternatives [0] and, behind its extension marker, [1].
@@ -208,18 +223,26 @@ fn begin_marked(decoder: &mut Decoder<'_>) -> Result<(), DecodeError> {
 }
 
 /// Whether a string of octets is lent in the open type of an added alternative, and another one behind it.
+fn lends_both(
+    alloc: Global,
+    decoder: &mut Decoder<'_>,
+    (inside, behind): (&[u8], &[u8]),
+) -> Result<bool, DecodeError> {
+    begin_marked(decoder)?;
+    let first = lends(alloc, decoder, inside)?;
+    decoder.end()?;
+    Ok(lends(alloc, decoder, behind)? && first)
+}
+
+/// Whether they are so in a message.
 fn lends_in_an_open_type(
     alloc: Global,
     variant: Variant,
     input: &[u8],
-    (inside, behind): (&[u8], &[u8]),
+    strings: (&[u8], &[u8]),
 ) -> Result<bool, DecodeError> {
     let mut decoder = Decoder::new(alloc, input, DecoderOptions { variant });
-    begin_marked(&mut decoder)?;
-    let first = lends(alloc, &mut decoder, inside)?;
-    decoder.end()?;
-    let second = lends(alloc, &mut decoder, behind)?;
-    Ok(first && second)
+    lends_both(alloc, &mut decoder, strings)
 }
 
 #[test]

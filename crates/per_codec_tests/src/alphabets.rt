@@ -98,8 +98,24 @@ fn alphabet(
     }
 }
 
-/// Whether each character has its code, each code stands for its character, and those without are without.
-fn has_codes(alphabet: &EffectiveAlphabet, (codes, character, code): Codes) -> bool {
+/// Whether a character has no code, where there is one here.
+fn has_no_code(alphabet: &EffectiveAlphabet, character: Option<u32>) -> bool {
+    match character {
+        Some(character) => alphabet.code(character).is_none(),
+        None => true,
+    }
+}
+
+/// Whether a code has no character, where there is one here.
+fn has_no_character(alphabet: &EffectiveAlphabet, code: Option<u32>) -> bool {
+    match code {
+        Some(code) => alphabet.character(code).is_none(),
+        None => true,
+    }
+}
+
+/// Whether each character has its code, and each code stands for its character.
+fn has_codes(alphabet: &EffectiveAlphabet, codes: &[(u32, u32)]) -> bool {
     for (character, code) in codes {
         if alphabet.code(*character) != Some(u64::from(*code))
             || alphabet.character(*code) != Some(*character)
@@ -107,14 +123,24 @@ fn has_codes(alphabet: &EffectiveAlphabet, (codes, character, code): Codes) -> b
             return false;
         }
     }
-    character.is_none_or(|character| alphabet.code(character).is_none())
-        && code.is_none_or(|code| alphabet.character(code).is_none())
+    true
 }
 
-/// Whether the codes of an alphabet are as wide as this, and these.
-fn is_right(alloc: Global, row: (Alphabet, u32, Codes)) -> Result<bool, AllocError> {
-    let alphabet = alphabet(alloc, row.0)?;
-    Ok(alphabet.width() == row.1 && has_codes(&alphabet, row.2))
+/// Whether the codes of an alphabet are as wide as this, and these, and those without are without.
+fn is_as_said(alphabet: &EffectiveAlphabet, width: u32, (codes, character, code): Codes) -> bool {
+    alphabet.width() == width
+        && has_codes(alphabet, codes)
+        && has_no_code(alphabet, character)
+        && has_no_character(alphabet, code)
+}
+
+/// Whether the alphabet of a row is so.
+fn is_right(
+    alloc: Global,
+    (alphabet_of, width, codes): (Alphabet, u32, Codes),
+) -> Result<bool, AllocError> {
+    let alphabet = alphabet(alloc, alphabet_of)?;
+    Ok(is_as_said(&alphabet, width, codes))
 }
 
 #[test]

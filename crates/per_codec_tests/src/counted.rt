@@ -58,16 +58,29 @@ fn is_read(
     Ok(found.as_slice() == octets && cursor.len() < 8)
 }
 
+/// So many set bits.
+fn set_bits(alloc: Global, count: usize) -> Result<Packing, AllocError> {
+    let mut output = Packing::new(alloc);
+    output.resize(count, true)?;
+    Ok(output)
+}
+
 /// Writes octets behind their number, at a place that is known from the beginning.
 fn placed(
     alloc: Global,
     (variant, count): (Variant, usize),
     octets: &[u8],
 ) -> Result<Packing, EncodeError> {
-    let mut output = Packing::new(alloc);
-    output.resize(count, true)?;
+    let mut output = set_bits(alloc, count)?;
     push_counted_octets(&mut output, variant, octets)?;
     Ok(output)
+}
+
+/// Octets behind their number at a place that is not known.
+fn unplaced(alloc: Global, variant: Variant, octets: &[u8]) -> Result<Packing, EncodeError> {
+    let mut text = Packing::unplaced(alloc);
+    push_counted_octets(&mut text, variant, octets)?;
+    Ok(text)
 }
 
 /// Writes octets behind their number at a place that is not known, and puts them there then.
@@ -76,10 +89,8 @@ fn placed_later(
     (variant, count): (Variant, usize),
     octets: &[u8],
 ) -> Result<Packing, EncodeError> {
-    let mut text = Packing::unplaced(alloc);
-    push_counted_octets(&mut text, variant, octets)?;
-    let mut output = Packing::new(alloc);
-    output.resize(count, true)?;
+    let text = unplaced(alloc, variant, octets)?;
+    let mut output = set_bits(alloc, count)?;
     output.append_text(text.as_text())?;
     Ok(output)
 }
@@ -97,6 +108,19 @@ fn is_written(
     Ok(early.as_bits().as_bitslice() == bits && late.as_bits().as_bitslice() == bits)
 }
 
+/// Whether octets are read from these bits, and written as these if they are written so.
+fn stands_in(
+    alloc: Global,
+    front: (Variant, usize),
+    bits: &BitBuffer,
+    (octets, is_canonical): (&[u8], bool),
+) -> Result<bool, Fail> {
+    if is_canonical && !is_written(alloc, front, bits, octets)? {
+        return Ok(false);
+    }
+    Ok(is_read(alloc, front, bits.as_bytes(), octets)?)
+}
+
 /// Whether octets are read behind so many bits, and written if they are written so.
 fn stands_behind(
     alloc: Global,
@@ -104,8 +128,7 @@ fn stands_behind(
     (octets, counted, is_canonical): (&[u8], &[u8], bool),
 ) -> Result<bool, Fail> {
     let bits = behind(alloc, front, counted)?;
-    let is_right = !is_canonical || is_written(alloc, front, &bits, octets)?;
-    Ok(is_right && is_read(alloc, front, bits.as_bytes(), octets)?)
+    stands_in(alloc, front, &bits, (octets, is_canonical))
 }
 
 /// Whether octets stand as their row says behind 0 to 7 bits.

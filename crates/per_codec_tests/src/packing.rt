@@ -19,12 +19,17 @@ fn member(alloc: Global) -> Result<Packing, AllocError> {
     Ok(text)
 }
 
+/// Adds a bit, and a member behind it.
+fn push_within(outer: &mut Packing, inner: &Packing) -> Result<(), AllocError> {
+    outer.push(true)?;
+    outer.append_text(inner.as_text())
+}
+
 /// The same behind a bit, at a place that is not known.
 fn within_a_member(alloc: Global) -> Result<Packing, AllocError> {
-    let mut outer = Packing::unplaced(alloc);
-    outer.push(true)?;
     let inner = member(alloc)?;
-    outer.append_text(inner.as_text())?;
+    let mut outer = Packing::unplaced(alloc);
+    push_within(&mut outer, &inner)?;
     Ok(outer)
 }
 

@@ -10,7 +10,7 @@ use per_codec_writing::{
     push_bitmap, push_boolean, push_constrained, push_fragment_length, push_normally_small,
     push_open_type, push_place, push_short_length,
 };
-use std::alloc::Global;
+use std::alloc::{AllocError, Global};
 use std::test::Fail;
 
 /// A part of an encoding.
@@ -73,14 +73,20 @@ const APER: Variant = Variant::Aligned;
 
 const TRUTHS: [Part; 3] = [Part::Truth(true), Part::Truth(false), Part::Truth(true)];
 
+/// A bitmap of one addition, which is there.
+fn bitmap_of_one(alloc: Global) -> Result<BitBuffer, AllocError> {
+    let mut bitmap = BitBuffer::new(alloc);
+    bitmap.push(true)?;
+    Ok(bitmap)
+}
+
 /// Writes a bitmap of one addition, which is there.
 fn push_bitmap_of_one(
     alloc: Global,
     output: &mut Packing,
     variant: Variant,
 ) -> Result<(), EncodeError> {
-    let mut bitmap = BitBuffer::new(alloc);
-    bitmap.push(true)?;
+    let bitmap = bitmap_of_one(alloc)?;
     push_bitmap(output, variant, &bitmap)
 }
 

@@ -1,0 +1,167 @@
+//! What is taken from encoders, what they leave, and what they refuse.
+use crate::messages::{ADDED, NOTHING, add};
+use crate::steps::{Lent, Step};
+use asn1_schema_encode::{Encode, Encoder as Writing};
+use asn1_schema_faults::EncodeError;
+use asn1_schema_tags::{Identifier, Tag};
+use asn1_schema_variants::Chosen;
+use oer_codec::coer::{Encoder, EncoderOptions};
+use per_codec::uper;
+use std::alloc::{AllocError, Global};
+use std::test::Fail;
+
+/// SEQUENCE {..., a SEQUENCE {..., b BOOLEAN}} with b true, an addition in an addition.
+const NESTED: [Step; 11] = [
+    Step::Sequence(true, 0),
+    Step::Additions(1),
+    Step::Addition(true),
+    Step::Sequence(true, 0),
+    Step::Additions(1),
+    Step::Addition(true),
+    Step::Truth(true),
+    Step::EndOfAddition,
+    Step::End,
+    Step::EndOfAddition,
+    Step::End,
+];
+
+/// A message whose string is this.
+fn of(string: &[u8]) -> Lent<'_> {
+    Lent {
+        tags: &[],
+        places: &[],
+        string,
+    }
+}
+
+/// A worker with room for 64 octets that holds what another message left.
+fn used_worker(alloc: Global) -> Result<Vec<u8>, AllocError> {
+    let mut worker = Vec::with_capacity(alloc, 64)?;
+    worker.extend_from_slice(&[0xAA, 0xBB, 0xCC])?;
+    Ok(worker)
+}
+
+/// Three messages, one behind the other.
+const THREE: [u8; 21] = [
+    0x82, 0x04, 0x03, 0x01, 0x02, 0x03, 0x82, 0x02, 0x01, 0x04, 0x80, 0x02, 0x07, 0x80, 0x06, 0x80,
+    0x02, 0x07, 0x80, 0x01, 0xFF,
+];
+
+/// Adds three messages with one worker: whether they stand so, and it has the room that it had.
+fn keeps_room(
+    alloc: Global,
+    buffer: &mut Vec<u8>,
+    worker: &mut Vec<u8>,
+) -> Result<bool, EncodeError> {
+    let room = worker.capacity();
+    add(alloc, buffer, worker, &ADDED, of(&[0x01, 0x02, 0x03]))?;
+    add(alloc, buffer, worker, &ADDED, of(&[0x04]))?;
+    let between = worker.capacity();
+    add(alloc, buffer, worker, &NESTED, NOTHING)?;
+    Ok(between == room && worker.capacity() == room && buffer.as_slice() == THREE.as_slice())
+}
+
+/// Whether a worker that holds something is used again and again.
+fn is_used_again(alloc: Global) -> Result<bool, EncodeError> {
+    let mut worker = used_worker(alloc)?;
+    let mut buffer = Vec::new(alloc);
+    keeps_room(alloc, &mut buffer, &mut worker)
+}
+
+/// What a worker holds does not matter, and it keeps its room from message to message, also where the outermost of two
+/// additions had it.
+#[test]
+fn one_worker_for_more_messages(rt: HostRuntime) -> Result<(), Fail> {
+    let alloc = rt.alloc();
+    assert!(rt; is_used_again(alloc)?);
+    Ok(())
+}
+
+/// Writes true: whether it alone is put out.
+fn puts_out_true(encoder: &mut Encoder<'_>) -> Result<bool, EncodeError> {
+    true.encode(encoder)?;
+    Ok(encoder.output().as_slice() == [0xFF].as_slice())
+}
+
+/// Whether the end of nothing is refused, and what follows.
+fn fails_for_good(encoder: &mut Encoder<'_>) -> bool {
+    encoder.end() == Err(EncodeError::CallOutOfPlace)
+        && encoder.put_presence_bit(true) == Err(EncodeError::AlreadyFailed)
+        && encoder.encode_bool(Tag::BOOL, true, Identifier::EMPTY)
+            == Err(EncodeError::AlreadyFailed)
+}
+
+/// Whether values that are written one after the other are each put out alone, until the encoder fails.
+fn puts_out_two(encoder: &mut Encoder<'_>) -> Result<bool, EncodeError> {
+    let first = puts_out_true(encoder)?;
+    let second = puts_out_true(encoder)?;
+    Ok(first && second && fails_for_good(encoder))
+}
+
+/// Whether an encoder does that.
+fn two_are_put_out(alloc: Global) -> Result<bool, EncodeError> {
+    let mut buffer = Vec::new(alloc);
+    let mut worker = Vec::new(alloc);
+    let options = EncoderOptions::coer();
+    let mut encoder = Encoder::from_buffer(alloc, options, &mut buffer, &mut worker);
+    puts_out_two(&mut encoder)
+}
+
+/// Begins an addition of a choice that is not extensible, and so has none.
+fn begin_without_mark<E: Writing>(encoder: &mut E, additions: &[Tag]) -> Result<(), EncodeError> {
+    let roots = [Tag::new_context(0), Tag::new_context(1)];
+    encoder.begin_choice(Tag::CHOICE, &roots, false, additions, Chosen::addition(0))
+}
+
+/// Whether an encoder of octets refuses that.
+fn refuses_without_mark(alloc: Global) -> bool {
+    let mut buffer = Vec::new(alloc);
+    let mut worker = Vec::new(alloc);
+    let options = EncoderOptions::coer();
+    let mut encoder = Encoder::from_buffer(alloc, options, &mut buffer, &mut worker);
+    let answer = begin_without_mark(&mut encoder, &[Tag::new_context(2)]);
+    answer == Err(EncodeError::ValueConstraintNotSatisfied)
+}
+
+#[test]
+fn encoders_that_have_failed(rt: HostRuntime) {
+    let alloc = rt.alloc();
+    assert!(rt; two_are_put_out(alloc) == Ok(true));
+    assert!(rt; refuses_without_mark(alloc));
+}
+
+/// Whether the octet of TRUE is taken from an encoder once, and of what is left then, which is nothing, the octet of no
+/// bits.
+fn gives_true_once(encoder: &mut uper::Encoder) -> Result<bool, EncodeError> {
+    true.encode(encoder)?;
+    let first = encoder.output()?;
+    let second = encoder.output()?;
+    Ok(first.as_slice() == [0x80].as_slice() && second.as_slice() == [0x00].as_slice())
+}
+
+/// Whether an encoder in which nothing was begun refuses to end it, and a presence bit behind this.
+fn refuses_to_end(encoder: &mut uper::Encoder) -> bool {
+    encoder.end() == Err(EncodeError::CallOutOfPlace)
+        && encoder.put_presence_bit(true) == Err(EncodeError::AlreadyFailed)
+}
+
+/// Whether it does both.
+fn is_taken_once(encoder: &mut uper::Encoder) -> bool {
+    gives_true_once(encoder) == Ok(true) && refuses_to_end(encoder)
+}
+
+#[test]
+fn what_is_held_is_taken_once(rt: HostRuntime) -> Result<(), Fail> {
+    let alloc = rt.alloc();
+    let options = uper::EncoderOptions::unaligned();
+    let room = vec![in alloc; 1u8, 2, 3]?;
+    let mut encoder = uper::Encoder::new_with_output(alloc, options, room);
+    assert!(rt; is_taken_once(&mut encoder));
+    Ok(())
+}
+
+#[test]
+fn an_added_alternative_without_an_extension_marker(rt: HostRuntime) {
+    let mut encoder = uper::Encoder::new(rt.alloc(), uper::EncoderOptions::aligned());
+    assert!(rt; begin_without_mark(&mut encoder, &[]).is_err());
+}

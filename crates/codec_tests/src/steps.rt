@@ -1,0 +1,310 @@
+//! Calls of an encoder, one behind another, and what a decoder finds by the same calls.
+use asn1_schema_constraints::{Bounded, Constraints, Extensible, Size};
+use asn1_schema_decode::{Decode, Decoder, ReadOctets};
+use asn1_schema_encode::{Encode, Encoder};
+use asn1_schema_faults::{DecodeError, EncodeError};
+use asn1_schema_tags::{Class, Identifier, Tag, TagPlace, TagTables};
+use asn1_schema_variants::Chosen;
+use std::alloc::{AllocError, Global};
+
+/// A call, with what is written by it and is to be found.
+#[derive(Clone, Copy)]
+pub enum Step {
+    /// SEQUENCE begins, with an extension marker or without, of whose root components so many may be absent.
+    Sequence(bool, usize),
+    /// So does SET.
+    Set(bool, usize),
+    /// SET (SIZE (1..2)) OF begins, with so many members.
+    Bag(usize),
+    /// A choice begins by one of its alternatives.
+    Choice(Choice, Chosen),
+    /// Whether a component is there.
+    Present(bool),
+    /// Whether a further member comes.
+    Further(bool),
+    /// So many additions begin.
+    Additions(usize),
+    /// All additions in front of the last one of so many are absent.
+    AbsentOf(usize),
+    /// Whether an addition is there.
+    Addition(bool),
+    /// An addition ends.
+    EndOfAddition,
+    /// What began last ends.
+    End,
+    /// NULL.
+    Null,
+    /// BOOLEAN.
+    Truth(bool),
+    /// INTEGER (0..255).
+    Octet(u8),
+    /// INTEGER (0..65535).
+    Word(u16),
+    /// INTEGER.
+    Number(i64),
+    /// OCTET STRING: the string of the message, constrained to its size or not.
+    String(bool),
+}
+
+/// The alternatives of a choice.
+#[derive(Clone, Copy)]
+pub enum Choice {
+    /// CHOICE {[0], [5], ..., [2]}.
+    OfThree,
+    /// CHOICE {[0], [1] to [299]}.
+    Of300,
+    /// CHOICE {[0], ..., [1] to [300]}.
+    WithAdditions,
+}
+
+/// What steps speak of.
+#[derive(Clone, Copy)]
+pub struct Lent<'a> {
+    /// The tags from [0] to [300].
+    pub tags: &'a [Tag],
+    /// These, each at the place of its number.
+    pub places: &'a [TagPlace],
+    /// The octets of the message's string.
+    pub string: &'a [u8],
+}
+
+/// The tags from [0] to [300].
+pub fn tags(alloc: Global) -> Result<Vec<Tag>, AllocError> {
+    let mut tags = Vec::new(alloc);
+    for number in 0..301u32 {
+        tags.push(Tag::new_context(number))?;
+    }
+    Ok(tags)
+}
+
+/// Each tag at its place.
+pub fn places_of(alloc: Global, tags: &[Tag]) -> Result<Vec<TagPlace>, AllocError> {
+    let mut places = Vec::new(alloc);
+    for (place, tag) in tags.iter().enumerate() {
+        places.push(TagPlace { tag: *tag, place })?;
+    }
+    Ok(places)
+}
+
+/// A context-specific tag.
+macro_rules! context {
+    ($value:literal) => {
+        Tag {
+            class: Class::Context,
+            value: $value,
+        }
+    };
+}
+
+/// A context-specific tag, at a place.
+macro_rules! at {
+    ($value:literal $place:literal) => {
+        TagPlace {
+            tag: context!($value),
+            place: $place,
+        }
+    };
+}
+
+/// The places of CHOICE {[0], [5], ..., [2]}.
+const PLACES_OF_THREE: [TagPlace; 3] = [at!(0 0), at!(2 2), at!(5 1)];
+
+/// Its root alternatives.
+const ROOTS_OF_THREE: [Tag; 2] = [context!(0), context!(5)];
+
+/// Its addition.
+const ADDITIONS_OF_THREE: [Tag; 1] = [context!(2)];
+
+/// The tags of a choice's root alternatives and of its additions, and the places of all.
+type Tags<'a> = (&'a [Tag], &'a [Tag], &'a [TagPlace]);
+
+/// Those of a choice.
+fn tags_of(choice: Choice, lent: Lent<'_>) -> Tags<'_> {
+    match choice {
+        Choice::OfThree => (&ROOTS_OF_THREE, &ADDITIONS_OF_THREE, &PLACES_OF_THREE),
+        Choice::Of300 => (
+            lent.tags.split_at(300.min(lent.tags.len())).0,
+            &[],
+            lent.places.split_at(300.min(lent.places.len())).0,
+        ),
+        Choice::WithAdditions => {
+            let (roots, additions) = lent.tags.split_at(1.min(lent.tags.len()));
+            (roots, additions, lent.places)
+        }
+    }
+}
+
+/// Whether a choice has an extension marker.
+fn is_marked(choice: Choice) -> bool {
+    !matches!(choice, Choice::Of300)
+}
+
+/// The constraint to these sizes.
+fn sized(low: usize, high: usize) -> Constraints<'static> {
+    Constraints {
+        size: Some(Extensible::new(Size::new(Bounded::const_new(low, high)))),
+        ..Constraints::NONE
+    }
+}
+
+/// The constraint of the message's string.
+fn constraints_of(is_sized: bool, string: &[u8]) -> Constraints<'static> {
+    if is_sized {
+        sized(string.len(), string.len())
+    } else {
+        Constraints::NONE
+    }
+}
+
+/// Writes that all additions in front of the last one of so many are absent.
+fn put_absent<E: Encoder>(encoder: &mut E, count: usize) -> Result<(), EncodeError> {
+    for _ in 1..count {
+        encoder.put_addition(false)?;
+    }
+    Ok(())
+}
+
+/// Writes what has no components.
+fn put_value<E: Encoder>(encoder: &mut E, step: Step, string: &[u8]) -> Result<(), EncodeError> {
+    match step {
+        Step::Null => encoder.encode_null(Tag::NULL, Identifier::NULL),
+        Step::Truth(value) => value.encode(encoder),
+        Step::Octet(value) => value.encode(encoder),
+        Step::Word(value) => value.encode(encoder),
+        Step::Number(value) => value.encode_with_constraints(encoder, Constraints::NONE),
+        Step::String(is_sized) => {
+            let constraints = constraints_of(is_sized, string);
+            let (tag, name) = (Tag::OCTET_STRING, Identifier::EMPTY);
+            encoder.encode_octet_string(tag, constraints, Bounded::None, string, name)
+        }
+        _ => Err(EncodeError::CallOutOfPlace),
+    }
+}
+
+/// Makes a call of an encoder.
+fn put<E: Encoder>(encoder: &mut E, step: Step, lent: Lent<'_>) -> Result<(), EncodeError> {
+    match step {
+        Step::Sequence(is_marked, optional) => {
+            encoder.begin_sequence(Tag::SEQUENCE, is_marked, optional)
+        }
+        Step::Set(is_marked, optional) => encoder.begin_set(Tag::SET, is_marked, optional),
+        Step::Bag(count) => encoder.begin_bag(Tag::SET, sized(1, 2), Bounded::None, count),
+        Step::Choice(choice, chosen) => {
+            let (roots, additions, _) = tags_of(choice, lent);
+            encoder.begin_choice(Tag::CHOICE, roots, is_marked(choice), additions, chosen)
+        }
+        Step::Present(is_there) => encoder.put_presence_bit(is_there),
+        Step::Further(is_there) => encoder.put_further(is_there),
+        Step::Additions(count) => encoder.begin_additions(count),
+        Step::AbsentOf(count) => put_absent(encoder, count),
+        Step::Addition(is_there) => encoder.put_addition(is_there),
+        Step::EndOfAddition => encoder.end_addition(),
+        Step::End => encoder.end(),
+        value => put_value(encoder, value, lent.string),
+    }
+}
+
+/// Makes calls of an encoder.
+pub fn put_all<E: Encoder>(
+    encoder: &mut E,
+    steps: &[Step],
+    lent: Lent<'_>,
+) -> Result<(), EncodeError> {
+    for step in steps {
+        put(encoder, *step, lent)?;
+    }
+    Ok(())
+}
+
+/// Whether all additions in front of the last one of so many are absent.
+fn are_absent<D: Decoder>(decoder: &mut D, count: usize) -> Result<bool, DecodeError> {
+    for _ in 1..count {
+        if decoder.get_addition()? {
+            return Ok(false);
+        }
+    }
+    Ok(true)
+}
+
+/// The alternative of a choice that comes next.
+fn chosen<D: Decoder>(
+    decoder: &mut D,
+    choice: Choice,
+    lent: Lent<'_>,
+) -> Result<Chosen, DecodeError> {
+    let (roots, additions, places) = tags_of(choice, lent);
+    match TagTables::checked(roots, is_marked(choice), additions, places) {
+        Some(tables) => decoder.begin_choice(Tag::CHOICE, &tables),
+        None => Err(DecodeError::Incomplete),
+    }
+}
+
+/// Whether the string of the message comes next.
+fn is_string<D: Decoder>(
+    alloc: Global,
+    decoder: &mut D,
+    is_sized: bool,
+    string: &[u8],
+) -> Result<bool, DecodeError> {
+    let constraints = constraints_of(is_sized, string);
+    let tag = Tag::OCTET_STRING;
+    let found = decoder.decode_octet_string(alloc, tag, constraints, Bounded::None)?;
+    Ok(found.octets() == string)
+}
+
+/// Finds what has no value.
+fn find<D: Decoder>(decoder: &mut D, step: Step) -> Result<(), DecodeError> {
+    match step {
+        Step::Sequence(is_marked, optional) => {
+            decoder.begin_sequence(Tag::SEQUENCE, is_marked, optional)
+        }
+        Step::Set(is_marked, optional) => decoder.begin_set(Tag::SET, is_marked, optional),
+        Step::Bag(_) => decoder.begin_bag(Tag::SET, sized(1, 2), Bounded::None),
+        Step::Additions(count) => decoder.begin_additions(count),
+        Step::EndOfAddition => decoder.end_addition(),
+        Step::Null => decoder.decode_null(Tag::NULL),
+        _ => decoder.end(),
+    }
+}
+
+/// Whether what comes next is that of a step.
+fn is_found<D: Decoder>(
+    alloc: Global,
+    decoder: &mut D,
+    step: Step,
+    lent: Lent<'_>,
+) -> Result<bool, DecodeError> {
+    match step {
+        Step::Choice(choice, wanted) => Ok(chosen(decoder, choice, lent)? == wanted),
+        Step::Present(is_there) => Ok(decoder.get_presence_bit()? == is_there),
+        Step::Further(is_there) => Ok(decoder.get_further()? == is_there),
+        Step::AbsentOf(count) => are_absent(decoder, count),
+        Step::Addition(is_there) => Ok(decoder.get_addition()? == is_there),
+        Step::Truth(value) => Ok(bool::decode(alloc, decoder)? == value),
+        Step::Octet(value) => Ok(u8::decode(alloc, decoder)? == value),
+        Step::Word(value) => Ok(u16::decode(alloc, decoder)? == value),
+        Step::Number(value) => {
+            Ok(i64::decode_with_constraints(alloc, decoder, Constraints::NONE)? == value)
+        }
+        Step::String(is_sized) => is_string(alloc, decoder, is_sized, lent.string),
+        frame => {
+            find(decoder, frame)?;
+            Ok(true)
+        }
+    }
+}
+
+/// Whether a decoder finds what is written by these steps.
+pub fn are_found<D: Decoder>(
+    alloc: Global,
+    decoder: &mut D,
+    steps: &[Step],
+    lent: Lent<'_>,
+) -> Result<bool, DecodeError> {
+    for step in steps {
+        if !is_found(alloc, decoder, *step, lent)? {
+            return Ok(false);
+        }
+    }
+    Ok(true)
+}
