@@ -2,3 +2,8 @@ mod Encoding
 mod Lifting
 mod Messages
 mod Once
+pub mod Preambles
+pub mod Finding
+pub mod Adding
+pub mod Choosing
+pub mod Records

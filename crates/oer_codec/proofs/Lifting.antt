@@ -5,7 +5,7 @@ use Rattle.asn1_schema_presented.specs.Chains.{Chain}
 use Rattle.asn1_schema_presented.specs.Levels.{Level}
 use Rattle.oer_codec_reading.specs.Fronts.{freedoms}
 use Rattle.oer_codec_fronts.specs.Takes.{State, Takes}
-use Rattle.oer_codec_decoder.specs.Held.{Held, Finds, state_of}
+use Rattle.oer_codec.specs.Held.{Held, Finds, state_of}
 
 pub octets_taken : (rs : List Record) (a b : Held) → Chain Finds rs a b → Chain (Takes (freedoms a.rules)) rs (state_of a) (state_of b)
 octets_taken [] a b c = ap state_of c

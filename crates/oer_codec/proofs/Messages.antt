@@ -13,7 +13,7 @@ use Rattle.asn1_schema_faults.specs.declared.DecodeError.{DecodeError}
 use Rattle.asn1_schema_presented.proofs.Levels.{nests}
 use Rattle.asn1_schema_presented.specs.Chains.{Chain}
 use Rattle.asn1_schema_presented.specs.Presents.{presents, Fits}
-use Rattle.oer_codec_decoder.specs.Held.{Held, Finds}
+use Rattle.oer_codec.specs.Held.{Held, Finds}
 use Rattle.oer_codec_fronts.specs.Takes.{State, Front}
 use Rattle.oer_codec_fronts.proofs.Whole.{records_read, forms_show}
 use Rattle.asn1_schema_finding.proofs.Fitting.{records_fit}

@@ -1,10 +1,18 @@
-//! The octet encoding rules (X.696), basic and canonical: OER and COER.
+//! The octet encoding rules (X.696), basic and canonical: OER and COER. The decoder behind the trait, and the calls.
 #![tactic(auto)]
 
+mod additions;
+mod choices;
 pub mod coer;
+pub mod decoder;
+mod endings;
+mod frames;
 pub mod front_readers;
 pub mod laws;
+mod members;
 pub mod oer;
+mod options;
+mod preamble;
 pub mod reading;
 pub mod writing;
 

@@ -6,11 +6,12 @@ ghost use Rattle.asn1_schema_constraints.specs.Terms.{meant};
 ghost use Rattle.asn1_schema_decode.specs.Messages.{NoMessage, Tells};
 ghost use Rattle.oer_codec.specs.Encoded.{IsEncoded, NotEncoded};
 
+pub use crate::decoder::Decoder;
+pub use crate::options::DecoderOptions;
 use asn1_schema_constraints::Constraints;
 use asn1_schema_decode::Decode;
 use asn1_schema_encode::Encode;
 use asn1_schema_faults::{DecodeError, EncodeError};
-pub use oer_codec_decoder::{Decoder, DecoderOptions};
 pub use oer_codec_encoder::{Encoder, EncoderOptions};
 pub use oer_codec_reading::EncodingRules;
 use std::alloc::Global;

@@ -5,10 +5,11 @@ ghost use Rattle.asn1_schema_constraints.specs.Terms.{meant};
 ghost use Rattle.asn1_schema_decode.specs.Messages.{Tells, NoMessage};
 ghost use Rattle.oer_codec.specs.Messages.{rules_of};
 
+use crate::decoder::Decoder;
+use crate::options::DecoderOptions;
 use asn1_schema_constraints::Constraints;
 use asn1_schema_decode::Decode;
 use asn1_schema_faults::DecodeError;
-use oer_codec_decoder::{Decoder, DecoderOptions};
 use oer_codec_reading::EncodingRules;
 use std::alloc::Global;
 

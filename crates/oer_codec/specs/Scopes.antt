@@ -1,0 +1,43 @@
+-- What has begun and has not ended, as a reader of the octet encoding rules (X.696) holds it.
+use Rattle.std.specs.Prelude.{◌≡◌, Bool, false, List, [], ◌∷◌, ◌++◌, map, replicate, reverse, Option, Some, None}
+use Rattle.oer_codec_fronts.specs.Takes.{Scope, components, added, open_type, members, alternative}
+use Rattle.oer_codec.specs.declared.additions.Additions.{Additions}
+use Rattle.oer_codec.specs.declared.frames.Enclosing.{Enclosing}
+use Rattle.oer_codec.specs.declared.frames.Enclosing.TheVariants.{Alternative as EnclosingAlternative}
+use Rattle.oer_codec.specs.declared.frames.Enclosing.TheVariants.{OpenType as EnclosingOpenType}
+use Rattle.oer_codec.specs.declared.frames.Frame.{Frame}
+use Rattle.oer_codec.specs.declared.frames.Frame.TheVariants.{Components, Added, OpenType, Members, Alternative}
+
+-- The presence bits of the type's additions that are still to come: those past the bitmap are 0.
+abbrev pub bits_due : Additions → List Bool
+bits_due a = a.known.bits ++ replicate a.absent false
+
+-- An open scope.
+abbrev pub scope_of : Frame → Scope
+scope_of (Components x r) = components x r.bits
+scope_of (Added a) = added (bits_due a) a.unknown.bits
+scope_of (OpenType behind) = open_type behind
+scope_of (Members n) = members n
+scope_of Alternative = alternative
+
+-- The frame of what encloses one value alone.
+abbrev pub frame_of : Enclosing → Frame
+frame_of EnclosingAlternative = Alternative
+frame_of (EnclosingOpenType behind) = OpenType behind
+
+-- The open scopes that frames hold, the innermost first: it stands alone, and those around it in the order in which
+-- they began.
+abbrev pub framed : Option Frame → List Frame → List Scope
+framed None fs = []
+framed (Some f) fs = scope_of f ∷ map scope_of (reverse fs)
+
+-- The open scopes, the innermost first: what encloses one value alone, if there is such a one, and those that frames
+-- hold.
+abbrev pub scopes_of : Option Enclosing → Option Frame → List Frame → List Scope
+scopes_of None f fs = framed f fs
+scopes_of (Some e) f fs = scope_of (frame_of e) ∷ framed f fs
+
+-- The next presence bit of an addition.
+abbrev pub NextPresent : Bool → List Scope → List Scope → Type 0
+NextPresent v (added (m ∷ ms) us ∷ k) after = (v ≡ m) × (after ≡ added ms us ∷ k)
+NextPresent v k after = ⊥

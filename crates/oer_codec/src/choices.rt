@@ -1,0 +1,91 @@
+//! Which alternative of a choice is chosen (X.696 20).
+ghost use Rattle.std.specs.Prelude.{◌≡◌, ◌<◌, ◌∷◌, cond, length, IfOk, IfErr, IfSome, IfNone};
+ghost use Rattle.asn1_model.specs.Oer.{tag_form};
+ghost use Rattle.asn1_schema_tags.specs.Tags.{tag_of};
+ghost use Rattle.oer_codec_fronts.specs.Takes.{Chooses, Enters, IsPlace};
+ghost use Rattle.oer_codec_reading.specs.Fronts.{freedoms, Stands};
+ghost use Rattle.oer_codec.specs.Refusals.{NoChoice, NoEntry, NoTag};
+ghost use Rattle.oer_codec.specs.Scopes.{frame_of, scope_of};
+
+use crate::frames::Enclosing;
+use asn1_schema_faults::DecodeError;
+use asn1_schema_tags::{Tag, TagTables};
+use asn1_schema_variants::Chosen;
+use oer_codec_reading::{Cursor, EncodingRules, enter_open_type, read_tag, visit_numbers};
+
+/// Reads the tag of an alternative, which has a place in one of these tables.
+#[inline(always)]
+fn read_alternative(
+    cursor: &mut Cursor<'_>,
+    rules: EncodingRules,
+    tables: &TagTables<'_>,
+) -> Result<Tag, DecodeError>
+    ensures ok { IfOk result (λ t. Stands (freedoms rules) (tag_form (tag_of t)) cursor.old cursor.new) }
+    ensures only { IfErr result (NoTag (freedoms rules) tables.now.roots tables.now.additions cursor.old) }
+{
+    match read_tag(cursor, rules) {
+        Ok(tag) => Ok(tag),
+        Err(error) => {
+            visit_numbers(tables.roots());
+            visit_numbers(tables.additions());
+            Err(error)
+        }
+    }
+}
+
+/// The alternative of a tag: one of the root, else an added one behind an extension marker.
+#[inline(always)]
+fn find_alternative(tag: Tag, tables: &TagTables<'_>) -> Option<Chosen>
+    ensures some { IfSome result (λ x. IsPlace tables.now.roots tables.now.extensible tables.now.additions
+        (tag_of tag) x.added x.place) }
+    ensures within { IfSome result (λ x. x.place < length (cond x.added tables.now.additions tables.now.roots)) }
+    ensures none { IfNone result ((plus : _) (i : _) → IsPlace tables.now.roots tables.now.extensible
+        tables.now.additions (tag_of tag) plus i → ⊥) }
+{
+    tables.alternative(tag)
+}
+
+/// Enters an alternative: an added one is an open type (X.696 20).
+#[inline(always)]
+fn enter_alternative<'input>(
+    cursor: &mut Cursor<'input>,
+    rules: EncodingRules,
+    added: bool,
+) -> Result<Enclosing<'input>, DecodeError>
+    ensures ok { IfOk result (λ enclosing. (k : _) → Enters (freedoms rules) added cursor.old k
+        (cursor.new, scope_of (frame_of enclosing) ∷ k)) }
+    ensures only { IfErr result (NoEntry (freedoms rules) added cursor.old) }
+{
+    if !added {
+        return Ok(Enclosing::Alternative);
+    }
+    let behind = enter_open_type(cursor, rules)?;
+    Ok(Enclosing::OpenType(behind))
+}
+
+/// Reads the tag of a choice, and enters its alternative (X.696 20).
+///
+/// # Errors
+///
+/// `InvalidTagVariantOnChoice` if no alternative has the tag, the errors of a tag, and those of an open type for an
+/// added alternative.
+#[inline(always)]
+pub(crate) fn read_choice<'input>(
+    cursor: &mut Cursor<'input>,
+    rules: EncodingRules,
+    tables: &TagTables<'_>,
+) -> Result<(Chosen, Enclosing<'input>), DecodeError>
+    ensures ok { IfOk result (λ p. (k : _) → Chooses (freedoms rules) tables.now.roots tables.now.extensible
+        tables.now.additions p.0.added p.0.place (cursor.old, k) (cursor.new, scope_of (frame_of p.1) ∷ k)) }
+    ensures within { IfOk result
+        (λ p. p.0.place < length (cond p.0.added tables.now.additions tables.now.roots)) }
+    ensures only { IfErr result (NoChoice (freedoms rules) tables.now.roots tables.now.extensible
+        tables.now.additions cursor.old) }
+{
+    let tag = read_alternative(cursor, rules, tables)?;
+    let Some(chosen) = find_alternative(tag, tables) else {
+        return Err(DecodeError::InvalidTagVariantOnChoice);
+    };
+    let enclosing = enter_alternative(cursor, rules, chosen.added)?;
+    Ok((chosen, enclosing))
+}

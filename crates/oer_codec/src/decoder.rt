@@ -1,0 +1,522 @@
+//! What finds the records of a value in octets.
+ghost use Rattle.std.specs.Prelude.{◌≡◌, ◌+◌, ◌-◌, ◌<◌, ◌≤◌, ◌^◌, [], ◌∷◌, true, false, length, take, OnOk, OnErr};
+ghost use Rattle.std.specs.Prelude.{IfErr, IfOk};
+ghost use Rattle.asn1_schema_decode.specs.Reads.{NoRecord};
+ghost use Rattle.asn1_schema_presented.specs.Records.{asks_one_of, one_of};
+ghost use Rattle.oer_codec.specs.Held.{Held, Finds, HasFailed, kind_of, state_of, IsReady};
+ghost use Rattle.oer_codec.specs.Refusals.{NotOpened};
+ghost use Rattle.oer_codec.specs.Scopes.{frame_of, scope_of};
+ghost use Rattle.oer_codec_fronts.specs.Takes.{Opens};
+ghost use Rattle.oer_codec_reading.specs.Fronts.{freedoms};
+
+use crate::additions::read_additions;
+use crate::choices::read_choice;
+use crate::frames::{Enclosing, Frame, Scopes};
+use crate::members::read_members;
+use crate::options::DecoderOptions;
+use crate::preamble::read_preamble;
+use asn1_schema_constraints::{Bounded, Constraints};
+use asn1_schema_faults::{CodecKind, DecodeError};
+use asn1_schema_tags::{Tag, TagTables};
+use asn1_schema_variants::{Chosen, Enumerated};
+use asn1_values_alphabets::StaticPermittedAlphabet;
+use asn1_values_bit_strings::BitString;
+use asn1_values_identifiers::ObjectIdentifier;
+use asn1_values_integers::IntegerType;
+use oer_codec_reading::bit_strings::read_bit_string;
+use oer_codec_reading::identifiers::read_object_identifier;
+use oer_codec_reading::integers::read_integer;
+use oer_codec_reading::octet_strings::read_octet_string;
+use oer_codec_reading::units::{read_boolean, read_null};
+use oer_codec_reading::{
+    Cursor, EncodingRules, enter_open_type, read_characters, read_enumerated, read_utf8_string,
+};
+use std::alloc::Global;
+use std::marker::Model;
+
+/// A decoder of the octet encoding rules (X.696), which lends octets from its input.
+#[derive(Drop)]
+pub struct Decoder<'input> {
+    cursor: Cursor<'input>,
+    scopes: Scopes<'input>,
+    levels: usize,
+    most: usize,
+    failed: bool,
+    rules: EncodingRules,
+}
+
+impl<'input> Model for Decoder<'input> {
+    ghost use Rattle.oer_codec.specs.Held.{Held};
+
+    ghost Value = { Held };
+
+    ghost view = { λ d. record {
+      octets = d.cursor;
+      scopes = d.scopes;
+      levels = d.levels;
+      most = d.most;
+      failed =
+          d.failed;
+      rules = d.rules;
+    } };
+}
+
+impl<'input> Decoder<'input> {
+    /// A decoder of this input by the rules of these options, within 128 nested levels. Of an input of 2 to 60 octets
+    /// or more the first ones are looked at, fewer than so many.
+    #[inline(always)]
+    pub fn new(alloc: Global, input: &'input [u8], options: DecoderOptions) -> Self
+        ensures { result ≡ record {
+          octets = take (2 ^ 60 - 1) input.entry.now;
+          scopes = [];
+          levels = 128;
+          most = 128;
+          failed = false;
+          rules = options.rules;
+        } }
+    {
+        Decoder {
+            cursor: Cursor::new(input),
+            scopes: Scopes::new(alloc),
+            levels: 128,
+            most: 128,
+            failed: false,
+            rules: options.rules,
+        }
+    }
+
+    /// The octets that are left.
+    #[inline(always)]
+    pub fn remaining(&self) -> &'input [u8]
+        ensures { result.now ≡ self.now.octets }
+    {
+        self.cursor.remaining()
+    }
+
+    // Fails for this reason, from now on.
+    fn fail(&mut self, error: DecodeError) -> DecodeError
+        ensures refused { result ≡ error }
+        ensures failed { self.new.failed ≡ true }
+    {
+        self.failed = true;
+        error
+    }
+
+    // Goes on, unless the decoder has failed.
+    #[inline(always)]
+    fn begin_record(&mut self) -> Result<(), DecodeError>
+        ensures ok { OnOk result (IsReady self.old × (self.new ≡ self.old)) }
+        ensures only { IfErr result (λ _. IsReady self.old → ⊥) }
+        ensures after { IfErr result (λ e. (e ≡ DecodeError.AlreadyFailed) × HasFailed self.old) }
+        ensures failed { OnErr result (self.new.failed ≡ true) }
+        ensures already { self.old.failed ≡ true → result ≡ Err DecodeError.AlreadyFailed }
+    {
+        if self.failed {
+            return Err(DecodeError::AlreadyFailed);
+        }
+        Ok(())
+    }
+
+    // Goes on, unless the decoder has failed or no level is left.
+    #[inline(always)]
+    fn begin_level(&mut self) -> Result<(), DecodeError>
+        ensures ok { OnOk result (IsReady self.old × (self.new ≡ self.old)) }
+        ensures level { OnOk result (0 < self.old.levels) }
+        ensures only { IfErr result (λ _. 0 < self.old.levels → IsReady self.old → ⊥) }
+        ensures after { IfErr result (λ e. e ≡ DecodeError.AlreadyFailed → HasFailed self.old) }
+        ensures failed { OnErr result (self.new.failed ≡ true) }
+        ensures already { self.old.failed ≡ true → result ≡ Err DecodeError.AlreadyFailed }
+    {
+        self.begin_record()?;
+        if self.levels == 0 {
+            return Err(self.fail(DecodeError::ExceedsMaxParseDepth));
+        }
+        Ok(())
+    }
+
+    // Opens a scope, and takes a level for it.
+    #[inline(always)]
+    fn enter(&mut self, frame: Frame<'input>) -> Result<(), DecodeError>
+        requires { 0 < self.old.levels }
+        ensures levels { OnOk result (self.old.levels ≡ self.new.levels + 1) }
+        ensures scopes { OnOk result (self.new ≡ record {
+          octets = self.old.octets;
+          scopes = scope_of frame.entry
+              ∷ self.old.scopes;
+          levels = self.new.levels;
+          most = self.old.most;
+          failed = self.old.failed;
+          rules =
+              self.old.rules;
+        }) }
+        ensures only { IfErr result (λ error. error ≡ DecodeError.OutOfMemory) }
+        ensures failed { OnErr result (self.new.failed ≡ true) }
+    {
+        let Ok(()) = self.scopes.open(frame) else {
+            return Err(self.fail(DecodeError::OutOfMemory));
+        };
+        self.levels -= 1;
+        Ok(())
+    }
+
+    // Encloses one value alone, and takes a level for it.
+    #[inline(always)]
+    fn enter_enclosing(&mut self, enclosing: Enclosing<'input>) -> Result<(), DecodeError>
+        requires { 0 < self.old.levels }
+        ensures levels { OnOk result (self.old.levels ≡ self.new.levels + 1) }
+        ensures scopes { OnOk result (self.new
+            ≡ record {
+              octets = self.old.octets;
+              scopes = scope_of (frame_of enclosing.entry)
+                  ∷ self.old.scopes;
+              levels = self.new.levels;
+              most = self.old.most;
+              failed = self.old.failed;
+              rules =
+                  self.old.rules;
+            }) }
+        ensures only { IfErr result (λ error. error ≡ DecodeError.OutOfMemory) }
+        ensures failed { OnErr result (self.new.failed ≡ true) }
+    {
+        let Ok(()) = self.scopes.enclose(enclosing) else {
+            return Err(self.fail(DecodeError::OutOfMemory));
+        };
+        self.levels -= 1;
+        Ok(())
+    }
+
+    // Opens the scope of an open type (X.696 30), and takes no level for it.
+    #[inline(always)]
+    fn open_type(&mut self) -> Result<(), DecodeError>
+        ensures opens { OnOk result (Opens (freedoms self.old.rules) self.old.octets self.old.scopes
+            (state_of self.new)) }
+        ensures kept { OnOk result (self.new
+            ≡ record {
+              octets = self.new.octets;
+              scopes = self.new.scopes;
+              levels = self.old.levels;
+              most =
+                  self.old.most;
+              failed = self.old.failed;
+              rules = self.old.rules;
+            }) }
+        ensures only { IfErr result (NotOpened (freedoms self.old.rules) self.old.octets) }
+        ensures failed { OnErr result (self.new.failed ≡ true) }
+    {
+        match enter_open_type(&mut self.cursor, self.rules) {
+            Ok(behind) => {
+                let Ok(()) = self.scopes.enclose(Enclosing::OpenType(behind)) else {
+                    return Err(self.fail(DecodeError::OutOfMemory));
+                };
+                Ok(())
+            }
+            Err(error) => Err(self.fail(error)),
+        }
+    }
+}
+
+// One call: `AlreadyFailed` after a refusal, else what is found of its record, and after a refusal no more.
+macro_rules! record {
+    ($decoder:ident, $read:expr) => {{
+        $decoder.begin_record()?;
+        match $read {
+            Ok(found) => Ok(found),
+            Err(error) => Err($decoder.fail(error)),
+        }
+    }};
+}
+
+// The same of a call that opens a scope, for which a level has to be left.
+macro_rules! scope {
+    ($decoder:ident, $read:expr) => {{
+        $decoder.begin_level()?;
+        match $read {
+            Ok(frame) => $decoder.enter(frame),
+            Err(error) => Err($decoder.fail(error)),
+        }
+    }};
+}
+
+impl<'input> asn1_schema_decode::Decoder for Decoder<'input> {
+    ghost use Rattle.oer_codec.specs.Laws.{finds_one, finds_held, finds_bag_held, finds_none, finds_on};
+    ghost use Rattle.oer_codec.specs.Laws.{finds_same};
+    ghost use Rattle.std.specs.Prelude.{⊤};
+
+    type Octets = &'input [u8];
+
+    ghost step = { Finds };
+
+    ghost has_failed = { HasFailed };
+
+    ghost levels = { λ d. d.levels };
+
+    ghost lends = { λ _ _ _. ⊤ };
+
+    ghost rules = { λ d. kind_of d.rules };
+
+    fn codec(&self) -> CodecKind {
+        match self.rules {
+            EncodingRules::Oer => CodecKind::Oer,
+            EncodingRules::Coer => CodecKind::Coer,
+        }
+    }
+
+    fn levels_left(&self) -> usize {
+        self.levels
+    }
+
+    fn refuse(&mut self, error: DecodeError) -> DecodeError {
+        self.fail(error)
+    }
+
+    #[inline(always)]
+    fn decode_bool(&mut self, _tag: Tag) -> Result<bool, DecodeError> {
+        record!(self, read_boolean(&mut self.cursor, self.rules))
+    }
+
+    #[inline(always)]
+    fn decode_null(&mut self, _tag: Tag) -> Result<(), DecodeError> {
+        record!(self, read_null(&mut self.cursor, self.rules))
+    }
+
+    #[inline(always)]
+    fn decode_integer<I: IntegerType>(
+        &mut self,
+        alloc: Global,
+        _tag: Tag,
+        constraints: Constraints,
+    ) -> Result<I, DecodeError> {
+        record!(
+            self,
+            read_integer(alloc, &mut self.cursor, self.rules, constraints)
+        )
+    }
+
+    fn decode_enumerated<T: Enumerated>(&mut self, _tag: Tag) -> Result<T, DecodeError>
+        ensures ok { IfOk result
+            (λ x. Finds self.old (one_of T.roots T.extensible T.additions (T.number x)) self.new) }
+        ensures level { OnOk result (self.new.levels ≡ self.old.levels) }
+        ensures only { IfErr result (NoRecord Finds (asks_one_of T.roots T.extensible T.additions) self.old) }
+        ensures failed { OnErr result (HasFailed self.new) }
+        ensures already { HasFailed self.old → result ≡ Err DecodeError.AlreadyFailed }
+        ensures after { result ≡ Err DecodeError.AlreadyFailed → HasFailed self.old }
+    {
+        record!(self, read_enumerated(&mut self.cursor, self.rules))
+    }
+
+    fn decode_bit_string(
+        &mut self,
+        alloc: Global,
+        _tag: Tag,
+        constraints: Constraints,
+        held: Bounded<usize>,
+    ) -> Result<BitString, DecodeError> {
+        record!(
+            self,
+            read_bit_string(alloc, &mut self.cursor, self.rules, constraints, held)
+        )
+    }
+
+    /// The octets stand in the input as they are (X.696 14), and are lent.
+    #[inline(always)]
+    fn decode_octet_string(
+        &mut self,
+        _alloc: Global,
+        _tag: Tag,
+        constraints: Constraints,
+        held: Bounded<usize>,
+    ) -> Result<&'input [u8], DecodeError> {
+        record!(
+            self,
+            read_octet_string(&mut self.cursor, self.rules, constraints, held)
+        )
+    }
+
+    fn decode_utf8_string(
+        &mut self,
+        alloc: Global,
+        _tag: Tag,
+        constraints: Constraints,
+    ) -> Result<String, DecodeError> {
+        record!(
+            self,
+            read_utf8_string(alloc, &mut self.cursor, self.rules, constraints)
+        )
+    }
+
+    fn decode_characters<S: StaticPermittedAlphabet>(
+        &mut self,
+        alloc: Global,
+        _tag: Tag,
+        constraints: Constraints,
+    ) -> Result<S, DecodeError> {
+        record!(
+            self,
+            read_characters(alloc, &mut self.cursor, self.rules, constraints)
+        )
+    }
+
+    fn decode_object_identifier(
+        &mut self,
+        alloc: Global,
+        _tag: Tag,
+    ) -> Result<ObjectIdentifier, DecodeError> {
+        record!(
+            self,
+            read_object_identifier(alloc, &mut self.cursor, self.rules)
+        )
+    }
+
+    #[inline(always)]
+    fn begin_list(
+        &mut self,
+        _tag: Tag,
+        _constraints: Constraints,
+        held: Bounded<usize>,
+    ) -> Result<(), DecodeError> {
+        scope!(self, read_members(&mut self.cursor, self.rules, held))
+    }
+
+    #[inline(always)]
+    fn begin_bag(
+        &mut self,
+        _tag: Tag,
+        _constraints: Constraints,
+        held: Bounded<usize>,
+    ) -> Result<(), DecodeError> {
+        scope!(self, read_members(&mut self.cursor, self.rules, held))
+    }
+
+    #[inline(always)]
+    fn get_further(&mut self) -> Result<bool, DecodeError> {
+        self.begin_record()?;
+        match self.scopes.next_member() {
+            Some(more) => Ok(more),
+            None => Err(self.fail(DecodeError::NotValidCanonicalEncoding)),
+        }
+    }
+
+    #[inline(always)]
+    fn begin_sequence(
+        &mut self,
+        _tag: Tag,
+        extensible: bool,
+        optional: usize,
+    ) -> Result<(), DecodeError> {
+        scope!(self, read_preamble(&mut self.cursor, extensible, optional))
+    }
+
+    #[inline(always)]
+    fn begin_set(
+        &mut self,
+        _tag: Tag,
+        extensible: bool,
+        optional: usize,
+    ) -> Result<(), DecodeError> {
+        scope!(self, read_preamble(&mut self.cursor, extensible, optional))
+    }
+
+    #[inline(always)]
+    fn begin_group(&mut self, optional: usize) -> Result<(), DecodeError> {
+        scope!(self, read_preamble(&mut self.cursor, false, optional))
+    }
+
+    #[inline(always)]
+    fn get_presence_bit(&mut self) -> Result<bool, DecodeError> {
+        self.begin_record()?;
+        match self.scopes.next_presence_bit() {
+            Some(present) => Ok(present),
+            None => Err(self.fail(DecodeError::NotValidCanonicalEncoding)),
+        }
+    }
+
+    fn note_default(&mut self) -> Result<(), DecodeError> {
+        self.begin_record()?;
+        match self.rules {
+            EncodingRules::Oer => Ok(()),
+            EncodingRules::Coer => Err(self.fail(DecodeError::NotValidCanonicalEncoding)),
+        }
+    }
+
+    fn note_empty(&mut self) -> Result<(), DecodeError> {
+        self.begin_record()?;
+        if self.rules.is_coer() {
+            return Err(self.fail(DecodeError::NotValidCanonicalEncoding));
+        }
+        Ok(())
+    }
+
+    #[inline(always)]
+    fn begin_additions(&mut self, count: usize) -> Result<(), DecodeError> {
+        self.begin_record()?;
+        let Some(marked) = self.scopes.extension_bit() else {
+            return Err(self.fail(DecodeError::NotValidCanonicalEncoding));
+        };
+        match read_additions(&mut self.cursor, self.rules, marked, count) {
+            Ok(additions) => {
+                self.scopes.replace(Frame::Added(additions));
+                Ok(())
+            }
+            Err(error) => Err(self.fail(error)),
+        }
+    }
+
+    #[inline(always)]
+    fn get_addition(&mut self) -> Result<bool, DecodeError> {
+        self.begin_record()?;
+        let Some(present) = self.scopes.next_addition() else {
+            return Err(self.fail(DecodeError::NotValidCanonicalEncoding));
+        };
+        if present {
+            self.open_type()?;
+        }
+        Ok(present)
+    }
+
+    #[inline(always)]
+    fn end_addition(&mut self) -> Result<(), DecodeError> {
+        record!(
+            self,
+            self.scopes.close_addition(&mut self.cursor, self.rules)
+        )
+    }
+
+    #[inline(always)]
+    fn begin_choice(&mut self, _tag: Tag, tables: &TagTables<'_>) -> Result<Chosen, DecodeError> {
+        self.begin_level()?;
+        match read_choice(&mut self.cursor, self.rules, tables) {
+            Ok((chosen, enclosing)) => {
+                self.enter_enclosing(enclosing)?;
+                Ok(chosen)
+            }
+            Err(error) => Err(self.fail(error)),
+        }
+    }
+
+    #[inline(always)]
+    fn end(&mut self) -> Result<(), DecodeError> {
+        self.begin_record()?;
+        if self.levels >= self.most {
+            return Err(self.fail(DecodeError::NotValidCanonicalEncoding));
+        }
+        match self.scopes.close(&mut self.cursor, self.rules) {
+            Ok(()) => {
+                self.levels += 1;
+                Ok(())
+            }
+            Err(error) => Err(self.fail(error)),
+        }
+    }
+
+    ghost one_record = { finds_one };
+
+    ghost list_held = { finds_held };
+
+    ghost bag_held = { finds_bag_held };
+
+    ghost goes_on = { finds_on };
+
+    ghost none_after = { finds_none };
+
+    ghost same_rules = { finds_same };
+}

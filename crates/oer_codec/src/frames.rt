@@ -1,0 +1,310 @@
+//! Open scopes.
+ghost use Rattle.std.specs.Prelude.{◌≡◌, ◌<◌, ◌∷◌, [], length, take, Some, OnOk, IfErr, IfSome, IfNone};
+ghost use Rattle.oer_codec_fronts.specs.Takes.{AdditionEnds, Ends, NextPresenceBit, NextMember, components};
+ghost use Rattle.oer_codec_reading.specs.Fronts.{freedoms};
+ghost use Rattle.oer_codec.specs.Refusals.{NoAdditionEnd, NoEnd};
+ghost use Rattle.oer_codec.specs.Scopes.{NextPresent, frame_of, framed, scope_of};
+
+use crate::additions::Additions;
+use crate::endings::finish;
+use asn1_schema_faults::DecodeError;
+use asn1_values_bits::BitReader;
+use oer_codec_reading::{Cursor, EncodingRules, leave_open_type};
+use std::alloc::{AllocError, Global};
+use std::marker::Model;
+
+/// The first bit.
+#[inline(always)]
+#[tactic(auto, using(crate::proofs::Finding::first_taken, crate::proofs::Finding::first_there))]
+pub(crate) fn first_bit(bits: &BitReader<'_>) -> bool
+    requires { 0 < length bits.now.bits }
+    ensures { take 1 bits.now.bits ≡ result ∷ [] }
+{
+    match bits.bits().get(0) {
+        Some(first) => first,
+        None => unreachable!(),
+    }
+}
+
+/// What has begun and has not ended.
+#[derive(Drop)]
+pub(crate) enum Frame<'input> {
+    /// The components of a sequence, set or group (X.696 16): the bit of its extension marker, if it has an extension
+    /// marker, and the presence bits that are still to come.
+    Components(Option<bool>, BitReader<'input>),
+    /// The additions of such a type (X.696 16.4).
+    Added(Additions<'input>),
+    /// An open type (X.696 30): its octets stand alone, and those behind it are these.
+    OpenType(Cursor<'input>),
+    /// The members of a list or bag (X.696 17 and 19): how many are still to come.
+    Members(usize),
+    /// An alternative of the root of a choice (X.696 20).
+    Alternative,
+}
+
+/// What encloses one value alone.
+#[derive(Drop)]
+pub(crate) enum Enclosing<'input> {
+    /// An alternative of the root of a choice (X.696 20).
+    Alternative,
+    /// An open type (X.696 30): its octets stand alone, and those behind it are these.
+    OpenType(Cursor<'input>),
+}
+
+impl<'input> Enclosing<'input> {
+    /// Its frame among others.
+    #[inline(always)]
+    fn frame(self) -> Frame<'input>
+        ensures { result ≡ frame_of self.entry }
+    {
+        match self {
+            Enclosing::Alternative => Frame::Alternative,
+            Enclosing::OpenType(behind) => Frame::OpenType(behind),
+        }
+    }
+}
+
+/// Opens a frame inside all others.
+#[inline(always)]
+fn put<'input>(
+    innermost: &mut Option<Frame<'input>>,
+    outer: &mut Vec<Frame<'input>>,
+    frame: Frame<'input>,
+) -> Result<(), AllocError>
+    ensures { OnOk result (framed innermost.new outer.new.items ≡ scope_of frame.entry
+        ∷ framed innermost.old outer.old.items) }
+{
+    match innermost.take() {
+        Some(around) => outer.push(around)?,
+        None => outer.clear(),
+    }
+    *innermost = Some(frame);
+    Ok(())
+}
+
+/// Opens what encloses one value alone as a frame inside all others. It is seldom called: where something begins in
+/// an open type or in an alternative.
+#[cold]
+fn put_enclosing<'input>(
+    innermost: &mut Option<Frame<'input>>,
+    outer: &mut Vec<Frame<'input>>,
+    enclosing: Enclosing<'input>,
+) -> Result<(), AllocError>
+    ensures { OnOk result (framed innermost.new outer.new.items ≡ scope_of (frame_of enclosing.entry)
+        ∷ framed innermost.old outer.old.items) }
+{
+    put(innermost, outer, enclosing.frame())
+}
+
+/// Closes the innermost frame, if it is that of an addition (X.696 30).
+#[cold]
+fn close_frame_of_addition<'input>(
+    innermost: &mut Option<Frame<'input>>,
+    outer: &mut Vec<Frame<'input>>,
+    cursor: &mut Cursor<'input>,
+    rules: EncodingRules,
+) -> Result<(), DecodeError>
+    ensures ok { OnOk result (AdditionEnds (freedoms rules) cursor.old (framed innermost.old outer.old.items)
+        (cursor.new, framed innermost.new outer.new.items)) }
+    ensures only { IfErr result (NoAdditionEnd (freedoms rules) cursor.old (framed innermost.old outer.old.items)) }
+{
+    let Some(Frame::OpenType(behind)) = innermost.take() else {
+        return Err(DecodeError::NotValidCanonicalEncoding);
+    };
+    let Some(Frame::Added(additions)) = outer.pop() else {
+        return Err(DecodeError::NotValidCanonicalEncoding);
+    };
+    leave_open_type(cursor, rules, behind)?;
+    *innermost = Some(Frame::Added(additions));
+    Ok(())
+}
+
+/// All that has begun and has not ended: what encloses one value alone, which stands inside all others if it is
+/// there, and the others, the innermost of them and what is around it.
+#[derive(Drop)]
+pub(crate) struct Scopes<'input> {
+    enclosing: Option<Enclosing<'input>>,
+    innermost: Option<Frame<'input>>,
+    outer: Vec<Frame<'input>>,
+}
+
+impl<'input> Model for Scopes<'input> {
+    ghost use Rattle.std.specs.Prelude.{List};
+    ghost use Rattle.oer_codec_fronts.specs.Takes.{Scope};
+    ghost use Rattle.oer_codec.specs.Scopes.{scopes_of};
+
+    ghost Value = { List Scope };
+
+    ghost view = { λ s. scopes_of s.enclosing s.innermost s.outer.items };
+}
+
+impl<'input> Scopes<'input> {
+    /// Nothing is open.
+    #[inline(always)]
+    pub(crate) fn new(alloc: Global) -> Self
+        ensures { result ≡ [] }
+    {
+        Scopes {
+            enclosing: None,
+            innermost: None,
+            outer: Vec::new(alloc),
+        }
+    }
+
+    /// Opens a scope inside all others.
+    #[inline(always)]
+    pub(crate) fn open(&mut self, frame: Frame<'input>) -> Result<(), AllocError>
+        ensures { OnOk result (self.new ≡ scope_of frame.entry ∷ self.old) }
+    {
+        if let Some(around) = self.enclosing.take() {
+            put_enclosing(&mut self.innermost, &mut self.outer, around)?;
+        }
+        put(&mut self.innermost, &mut self.outer, frame)
+    }
+
+    /// Opens inside all others what encloses one value alone.
+    #[inline(always)]
+    pub(crate) fn enclose(&mut self, enclosing: Enclosing<'input>) -> Result<(), AllocError>
+        ensures { OnOk result (self.new ≡ scope_of (frame_of enclosing.entry) ∷ self.old) }
+    {
+        if let Some(around) = self.enclosing.replace(enclosing) {
+            put_enclosing(&mut self.innermost, &mut self.outer, around)?;
+        }
+        Ok(())
+    }
+
+    /// Puts a scope in the place of the innermost, which is that of components.
+    #[inline(always)]
+    pub(crate) fn replace(&mut self, frame: Frame<'input>)
+        ensures { (x : _) (ms : _) (k : _) → self.old ≡ components x ms ∷ k → self.new ≡ scope_of frame.entry ∷ k }
+    {
+        self.innermost = Some(frame);
+    }
+
+    /// The extension bit of the innermost sequence, where all its presence bits are read.
+    #[inline(always)]
+    pub(crate) fn extension_bit(&self) -> Option<bool>
+        ensures some { IfSome result (λ set. (k : _) × (self.now ≡ components (Some set) [] ∷ k)) }
+        ensures none { IfNone result ((set : _) (k : _) → self.now ≡ components (Some set) [] ∷ k → ⊥) }
+    {
+        if self.enclosing.is_some() {
+            return None;
+        }
+        match &self.innermost {
+            Some(Frame::Components(Some(set), presence)) => {
+                if presence.is_empty() {
+                    return Some(*set);
+                }
+                None
+            }
+            _ => None,
+        }
+    }
+
+    /// The next presence bit of the innermost sequence.
+    #[inline(always)]
+    pub(crate) fn next_presence_bit(&mut self) -> Option<bool>
+        ensures some { IfSome result (λ present. (os : _) → NextPresenceBit present os self.old (os, self.new)) }
+        ensures none { IfNone result ((present : _) (os : _) (b : _) → NextPresenceBit present os self.old b → ⊥) }
+    {
+        if self.enclosing.is_some() {
+            return None;
+        }
+        match &mut self.innermost {
+            Some(Frame::Components(_, presence)) => {
+                if presence.is_empty() {
+                    return None;
+                }
+                let first = first_bit(presence);
+                let _first = presence.split(1);
+                Some(first)
+            }
+            _ => None,
+        }
+    }
+
+    /// Whether the next addition of the innermost sequence is there.
+    #[inline(always)]
+    pub(crate) fn next_addition(&mut self) -> Option<bool>
+        ensures some { IfSome result (λ present. NextPresent present self.old self.new) }
+        ensures none { IfNone result ((present : _) (after : _) → NextPresent present self.old after → ⊥) }
+    {
+        if self.enclosing.is_some() {
+            return None;
+        }
+        match &mut self.innermost {
+            Some(Frame::Added(additions)) => additions.next(),
+            _ => None,
+        }
+    }
+
+    /// Whether a member of the innermost list is still to come.
+    #[inline(always)]
+    pub(crate) fn next_member(&mut self) -> Option<bool>
+        ensures some { IfSome result (λ more. (os : _) → NextMember more os self.old (os, self.new)) }
+        ensures none { IfNone result ((more : _) (os : _) (b : _) → NextMember more os self.old b → ⊥) }
+    {
+        if self.enclosing.is_some() {
+            return None;
+        }
+        match &mut self.innermost {
+            Some(Frame::Members(due)) => {
+                if *due == 0 {
+                    return Some(false);
+                }
+                *due -= 1;
+                Some(true)
+            }
+            _ => None,
+        }
+    }
+
+    /// Closes the innermost scope, if nothing of it is still to come.
+    #[inline(always)]
+    pub(crate) fn close(
+        &mut self,
+        cursor: &mut Cursor<'input>,
+        rules: EncodingRules,
+    ) -> Result<(), DecodeError>
+        ensures ok { OnOk result (Ends (freedoms rules) cursor.old self.old (cursor.new, self.new)) }
+        ensures only { IfErr result (NoEnd (freedoms rules) cursor.old self.old) }
+    {
+        if let Some(enclosing) = self.enclosing.take() {
+            if let Enclosing::OpenType(behind) = enclosing {
+                leave_open_type(cursor, rules, behind)?;
+            }
+            return Ok(());
+        }
+        let Some(frame) = self.innermost.take() else {
+            return Err(DecodeError::NotValidCanonicalEncoding);
+        };
+        finish(frame, cursor, rules)?;
+        if !self.outer.is_empty() {
+            self.innermost = self.outer.pop();
+        }
+        Ok(())
+    }
+
+    /// Closes the innermost scope, if it is that of an addition (X.696 30).
+    #[inline(always)]
+    pub(crate) fn close_addition(
+        &mut self,
+        cursor: &mut Cursor<'input>,
+        rules: EncodingRules,
+    ) -> Result<(), DecodeError>
+        ensures ok { OnOk result (AdditionEnds (freedoms rules) cursor.old self.old (cursor.new, self.new)) }
+        ensures only { IfErr result (NoAdditionEnd (freedoms rules) cursor.old self.old) }
+    {
+        let Some(enclosing) = self.enclosing.take() else {
+            return close_frame_of_addition(&mut self.innermost, &mut self.outer, cursor, rules);
+        };
+        let Enclosing::OpenType(behind) = enclosing else {
+            return Err(DecodeError::NotValidCanonicalEncoding);
+        };
+        let Some(Frame::Added(_)) = &self.innermost else {
+            return Err(DecodeError::NotValidCanonicalEncoding);
+        };
+        leave_open_type(cursor, rules, behind)?;
+        Ok(())
+    }
+}

@@ -1,0 +1,46 @@
+//! How many members a list has (X.696 17).
+ghost use Rattle.std.specs.Prelude.{◌≡◌, Some, IfOk, IfErr};
+ghost use Rattle.asn1_schema_constraints.specs.Bounds.{members_of};
+ghost use Rattle.oer_codec_reading.specs.Fronts.{freedoms};
+ghost use Rattle.oer_codec.specs.Members.{HasMembers, NoMembers};
+ghost use Rattle.oer_codec.specs.Scopes.{scope_of};
+
+use crate::frames::Frame;
+use asn1_schema_constraints::Bounded;
+use asn1_schema_faults::DecodeError;
+use oer_codec_reading::numbers::read_count;
+use oer_codec_reading::{Cursor, EncodingRules};
+
+/// The greatest number of members that a type of the program with these bounds holds.
+#[inline(always)]
+fn most_members(held: Bounded<usize>) -> usize
+    ensures { (members_of held).high ≡ Some result }
+{
+    match held.as_end() {
+        Some(end) => *end,
+        None => usize::MAX,
+    }
+}
+
+/// Reads how many members a list has, as many as the program's type holds.
+///
+/// # Errors
+///
+/// `SizeConstraintNotSatisfied` if the program's type does not hold so many, and the errors of a number and its length.
+#[inline(always)]
+pub(crate) fn read_members<'input>(
+    cursor: &mut Cursor<'input>,
+    rules: EncodingRules,
+    held: Bounded<usize>,
+) -> Result<Frame<'input>, DecodeError>
+    ensures ok { IfOk result (λ frame. HasMembers (freedoms rules) (members_of held) (scope_of frame) cursor.old
+        cursor.new) }
+    ensures only { IfErr result (NoMembers (freedoms rules) (members_of held) cursor.old) }
+{
+    let most = most_members(held);
+    let count = read_count(cursor, rules)?;
+    if count < held.minimum() || count > most {
+        return Err(DecodeError::SizeConstraintNotSatisfied);
+    }
+    Ok(Frame::Members(count))
+}

@@ -1,5 +1,0 @@
-pub mod Preambles
-pub mod Finding
-pub mod Adding
-pub mod Choosing
-pub mod Records

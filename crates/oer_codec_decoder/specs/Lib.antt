@@ -1,6 +1,0 @@
-pub mod Scopes
-pub mod Refusals
-pub mod Preamble
-pub mod Members
-pub mod Held
-pub mod Laws
